@@ -1,0 +1,21 @@
+-- Bits, the most significant first. A bit is 0 or 1, an octet is a number below 256.
+use Rattle.std.specs.Prelude.{ℕ, zero, suc, ◌+◌, ◌*◌, ◌/◌, ◌%◌, ◌^◌, ◌<◌, List, [], ◌∷◌, length, flat_map}
+use Rattle.std.specs.List.{AllByRecursion}
+
+-- the w bits that spell n
+abbrev pub word : ℕ → ℕ → List ℕ
+word zero n = []
+word (suc w) n = ((n / 2 ^ w) % 2) ∷ word w n
+
+-- the bits of octets (the standard's order of bits)
+abbrev pub bits : List ℕ → List ℕ
+bits octets = flat_map (λ x. word 8 x) octets
+
+-- the number that bits spell
+abbrev pub number_of : List ℕ → ℕ
+number_of [] = 0
+number_of (b ∷ bs) = b * 2 ^ length bs + number_of bs
+
+-- each number of the list is a bit
+abbrev pub AreBits : List ℕ → Type 0
+AreBits = AllByRecursion (λ x. x < 2)

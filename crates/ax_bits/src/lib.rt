@@ -1,0 +1,2 @@
+//! Bits of octet strings, the most significant first.
+#![tactic(auto)]

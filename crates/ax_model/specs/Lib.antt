@@ -1,0 +1,3 @@
+pub mod Characters
+pub mod Lookup
+pub mod Names

@@ -1,0 +1,28 @@
+//! Category specifications, the records and blocks that are read with them, and the definitions of the format.
+//!
+//! A specification is a tree: items of a kind each, and the user application profile (UAP) that gives each
+//! item its field reference number (FRN). A record is a tree too: the marked items with their values. Octets
+//! are no part of either; `specs/` says which bits spell which value.
+#![tactic(auto)]
+
+mod content;
+mod fault;
+mod kind;
+mod lookup;
+mod name;
+mod place;
+mod record;
+mod spec;
+mod text;
+mod value;
+
+pub use ax_lists::Sequence;
+pub use content::{Content, Scale, Sign, TableText, TableTexts};
+pub use fault::{BodyCause, BodyFault};
+pub use kind::{Fixed, Kind, Member, Members, Part, Parts, Slot, Slots};
+pub use name::Name;
+pub use place::{Place, Steps};
+pub use record::{Block, RawBlock, Record, Records};
+pub use spec::{Item, Items, Spec, UapSlot, UapSlots};
+pub use text::Text;
+pub use value::{Entries, Entry, Lists, Octets, Value, Values};

@@ -1,0 +1,104 @@
+//! A library over the files of a folder.
+ghost use Rattle.std.specs.Prelude.{◌≡◌};
+
+use crate::libraries::{Library, LoadError};
+use std::alloc::Global;
+use std::fs;
+use std::io::Read;
+use std::rt::Files;
+
+/// A library over the files of the folder that the program runs in. It doesn't tell what they hold.
+#[derive(Drop)]
+pub struct FolderLibrary<R: Files + Drop> {
+    rt: R,
+    faults: u64,
+    taken: u64,
+}
+
+impl<R: Files + Drop> FolderLibrary<R> {
+    /// A library over the files that `rt` reaches, with nothing taken and no fault counted. It takes no memory.
+    pub fn new(rt: R) -> Self
+        ensures no_fault { result.faults ≡ 0 }
+        ensures nothing_taken { result.taken ≡ 0 }
+    {
+        FolderLibrary {
+            rt,
+            faults: 0,
+            taken: 0,
+        }
+    }
+}
+
+impl<R: Files + Drop> Library for FolderLibrary<R> {
+    ghost use Rattle.std.specs.Prelude.{None};
+
+    ghost files = { λ _. None };
+
+    ghost faults = { λ s. s.faults };
+
+    ghost taken = { λ s. s.taken };
+
+    fn load(&mut self, alloc: Global, name: &str, limit: u32) -> Result<Vec<u8>, LoadError> {
+        let mut file = match fs::open(&self.rt, name) {
+            Ok(file) => file,
+            Err(_) => {
+                self.faults = self.faults.saturating_add(1);
+                return Err(LoadError::Failed);
+            }
+        };
+        let mut octets = Vec::new(alloc);
+        let mut part = [0u8; 4096];
+        while octets.len() <= limit as usize {
+            match file.read(&mut part) {
+                Ok(0) => return Ok(octets),
+                Ok(count) => {
+                    match self.taken.checked_add(count as u64) {
+                        Some(taken) => self.taken = taken,
+                        None => {
+                            self.faults = self.faults.saturating_add(1);
+                            return Err(LoadError::Failed);
+                        }
+                    }
+                    if octets.extend_from_slice(&part[..count]).is_err() {
+                        return Err(LoadError::OutOfMemory);
+                    }
+                }
+                Err(_) => {
+                    self.faults = self.faults.saturating_add(1);
+                    return Err(LoadError::Failed);
+                }
+            }
+        }
+        Err(LoadError::TooLarge)
+    }
+}
+
+#[cfg(test)]
+mod tests {
+    use super::*;
+
+    // A real folder: each answer of a load, with the faults counted and the octets taken after it.
+    #[test]
+    fn files_are_loaded_by_name(rt: HostRuntime) {
+        assert!(rt; fs::write(&rt, "A", "abcde").is_ok());
+        assert!(rt; fs::write(&rt, "empty", "").is_ok());
+        assert!(rt; fs::create_dir(&rt, "folder").is_ok());
+        let alloc = rt.alloc();
+        let mut library = FolderLibrary::new(&rt);
+        for (name, limit, want, faults, taken) in [
+            ("A", 5, Ok("abcde"), 0, 5),
+            ("A", 4, Err(LoadError::TooLarge), 0, 10),
+            ("empty", 0, Ok(""), 0, 10),
+            ("missing", 5, Err(LoadError::Failed), 1, 10),
+            ("folder", 5, Err(LoadError::Failed), 2, 10),
+            ("", 5, Err(LoadError::Failed), 3, 10),
+        ] {
+            match (library.load(alloc, name, limit), want) {
+                (Ok(octets), Ok(text)) => assert_eq!(rt; octets.as_slice(), text.as_bytes()),
+                (Err(error), Err(wanted)) => assert_eq!(rt; error, wanted, "of {name}"),
+                _ => panic!(rt; "of {name}"),
+            }
+            assert_eq!(rt; (library.faults, library.taken), (faults, taken), "of {name}");
+        }
+    }
+}

@@ -1,0 +1,48 @@
+//! What files are loaded from.
+ghost use Rattle.std.specs.Prelude.{◌≡◌, ℕ, ◌≤◌, ◌⊎◌, List, Option, length, IfOk, IsErrOf, IsSome};
+ghost use Rattle.ax_outside.specs.Told.{Rose};
+ghost use Rattle.ax_outside.specs.Files.{File, HoldsFile, Lacks, IsLonger, TooMany};
+ghost use Rattle.ax_outside.specs.declared.libraries.LoadError.TheVariants.{Failed, TooLarge, OutOfMemory};
+
+use std::alloc::Global;
+
+/// Why a file isn't loaded.
+#[derive(Clone, Copy, Debug, PartialEq, Eq)]
+pub enum LoadError {
+    /// The library met a fault, or has no file of that name.
+    Failed,
+    /// The file has more octets than the limit.
+    TooLarge,
+    /// Memory was wanted.
+    OutOfMemory,
+}
+
+/// A library of files by name.
+pub trait Library {
+    // The files, where the library tells them.
+    ghost files: { Self → Option (List File) };
+
+    // The count of faults.
+    ghost faults: { Self → ℕ };
+
+    // The number of octets taken.
+    ghost taken: { Self → ℕ };
+
+    /// The octets of the file of that name, at most `limit` of them.
+    ///
+    /// `Failed` is counted as a fault, unless a library that tells its files lacks the name. `TooLarge` is no fault.
+    /// A load leaves the files as they were.
+    fn load(&mut self, alloc: Global, name: &str, limit: u32) -> Result<Vec<u8>, LoadError>
+        ensures limited { IfOk result (λ v. length v.items ≤ limit) }
+        ensures loaded { IfOk result (λ v. HoldsFile (files self.old) name.now v.items) }
+        ensures failed { IsErrOf result Failed → Rose (faults self.old) (faults self.new) ⊎ Lacks (files self.old) name.now }
+        ensures too_large { IsErrOf result TooLarge → TooMany (files self.old) name.now limit (taken self.old) (taken self.new) }
+        ensures too_large_uncounted { IsErrOf result TooLarge → IsSome (files self.old) → faults self.new ≡ faults self.old }
+        ensures longer {
+            IsLonger (files self.old) name.now limit → ¬ (Rose (faults self.old) (faults self.new))
+            → IsErrOf result TooLarge ⊎ IsErrOf result OutOfMemory
+        }
+        ensures keeps { files self.new ≡ files self.old }
+        ensures number_never_falls { taken self.old ≤ taken self.new }
+        ensures never_falls { faults self.old ≤ faults self.new };
+}

@@ -1,0 +1,81 @@
+//! A source over a reader.
+ghost use Rattle.std.specs.Prelude.{◌≡◌};
+
+use crate::sources::{Source, SourceFailed};
+use std::io::Read;
+
+/// A source over a reader. It doesn't tell what it has left.
+#[derive(Drop)]
+pub struct ReadSource<R: Read> {
+    inner: R,
+    faults: u64,
+    taken: u64,
+}
+
+impl<R: Read> ReadSource<R> {
+    /// A source over that reader, with nothing taken and no fault counted. It takes no memory.
+    pub fn new(inner: R) -> Self
+        ensures no_fault { result.faults ≡ 0 }
+        ensures nothing_taken { result.taken ≡ 0 }
+    {
+        ReadSource {
+            inner,
+            faults: 0,
+            taken: 0,
+        }
+    }
+}
+
+impl<R: Read> Source for ReadSource<R> {
+    ghost use Rattle.std.specs.Prelude.{None};
+
+    ghost left = { λ _. None };
+
+    ghost faults = { λ s. s.faults };
+
+    ghost taken = { λ s. s.taken };
+
+    fn read(&mut self, into: &mut [u8]) -> Result<usize, SourceFailed> {
+        if let Ok(count) = self.inner.read(into) {
+            if let Some(taken) = self.taken.checked_add(count as u64) {
+                self.taken = taken;
+                return Ok(count);
+            }
+        }
+        self.faults = self.faults.saturating_add(1);
+        Err(SourceFailed)
+    }
+}
+
+#[cfg(test)]
+mod tests {
+    use super::*;
+    use std::fs;
+
+    // A real file is read to its end in pieces, and a folder in its place is a counted fault.
+    #[test]
+    fn a_reader_is_read_to_its_end(rt: HostRuntime) {
+        assert!(rt; fs::write(&rt, "input", "abcde").is_ok());
+        let mut part = [0u8; 3];
+        match fs::open(&rt, "input") {
+            Ok(file) => {
+                let mut source = ReadSource::new(file);
+                assert_eq!(rt; source.read(&mut part), Ok(3));
+                assert_eq!(rt; part, [97, 98, 99]);
+                assert_eq!(rt; source.read(&mut part), Ok(2));
+                assert_eq!(rt; part, [100, 101, 99]);
+                assert_eq!(rt; source.read(&mut part), Ok(0));
+                assert_eq!(rt; (source.taken, source.faults), (5, 0));
+            }
+            Err(_) => panic!(rt; "no file"),
+        }
+        match fs::open(&rt, ".") {
+            Ok(folder) => {
+                let mut source = ReadSource::new(folder);
+                assert_eq!(rt; source.read(&mut part), Err(SourceFailed));
+                assert_eq!(rt; (source.taken, source.faults), (0, 1));
+            }
+            Err(_) => panic!(rt; "no folder"),
+        }
+    }
+}

@@ -1,0 +1,72 @@
+//! A sink over a writer.
+ghost use Rattle.std.specs.Prelude.{◌≡◌};
+
+use crate::sinks::{Sink, SinkFailed};
+use std::io::Write;
+
+/// A sink over a writer. It doesn't tell what it holds.
+#[derive(Drop)]
+pub struct WriteSink<W: Write> {
+    inner: W,
+    faults: u64,
+}
+
+impl<W: Write> WriteSink<W> {
+    /// A sink over that writer, with no fault counted. It takes no memory.
+    pub fn new(inner: W) -> Self
+        ensures { result.faults ≡ 0 }
+    {
+        WriteSink { inner, faults: 0 }
+    }
+}
+
+impl<W: Write> Sink for WriteSink<W> {
+    ghost use Rattle.std.specs.Prelude.{None};
+
+    ghost held = { λ _. None };
+
+    ghost faults = { λ s. s.faults };
+
+    fn write(&mut self, piece: &[u8]) -> Result<usize, SinkFailed> {
+        if let Ok(count) = self.inner.write(piece) {
+            if count > 0 || piece.is_empty() {
+                return Ok(count);
+            }
+        }
+        self.faults = self.faults.saturating_add(1);
+        Err(SinkFailed)
+    }
+}
+
+#[cfg(test)]
+mod tests {
+    use super::*;
+    use std::fs;
+
+    // What is written stands in a real file, and a write to a file that was opened to be read is a counted fault.
+    #[test]
+    fn a_piece_stands_in_the_file(rt: HostRuntime) {
+        match fs::create(&rt, "output") {
+            Ok(file) => {
+                let mut sink = WriteSink::new(file);
+                assert_eq!(rt; sink.write(&[97, 98, 99]), Ok(3));
+                assert_eq!(rt; sink.write(&[]), Ok(0));
+                assert_eq!(rt; sink.write(&[100]), Ok(1));
+                assert_eq!(rt; sink.faults, 0);
+            }
+            Err(_) => panic!(rt; "no file"),
+        }
+        match fs::read(&rt, "output") {
+            Ok(octets) => assert_eq!(rt; octets.as_slice(), b"abcd".as_slice()),
+            Err(_) => panic!(rt; "not read"),
+        }
+        match fs::open(&rt, "output") {
+            Ok(file) => {
+                let mut sink = WriteSink::new(file);
+                assert_eq!(rt; sink.write(&[97]), Err(SinkFailed));
+                assert_eq!(rt; sink.faults, 1);
+            }
+            Err(_) => panic!(rt; "not opened"),
+        }
+    }
+}

@@ -98,7 +98,11 @@ mod tests {
                 (Err(error), Err(wanted)) => assert_eq!(rt; error, wanted, "of {name}"),
                 _ => panic!(rt; "of {name}"),
             }
-            assert_eq!(rt; (library.faults, library.taken), (faults, taken), "of {name}");
+            assert_eq!(rt;
+                (library.faults, library.taken),
+                (faults, taken),
+                "of {name}"
+            );
         }
     }
 }

@@ -38,10 +38,8 @@ pub trait Library {
         ensures failed { IsErrOf result Failed → Rose (faults self.old) (faults self.new) ⊎ Lacks (files self.old) name.now }
         ensures too_large { IsErrOf result TooLarge → TooMany (files self.old) name.now limit (taken self.old) (taken self.new) }
         ensures too_large_uncounted { IsErrOf result TooLarge → IsSome (files self.old) → faults self.new ≡ faults self.old }
-        ensures longer {
-            IsLonger (files self.old) name.now limit → ¬ (Rose (faults self.old) (faults self.new))
-            → IsErrOf result TooLarge ⊎ IsErrOf result OutOfMemory
-        }
+        ensures longer { IsLonger (files self.old) name.now limit → ¬ (Rose (faults self.old) (faults self.new))
+            → IsErrOf result TooLarge ⊎ IsErrOf result OutOfMemory }
         ensures keeps { files self.new ≡ files self.old }
         ensures number_never_falls { taken self.old ≤ taken self.new }
         ensures never_falls { faults self.old ≤ faults self.new };

@@ -4,7 +4,7 @@ ghost use Rattle.ax_outside.specs.Told.{Rose};
 ghost use Rattle.ax_outside.specs.Files.{File, HoldsFile, Lacks, IsLonger, TooMany};
 ghost use Rattle.ax_outside.specs.declared.libraries.LoadError.TheVariants.{Failed, TooLarge, OutOfMemory};
 
-use std::alloc::Global;
+use std::alloc::{AllocError, Global};
 
 /// Why a file isn't loaded.
 #[derive(Clone, Copy, Debug, PartialEq, Eq)]
@@ -15,6 +15,14 @@ pub enum LoadError {
     TooLarge,
     /// Memory was wanted.
     OutOfMemory,
+}
+
+impl From<AllocError> for LoadError {
+    ghost from_gives = { λ _ e. e ≡ OutOfMemory };
+
+    fn from(_: AllocError) -> Self {
+        LoadError::OutOfMemory
+    }
 }
 
 /// A library of files by name.
@@ -38,10 +46,8 @@ pub trait Library {
         ensures failed { IsErrOf result Failed → Rose (faults self.old) (faults self.new) ⊎ Lacks (files self.old) name.now }
         ensures too_large { IsErrOf result TooLarge → TooMany (files self.old) name.now limit (taken self.old) (taken self.new) }
         ensures too_large_uncounted { IsErrOf result TooLarge → IsSome (files self.old) → faults self.new ≡ faults self.old }
-        ensures longer {
-            IsLonger (files self.old) name.now limit → ¬ (Rose (faults self.old) (faults self.new))
-            → IsErrOf result TooLarge ⊎ IsErrOf result OutOfMemory
-        }
+        ensures longer { IsLonger (files self.old) name.now limit → ¬ (Rose (faults self.old) (faults self.new))
+            → IsErrOf result TooLarge ⊎ IsErrOf result OutOfMemory }
         ensures keeps { files self.new ≡ files self.old }
         ensures number_never_falls { taken self.old ≤ taken self.new }
         ensures never_falls { faults self.old ≤ faults self.new };

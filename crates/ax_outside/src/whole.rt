@@ -11,9 +11,7 @@ use crate::sources::{Source, SourceFailed};
 #[tactic(auto, using(crate::proofs::Ends::steps))]
 pub fn write_all_of<K: Sink>(sink: &mut K, piece: &[u8]) -> Result<(), SinkFailed>
     ensures whole { OnOk result (K.held sink.new ≡ with_end (K.held sink.old) piece.now) }
-    ensures prefix {
-        OnErr result ((n : ℕ) × (n < length piece.now) × (K.held sink.new ≡ with_end (K.held sink.old) (take n piece.now)))
-    }
+    ensures prefix { OnErr result ((n : ℕ) × (n < length piece.now) × (K.held sink.new ≡ with_end (K.held sink.old) (take n piece.now))) }
     ensures rose { OnErr result (Rose (K.faults sink.old) (K.faults sink.new)) }
     ensures never_falls { K.faults sink.old ≤ K.faults sink.new }
 {
@@ -35,11 +33,9 @@ pub fn fill<S: Source>(source: &mut S, buffer: &mut [u8]) -> Result<usize, Sourc
     ensures gives { IfOk result (λ n. S.left source.old ≡ with_front (take n buffer.new) (S.left source.new)) }
     ensures end { IfOk result (λ n. n < length buffer.new → IsAtEnd (S.left source.new)) }
     ensures number { IfOk result (λ n. S.taken source.new ≡ S.taken source.old + n) }
-    ensures front {
-        OnErr result ((n : ℕ) × (n < length buffer.new)
-            × (S.left source.old ≡ with_front (take n buffer.new) (S.left source.new))
-            × (S.taken source.new ≡ S.taken source.old + n))
-    }
+    ensures front { OnErr result ((n : ℕ) × (n < length buffer.new)
+        × (S.left source.old ≡ with_front (take n buffer.new) (S.left source.new))
+        × (S.taken source.new ≡ S.taken source.old + n)) }
     ensures rose { OnErr result (Rose (S.faults source.old) (S.faults source.new)) }
     ensures never_falls { S.faults source.old ≤ S.faults source.new }
 {

@@ -1,5 +1,5 @@
 -- What is told of a source or a sink, and the count of faults.
-use Rattle.std.specs.Prelude.{◌≡◌, ℕ, ◌-◌, ◌<◌, ◌^◌, ◌⊎◌, List, [], ◌++◌, Option, Some, None}
+use Rattle.std.specs.Prelude.{◌≡◌, ℕ, ◌+◌, ◌-◌, min, ◌<◌, ◌^◌, ◌⊎◌, List, [], ◌++◌, Option, Some, None}
 
 -- the octets left, with these in front
 abbrev pub with_front : List ℕ → Option (List ℕ) → Option (List ℕ)
@@ -19,3 +19,7 @@ IsAtEnd (Some rest) = rest ≡ []
 -- the count of faults rose, or stands at the last number that it can hold
 abbrev pub Rose : ℕ → ℕ → Type 0
 Rose before after = (before < after) ⊎ (after ≡ 2 ^ 64 - 1)
+
+-- the count after one more fault, in a u64
+abbrev pub one_more : ℕ → ℕ
+one_more count = min (count + 1) (2 ^ 64 - 1)

@@ -1,5 +1,7 @@
 //! A library over the files of a folder.
-ghost use Rattle.std.specs.Prelude.{◌≡◌};
+ghost use Rattle.std.specs.Prelude.{◌≡◌, ◌≢◌, ◌+◌, ◌<◌, ◌≤◌, length, IfOk, IsErrOf};
+ghost use Rattle.ax_outside.specs.Told.{Rose, one_more};
+ghost use Rattle.ax_outside.specs.declared.libraries.LoadError.TheVariants.{Failed, TooLarge};
 
 use crate::libraries::{Library, LoadError};
 use std::alloc::Global;
@@ -27,6 +29,18 @@ impl<R: Files + Drop> FolderLibrary<R> {
             taken: 0,
         }
     }
+
+    // Counts a fault, and gives the answer for it.
+    fn fault(&mut self) -> LoadError
+        ensures answer { result ≡ Failed }
+        ensures counts { self.new.faults ≡ one_more self.old.faults }
+        ensures rose { Rose self.old.faults self.new.faults }
+        ensures never_falls { self.old.faults ≤ self.new.faults }
+        ensures number { self.new.taken ≡ self.old.taken }
+    {
+        self.faults = self.faults.saturating_add(1);
+        LoadError::Failed
+    }
 }
 
 impl<R: Files + Drop> Library for FolderLibrary<R> {
@@ -38,36 +52,33 @@ impl<R: Files + Drop> Library for FolderLibrary<R> {
 
     ghost taken = { λ s. s.taken };
 
-    fn load(&mut self, alloc: Global, name: &str, limit: u32) -> Result<Vec<u8>, LoadError> {
-        let mut file = match fs::open(&self.rt, name) {
-            Ok(file) => file,
-            Err(_) => {
-                self.faults = self.faults.saturating_add(1);
-                return Err(LoadError::Failed);
-            }
+    fn load(&mut self, alloc: Global, name: &str, limit: u32) -> Result<Vec<u8>, LoadError>
+        ensures limited { IfOk result (λ v. length v.items ≤ limit) }
+        ensures number { IfOk result (λ v. self.new.taken ≡ self.old.taken + length v.items) }
+        ensures number_never_falls { self.old.taken ≤ self.new.taken }
+        ensures too_large { IsErrOf result TooLarge → self.old.taken + limit < self.new.taken }
+        ensures counts { IsErrOf result Failed → self.new.faults ≡ one_more self.old.faults }
+        ensures counts_nothing_else { self.new.faults ≢ self.old.faults → IsErrOf result Failed }
+        ensures rose { IsErrOf result Failed → Rose self.old.faults self.new.faults }
+        ensures never_falls { self.old.faults ≤ self.new.faults }
+    {
+        let Ok(mut file) = fs::open(&self.rt, name) else {
+            return Err(self.fault());
         };
         let mut octets = Vec::new(alloc);
         let mut part = [0u8; 4096];
         while octets.len() <= limit as usize {
-            match file.read(&mut part) {
-                Ok(0) => return Ok(octets),
-                Ok(count) => {
-                    match self.taken.checked_add(count as u64) {
-                        Some(taken) => self.taken = taken,
-                        None => {
-                            self.faults = self.faults.saturating_add(1);
-                            return Err(LoadError::Failed);
-                        }
-                    }
-                    if octets.extend_from_slice(&part[..count]).is_err() {
-                        return Err(LoadError::OutOfMemory);
-                    }
-                }
-                Err(_) => {
-                    self.faults = self.faults.saturating_add(1);
-                    return Err(LoadError::Failed);
-                }
+            let Ok(count) = file.read(&mut part) else {
+                return Err(self.fault());
+            };
+            if count == 0 {
+                return Ok(octets);
             }
+            let Some(taken) = self.taken.checked_add(count as u64) else {
+                return Err(self.fault());
+            };
+            self.taken = taken;
+            octets.extend_from_slice(&part[..count])?;
         }
         Err(LoadError::TooLarge)
     }

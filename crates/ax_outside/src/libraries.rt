@@ -4,7 +4,7 @@ ghost use Rattle.ax_outside.specs.Told.{Rose};
 ghost use Rattle.ax_outside.specs.Files.{File, HoldsFile, Lacks, IsLonger, TooMany};
 ghost use Rattle.ax_outside.specs.declared.libraries.LoadError.TheVariants.{Failed, TooLarge, OutOfMemory};
 
-use std::alloc::Global;
+use std::alloc::{AllocError, Global};
 
 /// Why a file isn't loaded.
 #[derive(Clone, Copy, Debug, PartialEq, Eq)]
@@ -15,6 +15,14 @@ pub enum LoadError {
     TooLarge,
     /// Memory was wanted.
     OutOfMemory,
+}
+
+impl From<AllocError> for LoadError {
+    ghost from_gives = { λ _ e. e ≡ OutOfMemory };
+
+    fn from(_: AllocError) -> Self {
+        LoadError::OutOfMemory
+    }
 }
 
 /// A library of files by name.

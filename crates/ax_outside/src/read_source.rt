@@ -1,5 +1,6 @@
 //! A source over a reader.
-ghost use Rattle.std.specs.Prelude.{◌≡◌};
+ghost use Rattle.std.specs.Prelude.{◌≡◌, ◌+◌, ◌≤◌, length, IfOk, OnErr, MatchResult};
+ghost use Rattle.ax_outside.specs.Told.{Rose, one_more};
 
 use crate::sources::{Source, SourceFailed};
 use std::io::Read;
@@ -35,7 +36,13 @@ impl<R: Read> Source for ReadSource<R> {
 
     ghost taken = { λ s. s.taken };
 
-    fn read(&mut self, into: &mut [u8]) -> Result<usize, SourceFailed> {
+    fn read(&mut self, into: &mut [u8]) -> Result<usize, SourceFailed>
+        ensures room { IfOk result (λ n. n ≤ length into.new) }
+        ensures number { MatchResult result (λ n. self.new.taken ≡ self.old.taken + n) (λ _. self.new.taken ≡ self.old.taken) }
+        ensures counts { MatchResult result (λ _. self.new.faults ≡ self.old.faults) (λ _. self.new.faults ≡ one_more self.old.faults) }
+        ensures rose { OnErr result (Rose self.old.faults self.new.faults) }
+        ensures never_falls { self.old.faults ≤ self.new.faults }
+    {
         if let Ok(count) = self.inner.read(into) {
             if let Some(taken) = self.taken.checked_add(count as u64) {
                 self.taken = taken;

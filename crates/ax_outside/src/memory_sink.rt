@@ -23,12 +23,12 @@ impl Model for MemSink {
     ghost Value = { SinkState };
 
     ghost view = { λ s. record {
-        held = take s.count s.buffer.items;
-        room = length s.buffer.items - s.count;
-        largest = s.largest;
-        failing = s.failing.items;
-        call = s.call;
-        faults = s.faults;
+      held = take s.count s.buffer.items;
+      room = length s.buffer.items - s.count;
+      largest = s.largest;
+      failing = s.failing.items;
+      call = s.call;
+      faults = s.faults;
     } };
 
     ghost invariant = { λ s. s.count ≤ length s.buffer.items };
@@ -40,9 +40,19 @@ impl MemSink {
     ///
     /// A call takes at most `largest` octets, where 0 counts as 1. A call fails exactly where its number, from 0, is in
     /// `failing`, or its piece is nonempty and no room is left. A call number that has reached 2^64 - 1 stays there.
-    pub fn new(alloc: Global, room: u32, largest: u32, failing: Vec<u64>) -> Result<MemSink, AllocError>
+    pub fn new(
+        alloc: Global,
+        room: u32,
+        largest: u32,
+        failing: Vec<u64>,
+    ) -> Result<MemSink, AllocError>
         ensures { IfOk result (λ sink. sink ≡ record {
-            held = []; room = room; largest = largest; failing = failing.items; call = 0; faults = 0
+          held = [];
+          room = room;
+          largest = largest;
+          failing = failing.items;
+          call = 0;
+          faults = 0;
         }) }
     {
         let buffer = vec![in alloc; 0; room as usize]?;
@@ -79,9 +89,7 @@ impl Sink for MemSink {
     ghost faults = { λ s. s.faults };
 
     fn write(&mut self, piece: &[u8]) -> Result<usize, SinkFailed>
-        ensures failing {
-            IsErr result ↔ (IsTrue (is_listed self.old.failing self.old.call) ⊎ (0 < length piece.now) × (self.old.room ≡ 0))
-        }
+        ensures failing { IsErr result ↔ (IsTrue (is_listed self.old.failing self.old.call) ⊎ (0 < length piece.now) × (self.old.room ≡ 0)) }
         ensures largest { IfOk result (λ n. n ≡ min (min (length piece.now) self.old.room) (at_least_one self.old.largest)) }
         ensures adds { IfOk result (λ n. self.new.held ≡ self.old.held ++ take n piece.now) }
         ensures keeps { OnErr result (self.new.held ≡ self.old.held) }
@@ -105,5 +113,32 @@ impl Sink for MemSink {
         self.buffer[self.count..self.count + count].copy_from_slice(&piece[..count]);
         self.count += count;
         Ok(count)
+    }
+}
+
+#[cfg(test)]
+mod tests {
+    use super::*;
+    use std::test::Fail;
+
+    // A room of five octets, two a call, call 1 failing: each call's answer, and what is held after it.
+    #[test]
+    fn calls_are_cut_and_fail_by_number(rt: HostRuntime) -> Result<(), Fail> {
+        let alloc = rt.alloc();
+        let failing = vec![in alloc; 1]?;
+        let mut sink = MemSink::new(alloc, 5, 2, failing)?;
+        for (piece, want, held) in [
+            ("abc", Ok(2), "ab"),
+            ("abc", Err(SinkFailed), "ab"),
+            ("c", Ok(1), "abc"),
+            ("defg", Ok(2), "abcde"),
+            ("f", Err(SinkFailed), "abcde"),
+            ("", Ok(0), "abcde"),
+        ] {
+            assert_eq!(rt; sink.write(piece.as_bytes()), want);
+            assert_eq!(rt; sink.written(), held.as_bytes());
+        }
+        assert_eq!(rt; sink.faults, 2);
+        Ok(())
     }
 }

@@ -22,12 +22,12 @@ impl Model for MemSource {
     ghost Value = { SourceState };
 
     ghost view = { λ s. record {
-        left = drop s.at s.octets.items;
-        taken = s.at;
-        cuts = s.cuts.items;
-        failing = s.failing.items;
-        call = s.call;
-        faults = s.faults;
+      left = drop s.at s.octets.items;
+      taken = s.at;
+      cuts = s.cuts.items;
+      failing = s.failing.items;
+      call = s.call;
+      faults = s.faults;
     } };
 
     ghost invariant = { λ s. s.at ≤ length s.octets.items };
@@ -41,7 +41,12 @@ impl MemSource {
     /// 2^64 - 1 stays there.
     pub fn new(octets: Vec<u8>, cuts: Vec<u32>, failing: Vec<u64>) -> MemSource
         ensures { result ≡ record {
-            left = octets.items; taken = 0; cuts = cuts.items; failing = failing.items; call = 0; faults = 0
+          left = octets.items;
+          taken = 0;
+          cuts = cuts.items;
+          failing = failing.items;
+          call = 0;
+          faults = 0;
         } }
     {
         MemSource {
@@ -99,5 +104,34 @@ impl Source for MemSource {
         into[..count].copy_from_slice(&rest[..count]);
         self.at += count;
         Ok(count)
+    }
+}
+
+#[cfg(test)]
+mod tests {
+    use super::*;
+    use std::test::Fail;
+
+    // Six octets under the cuts 2, 9, 0, call 1 failing: each call's answer, with the front of the buffer.
+    #[test]
+    fn calls_are_cut_and_fail_by_number(rt: HostRuntime) -> Result<(), Fail> {
+        let alloc = rt.alloc();
+        let octets = vec![in alloc; 97, 98, 99, 100, 101, 102]?;
+        let cuts = vec![in alloc; 2, 9, 0]?;
+        let failing = vec![in alloc; 1]?;
+        let mut source = MemSource::new(octets, cuts, failing);
+        let mut part = [0u8; 4];
+        for (want, front) in [
+            (Ok(2), [97, 98]),
+            (Err(SourceFailed), [97, 98]),
+            (Ok(1), [99, 98]),
+            (Ok(3), [100, 101]),
+            (Ok(0), [100, 101]),
+        ] {
+            assert_eq!(rt; source.read(&mut part), want);
+            assert_eq!(rt; &part[..2], front.as_slice());
+        }
+        assert_eq!(rt; source.faults, 1);
+        Ok(())
     }
 }

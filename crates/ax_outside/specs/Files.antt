@@ -7,6 +7,10 @@ pub record File : Type 0 where
   pub name : List ℕ
   pub octets : List ℕ
 
+-- a file of that name and those octets
+abbrev pub file : List ℕ → List ℕ → File
+file name octets = record { name = name; octets = octets }
+
 -- the octets of the first file of that name
 abbrev pub octets_of : List ℕ → List File → Option (List ℕ)
 octets_of name files = option_map (λ file. file.octets) (find (λ file. bytes_eq file.name name) files)

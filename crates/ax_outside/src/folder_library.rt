@@ -87,13 +87,14 @@ impl<R: Files + Drop> Library for FolderLibrary<R> {
 #[cfg(test)]
 mod tests {
     use super::*;
+    use std::test::Fail;
 
     // A real folder: each answer of a load, with the faults counted and the octets taken after it.
     #[test]
-    fn files_are_loaded_by_name(rt: HostRuntime) {
-        assert!(rt; fs::write(&rt, "A", "abcde").is_ok());
-        assert!(rt; fs::write(&rt, "empty", "").is_ok());
-        assert!(rt; fs::create_dir(&rt, "folder").is_ok());
+    fn files_are_loaded_by_name(rt: HostRuntime) -> Result<(), Fail> {
+        fs::write(&rt, "A", "abcde")?;
+        fs::write(&rt, "empty", "")?;
+        fs::create_dir_all(&rt, "folder")?;
         let alloc = rt.alloc();
         let mut library = FolderLibrary::new(&rt);
         for (name, limit, want, faults, taken) in [
@@ -115,5 +116,6 @@ mod tests {
                 "of {name}"
             );
         }
+        Ok(())
     }
 }

@@ -58,31 +58,24 @@ impl<R: Read> Source for ReadSource<R> {
 mod tests {
     use super::*;
     use std::fs;
+    use std::test::Fail;
 
     // A real file is read to its end in pieces, and a folder in its place is a counted fault.
     #[test]
-    fn a_reader_is_read_to_its_end(rt: HostRuntime) {
-        assert!(rt; fs::write(&rt, "input", "abcde").is_ok());
+    fn a_file_is_read_to_its_end(rt: HostRuntime) -> Result<(), Fail> {
+        fs::write(&rt, "input", "abcde")?;
         let mut part = [0u8; 3];
-        match fs::open(&rt, "input") {
-            Ok(file) => {
-                let mut source = ReadSource::new(file);
-                assert_eq!(rt; source.read(&mut part), Ok(3));
-                assert_eq!(rt; part, [97, 98, 99]);
-                assert_eq!(rt; source.read(&mut part), Ok(2));
-                assert_eq!(rt; part, [100, 101, 99]);
-                assert_eq!(rt; source.read(&mut part), Ok(0));
-                assert_eq!(rt; (source.taken, source.faults), (5, 0));
-            }
-            Err(_) => panic!(rt; "no file"),
-        }
-        match fs::open(&rt, ".") {
-            Ok(folder) => {
-                let mut source = ReadSource::new(folder);
-                assert_eq!(rt; source.read(&mut part), Err(SourceFailed));
-                assert_eq!(rt; (source.taken, source.faults), (0, 1));
-            }
-            Err(_) => panic!(rt; "no folder"),
-        }
+        let mut source = ReadSource::new(fs::open(&rt, "input")?);
+        assert_eq!(rt; source.read(&mut part), Ok(3));
+        assert_eq!(rt; part, [97, 98, 99]);
+        assert_eq!(rt; source.read(&mut part), Ok(2));
+        assert_eq!(rt; part, [100, 101, 99]);
+        assert_eq!(rt; source.read(&mut part), Ok(0));
+        assert_eq!(rt; (source.taken, source.faults), (5, 0));
+
+        let mut folder = ReadSource::new(fs::open(&rt, ".")?);
+        assert_eq!(rt; folder.read(&mut part), Err(SourceFailed));
+        assert_eq!(rt; (folder.taken, folder.faults), (0, 1));
+        Ok(())
     }
 }

@@ -49,3 +49,30 @@ pub fn fill<S: Source>(source: &mut S, buffer: &mut [u8]) -> Result<usize, Sourc
     }
     Ok(filled)
 }
+
+#[cfg(test)]
+mod tests {
+    use super::*;
+    use crate::memory_sink::MemSink;
+    use crate::memory_source::MemSource;
+    use std::test::Fail;
+
+    // A source in cuts of 2, 3 and 1 fills a buffer of 4 and then part of it, and a sink of one octet a call takes both.
+    #[test]
+    fn cuts_leave_no_trace(rt: HostRuntime) -> Result<(), Fail> {
+        let alloc = rt.alloc();
+        let octets = vec![in alloc; 97, 98, 99, 100, 101, 102]?;
+        let cuts = vec![in alloc; 2, 3, 1]?;
+        let mut source = MemSource::new(octets, cuts, Vec::new(alloc));
+        let mut sink = MemSink::new(alloc, 6, 1, Vec::new(alloc))?;
+        let mut buffer = [0u8; 4];
+        assert_eq!(rt; fill(&mut source, &mut buffer), Ok(4));
+        assert_eq!(rt; buffer, *b"abcd");
+        assert_eq!(rt; write_all_of(&mut sink, &buffer), Ok(()));
+        assert_eq!(rt; fill(&mut source, &mut buffer), Ok(2));
+        assert_eq!(rt; write_all_of(&mut sink, &buffer[..2]), Ok(()));
+        assert_eq!(rt; sink.written(), b"abcdef".as_slice());
+        assert_eq!(rt; write_all_of(&mut sink, &buffer), Err(SinkFailed));
+        Ok(())
+    }
+}

@@ -49,31 +49,21 @@ impl<W: Write> Sink for WriteSink<W> {
 mod tests {
     use super::*;
     use std::fs;
+    use std::test::Fail;
 
     // What is written stands in a real file, and a write to a file that was opened to be read is a counted fault.
     #[test]
-    fn a_piece_stands_in_the_file(rt: HostRuntime) {
-        match fs::create(&rt, "output") {
-            Ok(file) => {
-                let mut sink = WriteSink::new(file);
-                assert_eq!(rt; sink.write(&[97, 98, 99]), Ok(3));
-                assert_eq!(rt; sink.write(&[]), Ok(0));
-                assert_eq!(rt; sink.write(&[100]), Ok(1));
-                assert_eq!(rt; sink.faults, 0);
-            }
-            Err(_) => panic!(rt; "no file"),
-        }
-        match fs::read(&rt, "output") {
-            Ok(octets) => assert_eq!(rt; octets.as_slice(), b"abcd".as_slice()),
-            Err(_) => panic!(rt; "not read"),
-        }
-        match fs::open(&rt, "output") {
-            Ok(file) => {
-                let mut sink = WriteSink::new(file);
-                assert_eq!(rt; sink.write(&[97]), Err(SinkFailed));
-                assert_eq!(rt; sink.faults, 1);
-            }
-            Err(_) => panic!(rt; "not opened"),
-        }
+    fn a_piece_stands_in_the_file(rt: HostRuntime) -> Result<(), Fail> {
+        let mut sink = WriteSink::new(fs::create(&rt, "output")?);
+        assert_eq!(rt; sink.write(b"abc"), Ok(3));
+        assert_eq!(rt; sink.write(b""), Ok(0));
+        assert_eq!(rt; sink.write(b"d"), Ok(1));
+        assert_eq!(rt; sink.faults, 0);
+        assert_eq!(rt; fs::read(&rt, "output")?.as_slice(), b"abcd".as_slice());
+
+        let mut unwritable = WriteSink::new(fs::open(&rt, "output")?);
+        assert_eq!(rt; unwritable.write(b"e"), Err(SinkFailed));
+        assert_eq!(rt; unwritable.faults, 1);
+        Ok(())
     }
 }

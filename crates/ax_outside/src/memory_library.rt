@@ -1,0 +1,163 @@
+//! A library in memory, for tests and proofs: it tells its files.
+ghost use Rattle.std.specs.Prelude.{◌≡◌, ◌≢◌, ◌+◌, ◌-◌, ◌^◌, ◌<◌, ◌≤◌, ◌↔◌, ◌⊎◌, [], length, min, Some, None, IsTrue, IsFalse, IfOk, IsErrOf, MatchOption, MatchResult, if◌then◌else◌};
+ghost use Rattle.ax_outside.specs.Told.{Rose, one_more};
+ghost use Rattle.ax_outside.specs.Files.{octets_of, Exceeds};
+ghost use Rattle.ax_outside.specs.Memory.{LibraryState, files_of, is_listed};
+ghost use Rattle.ax_outside.specs.declared.libraries.LoadError.TheVariants.{Failed, TooLarge};
+
+use crate::calls::is_listed;
+use crate::libraries::{Library, LoadError};
+use std::alloc::Global;
+use std::marker::Model;
+
+/// A library of files in memory, whose calls fail as its maker says.
+#[derive(Drop)]
+pub struct MemLibrary {
+    files: Vec<(String, Vec<u8>)>,
+    failing: Vec<u64>,
+    call: u64,
+    faults: u64,
+    taken: u64,
+}
+
+impl Model for MemLibrary {
+    ghost Value = { LibraryState };
+
+    ghost view = { λ s. record {
+      files = files_of s.files.items;
+      failing = s.failing.items;
+      call = s.call;
+      faults = s.faults;
+      taken = s.taken;
+    } };
+}
+
+impl MemLibrary {
+    /// A library of these files, with nothing taken and no fault counted. It takes no memory.
+    ///
+    /// Of two files of one name the first counts. A load counts a fault exactly where its number, from 0, is in
+    /// `failing`, and it fails exactly there and where the name isn't there. A call number that has reached
+    /// 2^64 - 1 stays there.
+    pub fn new(files: Vec<(String, Vec<u8>)>, failing: Vec<u64>) -> MemLibrary
+        ensures { result ≡ record {
+          files = files_of files.items;
+          failing = failing.items;
+          call = 0;
+          faults = 0;
+          taken = 0;
+        } }
+    {
+        MemLibrary {
+            files,
+            failing,
+            call: 0,
+            faults: 0,
+            taken: 0,
+        }
+    }
+}
+
+// The octets of the first file of that name.
+fn first_named<'a>(files: &'a [(String, Vec<u8>)], name: &str) -> Option<&'a [u8]>
+    ensures { let found = octets_of name.now (files_of files.now) in
+        MatchOption result (found ≡ None) (λ octets. found ≡ Some octets.now) }
+{
+    for (key, octets) in files {
+        if key.as_str() == name {
+            return Some(octets);
+        }
+    }
+    None
+}
+
+// The octets of the first file of that name, where the load isn't one that fails.
+fn load_from(
+    alloc: Global,
+    files: &[(String, Vec<u8>)],
+    fails: bool,
+    name: &str,
+    limit: u32,
+) -> Result<Vec<u8>, LoadError>
+    ensures loaded { IfOk result (λ v. octets_of name.now (files_of files.now) ≡ Some v.items) }
+    ensures limited { IfOk result (λ v. length v.items ≤ limit) }
+    ensures failed { IsErrOf result Failed ↔ (IsTrue fails ⊎ (octets_of name.now (files_of files.now) ≡ None)) }
+    ensures too_large { IsErrOf result TooLarge ↔ (IsFalse fails × Exceeds (octets_of name.now (files_of files.now)) limit) }
+{
+    if fails {
+        return Err(LoadError::Failed);
+    }
+    let Some(octets) = first_named(files, name) else {
+        return Err(LoadError::Failed);
+    };
+    if octets.len() > limit as usize {
+        return Err(LoadError::TooLarge);
+    }
+    Ok(octets.to_vec(alloc)?)
+}
+
+impl Library for MemLibrary {
+    ghost files = { λ s. Some s.files };
+
+    ghost faults = { λ s. s.faults };
+
+    ghost taken = { λ s. s.taken };
+
+    fn load(&mut self, alloc: Global, name: &str, limit: u32) -> Result<Vec<u8>, LoadError>
+        ensures loaded { IfOk result (λ v. octets_of name.now self.old.files ≡ Some v.items) }
+        ensures limited { IfOk result (λ v. length v.items ≤ limit) }
+        ensures failed { IsErrOf result Failed ↔ (IsTrue (is_listed self.old.failing self.old.call) ⊎ (octets_of name.now self.old.files ≡ None)) }
+        ensures too_large { IsErrOf result TooLarge ↔ (IsFalse (is_listed self.old.failing self.old.call) × Exceeds (octets_of name.now self.old.files) limit) }
+        ensures counts { self.new.faults ≡ (if is_listed self.old.failing self.old.call then one_more self.old.faults else self.old.faults) }
+        ensures number { MatchResult result (λ v. self.new.taken ≡ min (self.old.taken + length v.items) (2 ^ 64 - 1)) (λ _. self.new.taken ≡ self.old.taken) }
+        ensures next_call { self.new.call ≡ one_more self.old.call }
+        ensures same_files { self.new.files ≡ self.old.files }
+        ensures same_failing { self.new.failing ≡ self.old.failing }
+        ensures rose { IsTrue (is_listed self.old.failing self.old.call) → Rose self.old.faults self.new.faults }
+        ensures never_falls { self.old.faults ≤ self.new.faults }
+        ensures number_never_falls { self.old.taken ≤ self.new.taken }
+    {
+        let call = self.call;
+        self.call = call.saturating_add(1);
+        let fails = is_listed(&self.failing, call);
+        if fails {
+            self.faults = self.faults.saturating_add(1);
+        }
+        let octets = load_from(alloc, &self.files, fails, name, limit)?;
+        self.taken = self.taken.saturating_add(octets.len() as u64);
+        Ok(octets)
+    }
+}
+
+#[cfg(test)]
+mod tests {
+    use super::*;
+    use std::test::Fail;
+
+    // Two files of one name and one of another, load 1 failing: each load's answer, with the faults counted after it.
+    #[test]
+    fn the_first_file_of_a_name_counts(rt: HostRuntime) -> Result<(), Fail> {
+        let alloc = rt.alloc();
+        let mut files = Vec::new(alloc);
+        for (name, text) in [("A", "abc"), ("B", "de"), ("A", "f")] {
+            let octets = text.as_bytes().to_vec(alloc)?;
+            files.push((String::from_str(alloc, name)?, octets))?;
+        }
+        let failing = vec![in alloc; 1]?;
+        let mut library = MemLibrary::new(files, failing);
+        for (name, limit, want, faults) in [
+            ("A", 3, Ok("abc"), 0),
+            ("A", 3, Err(LoadError::Failed), 1),
+            ("A", 2, Err(LoadError::TooLarge), 1),
+            ("B", 9, Ok("de"), 1),
+            ("C", 9, Err(LoadError::Failed), 1),
+        ] {
+            match (library.load(alloc, name, limit), want) {
+                (Ok(octets), Ok(text)) => assert_eq!(rt; octets.as_slice(), text.as_bytes()),
+                (Err(error), Err(wanted)) => assert_eq!(rt; error, wanted, "of {name}"),
+                _ => panic!(rt; "of {name}"),
+            }
+            assert_eq!(rt; library.faults, faults, "of {name}");
+        }
+        Ok(())
+    }
+}

@@ -1,8 +1,16 @@
+pub mod Blocks
+pub mod Bodies
+pub mod Canonical
+pub mod CanonicalOctets
 pub mod Characters
 pub mod Failing
+pub mod Flaws
 pub mod Lookup
 pub mod Names
+pub mod Plain
 pub mod Presence
+pub mod Shape
+pub mod Specification
 pub mod Spelling
 pub mod Tree
 pub mod Widths

@@ -7,6 +7,7 @@
 
 mod content;
 mod fault;
+mod flaw;
 mod kind;
 mod lookup;
 mod name;
@@ -19,6 +20,7 @@ mod value;
 pub use ax_lists::Sequence;
 pub use content::{Content, Scale, Sign, TableText, TableTexts};
 pub use fault::{BodyCause, BodyFault};
+pub use flaw::{Flaw, FlawKind, Flaws};
 pub use kind::{Fixed, Kind, Member, Members, Part, Parts, Slot, Slots};
 pub use name::Name;
 pub use place::{Place, Steps};

@@ -1,0 +1,5 @@
+pub mod Failed
+pub mod FixedKinds
+pub mod Meets
+pub mod Reader
+pub mod Spelled

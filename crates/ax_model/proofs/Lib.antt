@@ -1,5 +1,15 @@
+pub mod BodyReader
+pub mod ByReading
+pub mod CanonOnce
+pub mod CanonSpells
 pub mod Failed
 pub mod FixedKinds
+pub mod Fronts
+pub mod Least
 pub mod Meets
+pub mod Once
+pub mod Places
+pub mod PrefixFree
 pub mod Reader
 pub mod Spelled
+pub mod WholeOctets

@@ -5,6 +5,7 @@ use Rattle.std.proofs.lemmas.List.{take_all, length-take-le, nil_from_length}
 use Rattle.ax_bits.proofs.Words.{word-number, number_below, append-AreBits}
 use Rattle.ax_bits.specs.Bits.{AreBits, word, number_of, bits}
 use Rattle.ax_model.proofs.FixedKinds.{fixed_some, members_some, SplitIs, split_is}
+use Rattle.ax_model.proofs.Least.{here}
 use Rattle.ax_model.proofs.Reader.{Read, got, lost, after, both, fixed_value, members_value, Split, fixed_read, short, cut, part_read, parts_read, split, one_read, run_read, each_read, read, count_read, octets_in, octets_read, contents_read, explicit_read, up, undefined, fx_read, octet_read, presence_read, mark_read, marked_read, entries_read}
 use Rattle.ax_model.specs.Failing.{Fails, PartsFail, RunFails, PresenceFails, EntriesFail}
 use Rattle.ax_model.specs.Presence.{later_slots, FirstUndefined, NoneUndefined, IsDefined, slots_past, Presence, none_marked, first_mark, later_marks, octets_needed}

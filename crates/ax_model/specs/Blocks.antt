@@ -1,8 +1,7 @@
 -- Data blocks and streams of them: CAT, LEN in two octets, and a body. An octet and a category are numbers below 256.
 use Rattle.std.specs.Prelude.{◌≡◌, ℕ, ◌+◌, ◌*◌, ◌<◌, List, [], ◌∷◌, ◌++◌, length, Some, None}
-use Rattle.std.specs.List.{AllByRecursion}
 use Rattle.ax_bits.specs.Bits.{bits}
-use Rattle.ax_model.specs.Bodies.{SpellsBody, RecordShape}
+use Rattle.ax_model.specs.Bodies.{SpellsBody}
 use Rattle.ax_model.specs.Specification.{SpecTree, spec_of}
 use Rattle.ax_model.specs.Tree.{EntriesTree}
 

@@ -13,3 +13,4 @@ pub mod PrefixFree
 pub mod Reader
 pub mod Spelled
 pub mod WholeOctets
+pub mod WorkedExamples

@@ -49,7 +49,7 @@ body_apart e = cc
 body_same_fault : {p q : ℕ} {c d : BodyCause} → fault_at p c ≡ fault_at q d → (p ≡ q) × (c ≡ d)
 body_same_fault e = (cc, cc)
 
-read_fault : (spec : SpecTree) (b : List ℕ) (p : ℕ) (c : BodyCause) → FailsBody spec b p c → body_read (length b) spec b ≡ fault_at p c
+pub read_fault : (spec : SpecTree) (b : List ℕ) (p : ℕ) (c : BodyCause) → FailsBody spec b p c → body_read (length b) spec b ≡ fault_at p c
 read_fault spec b p c h = body_failed (length b) spec h.records b h.before h.left h.place c (omega arith) h.split h.spelled h.some h.fails ∙ ap (λ p. fault_at p c) (sym h.counted)
 
 pub body_once : (spec : SpecTree) (b : List ℕ) (vs ws : List EntriesTree) → SpellsBody spec vs b → SpellsBody spec ws b → vs ≡ ws

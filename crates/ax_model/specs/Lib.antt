@@ -4,6 +4,7 @@ pub mod Canonical
 pub mod CanonicalOctets
 pub mod Characters
 pub mod Completing
+pub mod Examples
 pub mod Failing
 pub mod Flaws
 pub mod Lookup

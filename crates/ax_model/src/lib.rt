@@ -6,6 +6,7 @@
 #![tactic(auto)]
 
 mod content;
+pub mod examples;
 mod fault;
 mod flaw;
 mod kind;

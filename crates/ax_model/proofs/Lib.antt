@@ -1,7 +1,9 @@
+pub mod BodyPlaces
 pub mod BodyReader
 pub mod ByReading
 pub mod CanonOnce
 pub mod CanonSpells
+pub mod Completions
 pub mod Failed
 pub mod FixedKinds
 pub mod Fronts
@@ -12,5 +14,6 @@ pub mod Places
 pub mod PrefixFree
 pub mod Reader
 pub mod Spelled
+pub mod Stays
 pub mod WholeOctets
 pub mod WorkedExamples

@@ -1,5 +1,6 @@
 pub mod BodyPlaces
 pub mod BodyReader
+pub mod Bounds
 pub mod ByReading
 pub mod CanonOnce
 pub mod CanonSpells

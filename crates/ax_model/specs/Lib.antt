@@ -7,6 +7,7 @@ pub mod Completing
 pub mod Examples
 pub mod Failing
 pub mod Flaws
+pub mod InBounds
 pub mod Lookup
 pub mod Names
 pub mod Places
@@ -16,6 +17,7 @@ pub mod Shape
 pub mod Sound
 pub mod Specification
 pub mod Spelling
+pub mod Standing
 pub mod Telling
 pub mod Tree
 pub mod Whole

@@ -5,7 +5,6 @@ use Rattle.ax_bits.specs.Bits.{bits}
 use Rattle.ax_model.proofs.Completions.{behind_kept, completes}
 use Rattle.ax_model.proofs.Meets.{bits_of}
 use Rattle.ax_model.proofs.Once.{body_never_both}
-use Rattle.ax_model.proofs.Reader.{split}
 use Rattle.ax_model.proofs.Stays.{behind, fails_stays}
 use Rattle.ax_model.proofs.WholeOctets.{two_whole, spells_whole}
 use Rattle.ax_model.specs.Bodies.{FailsBody, SpellsBody, RecordsSpell, SpellsRecord}
@@ -14,7 +13,7 @@ use Rattle.ax_model.specs.Sound.{Sound}
 use Rattle.ax_model.specs.Specification.{SpecTree, record_kind}
 use Rattle.ax_model.specs.Spelling.{Spells}
 use Rattle.ax_model.specs.Telling.{told, Begin}
-use Rattle.ax_model.specs.Tree.{counted, EntriesTree, marked, ValueTree}
+use Rattle.ax_model.specs.Tree.{EntriesTree, marked, ValueTree}
 use Rattle.ax_model.specs.Whole.{Whole}
 use Rattle.ax_model.specs.declared.fault.BodyCause.{BodyCause}
 use Rattle.ax_model.specs.declared.fault.BodyCause.TheVariants.{RunsOut, UndefinedSlot, PresenceTooLong, ExtensionPastEnd, BadExplicitLength}

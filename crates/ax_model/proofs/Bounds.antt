@@ -1,10 +1,9 @@
 -- The kinds of a specification without flaw are in bounds, and so they are sound and whole octets.
-use Rattle.std.proofs.Common.{◌≡◌, ℕ, suc, ◌+◌, ◌%◌, ◌<◌, ◌≤◌, ◌==◌, nat_lt, Bool, true, false, ◌||◌, not, List, [], ◌∷◌, ◌++◌, length, map, codes, decimal, bytes_eq, cond, Option, Some, None, inl, inr, refl, sym, ◌∙◌, ap, arith, subst}
+use Rattle.std.proofs.Common.{◌≡◌, ℕ, suc, ◌+◌, ◌%◌, ◌<◌, ◌≤◌, ◌==◌, nat_lt, Bool, true, false, ◌||◌, not, List, [], ◌∷◌, ◌++◌, length, map, codes, decimal, bytes_eq, cond, Option, Some, inl, inr, refl, sym, ◌∙◌, ap, arith, subst}
 use Rattle.std.specs.List.{AllByRecursion, find}
 use Rattle.std.proofs.lemmas.List.{length-map}
 use Rattle.std.proofs.lemmas.Bool.{eqb-true, eqb-false, ltb-false}
 use Rattle.ax_model.specs.declared.spec.UapSlot.TheVariants as Uap
-use Rattle.ax_model.proofs.Least.{here}
 use Rattle.ax_model.specs.Flaws.{flaw_where, is_no_multiple, is_bad_width, is_bad_element_width, fixed_flaws, is_bad_scale, is_bad_string_width, has_no_member, members_flaws, at, is_among, parts_flaws, is_too_wide, names_with, kind_flaws, slots_flaws, items_flaws, NoFlaw, three_digits, uap_flaws}
 use Rattle.ax_model.specs.InBounds.{IsWidth, FixedInBounds, MembersInBounds, PartInBounds, InBounds, SlotsInBounds}
 use Rattle.ax_model.specs.Sound.{Sound, SlotsSound}
@@ -92,7 +91,7 @@ parts_bounds path i earlier [] e = tt
 parts_bounds path i earlier (p ∷ ps) e =
     let here = at path (codes "part" ++ decimal i) in
     let t = four_empty (flaw_where (is_no_multiple 8 (members_width p + 1)) PartNotOctets here) (flaw_where (is_too_wide (members_width p)) TooWide here) (members_flaws path earlier p)
-      (parts_flaws path (i + 1) (names_with earlier p) ps) e in (
+    (parts_flaws path (i + 1) (names_with earlier p) ps) e in (
       (
         multiple 8 (members_width p + 1) (holds_not (is_no_multiple 8 (members_width p + 1)) PartNotOctets here t.0),
         at_most 524256 (members_width p) (holds_not (is_too_wide (members_width p)) TooWide here t.1),
@@ -178,7 +177,7 @@ items_bounds : (path : List ℕ) (earlier : List (List ℕ)) (items : List ItemT
 items_bounds path earlier [] e = tt
 items_bounds path earlier (item ∷ items) e =
     let t = three_empty (flaw_where (is_among item.name earlier) DuplicateItem (at path item.name)) (kind_flaws NotOctets (at path item.name) item.kind)
-      (items_flaws path (item.name ∷ earlier) items) e in
+    (items_flaws path (item.name ∷ earlier) items) e in
     (kind_bounds NotOctets (at path item.name) item.kind t.1, items_bounds path (item.name ∷ earlier) items t.2)
 
 -- the slot of what is looked up among the items
@@ -218,7 +217,7 @@ parts_of spec h =
     let path = three_digits spec.category in
     let place = at path (codes "uap") in
     let t = four_empty (items_flaws path [] spec.items) (flaw_where (length spec.uap == 0) Empty place) (flaw_where (nat_lt 126 (length spec.uap)) TooManySlots place)
-      (uap_flaws place spec.items [] spec.uap) h.none in (
+    (uap_flaws place spec.items [] spec.uap) h.none in (
       items_bounds path [] spec.items t.0,
       some_of (length spec.uap) (holds_not (length spec.uap == 0) Empty place t.1),
       at_most 126 (length spec.uap) (holds_not (nat_lt 126 (length spec.uap)) TooManySlots place t.2),

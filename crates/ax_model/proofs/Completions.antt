@@ -3,13 +3,11 @@ use Rattle.std.proofs.Common.{◌≡◌, ℕ, zero, suc, ◌+◌, ◌-◌, ◌*�
 use Rattle.std.proofs.lemmas.List.{nil_from_length}
 use Rattle.ax_bits.proofs.Words.{append-AreBits, length-word, bits-AreBits, length-bits}
 use Rattle.ax_bits.specs.Bits.{AreBits, word, bits}
-use Rattle.ax_model.proofs.Least.{kept}
 use Rattle.ax_model.proofs.Meets.{members_all, bits_of, fixed_all, NoneUndefined-append, skip, none_marked_left, rest_defined, rest_bits, spare_first, first_bit, octets_some, presence_bits}
-use Rattle.ax_model.proofs.Reader.{cut, split, members_value, fixed_value, octets_in}
-use Rattle.ax_model.proofs.Spelled.{unmarked, front}
+use Rattle.ax_model.proofs.Reader.{members_value, fixed_value, octets_in}
+use Rattle.ax_model.proofs.Spelled.{unmarked}
 use Rattle.ax_model.proofs.WholeOctets.{each_whole, spells_whole, presence_whole}
 use Rattle.ax_model.specs.Completing.{Completes}
-use Rattle.ax_model.specs.Examples.{small}
 use Rattle.ax_model.specs.Failing.{PartsFail, RunFails, PresenceFails, Fails, EntriesFail}
 use Rattle.ax_model.specs.Presence.{none_marked, Presence, NoneUndefined, FirstUndefined, later_slots, slots_past, first_mark, later_marks, octets_needed}
 use Rattle.ax_model.specs.Sound.{Sound, SlotsSound}

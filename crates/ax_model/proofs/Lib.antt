@@ -8,12 +8,14 @@ pub mod Completions
 pub mod Failed
 pub mod FixedKinds
 pub mod Fronts
+pub mod Judged
 pub mod Least
 pub mod Meets
 pub mod Once
 pub mod Places
 pub mod PrefixFree
 pub mod Reader
+pub mod RecordLaws
 pub mod Spelled
 pub mod Stays
 pub mod WholeOctets

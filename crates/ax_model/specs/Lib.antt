@@ -8,6 +8,7 @@ pub mod Examples
 pub mod Failing
 pub mod Flaws
 pub mod InBounds
+pub mod Judging
 pub mod Lookup
 pub mod Names
 pub mod Places

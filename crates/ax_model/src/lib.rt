@@ -10,6 +10,7 @@ pub mod examples;
 mod fault;
 mod flaw;
 mod kind;
+pub mod laws;
 mod lookup;
 mod name;
 mod place;

@@ -1,1 +1,4 @@
+pub mod Outputs
+pub mod Pieces
+pub mod Steps
 pub mod Words

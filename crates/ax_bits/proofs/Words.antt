@@ -14,7 +14,7 @@ pub word-AreBits : (w n : ℕ) → AreBits (word w n)
 word-AreBits zero n = tt
 word-AreBits (suc w) n = (omega arith, word-AreBits w n)
 
-twice : (k : ℕ) → 2 ^ suc k ≡ 2 ^ k + 2 ^ k
+pub twice : (k : ℕ) → 2 ^ suc k ≡ 2 ^ k + 2 ^ k
 twice k = let e : 2 ^ suc k ≡ 2 ^ k * 2 = pow-suc 2 k in omega arith
 
 pub number_below : (b : List ℕ) → AreBits b → number_of b < 2 ^ length b

@@ -6,8 +6,11 @@
 #![tactic(auto)]
 
 mod content;
+pub mod examples;
 mod fault;
+mod flaw;
 mod kind;
+pub mod laws;
 mod lookup;
 mod name;
 mod place;
@@ -19,6 +22,7 @@ mod value;
 pub use ax_lists::Sequence;
 pub use content::{Content, Scale, Sign, TableText, TableTexts};
 pub use fault::{BodyCause, BodyFault};
+pub use flaw::{Flaw, FlawKind, Flaws};
 pub use kind::{Fixed, Kind, Member, Members, Part, Parts, Slot, Slots};
 pub use name::Name;
 pub use place::{Place, Steps};

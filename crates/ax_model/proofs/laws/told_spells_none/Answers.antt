@@ -1,0 +1,5 @@
+use Rattle.ax_model.proofs.Stays.{told_spells_none}
+use Rattle.ax_model.proofs.laws.told_spells_none.Goals as goal
+
+pub returns : goal.returns
+returns c = told_spells_none

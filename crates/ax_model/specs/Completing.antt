@@ -1,0 +1,13 @@
+-- Bits that begin something, at least as far as a place, and wholly where they only run out.
+use Rattle.std.specs.Prelude.{◌≡◌, ℕ, ◌≤◌, List, [], ◌++◌, length}
+use Rattle.ax_model.specs.declared.fault.BodyCause.{BodyCause}
+use Rattle.ax_model.specs.declared.fault.BodyCause.TheVariants.{RunsOut}
+
+pub record Completes (S : List ℕ → Type 0) (b : List ℕ) (p : ℕ) (c : BodyCause) : Type 0 where
+  pub kept : List ℕ
+  pub cut : List ℕ
+  pub more : List ℕ
+  pub split : b ≡ kept ++ cut
+  pub far : p ≤ length kept
+  pub whole : c ≡ RunsOut → cut ≡ []
+  pub spelled : S (kept ++ more)

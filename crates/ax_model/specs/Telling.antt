@@ -1,0 +1,21 @@
+-- The bits that tell a fault.
+use Rattle.std.specs.Prelude.{◌≡◌, ℕ, ◌≤◌, List, ◌++◌, length}
+use Rattle.ax_model.specs.declared.fault.BodyCause.{BodyCause}
+use Rattle.ax_model.specs.declared.fault.BodyCause.TheVariants.{RunsOut, UndefinedSlot, PresenceTooLong, ExtensionPastEnd, BadExplicitLength}
+
+-- the bits that tell a fault: those through its place, or through the length octet
+abbrev pub told : BodyCause → ℕ
+told BadExplicitLength = 8
+told RunsOut = 0
+told UndefinedSlot = 1
+told PresenceTooLong = 1
+told ExtensionPastEnd = 1
+
+-- two lists begin alike for n bits
+pub record Begin (n : ℕ) (b d : List ℕ) : Type 0 where
+  pub common : List ℕ
+  pub left : List ℕ
+  pub right : List ℕ
+  pub long : n ≤ length common
+  pub first : b ≡ common ++ left
+  pub second : d ≡ common ++ right

@@ -1,0 +1,161 @@
+//! The laws of the definitions. Each function stands for what its contract says, over all kinds at every depth.
+//!
+//! A law of a specification without flaw stands beside the finer one, whose premises are all that it needs:
+//! that a kind is sound, which bits spell at all, and that it is whole octets.
+ghost use Rattle.std.specs.Prelude.{◌≡◌, ℕ, ◌+◌, ◌*◌, ◌%◌, ◌<◌, ◌≤◌, ◌↔◌, ◌⊎◌, List, ◌++◌, length, get_or};
+ghost use Rattle.std.specs.List.{AllByRecursion};
+ghost use Rattle.ax_bits.specs.Bits.{bits, AreBits};
+ghost use Rattle.ax_model.specs.Bodies.{RecordShape, SpellsRecord, CanonRecord, FailsRecord, SpellsBody, CanonBody, FailsBody};
+ghost use Rattle.ax_model.specs.Canonical.{canon};
+ghost use Rattle.ax_model.specs.Completing.{Completes};
+ghost use Rattle.ax_model.specs.Failing.{Fails};
+ghost use Rattle.ax_model.specs.Flaws.{NoFlaw};
+ghost use Rattle.ax_model.specs.InBounds.{InBounds};
+ghost use Rattle.ax_model.specs.Judging.{IsJudgedOnce, FrontSpells, FrontSpellsRecord};
+ghost use Rattle.ax_model.specs.Places.{HasEntry};
+ghost use Rattle.ax_model.specs.Presence.{Presence};
+ghost use Rattle.ax_model.specs.Shape.{Shape};
+ghost use Rattle.ax_model.specs.Sound.{Sound};
+ghost use Rattle.ax_model.specs.Specification.{SpecTree, record_kind};
+ghost use Rattle.ax_model.specs.Spelling.{Spells, EntriesSpell};
+ghost use Rattle.ax_model.specs.Standing.{StandsIn};
+ghost use Rattle.ax_model.specs.Telling.{told, Begin};
+ghost use Rattle.ax_model.specs.Tree.{KindTree, SlotsTree, ValueTree, EntriesTree};
+ghost use Rattle.ax_model.specs.Whole.{Whole};
+ghost use Rattle.ax_model.specs.declared.fault.BodyCause.TheVariants.{RunsOut};
+ghost use Rattle.ax_model.specs.declared.fault.BodyCause.{BodyCause};
+
+// ---- spellings are prefix-free
+
+/// Two spellings of one kind that begin one list are one, and so are their values: no spelling begins another.
+/// Likewise of records.
+#[tactic(auto, using(crate::proofs::PrefixFree::prefix_free))]
+pub fn prefix_free()
+    ensures kinds { (k : KindTree) (v w : ValueTree) (b c x y : List ℕ) → Spells k v b → Spells k w c → b ++ x ≡ c ++ y → (b ≡ c) × (v ≡ w) }
+    ensures records { (spec : SpecTree) (r s : EntriesTree) (b c x y : List ℕ) → SpellsRecord spec r b → SpellsRecord spec s c → b ++ x ≡ c ++ y → (b ≡ c) × (r ≡ s) }
+{}
+
+// ---- spelled once or fails once
+
+/// Octets, which may be none, begin with a spelling of exactly one value of a kind, or fail at exactly one place with
+/// exactly one cause, and never both.
+pub fn kind_spelled_once_or_fails_once()
+    ensures without_flaw { (spec : SpecTree) (k : KindTree) (octets : List ℕ) → NoFlaw spec → StandsIn spec k → IsJudgedOnce (FrontSpells k octets) (Fails k (bits octets)) }
+    ensures finer { (k : KindTree) (octets : List ℕ) → Sound k → Whole k → IsJudgedOnce (FrontSpells k octets) (Fails k (bits octets)) }
+{}
+
+/// Likewise of a record.
+pub fn record_spelled_once_or_fails_once()
+    ensures without_flaw { (spec : SpecTree) (octets : List ℕ) → NoFlaw spec → IsJudgedOnce (FrontSpellsRecord spec octets) (FailsRecord spec (bits octets)) }
+    ensures finer { (spec : SpecTree) (octets : List ℕ) → Sound (record_kind spec) → Whole (record_kind spec) → IsJudgedOnce (FrontSpellsRecord spec octets) (FailsRecord spec (bits octets)) }
+{}
+
+/// A body of at least one octet is spelled by exactly one list of records, or fails at exactly one place with exactly
+/// one cause, and never both.
+#[tactic(auto, using(crate::proofs::Judged::bodies_judged))]
+pub fn body_spelled_once_or_fails_once()
+    ensures without_flaw { (spec : SpecTree) (octets : List ℕ) → NoFlaw spec → 0 < length octets → IsJudgedOnce (λ records. SpellsBody spec records (bits octets)) (FailsBody spec (bits octets)) }
+    ensures finer { (spec : SpecTree) (octets : List ℕ) → Sound (record_kind spec) → 0 < length octets → IsJudgedOnce (λ records. SpellsBody spec records (bits octets)) (FailsBody spec (bits octets)) }
+{}
+
+/// The same of any bits, part by part, each with the premises that it needs.
+#[tactic(auto, using(crate::proofs::Once::spelled_or_fails, crate::proofs::Once::never_both, crate::proofs::Once::fails_once))]
+pub fn bits_spelled_or_fail()
+    ensures some { (k : KindTree) (b : List ℕ) → Sound k → AreBits b →
+        ((v : ValueTree) × (x : List ℕ) × (y : List ℕ) × (b ≡ x ++ y) × Spells k v x) ⊎ ((p : ℕ) × (c : BodyCause) × Fails k b p c) }
+    ensures never_both { (k : KindTree) (v : ValueTree) (x y : List ℕ) (p : ℕ) (c : BodyCause) → Spells k v x → Fails k (x ++ y) p c → ⊥ }
+    ensures one_fault { (k : KindTree) (b : List ℕ) (p q : ℕ) (c d : BodyCause) → Fails k b p c → Fails k b q d → (p ≡ q) × (c ≡ d) }
+{}
+
+// ---- the canonical spelling is least and tells values apart
+
+/// What is spelled has the shape of its kind. Likewise of records.
+#[tactic(auto, using(crate::proofs::CanonSpells::spells_shape))]
+pub fn spelled_has_shape()
+    ensures kinds { (k : KindTree) (v : ValueTree) (b : List ℕ) → Spells k v b → Shape k v }
+    ensures records { (spec : SpecTree) (r : EntriesTree) (b : List ℕ) → SpellsRecord spec r b → RecordShape spec r }
+{}
+
+/// The canonical spelling of a value of the kind's shape spells it.
+#[tactic(auto, using(crate::proofs::RecordLaws::standing_canon_spells, crate::proofs::RecordLaws::flawless_body_canon_spells, crate::proofs::CanonSpells::canon_spells))]
+pub fn canon_spells()
+    ensures kinds { (spec : SpecTree) (k : KindTree) (v : ValueTree) → NoFlaw spec → StandsIn spec k → Shape k v → Spells k v (canon k v) }
+    ensures records { (spec : SpecTree) (r : EntriesTree) → NoFlaw spec → RecordShape spec r → SpellsRecord spec r (CanonRecord spec r) }
+    ensures bodies { (spec : SpecTree) (records : List EntriesTree) → NoFlaw spec → 0 < length records → AllByRecursion (RecordShape spec) records → SpellsBody spec records (CanonBody spec records) }
+    ensures finer { (k : KindTree) (v : ValueTree) → Sound k → Shape k v → Spells k v (canon k v) }
+{}
+
+/// No spelling is shorter than the canonical one.
+#[tactic(auto, using(crate::proofs::CanonSpells::canon_shortest, crate::proofs::RecordLaws::body_canon_shortest))]
+pub fn canon_is_least()
+    ensures kinds { (k : KindTree) (v : ValueTree) (b : List ℕ) → Spells k v b → length (canon k v) ≤ length b }
+    ensures records { (spec : SpecTree) (r : EntriesTree) (b : List ℕ) → SpellsRecord spec r b → length (CanonRecord spec r) ≤ length b }
+    ensures bodies { (spec : SpecTree) (records : List EntriesTree) (b : List ℕ) → SpellsBody spec records b → length (CanonBody spec records) ≤ length b }
+{}
+
+/// Canonical spellings are equal exactly where the values are.
+pub fn canon_tells_apart()
+    ensures kinds { (spec : SpecTree) (k : KindTree) (v w : ValueTree) → NoFlaw spec → StandsIn spec k → Shape k v → Shape k w → canon k v ≡ canon k w ↔ v ≡ w }
+    ensures records { (spec : SpecTree) (r s : EntriesTree) → NoFlaw spec → RecordShape spec r → RecordShape spec s → CanonRecord spec r ≡ CanonRecord spec s ↔ r ≡ s }
+    ensures bodies { (spec : SpecTree) (rs ss : List EntriesTree) → NoFlaw spec → 0 < length rs → 0 < length ss → AllByRecursion (RecordShape spec) rs → AllByRecursion (RecordShape spec) ss →
+        CanonBody spec rs ≡ CanonBody spec ss ↔ rs ≡ ss }
+    ensures finer { (k : KindTree) (v w : ValueTree) → Sound k → Shape k v → Shape k w → canon k v ≡ canon k w ↔ v ≡ w }
+{}
+
+// ---- specifications without flaw
+
+/// The kinds of a specification without flaw, and its records, have widths and counts in bounds; then they are sound and
+/// whole octets.
+#[tactic(auto, using(crate::proofs::Bounds::standing_bounds, crate::proofs::Bounds::record_bounds, crate::proofs::Bounds::bounds_sound, crate::proofs::Bounds::bounds_whole))]
+pub fn without_flaw_in_bounds()
+    ensures kinds { (spec : SpecTree) (k : KindTree) → NoFlaw spec → StandsIn spec k → InBounds k }
+    ensures records { (spec : SpecTree) → NoFlaw spec → InBounds (record_kind spec) }
+    ensures sound { (k : KindTree) → InBounds k → Sound k }
+    ensures whole { (k : KindTree) → InBounds k → Whole k }
+{}
+
+/// A spelling of a kind of whole octets is whole octets, and a fault stands at a bit or at the end.
+#[tactic(auto, using(crate::proofs::WholeOctets::spells_whole, crate::proofs::WholeOctets::fails_within))]
+pub fn spellings_and_places()
+    ensures whole { (k : KindTree) (v : ValueTree) (b : List ℕ) → Whole k → Spells k v b → length b % 8 ≡ 0 }
+    ensures within { (k : KindTree) (b : List ℕ) (p : ℕ) (c : BodyCause) → Fails k b p c → p ≤ length b }
+{}
+
+// ---- presence fields by the places of their bits
+
+/// Bit `j` of octet `i` is mark `7 i + j`, and the last bit is 1 exactly where another octet follows. A slot is marked
+/// exactly where there is an entry for it.
+#[tactic(auto, using(crate::proofs::Places::presence_places, crate::proofs::Places::presence_fx, crate::proofs::Places::marks_stand))]
+pub fn presence_by_places()
+    ensures marks { (k : ℕ) (ms f : List ℕ) (i j : ℕ) → Presence k ms f → j < 7 → 8 * i + j < length f → get_or f (8 * i + j) 0 ≡ get_or ms (7 * i + j) 0 }
+    ensures fx { (k : ℕ) (ms f : List ℕ) (i : ℕ) → Presence k ms f → 8 * i + 7 < length f → get_or f (8 * i + 7) 0 ≡ 1 ↔ 8 * i + 8 < length f }
+    ensures entries { (s : ℕ) (ss : SlotsTree) (ms : List ℕ) (es : EntriesTree) (b : List ℕ) (t u : ℕ) → u ≡ s + t → EntriesSpell s ss ms es b → get_or ms t 0 ≡ 1 ↔ HasEntry u es }
+{}
+
+// ---- places of faults are true
+
+/// A fault other than want of bits is told by the bits through its place: no list that begins with them begins with a
+/// spelling.
+pub fn told_spells_none()
+    ensures { (k : KindTree) (b d x y : List ℕ) (p : ℕ) (c : BodyCause) (v : ValueTree) →
+        (c ≡ RunsOut → ⊥) → Begin (p + told c) b d → Fails k b p c → d ≡ x ++ y → Spells k v x → ⊥ }
+{}
+
+/// The bits before a fault begin some spelling, and where octets only run out all of them do.
+pub fn completes()
+    ensures { (k : KindTree) (octets : List ℕ) (p : ℕ) (c : BodyCause) → Sound k → Whole k → Fails k (bits octets) p c →
+        Completes (λ w. (v : ValueTree) × Spells k v w) (bits octets) p c }
+{}
+
+/// A body's fault other than want of bits is told by the bits through its place: no body that begins with them spells
+/// records.
+pub fn told_spells_no_body()
+    ensures { (spec : SpecTree) (b d : List ℕ) (p : ℕ) (c : BodyCause) (records : List EntriesTree) →
+        (c ≡ RunsOut → ⊥) → Begin (p + told c) b d → FailsBody spec b p c → SpellsBody spec records d → ⊥ }
+{}
+
+/// The bits before a body's fault begin some body, and where its octets only run out all of them do.
+pub fn body_completes()
+    ensures { (spec : SpecTree) (octets : List ℕ) (p : ℕ) (c : BodyCause) → Sound (record_kind spec) → Whole (record_kind spec) → FailsBody spec (bits octets) p c →
+        Completes (λ w. (records : List EntriesTree) × SpellsBody spec records w) (bits octets) p c }
+{}

@@ -67,7 +67,7 @@ length-rest-le : (a : List ℕ) → length (later_marks a) ≤ length a - 1
 length-rest-le [] = omega arith
 length-rest-le (x ∷ a) = omega arith
 
-length-rests-le : (n : ℕ) (a : List ℕ) → length (marks_after n a) ≤ length a - n
+pub length-rests-le : (n : ℕ) (a : List ℕ) → length (marks_after n a) ≤ length a - n
 length-rests-le zero a = omega arith
 length-rests-le (suc n) a = omega (arith, length-rest-le a, length-rests-le n (later_marks a))
 
@@ -76,12 +76,12 @@ firsts-AreBits zero a h = tt
 firsts-AreBits (suc n) [] h = (omega arith, firsts-AreBits n [] tt)
 firsts-AreBits (suc n) (x ∷ a) h = (h.0, firsts-AreBits n a h.1)
 
-rests-AreBits : (n : ℕ) (a : List ℕ) → AreBits a → AreBits (marks_after n a)
+pub rests-AreBits : (n : ℕ) (a : List ℕ) → AreBits a → AreBits (marks_after n a)
 rests-AreBits zero a h = h
 rests-AreBits (suc n) [] h = rests-AreBits n [] tt
 rests-AreBits (suc n) (x ∷ a) h = rests-AreBits n a h.1
 
-length-marked : (ms : List ℕ) → none_marked ms ≡ false → 0 < length ms
+pub length-marked : (ms : List ℕ) → none_marked ms ≡ false → 0 < length ms
 length-marked [] e = cc
 length-marked (m ∷ ms) e = omega arith
 

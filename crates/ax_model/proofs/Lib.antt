@@ -1,6 +1,7 @@
 pub mod BodyPlaces
 pub mod BodyReader
 pub mod Bounds
+pub mod ByPlaces
 pub mod ByReading
 pub mod CanonOnce
 pub mod CanonSpells
@@ -10,6 +11,7 @@ pub mod FixedKinds
 pub mod Fronts
 pub mod Judged
 pub mod Least
+pub mod Lookups
 pub mod Meets
 pub mod Once
 pub mod Places

@@ -8,10 +8,10 @@ use Rattle.ax_model.specs.Tree.{SlotsTree, EntriesTree, no_slots, no_entries, en
 
 -- ---- the field's bits are the marks
 
-at_front : (a b : List ℕ) (n : ℕ) → n < length a → get_or (a ++ b) n 0 ≡ get_or a n 0
+pub at_front : (a b : List ℕ) (n : ℕ) → n < length a → get_or (a ++ b) n 0 ≡ get_or a n 0
 at_front a b n h = get_or_append_left a b 0 n h
 
-at_back : (a b : List ℕ) (n m : ℕ) → m ≡ length a + n → get_or (a ++ b) m 0 ≡ get_or b n 0
+pub at_back : (a b : List ℕ) (n m : ℕ) → m ≡ length a + n → get_or (a ++ b) m 0 ≡ get_or b n 0
 at_back a b n m e = ap (λ m. get_or (a ++ b) m 0) e ∙ get_or-append-add a b n 0
 
 pub presence_places : (k : ℕ) (ms f : List ℕ) (i j : ℕ) → Presence k ms f → j < 7 → 8 * i + j < length f → get_or f (8 * i + j) 0 ≡ get_or ms (7 * i + j) 0
@@ -27,7 +27,7 @@ presence_places (suc k) ms f (suc i) j (seven, l, bit, inr (more, y, e, g, t)) l
     ap (λ f. get_or f (8 * suc i + j) 0) g ∙ at_back seven (1 ∷ y) (suc (8 * i + j)) (8 * suc i + j) (omega arith) ∙ ih
     ∙ sym (at_back seven more (7 * i + j) (7 * suc i + j) (omega arith)) ∙ ap (λ m. get_or m (7 * suc i + j) 0) (sym e)
 
-fx_at : (seven y : List ℕ) (fx : ℕ) (f : List ℕ) → length seven ≡ 7 → f ≡ seven ++ fx ∷ y → get_or f 7 0 ≡ fx
+pub fx_at : (seven y : List ℕ) (fx : ℕ) (f : List ℕ) → length seven ≡ 7 → f ≡ seven ++ fx ∷ y → get_or f 7 0 ≡ fx
 fx_at seven y fx f l g = ap (λ f. get_or f 7 0) g ∙ get_or_at seven fx y 0 7 l
 
 some_bits : (k : ℕ) (ms f : List ℕ) → Presence (suc k) ms f → 0 < length f
@@ -53,17 +53,17 @@ presence_fx (suc k) ms f (suc i) (seven, l, bit, inr (more, y, e, g, t)) in_f =
 
 -- ---- the marks are the entries' slots
 
-none_marked_at : (ms : List ℕ) (t : ℕ) → IsTrue (none_marked ms) → get_or ms t 0 ≡ 0
+pub none_marked_at : (ms : List ℕ) (t : ℕ) → IsTrue (none_marked ms) → get_or ms t 0 ≡ 0
 none_marked_at [] t h = refl
 none_marked_at (zero ∷ ms) zero h = refl
 none_marked_at (zero ∷ ms) (suc t) h = none_marked_at ms t h
 none_marked_at (suc m ∷ ms) t h = cc
 
-at_first : (ms : List ℕ) → get_or ms 0 0 ≡ first_mark ms
+pub at_first : (ms : List ℕ) → get_or ms 0 0 ≡ first_mark ms
 at_first [] = refl
 at_first (m ∷ ms) = refl
 
-at_rest : (ms : List ℕ) (t : ℕ) → get_or ms (suc t) 0 ≡ get_or (later_marks ms) t 0
+pub at_rest : (ms : List ℕ) (t : ℕ) → get_or ms (suc t) 0 ≡ get_or (later_marks ms) t 0
 at_rest [] t = refl
 at_rest (m ∷ ms) t = refl
 

@@ -12,8 +12,8 @@ ghost use Rattle.ax_model.specs.Failing.{Fails};
 ghost use Rattle.ax_model.specs.Flaws.{NoFlaw};
 ghost use Rattle.ax_model.specs.InBounds.{InBounds};
 ghost use Rattle.ax_model.specs.Judging.{IsJudgedOnce, FrontSpells, FrontSpellsRecord};
-ghost use Rattle.ax_model.specs.Places.{HasEntry};
-ghost use Rattle.ax_model.specs.Presence.{Presence};
+ghost use Rattle.ax_model.specs.Places.{HasEntry, IsByPlaces, HasNoRedundantOctet};
+ghost use Rattle.ax_model.specs.Presence.{Presence, least_presence};
 ghost use Rattle.ax_model.specs.Shape.{Shape};
 ghost use Rattle.ax_model.specs.Sound.{Sound};
 ghost use Rattle.ax_model.specs.Specification.{SpecTree, record_kind};
@@ -123,13 +123,20 @@ pub fn spellings_and_places()
 
 // ---- presence fields by the places of their bits
 
-/// Bit `j` of octet `i` is mark `7 i + j`, and the last bit is 1 exactly where another octet follows. A slot is marked
-/// exactly where there is an entry for it.
-#[tactic(auto, using(crate::proofs::Places::presence_places, crate::proofs::Places::presence_fx, crate::proofs::Places::marks_stand))]
-pub fn presence_by_places()
-    ensures marks { (k : ℕ) (ms f : List ℕ) (i j : ℕ) → Presence k ms f → j < 7 → 8 * i + j < length f → get_or f (8 * i + j) 0 ≡ get_or ms (7 * i + j) 0 }
-    ensures fx { (k : ℕ) (ms f : List ℕ) (i : ℕ) → Presence k ms f → 8 * i + 7 < length f → get_or f (8 * i + 7) 0 ≡ 1 ↔ 8 * i + 8 < length f }
-    ensures entries { (s : ℕ) (ss : SlotsTree) (ms : List ℕ) (es : EntriesTree) (b : List ℕ) (t u : ℕ) → u ≡ s + t → EntriesSpell s ss ms es b → get_or ms t 0 ≡ 1 ↔ HasEntry u es }
+/// A presence field with these marks is the field by the places of its bits. A slot is marked exactly where there is an
+/// entry for it.
+#[tactic(auto, using(crate::proofs::ByPlaces::presence_is_by_places, crate::proofs::ByPlaces::by_places_is_presence, crate::proofs::Places::marks_stand))]
+pub fn presence_is_by_places()
+    ensures places { (k : ℕ) (marks f : List ℕ) → Presence k marks f ↔ IsByPlaces k marks f }
+    ensures entries { (s : ℕ) (ss : SlotsTree) (marks : List ℕ) (es : EntriesTree) (b : List ℕ) (t u : ℕ) → u ≡ s + t → EntriesSpell s ss marks es b → get_or marks t 0 ≡ 1 ↔ HasEntry u es }
+{}
+
+/// The least presence field has the marks and no others, and no redundant octet.
+#[tactic(auto, using(crate::proofs::ByPlaces::least_is_field, crate::proofs::ByPlaces::least_has_no_redundant))]
+pub fn least_presence_is_least()
+    ensures field { (k : ℕ) (marks : List ℕ) → AreBits marks → 0 < k → length marks ≤ 7 * k →
+        (same : List ℕ) × Presence k same (least_presence k marks) × ((t : ℕ) → get_or same t 0 ≡ get_or marks t 0) }
+    ensures least { (k : ℕ) (marks : List ℕ) → AreBits marks → 0 < k → length marks ≤ 7 * k → HasNoRedundantOctet marks (least_presence k marks) }
 {}
 
 // ---- places of faults are true

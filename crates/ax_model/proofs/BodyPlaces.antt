@@ -12,7 +12,7 @@ use Rattle.ax_model.specs.Completing.{Completes}
 use Rattle.ax_model.specs.Sound.{Sound}
 use Rattle.ax_model.specs.Specification.{SpecTree, record_kind}
 use Rattle.ax_model.specs.Spelling.{Spells}
-use Rattle.ax_model.specs.Telling.{told, Begin}
+use Rattle.ax_model.specs.Telling.{told, BeginAlike}
 use Rattle.ax_model.specs.Tree.{EntriesTree, marked, ValueTree}
 use Rattle.ax_model.specs.Whole.{Whole}
 use Rattle.ax_model.specs.declared.fault.BodyCause.{BodyCause}
@@ -25,10 +25,10 @@ told_some PresenceTooLong more = omega arith
 told_some ExtensionPastEnd more = omega arith
 told_some BadExplicitLength more = omega arith
 
-begin_some : (n : ℕ) (b d : List ℕ) → Begin n b d → n ≤ length d
+begin_some : (n : ℕ) (b d : List ℕ) → BeginAlike n b d → n ≤ length d
 begin_some n b d s = let long : n ≤ length s.common = s.long in omega (arith, ap length s.second, length-append s.common s.right)
 
-body_stays : (spec : SpecTree) (b d : List ℕ) (p : ℕ) (c : BodyCause) → (c ≡ RunsOut → ⊥) → Begin (p + told c) b d → FailsBody spec b p c → (q : ℕ) × (e : BodyCause) × FailsBody spec d q e
+body_stays : (spec : SpecTree) (b d : List ℕ) (p : ℕ) (c : BodyCause) → (c ≡ RunsOut → ⊥) → BeginAlike (p + told c) b d → FailsBody spec b p c → (q : ℕ) × (e : BodyCause) × FailsBody spec d q e
 body_stays spec b d p c more s h =
     let f : p ≡ length h.before + h.place = h.counted in
     let t = behind (p + told c) (h.place + told c) b d h.before h.left s h.split (omega arith) in
@@ -36,7 +36,7 @@ body_stays spec b d p c more s h =
     let some : 0 < length t.0 = omega (arith, told_some c more, begin_some (h.place + told c) h.left t.0 t.2) in
     (length h.before + u.0, u.1, record { records = h.records; before = h.before; left = t.0; split = t.1; spelled = h.spelled; some = some; place = u.0; counted = refl; fails = record { fails = u.2 } })
 
-pub told_spells_no_body : (spec : SpecTree) (b d : List ℕ) (p : ℕ) (c : BodyCause) (vs : List EntriesTree) → (c ≡ RunsOut → ⊥) → Begin (p + told c) b d → FailsBody spec b p c → SpellsBody spec vs d → ⊥
+pub told_spells_no_body : (spec : SpecTree) (b d : List ℕ) (p : ℕ) (c : BodyCause) (vs : List EntriesTree) → (c ≡ RunsOut → ⊥) → BeginAlike (p + told c) b d → FailsBody spec b p c → SpellsBody spec vs d → ⊥
 told_spells_no_body spec b d p c vs more s h g = let u = body_stays spec b d p c more s h in body_never_both spec d vs u.0 u.1 g u.2
 
 one_more : (spec : SpecTree) (vs : List EntriesTree) (x : List ℕ) (v : EntriesTree) (w : List ℕ) → RecordsSpell spec vs x → SpellsRecord spec v w → RecordsSpell spec (vs ++ v ∷ []) (x ++ w)

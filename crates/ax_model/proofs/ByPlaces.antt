@@ -1,5 +1,5 @@
 -- A presence field is the field by its bits' places, and the least one has no redundant octet.
-use Rattle.std.proofs.Common.{◌≡◌, ◌↔◌, ℕ, zero, suc, ◌+◌, ◌*◌, ◌<◌, ◌≤◌, ◌⊎◌, inl, inr, Bool, true, false, cond, IsTrue, List, [], ◌∷◌, ◌++◌, length, take, drop, get_or, refl, sym, ◌∙◌, ap, arith, length-append, length-drop, length-take-le, take-append-drop, append-nil, subst}
+use Rattle.std.proofs.Common.{◌≡◌, ◌↔◌, ℕ, zero, suc, ◌+◌, ◌*◌, ◌<◌, ◌≤◌, ◌⊎◌, inl, inr, Bool, true, false, cond, List, [], ◌∷◌, ◌++◌, length, take, drop, get_or, refl, sym, ◌∙◌, ap, arith, length-append, length-drop, length-take-le, take-append-drop, append-nil, subst}
 use Rattle.std.proofs.lemmas.List.{nil_from_length}
 use Rattle.ax_bits.proofs.Words.{append-AreBits}
 use Rattle.ax_bits.specs.Bits.{AreBits}
@@ -8,7 +8,6 @@ use Rattle.ax_model.proofs.Meets.{bits_of}
 use Rattle.ax_model.proofs.Places.{presence_places, presence_fx, at_front, at_back, fx_at, none_marked_at, at_first, at_rest}
 use Rattle.ax_model.specs.Places.{IsByPlaces, HasNoRedundantOctet}
 use Rattle.ax_model.specs.Presence.{Presence, none_marked, later_marks, marks_after, marks_upto, least_presence}
-use Rattle.ax_model.specs.Tree.{marked}
 
 -- ---- from the field to the places
 
@@ -67,8 +66,8 @@ Continues n f = (i : ℕ) → i < n → get_or f (8 * i + 7) 0 ≡ 1 ↔ i + 1 <
 module _ (ms f seven marks more : List ℕ) (fx : ℕ) (y : List ℕ) (n : ℕ) (e : f ≡ seven ++ fx ∷ y) (l : length seven ≡ 7) (g : ms ≡ marks ++ more) (m : length marks ≡ 7) where
   first_seven : Places (suc n) ms f → seven ≡ marks
   first_seven places = same_members seven marks (l ∙ sym m) (λ j lt.
-    sym (at_front seven (fx ∷ y) j lt) ∙ ap (λ f. get_or f j 0) (sym e) ∙ ap (λ j. get_or f j 0) (let z : j ≡ 8 * 0 + j = omega arith in z)
-    ∙ places 0 j (omega arith) (omega arith) ∙ ap (λ j. get_or ms j 0) (let z : 7 * 0 + j ≡ j = omega arith in z) ∙ ap (λ ms. get_or ms j 0) g ∙ at_front marks more j (omega arith))
+      sym (at_front seven (fx ∷ y) j lt) ∙ ap (λ f. get_or f j 0) (sym e) ∙ ap (λ j. get_or f j 0) (let z : j ≡ 8 * 0 + j = omega arith in z)
+      ∙ places 0 j (omega arith) (omega arith) ∙ ap (λ j. get_or ms j 0) (let z : 7 * 0 + j ≡ j = omega arith in z) ∙ ap (λ ms. get_or ms j 0) g ∙ at_front marks more j (omega arith))
 
   later_places : Places (suc n) ms f → Places n more y
   later_places places i j lt less =
@@ -115,9 +114,9 @@ first_octet k n go ms f seven (fx ∷ y) e l long marks bit places fxs =
       l,
       b.0,
       other_octets k n go ms f seven fx y (drop 7 ms) e (g ∙ ap (λ x. x ++ drop 7 ms) (sym same)) b.1.0 b.1.1 left marks_left
-      (first_fx ms f seven (take 7 ms) (drop 7 ms) fx y n e l g m fxs)
-      (later_places ms f seven (take 7 ms) (drop 7 ms) fx y n e l g m places)
-      (later_fx ms f seven (take 7 ms) (drop 7 ms) fx y n e l g m fxs),
+          (first_fx ms f seven (take 7 ms) (drop 7 ms) fx y n e l g m fxs)
+          (later_places ms f seven (take 7 ms) (drop 7 ms) fx y n e l g m places)
+          (later_fx ms f seven (take 7 ms) (drop 7 ms) fx y n e l g m fxs),
     )
 
 from_places : (k n : ℕ) (ms f : List ℕ) → 1 ≤ n → n ≤ k → length f ≡ 8 * n → length ms ≡ 7 * n → AreBits f → Places n ms f → Continues n f → Presence k ms f

@@ -6,7 +6,7 @@ use Rattle.ax_model.proofs.Once.{never_both}
 use Rattle.ax_model.specs.Failing.{PartsFail, RunFails, PresenceFails, Fails, EntriesFail}
 use Rattle.ax_model.specs.Presence.{FirstUndefined, later_slots, slots_past, octets_needed, later_marks}
 use Rattle.ax_model.specs.Spelling.{Spells}
-use Rattle.ax_model.specs.Telling.{Begin, told}
+use Rattle.ax_model.specs.Telling.{BeginAlike, told}
 use Rattle.ax_model.specs.Tree.{MembersTree, FixedTree, KindTree, fixed, extended, counted, by_fx, explicit, compound, slot_count, defined_slots, SlotsTree, no_slots, slot_and, spare_slot, subitem, ValueTree}
 use Rattle.ax_model.specs.declared.fault.BodyCause.{BodyCause}
 use Rattle.ax_model.specs.declared.fault.BodyCause.TheVariants.{RunsOut, UndefinedSlot, BadExplicitLength}
@@ -21,7 +21,7 @@ front_of (c ∷ h) r (a ∷ x) y e le =
     (t.0, (λ i. same i ∷ t.1 i), t.2)
 
 -- behind a common front
-pub behind : (n m : ℕ) (b d x y : List ℕ) → Begin n b d → b ≡ x ++ y → length x + m ≤ n → (z : List ℕ) × (d ≡ x ++ z) × Begin m y z
+pub behind : (n m : ℕ) (b d x y : List ℕ) → BeginAlike n b d → b ≡ x ++ y → length x + m ≤ n → (z : List ℕ) × (d ≡ x ++ z) × BeginAlike m y z
 behind n m b d x y s e le =
     let t = front_of s.common s.left x y (sym s.first ∙ e) (let l = s.long in omega arith) in
     let second : d ≡ x ++ (t.0 ++ s.right) = s.second ∙ ap (λ h. h ++ s.right) t.1 ∙ append_assoc x t.0 s.right in
@@ -29,16 +29,16 @@ behind n m b d x y s e le =
     (t.0 ++ s.right, second, record { common = t.0; left = s.left; right = s.right; long = (let l = s.long in omega arith); first = t.2; second = refl })
 
 -- behind a front and one more bit
-behind_unit : (n m : ℕ) (b d x y : List ℕ) (fx : ℕ) → Begin n b d → b ≡ x ++ fx ∷ y → length x + 1 + m ≤ n → (z : List ℕ) × (d ≡ x ++ fx ∷ z) × Begin m y z
+behind_unit : (n m : ℕ) (b d x y : List ℕ) (fx : ℕ) → BeginAlike n b d → b ≡ x ++ fx ∷ y → length x + 1 + m ≤ n → (z : List ℕ) × (d ≡ x ++ fx ∷ z) × BeginAlike m y z
 behind_unit n m b d x y fx s e le =
     let t = behind n m b d (x ++ fx ∷ []) y s (e ∙ sym (append_assoc x (fx ∷ []) y)) (omega (arith, length-append x (fx ∷ []))) in
     (t.0, t.1 ∙ append_assoc x (fx ∷ []) t.0, t.2)
 
-weaker : (n m : ℕ) (b d : List ℕ) → Begin n b d → m ≤ n → Begin m b d
+weaker : (n m : ℕ) (b d : List ℕ) → BeginAlike n b d → m ≤ n → BeginAlike m b d
 weaker n m b d s le = record { common = s.common; left = s.left; right = s.right; long = (let l = s.long in omega arith); first = s.first; second = s.second }
 
 -- the parts still fail, with the same place and cause
-parts_stay : (ps : List MembersTree) (b d : List ℕ) (p : ℕ) (c : BodyCause) → (c ≡ RunsOut → ⊥) → Begin (p + told c) b d → PartsFail ps b p c → PartsFail ps d p c
+parts_stay : (ps : List MembersTree) (b d : List ℕ) (p : ℕ) (c : BodyCause) → (c ≡ RunsOut → ⊥) → BeginAlike (p + told c) b d → PartsFail ps b p c → PartsFail ps d p c
 parts_stay [] b d p c more s h = h
 parts_stay (ms ∷ ps) b d p c more s (inl h) = absurd (more h.2)
 parts_stay (ms ∷ ps) b d p c more s (inr (x, y, l, e, inl (f, g, h))) =
@@ -52,7 +52,7 @@ run_ends zero f b p c h = h.2
 run_ends (suc n) f b p c (x, y, l, e, q, g, h) = run_ends n f y q c h
 
 -- the first undefined mark is told by the marks through it
-begin_by : (n a c : ℕ) (b d g l r : List ℕ) → suc n ≤ length g → a ∷ b ≡ g ++ l → c ∷ d ≡ g ++ r → (a ≡ c) × Begin n b d
+begin_by : (n a c : ℕ) (b d g l r : List ℕ) → suc n ≤ length g → a ∷ b ≡ g ++ l → c ∷ d ≡ g ++ r → (a ≡ c) × BeginAlike n b d
 begin_by n a c b d [] l r le e f = absurd (omega arith)
 begin_by n a c b d (x ∷ g) l r le e f =
     let b_tail : b ≡ g ++ l = cc in
@@ -60,10 +60,10 @@ begin_by n a c b d (x ∷ g) l r le e f =
     let same : a ≡ c = cc in
     (same, record { common = g; left = l; right = r; long = omega arith; first = b_tail; second = d_tail })
 
-begin_first : (n a c : ℕ) (b d : List ℕ) → Begin (suc n) (a ∷ b) (c ∷ d) → (a ≡ c) × Begin n b d
+begin_first : (n a c : ℕ) (b d : List ℕ) → BeginAlike (suc n) (a ∷ b) (c ∷ d) → (a ≡ c) × BeginAlike n b d
 begin_first n a c b d s = begin_by n a c b d s.common s.left s.right s.long s.first s.second
 
-undefined_stays : (ds : List Bool) (ms ns r t : List ℕ) (j : ℕ) → FirstUndefined ds ms j → j < length ns → Begin (j + 1) (ms ++ r) (ns ++ t) → FirstUndefined ds ns j
+undefined_stays : (ds : List Bool) (ms ns r t : List ℕ) (j : ℕ) → FirstUndefined ds ms j → j < length ns → BeginAlike (j + 1) (ms ++ r) (ns ++ t) → FirstUndefined ds ns j
 undefined_stays ds [] ns r t j h lt s = absurd h
 undefined_stays ds (m ∷ ms) [] r t j h lt s = absurd (omega arith)
 undefined_stays ds (m ∷ ms) (n ∷ ns) r t zero h lt s =
@@ -87,11 +87,11 @@ octet_or_end (a ∷ b ∷ c ∷ d ∷ e ∷ f ∷ g ∷ h ∷ y) = inr (a ∷ b 
 abbrev pub PresenceStops : ℕ → List Bool → List ℕ → Type 0
 PresenceStops k ds d = (q : ℕ) × (e : BodyCause) × PresenceFails k ds d q e
 
-undefined_octet : (k : ℕ) (ds : List Bool) (b d x r : List ℕ) (j : ℕ) → Begin (j + 1) b d → b ≡ x ++ r → length x ≡ 7 → j < 7 → FirstUndefined ds x j
+undefined_octet : (k : ℕ) (ds : List Bool) (b d x r : List ℕ) (j : ℕ) → BeginAlike (j + 1) b d → b ≡ x ++ r → length x ≡ 7 → j < 7 → FirstUndefined ds x j
     → (length d < 8) ⊎ ((x : List ℕ) × (fx : ℕ) × (y : List ℕ) × (length x ≡ 7) × (d ≡ x ++ fx ∷ y)) → PresenceStops (suc k) ds d
 undefined_octet k ds b d x r j s e l lt h (inl few) = (0, RunsOut, inl (few, refl, refl))
 undefined_octet k ds b d x r j s e l lt h (inr (z, fx, y, m, f)) =
-    let same : Begin (j + 1) (x ++ r) (z ++ fx ∷ y) = subst (λ b. Begin (j + 1) b (z ++ fx ∷ y)) e (subst (λ d. Begin (j + 1) b d) f s) in
+    let same : BeginAlike (j + 1) (x ++ r) (z ++ fx ∷ y) = subst (λ b. BeginAlike (j + 1) b (z ++ fx ∷ y)) e (subst (λ d. BeginAlike (j + 1) b d) f s) in
     (j, UndefinedSlot, inr (z, fx, y, m, f, inl (undefined_stays ds x z r (fx ∷ y) j h (omega arith) same, refl)))
 
 undefined_in : (ds : List Bool) (ms : List ℕ) (j : ℕ) → FirstUndefined ds ms j → j < length ms
@@ -99,7 +99,7 @@ undefined_in ds [] j h = absurd h
 undefined_in ds (m ∷ ms) zero h = omega arith
 undefined_in ds (m ∷ ms) (suc j) h = omega (arith, undefined_in (later_slots ds) ms j h.1)
 
-presence_stays : (k : ℕ) (ds : List Bool) (b d : List ℕ) (p : ℕ) (c : BodyCause) → (c ≡ RunsOut → ⊥) → Begin (p + told c) b d → PresenceFails k ds b p c → PresenceStops k ds d
+presence_stays : (k : ℕ) (ds : List Bool) (b d : List ℕ) (p : ℕ) (c : BodyCause) → (c ≡ RunsOut → ⊥) → BeginAlike (p + told c) b d → PresenceFails k ds b p c → PresenceStops k ds d
 presence_stays zero ds b d p c more s h = absurd h
 presence_stays (suc k) ds b d p c more s (inl h) = absurd (more h.2)
 presence_stays (suc k) ds b d p c more s (inr (x, fx, y, l, e, inl (h, f))) =
@@ -118,7 +118,7 @@ Stops k d = (q : ℕ) × (e : BodyCause) × Fails k d q e
 
 mutual
   -- whatever follows the bits that tell the fault, the kind fails
-  pub fails_stays : (k : KindTree) (b d : List ℕ) (p : ℕ) (c : BodyCause) → (c ≡ RunsOut → ⊥) → Begin (p + told c) b d → Fails k b p c → Stops k d
+  pub fails_stays : (k : KindTree) (b d : List ℕ) (p : ℕ) (c : BodyCause) → (c ≡ RunsOut → ⊥) → BeginAlike (p + told c) b d → Fails k b p c → Stops k d
   fails_stays (fixed f) b d p c more s h = absurd (more h.2)
   fails_stays (extended ps) b d p c more s h = (p, c, parts_stay ps b d p c more s h)
   fails_stays (counted k) b d p c more s (inl h) = absurd (more h.2)
@@ -137,7 +137,7 @@ mutual
       let t = behind (p + told c) (q + told c) b d x y s e (omega arith) in
       let u = entries_stay ss ms y t.0 q c more t.2 g in (length x + u.0, u.1, inr (ms, x, t.0, t.1, h, clear, u.0, refl, u.2))
 
-  pub entries_stay : (ss : SlotsTree) (ms b d : List ℕ) (p : ℕ) (c : BodyCause) → (c ≡ RunsOut → ⊥) → Begin (p + told c) b d → EntriesFail ss ms b p c → (q : ℕ) × (e : BodyCause) × EntriesFail ss ms d q e
+  pub entries_stay : (ss : SlotsTree) (ms b d : List ℕ) (p : ℕ) (c : BodyCause) → (c ≡ RunsOut → ⊥) → BeginAlike (p + told c) b d → EntriesFail ss ms b p c → (q : ℕ) × (e : BodyCause) × EntriesFail ss ms d q e
   entries_stay no_slots ms b d p c more s h = absurd h
   entries_stay (slot_and spare_slot ss) ms b d p c more s h = entries_stay ss (later_marks ms) b d p c more s h
   entries_stay (slot_and (subitem name k) ss) ms b d p c more s (inl h) = let u = fails_stays k b d p c more s h.1 in (u.0, u.1, inl (h.0, u.2))
@@ -147,6 +147,6 @@ mutual
   entries_stay (slot_and (subitem name k) ss) ms b d p c more s (inr (inr h)) = let u = entries_stay ss (later_marks ms) b d p c more s h.1 in (u.0, u.1, inr (inr (h.0, u.2)))
 
 -- so they begin no spelling
-pub told_spells_none : (k : KindTree) (b d x y : List ℕ) (p : ℕ) (c : BodyCause) (v : ValueTree) → (c ≡ RunsOut → ⊥) → Begin (p + told c) b d → Fails k b p c → d ≡ x ++ y → Spells k v x → ⊥
+pub told_spells_none : (k : KindTree) (b d x y : List ℕ) (p : ℕ) (c : BodyCause) (v : ValueTree) → (c ≡ RunsOut → ⊥) → BeginAlike (p + told c) b d → Fails k b p c → d ≡ x ++ y → Spells k v x → ⊥
 told_spells_none k b d x y p c v more s h e g =
     let u = fails_stays k b d p c more s h in never_both k v x y u.0 u.1 g (subst (λ d. Fails k d u.0 u.1) e u.2)

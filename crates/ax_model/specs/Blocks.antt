@@ -1,7 +1,8 @@
--- Data blocks and streams of them: CAT, LEN in two octets, and a body. An octet and a category are numbers below 256.
+-- Data blocks, and streams of them (data blocks). An octet and a category are numbers below 256.
 use Rattle.std.specs.Prelude.{◌≡◌, ℕ, ◌+◌, ◌*◌, ◌<◌, List, [], ◌∷◌, ◌++◌, length, Some, None}
+use Rattle.std.specs.List.{AllByRecursion}
 use Rattle.ax_bits.specs.Bits.{bits}
-use Rattle.ax_model.specs.Bodies.{SpellsBody}
+use Rattle.ax_model.specs.Bodies.{SpellsBody, RecordShape}
 use Rattle.ax_model.specs.Specification.{SpecTree, spec_of}
 use Rattle.ax_model.specs.Tree.{EntriesTree}
 
@@ -42,3 +43,8 @@ abbrev pub SpellsStream : List SpecTree → List BlockTree → List ℕ → Type
 SpellsStream catalogue [] octets = octets ≡ []
 SpellsStream catalogue (block ∷ blocks) octets =
     (front : List ℕ) × (rest : List ℕ) × (octets ≡ front ++ rest) × SpellsBlock catalogue block front × SpellsStream catalogue blocks rest
+
+-- a block of the specification's category, of one or more records of its shape; or an opaque block of another category
+abbrev pub Fits : SpecTree → BlockTree → Type 0
+Fits spec (read_block category records) = (category ≡ spec.category) × (0 < length records) × AllByRecursion (RecordShape spec) records
+Fits spec (opaque_block category content) = (category ≡ spec.category → ⊥) × (0 < length content)

@@ -1,4 +1,4 @@
--- Records and bodies over a specification. A record is its entries, by field reference number.
+-- Records and bodies over a specification (data blocks, FSPEC). A record is its entries, by field reference number (FRN).
 use Rattle.std.specs.Prelude.{◌≡◌, ℕ, ◌+◌, ◌<◌, List, [], ◌∷◌, ◌++◌, length, flat_map}
 use Rattle.ax_model.specs.Canonical.{canon}
 use Rattle.ax_model.specs.Failing.{Fails}

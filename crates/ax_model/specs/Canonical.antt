@@ -1,4 +1,4 @@
--- The canonical spelling of a value, in which each presence field, at every depth, is the least.
+-- The canonical spelling of a value (this project's own rule): each presence field, at every depth, is the least.
 use Rattle.std.specs.Prelude.{ℕ, ◌+◌, ◌==◌, if◌then◌else◌, List, [], ◌∷◌, ◌++◌, length}
 use Rattle.ax_bits.specs.Bits.{word, bits}
 use Rattle.ax_model.specs.Presence.{octets_needed, least_presence}

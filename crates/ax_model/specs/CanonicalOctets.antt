@@ -1,4 +1,5 @@
--- The canonical octets of blocks: CAT, the LEN of the result, and the canonical spellings of the records or the opaque octets.
+-- The canonical octets of blocks (this project's own rule): CAT, the LEN of the result, and the canonical spellings of the
+-- records, or the opaque octets.
 use Rattle.std.specs.Prelude.{ℕ, ◌+◌, List, [], ◌∷◌, ◌++◌, length, flat_map, Option, Some, None}
 use Rattle.ax_bits.specs.Bits.{word, number_of}
 use Rattle.ax_model.specs.Blocks.{BlockTree, read_block, opaque_block}

@@ -11,6 +11,7 @@ pub mod InBounds
 pub mod Judging
 pub mod Lookup
 pub mod Names
+pub mod OfCode
 pub mod Places
 pub mod Plain
 pub mod Presence

@@ -1,4 +1,4 @@
--- The plain tree of a specification, and the slots of its records.
+-- The plain tree of a specification, and the slots of its records (FSPEC and user application profile).
 use Rattle.std.specs.Prelude.{ℕ, ◌==◌, List, map, Option, Some, None, find, bytes_eq}
 use Rattle.ax_model.specs.Tree.{KindTree, compound, SlotTree, SlotsTree, spare_slot, subitem, slots_of}
 use Rattle.ax_model.specs.declared.spec.UapSlot.{UapSlot}
@@ -39,7 +39,7 @@ record_slots spec = slots_of (map (uap_slot spec.items) spec.uap)
 abbrev pub record_kind : SpecTree → KindTree
 record_kind spec = compound (record_slots spec)
 
--- ---- catalogues: specifications in order, of which the first of a category counts
+-- ---- catalogues: specifications in order, one for each category; of two the first counts
 
 abbrev pub spec_of : ℕ → List SpecTree → Option SpecTree
 spec_of category catalogue = find (λ spec. spec.category == category) catalogue

@@ -12,7 +12,7 @@ told PresenceTooLong = 1
 told ExtensionPastEnd = 1
 
 -- two lists begin alike for n bits
-pub record Begin (n : ℕ) (b d : List ℕ) : Type 0 where
+pub record BeginAlike (n : ℕ) (b d : List ℕ) : Type 0 where
   pub common : List ℕ
   pub left : List ℕ
   pub right : List ℕ

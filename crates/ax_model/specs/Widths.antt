@@ -1,4 +1,4 @@
--- Widths in bits.
+-- Widths in bits (field kinds).
 use Rattle.std.specs.Prelude.{ℕ, ◌+◌}
 use Rattle.ax_model.specs.Tree.{FixedTree, element, group, MembersTree, no_members, member_and, named, spare}
 

@@ -106,6 +106,12 @@ second_record = body_failed_by_reading small (0x80 ∷ 0xaa ∷ 0x40 ∷ []) 17 
 pub not_first_record : FailsBody small (bits (0x80 ∷ 0xaa ∷ 0x40 ∷ [])) 1 UndefinedSlot → ⊥
 not_first_record h = absurd (omega (arith, (only_body_fault small (0x80 ∷ 0xaa ∷ 0x40 ∷ []) 1 17 UndefinedSlot UndefinedSlot refl h).0))
 
+pub no_item : FailsBody flawed (bits (0x10 ∷ 0xaa ∷ [])) 3 UndefinedSlot
+no_item = body_failed_by_reading flawed (0x10 ∷ 0xaa ∷ []) 3 UndefinedSlot (lit< tt, (tt, (tt, tt))) refl
+
+pub not_third_slot : FailsBody flawed (bits (0x10 ∷ 0xaa ∷ [])) 2 UndefinedSlot → ⊥
+not_third_slot h = absurd (omega (arith, (only_body_fault flawed (0x10 ∷ 0xaa ∷ []) 2 3 UndefinedSlot UndefinedSlot refl h).0))
+
 -- ---- blocks
 
 pub known_category : SpellsBlock (small ∷ []) (read_block 48 (entry_and 1 (number 0xaa) no_entries ∷ [])) (0x30 ∷ 0x00 ∷ 0x06 ∷ 0x81 ∷ 0x00 ∷ 0xaa ∷ [])

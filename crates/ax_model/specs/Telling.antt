@@ -1,9 +1,9 @@
--- The bits that tell a fault.
+-- Which bits tell a fault.
 use Rattle.std.specs.Prelude.{◌≡◌, ℕ, ◌≤◌, List, ◌++◌, length}
 use Rattle.ax_model.specs.declared.fault.BodyCause.{BodyCause}
 use Rattle.ax_model.specs.declared.fault.BodyCause.TheVariants.{RunsOut, UndefinedSlot, PresenceTooLong, ExtensionPastEnd, BadExplicitLength}
 
--- the bits that tell a fault: those through its place, or through the length octet
+-- how many bits from the place on tell a fault: the bit itself, or the whole length octet; want of bits isn't told by any
 abbrev pub told : BodyCause → ℕ
 told BadExplicitLength = 8
 told RunsOut = 0

@@ -136,6 +136,13 @@ pub fn fault_in_the_second_record()
     ensures not_first { FailsBody small (bits (0x80 ∷ 0xaa ∷ 0x40 ∷ [])) 1 UndefinedSlot → ⊥ }
 {}
 
+/// Slot 4 has a name that no item has, so it is undefined as a spare one is.
+#[tactic(auto, using(crate::proofs::WorkedExamples::no_item, crate::proofs::WorkedExamples::not_third_slot))]
+pub fn slot_without_an_item()
+    ensures fails { FailsBody flawed (bits (0x10 ∷ 0xaa ∷ [])) 3 UndefinedSlot }
+    ensures not_third { FailsBody flawed (bits (0x10 ∷ 0xaa ∷ [])) 2 UndefinedSlot → ⊥ }
+{}
+
 // ---- blocks, and the flaws of a specification
 
 /// A block of a known category is read, one of another category is opaque.

@@ -1,6 +1,6 @@
 -- Which values a kind has (field kinds).
 use Rattle.std.specs.Prelude.{ℕ, ◌+◌, ◌^◌, ◌<◌, ◌==◌, MatchBool, List, [], ◌∷◌, length}
-use Rattle.std.specs.List.{AllByRecursion}
+use Rattle.ax_bits.specs.Bits.{AreOctets}
 use Rattle.ax_model.specs.Tree.{FixedTree, element, group, MembersTree, no_members, member_and, named, spare, KindTree, fixed, extended, counted, by_fx, explicit, compound, SlotsTree, no_slots, slot_and, spare_slot, subitem, ValueTree, number, member_values, part_values, occurrences, content_octets, marked, ValuesTree, no_values, value_and, value_count, ListsTree, no_lists, list_and, EntriesTree, no_entries, entry_and}
 
 -- a number of w bits
@@ -43,7 +43,7 @@ abbrev mutual
   Shape (counted k) _ = ⊥
   Shape (by_fx f) (occurrences vs) = (0 < value_count vs) × EachShape (FixedShape f) vs
   Shape (by_fx f) _ = ⊥
-  Shape explicit (content_octets xs) = (length xs < 255) × AllByRecursion (λ x. x < 256) xs
+  Shape explicit (content_octets xs) = (length xs < 255) × AreOctets xs
   Shape explicit _ = ⊥
   Shape (compound ss) (marked es) = EntriesShape 1 ss es
   Shape (compound ss) _ = ⊥

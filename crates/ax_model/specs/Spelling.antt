@@ -1,7 +1,6 @@
 -- Which bits spell which value of a kind (field kinds).
 use Rattle.std.specs.Prelude.{◌≡◌, ℕ, ◌+◌, ◌^◌, ◌<◌, ◌⊎◌, IsTrue, List, [], ◌∷◌, ◌++◌, length}
-use Rattle.std.specs.List.{AllByRecursion}
-use Rattle.ax_bits.specs.Bits.{word, bits}
+use Rattle.ax_bits.specs.Bits.{word, bits, AreOctets}
 use Rattle.ax_model.specs.Presence.{Presence, octets_needed, first_mark, later_marks, none_marked}
 use Rattle.ax_model.specs.Tree.{FixedTree, element, group, MembersTree, no_members, member_and, named, spare, KindTree, fixed, extended, counted, by_fx, explicit, compound, SlotsTree, no_slots, slot_and, spare_slot, subitem, slot_count, ValueTree, number, member_values, part_values, occurrences, content_octets, marked, ValuesTree, no_values, value_and, value_count, ListsTree, no_lists, list_and, EntriesTree, no_entries, entry_and}
 
@@ -59,7 +58,7 @@ abbrev mutual
   Spells (counted k) _ b = ⊥
   Spells (by_fx f) (occurrences vs) b = RunSpells f vs b
   Spells (by_fx f) _ b = ⊥
-  Spells explicit (content_octets xs) b = (length xs < 255) × AllByRecursion (λ x. x < 256) xs × (b ≡ word 8 (1 + length xs) ++ bits xs)
+  Spells explicit (content_octets xs) b = (length xs < 255) × AreOctets xs × (b ≡ word 8 (1 + length xs) ++ bits xs)
   Spells explicit _ b = ⊥
   Spells (compound ss) (marked es) b =
       (f : List ℕ) × (y : List ℕ) × (marks : List ℕ) × (b ≡ f ++ y) × Presence (octets_needed (slot_count ss)) marks f × EntriesSpell 1 ss marks es y

@@ -1,6 +1,6 @@
 //! Worked examples of the definitions. Each function stands for what its contract says.
-ghost use Rattle.std.specs.Prelude.{◌≡◌, List, [], ◌∷◌, codes};
-ghost use Rattle.ax_bits.specs.Bits.{bits};
+ghost use Rattle.std.specs.Prelude.{◌≡◌, List, [], ◌∷◌, pos, neg_ℤ};
+ghost use Rattle.ax_bits.specs.Bits.{bits, signed};
 ghost use Rattle.ax_model.specs.Blocks.{read_block, opaque_block, SpellsBlock};
 ghost use Rattle.ax_model.specs.Bodies.{SpellsRecord, CanonRecord, FailsBody};
 ghost use Rattle.ax_model.specs.Canonical.{canon};
@@ -13,6 +13,16 @@ ghost use Rattle.ax_model.specs.Spelling.{IsSpelling};
 ghost use Rattle.ax_model.specs.Tree.{element, counted, by_fx, explicit, number, member_values, part_values, occurrences, content_octets, marked, values_of, lists_of, no_entries, entry_and};
 ghost use Rattle.ax_model.specs.declared.content.Content.TheVariants.{Raw};
 ghost use Rattle.ax_model.specs.declared.fault.BodyCause.TheVariants.{RunsOut, UndefinedSlot, PresenceTooLong, ExtensionPastEnd, BadExplicitLength};
+
+// ---- signed numbers
+
+/// Two's complement of 8 bits at both ends of its range, and around 0.
+pub fn signed_at_both_ends()
+    ensures greatest { signed 8 0x7f ≡ pos 127 }
+    ensures least { signed 8 0x80 ≡ neg_ℤ (pos 128) }
+    ensures below_0 { signed 8 0xff ≡ neg_ℤ (pos 1) }
+    ensures zero { signed 8 0x00 ≡ pos 0 }
+{}
 
 // ---- spellings
 

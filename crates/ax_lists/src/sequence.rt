@@ -1,4 +1,4 @@
-ghost use Rattle.std.specs.Prelude.{◌≡◌, [], ◌∷◌, ◌++◌, ◌<◌, ◌↔◌, length, slice_get, IsSome, OnOk, OnErr};
+ghost use Rattle.std.specs.Prelude.{◌≡◌, [], ◌∷◌, ◌++◌, ◌<◌, ◌↔◌, length, slice_get, IsSome, IfOk, OnOk, OnErr};
 ghost use Rattle.std.specs.Option.{option_copied};
 
 use std::alloc::{AllocError, Global};
@@ -58,6 +58,16 @@ impl<T> Sequence<T> {
         ensures bound { length self.now < 4294967296 }
     {
         self.members.as_slice()
+    }
+}
+
+impl<T: Copy> Sequence<T> {
+    /// A list of the same members. Takes their room once.
+    pub fn copy(&self, alloc: Global) -> Result<Self, AllocError>
+        ensures { IfOk result (λ made. made ≡ self.now) }
+    {
+        let members = Vec::from_slice(alloc, self.members.as_slice())?;
+        Ok(Sequence { members })
     }
 }
 

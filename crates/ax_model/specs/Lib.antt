@@ -24,3 +24,5 @@ pub mod Telling
 pub mod Tree
 pub mod Whole
 pub mod Widths
+pub mod Ends
+pub mod Framing

@@ -6,6 +6,7 @@
 #![tactic(auto)]
 
 mod content;
+mod copying;
 pub mod examples;
 mod fault;
 mod flaw;

@@ -22,3 +22,4 @@ pub mod Spelled
 pub mod Stays
 pub mod WholeOctets
 pub mod WorkedExamples
+pub mod FittingLists

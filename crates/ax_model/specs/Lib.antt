@@ -26,3 +26,4 @@ pub mod Whole
 pub mod Widths
 pub mod Ends
 pub mod Framing
+pub mod Fitting

@@ -9,6 +9,7 @@ mod content;
 mod copying;
 pub mod examples;
 mod fault;
+mod fitting;
 mod flaw;
 mod kind;
 pub mod laws;

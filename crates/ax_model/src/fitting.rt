@@ -1,11 +1,12 @@
 //! Whether a value has a kind's shape, and a block fits a specification. Nothing here takes memory.
-ghost use Rattle.std.specs.Prelude.{◌≡◌, ◌↔◌, ◌+◌, ◌^◌, ◌<◌, nat_lt, IsTrue, MatchOption, false, map};
-ghost use Rattle.ax_model.specs.Fitting.{number_fits, fixed_fits, member_fits, members_fit, lists_fit, parts_fit, each_fits, kind_fits, entries_fit, Fits};
+ghost use Rattle.std.specs.Prelude.{◌≡◌, ◌+◌, ◌^◌, ◌&&◌, nat_lt, MatchOption, false, map, length};
+ghost use Rattle.ax_model.specs.Fitting.{number_fits, fixed_fits, member_fits, members_fit, lists_fit, parts_fit, each_fits, kind_fits, entries_fit};
 ghost use Rattle.ax_model.specs.Plain.{fixed_tree, member_tree, members_tree, part_tree, kind_tree, slot_tree, slots_tree, value_tree, values_tree, lists_tree, entries_tree};
-ghost use Rattle.ax_model.specs.Tree.{SlotsTree, slot_and};
+ghost use Rattle.ax_model.specs.Tree.{SlotsTree, slot_and, value_count};
+ghost use Rattle.std.specs.List.{list_all};
 
-use crate::kind::{Fixed, Kind, Member, Members, Part, Parts, Slot};
-use crate::value::{Entry, Lists, Value, Values};
+use crate::kind::{Fixed, Kind, Member, Members, Part, Parts, Slot, Slots};
+use crate::value::{Entries, Entry, Lists, Value, Values};
 
 /// Whether the number has at most that many bits.
 fn is_below(number: u128, width: u32) -> bool
@@ -73,7 +74,10 @@ fn fits_lists(parts: &[Part], lists: &[Values]) -> bool
 {
     let mut parts = parts;
     let mut lists = lists;
-    while let (Some((part, later)), Some((values, rest))) = (parts.split_first(), lists.split_first()) {
+    while let (Some((part, later)), Some((values, rest))) = (
+        parts.split_first(),
+        lists.split_first(),
+    ) {
         if !fits_members(&part.members, values) {
             return false;
         }
@@ -111,6 +115,25 @@ fn fits_run(fixed: &Fixed, values: &[Value]) -> bool
     true
 }
 
+/// Whether there are octets of an explicit content, at most 254.
+#[tactic(auto, using(crate::proofs::FittingLists::counts))]
+fn fits_content(octets: &[u8]) -> bool
+    ensures { result ≡ (nat_lt (length octets.now) 255 && list_all (λ x. nat_lt x 256) octets.now) }
+{
+    octets.len() < 255
+}
+
+/// Whether there are one or more values, and each fits the fixed kind.
+#[tactic(auto, using(crate::proofs::FittingLists::counts))]
+fn fits_by_fx(fixed: &Fixed, values: &Values) -> bool
+    ensures { result ≡ (nat_lt 0 (value_count (values_tree values.now)) && each_fits (fixed_fits (fixed_tree fixed.now)) (values_tree values.now)) }
+{
+    if values.count() == 0 {
+        return false;
+    }
+    fits_run(fixed, values.as_slice())
+}
+
 /// Whether the value has the kind's shape.
 #[cycle(kind_fits)]
 pub fn fits_kind(kind: &Kind, value: &Value) -> bool
@@ -119,12 +142,24 @@ pub fn fits_kind(kind: &Kind, value: &Value) -> bool
     match (kind, value) {
         (Kind::Fixed(fixed), value) => fits_fixed(fixed, value),
         (Kind::Extended(parts), Value::Extended(lists)) => fits_parts(parts, lists),
-        (Kind::Counted(inner), Value::Repeat(values)) => values.count() < 256 && fits_each(inner, values.as_slice()),
-        (Kind::ByFx(fixed), Value::Repeat(values)) => values.count() > 0 && fits_run(fixed, values.as_slice()),
-        (Kind::Explicit, Value::Octets(octets)) => octets.count() < 255,
-        (Kind::Compound(slots), Value::Compound(entries)) => fits_slots(slots.as_slice(), entries.as_slice()),
+        (Kind::Counted(inner), Value::Repeat(values)) => fits_counted(inner, values),
+        (Kind::ByFx(fixed), Value::Repeat(values)) => fits_by_fx(fixed, values),
+        (Kind::Explicit, Value::Octets(octets)) => fits_content(octets.as_slice()),
+        (Kind::Compound(slots), Value::Compound(entries)) => fits_slots(slots, entries),
         _ => false,
     }
+}
+
+/// Whether there are at most 255 values, and each fits the inner kind.
+#[cycle(kind_fits)]
+#[tactic(auto, using(crate::proofs::FittingLists::counts))]
+fn fits_counted(inner: &Kind, values: &Values) -> bool
+    ensures { result ≡ (nat_lt (value_count (values_tree values.now)) 256 && each_fits (kind_fits (kind_tree inner.now)) (values_tree values.now)) }
+{
+    if values.count() > 255 {
+        return false;
+    }
+    fits_each(inner, values.as_slice())
 }
 
 #[cycle(kind_fits)]
@@ -143,21 +178,20 @@ fn fits_each(kind: &Kind, values: &[Value]) -> bool
 
 /// Whether each entry is of one of the slots, of which the first is slot 1, in ascending order, and fits its kind.
 #[cycle(kind_fits)]
-fn fits_slots(slots: &[Slot], entries: &[Entry]) -> bool
+#[tactic(auto, using(crate::proofs::FittingLists::slots))]
+fn fits_slots(slots: &Slots, entries: &Entries) -> bool
     ensures { result ≡ entries_fit 1 (slots_tree slots.now) (entries_tree entries.now) }
 {
     let mut number: u64 = 1;
-    let mut slots = slots;
-    let mut entries = entries;
-    while let Some((slot, later)) = slots.split_first() {
-        let Some(rest) = behind_slot(number, slot, entries) else {
+    let mut rest = entries.as_slice();
+    for slot in slots.as_slice() {
+        let Some(later) = behind_slot(number, slot, rest) else {
             return false;
         };
         number += 1;
-        slots = later;
-        entries = rest;
+        rest = later;
     }
-    entries.is_empty()
+    rest.is_empty()
 }
 
 /// The entries behind the one of this slot, if there is one. None comes where that doesn't fit.

@@ -1,4 +1,4 @@
-use Rattle.std.proofs.Common.{◌≡◌, ◌+◌, ◌≤◌, length}
+use Rattle.std.proofs.Common.{◌≡◌, ◌+◌, drop, length}
 use Rattle.ax_model.specs.Fitting.{each_fits, kind_fits, entries_fit}
 use Rattle.ax_model.specs.Plain.{kind_tree, values_tree, slots_tree, entries_tree}
 use Rattle.ax_model.proofs.fitting.+kind_fits.Given as goal
@@ -11,8 +11,5 @@ decreases-fits_each-loop-value l = length l.rest
 
 abbrev pub invariant-fits_slots-loop-slot : goal.invariant-fits_slots-loop-slot
 invariant-fits_slots-loop-slot l =
-    (l.number + length l.slots ≡ 1 + length l.fn.slots)
-    × (entries_fit 1 (slots_tree l.fn.slots) (entries_tree l.fn.entries) ≡ entries_fit l.number (slots_tree l.slots) (entries_tree l.entries))
-
-abbrev pub decreases-fits_slots-loop-slot : goal.decreases-fits_slots-loop-slot
-decreases-fits_slots-loop-slot l = length l.slots
+    (l.number ≡ l.slot-index + 1)
+    × (entries_fit 1 (slots_tree l.slots) (entries_tree l.entries) ≡ entries_fit l.number (slots_tree (drop l.slot-index l.slots)) (entries_tree l.rest))

@@ -23,3 +23,4 @@ pub mod Stays
 pub mod WholeOctets
 pub mod WorkedExamples
 pub mod FittingLists
+pub mod FittingShapes

@@ -5,22 +5,27 @@ use Rattle.std.proofs.lemmas.List.{take-append-le, take-append-drop}
 use borrow.Rule.Slice.PartMut.{put_mid, post_of}
 use Rattle.ax_outside.specs.Told.{with_front, with_end, Rose}
 
+-- nothing is added
 pub with_end-nil : (t : Option (List ℕ)) → with_end t [] ≡ t
 with_end-nil None = refl
 with_end-nil (Some xs) = ap Some (append-nil xs)
 
-with_end-append : (t : Option (List ℕ)) (a b : List ℕ) → with_end (with_end t a) b ≡ with_end t (a ++ b)
+-- added in two steps, or at once
+pub with_end-append : (t : Option (List ℕ)) (a b : List ℕ) → with_end (with_end t a) b ≡ with_end t (a ++ b)
 with_end-append None a b = refl
 with_end-append (Some xs) a b = ap Some (append_assoc xs a b)
 
-with_front-append : (t : Option (List ℕ)) (a b : List ℕ) → with_front a (with_front b t) ≡ with_front (a ++ b) t
+-- taken in two steps, or at once
+pub with_front-append : (t : Option (List ℕ)) (a b : List ℕ) → with_front a (with_front b t) ≡ with_front (a ++ b) t
 with_front-append None a b = refl
 with_front-append (Some xs) a b = ap Some (sym (append_assoc a b xs))
 
+-- nothing was taken
 pub with_front-nil : (t : Option (List ℕ)) → with_front [] t ≡ t
 with_front-nil None = refl
 with_front-nil (Some xs) = refl
 
+-- what rose later rose since
 pub Rose-later : {a b c : ℕ} → a ≤ b → Rose b c → Rose a c
 Rose-later le (inl lt) = inl (omega arith)
 Rose-later le (inr e) = inr e

@@ -3,17 +3,18 @@ use Rattle.std.specs.Prelude.{◌≡◌, ℕ, ◌+◌, ◌<◌, List, length, Op
 use Rattle.std.specs.List.{find}
 use Rattle.std.specs.Str.{bytes_eq}
 
+-- a file
 pub record File : Type 0 where
   pub name : List ℕ
   pub octets : List ℕ
 
--- a file of that name and those octets
+-- the file of that name and those octets
 abbrev pub file : List ℕ → List ℕ → File
 file name octets = record { name = name; octets = octets }
 
 -- the octets of the first file of that name
 abbrev pub octets_of : List ℕ → List File → Option (List ℕ)
-octets_of name files = option_map (λ file. file.octets) (find (λ file. bytes_eq file.name name) files)
+octets_of name files = option_map (λ one. one.octets) (find (λ one. bytes_eq one.name name) files)
 
 -- the file of that name has these octets, where the files are told
 abbrev pub HoldsFile : Option (List File) → List ℕ → List ℕ → Type 0

@@ -1,5 +1,5 @@
 //! A library in memory, for tests and proofs: it tells its files.
-ghost use Rattle.std.specs.Prelude.{◌≡◌, ◌≢◌, ◌+◌, ◌-◌, ◌^◌, ◌<◌, ◌≤◌, ◌↔◌, ◌⊎◌, [], length, min, Some, None, IsTrue, IsFalse, IfOk, IsErrOf, MatchOption, MatchResult, if◌then◌else◌};
+ghost use Rattle.std.specs.Prelude.{◌≡◌, ◌+◌, ◌-◌, ◌^◌, ◌<◌, ◌≤◌, ◌↔◌, ◌⊎◌, length, min, Some, None, IsTrue, IsFalse, IfOk, IsErrOf, MatchOption, MatchResult, if◌then◌else◌};
 ghost use Rattle.ax_outside.specs.Told.{Rose, one_more};
 ghost use Rattle.ax_outside.specs.Files.{octets_of, Exceeds};
 ghost use Rattle.ax_outside.specs.Memory.{LibraryState, files_of, is_listed};

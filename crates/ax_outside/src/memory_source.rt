@@ -1,5 +1,5 @@
 //! A source in memory, for tests and proofs: it tells what it has left.
-ghost use Rattle.std.specs.Prelude.{◌≡◌, ◌+◌, ◌≤◌, ◌<◌, ◌↔◌, ◌++◌, [], length, take, drop, min, IsTrue, IfOk, IsErr, OnErr, MatchResult};
+ghost use Rattle.std.specs.Prelude.{◌≡◌, ◌+◌, ◌≤◌, ◌<◌, ◌↔◌, ◌++◌, length, take, drop, min, IsTrue, IfOk, IsErr, OnErr, MatchResult};
 ghost use Rattle.ax_outside.specs.Told.{Rose, one_more};
 ghost use Rattle.ax_outside.specs.Memory.{SourceState, is_listed, most_of_call};
 

@@ -1,11 +1,12 @@
 //! A source over a reader.
-ghost use Rattle.std.specs.Prelude.{◌≡◌, ◌+◌, ◌≤◌, length, IfOk, OnErr, MatchResult};
+ghost use Rattle.std.specs.Prelude.{◌≡◌, ◌+◌, ◌≤◌, ◌<◌, length, take, IfOk, OnErr, MatchResult};
+ghost use Rattle.std.specs.Io.KnownBytes.{Consumes, IsAtEnd};
 ghost use Rattle.ax_outside.specs.Told.{Rose, one_more};
 
 use crate::sources::{Source, SourceFailed};
 use std::io::Read;
 
-/// A source over a reader. It doesn't tell what it has left.
+/// A source over a reader. It doesn't tell what it has left; what it gives is what the reader gave.
 #[derive(Drop)]
 pub struct ReadSource<R: Read> {
     inner: R,
@@ -38,6 +39,8 @@ impl<R: Read> Source for ReadSource<R> {
 
     fn read(&mut self, into: &mut [u8]) -> Result<usize, SourceFailed>
         ensures room { IfOk result (λ n. n ≤ length into.new) }
+        ensures passes { IfOk result (λ n. Consumes (R.remaining self.old.inner) (R.remaining self.new.inner) (take n into.new)) }
+        ensures end { IfOk result (λ n. n ≡ 0 → 0 < length into.new → IsAtEnd (R.remaining self.new.inner)) }
         ensures number { MatchResult result (λ n. self.new.taken ≡ self.old.taken + n) (λ _. self.new.taken ≡ self.old.taken) }
         ensures counts { MatchResult result (λ _. self.new.faults ≡ self.old.faults) (λ _. self.new.faults ≡ one_more self.old.faults) }
         ensures rose { OnErr result (Rose self.old.faults self.new.faults) }

@@ -1,11 +1,12 @@
 //! A sink over a writer.
-ghost use Rattle.std.specs.Prelude.{◌≡◌, ◌<◌, ◌≤◌, length, IfOk, OnErr, MatchResult};
+ghost use Rattle.std.specs.Prelude.{◌≡◌, ◌<◌, ◌≤◌, length, take, IfOk, OnErr, MatchResult};
+ghost use Rattle.std.specs.Io.KnownBytes.{Appends};
 ghost use Rattle.ax_outside.specs.Told.{Rose, one_more};
 
 use crate::sinks::{Sink, SinkFailed};
 use std::io::Write;
 
-/// A sink over a writer. It doesn't tell what it holds.
+/// A sink over a writer. It doesn't tell what it holds; what it takes it has given to the writer.
 #[derive(Drop)]
 pub struct WriteSink<W: Write> {
     inner: W,
@@ -31,6 +32,7 @@ impl<W: Write> Sink for WriteSink<W> {
     fn write(&mut self, piece: &[u8]) -> Result<usize, SinkFailed>
         ensures within { IfOk result (λ n. n ≤ length piece.now) }
         ensures some { IfOk result (λ n. 0 < length piece.now → 0 < n) }
+        ensures passes { IfOk result (λ n. Appends (W.contents self.old.inner) (W.contents self.new.inner) (take n piece.now)) }
         ensures counts { MatchResult result (λ _. self.new.faults ≡ self.old.faults) (λ _. self.new.faults ≡ one_more self.old.faults) }
         ensures rose { OnErr result (Rose self.old.faults self.new.faults) }
         ensures never_falls { self.old.faults ≤ self.new.faults }

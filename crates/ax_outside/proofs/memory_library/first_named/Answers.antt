@@ -1,4 +1,4 @@
-use Rattle.std.proofs.Common.{◌≡◌, ◌∙◌, ap, sym, true, false, Some, string_bytes}
+use Rattle.std.proofs.Common.{◌∙◌, ap, sym, Some, string_bytes}
 use Rattle.std.specs.Str.{bytes_eq}
 use Rattle.ax_outside.specs.Files.{file}
 use Rattle.ax_outside.proofs.Named.{found_here, not_here, nowhere}

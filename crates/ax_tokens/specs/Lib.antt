@@ -1,0 +1,6 @@
+pub mod Octets
+pub mod PlainToken
+pub mod Gap
+pub mod Depth
+pub mod Lexing
+pub mod Faults

@@ -1,0 +1,8 @@
+//! Texts as tokens with spans: the form that specifications, filter expressions and record texts share.
+#![tactic(auto)]
+
+mod lexing;
+mod token;
+
+pub use lexing::tokens;
+pub use token::{LexError, Token, TokenKind, Tokens};

@@ -4,3 +4,4 @@ pub mod Gap
 pub mod Depth
 pub mod Lexing
 pub mod Faults
+pub mod Fronts

@@ -2,6 +2,7 @@
 #![tactic(auto)]
 
 mod lexing;
+mod octets;
 mod token;
 
 pub use lexing::tokens;

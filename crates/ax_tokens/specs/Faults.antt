@@ -1,5 +1,5 @@
 -- The faults of a text: the first place at which it can't be lexed within a limit of depth.
-use Rattle.std.specs.Prelude.{◌≡◌, ◌≢◌, ℕ, ◌+◌, ◌<◌, false, List, [], ◌∷◌, ◌++◌, length, IsTrue, ◌⊎◌}
+use Rattle.std.specs.Prelude.{◌≡◌, ◌≢◌, ℕ, ◌+◌, ◌<◌, false, List, [], ◌∷◌, ◌++◌, length, IsTrue}
 use Rattle.std.specs.List.{list_all}
 use Rattle.ax_tokens.specs.Octets.{quote, hash, open_brace, close_brace, is_separator, is_word_octet, is_string_octet}
 use Rattle.ax_tokens.specs.PlainToken.{PlainToken}
@@ -21,12 +21,10 @@ abbrev pub StopsStr : List ℕ → Type 0
 StopsStr [] = Unit {0}
 StopsStr (octet ∷ rest) = (is_string_octet octet ≡ false) × (octet ≢ quote)
 
--- place k of the octets is the first that fits nowhere: an octet that begins nothing,
--- or what stops a Str that no quote ends
-abbrev pub FitsNowhere : List ℕ → ℕ → Type 0
-FitsNowhere octets k =
-    ((octet : ℕ) × (rest : List ℕ) × (octets ≡ octet ∷ rest) × (k ≡ 0) × BeginsNothing octet)
-    ⊎ ((content : List ℕ) × (rest : List ℕ) × (octets ≡ quote ∷ (content ++ rest)) × (k ≡ 1 + length content) × IsTrue (list_all is_string_octet content) × StopsStr rest)
+-- the first place of the octets that fits nowhere: an octet that begins nothing, or what stops a Str that no quote ends
+pub data FitsNowhere (octets : List ℕ) (place : ℕ) : Type 0 where
+  begins_nothing : (octet : ℕ) (rest : List ℕ) → octets ≡ octet ∷ rest → place ≡ 0 → BeginsNothing octet → FitsNowhere octets place
+  stops_str : (content rest : List ℕ) → octets ≡ quote ∷ (content ++ rest) → place ≡ 1 + length content → IsTrue (list_all is_string_octet content) → StopsStr rest → FitsNowhere octets place
 
 -- tokens within the limit lex the text as far as an octet that fits nowhere, at this place
 pub record HasBadByte (text : List ℕ) (limit place : ℕ) : Type 0 where

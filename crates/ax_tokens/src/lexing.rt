@@ -1,9 +1,10 @@
 //! From a text to its tokens.
 
-ghost use Rattle.std.specs.Prelude.{◌≡◌, ◌+◌, ◌^◌, ◌<◌, ◌≤◌, length, drop, IfOk, IfErr, MatchResult};
+ghost use Rattle.std.specs.Prelude.{◌≡◌, ◌+◌, ◌^◌, ◌<◌, ◌≤◌, length, slice_index, drop, IfOk, IfErr, MatchResult};
 ghost use Rattle.std.specs.List.{prefix_len};
 ghost use Rattle.ax_tokens.specs.Octets.{quote, is_comment_octet, is_word_octet, is_string_octet};
 ghost use Rattle.ax_tokens.specs.Faults.{FitsNowhere};
+ghost use Rattle.ax_tokens.specs.declared.token.TokenKind.TheVariants.{Str};
 ghost use Rattle.ax_tokens.specs.Fronts.{BeginsNoGap, GapInFront, TokenInFront};
 
 use crate::octets::{is_separator, is_string_octet, is_word_octet};
@@ -50,12 +51,49 @@ fn word_length(octets: &[u8]) -> usize
 
 /// How many octets of a Str's content are in front.
 fn content_length(octets: &[u8]) -> usize
-    ensures { result ≡ prefix_len is_string_octet octets.now }
+    ensures longest { result ≡ prefix_len is_string_octet octets.now }
+    ensures inside { result ≤ length octets.now }
 {
     octets
         .iter()
         .take_while(|octet| is_string_octet(**octet))
         .count()
+}
+
+/// How many octets the Str in front has, or the place of what stops it.
+#[tactic(auto, using(crate::proofs::Fronts::strs))]
+fn str_length(octets: &[u8]) -> Result<usize, usize>
+    requires some { 0 < length octets.now }
+    requires quoted { slice_index octets.now 0 ≡ quote }
+    ensures token { IfOk result (λ n. TokenInFront octets.now Str n) }
+    ensures stops { IfErr result (λ place. FitsNowhere octets.now place) }
+{
+    let end = 1 + content_length(&octets[1..]);
+    if end < octets.len() && octets[end] == b'"' {
+        Ok(end + 1)
+    } else {
+        Err(end)
+    }
+}
+
+/// The kind of the token in front and how many octets it has, or the place of the octet that fits nowhere.
+#[tactic(auto, using(crate::proofs::Fronts::fronts))]
+fn front_token(octets: &[u8]) -> Result<(TokenKind, usize), usize>
+    requires some { 0 < length octets.now }
+    requires no_gap { BeginsNoGap octets.now }
+    ensures token { IfOk result (λ found. TokenInFront octets.now found.0 found.1) }
+    ensures stops { IfErr result (λ place. FitsNowhere octets.now place) }
+{
+    match octets[0] {
+        b'{' => Ok((TokenKind::Open, 1)),
+        b'}' => Ok((TokenKind::Close, 1)),
+        b'"' => {
+            let length = str_length(octets)?;
+            Ok((TokenKind::Str, length))
+        }
+        octet if is_word_octet(octet) => Ok((TokenKind::Word, word_length(octets))),
+        _ => Err(0),
+    }
 }
 
 pub fn tokens<'t>(alloc: Global, text: &'t [u8], depth: u32) -> Result<Tokens<'t>, LexError> {

@@ -1,3 +1,5 @@
 pub mod Prefixes
 pub mod Gaps
 pub mod Fronts
+pub mod Levels
+pub mod Steps

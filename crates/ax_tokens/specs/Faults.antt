@@ -1,11 +1,13 @@
 -- The faults of a text: the first place at which it can't be lexed within a limit of depth.
-use Rattle.std.specs.Prelude.{◌≡◌, ◌≢◌, ℕ, ◌+◌, ◌<◌, false, List, [], ◌∷◌, ◌++◌, length, IsTrue}
+use Rattle.std.specs.Prelude.{◌≡◌, ◌≢◌, ℕ, ◌+◌, ◌<◌, false, List, [], ◌∷◌, ◌++◌, length, IsTrue, Result, Ok, Err, ◌⊎◌}
 use Rattle.std.specs.List.{list_all}
 use Rattle.ax_tokens.specs.Octets.{quote, hash, open_brace, close_brace, is_separator, is_word_octet, is_string_octet}
 use Rattle.ax_tokens.specs.PlainToken.{PlainToken}
 use Rattle.ax_tokens.specs.Depth.{IsWithin, depth_of}
 use Rattle.ax_tokens.specs.Lexing.{Lexes}
 use Rattle.ax_tokens.specs.declared.token.TokenKind.TheVariants.{Open}
+use Rattle.ax_tokens.specs.declared.token.LexError.{LexError}
+use Rattle.ax_tokens.specs.declared.token.LexError.TheVariants.{BadByte, TooDeep, OutOfMemory}
 
 -- neither a separator, nor the first octet of a comment or of a token
 pub record BeginsNothing (octet : ℕ) : Type 0 where
@@ -52,3 +54,13 @@ pub record IsTooDeep (text : List ℕ) (limit number : ℕ) : Type 0 where
   pub within : IsWithin limit tokens
   pub is_numbered : number ≡ length tokens
   pub deeper : limit < depth_of (tokens ++ opening (length front) ∷ []) number
+
+-- the fault that an error names; want of memory may come at any text
+abbrev pub IsFault : ℕ → List ℕ → LexError → Type 0
+IsFault limit text (BadByte place) = HasBadByte text limit place
+IsFault limit text (TooDeep number) = IsTooDeep text limit number
+IsFault limit text OutOfMemory = Unit {0}
+
+-- that answer, unless memory ran out
+abbrev pub IsUnlessOutOfMemory : Result (List PlainToken) LexError → Result (List PlainToken) LexError → Type 0
+IsUnlessOutOfMemory result answer = (result ≡ answer) ⊎ (result ≡ Err OutOfMemory)

@@ -1,10 +1,12 @@
 //! From a text to its tokens.
 
-ghost use Rattle.std.specs.Prelude.{◌≡◌, ◌+◌, ◌^◌, ◌<◌, ◌≤◌, length, slice_index, drop, IfOk, IfErr, MatchResult};
+ghost use Rattle.std.specs.Prelude.{◌≡◌, ◌+◌, ◌^◌, ◌<◌, ◌≤◌, length, slice_index, drop, IfSome, IfNone, IfOk, IfErr};
 ghost use Rattle.std.specs.List.{prefix_len};
 ghost use Rattle.ax_tokens.specs.Octets.{quote, is_comment_octet, is_word_octet, is_string_octet};
-ghost use Rattle.ax_tokens.specs.Faults.{FitsNowhere};
-ghost use Rattle.ax_tokens.specs.declared.token.TokenKind.TheVariants.{Str};
+ghost use Rattle.ax_tokens.specs.Depth.{level_behind};
+ghost use Rattle.ax_tokens.specs.Lexing.{AreTokensOf};
+ghost use Rattle.ax_tokens.specs.Faults.{FitsNowhere, IsFault};
+ghost use Rattle.ax_tokens.specs.declared.token.TokenKind.TheVariants.{Str, Open};
 ghost use Rattle.ax_tokens.specs.Fronts.{BeginsNoGap, GapInFront, TokenInFront};
 
 use crate::octets::{is_separator, is_string_octet, is_word_octet};
@@ -96,6 +98,51 @@ fn front_token(octets: &[u8]) -> Result<(TokenKind, usize), usize>
     }
 }
 
-pub fn tokens<'t>(alloc: Global, text: &'t [u8], depth: u32) -> Result<Tokens<'t>, LexError> {
-    Err(LexError::OutOfMemory)
+/// The level behind a token, or None for an Open past the depth.
+fn next_level(level: u32, kind: TokenKind, depth: u32) -> Option<u32>
+    requires { level ≤ depth }
+    ensures some { IfSome result (λ next. (next ≡ level_behind kind level) × (next ≤ depth)) }
+    ensures none { IfNone result ((kind ≡ Open) × (level ≡ depth)) }
+{
+    match kind {
+        TokenKind::Open if level == depth => None,
+        TokenKind::Open => Some(level + 1),
+        TokenKind::Close => Some(level.saturating_sub(1)),
+        TokenKind::Word | TokenKind::Str => Some(level),
+    }
+}
+
+/// The tokens of a text of at most 2^31 octets, with at most `depth` braces one in another.
+///
+/// Space, tab, carriage return and line feed separate tokens, and so does a comment, from `#` up to the next
+/// line feed or the end. The error is the first fault in the order of octets, or want of memory.
+/// The octets are read once, from left to right. The one vector of the tokens grows as they are found.
+#[tactic(auto, using(crate::proofs::Steps::steps))]
+pub fn tokens<'t>(alloc: Global, text: &'t [u8], depth: u32) -> Result<Tokens<'t>, LexError>
+    requires { length text.now ≤ 2 ^ 31 }
+    ensures tokens { IfOk result (λ found. AreTokensOf text.now depth found) }
+    ensures fault { IfErr result (λ error. IsFault depth text.now error) }
+{
+    let mut found = Vec::new(alloc);
+    let mut level = 0;
+    let (_, mut rest) = text.split_at(gap_length(text));
+    while !rest.is_empty() {
+        let from = (text.len() - rest.len()) as u32;
+        let (kind, length) = match front_token(rest) {
+            Ok(token) => token,
+            Err(offset) => return Err(LexError::BadByte { at: from + offset as u32 }),
+        };
+        level = match next_level(level, kind, depth) {
+            Some(next) => next,
+            None => return Err(LexError::TooDeep { token: found.len() as u32 }),
+        };
+        let (slice, after) = rest.split_at(length);
+        let to = from + length as u32;
+        found
+            .push(Token { kind, text: slice, from, to })
+            .map_err(|_| LexError::OutOfMemory)?;
+        let (_, next) = after.split_at(gap_length(after));
+        rest = next;
+    }
+    Ok(Tokens { found })
 }

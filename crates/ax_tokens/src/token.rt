@@ -31,7 +31,7 @@ pub struct Token<'t> {
 /// The tokens of a text in order, numbered from 0. A contract sees them as the list of plain tokens.
 #[derive(Drop)]
 pub struct Tokens<'t> {
-    found: Vec<Token<'t>>,
+    pub(crate) found: Vec<Token<'t>>,
 }
 
 impl<'t> Model for Tokens<'t> {

@@ -1,0 +1,83 @@
+-- The greatest excess of Opens is the level that a reader keeps.
+use Rattle.std.proofs.Common.{◌≡◌, ℕ, zero, suc, ◌+◌, ◌-◌, ◌<◌, ◌≤◌, max, Bool, true, false, cond, Some, List, [], ◌∷◌, ◌++◌, length, take, refl, sym, ◌∙◌, ap, arith, subst, count_by, slice_get, inl, inr, ◌⊎◌}
+use Rattle.std.proofs.lemmas.List.{take-append-le, take_all, length_push}
+use Rattle.std.proofs.lemmas.List.Sums.{sum_by_push}
+use Rattle.std.proofs.lemmas.Bool.{cases_lt}
+use Rattle.std.proofs.lemmas.Option.{slice_get_within}
+use Rattle.ax_tokens.specs.PlainToken.{PlainToken}
+use Rattle.ax_tokens.specs.Depth.{is_open, is_close, excess, greatest_excess, depth_of, IsWithin, level_behind}
+use Rattle.ax_tokens.specs.declared.token.TokenKind.{TokenKind}
+use Rattle.ax_tokens.specs.declared.token.TokenKind.TheVariants.{Word, Str, Open, Close}
+
+opens : List PlainToken → ℕ
+opens ts = count_by (λ t. is_open t.kind) ts
+
+closes : List PlainToken → ℕ
+closes ts = count_by (λ t. is_close t.kind) ts
+
+open_one : TokenKind → ℕ
+open_one k = cond (is_open k) 1 0
+
+close_one : TokenKind → ℕ
+close_one k = cond (is_close k) 1 0
+
+opens_push : (ts : List PlainToken) (t : PlainToken) → opens (ts ++ t ∷ []) ≡ opens ts + open_one t.kind
+unfolding opens open_one
+opens_push ts t = sum_by_push (λ t. cond (is_open t.kind) 1 0) ts t
+
+closes_push : (ts : List PlainToken) (t : PlainToken) → closes (ts ++ t ∷ []) ≡ closes ts + close_one t.kind
+unfolding closes close_one
+closes_push ts t = sum_by_push (λ t. cond (is_close t.kind) 1 0) ts t
+
+excess_is : (ts : List PlainToken) → excess ts ≡ opens ts - closes ts
+unfolding opens closes
+excess_is ts = refl
+
+-- the excess of the tokens from u on, and of those behind u, behind one more token
+level_cases : (k : TokenKind) (o c g : ℕ) → max ((o + open_one k) - (c + close_one k)) (level_behind k g) ≡ level_behind k (max (o - c) g)
+unfolding open_one close_one
+level_cases Word o c g = omega arith
+level_cases Str o c g = omega arith
+level_cases Open o c g = omega arith
+level_cases Close o c g = omega arith
+
+level_one : (k : TokenKind) → max (open_one k - close_one k) 0 ≡ level_behind k 0
+unfolding open_one close_one
+level_one Word = refl
+level_one Str = refl
+level_one Open = refl
+level_one Close = refl
+
+first_excess : (t : PlainToken) → (opens [] + open_one t.kind) - (closes [] + close_one t.kind) ≡ open_one t.kind - close_one t.kind
+unfolding opens closes
+first_excess t = let e : (0 + open_one t.kind) - (0 + close_one t.kind) ≡ open_one t.kind - close_one t.kind = omega arith in e
+
+excess_push : (ts : List PlainToken) (t : PlainToken) → excess (ts ++ t ∷ []) ≡ (opens ts + open_one t.kind) - (closes ts + close_one t.kind)
+excess_push ts t = excess_is (ts ++ t ∷ []) ∙ (λ i. opens_push ts t i - closes_push ts t i)
+
+-- the level behind one more token
+pub level_push : (ts : List PlainToken) (t : PlainToken) → greatest_excess (ts ++ t ∷ []) ≡ level_behind t.kind (greatest_excess ts)
+level_push [] t = ap (λ e. max e 0) (excess_push [] t ∙ first_excess t) ∙ level_one t.kind
+level_push (u ∷ ts) t =
+    (λ i. max (excess_push (u ∷ ts) t i) (level_push ts t i)) ∙ level_cases t.kind (opens (u ∷ ts)) (closes (u ∷ ts)) (greatest_excess ts)
+    ∙ ap (λ e. level_behind t.kind (max e (greatest_excess ts))) (sym (excess_is (u ∷ ts)))
+
+-- the token in question is behind the others
+last_token : (limit : ℕ) (ts : List PlainToken) (t : PlainToken) (i : ℕ) → i ≡ length ts → greatest_excess (ts ++ t ∷ []) ≤ limit → depth_of (ts ++ t ∷ []) i ≤ limit
+last_token limit ts t i e h = rw (take_all (i + 1) (ts ++ t ∷ []) (omega (arith, length_push ts t))) h
+
+early_token : (ts : List PlainToken) (t u : PlainToken) (i : ℕ) → i < length ts → slice_get (ts ++ t ∷ []) i ≡ Some u → slice_get ts i ≡ Some u
+early_token [] t u i lt e = absurd (omega arith)
+early_token (x ∷ ts) t u zero lt e = e
+early_token (x ∷ ts) t u (suc i) lt e = early_token ts t u i (omega arith) e
+
+-- a token that leaves the level within the limit keeps all Opens within it
+pub within_push : (limit : ℕ) (ts : List PlainToken) (t : PlainToken) → IsWithin limit ts → greatest_excess (ts ++ t ∷ []) ≤ limit → IsWithin limit (ts ++ t ∷ [])
+within_push limit ts t h le i u e k =
+    let inside : i < length (ts ++ t ∷ []) = slice_get_within (ts ++ t ∷ []) i u e in
+    elim (cases_lt i (length ts)) [
+      inl lt ↦ rw (take-append-le (i + 1) ts (t ∷ []) (omega arith)) (h i u (early_token ts t u i lt e) k)
+      | inr ge ↦ last_token limit ts t i (omega (arith, length_push ts t)) le ]
+
+pub within_none : (limit : ℕ) → IsWithin limit []
+within_none limit i u e k = cc

@@ -76,8 +76,9 @@ pub within_push : (limit : ℕ) (ts : List PlainToken) (t : PlainToken) → IsWi
 within_push limit ts t h le i u e k =
     let inside : i < length (ts ++ t ∷ []) = slice_get_within (ts ++ t ∷ []) i u e in
     elim (cases_lt i (length ts)) [
-      inl lt ↦ rw (take-append-le (i + 1) ts (t ∷ []) (omega arith)) (h i u (early_token ts t u i lt e) k)
-      | inr ge ↦ last_token limit ts t i (omega (arith, length_push ts t)) le ]
+      | inl lt ↦ rw (take-append-le (i + 1) ts (t ∷ []) (omega arith)) (h i u (early_token ts t u i lt e) k)
+      | inr ge ↦ last_token limit ts t i (omega (arith, length_push ts t)) le
+    ]
 
 pub within_none : (limit : ℕ) → IsWithin limit []
 within_none limit i u e k = cc

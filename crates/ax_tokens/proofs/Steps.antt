@@ -84,36 +84,37 @@ token_some Str text (content, e, all) = omega (arith, ap length e)
 token_some Open text h = omega (arith, ap length h)
 token_some Close text h = omega (arith, ap length h)
 
--- a token is found, and the gap behind it
-pub lexed_push : (text : List ℕ) (limit : ℕ) (ts : List PlainToken) (rest : List ℕ) (kind : TokenKind) (n k from to : ℕ) → LexedTo text limit ts rest → TokenInFront rest kind n → GapInFront (drop n rest) k
-    → level_behind kind (greatest_excess ts) ≤ limit → from ≡ length text - length rest → to ≡ from + n
-    → LexedTo text limit (ts ++ record { kind = kind; text = take n rest; from = from; to = to } ∷ []) (drop k (drop n rest))
-lexed_push text limit ts rest kind n k from to h found gap fits begins ends =
-    let t : PlainToken = record { kind = kind; text = take n rest; from = from; to = to } in
-    let g = take k (drop n rest) in
-    let next = drop k (drop n rest) in
-    let count : length (take n rest) ≡ n = length-take-le n rest found.inside in
-    let behind : g ++ next ≡ drop n rest = take-append-drop k (drop n rest) in
-    let parts : t.text ++ (g ++ next) ≡ rest = ap (λ x. take n rest ++ x) behind ∙ take-append-drop n rest in
-    let whole : length text ≡ length h.front + length rest = ap length h.split ∙ length-append h.front rest in
-    let at : t.from ≡ length h.front = omega arith in
-    let is_behind : t.to ≡ t.from + length t.text = ends ∙ ap (λ m. from + m) (sym count) in
-    let follows : MayFollow kind (g ++ next) = subst (λ x. MayFollow kind x) (sym behind) found.follows in
-    let before : Lexes ts h.front (t.text ++ (g ++ next)) = subst (λ x. Lexes ts h.front x) (sym parts) h.lexed in
-    let level_is : greatest_excess (ts ++ t ∷ []) ≤ limit = rw (level_push ts t) fits in
-    let some : 0 < length t.text = token_some kind t.text found.is_text in
-    record {
-      front = h.front ++ (t.text ++ g);
-      split = h.split ∙ ap (λ x. h.front ++ x) (sym parts ∙ sym (append_assoc t.text g next)) ∙ sym (append_assoc h.front (t.text ++ g) next);
-      lexed = lexes_push t g next found.is_text follows gap.is_gap ts h.front at is_behind before;
-      within = within_push limit ts t h.within level_is;
-      level = level_is;
-      few = omega (arith, h.few, some, length-append h.front (t.text ++ g), length-append t.text g, length-append ts (t ∷ []));
-      ends = gap.ends;
-    }
-
 place_of : (text front rest : List ℕ) → text ≡ front ++ rest → length front ≡ length text - length rest
 place_of text front rest e = omega (arith, ap length e, length-append front rest)
+
+-- a token is found, and the gap behind it
+pub lexed_push : (text : List ℕ) (limit : ℕ) (ts all : List PlainToken) (rest after next : List ℕ) (t : PlainToken) (n k : ℕ) → LexedTo text limit ts rest → TokenInFront rest t.kind n → GapInFront after k
+    → level_behind t.kind (greatest_excess ts) ≤ limit → t.text ≡ take n rest → after ≡ drop n rest → next ≡ drop k after → t.from ≡ length text - length rest → t.to ≡ t.from + n → all ≡ ts ++ t ∷ []
+    → LexedTo text limit all next
+lexed_push text limit ts all rest after next t n k h found gap fits slice behind last begins ends whole =
+    let g = take k after in
+    let count : length t.text ≡ n = ap length slice ∙ length-take-le n rest found.inside in
+    let parts : g ++ next ≡ after = ap (λ x. g ++ x) last ∙ take-append-drop k after in
+    let split : t.text ++ (g ++ next) ≡ rest = (λ i. slice i ++ (parts ∙ behind) i) ∙ take-append-drop n rest in
+    let is_gap : IsGap next g = subst (λ x. IsGap x g) (sym last) gap.is_gap in
+    let is_text : IsTokenText t.kind t.text = subst (λ x. IsTokenText t.kind x) (sym slice) found.is_text in
+    let follows : MayFollow t.kind (g ++ next) = subst (λ x. MayFollow t.kind x) (sym (parts ∙ behind)) found.follows in
+    let at : t.from ≡ length h.front = begins ∙ sym (place_of text h.front rest h.split) in
+    let is_behind : t.to ≡ t.from + length t.text = ends ∙ ap (λ m. t.from + m) (sym count) in
+    let before : Lexes ts h.front (t.text ++ (g ++ next)) = subst (λ x. Lexes ts h.front x) (sym split) h.lexed in
+    let level_is : greatest_excess (ts ++ t ∷ []) ≤ limit = rw (level_push ts t) fits in
+    let some : 0 < length t.text = token_some t.kind t.text is_text in
+    let few : length (ts ++ t ∷ []) ≤ length (h.front ++ (t.text ++ g))
+    = omega (arith, h.few, some, length-append h.front (t.text ++ g), length-append t.text g, length-append ts (t ∷ [])) in
+    rw whole (record {
+      front = h.front ++ (t.text ++ g);
+      split = h.split ∙ ap (λ x. h.front ++ x) (sym split ∙ sym (append_assoc t.text g next)) ∙ sym (append_assoc h.front (t.text ++ g) next);
+      lexed = lexes_push t g next is_text follows is_gap ts h.front at is_behind before;
+      within = within_push limit ts t h.within level_is;
+      level = level_is;
+      few = few;
+      ends = subst BeginsNoGap (sym last) gap.ends;
+    })
 
 -- no token is in front, and no gap
 pub lexed_bad : (text : List ℕ) (limit : ℕ) (ts : List PlainToken) (rest : List ℕ) (offset place : ℕ) → LexedTo text limit ts rest → FitsNowhere rest offset → place ≡ length text - length rest + offset → HasBadByte text limit place
@@ -130,12 +131,15 @@ lexed_bad text limit ts rest offset place h stops e = record {
 }
 
 -- an Open at the limit
-pub lexed_deep : (text : List ℕ) (limit : ℕ) (ts : List PlainToken) (rest : List ℕ) (n number : ℕ) → LexedTo text limit ts rest → TokenInFront rest Open n → limit ≤ greatest_excess ts → number ≡ length ts → IsTooDeep text limit number
-lexed_deep text limit ts rest n number h found full e =
-    let parts : rest ≡ open_brace ∷ drop n rest = sym (take-append-drop n rest) ∙ ap (λ x. x ++ drop n rest) found.is_text in
+pub lexed_deep : (text : List ℕ) (limit : ℕ) (ts : List PlainToken) (rest : List ℕ) (kind : TokenKind) (n level number : ℕ) → LexedTo text limit ts rest → TokenInFront rest kind n → kind ≡ Open → level ≡ limit
+    → level ≡ greatest_excess ts → number ≡ length ts → IsTooDeep text limit number
+lexed_deep text limit ts rest kind n level number h found is_open full same e =
+    let brace : take n rest ≡ open_brace ∷ [] = subst (λ k. IsTokenText k (take n rest)) is_open found.is_text in
+    let parts : rest ≡ open_brace ∷ drop n rest = sym (take-append-drop n rest) ∙ ap (λ x. x ++ drop n rest) brace in
     let t : PlainToken = opening (length h.front) in
-    let level : greatest_excess (ts ++ t ∷ []) ≡ greatest_excess ts + 1 = level_push ts t in
+    let above : greatest_excess (ts ++ t ∷ []) ≡ greatest_excess ts + 1 = level_push ts t in
     let all : take (number + 1) (ts ++ t ∷ []) ≡ ts ++ t ∷ [] = take_all (number + 1) (ts ++ t ∷ []) (omega (arith, length-append ts (t ∷ []))) in
+    let deeper : limit < greatest_excess (ts ++ t ∷ []) = omega arith in
     record {
       tokens = ts;
       front = h.front;
@@ -144,7 +148,7 @@ lexed_deep text limit ts rest n number h found full e =
       lexed = subst (λ x. Lexes ts h.front x) parts h.lexed;
       within = h.within;
       is_numbered = e;
-      deeper = rw (all, level) (omega arith);
+      deeper = rw all deeper;
     }
 
 -- the whole text is lexed

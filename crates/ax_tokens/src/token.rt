@@ -1,5 +1,9 @@
 //! Tokens, and why a text has none.
 
+ghost use Rattle.std.specs.Prelude.{◌≡◌};
+ghost use Rattle.ax_tokens.specs.declared.token.LexError.TheVariants.{OutOfMemory};
+
+use std::alloc::AllocFailed;
 use std::marker::Model;
 use thiserror::Error;
 
@@ -78,4 +82,12 @@ pub enum LexError {
     TooDeep { token: u32 },
     #[error("out of memory")]
     OutOfMemory,
+}
+
+impl<T: Drop> From<AllocFailed<T>> for LexError {
+    ghost from_gives = { λ _ e. e ≡ OutOfMemory };
+
+    fn from(_e: AllocFailed<T>) -> LexError {
+        LexError::OutOfMemory
+    }
 }

@@ -1,7 +1,7 @@
 -- The greatest excess of Opens is the level that a reader keeps.
-use Rattle.std.proofs.Common.{◌≡◌, ℕ, zero, suc, ◌+◌, ◌-◌, ◌<◌, ◌≤◌, max, Bool, true, false, cond, Some, List, [], ◌∷◌, ◌++◌, length, take, refl, sym, ◌∙◌, ap, arith, subst, count_by, slice_get, inl, inr, ◌⊎◌}
+use Rattle.std.proofs.Common.{◌≡◌, ℕ, zero, suc, ◌+◌, ◌-◌, ◌<◌, ◌≤◌, max, Bool, true, false, cond, Some, List, [], ◌∷◌, ◌++◌, length, take, refl, sym, ◌∙◌, ap, arith, subst, count_by, length-take, slice_get, inl, inr, ◌⊎◌}
 use Rattle.std.proofs.lemmas.List.{take-append-le, take_all, length_push}
-use Rattle.std.proofs.lemmas.List.Sums.{sum_by_push}
+use Rattle.std.proofs.lemmas.List.Sums.{sum_by_push, count_by-le-length}
 use Rattle.std.proofs.lemmas.Bool.{cases_lt}
 use Rattle.std.proofs.lemmas.Option.{slice_get_within}
 use Rattle.ax_tokens.specs.PlainToken.{PlainToken}
@@ -82,3 +82,14 @@ within_push limit ts t h le i u e k =
 
 pub within_none : (limit : ℕ) → IsWithin limit []
 within_none limit i u e k = cc
+
+opens_few : (ts : List PlainToken) → excess ts ≤ length ts
+opens_few ts = omega (arith, count_by-le-length (λ t. is_open t.kind) ts)
+
+excess_few : (ts : List PlainToken) → greatest_excess ts ≤ length ts
+excess_few [] = omega arith
+excess_few (t ∷ ts) = omega (arith, opens_few (t ∷ ts), excess_few ts)
+
+-- no token is deeper than there are tokens
+pub within_some : (limit : ℕ) (ts : List PlainToken) → length ts ≤ limit → IsWithin limit ts
+within_some limit ts le i t e k = omega (arith, excess_few (take (i + 1) ts), length-take (i + 1) ts)

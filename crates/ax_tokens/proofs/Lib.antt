@@ -3,3 +3,8 @@ pub mod Gaps
 pub mod Fronts
 pub mod Levels
 pub mod Steps
+pub mod Reader
+pub mod Back
+pub mod Answering
+pub mod Once
+pub mod Existence

@@ -1,6 +1,7 @@
 //! Texts as tokens with spans: the form that specifications, filter expressions and record texts share.
 #![tactic(auto)]
 
+pub mod laws;
 mod lexing;
 mod octets;
 mod token;

@@ -1,0 +1,58 @@
+-- The laws, by the reader's answer.
+use Rattle.std.proofs.Common.{◌≡◌, ℕ, suc, ◌+◌, ◌≤◌, ◌⊎◌, inl, inr, Result, Ok, Err, List, [], ◌∷◌, length, take, refl, sym, ◌∙◌, ap, arith}
+use Rattle.ax_tokens.specs.PlainToken.{PlainToken}
+use Rattle.ax_tokens.specs.Depth.{excess, greatest_excess, depth_of, IsWithin}
+use Rattle.ax_tokens.specs.Lexing.{Lexes, AreTokensOf}
+use Rattle.ax_tokens.specs.Faults.{HasBadByte, IsTooDeep}
+use Rattle.ax_tokens.specs.declared.token.LexError.{LexError}
+use Rattle.ax_tokens.specs.declared.token.LexError.TheVariants.{BadByte, TooDeep, OutOfMemory}
+use Rattle.ax_tokens.proofs.Reader.{reading}
+use Rattle.ax_tokens.proofs.Answering.{tokens_answer, bad_byte_answer, too_deep_answer}
+use Rattle.ax_tokens.proofs.Levels.{within_some}
+use Rattle.ax_tokens.proofs.Existence.{IsAnswer, reading_is}
+
+same_tokens : (ts us : List PlainToken) (r : Result (List PlainToken) LexError) → r ≡ Ok ts → r ≡ Ok us → ts ≡ us
+same_tokens ts us r h k = cc
+
+pub tokens_once : (text : List ℕ) (ts us : List PlainToken) → Lexes ts text [] → Lexes us text [] → ts ≡ us
+tokens_once text ts us h k =
+    let limit = length ts + length us in
+    let one = tokens_answer text limit ts (record { lexed = h; within = within_some limit ts (omega arith) }) in
+    let other = tokens_answer text limit us (record { lexed = k; within = within_some limit us (omega arith) }) in
+    same_tokens ts us (reading text limit) one other
+
+answer_cases : (text : List ℕ) (limit : ℕ) (r : Result (List PlainToken) LexError) → IsAnswer text limit r
+    → ((ts : List PlainToken) × AreTokensOf text limit ts) ⊎ (((place : ℕ) × HasBadByte text limit place) ⊎ ((number : ℕ) × IsTooDeep text limit number))
+answer_cases text limit (Ok ts) h = inl (ts, h)
+answer_cases text limit (Err (BadByte place)) h = inr (inl (place, h))
+answer_cases text limit (Err (TooDeep number)) h = inr (inr (number, h))
+answer_cases text limit (Err OutOfMemory) h = absurd h
+
+pub lexed_or_faulty : (text : List ℕ) (limit : ℕ)
+    → ((ts : List PlainToken) × AreTokensOf text limit ts) ⊎ (((place : ℕ) × HasBadByte text limit place) ⊎ ((number : ℕ) × IsTooDeep text limit number))
+lexed_or_faulty text limit = answer_cases text limit (reading text limit) (reading_is text limit)
+
+pub no_bad_byte : (text : List ℕ) (limit : ℕ) (ts : List PlainToken) (place : ℕ) → AreTokensOf text limit ts → HasBadByte text limit place → ⊥
+no_bad_byte text limit ts place h k =
+    let one = tokens_answer text limit ts h in
+    let other = bad_byte_answer text limit place k in cc
+
+pub none_too_deep : (text : List ℕ) (limit : ℕ) (ts : List PlainToken) (number : ℕ) → AreTokensOf text limit ts → IsTooDeep text limit number → ⊥
+none_too_deep text limit ts number h k =
+    let one = tokens_answer text limit ts h in
+    let other = too_deep_answer text limit number k in cc
+
+pub bad_byte_once : (text : List ℕ) (limit place other : ℕ) → HasBadByte text limit place → HasBadByte text limit other → place ≡ other
+bad_byte_once text limit place other h k =
+    let one = bad_byte_answer text limit place h in
+    let next = bad_byte_answer text limit other k in cc
+
+pub too_deep_once : (text : List ℕ) (limit number other : ℕ) → IsTooDeep text limit number → IsTooDeep text limit other → number ≡ other
+too_deep_once text limit number other h k =
+    let one = too_deep_answer text limit number h in
+    let next = too_deep_answer text limit other k in cc
+
+pub one_kind : (text : List ℕ) (limit place number : ℕ) → HasBadByte text limit place → IsTooDeep text limit number → ⊥
+one_kind text limit place number h k =
+    let one = bad_byte_answer text limit place h in
+    let other = too_deep_answer text limit number k in cc

@@ -8,3 +8,4 @@ pub mod Back
 pub mod Answering
 pub mod Once
 pub mod Existence
+pub mod Slices

@@ -1,9 +1,9 @@
 -- The laws, by the reader's answer.
-use Rattle.std.proofs.Common.{◌≡◌, ℕ, suc, ◌+◌, ◌≤◌, ◌⊎◌, inl, inr, Result, Ok, Err, List, [], ◌∷◌, length, take, refl, sym, ◌∙◌, ap, arith}
+use Rattle.std.proofs.Common.{◌≡◌, ℕ, suc, ◌+◌, ◌≤◌, ◌⊎◌, inl, inr, Result, Ok, Err, IfOk, IfErr, List, [], ◌∷◌, length, take, refl, sym, ◌∙◌, ap, arith}
 use Rattle.ax_tokens.specs.PlainToken.{PlainToken}
 use Rattle.ax_tokens.specs.Depth.{excess, greatest_excess, depth_of, IsWithin}
 use Rattle.ax_tokens.specs.Lexing.{Lexes, AreTokensOf}
-use Rattle.ax_tokens.specs.Faults.{HasBadByte, IsTooDeep}
+use Rattle.ax_tokens.specs.Faults.{HasBadByte, IsTooDeep, IsFault, IsUnlessOutOfMemory}
 use Rattle.ax_tokens.specs.declared.token.LexError.{LexError}
 use Rattle.ax_tokens.specs.declared.token.LexError.TheVariants.{BadByte, TooDeep, OutOfMemory}
 use Rattle.ax_tokens.proofs.Reader.{reading}
@@ -56,3 +56,25 @@ pub one_kind : (text : List ℕ) (limit place number : ℕ) → HasBadByte text 
 one_kind text limit place number h k =
     let one = bad_byte_answer text limit place h in
     let other = too_deep_answer text limit number k in cc
+
+-- where the text has tokens, nothing else is answered but want of memory
+pub always_tokens : (text : List ℕ) (limit : ℕ) (r : Result (List PlainToken) LexError) → IfOk r (λ ts. AreTokensOf text limit ts) → IfErr r (λ e. IsFault text limit e)
+    → (ts : List PlainToken) → AreTokensOf text limit ts → IsUnlessOutOfMemory r (Ok ts)
+always_tokens text limit (Ok us) ok err ts h = inl (ap (λ x. Ok x) (tokens_once text us ts ok.lexed h.lexed))
+always_tokens text limit (Err (BadByte place)) ok err ts h = absurd (no_bad_byte text limit ts place h err)
+always_tokens text limit (Err (TooDeep number)) ok err ts h = absurd (none_too_deep text limit ts number h err)
+always_tokens text limit (Err OutOfMemory) ok err ts h = inr refl
+
+pub always_bad_byte : (text : List ℕ) (limit : ℕ) (r : Result (List PlainToken) LexError) → IfOk r (λ ts. AreTokensOf text limit ts) → IfErr r (λ e. IsFault text limit e)
+    → (place : ℕ) → HasBadByte text limit place → IsUnlessOutOfMemory r (Err (BadByte place))
+always_bad_byte text limit (Ok us) ok err place h = absurd (no_bad_byte text limit us place ok h)
+always_bad_byte text limit (Err (BadByte other)) ok err place h = inl (ap (λ n. Err (BadByte n)) (bad_byte_once text limit other place err h))
+always_bad_byte text limit (Err (TooDeep number)) ok err place h = absurd (one_kind text limit place number h err)
+always_bad_byte text limit (Err OutOfMemory) ok err place h = inr refl
+
+pub always_too_deep : (text : List ℕ) (limit : ℕ) (r : Result (List PlainToken) LexError) → IfOk r (λ ts. AreTokensOf text limit ts) → IfErr r (λ e. IsFault text limit e)
+    → (number : ℕ) → IsTooDeep text limit number → IsUnlessOutOfMemory r (Err (TooDeep number))
+always_too_deep text limit (Ok us) ok err number h = absurd (none_too_deep text limit us number ok h)
+always_too_deep text limit (Err (BadByte place)) ok err number h = absurd (one_kind text limit place number err h)
+always_too_deep text limit (Err (TooDeep other)) ok err number h = inl (ap (λ n. Err (TooDeep n)) (too_deep_once text limit other number err h))
+always_too_deep text limit (Err OutOfMemory) ok err number h = inr refl

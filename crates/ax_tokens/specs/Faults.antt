@@ -56,10 +56,10 @@ pub record IsTooDeep (text : List ℕ) (limit number : ℕ) : Type 0 where
   pub deeper : limit < depth_of (tokens ++ opening (length front) ∷ []) number
 
 -- the fault that an error names; want of memory may come at any text
-abbrev pub IsFault : ℕ → List ℕ → LexError → Type 0
-IsFault limit text (BadByte place) = HasBadByte text limit place
-IsFault limit text (TooDeep number) = IsTooDeep text limit number
-IsFault limit text OutOfMemory = Unit {0}
+abbrev pub IsFault : List ℕ → ℕ → LexError → Type 0
+IsFault text limit (BadByte place) = HasBadByte text limit place
+IsFault text limit (TooDeep number) = IsTooDeep text limit number
+IsFault text limit OutOfMemory = Unit {0}
 
 -- that answer, unless memory ran out
 abbrev pub IsUnlessOutOfMemory : Result (List PlainToken) LexError → Result (List PlainToken) LexError → Type 0

@@ -1,12 +1,14 @@
 //! From a text to its tokens.
 
-ghost use Rattle.std.specs.Prelude.{◌≡◌, ◌+◌, ◌^◌, ◌<◌, ◌≤◌, length, slice_index, drop, IfSome, IfNone, IfOk, IfErr};
+ghost use Rattle.std.specs.Prelude.{◌≡◌, ℕ, ◌+◌, ◌^◌, ◌<◌, ◌≤◌, List, length, slice_index, slice_range, All, IfSome, IfNone, IfOk, IfErr};
 ghost use Rattle.std.specs.List.{prefix_len};
 ghost use Rattle.ax_tokens.specs.Octets.{quote, is_comment_octet, is_word_octet, is_string_octet};
+ghost use Rattle.ax_tokens.specs.PlainToken.{PlainToken, plain_tokens};
 ghost use Rattle.ax_tokens.specs.Depth.{level_behind};
 ghost use Rattle.ax_tokens.specs.Lexing.{AreTokensOf};
-ghost use Rattle.ax_tokens.specs.Faults.{FitsNowhere, IsFault};
+ghost use Rattle.ax_tokens.specs.Faults.{FitsNowhere, HasBadByte, IsTooDeep, IsFault, IsUnlessOutOfMemory};
 ghost use Rattle.ax_tokens.specs.declared.token.TokenKind.TheVariants.{Str, Open};
+ghost use Rattle.ax_tokens.specs.declared.token.LexError.TheVariants.{BadByte, TooDeep};
 ghost use Rattle.ax_tokens.specs.Fronts.{BeginsNoGap, GapInFront, TokenInFront};
 
 use crate::octets::{is_separator, is_string_octet, is_word_octet};
@@ -112,16 +114,13 @@ fn next_level(level: u32, kind: TokenKind, depth: u32) -> Option<u32>
     }
 }
 
-/// The tokens of a text of at most 2^31 octets, with at most `depth` braces one in another.
-///
-/// Space, tab, carriage return and line feed separate tokens, and so does a comment, from `#` up to the next
-/// line feed or the end. The error is the first fault in the order of octets, or want of memory.
-/// The octets are read once, from left to right. The one vector of the tokens grows as they are found.
+/// The tokens of a text in order, or its first fault.
 #[tactic(auto, using(crate::proofs::Steps::steps))]
-pub fn tokens<'t>(alloc: Global, text: &'t [u8], depth: u32) -> Result<Tokens<'t>, LexError>
+fn token_list<'t>(alloc: Global, text: &'t [u8], depth: u32) -> Result<Vec<Token<'t>>, LexError>
     requires { length text.now ≤ 2 ^ 31 }
-    ensures tokens { IfOk result (λ found. AreTokensOf text.now depth found) }
-    ensures fault { IfErr result (λ error. IsFault depth text.now error) }
+    ensures tokens { IfOk result (λ found. AreTokensOf text.now depth (plain_tokens found.items)) }
+    ensures few { IfOk result (λ found. length found.items ≤ 2 ^ 31) }
+    ensures fault { IfErr result (λ error. IsFault text.now depth error) }
 {
     let mut found = Vec::new(alloc);
     let mut level = 0;
@@ -130,26 +129,42 @@ pub fn tokens<'t>(alloc: Global, text: &'t [u8], depth: u32) -> Result<Tokens<'t
         let from = (text.len() - rest.len()) as u32;
         let (kind, length) = match front_token(rest) {
             Ok(token) => token,
-            Err(offset) => return Err(LexError::BadByte {
-                at: from + offset as u32,
-            }),
+            Err(offset) => return Err(LexError::BadByte { at: from + offset as u32 }),
         };
         level = match next_level(level, kind, depth) {
             Some(next) => next,
-            None => return Err(LexError::TooDeep {
-                token: found.len() as u32,
-            }),
+            None => return Err(LexError::TooDeep { token: found.len() as u32 }),
         };
         let (slice, after) = rest.split_at(length);
         let to = from + length as u32;
-        found.push(Token {
-            kind,
-            text: slice,
-            from,
-            to,
-        })?;
+        found.push(Token { kind, text: slice, from, to })?;
         let (_, next) = after.split_at(gap_length(after));
         rest = next;
     }
+    Ok(found)
+}
+
+/// The tokens of a text of at most 2^31 octets, with at most `depth` braces one in another.
+///
+/// Space, tab, carriage return and line feed separate tokens, and so does a comment, from `#` up to
+/// the next line feed or the end. The error is the first fault in the order of octets, or want of memory.
+///
+/// The octets are read once, from left to right, in linear time. Only the list of the tokens takes
+/// memory: one vector, which grows as they are found. No octet is copied.
+pub fn tokens<'t>(alloc: Global, text: &'t [u8], depth: u32) -> Result<Tokens<'t>, LexError>
+    requires { length text.now ≤ 2 ^ 31 }
+
+    // The tokens lex the text, and each has the slice of its span.
+    ensures tokens { IfOk result (λ found. AreTokensOf text.now depth found) }
+    ensures slices { IfOk result (λ found. All (λ t. t.text ≡ slice_range text.now t.from t.to) found) }
+    // A fault is the first one of the text.
+    ensures fault { IfErr result (λ error. IsFault text.now depth error) }
+
+    // Each comes wherever it holds, unless memory runs out.
+    ensures always_tokens { (found : List PlainToken) → AreTokensOf text.now depth found → IsUnlessOutOfMemory result (Ok found) }
+    ensures always_bad_byte { (at : ℕ) → HasBadByte text.now depth at → IsUnlessOutOfMemory result (Err (BadByte at)) }
+    ensures always_too_deep { (token : ℕ) → IsTooDeep text.now depth token → IsUnlessOutOfMemory result (Err (TooDeep token)) }
+{
+    let found = token_list(alloc, text, depth)?;
     Ok(Tokens { found })
 }

@@ -1,36 +1,26 @@
-use Rattle.std.proofs.Common.{◌≡◌, ◌≤◌, length, List, map, refl, sym, ◌∙◌, ap, arith, ◌++◌, ◌∷◌, []}
-use Rattle.std.proofs.lemmas.List.{length-map, map-append}
-use Rattle.ax_tokens.specs.declared.token.Token.{Token}
-use Rattle.ax_tokens.specs.PlainToken.{PlainToken, plain_token, plain_tokens}
-use Rattle.ax_tokens.specs.Depth.{greatest_excess, level_behind}
-use Rattle.ax_tokens.proofs.Levels.{level_push}
-use Rattle.ax_tokens.proofs.Steps.{lexed_push, lexed_bad, lexed_deep}
+use Rattle.std.proofs.Common.{rules, Ok}
+use Rattle.ax_tokens.specs.PlainToken.{plain_tokens}
+use Rattle.ax_tokens.proofs.Once.{always_tokens, always_bad_byte, always_too_deep}
+use Rattle.ax_tokens.proofs.Slices.{slices}
 use Rattle.ax_tokens.proofs.lexing.tokens.Goals as goal
 
-plain_push : (old new : List Token) (t : Token) → new ≡ old ++ t ∷ [] → plain_tokens new ≡ plain_tokens old ++ plain_token t ∷ []
-plain_push old new t e = ap plain_tokens e ∙ map-append plain_token old (t ∷ [])
+pub returns-in_err-found-clause-always_tokens : goal.returns-in_err-found-clause-always_tokens
+returns-in_err-found-clause-always_tokens c = always_tokens c.args.text.now c.args.depth c.from_residual.result (search rules) (search rules)
 
-pub returns-in-Err-clause-fault : goal.returns-in-Err-clause-fault
-returns-in-Err-clause-fault c =
-    lexed_bad c.args.text.now c.args.depth (plain_tokens c.loop-rest.found.items) c.loop-rest.rest.now c.in-Err.offset _ c.loop-rest.invariant.lexed c.in-Err.ensures.stops refl
+pub returns-in_err-found-clause-always_bad_byte : goal.returns-in_err-found-clause-always_bad_byte
+returns-in_err-found-clause-always_bad_byte c = always_bad_byte c.args.text.now c.args.depth c.from_residual.result (search rules) (search rules)
 
-pub returns-in-None-clause-fault : goal.returns-in-None-clause-fault
-returns-in-None-clause-fault c =
-    let count : c.len.result ≡ length (plain_tokens c.loop-rest.found.items) = omega (arith, length-map c.loop-rest.found.items plain_token) in
-    lexed_deep c.args.text.now c.args.depth (plain_tokens c.loop-rest.found.items) c.loop-rest.rest.now c.in-Ok.token.0 c.in-Ok.token.1 c.loop-rest.level c.len.result c.loop-rest.invariant.lexed c.in-Ok.ensures.token
-    c.in-None.ensures.none.0 c.in-None.ensures.none.1 c.loop-rest.invariant.level count
+pub returns-in_err-found-clause-always_too_deep : goal.returns-in_err-found-clause-always_too_deep
+returns-in_err-found-clause-always_too_deep c = always_too_deep c.args.text.now c.args.depth c.from_residual.result (search rules) (search rules)
 
-pub loop-rest-preserved : goal.loop-rest-preserved
-loop-rest-preserved c =
-    let ts = plain_tokens c.loop-rest.found.items in
-    let whole = plain_push _ _ _ c.in_ok-push.ensures.items in
-    let slice = c.split_at-in-loop-rest.ensures in
-    let next = c.split_at-in-loop-rest-2.ensures in
-    let step = c.in-Some.ensures.some in
-    let level : c.in-Some.next ≡ level_behind c.in-Ok.token.0 (greatest_excess ts) = step.0 ∙ ap (level_behind c.in-Ok.token.0) c.loop-rest.invariant.level in
-    let fits : level_behind c.in-Ok.token.0 (greatest_excess ts) ≤ c.args.depth = omega (arith, step.1) in record {
-      lexed =
-          lexed_push c.args.text.now c.args.depth ts _ c.loop-rest.rest.now c.split_at-in-loop-rest.result.1.now c.split_at-in-loop-rest-2.result.1.now _ c.in-Ok.token.1 c.gap_length-in-loop-rest.result c.loop-rest.invariant.lexed
-          c.in-Ok.ensures.token c.gap_length-in-loop-rest.ensures fits slice.front slice.back next.back refl refl whole;
-      level = level ∙ sym (ap greatest_excess whole ∙ level_push ts _);
-    }
+pub returns-clause-slices : goal.returns-clause-slices
+returns-clause-slices c = slices c.args.text.now c.args.depth (plain_tokens c.in_ok-found.found.items) c.in_ok-found.ensures.tokens
+
+pub returns-clause-always_tokens : goal.returns-clause-always_tokens
+returns-clause-always_tokens c = always_tokens c.args.text.now c.args.depth (Ok (plain_tokens c.in_ok-found.found.items)) c.in_ok-found.ensures.tokens tt
+
+pub returns-clause-always_bad_byte : goal.returns-clause-always_bad_byte
+returns-clause-always_bad_byte c = always_bad_byte c.args.text.now c.args.depth (Ok (plain_tokens c.in_ok-found.found.items)) c.in_ok-found.ensures.tokens tt
+
+pub returns-clause-always_too_deep : goal.returns-clause-always_too_deep
+returns-clause-always_too_deep c = always_too_deep c.args.text.now c.args.depth (Ok (plain_tokens c.in_ok-found.found.items)) c.in_ok-found.ensures.tokens tt

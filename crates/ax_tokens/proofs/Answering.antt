@@ -102,7 +102,7 @@ read_front text limit ts front rest e no_gap within h =
       all.steps,
       all.enough,
       (λ i. read (suc (length (behind i))) limit [] (length text - length (behind i)) (behind i))
-      ∙ ap (λ a. read (suc (length after)) limit [] a after) place ∙ all.same ∙ ap (λ a. read all.steps limit ts a rest) end,
+          ∙ ap (λ a. read (suc (length after)) limit [] a after) place ∙ all.same ∙ ap (λ a. read all.steps limit ts a rest) end,
     )
 
 stop_read : (m limit at k : ℕ) (before : List PlainToken) (octets : List ℕ) → length octets < m → front_read octets ≡ stop k → read m limit before at octets ≡ Err (BadByte (at + k))

@@ -144,8 +144,8 @@ word_front_is x xs h =
 
 front_by : (o c q w : Bool) (x : ℕ) (xs : List ℕ) → (x == open_brace) ≡ o → (x == close_brace) ≡ c → (x == quote) ≡ q → is_word_octet x ≡ w → BeginsNoGap (x ∷ xs)
     → FrontIs (x ∷ xs) (cond o (token Open (x ∷ []) xs) (cond c (token Close (x ∷ []) xs)
-      (cond q (str_read (take (prefix_len is_string_octet xs) xs) (drop (prefix_len is_string_octet xs) xs))
-      (cond w (token Word (take (prefix_len is_word_octet (x ∷ xs)) (x ∷ xs)) (drop (prefix_len is_word_octet (x ∷ xs)) (x ∷ xs))) (stop 0)))))
+    (cond q (str_read (take (prefix_len is_string_octet xs) xs) (drop (prefix_len is_string_octet xs) xs))
+    (cond w (token Word (take (prefix_len is_word_octet (x ∷ xs)) (x ∷ xs)) (drop (prefix_len is_word_octet (x ∷ xs)) (x ∷ xs))) (stop 0)))))
 front_by true c q w x xs is_o is_c is_q is_w no_gap = token_is Open (x ∷ xs) (x ∷ []) xs refl (ap (λ y. y ∷ []) (is_equal x open_brace is_o)) tt
 front_by false true q w x xs is_o is_c is_q is_w no_gap = token_is Close (x ∷ xs) (x ∷ []) xs refl (ap (λ y. y ∷ []) (is_equal x close_brace is_c)) tt
 front_by false false true w x xs is_o is_c is_q is_w no_gap =

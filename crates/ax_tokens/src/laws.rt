@@ -8,28 +8,24 @@ ghost use Rattle.ax_tokens.specs.Faults.{HasBadByte, IsTooDeep};
 /// A text has at most one list of tokens.
 pub fn tokens_once()
     ensures { (text : List ℕ) (ts us : List PlainToken) → Lexes ts text [] → Lexes us text [] → ts ≡ us }
-{
-}
+{}
 
 /// Each text has tokens within the limit, or a fault.
 pub fn lexed_or_faulty()
     ensures { (text : List ℕ) (limit : ℕ) →
         ((ts : List PlainToken) × AreTokensOf text limit ts)
         ⊎ ((place : ℕ) × HasBadByte text limit place) ⊎ ((number : ℕ) × IsTooDeep text limit number) }
-{
-}
+{}
 
 /// A text that has tokens within the limit has no fault.
 pub fn never_both()
     ensures bad_byte { (text : List ℕ) (limit : ℕ) (ts : List PlainToken) (place : ℕ) → AreTokensOf text limit ts → HasBadByte text limit place → ⊥ }
     ensures too_deep { (text : List ℕ) (limit : ℕ) (ts : List PlainToken) (number : ℕ) → AreTokensOf text limit ts → IsTooDeep text limit number → ⊥ }
-{
-}
+{}
 
 /// A text has at most one fault.
 pub fn fault_once()
     ensures bad_byte { (text : List ℕ) (limit place other : ℕ) → HasBadByte text limit place → HasBadByte text limit other → place ≡ other }
     ensures too_deep { (text : List ℕ) (limit number other : ℕ) → IsTooDeep text limit number → IsTooDeep text limit other → number ≡ other }
     ensures one_kind { (text : List ℕ) (limit place number : ℕ) → HasBadByte text limit place → IsTooDeep text limit number → ⊥ }
-{
-}
+{}

@@ -129,15 +129,24 @@ fn token_list<'t>(alloc: Global, text: &'t [u8], depth: u32) -> Result<Vec<Token
         let from = (text.len() - rest.len()) as u32;
         let (kind, length) = match front_token(rest) {
             Ok(token) => token,
-            Err(offset) => return Err(LexError::BadByte { at: from + offset as u32 }),
+            Err(offset) => return Err(LexError::BadByte {
+                at: from + offset as u32,
+            }),
         };
         level = match next_level(level, kind, depth) {
             Some(next) => next,
-            None => return Err(LexError::TooDeep { token: found.len() as u32 }),
+            None => return Err(LexError::TooDeep {
+                token: found.len() as u32,
+            }),
         };
         let (slice, after) = rest.split_at(length);
         let to = from + length as u32;
-        found.push(Token { kind, text: slice, from, to })?;
+        found.push(Token {
+            kind,
+            text: slice,
+            from,
+            to,
+        })?;
         let (_, next) = after.split_at(gap_length(after));
         rest = next;
     }

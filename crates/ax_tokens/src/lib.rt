@@ -8,3 +8,6 @@ mod token;
 
 pub use lexing::tokens;
 pub use token::{LexError, Token, TokenKind, Tokens};
+
+#[cfg(test)]
+mod tests;

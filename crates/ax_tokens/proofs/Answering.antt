@@ -1,38 +1,28 @@
 -- Tokens and faults of the definition are the reader's answer.
-use Rattle.std.proofs.Common.{◌≡◌, ℕ, zero, suc, ◌+◌, ◌-◌, ◌<◌, ◌≤◌, Bool, true, false, cond, nat_lt, Some, Ok, Err, List, [], ◌∷◌, ◌++◌, length, take, drop, refl, sym, ◌∙◌, ap, arith, append_assoc, append-nil, subst, length-append, slice_get}
-use Rattle.std.proofs.lemmas.List.{take_at, length_push}
+use Rattle.std.proofs.Common.{◌≡◌, ℕ, zero, suc, ◌+◌, ◌-◌, ◌<◌, ◌≤◌, true, false, cond, nat_lt, Ok, Err, List, [], ◌∷◌, ◌++◌, length, refl, sym, ◌∙◌, ap, arith, append_assoc, append-nil, subst, length-append}
 use Rattle.std.proofs.lemmas.Bool.Decides.{nat_tests}
 use Rattle.ax_tokens.specs.Octets.{open_brace}
 use Rattle.ax_tokens.specs.PlainToken.{PlainToken}
-use Rattle.ax_tokens.specs.Gap.{IsGap}
 use Rattle.ax_tokens.specs.Depth.{greatest_excess, depth_of, IsWithin}
-use Rattle.ax_tokens.specs.Lexing.{IsTokenText, MayFollow, AreTokensWithGaps, Lexes, AreTokensOf}
-use Rattle.ax_tokens.specs.Faults.{FitsNowhere, HasBadByte, IsTooDeep, opening}
+use Rattle.ax_tokens.specs.Lexing.{AreTokensWithGaps, Lexes, AreTokensOf}
+use Rattle.ax_tokens.specs.Faults.{HasBadByte, IsTooDeep, opening}
 use Rattle.ax_tokens.specs.Fronts.{BeginsNoGap}
 use Rattle.ax_tokens.specs.declared.token.TokenKind.{TokenKind}
 use Rattle.ax_tokens.specs.declared.token.TokenKind.TheVariants.{Word, Str, Open, Close}
-use Rattle.ax_tokens.specs.declared.token.LexError.TheVariants.{BadByte, TooDeep, OutOfMemory}
-use Rattle.ax_tokens.proofs.Reader.{gap_rest, Front, nothing, stop, token, front_read, token_at, is_deep, read_on, read, reading}
+use Rattle.ax_tokens.specs.declared.token.LexError.TheVariants.{BadByte, TooDeep}
+use Rattle.ax_tokens.proofs.Reader.{gap_rest, stop, token, front_read, token_at, is_deep, read_on, read, reading}
 use Rattle.ax_tokens.proofs.Back.{gap_rest_here, gap_back, token_starts, token_back, stop_back, nowhere_starts, brace_starts}
+use Rattle.ax_tokens.proofs.Levels.{place_last, depth_here}
 use Rattle.ax_tokens.proofs.Steps.{token_some}
 
 -- a token in front, which is none too deep, is read, and the gap behind it
-read_token : (n limit at : ℕ) (before : List PlainToken) (t : PlainToken) (octets rest next : List ℕ) → front_read octets ≡ token t.kind t.text rest → t ≡ token_at t.kind t.text at → gap_rest rest ≡ next
-    → is_deep t.kind limit (before ++ t ∷ []) ≡ false
-    → read (suc n) limit before at octets ≡ read n limit (before ++ t ∷ []) (at + length t.text + (length rest - length next)) next
-read_token n limit at before t octets rest next front is gap shallow =
+read_token : (n limit at next_at : ℕ) (before : List PlainToken) (t : PlainToken) (octets rest next : List ℕ) → front_read octets ≡ token t.kind t.text rest → t ≡ token_at t.kind t.text at → gap_rest rest ≡ next
+    → is_deep t.kind limit (before ++ t ∷ []) ≡ false → at + length t.text + (length rest - length next) ≡ next_at
+    → read (suc n) limit before at octets ≡ read n limit (before ++ t ∷ []) next_at next
+read_token n limit at next_at before t octets rest next front is gap shallow place =
     ap (read_on (read n limit) limit before at) front
     ∙ (λ i. cond (is_deep t.kind limit (before ++ sym is i ∷ [])) (Err (TooDeep (length before))) (read n limit (before ++ sym is i ∷ []) (at + length t.text + (length rest - length (gap i))) (gap i)))
-    ∙ ap (λ b. cond b (Err (TooDeep (length before))) (read n limit (before ++ t ∷ []) (at + length t.text + (length rest - length next)) next)) shallow
-
-place_last : (before ts : List PlainToken) (t : PlainToken) → slice_get (before ++ t ∷ ts) (length before) ≡ Some t
-place_last [] ts t = refl
-place_last (x ∷ before) ts t = place_last before ts t
-
--- the depth of a token depends on those in front of it alone
-depth_here : (before ts : List PlainToken) (t : PlainToken) → depth_of (before ++ t ∷ ts) (length before) ≡ greatest_excess (before ++ t ∷ [])
-depth_here before ts t =
-    ap greatest_excess (ap (take (length before + 1)) (sym (append_assoc before (t ∷ []) ts)) ∙ take_at (before ++ t ∷ []) ts (length before + 1) (length_push before t))
+    ∙ (λ i. cond (shallow i) (Err (TooDeep (length before))) (read n limit (before ++ t ∷ []) (place i) next))
 
 shallow_by : (k : TokenKind) (limit : ℕ) (tokens : List PlainToken) → (k ≡ Open → greatest_excess tokens ≤ limit) → is_deep k limit tokens ≡ false
 shallow_by Open limit tokens h = let le : greatest_excess tokens ≤ limit = h refl in grind (arith, nat_tests)
@@ -56,6 +46,12 @@ pub record Left (limit : ℕ) (all : List PlainToken) (at : ℕ) (rest : List �
   pub enough : length rest < steps
   pub same : read n limit before from octets ≡ read steps limit all at rest
 
+-- one token, and then what is left behind it
+left_behind : (n limit at next_at end last : ℕ) (before all whole : List PlainToken) (t : PlainToken) (octets next rest : List ℕ) → read (suc n) limit before at octets ≡ read n limit (before ++ t ∷ []) next_at next → all ≡ whole → end ≡ last
+    → Left limit all end rest n (before ++ t ∷ []) next_at next → Left limit whole last rest (suc n) before at octets
+left_behind n limit at next_at end last before all whole t octets next rest one e f left =
+    record { steps = left.steps; enough = left.enough; same = one ∙ left.same ∙ (λ i. read left.steps limit (e i) (f i) rest) }
+
 read_tokens : (ts : List PlainToken) (n limit at : ℕ) (before : List PlainToken) (octets rest : List ℕ) → length octets + length rest < n → BeginsNoGap rest → IsWithin limit (before ++ ts)
     → AreTokensWithGaps at ts octets rest → Left limit (before ++ ts) (at + length octets) rest n before at (octets ++ rest)
 read_tokens [] n limit at before octets rest lt no_gap within e = record {
@@ -71,21 +67,24 @@ read_tokens (t ∷ ts) (suc n) limit at before octets rest lt no_gap within (gap
     let to_at : t.to ≡ at + length t.text = to in
     let is : t ≡ token_at t.kind t.text at = λ i. record { kind = t.kind; text = t.text; from = from i; to = to_at i } in
     let next : gap_rest behind ≡ more ++ rest = gap_back (more ++ rest) gap is_gap ∙ gap_rest_here (more ++ rest) (starts (t.to + length gap) ts more rest no_gap each) in
-    let one = read_token n limit at before t (octets ++ rest) behind (more ++ rest) front is next (shallow_in limit before ts t within) in
     let some : 0 < length t.text = token_some t.kind t.text is_text in
     let lengths : length octets ≡ length t.text + (length gap + length more) = ap length e ∙ length-append t.text (gap ++ more) ∙ ap (λ n. length t.text + n) (length-append gap more) in
     let skipped : length behind ≡ length gap + length (more ++ rest) = length-append gap (more ++ rest) in
     let place : at + length t.text + (length behind - length (more ++ rest)) ≡ t.to + length gap = omega arith in
     let end : t.to + length gap + length more ≡ at + length octets = omega arith in
     let group : (before ++ t ∷ []) ++ ts ≡ before ++ t ∷ ts = append_assoc before (t ∷ []) ts in
-    let later = read_tokens ts n limit (t.to + length gap) (before ++ t ∷ []) more rest (omega arith) no_gap (subst (λ x. IsWithin limit x) (sym group) within) each in
-    record {
-      steps = later.steps;
-      enough = later.enough;
-      same =
-          one ∙ ap (λ a. read n limit (before ++ t ∷ []) a (more ++ rest)) place ∙ later.same
-          ∙ (λ i. read later.steps limit (group i) (end i) rest);
-    }
+    left_behind n limit at (t.to + length gap) (t.to + length gap + length more) (at + length octets) before ((before ++ t ∷ []) ++ ts) (before ++ t ∷ ts) t (octets ++ rest) (more ++ rest) rest
+    (read_token n limit at (t.to + length gap) before t (octets ++ rest) behind (more ++ rest) front is next (shallow_in limit before ts t within) place) group end
+    (read_tokens ts n limit (t.to + length gap) (before ++ t ∷ []) more rest (omega arith) no_gap (subst (λ x. IsWithin limit x) (sym group) within) each)
+
+-- what is left of a text behind its first gap
+front_left : (text octets after rest : List ℕ) (limit at end last : ℕ) (ts : List PlainToken) → octets ≡ after → length text - length after ≡ at → end ≡ last → Left limit ts end rest (suc (length after)) [] at after
+    → (m : ℕ) × (length rest < m) × (read (suc (length octets)) limit [] (length text - length octets) octets ≡ read m limit ts last rest)
+front_left text octets after rest limit at end last ts e place f left = (
+  left.steps,
+  left.enough,
+  (λ i. read (suc (length (e i))) limit [] (length text - length (e i)) (e i)) ∙ (λ i. read (suc (length after)) limit [] (place i) after) ∙ left.same ∙ (λ i. read left.steps limit ts (f i) rest),
+)
 
 -- the tokens of a front are read, and then what is behind it
 pub read_front : (text : List ℕ) (limit : ℕ) (ts : List PlainToken) (front rest : List ℕ) → text ≡ front ++ rest → BeginsNoGap rest → IsWithin limit ts → Lexes ts front rest
@@ -98,12 +97,8 @@ read_front text limit ts front rest e no_gap within h =
     let parts : length after ≡ length h.more + length rest = length-append h.more rest in
     let all = read_tokens ts (suc (length after)) limit (length h.gap) [] h.more rest (omega arith) no_gap within h.each_token in
     let place : length text - length after ≡ length h.gap = omega arith in
-    let end : length h.gap + length h.more ≡ length front = sym (ap length h.split ∙ length-append h.gap h.more) in (
-      all.steps,
-      all.enough,
-      (λ i. read (suc (length (behind i))) limit [] (length text - length (behind i)) (behind i))
-          ∙ ap (λ a. read (suc (length after)) limit [] a after) place ∙ all.same ∙ ap (λ a. read all.steps limit ts a rest) end,
-    )
+    let end : length h.gap + length h.more ≡ length front = sym (ap length h.split ∙ length-append h.gap h.more) in
+    front_left text (gap_rest text) after rest limit (length h.gap) (length h.gap + length h.more) (length front) ts behind place end all
 
 stop_read : (m limit at k : ℕ) (before : List PlainToken) (octets : List ℕ) → length octets < m → front_read octets ≡ stop k → read m limit before at octets ≡ Err (BadByte (at + k))
 stop_read zero limit at k before octets lt e = absurd (omega arith)

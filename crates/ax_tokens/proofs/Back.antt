@@ -1,20 +1,17 @@
 -- What the definition allows is what the reader reads.
-use Rattle.std.proofs.Common.{◌≡◌, ◌≢◌, ℕ, zero, suc, ◌+◌, ◌-◌, ◌<◌, ◌≤◌, Bool, true, false, cond, nat_lt, ◌==◌, not, Some, Ok, Err, List, [], ◌∷◌, ◌++◌, length, take, drop, refl, sym, ◌∙◌, ap, arith, append_assoc, append-nil, subst, length-append, slice_get}
+use Rattle.std.proofs.Common.{◌≡◌, ◌≢◌, ℕ, ◌+◌, true, false, cond, ◌==◌, List, [], ◌∷◌, ◌++◌, length, take, drop, refl, sym, ◌∙◌, ap, arith, append_assoc}
 use Rattle.std.specs.List.{prefix_len, list_all}
-use Rattle.std.proofs.lemmas.List.{take_at, drop_at, length-take-le}
+use Rattle.std.proofs.lemmas.List.{take_at, drop_at}
 use Rattle.std.proofs.lemmas.Bool.Decides.{nat_tests}
 use Rattle.ax_tokens.specs.Octets.{line_feed, hash, quote, open_brace, close_brace, is_separator, is_word_octet, is_string_octet, is_comment_octet}
-use Rattle.ax_tokens.specs.PlainToken.{PlainToken}
 use Rattle.ax_tokens.specs.Gap.{EndsComment, IsGap, no_octet, separator, comment}
-use Rattle.ax_tokens.specs.Depth.{greatest_excess, depth_of, IsWithin}
-use Rattle.ax_tokens.specs.Lexing.{IsTokenText, MayFollow, AreTokensWithGaps, Lexes, AreTokensOf}
-use Rattle.ax_tokens.specs.Faults.{StopsStr, FitsNowhere, begins_nothing, stops_str, HasBadByte, IsTooDeep, opening}
+use Rattle.ax_tokens.specs.Lexing.{IsTokenText, MayFollow}
+use Rattle.ax_tokens.specs.Faults.{StopsStr, FitsNowhere, begins_nothing, stops_str}
 use Rattle.ax_tokens.specs.Fronts.{BeginsNoGap}
 use Rattle.ax_tokens.specs.declared.token.TokenKind.{TokenKind}
 use Rattle.ax_tokens.specs.declared.token.TokenKind.TheVariants.{Word, Str, Open, Close}
-use Rattle.ax_tokens.specs.declared.token.LexError.TheVariants.{BadByte, TooDeep, OutOfMemory}
 use Rattle.ax_tokens.proofs.Prefixes.{Stops, prefix_is, and_first, and_second}
-use Rattle.ax_tokens.proofs.Reader.{gap_rest, comment_rest, Front, nothing, stop, token, str_read, front_read, token_at, is_deep, read_on, read, reading}
+use Rattle.ax_tokens.proofs.Reader.{gap_rest, comment_rest, stop, token, str_read, front_read}
 
 -- ---- tests of octets
 

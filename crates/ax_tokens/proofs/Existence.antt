@@ -1,7 +1,7 @@
 -- The reader's answer holds by the definition, so each text has an answer.
-use Rattle.std.proofs.Common.{◌≡◌, ◌≢◌, ℕ, zero, suc, ◌+◌, ◌-◌, ◌<◌, ◌≤◌, Bool, true, false, cond, nat_lt, ◌==◌, not, Result, Ok, Err, List, [], ◌∷◌, ◌++◌, length, take, drop, refl, sym, ◌∙◌, ap, arith, append_assoc, append-nil, subst, length-append, take-append-drop}
+use Rattle.std.proofs.Common.{◌≡◌, ◌≢◌, ℕ, zero, suc, ◌+◌, ◌-◌, ◌<◌, ◌≤◌, Bool, true, false, cond, ◌==◌, Result, Ok, Err, List, [], ◌∷◌, ◌++◌, length, take, drop, refl, sym, ◌∙◌, ap, arith, append_assoc, subst, length-append, take-append-drop}
 use Rattle.std.specs.List.{prefix_len, list_all}
-use Rattle.std.proofs.lemmas.List.{take_at, drop_at, length-take-le}
+use Rattle.std.proofs.lemmas.List.{take_at, drop_at}
 use Rattle.std.proofs.lemmas.Bool.Decides.{nat_tests}
 use Rattle.ax_tokens.specs.Octets.{line_feed, hash, quote, open_brace, close_brace, is_separator, is_word_octet, is_string_octet, is_comment_octet}
 use Rattle.ax_tokens.specs.PlainToken.{PlainToken}
@@ -14,7 +14,7 @@ use Rattle.ax_tokens.specs.declared.token.TokenKind.{TokenKind}
 use Rattle.ax_tokens.specs.declared.token.TokenKind.TheVariants.{Word, Str, Open, Close}
 use Rattle.ax_tokens.specs.declared.token.LexError.{LexError}
 use Rattle.ax_tokens.specs.declared.token.LexError.TheVariants.{BadByte, TooDeep, OutOfMemory}
-use Rattle.ax_tokens.proofs.Prefixes.{Stops, prefix_passes, prefix_stops, prefix_inside}
+use Rattle.ax_tokens.proofs.Prefixes.{Stops, prefix_passes, prefix_stops}
 use Rattle.ax_tokens.proofs.Fronts.{word_front}
 use Rattle.ax_tokens.proofs.Levels.{level_push}
 use Rattle.ax_tokens.proofs.Reader.{gap_rest, comment_rest, Front, nothing, stop, token, str_read, front_read, token_at, is_deep, read_on, read, reading}

@@ -1,14 +1,14 @@
 -- Tokens at the front of octets, and what fits nowhere there.
-use Rattle.std.proofs.Common.{◌≡◌, ◌≢◌, ℕ, zero, suc, ◌+◌, ◌-◌, ◌<◌, ◌≤◌, Bool, true, false, cond, List, [], ◌∷◌, ◌++◌, length, take, drop, get_or, refl, sym, ◌∙◌, ap, arith, append_assoc, subst, length-drop, take-append-drop, get_or-drop}
-use Rattle.std.specs.List.{prefix_len, list_all}
-use Rattle.std.proofs.lemmas.List.{drop_more, take_all, drop_all, length-take-le}
+use Rattle.std.proofs.Common.{◌≡◌, ◌≢◌, ℕ, suc, ◌+◌, ◌-◌, ◌<◌, ◌≤◌, true, false, cond, List, [], ◌∷◌, ◌++◌, length, take, drop, get_or, refl, sym, ◌∙◌, ap, arith, subst, length-drop, take-append-drop, get_or-drop}
+use Rattle.std.specs.List.{prefix_len}
+use Rattle.std.proofs.lemmas.List.{drop_more, take_all, length-take-le}
 use Rattle.std.proofs.Math.Seq.{take-add}
-use Rattle.ax_tokens.specs.Octets.{quote, hash, open_brace, close_brace, is_separator, is_word_octet, is_string_octet}
+use Rattle.ax_tokens.specs.Octets.{quote, open_brace, close_brace, is_word_octet, is_string_octet}
 use Rattle.ax_tokens.specs.Lexing.{MayFollow}
 use Rattle.ax_tokens.specs.Faults.{StopsStr, FitsNowhere, begins_nothing, stops_str}
 use Rattle.ax_tokens.specs.Fronts.{BeginsNoGap, TokenInFront}
 use Rattle.ax_tokens.specs.declared.token.TokenKind.TheVariants.{Word, Str, Open, Close}
-use Rattle.ax_tokens.proofs.Prefixes.{Stops, one_more, prefix_passes, prefix_stops, prefix_inside}
+use Rattle.ax_tokens.proofs.Prefixes.{Stops, prefix_passes, prefix_stops, prefix_inside}
 
 pub open_front : (octets : List ℕ) → 0 < length octets → get_or octets 0 0 ≡ open_brace → TokenInFront octets Open 1
 open_front [] lt e = absurd (omega arith)

@@ -1,12 +1,12 @@
 -- Gaps, piece by piece.
-use Rattle.std.proofs.Common.{◌≡◌, ◌≢◌, ℕ, zero, suc, ◌+◌, ◌-◌, ◌<◌, ◌≤◌, Bool, true, false, not, cond, List, [], ◌∷◌, ◌++◌, length, take, drop, get_or, refl, sym, ◌∙◌, ap, arith, append_assoc, append-nil, subst, eqb, length-drop, take-append-drop}
+use Rattle.std.proofs.Common.{◌≡◌, ◌≢◌, ℕ, ◌+◌, ◌-◌, ◌<◌, ◌≤◌, true, false, List, [], ◌∷◌, ◌++◌, length, take, drop, get_or, refl, sym, ◌∙◌, ap, arith, append_assoc, append-nil, subst, length-drop, take-append-drop}
 use Rattle.std.specs.List.{prefix_len, list_all}
-use Rattle.std.proofs.lemmas.List.{take_more, drop_more, take_rest, drop-drop, drop_all}
+use Rattle.std.proofs.lemmas.List.{drop_more, take_rest, drop-drop, drop_all}
 use Rattle.std.proofs.lemmas.Bool.Decides.{nat_tests}
 use Rattle.std.proofs.Math.Seq.{take-add}
-use Rattle.ax_tokens.specs.Octets.{hash, line_feed, is_separator, is_comment_octet}
+use Rattle.ax_tokens.specs.Octets.{hash, is_separator, is_comment_octet}
 use Rattle.ax_tokens.specs.Gap.{EndsComment, IsGap, no_octet, separator, comment}
-use Rattle.ax_tokens.specs.Fronts.{BeginsNoGap, GapInFront}
+use Rattle.ax_tokens.specs.Fronts.{GapInFront}
 use Rattle.ax_tokens.proofs.Prefixes.{Stops, one_more, prefix_passes, prefix_stops, prefix_inside}
 
 -- two gaps in a row are a gap

@@ -1,11 +1,11 @@
 -- The greatest excess of Opens is the level that a reader keeps.
-use Rattle.std.proofs.Common.{◌≡◌, ℕ, zero, suc, ◌+◌, ◌-◌, ◌<◌, ◌≤◌, max, Bool, true, false, cond, Some, List, [], ◌∷◌, ◌++◌, length, take, refl, sym, ◌∙◌, ap, arith, subst, count_by, length-take, slice_get, inl, inr, ◌⊎◌}
-use Rattle.std.proofs.lemmas.List.{take-append-le, take_all, length_push}
+use Rattle.std.proofs.Common.{◌≡◌, ℕ, zero, suc, ◌+◌, ◌-◌, ◌<◌, ◌≤◌, max, cond, Some, List, [], ◌∷◌, ◌++◌, length, take, refl, sym, ◌∙◌, ap, arith, append_assoc, append-nil, subst, count_by, length-take, slice_get, inl, inr}
+use Rattle.std.proofs.lemmas.List.{take-append-le, take_all, take_at, length_push}
 use Rattle.std.proofs.lemmas.List.Sums.{sum_by_push, count_by-le-length}
 use Rattle.std.proofs.lemmas.Bool.{cases_lt}
 use Rattle.std.proofs.lemmas.Option.{slice_get_within}
 use Rattle.ax_tokens.specs.PlainToken.{PlainToken}
-use Rattle.ax_tokens.specs.Depth.{is_open, is_close, excess, greatest_excess, depth_of, IsWithin, level_behind}
+use Rattle.ax_tokens.specs.Depth.{is_open, is_close, excess, greatest_excess, depth_of, IsWithin, level_behind, KeepsWithin}
 use Rattle.ax_tokens.specs.declared.token.TokenKind.{TokenKind}
 use Rattle.ax_tokens.specs.declared.token.TokenKind.TheVariants.{Word, Str, Open, Close}
 
@@ -93,3 +93,41 @@ excess_few (t ∷ ts) = omega (arith, opens_few (t ∷ ts), excess_few ts)
 -- no token is deeper than there are tokens
 pub within_some : (limit : ℕ) (ts : List PlainToken) → length ts ≤ limit → IsWithin limit ts
 within_some limit ts le i t e k = omega (arith, excess_few (take (i + 1) ts), length-take (i + 1) ts)
+
+pub place_last : (before ts : List PlainToken) (t : PlainToken) → slice_get (before ++ t ∷ ts) (length before) ≡ Some t
+place_last [] ts t = refl
+place_last (x ∷ before) ts t = place_last before ts t
+
+-- the depth of a token depends on those in front of it alone
+pub depth_here : (before ts : List PlainToken) (t : PlainToken) → depth_of (before ++ t ∷ ts) (length before) ≡ greatest_excess (before ++ t ∷ [])
+depth_here before ts t =
+    ap greatest_excess (ap (take (length before + 1)) (sym (append_assoc before (t ∷ []) ts)) ∙ take_at (before ++ t ∷ []) ts (length before + 1) (length_push before t))
+
+kept_by : (k : TokenKind) (limit level : ℕ) → level ≤ limit → (k ≡ Open → level_behind k level ≤ limit) → level_behind k level ≤ limit
+kept_by Open limit level le h = h refl
+kept_by Word limit level le h = le
+kept_by Str limit level le h = le
+kept_by Close limit level le h = omega arith
+
+-- the level that is kept from token to token stays within the limit where no Open is deeper
+keeps : (limit : ℕ) (before ts : List PlainToken) → greatest_excess before ≤ limit → IsWithin limit (before ++ ts) → KeepsWithin limit (greatest_excess before) ts
+keeps limit before [] le h = tt
+keeps limit before (t ∷ ts) le h =
+    let next : greatest_excess (before ++ t ∷ []) ≡ level_behind t.kind (greatest_excess before) = level_push before t in
+    let within : level_behind t.kind (greatest_excess before) ≤ limit
+    = kept_by t.kind limit (greatest_excess before) le (λ k. subst (λ d. d ≤ limit) (depth_here before ts t ∙ next) (h (length before) t (place_last before ts t) k)) in
+    let later = keeps limit (before ++ t ∷ []) ts (subst (λ n. n ≤ limit) (sym next) within) (subst (λ x. IsWithin limit x) (sym (append_assoc before (t ∷ []) ts)) h) in
+    (within, subst (λ n. KeepsWithin limit n ts) next later)
+
+kept : (limit : ℕ) (before ts : List PlainToken) → IsWithin limit before → KeepsWithin limit (greatest_excess before) ts → IsWithin limit (before ++ ts)
+kept limit before [] h k = subst (λ x. IsWithin limit x) (sym (append-nil before)) h
+kept limit before (t ∷ ts) h k =
+    let next : greatest_excess (before ++ t ∷ []) ≡ level_behind t.kind (greatest_excess before) = level_push before t in
+    let within = within_push limit before t h (subst (λ n. n ≤ limit) (sym next) k.0) in
+    subst (λ x. IsWithin limit x) (append_assoc before (t ∷ []) ts) (kept limit (before ++ t ∷ []) ts within (subst (λ n. KeepsWithin limit n ts) (sym next) k.1))
+
+pub within_keeps : (limit : ℕ) (ts : List PlainToken) → IsWithin limit ts → KeepsWithin limit 0 ts
+within_keeps limit ts h = keeps limit [] ts (omega arith) h
+
+pub keeps_within : (limit : ℕ) (ts : List PlainToken) → KeepsWithin limit 0 ts → IsWithin limit ts
+keeps_within limit ts k = kept limit [] ts (within_none limit) k

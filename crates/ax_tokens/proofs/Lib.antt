@@ -9,3 +9,4 @@ pub mod Answering
 pub mod Once
 pub mod Existence
 pub mod Slices
+pub mod Printed

@@ -1,7 +1,6 @@
 -- The laws, by the reader's answer.
-use Rattle.std.proofs.Common.{◌≡◌, ℕ, suc, ◌+◌, ◌≤◌, ◌⊎◌, inl, inr, Result, Ok, Err, IfOk, IfErr, List, [], ◌∷◌, length, take, refl, sym, ◌∙◌, ap, arith}
+use Rattle.std.proofs.Common.{◌≡◌, ℕ, ◌+◌, ◌⊎◌, inl, inr, Result, Ok, Err, IfOk, IfErr, List, [], length, refl, ap, arith}
 use Rattle.ax_tokens.specs.PlainToken.{PlainToken}
-use Rattle.ax_tokens.specs.Depth.{excess, greatest_excess, depth_of, IsWithin}
 use Rattle.ax_tokens.specs.Lexing.{Lexes, AreTokensOf}
 use Rattle.ax_tokens.specs.Faults.{HasBadByte, IsTooDeep, IsFault, IsUnlessOutOfMemory}
 use Rattle.ax_tokens.specs.declared.token.LexError.{LexError}

@@ -1,10 +1,10 @@
 -- Each way through the loop that finds the tokens.
-use Rattle.std.proofs.Common.{◌≡◌, ℕ, zero, suc, ◌+◌, ◌-◌, ◌<◌, ◌≤◌, Bool, true, false, Some, List, [], ◌∷◌, ◌++◌, length, take, drop, refl, sym, ◌∙◌, ap, arith, append_assoc, append-nil, subst, length-append, take-append-drop}
+use Rattle.std.proofs.Common.{◌≡◌, ℕ, ◌+◌, ◌-◌, ◌<◌, ◌≤◌, List, [], ◌∷◌, ◌++◌, length, take, drop, refl, sym, ◌∙◌, ap, arith, append_assoc, append-nil, subst, length-append, take-append-drop}
 use Rattle.std.proofs.lemmas.List.{length-take-le, take_all}
 use Rattle.ax_tokens.specs.Octets.{open_brace}
 use Rattle.ax_tokens.specs.PlainToken.{PlainToken}
 use Rattle.ax_tokens.specs.Gap.{IsGap}
-use Rattle.ax_tokens.specs.Depth.{greatest_excess, depth_of, IsWithin, level_behind}
+use Rattle.ax_tokens.specs.Depth.{greatest_excess, IsWithin, level_behind}
 use Rattle.ax_tokens.specs.Lexing.{IsTokenText, MayFollow, AreTokensWithGaps, Lexes, AreTokensOf}
 use Rattle.ax_tokens.specs.Faults.{FitsNowhere, HasBadByte, opening, IsTooDeep}
 use Rattle.ax_tokens.specs.Fronts.{BeginsNoGap, GapInFront, TokenInFront}

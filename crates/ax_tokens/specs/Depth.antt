@@ -39,3 +39,8 @@ level_behind Open level = level + 1
 level_behind Close level = level - 1
 level_behind Word level = level
 level_behind Str level = level
+
+-- the level that is kept from token to token, from that level on, stays within the limit
+abbrev pub KeepsWithin : ℕ → ℕ → List PlainToken → Type 0
+KeepsWithin limit level [] = Unit {0}
+KeepsWithin limit level (t ∷ tokens) = (level_behind t.kind level ≤ limit) × KeepsWithin limit (level_behind t.kind level) tokens

@@ -1,5 +1,5 @@
 -- The faults of a text: the first place at which it can't be lexed within a limit of depth.
-use Rattle.std.specs.Prelude.{◌≡◌, ◌≢◌, ℕ, ◌+◌, ◌<◌, false, List, [], ◌∷◌, ◌++◌, length, IsTrue, Result, Ok, Err, ◌⊎◌}
+use Rattle.std.specs.Prelude.{◌≡◌, ◌≢◌, ℕ, ◌+◌, ◌<◌, false, List, [], ◌∷◌, ◌++◌, length, IsTrue, Result, Err, ◌⊎◌}
 use Rattle.std.specs.List.{list_all}
 use Rattle.ax_tokens.specs.Octets.{quote, hash, open_brace, close_brace, is_separator, is_word_octet, is_string_octet}
 use Rattle.ax_tokens.specs.PlainToken.{PlainToken}

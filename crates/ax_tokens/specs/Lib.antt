@@ -5,3 +5,4 @@ pub mod Depth
 pub mod Lexing
 pub mod Faults
 pub mod Fronts
+pub mod Printing

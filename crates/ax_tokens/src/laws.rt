@@ -1,9 +1,13 @@
 //! The laws of tokens. Each function stands for what its contract says.
 
-ghost use Rattle.std.specs.Prelude.{◌≡◌, ℕ, ◌⊎◌, List, []};
+ghost use Rattle.std.specs.Prelude.{◌≡◌, ℕ, ◌⊎◌, ◌↔◌, List, [], ◌∷◌, ◌++◌};
 ghost use Rattle.ax_tokens.specs.PlainToken.{PlainToken};
+ghost use Rattle.ax_tokens.specs.Octets.{line_feed};
+ghost use Rattle.ax_tokens.specs.Depth.{IsWithin, KeepsWithin};
 ghost use Rattle.ax_tokens.specs.Lexing.{Lexes, AreTokensOf};
 ghost use Rattle.ax_tokens.specs.Faults.{HasBadByte, IsTooDeep};
+ghost use Rattle.ax_tokens.specs.Printing.{AreTokenTexts, spaced, placed};
+ghost use Rattle.ax_tokens.specs.declared.token.TokenKind.{TokenKind};
 
 /// A text has at most one list of tokens.
 pub fn tokens_once()
@@ -28,4 +32,16 @@ pub fn fault_once()
     ensures bad_byte { (text : List ℕ) (limit place other : ℕ) → HasBadByte text limit place → HasBadByte text limit other → place ≡ other }
     ensures too_deep { (text : List ℕ) (limit number other : ℕ) → IsTooDeep text limit number → IsTooDeep text limit other → number ≡ other }
     ensures one_kind { (text : List ℕ) (limit place number : ℕ) → HasBadByte text limit place → IsTooDeep text limit number → ⊥ }
+{}
+
+/// No Open is deeper than the limit exactly where the level that is kept from token to token stays within it.
+pub fn running_level()
+    ensures { (limit : ℕ) (tokens : List PlainToken) → (IsWithin limit tokens ↔ KeepsWithin limit 0 tokens) }
+{}
+
+/// Tokens that are printed with one space between, with a line feed behind them or without, are the tokens
+/// of that text.
+pub fn printed_tokens()
+    ensures text { (ts : List (TokenKind × List ℕ)) (limit : ℕ) → AreTokenTexts ts → IsWithin limit (placed 0 ts) → AreTokensOf (spaced ts) limit (placed 0 ts) }
+    ensures line { (ts : List (TokenKind × List ℕ)) (limit : ℕ) → AreTokenTexts ts → IsWithin limit (placed 0 ts) → AreTokensOf (spaced ts ++ line_feed ∷ []) limit (placed 0 ts) }
 {}

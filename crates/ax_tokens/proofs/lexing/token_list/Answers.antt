@@ -1,7 +1,7 @@
-use Rattle.std.proofs.Common.{◌≡◌, ◌≤◌, length, List, map, refl, sym, ◌∙◌, ap, arith, ◌++◌, ◌∷◌, []}
+use Rattle.std.proofs.Common.{◌≡◌, ◌≤◌, length, List, refl, sym, ◌∙◌, ap, arith, ◌++◌, ◌∷◌, []}
 use Rattle.std.proofs.lemmas.List.{length-map, map-append}
 use Rattle.ax_tokens.specs.declared.token.Token.{Token}
-use Rattle.ax_tokens.specs.PlainToken.{PlainToken, plain_token, plain_tokens}
+use Rattle.ax_tokens.specs.PlainToken.{plain_token, plain_tokens}
 use Rattle.ax_tokens.specs.Depth.{greatest_excess, level_behind}
 use Rattle.ax_tokens.proofs.Levels.{level_push}
 use Rattle.ax_tokens.proofs.Steps.{lexed_push, lexed_bad, lexed_deep}

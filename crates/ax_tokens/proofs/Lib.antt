@@ -10,3 +10,4 @@ pub mod Once
 pub mod Existence
 pub mod Slices
 pub mod Printed
+pub mod Places

@@ -1,11 +1,14 @@
 -- The laws, by the reader's answer.
 use Rattle.std.proofs.Common.{◌≡◌, ℕ, ◌+◌, ◌⊎◌, inl, inr, Result, Ok, Err, IfOk, IfErr, List, [], length, refl, ap, arith}
 use Rattle.ax_tokens.specs.PlainToken.{PlainToken}
-use Rattle.ax_tokens.specs.Lexing.{Lexes, AreTokensOf}
+use Rattle.ax_tokens.specs.Lexing.{IsTokenText, MayFollow, Lexes, AreTokensOf}
 use Rattle.ax_tokens.specs.Faults.{HasBadByte, IsTooDeep, IsFault, IsUnlessOutOfMemory}
+use Rattle.ax_tokens.specs.declared.token.TokenKind.{TokenKind}
+use Rattle.ax_tokens.specs.declared.token.TokenKind.TheVariants.{Word, Str, Open, Close}
 use Rattle.ax_tokens.specs.declared.token.LexError.{LexError}
 use Rattle.ax_tokens.specs.declared.token.LexError.TheVariants.{BadByte, TooDeep, OutOfMemory}
 use Rattle.ax_tokens.proofs.Reader.{reading}
+use Rattle.ax_tokens.proofs.Back.{token_back}
 use Rattle.ax_tokens.proofs.Answering.{tokens_answer, bad_byte_answer, too_deep_answer}
 use Rattle.ax_tokens.proofs.Levels.{within_some}
 use Rattle.ax_tokens.proofs.Existence.{IsAnswer, reading_is}
@@ -77,3 +80,14 @@ always_too_deep text limit (Ok us) ok err number h = absurd (none_too_deep text 
 always_too_deep text limit (Err (BadByte place)) ok err number h = absurd (one_kind text limit place number err h)
 always_too_deep text limit (Err (TooDeep other)) ok err number h = inl (ap (λ n. Err (TooDeep n)) (too_deep_once text limit other number err h))
 always_too_deep text limit (Err OutOfMemory) ok err number h = inr refl
+
+follows_none : (kind : TokenKind) → MayFollow kind []
+follows_none Word = tt
+follows_none Str = tt
+follows_none Open = tt
+follows_none Close = tt
+
+pub kind_by_text : (kind other : TokenKind) (text : List ℕ) → IsTokenText kind text → IsTokenText other text → kind ≡ other
+kind_by_text kind other text h k =
+    let one = token_back kind text [] h (follows_none kind) in
+    let next = token_back other text [] k (follows_none other) in cc

@@ -1,10 +1,10 @@
--- Each token's text is the slice of its span.
+-- Each token's text is the slice of its span, and the octets of a token of its kind.
 use Rattle.std.proofs.Common.{◌≡◌, ℕ, ◌+◌, ◌-◌, List, [], ◌∷◌, ◌++◌, length, take, drop, slice_range, All, refl, sym, ◌∙◌, ap, arith, append_assoc, length-append}
 use Rattle.std.specs.List.{AllByRecursion}
 use Rattle.std.proofs.lemmas.List.{take_at, drop_at}
 use Rattle.std.proofs.lemmas.List.Elements.{All-from_recursion}
 use Rattle.ax_tokens.specs.PlainToken.{PlainToken}
-use Rattle.ax_tokens.specs.Lexing.{AreTokensWithGaps, AreTokensOf}
+use Rattle.ax_tokens.specs.Lexing.{HasTokenText, AreTokensWithGaps, AreTokensOf}
 
 abbrev IsSlice : List ℕ → PlainToken → Type 0
 IsSlice text t = t.text ≡ slice_range text t.from t.to
@@ -30,3 +30,10 @@ each_slice text (t ∷ ts) front octets at e begins (gap, more, parts, from, to,
 pub slices : (text : List ℕ) (limit : ℕ) (ts : List PlainToken) → AreTokensOf text limit ts → All (λ t. t.text ≡ slice_range text t.from t.to) ts
 slices text limit ts h =
     All-from_recursion (IsSlice text) ts (each_slice text ts h.lexed.gap h.lexed.more (length h.lexed.gap) h.lexed.split refl h.lexed.each_token)
+
+each_text : (ts : List PlainToken) (at : ℕ) (octets rest : List ℕ) → AreTokensWithGaps at ts octets rest → AllByRecursion HasTokenText ts
+each_text [] at octets rest h = tt
+each_text (t ∷ ts) at octets rest (gap, more, parts, from, to, is_text, follows, is_gap, each) = (is_text, each_text ts (t.to + length gap) more rest each)
+
+pub texts : (text : List ℕ) (limit : ℕ) (ts : List PlainToken) → AreTokensOf text limit ts → All HasTokenText ts
+texts text limit ts h = All-from_recursion HasTokenText ts (each_text ts (length h.lexed.gap) h.lexed.more [] h.lexed.each_token)

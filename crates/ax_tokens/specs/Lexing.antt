@@ -15,6 +15,10 @@ IsTokenText Str text = (content : List ℕ) × (text ≡ quote ∷ (content ++ q
 IsTokenText Open text = text ≡ open_brace ∷ []
 IsTokenText Close text = text ≡ close_brace ∷ []
 
+-- a token has the octets of a token of its kind
+abbrev pub HasTokenText : PlainToken → Type 0
+HasTokenText t = IsTokenText t.kind t.text
+
 -- octets that may follow a token: a Word is followed by no octet of a Word
 abbrev pub MayFollow : TokenKind → List ℕ → Type 0
 MayFollow Word [] = Unit {0}

@@ -4,7 +4,7 @@ ghost use Rattle.std.specs.Prelude.{◌≡◌, ℕ, ◌⊎◌, ◌↔◌, List, 
 ghost use Rattle.ax_tokens.specs.PlainToken.{PlainToken};
 ghost use Rattle.ax_tokens.specs.Octets.{line_feed};
 ghost use Rattle.ax_tokens.specs.Depth.{IsWithin, KeepsWithin};
-ghost use Rattle.ax_tokens.specs.Lexing.{Lexes, AreTokensOf};
+ghost use Rattle.ax_tokens.specs.Lexing.{IsTokenText, Lexes, AreTokensOf};
 ghost use Rattle.ax_tokens.specs.Faults.{HasBadByte, IsTooDeep};
 ghost use Rattle.ax_tokens.specs.Printing.{AreTokenTexts, spaced, placed};
 ghost use Rattle.ax_tokens.specs.declared.token.TokenKind.{TokenKind};
@@ -32,6 +32,11 @@ pub fn fault_once()
     ensures bad_byte { (text : List ℕ) (limit place other : ℕ) → HasBadByte text limit place → HasBadByte text limit other → place ≡ other }
     ensures too_deep { (text : List ℕ) (limit number other : ℕ) → IsTooDeep text limit number → IsTooDeep text limit other → number ≡ other }
     ensures one_kind { (text : List ℕ) (limit place number : ℕ) → HasBadByte text limit place → IsTooDeep text limit number → ⊥ }
+{}
+
+/// The octets of a token tell its kind.
+pub fn kind_by_text()
+    ensures { (kind other : TokenKind) (text : List ℕ) → IsTokenText kind text → IsTokenText other text → kind ≡ other }
 {}
 
 /// No Open is deeper than the limit exactly where the level that is kept from token to token stays within it.

@@ -158,8 +158,8 @@ fn token_list<'t>(alloc: Global, text: &'t [u8], depth: u32) -> Result<Vec<Token
 /// Space, tab, carriage return and line feed separate tokens, and so does a comment, from `#` up to
 /// the next line feed or the end. The error is the first fault in the order of octets, or want of memory.
 ///
-/// The octets are read once, from left to right, in linear time. Only the list of the tokens takes
-/// memory: one vector, which grows as they are found. No octet is copied.
+/// The octets are read from left to right, each of them a few times at most. Only the list of the
+/// tokens takes memory: one vector, which grows as they are found. No octet is copied.
 pub fn tokens<'t>(alloc: Global, text: &'t [u8], depth: u32) -> Result<Tokens<'t>, LexError>
     requires { length text.now ≤ 2 ^ 31 }
 

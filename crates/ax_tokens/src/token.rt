@@ -32,31 +32,35 @@ pub struct Token<'t> {
     pub to: u32,
 }
 
-/// The tokens of a text in order, numbered from 0. A contract sees them as the list of plain tokens.
-#[derive(Drop)]
+/// The tokens of a text in order, numbered from 0. A contract sees them as the list of plain tokens,
+/// each with octets that are a token of its kind.
+#[derive(Debug, Drop)]
 pub struct Tokens<'t> {
     pub(crate) found: Vec<Token<'t>>,
 }
 
 impl<'t> Model for Tokens<'t> {
-    ghost use Rattle.std.specs.Prelude.{List, length, ◌<◌, ◌^◌};
+    ghost use Rattle.std.specs.Prelude.{List, length, ◌<◌, ◌^◌, All};
     ghost use Rattle.ax_tokens.specs.PlainToken.{PlainToken, plain_tokens};
+    ghost use Rattle.ax_tokens.specs.Lexing.{HasTokenText};
 
     ghost Value = { List PlainToken };
 
     ghost view = { λ t. plain_tokens t.found.items };
 
-    ghost invariant = { λ t. length t.found.items < 2 ^ 32 };
+    ghost invariant = { λ t. (length t.found.items < 2 ^ 32) × All HasTokenText (plain_tokens t.found.items) };
 }
 
 impl<'t> Tokens<'t> {
-    ghost use Rattle.std.specs.Prelude.{◌≡◌, ◌↔◌, ◌<◌, length, IsSome, IfSome, slice_get};
+    ghost use Rattle.std.specs.Prelude.{◌≡◌, ◌↔◌, ◌<◌, length, All, IsSome, IfSome, slice_get};
     ghost use Rattle.std.specs.Option.{option_map};
     ghost use Rattle.ax_tokens.specs.PlainToken.{plain_token};
+    ghost use Rattle.ax_tokens.specs.Lexing.{HasTokenText};
 
     /// How many tokens there are.
     pub fn count(&self) -> u32
-        ensures { result ≡ length self.now }
+        ensures count { result ≡ length self.now }
+        ensures texts { All HasTokenText self.now }
     {
         self.found.len() as u32
     }
@@ -65,6 +69,7 @@ impl<'t> Tokens<'t> {
     pub fn get(&self, index: u32) -> Option<&Token<'t>>
         ensures value { option_map (λ t. plain_token t.now) result ≡ slice_get self.now index }
         ensures within { IsSome result ↔ index < length self.now }
+        ensures text { IfSome result (λ t. HasTokenText (plain_token t.now)) }
     {
         self.found.get(index as usize)
     }
@@ -80,6 +85,7 @@ pub enum LexError {
     /// The `{` that is the token of that number, from 0, is one level deeper than the limit.
     #[error("token {token} is nested too deep")]
     TooDeep { token: u32 },
+    /// No memory was left for the list of the tokens.
     #[error("out of memory")]
     OutOfMemory,
 }

@@ -4,19 +4,21 @@ use Rattle.ax_tokens.specs.PlainToken.{PlainToken}
 use Rattle.ax_tokens.specs.declared.token.TokenKind.{TokenKind}
 use Rattle.ax_tokens.specs.declared.token.TokenKind.TheVariants.{Word, Str, Open, Close}
 
+-- the kind is Open
 abbrev pub is_open : TokenKind → Bool
 is_open Open = true
 is_open Word = false
 is_open Str = false
 is_open Close = false
 
+-- the kind is Close
 abbrev pub is_close : TokenKind → Bool
 is_close Close = true
 is_close Word = false
 is_close Str = false
 is_close Open = false
 
--- the Opens less the Closes, or 0 where there are more Closes
+-- the Opens less the Closes, or 0 where there are more Closes (an Open alone has 1, so no depth is changed by that)
 abbrev pub excess : List PlainToken → ℕ
 excess tokens = count_by (λ t. is_open t.kind) tokens - count_by (λ t. is_close t.kind) tokens
 

@@ -1,6 +1,7 @@
 -- The octets of texts: which separate, and which stand in a Word or between the quotes of a Str.
 use Rattle.std.specs.Prelude.{ℕ, Bool, not, ◌&&◌, ◌||◌, ◌==◌, nat_le}
 
+-- the octet that ends a comment, and separates
 abbrev pub line_feed : ℕ
 line_feed = 0x0A
 
@@ -8,12 +9,15 @@ line_feed = 0x0A
 abbrev pub hash : ℕ
 hash = 0x23
 
+-- the octet in front of and behind the content of a Str
 abbrev pub quote : ℕ
 quote = 0x22
 
+-- the octet of an Open
 abbrev pub open_brace : ℕ
 open_brace = 0x7B
 
+-- the octet of a Close
 abbrev pub close_brace : ℕ
 close_brace = 0x7D
 

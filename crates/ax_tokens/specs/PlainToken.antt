@@ -14,5 +14,6 @@ pub record PlainToken : Type 0 where
 abbrev pub plain_token : Token → PlainToken
 plain_token t = record { kind = t.kind; text = t.text.now; from = t.from; to = t.to }
 
+-- the same of each token
 abbrev pub plain_tokens : List Token → List PlainToken
 plain_tokens ts = map plain_token ts

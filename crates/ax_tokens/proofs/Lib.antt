@@ -1,0 +1,13 @@
+pub mod Prefixes
+pub mod Gaps
+pub mod Fronts
+pub mod Levels
+pub mod Steps
+pub mod Reader
+pub mod Back
+pub mod Answering
+pub mod Once
+pub mod Existence
+pub mod Slices
+pub mod Printed
+pub mod Places

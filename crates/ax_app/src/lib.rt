@@ -2,11 +2,4 @@
 //! `asterix` does.
 #![tactic(auto)]
 
-mod first_form;
-mod gateway;
-mod judge;
-mod outcome;
 mod words;
-
-pub use gateway::run;
-pub use outcome::{Cause, InputFault, Outcome, SpecFault};

@@ -2,4 +2,8 @@
 //! `asterix` does.
 #![tactic(auto)]
 
+mod lines;
+mod outcome;
 mod words;
+
+pub use outcome::{Cause, InputFault, Outcome, SpecFault};

@@ -1,51 +1,70 @@
 -- Texts that are written piece by piece.
-use Rattle.std.proofs.Common.{◌≡◌, ℕ, ◌+◌, ◌<◌, ◌≤◌, List, [], ◌∷◌, ◌++◌, Option, length, take, flat_map, refl, sym, ◌∙◌, ap, arith, append_assoc, append-nil, length-append, Bor}
+use Rattle.std.proofs.Common.{◌≡◌, ℕ, ◌+◌, ◌<◌, ◌≤◌, List, ◌++◌, Option, length, take, refl, sym, ◌∙◌, ap, arith, length-append, Result, Ok, Err, OnOk, OnErr, IsErr, [], subst}
 use Rattle.std.proofs.Math.Seq.{take-append-add}
 use Rattle.std.proofs.lemmas.List.{take-append-le}
 use Rattle.ax_outside.specs.Told.{with_end, Rose}
 use Rattle.ax_outside.proofs.Ends.{with_end-nil, with_end-append, Rose-later}
-use Rattle.ax_app.specs.Writing.{GainsPrefix}
+use Rattle.ax_app.specs.Writing.{GainsPrefix, Wrote}
+use Rattle.ax_outside.specs.declared.sinks.SinkFailed.{SinkFailed}
 
--- the text of pieces
-abbrev pub text_of : List (Bor (List ℕ)) → List ℕ
-text_of pieces = flat_map (λ piece. piece.now) pieces
+-- a piece was added, and then another
+two_added : (h h' h'' : Option (List ℕ)) (a b : List ℕ) → h' ≡ with_end h a → h'' ≡ with_end h' b → h'' ≡ with_end h (a ++ b)
+two_added h h' h'' a b e f = f ∙ ap (λ t. with_end t b) e ∙ with_end-append h a b
 
--- a front of the text was added, and these pieces are left of it
-pub record WrittenTo (held held' : Option (List ℕ)) (faults faults' : ℕ) (text : List ℕ) (rest : List (Bor (List ℕ))) : Type 0 where
-  pub front : List ℕ
-  pub split : text ≡ front ++ text_of rest
-  pub gained : held' ≡ with_end held front
-  pub later : faults ≤ faults'
+-- a piece failed
+first_cut : (h h' : Option (List ℕ)) (f f' : ℕ) (a : List ℕ) → (n : ℕ) × (n < length a) × (h' ≡ with_end h (take n a)) → Rose f f' → GainsPrefix h h' f f' a
+first_cut h h' f f' a (n, less, e) rose = record { count = n; within = omega arith; gained = e; rose = rose }
 
-pub begun : (held : Option (List ℕ)) (faults : ℕ) (pieces : List (Bor (List ℕ))) → WrittenTo held held faults faults (text_of pieces) pieces
-begun held faults pieces = record { front = []; split = refl; gained = sym (with_end-nil held); later = omega arith }
-
-pub one_more : (held held' held'' : Option (List ℕ)) (faults faults' faults'' : ℕ) (text : List ℕ) (piece : Bor (List ℕ)) (rest pieces : List (Bor (List ℕ)))
-    → pieces ≡ piece ∷ rest → WrittenTo held held' faults faults' text pieces → held'' ≡ with_end held' piece.now → faults' ≤ faults'' → WrittenTo held held'' faults faults'' text rest
-one_more held held' held'' faults faults' faults'' text piece rest pieces e w g f = record {
-    front = w.front ++ piece.now;
-    split = w.split ∙ ap (λ ps. w.front ++ text_of ps) e ∙ sym (append_assoc w.front piece.now (text_of rest));
-    gained = g ∙ ap (λ h. with_end h piece.now) w.gained ∙ with_end-append held w.front piece.now;
-    later = (let l : faults ≤ faults' = w.later in omega arith);
-  }
-
-pub all_written : (held held' : Option (List ℕ)) (faults faults' : ℕ) (text : List ℕ) (rest : List (Bor (List ℕ))) → rest ≡ [] → WrittenTo held held' faults faults' text rest → held' ≡ with_end held text
-all_written held held' faults faults' text rest e w = w.gained ∙ ap (with_end held) (sym (append-nil w.front) ∙ ap (λ ps. w.front ++ text_of ps) (sym e) ∙ sym w.split)
-
-pub cut_short : (held held' held'' : Option (List ℕ)) (faults faults' faults'' : ℕ) (text : List ℕ) (piece : Bor (List ℕ)) (rest pieces : List (Bor (List ℕ))) (n : ℕ)
-    → pieces ≡ piece ∷ rest → WrittenTo held held' faults faults' text pieces → n < length piece.now → held'' ≡ with_end held' (take n piece.now) → Rose faults' faults'' → GainsPrefix held held'' faults faults'' text
-cut_short held held' held'' faults faults' faults'' text piece rest pieces n e w less g f =
-    let l : faults ≤ faults' = w.later in
-    let whole : text ≡ w.front ++ (piece.now ++ text_of rest) = w.split ∙ ap (λ ps. w.front ++ text_of ps) e in
-    let part : take (length w.front + n) text ≡ w.front ++ take n piece.now
-    = ap (take (length w.front + n)) whole ∙ take-append-add w.front (piece.now ++ text_of rest) n ∙ ap (λ x. w.front ++ x) (take-append-le n piece.now (text_of rest) (omega arith)) in
-    let long : length text ≡ length w.front + (length piece.now + length (text_of rest))
-    = ap length whole ∙ length-append w.front (piece.now ++ text_of rest) ∙ ap (λ k. length w.front + k) (length-append piece.now (text_of rest)) in
+-- what comes behind a text that was cut isn't there
+cut_before : (h h' : Option (List ℕ)) (f f' : ℕ) (a b : List ℕ) → GainsPrefix h h' f f' a → GainsPrefix h h' f f' (a ++ b)
+cut_before h h' f f' a b g =
+    let within : g.count ≤ length a = g.within in
+    let long : length (a ++ b) ≡ length a + length b = length-append a b in
     record {
-      count = length w.front + n;
+      count = g.count;
       within = omega arith;
-      gained = g ∙ ap (λ h. with_end h (take n piece.now)) w.gained ∙ with_end-append held w.front (take n piece.now) ∙ ap (with_end held) (sym part);
-      rose = Rose-later l f;
+      gained = g.gained ∙ ap (with_end h) (sym (take-append-le g.count a b within));
+      rose = g.rose;
     }
 
-pub ruleset pieces = (begun, one_more, all_written, cut_short)
+-- a text was added, and the one behind it was cut
+cut_behind : (h h' h'' : Option (List ℕ)) (f f' f'' : ℕ) (a b : List ℕ) → h' ≡ with_end h a → f ≤ f' → GainsPrefix h' h'' f' f'' b → GainsPrefix h h'' f f'' (a ++ b)
+cut_behind h h' h'' f f' f'' a b e l g =
+    let within : g.count ≤ length b = g.within in
+    let long : length (a ++ b) ≡ length a + length b = length-append a b in
+    record {
+      count = length a + g.count;
+      within = omega arith;
+      gained = g.gained ∙ ap (λ t. with_end t (take g.count b)) e ∙ with_end-append h a (take g.count b) ∙ ap (with_end h) (sym (take-append-add a b g.count));
+      rose = Rose-later l g.rose;
+    }
+
+-- what a call that writes a piece says
+pub piece_written : (h h' : Option (List ℕ)) (f f' : ℕ) (r : Result Unit SinkFailed) (a : List ℕ)
+    → OnOk r (h' ≡ with_end h a) → OnErr r ((n : ℕ) × (n < length a) × (h' ≡ with_end h (take n a))) → OnErr r (Rose f f') → f ≤ f' → Wrote h h' f f' r a
+piece_written h h' f f' (Ok u) a whole prefix rose later = record { whole = whole; prefix = prefix; later = later }
+piece_written h h' f f' (Err e) a whole prefix rose later = record { whole = whole; prefix = first_cut h h' f f' a prefix rose; later = later }
+
+-- a text, and another behind it
+pub written_then : (h h' h'' : Option (List ℕ)) (f f' f'' : ℕ) (u : Unit) (r : Result Unit SinkFailed) (a b : List ℕ) → Wrote h h' f f' (Ok u) a → Wrote h' h'' f' f'' r b → Wrote h h'' f f'' r (a ++ b)
+written_then h h' h'' f f' f'' u (Ok t) a b v w =
+    let l : f ≤ f' = v.later in let m : f' ≤ f'' = w.later in
+    record { whole = two_added h h' h'' a b v.whole w.whole; prefix = w.prefix; later = omega arith }
+written_then h h' h'' f f' f'' u (Err e) a b v w =
+    let l : f ≤ f' = v.later in let m : f' ≤ f'' = w.later in
+    record { whole = w.whole; prefix = cut_behind h h' h'' f f' f'' a b v.whole v.later w.prefix; later = omega arith }
+
+-- a text that failed, and another that would stand behind it
+pub failed_before : (h h' : Option (List ℕ)) (f f' : ℕ) (e : SinkFailed) (r : Result Unit SinkFailed) (a b : List ℕ) → IsErr r → Wrote h h' f f' (Err e) a → Wrote h h' f f' r (a ++ b)
+failed_before h h' f f' e (Ok u) a b is w = absurd (cc)
+failed_before h h' f f' e (Err d) a b is w = record { whole = w.whole; prefix = cut_before h h' f f' a b w.prefix; later = w.later }
+
+-- a text that is equal to another
+pub same_text : (h h' : Option (List ℕ)) (f f' : ℕ) (r : Result Unit SinkFailed) (a b : List ℕ) → a ≡ b → Wrote h h' f f' r a → Wrote h h' f f' r b
+same_text h h' f f' r a b e w = let P : List ℕ → Type 0 = λ t. Wrote h h' f f' r t in subst P e w
+
+-- nothing was written
+pub nothing_written : (h : Option (List ℕ)) (f : ℕ) (u : Unit) → Wrote h h f f (Ok u) []
+nothing_written h f u = record { whole = sym (with_end-nil h); prefix = tt; later = omega arith }
+
+pub ruleset pieces = (piece_written, written_then, failed_before, nothing_written)

@@ -10,9 +10,9 @@ use Rattle.ax_app.specs.declared.outcome.Outcome.TheVariants.{Done, Usage, SpecR
 use Rattle.ax_app.specs.declared.outcome.SpecFault.{SpecFault}
 use Rattle.ax_app.specs.declared.outcome.SpecFault.TheVariants.{TooLarge, BadByte, TooDeep, BadToken, Flawed}
 
--- texts joined in order
-abbrev pub joined : List (List ℕ) → List ℕ
-joined texts = flat_map (λ text. text) texts
+-- a text and a number behind it
+abbrev pub numbered : List ℕ → ℕ → List ℕ
+numbered front n = front ++ decimal n
 
 -- a category in three digits
 abbrev pub category_text : ℕ → List ℕ
@@ -44,28 +44,27 @@ cause_name ExtensionPastEnd = codes "ExtensionPastEnd"
 cause_name BadExplicitLength = codes "BadExplicitLength"
 
 abbrev pub flaw_line : ℕ → Flaw → List ℕ
-flaw_line file flaw = joined (codes "flaw file " ∷ decimal file ∷ codes " " ∷ kind_name flaw.kind ∷ codes " " ∷ flaw.path ∷ codes "\n" ∷ [])
+flaw_line file flaw = numbered (codes "flaw file ") file ++ ((codes " " ++ kind_name flaw.kind) ++ (codes " " ++ (flaw.path ++ codes "\n")))
 
 abbrev pub flaw_lines : ℕ → List Flaw → List ℕ
 flaw_lines file flaws = flat_map (λ flaw. flaw_line file flaw) flaws
 
 -- of a refused file
 abbrev pub fault_lines : ℕ → SpecFault → List ℕ
-fault_lines file TooLarge = joined (codes "refused file " ∷ decimal file ∷ codes " TooLarge\n" ∷ [])
-fault_lines file (BadByte at) = joined (codes "refused file " ∷ decimal file ∷ codes " BadByte at " ∷ decimal at ∷ codes "\n" ∷ [])
-fault_lines file (TooDeep token) = joined (codes "refused file " ∷ decimal file ∷ codes " TooDeep token " ∷ decimal token ∷ codes "\n" ∷ [])
-fault_lines file (BadToken token) = joined (codes "refused file " ∷ decimal file ∷ codes " BadToken token " ∷ decimal token ∷ codes "\n" ∷ [])
-fault_lines file (Flawed flaws) = flaw_lines file flaws ++ joined (codes "refused file " ∷ decimal file ∷ codes " Flawed " ∷ decimal (length flaws) ∷ codes "\n" ∷ [])
+fault_lines file TooLarge = numbered (codes "refused file ") file ++ codes " TooLarge\n"
+fault_lines file (BadByte at) = numbered (codes "refused file ") file ++ (numbered (codes " BadByte at ") at ++ codes "\n")
+fault_lines file (TooDeep token) = numbered (codes "refused file ") file ++ (numbered (codes " TooDeep token ") token ++ codes "\n")
+fault_lines file (BadToken token) = numbered (codes "refused file ") file ++ (numbered (codes " BadToken token ") token ++ codes "\n")
+fault_lines file (Flawed flaws) = flaw_lines file flaws ++ (numbered (codes "refused file ") file ++ (numbered (codes " Flawed ") (length flaws) ++ codes "\n"))
 
 abbrev pub lines_of : Outcome → List ℕ
 lines_of (Done blocks) = []
 lines_of Usage = codes "refused usage\n"
 lines_of (SpecRefused file fault) = fault_lines file fault
-lines_of (CategoryTwice file category) = joined (codes "refused file " ∷ decimal file ∷ codes " CategoryTwice " ∷ category_text category ∷ codes "\n" ∷ [])
-lines_of (InputRefused fault) =
-    joined (codes "refused block " ∷ decimal fault.block ∷ codes " bit " ∷ decimal fault.bit ∷ codes " " ∷ cause_name fault.cause ∷ codes "\n" ∷ [])
+lines_of (CategoryTwice file category) = numbered (codes "refused file ") file ++ (codes " CategoryTwice " ++ (category_text category ++ codes "\n"))
+lines_of (InputRefused fault) = numbered (codes "refused block ") fault.block ++ (numbered (codes " bit ") fault.bit ++ (codes " " ++ (cause_name fault.cause ++ codes "\n")))
 lines_of InputTooLong = codes "refused input InputTooLong\n"
-lines_of (LoadFault file) = joined (codes "fault file " ∷ decimal file ∷ codes "\n" ∷ [])
+lines_of (LoadFault file) = numbered (codes "fault file ") file ++ codes "\n"
 lines_of ReadFault = codes "fault read\n"
 lines_of WriteFault = codes "fault write\n"
 lines_of OutOfMemory = codes "refused memory\n"

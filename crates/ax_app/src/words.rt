@@ -69,7 +69,9 @@ fn check_command<'w>(words: &[String], files: &'w [String]) -> Option<Command<'w
     if begins_with_dash(file.as_str()) {
         return None;
     }
-    Some(Command::Check { file: file.as_str() })
+    Some(Command::Check {
+        file: file.as_str(),
+    })
 }
 
 /// Whether the text is that word.

@@ -56,6 +56,9 @@ pub two_presence_octets : SpellsRecord small (entry_and 1 (number 0xaa) (entry_a
 two_presence_octets = record_by_reading small (entry_and 1 (number 0xaa) (entry_and 8 (marked (entry_and 1 (number 0xbb) no_entries)) no_entries)) (0x81 ∷ 0x80 ∷ 0xaa ∷ 0x81 ∷ 0x00 ∷ 0xbb ∷ []) 48
     (lit< tt, (tt, ((lit< tt, (tt, (tt, tt))), tt))) refl
 
+pub no_item_marked : SpellsRecord small no_entries (bits (0x00 ∷ []))
+no_item_marked = record_by_reading small no_entries (0x00 ∷ []) 8 (lit< tt, (tt, ((lit< tt, (tt, (tt, tt))), tt))) refl
+
 -- ---- faults
 
 pub undefined_slot : IsFault eight_slots (bits (0x41 ∷ [])) 1 UndefinedSlot
@@ -64,11 +67,11 @@ undefined_slot = fault eight_slots (0x41 ∷ []) 1 UndefinedSlot (lit< tt, (tt, 
 pub not_missing_octet : IsFault eight_slots (bits (0x41 ∷ [])) 8 RunsOut → ⊥
 not_missing_octet h = absurd (omega (arith, (only_fault eight_slots (0x41 ∷ []) 8 1 RunsOut UndefinedSlot refl h).0))
 
-pub presence_too_long : IsFault eight_slots (bits (0x81 ∷ 0x81 ∷ 0xaa ∷ [])) 15 PresenceTooLong
-presence_too_long = fault eight_slots (0x81 ∷ 0x81 ∷ 0xaa ∷ []) 15 PresenceTooLong (lit< tt, (tt, (tt, tt))) refl
+pub presence_too_long : IsFault eight_slots (bits (0x81 ∷ 0x81 ∷ [])) 15 PresenceTooLong
+presence_too_long = fault eight_slots (0x81 ∷ 0x81 ∷ []) 15 PresenceTooLong (lit< tt, (tt, (tt, tt))) refl
 
-pub not_first_octet : IsFault eight_slots (bits (0x81 ∷ 0x81 ∷ 0xaa ∷ [])) 7 PresenceTooLong → ⊥
-not_first_octet h = absurd (omega (arith, (only_fault eight_slots (0x81 ∷ 0x81 ∷ 0xaa ∷ []) 7 15 PresenceTooLong PresenceTooLong refl h).0))
+pub not_third_octet : IsFault eight_slots (bits (0x81 ∷ 0x81 ∷ [])) 16 RunsOut → ⊥
+not_third_octet h = absurd (omega (arith, (only_fault eight_slots (0x81 ∷ 0x81 ∷ []) 16 15 RunsOut PresenceTooLong refl h).0))
 
 pub extension_past_end : IsFault two_parts (bits (0x03 ∷ 0x55 ∷ [])) 15 ExtensionPastEnd
 extension_past_end = fault two_parts (0x03 ∷ 0x55 ∷ []) 15 ExtensionPastEnd (lit< tt) refl
@@ -91,8 +94,32 @@ not_presence h = absurd (omega (arith, (only_fault (one_subitem (counted octet))
 pub second_cut : IsFault (by_fx (element 15 Raw)) (bits (0x00 ∷ 0x0b ∷ 0x0c ∷ [])) 16 RunsOut
 second_cut = fault (by_fx (element 15 Raw)) (0x00 ∷ 0x0b ∷ 0x0c ∷ []) 16 RunsOut tt refl
 
-pub not_first_occurrence : IsFault (by_fx (element 15 Raw)) (bits (0x00 ∷ 0x0b ∷ 0x0c ∷ [])) 0 RunsOut → ⊥
-not_first_occurrence h = absurd (omega (arith, (only_fault (by_fx (element 15 Raw)) (0x00 ∷ 0x0b ∷ 0x0c ∷ []) 0 16 RunsOut RunsOut refl h).0))
+pub not_where_it_is_cut : IsFault (by_fx (element 15 Raw)) (bits (0x00 ∷ 0x0b ∷ 0x0c ∷ [])) 24 RunsOut → ⊥
+not_where_it_is_cut h = absurd (omega (arith, (only_fault (by_fx (element 15 Raw)) (0x00 ∷ 0x0b ∷ 0x0c ∷ []) 24 16 RunsOut RunsOut refl h).0))
+
+pub second_counted : IsFault (counted octet) (bits (0x02 ∷ 0xaa ∷ [])) 16 RunsOut
+second_counted = fault (counted octet) (0x02 ∷ 0xaa ∷ []) 16 RunsOut tt refl
+
+pub not_first_counted : IsFault (counted octet) (bits (0x02 ∷ 0xaa ∷ [])) 8 RunsOut → ⊥
+not_first_counted h = absurd (omega (arith, (only_fault (counted octet) (0x02 ∷ 0xaa ∷ []) 8 16 RunsOut RunsOut refl h).0))
+
+pub content_cut : IsFault explicit (bits (0x03 ∷ 0xaa ∷ [])) 8 RunsOut
+content_cut = fault explicit (0x03 ∷ 0xaa ∷ []) 8 RunsOut tt refl
+
+pub not_the_length : IsFault explicit (bits (0x03 ∷ 0xaa ∷ [])) 0 RunsOut → ⊥
+not_the_length h = absurd (omega (arith, (only_fault explicit (0x03 ∷ 0xaa ∷ []) 0 8 RunsOut RunsOut refl h).0))
+
+pub part_missing : IsFault two_parts (bits (0x03 ∷ [])) 8 RunsOut
+part_missing = fault two_parts (0x03 ∷ []) 8 RunsOut (lit< tt) refl
+
+pub not_first_part : IsFault two_parts (bits (0x03 ∷ [])) 0 RunsOut → ⊥
+not_first_part h = absurd (omega (arith, (only_fault two_parts (0x03 ∷ []) 0 8 RunsOut RunsOut refl h).0))
+
+pub past_the_last : IsFault spare_between (bits (0x30 ∷ 0xaa ∷ [])) 3 UndefinedSlot
+past_the_last = fault spare_between (0x30 ∷ 0xaa ∷ []) 3 UndefinedSlot (lit< tt, (tt, (tt, tt))) refl
+
+pub not_the_last : IsFault spare_between (bits (0x30 ∷ 0xaa ∷ [])) 2 UndefinedSlot → ⊥
+not_the_last h = absurd (omega (arith, (only_fault spare_between (0x30 ∷ 0xaa ∷ []) 2 3 UndefinedSlot UndefinedSlot refl h).0))
 
 pub unit_cut : IsFault (one_subitem two_octets) (bits (0x80 ∷ 0x19 ∷ [])) 8 RunsOut
 unit_cut = fault (one_subitem two_octets) (0x80 ∷ 0x19 ∷ []) 8 RunsOut (lit< tt, (tt, tt)) refl

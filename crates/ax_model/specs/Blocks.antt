@@ -1,4 +1,4 @@
--- Data blocks, and streams of them (data blocks). An octet and a category are numbers below 256.
+-- Data blocks and streams of them. Octets and categories are taken to be numbers below 256.
 use Rattle.std.specs.Prelude.{◌≡◌, ℕ, ◌+◌, ◌*◌, ◌<◌, List, [], ◌∷◌, ◌++◌, length, Some, None}
 use Rattle.std.specs.List.{AllByRecursion}
 use Rattle.ax_bits.specs.Bits.{bits}

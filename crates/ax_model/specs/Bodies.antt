@@ -37,7 +37,8 @@ pub record SpellsBody (spec : SpecTree) (records : List EntriesTree) (b : List �
 abbrev pub CanonBody : SpecTree → List EntriesTree → List ℕ
 CanonBody spec records = flat_map (λ r. CanonRecord spec r) records
 
--- some records, perhaps none, are spelled before; more bits are left, and a record fails on them
+-- some records, perhaps none, are spelled before; more bits are left, and a record fails on them; p is counted from the
+-- body's first bit
 pub record FailsBody (spec : SpecTree) (b : List ℕ) (p : ℕ) (c : BodyCause) : Type 0 where
   pub records : List EntriesTree
   pub before : List ℕ

@@ -11,8 +11,8 @@ use Rattle.ax_model.specs.declared.fault.BodyCause.TheVariants.{RunsOut, Undefin
 
 -- ---- presence fields
 
--- the presence field of at most k octets over these slots: after octets with FX 1 and no undefined mark, an octet is
--- missing, or marks an undefined slot, or is the last that the slots need and has FX 1
+-- the presence field of at most k octets over these slots: after octets with FX 1 and no undefined mark, an octet isn't
+-- there whole, or marks an undefined slot, or is the last that the slots need and has FX 1
 abbrev pub PresenceFails : ℕ → List Bool → List ℕ → ℕ → BodyCause → Type 0
 PresenceFails zero ds b p c = ⊥
 PresenceFails (suc k) ds b p c =

@@ -1,4 +1,4 @@
--- Kinds that some bits spell: each extended kind has a part, and each compound a slot, at every depth.
+-- Sound kinds: each extended kind has a part, and each compound a slot, at every depth. Without that it neither spells nor fails.
 use Rattle.std.specs.Prelude.{◌<◌, length}
 use Rattle.ax_model.specs.Tree.{KindTree, fixed, extended, counted, by_fx, explicit, compound, SlotsTree, no_slots, slot_and, spare_slot, subitem, slot_count}
 

@@ -88,6 +88,19 @@ pub fn record_with_two_presence_octets()
     ensures canonical { CanonRecord small (entry_and 1 (number 0xaa) (entry_and 8 (marked (entry_and 1 (number 0xbb) no_entries)) no_entries)) ≡ bits (0x81 ∷ 0x80 ∷ 0xaa ∷ 0x80 ∷ 0xbb ∷ []) }
 {}
 
+/// A record that marks no slot.
+#[tactic(auto, using(crate::proofs::WorkedExamples::no_item_marked))]
+pub fn record_with_no_item()
+    ensures accepted { SpellsRecord small no_entries (bits (0x00 ∷ [])) }
+    ensures canonical { CanonRecord small no_entries ≡ bits (0x00 ∷ []) }
+{}
+
+/// The canonical spelling keeps a spare bit that is set, and a last part of zeros.
+pub fn spare_bits_and_zeros_are_kept()
+    ensures spare { canon nested_group (member_values (values_of (number 5 ∷ number 1 ∷ member_values (values_of (number 2 ∷ number 1 ∷ [])) ∷ []))) ≡ bits (0xb9 ∷ []) }
+    ensures zeros { canon two_parts (part_values (lists_of ((number 1 ∷ []) ∷ (number 0 ∷ number 0 ∷ []) ∷ []))) ≡ bits (0x03 ∷ 0x00 ∷ []) }
+{}
+
 // ---- faults: each with a place or a cause beside it that doesn't hold
 
 /// Slot 2 is marked and spare, and the next presence octet is missing.
@@ -98,10 +111,10 @@ pub fn undefined_slot_before_the_missing_octet()
 {}
 
 /// Eight slots need two presence octets, and the second has FX.
-#[tactic(auto, using(crate::proofs::WorkedExamples::presence_too_long, crate::proofs::WorkedExamples::not_first_octet))]
+#[tactic(auto, using(crate::proofs::WorkedExamples::presence_too_long, crate::proofs::WorkedExamples::not_third_octet))]
 pub fn fx_in_the_last_presence_octet()
-    ensures fails { IsFault eight_slots (bits (0x81 ∷ 0x81 ∷ 0xaa ∷ [])) 15 PresenceTooLong }
-    ensures not_first { IsFault eight_slots (bits (0x81 ∷ 0x81 ∷ 0xaa ∷ [])) 7 PresenceTooLong → ⊥ }
+    ensures fails { IsFault eight_slots (bits (0x81 ∷ 0x81 ∷ [])) 15 PresenceTooLong }
+    ensures not_missing { IsFault eight_slots (bits (0x81 ∷ 0x81 ∷ [])) 16 RunsOut → ⊥ }
 {}
 
 /// The second of two parts has FX.
@@ -126,10 +139,10 @@ pub fn counter_at_the_end()
 {}
 
 /// The first occurrence has FX 1, and the second is cut.
-#[tactic(auto, using(crate::proofs::WorkedExamples::second_cut, crate::proofs::WorkedExamples::not_first_occurrence))]
+#[tactic(auto, using(crate::proofs::WorkedExamples::second_cut, crate::proofs::WorkedExamples::not_where_it_is_cut))]
 pub fn second_occurrence_cut()
     ensures fails { IsFault (by_fx (element 15 Raw)) (bits (0x00 ∷ 0x0b ∷ 0x0c ∷ [])) 16 RunsOut }
-    ensures not_first { IsFault (by_fx (element 15 Raw)) (bits (0x00 ∷ 0x0b ∷ 0x0c ∷ [])) 0 RunsOut → ⊥ }
+    ensures not_at_the_cut { IsFault (by_fx (element 15 Raw)) (bits (0x00 ∷ 0x0b ∷ 0x0c ∷ [])) 24 RunsOut → ⊥ }
 {}
 
 /// An element of two octets of which one is there: the fault stands at the element's first bit, not where the bits end.
@@ -137,6 +150,34 @@ pub fn second_occurrence_cut()
 pub fn unit_cut_in_its_middle()
     ensures fails { IsFault (one_subitem two_octets) (bits (0x80 ∷ 0x19 ∷ [])) 8 RunsOut }
     ensures not_at_the_cut { IsFault (one_subitem two_octets) (bits (0x80 ∷ 0x19 ∷ [])) 16 RunsOut → ⊥ }
+{}
+
+/// A counter of 2, and one occurrence.
+#[tactic(auto, using(crate::proofs::WorkedExamples::second_counted, crate::proofs::WorkedExamples::not_first_counted))]
+pub fn fewer_occurrences_than_the_counter()
+    ensures fails { IsFault (counted octet) (bits (0x02 ∷ 0xaa ∷ [])) 16 RunsOut }
+    ensures not_first { IsFault (counted octet) (bits (0x02 ∷ 0xaa ∷ [])) 8 RunsOut → ⊥ }
+{}
+
+/// A length octet that counts two octets of content, and one of them.
+#[tactic(auto, using(crate::proofs::WorkedExamples::content_cut, crate::proofs::WorkedExamples::not_the_length))]
+pub fn explicit_content_cut()
+    ensures fails { IsFault explicit (bits (0x03 ∷ 0xaa ∷ [])) 8 RunsOut }
+    ensures not_the_length { IsFault explicit (bits (0x03 ∷ 0xaa ∷ [])) 0 RunsOut → ⊥ }
+{}
+
+/// The first part has FX 1, and no second part is there.
+#[tactic(auto, using(crate::proofs::WorkedExamples::part_missing, crate::proofs::WorkedExamples::not_first_part))]
+pub fn second_part_missing()
+    ensures fails { IsFault two_parts (bits (0x03 ∷ [])) 8 RunsOut }
+    ensures not_first { IsFault two_parts (bits (0x03 ∷ [])) 0 RunsOut → ⊥ }
+{}
+
+/// Slot 4 of three is marked.
+#[tactic(auto, using(crate::proofs::WorkedExamples::past_the_last, crate::proofs::WorkedExamples::not_the_last))]
+pub fn slot_past_the_last()
+    ensures fails { IsFault spare_between (bits (0x30 ∷ 0xaa ∷ [])) 3 UndefinedSlot }
+    ensures not_the_last { IsFault spare_between (bits (0x30 ∷ 0xaa ∷ [])) 2 UndefinedSlot → ⊥ }
 {}
 
 /// The second record of a body marks a spare slot. The fault is counted from the body's first bit.

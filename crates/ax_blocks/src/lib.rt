@@ -1,13 +1,12 @@
-// A library with one function.
+//! Data blocks of an input, however its source cuts it.
+//!
+//! A block is CAT, LEN in two octets, and a body. The reader gives each whole block in turn, then the end of the input
+//! or the first fault of framing, with its bit.
 #![tactic(auto)]
 
-ghost use Rattle.std.specs.Prelude.{◌≡◌};
-ghost use Rattle.ax_blocks.specs.Echo.{echo_of};
+mod framing;
+mod next_error;
+mod reader;
 
-// The `ensures` clause is the contract: what `echo` returns is `echo_of` of its argument, a definition
-// in `specs/Echo.antt`, which a caller's clause can cite too.
-pub fn echo(x: usize) -> usize
-    ensures { result ≡ echo_of x }
-{
-    x
-}
+pub use next_error::NextError;
+pub use reader::BlockReader;

@@ -65,6 +65,29 @@ FramingEnds limit before rest (ends_in_header bit) = HeaderIsCut limit before re
 FramingEnds limit before rest bad_len = LenIsBad limit before rest
 FramingEnds limit before rest (ends_in_block bit) = BlockIsCut limit before rest bit
 
+-- the rest begins with the octets of this block, of a LEN of at least 4, and the limit allows them
+pub record BeginsWithBlock (limit before : ℕ) (rest : List ℕ) (raw : RawTree) : Type 0 where
+  pub front : List ℕ
+  pub after : List ℕ
+  pub split : rest ≡ front ++ after
+  pub framed : IsFramed raw.category raw.body front
+  pub some : 0 < length raw.body
+  pub within : before + length front ≤ limit
+
+-- what comes next in an input: a block, or the end of framing
+pub data NextPart : Type 0 where
+  block : RawTree → NextPart
+  end : FramingEnd → NextPart
+
+abbrev pub IsNext : ℕ → ℕ → List ℕ → NextPart → Type 0
+IsNext limit before rest (block raw) = BeginsWithBlock limit before rest raw
+IsNext limit before rest (end e) = FramingEnds limit before rest e
+
+-- this comes next, and nothing else
+pub record IsJustNext (limit before : ℕ) (rest : List ℕ) (part : NextPart) : Type 0 where
+  pub is : IsNext limit before rest part
+  pub just : (other : NextPart) → IsNext limit before rest other → other ≡ part
+
 -- the octets join these whole blocks, which the limit allows, and a rest at which framing ends so
 pub record Framed (octets : List ℕ) (limit : ℕ) (raws : List RawTree) (end : FramingEnd) : Type 0 where
   pub front : List ℕ

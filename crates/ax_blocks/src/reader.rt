@@ -1,0 +1,111 @@
+//! The block reader.
+ghost use Rattle.std.specs.Prelude.{◌≡◌, IfOk, length};
+
+use crate::framing::{next_length, raw_block};
+use crate::next_error::NextError;
+use ax_model::RawBlock;
+use ax_outside::Source;
+use std::alloc::{AllocError, Global};
+use std::marker::Model;
+
+/// How a reader has ended, which it answers from then on.
+#[derive(Clone, Copy)]
+pub enum Ended {
+    EndOfInput,
+    Refused(NextError),
+}
+
+/// A reader of data blocks, with room for the longest one.
+#[derive(Drop)]
+pub struct BlockReader {
+    buffer: Vec<u8>,
+    limit: u64,
+    given: u64,
+    ended: Option<Ended>,
+}
+
+impl Model for BlockReader {
+    ghost use Rattle.std.specs.Prelude.{◌≡◌, ◌≤◌, length};
+    ghost use Rattle.ax_blocks.specs.Reader.{ReaderState};
+
+    ghost Value = { ReaderState };
+
+    ghost view = { λ r. record { limit = r.limit; given = r.given; ended = r.ended } };
+
+    ghost invariant = { λ r. (length r.buffer.items ≡ 65535) × (r.given ≤ r.limit) };
+}
+
+impl BlockReader {
+    ghost use Rattle.std.specs.Prelude.{◌≡◌, ◌+◌, ◌≤◌, ◌<◌, Some, None, IfOk, IfSome};
+    ghost use Rattle.std.specs.Borrow.{sem};
+    ghost use Rattle.std.specs.Io.BufRead.{Rests};
+    ghost use Rattle.ax_blocks.specs.Reader.{IsAfter, IsOpen, raw_tree, ended_by, OnBlock, OnEnd, OnTooLong, OnReadFault, GivesBlock, FindsEnd, StopsUnfinished};
+    ghost use Rattle.ax_outside.specs.Told.{Rose};
+    ghost use Rattle.ax_blocks.specs.contracts.reader.BlockReader.{the_row};
+
+    /// A reader of an input of at most `limit` octets.
+    pub fn new(alloc: Global, limit: u64) -> Result<BlockReader, AllocError>
+        ensures { IfOk result (λ reader. reader ≡ record { limit = limit; given = 0; ended = None }) }
+    {
+        let buffer = zeros(alloc, LONGEST)?;
+        Ok(BlockReader {
+            buffer,
+            limit,
+            given: 0,
+            ended: None,
+        })
+    }
+
+    /// The next block of the input, or None exactly where the input ends at a block's border. It takes no memory, and asks
+    /// only for octets that the header, and then the block, still needs.
+    ///
+    /// - `InputTooLong` exactly where the header, or the block, contains the octet behind the limit, and it is there; of a
+    ///   source that doesn't tell its octets, only where the number of those taken passes the limit.
+    /// - `EndsInHeader`, `BadLen` and `EndsInBlock` exactly where one or two octets are left, where LEN is below 4, and
+    ///   where fewer octets than LEN are left.
+    /// - `ReadFault` only where the source counted a fault in this call; some octets of a block were taken then.
+    ///
+    /// After None or a refusal it gives the same answer again, and takes nothing.
+    pub fn next<'b, S: Source>(
+        &'b mut self,
+        source: &mut S,
+    ) -> Result<Option<RawBlock<'b>>, NextError>
+        ensures* after { sem 𝓛 (Rests the_row self.entry (λ new. IsAfter self.old result new)) }
+        ensures again { IfSome self.old.ended (λ ended. (ended_by result ≡ Some ended) × (source.new ≡ source.old)) }
+        ensures block { IsOpen self.old → OnBlock result (λ raw. GivesBlock self.old.limit self.old.given (S.left source.old) (S.left source.new) (S.taken source.old) (S.taken source.new) (raw_tree raw)) }
+        ensures end { IsOpen self.old → OnEnd result (FindsEnd self.old.limit self.old.given (S.left source.old) (S.left source.new) (S.taken source.old) (S.taken source.new)) }
+        ensures past_limit { IsOpen self.old → OnTooLong result (self.old.limit + S.taken source.old < self.old.given + S.taken source.new) }
+        ensures fault { IsOpen self.old → OnReadFault result (StopsUnfinished self.old.limit self.old.given (S.left source.old) (S.left source.new) (S.taken source.old) (S.taken source.new)) }
+        ensures rose { IsOpen self.old → OnReadFault result (Rose (S.faults source.old) (S.faults source.new)) }
+        ensures never_falls { S.faults source.old ≤ S.faults source.new }
+    {
+        match self.ended {
+            Some(Ended::EndOfInput) => return Ok(None),
+            Some(Ended::Refused(error)) => return Err(error),
+            None => {}
+        }
+        match next_length(source, &mut self.buffer, self.limit, self.given) {
+            Ok(Some(length)) => {
+                self.given += length as u64;
+                Ok(Some(raw_block(&self.buffer, length)))
+            }
+            Ok(None) => {
+                self.ended = Some(Ended::EndOfInput);
+                Ok(None)
+            }
+            Err(error) => {
+                self.ended = Some(Ended::Refused(error));
+                Err(error)
+            }
+        }
+    }
+}
+
+/// The most octets of a block.
+const LONGEST: usize = 65_535;
+
+fn zeros(alloc: Global, count: usize) -> Result<Vec<u8>, AllocError>
+    ensures { IfOk result (λ made. length made.items ≡ count) }
+{
+    vec![in alloc; 0; count]
+}

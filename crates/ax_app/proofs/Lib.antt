@@ -1,3 +1,5 @@
 pub mod FlawLines
 pub mod Pieces
+pub mod Runs
+pub mod Streams
 pub mod WordLists

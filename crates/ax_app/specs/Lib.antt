@@ -1,4 +1,6 @@
+pub mod InputEnds
 pub mod Lines
 pub mod Status
+pub mod Stops
 pub mod Words
 pub mod Writing

@@ -85,15 +85,15 @@ octets_behind (x ∷ xs) ys h = octets_behind xs ys h.1
 
 framed_part : (n limit : ℕ) → ((before : ℕ) (rest : List ℕ) → length rest < n → before ≤ limit → AreOctets rest → FramedOn limit before rest) → (before : ℕ) (rest : List ℕ) → length rest < suc n → before ≤ limit → AreOctets rest → (part : NextPart) → IsNext limit before rest part → FramedOn limit before rest
 framed_part n limit on before rest short le are (end e) h = record {
-    raws = [];
-    ending = e;
-    front = [];
-    back = rest;
-    split = refl;
-    blocks = refl;
-    within = omega arith;
-    ends = (let P : ℕ → Type 0 = λ k. FramingEnds limit k rest e in let q : before ≡ before + length {A = ℕ} [] = omega arith in subst P q h);
-  }
+  raws = [];
+  ending = e;
+  front = [];
+  back = rest;
+  split = refl;
+  blocks = refl;
+  within = omega arith;
+  ends = (let P : ℕ → Type 0 = λ k. FramingEnds limit k rest e in let q : before ≡ before + length {A = ℕ} [] = omega arith in subst P q h);
+}
 framed_part n limit on before rest short le are (block raw) h =
     let count : length h.front ≡ 3 + length raw.body = framed_count raw.category raw.body h.front h.framed in
     let long : length rest ≡ length h.front + length h.after = ap length h.split ∙ length-append h.front h.after in

@@ -10,7 +10,9 @@ use Rattle.ax_model.specs.declared.fault.BodyCause.TheVariants as Body
 use Rattle.ax_app.specs.declared.outcome.Cause.{Cause}
 use Rattle.ax_app.specs.declared.outcome.Cause.TheVariants.{EndsInHeader, BadLen, EndsInBlock, RunsOut, UndefinedSlot, PresenceTooLong, ExtensionPastEnd, BadExplicitLength}
 use Rattle.ax_app.specs.declared.outcome.Outcome.{Outcome}
-use Rattle.ax_app.specs.declared.outcome.Outcome.TheVariants.{Done, InputRefused, InputTooLong}
+use Rattle.ax_app.specs.declared.outcome.Outcome.TheVariants.{Done, InputRefused, InputTooLong, ReadFault}
+use Rattle.ax_blocks.specs.declared.next_error.NextError.{NextError}
+use Rattle.ax_blocks.specs.declared.next_error.NextError.TheVariants as NextErrorOf
 
 -- the most octets of an input
 abbrev pub longest_input : ℕ
@@ -45,3 +47,11 @@ pub record StreamEnds (catalogue : List SpecTree) (input : List ℕ) (outcome : 
   pub ends : Ends catalogue input longest_input blocks end
   pub outcome_is : outcome ≡ end_outcome (length blocks) end
   pub written_is : written ≡ CanonBytes catalogue blocks
+
+-- the outcome for a refusal of the block reader, behind this many blocks
+abbrev pub error_outcome : ℕ → NextError → Outcome
+error_outcome blocks NextErrorOf.BadLen = framing_outcome blocks bad_len
+error_outcome blocks (NextErrorOf.EndsInHeader bit) = framing_outcome blocks (ends_in_header bit)
+error_outcome blocks (NextErrorOf.EndsInBlock bit) = framing_outcome blocks (ends_in_block bit)
+error_outcome blocks NextErrorOf.InputTooLong = framing_outcome blocks input_too_long
+error_outcome blocks NextErrorOf.ReadFault = ReadFault

@@ -1,3 +1,4 @@
+pub mod BlockCanon
 pub mod InputEnds
 pub mod Lines
 pub mod Status

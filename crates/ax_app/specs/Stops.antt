@@ -68,3 +68,16 @@ StreamRuns catalogue input before left' held' Usage = ⊥
 StreamRuns catalogue input before left' held' (SpecRefused file fault) = ⊥
 StreamRuns catalogue input before left' held' (CategoryTwice file category) = ⊥
 StreamRuns catalogue input before left' held' (LoadFault file) = ⊥
+
+-- an outcome that a run over a stream may have, whatever the outside tells
+abbrev pub IsOfStream : Outcome → Type 0
+IsOfStream Usage = ⊥
+IsOfStream (SpecRefused file fault) = ⊥
+IsOfStream (CategoryTwice file category) = ⊥
+IsOfStream (LoadFault file) = ⊥
+IsOfStream (Done blocks) = Unit {0}
+IsOfStream (InputRefused fault) = Unit {0}
+IsOfStream InputTooLong = Unit {0}
+IsOfStream ReadFault = Unit {0}
+IsOfStream WriteFault = Unit {0}
+IsOfStream OutOfMemory = Unit {0}

@@ -4,6 +4,7 @@
 
 mod lines;
 mod outcome;
+mod stream;
 mod words;
 
 pub use outcome::{Cause, InputFault, Outcome, SpecFault};

@@ -1,3 +1,4 @@
+pub mod Accepted
 pub mod BlockCanon
 pub mod InputEnds
 pub mod Lines

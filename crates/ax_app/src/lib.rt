@@ -2,6 +2,7 @@
 //! `asterix` does.
 #![tactic(auto)]
 
+mod accepted;
 mod lines;
 mod outcome;
 mod stream;

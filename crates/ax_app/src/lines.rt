@@ -178,7 +178,7 @@ fn write_fault<K: Sink>(sink: &mut K, fault: InputFault) -> Result<(), SinkFaile
 }
 
 /// A category in three digits.
-fn three_digits(category: u8) -> [u8; 3]
+pub fn three_digits(category: u8) -> [u8; 3]
     ensures { result ≡ category_text category }
 {
     [

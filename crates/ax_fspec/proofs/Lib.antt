@@ -1,2 +1,6 @@
+pub mod FieldsRead
 pub mod Halves
+pub mod MaskRead
 pub mod Sets
+pub mod Undefined
+pub mod Windows

@@ -203,3 +203,7 @@ taken_second a b p marks e zero_first h low high =
 
 pub none_taken : (a b : ℕ) (marks : List ℕ) → marks_in a b ≡ marks → a ≡ 0 → b ≡ 0 → slots_of marks ≡ []
 none_taken a b marks e p q = ap slots_of (sym e) ∙ (λ i. slots_of (marks_in (p i) (q i))) ∙ none_of_zero
+
+pub none_of_no_marks : IsTrue (none_marked no_marks)
+unfolding no_marks
+none_of_no_marks = none_zeros 126

@@ -3,6 +3,7 @@
 ghost use Rattle.std.specs.Prelude.{◌≡◌};
 ghost use Rattle.std.specs.Iterator.{YieldsFirst, item_count};
 ghost use Rattle.ax_fspec.specs.Marks.{slots_of};
+ghost use Rattle.ax_fspec.specs.Walk.{slots_left};
 
 use crate::set::Presence;
 
@@ -16,7 +17,7 @@ impl Presence {
     /// The slots of the set, ascending.
     #[inline]
     pub fn slots(&self) -> MarkedSlots
-        ensures { slots_of result.left ≡ slots_of self.now }
+        ensures { slots_left result ≡ slots_of self.now }
     {
         MarkedSlots { left: *self }
     }
@@ -25,9 +26,9 @@ impl Presence {
 impl Iterator for MarkedSlots {
     type Item = u32;
 
-    ghost next_gives = { YieldsFirst (λ slots. slots_of slots.left) };
+    ghost next_gives = { YieldsFirst slots_left };
 
-    ghost remaining = { item_count (λ slots. slots_of slots.left) };
+    ghost remaining = { item_count slots_left };
 
     #[inline]
     fn next(&mut self) -> Option<u32> {

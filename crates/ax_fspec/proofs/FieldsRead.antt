@@ -1,13 +1,13 @@
 -- A presence field read octet by octet.
-use Rattle.std.proofs.Common.{◌≡◌, ◌⊎◌, inl, inr, ℕ, zero, suc, ◌+◌, ◌-◌, ◌*◌, ◌/◌, ◌%◌, ◌<◌, ◌≤◌, Bool, true, false, IsTrue, List, [], ◌∷◌, ◌++◌, length, take, drop, get_or, refl, sym, ◌∙◌, ap, arith, subst, append_assoc, append-nil, length-append}
-use Rattle.std.proofs.lemmas.List.{take-append-drop, drop_more, drop_all, take_all}
+use Rattle.std.proofs.Common.{◌≡◌, inl, inr, ℕ, zero, suc, ◌+◌, ◌-◌, ◌*◌, ◌/◌, ◌%◌, ◌<◌, ◌≤◌, Bool, IsTrue, List, [], ◌∷◌, ◌++◌, length, take, drop, get_or, refl, sym, ◌∙◌, ap, arith, subst, append_assoc, append-nil, length-append}
+use Rattle.std.proofs.lemmas.List.{take-append-drop, drop_more, take_all}
 use Rattle.ax_bits.proofs.Words.{bits-append, word-AreBits}
 use Rattle.ax_bits.proofs.Pieces.{word-last, bits_more}
 use Rattle.ax_fspec.specs.Marks.{seven}
 use Rattle.ax_fspec.proofs.Sets.{length-seven}
 use Rattle.ax_bits.specs.Bits.{AreBits, word, bits}
 use Rattle.ax_model.specs.Failing.{PresenceFails, IsPresence}
-use Rattle.ax_model.specs.Presence.{Presence, none_marked, IsDefined, later_slots, slots_past, NoneUndefined, FirstUndefined}
+use Rattle.ax_model.specs.Presence.{Presence, none_marked, later_slots, slots_past, NoneUndefined, FirstUndefined}
 use Rattle.ax_model.specs.declared.fault.BodyCause.{BodyCause}
 use Rattle.ax_model.specs.declared.fault.BodyCause.TheVariants.{RunsOut, UndefinedSlot, PresenceTooLong}
 

@@ -1,8 +1,8 @@
 -- The marks of 63 slots, read and changed in the bits of a number.
-use Rattle.std.proofs.Common.{◌⊎◌, inl, inr, add-zero, ◌≡◌, ℕ, zero, suc, ◌+◌, ◌-◌, ◌*◌, ◌/◌, ◌%◌, ◌^◌, ◌<◌, ◌≤◌, ◌==◌, Bool, true, false, not, IsTrue, List, [], ◌∷◌, ◌++◌, length, take, drop, set, get_or, replicate, bit_and, bit_or, refl, sym, ◌∙◌, ap, arith, subst, append_assoc, append-nil, length-append}
-use Rattle.std.proofs.lemmas.Nat.{shl_whole, pow_below, or_lt, one_shl, and_mask, or_block, or_shifted, shr_split, shl_below, pow_pos, pow-add, mod-pow-add, mod_below, div-mul-add, mod-mul-add, leading_top, div_below, shr_below}
-use Rattle.std.proofs.lemmas.List.{take_at, drop_at, get_or_at, set_at, length-take-le}
-use Rattle.std.proofs.Math.Nat.{div-div-eq-div-mul, mod-eq_of_lt, pow-suc, add_comm}
+use Rattle.std.proofs.Common.{◌⊎◌, inl, inr, add-zero, ◌≡◌, ℕ, zero, suc, ◌+◌, ◌-◌, ◌*◌, ◌/◌, ◌%◌, ◌^◌, ◌<◌, ◌≤◌, ◌==◌, not, IsTrue, List, [], ◌∷◌, ◌++◌, length, take, drop, set, get_or, replicate, bit_and, bit_or, refl, sym, ◌∙◌, ap, arith, append_assoc, append-nil}
+use Rattle.std.proofs.lemmas.Nat.{shl_whole, pow_below, or_lt, one_shl, and_mask, or_block, or_shifted, shr_split, shl_below, pow_pos, mod-pow-add, mod_below, div-mul-add, mod-mul-add, leading_top, div_below}
+use Rattle.std.proofs.lemmas.List.{take_at, drop_at, get_or_at, set_at}
+use Rattle.std.proofs.Math.Nat.{div-div-eq-div-mul, mod-eq_of_lt, pow-suc}
 use Rattle.std.proofs.lemmas.Bool.{cases_lt, eq-eqb, ne_eqb, eqb-true}
 use Rattle.std.proofs.Math.Pow.{pow_mono}
 use lib.Count.{count_leading_zeros}

@@ -1,4 +1,5 @@
 pub mod FieldsRead
+pub mod FieldsWritten
 pub mod Halves
 pub mod MaskRead
 pub mod Sets

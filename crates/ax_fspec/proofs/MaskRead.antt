@@ -1,8 +1,8 @@
 -- A presence field read from a body, over the slots of a mask.
-use Rattle.std.proofs.Common.{◌≡◌, ℕ, ◌+◌, ◌-◌, ◌*◌, ◌/◌, ◌%◌, ◌<◌, ◌≤◌, Bool, IsTrue, List, ◌++◌, length, take, drop, get_or, refl, sym, ◌∙◌, ap, arith, subst, length-drop}
-use Rattle.std.proofs.lemmas.List.{get_or-drop, length-take-le}
+use Rattle.std.proofs.Common.{◌≡◌, ℕ, ◌+◌, ◌-◌, ◌*◌, ◌/◌, ◌%◌, ◌<◌, ◌≤◌, Bool, IsTrue, List, ◌++◌, length, take, drop, get_or, sym, ◌∙◌, ap, arith, subst, length-drop}
+use Rattle.std.proofs.lemmas.List.{get_or-drop}
 use Rattle.ax_bits.specs.Bits.{bits}
-use Rattle.ax_model.specs.Failing.{PresenceFails, IsPresence, IsPresenceFault}
+use Rattle.ax_model.specs.Failing.{PresenceFails, IsPresence}
 use Rattle.ax_model.specs.Presence.{octets_needed, none_marked, NoneUndefined, FirstUndefined, slots_past}
 use Rattle.ax_model.specs.declared.fault.BodyCause.{BodyCause}
 use Rattle.ax_model.specs.declared.fault.BodyCause.TheVariants.{RunsOut, UndefinedSlot, PresenceTooLong}

@@ -1,13 +1,13 @@
 -- The marks of a set, of which 63 stand in each of two numbers.
-use Rattle.std.proofs.Common.{◌≡◌, ◌≢◌, lit<, ◌↔◌, ℕ, zero, suc, ◌+◌, ◌-◌, ◌*◌, ◌^◌, ◌<◌, ◌≤◌, ◌==◌, ◌&&◌, Bool, true, false, not, IsTrue, List, [], ◌∷◌, ◌++◌, length, take, drop, set, get_or, replicate, refl, sym, ◌∙◌, ap, arith, length-append}
-use Rattle.std.proofs.lemmas.List.{set_at, length-replicate, get_or_append_left, get_or-append_right, get_or_past, set-append_left, set-append_right, take-append-le, drop-append-le, take-take, length-take-le, length-drop, append_assoc, replicate-append-replicate, take_at, drop_at}
-use Rattle.std.proofs.lemmas.Bool.{ne_eqb}
+use Rattle.std.proofs.Common.{◌≡◌, ◌≢◌, ◌⊎◌, inl, inr, lit<, ◌↔◌, ℕ, zero, suc, ◌+◌, ◌-◌, ◌*◌, ◌^◌, ◌<◌, ◌≤◌, ◌==◌, ◌&&◌, Bool, true, false, not, IsTrue, List, [], ◌∷◌, ◌++◌, length, take, drop, set, get_or, replicate, refl, sym, ◌∙◌, ap, arith, length-append}
+use Rattle.std.proofs.lemmas.List.{drop_all, set_at, length-replicate, get_or_append_left, get_or-append_right, get_or_past, set-append_left, set-append_right, take-append-le, drop-append-le, length-take-le, length-drop, append_assoc, replicate-append-replicate, take_at, drop_at}
+use Rattle.std.proofs.lemmas.Bool.{ne_eqb, cases_lt}
 use Rattle.std.proofs.Math.Seq.{take-append-add, drop-append-add}
 use Rattle.ax_bits.specs.Bits.{word}
 use Rattle.ax_bits.proofs.Words.{length-word}
 use Rattle.ax_model.specs.Presence.{none_marked}
 use Rattle.ax_fspec.specs.Marks.{half, seven, marks_in, no_marks, IsMarked, slots_of}
-use Rattle.ax_fspec.proofs.Halves.{first_mark_at, first_of_first, first_of_second, none_of_zero, length-half, zeros, half-is, none_half, none_marked-word}
+use Rattle.ax_fspec.proofs.Halves.{first_mark_at, first_of_first, first_of_second, none_of_zero, length-half, zeros, half-is, none_half}
 
 pub length-marks_in : (a b : ℕ) → length (marks_in a b) ≡ 126
 length-marks_in a b = omega (arith, length-append (half a) (half b), length-half a, length-half b)
@@ -121,6 +121,17 @@ behind_in_first a b o marks r e h z f =
 
 pub behind_in_second : (a b o : ℕ) (marks : List ℕ) (r : Bool) → marks_in a b ≡ marks → 9 ≤ o → r ≡ not (none_marked (drop (7 * (o - 9) + 7) (half b))) → r ≡ not (none_marked (drop (7 * o + 7) marks))
 behind_in_second a b o marks r e h f = f ∙ ap (λ k. not (none_marked k)) (sym (drop_in_second a b (7 * o + 7) (7 * (o - 9) + 7) marks e (omega arith)))
+
+behind_last_at : (b o : ℕ) → o < 18 → (o < 17) ⊎ (17 ≤ o) → not (none_marked (drop (7 * (o - 9) + 7) (half b))) ≡ true → o < 17
+behind_last_at b o h (inl lt) t = lt
+behind_last_at b o h (inr ge) t =
+    let last : 7 * (o - 9) + 7 ≡ 63 = omega arith in
+    let none : drop (7 * (o - 9) + 7) (half b) ≡ [] = drop_all (7 * (o - 9) + 7) (half b) (omega (arith, length-half b)) in
+    let no : not (none_marked []) ≡ true = sym (ap (λ k. not (none_marked k)) none) ∙ t in
+    absurd (cc)
+
+pub behind_last : (b o : ℕ) (r : Bool) → o < 18 → r ≡ not (none_marked (drop (7 * (o - 9) + 7) (half b))) → IsTrue r → o < 17
+behind_last b o r h e t = behind_last_at b o h (cases_lt o 17) (sym e ∙ t)
 
 -- ---- an octet's marks are written
 

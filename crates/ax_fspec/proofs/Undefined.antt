@@ -1,5 +1,5 @@
 -- The first marked slot that isn't defined, in the bits of a presence octet.
-use Rattle.std.proofs.Common.{◌≡◌, ◌≢◌,  ◌⊎◌, inl, inr, ℕ, zero, suc, ◌+◌, ◌-◌, ◌*◌, ◌/◌, ◌%◌, ◌^◌, ◌<◌, ◌≤◌, Bool, true, false, Option, Some, None, MatchOption, List, [], ◌∷◌, bit_and, refl, sym, ◌∙◌, ap, arith, subst}
+use Rattle.std.proofs.Common.{◌≡◌, ◌≢◌, ◌⊎◌, inl, inr, ℕ, zero, suc, ◌+◌, ◌-◌, ◌*◌, ◌/◌, ◌%◌, ◌^◌, ◌<◌, ◌≤◌, Bool, true, false, List, ◌∷◌, bit_and, refl, sym, ◌∙◌, ap, arith, subst}
 use Rattle.std.proofs.lemmas.Bool.{cases_lt}
 use Rattle.std.proofs.lemmas.Nat.{and_block, and_comm, and_le_l, and_le_r, and-not, leading_top, mod_below, pow_pos, shr_split, div_below}
 use Rattle.std.proofs.Math.Nat.{mod-eq_of_lt, pos_of_ne-zero}

@@ -25,5 +25,5 @@ pub record FailsToMark (mask : SlotMask) (body : List ℕ) (at : ℕ) (fault : B
   pub bit : fault.bit ≡ 8 * at + place
 
 -- the least presence field of a set of slots
-abbrev pub least_field : List ℕ → List ℕ
+unfoldable pub least_field : List ℕ → List ℕ
 least_field marked = least_presence 18 marked

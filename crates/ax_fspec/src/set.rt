@@ -116,7 +116,8 @@ impl Presence {
     /// Whether a slot behind those of a presence octet from 0 to 17 is in the set.
     pub(crate) fn goes_on_behind(&self, octet: u32) -> bool
         requires { octet < 18 }
-        ensures { result ≡ not (none_marked (drop (7 * octet + 7) self.now)) }
+        ensures marked { result ≡ not (none_marked (drop (7 * octet + 7) self.now)) }
+        ensures within { IsTrue result → octet < 17 }
     {
         if octet < 9 {
             self.second != 0 || is_marked_behind(self.first, octet)

@@ -1,4 +1,4 @@
-use Rattle.std.proofs.Common.{◌≡◌, ◌+◌, ◌/◌, ◌%◌, drop, get_or, refl, sym, subst, ap, arith, IsTrue, ◌∙◌}
+use Rattle.std.proofs.Common.{◌≡◌, ◌+◌, ◌%◌, drop, get_or, refl, sym, subst, ap, arith, ◌∙◌}
 use Rattle.std.proofs.lemmas.Nat.{and_mask}
 use Rattle.ax_model.specs.Presence.{octets_needed, none_marked}
 use Rattle.ax_fspec.specs.Fields.{mask_slots}

@@ -87,9 +87,9 @@ pub record ReadSoFar (ds : List Bool) (octets : List ℕ) (i : ℕ) (marked : Li
   pub none_behind : IsTrue (none_marked (drop (7 * i) marked))
 
 pub nothing_read : (ds : List Bool) (octets marked : List ℕ) → IsTrue (none_marked marked) → ReadSoFar ds octets 0 marked
-nothing_read ds octets marked h = record { within = omega arith; leads = (refl, refl); clear = tt; none_behind = h; }
+nothing_read ds octets marked h = record { within = omega arith; leads = (refl, refl); clear = tt; none_behind = h }
 
-bits_parts : (octets : List ℕ) (i : ℕ) → bits octets ≡ bits (take i octets) ++ bits (drop i octets)
+pub bits_parts : (octets : List ℕ) (i : ℕ) → bits octets ≡ bits (take i octets) ++ bits (drop i octets)
 bits_parts octets i = ap bits (sym (take-append-drop i octets)) ∙ bits-append (take i octets) (drop i octets)
 
 pub runs_out : (ds : List Bool) (octets marked : List ℕ) (i n : ℕ) → ReadSoFar ds octets i marked → i < n → length octets ≤ i → PresenceFails n ds (bits octets) (8 * i) RunsOut
@@ -155,7 +155,7 @@ read_more ds octets marked new i m h inside mark fx clear front behind =
     record {
       within = omega arith;
       leads = subst (λ k. Leads k (take (7 * (i + 1)) new) (bits (take (i + 1) octets))) count
-        (subst (λ k. Leads (suc i) k (bits (take (i + 1) octets))) all (subst (λ k. Leads (suc i) (ms ++ seven m) k) field leads));
+          (subst (λ k. Leads (suc i) k (bits (take (i + 1) octets))) all (subst (λ k. Leads (suc i) (ms ++ seven m) k) field leads));
       clear = subst (λ k. NoneUndefined ds k) all (clear_both ms (seven m) ds h.clear clear);
       none_behind = subst (λ k. IsTrue (none_marked (drop k new))) (let e : 7 * i + 7 ≡ 7 * (i + 1) = omega arith in e) behind;
     }

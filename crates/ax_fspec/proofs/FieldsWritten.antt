@@ -12,7 +12,7 @@ use Rattle.ax_fspec.specs.Fields.{least_field}
 use Rattle.ax_fspec.specs.Marks.{seven}
 use Rattle.ax_fspec.proofs.Sets.{length-seven}
 
-none_left : (n : ℕ) → drop {A = ℕ} n [] ≡ []
+pub none_left : (n : ℕ) → drop {A = ℕ} n [] ≡ []
 none_left zero = refl
 none_left (suc n) = refl
 
@@ -45,23 +45,29 @@ octet_that_goes_on m h =
     let e : m * 2 % 256 ≡ m * 2 ^ 1 = omega arith in
     ap (λ k. word 8 (bit_or k 1)) e ∙ ap (word 8) (or_shifted m 1 1 (lit< tt)) ∙ octet_of m 1 (lit< tt)
 
--- the least field of marks of which m are the first seven
-first_seven : (ms : List ℕ) (m : ℕ) → seven m ≡ take 7 ms → marks_upto 7 ms ≡ seven m
-first_seven ms m e =
-    let long : 7 ≤ length ms = omega (arith, ap length e, length-seven m, length-take 7 ms) in
-    marks_upto_is 7 ms long ∙ sym e
+-- the least field of at least seven marks, where none stands behind them, and where some does
+pub least_true : (k : ℕ) (ms : List ℕ) → 7 ≤ length ms → none_marked (drop 7 ms) ≡ true → least_presence (suc k) ms ≡ take 7 ms ++ 0 ∷ []
+least_true k ms long none =
+    let all : none_marked (marks_after 7 ms) ≡ true = ap none_marked (marks_after_is 7 ms) ∙ none in
+    ap (λ b. cond b (marks_upto 7 ms ++ 0 ∷ []) (marks_upto 7 ms ++ 1 ∷ least_presence k (marks_after 7 ms))) all
+    ∙ ap (λ k. k ++ 0 ∷ []) (marks_upto_is 7 ms long)
+
+pub least_false : (k : ℕ) (ms : List ℕ) → 7 ≤ length ms → none_marked (drop 7 ms) ≡ false → least_presence (suc k) ms ≡ take 7 ms ++ 1 ∷ least_presence k (drop 7 ms)
+least_false k ms long some =
+    let none : none_marked (marks_after 7 ms) ≡ false = ap none_marked (marks_after_is 7 ms) ∙ some in
+    ap (λ b. cond b (marks_upto 7 ms ++ 0 ∷ []) (marks_upto 7 ms ++ 1 ∷ least_presence k (marks_after 7 ms))) none
+    ∙ (λ i. marks_upto_is 7 ms long i ++ 1 ∷ least_presence k (marks_after_is 7 ms i))
+
+long_enough : (ms : List ℕ) (m : ℕ) → seven m ≡ take 7 ms → 7 ≤ length ms
+long_enough ms m e = omega (arith, ap length e, length-seven m, length-take 7 ms)
 
 least_goes_on : (k : ℕ) (ms : List ℕ) (m : ℕ) → seven m ≡ take 7 ms → none_marked (drop 7 ms) ≡ false → least_presence (suc k) ms ≡ (seven m ++ 1 ∷ []) ++ least_presence k (drop 7 ms)
 least_goes_on k ms m e some =
-    let none : none_marked (marks_after 7 ms) ≡ false = ap none_marked (marks_after_is 7 ms) ∙ some in
-    ap (λ b. cond b (marks_upto 7 ms ++ 0 ∷ []) (marks_upto 7 ms ++ 1 ∷ least_presence k (marks_after 7 ms))) none
-    ∙ (λ i. first_seven ms m e i ++ 1 ∷ least_presence k (marks_after_is 7 ms i)) ∙ sym (append_assoc (seven m) (1 ∷ []) (least_presence k (drop 7 ms)))
+    least_false k ms (long_enough ms m e) some ∙ ap (λ z. z ++ 1 ∷ least_presence k (drop 7 ms)) (sym e)
+    ∙ sym (append_assoc (seven m) (1 ∷ []) (least_presence k (drop 7 ms)))
 
 least_ends : (k : ℕ) (ms : List ℕ) (m : ℕ) → seven m ≡ take 7 ms → none_marked (drop 7 ms) ≡ true → least_presence (suc k) ms ≡ seven m ++ 0 ∷ []
-least_ends k ms m e none =
-    let all : none_marked (marks_after 7 ms) ≡ true = ap none_marked (marks_after_is 7 ms) ∙ none in
-    ap (λ b. cond b (marks_upto 7 ms ++ 0 ∷ []) (marks_upto 7 ms ++ 1 ∷ least_presence k (marks_after 7 ms))) all
-    ∙ ap (λ k. k ++ 0 ∷ []) (first_seven ms m e)
+least_ends k ms m e none = least_true k ms (long_enough ms m e) none ∙ ap (λ z. z ++ 0 ∷ []) (sym e)
 
 -- ---- the octets of a field
 
@@ -118,8 +124,8 @@ written_more old now new marked i m h lt f e some a =
       front = h.front ++ octet;
       appends = appends_more old now new h.front octet (h.front ++ octet) refl h.appends a;
       whole =
-        append_assoc h.front octet later
-        ∙ ap (λ k. h.front ++ k) (sym (goes_on marked i m lt f e (negated (none_marked (drop (7 * i + 7) marked)) some))) ∙ h.whole;
+          append_assoc h.front octet later
+          ∙ ap (λ k. h.front ++ k) (sym (goes_on marked i m lt f e (negated (none_marked (drop (7 * i + 7) marked)) some))) ∙ h.whole;
     }
 
 pub written_all : (old now new : Out) (marked : List ℕ) (i m : ℕ) → WrittenSoFar old now marked i → m < 128 → seven m ≡ take 7 (drop (7 * i) marked) → false ≡ not (none_marked (drop (7 * i + 7) marked)) →

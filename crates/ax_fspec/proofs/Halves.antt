@@ -173,11 +173,10 @@ first_mark_at n p h low high =
     let whole : n ≡ 0 * 2 ^ suc r + (2 ^ r + l) = omega arith in
     let same : n % 2 ^ r ≡ l = ap (λ k. k % 2 ^ r) (let e : n ≡ 1 * 2 ^ r + l = omega arith in e) ∙ mod-mul-add 1 (2 ^ r) l less in
     let rest : word r l ≡ word r n = ap (word r) (sym same) ∙ word-low r n in
-    let lone : l ≡ 0 * 2 ^ suc r + l = omega arith in
-    (
+    let lone : l ≡ 0 * 2 ^ suc r + l = omega arith in (
       half-is (p + suc r) n (behind p h) ∙ ap (word (p + suc r)) whole ∙ word-with p r 0 l less ∙ (λ i. zeros p i ++ 1 ∷ rest i),
       half-is (p + suc r) l (behind p h) ∙ ap (word (p + suc r)) lone ∙ word-joined p (suc r) 0 l below
-      ∙ (λ i. zeros p i ++ (zero_above r l less i % 2) ∷ rest i),
+          ∙ (λ i. zeros p i ++ (zero_above r l less i % 2) ∷ rest i),
     )
 
 -- ---- the slots of marks

@@ -1,3 +1,4 @@
+pub mod FieldLaws
 pub mod FieldsRead
 pub mod FieldsWritten
 pub mod Halves

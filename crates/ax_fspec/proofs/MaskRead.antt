@@ -65,17 +65,20 @@ one_more mask body marked new at i m own h inside mark fx window clear front beh
 
 pub last_one : (mask : SlotMask) (body marked new : List ℕ) (at i m own : ℕ) → ReadSoFar (mask_slots mask) (drop at body) i marked → i < octets_needed mask.count → at + i < length body →
     m ≡ get_or body (at + i) 0 / 2 → get_or body (at + i) 0 % 2 ≡ 0 → seven own ≡ take 7 (drop (7 * i) mask.defined) → NoneUndefined (are_marked (seven own)) (seven m) →
-    take (7 * i + 7) new ≡ take (7 * i) marked ++ seven m → IsTrue (none_marked (drop (7 * i + 7) new)) → MarksSlots mask body at (at + i + 1) new
-last_one mask body marked new at i m own h lt inside mark fx window clear front behind =
+    take (7 * i + 7) new ≡ take (7 * i) marked ++ seven m → IsTrue (none_marked (drop (7 * i + 7) new)) → length new ≡ 126 → MarksSlots mask body at (at + i + 1) new
+last_one mask body marked new at i m own h lt inside mark fx window clear front behind size =
     let octets = drop at body in
     let same : get_or body (at + i) 0 ≡ get_or octets i 0 = sym (get_or-drop at body i 0) in
     let count : i + 1 ≡ at + i + 1 - at = omega arith in
-    let place : 7 * i + 7 ≡ 7 * (at + i + 1 - at) = omega arith in
     let field = read_last (mask_slots mask) octets marked new i (octets_needed mask.count) m h lt (omega (arith, length-drop at body)) (mark ∙ ap (λ k. k / 2) same) (sym (ap (λ k. k % 2) same) ∙ fx)
-      (clear_here mask body marked at i m own h window clear) front in
+    (clear_here mask body marked at i m own h window clear) front in
     record {
       begins = omega arith;
       within = omega arith;
-      field = subst (λ k. IsPresence (octets_needed mask.count) (mask_slots mask) (take (7 * k) new) (bits (take k octets))) count field;
-      no_other = subst (λ k. IsTrue (none_marked (drop k new))) place behind;
+      field = record {
+        octets = i + 1;
+        field = subst (λ k. IsPresence (octets_needed mask.count) (mask_slots mask) (take (7 * (i + 1)) new) (bits (take k octets))) count field;
+        no_other = subst (λ k. IsTrue (none_marked (drop k new))) (let e : 7 * i + 7 ≡ 7 * (i + 1) = omega arith in e) behind;
+      };
+      size = size;
     }

@@ -161,11 +161,10 @@ pub written_first : (a b c o m : ℕ) (marks : List ℕ) → marks_in a b ≡ ma
 written_first a b c o m marks e h none f =
     let z = word (56 - 7 * o) 0 in
     let new = written_front (half a) z (half c) (7 * o) m (omega (arith, length-half a)) f in
-    let all = marks_in c b in
-    (
+    let all = marks_in c b in (
       take_in_first c b (7 * o + 7) all refl (omega arith) ∙ new.0 ∙ ap (λ k. k ++ seven m) (sym (take_in_first a b (7 * o) marks e (omega arith))),
       none_in_first c b (7 * o + 7) all refl (omega arith)
-      ∙ (λ i. (ap none_marked new.1 ∙ none_word (56 - 7 * o)) i && (may_write_first a b o marks e h none).1 i),
+          ∙ (λ i. (ap none_marked new.1 ∙ none_word (56 - 7 * o)) i && (may_write_first a b o marks e h none).1 i),
     )
 
 pub written_second : (a b c o m : ℕ) (marks : List ℕ) → marks_in a b ≡ marks → 9 ≤ o → o < 18 →
@@ -174,10 +173,9 @@ written_second a b c o m marks e h g f =
     let n = 7 * (o - 9) in
     let z = word (56 - n) 0 in
     let new = written_front (half b) z (half c) n m (omega (arith, length-half b)) f in
-    let all = marks_in a c in
-    (
+    let all = marks_in a c in (
       take_in_second a c (7 * o + 7) (n + 7) all refl (omega arith) ∙ ap (λ k. half a ++ k) new.0 ∙ sym (append_assoc (half a) (take n (half b)) (seven m))
-      ∙ ap (λ k. k ++ seven m) (sym (take_in_second a b (7 * o) n marks e (omega arith))),
+          ∙ ap (λ k. k ++ seven m) (sym (take_in_second a b (7 * o) n marks e (omega arith))),
       ap none_marked (drop_in_second a c (7 * o + 7) (n + 7) all refl (omega arith) ∙ new.1) ∙ none_word (56 - n),
     )
 
@@ -190,11 +188,10 @@ taken_first a b p marks e h low high =
     let z = word (62 - p) a in
     let place : 1 + p - 1 ≡ p = omega arith in
     let out : half (a - 2 ^ (62 - p)) ≡ set (half a) p 0
-    = split.1 ∙ sym (ap (λ k. set k p 0) split.0 ∙ set_at (replicate p 0) 1 z 0 p (length-replicate p 0)) in
-    (
+    = split.1 ∙ sym (ap (λ k. set k p 0) split.0 ∙ set_at (replicate p 0) 1 z 0 p (length-replicate p 0)) in (
       ap slots_of (sym e) ∙ first_of_first a b p h low high,
       ap (λ k. k ++ half b) out ∙ sym (set-append_left (half a) (half b) p 0 (omega (arith, length-half a)))
-      ∙ (λ i. set (e i) (sym place i) 0),
+          ∙ (λ i. set (e i) (sym place i) 0),
     )
 
 pub taken_second : (a b p : ℕ) (marks : List ℕ) → marks_in a b ≡ marks → a ≡ 0 → p < 63 → 2 ^ (62 - p) ≤ b → b < 2 ^ (63 - p) →
@@ -204,12 +201,11 @@ taken_second a b p marks e zero_first h low high =
     let z = word (62 - p) b in
     let place : 64 + p - 1 - 63 ≡ p = omega arith in
     let out : half (b - 2 ^ (62 - p)) ≡ set (half b) p 0
-    = split.1 ∙ sym (ap (λ k. set k p 0) split.0 ∙ set_at (replicate p 0) 1 z 0 p (length-replicate p 0)) in
-    (
+    = split.1 ∙ sym (ap (λ k. set k p 0) split.0 ∙ set_at (replicate p 0) 1 z 0 p (length-replicate p 0)) in (
       ap slots_of (sym e) ∙ ap (λ k. slots_of (marks_in k b)) zero_first ∙ first_of_second b p h low high
-      ∙ ap (λ k. (64 + p) ∷ slots_of (marks_in k (b - 2 ^ (62 - p)))) (sym zero_first),
+          ∙ ap (λ k. (64 + p) ∷ slots_of (marks_in k (b - 2 ^ (62 - p)))) (sym zero_first),
       ap (λ k. half a ++ k) (out ∙ ap (λ k. set (half b) k 0) (sym place))
-      ∙ sym (set-append_right (half a) (half b) 63 (64 + p - 1) 0 (length-half a) (omega arith)) ∙ ap (λ k. set k (64 + p - 1) 0) e,
+          ∙ sym (set-append_right (half a) (half b) 63 (64 + p - 1) 0 (length-half a) (omega arith)) ∙ ap (λ k. set k (64 + p - 1) 0) e,
     )
 
 pub none_taken : (a b : ℕ) (marks : List ℕ) → marks_in a b ≡ marks → a ≡ 0 → b ≡ 0 → slots_of marks ≡ []

@@ -11,12 +11,18 @@ use Rattle.ax_fspec.specs.declared.mask.SlotMask.{SlotMask}
 abbrev pub mask_slots : SlotMask → List Bool
 mask_slots mask = are_marked (take mask.count mask.defined)
 
--- the octets of the body from `at` up to `end` are a presence field, which marks this set of slots
+-- b is a presence field over n slots, of which these are defined, and it marks this set
+pub record IsFieldOf (n : ℕ) (defined : List Bool) (marked b : List ℕ) : Type 0 where
+  pub octets : ℕ
+  pub field : IsPresence (octets_needed n) defined (take (7 * octets) marked) b
+  pub no_other : IsTrue (none_marked (drop (7 * octets) marked))
+
+-- the octets of the body from `at` up to `end` are a presence field over the mask's slots, and it marks this set
 pub record MarksSlots (mask : SlotMask) (body : List ℕ) (at end : ℕ) (marked : List ℕ) : Type 0 where
   pub begins : at < end
   pub within : end ≤ length body
-  pub field : IsPresence (octets_needed mask.count) (mask_slots mask) (take (7 * (end - at)) marked) (bits (take (end - at) (drop at body)))
-  pub no_other : IsTrue (none_marked (drop (7 * (end - at)) marked))
+  pub field : IsFieldOf mask.count (mask_slots mask) marked (bits (take (end - at) (drop at body)))
+  pub size : length marked ≡ 126
 
 -- from octet `at` of the body on stands no presence field, and this is its fault
 pub record FailsToMark (mask : SlotMask) (body : List ℕ) (at : ℕ) (fault : BodyFault) : Type 0 where

@@ -1,6 +1,6 @@
 -- A set of slots 1 to 126 as its marks: one for each slot in order, 1 where the slot is in the set, else 0.
-use Rattle.std.specs.Prelude.{◌≡◌, ℕ, zero, suc, ◌+◌, ◌-◌, ◌<◌, Bool, true, false, List, [], ◌∷◌, ◌++◌, slice_index, replicate}
-use Rattle.ax_bits.specs.Bits.{word}
+use Rattle.std.specs.Prelude.{◌≡◌, ℕ, zero, suc, ◌+◌, ◌-◌, ◌<◌, Bool, true, false, List, [], ◌∷◌, ◌++◌, length, slice_index, replicate}
+use Rattle.ax_bits.specs.Bits.{word, AreBits}
 
 -- the marks of 63 slots, in the bits of a number
 unfoldable pub half : ℕ → List ℕ
@@ -17,6 +17,11 @@ marks_in first second = half first ++ half second
 -- the empty set
 unfoldable pub no_marks : List ℕ
 no_marks = replicate 126 0
+
+-- these are the marks of a set: a bit for each of the 126 slots
+pub record AreMarks (marked : List ℕ) : Type 0 where
+  pub size : length marked ≡ 126
+  pub each : AreBits marked
 
 -- slot s is in the set
 abbrev pub IsMarked : List ℕ → ℕ → Type 0

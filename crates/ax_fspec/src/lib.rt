@@ -1,7 +1,9 @@
-//! Presence fields.
+//! Presence fields (FSPEC and compound primary subfields): sets of slots, the fields that mark them, and the faults of
+//! what is no such field. Nothing here takes memory.
 #![tactic(auto)]
 
 mod half;
+pub mod laws;
 mod mask;
 mod reading;
 mod set;

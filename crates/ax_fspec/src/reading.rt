@@ -14,7 +14,12 @@ use ax_model::{BodyCause, BodyFault};
 /// RunsOut: a presence octet is missing. UndefinedSlot: a slot is marked that is spare or past the last.
 /// PresenceTooLong: FX is set in the last octet that the slots need.
 #[inline(always)]
-pub fn read_presence(mask: &SlotMask, body: &[u8], at: u32, into: &mut Presence) -> Result<u32, BodyFault>
+pub fn read_presence(
+    mask: &SlotMask,
+    body: &[u8],
+    at: u32,
+    into: &mut Presence,
+) -> Result<u32, BodyFault>
     requires body { length body.now ≤ 65532 }
     requires at { at ≤ length body.now }
     ensures ok { IfOk result (λ end. MarksSlots mask.now body.now at end into.new) }
@@ -46,14 +51,16 @@ pub fn read_presence(mask: &SlotMask, body: &[u8], at: u32, into: &mut Presence)
 fn first_undefined(marks: u8, defined: u8) -> Option<u32>
     requires marks { marks < 128 }
     requires defined { defined < 128 }
-    ensures first {
-        MatchOption result (NoneUndefined (are_marked (seven defined)) (seven marks))
-        (λ bit. FirstUndefined (are_marked (seven defined)) (seven marks) bit)
-    }
+    ensures first { MatchOption result (NoneUndefined (are_marked (seven defined)) (seven marks))
+        (λ bit. FirstUndefined (are_marked (seven defined)) (seven marks) bit) }
     ensures within { IfSome result (λ bit. bit < 7) }
 {
     let undefined = marks & !defined;
-    if undefined == 0 { None } else { Some(undefined.leading_zeros() - 1) }
+    if undefined == 0 {
+        None
+    } else {
+        Some(undefined.leading_zeros() - 1)
+    }
 }
 
 #[cold]

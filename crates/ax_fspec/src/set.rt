@@ -1,10 +1,12 @@
 //! Sets of slots.
 
-ghost use Rattle.std.specs.Prelude.{◌≡◌, ◌↔◌, ◌+◌, ◌-◌, ◌*◌, ◌<◌, ◌≤◌, ◌++◌, [], ◌∷◌, IsTrue, IfSome, IfNone, not, take, drop, slice_set};
+ghost use Rattle.std.specs.Prelude.{◌≡◌, ◌↔◌, ◌+◌, ◌-◌, ◌*◌, ◌<◌, ◌≤◌, ◌++◌, [], ◌∷◌, IsTrue, IfSome, IfNone, length, not, take, drop, slice_set};
 ghost use Rattle.ax_model.specs.Presence.{none_marked};
 ghost use Rattle.ax_fspec.specs.Marks.{seven, no_marks, IsMarked, slots_of};
 
-use crate::half::{first_place, has_mark, is_marked_behind, seven_marks, with_mark, with_seven, without_first};
+use crate::half::{
+    first_place, has_mark, is_marked_behind, seven_marks, with_mark, with_seven, without_first,
+};
 use std::marker::Model;
 
 /// A set of slots from 1 to 126, which are those that a presence field can mark. Contracts see its 126 marks in order,
@@ -31,9 +33,7 @@ impl Model for Presence {
 
     ghost inverse = { λ marks. record { first = number_of (take 63 marks); second = number_of (drop 63 marks) } };
 
-    ghost inverse_ok = {
-        λ p h. λ i. record { first = first_number p.first p.second h.0 i; second = second_number p.first p.second h.1 i }
-    };
+    ghost inverse_ok = { λ p h. λ i. record { first = first_number p.first p.second h.0 i; second = second_number p.first p.second h.1 i } };
 }
 
 impl Presence {
@@ -41,7 +41,10 @@ impl Presence {
     pub fn empty() -> Presence
         ensures { result ≡ no_marks }
     {
-        Presence { first: 0, second: 0 }
+        Presence {
+            first: 0,
+            second: 0,
+        }
     }
 
     /// Whether a slot is in the set. Slot 0 and slots above 126 never are.
@@ -94,7 +97,11 @@ impl Presence {
         ensures marks { seven result ≡ take 7 (drop (7 * octet) self.now) }
         ensures fits { result < 128 }
     {
-        if octet < 9 { seven_marks(self.first, octet) } else { seven_marks(self.second, octet - 9) }
+        if octet < 9 {
+            seven_marks(self.first, octet)
+        } else {
+            seven_marks(self.second, octet - 9)
+        }
     }
 
     /// Adds the slots that `marks` marks in a presence octet from 0 to 17. No slot of that octet or a later one may be
@@ -105,6 +112,7 @@ impl Presence {
         requires none_behind { IsTrue (none_marked (drop (7 * octet) self.old)) }
         ensures marks { take (7 * octet + 7) self.new ≡ take (7 * octet) self.old ++ seven marks }
         ensures none_behind { IsTrue (none_marked (drop (7 * octet + 7) self.new)) }
+        ensures size { length self.new ≡ 126 }
     {
         if octet < 9 {
             self.first = with_seven(self.first, octet, marks);

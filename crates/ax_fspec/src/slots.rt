@@ -35,4 +35,3 @@ impl Iterator for MarkedSlots {
         self.left.take_first()
     }
 }
-

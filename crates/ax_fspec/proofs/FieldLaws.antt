@@ -1,6 +1,6 @@
 -- The laws of presence fields.
-use Rattle.std.proofs.Common.{◌≡◌, inl, inr, ℕ, zero, suc, ◌+◌, ◌-◌, ◌*◌, ◌≤◌, Bool, true, false, cond, IsTrue, List, [], ◌∷◌, ◌++◌, length, take, drop, set, replicate, refl, sym, ◌∙◌, ap, arith, subst, length-append, length-take, length-drop}
-use Rattle.std.proofs.lemmas.List.{length-set, length-replicate, drop-drop, append_cancel_right, take-append-drop, length-take-le}
+use Rattle.std.proofs.Common.{◌≡◌, inl, inr, ℕ, zero, suc, ◌+◌, ◌-◌, ◌*◌, ◌%◌, ◌<◌, ◌≤◌, Bool, true, false, cond, IsTrue, List, [], ◌∷◌, ◌++◌, length, take, drop, set, replicate, refl, sym, ◌∙◌, ap, arith, subst, length-append, length-take, length-drop}
+use Rattle.std.proofs.lemmas.List.{drop-set-lt, length-set, length-replicate, drop-drop, append_cancel_right, take-append-drop, length-take-le}
 use Rattle.std.proofs.Math.Seq.{take-add}
 use Rattle.ax_bits.specs.Bits.{AreBits, bits}
 use Rattle.ax_bits.proofs.Words.{length-bits}
@@ -15,6 +15,7 @@ use Rattle.ax_model.specs.declared.fault.BodyFault.{BodyFault}
 use Rattle.ax_fspec.specs.Fields.{IsFieldOf, MarksSlots, FailsToMark, mask_slots, least_field}
 use Rattle.ax_fspec.specs.Marks.{AreMarks, are_marked, no_marks}
 use Rattle.ax_fspec.specs.declared.mask.SlotMask.{SlotMask}
+use Rattle.ax_fspec.proofs.Sets.{none_of_no_marks}
 use Rattle.ax_fspec.proofs.FieldsRead.{bits_parts}
 use Rattle.ax_fspec.proofs.FieldsWritten.{none_left, marks_after_is, least_true, least_false}
 
@@ -264,7 +265,7 @@ least_alike (suc k) a b h =
     λ i. cond (alike_none (marks_after 7 a) (marks_after 7 b) rest i) (alike_upto 7 a b h i ++ 0 ∷ [])
     (alike_upto 7 a b h i ++ 1 ∷ least_alike k (marks_after 7 a) (marks_after 7 b) rest i)
 
-none_further : (m n : ℕ) (ms : List ℕ) → m ≤ n → IsTrue (none_marked (drop m ms)) → IsTrue (none_marked (drop n ms))
+pub none_further : (m n : ℕ) (ms : List ℕ) → m ≤ n → IsTrue (none_marked (drop m ms)) → IsTrue (none_marked (drop n ms))
 none_further m n [] le h = ap none_marked (none_left n)
 none_further (suc m) zero (x ∷ ms) le h = absurd (omega arith)
 none_further (suc m) (suc n) (x ∷ ms) le h = none_further m n ms (omega arith) h
@@ -297,3 +298,40 @@ AreMarks-set marked i h = record { size = length-set marked i 1 ∙ h.size; each
 pub AreMarks-none : AreMarks no_marks
 unfolding no_marks
 AreMarks-none = record { size = length-replicate {A = ℕ} 126 0; each = bits_none 126 }
+
+-- a set with one more slot among the first n has none behind them, if the set had none
+pub none_behind_mark : (marked : List ℕ) (i n : ℕ) → i < n → IsTrue (none_marked (drop n marked)) → IsTrue (none_marked (drop n (set marked i 1)))
+none_behind_mark marked i n lt h = ap none_marked (drop-set-lt n marked i 1 lt) ∙ h
+
+pub none_behind_none : (n : ℕ) → IsTrue (none_marked (drop n no_marks))
+none_behind_none n = none_further 0 n no_marks (omega arith) none_of_no_marks
+
+-- the least field has at most 18 octets
+least_fits_at : (k : ℕ) (ms : List ℕ) (b : Bool) → length (least_presence k (marks_after 7 ms)) ≤ 8 * k →
+    length (cond b (marks_upto 7 ms ++ 0 ∷ []) (marks_upto 7 ms ++ 1 ∷ least_presence k (marks_after 7 ms))) ≤ 8 * suc k
+least_fits_at k ms true h = omega arith
+least_fits_at k ms false h = omega arith
+
+least_fits : (k : ℕ) (ms : List ℕ) → length (least_presence k ms) ≤ 8 * k
+least_fits zero ms = omega arith
+least_fits (suc k) ms = least_fits_at k ms (none_marked (marks_after 7 ms)) (least_fits k (marks_after 7 ms))
+
+pub least_field_fits : (marked : List ℕ) → length (least_field marked) ≤ 144
+unfolding least_field
+least_field_fits marked = least_fits 18 marked
+
+-- the least field has whole octets
+least_whole_at : (k : ℕ) (ms : List ℕ) (b : Bool) → length (least_presence k (marks_after 7 ms)) % 8 ≡ 0 →
+    length (cond b (marks_upto 7 ms ++ 0 ∷ []) (marks_upto 7 ms ++ 1 ∷ least_presence k (marks_after 7 ms))) % 8 ≡ 0
+least_whole_at k ms true h = refl
+least_whole_at k ms false h = omega arith
+
+least_whole : (k : ℕ) (ms : List ℕ) → length (least_presence k ms) % 8 ≡ 0
+least_whole zero ms = refl
+least_whole (suc k) ms = least_whole_at k ms (none_marked (marks_after 7 ms)) (least_whole k (marks_after 7 ms))
+
+pub least_field_whole : (marked : List ℕ) → length (least_field marked) % 8 ≡ 0
+unfolding least_field
+least_field_whole marked = least_whole 18 marked
+
+pub ruleset least_sizes = (least_field_fits, least_field_whole)

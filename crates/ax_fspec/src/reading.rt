@@ -47,7 +47,8 @@ pub fn read_presence(
     Err(fault(BodyCause::PresenceTooLong, at + needed - 1, 7))
 }
 
-// The first bit, of the seven low ones, that is set in `marks` and not in `defined`.
+// The first mark, of the seven low bits, that is set in `marks` and not in `defined`.
+#[inline]
 fn first_undefined(marks: u8, defined: u8) -> Option<u32>
     requires marks { marks < 128 }
     requires defined { defined < 128 }
@@ -64,6 +65,7 @@ fn first_undefined(marks: u8, defined: u8) -> Option<u32>
 }
 
 #[cold]
+#[inline(never)]
 fn fault(cause: BodyCause, octet: u32, bit: u32) -> BodyFault
     requires { (octet ≤ 65550) × (bit < 8) }
     ensures { result ≡ record { cause = cause; bit = 8 * octet + bit } }

@@ -15,7 +15,7 @@ use std::marker::Model;
 pub struct Presence {
     // The marks of slots 1 to 63: slot 1 at bit 62, slot 63 at bit 0.
     first: u64,
-    // The marks of slots 64 to 126, alike.
+    // The marks of slots 64 to 126, in the same order.
     second: u64,
 }
 
@@ -38,6 +38,7 @@ impl Model for Presence {
 
 impl Presence {
     /// The set with no slot.
+    #[inline]
     pub fn empty() -> Presence
         ensures { result ≡ no_marks }
     {
@@ -48,6 +49,7 @@ impl Presence {
     }
 
     /// Whether a slot is in the set. Slot 0 and slots above 126 never are.
+    #[inline]
     pub fn has(&self, slot: u32) -> bool
         ensures { IsTrue result ↔ IsMarked self.now slot }
     {
@@ -59,6 +61,7 @@ impl Presence {
     }
 
     /// Adds a slot from 1 to 126, and no other.
+    #[inline]
     pub fn mark(&mut self, slot: u32)
         requires { (1 ≤ slot) × (slot ≤ 126) }
         ensures { self.new ≡ slice_set self.old (slot - 1) 1 }
@@ -71,6 +74,7 @@ impl Presence {
     }
 
     /// Takes the least slot out of the set. None is there exactly where the set is empty.
+    #[inline]
     pub fn take_first(&mut self) -> Option<u32>
         ensures some { IfSome result (λ slot. slots_of self.old ≡ slot ∷ slots_of self.new) }
         ensures marks { IfSome result (λ slot. self.new ≡ slice_set self.old (slot - 1) 0) }
@@ -92,6 +96,7 @@ impl Presence {
     }
 
     /// The seven marks of a presence octet from 0 to 17, in the seven low bits.
+    #[inline]
     pub(crate) fn octet(&self, octet: u32) -> u8
         requires { octet < 18 }
         ensures marks { seven result ≡ take 7 (drop (7 * octet) self.now) }
@@ -106,6 +111,7 @@ impl Presence {
 
     /// Adds the slots that `marks` marks in a presence octet from 0 to 17. No slot of that octet or a later one may be
     /// in the set.
+    #[inline]
     pub(crate) fn mark_octet(&mut self, octet: u32, marks: u8)
         requires octet { octet < 18 }
         requires marks { marks < 128 }
@@ -122,6 +128,7 @@ impl Presence {
     }
 
     /// Whether a slot behind those of a presence octet from 0 to 17 is in the set.
+    #[inline]
     pub(crate) fn goes_on_behind(&self, octet: u32) -> bool
         requires { octet < 18 }
         ensures marked { result ≡ not (none_marked (drop (7 * octet + 7) self.now)) }

@@ -5,4 +5,5 @@ pub mod Halves
 pub mod MaskRead
 pub mod Sets
 pub mod Undefined
+pub mod Walks
 pub mod Windows

@@ -5,11 +5,12 @@ ghost use Rattle.ax_model.specs.Presence.{none_marked};
 
 use crate::set::Presence;
 
-/// How many slots a presence field has, 1 to 126, and which of them are defined. A slot up to the count that isn't
-/// defined is spare.
+/// The slots of a presence field: those from 1 to the count, of which some are defined and the others spare.
 #[derive(Clone, Copy)]
 pub struct SlotMask {
+    /// How many slots there are, 1 to 126.
     pub count: u32,
+    /// The slots that aren't spare.
     pub defined: Presence,
     ghost some: { 1 ≤ count },
     ghost few: { count ≤ 126 },

@@ -1,0 +1,10 @@
+use Rattle.std.proofs.Common.{◌≡◌, drop}
+use Rattle.ax_fspec.specs.Fields.{mask_slots}
+use Rattle.ax_fspec.proofs.FieldsRead.{ReadSoFar}
+use Rattle.ax_fspec.proofs.reading.read_presence.Given as goal
+
+abbrev pub invariant-loop-index : goal.invariant-loop-index
+invariant-loop-index l = record {
+  unchanged : l.into ≡ l.fn.into;
+  read : ReadSoFar (mask_slots l.mask) (drop l.at l.body) l.index l.marked;
+}

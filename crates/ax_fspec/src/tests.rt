@@ -1,0 +1,164 @@
+ghost use Rattle.std.specs.Prelude.{◌≡◌, ◌≤◌};
+
+use super::*;
+use ax_bits::Out;
+use ax_model::{BodyCause, BodyFault};
+use std::process::Abort;
+
+// All slots up to the count, but for one that is spare.
+fn mask(count: u32, spare: u32) -> SlotMask
+    requires { (1 ≤ count) × (count ≤ 126) }
+{
+    let mut defined = Presence::empty();
+    for slot in 1..count + 1 {
+        if slot != spare {
+            defined.mark(slot);
+        }
+    }
+    SlotMask { count, defined }
+}
+
+// Whether a set has exactly these slots, which are ascending.
+fn is_set(set: &Presence, slots: &[u32]) -> bool {
+    let mut left = *set;
+    for slot in slots {
+        if left.take_first() != Some(*slot) {
+            return false;
+        }
+    }
+    left.take_first().is_none()
+}
+
+// The count of a mask's slots and its spare one, a body, where the field begins, and the slots that it marks.
+type Field<'a> = (u32, u32, &'a [u8], u32, &'a [u32]);
+
+// The same, with the fault's cause and bit.
+type Fault<'a> = (u32, u32, &'a [u8], u32, BodyCause, u32);
+
+#[test]
+fn reads_fields(rt: HostRuntime) {
+    let mut long = [0x01; 18];
+    long[17] = 0x02;
+    let fields: [Field<'_>; 8] = [
+        (7, 0, &[0xa0], 0, &[1, 3]),
+        (7, 0, &[0xaa, 0x00], 1, &[]),
+        (1, 0, &[0x80, 0xff], 0, &[1]),
+        (14, 0, &[0x03, 0x02], 0, &[7, 14]),
+        (14, 2, &[0x01, 0x00], 0, &[]),
+        (28, 0, &[0x81, 0x01, 0x01, 0x00], 0, &[1]),
+        (126, 0, &long, 0, &[126]),
+        (64, 0, &[1, 1, 1, 1, 1, 1, 1, 1, 3, 0x80], 0, &[63, 64]),
+    ];
+    for (count, spare, body, at, slots) in fields {
+        assert!(rt; 1 <= count && count <= 126 && body.len() <= 65532 && at as usize <= body.len());
+        let mut into = Presence::empty();
+        into.mark(5);
+        let end = read_presence(&mask(count, spare), body, at, &mut into);
+        assert!(rt; end.is_ok() && is_set(&into, slots), "{count} slots");
+    }
+}
+
+#[test]
+fn refuses_fields_at_their_bit(rt: HostRuntime) {
+    let ones = [0x01; 18];
+    let faults: [Fault<'_>; 13] = [
+        (1, 0, &[0x81], 0, BodyCause::PresenceTooLong, 7),
+        (7, 0, &[0x03, 0x00], 0, BodyCause::PresenceTooLong, 7),
+        (8, 0, &[0x81, 0x81], 0, BodyCause::PresenceTooLong, 15),
+        (
+            14,
+            0,
+            &[0x01, 0x03, 0x00],
+            0,
+            BodyCause::PresenceTooLong,
+            15,
+        ),
+        (
+            28,
+            0,
+            &[0x01, 0x01, 0x01, 0x01],
+            0,
+            BodyCause::PresenceTooLong,
+            31,
+        ),
+        (126, 0, &ones, 0, BodyCause::PresenceTooLong, 143),
+        (1, 0, &[0x40], 0, BodyCause::UndefinedSlot, 1),
+        (8, 0, &[0x01, 0x40], 0, BodyCause::UndefinedSlot, 9),
+        (7, 4, &[0x55, 0x10], 1, BodyCause::UndefinedSlot, 11),
+        (8, 2, &[0x41], 0, BodyCause::UndefinedSlot, 1),
+        (1, 0, &[0x41], 0, BodyCause::UndefinedSlot, 1),
+        (14, 0, &[0x81], 0, BodyCause::RunsOut, 8),
+        (7, 0, &[0xff], 1, BodyCause::RunsOut, 8),
+    ];
+    for (count, spare, body, at, cause, bit) in faults {
+        assert!(rt; 1 <= count && count <= 126 && body.len() <= 65532 && at as usize <= body.len());
+        let mut into = Presence::empty();
+        into.mark(5);
+        into.mark(77);
+        let end = read_presence(&mask(count, spare), body, at, &mut into);
+        assert_eq!(rt; end, Err(BodyFault { cause, bit }), "{count} slots");
+        assert!(rt; is_set(&into, &[5, 77]), "{count} slots");
+    }
+}
+
+#[test]
+fn writes_least_fields(rt: HostRuntime) {
+    let fields: [(&[u32], &[u8]); 7] = [
+        (&[], &[0x00]),
+        (&[1], &[0x80]),
+        (&[7], &[0x02]),
+        (&[8], &[0x01, 0x80]),
+        (&[1, 14], &[0x81, 0x02]),
+        (&[63], &[1, 1, 1, 1, 1, 1, 1, 1, 0x02]),
+        (
+            &[3, 64, 126],
+            &[
+                0x21, 1, 1, 1, 1, 1, 1, 1, 1, 0x81, 1, 1, 1, 1, 1, 1, 1, 0x02,
+            ],
+        ),
+    ];
+    for (slots, octets) in fields {
+        let mut marked = Presence::empty();
+        for slot in slots {
+            assert!(rt; 1 <= *slot && *slot <= 126);
+            marked.mark(*slot);
+        }
+        let mut buffer = [0; 18];
+        assert_eq!(rt;
+            field_in(&marked, &mut buffer),
+            octets,
+            "{} slots",
+            slots.len()
+        );
+    }
+}
+
+// The octets of the least field of a set.
+#[tactic(auto, using(crate::proofs::FieldLaws::least_sizes))]
+fn field_in<'b>(marked: &Presence, buffer: &'b mut [u8; 18]) -> &'b [u8] {
+    let count = {
+        let mut out = Out::over(buffer);
+        write_presence(marked, &mut out);
+        out.octets().len()
+    };
+    &buffer[..count]
+}
+
+#[test]
+fn has_the_marked_slots_alone(rt: HostRuntime) {
+    let mut set = Presence::empty();
+    set.mark(1);
+    set.mark(63);
+    set.mark(64);
+    set.mark(126);
+    for slot in 0..200 {
+        let is_marked = slot == 1 || slot == 63 || slot == 64 || slot == 126;
+        assert_eq!(rt; set.has(slot), is_marked, "slot {slot}");
+    }
+    let mut last = 0;
+    for slot in set.slots() {
+        last = slot;
+    }
+    assert_eq!(rt; last, 126);
+    assert!(rt; is_set(&set, &[1, 63, 64, 126]));
+}

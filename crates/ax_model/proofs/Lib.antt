@@ -24,3 +24,4 @@ pub mod WholeOctets
 pub mod WorkedExamples
 pub mod FittingLists
 pub mod FittingShapes
+pub mod RecordFitting

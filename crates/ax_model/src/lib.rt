@@ -5,6 +5,7 @@
 //! are no part of either; `specs/` says which bits spell which value.
 #![tactic(auto)]
 
+mod block_fitting;
 mod content;
 mod copying;
 pub mod examples;
@@ -22,6 +23,7 @@ mod text;
 mod value;
 
 pub use ax_lists::Sequence;
+pub use block_fitting::fits;
 pub use content::{Content, Scale, Sign, TableText, TableTexts};
 pub use fault::{BodyCause, BodyFault};
 pub use flaw::{Flaw, FlawKind, Flaws};

@@ -25,3 +25,6 @@ pub mod WorkedExamples
 pub mod FittingLists
 pub mod FittingShapes
 pub mod RecordFitting
+pub mod Lengths
+pub mod Counting
+pub mod BlockLengths

@@ -6,6 +6,7 @@
 #![tactic(auto)]
 
 mod block_fitting;
+mod canonical_length;
 mod content;
 mod copying;
 pub mod examples;
@@ -21,9 +22,11 @@ mod record;
 mod spec;
 mod text;
 mod value;
+mod width;
 
 pub use ax_lists::Sequence;
 pub use block_fitting::fits;
+pub use canonical_length::canon_length;
 pub use content::{Content, Scale, Sign, TableText, TableTexts};
 pub use fault::{BodyCause, BodyFault};
 pub use flaw::{Flaw, FlawKind, Flaws};

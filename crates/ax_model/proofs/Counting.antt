@@ -2,11 +2,12 @@
 use Rattle.std.proofs.Common.{◌≡◌, ℕ, zero, suc, ◌+◌, ◌*◌, ◌/◌, ◌<◌, ◌≤◌, ◌-◌, min, List, [], ◌∷◌, ◌++◌, length, map, drop, get_or, Option, Some, None, slice_get, refl, sym, ◌∙◌, ap, arith, add-one, drop-cons}
 use Rattle.std.proofs.lemmas.List.{drop_all, length-map}
 use Rattle.std.specs.Option.{option_map}
+use Rattle.ax_model.proofs.RecordFitting.{entries_split}
 use Rattle.ax_model.proofs.Lookups.{uap_slot_tree}
 use Rattle.ax_model.specs.Lookup.{item_of_slot, item_of_frn}
 use Rattle.ax_model.specs.Specification.{record_slots, uap_slot, slot_of_item}
 use Rattle.ax_model.specs.Lengths.{record_octets, records_octets, held, octets, each_octets, entries_octets, octets_where, last_slot, presence_octets, unit_octets, parts_octets, slot_kind, kind_behind, kind_of_slot}
-use Rattle.ax_model.specs.Plain.{entry_step, value_step, entry_tree, entries_tree, item_tree, kind_tree, spec_tree, member_tree, members_tree, slot_tree, slots_tree, value_tree, values_tree}
+use Rattle.ax_model.specs.Plain.{entries_tree, item_tree, kind_tree, spec_tree, member_tree, members_tree, slot_tree, slots_tree, value_tree, values_tree}
 use Rattle.ax_model.specs.Tree.{MembersTree, member_and, MemberTree, named, spare, KindTree, slots_of, ValueTree, ValuesTree, value_count, ListsTree, no_lists, list_and, entry_and}
 use Rattle.ax_model.specs.Widths.{width, member_width, members_width}
 use Rattle.ax_model.specs.declared.kind.Member.{Member}
@@ -15,7 +16,7 @@ use Rattle.ax_model.specs.declared.record.Record.{Record}
 use Rattle.ax_model.specs.declared.spec.Item.{Item}
 use Rattle.ax_model.specs.declared.spec.Spec.{Spec}
 use Rattle.ax_model.specs.declared.spec.UapSlot.{UapSlot}
-use Rattle.ax_model.specs.declared.value.Entry.{Entry, fold_out-Entry}
+use Rattle.ax_model.specs.declared.value.Entry.{Entry}
 use Rattle.ax_model.specs.declared.value.Value.{Value}
 
 -- ---- sums
@@ -97,11 +98,8 @@ pub ruleset each = (value_taken, values_done)
 
 -- ---- entries
 
-entry_is : (e : Entry) → entry_tree e ≡ (e.slot, value_tree e.value)
-entry_is e = fold_out-Entry ValueTree (ℕ × ValueTree) value_step entry_step e
-
 entry_first : (e : Entry) (es : List Entry) → entries_tree (e ∷ es) ≡ entry_and e.slot (value_tree e.value) (entries_tree es)
-entry_first e es = ap (λ p. entry_and p.0 p.1 (entries_tree es)) (entry_is e)
+entry_first e es = entries_split e (e ∷ es) es refl
 
 pub entry_taken : (es : List Entry) (ks : ℕ → Option KindTree) (i : ℕ) (e : Entry) (total new all : ℕ) → i < length es → e ≡ get_or es i e
     → held (total + entries_octets (entries_tree (drop i es)) ks) ≡ held all → new ≡ held (total + held (octets_where (ks e.slot) (octets (value_tree e.value))))

@@ -27,4 +27,5 @@ pub mod FittingShapes
 pub mod RecordFitting
 pub mod Lengths
 pub mod Counting
+pub mod PathTexts
 pub mod BlockLengths

@@ -28,3 +28,4 @@ pub mod Ends
 pub mod Framing
 pub mod Fitting
 pub mod Lengths
+pub mod Paths

@@ -1,4 +1,4 @@
-use Rattle.std.proofs.Common.{◌≡◌, ◌+◌, rules, arith, sym, ◌∙◌, ap, subst}
+use Rattle.std.proofs.Common.{◌≡◌, ◌+◌, sym, ◌∙◌, ap, subst}
 use Rattle.ax_model.proofs.BlockLengths.{read_length}
 use Rattle.ax_model.specs.Lengths.{held, records_octets}
 use Rattle.ax_model.specs.OfCode.{BlockFits, block_length}

@@ -1,16 +1,13 @@
 -- The count of a block's canonical form.
-use Rattle.std.proofs.Common.{◌≡◌, ℕ, zero, suc, ◌+◌, ◌*◌, ◌<◌, ◌≤◌, List, [], ◌∷◌, ◌++◌, length, refl, sym, ◌∙◌, ap, arith, length-append}
+use Rattle.std.proofs.Common.{◌≡◌, ℕ, zero, suc, ◌+◌, ◌*◌, ◌<◌, List, [], ◌∷◌, length, refl, ap, arith, length-append}
 use Rattle.std.specs.List.{AllByRecursion}
-use Rattle.ax_bits.specs.Bits.{word}
 use Rattle.ax_model.proofs.Bounds.{record_bounds}
 use Rattle.ax_model.proofs.Lengths.{kind_length}
-use Rattle.ax_model.specs.Blocks.{Fits}
 use Rattle.ax_model.specs.Bodies.{RecordShape, CanonBody}
 use Rattle.ax_model.specs.Canonical.{canon}
 use Rattle.ax_model.specs.CanonicalOctets.{octets_of, framed}
-use Rattle.ax_model.specs.Flaws.{NoFlaw}
 use Rattle.ax_model.specs.InBounds.{InBounds}
-use Rattle.ax_model.specs.Lengths.{held, record_octets, records_octets}
+use Rattle.ax_model.specs.Lengths.{held, records_octets}
 use Rattle.ax_model.specs.OfCode.{HasNoFlaw}
 use Rattle.ax_model.specs.Plain.{record_tree, records_tree, spec_tree}
 use Rattle.ax_model.specs.Specification.{record_kind}

@@ -1,6 +1,6 @@
 -- Sums that are held at 2^64 - 1, over lists from a place on.
-use Rattle.std.proofs.Common.{◌≡◌, ℕ, zero, suc, ◌+◌, ◌*◌, ◌/◌, ◌<◌, ◌≤◌, ◌-◌, min, List, [], ◌∷◌, ◌++◌, length, map, drop, get_or, Option, Some, None, slice_get, refl, sym, ◌∙◌, ap, arith, add-one, drop-cons}
-use Rattle.std.proofs.lemmas.List.{drop_all, length-map}
+use Rattle.std.proofs.Common.{◌≡◌, ℕ, zero, suc, ◌+◌, ◌*◌, ◌/◌, ◌<◌, ◌≤◌, ◌-◌, min, List, [], ◌∷◌, length, map, drop, get_or, Option, Some, None, slice_get, refl, sym, ◌∙◌, ap, arith, add-one, drop-cons}
+use Rattle.std.proofs.lemmas.List.{drop_all}
 use Rattle.std.specs.Option.{option_map}
 use Rattle.ax_model.proofs.RecordFitting.{entries_split}
 use Rattle.ax_model.proofs.Lookups.{uap_slot_tree}
@@ -9,7 +9,7 @@ use Rattle.ax_model.specs.Specification.{record_slots, uap_slot, slot_of_item}
 use Rattle.ax_model.specs.Lengths.{record_octets, records_octets, held, octets, each_octets, entries_octets, octets_where, last_slot, presence_octets, unit_octets, parts_octets, slot_kind, kind_behind, kind_of_slot}
 use Rattle.ax_model.specs.Plain.{entries_tree, item_tree, kind_tree, spec_tree, member_tree, members_tree, slot_tree, slots_tree, value_tree, values_tree}
 use Rattle.ax_model.specs.Tree.{MembersTree, member_and, MemberTree, named, spare, KindTree, slots_of, ValueTree, ValuesTree, value_count, ListsTree, no_lists, list_and, entry_and}
-use Rattle.ax_model.specs.Widths.{width, member_width, members_width}
+use Rattle.ax_model.specs.Widths.{member_width, members_width}
 use Rattle.ax_model.specs.declared.kind.Member.{Member}
 use Rattle.ax_model.specs.declared.kind.Slot.{Slot}
 use Rattle.ax_model.specs.declared.record.Record.{Record}

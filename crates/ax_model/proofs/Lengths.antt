@@ -1,5 +1,5 @@
 -- The count along a value is that of its canonical spelling's octets.
-use Rattle.std.proofs.Common.{◌≡◌, ℕ, zero, suc, ◌+◌, ◌*◌, ◌/◌, ◌%◌, ◌<◌, ◌≤◌, ◌==◌, ◌-◌, min, max, Bool, true, false, cond, MatchBool, List, [], ◌∷◌, ◌++◌, length, map, Option, Some, None, refl, sym, ◌∙◌, ap, subst, arith, length-append, IsTrue}
+use Rattle.std.proofs.Common.{◌≡◌, ℕ, zero, suc, ◌+◌, ◌*◌, ◌%◌, ◌<◌, ◌≤◌, ◌==◌, ◌-◌, max, Bool, true, false, cond, MatchBool, List, [], ◌∷◌, ◌++◌, length, Option, Some, refl, sym, ◌∙◌, ap, subst, arith, length-append}
 use Rattle.std.specs.List.{AllByRecursion}
 use Rattle.std.proofs.lemmas.Bool.{eqb-true}
 use Rattle.ax_bits.proofs.Words.{length-bits}
@@ -9,7 +9,7 @@ use Rattle.ax_model.proofs.FixedKinds.{fixed_length, members_length}
 use Rattle.ax_model.proofs.Least.{marks_length, enough}
 use Rattle.ax_model.specs.Canonical.{fixed_canon, members_canon, parts_canon, run_canon, each_canon, canon, marks_of, entries_canon}
 use Rattle.ax_model.specs.InBounds.{PartInBounds, InBounds, SlotsInBounds}
-use Rattle.ax_model.specs.Lengths.{held, run_octets, unit_octets, kind_of_slot, kind_behind, slot_kind, last_slot, presence_octets, parts_octets, octets_where, octets, each_octets, entries_octets}
+use Rattle.ax_model.specs.Lengths.{run_octets, unit_octets, kind_behind, slot_kind, last_slot, presence_octets, parts_octets, octets_where, octets, each_octets, entries_octets}
 use Rattle.ax_model.specs.Presence.{octets_needed, least_presence, later_marks, marks_after, marks_upto, none_marked}
 use Rattle.ax_model.specs.Shape.{FixedShape, MembersShape, PartsShape, EachShape, Shape, EntriesShape}
 use Rattle.ax_model.specs.Tree.{FixedTree, MembersTree, KindTree, fixed, extended, counted, by_fx, explicit, compound, SlotTree, SlotsTree, no_slots, slot_and, spare_slot, subitem, slot_count, ValueTree, part_values, occurrences, content_octets, marked, ValuesTree, no_values, value_and, value_count, ListsTree, no_lists, list_and, EntriesTree, no_entries, entry_and}

@@ -1,5 +1,5 @@
 -- The pieces of a text between its slashes are the names of the path that it spells.
-use Rattle.std.proofs.Common.{◌≡◌, ℕ, suc, ◌+◌, ◌<◌, ◌≤◌, ◌==◌, Bool, true, false, cond, List, [], ◌∷◌, ◌++◌, length, take, drop, get_or, refl, sym, ◌∙◌, ap, subst, arith, append_assoc, append-nil, add-one, drop-cons, length-append, Option, None, Some, MatchOption}
+use Rattle.std.proofs.Common.{◌≡◌, ℕ, ◌+◌, ◌<◌, ◌≤◌, ◌==◌, Bool, true, false, cond, List, [], ◌∷◌, ◌++◌, length, take, drop, get_or, refl, sym, ◌∙◌, ap, subst, arith, append_assoc, append-nil, add-one, drop-cons, length-append, Option, None, Some, MatchOption}
 use Rattle.std.proofs.lemmas.Bool.{ne_eqb, eqb-true}
 use Rattle.std.proofs.lemmas.List.{drop_all, take_all, take_more}
 use Rattle.std.specs.List.{AllByRecursion, list_all}
@@ -35,6 +35,7 @@ some_pieces (x ∷ t) e = never (x == 47) (pieces t) e
     never_onto : (ps : List (List ℕ)) → onto (x ∷ []) ps ≡ [] → ⊥
     never_onto [] e = cc
     never_onto (p ∷ ps) e = cc
+
     never : (b : Bool) (ps : List (List ℕ)) → cond b ([] ∷ ps) (onto (x ∷ []) ps) ≡ [] → ⊥
     never true ps e = cc
     never false ps e = never_onto ps e

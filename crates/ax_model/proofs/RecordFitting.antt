@@ -1,5 +1,5 @@
 -- Records over the UAP and blocks: the tests say what the definitions do.
-use Rattle.std.proofs.Common.{◌≡◌, ◌≢◌, ℕ, suc, ◌+◌, ◌<◌, ◌≤◌, ◌==◌, ◌↔◌, List, [], ◌∷◌, length, map, drop, get_or, Bool, true, false, ◌&&◌, IsTrue, if◌then◌else◌, Option, Some, None, refl, sym, ◌∙◌, ap, arith, add-one, drop-cons}
+use Rattle.std.proofs.Common.{◌≡◌, ℕ, suc, ◌+◌, ◌<◌, ◌≤◌, ◌==◌, List, [], ◌∷◌, length, map, drop, get_or, true, false, ◌&&◌, Some, None, refl, sym, ◌∙◌, ap, arith, add-one, drop-cons}
 use Rattle.std.specs.List.{AllByRecursion, list_all}
 use Rattle.std.specs.Option.{option_map}
 use Rattle.std.proofs.lemmas.List.{drop_all, length-map}

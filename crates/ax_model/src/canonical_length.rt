@@ -89,9 +89,7 @@ fn octets_of(value: &Value, kind: &Kind) -> u64
         (Value::Repeat(values), Kind::Counted(inner)) => {
             octets_of_each(values, inner).saturating_add(1)
         }
-        (Value::Repeat(values), Kind::ByFx(fixed)) => {
-            octets_of_run(values, fixed)
-        }
+        (Value::Repeat(values), Kind::ByFx(fixed)) => { octets_of_run(values, fixed) }
         (Value::Octets(content), Kind::Explicit) => u64::from(content.count()) + 1,
         (Value::Compound(entries), Kind::Compound(slots)) => octets_of_entries(entries, slots),
         _ => 0,
@@ -179,7 +177,10 @@ pub fn canon_length(spec: &Spec, block: &Block) -> u64
     ensures { result ≡ held (block_length spec.now block.now) }
 {
     match block {
-        Block::Read { records, .. } => octets_of_records(spec, records.as_slice()).saturating_add(3),
+        Block::Read { records, .. } => {
+            let body = octets_of_records(spec, records.as_slice());
+            body.saturating_add(3)
+        }
         Block::Opaque { octets, .. } => u64::from(octets.count()) + 3,
     }
 }

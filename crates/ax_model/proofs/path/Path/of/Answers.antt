@@ -1,5 +1,5 @@
-use Rattle.std.proofs.Common.{◌≡◌, ◌∷◌, [], ◌++◌, List, ℕ, rules, arith, sym, ◌∙◌, ap, subst}
-use Rattle.ax_model.proofs.PathTexts.{begins, no_path, path_found, one_more, named_more}
+use Rattle.std.proofs.Common.{◌≡◌, ◌∷◌, [], ◌++◌, rules, sym, ◌∙◌, ap, subst}
+use Rattle.ax_model.proofs.PathTexts.{begins, no_path, path_found}
 use Rattle.ax_model.specs.Characters.{IsName}
 use Rattle.ax_model.specs.Paths.{IsPathOf, pieces}
 use Rattle.ax_model.proofs.path.Path.of.Goals as goal

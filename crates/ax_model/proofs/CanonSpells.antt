@@ -15,12 +15,12 @@ element_spells w (number n) h = (h, refl)
 element_spells w _ h = absurd h
 
 mutual
-  fixed_spells : (f : FixedTree) (v : ValueTree) → FixedShape f v → FixedSpells f v (fixed_canon f v)
+  pub fixed_spells : (f : FixedTree) (v : ValueTree) → FixedShape f v → FixedSpells f v (fixed_canon f v)
   fixed_spells (element w c) v h = element_spells w v h
   fixed_spells (group ms) (member_values vs) h = members_spell ms vs h
   fixed_spells (group ms) _ h = absurd h
 
-  members_spell : (ms : MembersTree) (vs : ValuesTree) → MembersShape ms vs → MembersSpell ms vs (members_canon ms vs)
+  pub members_spell : (ms : MembersTree) (vs : ValuesTree) → MembersShape ms vs → MembersSpell ms vs (members_canon ms vs)
   members_spell no_members no_values h = refl
   members_spell no_members (value_and v vs) h = h
   members_spell (member_and (named name f) ms) no_values h = h

@@ -25,3 +25,8 @@ pub mod WorkedExamples
 pub mod FittingLists
 pub mod FittingShapes
 pub mod Framings
+pub mod RecordFitting
+pub mod Lengths
+pub mod Counting
+pub mod PathTexts
+pub mod BlockLengths

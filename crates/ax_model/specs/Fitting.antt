@@ -1,9 +1,6 @@
--- Whether a value has a kind's shape, as a test that computes; and blocks that fit a specification.
-use Rattle.std.specs.Prelude.{◌≡◌, ◌≢◌, ℕ, ◌+◌, ◌^◌, ◌<◌, ◌==◌, nat_lt, nat_le, Bool, true, false, ◌&&◌, if◌then◌else◌, List, [], ◌∷◌, length}
-use Rattle.std.specs.List.{AllByRecursion, list_all}
-use Rattle.ax_model.specs.Blocks.{BlockTree, read_block, opaque_block}
-use Rattle.ax_model.specs.Bodies.{RecordShape}
-use Rattle.ax_model.specs.Specification.{SpecTree}
+-- Whether a value has a kind's shape, as a test that computes.
+use Rattle.std.specs.Prelude.{ℕ, ◌+◌, ◌^◌, ◌==◌, nat_lt, nat_le, Bool, true, false, ◌&&◌, if◌then◌else◌, List, [], ◌∷◌, length}
+use Rattle.std.specs.List.{list_all}
 use Rattle.ax_model.specs.Tree.{FixedTree, element, group, MembersTree, no_members, member_and, MemberTree, named, spare, KindTree, fixed, extended, counted, by_fx, explicit, compound, SlotsTree, no_slots, slot_and, spare_slot, subitem, ValueTree, number, member_values, part_values, occurrences, content_octets, marked, ValuesTree, no_values, value_and, value_count, ListsTree, no_lists, list_and, EntriesTree, no_entries, entry_and}
 
 -- ---- fixed kinds
@@ -68,14 +65,3 @@ abbrev mutual
   entries_fit s (slot_and (subitem name k) ss) no_entries = entries_fit (s + 1) ss no_entries
   entries_fit s (slot_and (subitem name k) ss) (entry_and t v es) =
       if t == s then kind_fits k v && entries_fit (s + 1) ss es else entries_fit (s + 1) ss (entry_and t v es)
-
--- ---- blocks
-
--- a block of records is of the specification's category and has records of its shape, at least one; an opaque block is of
--- another category and has octets, at least one
-abbrev pub FitsBlock : SpecTree → BlockTree → Type 0
-FitsBlock spec (read_block category records) = (category ≡ spec.category) × (0 < length records) × AllByRecursion (RecordShape spec) records
-FitsBlock spec (opaque_block category content) = (category ≢ spec.category) × (0 < length content)
-
-pub record Fits (spec : SpecTree) (block : BlockTree) : Type 0 where
-  pub fits : FitsBlock spec block

@@ -27,3 +27,5 @@ pub mod Widths
 pub mod Ends
 pub mod Framing
 pub mod Fitting
+pub mod Lengths
+pub mod Paths

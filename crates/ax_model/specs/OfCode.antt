@@ -1,12 +1,14 @@
 -- The definitions over the code's types, and over octets.
-use Rattle.std.specs.Prelude.{ℕ, List}
+use Rattle.std.specs.Prelude.{ℕ, Bool, List}
 use Rattle.ax_bits.specs.Bits.{bits}
 use Rattle.ax_model.specs.Blocks.{SpellsBlock, SpellsStream, Fits}
 use Rattle.ax_model.specs.Bodies.{SpellsRecord, FailsRecord, SpellsBody, FailsBody}
 use Rattle.ax_model.specs.CanonicalOctets.{canon_block, canon_length, CanonBytes}
 use Rattle.ax_model.specs.Failing.{IsFault}
+use Rattle.ax_model.specs.Fitting.{entries_fit}
 use Rattle.ax_model.specs.Flaws.{flaws_of, NoFlaw}
 use Rattle.ax_model.specs.Plain.{kind_tree, value_tree, spec_tree, catalogue_tree, record_tree, records_tree, block_tree, blocks_tree}
+use Rattle.ax_model.specs.Specification.{record_slots}
 use Rattle.ax_model.specs.Spelling.{IsSpelling}
 use Rattle.ax_model.specs.declared.fault.BodyCause.{BodyCause}
 use Rattle.ax_model.specs.declared.flaw.Flaw.{Flaw}
@@ -42,6 +44,10 @@ StreamSpelled specs blocks octets = SpellsStream (catalogue_tree specs) (blocks_
 
 abbrev pub BlockFits : Spec → Block → Type 0
 BlockFits spec block = Fits (spec_tree spec) (block_tree block)
+
+-- as a test that computes
+abbrev pub record_fits : Spec → Record → Bool
+record_fits spec r = entries_fit 1 (record_slots (spec_tree spec)) (record_tree r)
 
 abbrev pub block_octets : Spec → Block → List ℕ
 block_octets spec block = canon_block (spec_tree spec) (block_tree block)

@@ -1,6 +1,6 @@
 -- Widths in bits (field kinds).
 use Rattle.std.specs.Prelude.{ℕ, ◌+◌}
-use Rattle.ax_model.specs.Tree.{FixedTree, element, group, MembersTree, no_members, member_and, named, spare}
+use Rattle.ax_model.specs.Tree.{FixedTree, element, group, MembersTree, no_members, member_and, MemberTree, named, spare}
 
 abbrev mutual
   -- an element's number of bits; a group is as wide as its members together
@@ -13,3 +13,7 @@ abbrev mutual
   members_width no_members = 0
   members_width (member_and (named name f) ms) = width f + members_width ms
   members_width (member_and (spare w) ms) = w + members_width ms
+
+abbrev pub member_width : MemberTree → ℕ
+member_width (named name f) = width f
+member_width (spare w) = w

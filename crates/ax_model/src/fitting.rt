@@ -1,4 +1,4 @@
-//! Whether a value has a kind's shape, and a block fits a specification. Nothing here takes memory.
+//! Whether a value has a kind's shape. Nothing here takes memory.
 ghost use Rattle.std.specs.Prelude.{◌≡◌, ◌+◌, ◌^◌, ◌&&◌, nat_lt, MatchOption, false, map, length};
 ghost use Rattle.ax_model.specs.Fitting.{number_fits, fixed_fits, member_fits, members_fit, lists_fit, parts_fit, each_fits, kind_fits, entries_fit};
 ghost use Rattle.ax_model.specs.Plain.{fixed_tree, member_tree, members_tree, part_tree, kind_tree, slot_tree, slots_tree, value_tree, values_tree, lists_tree, entries_tree};
@@ -136,7 +136,7 @@ fn fits_by_fx(fixed: &Fixed, values: &Values) -> bool
 
 /// Whether the value has the kind's shape.
 #[cycle(kind_fits)]
-pub fn fits_kind(kind: &Kind, value: &Value) -> bool
+pub(crate) fn fits_kind(kind: &Kind, value: &Value) -> bool
     ensures { result ≡ kind_fits (kind_tree kind.now) (value_tree value.now) }
 {
     match (kind, value) {

@@ -5,6 +5,8 @@
 //! are no part of either; `specs/` says which bits spell which value.
 #![tactic(auto)]
 
+mod block_fitting;
+mod canonical_length;
 mod content;
 mod copying;
 pub mod examples;
@@ -15,20 +17,28 @@ mod kind;
 pub mod laws;
 mod lookup;
 mod name;
+mod path;
 mod place;
 mod record;
 mod spec;
 mod text;
 mod value;
+mod width;
 
 pub use ax_lists::Sequence;
+pub use block_fitting::fits;
+pub use canonical_length::canon_length;
 pub use content::{Content, Scale, Sign, TableText, TableTexts};
 pub use fault::{BodyCause, BodyFault};
 pub use flaw::{Flaw, FlawKind, Flaws};
 pub use kind::{Fixed, Kind, Member, Members, Part, Parts, Slot, Slots};
 pub use name::Name;
+pub use path::Path;
 pub use place::{Place, Steps};
 pub use record::{Block, RawBlock, Record, Records};
 pub use spec::{Item, Items, Spec, UapSlot, UapSlots};
 pub use text::Text;
 pub use value::{Entries, Entry, Lists, Octets, Value, Values};
+
+#[cfg(test)]
+mod tests;

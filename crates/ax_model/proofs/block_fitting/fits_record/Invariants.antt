@@ -1,0 +1,12 @@
+use Rattle.std.proofs.Common.{◌≡◌, ◌+◌, drop, map}
+use Rattle.ax_model.specs.Fitting.{entries_fit}
+use Rattle.ax_model.specs.OfCode.{record_fits}
+use Rattle.ax_model.specs.Plain.{item_tree, entries_tree}
+use Rattle.ax_model.specs.Specification.{uap_slot}
+use Rattle.ax_model.specs.Tree.{slots_of}
+use Rattle.ax_model.proofs.block_fitting.fits_record.Given as goal
+
+abbrev pub invariant-loop-slot : goal.invariant-loop-slot
+invariant-loop-slot l =
+    (l.number ≡ l.slot-index + 1)
+    × (record_fits l.spec l.one ≡ entries_fit l.number (slots_of (map (uap_slot (map item_tree l.spec.items)) (drop l.slot-index l.spec.uap))) (entries_tree l.rest))

@@ -1,0 +1,94 @@
+//! Whether a block fits a specification. Nothing here takes memory.
+ghost use Rattle.std.specs.Prelude.{◌≡◌, ◌+◌, ◌↔◌, MatchOption, Some, IsTrue, false, map};
+ghost use Rattle.std.specs.Option.{option_copied};
+ghost use Rattle.std.specs.List.{list_all};
+ghost use Rattle.ax_model.specs.Fitting.{entries_fit};
+ghost use Rattle.ax_model.specs.Lookup.{item_of_slot};
+ghost use Rattle.ax_model.specs.OfCode.{BlockFits, record_fits};
+ghost use Rattle.ax_model.specs.Plain.{entries_tree, item_tree};
+ghost use Rattle.ax_model.specs.Specification.{uap_slot};
+ghost use Rattle.ax_model.specs.Tree.{SlotsTree, slot_and};
+
+use crate::fitting::fits_kind;
+use crate::record::{Block, Record};
+use crate::spec::{Item, Spec, UapSlot};
+use crate::value::Entry;
+
+/// The item of a slot of the UAP. None comes exactly where the slot is spare or no item has its name.
+fn item_of<'s>(spec: &'s Spec, slot: &UapSlot) -> Option<&'s Item>
+    ensures { option_copied result ≡ item_of_slot (Some slot.now) spec.now.items }
+{
+    match slot {
+        UapSlot::Spare => None,
+        UapSlot::Item(name) => spec.item(name),
+    }
+}
+
+/// The entries behind the one of this slot of the UAP, if there is one. None comes where that doesn't fit.
+#[tactic(auto, using(crate::proofs::RecordFitting::slot_steps))]
+fn behind_slot<'e>(
+    spec: &Spec,
+    number: u64,
+    slot: &UapSlot,
+    entries: &'e [Entry],
+) -> Option<&'e [Entry]>
+    ensures { MatchOption result
+        ((ss : SlotsTree) → entries_fit number (slot_and (uap_slot (map item_tree spec.now.items) slot.now) ss) (entries_tree entries.now) ≡ false)
+        (λ rest. (ss : SlotsTree) → entries_fit number (slot_and (uap_slot (map item_tree spec.now.items) slot.now) ss) (entries_tree entries.now) ≡ entries_fit (number + 1) ss (entries_tree rest.now)) }
+{
+    let Some((entry, later)) = entries.split_first() else {
+        return Some(entries);
+    };
+    if u64::from(entry.slot) != number {
+        return Some(entries);
+    }
+    match item_of(spec, slot) {
+        None => Some(entries),
+        Some(item) => {
+            if fits_kind(&item.kind, &entry.value) {
+                Some(later)
+            } else {
+                None
+            }
+        }
+    }
+}
+
+/// Whether each entry is of a defined slot of the UAP, in ascending order, and fits its item's kind.
+#[tactic(auto, using(crate::proofs::RecordFitting::slots))]
+fn fits_record(spec: &Spec, one: &Record) -> bool
+    ensures { result ≡ record_fits spec.now one.now }
+{
+    let mut number: u64 = 1;
+    let mut rest = one.entries.as_slice();
+    for slot in spec.uap.as_slice() {
+        let Some(later) = behind_slot(spec, number, slot, rest) else {
+            return false;
+        };
+        number += 1;
+        rest = later;
+    }
+    rest.is_empty()
+}
+
+fn fits_records(spec: &Spec, records: &[Record]) -> bool
+    ensures { result ≡ list_all (record_fits spec.now) records.now }
+{
+    records.iter().all(|one| fits_record(spec, one))
+}
+
+/// Whether the block fits the specification: it is of the specification's category and has one or more records
+/// of its shape; or it is opaque, of another category, and has one or more octets.
+#[tactic(auto, using(crate::proofs::RecordFitting::blocks))]
+pub fn fits(spec: &Spec, block: &Block) -> bool
+    ensures { IsTrue result ↔ BlockFits spec.now block.now }
+{
+    match block {
+        Block::Read { category, records } => {
+            *category == spec.category
+                && records.count() > 0
+                && fits_records(spec, records.as_slice())
+        }
+        Block::Opaque { category, octets } => *category != spec.category && octets.count() > 0,
+    }
+}

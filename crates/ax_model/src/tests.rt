@@ -1,0 +1,277 @@
+use super::*;
+use std::alloc::{AllocError, Global};
+use std::process::Abort;
+use std::test::Fail;
+
+fn name(rt: &impl Abort, text: &str) -> Name {
+    Name::of(text.as_bytes()).expect(rt, "a name")
+}
+
+fn element(width: u32) -> Fixed {
+    Fixed::Element {
+        width,
+        content: Content::Raw,
+    }
+}
+
+fn named(name: Name, fixed: Fixed) -> Member {
+    Member::Named { name, fixed }
+}
+
+fn sub(name: Name, kind: Kind) -> Slot {
+    Slot::Sub { name, kind }
+}
+
+fn members(alloc: Global, one: Member, other: Member) -> Result<Members, AllocError> {
+    let mut made = Members::new(alloc);
+    made.push(one)?;
+    made.push(other)?;
+    Ok(made)
+}
+
+fn slots(alloc: Global, one: Slot, between: Slot, other: Slot) -> Result<Slots, AllocError> {
+    let mut made = Slots::new(alloc);
+    made.push(one)?;
+    made.push(between)?;
+    made.push(other)?;
+    Ok(made)
+}
+
+// Lists here are short; the test of the count stands for their bound.
+fn add_item(spec: &mut Spec, alloc: Global, name: Name, kind: Kind) -> Result<(), AllocError> {
+    let item = Item {
+        name,
+        title: Text::new(alloc),
+        kind,
+    };
+    if spec.items.count() < 1000 && spec.uap.count() < 1000 {
+        spec.items.push(item)?;
+        spec.uap.push(UapSlot::Item(name))?;
+    }
+    Ok(())
+}
+
+// An item of each kind; slot 2 of the UAP is spare.
+fn each_kind(rt: &impl Abort, alloc: Global) -> Result<Spec, AllocError> {
+    let (a, b) = (name(rt, "A"), name(rt, "B"));
+    let mut spec = Spec {
+        category: 205,
+        edition: Text::new(alloc),
+        items: Items::new(alloc),
+        uap: UapSlots::new(alloc),
+    };
+    let group = members(alloc, named(a, element(4)), named(b, element(4)))?;
+    add_item(
+        &mut spec,
+        alloc,
+        name(rt, "010"),
+        Kind::Fixed(Fixed::Group(group)),
+    )?;
+    if spec.uap.count() < 1000 {
+        spec.uap.push(UapSlot::Spare)?;
+    }
+    let mut parts = Parts::new(alloc);
+    parts.push(Part {
+        members: members(alloc, named(a, element(4)), Member::Spare { width: 3 })?,
+    })?;
+    add_item(&mut spec, alloc, name(rt, "020"), Kind::Extended(parts))?;
+    let inner = Box::new(alloc, Kind::Fixed(element(8)))?;
+    add_item(&mut spec, alloc, name(rt, "030"), Kind::Counted(inner))?;
+    add_item(&mut spec, alloc, name(rt, "040"), Kind::ByFx(element(7)))?;
+    add_item(&mut spec, alloc, name(rt, "050"), Kind::Explicit)?;
+    let subitems = slots(
+        alloc,
+        sub(a, Kind::Fixed(element(8))),
+        Slot::Spare,
+        sub(b, Kind::Fixed(element(16))),
+    )?;
+    add_item(&mut spec, alloc, name(rt, "060"), Kind::Compound(subitems))?;
+    Ok(spec)
+}
+
+fn numbers(alloc: Global, numbers: &[u128]) -> Result<Values, AllocError> {
+    let mut made = Values::new(alloc);
+    for number in numbers {
+        if made.count() < 1000 {
+            made.push(Value::Number(*number))?;
+        }
+    }
+    Ok(made)
+}
+
+fn lists(alloc: Global, one: &[u128], count: u32) -> Result<Lists, AllocError> {
+    let mut made = Lists::new(alloc);
+    for _index in 0..count {
+        if made.count() < 1000 {
+            made.push(numbers(alloc, one)?)?;
+        }
+    }
+    Ok(made)
+}
+
+fn repeated(alloc: Global, number: u128, count: u32) -> Result<Values, AllocError> {
+    let mut made = Values::new(alloc);
+    for _index in 0..count {
+        if made.count() < 1000 {
+            made.push(Value::Number(number))?;
+        }
+    }
+    Ok(made)
+}
+
+fn zeros(alloc: Global, count: u32) -> Result<Octets, AllocError> {
+    let mut made = Octets::new(alloc);
+    for _index in 0..count {
+        if made.count() < 1000 {
+            made.push(0)?;
+        }
+    }
+    Ok(made)
+}
+
+fn entries(alloc: Global, marked: &[(u32, u128)]) -> Result<Entries, AllocError> {
+    let mut made = Entries::new(alloc);
+    for (slot, number) in marked {
+        if made.count() < 1000 {
+            made.push(Entry {
+                slot: *slot,
+                value: Value::Number(*number),
+            })?;
+        }
+    }
+    Ok(made)
+}
+
+fn one_record(alloc: Global, category: u8, entries: Entries) -> Result<Block, AllocError> {
+    let mut records = Records::new(alloc);
+    records.push(Record { entries })?;
+    Ok(Block::Read { category, records })
+}
+
+fn one_item(alloc: Global, slot: u32, value: Value) -> Result<Block, AllocError> {
+    let mut entries = Entries::new(alloc);
+    entries.push(Entry { slot, value })?;
+    one_record(alloc, 205, entries)
+}
+
+// A value in few words: the numbers of a group, of each list, of each occurrence, of each slot.
+#[derive(Clone, Copy)]
+enum Form<'v> {
+    Number(u128),
+    Group(&'v [u128]),
+    Lists(&'v [u128], u32),
+    Repeat(u128, u32),
+    Zeros(u32),
+    Marked(&'v [(u32, u128)]),
+}
+
+fn value_of(alloc: Global, form: Form<'_>) -> Result<Value, AllocError> {
+    match form {
+        Form::Number(number) => Ok(Value::Number(number)),
+        Form::Group(values) => Ok(Value::Group(numbers(alloc, values)?)),
+        Form::Lists(one, count) => Ok(Value::Extended(lists(alloc, one, count)?)),
+        Form::Repeat(number, count) => Ok(Value::Repeat(repeated(alloc, number, count)?)),
+        Form::Zeros(count) => Ok(Value::Octets(zeros(alloc, count)?)),
+        Form::Marked(marked) => Ok(Value::Compound(entries(alloc, marked)?)),
+    }
+}
+
+// Each way not to fit, beside its nearest that fits.
+#[test]
+fn values_fit_by_their_kinds(rt: HostRuntime) -> Result<(), Fail> {
+    let alloc = rt.alloc();
+    let spec = each_kind(&rt, alloc)?;
+    for (slot, form, want) in [
+        (1, Form::Group(&[15, 0]), true),
+        (1, Form::Group(&[15, 16]), false),
+        (1, Form::Group(&[15]), false),
+        (1, Form::Group(&[15, 0, 0]), false),
+        (1, Form::Number(0), false),
+        (2, Form::Number(0), false),
+        (3, Form::Lists(&[15, 7], 1), true),
+        (3, Form::Lists(&[15, 8], 1), false),
+        (3, Form::Lists(&[15, 7], 0), false),
+        (3, Form::Lists(&[15, 7], 2), false),
+        (4, Form::Repeat(255, 255), true),
+        (4, Form::Repeat(255, 256), false),
+        (4, Form::Repeat(256, 1), false),
+        (5, Form::Repeat(127, 1), true),
+        (5, Form::Repeat(127, 0), false),
+        (6, Form::Zeros(254), true),
+        (6, Form::Zeros(255), false),
+        (7, Form::Marked(&[(1, 255), (3, 65535)]), true),
+        (7, Form::Marked(&[(3, 0), (1, 0)]), false),
+        (7, Form::Marked(&[(1, 0), (2, 0)]), false),
+        (8, Form::Number(0), false),
+    ] {
+        let block = one_item(alloc, slot, value_of(alloc, form)?)?;
+        assert_eq!(rt; fits(&spec, &block), want, "in slot {slot}");
+    }
+    Ok(())
+}
+
+#[test]
+fn blocks_fit_by_their_category(rt: HostRuntime) -> Result<(), Fail> {
+    let alloc = rt.alloc();
+    let spec = each_kind(&rt, alloc)?;
+    for (category, count, want) in [(205, 1, false), (204, 1, true), (204, 0, false)] {
+        let octets = zeros(alloc, count)?;
+        assert_eq!(rt; fits(&spec, &Block::Opaque { category, octets }), want);
+    }
+    assert!(rt; fits(&spec, &one_record(alloc, 205, Entries::new(alloc))?));
+    assert!(rt; !fits(&spec, &one_record(alloc, 204, Entries::new(alloc))?));
+    let records = Records::new(alloc);
+    assert!(rt;
+        !fits(
+            &spec,
+            &Block::Read {
+                category: 205,
+                records
+            }
+        )
+    );
+    Ok(())
+}
+
+// The copies fit each other as the originals do.
+#[test]
+fn copies_stand_for_their_originals(rt: HostRuntime) -> Result<(), Fail> {
+    let alloc = rt.alloc();
+    let spec = each_kind(&rt, alloc)?.copy(alloc)?;
+    assert_eq!(rt;
+        (spec.category, spec.items.count(), spec.uap.count()),
+        (205, 6, 7)
+    );
+    let value = Value::Extended(lists(alloc, &[15, 7], 1)?).copy(alloc)?;
+    let block = one_item(alloc, 3, value)?.copy(alloc)?;
+    assert!(rt; fits(&spec, &block));
+    let opaque = Block::Opaque {
+        category: 7,
+        octets: zeros(alloc, 3)?,
+    };
+    assert!(rt; fits(&spec, &opaque.copy(alloc)?));
+    Ok(())
+}
+
+#[test]
+fn paths_are_read_and_copied(rt: HostRuntime) -> Result<(), Fail> {
+    let alloc = rt.alloc();
+    for (text, count) in [
+        ("020/TST", 2),
+        ("020", 1),
+        ("020/", 0),
+        ("", 0),
+        ("/020", 0),
+        ("020//TST", 0),
+        ("020/tst", 0),
+        ("A/B/ABCDEFGHIJKLMNOP", 3),
+        ("ABCDEFGHIJKLMNOPQ", 0),
+    ] {
+        let found = match Path::of(alloc, text.as_bytes())? {
+            Some(path) => path.copy(alloc)?.count(),
+            None => 0,
+        };
+        assert_eq!(rt; found, count, "of {text}");
+    }
+    Ok(())
+}

@@ -25,3 +25,5 @@ pub mod WorkedExamples
 pub mod FittingLists
 pub mod FittingShapes
 pub mod Framings
+pub mod FramedOnce
+pub mod EndsOnce

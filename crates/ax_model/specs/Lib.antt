@@ -27,3 +27,4 @@ pub mod Widths
 pub mod Ends
 pub mod Framing
 pub mod Fitting
+pub mod Streams

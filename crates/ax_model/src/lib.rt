@@ -13,6 +13,7 @@ mod fitting;
 mod flaw;
 mod kind;
 pub mod laws;
+pub mod streams;
 mod lookup;
 mod name;
 mod place;

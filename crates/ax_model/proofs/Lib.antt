@@ -27,3 +27,6 @@ pub mod FittingShapes
 pub mod Framings
 pub mod FramedOnce
 pub mod EndsOnce
+pub mod SpelledBits
+pub mod CanonFramed
+pub mod StreamsApart

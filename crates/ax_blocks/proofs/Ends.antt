@@ -49,74 +49,6 @@ shows_end limit given left left' front e le gives f =
 
 -- ---- the header
 
-module _ (limit given : ℕ) (left left' : Option (List ℕ)) (taken taken' : ℕ) (buffer buffer' : List ℕ) (le : given ≤ limit) where
-  pub no_block : PartTaken left left' taken taken' buffer buffer' 0 3 (limit - given) 0 → FindsEnd limit given left left' taken taken' whole
-  no_block p =
-      let count : 0 ≡ 0 + length p.octets = p.count in
-      let none : p.octets ≡ [] = some_none p.octets (omega arith) in
-      let at_end : IsAtEnd left' = p.ended (omega arith) in record {
-        octets = p.octets;
-        took = p.took;
-        count = omega arith;
-        ran_out = at_end;
-        just = shows_end limit given left left' p.octets whole le p.took.gives (λ rest is. ap (λ l. l ++ rest) none ∙ none_left left' rest at_end is);
-      }
-
-  pub header_cut : (n : ℕ) → 0 < n → n < 3 → PartTaken left left' taken taken' buffer buffer' 0 3 (limit - given) n → FindsEnd limit given left left' taken taken' (ends_in_header (8 * n))
-  header_cut n some cut p =
-      let count : n ≡ 0 + length p.octets = p.count in
-      let within : n ≤ limit - given = p.within in
-      let at_end : IsAtEnd left' = p.ended cut in record {
-        octets = p.octets;
-        took = p.took;
-        count = omega arith;
-        ran_out = at_end;
-        just = shows_end limit given left left' p.octets (ends_in_header (8 * n)) le p.took.gives (λ rest is.
-          (let e : length (p.octets ++ rest) ≡ length p.octets + length rest = length-append p.octets rest in
-          let z : length rest ≡ 0 = ap length (none_left left' rest at_end is) in
-          record { some = omega arith; cut = omega arith; within = omega arith; missing = omega arith }));
-      }
-
-  pub header_past : PartPastRoom left left' taken taken' 0 3 (limit - given) → FindsEnd limit given left left' taken taken' input_too_long
-  header_past p =
-      let count : 0 + length p.octets ≡ limit - given + 1 = p.count in
-      let needs : limit - given < 3 = p.needs in record {
-        octets = p.octets;
-        took = p.took;
-        count = omega arith;
-        ran_out = tt;
-        just = shows_end limit given left left' p.octets input_too_long le p.took.gives (λ rest is.
-          (let e : length (p.octets ++ rest) ≡ length p.octets + length rest = length-append p.octets rest in
-          inl (record { in_header = omega arith; there = omega arith })));
-      }
-
-  pub header_fault : PartCut left left' taken taken' 0 3 (limit - given) → StopsUnfinished limit given left left' taken taken'
-  header_fault p =
-      let fewer : 0 + length p.octets < 3 = p.fewer in
-      let within : 0 + length p.octets ≤ limit - given = p.within in record {
-        octets = p.octets;
-        took = p.took;
-        unfinished = record { within = omega arith; len = λ h. absurd (omega arith); more = λ h. absurd (omega arith) };
-      }
-
-  -- the header is there
-  pub len_bad : PartTaken left left' taken taken' buffer buffer' 0 3 (limit - given) 3 → len_of (take 3 buffer') < 4 → FindsEnd limit given left left' taken taken' bad_len
-  len_bad p bad =
-      let count : 3 ≡ 0 + length p.octets = p.count in
-      let within : 3 ≤ limit - given = p.within in
-      let len : len_of p.octets ≡ len_of (take 3 buffer') = ap len_of (sym p.stands) in record {
-        octets = p.octets;
-        took = p.took;
-        count = omega arith;
-        ran_out = tt;
-        just = shows_end limit given left left' p.octets bad_len le p.took.gives (λ rest is.
-          (let e : length (p.octets ++ rest) ≡ length p.octets + length rest = length-append p.octets rest in
-          let l : len_of (p.octets ++ rest) ≡ len_of p.octets = len_of-append p.octets rest (omega arith) in
-          record { header = omega arith; within = omega arith; bad = omega arith }));
-      }
-
--- ---- the block behind its header
-
 -- the two octets of LEN as the code reads them
 pub len_read : (xs : List ℕ) → 3 ≤ length xs → from_be_bytes w16 (get_or xs 1 0 ∷ get_or xs 2 0 ∷ []) ≡ len_of (take 3 xs)
 len_read [] h = absurd (omega (arith, h))
@@ -148,17 +80,6 @@ header_there limit given left mid taken between buffer buffer' held n le p three
     }
 
 module _ (limit given : ℕ) (left mid left' : Option (List ℕ)) (taken between taken' : ℕ) (header buffer : List ℕ) (n : ℕ) (le : given ≤ limit) (h : Header limit given left mid taken between header n) where
-  pub block_there : n ≤ length buffer → PartTaken mid left' between taken' header buffer 3 n (limit - given) n → HoldsBlock limit given left left' taken taken' buffer n
-  block_there most p =
-      let within : n ≤ limit - given = p.within in
-      let least : 4 ≤ n = h.least in record {
-        took = subst (Took left left' taken taken') (sym p.stands) (took_both left mid left' taken between taken' (take 3 header) p.octets h.took p.took);
-        least = h.least;
-        most = most;
-        within = omega arith;
-        len = ap len_of p.stands ∙ len_of-append (take 3 header) p.octets (let c : length (take 3 header) ≡ 3 = h.count in omega arith) ∙ h.len;
-      }
-
   pub block_cut : (m : ℕ) → m < n → PartTaken mid left' between taken' header buffer 3 n (limit - given) m → FindsEnd limit given left left' taken taken' (ends_in_block (8 * m))
   block_cut m cut p =
       let whole_took : Took left left' taken taken' (take 3 header ++ p.octets) = took_both left mid left' taken between taken' (take 3 header) p.octets h.took p.took in
@@ -173,10 +94,10 @@ module _ (limit given : ℕ) (left mid left' : Option (List ℕ)) (taken between
         count = omega arith;
         ran_out = at_end;
         just = shows_end limit given left left' (take 3 header ++ p.octets) (ends_in_block (8 * m)) le whole_took.gives (λ rest is.
-          (let e : length ((take 3 header ++ p.octets) ++ rest) ≡ length (take 3 header ++ p.octets) + length rest = length-append (take 3 header ++ p.octets) rest in
-          let z : length rest ≡ 0 = ap length (none_left left' rest at_end is) in
-          let len : len_of ((take 3 header ++ p.octets) ++ rest) ≡ n = len_of-append (take 3 header ++ p.octets) rest (omega arith) ∙ len_of-append (take 3 header) p.octets (omega arith) ∙ h.len in
-          record { header = omega arith; len = omega arith; cut = omega arith; within = omega arith; missing = omega arith }));
+            (let e : length ((take 3 header ++ p.octets) ++ rest) ≡ length (take 3 header ++ p.octets) + length rest = length-append (take 3 header ++ p.octets) rest in
+            let z : length rest ≡ 0 = ap length (none_left left' rest at_end is) in
+            let len : len_of ((take 3 header ++ p.octets) ++ rest) ≡ n = len_of-append (take 3 header ++ p.octets) rest (omega arith) ∙ len_of-append (take 3 header) p.octets (omega arith) ∙ h.len in
+            record { header = omega arith; len = omega arith; cut = omega arith; within = omega arith; missing = omega arith }));
       }
 
   pub block_past : PartPastRoom mid left' between taken' 3 n (limit - given) → FindsEnd limit given left left' taken taken' input_too_long
@@ -193,9 +114,9 @@ module _ (limit given : ℕ) (left mid left' : Option (List ℕ)) (taken between
         count = omega arith;
         ran_out = tt;
         just = shows_end limit given left left' (take 3 header ++ p.octets) input_too_long le whole_took.gives (λ rest is.
-          (let e : length ((take 3 header ++ p.octets) ++ rest) ≡ length (take 3 header ++ p.octets) + length rest = length-append (take 3 header ++ p.octets) rest in
-          let len : len_of ((take 3 header ++ p.octets) ++ rest) ≡ n = len_of-append (take 3 header ++ p.octets) rest (omega arith) ∙ len_of-append (take 3 header) p.octets (omega arith) ∙ h.len in
-          inr (record { header = omega arith; header_within = within; len = omega arith; in_block = omega arith; there = omega arith })));
+            (let e : length ((take 3 header ++ p.octets) ++ rest) ≡ length (take 3 header ++ p.octets) + length rest = length-append (take 3 header ++ p.octets) rest in
+            let len : len_of ((take 3 header ++ p.octets) ++ rest) ≡ n = len_of-append (take 3 header ++ p.octets) rest (omega arith) ∙ len_of-append (take 3 header) p.octets (omega arith) ∙ h.len in
+            inr (record { header = omega arith; header_within = within; len = omega arith; in_block = omega arith; there = omega arith })));
       }
 
   pub block_fault : PartCut mid left' between taken' 3 n (limit - given) → StopsUnfinished limit given left left' taken taken'
@@ -264,7 +185,7 @@ gives_block limit given left left' taken taken' buffer n raw le h framed count =
       took = h.took;
       within = omega arith;
       just = told (λ rest. IsJustNext limit given rest (block raw)) left left' (take n buffer) h.took.gives (λ rest is.
-        just_next limit given (take n buffer ++ rest) (block raw) le (record { front = take n buffer; after = rest; split = refl; framed = framed; some = omega arith; within = omega arith }));
+          just_next limit given (take n buffer ++ rest) (block raw) le (record { front = take n buffer; after = rest; split = refl; framed = framed; some = omega arith; within = omega arith }));
     }
 
 -- the reader that gave it, as it was seen before

@@ -109,3 +109,145 @@ fn zeros(alloc: Global, count: usize) -> Result<Vec<u8>, AllocError>
 {
     vec![in alloc; 0; count]
 }
+
+#[cfg(test)]
+mod tests {
+    use super::*;
+    use ax_outside::MemSource;
+    use std::test::Fail;
+
+    // Two blocks of ten octets.
+    const BLOCKS: [u8; 20] = [
+        0x22, 0x00, 0x0A, 0xE0, 0x19, 0x0C, 0x01, 0x00, 0x00, 0x80, //
+        0x22, 0x00, 0x0A, 0xE0, 0x19, 0x0C, 0x01, 0x00, 0x00, 0x80,
+    ];
+
+    const BODY: [u8; 7] = [0xE0, 0x19, 0x0C, 0x01, 0x00, 0x00, 0x80];
+
+    fn source(
+        alloc: Global,
+        octets: &[u8],
+        cuts: &[u32],
+        failing: &[u64],
+    ) -> Result<MemSource, AllocError> {
+        let octets = Vec::from_slice(alloc, octets)?;
+        let cuts = Vec::from_slice(alloc, cuts)?;
+        let failing = Vec::from_slice(alloc, failing)?;
+        Ok(MemSource::new(octets, cuts, failing))
+    }
+
+    // Whether the reader gives one of those blocks next.
+    fn gives_block(reader: &mut BlockReader, source: &mut MemSource) -> bool {
+        match reader.next(source) {
+            Ok(Some(raw)) => raw.category == 0x22 && raw.body == BODY.as_slice(),
+            _ => false,
+        }
+    }
+
+    // Whether the reader ends so, and again.
+    fn ends(reader: &mut BlockReader, source: &mut MemSource, end: Option<NextError>) -> bool {
+        for _ in 0..2 {
+            let same = match reader.next(source) {
+                Ok(Some(_)) => false,
+                Ok(None) => end.is_none(),
+                Err(error) => end == Some(error),
+            };
+            if !same {
+                return false;
+            }
+        }
+        true
+    }
+
+    #[test]
+    fn each_cut_gives_the_same(rt: HostRuntime) -> Result<(), Fail> {
+        let alloc = rt.alloc();
+        let ones = [1; 20];
+        for cuts in [&[] as &[u32], &ones, &[2, 3, 5, 2, 3, 5]] {
+            for (limit, blocks, end) in [
+                (9, 0, Some(NextError::InputTooLong)),
+                (10, 1, Some(NextError::InputTooLong)),
+                (19, 1, Some(NextError::InputTooLong)),
+                (20, 2, None),
+                (u64::MAX, 2, None),
+            ] {
+                let mut reader = BlockReader::new(alloc, limit)?;
+                let mut source = source(alloc, &BLOCKS, cuts, &[])?;
+                for _ in 0..blocks {
+                    assert!(rt; gives_block(&mut reader, &mut source));
+                }
+                assert!(rt; ends(&mut reader, &mut source, end));
+            }
+        }
+        Ok(())
+    }
+
+    // Octet by octet, the failing call being each in turn: the blocks before it are given.
+    #[test]
+    fn a_failing_read_ends_the_input(rt: HostRuntime) -> Result<(), Fail> {
+        let alloc = rt.alloc();
+        for call in 0..21u64 {
+            let mut reader = BlockReader::new(alloc, 20)?;
+            let mut source = source(alloc, &BLOCKS, &[1; 21], &[call])?;
+            for _ in 0..call / 10 {
+                assert!(rt; gives_block(&mut reader, &mut source));
+            }
+            assert!(rt; ends(&mut reader, &mut source, Some(NextError::ReadFault)));
+        }
+        Ok(())
+    }
+
+    #[test]
+    fn faults_of_framing(rt: HostRuntime) -> Result<(), Fail> {
+        let alloc = rt.alloc();
+        for (octets, limit, end) in [
+            (&[] as &[u8], 0, None),
+            (&[0x30, 0x00, 0x03], 3, Some(NextError::BadLen)),
+            (&[0x30, 0x00, 0x00], 3, Some(NextError::BadLen)),
+            (&[0x3E, 0x00, 0x03], 3, Some(NextError::BadLen)),
+            (&[0x30, 0x00, 0x03], 2, Some(NextError::InputTooLong)),
+            (&[0x30], 1, Some(NextError::EndsInHeader { bit: 8 })),
+            (&[0x30, 0x00], 2, Some(NextError::EndsInHeader { bit: 16 })),
+            (&[0x30, 0x00], 1, Some(NextError::InputTooLong)),
+            (
+                &[0x30, 0x00, 0x06],
+                3,
+                Some(NextError::EndsInBlock { bit: 24 }),
+            ),
+            (
+                &[0x30, 0x00, 0x06, 0x80, 0x19],
+                5,
+                Some(NextError::EndsInBlock { bit: 40 }),
+            ),
+            (
+                &[0x30, 0x00, 0x06, 0x80, 0x19],
+                4,
+                Some(NextError::InputTooLong),
+            ),
+        ] {
+            let mut reader = BlockReader::new(alloc, limit)?;
+            let mut source = source(alloc, octets, &[2], &[])?;
+            assert!(rt; ends(&mut reader, &mut source, end));
+        }
+        Ok(())
+    }
+
+    #[test]
+    fn the_longest_block(rt: HostRuntime) -> Result<(), Fail> {
+        let alloc = rt.alloc();
+        let mut octets = vec![in alloc; 0x30, 0xFF, 0xFF]?;
+        octets.resize(65_535, 0x80)?;
+        let mut source = source(alloc, &octets, &[1000, 1], &[])?;
+        let mut reader = BlockReader::new(alloc, 65_535)?;
+        match reader.next(&mut source) {
+            Ok(Some(raw)) => {
+                assert_eq!(rt; raw.category, 0x30);
+                assert_eq!(rt; raw.body.len(), 65_532);
+                assert_eq!(rt; raw.body[65_531], 0x80);
+            }
+            _ => assert!(rt; false),
+        }
+        assert!(rt; ends(&mut reader, &mut source, None));
+        Ok(())
+    }
+}

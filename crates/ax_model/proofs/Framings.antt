@@ -18,7 +18,7 @@ len_of_front category body front after rest f e =
     (len ∙ f.counted, count, ap length e ∙ length-append front after)
 
 -- two blocks that begin one rest
-same_front : (a b x y : List ℕ) → a ++ x ≡ b ++ y → length a ≡ length b → a ≡ b
+pub same_front : (a b x y : List ℕ) → a ++ x ≡ b ++ y → length a ≡ length b → a ≡ b
 same_front a b x y e n = sym (take-append_seam a x) ∙ ap (take (length a)) e ∙ ap (λ k. take k (b ++ y)) n ∙ take-append_seam b y
 
 one_block : (limit before : ℕ) (rest : List ℕ) (raw other : RawTree) → BeginsWithBlock limit before rest raw → BeginsWithBlock limit before rest other → other ≡ raw

@@ -15,6 +15,7 @@ mod fitting;
 mod flaw;
 mod kind;
 pub mod laws;
+pub mod streams;
 mod lookup;
 mod name;
 mod path;

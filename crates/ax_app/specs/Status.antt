@@ -1,15 +1,14 @@
 -- The exit status of each outcome (this project's own rule).
 use Rattle.std.specs.Prelude.{ℕ}
 use Rattle.ax_app.specs.declared.outcome.Outcome.{Outcome}
-use Rattle.ax_app.specs.declared.outcome.Outcome.TheVariants.{Done, Usage, SpecRefused, CategoryTwice, InputRefused, InputTooLong, LoadFault, ReadFault, WriteFault, OutOfMemory}
+use Rattle.ax_app.specs.declared.outcome.Outcome.TheVariants.{Done, Usage, SpecRefused, InputNotYet, InputRefused, LoadFault, ReadFault, WriteFault, OutOfMemory}
 
 abbrev pub status_of : Outcome → ℕ
 status_of (Done blocks) = 0
 status_of Usage = 1
 status_of (SpecRefused file fault) = 2
-status_of (CategoryTwice file category) = 2
+status_of InputNotYet = 3
 status_of (InputRefused fault) = 3
-status_of InputTooLong = 3
 status_of (LoadFault file) = 4
 status_of ReadFault = 4
 status_of WriteFault = 4

@@ -2,10 +2,11 @@
 //! `asterix` does.
 #![tactic(auto)]
 
-mod accepted;
-mod lines;
+mod first_form;
+mod gateway;
+mod judge;
 mod outcome;
-mod stream;
 mod words;
 
+pub use gateway::run;
 pub use outcome::{Cause, InputFault, Outcome, SpecFault};

@@ -189,11 +189,14 @@ RawJudged catalogue raw = ((block : BlockTree) × RawSpells catalogue raw block)
 
 body_judged : (catalogue : List SpecTree) (raw : RawTree) (spec : SpecTree) → HasOctets raw → spec_of raw.category catalogue ≡ Some spec
     → ((records : List EntriesTree) × SpellsBody spec records (bits raw.body)) ⊎ ((p : ℕ) × (c : BodyCause) × FailsBody spec (bits raw.body) p c) → RawJudged catalogue raw
-body_judged catalogue raw spec h known (inl (records, s)) = inl (read_block raw.category records, record {
-  octets = h.octets;
-  framed = h.framed;
-  spelled = record { spec = spec; known = known; body = raw.body; framed = h.framed; spelled = s };
-})
+body_judged catalogue raw spec h known (inl (records, s)) = inl (
+  read_block raw.category records,
+  record {
+    octets = h.octets;
+    framed = h.framed;
+    spelled = record { spec = spec; known = known; body = raw.body; framed = h.framed; spelled = s };
+  },
+)
 body_judged catalogue raw spec h known (inr (p, c, f)) = inr (p, c, record { spec = spec; known = known; fails = f })
 
 by_spec : (catalogue : List SpecTree) (raw : RawTree) (o : Option SpecTree) → HasOctets raw → AllByRecursion (λ s. Sound (record_kind s)) catalogue → spec_of raw.category catalogue ≡ o → RawJudged catalogue raw
@@ -226,18 +229,22 @@ all_judged catalogue (raw ∷ raws) sound h =
 some_end : (catalogue : List SpecTree) (octets : List ℕ) (limit : ℕ) (raws : List RawTree) (e : FramingEnd) → Framed octets limit raws e → AllJudged catalogue raws
     → (blocks : List BlockTree) × (end : InputEnd) × Ends catalogue octets limit blocks end
 some_end catalogue octets limit raws e framed (inl (blocks, h)) = (blocks, by_framing e, record { raws = raws; framed = framed; spelled = h })
-some_end catalogue octets limit raws e framed (inr (blocks, p, c, f)) = (blocks, by_body (length f.before) (24 + p) c, record {
-  before = f.before;
-  bad = f.bad;
-  after = f.after;
-  end = e;
-  framed = subst (λ r. Framed octets limit r e) f.split framed;
-  spelled = f.spelled;
-  place = p;
-  fails = f.fails;
-  counted = refl;
-  header = refl;
-})
+some_end catalogue octets limit raws e framed (inr (blocks, p, c, f)) = (
+  blocks,
+  by_body (length f.before) (24 + p) c,
+  record {
+    before = f.before;
+    bad = f.bad;
+    after = f.after;
+    end = e;
+    framed = subst (λ r. Framed octets limit r e) f.split framed;
+    spelled = f.spelled;
+    place = p;
+    fails = f.fails;
+    counted = refl;
+    header = refl;
+  },
+)
 
 pub one_end_sound : (catalogue : List SpecTree) (octets : List ℕ) (limit : ℕ) → AreOctets octets → AllByRecursion (λ s. Sound (record_kind s)) catalogue → HasOneEnd (Ends catalogue octets limit)
 one_end_sound catalogue octets limit all sound =

@@ -4,3 +4,6 @@
 mod sequence;
 
 pub use sequence::Sequence;
+
+#[cfg(test)]
+mod tests;

@@ -1,5 +1,5 @@
 -- What the octets taken show: a block, or an end of framing.
-use Rattle.std.proofs.Common.{◌≡◌, ℕ, suc, ◌+◌, ◌-◌, ◌*◌, ◌<◌, ◌≤◌, inl, inr, List, [], ◌∷◌, ◌++◌, Option, Some, None, get_or, length, take, drop, refl, sym, ◌∙◌, ap, arith, subst, length-append, length-take-le}
+use Rattle.std.proofs.Common.{◌≡◌, ℕ, suc, ◌+◌, ◌-◌, ◌*◌, ◌<◌, ◌≤◌, inr, List, [], ◌∷◌, ◌++◌, Option, Some, None, get_or, length, take, drop, refl, sym, ◌∙◌, ap, arith, subst, length-append, length-take-le}
 use Rattle.std.specs.Int.{w16, from_be_bytes}
 use Rattle.std.specs.Prelude.{Result, Ok, Err, IsErrAnd, IfSome}
 use Rattle.ax_blocks.specs.declared.next_error.NextError.{NextError}
@@ -7,7 +7,7 @@ use Rattle.ax_blocks.specs.declared.next_error.NextError.TheVariants.{InputTooLo
 use Rattle.ax_blocks.specs.Reader.{ReaderState, IsOpen, IsAfter, GivesBlock, FindsEnd, StopsUnfinished, HoldsBlock, OnEnd, OnReadFault}
 use Rattle.ax_blocks.specs.Taking.{OnTold, Took, PartTaken, PartPastRoom, PartCut, PartMeans}
 use Rattle.ax_model.specs.Blocks.{IsFramed}
-use Rattle.ax_model.specs.Framing.{RawTree, FramingEnd, whole, input_too_long, ends_in_header, bad_len, ends_in_block, len_of, FramingEnds, block, end, IsJustNext}
+use Rattle.ax_model.specs.Framing.{RawTree, FramingEnd, input_too_long, ends_in_block, len_of, FramingEnds, block, end, IsJustNext}
 use Rattle.ax_model.proofs.Framings.{just_next}
 use Rattle.ax_blocks.specs.declared.reader.Ended.{Ended}
 use Rattle.ax_model.specs.declared.record.RawBlock.{RawBlock}

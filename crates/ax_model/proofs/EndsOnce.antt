@@ -1,5 +1,5 @@
 -- Under a catalogue each input has one list of blocks and one end.
-use Rattle.std.proofs.Common.{◌≡◌, ℕ, zero, suc, ◌+◌, ◌<◌, ◌≤◌, ◌⊎◌, inl, inr, ◌==◌, Bool, true, false, cond, List, [], ◌∷◌, ◌++◌, Option, Some, None, length, refl, sym, ◌∙◌, ap, arith, subst}
+use Rattle.std.proofs.Common.{◌≡◌, ℕ, ◌+◌, ◌<◌, ◌⊎◌, inl, inr, ◌==◌, Bool, true, false, cond, List, [], ◌∷◌, ◌++◌, Option, Some, None, length, refl, sym, ◌∙◌, ap, arith, subst}
 use Rattle.std.specs.List.{AllByRecursion}
 use Rattle.ax_bits.specs.Bits.{bits, AreOctets}
 use Rattle.ax_model.proofs.Bounds.{bounds_sound, record_bounds}
@@ -7,7 +7,7 @@ use Rattle.ax_model.proofs.FramedOnce.{framed_once, some_framed}
 use Rattle.ax_model.proofs.Once.{body_once, body_never_both, body_fails_once, body_spelled_or_fails}
 use Rattle.ax_model.specs.Blocks.{BlockTree, read_block, opaque_block, IsFramed, SpellsBlock}
 use Rattle.ax_model.specs.Bodies.{SpellsBody, FailsBody}
-use Rattle.ax_model.specs.Ends.{RawSpells, RawsSpell, RawFails, InputEnd, by_framing, by_body, EndsByFraming, EndsByBody, Ends}
+use Rattle.ax_model.specs.Ends.{RawSpells, RawsSpell, RawFails, InputEnd, by_framing, by_body, Ends}
 use Rattle.ax_model.specs.Flaws.{NoFlaw}
 use Rattle.ax_model.specs.Framing.{RawTree, AreRaws, FramingEnd, Framed}
 use Rattle.ax_model.specs.Sound.{Sound}
@@ -189,11 +189,14 @@ RawJudged catalogue raw = ((block : BlockTree) × RawSpells catalogue raw block)
 
 body_judged : (catalogue : List SpecTree) (raw : RawTree) (spec : SpecTree) → HasOctets raw → spec_of raw.category catalogue ≡ Some spec
     → ((records : List EntriesTree) × SpellsBody spec records (bits raw.body)) ⊎ ((p : ℕ) × (c : BodyCause) × FailsBody spec (bits raw.body) p c) → RawJudged catalogue raw
-body_judged catalogue raw spec h known (inl (records, s)) = inl (read_block raw.category records, record {
-  octets = h.octets;
-  framed = h.framed;
-  spelled = record { spec = spec; known = known; body = raw.body; framed = h.framed; spelled = s };
-})
+body_judged catalogue raw spec h known (inl (records, s)) = inl (
+  read_block raw.category records,
+  record {
+    octets = h.octets;
+    framed = h.framed;
+    spelled = record { spec = spec; known = known; body = raw.body; framed = h.framed; spelled = s };
+  },
+)
 body_judged catalogue raw spec h known (inr (p, c, f)) = inr (p, c, record { spec = spec; known = known; fails = f })
 
 by_spec : (catalogue : List SpecTree) (raw : RawTree) (o : Option SpecTree) → HasOctets raw → AllByRecursion (λ s. Sound (record_kind s)) catalogue → spec_of raw.category catalogue ≡ o → RawJudged catalogue raw
@@ -226,18 +229,22 @@ all_judged catalogue (raw ∷ raws) sound h =
 some_end : (catalogue : List SpecTree) (octets : List ℕ) (limit : ℕ) (raws : List RawTree) (e : FramingEnd) → Framed octets limit raws e → AllJudged catalogue raws
     → (blocks : List BlockTree) × (end : InputEnd) × Ends catalogue octets limit blocks end
 some_end catalogue octets limit raws e framed (inl (blocks, h)) = (blocks, by_framing e, record { raws = raws; framed = framed; spelled = h })
-some_end catalogue octets limit raws e framed (inr (blocks, p, c, f)) = (blocks, by_body (length f.before) (24 + p) c, record {
-  before = f.before;
-  bad = f.bad;
-  after = f.after;
-  end = e;
-  framed = subst (λ r. Framed octets limit r e) f.split framed;
-  spelled = f.spelled;
-  place = p;
-  fails = f.fails;
-  counted = refl;
-  header = refl;
-})
+some_end catalogue octets limit raws e framed (inr (blocks, p, c, f)) = (
+  blocks,
+  by_body (length f.before) (24 + p) c,
+  record {
+    before = f.before;
+    bad = f.bad;
+    after = f.after;
+    end = e;
+    framed = subst (λ r. Framed octets limit r e) f.split framed;
+    spelled = f.spelled;
+    place = p;
+    fails = f.fails;
+    counted = refl;
+    header = refl;
+  },
+)
 
 pub one_end_sound : (catalogue : List SpecTree) (octets : List ℕ) (limit : ℕ) → AreOctets octets → AllByRecursion (λ s. Sound (record_kind s)) catalogue → HasOneEnd (Ends catalogue octets limit)
 one_end_sound catalogue octets limit all sound =

@@ -1,10 +1,10 @@
 -- What comes next in an input is one thing: a whole block, or one end of framing.
-use Rattle.std.proofs.Common.{◌≡◌, ℕ, zero, suc, ◌+◌, ◌-◌, ◌*◌, ◌<◌, ◌≤◌, ◌⊎◌, inl, inr, List, [], ◌∷◌, ◌++◌, length, take, drop, refl, sym, ◌∙◌, ap, arith, length-append, take-append-drop, length-take-le}
+use Rattle.std.proofs.Common.{◌≡◌, ℕ, ◌+◌, ◌-◌, ◌*◌, ◌<◌, ◌≤◌, ◌⊎◌, inl, inr, List, [], ◌∷◌, ◌++◌, length, take, drop, refl, sym, ◌∙◌, ap, arith, length-append, take-append-drop, length-take-le}
 use Rattle.std.proofs.lemmas.Bool.{cases_lt}
 use Rattle.std.proofs.Math.Seq.{take-append_seam}
 use Rattle.ax_bits.specs.Bits.{AreOctets}
 use Rattle.ax_model.specs.Blocks.{IsFramed}
-use Rattle.ax_model.specs.Framing.{RawTree, FramingEnd, whole, input_too_long, ends_in_header, bad_len, ends_in_block, len_of, HeaderPassesLimit, BlockPassesLimit, HeaderIsCut, LenIsBad, BlockIsCut, FramingEnds, BeginsWithBlock, NextPart, block, end, IsNext, IsJustNext}
+use Rattle.ax_model.specs.Framing.{RawTree, FramingEnd, whole, input_too_long, ends_in_header, bad_len, ends_in_block, len_of, FramingEnds, BeginsWithBlock, NextPart, block, end, IsNext, IsJustNext}
 
 -- ---- a block that begins the rest
 
@@ -103,15 +103,17 @@ block_or_end : (limit before category high low : ℕ) (more : List ℕ) → high
     → (part : NextPart) × IsNext limit before (category ∷ high ∷ low ∷ more) part
 block_or_end limit before category high low more h l le four (inl there) (inl within) _ =
     let body : List ℕ = take (256 * high + low - 3) more in
-    let count : length body ≡ 256 * high + low - 3 = length-take-le (256 * high + low - 3) more (omega arith) in
-    (block (record { category = category; body = body }), record {
-      front = category ∷ high ∷ low ∷ body;
-      after = drop (256 * high + low - 3) more;
-      split = ap (λ l. category ∷ high ∷ low ∷ l) (sym (take-append-drop (256 * high + low - 3) more));
-      framed = record { high = high; low = low; layout = refl; counted = omega (arith, count); high_octet = h; low_octet = l };
-      some = omega (arith, count);
-      within = omega (arith, count);
-    })
+    let count : length body ≡ 256 * high + low - 3 = length-take-le (256 * high + low - 3) more (omega arith) in (
+      block (record { category = category; body = body }),
+      record {
+        front = category ∷ high ∷ low ∷ body;
+        after = drop (256 * high + low - 3) more;
+        split = ap (λ l. category ∷ high ∷ low ∷ l) (sym (take-append-drop (256 * high + low - 3) more));
+        framed = record { high = high; low = low; layout = refl; counted = omega (arith, count); high_octet = h; low_octet = l };
+        some = omega (arith, count);
+        within = omega (arith, count);
+      },
+    )
 block_or_end limit before category high low more h l le four (inl there) (inr past) _ = (end input_too_long, inr (record { header = omega arith; header_within = le; len = four; in_block = past; there = omega arith }))
 block_or_end limit before category high low more h l le four (inr cut) _ (inl within) = (end (ends_in_block (8 * (3 + length more))), record { header = omega arith; len = four; cut = omega arith; within = omega arith; missing = omega arith })
 block_or_end limit before category high low more h l le four (inr cut) _ (inr past) = (end input_too_long, inr (record { header = omega arith; header_within = le; len = four; in_block = omega arith; there = omega arith }))

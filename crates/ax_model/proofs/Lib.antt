@@ -30,3 +30,4 @@ pub mod EndsOnce
 pub mod SpelledBits
 pub mod CanonFramed
 pub mod StreamsApart
+pub mod InputSteps

@@ -13,12 +13,12 @@ mod fitting;
 mod flaw;
 mod kind;
 pub mod laws;
-pub mod streams;
 mod lookup;
 mod name;
 mod place;
 mod record;
 mod spec;
+pub mod streams;
 mod text;
 mod value;
 

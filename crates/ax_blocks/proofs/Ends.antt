@@ -23,11 +23,11 @@ took_both left mid left' taken between taken' a b p q = record {
 }
 
 -- what holds of all that is left, where it is told
-told : (P : List ℕ → Type 0) (left left' : Option (List ℕ)) (front : List ℕ) → left ≡ with_front front left' → ((rest : List ℕ) → left' ≡ Some rest → P (front ++ rest)) → OnTold left P
+pub told : (P : List ℕ → Type 0) (left left' : Option (List ℕ)) (front : List ℕ) → left ≡ with_front front left' → ((rest : List ℕ) → left' ≡ Some rest → P (front ++ rest)) → OnTold left P
 told P left None front e f = subst (λ l. OnTold l P) (sym e) tt
 told P left (Some rest) front e f = subst (λ l. OnTold l P) (sym e) (f rest refl)
 
-none_left : (left' : Option (List ℕ)) (rest : List ℕ) → IsAtEnd left' → left' ≡ Some rest → rest ≡ []
+pub none_left : (left' : Option (List ℕ)) (rest : List ℕ) → IsAtEnd left' → left' ≡ Some rest → rest ≡ []
 none_left left' rest h e = subst IsAtEnd e h
 
 some_none : {X : Type 0} (xs : List X) → length xs ≡ 0 → xs ≡ []

@@ -1,5 +1,5 @@
 -- What the octets taken show: a block, or an end of framing.
-use Rattle.std.proofs.Common.{◌≡◌, ℕ, suc, ◌+◌, ◌-◌, ◌*◌, ◌<◌, ◌≤◌, inl, inr, List, [], ◌∷◌, ◌++◌, Option, Some, None, get_or, length, take, drop, refl, sym, ◌∙◌, ap, arith, subst, length-append, length-take-le}
+use Rattle.std.proofs.Common.{◌≡◌, ℕ, suc, ◌+◌, ◌-◌, ◌*◌, ◌<◌, ◌≤◌, inr, List, [], ◌∷◌, ◌++◌, Option, Some, None, get_or, length, take, drop, refl, sym, ◌∙◌, ap, arith, subst, length-append, length-take-le}
 use Rattle.std.specs.Int.{w16, from_be_bytes}
 use Rattle.std.specs.Prelude.{Result, Ok, Err, IsErrAnd, IfSome}
 use Rattle.ax_blocks.specs.declared.next_error.NextError.{NextError}
@@ -7,7 +7,7 @@ use Rattle.ax_blocks.specs.declared.next_error.NextError.TheVariants.{InputTooLo
 use Rattle.ax_blocks.specs.Reader.{ReaderState, IsOpen, IsAfter, GivesBlock, FindsEnd, StopsUnfinished, HoldsBlock, OnEnd, OnReadFault}
 use Rattle.ax_blocks.specs.Taking.{OnTold, Took, PartTaken, PartPastRoom, PartCut, PartMeans}
 use Rattle.ax_model.specs.Blocks.{IsFramed}
-use Rattle.ax_model.specs.Framing.{RawTree, FramingEnd, whole, input_too_long, ends_in_header, bad_len, ends_in_block, len_of, FramingEnds, block, end, IsJustNext}
+use Rattle.ax_model.specs.Framing.{RawTree, FramingEnd, input_too_long, ends_in_block, len_of, FramingEnds, block, end, IsJustNext}
 use Rattle.ax_model.proofs.Framings.{just_next}
 use Rattle.ax_blocks.specs.declared.reader.Ended.{Ended}
 use Rattle.ax_model.specs.declared.record.RawBlock.{RawBlock}
@@ -23,11 +23,11 @@ took_both left mid left' taken between taken' a b p q = record {
 }
 
 -- what holds of all that is left, where it is told
-told : (P : List ℕ → Type 0) (left left' : Option (List ℕ)) (front : List ℕ) → left ≡ with_front front left' → ((rest : List ℕ) → left' ≡ Some rest → P (front ++ rest)) → OnTold left P
+pub told : (P : List ℕ → Type 0) (left left' : Option (List ℕ)) (front : List ℕ) → left ≡ with_front front left' → ((rest : List ℕ) → left' ≡ Some rest → P (front ++ rest)) → OnTold left P
 told P left None front e f = subst (λ l. OnTold l P) (sym e) tt
 told P left (Some rest) front e f = subst (λ l. OnTold l P) (sym e) (f rest refl)
 
-none_left : (left' : Option (List ℕ)) (rest : List ℕ) → IsAtEnd left' → left' ≡ Some rest → rest ≡ []
+pub none_left : (left' : Option (List ℕ)) (rest : List ℕ) → IsAtEnd left' → left' ≡ Some rest → rest ≡ []
 none_left left' rest h e = subst IsAtEnd e h
 
 some_none : {X : Type 0} (xs : List X) → length xs ≡ 0 → xs ≡ []

@@ -1,2 +1,2 @@
-mod Parts
-mod Ends
+pub mod Parts
+pub mod Ends

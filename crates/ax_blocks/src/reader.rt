@@ -43,7 +43,8 @@ impl BlockReader {
     ghost use Rattle.ax_outside.specs.Told.{Rose};
     ghost use Rattle.ax_blocks.specs.contracts.reader.BlockReader.{the_row};
 
-    /// A reader of an input of at most `limit` octets.
+    /// A reader of an input of at most `limit` octets, which has taken nothing and keeps no answer. The room for the
+    /// longest block, 65,535 octets, is taken here, once; want of memory for it is the one refusal.
     pub fn new(alloc: Global, limit: u64) -> Result<BlockReader, AllocError>
         ensures { IfOk result (λ reader. reader ≡ record { limit = limit; given = 0; ended = None }) }
     {
@@ -104,6 +105,7 @@ impl BlockReader {
 /// The most octets of a block.
 const LONGEST: usize = 65_535;
 
+// The buffer stands in a function of its own, so that no proof spells out its octets.
 fn zeros(alloc: Global, count: usize) -> Result<Vec<u8>, AllocError>
     ensures { IfOk result (λ made. length made.items ≡ count) }
 {

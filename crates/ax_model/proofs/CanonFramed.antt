@@ -1,5 +1,5 @@
 -- Bits as octets, and the octets of a block framed with its LEN.
-use Rattle.std.proofs.Common.{◌≡◌, ℕ, zero, suc, ◌+◌, ◌*◌, ◌/◌, ◌%◌, ◌^◌, ◌<◌, ◌≤◌, List, [], ◌∷◌, ◌++◌, length, refl, sym, ◌∙◌, ap, arith}
+use Rattle.std.proofs.Common.{◌≡◌, ℕ, zero, suc, ◌+◌, ◌*◌, ◌/◌, ◌%◌, ◌<◌, ◌≤◌, List, [], ◌∷◌, ◌++◌, length, refl, sym, ◌∙◌, ap, arith}
 use Rattle.ax_bits.proofs.Pieces.{word-split, word-low, number-word}
 use Rattle.ax_bits.proofs.Words.{word-number}
 use Rattle.ax_bits.specs.Bits.{word, bits, number_of, AreBits}

@@ -1,5 +1,5 @@
 -- Under a catalogue each input has one list of blocks and one end.
-use Rattle.std.proofs.Common.{◌≡◌, ℕ, zero, suc, ◌+◌, ◌<◌, ◌≤◌, ◌⊎◌, inl, inr, ◌==◌, Bool, true, false, cond, List, [], ◌∷◌, ◌++◌, Option, Some, None, length, refl, sym, ◌∙◌, ap, arith, subst}
+use Rattle.std.proofs.Common.{◌≡◌, ℕ, ◌+◌, ◌<◌, ◌⊎◌, inl, inr, ◌==◌, Bool, true, false, cond, List, [], ◌∷◌, ◌++◌, Option, Some, None, length, refl, sym, ◌∙◌, ap, arith, subst}
 use Rattle.std.specs.List.{AllByRecursion}
 use Rattle.ax_bits.specs.Bits.{bits, AreOctets}
 use Rattle.ax_model.proofs.Bounds.{bounds_sound, record_bounds}
@@ -7,7 +7,7 @@ use Rattle.ax_model.proofs.FramedOnce.{framed_once, some_framed}
 use Rattle.ax_model.proofs.Once.{body_once, body_never_both, body_fails_once, body_spelled_or_fails}
 use Rattle.ax_model.specs.Blocks.{BlockTree, read_block, opaque_block, IsFramed, SpellsBlock}
 use Rattle.ax_model.specs.Bodies.{SpellsBody, FailsBody}
-use Rattle.ax_model.specs.Ends.{RawSpells, RawsSpell, RawFails, InputEnd, by_framing, by_body, EndsByFraming, EndsByBody, Ends}
+use Rattle.ax_model.specs.Ends.{RawSpells, RawsSpell, RawFails, InputEnd, by_framing, by_body, Ends}
 use Rattle.ax_model.specs.Flaws.{NoFlaw}
 use Rattle.ax_model.specs.Framing.{RawTree, AreRaws, FramingEnd, Framed}
 use Rattle.ax_model.specs.Sound.{Sound}

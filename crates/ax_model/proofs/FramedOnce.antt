@@ -3,7 +3,6 @@ use Rattle.std.proofs.Common.{◌≡◌, ℕ, zero, suc, ◌+◌, ◌<◌, ◌�
 use Rattle.std.proofs.Math.Seq.{drop-append_seam}
 use Rattle.ax_bits.specs.Bits.{AreOctets}
 use Rattle.ax_model.proofs.Framings.{len_of_front, some_next, one_next}
-use Rattle.ax_model.specs.Blocks.{IsFramed}
 use Rattle.ax_model.specs.Framing.{RawTree, AreRaws, FramingEnd, whole, FramingEnds, BeginsWithBlock, NextPart, block, end, IsNext, Framed}
 use Rattle.ax_model.specs.Streams.{HasOneEnd}
 
@@ -122,3 +121,29 @@ some_framed octets limit all =
 
 pub one_framed : (octets : List ℕ) (limit : ℕ) → AreOctets octets → HasOneEnd (Framed octets limit)
 one_framed octets limit all = record { some = some_framed octets limit all; one = λ raws others e d h g. framed_once octets limit raws others e d h g }
+
+-- ---- some whole blocks, and octets behind them
+
+raws_append : (raws others : List RawTree) (front octets : List ℕ) → AreRaws raws front → AreRaws others octets → AreRaws (raws ++ others) (front ++ octets)
+raws_append [] others front octets h g = subst (AreRaws others) (ap (λ l. l ++ octets) (sym h)) g
+raws_append (raw ∷ raws) others front octets (x, y, split, framed, some, more) g =
+    (x, y ++ octets, ap (λ l. l ++ octets) split ∙ append_assoc x y octets, framed, some, raws_append raws others y octets more g)
+
+pub some_framed_behind : (front rest : List ℕ) (limit : ℕ) (raws : List RawTree) → AreRaws raws front → length front ≤ limit → AreOctets rest
+    → (after : List RawTree) × (e : FramingEnd) × Framed (front ++ rest) limit (raws ++ after) e
+some_framed_behind front rest limit raws h le all =
+    let t = some_frames (length rest) limit (length front) rest (omega arith) all in
+    let g = at_once limit (length front) rest t.0 t.1 le t.2 in
+    let count : length front + length g.front ≡ length (front ++ g.front) = sym (length-append front g.front) in
+    let within : length front + length g.front ≤ limit = g.within in (
+      t.0,
+      t.1,
+      record {
+        front = front ++ g.front;
+        rest = g.rest;
+        split = ap (λ l. front ++ l) g.split ∙ sym (append_assoc front g.front g.rest);
+        blocks = raws_append raws t.0 front g.front h g.blocks;
+        within = omega arith;
+        ends = subst (λ k. FramingEnds limit k g.rest t.1) count g.ends;
+      },
+    )

@@ -1,10 +1,10 @@
 -- What comes next in an input is one thing: a whole block, or one end of framing.
-use Rattle.std.proofs.Common.{◌≡◌, ℕ, zero, suc, ◌+◌, ◌-◌, ◌*◌, ◌<◌, ◌≤◌, ◌⊎◌, inl, inr, List, [], ◌∷◌, ◌++◌, length, take, drop, refl, sym, ◌∙◌, ap, arith, length-append, take-append-drop, length-take-le}
+use Rattle.std.proofs.Common.{◌≡◌, ℕ, ◌+◌, ◌-◌, ◌*◌, ◌<◌, ◌≤◌, ◌⊎◌, inl, inr, List, [], ◌∷◌, ◌++◌, length, take, drop, refl, sym, ◌∙◌, ap, arith, length-append, take-append-drop, length-take-le}
 use Rattle.std.proofs.lemmas.Bool.{cases_lt}
 use Rattle.std.proofs.Math.Seq.{take-append_seam}
 use Rattle.ax_bits.specs.Bits.{AreOctets}
 use Rattle.ax_model.specs.Blocks.{IsFramed}
-use Rattle.ax_model.specs.Framing.{RawTree, FramingEnd, whole, input_too_long, ends_in_header, bad_len, ends_in_block, len_of, HeaderPassesLimit, BlockPassesLimit, HeaderIsCut, LenIsBad, BlockIsCut, FramingEnds, BeginsWithBlock, NextPart, block, end, IsNext, IsJustNext}
+use Rattle.ax_model.specs.Framing.{RawTree, FramingEnd, whole, input_too_long, ends_in_header, bad_len, ends_in_block, len_of, FramingEnds, BeginsWithBlock, NextPart, block, end, IsNext, IsJustNext}
 
 -- ---- a block that begins the rest
 

@@ -17,6 +17,7 @@ pub mod FixedKinds
 pub mod FramedOnce
 pub mod Framings
 pub mod Fronts
+pub mod InputSteps
 pub mod Judged
 pub mod Least
 pub mod Lengths

@@ -1,5 +1,5 @@
 -- Canonical octets spell their blocks, and octets spell one list of blocks.
-use Rattle.std.proofs.Common.{◌≡◌, ◌↔◌, ℕ, ◌+◌, ◌*◌, ◌/◌, ◌%◌, ◌<◌, ◌≤◌, ◌==◌, Bool, true, false, cond, List, [], ◌∷◌, ◌++◌, Option, Some, None, length, drop, refl, sym, ◌∙◌, ap, arith, subst, length-append}
+use Rattle.std.proofs.Common.{◌≡◌, ◌↔◌, ℕ, ◌/◌, ◌%◌, ◌≤◌, ◌==◌, Bool, true, false, cond, List, [], ◌∷◌, ◌++◌, Option, Some, None, length, drop, refl, sym, ◌∙◌, ap, arith, subst}
 use Rattle.std.proofs.Math.Seq.{drop-append_seam}
 use Rattle.std.proofs.lemmas.Bool.{eqb-true}
 use Rattle.std.specs.List.{AllByRecursion}
@@ -11,11 +11,10 @@ use Rattle.ax_model.proofs.Framings.{len_of_front, same_front}
 use Rattle.ax_model.proofs.RecordLaws.{body_canon_spells}
 use Rattle.ax_model.proofs.SpelledBits.{records_bits}
 use Rattle.ax_model.proofs.WholeOctets.{two_whole, spells_whole}
-use Rattle.ax_model.specs.Blocks.{BlockTree, read_block, opaque_block, IsFramed, SpellsBlock, SpellsStream, Fits}
+use Rattle.ax_model.specs.Blocks.{BlockTree, read_block, opaque_block, IsFramed, SpellsBlock, SpellsStream}
 use Rattle.ax_model.specs.Bodies.{RecordsSpell, SpellsBody, CanonBody}
-use Rattle.ax_model.specs.CanonicalOctets.{octets_of, framed, canon_over, category_of, CanonBytes}
+use Rattle.ax_model.specs.CanonicalOctets.{octets_of, canon_over, category_of, CanonBytes}
 use Rattle.ax_model.specs.Flaws.{NoFlaw}
-use Rattle.ax_model.specs.InBounds.{InBounds}
 use Rattle.ax_model.specs.Specification.{SpecTree, spec_of, record_kind}
 use Rattle.ax_model.specs.Streams.{FitsOver, IsWritable}
 use Rattle.ax_model.specs.Tree.{EntriesTree, marked}

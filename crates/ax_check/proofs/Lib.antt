@@ -1,0 +1,4 @@
+pub mod Catalogues
+pub mod NameSets
+pub mod Octets
+pub mod Remainders

@@ -1,0 +1,3 @@
+pub mod Names
+pub mod Adding
+pub mod Members

@@ -1,0 +1,12 @@
+-- The names that a set holds.
+use Rattle.std.specs.Prelude.{◌≡◌, ℕ, List, map}
+use Rattle.std.specs.HashSet.{HashSet, keys}
+use Rattle.std.specs.Borrow.{Bor}
+use Rattle.ax_model.specs.Flaws.{is_among}
+
+abbrev pub listed : {S : Type 0} → HashSet (Bor (List ℕ)) S → List (List ℕ)
+listed set = map (λ k. k.now) (keys set)
+
+-- the same names are in both
+abbrev pub AreSame : List (List ℕ) → List (List ℕ) → Type 0
+AreSame one other = (name : List ℕ) → is_among name one ≡ is_among name other

@@ -1,0 +1,104 @@
+ghost use Rattle.std.specs.Prelude.{◌≡◌, ◌∷◌, ◌++◌, [], ◌<◌, ◌↔◌, None, Some, length, slice_get, option_map, OnOk, OnErr, IfErr, IsSome, MatchOption};
+ghost use Rattle.std.specs.Option.{option_copied};
+ghost use Rattle.ax_model.specs.Plain.{spec_tree, catalogue_tree};
+ghost use Rattle.ax_model.specs.Specification.{spec_of};
+ghost use Rattle.ax_check.specs.Adding.{WhyRefused};
+
+use crate::accepted::Accepted;
+use indexmap::IndexMap;
+use std::alloc::{AllocError, Global};
+use std::marker::Model;
+use thiserror::Error;
+
+// The most members of a list. There are 256 categories, so a catalogue never has as many.
+const MOST: usize = 4_294_967_295;
+
+/// Accepted specifications, at most one for each category, in the order of insertion. Contracts see them as that
+/// list.
+#[derive(Drop)]
+pub struct Catalogue {
+    specs: IndexMap<u8, Accepted>,
+}
+
+impl Model for Catalogue {
+    ghost use Rattle.std.specs.Prelude.{List, map, length, ◌≡◌, ◌<◌};
+    ghost use Rattle.std.specs.List.{AllByRecursion};
+    ghost use Rattle.std.specs.Coded.{coded_list};
+    ghost use Rattle.ax_model.specs.contracts.spec.Spec as row;
+    ghost use Rattle.ax_model.specs.declared.spec.Spec.{Spec};
+
+    ghost Value = { List Spec };
+
+    ghost coded = { coded_list row.the_row.coded };
+
+    ghost view = { λ c. map (λ e. e.1) c.specs.entries };
+
+    ghost invariant = { λ c. AllByRecursion (λ e. e.0 ≡ e.1.category) c.specs.entries × (length c.specs.entries < 4294967296) };
+}
+
+impl Catalogue {
+    /// The empty catalogue. Takes no memory.
+    pub fn new(alloc: Global) -> Catalogue
+        ensures { result ≡ [] }
+    {
+        Catalogue {
+            specs: IndexMap::new(alloc),
+        }
+    }
+
+    /// Adds a specification behind the others. CategoryTwice comes exactly where its category is there. A refusal
+    /// leaves the catalogue as it was.
+    #[tactic(auto, using(crate::proofs::Catalogues::adding))]
+    pub fn add(&mut self, one: Accepted) -> Result<(), AddError>
+        ensures ok { OnOk result (self.new ≡ self.old ++ one ∷ []) }
+        ensures new_category { OnOk result (spec_of one.category (catalogue_tree self.old) ≡ None) }
+        ensures err { OnErr result (self.new ≡ self.old) }
+        ensures twice { IfErr result (WhyRefused self.old one) }
+    {
+        let category = one.spec().category;
+        if self.specs.contains_key(&category) {
+            return Err(AddError::CategoryTwice { category });
+        }
+        if self.specs.len() >= MOST {
+            return Err(AddError::OutOfMemory);
+        }
+        match self.specs.insert(category, one) {
+            Ok(_) => Ok(()),
+            Err(_) => Err(AddError::OutOfMemory),
+        }
+    }
+
+    /// The specification of that category. None comes exactly where there is none.
+    #[tactic(auto, using(crate::proofs::Catalogues::looked_up))]
+    pub fn get(&self, category: u8) -> Option<&Accepted>
+        ensures { option_map spec_tree (option_copied result) ≡ spec_of category (catalogue_tree self.now) }
+    {
+        self.specs.get(&category)
+    }
+
+    /// The number of specifications.
+    pub fn count(&self) -> u32
+        ensures { result ≡ length self.now }
+    {
+        self.specs.len() as u32
+    }
+
+    /// The specification at that place of the order, from 0. None comes exactly past the end.
+    #[tactic(auto, using(crate::proofs::Catalogues::placed))]
+    pub fn at(&self, index: u32) -> Option<&Accepted>
+        ensures value { option_copied result ≡ slice_get self.now index }
+        ensures within { IsSome result ↔ index < length self.now }
+    {
+        let (_, one) = self.specs.get_index(index as usize)?;
+        Some(one)
+    }
+}
+
+/// Why a specification isn't added to a catalogue.
+#[derive(Debug, Drop, Error)]
+pub enum AddError {
+    #[error("the catalogue has category {category}")]
+    CategoryTwice { category: u8 },
+    #[error("out of memory")]
+    OutOfMemory,
+}

@@ -2,3 +2,4 @@ pub mod Catalogues
 pub mod NameSets
 pub mod Octets
 pub mod Remainders
+pub mod FlawLists

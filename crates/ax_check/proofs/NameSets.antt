@@ -49,10 +49,10 @@ there_already name k names e = by (bytes_eq name k) refl
 
 added_by : (b : Bool) (k : Bor (List ℕ)) (keys : List (Bor (List ℕ))) → list_any (same_octets k) keys ≡ b
     → AreSame (map (λ x. x.now) (if b then keys else keys ++ k ∷ [])) (k.now ∷ map (λ x. x.now) keys)
-added_by true k keys e = λ name. there_already name k.now (map (λ x. x.now) keys) (sym (among k keys) ∙ e)
-added_by false k keys e = λ name. ap (is_among name) (mapped keys k) ∙ among_last name k.now (map (λ x. x.now) keys)
+added_by true k keys e = record { same = λ name. there_already name k.now (map (λ x. x.now) keys) (sym (among k keys) ∙ e) }
+added_by false k keys e = record { same = λ name. ap (is_among name) (mapped keys k) ∙ among_last name k.now (map (λ x. x.now) keys) }
 
 pub is_added : (k : Bor (List ℕ)) (keys new : List (Bor (List ℕ))) → new ≡ insert_key same_octets keys k → AreSame (map (λ x. x.now) new) (k.now ∷ map (λ x. x.now) keys)
-is_added k keys new e = λ name. ap (λ l. is_among name (map (λ x. x.now) l)) e ∙ added_by (list_any (same_octets k) keys) k keys refl name
+is_added k keys new e = record { same = λ name. ap (λ l. is_among name (map (λ x. x.now) l)) e ∙ (added_by (list_any (same_octets k) keys) k keys refl).same name }
 
 pub ruleset sets = (was_known, is_added)

@@ -8,5 +8,5 @@ abbrev pub listed : {S : Type 0} → HashSet (Bor (List ℕ)) S → List (List �
 listed set = map (λ k. k.now) (keys set)
 
 -- the same names are in both
-abbrev pub AreSame : List (List ℕ) → List (List ℕ) → Type 0
-AreSame one other = (name : List ℕ) → is_among name one ≡ is_among name other
+pub record AreSame (one other : List (List ℕ)) : Type 0 where
+  pub same : (name : List ℕ) → is_among name one ≡ is_among name other

@@ -3,6 +3,7 @@
 
 mod accepted;
 mod catalogue;
+mod fixed_flaws;
 mod names;
 mod texts;
 mod widths;

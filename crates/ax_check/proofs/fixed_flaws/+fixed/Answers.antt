@@ -1,0 +1,14 @@
+use Rattle.std.proofs.Common.{◌≡◌, ◌++◌, [], rules, arith, sym, ◌∙◌, ap}
+use Rattle.ax_check.proofs.FlawLists.{member_found, member_named}
+use Rattle.ax_check.specs.Members.{member_flaws, with_member}
+use Rattle.ax_check.specs.Names.{listed, AreSame}
+use Rattle.ax_model.specs.Plain.{member_tree}
+use Rattle.ax_check.proofs.fixed_flaws.+fixed.Goals as goal
+
+pub find_in_members-loop-member-preserved : goal.find_in_members-loop-member-preserved
+find_in_members-loop-member-preserved t c =
+    let flaws : c.find_in_member.new.found ≡ c.loop-member.found ++ member_flaws c.args.path.now (listed c.loop-member.names) (member_tree c.member-item.result) = search rules in
+    let names : AreSame (listed c.find_in_member.new.names) (with_member (listed c.loop-member.names) (member_tree c.member-item.result)) = search rules in (
+      member_found c.args.path.now (listed c.loop-member.names) (listed c.find_in_member.new.names) c.args.members.now c.loop-member.member-index c.member-item.result c.loop-member.found c.find_in_member.new.found _ (search rules) (search rules) flaws names c.loop-member.invariant.0,
+      member_named (listed c.loop-member.names) (listed c.find_in_member.new.names) _ c.args.members.now c.loop-member.member-index c.member-item.result (search rules) (search rules) names c.loop-member.invariant.1,
+    )

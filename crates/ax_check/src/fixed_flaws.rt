@@ -1,0 +1,163 @@
+//! The flaws of fixed kinds, of groups and of parts.
+ghost use Rattle.std.specs.Prelude.{◌≡◌, ◌++◌, ◌+◌, ◌%◌, [], map, not, OnOk};
+ghost use Rattle.ax_model.specs.Flaws.{flaw_where, is_bad_width, is_bad_element_width, is_bad_scale, is_bad_string_width, is_no_multiple, is_too_wide, fixed_flaws, members_flaws, whole_flaws, parts_flaws, names_with};
+ghost use Rattle.ax_model.specs.Plain.{fixed_tree, member_tree, members_tree, part_tree};
+ghost use Rattle.ax_model.specs.Tree.{group};
+ghost use Rattle.ax_model.specs.Widths.{members_width};
+ghost use Rattle.ax_model.specs.declared.flaw.FlawKind.TheVariants.{BadWidth, BadScale, BadStringWidth};
+ghost use Rattle.ax_check.specs.Members.{member_flaws, with_member};
+ghost use Rattle.ax_check.specs.Names.{listed, AreSame};
+
+use crate::names::enter;
+use crate::texts::{at_name, at_spare};
+use ax_model::{Content, Fixed, Flaw, FlawKind, Flaws, Member, Members, Text};
+use indexmap::IndexSet;
+use std::alloc::{AllocError, Global};
+
+/// Notes a flaw where the test holds. A list of more than 2^32 - 1 flaws is a want of memory.
+pub(crate) fn note(
+    alloc: Global,
+    found: &mut Flaws,
+    holds: bool,
+    kind: FlawKind,
+    path: &Text,
+) -> Result<(), AllocError>
+    ensures { OnOk result (found.new ≡ found.old ++ flaw_where holds kind path.now) }
+{
+    if !holds {
+        return Ok(());
+    }
+    if found.count() == u32::MAX {
+        return Err(AllocError);
+    }
+    let path = path.copy(alloc)?;
+    found.push(Flaw { kind, path })
+}
+
+fn has_bad_width(width: u32) -> bool
+    ensures { result ≡ is_bad_width width }
+{
+    width == 0 || width > 128
+}
+
+fn has_bad_element_width(width: u32, content: &Content) -> bool
+    ensures { result ≡ is_bad_element_width width content.now }
+{
+    match content {
+        Content::Quantity(_) => has_bad_width(width) || width > 64,
+        _ => has_bad_width(width),
+    }
+}
+
+fn has_bad_scale(content: &Content) -> bool
+    ensures { result ≡ is_bad_scale content.now }
+{
+    match content {
+        Content::Quantity(scale) => scale.num == 0 || scale.den == 0,
+        _ => false,
+    }
+}
+
+fn has_bad_string_width(width: u32, content: &Content) -> bool
+    ensures { result ≡ is_bad_string_width width content.now }
+{
+    match content {
+        Content::Ascii => width % 8 != 0,
+        Content::Icao => width % 6 != 0,
+        Content::Octal => width % 3 != 0,
+        _ => false,
+    }
+}
+
+fn element_flaws(
+    alloc: Global,
+    found: &mut Flaws,
+    path: &Text,
+    width: u32,
+    content: &Content,
+) -> Result<(), AllocError>
+    ensures { OnOk result (found.new ≡ found.old ++ (flaw_where (is_bad_element_width width content.now) BadWidth path.now ++ flaw_where (is_bad_scale content.now) BadScale path.now ++ flaw_where (is_bad_string_width width content.now) BadStringWidth path.now)) }
+{
+    let (bad_width, bad_scale) = (has_bad_element_width(width, content), has_bad_scale(content));
+    note(alloc, found, bad_width, FlawKind::BadWidth, path)?;
+    note(alloc, found, bad_scale, FlawKind::BadScale, path)?;
+    let bad_string = has_bad_string_width(width, content);
+    note(alloc, found, bad_string, FlawKind::BadStringWidth, path)
+}
+
+/// The own flaws of a fixed kind.
+#[cycle(fixed)]
+pub(crate) fn find_in_fixed(
+    alloc: Global,
+    found: &mut Flaws,
+    path: &Text,
+    fixed: &Fixed,
+) -> Result<(), AllocError>
+    ensures { OnOk result (found.new ≡ found.old ++ fixed_flaws path.now (fixed_tree fixed.now)) }
+{
+    match fixed {
+        Fixed::Element { width, content } => element_flaws(alloc, found, path, *width, content),
+        Fixed::Group(members) => find_in_group(alloc, found, path, members),
+    }
+}
+
+#[cycle(fixed)]
+#[tactic(auto, using(crate::proofs::FlawLists::group_found))]
+fn find_in_group(
+    alloc: Global,
+    found: &mut Flaws,
+    path: &Text,
+    members: &Members,
+) -> Result<(), AllocError>
+    ensures { OnOk result (found.new ≡ found.old ++ fixed_flaws path.now (group (members_tree members.now))) }
+{
+    note(alloc, found, members.count() == 0, FlawKind::Empty, path)?;
+    let mut names = IndexSet::new(alloc);
+    find_in_members(alloc, found, path, &mut names, members)?;
+    Ok(())
+}
+
+/// The flaws of one member behind others of these names, which gain its own.
+#[cycle(fixed)]
+fn find_in_member<'s>(
+    alloc: Global,
+    found: &mut Flaws,
+    path: &Text,
+    names: &mut IndexSet<&'s [u8]>,
+    member: &'s Member,
+) -> Result<(), AllocError>
+    ensures flaws { OnOk result (found.new ≡ found.old ++ member_flaws path.now (listed names.old) (member_tree member.now)) }
+    ensures names { OnOk result (AreSame (listed names.new) (with_member (listed names.old) (member_tree member.now))) }
+{
+    match member {
+        Member::Spare { width } => {
+            let path = at_spare(alloc, path)?;
+            note(alloc, found, has_bad_width(*width), FlawKind::BadWidth, &path)
+        }
+        Member::Named { name, fixed } => {
+            let path = at_name(alloc, path, name)?;
+            let known = enter(names, name)?;
+            note(alloc, found, known, FlawKind::DuplicateName, &path)?;
+            find_in_fixed(alloc, found, &path, fixed)
+        }
+    }
+}
+
+/// The flaws of members behind others of these names, which gain theirs.
+#[cycle(fixed)]
+#[tactic(auto, using(crate::proofs::FlawLists::members))]
+pub(crate) fn find_in_members<'s>(
+    alloc: Global,
+    found: &mut Flaws,
+    path: &Text,
+    names: &mut IndexSet<&'s [u8]>,
+    members: &'s Members,
+) -> Result<(), AllocError>
+    ensures flaws { OnOk result (found.new ≡ found.old ++ members_flaws path.now (listed names.old) (members_tree members.now)) }
+    ensures names { OnOk result (AreSame (listed names.new) (names_with (listed names.old) (members_tree members.now))) }
+{
+    for member in members.as_slice() {
+        find_in_member(alloc, found, path, names, member)?;
+    }
+    Ok(())
+}

@@ -1,5 +1,5 @@
 -- Lists of flaws, found one member at a time.
-use Rattle.std.proofs.Common.{◌≡◌, ℕ, suc, ◌+◌, ◌<◌, ◌≤◌, ◌==◌, Bool, true, false, ◌||◌, List, [], ◌∷◌, ◌++◌, length, map, drop, get_or, bytes_eq, refl, sym, ◌∙◌, ap, subst, arith, append_assoc, append-nil, codes, Result, Ok, Err, OnOk}
+use Rattle.std.proofs.Common.{◌≡◌, ℕ, suc, ◌+◌, ◌<◌, ◌≤◌, ◌==◌, Bool, true, false, ◌||◌, List, [], ◌∷◌, ◌++◌, length, map, drop, get_or, bytes_eq, refl, sym, ◌∙◌, ap, subst, arith, append_assoc, append-nil, codes}
 use Rattle.std.proofs.lemmas.List.{drop_all}
 use Rattle.std.proofs.lemmas.Bool.{ne_eqb}
 use Rattle.ax_check.proofs.Remainders.{from_place}
@@ -12,10 +12,6 @@ use Rattle.ax_model.specs.declared.flaw.Flaw.{Flaw}
 use Rattle.ax_model.specs.declared.flaw.FlawKind.TheVariants.{BadWidth, DuplicateName, Empty}
 use Rattle.ax_model.specs.declared.kind.Member.{Member}
 
-pub on_ok : {T E : Type 0} {A B : Type 0} (r : Result T E) → (A → B) → OnOk r A → OnOk r B
-on_ok (Ok x) f a = f a
-on_ok (Err e) f a = tt
-
 -- ---- the same names
 
 pub same_more : (name : List ℕ) (a b : List (List ℕ)) → AreSame a b → AreSame (name ∷ a) (name ∷ b)
@@ -27,13 +23,13 @@ same_through a b c h g = record { same = λ n. h.same n ∙ g.same n }
 
 -- ---- members
 
-members_same : (path : List ℕ) (a b : List (List ℕ)) (ms : MembersTree) → AreSame a b → members_flaws path a ms ≡ members_flaws path b ms
+pub members_same : (path : List ℕ) (a b : List (List ℕ)) (ms : MembersTree) → AreSame a b → members_flaws path a ms ≡ members_flaws path b ms
 members_same path a b no_members h = refl
 members_same path a b (member_and (spare w) ms) h = ap (λ l. flaw_where (is_bad_width w) BadWidth (at path (codes "spare")) ++ l) (members_same path a b ms h)
 members_same path a b (member_and (named name f) ms) h = λ i.
     flaw_where (h.same name i) DuplicateName (at path name) ++ fixed_flaws (at path name) f ++ members_same path (name ∷ a) (name ∷ b) ms (same_more name a b h) i
 
-names_same : (a b : List (List ℕ)) (ms : MembersTree) → AreSame a b → AreSame (names_with a ms) (names_with b ms)
+pub names_same : (a b : List (List ℕ)) (ms : MembersTree) → AreSame a b → AreSame (names_with a ms) (names_with b ms)
 names_same a b no_members h = h
 names_same a b (member_and (spare w) ms) h = names_same a b ms h
 names_same a b (member_and (named name f) ms) h = names_same (name ∷ a) (name ∷ b) ms (same_more name a b h)

@@ -3,3 +3,8 @@ pub mod NameSets
 pub mod Octets
 pub mod Remainders
 pub mod FlawLists
+pub mod WholeFlaws
+pub mod PartLists
+pub mod SlotLists
+pub mod ItemLists
+pub mod UapLists

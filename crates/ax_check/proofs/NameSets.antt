@@ -15,6 +15,10 @@ among : (k : Bor (List ℕ)) (keys : List (Bor (List ℕ))) → list_any (same_o
 among k [] = refl
 among k (x ∷ keys) = ap (λ b. same_octets k x || b) (among k keys)
 
+pub has_name : (name : List ℕ) (keys : List (Bor (List ℕ))) → list_any (λ k. bytes_eq name k.now) keys ≡ is_among name (map (λ b. b.now) keys)
+has_name name [] = refl
+has_name name (x ∷ keys) = ap (λ b. bytes_eq name x.now || b) (has_name name keys)
+
 not_not : (b : Bool) → not (not b) ≡ b
 not_not true = refl
 not_not false = refl

@@ -1,10 +1,14 @@
 -- The flaws of one member, slot or item behind others, and the names that those behind it see.
-use Rattle.std.specs.Prelude.{ℕ, List, [], ◌∷◌, ◌++◌, codes, true, if◌then◌else◌}
-use Rattle.ax_model.specs.Flaws.{flaw_where, at, is_among, is_bad_width, fixed_flaws, kind_flaws}
+use Rattle.std.specs.Prelude.{ℕ, ◌+◌, ◌==◌, nat_lt, length, map, decimal, List, [], ◌∷◌, ◌++◌, codes, true, if◌then◌else◌}
+use Rattle.ax_model.specs.Flaws.{flaw_where, at, is_among, is_bad_width, is_no_multiple, is_too_wide, fixed_flaws, members_flaws, kind_flaws, uap_flaws}
+use Rattle.ax_model.specs.Plain.{item_tree}
 use Rattle.ax_model.specs.Specification.{ItemTree}
-use Rattle.ax_model.specs.Tree.{MemberTree, named, spare, SlotTree, spare_slot, subitem}
+use Rattle.ax_model.specs.Tree.{MembersTree, MemberTree, named, spare, SlotTree, spare_slot, subitem}
+use Rattle.ax_model.specs.Widths.{members_width}
 use Rattle.ax_model.specs.declared.flaw.Flaw.{Flaw}
-use Rattle.ax_model.specs.declared.flaw.FlawKind.TheVariants.{BadWidth, DuplicateName, DuplicateItem, NotOctets, RepeatedInUap, UnknownInUap}
+use Rattle.ax_model.specs.declared.flaw.FlawKind.TheVariants.{BadWidth, DuplicateName, DuplicateItem, NotOctets, PartNotOctets, TooWide, Empty, TooManySlots, RepeatedInUap, UnknownInUap}
+use Rattle.ax_model.specs.declared.spec.Item.{Item}
+use Rattle.ax_model.specs.declared.spec.Spec.{Spec}
 use Rattle.ax_model.specs.declared.spec.UapSlot.{UapSlot}
 use Rattle.ax_model.specs.declared.spec.UapSlot.TheVariants as Uap
 
@@ -17,6 +21,13 @@ member_flaws path earlier (named name f) = flaw_where (is_among name earlier) Du
 abbrev pub with_member : List (List ℕ) → MemberTree → List (List ℕ)
 with_member earlier (spare w) = earlier
 with_member earlier (named name f) = name ∷ earlier
+
+-- ---- parts of an extended kind
+
+abbrev pub part_flaws : List ℕ → ℕ → List (List ℕ) → MembersTree → List Flaw
+part_flaws path i earlier p =
+    flaw_where (is_no_multiple 8 (members_width p + 1)) PartNotOctets (at path (codes "part" ++ decimal i))
+    ++ flaw_where (is_too_wide (members_width p)) TooWide (at path (codes "part" ++ decimal i)) ++ members_flaws path earlier p
 
 -- ---- slots of a compound
 
@@ -40,3 +51,12 @@ uap_slot_flaws path items earlier (Uap.Item name) = if is_among name items then 
 abbrev pub with_uap_slot : List (List ℕ) → UapSlot → List (List ℕ)
 with_uap_slot earlier Uap.Spare = earlier
 with_uap_slot earlier (Uap.Item name) = name ∷ earlier
+
+abbrev pub item_names : List Item → List (List ℕ)
+item_names items = map (λ item. item.name) items
+
+-- the flaws at the UAP's path
+abbrev pub uap_part_flaws : List ℕ → Spec → List Flaw
+uap_part_flaws path spec =
+    flaw_where (length spec.uap == 0) Empty (at path (codes "uap")) ++ flaw_where (nat_lt 126 (length spec.uap)) TooManySlots (at path (codes "uap"))
+    ++ uap_flaws (at path (codes "uap")) (map item_tree spec.items) [] spec.uap

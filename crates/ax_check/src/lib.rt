@@ -4,9 +4,13 @@
 mod accepted;
 mod catalogue;
 mod fixed_flaws;
+mod kind_flaws;
 mod names;
+mod spec_flaws;
 mod texts;
 mod widths;
 
 pub use accepted::Accepted;
+pub use ax_model::{Flaw, FlawKind, Flaws};
 pub use catalogue::{AddError, Catalogue};
+pub use spec_flaws::flaws;

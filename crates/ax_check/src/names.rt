@@ -16,3 +16,11 @@ pub(crate) fn enter<'s>(names: &mut IndexSet<&'s [u8]>, name: &'s Name) -> Resul
     let (_, new) = names.insert_full(name.octets())?;
     Ok(!new)
 }
+
+/// Whether the set has the name.
+#[tactic(auto, using(crate::proofs::NameSets::has_name))]
+pub(crate) fn has<'s>(names: &IndexSet<&'s [u8]>, name: &Name) -> bool
+    ensures { result ≡ is_among name.now (listed names.now) }
+{
+    names.contains(name.octets())
+}

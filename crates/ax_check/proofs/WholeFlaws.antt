@@ -1,0 +1,35 @@
+-- The flaws of kinds that are to be whole octets.
+use Rattle.std.proofs.Common.{◌≡◌, ℕ, ◌+◌, ◌%◌, ◌<◌, ◌≤◌, ◌==◌, nat_lt, Bool, true, false, not, List, [], ◌∷◌, ◌++◌, codes, decimal, min, refl, sym, ◌∙◌, ap, arith, append_assoc}
+use Rattle.std.proofs.lemmas.Bool.Decides.{nat_tests}
+use Rattle.ax_check.specs.Members.{part_flaws}
+use Rattle.ax_model.specs.Flaws.{flaw_where, at, is_no_multiple, is_too_wide, fixed_flaws, members_flaws, whole_flaws, kind_flaws}
+use Rattle.ax_model.specs.Lengths.{held}
+use Rattle.ax_model.specs.Tree.{FixedTree, MembersTree, by_fx}
+use Rattle.ax_model.specs.Widths.{width, members_width}
+use Rattle.ax_model.specs.declared.flaw.Flaw.{Flaw}
+use Rattle.ax_model.specs.declared.flaw.FlawKind.{FlawKind}
+use Rattle.ax_model.specs.declared.flaw.FlawKind.TheVariants.{TooWide, BodyNotOctets, PartNotOctets}
+
+-- ---- the tests
+
+pub broken : (w over : ℕ) → over ≡ w % 8 → not (over == 0) ≡ is_no_multiple 8 w
+broken w over e = ap (λ n. not (n == 0)) e
+
+pub broken_unit : (w over : ℕ) → over ≡ w % 8 → not (over == 7) ≡ is_no_multiple 8 (w + 1)
+broken_unit w over e = ap not (same (over == 7) ((w + 1) % 8 == 0) refl refl)
+  where
+    same : (a b : Bool) → (over == 7) ≡ a → ((w + 1) % 8 == 0) ≡ b → (over == 7) ≡ ((w + 1) % 8 == 0)
+    same a b p q = grind (arith, nat_tests)
+
+pub passes : (w held_width : ℕ) → held_width ≡ held w → nat_lt 524256 held_width ≡ is_too_wide w
+passes w held_width e = grind (arith, nat_tests)
+
+-- ---- three lists joined
+
+pub three : {A : Type 0} (start a b c one two all : List A) → one ≡ start ++ a → two ≡ one ++ b → all ≡ two ++ c → all ≡ start ++ (a ++ b ++ c)
+three start a b c one two all p q r =
+    r ∙ ap (λ l. l ++ c) (q ∙ ap (λ l. l ++ b) p) ∙ ap (λ l. l ++ c) (append_assoc start a b) ∙ append_assoc start (a ++ b) c
+
+pub ruleset wholes = (broken, passes, three)
+
+pub ruleset units = (broken_unit, passes, three)

@@ -1,0 +1,10 @@
+use Rattle.std.proofs.Common.{◌≡◌, ◌++◌, drop, map}
+use Rattle.ax_model.specs.Flaws.{uap_flaws}
+use Rattle.ax_model.specs.Plain.{item_tree}
+use Rattle.ax_check.specs.Members.{uap_part_flaws}
+use Rattle.ax_check.specs.Names.{listed}
+use Rattle.ax_check.proofs.spec_flaws.find_in_uap.Given as goal
+
+abbrev pub invariant-loop-slot : goal.invariant-loop-slot
+invariant-loop-slot l =
+    l.found ++ uap_flaws l.place (map item_tree l.spec.items) (listed l.names) (drop l.slot-index l.spec.uap) ≡ l.fn.found ++ uap_part_flaws l.path l.spec

@@ -1,0 +1,167 @@
+//! The flaws of kinds.
+ghost use Rattle.std.specs.Prelude.{◌≡◌, ◌++◌, [], map, OnOk};
+ghost use Rattle.ax_model.specs.Flaws.{whole_flaws, parts_flaws, kind_flaws, slots_flaws, names_with, is_too_wide};
+ghost use Rattle.ax_model.specs.Plain.{fixed_tree, members_tree, part_tree, kind_tree, slot_tree, slots_tree};
+ghost use Rattle.ax_model.specs.Tree.{by_fx, extended, compound};
+ghost use Rattle.ax_model.specs.declared.flaw.FlawKind.TheVariants.{BodyNotOctets};
+ghost use Rattle.ax_check.specs.Members.{part_flaws, slot_flaws, with_slot};
+ghost use Rattle.ax_check.specs.Names.{listed, AreSame};
+
+use crate::fixed_flaws::{find_in_fixed, find_in_members, note};
+use crate::names::enter;
+use crate::texts::{at_body, at_name, at_part};
+use crate::widths::{bits_over, bits_over_members};
+use ax_model::{Fixed, FlawKind, Flaws, Kind, Part, Parts, Slot, Slots, Text};
+use indexmap::IndexSet;
+use std::alloc::{AllocError, Global};
+
+/// The widest fixed kind or part, in bits: the longest body.
+const WIDEST: u64 = 524_256;
+
+/// The most slots of a compound or a UAP.
+pub(crate) const MOST_SLOTS: u32 = 126;
+
+/// The flaws of a fixed kind that is to be whole octets, or else has the flaw named.
+#[tactic(auto, using(crate::proofs::WholeFlaws::wholes))]
+fn find_in_whole(
+    alloc: Global,
+    found: &mut Flaws,
+    broken: FlawKind,
+    path: &Text,
+    fixed: &Fixed,
+) -> Result<(), AllocError>
+    ensures { OnOk result (found.new ≡ found.old ++ whole_flaws broken path.now (fixed_tree fixed.now)) }
+{
+    note(alloc, found, bits_over(fixed) != 0, broken, path)?;
+    note(alloc, found, fixed.width() > WIDEST, FlawKind::TooWide, path)?;
+    find_in_fixed(alloc, found, path, fixed)?;
+    Ok(())
+}
+
+/// The flaws of a by-FX kind, whose body has an FX bit in each occurrence.
+#[tactic(auto, using(crate::proofs::WholeFlaws::units))]
+fn find_in_by_fx(
+    alloc: Global,
+    found: &mut Flaws,
+    broken: FlawKind,
+    path: &Text,
+    fixed: &Fixed,
+) -> Result<(), AllocError>
+    ensures { OnOk result (found.new ≡ found.old ++ kind_flaws broken path.now (by_fx (fixed_tree fixed.now))) }
+{
+    let body = at_body(alloc, path)?;
+    note(alloc, found, bits_over(fixed) != 7, FlawKind::BodyNotOctets, &body)?;
+    note(alloc, found, fixed.width() > WIDEST, FlawKind::TooWide, &body)?;
+    find_in_fixed(alloc, found, &body, fixed)?;
+    Ok(())
+}
+
+/// The flaws of a part of that number behind parts whose members have these names, which gain its own.
+#[tactic(auto, using(crate::proofs::WholeFlaws::units))]
+fn find_in_part<'s>(
+    alloc: Global,
+    found: &mut Flaws,
+    path: &Text,
+    number: u32,
+    names: &mut IndexSet<&'s [u8]>,
+    part: &'s Part,
+) -> Result<(), AllocError>
+    ensures flaws { OnOk result (found.new ≡ found.old ++ part_flaws path.now number (listed names.old) (part_tree part.now)) }
+    ensures names { OnOk result (AreSame (listed names.new) (names_with (listed names.old) (part_tree part.now))) }
+{
+    let place = at_part(alloc, path, number)?;
+    let over = bits_over_members(&part.members);
+    note(alloc, found, over != 7, FlawKind::PartNotOctets, &place)?;
+    note(alloc, found, part.width() > WIDEST, FlawKind::TooWide, &place)?;
+    find_in_members(alloc, found, path, names, &part.members)?;
+    Ok(())
+}
+
+/// The flaws of an extended kind.
+#[tactic(auto, using(crate::proofs::PartLists::parts))]
+fn find_in_parts(
+    alloc: Global,
+    found: &mut Flaws,
+    broken: FlawKind,
+    path: &Text,
+    parts: &Parts,
+) -> Result<(), AllocError>
+    ensures { OnOk result (found.new ≡ found.old ++ kind_flaws broken path.now (extended (map part_tree parts.now))) }
+{
+    note(alloc, found, parts.count() == 0, FlawKind::Empty, path)?;
+    let mut names = IndexSet::new(alloc);
+    let mut number: u32 = 0;
+    for part in parts.as_slice() {
+        find_in_part(alloc, found, path, number, &mut names, part)?;
+        number += 1;
+    }
+    Ok(())
+}
+
+/// The flaws of a kind. A fixed kind that isn't whole octets has the flaw named.
+#[cycle(kind)]
+pub(crate) fn find_in_kind(
+    alloc: Global,
+    found: &mut Flaws,
+    broken: FlawKind,
+    path: &Text,
+    kind: &Kind,
+) -> Result<(), AllocError>
+    ensures { OnOk result (found.new ≡ found.old ++ kind_flaws broken path.now (kind_tree kind.now)) }
+{
+    match kind {
+        Kind::Fixed(fixed) => find_in_whole(alloc, found, broken, path, fixed),
+        Kind::Extended(parts) => find_in_parts(alloc, found, broken, path, parts),
+        Kind::Counted(inner) => {
+            let body = at_body(alloc, path)?;
+            find_in_kind(alloc, found, FlawKind::BodyNotOctets, &body, inner)
+        }
+        Kind::ByFx(fixed) => find_in_by_fx(alloc, found, broken, path, fixed),
+        Kind::Explicit => Ok(()),
+        Kind::Compound(slots) => find_in_slots(alloc, found, broken, path, slots),
+    }
+}
+
+/// The flaws of one slot behind others of these names, which gain its own.
+#[cycle(kind)]
+fn find_in_slot<'s>(
+    alloc: Global,
+    found: &mut Flaws,
+    path: &Text,
+    names: &mut IndexSet<&'s [u8]>,
+    slot: &'s Slot,
+) -> Result<(), AllocError>
+    ensures flaws { OnOk result (found.new ≡ found.old ++ slot_flaws path.now (listed names.old) (slot_tree slot.now)) }
+    ensures names { OnOk result (AreSame (listed names.new) (with_slot (listed names.old) (slot_tree slot.now))) }
+{
+    match slot {
+        Slot::Spare => Ok(()),
+        Slot::Sub { name, kind } => {
+            let path = at_name(alloc, path, name)?;
+            let known = enter(names, name)?;
+            note(alloc, found, known, FlawKind::DuplicateName, &path)?;
+            find_in_kind(alloc, found, FlawKind::NotOctets, &path, kind)
+        }
+    }
+}
+
+/// The flaws of a compound.
+#[cycle(kind)]
+#[tactic(auto, using(crate::proofs::SlotLists::slots))]
+fn find_in_slots(
+    alloc: Global,
+    found: &mut Flaws,
+    broken: FlawKind,
+    path: &Text,
+    slots: &Slots,
+) -> Result<(), AllocError>
+    ensures { OnOk result (found.new ≡ found.old ++ kind_flaws broken path.now (compound (slots_tree slots.now))) }
+{
+    note(alloc, found, slots.count() == 0, FlawKind::Empty, path)?;
+    note(alloc, found, slots.count() > MOST_SLOTS, FlawKind::TooManySlots, path)?;
+    let mut names = IndexSet::new(alloc);
+    for slot in slots.as_slice() {
+        find_in_slot(alloc, found, path, &mut names, slot)?;
+    }
+    Ok(())
+}

@@ -25,14 +25,16 @@ turned a b = by (bytes_eq a b) (bytes_eq b a) refl refl
     by false true e f = (bytes_eq-Decides a b).1 (sym ((bytes_eq-Decides b a).0 f)) ∙ sym f
     by false false e f = e ∙ sym f
 
+found_or : (b : Bool) (item : ItemTree) (o : Option ItemTree) (there : Bool) → is_some o ≡ there → is_some (cond b (Some item) o) ≡ (b || there)
+found_or true item o there e = refl
+found_or false item o there e = e
+
 -- an item has the name exactly where the name is among the items'
 known_item : (name : List ℕ) (items : List Item) → is_some (first_named name (map item_tree items)) ≡ is_among name (item_names items)
 known_item name [] = refl
-known_item name (item ∷ items) = by (bytes_eq item.name name) ∙ ap (λ b. b || is_among name (item_names items)) (turned item.name name)
-  where
-    by : (b : Bool) → is_some (cond b (Some (item_tree item)) (first_named name (map item_tree items))) ≡ (b || is_among name (item_names items))
-    by true = refl
-    by false = known_item name items
+known_item name (item ∷ items) =
+    found_or (bytes_eq item.name name) (item_tree item) (first_named name (map item_tree items)) (is_among name (item_names items)) (known_item name items)
+    ∙ ap (λ b. b || is_among name (item_names items)) (turned item.name name)
 
 uap_same : (path : List ℕ) (items : List ItemTree) (a b : List (List ℕ)) (ss : List UapSlot) → AreSame a b → uap_flaws path items a ss ≡ uap_flaws path items b ss
 uap_same path items a b [] h = refl
@@ -48,15 +50,14 @@ first_uap path items known a (Uap.Item name) ss h =
     ap (λ b. (if b then flaw_where (is_among name a) RepeatedInUap (at path name) else flaw_where true UnknownInUap (at path name)) ++ uap_flaws path (map item_tree items) (name ∷ a) ss)
     (known_item name items ∙ sym (h.same name))
 
-pub uap_start : (path place : List ℕ) (spec : Spec) (names : List (List ℕ)) (found noted again : List Flaw) → place ≡ at path (codes "uap") → names ≡ []
-    → noted ≡ found ++ flaw_where (length spec.uap == 0) Empty place → again ≡ noted ++ flaw_where (nat_lt 126 (length spec.uap)) TooManySlots place
-    → again ++ uap_flaws place (map item_tree spec.items) names spec.uap ≡ found ++ uap_part_flaws path spec
-uap_start path place spec names found noted again p none n m =
-    let empty = flaw_where (length spec.uap == 0) Empty place in
-    let many = flaw_where (nat_lt 126 (length spec.uap)) TooManySlots place in
-    (λ i. (m ∙ ap (λ l. l ++ many) n ∙ append_assoc found empty many) i ++ uap_flaws place (map item_tree spec.items) (none i) spec.uap)
-    ∙ append_assoc found (empty ++ many) (uap_flaws place (map item_tree spec.items) [] spec.uap)
-    ∙ ap (λ t. found ++ (flaw_where (length spec.uap == 0) Empty t ++ flaw_where (nat_lt 126 (length spec.uap)) TooManySlots t ++ uap_flaws t (map item_tree spec.items) [] spec.uap)) p
+pub uap_start : (path : List ℕ) (spec : Spec) (names : List (List ℕ)) (found noted again : List Flaw) → names ≡ []
+    → noted ≡ found ++ flaw_where (length spec.uap == 0) Empty path → again ≡ noted ++ flaw_where (nat_lt 126 (length spec.uap)) TooManySlots path
+    → again ++ uap_flaws path (map item_tree spec.items) names spec.uap ≡ found ++ uap_part_flaws path spec
+uap_start path spec names found noted again none n m =
+    let empty = flaw_where (length spec.uap == 0) Empty path in
+    let many = flaw_where (nat_lt 126 (length spec.uap)) TooManySlots path in
+    (λ i. (m ∙ ap (λ l. l ++ many) n ∙ append_assoc found empty many) i ++ uap_flaws path (map item_tree spec.items) (none i) spec.uap)
+    ∙ append_assoc found (empty ++ many) (uap_flaws path (map item_tree spec.items) [] spec.uap)
 
 pub uap_step : (path : List ℕ) (items : List Item) (known : List (List ℕ)) (i : ℕ) (a b : List (List ℕ)) (ss : List UapSlot) (s : UapSlot) (found new all : List Flaw) → i < length ss → s ≡ get_or ss i s
     → AreSame known (item_names items) → new ≡ found ++ uap_slot_flaws path known a s → AreSame b (with_uap_slot a s) → found ++ uap_flaws path (map item_tree items) a (drop i ss) ≡ all
@@ -74,19 +75,15 @@ uap_end path items i a ss found all past h = sym (append-nil found) ∙ ap (λ l
 
 pub ruleset slots = (uap_start, uap_step, uap_end)
 
--- the flaws of the items, then those at the UAP's path
-pub both_parts : (path : List ℕ) (spec : Spec) (of_items of_all : List Flaw) → path ≡ three_digits spec.category → of_items ≡ [] ++ items_flaws path [] (map item_tree spec.items)
-    → of_all ≡ of_items ++ uap_part_flaws path spec → of_all ≡ spec_flaws spec
-both_parts path spec of_items of_all p e f =
-    let joined : of_all ≡ items_flaws path [] (map item_tree spec.items) ++ uap_part_flaws path spec = f ∙ ap (λ l. l ++ uap_part_flaws path spec) e in
-    joined ∙ ap (λ t. items_flaws t [] (map item_tree spec.items) ++ uap_part_flaws t spec) p ∙ regrouped (three_digits spec.category)
-  where
-    regrouped : (t : List ℕ) → items_flaws t [] (map item_tree spec.items) ++ uap_part_flaws t spec
-        ≡ items_flaws t [] (map item_tree spec.items) ++ flaw_where (length spec.uap == 0) Empty (at t (codes "uap")) ++ flaw_where (nat_lt 126 (length spec.uap)) TooManySlots (at t (codes "uap"))
-        ++ uap_flaws (at t (codes "uap")) (map item_tree spec.items) [] spec.uap
-    regrouped t = four (items_flaws t [] (map item_tree spec.items)) (flaw_where (length spec.uap == 0) Empty (at t (codes "uap"))) (flaw_where (nat_lt 126 (length spec.uap)) TooManySlots (at t (codes "uap")))
-        (uap_flaws (at t (codes "uap")) (map item_tree spec.items) [] spec.uap)
-    four : (a b c d : List Flaw) → a ++ (b ++ c ++ d) ≡ a ++ b ++ c ++ d
-    four a b c d = sym (append_assoc a (b ++ c) d) ∙ ap (λ l. l ++ d) (sym (append_assoc a b c))
+four : (a b c d : List Flaw) → a ++ (b ++ c ++ d) ≡ a ++ b ++ c ++ d
+four a b c d = sym (append_assoc a (b ++ c) d) ∙ ap (λ l. l ++ d) (sym (append_assoc a b c))
 
-pub ruleset whole = (both_parts)
+-- the flaws of the items, then those at the UAP's path
+pub both_parts : (path place : List ℕ) (spec : Spec) (of_items of_all : List Flaw) → path ≡ three_digits spec.category → place ≡ at path (codes "uap")
+    → of_items ≡ [] ++ items_flaws path [] (map item_tree spec.items) → of_all ≡ of_items ++ uap_part_flaws place spec → of_all ≡ spec_flaws spec
+both_parts path place spec of_items of_all p u e f =
+    let digits = three_digits spec.category in
+    let uap = at digits (codes "uap") in
+    f ∙ (λ i. (e ∙ ap (λ t. items_flaws t [] (map item_tree spec.items)) p) i ++ uap_part_flaws ((u ∙ ap (λ t. at t (codes "uap")) p) i) spec)
+    ∙ four (items_flaws digits [] (map item_tree spec.items)) (flaw_where (length spec.uap == 0) Empty uap) (flaw_where (nat_lt 126 (length spec.uap)) TooManySlots uap)
+    (uap_flaws uap (map item_tree spec.items) [] spec.uap)

@@ -58,5 +58,4 @@ item_names items = map (λ item. item.name) items
 -- the flaws at the UAP's path
 abbrev pub uap_part_flaws : List ℕ → Spec → List Flaw
 uap_part_flaws path spec =
-    flaw_where (length spec.uap == 0) Empty (at path (codes "uap")) ++ flaw_where (nat_lt 126 (length spec.uap)) TooManySlots (at path (codes "uap"))
-    ++ uap_flaws (at path (codes "uap")) (map item_tree spec.items) [] spec.uap
+    flaw_where (length spec.uap == 0) Empty path ++ flaw_where (nat_lt 126 (length spec.uap)) TooManySlots path ++ uap_flaws path (map item_tree spec.items) [] spec.uap

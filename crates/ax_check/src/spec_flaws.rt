@@ -77,7 +77,7 @@ fn find_in_uap_slot<'s>(
     }
 }
 
-/// The flaws of the UAP, over the names of the items.
+/// The flaws at the path of the UAP, over the names of the items.
 #[tactic(auto, using(crate::proofs::UapLists::slots))]
 fn find_in_uap<'s>(
     alloc: Global,
@@ -89,20 +89,19 @@ fn find_in_uap<'s>(
     requires { AreSame (listed items.now) (item_names spec.now.items) }
     ensures { OnOk result (found.new ≡ found.old ++ uap_part_flaws path.now spec.now) }
 {
-    let place = at_uap(alloc, path)?;
-    note(alloc, found, spec.uap.count() == 0, FlawKind::Empty, &place)?;
+    note(alloc, found, spec.uap.count() == 0, FlawKind::Empty, path)?;
     let many = spec.uap.count() > MOST_SLOTS;
-    note(alloc, found, many, FlawKind::TooManySlots, &place)?;
+    note(alloc, found, many, FlawKind::TooManySlots, path)?;
     let mut names = IndexSet::new(alloc);
     for slot in spec.uap.as_slice() {
-        find_in_uap_slot(alloc, found, &place, items, &mut names, slot)?;
+        find_in_uap_slot(alloc, found, path, items, &mut names, slot)?;
     }
     Ok(())
 }
 
 /// The flaws of a specification, in their order: those of each item, then those of the UAP. Want of memory, also
 /// for more than 2^32 - 1 flaws, is the one refusal.
-#[tactic(auto, using(crate::proofs::UapLists::whole))]
+#[tactic(auto, using(crate::proofs::UapLists::both_parts))]
 pub fn flaws(alloc: Global, spec: &Spec) -> Result<Flaws, AllocError>
     ensures { IfOk result (λ made. made ≡ spec_flaws spec.now) }
 {
@@ -110,6 +109,7 @@ pub fn flaws(alloc: Global, spec: &Spec) -> Result<Flaws, AllocError>
     let path = of_category(alloc, spec.category)?;
     let mut items = IndexSet::new(alloc);
     find_in_items(alloc, &mut found, &path, &mut items, &spec.items)?;
+    let path = at_uap(alloc, &path)?;
     find_in_uap(alloc, &mut found, &path, spec, &items)?;
     Ok(found)
 }

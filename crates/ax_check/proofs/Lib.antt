@@ -8,3 +8,4 @@ pub mod PartLists
 pub mod SlotLists
 pub mod ItemLists
 pub mod UapLists
+pub mod Namings

@@ -1,8 +1,13 @@
-ghost use Rattle.std.specs.Prelude.{◌≡◌};
+ghost use Rattle.std.specs.Prelude.{◌≡◌, IfOk, OnOk, IfErr};
+ghost use Rattle.ax_check.specs.Accepting.{WhyFlawed};
 ghost use Rattle.ax_model.specs.OfCode.{HasNoFlaw};
 
-use ax_model::Spec;
+use crate::spec_flaws::flaws;
+use ax_model::{Flaws, Spec};
+use std::alloc::Global;
+use std::fmt::{self, Debug, Formatter, Write};
 use std::marker::Model;
+use thiserror::Error;
 
 /// A specification without flaw. Contracts see it as that specification.
 #[derive(Drop)]
@@ -32,4 +37,39 @@ impl Accepted {
     {
         &self.spec
     }
+}
+
+/// Why a specification isn't accepted.
+#[derive(Drop, Error)]
+pub enum CheckError {
+    /// It has these flaws, at least one.
+    #[error("the specification has flaws")]
+    Flawed { flaws: Flaws },
+    #[error("out of memory")]
+    OutOfMemory,
+}
+
+impl Debug for CheckError {
+    fn fmt<W: Write>(&self, f: &mut Formatter<W>) -> fmt::Result {
+        match self {
+            CheckError::Flawed { .. } => f.write_str("Flawed"),
+            CheckError::OutOfMemory => f.write_str("OutOfMemory"),
+        }
+    }
+}
+
+/// Accepts a specification without flaw. Flawed comes exactly where it has flaws, with all of them in their order.
+pub fn accept(alloc: Global, spec: Spec) -> Result<Accepted, CheckError>
+    ensures same { IfOk result (λ accepted. accepted ≡ spec) }
+    ensures no_flaw { OnOk result (HasNoFlaw spec) }
+    ensures flawed { IfErr result (WhyFlawed spec) }
+{
+    let found = match flaws(alloc, &spec) {
+        Ok(found) => found,
+        Err(_) => return Err(CheckError::OutOfMemory),
+    };
+    if found.count() > 0 {
+        return Err(CheckError::Flawed { flaws: found });
+    }
+    Ok(Accepted { spec })
 }

@@ -6,11 +6,14 @@ mod catalogue;
 mod fixed_flaws;
 mod kind_flaws;
 mod names;
+mod elements;
+mod naming;
+mod places;
 mod spec_flaws;
 mod texts;
 mod widths;
 
-pub use accepted::Accepted;
+pub use accepted::{accept, Accepted, CheckError};
 pub use ax_model::{Flaw, FlawKind, Flaws};
 pub use catalogue::{AddError, Catalogue};
 pub use spec_flaws::flaws;

@@ -9,3 +9,5 @@ pub mod SlotLists
 pub mod ItemLists
 pub mod UapLists
 pub mod Namings
+pub mod Walks
+pub mod Stepping

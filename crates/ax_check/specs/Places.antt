@@ -51,30 +51,33 @@ frn_of n name (s ∷ ss) = if is_slot_of name s then Some n else frn_of (n + 1) 
 
 abbrev pub fixed_steps : List (List ℕ) → FixedTree → Option (List ℕ)
 fixed_steps [] f = Some []
-fixed_steps (name ∷ names) (group ms) = option_and_then (member_named 0 name ms) (λ m. option_map (λ steps. m.0 ∷ steps) (fixed_steps names m.1))
+fixed_steps (name ∷ names) (group ms) = option_and_then (λ m. option_map (λ steps. m.0 ∷ steps) (fixed_steps names m.1)) (member_named 0 name ms)
 fixed_steps (name ∷ names) (element w c) = None
 
 abbrev pub kind_steps : List (List ℕ) → KindTree → Option (List ℕ)
 kind_steps [] k = Some []
 kind_steps (name ∷ names) (fixed f) = fixed_steps (name ∷ names) f
 kind_steps (name ∷ names) (extended ps) =
-    option_and_then (part_named 0 name ps) (λ p. option_map (λ steps. p.0 ∷ p.1.0 ∷ steps) (fixed_steps names p.1.1))
-kind_steps (name ∷ names) (compound ss) = option_and_then (slot_named 1 name ss) (λ s. option_map (λ steps. s.0 ∷ steps) (kind_steps names s.1))
+    option_and_then (λ p. option_map (λ steps. p.0 ∷ p.1.0 ∷ steps) (fixed_steps names p.1.1)) (part_named 0 name ps)
+kind_steps (name ∷ names) (compound ss) = option_and_then (λ s. option_map (λ steps. s.0 ∷ steps) (kind_steps names s.1)) (slot_named 1 name ss)
 kind_steps (name ∷ names) _ = None
 
 -- the place of a path, if it is one: its first name is that of an item that stands in the UAP
 abbrev pub place_of : SpecTree → List (List ℕ) → Option Place
 place_of spec [] = None
 place_of spec (name ∷ names) =
-    option_and_then (frn_of 1 name spec.uap) (λ frn. option_and_then (first_named name spec.items) (λ item. option_map (λ steps. record { frn = frn; steps = steps }) (kind_steps names item.kind)))
+    option_and_then (λ frn. option_and_then (λ item. option_map (λ steps. record { frn = frn; steps = steps }) (kind_steps names item.kind)) (first_named name spec.items)) (frn_of 1 name spec.uap)
 
 -- ---- the element at a place
 
--- the fixed kind of the named member behind n others
+abbrev pub fixed_of_member : MemberTree → Option FixedTree
+fixed_of_member (named name f) = Some f
+fixed_of_member (spare w) = None
+
+-- of the member behind n others
 abbrev pub member_fixed : ℕ → MembersTree → Option FixedTree
 member_fixed n no_members = None
-member_fixed zero (member_and (named name f) ms) = Some f
-member_fixed zero (member_and (spare w) ms) = None
+member_fixed zero (member_and m ms) = fixed_of_member m
 member_fixed (suc n) (member_and m ms) = member_fixed n ms
 
 abbrev pub part_fixed : ℕ → ℕ → List MembersTree → Option FixedTree
@@ -86,14 +89,14 @@ abbrev pub fixed_element : List ℕ → FixedTree → Option FixedTree
 fixed_element [] (element w c) = Some (element w c)
 fixed_element [] (group ms) = None
 fixed_element (i ∷ steps) (element w c) = None
-fixed_element (i ∷ steps) (group ms) = option_and_then (member_fixed i ms) (fixed_element steps)
+fixed_element (i ∷ steps) (group ms) = option_and_then (fixed_element steps) (member_fixed i ms)
 
 abbrev pub kind_element : List ℕ → KindTree → Option FixedTree
 kind_element steps (fixed f) = fixed_element steps f
-kind_element (p ∷ i ∷ steps) (extended ps) = option_and_then (part_fixed p i ps) (fixed_element steps)
-kind_element (s ∷ steps) (compound ss) = option_and_then (slot_kind ss s) (kind_element steps)
+kind_element (p ∷ i ∷ steps) (extended ps) = option_and_then (fixed_element steps) (part_fixed p i ps)
+kind_element (s ∷ steps) (compound ss) = option_and_then (kind_element steps) (slot_kind ss s)
 kind_element _ _ = None
 
 -- a group or another kind is no element
 abbrev pub element_at : SpecTree → Place → Option FixedTree
-element_at spec place = option_and_then (slot_kind (record_slots spec) place.frn) (kind_element place.steps)
+element_at spec place = option_and_then (kind_element place.steps) (slot_kind (record_slots spec) place.frn)

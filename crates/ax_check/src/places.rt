@@ -20,6 +20,7 @@ fn go_down(steps: &mut Steps, step: u32) -> Result<(), AllocError>
 }
 
 /// Whether the names lead down from the fixed kind. If so, their steps are appended.
+#[tactic(auto, using(crate::proofs::Walks::fixed_walks))]
 fn walk_fixed(steps: &mut Steps, fixed: &Fixed, names: &[Name]) -> Result<bool, AllocError>
     ensures { IfOk result (Leads (fixed_steps names.now (fixed_tree fixed.now)) steps.old steps.new) }
 {
@@ -37,6 +38,7 @@ fn walk_fixed(steps: &mut Steps, fixed: &Fixed, names: &[Name]) -> Result<bool, 
 }
 
 /// Whether the names lead down from the kind. If so, their steps are appended.
+#[tactic(auto, using(crate::proofs::Walks::kind_walks))]
 fn walk_kind(steps: &mut Steps, kind: &Kind, names: &[Name]) -> Result<bool, AllocError>
     ensures { IfOk result (Leads (kind_steps names.now (kind_tree kind.now)) steps.old steps.new) }
 {
@@ -67,6 +69,7 @@ fn walk_kind(steps: &mut Steps, kind: &Kind, names: &[Name]) -> Result<bool, All
 impl Accepted {
     /// The place of a path. None comes exactly where the path is no place: where its first name is no item that stands
     /// in the UAP, or a later one is no subitem of a compound and no member of a group or of an extended item's parts.
+    #[tactic(auto, using(crate::proofs::Walks::resolved))]
     pub fn resolve(&self, alloc: Global, path: &Path) -> Result<Option<Place>, AllocError>
         ensures { IfOk result (λ made. made ≡ place_of (spec_tree self.now) path.now) }
     {
@@ -74,7 +77,10 @@ impl Accepted {
         let Some((name, names)) = path.as_slice().split_first() else {
             return Ok(None);
         };
-        let (Some(frn), Some(item)) = (find_frn(&spec.uap, name), spec.item(name)) else {
+        let Some(frn) = find_frn(&spec.uap, name) else {
+            return Ok(None);
+        };
+        let Some(item) = spec.item(name) else {
             return Ok(None);
         };
         let mut steps = Steps::new(alloc);

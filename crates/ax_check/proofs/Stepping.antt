@@ -1,0 +1,139 @@
+-- Steps down a kind to an element.
+use Rattle.std.proofs.Common.{◌≡◌, ℕ, zero, suc, ◌-◌, List, [], ◌∷◌, map, slice_get, Option, Some, None, option_map, option_and_then, refl, sym, ◌∙◌, ap, subst, arith}
+use Rattle.ax_check.specs.Places.{fixed_of_member, member_fixed, part_fixed, fixed_element, kind_element, element_at}
+use Rattle.ax_model.proofs.Counting.{slot_there}
+use Rattle.ax_model.proofs.Lookups.{uap_slot_tree}
+use Rattle.ax_model.specs.Lengths.{kind_of_slot, slot_kind}
+use Rattle.ax_model.specs.Lookup.{item_of_frn, item_of_slot}
+use Rattle.ax_model.specs.Plain.{item_tree, kind_tree, member_tree, members_tree, part_tree, slot_tree, slots_tree, spec_tree}
+use Rattle.ax_model.specs.Specification.{record_slots, slot_of_item, uap_slot}
+use Rattle.ax_model.specs.Tree.{FixedTree, element, group, MembersTree, KindTree, fixed, extended, compound, SlotsTree, slots_of}
+use Rattle.ax_model.specs.declared.content.Content.{Content}
+use Rattle.ax_model.specs.declared.kind.Member.{Member}
+use Rattle.ax_model.specs.declared.kind.Part.{Part}
+use Rattle.ax_model.specs.declared.kind.Slot.{Slot}
+use Rattle.ax_model.specs.declared.place.Place.{Place}
+use Rattle.ax_model.specs.declared.spec.Item.{Item}
+use Rattle.ax_model.specs.declared.spec.Spec.{Spec}
+use Rattle.ax_model.specs.declared.spec.UapSlot.{UapSlot}
+
+-- ---- by number
+
+pub member_some : (ms : List Member) (n : ℕ) (m : Member) → slice_get ms n ≡ Some m → member_fixed n (members_tree ms) ≡ fixed_of_member (member_tree m)
+member_some [] n m e = absurd (cc)
+member_some (x ∷ ms) zero m e = ap fixed_of_member (ap member_tree (same x m e))
+  where
+    same : (x m : Member) → Some x ≡ Some m → x ≡ m
+    same x m e = cc
+member_some (x ∷ ms) (suc n) m e = member_some ms n m e
+
+pub member_past : (ms : List Member) (n : ℕ) → slice_get ms n ≡ None → member_fixed n (members_tree ms) ≡ None
+member_past [] n e = refl
+member_past (x ∷ ms) zero e = absurd (cc)
+member_past (x ∷ ms) (suc n) e = member_past ms n e
+
+pub ruleset members = (member_some, member_past)
+
+pub part_some : (ps : List Part) (n i : ℕ) (p : Part) → slice_get ps n ≡ Some p → part_fixed n i (map part_tree ps) ≡ member_fixed i (part_tree p)
+part_some [] n i p e = absurd (cc)
+part_some (x ∷ ps) zero i p e = ap (member_fixed i) (ap part_tree (same x p e))
+  where
+    same : (x p : Part) → Some x ≡ Some p → x ≡ p
+    same x p e = cc
+part_some (x ∷ ps) (suc n) i p e = part_some ps n i p e
+
+pub part_past : (ps : List Part) (n i : ℕ) → slice_get ps n ≡ None → part_fixed n i (map part_tree ps) ≡ None
+part_past [] n i e = refl
+part_past (x ∷ ps) zero i e = absurd (cc)
+part_past (x ∷ ps) (suc n) i e = part_past ps n i e
+
+pub ruleset parts = (part_some, part_past)
+
+pub slot_some : (ss : List Slot) (n : ℕ) (s : Slot) → (n ≡ 0 → ⊥) → slice_get ss (n - 1) ≡ Some s → slot_kind (slots_tree ss) n ≡ kind_of_slot (slot_tree s)
+slot_some ss n s some e = slot_there ss n s some e
+
+pub slot_past : (ss : List Slot) (n : ℕ) → (n ≡ 0 → ⊥) → slice_get ss (n - 1) ≡ None → slot_kind (slots_tree ss) n ≡ None
+slot_past ss zero some e = absurd (some refl)
+slot_past ss (suc n) some e = past ss n (ap (slice_get ss) same ∙ e)
+  where
+    same : n ≡ suc n - 1
+    same = omega arith
+    past : (ss : List Slot) (n : ℕ) → slice_get ss n ≡ None → slot_kind (slots_tree ss) (suc n) ≡ None
+    past [] n e = refl
+    past (x ∷ ss) zero e = absurd (cc)
+    past (x ∷ ss) (suc n) e = past ss n e
+
+pub ruleset slots = (slot_some, slot_past)
+
+-- ---- walks over fixed kinds
+
+pub ends_here : (steps : List ℕ) (f : FixedTree) (w : ℕ) (c : Content) → steps ≡ [] → f ≡ element w c → fixed_element steps f ≡ Some f
+ends_here steps f w c e h = ap (λ s. fixed_element s f) e ∙ ap (fixed_element []) h ∙ ap Some (sym h)
+
+pub goes_down : (steps later : List ℕ) (n : ℕ) (f inner : FixedTree) (ms : MembersTree) → steps ≡ n ∷ later → f ≡ group ms → member_fixed n ms ≡ Some inner → fixed_element steps f ≡ fixed_element later inner
+goes_down steps later n f inner ms e g found = ap (λ s. fixed_element s f) e ∙ ap (fixed_element (n ∷ later)) g ∙ ap (option_and_then (fixed_element later)) found
+
+pub no_way_down : (steps later : List ℕ) (n : ℕ) (f : FixedTree) (ms : MembersTree) → steps ≡ n ∷ later → f ≡ group ms → member_fixed n ms ≡ None → fixed_element steps f ≡ None
+no_way_down steps later n f ms e g none = ap (λ s. fixed_element s f) e ∙ ap (fixed_element (n ∷ later)) g ∙ ap (option_and_then (fixed_element later)) none
+
+pub no_element : (steps : List ℕ) (f : FixedTree) (ms : MembersTree) → steps ≡ [] → f ≡ group ms → fixed_element steps f ≡ None
+no_element steps f ms e g = ap (λ s. fixed_element s f) e ∙ ap (fixed_element []) g
+
+pub past_element : (steps later : List ℕ) (n : ℕ) (f : FixedTree) (w : ℕ) (c : Content) → steps ≡ n ∷ later → f ≡ element w c → fixed_element steps f ≡ None
+past_element steps later n f w c e g = ap (λ s. fixed_element s f) e ∙ ap (fixed_element (n ∷ later)) g
+
+pub ruleset fixed_walks = (ends_here, goes_down, no_way_down, no_element, past_element)
+
+-- ---- walks over kinds
+
+pub into_slot : (steps later : List ℕ) (n : ℕ) (k inner : KindTree) (ss : SlotsTree) → steps ≡ n ∷ later → k ≡ compound ss → slot_kind ss n ≡ Some inner → kind_element steps k ≡ kind_element later inner
+into_slot steps later n k inner ss e g found = ap (λ s. kind_element s k) e ∙ ap (kind_element (n ∷ later)) g ∙ ap (option_and_then (kind_element later)) found
+
+pub no_slot : (steps later : List ℕ) (n : ℕ) (k : KindTree) (ss : SlotsTree) → steps ≡ n ∷ later → k ≡ compound ss → slot_kind ss n ≡ None → kind_element steps k ≡ None
+no_slot steps later n k ss e g none = ap (λ s. kind_element s k) e ∙ ap (kind_element (n ∷ later)) g ∙ ap (option_and_then (kind_element later)) none
+
+pub into_part : (steps below later : List ℕ) (p i : ℕ) (k : KindTree) (inner : FixedTree) (ps : List MembersTree) → steps ≡ p ∷ below → below ≡ i ∷ later → k ≡ extended ps → part_fixed p i ps ≡ Some inner
+    → kind_element steps k ≡ fixed_element later inner
+into_part steps below later p i k inner ps e f g found =
+    ap (λ s. kind_element s k) (e ∙ ap (λ b. p ∷ b) f) ∙ ap (kind_element (p ∷ i ∷ later)) g ∙ ap (option_and_then (fixed_element later)) found
+
+pub no_part : (steps below later : List ℕ) (p i : ℕ) (k : KindTree) (ps : List MembersTree) → steps ≡ p ∷ below → below ≡ i ∷ later → k ≡ extended ps → part_fixed p i ps ≡ None → kind_element steps k ≡ None
+no_part steps below later p i k ps e f g none = ap (λ s. kind_element s k) (e ∙ ap (λ b. p ∷ b) f) ∙ ap (kind_element (p ∷ i ∷ later)) g ∙ ap (option_and_then (fixed_element later)) none
+
+pub no_step : (steps : List ℕ) (k : KindTree) (ps : List MembersTree) → steps ≡ [] → k ≡ extended ps → kind_element steps k ≡ None
+no_step steps k ps e g = ap (λ s. kind_element s k) e ∙ ap (kind_element []) g
+
+pub one_step : (steps below : List ℕ) (p : ℕ) (k : KindTree) (ps : List MembersTree) → steps ≡ p ∷ below → below ≡ [] → k ≡ extended ps → kind_element steps k ≡ None
+one_step steps below p k ps e f g = ap (λ s. kind_element s k) (e ∙ ap (λ b. p ∷ b) f) ∙ ap (kind_element (p ∷ [])) g
+
+pub no_slot_step : (steps : List ℕ) (k : KindTree) (ss : SlotsTree) → steps ≡ [] → k ≡ compound ss → kind_element steps k ≡ None
+no_slot_step steps k ss e g = ap (λ s. kind_element s k) e ∙ ap (kind_element []) g
+
+pub ruleset kind_walks = (into_slot, no_slot, into_part, no_part, no_step, one_step, no_slot_step)
+
+-- ---- items
+
+abbrev kind_of_item : Option Item → Option KindTree
+kind_of_item None = None
+kind_of_item (Some item) = Some (kind_tree item.kind)
+
+item_slot : (o : Option Item) → kind_of_slot (slot_of_item (option_map item_tree o)) ≡ kind_of_item o
+item_slot None = refl
+item_slot (Some item) = refl
+
+kind_at_place : (items : List Item) (uap : List UapSlot) (i : ℕ) → slot_kind (slots_of (map (uap_slot (map item_tree items)) uap)) (suc i) ≡ kind_of_item (item_of_slot (slice_get uap i) items)
+kind_at_place items [] i = refl
+kind_at_place items (s ∷ ss) zero = ap kind_of_slot (uap_slot_tree items s) ∙ item_slot (item_of_slot (Some s) items)
+kind_at_place items (s ∷ ss) (suc i) = kind_at_place items ss i
+
+kind_of_frn : (spec : Spec) (t : ℕ) → slot_kind (record_slots (spec_tree spec)) t ≡ kind_of_item (item_of_frn t spec.uap spec.items)
+kind_of_frn spec zero = refl
+kind_of_frn spec (suc i) = kind_at_place spec.items spec.uap i
+
+pub item_there : (spec : Spec) (place : Place) (item : Item) → item_of_frn place.frn spec.uap spec.items ≡ Some item → element_at (spec_tree spec) place ≡ kind_element place.steps (kind_tree item.kind)
+item_there spec place item e = ap (option_and_then (kind_element place.steps)) (kind_of_frn spec place.frn ∙ ap kind_of_item e)
+
+pub no_item : (spec : Spec) (place : Place) → item_of_frn place.frn spec.uap spec.items ≡ None → element_at (spec_tree spec) place ≡ None
+no_item spec place e = ap (option_and_then (kind_element place.steps)) (kind_of_frn spec place.frn ∙ ap kind_of_item e)
+
+pub ruleset whole = (item_there, no_item)

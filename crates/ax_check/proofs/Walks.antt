@@ -1,6 +1,6 @@
 -- Walks down a kind by names.
 use Rattle.std.proofs.Common.{◌≡◌, ℕ, Bool, true, false, List, [], ◌∷◌, ◌++◌, map, Option, Some, None, option_map, option_and_then, refl, sym, ◌∙◌, ap, subst, append_assoc, append-nil}
-use Rattle.ax_check.specs.Places.{member_named, part_named, slot_named, fixed_steps, kind_steps, frn_of, place_of}
+use Rattle.ax_check.specs.Places.{member_named, part_named, slot_named, fixed_steps, kind_steps, frn_of, place_at, place_of}
 use Rattle.ax_check.specs.Walking.{Leads}
 use Rattle.ax_model.proofs.Lookups.{named_tree}
 use Rattle.ax_model.specs.Lookup.{item_named}
@@ -80,7 +80,7 @@ pub ruleset kind_walks = (no_name_left, nowhere, no_part, no_slot, as_fixed, to_
 -- ---- whole paths
 
 abbrev rest_of : List (List ℕ) → ℕ → Option ItemTree → Option Place
-rest_of names frn o = option_and_then (λ item. option_map (λ steps. record { frn = frn; steps = steps }) (kind_steps names item.kind)) o
+rest_of names frn o = option_and_then (λ item. option_map (place_at frn) (kind_steps names item.kind)) o
 
 none_either : (names : List (List ℕ)) (o : Option ℕ) → option_and_then (λ frn. rest_of names frn None) o ≡ None
 none_either names None = refl
@@ -99,25 +99,25 @@ no_item spec path names name e none =
     ∙ none_either names (frn_of 1 name spec.uap))
 
 known_place : (spec : Spec) (path names : List (List ℕ)) (name : List ℕ) (frn : ℕ) (item : Item) → path ≡ name ∷ names → Some frn ≡ frn_of 1 name spec.uap → item_named name spec.items ≡ Some item
-    → place_of (spec_tree spec) path ≡ option_map (λ steps. record { frn = frn; steps = steps }) (kind_steps names (kind_tree item.kind))
+    → place_of (spec_tree spec) path ≡ option_map (place_at frn) (kind_steps names (kind_tree item.kind))
 known_place spec path names name frn item e f i =
     ap (place_of (spec_tree spec)) e ∙ ap (option_and_then (λ n. rest_of names n (first_named name (map item_tree spec.items)))) (sym f)
     ∙ ap (rest_of names frn) (named_tree name spec.items ∙ ap (option_map item_tree) i)
 
-lost : (o : Option (List ℕ)) (frn : ℕ) (new : List ℕ) (leads : Bool) → leads ≡ false → Leads o [] new leads → None ≡ option_map (λ steps. record { frn = frn; steps = steps }) o
+lost : (o : Option (List ℕ)) (frn : ℕ) (new : List ℕ) (leads : Bool) → leads ≡ false → Leads o [] new leads → None ≡ option_map (place_at frn) o
 lost None frn new leads e h = refl
 lost (Some steps) frn new leads e h = absurd (cc)
 
-there : (o : Option (List ℕ)) (frn : ℕ) (new : List ℕ) (leads : Bool) → leads ≡ true → Leads o [] new leads → Some record { frn = frn; steps = new } ≡ option_map (λ steps. record { frn = frn; steps = steps }) o
+there : (o : Option (List ℕ)) (frn : ℕ) (new : List ℕ) (leads : Bool) → leads ≡ true → Leads o [] new leads → Some (place_at frn new) ≡ option_map (place_at frn) o
 there None frn new leads e h = absurd (cc)
-there (Some steps) frn new leads e h = ap (λ l. Some record { frn = frn; steps = l }) h.1
+there (Some steps) frn new leads e h = ap (λ l. Some (place_at frn l)) h.1
 
 pub no_place : (spec : Spec) (path names : List (List ℕ)) (name : List ℕ) (frn : ℕ) (item : Item) (new : List ℕ) (leads : Bool) → path ≡ name ∷ names → Some frn ≡ frn_of 1 name spec.uap
     → item_named name spec.items ≡ Some item → leads ≡ false → Leads (kind_steps names (kind_tree item.kind)) [] new leads → None ≡ place_of (spec_tree spec) path
 no_place spec path names name frn item new leads e f i l h = lost (kind_steps names (kind_tree item.kind)) frn new leads l h ∙ sym (known_place spec path names name frn item e f i)
 
 pub the_place : (spec : Spec) (path names : List (List ℕ)) (name : List ℕ) (frn : ℕ) (item : Item) (new : List ℕ) (leads : Bool) → path ≡ name ∷ names → Some frn ≡ frn_of 1 name spec.uap
-    → item_named name spec.items ≡ Some item → leads ≡ true → Leads (kind_steps names (kind_tree item.kind)) [] new leads → Some record { frn = frn; steps = new } ≡ place_of (spec_tree spec) path
+    → item_named name spec.items ≡ Some item → leads ≡ true → Leads (kind_steps names (kind_tree item.kind)) [] new leads → Some (place_at frn new) ≡ place_of (spec_tree spec) path
 the_place spec path names name frn item new leads e f i l h = there (kind_steps names (kind_tree item.kind)) frn new leads l h ∙ sym (known_place spec path names name frn item e f i)
 
 pub ruleset resolved = (no_first, no_frn, no_item, no_place, the_place)

@@ -62,11 +62,14 @@ kind_steps (name ∷ names) (extended ps) =
 kind_steps (name ∷ names) (compound ss) = option_and_then (λ s. option_map (λ steps. s.0 ∷ steps) (kind_steps names s.1)) (slot_named 1 name ss)
 kind_steps (name ∷ names) _ = None
 
+abbrev pub place_at : ℕ → List ℕ → Place
+place_at frn steps = record { frn = frn; steps = steps }
+
 -- the place of a path, if it is one: its first name is that of an item that stands in the UAP
 abbrev pub place_of : SpecTree → List (List ℕ) → Option Place
 place_of spec [] = None
 place_of spec (name ∷ names) =
-    option_and_then (λ frn. option_and_then (λ item. option_map (λ steps. record { frn = frn; steps = steps }) (kind_steps names item.kind)) (first_named name spec.items)) (frn_of 1 name spec.uap)
+    option_and_then (λ frn. option_and_then (λ item. option_map (place_at frn) (kind_steps names item.kind)) (first_named name spec.items)) (frn_of 1 name spec.uap)
 
 -- ---- the element at a place
 

@@ -1,5 +1,5 @@
 -- The first of a name, over lists from a place on.
-use Rattle.std.proofs.Common.{◌≡◌, ℕ, suc, ◌+◌, ◌<◌, ◌≤◌, Bool, true, false, if◌then◌else◌, List, [], ◌∷◌, length, map, drop, get_or, Option, Some, None, option_map, refl, sym, ◌∙◌, ap, arith}
+use Rattle.std.proofs.Common.{◌≡◌, ℕ, ◌+◌, ◌<◌, ◌≤◌, true, false, if◌then◌else◌, List, length, map, drop, get_or, Option, Some, None, sym, ◌∙◌, ap}
 use Rattle.std.proofs.lemmas.List.{drop_all}
 use Rattle.ax_check.proofs.Remainders.{from_place}
 use Rattle.ax_check.specs.Places.{found_or, fixed_named, member_named, part_named, kind_named, slot_named, frn_of, is_slot_of}

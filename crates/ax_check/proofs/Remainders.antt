@@ -1,9 +1,9 @@
 -- Sums of widths modulo 8.
-use Rattle.std.proofs.Common.{◌≡◌, ℕ, suc, ◌+◌, ◌%◌, ◌<◌, ◌≤◌, List, [], ◌∷◌, length, map, drop, get_or, refl, sym, ◌∙◌, ap, arith, add-one, drop-cons}
+use Rattle.std.proofs.Common.{◌≡◌, ℕ, suc, ◌+◌, ◌%◌, ◌<◌, ◌≤◌, List, ◌∷◌, length, drop, get_or, refl, sym, ◌∙◌, ap, arith, add-one, drop-cons}
 use Rattle.std.proofs.lemmas.List.{drop_all}
 use Rattle.ax_model.specs.Plain.{member_tree, members_tree}
 use Rattle.ax_model.specs.Tree.{MembersTree, member_and, MemberTree, named, spare}
-use Rattle.ax_model.specs.Widths.{width, member_width, members_width}
+use Rattle.ax_model.specs.Widths.{member_width, members_width}
 use Rattle.ax_model.specs.declared.kind.Member.{Member}
 
 pub from_place : {A : Type 0} (xs : List A) (i : ℕ) (x : A) → i < length xs → x ≡ get_or xs i x → drop i xs ≡ x ∷ drop (i + 1) xs

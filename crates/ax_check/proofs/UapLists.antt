@@ -1,14 +1,14 @@
 -- The flaws of the UAP, found one slot at a time.
-use Rattle.std.proofs.Common.{◌≡◌, ℕ, suc, ◌+◌, ◌<◌, ◌≤◌, ◌==◌, nat_lt, Bool, true, false, cond, ◌||◌, if◌then◌else◌, List, [], ◌∷◌, ◌++◌, length, map, drop, get_or, bytes_eq, codes, Option, Some, None, is_some, refl, sym, ◌∙◌, ap, arith, append_assoc, append-nil}
+use Rattle.std.proofs.Common.{◌≡◌, ℕ, ◌+◌, ◌<◌, ◌≤◌, ◌==◌, nat_lt, Bool, true, false, cond, ◌||◌, if◌then◌else◌, List, [], ◌∷◌, ◌++◌, length, map, drop, get_or, bytes_eq, codes, Option, Some, is_some, refl, sym, ◌∙◌, ap, append_assoc, append-nil}
 use Rattle.std.proofs.lemmas.List.{drop_all}
 use Rattle.std.proofs.lemmas.Slice.Eq.{bytes_eq-Decides}
 use Rattle.ax_check.proofs.FlawLists.{same_more}
 use Rattle.ax_check.proofs.Remainders.{from_place}
 use Rattle.ax_check.specs.Members.{uap_slot_flaws, with_uap_slot, item_names, uap_part_flaws}
 use Rattle.ax_check.specs.Names.{AreSame}
-use Rattle.ax_model.specs.Flaws.{flaw_where, at, is_among, items_flaws, uap_flaws, flaws_of, three_digits}
+use Rattle.ax_model.specs.Flaws.{flaw_where, at, is_among, items_flaws, uap_flaws, three_digits}
 use Rattle.ax_model.specs.OfCode.{spec_flaws}
-use Rattle.ax_model.specs.Plain.{item_tree, spec_tree}
+use Rattle.ax_model.specs.Plain.{item_tree}
 use Rattle.ax_model.specs.Specification.{ItemTree, first_named}
 use Rattle.ax_model.specs.declared.flaw.Flaw.{Flaw}
 use Rattle.ax_model.specs.declared.flaw.FlawKind.TheVariants.{RepeatedInUap, UnknownInUap, Empty, TooManySlots}

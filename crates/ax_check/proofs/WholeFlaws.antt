@@ -1,14 +1,8 @@
 -- The flaws of kinds that are to be whole octets.
-use Rattle.std.proofs.Common.{◌≡◌, ℕ, ◌+◌, ◌%◌, ◌<◌, ◌≤◌, ◌==◌, nat_lt, Bool, true, false, not, List, [], ◌∷◌, ◌++◌, codes, decimal, min, refl, sym, ◌∙◌, ap, arith, append_assoc}
+use Rattle.std.proofs.Common.{◌≡◌, ℕ, ◌+◌, ◌%◌, ◌==◌, nat_lt, Bool, not, List, ◌++◌, refl, ◌∙◌, ap, arith, append_assoc}
 use Rattle.std.proofs.lemmas.Bool.Decides.{nat_tests}
-use Rattle.ax_check.specs.Members.{part_flaws}
-use Rattle.ax_model.specs.Flaws.{flaw_where, at, is_no_multiple, is_too_wide, fixed_flaws, members_flaws, whole_flaws, kind_flaws}
+use Rattle.ax_model.specs.Flaws.{is_no_multiple, is_too_wide}
 use Rattle.ax_model.specs.Lengths.{held}
-use Rattle.ax_model.specs.Tree.{FixedTree, MembersTree, by_fx}
-use Rattle.ax_model.specs.Widths.{width, members_width}
-use Rattle.ax_model.specs.declared.flaw.Flaw.{Flaw}
-use Rattle.ax_model.specs.declared.flaw.FlawKind.{FlawKind}
-use Rattle.ax_model.specs.declared.flaw.FlawKind.TheVariants.{TooWide, BodyNotOctets, PartNotOctets}
 
 -- ---- the tests
 

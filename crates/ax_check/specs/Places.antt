@@ -3,7 +3,7 @@
 use Rattle.std.specs.Prelude.{ℕ, zero, suc, ◌+◌, Bool, false, if◌then◌else◌, List, [], ◌∷◌, bytes_eq, Option, Some, None, option_map, option_and_then}
 use Rattle.ax_model.specs.Lengths.{slot_kind}
 use Rattle.ax_model.specs.Specification.{SpecTree, first_named, record_slots}
-use Rattle.ax_model.specs.Tree.{FixedTree, element, group, MembersTree, no_members, member_and, MemberTree, named, spare, KindTree, fixed, extended, counted, by_fx, explicit, compound, SlotsTree, no_slots, slot_and, SlotTree, spare_slot, subitem}
+use Rattle.ax_model.specs.Tree.{FixedTree, element, group, MembersTree, no_members, member_and, MemberTree, named, spare, KindTree, fixed, extended, compound, SlotsTree, no_slots, slot_and, SlotTree, spare_slot, subitem}
 use Rattle.ax_model.specs.declared.place.Place.{Place}
 use Rattle.ax_model.specs.declared.spec.UapSlot.{UapSlot}
 use Rattle.ax_model.specs.declared.spec.UapSlot.TheVariants as Uap

@@ -78,7 +78,10 @@ fn element_flaws(
 ) -> Result<(), AllocError>
     ensures { OnOk result (found.new ≡ found.old ++ (flaw_where (is_bad_element_width width content.now) BadWidth path.now ++ flaw_where (is_bad_scale content.now) BadScale path.now ++ flaw_where (is_bad_string_width width content.now) BadStringWidth path.now)) }
 {
-    let (bad_width, bad_scale) = (has_bad_element_width(width, content), has_bad_scale(content));
+    let (bad_width, bad_scale) = (
+        has_bad_element_width(width, content),
+        has_bad_scale(content),
+    );
     note(alloc, found, bad_width, FlawKind::BadWidth, path)?;
     note(alloc, found, bad_scale, FlawKind::BadScale, path)?;
     let bad_string = has_bad_string_width(width, content);
@@ -132,7 +135,13 @@ fn find_in_member<'s>(
     match member {
         Member::Spare { width } => {
             let path = at_spare(alloc, path)?;
-            note(alloc, found, has_bad_width(*width), FlawKind::BadWidth, &path)
+            note(
+                alloc,
+                found,
+                has_bad_width(*width),
+                FlawKind::BadWidth,
+                &path,
+            )
         }
         Member::Named { name, fixed } => {
             let path = at_name(alloc, path, name)?;

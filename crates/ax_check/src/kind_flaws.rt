@@ -33,7 +33,13 @@ fn find_in_whole(
     ensures { OnOk result (found.new ≡ found.old ++ whole_flaws broken path.now (fixed_tree fixed.now)) }
 {
     note(alloc, found, bits_over(fixed) != 0, broken, path)?;
-    note(alloc, found, fixed.width() > WIDEST, FlawKind::TooWide, path)?;
+    note(
+        alloc,
+        found,
+        fixed.width() > WIDEST,
+        FlawKind::TooWide,
+        path,
+    )?;
     find_in_fixed(alloc, found, path, fixed)?;
     Ok(())
 }
@@ -50,8 +56,20 @@ fn find_in_by_fx(
     ensures { OnOk result (found.new ≡ found.old ++ kind_flaws broken path.now (by_fx (fixed_tree fixed.now))) }
 {
     let body = at_body(alloc, path)?;
-    note(alloc, found, bits_over(fixed) != 7, FlawKind::BodyNotOctets, &body)?;
-    note(alloc, found, fixed.width() > WIDEST, FlawKind::TooWide, &body)?;
+    note(
+        alloc,
+        found,
+        bits_over(fixed) != 7,
+        FlawKind::BodyNotOctets,
+        &body,
+    )?;
+    note(
+        alloc,
+        found,
+        fixed.width() > WIDEST,
+        FlawKind::TooWide,
+        &body,
+    )?;
     find_in_fixed(alloc, found, &body, fixed)?;
     Ok(())
 }
@@ -72,7 +90,13 @@ fn find_in_part<'s>(
     let place = at_part(alloc, path, number)?;
     let over = bits_over_members(&part.members);
     note(alloc, found, over != 7, FlawKind::PartNotOctets, &place)?;
-    note(alloc, found, part.width() > WIDEST, FlawKind::TooWide, &place)?;
+    note(
+        alloc,
+        found,
+        part.width() > WIDEST,
+        FlawKind::TooWide,
+        &place,
+    )?;
     find_in_members(alloc, found, path, names, &part.members)?;
     Ok(())
 }
@@ -158,7 +182,13 @@ fn find_in_slots(
     ensures { OnOk result (found.new ≡ found.old ++ kind_flaws broken path.now (compound (slots_tree slots.now))) }
 {
     note(alloc, found, slots.count() == 0, FlawKind::Empty, path)?;
-    note(alloc, found, slots.count() > MOST_SLOTS, FlawKind::TooManySlots, path)?;
+    note(
+        alloc,
+        found,
+        slots.count() > MOST_SLOTS,
+        FlawKind::TooManySlots,
+        path,
+    )?;
     let mut names = IndexSet::new(alloc);
     for slot in slots.as_slice() {
         find_in_slot(alloc, found, path, &mut names, slot)?;

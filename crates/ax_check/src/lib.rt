@@ -3,17 +3,20 @@
 
 mod accepted;
 mod catalogue;
+mod elements;
 mod fixed_flaws;
 mod kind_flaws;
 mod names;
-mod elements;
 mod naming;
 mod places;
 mod spec_flaws;
 mod texts;
 mod widths;
 
-pub use accepted::{accept, Accepted, CheckError};
+pub use accepted::{Accepted, CheckError, accept};
 pub use ax_model::{Flaw, FlawKind, Flaws};
 pub use catalogue::{AddError, Catalogue};
 pub use spec_flaws::flaws;
+
+#[cfg(test)]
+mod tests;

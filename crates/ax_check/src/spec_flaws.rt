@@ -7,7 +7,7 @@ ghost use Rattle.ax_check.specs.Members.{item_flaws, uap_slot_flaws, with_uap_sl
 ghost use Rattle.ax_check.specs.Names.{listed, AreSame};
 
 use crate::fixed_flaws::note;
-use crate::kind_flaws::{find_in_kind, MOST_SLOTS};
+use crate::kind_flaws::{MOST_SLOTS, find_in_kind};
 use crate::names::{enter, has};
 use crate::texts::{at_name, at_uap, of_category};
 use ax_model::{FlawKind, Flaws, Item, Items, Spec, Text, UapSlot};

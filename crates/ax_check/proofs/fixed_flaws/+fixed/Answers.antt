@@ -1,4 +1,4 @@
-use Rattle.std.proofs.Common.{◌≡◌, ◌++◌, [], rules, arith, sym, ◌∙◌, ap}
+use Rattle.std.proofs.Common.{◌≡◌, ◌++◌, rules}
 use Rattle.ax_check.proofs.FlawLists.{member_found, member_named}
 use Rattle.ax_check.specs.Members.{member_flaws, with_member}
 use Rattle.ax_check.specs.Names.{listed, AreSame}

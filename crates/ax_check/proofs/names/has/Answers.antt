@@ -1,4 +1,4 @@
-use Rattle.std.proofs.Common.{◌≡◌, ◌∙◌, ap, rules}
+use Rattle.std.proofs.Common.{◌∙◌, ap}
 use Rattle.ax_check.proofs.NameSets.{has_name}
 use Rattle.ax_check.specs.Names.{listed}
 use Rattle.ax_model.specs.Flaws.{is_among}

@@ -1,5 +1,4 @@
-use Rattle.std.proofs.Common.{rules, arith, length, ◌<◌, ◌≡◌, ◌∷◌, [], ◌++◌, false, true, None, is_some, nat_eq, sym, ◌∙◌, ap, subst}
-use Rattle.std.specs.Map.{lookup}
+use Rattle.std.proofs.Common.{rules, arith, length, ◌<◌, ◌≡◌, ◌∷◌, [], ◌++◌, is_some, nat_eq, sym, ◌∙◌, ap}
 use Rattle.ax_check.proofs.Catalogues.{had, lacked, added, stays_keyed, stays_small}
 use Rattle.ax_model.specs.Plain.{catalogue_tree}
 use Rattle.ax_model.specs.Specification.{spec_of}

@@ -1,0 +1,2 @@
+pub mod FixedRead
+pub mod Onto

@@ -1,0 +1,7 @@
+//! The plain codec: octets to records and back, over the trees of a specification.
+#![tactic(auto)]
+
+mod error;
+mod fixed;
+
+pub use error::{DecodeError, EncodeError};

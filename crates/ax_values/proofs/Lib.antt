@@ -1,2 +1,4 @@
+pub mod Continuing
 pub mod FixedRead
 pub mod Onto
+pub mod AtOctets

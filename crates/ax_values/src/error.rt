@@ -4,7 +4,7 @@ ghost use Rattle.ax_values.specs.declared.error.DecodeError.TheVariants as Decod
 ghost use Rattle.ax_values.specs.declared.error.EncodeError.TheVariants as Encoding;
 
 use ax_model::BodyFault;
-use std::alloc::AllocFailed;
+use std::alloc::AllocError;
 use thiserror::Error;
 
 /// Why octets spell no value, no record or no block.
@@ -18,10 +18,10 @@ pub enum DecodeError {
     OutOfMemory,
 }
 
-impl<T: Drop> From<AllocFailed<T>> for DecodeError {
+impl From<AllocError> for DecodeError {
     ghost from_gives = { λ _ e. e ≡ Decoding.OutOfMemory };
 
-    fn from(_e: AllocFailed<T>) -> DecodeError {
+    fn from(_e: AllocError) -> DecodeError {
         DecodeError::OutOfMemory
     }
 }
@@ -45,10 +45,10 @@ pub enum EncodeError {
     OutOfMemory,
 }
 
-impl<T: Drop> From<AllocFailed<T>> for EncodeError {
+impl From<AllocError> for EncodeError {
     ghost from_gives = { λ _ e. e ≡ Encoding.OutOfMemory };
 
-    fn from(_e: AllocFailed<T>) -> EncodeError {
+    fn from(_e: AllocError) -> EncodeError {
         EncodeError::OutOfMemory
     }
 }

@@ -3,5 +3,6 @@
 
 mod error;
 mod fixed;
+mod units;
 
 pub use error::{DecodeError, EncodeError};

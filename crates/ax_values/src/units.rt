@@ -1,0 +1,123 @@
+//! Kinds whose units are runs of a known length: fixed kinds, the parts of extended items, occurrences by FX.
+ghost use Rattle.std.specs.Prelude.{◌≡◌, ◌+◌, ◌-◌, ◌*◌, ◌%◌, ◌<◌, ◌≤◌, length, drop, take, map, [], ◌∷◌, IfOk, IfErr};
+ghost use Rattle.ax_bits.specs.Bits.{bits};
+ghost use Rattle.ax_model.specs.InBounds.{InBounds};
+ghost use Rattle.ax_model.specs.Plain.{fixed_tree, part_tree, value_tree, values_tree, lists_tree};
+ghost use Rattle.ax_model.specs.Tree.{fixed};
+ghost use Rattle.ax_model.specs.Tree as Tree;
+ghost use Rattle.ax_model.specs.declared.fault.BodyCause.TheVariants as Cause;
+ghost use Rattle.ax_values.specs.Reading.{Gets, IsLost, kind_read, run_at, parts_at, fx_bit};
+
+use crate::error::DecodeError;
+use crate::fixed::{decode_fixed, decode_members, fixed_width, members_width};
+use ax_bits::bits_at;
+use ax_model::{BodyCause, BodyFault, Fixed, Lists, Parts, Value, Values};
+use std::alloc::Global;
+
+/// The octet behind a unit of `width` bits, whole octets, that begins at octet `at`. RunsOut at its first bit where it
+/// doesn't fit.
+pub(crate) fn unit_end(body: &[u8], at: u32, width: u32) -> Result<u32, BodyFault>
+    requires width { (width % 8 ≡ 0) × (width ≤ 524264) }
+    requires body { length body.now ≤ 65532 }
+    requires at { at ≤ length body.now }
+    ensures ok { IfOk result (λ end. (at ≤ end) × (end ≤ length body.now) × (width ≡ 8 * (end - at))) }
+    ensures short { IfErr result (λ fault. 8 * (length body.now - at) < width) }
+    ensures fault { IfErr result (λ fault. fault ≡ record { cause = Cause.RunsOut; bit = 8 * at }) }
+{
+    let end = at + width / 8;
+    if end as usize > body.len() {
+        return Err(BodyFault {
+            cause: BodyCause::RunsOut,
+            bit: 8 * at,
+        });
+    }
+    Ok(end)
+}
+
+/// Whether the FX bit at bit `at` of the body is set.
+#[tactic(auto, using(crate::proofs::AtOctets::fx_read))]
+fn has_fx(body: &[u8], at: u32) -> bool
+    requires { at < 8 * length body.now }
+    ensures { take 1 (drop at (bits body.now)) ≡ fx_bit result ∷ [] }
+{
+    bits_at(body, at, 1) == 1
+}
+
+#[tactic(auto, using(crate::proofs::Continuing::errors, crate::proofs::AtOctets::fixed_loses))]
+/// The value of a fixed kind that stands by itself, and the octet behind it.
+pub(crate) fn decode_single(
+    alloc: Global,
+    fixed: &Fixed,
+    body: &[u8],
+    at: u32,
+) -> Result<(Value, u32), DecodeError>
+    requires bounds { InBounds (Tree.fixed (fixed_tree fixed.now)) }
+    requires body { length body.now ≤ 65532 }
+    requires at { at ≤ length body.now }
+    ensures ok { IfOk result (λ r. Gets (kind_read (Tree.fixed (fixed_tree fixed.now)) body.now at) body.now at r.1 (value_tree r.0)) }
+    ensures err { IfErr result (λ e. IsLost (kind_read (Tree.fixed (fixed_tree fixed.now)) body.now at) at e) }
+{
+    let end = unit_end(body, at, fixed_width(fixed))?;
+    let mut bit = 8 * at;
+    let value = decode_fixed(alloc, fixed, body, &mut bit)?;
+    Ok((value, end))
+}
+
+/// The values of the parts that are present, and the octet behind them.
+pub(crate) fn decode_parts(
+    alloc: Global,
+    parts: &Parts,
+    body: &[u8],
+    at: u32,
+) -> Result<(Lists, u32), DecodeError>
+    requires bounds { InBounds (Tree.extended (map part_tree parts.now)) }
+    requires body { length body.now ≤ 65532 }
+    requires at { at ≤ length body.now }
+    ensures ok { IfOk result (λ r. Gets (parts_at (map part_tree parts.now) body.now at) body.now at r.1 (lists_tree r.0)) }
+    ensures err { IfErr result (λ e. IsLost (parts_at (map part_tree parts.now) body.now at) at e) }
+{
+    let mut made = Lists::new(alloc);
+    let mut here = at;
+    for part in parts.as_slice() {
+        let end = unit_end(body, here, members_width(&part.members) + 1)?;
+        let mut bit = 8 * here;
+        let values = decode_members(alloc, &part.members, body, &mut bit)?;
+        made.push(values)?;
+        if !has_fx(body, bit) {
+            return Ok((made, end));
+        }
+        here = end;
+    }
+    Err(DecodeError::Fault(BodyFault {
+        cause: BodyCause::ExtensionPastEnd,
+        bit: 8 * here - 1,
+    }))
+}
+
+/// The values of occurrences by FX, and the octet behind them.
+pub(crate) fn decode_run(
+    alloc: Global,
+    fixed: &Fixed,
+    body: &[u8],
+    at: u32,
+) -> Result<(Values, u32), DecodeError>
+    requires bounds { InBounds (Tree.by_fx (fixed_tree fixed.now)) }
+    requires body { length body.now ≤ 65532 }
+    requires at { at ≤ length body.now }
+    ensures ok { IfOk result (λ r. Gets (run_at (fixed_tree fixed.now) body.now at) body.now at r.1 (values_tree r.0)) }
+    ensures err { IfErr result (λ e. IsLost (run_at (fixed_tree fixed.now) body.now at) at e) }
+{
+    let width = fixed_width(fixed);
+    let mut made = Values::new(alloc);
+    let mut here = at;
+    loop {
+        let end = unit_end(body, here, width + 1)?;
+        let mut bit = 8 * here;
+        let value = decode_fixed(alloc, fixed, body, &mut bit)?;
+        made.push(value)?;
+        if !has_fx(body, bit) {
+            return Ok((made, end));
+        }
+        here = end;
+    }
+}

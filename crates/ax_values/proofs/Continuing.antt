@@ -1,5 +1,6 @@
 -- Reading goes on behind what was read.
-use Rattle.std.proofs.Common.{◌≡◌, ℕ, ◌+◌, ◌-◌, ◌*◌, ◌≤◌, List, length, refl, sym, ◌∙◌, ap, arith, subst}
+use Rattle.std.proofs.Common.{◌≡◌, ℕ, ◌+◌, ◌-◌, ◌*◌, ◌≤◌, List, length, refl, sym, ◌∙◌, ap, arith, subst, Result, Ok, Err, IfErr}
+use Rattle.std.specs.Result.{IsErrAnd}
 use Rattle.ax_bits.specs.Bits.{bits}
 use Rattle.ax_model.proofs.Failed.{lost_is}
 use Rattle.ax_model.proofs.Reader.{Read, got, lost, after}
@@ -61,5 +62,14 @@ lost_by_want found at e is = record { met = λ other same. absurd (let no : Deco
 
 pub lost_behind : {A B : Type 0} (whole : Read B) (rest : Read A) (at here : ℕ) (f : A → B) (e : DecodeError) → Continues whole at here f rest → IsLost rest here e → IsLost whole at e
 lost_behind whole rest at here f e h t = record { met = λ fault is. loses_behind whole rest at here f fault h (t.met fault is) }
+
+-- an error that `?` passed on
+pub err_by_fault : {A B : Type 0} (found : Read A) (at : ℕ) (r : Result B DecodeError) (fault : BodyFault) → IsErrAnd r (λ e. e ≡ Decoding.Fault fault) → Loses found at fault → IfErr r (λ e. IsLost found at e)
+err_by_fault found at (Ok b) fault h t = absurd h
+err_by_fault found at (Err e) fault h t = lost_by_fault found at e fault h t
+
+pub err_behind : {A B C : Type 0} (whole : Read B) (rest : Read A) (at here : ℕ) (f : A → B) (r : Result C DecodeError) (e : DecodeError) → IsErrAnd r (λ d. d ≡ e) → Continues whole at here f rest → IsLost rest here e → IfErr r (λ e. IsLost whole at e)
+err_behind whole rest at here f (Ok b) e h t g = absurd h
+err_behind whole rest at here f (Err d) e h t g = subst (λ d. IsLost whole at d) (sym h) (lost_behind whole rest at here f e t g)
 
 pub ruleset errors = (lost_by_fault, lost_by_want)

@@ -1,4 +1,5 @@
 pub mod Continuing
 pub mod FixedRead
 pub mod Onto
+pub mod Repeating
 pub mod AtOctets

@@ -1,7 +1,7 @@
 -- Lists that were made so far, in front of what is still read.
 use Rattle.std.proofs.Common.{◌≡◌, ℕ, List, [], ◌∷◌, ◌++◌, map, refl, sym, ◌∙◌, ap}
-use Rattle.ax_model.specs.Plain.{value_tree}
-use Rattle.ax_model.specs.Tree.{ValueTree, ValuesTree, no_values, value_and, values_of}
+use Rattle.ax_model.specs.Plain.{value_tree, value_list, values_tree}
+use Rattle.ax_model.specs.Tree.{ValueTree, ValuesTree, no_values, value_and, values_of, ListsTree, no_lists, list_and, lists_of}
 use Rattle.ax_model.specs.declared.value.Value.{Value}
 
 abbrev pub values_onto : List ValueTree → ValuesTree → ValuesTree
@@ -15,3 +15,15 @@ values_onto_none (v ∷ made) = ap (λ vs. value_and v vs) (values_onto_none mad
 pub values_onto_more : (made : List Value) (v : Value) (vs : ValuesTree) → values_onto (map value_tree (made ++ v ∷ [])) vs ≡ values_onto (map value_tree made) (value_and (value_tree v) vs)
 values_onto_more [] v vs = refl
 values_onto_more (w ∷ made) v vs = ap (λ us. value_and (value_tree w) us) (values_onto_more made v vs)
+
+abbrev pub lists_onto : List (List ValueTree) → ListsTree → ListsTree
+lists_onto [] ls = ls
+lists_onto (vs ∷ made) ls = list_and (values_of vs) (lists_onto made ls)
+
+pub lists_onto_none : (made : List (List ValueTree)) → lists_onto made no_lists ≡ lists_of made
+lists_onto_none [] = refl
+lists_onto_none (vs ∷ made) = ap (λ ls. list_and (values_of vs) ls) (lists_onto_none made)
+
+pub lists_onto_more : (made : List (List Value)) (vs : List Value) (ls : ListsTree) → lists_onto (map value_list (made ++ vs ∷ [])) ls ≡ lists_onto (map value_list made) (list_and (values_tree vs) ls)
+lists_onto_more [] vs ls = refl
+lists_onto_more (ws ∷ made) vs ls = ap (λ ks. list_and (values_tree ws) ks) (lists_onto_more made vs ls)

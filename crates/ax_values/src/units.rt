@@ -63,6 +63,7 @@ pub(crate) fn decode_single(
     Ok((value, end))
 }
 
+#[tactic(auto, using(crate::proofs::Continuing::errors, crate::proofs::Repeating::parts_none))]
 /// The values of the parts that are present, and the octet behind them.
 pub(crate) fn decode_parts(
     alloc: Global,
@@ -94,6 +95,7 @@ pub(crate) fn decode_parts(
     }))
 }
 
+#[tactic(auto, using(crate::proofs::Continuing::errors, crate::proofs::Repeating::run_none))]
 /// The values of occurrences by FX, and the octet behind them.
 pub(crate) fn decode_run(
     alloc: Global,

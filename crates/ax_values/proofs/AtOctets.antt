@@ -32,6 +32,15 @@ unfolding window
 length-window body at end le within =
     length-bits (take (end - at) (drop at body)) ∙ ap (λ n. 8 * n) (length-take-le (end - at) (drop at body) (omega (arith, length-drop at body)))
 
+-- the same, written out
+pub octets_parts : (body : List ℕ) (at end : ℕ) → at ≤ end → bits (drop at body) ≡ bits (take (end - at) (drop at body)) ++ bits (drop end body)
+unfolding window
+octets_parts body at end le = body_parts body at end le
+
+pub length-octets : (body : List ℕ) (at end : ℕ) → at ≤ end → end ≤ length body → length (bits (take (end - at) (drop at body))) ≡ 8 * (end - at)
+unfolding window
+length-octets body at end le within = length-window body at end le within
+
 pub length-rest : (body : List ℕ) (at : ℕ) → length (bits (drop at body)) ≡ 8 * (length body - at)
 length-rest body at = length-bits (drop at body) ∙ ap (λ n. 8 * n) (length-drop at body)
 

@@ -1,5 +1,7 @@
 pub mod Continuing
+pub mod Counting
 pub mod FixedRead
+pub mod Marking
 pub mod Onto
 pub mod Repeating
 pub mod AtOctets

@@ -1,9 +1,14 @@
 -- What is read from an octet of a body on.
-use Rattle.std.specs.Prelude.{◌≡◌, ℕ, suc, ◌+◌, ◌-◌, ◌*◌, ◌≤◌, List, [], ◌∷◌, ◌++◌, Bool, true, false, length, drop}
+use Rattle.std.specs.Prelude.{◌≡◌, ℕ, suc, ◌+◌, ◌-◌, ◌*◌, ◌≤◌, List, [], ◌∷◌, ◌++◌, Bool, true, false, length, drop, map}
 use Rattle.ax_bits.specs.Bits.{bits}
 use Rattle.ax_model.proofs.Reader.{Read, got, lost, after, read, run_read, parts_read}
-use Rattle.ax_model.specs.Tree.{KindTree, ValueTree, ValuesTree, ListsTree, FixedTree, MembersTree}
+use Rattle.ax_model.specs.Tree.{KindTree, ValueTree, ValuesTree, ListsTree, FixedTree, MembersTree, SlotTree, spare_slot, subitem, slots_of, defined_slots}
+use Rattle.ax_fspec.specs.Fields.{mask_slots}
+use Rattle.ax_fspec.specs.declared.mask.SlotMask.{SlotMask}
+use Rattle.ax_model.specs.InBounds.{InBounds}
+use Rattle.ax_model.specs.Plain.{entry_tree}
 use Rattle.ax_model.specs.declared.fault.BodyFault.{BodyFault}
+use Rattle.ax_model.specs.declared.value.Entry.{Entry}
 use Rattle.ax_values.specs.declared.error.DecodeError.{DecodeError}
 use Rattle.ax_values.specs.declared.error.DecodeError.TheVariants as Decoding
 
@@ -46,3 +51,41 @@ parts_at ps body at = parts_read ps (bits (drop at body))
 abbrev pub fx_bit : Bool → ℕ
 fx_bit true = 1
 fx_bit false = 0
+
+-- ---- slots
+
+-- the slot is defined
+abbrev pub is_subitem : SlotTree → Bool
+is_subitem spare_slot = false
+is_subitem (subitem name k) = true
+
+-- the mask of these slots
+pub record IsMaskOf (slots : List SlotTree) (mask : SlotMask) : Type 0 where
+  pub count : mask.count ≡ length slots
+  pub defined : mask_slots mask ≡ defined_slots (slots_of slots)
+
+-- an entry of this slot and number was read from octet `at` of the body up to octet `end`, and put behind the others
+pub record Adds (k : KindTree) (number : ℕ) (body : List ℕ) (at end : ℕ) (old new : List Entry) : Type 0 where
+  pub value : ValueTree
+  pub read : Gets (kind_read k body at) body at end value
+  pub entries : map entry_tree new ≡ map entry_tree old ++ (number, value) ∷ []
+
+abbrev pub SlotAdds : SlotTree → ℕ → List ℕ → ℕ → ℕ → List Entry → List Entry → Type 0
+SlotAdds spare_slot number body at end old new = (end ≡ at) × (new ≡ old)
+SlotAdds (subitem name k) number body at end old new = Adds k number body at end old new
+
+abbrev pub SlotLost : SlotTree → List ℕ → ℕ → DecodeError → Type 0
+SlotLost spare_slot body at e = ⊥
+SlotLost (subitem name k) body at e = IsLost (kind_read k body at) at e
+
+-- the same, for clauses
+pub record IsSlotRead (slot : SlotTree) (number : ℕ) (body : List ℕ) (at end : ℕ) (old new : List Entry) : Type 0 where
+  pub adds : SlotAdds slot number body at end old new
+
+pub record IsSlotLost (slot : SlotTree) (body : List ℕ) (at : ℕ) (e : DecodeError) : Type 0 where
+  pub lost : SlotLost slot body at e
+
+-- the kind of a subitem is in bounds
+abbrev pub SlotInBounds : SlotTree → Type 0
+SlotInBounds spare_slot = Unit {0}
+SlotInBounds (subitem name k) = InBounds k

@@ -3,6 +3,8 @@
 
 mod error;
 mod fixed;
+mod kinds;
+mod slots;
 mod units;
 
 pub use error::{DecodeError, EncodeError};

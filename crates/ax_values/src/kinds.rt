@@ -1,0 +1,189 @@
+//! The kinds of items and subitems, read by one function each.
+ghost use Rattle.std.specs.Prelude.{◌≡◌, ◌+◌, ◌*◌, ◌<◌, ◌≤◌, length, get_or, drop, map, IfOk, IfErr};
+ghost use Rattle.ax_model.specs.InBounds.{InBounds};
+ghost use Rattle.ax_model.specs.Plain.{kind_tree, slot_tree, slots_tree, value_tree, values_tree, entries_tree};
+ghost use Rattle.ax_model.specs.Tree as Tree;
+ghost use Rattle.ax_model.specs.declared.fault.BodyCause.TheVariants as Cause;
+ghost use Rattle.ax_values.specs.Reading.{Gets, IsLost, IsSlotRead, IsSlotLost, SlotInBounds, kind_read};
+
+use crate::error::DecodeError;
+use crate::slots::slots_mask;
+use crate::units::{decode_parts, decode_run, decode_single};
+use ax_fspec::{Presence, read_presence};
+use ax_model::{BodyCause, BodyFault, Entries, Entry, Kind, Octets, Slot, Slots, Value, Values};
+use std::alloc::{AllocError, Global};
+
+/// The value of a kind that begins at octet `at` of the body, and the octet behind it.
+#[cycle(kind)]
+pub(crate) fn decode_value(
+    alloc: Global,
+    kind: &Kind,
+    body: &[u8],
+    at: u32,
+) -> Result<(Value, u32), DecodeError>
+    requires bounds { InBounds (kind_tree kind.now) }
+    requires body { length body.now ≤ 65532 }
+    requires at { at ≤ length body.now }
+    ensures ok { IfOk result (λ r. Gets (kind_read (kind_tree kind.now) body.now at) body.now at r.1 (value_tree r.0)) }
+    ensures err { IfErr result (λ e. IsLost (kind_read (kind_tree kind.now) body.now at) at e) }
+{
+    match kind {
+        Kind::Fixed(fixed) => decode_single(alloc, fixed, body, at),
+        Kind::Extended(parts) => {
+            let (lists, end) = decode_parts(alloc, parts, body, at)?;
+            Ok((Value::Extended(lists), end))
+        }
+        Kind::Counted(inner) => {
+            let (values, end) = decode_counted(alloc, inner, body, at)?;
+            Ok((Value::Repeat(values), end))
+        }
+        Kind::ByFx(fixed) => {
+            let (values, end) = decode_run(alloc, fixed, body, at)?;
+            Ok((Value::Repeat(values), end))
+        }
+        Kind::Explicit => {
+            let (octets, end) = decode_explicit(alloc, body, at)?;
+            Ok((Value::Octets(octets), end))
+        }
+        Kind::Compound(slots) => {
+            let (entries, end) = decode_compound(alloc, slots, body, at)?;
+            Ok((Value::Compound(entries), end))
+        }
+    }
+}
+
+/// The octet `at` of the body. RunsOut at its first bit where there is none.
+fn octet_at(body: &[u8], at: u32) -> Result<u8, BodyFault>
+    requires body { length body.now ≤ 65532 }
+    requires at { at ≤ length body.now }
+    ensures ok { IfOk result (λ octet. (at < length body.now) × (octet ≡ get_or body.now at 0)) }
+    ensures short { IfErr result (λ fault. length body.now ≤ at) }
+    ensures fault { IfErr result (λ fault. fault ≡ record { cause = Cause.RunsOut; bit = 8 * at }) }
+{
+    if at as usize >= body.len() {
+        return Err(BodyFault {
+            cause: BodyCause::RunsOut,
+            bit: 8 * at,
+        });
+    }
+    Ok(body[at as usize])
+}
+
+/// The occurrences of a counted item, and the octet behind them.
+#[cycle(kind)]
+fn decode_counted(
+    alloc: Global,
+    inner: &Kind,
+    body: &[u8],
+    at: u32,
+) -> Result<(Values, u32), DecodeError>
+    requires bounds { InBounds (kind_tree inner.now) }
+    requires body { length body.now ≤ 65532 }
+    requires at { at ≤ length body.now }
+    ensures ok { IfOk result (λ r. Gets (kind_read (Tree.counted (kind_tree inner.now)) body.now at) body.now at r.1 (Tree.occurrences (values_tree r.0))) }
+    ensures err { IfErr result (λ e. IsLost (kind_read (Tree.counted (kind_tree inner.now)) body.now at) at e) }
+{
+    let count = octet_at(body, at)?;
+    let mut made = Values::new(alloc);
+    let mut here = at + 1;
+    for _ in 0..count {
+        let (value, end) = decode_value(alloc, inner, body, here)?;
+        made.push(value)?;
+        here = end;
+    }
+    Ok((made, here))
+}
+
+/// The content of an explicit item, and the octet behind it.
+fn decode_explicit(alloc: Global, body: &[u8], at: u32) -> Result<(Octets, u32), DecodeError>
+    requires body { length body.now ≤ 65532 }
+    requires at { at ≤ length body.now }
+    ensures ok { IfOk result (λ r. Gets (kind_read Tree.explicit body.now at) body.now at r.1 (Tree.content_octets r.0)) }
+    ensures err { IfErr result (λ e. IsLost (kind_read Tree.explicit body.now at) at e) }
+{
+    let length = octet_at(body, at)?;
+    if length == 0 {
+        return Err(DecodeError::Fault(BodyFault {
+            cause: BodyCause::BadExplicitLength,
+            bit: 8 * at,
+        }));
+    }
+    let end = at + length as u32;
+    if end as usize > body.len() {
+        return Err(DecodeError::Fault(BodyFault {
+            cause: BodyCause::RunsOut,
+            bit: 8 * at + 8,
+        }));
+    }
+    let octets = copy_octets(alloc, &body[at as usize + 1..end as usize])?;
+    Ok((octets, end))
+}
+
+/// A list of the octets.
+pub(crate) fn copy_octets(alloc: Global, octets: &[u8]) -> Result<Octets, AllocError>
+    requires { length octets.now ≤ 65532 }
+    ensures { IfOk result (λ made. made ≡ octets.now) }
+{
+    let mut made = Octets::new(alloc);
+    for octet in octets {
+        made.push(*octet)?;
+    }
+    Ok(made)
+}
+
+/// The marked subitems of a compound, and the octet behind them.
+#[cycle(kind)]
+fn decode_compound(
+    alloc: Global,
+    slots: &Slots,
+    body: &[u8],
+    at: u32,
+) -> Result<(Entries, u32), DecodeError>
+    requires bounds { InBounds (Tree.compound (slots_tree slots.now)) }
+    requires body { length body.now ≤ 65532 }
+    requires at { at ≤ length body.now }
+    ensures ok { IfOk result (λ r. Gets (kind_read (Tree.compound (slots_tree slots.now)) body.now at) body.now at r.1 (Tree.marked (entries_tree r.0))) }
+    ensures err { IfErr result (λ e. IsLost (kind_read (Tree.compound (slots_tree slots.now)) body.now at) at e) }
+{
+    let mut marked = Presence::empty();
+    let mut here = read_presence(&slots_mask(slots), body, at, &mut marked)?;
+    let mut entries = Entries::new(alloc);
+    let mut number = 0;
+    for slot in slots.as_slice() {
+        number += 1;
+        if marked.has(number) {
+            here = decode_slot(alloc, slot, number, body, here, &mut entries)?;
+        }
+    }
+    Ok((entries, here))
+}
+
+/// Puts the entry of a slot behind the others. Ok is the octet behind it.
+#[cycle(kind)]
+fn decode_slot(
+    alloc: Global,
+    slot: &Slot,
+    number: u32,
+    body: &[u8],
+    at: u32,
+    into: &mut Entries,
+) -> Result<u32, DecodeError>
+    requires bounds { SlotInBounds (slot_tree slot.now) }
+    requires body { length body.now ≤ 65532 }
+    requires at { at ≤ length body.now }
+    requires room { length into.old < 126 }
+    ensures ok { IfOk result (λ end. IsSlotRead (slot_tree slot.now) number body.now at end into.old into.new) }
+    ensures err { IfErr result (λ e. IsSlotLost (slot_tree slot.now) body.now at e) }
+{
+    match slot {
+        Slot::Spare => Ok(at),
+        Slot::Sub { kind, .. } => {
+            let (value, end) = decode_value(alloc, kind, body, at)?;
+            into.push(Entry {
+                slot: number,
+                value,
+            })?;
+            Ok(end)
+        }
+    }
+}

@@ -8,11 +8,24 @@ use Rattle.ax_model.proofs.FixedKinds.{split_at, split_short, fixed_back, member
 use Rattle.ax_model.proofs.Meets.{fixed_all, members_all, bits_of}
 use Rattle.ax_model.proofs.Reader.{Read, got, lost, after, read, fixed_value, members_value, fixed_read, Split, split, cut, short, part_read, parts_read, one_read, run_read}
 use Rattle.ax_model.proofs.Spelled.{got_is}
-use Rattle.ax_model.specs.Tree.{KindTree, FixedTree, MembersTree, ValueTree, ValuesTree, ListsTree, fixed, value_and, no_values, list_and, no_lists}
+use Rattle.ax_model.specs.Tree.{KindTree, FixedTree, MembersTree, ValueTree, ValuesTree, ListsTree, fixed, by_fx, extended, occurrences, part_values, value_and, no_values, list_and, no_lists}
 use Rattle.ax_model.specs.Widths.{width, members_width}
 use Rattle.ax_model.specs.declared.fault.BodyCause.TheVariants.{RunsOut, ExtensionPastEnd}
 use Rattle.ax_model.specs.declared.fault.BodyFault.{BodyFault}
-use Rattle.ax_values.specs.Reading.{Gets, Loses, Continues, kind_read, fx_bit, run_of, run_at, parts_at}
+use Rattle.ax_values.proofs.Continuing.{gets_behind, loses_behind}
+use Rattle.ax_values.specs.Reading.{Gets, Loses, Continues, kind_read, fx_bit}
+
+-- ---- what is read from an octet on
+
+-- occurrences, of which the first is at the front of b
+abbrev pub run_of : FixedTree → List ℕ → Read ValuesTree
+run_of f b = run_read (suc (length b)) f b
+
+unfoldable pub run_at : FixedTree → List ℕ → ℕ → Read ValuesTree
+run_at f body at = run_of f (bits (drop at body))
+
+unfoldable pub parts_at : List MembersTree → List ℕ → ℕ → Read ListsTree
+parts_at ps body at = parts_read ps (bits (drop at body))
 
 -- ---- octets of a body
 
@@ -249,3 +262,25 @@ parts_past_end p body at end w fx fault u e one c b = record {
   lost = part_first p [] body at end w fx u e 1 one ∙ ap (λ c. lost (members_width p) c) (sym c);
   bit = omega (arith, u.width, u.forwards, e);
 }
+
+-- ---- the kinds of both
+
+by_fx_same : (f : FixedTree) (body : List ℕ) (at : ℕ) → Continues (kind_read (by_fx f) body at) at at (λ vs. occurrences vs) (run_at f body at)
+unfolding kind_read run_at
+by_fx_same f body at = record { forwards = omega arith; same = ap (λ n. after n (λ vs. occurrences vs) (run_of f (bits (drop at body)))) (let e : 0 ≡ 8 * (at - at) = omega arith in e) }
+
+pub by_fx_gets : (f : FixedTree) (body : List ℕ) (at end : ℕ) (vs : ValuesTree) → Gets (run_at f body at) body at end vs → Gets (kind_read (by_fx f) body at) body at end (occurrences vs)
+by_fx_gets f body at end vs h = gets_behind (kind_read (by_fx f) body at) (run_at f body at) body at at end (λ vs. occurrences vs) vs (by_fx_same f body at) h
+
+pub by_fx_loses : (f : FixedTree) (body : List ℕ) (at : ℕ) (fault : BodyFault) → Loses (run_at f body at) at fault → Loses (kind_read (by_fx f) body at) at fault
+by_fx_loses f body at fault h = loses_behind (kind_read (by_fx f) body at) (run_at f body at) at at (λ vs. occurrences vs) fault (by_fx_same f body at) h
+
+extended_same : (ps : List MembersTree) (body : List ℕ) (at : ℕ) → Continues (kind_read (extended ps) body at) at at (λ ls. part_values ls) (parts_at ps body at)
+unfolding kind_read parts_at
+extended_same ps body at = record { forwards = omega arith; same = ap (λ n. after n (λ ls. part_values ls) (parts_read ps (bits (drop at body)))) (let e : 0 ≡ 8 * (at - at) = omega arith in e) }
+
+pub extended_gets : (ps : List MembersTree) (body : List ℕ) (at end : ℕ) (ls : ListsTree) → Gets (parts_at ps body at) body at end ls → Gets (kind_read (extended ps) body at) body at end (part_values ls)
+extended_gets ps body at end ls h = gets_behind (kind_read (extended ps) body at) (parts_at ps body at) body at at end (λ ls. part_values ls) ls (extended_same ps body at) h
+
+pub extended_loses : (ps : List MembersTree) (body : List ℕ) (at : ℕ) (fault : BodyFault) → Loses (parts_at ps body at) at fault → Loses (kind_read (extended ps) body at) at fault
+extended_loses ps body at fault h = loses_behind (kind_read (extended ps) body at) (parts_at ps body at) at at (λ ls. part_values ls) fault (extended_same ps body at) h

@@ -68,8 +68,8 @@ pub err_by_fault : {A B : Type 0} (found : Read A) (at : ℕ) (r : Result B Deco
 err_by_fault found at (Ok b) fault h t = absurd h
 err_by_fault found at (Err e) fault h t = lost_by_fault found at e fault h t
 
-pub err_behind : {A B C : Type 0} (whole : Read B) (rest : Read A) (at here : ℕ) (f : A → B) (r : Result C DecodeError) (e : DecodeError) → IsErrAnd r (λ d. d ≡ e) → Continues whole at here f rest → IsLost rest here e → IfErr r (λ e. IsLost whole at e)
-err_behind whole rest at here f (Ok b) e h t g = absurd h
-err_behind whole rest at here f (Err d) e h t g = subst (λ d. IsLost whole at d) (sym h) (lost_behind whole rest at here f e t g)
+pub err_is : {A C : Type 0} (found : Read A) (at : ℕ) (r : Result C DecodeError) (e : DecodeError) → IsErrAnd r (λ d. d ≡ e) → IsLost found at e → IfErr r (λ e. IsLost found at e)
+err_is found at (Ok b) e h t = absurd h
+err_is found at (Err d) e h t = subst (λ d. IsLost found at d) (sym h) t
 
 pub ruleset errors = (lost_by_fault, lost_by_want)

@@ -103,6 +103,14 @@ counted_lost k body n i at here made e h lt t =
     left : n - i ≡ suc (n - (i + 1))
     left = omega arith
 
+pub counted_within : (k : KindTree) (body : List ℕ) (n i at here : ℕ) (made : List Value) → CountedSoFar k body n i at here made → here ≤ length body
+counted_within k body n i at here made h = h.within
+
+pub counted_made : (k : KindTree) (body : List ℕ) (n i at here : ℕ) (made : List Value) → CountedSoFar k body n i at here made → length made ≡ i
+counted_made k body n i at here made h = h.count
+
+pub ruleset counts = (counted_begins, counted_more, counted_all, counted_within, counted_made)
+
 -- ---- explicit
 
 pub explicit_none : (body : List ℕ) (at : ℕ) (fault : BodyFault) → length body ≤ at → fault.cause ≡ RunsOut → fault.bit ≡ 8 * at → Loses (kind_read explicit body at) at fault
@@ -150,3 +158,18 @@ explicit_gets body xs at n end lt e less some is within content octets =
       within = within;
       got = ap (λ b. explicit_read (split 8 b)) all ∙ explicit_spelled xs (w ++ bits xs) (bits (drop end body)) (omega arith) octets refl ∙ ap (λ m. got (content_octets xs) m (bits (drop end body))) long;
     }
+
+-- ---- octets of a part of a body
+
+octets_taken : (n : ℕ) (xs : List ℕ) → AreOctets xs → AreOctets (take n xs)
+octets_taken zero xs h = tt
+octets_taken (suc n) [] h = tt
+octets_taken (suc n) (x ∷ xs) h = (h.0, octets_taken n xs h.1)
+
+octets_left : (n : ℕ) (xs : List ℕ) → AreOctets xs → AreOctets (drop n xs)
+octets_left zero xs h = h
+octets_left (suc n) [] h = tt
+octets_left (suc n) (x ∷ xs) h = octets_left n xs h.1
+
+pub octets_part : (m n : ℕ) (xs : List ℕ) → ((i : ℕ) → get_or xs i 0 < 256) → AreOctets (take m (drop n xs))
+octets_part m n xs h = octets_taken m (drop n xs) (octets_left n xs (AreOctets-items xs h))

@@ -1,5 +1,5 @@
 -- Slots, their masks, and the marked ones one after the other.
-use Rattle.std.proofs.Common.{◌≡◌, ℕ, zero, suc, ◌+◌, ◌-◌, ◌*◌, ◌/◌, ◌<◌, ◌≤◌, Bool, true, false, List, [], ◌∷◌, ◌++◌, length, take, drop, map, get_or, set, replicate, IsTrue, refl, sym, ◌∙◌, ap, arith, subst, length-append, append_assoc, append-nil, add-one, drop-cons, length-drop, take-append-drop}
+use Rattle.std.proofs.Common.{◌≡◌, ℕ, zero, suc, ◌+◌, ◌-◌, ◌*◌, ◌/◌, ◌<◌, ◌≤◌, Bool, true, false, List, [], ◌∷◌, ◌++◌, length, take, drop, map, get_or, set, replicate, IsTrue, refl, sym, ◌∙◌, ap, arith, subst, length-append, append_assoc, append-nil, add-one, drop-cons, length-drop, take-append-drop, Result, Ok, Err, IfOk, IfErr}
 use Rattle.std.proofs.lemmas.List.{drop_all, take_more, take_more_set, take_all, drop-set-lt, length-set, length-replicate, length-map, get_or_default}
 use Rattle.ax_bits.proofs.Words.{append-AreBits}
 use Rattle.ax_bits.specs.Bits.{bits, AreBits}
@@ -11,8 +11,10 @@ use Rattle.ax_model.proofs.Failed.{presence_failed}
 use Rattle.ax_model.proofs.Meets.{presence_bits}
 use Rattle.ax_model.proofs.Reader.{Read, got, lost, after, both, read, entries_read, mark_read, marked_read, presence_read}
 use Rattle.ax_model.proofs.Spelled.{presence_spelled}
+use Rattle.ax_model.specs.InBounds.{SlotsInBounds}
 use Rattle.ax_model.specs.Failing.{IsPresence, PresenceFails}
-use Rattle.ax_model.specs.Plain.{entry_tree, entries_tree}
+use Rattle.ax_model.specs.Plain.{entry_tree, entries_tree, slot_tree, slots_tree}
+use Rattle.ax_model.specs.declared.kind.Slot.{Slot}
 use Rattle.ax_model.specs.Presence.{octets_needed, none_marked, first_mark, later_marks}
 use Rattle.ax_model.specs.Tree.{KindTree, ValueTree, EntriesTree, SlotTree, SlotsTree, compound, marked, spare_slot, subitem, slots_of, slot_and, no_slots, slot_count, defined_slots, no_entries, entry_and}
 use Rattle.ax_model.specs.declared.fault.BodyFault.{BodyFault}
@@ -20,7 +22,7 @@ use Rattle.ax_model.specs.declared.value.Entry.{Entry}
 use Rattle.ax_values.proofs.AtOctets.{octets_parts, length-octets}
 use Rattle.ax_values.proofs.Continuing.{begins, goes_on, gets_behind, loses_behind, lost_behind, front_is}
 use Rattle.ax_values.proofs.Onto.{entries_onto, entries_onto_none, entries_onto_more}
-use Rattle.ax_values.specs.Reading.{Gets, Loses, Continues, IsLost, IsMaskOf, kind_read, is_subitem, Adds, IsSlotRead, IsSlotLost, SlotAdds, SlotLost}
+use Rattle.ax_values.specs.Reading.{Gets, Loses, Continues, IsLost, IsMaskOf, kind_read, is_subitem, entries_at, SlotInBounds, Adds, IsSlotRead, IsSlotLost, SlotAdds, SlotLost}
 use Rattle.ax_values.specs.declared.error.DecodeError.{DecodeError}
 
 -- ---- marks
@@ -140,16 +142,18 @@ unmarked_rest s (slot_and (subitem name k) ss) (suc m ∷ ms) zs b h = same (λ 
     same ih (got v n y) = ap (after n (λ es. entry_and s v es)) (ih y)
     same ih (lost p c) = refl
 
--- the presence field is read, and the entries of the slots before place i, up to octet here
-pub record EntriesSoFar (slots : List SlotTree) (marks body : List ℕ) (i at here : ℕ) (made : List Entry) : Type 0 where
-  pub within : here ≤ length body
-  pub few : length made ≤ i
-  pub are_bits : AreBits (drop i marks)
-  pub read : Continues (kind_read (compound (slots_of slots)) body at) at here (λ es. marked (entries_onto (map entry_tree made) es)) (entries_read (i + 1) (slots_of (drop i slots)) (drop i marks) (bits (drop here body)))
+-- a set that a field marks, as bits
+pub marks_bits : (mask : SlotMask) (body marks : List ℕ) (at end : ℕ) → MarksSlots mask body at end marks → AreBits marks
+marks_bits mask body marks at end h =
+    let f = h.field in
+    subst AreBits (take-append-drop (7 * f.octets) marks)
+    (append-AreBits (take (7 * f.octets) marks) (drop (7 * f.octets) marks) (presence_bits (octets_needed mask.count) (take (7 * f.octets) marks) (bits (take (end - at) (drop at body))) f.field.field) (none_bits (drop (7 * f.octets) marks) f.no_other))
 
-pub entries_begin : (slots : List SlotTree) (mask : SlotMask) (body marks : List ℕ) (at end : ℕ) → IsMaskOf slots mask → MarksSlots mask body at end marks → EntriesSoFar slots marks body 0 at end []
-unfolding kind_read
-entries_begin slots mask body marks at end m h =
+-- behind the presence field
+pub field_read : (slots : List SlotTree) (mask : SlotMask) (body marks : List ℕ) (at end : ℕ) → IsMaskOf slots mask → MarksSlots mask body at end marks
+    → Continues (kind_read (compound (slots_of slots)) body at) at end (λ es. marked es) (entries_at (slots_of slots) marks body end)
+unfolding kind_read entries_at
+field_read slots mask body marks at end m h =
     let f = h.field in
     let ss = slots_of slots in
     let k = octets_needed (slot_count ss) in
@@ -164,13 +168,8 @@ entries_begin slots mask body marks at end m h =
     let parts : bits (drop at body) ≡ b ++ y = octets_parts body at end (omega (arith, h.begins)) in
     let long : length b ≡ 8 * (end - at) = length-octets body at end (omega (arith, h.begins)) h.within in
     let whole : entries_read 1 ss ms y ≡ entries_read 1 ss marks y = sym (unmarked_rest 1 ss ms zs y f.no_other) ∙ ap (λ marks. entries_read 1 ss marks y) joined in record {
-      within = h.within;
-      few = omega arith;
-      are_bits = subst AreBits joined (append-AreBits ms zs (presence_bits k ms b p.field) (none_bits zs f.no_other));
-      read = record {
-        forwards = omega (arith, h.begins);
-        same = ap (λ r. marked_read r (entries_read 1 ss)) (ap (presence_read k ds) parts ∙ presence_spelled k ds ms b y p.field p.clear) ∙ (λ i. after (long i) (λ es. marked es) (whole i));
-      };
+      forwards = omega (arith, h.begins);
+      same = ap (λ r. marked_read r (entries_read 1 ss)) (ap (presence_read k ds) parts ∙ presence_spelled k ds ms b y p.field p.clear) ∙ (λ i. after (long i) (λ es. marked es) (whole i));
     }
 
 pub field_lost : (slots : List SlotTree) (mask : SlotMask) (body : List ℕ) (at : ℕ) (fault : BodyFault) → IsMaskOf slots mask → FailsToMark mask body at fault → Loses (kind_read (compound (slots_of slots)) body at) at fault
@@ -187,14 +186,25 @@ field_lost slots mask body at fault m h =
       bit = h.bit;
     }
 
+-- the entries of the slots before place i are read, up to octet here
+pub record EntriesSoFar (slots : List SlotTree) (marks body : List ℕ) (i at here : ℕ) (made : List Entry) : Type 0 where
+  pub within : here ≤ length body
+  pub few : length made ≤ i
+  pub are_bits : AreBits (drop i marks)
+  pub read : Continues (entries_at (slots_of slots) marks body at) at here (entries_onto (map entry_tree made)) (entries_read (i + 1) (slots_of (drop i slots)) (drop i marks) (bits (drop here body)))
+
+pub entries_begin : (slots : List SlotTree) (marks body : List ℕ) (at : ℕ) → AreBits marks → at ≤ length body → EntriesSoFar slots marks body 0 at at []
+unfolding entries_at
+entries_begin slots marks body at bit le = record { within = le; few = omega arith; are_bits = bit; read = begins (entries_read 1 (slots_of slots) marks (bits (drop at body))) at }
+
 slots_at : (slots : List SlotTree) (i : ℕ) (s : SlotTree) → i < length slots → s ≡ get_or slots i s → slots_of (drop i slots) ≡ slot_and s (slots_of (drop (i + 1) slots))
 slots_at slots i s lt e = ap slots_of (drop-cons slots i s lt) ∙ (λ k. slot_and (sym e k) (slots_of (drop (sym (add-one i) k) slots)))
 
 -- what is read at a slot
 at_slot : (slots : List SlotTree) (marks body : List ℕ) (i at here : ℕ) (made : List Entry) (s : SlotTree) (bit : ℕ) → EntriesSoFar slots marks body i at here made → i < length slots → s ≡ get_or slots i s
-    → Continues (kind_read (compound (slots_of slots)) body at) at here (λ es. marked (entries_onto (map entry_tree made) es)) (entries_read (i + 1) (slot_and s (slots_of (drop (i + 1) slots))) (drop i marks) (bits (drop here body)))
+    → Continues (entries_at (slots_of slots) marks body at) at here (entries_onto (map entry_tree made)) (entries_read (i + 1) (slot_and s (slots_of (drop (i + 1) slots))) (drop i marks) (bits (drop here body)))
 at_slot slots marks body i at here made s bit h lt e =
-    subst (λ ss. Continues (kind_read (compound (slots_of slots)) body at) at here (λ es. marked (entries_onto (map entry_tree made) es)) (entries_read (i + 1) ss (drop i marks) (bits (drop here body)))) (slots_at slots i s lt e) h.read
+    subst (λ ss. Continues (entries_at (slots_of slots) marks body at) at here (entries_onto (map entry_tree made)) (entries_read (i + 1) ss (drop i marks) (bits (drop here body)))) (slots_at slots i s lt e) h.read
 
 -- a slot that isn't marked
 pub entries_skip : (slots : List SlotTree) (marks body : List ℕ) (i number at here : ℕ) (made : List Entry) (s : SlotTree) → EntriesSoFar slots marks body i at here made → i < length slots → s ≡ get_or slots i s → number ≡ i + 1
@@ -207,7 +217,7 @@ entries_skip slots marks body i number at here made s h lt e n clear =
       within = h.within;
       few = omega (arith, h.few);
       are_bits = subst AreBits (later_at marks i) (later_bits (drop i marks) h.are_bits);
-      read = subst (λ r. Continues (kind_read (compound (slots_of slots)) body at) at here (λ es. marked (entries_onto (map entry_tree made) es)) r) (step ∙ ap (λ ms. entries_read (i + 1 + 1) ss ms b) (later_at marks i))
+      read = subst (λ r. Continues (entries_at (slots_of slots) marks body at) at here (entries_onto (map entry_tree made)) r) (step ∙ ap (λ ms. entries_read (i + 1 + 1) ss ms b) (later_at marks i))
           (at_slot slots marks body i at here made s 0 h lt e);
     }
   where
@@ -231,7 +241,7 @@ entries_more slots marks body i number at here end made new spare_slot h lt e n 
       within = h.within;
       few = omega (arith, h.few);
       are_bits = subst AreBits (later_at marks i) (later_bits (drop i marks) h.are_bits);
-      read = subst (λ ms. Continues (kind_read (compound (slots_of slots)) body at) at here (λ es. marked (entries_onto (map entry_tree made) es)) (entries_read (i + 1 + 1) ss ms (bits (drop here body)))) (later_at marks i)
+      read = subst (λ ms. Continues (entries_at (slots_of slots) marks body at) at here (entries_onto (map entry_tree made)) (entries_read (i + 1 + 1) ss ms (bits (drop here body)))) (later_at marks i)
           (at_slot slots marks body i at here made spare_slot 0 h lt e);
     } in subst (λ end. EntriesSoFar slots marks body (i + 1) at end new) (sym same) (subst (λ new. EntriesSoFar slots marks body (i + 1) at here new) (sym old) r)
 entries_more slots marks body i number at here end made new (subitem name k) h lt e n one g le =
@@ -247,16 +257,16 @@ entries_more slots marks body i number at here end made new (subitem name k) h l
       within = add.read.within;
       few = omega (arith, h.few, ap length trees, length-append (map entry_tree made) ((i + 1, add.value) ∷ []), length-map made entry_tree, length-map new entry_tree);
       are_bits = subst AreBits (later_at marks i) (later_bits (drop i marks) h.are_bits);
-      read = front_is (kind_read (compound (slots_of slots)) body at) (entries_read (i + 1 + 1) ss (drop (i + 1) marks) (bits (drop end body))) at end
-          (λ es. marked (entries_onto (map entry_tree made) (entry_and (i + 1) add.value es))) (λ es. marked (entries_onto (map entry_tree new) es))
-          (λ es. ap (λ es. marked es) (sym (entries_onto_more (map entry_tree made) (i + 1) add.value es) ∙ ap (λ t. entries_onto t es) (sym trees)))
-          (goes_on (kind_read (compound (slots_of slots)) body at) (entries_read (i + 1) (slot_and (subitem name k) ss) (drop i marks) b) (entries_read (i + 1 + 1) ss (drop (i + 1) marks) (bits (drop end body))) at here end
-            (λ es. marked (entries_onto (map entry_tree made) es)) (λ es. entry_and (i + 1) add.value es) (at_slot slots marks body i at here made (subitem name k) 1 h lt e)
+      read = front_is (entries_at (slots_of slots) marks body at) (entries_read (i + 1 + 1) ss (drop (i + 1) marks) (bits (drop end body))) at end
+          (λ es. entries_onto (map entry_tree made) (entry_and (i + 1) add.value es)) (entries_onto (map entry_tree new))
+          (λ es. sym (entries_onto_more (map entry_tree made) (i + 1) add.value es) ∙ ap (λ t. entries_onto t es) (sym trees))
+          (goes_on (entries_at (slots_of slots) marks body at) (entries_read (i + 1) (slot_and (subitem name k) ss) (drop i marks) b) (entries_read (i + 1 + 1) ss (drop (i + 1) marks) (bits (drop end body))) at here end
+            (entries_onto (map entry_tree made)) (λ es. entry_and (i + 1) add.value es) (at_slot slots marks body i at here made (subitem name k) 1 h lt e)
             (record { forwards = add.read.forwards; same = step ∙ ap (after (8 * (end - here)) (λ es. entry_and (i + 1) add.value es)) next }));
     }
 
 pub entries_lost : (slots : List SlotTree) (marks body : List ℕ) (i number at here : ℕ) (made : List Entry) (s : SlotTree) (e : DecodeError) → EntriesSoFar slots marks body i at here made → i < length slots → s ≡ get_or slots i s → number ≡ i + 1
-    → IsMarked marks number → IsSlotLost s body here e → IsLost (kind_read (compound (slots_of slots)) body at) at e
+    → IsMarked marks number → IsSlotLost s body here e → IsLost (entries_at (slots_of slots) marks body at) at e
 unfolding kind_read
 entries_lost slots marks body i number at here made spare_slot e h lt is n one g = absurd g.lost
 entries_lost slots marks body i number at here made (subitem name k) e h lt is n one g =
@@ -265,7 +275,7 @@ entries_lost slots marks body i number at here made (subitem name k) e h lt is n
     let is_one : first_mark (drop i marks) ≡ 1 = mark_at marks i ∙ ap (λ k. get_or marks k 0) (let z : i ≡ number - 1 = omega arith in z) ∙ one.1 in
     let go = entries_read (i + 1 + 1) ss (later_marks (drop i marks)) in
     let inner : IsLost (kind_read k body here) here e = g.lost in
-    lost_behind (kind_read (compound (slots_of slots)) body at) (entries_read (i + 1) (slot_and (subitem name k) ss) (drop i marks) b) at here (λ es. marked (entries_onto (map entry_tree made) es)) e
+    lost_behind (entries_at (slots_of slots) marks body at) (entries_read (i + 1) (slot_and (subitem name k) ss) (drop i marks) b) at here (entries_onto (map entry_tree made)) e
     (at_slot slots marks body i at here made (subitem name k) 1 h lt is)
     (record { met = λ fault same. (let t : Loses (read k b) here fault = inner.met fault same in record {
       place = t.place;
@@ -273,10 +283,65 @@ entries_lost slots marks body i number at here made (subitem name k) e h lt is n
       bit = t.bit;
     }) })
 
-pub entries_all : (slots : List SlotTree) (marks body : List ℕ) (i at here : ℕ) (made : List Entry) → EntriesSoFar slots marks body i at here made → length slots ≤ i → Gets (kind_read (compound (slots_of slots)) body at) body at here (marked (entries_tree made))
+pub entries_all : (slots : List SlotTree) (marks body : List ℕ) (i at here : ℕ) (made : List Entry) → EntriesSoFar slots marks body i at here made → length slots ≤ i → Gets (entries_at (slots_of slots) marks body at) body at here (entries_tree made)
 entries_all slots marks body i at here made h past =
     let r = entries_read (i + 1) (slots_of (drop i slots)) (drop i marks) (bits (drop here body)) in
     let none : r ≡ got no_entries 0 (bits (drop here body)) = ap (λ ss. entries_read (i + 1) (slots_of ss) (drop i marks) (bits (drop here body))) (drop_all i slots past) in
-    subst (λ es. Gets (kind_read (compound (slots_of slots)) body at) body at here (marked es)) (entries_onto_none (map entry_tree made))
-    (gets_behind (kind_read (compound (slots_of slots)) body at) r body at here here (λ es. marked (entries_onto (map entry_tree made) es)) no_entries h.read
+    subst (λ es. Gets (entries_at (slots_of slots) marks body at) body at here es) (entries_onto_none (map entry_tree made))
+    (gets_behind (entries_at (slots_of slots) marks body at) r body at here here (entries_onto (map entry_tree made)) no_entries h.read
       (record { forwards = omega arith; within = h.within; got = none ∙ ap (λ m. got no_entries m (bits (drop here body))) (let e : 0 ≡ 8 * (here - here) = omega arith in e) }))
+
+-- ---- slots of the code
+
+pub map_at : {X : Type 0} {A : Type 0} (f : X → A) (xs : List X) (i : ℕ) (x : X) → x ≡ get_or xs i x → f x ≡ get_or (map f xs) i (f x)
+map_at f [] i x e = refl
+map_at f (y ∷ xs) zero x e = ap f e
+map_at f (y ∷ xs) (suc i) x e = map_at f xs i x e
+
+and_bounds : (s : SlotTree) (ss : SlotsTree) → SlotsInBounds (slot_and s ss) → SlotInBounds s × SlotsInBounds ss
+and_bounds spare_slot ss h = (tt, h)
+and_bounds (subitem name k) ss h = h
+
+pub slot_bounds : (slots : List SlotTree) (i : ℕ) (s : SlotTree) → SlotsInBounds (slots_of slots) → i < length slots → s ≡ get_or slots i s → SlotInBounds s
+slot_bounds [] i s h lt e = absurd (omega arith)
+slot_bounds (t ∷ slots) zero s h lt e = subst SlotInBounds (sym e) (and_bounds t (slots_of slots) h).0
+slot_bounds (t ∷ slots) (suc i) s h lt e = slot_bounds slots i s (and_bounds t (slots_of slots) h).1 (omega arith) e
+
+pub slot_in_bounds : (all : List Slot) (i : ℕ) (s : Slot) → SlotsInBounds (slots_tree all) → i < length all → s ≡ get_or all i s → SlotInBounds (slot_tree s)
+slot_in_bounds all i s h lt e = slot_bounds (map slot_tree all) i (slot_tree s) h (omega (arith, length-map all slot_tree)) (map_at slot_tree all i s e)
+
+pub entries_few : (all : List Slot) (marks body : List ℕ) (i at here : ℕ) (made : List Entry) → EntriesSoFar (map slot_tree all) marks body i at here made → i < length all → length all ≤ 126 → length made < 126
+entries_few all marks body i at here made h lt few = omega (arith, h.few)
+
+pub entries_within : (all : List Slot) (marks body : List ℕ) (i at here : ℕ) (made : List Entry) → EntriesSoFar (map slot_tree all) marks body i at here made → here ≤ length body
+entries_within all marks body i at here made h = h.within
+
+pub ruleset at_slots = (slot_in_bounds, entries_few, entries_within)
+
+-- ---- a compound: its field, and its entries
+
+pub compound_gets : (slots : List SlotTree) (mask : SlotMask) (body marks : List ℕ) (at here end : ℕ) (es : EntriesTree) → IsMaskOf slots mask → MarksSlots mask body at here marks → Gets (entries_at (slots_of slots) marks body here) body here end es
+    → Gets (kind_read (compound (slots_of slots)) body at) body at end (marked es)
+compound_gets slots mask body marks at here end es m h g =
+    gets_behind (kind_read (compound (slots_of slots)) body at) (entries_at (slots_of slots) marks body here) body at here end (λ es. marked es) es (field_read slots mask body marks at here m h) g
+
+pub compound_lost : (slots : List SlotTree) (mask : SlotMask) (body marks : List ℕ) (at here : ℕ) (e : DecodeError) → IsMaskOf slots mask → MarksSlots mask body at here marks → IsLost (entries_at (slots_of slots) marks body here) here e
+    → IsLost (kind_read (compound (slots_of slots)) body at) at e
+compound_lost slots mask body marks at here e m h g =
+    lost_behind (kind_read (compound (slots_of slots)) body at) (entries_at (slots_of slots) marks body here) at here (λ es. marked es) e (field_read slots mask body marks at here m h) g
+
+-- the same, of a call's result
+pub ok_gets : (slots : List SlotTree) (mask : SlotMask) (body marks : List ℕ) (at here : ℕ) (r : Result (List Entry × ℕ) DecodeError) → IsMaskOf slots mask → MarksSlots mask body at here marks
+    → IfOk r (λ r. Gets (entries_at (slots_of slots) marks body here) body here r.1 (entries_tree r.0)) → IfOk r (λ r. Gets (kind_read (compound (slots_of slots)) body at) body at r.1 (marked (entries_tree r.0)))
+ok_gets slots mask body marks at here (Ok r) m h g = compound_gets slots mask body marks at here r.1 (entries_tree r.0) m h g
+ok_gets slots mask body marks at here (Err e) m h g = g
+
+pub err_lost : (slots : List SlotTree) (mask : SlotMask) (body marks : List ℕ) (at here : ℕ) (r : Result (List Entry × ℕ) DecodeError) → IsMaskOf slots mask → MarksSlots mask body at here marks
+    → IfErr r (λ e. IsLost (entries_at (slots_of slots) marks body here) here e) → IfErr r (λ e. IsLost (kind_read (compound (slots_of slots)) body at) at e)
+err_lost slots mask body marks at here (Ok r) m h g = g
+err_lost slots mask body marks at here (Err e) m h g = compound_lost slots mask body marks at here e m h g
+
+pub marks_end : (mask : SlotMask) (body marks : List ℕ) (at end : ℕ) → MarksSlots mask body at end marks → end ≤ length body
+marks_end mask body marks at end h = h.within
+
+pub ruleset fields = (marks_bits, marks_end)

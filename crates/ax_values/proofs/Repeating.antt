@@ -12,10 +12,10 @@ use Rattle.ax_model.specs.declared.fault.BodyCause.TheVariants.{RunsOut, Extensi
 use Rattle.ax_model.specs.declared.fault.BodyFault.{BodyFault}
 use Rattle.ax_model.specs.declared.kind.Part.{Part}
 use Rattle.ax_model.specs.declared.value.Value.{Value}
-use Rattle.ax_values.proofs.AtOctets.{IsUnit, run_ends, run_goes_on, run_loses, parts_lose, parts_end, parts_go_on, parts_past_end}
+use Rattle.ax_values.proofs.AtOctets.{IsUnit, run_at, parts_at, run_ends, run_goes_on, run_loses, parts_lose, parts_end, parts_go_on, parts_past_end}
 use Rattle.ax_values.proofs.Continuing.{begins, goes_on, gets_behind, loses_behind, front_is}
 use Rattle.ax_values.proofs.Onto.{values_onto, values_onto_none, values_onto_more, lists_onto, lists_onto_none, lists_onto_more}
-use Rattle.ax_values.specs.Reading.{Gets, Loses, Continues, fx_bit, run_at, parts_at}
+use Rattle.ax_values.specs.Reading.{Gets, Loses, Continues, fx_bit}
 
 -- a unit, of what the code found
 pub unit_is : (body : List ℕ) (here end w bit : ℕ) (fx : Bool) → (w + 1) % 8 ≡ 0 → here ≤ end → end ≤ length body → w + 1 ≡ 8 * (end - here) → bit ≡ 8 * here + w

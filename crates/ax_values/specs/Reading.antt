@@ -1,8 +1,8 @@
 -- What is read from an octet of a body on.
-use Rattle.std.specs.Prelude.{◌≡◌, ℕ, suc, ◌+◌, ◌-◌, ◌*◌, ◌≤◌, List, [], ◌∷◌, ◌++◌, Bool, true, false, length, drop, map}
+use Rattle.std.specs.Prelude.{◌≡◌, ℕ, ◌+◌, ◌-◌, ◌*◌, ◌≤◌, List, [], ◌∷◌, ◌++◌, Bool, true, false, length, drop, map}
 use Rattle.ax_bits.specs.Bits.{bits}
-use Rattle.ax_model.proofs.Reader.{Read, got, lost, after, read, run_read, parts_read}
-use Rattle.ax_model.specs.Tree.{KindTree, ValueTree, ValuesTree, ListsTree, FixedTree, MembersTree, SlotTree, spare_slot, subitem, slots_of, defined_slots}
+use Rattle.ax_model.proofs.Reader.{Read, got, lost, after, read, entries_read}
+use Rattle.ax_model.specs.Tree.{KindTree, ValueTree, EntriesTree, SlotTree, SlotsTree, spare_slot, subitem, slots_of, defined_slots}
 use Rattle.ax_fspec.specs.Fields.{mask_slots}
 use Rattle.ax_fspec.specs.declared.mask.SlotMask.{SlotMask}
 use Rattle.ax_model.specs.InBounds.{InBounds}
@@ -37,22 +37,16 @@ pub record IsLost {A : Type 0} (found : Read A) (at : ℕ) (e : DecodeError) : T
 unfoldable pub kind_read : KindTree → List ℕ → ℕ → Read ValueTree
 kind_read k body at = read k (bits (drop at body))
 
--- what is read of the occurrences at the front of b
-abbrev pub run_of : FixedTree → List ℕ → Read ValuesTree
-run_of f b = run_read (suc (length b)) f b
-
-unfoldable pub run_at : FixedTree → List ℕ → ℕ → Read ValuesTree
-run_at f body at = run_of f (bits (drop at body))
-
-unfoldable pub parts_at : List MembersTree → List ℕ → ℕ → Read ListsTree
-parts_at ps body at = parts_read ps (bits (drop at body))
-
 -- the FX bit of a test
 abbrev pub fx_bit : Bool → ℕ
 fx_bit true = 1
 fx_bit false = 0
 
 -- ---- slots
+
+-- what is read of the marked slots from octet `at` of a body on
+unfoldable pub entries_at : SlotsTree → List ℕ → List ℕ → ℕ → Read EntriesTree
+entries_at slots marks body at = entries_read 1 slots marks (bits (drop at body))
 
 -- the slot is defined
 abbrev pub is_subitem : SlotTree → Bool

@@ -1,10 +1,11 @@
 //! The kinds of items and subitems, read by one function each.
 ghost use Rattle.std.specs.Prelude.{◌≡◌, ◌+◌, ◌*◌, ◌<◌, ◌≤◌, length, get_or, drop, map, IfOk, IfErr};
-ghost use Rattle.ax_model.specs.InBounds.{InBounds};
+ghost use Rattle.ax_bits.specs.Bits.{AreBits};
+ghost use Rattle.ax_model.specs.InBounds.{InBounds, SlotsInBounds};
 ghost use Rattle.ax_model.specs.Plain.{kind_tree, slot_tree, slots_tree, value_tree, values_tree, entries_tree};
 ghost use Rattle.ax_model.specs.Tree as Tree;
 ghost use Rattle.ax_model.specs.declared.fault.BodyCause.TheVariants as Cause;
-ghost use Rattle.ax_values.specs.Reading.{Gets, IsLost, IsSlotRead, IsSlotLost, SlotInBounds, kind_read};
+ghost use Rattle.ax_values.specs.Reading.{Gets, IsLost, IsSlotRead, IsSlotLost, SlotInBounds, kind_read, entries_at};
 
 use crate::error::DecodeError;
 use crate::slots::slots_mask;
@@ -69,6 +70,7 @@ fn octet_at(body: &[u8], at: u32) -> Result<u8, BodyFault>
     Ok(body[at as usize])
 }
 
+#[tactic(auto, using(crate::proofs::Counting::counts))]
 /// The occurrences of a counted item, and the octet behind them.
 #[cycle(kind)]
 fn decode_counted(
@@ -133,6 +135,7 @@ pub(crate) fn copy_octets(alloc: Global, octets: &[u8]) -> Result<Octets, AllocE
 
 /// The marked subitems of a compound, and the octet behind them.
 #[cycle(kind)]
+#[tactic(auto, using(crate::proofs::Marking::fields))]
 fn decode_compound(
     alloc: Global,
     slots: &Slots,
@@ -146,16 +149,38 @@ fn decode_compound(
     ensures err { IfErr result (λ e. IsLost (kind_read (Tree.compound (slots_tree slots.now)) body.now at) at e) }
 {
     let mut marked = Presence::empty();
-    let mut here = read_presence(&slots_mask(slots), body, at, &mut marked)?;
-    let mut entries = Entries::new(alloc);
+    let here = read_presence(&slots_mask(slots), body, at, &mut marked)?;
+    decode_marked(alloc, slots, &marked, body, here)
+}
+
+/// The entries of the marked slots, of which the first begins at octet `at`, and the octet behind them.
+#[cycle(kind)]
+#[tactic(auto, using(crate::proofs::Marking::at_slots))]
+fn decode_marked(
+    alloc: Global,
+    slots: &Slots,
+    marked: &Presence,
+    body: &[u8],
+    at: u32,
+) -> Result<(Entries, u32), DecodeError>
+    requires bounds { SlotsInBounds (slots_tree slots.now) }
+    requires few { length slots.now ≤ 126 }
+    requires marks { AreBits marked.now }
+    requires body { length body.now ≤ 65532 }
+    requires at { at ≤ length body.now }
+    ensures ok { IfOk result (λ r. Gets (entries_at (slots_tree slots.now) marked.now body.now at) body.now at r.1 (entries_tree r.0)) }
+    ensures err { IfErr result (λ e. IsLost (entries_at (slots_tree slots.now) marked.now body.now at) at e) }
+{
+    let mut made = Entries::new(alloc);
+    let mut here = at;
     let mut number = 0;
     for slot in slots.as_slice() {
         number += 1;
         if marked.has(number) {
-            here = decode_slot(alloc, slot, number, body, here, &mut entries)?;
+            here = decode_slot(alloc, slot, number, body, here, &mut made)?;
         }
     }
-    Ok((entries, here))
+    Ok((made, here))
 }
 
 /// Puts the entry of a slot behind the others. Ok is the octet behind it.

@@ -3,10 +3,9 @@ ghost use Rattle.std.specs.Prelude.{◌≡◌, ◌+◌, ◌-◌, ◌*◌, ◌%�
 ghost use Rattle.ax_bits.specs.Bits.{bits};
 ghost use Rattle.ax_model.specs.InBounds.{InBounds};
 ghost use Rattle.ax_model.specs.Plain.{fixed_tree, part_tree, value_tree, values_tree, lists_tree};
-ghost use Rattle.ax_model.specs.Tree.{fixed};
 ghost use Rattle.ax_model.specs.Tree as Tree;
 ghost use Rattle.ax_model.specs.declared.fault.BodyCause.TheVariants as Cause;
-ghost use Rattle.ax_values.specs.Reading.{Gets, IsLost, kind_read, run_at, parts_at, fx_bit};
+ghost use Rattle.ax_values.specs.Reading.{Gets, IsLost, kind_read, fx_bit};
 
 use crate::error::DecodeError;
 use crate::fixed::{decode_fixed, decode_members, fixed_width, members_width};
@@ -63,7 +62,7 @@ pub(crate) fn decode_single(
     Ok((value, end))
 }
 
-#[tactic(auto, using(crate::proofs::Continuing::errors, crate::proofs::Repeating::parts_none))]
+#[tactic(auto, using(crate::proofs::Continuing::errors, crate::proofs::Repeating::parts_none, crate::proofs::AtOctets::extended_loses))]
 /// The values of the parts that are present, and the octet behind them.
 pub(crate) fn decode_parts(
     alloc: Global,
@@ -74,8 +73,8 @@ pub(crate) fn decode_parts(
     requires bounds { InBounds (Tree.extended (map part_tree parts.now)) }
     requires body { length body.now ≤ 65532 }
     requires at { at ≤ length body.now }
-    ensures ok { IfOk result (λ r. Gets (parts_at (map part_tree parts.now) body.now at) body.now at r.1 (lists_tree r.0)) }
-    ensures err { IfErr result (λ e. IsLost (parts_at (map part_tree parts.now) body.now at) at e) }
+    ensures ok { IfOk result (λ r. Gets (kind_read (Tree.extended (map part_tree parts.now)) body.now at) body.now at r.1 (Tree.part_values (lists_tree r.0))) }
+    ensures err { IfErr result (λ e. IsLost (kind_read (Tree.extended (map part_tree parts.now)) body.now at) at e) }
 {
     let mut made = Lists::new(alloc);
     let mut here = at;
@@ -106,8 +105,8 @@ pub(crate) fn decode_run(
     requires bounds { InBounds (Tree.by_fx (fixed_tree fixed.now)) }
     requires body { length body.now ≤ 65532 }
     requires at { at ≤ length body.now }
-    ensures ok { IfOk result (λ r. Gets (run_at (fixed_tree fixed.now) body.now at) body.now at r.1 (values_tree r.0)) }
-    ensures err { IfErr result (λ e. IsLost (run_at (fixed_tree fixed.now) body.now at) at e) }
+    ensures ok { IfOk result (λ r. Gets (kind_read (Tree.by_fx (fixed_tree fixed.now)) body.now at) body.now at r.1 (Tree.occurrences (values_tree r.0))) }
+    ensures err { IfErr result (λ e. IsLost (kind_read (Tree.by_fx (fixed_tree fixed.now)) body.now at) at e) }
 {
     let width = fixed_width(fixed);
     let mut made = Values::new(alloc);

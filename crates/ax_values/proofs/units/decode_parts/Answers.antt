@@ -1,9 +1,11 @@
-use Rattle.std.proofs.Common.{◌≡◌, ◌+◌, ◌<◌, true, false, length, map, get_or, ap, arith, refl, subst, sym}
+use Rattle.std.proofs.Common.{◌≡◌, ◌+◌, ◌<◌, ◌++◌, ◌∷◌, [], true, false, length, map, get_or, ap, arith, refl, subst, sym}
 use Rattle.ax_model.specs.Plain.{part_tree, lists_tree}
 use Rattle.ax_model.specs.Widths.{members_width}
+use Rattle.ax_model.specs.Tree.{extended, part_values}
+use Rattle.ax_values.proofs.AtOctets.{extended_gets, extended_loses}
 use Rattle.ax_values.proofs.Continuing.{err_by_fault}
 use Rattle.ax_values.proofs.Repeating.{PartsSoFar, unit_is, part_bounds, part_more, part_last, part_short}
-use Rattle.ax_values.specs.Reading.{Gets, parts_at}
+use Rattle.ax_values.specs.Reading.{Gets, kind_read}
 use Rattle.ax_values.proofs.units.decode_parts.Goals as goal
 
 pub returns-in_err-end-clause-err : goal.returns-in_err-end-clause-err
@@ -15,8 +17,8 @@ returns-in_err-end-clause-err c =
     let within : i < length all = subst (λ xs. i < length xs) same c.loop-part-test.true in
     let is : p ≡ get_or all i p = subst (λ xs. p ≡ get_or xs i p) same c.part-item.is in
     let fault = c.in_err-end.field-0.0 in
-    err_by_fault (parts_at (map part_tree all) c.args.body.now c.args.at) c.args.at c.from_residual.result fault c.from_residual.ensures.1
-    (part_short all i p c.args.body.now c.args.at c.loop-part.here c.loop-part.made fault c.loop-part.invariant within is (omega (arith, c.in_err-end.ensures.short, c.members_width.ensures)) (ap (λ f. f.cause) c.in_err-end.ensures.fault) (ap (λ f. f.bit) c.in_err-end.ensures.fault))
+    err_by_fault (kind_read (extended (map part_tree all)) c.args.body.now c.args.at) c.args.at c.from_residual.result fault c.from_residual.ensures.1
+    (extended_loses (map part_tree all) c.args.body.now c.args.at fault (part_short all i p c.args.body.now c.args.at c.loop-part.here c.loop-part.made fault c.loop-part.invariant within is (omega (arith, c.in_err-end.ensures.short, c.members_width.ensures)) (ap (λ f. f.cause) c.in_err-end.ensures.fault) (ap (λ f. f.bit) c.in_err-end.ensures.fault)))
 
 pub returns-then-not-has_fx-clause-ok : goal.returns-then-not-has_fx-clause-ok
 returns-then-not-has_fx-clause-ok c =
@@ -34,8 +36,8 @@ returns-then-not-has_fx-clause-ok c =
     let bounds = part_bounds all i p body c.args.at here c.loop-part.made c.loop-part.invariant within is in
     let u = unit_is body here end w c.decode_members.new.at c.has_fx.result bounds.0 ok.0 ok.1 (omega (arith, ok.2, c.members_width.ensures)) c.in_ok-values.ensures.at c.has_fx.ensures in
     let none : c.has_fx.result ≡ false = c.if-not-has_fx.true in
-    subst (λ made. Gets (parts_at (map part_tree all) body c.args.at) body c.args.at end (lists_tree made)) (sym c.in_ok-push.ensures.ok)
-    (part_last all i p body c.args.at here end w c.loop-part.made c.in_ok-values.values c.has_fx.result c.loop-part.invariant within is u refl none c.in_ok-values.ensures.values)
+    subst (λ made. Gets (kind_read (extended (map part_tree all)) body c.args.at) body c.args.at end (part_values (lists_tree made))) (sym c.in_ok-push.ensures.ok)
+    (extended_gets (map part_tree all) body c.args.at end (lists_tree (c.loop-part.made ++ c.in_ok-values.values ∷ [])) (part_last all i p body c.args.at here end w c.loop-part.made c.in_ok-values.values c.has_fx.result c.loop-part.invariant within is u refl none c.in_ok-values.ensures.values))
 
 pub loop-part-preserved : goal.loop-part-preserved
 loop-part-preserved c =

@@ -1,0 +1,7 @@
+use Rattle.std.proofs.Common.{◌≡◌, map}
+use Rattle.ax_model.specs.Plain.{slot_tree}
+use Rattle.ax_values.proofs.Marking.{MaskSoFar}
+use Rattle.ax_values.proofs.slots.slots_mask.Given as goal
+
+abbrev pub invariant-loop-slot : goal.invariant-loop-slot
+invariant-loop-slot l = record { number : l.number ≡ l.slot-index; mask : MaskSoFar (map slot_tree l.slots) l.slot-index l.defined }

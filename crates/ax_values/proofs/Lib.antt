@@ -1,5 +1,6 @@
 pub mod Continuing
 pub mod Counting
+pub mod Exact
 pub mod FixedRead
 pub mod Marking
 pub mod Onto

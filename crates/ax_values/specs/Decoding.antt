@@ -1,0 +1,66 @@
+-- What decoding answers.
+use Rattle.std.specs.Prelude.{◌≡◌, ℕ, ◌+◌, ◌-◌, ◌*◌, ◌≤◌, ◌⊎◌, List, length, take, drop, Result, Ok, Err}
+use Rattle.ax_bits.specs.Bits.{bits}
+use Rattle.ax_model.specs.Blocks.{BlockTree, read_block}
+use Rattle.ax_model.specs.Bodies.{SpellsRecord, FailsRecord, SpellsBody, FailsBody}
+use Rattle.ax_model.specs.Failing.{IsFault}
+use Rattle.ax_model.specs.Specification.{SpecTree}
+use Rattle.ax_model.specs.Spelling.{IsSpelling}
+use Rattle.ax_model.specs.Tree.{KindTree, ValueTree, EntriesTree}
+use Rattle.ax_model.specs.declared.fault.BodyFault.{BodyFault}
+use Rattle.ax_values.specs.declared.error.DecodeError.{DecodeError}
+use Rattle.ax_values.specs.declared.error.DecodeError.TheVariants as Decoding
+
+-- ---- a kind
+
+-- the octets of the body from `at` up to `end` spell the value
+pub record IsSpelledAt (k : KindTree) (body : List ℕ) (at end : ℕ) (v : ValueTree) : Type 0 where
+  pub forwards : at ≤ end
+  pub within : end ≤ length body
+  pub spelling : IsSpelling k v (bits (take (end - at) (drop at body)))
+
+-- what is left of the body from octet `at` on fails to spell a value of the kind; the fault's bit is one of the body
+pub record IsFaultAt (k : KindTree) (body : List ℕ) (at : ℕ) (fault : BodyFault) : Type 0 where
+  pub place : ℕ
+  pub fails : IsFault k (bits (drop at body)) place fault.cause
+  pub bit : fault.bit ≡ 8 * at + place
+
+-- ---- a record
+
+pub record IsRecordAt (spec : SpecTree) (body : List ℕ) (at end : ℕ) (entries : EntriesTree) : Type 0 where
+  pub forwards : at ≤ end
+  pub within : end ≤ length body
+  pub spelling : SpellsRecord spec entries (bits (take (end - at) (drop at body)))
+
+pub record IsRecordFaultAt (spec : SpecTree) (body : List ℕ) (at : ℕ) (fault : BodyFault) : Type 0 where
+  pub place : ℕ
+  pub fails : FailsRecord spec (bits (drop at body)) place fault.cause
+  pub bit : fault.bit ≡ 8 * at + place
+
+-- ---- a body
+
+-- the block has the records that the body spells
+pub record IsReadOf (spec : SpecTree) (category : ℕ) (body : List ℕ) (block : BlockTree) : Type 0 where
+  pub records : List EntriesTree
+  pub spelled : SpellsBody spec records (bits body)
+  pub is : block ≡ read_block category records
+
+pub record IsBodyFault (spec : SpecTree) (body : List ℕ) (fault : BodyFault) : Type 0 where
+  pub fails : FailsBody spec (bits body) fault.bit fault.cause
+
+-- ---- answers; want of memory may stand in place of any
+
+-- the answer is good
+abbrev pub Answers : {A : Type 0} → (A → Type 0) → Result A DecodeError → Type 0
+Answers P (Ok a) = P a
+Answers P (Err e) = e ≡ Decoding.OutOfMemory
+
+-- the answer is this fault
+abbrev pub AnswersFault : {A : Type 0} → BodyFault → Result A DecodeError → Type 0
+AnswersFault fault (Ok a) = ⊥
+AnswersFault fault (Err e) = (e ≡ Decoding.Fault fault) ⊎ (e ≡ Decoding.OutOfMemory)
+
+-- a fault that the error names is such a one
+abbrev pub Names : (BodyFault → Type 0) → DecodeError → Type 0
+Names F (Decoding.Fault fault) = F fault
+Names F Decoding.OutOfMemory = Unit {0}

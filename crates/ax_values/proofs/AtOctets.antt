@@ -1,14 +1,14 @@
 -- Units of a body that begin at an octet: fixed runs, parts and occurrences with their FX bit.
-use Rattle.std.proofs.Common.{◌≡◌, ℕ, zero, suc, ◌+◌, ◌-◌, ◌*◌, ◌^◌, ◌<◌, ◌≤◌, ◌==◌, Bool, true, false, List, [], ◌∷◌, ◌++◌, length, take, drop, map, refl, sym, ◌∙◌, ap, arith, subst, length-append, length-drop, append_assoc, take-append-drop, append-nil}
-use Rattle.std.proofs.lemmas.List.{drop-drop, length-take-le, take_at, drop_at, take_all, nil_from_length}
-use Rattle.ax_bits.proofs.Pieces.{drop-bits, take-bits, bits-at, number-word}
-use Rattle.ax_bits.proofs.Words.{bits-append, bits-AreBits, length-bits, length-word, append-AreBits}
-use Rattle.ax_bits.specs.Bits.{bits, word, AreBits, number_of}
+use Rattle.std.proofs.Common.{◌≡◌, ℕ, zero, suc, ◌+◌, ◌-◌, ◌*◌, ◌^◌, ◌<◌, ◌≤◌, ◌==◌, List, [], ◌∷◌, ◌++◌, length, take, drop, refl, sym, ◌∙◌, ap, arith, length-append, length-drop, append_assoc, take-append-drop}
+use Rattle.std.proofs.lemmas.List.{drop-drop, length-take-le, take_at, drop_at}
+use Rattle.ax_bits.proofs.Pieces.{drop-bits}
+use Rattle.ax_bits.proofs.Words.{bits-append, bits-AreBits, length-bits}
+use Rattle.ax_bits.specs.Bits.{bits, word, AreBits}
 use Rattle.ax_model.proofs.FixedKinds.{split_at, split_short, fixed_back, members_back, split_is, SplitIs}
 use Rattle.ax_model.proofs.Meets.{fixed_all, members_all, bits_of}
-use Rattle.ax_model.proofs.Reader.{Read, got, lost, after, read, fixed_value, members_value, fixed_read, Split, split, cut, short, part_read, parts_read, one_read, run_read}
+use Rattle.ax_model.proofs.Reader.{Read, lost, after, fixed_value, members_value, fixed_read, Split, split, cut, short, part_read, parts_read, one_read, run_read}
 use Rattle.ax_model.proofs.Spelled.{got_is}
-use Rattle.ax_model.specs.Tree.{KindTree, FixedTree, MembersTree, ValueTree, ValuesTree, ListsTree, fixed, by_fx, extended, occurrences, part_values, value_and, no_values, list_and, no_lists}
+use Rattle.ax_model.specs.Tree.{FixedTree, MembersTree, ValueTree, ValuesTree, ListsTree, fixed, by_fx, extended, occurrences, part_values, value_and, no_values, list_and, no_lists}
 use Rattle.ax_model.specs.Widths.{width, members_width}
 use Rattle.ax_model.specs.declared.fault.BodyCause.TheVariants.{RunsOut, ExtensionPastEnd}
 use Rattle.ax_model.specs.declared.fault.BodyFault.{BodyFault}
@@ -129,7 +129,7 @@ module _ (body : List ℕ) (at end w fx : ℕ) (u : IsUnit body at end w fx) whe
       let lw : length (take w z) ≡ w = length-take-le w z (omega (arith, long)) in
       let shape : bits (drop at body) ≡ take w z ++ (drop w z ++ y) = parts ∙ ap (λ z. z ++ y) (sym split_z) ∙ append_assoc (take w z) (drop w z) y in
       let place : drop (8 * at + w) (bits body) ≡ drop w z ++ y =
-          sym (drop-drop w (8 * at) (bits body)) ∙ ap (drop w) (drop-bits at body ∙ shape) ∙ drop_at (take w z) (drop w z ++ y) w lw in
+      sym (drop-drop w (8 * at) (bits body)) ∙ ap (drop w) (drop-bits at body ∙ shape) ∙ drop_at (take w z) (drop w z ++ y) w lw in
       let one : take 1 (drop w z ++ y) ≡ drop w z = take_at (drop w z) y 1 l in
       let last : drop w z ≡ fx ∷ [] = sym one ∙ ap (take 1) (sym place) ∙ u.last in
       shape ∙ ap (λ t. take w z ++ (t ++ y)) last
@@ -175,6 +175,7 @@ run_loses f body at fault less c b = record {
   where
     few : length (bits (drop at body)) ≤ width f
     few = omega (arith, length-rest body at)
+
     too_few : (s : Split) → SplitIs (width f) (bits (drop at body)) s → one_read f s (run_of f) ≡ lost 0 RunsOut
     too_few short h = refl
     too_few (cut x []) h = refl
@@ -203,6 +204,7 @@ run_goes_on f body at end w fx v u e one h = record {
   where
     value : fixed_value f (front_of body at end w) ≡ v
     value = fixed_front body at end w fx u f e ∙ sym h
+
     bits_are : width f + 1 ≡ 8 * (end - at)
     bits_are = omega (arith, u.width, e)
 
@@ -219,6 +221,7 @@ parts_lose p ps body at fault less c b = record {
   where
     few : length (bits (drop at body)) ≤ members_width p
     few = omega (arith, length-rest body at)
+
     too_few : (s : Split) → SplitIs (members_width p) (bits (drop at body)) s → part_read p ps s (parts_read ps) ≡ lost 0 RunsOut
     too_few short h = refl
     too_few (cut x []) h = refl
@@ -251,6 +254,7 @@ parts_go_on p q ps body at end w fx vs u e one h = record {
   where
     value : members_value p (front_of body at end w) ≡ vs
     value = members_front body at end w fx u p e ∙ sym h
+
     bits_are : members_width p + 1 ≡ 8 * (end - at)
     bits_are = omega (arith, u.width, e)
 

@@ -1,5 +1,5 @@
 -- Reading goes on behind what was read.
-use Rattle.std.proofs.Common.{◌≡◌, ℕ, ◌+◌, ◌-◌, ◌*◌, ◌≤◌, List, length, refl, sym, ◌∙◌, ap, arith, subst, Result, Ok, Err, IfErr}
+use Rattle.std.proofs.Common.{◌≡◌, ℕ, ◌+◌, ◌-◌, ◌*◌, List, refl, sym, ◌∙◌, ap, arith, subst, Result, Ok, Err, IfErr}
 use Rattle.std.specs.Result.{IsErrAnd}
 use Rattle.ax_bits.specs.Bits.{bits}
 use Rattle.ax_model.proofs.Failed.{lost_is}

@@ -1,19 +1,19 @@
 -- Counted and explicit items, and the octet in front of them.
 use Rattle.std.proofs.Common.{◌≡◌, ℕ, zero, suc, ◌+◌, ◌-◌, ◌*◌, ◌<◌, ◌≤◌, List, [], ◌∷◌, ◌++◌, length, take, drop, map, get_or, refl, sym, ◌∙◌, ap, arith, subst, length-append, add-one, drop-cons, length-drop}
-use Rattle.std.proofs.lemmas.List.{drop_all, drop-drop, length-take-le, take-append-drop, get_or_default}
+use Rattle.std.proofs.lemmas.List.{drop-drop, length-take-le, take-append-drop, get_or_default}
 use Rattle.ax_bits.proofs.Pieces.{number-word, AreOctets-items}
 use Rattle.ax_bits.proofs.Words.{length-word, length-bits, bits-append}
 use Rattle.ax_bits.specs.Bits.{bits, word, number_of, AreOctets}
 use Rattle.ax_model.proofs.FixedKinds.{split_at, split_short}
-use Rattle.ax_model.proofs.Reader.{Read, got, lost, after, both, read, each_read, count_read, explicit_read, contents_read, octets_read, Split, split, cut, short}
+use Rattle.ax_model.proofs.Reader.{Read, got, lost, after, both, read, each_read, count_read, explicit_read, contents_read, octets_read, split, cut, short}
 use Rattle.ax_model.proofs.Spelled.{explicit_spelled}
 use Rattle.ax_model.specs.Plain.{value_tree, values_tree}
-use Rattle.ax_model.specs.Tree.{KindTree, ValueTree, ValuesTree, counted, explicit, occurrences, content_octets, value_and, no_values}
+use Rattle.ax_model.specs.Tree.{KindTree, ValueTree, counted, explicit, occurrences, content_octets, value_and, no_values}
 use Rattle.ax_model.specs.declared.fault.BodyCause.TheVariants.{RunsOut, BadExplicitLength}
 use Rattle.ax_model.specs.declared.fault.BodyFault.{BodyFault}
 use Rattle.ax_model.specs.declared.value.Value.{Value}
 use Rattle.ax_values.proofs.AtOctets.{length-rest}
-use Rattle.ax_values.proofs.Continuing.{begins, goes_on, gets_behind, loses_behind, lost_behind, front_is}
+use Rattle.ax_values.proofs.Continuing.{goes_on, gets_behind, lost_behind, front_is}
 use Rattle.ax_values.proofs.Onto.{values_onto, values_onto_none, values_onto_more}
 use Rattle.ax_values.specs.Reading.{Gets, Loses, Continues, IsLost, kind_read}
 use Rattle.ax_values.specs.declared.error.DecodeError.{DecodeError}
@@ -59,6 +59,7 @@ counted_begins k body n at lt e less = record {
   where
     eight : 8 ≡ 8 * (at + 1 - at)
     eight = omega arith
+
     times : number_of (word 8 n) ≡ n - 0
     times = number-word 8 n less ∙ omega arith
 
@@ -77,11 +78,11 @@ counted_more k body n i at here end made v h lt g = record {
   read = front_is (kind_read (counted k) body at) (each_read (read k) (n - (i + 1)) (bits (drop end body))) at end
       (λ vs. occurrences (values_onto (map value_tree made) (value_and (value_tree v) vs))) (λ vs. occurrences (values_onto (map value_tree (made ++ v ∷ [])) vs)) (λ vs. ap (λ vs. occurrences vs) (sym (values_onto_more made v vs)))
       (goes_on (kind_read (counted k) body at) (each_read (read k) (n - i) (bits (drop here body))) (each_read (read k) (n - (i + 1)) (bits (drop end body))) at here end
-        (λ vs. occurrences (values_onto (map value_tree made) vs)) (λ vs. value_and (value_tree v) vs) h.read
-        (record {
-          forwards = g.forwards;
-          same = ap (λ m. each_read (read k) m (bits (drop here body))) left ∙ each_first (read k) (n - (i + 1)) (bits (drop here body)) (bits (drop end body)) (value_tree v) (8 * (end - here)) g.got;
-        }));
+      (λ vs. occurrences (values_onto (map value_tree made) vs)) (λ vs. value_and (value_tree v) vs) h.read
+      (record {
+        forwards = g.forwards;
+        same = ap (λ m. each_read (read k) m (bits (drop here body))) left ∙ each_first (read k) (n - (i + 1)) (bits (drop here body)) (bits (drop end body)) (value_tree v) (8 * (end - here)) g.got;
+      }));
 }
   where
     left : n - i ≡ suc (n - (i + 1))
@@ -92,7 +93,7 @@ counted_all k body n i at here made h past =
     let none : each_read (read k) (n - i) (bits (drop here body)) ≡ got no_values 0 (bits (drop here body)) = ap (λ m. each_read (read k) m (bits (drop here body))) (let e : n - i ≡ 0 = omega arith in e) in
     subst (λ vs. Gets (kind_read (counted k) body at) body at here (occurrences vs)) (values_onto_none (map value_tree made))
     (gets_behind (kind_read (counted k) body at) (each_read (read k) (n - i) (bits (drop here body))) body at here here (λ vs. occurrences (values_onto (map value_tree made) vs)) no_values h.read
-      (record { forwards = omega arith; within = h.within; got = none ∙ ap (λ m. got no_values m (bits (drop here body))) (let e : 0 ≡ 8 * (here - here) = omega arith in e) }))
+    (record { forwards = omega arith; within = h.within; got = none ∙ ap (λ m. got no_values m (bits (drop here body))) (let e : 0 ≡ 8 * (here - here) = omega arith in e) }))
 
 pub counted_lost : (k : KindTree) (body : List ℕ) (n i at here : ℕ) (made : List Value) (e : DecodeError) → CountedSoFar k body n i at here made → i < n → IsLost (kind_read k body here) here e → IsLost (kind_read (counted k) body at) at e
 unfolding kind_read
@@ -151,8 +152,8 @@ explicit_gets body xs at n end lt e less some is within content octets =
     let tail : drop (at + 1) body ≡ xs ++ drop end body = sym (take-append-drop (n - 1) (drop (at + 1) body)) ∙ (λ i. sym content i ++ rest i) in
     let w = word 8 (1 + length xs) in
     let all : bits (drop at body) ≡ (w ++ bits xs) ++ bits (drop end body) =
-        ap bits shape ∙ ap (λ t. word 8 n ++ bits t) tail ∙ ap (λ t. word 8 n ++ t) (bits-append xs (drop end body))
-        ∙ ap (λ m. word 8 m ++ (bits xs ++ bits (drop end body))) (let z : n ≡ 1 + length xs = omega arith in z) in
+    ap bits shape ∙ ap (λ t. word 8 n ++ bits t) tail ∙ ap (λ t. word 8 n ++ t) (bits-append xs (drop end body))
+    ∙ ap (λ m. word 8 m ++ (bits xs ++ bits (drop end body))) (let z : n ≡ 1 + length xs = omega arith in z) in
     let long : length (w ++ bits xs) ≡ 8 * (end - at) = omega (arith, length-append w (bits xs), length-word 8 (1 + length xs), length-bits xs) in record {
       forwards = omega arith;
       within = within;

@@ -1,5 +1,5 @@
 -- What the code reads is what the definitions say, and only that.
-use Rattle.std.proofs.Common.{◌≡◌, ℕ, ◌+◌, ◌-◌, ◌*◌, ◌<◌, ◌≤◌, inl, inr, List, [], ◌∷◌, ◌++◌, length, take, drop, Result, Ok, Err, IfOk, IfErr, refl, sym, ◌∙◌, ap, arith, subst}
+use Rattle.std.proofs.Common.{◌≡◌, ℕ, ◌-◌, ◌*◌, inl, inr, List, take, drop, Result, Ok, Err, IfOk, IfErr, refl, sym, ◌∙◌, ap, arith, subst}
 use Rattle.std.proofs.lemmas.List.{append_cancel_right}
 use Rattle.ax_bits.proofs.Words.{bits-AreBits}
 use Rattle.ax_bits.specs.Bits.{bits}
@@ -8,9 +8,8 @@ use Rattle.ax_model.proofs.ByReading.{failed_by_reading, front_by_reading}
 use Rattle.ax_model.proofs.Failed.{read_failed}
 use Rattle.ax_model.proofs.Reader.{Read, read, got, lost}
 use Rattle.ax_model.proofs.Spelled.{read_spelled}
-use Rattle.ax_model.specs.Failing.{Fails, IsFault}
 use Rattle.ax_model.specs.InBounds.{InBounds}
-use Rattle.ax_model.specs.Spelling.{Spells, IsSpelling}
+use Rattle.ax_model.specs.Spelling.{Spells}
 use Rattle.ax_model.specs.Tree.{KindTree, ValueTree}
 use Rattle.ax_model.specs.declared.fault.BodyCause.{BodyCause}
 use Rattle.ax_model.specs.declared.fault.BodyFault.{BodyFault}

@@ -1,12 +1,12 @@
 -- Numbers, members and groups read from any bit of a body on.
-use Rattle.std.proofs.Common.{◌≡◌, ℕ, ◌+◌, ◌*◌, ◌^◌, ◌<◌, ◌≤◌, List, [], ◌∷◌, ◌++◌, length, take, drop, map, refl, sym, ◌∙◌, ap, arith, subst, length-append, get_or, suc, add-one, drop-cons}
+use Rattle.std.proofs.Common.{◌≡◌, ℕ, ◌+◌, ◌^◌, ◌<◌, ◌≤◌, List, [], ◌∷◌, ◌++◌, length, take, drop, map, refl, sym, ◌∙◌, ap, arith, subst, length-append, get_or, suc, add-one, drop-cons}
 use Rattle.std.proofs.lemmas.List.{drop-drop, drop_all}
 use Rattle.ax_bits.proofs.Pieces.{number-word}
-use Rattle.ax_bits.specs.Bits.{bits, number_of, word}
-use Rattle.ax_model.proofs.Reader.{fixed_value, members_value}
-use Rattle.ax_model.specs.InBounds.{FixedInBounds, MembersInBounds}
-use Rattle.ax_model.specs.Plain.{fixed_tree, member_tree, members_tree, value_tree, values_tree}
-use Rattle.ax_model.specs.Tree.{FixedTree, group, MembersTree, no_members, member_and, MemberTree, named, spare, ValueTree, ValuesTree, number, no_values, value_and, values_of}
+use Rattle.ax_bits.specs.Bits.{number_of, word}
+use Rattle.ax_model.proofs.Reader.{members_value}
+use Rattle.ax_model.specs.InBounds.{MembersInBounds}
+use Rattle.ax_model.specs.Plain.{member_tree, members_tree, value_tree, values_tree}
+use Rattle.ax_model.specs.Tree.{MembersTree, no_members, member_and, MemberTree, named, spare, ValueTree, ValuesTree, number, no_values, value_and}
 use Rattle.ax_model.specs.Widths.{width, members_width}
 use Rattle.ax_model.specs.declared.kind.Member.{Member}
 use Rattle.ax_model.specs.declared.value.Value.{Value}
@@ -94,7 +94,7 @@ members_more all i m made v b start at next h within e f g =
     let n = members_width (member_and mt no_members) in
     let place : drop n (drop at b) ≡ drop next b = drop-drop n at b ∙ ap (λ k. drop k b) (let z : at + n ≡ next = sym g in z) in
     let tail : members_value (members_tree (drop i all)) (drop at b) ≡ value_and (value_tree v) (members_value ms (drop next b)) =
-        ap (λ left. members_value left (drop at b)) from ∙ value_more mt ms (drop at b) (value_tree v) f ∙ ap (λ c. value_and (value_tree v) (members_value ms c)) place in record {
+    ap (λ left. members_value left (drop at b)) from ∙ value_more mt ms (drop at b) (value_tree v) f ∙ ap (λ c. value_and (value_tree v) (members_value ms c)) place in record {
       bounds = bounds_rest mt ms bounds;
       width = omega arith;
       values = h.values ∙ ap (values_onto (map value_tree made)) tail ∙ sym (values_onto_more made v (members_value ms (drop next b)));

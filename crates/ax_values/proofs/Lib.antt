@@ -4,5 +4,6 @@ pub mod Exact
 pub mod FixedRead
 pub mod Marking
 pub mod Onto
+pub mod RecordSlots
 pub mod Repeating
 pub mod AtOctets

@@ -1,9 +1,9 @@
 -- Slots, their masks, and the marked ones one after the other.
-use Rattle.std.proofs.Common.{◌≡◌, ℕ, zero, suc, ◌+◌, ◌-◌, ◌*◌, ◌/◌, ◌<◌, ◌≤◌, Bool, true, false, List, [], ◌∷◌, ◌++◌, length, take, drop, map, get_or, set, replicate, IsTrue, refl, sym, ◌∙◌, ap, arith, subst, length-append, append_assoc, append-nil, add-one, drop-cons, length-drop, take-append-drop, Result, Ok, Err, IfOk, IfErr}
-use Rattle.std.proofs.lemmas.List.{drop_all, take_more, take_more_set, take_all, drop-set-lt, length-set, length-replicate, length-map, get_or_default}
+use Rattle.std.proofs.Common.{◌≡◌, ℕ, zero, suc, ◌+◌, ◌-◌, ◌*◌, ◌<◌, ◌≤◌, true, false, List, [], ◌∷◌, ◌++◌, length, take, drop, map, get_or, set, IsTrue, refl, sym, ◌∙◌, ap, arith, subst, length-append, add-one, drop-cons, take-append-drop, Result, Ok, Err, IfOk, IfErr}
+use Rattle.std.proofs.lemmas.List.{drop_all, take_more, take_more_set, take_all, drop-set-lt, length-set, length-replicate, length-map}
 use Rattle.ax_bits.proofs.Words.{append-AreBits}
 use Rattle.ax_bits.specs.Bits.{bits, AreBits}
-use Rattle.ax_fspec.specs.Fields.{mask_slots, MarksSlots, FailsToMark, IsFieldOf}
+use Rattle.ax_fspec.specs.Fields.{MarksSlots, FailsToMark}
 use Rattle.ax_fspec.specs.Marks.{no_marks, are_marked, IsMarked}
 use Rattle.ax_fspec.specs.declared.mask.SlotMask.{SlotMask}
 use Rattle.ax_model.proofs.Bounds.{count_of_slots}
@@ -16,13 +16,13 @@ use Rattle.ax_model.specs.Failing.{IsPresence, PresenceFails}
 use Rattle.ax_model.specs.Plain.{entry_tree, entries_tree, slot_tree, slots_tree}
 use Rattle.ax_model.specs.declared.kind.Slot.{Slot}
 use Rattle.ax_model.specs.Presence.{octets_needed, none_marked, first_mark, later_marks}
-use Rattle.ax_model.specs.Tree.{KindTree, ValueTree, EntriesTree, SlotTree, SlotsTree, compound, marked, spare_slot, subitem, slots_of, slot_and, no_slots, slot_count, defined_slots, no_entries, entry_and}
+use Rattle.ax_model.specs.Tree.{ValueTree, EntriesTree, SlotTree, SlotsTree, compound, marked, spare_slot, subitem, slots_of, slot_and, no_slots, slot_count, defined_slots, no_entries, entry_and}
 use Rattle.ax_model.specs.declared.fault.BodyFault.{BodyFault}
 use Rattle.ax_model.specs.declared.value.Entry.{Entry}
 use Rattle.ax_values.proofs.AtOctets.{octets_parts, length-octets}
-use Rattle.ax_values.proofs.Continuing.{begins, goes_on, gets_behind, loses_behind, lost_behind, front_is}
+use Rattle.ax_values.proofs.Continuing.{begins, goes_on, gets_behind, lost_behind, front_is}
 use Rattle.ax_values.proofs.Onto.{entries_onto, entries_onto_none, entries_onto_more}
-use Rattle.ax_values.specs.Reading.{Gets, Loses, Continues, IsLost, IsMaskOf, kind_read, is_subitem, entries_at, SlotInBounds, Adds, IsSlotRead, IsSlotLost, SlotAdds, SlotLost}
+use Rattle.ax_values.specs.Reading.{Gets, Loses, Continues, IsLost, IsMaskOf, kind_read, is_subitem, entries_at, SlotInBounds, Adds, IsSlotRead, IsSlotLost}
 use Rattle.ax_values.specs.declared.error.DecodeError.{DecodeError}
 
 -- ---- marks
@@ -180,7 +180,7 @@ field_lost slots mask body at fault m h =
     let b = bits (drop at body) in
     let count : mask.count ≡ slot_count ss = m.count ∙ sym (count_of_slots slots) in
     let fails : PresenceFails (octets_needed (slot_count ss)) ds b h.place fault.cause =
-        subst (λ n. PresenceFails (octets_needed n) ds b h.place fault.cause) count (subst (λ ds. PresenceFails (octets_needed mask.count) ds b h.place fault.cause) m.defined h.fails.fails) in record {
+    subst (λ n. PresenceFails (octets_needed n) ds b h.place fault.cause) count (subst (λ ds. PresenceFails (octets_needed mask.count) ds b h.place fault.cause) m.defined h.fails.fails) in record {
       place = h.place;
       lost = ap (λ r. marked_read r (entries_read 1 ss)) (presence_failed (octets_needed (slot_count ss)) ds b h.place fault.cause fails);
       bit = h.bit;
@@ -225,6 +225,7 @@ entries_skip slots marks body i number at here made s h lt e n clear =
     unmarked zero lt clear = refl
     unmarked (suc zero) lt clear = absurd (clear refl)
     unmarked (suc (suc m)) lt clear = absurd (omega arith)
+
     skip : (s : SlotTree) (n : ℕ) (ss : SlotsTree) (ms b : List ℕ) → first_mark ms ≡ 0 → entries_read n (slot_and s ss) ms b ≡ entries_read (n + 1) ss (later_marks ms) b
     skip spare_slot n ss ms b z = refl
     skip (subitem name k) n ss ms b z = ap (λ m. mark_read m n (read k) (entries_read (n + 1) ss (later_marks ms)) b) z
@@ -251,7 +252,7 @@ entries_more slots marks body i number at here end made new (subitem name k) h l
     let is_one : first_mark (drop i marks) ≡ 1 = mark_at marks i ∙ ap (λ k. get_or marks k 0) (let z : i ≡ number - 1 = omega arith in z) ∙ one.1 in
     let go = entries_read (i + 1 + 1) ss (later_marks (drop i marks)) in
     let step : entries_read (i + 1) (slot_and (subitem name k) ss) (drop i marks) b ≡ after (8 * (end - here)) (λ es. entry_and (i + 1) add.value es) (go (bits (drop end body))) =
-        ap (λ m. mark_read m (i + 1) (read k) go b) is_one ∙ ap (λ r. both (λ v es. entry_and (i + 1) v es) r go) add.read.got in
+    ap (λ m. mark_read m (i + 1) (read k) go b) is_one ∙ ap (λ r. both (λ v es. entry_and (i + 1) v es) r go) add.read.got in
     let next : go (bits (drop end body)) ≡ entries_read (i + 1 + 1) ss (drop (i + 1) marks) (bits (drop end body)) = ap (λ ms. entries_read (i + 1 + 1) ss ms (bits (drop end body))) (later_at marks i) in
     let trees : map entry_tree new ≡ map entry_tree made ++ (i + 1, add.value) ∷ [] = add.entries ∙ ap (λ k. map entry_tree made ++ (k, add.value) ∷ []) n in record {
       within = add.read.within;
@@ -261,8 +262,8 @@ entries_more slots marks body i number at here end made new (subitem name k) h l
           (λ es. entries_onto (map entry_tree made) (entry_and (i + 1) add.value es)) (entries_onto (map entry_tree new))
           (λ es. sym (entries_onto_more (map entry_tree made) (i + 1) add.value es) ∙ ap (λ t. entries_onto t es) (sym trees))
           (goes_on (entries_at (slots_of slots) marks body at) (entries_read (i + 1) (slot_and (subitem name k) ss) (drop i marks) b) (entries_read (i + 1 + 1) ss (drop (i + 1) marks) (bits (drop end body))) at here end
-            (entries_onto (map entry_tree made)) (λ es. entry_and (i + 1) add.value es) (at_slot slots marks body i at here made (subitem name k) 1 h lt e)
-            (record { forwards = add.read.forwards; same = step ∙ ap (after (8 * (end - here)) (λ es. entry_and (i + 1) add.value es)) next }));
+          (entries_onto (map entry_tree made)) (λ es. entry_and (i + 1) add.value es) (at_slot slots marks body i at here made (subitem name k) 1 h lt e)
+          (record { forwards = add.read.forwards; same = step ∙ ap (after (8 * (end - here)) (λ es. entry_and (i + 1) add.value es)) next }));
     }
 
 pub entries_lost : (slots : List SlotTree) (marks body : List ℕ) (i number at here : ℕ) (made : List Entry) (s : SlotTree) (e : DecodeError) → EntriesSoFar slots marks body i at here made → i < length slots → s ≡ get_or slots i s → number ≡ i + 1
@@ -277,11 +278,13 @@ entries_lost slots marks body i number at here made (subitem name k) e h lt is n
     let inner : IsLost (kind_read k body here) here e = g.lost in
     lost_behind (entries_at (slots_of slots) marks body at) (entries_read (i + 1) (slot_and (subitem name k) ss) (drop i marks) b) at here (entries_onto (map entry_tree made)) e
     (at_slot slots marks body i at here made (subitem name k) 1 h lt is)
-    (record { met = λ fault same. (let t : Loses (read k b) here fault = inner.met fault same in record {
-      place = t.place;
-      lost = ap (λ m. mark_read m (i + 1) (read k) go b) is_one ∙ ap (λ r. both (λ v es. entry_and (i + 1) v es) r go) t.lost;
-      bit = t.bit;
-    }) })
+    (record {
+      met = λ fault same. (let t : Loses (read k b) here fault = inner.met fault same in record {
+        place = t.place;
+        lost = ap (λ m. mark_read m (i + 1) (read k) go b) is_one ∙ ap (λ r. both (λ v es. entry_and (i + 1) v es) r go) t.lost;
+        bit = t.bit;
+      });
+    })
 
 pub entries_all : (slots : List SlotTree) (marks body : List ℕ) (i at here : ℕ) (made : List Entry) → EntriesSoFar slots marks body i at here made → length slots ≤ i → Gets (entries_at (slots_of slots) marks body at) body at here (entries_tree made)
 entries_all slots marks body i at here made h past =
@@ -289,7 +292,7 @@ entries_all slots marks body i at here made h past =
     let none : r ≡ got no_entries 0 (bits (drop here body)) = ap (λ ss. entries_read (i + 1) (slots_of ss) (drop i marks) (bits (drop here body))) (drop_all i slots past) in
     subst (λ es. Gets (entries_at (slots_of slots) marks body at) body at here es) (entries_onto_none (map entry_tree made))
     (gets_behind (entries_at (slots_of slots) marks body at) r body at here here (entries_onto (map entry_tree made)) no_entries h.read
-      (record { forwards = omega arith; within = h.within; got = none ∙ ap (λ m. got no_entries m (bits (drop here body))) (let e : 0 ≡ 8 * (here - here) = omega arith in e) }))
+    (record { forwards = omega arith; within = h.within; got = none ∙ ap (λ m. got no_entries m (bits (drop here body))) (let e : 0 ≡ 8 * (here - here) = omega arith in e) }))
 
 -- ---- slots of the code
 

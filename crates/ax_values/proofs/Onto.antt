@@ -1,5 +1,5 @@
 -- Lists that were made so far, in front of what is still read.
-use Rattle.std.proofs.Common.{◌≡◌, ℕ, List, [], ◌∷◌, ◌++◌, map, refl, sym, ◌∙◌, ap}
+use Rattle.std.proofs.Common.{◌≡◌, ℕ, List, [], ◌∷◌, ◌++◌, map, refl, ap}
 use Rattle.ax_model.specs.Plain.{value_tree, value_list, values_tree}
 use Rattle.ax_model.specs.Tree.{ValueTree, ValuesTree, no_values, value_and, values_of, ListsTree, no_lists, list_and, lists_of, EntriesTree, no_entries, entry_and, entries_of}
 use Rattle.ax_model.specs.declared.value.Value.{Value}

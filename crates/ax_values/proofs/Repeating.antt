@@ -4,9 +4,9 @@ use Rattle.std.specs.List.{AllByRecursion}
 use Rattle.std.proofs.lemmas.List.{drop_all, length-map}
 use Rattle.ax_bits.specs.Bits.{bits}
 use Rattle.ax_model.proofs.Reader.{fixed_value, members_value}
-use Rattle.ax_model.specs.InBounds.{PartInBounds, MembersInBounds}
-use Rattle.ax_model.specs.Plain.{part_tree, members_tree, value_tree, values_tree, value_list, lists_tree}
-use Rattle.ax_model.specs.Tree.{FixedTree, MembersTree, ValueTree, value_and, no_values, list_and, no_lists}
+use Rattle.ax_model.specs.InBounds.{PartInBounds}
+use Rattle.ax_model.specs.Plain.{part_tree, value_tree, values_tree, value_list, lists_tree}
+use Rattle.ax_model.specs.Tree.{FixedTree, MembersTree, value_and, no_values, list_and, no_lists}
 use Rattle.ax_model.specs.Widths.{width, members_width}
 use Rattle.ax_model.specs.declared.fault.BodyCause.TheVariants.{RunsOut, ExtensionPastEnd}
 use Rattle.ax_model.specs.declared.fault.BodyFault.{BodyFault}
@@ -44,7 +44,7 @@ run_more f body at here end w made v fx h u e one value = record {
   few = omega (arith, h.few, u.forwards, length-append made (v ∷ []));
   read = front_is (run_at f body at) (run_at f body end) at end (λ vs. values_onto (map value_tree made) (value_and (value_tree v) vs)) (values_onto (map value_tree (made ++ v ∷ []))) (λ vs. sym (values_onto_more made v vs))
       (goes_on (run_at f body at) (run_at f body here) (run_at f body end) at here end (values_onto (map value_tree made)) (λ vs. value_and (value_tree v) vs) h.read
-        (run_goes_on f body here end w (fx_bit fx) (value_tree v) u e (ap fx_bit one) value));
+      (run_goes_on f body here end w (fx_bit fx) (value_tree v) u e (ap fx_bit one) value));
 }
 
 pub run_done : (f : FixedTree) (body : List ℕ) (at here end w : ℕ) (made : List Value) (v : Value) (fx : Bool) → RunSoFar f body at here made → IsUnit body here end w (fx_bit fx) → width f ≡ w → fx ≡ false
@@ -52,7 +52,7 @@ pub run_done : (f : FixedTree) (body : List ℕ) (at here end w : ℕ) (made : L
 run_done f body at here end w made v fx h u e none value =
     subst (λ vs. Gets (run_at f body at) body at end vs) (sym (values_onto_more made v no_values) ∙ values_onto_none (map value_tree (made ++ v ∷ [])))
     (gets_behind (run_at f body at) (run_at f body here) body at here end (values_onto (map value_tree made)) (value_and (value_tree v) no_values) h.read
-      (run_ends f body here end w (fx_bit fx) (value_tree v) u e (ap fx_bit none) value))
+    (run_ends f body here end w (fx_bit fx) (value_tree v) u e (ap fx_bit none) value))
 
 pub run_short : (f : FixedTree) (body : List ℕ) (at here : ℕ) (made : List Value) (fault : BodyFault) → RunSoFar f body at here made → 8 * (length body - here) ≤ width f → fault.cause ≡ RunsOut → fault.bit ≡ 8 * here
     → Loses (run_at f body at) at fault
@@ -103,7 +103,7 @@ part_last all i p body at here end w made vs fx h within e u l none values =
     let ps = map part_tree (drop (i + 1) all) in
     subst (λ ls. Gets (parts_at (map part_tree all) body at) body at end ls) (sym (lists_onto_more made vs no_lists) ∙ lists_onto_none (map value_list (made ++ vs ∷ [])))
     (gets_behind (parts_at (map part_tree all) body at) (parts_at (part_tree p ∷ ps) body here) body at here end (lists_onto (map value_list made)) (list_and (values_tree vs) no_lists) (at_part all i p body at here made h within e)
-      (parts_end (part_tree p) ps body here end w (fx_bit fx) u l (values_tree vs) (ap fx_bit none) values))
+    (parts_end (part_tree p) ps body here end w (fx_bit fx) u l (values_tree vs) (ap fx_bit none) values))
 
 -- behind a part with FX 1
 behind_part : (p : Part) (left : List Part) (ps : List MembersTree) → map part_tree left ≡ ps → 0 < length left → (q : MembersTree) × (qs : List MembersTree) × (ps ≡ q ∷ qs)
@@ -122,7 +122,7 @@ module _ (all : List Part) (i : ℕ) (p : Part) (body : List ℕ) (at here end w
   part_read_more lt =
       front_is (parts_at (map part_tree all) body at) (parts_at (map part_tree (drop (i + 1) all)) body end) at end (λ ls. lists_onto (map value_list made) (list_and (values_tree vs) ls)) (lists_onto (map value_list (made ++ vs ∷ []))) (λ ls. sym (lists_onto_more made vs ls))
       (goes_on (parts_at (map part_tree all) body at) (parts_at (part_tree p ∷ map part_tree (drop (i + 1) all)) body here) (parts_at (map part_tree (drop (i + 1) all)) body end) at here end (lists_onto (map value_list made)) (λ ls. list_and (values_tree vs) ls)
-        (at_part all i p body at here made h within e) (part_next lt))
+      (at_part all i p body at here made h within e) (part_next lt))
 
   part_past : length all ≤ i + 1 → (fault : BodyFault) → fault.cause ≡ ExtensionPastEnd → fault.bit + 1 ≡ 8 * end → Loses (parts_at (map part_tree all) body at) at fault
   part_past none fault c b =

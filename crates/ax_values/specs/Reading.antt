@@ -6,7 +6,11 @@ use Rattle.ax_model.specs.Tree.{KindTree, ValueTree, EntriesTree, SlotTree, Slot
 use Rattle.ax_fspec.specs.Fields.{mask_slots}
 use Rattle.ax_fspec.specs.declared.mask.SlotMask.{SlotMask}
 use Rattle.ax_model.specs.InBounds.{InBounds}
-use Rattle.ax_model.specs.Plain.{entry_tree}
+use Rattle.std.specs.Option.{option_map}
+use Rattle.ax_model.specs.Lookup.{item_of_frn}
+use Rattle.ax_model.specs.Plain.{entry_tree, item_tree}
+use Rattle.ax_model.specs.Specification.{SpecTree, slot_of_item, uap_slot}
+use Rattle.ax_model.specs.declared.spec.Spec.{Spec}
 use Rattle.ax_model.specs.declared.fault.BodyFault.{BodyFault}
 use Rattle.ax_model.specs.declared.value.Entry.{Entry}
 use Rattle.ax_values.specs.declared.error.DecodeError.{DecodeError}
@@ -83,3 +87,13 @@ pub record IsSlotLost (slot : SlotTree) (body : List ℕ) (at : ℕ) (e : Decode
 abbrev pub SlotInBounds : SlotTree → Type 0
 SlotInBounds spare_slot = Unit {0}
 SlotInBounds (subitem name k) = InBounds k
+
+-- ---- records
+
+-- the slots of a specification's records
+abbrev pub record_slot_list : SpecTree → List SlotTree
+record_slot_list spec = map (uap_slot spec.items) spec.uap
+
+-- the slot of a field reference number, by the item that the code finds for it
+abbrev pub slot_of_frn : ℕ → Spec → SlotTree
+slot_of_frn frn spec = slot_of_item (option_map item_tree (item_of_frn frn spec.uap spec.items))

@@ -1,14 +1,21 @@
 //! Octets to values, records and blocks.
-ghost use Rattle.std.specs.Prelude.{◌≡◌, ℕ, ◌≤◌, length, IfOk, IfErr};
+ghost use Rattle.std.specs.Prelude.{◌≡◌, ◌≢◌, ℕ, ◌<◌, ◌≤◌, List, length, IfOk, IfErr};
+ghost use Rattle.ax_bits.specs.Bits.{bits};
+ghost use Rattle.ax_model.specs.Blocks.{read_block, opaque_block};
+ghost use Rattle.ax_model.specs.Bodies.{SpellsBody};
+ghost use Rattle.ax_model.specs.Flaws.{NoFlaw};
 ghost use Rattle.ax_model.specs.InBounds.{InBounds};
-ghost use Rattle.ax_model.specs.Plain.{kind_tree, value_tree};
-ghost use Rattle.ax_model.specs.Tree.{ValueTree};
+ghost use Rattle.ax_model.specs.Plain.{kind_tree, value_tree, spec_tree, record_tree, records_tree, block_tree};
+ghost use Rattle.ax_model.specs.Tree.{ValueTree, EntriesTree};
 ghost use Rattle.ax_model.specs.declared.fault.BodyFault.{BodyFault};
-ghost use Rattle.ax_values.specs.Decoding.{IsSpelledAt, IsFaultAt, Answers, AnswersFault, Names};
+ghost use Rattle.ax_values.specs.Decoding.{IsSpelledAt, IsFaultAt, IsRecordAt, IsRecordFaultAt, IsReadOf, IsBodyFault, Answers, AnswersFault, Names};
+ghost use Rattle.ax_values.specs.Reading.{IsMaskOf, record_slot_list};
 
 use crate::error::DecodeError;
-use crate::kinds::decode_value;
-use ax_model::{Kind, Value};
+use crate::kinds::{copy_octets, decode_value};
+use crate::records::{decode_entries, record_mask};
+use ax_fspec::SlotMask;
+use ax_model::{Block, Kind, RawBlock, Record, Records, Spec, Value};
 use std::alloc::Global;
 
 /// Reads the value of a kind that begins at octet `at` of a body. The kind is one of a specification without flaw: an
@@ -30,4 +37,88 @@ pub fn decode_kind(
     ensures where_faulty { (fault : BodyFault) → IsFaultAt (kind_tree kind.now) body.now at fault → AnswersFault fault result }
 {
     decode_value(alloc, kind, body, at)
+}
+
+/// Reads the record that begins at octet `at` of a body, over a specification without flaw. Ok is the record and the
+/// octet behind it; the octets between are exactly a spelling of it. Fault is the first fault of what is left of the
+/// body, and its bit is one of the body. There is one answer, as for a kind.
+pub fn decode_record(
+    alloc: Global,
+    spec: &Spec,
+    body: &[u8],
+    at: u32,
+) -> Result<(Record, u32), DecodeError>
+    requires spec { NoFlaw (spec_tree spec.now) }
+    requires body { length body.now ≤ 65532 }
+    requires at { at ≤ length body.now }
+    ensures record { IfOk result (λ r. IsRecordAt (spec_tree spec.now) body.now at r.1 (record_tree r.0)) }
+    ensures fault { IfErr result (Names (IsRecordFaultAt (spec_tree spec.now) body.now at)) }
+    ensures where_spelled { (entries : EntriesTree) (end : ℕ) → IsRecordAt (spec_tree spec.now) body.now at end entries → Answers (λ r. (record_tree r.0 ≡ entries) × (r.1 ≡ end)) result }
+    ensures where_faulty { (fault : BodyFault) → IsRecordFaultAt (spec_tree spec.now) body.now at fault → AnswersFault fault result }
+{
+    decode_masked(alloc, spec, &record_mask(spec), body, at)
+}
+
+/// Reads a block over a specification without flaw. A block of another category is opaque, whatever its octets. A block
+/// of the specification's category has the records that its body spells, or the body's first fault, with its bit in the
+/// body. There is one answer: where the body spells records, it is these, and where the body fails, it is that fault.
+pub fn decode_block(alloc: Global, spec: &Spec, raw: &RawBlock<'_>) -> Result<Block, DecodeError>
+    requires spec { NoFlaw (spec_tree spec.now) }
+    ensures opaque { raw.now.category ≢ spec.now.category → Answers (λ block. block_tree block ≡ opaque_block raw.now.category raw.now.body.now) result }
+    ensures read { raw.now.category ≡ spec.now.category → IfOk result (λ block. IsReadOf (spec_tree spec.now) raw.now.category raw.now.body.now (block_tree block)) }
+    ensures fault { IfErr result (Names (λ fault. (raw.now.category ≡ spec.now.category) × IsBodyFault (spec_tree spec.now) raw.now.body.now fault)) }
+    ensures where_spelled { (records : List EntriesTree) → raw.now.category ≡ spec.now.category → SpellsBody (spec_tree spec.now) records (bits raw.now.body.now) → Answers (λ block. block_tree block ≡ read_block raw.now.category records) result }
+    ensures where_faulty { (fault : BodyFault) → raw.now.category ≡ spec.now.category → IsBodyFault (spec_tree spec.now) raw.now.body.now fault → AnswersFault fault result }
+{
+    if raw.category != spec.category {
+        let octets = copy_octets(alloc, raw.body)?;
+        return Ok(Block::Opaque {
+            category: raw.category,
+            octets,
+        });
+    }
+    let records = decode_body(alloc, spec, raw.body)?;
+    Ok(Block::Read {
+        category: raw.category,
+        records,
+    })
+}
+
+/// The records of a body.
+fn decode_body(alloc: Global, spec: &Spec, body: &[u8]) -> Result<Records, DecodeError>
+    requires spec { NoFlaw (spec_tree spec.now) }
+    requires body { length body.now ≤ 65532 }
+    requires some { 1 ≤ length body.now }
+    ensures records { IfOk result (λ records. SpellsBody (spec_tree spec.now) (records_tree records) (bits body.now)) }
+    ensures fault { IfErr result (Names (IsBodyFault (spec_tree spec.now) body.now)) }
+{
+    let mask = record_mask(spec);
+    let mut made = Records::new(alloc);
+    let mut at = 0;
+    while (at as usize) < body.len() {
+        let (record, end) = decode_masked(alloc, spec, &mask, body, at)?;
+        made.push(record)?;
+        at = end;
+    }
+    Ok(made)
+}
+
+/// The record that begins at octet `at` of the body, and the octet behind it, by the mask of the UAP.
+fn decode_masked(
+    alloc: Global,
+    spec: &Spec,
+    mask: &SlotMask,
+    body: &[u8],
+    at: u32,
+) -> Result<(Record, u32), DecodeError>
+    requires spec { NoFlaw (spec_tree spec.now) }
+    requires mask { IsMaskOf (record_slot_list (spec_tree spec.now)) mask.now }
+    requires body { length body.now ≤ 65532 }
+    requires at { at ≤ length body.now }
+    ensures record { IfOk result (λ r. IsRecordAt (spec_tree spec.now) body.now at r.1 (record_tree r.0)) }
+    ensures fault { IfErr result (Names (IsRecordFaultAt (spec_tree spec.now) body.now at)) }
+    ensures where_spelled { (entries : EntriesTree) (end : ℕ) → IsRecordAt (spec_tree spec.now) body.now at end entries → Answers (λ r. (record_tree r.0 ≡ entries) × (r.1 ≡ end)) result }
+    ensures where_faulty { (fault : BodyFault) → IsRecordFaultAt (spec_tree spec.now) body.now at fault → AnswersFault fault result }
+{
+    decode_entries(alloc, spec, mask, body, at)
 }

@@ -70,8 +70,8 @@ fn octet_at(body: &[u8], at: u32) -> Result<u8, BodyFault>
     Ok(body[at as usize])
 }
 
-#[tactic(auto, using(crate::proofs::Counting::counts))]
 /// The occurrences of a counted item, and the octet behind them.
+#[tactic(auto, using(crate::proofs::Counting::counts))]
 #[cycle(kind)]
 fn decode_counted(
     alloc: Global,

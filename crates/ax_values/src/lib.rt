@@ -5,8 +5,9 @@ mod decode;
 mod error;
 mod fixed;
 mod kinds;
+mod records;
 mod slots;
 mod units;
 
-pub use decode::decode_kind;
+pub use decode::{decode_block, decode_kind, decode_record};
 pub use error::{DecodeError, EncodeError};

@@ -42,8 +42,8 @@ fn has_fx(body: &[u8], at: u32) -> bool
     bits_at(body, at, 1) == 1
 }
 
-#[tactic(auto, using(crate::proofs::Continuing::errors, crate::proofs::AtOctets::fixed_loses))]
 /// The value of a fixed kind that stands by itself, and the octet behind it.
+#[tactic(auto, using(crate::proofs::Continuing::errors, crate::proofs::AtOctets::fixed_loses))]
 pub(crate) fn decode_single(
     alloc: Global,
     fixed: &Fixed,
@@ -62,8 +62,8 @@ pub(crate) fn decode_single(
     Ok((value, end))
 }
 
-#[tactic(auto, using(crate::proofs::Continuing::errors, crate::proofs::Repeating::parts_none, crate::proofs::AtOctets::extended_loses))]
 /// The values of the parts that are present, and the octet behind them.
+#[tactic(auto, using(crate::proofs::Continuing::errors, crate::proofs::Repeating::parts_none, crate::proofs::AtOctets::extended_loses))]
 pub(crate) fn decode_parts(
     alloc: Global,
     parts: &Parts,
@@ -94,8 +94,8 @@ pub(crate) fn decode_parts(
     }))
 }
 
-#[tactic(auto, using(crate::proofs::Continuing::errors, crate::proofs::Repeating::run_none))]
 /// The values of occurrences by FX, and the octet behind them.
+#[tactic(auto, using(crate::proofs::Continuing::errors, crate::proofs::Repeating::run_none))]
 pub(crate) fn decode_run(
     alloc: Global,
     fixed: &Fixed,

@@ -1,13 +1,12 @@
 use denote.Param.Weighed.{at_most}
 use Rattle.ax_model.proofs.kind.Slot.TheLaws.{the_size}
-use Rattle.std.proofs.Common.{◌≡◌, ◌+◌, ◌-◌, ◌<◌, ◌≤◌, ◌++◌, ◌∷◌, [], ℕ, List, true, false, IfErr, length, map, get_or, ap, arith, refl, subst, sym, ◌∙◌}
+use Rattle.std.proofs.Common.{◌≡◌, ◌+◌, ◌<◌, ◌≤◌, ℕ, List, true, false, length, map, get_or, ap, arith, refl, subst, sym, ◌∙◌}
 use Rattle.std.proofs.lemmas.List.{length-map}
-use Rattle.ax_fspec.specs.Marks.{IsMarked}
 use Rattle.ax_model.proofs.Bounds.{count_of_slots}
-use Rattle.ax_model.specs.Plain.{kind_tree, slot_tree, value_tree, entries_tree}
+use Rattle.ax_model.specs.Plain.{kind_tree, slot_tree}
 use Rattle.ax_model.specs.Tree.{SlotTree, counted, compound, slots_of, slot_count}
 use Rattle.ax_values.proofs.Continuing.{err_by_fault, err_is}
-use Rattle.ax_values.proofs.Counting.{CountedSoFar, counted_none, counted_begins, counted_more, counted_all, counted_lost}
+use Rattle.ax_values.proofs.Counting.{CountedSoFar, counted_none, counted_more, counted_lost}
 use Rattle.ax_values.proofs.Marking.{EntriesSoFar, entries_begin, field_lost, entries_skip, entries_more, entries_lost, entries_all, map_at, marks_bits, slot_in_bounds, entries_few, ok_gets, err_lost}
 use Rattle.ax_values.specs.Reading.{kind_read, entries_at}
 use Rattle.ax_values.proofs.kinds.+kind.Goals.{decode_marked-then-has+in_ok-here, decode_marked-else-has}
@@ -54,7 +53,7 @@ decode_marked-returns-in_err-here-clause-err t c =
     let e = c.in_err-here.field-0.0 in
     err_is (entries_at (slots_of slots) c.args.marked.now c.args.body.now c.args.at) c.args.at c.from_residual.result e c.from_residual.ensures.1
     (entries_lost slots c.args.marked.now c.args.body.now i (c.loop-slot.number + 1) c.args.at c.loop-slot.here c.loop-slot.made (slot_tree s) e c.loop-slot.invariant.entries (omega arith) (map_at slot_tree all i s is) (omega arith)
-      (c.has.ensures.0 c.if-has.true) c.in_err-here.ensures.err)
+    (c.has.ensures.0 c.if-has.true) c.in_err-here.ensures.err)
 
 pub decode_marked-loop-slot-preserved : goal.decode_marked-loop-slot-preserved
 decode_marked-loop-slot-preserved t c =
@@ -77,11 +76,11 @@ decode_marked-loop-slot-preserved t c =
         | decode_marked-then-has+in_ok-here w ↦
             subst (λ end. EntriesSoFar slots marks body (i + 1) c.args.at end c.if-has.made) (sym w.here-is)
             (subst (λ made. EntriesSoFar slots marks body (i + 1) c.args.at w.in_ok-here.here made) (sym w.made-is)
-              (entries_more slots marks body i (c.loop-slot.number + 1) c.args.at c.loop-slot.here w.in_ok-here.here c.loop-slot.made w.decode_slot.new.into (slot_tree s) before (omega arith) here (omega arith) (c.has.ensures.0 w.if-has.true) w.in_ok-here.ensures.ok before.within))
+            (entries_more slots marks body i (c.loop-slot.number + 1) c.args.at c.loop-slot.here w.in_ok-here.here c.loop-slot.made w.decode_slot.new.into (slot_tree s) before (omega arith) here (omega arith) (c.has.ensures.0 w.if-has.true) w.in_ok-here.ensures.ok before.within))
         | decode_marked-else-has w ↦
             subst (λ end. EntriesSoFar slots marks body (i + 1) c.args.at end c.if-has.made) (sym w.here-is)
             (subst (λ made. EntriesSoFar slots marks body (i + 1) c.args.at c.loop-slot.here made) (sym w.made-is)
-              (entries_skip slots marks body i (c.loop-slot.number + 1) c.args.at c.loop-slot.here c.loop-slot.made (slot_tree s) before (omega arith) here (omega arith) (λ one. absurd (let yes : c.has.result ≡ true = c.has.ensures.1 one in let e : true ≡ false = sym yes ∙ w.if-has.false in cc))))
+            (entries_skip slots marks body i (c.loop-slot.number + 1) c.args.at c.loop-slot.here c.loop-slot.made (slot_tree s) before (omega arith) here (omega arith) (λ one. absurd (let yes : c.has.result ≡ true = c.has.ensures.1 one in let e : true ≡ false = sym yes ∙ w.if-has.false in cc))))
       ];
     }
 

@@ -1,4 +1,4 @@
-use Rattle.std.proofs.Common.{◌≡◌, ◌+◌, ◌-◌, ◌<◌, ◌≤◌, ℕ, length, take, drop, get_or, ap, arith, refl, subst, sym, ◌∙◌}
+use Rattle.std.proofs.Common.{◌≡◌, ◌+◌, ◌-◌, ℕ, take, drop, ap, arith, refl, subst, sym, ◌∙◌}
 use Rattle.ax_bits.specs.Bits.{AreOctets}
 use Rattle.ax_model.specs.Tree.{explicit}
 use Rattle.ax_values.proofs.Continuing.{err_by_fault, lost_by_fault}

@@ -1,0 +1,109 @@
+//! Records over a specification, and bodies of them.
+ghost use Rattle.std.specs.Prelude.{◌≡◌, ◌+◌, ◌-◌, ◌<◌, ◌≤◌, length, drop, IfOk, IfErr};
+ghost use Rattle.ax_bits.specs.Bits.{AreBits};
+ghost use Rattle.ax_model.specs.Flaws.{NoFlaw};
+ghost use Rattle.ax_model.specs.Plain.{spec_tree, entries_tree, record_tree};
+ghost use Rattle.ax_model.specs.Specification.{record_slots, record_kind};
+ghost use Rattle.ax_model.specs.Tree.{marked};
+ghost use Rattle.ax_values.specs.Reading.{Gets, IsLost, IsMaskOf, IsSlotRead, IsSlotLost, SlotInBounds, is_subitem, record_slot_list, slot_of_frn, kind_read, entries_at};
+
+use crate::error::DecodeError;
+use crate::kinds::decode_value;
+use ax_fspec::{Presence, SlotMask, read_presence};
+use ax_model::{Entries, Entry, Record, Spec};
+use std::alloc::Global;
+
+/// Whether the field reference number has an item.
+fn has_item(spec: &Spec, frn: u32) -> bool
+    ensures { result ≡ is_subitem (slot_of_frn frn spec.now) }
+{
+    spec.slot(frn).is_some()
+}
+
+/// The mask of the slots of the UAP, of which there are 1 to 126.
+pub(crate) fn record_mask(spec: &Spec) -> SlotMask
+    requires { (1 ≤ length spec.now.uap) × (length spec.now.uap ≤ 126) }
+    ensures { IsMaskOf (record_slot_list (spec_tree spec.now)) result }
+{
+    let mut defined = Presence::empty();
+    for index in 0..spec.uap.count() {
+        if has_item(spec, index + 1) {
+            defined.mark(index + 1);
+        }
+    }
+    SlotMask {
+        count: spec.uap.count(),
+        defined,
+    }
+}
+
+/// The record that begins at octet `at` of the body, and the octet behind it, by the mask of the UAP.
+pub(crate) fn decode_entries(
+    alloc: Global,
+    spec: &Spec,
+    mask: &SlotMask,
+    body: &[u8],
+    at: u32,
+) -> Result<(Record, u32), DecodeError>
+    requires spec { NoFlaw (spec_tree spec.now) }
+    requires mask { IsMaskOf (record_slot_list (spec_tree spec.now)) mask.now }
+    requires body { length body.now ≤ 65532 }
+    requires at { at ≤ length body.now }
+    ensures ok { IfOk result (λ r. Gets (kind_read (record_kind (spec_tree spec.now)) body.now at) body.now at r.1 (marked (record_tree r.0))) }
+    ensures err { IfErr result (λ e. IsLost (kind_read (record_kind (spec_tree spec.now)) body.now at) at e) }
+{
+    let mut marked = Presence::empty();
+    let here = read_presence(mask, body, at, &mut marked)?;
+    let (entries, end) = decode_marked(alloc, spec, &marked, body, here)?;
+    Ok((Record { entries }, end))
+}
+
+/// The entries of the marked field reference numbers, of which the first begins at octet `at`, and the octet behind
+/// them.
+fn decode_marked(
+    alloc: Global,
+    spec: &Spec,
+    marked: &Presence,
+    body: &[u8],
+    at: u32,
+) -> Result<(Entries, u32), DecodeError>
+    requires spec { NoFlaw (spec_tree spec.now) }
+    requires marks { AreBits marked.now }
+    requires body { length body.now ≤ 65532 }
+    requires at { at ≤ length body.now }
+    ensures ok { IfOk result (λ r. Gets (entries_at (record_slots (spec_tree spec.now)) marked.now body.now at) body.now at r.1 (entries_tree r.0)) }
+    ensures err { IfErr result (λ e. IsLost (entries_at (record_slots (spec_tree spec.now)) marked.now body.now at) at e) }
+{
+    let mut made = Entries::new(alloc);
+    let mut here = at;
+    for index in 0..spec.uap.count() {
+        if marked.has(index + 1) {
+            here = decode_item(alloc, spec, index + 1, body, here, &mut made)?;
+        }
+    }
+    Ok((made, here))
+}
+
+/// Puts the entry of a field reference number behind the others. Ok is the octet behind it.
+fn decode_item(
+    alloc: Global,
+    spec: &Spec,
+    frn: u32,
+    body: &[u8],
+    at: u32,
+    into: &mut Entries,
+) -> Result<u32, DecodeError>
+    requires bounds { SlotInBounds (slot_of_frn frn spec.now) }
+    requires body { length body.now ≤ 65532 }
+    requires at { at ≤ length body.now }
+    requires room { length into.old < 126 }
+    ensures ok { IfOk result (λ end. IsSlotRead (slot_of_frn frn spec.now) frn body.now at end into.old into.new) }
+    ensures err { IfErr result (λ e. IsSlotLost (slot_of_frn frn spec.now) body.now at e) }
+{
+    let Some(item) = spec.slot(frn) else {
+        return Ok(at);
+    };
+    let (value, end) = decode_value(alloc, &item.kind, body, at)?;
+    into.push(Entry { slot: frn, value })?;
+    Ok(end)
+}

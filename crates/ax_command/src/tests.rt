@@ -7,7 +7,7 @@ use std::test::Fail;
 fn text(alloc: Global, octets: &[u8]) -> Result<Text, AllocError> {
     let mut made = Text::new(alloc);
     for octet in octets {
-        if made.count() < 1000 {
+        if made.count() < 1000 && *octet >= b' ' && *octet <= b'~' && *octet != b'"' {
             made.push(*octet)?;
         }
     }

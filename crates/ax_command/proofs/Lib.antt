@@ -1,0 +1,3 @@
+pub mod FlawLines
+pub mod Pieces
+pub mod WordLists

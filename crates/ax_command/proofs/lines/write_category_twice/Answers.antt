@@ -1,0 +1,10 @@
+use Rattle.ax_command.proofs.Pieces.{written_then, failed_before}
+use Rattle.std.proofs.Common.{◌++◌, codes}
+use Rattle.ax_command.specs.Lines.{numbered, kind_name, cause_name, category_text, flaw_lines}
+use Rattle.ax_command.proofs.lines.write_category_twice.Goals as goal
+
+pub returns-in_err-write_numbered : goal.returns-in_err-write_numbered
+returns-in_err-write_numbered g c = failed_before _ _ _ _ _ _ (numbered (codes "refused file ") c.args.file) (codes " CategoryTwice " ++ (category_text c.args.category ++ codes "\n")) c.from_residual.ensures.0 c.in_err-write_numbered.ensures
+
+pub returns : goal.returns
+returns g c = written_then _ _ _ _ _ _ _ _ _ _ c.in_ok-write_numbered.ensures c.write_category.ensures

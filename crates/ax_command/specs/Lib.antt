@@ -1,0 +1,5 @@
+pub mod Accepted
+pub mod Lines
+pub mod Status
+pub mod Words
+pub mod Writing

@@ -1,0 +1,70 @@
+-- The lines of the report for each outcome (this project's own rules).
+use Rattle.std.specs.Prelude.{ℕ, ◌/◌, ◌%◌, ◌+◌, List, [], ◌∷◌, ◌++◌, length, flat_map, codes, decimal}
+use Rattle.ax_model.specs.declared.flaw.Flaw.{Flaw}
+use Rattle.ax_model.specs.declared.flaw.FlawKind.{FlawKind}
+use Rattle.ax_model.specs.declared.flaw.FlawKind.TheVariants.{DuplicateItem, DuplicateName, UnknownInUap, RepeatedInUap, Empty, TooManySlots, BadWidth, NotOctets, PartNotOctets, BodyNotOctets, BadScale, BadStringWidth, TooWide}
+use Rattle.ax_command.specs.declared.outcome.Cause.{Cause}
+use Rattle.ax_command.specs.declared.outcome.Cause.TheVariants.{EndsInHeader, BadLen, EndsInBlock, RunsOut, UndefinedSlot, PresenceTooLong, ExtensionPastEnd, BadExplicitLength}
+use Rattle.ax_command.specs.declared.outcome.Outcome.{Outcome}
+use Rattle.ax_command.specs.declared.outcome.Outcome.TheVariants.{Done, Usage, SpecRefused, CategoryTwice, InputRefused, InputTooLong, LoadFault, ReadFault, WriteFault, OutOfMemory}
+use Rattle.ax_command.specs.declared.outcome.SpecFault.{SpecFault}
+use Rattle.ax_command.specs.declared.outcome.SpecFault.TheVariants.{TooLarge, BadByte, TooDeep, BadToken, Flawed}
+
+-- a text and a number behind it
+abbrev pub numbered : List ℕ → ℕ → List ℕ
+numbered front n = front ++ decimal n
+
+-- a category in three digits
+abbrev pub category_text : ℕ → List ℕ
+category_text n = (48 + n / 100) ∷ (48 + n / 10 % 10) ∷ (48 + n % 10) ∷ []
+
+abbrev pub kind_name : FlawKind → List ℕ
+kind_name DuplicateItem = codes "DuplicateItem"
+kind_name DuplicateName = codes "DuplicateName"
+kind_name UnknownInUap = codes "UnknownInUap"
+kind_name RepeatedInUap = codes "RepeatedInUap"
+kind_name Empty = codes "Empty"
+kind_name TooManySlots = codes "TooManySlots"
+kind_name BadWidth = codes "BadWidth"
+kind_name NotOctets = codes "NotOctets"
+kind_name PartNotOctets = codes "PartNotOctets"
+kind_name BodyNotOctets = codes "BodyNotOctets"
+kind_name BadScale = codes "BadScale"
+kind_name BadStringWidth = codes "BadStringWidth"
+kind_name TooWide = codes "TooWide"
+
+abbrev pub cause_name : Cause → List ℕ
+cause_name EndsInHeader = codes "EndsInHeader"
+cause_name BadLen = codes "BadLen"
+cause_name EndsInBlock = codes "EndsInBlock"
+cause_name RunsOut = codes "RunsOut"
+cause_name UndefinedSlot = codes "UndefinedSlot"
+cause_name PresenceTooLong = codes "PresenceTooLong"
+cause_name ExtensionPastEnd = codes "ExtensionPastEnd"
+cause_name BadExplicitLength = codes "BadExplicitLength"
+
+abbrev pub flaw_line : ℕ → Flaw → List ℕ
+flaw_line file flaw = numbered (codes "flaw file ") file ++ ((codes " " ++ kind_name flaw.kind) ++ (codes " " ++ (flaw.path ++ codes "\n")))
+
+abbrev pub flaw_lines : ℕ → List Flaw → List ℕ
+flaw_lines file flaws = flat_map (λ flaw. flaw_line file flaw) flaws
+
+-- of a refused file
+abbrev pub fault_lines : ℕ → SpecFault → List ℕ
+fault_lines file TooLarge = numbered (codes "refused file ") file ++ codes " TooLarge\n"
+fault_lines file (BadByte at) = numbered (codes "refused file ") file ++ (numbered (codes " BadByte at ") at ++ codes "\n")
+fault_lines file (TooDeep token) = numbered (codes "refused file ") file ++ (numbered (codes " TooDeep token ") token ++ codes "\n")
+fault_lines file (BadToken token) = numbered (codes "refused file ") file ++ (numbered (codes " BadToken token ") token ++ codes "\n")
+fault_lines file (Flawed flaws) = flaw_lines file flaws ++ (numbered (codes "refused file ") file ++ (numbered (codes " Flawed ") (length flaws) ++ codes "\n"))
+
+abbrev pub lines_of : Outcome → List ℕ
+lines_of (Done blocks) = []
+lines_of Usage = codes "refused usage\n"
+lines_of (SpecRefused file fault) = fault_lines file fault
+lines_of (CategoryTwice file category) = numbered (codes "refused file ") file ++ (codes " CategoryTwice " ++ (category_text category ++ codes "\n"))
+lines_of (InputRefused fault) = numbered (codes "refused block ") fault.block ++ (numbered (codes " bit ") fault.bit ++ (codes " " ++ (cause_name fault.cause ++ codes "\n")))
+lines_of InputTooLong = codes "refused input InputTooLong\n"
+lines_of (LoadFault file) = numbered (codes "fault file ") file ++ codes "\n"
+lines_of ReadFault = codes "fault read\n"
+lines_of WriteFault = codes "fault write\n"
+lines_of OutOfMemory = codes "refused memory\n"

@@ -1,0 +1,5 @@
+pub mod SingleTokens
+pub mod Steps
+pub mod Recursion
+pub mod Lists
+pub mod Recursive

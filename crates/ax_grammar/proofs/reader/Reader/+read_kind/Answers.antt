@@ -1,0 +1,36 @@
+use Rattle.std.proofs.Common.{◌≡◌, ◌++◌, ◌∷◌, [], length, map, ap, arith, rules}
+use Rattle.std.proofs.lemmas.List.{length_push, map_push}
+use Rattle.std.proofs.lemmas.Result.{err_from_is_err_and}
+use Rattle.ax_model.specs.Plain.{slot_tree}
+use Rattle.ax_grammar.specs.Reading.{list_at}
+use Rattle.ax_grammar.specs.Rules.{slot_at}
+use Rattle.ax_grammar.proofs.Lists.{list_goes_on, braced_stops_before, braced_stops_within, braced_ends}
+use Rattle.ax_grammar.proofs.Recursive.{slot_shrinks}
+use Rattle.ax_grammar.proofs.reader.Reader.+read_kind.Goals as goal
+
+pub slots-returns-in_err-takes-clause-reads : goal.slots-returns-in_err-takes-clause-reads
+slots-returns-in_err-takes-clause-reads t c =
+    let p = err_from_is_err_and c.from_residual-in_err-takes.result c.from_residual-in_err-takes.ensures.1 in
+    rw (p.1, p.2) (braced_stops_before slot_at slot_shrinks c.args.self.now c.expect.new.self c.loop-slots.self c.takes.new.self (map slot_tree c.loop-slots.slots) c.in_err-takes.field-0.0 c.in_ok-expect.ensures.reads c.loop-slots.invariant.read c.in_err-takes.ensures.reads)
+
+pub slots-returns-in_err-slot-clause-reads : goal.slots-returns-in_err-slot-clause-reads
+slots-returns-in_err-slot-clause-reads t c =
+    let p = err_from_is_err_and c.from_residual-in_err-slot.result c.from_residual-in_err-slot.ensures.1 in
+    rw (p.1, p.2) (braced_stops_within slot_at slot_shrinks c.args.self.now c.expect.new.self c.loop-slots.self c.takes.new.self c.slot.new.self (map slot_tree c.loop-slots.slots) c.in_err-slot.field-0.0 c.in_ok-expect.ensures.reads c.loop-slots.invariant.read (search rules) c.in_err-slot.ensures.reads)
+
+pub slots-push-requires : goal.slots-push-requires
+slots-push-requires t c = record { room = omega (arith, c.loop-slots.invariant.few, c.in_ok-expect.ensures.moves, c.in_ok-expect.ensures.bound) }
+
+pub slots-loop-slots-preserved : goal.slots-loop-slots-preserved
+slots-loop-slots-preserved t c =
+    let pushed : c.push.new.self ≡ c.loop-slots.slots ++ c.in_ok-slot.slot ∷ [] = c.in_ok-push.ensures.ok in
+    let count = length_push c.loop-slots.slots c.in_ok-slot.slot in
+    let views : map slot_tree c.push.new.self ≡ map slot_tree c.loop-slots.slots ++ slot_tree c.in_ok-slot.slot ∷ [] = rw pushed (map_push _ c.loop-slots.slots c.in_ok-slot.slot) in
+    record {
+      read = rw views (list_goes_on slot_at (map slot_tree c.loop-slots.slots) c.loop-slots.self c.takes.new.self c.slot.new.self (slot_tree c.in_ok-slot.slot) (list_at slot_at c.expect.new.self) slot_shrinks (search rules) c.in_ok-slot.ensures.reads c.loop-slots.invariant.read);
+      few = omega (arith, ap length pushed, count, c.loop-slots.invariant.few, c.in_ok-slot.ensures.moves, c.in_ok-takes.ensures.moves);
+    }
+
+pub slots-returns-clause-reads : goal.slots-returns-clause-reads
+slots-returns-clause-reads t c =
+    braced_ends slot_at slot_shrinks c.args.self.now c.expect.new.self c.loop-slots.self c.takes.new.self (map slot_tree c.loop-slots.slots) c.in_ok-expect.ensures.reads c.loop-slots.invariant.read (search rules)

@@ -1,0 +1,11 @@
+//! The grammar of specifications, both ways: from tokens to a tree, and from a tree to its text.
+#![tactic(auto)]
+
+mod error;
+mod keyword;
+mod octets;
+mod reader;
+mod reading;
+mod rules;
+
+pub use error::SyntaxError;

@@ -4,6 +4,8 @@ use Rattle.std.proofs.lemmas.Result.{err_from_is_err_and}
 use Rattle.ax_model.specs.Plain.{member_tree}
 use Rattle.ax_grammar.specs.Reading.{list_at}
 use Rattle.ax_grammar.specs.Rules.{member_at}
+use Rattle.ax_grammar.proofs.Trees.{element_tree, group_tree}
+use Rattle.ax_grammar.proofs.Cases.{element_read, group_read, group_stops}
 use Rattle.ax_grammar.proofs.Lists.{list_goes_on, braced_stops_before, braced_stops_within, braced_ends}
 use Rattle.ax_grammar.proofs.Recursive.{member_shrinks}
 use Rattle.ax_grammar.proofs.reader.Reader.+read_fixed.Goals as goal
@@ -34,3 +36,16 @@ members-loop-members-preserved t c =
 pub members-returns-clause-reads : goal.members-returns-clause-reads
 members-returns-clause-reads t c =
     braced_ends member_at member_shrinks c.args.self.now c.expect.new.self c.loop-members.self c.takes.new.self (map member_tree c.loop-members.members) c.in_ok-expect.ensures.reads c.loop-members.invariant.read (search rules)
+
+pub fixed-returns-in_ok-content-in-Element-clause-reads : goal.fixed-returns-in_ok-content-in-Element-clause-reads
+fixed-returns-in_ok-content-in-Element-clause-reads t c =
+    element_read c.args.self.now c.skip.new.self c.width.new.self c.content.new.self c.in_ok-width-in-Element.width c.in_ok-content-in-Element.content _ (element_tree c.in_ok-width-in-Element.width c.in_ok-content-in-Element.content) (search rules) c.in_ok-width-in-Element.ensures.reads c.in_ok-content-in-Element.ensures.reads
+
+pub fixed-returns-in_ok-members-in-Group-clause-reads : goal.fixed-returns-in_ok-members-in-Group-clause-reads
+fixed-returns-in_ok-members-in-Group-clause-reads t c =
+    group_read c.args.self.now c.skip-in-Group.new.self c.members.new.self (map member_tree c.in_ok-members-in-Group.members) _ (group_tree c.in_ok-members-in-Group.members) (search rules) c.in_ok-members-in-Group.ensures.reads
+
+pub fixed-returns-in_err-members-in-Group-clause-reads : goal.fixed-returns-in_err-members-in-Group-clause-reads
+fixed-returns-in_err-members-in-Group-clause-reads t c =
+    let p = err_from_is_err_and c.from_residual-in_err-members-in-Group.result c.from_residual-in_err-members-in-Group.ensures.1 in
+    rw (p.1, p.2) (group_stops c.args.self.now c.skip-in-Group.new.self c.members.new.self c.in_err-members-in-Group.field-0.0 (search rules) c.in_err-members-in-Group.ensures.reads)

@@ -6,3 +6,6 @@ pub mod Recursive
 pub mod Cases
 pub mod Trees
 pub mod Local
+pub mod Numbers
+pub mod Complete
+pub mod Sound

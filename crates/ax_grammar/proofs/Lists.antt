@@ -11,7 +11,7 @@ use Rattle.ax_grammar.specs.declared.keyword.Keyword.{Keyword}
 use Rattle.ax_grammar.specs.declared.keyword.Keyword.TheVariants as Word
 use Rattle.ax_grammar.proofs.Recursion.{Agree, Shrinks, Keeps, IsGuarded, bind_ok, same_behind, same_choice, rest_is, value_is, recursive_shrinks, recursive_is}
 
-abbrev taking : Bool → Texts → Read Bool
+abbrev pub taking : Bool → Texts → Read Bool
 taking b rest = Ok (b, rest)
 
 -- ---- keywords leave less

@@ -5,7 +5,7 @@ use Rattle.ax_grammar.specs.Keywords.{keyword_text}
 use Rattle.ax_grammar.specs.Reading.{Texts, Read, ◌>>=◌, one_of, one_at, expect_at, takes_at, list_step, list_at, braced_at}
 use Rattle.ax_grammar.specs.declared.keyword.Keyword.{Keyword}
 use Rattle.ax_grammar.specs.declared.keyword.Keyword.TheVariants as Word
-use Rattle.ax_grammar.proofs.Recursion.{Shrinks}
+use Rattle.ax_grammar.proofs.Recursion.{Shrinks, reads}
 use Rattle.ax_grammar.proofs.Lists.{list_is}
 
 -- p reads what stands behind a first text: what it read, or the text at which it stopped, hangs on no later text
@@ -42,8 +42,10 @@ one_local_at (Some a) text rest = inl ([], refl, λ more. refl)
 pub one_local : {A : Type 0} (k : ℕ) (test : List ℕ → Option A) → IsLocal k (one_at test)
 one_local k test = record { empty = refl; at = λ text rest lt. one_local_at (test text) text rest }
 
-expect_local_at : (b : Bool) (text : List ℕ) (rest : Texts)
-    → Behind (λ more. cond b (Ok (tt, more)) (Err (text ∷ more))) rest (cond b (Ok (tt, rest)) (Err (text ∷ rest))) ⊎ ((more : Texts) → cond b (Ok (tt, more)) (Err (text ∷ more)) ≡ Err (text ∷ more))
+abbrev expecting : Bool → List ℕ → Texts → Read (Unit {0})
+expecting b text rest = cond b (reads tt rest) (Err (text ∷ rest))
+
+expect_local_at : (b : Bool) (text : List ℕ) (rest : Texts) → Behind (λ more. expecting b text more) rest (expecting b text rest) ⊎ ((more : Texts) → expecting b text more ≡ Err (text ∷ more))
 expect_local_at true text rest = inl ([], refl, λ more. refl)
 expect_local_at false text rest = inr (λ more. refl)
 

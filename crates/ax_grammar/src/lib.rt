@@ -9,3 +9,4 @@ mod reading;
 mod rules;
 
 pub use error::SyntaxError;
+pub use reading::read_spec;

@@ -21,6 +21,7 @@ use std::marker::Model;
 
 /// Reads tokens from left to right. Where one doesn't fit, it stays in front of it. Contracts see it as the texts
 /// of the tokens that are left.
+#[derive(Drop)]
 pub struct Reader<'r, 't> {
     tokens: &'r Tokens<'t>,
     /// How many there are.

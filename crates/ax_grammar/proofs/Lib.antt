@@ -9,3 +9,5 @@ pub mod Local
 pub mod Numbers
 pub mod Complete
 pub mod Sound
+pub mod LocalRules
+pub mod BadTokens

@@ -77,3 +77,48 @@ pub record InRange (spec : SpecTree) : Type 0 where
   pub edition : IsText spec.edition
   pub items : AllByRecursion ItemInRange spec.items
   pub uap : AllByRecursion UapSlotInRange spec.uap
+
+-- ---- numbers alone: names and texts are in range by their types
+
+abbrev pub NumbersFit : Content → Type 0
+NumbersFit Raw = Unit {0}
+NumbersFit (Table entries) = AllByRecursion (λ entry. IsNumber entry.number) entries
+NumbersFit Ascii = Unit {0}
+NumbersFit Icao = Unit {0}
+NumbersFit Octal = Unit {0}
+NumbersFit (Integer sign) = Unit {0}
+NumbersFit (Quantity scale) = IsNumber scale.num × IsNumber scale.den
+
+abbrev mutual
+  pub FixedNumbersFit : FixedTree → Type 0
+  FixedNumbersFit (element width content) = IsWidth width × NumbersFit content
+  FixedNumbersFit (group members) = MembersNumbersFit members
+
+  pub MemberNumbersFit : MemberTree → Type 0
+  MemberNumbersFit (named name kind) = FixedNumbersFit kind
+  MemberNumbersFit (spare width) = IsWidth width
+
+  pub MembersNumbersFit : MembersTree → Type 0
+  MembersNumbersFit no_members = Unit {0}
+  MembersNumbersFit (member_and member members) = MemberNumbersFit member × MembersNumbersFit members
+
+abbrev mutual
+  pub KindNumbersFit : KindTree → Type 0
+  KindNumbersFit (fixed kind) = FixedNumbersFit kind
+  KindNumbersFit (extended parts) = AllByRecursion MembersNumbersFit parts
+  KindNumbersFit (counted kind) = KindNumbersFit kind
+  KindNumbersFit (by_fx kind) = FixedNumbersFit kind
+  KindNumbersFit explicit = Unit {0}
+  KindNumbersFit (compound slots) = SlotsNumbersFit slots
+
+  pub SlotNumbersFit : SlotTree → Type 0
+  SlotNumbersFit spare_slot = Unit {0}
+  SlotNumbersFit (subitem name kind) = KindNumbersFit kind
+
+  pub SlotsNumbersFit : SlotsTree → Type 0
+  SlotsNumbersFit no_slots = Unit {0}
+  SlotsNumbersFit (slot_and slot slots) = SlotNumbersFit slot × SlotsNumbersFit slots
+
+-- every width is below 10^9, and every number of a scale or a table below 10^18
+abbrev pub AreNumbersInRange : SpecTree → Type 0
+AreNumbersInRange spec = AllByRecursion (λ item. KindNumbersFit item.kind) spec.items

@@ -6,3 +6,4 @@ pub mod Tests
 pub mod Reading
 pub mod Rules
 pub mod Gives
+pub mod Printing

@@ -4,6 +4,7 @@
 mod error;
 mod keyword;
 mod octets;
+mod printer;
 mod reader;
 mod reading;
 mod rules;

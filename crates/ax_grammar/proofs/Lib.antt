@@ -11,3 +11,4 @@ pub mod Complete
 pub mod Sound
 pub mod LocalRules
 pub mod BadTokens
+pub mod Printed

@@ -5,9 +5,11 @@ mod error;
 mod keyword;
 mod octets;
 mod printer;
+mod printing;
 mod reader;
 mod reading;
 mod rules;
 
 pub use error::SyntaxError;
+pub use printing::print_spec;
 pub use reading::read_spec;

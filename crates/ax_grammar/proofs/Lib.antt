@@ -1,0 +1,14 @@
+pub mod SingleTokens
+pub mod Steps
+pub mod Recursion
+pub mod Lists
+pub mod Recursive
+pub mod Cases
+pub mod Trees
+pub mod Local
+pub mod Numbers
+pub mod Complete
+pub mod Sound
+pub mod LocalRules
+pub mod BadTokens
+pub mod Printed

@@ -1,0 +1,69 @@
+-- How texts are read from left to right. A reader answers what it read and the texts behind it, or the texts from the
+-- bad one on. Only private calls are seen as readers; what they read is said by the spelling.
+use Rattle.std.specs.Prelude.{ℕ, zero, suc, Bool, true, false, if◌then◌else◌, bytes_eq, List, [], ◌∷◌, length, Option, Some, None, Result, Ok, Err}
+use Rattle.ax_grammar.specs.Keywords.{keyword_text}
+use Rattle.ax_grammar.specs.declared.keyword.Keyword.{Keyword}
+use Rattle.ax_grammar.specs.declared.keyword.Keyword.TheVariants as Word
+
+abbrev pub Texts : Type 0
+Texts = List (List ℕ)
+
+abbrev pub Read : Type 0 → Type 0
+Read A = Result (A × Texts) Texts
+
+infixl 10 ◌>>=◌
+abbrev pub ◌>>=◌ : {A B : Type 0} → Result A Texts → (A → Result B Texts) → Result B Texts
+(Ok x) >>= f = f x
+(Err rest) >>= f = Err rest
+
+-- ---- one text
+
+abbrev pub one_of : {A : Type 0} → Option A → List ℕ → Texts → Read A
+one_of None text rest = Err (text ∷ rest)
+one_of (Some a) text rest = Ok (a, rest)
+
+-- a text that stands for something
+abbrev pub one_at : {A : Type 0} → (List ℕ → Option A) → Texts → Read A
+one_at test [] = Err []
+one_at test (text ∷ rest) = one_of (test text) text rest
+
+-- the text of a keyword
+abbrev pub expect_at : Keyword → Texts → Read (Unit {0})
+expect_at word [] = Err []
+expect_at word (text ∷ rest) = if bytes_eq (keyword_text word) text then Ok (tt, rest) else Err (text ∷ rest)
+
+-- whether the text of a keyword comes; it is read if so
+abbrev pub takes_at : Keyword → Texts → Read Bool
+takes_at word [] = Err []
+takes_at word (text ∷ rest) = if bytes_eq (keyword_text word) text then Ok (true, rest) else Ok (false, text ∷ rest)
+
+-- ---- recursion
+
+-- a reader that calls itself, at most that many times one in another
+unfoldable pub within : {A : Type 0} → ((Texts → Read A) → Texts → Read A) → ℕ → Texts → Read A
+within step zero texts = Err texts
+within step (suc n) texts = step (within step n) texts
+
+-- each call is behind a text more, so one call for each text, and one for none, are enough
+unfoldable pub recursive : {A : Type 0} → ((Texts → Read A) → Texts → Read A) → Texts → Read A
+recursive step texts = within step (suc (length texts)) texts
+
+-- ---- lists
+
+abbrev pub list_step : {A : Type 0} → (Texts → Read A) → (Texts → Read (List A)) → Texts → Read (List A)
+list_step element others texts = do
+  closes ← takes_at Word.Close texts
+  if closes.0 then Ok ([], closes.1) else (do
+    first ← element closes.1
+    rest ← others first.1
+    Ok (first.0 ∷ rest.0, rest.1))
+
+-- elements up to the brace that closes them
+unfoldable pub list_at : {A : Type 0} → (Texts → Read A) → Texts → Read (List A)
+list_at element = recursive (list_step element)
+
+-- elements in braces
+abbrev pub braced_at : {A : Type 0} → (Texts → Read A) → Texts → Read (List A)
+braced_at element texts = do
+  opens ← expect_at Word.Open texts
+  list_at element opens.1

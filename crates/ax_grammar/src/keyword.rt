@@ -1,0 +1,125 @@
+//! The tokens that stand for themselves.
+
+ghost use Rattle.std.specs.Prelude.{◌≡◌, bytes_eq, find};
+ghost use Rattle.std.specs.Option.{option_copied};
+ghost use Rattle.ax_grammar.specs.Keywords.{keyword_text, keyword_of};
+
+/// A token of a specification that stands for itself.
+#[derive(Clone, Copy, Debug, PartialEq, Eq)]
+pub enum Keyword {
+    Category,
+    Edition,
+    Items,
+    Uap,
+    Item,
+    Element,
+    Group,
+    Extended,
+    Counted,
+    ByFx,
+    Explicit,
+    Compound,
+    Part,
+    Spare,
+    /// `-`, a spare slot.
+    Dash,
+    Raw,
+    Table,
+    Ascii,
+    Icao,
+    Octal,
+    Integer,
+    Quantity,
+    Unsigned,
+    Signed,
+    Open,
+    Close,
+}
+
+/// Each of them.
+const KEYWORDS: [Keyword; 26] = [
+    Keyword::Category,
+    Keyword::Edition,
+    Keyword::Items,
+    Keyword::Uap,
+    Keyword::Item,
+    Keyword::Element,
+    Keyword::Group,
+    Keyword::Extended,
+    Keyword::Counted,
+    Keyword::ByFx,
+    Keyword::Explicit,
+    Keyword::Compound,
+    Keyword::Part,
+    Keyword::Spare,
+    Keyword::Dash,
+    Keyword::Raw,
+    Keyword::Table,
+    Keyword::Ascii,
+    Keyword::Icao,
+    Keyword::Octal,
+    Keyword::Integer,
+    Keyword::Quantity,
+    Keyword::Unsigned,
+    Keyword::Signed,
+    Keyword::Open,
+    Keyword::Close,
+];
+
+impl Keyword {
+    /// Its octets.
+    pub fn text(self) -> &'static [u8]
+        ensures { result.now ≡ keyword_text self }
+    {
+        match self {
+            Keyword::Category => b"category",
+            Keyword::Edition => b"edition",
+            Keyword::Items => b"items",
+            Keyword::Uap => b"uap",
+            Keyword::Item => b"item",
+            Keyword::Element => b"element",
+            Keyword::Group => b"group",
+            Keyword::Extended => b"extended",
+            Keyword::Counted => b"counted",
+            Keyword::ByFx => b"byfx",
+            Keyword::Explicit => b"explicit",
+            Keyword::Compound => b"compound",
+            Keyword::Part => b"part",
+            Keyword::Spare => b"spare",
+            Keyword::Dash => b"-",
+            Keyword::Raw => b"raw",
+            Keyword::Table => b"table",
+            Keyword::Ascii => b"ascii",
+            Keyword::Icao => b"icao",
+            Keyword::Octal => b"octal",
+            Keyword::Integer => b"integer",
+            Keyword::Quantity => b"quantity",
+            Keyword::Unsigned => b"unsigned",
+            Keyword::Signed => b"signed",
+            Keyword::Open => b"{",
+            Keyword::Close => b"}",
+        }
+    }
+
+    /// Whether these are its octets.
+    pub fn is(self, text: &[u8]) -> bool
+        ensures { result ≡ bytes_eq (keyword_text self) text.now }
+    {
+        self.text() == text
+    }
+
+        /// The one of these octets. None comes exactly where there is none.
+    #[tactic(auto, unfolding(crate::specs::Keywords::keyword_of))]
+    pub fn of(text: &[u8]) -> Option<Keyword>
+        ensures { result ≡ keyword_of text.now }
+    {
+        first_of(&KEYWORDS, text).copied()
+    }
+}
+
+/// The first of the words that has these octets.
+fn first_of<'k>(words: &'k [Keyword], text: &[u8]) -> Option<&'k Keyword>
+    ensures { option_copied result ≡ find (λ word. bytes_eq (keyword_text word) text.now) words.now }
+{
+    words.iter().find(|word| word.is(text))
+}

@@ -1,0 +1,38 @@
+//! From a specification to its text.
+
+ghost use Rattle.std.specs.Prelude.{◌≡◌, IfOk};
+ghost use Rattle.ax_model.specs.Plain.{spec_tree};
+ghost use Rattle.ax_grammar.specs.InRange.{AreNumbersInRange};
+ghost use Rattle.ax_grammar.specs.Spelling.{printed};
+
+use crate::keyword::Keyword;
+use crate::printer::Printer;
+use ax_model::Spec;
+use std::alloc::{AllocError, Global};
+
+/// The text of a specification: the tokens that spell it, with one space between, and a line feed behind.
+///
+/// Widths have at most nine digits, and numbers of scales and tables at most 18, so that the text spells the
+/// specification when it is read again. The text is all that takes memory.
+pub fn print_spec(alloc: Global, spec: &Spec) -> Result<Vec<u8>, AllocError>
+    requires { AreNumbersInRange (spec_tree spec.now) }
+    ensures { IfOk result (λ text. text.items ≡ printed (spec_tree spec.now)) }
+{
+    let mut printer = Printer {
+        out: Vec::from_slice(alloc, Keyword::Category.text())?,
+    };
+    printer.category(spec.category)?;
+    printer.word(Keyword::Edition)?;
+    printer.text(&spec.edition)?;
+    printer.word(Keyword::Items)?;
+    printer.word(Keyword::Open)?;
+    printer.items(&spec.items)?;
+    printer.word(Keyword::Close)?;
+    printer.word(Keyword::Uap)?;
+    printer.word(Keyword::Open)?;
+    printer.uap(&spec.uap)?;
+    printer.word(Keyword::Close)?;
+    let Printer { mut out } = printer;
+    out.push(b'\n')?;
+    Ok(out)
+}

@@ -1,0 +1,203 @@
+//! The place in a list of tokens, and single tokens.
+
+ghost use Rattle.std.specs.Prelude.{◌≡◌, ◌<◌, ◌≤◌, ◌^◌, length, drop, [], ◌∷◌, Ok, true, IfOk, IfErr, OnOk};
+ghost use Rattle.std.specs.List.{AllByRecursion};
+ghost use Rattle.ax_model.specs.Characters.{IsTextOctet};
+ghost use Rattle.ax_tokens.specs.PlainToken.{plain_token};
+ghost use Rattle.ax_tokens.specs.Lexing.{HasTokenText};
+ghost use Rattle.ax_grammar.specs.declared.error.Stopped.TheVariants.{Bad};
+ghost use Rattle.ax_grammar.specs.Answers.{texts_of};
+ghost use Rattle.ax_grammar.specs.Gives.{Gives, Stops};
+ghost use Rattle.ax_grammar.specs.Reading.{expect_at, takes_at};
+ghost use Rattle.ax_grammar.specs.Rules.{keyword_at, name_at, category_at, width_at, number_at, text_at};
+
+use crate::error::Stopped;
+use crate::keyword::Keyword;
+use crate::octets;
+use ax_model::{Name, Text};
+use ax_tokens::{Token, Tokens};
+use std::alloc::{AllocError, Global};
+use std::marker::Model;
+
+/// Reads tokens from left to right. Where one doesn't fit, it stays in front of it. Contracts see it as the texts
+/// of the tokens that are left.
+#[derive(Drop)]
+pub struct Reader<'r, 't> {
+    tokens: &'r Tokens<'t>,
+    /// How many there are.
+    end: u32,
+    /// The number of the next token.
+    at: u32,
+}
+
+impl<'r, 't> Model for Reader<'r, 't> {
+    ghost use Rattle.std.specs.Prelude.{List, ℕ, length, drop, ◌≤◌, ◌<◌, ◌≡◌};
+    ghost use Rattle.ax_grammar.specs.Answers.{texts_of};
+
+    ghost Value = { List (List ℕ) };
+
+    ghost view = { λ r. drop r.at (texts_of r.tokens.now) };
+
+    ghost invariant = { λ r. (r.at ≤ r.end) × (r.end ≡ length r.tokens.now) × (r.end < 4294967296) };
+}
+
+/// A text of these octets.
+fn text_of(alloc: Global, octets: &[u8]) -> Result<Text, AllocError>
+    requires short { length octets.now < 2 ^ 32 }
+    requires printable { AllByRecursion IsTextOctet octets.now }
+    ensures { IfOk result (λ text. text ≡ octets.now) }
+{
+    let mut text = Text::new(alloc);
+    for octet in octets {
+        text.push(*octet)?;
+    }
+    Ok(text)
+}
+
+impl<'r, 't> Reader<'r, 't> {
+    /// In front of the first token.
+    pub fn new(tokens: &'r Tokens<'t>) -> Self
+        ensures { result ≡ texts_of tokens.now }
+    {
+        Reader {
+            tokens,
+            end: tokens.count(),
+            at: 0,
+        }
+    }
+
+    /// How many tokens are left.
+    pub fn count(&self) -> u32
+        ensures { result ≡ length self.now }
+    {
+        self.end - self.at
+    }
+
+    /// The next token.
+    fn peek(&self) -> Result<&'r Token<'t>, Stopped>
+        ensures next { IfOk result (λ t. self.now ≡ t.now.text.now ∷ drop 1 self.now) }
+        ensures token { IfOk result (λ t. HasTokenText (plain_token t.now)) }
+        ensures end { IfErr result (λ e. (e ≡ Bad) × (self.now ≡ [])) }
+        ensures bound { OnOk result (length self.now < 2 ^ 32) }
+    {
+        match self.tokens.get(self.at) {
+            Some(token) => Ok(token),
+            None => Err(Stopped::Bad),
+        }
+    }
+
+    /// Goes behind the next token.
+    pub fn skip(&mut self)
+        requires { 0 < length self.old }
+        ensures { self.new ≡ drop 1 self.old }
+    {
+        self.at += 1;
+    }
+
+    /// Reads the keyword.
+    pub fn expect(&mut self, word: Keyword) -> Result<(), Stopped>
+        ensures reads { Gives (λ _. tt) result self.new (expect_at word self.old) }
+        ensures moves { OnOk result (length self.new < length self.old) }
+        ensures bound { OnOk result (length self.old < 2 ^ 32) }
+    {
+        let token = self.peek()?;
+        if !word.is(token.text) {
+            return Err(Stopped::Bad);
+        }
+        self.skip();
+        Ok(())
+    }
+
+    /// Whether the keyword comes. It is read if so.
+    pub fn takes(&mut self, word: Keyword) -> Result<bool, Stopped>
+        ensures reads { Gives (λ taken. taken) result self.new (takes_at word self.old) }
+        ensures moves { OnOk result (length self.new ≤ length self.old) }
+        ensures taken { result ≡ Ok true → length self.new < length self.old }
+    {
+        let token = self.peek()?;
+        let taken = word.is(token.text);
+        if taken {
+            self.skip();
+        }
+        Ok(taken)
+    }
+
+    /// The keyword that comes. It isn't read yet.
+    pub fn keyword(&self) -> Result<Keyword, Stopped>
+        ensures reads { IfOk result (λ word. keyword_at self.now ≡ Ok (word, drop 1 self.now)) }
+        ensures some { OnOk result (0 < length self.now) }
+        ensures stops { IfErr result (λ stopped. Stops stopped self.now (keyword_at self.now)) }
+    {
+        let token = self.peek()?;
+        match Keyword::of(token.text) {
+            Some(word) => Ok(word),
+            None => Err(Stopped::Bad),
+        }
+    }
+
+    /// Reads a name.
+    pub fn name(&mut self) -> Result<Name, Stopped>
+        ensures reads { Gives (λ name. name) result self.new (name_at self.old) }
+        ensures moves { OnOk result (length self.new < length self.old) }
+    {
+        let token = self.peek()?;
+        let Some(name) = octets::name(token.text) else {
+            return Err(Stopped::Bad);
+        };
+        self.skip();
+        Ok(name)
+    }
+
+    /// Reads a category.
+    pub fn category(&mut self) -> Result<u8, Stopped>
+        ensures reads { Gives (λ category. category) result self.new (category_at self.old) }
+        ensures moves { OnOk result (length self.new < length self.old) }
+    {
+        let token = self.peek()?;
+        let Some(category) = octets::category(token.text) else {
+            return Err(Stopped::Bad);
+        };
+        self.skip();
+        Ok(category)
+    }
+
+    /// Reads a width.
+    pub fn width(&mut self) -> Result<u32, Stopped>
+        ensures reads { Gives (λ width. width) result self.new (width_at self.old) }
+        ensures moves { OnOk result (length self.new < length self.old) }
+    {
+        let token = self.peek()?;
+        let Some(width) = octets::width(token.text) else {
+            return Err(Stopped::Bad);
+        };
+        self.skip();
+        Ok(width)
+    }
+
+    /// Reads a number of a scale or of a table.
+    pub fn number(&mut self) -> Result<u64, Stopped>
+        ensures reads { Gives (λ number. number) result self.new (number_at self.old) }
+        ensures moves { OnOk result (length self.new < length self.old) }
+    {
+        let token = self.peek()?;
+        let Some(number) = octets::number(token.text, 18) else {
+            return Err(Stopped::Bad);
+        };
+        self.skip();
+        Ok(number)
+    }
+
+    /// Reads a text in quotes.
+    pub fn text(&mut self, alloc: Global) -> Result<Text, Stopped>
+        ensures reads { Gives (λ text. text) result self.new (text_at self.old) }
+        ensures moves { OnOk result (length self.new < length self.old) }
+    {
+        let token = self.peek()?;
+        let Some(content) = octets::content(token) else {
+            return Err(Stopped::Bad);
+        };
+        let text = text_of(alloc, content)?;
+        self.skip();
+        Ok(text)
+    }
+}

@@ -1,0 +1,63 @@
+//! From tokens to the specification that they spell.
+
+ghost use Rattle.std.specs.Prelude.{◌≡◌, ◌⊎◌, ℕ, length, IfOk, IfErr, MatchResult, OnOk};
+ghost use Rattle.ax_model.specs.Plain.{spec_tree};
+ghost use Rattle.ax_model.specs.Specification.{SpecTree};
+ghost use Rattle.ax_grammar.specs.Answers.{SpellsSpec, IsBad, texts_of};
+ghost use Rattle.ax_grammar.specs.Gives.{Gives};
+ghost use Rattle.ax_grammar.specs.Rules.{end_at, whole_at};
+ghost use Rattle.ax_grammar.specs.declared.error.SyntaxError.TheVariants.{OutOfMemory};
+
+use crate::error::{Stopped, SyntaxError};
+use crate::reader::Reader;
+use ax_model::Spec;
+use ax_tokens::Tokens;
+use std::alloc::Global;
+
+/// Nothing is left.
+fn end(reader: &mut Reader<'_, '_>) -> Result<(), Stopped>
+    ensures { Gives (λ _. tt) result reader.new (end_at reader.old) }
+{
+    if reader.count() > 0 {
+        return Err(Stopped::Bad);
+    }
+    Ok(())
+}
+
+/// All tokens that are left are a specification.
+#[tactic(auto, unfolding(crate::specs::Rules::whole_at))]
+fn whole(alloc: Global, reader: &mut Reader<'_, '_>) -> Result<Spec, Stopped>
+    ensures { Gives spec_tree result reader.new (whole_at reader.old) }
+{
+    let spec = reader.spec(alloc)?;
+    end(reader)?;
+    Ok(spec)
+}
+
+/// The specification that the tokens spell, which has one spelling.
+///
+/// A list of tokens spells at most one specification. Where it spells none, `BadToken` names the first token through
+/// which no spelling begins, or the count of the tokens where all of them begin one: a category that isn't three digits
+/// up to 255, a name or a number out of its form, a word of another rule, a missing brace, or a token behind the end.
+///
+/// Each token is read once, from left to right, and the tree is all that takes memory. The calls nest as the tokens'
+/// braces do: the depth that the tokens were made with bounds the stack.
+pub fn read_spec(alloc: Global, tokens: &Tokens<'_>) -> Result<Spec, SyntaxError>
+    // The tree is the one that the tokens spell.
+    ensures spells { IfOk result (λ spec. SpellsSpec tokens.now (spec_tree spec)) }
+    // A bad token is named where they spell none.
+    ensures bad { IfErr result (λ error. IsBad tokens.now error) }
+
+    // Each comes wherever it holds, unless memory runs out.
+    ensures always_spells { (spec : SpecTree) → SpellsSpec tokens.now spec → MatchResult result (λ found. spec_tree found ≡ spec) (λ error. error ≡ OutOfMemory) }
+    ensures always_bad { ((spec : SpecTree) → SpellsSpec tokens.now spec → ⊥) → OnOk result ⊥ }
+{
+    let mut reader = Reader::new(tokens);
+    match whole(alloc, &mut reader) {
+        Ok(spec) => Ok(spec),
+        Err(Stopped::Bad) => Err(SyntaxError::BadToken {
+            token: tokens.count() - reader.count(),
+        }),
+        Err(Stopped::OutOfMemory) => Err(SyntaxError::OutOfMemory),
+    }
+}

@@ -1,0 +1,85 @@
+-- The files of a command line, loaded one after another.
+use Rattle.std.proofs.Common.{◌≡◌, ℕ, ◌+◌, ◌<◌, ◌≤◌, List, [], ◌∷◌, ◌++◌, Option, None, IsSome, length, map, drop, get_or, refl, sym, ◌∙◌, ap, subst, append_assoc, drop-cons, add-one, arith}
+use Rattle.std.proofs.lemmas.List.{drop_all}
+use Rattle.ax_outside.specs.Files.{File}
+use Rattle.ax_check.specs.Adding.{WhyRefused}
+use Rattle.ax_check.specs.declared.catalogue.AddError.{AddError}
+use Rattle.ax_check.specs.declared.catalogue.AddError.TheVariants as AddErrorOf
+use Rattle.ax_model.specs.Plain.{spec_tree, catalogue_tree}
+use Rattle.ax_model.specs.Specification.{SpecTree, spec_of}
+use Rattle.ax_model.specs.declared.spec.Spec.{Spec}
+use Rattle.ax_load.specs.Loading.{Counts, GivesSpec, FilesPass, none_yet, one_more, FilesGive, FilesEnd, by_file, by_category, outcome_of_adding}
+use Rattle.ax_command.specs.declared.outcome.Outcome.{Outcome}
+use Rattle.ax_command.specs.declared.outcome.Outcome.TheVariants.{CategoryTwice, OutOfMemory}
+
+-- the first i files gave the catalogue, and these names are left
+pub record Loaded (files files' : Option (List File)) (names left : List (List ℕ)) (i file : ℕ) (catalogue : List Spec) (f f' t t' : ℕ) : Type 0 where
+  pub pass : FilesPass files names i (catalogue_tree catalogue) left
+  pub number : file ≡ i
+  pub keeps : files' ≡ files
+  pub faults : f ≤ f'
+  pub taken : t ≤ t'
+
+pub none_loaded : (files : Option (List File)) (names : List (List ℕ)) (catalogue : List Spec) (f t : ℕ) → catalogue ≡ [] → Loaded files files names names 0 0 catalogue f f t t
+none_loaded files names catalogue f t is = record {
+  pass = subst (λ s. FilesPass files names 0 (catalogue_tree s) names) (sym is) none_yet;
+  number = refl;
+  keeps = refl;
+  faults = omega arith;
+  taken = omega arith;
+}
+
+pub names_left : {A : Type 0} (f : A → List ℕ) (xs : List A) (i : ℕ) (x : A) (name : List ℕ) → i < length xs → x ≡ get_or xs i x → name ≡ f x → map f (drop i xs) ≡ name ∷ map f (drop (i + 1) xs)
+names_left f xs i x name within is same =
+    ap (map f) (drop-cons xs i x within) ∙ ap (λ n. f (get_or xs i x) ∷ map f (drop n xs)) (sym (add-one i)) ∙ ap (λ y. y ∷ map f (drop (i + 1) xs)) (sym (same ∙ ap f is))
+
+tree_behind : (catalogue : List Spec) (one : Spec) → catalogue_tree (catalogue ++ one ∷ []) ≡ catalogue_tree catalogue ++ spec_tree one ∷ []
+tree_behind [] one = refl
+tree_behind (s ∷ more) one = ap (λ t. spec_tree s ∷ t) (tree_behind more one)
+
+pub one_loaded : (files files' files'' : Option (List File)) (names left : List (List ℕ)) (name : List ℕ) (more : List (List ℕ)) (i file : ℕ) (catalogue new : List Spec) (one : Spec) (f f' f'' t t' t'' : ℕ)
+    → Loaded files files' names left i file catalogue f f' t t' → left ≡ name ∷ more → GivesSpec files' name (spec_tree one) → spec_of one.category (catalogue_tree catalogue) ≡ None
+    → new ≡ catalogue ++ one ∷ [] → files'' ≡ files' → f' ≤ f'' → t' ≤ t'' → Loaded files files'' names more (i + 1) (file + 1) new f f'' t t''
+one_loaded files files' files'' names left name more i file catalogue new one f f' f'' t t' t'' l is gives none new_is same lf lt = record {
+  pass = subst (λ s. FilesPass files names (i + 1) s more) (sym (ap catalogue_tree new_is ∙ tree_behind catalogue one))
+      (one_more i (catalogue_tree catalogue) more name (spec_tree one) (subst (λ x. FilesPass files names i (catalogue_tree catalogue) x) is l.pass) (subst (λ x. GivesSpec x name (spec_tree one)) l.keeps gives) none);
+  number = ap (λ n. n + 1) l.number;
+  keeps = same ∙ l.keeps;
+  faults = let a = l.faults in omega arith;
+  taken = let a = l.taken in omega arith;
+}
+
+twice_ends : (files files' : Option (List File)) (c : Counts) (names left : List (List ℕ)) (name : List ℕ) (more : List (List ℕ)) (i file : ℕ) (catalogue : List Spec) (one : Spec) (category f f' t t' : ℕ)
+    → Loaded files files' names left i file catalogue f f' t t' → left ≡ name ∷ more → GivesSpec files' name (spec_tree one) → category ≡ one.category
+    → IsSome (spec_of one.category (catalogue_tree catalogue)) → FilesEnd files c names (CategoryTwice file category)
+twice_ends files files' c names left name more i file catalogue one category f f' t t' l is gives same twice = record {
+  count = i;
+  before = catalogue_tree catalogue;
+  name = name;
+  more = more;
+  pass = subst (λ x. FilesPass files names i (catalogue_tree catalogue) x) is l.pass;
+  ends = by_category category (ap (λ n. CategoryTwice n category) l.number) (record {
+    spec = spec_tree one;
+    gives = subst (λ x. GivesSpec x name (spec_tree one)) l.keeps gives;
+    is = same;
+    twice = subst (λ x. IsSome (spec_of x (catalogue_tree catalogue))) (sym same) twice;
+  });
+}
+
+memory_ends : (files files' : Option (List File)) (c : Counts) (names left : List (List ℕ)) (name : List ℕ) (more : List (List ℕ)) (i file : ℕ) (catalogue : List Spec) (f f' t t' : ℕ)
+    → Loaded files files' names left i file catalogue f f' t t' → left ≡ name ∷ more → FilesEnd files c names OutOfMemory
+memory_ends files files' c names left name more i file catalogue f f' t t' l is = record {
+  count = i;
+  before = catalogue_tree catalogue;
+  name = name;
+  more = more;
+  pass = subst (λ x. FilesPass files names i (catalogue_tree catalogue) x) is l.pass;
+  ends = by_file tt;
+}
+
+pub adding_ends : (files files' : Option (List File)) (c : Counts) (names left : List (List ℕ)) (name : List ℕ) (more : List (List ℕ)) (i file : ℕ) (catalogue : List Spec) (one : Spec) (f f' t t' : ℕ) (error : AddError) (outcome : Outcome)
+    → Loaded files files' names left i file catalogue f f' t t' → left ≡ name ∷ more → GivesSpec files' name (spec_tree one) → WhyRefused catalogue one error → outcome ≡ outcome_of_adding file error → FilesEnd files c names outcome
+adding_ends files files' c names left name more i file catalogue one f f' t t' (AddErrorOf.CategoryTwice category) outcome l is gives why same =
+    subst (λ x. FilesEnd files c names x) (sym same) (twice_ends files files' c names left name more i file catalogue one category f f' t t' l is gives why.0 why.1)
+adding_ends files files' c names left name more i file catalogue one f f' t t' AddErrorOf.OutOfMemory outcome l is gives why same =
+    subst (λ x. FilesEnd files c names x) (sym same) (memory_ends files files' c names left name more i file catalogue f f' t t' l is)

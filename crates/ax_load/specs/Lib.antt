@@ -1,0 +1,3 @@
+pub mod FileAnswers
+pub mod FileStops
+pub mod Loading

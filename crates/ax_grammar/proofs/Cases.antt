@@ -1,10 +1,10 @@
 -- Each way through the rules of fixed kinds and of kinds.
-use Rattle.std.proofs.Common.{◌≡◌, ℕ, List, Ok, Err, refl, sym, ap, ◌∙◌}
+use Rattle.std.proofs.Common.{◌≡◌, ℕ, List, Ok, refl, sym, ap, ◌∙◌}
 use Rattle.ax_model.specs.Tree.{FixedTree, element, group, MemberTree, MembersTree, members_of, KindTree, fixed, extended, counted, by_fx, explicit, compound, SlotTree, slots_of}
 use Rattle.ax_model.specs.declared.content.Content.{Content}
 use Rattle.ax_grammar.specs.Gives.{Stops}
-use Rattle.ax_grammar.specs.Reading.{Texts, Read, ◌>>=◌, expect_at, braced_at}
-use Rattle.ax_grammar.specs.Rules.{keyword_at, width_at, content_at, fixed_step, fixed_at, member_at, member_step, part_at, kind_behind, kind_step, kind_at, slot_at, slot_step}
+use Rattle.ax_grammar.specs.Reading.{Texts, ◌>>=◌, expect_at, braced_at}
+use Rattle.ax_grammar.specs.Rules.{keyword_at, width_at, content_at, fixed_step, fixed_at, member_at, part_at, kind_behind, kind_step, kind_at, slot_at}
 use Rattle.ax_grammar.specs.declared.error.Stopped.{Stopped}
 use Rattle.ax_grammar.specs.declared.error.Stopped.TheVariants.{Bad, OutOfMemory}
 use Rattle.ax_grammar.specs.declared.keyword.Keyword.{Keyword}

@@ -1,7 +1,7 @@
 -- What is spelled so is read, whatever follows.
-use Rattle.std.proofs.Common.{◌≡◌, ℕ, zero, suc, ◌+◌, ◌-◌, ◌*◌, ◌/◌, ◌%◌, ◌^◌, ◌<◌, ◌≤◌, Bool, true, false, ◌&&◌, cond, List, [], ◌∷◌, ◌++◌, length, map, Option, Some, None, Result, Ok, Err, refl, sym, ◌∙◌, ap, subst, append_assoc, append-nil, lit≤, lit<, arith}
+use Rattle.std.proofs.Common.{◌≡◌, ℕ, Bool, true, false, cond, List, [], ◌∷◌, ◌++◌, Option, Some, Ok, refl, sym, ◌∙◌, ap, append_assoc, append-nil, lit≤, lit<}
 use Rattle.std.specs.Prelude.{bytes_eq, decimal}
-use Rattle.std.specs.List.{AllByRecursion, flat_map, list_all}
+use Rattle.std.specs.List.{AllByRecursion, flat_map}
 use Rattle.std.proofs.lemmas.List.Concat.{flat_map-cons}
 use Rattle.ax_model.specs.Characters.{IsName, is_name_octet}
 use Rattle.ax_model.specs.Specification.{ItemTree, SpecTree}
@@ -9,17 +9,15 @@ use Rattle.ax_model.specs.Tree.{FixedTree, element, group, MemberTree, named, sp
 use Rattle.ax_model.specs.declared.content.Content.{Content}
 use Rattle.ax_model.specs.declared.content.Content.TheVariants as Meaning
 use Rattle.ax_model.specs.declared.content.Sign.{Sign}
-use Rattle.ax_model.specs.declared.content.Sign.TheVariants as Sign
 use Rattle.ax_model.specs.declared.content.TableText.{TableText}
 use Rattle.ax_model.specs.declared.spec.UapSlot.{UapSlot}
 use Rattle.ax_model.specs.declared.spec.UapSlot.TheVariants as Uap
-use Rattle.ax_tokens.specs.Octets.{quote}
 use Rattle.ax_grammar.specs.Keywords.{keyword_text, keyword_of}
 use Rattle.ax_grammar.specs.InRange.{IsText, IsWidth, IsNumber, EntryInRange, ContentInRange, FixedInRange, MemberInRange, MembersInRange, KindInRange, SlotInRange, SlotsInRange, ItemInRange, UapSlotInRange, InRange}
 use Rattle.ax_grammar.specs.Spelling.{three_digits, quoted, sign_text, closed, block, entry_texts, content_texts, fixed_texts, member_texts, members_texts, part_texts, kind_texts, slot_texts, slots_texts, item_texts, uap_slot_texts, spelled}
 use Rattle.ax_grammar.specs.Tests.{name_of, number_of, category_of, text_of}
-use Rattle.ax_grammar.specs.Reading.{Texts, Read, ◌>>=◌, one_of, one_at, expect_at, takes_at, list_step, list_at, braced_at}
-use Rattle.ax_grammar.specs.Rules.{keyword_at, name_at, category_at, width_at, number_at, text_at, sign_behind, sign_at, entry_at, scale_at, content_behind, content_at, fixed_behind, member_step, fixed_step, fixed_at, member_at, part_at, kind_behind, kind_step, kind_at, slot_step, slot_at, item_at, uap_slot_at, spec_at, end_at, whole_at}
+use Rattle.ax_grammar.specs.Reading.{Texts, Read, ◌>>=◌, one_of, one_at, expect_at, takes_at, list_at}
+use Rattle.ax_grammar.specs.Rules.{keyword_at, name_at, width_at, number_at, text_at, sign_behind, sign_at, entry_at, scale_at, content_behind, content_at, fixed_behind, member_step, fixed_step, fixed_at, member_at, part_at, kind_behind, kind_step, kind_at, slot_step, slot_at, item_at, uap_slot_at, spec_at, end_at, whole_at}
 use Rattle.ax_grammar.specs.declared.keyword.Keyword.{Keyword}
 use Rattle.ax_grammar.specs.declared.keyword.Keyword.TheVariants as Word
 use Rattle.ax_grammar.proofs.Recursion.{Shrinks, reads}
@@ -169,6 +167,7 @@ members_whole ms rest e = ap (λ r. r >>= λ i. Ok (group (members_of i.0), i.1)
 
 mutual
   unfolding member_at member_step
+
   pub fixed_read : (f : FixedTree) (rest : Texts) → FixedInRange f → fixed_at (fixed_texts f ++ rest) ≡ Ok (f, rest)
   fixed_read (element width content) rest h =
       let a = content_texts content ++ rest in
@@ -228,6 +227,7 @@ slots_whole ss rest e = ap (λ r. r >>= λ i. Ok (compound (slots_of i.0), i.1))
 
 mutual
   unfolding slot_at slot_step
+
   pub kind_read : (k : KindTree) (rest : Texts) → KindInRange k → kind_at (kind_texts k ++ rest) ≡ Ok (k, rest)
   kind_read (fixed f) rest h = fixed_kind_read f rest h
   kind_read (extended ps) rest h =
@@ -290,9 +290,12 @@ spec_read spec rest h =
     let front : spelled spec ++ rest ≡ keyword_text Word.Category ∷ three_digits spec.category ∷ b
     = ap (λ t. keyword_text Word.Category ∷ three_digits spec.category ∷ keyword_text Word.Edition ∷ quoted spec.edition ∷ t) (append_assoc (block Word.Items (flat_map item_texts spec.items)) (block Word.Uap (flat_map uap_slot_texts spec.uap)) rest) in
     ap spec_at front
-    ∙ rw (some_at category_of (three_digits spec.category) spec.category b (category_some spec.category h.category), text_read spec.edition c h.edition,
-        list_read item_at item_shrinks item_texts ItemInRange item_read item_goes spec.items behind h.items,
-        list_read uap_slot_at uap_slot_shrinks uap_slot_texts UapSlotInRange uap_slot_read uap_slot_goes spec.uap rest h.uap) refl
+    ∙ rw (
+      some_at category_of (three_digits spec.category) spec.category b (category_some spec.category h.category),
+      text_read spec.edition c h.edition,
+      list_read item_at item_shrinks item_texts ItemInRange item_read item_goes spec.items behind h.items,
+      list_read uap_slot_at uap_slot_shrinks uap_slot_texts UapSlotInRange uap_slot_read uap_slot_goes spec.uap rest h.uap,
+    ) refl
 
 pub whole_read : (spec : SpecTree) → InRange spec → whole_at (spelled spec) ≡ Ok (spec, [])
 unfolding whole_at

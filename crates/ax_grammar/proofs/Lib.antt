@@ -12,3 +12,5 @@ pub mod Sound
 pub mod LocalRules
 pub mod BadTokens
 pub mod Printed
+pub mod TokenTexts
+pub mod Ranges

@@ -1,15 +1,15 @@
 -- Lists of elements up to the brace that closes them.
-use Rattle.std.proofs.Common.{◌≡◌, ℕ, zero, suc, ◌+◌, ◌<◌, ◌≤◌, Bool, true, false, cond, List, [], ◌∷◌, ◌++◌, length, Result, Ok, Err, refl, sym, ◌∙◌, ap, subst, append_assoc, arith}
+use Rattle.std.proofs.Common.{◌≡◌, ℕ, zero, suc, ◌<◌, ◌≤◌, Bool, true, false, cond, List, [], ◌∷◌, ◌++◌, length, Ok, Err, refl, sym, ◌∙◌, ap, append_assoc, arith}
 use Rattle.std.specs.Prelude.{bytes_eq}
 use Rattle.std.proofs.lemmas.List.{append-nil}
 use Rattle.ax_grammar.specs.Keywords.{keyword_text}
 use Rattle.ax_grammar.specs.Gives.{Stops}
-use Rattle.ax_grammar.specs.Reading.{Texts, Read, ◌>>=◌, takes_at, expect_at, recursive, list_step, list_at, braced_at}
+use Rattle.ax_grammar.specs.Reading.{Texts, Read, ◌>>=◌, takes_at, expect_at, list_step, list_at, braced_at}
 use Rattle.ax_grammar.specs.declared.error.Stopped.{Stopped}
 use Rattle.ax_grammar.specs.declared.error.Stopped.TheVariants.{Bad, OutOfMemory}
 use Rattle.ax_grammar.specs.declared.keyword.Keyword.{Keyword}
 use Rattle.ax_grammar.specs.declared.keyword.Keyword.TheVariants as Word
-use Rattle.ax_grammar.proofs.Recursion.{Agree, Shrinks, Keeps, IsGuarded, bind_ok, same_behind, same_choice, rest_is, value_is, recursive_shrinks, recursive_is}
+use Rattle.ax_grammar.proofs.Recursion.{Agree, Shrinks, IsGuarded, bind_ok, same_behind, same_choice, rest_is, value_is, recursive_shrinks, recursive_is}
 
 abbrev pub taking : Bool → Texts → Read Bool
 taking b rest = Ok (b, rest)
@@ -135,10 +135,10 @@ list_agrees zero p q s t h texts lt = absurd (omega arith)
 list_agrees (suc k) p q s t h texts lt =
     list_is p s texts
     ∙ same_behind (takes_at Word.Close texts) _ _ (λ c e. same_choice c.0 _ _ _ (λ _.
-        let le = (takes_keeps Word.Close texts c.0 c.1 e).0 in
-        same_behind (p c.1) _ _ (λ first e'. ap (λ r. r >>= λ rest. Ok (first.0 ∷ rest.0, rest.1))
-            (list_agrees k p q s t (λ x l. h x (omega arith)) first.1 (omega (arith, le, s c.1 first.0 first.1 e'))))
-        ∙ ap (λ r. r >>= λ first. list_at q first.1 >>= λ rest. Ok (first.0 ∷ rest.0, rest.1)) (h c.1 (omega (arith, le)))))
+    let le = (takes_keeps Word.Close texts c.0 c.1 e).0 in
+    same_behind (p c.1) _ _ (λ first e'. ap (λ r. r >>= λ rest. Ok (first.0 ∷ rest.0, rest.1))
+    (list_agrees k p q s t (λ x l. h x (omega arith)) first.1 (omega (arith, le, s c.1 first.0 first.1 e'))))
+    ∙ ap (λ r. r >>= λ first. list_at q first.1 >>= λ rest. Ok (first.0 ∷ rest.0, rest.1)) (h c.1 (omega (arith, le)))))
     ∙ sym (list_is q t texts)
 
 pub braced_agrees : {A : Type 0} (k : ℕ) (p q : Texts → Read A) → Shrinks p → Shrinks q → Agree k p q → Agree k (braced_at p) (braced_at q)

@@ -1,12 +1,10 @@
 -- What a reader answers hangs on no text behind the one at which it stops, or behind what it reads.
-use Rattle.std.proofs.Common.{◌≡◌, ℕ, zero, suc, ◌+◌, ◌<◌, ◌≤◌, Bool, true, false, cond, List, [], ◌∷◌, ◌++◌, length, Option, Some, None, Result, Ok, Err, refl, sym, ◌∙◌, ap, subst, append_assoc, length-append, inl, inr, ◌⊎◌, arith}
+use Rattle.std.proofs.Common.{◌≡◌, ℕ, suc, ◌<◌, ◌≤◌, Bool, true, false, cond, List, [], ◌∷◌, ◌++◌, length, Option, Some, None, Ok, Err, refl, sym, ◌∙◌, ap, subst, append_assoc, length-append, inl, inr, ◌⊎◌, arith}
 use Rattle.std.specs.Prelude.{bytes_eq}
 use Rattle.ax_grammar.specs.Keywords.{keyword_text}
-use Rattle.ax_grammar.specs.Reading.{Texts, Read, ◌>>=◌, one_of, one_at, expect_at, takes_at, list_step, list_at, braced_at}
+use Rattle.ax_grammar.specs.Reading.{Texts, Read, ◌>>=◌, one_of, one_at, expect_at}
 use Rattle.ax_grammar.specs.declared.keyword.Keyword.{Keyword}
-use Rattle.ax_grammar.specs.declared.keyword.Keyword.TheVariants as Word
-use Rattle.ax_grammar.proofs.Recursion.{Shrinks, reads}
-use Rattle.ax_grammar.proofs.Lists.{list_is}
+use Rattle.ax_grammar.proofs.Recursion.{reads}
 
 -- p reads what stands behind a first text: what it read, or the text at which it stopped, hangs on no later text
 abbrev pub Behind : {A : Type 0} → (Texts → Read A) → Texts → Read A → Type 0
@@ -69,13 +67,17 @@ map_local k g p l = record { empty = ap (λ r. r >>= λ x. Ok (g x.0, x.1)) l.em
 -- a front, and then what the second reader does
 second_behind : {A B : Type 0} (p : Texts → Read A) (q : A → Texts → Read B) (rest front : Texts) (a : A) (text : List ℕ) (after : Texts) (r : Read B) → rest ≡ front ++ text ∷ after → ((more : Texts) → p (front ++ more) ≡ Ok (a, more))
     → Behind (λ more. q a (text ∷ more)) after r → Behind (λ more. p more >>= λ x. q x.0 x.1) rest r
-second_behind p q rest front a text after (Ok x) e h (f, e', h') =
-    (front ++ text ∷ f, e ∙ ap (λ t. front ++ text ∷ t) e' ∙ sym (append_assoc front (text ∷ f) x.1),
-     λ more. ap (λ t. p t >>= λ x. q x.0 x.1) (append_assoc front (text ∷ f) more) ∙ ap (λ r. r >>= λ x. q x.0 x.1) (h (text ∷ (f ++ more))) ∙ h' more)
+second_behind p q rest front a text after (Ok x) e h (f, e', h') = (
+  front ++ text ∷ f,
+  e ∙ ap (λ t. front ++ text ∷ t) e' ∙ sym (append_assoc front (text ∷ f) x.1),
+  λ more. ap (λ t. p t >>= λ x. q x.0 x.1) (append_assoc front (text ∷ f) more) ∙ ap (λ r. r >>= λ x. q x.0 x.1) (h (text ∷ (f ++ more))) ∙ h' more,
+)
 second_behind p q rest front a text after (Err []) e h b = tt
-second_behind p q rest front a text after (Err (bad ∷ last)) e h (f, e', h') =
-    (front ++ text ∷ f, e ∙ ap (λ t. front ++ text ∷ t) e' ∙ sym (append_assoc front (text ∷ f) (bad ∷ last)),
-     λ more. ap (λ t. p t >>= λ x. q x.0 x.1) (append_assoc front (text ∷ f) (bad ∷ more)) ∙ ap (λ r. r >>= λ x. q x.0 x.1) (h (text ∷ (f ++ bad ∷ more))) ∙ h' more)
+second_behind p q rest front a text after (Err (bad ∷ last)) e h (f, e', h') = (
+  front ++ text ∷ f,
+  e ∙ ap (λ t. front ++ text ∷ t) e' ∙ sym (append_assoc front (text ∷ f) (bad ∷ last)),
+  λ more. ap (λ t. p t >>= λ x. q x.0 x.1) (append_assoc front (text ∷ f) (bad ∷ more)) ∙ ap (λ r. r >>= λ x. q x.0 x.1) (h (text ∷ (f ++ bad ∷ more))) ∙ h' more,
+)
 
 -- the second reader stops at its first text
 second_refuses : {A B : Type 0} (p : Texts → Read A) (q : A → Texts → Read B) (rest front : Texts) (a : A) (text : List ℕ) (after : Texts) → rest ≡ front ++ text ∷ after → ((more : Texts) → p (front ++ more) ≡ Ok (a, more))

@@ -1,20 +1,16 @@
 -- No rule's answer hangs on a text behind the one at which it stops.
-use Rattle.std.proofs.Common.{◌≡◌, ℕ, zero, suc, ◌+◌, ◌<◌, ◌≤◌, Bool, true, false, cond, List, [], ◌∷◌, ◌++◌, length, Option, Some, None, Result, Ok, Err, refl, sym, ◌∙◌, ap, subst, inl, inr, ◌⊎◌, arith}
+use Rattle.std.proofs.Common.{◌≡◌, ℕ, zero, suc, ◌<◌, Bool, true, false, cond, List, [], ◌∷◌, length, Option, Some, None, Ok, Err, refl, sym, ◌∙◌, ap, subst, inl, inr, arith}
 use Rattle.std.specs.Prelude.{bytes_eq}
 use Rattle.ax_model.specs.Specification.{ItemTree, SpecTree}
-use Rattle.ax_model.specs.Tree.{FixedTree, element, group, MemberTree, named, spare, MembersTree, members_of, KindTree, fixed, extended, counted, by_fx, explicit, compound, SlotTree, spare_slot, subitem, slots_of}
-use Rattle.ax_model.specs.declared.content.Content.{Content}
+use Rattle.ax_model.specs.Tree.{element, group, MemberTree, named, spare, members_of, KindTree, fixed, extended, counted, by_fx, explicit, compound, SlotTree, spare_slot, subitem, slots_of}
 use Rattle.ax_model.specs.declared.content.Content.TheVariants as Meaning
-use Rattle.ax_model.specs.declared.content.Scale.{Scale}
 use Rattle.ax_model.specs.declared.content.Sign.{Sign}
-use Rattle.ax_model.specs.declared.content.Sign.TheVariants as Sign
-use Rattle.ax_model.specs.declared.content.TableText.{TableText}
 use Rattle.ax_model.specs.declared.spec.UapSlot.{UapSlot}
 use Rattle.ax_model.specs.declared.spec.UapSlot.TheVariants as Uap
 use Rattle.ax_grammar.specs.Keywords.{keyword_text, keyword_of}
 use Rattle.ax_grammar.specs.Tests.{name_of, number_of, category_of, text_of}
-use Rattle.ax_grammar.specs.Reading.{Texts, Read, ◌>>=◌, one_of, one_at, expect_at, takes_at, list_step, list_at, braced_at}
-use Rattle.ax_grammar.specs.Rules.{keyword_at, name_at, category_at, width_at, number_at, text_at, sign_behind, sign_at, entry_at, scale_at, content_behind, content_at, fixed_behind, member_step, fixed_step, fixed_at, member_at, part_at, kind_behind, kind_step, kind_at, slot_step, slot_at, item_at, uap_slot_at, spec_at, end_at, whole_at}
+use Rattle.ax_grammar.specs.Reading.{Texts, Read, ◌>>=◌, one_of, expect_at, list_at, braced_at}
+use Rattle.ax_grammar.specs.Rules.{name_at, category_at, width_at, number_at, text_at, sign_behind, sign_at, entry_at, scale_at, content_behind, content_at, fixed_behind, member_step, fixed_step, fixed_at, member_at, part_at, kind_behind, kind_step, kind_at, slot_step, slot_at, item_at, uap_slot_at, spec_at}
 use Rattle.ax_grammar.specs.declared.keyword.Keyword.{Keyword}
 use Rattle.ax_grammar.specs.declared.keyword.Keyword.TheVariants as Word
 use Rattle.ax_grammar.proofs.Recursion.{Shrinks, reads}
@@ -41,7 +37,7 @@ list_local p s (suc k) l = record {
   empty = list_is p s [];
   at = λ text rest lt.
       list_choice p s (bytes_eq (keyword_text Word.Close) text) text rest refl
-          ((then_local k p (λ a texts. list_at p texts >>= λ xs. Ok (a ∷ xs.0, xs.1)) l (λ a. map_local k (λ xs. a ∷ xs) (list_at p) (list_local p s k (fewer_local (suc k) k p (omega arith) l)))).at text rest lt);
+      ((then_local k p (λ a texts. list_at p texts >>= λ xs. Ok (a ∷ xs.0, xs.1)) l (λ a. map_local k (λ xs. a ∷ xs) (list_at p) (list_local p s k (fewer_local (suc k) k p (omega arith) l)))).at text rest lt);
 }
 
 braced_local : {A : Type 0} (p : Texts → Read A) → Shrinks p → (k : ℕ) → IsLocal k p → IsLocal (suc k) (braced_at p)
@@ -119,7 +115,7 @@ unfolding member_at
 fixed_case k l None text rest lt e = inr e
 fixed_case k l (Some Word.Element) text rest lt e =
     after_local k fixed_at _ text rest (every (λ texts. width_at texts >>= λ w. content_at w.1 >>= λ c. reads (element w.0 c.0) c.1)
-        (λ j. then_local j width_at (λ w texts. content_at texts >>= λ c. reads (element w c.0) c.1) (one_local (suc j) (number_of 9)) (λ w. map_local j (element w) content_at (every content_at content_local j))) k) lt e
+    (λ j. then_local j width_at (λ w texts. content_at texts >>= λ c. reads (element w c.0) c.1) (one_local (suc j) (number_of 9)) (λ w. map_local j (element w) content_at (every content_at content_local j))) k) lt e
 fixed_case k l (Some Word.Group) text rest lt e =
     after_local k fixed_at _ text rest (map_local k (λ ms. group (members_of ms)) (braced_at member_at) (fewer_local (suc (suc k)) k (braced_at member_at) (omega arith) (braced_local member_at member_shrinks (suc k) (member_local k l)))) lt e
 fixed_case k l (Some word) text rest lt e = inr e

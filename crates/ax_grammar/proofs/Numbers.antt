@@ -1,8 +1,8 @@
 -- Numbers and categories, and the digits that stand for them.
-use Rattle.std.proofs.Common.{◌≡◌, ℕ, zero, suc, ◌+◌, ◌-◌, ◌*◌, ◌/◌, ◌%◌, ◌^◌, ◌<◌, ◌≤◌, Bool, true, false, not, ◌&&◌, cond, List, [], ◌∷◌, ◌++◌, length, eqb, Option, Some, None, refl, sym, ◌∙◌, ap, subst, arith, rules, get_or, inl, inr, ◌⊎◌, lit<}
+use Rattle.std.proofs.Common.{◌≡◌, ℕ, zero, suc, ◌+◌, ◌/◌, ◌%◌, ◌^◌, ◌<◌, ◌≤◌, Bool, true, false, not, ◌&&◌, List, [], ◌∷◌, length, eqb, Some, None, refl, sym, ◌∙◌, ap, subst, arith, rules, get_or, inl, inr, ◌⊎◌, lit<}
 use Rattle.std.specs.Prelude.{bytes_eq, decimal, nat_le, nat_lt, ◌==◌}
 use Rattle.std.specs.List.{list_all}
-use Rattle.std.proofs.lemmas.Bool.{and_parts, and_from, leb-true, le-leb, eqb-true, eqb-false, eq-eqb, ne_eqb, cond-true, not-true, not_from_false, ltb-true, lt-ltb, both_ways}
+use Rattle.std.proofs.lemmas.Bool.{and_parts, and_from, leb-true, le-leb, eqb-true, eqb-false, ne_eqb, cond-true, not-true, not_from_false, ltb-true, lt-ltb, both_ways}
 use Rattle.std.proofs.lemmas.Option.{cond_some}
 use Rattle.std.proofs.lemmas.Fmt.{digits_decimal, digits_value-decimal, decimal-digits_value, length-decimal-le, decimal_nonempty, first_decimal, decimal_digit}
 use Rattle.std.proofs.lemmas.Str.Parse.{IsNumeralModel, numerals_by_fold, digits_value_short}
@@ -11,10 +11,10 @@ use Rattle.ax_model.specs.Characters.{IsName, is_name_octet}
 use Rattle.ax_grammar.specs.Spelling.{three_digits}
 use Rattle.ax_grammar.specs.Tests.{is_digit, number_behind, has_leading_zero, number_of, category_of}
 
-abbrev AreDigits : List ℕ → Type 0
+abbrev pub AreDigits : List ℕ → Type 0
 AreDigits digits = list_all is_digit digits ≡ true
 
-model : IsNumeralModel AreDigits (number_behind 0)
+pub model : IsNumeralModel AreDigits (number_behind 0)
 model = numerals_by_fold AreDigits (search rules) number_behind (search rules)
 
 -- one of more digits has no leading zero where it is 0 alone
@@ -45,8 +45,8 @@ unfolding number_of
 number_some most n pos le h =
     let small = few most n le h in
     cond-true (number_test most (decimal n)) (Some (number_behind 0 (decimal n))) None
-        (and_from _ _ (and_from _ _ (and_from _ _ (le-leb 1 (length (decimal n)) (decimal_nonempty n small)) (le-leb (length (decimal n)) most (length-decimal-le most n pos h small))) (digits_decimal model n small))
-            (not_from_false _ (no_zero (decimal n) (decimal_shape n small))))
+    (and_from _ _ (and_from _ _ (and_from _ _ (le-leb 1 (length (decimal n)) (decimal_nonempty n small)) (le-leb (length (decimal n)) most (length-decimal-le most n pos h small))) (digits_decimal model n small))
+    (not_from_false _ (no_zero (decimal n) (decimal_shape n small))))
     ∙ ap (λ v. Some v) (digits_value-decimal model n small)
 
 pub number_found : (most n : ℕ) (text : List ℕ) → most ≤ 18 → number_of most text ≡ Some n → (n < 10 ^ most) × (text ≡ decimal n)
@@ -66,7 +66,7 @@ number_found most n text le e =
 abbrev category_test : List ℕ → Bool
 category_test text = (length text == 3) && list_all is_digit text && nat_lt (number_behind 0 text) 256
 
-digit : (n : ℕ) → n < 10 → is_digit (48 + n) ≡ true
+pub digit : (n : ℕ) → n < 10 → is_digit (48 + n) ≡ true
 digit n h = and_from _ _ (le-leb 48 (48 + n) (omega arith)) (le-leb (48 + n) 57 (omega arith))
 
 digit_range : (x : ℕ) → is_digit x ≡ true → (48 ≤ x) × (x ≤ 57)
@@ -77,7 +77,7 @@ unfolding category_of
 category_some n h =
     let value : number_behind 0 (three_digits n) ≡ n = omega arith in
     cond-true (category_test (three_digits n)) (Some (number_behind 0 (three_digits n))) None
-        (and_from _ _ (and_from _ _ refl (and_from _ _ (digit (n / 100) (omega arith)) (and_from _ _ (digit (n / 10 % 10) (omega arith)) (and_from _ _ (digit (n % 10) (omega arith)) refl)))) (lt-ltb _ 256 (omega (arith, value, h))))
+    (and_from _ _ (and_from _ _ refl (and_from _ _ (digit (n / 100) (omega arith)) (and_from _ _ (digit (n / 10 % 10) (omega arith)) (and_from _ _ (digit (n % 10) (omega arith)) refl)))) (lt-ltb _ 256 (omega (arith, value, h))))
     ∙ ap (λ v. Some v) value
 
 digits_are : (text : List ℕ) → length text ≡ 3 → list_all is_digit text ≡ true → text ≡ three_digits (number_behind 0 text)

@@ -1,5 +1,5 @@
 -- A reader that calls itself is a fixed point of its step, where each call of itself stands behind a text more.
-use Rattle.std.proofs.Common.{◌≡◌, ℕ, zero, suc, ◌+◌, ◌<◌, ◌≤◌, Bool, true, false, cond, List, [], ◌∷◌, length, Result, Ok, Err, refl, sym, ◌∙◌, ap, arith}
+use Rattle.std.proofs.Common.{◌≡◌, ℕ, zero, suc, ◌<◌, ◌≤◌, Bool, true, false, cond, length, Result, Ok, Err, refl, ◌∙◌, ap, arith}
 use Rattle.ax_grammar.specs.Reading.{Texts, Read, ◌>>=◌, within, recursive}
 
 -- two readers give the same for fewer than k texts

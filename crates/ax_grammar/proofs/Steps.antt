@@ -1,11 +1,10 @@
 -- One step of a reader over texts.
-use Rattle.std.proofs.Common.{◌≡◌, ℕ, zero, suc, ◌+◌, List, [], ◌∷◌, drop, Option, Some, None, Ok, Err, Bool, true, false, cond, refl, sym, ◌∙◌, ap, subst, arith}
+use Rattle.std.proofs.Common.{◌≡◌, ℕ, zero, suc, List, [], ◌∷◌, drop, Option, Some, None, Ok, Err, true, false, cond, refl, sym, ◌∙◌, ap, subst}
 use Rattle.std.specs.Prelude.{slice_get, bytes_eq}
-use Rattle.std.proofs.lemmas.List.{drop-drop}
 use Rattle.ax_tokens.specs.PlainToken.{PlainToken}
 use Rattle.ax_grammar.specs.Answers.{texts_of}
 use Rattle.ax_grammar.specs.Keywords.{keyword_text}
-use Rattle.ax_grammar.specs.Reading.{Texts, Read, one_of, one_at, expect_at, takes_at}
+use Rattle.ax_grammar.specs.Reading.{Texts, one_of, one_at, expect_at, takes_at}
 use Rattle.ax_grammar.specs.declared.keyword.Keyword.{Keyword}
 
 -- the text of a token is the first of those from it on

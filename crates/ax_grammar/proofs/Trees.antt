@@ -1,13 +1,13 @@
 -- The plain trees of the code's variants.
 use Rattle.std.proofs.Common.{◌≡◌, ℕ, List, map, Box, Global, sym, ap, ◌∙◌}
 use Rattle.ax_model.specs.Plain.{fixed_step, member_step, fixed_tree, member_tree, part_tree, kind_step, slot_step, kind_tree, slot_tree}
-use Rattle.ax_model.specs.Tree.{FixedTree, element, group, MemberTree, named, spare, members_of, KindTree, fixed, extended, counted, by_fx, explicit, compound, SlotTree, spare_slot, subitem, slots_of}
+use Rattle.ax_model.specs.Tree.{FixedTree, element, group, MemberTree, members_of, KindTree, fixed, extended, counted, by_fx, explicit, compound, SlotTree, slots_of}
 use Rattle.ax_model.specs.declared.content.Content.{Content}
-use Rattle.ax_model.specs.declared.kind.Fixed.{Fixed, fold-Fixed, fold-roll-Fixed}
-use Rattle.ax_model.specs.declared.kind.Fixed.TheOpen.{Fixed-F, Member-F}
+use Rattle.ax_model.specs.declared.kind.Fixed.{Fixed, fold-roll-Fixed}
+use Rattle.ax_model.specs.declared.kind.Fixed.TheOpen.{Fixed-F}
 use Rattle.ax_model.specs.declared.kind.Fixed.TheVariants.{Element, Group, rolls-Element, rolls-Group}
-use Rattle.ax_model.specs.declared.kind.Kind.{Kind, fold-Kind, fold-roll-Kind}
-use Rattle.ax_model.specs.declared.kind.Kind.TheOpen.{Kind-F, Slot-F}
+use Rattle.ax_model.specs.declared.kind.Kind.{Kind, fold-roll-Kind}
+use Rattle.ax_model.specs.declared.kind.Kind.TheOpen.{Kind-F}
 use Rattle.ax_model.specs.declared.kind.Kind.TheVariants.{Extended, Counted, ByFx, Explicit, Compound, rolls-Fixed, rolls-Extended, rolls-Counted, rolls-ByFx, rolls-Explicit, rolls-Compound}
 use Rattle.ax_model.specs.declared.kind.Kind.TheVariants as KindOf
 use Rattle.ax_model.specs.declared.kind.Member.{Member}

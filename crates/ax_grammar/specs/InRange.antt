@@ -22,9 +22,11 @@ IsWidth width = width < 10 ^ 9
 abbrev pub IsNumber : ℕ → Type 0
 IsNumber number = number < 10 ^ 18
 
+-- an entry of a table
 abbrev pub EntryInRange : TableText → Type 0
 EntryInRange entry = IsNumber entry.number × IsText entry.text
 
+-- the numbers and texts of a content
 abbrev pub ContentInRange : Content → Type 0
 ContentInRange Raw = Unit {0}
 ContentInRange (Table entries) = AllByRecursion EntryInRange entries
@@ -35,19 +37,23 @@ ContentInRange (Integer sign) = Unit {0}
 ContentInRange (Quantity scale) = IsNumber scale.num × IsNumber scale.den × IsText scale.unit
 
 abbrev mutual
+  -- a fixed kind
   pub FixedInRange : FixedTree → Type 0
   FixedInRange (element width content) = IsWidth width × ContentInRange content
   FixedInRange (group members) = MembersInRange members
 
+  -- a member
   pub MemberInRange : MemberTree → Type 0
   MemberInRange (named name kind) = IsName name × FixedInRange kind
   MemberInRange (spare width) = IsWidth width
 
+  -- each member
   pub MembersInRange : MembersTree → Type 0
   MembersInRange no_members = Unit {0}
   MembersInRange (member_and member members) = MemberInRange member × MembersInRange members
 
 abbrev mutual
+  -- a kind
   pub KindInRange : KindTree → Type 0
   KindInRange (fixed kind) = FixedInRange kind
   KindInRange (extended parts) = AllByRecursion MembersInRange parts
@@ -56,17 +62,21 @@ abbrev mutual
   KindInRange explicit = Unit {0}
   KindInRange (compound slots) = SlotsInRange slots
 
+  -- a slot of a compound
   pub SlotInRange : SlotTree → Type 0
   SlotInRange spare_slot = Unit {0}
   SlotInRange (subitem name kind) = IsName name × KindInRange kind
 
+  -- each slot
   pub SlotsInRange : SlotsTree → Type 0
   SlotsInRange no_slots = Unit {0}
   SlotsInRange (slot_and slot slots) = SlotInRange slot × SlotsInRange slots
 
+-- an item
 abbrev pub ItemInRange : ItemTree → Type 0
 ItemInRange item = IsName item.name × IsText item.title × KindInRange item.kind
 
+-- a slot of the UAP
 abbrev pub UapSlotInRange : UapSlot → Type 0
 UapSlotInRange Uap.Spare = Unit {0}
 UapSlotInRange (Uap.Item name) = IsName name
@@ -80,6 +90,7 @@ pub record InRange (spec : SpecTree) : Type 0 where
 
 -- ---- numbers alone: names and texts are in range by their types
 
+-- the numbers of a content
 abbrev pub NumbersFit : Content → Type 0
 NumbersFit Raw = Unit {0}
 NumbersFit (Table entries) = AllByRecursion (λ entry. IsNumber entry.number) entries
@@ -90,19 +101,23 @@ NumbersFit (Integer sign) = Unit {0}
 NumbersFit (Quantity scale) = IsNumber scale.num × IsNumber scale.den
 
 abbrev mutual
+  -- the widths and numbers of a fixed kind
   pub FixedNumbersFit : FixedTree → Type 0
   FixedNumbersFit (element width content) = IsWidth width × NumbersFit content
   FixedNumbersFit (group members) = MembersNumbersFit members
 
+  -- those of a member
   pub MemberNumbersFit : MemberTree → Type 0
   MemberNumbersFit (named name kind) = FixedNumbersFit kind
   MemberNumbersFit (spare width) = IsWidth width
 
+  -- those of each member
   pub MembersNumbersFit : MembersTree → Type 0
   MembersNumbersFit no_members = Unit {0}
   MembersNumbersFit (member_and member members) = MemberNumbersFit member × MembersNumbersFit members
 
 abbrev mutual
+  -- those of a kind
   pub KindNumbersFit : KindTree → Type 0
   KindNumbersFit (fixed kind) = FixedNumbersFit kind
   KindNumbersFit (extended parts) = AllByRecursion MembersNumbersFit parts
@@ -111,10 +126,12 @@ abbrev mutual
   KindNumbersFit explicit = Unit {0}
   KindNumbersFit (compound slots) = SlotsNumbersFit slots
 
+  -- those of a slot
   pub SlotNumbersFit : SlotTree → Type 0
   SlotNumbersFit spare_slot = Unit {0}
   SlotNumbersFit (subitem name kind) = KindNumbersFit kind
 
+  -- those of each slot
   pub SlotsNumbersFit : SlotsTree → Type 0
   SlotsNumbersFit no_slots = Unit {0}
   SlotsNumbersFit (slot_and slot slots) = SlotNumbersFit slot × SlotsNumbersFit slots

@@ -5,19 +5,23 @@ use Rattle.ax_grammar.specs.Keywords.{keyword_text}
 use Rattle.ax_grammar.specs.declared.keyword.Keyword.{Keyword}
 use Rattle.ax_grammar.specs.declared.keyword.Keyword.TheVariants as Word
 
+-- the texts that are left
 abbrev pub Texts : Type 0
 Texts = List (List ℕ)
 
+-- what was read and the texts behind it, or the texts from the bad one on
 abbrev pub Read : Type 0 → Type 0
 Read A = Result (A × Texts) Texts
 
 infixl 10 ◌>>=◌
+-- what follows a reader, where that did not stop
 abbrev pub ◌>>=◌ : {A B : Type 0} → Result A Texts → (A → Result B Texts) → Result B Texts
 (Ok x) >>= f = f x
 (Err rest) >>= f = Err rest
 
 -- ---- one text
 
+-- the text in front stands for that, or for nothing
 abbrev pub one_of : {A : Type 0} → Option A → List ℕ → Texts → Read A
 one_of None text rest = Err (text ∷ rest)
 one_of (Some a) text rest = Ok (a, rest)
@@ -50,6 +54,7 @@ recursive step texts = within step (suc (length texts)) texts
 
 -- ---- lists
 
+-- one element, and then the others
 abbrev pub list_step : {A : Type 0} → (Texts → Read A) → (Texts → Read (List A)) → Texts → Read (List A)
 list_step element others texts = do
   closes ← takes_at Word.Close texts

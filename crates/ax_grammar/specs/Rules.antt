@@ -1,59 +1,68 @@
 -- A reader for each rule of the grammar.
-use Rattle.std.specs.Prelude.{ℕ, Bool, true, false, if◌then◌else◌, List, [], ◌∷◌, Option, Some, None, Result, Ok, Err}
+use Rattle.std.specs.Prelude.{ℕ, if◌then◌else◌, List, [], ◌∷◌, Ok, Err}
 use Rattle.ax_model.specs.Specification.{ItemTree, SpecTree}
 use Rattle.ax_model.specs.Tree.{FixedTree, element, group, MemberTree, named, spare, MembersTree, members_of, KindTree, fixed, extended, counted, by_fx, explicit, compound, SlotTree, spare_slot, subitem, slots_of}
 use Rattle.ax_model.specs.declared.content.Content.{Content}
 use Rattle.ax_model.specs.declared.content.Content.TheVariants as Meaning
 use Rattle.ax_model.specs.declared.content.Scale.{Scale}
 use Rattle.ax_model.specs.declared.content.Sign.{Sign}
-use Rattle.ax_model.specs.declared.content.Sign.TheVariants as Sign
 use Rattle.ax_model.specs.declared.content.TableText.{TableText}
 use Rattle.ax_model.specs.declared.spec.UapSlot.{UapSlot}
 use Rattle.ax_model.specs.declared.spec.UapSlot.TheVariants as Uap
 use Rattle.ax_grammar.specs.Keywords.{keyword_of}
-use Rattle.ax_grammar.specs.Reading.{Texts, Read, ◌>>=◌, one_at, expect_at, takes_at, recursive, list_at, braced_at}
+use Rattle.ax_grammar.specs.Reading.{Texts, Read, ◌>>=◌, one_at, expect_at, takes_at, recursive, braced_at}
 use Rattle.ax_grammar.specs.Tests.{name_of, number_of, category_of, text_of}
 use Rattle.ax_grammar.specs.declared.keyword.Keyword.{Keyword}
 use Rattle.ax_grammar.specs.declared.keyword.Keyword.TheVariants as Word
 
 -- ---- single tokens
 
+-- the keyword that a text is
 abbrev pub keyword_at : Texts → Read Keyword
 keyword_at texts = one_at keyword_of texts
 
+-- a name
 abbrev pub name_at : Texts → Read (List ℕ)
 name_at texts = one_at name_of texts
 
+-- a category
 abbrev pub category_at : Texts → Read ℕ
 category_at texts = one_at category_of texts
 
+-- a width
 abbrev pub width_at : Texts → Read ℕ
 width_at texts = one_at (number_of 9) texts
 
+-- a number of a scale or a table
 abbrev pub number_at : Texts → Read ℕ
 number_at texts = one_at (number_of 18) texts
 
+-- a text in quotes
 abbrev pub text_at : Texts → Read (List ℕ)
 text_at texts = one_at text_of texts
 
 -- ---- contents
 
+-- what a sign's keyword says; texts begin with it
 abbrev pub sign_behind : Keyword → Texts → Texts → Read Sign
 sign_behind Word.Unsigned texts rest = Ok (Sign.Unsigned, rest)
 sign_behind Word.Signed texts rest = Ok (Sign.Signed, rest)
 sign_behind word texts rest = Err texts
 
+-- a sign
 unfoldable pub sign_at : Texts → Read Sign
 sign_at texts = do
   word ← keyword_at texts
   sign_behind word.0 texts word.1
 
+-- a number and its text
 unfoldable pub entry_at : Texts → Read TableText
 entry_at texts = do
   number ← number_at texts
   text ← text_at number.1
   Ok (record { number = number.0; text = text.0 }, text.1)
 
+-- a sign, a numerator, a denominator and a unit
 unfoldable pub scale_at : Texts → Read Scale
 scale_at texts = do
   sign ← sign_at texts
@@ -62,6 +71,7 @@ scale_at texts = do
   unit ← text_at den.1
   Ok (record { sign = sign.0; num = num.0; den = den.0; unit = unit.0 }, unit.1)
 
+-- what follows a content's keyword; texts begin with it
 abbrev pub content_behind : Keyword → Texts → Texts → Read Content
 content_behind Word.Raw texts rest = Ok (Meaning.Raw, rest)
 content_behind Word.Table texts rest = do
@@ -78,6 +88,7 @@ content_behind Word.Quantity texts rest = do
   Ok (Meaning.Quantity scale.0, scale.1)
 content_behind word texts rest = Err texts
 
+-- a content
 unfoldable pub content_at : Texts → Read Content
 content_at texts = do
   word ← keyword_at texts
@@ -85,16 +96,18 @@ content_at texts = do
 
 -- ---- fixed kinds
 
+-- a member, where kinds reads fixed kinds
 unfoldable pub member_step : (Texts → Read FixedTree) → Texts → Read MemberTree
 member_step kinds texts = do
   spares ← takes_at Word.Spare texts
   if spares.0 then (do
     width ← width_at spares.1
     Ok (spare width.0, width.1)) else (do
-    name ← name_at spares.1
-    kind ← kinds name.1
-    Ok (named name.0 kind.0, kind.1))
+      name ← name_at spares.1
+      kind ← kinds name.1
+      Ok (named name.0 kind.0, kind.1))
 
+-- what follows a fixed kind's keyword; texts begin with it
 abbrev pub fixed_behind : (Texts → Read FixedTree) → Keyword → Texts → Texts → Read FixedTree
 fixed_behind kinds Word.Element texts rest = do
   width ← width_at rest
@@ -105,25 +118,30 @@ fixed_behind kinds Word.Group texts rest = do
   Ok (group (members_of members.0), members.1)
 fixed_behind kinds word texts rest = Err texts
 
+-- a fixed kind, where kinds reads those inside
 unfoldable pub fixed_step : (Texts → Read FixedTree) → Texts → Read FixedTree
 fixed_step kinds texts = do
   word ← keyword_at texts
   fixed_behind kinds word.0 texts word.1
 
+-- a fixed kind
 unfoldable pub fixed_at : Texts → Read FixedTree
 fixed_at = recursive fixed_step
 
+-- a member
 unfoldable pub member_at : Texts → Read MemberTree
 member_at = member_step fixed_at
 
 -- ---- kinds
 
+-- a part of an extended kind
 unfoldable pub part_at : Texts → Read MembersTree
 part_at texts = do
   word ← expect_at Word.Part texts
   members ← braced_at member_at word.1
   Ok (members_of members.0, members.1)
 
+-- a slot of a compound, where kinds reads kinds
 unfoldable pub slot_step : (Texts → Read KindTree) → Texts → Read SlotTree
 slot_step kinds texts = do
   spares ← takes_at Word.Dash texts
@@ -132,6 +150,7 @@ slot_step kinds texts = do
     kind ← kinds name.1
     Ok (subitem name.0 kind.0, kind.1))
 
+-- what follows a kind's keyword; texts begin with it
 abbrev pub kind_behind : (Texts → Read KindTree) → Keyword → Texts → Texts → Read KindTree
 kind_behind kinds Word.Extended texts rest = do
   parts ← braced_at part_at rest
@@ -152,19 +171,23 @@ kind_behind kinds word texts rest = do
   kind ← fixed_at texts
   Ok (fixed kind.0, kind.1)
 
+-- a kind, where kinds reads those inside
 unfoldable pub kind_step : (Texts → Read KindTree) → Texts → Read KindTree
 kind_step kinds texts = do
   word ← keyword_at texts
   kind_behind kinds word.0 texts word.1
 
+-- a kind
 unfoldable pub kind_at : Texts → Read KindTree
 kind_at = recursive kind_step
 
+-- a slot of a compound
 unfoldable pub slot_at : Texts → Read SlotTree
 slot_at = slot_step kind_at
 
 -- ---- specifications
 
+-- an item
 unfoldable pub item_at : Texts → Read ItemTree
 item_at texts = do
   word ← expect_at Word.Item texts
@@ -173,6 +196,7 @@ item_at texts = do
   kind ← kind_at title.1
   Ok (record { name = name.0; title = title.0; kind = kind.0 }, kind.1)
 
+-- a slot of the UAP
 unfoldable pub uap_slot_at : Texts → Read UapSlot
 uap_slot_at texts = do
   spares ← takes_at Word.Dash texts
@@ -180,6 +204,7 @@ uap_slot_at texts = do
     name ← name_at spares.1
     Ok (Uap.Item name.0, name.1))
 
+-- a specification; texts may follow it
 unfoldable pub spec_at : Texts → Read SpecTree
 spec_at texts = do
   word ← expect_at Word.Category texts

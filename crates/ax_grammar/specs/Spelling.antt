@@ -25,6 +25,7 @@ three_digits n = (48 + n / 100) ∷ (48 + n / 10 % 10) ∷ (48 + n % 10) ∷ []
 abbrev pub quoted : List ℕ → List ℕ
 quoted text = quote ∷ (text ++ quote ∷ [])
 
+-- the keyword of a sign
 abbrev pub sign_text : Sign → List ℕ
 sign_text Unsigned = keyword_text Word.Unsigned
 sign_text Signed = keyword_text Word.Signed
@@ -39,9 +40,11 @@ block word texts = keyword_text word ∷ keyword_text Word.Open ∷ closed texts
 
 -- ---- contents
 
+-- a number of a table and its text
 abbrev pub entry_texts : TableText → List (List ℕ)
 entry_texts entry = decimal entry.number ∷ quoted entry.text ∷ []
 
+-- a content, behind the width of its element
 abbrev pub content_texts : Content → List (List ℕ)
 content_texts Meaning.Raw = keyword_text Word.Raw ∷ []
 content_texts (Meaning.Table entries) = block Word.Table (flat_map entry_texts entries)
@@ -55,24 +58,29 @@ content_texts (Meaning.Quantity scale) =
 -- ---- fixed kinds
 
 abbrev mutual
+  -- an element, or a group of members
   pub fixed_texts : FixedTree → List (List ℕ)
   fixed_texts (element width content) = keyword_text Word.Element ∷ decimal width ∷ content_texts content
   fixed_texts (group members) = block Word.Group (members_texts members)
 
+  -- a named member, or a spare of a width
   pub member_texts : MemberTree → List (List ℕ)
   member_texts (named name kind) = name ∷ fixed_texts kind
   member_texts (spare width) = keyword_text Word.Spare ∷ decimal width ∷ []
 
+  -- members one behind another
   pub members_texts : MembersTree → List (List ℕ)
   members_texts no_members = []
   members_texts (member_and member members) = member_texts member ++ members_texts members
 
+-- a part of an extended kind
 abbrev pub part_texts : MembersTree → List (List ℕ)
 part_texts members = block Word.Part (members_texts members)
 
 -- ---- kinds
 
 abbrev mutual
+  -- a kind; a fixed one stands for itself
   pub kind_texts : KindTree → List (List ℕ)
   kind_texts (fixed kind) = fixed_texts kind
   kind_texts (extended parts) = block Word.Extended (flat_map part_texts parts)
@@ -81,19 +89,23 @@ abbrev mutual
   kind_texts explicit = keyword_text Word.Explicit ∷ []
   kind_texts (compound slots) = block Word.Compound (slots_texts slots)
 
+  -- a slot of a compound; a spare one is a dash
   pub slot_texts : SlotTree → List (List ℕ)
   slot_texts spare_slot = keyword_text Word.Dash ∷ []
   slot_texts (subitem name kind) = name ∷ kind_texts kind
 
+  -- slots one behind another
   pub slots_texts : SlotsTree → List (List ℕ)
   slots_texts no_slots = []
   slots_texts (slot_and slot slots) = slot_texts slot ++ slots_texts slots
 
 -- ---- specifications
 
+-- an item
 abbrev pub item_texts : ItemTree → List (List ℕ)
 item_texts item = keyword_text Word.Item ∷ item.name ∷ quoted item.title ∷ kind_texts item.kind
 
+-- a slot of the user application profile (UAP); a spare one is a dash
 abbrev pub uap_slot_texts : UapSlot → List (List ℕ)
 uap_slot_texts Uap.Spare = keyword_text Word.Dash ∷ []
 uap_slot_texts (Uap.Item name) = name ∷ []

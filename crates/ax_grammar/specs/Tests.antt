@@ -1,10 +1,8 @@
 -- Single tokens: what a text stands for, or None.
-use Rattle.std.specs.Prelude.{ℕ, suc, ◌+◌, ◌-◌, ◌*◌, Bool, true, false, not, ◌&&◌, ◌||◌, ◌==◌, nat_le, nat_lt, if◌then◌else◌, List, [], ◌∷◌, length, Option, Some, None}
+use Rattle.std.specs.Prelude.{ℕ, ◌+◌, ◌-◌, ◌*◌, Bool, false, not, ◌&&◌, ◌==◌, nat_le, nat_lt, if◌then◌else◌, List, [], ◌∷◌, length, Option, Some, None}
 use Rattle.std.specs.List.{list_all}
 use Rattle.std.specs.Option.{option_map, option_and_then}
 use Rattle.ax_model.specs.Characters.{is_name_octet}
-use Rattle.ax_model.specs.declared.content.Sign.{Sign}
-use Rattle.ax_model.specs.declared.content.Sign.TheVariants.{Unsigned, Signed}
 use Rattle.ax_tokens.specs.Octets.{quote, is_string_octet}
 
 -- a name
@@ -12,6 +10,7 @@ unfoldable pub name_of : List ℕ → Option (List ℕ)
 name_of text =
     if nat_le 1 (length text) && nat_le (length text) 16 && list_all is_name_octet text then Some text else None
 
+-- an octet 0 to 9
 abbrev pub is_digit : ℕ → Bool
 is_digit octet = nat_le 48 octet && nat_le octet 57
 

@@ -10,8 +10,7 @@ use thiserror::Error;
 /// Why tokens spell no specification.
 #[derive(Debug, Drop, Error)]
 pub enum SyntaxError {
-    /// The token of that number, from 0, is the first through which no spelling begins; it is the count of the
-    /// tokens where all of them begin one.
+    /// No spelling begins with the tokens through the one of that number, from 0, or it is the count of the tokens.
     #[error("token {token} does not fit")]
     BadToken { token: u32 },
     /// No memory was left for the tree.

@@ -3,6 +3,7 @@
 
 mod error;
 mod keyword;
+pub mod laws;
 mod octets;
 mod printer;
 mod printing;
@@ -13,3 +14,6 @@ mod rules;
 pub use error::SyntaxError;
 pub use printing::print_spec;
 pub use reading::read_spec;
+
+#[cfg(test)]
+mod tests;

@@ -36,9 +36,10 @@ fn whole(alloc: Global, reader: &mut Reader<'_, '_>) -> Result<Spec, Stopped>
 
 /// The specification that the tokens spell, which has one spelling.
 ///
-/// A list of tokens spells at most one specification. Where it spells none, `BadToken` names the first token through
-/// which no spelling begins, or the count of the tokens where all of them begin one: a category that isn't three digits
-/// up to 255, a name or a number out of its form, a word of another rule, a missing brace, or a token behind the end.
+/// A list of tokens spells at most one specification. Where it spells none, `BadToken` names the token at which
+/// the reader stops, or the count of the tokens where they end too early: a category that isn't three digits up to 255, a
+/// name or a number out of its form, a word of another rule, a missing brace, or a token behind the end. No spelling
+/// begins with the tokens through that one.
 ///
 /// Each token is read once, from left to right, and the tree is all that takes memory. The calls nest as the tokens'
 /// braces do: the depth that the tokens were made with bounds the stack.

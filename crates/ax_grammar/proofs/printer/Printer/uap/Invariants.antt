@@ -1,4 +1,4 @@
-use Rattle.std.proofs.Common.{◌≡◌, ◌++◌, drop, map}
+use Rattle.std.proofs.Common.{◌≡◌, ◌++◌, drop}
 use Rattle.std.specs.List.{flat_map}
 use Rattle.ax_grammar.specs.Spelling.{uap_slot_texts}
 use Rattle.ax_grammar.specs.Printing.{behind}

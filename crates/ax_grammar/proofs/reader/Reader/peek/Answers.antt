@@ -1,4 +1,4 @@
-use Rattle.std.proofs.Common.{rules, sym, ◌∙◌, ap, length, length-drop, arith}
+use Rattle.std.proofs.Common.{rules, ap, length, length-drop, arith}
 use Rattle.std.proofs.lemmas.List.{length-map}
 use Rattle.ax_tokens.specs.PlainToken.{plain_token}
 use Rattle.ax_grammar.specs.Answers.{texts_of}

@@ -35,7 +35,7 @@ unfolding whole_at
 end_there text rest spec [] h after e = absurd (never spec [] after e)
 end_there text rest spec (bad ∷ last) (front, e', h) after e =
     subst (λ x. There (text ∷ rest) x) (stops_is (bad ∷ last) after e)
-        (text ∷ front, ap (λ t. text ∷ t) e', λ more. ap (λ r. r >>= λ s. end_at s.1 >>= λ x. reads s.0 x.1) (h (bad ∷ more)))
+    (text ∷ front, ap (λ t. text ∷ t) e', λ more. ap (λ r. r >>= λ s. end_at s.1 >>= λ x. reads s.0 x.1) (h (bad ∷ more)))
 
 behind_there : (text : List ℕ) (rest : Texts) (r : Read SpecTree) → Behind (λ more. spec_at (text ∷ more)) rest r → (after : Texts) → (r >>= λ s. end_at s.1 >>= λ x. reads s.0 x.1) ≡ stops after → There (text ∷ rest) after
 unfolding whole_at
@@ -43,14 +43,14 @@ behind_there text rest (Ok x) b after e = end_there text rest x.0 x.1 b after e
 behind_there text rest (Err []) b after e = subst (λ x. There (text ∷ rest) x) (stops_is [] after e) tt
 behind_there text rest (Err (bad ∷ last)) (front, e', h) after e =
     subst (λ x. There (text ∷ rest) x) (stops_is (bad ∷ last) after e)
-        (text ∷ front, ap (λ t. text ∷ t) e', λ more. ap (λ r. r >>= λ s. end_at s.1 >>= λ x. reads s.0 x.1) (h more))
+    (text ∷ front, ap (λ t. text ∷ t) e', λ more. ap (λ r. r >>= λ s. end_at s.1 >>= λ x. reads s.0 x.1) (h more))
 
 local_there : (text : List ℕ) (rest : Texts) → LocalAt spec_at text rest → (after : Texts) → whole_at (text ∷ rest) ≡ stops after → There (text ∷ rest) after
 unfolding whole_at
 local_there text rest (inl b) after e = behind_there text rest (spec_at (text ∷ rest)) b after e
 local_there text rest (inr h) after e =
     subst (λ x. There (text ∷ rest) x) (stops_is (text ∷ rest) after (sym (ap (λ r. r >>= λ s. end_at s.1 >>= λ x. reads s.0 x.1) (h rest)) ∙ e))
-        ([], refl, λ more. ap (λ r. r >>= λ s. end_at s.1 >>= λ x. reads s.0 x.1) (h more))
+    ([], refl, λ more. ap (λ r. r >>= λ s. end_at s.1 >>= λ x. reads s.0 x.1) (h more))
 
 there : (texts after : Texts) → whole_at texts ≡ stops after → There texts after
 unfolding whole_at

@@ -169,6 +169,7 @@ members_whole ms rest e = ap (λ r. r >>= λ i. Ok (group (members_of i.0), i.1)
 
 mutual
   unfolding member_at member_step
+
   pub fixed_read : (f : FixedTree) (rest : Texts) → FixedInRange f → fixed_at (fixed_texts f ++ rest) ≡ Ok (f, rest)
   fixed_read (element width content) rest h =
       let a = content_texts content ++ rest in
@@ -228,6 +229,7 @@ slots_whole ss rest e = ap (λ r. r >>= λ i. Ok (compound (slots_of i.0), i.1))
 
 mutual
   unfolding slot_at slot_step
+
   pub kind_read : (k : KindTree) (rest : Texts) → KindInRange k → kind_at (kind_texts k ++ rest) ≡ Ok (k, rest)
   kind_read (fixed f) rest h = fixed_kind_read f rest h
   kind_read (extended ps) rest h =
@@ -290,9 +292,12 @@ spec_read spec rest h =
     let front : spelled spec ++ rest ≡ keyword_text Word.Category ∷ three_digits spec.category ∷ b
     = ap (λ t. keyword_text Word.Category ∷ three_digits spec.category ∷ keyword_text Word.Edition ∷ quoted spec.edition ∷ t) (append_assoc (block Word.Items (flat_map item_texts spec.items)) (block Word.Uap (flat_map uap_slot_texts spec.uap)) rest) in
     ap spec_at front
-    ∙ rw (some_at category_of (three_digits spec.category) spec.category b (category_some spec.category h.category), text_read spec.edition c h.edition,
-        list_read item_at item_shrinks item_texts ItemInRange item_read item_goes spec.items behind h.items,
-        list_read uap_slot_at uap_slot_shrinks uap_slot_texts UapSlotInRange uap_slot_read uap_slot_goes spec.uap rest h.uap) refl
+    ∙ rw (
+      some_at category_of (three_digits spec.category) spec.category b (category_some spec.category h.category),
+      text_read spec.edition c h.edition,
+      list_read item_at item_shrinks item_texts ItemInRange item_read item_goes spec.items behind h.items,
+      list_read uap_slot_at uap_slot_shrinks uap_slot_texts UapSlotInRange uap_slot_read uap_slot_goes spec.uap rest h.uap,
+    ) refl
 
 pub whole_read : (spec : SpecTree) → InRange spec → whole_at (spelled spec) ≡ Ok (spec, [])
 unfolding whole_at

@@ -135,10 +135,10 @@ list_agrees zero p q s t h texts lt = absurd (omega arith)
 list_agrees (suc k) p q s t h texts lt =
     list_is p s texts
     ∙ same_behind (takes_at Word.Close texts) _ _ (λ c e. same_choice c.0 _ _ _ (λ _.
-        let le = (takes_keeps Word.Close texts c.0 c.1 e).0 in
-        same_behind (p c.1) _ _ (λ first e'. ap (λ r. r >>= λ rest. Ok (first.0 ∷ rest.0, rest.1))
-            (list_agrees k p q s t (λ x l. h x (omega arith)) first.1 (omega (arith, le, s c.1 first.0 first.1 e'))))
-        ∙ ap (λ r. r >>= λ first. list_at q first.1 >>= λ rest. Ok (first.0 ∷ rest.0, rest.1)) (h c.1 (omega (arith, le)))))
+    let le = (takes_keeps Word.Close texts c.0 c.1 e).0 in
+    same_behind (p c.1) _ _ (λ first e'. ap (λ r. r >>= λ rest. Ok (first.0 ∷ rest.0, rest.1))
+    (list_agrees k p q s t (λ x l. h x (omega arith)) first.1 (omega (arith, le, s c.1 first.0 first.1 e'))))
+    ∙ ap (λ r. r >>= λ first. list_at q first.1 >>= λ rest. Ok (first.0 ∷ rest.0, rest.1)) (h c.1 (omega (arith, le)))))
     ∙ sym (list_is q t texts)
 
 pub braced_agrees : {A : Type 0} (k : ℕ) (p q : Texts → Read A) → Shrinks p → Shrinks q → Agree k p q → Agree k (braced_at p) (braced_at q)

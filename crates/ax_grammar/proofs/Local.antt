@@ -69,13 +69,17 @@ map_local k g p l = record { empty = ap (λ r. r >>= λ x. Ok (g x.0, x.1)) l.em
 -- a front, and then what the second reader does
 second_behind : {A B : Type 0} (p : Texts → Read A) (q : A → Texts → Read B) (rest front : Texts) (a : A) (text : List ℕ) (after : Texts) (r : Read B) → rest ≡ front ++ text ∷ after → ((more : Texts) → p (front ++ more) ≡ Ok (a, more))
     → Behind (λ more. q a (text ∷ more)) after r → Behind (λ more. p more >>= λ x. q x.0 x.1) rest r
-second_behind p q rest front a text after (Ok x) e h (f, e', h') =
-    (front ++ text ∷ f, e ∙ ap (λ t. front ++ text ∷ t) e' ∙ sym (append_assoc front (text ∷ f) x.1),
-     λ more. ap (λ t. p t >>= λ x. q x.0 x.1) (append_assoc front (text ∷ f) more) ∙ ap (λ r. r >>= λ x. q x.0 x.1) (h (text ∷ (f ++ more))) ∙ h' more)
+second_behind p q rest front a text after (Ok x) e h (f, e', h') = (
+  front ++ text ∷ f,
+  e ∙ ap (λ t. front ++ text ∷ t) e' ∙ sym (append_assoc front (text ∷ f) x.1),
+  λ more. ap (λ t. p t >>= λ x. q x.0 x.1) (append_assoc front (text ∷ f) more) ∙ ap (λ r. r >>= λ x. q x.0 x.1) (h (text ∷ (f ++ more))) ∙ h' more,
+)
 second_behind p q rest front a text after (Err []) e h b = tt
-second_behind p q rest front a text after (Err (bad ∷ last)) e h (f, e', h') =
-    (front ++ text ∷ f, e ∙ ap (λ t. front ++ text ∷ t) e' ∙ sym (append_assoc front (text ∷ f) (bad ∷ last)),
-     λ more. ap (λ t. p t >>= λ x. q x.0 x.1) (append_assoc front (text ∷ f) (bad ∷ more)) ∙ ap (λ r. r >>= λ x. q x.0 x.1) (h (text ∷ (f ++ bad ∷ more))) ∙ h' more)
+second_behind p q rest front a text after (Err (bad ∷ last)) e h (f, e', h') = (
+  front ++ text ∷ f,
+  e ∙ ap (λ t. front ++ text ∷ t) e' ∙ sym (append_assoc front (text ∷ f) (bad ∷ last)),
+  λ more. ap (λ t. p t >>= λ x. q x.0 x.1) (append_assoc front (text ∷ f) (bad ∷ more)) ∙ ap (λ r. r >>= λ x. q x.0 x.1) (h (text ∷ (f ++ bad ∷ more))) ∙ h' more,
+)
 
 -- the second reader stops at its first text
 second_refuses : {A B : Type 0} (p : Texts → Read A) (q : A → Texts → Read B) (rest front : Texts) (a : A) (text : List ℕ) (after : Texts) → rest ≡ front ++ text ∷ after → ((more : Texts) → p (front ++ more) ≡ Ok (a, more))

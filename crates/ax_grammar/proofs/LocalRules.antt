@@ -41,7 +41,7 @@ list_local p s (suc k) l = record {
   empty = list_is p s [];
   at = λ text rest lt.
       list_choice p s (bytes_eq (keyword_text Word.Close) text) text rest refl
-          ((then_local k p (λ a texts. list_at p texts >>= λ xs. Ok (a ∷ xs.0, xs.1)) l (λ a. map_local k (λ xs. a ∷ xs) (list_at p) (list_local p s k (fewer_local (suc k) k p (omega arith) l)))).at text rest lt);
+      ((then_local k p (λ a texts. list_at p texts >>= λ xs. Ok (a ∷ xs.0, xs.1)) l (λ a. map_local k (λ xs. a ∷ xs) (list_at p) (list_local p s k (fewer_local (suc k) k p (omega arith) l)))).at text rest lt);
 }
 
 braced_local : {A : Type 0} (p : Texts → Read A) → Shrinks p → (k : ℕ) → IsLocal k p → IsLocal (suc k) (braced_at p)
@@ -119,7 +119,7 @@ unfolding member_at
 fixed_case k l None text rest lt e = inr e
 fixed_case k l (Some Word.Element) text rest lt e =
     after_local k fixed_at _ text rest (every (λ texts. width_at texts >>= λ w. content_at w.1 >>= λ c. reads (element w.0 c.0) c.1)
-        (λ j. then_local j width_at (λ w texts. content_at texts >>= λ c. reads (element w c.0) c.1) (one_local (suc j) (number_of 9)) (λ w. map_local j (element w) content_at (every content_at content_local j))) k) lt e
+    (λ j. then_local j width_at (λ w texts. content_at texts >>= λ c. reads (element w c.0) c.1) (one_local (suc j) (number_of 9)) (λ w. map_local j (element w) content_at (every content_at content_local j))) k) lt e
 fixed_case k l (Some Word.Group) text rest lt e =
     after_local k fixed_at _ text rest (map_local k (λ ms. group (members_of ms)) (braced_at member_at) (fewer_local (suc (suc k)) k (braced_at member_at) (omega arith) (braced_local member_at member_shrinks (suc k) (member_local k l)))) lt e
 fixed_case k l (Some word) text rest lt e = inr e

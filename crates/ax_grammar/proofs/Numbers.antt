@@ -45,8 +45,8 @@ unfolding number_of
 number_some most n pos le h =
     let small = few most n le h in
     cond-true (number_test most (decimal n)) (Some (number_behind 0 (decimal n))) None
-        (and_from _ _ (and_from _ _ (and_from _ _ (le-leb 1 (length (decimal n)) (decimal_nonempty n small)) (le-leb (length (decimal n)) most (length-decimal-le most n pos h small))) (digits_decimal model n small))
-            (not_from_false _ (no_zero (decimal n) (decimal_shape n small))))
+    (and_from _ _ (and_from _ _ (and_from _ _ (le-leb 1 (length (decimal n)) (decimal_nonempty n small)) (le-leb (length (decimal n)) most (length-decimal-le most n pos h small))) (digits_decimal model n small))
+    (not_from_false _ (no_zero (decimal n) (decimal_shape n small))))
     ∙ ap (λ v. Some v) (digits_value-decimal model n small)
 
 pub number_found : (most n : ℕ) (text : List ℕ) → most ≤ 18 → number_of most text ≡ Some n → (n < 10 ^ most) × (text ≡ decimal n)
@@ -77,7 +77,7 @@ unfolding category_of
 category_some n h =
     let value : number_behind 0 (three_digits n) ≡ n = omega arith in
     cond-true (category_test (three_digits n)) (Some (number_behind 0 (three_digits n))) None
-        (and_from _ _ (and_from _ _ refl (and_from _ _ (digit (n / 100) (omega arith)) (and_from _ _ (digit (n / 10 % 10) (omega arith)) (and_from _ _ (digit (n % 10) (omega arith)) refl)))) (lt-ltb _ 256 (omega (arith, value, h))))
+    (and_from _ _ (and_from _ _ refl (and_from _ _ (digit (n / 100) (omega arith)) (and_from _ _ (digit (n / 10 % 10) (omega arith)) (and_from _ _ (digit (n % 10) (omega arith)) refl)))) (lt-ltb _ 256 (omega (arith, value, h))))
     ∙ ap (λ v. Some v) value
 
 digits_are : (text : List ℕ) → length text ≡ 3 → list_all is_digit text ≡ true → text ≡ three_digits (number_behind 0 text)

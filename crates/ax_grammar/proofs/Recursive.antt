@@ -116,8 +116,8 @@ member_agrees : (k : ℕ) (p q : Texts → Read FixedTree) → Agree k p q → A
 unfolding member_step
 member_agrees k p q h texts lt =
     same_behind (takes_at Word.Spare texts) _ _ (λ c e. same_choice c.0 _ _ _ (λ _.
-        same_behind (name_at c.1) _ _ (λ n e'. ap (λ r. r >>= λ f. Ok (named n.0 f.0, f.1))
-            (h n.1 (omega (arith, (takes_keeps Word.Spare texts c.0 c.1 e).0, one_shrinks name_of c.1 n.0 n.1 e'))))))
+    same_behind (name_at c.1) _ _ (λ n e'. ap (λ r. r >>= λ f. Ok (named n.0 f.0, f.1))
+    (h n.1 (omega (arith, (takes_keeps Word.Spare texts c.0 c.1 e).0, one_shrinks name_of c.1 n.0 n.1 e'))))))
 
 fixed_leaves : (p : Texts → Read FixedTree) → Shrinks p → (word : Keyword) (texts rest : Texts) → Leaves (length rest) (fixed_behind p word texts rest)
 fixed_leaves p s Word.Element texts rest = then_leaves width_at (one_shrinks (number_of 9)) _ (λ w after. then_leaves content_at content_shrinks _ (λ c last. done_leaves _ last) after) rest
@@ -128,7 +128,7 @@ fixed_agrees : (k : ℕ) (p q : Texts → Read FixedTree) → Shrinks p → Shri
 fixed_agrees k p q s t h Word.Element texts rest lt = refl
 fixed_agrees k p q s t h Word.Group texts rest lt =
     ap (λ r. r >>= λ ms. Ok (group (members_of ms.0), ms.1))
-        (braced_agrees k (member_step p) (member_step q) (member_shrinks_of p s) (member_shrinks_of q t) (member_agrees k p q h) rest lt)
+    (braced_agrees k (member_step p) (member_step q) (member_shrinks_of p s) (member_shrinks_of q t) (member_agrees k p q h) rest lt)
 fixed_agrees k p q s t h word texts rest lt = refl
 
 fixed_guarded : IsGuarded fixed_step
@@ -179,8 +179,8 @@ slot_agrees : (k : ℕ) (p q : Texts → Read KindTree) → Agree k p q → Agre
 unfolding slot_step
 slot_agrees k p q h texts lt =
     same_behind (takes_at Word.Dash texts) _ _ (λ c e. same_choice c.0 _ _ _ (λ _.
-        same_behind (name_at c.1) _ _ (λ n e'. ap (λ r. r >>= λ f. Ok (subitem n.0 f.0, f.1))
-            (h n.1 (omega (arith, (takes_keeps Word.Dash texts c.0 c.1 e).0, one_shrinks name_of c.1 n.0 n.1 e'))))))
+    same_behind (name_at c.1) _ _ (λ n e'. ap (λ r. r >>= λ f. Ok (subitem n.0 f.0, f.1))
+    (h n.1 (omega (arith, (takes_keeps Word.Dash texts c.0 c.1 e).0, one_shrinks name_of c.1 n.0 n.1 e'))))))
 
 -- the kinds that begin with a fixed kind are read from their first text on
 kind_less : (p : Texts → Read KindTree) → Shrinks p → (word : Keyword) (texts rest : Texts) → length rest < length texts → (a : KindTree) (after : Texts) → kind_behind p word texts rest ≡ reads a after → length after < length texts
@@ -188,8 +188,12 @@ unfolding Leaves
 kind_less p s Word.Extended texts rest lt a after e =
     omega (arith, lt, then_leaves (braced_at part_at) (braced_shrinks part_at part_shrinks) (λ ps. Ok (extended ps.0, ps.1)) (λ ps last. done_leaves (extended ps) last) rest a after e)
 kind_less p s Word.Counted texts rest lt a after e =
-    omega (arith, lt, then_leaves (expect_at Word.Open) (expect_shrinks Word.Open) (λ o. p o.1 >>= λ k. expect_at Word.Close k.1 >>= λ c. Ok (counted k.0, c.1))
-        (λ o x. then_leaves p s (λ k. expect_at Word.Close k.1 >>= λ c. Ok (counted k.0, c.1)) (λ k y. then_leaves (expect_at Word.Close) (expect_shrinks Word.Close) (λ c. Ok (counted k, c.1)) (λ c z. done_leaves (counted k) z) y) x) rest a after e)
+    omega (
+      arith,
+      lt,
+      then_leaves (expect_at Word.Open) (expect_shrinks Word.Open) (λ o. p o.1 >>= λ k. expect_at Word.Close k.1 >>= λ c. Ok (counted k.0, c.1))
+          (λ o x. then_leaves p s (λ k. expect_at Word.Close k.1 >>= λ c. Ok (counted k.0, c.1)) (λ k y. then_leaves (expect_at Word.Close) (expect_shrinks Word.Close) (λ c. Ok (counted k, c.1)) (λ c z. done_leaves (counted k) z) y) x) rest a after e,
+    )
 kind_less p s Word.ByFx texts rest lt a after e =
     omega (arith, lt, then_leaves fixed_at fixed_shrinks (λ f. Ok (by_fx f.0, f.1)) (λ f last. done_leaves (by_fx f) last) rest a after e)
 kind_less p s Word.Explicit texts rest lt a after e = let r = rest_is explicit a rest after e in omega (arith, lt, ap length r)
@@ -202,7 +206,7 @@ kind_agrees k p q s t h Word.Counted texts rest lt =
     same_behind (expect_at Word.Open rest) _ _ (λ o e. ap (λ r. r >>= λ k. expect_at Word.Close k.1 >>= λ c. Ok (counted k.0, c.1)) (h o.1 (omega (arith, expect_shrinks Word.Open rest o.0 o.1 e))))
 kind_agrees k p q s t h Word.Compound texts rest lt =
     ap (λ r. r >>= λ ss. Ok (compound (slots_of ss.0), ss.1))
-        (braced_agrees k (slot_step p) (slot_step q) (slot_shrinks_of p s) (slot_shrinks_of q t) (slot_agrees k p q h) rest lt)
+    (braced_agrees k (slot_step p) (slot_step q) (slot_shrinks_of p s) (slot_shrinks_of q t) (slot_agrees k p q h) rest lt)
 kind_agrees k p q s t h word texts rest lt = refl
 
 kind_guarded : IsGuarded kind_step

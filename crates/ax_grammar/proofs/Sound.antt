@@ -118,9 +118,9 @@ list_found p s Fits spell (suc k) h texts rest xs lt e =
     let f = bind_ok (takes_at Word.Close texts) (λ c. cond c.0 (reads [] c.1) (p c.1 >>= λ first. list_at p first.1 >>= λ others. Ok (first.0 ∷ others.0, others.1))) (xs, rest) (sym (list_is p s texts) ∙ e) in
     let less = (takes_keeps Word.Close texts f.0.0 f.0.1 f.1).0 in
     list_case p Fits spell f.0.0 texts f.0.1 rest xs (takes_found Word.Close texts f.0.1 f.0.0 f.1)
-        (λ a last e'. h f.0.1 last a (omega (arith, less)) e')
-        (λ a last e' ys e''. list_found p s Fits spell k (λ t r x l. h t r x (omega arith)) last rest ys (omega (arith, less, s f.0.1 a last e')) e'')
-        f.2
+    (λ a last e'. h f.0.1 last a (omega (arith, less)) e')
+    (λ a last e' ys e''. list_found p s Fits spell k (λ t r x l. h t r x (omega arith)) last rest ys (omega (arith, less, s f.0.1 a last e')) e'')
+    f.2
 
 braced_found : {A : Type 0} (p : Texts → Read A) → Shrinks p → (Fits : A → Type 0) (spell : A → Texts) (k : ℕ) → Finds k p Fits spell → Finds (suc k) (braced_at p) (AllByRecursion Fits) (λ xs. keyword_text Word.Open ∷ closed (flat_map spell xs))
 braced_found p s Fits spell k h texts rest xs lt e =
@@ -170,7 +170,7 @@ scale_found k texts rest scale lt e =
     let le3 = one_shrinks (number_of 18) g.0.1 h.0.0 h.0.1 h.1 in
     let u = texts_found k h.0.1 rest m.0 (omega (arith, le1, le2, le3)) m.1 in
     subst (λ x. (IsNumber x.num × IsNumber x.den × IsText x.unit) × (texts ≡ (sign_text x.sign ∷ decimal x.num ∷ decimal x.den ∷ quoted x.unit ∷ rest))) m.2
-        ((n.0, d.0, u.0), s.1 ∙ ap (λ t. sign_text f.0.0 ∷ t) (n.1 ∙ ap (λ t. decimal g.0.0 ∷ t) (d.1 ∙ ap (λ t. decimal h.0.0 ∷ t) u.1)))
+    ((n.0, d.0, u.0), s.1 ∙ ap (λ t. sign_text f.0.0 ∷ t) (n.1 ∙ ap (λ t. decimal g.0.0 ∷ t) (d.1 ∙ ap (λ t. decimal h.0.0 ∷ t) u.1)))
 
 abbrev Spells : {A : Type 0} → (A → Type 0) → (A → Texts) → Texts → Texts → A → Type 0
 Spells Fits spell texts rest a = Fits a × (texts ≡ spell a ++ rest)
@@ -323,7 +323,7 @@ kind_case k h Word.Counted texts after rest f lt le front e =
     let x = h o.0.1 i.0.1 i.0.0 (omega (arith, lt, le, expect_shrinks Word.Open after o.0.0 o.0.1 o.1)) i.1 in
     let last : i.0.1 ≡ keyword_text Word.Close ∷ rest = expect_found Word.Close i.0.1 c.0.1 c.0.0 c.1 ∙ ap (λ t. keyword_text Word.Close ∷ t) r in
     subst (λ x. KindInRange x × (texts ≡ kind_texts x ++ rest)) (value_is (counted i.0.0) f c.0.1 rest c.2)
-        (x.0, front ∙ ap (λ t. keyword_text Word.Counted ∷ t) (expect_found Word.Open after o.0.1 o.0.0 o.1 ∙ ap (λ t. keyword_text Word.Open ∷ t) (x.1 ∙ ap (λ t. kind_texts i.0.0 ++ t) last ∙ sym (append_assoc (kind_texts i.0.0) (keyword_text Word.Close ∷ []) rest))))
+    (x.0, front ∙ ap (λ t. keyword_text Word.Counted ∷ t) (expect_found Word.Open after o.0.1 o.0.0 o.1 ∙ ap (λ t. keyword_text Word.Open ∷ t) (x.1 ∙ ap (λ t. kind_texts i.0.0 ++ t) last ∙ sym (append_assoc (kind_texts i.0.0) (keyword_text Word.Close ∷ []) rest))))
 kind_case k h Word.ByFx texts after rest f lt le front e =
     let m = mapped by_fx (fixed_at after) f rest e in
     let x = fixed_found k after rest m.0 (omega (arith, lt, le)) m.1 in
@@ -334,7 +334,7 @@ kind_case k h Word.Compound texts after rest f lt le front e =
     let m = mapped (λ ss. compound (slots_of ss)) (braced_at slot_at after) f rest e in
     let ss = braced_found slot_at slot_shrinks SlotInRange slot_texts (suc k) (slot_found k h) after rest m.0 (omega (arith, lt, le)) m.1 in
     subst (λ x. KindInRange x × (texts ≡ kind_texts x ++ rest)) m.2
-        (slots_fit m.0 ss.0, front ∙ ap (λ t. keyword_text Word.Compound ∷ t) (ss.1 ∙ ap (λ t. (keyword_text Word.Open ∷ closed t) ++ rest) (sym (slots_spelled m.0))))
+    (slots_fit m.0 ss.0, front ∙ ap (λ t. keyword_text Word.Compound ∷ t) (ss.1 ∙ ap (λ t. (keyword_text Word.Open ∷ closed t) ++ rest) (sym (slots_spelled m.0))))
 kind_case k h word texts after rest f lt le front e =
     let m = mapped fixed (fixed_at texts) f rest e in
     let x = fixed_found (suc k) texts rest m.0 lt m.1 in
@@ -363,7 +363,7 @@ item_found k texts rest item lt e =
     let b = texts_found k n.0.1 t.0.1 t.0.0 (omega (arith, lt, le1, le2)) t.1 in
     let c = kind_found k t.0.1 rest m.0 (omega (arith, lt, le1, le2, le3)) m.1 in
     subst (λ x. ItemInRange x × (texts ≡ item_texts x ++ rest)) m.2
-        ((a.0, b.0, c.0), expect_found Word.Item texts u.0.1 u.0.0 u.1 ∙ ap (λ x. keyword_text Word.Item ∷ x) (a.1 ∙ ap (λ x. n.0.0 ∷ x) (b.1 ∙ ap (λ x. quoted t.0.0 ∷ x) c.1)))
+    ((a.0, b.0, c.0), expect_found Word.Item texts u.0.1 u.0.0 u.1 ∙ ap (λ x. keyword_text Word.Item ∷ x) (a.1 ∙ ap (λ x. n.0.0 ∷ x) (b.1 ∙ ap (λ x. quoted t.0.0 ∷ x) c.1)))
 
 uap_item_case : (k : ℕ) (texts rest : Texts) (s : UapSlot) → length texts < k → (name_at texts >>= λ n. reads (Uap.Item n.0) n.1) ≡ reads s rest → UapSlotInRange s × (texts ≡ uap_slot_texts s ++ rest)
 uap_item_case k texts rest s lt e =

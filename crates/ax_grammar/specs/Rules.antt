@@ -91,9 +91,9 @@ member_step kinds texts = do
   if spares.0 then (do
     width ← width_at spares.1
     Ok (spare width.0, width.1)) else (do
-    name ← name_at spares.1
-    kind ← kinds name.1
-    Ok (named name.0 kind.0, kind.1))
+      name ← name_at spares.1
+      kind ← kinds name.1
+      Ok (named name.0 kind.0, kind.1))
 
 abbrev pub fixed_behind : (Texts → Read FixedTree) → Keyword → Texts → Texts → Read FixedTree
 fixed_behind kinds Word.Element texts rest = do

@@ -108,7 +108,7 @@ impl Keyword {
         self.text() == text
     }
 
-        /// The one of these octets. None comes exactly where there is none.
+    /// The one of these octets. None comes exactly where there is none.
     #[tactic(auto, unfolding(crate::specs::Keywords::keyword_of))]
     pub fn of(text: &[u8]) -> Option<Keyword>
         ensures { result ≡ keyword_of text.now }

@@ -15,8 +15,7 @@ use ax_tokens::{Token, TokenKind};
 fn are_digits(text: &[u8]) -> bool
     ensures { result ≡ list_all is_digit text.now }
 {
-    text.iter()
-        .all(|octet| b'0' <= *octet && *octet <= b'9')
+    text.iter().all(|octet| b'0' <= *octet && *octet <= b'9')
 }
 
 /// Whether the first of several octets is the digit 0.

@@ -9,8 +9,8 @@ ghost use Rattle.ax_grammar.specs.Spelling.{three_digits, quoted, sign_text, ent
 
 use crate::keyword::Keyword;
 use ax_model::{
-    Content, Fixed, Item, Items, Kind, Member, Members, Name, Part, Parts, Scale, Sign, Slot, Slots,
-    TableText, TableTexts, Text, UapSlot, UapSlots,
+    Content, Fixed, Item, Items, Kind, Member, Members, Name, Part, Parts, Scale, Sign, Slot,
+    Slots, TableText, TableTexts, Text, UapSlot, UapSlots,
 };
 use itoa::Buffer;
 use std::alloc::AllocError;

@@ -7,5 +7,8 @@ overflow_mul-value c = omega (arith, room c.loop-digit.value c.loop-digit.digit-
 
 pub overflow_add-value : goal.overflow_add-value
 overflow_add-value c =
-    omega (arith, room c.loop-digit.value c.loop-digit.digit-index c.loop-digit.invariant.bound (omega arith),
-        digit_at c.args.digits.now c.loop-digit.digit-index c.requires.digits (omega arith))
+    omega (
+      arith,
+      room c.loop-digit.value c.loop-digit.digit-index c.loop-digit.invariant.bound (omega arith),
+      digit_at c.args.digits.now c.loop-digit.digit-index c.requires.digits (omega arith),
+    )

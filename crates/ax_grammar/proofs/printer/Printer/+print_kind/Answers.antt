@@ -10,24 +10,24 @@ use Rattle.ax_grammar.proofs.printer.Printer.+print_kind.Goals as goal
 pub kind-returns-in_ok-parts-in-Extended : goal.kind-returns-in_ok-parts-in-Extended
 kind-returns-in_ok-parts-in-Extended t c =
     block_printed c.word-in-Extended-2.result Word.Extended (kind_texts (kind_tree c.args.kind.now)) (parts_texts c.in-Extended.parts) c.args.self.now.out.items c.word.new.self.out.items c.word-in-Extended.new.self.out.items c.parts.new.self.out.items c.word-in-Extended-2.new.self.out.items
-        (ap kind_texts (ap kind_tree c.in-Extended.is ∙ extended_tree c.in-Extended.parts)) c.in_ok-word-in-Extended.ensures c.in_ok-word-in-Extended-2.ensures c.in_ok-parts-in-Extended.ensures c.word-in-Extended-2.ensures
+    (ap kind_texts (ap kind_tree c.in-Extended.is ∙ extended_tree c.in-Extended.parts)) c.in_ok-word-in-Extended.ensures c.in_ok-word-in-Extended-2.ensures c.in_ok-parts-in-Extended.ensures c.word-in-Extended-2.ensures
 
 pub kind-returns-in_ok-kind-in-Counted : goal.kind-returns-in_ok-kind-in-Counted
 kind-returns-in_ok-kind-in-Counted t c =
     block_printed c.word-in-Counted-3.result Word.Counted (kind_texts (kind_tree c.args.kind.now)) (kind_texts (kind_tree c.in-Counted.inner.value)) c.args.self.now.out.items c.word-in-Counted.new.self.out.items c.word-in-Counted-2.new.self.out.items c.kind.new.self.out.items c.word-in-Counted-3.new.self.out.items
-        (ap kind_texts (ap kind_tree c.in-Counted.is ∙ counted_tree c.in-Counted.inner)) c.in_ok-word-in-Counted.ensures c.in_ok-word-in-Counted-2.ensures (search rules) c.word-in-Counted-3.ensures
+    (ap kind_texts (ap kind_tree c.in-Counted.is ∙ counted_tree c.in-Counted.inner)) c.in_ok-word-in-Counted.ensures c.in_ok-word-in-Counted-2.ensures (search rules) c.word-in-Counted-3.ensures
 
 pub kind-returns-in_ok-word-in-ByFx : goal.kind-returns-in_ok-word-in-ByFx
 kind-returns-in_ok-word-in-ByFx t c =
     second_printed c.fixed-in-ByFx.result (kind_texts (kind_tree c.args.kind.now)) (fixed_texts (fixed_tree c.in-ByFx.fixed)) (keyword_text Word.ByFx) c.args.self.now.out.items c.word-in-ByFx.new.self.out.items c.fixed-in-ByFx.new.self.out.items
-        (ap kind_texts (ap kind_tree c.in-ByFx.is ∙ by_fx_tree c.in-ByFx.fixed)) c.in_ok-word-in-ByFx.ensures c.fixed-in-ByFx.ensures
+    (ap kind_texts (ap kind_tree c.in-ByFx.is ∙ by_fx_tree c.in-ByFx.fixed)) c.in_ok-word-in-ByFx.ensures c.fixed-in-ByFx.ensures
 
 pub kind-returns-in_ok-slots-in-Compound : goal.kind-returns-in_ok-slots-in-Compound
 kind-returns-in_ok-slots-in-Compound t c =
     block_printed c.word-in-Compound-3.result Word.Compound (kind_texts (kind_tree c.args.kind.now)) (slots_texts (slots_tree c.in-Compound.slots)) c.args.self.now.out.items c.word-in-Compound.new.self.out.items c.word-in-Compound-2.new.self.out.items c.slots.new.self.out.items c.word-in-Compound-3.new.self.out.items
-        (ap kind_texts (ap kind_tree c.in-Compound.is ∙ compound_tree c.in-Compound.slots)) c.in_ok-word-in-Compound.ensures c.in_ok-word-in-Compound-2.ensures c.in_ok-slots-in-Compound.ensures c.word-in-Compound-3.ensures
+    (ap kind_texts (ap kind_tree c.in-Compound.is ∙ compound_tree c.in-Compound.slots)) c.in_ok-word-in-Compound.ensures c.in_ok-word-in-Compound-2.ensures c.in_ok-slots-in-Compound.ensures c.word-in-Compound-3.ensures
 
 pub slots-loop-slot-preserved : goal.slots-loop-slot-preserved
 slots-loop-slot-preserved t c =
     print_more slots_texts_of (λ s. slot_texts (slot_tree s)) (λ s ss. refl) (drop c.loop-slot.slot-index c.args.slots.now) (drop (c.loop-slot.slot-index + 1) c.args.slots.now) c.slot-item.result c.loop-slot.self.out.items c.slot.new.self.out.items _
-        (next_item c.args.slots.now c.as_slice-slot-items.result.now c.loop-slot.slot-index c.slot-item.result c.as_slice-slot-items.ensures.members (omega arith) c.slot-item.is) (search rules) c.loop-slot.invariant
+    (next_item c.args.slots.now c.as_slice-slot-items.result.now c.loop-slot.slot-index c.slot-item.result c.as_slice-slot-items.ensures.members (omega arith) c.slot-item.is) (search rules) c.loop-slot.invariant

@@ -48,7 +48,7 @@ kind-returns-in_ok-inner-in-Counted-2-clause-reads t c =
     let inner = c.in_ok-inner-in-Counted-2.inner in
     let same : kind_tree (Counted inner) ≡ counted (kind_tree c.in_ok-inner-in-Counted.inner) = counted_tree inner ∙ ap (λ k. counted (kind_tree k)) c.in_ok-inner-in-Counted-2.ensures.ok in
     counted_read c.args.self.now c.skip-in-Counted.new.self c.expect.new.self c.kind.new.self c.expect-in-Counted.new.self (kind_tree c.in_ok-inner-in-Counted.inner) _ same (search rules)
-        c.in_ok-expect-in-Counted.ensures.reads c.in_ok-inner-in-Counted.ensures.reads c.in_ok-expect-in-Counted-2.ensures.reads
+    c.in_ok-expect-in-Counted.ensures.reads c.in_ok-inner-in-Counted.ensures.reads c.in_ok-expect-in-Counted-2.ensures.reads
 
 pub kind-returns-in_ok-fixed-in-ByFx-clause-reads : goal.kind-returns-in_ok-fixed-in-ByFx-clause-reads
 kind-returns-in_ok-fixed-in-ByFx-clause-reads t c =
@@ -69,4 +69,4 @@ kind-returns-in_err-slots-in-Compound-clause-reads t c =
 pub kind-returns-in_ok-fixed-in_default-clause-reads : goal.kind-returns-in_ok-fixed-in_default-clause-reads
 kind-returns-in_ok-fixed-in_default-clause-reads t c =
     fixed_read c.args.self.now _ c.fixed-in_default.new.self c.in_ok-keyword.field-0 (fixed_tree c.in_ok-fixed-in_default.fixed) _ (fixed_kind_tree c.in_ok-fixed-in_default.fixed)
-        (search rules) (search rules) (search rules) (search rules) (search rules) c.in_ok-keyword.ensures.reads c.in_ok-fixed-in_default.ensures.reads
+    (search rules) (search rules) (search rules) (search rules) (search rules) c.in_ok-keyword.ensures.reads c.in_ok-fixed-in_default.ensures.reads

@@ -17,6 +17,3 @@ pub use accepted::{Accepted, CheckError, accept};
 pub use ax_model::{Flaw, FlawKind, Flaws};
 pub use catalogue::{AddError, Catalogue};
 pub use spec_flaws::flaws;
-
-#[cfg(test)]
-mod tests;

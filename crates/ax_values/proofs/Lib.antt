@@ -3,7 +3,10 @@ pub mod Counting
 pub mod Exact
 pub mod FixedRead
 pub mod Marking
+pub mod NextEntry
 pub mod Onto
 pub mod RecordSlots
 pub mod Repeating
 pub mod AtOctets
+pub mod Written
+pub mod WrittenRuns

@@ -8,6 +8,7 @@ mod kinds;
 mod records;
 mod slots;
 mod units;
+mod write_units;
 
 pub use decode::{decode_block, decode_kind, decode_record};
 pub use error::{DecodeError, EncodeError};

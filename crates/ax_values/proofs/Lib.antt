@@ -10,3 +10,4 @@ pub mod Repeating
 pub mod AtOctets
 pub mod Written
 pub mod WrittenRuns
+pub mod WrittenKinds

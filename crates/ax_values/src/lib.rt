@@ -5,9 +5,11 @@ mod decode;
 mod error;
 mod fixed;
 mod kinds;
+mod marks;
 mod records;
 mod slots;
 mod units;
+mod write_kinds;
 mod write_units;
 
 pub use decode::{decode_block, decode_kind, decode_record};

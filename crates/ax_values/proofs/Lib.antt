@@ -11,3 +11,5 @@ pub mod AtOctets
 pub mod Written
 pub mod WrittenRuns
 pub mod WrittenKinds
+pub mod WrittenRecords
+pub mod WrittenBlocks

@@ -1,8 +1,7 @@
 -- The entries of a compound or a record, one after the other: their marks, and their spellings.
-use Rattle.std.proofs.Common.{◌≡◌, ℕ, zero, suc, ◌+◌, ◌-◌, ◌*◌, ◌<◌, ◌≤◌, ◌==◌, Bool, true, false, cond, List, [], ◌∷◌, ◌++◌, length, take, drop, map, get_or, set, replicate, IsTrue, MatchBool, Option, Some, None, refl, sym, ◌∙◌, ap, arith, subst, length-append, append_assoc, append-nil, add-one, take-add, length-drop}
+use Rattle.std.proofs.Common.{◌≡◌, ℕ, zero, suc, ◌+◌, ◌-◌, ◌<◌, ◌≤◌, ◌==◌, Bool, true, false, cond, List, [], ◌∷◌, ◌++◌, length, take, drop, set, replicate, IsTrue, MatchBool, Option, Some, None, refl, sym, ◌∙◌, ap, arith, subst, append_assoc, add-one, take-add, length-drop}
 use Rattle.std.proofs.lemmas.Bool.{eqb-true}
-use Rattle.std.proofs.lemmas.List.{take_more_set, drop-set-lt, drop-drop, length-set, length-take-le, length-replicate}
-use Rattle.ax_bits.specs.Bits.{AreBits}
+use Rattle.std.proofs.lemmas.List.{take_more_set, drop-set-lt, length-set, length-replicate}
 use Rattle.ax_bits.specs.Out.{Appends, room}
 use Rattle.ax_bits.specs.declared.output.Out.{Out}
 use Rattle.ax_fspec.proofs.FieldLaws.{least_field_of, none_further}
@@ -11,8 +10,8 @@ use Rattle.ax_fspec.specs.Marks.{no_marks}
 use Rattle.ax_model.proofs.RecordFitting.{entries_split}
 use Rattle.ax_model.specs.Canonical.{canon, marks_of, entries_canon}
 use Rattle.ax_model.specs.InBounds.{InBounds, SlotsInBounds}
-use Rattle.ax_model.specs.Lengths.{kind_of_slot, kind_behind, slot_kind}
-use Rattle.ax_model.specs.Plain.{entry_tree, entries_tree, value_tree}
+use Rattle.ax_model.specs.Lengths.{kind_behind, slot_kind}
+use Rattle.ax_model.specs.Plain.{entries_tree, value_tree}
 use Rattle.ax_model.specs.Presence.{octets_needed, none_marked, least_presence}
 use Rattle.ax_model.specs.Shape.{Shape, EntriesShape}
 use Rattle.ax_model.specs.Tree.{KindTree, ValueTree, EntriesTree, no_entries, entry_and, SlotsTree, no_slots, slot_and, SlotTree, spare_slot, subitem, slot_count}
@@ -217,11 +216,11 @@ mark_of_next ss all marks e es h =
       few = few;
       later = subst (λ ss. EntriesShape (e.slot + 1) ss (entries_tree es)) behind n.later;
       marked = λ small. (
-        let front : take (h.slots + n.gap) marks ≡ take h.slots marks ++ replicate n.gap 0 =
-            take-add h.slots n.gap marks ∙ ap (λ z. take h.slots marks ++ z) (zeros_taken n.gap (drop h.slots marks) h.behind (omega (arith, h.size, length-drop h.slots marks))) in
-        h.marked ∙ ap (λ z. take h.slots marks ++ z) (ap (marks_of (h.slots + 1) (slots_behind h.slots ss)) tree ∙ n.marks ∙ ap (λ ss. replicate n.gap 0 ++ 1 ∷ marks_of (e.slot + 1) ss (entries_tree es)) behind)
-        ∙ sym (append_assoc (take h.slots marks) (replicate n.gap 0) (1 ∷ rest)) ∙ ap (λ z. z ++ 1 ∷ rest) (sym front)
-      );
+          let front : take (h.slots + n.gap) marks ≡ take h.slots marks ++ replicate n.gap 0 =
+          take-add h.slots n.gap marks ∙ ap (λ z. take h.slots marks ++ z) (zeros_taken n.gap (drop h.slots marks) h.behind (omega (arith, h.size, length-drop h.slots marks))) in
+          h.marked ∙ ap (λ z. take h.slots marks ++ z) (ap (marks_of (h.slots + 1) (slots_behind h.slots ss)) tree ∙ n.marks ∙ ap (λ ss. replicate n.gap 0 ++ 1 ∷ marks_of (e.slot + 1) ss (entries_tree es)) behind)
+          ∙ sym (append_assoc (take h.slots marks) (replicate n.gap 0) (1 ∷ rest)) ∙ ap (λ z. z ++ 1 ∷ rest) (sym front)
+          );
       behind = none_further h.slots (h.slots + n.gap) marks (omega arith) h.behind;
     }
 
@@ -258,8 +257,8 @@ marks_ended ss all marks left h e some small =
     let left_count = slot_count (slots_behind h.slots ss) in
     let count : h.slots + left_count ≡ n = count_behind h.slots ss h.few in
     let zeros : marks_of (h.slots + 1) (slots_behind h.slots ss) (entries_tree left) ≡ replicate left_count 0 =
-        ap (λ es. marks_of (h.slots + 1) (slots_behind h.slots ss) (entries_tree es)) e ∙ marks_none (h.slots + 1) (slots_behind h.slots ss) in
+    ap (λ es. marks_of (h.slots + 1) (slots_behind h.slots ss) (entries_tree es)) e ∙ marks_none (h.slots + 1) (slots_behind h.slots ss) in
     let tail : take left_count (drop h.slots marks) ≡ replicate left_count 0 = zeros_taken left_count (drop h.slots marks) h.behind (omega (arith, h.size, length-drop h.slots marks)) in
     let whole : take n marks ≡ all =
-        ap (λ k. take k marks) (sym count) ∙ take-add h.slots left_count marks ∙ ap (λ z. take h.slots marks ++ z) (tail ∙ sym zeros) ∙ sym h.marked in
+    ap (λ k. take k marks) (sym count) ∙ take-add h.slots left_count marks ∙ ap (λ z. take h.slots marks ++ z) (tail ∙ sym zeros) ∙ sym h.marked in
     least_field_of n marks some small (none_further h.slots n marks (omega arith) h.behind) ∙ ap (least_presence (octets_needed n)) whole

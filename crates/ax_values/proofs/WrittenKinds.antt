@@ -1,9 +1,9 @@
 -- Occurrences, contents and entries that are written one behind the other.
-use Rattle.std.proofs.Common.{◌≡◌, ℕ, zero, suc, ◌+◌, ◌-◌, ◌*◌, ◌<◌, ◌≤◌, List, [], ◌∷◌, ◌++◌, length, drop, map, get_or, set, Option, Some, None, refl, sym, ◌∙◌, ap, arith, subst, append_assoc, append-nil, length-append, add-one, drop-cons}
+use Rattle.std.proofs.Common.{◌≡◌, ℕ, suc, ◌+◌, ◌-◌, ◌<◌, ◌≤◌, List, [], ◌∷◌, ◌++◌, length, drop, get_or, set, Option, Some, None, refl, sym, ◌∙◌, ap, arith, subst, length-append, add-one, drop-cons}
 use Rattle.std.proofs.lemmas.List.{drop_all}
-use Rattle.ax_bits.proofs.Outputs.{appends_none, appends_more}
-use Rattle.ax_bits.proofs.Words.{length-word, length-bits}
-use Rattle.ax_bits.specs.Bits.{bits, word}
+use Rattle.ax_bits.proofs.Outputs.{appends_more}
+use Rattle.ax_bits.proofs.Words.{length-word}
+use Rattle.ax_bits.specs.Bits.{word}
 use Rattle.ax_bits.specs.Out.{Appends, room}
 use Rattle.ax_bits.specs.declared.output.Out.{Out}
 use Rattle.ax_fspec.specs.Fields.{least_field}
@@ -13,8 +13,8 @@ use Rattle.ax_model.specs.InBounds.{InBounds}
 use Rattle.ax_model.specs.Lengths.{slot_kind}
 use Rattle.ax_model.specs.Plain.{value_tree, values_tree, entries_tree}
 use Rattle.ax_model.specs.Presence.{octets_needed, least_presence}
-use Rattle.ax_model.specs.Shape.{Shape, EachShape, EntriesShape}
-use Rattle.ax_model.specs.Tree.{KindTree, ValueTree, ValuesTree, value_count, no_values, value_and, SlotsTree, EntriesTree, compound, marked, slot_count}
+use Rattle.ax_model.specs.Shape.{Shape, EachShape}
+use Rattle.ax_model.specs.Tree.{KindTree, ValueTree, value_count, SlotsTree, slot_count}
 use Rattle.ax_model.specs.declared.value.Entry.{Entry}
 use Rattle.ax_model.specs.declared.value.Value.{Value}
 use Rattle.ax_values.proofs.NextEntry.{EntriesLeft, entries_first, entry_shape, entry_room, entries_next, entries_ended, MarksLeft, marks_first, mark_within, marks_next, marks_ended}

@@ -1,5 +1,5 @@
 -- Occurrences by FX and parts that are written one behind the other.
-use Rattle.std.proofs.Common.{◌≡◌, ℕ, zero, suc, ◌+◌, ◌<◌, ◌≤◌, ◌==◌, Bool, true, false, not, List, [], ◌∷◌, ◌++◌, length, map, refl, sym, ◌∙◌, ap, arith, subst, append_assoc, length-append}
+use Rattle.std.proofs.Common.{◌≡◌, ℕ, suc, ◌<◌, ◌≤◌, ◌==◌, Bool, true, false, not, List, [], ◌∷◌, ◌++◌, length, map, refl, sym, ◌∙◌, ap, arith, subst, append_assoc, length-append}
 use Rattle.std.proofs.lemmas.Bool.Decides.{nat_tests}
 use Rattle.std.specs.List.{AllByRecursion}
 use Rattle.ax_bits.specs.Out.{Appends, room}
@@ -9,7 +9,7 @@ use Rattle.ax_model.specs.Canonical.{fixed_canon, members_canon, parts_canon, ru
 use Rattle.ax_model.specs.InBounds.{PartInBounds, MembersInBounds}
 use Rattle.ax_model.specs.Plain.{part_tree, value_tree, values_tree, lists_tree}
 use Rattle.ax_model.specs.Shape.{FixedShape, MembersShape, PartsShape, EachShape}
-use Rattle.ax_model.specs.Tree.{FixedTree, MembersTree, ValueTree, ValuesTree, no_values, value_and, ListsTree, no_lists, list_and}
+use Rattle.ax_model.specs.Tree.{FixedTree, MembersTree, no_lists}
 use Rattle.ax_model.specs.declared.kind.Part.{Part}
 use Rattle.ax_model.specs.declared.value.Value.{Value}
 use Rattle.ax_values.proofs.Written.{written_none, written_more, written_all, written_room, first_room}

@@ -2,6 +2,7 @@
 #![tactic(auto)]
 
 mod decode;
+mod encode;
 mod error;
 mod fixed;
 mod kinds;
@@ -10,7 +11,9 @@ mod records;
 mod slots;
 mod units;
 mod write_kinds;
+mod write_records;
 mod write_units;
 
 pub use decode::{decode_block, decode_kind, decode_record};
+pub use encode::encode_block;
 pub use error::{DecodeError, EncodeError};

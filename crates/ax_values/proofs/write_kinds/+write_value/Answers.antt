@@ -1,5 +1,5 @@
 use denote.Param.Weighed.{at_most}
-use Rattle.std.proofs.Common.{◌≡◌, ◌+◌, ◌<◌, ◌≤◌, ℕ, length, get_or, drop, arith, ap, subst, sym, ◌∙◌}
+use Rattle.std.proofs.Common.{◌≡◌, ◌<◌, ◌≤◌, ℕ, length, get_or, arith, ap, subst, sym, ◌∙◌}
 use Rattle.ax_model.proofs.value.Entry.TheLaws.{the_size}
 use Rattle.ax_model.specs.Canonical.{canon, each_canon, entries_canon}
 use Rattle.ax_model.specs.Plain.{kind_tree, values_tree, slots_tree, entries_tree}

@@ -1,6 +1,6 @@
-use Rattle.std.proofs.Common.{◌≡◌, ◌+◌, ◌*◌, ◌≤◌, length, arith, ap, subst, sym}
+use Rattle.std.proofs.Common.{◌+◌, ◌≤◌, length, arith, ap, subst}
 use Rattle.ax_bits.proofs.Words.{length-bits}
-use Rattle.ax_bits.specs.Bits.{bits, word}
+use Rattle.ax_bits.specs.Bits.{bits}
 use Rattle.ax_bits.specs.Out.{Appends, room}
 use Rattle.ax_values.proofs.WrittenKinds.{octet_and, rest_room}
 use Rattle.ax_values.proofs.write_kinds.write_content.Goals as goal

@@ -3,7 +3,13 @@ pub mod Counting
 pub mod Exact
 pub mod FixedRead
 pub mod Marking
+pub mod NextEntry
 pub mod Onto
 pub mod RecordSlots
 pub mod Repeating
 pub mod AtOctets
+pub mod Written
+pub mod WrittenRuns
+pub mod WrittenKinds
+pub mod WrittenRecords
+pub mod WrittenBlocks

@@ -2,12 +2,18 @@
 #![tactic(auto)]
 
 mod decode;
+mod encode;
 mod error;
 mod fixed;
 mod kinds;
+mod marks;
 mod records;
 mod slots;
 mod units;
+mod write_kinds;
+mod write_records;
+mod write_units;
 
 pub use decode::{decode_block, decode_kind, decode_record};
+pub use encode::encode_block;
 pub use error::{DecodeError, EncodeError};

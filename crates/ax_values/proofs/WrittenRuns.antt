@@ -1,0 +1,150 @@
+-- Occurrences by FX and parts that are written one behind the other.
+use Rattle.std.proofs.Common.{◌≡◌, ℕ, suc, ◌<◌, ◌≤◌, ◌==◌, Bool, true, false, not, List, [], ◌∷◌, ◌++◌, length, map, refl, sym, ◌∙◌, ap, arith, subst, append_assoc, length-append}
+use Rattle.std.proofs.lemmas.Bool.Decides.{nat_tests}
+use Rattle.std.specs.List.{AllByRecursion}
+use Rattle.ax_bits.specs.Out.{Appends, room}
+use Rattle.ax_bits.specs.declared.output.Out.{Out}
+use Rattle.ax_bits.proofs.Outputs.{appends_more}
+use Rattle.ax_model.specs.Canonical.{fixed_canon, members_canon, parts_canon, run_canon}
+use Rattle.ax_model.specs.InBounds.{PartInBounds, MembersInBounds}
+use Rattle.ax_model.specs.Plain.{part_tree, value_tree, values_tree, lists_tree}
+use Rattle.ax_model.specs.Shape.{FixedShape, MembersShape, PartsShape, EachShape}
+use Rattle.ax_model.specs.Tree.{FixedTree, MembersTree, no_lists}
+use Rattle.ax_model.specs.declared.kind.Part.{Part}
+use Rattle.ax_model.specs.declared.value.Value.{Value}
+use Rattle.ax_values.proofs.Written.{written_none, written_more, written_all, written_room, first_room}
+use Rattle.ax_values.specs.Reading.{fx_bit}
+use Rattle.ax_values.specs.Writing.{IsWrittenTo}
+
+-- whether others follow
+abbrev pub others : {A : Type 0} → List A → Bool
+others [] = false
+others (x ∷ xs) = true
+
+pub not_empty : {A : Type 0} (xs : List A) → not (length xs == 0) ≡ others xs
+not_empty [] = refl
+not_empty (x ∷ xs) = some (length xs)
+  where
+    some : (n : ℕ) → not (suc n == 0) ≡ true
+    some n = grind (arith, nat_tests)
+
+-- ---- occurrences
+
+first_of_run : (f : FixedTree) (v : Value) (vs : List Value) → run_canon f (values_tree (v ∷ vs)) ≡ (fixed_canon f (value_tree v) ++ fx_bit (others vs) ∷ []) ++ run_canon f (values_tree vs)
+first_of_run f v [] = sym (append_assoc (fixed_canon f (value_tree v)) (0 ∷ []) [])
+first_of_run f v (w ∷ vs) = sym (append_assoc (fixed_canon f (value_tree v)) (1 ∷ []) (run_canon f (values_tree (w ∷ vs))))
+
+pub record RunLeft (f : FixedTree) (old now : Out) (whole : List ℕ) (vs : List Value) : Type 0 where
+  pub shape : EachShape (FixedShape f) (values_tree vs)
+  pub written : IsWrittenTo old now whole (run_canon f (values_tree vs))
+
+pub run_first : (f : FixedTree) (out : Out) (vs : List Value) → EachShape (FixedShape f) (values_tree vs) → RunLeft f out out (run_canon f (values_tree vs)) vs
+run_first f out vs h = record { shape = h; written = written_none out (run_canon f (values_tree vs)) }
+
+unit_room : (f : FixedTree) (old now : Out) (whole : List ℕ) (left : List Value) (v : Value) (vs : List Value) → RunLeft f old now whole left → left ≡ v ∷ vs → length whole ≤ room old → length (fixed_canon f (value_tree v) ++ fx_bit (others vs) ∷ []) ≤ room now
+unit_room f old now whole left v vs h e le =
+    first_room (fixed_canon f (value_tree v) ++ fx_bit (others vs) ∷ []) (run_canon f (values_tree vs)) (run_canon f (values_tree left)) (room now) (ap (λ vs. run_canon f (values_tree vs)) e ∙ first_of_run f v vs)
+    (written_room old now whole (run_canon f (values_tree left)) h.written le)
+
+pub value_shape : (f : FixedTree) (old now : Out) (whole : List ℕ) (left : List Value) (v : Value) (vs : List Value) → RunLeft f old now whole left → left ≡ v ∷ vs → FixedShape f (value_tree v)
+value_shape f old now whole left v vs h e = (subst (λ vs. EachShape (FixedShape f) (values_tree vs)) e h.shape).0
+
+pub value_room : (f : FixedTree) (old now : Out) (whole : List ℕ) (left : List Value) (v : Value) (vs : List Value) → RunLeft f old now whole left → left ≡ v ∷ vs → length whole ≤ room old → length (fixed_canon f (value_tree v)) ≤ room now
+value_room f old now whole left v vs h e le = omega (arith, unit_room f old now whole left v vs h e le, length-append (fixed_canon f (value_tree v)) (fx_bit (others vs) ∷ []))
+
+pub fx_room : (f : FixedTree) (old now new : Out) (whole : List ℕ) (left : List Value) (v : Value) (vs : List Value) → RunLeft f old now whole left → left ≡ v ∷ vs → length whole ≤ room old → Appends now new (fixed_canon f (value_tree v)) → 1 ≤ room new
+fx_room f old now new whole left v vs h e le a = omega (arith, unit_room f old now whole left v vs h e le, length-append (fixed_canon f (value_tree v)) (fx_bit (others vs) ∷ []), a.room)
+
+pub run_next : (f : FixedTree) (old now mid new : Out) (whole : List ℕ) (left : List Value) (v : Value) (vs : List Value) (more : Bool) → RunLeft f old now whole left → left ≡ v ∷ vs → Appends now mid (fixed_canon f (value_tree v)) → more ≡ others vs
+    → Appends mid new (fx_bit more ∷ []) → RunLeft f old new whole vs
+run_next f old now mid new whole left v vs more h e a is b = record {
+  shape = (subst (λ vs. EachShape (FixedShape f) (values_tree vs)) e h.shape).1;
+  written = written_more old now new whole (run_canon f (values_tree left)) (fixed_canon f (value_tree v) ++ fx_bit (others vs) ∷ []) (run_canon f (values_tree vs)) h.written (ap (λ vs. run_canon f (values_tree vs)) e ∙ first_of_run f v vs)
+      (appends_more now mid new (fixed_canon f (value_tree v)) (fx_bit (others vs) ∷ []) (fixed_canon f (value_tree v) ++ fx_bit (others vs) ∷ []) refl a (subst (λ x. Appends mid new (fx_bit x ∷ [])) is b));
+}
+
+pub run_ended : (f : FixedTree) (old now : Out) (whole : List ℕ) (vs : List Value) → RunLeft f old now whole vs → vs ≡ [] → Appends old now whole
+run_ended f old now whole vs h e = written_all old now whole (run_canon f (values_tree vs)) h.written (ap (λ vs. run_canon f (values_tree vs)) e)
+
+pub ruleset run = (run_first, value_shape, value_room, fx_room, run_ended)
+
+-- ---- parts
+
+first_of_parts : (p : MembersTree) (ps : List MembersTree) (vs : List Value) (ls : List (List Value)) → PartsShape (p ∷ ps) (lists_tree (vs ∷ ls))
+    → parts_canon (p ∷ ps) (lists_tree (vs ∷ ls)) ≡ (members_canon p (values_tree vs) ++ fx_bit (others ls) ∷ []) ++ parts_canon ps (lists_tree ls)
+first_of_parts p [] vs [] h = sym (append_assoc (members_canon p (values_tree vs)) (0 ∷ []) [])
+first_of_parts p (q ∷ ps) vs [] h = sym (append_assoc (members_canon p (values_tree vs)) (0 ∷ []) [])
+first_of_parts p ps vs (ws ∷ ls) h = sym (append_assoc (members_canon p (values_tree vs)) (1 ∷ []) (parts_canon ps (lists_tree (ws ∷ ls))))
+
+later_shape : (p : MembersTree) (ps : List MembersTree) (vs w : List Value) (ls : List (List Value)) → PartsShape (p ∷ ps) (lists_tree (vs ∷ w ∷ ls)) → PartsShape ps (lists_tree (w ∷ ls))
+later_shape p ps vs w ls h = h.1
+
+here_shape : (p : MembersTree) (ps : List MembersTree) (vs : List Value) (ls : List (List Value)) → PartsShape (p ∷ ps) (lists_tree (vs ∷ ls)) → MembersShape p (values_tree vs)
+here_shape p ps vs [] h = h
+here_shape p ps vs (w ∷ ls) h = h.0
+
+pub record PartsLeft (old now : Out) (whole : List ℕ) (ps : List Part) (ls : List (List Value)) : Type 0 where
+  pub bounds : AllByRecursion PartInBounds (map part_tree ps)
+  pub shape : 0 < length ls → PartsShape (map part_tree ps) (lists_tree ls)
+  pub written : IsWrittenTo old now whole (parts_canon (map part_tree ps) (lists_tree ls))
+
+pub parts_first : (out : Out) (ps : List Part) (ls : List (List Value)) → AllByRecursion PartInBounds (map part_tree ps) → PartsShape (map part_tree ps) (lists_tree ls) → PartsLeft out out (parts_canon (map part_tree ps) (lists_tree ls)) ps ls
+parts_first out ps ls b h = record { bounds = b; shape = λ some. h; written = written_none out (parts_canon (map part_tree ps) (lists_tree ls)) }
+
+at_first : (old now : Out) (whole : List ℕ) (left ps : List Part) (p : Part) (lists ls : List (List Value)) (vs : List Value) → PartsLeft old now whole left lists → left ≡ p ∷ ps → lists ≡ vs ∷ ls → PartsLeft old now whole (p ∷ ps) (vs ∷ ls)
+at_first old now whole left ps p lists ls vs h e f = subst (λ lists. PartsLeft old now whole (p ∷ ps) lists) f (subst (λ left. PartsLeft old now whole left lists) e h)
+
+pub part_bounds : (old now : Out) (whole : List ℕ) (left ps : List Part) (p : Part) (lists ls : List (List Value)) (vs : List Value) → PartsLeft old now whole left lists → left ≡ p ∷ ps → lists ≡ vs ∷ ls → MembersInBounds (part_tree p)
+part_bounds old now whole left ps p lists ls vs h e f = (at_first old now whole left ps p lists ls vs h e f).bounds.0.2
+
+shape_here : (old now : Out) (whole : List ℕ) (left ps : List Part) (p : Part) (lists ls : List (List Value)) (vs : List Value) → PartsLeft old now whole left lists → left ≡ p ∷ ps → lists ≡ vs ∷ ls → PartsShape (part_tree p ∷ map part_tree ps) (lists_tree (vs ∷ ls))
+shape_here old now whole left ps p lists ls vs h e f = (at_first old now whole left ps p lists ls vs h e f).shape (omega arith)
+
+pub part_shape : (old now : Out) (whole : List ℕ) (left ps : List Part) (p : Part) (lists ls : List (List Value)) (vs : List Value) → PartsLeft old now whole left lists → left ≡ p ∷ ps → lists ≡ vs ∷ ls → MembersShape (part_tree p) (values_tree vs)
+part_shape old now whole left ps p lists ls vs h e f = here_shape (part_tree p) (map part_tree ps) vs ls (shape_here old now whole left ps p lists ls vs h e f)
+
+part_unit_room : (old now : Out) (whole : List ℕ) (left ps : List Part) (p : Part) (lists ls : List (List Value)) (vs : List Value) → PartsLeft old now whole left lists → left ≡ p ∷ ps → lists ≡ vs ∷ ls → length whole ≤ room old
+    → length (members_canon (part_tree p) (values_tree vs) ++ fx_bit (others ls) ∷ []) ≤ room now
+part_unit_room old now whole left ps p lists ls vs h e f le =
+    let t = at_first old now whole left ps p lists ls vs h e f in
+    first_room (members_canon (part_tree p) (values_tree vs) ++ fx_bit (others ls) ∷ []) (parts_canon (map part_tree ps) (lists_tree ls)) (parts_canon (part_tree p ∷ map part_tree ps) (lists_tree (vs ∷ ls))) (room now)
+    (first_of_parts (part_tree p) (map part_tree ps) vs ls (shape_here old now whole left ps p lists ls vs h e f)) (written_room old now whole (parts_canon (part_tree p ∷ map part_tree ps) (lists_tree (vs ∷ ls))) t.written le)
+
+pub part_room : (old now : Out) (whole : List ℕ) (left ps : List Part) (p : Part) (lists ls : List (List Value)) (vs : List Value) → PartsLeft old now whole left lists → left ≡ p ∷ ps → lists ≡ vs ∷ ls → length whole ≤ room old
+    → length (members_canon (part_tree p) (values_tree vs)) ≤ room now
+part_room old now whole left ps p lists ls vs h e f le =
+    omega (arith, part_unit_room old now whole left ps p lists ls vs h e f le, length-append (members_canon (part_tree p) (values_tree vs)) (fx_bit (others ls) ∷ []))
+
+pub part_fx_room : (old now new : Out) (whole : List ℕ) (left ps : List Part) (p : Part) (lists ls : List (List Value)) (vs : List Value) → PartsLeft old now whole left lists → left ≡ p ∷ ps → lists ≡ vs ∷ ls → length whole ≤ room old
+    → Appends now new (members_canon (part_tree p) (values_tree vs)) → 1 ≤ room new
+part_fx_room old now new whole left ps p lists ls vs h e f le a =
+    omega (arith, part_unit_room old now whole left ps p lists ls vs h e f le, length-append (members_canon (part_tree p) (values_tree vs)) (fx_bit (others ls) ∷ []), a.room)
+
+pub parts_next : (old now mid new : Out) (whole : List ℕ) (left ps : List Part) (p : Part) (lists ls : List (List Value)) (vs : List Value) (more : Bool) → PartsLeft old now whole left lists → left ≡ p ∷ ps → lists ≡ vs ∷ ls
+    → Appends now mid (members_canon (part_tree p) (values_tree vs)) → more ≡ others ls → Appends mid new (fx_bit more ∷ []) → PartsLeft old new whole ps ls
+parts_next old now mid new whole left ps p lists ls vs more h e f a is b =
+    let t = at_first old now whole left ps p lists ls vs h e f in
+    let s = shape_here old now whole left ps p lists ls vs h e f in
+    let piece = members_canon (part_tree p) (values_tree vs) in record {
+      bounds = t.bounds.1;
+      shape = λ some. rest_shape ls s some;
+      written = written_more old now new whole (parts_canon (part_tree p ∷ map part_tree ps) (lists_tree (vs ∷ ls))) (piece ++ fx_bit (others ls) ∷ []) (parts_canon (map part_tree ps) (lists_tree ls)) t.written
+          (first_of_parts (part_tree p) (map part_tree ps) vs ls s)
+          (appends_more now mid new piece (fx_bit (others ls) ∷ []) (piece ++ fx_bit (others ls) ∷ []) refl a (subst (λ x. Appends mid new (fx_bit x ∷ [])) is b));
+    }
+  where
+    rest_shape : (ls : List (List Value)) → PartsShape (part_tree p ∷ map part_tree ps) (lists_tree (vs ∷ ls)) → 0 < length ls → PartsShape (map part_tree ps) (lists_tree ls)
+    rest_shape [] s some = absurd (omega arith)
+    rest_shape (w ∷ ls) s some = later_shape (part_tree p) (map part_tree ps) vs w ls s
+
+pub lists_ended : (old now : Out) (whole : List ℕ) (ps : List Part) (ls : List (List Value)) → PartsLeft old now whole ps ls → ls ≡ [] → Appends old now whole
+lists_ended old now whole ps ls h e = written_all old now whole (parts_canon (map part_tree ps) (lists_tree ls)) h.written (ap (λ ls. parts_canon (map part_tree ps) (lists_tree ls)) e ∙ none (map part_tree ps))
+  where
+    none : (ps : List MembersTree) → parts_canon ps no_lists ≡ []
+    none [] = refl
+    none (p ∷ ps) = refl
+
+pub parts_ended : (old now : Out) (whole : List ℕ) (ps : List Part) (ls : List (List Value)) → PartsLeft old now whole ps ls → ps ≡ [] → Appends old now whole
+parts_ended old now whole ps ls h e = written_all old now whole (parts_canon (map part_tree ps) (lists_tree ls)) h.written (ap (λ ps. parts_canon (map part_tree ps) (lists_tree ls)) e)
+
+pub ruleset parts = (parts_first, part_bounds, part_shape, part_room, part_fx_room, lists_ended, parts_ended)

@@ -1,0 +1,8 @@
+use Rattle.std.proofs.Common.{drop}
+use Rattle.ax_model.specs.Bodies.{CanonBody}
+use Rattle.ax_model.specs.Plain.{spec_tree, records_tree}
+use Rattle.ax_values.proofs.WrittenRecords.{RecordsLeft}
+use Rattle.ax_values.proofs.write_records.write_body.Given as goal
+
+abbrev pub invariant-loop-one : goal.invariant-loop-one
+invariant-loop-one l = RecordsLeft (spec_tree l.spec) l.fn.out l.out (CanonBody (spec_tree l.spec) (records_tree l.records)) (drop l.one-index l.records)

@@ -1,0 +1,30 @@
+-- What is written behind what was written before.
+use Rattle.std.specs.Prelude.{◌≡◌, ℕ, ◌≤◌, List, [], ◌++◌, Option, Some, None}
+use Rattle.ax_bits.specs.Out.{Appends}
+use Rattle.ax_bits.specs.declared.output.Out.{Out}
+use Rattle.ax_model.specs.Canonical.{canon}
+use Rattle.ax_model.specs.InBounds.{InBounds, SlotsInBounds}
+use Rattle.ax_model.specs.Shape.{Shape, EntriesShape}
+use Rattle.ax_model.specs.Tree.{KindTree, ValueTree, SlotsTree, EntriesTree, slot_count}
+
+-- of the whole bits a front is written, and the rest is left
+pub record IsWrittenTo (old now : Out) (whole left : List ℕ) : Type 0 where
+  pub front : List ℕ
+  pub appends : Appends old now front
+  pub split : whole ≡ front ++ left
+
+-- the value has the shape of the kind of its slot
+abbrev pub EntryShape : Option KindTree → ValueTree → Type 0
+EntryShape None v = ⊥
+EntryShape (Some k) v = InBounds k × Shape k v
+
+abbrev pub entry_canon : Option KindTree → ValueTree → List ℕ
+entry_canon None v = []
+entry_canon (Some k) v = canon k v
+
+-- entries in order, each of a defined one of these slots, of which there are 1 to 126, and of its kind's shape
+pub record AreEntriesOf (ss : SlotsTree) (es : EntriesTree) : Type 0 where
+  pub shape : EntriesShape 1 ss es
+  pub some : 1 ≤ slot_count ss
+  pub few : slot_count ss ≤ 126
+  pub bounds : SlotsInBounds ss

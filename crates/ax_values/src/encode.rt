@@ -1,0 +1,103 @@
+//! Blocks to octets.
+ghost use Rattle.std.specs.Prelude.{◌≡◌, ◌*◌, ◌<◌, ◌≤◌, ◌⊎◌, ◌↔◌, ◌++◌, length, IfOk, IfErr, IsErrOf};
+ghost use Rattle.ax_bits.specs.Bits.{bits, word, AreOctets};
+ghost use Rattle.ax_bits.specs.Out.{Appends, room};
+ghost use Rattle.ax_model.specs.Lengths.{held};
+ghost use Rattle.ax_model.specs.OfCode.{HasNoFlaw, BlockFits, block_octets, block_length};
+ghost use Rattle.ax_values.specs.declared.error.EncodeError.TheVariants as Encoding;
+
+use crate::error::EncodeError;
+use crate::write_records::write_body;
+use ax_bits::Out;
+use ax_model::{Block, Spec, canon_length};
+use std::alloc::{AllocError, Global};
+
+/// The canonical form of a block that fits a specification without flaw: CAT, LEN and the records, each presence field
+/// the least. TooLong comes exactly where it has more than 65,535 octets, with their number, held at 2^64 - 1. Takes
+/// the room of the octets once.
+pub fn encode_block(alloc: Global, spec: &Spec, block: &Block) -> Result<Vec<u8>, EncodeError>
+    requires no_flaw { HasNoFlaw spec.now }
+    requires block_fits { BlockFits spec.now block.now }
+    ensures octets { IfOk result (λ made. made.items ≡ block_octets spec.now block.now) }
+    ensures too_long { 65535 < block_length spec.now block.now ↔ IsErrOf result (Encoding.TooLong (held (block_length spec.now block.now))) }
+    ensures error { IfErr result (λ e. (e ≡ Encoding.TooLong (held (block_length spec.now block.now))) ⊎ (e ≡ Encoding.OutOfMemory)) }
+{
+    let length = canon_length(spec, block);
+    if length > 65_535 {
+        return Err(EncodeError::TooLong { octets: length });
+    }
+    let mut buffer = zeros(alloc, length as usize)?;
+    fill(block, spec, &mut buffer);
+    Ok(buffer)
+}
+
+// The buffer stands in a function of its own, so that no proof spells out its octets.
+fn zeros(alloc: Global, count: usize) -> Result<Vec<u8>, AllocError>
+    ensures { IfOk result (λ made. length made.items ≡ count) }
+{
+    vec![in alloc; 0; count]
+}
+
+/// Fills a buffer of just its length with the canonical form of a block.
+fn fill(block: &Block, spec: &Spec, buffer: &mut [u8])
+    requires no_flaw { HasNoFlaw spec.now }
+    requires block_fits { BlockFits spec.now block.now }
+    requires length { length buffer.old ≡ block_length spec.now block.now }
+    requires small { length buffer.old ≤ 65535 }
+    ensures { buffer.new ≡ block_octets spec.now block.now }
+{
+    write_over(block, spec, buffer);
+}
+
+#[tactic(auto, using(crate::proofs::WrittenBlocks::filled))]
+fn write_over(block: &Block, spec: &Spec, buffer: &mut [u8])
+    requires no_flaw { HasNoFlaw spec.now }
+    requires block_fits { BlockFits spec.now block.now }
+    requires length { length buffer.old ≡ block_length spec.now block.now }
+    requires small { length buffer.old ≤ 65535 }
+    ensures bits { bits buffer.new ≡ bits (block_octets spec.now block.now) }
+    ensures octets { AreOctets (block_octets spec.now block.now) }
+{
+    let length = buffer.len() as u16;
+    let mut out = Out::over(buffer);
+    write_block(block, spec, length, &mut out);
+}
+
+/// Appends the canonical form of a block of that many octets.
+fn write_block(block: &Block, spec: &Spec, length: u16, out: &mut Out<'_>)
+    requires no_flaw { HasNoFlaw spec.now }
+    requires block_fits { BlockFits spec.now block.now }
+    requires length { length ≡ block_length spec.now block.now }
+    requires room { 8 * block_length spec.now block.now ≤ room out.old }
+    ensures written { Appends out.old out.new (bits (block_octets spec.now block.now)) }
+    ensures octets { AreOctets (block_octets spec.now block.now) }
+{
+    match block {
+        Block::Read { category, records } => {
+            write_front(*category, length, out);
+            write_body(records, spec, out);
+        }
+        Block::Opaque { category, octets } => {
+            write_front(*category, length, out);
+            write_octets(octets.as_slice(), out);
+        }
+    }
+}
+
+/// Appends CAT and LEN.
+fn write_front(category: u8, length: u16, out: &mut Out<'_>)
+    requires { 24 ≤ room out.old }
+    ensures written { Appends out.old out.new (word 8 category ++ word 16 length) }
+    ensures octet { category < 256 }
+{
+    out.push_octet(category);
+    out.push_bits(length as u128, 16);
+}
+
+fn write_octets(octets: &[u8], out: &mut Out<'_>)
+    requires { 8 * length octets.now ≤ room out.old }
+    ensures written { Appends out.old out.new (bits octets.now) }
+    ensures octets { AreOctets octets.now }
+{
+    out.push_octets(octets);
+}

@@ -1,0 +1,23 @@
+//! The marks of entries.
+ghost use Rattle.std.specs.Prelude.{◌≡◌};
+ghost use Rattle.ax_fspec.specs.Fields.{least_field};
+ghost use Rattle.ax_model.specs.Canonical.{marks_of};
+ghost use Rattle.ax_model.specs.Plain.{entries_tree};
+ghost use Rattle.ax_model.specs.Presence.{octets_needed, least_presence};
+ghost use Rattle.ax_model.specs.Tree.{SlotsTree, slot_count};
+ghost use Rattle.ax_values.specs.Writing.{AreEntriesOf};
+
+use ax_fspec::Presence;
+use ax_model::Entries;
+
+/// The set of the slots that have entries.
+pub(crate) fn entry_marks(entries: &Entries) -> Presence
+    requires { (ss : SlotsTree) × AreEntriesOf ss (entries_tree entries.now) }
+    ensures { (ss : SlotsTree) → AreEntriesOf ss (entries_tree entries.now) → least_field result ≡ least_presence (octets_needed (slot_count ss)) (marks_of 1 ss (entries_tree entries.now)) }
+{
+    let mut marks = Presence::empty();
+    for entry in entries.as_slice() {
+        marks.mark(entry.slot);
+    }
+    marks
+}

@@ -1,0 +1,128 @@
+//! Values written under their kinds.
+ghost use Rattle.std.specs.Prelude.{◌≡◌, ◌<◌, ◌≤◌, length};
+ghost use Rattle.std.specs.Option.{option_copied, option_map};
+ghost use Rattle.ax_bits.specs.Out.{Appends, room};
+ghost use Rattle.ax_model.specs.Canonical.{canon, each_canon, entries_canon};
+ghost use Rattle.ax_model.specs.InBounds.{InBounds};
+ghost use Rattle.ax_model.specs.Lengths.{kind_of_slot, slot_kind};
+ghost use Rattle.ax_model.specs.Plain.{kind_tree, slot_tree, slots_tree, value_tree, values_tree, entries_tree};
+ghost use Rattle.ax_model.specs.Shape.{Shape, EachShape};
+ghost use Rattle.ax_model.specs.Tree.{counted, explicit, compound, occurrences, content_octets, marked};
+ghost use Rattle.ax_values.specs.Writing.{EntryShape, entry_canon, AreEntriesOf};
+
+use crate::marks::entry_marks;
+use crate::write_units::{write_fixed, write_parts, write_run};
+use ax_bits::Out;
+use ax_fspec::write_presence;
+use ax_model::{Entries, Entry, Kind, Octets, Slot, Slots, Value, Values};
+
+/// Appends the canonical spelling of a value of a kind.
+#[cycle(write_value)]
+#[tactic(auto, using(ax_bits::proofs::Outputs::appends_none))]
+pub(crate) fn write_value(value: &Value, kind: &Kind, out: &mut Out<'_>)
+    requires bounds { InBounds (kind_tree kind.now) }
+    requires shape { Shape (kind_tree kind.now) (value_tree value.now) }
+    requires room { length (canon (kind_tree kind.now) (value_tree value.now)) ≤ room out.old }
+    ensures { Appends out.old out.new (canon (kind_tree kind.now) (value_tree value.now)) }
+{
+    match (value, kind) {
+        (value, Kind::Fixed(fixed)) => write_fixed(value, fixed, out),
+        (Value::Extended(lists), Kind::Extended(parts)) => write_parts(lists, parts, out),
+        (Value::Repeat(values), Kind::Counted(inner)) => write_counted(values, inner, out),
+        (Value::Repeat(values), Kind::ByFx(fixed)) => write_run(values, fixed, out),
+        (Value::Octets(content), Kind::Explicit) => write_content(content, out),
+        (Value::Compound(entries), Kind::Compound(slots)) => write_compound(entries, slots, out),
+        _ => {}
+    }
+}
+
+/// Appends the occurrences of a counted item, with REP in front.
+#[cycle(write_value)]
+fn write_counted(values: &Values, inner: &Kind, out: &mut Out<'_>)
+    requires bounds { InBounds (kind_tree inner.now) }
+    requires shape { Shape (counted (kind_tree inner.now)) (occurrences (values_tree values.now)) }
+    requires room { length (canon (counted (kind_tree inner.now)) (occurrences (values_tree values.now))) ≤ room out.old }
+    ensures { Appends out.old out.new (canon (counted (kind_tree inner.now)) (occurrences (values_tree values.now))) }
+{
+    out.push_octet(values.count() as u8);
+    write_each(values, inner, out);
+}
+
+/// Appends values of one kind, in order.
+#[cycle(write_value)]
+#[tactic(auto, using(crate::proofs::WrittenKinds::each))]
+fn write_each(values: &Values, kind: &Kind, out: &mut Out<'_>)
+    requires bounds { InBounds (kind_tree kind.now) }
+    requires shape { EachShape (Shape (kind_tree kind.now)) (values_tree values.now) }
+    requires room { length (each_canon (canon (kind_tree kind.now)) (values_tree values.now)) ≤ room out.old }
+    ensures { Appends out.old out.new (each_canon (canon (kind_tree kind.now)) (values_tree values.now)) }
+{
+    for value in values.as_slice() {
+        write_value(value, kind, out);
+    }
+}
+
+/// Appends an explicit content, with its length octet in front.
+fn write_content(content: &Octets, out: &mut Out<'_>)
+    requires count { length content.now < 255 }
+    requires room { length (canon explicit (content_octets content.now)) ≤ room out.old }
+    ensures { Appends out.old out.new (canon explicit (content_octets content.now)) }
+{
+    out.push_octet(content.count() as u8 + 1);
+    out.push_octets(content.as_slice());
+}
+
+/// Appends the entries of a compound, with their least presence field in front.
+#[cycle(write_value)]
+fn write_compound(entries: &Entries, slots: &Slots, out: &mut Out<'_>)
+    requires entries { AreEntriesOf (slots_tree slots.now) (entries_tree entries.now) }
+    requires room { length (canon (compound (slots_tree slots.now)) (marked (entries_tree entries.now))) ≤ room out.old }
+    ensures { Appends out.old out.new (canon (compound (slots_tree slots.now)) (marked (entries_tree entries.now))) }
+{
+    write_presence(&entry_marks(entries), out);
+    write_entries(entries, slots, out);
+}
+
+#[cycle(write_value)]
+#[tactic(auto, using(crate::proofs::WrittenKinds::entries))]
+fn write_entries(entries: &Entries, slots: &Slots, out: &mut Out<'_>)
+    requires entries { AreEntriesOf (slots_tree slots.now) (entries_tree entries.now) }
+    requires room { length (entries_canon 1 (slots_tree slots.now) (entries_tree entries.now)) ≤ room out.old }
+    ensures { Appends out.old out.new (entries_canon 1 (slots_tree slots.now) (entries_tree entries.now)) }
+{
+    for entry in entries.as_slice() {
+        write_entry(entry, slots, out);
+    }
+}
+
+#[cycle(write_value)]
+fn write_entry(entry: &Entry, slots: &Slots, out: &mut Out<'_>)
+    requires shape { EntryShape (slot_kind (slots_tree slots.now) entry.now.slot) (value_tree entry.now.value) }
+    requires room { length (entry_canon (slot_kind (slots_tree slots.now) entry.now.slot) (value_tree entry.now.value)) ≤ room out.old }
+    ensures { Appends out.old out.new (entry_canon (slot_kind (slots_tree slots.now) entry.now.slot) (value_tree entry.now.value)) }
+{
+    if let Some(kind) = kind_of(slots, entry.slot) {
+        write_value(&entry.value, kind, out);
+    }
+}
+
+/// The kind of a slot. None comes exactly where the slot is spare.
+fn kind_in(slot: &Slot) -> Option<&Kind>
+    ensures { option_map kind_tree (option_copied result) ≡ kind_of_slot (slot_tree slot.now) }
+{
+    match slot {
+        Slot::Spare => None,
+        Slot::Sub { kind, .. } => Some(kind),
+    }
+}
+
+/// The kind of the slot of that number, from 1. None comes exactly where there is no such slot or it is spare.
+#[tactic(auto, using(ax_model::proofs::Counting::kinds))]
+fn kind_of(slots: &Slots, number: u32) -> Option<&Kind>
+    ensures { option_map kind_tree (option_copied result) ≡ slot_kind (slots_tree slots.now) number }
+{
+    if number == 0 {
+        return None;
+    }
+    kind_in(slots.get(number - 1)?)
+}

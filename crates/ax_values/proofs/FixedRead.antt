@@ -17,7 +17,7 @@ number_read b at w n lt e = ap (λ n. number n) (sym (number-word w n lt) ∙ ap
 
 -- ---- one member and those behind it
 
-pub width_more : (m : MemberTree) (ms : MembersTree) → members_width (member_and m ms) ≡ members_width (member_and m no_members) + members_width ms
+width_more : (m : MemberTree) (ms : MembersTree) → members_width (member_and m ms) ≡ members_width (member_and m no_members) + members_width ms
 width_more (named name f) ms = omega arith
 width_more (spare w) ms = omega arith
 
@@ -43,33 +43,9 @@ value_more (spare w) ms b v e =
 
 -- ---- members so far
 
-pub members_from : (all : List Member) (i : ℕ) (m : Member) → i < length all → m ≡ get_or all i m → members_tree (drop i all) ≡ member_and (member_tree m) (members_tree (drop (i + 1) all))
+members_from : (all : List Member) (i : ℕ) (m : Member) → i < length all → m ≡ get_or all i m → members_tree (drop i all) ≡ member_and (member_tree m) (members_tree (drop (i + 1) all))
 members_from all i m within e =
     ap members_tree (drop-cons all i m within ∙ ap (λ x. x ∷ drop (suc i) all) (sym e)) ∙ ap (λ n. member_and (member_tree m) (members_tree (drop n all))) (sym (add-one i))
-
--- the width of the members before place i
-pub record WidthSoFar (all : List Member) (i sum : ℕ) : Type 0 where
-  pub width : sum + members_width (members_tree (drop i all)) ≡ members_width (members_tree all)
-
-pub width_none : (all : List Member) → WidthSoFar all 0 0
-width_none all = record { width = omega arith }
-
-pub width_next : (all : List Member) (i sum one : ℕ) (m : Member) → WidthSoFar all i sum → i < length all → m ≡ get_or all i m → one ≡ members_width (member_and (member_tree m) no_members)
-    → WidthSoFar all (i + 1) (sum + one)
-width_next all i sum one m h within e f =
-    let from : members_width (members_tree (drop i all)) ≡ members_width (member_and (member_tree m) (members_tree (drop (i + 1) all))) = ap members_width (members_from all i m within e) in
-    record { width = omega (arith, h.width, width_more (member_tree m) (members_tree (drop (i + 1) all))) }
-
-pub width_left : (all : List Member) (i sum : ℕ) (m : Member) → WidthSoFar all i sum → i < length all → m ≡ get_or all i m → sum + members_width (member_and (member_tree m) no_members) ≤ members_width (members_tree all)
-width_left all i sum m h within e =
-    let from : members_width (members_tree (drop i all)) ≡ members_width (member_and (member_tree m) (members_tree (drop (i + 1) all))) = ap members_width (members_from all i m within e) in
-    omega (arith, h.width, width_more (member_tree m) (members_tree (drop (i + 1) all)))
-
-pub width_all : (all : List Member) (i sum : ℕ) → WidthSoFar all i sum → length all ≤ i → sum ≡ members_width (members_tree all)
-width_all all i sum h past =
-    let none : members_width (members_tree (drop i all)) ≡ 0 = ap (λ left. members_width (members_tree left)) (drop_all i all past) in omega (arith, h.width)
-
-pub ruleset widths = (width_none, width_next, width_left, width_all)
 
 -- the values of the members before place i, read from bit start up to bit at
 pub record MembersSoFar (all : List Member) (i : ℕ) (made : List Value) (b : List ℕ) (start at : ℕ) : Type 0 where

@@ -13,3 +13,4 @@ pub mod WrittenRuns
 pub mod WrittenKinds
 pub mod WrittenRecords
 pub mod WrittenBlocks
+pub mod RoundTrip

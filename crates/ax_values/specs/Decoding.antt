@@ -1,13 +1,16 @@
 -- What decoding answers.
-use Rattle.std.specs.Prelude.{◌≡◌, ℕ, ◌+◌, ◌-◌, ◌*◌, ◌≤◌, ◌⊎◌, List, length, take, drop, Result, Ok, Err}
+use Rattle.std.specs.Prelude.{◌≡◌, ◌≢◌, ℕ, ◌+◌, ◌-◌, ◌*◌, ◌≤◌, ◌⊎◌, List, length, take, drop, Result, Ok, Err}
 use Rattle.ax_bits.specs.Bits.{bits}
-use Rattle.ax_model.specs.Blocks.{BlockTree, read_block}
+use Rattle.ax_model.specs.Blocks.{BlockTree, read_block, opaque_block, IsFramed}
 use Rattle.ax_model.specs.Bodies.{SpellsRecord, FailsRecord, SpellsBody, FailsBody}
 use Rattle.ax_model.specs.Failing.{IsFault}
+use Rattle.ax_model.specs.Plain.{spec_tree, block_tree}
 use Rattle.ax_model.specs.Specification.{SpecTree}
 use Rattle.ax_model.specs.Spelling.{IsSpelling}
 use Rattle.ax_model.specs.Tree.{KindTree, ValueTree, EntriesTree}
 use Rattle.ax_model.specs.declared.fault.BodyFault.{BodyFault}
+use Rattle.ax_model.specs.declared.record.Block.{Block}
+use Rattle.ax_model.specs.declared.spec.Spec.{Spec}
 use Rattle.ax_values.specs.declared.error.DecodeError.{DecodeError}
 use Rattle.ax_values.specs.declared.error.DecodeError.TheVariants as Decoding
 
@@ -64,3 +67,19 @@ AnswersFault fault (Err e) = (e ≡ Decoding.Fault fault) ⊎ (e ≡ Decoding.Ou
 abbrev pub Names : (BodyFault → Type 0) → DecodeError → Type 0
 Names F (Decoding.Fault fault) = F fault
 Names F Decoding.OutOfMemory = Unit {0}
+
+-- ---- a block
+
+-- what reading a block of this category and body may answer, where it is opaque, and where its body spells records
+pub record DecodesAs (spec : Spec) (category : ℕ) (body : List ℕ) (answer : Result Block DecodeError) : Type 0 where
+  pub opaque : category ≢ spec.category → Answers (λ block. block_tree block ≡ opaque_block category body) answer
+  pub where_spelled : (records : List EntriesTree) → category ≡ spec.category → SpellsBody (spec_tree spec) records (bits body) → Answers (λ block. block_tree block ≡ read_block category records) answer
+
+-- the octets are a block's, and reading them gives this block
+pub record ReadsBack (spec : Spec) (block : Block) (octets : List ℕ) : Type 0 where
+  pub category : ℕ
+  pub body : List ℕ
+  pub framed : IsFramed category body octets
+  pub some : 1 ≤ length body
+  pub few : length body ≤ 65532
+  pub same : (answer : Result Block DecodeError) → DecodesAs spec category body answer → Answers (λ again. block_tree again ≡ block_tree block) answer

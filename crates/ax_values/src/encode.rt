@@ -4,6 +4,7 @@ ghost use Rattle.ax_bits.specs.Bits.{bits, word, AreOctets};
 ghost use Rattle.ax_bits.specs.Out.{Appends, room};
 ghost use Rattle.ax_model.specs.Lengths.{held};
 ghost use Rattle.ax_model.specs.OfCode.{HasNoFlaw, BlockFits, block_octets, block_length};
+ghost use Rattle.ax_values.specs.Decoding.{ReadsBack};
 ghost use Rattle.ax_values.specs.declared.error.EncodeError.TheVariants as Encoding;
 
 use crate::error::EncodeError;
@@ -13,12 +14,13 @@ use ax_model::{Block, Spec, canon_length};
 use std::alloc::{AllocError, Global};
 
 /// The canonical form of a block that fits a specification without flaw: CAT, LEN and the records, each presence field
-/// the least. TooLong comes exactly where it has more than 65,535 octets, with their number, held at 2^64 - 1. Takes
+/// the least; reading it gives the block back. TooLong comes exactly where it has more than 65,535 octets, with their number, held at 2^64 - 1. Takes
 /// the room of the octets once.
 pub fn encode_block(alloc: Global, spec: &Spec, block: &Block) -> Result<Vec<u8>, EncodeError>
     requires no_flaw { HasNoFlaw spec.now }
     requires block_fits { BlockFits spec.now block.now }
     ensures octets { IfOk result (λ made. made.items ≡ block_octets spec.now block.now) }
+    ensures reads_back { IfOk result (λ made. ReadsBack spec.now block.now made.items) }
     ensures too_long { 65535 < block_length spec.now block.now ↔ IsErrOf result (Encoding.TooLong (held (block_length spec.now block.now))) }
     ensures error { IfErr result (λ e. (e ≡ Encoding.TooLong (held (block_length spec.now block.now))) ⊎ (e ≡ Encoding.OutOfMemory)) }
 {
@@ -26,7 +28,24 @@ pub fn encode_block(alloc: Global, spec: &Spec, block: &Block) -> Result<Vec<u8>
     if length > 65_535 {
         return Err(EncodeError::TooLong { octets: length });
     }
-    let mut buffer = zeros(alloc, length as usize)?;
+    let octets = encode_short(alloc, spec, block, length as usize)?;
+    Ok(octets)
+}
+
+/// The canonical form of a block, which has that many octets.
+fn encode_short(
+    alloc: Global,
+    spec: &Spec,
+    block: &Block,
+    length: usize,
+) -> Result<Vec<u8>, AllocError>
+    requires no_flaw { HasNoFlaw spec.now }
+    requires block_fits { BlockFits spec.now block.now }
+    requires length { length ≡ block_length spec.now block.now }
+    requires small { length ≤ 65535 }
+    ensures { IfOk result (λ made. made.items ≡ block_octets spec.now block.now) }
+{
+    let mut buffer = zeros(alloc, length)?;
     fill(block, spec, &mut buffer);
     Ok(buffer)
 }

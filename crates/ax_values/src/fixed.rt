@@ -11,43 +11,6 @@ use ax_bits::bits_at;
 use ax_model::{Fixed, Member, Members, Value, Values};
 use std::alloc::{AllocError, Global};
 
-/// The bits of a fixed kind.
-#[cycle(widths)]
-pub(crate) fn fixed_width(fixed: &Fixed) -> u32
-    requires { width (fixed_tree fixed.now) ≤ 524256 }
-    ensures { result ≡ width (fixed_tree fixed.now) }
-{
-    match fixed {
-        Fixed::Element { width, .. } => *width,
-        Fixed::Group(members) => members_width(members),
-    }
-}
-
-/// The bits of members together.
-#[cycle(widths)]
-#[tactic(auto, using(crate::proofs::FixedRead::widths))]
-pub(crate) fn members_width(members: &Members) -> u32
-    requires { members_width (members_tree members.now) ≤ 524256 }
-    ensures { result ≡ members_width (members_tree members.now) }
-{
-    let mut sum = 0;
-    for member in members.as_slice() {
-        sum += member_width(member);
-    }
-    sum
-}
-
-#[cycle(widths)]
-fn member_width(member: &Member) -> u32
-    requires { members_width (member_and (member_tree member.now) no_members) ≤ 524256 }
-    ensures { result ≡ members_width (member_and (member_tree member.now) no_members) }
-{
-    match member {
-        Member::Named { fixed, .. } => fixed_width(fixed),
-        Member::Spare { width } => *width,
-    }
-}
-
 /// The number in the `width` bits from bit `at` of the body on, which is moved behind them.
 fn decode_number(body: &[u8], at: &mut u32, width: u32) -> u128
     requires width { IsWidth width }

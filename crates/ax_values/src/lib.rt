@@ -6,6 +6,7 @@ mod encode;
 mod error;
 mod fixed;
 mod kinds;
+pub mod laws;
 mod marks;
 mod records;
 mod slots;

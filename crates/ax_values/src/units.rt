@@ -8,7 +8,7 @@ ghost use Rattle.ax_model.specs.declared.fault.BodyCause.TheVariants as Cause;
 ghost use Rattle.ax_values.specs.Reading.{Gets, IsLost, kind_read, fx_bit};
 
 use crate::error::DecodeError;
-use crate::fixed::{decode_fixed, decode_members, fixed_width, members_width};
+use crate::fixed::{decode_fixed, decode_members};
 use ax_bits::bits_at;
 use ax_model::{BodyCause, BodyFault, Fixed, Lists, Parts, Value, Values};
 use std::alloc::Global;
@@ -56,7 +56,7 @@ pub(crate) fn decode_single(
     ensures ok { IfOk result (λ r. Gets (kind_read (Tree.fixed (fixed_tree fixed.now)) body.now at) body.now at r.1 (value_tree r.0)) }
     ensures err { IfErr result (λ e. IsLost (kind_read (Tree.fixed (fixed_tree fixed.now)) body.now at) at e) }
 {
-    let end = unit_end(body, at, fixed_width(fixed))?;
+    let end = unit_end(body, at, fixed.width() as u32)?;
     let mut bit = 8 * at;
     let value = decode_fixed(alloc, fixed, body, &mut bit)?;
     Ok((value, end))
@@ -79,7 +79,7 @@ pub(crate) fn decode_parts(
     let mut made = Lists::new(alloc);
     let mut here = at;
     for part in parts.as_slice() {
-        let end = unit_end(body, here, members_width(&part.members) + 1)?;
+        let end = unit_end(body, here, part.width() as u32 + 1)?;
         let mut bit = 8 * here;
         let values = decode_members(alloc, &part.members, body, &mut bit)?;
         made.push(values)?;
@@ -108,7 +108,7 @@ pub(crate) fn decode_run(
     ensures ok { IfOk result (λ r. Gets (kind_read (Tree.by_fx (fixed_tree fixed.now)) body.now at) body.now at r.1 (Tree.occurrences (values_tree r.0))) }
     ensures err { IfErr result (λ e. IsLost (kind_read (Tree.by_fx (fixed_tree fixed.now)) body.now at) at e) }
 {
-    let width = fixed_width(fixed);
+    let width = fixed.width() as u32;
     let mut made = Values::new(alloc);
     let mut here = at;
     loop {

@@ -16,9 +16,10 @@ returns-in_err-end-clause-err c =
     let same = c.as_slice-part-items.ensures.members in
     let within : i < length all = subst (λ xs. i < length xs) same c.loop-part-test.true in
     let is : p ≡ get_or all i p = subst (λ xs. p ≡ get_or xs i p) same c.part-item.is in
+    let bounds = part_bounds all i p c.args.body.now c.args.at c.loop-part.here c.loop-part.made c.loop-part.invariant within is in
     let fault = c.in_err-end.field-0.0 in
     err_by_fault (kind_read (extended (map part_tree all)) c.args.body.now c.args.at) c.args.at c.from_residual.result fault c.from_residual.ensures.1
-    (extended_loses (map part_tree all) c.args.body.now c.args.at fault (part_short all i p c.args.body.now c.args.at c.loop-part.here c.loop-part.made fault c.loop-part.invariant within is (omega (arith, c.in_err-end.ensures.short, c.members_width.ensures)) (ap (λ f. f.cause) c.in_err-end.ensures.fault) (ap (λ f. f.bit) c.in_err-end.ensures.fault)))
+    (extended_loses (map part_tree all) c.args.body.now c.args.at fault (part_short all i p c.args.body.now c.args.at c.loop-part.here c.loop-part.made fault c.loop-part.invariant within is (omega (arith, c.in_err-end.ensures.short, c.width.ensures, bounds.1)) (ap (λ f. f.cause) c.in_err-end.ensures.fault) (ap (λ f. f.bit) c.in_err-end.ensures.fault)))
 
 pub returns-then-not-has_fx-clause-ok : goal.returns-then-not-has_fx-clause-ok
 returns-then-not-has_fx-clause-ok c =
@@ -34,7 +35,7 @@ returns-then-not-has_fx-clause-ok c =
     let within : i < length all = subst (λ xs. i < length xs) same c.loop-part-test.true in
     let is : p ≡ get_or all i p = subst (λ xs. p ≡ get_or xs i p) same c.part-item.is in
     let bounds = part_bounds all i p body c.args.at here c.loop-part.made c.loop-part.invariant within is in
-    let u = unit_is body here end w c.decode_members.new.at c.has_fx.result bounds.0 ok.0 ok.1 (omega (arith, ok.2, c.members_width.ensures)) c.in_ok-values.ensures.at c.has_fx.ensures in
+    let u = unit_is body here end w c.decode_members.new.at c.has_fx.result bounds.0 ok.0 ok.1 (omega (arith, ok.2, c.width.ensures, bounds.1)) c.in_ok-values.ensures.at c.has_fx.ensures in
     let none : c.has_fx.result ≡ false = c.if-not-has_fx.true in
     subst (λ made. Gets (kind_read (extended (map part_tree all)) body c.args.at) body c.args.at end (part_values (lists_tree made))) (sym c.in_ok-push.ensures.ok)
     (extended_gets (map part_tree all) body c.args.at end (lists_tree (c.loop-part.made ++ c.in_ok-values.values ∷ [])) (part_last all i p body c.args.at here end w c.loop-part.made c.in_ok-values.values c.has_fx.result c.loop-part.invariant within is u refl none c.in_ok-values.ensures.values))
@@ -53,7 +54,7 @@ loop-part-preserved c =
     let within : i < length all = subst (λ xs. i < length xs) same c.loop-part-test.true in
     let is : p ≡ get_or all i p = subst (λ xs. p ≡ get_or xs i p) same c.part-item.is in
     let bounds = part_bounds all i p body c.args.at here c.loop-part.made c.loop-part.invariant within is in
-    let u = unit_is body here end w c.decode_members.new.at c.has_fx.result bounds.0 ok.0 ok.1 (omega (arith, ok.2, c.members_width.ensures)) c.in_ok-values.ensures.at c.has_fx.ensures in
+    let u = unit_is body here end w c.decode_members.new.at c.has_fx.result bounds.0 ok.0 ok.1 (omega (arith, ok.2, c.width.ensures, bounds.1)) c.in_ok-values.ensures.at c.has_fx.ensures in
     let one : c.has_fx.result ≡ true = c.if-not-has_fx.false in
     subst (λ made. PartsSoFar all (i + 1) body c.args.at end made) (sym c.in_ok-push.ensures.ok)
     (part_more all i p body c.args.at here end w c.loop-part.made c.in_ok-values.values c.has_fx.result c.loop-part.invariant within is u refl one c.in_ok-values.ensures.values)

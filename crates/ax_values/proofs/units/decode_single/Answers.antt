@@ -5,4 +5,4 @@ use Rattle.ax_values.proofs.units.decode_single.Goals as goal
 
 pub returns-clause-ok : goal.returns-clause-ok
 returns-clause-ok c =
-    fixed_gets (fixed_tree c.args.fixed.now) c.args.body.now c.args.at c.in_ok-end.end (value_tree c.in_ok-value.value) (omega (arith, c.in_ok-end.ensures.ok)) (omega (arith, c.in_ok-end.ensures.ok)) (omega (arith, c.in_ok-end.ensures.ok, c.fixed_width.ensures)) c.in_ok-value.ensures.value
+    fixed_gets (fixed_tree c.args.fixed.now) c.args.body.now c.args.at c.in_ok-end.end (value_tree c.in_ok-value.value) (omega (arith, c.in_ok-end.ensures.ok)) (omega (arith, c.in_ok-end.ensures.ok)) (omega (arith, c.in_ok-end.ensures.ok, c.width.ensures, c.requires.bounds.1)) c.in_ok-value.ensures.value

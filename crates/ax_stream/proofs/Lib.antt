@@ -1,0 +1,3 @@
+pub mod BlockSteps
+pub mod Runs
+pub mod Streams

@@ -1,0 +1,3 @@
+pub mod BlockCanon
+pub mod InputEnds
+pub mod Stops

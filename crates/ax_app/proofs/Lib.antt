@@ -1,1 +1,4 @@
-pub mod WordLists
+pub mod Steps
+pub mod Headlines
+pub mod Causes
+pub mod Complete

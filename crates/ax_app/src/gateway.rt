@@ -1,102 +1,70 @@
 //! The top call.
-ghost use Rattle.std.specs.Prelude.{◌≡◌, ◌⊎◌, ◌↔◌, ◌<◌, ◌≤◌, ℕ, List, map, length, IfOk, IsErrOf};
+ghost use Rattle.std.specs.Prelude.{◌≡◌, ℕ, ◌+◌, ◌<◌, ◌↔◌, List, [], ◌++◌, Some, length, map};
 ghost use Rattle.std.specs.String.{string_bytes};
-ghost use Rattle.ax_outside.specs.Told.{Rose};
-ghost use Rattle.ax_outside.specs.Files.{Lacks};
-ghost use Rattle.ax_app.specs.Words.{IsCanon, HasNoShape};
-ghost use Rattle.ax_app.specs.declared.gateway.FileStop.TheVariants.{Fault};
+ghost use Rattle.ax_bits.specs.Bits.{AreOctets};
+ghost use Rattle.ax_command.specs.Lines.{lines_of};
+ghost use Rattle.ax_command.specs.Words.{HasNoShape, IsCheck, IsCanon};
+ghost use Rattle.ax_model.specs.Blocks.{BlockTree};
+ghost use Rattle.ax_model.specs.CanonicalOctets.{CanonBytes};
+ghost use Rattle.ax_model.specs.Specification.{SpecTree};
+ghost use Rattle.ax_outside.specs.Files.{File};
+ghost use Rattle.ax_outside.specs.Told.{Rose, with_end};
+ghost use Rattle.ax_stream.specs.InputEnds.{longest_input};
+ghost use Rattle.ax_app.specs.Answer.{check_text};
+ghost use Rattle.ax_app.specs.Completing.{IsQuiet, CanCheck, CanCanon, IsDoneWith};
+ghost use Rattle.ax_app.specs.Headline.{Headline, IsUntouched};
+ghost use Rattle.ax_app.specs.Running.{Runs, EndsEarly, EndsAtAFile, IsOfFiles, IsIdle, Reported};
 
-use crate::first_form::{FormError, read_first_form};
-use crate::judge::{Judged, field_lengths, judge_input};
-use crate::outcome::{Outcome, SpecFault};
-use crate::words::canon_file;
-use ax_model::Spec;
-use ax_outside::{Library, LoadError, Sink, Source, fill, write_all_of};
-use std::alloc::{AllocError, Global};
+use crate::commands::{canon, check};
+use ax_command::{Command, Outcome, read_command, write_lines};
+use ax_outside::{Library, Sink, Source};
+use std::alloc::Global;
 
-/// The most octets of a category file.
-const LARGEST_FILE: u32 = 1_048_576;
-
-/// One octet more than the largest block.
-const INPUT_BUFFER: usize = 65_536;
-
-/// That many zeros.
-fn zeros(alloc: Global, count: usize) -> Result<Vec<u8>, AllocError>
-    ensures { IfOk result (λ made. length made.items ≡ count) }
+/// Does what the words say.
+fn obey<L: Library, S: Source, K: Sink>(
+    alloc: Global,
+    words: &Vec<String>,
+    library: &mut L,
+    source: &mut S,
+    out: &mut K,
+) -> Outcome
+    ensures runs { Runs (map string_bytes words.now.items) (L.files library.old)
+        (record { faults = L.faults library.old; faults' = L.faults library.new; taken = L.taken library.old; taken' = L.taken library.new })
+        (record { left = S.left source.old; left' = S.left source.new; taken = S.taken source.old; taken' = S.taken source.new; faults = S.faults source.old; faults' = S.faults source.new })
+        (record { held = K.held out.old; held' = K.held out.new; faults = K.faults out.old; faults' = K.faults out.new })
+        result }
 {
-    Ok(vec![in alloc; 0u8; count]?)
-}
-
-/// Why a category file gives no specification.
-enum FileStop {
-    Fault,
-    NotYet,
-    OutOfMemory,
-}
-
-/// The specification in the library's file of that name.
-fn load_spec<L: Library>(alloc: Global, library: &mut L, name: &str) -> Result<Spec, FileStop>
-    ensures fault { IsErrOf result Fault → Rose (L.faults library.old) (L.faults library.new) ⊎ Lacks (L.files library.old) name.now }
-{
-    let octets = match library.load(alloc, name, LARGEST_FILE) {
-        Ok(octets) => octets,
-        Err(LoadError::Failed) => return Err(FileStop::Fault),
-        Err(LoadError::TooLarge) => return Err(FileStop::NotYet),
-        Err(LoadError::OutOfMemory) => return Err(FileStop::OutOfMemory),
-    };
-    match read_first_form(alloc, &octets) {
-        Ok(spec) => Ok(spec),
-        Err(FormError::NotFirstForm) => Err(FileStop::NotYet),
-        Err(FormError::OutOfMemory) => Err(FileStop::OutOfMemory),
+    match read_command(words) {
+        None => Outcome::Usage,
+        Some(Command::Check { file }) => check(alloc, library, file, out),
+        Some(Command::Canon { files }) => canon(alloc, library, files, source, out),
     }
 }
 
-/// Reads the input, judges it, and writes the canonical form of its block.
+/// Writes the lines of the outcome. A failing write ends the writing.
+#[tactic(auto, using(crate::proofs::Steps::reports))]
+fn report_outcome<R: Sink>(report: &mut R, outcome: &Outcome)
+    ensures { Reported (R.held report.old) (R.held report.new) (R.faults report.old) (R.faults report.new) (lines_of outcome.now) }
+{
+    let _ = write_lines(report, outcome);
+}
+
+/// Does what the words say, and answers how that ended: `check SPEC` writes the line and the text of an accepted
+/// category file, and `canon` with one or more SPEC writes the input's data blocks in their canonical form.
 ///
-/// The one presence octet of a record of the first form is always the least presence field, so the block's own
-/// octets are its canonical form.
-fn canon<S: Source, K: Sink>(alloc: Global, spec: &Spec, source: &mut S, out: &mut K) -> Outcome
-    ensures usage { result ≡ Outcome.Usage → ⊥ }
-    ensures load { (file : ℕ) → result ≡ Outcome.LoadFault file → ⊥ }
-    ensures read { result ≡ Outcome.ReadFault → Rose (S.faults source.old) (S.faults source.new) }
-    ensures write { result ≡ Outcome.WriteFault → Rose (K.faults out.old) (K.faults out.new) }
-{
-    let Ok(lengths) = field_lengths(alloc, spec) else {
-        return Outcome::OutOfMemory;
-    };
-    let Ok(mut buffer) = zeros(alloc, INPUT_BUFFER) else {
-        return Outcome::OutOfMemory;
-    };
-    let Ok(count) = fill(source, &mut buffer) else {
-        return Outcome::ReadFault;
-    };
-    if count == buffer.len() {
-        return Outcome::InputNotYet;
-    }
-    let input = &buffer[..count];
-    let blocks = match judge_input(spec.category, &lengths, input) {
-        Judged::Empty => 0,
-        Judged::Block => 1,
-        Judged::Fault(fault) => return Outcome::InputRefused { fault },
-        Judged::NotYet => return Outcome::InputNotYet,
-    };
-    match write_all_of(out, input) {
-        Ok(()) => Outcome::Done { blocks },
-        Err(_) => Outcome::WriteFault,
-    }
-}
-
-/// Does what the words say, and answers how that ended.
-///
-/// - `Usage`: exactly where the words aren't `canon` and one file name that doesn't begin with `-`.
-/// - `LoadFault`, of file 0: only where the library's count of faults rose in this call, or a library that tells its
-///   files lacks the name.
-/// - `SpecRefused`: the file has more than 1,048,576 octets or isn't of the first form.
-/// - `ReadFault` and `WriteFault`: only where the count of faults of the source, and of `out`, rose in this call.
-/// - `InputNotYet`, `InputRefused`, `Done`: by what the input is; see `Outcome`.
+/// - `Usage`: exactly where the words have no shape.
+/// - `SpecRefused`, `CategoryTwice`, `LoadFault`: at the first file that gives no specification or has the category of
+///   an earlier one. `LoadFault` only where the library's count of faults rose, or a library that tells its files
+///   lacks the name. `TooLarge` of a library that doesn't tell only where it took more octets than the limit.
+/// - `InputRefused`: the first fault of the input, with its block and its bit. `InputTooLong`: more than 2^40 octets.
+/// - `ReadFault`, `WriteFault`: only where the count of faults of the source, and of `out`, rose in this call.
+/// - `Done`: the input, where the command reads it, was read to its end.
 /// - `OutOfMemory`: want of memory.
 ///
-/// Nothing is written to `report` yet.
+/// Over a library, a source and an `out` that tell their content, `out` has gained exactly the result of the blocks
+/// before the fault; where a fault of the outside or want of memory stopped the run, the results of the blocks before, and
+/// of the one that was being written a prefix. The lines of the outcome come last on `report`. Where writing them
+/// fails the outcome stays, and a prefix of them stands there.
 pub fn run<L: Library, S: Source, K: Sink, R: Sink>(
     alloc: Global,
     words: &Vec<String>,
@@ -105,23 +73,38 @@ pub fn run<L: Library, S: Source, K: Sink, R: Sink>(
     out: &mut K,
     report: &mut R,
 ) -> Outcome
+    ensures headline { (files : List File) (input before : List ℕ) → AreOctets input → L.files library.old ≡ Some files → S.left source.old ≡ Some input → K.held out.old ≡ Some before
+        → Headline (map string_bytes words.now.items) files
+        (record { faults = L.faults library.old; faults' = L.faults library.new; taken = L.taken library.old; taken' = L.taken library.new })
+        input before
+        (record { left = S.left source.old; left' = S.left source.new; taken = S.taken source.old; taken' = S.taken source.new; faults = S.faults source.old; faults' = S.faults source.new })
+        (record { held = K.held out.old; held' = K.held out.new; faults = K.faults out.old; faults' = K.faults out.new })
+        result }
+    ensures done_reads_all { (input before : List ℕ) (names : List (List ℕ)) (blocks : ℕ) → AreOctets input → S.left source.old ≡ Some input → K.held out.old ≡ Some before
+        → IsCanon (map string_bytes words.now.items) names → result ≡ Outcome.Done blocks → S.left source.new ≡ Some [] }
+    ensures complete_check { (files : List File) (spec : SpecTree) → L.files library.old ≡ Some files
+        → IsQuiet (record { faults = L.faults library.old; faults' = L.faults library.new; taken = L.taken library.old; taken' = L.taken library.new })
+        (record { left = S.left source.old; left' = S.left source.new; taken = S.taken source.old; taken' = S.taken source.new; faults = S.faults source.old; faults' = S.faults source.new })
+        (record { held = K.held out.old; held' = K.held out.new; faults = K.faults out.old; faults' = K.faults out.new })
+        → CanCheck (map string_bytes words.now.items) files spec
+        → IsDoneWith result 0 (K.held out.new) (with_end (K.held out.old) (check_text spec)) }
+    ensures complete_canon { (files : List File) (catalogue : List SpecTree) (input before : List ℕ) (blocks : List BlockTree) → L.files library.old ≡ Some files → S.left source.old ≡ Some input → K.held out.old ≡ Some before → AreOctets input
+        → IsQuiet (record { faults = L.faults library.old; faults' = L.faults library.new; taken = L.taken library.old; taken' = L.taken library.new })
+        (record { left = S.left source.old; left' = S.left source.new; taken = S.taken source.old; taken' = S.taken source.new; faults = S.faults source.old; faults' = S.faults source.new })
+        (record { held = K.held out.old; held' = K.held out.new; faults = K.faults out.old; faults' = K.faults out.new })
+        → CanCanon (map string_bytes words.now.items) files catalogue input blocks
+        → IsDoneWith result (length blocks) (K.held out.new) (Some (before ++ CanonBytes catalogue blocks)) }
     ensures usage { result ≡ Outcome.Usage ↔ HasNoShape (map string_bytes words.now.items) }
-    ensures load { (n : ℕ) → result ≡ Outcome.LoadFault n → (n ≡ 0)
-        × (Rose (L.faults library.old) (L.faults library.new)
-        ⊎ ((name : List ℕ) × IsCanon (map string_bytes words.now.items) name × Lacks (L.files library.old) name)) }
-    ensures read { result ≡ Outcome.ReadFault → Rose (S.faults source.old) (S.faults source.new) }
+    ensures files { EndsAtAFile result → IsOfFiles (map string_bytes words.now.items) (L.files library.old)
+        (record { faults = L.faults library.old; faults' = L.faults library.new; taken = L.taken library.old; taken' = L.taken library.new }) result }
+    ensures read { result ≡ Outcome.ReadFault → Rose (S.faults source.old) (S.faults source.new) × ((names : List (List ℕ)) × IsCanon (map string_bytes words.now.items) names) }
     ensures write { result ≡ Outcome.WriteFault → Rose (K.faults out.old) (K.faults out.new) }
+    ensures too_long { result ≡ Outcome.InputTooLong → S.taken source.old + longest_input < S.taken source.new }
+    ensures early { EndsEarly result → (S.left source.new ≡ S.left source.old) × (S.taken source.new ≡ S.taken source.old) × (K.held out.new ≡ K.held out.old) }
+    ensures check_reads_nothing { (file : List ℕ) → IsCheck (map string_bytes words.now.items) file → (S.left source.new ≡ S.left source.old) × (S.taken source.new ≡ S.taken source.old) }
+    ensures report { Reported (R.held report.old) (R.held report.new) (R.faults report.old) (R.faults report.new) (lines_of result) }
 {
-    let Some(name) = canon_file(words) else {
-        return Outcome::Usage;
-    };
-    match load_spec(alloc, library, name) {
-        Ok(spec) => canon(alloc, &spec, source, out),
-        Err(FileStop::Fault) => Outcome::LoadFault { file: 0 },
-        Err(FileStop::NotYet) => Outcome::SpecRefused {
-            file: 0,
-            fault: SpecFault::NotYet,
-        },
-        Err(FileStop::OutOfMemory) => Outcome::OutOfMemory,
-    }
+    let outcome = obey(alloc, words, library, source, out);
+    report_outcome(report, &outcome);
+    outcome
 }

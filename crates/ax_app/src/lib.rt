@@ -2,11 +2,8 @@
 //! `asterix` does.
 #![tactic(auto)]
 
-mod first_form;
+mod commands;
 mod gateway;
-mod judge;
-mod outcome;
-mod words;
 
+pub use ax_command::{Cause, InputFault, Outcome, SpecFault};
 pub use gateway::run;
-pub use outcome::{Cause, InputFault, Outcome, SpecFault};

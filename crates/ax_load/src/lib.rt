@@ -2,10 +2,12 @@
 #![tactic(auto)]
 
 mod files;
+mod laws;
 mod loading;
 
 pub use files::{FileStop, read_file};
-pub use loading::load_catalogue;
+pub use laws::{file_accepted_once, files_give_once};
+pub use loading::{load_catalogue, load_file};
 
 #[cfg(test)]
 mod tests;

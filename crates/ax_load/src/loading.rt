@@ -10,9 +10,9 @@ use ax_command::{Outcome, SpecFault};
 use ax_outside::{Library, LoadError};
 use std::alloc::Global;
 
-/// The specification of the file of that name, which has that number.
+/// The specification of the file of that name, or how the run ends. The file has that number in the order of the words.
 #[tactic(auto, using(crate::proofs::FileLemmas::file_ends))]
-fn load_file<L: Library>(
+pub fn load_file<L: Library>(
     alloc: Global,
     library: &mut L,
     name: &str,

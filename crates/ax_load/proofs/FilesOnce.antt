@@ -1,0 +1,121 @@
+-- Files give one answer.
+use Rattle.std.proofs.Common.{◌≡◌, ◌≢◌, ℕ, ◌+◌, ◌<◌, ◌≤◌, ◌⊎◌, inl, inr, List, [], ◌∷◌, ◌++◌, Option, Some, None, IsSome, length, refl, sym, ◌∙◌, ap, subst, arith}
+use Rattle.ax_outside.specs.Files.{File, octets_of, HoldsFile, Lacks, TooMany, IsLonger, Exceeds}
+use Rattle.ax_outside.specs.Told.{Rose}
+use Rattle.ax_model.specs.Flaws.{flaws_of, NoFlaw}
+use Rattle.ax_model.specs.Specification.{SpecTree, spec_of}
+use Rattle.ax_tokens.specs.PlainToken.{PlainToken}
+use Rattle.ax_tokens.proofs.Once.{tokens_once, no_bad_byte, none_too_deep}
+use Rattle.ax_grammar.specs.Answers.{SpellsSpec, NamesBadToken, texts_of}
+use Rattle.ax_grammar.specs.Spelling.{spelled}
+use Rattle.ax_grammar.proofs.TokenTexts.{spelling_once}
+use Rattle.ax_command.specs.declared.outcome.Outcome.{Outcome}
+use Rattle.ax_command.specs.declared.outcome.Outcome.TheVariants as OutcomeOf
+use Rattle.ax_command.specs.declared.outcome.SpecFault.{SpecFault}
+use Rattle.ax_command.specs.declared.outcome.SpecFault.TheVariants.{TooLarge, BadByte, TooDeep, BadToken, Flawed}
+use Rattle.ax_load.specs.FileAnswers.{HasTokens, IsAccepted, IsRefused}
+use Rattle.ax_load.specs.Loading.{Counts, GivesSpec, IsRefusedFile, IsRefusedOctets, StopsAtFile, FilesPass, none_yet, one_more, HasCategoryTwice, EndsAtFile, by_file, by_category, FilesGive, FilesEnd}
+
+-- ---- one file
+
+same_tokens : (octets : List ℕ) (ts us : List PlainToken) → HasTokens octets ts → HasTokens octets us → ts ≡ us
+same_tokens octets ts us h k = tokens_once octets ts us h.lexed.lexed k.lexed.lexed
+
+same_spelled : (ts us : List PlainToken) (spec other : SpecTree) → ts ≡ us → SpellsSpec ts spec → SpellsSpec us other → spec ≡ other
+same_spelled ts us spec other is h k = spelling_once spec other h.in_range k.in_range (sym h.texts ∙ ap texts_of is ∙ k.texts)
+
+pub accepted_once : (octets : List ℕ) (spec other : SpecTree) → IsAccepted octets spec → IsAccepted octets other → spec ≡ other
+accepted_once octets spec other h k = same_spelled h.tokens k.tokens spec other (same_tokens octets h.tokens k.tokens h.has k.has) h.spelled k.spelled
+
+pub accepted_not_refused : (octets : List ℕ) (spec : SpecTree) (fault : SpecFault) → IsAccepted octets spec → IsRefused octets fault → ⊥
+accepted_not_refused octets spec TooLarge h k = let small : length octets ≤ 1048576 = h.has.small in absurd (omega arith)
+accepted_not_refused octets spec (BadByte at) h k = no_bad_byte octets 16 h.tokens at h.has.lexed k.bad
+accepted_not_refused octets spec (TooDeep token) h k = none_too_deep octets 16 h.tokens token h.has.lexed k.deep
+accepted_not_refused octets spec (BadToken token) h k = k.bad.spells_none spec (subst (λ ts. SpellsSpec ts spec) (same_tokens octets h.tokens k.tokens h.has k.has) h.spelled)
+accepted_not_refused octets spec (Flawed flaws) h (other, flawed, is) =
+    let same : spec ≡ other = same_spelled h.tokens flawed.tokens spec other (same_tokens octets h.tokens flawed.tokens h.has flawed.has) h.spelled flawed.spelled in
+    flawed.some (subst (λ s. flaws_of s ≡ []) same h.sound.none)
+
+-- ---- one file of a library that tells its files
+
+same_octets : (files : List File) (name octets other : List ℕ) → octets_of name files ≡ Some octets → octets_of name files ≡ Some other → octets ≡ other
+same_octets files name octets other h k = let e : Some octets ≡ Some other = sym h ∙ k in cc
+
+pub spec_given_once : (files : List File) (name : List ℕ) (spec other : SpecTree) → GivesSpec (Some files) name spec → GivesSpec (Some files) name other → spec ≡ other
+spec_given_once files name spec other h k =
+    accepted_once k.octets spec other (subst (λ o. IsAccepted o spec) (same_octets files name h.octets k.octets h.holds k.holds) h.accepted) k.accepted
+
+refused_octets_not_given : (files : List File) (name : List ℕ) (spec : SpecTree) (fault : SpecFault) → GivesSpec (Some files) name spec → IsRefusedOctets (Some files) name fault → ⊥
+refused_octets_not_given files name spec fault h k =
+    accepted_not_refused k.octets spec fault (subst (λ o. IsAccepted o spec) (same_octets files name h.octets k.octets h.holds k.holds) h.accepted) k.refused
+
+given_not_longer : (files : List File) (name octets : List ℕ) → octets_of name files ≡ Some octets → length octets ≤ 1048576 → IsLonger (Some files) name 1048576 → ⊥
+given_not_longer files name octets is small h = let k : Exceeds (Some octets) 1048576 = subst (λ o. Exceeds o 1048576) is h in absurd (omega arith)
+
+refused_not_given : (files : List File) (c : Counts) (name : List ℕ) (spec : SpecTree) (fault : SpecFault) → GivesSpec (Some files) name spec → IsRefusedFile (Some files) c name fault → ⊥
+refused_not_given files c name spec TooLarge h k = given_not_longer files name h.octets h.holds h.accepted.has.small k
+refused_not_given files c name spec (BadByte at) h k = refused_octets_not_given files name spec (BadByte at) h k
+refused_not_given files c name spec (TooDeep token) h k = refused_octets_not_given files name spec (TooDeep token) h k
+refused_not_given files c name spec (BadToken token) h k = refused_octets_not_given files name spec (BadToken token) h k
+refused_not_given files c name spec (Flawed flaws) h k = refused_octets_not_given files name spec (Flawed flaws) h k
+
+fault_not_given : (files : List File) (c : Counts) (name : List ℕ) (spec : SpecTree) → GivesSpec (Some files) name spec → (Rose c.faults c.faults' → ⊥) → Rose c.faults c.faults' ⊎ Lacks (Some files) name → ⊥
+fault_not_given files c name spec h quiet (inl rose) = quiet rose
+fault_not_given files c name spec h quiet (inr lacks) = let e : None ≡ Some h.octets = sym lacks ∙ h.holds in absurd (cc)
+
+-- a file that gives a specification ends no run, but for want of memory
+pub given_stops_for_memory : (files : List File) (c : Counts) (name : List ℕ) (i : ℕ) (spec : SpecTree) (outcome : Outcome) → GivesSpec (Some files) name spec → (Rose c.faults c.faults' → ⊥) → StopsAtFile (Some files) c name i outcome → outcome ≡ OutcomeOf.OutOfMemory
+given_stops_for_memory files c name i spec (OutcomeOf.LoadFault n) h quiet k = absurd (fault_not_given files c name spec h quiet k.1)
+given_stops_for_memory files c name i spec (OutcomeOf.SpecRefused n fault) h quiet k = absurd (refused_not_given files c name spec fault h k.1)
+given_stops_for_memory files c name i spec OutcomeOf.OutOfMemory h quiet k = refl
+given_stops_for_memory files c name i spec (OutcomeOf.CategoryTwice n category) h quiet k = absurd k
+given_stops_for_memory files c name i spec (OutcomeOf.Done blocks) h quiet k = absurd k
+given_stops_for_memory files c name i spec OutcomeOf.Usage h quiet k = absurd k
+given_stops_for_memory files c name i spec (OutcomeOf.InputRefused fault) h quiet k = absurd k
+given_stops_for_memory files c name i spec OutcomeOf.InputTooLong h quiet k = absurd k
+given_stops_for_memory files c name i spec OutcomeOf.ReadFault h quiet k = absurd k
+given_stops_for_memory files c name i spec OutcomeOf.WriteFault h quiet k = absurd k
+
+none_is_none : {A : Type 0} (x : Option A) → x ≡ None → IsSome x → ⊥
+none_is_none {A = A} x is h = let e : IsSome {T = A} None = subst IsSome is h in absurd (cc)
+
+-- ---- files one after another
+
+-- behind specifications, these names give the rest of the catalogue
+abbrev GiveOn : List File → List SpecTree → List (List ℕ) → List SpecTree → Type 0
+GiveOn files before [] catalogue = before ≡ catalogue
+GiveOn files before (name ∷ more) catalogue =
+    (spec : SpecTree) × GivesSpec (Some files) name spec × (spec_of spec.category before ≡ None) × GiveOn files (before ++ spec ∷ []) more catalogue
+
+from_the_start : (files : List File) (names : List (List ℕ)) (i : ℕ) (before : List SpecTree) (left : List (List ℕ)) (catalogue : List SpecTree) → FilesPass (Some files) names i before left → GiveOn files before left catalogue → GiveOn files [] names catalogue
+from_the_start files names i before left catalogue none_yet g = g
+from_the_start files names i all left catalogue (one_more j before more name spec pass gives fresh) g =
+    from_the_start files names j before (name ∷ more) catalogue pass (spec, gives, fresh, g)
+
+behind : (files : List File) (before : List SpecTree) (name : List ℕ) (more : List (List ℕ)) (spec : SpecTree) (catalogue : List SpecTree) → GivesSpec (Some files) name spec → GiveOn files before (name ∷ more) catalogue → GiveOn files (before ++ spec ∷ []) more catalogue
+behind files before name more spec catalogue gives (other, given, fresh, on) = subst (λ s. GiveOn files (before ++ s ∷ []) more catalogue) (spec_given_once files name other spec given gives) on
+
+up_to_there : (files : List File) (names : List (List ℕ)) (i : ℕ) (before : List SpecTree) (left : List (List ℕ)) (catalogue : List SpecTree) → FilesPass (Some files) names i before left → GiveOn files [] names catalogue → GiveOn files before left catalogue
+up_to_there files names i before left catalogue none_yet g = g
+up_to_there files names i all left catalogue (one_more j before more name spec pass gives fresh) g =
+    behind files before name more spec catalogue gives (up_to_there files names j before (name ∷ more) catalogue pass g)
+
+pub given_once : (files : List File) (names : List (List ℕ)) (catalogue other : List SpecTree) → FilesGive (Some files) names catalogue → FilesGive (Some files) names other → catalogue ≡ other
+given_once files names catalogue other h k = up_to_there files names h.count catalogue [] other h.pass (from_the_start files names k.count other [] other k.pass refl)
+
+twice_not_given : (files : List File) (before : List SpecTree) (name : List ℕ) (more : List (List ℕ)) (catalogue : List SpecTree) (category : ℕ) → HasCategoryTwice (Some files) before name category → GiveOn files before (name ∷ more) catalogue → ⊥
+twice_not_given files before name more catalogue category twice (spec, given, fresh, on) =
+    let same : spec ≡ twice.spec = spec_given_once files name spec twice.spec given twice.gives in
+    let is : category ≡ spec.category = twice.is ∙ ap (λ s. s.category) (sym same) in
+    none_is_none (spec_of spec.category before) fresh (subst (λ n. IsSome (spec_of n before)) is twice.twice)
+
+ends_for_memory : (files : List File) (c : Counts) (before : List SpecTree) (name : List ℕ) (more : List (List ℕ)) (i : ℕ) (catalogue : List SpecTree) (outcome : Outcome) → (Rose c.faults c.faults' → ⊥)
+    → EndsAtFile (Some files) c before name i outcome → GiveOn files before (name ∷ more) catalogue → outcome ≡ OutcomeOf.OutOfMemory
+ends_for_memory files c before name more i catalogue outcome quiet (by_file h) (spec, given, fresh, on) = given_stops_for_memory files c name i spec outcome given quiet h
+ends_for_memory files c before name more i catalogue outcome quiet (by_category category is twice) g = absurd (twice_not_given files before name more catalogue category twice g)
+
+-- where the files give a catalogue and no fault of the library is counted, only want of memory ends the run at a file
+pub given_ends_for_memory : (files : List File) (c : Counts) (names : List (List ℕ)) (catalogue : List SpecTree) (outcome : Outcome) → (Rose c.faults c.faults' → ⊥) → FilesGive (Some files) names catalogue → FilesEnd (Some files) c names outcome → outcome ≡ OutcomeOf.OutOfMemory
+given_ends_for_memory files c names catalogue outcome quiet h k =
+    ends_for_memory files c k.before k.name k.more k.count catalogue outcome quiet k.ends
+        (up_to_there files names k.count k.before (k.name ∷ k.more) catalogue k.pass (from_the_start files names h.count catalogue [] catalogue h.pass refl))

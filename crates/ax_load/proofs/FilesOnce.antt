@@ -18,10 +18,10 @@ use Rattle.ax_load.specs.Loading.{Counts, GivesSpec, IsRefusedFile, IsRefusedOct
 
 -- ---- one file
 
-same_tokens : (octets : List ℕ) (ts us : List PlainToken) → HasTokens octets ts → HasTokens octets us → ts ≡ us
+pub same_tokens : (octets : List ℕ) (ts us : List PlainToken) → HasTokens octets ts → HasTokens octets us → ts ≡ us
 same_tokens octets ts us h k = tokens_once octets ts us h.lexed.lexed k.lexed.lexed
 
-same_spelled : (ts us : List PlainToken) (spec other : SpecTree) → ts ≡ us → SpellsSpec ts spec → SpellsSpec us other → spec ≡ other
+pub same_spelled : (ts us : List PlainToken) (spec other : SpecTree) → ts ≡ us → SpellsSpec ts spec → SpellsSpec us other → spec ≡ other
 same_spelled ts us spec other is h k = spelling_once spec other h.in_range k.in_range (sym h.texts ∙ ap texts_of is ∙ k.texts)
 
 pub accepted_once : (octets : List ℕ) (spec other : SpecTree) → IsAccepted octets spec → IsAccepted octets other → spec ≡ other
@@ -38,7 +38,7 @@ accepted_not_refused octets spec (Flawed flaws) h (other, flawed, is) =
 
 -- ---- one file of a library that tells its files
 
-same_octets : (files : List File) (name octets other : List ℕ) → octets_of name files ≡ Some octets → octets_of name files ≡ Some other → octets ≡ other
+pub same_octets : (files : List File) (name octets other : List ℕ) → octets_of name files ≡ Some octets → octets_of name files ≡ Some other → octets ≡ other
 same_octets files name octets other h k = let e : Some octets ≡ Some other = sym h ∙ k in cc
 
 pub spec_given_once : (files : List File) (name : List ℕ) (spec other : SpecTree) → GivesSpec (Some files) name spec → GivesSpec (Some files) name other → spec ≡ other
@@ -76,7 +76,7 @@ given_stops_for_memory files c name i spec OutcomeOf.InputTooLong h quiet k = ab
 given_stops_for_memory files c name i spec OutcomeOf.ReadFault h quiet k = absurd k
 given_stops_for_memory files c name i spec OutcomeOf.WriteFault h quiet k = absurd k
 
-none_is_none : {A : Type 0} (x : Option A) → x ≡ None → IsSome x → ⊥
+pub none_is_none : {A : Type 0} (x : Option A) → x ≡ None → IsSome x → ⊥
 none_is_none {A = A} x is h = let e : IsSome {T = A} None = subst IsSome is h in absurd (cc)
 
 -- ---- files one after another

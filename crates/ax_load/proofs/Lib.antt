@@ -1,3 +1,4 @@
 pub mod FileLemmas
 pub mod FilesLoaded
 pub mod FilesOnce
+pub mod EndsOnce

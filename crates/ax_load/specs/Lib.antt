@@ -1,3 +1,4 @@
 pub mod FileAnswers
 pub mod FileStops
 pub mod Loading
+pub mod SameEnds

@@ -1,5 +1,5 @@
 -- From what a run does step by step to what its contract says.
-use Rattle.std.proofs.Common.{◌≡◌, ℕ, ◌⊎◌, inl, inr, List, [], ◌∷◌, ◌++◌, Option, Some, refl, sym, ◌∙◌, ap, subst, append-nil}
+use Rattle.std.proofs.Common.{◌≡◌, ℕ, ◌⊎◌, inl, inr, List, [], ◌∷◌, Option, Some, None, refl, sym, ◌∙◌, ap, subst, append-nil}
 use Rattle.ax_bits.specs.Bits.{AreOctets}
 use Rattle.ax_command.specs.Words.{Asked, check_of, canon_of, HasShape, IsCheck, IsCanon}
 use Rattle.ax_command.specs.declared.outcome.Outcome.{Outcome}
@@ -12,8 +12,8 @@ use Rattle.ax_outside.specs.Files.{File}
 use Rattle.ax_outside.specs.Told.{with_end}
 use Rattle.ax_stream.specs.Stops.{Answered, StreamRuns}
 use Rattle.ax_app.specs.Answer.{file_names, check_text, none_counted, FilesAnswer, by_words, by_files, by_command}
-use Rattle.ax_app.specs.Headline.{Input, Output, IsUntouched, IsStop, CheckStops, at_a_file, in_the_command, Headline, answered, stopped}
-use Rattle.ax_app.specs.Running.{IsIdle, CheckEnds, CheckRuns, no_spec, checks, CanonRuns, no_catalogue, streams, Runs, no_shape, check_runs, canon_runs}
+use Rattle.ax_app.specs.Headline.{SourceChange, SinkChange, IsUntouched, IsStop, CheckStops, at_a_file, in_the_command, Headline, answered, stopped}
+use Rattle.ax_app.specs.Running.{TouchesNothing, CheckEnds, CheckRuns, no_spec, checks, CanonRuns, no_catalogue, streams, Runs, no_shape, check_runs, canon_runs}
 use Rattle.ax_app.proofs.Steps.{one_file_ends, one_file_gives}
 
 -- ---- files
@@ -56,87 +56,87 @@ ends_or_answers files c names outcome count before name more pass (by_file h) = 
 
 -- ---- the told headline
 
-kept : (o : Output) (before : List ℕ) → o.held ≡ Some before → o.held' ≡ o.held → o.held' ≡ Some (before ++ [])
-kept o before is same = same ∙ is ∙ ap Some (sym (append-nil before))
+with_nothing : (held : Option (List ℕ)) → held ≡ with_end held []
+with_nothing None = refl
+with_nothing (Some xs) = ap Some (sym (append-nil xs))
 
-files_split : (words : List (List ℕ)) (files : List File) (c : Counts) (input before : List ℕ) (i : Input) (o : Output) (outcome : Outcome) (what : Asked) → HasShape words what → FilesEnd (Some files) c (file_names what) outcome
-    → o.held ≡ Some before → IsIdle i o → IsStop outcome ⊎ FilesAnswer files (file_names what) outcome → Headline words files c input before i o outcome
-files_split words files c input before i o outcome what shape ends is idle (inl stop) = stopped (at_a_file what shape ends stop idle.held idle.untouched)
-files_split words files c input before i o outcome what shape ends is idle (inr answer) = answered [] (by_files what shape answer refl) (kept o before is idle.held)
+kept : (o : SinkChange) → o.held' ≡ o.held → o.held' ≡ with_end o.held []
+kept o same = same ∙ with_nothing o.held
 
-files_headline : (words : List (List ℕ)) (files : List File) (c : Counts) (input before : List ℕ) (i : Input) (o : Output) (outcome : Outcome) (what : Asked) → HasShape words what → FilesEnd (Some files) c (file_names what) outcome
-    → o.held ≡ Some before → IsIdle i o → Headline words files c input before i o outcome
-files_headline words files c input before i o outcome what shape ends is idle = files_split words files c input before i o outcome what shape ends is idle
+files_split : (words : List (List ℕ)) (files : List File) (c : Counts) (input : List ℕ) (i : SourceChange) (o : SinkChange) (outcome : Outcome) (what : Asked) → HasShape words what → FilesEnd (Some files) c (file_names what) outcome
+    → TouchesNothing i o → IsStop outcome ⊎ FilesAnswer files (file_names what) outcome → Headline words files c input i o outcome
+files_split words files c input i o outcome what shape ends idle (inl stop) = stopped (at_a_file what shape ends stop idle.held idle.untouched)
+files_split words files c input i o outcome what shape ends idle (inr answer) = answered [] (by_files what shape answer refl) (kept o idle.held)
+
+files_headline : (words : List (List ℕ)) (files : List File) (c : Counts) (input : List ℕ) (i : SourceChange) (o : SinkChange) (outcome : Outcome) (what : Asked) → HasShape words what → FilesEnd (Some files) c (file_names what) outcome
+    → TouchesNothing i o → Headline words files c input i o outcome
+files_headline words files c input i o outcome what shape ends idle = files_split words files c input i o outcome what shape ends idle
     (ends_or_answers files c (file_names what) outcome ends.count ends.before ends.name ends.more ends.pass ends.ends)
 
 -- check
-check_text_added : (o : Output) (before text : List ℕ) → o.held ≡ Some before → o.held' ≡ with_end o.held text → o.held' ≡ Some (before ++ text)
-check_text_added o before text is added = added ∙ ap (λ h. with_end h text) is
+check_done : (words : List (List ℕ)) (files : List File) (c : Counts) (input : List ℕ) (i : SourceChange) (o : SinkChange) (file : List ℕ) (spec : SpecTree) (blocks : ℕ) → IsCheck words file → GivesSpec (Some files) file spec
+    → blocks ≡ 0 → o.held' ≡ with_end o.held (check_text spec) → Headline words files c input i o (Done blocks)
+check_done words files c input i o file spec blocks shape gives none added =
+    answered (check_text spec) (by_command (check_of file) (spec ∷ []) shape (one_file_gives (Some files) file spec gives) (record { spec = spec; one = refl; done = ap Done none; text = refl })) added
 
-check_done : (words : List (List ℕ)) (files : List File) (c : Counts) (input before : List ℕ) (i : Input) (o : Output) (file : List ℕ) (spec : SpecTree) (blocks : ℕ) → IsCheck words file → GivesSpec (Some files) file spec
-    → o.held ≡ Some before → blocks ≡ 0 → o.held' ≡ with_end o.held (check_text spec) → Headline words files c input before i o (Done blocks)
-check_done words files c input before i o file spec blocks shape gives is none added =
-    answered (check_text spec) (by_command (check_of file) (spec ∷ []) shape (one_file_gives (Some files) file spec gives) (record { spec = spec; one = refl; done = ap Done none; text = refl }))
-    (check_text_added o before (check_text spec) is added)
-
-check_stopped : (words : List (List ℕ)) (files : List File) (c : Counts) (input before : List ℕ) (i : Input) (o : Output) (file : List ℕ) (spec : SpecTree) (outcome : Outcome) → IsCheck words file → GivesSpec (Some files) file spec
-    → CheckStops spec o outcome → IsUntouched i → Headline words files c input before i o outcome
-check_stopped words files c input before i o file spec outcome shape gives stops untouched =
+check_stopped : (words : List (List ℕ)) (files : List File) (c : Counts) (input : List ℕ) (i : SourceChange) (o : SinkChange) (file : List ℕ) (spec : SpecTree) (outcome : Outcome) → IsCheck words file → GivesSpec (Some files) file spec
+    → CheckStops spec o outcome → IsUntouched i → Headline words files c input i o outcome
+check_stopped words files c input i o file spec outcome shape gives stops untouched =
     stopped (in_the_command (check_of file) (spec ∷ []) shape (one_file_gives (Some files) file spec gives) (record { spec = spec; one = refl; stops = stops; untouched = untouched }))
 
-check_ends : (words : List (List ℕ)) (files : List File) (c : Counts) (input before : List ℕ) (i : Input) (o : Output) (file : List ℕ) (spec : SpecTree) (outcome : Outcome) → IsCheck words file → GivesSpec (Some files) file spec
-    → o.held ≡ Some before → IsUntouched i → CheckEnds spec o outcome → Headline words files c input before i o outcome
-check_ends words files c input before i o file spec (Done blocks) shape gives is untouched h = check_done words files c input before i o file spec blocks shape gives is h.0 h.1
-check_ends words files c input before i o file spec WriteFault shape gives is untouched h = check_stopped words files c input before i o file spec WriteFault shape gives h untouched
-check_ends words files c input before i o file spec OutOfMemory shape gives is untouched h = check_stopped words files c input before i o file spec OutOfMemory shape gives h untouched
-check_ends words files c input before i o file spec Usage shape gives is untouched h = absurd h
-check_ends words files c input before i o file spec (SpecRefused n fault) shape gives is untouched h = absurd h
-check_ends words files c input before i o file spec (CategoryTwice n category) shape gives is untouched h = absurd h
-check_ends words files c input before i o file spec (LoadFault n) shape gives is untouched h = absurd h
-check_ends words files c input before i o file spec (InputRefused fault) shape gives is untouched h = absurd h
-check_ends words files c input before i o file spec InputTooLong shape gives is untouched h = absurd h
-check_ends words files c input before i o file spec ReadFault shape gives is untouched h = absurd h
+check_ends : (words : List (List ℕ)) (files : List File) (c : Counts) (input : List ℕ) (i : SourceChange) (o : SinkChange) (file : List ℕ) (spec : SpecTree) (outcome : Outcome) → IsCheck words file → GivesSpec (Some files) file spec
+    → IsUntouched i → CheckEnds spec o outcome → Headline words files c input i o outcome
+check_ends words files c input i o file spec (Done blocks) shape gives untouched h = check_done words files c input i o file spec blocks shape gives h.0 h.1
+check_ends words files c input i o file spec WriteFault shape gives untouched h = check_stopped words files c input i o file spec WriteFault shape gives h untouched
+check_ends words files c input i o file spec OutOfMemory shape gives untouched h = check_stopped words files c input i o file spec OutOfMemory shape gives h untouched
+check_ends words files c input i o file spec Usage shape gives untouched h = absurd h
+check_ends words files c input i o file spec (SpecRefused n fault) shape gives untouched h = absurd h
+check_ends words files c input i o file spec (CategoryTwice n category) shape gives untouched h = absurd h
+check_ends words files c input i o file spec (LoadFault n) shape gives untouched h = absurd h
+check_ends words files c input i o file spec (InputRefused fault) shape gives untouched h = absurd h
+check_ends words files c input i o file spec InputTooLong shape gives untouched h = absurd h
+check_ends words files c input i o file spec ReadFault shape gives untouched h = absurd h
 
-check_headline : (words : List (List ℕ)) (files : List File) (c : Counts) (input before : List ℕ) (i : Input) (o : Output) (outcome : Outcome) (file : List ℕ) → IsCheck words file → o.held ≡ Some before → IsUntouched i
-    → CheckRuns (Some files) c file o outcome → Headline words files c input before i o outcome
-check_headline words files c input before i o outcome file shape is untouched (no_spec stops held) =
-    files_headline words files c input before i o outcome (check_of file) shape (one_file_ends (Some files) c file outcome stops) is (record { untouched = untouched; held = held })
-check_headline words files c input before i o outcome file shape is untouched (checks spec gives ends) = check_ends words files c input before i o file spec outcome shape gives is untouched ends
+check_headline : (words : List (List ℕ)) (files : List File) (c : Counts) (input : List ℕ) (i : SourceChange) (o : SinkChange) (outcome : Outcome) (file : List ℕ) → IsCheck words file → IsUntouched i
+    → CheckRuns (Some files) c file o outcome → Headline words files c input i o outcome
+check_headline words files c input i o outcome file shape untouched (no_spec stops held) =
+    files_headline words files c input i o outcome (check_of file) shape (one_file_ends (Some files) c file outcome stops) (record { untouched = untouched; held = held })
+check_headline words files c input i o outcome file shape untouched (checks spec gives ends) = check_ends words files c input i o file spec outcome shape gives untouched ends
 
 -- canon
-canon_answered : (words : List (List ℕ)) (files : List File) (c : Counts) (input before : List ℕ) (i : Input) (o : Output) (outcome : Outcome) (names : List (List ℕ)) (catalogue : List SpecTree) → IsCanon words names → FilesGive (Some files) names catalogue
-    → Answered catalogue input before o.held' outcome → Headline words files c input before i o outcome
-canon_answered words files c input before i o outcome names catalogue shape gives a = answered a.written (by_command (canon_of names) catalogue shape gives a.ends) a.held
+canon_answered : (words : List (List ℕ)) (files : List File) (c : Counts) (input : List ℕ) (i : SourceChange) (o : SinkChange) (outcome : Outcome) (names : List (List ℕ)) (catalogue : List SpecTree) → IsCanon words names → FilesGive (Some files) names catalogue
+    → Answered catalogue input o.held o.held' outcome → Headline words files c input i o outcome
+canon_answered words files c input i o outcome names catalogue shape gives a = answered a.written (by_command (canon_of names) catalogue shape gives a.ends) a.gained
 
-canon_stopped : (words : List (List ℕ)) (files : List File) (c : Counts) (input before : List ℕ) (i : Input) (o : Output) (outcome : Outcome) (names : List (List ℕ)) (catalogue : List SpecTree) → IsCanon words names → FilesGive (Some files) names catalogue
-    → IsStop outcome → StreamRuns catalogue input before i.left' o.held' outcome → Headline words files c input before i o outcome
-canon_stopped words files c input before i o outcome names catalogue shape gives stop runs = stopped (in_the_command (canon_of names) catalogue shape gives (record { stop = stop; runs = runs }))
+canon_stopped : (words : List (List ℕ)) (files : List File) (c : Counts) (input : List ℕ) (i : SourceChange) (o : SinkChange) (outcome : Outcome) (names : List (List ℕ)) (catalogue : List SpecTree) → IsCanon words names → FilesGive (Some files) names catalogue
+    → IsStop outcome → StreamRuns catalogue input i.left' o.held o.held' outcome → Headline words files c input i o outcome
+canon_stopped words files c input i o outcome names catalogue shape gives stop runs = stopped (in_the_command (canon_of names) catalogue shape gives (record { stop = stop; runs = runs }))
 
-canon_ends : (words : List (List ℕ)) (files : List File) (c : Counts) (input before : List ℕ) (i : Input) (o : Output) (outcome : Outcome) (names : List (List ℕ)) (catalogue : List SpecTree) → IsCanon words names → FilesGive (Some files) names catalogue
-    → StreamRuns catalogue input before i.left' o.held' outcome → Headline words files c input before i o outcome
-canon_ends words files c input before i o (Done blocks) names catalogue shape gives h = canon_answered words files c input before i o (Done blocks) names catalogue shape gives h.answered
-canon_ends words files c input before i o (InputRefused fault) names catalogue shape gives h = canon_answered words files c input before i o (InputRefused fault) names catalogue shape gives h
-canon_ends words files c input before i o InputTooLong names catalogue shape gives h = canon_answered words files c input before i o InputTooLong names catalogue shape gives h
-canon_ends words files c input before i o ReadFault names catalogue shape gives h = canon_stopped words files c input before i o ReadFault names catalogue shape gives tt h
-canon_ends words files c input before i o WriteFault names catalogue shape gives h = canon_stopped words files c input before i o WriteFault names catalogue shape gives tt h
-canon_ends words files c input before i o OutOfMemory names catalogue shape gives h = canon_stopped words files c input before i o OutOfMemory names catalogue shape gives tt h
-canon_ends words files c input before i o Usage names catalogue shape gives h = absurd h
-canon_ends words files c input before i o (SpecRefused n fault) names catalogue shape gives h = absurd h
-canon_ends words files c input before i o (CategoryTwice n category) names catalogue shape gives h = absurd h
-canon_ends words files c input before i o (LoadFault n) names catalogue shape gives h = absurd h
+canon_ends : (words : List (List ℕ)) (files : List File) (c : Counts) (input : List ℕ) (i : SourceChange) (o : SinkChange) (outcome : Outcome) (names : List (List ℕ)) (catalogue : List SpecTree) → IsCanon words names → FilesGive (Some files) names catalogue
+    → StreamRuns catalogue input i.left' o.held o.held' outcome → Headline words files c input i o outcome
+canon_ends words files c input i o (Done blocks) names catalogue shape gives h = canon_answered words files c input i o (Done blocks) names catalogue shape gives h.answered
+canon_ends words files c input i o (InputRefused fault) names catalogue shape gives h = canon_answered words files c input i o (InputRefused fault) names catalogue shape gives h
+canon_ends words files c input i o InputTooLong names catalogue shape gives h = canon_answered words files c input i o InputTooLong names catalogue shape gives h
+canon_ends words files c input i o ReadFault names catalogue shape gives h = canon_stopped words files c input i o ReadFault names catalogue shape gives tt h
+canon_ends words files c input i o WriteFault names catalogue shape gives h = canon_stopped words files c input i o WriteFault names catalogue shape gives tt h
+canon_ends words files c input i o OutOfMemory names catalogue shape gives h = canon_stopped words files c input i o OutOfMemory names catalogue shape gives tt h
+canon_ends words files c input i o Usage names catalogue shape gives h = absurd h
+canon_ends words files c input i o (SpecRefused n fault) names catalogue shape gives h = absurd h
+canon_ends words files c input i o (CategoryTwice n category) names catalogue shape gives h = absurd h
+canon_ends words files c input i o (LoadFault n) names catalogue shape gives h = absurd h
 
-canon_headline : (words : List (List ℕ)) (files : List File) (c : Counts) (input before : List ℕ) (i : Input) (o : Output) (outcome : Outcome) (names : List (List ℕ)) → IsCanon words names → AreOctets input → i.left ≡ Some input → o.held ≡ Some before
-    → CanonRuns (Some files) c names i o outcome → Headline words files c input before i o outcome
-canon_headline words files c input before i o outcome names shape octets left is (no_catalogue ends idle) = files_headline words files c input before i o outcome (canon_of names) shape ends is idle
-canon_headline words files c input before i o outcome names shape octets left is (streams catalogue gives run) =
-    canon_ends words files c input before i o outcome names catalogue shape gives (run.told input before octets left is)
+canon_headline : (words : List (List ℕ)) (files : List File) (c : Counts) (input : List ℕ) (i : SourceChange) (o : SinkChange) (outcome : Outcome) (names : List (List ℕ)) → IsCanon words names → AreOctets input → i.left ≡ Some input
+    → CanonRuns (Some files) c names i o outcome → Headline words files c input i o outcome
+canon_headline words files c input i o outcome names shape octets left (no_catalogue ends idle) = files_headline words files c input i o outcome (canon_of names) shape ends idle
+canon_headline words files c input i o outcome names shape octets left (streams catalogue gives run) =
+    canon_ends words files c input i o outcome names catalogue shape gives (run.told input octets left)
 
-told_headline : (words : List (List ℕ)) (files : List File) (c : Counts) (input before : List ℕ) (i : Input) (o : Output) (outcome : Outcome) → AreOctets input → i.left ≡ Some input → o.held ≡ Some before
-    → Runs words (Some files) c i o outcome → Headline words files c input before i o outcome
-told_headline words files c input before i o outcome octets left is (no_shape none usage idle) = answered [] (by_words none usage refl) (kept o before is idle.held)
-told_headline words files c input before i o outcome octets left is (check_runs file shape runs untouched) = check_headline words files c input before i o outcome file shape is untouched runs
-told_headline words files c input before i o outcome octets left is (canon_runs names shape runs) = canon_headline words files c input before i o outcome names shape octets left is runs
+told_headline : (words : List (List ℕ)) (files : List File) (c : Counts) (input : List ℕ) (i : SourceChange) (o : SinkChange) (outcome : Outcome) → AreOctets input → i.left ≡ Some input
+    → Runs words (Some files) c i o outcome → Headline words files c input i o outcome
+told_headline words files c input i o outcome octets left (no_shape none usage idle) = answered [] (by_words none usage refl) (kept o idle.held)
+told_headline words files c input i o outcome octets left (check_runs file shape runs untouched) = check_headline words files c input i o outcome file shape untouched runs
+told_headline words files c input i o outcome octets left (canon_runs names shape runs) = canon_headline words files c input i o outcome names shape octets left runs
 
-pub headline : (words : List (List ℕ)) (told : Option (List File)) (files : List File) (c : Counts) (input before : List ℕ) (i : Input) (o : Output) (outcome : Outcome) → Runs words told c i o outcome → AreOctets input → told ≡ Some files → i.left ≡ Some input → o.held ≡ Some before
-    → Headline words files c input before i o outcome
-headline words told files c input before i o outcome runs octets is left held = told_headline words files c input before i o outcome octets left held (subst (λ t. Runs words t c i o outcome) is runs)
+pub headline : (words : List (List ℕ)) (told : Option (List File)) (files : List File) (c : Counts) (input : List ℕ) (i : SourceChange) (o : SinkChange) (outcome : Outcome) → Runs words told c i o outcome → AreOctets input → told ≡ Some files → i.left ≡ Some input
+    → Headline words files c input i o outcome
+headline words told files c input i o outcome runs octets is left = told_headline words files c input i o outcome octets left (subst (λ t. Runs words t c i o outcome) is runs)

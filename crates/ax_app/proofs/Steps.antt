@@ -13,7 +13,7 @@ use Rattle.ax_model.specs.Specification.{SpecTree}
 use Rattle.ax_outside.specs.Files.{File}
 use Rattle.ax_outside.specs.Told.{with_end, Rose}
 use Rattle.ax_app.specs.Answer.{check_text}
-use Rattle.ax_app.specs.Headline.{Output}
+use Rattle.ax_app.specs.Headline.{SinkChange}
 use Rattle.ax_app.specs.Running.{Reported, whole, cut, CheckRuns, no_spec, checks}
 
 pub one_file_ends : (files : Option (List File)) (c : Counts) (file : List ℕ) (outcome : Outcome) → StopsAtFile files c file 0 outcome → FilesEnd files c (file ∷ []) outcome
@@ -24,16 +24,16 @@ one_file_gives files file spec h = record { count = 1; pass = one_more 0 [] [] f
 
 -- ---- check
 
-pub check_stops_early : (files : Option (List File)) (c : Counts) (file : List ℕ) (o : Output) (outcome : Outcome) → StopsAtFile files c file 0 outcome → o.held' ≡ o.held → CheckRuns files c file o outcome
+pub check_stops_early : (files : Option (List File)) (c : Counts) (file : List ℕ) (o : SinkChange) (outcome : Outcome) → StopsAtFile files c file 0 outcome → o.held' ≡ o.held → CheckRuns files c file o outcome
 check_stops_early files c file o outcome h held = no_spec h held
 
-pub check_done : (files : Option (List File)) (c : Counts) (file : List ℕ) (o : Output) (spec : SpecTree) → GivesSpec files file spec → o.held' ≡ with_end o.held (check_text spec) → CheckRuns files c file o (Done 0)
+pub check_done : (files : Option (List File)) (c : Counts) (file : List ℕ) (o : SinkChange) (spec : SpecTree) → GivesSpec files file spec → o.held' ≡ with_end o.held (check_text spec) → CheckRuns files c file o (Done 0)
 check_done files c file o spec h held = checks spec h (refl, held)
 
-pub check_cut : (files : Option (List File)) (c : Counts) (file : List ℕ) (o : Output) (spec : SpecTree) → GivesSpec files file spec → GainsPrefix o.held o.held' o.faults o.faults' (check_text spec) → CheckRuns files c file o WriteFault
+pub check_cut : (files : Option (List File)) (c : Counts) (file : List ℕ) (o : SinkChange) (spec : SpecTree) → GivesSpec files file spec → GainsPrefix o.held o.held' o.faults o.faults' (check_text spec) → CheckRuns files c file o WriteFault
 check_cut files c file o spec h gains = checks spec h gains
 
-pub check_memory : (files : Option (List File)) (c : Counts) (file : List ℕ) (o : Output) (spec : SpecTree) → GivesSpec files file spec → o.held' ≡ o.held → CheckRuns files c file o OutOfMemory
+pub check_memory : (files : Option (List File)) (c : Counts) (file : List ℕ) (o : SinkChange) (spec : SpecTree) → GivesSpec files file spec → o.held' ≡ o.held → CheckRuns files c file o OutOfMemory
 check_memory files c file o spec h held = checks spec h held
 
 pub ruleset check_steps = (check_stops_early, check_done, check_cut, check_memory)

@@ -9,22 +9,22 @@ use Rattle.ax_model.specs.Specification.{SpecTree}
 use Rattle.ax_outside.specs.Files.{File}
 use Rattle.ax_outside.specs.Told.{Rose}
 use Rattle.ax_stream.specs.InputEnds.{longest_input}
-use Rattle.ax_app.specs.Headline.{Input, Output}
+use Rattle.ax_app.specs.Headline.{SourceChange, SinkChange}
 
--- no count of faults rose, or stands at the last number that it can hold
-pub record IsQuiet (c : Counts) (i : Input) (o : Output) : Type 0 where
+-- none of the three counts of faults rose, and none stands at the last number that it can hold
+pub record NoFaultCounted (c : Counts) (i : SourceChange) (o : SinkChange) : Type 0 where
   pub library : Rose c.faults c.faults' → ⊥
   pub source : Rose i.faults i.faults' → ⊥
   pub out : Rose o.faults o.faults' → ⊥
 
 -- `check`, and its file is there and accepted
-pub record CanCheck (words : List (List ℕ)) (files : List File) (spec : SpecTree) : Type 0 where
+pub record CheckPremises (words : List (List ℕ)) (files : List File) (spec : SpecTree) : Type 0 where
   pub file : List ℕ
   pub shape : IsCheck words file
   pub gives : GivesSpec (Some files) file spec
 
 -- `canon`, its files are there and accepted, with distinct categories, and the input spells these blocks within the limit
-pub record CanCanon (words : List (List ℕ)) (files : List File) (catalogue : List SpecTree) (input : List ℕ) (blocks : List BlockTree) : Type 0 where
+pub record CanonPremises (words : List (List ℕ)) (files : List File) (catalogue : List SpecTree) (input : List ℕ) (blocks : List BlockTree) : Type 0 where
   pub names : List (List ℕ)
   pub shape : IsCanon words names
   pub gives : FilesGive (Some files) names catalogue

@@ -4,6 +4,8 @@
 
 mod commands;
 mod gateway;
+mod laws;
 
 pub use ax_command::{Cause, InputFault, Outcome, SpecFault};
 pub use gateway::run;
+pub use laws::one_answer;

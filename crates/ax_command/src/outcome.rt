@@ -12,8 +12,8 @@ pub enum SpecFault {
     BadByte { at: u32 },
     /// The `{` that is the token of that number, from 0, is nested more than 16 deep.
     TooDeep { token: u32 },
-    /// No specification begins with the tokens through that number, from 0, or the file ends too early and the number
-    /// is the count of its tokens.
+    /// No specification begins with the tokens through that number, from 0; or the number is the count of the tokens,
+    /// which spell none.
     BadToken { token: u32 },
     /// The specification has these flaws.
     Flawed { flaws: Flaws },

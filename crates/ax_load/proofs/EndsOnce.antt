@@ -1,6 +1,6 @@
 -- The loading of files ends in one way.
 use Rattle.std.proofs.Common.{◌≡◌, ◌≢◌, ℕ, ◌+◌, ◌<◌, ◌≤◌, ◌⊎◌, inl, inr, List, [], ◌∷◌, ◌++◌, Option, Some, None, IsSome, length, refl, sym, ◌∙◌, ap, subst, arith}
-use Rattle.ax_outside.specs.Files.{File, octets_of, Lacks, IsLonger, Exceeds}
+use Rattle.ax_outside.specs.Files.{File, octets_of, Lacks, Exceeds}
 use Rattle.ax_outside.specs.Told.{Rose}
 use Rattle.ax_model.specs.Flaws.{flaws_of}
 use Rattle.ax_model.specs.Specification.{SpecTree, spec_of}
@@ -10,7 +10,7 @@ use Rattle.ax_command.specs.declared.outcome.Outcome.{Outcome}
 use Rattle.ax_command.specs.declared.outcome.Outcome.TheVariants as OutcomeOf
 use Rattle.ax_command.specs.declared.outcome.SpecFault.{SpecFault}
 use Rattle.ax_command.specs.declared.outcome.SpecFault.TheVariants.{TooLarge, BadByte, TooDeep, BadToken, Flawed}
-use Rattle.ax_load.specs.FileAnswers.{HasTokens, IsFlawed, IsRefused}
+use Rattle.ax_load.specs.FileAnswers.{IsFlawed, IsRefused}
 use Rattle.ax_load.specs.Loading.{Counts, GivesSpec, IsRefusedFile, StopsAtFile, FilesPass, none_yet, one_more, HasCategoryTwice, EndsAtFile, by_file, by_category, FilesEnd}
 use Rattle.ax_load.specs.SameEnds.{IsSameFault, same, another_token, IsSameOutcome, same_outcome, same_file}
 use Rattle.ax_load.proofs.FilesOnce.{same_tokens, same_spelled, same_octets, spec_given_once, given_stops_for_memory, none_is_none}
@@ -135,11 +135,11 @@ ends_on_once files c i before (name ∷ more) outcome other quiet some others (i
 ends_on_once files c i before (name ∷ more) outcome other quiet some others (inr (spec, gives, fresh, h)) (inl k) = absurd (given_ends_not files c before name i spec other quiet others gives fresh k)
 ends_on_once files c i before (name ∷ more) outcome other quiet some others (inr (spec, gives, fresh, h)) (inr (spec', gives', fresh', k)) =
     ends_on_once files c (i + 1) (before ++ spec ∷ []) more outcome other quiet some others h
-        (subst (λ s. EndOn files c (i + 1) (before ++ s ∷ []) more other) (spec_given_once files name spec' spec gives' gives) k)
+    (subst (λ s. EndOn files c (i + 1) (before ++ s ∷ []) more other) (spec_given_once files name spec' spec gives' gives) k)
 
 pub loading_ends_once : (files : List File) (c : Counts) (names : List (List ℕ)) (outcome other : Outcome) → (Rose c.faults c.faults' → ⊥) → outcome ≢ OutcomeOf.OutOfMemory → other ≢ OutcomeOf.OutOfMemory
     → FilesEnd (Some files) c names outcome → FilesEnd (Some files) c names other → IsSameOutcome outcome other
 loading_ends_once files c names outcome other quiet some others h k =
     ends_on_once files c 0 [] names outcome other quiet some others
-        (ends_from_the_start files c names h.count h.before (h.name ∷ h.more) outcome h.pass (inl h.ends))
-        (ends_from_the_start files c names k.count k.before (k.name ∷ k.more) other k.pass (inl k.ends))
+    (ends_from_the_start files c names h.count h.before (h.name ∷ h.more) outcome h.pass (inl h.ends))
+    (ends_from_the_start files c names k.count k.before (k.name ∷ k.more) other k.pass (inl k.ends))

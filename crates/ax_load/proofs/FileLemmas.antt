@@ -1,17 +1,13 @@
 -- A category file, step by step, and the files one after another.
-use Rattle.std.proofs.Common.{◌≡◌, ◌≢◌, ℕ, ◌<◌, ◌≤◌, ◌+◌, ◌⊎◌, inl, inr, List, [], ◌∷◌, ◌++◌, length, map, drop, get_or, drop-cons, add-one, Option, Some, None, IsSome, refl, sym, ◌∙◌, ap, subst, arith}
+use Rattle.std.proofs.Common.{◌≡◌, ◌≢◌, ℕ, ◌<◌, ◌≤◌, ◌⊎◌, inl, inr, List, [], ◌∷◌, length, Option, Some, None, ◌∙◌, arith}
 use Rattle.ax_model.specs.declared.flaw.Flaw.{Flaw}
 use Rattle.ax_model.specs.Flaws.{flaws_of}
 use Rattle.ax_outside.specs.Files.{File, HoldsFile}
 use Rattle.ax_outside.specs.Files.{TooMany, Lacks}
 use Rattle.ax_outside.specs.Told.{Rose}
-use Rattle.std.specs.String.{string_bytes}
-use Rattle.ax_model.specs.Plain.{spec_tree, catalogue_tree}
-use Rattle.ax_model.specs.Specification.{spec_of}
-use Rattle.ax_model.specs.declared.spec.Spec.{Spec}
 use Rattle.ax_command.specs.declared.outcome.Outcome.{Outcome}
 use Rattle.ax_command.specs.declared.outcome.Outcome.TheVariants as OutcomeOf
-use Rattle.ax_load.specs.Loading.{Counts, GivesSpec, IsRefusedFile, IsRefusedOctets, StopsAtFile, FilesPass, none_yet, one_more, FilesEnd, FilesGive, EndsAtFile, by_file, by_category, HasCategoryTwice}
+use Rattle.ax_load.specs.Loading.{Counts, GivesSpec, IsRefusedFile, StopsAtFile}
 use Rattle.ax_grammar.specs.Answers.{SpellsSpec}
 use Rattle.ax_model.specs.Flaws.{NoFlaw}
 use Rattle.ax_model.specs.Specification.{SpecTree}

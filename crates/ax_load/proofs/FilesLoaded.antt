@@ -1,14 +1,13 @@
 -- The files of a command line, loaded one after another.
-use Rattle.std.proofs.Common.{◌≡◌, ℕ, ◌+◌, ◌<◌, ◌≤◌, List, [], ◌∷◌, ◌++◌, Option, None, IsSome, length, map, drop, get_or, refl, sym, ◌∙◌, ap, subst, append_assoc, drop-cons, add-one, arith}
-use Rattle.std.proofs.lemmas.List.{drop_all}
+use Rattle.std.proofs.Common.{◌≡◌, ℕ, ◌+◌, ◌<◌, ◌≤◌, List, [], ◌∷◌, ◌++◌, Option, None, IsSome, length, map, drop, get_or, refl, sym, ◌∙◌, ap, subst, drop-cons, add-one, arith}
 use Rattle.ax_outside.specs.Files.{File}
 use Rattle.ax_check.specs.Adding.{WhyRefused}
 use Rattle.ax_check.specs.declared.catalogue.AddError.{AddError}
 use Rattle.ax_check.specs.declared.catalogue.AddError.TheVariants as AddErrorOf
 use Rattle.ax_model.specs.Plain.{spec_tree, catalogue_tree}
-use Rattle.ax_model.specs.Specification.{SpecTree, spec_of}
+use Rattle.ax_model.specs.Specification.{spec_of}
 use Rattle.ax_model.specs.declared.spec.Spec.{Spec}
-use Rattle.ax_load.specs.Loading.{Counts, GivesSpec, FilesPass, none_yet, one_more, FilesGive, FilesEnd, by_file, by_category, outcome_of_adding}
+use Rattle.ax_load.specs.Loading.{Counts, GivesSpec, FilesPass, none_yet, one_more, FilesEnd, by_file, by_category, outcome_of_adding}
 use Rattle.ax_command.specs.declared.outcome.Outcome.{Outcome}
 use Rattle.ax_command.specs.declared.outcome.Outcome.TheVariants.{CategoryTwice, OutOfMemory}
 

@@ -1,13 +1,12 @@
 -- Files give one answer.
-use Rattle.std.proofs.Common.{◌≡◌, ◌≢◌, ℕ, ◌+◌, ◌<◌, ◌≤◌, ◌⊎◌, inl, inr, List, [], ◌∷◌, ◌++◌, Option, Some, None, IsSome, length, refl, sym, ◌∙◌, ap, subst, arith}
-use Rattle.ax_outside.specs.Files.{File, octets_of, HoldsFile, Lacks, TooMany, IsLonger, Exceeds}
+use Rattle.std.proofs.Common.{◌≡◌, ℕ, ◌≤◌, ◌⊎◌, inl, inr, List, [], ◌∷◌, ◌++◌, Option, Some, None, IsSome, length, refl, sym, ◌∙◌, ap, subst, arith}
+use Rattle.ax_outside.specs.Files.{File, octets_of, Lacks, IsLonger, Exceeds}
 use Rattle.ax_outside.specs.Told.{Rose}
-use Rattle.ax_model.specs.Flaws.{flaws_of, NoFlaw}
+use Rattle.ax_model.specs.Flaws.{flaws_of}
 use Rattle.ax_model.specs.Specification.{SpecTree, spec_of}
 use Rattle.ax_tokens.specs.PlainToken.{PlainToken}
 use Rattle.ax_tokens.proofs.Once.{tokens_once, no_bad_byte, none_too_deep}
-use Rattle.ax_grammar.specs.Answers.{SpellsSpec, NamesBadToken, texts_of}
-use Rattle.ax_grammar.specs.Spelling.{spelled}
+use Rattle.ax_grammar.specs.Answers.{SpellsSpec, texts_of}
 use Rattle.ax_grammar.proofs.TokenTexts.{spelling_once}
 use Rattle.ax_command.specs.declared.outcome.Outcome.{Outcome}
 use Rattle.ax_command.specs.declared.outcome.Outcome.TheVariants as OutcomeOf
@@ -118,4 +117,4 @@ ends_for_memory files c before name more i catalogue outcome quiet (by_category 
 pub given_ends_for_memory : (files : List File) (c : Counts) (names : List (List ℕ)) (catalogue : List SpecTree) (outcome : Outcome) → (Rose c.faults c.faults' → ⊥) → FilesGive (Some files) names catalogue → FilesEnd (Some files) c names outcome → outcome ≡ OutcomeOf.OutOfMemory
 given_ends_for_memory files c names catalogue outcome quiet h k =
     ends_for_memory files c k.before k.name k.more k.count catalogue outcome quiet k.ends
-        (up_to_there files names k.count k.before (k.name ∷ k.more) catalogue k.pass (from_the_start files names h.count catalogue [] catalogue h.pass refl))
+    (up_to_there files names k.count k.before (k.name ∷ k.more) catalogue k.pass (from_the_start files names h.count catalogue [] catalogue h.pass refl))

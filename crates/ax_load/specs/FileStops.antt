@@ -1,5 +1,5 @@
 -- Why a category file gives no specification, step by step. Want of memory says nothing.
-use Rattle.std.specs.Prelude.{◌≡◌, ◌≢◌, ℕ, ◌≤◌, List, [], length}
+use Rattle.std.specs.Prelude.{◌≡◌, ◌≢◌, ℕ, List, []}
 use Rattle.ax_tokens.specs.Faults.{HasBadByte, IsTooDeep}
 use Rattle.ax_tokens.specs.PlainToken.{PlainToken}
 use Rattle.ax_grammar.specs.Answers.{NamesBadToken}

@@ -1,5 +1,5 @@
 -- Which specifications the files of a command line give, or how the run ends at the first one that gives none.
-use Rattle.std.specs.Prelude.{◌≡◌, ℕ, ◌+◌, ◌⊎◌, List, [], ◌∷◌, ◌++◌, Option, Some, None, IsSome}
+use Rattle.std.specs.Prelude.{◌≡◌, ℕ, ◌+◌, ◌⊎◌, List, [], ◌∷◌, ◌++◌, Option, None, IsSome}
 use Rattle.ax_outside.specs.Files.{File, HoldsFile, Lacks, TooMany}
 use Rattle.ax_outside.specs.Told.{Rose}
 use Rattle.ax_check.specs.declared.catalogue.AddError.{AddError}

@@ -1,5 +1,4 @@
--- Which ends of the loading of files are one and the same. Of a bad token more than one number may be told: each is one through
--- which no specification begins.
+-- Which ends of the loading of files are one and the same. Of a bad token more than one number may be told.
 use Rattle.std.specs.Prelude.{◌≡◌, ℕ}
 use Rattle.ax_command.specs.declared.outcome.Outcome.{Outcome}
 use Rattle.ax_command.specs.declared.outcome.Outcome.TheVariants.{SpecRefused}

@@ -1,13 +1,13 @@
 -- One block, step by step.
-use Rattle.std.proofs.Common.{◌≡◌, ◌≢◌, ℕ, ◌+◌, ◌*◌, ◌/◌, ◌%◌, ◌<◌, ◌≤◌, ◌==◌, Bool, true, false, cond, List, [], ◌∷◌, ◌++◌, Option, Some, None, length, refl, sym, ◌∙◌, ap, subst, arith, length-append, append-nil}
+use Rattle.std.proofs.Common.{◌≡◌, ℕ, ◌+◌, ◌/◌, ◌%◌, ◌<◌, ◌≤◌, ◌==◌, Bool, true, false, cond, List, [], ◌∷◌, ◌++◌, Option, Some, None, length, refl, sym, ◌∙◌, ap, subst, arith, length-append, append-nil}
 use Rattle.std.proofs.lemmas.Bool.{eqb-true}
 use Rattle.ax_bits.specs.Bits.{bits}
 use Rattle.ax_bits.proofs.Words.{length-bits}
 use Rattle.ax_model.proofs.CanonFramed.{framed_is, length-framed}
 use Rattle.ax_model.proofs.WholeOctets.{fails_within}
-use Rattle.ax_model.specs.Blocks.{IsFramed, BlockTree, read_block, opaque_block}
-use Rattle.ax_model.specs.Bodies.{SpellsBody, FailsBody}
-use Rattle.ax_model.specs.CanonicalOctets.{framed, canon_block, canon_over, CanonBytes}
+use Rattle.ax_model.specs.Blocks.{IsFramed, read_block, opaque_block}
+use Rattle.ax_model.specs.Bodies.{FailsBody}
+use Rattle.ax_model.specs.CanonicalOctets.{framed, canon_block, canon_over}
 use Rattle.ax_model.specs.Framing.{RawTree}
 use Rattle.ax_model.specs.OfCode.{BlockFits}
 use Rattle.ax_model.specs.Plain.{spec_tree, block_tree}

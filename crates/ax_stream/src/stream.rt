@@ -76,8 +76,8 @@ pub fn canon_stream<S: Source, K: Sink>(
     source: &mut S,
     out: &mut K,
 ) -> Outcome
-    ensures told { (input before : List ℕ) → AreOctets input → S.left source.old ≡ Some input → K.held out.old ≡ Some before
-        → StreamRuns (catalogue_tree catalogue.now) input before (S.left source.new) (K.held out.new) result }
+    ensures told { (input : List ℕ) → AreOctets input → S.left source.old ≡ Some input
+        → StreamRuns (catalogue_tree catalogue.now) input (S.left source.new) (K.held out.old) (K.held out.new) result }
     ensures read { result ≡ Outcome.ReadFault → Rose (S.faults source.old) (S.faults source.new) }
     ensures write { result ≡ Outcome.WriteFault → Rose (K.faults out.old) (K.faults out.new) }
     ensures too_long { result ≡ Outcome.InputTooLong → S.taken source.old + longest_input < S.taken source.new }

@@ -1,7 +1,5 @@
-use Rattle.std.proofs.Common.{◌≡◌, ◌<◌, ◌∷◌, ◌+◌, List, length, map, drop, IsSome, arith}
+use Rattle.std.proofs.Common.{◌≡◌, ◌<◌, ◌∷◌, ◌+◌, length, map, drop, arith}
 use Rattle.std.specs.String.{string_bytes}
-use Rattle.ax_model.specs.Plain.{catalogue_tree}
-use Rattle.ax_model.specs.Specification.{spec_of}
 use Rattle.ax_load.proofs.FilesLoaded.{names_left, none_loaded, one_loaded, adding_ends}
 use Rattle.ax_load.proofs.loading.load_catalogue.Goals as goal
 

@@ -1,8 +1,7 @@
-use Rattle.std.proofs.Common.{◌≡◌, ℕ, ◌+◌, ◌-◌, ◌≤◌, List, Some, None, length}
-use Rattle.ax_bits.specs.Bits.{AreOctets}
+use Rattle.std.proofs.Common.{◌-◌}
 use Rattle.ax_model.specs.Plain.{catalogue_tree}
 use Rattle.ax_stream.specs.InputEnds.{longest_input}
-use Rattle.ax_stream.proofs.Runs.{SoFar, Running}
+use Rattle.ax_stream.proofs.Runs.{Running}
 use Rattle.ax_stream.proofs.stream.canon_stream.Given as goal
 
 abbrev pub invariant-stream : goal.invariant-stream

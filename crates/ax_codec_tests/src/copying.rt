@@ -1,0 +1,134 @@
+//! Specifications made of their parts, and copies of specifications and of blocks.
+
+use crate::fixtures::{accepted, decoded, octets};
+use crate::shown::shown_block;
+use crate::shown_specs::shown_spec;
+use ax_model::{
+    Content, Fixed, Item, Items, Kind, Member, Members, Name, Part, Parts, Slot, Slots, Spec, Text,
+    UapSlot, UapSlots,
+};
+use ax_vectors::{FILE_H1, FILE_K, FILE_N};
+use std::alloc::{AllocError, Global};
+use std::process::Abort;
+use std::test::Fail;
+
+#[test]
+fn copies_are_shown_as_their_originals(rt: HostRuntime) -> Result<(), Fail> {
+    let alloc = rt.alloc();
+    for (text, block, want) in [
+        (
+            FILE_N,
+            "C8 00 0B 80 02 81 00 11 01 80 22",
+            "200 {1=[{1=17} {8=34}]}",
+        ),
+        (FILE_H1, "CA 00 08 80 C0 11 22 33", "202 {1={1=17 2=8755}}"),
+        (FILE_H1, "CB 00 05 80 C0", "203 x80 C0"),
+    ] {
+        let file = accepted(&rt, alloc, text)?;
+        let copy = file.spec().copy(alloc)?;
+        assert_eq!(rt; shown_spec(alloc, &copy)?.as_str(), text);
+        let octets = octets(alloc, block)?;
+        let block = decoded(&rt, alloc, file.spec(), &octets)?;
+        let copy = block.copy(alloc)?;
+        assert_eq!(rt; shown_block(alloc, &block)?.as_str(), want);
+        assert_eq!(rt; shown_block(alloc, &copy)?.as_str(), want);
+    }
+    Ok(())
+}
+
+fn name(rt: &impl Abort, text: &str) -> Name {
+    Name::of(text.as_bytes()).expect(rt, "a name")
+}
+
+fn element(width: u32) -> Fixed {
+    Fixed::Element {
+        width,
+        content: Content::Raw,
+    }
+}
+
+fn member(rt: &impl Abort, text: &str, width: u32) -> Member {
+    Member::Named {
+        name: name(rt, text),
+        fixed: element(width),
+    }
+}
+
+fn sub(rt: &impl Abort, text: &str) -> Slot {
+    Slot::Sub {
+        name: name(rt, text),
+        kind: Kind::Fixed(element(8)),
+    }
+}
+
+// Puts an item behind the others, and its slot behind theirs.
+fn add(
+    rt: &impl Abort,
+    alloc: Global,
+    spec: &mut Spec,
+    text: &str,
+    kind: Kind,
+) -> Result<(), AllocError> {
+    let name = name(rt, text);
+    let title = Text::new(alloc);
+    assert!(rt; spec.items.count() < 1000);
+    assert!(rt; spec.uap.count() < 1000);
+    spec.items.push(Item { name, title, kind })?;
+    spec.uap.push(UapSlot::Item(name))
+}
+
+fn extended(rt: &impl Abort, alloc: Global) -> Result<Kind, AllocError> {
+    let mut first = Members::new(alloc);
+    first.push(member(rt, "A", 7))?;
+    let mut second = Members::new(alloc);
+    second.push(member(rt, "B", 4))?;
+    second.push(Member::Spare { width: 3 })?;
+    let mut parts = Parts::new(alloc);
+    parts.push(Part { members: first })?;
+    parts.push(Part { members: second })?;
+    Ok(Kind::Extended(parts))
+}
+
+fn compound(rt: &impl Abort, alloc: Global) -> Result<Kind, AllocError> {
+    let mut slots = Slots::new(alloc);
+    slots.push(sub(rt, "A"))?;
+    slots.push(Slot::Spare)?;
+    slots.push(sub(rt, "B"))?;
+    Ok(Kind::Compound(slots))
+}
+
+fn edition(alloc: Global) -> Result<Text, AllocError> {
+    let mut made = Text::new(alloc);
+    made.push(b'K')?;
+    Ok(made)
+}
+
+// The specification of FILE_K.
+fn each_kind(rt: &impl Abort, alloc: Global) -> Result<Spec, AllocError> {
+    let mut spec = Spec {
+        category: 205,
+        edition: edition(alloc)?,
+        items: Items::new(alloc),
+        uap: UapSlots::new(alloc),
+    };
+    add(rt, alloc, &mut spec, "010", Kind::Fixed(element(16)))?;
+    add(rt, alloc, &mut spec, "020", extended(rt, alloc)?)?;
+    add(rt, alloc, &mut spec, "030", Kind::ByFx(element(7)))?;
+    let inner = Box::new(alloc, Kind::Fixed(element(8)))?;
+    add(rt, alloc, &mut spec, "040", Kind::Counted(inner))?;
+    add(rt, alloc, &mut spec, "050", Kind::Explicit)?;
+    add(rt, alloc, &mut spec, "060", compound(rt, alloc)?)?;
+    add(rt, alloc, &mut spec, "070", Kind::Fixed(element(8)))?;
+    add(rt, alloc, &mut spec, "080", Kind::Fixed(element(8)))?;
+    Ok(spec)
+}
+
+#[test]
+fn a_specification_made_of_its_parts_is_that_of_its_file(rt: HostRuntime) -> Result<(), Fail> {
+    let alloc = rt.alloc();
+    let made = each_kind(&rt, alloc)?;
+    let file = accepted(&rt, alloc, FILE_K)?;
+    assert_eq!(rt; shown_spec(alloc, &made)?.as_str(), FILE_K);
+    assert_eq!(rt; shown_spec(alloc, file.spec())?.as_str(), FILE_K);
+    Ok(())
+}

@@ -1,0 +1,144 @@
+//! Specifications and octets, read from texts.
+ghost use Rattle.std.specs.Prelude.{◌≡◌};
+ghost use Rattle.ax_model.specs.OfCode.{HasNoFlaw};
+
+use crate::shown::{shown_block, shown_error, shown_octets};
+use ax_check::{Accepted, accept};
+use ax_grammar::read_spec;
+use ax_model::{Block, RawBlock, Spec, fits};
+use ax_tokens::tokens;
+use ax_values::{DecodeError, EncodeError, decode_block, encode_block};
+use std::alloc::{AllocError, Global};
+use std::process::Abort;
+use std::test::Fail;
+
+/// The specification of a category file without flaw.
+pub(crate) fn accepted(rt: &impl Abort, alloc: Global, text: &str) -> Result<Accepted, Fail> {
+    let text = text.as_bytes();
+    assert!(rt; text.len() < 10_000);
+    let found = tokens(alloc, text, 16)?;
+    let spec = read_spec(alloc, &found)?;
+    Ok(accept(alloc, spec)?)
+}
+
+/// The octets of a text of two hexadecimal digits each.
+pub(crate) fn octets(alloc: Global, text: &str) -> Result<Vec<u8>, Fail> {
+    let mut made = Vec::new(alloc);
+    for word in text.split_whitespace() {
+        let octet = u8::from_str_radix(word, 16)?;
+        made.push(octet)?;
+    }
+    Ok(made)
+}
+
+/// The block that a body of this category is read as.
+fn body_decoded(
+    rt: &impl Abort,
+    alloc: Global,
+    spec: &Spec,
+    category: u8,
+    body: &[u8],
+) -> Result<Block, DecodeError>
+    requires { HasNoFlaw spec.now }
+{
+    assert!(rt; !body.is_empty());
+    assert!(rt; body.len() <= 65_532);
+    decode_block(alloc, spec, &RawBlock { category, body })
+}
+
+/// The block that a body of this category is read as, or its fault, in a line.
+pub(crate) fn body_read_as(
+    rt: &impl Abort,
+    alloc: Global,
+    spec: &Spec,
+    category: u8,
+    body: &[u8],
+) -> Result<String, AllocError>
+    requires { HasNoFlaw spec.now }
+{
+    match body_decoded(rt, alloc, spec, category, body) {
+        Ok(block) => shown_block(alloc, &block),
+        Err(error) => shown_error(alloc, &error),
+    }
+}
+
+/// The body of a block, behind CAT and the LEN that it has.
+fn body_of<'o>(rt: &impl Abort, octets: &'o [u8]) -> &'o [u8] {
+    assert!(rt; octets.len() >= 4);
+    let length = octets[1] as usize * 256 + octets[2] as usize;
+    assert_eq!(rt; octets.len(), length, "LEN of {octets:?}");
+    &octets[3..]
+}
+
+fn category_of(rt: &impl Abort, octets: &[u8]) -> u8 {
+    assert!(rt; !octets.is_empty());
+    octets[0]
+}
+
+/// The block that the octets are read as, or its fault, in a line.
+pub(crate) fn read_as(
+    rt: &impl Abort,
+    alloc: Global,
+    spec: &Spec,
+    octets: &[u8],
+) -> Result<String, AllocError>
+    requires { HasNoFlaw spec.now }
+{
+    body_read_as(
+        rt,
+        alloc,
+        spec,
+        category_of(rt, octets),
+        body_of(rt, octets),
+    )
+}
+
+/// The block that the octets are read as.
+pub(crate) fn decoded(
+    rt: &impl Abort,
+    alloc: Global,
+    spec: &Spec,
+    octets: &[u8],
+) -> Result<Block, DecodeError>
+    requires { HasNoFlaw spec.now }
+{
+    body_decoded(
+        rt,
+        alloc,
+        spec,
+        category_of(rt, octets),
+        body_of(rt, octets),
+    )
+}
+
+/// The octets of a block, in a line, or how many they are where they are too many.
+pub(crate) fn written_as(
+    rt: &impl Abort,
+    alloc: Global,
+    spec: &Spec,
+    block: &Block,
+) -> Result<String, AllocError>
+    requires { HasNoFlaw spec.now }
+{
+    assert!(rt; fits(spec, block));
+    match encode_block(alloc, spec, block) {
+        Ok(octets) => shown_octets(alloc, &octets),
+        Err(EncodeError::TooLong { octets }) => format!(in alloc; "TooLong {octets}"),
+        Err(EncodeError::OutOfMemory) => String::from_str(alloc, "out of memory"),
+    }
+}
+
+/// The canonical form of the block that the octets are, in a line, or their fault.
+pub(crate) fn canon_as(
+    rt: &impl Abort,
+    alloc: Global,
+    spec: &Spec,
+    octets: &[u8],
+) -> Result<String, AllocError>
+    requires { HasNoFlaw spec.now }
+{
+    match decoded(rt, alloc, spec, octets) {
+        Ok(block) => written_as(rt, alloc, spec, &block),
+        Err(error) => shown_error(alloc, &error),
+    }
+}

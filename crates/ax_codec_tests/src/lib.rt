@@ -1,0 +1,18 @@
+//! The tests of the codec across crates: category files are read and accepted, and their blocks decoded, encoded and
+//! copied. It holds nothing public.
+#![tactic(auto)]
+
+#[cfg(test)]
+mod copying;
+#[cfg(test)]
+mod decoding;
+#[cfg(test)]
+mod encoding;
+#[cfg(test)]
+mod fixtures;
+#[cfg(test)]
+mod records;
+#[cfg(test)]
+mod shown;
+#[cfg(test)]
+mod shown_specs;

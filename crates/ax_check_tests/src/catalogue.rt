@@ -1,0 +1,53 @@
+//! A catalogue takes a category once.
+
+use crate::texts::accepted;
+use ax_check::{AddError, Catalogue};
+use ax_vectors::{CAT019_P1, CAT034_P1, CAT048_P1, FILE_A};
+use std::alloc::Global;
+use std::test::Fail;
+
+/// The category that is there already, if the text's is.
+fn refused(alloc: Global, catalogue: &mut Catalogue, text: &str) -> Result<Option<u8>, Fail> {
+    match catalogue.add(accepted(alloc, text)?) {
+        Ok(()) => Ok(None),
+        Err(AddError::CategoryTwice { category }) => Ok(Some(category)),
+        Err(AddError::OutOfMemory) => Err(Fail::from("out of memory")),
+    }
+}
+
+/// The categories in the order of the catalogue, and behind each the edition that `get` finds.
+fn told(alloc: Global, catalogue: &Catalogue) -> Result<String, Fail> {
+    let mut made = String::new(alloc);
+    for index in 0..catalogue.count() {
+        let category = catalogue
+            .at(index)
+            .ok_or("not at its place")?
+            .spec()
+            .category;
+        let found = catalogue.get(category).ok_or("not found")?;
+        let edition = String::from_utf8_lossy(alloc, found.spec().edition.as_slice())?;
+        let line = format!(in alloc; "{category} {edition}, ")?;
+        made.push_str(line.as_str())?;
+    }
+    Ok(made)
+}
+
+#[test]
+fn a_category_stands_once(rt: HostRuntime) -> Result<(), Fail> {
+    let alloc = rt.alloc();
+    let mut catalogue = Catalogue::new(alloc);
+    for (text, twice, holds) in [
+        (FILE_A, None, "34 034-A, "),
+        (CAT034_P1, Some(34), "34 034-A, "),
+        (CAT048_P1, None, "34 034-A, 48 048-P1, "),
+        (CAT019_P1, None, "34 034-A, 48 048-P1, 19 019-P1, "),
+        (CAT048_P1, Some(48), "34 034-A, 48 048-P1, 19 019-P1, "),
+    ] {
+        assert_eq!(rt; refused(alloc, &mut catalogue, text)?, twice, "{text}");
+        let found = told(alloc, &catalogue)?;
+        assert_eq!(rt; found.as_str(), holds, "{text}");
+    }
+    assert!(rt; catalogue.at(3).is_none());
+    assert!(rt; catalogue.get(0).is_none());
+    Ok(())
+}

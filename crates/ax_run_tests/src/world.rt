@@ -6,6 +6,7 @@ use ax_vectors::{
     CAT019_P1, CAT034_P1, CAT048_P1, FILE_A, FILE_E, FILE_F, FILE_N, FILE_S, NESTED_TOO_DEEP,
 };
 use std::alloc::{AllocError, Global};
+use std::process::Abort;
 use std::test::Fail;
 
 // A file with four flaws, one that ends too early, and one with a quotation mark that is never closed.
@@ -20,30 +21,85 @@ const UNENDED: &str = r#"category 034 edition "X"#;
 /// One octet more than a category file may have.
 const TOO_LARGE: usize = 1_048_577;
 
-/// How the calls of the outside are cut, and which of them fail, by their numbers from 0.
+/// How the calls of the outside are cut, or which one fails, by its number from 0.
 #[derive(Clone, Copy)]
-pub struct World {
-    pub cuts: &'static [u32],
-    pub loads: &'static [u64],
-    pub reads: &'static [u64],
-    pub writes: &'static [u64],
-    pub report_writes: &'static [u64],
-    pub room: u32,
-    pub largest: u32,
-    pub report_room: u32,
+pub enum Outside {
+    /// None is cut or fails.
+    Sound,
+    /// The reads give one octet each.
+    OctetReads,
+    /// The reads give two, three and five octets.
+    CutReads,
+    /// The writes take one octet each.
+    OctetWrites,
+    /// That load fails.
+    Load(u64),
+    /// The reads give one octet each, and that one fails.
+    OctetRead(u64),
+    /// That write fails.
+    Write(u64),
+    /// The writes take one octet each, and that one fails.
+    OctetWrite(u64),
+    /// The output has room for so many octets.
+    Room(u32),
+    /// That write to the report fails.
+    Report(u64),
+    /// The report has room for so many octets.
+    ReportRoom(u32),
 }
 
-/// No call is cut or fails.
-pub const SOUND: World = World {
-    cuts: &[],
-    loads: &[],
-    reads: &[],
-    writes: &[],
-    report_writes: &[],
-    room: 70_000,
-    largest: 70_000,
-    report_room: 70_000,
-};
+// More octets than any output here has.
+const AMPLE: u32 = 70_000;
+
+fn library_of(alloc: Global, outside: Outside) -> Result<MemLibrary, AllocError> {
+    let failing = match outside {
+        Outside::Load(call) => vec![in alloc; call]?,
+        _ => Vec::new(alloc),
+    };
+    Ok(MemLibrary::new(files(alloc)?, failing))
+}
+
+fn source_of(alloc: Global, outside: Outside, input: &[u8]) -> Result<MemSource, AllocError> {
+    let cuts = match outside {
+        // A block of ten octets, and the end behind it.
+        Outside::OctetReads | Outside::OctetRead(_) => vec![in alloc; 1; 12]?,
+        Outside::CutReads => vec![in alloc; 2, 3, 5]?,
+        _ => Vec::new(alloc),
+    };
+    let failing = match outside {
+        Outside::OctetRead(call) => vec![in alloc; call]?,
+        _ => Vec::new(alloc),
+    };
+    Ok(MemSource::new(input.to_vec(alloc)?, cuts, failing))
+}
+
+fn out_of(alloc: Global, outside: Outside) -> Result<MemSink, AllocError> {
+    let room = match outside {
+        Outside::Room(room) => room,
+        _ => AMPLE,
+    };
+    let largest = match outside {
+        Outside::OctetWrites | Outside::OctetWrite(_) => 1,
+        _ => AMPLE,
+    };
+    let failing = match outside {
+        Outside::Write(call) | Outside::OctetWrite(call) => vec![in alloc; call]?,
+        _ => Vec::new(alloc),
+    };
+    MemSink::new(alloc, room, largest, failing)
+}
+
+fn report_of(alloc: Global, outside: Outside) -> Result<MemSink, AllocError> {
+    let room = match outside {
+        Outside::ReportRoom(room) => room,
+        _ => AMPLE,
+    };
+    let failing = match outside {
+        Outside::Report(call) => vec![in alloc; call]?,
+        _ => Vec::new(alloc),
+    };
+    MemSink::new(alloc, room, AMPLE, failing)
+}
 
 /// What a run leaves behind: its exit status, what stands on both outputs, and how many octets of the input were not
 /// read.
@@ -142,16 +198,13 @@ fn left_of(alloc: Global, source: &mut MemSource) -> Result<usize, Fail> {
     Ok(fill(source, &mut buffer)?)
 }
 
-/// Runs the words, which have blanks between them, over this input.
-pub fn ran(alloc: Global, words: &str, input: &[u8], world: World) -> Result<Ended, Fail> {
+// Runs the words, which have blanks between them.
+fn ran(alloc: Global, words: &str, input: &[u8], outside: Outside) -> Result<Ended, Fail> {
     let words = words_of(alloc, words)?;
-    let mut library = MemLibrary::new(files(alloc)?, world.loads.to_vec(alloc)?);
-    let cuts = world.cuts.to_vec(alloc)?;
-    let mut source = MemSource::new(input.to_vec(alloc)?, cuts, world.reads.to_vec(alloc)?);
-    let writes = world.writes.to_vec(alloc)?;
-    let mut out = MemSink::new(alloc, world.room, world.largest, writes)?;
-    let report_writes = world.report_writes.to_vec(alloc)?;
-    let mut report = MemSink::new(alloc, world.report_room, 70_000, report_writes)?;
+    let mut library = library_of(alloc, outside)?;
+    let mut source = source_of(alloc, outside, input)?;
+    let mut out = out_of(alloc, outside)?;
+    let mut report = report_of(alloc, outside)?;
     let outcome = run(
         alloc,
         &words,
@@ -166,4 +219,18 @@ pub fn ran(alloc: Global, words: &str, input: &[u8], world: World) -> Result<End
         report: report.written().to_vec(alloc)?,
         left: left_of(alloc, &mut source)?,
     })
+}
+
+/// Runs the words over this input, and asserts that the run leaves behind what is wanted.
+pub fn leaves(
+    rt: &impl Abort,
+    alloc: Global,
+    words: &str,
+    input: &[u8],
+    outside: Outside,
+    want: Ended,
+) -> Result<(), Fail> {
+    let got = ran(alloc, words, input, outside)?;
+    assert_eq!(rt; got, want, "of {words} over {input:?}");
+    Ok(())
 }

@@ -1,0 +1,216 @@
+//! `canon` over inputs without fault and with one. Each of these reads its input to the end.
+
+use crate::world::{Outside, leaves, octets, wanted};
+use std::test::Fail;
+
+const NORTH: &str = "22 00 0A E0 19 0C 01 00 00 80";
+
+const MIXED: &str = "30 00 07 81 00 19 0C 3E 00 05 80 FF 22 00 0A E0 19 0C 01 00 00 80 30 00 04 00";
+
+const MIXED_CANONICAL: &str =
+    "30 00 06 80 19 0C 3E 00 05 80 FF 22 00 0A E0 19 0C 01 00 00 80 30 00 04 00";
+
+// The words, the input and the output, and how the calls are cut.
+const DONE: [(&str, &str, &str, Outside); 22] = [
+    ("canon A", "", "", Outside::Sound),
+    ("canon A", NORTH, NORTH, Outside::Sound),
+    ("canon E", NORTH, NORTH, Outside::Sound),
+    ("canon commented", NORTH, NORTH, Outside::Sound),
+    ("canon A", NORTH, NORTH, Outside::OctetReads),
+    ("canon E", NORTH, NORTH, Outside::OctetReads),
+    ("canon A", NORTH, NORTH, Outside::CutReads),
+    ("canon E", NORTH, NORTH, Outside::CutReads),
+    ("canon A", NORTH, NORTH, Outside::OctetWrites),
+    ("canon E", NORTH, NORTH, Outside::OctetWrites),
+    ("canon A", "22 00 04 00", "22 00 04 00", Outside::Sound),
+    ("canon E", "22 00 04 00", "22 00 04 00", Outside::Sound),
+    (
+        "canon A",
+        "22 00 09 80 19 0C 80 19 0D",
+        "22 00 09 80 19 0C 80 19 0D",
+        Outside::Sound,
+    ),
+    (
+        "canon E",
+        "22 00 09 80 19 0C 80 19 0D",
+        "22 00 09 80 19 0C 80 19 0D",
+        Outside::Sound,
+    ),
+    (
+        "canon A",
+        "3E 00 05 80 FF",
+        "3E 00 05 80 FF",
+        Outside::Sound,
+    ),
+    (
+        "canon 048",
+        "30 00 07 81 00 19 0C",
+        "30 00 06 80 19 0C",
+        Outside::Sound,
+    ),
+    ("canon 048", "30 00 04 00", "30 00 04 00", Outside::Sound),
+    (
+        "canon 048",
+        "30 00 06 20 A1 00",
+        "30 00 06 20 A1 00",
+        Outside::Sound,
+    ),
+    (
+        "canon 048",
+        "30 00 06 01 20 00",
+        "30 00 06 01 20 00",
+        Outside::Sound,
+    ),
+    (
+        "canon 048",
+        "30 00 0A 01 01 01 04 03 AA BB",
+        "30 00 0A 01 01 01 04 03 AA BB",
+        Outside::Sound,
+    ),
+    (
+        "canon N",
+        "C8 00 0B 80 02 81 00 11 01 80 22",
+        "C8 00 0A 80 02 80 11 01 80 22",
+        Outside::Sound,
+    ),
+    ("canon A 048", MIXED, MIXED_CANONICAL, Outside::Sound),
+];
+
+#[test]
+fn canonical_octets_of_inputs_without_fault(rt: HostRuntime) -> Result<(), Fail> {
+    let alloc = rt.alloc();
+    for (words, input, out, outside) in DONE {
+        let input = octets(alloc, input)?;
+        let want = wanted(alloc, 0, &octets(alloc, out)?, "", 0)?;
+        leaves(&rt, alloc, words, &input, outside, want)?;
+    }
+    Ok(())
+}
+
+// The largest block, with a record of no item in each octet of its body.
+#[test]
+fn the_largest_block_is_unchanged(rt: HostRuntime) -> Result<(), Fail> {
+    let alloc = rt.alloc();
+    let mut input = octets(alloc, "30 FF FF")?;
+    input.extend_from_slice(&[0; 65_532])?;
+    let want = wanted(alloc, 0, &input, "", 0)?;
+    leaves(&rt, alloc, "canon 048", &input, Outside::Sound, want)
+}
+
+// The words, the input, the output before the fault, and the report.
+const REFUSED: [(&str, &str, &str, &str); 18] = [
+    (
+        "canon A",
+        "22 00 04 01",
+        "",
+        "refused block 0 bit 31 PresenceTooLong\n",
+    ),
+    (
+        "canon E",
+        "22 00 04 01",
+        "",
+        "refused block 0 bit 31 PresenceTooLong\n",
+    ),
+    (
+        "canon A",
+        "22 00 04 10",
+        "",
+        "refused block 0 bit 27 UndefinedSlot\n",
+    ),
+    (
+        "canon E",
+        "22 00 04 10",
+        "",
+        "refused block 0 bit 27 UndefinedSlot\n",
+    ),
+    (
+        "canon A",
+        "22 00 05 80 19",
+        "",
+        "refused block 0 bit 32 RunsOut\n",
+    ),
+    (
+        "canon E",
+        "22 00 05 80 19",
+        "",
+        "refused block 0 bit 32 RunsOut\n",
+    ),
+    (
+        "canon 048",
+        "30 00 06 20 A1 01",
+        "",
+        "refused block 0 bit 47 ExtensionPastEnd\n",
+    ),
+    (
+        "canon 048",
+        "30 00 06 01 20 01",
+        "",
+        "refused block 0 bit 48 RunsOut\n",
+    ),
+    (
+        "canon 048",
+        "30 00 08 01 01 01 04 00",
+        "",
+        "refused block 0 bit 56 BadExplicitLength\n",
+    ),
+    (
+        "canon 048",
+        "30 00 05 80 19",
+        "",
+        "refused block 0 bit 32 RunsOut\n",
+    ),
+    (
+        "canon 048",
+        "30 00 04 81",
+        "",
+        "refused block 0 bit 32 RunsOut\n",
+    ),
+    (
+        "canon 048",
+        "30 00 03",
+        "",
+        "refused block 0 bit 8 BadLen\n",
+    ),
+    (
+        "canon 048",
+        "30 00 00",
+        "",
+        "refused block 0 bit 8 BadLen\n",
+    ),
+    ("canon A", "3E 00 03", "", "refused block 0 bit 8 BadLen\n"),
+    (
+        "canon 048",
+        "30 00",
+        "",
+        "refused block 0 bit 16 EndsInHeader\n",
+    ),
+    (
+        "canon 048",
+        "30 00 06 80 19",
+        "",
+        "refused block 0 bit 40 EndsInBlock\n",
+    ),
+    (
+        "canon 048",
+        "30 00 06 80 19 0C 30 00 05 80 19",
+        "30 00 06 80 19 0C",
+        "refused block 1 bit 32 RunsOut\n",
+    ),
+    (
+        "canon S",
+        "CC 00 04 41",
+        "",
+        "refused block 0 bit 25 UndefinedSlot\n",
+    ),
+];
+
+#[test]
+fn the_first_fault_is_named_at_its_bit(rt: HostRuntime) -> Result<(), Fail> {
+    let alloc = rt.alloc();
+    for (words, input, out, report) in REFUSED {
+        let input = octets(alloc, input)?;
+        let want = wanted(alloc, 3, &octets(alloc, out)?, report, 0)?;
+        leaves(&rt, alloc, words, &input, Outside::Sound, want)?;
+    }
+    Ok(())
+}

@@ -1,0 +1,84 @@
+//! `check`, refused files and refused words. None of these reads the input.
+
+use crate::world::{Outside, leaves, octets, wanted};
+use ax_vectors::{CAT019_P1, FILE_E};
+use std::alloc::{AllocError, Global};
+use std::test::Fail;
+
+const INPUT: &str = "22 00 0A E0 19 0C 01 00 00 80";
+
+const LINE_OF_E: &str = "accepted 034 \"034-E\" items 3 slots 3\n";
+
+const LINE_OF_019: &str = "accepted 019 \"019-P1\" items 7 slots 14\n";
+
+const FLAWS_OF_F: &str =
+    "flaw file 0 NotOctets 034/010\nflaw file 0 RepeatedInUap 034/uap/010\nrefused file 0 Flawed 2\n";
+
+const FLAWS_OF_V: &str =
+    "flaw file 0 BadScale 210/010\nflaw file 0 DuplicateItem 210/010\nflaw file 0 Empty 210/010\nflaw file 0 UnknownInUap 210/uap/020\nrefused file 0 Flawed 4\n";
+
+// The words, the exit status and the report.
+const REFUSED: [(&str, u8, &str); 19] = [
+    ("", 1, "refused usage\n"),
+    ("canon", 1, "refused usage\n"),
+    ("canon -x", 1, "refused usage\n"),
+    ("check A E", 1, "refused usage\n"),
+    ("check -x", 1, "refused usage\n"),
+    ("other A", 1, "refused usage\n"),
+    ("check F", 2, FLAWS_OF_F),
+    ("check V", 2, FLAWS_OF_V),
+    ("check short", 2, "refused file 0 BadToken token 16\n"),
+    ("canon short", 2, "refused file 0 BadToken token 16\n"),
+    ("check unended", 2, "refused file 0 BadByte at 23\n"),
+    ("canon unended", 2, "refused file 0 BadByte at 23\n"),
+    ("check deep", 2, "refused file 0 TooDeep token 55\n"),
+    ("canon deep", 2, "refused file 0 TooDeep token 55\n"),
+    ("check large", 2, "refused file 0 TooLarge\n"),
+    ("canon large", 2, "refused file 0 TooLarge\n"),
+    ("canon A 034", 2, "refused file 1 CategoryTwice 034\n"),
+    ("canon Q", 4, "fault file 0\n"),
+    ("canon A Q", 4, "fault file 1\n"),
+];
+
+#[test]
+fn refused_words_and_files(rt: HostRuntime) -> Result<(), Fail> {
+    let alloc = rt.alloc();
+    let input = octets(alloc, INPUT)?;
+    for (words, status, report) in REFUSED {
+        let want = wanted(alloc, status, b"", report, 10)?;
+        leaves(&rt, alloc, words, &input, Outside::Sound, want)?;
+    }
+    Ok(())
+}
+
+// The line, and behind it the words of the text with one blank between them, as a specification is printed.
+fn accepted(alloc: Global, line: &str, text: &str) -> Result<Vec<u8>, AllocError> {
+    let mut made = line.as_bytes().to_vec(alloc)?;
+    let mut between: &[u8] = b"";
+    for word in text.split_whitespace() {
+        made.extend_from_slice(between)?;
+        made.extend_from_slice(word.as_bytes())?;
+        between = b" ";
+    }
+    made.push(b'\n')?;
+    Ok(made)
+}
+
+// The words, and the line and the text that are written.
+const ACCEPTED: [(&str, &str, &str); 3] = [
+    ("check E", LINE_OF_E, FILE_E),
+    ("check commented", LINE_OF_E, FILE_E),
+    ("check 019", LINE_OF_019, CAT019_P1),
+];
+
+#[test]
+fn an_accepted_file_is_written_in_one_line(rt: HostRuntime) -> Result<(), Fail> {
+    let alloc = rt.alloc();
+    let input = octets(alloc, INPUT)?;
+    for (words, line, text) in ACCEPTED {
+        let want = wanted(alloc, 0, &accepted(alloc, line, text)?, "", 10)?;
+        leaves(&rt, alloc, words, &input, Outside::Sound, want)?;
+    }
+    assert_eq!(rt; accepted(alloc, "", FILE_E)?.as_slice(), FILE_E.as_bytes());
+    Ok(())
+}

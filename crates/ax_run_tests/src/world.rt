@@ -1,0 +1,236 @@
+//! One run in memory: the files that it finds, how its outside is cut and fails, and what it leaves behind.
+
+use ax_app::run;
+use ax_outside::{MemLibrary, MemSink, MemSource, fill};
+use ax_vectors::{
+    CAT019_P1, CAT034_P1, CAT048_P1, FILE_A, FILE_E, FILE_F, FILE_N, FILE_S, NESTED_TOO_DEEP,
+};
+use std::alloc::{AllocError, Global};
+use std::process::Abort;
+use std::test::Fail;
+
+// A file with four flaws, one that ends too early, and one with a quotation mark that is never closed.
+const FILE_V: &str =
+    r#"category 210 edition "V" items { item 010 "" element 8 quantity unsigned 0 1 "m" item 010 "" compound { } } uap { 020 }"#;
+
+const CUT_SHORT: &str =
+    r#"category 034 edition "X" items { item 000 "T" element 8 raw } uap { 000"#;
+
+const UNENDED: &str = r#"category 034 edition "X"#;
+
+/// One octet more than a category file may have.
+const TOO_LARGE: usize = 1_048_577;
+
+/// How the calls of the outside are cut, or which one fails, by its number from 0.
+#[derive(Clone, Copy)]
+pub enum Outside {
+    /// None is cut or fails.
+    Sound,
+    /// The reads give one octet each.
+    OctetReads,
+    /// The reads give two, three and five octets.
+    CutReads,
+    /// The writes take one octet each.
+    OctetWrites,
+    /// That load fails.
+    Load(u64),
+    /// The reads give one octet each, and that one fails.
+    OctetRead(u64),
+    /// That write fails.
+    Write(u64),
+    /// The writes take one octet each, and that one fails.
+    OctetWrite(u64),
+    /// The output has room for so many octets.
+    Room(u32),
+    /// That write to the report fails.
+    Report(u64),
+    /// The report has room for so many octets.
+    ReportRoom(u32),
+}
+
+// More octets than any output here has.
+const AMPLE: u32 = 70_000;
+
+fn library_of(alloc: Global, outside: Outside) -> Result<MemLibrary, AllocError> {
+    let failing = match outside {
+        Outside::Load(call) => vec![in alloc; call]?,
+        _ => Vec::new(alloc),
+    };
+    Ok(MemLibrary::new(files(alloc)?, failing))
+}
+
+fn source_of(alloc: Global, outside: Outside, input: &[u8]) -> Result<MemSource, AllocError> {
+    let cuts = match outside {
+        // A block of ten octets, and the end behind it.
+        Outside::OctetReads | Outside::OctetRead(_) => vec![in alloc; 1; 12]?,
+        Outside::CutReads => vec![in alloc; 2, 3, 5]?,
+        _ => Vec::new(alloc),
+    };
+    let failing = match outside {
+        Outside::OctetRead(call) => vec![in alloc; call]?,
+        _ => Vec::new(alloc),
+    };
+    Ok(MemSource::new(input.to_vec(alloc)?, cuts, failing))
+}
+
+fn out_of(alloc: Global, outside: Outside) -> Result<MemSink, AllocError> {
+    let room = match outside {
+        Outside::Room(room) => room,
+        _ => AMPLE,
+    };
+    let largest = match outside {
+        Outside::OctetWrites | Outside::OctetWrite(_) => 1,
+        _ => AMPLE,
+    };
+    let failing = match outside {
+        Outside::Write(call) | Outside::OctetWrite(call) => vec![in alloc; call]?,
+        _ => Vec::new(alloc),
+    };
+    MemSink::new(alloc, room, largest, failing)
+}
+
+fn report_of(alloc: Global, outside: Outside) -> Result<MemSink, AllocError> {
+    let room = match outside {
+        Outside::ReportRoom(room) => room,
+        _ => AMPLE,
+    };
+    let failing = match outside {
+        Outside::Report(call) => vec![in alloc; call]?,
+        _ => Vec::new(alloc),
+    };
+    MemSink::new(alloc, room, AMPLE, failing)
+}
+
+/// What a run leaves behind: its exit status, what stands on both outputs, and how many octets of the input were not
+/// read.
+#[derive(Debug, PartialEq, Eq, Drop)]
+pub struct Ended {
+    pub status: u8,
+    pub out: Vec<u8>,
+    pub report: Vec<u8>,
+    pub left: usize,
+}
+
+/// The value that a run should leave behind.
+pub fn wanted(
+    alloc: Global,
+    status: u8,
+    out: &[u8],
+    report: &str,
+    left: usize,
+) -> Result<Ended, AllocError> {
+    Ok(Ended {
+        status,
+        out: out.to_vec(alloc)?,
+        report: report.as_bytes().to_vec(alloc)?,
+        left,
+    })
+}
+
+/// The octets of a text in hexadecimal, with blanks between them.
+pub fn octets(alloc: Global, text: &str) -> Result<Vec<u8>, Fail> {
+    let mut made = Vec::new(alloc);
+    for word in text.split_whitespace() {
+        let mut octet = [0u8; 1];
+        hex::decode_to_slice(word.as_bytes(), &mut octet)?;
+        made.push(octet[0])?;
+    }
+    Ok(made)
+}
+
+// File E behind a comment, with two line feeds for each blank.
+fn commented(alloc: Global) -> Result<Vec<u8>, AllocError> {
+    let mut made = b"# a comment\n".to_vec(alloc)?;
+    for octet in FILE_E.as_bytes() {
+        if *octet == b' ' {
+            made.extend_from_slice(b"\n\n")?;
+        } else {
+            made.push(*octet)?;
+        }
+    }
+    Ok(made)
+}
+
+fn put(
+    alloc: Global,
+    files: &mut Vec<(String, Vec<u8>)>,
+    name: &str,
+    octets: Vec<u8>,
+) -> Result<(), AllocError> {
+    files.push((String::from_str(alloc, name)?, octets))?;
+    Ok(())
+}
+
+fn files(alloc: Global) -> Result<Vec<(String, Vec<u8>)>, AllocError> {
+    let mut made = Vec::new(alloc);
+    for (name, text) in [
+        ("A", FILE_A),
+        ("E", FILE_E),
+        ("F", FILE_F),
+        ("N", FILE_N),
+        ("S", FILE_S),
+        ("V", FILE_V),
+        ("019", CAT019_P1),
+        ("034", CAT034_P1),
+        ("048", CAT048_P1),
+        ("short", CUT_SHORT),
+        ("unended", UNENDED),
+        ("deep", NESTED_TOO_DEEP),
+    ] {
+        put(alloc, &mut made, name, text.as_bytes().to_vec(alloc)?)?;
+    }
+    put(alloc, &mut made, "commented", commented(alloc)?)?;
+    put(alloc, &mut made, "large", vec![in alloc; b' '; TOO_LARGE]?)?;
+    Ok(made)
+}
+
+fn words_of(alloc: Global, text: &str) -> Result<Vec<String>, AllocError> {
+    let mut made = Vec::new(alloc);
+    for word in text.split_whitespace() {
+        made.push(String::from_str(alloc, word)?)?;
+    }
+    Ok(made)
+}
+
+// How many octets the source has left, which it then gives.
+fn left_of(alloc: Global, source: &mut MemSource) -> Result<usize, Fail> {
+    let mut buffer = vec![in alloc; 0; 70_000]?;
+    Ok(fill(source, &mut buffer)?)
+}
+
+// Runs the words, which have blanks between them.
+fn ran(alloc: Global, words: &str, input: &[u8], outside: Outside) -> Result<Ended, Fail> {
+    let words = words_of(alloc, words)?;
+    let mut library = library_of(alloc, outside)?;
+    let mut source = source_of(alloc, outside, input)?;
+    let mut out = out_of(alloc, outside)?;
+    let mut report = report_of(alloc, outside)?;
+    let outcome = run(
+        alloc,
+        &words,
+        &mut library,
+        &mut source,
+        &mut out,
+        &mut report,
+    );
+    Ok(Ended {
+        status: outcome.status(),
+        out: out.written().to_vec(alloc)?,
+        report: report.written().to_vec(alloc)?,
+        left: left_of(alloc, &mut source)?,
+    })
+}
+
+/// Runs the words over this input, and asserts that the run leaves behind what is wanted.
+pub fn leaves(
+    rt: &impl Abort,
+    alloc: Global,
+    words: &str,
+    input: &[u8],
+    outside: Outside,
+    want: Ended,
+) -> Result<(), Fail> {
+    let got = ran(alloc, words, input, outside)?;
+    assert_eq!(rt; got, want, "of {words} over {input:?}");
+    Ok(())
+}

@@ -1,5 +1,5 @@
 -- From what a run does step by step to what its contract says.
-use Rattle.std.proofs.Common.{◌≡◌, ℕ, ◌⊎◌, inl, inr, List, [], ◌∷◌, Option, Some, None, refl, sym, ◌∙◌, ap, subst, append-nil}
+use Rattle.std.proofs.Common.{◌≡◌, ℕ, ◌⊎◌, inl, inr, List, [], ◌∷◌, Option, Some, refl, ◌∙◌, ap, subst}
 use Rattle.ax_bits.specs.Bits.{AreOctets}
 use Rattle.ax_command.specs.Words.{Asked, check_of, canon_of, HasShape, IsCheck, IsCanon}
 use Rattle.ax_command.specs.declared.outcome.Outcome.{Outcome}
@@ -10,6 +10,7 @@ use Rattle.ax_load.specs.Loading.{Counts, GivesSpec, StopsAtFile, IsRefusedFile,
 use Rattle.ax_model.specs.Specification.{SpecTree}
 use Rattle.ax_outside.specs.Files.{File}
 use Rattle.ax_outside.specs.Told.{with_end}
+use Rattle.ax_stream.proofs.Runs.{with_nothing}
 use Rattle.ax_stream.specs.Stops.{Answered, StreamRuns}
 use Rattle.ax_app.specs.Answer.{file_names, check_text, none_counted, FilesAnswer, by_words, by_files, by_command}
 use Rattle.ax_app.specs.Headline.{SourceChange, SinkChange, IsUntouched, IsStop, CheckStops, at_a_file, in_the_command, Headline, answered, stopped}
@@ -55,10 +56,6 @@ ends_or_answers files c names outcome count before name more pass (by_category c
 ends_or_answers files c names outcome count before name more pass (by_file h) = by_itself files c names outcome count before name more pass (stops_or_answers files c name count outcome h)
 
 -- ---- the told headline
-
-with_nothing : (held : Option (List ℕ)) → held ≡ with_end held []
-with_nothing None = refl
-with_nothing (Some xs) = ap Some (sym (append-nil xs))
 
 kept : (o : SinkChange) → o.held' ≡ o.held → o.held' ≡ with_end o.held []
 kept o same = same ∙ with_nothing o.held

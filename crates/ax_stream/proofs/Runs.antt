@@ -37,7 +37,7 @@ pub record SoFar (catalogue : List SpecTree) (input : List ℕ) (start left held
   pub counted : count ≡ length blocks
   pub given_is : given ≡ length octets
 
-with_nothing : (held : Option (List ℕ)) → held ≡ with_end held []
+pub with_nothing : (held : Option (List ℕ)) → held ≡ with_end held []
 with_nothing None = refl
 with_nothing (Some xs) = ap Some (sym (append-nil xs))
 

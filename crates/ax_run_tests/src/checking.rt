@@ -54,12 +54,11 @@ fn refused_words_and_files(rt: HostRuntime) -> Result<(), Fail> {
 // The line, and behind it the words of the text with one blank between them, as a specification is printed.
 fn accepted(alloc: Global, line: &str, text: &str) -> Result<Vec<u8>, AllocError> {
     let mut made = line.as_bytes().to_vec(alloc)?;
-    let mut between: &[u8] = b"";
     for word in text.split_whitespace() {
-        made.extend_from_slice(between)?;
         made.extend_from_slice(word.as_bytes())?;
-        between = b" ";
+        made.push(b' ')?;
     }
+    let _blank = made.pop();
     made.push(b'\n')?;
     Ok(made)
 }

@@ -1,5 +1,5 @@
 -- From what a run does step by step to the cause of each outcome.
-use Rattle.std.proofs.Common.{◌≡◌, ℕ, ◌+◌, ◌<◌, List, [], ◌∷◌, Option, Some, codes, get_or, refl, sym, ◌∙◌, ap, subst, arith}
+use Rattle.std.proofs.Common.{◌≡◌, ℕ, ◌+◌, ◌<◌, List, [], ◌∷◌, Option, Some, codes, get_or, refl, sym, ◌∙◌, ap, subst, arith, length}
 use Rattle.ax_bits.specs.Bits.{AreOctets}
 use Rattle.ax_command.specs.Words.{check_of, canon_of, HasNoShape, IsCheck, IsCanon}
 use Rattle.ax_command.specs.declared.outcome.Outcome.{Outcome}
@@ -37,19 +37,19 @@ never_ends files c before name i outcome never other (by_file h) = never h
 never_ends files c before name i outcome never other (by_category category is twice) = other i category is
 
 no_usage : (files : Option (List File)) (c : Counts) (names : List (List ℕ)) → FilesEnd files c names Usage → ⊥
-no_usage files c names e = never_ends files c e.before e.name e.count Usage (λ h. h) (λ n category is. absurd (cc)) e.ends
+no_usage files c names e = never_ends files c e.before e.name (length e.earlier) Usage (λ h. h) (λ n category is. absurd (cc)) e.ends
 
 no_done : (files : Option (List File)) (c : Counts) (names : List (List ℕ)) (blocks : ℕ) → FilesEnd files c names (Done blocks) → ⊥
-no_done files c names blocks e = never_ends files c e.before e.name e.count (Done blocks) (λ h. h) (λ n category is. absurd (cc)) e.ends
+no_done files c names blocks e = never_ends files c e.before e.name (length e.earlier) (Done blocks) (λ h. h) (λ n category is. absurd (cc)) e.ends
 
 no_read_fault : (files : Option (List File)) (c : Counts) (names : List (List ℕ)) → FilesEnd files c names ReadFault → ⊥
-no_read_fault files c names e = never_ends files c e.before e.name e.count ReadFault (λ h. h) (λ n category is. absurd (cc)) e.ends
+no_read_fault files c names e = never_ends files c e.before e.name (length e.earlier) ReadFault (λ h. h) (λ n category is. absurd (cc)) e.ends
 
 no_write_fault : (files : Option (List File)) (c : Counts) (names : List (List ℕ)) → FilesEnd files c names WriteFault → ⊥
-no_write_fault files c names e = never_ends files c e.before e.name e.count WriteFault (λ h. h) (λ n category is. absurd (cc)) e.ends
+no_write_fault files c names e = never_ends files c e.before e.name (length e.earlier) WriteFault (λ h. h) (λ n category is. absurd (cc)) e.ends
 
 no_too_long : (files : Option (List File)) (c : Counts) (names : List (List ℕ)) → FilesEnd files c names InputTooLong → ⊥
-no_too_long files c names e = never_ends files c e.before e.name e.count InputTooLong (λ h. h) (λ n category is. absurd (cc)) e.ends
+no_too_long files c names e = never_ends files c e.before e.name (length e.earlier) InputTooLong (λ h. h) (λ n category is. absurd (cc)) e.ends
 
 -- a command over its files doesn't end early
 check_not_early : (spec : SpecTree) (o : SinkChange) (outcome : Outcome) → CheckEnds spec o outcome → IsBeforeTheCommand outcome → ⊥

@@ -1,12 +1,12 @@
 -- From what a run does step by step to what its contract says.
-use Rattle.std.proofs.Common.{◌≡◌, ℕ, ◌⊎◌, inl, inr, List, [], ◌∷◌, Option, Some, refl, ◌∙◌, ap, subst}
+use Rattle.std.proofs.Common.{◌≡◌, ℕ, ◌⊎◌, inl, inr, List, [], ◌∷◌, Option, Some, refl, ◌∙◌, ap, subst, length}
 use Rattle.ax_bits.specs.Bits.{AreOctets}
 use Rattle.ax_command.specs.Words.{Asked, check_of, canon_of, HasShape, IsCheck, IsCanon}
 use Rattle.ax_command.specs.declared.outcome.Outcome.{Outcome}
 use Rattle.ax_command.specs.declared.outcome.Outcome.TheVariants.{Done, Usage, SpecRefused, CategoryTwice, InputRefused, InputTooLong, LoadFault, ReadFault, WriteFault, OutOfMemory}
 use Rattle.ax_command.specs.declared.outcome.SpecFault.{SpecFault}
 use Rattle.ax_command.specs.declared.outcome.SpecFault.TheVariants.{TooLarge, BadByte, TooDeep, BadToken, Flawed}
-use Rattle.ax_load.specs.Loading.{Counts, GivesSpec, StopsAtFile, IsRefusedFile, FilesPass, FilesGive, FilesEnd, EndsAtFile, by_file, by_category}
+use Rattle.ax_load.specs.Loading.{Counts, GivesSpec, StopsAtFile, IsRefusedFile, FilesGive, FilesEnd, EndsAtFile, by_file, by_category}
 use Rattle.ax_model.specs.Specification.{SpecTree}
 use Rattle.ax_outside.specs.Files.{File}
 use Rattle.ax_outside.specs.Told.{with_end}
@@ -43,17 +43,22 @@ stops_or_answers files c name i WriteFault h = absurd h
 twice_answers : (outcome : Outcome) (i category : ℕ) → outcome ≡ CategoryTwice i category → outcome ≡ OutOfMemory → ⊥
 twice_answers outcome i category is memory = absurd (cc)
 
-by_itself : (files : List File) (c : Counts) (names : List (List ℕ)) (outcome : Outcome) (count : ℕ) (before : List SpecTree) (name : List ℕ) (more : List (List ℕ)) → FilesPass (Some files) names count before (name ∷ more)
-    → IsStop outcome ⊎ (StopsAtFile (Some files) none_counted name count outcome × (outcome ≡ OutOfMemory → ⊥)) → IsStop outcome ⊎ FilesAnswer files names outcome
-by_itself files c names outcome count before name more pass (inl stop) = inl stop
-by_itself files c names outcome count before name more pass (inr (stops, memory)) =
-    inr (record { ends = record { count = count; before = before; name = name; more = more; pass = pass; ends = by_file stops }; memory = memory })
+-- the same end, with nothing counted
+answer_at : (files : List File) (c : Counts) (names : List (List ℕ)) (outcome : Outcome) (e : FilesEnd (Some files) c names outcome) → EndsAtFile (Some files) none_counted e.before e.name (length e.earlier) outcome → (outcome ≡ OutOfMemory → ⊥)
+    → FilesAnswer files names outcome
+answer_at files c names outcome e ends memory =
+    record { ends = record { earlier = e.earlier; name = e.name; more = e.more; split = e.split; before = e.before; give = e.give; ends = ends }; memory = memory }
 
-ends_or_answers : (files : List File) (c : Counts) (names : List (List ℕ)) (outcome : Outcome) (count : ℕ) (before : List SpecTree) (name : List ℕ) (more : List (List ℕ)) → FilesPass (Some files) names count before (name ∷ more)
-    → EndsAtFile (Some files) c before name count outcome → IsStop outcome ⊎ FilesAnswer files names outcome
-ends_or_answers files c names outcome count before name more pass (by_category category is twice) =
-    inr (record { ends = record { count = count; before = before; name = name; more = more; pass = pass; ends = by_category category is twice }; memory = twice_answers outcome count category is })
-ends_or_answers files c names outcome count before name more pass (by_file h) = by_itself files c names outcome count before name more pass (stops_or_answers files c name count outcome h)
+by_itself : (files : List File) (c : Counts) (names : List (List ℕ)) (outcome : Outcome) (e : FilesEnd (Some files) c names outcome)
+    → IsStop outcome ⊎ (StopsAtFile (Some files) none_counted e.name (length e.earlier) outcome × (outcome ≡ OutOfMemory → ⊥)) → IsStop outcome ⊎ FilesAnswer files names outcome
+by_itself files c names outcome e (inl stop) = inl stop
+by_itself files c names outcome e (inr (stops, memory)) = inr (answer_at files c names outcome e (by_file stops) memory)
+
+ends_or_answers : (files : List File) (c : Counts) (names : List (List ℕ)) (outcome : Outcome) (e : FilesEnd (Some files) c names outcome)
+    → EndsAtFile (Some files) c e.before e.name (length e.earlier) outcome → IsStop outcome ⊎ FilesAnswer files names outcome
+ends_or_answers files c names outcome e (by_category category is twice) =
+    inr (answer_at files c names outcome e (by_category category is twice) (twice_answers outcome (length e.earlier) category is))
+ends_or_answers files c names outcome e (by_file h) = by_itself files c names outcome e (stops_or_answers files c e.name (length e.earlier) outcome h)
 
 -- ---- the told headline
 
@@ -68,7 +73,7 @@ files_split words files c input i o outcome what shape ends idle (inr answer) = 
 files_headline : (words : List (List ℕ)) (files : List File) (c : Counts) (input : List ℕ) (i : SourceChange) (o : SinkChange) (outcome : Outcome) (what : Asked) → HasShape words what → FilesEnd (Some files) c (file_names what) outcome
     → TouchesNothing i o → Headline words files c input i o outcome
 files_headline words files c input i o outcome what shape ends idle = files_split words files c input i o outcome what shape ends idle
-    (ends_or_answers files c (file_names what) outcome ends.count ends.before ends.name ends.more ends.pass ends.ends)
+    (ends_or_answers files c (file_names what) outcome ends ends.ends)
 
 -- check
 check_done : (words : List (List ℕ)) (files : List File) (c : Counts) (input : List ℕ) (i : SourceChange) (o : SinkChange) (file : List ℕ) (spec : SpecTree) (blocks : ℕ) → IsCheck words file → GivesSpec (Some files) file spec

@@ -8,7 +8,7 @@ use Rattle.ax_model.specs.Plain.{spec_tree}
 use Rattle.ax_model.specs.declared.spec.Spec.{Spec}
 use Rattle.ax_command.specs.declared.outcome.Outcome.{Outcome}
 use Rattle.ax_command.specs.declared.outcome.Outcome.TheVariants.{Done, WriteFault, OutOfMemory}
-use Rattle.ax_load.specs.Loading.{Counts, GivesSpec, StopsAtFile, none_yet, one_more, FilesGive, FilesEnd, by_file}
+use Rattle.ax_load.specs.Loading.{Counts, GivesSpec, StopsAtFile, FilesGive, FilesEnd, by_file}
 use Rattle.ax_model.specs.Specification.{SpecTree}
 use Rattle.ax_outside.specs.Files.{File}
 use Rattle.ax_outside.specs.Told.{with_end, Rose}
@@ -17,10 +17,10 @@ use Rattle.ax_app.specs.Headline.{SinkChange}
 use Rattle.ax_app.specs.Running.{Reported, whole, cut, CheckRuns, no_spec, checks}
 
 pub one_file_ends : (files : Option (List File)) (c : Counts) (file : List ℕ) (outcome : Outcome) → StopsAtFile files c file 0 outcome → FilesEnd files c (file ∷ []) outcome
-one_file_ends files c file outcome h = record { count = 0; before = []; name = file; more = []; pass = none_yet; ends = by_file h }
+one_file_ends files c file outcome h = record { earlier = []; name = file; more = []; split = refl; before = []; give = record { each = tt; distinct = tt }; ends = by_file h }
 
 pub one_file_gives : (files : Option (List File)) (file : List ℕ) (spec : SpecTree) → GivesSpec files file spec → FilesGive files (file ∷ []) (spec ∷ [])
-one_file_gives files file spec h = record { count = 1; pass = one_more 0 [] [] file spec none_yet h refl }
+one_file_gives files file spec h = record { each = (h, tt); distinct = (refl, tt) }
 
 -- ---- check
 

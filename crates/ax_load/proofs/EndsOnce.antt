@@ -1,5 +1,5 @@
 -- The loading of files ends in one way.
-use Rattle.std.proofs.Common.{◌≡◌, ◌≢◌, ℕ, ◌+◌, ◌<◌, ◌≤◌, ◌⊎◌, inl, inr, List, [], ◌∷◌, ◌++◌, Option, Some, None, IsSome, length, refl, sym, ◌∙◌, ap, subst, arith}
+use Rattle.std.proofs.Common.{◌≡◌, ◌≢◌, ℕ, ◌+◌, ◌<◌, ◌≤◌, ◌⊎◌, inl, inr, List, [], ◌∷◌, ◌++◌, Option, Some, None, IsSome, length, append_assoc, append-nil, refl, sym, ◌∙◌, ap, subst, arith}
 use Rattle.ax_outside.specs.Files.{File, octets_of, Lacks, Exceeds}
 use Rattle.ax_outside.specs.Told.{Rose}
 use Rattle.ax_model.specs.Flaws.{flaws_of}
@@ -11,7 +11,7 @@ use Rattle.ax_command.specs.declared.outcome.Outcome.TheVariants as OutcomeOf
 use Rattle.ax_command.specs.declared.outcome.SpecFault.{SpecFault}
 use Rattle.ax_command.specs.declared.outcome.SpecFault.TheVariants.{TooLarge, BadByte, TooDeep, BadToken, Flawed}
 use Rattle.ax_load.specs.FileAnswers.{IsFlawed, IsRefused}
-use Rattle.ax_load.specs.Loading.{Counts, GivesSpec, IsRefusedFile, StopsAtFile, FilesPass, none_yet, one_more, HasCategoryTwice, EndsAtFile, by_file, by_category, FilesEnd}
+use Rattle.ax_load.specs.Loading.{Counts, GivesSpec, IsRefusedFile, StopsAtFile, EachGives, AreNewBehind, HasCategoryTwice, EndsAtFile, by_file, by_category, FilesEnd}
 use Rattle.ax_load.specs.SameEnds.{IsSameFault, same, another_token, IsSameOutcome, same_outcome, same_file}
 use Rattle.ax_load.proofs.FilesOnce.{same_tokens, same_spelled, same_octets, spec_given_once, given_stops_for_memory, none_is_none}
 
@@ -115,10 +115,29 @@ EndOn files c i before (name ∷ more) outcome =
     EndsAtFile (Some files) c before name i outcome
     ⊎ ((spec : SpecTree) × GivesSpec (Some files) name spec × (spec_of spec.category before ≡ None) × EndOn files c (i + 1) (before ++ spec ∷ []) more outcome)
 
-ends_from_the_start : (files : List File) (c : Counts) (names : List (List ℕ)) (i : ℕ) (before : List SpecTree) (left : List (List ℕ)) (outcome : Outcome) → FilesPass (Some files) names i before left → EndOn files c i before left outcome → EndOn files c 0 [] names outcome
-ends_from_the_start files c names i before left outcome none_yet g = g
-ends_from_the_start files c names i all left outcome (one_more j before more name spec pass gives fresh) g =
-    ends_from_the_start files c names j before (name ∷ more) outcome pass (inr (spec, gives, fresh, g))
+ends_on : (files : List File) (c : Counts) (i : ℕ) (before : List SpecTree) (earlier : List (List ℕ)) (specs : List SpecTree) (name : List ℕ) (more : List (List ℕ)) (outcome : Outcome) → EachGives (Some files) earlier specs → AreNewBehind before specs
+    → EndsAtFile (Some files) c (before ++ specs) name (i + length earlier) outcome → EndOn files c i before (earlier ++ (name ∷ more)) outcome
+ends_on files c i before [] [] name more outcome h new ends =
+    let e : i + length {A = List ℕ} [] ≡ i = omega arith in
+    inl (subst (λ n. EndsAtFile (Some files) c before name n outcome) e (subst (λ x. EndsAtFile (Some files) c x name (i + length {A = List ℕ} []) outcome) (append-nil before) ends))
+ends_on files c i before [] (s ∷ specs) name more outcome h new ends = absurd h
+ends_on files c i before (n ∷ earlier) [] name more outcome h new ends = absurd h
+ends_on files c i before (n ∷ earlier) (s ∷ specs) name more outcome h new ends =
+    let e : i + length (n ∷ earlier) ≡ (i + 1) + length earlier = omega arith in
+    inr (
+      s,
+      h.0,
+      new.0,
+      ends_on files c (i + 1) (before ++ s ∷ []) earlier specs name more outcome h.1 new.1
+          (subst (λ k. EndsAtFile (Some files) c ((before ++ s ∷ []) ++ specs) name k outcome) e
+          (subst (λ x. EndsAtFile (Some files) c x name (i + length (n ∷ earlier)) outcome) (sym (append_assoc before (s ∷ []) specs)) ends)),
+    )
+
+ends_from_the_start : (files : List File) (c : Counts) (names : List (List ℕ)) (outcome : Outcome) → FilesEnd (Some files) c names outcome → EndOn files c 0 [] names outcome
+ends_from_the_start files c names outcome h =
+    let e : 0 + length h.earlier ≡ length h.earlier = omega arith in
+    subst (λ n. EndOn files c 0 [] n outcome) (sym h.split)
+    (ends_on files c 0 [] h.earlier h.before h.name h.more outcome h.give.each h.give.distinct (subst (λ k. EndsAtFile (Some files) c h.before h.name k outcome) (sym e) h.ends))
 
 given_ends_not : (files : List File) (c : Counts) (before : List SpecTree) (name : List ℕ) (i : ℕ) (spec : SpecTree) (outcome : Outcome) → (Rose c.faults c.faults' → ⊥) → outcome ≢ OutcomeOf.OutOfMemory → GivesSpec (Some files) name spec → spec_of spec.category before ≡ None
     → EndsAtFile (Some files) c before name i outcome → ⊥
@@ -140,6 +159,4 @@ ends_on_once files c i before (name ∷ more) outcome other quiet some others (i
 pub loading_ends_once : (files : List File) (c : Counts) (names : List (List ℕ)) (outcome other : Outcome) → (Rose c.faults c.faults' → ⊥) → outcome ≢ OutcomeOf.OutOfMemory → other ≢ OutcomeOf.OutOfMemory
     → FilesEnd (Some files) c names outcome → FilesEnd (Some files) c names other → IsSameOutcome outcome other
 loading_ends_once files c names outcome other quiet some others h k =
-    ends_on_once files c 0 [] names outcome other quiet some others
-    (ends_from_the_start files c names h.count h.before (h.name ∷ h.more) outcome h.pass (inl h.ends))
-    (ends_from_the_start files c names k.count k.before (k.name ∷ k.more) other k.pass (inl k.ends))
+    ends_on_once files c 0 [] names outcome other quiet some others (ends_from_the_start files c names outcome h) (ends_from_the_start files c names other k)

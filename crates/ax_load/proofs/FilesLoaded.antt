@@ -7,13 +7,15 @@ use Rattle.ax_check.specs.declared.catalogue.AddError.TheVariants as AddErrorOf
 use Rattle.ax_model.specs.Plain.{spec_tree, catalogue_tree}
 use Rattle.ax_model.specs.Specification.{spec_of}
 use Rattle.ax_model.specs.declared.spec.Spec.{Spec}
-use Rattle.ax_load.specs.Loading.{Counts, GivesSpec, FilesPass, none_yet, one_more, FilesEnd, by_file, by_category, outcome_of_adding}
+use Rattle.ax_load.specs.Loading.{Counts, GivesSpec, EndsAtFile, FilesEnd, by_file, by_category}
+use Rattle.ax_load.specs.Adding.{outcome_of_adding}
+use Rattle.ax_load.proofs.Passes.{Passed, none_passed, one_passed}
 use Rattle.ax_command.specs.declared.outcome.Outcome.{Outcome}
 use Rattle.ax_command.specs.declared.outcome.Outcome.TheVariants.{CategoryTwice, OutOfMemory}
 
 -- the first i files gave the catalogue, and these names are left
 pub record Loaded (files files' : Option (List File)) (names left : List (List ℕ)) (i file : ℕ) (catalogue : List Spec) (f f' t t' : ℕ) : Type 0 where
-  pub pass : FilesPass files names i (catalogue_tree catalogue) left
+  pub pass : Passed files names i (catalogue_tree catalogue) left
   pub number : file ≡ i
   pub keeps : files' ≡ files
   pub faults : f ≤ f'
@@ -21,7 +23,7 @@ pub record Loaded (files files' : Option (List File)) (names left : List (List �
 
 pub none_loaded : (files : Option (List File)) (names : List (List ℕ)) (catalogue : List Spec) (f t : ℕ) → catalogue ≡ [] → Loaded files files names names 0 0 catalogue f f t t
 none_loaded files names catalogue f t is = record {
-  pass = subst (λ s. FilesPass files names 0 (catalogue_tree s) names) (sym is) none_yet;
+  pass = subst (λ s. Passed files names 0 (catalogue_tree s) names) (sym is) (none_passed files names);
   number = refl;
   keeps = refl;
   faults = omega arith;
@@ -40,41 +42,41 @@ pub one_loaded : (files files' files'' : Option (List File)) (names left : List 
     → Loaded files files' names left i file catalogue f f' t t' → left ≡ name ∷ more → GivesSpec files' name (spec_tree one) → spec_of one.category (catalogue_tree catalogue) ≡ None
     → new ≡ catalogue ++ one ∷ [] → files'' ≡ files' → f' ≤ f'' → t' ≤ t'' → Loaded files files'' names more (i + 1) (file + 1) new f f'' t t''
 one_loaded files files' files'' names left name more i file catalogue new one f f' f'' t t' t'' l is gives none new_is same lf lt = record {
-  pass = subst (λ s. FilesPass files names (i + 1) s more) (sym (ap catalogue_tree new_is ∙ tree_behind catalogue one))
-      (one_more i (catalogue_tree catalogue) more name (spec_tree one) (subst (λ x. FilesPass files names i (catalogue_tree catalogue) x) is l.pass) (subst (λ x. GivesSpec x name (spec_tree one)) l.keeps gives) none);
+  pass = subst (λ s. Passed files names (i + 1) s more) (sym (ap catalogue_tree new_is ∙ tree_behind catalogue one))
+      (one_passed files names i (catalogue_tree catalogue) name more (spec_tree one) (subst (λ x. Passed files names i (catalogue_tree catalogue) x) is l.pass) (subst (λ x. GivesSpec x name (spec_tree one)) l.keeps gives) none);
   number = ap (λ n. n + 1) l.number;
   keeps = same ∙ l.keeps;
   faults = let a = l.faults in omega arith;
   taken = let a = l.taken in omega arith;
 }
 
+-- the file behind those that passed ends the run
+pub ends_there : (files files' : Option (List File)) (c : Counts) (names left : List (List ℕ)) (name : List ℕ) (more : List (List ℕ)) (i file : ℕ) (catalogue : List Spec) (f f' t t' : ℕ) (outcome : Outcome)
+    → Loaded files files' names left i file catalogue f f' t t' → left ≡ name ∷ more → EndsAtFile files c (catalogue_tree catalogue) name file outcome → FilesEnd files c names outcome
+ends_there files files' c names left name more i file catalogue f f' t t' outcome l is ends = record {
+  earlier = l.pass.earlier;
+  name = name;
+  more = more;
+  split = l.pass.split ∙ ap (λ x. l.pass.earlier ++ x) is;
+  before = catalogue_tree catalogue;
+  give = l.pass.give;
+  ends = subst (λ n. EndsAtFile files c (catalogue_tree catalogue) name n outcome) (l.number ∙ l.pass.counted) ends;
+}
+
 twice_ends : (files files' : Option (List File)) (c : Counts) (names left : List (List ℕ)) (name : List ℕ) (more : List (List ℕ)) (i file : ℕ) (catalogue : List Spec) (one : Spec) (category f f' t t' : ℕ)
     → Loaded files files' names left i file catalogue f f' t t' → left ≡ name ∷ more → GivesSpec files' name (spec_tree one) → category ≡ one.category
     → IsSome (spec_of one.category (catalogue_tree catalogue)) → FilesEnd files c names (CategoryTwice file category)
-twice_ends files files' c names left name more i file catalogue one category f f' t t' l is gives same twice = record {
-  count = i;
-  before = catalogue_tree catalogue;
-  name = name;
-  more = more;
-  pass = subst (λ x. FilesPass files names i (catalogue_tree catalogue) x) is l.pass;
-  ends = by_category category (ap (λ n. CategoryTwice n category) l.number) (record {
-    spec = spec_tree one;
-    gives = subst (λ x. GivesSpec x name (spec_tree one)) l.keeps gives;
-    is = same;
-    twice = subst (λ x. IsSome (spec_of x (catalogue_tree catalogue))) (sym same) twice;
-  });
-}
+twice_ends files files' c names left name more i file catalogue one category f f' t t' l is gives same twice =
+    ends_there files files' c names left name more i file catalogue f f' t t' (CategoryTwice file category) l is (by_category category refl (record {
+      spec = spec_tree one;
+      gives = subst (λ x. GivesSpec x name (spec_tree one)) l.keeps gives;
+      is = same;
+      twice = subst (λ x. IsSome (spec_of x (catalogue_tree catalogue))) (sym same) twice;
+    }))
 
 memory_ends : (files files' : Option (List File)) (c : Counts) (names left : List (List ℕ)) (name : List ℕ) (more : List (List ℕ)) (i file : ℕ) (catalogue : List Spec) (f f' t t' : ℕ)
     → Loaded files files' names left i file catalogue f f' t t' → left ≡ name ∷ more → FilesEnd files c names OutOfMemory
-memory_ends files files' c names left name more i file catalogue f f' t t' l is = record {
-  count = i;
-  before = catalogue_tree catalogue;
-  name = name;
-  more = more;
-  pass = subst (λ x. FilesPass files names i (catalogue_tree catalogue) x) is l.pass;
-  ends = by_file tt;
-}
+memory_ends files files' c names left name more i file catalogue f f' t t' l is = ends_there files files' c names left name more i file catalogue f f' t t' OutOfMemory l is (by_file tt)
 
 pub adding_ends : (files files' : Option (List File)) (c : Counts) (names left : List (List ℕ)) (name : List ℕ) (more : List (List ℕ)) (i file : ℕ) (catalogue : List Spec) (one : Spec) (f f' t t' : ℕ) (error : AddError) (outcome : Outcome)
     → Loaded files files' names left i file catalogue f f' t t' → left ≡ name ∷ more → GivesSpec files' name (spec_tree one) → WhyRefused catalogue one error → outcome ≡ outcome_of_adding file error → FilesEnd files c names outcome

@@ -1,5 +1,5 @@
 -- Files give one answer.
-use Rattle.std.proofs.Common.{◌≡◌, ℕ, ◌≤◌, ◌⊎◌, inl, inr, List, [], ◌∷◌, ◌++◌, Option, Some, None, IsSome, length, refl, sym, ◌∙◌, ap, subst, arith}
+use Rattle.std.proofs.Common.{◌≡◌, ℕ, ◌≤◌, ◌⊎◌, inl, inr, List, [], ◌∷◌, ◌++◌, Option, Some, None, IsSome, length, append_assoc, append-nil, refl, sym, ◌∙◌, ap, subst, arith}
 use Rattle.ax_outside.specs.Files.{File, octets_of, Lacks, IsLonger, Exceeds}
 use Rattle.ax_outside.specs.Told.{Rose}
 use Rattle.ax_model.specs.Flaws.{flaws_of}
@@ -13,7 +13,7 @@ use Rattle.ax_command.specs.declared.outcome.Outcome.TheVariants as OutcomeOf
 use Rattle.ax_command.specs.declared.outcome.SpecFault.{SpecFault}
 use Rattle.ax_command.specs.declared.outcome.SpecFault.TheVariants.{TooLarge, BadByte, TooDeep, BadToken, Flawed}
 use Rattle.ax_load.specs.FileAnswers.{HasTokens, IsAccepted, IsRefused}
-use Rattle.ax_load.specs.Loading.{Counts, GivesSpec, IsRefusedFile, IsRefusedOctets, StopsAtFile, FilesPass, none_yet, one_more, HasCategoryTwice, EndsAtFile, by_file, by_category, FilesGive, FilesEnd}
+use Rattle.ax_load.specs.Loading.{Counts, GivesSpec, IsRefusedFile, IsRefusedOctets, StopsAtFile, EachGives, AreNewBehind, HasCategoryTwice, EndsAtFile, by_file, by_category, FilesGive, FilesEnd}
 
 -- ---- one file
 
@@ -86,21 +86,36 @@ GiveOn files before [] catalogue = before ≡ catalogue
 GiveOn files before (name ∷ more) catalogue =
     (spec : SpecTree) × GivesSpec (Some files) name spec × (spec_of spec.category before ≡ None) × GiveOn files (before ++ spec ∷ []) more catalogue
 
-from_the_start : (files : List File) (names : List (List ℕ)) (i : ℕ) (before : List SpecTree) (left : List (List ℕ)) (catalogue : List SpecTree) → FilesPass (Some files) names i before left → GiveOn files before left catalogue → GiveOn files [] names catalogue
-from_the_start files names i before left catalogue none_yet g = g
-from_the_start files names i all left catalogue (one_more j before more name spec pass gives fresh) g =
-    from_the_start files names j before (name ∷ more) catalogue pass (spec, gives, fresh, g)
+gives_on : (files : List File) (before : List SpecTree) (names : List (List ℕ)) (specs : List SpecTree) → EachGives (Some files) names specs → AreNewBehind before specs → GiveOn files before names (before ++ specs)
+gives_on files before [] [] h new = sym (append-nil before)
+gives_on files before [] (s ∷ specs) h new = absurd h
+gives_on files before (n ∷ names) [] h new = absurd h
+gives_on files before (n ∷ names) (s ∷ specs) h new =
+    (s, h.0, new.0, subst (λ x. GiveOn files (before ++ s ∷ []) names x) (append_assoc before (s ∷ []) specs) (gives_on files (before ++ s ∷ []) names specs h.1 new.1))
+
+from_the_start : (files : List File) (names : List (List ℕ)) (catalogue : List SpecTree) → FilesGive (Some files) names catalogue → GiveOn files [] names catalogue
+from_the_start files names catalogue h = gives_on files [] names catalogue h.each h.distinct
 
 behind : (files : List File) (before : List SpecTree) (name : List ℕ) (more : List (List ℕ)) (spec : SpecTree) (catalogue : List SpecTree) → GivesSpec (Some files) name spec → GiveOn files before (name ∷ more) catalogue → GiveOn files (before ++ spec ∷ []) more catalogue
 behind files before name more spec catalogue gives (other, given, fresh, on) = subst (λ s. GiveOn files (before ++ s ∷ []) more catalogue) (spec_given_once files name other spec given gives) on
 
-up_to_there : (files : List File) (names : List (List ℕ)) (i : ℕ) (before : List SpecTree) (left : List (List ℕ)) (catalogue : List SpecTree) → FilesPass (Some files) names i before left → GiveOn files [] names catalogue → GiveOn files before left catalogue
-up_to_there files names i before left catalogue none_yet g = g
-up_to_there files names i all left catalogue (one_more j before more name spec pass gives fresh) g =
-    behind files before name more spec catalogue gives (up_to_there files names j before (name ∷ more) catalogue pass g)
+up_to_there : (files : List File) (before : List SpecTree) (earlier : List (List ℕ)) (specs : List SpecTree) (left : List (List ℕ)) (catalogue : List SpecTree) → EachGives (Some files) earlier specs → GiveOn files before (earlier ++ left) catalogue → GiveOn files (before ++ specs) left catalogue
+up_to_there files before [] [] left catalogue h g = subst (λ x. GiveOn files x left catalogue) (sym (append-nil before)) g
+up_to_there files before [] (s ∷ specs) left catalogue h g = absurd h
+up_to_there files before (n ∷ earlier) [] left catalogue h g = absurd h
+up_to_there files before (n ∷ earlier) (s ∷ specs) left catalogue h g =
+    subst (λ x. GiveOn files x left catalogue) (append_assoc before (s ∷ []) specs) (up_to_there files (before ++ s ∷ []) earlier specs left catalogue h.1 (behind files before n (earlier ++ left) s catalogue h.0 g))
+
+pub each_given_once : (files : List File) (names : List (List ℕ)) (specs others : List SpecTree) → EachGives (Some files) names specs → EachGives (Some files) names others → specs ≡ others
+each_given_once files [] [] [] h k = refl
+each_given_once files [] (s ∷ specs) others h k = absurd h
+each_given_once files [] specs (s ∷ others) h k = absurd k
+each_given_once files (n ∷ names) [] others h k = absurd h
+each_given_once files (n ∷ names) specs [] h k = absurd k
+each_given_once files (n ∷ names) (s ∷ specs) (t ∷ others) h k = ap (λ x. x ∷ specs) (spec_given_once files n s t h.0 k.0) ∙ ap (λ x. t ∷ x) (each_given_once files names specs others h.1 k.1)
 
 pub given_once : (files : List File) (names : List (List ℕ)) (catalogue other : List SpecTree) → FilesGive (Some files) names catalogue → FilesGive (Some files) names other → catalogue ≡ other
-given_once files names catalogue other h k = up_to_there files names h.count catalogue [] other h.pass (from_the_start files names k.count other [] other k.pass refl)
+given_once files names catalogue other h k = each_given_once files names catalogue other h.each k.each
 
 twice_not_given : (files : List File) (before : List SpecTree) (name : List ℕ) (more : List (List ℕ)) (catalogue : List SpecTree) (category : ℕ) → HasCategoryTwice (Some files) before name category → GiveOn files before (name ∷ more) catalogue → ⊥
 twice_not_given files before name more catalogue category twice (spec, given, fresh, on) =
@@ -116,5 +131,5 @@ ends_for_memory files c before name more i catalogue outcome quiet (by_category 
 -- where the files give a catalogue and no fault of the library is counted, only want of memory ends the run at a file
 pub given_ends_for_memory : (files : List File) (c : Counts) (names : List (List ℕ)) (catalogue : List SpecTree) (outcome : Outcome) → (Rose c.faults c.faults' → ⊥) → FilesGive (Some files) names catalogue → FilesEnd (Some files) c names outcome → outcome ≡ OutcomeOf.OutOfMemory
 given_ends_for_memory files c names catalogue outcome quiet h k =
-    ends_for_memory files c k.before k.name k.more k.count catalogue outcome quiet k.ends
-    (up_to_there files names k.count k.before (k.name ∷ k.more) catalogue k.pass (from_the_start files names h.count catalogue [] catalogue h.pass refl))
+    ends_for_memory files c k.before k.name k.more (length k.earlier) catalogue outcome quiet k.ends
+    (up_to_there files [] k.earlier k.before (k.name ∷ k.more) catalogue k.give.each (subst (λ n. GiveOn files [] n catalogue) k.split (from_the_start files names catalogue h)))

@@ -1,4 +1,5 @@
 pub mod FileLemmas
+pub mod Passes
 pub mod FilesLoaded
 pub mod FilesOnce
 pub mod EndsOnce

@@ -1,3 +1,4 @@
+pub mod Adding
 pub mod FileAnswers
 pub mod FileStops
 pub mod Loading

@@ -2,7 +2,8 @@
 ghost use Rattle.std.specs.Prelude.{◌≡◌, ◌≤◌, ◌<◌, length, map, IfOk, IfErr};
 ghost use Rattle.std.specs.String.{string_bytes};
 ghost use Rattle.ax_model.specs.Plain.{spec_tree, catalogue_tree};
-ghost use Rattle.ax_load.specs.Loading.{GivesSpec, StopsAtFile, FilesGive, FilesEnd, outcome_of_adding};
+ghost use Rattle.ax_load.specs.Adding.{outcome_of_adding};
+ghost use Rattle.ax_load.specs.Loading.{GivesSpec, StopsAtFile, FilesGive, FilesEnd};
 
 use crate::files::{FileStop, LARGEST_FILE, read_file};
 use ax_check::{Accepted, AddError, Catalogue};

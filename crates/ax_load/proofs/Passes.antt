@@ -1,5 +1,5 @@
 -- The files up to one, as the loop walks over them.
-use Rattle.std.proofs.Common.{◌≡◌, ℕ, ◌+◌, List, [], ◌∷◌, ◌++◌, Option, None, length, refl, sym, ◌∙◌, ap, subst, arith, append_assoc, append-nil, length-append}
+use Rattle.std.proofs.Common.{◌≡◌, ℕ, ◌+◌, List, [], ◌∷◌, ◌++◌, Option, None, length, refl, sym, ◌∙◌, ap, subst, append_assoc, append-nil, length-append}
 use Rattle.ax_outside.specs.Files.{File}
 use Rattle.ax_model.specs.Specification.{SpecTree, spec_of}
 use Rattle.ax_load.specs.Loading.{GivesSpec, EachGives, AreNewBehind, FilesGive}

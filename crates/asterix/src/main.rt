@@ -6,28 +6,32 @@ use ax_command::write_lines;
 use ax_outside::{FolderLibrary, ReadSource, WriteSink};
 use std::alloc::Global;
 use std::env;
-use std::io::BufReader;
+use std::io::{self, BufReader, ErrorKind, Stdin};
 use std::process::ExitCode;
 
 /// The octets of standard input that are read at once, at most.
 const INPUT_BUFFER: usize = 65_536;
 
-/// The words behind the program's name. Arguments that can't be had as text are no words, so `run` answers Usage.
-fn words_of(alloc: Global, rt: &HostRuntime) -> Vec<String> {
-    if let Ok(args) = env::args(rt) {
-        if let Ok(words) = args.skip(1).collect::<Vec<String>>(alloc) {
-            return words;
-        }
+/// The words behind the program's name. Arguments that aren't UTF-8 are no words, so `run` answers Usage. An `Err` is want
+/// of memory.
+fn words_of(alloc: Global, rt: &HostRuntime) -> io::Result<Vec<String>> {
+    match env::args(rt) {
+        Ok(args) => Ok(args.skip(1).collect::<Vec<String>>(alloc)?),
+        Err(error) if error.kind() == ErrorKind::OutOfMemory => Err(error),
+        Err(_) => Ok(Vec::new(alloc)),
     }
-    Vec::new(alloc)
+}
+
+/// Standard input behind a buffer.
+fn input_of(alloc: Global, rt: &HostRuntime) -> io::Result<BufReader<Stdin>> {
+    BufReader::with_capacity(alloc, INPUT_BUFFER, rt.stdin())
 }
 
 fn main(rt: HostRuntime) -> ExitCode {
     let alloc = rt.alloc();
-    let words = words_of(alloc, &rt);
     let mut report = WriteSink::new(rt.stderr());
-    let Ok(input) = BufReader::with_capacity(alloc, INPUT_BUFFER, rt.reader()) else {
-        // The report that fails leaves the outcome.
+    let (Ok(words), Ok(input)) = (words_of(alloc, &rt), input_of(alloc, &rt)) else {
+        // A report that fails leaves the outcome.
         let _ = write_lines(&mut report, &Outcome::OutOfMemory);
         return ExitCode::from(Outcome::OutOfMemory.status());
     };

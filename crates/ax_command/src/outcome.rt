@@ -18,6 +18,8 @@ pub enum Outcome {
     SpecRefused { file: u32, fault: SpecFault },
     /// An earlier file has the category of that one, which is numbered from 0 in the order of the words.
     CategoryTwice { file: u32, category: u8 },
+    /// The two editions are of these two categories, which differ.
+    OtherCategory { old: u8, new: u8 },
     /// The input has a fault.
     InputRefused { fault: InputFault },
     /// The migrated form of that block has that many octets, more than a block can have.
@@ -34,20 +36,21 @@ pub enum Outcome {
     ReportFault,
     /// Want of memory.
     OutOfMemory,
-    /// The two editions are of these two categories.
-    OtherCategory { old: u8, new: u8 },
 }
 
 /// Why a command refuses its arguments or what its files have in common, before it reads its input.
 #[derive(Clone, Copy)]
 pub enum Refusal {
+    /// The two editions are of these two categories, which differ.
     OtherCategory { old: u8, new: u8 },
 }
 
 /// Why a command doesn't come to its input.
 #[derive(Clone, Copy)]
 pub enum JobStop {
+    /// The command refuses what it is asked to do.
     Refused(Refusal),
+    /// No memory was left before it was known what the command does.
     OutOfMemory,
 }
 

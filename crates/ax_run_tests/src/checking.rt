@@ -81,3 +81,21 @@ fn an_accepted_file_is_written_in_one_line(rt: HostRuntime) -> Result<(), Fail> 
     assert_eq!(rt; accepted(alloc, "", FILE_E)?.as_slice(), FILE_E.as_bytes());
     Ok(())
 }
+
+// The file is loaded once, and its text is one write: a second call of either would fail.
+#[test]
+fn check_loads_once_and_writes_once(rt: HostRuntime) -> Result<(), Fail> {
+    let alloc = rt.alloc();
+    let input = octets(alloc, INPUT)?;
+    for outside in [Outside::Load(1), Outside::Write(1)] {
+        let want = wanted(
+            alloc,
+            0,
+            &accepted(alloc, LINE_OF_E, FILE_E)?,
+            "",
+            10,
+        )?;
+        leaves(&rt, alloc, "check E", &input, outside, want)?;
+    }
+    Ok(())
+}

@@ -181,8 +181,8 @@ fn words_of(alloc: Global, text: &str) -> Result<Vec<String>, AllocError> {
     Ok(made)
 }
 
-// How many octets the source has left, which it then gives.
-fn left_of(alloc: Global, source: &mut MemSource) -> Result<usize, Fail> {
+/// How many octets the source has left, which it then gives.
+pub fn left_of(alloc: Global, source: &mut MemSource) -> Result<usize, Fail> {
     let mut buffer = vec![in alloc; 0; 70_000]?;
     Ok(fill(source, &mut buffer)?)
 }

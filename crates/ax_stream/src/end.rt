@@ -38,7 +38,7 @@ pub struct InputFault {
 }
 
 /// How a run over a stream of blocks ends.
-#[derive(Clone, Copy)]
+#[derive(Clone, Copy, Debug, PartialEq, Eq)]
 pub enum StreamEnd {
     /// The input was read to its end.
     Done { blocks: u64 },
@@ -48,9 +48,13 @@ pub enum StreamEnd {
     InputTooLong,
     /// The result of that block has more octets than a block can have.
     TooLong { block: u64, octets: u32 },
+    /// The input could not be read.
     ReadFault,
+    /// The output could not be written.
     WriteFault,
+    /// A line of the report could not be written.
     ReportFault,
+    /// Want of memory.
     OutOfMemory,
 }
 

@@ -70,4 +70,4 @@ lines_of ReadFault = codes "fault read\n"
 lines_of WriteFault = codes "fault write\n"
 lines_of ReportFault = []
 lines_of OutOfMemory = codes "refused memory\n"
-lines_of (OtherCategory old new) = (codes "refused editions " ++ category_text old) ++ (codes " " ++ (category_text new ++ codes "\n"))
+lines_of (OtherCategory old new) = codes "refused editions" ++ (codes " " ++ (category_text old ++ (codes " " ++ (category_text new ++ codes "\n"))))

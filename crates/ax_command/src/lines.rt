@@ -198,13 +198,20 @@ fn write_category_twice<K: Sink>(sink: &mut K, file: u32, category: u8) -> Resul
     write_category(sink, category)
 }
 
+/// Two categories and the end of a line, a space before each category.
+fn two_categories(old: u8, new: u8) -> [u8; 9]
+    ensures { result ≡ codes " " ++ (category_text old ++ (codes " " ++ (category_text new ++ codes "\n"))) }
+{
+    let [a, b, c] = three_digits(old);
+    let [x, y, z] = three_digits(new);
+    [b' ', a, b, c, b' ', x, y, z, b'\n']
+}
+
 /// Writes the line of two editions whose categories differ.
-#[tactic(auto, using(ax_outside::proofs::Pieces::pieces))]
 fn write_editions<K: Sink>(sink: &mut K, old: u8, new: u8) -> Result<(), SinkFailed>
     ensures { Wrote (sink_change K.Sink sink.old sink.new) result (lines_of (Outcome.OtherCategory old new)) }
 {
-    write_two(sink, b"refused editions ", &three_digits(old))?;
-    write_three(sink, b" ", &three_digits(new), b"\n")
+    write_two(sink, b"refused editions", &two_categories(old, new))
 }
 
 /// Writes the lines of the flaws of a file.

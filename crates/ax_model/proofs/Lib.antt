@@ -27,7 +27,6 @@ pub mod Once
 pub mod PathTexts
 pub mod Places
 pub mod PrefixFree
-pub mod Reader
 pub mod RecordFitting
 pub mod RecordLaws
 pub mod Spelled

@@ -20,6 +20,7 @@ pub mod Paths
 pub mod Places
 pub mod Plain
 pub mod Presence
+pub mod Reader
 pub mod Shape
 pub mod Sound
 pub mod Specification

@@ -3,7 +3,7 @@ ghost use Rattle.std.specs.Prelude.{◌≤◌, length, IfSome};
 ghost use Rattle.ax_model.specs.InBounds.{InBounds};
 ghost use Rattle.ax_model.specs.OfCode.{HasNoFlaw};
 ghost use Rattle.ax_model.specs.Plain.{kind_tree};
-ghost use Rattle.ax_values.specs.Reading.{SlotInBounds, slot_of_frn};
+ghost use Rattle.ax_reader.specs.Reading.{SlotInBounds, slot_of_frn};
 
 use crate::fixtures::{accepted, body_read_as};
 use crate::shown::{push_record, push_value, shown_error};

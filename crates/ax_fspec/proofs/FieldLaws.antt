@@ -6,7 +6,7 @@ use Rattle.ax_bits.specs.Bits.{AreBits, bits}
 use Rattle.ax_bits.proofs.Words.{length-bits}
 use Rattle.ax_model.proofs.Failed.{presence_failed}
 use Rattle.ax_model.proofs.Least.{Alike, least_least}
-use Rattle.ax_model.proofs.Reader.{Read, got, lost, presence_read}
+use Rattle.ax_model.specs.Reader.{Read, got, failed, presence_read}
 use Rattle.ax_model.proofs.Spelled.{presence_spelled}
 use Rattle.ax_model.specs.Failing.{IsPresence, PresenceFails}
 use Rattle.ax_model.specs.Presence.{Presence, octets_needed, none_marked, first_mark, later_marks, marks_after, marks_upto, least_presence, later_slots, NoneUndefined}
@@ -33,7 +33,7 @@ prefix_free k ds ms ns b c x y f g e =
 pub never_both : (k : ℕ) (ds : List Bool) (ms b x : List ℕ) (p : ℕ) (c : BodyCause) → IsPresence k ds ms b → PresenceFails k ds (b ++ x) p c → ⊥
 never_both k ds ms b x p c f h =
     let good : presence_read k ds (b ++ x) ≡ got ms (length b) x = presence_spelled k ds ms b x f.field f.clear in
-    let bad : presence_read k ds (b ++ x) ≡ lost p c = presence_failed k ds (b ++ x) p c h in
+    let bad : presence_read k ds (b ++ x) ≡ failed p c = presence_failed k ds (b ++ x) p c h in
     cc
 
 -- ---- a field marks one set

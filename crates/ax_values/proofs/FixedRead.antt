@@ -3,7 +3,7 @@ use Rattle.std.proofs.Common.{◌≡◌, ℕ, ◌+◌, ◌^◌, ◌<◌, ◌≤�
 use Rattle.std.proofs.lemmas.List.{drop-drop, drop_all}
 use Rattle.ax_bits.proofs.Pieces.{number-word}
 use Rattle.ax_bits.specs.Bits.{number_of, word}
-use Rattle.ax_model.proofs.Reader.{members_value}
+use Rattle.ax_model.specs.Reader.{members_value}
 use Rattle.ax_model.specs.InBounds.{MembersInBounds}
 use Rattle.ax_model.specs.Plain.{member_tree, members_tree, value_tree, values_tree}
 use Rattle.ax_model.specs.Tree.{MembersTree, no_members, member_and, MemberTree, named, spare, ValueTree, ValuesTree, number, no_values, value_and}

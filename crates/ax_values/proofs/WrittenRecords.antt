@@ -32,7 +32,7 @@ use Rattle.ax_model.specs.declared.spec.Spec.{Spec}
 use Rattle.ax_model.specs.declared.spec.UapSlot.{UapSlot}
 use Rattle.ax_values.proofs.Written.{written_none, written_more, written_all, written_room, first_room}
 use Rattle.ax_values.proofs.WrittenKinds.{from_place}
-use Rattle.ax_values.specs.Reading.{slot_of_frn}
+use Rattle.ax_reader.specs.Reading.{slot_of_frn}
 use Rattle.ax_values.specs.Writing.{IsWrittenTo, EntryShape, entry_canon, AreEntriesOf}
 
 -- ---- items by field reference number

@@ -13,7 +13,7 @@ use Rattle.ax_model.specs.Tree.{FixedTree, MembersTree, no_lists}
 use Rattle.ax_model.specs.declared.kind.Part.{Part}
 use Rattle.ax_model.specs.declared.value.Value.{Value}
 use Rattle.ax_values.proofs.Written.{written_none, written_more, written_all, written_room, first_room}
-use Rattle.ax_values.specs.Reading.{fx_bit}
+use Rattle.ax_reader.specs.Reading.{fx_bit}
 use Rattle.ax_values.specs.Writing.{IsWrittenTo}
 
 -- whether others follow

@@ -8,8 +8,9 @@ ghost use Rattle.ax_model.specs.InBounds.{InBounds};
 ghost use Rattle.ax_model.specs.Plain.{kind_tree, value_tree, spec_tree, record_tree, records_tree, block_tree};
 ghost use Rattle.ax_model.specs.Tree.{ValueTree, EntriesTree};
 ghost use Rattle.ax_model.specs.declared.fault.BodyFault.{BodyFault};
-ghost use Rattle.ax_values.specs.Decoding.{IsSpelledAt, IsFaultAt, IsRecordAt, IsRecordFaultAt, IsReadOf, IsBodyFault, Answers, AnswersFault, Names};
-ghost use Rattle.ax_values.specs.Reading.{IsMaskOf, record_slot_list};
+ghost use Rattle.ax_reader.specs.Reading.{IsSpelledAt, IsFaultAt};
+ghost use Rattle.ax_values.specs.Decoding.{IsRecordAt, IsRecordFaultAt, IsReadOf, IsBodyFault, Answers, AnswersFault, Names};
+ghost use Rattle.ax_reader.specs.Reading.{IsMaskOf, record_slot_list};
 
 use crate::error::DecodeError;
 use crate::kinds::{copy_octets, decode_value};

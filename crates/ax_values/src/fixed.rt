@@ -1,7 +1,7 @@
 //! Runs of bits of a known length: elements, spares and groups.
 ghost use Rattle.std.specs.Prelude.{◌≡◌, ◌+◌, ◌*◌, ◌<◌, ◌≤◌, length, drop, take, IfOk, OnOk};
 ghost use Rattle.ax_bits.specs.Bits.{bits, number_of};
-ghost use Rattle.ax_model.proofs.Reader.{fixed_value, members_value};
+ghost use Rattle.ax_model.specs.Reader.{fixed_value, members_value};
 ghost use Rattle.ax_model.specs.InBounds.{IsWidth, FixedInBounds, MembersInBounds};
 ghost use Rattle.ax_model.specs.Plain.{fixed_tree, member_tree, members_tree, value_tree, values_tree};
 ghost use Rattle.ax_model.specs.Tree.{number, member_and, no_members, value_and, no_values};

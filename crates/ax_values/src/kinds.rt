@@ -5,7 +5,8 @@ ghost use Rattle.ax_model.specs.InBounds.{InBounds, SlotsInBounds};
 ghost use Rattle.ax_model.specs.Plain.{kind_tree, slot_tree, slots_tree, value_tree, values_tree, entries_tree};
 ghost use Rattle.ax_model.specs.Tree as Tree;
 ghost use Rattle.ax_model.specs.declared.fault.BodyCause.TheVariants as Cause;
-ghost use Rattle.ax_values.specs.Reading.{Gets, IsLost, IsSlotRead, IsSlotLost, SlotInBounds, kind_read, entries_at};
+ghost use Rattle.ax_reader.specs.Reading.{Gets, SlotInBounds, kind_read, entries_at};
+ghost use Rattle.ax_values.specs.Reading.{HasFailed, IsSlotRead, HasSlotFailed};
 
 use crate::error::DecodeError;
 use crate::slots::slots_mask;
@@ -26,7 +27,7 @@ pub(crate) fn decode_value(
     requires body { length body.now ≤ 65532 }
     requires at { at ≤ length body.now }
     ensures ok { IfOk result (λ r. Gets (kind_read (kind_tree kind.now) body.now at) body.now at r.1 (value_tree r.0)) }
-    ensures err { IfErr result (λ e. IsLost (kind_read (kind_tree kind.now) body.now at) at e) }
+    ensures err { IfErr result (λ e. HasFailed (kind_read (kind_tree kind.now) body.now at) at e) }
 {
     match kind {
         Kind::Fixed(fixed) => decode_single(alloc, fixed, body, at),
@@ -83,7 +84,7 @@ fn decode_counted(
     requires body { length body.now ≤ 65532 }
     requires at { at ≤ length body.now }
     ensures ok { IfOk result (λ r. Gets (kind_read (Tree.counted (kind_tree inner.now)) body.now at) body.now at r.1 (Tree.occurrences (values_tree r.0))) }
-    ensures err { IfErr result (λ e. IsLost (kind_read (Tree.counted (kind_tree inner.now)) body.now at) at e) }
+    ensures err { IfErr result (λ e. HasFailed (kind_read (Tree.counted (kind_tree inner.now)) body.now at) at e) }
 {
     let count = octet_at(body, at)?;
     let mut made = Values::new(alloc);
@@ -101,7 +102,7 @@ fn decode_explicit(alloc: Global, body: &[u8], at: u32) -> Result<(Octets, u32),
     requires body { length body.now ≤ 65532 }
     requires at { at ≤ length body.now }
     ensures ok { IfOk result (λ r. Gets (kind_read Tree.explicit body.now at) body.now at r.1 (Tree.content_octets r.0)) }
-    ensures err { IfErr result (λ e. IsLost (kind_read Tree.explicit body.now at) at e) }
+    ensures err { IfErr result (λ e. HasFailed (kind_read Tree.explicit body.now at) at e) }
 {
     let length = octet_at(body, at)?;
     if length == 0 {
@@ -146,7 +147,7 @@ fn decode_compound(
     requires body { length body.now ≤ 65532 }
     requires at { at ≤ length body.now }
     ensures ok { IfOk result (λ r. Gets (kind_read (Tree.compound (slots_tree slots.now)) body.now at) body.now at r.1 (Tree.marked (entries_tree r.0))) }
-    ensures err { IfErr result (λ e. IsLost (kind_read (Tree.compound (slots_tree slots.now)) body.now at) at e) }
+    ensures err { IfErr result (λ e. HasFailed (kind_read (Tree.compound (slots_tree slots.now)) body.now at) at e) }
 {
     let mut marked = Presence::empty();
     let here = read_presence(&slots_mask(slots), body, at, &mut marked)?;
@@ -169,7 +170,7 @@ fn decode_marked(
     requires body { length body.now ≤ 65532 }
     requires at { at ≤ length body.now }
     ensures ok { IfOk result (λ r. Gets (entries_at (slots_tree slots.now) marked.now body.now at) body.now at r.1 (entries_tree r.0)) }
-    ensures err { IfErr result (λ e. IsLost (entries_at (slots_tree slots.now) marked.now body.now at) at e) }
+    ensures err { IfErr result (λ e. HasFailed (entries_at (slots_tree slots.now) marked.now body.now at) at e) }
 {
     let mut made = Entries::new(alloc);
     let mut here = at;
@@ -198,7 +199,7 @@ fn decode_slot(
     requires at { at ≤ length body.now }
     requires room { length into.old < 126 }
     ensures ok { IfOk result (λ end. IsSlotRead (slot_tree slot.now) number body.now at end into.old into.new) }
-    ensures err { IfErr result (λ e. IsSlotLost (slot_tree slot.now) body.now at e) }
+    ensures err { IfErr result (λ e. HasSlotFailed (slot_tree slot.now) body.now at e) }
 {
     match slot {
         Slot::Spare => Ok(at),

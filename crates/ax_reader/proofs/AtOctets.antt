@@ -6,14 +6,14 @@ use Rattle.ax_bits.proofs.Words.{bits-append, bits-AreBits, length-bits}
 use Rattle.ax_bits.specs.Bits.{bits, word, AreBits}
 use Rattle.ax_model.proofs.FixedKinds.{split_at, split_short, fixed_back, members_back, split_is, SplitIs}
 use Rattle.ax_model.proofs.Meets.{fixed_all, members_all, bits_of}
-use Rattle.ax_model.proofs.Reader.{Read, lost, after, fixed_value, members_value, fixed_read, Split, split, cut, short, part_read, parts_read, one_read, run_read}
+use Rattle.ax_model.specs.Reader.{Read, failed, after, fixed_value, members_value, fixed_read, Split, split, cut, short, part_read, parts_read, one_read, run_read}
 use Rattle.ax_model.proofs.Spelled.{got_is}
 use Rattle.ax_model.specs.Tree.{FixedTree, MembersTree, ValueTree, ValuesTree, ListsTree, fixed, by_fx, extended, occurrences, part_values, value_and, no_values, list_and, no_lists}
 use Rattle.ax_model.specs.Widths.{width, members_width}
 use Rattle.ax_model.specs.declared.fault.BodyCause.TheVariants.{RunsOut, ExtensionPastEnd}
 use Rattle.ax_model.specs.declared.fault.BodyFault.{BodyFault}
-use Rattle.ax_values.proofs.Continuing.{gets_behind, loses_behind}
-use Rattle.ax_values.specs.Reading.{Gets, Loses, Continues, kind_read, fx_bit}
+use Rattle.ax_reader.proofs.Continuing.{gets_after, fails_after}
+use Rattle.ax_reader.specs.Reading.{Gets, FailsAt, Continues, kind_read, fx_bit}
 
 -- ---- what is read from an octet on
 
@@ -73,11 +73,11 @@ fixed_gets f body at end v le within w e =
       got = ap (λ b. fixed_read f (split (width f) b)) parts ∙ ap (fixed_read f) (split_at x y (width f) l) ∙ got_is y value (sym w);
     }
 
-pub fixed_loses : (f : FixedTree) (body : List ℕ) (at : ℕ) (fault : BodyFault) → 8 * (length body - at) < width f → fault.cause ≡ RunsOut → fault.bit ≡ 8 * at → Loses (kind_read (fixed f) body at) at fault
+pub fixed_fails : (f : FixedTree) (body : List ℕ) (at : ℕ) (fault : BodyFault) → 8 * (length body - at) < width f → fault.cause ≡ RunsOut → fault.bit ≡ 8 * at → FailsAt (kind_read (fixed f) body at) at fault
 unfolding kind_read
-fixed_loses f body at fault less c b = record {
+fixed_fails f body at fault less c b = record {
   place = 0;
-  lost = ap (fixed_read f) (split_short (bits (drop at body)) (width f) (omega (arith, length-rest body at))) ∙ ap (λ c. lost 0 c) (sym c);
+  failed = ap (fixed_read f) (split_short (bits (drop at body)) (width f) (omega (arith, length-rest body at))) ∙ ap (λ c. failed 0 c) (sym c);
   bit = omega arith;
 }
 
@@ -165,18 +165,18 @@ runs_same (suc m) (suc n) f b p q = one_same f b (run_read m f) (run_read n f) (
 run_first : (f : FixedTree) (b : List ℕ) → run_of f b ≡ one_read f (split (width f) b) (run_of f)
 run_first f b = one_same f b (run_read (length b) f) (run_of f) (λ y less. runs_same (length b) (suc (length y)) f y less (omega arith)) (split (width f) b) (split_is b (width f))
 
-pub run_loses : (f : FixedTree) (body : List ℕ) (at : ℕ) (fault : BodyFault) → 8 * (length body - at) ≤ width f → fault.cause ≡ RunsOut → fault.bit ≡ 8 * at → Loses (run_at f body at) at fault
+pub run_fails : (f : FixedTree) (body : List ℕ) (at : ℕ) (fault : BodyFault) → 8 * (length body - at) ≤ width f → fault.cause ≡ RunsOut → fault.bit ≡ 8 * at → FailsAt (run_at f body at) at fault
 unfolding run_at
-run_loses f body at fault less c b = record {
+run_fails f body at fault less c b = record {
   place = 0;
-  lost = run_first f (bits (drop at body)) ∙ too_few (split (width f) (bits (drop at body))) (split_is (bits (drop at body)) (width f)) ∙ ap (λ c. lost 0 c) (sym c);
+  failed = run_first f (bits (drop at body)) ∙ too_few (split (width f) (bits (drop at body))) (split_is (bits (drop at body)) (width f)) ∙ ap (λ c. failed 0 c) (sym c);
   bit = omega arith;
 }
   where
     few : length (bits (drop at body)) ≤ width f
     few = omega (arith, length-rest body at)
 
-    too_few : (s : Split) → SplitIs (width f) (bits (drop at body)) s → one_read f s (run_of f) ≡ lost 0 RunsOut
+    too_few : (s : Split) → SplitIs (width f) (bits (drop at body)) s → one_read f s (run_of f) ≡ failed 0 RunsOut
     too_few short h = refl
     too_few (cut x []) h = refl
     too_few (cut x (fx ∷ y)) (e, l) = absurd (omega (arith, few, ap length e, length-append x (fx ∷ y)))
@@ -210,19 +210,19 @@ run_goes_on f body at end w fx v u e one h = record {
 
 -- ---- parts
 
-pub parts_lose : (p : MembersTree) (ps : List MembersTree) (body : List ℕ) (at : ℕ) (fault : BodyFault) → 8 * (length body - at) ≤ members_width p → fault.cause ≡ RunsOut → fault.bit ≡ 8 * at
-    → Loses (parts_at (p ∷ ps) body at) at fault
+pub parts_fail : (p : MembersTree) (ps : List MembersTree) (body : List ℕ) (at : ℕ) (fault : BodyFault) → 8 * (length body - at) ≤ members_width p → fault.cause ≡ RunsOut → fault.bit ≡ 8 * at
+    → FailsAt (parts_at (p ∷ ps) body at) at fault
 unfolding parts_at
-parts_lose p ps body at fault less c b = record {
+parts_fail p ps body at fault less c b = record {
   place = 0;
-  lost = too_few (split (members_width p) (bits (drop at body))) (split_is (bits (drop at body)) (members_width p)) ∙ ap (λ c. lost 0 c) (sym c);
+  failed = too_few (split (members_width p) (bits (drop at body))) (split_is (bits (drop at body)) (members_width p)) ∙ ap (λ c. failed 0 c) (sym c);
   bit = omega arith;
 }
   where
     few : length (bits (drop at body)) ≤ members_width p
     few = omega (arith, length-rest body at)
 
-    too_few : (s : Split) → SplitIs (members_width p) (bits (drop at body)) s → part_read p ps s (parts_read ps) ≡ lost 0 RunsOut
+    too_few : (s : Split) → SplitIs (members_width p) (bits (drop at body)) s → part_read p ps s (parts_read ps) ≡ failed 0 RunsOut
     too_few short h = refl
     too_few (cut x []) h = refl
     too_few (cut x (fx ∷ y)) (e, l) = absurd (omega (arith, few, ap length e, length-append x (fx ∷ y)))
@@ -259,11 +259,11 @@ parts_go_on p q ps body at end w fx vs u e one h = record {
     bits_are = omega (arith, u.width, e)
 
 pub parts_past_end : (p : MembersTree) (body : List ℕ) (at end w fx : ℕ) (fault : BodyFault) → IsUnit body at end w fx → members_width p ≡ w → fx ≡ 1 → fault.cause ≡ ExtensionPastEnd → fault.bit + 1 ≡ 8 * end
-    → Loses (parts_at (p ∷ []) body at) at fault
+    → FailsAt (parts_at (p ∷ []) body at) at fault
 unfolding parts_at
 parts_past_end p body at end w fx fault u e one c b = record {
   place = members_width p;
-  lost = part_first p [] body at end w fx u e 1 one ∙ ap (λ c. lost (members_width p) c) (sym c);
+  failed = part_first p [] body at end w fx u e 1 one ∙ ap (λ c. failed (members_width p) c) (sym c);
   bit = omega (arith, u.width, u.forwards, e);
 }
 
@@ -274,17 +274,17 @@ unfolding kind_read run_at
 by_fx_same f body at = record { forwards = omega arith; same = ap (λ n. after n (λ vs. occurrences vs) (run_of f (bits (drop at body)))) (let e : 0 ≡ 8 * (at - at) = omega arith in e) }
 
 pub by_fx_gets : (f : FixedTree) (body : List ℕ) (at end : ℕ) (vs : ValuesTree) → Gets (run_at f body at) body at end vs → Gets (kind_read (by_fx f) body at) body at end (occurrences vs)
-by_fx_gets f body at end vs h = gets_behind (kind_read (by_fx f) body at) (run_at f body at) body at at end (λ vs. occurrences vs) vs (by_fx_same f body at) h
+by_fx_gets f body at end vs h = gets_after (kind_read (by_fx f) body at) (run_at f body at) body at at end (λ vs. occurrences vs) vs (by_fx_same f body at) h
 
-pub by_fx_loses : (f : FixedTree) (body : List ℕ) (at : ℕ) (fault : BodyFault) → Loses (run_at f body at) at fault → Loses (kind_read (by_fx f) body at) at fault
-by_fx_loses f body at fault h = loses_behind (kind_read (by_fx f) body at) (run_at f body at) at at (λ vs. occurrences vs) fault (by_fx_same f body at) h
+pub by_fx_fails : (f : FixedTree) (body : List ℕ) (at : ℕ) (fault : BodyFault) → FailsAt (run_at f body at) at fault → FailsAt (kind_read (by_fx f) body at) at fault
+by_fx_fails f body at fault h = fails_after (kind_read (by_fx f) body at) (run_at f body at) at at (λ vs. occurrences vs) fault (by_fx_same f body at) h
 
 extended_same : (ps : List MembersTree) (body : List ℕ) (at : ℕ) → Continues (kind_read (extended ps) body at) at at (λ ls. part_values ls) (parts_at ps body at)
 unfolding kind_read parts_at
 extended_same ps body at = record { forwards = omega arith; same = ap (λ n. after n (λ ls. part_values ls) (parts_read ps (bits (drop at body)))) (let e : 0 ≡ 8 * (at - at) = omega arith in e) }
 
 pub extended_gets : (ps : List MembersTree) (body : List ℕ) (at end : ℕ) (ls : ListsTree) → Gets (parts_at ps body at) body at end ls → Gets (kind_read (extended ps) body at) body at end (part_values ls)
-extended_gets ps body at end ls h = gets_behind (kind_read (extended ps) body at) (parts_at ps body at) body at at end (λ ls. part_values ls) ls (extended_same ps body at) h
+extended_gets ps body at end ls h = gets_after (kind_read (extended ps) body at) (parts_at ps body at) body at at end (λ ls. part_values ls) ls (extended_same ps body at) h
 
-pub extended_loses : (ps : List MembersTree) (body : List ℕ) (at : ℕ) (fault : BodyFault) → Loses (parts_at ps body at) at fault → Loses (kind_read (extended ps) body at) at fault
-extended_loses ps body at fault h = loses_behind (kind_read (extended ps) body at) (parts_at ps body at) at at (λ ls. part_values ls) fault (extended_same ps body at) h
+pub extended_fails : (ps : List MembersTree) (body : List ℕ) (at : ℕ) (fault : BodyFault) → FailsAt (parts_at ps body at) at fault → FailsAt (kind_read (extended ps) body at) at fault
+extended_fails ps body at fault h = fails_after (kind_read (extended ps) body at) (parts_at ps body at) at at (λ ls. part_values ls) fault (extended_same ps body at) h

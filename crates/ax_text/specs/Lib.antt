@@ -1,0 +1,5 @@
+pub mod ValueText
+pub mod BlockText
+pub mod Printing
+pub mod Slots
+pub mod Readable

@@ -46,7 +46,7 @@ entries_same : (at : ℕ → SlotTree) (s : ℕ) (ss : SlotsTree) (es : EntriesT
 entries_same at s no_slots no_entries rest f h = refl
 entries_same at s no_slots (entry_and t v es) rest f h = absurd h
 entries_same at s (slot_and spare_slot ss) es rest f h = entries_same at (s + 1) ss es rest (next_are at s spare_slot ss f) h
-entries_same at s (slot_and (subitem name k) ss) no_entries rest f h = refl
+entries_same at s (slot_and (subitem name k) ss) no_entries rest f h = entries_same at (s + 1) ss no_entries rest (next_are at s (subitem name k) ss f) h
 entries_same at s (slot_and (subitem name k) ss) (entry_and t v es) rest f h =
     same_choice (t == s) _ _ _ _ _ h
     (λ e g. ap (λ r. name ∷ kind_onto k v r) (entries_same at (s + 1) ss es rest (next_are at s (subitem name k) ss f) g.1) ∙ ap (λ slot. slot_onto slot v (by_slots at es rest)) (sym (first_is at s t (subitem name k) ss f (eqb-true t s e))))

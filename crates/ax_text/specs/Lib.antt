@@ -2,4 +2,5 @@ pub mod ValueText
 pub mod BlockText
 pub mod Printing
 pub mod Slots
-pub mod Readable
+pub mod Names
+pub mod Tokens

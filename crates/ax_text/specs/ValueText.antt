@@ -84,7 +84,8 @@ abbrev mutual
   -- each entry is the name of its slot and its value, in ascending order of the slots; the first of these slots has the
   -- number s
   pub entries_onto : ℕ → SlotsTree → EntriesTree → Texts → Texts
+  entries_onto s no_slots es rest = rest
   entries_onto s (slot_and spare_slot ss) es rest = entries_onto (s + 1) ss es rest
+  entries_onto s (slot_and (subitem name k) ss) no_entries rest = entries_onto (s + 1) ss no_entries rest
   entries_onto s (slot_and (subitem name k) ss) (entry_and t v es) rest =
       if t == s then name ∷ kind_onto k v (entries_onto (s + 1) ss es rest) else entries_onto (s + 1) ss (entry_and t v es) rest
-  entries_onto s _ _ rest = rest

@@ -4,6 +4,7 @@
 mod blocks;
 mod fixed;
 mod kinds;
+pub mod laws;
 mod printer;
 mod records;
 

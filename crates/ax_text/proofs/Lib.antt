@@ -8,3 +8,5 @@ pub mod EntryWays
 pub mod RecordWays
 pub mod BlockWays
 pub mod BlocksOnce
+pub mod WordTokens
+pub mod Nesting

@@ -1,12 +1,12 @@
 -- The tokens of a block's line, and how deep its braces nest.
-use Rattle.std.specs.Prelude.{ℕ, ◌+◌, ◌==◌, max, if◌then◌else◌, List, [], ◌∷◌, map, Option, Some, None}
+use Rattle.std.specs.Prelude.{ℕ, ◌+◌, ◌<◌, ◌==◌, max, if◌then◌else◌, List, [], ◌∷◌, map, Option, Some, None}
 use Rattle.ax_bits.specs.Bits.{AreOctets}
 use Rattle.ax_tokens.specs.Octets.{quote, open_brace, close_brace}
 use Rattle.ax_tokens.specs.PlainToken.{PlainToken}
 use Rattle.ax_tokens.specs.Printing.{placed}
 use Rattle.ax_tokens.specs.declared.token.TokenKind.{TokenKind}
 use Rattle.ax_tokens.specs.declared.token.TokenKind.TheVariants.{Word, Str, Open, Close}
-use Rattle.ax_model.specs.Blocks.{BlockTree, read_block, opaque_block}
+use Rattle.ax_model.specs.Blocks.{BlockTree, read_block, opaque_block, Fits}
 use Rattle.ax_model.specs.CanonicalOctets.{category_of}
 use Rattle.ax_model.specs.Specification.{SpecTree, record_slots, spec_of}
 use Rattle.ax_model.specs.Streams.{FitsOver}
@@ -73,6 +73,12 @@ TextOver None (opaque_block category content) = OpaqueText category content
 abbrev pub HoldsOctets : BlockTree → Type 0
 HoldsOctets (read_block category records) = Unit {0}
 HoldsOctets (opaque_block category content) = AreOctets content
+
+-- a block over a specification, of a category and of octets below 256
+pub record HoldsBlock (spec : SpecTree) (block : BlockTree) : Type 0 where
+  pub fits : Fits spec block
+  pub category : category_of block < 256
+  pub octets : HoldsOctets block
 
 -- a block that fits the specification of its category, or an opaque one where there is none
 pub record IsOfCatalogue (catalogue : List SpecTree) (block : BlockTree) : Type 0 where

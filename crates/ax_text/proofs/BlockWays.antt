@@ -1,6 +1,6 @@
 -- The ways out of the functions that print blocks.
 use Rattle.std.proofs.Common.{◌≡◌, ℕ, List, [], ◌∷◌, ◌++◌, ap, ◌∙◌}
-use Rattle.ax_model.specs.Flaws.{three_digits}
+use Rattle.ax_model.specs.Paths.{three_digits}
 use Rattle.ax_model.specs.Blocks.{read_block}
 use Rattle.ax_model.specs.Specification.{SpecTree, record_slots}
 use Rattle.ax_model.specs.Tree.{EntriesTree}

@@ -7,7 +7,8 @@ use Rattle.ax_bits.specs.Bits.{AreOctets}
 use Rattle.ax_model.specs.Blocks.{BlockTree, read_block, opaque_block, Fits}
 use Rattle.ax_model.specs.Bodies.{RecordShape}
 use Rattle.ax_model.specs.CanonicalOctets.{category_of}
-use Rattle.ax_model.specs.Flaws.{NoFlaw, three_digits}
+use Rattle.ax_model.specs.Flaws.{NoFlaw}
+use Rattle.ax_model.specs.Paths.{three_digits}
 use Rattle.ax_model.specs.Specification.{SpecTree, record_slots, spec_of}
 use Rattle.ax_model.specs.Streams.{FitsOver}
 use Rattle.ax_model.specs.Tree.{EntriesTree}

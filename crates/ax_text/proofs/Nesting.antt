@@ -6,7 +6,8 @@ use Rattle.ax_bits.specs.Bits.{AreOctets}
 use Rattle.ax_model.proofs.Bounds.{record_bounds}
 use Rattle.ax_model.specs.Blocks.{BlockTree, read_block, opaque_block, Fits}
 use Rattle.ax_model.specs.Bodies.{RecordShape}
-use Rattle.ax_model.specs.Flaws.{NoFlaw, three_digits}
+use Rattle.ax_model.specs.Flaws.{NoFlaw}
+use Rattle.ax_model.specs.Paths.{three_digits}
 use Rattle.ax_model.specs.Shape.{NumberShape, FixedShape, MembersShape, PartsShape, EachShape, Shape, EntriesShape}
 use Rattle.ax_model.specs.Specification.{SpecTree, record_slots}
 use Rattle.ax_model.specs.Tree.{FixedTree, element, group, MembersTree, no_members, member_and, named, spare, KindTree, fixed, extended, counted, by_fx, explicit, compound, SlotsTree, no_slots, slot_and, spare_slot, subitem, ValueTree, number, member_values, part_values, occurrences, content_octets, marked, ValuesTree, no_values, value_and, ListsTree, no_lists, list_and, EntriesTree, no_entries, entry_and}

@@ -4,7 +4,8 @@ use Rattle.std.specs.List.{AllByRecursion, find, list_any}
 use Rattle.std.proofs.lemmas.Slice.Eq.{bytes_eq-Decides}
 use Rattle.ax_model.proofs.Bounds.{kind_bounds}
 use Rattle.ax_model.specs.Characters.{IsName}
-use Rattle.ax_model.specs.Flaws.{flaw_where, is_among, at, fixed_flaws, members_flaws, parts_flaws, kind_flaws, slots_flaws, items_flaws, uap_flaws, three_digits, NoFlaw}
+use Rattle.ax_model.specs.Flaws.{flaw_where, is_among, fixed_flaws, members_flaws, parts_flaws, kind_flaws, slots_flaws, items_flaws, uap_flaws, NoFlaw}
+use Rattle.ax_model.specs.Paths.{at, three_digits}
 use Rattle.ax_model.specs.InBounds.{FixedInBounds, MembersInBounds, PartInBounds, InBounds, SlotsInBounds}
 use Rattle.ax_model.specs.Specification.{ItemTree, SpecTree, first_named, slot_of_item, uap_slot, record_slots}
 use Rattle.ax_model.specs.Tree.{FixedTree, element, group, MembersTree, no_members, member_and, named, spare, KindTree, fixed, extended, counted, by_fx, explicit, compound, SlotTree, SlotsTree, no_slots, slot_and, spare_slot, subitem, slot_count, slots_of}

@@ -3,7 +3,7 @@ use Rattle.std.specs.Prelude.{ℕ, List, [], ◌∷◌, ◌++◌, codes}
 use Rattle.std.specs.List.{join_with_byte}
 use Rattle.ax_tokens.specs.Octets.{line_feed}
 use Rattle.ax_model.specs.Blocks.{BlockTree, read_block, opaque_block}
-use Rattle.ax_model.specs.Flaws.{three_digits}
+use Rattle.ax_model.specs.Paths.{three_digits}
 use Rattle.ax_model.specs.Specification.{SpecTree, record_slots}
 use Rattle.ax_model.specs.Tree.{EntriesTree}
 use Rattle.ax_text.specs.ValueText.{Texts, in_braces, hex_text, entries_onto}

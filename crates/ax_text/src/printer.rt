@@ -1,9 +1,10 @@
 //! The output, token by token.
 ghost use Rattle.std.specs.Prelude.{◌≡◌, decimal, OnOk};
-ghost use Rattle.ax_model.specs.Flaws.{three_digits};
+ghost use Rattle.ax_model.specs.Paths.{three_digits};
 ghost use Rattle.ax_text.specs.Printing.{Puts};
 ghost use Rattle.ax_text.specs.ValueText.{one_onto, hex_text};
 
+use ax_model::category_digits;
 use itoa::Buffer;
 use std::alloc::{AllocError, Global};
 
@@ -37,12 +38,7 @@ impl Printer {
     pub(crate) fn category(&mut self, category: u8) -> Result<(), AllocError>
         ensures { OnOk result (Puts (one_onto (three_digits category)) self.old.out.items self.new.out.items) }
     {
-        let digits = [
-            b'0' + category / 100,
-            b'0' + category / 10 % 10,
-            b'0' + category % 10,
-        ];
-        self.text(&digits)
+        self.text(&category_digits(category))
     }
 
     /// Octets in hexadecimal digits, in quotes.

@@ -1,6 +1,7 @@
 //! `canon` over inputs without fault and with one. Each of these reads its input to the end.
 
-use crate::world::{Outside, leaves, octets, wanted};
+use crate::world::{Outside, leaves, wanted};
+use ax_samples::octets;
 use std::test::Fail;
 
 const NORTH: &str = "22 00 0A E0 19 0C 01 00 00 80";

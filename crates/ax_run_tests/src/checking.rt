@@ -1,7 +1,7 @@
 //! `check`, refused files and refused words. None of these reads the input.
 
-use crate::world::{Outside, leaves, octets, wanted};
-use ax_vectors::{CAT019_P1, FILE_E};
+use crate::world::{Outside, leaves, wanted};
+use ax_samples::{CAT019_P1, FILE_E, octets};
 use std::alloc::{AllocError, Global};
 use std::test::Fail;
 

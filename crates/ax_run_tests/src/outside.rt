@@ -1,6 +1,7 @@
 //! Faults of the outside: each call that fails, and outputs that are too small.
 
-use crate::world::{Outside, leaves, octets, wanted};
+use crate::world::{Outside, leaves, wanted};
+use ax_samples::octets;
 use std::test::Fail;
 
 const NORTH: &str = "22 00 0A E0 19 0C 01 00 00 80";

@@ -1,4 +1,4 @@
--- What a reader answers hangs on no text behind the one at which it stops, or behind what it reads.
+-- What a reader answers hangs on no text after the one at which it stops, or after what it reads.
 use Rattle.std.proofs.Common.{◌≡◌, ℕ, suc, ◌<◌, ◌≤◌, Bool, true, false, cond, List, [], ◌∷◌, ◌++◌, length, Option, Some, None, Ok, Err, refl, sym, ◌∙◌, ap, subst, append_assoc, length-append, inl, inr, ◌⊎◌, arith}
 use Rattle.std.specs.Prelude.{bytes_eq}
 use Rattle.ax_grammar.specs.Keywords.{keyword_text}
@@ -6,7 +6,7 @@ use Rattle.ax_grammar.specs.Reading.{Texts, Read, ◌>>=◌, one_of, one_at, exp
 use Rattle.ax_grammar.specs.declared.keyword.Keyword.{Keyword}
 use Rattle.ax_grammar.proofs.Recursion.{reads}
 
--- p reads what stands behind a first text: what it read, or the text at which it stopped, hangs on no later text
+-- p reads what stands after a first text: what it read, or the text at which it stopped, hangs on no later text
 abbrev pub Behind : {A : Type 0} → (Texts → Read A) → Texts → Read A → Type 0
 Behind p rest (Ok x) = (front : Texts) × (rest ≡ front ++ x.1) × ((more : Texts) → p (front ++ more) ≡ Ok (x.0, more))
 Behind p rest (Err []) = Unit {0}
@@ -50,7 +50,7 @@ expect_local_at false text rest = inr (λ more. refl)
 pub expect_local : (k : ℕ) (word : Keyword) → IsLocal k (expect_at word)
 expect_local k word = record { empty = refl; at = λ text rest lt. expect_local_at (bytes_eq (keyword_text word) text) text rest }
 
--- ---- a reader behind another
+-- ---- a reader after another
 
 map_behind : {A B : Type 0} (g : A → B) (p : Texts → Read A) (rest : Texts) (r : Read A) → Behind p rest r → Behind (λ more. p more >>= λ x. Ok (g x.0, x.1)) rest (r >>= λ x. Ok (g x.0, x.1))
 map_behind g p rest (Ok x) (front, e, h) = (front, e, λ more. ap (λ r. r >>= λ x. Ok (g x.0, x.1)) (h more))
@@ -108,7 +108,7 @@ then_local_at k p q text rest l lt (inr h) = inr (λ more. ap (λ r. r >>= λ x.
 pub then_local : {A B : Type 0} (k : ℕ) (p : Texts → Read A) (q : A → Texts → Read B) → IsLocal (suc k) p → ((a : A) → IsLocal k (q a)) → IsLocal (suc k) (λ texts. p texts >>= λ x. q x.0 x.1)
 then_local k p q l m = record { empty = ap (λ r. r >>= λ x. q x.0 x.1) l.empty; at = λ text rest lt. then_local_at k p q text rest m lt (l.at text rest lt) }
 
--- the first text counted among those behind
+-- the first text counted among those after
 behind_more : {A : Type 0} (q : Texts → Read A) (text : List ℕ) (rest : Texts) (r : Read A) → Behind (λ more. q (text ∷ more)) rest r → Behind q (text ∷ rest) r
 behind_more q text rest (Ok x) (front, e, h) = (text ∷ front, ap (λ t. text ∷ t) e, h)
 behind_more q text rest (Err []) b = tt

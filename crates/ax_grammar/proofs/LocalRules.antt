@@ -1,4 +1,4 @@
--- No rule's answer hangs on a text behind the one at which it stops.
+-- No rule's answer hangs on a text after the one at which it stops.
 use Rattle.std.proofs.Common.{◌≡◌, ℕ, zero, suc, ◌<◌, Bool, true, false, cond, List, [], ◌∷◌, length, Option, Some, None, Ok, Err, refl, sym, ◌∙◌, ap, subst, inl, inr, arith}
 use Rattle.std.specs.Prelude.{bytes_eq}
 use Rattle.ax_model.specs.Specification.{ItemTree, SpecTree}
@@ -18,7 +18,7 @@ use Rattle.ax_grammar.proofs.Lists.{list_is, taking}
 use Rattle.ax_grammar.proofs.Recursive.{entry_shrinks, member_shrinks, part_shrinks, slot_shrinks, item_shrinks, uap_slot_shrinks, fixed_is, kind_is}
 use Rattle.ax_grammar.proofs.Local.{Behind, LocalAt, IsLocal, local_same, one_local, expect_local, map_local, then_local, after_local, fewer_local}
 
--- a known first text, behind which nothing is read
+-- a known first text, after which nothing is read
 done_local : {A : Type 0} (p : Texts → Read A) (a : A) (text : List ℕ) (rest : Texts) → ((more : Texts) → p (text ∷ more) ≡ reads a more) → LocalAt p text rest
 done_local p a text rest e = inl (subst (λ r. Behind (λ more. p (text ∷ more)) rest r) (sym (e rest)) ([], refl, e))
 

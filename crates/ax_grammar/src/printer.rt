@@ -5,7 +5,8 @@ ghost use Rattle.std.specs.List.{flat_map};
 ghost use Rattle.ax_model.specs.Plain.{fixed_tree, member_tree, members_tree, part_tree, kind_tree, slot_tree, slots_tree, item_tree};
 ghost use Rattle.ax_grammar.specs.Keywords.{keyword_text};
 ghost use Rattle.ax_grammar.specs.Printing.{behind};
-ghost use Rattle.ax_grammar.specs.Spelling.{three_digits, quoted, sign_text, entry_texts, content_texts, fixed_texts, member_texts, members_texts, part_texts, kind_texts, slot_texts, slots_texts, item_texts, uap_slot_texts};
+ghost use Rattle.ax_grammar.specs.Spelling.{quoted, sign_text, entry_texts, content_texts, fixed_texts, member_texts, members_texts, part_texts, kind_texts, slot_texts, slots_texts, item_texts, uap_slot_texts};
+ghost use Rattle.ax_model.specs.Paths.{three_digits};
 
 use crate::keyword::Keyword;
 use ax_model::{
@@ -15,7 +16,7 @@ use ax_model::{
 use itoa::Buffer;
 use std::alloc::AllocError;
 
-/// Prints tokens, each behind a space.
+/// Prints tokens, each after a space.
 #[derive(Drop)]
 pub struct Printer {
     pub out: Vec<u8>,

@@ -86,7 +86,7 @@ impl<'r, 't> Reader<'r, 't> {
         }
     }
 
-    /// Goes behind the next token.
+    /// Goes after the next token.
     pub fn skip(&mut self)
         requires { 0 < length self.old }
         ensures { self.new ≡ drop 1 self.old }

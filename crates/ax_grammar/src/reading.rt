@@ -38,7 +38,7 @@ fn whole(alloc: Global, reader: &mut Reader<'_, '_>) -> Result<Spec, Stopped>
 ///
 /// A list of tokens spells at most one specification. Where it spells none, `BadToken` names the token at which
 /// the reader stops, or the count of the tokens where they end too early: a category that isn't three digits up to 255, a
-/// name or a number out of its form, a word of another rule, a missing brace, or a token behind the end. No spelling
+/// name or a number out of its form, a word of another rule, a missing brace, or a token after the end. No spelling
 /// begins with the tokens through that one.
 ///
 /// Each token is read once, from left to right, and the tree is all that takes memory. The calls nest as the tokens'

@@ -51,7 +51,7 @@ fn refused_words_and_files(rt: HostRuntime) -> Result<(), Fail> {
     Ok(())
 }
 
-// The line, and behind it the words of the text with one blank between them, as a specification is printed.
+// The line, and after it the words of the text with one blank between them, as a specification is printed.
 fn accepted(alloc: Global, line: &str, text: &str) -> Result<Vec<u8>, AllocError> {
     let mut made = line.as_bytes().to_vec(alloc)?;
     for word in text.split_whitespace() {

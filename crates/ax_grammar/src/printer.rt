@@ -11,7 +11,7 @@ ghost use Rattle.ax_model.specs.Paths.{three_digits};
 use crate::keyword::Keyword;
 use ax_model::{
     Content, Fixed, Item, Items, Kind, Member, Members, Name, Part, Parts, Scale, Sign, Slot,
-    Slots, TableText, TableTexts, Text, UapSlot, UapSlots,
+    Slots, TableText, TableTexts, Text, UapSlot, UapSlots, category_digits,
 };
 use itoa::Buffer;
 use std::alloc::AllocError;
@@ -47,12 +47,7 @@ impl Printer {
     pub fn category(&mut self, category: u8) -> Result<(), AllocError>
         ensures { OnOk result (self.new.out.items ≡ self.old.out.items ++ 0x20 ∷ three_digits category) }
     {
-        let digits = [
-            b'0' + category / 100,
-            b'0' + category / 10 % 10,
-            b'0' + category % 10,
-        ];
-        self.octets(&digits)
+        self.octets(&category_digits(category))
     }
 
     fn number(&mut self, number: u64) -> Result<(), AllocError>

@@ -15,7 +15,7 @@ use ax_model::{
 use itoa::Buffer;
 use std::alloc::AllocError;
 
-/// Prints tokens, each behind a space.
+/// Prints tokens, each after a space.
 #[derive(Drop)]
 pub struct Printer {
     pub out: Vec<u8>,

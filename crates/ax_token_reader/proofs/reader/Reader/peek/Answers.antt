@@ -1,9 +1,9 @@
 use Rattle.std.proofs.Common.{rules, ap, length, length-drop, arith}
 use Rattle.std.proofs.lemmas.List.{length-map}
 use Rattle.ax_tokens.specs.PlainToken.{plain_token}
-use Rattle.ax_grammar.specs.Answers.{texts_of}
-use Rattle.ax_grammar.proofs.Steps.{next_text}
-use Rattle.ax_grammar.proofs.reader.Reader.peek.Goals as goal
+use Rattle.ax_token_reader.specs.Stopping.{texts_of}
+use Rattle.ax_token_reader.proofs.Words.{next_text}
+use Rattle.ax_token_reader.proofs.reader.Reader.peek.Goals as goal
 
 pub returns-in-Some-clause-next : goal.returns-in-Some-clause-next
 returns-in-Some-clause-next c = next_text c.self.inside.tokens.now c.self.inside.at c.args.self.now (plain_token c.in-Some.token.now) c.self.view_is (search rules)

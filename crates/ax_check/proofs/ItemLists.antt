@@ -2,10 +2,11 @@
 use Rattle.std.proofs.Common.{◌≡◌, ℕ, ◌+◌, ◌<◌, ◌≤◌, Bool, true, false, ◌||◌, List, [], ◌∷◌, ◌++◌, length, map, drop, get_or, bytes_eq, refl, sym, ◌∙◌, ap, subst, append_assoc, append-nil}
 use Rattle.std.proofs.lemmas.List.{drop_all}
 use Rattle.ax_check.proofs.FlawLists.{same_more, same_through}
-use Rattle.ax_check.proofs.Remainders.{from_place}
+use Rattle.ax_model.proofs.Namings.{from_place}
 use Rattle.ax_check.specs.Members.{item_flaws, item_names}
 use Rattle.ax_check.specs.Names.{AreSame}
-use Rattle.ax_model.specs.Flaws.{flaw_where, at, is_among, items_flaws, kind_flaws}
+use Rattle.ax_model.specs.Flaws.{flaw_where, is_among, items_flaws, kind_flaws}
+use Rattle.ax_model.specs.Paths.{at}
 use Rattle.ax_model.specs.Plain.{item_tree}
 use Rattle.ax_model.specs.Specification.{ItemTree}
 use Rattle.ax_model.specs.declared.flaw.Flaw.{Flaw}

@@ -9,8 +9,8 @@ ghost use Rattle.ax_check.specs.Members.{member_flaws, with_member};
 ghost use Rattle.ax_check.specs.Names.{listed, AreSame};
 
 use crate::names::enter;
-use crate::texts::{at_name, at_spare};
-use ax_model::{Content, Fixed, Flaw, FlawKind, Flaws, Member, Members, Text};
+use crate::texts::at_spare;
+use ax_model::{Content, Fixed, Flaw, FlawKind, Flaws, Member, Members, Text, at_name};
 use indexmap::IndexSet;
 use std::alloc::{AllocError, Global};
 

@@ -9,9 +9,9 @@ ghost use Rattle.ax_check.specs.Names.{listed, AreSame};
 
 use crate::fixed_flaws::{find_in_fixed, find_in_members, note};
 use crate::names::enter;
-use crate::texts::{at_body, at_name, at_part};
+use crate::texts::{at_body, at_part};
 use crate::widths::{bits_over, bits_over_members};
-use ax_model::{Fixed, FlawKind, Flaws, Kind, Part, Parts, Slot, Slots, Text};
+use ax_model::{Fixed, FlawKind, Flaws, Kind, Part, Parts, Slot, Slots, Text, at_name};
 use indexmap::IndexSet;
 use std::alloc::{AllocError, Global};
 

@@ -9,8 +9,8 @@ ghost use Rattle.ax_check.specs.Names.{listed, AreSame};
 use crate::fixed_flaws::note;
 use crate::kind_flaws::{MOST_SLOTS, find_in_kind};
 use crate::names::{enter, has};
-use crate::texts::{at_name, at_uap, of_category};
-use ax_model::{FlawKind, Flaws, Item, Items, Spec, Text, UapSlot};
+use crate::texts::at_uap;
+use ax_model::{FlawKind, Flaws, Item, Items, Spec, Text, UapSlot, at_name, of_category};
 use indexmap::IndexSet;
 use std::alloc::{AllocError, Global};
 

@@ -17,13 +17,16 @@ pub mod FixedKinds
 pub mod FramedOnce
 pub mod Framings
 pub mod Fronts
+pub mod InputExamples
 pub mod InputSteps
 pub mod Judged
 pub mod Least
 pub mod Lengths
 pub mod Lookups
 pub mod Meets
+pub mod Namings
 pub mod Once
+pub mod PathOctets
 pub mod PathTexts
 pub mod Places
 pub mod PrefixFree

@@ -1,6 +1,7 @@
 -- The flaws of a specification, in their order (this project's own rules).
-use Rattle.std.specs.Prelude.{◌≡◌, ℕ, ◌+◌, ◌/◌, ◌%◌, ◌==◌, nat_lt, Bool, true, false, ◌||◌, not, if◌then◌else◌, is_some, List, [], ◌∷◌, ◌++◌, length, codes, decimal, bytes_eq}
+use Rattle.std.specs.Prelude.{◌≡◌, ℕ, ◌+◌, ◌%◌, ◌==◌, nat_lt, Bool, true, false, ◌||◌, not, if◌then◌else◌, is_some, List, [], ◌∷◌, ◌++◌, length, codes, decimal, bytes_eq}
 use Rattle.std.specs.List.{list_any}
+use Rattle.ax_model.specs.Paths.{at, three_digits}
 use Rattle.ax_model.specs.Specification.{ItemTree, SpecTree, first_named}
 use Rattle.ax_model.specs.Tree.{FixedTree, element, group, MembersTree, no_members, member_and, named, spare, KindTree, fixed, extended, counted, by_fx, explicit, compound, SlotsTree, no_slots, slot_and, spare_slot, subitem, slot_count}
 use Rattle.ax_model.specs.Widths.{width, members_width}
@@ -17,13 +18,6 @@ use Rattle.ax_model.specs.declared.spec.UapSlot.TheVariants as Uap
 -- a flaw at the path where the test holds
 abbrev pub flaw_where : Bool → FlawKind → List ℕ → List Flaw
 flaw_where holds kind path = if holds then record { kind = kind; path = path } ∷ [] else []
-
--- a path and one name more
-abbrev pub at : List ℕ → List ℕ → List ℕ
-at path name = path ++ codes "/" ++ name
-
-abbrev pub three_digits : ℕ → List ℕ
-three_digits n = (48 + n / 100) ∷ (48 + n / 10 % 10) ∷ (48 + n % 10) ∷ []
 
 abbrev pub is_among : List ℕ → List (List ℕ) → Bool
 is_among name names = list_any (bytes_eq name) names

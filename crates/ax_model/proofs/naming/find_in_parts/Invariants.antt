@@ -1,7 +1,7 @@
 use Rattle.std.proofs.Common.{◌≡◌, drop, map}
 use Rattle.ax_model.specs.Plain.{part_tree}
-use Rattle.ax_check.specs.Places.{part_named}
-use Rattle.ax_check.proofs.naming.find_in_parts.Given as goal
+use Rattle.ax_model.specs.Naming.{part_named}
+use Rattle.ax_model.proofs.naming.find_in_parts.Given as goal
 
 abbrev pub invariant-loop-part : goal.invariant-loop-part
 invariant-loop-part l =

@@ -1,7 +1,7 @@
 use Rattle.std.proofs.Common.{◌≡◌, ◌+◌, drop}
 use Rattle.ax_model.specs.Plain.{slots_tree}
-use Rattle.ax_check.specs.Places.{slot_named}
-use Rattle.ax_check.proofs.naming.find_slot.Given as goal
+use Rattle.ax_model.specs.Naming.{slot_named}
+use Rattle.ax_model.proofs.naming.find_slot.Given as goal
 
 abbrev pub invariant-loop-slot : goal.invariant-loop-slot
 invariant-loop-slot l =

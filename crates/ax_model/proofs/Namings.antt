@@ -1,14 +1,16 @@
 -- The first of a name, over lists from a place on.
-use Rattle.std.proofs.Common.{◌≡◌, ℕ, ◌+◌, ◌<◌, ◌≤◌, true, false, if◌then◌else◌, List, length, map, drop, get_or, Option, Some, None, sym, ◌∙◌, ap}
+use Rattle.std.proofs.Common.{◌≡◌, ℕ, suc, ◌+◌, ◌<◌, ◌≤◌, true, false, if◌then◌else◌, List, ◌∷◌, length, map, drop, get_or, Option, Some, None, sym, ◌∙◌, ap, add-one, drop-cons}
 use Rattle.std.proofs.lemmas.List.{drop_all}
-use Rattle.ax_check.proofs.Remainders.{from_place}
-use Rattle.ax_check.specs.Places.{found_or, fixed_named, member_named, part_named, kind_named, slot_named, frn_of, is_slot_of}
+use Rattle.ax_model.specs.Naming.{found_or, fixed_named, member_named, part_named, kind_named, slot_named, frn_of, is_slot_of}
 use Rattle.ax_model.specs.Plain.{member_tree, members_tree, part_tree, slot_tree, slots_tree}
 use Rattle.ax_model.specs.Tree.{FixedTree, KindTree}
 use Rattle.ax_model.specs.declared.kind.Member.{Member}
 use Rattle.ax_model.specs.declared.kind.Part.{Part}
 use Rattle.ax_model.specs.declared.kind.Slot.{Slot}
 use Rattle.ax_model.specs.declared.spec.UapSlot.{UapSlot}
+
+pub from_place : {A : Type 0} (xs : List A) (i : ℕ) (x : A) → i < length xs → x ≡ get_or xs i x → drop i xs ≡ x ∷ drop (i + 1) xs
+from_place xs i x within e = drop-cons xs i x within ∙ ap (λ y. y ∷ drop (suc i) xs) (sym e) ∙ ap (λ n. x ∷ drop n xs) (sym (add-one i))
 
 -- ---- members
 

@@ -1,7 +1,7 @@
 use Rattle.std.proofs.Common.{◌≡◌, drop}
 use Rattle.ax_model.specs.Plain.{members_tree}
-use Rattle.ax_check.specs.Places.{member_named}
-use Rattle.ax_check.proofs.naming.find_member.Given as goal
+use Rattle.ax_model.specs.Naming.{member_named}
+use Rattle.ax_model.proofs.naming.find_member.Given as goal
 
 abbrev pub invariant-loop-member : goal.invariant-loop-member
 invariant-loop-member l =

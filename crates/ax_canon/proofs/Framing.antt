@@ -29,6 +29,7 @@ framed_bits category m b l bit =
 
 pub block_copied : (codec : Codec) (body : List ℕ) (old now new : Out) → IsLeast codec body true → Appends old now (word 8 codec.category ++ word 16 (length body + 3)) → Appends now new (bits body) → IsCanonical codec body (length body + 3) old new
 block_copied codec body old now new least front rest = record {
+  same_loan = rest.loan ∙ front.loan;
   written = λ spec records clean stands spells. (
     let is : CanonBody spec records ≡ bits body = least spec records clean stands spells refl in
     let whole : bits (canon_block spec (read_block spec.category records)) ≡ (word 8 codec.category ++ word 16 (length body + 3)) ++ bits body =

@@ -26,7 +26,7 @@ use Rattle.ax_tables.specs.Standing.{StandsFor}
 use Rattle.ax_tables.specs.declared.codec.Codec.{Codec}
 
 -- the records that a body spells have the shape of records
-body_shape : (spec : SpecTree) (rs : List EntriesTree) (b : List ℕ) → RecordsSpell spec rs b → AllByRecursion (RecordShape spec) rs
+pub body_shape : (spec : SpecTree) (rs : List EntriesTree) (b : List ℕ) → RecordsSpell spec rs b → AllByRecursion (RecordShape spec) rs
 body_shape spec [] b h = tt
 body_shape spec (r ∷ rs) b (x, y, e, h, t) = (record_shape spec r x h, body_shape spec rs y t)
 
@@ -77,7 +77,7 @@ records_whole spec [] b w h = omega (arith, ap length h)
 records_whole spec (r ∷ rs) b w (x, y, e, h, t) = two_whole b x y e (spells_whole (record_kind spec) (marked r) x w h.spells) (records_whole spec rs y w t)
 
 pub block_anew : (codec : Codec) (body : List ℕ) (o a b c d : Out) (n : ℕ) → written o ≡ [] → Appends o a (word 8 codec.category ++ word 16 0) → IsCanonicalBody codec body a b → n ≡ (room a - room b) / 8 + 3 → Replaces b c 1 (n / 256 % 256) → Replaces c d 2 (n % 256) → IsCanonical codec body n o d
-block_anew codec body o a b c d n empty front anew count one two = record { written = block; octets = octets }
+block_anew codec body o a b c d n empty front anew count one two = record { same_loan = two.loan ∙ one.loan ∙ anew.some.1.loan ∙ front.loan; written = block; octets = octets }
   where
     whole_body : (spec : SpecTree) (records : List EntriesTree) → NoFlaw spec → SpellsBody spec records (bits body) → SpellsBody spec records (CanonBody spec records)
     whole_body spec records clean spells = flawless_body_canon_spells spec records clean spells.some (body_shape spec records (bits body) spells.spelled)

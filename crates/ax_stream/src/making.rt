@@ -133,6 +133,8 @@ impl<'c, M: BlockMaker> BlockWork for TreeWork<'c, M> {
 
     ghost command = { λ s. tree_command (M.of_read s.maker) (M.of_opaque s.maker) (catalogue_tree s.catalogue.now) };
 
+    ghost sound = { λ s. Unit {0} };
+
     ghost laid = { λ s. s.octets.items };
 
     ghost takes_memory = { true };

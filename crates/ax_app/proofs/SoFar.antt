@@ -1,10 +1,10 @@
 -- What no command answers so far.
-use Rattle.std.proofs.Common.{◌≡◌, ℕ, ◌<◌, ◌≤◌, List, [], ◌∷◌, Option, length, sym, ◌∙◌, ap, subst, arith, refl}
+use Rattle.std.proofs.Common.{◌≡◌, ℕ, ◌<◌, ◌≤◌, List, [], Option, length, sym, ◌∙◌, ap, subst, arith, refl}
 use Rattle.ax_command.specs.Outcomes.{outcome_of_stop, outcome_of_end, outcome_of_job_stop}
 use Rattle.ax_command.specs.declared.outcome.JobStop.{JobStop}
 use Rattle.ax_command.specs.declared.outcome.JobStop.TheVariants as JobStopOf
 use Rattle.ax_command.specs.declared.outcome.Outcome.{Outcome}
-use Rattle.ax_command.specs.declared.outcome.Outcome.TheVariants.{Usage, OtherCategory, MigratedTooLong, ReportFault}
+use Rattle.ax_command.specs.declared.outcome.Outcome.TheVariants.{Usage}
 use Rattle.ax_command.specs.declared.outcome.Refusal.{Refusal}
 use Rattle.ax_command.specs.declared.words.Verb.{Verb}
 use Rattle.ax_command.specs.declared.words.Verb.TheVariants.{Check, Canon, Text}
@@ -15,11 +15,10 @@ use Rattle.ax_model.specs.Specification.{SpecTree}
 use Rattle.ax_outside.specs.Changes.{LibraryCounts, SourceChange, SinkChange}
 use Rattle.ax_outside.specs.Files.{File}
 use Rattle.ax_stream.specs.Commands.{BlockCommand, gives, too_long}
-use Rattle.ax_stream.specs.Ending.{longest_input}
 use Rattle.ax_stream.specs.Streams.{IsLicensed, Reports, RefusesLength}
 use Rattle.ax_stream.specs.declared.end.StreamEnd.{StreamEnd}
 use Rattle.ax_stream.specs.declared.end.StreamEnd.TheVariants as EndOf
-use Rattle.ax_app.specs.Jobs.{Job, writes, each_block, refuses, IsJob, IsStopped, JobRuns, TextEnds, written, cut, no_memory}
+use Rattle.ax_app.specs.Jobs.{Job, refuses, IsJob, IsStopped, JobRuns, TextEnds, written, cut, no_memory}
 use Rattle.ax_app.specs.Running.{Runs, at_words, at_files, before_input, in_job, NoCountFell, IsOfTheseCommands}
 
 -- an end that is neither a failed line nor a refused length

@@ -2,8 +2,8 @@
 //! `asterix` does.
 #![tactic(auto)]
 
-mod commands;
 mod gateway;
+mod jobs;
 mod laws;
 
 pub use ax_command::{Cause, InputFault, Outcome, SpecFault};

@@ -1,7 +1,7 @@
 //! Each flaw at its path, and the order of flaws.
 
 use crate::texts::{flaws_of, flaws_of_kind, flaws_over};
-use ax_vectors::FILE_F;
+use ax_samples::FILE_F;
 use std::test::Fail;
 
 #[test]

@@ -1,7 +1,7 @@
 //! Blocks, and what they are read as.
 
-use crate::fixtures::{accepted, body_read_as, octets, read_as};
-use ax_vectors::{FILE_K, FILE_N, FILE_S};
+use crate::fixtures::{accepted, body_read_as, read_as};
+use ax_samples::{FILE_K, FILE_N, FILE_S, octets};
 use std::test::Fail;
 
 // A group in a group in a group, with a spare behind it, and an element of the greatest width.

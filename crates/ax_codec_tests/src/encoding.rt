@@ -1,9 +1,9 @@
 //! Blocks, and the octets that they are written in.
 
 use crate::decoding::{FILE_DEEP, FILE_WIDE, RICH, WIDE_BLOCK};
-use crate::fixtures::{accepted, canon_as, octets, written_as};
+use crate::fixtures::{accepted, canon_as, written_as};
 use ax_model::{Block, Entries, Record, Records};
-use ax_vectors::{FILE_K, FILE_N, FILE_S};
+use ax_samples::{FILE_K, FILE_N, FILE_S, octets};
 use std::alloc::{AllocError, Global};
 use std::test::Fail;
 

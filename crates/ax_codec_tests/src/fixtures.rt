@@ -21,16 +21,6 @@ pub(crate) fn accepted(rt: &impl Abort, alloc: Global, text: &str) -> Result<Acc
     Ok(accept(alloc, spec)?)
 }
 
-/// The octets of a text of two hexadecimal digits each.
-pub(crate) fn octets(alloc: Global, text: &str) -> Result<Vec<u8>, Fail> {
-    let mut made = Vec::new(alloc);
-    for word in text.split_whitespace() {
-        let octet = u8::from_str_radix(word, 16)?;
-        made.push(octet)?;
-    }
-    Ok(made)
-}
-
 /// The block that a body of this category is read as.
 fn body_decoded(
     rt: &impl Abort,

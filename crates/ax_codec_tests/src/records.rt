@@ -5,11 +5,11 @@ ghost use Rattle.ax_model.specs.OfCode.{HasNoFlaw};
 ghost use Rattle.ax_model.specs.Plain.{kind_tree};
 ghost use Rattle.ax_values.specs.Reading.{SlotInBounds, slot_of_frn};
 
-use crate::fixtures::{accepted, body_read_as, octets};
+use crate::fixtures::{accepted, body_read_as};
 use crate::shown::{push_record, push_value, shown_error};
 use ax_model::{Kind, Spec};
+use ax_samples::{CAT048_P1, octets};
 use ax_values::{decode_kind, decode_record};
-use ax_vectors::CAT048_P1;
 use std::alloc::{AllocError, Global};
 use std::process::Abort;
 use std::test::Fail;

@@ -1,7 +1,7 @@
 //! `check`, refused files and refused words. None of these reads the input.
 
-use crate::world::{Outside, leaves, octets, wanted};
-use ax_vectors::{CAT019_P1, FILE_E};
+use crate::world::{Outside, leaves, wanted};
+use ax_samples::{CAT019_P1, FILE_E, octets};
 use std::alloc::{AllocError, Global};
 use std::test::Fail;
 
@@ -79,5 +79,23 @@ fn an_accepted_file_is_written_in_one_line(rt: HostRuntime) -> Result<(), Fail> 
         leaves(&rt, alloc, words, &input, Outside::Sound, want)?;
     }
     assert_eq!(rt; accepted(alloc, "", FILE_E)?.as_slice(), FILE_E.as_bytes());
+    Ok(())
+}
+
+// The file is loaded once, and its text is one write: a second call of either would fail.
+#[test]
+fn check_loads_once_and_writes_once(rt: HostRuntime) -> Result<(), Fail> {
+    let alloc = rt.alloc();
+    let input = octets(alloc, INPUT)?;
+    for outside in [Outside::Load(1), Outside::Write(1)] {
+        let want = wanted(
+            alloc,
+            0,
+            &accepted(alloc, LINE_OF_E, FILE_E)?,
+            "",
+            10,
+        )?;
+        leaves(&rt, alloc, "check E", &input, outside, want)?;
+    }
     Ok(())
 }

@@ -2,7 +2,7 @@
 
 use ax_app::run;
 use ax_outside::{MemLibrary, MemSink, MemSource, fill};
-use ax_vectors::{
+use ax_samples::{
     CAT019_P1, CAT034_P1, CAT048_P1, FILE_A, FILE_E, FILE_F, FILE_N, FILE_S, NESTED_TOO_DEEP,
 };
 use std::alloc::{AllocError, Global};
@@ -127,17 +127,6 @@ pub fn wanted(
     })
 }
 
-/// The octets of a text in hexadecimal, with blanks between them.
-pub fn octets(alloc: Global, text: &str) -> Result<Vec<u8>, Fail> {
-    let mut made = Vec::new(alloc);
-    for word in text.split_whitespace() {
-        let mut octet = [0u8; 1];
-        hex::decode_to_slice(word.as_bytes(), &mut octet)?;
-        made.push(octet[0])?;
-    }
-    Ok(made)
-}
-
 // File E behind a comment, with two line feeds for each blank.
 fn commented(alloc: Global) -> Result<Vec<u8>, AllocError> {
     let mut made = b"# a comment\n".to_vec(alloc)?;
@@ -192,8 +181,8 @@ fn words_of(alloc: Global, text: &str) -> Result<Vec<String>, AllocError> {
     Ok(made)
 }
 
-// How many octets the source has left, which it then gives.
-fn left_of(alloc: Global, source: &mut MemSource) -> Result<usize, Fail> {
+/// How many octets the source has left, which it then gives.
+pub fn left_of(alloc: Global, source: &mut MemSource) -> Result<usize, Fail> {
     let mut buffer = vec![in alloc; 0; 70_000]?;
     Ok(fill(source, &mut buffer)?)
 }

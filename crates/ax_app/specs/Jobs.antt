@@ -5,7 +5,7 @@ use Rattle.ax_command.specs.declared.outcome.JobStop.{JobStop}
 use Rattle.ax_command.specs.declared.outcome.JobStop.TheVariants as JobStopOf
 use Rattle.ax_command.specs.declared.outcome.Refusal.{Refusal}
 use Rattle.ax_command.specs.declared.words.Verb.{Verb}
-use Rattle.ax_command.specs.declared.words.Verb.TheVariants.{Check, Canon}
+use Rattle.ax_command.specs.declared.words.Verb.TheVariants.{Check, Canon, Text}
 use Rattle.ax_grammar.specs.InRange.{AreNumbersInRange}
 use Rattle.ax_grammar.specs.Spelling.{printed}
 use Rattle.ax_model.specs.Blocks.{BlockTree}
@@ -14,9 +14,11 @@ use Rattle.ax_outside.specs.Changes.{SourceChange, SinkChange, IsUntouched, Gain
 use Rattle.ax_stream.specs.BlockCommands.{canon_command}
 use Rattle.ax_stream.specs.Commands.{BlockCommand, output_of, report_of}
 use Rattle.ax_stream.specs.Ending.{longest_input}
+use Rattle.ax_stream.specs.Made.{tree_command}
 use Rattle.ax_stream.specs.Streams.{StreamAnswers, StreamRuns}
 use Rattle.ax_stream.specs.declared.end.StreamEnd.{StreamEnd}
 use Rattle.ax_stream.specs.declared.end.StreamEnd.TheVariants.{Done, WriteFault, OutOfMemory}
+use Rattle.ax_text.specs.BlockText.{BlockLine, OpaqueLine}
 
 -- it writes a text and reads no input, or it answers each block of the input, or it refuses its arguments or what its files
 -- have in common
@@ -34,10 +36,15 @@ pub record IsCheckJob (specs : List SpecTree) (job : Job) : Type 0 where
   pub one : specs ≡ spec ∷ []
   pub is : job ≡ writes (check_text spec)
 
+-- `text`: the line of each block
+abbrev pub text_command : List SpecTree → BlockCommand
+text_command catalogue = tree_command (λ number spec block. BlockLine spec block) (λ number category content. OpaqueLine category content) catalogue
+
 -- the job of a command with these arguments, over the specifications of its files
 abbrev pub IsJob : Verb → List (List ℕ) → List SpecTree → Job → Type 0
 IsJob Check arguments specs job = IsCheckJob specs job
 IsJob Canon arguments specs job = job ≡ each_block (canon_command specs)
+IsJob Text arguments specs job = job ≡ each_block (text_command specs)
 
 -- the job is a refusal, or memory was wanting before it was known
 abbrev pub IsStopped : Verb → List (List ℕ) → List SpecTree → JobStop → Type 0
@@ -89,6 +96,7 @@ pub record IsReadyToCheck (specs : List SpecTree) : Type 0 where
 abbrev pub IsReady : Verb → List (List ℕ) → List SpecTree → Type 0
 IsReady Check arguments specs = IsReadyToCheck specs
 IsReady Canon arguments specs = Unit {0}
+IsReady Text arguments specs = Unit {0}
 
 -- the command ran its job
 pub record RunsJob (verb : Verb) (arguments : List (List ℕ)) (specs : List SpecTree) (i : SourceChange) (o r : SinkChange) (end : StreamEnd) : Type 0 where

@@ -5,6 +5,7 @@
 mod gateway;
 mod jobs;
 mod laws;
+mod makers;
 
 pub use ax_command::{Cause, InputFault, Outcome, SpecFault};
 pub use gateway::run;

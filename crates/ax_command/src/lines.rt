@@ -1,11 +1,12 @@
 //! The lines of the report for an outcome. They are written in pieces and take no memory.
 ghost use Rattle.std.specs.Prelude.{◌≡◌, ◌++◌, codes, decimal};
 ghost use Rattle.ax_outside.specs.Changes.{Wrote, sink_change};
-ghost use Rattle.ax_command.specs.Lines.{numbered, category_text, cause_name, kind_name, flaw_line, flaw_lines, fault_lines, lines_of};
+ghost use Rattle.ax_model.specs.Paths.{three_digits};
+ghost use Rattle.ax_command.specs.Lines.{numbered, cause_name, kind_name, flaw_line, flaw_lines, fault_lines, lines_of};
 
 use crate::outcome::Outcome;
 use ax_load::SpecFault;
-use ax_model::{Flaw, FlawKind, Flaws, Text};
+use ax_model::{Flaw, FlawKind, Flaws, Text, category_digits};
 use ax_outside::{Sink, SinkFailed, write_text};
 use ax_stream::{Cause, InputFault};
 use itoa::Buffer;
@@ -171,22 +172,11 @@ fn write_fault<K: Sink>(sink: &mut K, fault: InputFault) -> Result<(), SinkFaile
     write_fault_end(sink, fault)
 }
 
-/// A category in three digits.
-pub fn three_digits(category: u8) -> [u8; 3]
-    ensures { result ≡ category_text category }
-{
-    [
-        b'0' + category / 100,
-        b'0' + category / 10 % 10,
-        b'0' + category % 10,
-    ]
-}
-
 /// Writes the category of a file, up to the end of its line.
 fn write_category<K: Sink>(sink: &mut K, category: u8) -> Result<(), SinkFailed>
-    ensures { Wrote (sink_change K.Sink sink.old sink.new) result (codes " CategoryTwice " ++ (category_text category ++ codes "\n")) }
+    ensures { Wrote (sink_change K.Sink sink.old sink.new) result (codes " CategoryTwice " ++ (three_digits category ++ codes "\n")) }
 {
-    write_three(sink, b" CategoryTwice ", &three_digits(category), b"\n")
+    write_three(sink, b" CategoryTwice ", &category_digits(category), b"\n")
 }
 
 /// Writes the line of a file whose category an earlier file has.
@@ -198,13 +188,20 @@ fn write_category_twice<K: Sink>(sink: &mut K, file: u32, category: u8) -> Resul
     write_category(sink, category)
 }
 
+/// Two categories and the end of a line, a space before each category.
+fn two_categories(old: u8, new: u8) -> [u8; 9]
+    ensures { result ≡ codes " " ++ (three_digits old ++ (codes " " ++ (three_digits new ++ codes "\n"))) }
+{
+    let [a, b, c] = category_digits(old);
+    let [x, y, z] = category_digits(new);
+    [b' ', a, b, c, b' ', x, y, z, b'\n']
+}
+
 /// Writes the line of two editions whose categories differ.
-#[tactic(auto, using(ax_outside::proofs::Pieces::pieces))]
 fn write_editions<K: Sink>(sink: &mut K, old: u8, new: u8) -> Result<(), SinkFailed>
     ensures { Wrote (sink_change K.Sink sink.old sink.new) result (lines_of (Outcome.OtherCategory old new)) }
 {
-    write_two(sink, b"refused editions ", &three_digits(old))?;
-    write_three(sink, b" ", &three_digits(new), b"\n")
+    write_two(sink, b"refused editions", &two_categories(old, new))
 }
 
 /// Writes the lines of the flaws of a file.

@@ -11,6 +11,8 @@ pub enum Verb {
     Check,
     /// `canon` and one or more SPEC.
     Canon,
+    /// `text` and one or more SPEC.
+    Text,
 }
 
 /// What the words ask for: a command with these arguments, over these files.
@@ -29,6 +31,8 @@ fn verb_of(word: &str) -> Option<Verb>
         Some(Verb::Check)
     } else if word == "canon" {
         Some(Verb::Canon)
+    } else if word == "text" {
+        Some(Verb::Text)
     } else {
         None
     }
@@ -40,7 +44,7 @@ fn takes_files(verb: Verb, count: usize) -> bool
 {
     match verb {
         Verb::Check => count == 1,
-        Verb::Canon => count > 0,
+        Verb::Canon | Verb::Text => count > 0,
     }
 }
 
@@ -49,7 +53,7 @@ fn arguments_of(verb: Verb) -> usize
     ensures { result ≡ arguments_of verb }
 {
     match verb {
-        Verb::Check | Verb::Canon => 0,
+        Verb::Check | Verb::Canon | Verb::Text => 0,
     }
 }
 

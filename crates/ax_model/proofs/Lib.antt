@@ -30,7 +30,6 @@ pub mod PathOctets
 pub mod PathTexts
 pub mod Places
 pub mod PrefixFree
-pub mod Reader
 pub mod RecordFitting
 pub mod RecordLaws
 pub mod Spelled

@@ -1,12 +1,12 @@
 -- A made-up block command: for each block, under no catalogue, a line with its category and a mark on the output. A block of
 -- category 255 is refused for its length.
 use Rattle.std.specs.Prelude.{ℕ, List, [], ◌++◌, codes, if◌then◌else◌, ◌==◌}
-use Rattle.ax_command.specs.Lines.{category_text}
+use Rattle.ax_model.specs.Paths.{three_digits}
 use Rattle.ax_model.specs.CanonicalOctets.{category_of}
 use Rattle.ax_stream.specs.Commands.{BlockAnswer, BlockCommand, gives, too_long}
 
 abbrev pub category_line : ℕ → List ℕ
-category_line category = category_text category ++ codes "\n"
+category_line category = three_digits category ++ codes "\n"
 
 abbrev pub answer_to : List ℕ → ℕ → BlockAnswer
 answer_to mark category = if category == 255 then too_long 70000 else gives (category_line category) mark

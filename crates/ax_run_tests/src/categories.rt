@@ -5,8 +5,7 @@ ghost use Rattle.ax_outside.specs.Changes.{Wrote, sink_change};
 ghost use Rattle.ax_run_tests.specs.Categories.{category_command, category_line};
 
 use crate::world::left_of;
-use ax_command::three_digits;
-use ax_model::RawBlock;
+use ax_model::{RawBlock, category_digits};
 use ax_outside::{MemSink, MemSource, Sink, SinkFailed, write_text};
 use ax_samples::octets;
 use ax_stream::{BlockWork, StreamEnd, WorkStop, run_blocks};
@@ -19,7 +18,7 @@ const TOO_MANY: u32 = 70_000;
 fn category_line(category: u8) -> [u8; 4]
     ensures { result ≡ category_line category }
 {
-    let [hundreds, tens, ones] = three_digits(category);
+    let [hundreds, tens, ones] = category_digits(category);
     [hundreds, tens, ones, b'\n']
 }
 

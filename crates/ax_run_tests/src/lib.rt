@@ -11,4 +11,6 @@ mod checking;
 #[cfg(test)]
 mod outside;
 #[cfg(test)]
+mod texts;
+#[cfg(test)]
 mod world;

@@ -30,12 +30,12 @@ pub mod PathOctets
 pub mod PathTexts
 pub mod Places
 pub mod PrefixFree
-pub mod Reader
 pub mod RecordFitting
 pub mod RecordLaws
 pub mod Spelled
 pub mod SpelledBits
 pub mod Stays
 pub mod StreamsApart
+pub mod VariantTrees
 pub mod WholeOctets
 pub mod WorkedExamples

@@ -26,6 +26,7 @@ pub mod Placed
 pub mod Places
 pub mod Plain
 pub mod Presence
+pub mod Reader
 pub mod Same
 pub mod Shape
 pub mod Shared

@@ -37,6 +37,7 @@ pub use content::{Content, Scale, Sign, TableText, TableTexts};
 pub use fault::{BodyCause, BodyFault};
 pub use flaw::{Flaw, FlawKind, Flaws};
 pub use kind::{Fixed, Kind, Member, Members, Part, Parts, Slot, Slots};
+pub use lookup::subitem_kind;
 pub use name::Name;
 pub use naming::{find_frn, find_in_parts, find_member, find_slot};
 pub use path::Path;

@@ -1,10 +1,34 @@
-//! Items by name and by field reference number.
+//! Items by name and by field reference number, and kinds by slot number.
 ghost use Rattle.std.specs.Prelude.{◌≡◌, Some};
-ghost use Rattle.std.specs.Option.{option_copied};
+ghost use Rattle.std.specs.Option.{option_copied, option_map};
+ghost use Rattle.ax_model.specs.Lengths.{kind_of_slot, slot_kind};
 ghost use Rattle.ax_model.specs.Lookup.{item_named, item_of_slot, item_of_frn};
+ghost use Rattle.ax_model.specs.Plain.{kind_tree, slot_tree, slots_tree};
 
+use crate::kind::{Kind, Slot, Slots};
 use crate::name::Name;
 use crate::spec::{Item, Spec, UapSlot};
+
+/// The kind of a slot. None comes exactly where the slot is spare.
+fn kind_in(slot: &Slot) -> Option<&Kind>
+    ensures { option_map kind_tree (option_copied result) ≡ kind_of_slot (slot_tree slot.now) }
+{
+    match slot {
+        Slot::Spare => None,
+        Slot::Sub { kind, .. } => Some(kind),
+    }
+}
+
+/// The kind of the slot of that number, from 1. None comes exactly where there is no such slot or it is spare.
+#[tactic(auto, using(crate::proofs::Counting::kinds))]
+pub fn subitem_kind(slots: &Slots, number: u32) -> Option<&Kind>
+    ensures { option_map kind_tree (option_copied result) ≡ slot_kind (slots_tree slots.now) number }
+{
+    if number == 0 {
+        return None;
+    }
+    kind_in(slots.get(number - 1)?)
+}
 
 impl Spec {
     /// The first item of that name. None comes exactly where there is none. Looks at each item before it.

@@ -62,7 +62,7 @@ fn read_text(
     Ok(line)
 }
 
-/// The line of a block whose category has no specification: its category and its octets behind LEN.
+/// The line of a block whose category has no specification: its category and its octets after LEN.
 #[tactic(auto, using(crate::proofs::BlockWays::opaque_ways))]
 pub fn opaque_text(alloc: Global, category: u8, octets: &[u8]) -> Result<Vec<u8>, AllocError>
     ensures { IfOk result (λ line. line.items ≡ OpaqueLine category octets.now) }

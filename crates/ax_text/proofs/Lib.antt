@@ -10,3 +10,7 @@ pub mod BlockWays
 pub mod BlocksOnce
 pub mod WordTokens
 pub mod Nesting
+pub mod Pieces
+pub mod Divisors
+pub mod RemarkWays
+pub mod ListedFixed

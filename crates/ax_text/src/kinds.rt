@@ -134,7 +134,7 @@ impl Printer {
 
 /// The slot of that number, from 1. None comes exactly where there is no such slot.
 #[tactic(auto, using(crate::proofs::EntryWays::slot_found))]
-fn slot_of(slots: &Slots, number: u32) -> Option<&Slot>
+pub(crate) fn slot_of(slots: &Slots, number: u32) -> Option<&Slot>
     ensures { or_spare (option_map slot_tree (option_copied result)) ≡ slot_numbered (slots_tree slots.now) number }
 {
     if number == 0 {

@@ -97,12 +97,12 @@ entries_first form all one m ss es out h = record {
   left = record { left_after = λ rest. ap (λ t. out ++ form t) (sym (entries_same all one m (slot_numbered ss) 1 ss (entries_tree es) rest (numbered ss) h)) };
 }
 
-entry_first : (e : Entry) (es : List Entry) → entries_tree (e ∷ es) ≡ entry_and e.slot (value_tree e.value) (entries_tree es)
-entry_first e es = entries_split e (e ∷ es) es refl
+pub entry_tree_first : (e : Entry) (es : List Entry) → entries_tree (e ∷ es) ≡ entry_and e.slot (value_tree e.value) (entries_tree es)
+entry_tree_first e es = entries_split e (e ∷ es) es refl
 
 -- the tree of the entries from a place on
 from_entry : (all : List Entry) (i : ℕ) (e : Entry) → i < length all → e ≡ get_or all i e → entries_tree (drop i all) ≡ entry_and e.slot (value_tree e.value) (entries_tree (drop (i + 1) all))
-from_entry all i e lt is = ap entries_tree (from_place all i e lt is) ∙ entry_first e (drop (i + 1) all)
+from_entry all i e lt is = ap entries_tree (from_place all i e lt is) ∙ entry_tree_first e (drop (i + 1) all)
 
 module _ (form : Texts → List ℕ) (one : OfSlot) (ss : SlotsTree) (whole : Texts → Texts) where
   pub entry_shape : (old now : List ℕ) (all : List Entry) (i : ℕ) (e : Entry) → EntriesLeft form one ss whole old now (drop i all) → i < length all → e ≡ get_or all i e → SlotShape (slot_numbered ss e.slot) (value_tree e.value)

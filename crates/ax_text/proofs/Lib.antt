@@ -14,3 +14,7 @@ pub mod Pieces
 pub mod Divisors
 pub mod RemarkWays
 pub mod ListedFixed
+pub mod ListedKinds
+pub mod ListedRecords
+pub mod ShowWays
+pub mod Listables

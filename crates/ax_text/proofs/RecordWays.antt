@@ -69,7 +69,7 @@ pub slot_of_frn : (spec : Spec) (frn : ℕ) → slot_numbered (record_slots (spe
 slot_of_frn spec zero = refl
 slot_of_frn spec (suc i) = tree_at spec.items spec.uap i
 
-found : (spec : Spec) (frn : ℕ) (item : Item) → Some item ≡ item_of_frn frn spec.uap spec.items → slot_numbered (record_slots (spec_tree spec)) frn ≡ subitem item.name (kind_tree item.kind)
+pub found : (spec : Spec) (frn : ℕ) (item : Item) → Some item ≡ item_of_frn frn spec.uap spec.items → slot_numbered (record_slots (spec_tree spec)) frn ≡ subitem item.name (kind_tree item.kind)
 found spec frn item e = slot_of_frn spec frn ∙ ap (λ o. slot_of_item (option_map item_tree o)) (sym e)
 
 pub item_shape : (spec : Spec) (frn : ℕ) (item : Item) (v : ValueTree) → Some item ≡ item_of_frn frn spec.uap spec.items → SlotShape (slot_numbered (record_slots (spec_tree spec)) frn) v → Shape (kind_tree item.kind) v

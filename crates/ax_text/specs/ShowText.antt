@@ -27,26 +27,26 @@ content_line path octets = path ++ codes " octets " ++ hex_text octets
 
 abbrev mutual
   -- an element is its number and what that means; a group is its members
-  pub fixed_lines : List ℕ → FixedTree → ValueTree → Texts → Texts
-  fixed_lines path (element w c) (number n) rest = (number_line path n ++ remark w c n) ∷ rest
-  fixed_lines path (group ms) (member_values vs) rest = members_lines path ms vs rest
-  fixed_lines path _ _ rest = rest
+  pub fixed_lines : FixedTree → List ℕ → ValueTree → Texts → Texts
+  fixed_lines (element w c) path (number n) rest = (number_line path n ++ remark w c n) ∷ rest
+  fixed_lines (group ms) path (member_values vs) rest = members_lines ms path vs rest
+  fixed_lines _ path _ rest = rest
 
-  pub member_lines : List ℕ → MemberTree → ValueTree → Texts → Texts
-  member_lines path (named name f) v rest = fixed_lines (at path name) f v rest
-  member_lines path (spare w) (number n) rest = number_line (at path (codes "spare")) n ∷ rest
-  member_lines path _ _ rest = rest
+  pub member_lines : MemberTree → List ℕ → ValueTree → Texts → Texts
+  member_lines (named name f) path v rest = fixed_lines f (at path name) v rest
+  member_lines (spare w) path (number n) rest = number_line (at path (codes "spare")) n ∷ rest
+  member_lines _ path _ rest = rest
 
-  pub members_lines : List ℕ → MembersTree → ValuesTree → Texts → Texts
-  members_lines path (member_and m ms) (value_and v vs) rest = member_lines path m v (members_lines path ms vs rest)
-  members_lines path _ _ rest = rest
+  pub members_lines : MembersTree → List ℕ → ValuesTree → Texts → Texts
+  members_lines (member_and m ms) path (value_and v vs) rest = member_lines m path v (members_lines ms path vs rest)
+  members_lines _ path _ rest = rest
 
 -- ---- kinds
 
 -- the members of the parts that are present
-abbrev pub parts_lines : List ℕ → List MembersTree → ListsTree → Texts → Texts
-parts_lines path (p ∷ ps) (list_and vs ls) rest = members_lines path p vs (parts_lines path ps ls rest)
-parts_lines path _ _ rest = rest
+abbrev pub parts_lines : List MembersTree → List ℕ → ListsTree → Texts → Texts
+parts_lines (p ∷ ps) path (list_and vs ls) rest = members_lines p path vs (parts_lines ps path ls rest)
+parts_lines _ path _ rest = rest
 
 -- the path of an occurrence, which is numbered from 0
 abbrev pub occurrence : List ℕ → ℕ → List ℕ
@@ -62,14 +62,14 @@ entry_count no_entries = 0
 entry_count (entry_and t v es) = entry_count es + 1
 
 abbrev mutual
-  pub kind_lines : List ℕ → KindTree → ValueTree → Texts → Texts
-  kind_lines path (fixed f) v rest = fixed_lines path f v rest
-  kind_lines path (extended ps) (part_values ls) rest = count_line path (codes "parts") (list_count ls) ∷ parts_lines path ps ls rest
-  kind_lines path (counted k) (occurrences vs) rest = count_line path (codes "occurrences") (value_count vs) ∷ each_lines (λ inner v. kind_lines inner k v) path 0 vs rest
-  kind_lines path (by_fx f) (occurrences vs) rest = count_line path (codes "occurrences") (value_count vs) ∷ each_lines (λ inner v. fixed_lines inner f v) path 0 vs rest
-  kind_lines path explicit (content_octets xs) rest = content_line path xs ∷ rest
-  kind_lines path (compound ss) (marked es) rest = count_line path (codes "subitems") (entry_count es) ∷ entries_lines path 1 ss es rest
-  kind_lines path _ _ rest = rest
+  pub kind_lines : KindTree → List ℕ → ValueTree → Texts → Texts
+  kind_lines (fixed f) path v rest = fixed_lines f path v rest
+  kind_lines (extended ps) path (part_values ls) rest = count_line path (codes "parts") (list_count ls) ∷ parts_lines ps path ls rest
+  kind_lines (counted k) path (occurrences vs) rest = count_line path (codes "occurrences") (value_count vs) ∷ each_lines (kind_lines k) path 0 vs rest
+  kind_lines (by_fx f) path (occurrences vs) rest = count_line path (codes "occurrences") (value_count vs) ∷ each_lines (fixed_lines f) path 0 vs rest
+  kind_lines explicit path (content_octets xs) rest = content_line path xs ∷ rest
+  kind_lines (compound ss) path (marked es) rest = count_line path (codes "subitems") (entry_count es) ∷ entries_lines path 1 ss es rest
+  kind_lines _ path _ rest = rest
 
   -- each entry at the path of its slot's name; the first of these slots has the number s
   pub entries_lines : List ℕ → ℕ → SlotsTree → EntriesTree → Texts → Texts
@@ -77,7 +77,7 @@ abbrev mutual
   entries_lines path s (slot_and spare_slot ss) es rest = entries_lines path (s + 1) ss es rest
   entries_lines path s (slot_and (subitem name k) ss) no_entries rest = entries_lines path (s + 1) ss no_entries rest
   entries_lines path s (slot_and (subitem name k) ss) (entry_and t v es) rest =
-      if t == s then kind_lines (at path name) k v (entries_lines path (s + 1) ss es rest) else entries_lines path (s + 1) ss (entry_and t v es) rest
+      if t == s then kind_lines k (at path name) v (entries_lines path (s + 1) ss es rest) else entries_lines path (s + 1) ss (entry_and t v es) rest
 
 -- ---- records and blocks
 

@@ -37,4 +37,4 @@ slot_onto (subitem name k) v rest = name ∷ kind_onto k v rest
 -- the value at the path of the slot's name
 abbrev pub slot_lines : List ℕ → SlotTree → ValueTree → Texts → Texts
 slot_lines path spare_slot v rest = rest
-slot_lines path (subitem name k) v rest = kind_lines (at path name) k v rest
+slot_lines path (subitem name k) v rest = kind_lines k (at path name) v rest

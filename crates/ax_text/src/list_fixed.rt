@@ -54,7 +54,7 @@ impl Lister {
     ) -> Result<(), AllocError>
         requires listable { FixedListable (fixed_tree fixed.now) }
         requires shape { FixedShape (fixed_tree fixed.now) (value_tree value.now) }
-        ensures { OnOk result (Puts as_lines (fixed_lines path.now (fixed_tree fixed.now) (value_tree value.now)) self.old.out.items self.new.out.items) }
+        ensures { OnOk result (Puts as_lines (fixed_lines (fixed_tree fixed.now) path.now (value_tree value.now)) self.old.out.items self.new.out.items) }
     {
         match (value, fixed) {
             (Value::Number(number), Fixed::Element { width, content }) => {
@@ -69,7 +69,7 @@ impl Lister {
     fn member(&mut self, value: &Value, member: &Member, path: &[u8]) -> Result<(), AllocError>
         requires listable { MemberListable (member_tree member.now) }
         requires shape { MemberShape (member_tree member.now) (value_tree value.now) }
-        ensures { OnOk result (Puts as_lines (member_lines path.now (member_tree member.now) (value_tree value.now)) self.old.out.items self.new.out.items) }
+        ensures { OnOk result (Puts as_lines (member_lines (member_tree member.now) path.now (value_tree value.now)) self.old.out.items self.new.out.items) }
     {
         match (value, member) {
             (value, Member::Named { name, fixed }) => {
@@ -97,7 +97,7 @@ impl Lister {
     ) -> Result<(), AllocError>
         requires listable { MembersListable (members_tree members.now) }
         requires shape { MembersShape (members_tree members.now) (values_tree values.now) }
-        ensures { OnOk result (Puts as_lines (members_lines path.now (members_tree members.now) (values_tree values.now)) self.old.out.items self.new.out.items) }
+        ensures { OnOk result (Puts as_lines (members_lines (members_tree members.now) path.now (values_tree values.now)) self.old.out.items self.new.out.items) }
     {
         for (member, value) in members.as_slice().iter().zip(values.as_slice()) {
             self.member(value, member, path)?;

@@ -18,21 +18,21 @@ use Rattle.ax_text.specs.Names.{ItemNamed, KindNamed, SlotsNamed, IsNamed}
 
 -- ---- lists of flaws
 
-both_empty : {A : Type 0} (a b : List A) → a ++ b ≡ [] → (a ≡ []) × (b ≡ [])
+pub both_empty : {A : Type 0} (a b : List A) → a ++ b ≡ [] → (a ≡ []) × (b ≡ [])
 both_empty [] b e = (refl, e)
 both_empty (x ∷ a) b e = cc
 
-three_empty : {A : Type 0} (a b c : List A) → a ++ b ++ c ≡ [] → (a ≡ []) × (b ≡ []) × (c ≡ [])
+pub three_empty : {A : Type 0} (a b c : List A) → a ++ b ++ c ≡ [] → (a ≡ []) × (b ≡ []) × (c ≡ [])
 three_empty a b c e =
     let t = both_empty (a ++ b) c e in
     let u = both_empty a b t.0 in (u.0, u.1, t.1)
 
-four_empty : {A : Type 0} (a b c d : List A) → a ++ b ++ c ++ d ≡ [] → (a ≡ []) × (b ≡ []) × (c ≡ []) × (d ≡ [])
+pub four_empty : {A : Type 0} (a b c d : List A) → a ++ b ++ c ++ d ≡ [] → (a ≡ []) × (b ≡ []) × (c ≡ []) × (d ≡ [])
 four_empty a b c d e =
     let t = both_empty (a ++ b ++ c) d e in
     let u = three_empty a b c t.0 in (u.0, u.1, u.2, t.1)
 
-holds_not : (b : Bool) (kind : FlawKind) (path : List ℕ) → flaw_where b kind path ≡ [] → b ≡ true → ⊥
+pub holds_not : (b : Bool) (kind : FlawKind) (path : List ℕ) → flaw_where b kind path ≡ [] → b ≡ true → ⊥
 holds_not true kind path e f = cc
 holds_not false kind path e f = cc
 
@@ -173,7 +173,7 @@ uap_named items (Uap.Item name ∷ uap) g = and_named (slot_of_item (first_named
 
 -- ---- records
 
-flaws_parts : (spec : SpecTree) → NoFlaw spec → (items_flaws (three_digits spec.category) [] spec.items ≡ []) × (uap_flaws (at (three_digits spec.category) (codes "uap")) spec.items [] spec.uap ≡ [])
+pub flaws_parts : (spec : SpecTree) → NoFlaw spec → (items_flaws (three_digits spec.category) [] spec.items ≡ []) × (uap_flaws (at (three_digits spec.category) (codes "uap")) spec.items [] spec.uap ≡ [])
 flaws_parts spec h =
     let path = three_digits spec.category in
     let place = at path (codes "uap") in

@@ -14,9 +14,6 @@ one_bit k h = one_shl k 128 h
 pub bit_bound : (k : ℕ) → k < 128 → 2 ^ k ≤ 2 ^ 127
 bit_bound k h = let e : k ≤ 127 = omega arith in pow-le-pow_right (lit< tt) e
 
-pub two_halves : (w : ℕ) → 1 ≤ w → 2 ^ w ≡ 2 ^ (w - 1) + 2 ^ (w - 1)
-two_halves w h = let e : w ≡ suc (w - 1) = omega arith in ap (λ k. 2 ^ k) e ∙ twice (w - 1)
-
 -- what a mask of k ones leaves, and what a shift makes room for
 pub mask_low : (n k : ℕ) → k ≤ 8 → bit_and n (1 * 2 ^ k % 2 ^ 128 - 1) ≡ n % 2 ^ k
 mask_low n k h =

@@ -59,12 +59,3 @@ append-AreBits (x ∷ a) b p q = (p.0, append-AreBits a b p.1 q)
 pub bits-AreBits : (xs : List ℕ) → AreBits (bits xs)
 bits-AreBits [] = tt
 bits-AreBits (x ∷ xs) = append-AreBits (word 8 x) (bits xs) (word-AreBits 8 x) (bits-AreBits xs)
-
--- some number is spelled by whole octets
-pub some_number : (xs : List ℕ) → (n : ℕ) × (n < 2 ^ (8 * length xs)) × (bits xs ≡ word (8 * length xs) n)
-some_number xs =
-    let e : length (bits xs) ≡ 8 * length xs = length-bits xs in (
-      number_of (bits xs),
-      (let P : ℕ → Type 0 = λ k. number_of (bits xs) < 2 ^ k in subst P e (number_below (bits xs) (bits-AreBits xs))),
-      sym (word-number (bits xs) (bits-AreBits xs)) ∙ ap (λ k. word k (number_of (bits xs))) e,
-    )

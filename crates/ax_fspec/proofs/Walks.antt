@@ -38,10 +38,3 @@ pub no_next_slot : (s : ℕ) (marks : List ℕ) → slots_from s marks ≡ [] �
 no_next_slot s [] e = refl
 no_next_slot s (zero ∷ marks) e = no_next_slot (s + 1) marks e
 no_next_slot s (suc m ∷ marks) e = cc
-
--- the mark of a slot, as definitions that go along slots and marks name it
-pub mark_after : (n : ℕ) (marks : List ℕ) → first_mark (marks_after n marks) ≡ get_or marks n 0
-mark_after zero [] = refl
-mark_after zero (m ∷ marks) = refl
-mark_after (suc n) [] = mark_after n []
-mark_after (suc n) (m ∷ marks) = mark_after n marks

@@ -186,11 +186,6 @@ room value i h lt =
     let few : 10 ^ i ≤ 10 ^ 17 = pow-le-pow_right (lit< tt) le in
     omega (arith, few, h)
 
-pub bound_more : (value digit i : ℕ) → value < 10 ^ i → digit ≤ 9 → 10 * value + digit < 10 ^ (i + 1)
-bound_more value digit i h le =
-    let e : 10 ^ (i + 1) ≡ 10 ^ i * 10 = ap (λ n. 10 ^ n) (add-one i) ∙ pow-suc 10 i in
-    omega (arith, e, h)
-
 pub bound_most : (value n most : ℕ) → value < 10 ^ n → n ≤ most → value < 10 ^ most
 bound_most value n most h le =
     let more : 10 ^ n ≤ 10 ^ most = pow-le-pow_right (lit< tt) le in

@@ -1,6 +1,6 @@
 -- The laws of presence fields.
-use Rattle.std.proofs.Common.{◌≡◌, inl, inr, ℕ, zero, suc, ◌+◌, ◌-◌, ◌*◌, ◌%◌, ◌<◌, ◌≤◌, Bool, true, false, cond, IsTrue, List, [], ◌∷◌, ◌++◌, length, take, drop, set, replicate, refl, sym, ◌∙◌, ap, arith, subst, length-append, length-take, length-drop}
-use Rattle.std.proofs.lemmas.List.{drop-set-lt, length-set, length-replicate, drop-drop, append_cancel_right, take-append-drop, length-take-le}
+use Rattle.std.proofs.Common.{◌≡◌, inl, inr, ℕ, zero, suc, ◌+◌, ◌-◌, ◌*◌, ◌%◌, ◌≤◌, Bool, true, false, cond, IsTrue, List, [], ◌∷◌, ◌++◌, length, take, drop, set, replicate, refl, sym, ◌∙◌, ap, arith, subst, length-append, length-take, length-drop}
+use Rattle.std.proofs.lemmas.List.{drop-drop, append_cancel_right, take-append-drop, length-take-le}
 use Rattle.std.proofs.Math.Seq.{take-add}
 use Rattle.ax_bits.specs.Bits.{AreBits, bits}
 use Rattle.ax_bits.proofs.Words.{length-bits}
@@ -282,13 +282,6 @@ least_field_of n marked some few none =
     ∙ least_alike k marked (take n marked) (alike_front n marked none)
 
 -- ---- sets
-
-bits_none : (n : ℕ) → AreBits (replicate n 0)
-bits_none zero = tt
-bits_none (suc n) = (omega arith, bits_none n)
-
-unfolding no_marks
-AreMarks-none = record { size = length-replicate {A = ℕ} 126 0; each = bits_none 126 }
 
 pub none_behind_none : (n : ℕ) → IsTrue (none_marked (drop n no_marks))
 none_behind_none n = none_further 0 n no_marks (omega arith) none_of_no_marks

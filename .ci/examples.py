@@ -13,8 +13,8 @@ import tempfile
 
 TOP = pathlib.Path(__file__).resolve().parent.parent
 PAGES = ("README.md", "samples/README.md", "docs/CATEGORY-FILES.md")
-# Seconds. The first call of the launcher may have to build the program.
-LIMIT = 1800
+# Seconds for the launcher to build the program, and for the examples of a page.
+BUILDING, RUNNING = 1800, 60
 # What the shell prints after each example.
 MARK = "asterix-example-ends-here"
 
@@ -61,7 +61,7 @@ def printed(examples, room):
         stdin=subprocess.DEVNULL,
         stdout=subprocess.PIPE,
         stderr=subprocess.STDOUT,
-        timeout=LIMIT,
+        timeout=RUNNING,
     )
     return done.stdout.decode(errors="backslashreplace").split(f"{MARK}\n")
 
@@ -83,7 +83,18 @@ def run(page):
     return len(examples), wrong
 
 
+def is_built():
+    """Has the launcher build the program where it isn't built, so that no example prints what is said of that."""
+    ended = subprocess.run([TOP / "asterix"], stdin=subprocess.DEVNULL, stderr=subprocess.PIPE, timeout=BUILDING)
+    if ended.returncode != 1:
+        sys.stderr.buffer.write(ended.stderr)
+    return ended.returncode == 1
+
+
 def main():
+    if not is_built():
+        print("checks: the program without words didn't end with status 1", file=sys.stderr)
+        return 1
     failed = 0
     for page in PAGES:
         count, wrong = run(page)

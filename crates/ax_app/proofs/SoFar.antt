@@ -7,7 +7,7 @@ use Rattle.ax_command.specs.declared.outcome.Outcome.{Outcome}
 use Rattle.ax_command.specs.declared.outcome.Outcome.TheVariants.{Usage}
 use Rattle.ax_command.specs.declared.outcome.Refusal.{Refusal}
 use Rattle.ax_command.specs.declared.words.Verb.{Verb}
-use Rattle.ax_command.specs.declared.words.Verb.TheVariants.{Check, Canon, Text}
+use Rattle.ax_command.specs.declared.words.Verb.TheVariants.{Check, Canon, Show, Text}
 use Rattle.ax_load.specs.declared.fault.LoadStop.{LoadStop}
 use Rattle.ax_load.specs.declared.fault.LoadStop.TheVariants as LoadStopOf
 use Rattle.ax_model.specs.Blocks.{BlockTree}
@@ -56,11 +56,13 @@ silent_is_plain c end s h = record {
 plain_end : (verb : Verb) (arguments : List (List ℕ)) (specs : List SpecTree) (job : Job) (i : SourceChange) (o r : SinkChange) (end : StreamEnd) → IsJob verb arguments specs job → JobRuns job i o r end → IsPlainEnd end
 plain_end Check arguments specs job i o r end is h = text_is_plain _ o end (subst (λ j. JobRuns j i o r end) is.is h).ends
 plain_end Canon arguments specs job i o r end is h = silent_is_plain _ end (record { octets = _; answer = λ number block. refl }) (subst (λ j. JobRuns j i o r end) is h).licensed
+plain_end Show arguments specs job i o r end is h = silent_is_plain _ end (record { octets = _; answer = λ number block. refl }) (subst (λ j. JobRuns j i o r end) is h).licensed
 plain_end Text arguments specs job i o r end is h = silent_is_plain _ end (record { octets = _; answer = λ number block. refl }) (subst (λ j. JobRuns j i o r end) is h).licensed
 
 never_refuses : (verb : Verb) (arguments : List (List ℕ)) (specs : List SpecTree) (refusal : Refusal) → IsJob verb arguments specs (refuses refusal) → ⊥
 never_refuses Check arguments specs refusal h = let e = h.is in absurd (cc)
 never_refuses Canon arguments specs refusal h = absurd (cc)
+never_refuses Show arguments specs refusal h = absurd (cc)
 never_refuses Text arguments specs refusal h = absurd (cc)
 
 -- ---- outcomes

@@ -146,14 +146,14 @@ impl Lister {
         ensures { OnOk result (Puts as_lines (entries_lines path.now 1 (slots_tree slots.now) (entries_tree entries.now)) self.old.out.items self.new.out.items) }
     {
         for entry in entries.as_slice() {
-            self.entry_of(entry, slots, path)?;
+            self.entry(entry, slots, path)?;
         }
         Ok(())
     }
 
     #[cycle(list_kind)]
     #[tactic(auto, using(crate::proofs::ListedKinds::entry_ways))]
-    fn entry_of(&mut self, entry: &Entry, slots: &Slots, path: &[u8]) -> Result<(), AllocError>
+    fn entry(&mut self, entry: &Entry, slots: &Slots, path: &[u8]) -> Result<(), AllocError>
         requires listable { SlotListable (slot_numbered (slots_tree slots.now) entry.now.slot) }
         requires shape { SlotShape (slot_numbered (slots_tree slots.now) entry.now.slot) (value_tree entry.now.value) }
         ensures { OnOk result (Puts as_lines (slot_lines path.now (slot_numbered (slots_tree slots.now) entry.now.slot) (value_tree entry.now.value)) self.old.out.items self.new.out.items) }

@@ -1,10 +1,10 @@
 -- The records of a specification without flaw can be read back.
-use Rattle.std.proofs.Common.{◌≡◌, ℕ, suc, ◌+◌, ◌<◌, ◌≤◌, ◌==◌, nat_lt, Bool, true, false, ◌||◌, List, [], ◌∷◌, ◌++◌, length, map, bytes_eq, cond, Option, Some, None, is_some, refl, sym, ◌∙◌, ap, arith, subst, codes}
-use Rattle.std.specs.List.{AllByRecursion, find, list_any}
+use Rattle.std.proofs.Common.{◌≡◌, ℕ, ◌==◌, nat_lt, Bool, true, false, ◌||◌, List, [], ◌∷◌, ◌++◌, length, map, bytes_eq, cond, Option, Some, None, is_some, refl, sym, ◌∙◌, ap, arith, subst, codes}
+use Rattle.std.specs.List.{AllByRecursion}
 use Rattle.std.proofs.lemmas.Slice.Eq.{bytes_eq-Decides}
 use Rattle.ax_model.proofs.Bounds.{kind_bounds}
 use Rattle.ax_model.specs.Characters.{IsName}
-use Rattle.ax_model.specs.Flaws.{flaw_where, is_among, fixed_flaws, members_flaws, parts_flaws, kind_flaws, slots_flaws, items_flaws, uap_flaws, NoFlaw}
+use Rattle.ax_model.specs.Flaws.{flaw_where, is_among, kind_flaws, slots_flaws, items_flaws, uap_flaws, NoFlaw}
 use Rattle.ax_model.specs.Paths.{at, three_digits}
 use Rattle.ax_model.specs.InBounds.{FixedInBounds, MembersInBounds, PartInBounds, InBounds, SlotsInBounds}
 use Rattle.ax_model.specs.Specification.{ItemTree, SpecTree, first_named, slot_of_item, uap_slot, record_slots}

@@ -1,15 +1,15 @@
 -- The ways out of the functions that print records.
-use Rattle.std.proofs.Common.{◌≡◌, ℕ, ◌+◌, ◌<◌, ◌≤◌, List, [], ◌∷◌, length, drop, get_or, zero, suc, map, codes, slice_get, Option, Some, None, refl, sym, ◌∙◌, ap, subst, arith}
+use Rattle.std.proofs.Common.{◌≡◌, ℕ, ◌+◌, ◌<◌, ◌≤◌, List, [], ◌∷◌, length, drop, get_or, zero, suc, map, codes, slice_get, Some, None, refl, sym, ◌∙◌, ap, subst}
 use Rattle.std.proofs.lemmas.List.{drop_all}
 use Rattle.std.specs.List.{AllByRecursion}
 use Rattle.std.specs.Option.{option_map}
 use Rattle.ax_model.proofs.Lookups.{uap_slot_tree}
 use Rattle.ax_model.specs.Bodies.{RecordShape}
 use Rattle.ax_model.specs.Lookup.{item_of_slot, item_of_frn}
-use Rattle.ax_model.specs.Plain.{item_tree, kind_tree, spec_tree, value_tree, record_tree, records_tree}
+use Rattle.ax_model.specs.Plain.{item_tree, kind_tree, spec_tree, record_tree, records_tree}
 use Rattle.ax_model.specs.Shape.{Shape, EntriesShape}
 use Rattle.ax_model.specs.Specification.{SpecTree, slot_of_item, uap_slot, record_slots}
-use Rattle.ax_model.specs.Tree.{SlotTree, slots_of, subitem, spare_slot, ValueTree, EntriesTree}
+use Rattle.ax_model.specs.Tree.{slots_of, subitem, ValueTree, EntriesTree}
 use Rattle.ax_model.specs.declared.record.Record.{Record}
 use Rattle.ax_model.specs.declared.spec.Item.{Item}
 use Rattle.ax_model.specs.declared.spec.Spec.{Spec}

@@ -25,6 +25,6 @@ small = record {
 
 abbrev pub small_block : BlockTree
 small_block = read_block 7 (
-  entries_of ((1, member_values (values_of (number 62 ∷ number 3 ∷ []))) ∷ (2, part_values (lists_of ((number 5 ∷ []) ∷ (number 127 ∷ []) ∷ []))) ∷ [])
-  ∷ entries_of ((4, occurrences (values_of (number 5 ∷ number 6 ∷ []))) ∷ (5, marked (entries_of ((2, occurrences (values_of (number 9 ∷ []))) ∷ []))) ∷ [])
-  ∷ entries_of [] ∷ [])
+    entries_of ((1, member_values (values_of (number 62 ∷ number 3 ∷ []))) ∷ (2, part_values (lists_of ((number 5 ∷ []) ∷ (number 127 ∷ []) ∷ []))) ∷ [])
+    ∷ entries_of ((4, occurrences (values_of (number 5 ∷ number 6 ∷ []))) ∷ (5, marked (entries_of ((2, occurrences (values_of (number 9 ∷ []))) ∷ []))) ∷ [])
+    ∷ entries_of [] ∷ [])

@@ -68,12 +68,7 @@ impl Lister {
 
     /// The value of an item, a subitem or an occurrence.
     #[cycle(list_kind)]
-    pub(crate) fn kind(
-        &mut self,
-        value: &Value,
-        kind: &Kind,
-        path: &[u8],
-    ) -> Result<(), AllocError>
+    pub(crate) fn kind(&mut self, value: &Value, kind: &Kind, path: &[u8]) -> Result<(), AllocError>
         requires listable { KindListable (kind_tree kind.now) }
         requires shape { Shape (kind_tree kind.now) (value_tree value.now) }
         ensures { OnOk result (Puts as_lines (kind_lines (kind_tree kind.now) path.now (value_tree value.now)) self.old.out.items self.new.out.items) }
@@ -123,12 +118,7 @@ impl Lister {
     /// A compound: how many subitems are present, and each of them.
     #[cycle(list_kind)]
     #[tactic(auto, using(crate::proofs::ListedKinds::compound_ways))]
-    fn compound(
-        &mut self,
-        entries: &Entries,
-        slots: &Slots,
-        path: &[u8],
-    ) -> Result<(), AllocError>
+    fn compound(&mut self, entries: &Entries, slots: &Slots, path: &[u8]) -> Result<(), AllocError>
         requires listable { SlotsListable (slots_tree slots.now) }
         requires shape { EntriesShape 1 (slots_tree slots.now) (entries_tree entries.now) }
         ensures { OnOk result (Puts as_lines (kind_lines (compound (slots_tree slots.now)) path.now (marked (entries_tree entries.now))) self.old.out.items self.new.out.items) }

@@ -63,12 +63,7 @@ impl Lister {
 
     /// The characters of an element of so many bits.
     #[tactic(auto, using(crate::proofs::Pieces::pieces))]
-    fn characters(
-        &mut self,
-        number: u128,
-        width: u32,
-        alphabet: Alphabet,
-    ) -> Result<(), AllocError>
+    fn characters(&mut self, number: u128, width: u32, alphabet: Alphabet) -> Result<(), AllocError>
         requires { width ≤ 128 }
         ensures { OnOk result (self.new.out.items ≡ self.old.out.items ++ (codes " " ++ quoted (characters alphabet width number))) }
     {

@@ -27,7 +27,7 @@ use Rattle.ax_text.proofs.WordTokens.{decimal_word, name_word, category_word}
 use Rattle.ax_text.specs.BlockText.{BlockLine}
 use Rattle.ax_text.specs.Names.{FixedNamed, MembersNamed, KindNamed, SlotsNamed, ItemNamed, IsNamed}
 use Rattle.ax_text.specs.Tokens.{HoldsBlock, BlockTokens, fixed_nesting, members_nesting, parts_nesting, kind_nesting, slots_nesting, block_nesting}
-use Rattle.ax_text_laws.proofs.Passing.{Levels, levels, IsFlat, word_flat, Passes, none_passes, less_passes, flat_then, both_pass, block_passes}
+use Rattle.ax_text_laws.proofs.Passing.{Levels, levels, IsFlat, word_flat, Passes, none_passes, less_passes, flat_then, both_pass, flat_both, block_passes}
 
 -- ---- the texts of a list
 
@@ -88,7 +88,7 @@ mutual
   members_pass (member_and (named name f) ms) h =
       both_pass (name ∷ fixed_texts f) (members_texts ms) (fixed_nesting f) (members_nesting ms) (flat_then name (fixed_texts f) (fixed_nesting f) (word_flat name (name_word name h.0.0)) (fixed_passes f h.0.1)) (members_pass ms h.1)
   members_pass (member_and (spare width) ms) h =
-      both_pass (keyword_text Word.Spare ∷ decimal width ∷ []) (members_texts ms) 0 (members_nesting ms)
+      flat_both (keyword_text Word.Spare ∷ decimal width ∷ []) (members_texts ms) (members_nesting ms)
       (flat_then (keyword_text Word.Spare) (decimal width ∷ []) 0 (record { flat = λ level. refl }) (flat_one (decimal width) (number_flat width (omega (arith, h.0))))) (members_pass ms h.1)
 
 part_passes : (ms : MembersTree) → MembersInRange ms → Passes (part_texts ms) (1 + members_nesting ms)
@@ -137,7 +137,7 @@ mutual
 
   slots_pass : (ss : SlotsTree) → SlotsInRange ss → Passes (slots_texts ss) (slots_text_nesting ss)
   slots_pass no_slots h = none_passes
-  slots_pass (slot_and spare_slot ss) h = both_pass (keyword_text Word.Dash ∷ []) (slots_texts ss) 0 (slots_text_nesting ss) (flat_one (keyword_text Word.Dash) (record { flat = λ level. refl })) (slots_pass ss h.1)
+  slots_pass (slot_and spare_slot ss) h = flat_both (keyword_text Word.Dash ∷ []) (slots_texts ss) (slots_text_nesting ss) (flat_one (keyword_text Word.Dash) (record { flat = λ level. refl })) (slots_pass ss h.1)
   slots_pass (slot_and (subitem name k) ss) h =
       both_pass (name ∷ kind_texts k) (slots_texts ss) (text_nesting k) (slots_text_nesting ss) (flat_then name (kind_texts k) (text_nesting k) (word_flat name (name_word name h.0.0)) (kind_passes k h.0.1)) (slots_pass ss h.1)
 

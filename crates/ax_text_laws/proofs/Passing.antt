@@ -47,6 +47,10 @@ both_pass a b d e p q = record {
       let u = q.pass limit level more le t.1 in (omega (arith, t.0, u.0), u.1);
 }
 
+-- texts without a brace in front of others
+pub flat_both : (a b : List (List ℕ)) (e : ℕ) → Passes a 0 → Passes b e → Passes (a ++ b) e
+flat_both a b e p q = less_passes (a ++ b) (max 0 e) e (omega arith) (both_pass a b 0 e p q)
+
 braces_pass : (texts : List (List ℕ)) (d : ℕ) → Passes texts d → Passes (keyword_text Word.Open ∷ closed texts) (1 + d)
 braces_pass texts d p = record {
   pass = λ limit level more le h.

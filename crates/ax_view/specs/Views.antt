@@ -1,5 +1,5 @@
 -- What a scanned body is.
-use Rattle.std.specs.Prelude.{◌≡◌, ℕ, Bool, IsTrue, List, length}
+use Rattle.std.specs.Prelude.{◌≡◌, ℕ, Bool, IsTrue, List}
 use Rattle.std.specs.Coded.{Coded-set, coded_ℕ, coded_list}
 use Rattle.ax_bits.specs.Bits.{bits}
 use Rattle.ax_model.specs.Bodies.{SpellsBody, FailsBody, CanonBody}

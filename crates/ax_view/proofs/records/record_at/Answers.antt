@@ -1,4 +1,3 @@
-use Rattle.std.proofs.Common.{◌≡◌, ◌≤◌, length}
 use Rattle.ax_view.proofs.RecordSteps.{record_here, record_one}
 use Rattle.ax_view.proofs.records.record_at.Goals as goal
 

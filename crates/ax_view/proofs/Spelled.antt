@@ -34,6 +34,10 @@ pub all_spelled : (k : KindTree) (xs : List ℕ) → InBounds k → (r : Read Va
 all_spelled k xs bounds (got v n y) e h = spelled_by_reading k v (bits xs) n (bounds_sound k bounds) (bits-AreBits xs) (e ∙ ap (λ y. got v n y) h)
 all_spelled k xs bounds (failed p c) e h = absurd h
 
+pub value_spelled : (k : KindTree) (xs : List ℕ) → InBounds k → IsOne k xs → Spells k (value_in k xs) (bits xs)
+unfolding value_in
+value_spelled k xs bounds one = all_spelled k xs bounds (read k (bits xs)) refl one.all
+
 pub record_spelled : (codec : Codec) (octets : List ℕ) → IsRecord codec octets → SpellsAny codec octets
 unfolding value_in
 record_spelled codec octets one = record { spells = λ spec clean stands. by spec clean stands }

@@ -86,7 +86,7 @@ ItemInBounds true (by_fx f) = ⊥
 ItemInBounds true explicit = ⊥
 ItemInBounds true (compound ss) = ⊥
 
-ItemInBounds-prop : (fx : Bool) (k : KindTree) → IsProp (ItemInBounds fx k)
+pub ItemInBounds-prop : (fx : Bool) (k : KindTree) → IsProp (ItemInBounds fx k)
 ItemInBounds-prop false k = bounds_prop k
 ItemInBounds-prop true (fixed f) = bounds_prop (by_fx f)
 ItemInBounds-prop true (extended ps) = λ a b. absurd a

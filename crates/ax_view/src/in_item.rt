@@ -2,11 +2,14 @@
 ghost use Rattle.std.specs.Prelude.{◌≡◌, ◌-◌, get_or, option_map, Some, IfSome};
 ghost use Rattle.ax_model.specs.At.{slot_value};
 ghost use Rattle.ax_model.specs.Tree.{explicit};
-ghost use Rattle.ax_view.specs.Shown.{item_value, item_entries, content_in, IsSubitem, SpellsItem};
+ghost use Rattle.ax_view.specs.Left.{parts_left, occurrences_left};
+ghost use Rattle.ax_view.specs.Shown.{item_value, item_entries, content_in, IsSubitem, SpellsItem, IsParts, IsOccurrences};
 ghost use Rattle.ax_view.specs.Values.{IsOne, value_in};
 
 use crate::finding::find;
 use crate::item::ItemView;
+use crate::occurrences::Occurrences;
+use crate::parts::PartSlices;
 use ax_tables::Node;
 
 impl<'c, 'a> ItemView<'c, 'a> {
@@ -38,6 +41,31 @@ impl<'c, 'a> ItemView<'c, 'a> {
                 find(self.codec, mask, slots.as_slice(), self.body, slot)
             }
             _ => None,
+        }
+    }
+
+    /// The parts of an extended item that are present, in order: the octets of each, with its FX bit. None for another
+    /// kind.
+    pub fn parts(&self) -> PartSlices<'c, 'a>
+        ensures { IsParts self.now (parts_left result) }
+    {
+        match self.node() {
+            Node::Extended { parts } => {
+                PartSlices::of(self.codec, parts.as_slice(), self.body)
+            }
+            _ => PartSlices::of(self.codec, &[], &[]),
+        }
+    }
+
+    /// The occurrences of a counted or by-FX item, in order, each of its octets alone; one by FX has its FX bit too. None
+    /// for another kind.
+    pub fn occurrences(&self) -> Occurrences<'c, 'a>
+        ensures { IsOccurrences self.now (occurrences_left result) }
+    {
+        match self.node() {
+            Node::Counted { inner } => Occurrences::counted(self.codec, *inner, self.body),
+            Node::ByFx { inner } => Occurrences::by_fx(self.codec, *inner, self.body),
+            _ => Occurrences::none(self.codec, self.link, self.by_fx),
         }
     }
 

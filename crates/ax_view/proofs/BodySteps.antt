@@ -1,23 +1,21 @@
 -- Records of a body, one after the other.
-use Rattle.std.proofs.Common.{◌≡◌, ℕ, zero, suc, ◌+◌, ◌-◌, ◌*◌, ◌<◌, ◌≤◌, Bool, IsTrue, List, [], ◌∷◌, ◌++◌, length, take, drop, flat_map, refl, sym, ◌∙◌, ap, arith, subst, length-append, append_assoc, append-nil, take-append-drop, length-drop, take-add}
+use Rattle.std.proofs.Common.{◌≡◌, ℕ, zero, suc, ◌+◌, ◌-◌, ◌<◌, ◌≤◌, Bool, IsTrue, List, [], ◌∷◌, ◌++◌, length, take, drop, refl, sym, ◌∙◌, ap, arith, subst, append_assoc, append-nil, take-append-drop, length-drop, take-add}
 use Rattle.std.proofs.lemmas.List.{length-take-le, take_all, append_cancel_right}
-use Rattle.std.proofs.lemmas.Grind.{flat_map-append}
 use Rattle.ax_bits.proofs.Words.{bits-append, length-bits}
 use Rattle.ax_bits.specs.Bits.{bits}
 use Rattle.ax_model.proofs.BodyReader.{compound_some}
 use Rattle.ax_model.proofs.Bounds.{record_bounds}
 use Rattle.ax_model.proofs.Once.{body_once}
-use Rattle.ax_model.specs.Bodies.{SpellsRecord, RecordsSpell, SpellsBody, FailsBody, FailsRecord, CanonRecord, CanonBody}
+use Rattle.ax_model.specs.Bodies.{SpellsRecord, RecordsSpell, SpellsBody, CanonRecord, CanonBody}
 use Rattle.ax_model.specs.Canonical.{canon}
 use Rattle.ax_model.specs.Flaws.{NoFlaw}
 use Rattle.ax_model.specs.InBounds.{InBounds}
 use Rattle.ax_model.specs.Specification.{SpecTree, record_kind, record_slots}
 use Rattle.ax_model.specs.Spelling.{Spells}
-use Rattle.ax_model.specs.Tree.{KindTree, SlotsTree, ValueTree, number, member_values, part_values, occurrences, content_octets, marked, EntriesTree, compound, slots_of}
+use Rattle.ax_model.specs.Tree.{SlotsTree, ValueTree, marked, EntriesTree, compound, slots_of}
 use Rattle.ax_model.specs.declared.fault.BodyFault.{BodyFault}
 use Rattle.ax_tables.proofs.BareKinds.{bare_read, bare_canon, stands_record}
 use Rattle.ax_tables.specs.Standing.{StandsFor}
-use Rattle.ax_tables.specs.Bare.{bare_kind}
 use Rattle.ax_tables.specs.Meaning.{meanings, linked_slots}
 use Rattle.ax_tables.specs.Table.{record_kind_at}
 use Rattle.ax_tables.specs.declared.codec.Codec.{Codec}

@@ -1,0 +1,6 @@
+use Rattle.std.proofs.Common.{◌≡◌, ℕ, ◌-◌, ◌<◌, ◌≤◌, Some, List, length, take, drop, refl}
+use Rattle.ax_view.proofs.ItemPieces.{occurrence_within, occurrence_one, later_occurrences, later_shown, some_is}
+use Rattle.ax_view.proofs.each_occurrence.OccurrencesIterator.next.Goals as goal
+
+pub invariant_of-self : goal.invariant_of-self
+invariant_of-self c = record { occurrences = later_occurrences c.args.self.now.codec.now c.args.self.now.link c.args.self.now.by_fx c.args.self.now.count c.args.self.now.left.now c.args.self.now.occurrences c.if-self-eq0.false c.in-Some.size (some_is c.in-Some.size _ c.in-Some.ensures) c.octets_from.result.now c.octets_from.ensures }

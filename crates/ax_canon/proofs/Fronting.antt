@@ -18,7 +18,7 @@ use Rattle.ax_tables.specs.declared.node.Node.{Node}
 use Rattle.ax_reader.proofs.Continuing.{gets_after, fails_after}
 use Rattle.ax_reader.specs.Reading.{Gets, FailsAt, Continues, kind_read, entries_at}
 use Rattle.ax_view.proofs.MarkedSteps.{NextMarked, no_entries_left, along_none}
-use Rattle.ax_view.proofs.Occurrences.{each_count}
+use Rattle.ax_view.proofs.CountedSteps.{each_count}
 use Rattle.ax_view.specs.Walking.{along}
 
 -- ---- fronts

@@ -32,7 +32,7 @@ use Rattle.ax_reader.proofs.Marking.{field_read, field_failed, marks_bits}
 use Rattle.ax_reader.specs.Reading.{Gets, FailsAt, Continues, IsMaskOf, kind_read, entries_at}
 use Rattle.ax_view.proofs.Compounds.{marks_clear, record_lost}
 use Rattle.ax_view.proofs.FieldSteps.{along_is, spelled}
-use Rattle.ax_view.proofs.Occurrences.{each_count}
+use Rattle.ax_view.proofs.CountedSteps.{each_count}
 use Rattle.ax_view.proofs.Plain.{IsPlain, plain_again}
 use Rattle.ax_view.specs.Walking.{Walks, along}
 

@@ -1,12 +1,12 @@
 -- What an index finds: the slot of the number under a name.
-use Rattle.std.proofs.Common.{◌≡◌, ℕ, zero, suc, ◌+◌, ◌-◌, ◌<◌, ◌≤◌, Bool, true, false, cond, bytes_eq, List, [], ◌∷◌, length, map, slice_get, Option, Some, None, option_map, option_and_then, refl, sym, ◌∙◌, ap, arith}
+use Rattle.std.proofs.Common.{◌≡◌, ℕ, zero, suc, ◌+◌, Bool, true, false, cond, bytes_eq, List, [], ◌∷◌, map, slice_get, Option, Some, None, option_map, option_and_then, refl, ◌∙◌, ap, arith}
 use Rattle.std.specs.Borrow.{Bor}
-use Rattle.ax_edition.specs.Index.{seen_kind, kind_numbered, found, Finds}
-use Rattle.ax_edition.specs.Numbers.{numbered, Counts}
+use Rattle.ax_edition.specs.Index.{seen_kind, kind_numbered, Finds}
+use Rattle.ax_edition.specs.Numbers.{Counts}
 use Rattle.ax_edition.specs.UapItems.{item_slot, items_tree}
 use Rattle.ax_edition.specs.declared.index.Index.{Index}
 use Rattle.ax_edition_laws.proofs.Lookups.{found_is}
-use Rattle.ax_model.specs.Lengths.{kind_of_slot, kind_behind, slot_kind}
+use Rattle.ax_model.specs.Lengths.{kind_of_slot, kind_behind}
 use Rattle.ax_model.specs.Naming.{found_or, slot_named}
 use Rattle.ax_model.specs.Plain.{slot_tree, slots_tree}
 use Rattle.ax_model.specs.Tree.{KindTree, SlotTree, SlotsTree, no_slots, slots_of, slot_and, spare_slot, subitem}

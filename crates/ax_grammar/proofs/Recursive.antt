@@ -46,9 +46,6 @@ pub err_leaves : (A : Type 0) (n : ℕ) (texts : Texts) → Leaves {A = A} n (Er
 unfolding Leaves
 err_leaves A n texts a rest e = absurd cc
 
-unfolding Leaves
-less_leaves p s texts a rest e = omega (arith, s texts a rest e)
-
 -- ---- contents
 
 sign_leaves : (word : Keyword) (texts rest : Texts) → Leaves (length rest) (sign_behind word texts rest)

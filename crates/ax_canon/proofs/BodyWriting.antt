@@ -110,8 +110,8 @@ pub body_stays : (codec : Codec) (body : List ℕ) (at end : ℕ) (old now new :
     → Rewrites (canon (record_kind_at codec.nodes codec.slots)) (kind_read (record_kind_at codec.nodes codec.slots) body at) body at end now new → end ≤ at → InBounds (record_kind_at codec.nodes codec.slots) → IsCanonicalBody codec body old new
 body_stays codec body at end old now new h lt r stays bounds = record {
   written = λ spec records clean stands spells. (
-    let f = none_on codec spec body at end old now new h lt r stays bounds clean stands in
-    absurd (body_never_both spec (bits body) records f.0.bit f.0.cause spells f.1));
+      let f = none_on codec spec body at end old now new h lt r stays bounds clean stands in
+      absurd (body_never_both spec (bits body) records f.0.bit f.0.cause spells f.1));
   some = some_more old now new h.some r.some;
 }
 

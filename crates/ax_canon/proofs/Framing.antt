@@ -31,12 +31,12 @@ pub block_copied : (codec : Codec) (body : List ℕ) (old now new : Out) → IsL
 block_copied codec body old now new least front rest = record {
   same_loan = rest.loan ∙ front.loan;
   written = λ spec records clean stands spells. (
-    let is : CanonBody spec records ≡ bits body = least spec records clean stands spells refl in
-    let whole : bits (canon_block spec (read_block spec.category records)) ≡ (word 8 codec.category ++ word 16 (length body + 3)) ++ bits body =
-    ap (λ b. bits (framed spec.category (octets_of b))) is ∙ framed_bits spec.category (length body) (bits body) (length-bits body) (bits-AreBits body) ∙ ap (λ c. (word 8 c ++ word 16 (length body + 3)) ++ bits body) (sym stands.category) in
-    appends_more old now new (word 8 codec.category ++ word 16 (length body + 3)) (bits body) (bits (canon_block spec (read_block spec.category records))) whole front rest);
+      let is : CanonBody spec records ≡ bits body = least spec records clean stands spells refl in
+      let whole : bits (canon_block spec (read_block spec.category records)) ≡ (word 8 codec.category ++ word 16 (length body + 3)) ++ bits body =
+      ap (λ b. bits (framed spec.category (octets_of b))) is ∙ framed_bits spec.category (length body) (bits body) (length-bits body) (bits-AreBits body) ∙ ap (λ c. (word 8 c ++ word 16 (length body + 3)) ++ bits body) (sym stands.category) in
+      appends_more old now new (word 8 codec.category ++ word 16 (length body + 3)) (bits body) (bits (canon_block spec (read_block spec.category records))) whole front rest);
   octets = λ spec records clean stands spells. (
-    let is : CanonBody spec records ≡ bits body = least spec records clean stands spells refl in
-    let l : length (octets_of (bits body)) ≡ length body = octets_long (length body) (bits body) (length-bits body) (bits-AreBits body) in
-    sym (ap (λ b. length (framed spec.category (octets_of b))) is ∙ length-framed spec.category (octets_of (bits body)) ∙ (let z : 3 + length (octets_of (bits body)) ≡ length body + 3 = omega arith in z)));
+      let is : CanonBody spec records ≡ bits body = least spec records clean stands spells refl in
+      let l : length (octets_of (bits body)) ≡ length body = octets_long (length body) (bits body) (length-bits body) (bits-AreBits body) in
+      sym (ap (λ b. length (framed spec.category (octets_of b))) is ∙ length-framed spec.category (octets_of (bits body)) ∙ (let z : 3 + length (octets_of (bits body)) ≡ length body + 3 = omega arith in z)));
 }

@@ -33,8 +33,8 @@ fronts_by rule rest mid_rule mid whole_rule whole body at here end old now new g
   front = h.front ++ piece;
   appends = appends_more old now new h.front piece (h.front ++ piece) refl h.appends a;
   gets = λ x last r. (
-    let t = h.gets (g x) last (gets_after mid rest body here end last g x c r) in
-    (t.0, t.1, t.2 ∙ ap (λ y. h.front ++ y) (step x last r) ∙ sym (append_assoc h.front piece (rule x))));
+      let t = h.gets (g x) last (gets_after mid rest body here end last g x c r) in
+      (t.0, t.1, t.2 ∙ ap (λ y. h.front ++ y) (step x last r) ∙ sym (append_assoc h.front piece (rule x))));
   loses = λ fault l. h.loses fault (fails_after mid rest here end g fault c l);
 }
 

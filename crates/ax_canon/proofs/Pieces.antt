@@ -85,8 +85,8 @@ count_first k body n at old now lt e small free a = record {
         })
         a
         (λ vs last g. (
-          let count : value_count vs ≡ n - 0 = each_count (read k) (n - 0) (8 * (last - (at + 1))) (bits (drop (at + 1) body)) (bits (drop last body)) vs g.got in
-          ap (λ m. word 8 m ++ each_canon (canon k) vs) (let e : value_count vs ≡ n = omega arith in e))));
+        let count : value_count vs ≡ n - 0 = each_count (read k) (n - 0) (8 * (last - (at + 1))) (bits (drop (at + 1) body)) (bits (drop last body)) vs g.got in
+        ap (λ m. word 8 m ++ each_canon (canon k) vs) (let e : value_count vs ≡ n = omega arith in e))));
   };
 }
   where
@@ -133,5 +133,8 @@ module _ (ns : List Node) (links : List ℕ) (mask : SlotMask) (body marks : Lis
           let field : least_presence k (marks_of 1 ss es) ≡ least_field marks =
           least_alike k (marks_of 1 ss es) marks (marks_of_spelled 1 ss marks es s.0 s.1) ∙ sym (least_alike k (take (slot_count ss) marks) marks (alike_set (slot_count ss) marks none))
           ∙ sym (least_field_of (slot_count ss) marks bounds.0 bounds.1 none) in
-          inl (marked es, gets_after (kind_read (compound ss) body at) (entries_at ss marks body here) body at here end (λ es. marked es) es (field_read slots mask body marks at here m h) g,
-          appends_more old now new (least_field marks) (along ss marks es) (canon (compound ss) (marked es)) (λ i. field i ++ along_is 1 ss marks es s.0 s.1 i) a w)
+          inl (
+            marked es,
+            gets_after (kind_read (compound ss) body at) (entries_at ss marks body here) body at here end (λ es. marked es) es (field_read slots mask body marks at here m h) g,
+            appends_more old now new (least_field marks) (along ss marks es) (canon (compound ss) (marked es)) (λ i. field i ++ along_is 1 ss marks es s.0 s.1 i) a w,
+          )

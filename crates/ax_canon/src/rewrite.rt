@@ -32,7 +32,14 @@ pub(crate) fn rewrite_record(codec: &Codec, body: &[u8], at: u32, out: &mut Out<
             out.push_octets(&body[at as usize..end as usize]);
             end
         }
-        _ => rewrite_compound(codec.nodes.as_slice(), &codec.mask, codec.slots.as_slice(), body, at, out),
+        _ => rewrite_compound(
+            codec.nodes.as_slice(),
+            &codec.mask,
+            codec.slots.as_slice(),
+            body,
+            at,
+            out,
+        ),
     }
 }
 

@@ -146,13 +146,7 @@ impl<'c, M: BlockMaker> BlockWork for TreeWork<'c, M> {
         raw: &RawBlock<'_>,
         _report: &mut R,
     ) -> Result<(), WorkStop> {
-        match make_block(
-            self.alloc,
-            &self.maker,
-            self.catalogue,
-            number,
-            raw,
-        ) {
+        match make_block(self.alloc, &self.maker, self.catalogue, number, raw) {
             Ok(octets) => {
                 self.octets = octets;
                 Ok(())

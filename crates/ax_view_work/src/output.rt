@@ -61,11 +61,7 @@ pub(crate) fn lay_opaque(raw: &RawBlock<'_>, output: &mut [u8]) -> u32
 {
     let count = raw.body.len() + 3;
     let (header, body) = output.split_at_mut(3);
-    header.copy_from_slice(&[
-        raw.category,
-        (count / 256) as u8,
-        (count % 256) as u8,
-    ]);
+    header.copy_from_slice(&[raw.category, (count / 256) as u8, (count % 256) as u8]);
     body[..raw.body.len()].copy_from_slice(raw.body);
     count as u32
 }

@@ -112,4 +112,3 @@ rewrite_marked-loop-slot-preserved t c =
 pub rewrite_marked-returns : goal.rewrite_marked-returns
 rewrite_marked-returns t c =
     marks_last (linked_slots (meanings c.args.nodes.now) c.args.slots.now) c.args.marked c.loop-slot.left c.args.body.now c.args.at c.loop-slot.here c.args.out.now c.loop-slot.out c.loop-slot.invariant c.in_default.ensures.none
-

@@ -39,6 +39,8 @@ impl<'m> BlockWork for CategoryWork<'m> {
 
     ghost command = { λ s. category_command s.mark.now };
 
+    ghost sound = { λ s. Unit {0} };
+
     ghost laid = { λ s. s.mark.now };
 
     ghost takes_memory = { false };

@@ -67,10 +67,6 @@ drop-bits (suc n) (x ∷ xs) =
     let e : 8 * suc n ≡ length (word 8 x) + 8 * n = omega (arith, length-word 8 x) in
     ap (λ k. drop k (word 8 x ++ bits xs)) e ∙ drop-append-add (word 8 x) (bits xs) (8 * n) ∙ drop-bits n xs
 
--- a part that is cut at octets
-pub bits-part : (m n : ℕ) (xs : List ℕ) → take (8 * n) (drop (8 * m) (bits xs)) ≡ bits (take n (drop m xs))
-bits-part m n xs = ap (take (8 * n)) (drop-bits m xs) ∙ take-bits n (drop m xs)
-
 -- an octet's upper 7 bits, and its last one
 pub word-last : (n : ℕ) → word 8 n ≡ word 7 (n / 2) ++ n % 2 ∷ []
 word-last n = word-split 7 1 n ∙ ap (λ k. word 7 (n / 2) ++ k % 2 ∷ []) (omega arith)
@@ -112,7 +108,7 @@ bits-set xs i y h =
     ap bits (set_split xs i y h) ∙ bits-append (take i xs) (y ∷ drop (suc i) xs)
     ∙ ap (λ k. bits (take i xs) ++ (word 8 y ++ bits (drop k xs))) (sym (add-one i))
 
--- the bits in front of the last c + r bits of octet i, and its last r bits with those of the octets behind it
+-- the bits in front of the last c + r bits of octet i, and its last r bits with those of the octets after it
 abbrev pub front : List ℕ → ℕ → ℕ → ℕ → List ℕ
 front xs i o w = bits (take i xs) ++ word o (get_or xs i 0 / 2 ^ w)
 
@@ -149,7 +145,7 @@ outside all a m z x at c e p q =
     = sym (drop-drop c at all) ∙ ap (λ k. drop c (drop at k)) e ∙ ap (drop c) (drop_at a (m ++ z) at p) ∙ drop_at m z c q in
     λ i. sym f i ++ (x ++ sym g i)
 
--- c bits from bit `at` on, which lie in octet i, behind o of its bits and in front of r of them
+-- c bits from bit `at` on, which lie in octet i, after o of its bits and in front of r of them
 pub piece_at : (xs : List ℕ) (at i o c r : ℕ) → at ≡ 8 * i + o → o + c + r ≡ 8 → i < length xs →
     take c (drop at (bits xs)) ≡ word c (get_or xs i 0 / 2 ^ r)
 piece_at xs at i o c r e f h =

@@ -27,7 +27,7 @@ behind_same : (a b : List (List ℕ)) (items : List Item) → AreSame a b → Ar
 behind_same a b [] h = h
 behind_same a b (item ∷ items) h = behind_same (item.name ∷ a) (item.name ∷ b) items (same_more item.name a b h)
 
--- a name is behind where it was there or is an item's
+-- a name is among those after the items where it was among those before or is an item's
 among_behind : (name : List ℕ) (a : List (List ℕ)) (items : List Item) → is_among name (names_behind a items) ≡ (is_among name a || is_among name (item_names items))
 among_behind name a [] = or_false (is_among name a)
   where

@@ -37,7 +37,7 @@ abbrev pub fixed_of_member : MemberTree → Option FixedTree
 fixed_of_member (named name f) = Some f
 fixed_of_member (spare w) = None
 
--- of the member behind n others
+-- of the member after n others
 abbrev pub member_fixed : ℕ → MembersTree → Option FixedTree
 member_fixed n no_members = None
 member_fixed zero (member_and m ms) = fixed_of_member m

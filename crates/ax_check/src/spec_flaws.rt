@@ -14,7 +14,7 @@ use ax_model::{FlawKind, Flaws, Item, Items, Spec, Text, UapSlot, at_name, of_ca
 use indexmap::IndexSet;
 use std::alloc::{AllocError, Global};
 
-/// The flaws of one item behind others of these names, which gain its own.
+/// The flaws of one item after others of these names, which gain its own.
 fn find_in_item<'s>(
     alloc: Global,
     found: &mut Flaws,
@@ -51,7 +51,7 @@ fn find_in_items<'s>(
     Ok(())
 }
 
-/// The flaw of one named slot of the UAP, if it has one, behind others of these names, which gain its own.
+/// The flaw of one named slot of the UAP, if it has one, after others of these names, which gain its own.
 fn find_in_uap_slot<'s>(
     alloc: Global,
     found: &mut Flaws,

@@ -3,7 +3,7 @@
 use crate::texts::accepted;
 use ax_check::Accepted;
 use ax_model::{Path, Place};
-use ax_vectors::CAT048_P1;
+use ax_samples::CAT048_P1;
 use std::alloc::Global;
 use std::test::Fail;
 

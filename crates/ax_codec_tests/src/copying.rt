@@ -1,13 +1,13 @@
 //! Specifications made of their parts, and copies of specifications and of blocks.
 
-use crate::fixtures::{accepted, decoded, octets};
+use crate::fixtures::{accepted, decoded};
 use crate::shown::shown_block;
 use crate::shown_specs::shown_spec;
 use ax_model::{
     Content, Fixed, Item, Items, Kind, Member, Members, Name, Part, Parts, Slot, Slots, Spec, Text,
     UapSlot, UapSlots,
 };
-use ax_vectors::{FILE_H1, FILE_K, FILE_N};
+use ax_samples::{FILE_H1, FILE_K, FILE_N, octets};
 use std::alloc::{AllocError, Global};
 use std::process::Abort;
 use std::test::Fail;
@@ -61,7 +61,7 @@ fn sub(rt: &impl Abort, text: &str) -> Slot {
     }
 }
 
-// Puts an item behind the others, and its slot behind theirs.
+// Puts an item after the others, and its slot after theirs.
 fn add(
     rt: &impl Abort,
     alloc: Global,

@@ -1,14 +1,19 @@
 //! Blocks, and what they are read as.
 
-use crate::fixtures::{accepted, body_read_as, octets, read_as};
-use ax_vectors::{FILE_K, FILE_N, FILE_S};
+use crate::fixtures::{accepted, body_read_as, read_as};
+use ax_samples::{FILE_K, FILE_N, FILE_S, octets};
 use std::test::Fail;
 
-// A group in a group in a group, with a spare behind it, and an element of the greatest width.
+// A group in a group in a group, with a spare after it, and an element of the greatest width.
 pub(crate) const FILE_DEEP: &str = r#"category 206 edition "D" items {
 item 010 "" group { A element 4 raw B group { C element 3 raw D group { E element 1 raw F element 8 raw } } spare 8 }
 item 020 "" element 128 raw
 } uap { 010 020 }"#;
+
+// A part of two octets, and one of one.
+const FILE_LONG_PART: &str = r#"category 208 edition "L" items {
+item 010 "" extended { part { A element 15 raw } part { B element 7 raw } }
+} uap { 010 }"#;
 
 // A compound and a UAP of 126 slots, of which the first and the last are defined.
 pub(crate) const FILE_WIDE: &str =
@@ -86,6 +91,11 @@ fn deep_and_wide_items_are_read(rt: HostRuntime) -> Result<(), Fail> {
             "206 {2=170141183460469231731687303715884105729}",
         ),
         (FILE_WIDE, WIDE_BLOCK, "207 {1=5 126={126=6}}"),
+        // A part is one unit with its FX: cut within, it runs out at its first bit.
+        (FILE_LONG_PART, "D0 00 06 80 00 02", "208 {1=<1>}"),
+        (FILE_LONG_PART, "D0 00 05 80 01", "RunsOut 8"),
+        (FILE_LONG_PART, "D0 00 07 80 00 03 0A", "208 {1=<1|5>}"),
+        (FILE_LONG_PART, "D0 00 06 80 00 03", "RunsOut 24"),
     ] {
         let file = accepted(&rt, alloc, text)?;
         let octets = octets(alloc, block)?;
@@ -95,7 +105,7 @@ fn deep_and_wide_items_are_read(rt: HostRuntime) -> Result<(), Fail> {
     Ok(())
 }
 
-// A body cut behind each of its octets, and the bit at which the unit begins that doesn't fit.
+// A body cut after each of its octets, and the bit at which the unit begins that doesn't fit.
 #[test]
 fn a_cut_body_runs_out_where_its_unit_begins(rt: HostRuntime) -> Result<(), Fail> {
     let alloc = rt.alloc();

@@ -1,9 +1,9 @@
 //! Blocks, and the octets that they are written in.
 
 use crate::decoding::{FILE_DEEP, FILE_WIDE, RICH, WIDE_BLOCK};
-use crate::fixtures::{accepted, canon_as, octets, written_as};
+use crate::fixtures::{accepted, canon_as, written_as};
 use ax_model::{Block, Entries, Record, Records};
-use ax_vectors::{FILE_K, FILE_N, FILE_S};
+use ax_samples::{FILE_K, FILE_N, FILE_S, octets};
 use std::alloc::{AllocError, Global};
 use std::test::Fail;
 
@@ -64,7 +64,7 @@ fn empty_records(alloc: Global, count: u32) -> Result<Block, AllocError> {
     })
 }
 
-// Each empty record is one octet, behind the three of CAT and LEN.
+// Each empty record is one octet, after the three of CAT and LEN.
 #[test]
 fn the_longest_block_has_65_535_octets(rt: HostRuntime) -> Result<(), Fail> {
     let alloc = rt.alloc();

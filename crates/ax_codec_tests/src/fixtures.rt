@@ -21,16 +21,6 @@ pub(crate) fn accepted(rt: &impl Abort, alloc: Global, text: &str) -> Result<Acc
     Ok(accept(alloc, spec)?)
 }
 
-/// The octets of a text of two hexadecimal digits each.
-pub(crate) fn octets(alloc: Global, text: &str) -> Result<Vec<u8>, Fail> {
-    let mut made = Vec::new(alloc);
-    for word in text.split_whitespace() {
-        let octet = u8::from_str_radix(word, 16)?;
-        made.push(octet)?;
-    }
-    Ok(made)
-}
-
 /// The block that a body of this category is read as.
 fn body_decoded(
     rt: &impl Abort,
@@ -62,7 +52,7 @@ pub(crate) fn body_read_as(
     }
 }
 
-/// The body of a block, behind CAT and the LEN that it has.
+/// The body of a block, after CAT and the LEN that it has.
 fn body_of<'o>(rt: &impl Abort, octets: &'o [u8]) -> &'o [u8] {
     assert!(rt; octets.len() >= 4);
     let length = octets[1] as usize * 256 + octets[2] as usize;

@@ -139,7 +139,7 @@ fn push_uap(text: &mut String, slots: &[UapSlot]) -> Result<(), AllocError> {
     Ok(())
 }
 
-/// The specification on one line, as the one-line files of crate ax_vectors are.
+/// The specification on one line, as the one-line files of crate ax_samples are.
 pub(crate) fn shown_spec(alloc: Global, spec: &Spec) -> Result<String, AllocError> {
     let mut text = String::new(alloc);
     let category = spec.category;

@@ -1,6 +1,6 @@
 -- The laws of presence fields.
-use Rattle.std.proofs.Common.{◌≡◌, inl, inr, ℕ, zero, suc, ◌+◌, ◌-◌, ◌*◌, ◌%◌, ◌<◌, ◌≤◌, Bool, true, false, cond, IsTrue, List, [], ◌∷◌, ◌++◌, length, take, drop, set, replicate, refl, sym, ◌∙◌, ap, arith, subst, length-append, length-take, length-drop}
-use Rattle.std.proofs.lemmas.List.{drop-set-lt, length-set, length-replicate, drop-drop, append_cancel_right, take-append-drop, length-take-le}
+use Rattle.std.proofs.Common.{◌≡◌, inl, inr, ℕ, zero, suc, ◌+◌, ◌-◌, ◌*◌, ◌%◌, ◌≤◌, Bool, true, false, cond, IsTrue, List, [], ◌∷◌, ◌++◌, length, take, drop, set, replicate, refl, sym, ◌∙◌, ap, arith, subst, length-append, length-take, length-drop}
+use Rattle.std.proofs.lemmas.List.{drop-drop, append_cancel_right, take-append-drop, length-take-le}
 use Rattle.std.proofs.Math.Seq.{take-add}
 use Rattle.ax_bits.specs.Bits.{AreBits, bits}
 use Rattle.ax_bits.proofs.Words.{length-bits}
@@ -43,7 +43,7 @@ zeros_of_none [] h = refl
 zeros_of_none (zero ∷ xs) h = λ i. 0 ∷ zeros_of_none xs h i
 zeros_of_none (suc x ∷ xs) h = cc
 
--- marks are told by a front of them behind which none is set
+-- marks are told by a front of them after which none is set
 same_marks : (a b : List ℕ) (p q : ℕ) → length a ≡ length b → take p a ≡ take q b → IsTrue (none_marked (drop p a)) → IsTrue (none_marked (drop q b)) → a ≡ b
 same_marks a b p q l e h g =
     let x : a ≡ take p a ++ replicate (length (drop p a)) 0 = sym (take-append-drop p a) ∙ ap (λ k. take p a ++ k) (zeros_of_none (drop p a) h) in
@@ -89,7 +89,7 @@ shortest n ds marked b h f =
     let few : octets_needed n ≤ 18 = omega arith in
     least_least 18 marked ms b (alike_front (7 * f.octets) marked f.no_other) (presence_more (octets_needed n) 18 ms b few f.field.field)
 
--- the least field of marks of which none stands behind k octets, and the front of the marks that it has
+-- the least field of marks of which none stands after k octets, and the front of the marks that it has
 record Least (k : ℕ) (ms : List ℕ) : Type 0 where
   octets : ℕ
   field : Presence k (take (7 * octets) ms) (least_presence k ms)
@@ -282,26 +282,6 @@ least_field_of n marked some few none =
     ∙ least_alike k marked (take n marked) (alike_front n marked none)
 
 -- ---- sets
-
-bits_set : (marked : List ℕ) (i : ℕ) → AreBits marked → AreBits (set marked i 1)
-bits_set [] i h = tt
-bits_set (m ∷ marked) zero h = (omega arith, h.1)
-bits_set (m ∷ marked) (suc i) h = (h.0, bits_set marked i h.1)
-
-bits_none : (n : ℕ) → AreBits (replicate n 0)
-bits_none zero = tt
-bits_none (suc n) = (omega arith, bits_none n)
-
-pub AreMarks-set : (marked : List ℕ) (i : ℕ) → AreMarks marked → AreMarks (set marked i 1)
-AreMarks-set marked i h = record { size = length-set marked i 1 ∙ h.size; each = bits_set marked i h.each }
-
-pub AreMarks-none : AreMarks no_marks
-unfolding no_marks
-AreMarks-none = record { size = length-replicate {A = ℕ} 126 0; each = bits_none 126 }
-
--- a set with one more slot among the first n has none behind them, if the set had none
-pub none_behind_mark : (marked : List ℕ) (i n : ℕ) → i < n → IsTrue (none_marked (drop n marked)) → IsTrue (none_marked (drop n (set marked i 1)))
-none_behind_mark marked i n lt h = ap none_marked (drop-set-lt n marked i 1 lt) ∙ h
 
 pub none_behind_none : (n : ℕ) → IsTrue (none_marked (drop n no_marks))
 none_behind_none n = none_further 0 n no_marks (omega arith) none_of_no_marks

@@ -5,8 +5,8 @@ use Rattle.std.proofs.lemmas.List.{append-nil}
 use Rattle.ax_grammar.specs.Keywords.{keyword_text}
 use Rattle.ax_grammar.specs.Gives.{Stops}
 use Rattle.ax_grammar.specs.Reading.{Texts, Read, ◌>>=◌, takes_at, expect_at, list_step, list_at, braced_at}
-use Rattle.ax_grammar.specs.declared.error.Stopped.{Stopped}
-use Rattle.ax_grammar.specs.declared.error.Stopped.TheVariants.{Bad, OutOfMemory}
+use Rattle.ax_token_reader.specs.declared.stopped.Stopped.{Stopped}
+use Rattle.ax_token_reader.specs.declared.stopped.Stopped.TheVariants.{Bad, OutOfMemory}
 use Rattle.ax_grammar.specs.declared.keyword.Keyword.{Keyword}
 use Rattle.ax_grammar.specs.declared.keyword.Keyword.TheVariants as Word
 use Rattle.ax_grammar.proofs.Recursion.{Agree, Shrinks, IsGuarded, bind_ok, same_behind, same_choice, rest_is, value_is, recursive_shrinks, recursive_is}
@@ -100,9 +100,6 @@ regroup front a (Err rest) = refl
 begins : {A : Type 0} (read : Read (List A)) → with_front [] read ≡ read
 begins (Ok x) = refl
 begins (Err rest) = refl
-
-pub list_begins : {A : Type 0} (element : Texts → Read A) (texts : Texts) → with_front [] (list_at element texts) ≡ list_at element texts
-list_begins element texts = begins (list_at element texts)
 
 pub list_goes_on : {A : Type 0} (element : Texts → Read A) (front : List A) (texts between after : Texts) (a : A) (total : Read (List A)) → Shrinks element
     → takes_at Word.Close texts ≡ Ok (false, between) → element between ≡ Ok (a, after)

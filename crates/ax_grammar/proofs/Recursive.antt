@@ -46,14 +46,6 @@ pub err_leaves : (A : Type 0) (n : ℕ) (texts : Texts) → Leaves {A = A} n (Er
 unfolding Leaves
 err_leaves A n texts a rest e = absurd cc
 
-pub choice_leaves : {A : Type 0} (n : ℕ) (b : Bool) (r s : Read A) → Leaves n r → Leaves n s → Leaves n (cond b r s)
-choice_leaves n true r s h k = h
-choice_leaves n false r s h k = k
-
-pub less_leaves : {A : Type 0} (p : Texts → Read A) → Shrinks p → (texts : Texts) → Leaves (length texts) (p texts)
-unfolding Leaves
-less_leaves p s texts a rest e = omega (arith, s texts a rest e)
-
 -- ---- contents
 
 sign_leaves : (word : Keyword) (texts rest : Texts) → Leaves (length rest) (sign_behind word texts rest)
@@ -95,7 +87,7 @@ chosen_less : {A : Type 0} (b : Bool) (after : Texts) (n : ℕ) (p q : Texts →
 chosen_less true after n p q s t le a rest e = omega (arith, s after a rest e)
 chosen_less false after n p q s t le a rest e = omega (arith, t after a rest e)
 
--- either of two readers, behind the test for a keyword
+-- either of two readers, after the test for a keyword
 takes_shrinks : {A : Type 0} (word : Keyword) (p q : Texts → Read A) → Shrinks p → Shrinks q → Shrinks (λ texts. takes_at word texts >>= λ c. cond c.0 (p c.1) (q c.1))
 takes_shrinks word p q s t texts a rest e =
     let f = bind_ok (takes_at word texts) _ (a, rest) e in

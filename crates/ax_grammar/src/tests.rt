@@ -1,10 +1,10 @@
 ghost use Rattle.std.specs.Prelude.{◌≤◌, ◌^◌, length};
 
 use super::*;
-use ax_tokens::{LexError, tokens};
-use ax_vectors::{
+use ax_samples::{
     CAT048_P1, FILE_E, FILE_G1, FILE_H1, FILE_H2, FILE_K, FILE_N, FILE_S, FILE_Z, NESTED_TOO_DEEP,
 };
+use ax_tokens::{LexError, tokens};
 use std::alloc::Global;
 use std::process::Abort;
 use std::test::Fail;

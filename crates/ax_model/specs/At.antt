@@ -8,13 +8,13 @@ abbrev pub slot_value : ℕ → EntriesTree → Option ValueTree
 slot_value s no_entries = None
 slot_value s (entry_and t v es) = if t == s then Some v else slot_value s es
 
--- the value of the member behind n others
+-- the value of the member after n others
 abbrev pub nth_value : ℕ → ValuesTree → Option ValueTree
 nth_value n no_values = None
 nth_value zero (value_and v vs) = Some v
 nth_value (suc n) (value_and v vs) = nth_value n vs
 
--- the values of the part behind n others; of one that isn't present, none
+-- the values of the part after n others; of one that isn't present, none
 abbrev pub nth_list : ℕ → ListsTree → ValuesTree
 nth_list n no_lists = no_values
 nth_list zero (list_and vs ls) = vs

@@ -60,7 +60,7 @@ abbrev mutual
       ++ flaw_where (is_bad_string_width w c) BadStringWidth path
   fixed_flaws path (group ms) = flaw_where (has_no_member ms) Empty path ++ members_flaws path [] ms
 
-  -- of members that stand behind others of these names
+  -- of members that stand after others of these names
   pub members_flaws : List ℕ → List (List ℕ) → MembersTree → List Flaw
   members_flaws path earlier no_members = []
   members_flaws path earlier (member_and (spare w) ms) = flaw_where (is_bad_width w) BadWidth (at path (codes "spare")) ++ members_flaws path earlier ms
@@ -79,7 +79,7 @@ names_with earlier no_members = earlier
 names_with earlier (member_and (spare w) ms) = names_with earlier ms
 names_with earlier (member_and (named name f) ms) = names_with (name ∷ earlier) ms
 
--- part i and those after it, behind parts whose members have these names; a member's path doesn't name its part
+-- part i and those after it, after parts whose members have these names; a member's path doesn't name its part
 abbrev pub parts_flaws : List ℕ → ℕ → List (List ℕ) → List MembersTree → List Flaw
 parts_flaws path i earlier [] = []
 parts_flaws path i earlier (p ∷ ps) =
@@ -100,7 +100,7 @@ abbrev mutual
   kind_flaws broken path (compound ss) =
       flaw_where (slot_count ss == 0) Empty path ++ flaw_where (nat_lt 126 (slot_count ss)) TooManySlots path ++ slots_flaws path [] ss
 
-  -- of slots that stand behind others of these names
+  -- of slots that stand after others of these names
   pub slots_flaws : List ℕ → List (List ℕ) → SlotsTree → List Flaw
   slots_flaws path earlier no_slots = []
   slots_flaws path earlier (slot_and spare_slot ss) = slots_flaws path earlier ss
@@ -109,14 +109,14 @@ abbrev mutual
 
 -- ---- specifications
 
--- of items that stand behind others of these names
+-- of items that stand after others of these names
 abbrev pub items_flaws : List ℕ → List (List ℕ) → List ItemTree → List Flaw
 items_flaws path earlier [] = []
 items_flaws path earlier (item ∷ items) =
     flaw_where (is_among item.name earlier) DuplicateItem (at path item.name) ++ kind_flaws NotOctets (at path item.name) item.kind
     ++ items_flaws path (item.name ∷ earlier) items
 
--- of UAP slots that stand behind others of these names
+-- of UAP slots that stand after others of these names
 abbrev pub uap_flaws : List ℕ → List ItemTree → List (List ℕ) → List UapSlot → List Flaw
 uap_flaws path items earlier [] = []
 uap_flaws path items earlier (Uap.Spare ∷ ss) = uap_flaws path items earlier ss

@@ -57,7 +57,7 @@ pub record BlockIsCut (limit before : ℕ) (rest : List ℕ) (bit : ℕ) : Type 
   pub within : before + length rest ≤ limit
   pub missing : bit ≡ 8 * length rest
 
--- framing ends so, where the rest stands behind whole blocks of `before` octets
+-- framing ends so, where the rest stands after whole blocks of `before` octets
 abbrev pub FramingEnds : ℕ → ℕ → List ℕ → FramingEnd → Type 0
 FramingEnds limit before rest whole = rest ≡ []
 FramingEnds limit before rest input_too_long = HeaderPassesLimit limit before rest ⊎ BlockPassesLimit limit before rest

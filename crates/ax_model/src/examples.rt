@@ -68,7 +68,7 @@ pub fn explicit_without_and_with_content()
     ensures two { IsSpelling explicit (content_octets (0xaa ∷ 0xbb ∷ [])) (bits (0x03 ∷ 0xaa ∷ 0xbb ∷ [])) }
 {}
 
-/// Behind a spare slot stands slot 3.
+/// After a spare slot stands slot 3.
 #[tactic(auto, using(crate::proofs::WorkedExamples::behind_a_spare_slot))]
 pub fn compound_with_a_spare_slot()
     ensures third { IsSpelling spare_between (marked (entry_and 3 (number 0xcc) no_entries)) (bits (0x20 ∷ 0xcc ∷ [])) }

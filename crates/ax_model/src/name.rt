@@ -51,7 +51,7 @@ fn is_name(text: &[u8]) -> bool
     all_in_names(text)
 }
 
-/// The octets, and zeros behind them.
+/// The octets, and zeros after them.
 fn padded(text: &[u8]) -> [u8; 16]
     requires { length text.now ≤ 16 }
     ensures { result ≡ text.now ++ replicate (16 - length text.now) 0 }

@@ -1,7 +1,7 @@
 //! `check`, refused files and refused words. None of these reads the input.
 
-use crate::world::{Outside, leaves, octets, wanted};
-use ax_vectors::{CAT019_P1, FILE_E};
+use crate::world::{Outside, leaves, wanted};
+use ax_samples::{CAT019_P1, FILE_E, octets};
 use std::alloc::{AllocError, Global};
 use std::test::Fail;
 
@@ -18,7 +18,7 @@ const FLAWS_OF_V: &str =
     "flaw file 0 BadScale 210/010\nflaw file 0 DuplicateItem 210/010\nflaw file 0 Empty 210/010\nflaw file 0 UnknownInUap 210/uap/020\nrefused file 0 Flawed 4\n";
 
 // The words, the exit status and the report.
-const REFUSED: [(&str, u8, &str); 19] = [
+const REFUSED: [(&str, u8, &str); 21] = [
     ("", 1, "refused usage\n"),
     ("canon", 1, "refused usage\n"),
     ("canon -x", 1, "refused usage\n"),
@@ -29,6 +29,8 @@ const REFUSED: [(&str, u8, &str); 19] = [
     ("check V", 2, FLAWS_OF_V),
     ("check short", 2, "refused file 0 BadToken token 16\n"),
     ("canon short", 2, "refused file 0 BadToken token 16\n"),
+    ("check 256", 2, "refused file 0 BadToken token 1\n"),
+    ("canon A 256", 2, "refused file 1 BadToken token 1\n"),
     ("check unended", 2, "refused file 0 BadByte at 23\n"),
     ("canon unended", 2, "refused file 0 BadByte at 23\n"),
     ("check deep", 2, "refused file 0 TooDeep token 55\n"),
@@ -51,7 +53,7 @@ fn refused_words_and_files(rt: HostRuntime) -> Result<(), Fail> {
     Ok(())
 }
 
-// The line, and behind it the words of the text with one blank between them, as a specification is printed.
+// The line, and after it the words of the text with one blank between them, as a specification is printed.
 fn accepted(alloc: Global, line: &str, text: &str) -> Result<Vec<u8>, AllocError> {
     let mut made = line.as_bytes().to_vec(alloc)?;
     for word in text.split_whitespace() {
@@ -64,9 +66,10 @@ fn accepted(alloc: Global, line: &str, text: &str) -> Result<Vec<u8>, AllocError
 }
 
 // The words, and the line and the text that are written.
-const ACCEPTED: [(&str, &str, &str); 3] = [
+const ACCEPTED: [(&str, &str, &str); 4] = [
     ("check E", LINE_OF_E, FILE_E),
     ("check commented", LINE_OF_E, FILE_E),
+    ("check largest", LINE_OF_E, FILE_E),
     ("check 019", LINE_OF_019, CAT019_P1),
 ];
 
@@ -79,5 +82,17 @@ fn an_accepted_file_is_written_in_one_line(rt: HostRuntime) -> Result<(), Fail> 
         leaves(&rt, alloc, words, &input, Outside::Sound, want)?;
     }
     assert_eq!(rt; accepted(alloc, "", FILE_E)?.as_slice(), FILE_E.as_bytes());
+    Ok(())
+}
+
+// The file is loaded once, and its text is one write: a second call of either would fail.
+#[test]
+fn check_loads_once_and_writes_once(rt: HostRuntime) -> Result<(), Fail> {
+    let alloc = rt.alloc();
+    let input = octets(alloc, INPUT)?;
+    for outside in [Outside::Load(1), Outside::Write(1)] {
+        let want = wanted(alloc, 0, &accepted(alloc, LINE_OF_E, FILE_E)?, "", 10)?;
+        leaves(&rt, alloc, "check E", &input, outside, want)?;
+    }
     Ok(())
 }

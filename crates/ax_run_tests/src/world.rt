@@ -1,8 +1,8 @@
-//! One run in memory: the files that it finds, how its outside is cut and fails, and what it leaves behind.
+//! One run in memory: the files that it finds, how its outside is cut and fails, and what it leaves.
 
 use ax_app::run;
 use ax_outside::{MemLibrary, MemSink, MemSource, fill};
-use ax_vectors::{
+use ax_samples::{
     CAT019_P1, CAT034_P1, CAT048_P1, FILE_A, FILE_E, FILE_F, FILE_N, FILE_S, NESTED_TOO_DEEP,
 };
 use std::alloc::{AllocError, Global};
@@ -17,6 +17,12 @@ const CUT_SHORT: &str =
     r#"category 034 edition "X" items { item 000 "T" element 8 raw } uap { 000"#;
 
 const UNENDED: &str = r#"category 034 edition "X"#;
+
+// No category: the second token is bad, though five more follow.
+const NO_CATEGORY: &str = r#"category 256 edition "X" items { } uap { - }"#;
+
+/// The most octets that a category file may have.
+const LARGEST: usize = 1_048_576;
 
 /// One octet more than a category file may have.
 const TOO_LARGE: usize = 1_048_577;
@@ -61,7 +67,7 @@ fn library_of(alloc: Global, outside: Outside) -> Result<MemLibrary, AllocError>
 
 fn source_of(alloc: Global, outside: Outside, input: &[u8]) -> Result<MemSource, AllocError> {
     let cuts = match outside {
-        // A block of ten octets, and the end behind it.
+        // A block of ten octets, and the end after it.
         Outside::OctetReads | Outside::OctetRead(_) => vec![in alloc; 1; 12]?,
         Outside::CutReads => vec![in alloc; 2, 3, 5]?,
         _ => Vec::new(alloc),
@@ -101,7 +107,7 @@ fn report_of(alloc: Global, outside: Outside) -> Result<MemSink, AllocError> {
     MemSink::new(alloc, room, AMPLE, failing)
 }
 
-/// What a run leaves behind: its exit status, what stands on both outputs, and how many octets of the input were not
+/// What a run leaves: its exit status, what stands on both outputs, and how many octets of the input were not
 /// read.
 #[derive(Debug, PartialEq, Eq, Drop)]
 pub struct Ended {
@@ -111,7 +117,7 @@ pub struct Ended {
     pub left: usize,
 }
 
-/// The value that a run should leave behind.
+/// The value that a run should leave.
 pub fn wanted(
     alloc: Global,
     status: u8,
@@ -127,18 +133,7 @@ pub fn wanted(
     })
 }
 
-/// The octets of a text in hexadecimal, with blanks between them.
-pub fn octets(alloc: Global, text: &str) -> Result<Vec<u8>, Fail> {
-    let mut made = Vec::new(alloc);
-    for word in text.split_whitespace() {
-        let mut octet = [0u8; 1];
-        hex::decode_to_slice(word.as_bytes(), &mut octet)?;
-        made.push(octet[0])?;
-    }
-    Ok(made)
-}
-
-// File E behind a comment, with two line feeds for each blank.
+// File E after a comment, with two line feeds for each blank.
 fn commented(alloc: Global) -> Result<Vec<u8>, AllocError> {
     let mut made = b"# a comment\n".to_vec(alloc)?;
     for octet in FILE_E.as_bytes() {
@@ -147,6 +142,15 @@ fn commented(alloc: Global) -> Result<Vec<u8>, AllocError> {
         } else {
             made.push(*octet)?;
         }
+    }
+    Ok(made)
+}
+
+// File E, with blanks at its end.
+fn largest(alloc: Global) -> Result<Vec<u8>, AllocError> {
+    let mut made = FILE_E.as_bytes().to_vec(alloc)?;
+    while made.len() < LARGEST {
+        made.push(b' ')?;
     }
     Ok(made)
 }
@@ -175,11 +179,13 @@ fn files(alloc: Global) -> Result<Vec<(String, Vec<u8>)>, AllocError> {
         ("048", CAT048_P1),
         ("short", CUT_SHORT),
         ("unended", UNENDED),
+        ("256", NO_CATEGORY),
         ("deep", NESTED_TOO_DEEP),
     ] {
         put(alloc, &mut made, name, text.as_bytes().to_vec(alloc)?)?;
     }
     put(alloc, &mut made, "commented", commented(alloc)?)?;
+    put(alloc, &mut made, "largest", largest(alloc)?)?;
     put(alloc, &mut made, "large", vec![in alloc; b' '; TOO_LARGE]?)?;
     Ok(made)
 }
@@ -192,8 +198,8 @@ fn words_of(alloc: Global, text: &str) -> Result<Vec<String>, AllocError> {
     Ok(made)
 }
 
-// How many octets the source has left, which it then gives.
-fn left_of(alloc: Global, source: &mut MemSource) -> Result<usize, Fail> {
+/// How many octets the source has left, which it then gives.
+pub fn left_of(alloc: Global, source: &mut MemSource) -> Result<usize, Fail> {
     let mut buffer = vec![in alloc; 0; 70_000]?;
     Ok(fill(source, &mut buffer)?)
 }
@@ -221,7 +227,7 @@ fn ran(alloc: Global, words: &str, input: &[u8], outside: Outside) -> Result<End
     })
 }
 
-/// Runs the words over this input, and asserts that the run leaves behind what is wanted.
+/// Runs the words over this input, and asserts that the run leaves what is wanted.
 pub fn leaves(
     rt: &impl Abort,
     alloc: Global,

@@ -105,7 +105,7 @@ part_last all i p body at here end w made vs fx h within e u l none values =
     (gets_after (parts_at (map part_tree all) body at) (parts_at (part_tree p ∷ ps) body here) body at here end (lists_onto (map value_list made)) (list_and (values_tree vs) no_lists) (at_part all i p body at here made h within e)
     (parts_end (part_tree p) ps body here end w (fx_bit fx) u l (values_tree vs) (ap fx_bit none) values))
 
--- behind a part with FX 1
+-- after a part with FX 1
 behind_part : (p : Part) (left : List Part) (ps : List MembersTree) → map part_tree left ≡ ps → 0 < length left → (q : MembersTree) × (qs : List MembersTree) × (ps ≡ q ∷ qs)
 behind_part p [] ps e lt = absurd (omega arith)
 behind_part p (q ∷ left) ps e lt = (part_tree q, map part_tree left, sym e)

@@ -13,7 +13,7 @@ use Rattle.ax_reader.specs.Reading.{Gets, FailsAt, kind_read}
 pub record HasFailed {A : Type 0} (found : Read A) (at : ℕ) (e : DecodeError) : Type 0 where
   pub met : (fault : BodyFault) → e ≡ Decoding.Fault fault → FailsAt found at fault
 
--- an entry of this slot and number was read from octet `at` of the body up to octet `end`, and put behind the others
+-- an entry of this slot and number was read from octet `at` of the body up to octet `end`, and put after the others
 pub record Adds (k : KindTree) (number : ℕ) (body : List ℕ) (at end : ℕ) (old new : List Entry) : Type 0 where
   pub value : ValueTree
   pub read : Gets (kind_read k body at) body at end value

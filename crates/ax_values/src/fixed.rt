@@ -11,7 +11,7 @@ use ax_bits::bits_at;
 use ax_model::{Fixed, Member, Members, Value, Values};
 use std::alloc::{AllocError, Global};
 
-/// The number in the `width` bits from bit `at` of the body on, which is moved behind them.
+/// The number in the `width` bits from bit `at` of the body on, which is moved after them.
 fn decode_number(body: &[u8], at: &mut u32, width: u32) -> u128
     requires width { IsWidth width }
     requires within { at.old + width ≤ 8 * length body.now }
@@ -24,7 +24,7 @@ fn decode_number(body: &[u8], at: &mut u32, width: u32) -> u128
     number
 }
 
-/// The value in the bits from bit `at` of the body on, which is moved behind them.
+/// The value in the bits from bit `at` of the body on, which is moved after them.
 #[cycle(fixed)]
 pub(crate) fn decode_fixed(
     alloc: Global,

@@ -15,7 +15,7 @@ use ax_fspec::{Presence, read_presence};
 use ax_model::{BodyCause, BodyFault, Entries, Entry, Kind, Octets, Slot, Slots, Value, Values};
 use std::alloc::{AllocError, Global};
 
-/// The value of a kind that begins at octet `at` of the body, and the octet behind it.
+/// The value of a kind that begins at octet `at` of the body, and the octet after it.
 #[cycle(kind)]
 pub(crate) fn decode_value(
     alloc: Global,
@@ -71,7 +71,7 @@ fn octet_at(body: &[u8], at: u32) -> Result<u8, BodyFault>
     Ok(body[at as usize])
 }
 
-/// The occurrences of a counted item, and the octet behind them.
+/// The occurrences of a counted item, and the octet after them.
 #[tactic(auto, using(crate::proofs::Counting::counts))]
 #[cycle(kind)]
 fn decode_counted(
@@ -97,7 +97,7 @@ fn decode_counted(
     Ok((made, here))
 }
 
-/// The content of an explicit item, and the octet behind it.
+/// The content of an explicit item, and the octet after it.
 fn decode_explicit(alloc: Global, body: &[u8], at: u32) -> Result<(Octets, u32), DecodeError>
     requires body { length body.now ≤ 65532 }
     requires at { at ≤ length body.now }
@@ -134,7 +134,7 @@ pub(crate) fn copy_octets(alloc: Global, octets: &[u8]) -> Result<Octets, AllocE
     Ok(made)
 }
 
-/// The marked subitems of a compound, and the octet behind them.
+/// The marked subitems of a compound, and the octet after them.
 #[cycle(kind)]
 #[tactic(auto, using(crate::proofs::Marking::fields))]
 fn decode_compound(
@@ -154,7 +154,7 @@ fn decode_compound(
     decode_marked(alloc, slots, &marked, body, here)
 }
 
-/// The entries of the marked slots, of which the first begins at octet `at`, and the octet behind them.
+/// The entries of the marked slots, of which the first begins at octet `at`, and the octet after them.
 #[cycle(kind)]
 #[tactic(auto, using(crate::proofs::Marking::at_slots))]
 fn decode_marked(
@@ -184,7 +184,7 @@ fn decode_marked(
     Ok((made, here))
 }
 
-/// Puts the entry of a slot behind the others. Ok is the octet behind it.
+/// Puts the entry of a slot after the others. Ok is the octet after it.
 #[cycle(kind)]
 fn decode_slot(
     alloc: Global,

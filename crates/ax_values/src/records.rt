@@ -38,7 +38,7 @@ pub(crate) fn record_mask(spec: &Spec) -> SlotMask
     }
 }
 
-/// The record that begins at octet `at` of the body, and the octet behind it, by the mask of the UAP.
+/// The record that begins at octet `at` of the body, and the octet after it, by the mask of the UAP.
 pub(crate) fn decode_entries(
     alloc: Global,
     spec: &Spec,
@@ -59,7 +59,7 @@ pub(crate) fn decode_entries(
     Ok((Record { entries }, end))
 }
 
-/// The entries of the marked field reference numbers, of which the first begins at octet `at`, and the octet behind
+/// The entries of the marked field reference numbers, of which the first begins at octet `at`, and the octet after
 /// them.
 fn decode_marked(
     alloc: Global,
@@ -85,7 +85,7 @@ fn decode_marked(
     Ok((made, here))
 }
 
-/// Puts the entry of a field reference number behind the others. Ok is the octet behind it.
+/// Puts the entry of a field reference number after the others. Ok is the octet after it.
 fn decode_item(
     alloc: Global,
     spec: &Spec,

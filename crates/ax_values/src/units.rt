@@ -14,7 +14,7 @@ use ax_bits::bits_at;
 use ax_model::{BodyCause, BodyFault, Fixed, Lists, Parts, Value, Values};
 use std::alloc::Global;
 
-/// The octet behind a unit of `width` bits, whole octets, that begins at octet `at`. RunsOut at its first bit where it
+/// The octet after a unit of `width` bits, whole octets, that begins at octet `at`. RunsOut at its first bit where it
 /// doesn't fit.
 pub(crate) fn unit_end(body: &[u8], at: u32, width: u32) -> Result<u32, BodyFault>
     requires width { (width % 8 ≡ 0) × (width ≤ 524264) }
@@ -43,7 +43,7 @@ fn has_fx(body: &[u8], at: u32) -> bool
     bits_at(body, at, 1) == 1
 }
 
-/// The value of a fixed kind that stands by itself, and the octet behind it.
+/// The value of a fixed kind that stands by itself, and the octet after it.
 #[tactic(auto, using(crate::proofs::Continuing::errors, ax_reader::proofs::AtOctets::fixed_fails))]
 pub(crate) fn decode_single(
     alloc: Global,
@@ -63,7 +63,7 @@ pub(crate) fn decode_single(
     Ok((value, end))
 }
 
-/// The values of the parts that are present, and the octet behind them.
+/// The values of the parts that are present, and the octet after them.
 #[tactic(auto, using(crate::proofs::Continuing::errors, crate::proofs::Repeating::parts_none, ax_reader::proofs::AtOctets::extended_fails))]
 pub(crate) fn decode_parts(
     alloc: Global,
@@ -95,7 +95,7 @@ pub(crate) fn decode_parts(
     }))
 }
 
-/// The values of occurrences by FX, and the octet behind them.
+/// The values of occurrences by FX, and the octet after them.
 #[tactic(auto, using(crate::proofs::Continuing::errors, crate::proofs::Repeating::run_none))]
 pub(crate) fn decode_run(
     alloc: Global,

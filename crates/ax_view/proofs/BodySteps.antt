@@ -105,8 +105,8 @@ records_more codec spec body at end before least clean h t falls walked =
       records = t.records ++ r.entries ∷ [];
       spelled = subst (RecordsSpell spec (t.records ++ r.entries ∷ [])) (sym joined) (one_more spec t.records r.entries (bits (take at body)) x t.spelled (record { spells = r.spells }));
       canonical = λ f. (
-        let c : canon (record_kind spec) w.value ≡ x = append_cancel_right (canon (record_kind spec) w.value) x (bits (drop end body)) (w.canonical f ∙ octets_parts body at end s.forwards) in
-        canon_more spec t.records r.entries ∙ (λ i. t.canonical (falls f) i ++ (sym (ap (canon (record_kind spec)) r.is) ∙ c) i) ∙ sym joined);
+          let c : canon (record_kind spec) w.value ≡ x = append_cancel_right (canon (record_kind spec) w.value) x (bits (drop end body)) (w.canonical f ∙ octets_parts body at end s.forwards) in
+          canon_more spec t.records r.entries ∙ (λ i. t.canonical (falls f) i ++ (sym (ap (canon (record_kind spec)) r.is) ∙ c) i) ∙ sym joined);
     }
 
 pub body_next : (codec : Codec) (body : List ℕ) (at end : ℕ) (before least : Bool) → BodyTo codec body at before → (IsTrue least → IsTrue before)
@@ -119,19 +119,19 @@ body_next codec body at end before least h falls w = record {
 pub body_lost : (codec : Codec) (body : List ℕ) (at : ℕ) (before : Bool) (fault : BodyFault) → BodyTo codec body at before → at < length body → FailsAt (kind_read (record_kind_at codec.nodes codec.slots) body at) at fault → FailsThere codec body fault
 body_lost codec body at before fault h lt l = record {
   fails = λ spec clean stands. (
-    let t = h.records spec clean stands in
-    let f = fault_at (record_kind spec) body at fault (record_bounds spec clean) (loses_of codec spec body at fault stands l) in
-    record {
-      records = t.records;
-      before = bits (take at body);
-      left = bits (drop at body);
-      split = ap bits (sym (take-append-drop at body)) ∙ bits-append (take at body) (drop at body);
-      spelled = t.spelled;
-      some = omega (arith, length-bits (drop at body), length-drop at body);
-      place = f.place;
-      counted = omega (arith, f.bit, length-bits (take at body), length-take-le at body h.within);
-      fails = record { fails = f.fails.fails };
-    });
+      let t = h.records spec clean stands in
+      let f = fault_at (record_kind spec) body at fault (record_bounds spec clean) (loses_of codec spec body at fault stands l) in
+      record {
+        records = t.records;
+        before = bits (take at body);
+        left = bits (drop at body);
+        split = ap bits (sym (take-append-drop at body)) ∙ bits-append (take at body) (drop at body);
+        spelled = t.spelled;
+        some = omega (arith, length-bits (drop at body), length-drop at body);
+        place = f.place;
+        counted = omega (arith, f.bit, length-bits (take at body), length-take-le at body h.within);
+        fails = record { fails = f.fails.fails };
+      });
 }
 
 pub some_records : (spec : SpecTree) (rs : List EntriesTree) (b : List ℕ) → RecordsSpell spec rs b → 0 < length b → 0 < length rs

@@ -48,9 +48,9 @@ count_first k body n at least lt e small = record {
         same = ap (count_read (read k)) (front_octet body at n lt e) ∙ (λ i. after (eight i) (λ vs. occurrences vs) (each_read (read k) (times i) (bits (drop (at + 1) body))));
       })
       (λ vs end f g c. (
-        let count : value_count vs ≡ n - 0 = each_count (read k) (n - 0) (8 * (end - (at + 1))) (bits (drop (at + 1) body)) (bits (drop end body)) vs g.got in
-        let is_n : value_count vs ≡ n = omega arith in
-        append_assoc (word 8 (value_count vs)) (each_canon (canon k) vs) (bits (drop end body)) ∙ ap (λ t. word 8 (value_count vs) ++ t) c ∙ ap (λ m. word 8 m ++ bits (drop (at + 1) body)) is_n ∙ sym (octet_front body at n lt e)));
+      let count : value_count vs ≡ n - 0 = each_count (read k) (n - 0) (8 * (end - (at + 1))) (bits (drop (at + 1) body)) (bits (drop end body)) vs g.got in
+      let is_n : value_count vs ≡ n = omega arith in
+      append_assoc (word 8 (value_count vs)) (each_canon (canon k) vs) (bits (drop end body)) ∙ ap (λ t. word 8 (value_count vs) ++ t) c ∙ ap (λ m. word 8 m ++ bits (drop (at + 1) body)) is_n ∙ sym (octet_front body at n lt e)));
 }
   where
     eight : 8 ≡ 8 * (at + 1 - at)

@@ -78,9 +78,9 @@ marked_last : (x : ℕ) (xs seven : List ℕ) → x < 256 → (last_of x xs ≡ 
 marked_last x xs seven lt some f =
     let alone : xs ≡ [] = no_octets xs f.rest in
     is_false (none_marked seven) (λ none. (
-      let zeros : IsTrue (none_marked (word 8 x)) = subst (λ b. IsTrue (none_marked b)) (sym f.octet) (none_with_zero seven none) in
-      let z : x ≡ 0 = sym (number-word 8 x lt) ∙ none_number (word 8 x) zeros in
-      some (ap (last_of x) alone ∙ z)))
+    let zeros : IsTrue (none_marked (word 8 x)) = subst (λ b. IsTrue (none_marked b)) (sym f.octet) (none_with_zero seven none) in
+    let z : x ≡ 0 = sym (number-word 8 x lt) ∙ none_number (word 8 x) zeros in
+    some (ap (last_of x) alone ∙ z)))
 
 presence_none : (k : ℕ) (ms : List ℕ) → Presence k ms [] → ⊥
 presence_none zero ms h = h
@@ -120,7 +120,6 @@ least_octets (suc k) ms (x ∷ xs) d octets (seven, l, bit, inr (more, y, e, f, 
     ∙ least_false k (seven ++ more) (omega (arith, length-append seven more)) (ap none_marked (drop_at seven more 7 l) ∙ on)
     ∙ (λ i. take_at seven more 7 l i ++ 1 ∷ least_presence k (drop_at seven more 7 l i))
     ∙ ap (λ z. seven ++ 1 ∷ z) (least_octets k more xs x octets.1 later (inr last) ∙ o.rest) ∙ sym f
-
 
 -- ---- entries along their marks
 
@@ -189,9 +188,9 @@ module _ (slots : List SlotTree) (mask : SlotMask) (body marks : List ℕ) (at h
       let k = octets_needed (slot_count ss) in
       leads_by (along ss marks) (entries_at ss marks body here) (canon (compound ss)) (kind_read (compound ss) body at) body at here (λ es. marked es) least h.within (field_read slots mask body marks at here m h)
       (λ es end f g c. (
-        let s = spelled es end g clear in
-        let field : least_presence k (marks_of 1 ss es) ≡ bits window =
-        least_alike k (marks_of 1 ss es) marks (marks_of_spelled 1 ss marks es s.0 s.1) ∙ sym (least_alike k field_marks marks (alike_set (7 * h.field.octets) marks h.field.no_other))
-        ∙ least_octets k field_marks window 0 (octets_taken (here - at) (drop at body) (octets_left at body octets)) presence (needs (need f)) in
-        append_assoc (least_presence k (marks_of 1 ss es)) (entries_canon 1 ss es) (bits (drop end body))
-        ∙ (λ i. field i ++ (along_is 1 ss marks es s.0 s.1 i ++ bits (drop end body))) ∙ ap (λ z. bits window ++ z) c ∙ sym (octets_parts body at here (omega (arith, h.begins)))))
+      let s = spelled es end g clear in
+      let field : least_presence k (marks_of 1 ss es) ≡ bits window =
+      least_alike k (marks_of 1 ss es) marks (marks_of_spelled 1 ss marks es s.0 s.1) ∙ sym (least_alike k field_marks marks (alike_set (7 * h.field.octets) marks h.field.no_other))
+      ∙ least_octets k field_marks window 0 (octets_taken (here - at) (drop at body) (octets_left at body octets)) presence (needs (need f)) in
+      append_assoc (least_presence k (marks_of 1 ss es)) (entries_canon 1 ss es) (bits (drop end body))
+      ∙ (λ i. field i ++ (along_is 1 ss marks es s.0 s.1 i ++ bits (drop end body))) ∙ ap (λ z. bits window ++ z) c ∙ sym (octets_parts body at here (omega (arith, h.begins)))))

@@ -82,7 +82,13 @@ fn find_marked<'c, 'a>(
 
 /// The same as `walk`, by a codec's nodes.
 #[inline]
-pub(crate) fn walk_of(codec: &Codec, link: u32, body: &[u8], at: u32, notes: &mut Notes) -> Option<u32>
+pub(crate) fn walk_of(
+    codec: &Codec,
+    link: u32,
+    body: &[u8],
+    at: u32,
+    notes: &mut Notes,
+) -> Option<u32>
     requires link { (0 < link) × (link ≤ length codec.now.nodes) }
     requires bounds { InBounds (kind_at codec.now.nodes link) }
     requires body { length body.now ≤ 65532 }

@@ -50,9 +50,7 @@ impl<'c, 'a> ItemView<'c, 'a> {
         ensures { IsParts self.now (parts_left result) }
     {
         match self.node() {
-            Node::Extended { parts } => {
-                PartSlices::of(self.codec, parts.as_slice(), self.body)
-            }
+            Node::Extended { parts } => { PartSlices::of(self.codec, parts.as_slice(), self.body) }
             _ => PartSlices::of(self.codec, &[], &[]),
         }
     }

@@ -16,7 +16,12 @@ use crate::units::{fixed_width, has_fx, part_width, run};
 use ax_tables::Node;
 
 /// The link of a member, and the bit at which it begins. None comes exactly where there is no such member.
-pub(crate) fn find_member(nodes: &[Node], members: &[u32], at: u32, index: u32) -> Option<(u32, u32)>
+pub(crate) fn find_member(
+    nodes: &[Node],
+    members: &[u32],
+    at: u32,
+    index: u32,
+) -> Option<(u32, u32)>
     requires table { IsTable nodes.now }
     requires links { LinksWithin (length nodes.now) members.now }
     requires bounds { MembersInBounds (linked_members (meanings nodes.now) members.now) }
@@ -54,7 +59,12 @@ pub(crate) fn part_member(nodes: &[Node], link: u32, at: u32, index: u32) -> Opt
 }
 
 /// The link of a part, and the bit at which it begins. None comes exactly where it isn't present.
-pub(crate) fn find_part(nodes: &[Node], parts: &[u32], body: &[u8], index: u32) -> Option<(u32, u32)>
+pub(crate) fn find_part(
+    nodes: &[Node],
+    parts: &[u32],
+    body: &[u8],
+    index: u32,
+) -> Option<(u32, u32)>
     requires table { IsTable nodes.now }
     requires links { LinksWithin (length nodes.now) parts.now }
     requires bounds { InBounds (Tree.extended (linked_parts (meanings nodes.now) parts.now)) }

@@ -28,7 +28,15 @@ pub fn walk_record(codec: &Codec, body: &[u8], at: u32, notes: &mut Notes) -> Op
     ensures fault { IfNone result (FailsAt (kind_read (record_kind_at codec.now.nodes codec.now.slots) body.now at) at notes.new.fault) }
     ensures falls { IsTrue notes.new.least → IsTrue notes.old.least }
 {
-    walk_slots(codec.nodes.as_slice(), codec.nodes.octets(), &codec.mask, codec.slots.as_slice(), body, at, notes)
+    walk_slots(
+        codec.nodes.as_slice(),
+        codec.nodes.octets(),
+        &codec.mask,
+        codec.slots.as_slice(),
+        body,
+        at,
+        notes,
+    )
 }
 
 /// The octet after a record of these slots.
@@ -99,7 +107,14 @@ fn walk_items(
 
 /// The same for an item of a record: only counted items and compounds are left to a call.
 #[inline(always)]
-fn walk_item(nodes: &[Node], octets: &[u32], link: u32, body: &[u8], at: u32, notes: &mut Notes) -> Option<u32>
+fn walk_item(
+    nodes: &[Node],
+    octets: &[u32],
+    link: u32,
+    body: &[u8],
+    at: u32,
+    notes: &mut Notes,
+) -> Option<u32>
     requires table { IsTable nodes.now }
     requires octets { octets.now ≡ map octets_of nodes.now }
     requires link { (0 < link) × (link ≤ length nodes.now) }

@@ -179,4 +179,3 @@ walk_marked-loop-slot-preserved t c =
 pub walk_marked-returns-clause-end : goal.walk_marked-returns-clause-end
 walk_marked-returns-clause-end t c =
     marks_last (linked_slots (meanings c.args.nodes.now) c.args.slots.now) c.args.marked c.loop-slot.left c.args.body.now c.args.at c.loop-slot.here c.loop-slot.notes.least c.loop-slot.invariant.marked c.in_default.ensures.none
-

@@ -30,11 +30,11 @@ by_fx-requires-clause-one c = fx_one c.args.self.now.codec.now c.args.self.now.l
 pub returns : goal.returns
 returns c = elim c.match-node.branch [
   | in-Counted w ↦ subst (λ m. IsOccurrences c.args.self.now (occurrences_shown m.0.now m.1.0 m.1.1.0 (pieces m.1.1.0 (kind_at m.0.now.nodes m.1.0) m.1.1.1.0 m.1.1.1.1.0.now))) (sym w.result-is)
-        (occurrences_by c.args.self.now c.node.result.now c.args.self.now.item.some c.args.self.now.item.within c.node.ensures (occurrences_left w.counted.result) (Of.Counted w.in-Counted.inner) w.in-Counted.is
-        (subst (λ vs. AreOccurrences c.args.self.now.codec.now w.in-Counted.inner false (drop 1 c.args.self.now.body.now) vs (occurrences_left w.counted.result)) (inner_values c.args.self.now.codec.now c.args.self.now.link c.args.self.now.by_fx c.args.self.now.body.now c.node.result.now c.args.self.now.item c.node.ensures w.in-Counted.inner w.in-Counted.is) w.counted.ensures))
+      (occurrences_by c.args.self.now c.node.result.now c.args.self.now.item.some c.args.self.now.item.within c.node.ensures (occurrences_left w.counted.result) (Of.Counted w.in-Counted.inner) w.in-Counted.is
+      (subst (λ vs. AreOccurrences c.args.self.now.codec.now w.in-Counted.inner false (drop 1 c.args.self.now.body.now) vs (occurrences_left w.counted.result)) (inner_values c.args.self.now.codec.now c.args.self.now.link c.args.self.now.by_fx c.args.self.now.body.now c.node.result.now c.args.self.now.item c.node.ensures w.in-Counted.inner w.in-Counted.is) w.counted.ensures))
   | in-ByFx w ↦ subst (λ m. IsOccurrences c.args.self.now (occurrences_shown m.0.now m.1.0 m.1.1.0 (pieces m.1.1.0 (kind_at m.0.now.nodes m.1.0) m.1.1.1.0 m.1.1.1.1.0.now))) (sym w.result-is)
-        (occurrences_by c.args.self.now c.node.result.now c.args.self.now.item.some c.args.self.now.item.within c.node.ensures (occurrences_left w.by_fx.result) (Of.ByFx w.in-ByFx.inner) w.in-ByFx.is
-        (subst (λ vs. AreOccurrences c.args.self.now.codec.now w.in-ByFx.inner true c.args.self.now.body.now vs (occurrences_left w.by_fx.result)) (fx_values c.args.self.now.codec.now c.args.self.now.link c.args.self.now.by_fx c.args.self.now.body.now c.node.result.now c.args.self.now.item c.node.ensures w.in-ByFx.inner w.in-ByFx.is) w.by_fx.ensures))
+      (occurrences_by c.args.self.now c.node.result.now c.args.self.now.item.some c.args.self.now.item.within c.node.ensures (occurrences_left w.by_fx.result) (Of.ByFx w.in-ByFx.inner) w.in-ByFx.is
+      (subst (λ vs. AreOccurrences c.args.self.now.codec.now w.in-ByFx.inner true c.args.self.now.body.now vs (occurrences_left w.by_fx.result)) (fx_values c.args.self.now.codec.now c.args.self.now.link c.args.self.now.by_fx c.args.self.now.body.now c.node.result.now c.args.self.now.item c.node.ensures w.in-ByFx.inner w.in-ByFx.is) w.by_fx.ensures))
   | in_default w ↦ subst (λ m. IsOccurrences c.args.self.now (occurrences_shown m.0.now m.1.0 m.1.1.0 (pieces m.1.1.0 (kind_at m.0.now.nodes m.1.0) m.1.1.1.0 m.1.1.1.1.0.now))) (sym w.result-is)
-        (no_occurrences c.args.self.now c.node.result.now c.args.self.now.item.some c.args.self.now.item.within c.node.ensures (occurrences_left w.none.result) c.node.result.now refl w.in_default.not-Counted w.in_default.not-ByFx w.none.ensures)
+      (no_occurrences c.args.self.now c.node.result.now c.args.self.now.item.some c.args.self.now.item.within c.node.ensures (occurrences_left w.none.result) c.node.result.now refl w.in_default.not-Counted w.in_default.not-ByFx w.none.ensures)
 ]

@@ -1,0 +1,10 @@
+pub mod ValueText
+pub mod BlockText
+pub mod Printing
+pub mod Slots
+pub mod Names
+pub mod Tokens
+pub mod Remarks
+pub mod ShowText
+pub mod Listable
+pub mod Examples

@@ -15,10 +15,25 @@ use Rattle.ax_view.specs.Left.{occurrences_left}
 use Rattle.ax_view.proofs.to_value.+item_to_value.Goals as goal
 
 pub entries_to_value-marked_to_values-requires : goal.entries_to_value-marked_to_values-requires
-entries_to_value-marked_to_values-requires t c = 
-    (omega (arith, c.decreases), (c.requires.links, (slots_bounds c.args.codec.now.nodes c.args.slots.now c.requires.bounds, (marks_bits c.args.mask.now c.args.body.now c.read_presence.new.into 0 c.in-Ok.here c.in-Ok.ensures.ok,
-    (c.in-Ok.ensures.ok.size, (marks_clear (linked_slots (meanings c.args.codec.now.nodes) c.args.slots.now) c.args.mask.now c.args.body.now c.read_presence.new.into 0 c.in-Ok.here c.requires.mask c.in-Ok.ensures.ok,
-    (c.requires.one.few, (c.in-Ok.ensures.ok.within, marks_all c.args.codec.now.nodes c.args.slots.now c.args.mask.now c.args.body.now c.requires.mask c.requires.one c.read_presence.new.into c.in-Ok.here c.in-Ok.ensures.ok))))))))
+entries_to_value-marked_to_values-requires t c = (
+  omega (arith, c.decreases),
+  (
+    c.requires.links,
+    (
+      slots_bounds c.args.codec.now.nodes c.args.slots.now c.requires.bounds,
+      (
+        marks_bits c.args.mask.now c.args.body.now c.read_presence.new.into 0 c.in-Ok.here c.in-Ok.ensures.ok,
+        (
+          c.in-Ok.ensures.ok.size,
+          (
+            marks_clear (linked_slots (meanings c.args.codec.now.nodes) c.args.slots.now) c.args.mask.now c.args.body.now c.read_presence.new.into 0 c.in-Ok.here c.requires.mask c.in-Ok.ensures.ok,
+            (c.requires.one.few, (c.in-Ok.ensures.ok.within, marks_all c.args.codec.now.nodes c.args.slots.now c.args.mask.now c.args.body.now c.requires.mask c.requires.one c.read_presence.new.into c.in-Ok.here c.in-Ok.ensures.ok)),
+          ),
+        ),
+      ),
+    ),
+  ),
+)
 
 pub entries_to_value-returns-in-Ok : goal.entries_to_value-returns-in-Ok
 entries_to_value-returns-in-Ok t c = ok_map c.marked_to_values.result c.marked_to_values.ensures (λ made h. h ∙ entries_are c.args.codec.now.nodes c.args.slots.now c.args.mask.now c.args.body.now c.requires.mask c.requires.one c.read_presence.new.into c.in-Ok.here c.in-Ok.ensures.ok)
@@ -48,7 +63,7 @@ pub item_to_value-extended_item-requires-clause-one : goal.item_to_value-extende
 item_to_value-extended_item-requires-clause-one t c = ext_one c.args.item.now.codec.now c.args.item.now.link c.args.item.now.by_fx c.args.item.now.body.now c.node.result.now c.args.item.now.item c.node.ensures c.in-Extended.parts c.as_slice.result.now c.in-Extended.is c.as_slice.ensures.members
 
 pub item_to_value-entries_to_value-requires : goal.item_to_value-entries_to_value-requires
-item_to_value-entries_to_value-requires t c = 
+item_to_value-entries_to_value-requires t c =
     let falls = compound_falls c.args.item.now.codec.now.nodes c.args.item.now.link c.node.result.now c.args.item.now.codec.now.table c.args.item.now.item.some c.args.item.now.item.within c.node.ensures c.in-Compound.mask c.in-Compound.slots c.as_slice-in-Compound.result.now c.in-Compound.is c.as_slice-in-Compound.ensures.members in
     (omega (arith, falls, c.decreases), (compound_links c.args.item.now.codec.now.nodes c.args.item.now.link c.node.result.now c.args.item.now.codec.now.table c.args.item.now.item.some c.args.item.now.item.within c.node.ensures c.in-Compound.mask c.in-Compound.slots c.as_slice-in-Compound.result.now c.in-Compound.is c.as_slice-in-Compound.ensures.members, (compound_mask c.args.item.now.codec.now.nodes c.args.item.now.link c.node.result.now c.args.item.now.codec.now.table c.args.item.now.item.some c.args.item.now.item.within c.node.ensures c.in-Compound.mask c.in-Compound.slots c.as_slice-in-Compound.result.now c.in-Compound.is c.as_slice-in-Compound.ensures.members, (compound_bounds c.args.item.now.codec.now c.args.item.now.link c.args.item.now.by_fx c.args.item.now.body.now c.node.result.now c.args.item.now.item c.node.ensures c.in-Compound.mask c.in-Compound.slots c.as_slice-in-Compound.result.now c.in-Compound.is c.as_slice-in-Compound.ensures.members, compound_one c.args.item.now.codec.now c.args.item.now.link c.args.item.now.by_fx c.args.item.now.body.now c.node.result.now c.args.item.now.item c.node.ensures c.in-Compound.mask c.in-Compound.slots c.as_slice-in-Compound.result.now c.in-Compound.is c.as_slice-in-Compound.ensures.members))))
 
@@ -77,7 +92,7 @@ pub item_to_value-returns-in_ok-values-in_default : goal.item_to_value-returns-i
 item_to_value-returns-in_ok-values-in_default t c = repeat_made c.args.item.now c.node.result.now c.node.ensures (occurrences_left c.occurrences.result) c.occurrences.ensures c.in_ok-values-in_default.values c.in_ok-values-in_default.ensures _ (repeat_tree c.in_ok-values-in_default.values) c.in_default.not-Element c.in_default.not-Group c.in_default.not-Extended c.in_default.not-Explicit c.in_default.not-Compound
 
 pub marked_to_values-loop-slot-init : goal.marked_to_values-loop-slot-init
-marked_to_values-loop-slot-init t c = 
+marked_to_values-loop-slot-init t c =
     let slots = linked_slots (meanings c.args.codec.now.nodes) c.args.slots.now in
     record { made = subst (EntriesMade slots c.args.marked c.args.marked c.args.body.now c.args.at c.args.at) (sym c.new-made.ensures) (entries_begin slots c.args.marked c.args.body.now c.args.at c.requires.size c.requires.clear c.requires.marks c.requires.at c.requires.all) }
 
@@ -94,7 +109,7 @@ pub marked_to_values-returns-in_default-walk_of : goal.marked_to_values-returns-
 marked_to_values-returns-in_default-walk_of t c = absurd (next_lost c.args.codec.now.nodes c.args.slots.now c.args.marked c.loop-slot.left c.take_first.new.self c.args.body.now c.in-Some.slot c.args.at c.loop-slot.here 0 c.loop-slot.invariant.made.where_left (next_marked c.args.codec.now.nodes c.args.slots.now c.loop-slot.left c.take_first.new.self _ c.in-Some.slot c.requires.bounds c.loop-slot.invariant.made.where_left.clear c.loop-slot.invariant.made.where_left.are_bits c.in-Some.ensures.some c.in-Some.ensures.marks) c.walk_of.new.notes.fault c.in_default-walk_of.ensures.fault)
 
 pub marked_to_values-invariant_of-item : goal.marked_to_values-invariant_of-item
-marked_to_values-invariant_of-item t c = 
+marked_to_values-invariant_of-item t c =
     let n = (next_marked c.args.codec.now.nodes c.args.slots.now c.loop-slot.left c.take_first.new.self _ c.in-Some.slot c.requires.bounds c.loop-slot.invariant.made.where_left.clear c.loop-slot.invariant.made.where_left.are_bits c.in-Some.ensures.some c.in-Some.ensures.marks) in
     record {
       item = record {
@@ -109,7 +124,7 @@ pub marked_to_values-item_to_value-requires : goal.marked_to_values-item_to_valu
 marked_to_values-item_to_value-requires t c = let n = (next_marked c.args.codec.now.nodes c.args.slots.now c.loop-slot.left c.take_first.new.self _ c.in-Some.slot c.requires.bounds c.loop-slot.invariant.made.where_left.clear c.loop-slot.invariant.made.where_left.are_bits c.in-Some.ensures.some c.in-Some.ensures.marks) in let le = greatest_at c.args.slots.now (c.in-Some.slot - 1) 0 n.within in omega (arith, le, c.decreases)
 
 pub marked_to_values-loop-slot-preserved : goal.marked_to_values-loop-slot-preserved
-marked_to_values-loop-slot-preserved t c = 
+marked_to_values-loop-slot-preserved t c =
     let n = (next_marked c.args.codec.now.nodes c.args.slots.now c.loop-slot.left c.take_first.new.self _ c.in-Some.slot c.requires.bounds c.loop-slot.invariant.made.where_left.clear c.loop-slot.invariant.made.where_left.are_bits c.in-Some.ensures.some c.in-Some.ensures.marks) in
     record {
       made = entries_next c.args.codec.now.nodes c.args.slots.now c.args.marked c.loop-slot.left c.take_first.new.self c.args.body.now c.in-Some.slot c.args.at c.loop-slot.here c.loop-slot.made c.loop-slot.invariant.made n c.in-Some.ensures.within.0 c.in-Some.ensures.some c.in-Some-walk_of.end c.walk_of.new.notes.least c.in-Some-walk_of.ensures.end

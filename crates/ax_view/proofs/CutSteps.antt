@@ -1,8 +1,8 @@
 -- Spellings of parts and of occurrences, cut into the octets of each.
-use Rattle.std.proofs.Common.{◌≡◌, ℕ, zero, suc, ◌+◌, ◌-◌, ◌*◌, ◌/◌, ◌%◌, ◌<◌, ◌≤◌, Bool, true, false, List, [], ◌∷◌, ◌++◌, length, take, drop, map, flat_map, refl, sym, ◌∙◌, ap, arith, subst, length-append, append-nil, append_assoc, take-append-drop, length-drop}
+use Rattle.std.proofs.Common.{◌≡◌, ℕ, suc, ◌+◌, ◌-◌, ◌*◌, ◌/◌, ◌%◌, ◌<◌, ◌≤◌, Bool, true, false, List, [], ◌∷◌, ◌++◌, length, take, drop, map, flat_map, refl, sym, ◌∙◌, ap, arith, subst, length-append, append-nil, append_assoc, take-append-drop, length-drop}
 use Rattle.std.specs.List.{AllByRecursion}
 use Rattle.std.proofs.Math.Nat.{suc-mul, zero-mul}
-use Rattle.std.proofs.lemmas.List.{take_at, drop_at, take_all, drop_all, length-take-le, nil_from_length}
+use Rattle.std.proofs.lemmas.List.{take_at, drop_at, drop_all, length-take-le, nil_from_length}
 use Rattle.ax_bits.proofs.Pieces.{take-bits, drop-bits}
 use Rattle.ax_bits.proofs.Words.{length-bits}
 use Rattle.ax_bits.specs.Bits.{bits}
@@ -11,10 +11,10 @@ use Rattle.ax_model.proofs.FixedKinds.{members_length, fixed_length}
 use Rattle.ax_model.proofs.Spelled.{read_spelled}
 use Rattle.ax_model.proofs.WholeOctets.{spells_whole}
 use Rattle.ax_model.specs.InBounds.{InBounds, PartInBounds}
-use Rattle.ax_model.specs.Reader.{Read, got, failed, read}
+use Rattle.ax_model.specs.Reader.{got, read}
 use Rattle.ax_model.specs.Spelling.{MembersSpell, FixedSpells, PartsSpell, RunSpells, EachSpells, Spells}
-use Rattle.ax_model.specs.Tree.{FixedTree, MembersTree, KindTree, fixed, by_fx, ValueTree, ValuesTree, no_values, value_and, value_count, ListsTree, no_lists, list_and}
-use Rattle.ax_model.specs.Widths.{width, members_width}
+use Rattle.ax_model.specs.Tree.{FixedTree, MembersTree, KindTree, fixed, ValueTree, ValuesTree, no_values, value_and, value_count, ListsTree, no_lists, list_and}
+use Rattle.ax_model.specs.Widths.{width}
 use Rattle.ax_view.specs.Pieces.{octets_taken, first_size, pieces, ArePieces, part_pieces, ArePartPieces, part_size}
 use Rattle.ax_view.specs.Shown.{PartsAre, fx_before, values_list}
 use Rattle.ax_view.specs.Values.{IsAll, IsOne, IsWithFx, IsItemOf, value_read, value_in}

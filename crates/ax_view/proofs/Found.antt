@@ -108,7 +108,7 @@ module _ (nodes : List Node) (links marks left now body : List ℕ) (t at here s
     rest_all : IsAll (entries_at (slots_of (linked_slots (meanings nodes) links)) now body end)
     rest_all = all_after (8 * (end - here)) (λ es. entry_and t w.value es) (entries_at (slots_of (linked_slots (meanings nodes) links)) now body end) (subst IsAll goes_on h.all)
 
-    found : entries_found (entries_at (slots_of (linked_slots (meanings nodes) links)) left body here) ≡ entry_and t w.value (entries_found (entries_at (slots_of (linked_slots (meanings nodes) links)) now body end))
+    pub found : entries_found (entries_at (slots_of (linked_slots (meanings nodes) links)) left body here) ≡ entry_and t w.value (entries_found (entries_at (slots_of (linked_slots (meanings nodes) links)) now body end))
     found = ap entries_found goes_on ∙ found_after t (8 * (end - here)) w.value (entries_at (slots_of (linked_slots (meanings nodes) links)) now body end) rest_all
 
     pub left_next : (t ≡ slot → ⊥) → Left (linked_slots (meanings nodes) links) marks now body at end slot

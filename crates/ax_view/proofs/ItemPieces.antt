@@ -1,16 +1,15 @@
 -- The parts and the occurrences of an item, of what its octets spell.
-use Rattle.std.proofs.Common.{◌≡◌, ◌≢◌, ℕ, zero, suc, ◌+◌, ◌-◌, ◌*◌, ◌/◌, ◌%◌, ◌<◌, ◌≤◌, ◌⊎◌, inl, inr, Bool, true, false, Option, Some, None, IfSome, IfNone, List, [], ◌∷◌, ◌++◌, length, take, drop, map, flat_map, get_or, refl, sym, ◌∙◌, ap, arith, subst, length-drop}
+use Rattle.std.proofs.Common.{◌≡◌, ◌≢◌, ℕ, ◌+◌, ◌-◌, ◌*◌, ◌/◌, ◌%◌, ◌<◌, ◌≤◌, ◌⊎◌, inl, inr, Bool, true, false, Option, Some, None, IfSome, IfNone, List, [], ◌∷◌, ◌++◌, length, take, drop, map, flat_map, get_or, refl, sym, ◌∙◌, ap, arith, subst, length-drop}
 use Rattle.std.proofs.lemmas.List.{take_at, drop_at, get_or_default}
+use Rattle.std.proofs.Math.Nat.{div-le_self}
 use Rattle.std.proofs.lemmas.Nat.{div-mul-add}
 use Rattle.ax_bits.proofs.Pieces.{number-word}
 use Rattle.ax_bits.proofs.Words.{length-word}
 use Rattle.ax_bits.specs.Bits.{bits, word, number_of, AreOctets}
-use Rattle.ax_fspec.specs.declared.mask.SlotMask.{SlotMask}
 use Rattle.ax_model.specs.Canonical.{canon}
-use Rattle.ax_model.specs.InBounds.{InBounds, FixedInBounds}
-use Rattle.ax_model.specs.Reader.{Read, read}
+use Rattle.ax_model.specs.InBounds.{InBounds}
 use Rattle.ax_model.specs.Spelling.{PartsSpell, RunSpells, EachSpells, Spells}
-use Rattle.ax_model.specs.Tree.{FixedTree, KindTree, fixed, extended, counted, by_fx, explicit, compound, ValueTree, occurrences, ValuesTree, value_count, part_values}
+use Rattle.ax_model.specs.Tree.{FixedTree, KindTree, fixed, extended, counted, by_fx, ValueTree, occurrences, ValuesTree, value_count, part_values}
 use Rattle.ax_model.specs.Widths.{width, members_width}
 use Rattle.ax_model.specs.declared.fault.BodyCause.TheVariants.{RunsOut}
 use Rattle.ax_model.specs.declared.fault.BodyFault.{BodyFault}
@@ -18,7 +17,7 @@ use Rattle.ax_reader.proofs.Counting.{counted_none}
 use Rattle.ax_reader.specs.Reading.{FailsAt, kind_read}
 use Rattle.ax_tables.proofs.Tables.{link_means}
 use Rattle.ax_tables.specs.Meaning.{Meaning, a_fixed, a_part, a_kind, meaning, meanings, linked, fixed_of, kind_of, linked_part, linked_parts}
-use Rattle.ax_tables.specs.Table.{IsTable, LinksWithin, kind_at, record_kind_at}
+use Rattle.ax_tables.specs.Table.{IsTable, kind_at, record_kind_at}
 use Rattle.ax_tables.specs.declared.codec.Codec.{Codec}
 use Rattle.ax_tables.specs.declared.node.Node.{Node}
 use Rattle.ax_tables.specs.declared.node.Node.TheVariants as Of
@@ -27,12 +26,12 @@ use Rattle.ax_view.proofs.Found.{read_all}
 use Rattle.ax_view.proofs.ItemSteps.{le_or_less}
 use Rattle.ax_view.proofs.NodeKinds.{is_element, is_group, no_part, is_extended, extended_links, is_counted, counted_link, is_by_fx, by_fx_link, is_explicit, is_compound}
 use Rattle.ax_view.proofs.PartSteps.{is_parts}
-use Rattle.ax_view.proofs.PieceSteps.{first_read, never_fails, size_is, opened, listed, joined}
+use Rattle.ax_view.proofs.PieceSteps.{never_fails, size_is, opened, listed, joined}
 use Rattle.ax_view.proofs.Spelled.{value_spelled}
 use Rattle.ax_view.proofs.UnitSteps.{small}
 use Rattle.ax_view.specs.Left.{Occurrence, occurrences_shown}
 use Rattle.ax_view.specs.Pieces.{first_size, pieces, ArePieces, part_pieces, ArePartPieces, part_size, ArePartsLeft, AreOccurrencesLeft}
-use Rattle.ax_view.specs.Shown.{ArePartsOf, AreOccurrences, OccurrencesBy, IsOccurrences, IsParts, values_list, occurrences_in, item_kind, item_value}
+use Rattle.ax_view.specs.Shown.{ArePartsOf, AreOccurrences, OccurrencesBy, IsOccurrences, occurrences_in}
 use Rattle.ax_view.specs.Spots.{lists_in}
 use Rattle.ax_view.specs.Values.{IsOne, IsItem, IsItemOf, ItemInBounds, value_in}
 use Rattle.ax_view.specs.Walking.{Walks}
@@ -40,11 +39,11 @@ use Rattle.ax_view.specs.declared.item.ItemView.{ItemView}
 
 -- ---- parts
 
-extended_bounds : (fx : Bool) (ps : _) → ItemInBounds fx (extended ps) → InBounds (extended ps)
+pub extended_bounds : (fx : Bool) (ps : _) → ItemInBounds fx (extended ps) → InBounds (extended ps)
 extended_bounds false ps h = h
 extended_bounds true ps h = absurd h
 
-extended_one : (fx : Bool) (ps : _) (body : List ℕ) → IsItemOf fx (extended ps) body → IsOne (extended ps) body
+pub extended_one : (fx : Bool) (ps : _) (body : List ℕ) → IsItemOf fx (extended ps) body → IsOne (extended ps) body
 extended_one false ps body h = h
 extended_one true ps body h = absurd h.fits
 
@@ -101,15 +100,15 @@ module _ (codec : Codec) (link : ℕ) (fx : Bool) (body : List ℕ) (one : Node)
 
 -- ---- counted
 
-record IsCountedValue (k : KindTree) (v : ValueTree) (b : List ℕ) : Type 0 where
-  values : ValuesTree
-  is : v ≡ occurrences values
-  few : value_count values < 256
-  rest : List ℕ
-  split : b ≡ word 8 (value_count values) ++ rest
-  each : EachSpells (Spells k) values rest
+pub record IsCountedValue (k : KindTree) (v : ValueTree) (b : List ℕ) : Type 0 where
+  pub values : ValuesTree
+  pub is : v ≡ occurrences values
+  pub few : value_count values < 256
+  pub rest : List ℕ
+  pub split : b ≡ word 8 (value_count values) ++ rest
+  pub each : EachSpells (Spells k) values rest
 
-counted_value : (k : KindTree) (v : ValueTree) (b : List ℕ) → Spells (counted k) v b → IsCountedValue k v b
+pub counted_value : (k : KindTree) (v : ValueTree) (b : List ℕ) → Spells (counted k) v b → IsCountedValue k v b
 counted_value k (occurrences vs) b (few, y, e, h) = record { values = vs; is = refl; few = few; rest = y; split = e; each = h }
 counted_value k _ b h = absurd h
 
@@ -161,6 +160,7 @@ counted_made codec inner body octets link bounds one left e = record {
   within = link.1;
   bounds = bounds;
   pieces_are = subst (ArePieces false (kind_at codec.nodes inner) (get_or body 0 0)) (sym e) (counted_pieces (kind_at codec.nodes inner) body octets bounds one);
+  count_few = omega (arith, small body 0 (get_or body 0 0) octets refl);
   few = omega (arith, one.few, ap length e, length-drop 1 body);
 }
 
@@ -176,12 +176,12 @@ counted_shown codec inner body octets bounds one left e = record {
 
 -- ---- by FX
 
-record IsRunValue (f : FixedTree) (v : ValueTree) (b : List ℕ) : Type 0 where
-  values : ValuesTree
-  is : v ≡ occurrences values
-  run : RunSpells f values b
+pub record IsRunValue (f : FixedTree) (v : ValueTree) (b : List ℕ) : Type 0 where
+  pub values : ValuesTree
+  pub is : v ≡ occurrences values
+  pub run : RunSpells f values b
 
-run_value : (f : FixedTree) (v : ValueTree) (b : List ℕ) → Spells (by_fx f) v b → IsRunValue f v b
+pub run_value : (f : FixedTree) (v : ValueTree) (b : List ℕ) → Spells (by_fx f) v b → IsRunValue f v b
 run_value f (occurrences vs) b h = record { values = vs; is = refl; run = h }
 run_value f _ b h = absurd h
 
@@ -235,6 +235,7 @@ module _ (codec : Codec) (inner : ℕ) (body : List ℕ) (link : (0 < inner) × 
     within = link.1;
     bounds = subst (ItemInBounds true) (sym (fx_kind codec.nodes inner bounds)) bounds;
     pieces_are = are_run;
+    count_few = let le = div-le_self (length body) size in omega (arith, c, le, one.few);
     few = one.few;
   }
 
@@ -249,19 +250,19 @@ module _ (codec : Codec) (inner : ℕ) (body : List ℕ) (link : (0 < inner) × 
 -- ---- an item's occurrences
 
 module _ (codec : Codec) (link : ℕ) (fx : Bool) (body : List ℕ) (one : Node) (item : IsItem codec link fx body) (at : one ≡ get_or codec.nodes (link - 1) one) where
-  counted_by : (fx : Bool) (k : KindTree) → ItemInBounds fx (counted k) → InBounds (counted k)
+  pub counted_by : (fx : Bool) (k : KindTree) → ItemInBounds fx (counted k) → InBounds (counted k)
   counted_by false k h = h
   counted_by true k h = absurd h
 
-  counted_one_by : (fx : Bool) (k : KindTree) → IsItemOf fx (counted k) body → IsOne (counted k) body
+  pub counted_one_by : (fx : Bool) (k : KindTree) → IsItemOf fx (counted k) body → IsOne (counted k) body
   counted_one_by false k h = h
   counted_one_by true k h = absurd h.fits
 
-  fx_by : (fx : Bool) (f : FixedTree) → ItemInBounds fx (by_fx f) → InBounds (by_fx f)
+  pub fx_by : (fx : Bool) (f : FixedTree) → ItemInBounds fx (by_fx f) → InBounds (by_fx f)
   fx_by false f h = h
   fx_by true f h = absurd h
 
-  fx_one_by : (fx : Bool) (f : FixedTree) → IsItemOf fx (by_fx f) body → IsOne (by_fx f) body
+  pub fx_one_by : (fx : Bool) (f : FixedTree) → IsItemOf fx (by_fx f) body → IsOne (by_fx f) body
   fx_one_by false f h = h
   fx_one_by true f h = absurd h.fits
 
@@ -437,6 +438,7 @@ module _ (codec : Codec) (link : ℕ) (fx : Bool) (count : ℕ) (left : List ℕ
         within = h.within;
         bounds = h.bounds;
         pieces_are = subst (ArePieces fx (kind_at codec.nodes link) (count - 1)) (sym (r ∙ ap (λ n. drop n left) s)) first_open.2;
+        count_few = omega (arith, h.count_few);
         few = omega (arith, h.few, ap length r, length-drop size left);
       }
 

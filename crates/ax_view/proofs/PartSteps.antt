@@ -26,7 +26,7 @@ list_after : (n : ℕ) (vs : ValuesTree) (r : Read ListsTree) → IsAll r → li
 list_after n vs (got ls m y) h = refl
 list_after n vs (failed p c) h = absurd h
 
-parts_after : (n : ℕ) (r : Read ListsTree) → IsAll r → lists_in (value_read (after n (λ ls. part_values ls) r)) ≡ lists_found r
+pub parts_after : (n : ℕ) (r : Read ListsTree) → IsAll r → lists_in (value_read (after n (λ ls. part_values ls) r)) ≡ lists_found r
 parts_after n (got ls m y) h = refl
 parts_after n (failed p c) h = absurd h
 

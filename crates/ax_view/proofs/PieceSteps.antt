@@ -1,7 +1,7 @@
 -- Values one after the other, by what is read of the first.
-use Rattle.std.proofs.Common.{◌≡◌, ℕ, zero, suc, ◌+◌, ◌-◌, ◌*◌, ◌/◌, ◌<◌, ◌≤◌, Bool, true, false, List, [], ◌∷◌, ◌++◌, length, take, drop, map, flat_map, refl, sym, ◌∙◌, ap, arith, subst, take-append-drop, length-drop}
+use Rattle.std.proofs.Common.{◌≡◌, ℕ, zero, suc, ◌+◌, ◌-◌, ◌*◌, ◌/◌, ◌≤◌, Bool, false, List, ◌∷◌, ◌++◌, length, take, drop, flat_map, refl, sym, ◌∙◌, ap, arith, subst, take-append-drop, length-drop}
 use Rattle.std.proofs.lemmas.List.{drop-drop, drop_all}
-use Rattle.ax_bits.proofs.Words.{bits-append, length-bits}
+use Rattle.ax_bits.proofs.Words.{bits-append}
 use Rattle.ax_bits.specs.Bits.{bits}
 use Rattle.ax_model.proofs.Spelled.{read_spelled}
 use Rattle.ax_model.specs.InBounds.{InBounds}

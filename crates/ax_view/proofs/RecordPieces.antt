@@ -1,10 +1,10 @@
 -- The records of a body, by their octets.
-use Rattle.std.proofs.Common.{◌≡◌, ℕ, zero, suc, ◌+◌, ◌-◌, ◌*◌, ◌<◌, ◌≤◌, Bool, true, false, List, [], ◌∷◌, ◌++◌, length, take, drop, map, flat_map, refl, sym, ◌∙◌, ap, arith, subst, take-append-drop}
+use Rattle.std.proofs.Common.{◌≡◌, ℕ, zero, suc, ◌-◌, ◌<◌, ◌≤◌, false, List, [], ◌∷◌, ◌++◌, length, take, drop, map, flat_map, refl, sym, ◌∙◌, ap, arith, subst, take-append-drop}
 use Rattle.std.specs.List.{AllZip}
 use Rattle.ax_bits.proofs.Words.{bits-append, length-bits}
 use Rattle.ax_bits.specs.Bits.{bits}
 use Rattle.ax_model.proofs.Once.{body_once}
-use Rattle.ax_model.specs.Bodies.{SpellsRecord, RecordsSpell, SpellsBody}
+use Rattle.ax_model.specs.Bodies.{RecordsSpell, SpellsBody}
 use Rattle.ax_model.specs.Flaws.{NoFlaw}
 use Rattle.ax_model.specs.Specification.{SpecTree}
 use Rattle.ax_model.specs.Tree.{EntriesTree}

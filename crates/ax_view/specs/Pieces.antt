@@ -1,5 +1,5 @@
 -- Octets of values that stand one after the other.
-use Rattle.std.specs.Prelude.{◌≡◌, ℕ, zero, suc, ◌+◌, ◌*◌, ◌/◌, ◌<◌, ◌≤◌, Bool, true, false, List, [], ◌∷◌, length, map, take, drop}
+use Rattle.std.specs.Prelude.{◌≡◌, ℕ, zero, suc, ◌+◌, ◌/◌, ◌<◌, ◌≤◌, Bool, true, false, List, [], ◌∷◌, length, map, take, drop}
 use Rattle.std.specs.List.{AllByRecursion, AllByRecursion-prop}
 use Rattle.std.specs.Coded.{Coded-set, coded_ℕ, coded_list, le_prop, Unit-prop}
 use Rattle.ax_bits.specs.Bits.{bits}
@@ -88,6 +88,7 @@ pub record AreOccurrencesLeft (codec : Codec) (link : ℕ) (fx : Bool) (count : 
   pub within : link ≤ length codec.nodes
   pub bounds : ItemInBounds fx (kind_at codec.nodes link)
   pub pieces_are : ArePieces fx (kind_at codec.nodes link) count octets
+  pub count_few : count ≤ 65532
   pub few : length octets ≤ 65532
 
 pub AreOccurrencesLeft-prop : (codec : Codec) (link : ℕ) (fx : Bool) (count : ℕ) (octets : List ℕ) → IsProp (AreOccurrencesLeft codec link fx count octets)
@@ -96,5 +97,6 @@ AreOccurrencesLeft-prop codec link fx count octets a b = λ i. record {
   within = le_prop a.within b.within i;
   bounds = ItemInBounds-prop fx (kind_at codec.nodes link) a.bounds b.bounds i;
   pieces_are = ArePieces-prop fx (kind_at codec.nodes link) count octets a.pieces_are b.pieces_are i;
+  count_few = le_prop a.count_few b.count_few i;
   few = le_prop a.few b.few i;
 }

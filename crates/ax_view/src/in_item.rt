@@ -1,5 +1,5 @@
 //! What stands in the value of an item.
-ghost use Rattle.std.specs.Prelude.{◌≡◌, ◌-◌, get_or, option_map, Some, IfSome};
+ghost use Rattle.std.specs.Prelude.{◌≡◌, ◌-◌, ◌≤◌, length, get_or, option_map, Some, IfSome};
 ghost use Rattle.ax_model.specs.At.{slot_value};
 ghost use Rattle.ax_model.specs.Tree.{explicit};
 ghost use Rattle.ax_view.specs.Left.{parts_left, occurrences_left};
@@ -79,9 +79,10 @@ impl<'c, 'a> ItemView<'c, 'a> {
 }
 
 /// The content of an explicit item, after the octet with its length.
-fn content(body: &[u8]) -> &[u8]
+pub(crate) fn content(body: &[u8]) -> &[u8]
     requires { IsOne explicit body.now }
-    ensures { Some result.now ≡ content_in (value_in explicit body.now) }
+    ensures value { Some result.now ≡ content_in (value_in explicit body.now) }
+    ensures few { length result.now ≤ 65532 }
 {
     let length = body[0] as usize;
     &body[1..length]

@@ -1,5 +1,4 @@
-use Rattle.std.proofs.Common.{◌≡◌, ℕ, ◌-◌, ◌<◌, ◌≤◌, Some, List, length, take, drop, refl}
-use Rattle.ax_view.proofs.ItemPieces.{occurrence_within, occurrence_one, later_occurrences, later_shown, some_is}
+use Rattle.ax_view.proofs.ItemPieces.{later_occurrences, some_is}
 use Rattle.ax_view.proofs.each_occurrence.OccurrencesIterator.next.Goals as goal
 
 pub invariant_of-self : goal.invariant_of-self

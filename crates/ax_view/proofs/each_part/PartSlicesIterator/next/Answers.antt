@@ -1,7 +1,7 @@
-use Rattle.std.proofs.Common.{◌≡◌, ◌+◌, ◌≤◌, List, ℕ, [], ◌∷◌, length, map}
+use Rattle.std.proofs.Common.{map}
 use Rattle.ax_tables.specs.Meaning.{meanings, linked_parts}
 use Rattle.ax_view.proofs.ItemPieces.{parts_ended}
-use Rattle.ax_view.proofs.ItemSteps.{empty_is, not_empty}
+use Rattle.ax_view.proofs.ItemSteps.{empty_is}
 use Rattle.ax_view.specs.Pieces.{part_size}
 use Rattle.ax_view.proofs.each_part.PartSlicesIterator.next.Goals as goal
 

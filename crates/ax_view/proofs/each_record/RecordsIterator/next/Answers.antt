@@ -1,8 +1,5 @@
-use Rattle.std.proofs.Common.{◌≡◌, ℕ, ◌+◌, ◌-◌, ◌<◌, ◌≤◌, false, List, [], ◌∷◌, length, map, drop, arith, ap, refl, sym, ◌∙◌, length-drop}
-use Rattle.ax_tables.specs.Table.{record_kind_at}
-use Rattle.ax_tables.specs.declared.codec.Codec.{Codec}
+use Rattle.std.proofs.Common.{length, arith, ap, ◌∙◌, length-drop}
 use Rattle.ax_view.proofs.RecordPieces.{record_there, later_pieces, later_shown, shown_by, fewer}
-use Rattle.ax_view.specs.Pieces.{pieces}
 use Rattle.ax_view.proofs.each_record.RecordsIterator.next.Goals as goal
 
 pub returns-in_default-clause-steps : goal.returns-in_default-clause-steps

@@ -1,4 +1,4 @@
-use Rattle.std.proofs.Common.{◌≡◌, ◌<◌, ◌≤◌, false, true, List, ℕ, [], drop, length, refl, sym, subst}
+use Rattle.std.proofs.Common.{false, true, drop, refl, sym, subst}
 use Rattle.ax_tables.specs.declared.node.Node.TheVariants as Of
 use Rattle.ax_view.proofs.ItemPieces.{inner_link, inner_bounds, inner_one, inner_values, fx_link, fx_bounds, fx_one, fx_values, occurrences_by, no_occurrences}
 use Rattle.ax_view.specs.Shown.{AreOccurrences}

@@ -1,4 +1,4 @@
-use Rattle.std.proofs.Common.{◌≡◌, List, ℕ, [], refl, ◌∙◌, subst, sym, arith}
+use Rattle.std.proofs.Common.{refl, subst, sym, arith}
 use Rattle.ax_tables.specs.Table.{kind_at}
 use Rattle.ax_view.proofs.ItemPieces.{parts_made, parts_shown, no_parts}
 use Rattle.ax_view.specs.Shown.{ArePartsOf}

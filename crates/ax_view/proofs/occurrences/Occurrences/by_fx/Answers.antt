@@ -1,4 +1,4 @@
-use Rattle.std.proofs.Common.{◌≡◌, ℕ, ◌+◌, ◌/◌, length, refl, ap, ◌∙◌}
+use Rattle.std.proofs.Common.{◌+◌, ◌/◌, length, refl, ap, ◌∙◌}
 use Rattle.ax_model.specs.Widths.{width}
 use Rattle.ax_tables.specs.Meaning.{meanings, linked, fixed_of}
 use Rattle.ax_view.proofs.ItemPieces.{by_fx_made, by_fx_shown}

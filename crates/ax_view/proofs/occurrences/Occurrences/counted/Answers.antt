@@ -1,7 +1,6 @@
-use Rattle.std.proofs.Common.{◌≡◌, ◌<◌, ◌≤◌, length, get_or, arith}
+use Rattle.std.proofs.Common.{arith}
 use Rattle.ax_bits.proofs.Pieces.{AreOctets-items}
-use Rattle.ax_tables.specs.Table.{kind_at}
-use Rattle.ax_view.proofs.ItemPieces.{counter_there, counted_made, counted_shown}
+use Rattle.ax_view.proofs.ItemPieces.{counted_made, counted_shown}
 use Rattle.ax_view.proofs.occurrences.Occurrences.counted.Goals as goal
 
 pub invariant_of-result : goal.invariant_of-result

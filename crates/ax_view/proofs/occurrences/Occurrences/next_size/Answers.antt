@@ -1,4 +1,4 @@
-use Rattle.std.proofs.Common.{◌≡◌, ℕ, ◌+◌, ◌/◌, ◌≤◌, ◌^◌, ◌<◌, Some, arith, refl, ap, ◌∙◌}
+use Rattle.std.proofs.Common.{Some, arith, ap, ◌∙◌}
 use Rattle.ax_model.specs.Widths.{width}
 use Rattle.ax_tables.specs.Meaning.{meanings, linked, fixed_of}
 use Rattle.ax_view.proofs.ItemPieces.{fx_fits, fx_size, size_read}

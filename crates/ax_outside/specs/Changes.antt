@@ -1,0 +1,96 @@
+-- What is told and counted of an object of the outside, before and after.
+use Rattle.std.specs.Prelude.{◌≡◌, ℕ, ◌<◌, ◌≤◌, List, ◌++◌, length, take, Option, Result, OnOk, OnErr}
+use Rattle.ax_outside.specs.Told.{with_end, Rose}
+use Rattle.ax_outside.specs.declared.libraries.Library as LibraryOf
+use Rattle.ax_outside.specs.declared.sinks.Sink as SinkOf
+use Rattle.ax_outside.specs.declared.sinks.SinkFailed.{SinkFailed}
+use Rattle.ax_outside.specs.declared.sources.Source as SourceOf
+
+-- ---- a library: a call leaves its files as they were
+
+pub record LibraryCounts : Type 0 where
+  pub faults : ℕ
+  pub faults' : ℕ
+  pub taken : ℕ
+  pub taken' : ℕ
+
+abbrev pub library_counts : {L : Type 0} → LibraryOf.Ghosts L → L → L → LibraryCounts
+library_counts ghosts before after = record {
+  faults = ghosts.faults before;
+  faults' = ghosts.faults after;
+  taken = ghosts.taken before;
+  taken' = ghosts.taken after;
+}
+
+-- nothing was loaded
+pub record IsUnasked (c : LibraryCounts) : Type 0 where
+  pub faults : c.faults' ≡ c.faults
+  pub taken : c.taken' ≡ c.taken
+
+-- ---- a source
+
+pub record SourceChange : Type 0 where
+  pub left : Option (List ℕ)
+  pub left' : Option (List ℕ)
+  pub taken : ℕ
+  pub taken' : ℕ
+  pub faults : ℕ
+  pub faults' : ℕ
+
+abbrev pub source_change : {S : Type 0} → SourceOf.Ghosts S → S → S → SourceChange
+source_change ghosts before after = record {
+  left = ghosts.left before;
+  left' = ghosts.left after;
+  taken = ghosts.taken before;
+  taken' = ghosts.taken after;
+  faults = ghosts.faults before;
+  faults' = ghosts.faults after;
+}
+
+-- no octet was taken
+pub record IsUntouched (i : SourceChange) : Type 0 where
+  pub left : i.left' ≡ i.left
+  pub taken : i.taken' ≡ i.taken
+
+-- ---- a sink
+
+pub record SinkChange : Type 0 where
+  pub held : Option (List ℕ)
+  pub held' : Option (List ℕ)
+  pub faults : ℕ
+  pub faults' : ℕ
+
+abbrev pub sink_change : {K : Type 0} → SinkOf.Ghosts K → K → K → SinkChange
+sink_change ghosts before after = record {
+  held = ghosts.held before;
+  held' = ghosts.held after;
+  faults = ghosts.faults before;
+  faults' = ghosts.faults after;
+}
+
+-- exactly the text was added
+abbrev pub Gains : SinkChange → List ℕ → Type 0
+Gains o text = o.held' ≡ with_end o.held text
+
+-- nothing was added
+abbrev pub GainsNothing : SinkChange → Type 0
+GainsNothing o = o.held' ≡ o.held
+
+-- a prefix of the text was added, not all of it, and the count of faults rose
+pub record GainsPart (o : SinkChange) (text : List ℕ) : Type 0 where
+  pub count : ℕ
+  pub within : count < length text
+  pub gained : o.held' ≡ with_end o.held (take count text)
+  pub rose : Rose o.faults o.faults'
+
+-- the text was added, and of the one after it a prefix, not all of it
+pub record GainsWithPart (o : SinkChange) (text end : List ℕ) : Type 0 where
+  pub count : ℕ
+  pub within : count < length end
+  pub gained : o.held' ≡ with_end o.held (text ++ take count end)
+
+-- a call that writes the text: all of it was added, or a prefix at a failure
+pub record Wrote (o : SinkChange) (result : Result Unit SinkFailed) (text : List ℕ) : Type 0 where
+  pub whole : OnOk result (Gains o text)
+  pub part : OnErr result (GainsPart o text)
+  pub later : o.faults ≤ o.faults'

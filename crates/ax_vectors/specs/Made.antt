@@ -1,0 +1,136 @@
+-- What is made under a kind, over a specification, and as data blocks: the bits of a spelling, and the octets of blocks.
+use Rattle.std.specs.Prelude.{ℕ, zero, suc, ◌+◌, ◌-◌, ◌*◌, ◌/◌, ◌%◌, ◌^◌, ◌==◌, nat_lt, if◌then◌else◌, List, [], ◌∷◌, ◌++◌, length, Option, Some, None}
+use Rattle.ax_bits.specs.Bits.{word}
+use Rattle.ax_model.specs.CanonicalOctets.{octets_of, framed}
+use Rattle.ax_model.specs.Presence.{octets_needed, first_mark, later_marks, marks_upto, marks_after, least_presence}
+use Rattle.ax_model.specs.Specification.{SpecTree, record_kind}
+use Rattle.ax_model.specs.Tree.{FixedTree, element, group, MembersTree, no_members, member_and, named, spare, KindTree, fixed, extended, counted, by_fx, explicit, compound, SlotsTree, no_slots, slot_and, spare_slot, subitem}
+use Rattle.ax_vectors.specs.Draws.{drawn, next_state}
+use Rattle.ax_vectors.specs.Making.{Maker, just, both, times, by_draw}
+
+-- ---- fixed kinds
+
+-- so many draws joined behind a number, the first one most significant; and the state after them
+abbrev pub joined : ℕ → ℕ → ℕ → ℕ × ℕ
+joined zero number state = (number, state)
+joined (suc n) number state = joined n (number * 2 ^ 32 + drawn state) (next_state state)
+
+-- the draws that a width needs: its thirty-second part, rounded up
+abbrev pub draws_needed : ℕ → ℕ
+draws_needed w = (w + 31) / 32
+
+-- an element or a spare: its draws joined, modulo 2^w
+abbrev pub number_made : ℕ → Maker
+number_made w state = (word w ((joined (draws_needed w) 0 state).0 % 2 ^ w), (joined (draws_needed w) 0 state).1)
+
+abbrev mutual
+  pub fixed_made : FixedTree → Maker
+  fixed_made (element w c) = number_made w
+  fixed_made (group ms) = members_made ms
+
+  -- the members in order
+  pub members_made : MembersTree → Maker
+  members_made no_members = just []
+  members_made (member_and (named name f) ms) = both (fixed_made f) (members_made ms)
+  members_made (member_and (spare w) ms) = both (number_made w) (members_made ms)
+
+-- ---- extended, by FX, explicit
+
+-- so many of the parts; after each the FX bit, 1 where another follows and 0 where none does
+abbrev pub parts_made : ℕ → List MembersTree → Maker
+parts_made n [] = just []
+parts_made zero (p ∷ ps) = just []
+parts_made (suc zero) (p ∷ ps) = both (members_made p) (just (0 ∷ []))
+parts_made (suc (suc n)) (p ∷ ps) = both (members_made p) (both (just (1 ∷ [])) (parts_made (suc n) ps))
+
+-- so many occurrences, with their FX bits
+abbrev pub run_made : ℕ → FixedTree → Maker
+run_made zero f = just []
+run_made (suc zero) f = both (fixed_made f) (just (0 ∷ []))
+run_made (suc (suc n)) f = both (fixed_made f) (both (just (1 ∷ [])) (run_made (suc n) f))
+
+-- so many octets of content, with their length, itself included, in front
+abbrev pub content_made : ℕ → Maker
+content_made n = both (just (word 8 (1 + n))) (times n (by_draw (λ d. just (word 8 (d % 256)))))
+
+-- ---- presence fields and what they mark; a slot is given by the maker of its value, or it is spare
+
+-- a mark for each slot: a defined one is marked where a draw is odd
+abbrev pub marks_made : List (Option Maker) → Maker
+marks_made [] = just []
+marks_made (None ∷ slots) = both (just (0 ∷ [])) (marks_made slots)
+marks_made (Some one ∷ slots) = both (by_draw (λ d. just (d % 2 ∷ []))) (marks_made slots)
+
+-- the octets of the least presence field with these marks
+abbrev pub least_octets : List ℕ → ℕ
+least_octets marks = length (least_presence (octets_needed (length marks)) marks) / 8
+
+-- the presence field of so many octets with these marks, and zeros behind them
+abbrev pub field_of : ℕ → List ℕ → List ℕ
+field_of zero marks = []
+field_of (suc zero) marks = marks_upto 7 marks ++ 0 ∷ []
+field_of (suc (suc n)) marks = marks_upto 7 marks ++ 1 ∷ field_of (suc n) (marks_after 7 marks)
+
+-- the least field, or one with redundant octets, of which a draw gives the number where there is room for one
+abbrev pub field_made : List ℕ → Maker
+field_made marks =
+    if nat_lt (least_octets marks) (octets_needed (length marks))
+    then by_draw (λ d. just (field_of (least_octets marks + d % (octets_needed (length marks) - least_octets marks + 1)) marks))
+    else just (field_of (least_octets marks) marks)
+
+-- the values of the marked slots in order
+abbrev pub values_made : List (Option Maker) → List ℕ → Maker
+values_made [] marks = just []
+values_made (None ∷ slots) marks = values_made slots (later_marks marks)
+values_made (Some one ∷ slots) marks = if first_mark marks == 1 then both one (values_made slots (later_marks marks)) else values_made slots (later_marks marks)
+
+-- with these marks
+abbrev pub marked_made : List (Option Maker) → List ℕ → Maker
+marked_made slots marks = both (field_made marks) (values_made slots marks)
+
+-- the marks are drawn first; the field and the values follow
+abbrev pub slots_made : List (Option Maker) → Maker
+slots_made slots state = marked_made slots (marks_made slots state).0 (marks_made slots state).1
+
+-- ---- kinds, where so many counted kinds enclose them
+
+-- so many occurrences, with their count in front
+abbrev pub counted_made : ℕ → Maker → Maker
+counted_made n one = both (just (word 8 n)) (times n one)
+
+abbrev mutual
+  pub kind_made : ℕ → KindTree → Maker
+  kind_made around (fixed f) = fixed_made f
+  kind_made around (extended ps) = by_draw (λ d. parts_made (1 + d % length ps) ps)
+  kind_made around (counted k) = if nat_lt around 2 then by_draw (λ d. counted_made (d % 3) (kind_made (around + 1) k)) else just (word 8 0)
+  kind_made around (by_fx f) = by_draw (λ d. run_made (1 + d % 3) f)
+  kind_made around explicit = by_draw (λ d. content_made (d % 5))
+  kind_made around (compound ss) = slots_made (makers around ss)
+
+  -- how the value of each slot is made
+  pub makers : ℕ → SlotsTree → List (Option Maker)
+  makers around no_slots = []
+  makers around (slot_and spare_slot ss) = None ∷ makers around ss
+  makers around (slot_and (subitem name k) ss) = Some (kind_made around k) ∷ makers around ss
+
+-- ---- records and blocks
+
+-- the spelling of one record
+abbrev pub record_made : SpecTree → Maker
+record_made spec = kind_made 0 (record_kind spec)
+
+-- the spellings of one to four records
+abbrev pub records_made : SpecTree → Maker
+records_made spec = by_draw (λ d. times (1 + d % 4) (record_made spec))
+
+-- the octets of the block with that body; where it would have more than 65,535, of the block of one record without items
+abbrev pub block_of : ℕ → List ℕ → List ℕ
+block_of category body = if nat_lt 65535 (3 + length body) then framed category (0 ∷ []) else framed category body
+
+-- the octets of one block
+abbrev pub block_made : SpecTree → Maker
+block_made spec state = (block_of spec.category (octets_of (records_made spec state).0), (records_made spec state).1)
+
+-- the octets of so many blocks from one seed
+abbrev pub Made : SpecTree → ℕ → ℕ → List ℕ
+Made spec seed count = (times count (block_made spec) seed).0

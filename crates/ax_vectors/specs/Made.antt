@@ -1,10 +1,10 @@
 -- What is made under a kind, over a specification, and as data blocks: the bits of a spelling, and the octets of blocks.
-use Rattle.std.specs.Prelude.{ℕ, zero, suc, ◌+◌, ◌-◌, ◌*◌, ◌/◌, ◌%◌, ◌^◌, ◌==◌, nat_lt, if◌then◌else◌, List, [], ◌∷◌, ◌++◌, length, Option, Some, None}
+use Rattle.std.specs.Prelude.{ℕ, zero, suc, ◌+◌, ◌-◌, ◌*◌, ◌/◌, ◌%◌, ◌^◌, ◌==◌, nat_lt, Bool, true, false, if◌then◌else◌, List, [], ◌∷◌, ◌++◌, length, Option, Some, None}
 use Rattle.ax_bits.specs.Bits.{word}
 use Rattle.ax_model.specs.CanonicalOctets.{octets_of, framed}
 use Rattle.ax_model.specs.Presence.{octets_needed, first_mark, later_marks, marks_upto, marks_after, least_presence}
 use Rattle.ax_model.specs.Specification.{SpecTree, record_kind}
-use Rattle.ax_model.specs.Tree.{FixedTree, element, group, MembersTree, no_members, member_and, named, spare, KindTree, fixed, extended, counted, by_fx, explicit, compound, SlotsTree, no_slots, slot_and, spare_slot, subitem}
+use Rattle.ax_model.specs.Tree.{FixedTree, element, group, MemberTree, MembersTree, no_members, member_and, named, spare, KindTree, fixed, extended, counted, by_fx, explicit, compound, SlotsTree, no_slots, slot_and, spare_slot, subitem, defined_slots}
 use Rattle.ax_vectors.specs.Draws.{drawn, next_state}
 use Rattle.ax_vectors.specs.Making.{Maker, just, both, times, by_draw}
 
@@ -28,38 +28,48 @@ abbrev mutual
   fixed_made (element w c) = number_made w
   fixed_made (group ms) = members_made ms
 
+  pub member_made : MemberTree → Maker
+  member_made (named name f) = fixed_made f
+  member_made (spare w) = number_made w
+
   -- the members in order
   pub members_made : MembersTree → Maker
   members_made no_members = just []
-  members_made (member_and (named name f) ms) = both (fixed_made f) (members_made ms)
-  members_made (member_and (spare w) ms) = both (number_made w) (members_made ms)
+  members_made (member_and m ms) = both (member_made m) (members_made ms)
 
 -- ---- extended, by FX, explicit
 
--- so many of the parts; after each the FX bit, 1 where another follows and 0 where none does
-abbrev pub parts_made : ℕ → List MembersTree → Maker
-parts_made n [] = just []
-parts_made zero (p ∷ ps) = just []
-parts_made (suc zero) (p ∷ ps) = both (members_made p) (just (0 ∷ []))
-parts_made (suc (suc n)) (p ∷ ps) = both (members_made p) (both (just (1 ∷ [])) (parts_made (suc n) ps))
+-- the FX bit where so many follow
+abbrev pub fx_before : ℕ → ℕ
+fx_before zero = 0
+fx_before (suc n) = 1
 
--- so many occurrences, with their FX bits
+-- so many of the parts, each with its FX bit
+abbrev pub parts_made : ℕ → List MembersTree → Maker
+parts_made zero ps = just []
+parts_made (suc n) [] = just []
+parts_made (suc n) (p ∷ ps) = both (members_made p) (both (just (fx_before n ∷ [])) (parts_made n ps))
+
+-- so many occurrences, each with its FX bit
 abbrev pub run_made : ℕ → FixedTree → Maker
 run_made zero f = just []
-run_made (suc zero) f = both (fixed_made f) (just (0 ∷ []))
-run_made (suc (suc n)) f = both (fixed_made f) (both (just (1 ∷ [])) (run_made (suc n) f))
+run_made (suc n) f = both (fixed_made f) (both (just (fx_before n ∷ [])) (run_made n f))
 
 -- so many octets of content, with their length, itself included, in front
 abbrev pub content_made : ℕ → Maker
 content_made n = both (just (word 8 (1 + n))) (times n (by_draw (λ d. just (word 8 (d % 256)))))
 
--- ---- presence fields and what they mark; a slot is given by the maker of its value, or it is spare
+-- ---- presence fields
 
--- a mark for each slot: a defined one is marked where a draw is odd
-abbrev pub marks_made : List (Option Maker) → Maker
+-- the mark of a slot: of a defined one whether a draw is odd, of a spare one 0 without a draw
+abbrev pub mark_made : Bool → Maker
+mark_made true = by_draw (λ d. just (d % 2 ∷ []))
+mark_made false = just (0 ∷ [])
+
+-- a mark for each slot, by whether it is defined
+abbrev pub marks_made : List Bool → Maker
 marks_made [] = just []
-marks_made (None ∷ slots) = both (just (0 ∷ [])) (marks_made slots)
-marks_made (Some one ∷ slots) = both (by_draw (λ d. just (d % 2 ∷ []))) (marks_made slots)
+marks_made (defined ∷ slots) = both (mark_made defined) (marks_made slots)
 
 -- the octets of the least presence field with these marks
 abbrev pub least_octets : List ℕ → ℕ
@@ -68,29 +78,34 @@ least_octets marks = length (least_presence (octets_needed (length marks)) marks
 -- the presence field of so many octets with these marks, and zeros behind them
 abbrev pub field_of : ℕ → List ℕ → List ℕ
 field_of zero marks = []
-field_of (suc zero) marks = marks_upto 7 marks ++ 0 ∷ []
-field_of (suc (suc n)) marks = marks_upto 7 marks ++ 1 ∷ field_of (suc n) (marks_after 7 marks)
+field_of (suc n) marks = marks_upto 7 marks ++ fx_before n ∷ field_of n (marks_after 7 marks)
 
--- the least field, or one with redundant octets, of which a draw gives the number where there is room for one
+-- how many octets a field may have beyond the least one
+abbrev pub octets_spare : List ℕ → ℕ
+octets_spare marks = octets_needed (length marks) - least_octets marks
+
+-- the least field; where there is room for redundant octets, a draw gives their number
 abbrev pub field_made : List ℕ → Maker
-field_made marks =
-    if nat_lt (least_octets marks) (octets_needed (length marks))
-    then by_draw (λ d. just (field_of (least_octets marks + d % (octets_needed (length marks) - least_octets marks + 1)) marks))
-    else just (field_of (least_octets marks) marks)
+field_made marks = if nat_lt 0 (octets_spare marks) then by_draw (λ d. just (field_of (least_octets marks + d % (octets_spare marks + 1)) marks)) else just (field_of (least_octets marks) marks)
+
+-- ---- what a field marks; a slot is given by the maker of its value, where it isn't spare
+
+abbrev pub value_made : Option Maker → Maker
+value_made None = just []
+value_made (Some one) = one
 
 -- the values of the marked slots in order
 abbrev pub values_made : List (Option Maker) → List ℕ → Maker
 values_made [] marks = just []
-values_made (None ∷ slots) marks = values_made slots (later_marks marks)
-values_made (Some one ∷ slots) marks = if first_mark marks == 1 then both one (values_made slots (later_marks marks)) else values_made slots (later_marks marks)
+values_made (slot ∷ slots) marks = if first_mark marks == 1 then both (value_made slot) (values_made slots (later_marks marks)) else values_made slots (later_marks marks)
 
 -- with these marks
 abbrev pub marked_made : List (Option Maker) → List ℕ → Maker
 marked_made slots marks = both (field_made marks) (values_made slots marks)
 
 -- the marks are drawn first; the field and the values follow
-abbrev pub slots_made : List (Option Maker) → Maker
-slots_made slots state = marked_made slots (marks_made slots state).0 (marks_made slots state).1
+abbrev pub slots_made : List Bool → List (Option Maker) → Maker
+slots_made defined slots state = marked_made slots (marks_made defined state).0 (marks_made defined state).1
 
 -- ---- kinds, where so many counted kinds enclose them
 
@@ -105,7 +120,7 @@ abbrev mutual
   kind_made around (counted k) = if nat_lt around 2 then by_draw (λ d. counted_made (d % 3) (kind_made (around + 1) k)) else just (word 8 0)
   kind_made around (by_fx f) = by_draw (λ d. run_made (1 + d % 3) f)
   kind_made around explicit = by_draw (λ d. content_made (d % 5))
-  kind_made around (compound ss) = slots_made (makers around ss)
+  kind_made around (compound ss) = slots_made (defined_slots ss) (makers around ss)
 
   -- how the value of each slot is made
   pub makers : ℕ → SlotsTree → List (Option Maker)

@@ -102,7 +102,7 @@ fn make_member(
 
 /// Puts the FX bit behind the bits, where so many units follow.
 #[tactic(auto, using(crate::proofs::Left::fx_pushed))]
-fn push_fx(left: u32, into: &mut BitString) -> Result<(), AllocError>
+pub(crate) fn push_fx(left: u32, into: &mut BitString) -> Result<(), AllocError>
     ensures { OnOk result (into.new ≡ into.old ++ fx_before left ∷ []) }
 {
     into.push(if left > 0 { 1 } else { 0 }, 1)

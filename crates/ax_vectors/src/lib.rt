@@ -3,6 +3,7 @@
 
 mod bit_string;
 mod draws;
+mod field;
 mod fixed;
 
 pub use ax_samples::{

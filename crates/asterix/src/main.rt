@@ -12,7 +12,7 @@ use std::process::ExitCode;
 /// The octets of standard input that are read at once, at most.
 const INPUT_BUFFER: usize = 65_536;
 
-/// The words behind the program's name. Arguments that aren't UTF-8 are no words, so `run` answers Usage. An `Err` is want
+/// The words after the program's name. Arguments that aren't UTF-8 are no words, so `run` answers Usage. An `Err` is want
 /// of memory.
 fn words_of(alloc: Global, rt: &HostRuntime) -> io::Result<Vec<String>> {
     match env::args(rt) {
@@ -22,7 +22,7 @@ fn words_of(alloc: Global, rt: &HostRuntime) -> io::Result<Vec<String>> {
     }
 }
 
-/// Standard input behind a buffer.
+/// Standard input, through a buffer.
 fn input_of(alloc: Global, rt: &HostRuntime) -> io::Result<BufReader<Stdin>> {
     BufReader::with_capacity(alloc, INPUT_BUFFER, rt.stdin())
 }

@@ -1,5 +1,6 @@
-pub mod Steps
-pub mod Headlines
-pub mod Causes
-pub mod Complete
+pub mod Checks
+pub mod Ends
+pub mod Once
 pub mod OneAnswer
+pub mod SoFar
+pub mod Stages

@@ -1,84 +1,97 @@
 -- Words, files and an input have one answer.
-use Rattle.std.proofs.Common.{◌≡◌, ℕ, inl, inr, List, [], ◌∷◌, Some, length, sym, ◌∙◌, ap, subst, arith}
-use Rattle.ax_command.specs.Words.{Asked, check_of, canon_of, HasShape}
+use Rattle.std.proofs.Common.{◌≡◌, ℕ, inl, inr, List, [], Option, Some, None, length, sym, ◌∙◌, ap, subst, arith}
+use Rattle.ax_command.specs.Outcomes.{outcome_of_stop, outcome_of_end, outcome_of_refusal}
 use Rattle.ax_command.specs.declared.outcome.Outcome.{Outcome}
-use Rattle.ax_load.specs.Loading.{FilesGive}
-use Rattle.ax_load.specs.SameEnds.{same_outcome}
-use Rattle.ax_load.proofs.FilesOnce.{given_once, given_ends_for_memory}
+use Rattle.ax_command.specs.declared.outcome.Refusal.{Refusal}
 use Rattle.ax_load.proofs.EndsOnce.{loading_ends_once}
-use Rattle.ax_model.specs.Specification.{SpecTree}
-use Rattle.ax_model.specs.CanonicalOctets.{CanonBytes}
+use Rattle.ax_load.proofs.FilesOnce.{given_ends_for_memory}
+use Rattle.ax_load.specs.Loading.{FilesGive, FilesEnd}
+use Rattle.ax_load.specs.declared.fault.LoadStop.{LoadStop}
+use Rattle.ax_load.specs.declared.fault.LoadStop.TheVariants as LoadStopOf
 use Rattle.ax_model.proofs.EndsOnce.{ends_once}
+use Rattle.ax_model.specs.Blocks.{BlockTree}
+use Rattle.ax_model.specs.Specification.{SpecTree}
 use Rattle.ax_outside.specs.Files.{File}
 use Rattle.ax_outside.specs.Told.{Rose}
-use Rattle.ax_stream.specs.InputEnds.{longest_input, StreamEnds, end_outcome}
-use Rattle.ax_app.specs.Answer.{file_names, check_text, none_counted, FilesAnswer, IsChecked, CommandAnswers, Answer, by_words, by_files, by_command}
-use Rattle.ax_app.specs.SameAnswers.{IsSameAnswer}
-use Rattle.ax_app.proofs.Causes.{one_command, same_file, same_names}
+use Rattle.ax_stream.proofs.AnswersOnce.{answers_once}
+use Rattle.ax_stream.specs.Commands.{BlockCommand, IsGiven, output_of, report_of}
+use Rattle.ax_stream.specs.Ending.{longest_input, stream_end}
+use Rattle.ax_stream.specs.Streams.{StreamAnswers}
+use Rattle.ax_stream.specs.declared.end.StreamEnd.{StreamEnd}
+use Rattle.ax_app.proofs.Once.{shape_once, does_once}
+use Rattle.ax_app.specs.Answer.{none_counted, Answer, by_words, by_files, by_refusal, by_job}
+use Rattle.ax_app.specs.Jobs.{Job, writes, each_block, refuses, IsJob, JobAnswers}
+use Rattle.ax_app.specs.Running.{Does, StopsAtFiles}
+use Rattle.ax_app.specs.SameAnswers.{IsSameAnswer, same_outcome, same_stop}
 
 none_rose : Rose 0 0 → ⊥
 none_rose (inl r) = omega arith
 none_rose (inr r) = omega arith
 
--- ---- the words
+-- ---- jobs
 
-same_shape : (words : List (List ℕ)) (what other : Asked) → HasShape words what → HasShape words other → what ≡ other
-same_shape words (check_of file) (check_of other) h k = ap check_of (same_file words file other h k)
-same_shape words (check_of file) (canon_of names) h k = absurd (one_command words file names h k)
-same_shape words (canon_of names) (check_of file) h k = absurd (one_command words file names k h)
-same_shape words (canon_of names) (canon_of others) h k = ap canon_of (same_names words names others h k)
-
--- ---- the command
-
-same_check : (catalogue : List SpecTree) (outcome other : Outcome) (written others : List ℕ) → IsChecked catalogue outcome written → IsChecked catalogue other others → IsSameAnswer outcome other written others
-same_check catalogue outcome other written others h k =
-    let e : h.spec ∷ [] ≡ k.spec ∷ [] = sym h.one ∙ k.one in
-    let s : h.spec ≡ k.spec = cc in
-    record { outcome_is = same_outcome (h.done ∙ sym k.done); written_is = h.text ∙ ap check_text s ∙ sym k.text }
-
-same_stream : (catalogue : List SpecTree) (input : List ℕ) (outcome other : Outcome) (written others : List ℕ) → StreamEnds catalogue input outcome written → StreamEnds catalogue input other others → IsSameAnswer outcome other written others
-same_stream catalogue input outcome other written others h k =
-    let same : (h.blocks ≡ k.blocks) × (h.end ≡ k.end) = ends_once catalogue input longest_input h.blocks k.blocks h.end k.end h.ends k.ends in
+same_job : (job : Job) (input : List ℕ) (end other : StreamEnd) (outcome next : Outcome) (written others reported more : List ℕ) → outcome ≡ outcome_of_end end → next ≡ outcome_of_end other
+    → JobAnswers job input end written reported → JobAnswers job input other others more → IsSameAnswer outcome next written others reported more
+same_job (writes text) input end other outcome next written others reported more is to h k = record {
+  outcome_is = same_outcome (is ∙ ap outcome_of_end (h.done ∙ sym k.done) ∙ sym to);
+  written_is = h.written_is ∙ sym k.written_is;
+  reported_is = h.reported_is ∙ sym k.reported_is;
+}
+same_job (each_block c) input end other outcome next written others reported more is to h k =
+    let same : (end ≡ other) × (h.blocks ≡ k.blocks) = answers_once c longest_input input h.blocks k.blocks end other h.answers k.answers in
     record {
-      outcome_is = same_outcome (h.outcome_is ∙ ap (λ b. end_outcome (length b) h.end) same.0 ∙ ap (λ x. end_outcome (length k.blocks) x) same.1 ∙ sym k.outcome_is);
-      written_is = h.written_is ∙ ap (CanonBytes catalogue) same.0 ∙ sym k.written_is;
+      outcome_is = same_outcome (is ∙ ap outcome_of_end same.0 ∙ sym to);
+      written_is = h.written_is ∙ ap (output_of c 0) same.1 ∙ sym k.written_is;
+      reported_is = h.reported_is ∙ ap (report_of c 0) same.1 ∙ sym k.reported_is;
     }
 
-same_command : (what : Asked) (catalogue : List SpecTree) (input : List ℕ) (outcome other : Outcome) (written others : List ℕ) → CommandAnswers what catalogue input outcome written → CommandAnswers what catalogue input other others
-    → IsSameAnswer outcome other written others
-same_command (check_of file) catalogue input outcome other written others h k = same_check catalogue outcome other written others h k
-same_command (canon_of names) catalogue input outcome other written others h k = same_stream catalogue input outcome other written others h k
+same_job (refuses refusal) input end other outcome next written others reported more is to h k = absurd h
 
-same_commands : (files : List File) (what next : Asked) (catalogue more : List SpecTree) (input : List ℕ) (outcome other : Outcome) (written others : List ℕ) → what ≡ next → FilesGive (Some files) (file_names what) catalogue → FilesGive (Some files) (file_names next) more
-    → CommandAnswers what catalogue input outcome written → CommandAnswers next more input other others → IsSameAnswer outcome other written others
-same_commands files what next catalogue more input outcome other written others same gives given h k =
-    let g : FilesGive (Some files) (file_names what) more = subst (λ w. FilesGive (Some files) (file_names w) more) (sym same) given in
-    let one : more ≡ catalogue = given_once files (file_names what) more catalogue g gives in
-    same_command what catalogue input outcome other written others h
-    (subst (λ c. CommandAnswers what c input other others) one (subst (λ w. CommandAnswers w more input other others) (sym same) k))
+refusal_once : (refusal next : Refusal) → refuses refusal ≡ refuses next → refusal ≡ next
+refusal_once refusal next e = cc
 
--- ---- the files
+refused_or_done : (words : List (List ℕ)) (files : List File) (input : List ℕ) (refusal : Refusal) (job : Job) (end : StreamEnd) (written reported : List ℕ) → Does words (Some files) (refuses refusal) → Does words (Some files) job → JobAnswers job input end written reported → ⊥
+refused_or_done words files input refusal job end written reported d k h = subst (λ j. JobAnswers j input end written reported) (does_once words files job (refuses refusal) k d) h
 
-same_files : (files : List File) (what next : Asked) (outcome other : Outcome) (written others : List ℕ) → what ≡ next → FilesAnswer files (file_names what) outcome → FilesAnswer files (file_names next) other → written ≡ [] → others ≡ []
-    → IsSameAnswer outcome other written others
-same_files files what next outcome other written others same h k none nothing =
-    let l : FilesAnswer files (file_names what) other = subst (λ w. FilesAnswer files (file_names w) other) (sym same) k in
-    record { outcome_is = loading_ends_once files none_counted (file_names what) outcome other none_rose h.memory l.memory h.ends l.ends; written_is = none ∙ sym nothing }
+same_refusal : (words : List (List ℕ)) (files : List File) (refusal next : Refusal) (outcome other : Outcome) (written others reported more : List ℕ) → Does words (Some files) (refuses refusal) → Does words (Some files) (refuses next)
+    → outcome ≡ outcome_of_refusal refusal → other ≡ outcome_of_refusal next → written ≡ others → reported ≡ more → IsSameAnswer outcome other written others reported more
+same_refusal words files refusal next outcome other written others reported more d k is to w r =
+    let same : refusal ≡ next = refusal_once refusal next (does_once words files (refuses refusal) (refuses next) d k) in
+    record { outcome_is = same_outcome (is ∙ ap outcome_of_refusal same ∙ sym to); written_is = w; reported_is = r }
 
-files_or_command : (files : List File) (what next : Asked) (outcome : Outcome) (catalogue : List SpecTree) → what ≡ next → FilesAnswer files (file_names what) outcome → FilesGive (Some files) (file_names next) catalogue → ⊥
-files_or_command files what next outcome catalogue same h gives =
-    h.memory (given_ends_for_memory files none_counted (file_names what) catalogue outcome none_rose (subst (λ w. FilesGive (Some files) (file_names w) catalogue) (sym same) gives) h.ends)
+-- ---- files
+
+same_files : (words : List (List ℕ)) (files : List File) (stop next : LoadStop) (outcome other : Outcome) (written others reported more : List ℕ) → StopsAtFiles words (Some files) none_counted stop → StopsAtFiles words (Some files) none_counted next
+    → (stop ≡ LoadStopOf.OutOfMemory → ⊥) → (next ≡ LoadStopOf.OutOfMemory → ⊥) → outcome ≡ outcome_of_stop stop → other ≡ outcome_of_stop next → written ≡ others → reported ≡ more → IsSameAnswer outcome other written others reported more
+same_files words files stop next outcome other written others reported more h k never nor is to w r =
+    let same = shape_once words h.what k.what h.shape k.shape in
+    let ends : FilesEnd (Some files) none_counted h.what.files next = subst (λ v. FilesEnd (Some files) none_counted v.files next) (sym same) k.ends in
+    record { outcome_is = same_stop stop next is to (loading_ends_once files none_counted h.what.files stop next none_rose never nor h.ends ends); written_is = w; reported_is = r }
+
+files_or_job : (words : List (List ℕ)) (files : List File) (stop : LoadStop) (job : Job) → StopsAtFiles words (Some files) none_counted stop → (stop ≡ LoadStopOf.OutOfMemory → ⊥) → Does words (Some files) job → ⊥
+files_or_job words files stop job h never d =
+    let same = shape_once words d.what h.what d.shape h.shape in
+    never (given_ends_for_memory files none_counted h.what.files d.specs stop none_rose (subst (λ v. FilesGive (Some files) v.files d.specs) same d.give) h.ends)
 
 -- ---- all
 
-pub one_answer : (words : List (List ℕ)) (files : List File) (input : List ℕ) (outcome other : Outcome) (written others : List ℕ) → Answer words files input outcome written → Answer words files input other others → IsSameAnswer outcome other written others
-one_answer words files input outcome other written others (by_words never is none) (by_words also is' nothing) = record { outcome_is = same_outcome (is ∙ sym is'); written_is = none ∙ sym nothing }
-one_answer words files input outcome other written others (by_words never is none) (by_files what shape h nothing) = absurd (never what shape)
-one_answer words files input outcome other written others (by_words never is none) (by_command what catalogue shape gives h) = absurd (never what shape)
-one_answer words files input outcome other written others (by_files what shape h none) (by_words never is nothing) = absurd (never what shape)
-one_answer words files input outcome other written others (by_files what shape h none) (by_files next form k nothing) = same_files files what next outcome other written others (same_shape words what next shape form) h k none nothing
-one_answer words files input outcome other written others (by_files what shape h none) (by_command next catalogue form gives k) = absurd (files_or_command files what next outcome catalogue (same_shape words what next shape form) h gives)
-one_answer words files input outcome other written others (by_command what catalogue shape gives h) (by_words never is nothing) = absurd (never what shape)
-one_answer words files input outcome other written others (by_command what catalogue shape gives h) (by_files next form k nothing) = absurd (files_or_command files next what other catalogue (same_shape words next what form shape) k gives)
-one_answer words files input outcome other written others (by_command what catalogue shape gives h) (by_command next more form given k) =
-    same_commands files what next catalogue more input outcome other written others (same_shape words what next shape form) gives given h k
+pub one_answer : (words : List (List ℕ)) (files : List File) (input : List ℕ) (outcome other : Outcome) (written others reported more : List ℕ) → Answer words files input outcome written reported → Answer words files input other others more
+    → IsSameAnswer outcome other written others reported more
+one_answer words files input outcome other written others reported more (by_words never is w r) (by_words also to w' r') = record { outcome_is = same_outcome (is ∙ sym to); written_is = w ∙ sym w'; reported_is = r ∙ sym r' }
+one_answer words files input outcome other written others reported more (by_words never is w r) (by_files stop h some to w' r') = absurd (never h.what h.shape)
+one_answer words files input outcome other written others reported more (by_words never is w r) (by_refusal f d to w' r') = absurd (never d.what d.shape)
+one_answer words files input outcome other written others reported more (by_words never is w r) (by_job job end d h to) = absurd (never d.what d.shape)
+one_answer words files input outcome other written others reported more (by_files stop h some is w r) (by_words never to w' r') = absurd (never h.what h.shape)
+one_answer words files input outcome other written others reported more (by_files stop h some is w r) (by_files next k nor to w' r') = same_files words files stop next outcome other written others reported more h k some nor is to (w ∙ sym w') (r ∙ sym r')
+one_answer words files input outcome other written others reported more (by_files stop h some is w r) (by_refusal f k to w' r') = absurd (files_or_job words files stop (refuses f) h some k)
+one_answer words files input outcome other written others reported more (by_refusal f d is w r) (by_words never to w' r') = absurd (never d.what d.shape)
+one_answer words files input outcome other written others reported more (by_refusal f d is w r) (by_files stop k some to w' r') = absurd (files_or_job words files stop (refuses f) k some d)
+one_answer words files input outcome other written others reported more (by_refusal f d is w r) (by_refusal g k to w' r') = same_refusal words files f g outcome other written others reported more d k is to (w ∙ sym w') (r ∙ sym r')
+one_answer words files input outcome other written others reported more (by_refusal f d is w r) (by_job job end k h to) = absurd (refused_or_done words files input f job end others more d k h)
+one_answer words files input outcome other written others reported more (by_files stop h some is w r) (by_job job end d k to) = absurd (files_or_job words files stop job h some d)
+one_answer words files input outcome other written others reported more (by_job job end d h is) (by_words never to w' r') = absurd (never d.what d.shape)
+one_answer words files input outcome other written others reported more (by_job job end d h is) (by_files stop k some to w' r') = absurd (files_or_job words files stop job k some d)
+one_answer words files input outcome other written others reported more (by_job job end d h is) (by_refusal f k to w' r') = absurd (refused_or_done words files input f job end written reported k d h)
+one_answer words files input outcome other written others reported more (by_job job end d h is) (by_job next last d' k to) =
+    let same : next ≡ job = does_once words files next job d' d in
+    same_job job input end last outcome other written others reported more is to h (subst (λ j. JobAnswers j input last others more) same k)

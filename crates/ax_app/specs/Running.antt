@@ -1,93 +1,77 @@
--- What a run does step by step, whatever the library, the source and the output tell.
-use Rattle.std.specs.Prelude.{◌≡◌, ℕ, ◌+◌, ◌<◌, List, Option, Some}
-use Rattle.ax_bits.specs.Bits.{AreOctets}
-use Rattle.ax_command.specs.Words.{Asked, HasShape, HasNoShape, IsCheck, IsCanon}
-use Rattle.ax_command.specs.Writing.{GainsPrefix}
+-- What a run does, stage by stage, whatever the library, the source and the sinks tell.
+use Rattle.std.specs.Prelude.{◌≡◌, ℕ, ◌+◌, ◌<◌, ◌≤◌, ◌⊎◌, List, Option}
+use Rattle.ax_command.specs.Outcomes.{outcome_of_stop, outcome_of_end, outcome_of_job_stop}
+use Rattle.ax_command.specs.Words.{Asked, HasShape, HasNoShape}
+use Rattle.ax_command.specs.declared.outcome.JobStop.{JobStop}
 use Rattle.ax_command.specs.declared.outcome.Outcome.{Outcome}
-use Rattle.ax_command.specs.declared.outcome.Outcome.TheVariants.{Done, Usage, SpecRefused, CategoryTwice, InputRefused, InputTooLong, LoadFault, ReadFault, WriteFault, OutOfMemory}
-use Rattle.ax_load.specs.Loading.{Counts, GivesSpec, StopsAtFile, FilesGive, FilesEnd}
+use Rattle.ax_command.specs.declared.outcome.Outcome.TheVariants.{Usage, OtherCategory, MigratedTooLong, ReadFault, WriteFault, ReportFault, InputTooLong}
+use Rattle.ax_load.specs.Loading.{FilesGive, FilesEnd}
+use Rattle.ax_load.specs.declared.fault.LoadStop.{LoadStop}
 use Rattle.ax_model.specs.Specification.{SpecTree}
+use Rattle.ax_outside.specs.Changes.{LibraryCounts, SourceChange, SinkChange, IsUnasked, Gains, GainsPart}
 use Rattle.ax_outside.specs.Files.{File}
-use Rattle.ax_outside.specs.Told.{Rose, with_end}
-use Rattle.ax_stream.specs.InputEnds.{longest_input}
-use Rattle.ax_stream.specs.Stops.{StreamRuns, IsOfStream}
-use Rattle.ax_app.specs.Answer.{file_names, check_text}
-use Rattle.ax_app.specs.Headline.{SourceChange, SinkChange, IsUntouched}
+use Rattle.ax_outside.specs.Told.{Rose}
+use Rattle.ax_stream.specs.Ending.{longest_input}
+use Rattle.ax_stream.specs.Streams.{IsIdle}
+use Rattle.ax_stream.specs.declared.end.StreamEnd.{StreamEnd}
+use Rattle.ax_app.specs.Jobs.{Job, IsJob, IsStopped, JobRuns}
 
--- an outcome that comes before the command takes or adds anything
-abbrev pub IsBeforeTheCommand : Outcome → Type 0
-IsBeforeTheCommand Usage = Unit {0}
-IsBeforeTheCommand (SpecRefused file fault) = Unit {0}
-IsBeforeTheCommand (CategoryTwice file category) = Unit {0}
-IsBeforeTheCommand (LoadFault file) = Unit {0}
-IsBeforeTheCommand (Done blocks) = ⊥
-IsBeforeTheCommand (InputRefused fault) = ⊥
-IsBeforeTheCommand InputTooLong = ⊥
-IsBeforeTheCommand ReadFault = ⊥
-IsBeforeTheCommand WriteFault = ⊥
-IsBeforeTheCommand OutOfMemory = ⊥
-
--- an outcome that a file brings about
-abbrev pub IsFileOutcome : Outcome → Type 0
-IsFileOutcome (SpecRefused file fault) = Unit {0}
-IsFileOutcome (CategoryTwice file category) = Unit {0}
-IsFileOutcome (LoadFault file) = Unit {0}
-IsFileOutcome Usage = ⊥
-IsFileOutcome (Done blocks) = ⊥
-IsFileOutcome (InputRefused fault) = ⊥
-IsFileOutcome InputTooLong = ⊥
-IsFileOutcome ReadFault = ⊥
-IsFileOutcome WriteFault = ⊥
-IsFileOutcome OutOfMemory = ⊥
-
--- the outcome is of a file of the words' command, and those before it gave specifications
-pub record IsOfFiles (words : List (List ℕ)) (files : Option (List File)) (c : Counts) (outcome : Outcome) : Type 0 where
+-- the words ask for this, its files give these specifications, and over them it is this job
+pub record Does (words : List (List ℕ)) (files : Option (List File)) (job : Job) : Type 0 where
   pub what : Asked
   pub shape : HasShape words what
-  pub ends : FilesEnd files c (file_names what) outcome
+  pub specs : List SpecTree
+  pub give : FilesGive files what.files specs
+  pub is : IsJob what.verb what.arguments specs job
 
--- the report gained the text, or a prefix of it where its count of faults rose
-pub data Reported (held held' : Option (List ℕ)) (faults faults' : ℕ) (text : List ℕ) : Type 0 where
-  whole : held' ≡ with_end held text → Reported held held' faults faults' text
-  cut : GainsPrefix held held' faults faults' text → Reported held held' faults faults' text
+-- the words ask for this, and loading its files stops so
+pub record StopsAtFiles (words : List (List ℕ)) (files : Option (List File)) (c : LibraryCounts) (stop : LoadStop) : Type 0 where
+  pub what : Asked
+  pub shape : HasShape words what
+  pub ends : FilesEnd files c what.files stop
 
--- ---- step by step
+-- its files give these specifications, and the command stops before its input
+pub record StopsBeforeInput (words : List (List ℕ)) (files : Option (List File)) (stop : JobStop) : Type 0 where
+  pub what : Asked
+  pub shape : HasShape words what
+  pub specs : List SpecTree
+  pub give : FilesGive files what.files specs
+  pub stopped : IsStopped what.verb what.arguments specs stop
 
--- nothing was taken, and nothing was added
-pub record TouchesNothing (i : SourceChange) (o : SinkChange) : Type 0 where
-  pub untouched : IsUntouched i
-  pub held : o.held' ≡ o.held
+-- first the words, then the files, then the arguments over them, then the job
+pub data Runs (words : List (List ℕ)) (files : Option (List File)) (c : LibraryCounts) (i : SourceChange) (o r : SinkChange) (outcome : Outcome) : Type 0 where
+  at_words : HasNoShape words → outcome ≡ Usage → IsUnasked c → IsIdle i o r → Runs words files c i o r outcome
+  at_files : (stop : LoadStop) → StopsAtFiles words files c stop → outcome ≡ outcome_of_stop stop → IsIdle i o r → Runs words files c i o r outcome
+  before_input : (stop : JobStop) → StopsBeforeInput words files stop → outcome ≡ outcome_of_job_stop stop → IsIdle i o r → Runs words files c i o r outcome
+  in_job : (job : Job) (end : StreamEnd) → Does words files job → JobRuns job i o r end → outcome ≡ outcome_of_end end → Runs words files c i o r outcome
 
--- `check` of an accepted file
-abbrev pub CheckEnds : SpecTree → SinkChange → Outcome → Type 0
-CheckEnds spec o (Done blocks) = (blocks ≡ 0) × (o.held' ≡ with_end o.held (check_text spec))
-CheckEnds spec o WriteFault = GainsPrefix o.held o.held' o.faults o.faults' (check_text spec)
-CheckEnds spec o OutOfMemory = o.held' ≡ o.held
-CheckEnds spec o Usage = ⊥
-CheckEnds spec o (SpecRefused file fault) = ⊥
-CheckEnds spec o (CategoryTwice file category) = ⊥
-CheckEnds spec o (LoadFault file) = ⊥
-CheckEnds spec o (InputRefused fault) = ⊥
-CheckEnds spec o InputTooLong = ⊥
-CheckEnds spec o ReadFault = ⊥
+-- ---- the report, to which the lines of the outcome come last
 
-pub data CheckRuns (files : Option (List File)) (c : Counts) (file : List ℕ) (o : SinkChange) (outcome : Outcome) : Type 0 where
-  no_spec : StopsAtFile files c file 0 outcome → o.held' ≡ o.held → CheckRuns files c file o outcome
-  checks : (spec : SpecTree) → GivesSpec files file spec → CheckEnds spec o outcome → CheckRuns files c file o outcome
+-- what the report gained before, and these lines after it, or a prefix of them where its count of faults rose
+pub record Ended (Before : SinkChange → Type 0) (r : SinkChange) (lines : List ℕ) : Type 0 where
+  pub between : Option (List ℕ)
+  pub counted : ℕ
+  pub before : Before (record { held = r.held; held' = between; faults = r.faults; faults' = counted })
+  pub lines_after : Gains (record { held = between; held' = r.held'; faults = counted; faults' = r.faults' }) lines ⊎ GainsPart (record { held = between; held' = r.held'; faults = counted; faults' = r.faults' }) lines
 
--- `canon` over a catalogue
-pub record IsStreamRun (catalogue : List SpecTree) (i : SourceChange) (o : SinkChange) (outcome : Outcome) : Type 0 where
-  pub told : (input : List ℕ) → AreOctets input → i.left ≡ Some input → StreamRuns catalogue input i.left' o.held o.held' outcome
+-- ---- causes
+
+pub record Causes (i : SourceChange) (o r : SinkChange) (outcome : Outcome) : Type 0 where
   pub read : outcome ≡ ReadFault → Rose i.faults i.faults'
   pub write : outcome ≡ WriteFault → Rose o.faults o.faults'
+  pub report : outcome ≡ ReportFault → Rose r.faults r.faults'
   pub too_long : outcome ≡ InputTooLong → i.taken + longest_input < i.taken'
-  pub stream : IsOfStream outcome
 
-pub data CanonRuns (files : Option (List File)) (c : Counts) (names : List (List ℕ)) (i : SourceChange) (o : SinkChange) (outcome : Outcome) : Type 0 where
-  no_catalogue : FilesEnd files c names outcome → TouchesNothing i o → CanonRuns files c names i o outcome
-  streams : (catalogue : List SpecTree) → FilesGive files names catalogue → IsStreamRun catalogue i o outcome → CanonRuns files c names i o outcome
+-- no count of faults fell, and no number of octets loaded
+pub record NoCountFell (c : LibraryCounts) (i : SourceChange) (o r : SinkChange) : Type 0 where
+  pub library : c.faults ≤ c.faults'
+  pub loaded : c.taken ≤ c.taken'
+  pub source : i.faults ≤ i.faults'
+  pub out : o.faults ≤ o.faults'
+  pub report : r.faults ≤ r.faults'
 
-pub data Runs (words : List (List ℕ)) (files : Option (List File)) (c : Counts) (i : SourceChange) (o : SinkChange) (outcome : Outcome) : Type 0 where
-  no_shape : HasNoShape words → outcome ≡ Usage → TouchesNothing i o → Runs words files c i o outcome
-  check_runs : (file : List ℕ) → IsCheck words file → CheckRuns files c file o outcome → IsUntouched i → Runs words files c i o outcome
-  canon_runs : (names : List (List ℕ)) → IsCanon words names → CanonRuns files c names i o outcome → Runs words files c i o outcome
+-- no command so far has lines for its blocks, refuses a block for its length or compares two editions
+pub record IsOfTheseCommands (outcome : Outcome) : Type 0 where
+  pub no_lines : outcome ≡ ReportFault → ⊥
+  pub no_length : (block octets : ℕ) → outcome ≡ MigratedTooLong block octets → ⊥
+  pub no_editions : (old new : ℕ) → outcome ≡ OtherCategory old new → ⊥

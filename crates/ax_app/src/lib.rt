@@ -2,9 +2,10 @@
 //! `asterix` does.
 #![tactic(auto)]
 
-mod commands;
 mod gateway;
+mod jobs;
 mod laws;
+mod makers;
 
 pub use ax_command::{Cause, InputFault, Outcome, SpecFault};
 pub use gateway::run;

@@ -15,7 +15,7 @@ length-written out = length-take-le out.count (bits out.buffer.now) (omega (arit
 pub length-unwritten : (out : Out) → length (unwritten out) ≡ room out
 length-unwritten out = omega (arith, length-drop out.count (bits out.buffer.now), length-bits out.buffer.now)
 
--- w bits are written behind those that were
+-- w bits are written after those that were
 pub appends : (old new : Out) (x : List ℕ) (w : ℕ) → loan new ≡ loan old → length x ≡ w → w ≤ room old →
     new.count ≡ old.count + w → length new.buffer.now ≡ length old.buffer.now →
     bits new.buffer.now ≡ overwritten (bits old.buffer.now) old.count x w → Appends old new x

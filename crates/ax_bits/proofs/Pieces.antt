@@ -112,7 +112,7 @@ bits-set xs i y h =
     ap bits (set_split xs i y h) ∙ bits-append (take i xs) (y ∷ drop (suc i) xs)
     ∙ ap (λ k. bits (take i xs) ++ (word 8 y ++ bits (drop k xs))) (sym (add-one i))
 
--- the bits in front of the last c + r bits of octet i, and its last r bits with those of the octets behind it
+-- the bits in front of the last c + r bits of octet i, and its last r bits with those of the octets after it
 abbrev pub front : List ℕ → ℕ → ℕ → ℕ → List ℕ
 front xs i o w = bits (take i xs) ++ word o (get_or xs i 0 / 2 ^ w)
 
@@ -149,7 +149,7 @@ outside all a m z x at c e p q =
     = sym (drop-drop c at all) ∙ ap (λ k. drop c (drop at k)) e ∙ ap (drop c) (drop_at a (m ++ z) at p) ∙ drop_at m z c q in
     λ i. sym f i ++ (x ++ sym g i)
 
--- c bits from bit `at` on, which lie in octet i, behind o of its bits and in front of r of them
+-- c bits from bit `at` on, which lie in octet i, after o of its bits and in front of r of them
 pub piece_at : (xs : List ℕ) (at i o c r : ℕ) → at ≡ 8 * i + o → o + c + r ≡ 8 → i < length xs →
     take c (drop at (bits xs)) ≡ word c (get_or xs i 0 / 2 ^ r)
 piece_at xs at i o c r e f h =

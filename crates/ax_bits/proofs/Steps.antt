@@ -41,7 +41,7 @@ room_above n j k h e =
 pub joined_below : (n c value piece : ℕ) → value < 2 ^ n → piece < 2 ^ c → value * 2 ^ c + piece < 2 ^ (n + c)
 joined_below n c value piece h p = omega (arith, pow-add 2 n c, mul-add-lt value (2 ^ c) piece (2 ^ n) h p)
 
--- the next c bits, in one octet with r bits behind them
+-- the next c bits, in one octet with r bits after them
 pub next_piece : (xs : List ℕ) (from c r : ℕ) → from % 8 + c + r ≡ 8 → from / 8 < length xs →
     word c (get_or xs (from / 8) 0 / 2 ^ r % 2 ^ c) ≡ take c (drop from (bits xs))
 next_piece xs from c r e h =
@@ -115,7 +115,7 @@ word-patched x o c b p h e =
     ∙ word-joined o (c + b) (x / 2 ^ (c + b)) (p * 2 ^ b + x % 2 ^ b) (low_part_below x b c p h)
     ∙ ap (λ k. word o (x / 2 ^ (c + b)) ++ k) (word-joined c b p (x % 2 ^ b) (mod_below x (2 ^ b) (pow_pos b)) ∙ ap (λ k. word c p ++ k) (word-low b x))
 
--- c bits written from bit `from` on, which lie in one octet with r bits behind them
+-- c bits written from bit `from` on, which lie in one octet with r bits after them
 pub next_written : (xs : List ℕ) (from c r p : ℕ) → from % 8 + c + r ≡ 8 → from / 8 < length xs → p < 2 ^ c →
     bits (set xs (from / 8) (patched (get_or xs (from / 8) 0) r c p)) ≡ overwritten (bits xs) from (word c p) c
 next_written xs from c r p e h g =

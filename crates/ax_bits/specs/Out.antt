@@ -12,7 +12,7 @@ loan out = out.buffer.ghost_name
 abbrev pub written : Out → List ℕ
 written out = take out.count (bits out.buffer.now)
 
--- the bits of the lent buffer behind those that were written
+-- the bits of the lent buffer after those that were written
 abbrev pub unwritten : Out → List ℕ
 unwritten out = drop out.count (bits out.buffer.now)
 
@@ -20,7 +20,7 @@ unwritten out = drop out.count (bits out.buffer.now)
 abbrev pub room : Out → ℕ
 room out = 8 * length out.buffer.now - out.count
 
--- the bits b were written behind those that were there; nothing else in the lent buffer has changed
+-- the bits b were written after those that were there; nothing else in the lent buffer has changed
 pub record Appends (old new : Out) (b : List ℕ) : Type 0 where
   pub loan : loan new ≡ loan old
   pub written : written new ≡ written old ++ b

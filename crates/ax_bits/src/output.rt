@@ -5,7 +5,7 @@ ghost use Rattle.ax_bits.specs.Bits.{word, bits};
 
 use crate::put_bits;
 
-/// An output: bits that were written, from the front of a lent buffer on, and the room behind them. Its lender knows
+/// An output: bits that were written, from the front of a lent buffer on, and the room after them. Its lender knows
 /// the buffer's bits when it has ended.
 #[derive(Drop)]
 pub struct Out<'b> {
@@ -82,7 +82,7 @@ impl<'b> Out<'b> {
         }
     }
 
-    // Appends octets behind bits that fill no whole octet.
+    // Appends octets after bits that fill no whole octet.
     fn push_each(&mut self, octets: &[u8])
         requires { 8 * length octets.now ≤ room self.old }
         ensures { Appends self.old self.new (bits octets.now) }

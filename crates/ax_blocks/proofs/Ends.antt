@@ -41,7 +41,7 @@ len_of-append (a ∷ []) rest h = absurd (omega (arith, h))
 len_of-append (a ∷ b ∷ []) rest h = absurd (omega (arith, h))
 len_of-append (a ∷ b ∷ c ∷ front) rest h = refl
 
--- the octets taken show this end, whatever is left behind them
+-- the octets taken show this end, whatever is left after them
 shows_end : (limit given : ℕ) (left left' : Option (List ℕ)) (front : List ℕ) (e : FramingEnd) → given ≤ limit → left ≡ with_front front left'
     → ((rest : List ℕ) → left' ≡ Some rest → FramingEnds limit given (front ++ rest) e) → OnTold left (λ rest. IsJustNext limit given rest (end e))
 shows_end limit given left left' front e le gives f =
@@ -56,7 +56,7 @@ len_read (a ∷ []) h = absurd (omega (arith, h))
 len_read (a ∷ b ∷ []) h = absurd (omega (arith, h))
 len_read (a ∷ b ∷ c ∷ xs) h = omega arith
 
--- the octets of the header, and those behind it
+-- the octets of the header, and those after it
 pub record Header (limit given : ℕ) (left mid : Option (List ℕ)) (taken between : ℕ) (buffer : List ℕ) (n : ℕ) : Type 0 where
   pub took : Took left mid taken between (take 3 buffer)
   pub count : length (take 3 buffer) ≡ 3
@@ -132,7 +132,7 @@ module _ (limit given : ℕ) (left mid left' : Option (List ℕ)) (taken between
         unfinished = record { within = omega arith; len = λ _. omega arith; more = λ _. omega arith };
       }
 
-  -- the part behind the header is refused
+  -- the part after the header is refused
   pub block_ends : (e : NextError) → PartMeans mid left' between taken' header buffer 3 n (limit - given) (Err e) → OnEnd {A = ℕ} (Err e) (FindsEnd limit given left left' taken taken')
   block_ends InputTooLong p = block_past p
   block_ends ReadFault p = tt

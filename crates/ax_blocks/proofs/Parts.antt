@@ -7,7 +7,7 @@ use borrow.Rule.Slice.PartMut.{put_mid, post_of}
 use Rattle.ax_blocks.specs.Taking.{Took, PartTaken}
 use Rattle.ax_outside.specs.Told.{with_front, IsAtEnd}
 
--- the first n octets of the part stand behind those held
+-- the first n octets of the part stand after those held
 stands_behind : (buffer part : List ℕ) (held k n : ℕ) → held ≤ length buffer → n ≤ length part → take (held + n) (put_mid held k buffer part) ≡ take held buffer ++ take n part
 stands_behind buffer part held k n le room =
     let e : length (take held buffer) ≡ held = length-take-le held buffer le in

@@ -77,7 +77,7 @@ pub record GivesBlock (limit given : ℕ) (left left' : Option (List ℕ)) (take
   pub within : given + length octets ≤ limit
   pub just : OnTold left (λ rest. IsJustNext limit given rest (block raw))
 
--- how many octets show an end, behind `given` octets of whole blocks
+-- how many octets show an end, after `given` octets of whole blocks
 abbrev pub octets_to_end : ℕ → ℕ → FramingEnd → ℕ
 octets_to_end limit given whole = 0
 octets_to_end limit given input_too_long = limit + 1 - given

@@ -22,7 +22,7 @@ pub record IsUnfinished (limit before : ℕ) (octets : List ℕ) : Type 0 where
   pub len : 3 ≤ length octets → 4 ≤ len_of octets
   pub more : 3 ≤ length octets → length octets < len_of octets
 
--- ---- taking a part of a block into a buffer, behind the octets held, up to those needed
+-- ---- taking a part of a block into a buffer, after the octets held, up to those needed
 
 -- the buffer holds n octets of the block now; fewer than are needed where the input has ended
 pub record PartTaken (left left' : Option (List ℕ)) (taken taken' : ℕ) (buffer buffer' : List ℕ) (held needed room n : ℕ) : Type 0 where

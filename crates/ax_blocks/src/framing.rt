@@ -13,7 +13,7 @@ use ax_outside::{Source, fill};
 /// The octets of CAT and LEN.
 const HEADER: usize = 3;
 
-// Takes octets of the next block, behind those held, up to those needed, and answers how many it holds then: fewer only
+// Takes octets of the next block, after those held, up to those needed, and answers how many it holds then: fewer only
 // where the input ends. Past `room` it takes one octet, which the part needs, and refuses.
 fn take_part<S: Source>(
     source: &mut S,

@@ -60,7 +60,7 @@ impl BlockReader {
     /// The next block of the input, or None exactly where the input ends at a block's border. It takes no memory, and asks
     /// only for octets that the header, and then the block, still needs.
     ///
-    /// - `InputTooLong` exactly where the header, or the block, contains the octet behind the limit, and it is there; of a
+    /// - `InputTooLong` exactly where the header, or the block, contains the octet after the limit, and it is there; of a
     ///   source that doesn't tell its octets, only where the number of those taken passes the limit.
     /// - `EndsInHeader`, `BadLen` and `EndsInBlock` exactly where one or two octets are left, where LEN is below 4, and
     ///   where fewer octets than LEN are left.

@@ -2,10 +2,11 @@
 use Rattle.std.proofs.Common.{◌≡◌, ℕ, ◌+◌, ◌<◌, ◌≤◌, Bool, true, false, ◌||◌, List, [], ◌∷◌, ◌++◌, length, map, drop, get_or, bytes_eq, refl, sym, ◌∙◌, ap, subst, append_assoc, append-nil}
 use Rattle.std.proofs.lemmas.List.{drop_all}
 use Rattle.ax_check.proofs.FlawLists.{same_more, same_through}
-use Rattle.ax_check.proofs.Remainders.{from_place}
+use Rattle.ax_model.proofs.Namings.{from_place}
 use Rattle.ax_check.specs.Members.{item_flaws, item_names}
 use Rattle.ax_check.specs.Names.{AreSame}
-use Rattle.ax_model.specs.Flaws.{flaw_where, at, is_among, items_flaws, kind_flaws}
+use Rattle.ax_model.specs.Flaws.{flaw_where, is_among, items_flaws, kind_flaws}
+use Rattle.ax_model.specs.Paths.{at}
 use Rattle.ax_model.specs.Plain.{item_tree}
 use Rattle.ax_model.specs.Specification.{ItemTree}
 use Rattle.ax_model.specs.declared.flaw.Flaw.{Flaw}
@@ -26,7 +27,7 @@ behind_same : (a b : List (List ℕ)) (items : List Item) → AreSame a b → Ar
 behind_same a b [] h = h
 behind_same a b (item ∷ items) h = behind_same (item.name ∷ a) (item.name ∷ b) items (same_more item.name a b h)
 
--- a name is behind where it was there or is an item's
+-- a name is among those after the items where it was among those before or is an item's
 among_behind : (name : List ℕ) (a : List (List ℕ)) (items : List Item) → is_among name (names_behind a items) ≡ (is_among name a || is_among name (item_names items))
 among_behind name a [] = or_false (is_among name a)
   where

@@ -8,6 +8,5 @@ pub mod PartLists
 pub mod SlotLists
 pub mod ItemLists
 pub mod UapLists
-pub mod Namings
 pub mod Walks
 pub mod Stepping

@@ -2,10 +2,11 @@
 use Rattle.std.proofs.Common.{◌≡◌, ℕ, ◌+◌, ◌<◌, ◌≤◌, ◌==◌, List, [], ◌∷◌, ◌++◌, length, map, drop, get_or, codes, decimal, refl, sym, ◌∙◌, ap, append_assoc, append-nil}
 use Rattle.std.proofs.lemmas.List.{drop_all, length-map}
 use Rattle.ax_check.proofs.FlawLists.{members_same, names_same}
-use Rattle.ax_check.proofs.Remainders.{from_place}
+use Rattle.ax_model.proofs.Namings.{from_place}
 use Rattle.ax_check.specs.Members.{part_flaws}
 use Rattle.ax_check.specs.Names.{AreSame}
-use Rattle.ax_model.specs.Flaws.{flaw_where, at, is_no_multiple, is_too_wide, parts_flaws, names_with, kind_flaws}
+use Rattle.ax_model.specs.Flaws.{flaw_where, is_no_multiple, is_too_wide, parts_flaws, names_with, kind_flaws}
+use Rattle.ax_model.specs.Paths.{at}
 use Rattle.ax_model.specs.Plain.{part_tree}
 use Rattle.ax_model.specs.Tree.{MembersTree, extended}
 use Rattle.ax_model.specs.Widths.{members_width}

@@ -1,13 +1,11 @@
 -- Sums of widths modulo 8.
-use Rattle.std.proofs.Common.{◌≡◌, ℕ, suc, ◌+◌, ◌%◌, ◌<◌, ◌≤◌, List, ◌∷◌, length, drop, get_or, refl, sym, ◌∙◌, ap, arith, add-one, drop-cons}
+use Rattle.std.proofs.Common.{◌≡◌, ℕ, ◌+◌, ◌%◌, ◌<◌, ◌≤◌, List, length, drop, get_or, refl, ◌∙◌, ap, arith}
 use Rattle.std.proofs.lemmas.List.{drop_all}
+use Rattle.ax_model.proofs.Namings.{from_place}
 use Rattle.ax_model.specs.Plain.{member_tree, members_tree}
 use Rattle.ax_model.specs.Tree.{MembersTree, member_and, MemberTree, named, spare}
 use Rattle.ax_model.specs.Widths.{member_width, members_width}
 use Rattle.ax_model.specs.declared.kind.Member.{Member}
-
-pub from_place : {A : Type 0} (xs : List A) (i : ℕ) (x : A) → i < length xs → x ≡ get_or xs i x → drop i xs ≡ x ∷ drop (i + 1) xs
-from_place xs i x within e = drop-cons xs i x within ∙ ap (λ y. y ∷ drop (suc i) xs) (sym e) ∙ ap (λ n. x ∷ drop n xs) (sym (add-one i))
 
 member_first : (m : MemberTree) (ms : MembersTree) → members_width (member_and m ms) ≡ member_width m + members_width ms
 member_first (named name f) ms = refl

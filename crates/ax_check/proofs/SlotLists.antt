@@ -2,10 +2,11 @@
 use Rattle.std.proofs.Common.{◌≡◌, ℕ, suc, ◌+◌, ◌<◌, ◌≤◌, ◌==◌, nat_lt, List, [], ◌∷◌, ◌++◌, length, drop, get_or, refl, sym, ◌∙◌, ap, append_assoc, append-nil}
 use Rattle.std.proofs.lemmas.List.{drop_all}
 use Rattle.ax_check.proofs.FlawLists.{same_more}
-use Rattle.ax_check.proofs.Remainders.{from_place}
+use Rattle.ax_model.proofs.Namings.{from_place}
 use Rattle.ax_check.specs.Members.{slot_flaws, with_slot}
 use Rattle.ax_check.specs.Names.{AreSame}
-use Rattle.ax_model.specs.Flaws.{flaw_where, at, slots_flaws, kind_flaws}
+use Rattle.ax_model.specs.Flaws.{flaw_where, slots_flaws, kind_flaws}
+use Rattle.ax_model.specs.Paths.{at}
 use Rattle.ax_model.specs.Plain.{slot_tree, slots_tree}
 use Rattle.ax_model.specs.Tree.{SlotsTree, no_slots, slot_and, SlotTree, spare_slot, subitem, slot_count, compound}
 use Rattle.ax_model.specs.declared.flaw.Flaw.{Flaw}

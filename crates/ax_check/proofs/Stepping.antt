@@ -49,23 +49,6 @@ part_past (x ∷ ps) (suc n) i e = part_past ps n i e
 
 pub ruleset parts = (part_some, part_past)
 
-pub slot_some : (ss : List Slot) (n : ℕ) (s : Slot) → (n ≡ 0 → ⊥) → slice_get ss (n - 1) ≡ Some s → slot_kind (slots_tree ss) n ≡ kind_of_slot (slot_tree s)
-slot_some ss n s some e = slot_there ss n s some e
-
-pub slot_past : (ss : List Slot) (n : ℕ) → (n ≡ 0 → ⊥) → slice_get ss (n - 1) ≡ None → slot_kind (slots_tree ss) n ≡ None
-slot_past ss zero some e = absurd (some refl)
-slot_past ss (suc n) some e = past ss n (ap (slice_get ss) same ∙ e)
-  where
-    same : n ≡ suc n - 1
-    same = omega arith
-
-    past : (ss : List Slot) (n : ℕ) → slice_get ss n ≡ None → slot_kind (slots_tree ss) (suc n) ≡ None
-    past [] n e = refl
-    past (x ∷ ss) zero e = absurd (cc)
-    past (x ∷ ss) (suc n) e = past ss n e
-
-pub ruleset slots = (slot_some, slot_past)
-
 -- ---- walks over fixed kinds
 
 pub ends_here : (steps : List ℕ) (f : FixedTree) (w : ℕ) (c : Content) → steps ≡ [] → f ≡ element w c → fixed_element steps f ≡ Some f

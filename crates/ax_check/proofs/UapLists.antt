@@ -3,10 +3,11 @@ use Rattle.std.proofs.Common.{◌≡◌, ℕ, ◌+◌, ◌<◌, ◌≤◌, ◌==
 use Rattle.std.proofs.lemmas.List.{drop_all}
 use Rattle.std.proofs.lemmas.Slice.Eq.{bytes_eq-Decides}
 use Rattle.ax_check.proofs.FlawLists.{same_more}
-use Rattle.ax_check.proofs.Remainders.{from_place}
+use Rattle.ax_model.proofs.Namings.{from_place}
 use Rattle.ax_check.specs.Members.{uap_slot_flaws, with_uap_slot, item_names, uap_part_flaws}
 use Rattle.ax_check.specs.Names.{AreSame}
-use Rattle.ax_model.specs.Flaws.{flaw_where, at, is_among, items_flaws, uap_flaws, three_digits}
+use Rattle.ax_model.specs.Flaws.{flaw_where, is_among, items_flaws, uap_flaws}
+use Rattle.ax_model.specs.Paths.{at, three_digits}
 use Rattle.ax_model.specs.OfCode.{spec_flaws}
 use Rattle.ax_model.specs.Plain.{item_tree}
 use Rattle.ax_model.specs.Specification.{ItemTree, first_named}

@@ -1,6 +1,7 @@
 -- Walks down a kind by names.
 use Rattle.std.proofs.Common.{◌≡◌, ℕ, Bool, true, false, List, [], ◌∷◌, ◌++◌, map, Option, Some, None, option_map, option_and_then, refl, sym, ◌∙◌, ap, subst, append_assoc, append-nil}
-use Rattle.ax_check.specs.Places.{member_named, part_named, slot_named, fixed_steps, kind_steps, frn_of, place_at, place_of}
+use Rattle.ax_check.specs.Places.{fixed_steps, kind_steps, place_at, place_of}
+use Rattle.ax_model.specs.Naming.{member_named, part_named, slot_named, frn_of}
 use Rattle.ax_check.specs.Walking.{Leads}
 use Rattle.ax_model.proofs.Lookups.{named_tree}
 use Rattle.ax_model.specs.Lookup.{item_named}

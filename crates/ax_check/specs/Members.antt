@@ -1,6 +1,7 @@
--- The flaws of one member, slot or item behind others, and the names that those behind it see.
+-- The flaws of one member, slot or item after others, and the names that those after it see.
 use Rattle.std.specs.Prelude.{ℕ, ◌+◌, ◌==◌, nat_lt, length, map, decimal, List, [], ◌∷◌, ◌++◌, codes, true, if◌then◌else◌}
-use Rattle.ax_model.specs.Flaws.{flaw_where, at, is_among, is_bad_width, is_no_multiple, is_too_wide, fixed_flaws, members_flaws, kind_flaws, uap_flaws}
+use Rattle.ax_model.specs.Flaws.{flaw_where, is_among, is_bad_width, is_no_multiple, is_too_wide, fixed_flaws, members_flaws, kind_flaws, uap_flaws}
+use Rattle.ax_model.specs.Paths.{at}
 use Rattle.ax_model.specs.Plain.{item_tree}
 use Rattle.ax_model.specs.Specification.{ItemTree}
 use Rattle.ax_model.specs.Tree.{MembersTree, MemberTree, named, spare, SlotTree, spare_slot, subitem}

@@ -46,7 +46,7 @@ impl Catalogue {
         }
     }
 
-    /// Adds a specification behind the others. CategoryTwice comes exactly where its category is there. A refusal
+    /// Adds a specification after the others. CategoryTwice comes exactly where its category is there. A refusal
     /// leaves the catalogue as it was.
     #[tactic(auto, using(crate::proofs::Catalogues::adding))]
     pub fn add(&mut self, one: Accepted) -> Result<(), AddError>

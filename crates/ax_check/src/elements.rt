@@ -1,12 +1,11 @@
 //! The element at a place. Nothing here takes memory.
 ghost use Rattle.std.specs.Prelude.{◌≡◌, map, option_map};
 ghost use Rattle.std.specs.Option.{option_copied};
-ghost use Rattle.ax_model.specs.Lengths.{kind_of_slot, slot_kind};
-ghost use Rattle.ax_model.specs.Plain.{fixed_tree, member_tree, members_tree, part_tree, kind_tree, slots_tree, slot_tree, spec_tree};
+ghost use Rattle.ax_model.specs.Plain.{fixed_tree, member_tree, members_tree, part_tree, kind_tree, spec_tree};
 ghost use Rattle.ax_check.specs.Places.{fixed_of_member, member_fixed, part_fixed, fixed_element, kind_element, element_at};
 
 use crate::accepted::Accepted;
-use ax_model::{Fixed, Kind, Member, Members, Parts, Place, Slot, Slots};
+use ax_model::{Fixed, Kind, Member, Members, Parts, Place, subitem_kind};
 
 fn fixed_in(member: &Member) -> Option<&Fixed>
     ensures { option_map fixed_tree (option_copied result) ≡ fixed_of_member (member_tree member.now) }
@@ -30,26 +29,6 @@ fn fixed_in_part(parts: &Parts, part: u32, member: u32) -> Option<&Fixed>
     ensures { option_map fixed_tree (option_copied result) ≡ part_fixed part member (map part_tree parts.now) }
 {
     fixed_at(&parts.get(part)?.members, member)
-}
-
-fn kind_in(slot: &Slot) -> Option<&Kind>
-    ensures { option_map kind_tree (option_copied result) ≡ kind_of_slot (slot_tree slot.now) }
-{
-    match slot {
-        Slot::Spare => None,
-        Slot::Sub { kind, .. } => Some(kind),
-    }
-}
-
-/// The kind of the slot of that number, from 1. None comes where there is none, or it is spare.
-#[tactic(auto, using(crate::proofs::Stepping::slots))]
-fn kind_at(slots: &Slots, number: u32) -> Option<&Kind>
-    ensures { option_map kind_tree (option_copied result) ≡ slot_kind (slots_tree slots.now) number }
-{
-    if number == 0 {
-        return None;
-    }
-    kind_in(slots.get(number - 1)?)
 }
 
 /// The element that the steps lead to from the fixed kind.
@@ -80,7 +59,7 @@ fn element_in<'k>(kind: &'k Kind, steps: &[u32]) -> Option<&'k Fixed>
         }
         Kind::Compound(slots) => {
             let (number, later) = steps.split_first()?;
-            element_in(kind_at(slots, *number)?, later)
+            element_in(subitem_kind(slots, *number)?, later)
         }
         _ => None,
     }

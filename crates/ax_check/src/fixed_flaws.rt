@@ -9,8 +9,8 @@ ghost use Rattle.ax_check.specs.Members.{member_flaws, with_member};
 ghost use Rattle.ax_check.specs.Names.{listed, AreSame};
 
 use crate::names::enter;
-use crate::texts::{at_name, at_spare};
-use ax_model::{Content, Fixed, Flaw, FlawKind, Flaws, Member, Members, Text};
+use crate::texts::at_spare;
+use ax_model::{Content, Fixed, Flaw, FlawKind, Flaws, Member, Members, Text, at_name};
 use indexmap::IndexSet;
 use std::alloc::{AllocError, Global};
 
@@ -120,7 +120,7 @@ fn find_in_group(
     Ok(())
 }
 
-/// The flaws of one member behind others of these names, which gain its own.
+/// The flaws of one member after others of these names, which gain its own.
 #[cycle(fixed)]
 fn find_in_member<'s>(
     alloc: Global,
@@ -152,7 +152,7 @@ fn find_in_member<'s>(
     }
 }
 
-/// The flaws of members behind others of these names, which gain theirs.
+/// The flaws of members after others of these names, which gain theirs.
 #[cycle(fixed)]
 #[tactic(auto, using(crate::proofs::FlawLists::members))]
 pub(crate) fn find_in_members<'s>(

@@ -9,9 +9,9 @@ ghost use Rattle.ax_check.specs.Names.{listed, AreSame};
 
 use crate::fixed_flaws::{find_in_fixed, find_in_members, note};
 use crate::names::enter;
-use crate::texts::{at_body, at_name, at_part};
+use crate::texts::{at_body, at_part};
 use crate::widths::{bits_over, bits_over_members};
-use ax_model::{Fixed, FlawKind, Flaws, Kind, Part, Parts, Slot, Slots, Text};
+use ax_model::{Fixed, FlawKind, Flaws, Kind, Part, Parts, Slot, Slots, Text, at_name};
 use indexmap::IndexSet;
 use std::alloc::{AllocError, Global};
 
@@ -74,7 +74,7 @@ fn find_in_by_fx(
     Ok(())
 }
 
-/// The flaws of a part of that number behind parts whose members have these names, which gain its own.
+/// The flaws of a part of that number after parts whose members have these names, which gain its own.
 #[tactic(auto, using(crate::proofs::WholeFlaws::units))]
 fn find_in_part<'s>(
     alloc: Global,
@@ -146,7 +146,7 @@ pub(crate) fn find_in_kind(
     }
 }
 
-/// The flaws of one slot behind others of these names, which gain its own.
+/// The flaws of one slot after others of these names, which gain its own.
 #[cycle(kind)]
 fn find_in_slot<'s>(
     alloc: Global,

@@ -7,7 +7,6 @@ mod elements;
 mod fixed_flaws;
 mod kind_flaws;
 mod names;
-mod naming;
 mod places;
 mod spec_flaws;
 mod texts;

@@ -5,8 +5,9 @@ ghost use Rattle.ax_check.specs.Places.{fixed_steps, kind_steps, place_of};
 ghost use Rattle.ax_check.specs.Walking.{Leads};
 
 use crate::accepted::Accepted;
-use crate::naming::{find_frn, find_in_parts, find_member, find_slot};
-use ax_model::{Fixed, Kind, Name, Path, Place, Steps};
+use ax_model::{
+    Fixed, Kind, Name, Path, Place, Steps, find_frn, find_in_parts, find_member, find_slot,
+};
 use std::alloc::{AllocError, Global};
 
 /// Appends a step. A list of more than 2^32 - 1 steps is a want of memory.

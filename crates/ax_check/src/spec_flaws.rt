@@ -9,12 +9,12 @@ ghost use Rattle.ax_check.specs.Names.{listed, AreSame};
 use crate::fixed_flaws::note;
 use crate::kind_flaws::{MOST_SLOTS, find_in_kind};
 use crate::names::{enter, has};
-use crate::texts::{at_name, at_uap, of_category};
-use ax_model::{FlawKind, Flaws, Item, Items, Spec, Text, UapSlot};
+use crate::texts::at_uap;
+use ax_model::{FlawKind, Flaws, Item, Items, Spec, Text, UapSlot, at_name, of_category};
 use indexmap::IndexSet;
 use std::alloc::{AllocError, Global};
 
-/// The flaws of one item behind others of these names, which gain its own.
+/// The flaws of one item after others of these names, which gain its own.
 fn find_in_item<'s>(
     alloc: Global,
     found: &mut Flaws,
@@ -51,7 +51,7 @@ fn find_in_items<'s>(
     Ok(())
 }
 
-/// The flaw of one named slot of the UAP, if it has one, behind others of these names, which gain its own.
+/// The flaw of one named slot of the UAP, if it has one, after others of these names, which gain its own.
 fn find_in_uap_slot<'s>(
     alloc: Global,
     found: &mut Flaws,

@@ -15,7 +15,7 @@ fn refused(alloc: Global, catalogue: &mut Catalogue, text: &str) -> Result<Optio
     }
 }
 
-/// The categories in the order of the catalogue, and behind each the edition that `get` finds.
+/// The categories in the order of the catalogue, and after each the edition that `get` finds.
 fn told(alloc: Global, catalogue: &Catalogue) -> Result<String, Fail> {
     let mut made = String::new(alloc);
     for index in 0..catalogue.count() {

@@ -288,7 +288,7 @@ fn whole_files(rt: HostRuntime) -> Result<(), Fail> {
     Ok(())
 }
 
-// 126 slots are the most, and the flaws of the slots stand behind that of their number.
+// 126 slots are the most, and the flaws of the slots stand after that of their number.
 #[test]
 fn more_than_126_slots(rt: HostRuntime) -> Result<(), Fail> {
     let alloc = rt.alloc();

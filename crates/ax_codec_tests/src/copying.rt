@@ -61,7 +61,7 @@ fn sub(rt: &impl Abort, text: &str) -> Slot {
     }
 }
 
-// Puts an item behind the others, and its slot behind theirs.
+// Puts an item after the others, and its slot after theirs.
 fn add(
     rt: &impl Abort,
     alloc: Global,

@@ -4,7 +4,7 @@ use crate::fixtures::{accepted, body_read_as, read_as};
 use ax_samples::{FILE_K, FILE_N, FILE_S, octets};
 use std::test::Fail;
 
-// A group in a group in a group, with a spare behind it, and an element of the greatest width.
+// A group in a group in a group, with a spare after it, and an element of the greatest width.
 pub(crate) const FILE_DEEP: &str = r#"category 206 edition "D" items {
 item 010 "" group { A element 4 raw B group { C element 3 raw D group { E element 1 raw F element 8 raw } } spare 8 }
 item 020 "" element 128 raw
@@ -95,7 +95,7 @@ fn deep_and_wide_items_are_read(rt: HostRuntime) -> Result<(), Fail> {
     Ok(())
 }
 
-// A body cut behind each of its octets, and the bit at which the unit begins that doesn't fit.
+// A body cut after each of its octets, and the bit at which the unit begins that doesn't fit.
 #[test]
 fn a_cut_body_runs_out_where_its_unit_begins(rt: HostRuntime) -> Result<(), Fail> {
     let alloc = rt.alloc();

@@ -64,7 +64,7 @@ fn empty_records(alloc: Global, count: u32) -> Result<Block, AllocError> {
     })
 }
 
-// Each empty record is one octet, behind the three of CAT and LEN.
+// Each empty record is one octet, after the three of CAT and LEN.
 #[test]
 fn the_longest_block_has_65_535_octets(rt: HostRuntime) -> Result<(), Fail> {
     let alloc = rt.alloc();

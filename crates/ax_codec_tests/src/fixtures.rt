@@ -52,7 +52,7 @@ pub(crate) fn body_read_as(
     }
 }
 
-/// The body of a block, behind CAT and the LEN that it has.
+/// The body of a block, after CAT and the LEN that it has.
 fn body_of<'o>(rt: &impl Abort, octets: &'o [u8]) -> &'o [u8] {
     assert!(rt; octets.len() >= 4);
     let length = octets[1] as usize * 256 + octets[2] as usize;

@@ -3,7 +3,7 @@ ghost use Rattle.std.specs.Prelude.{◌≤◌, length, IfSome};
 ghost use Rattle.ax_model.specs.InBounds.{InBounds};
 ghost use Rattle.ax_model.specs.OfCode.{HasNoFlaw};
 ghost use Rattle.ax_model.specs.Plain.{kind_tree};
-ghost use Rattle.ax_values.specs.Reading.{SlotInBounds, slot_of_frn};
+ghost use Rattle.ax_reader.specs.Reading.{SlotInBounds, slot_of_frn};
 
 use crate::fixtures::{accepted, body_read_as};
 use crate::shown::{push_record, push_value, shown_error};
@@ -36,7 +36,7 @@ fn kind_at(spec: &Spec, frn: u32) -> Option<&Kind>
     kind_in(spec, frn)
 }
 
-/// The value of an item that begins at octet `at`, and the octet behind it, or the fault.
+/// The value of an item that begins at octet `at`, and the octet after it, or the fault.
 fn value_at(alloc: Global, kind: &Kind, body: &[u8], at: u32) -> Result<String, AllocError>
     requires kind { InBounds (kind_tree kind.now) }
     requires body { length body.now ≤ 65532 }
@@ -53,7 +53,7 @@ fn value_at(alloc: Global, kind: &Kind, body: &[u8], at: u32) -> Result<String, 
     }
 }
 
-/// The record of a body, and the octet behind it, or the fault.
+/// The record of a body, and the octet after it, or the fault.
 fn record_of(alloc: Global, spec: &Spec, body: &[u8]) -> Result<String, AllocError>
     requires spec { HasNoFlaw spec.now }
     requires body { length body.now ≤ 65532 }

@@ -1,70 +1,88 @@
 -- The shapes of words.
-use Rattle.std.proofs.Common.{◌≡◌, ◌≢◌, ℕ, ◌<◌, ◌≤◌, List, [], ◌∷◌, length, map, codes, refl, sym, ◌∙◌, ap, subst, arith, get_or}
+use Rattle.std.proofs.Common.{◌≡◌, ℕ, ◌+◌, ◌-◌, ◌<◌, ◌≤◌, List, [], ◌∷◌, ◌++◌, Some, None, length, map, take, drop, sym, ◌∙◌, ap, subst, arith, length-append, length-take-le, length-drop}
+use Rattle.std.proofs.Math.Seq.{take-append_seam, drop-append_seam}
 use Rattle.std.specs.List.{AllByRecursion}
-use Rattle.std.proofs.lemmas.List.{length-map}
-use Rattle.ax_command.specs.Words.{check_of, canon_of, BeginsWithDash, IsFileName, IsCheck, IsCanon, HasShape, HasNoShape}
-
-apart : codes "canon" ≡ codes "check" → ⊥
-apart e = let h : ◌≡◌ {A = ℕ} 97 104 = ap (λ xs. get_or xs 1 0) e in absurd (omega arith)
-
-heads : (a b : List ℕ) (xs ys : List (List ℕ)) → a ∷ xs ≡ b ∷ ys → a ≡ b
-heads a b xs ys e = ap (λ zs. get_or zs 0 a) e
-
--- ---- `canon`
-
-canon_only : (words files : List (List ℕ)) → words ≡ codes "canon" ∷ files → ((other : List (List ℕ)) → IsCanon words other → other ≡ files → ⊥) → HasNoShape words
-canon_only words files e unless (check_of file) h = absurd (apart (heads _ _ _ _ (sym e ∙ h.shape)))
-canon_only words files e unless (canon_of other) h = let f : codes "canon" ∷ other ≡ codes "canon" ∷ files = sym h.shape ∙ e in let g : other ≡ files = cc in unless other h g
-
-module _ {A : Type 0} (f : A → List ℕ) (words files : List A) (e : map f words ≡ codes "canon" ∷ map f files) where
-  pub no_file : length files ≡ 0 → HasNoShape (map f words)
-  no_file none = canon_only (map f words) (map f files) e
-      (λ other h g. let i : 0 < length other = h.some in let j : length other ≡ length files = ap length g ∙ length-map files f in absurd (omega arith))
-
-  pub too_many_words : 4294967295 < length words → HasNoShape (map f words)
-  too_many_words many = canon_only (map f words) (map f files) e
-      (λ other h g. let i : length (map f words) < 4294967296 = h.few in let j : length (map f words) ≡ length words = length-map words f in absurd (omega arith))
-
-  pub an_option : (AllByRecursion IsFileName (map f files) → ⊥) → HasNoShape (map f words)
-  an_option never = canon_only (map f words) (map f files) e (λ other h g. never (subst (AllByRecursion IsFileName) g h.plain))
-
-  pub is_canon : (length files ≡ 0 → ⊥) → length words ≤ 4294967295 → AllByRecursion IsFileName (map f files) → IsCanon (map f words) (map f files)
-  is_canon some few plain =
-      let i : length (map f words) ≡ length words = length-map words f in
-      let j : length (map f files) ≡ length files = length-map files f in
-      record { shape = e; some = omega arith; few = omega arith; plain = plain }
-
-pub ruleset canon_shapes = (no_file, too_many_words, an_option, is_canon)
-
--- ---- `check`
-
-check_only : (words files : List (List ℕ)) → words ≡ codes "check" ∷ files → ((file : List ℕ) → IsCheck words file → file ∷ [] ≡ files → ⊥) → HasNoShape words
-check_only words files e unless (check_of file) h =
-    let f : codes "check" ∷ file ∷ [] ≡ codes "check" ∷ files = sym h.shape ∙ e in let g : file ∷ [] ≡ files = cc in unless file h g
-check_only words files e unless (canon_of other) h = absurd (apart (sym (heads _ _ _ _ (sym e ∙ h.shape))))
-
-pub no_word : (words files : List (List ℕ)) → words ≡ codes "check" ∷ files → files ≡ [] → HasNoShape words
-no_word words files e none = check_only words files e (λ file h g. absurd (cc))
-
-pub more_words : (words files : List (List ℕ)) (a b : List ℕ) (more : List (List ℕ)) → words ≡ codes "check" ∷ files → files ≡ a ∷ b ∷ more → HasNoShape words
-more_words words files a b more e f = check_only words files e (λ file h g. absurd (cc))
-
-pub an_option_word : (words files : List (List ℕ)) (a : List ℕ) → words ≡ codes "check" ∷ files → files ≡ a ∷ [] → BeginsWithDash a → HasNoShape words
-an_option_word words files a e f dash = check_only words files e (λ file h g. let i : a ≡ file = cc in h.plain (subst BeginsWithDash i dash))
-
-pub is_check : (words files : List (List ℕ)) (a : List ℕ) → words ≡ codes "check" ∷ files → files ≡ a ∷ [] → (BeginsWithDash a → ⊥) → IsCheck words a
-is_check words files a e f plain = record { shape = e ∙ ap (λ x. codes "check" ∷ x) f; plain = plain }
-
-pub ruleset check_shapes = (no_word, more_words, an_option_word, is_check)
-
--- ---- any
+use Rattle.std.proofs.lemmas.List.{length-map, take-append-drop, take-map, drop-map}
+use Rattle.ax_command.specs.declared.words.Verb.{Verb}
+use Rattle.ax_command.specs.Words.{IsFileName, HasShape, HasNoShape, TakesFiles, verb_of, arguments_of, Asked}
 
 pub nothing : (words : List (List ℕ)) → words ≡ [] → HasNoShape words
-nothing words e (check_of file) h = let f : [] ≡ codes "check" ∷ file ∷ [] = sym e ∙ h.shape in absurd (cc)
-nothing words e (canon_of files) h = let f : [] ≡ codes "canon" ∷ files = sym e ∙ h.shape in absurd (cc)
+nothing words e what h = let f : [] ≡ h.word ∷ (what.arguments ++ what.files) = sym e ∙ h.split in absurd (cc)
 
-pub unknown : (words files : List (List ℕ)) (a : List ℕ) → words ≡ a ∷ files → a ≢ codes "check" → a ≢ codes "canon" → HasNoShape words
-unknown words files a e ne nf (check_of file) h = let f : a ∷ files ≡ codes "check" ∷ file ∷ [] = sym e ∙ h.shape in ne (heads _ _ _ _ f)
-unknown words files a e ne nf (canon_of other) h = let f : a ∷ files ≡ codes "canon" ∷ other = sym e ∙ h.shape in nf (heads _ _ _ _ f)
+-- the first word and the others
+record Parts (a b : List ℕ) (xs ys : List (List ℕ)) : Type 0 where
+  word : a ≡ b
+  others : xs ≡ ys
 
-pub ruleset shapes = (nothing, unknown)
+parts : (a b : List ℕ) (xs ys : List (List ℕ)) → a ∷ xs ≡ b ∷ ys → Parts a b xs ys
+parts a b xs ys e = record { word = cc; others = cc }
+
+-- the first of a mapped list, and what is after them
+map-take : {A : Type 0} (f : A → List ℕ) (xs : List A) (n : ℕ) → map f (take n xs) ≡ take n (map f xs)
+map-take f xs n = sym (take-map f n xs)
+
+map-drop : {A : Type 0} (f : A → List ℕ) (xs : List A) (n : ℕ) → map f (drop n xs) ≡ drop n (map f xs)
+map-drop f xs n = sym (drop-map f n xs)
+
+-- where the arguments end and the files begin
+record Cut (verb : Verb) (arguments files rest : List (List ℕ)) : Type 0 where
+  arguments_are : arguments ≡ take (arguments_of verb) rest
+  files_are : files ≡ drop (arguments_of verb) rest
+  count : arguments_of verb + length files ≡ length rest
+
+cut : (verb : Verb) (arguments files rest : List (List ℕ)) → arguments ++ files ≡ rest → length arguments ≡ arguments_of verb → Cut verb arguments files rest
+cut verb arguments files rest e n = record {
+  arguments_are = sym (take-append_seam arguments files) ∙ ap (λ k. take k (arguments ++ files)) n ∙ ap (take (arguments_of verb)) e;
+  files_are = sym (drop-append_seam arguments files) ∙ ap (λ k. drop k (arguments ++ files)) n ∙ ap (drop (arguments_of verb)) e;
+  count = ap (λ k. k + length files) (sym n) ∙ sym (length-append arguments files) ∙ ap length e;
+}
+
+module _ {A : Type 0} (f : A → List ℕ) (words rest : List A) (word : List ℕ) (e : map f words ≡ word ∷ map f rest) where
+  same_parts : (what : Asked) (h : HasShape (map f words) what) → Parts h.word word (what.arguments ++ what.files) (map f rest)
+  same_parts what h = parts h.word word (what.arguments ++ what.files) (map f rest) (sym h.split ∙ e)
+
+  pub no_verb : verb_of word ≡ None → HasNoShape (map f words)
+  no_verb none what h = let p : h.word ≡ word = (same_parts what h).word in let g : Some what.verb ≡ None = sym h.verb ∙ ap verb_of p ∙ none in absurd (cc)
+
+  pub too_many_words : 4294967295 < length words → HasNoShape (map f words)
+  too_many_words many what h = let i : length (map f words) < 4294967296 = h.few in absurd (omega (arith, length-map words f))
+
+  same_verb : (verb : Verb) → verb_of word ≡ Some verb → (what : Asked) (h : HasShape (map f words) what) → what.verb ≡ verb
+  same_verb verb is what h =
+      let p = same_parts what h in
+      let g : Some what.verb ≡ Some verb = sym h.verb ∙ ap verb_of p.word ∙ is in
+      cc
+
+  same_cut : (verb : Verb) → verb_of word ≡ Some verb → (what : Asked) (h : HasShape (map f words) what) → Cut verb what.arguments what.files (map f rest)
+  same_cut verb is what h =
+      cut verb what.arguments what.files (map f rest) (same_parts what h).others (h.before ∙ ap arguments_of (same_verb verb is what h))
+
+  pub too_few_words : (verb : Verb) → verb_of word ≡ Some verb → length rest < arguments_of verb → HasNoShape (map f words)
+  too_few_words verb is few what h = let c = (same_cut verb is what h).count in absurd (omega (arith, length-map rest f, c))
+
+  pub other_count : (verb : Verb) → verb_of word ≡ Some verb → (TakesFiles verb (length rest - arguments_of verb) → ⊥) → HasNoShape (map f words)
+  other_count verb is never what h =
+      let c = (same_cut verb is what h).count in
+      let size : length what.files ≡ length rest - arguments_of verb = omega (arith, length-map rest f, c) in
+      never (subst (λ v. TakesFiles v (length rest - arguments_of verb)) (same_verb verb is what h) (subst (TakesFiles what.verb) size h.count))
+
+  pub an_option : (AllByRecursion IsFileName (map f rest) → ⊥) → HasNoShape (map f words)
+  an_option never what h = never (subst (AllByRecursion IsFileName) (same_parts what h).others h.plain)
+
+  pub is_shape : (verb : Verb) → verb_of word ≡ Some verb → length words ≤ 4294967295 → arguments_of verb ≤ length rest → TakesFiles verb (length rest - arguments_of verb) → AllByRecursion IsFileName (map f rest)
+      → HasShape (map f words) (record { verb = verb; arguments = map f (take (arguments_of verb) rest); files = map f (drop (arguments_of verb) rest) })
+  is_shape verb is few enough count plain =
+      let n = arguments_of verb in
+      let i : length (map f words) ≡ length words = length-map words f in
+      let joined : map f (take n rest) ++ map f (drop n rest) ≡ map f rest = ap (λ x. x ++ map f (drop n rest)) (map-take f rest n) ∙ ap (λ y. take n (map f rest) ++ y) (map-drop f rest n) ∙ take-append-drop n (map f rest) in
+      record {
+        word = word;
+        split = e ∙ ap (λ x. word ∷ x) (sym joined);
+        verb = is;
+        before = length-map (take n rest) f ∙ length-take-le n rest enough;
+        count = subst (TakesFiles verb) (sym (length-map (drop n rest) f ∙ length-drop n rest)) count;
+        few = omega arith;
+        plain = subst (AllByRecursion IsFileName) (sym joined) plain;
+      }
+
+pub ruleset shapes = (nothing, no_verb, too_many_words, too_few_words, other_count, an_option, is_shape)

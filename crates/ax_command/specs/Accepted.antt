@@ -1,8 +1,8 @@
 -- The line for an accepted category file (this project's own rule).
 use Rattle.std.specs.Prelude.{ℕ, List, ◌++◌, length, codes, decimal}
 use Rattle.ax_model.specs.Specification.{SpecTree}
-use Rattle.ax_command.specs.Lines.{category_text}
+use Rattle.ax_model.specs.Paths.{three_digits}
 
 -- `accepted CCC "EDITION" items I slots S`
 abbrev pub accepted_line : SpecTree → List ℕ
-accepted_line spec = codes "accepted " ++ category_text spec.category ++ codes " \"" ++ spec.edition ++ codes "\" items " ++ decimal (length spec.items) ++ codes " slots " ++ decimal (length spec.uap) ++ codes "\n"
+accepted_line spec = codes "accepted " ++ three_digits spec.category ++ codes " \"" ++ spec.edition ++ codes "\" items " ++ decimal (length spec.items) ++ codes " slots " ++ decimal (length spec.uap) ++ codes "\n"

@@ -1,22 +1,19 @@
 -- The lines of the report for each outcome (this project's own rules).
-use Rattle.std.specs.Prelude.{ℕ, ◌/◌, ◌%◌, ◌+◌, List, [], ◌∷◌, ◌++◌, length, flat_map, codes, decimal}
+use Rattle.std.specs.Prelude.{ℕ, List, [], ◌++◌, length, flat_map, codes, decimal}
+use Rattle.ax_model.specs.Paths.{three_digits}
 use Rattle.ax_model.specs.declared.flaw.Flaw.{Flaw}
 use Rattle.ax_model.specs.declared.flaw.FlawKind.{FlawKind}
 use Rattle.ax_model.specs.declared.flaw.FlawKind.TheVariants.{DuplicateItem, DuplicateName, UnknownInUap, RepeatedInUap, Empty, TooManySlots, BadWidth, NotOctets, PartNotOctets, BodyNotOctets, BadScale, BadStringWidth, TooWide}
-use Rattle.ax_command.specs.declared.outcome.Cause.{Cause}
-use Rattle.ax_command.specs.declared.outcome.Cause.TheVariants.{EndsInHeader, BadLen, EndsInBlock, RunsOut, UndefinedSlot, PresenceTooLong, ExtensionPastEnd, BadExplicitLength}
+use Rattle.ax_stream.specs.declared.end.Cause.{Cause}
+use Rattle.ax_stream.specs.declared.end.Cause.TheVariants.{EndsInHeader, BadLen, EndsInBlock, RunsOut, UndefinedSlot, PresenceTooLong, ExtensionPastEnd, BadExplicitLength}
 use Rattle.ax_command.specs.declared.outcome.Outcome.{Outcome}
-use Rattle.ax_command.specs.declared.outcome.Outcome.TheVariants.{Done, Usage, SpecRefused, CategoryTwice, InputRefused, InputTooLong, LoadFault, ReadFault, WriteFault, OutOfMemory}
-use Rattle.ax_command.specs.declared.outcome.SpecFault.{SpecFault}
-use Rattle.ax_command.specs.declared.outcome.SpecFault.TheVariants.{TooLarge, BadByte, TooDeep, BadToken, Flawed}
+use Rattle.ax_command.specs.declared.outcome.Outcome.TheVariants.{Done, Usage, SpecRefused, CategoryTwice, InputRefused, MigratedTooLong, InputTooLong, LoadFault, ReadFault, WriteFault, ReportFault, OutOfMemory, OtherCategory}
+use Rattle.ax_load.specs.declared.fault.SpecFault.{SpecFault}
+use Rattle.ax_load.specs.declared.fault.SpecFault.TheVariants.{TooLarge, BadByte, TooDeep, BadToken, Flawed}
 
--- a text and a number behind it
+-- a text and a number after it
 abbrev pub numbered : List ℕ → ℕ → List ℕ
 numbered front n = front ++ decimal n
-
--- a category in three digits
-abbrev pub category_text : ℕ → List ℕ
-category_text n = (48 + n / 100) ∷ (48 + n / 10 % 10) ∷ (48 + n % 10) ∷ []
 
 abbrev pub kind_name : FlawKind → List ℕ
 kind_name DuplicateItem = codes "DuplicateItem"
@@ -61,10 +58,13 @@ abbrev pub lines_of : Outcome → List ℕ
 lines_of (Done blocks) = []
 lines_of Usage = codes "refused usage\n"
 lines_of (SpecRefused file fault) = fault_lines file fault
-lines_of (CategoryTwice file category) = numbered (codes "refused file ") file ++ (codes " CategoryTwice " ++ (category_text category ++ codes "\n"))
+lines_of (CategoryTwice file category) = numbered (codes "refused file ") file ++ (codes " CategoryTwice " ++ (three_digits category ++ codes "\n"))
 lines_of (InputRefused fault) = numbered (codes "refused block ") fault.block ++ (numbered (codes " bit ") fault.bit ++ (codes " " ++ (cause_name fault.cause ++ codes "\n")))
+lines_of (MigratedTooLong block octets) = numbered (codes "refused block ") block ++ (numbered (codes " MigratedTooLong ") octets ++ codes "\n")
 lines_of InputTooLong = codes "refused input InputTooLong\n"
 lines_of (LoadFault file) = numbered (codes "fault file ") file ++ codes "\n"
 lines_of ReadFault = codes "fault read\n"
 lines_of WriteFault = codes "fault write\n"
+lines_of ReportFault = []
 lines_of OutOfMemory = codes "refused memory\n"
+lines_of (OtherCategory old new) = codes "refused editions" ++ (codes " " ++ (three_digits old ++ (codes " " ++ (three_digits new ++ codes "\n"))))

@@ -1,19 +1,41 @@
 -- The shapes of the words of a command line (this project's own rules).
-use Rattle.std.specs.Prelude.{◌≡◌, ℕ, ◌<◌, List, [], ◌∷◌, length, map, codes}
+use Rattle.std.specs.Prelude.{◌≡◌, ℕ, ◌<◌, List, [], ◌∷◌, ◌++◌, length, map, codes, Option, Some, None, if◌then◌else◌}
 use Rattle.std.specs.List.{AllByRecursion}
+use Rattle.std.specs.Str.{bytes_eq}
 use Rattle.std.specs.String.{string_bytes}
 use Rattle.ax_command.specs.declared.words.Command.{Command}
-use Rattle.ax_command.specs.declared.words.Command.TheVariants as CommandOf
+use Rattle.ax_command.specs.declared.words.Verb.{Verb}
+use Rattle.ax_command.specs.declared.words.Verb.TheVariants.{Check, Canon, Text}
+
+-- the first word names the command
+abbrev pub verb_of : List ℕ → Option Verb
+verb_of word =
+    if bytes_eq word (codes "check") then Some Check
+    else if bytes_eq word (codes "canon") then Some Canon
+    else if bytes_eq word (codes "text") then Some Text
+    else None
+
+-- how many files it takes
+abbrev pub TakesFiles : Verb → ℕ → Type 0
+TakesFiles Check count = count ≡ 1
+TakesFiles Canon count = 0 < count
+TakesFiles Text count = 0 < count
+
+-- how many words stand before its files
+abbrev pub arguments_of : Verb → ℕ
+arguments_of Check = 0
+arguments_of Canon = 0
+arguments_of Text = 0
 
 -- what the words ask for
-pub data Asked : Type 0 where
-  check_of : List ℕ → Asked
-  canon_of : List (List ℕ) → Asked
+pub record Asked : Type 0 where
+  pub verb : Verb
+  pub arguments : List (List ℕ)
+  pub files : List (List ℕ)
 
 -- what a command of the code says
 abbrev pub asked : Command → Asked
-asked (CommandOf.Check file) = check_of file.now
-asked (CommandOf.Canon files) = canon_of (map string_bytes files.now)
+asked command = record { verb = command.verb; arguments = map string_bytes command.arguments.now; files = map string_bytes command.files.now }
 
 abbrev pub BeginsWithDash : List ℕ → Type 0
 BeginsWithDash [] = ⊥
@@ -22,20 +44,15 @@ BeginsWithDash (x ∷ xs) = x ≡ 45
 abbrev pub IsFileName : List ℕ → Type 0
 IsFileName word = BeginsWithDash word → ⊥
 
--- `check` and one file; `canon` and one or more files; no file name begins with `-`, and there are fewer than 2^32 words
-pub record IsCheck (words : List (List ℕ)) (file : List ℕ) : Type 0 where
-  pub shape : words ≡ codes "check" ∷ file ∷ []
-  pub plain : IsFileName file
-
-pub record IsCanon (words files : List (List ℕ)) : Type 0 where
-  pub shape : words ≡ codes "canon" ∷ files
-  pub some : 0 < length files
+-- the command, its arguments and its files; no word after the first begins with `-`, and there are fewer than 2^32 words
+pub record HasShape (words : List (List ℕ)) (what : Asked) : Type 0 where
+  pub word : List ℕ
+  pub split : words ≡ word ∷ (what.arguments ++ what.files)
+  pub verb : verb_of word ≡ Some what.verb
+  pub before : length what.arguments ≡ arguments_of what.verb
+  pub count : TakesFiles what.verb (length what.files)
   pub few : length words < 4294967296
-  pub plain : AllByRecursion IsFileName files
-
-abbrev pub HasShape : List (List ℕ) → Asked → Type 0
-HasShape words (check_of file) = IsCheck words file
-HasShape words (canon_of files) = IsCanon words files
+  pub plain : AllByRecursion IsFileName (what.arguments ++ what.files)
 
 -- the words have no shape
 abbrev pub HasNoShape : List (List ℕ) → Type 0

@@ -3,8 +3,7 @@ ghost use Rattle.std.specs.Prelude.{◌≡◌, IfOk};
 ghost use Rattle.ax_model.specs.Plain.{spec_tree};
 ghost use Rattle.ax_command.specs.Accepted.{accepted_line};
 
-use crate::lines::three_digits;
-use ax_model::Spec;
+use ax_model::{Spec, category_digits};
 use itoa::Buffer;
 use std::alloc::{AllocError, Global};
 
@@ -15,7 +14,7 @@ pub fn line_of(alloc: Global, spec: &Spec) -> Result<Vec<u8>, AllocError>
     let mut items = Buffer::new();
     let mut slots = Buffer::new();
     let mut line = Vec::from_slice(alloc, b"accepted ")?;
-    line.extend_from_slice(&three_digits(spec.category))?;
+    line.extend_from_slice(&category_digits(spec.category))?;
     line.extend_from_slice(b" \"")?;
     line.extend_from_slice(spec.edition.as_slice())?;
     line.extend_from_slice(b"\" items ")?;

@@ -1,70 +1,65 @@
 //! The lines of the report for an outcome. They are written in pieces and take no memory.
 ghost use Rattle.std.specs.Prelude.{◌≡◌, ◌++◌, codes, decimal};
-ghost use Rattle.ax_command.specs.Writing.{Wrote};
-ghost use Rattle.ax_command.specs.Lines.{numbered, category_text, cause_name, kind_name, flaw_line, flaw_lines, fault_lines, lines_of};
+ghost use Rattle.ax_outside.specs.Changes.{Wrote, sink_change};
+ghost use Rattle.ax_model.specs.Paths.{three_digits};
+ghost use Rattle.ax_command.specs.Lines.{numbered, cause_name, kind_name, flaw_line, flaw_lines, fault_lines, lines_of};
 
-use crate::outcome::{Cause, InputFault, Outcome, SpecFault};
-use ax_model::{Flaw, FlawKind, Flaws, Text};
-use ax_outside::{Sink, SinkFailed, write_all_of};
+use crate::outcome::Outcome;
+use ax_load::SpecFault;
+use ax_model::{Flaw, FlawKind, Flaws, Text, category_digits};
+use ax_outside::{Sink, SinkFailed, write_text};
+use ax_stream::{Cause, InputFault};
 use itoa::Buffer;
-
-/// Writes a text. At a failure a prefix was added.
-#[tactic(auto, using(crate::proofs::Pieces::pieces))]
-pub fn write_text<K: Sink>(sink: &mut K, text: &[u8]) -> Result<(), SinkFailed>
-    ensures { Wrote (K.held sink.old) (K.held sink.new) (K.faults sink.old) (K.faults sink.new) result text.now }
-{
-    write_all_of(sink, text)
-}
 
 /// Writes a number in decimal.
 fn write_number<K: Sink>(sink: &mut K, number: u64) -> Result<(), SinkFailed>
-    ensures { Wrote (K.held sink.old) (K.held sink.new) (K.faults sink.old) (K.faults sink.new) result (decimal number) }
+    ensures { Wrote (sink_change K.Sink sink.old sink.new) result (decimal number) }
 {
     let mut buffer = Buffer::new();
     write_text(sink, buffer.format(number).as_bytes())
 }
 
-/// Writes a text and a number behind it.
-#[tactic(auto, using(crate::proofs::Pieces::pieces))]
+/// Writes a text and a number after it.
+#[tactic(auto, using(ax_outside::proofs::Pieces::pieces))]
 fn write_numbered<K: Sink>(sink: &mut K, front: &[u8], number: u64) -> Result<(), SinkFailed>
-    ensures { Wrote (K.held sink.old) (K.held sink.new) (K.faults sink.old) (K.faults sink.new) result (numbered front.now number) }
+    ensures { Wrote (sink_change K.Sink sink.old sink.new) result (numbered front.now number) }
 {
     write_text(sink, front)?;
     write_number(sink, number)
 }
 
 /// Writes two texts.
-#[tactic(auto, using(crate::proofs::Pieces::pieces))]
+#[tactic(auto, using(ax_outside::proofs::Pieces::pieces))]
 fn write_two<K: Sink>(sink: &mut K, first: &[u8], second: &[u8]) -> Result<(), SinkFailed>
-    ensures { Wrote (K.held sink.old) (K.held sink.new) (K.faults sink.old) (K.faults sink.new) result (first.now ++ second.now) }
+    ensures { Wrote (sink_change K.Sink sink.old sink.new) result (first.now ++ second.now) }
 {
     write_text(sink, first)?;
     write_text(sink, second)
 }
 
 /// Writes three texts.
-#[tactic(auto, using(crate::proofs::Pieces::pieces))]
+#[tactic(auto, using(ax_outside::proofs::Pieces::pieces))]
 fn write_three<K: Sink>(
     sink: &mut K,
     first: &[u8],
     second: &[u8],
     third: &[u8],
 ) -> Result<(), SinkFailed>
-    ensures { Wrote (K.held sink.old) (K.held sink.new) (K.faults sink.old) (K.faults sink.new) result (first.now ++ (second.now ++ third.now)) }
+    ensures { Wrote (sink_change K.Sink sink.old sink.new) result (first.now ++ (second.now ++ third.now)) }
 {
     write_text(sink, first)?;
     write_two(sink, second, third)
 }
 
-/// Writes a text and a number behind it, and then a text.
-#[tactic(auto, using(crate::proofs::Pieces::pieces))]
+/// Writes a text and a number after it, and then a text.
+#[tactic(auto, using(ax_outside::proofs::Pieces::pieces))]
 fn write_numbered_text<K: Sink>(
     sink: &mut K,
     front: &[u8],
     number: u64,
     end: &[u8],
 ) -> Result<(), SinkFailed>
-    ensures { Wrote (K.held sink.old) (K.held sink.new) (K.faults sink.old) (K.faults sink.new) result (numbered front.now number ++ end.now) }
+    ensures { Wrote (sink_change K.Sink sink.old sink.new) result (numbered front.now number ++ end.now) }
 {
     write_numbered(sink, front, number)?;
     write_text(sink, end)
@@ -106,7 +101,7 @@ fn kind_text(kind: FlawKind) -> &'static [u8]
 }
 
 /// Writes a line that ends in a number: a text and a number, and again a text and a number.
-#[tactic(auto, using(crate::proofs::Pieces::pieces))]
+#[tactic(auto, using(ax_outside::proofs::Pieces::pieces))]
 fn write_two_numbers<K: Sink>(
     sink: &mut K,
     front: &[u8],
@@ -114,7 +109,7 @@ fn write_two_numbers<K: Sink>(
     middle: &[u8],
     last: u64,
 ) -> Result<(), SinkFailed>
-    ensures { Wrote (K.held sink.old) (K.held sink.new) (K.faults sink.old) (K.faults sink.new) result (numbered front.now number ++ (numbered middle.now last ++ codes "\n")) }
+    ensures { Wrote (sink_change K.Sink sink.old sink.new) result (numbered front.now number ++ (numbered middle.now last ++ codes "\n")) }
 {
     write_numbered(sink, front, number)?;
     write_numbered_text(sink, middle, last, b"\n")
@@ -122,31 +117,31 @@ fn write_two_numbers<K: Sink>(
 
 /// Writes a space and the kind of a flaw.
 fn write_kind<K: Sink>(sink: &mut K, kind: FlawKind) -> Result<(), SinkFailed>
-    ensures { Wrote (K.held sink.old) (K.held sink.new) (K.faults sink.old) (K.faults sink.new) result (codes " " ++ kind_name kind) }
+    ensures { Wrote (sink_change K.Sink sink.old sink.new) result (codes " " ++ kind_name kind) }
 {
     write_two(sink, b" ", kind_text(kind))
 }
 
 /// Writes a space and the path of a flaw, up to the end of its line.
 fn write_path<K: Sink>(sink: &mut K, path: &Text) -> Result<(), SinkFailed>
-    ensures { Wrote (K.held sink.old) (K.held sink.new) (K.faults sink.old) (K.faults sink.new) result (codes " " ++ (path.now ++ codes "\n")) }
+    ensures { Wrote (sink_change K.Sink sink.old sink.new) result (codes " " ++ (path.now ++ codes "\n")) }
 {
     write_three(sink, b" ", path.as_slice(), b"\n")
 }
 
 /// Writes the kind and the path of a flaw, up to the end of its line.
-#[tactic(auto, using(crate::proofs::Pieces::pieces))]
+#[tactic(auto, using(ax_outside::proofs::Pieces::pieces))]
 fn write_flaw_end<K: Sink>(sink: &mut K, flaw: &Flaw) -> Result<(), SinkFailed>
-    ensures { Wrote (K.held sink.old) (K.held sink.new) (K.faults sink.old) (K.faults sink.new) result ((codes " " ++ kind_name flaw.now.kind) ++ (codes " " ++ (flaw.now.path ++ codes "\n"))) }
+    ensures { Wrote (sink_change K.Sink sink.old sink.new) result ((codes " " ++ kind_name flaw.now.kind) ++ (codes " " ++ (flaw.now.path ++ codes "\n"))) }
 {
     write_kind(sink, flaw.kind)?;
     write_path(sink, &flaw.path)
 }
 
 /// Writes the line of a flaw.
-#[tactic(auto, using(crate::proofs::Pieces::pieces))]
+#[tactic(auto, using(ax_outside::proofs::Pieces::pieces))]
 fn write_flaw<K: Sink>(sink: &mut K, file: u32, flaw: &Flaw) -> Result<(), SinkFailed>
-    ensures { Wrote (K.held sink.old) (K.held sink.new) (K.faults sink.old) (K.faults sink.new) result (flaw_line file flaw.now) }
+    ensures { Wrote (sink_change K.Sink sink.old sink.new) result (flaw_line file flaw.now) }
 {
     write_numbered(sink, b"flaw file ", file as u64)?;
     write_flaw_end(sink, flaw)
@@ -154,60 +149,65 @@ fn write_flaw<K: Sink>(sink: &mut K, file: u32, flaw: &Flaw) -> Result<(), SinkF
 
 /// Writes a space and the cause of a fault of the input, up to the end of its line.
 fn write_cause<K: Sink>(sink: &mut K, cause: Cause) -> Result<(), SinkFailed>
-    ensures { Wrote (K.held sink.old) (K.held sink.new) (K.faults sink.old) (K.faults sink.new) result (codes " " ++ (cause_name cause ++ codes "\n")) }
+    ensures { Wrote (sink_change K.Sink sink.old sink.new) result (codes " " ++ (cause_name cause ++ codes "\n")) }
 {
     write_three(sink, b" ", cause_text(cause), b"\n")
 }
 
 /// Writes the bit and the cause of a fault of the input, up to the end of its line.
-#[tactic(auto, using(crate::proofs::Pieces::pieces))]
+#[tactic(auto, using(ax_outside::proofs::Pieces::pieces))]
 fn write_fault_end<K: Sink>(sink: &mut K, fault: InputFault) -> Result<(), SinkFailed>
-    ensures { Wrote (K.held sink.old) (K.held sink.new) (K.faults sink.old) (K.faults sink.new) result (numbered (codes " bit ") fault.bit ++ (codes " " ++ (cause_name fault.cause ++ codes "\n"))) }
+    ensures { Wrote (sink_change K.Sink sink.old sink.new) result (numbered (codes " bit ") fault.bit ++ (codes " " ++ (cause_name fault.cause ++ codes "\n"))) }
 {
     write_numbered(sink, b" bit ", fault.bit as u64)?;
     write_cause(sink, fault.cause)
 }
 
 /// Writes the line of a fault of the input.
-#[tactic(auto, using(crate::proofs::Pieces::pieces))]
+#[tactic(auto, using(ax_outside::proofs::Pieces::pieces))]
 fn write_fault<K: Sink>(sink: &mut K, fault: InputFault) -> Result<(), SinkFailed>
-    ensures { Wrote (K.held sink.old) (K.held sink.new) (K.faults sink.old) (K.faults sink.new) result (lines_of (Outcome.InputRefused fault)) }
+    ensures { Wrote (sink_change K.Sink sink.old sink.new) result (lines_of (Outcome.InputRefused fault)) }
 {
     write_numbered(sink, b"refused block ", fault.block)?;
     write_fault_end(sink, fault)
 }
 
-/// A category in three digits.
-pub fn three_digits(category: u8) -> [u8; 3]
-    ensures { result ≡ category_text category }
-{
-    [
-        b'0' + category / 100,
-        b'0' + category / 10 % 10,
-        b'0' + category % 10,
-    ]
-}
-
 /// Writes the category of a file, up to the end of its line.
 fn write_category<K: Sink>(sink: &mut K, category: u8) -> Result<(), SinkFailed>
-    ensures { Wrote (K.held sink.old) (K.held sink.new) (K.faults sink.old) (K.faults sink.new) result (codes " CategoryTwice " ++ (category_text category ++ codes "\n")) }
+    ensures { Wrote (sink_change K.Sink sink.old sink.new) result (codes " CategoryTwice " ++ (three_digits category ++ codes "\n")) }
 {
-    write_three(sink, b" CategoryTwice ", &three_digits(category), b"\n")
+    write_three(sink, b" CategoryTwice ", &category_digits(category), b"\n")
 }
 
 /// Writes the line of a file whose category an earlier file has.
-#[tactic(auto, using(crate::proofs::Pieces::pieces))]
+#[tactic(auto, using(ax_outside::proofs::Pieces::pieces))]
 fn write_category_twice<K: Sink>(sink: &mut K, file: u32, category: u8) -> Result<(), SinkFailed>
-    ensures { Wrote (K.held sink.old) (K.held sink.new) (K.faults sink.old) (K.faults sink.new) result (lines_of (Outcome.CategoryTwice file category)) }
+    ensures { Wrote (sink_change K.Sink sink.old sink.new) result (lines_of (Outcome.CategoryTwice file category)) }
 {
     write_numbered(sink, b"refused file ", file as u64)?;
     write_category(sink, category)
 }
 
+/// Two categories and the end of a line, a space before each category.
+fn two_categories(old: u8, new: u8) -> [u8; 9]
+    ensures { result ≡ codes " " ++ (three_digits old ++ (codes " " ++ (three_digits new ++ codes "\n"))) }
+{
+    let [a, b, c] = category_digits(old);
+    let [x, y, z] = category_digits(new);
+    [b' ', a, b, c, b' ', x, y, z, b'\n']
+}
+
+/// Writes the line of two editions whose categories differ.
+fn write_editions<K: Sink>(sink: &mut K, old: u8, new: u8) -> Result<(), SinkFailed>
+    ensures { Wrote (sink_change K.Sink sink.old sink.new) result (lines_of (Outcome.OtherCategory old new)) }
+{
+    write_two(sink, b"refused editions", &two_categories(old, new))
+}
+
 /// Writes the lines of the flaws of a file.
 #[tactic(auto, using(crate::proofs::FlawLines::flaws_written))]
 fn write_flaws<K: Sink>(sink: &mut K, file: u32, flaws: &[Flaw]) -> Result<(), SinkFailed>
-    ensures { Wrote (K.held sink.old) (K.held sink.new) (K.faults sink.old) (K.faults sink.new) result (flaw_lines file flaws.now) }
+    ensures { Wrote (sink_change K.Sink sink.old sink.new) result (flaw_lines file flaws.now) }
 {
     for flaw in flaws {
         write_flaw(sink, file, flaw)?;
@@ -216,9 +216,9 @@ fn write_flaws<K: Sink>(sink: &mut K, file: u32, flaws: &[Flaw]) -> Result<(), S
 }
 
 /// Writes the lines of a refused file.
-#[tactic(auto, using(crate::proofs::Pieces::pieces))]
+#[tactic(auto, using(ax_outside::proofs::Pieces::pieces))]
 fn write_refused_file<K: Sink>(sink: &mut K, file: u32, fault: &SpecFault) -> Result<(), SinkFailed>
-    ensures { Wrote (K.held sink.old) (K.held sink.new) (K.faults sink.old) (K.faults sink.new) result (fault_lines file fault.now) }
+    ensures { Wrote (sink_change K.Sink sink.old sink.new) result (fault_lines file fault.now) }
 {
     match fault {
         SpecFault::TooLarge => write_numbered_text(
@@ -253,9 +253,9 @@ fn write_refused_file<K: Sink>(sink: &mut K, file: u32, fault: &SpecFault) -> Re
 }
 
 /// Writes the lines of a file with flaws.
-#[tactic(auto, using(crate::proofs::Pieces::pieces))]
+#[tactic(auto, using(ax_outside::proofs::Pieces::pieces))]
 fn write_flawed<K: Sink>(sink: &mut K, file: u32, flaws: &Flaws) -> Result<(), SinkFailed>
-    ensures { Wrote (K.held sink.old) (K.held sink.new) (K.faults sink.old) (K.faults sink.new) result (fault_lines file (SpecFault.Flawed flaws.now)) }
+    ensures { Wrote (sink_change K.Sink sink.old sink.new) result (fault_lines file (SpecFault.Flawed flaws.now)) }
 {
     write_flaws(sink, file, flaws.as_slice())?;
     write_two_numbers(
@@ -268,9 +268,9 @@ fn write_flawed<K: Sink>(sink: &mut K, file: u32, flaws: &Flaws) -> Result<(), S
 }
 
 /// Writes the lines of an outcome.
-#[tactic(auto, using(crate::proofs::Pieces::pieces))]
+#[tactic(auto, using(ax_outside::proofs::Pieces::pieces))]
 pub fn write_lines<K: Sink>(sink: &mut K, outcome: &Outcome) -> Result<(), SinkFailed>
-    ensures { Wrote (K.held sink.old) (K.held sink.new) (K.faults sink.old) (K.faults sink.new) result (lines_of outcome.now) }
+    ensures { Wrote (sink_change K.Sink sink.old sink.new) result (lines_of outcome.now) }
 {
     match outcome {
         Outcome::Done { .. } => Ok(()),
@@ -278,6 +278,13 @@ pub fn write_lines<K: Sink>(sink: &mut K, outcome: &Outcome) -> Result<(), SinkF
         Outcome::SpecRefused { file, fault } => write_refused_file(sink, *file, fault),
         Outcome::CategoryTwice { file, category } => write_category_twice(sink, *file, *category),
         Outcome::InputRefused { fault } => write_fault(sink, *fault),
+        Outcome::MigratedTooLong { block, octets } => write_two_numbers(
+            sink,
+            b"refused block ",
+            *block,
+            b" MigratedTooLong ",
+            *octets as u64,
+        ),
         Outcome::InputTooLong => write_text(sink, b"refused input InputTooLong\n"),
         Outcome::LoadFault { file } => write_numbered_text(
             sink,
@@ -287,6 +294,8 @@ pub fn write_lines<K: Sink>(sink: &mut K, outcome: &Outcome) -> Result<(), SinkF
         ),
         Outcome::ReadFault => write_text(sink, b"fault read\n"),
         Outcome::WriteFault => write_text(sink, b"fault write\n"),
+        Outcome::ReportFault => Ok(()),
         Outcome::OutOfMemory => write_text(sink, b"refused memory\n"),
+        Outcome::OtherCategory { old, new } => write_editions(sink, *old, *new),
     }
 }

@@ -1,54 +1,10 @@
+//! How a run ends.
 ghost use Rattle.std.specs.Prelude.{◌≡◌};
+ghost use Rattle.ax_command.specs.Outcomes.{outcome_of_stop, outcome_of_end, outcome_of_job_stop};
 ghost use Rattle.ax_command.specs.Status.{status_of};
 
-use ax_model::Flaws;
-
-/// Why a category file is refused. The first that applies, in this order.
-#[derive(Drop)]
-pub enum SpecFault {
-    /// The file has more than 1,048,576 octets.
-    TooLarge,
-    /// The octet at that place, from 0, fits nowhere.
-    BadByte { at: u32 },
-    /// The `{` that is the token of that number, from 0, is nested more than 16 deep.
-    TooDeep { token: u32 },
-    /// No specification begins with the tokens through that number, from 0; or the number is the count of the tokens,
-    /// which spell none.
-    BadToken { token: u32 },
-    /// The specification has these flaws.
-    Flawed { flaws: Flaws },
-}
-
-/// The cause of a fault of the input.
-#[derive(Clone, Copy, Debug, PartialEq, Eq)]
-pub enum Cause {
-    /// Fewer than three octets are left.
-    EndsInHeader,
-    /// LEN is 0 to 3.
-    BadLen,
-    /// Fewer octets are left than LEN says.
-    EndsInBlock,
-    /// A presence octet, a counter, a length octet, a fixed run, a part or an occurrence with its FX, or an explicit
-    /// content doesn't fit in what is left of the body.
-    RunsOut,
-    /// A presence bit is set whose slot is spare or past the last.
-    UndefinedSlot,
-    /// FX is set in the last presence octet that the slots need.
-    PresenceTooLong,
-    /// FX is set in the last part that the specification has.
-    ExtensionPastEnd,
-    /// A length octet, which counts itself, is 0.
-    BadExplicitLength,
-}
-
-/// The first fault of the input: its cause, the number of its data block from 0, and its bit from 0 at the
-/// block's first bit.
-#[derive(Clone, Copy, Debug, PartialEq, Eq)]
-pub struct InputFault {
-    pub cause: Cause,
-    pub block: u64,
-    pub bit: u32,
-}
+use ax_load::{LoadStop, SpecFault};
+use ax_stream::{InputFault, StreamEnd};
 
 /// How a run ends.
 #[derive(Drop)]
@@ -62,8 +18,12 @@ pub enum Outcome {
     SpecRefused { file: u32, fault: SpecFault },
     /// An earlier file has the category of that one, which is numbered from 0 in the order of the words.
     CategoryTwice { file: u32, category: u8 },
+    /// The two editions are of these two categories, which differ.
+    OtherCategory { old: u8, new: u8 },
     /// The input has a fault.
     InputRefused { fault: InputFault },
+    /// The migrated form of that block has that many octets, more than a block can have.
+    MigratedTooLong { block: u64, octets: u32 },
     /// The input has more than 2^40 octets.
     InputTooLong,
     /// A category file, numbered from 0 in the order of the words, could not be loaded.
@@ -72,8 +32,69 @@ pub enum Outcome {
     ReadFault,
     /// The output could not be written.
     WriteFault,
+    /// A line of the report could not be written.
+    ReportFault,
     /// Want of memory.
     OutOfMemory,
+}
+
+/// Why a command refuses its arguments or what its files have in common, before it reads its input.
+#[derive(Clone, Copy)]
+pub enum Refusal {
+    /// The two editions are of these two categories, which differ.
+    OtherCategory { old: u8, new: u8 },
+}
+
+/// Why a command doesn't come to its input.
+#[derive(Clone, Copy)]
+pub enum JobStop {
+    /// The command refuses what it is asked to do.
+    Refused(Refusal),
+    /// No memory was left before it was known what the command does.
+    OutOfMemory,
+}
+
+impl From<JobStop> for Outcome {
+    ghost from_gives = { λ stop outcome. outcome ≡ outcome_of_job_stop stop };
+
+    fn from(stop: JobStop) -> Self {
+        match stop {
+            JobStop::Refused(Refusal::OtherCategory { old, new }) => {
+                Outcome::OtherCategory { old, new }
+            }
+            JobStop::OutOfMemory => Outcome::OutOfMemory,
+        }
+    }
+}
+
+impl From<LoadStop> for Outcome {
+    ghost from_gives = { λ stop outcome. outcome ≡ outcome_of_stop stop };
+
+    fn from(stop: LoadStop) -> Self {
+        match stop {
+            LoadStop::SpecRefused { file, fault } => Outcome::SpecRefused { file, fault },
+            LoadStop::CategoryTwice { file, category } => Outcome::CategoryTwice { file, category },
+            LoadStop::LoadFault { file } => Outcome::LoadFault { file },
+            LoadStop::OutOfMemory => Outcome::OutOfMemory,
+        }
+    }
+}
+
+impl From<StreamEnd> for Outcome {
+    ghost from_gives = { λ end outcome. outcome ≡ outcome_of_end end };
+
+    fn from(end: StreamEnd) -> Self {
+        match end {
+            StreamEnd::Done { blocks } => Outcome::Done { blocks },
+            StreamEnd::Refused { fault } => Outcome::InputRefused { fault },
+            StreamEnd::InputTooLong => Outcome::InputTooLong,
+            StreamEnd::TooLong { block, octets } => Outcome::MigratedTooLong { block, octets },
+            StreamEnd::ReadFault => Outcome::ReadFault,
+            StreamEnd::WriteFault => Outcome::WriteFault,
+            StreamEnd::ReportFault => Outcome::ReportFault,
+            StreamEnd::OutOfMemory => Outcome::OutOfMemory,
+        }
+    }
 }
 
 impl Outcome {
@@ -85,9 +106,16 @@ impl Outcome {
         match self {
             Outcome::Done { .. } => 0,
             Outcome::Usage => 1,
-            Outcome::SpecRefused { .. } | Outcome::CategoryTwice { .. } => 2,
-            Outcome::InputRefused { .. } | Outcome::InputTooLong => 3,
-            Outcome::LoadFault { .. } | Outcome::ReadFault | Outcome::WriteFault => 4,
+            Outcome::SpecRefused { .. }
+            | Outcome::CategoryTwice { .. }
+            | Outcome::OtherCategory { .. } => 2,
+            Outcome::InputRefused { .. }
+            | Outcome::MigratedTooLong { .. }
+            | Outcome::InputTooLong => 3,
+            Outcome::LoadFault { .. }
+            | Outcome::ReadFault
+            | Outcome::WriteFault
+            | Outcome::ReportFault => 4,
             Outcome::OutOfMemory => 5,
         }
     }

@@ -87,7 +87,21 @@ fn lines_and_status_of_each_outcome(rt: HostRuntime) -> Result<(), Fail> {
             3,
             "refused block 7 bit 40 EndsInBlock\n",
         ),
+        (
+            Outcome::OtherCategory { old: 34, new: 48 },
+            2,
+            "refused editions 034 048\n",
+        ),
+        (
+            Outcome::MigratedTooLong {
+                block: 0,
+                octets: 98_301,
+            },
+            3,
+            "refused block 0 MigratedTooLong 98301\n",
+        ),
         (Outcome::InputTooLong, 3, "refused input InputTooLong\n"),
+        (Outcome::ReportFault, 4, ""),
         (Outcome::LoadFault { file: 0 }, 4, "fault file 0\n"),
         (Outcome::ReadFault, 4, "fault read\n"),
         (Outcome::WriteFault, 4, "fault write\n"),

@@ -1,15 +1,60 @@
 //! The words of a command line.
-ghost use Rattle.std.specs.Prelude.{◌≡◌, ◌↔◌, ◌<◌, ◌∷◌, map, length, codes, IsTrue, MatchOption};
+ghost use Rattle.std.specs.Prelude.{◌≡◌, ◌<◌, ◌↔◌, map, length, IsTrue, MatchOption};
 ghost use Rattle.std.specs.List.{AllByRecursion};
 ghost use Rattle.std.specs.String.{string_bytes};
-ghost use Rattle.ax_command.specs.Words.{BeginsWithDash, IsFileName, HasShape, HasNoShape, IsCheck, IsCanon, asked};
+ghost use Rattle.ax_command.specs.Words.{BeginsWithDash, IsFileName, HasShape, HasNoShape, TakesFiles, verb_of, arguments_of, asked};
 
-/// What the words ask for.
-pub enum Command<'w> {
+/// What a command does.
+#[derive(Clone, Copy)]
+pub enum Verb {
     /// `check SPEC`
-    Check { file: &'w str },
+    Check,
     /// `canon` and one or more SPEC.
-    Canon { files: &'w [String] },
+    Canon,
+    /// `text` and one or more SPEC.
+    Text,
+}
+
+/// What the words ask for: a command with these arguments, over these files.
+#[derive(Clone, Copy)]
+pub struct Command<'w> {
+    pub verb: Verb,
+    pub arguments: &'w [String],
+    pub files: &'w [String],
+}
+
+/// The command that the word names.
+fn verb_of(word: &str) -> Option<Verb>
+    ensures { result ≡ verb_of word.now }
+{
+    if word == "check" {
+        Some(Verb::Check)
+    } else if word == "canon" {
+        Some(Verb::Canon)
+    } else if word == "text" {
+        Some(Verb::Text)
+    } else {
+        None
+    }
+}
+
+/// Whether the command takes that many files.
+fn takes_files(verb: Verb, count: usize) -> bool
+    ensures { IsTrue result ↔ TakesFiles verb count }
+{
+    match verb {
+        Verb::Check => count == 1,
+        Verb::Canon | Verb::Text => count > 0,
+    }
+}
+
+/// How many words stand before its files.
+fn arguments_of(verb: Verb) -> usize
+    ensures { result ≡ arguments_of verb }
+{
+    match verb {
+        Verb::Check | Verb::Canon | Verb::Text => 0,
+    }
 }
 
 /// Whether the text begins with `-`.
@@ -36,64 +81,34 @@ fn are_file_names(words: &[String]) -> bool
     true
 }
 
-/// `canon` and these words behind it.
-#[tactic(auto, using(crate::proofs::WordLists::canon_shapes))]
-fn canon_command<'w>(words: &[String], files: &'w [String]) -> Option<Command<'w>>
-    requires { map string_bytes words.now ≡ codes "canon" ∷ map string_bytes files.now }
-    ensures { MatchOption result (HasNoShape (map string_bytes words.now)) (λ command. HasShape (map string_bytes words.now) (asked command)) }
-{
-    if files.is_empty() {
-        return None;
-    }
-    if words.len() > u32::MAX as usize {
-        return None;
-    }
-    if !are_file_names(files) {
-        return None;
-    }
-    Some(Command::Canon { files })
-}
-
-/// `check` and this word behind it.
-#[tactic(auto, using(crate::proofs::WordLists::check_shapes))]
-fn check_command<'w>(words: &[String], files: &'w [String]) -> Option<Command<'w>>
-    requires { map string_bytes words.now ≡ codes "check" ∷ map string_bytes files.now }
-    ensures { MatchOption result (HasNoShape (map string_bytes words.now)) (λ command. HasShape (map string_bytes words.now) (asked command)) }
-{
-    let Some((file, more)) = files.split_first() else {
-        return None;
-    };
-    if !more.is_empty() {
-        return None;
-    }
-    if begins_with_dash(file.as_str()) {
-        return None;
-    }
-    Some(Command::Check {
-        file: file.as_str(),
-    })
-}
-
-/// Whether the text is that word.
-fn is_word(text: &str, word: &str) -> bool
-    ensures { IsTrue result ↔ (text.now ≡ word.now) }
-{
-    text == word
-}
-
 /// What the words ask for. None comes exactly where they have no shape.
 #[tactic(auto, using(crate::proofs::WordLists::shapes))]
 pub fn read_command(words: &[String]) -> Option<Command<'_>>
     ensures { MatchOption result (HasNoShape (map string_bytes words.now)) (λ command. HasShape (map string_bytes words.now) (asked command)) }
 {
-    let Some((command, files)) = words.split_first() else {
+    let Some((word, rest)) = words.split_first() else {
         return None;
     };
-    if is_word(command.as_str(), "check") {
-        return check_command(words, files);
+    let Some(verb) = verb_of(word.as_str()) else {
+        return None;
+    };
+    if words.len() > u32::MAX as usize {
+        return None;
     }
-    if is_word(command.as_str(), "canon") {
-        return canon_command(words, files);
+    let count = arguments_of(verb);
+    if rest.len() < count {
+        return None;
     }
-    None
+    let (arguments, files) = rest.split_at(count);
+    if !takes_files(verb, files.len()) {
+        return None;
+    }
+    if !are_file_names(rest) {
+        return None;
+    }
+    Some(Command {
+        verb,
+        arguments,
+        files,
+    })
 }

@@ -6,7 +6,7 @@ use Rattle.ax_bits.specs.Bits.{AreBits, bits}
 use Rattle.ax_bits.proofs.Words.{length-bits}
 use Rattle.ax_model.proofs.Failed.{presence_failed}
 use Rattle.ax_model.proofs.Least.{Alike, least_least}
-use Rattle.ax_model.proofs.Reader.{Read, got, lost, presence_read}
+use Rattle.ax_model.specs.Reader.{Read, got, failed, presence_read}
 use Rattle.ax_model.proofs.Spelled.{presence_spelled}
 use Rattle.ax_model.specs.Failing.{IsPresence, PresenceFails}
 use Rattle.ax_model.specs.Presence.{Presence, octets_needed, none_marked, first_mark, later_marks, marks_after, marks_upto, least_presence, later_slots, NoneUndefined}
@@ -33,7 +33,7 @@ prefix_free k ds ms ns b c x y f g e =
 pub never_both : (k : ℕ) (ds : List Bool) (ms b x : List ℕ) (p : ℕ) (c : BodyCause) → IsPresence k ds ms b → PresenceFails k ds (b ++ x) p c → ⊥
 never_both k ds ms b x p c f h =
     let good : presence_read k ds (b ++ x) ≡ got ms (length b) x = presence_spelled k ds ms b x f.field f.clear in
-    let bad : presence_read k ds (b ++ x) ≡ lost p c = presence_failed k ds (b ++ x) p c h in
+    let bad : presence_read k ds (b ++ x) ≡ failed p c = presence_failed k ds (b ++ x) p c h in
     cc
 
 -- ---- a field marks one set
@@ -43,7 +43,7 @@ zeros_of_none [] h = refl
 zeros_of_none (zero ∷ xs) h = λ i. 0 ∷ zeros_of_none xs h i
 zeros_of_none (suc x ∷ xs) h = cc
 
--- marks are told by a front of them behind which none is set
+-- marks are told by a front of them after which none is set
 same_marks : (a b : List ℕ) (p q : ℕ) → length a ≡ length b → take p a ≡ take q b → IsTrue (none_marked (drop p a)) → IsTrue (none_marked (drop q b)) → a ≡ b
 same_marks a b p q l e h g =
     let x : a ≡ take p a ++ replicate (length (drop p a)) 0 = sym (take-append-drop p a) ∙ ap (λ k. take p a ++ k) (zeros_of_none (drop p a) h) in
@@ -89,7 +89,7 @@ shortest n ds marked b h f =
     let few : octets_needed n ≤ 18 = omega arith in
     least_least 18 marked ms b (alike_front (7 * f.octets) marked f.no_other) (presence_more (octets_needed n) 18 ms b few f.field.field)
 
--- the least field of marks of which none stands behind k octets, and the front of the marks that it has
+-- the least field of marks of which none stands after k octets, and the front of the marks that it has
 record Least (k : ℕ) (ms : List ℕ) : Type 0 where
   octets : ℕ
   field : Presence k (take (7 * octets) ms) (least_presence k ms)
@@ -299,7 +299,7 @@ pub AreMarks-none : AreMarks no_marks
 unfolding no_marks
 AreMarks-none = record { size = length-replicate {A = ℕ} 126 0; each = bits_none 126 }
 
--- a set with one more slot among the first n has none behind them, if the set had none
+-- a set with one more slot among the first n has none after them, if the set had none
 pub none_behind_mark : (marked : List ℕ) (i n : ℕ) → i < n → IsTrue (none_marked (drop n marked)) → IsTrue (none_marked (drop n (set marked i 1)))
 none_behind_mark marked i n lt h = ap none_marked (drop-set-lt n marked i 1 lt) ∙ h
 

@@ -45,7 +45,7 @@ octet_that_goes_on m h =
     let e : m * 2 % 256 ≡ m * 2 ^ 1 = omega arith in
     ap (λ k. word 8 (bit_or k 1)) e ∙ ap (word 8) (or_shifted m 1 1 (lit< tt)) ∙ octet_of m 1 (lit< tt)
 
--- the least field of at least seven marks, where none stands behind them, and where some does
+-- the least field of at least seven marks, where none stands after them, and where some does
 pub least_true : (k : ℕ) (ms : List ℕ) → 7 ≤ length ms → none_marked (drop 7 ms) ≡ true → least_presence (suc k) ms ≡ take 7 ms ++ 0 ∷ []
 least_true k ms long none =
     let all : none_marked (marks_after 7 ms) ≡ true = ap none_marked (marks_after_is 7 ms) ∙ none in
@@ -71,7 +71,7 @@ least_ends k ms m e none = least_true k ms (long_enough ms m e) none ∙ ap (λ 
 
 -- ---- the octets of a field
 
--- i octets were written, and the least field goes on with that of the marks behind them
+-- i octets were written, and the least field goes on with that of the marks after them
 pub record WrittenSoFar (old now : Out) (marked : List ℕ) (i : ℕ) : Type 0 where
   pub few : i < 18
   pub front : List ℕ

@@ -35,7 +35,7 @@ half-is w n e = ap (λ k. word k n) (sym e)
 
 -- ---- one mark
 
--- the bits behind the mark at place p
+-- the bits after the mark at place p
 behind : (p : ℕ) → p < 63 → p + suc (62 - p) ≡ 63
 behind p h = omega arith
 
@@ -90,7 +90,7 @@ seven_at n i h =
     ∙ ap (take 7) (drop_at (word (7 * i) q) (word (7 + r) n) (7 * i) (length-word (7 * i) q) ∙ word-split 7 r n)
     ∙ take_at (word 7 (n / 2 ^ r)) (word r n) 7 (length-word 7 (n / 2 ^ r))
 
--- the marks behind those of octet i
+-- the marks after those of octet i
 pub behind_seven : (n i : ℕ) → i < 9 → drop (7 * i + 7) (half n) ≡ word (56 - 7 * i) n
 behind_seven n i h =
     let r = 56 - 7 * i in
@@ -114,7 +114,7 @@ none_marked-word (suc w) n =
     = ap (λ k. n % 2 ^ k) (let e : suc w ≡ 1 + w = omega arith in e) ∙ mod-pow-add n 1 w in
     none_marked-cons (n / 2 ^ w % 2) w (n % 2 ^ w) (n % 2 ^ suc w) (word w n) (omega arith) whole (none_marked-word w n)
 
--- whether a mark stands behind those of octet i
+-- whether a mark stands after those of octet i
 pub none_behind_seven : (n i : ℕ) → i < 9 → none_marked (drop (7 * i + 7) (half n)) ≡ (bit_and n (2 ^ (56 - 7 * i) - 1) == 0)
 none_behind_seven n i h =
     let r = 56 - 7 * i in
@@ -131,7 +131,7 @@ none_from_seven n i h =
 pub none_half : (n : ℕ) → n < 2 ^ 63 → none_marked (half n) ≡ (n == 0)
 none_half n h = ap none_marked (half-is 63 n refl) ∙ none_marked-word 63 n ∙ ap (λ k. k == 0) (mod-eq_of_lt h)
 
--- seven marks written where there were none, and none behind them
+-- seven marks written where there were none, and none after them
 pub with_seven : (n i m : ℕ) → i < 9 → m < 128 → IsTrue (none_marked (drop (7 * i) (half n))) →
     half (bit_or n (m * 2 ^ (56 - 7 * i))) ≡ take (7 * i) (half n) ++ (seven m ++ word (56 - 7 * i) 0)
 unfolding seven

@@ -89,7 +89,7 @@ seven_in_first a b o marks m e h f =
 pub seven_in_second : (a b o : ℕ) (marks m : List ℕ) → marks_in a b ≡ marks → 9 ≤ o → m ≡ take 7 (drop (7 * (o - 9)) (half b)) → m ≡ take 7 (drop (7 * o) marks)
 seven_in_second a b o marks m e h f = f ∙ sym (ap (take 7) (drop_in_second a b (7 * o) (7 * (o - 9)) marks e (omega arith)))
 
--- ---- whether a mark stands behind an octet
+-- ---- whether a mark stands after an octet
 
 and_true : (x : Bool) → (x && true) ≡ x
 and_true true = refl
@@ -139,7 +139,7 @@ pub length-seven : (n : ℕ) → length (seven n) ≡ 7
 unfolding seven
 length-seven n = length-word 7 n
 
--- seven marks behind n, and no others
+-- seven marks after n, and no others
 written_front : (x z new : List ℕ) (n m : ℕ) → n ≤ length x → new ≡ take n x ++ (seven m ++ z) → (take (n + 7) new ≡ take n x ++ seven m) × (drop (n + 7) new ≡ z)
 written_front x z new n m h e =
     let whole : new ≡ (take n x ++ seven m) ++ z = e ∙ sym (append_assoc (take n x) (seven m) z) in

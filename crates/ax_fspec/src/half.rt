@@ -52,7 +52,7 @@ pub fn with_seven(marks: u64, octet: u32, new: u8) -> u64
     marks | (new as u64) << (56 - 7 * octet)
 }
 
-/// Whether a mark behind those of a presence octet is set.
+/// Whether a mark after those of a presence octet is set.
 #[inline]
 #[tactic(auto, using(crate::proofs::Halves::marked_behind))]
 pub fn is_marked_behind(marks: u64, octet: u32) -> bool

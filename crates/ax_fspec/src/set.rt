@@ -127,7 +127,7 @@ impl Presence {
         }
     }
 
-    /// Whether a slot behind those of a presence octet from 0 to 17 is in the set.
+    /// Whether a slot after those of a presence octet from 0 to 17 is in the set.
     #[inline]
     pub(crate) fn goes_on_behind(&self, octet: u32) -> bool
         requires { octet < 18 }

@@ -5,8 +5,8 @@ use Rattle.ax_model.specs.declared.content.Content.{Content}
 use Rattle.ax_grammar.specs.Gives.{Stops}
 use Rattle.ax_grammar.specs.Reading.{Texts, ◌>>=◌, expect_at, braced_at}
 use Rattle.ax_grammar.specs.Rules.{keyword_at, width_at, content_at, fixed_step, fixed_at, member_at, part_at, kind_behind, kind_step, kind_at, slot_at}
-use Rattle.ax_grammar.specs.declared.error.Stopped.{Stopped}
-use Rattle.ax_grammar.specs.declared.error.Stopped.TheVariants.{Bad, OutOfMemory}
+use Rattle.ax_token_reader.specs.declared.stopped.Stopped.{Stopped}
+use Rattle.ax_token_reader.specs.declared.stopped.Stopped.TheVariants.{Bad, OutOfMemory}
 use Rattle.ax_grammar.specs.declared.keyword.Keyword.{Keyword}
 use Rattle.ax_grammar.specs.declared.keyword.Keyword.TheVariants as Word
 use Rattle.ax_grammar.proofs.Recursive.{fixed_is, kind_is}

@@ -8,7 +8,7 @@ use Rattle.std.proofs.lemmas.Fmt.{digits_decimal, digits_value-decimal, decimal-
 use Rattle.std.proofs.lemmas.Str.Parse.{IsNumeralModel, numerals_by_fold, digits_value_short}
 use Rattle.std.proofs.Math.Nat.{pow-le-pow_right}
 use Rattle.ax_model.specs.Characters.{IsName, is_name_octet}
-use Rattle.ax_grammar.specs.Spelling.{three_digits}
+use Rattle.ax_model.specs.Paths.{three_digits}
 use Rattle.ax_grammar.specs.Tests.{is_digit, number_behind, has_leading_zero, number_of, category_of}
 
 abbrev pub AreDigits : List ℕ → Type 0

@@ -1,4 +1,4 @@
--- Texts that are printed one behind another.
+-- Texts that are printed one after another.
 use Rattle.std.proofs.Common.{◌≡◌, ℕ, ◌+◌, ◌<◌, List, [], ◌∷◌, ◌++◌, suc, length, drop, drop-cons, get_or, map, Result, Ok, Err, add-one, refl, sym, ◌∙◌, ap, append_assoc, append-nil, arith}
 use Rattle.std.specs.Prelude.{OnOk}
 use Rattle.std.specs.List.{flat_map, join_with_byte}
@@ -9,7 +9,8 @@ use Rattle.ax_model.specs.declared.kind.Member.{Member}
 use Rattle.ax_model.specs.declared.kind.Part.{Part}
 use Rattle.ax_model.specs.declared.kind.Slot.{Slot}
 use Rattle.ax_model.specs.declared.spec.Item.{Item}
-use Rattle.ax_grammar.specs.Spelling.{three_digits, quoted, block, part_texts, item_texts, members_texts, slots_texts, uap_slot_texts, printed}
+use Rattle.ax_grammar.specs.Spelling.{quoted, block, part_texts, item_texts, members_texts, slots_texts, uap_slot_texts, printed}
+use Rattle.ax_model.specs.Paths.{three_digits}
 use Rattle.ax_grammar.specs.Keywords.{keyword_text}
 use Rattle.ax_grammar.specs.declared.keyword.Keyword.{Keyword}
 use Rattle.ax_grammar.specs.declared.keyword.Keyword.TheVariants as Word
@@ -20,7 +21,7 @@ pub behind-append : (a b : Texts) → behind (a ++ b) ≡ behind a ++ behind b
 behind-append [] b = refl
 behind-append (text ∷ a) b = ap (λ t. 0x20 ∷ (text ++ t)) (behind-append a b) ∙ ap (λ t. 0x20 ∷ t) (sym (append_assoc text (behind a) (behind b)))
 
--- the first text, and the others each behind a space
+-- the first text, and the others each after a space
 pub joined : (text : List ℕ) (texts : Texts) → join_with_byte 0x20 (text ∷ texts) ≡ text ++ behind texts
 joined text [] = sym (append-nil text)
 joined text (next ∷ texts) = ap (λ t. text ++ (0x20 ∷ t)) (joined next texts)
@@ -47,7 +48,7 @@ members_texts_of members = members_texts (members_tree members)
 abbrev pub slots_texts_of : List Slot → Texts
 slots_texts_of slots = slots_texts (slots_tree slots)
 
--- ---- parts behind one another
+-- ---- parts after one another
 
 blocks : (a b c d e : List ℕ) → (((a ++ b) ++ c) ++ d) ++ e ≡ a ++ (b ++ (c ++ (d ++ e)))
 blocks a b c d e = append_assoc ((a ++ b) ++ c) d e ∙ append_assoc (a ++ b) c (d ++ e) ∙ append_assoc a b (c ++ (d ++ e))

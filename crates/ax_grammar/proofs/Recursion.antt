@@ -1,4 +1,4 @@
--- A reader that calls itself is a fixed point of its step, where each call of itself stands behind a text more.
+-- A reader that calls itself is a fixed point of its step, where each call of itself stands after a text more.
 use Rattle.std.proofs.Common.{◌≡◌, ℕ, zero, suc, ◌<◌, ◌≤◌, Bool, true, false, cond, length, Result, Ok, Err, refl, ◌∙◌, ap, arith}
 use Rattle.ax_grammar.specs.Reading.{Texts, Read, ◌>>=◌, within, recursive}
 
@@ -14,7 +14,7 @@ Shrinks {A} p = (texts : Texts) (a : A) (rest : Texts) → p texts ≡ Ok (a, re
 abbrev pub Keeps : {A : Type 0} → (Texts → Read A) → Type 0
 Keeps {A} p = (texts : Texts) (a : A) (rest : Texts) → p texts ≡ Ok (a, rest) → length rest ≤ length texts
 
--- a step calls itself behind a text more
+-- a step calls itself after a text more
 pub record IsGuarded {A : Type 0} (step : (Texts → Read A) → Texts → Read A) : Type 0 where
   pub agrees : (k : ℕ) (p q : Texts → Read A) → Shrinks p → Shrinks q → Agree k p q → Agree (suc k) (step p) (step q)
   pub shrinks : (p : Texts → Read A) → Shrinks p → Shrinks (step p)

@@ -95,7 +95,7 @@ chosen_less : {A : Type 0} (b : Bool) (after : Texts) (n : ℕ) (p q : Texts →
 chosen_less true after n p q s t le a rest e = omega (arith, s after a rest e)
 chosen_less false after n p q s t le a rest e = omega (arith, t after a rest e)
 
--- either of two readers, behind the test for a keyword
+-- either of two readers, after the test for a keyword
 takes_shrinks : {A : Type 0} (word : Keyword) (p q : Texts → Read A) → Shrinks p → Shrinks q → Shrinks (λ texts. takes_at word texts >>= λ c. cond c.0 (p c.1) (q c.1))
 takes_shrinks word p q s t texts a rest e =
     let f = bind_ok (takes_at word texts) _ (a, rest) e in

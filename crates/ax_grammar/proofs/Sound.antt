@@ -15,7 +15,8 @@ use Rattle.ax_model.specs.declared.spec.UapSlot.{UapSlot}
 use Rattle.ax_model.specs.declared.spec.UapSlot.TheVariants as Uap
 use Rattle.ax_grammar.specs.Keywords.{keyword_text, keyword_of, keywords}
 use Rattle.ax_grammar.specs.InRange.{IsText, IsWidth, IsNumber, EntryInRange, ContentInRange, FixedInRange, MemberInRange, MembersInRange, KindInRange, SlotInRange, SlotsInRange, ItemInRange, UapSlotInRange, InRange}
-use Rattle.ax_grammar.specs.Spelling.{three_digits, quoted, sign_text, closed, block, entry_texts, content_texts, fixed_texts, member_texts, members_texts, part_texts, kind_texts, slot_texts, slots_texts, item_texts, uap_slot_texts, spelled}
+use Rattle.ax_grammar.specs.Spelling.{quoted, sign_text, closed, block, entry_texts, content_texts, fixed_texts, member_texts, members_texts, part_texts, kind_texts, slot_texts, slots_texts, item_texts, uap_slot_texts, spelled}
+use Rattle.ax_model.specs.Paths.{three_digits}
 use Rattle.ax_grammar.specs.Tests.{name_of, number_of, category_of, text_of}
 use Rattle.ax_grammar.specs.Reading.{Texts, Read, ◌>>=◌, one_of, one_at, expect_at, takes_at, list_at, braced_at}
 use Rattle.ax_grammar.specs.Rules.{keyword_at, name_at, category_at, width_at, number_at, text_at, sign_behind, sign_at, entry_at, scale_at, content_behind, content_at, fixed_behind, member_step, fixed_step, fixed_at, member_at, part_at, kind_behind, kind_step, kind_at, slot_step, slot_at, item_at, uap_slot_at, spec_at, end_at, whole_at}

@@ -24,7 +24,8 @@ use Rattle.ax_grammar.specs.Answers.{texts_of, SpellsSpec}
 use Rattle.ax_grammar.specs.InRange.{IsText, IsWidth, EntryInRange, ContentInRange, FixedInRange, MemberInRange, MembersInRange, KindInRange, SlotInRange, SlotsInRange, ItemInRange, UapSlotInRange, InRange}
 use Rattle.ax_grammar.specs.Keywords.{keyword_text}
 use Rattle.ax_grammar.specs.Printing.{kind_of, spelled_tokens}
-use Rattle.ax_grammar.specs.Spelling.{three_digits, quoted, sign_text, closed, block, entry_texts, content_texts, fixed_texts, member_texts, members_texts, part_texts, kind_texts, slot_texts, slots_texts, item_texts, uap_slot_texts, spelled, printed}
+use Rattle.ax_grammar.specs.Spelling.{quoted, sign_text, closed, block, entry_texts, content_texts, fixed_texts, member_texts, members_texts, part_texts, kind_texts, slot_texts, slots_texts, item_texts, uap_slot_texts, spelled, printed}
+use Rattle.ax_model.specs.Paths.{three_digits}
 use Rattle.ax_grammar.specs.Rules.{whole_at}
 use Rattle.ax_grammar.specs.Tests.{is_digit}
 use Rattle.ax_grammar.specs.declared.keyword.Keyword.{Keyword}

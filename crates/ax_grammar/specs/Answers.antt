@@ -1,7 +1,8 @@
 -- What tokens spell, and which of them is bad where they spell nothing.
-use Rattle.std.specs.Prelude.{◌≡◌, ℕ, ◌+◌, ◌<◌, List, ◌++◌, length, map, take, ◌⊎◌}
+use Rattle.std.specs.Prelude.{◌≡◌, ℕ, List, map}
 use Rattle.ax_model.specs.Specification.{SpecTree}
 use Rattle.ax_tokens.specs.PlainToken.{PlainToken}
+use Rattle.ax_token_reader.specs.FirstBad.{FirstBad}
 use Rattle.ax_grammar.specs.Spelling.{spelled}
 use Rattle.ax_grammar.specs.InRange.{InRange}
 use Rattle.ax_grammar.specs.declared.error.SyntaxError.{SyntaxError}
@@ -16,17 +17,14 @@ pub record SpellsSpec (tokens : List PlainToken) (spec : SpecTree) : Type 0 wher
   pub in_range : InRange spec
   pub texts : texts_of tokens ≡ spelled spec
 
--- a tree's spelling begins with these texts
-pub record BeginsSpelling (texts : List (List ℕ)) : Type 0 where
-  pub spec : SpecTree
-  pub in_range : InRange spec
-  pub rest : List (List ℕ)
-  pub begins : spelled spec ≡ texts ++ rest
+-- the language of category files: the spellings of trees
+abbrev pub IsSpec : List (List ℕ) → Type 0
+IsSpec texts = (spec : SpecTree) × InRange spec × (texts ≡ spelled spec)
 
--- the tokens spell no tree, and no spelling begins with those up to this one, or it is their count
-pub record NamesBadToken (tokens : List PlainToken) (token : ℕ) : Type 0 where
-  pub spells_none : (spec : SpecTree) → SpellsSpec tokens spec → ⊥
-  pub place : (token ≡ length tokens) ⊎ ((token < length tokens) × (BeginsSpelling (take (token + 1) (texts_of tokens)) → ⊥))
+-- the tokens spell no tree; the tokens before this one begin some spelling, and none begins with those and this one. It is
+-- the count of the tokens where some spelling begins with all of them
+abbrev pub NamesBadToken : List PlainToken → ℕ → Type 0
+NamesBadToken tokens token = FirstBad IsSpec (texts_of tokens) token
 
 -- the bad token that an error names; want of memory may come at any tokens
 abbrev pub IsBad : List PlainToken → SyntaxError → Type 0

@@ -1,4 +1,4 @@
--- Texts as they are printed one behind another, and the tokens that they are.
+-- Texts as they are printed one after another, and the tokens that they are.
 use Rattle.std.specs.Prelude.{ℕ, List, [], ◌∷◌, ◌++◌, map, if◌then◌else◌, ◌==◌}
 use Rattle.ax_model.specs.Specification.{SpecTree}
 use Rattle.ax_tokens.specs.Octets.{quote, open_brace, close_brace}
@@ -8,7 +8,7 @@ use Rattle.ax_tokens.specs.declared.token.TokenKind.{TokenKind}
 use Rattle.ax_tokens.specs.declared.token.TokenKind.TheVariants as Kind
 use Rattle.ax_grammar.specs.Spelling.{spelled}
 
--- each text behind a space
+-- each text after a space
 abbrev pub behind : List (List ℕ) → List ℕ
 behind [] = []
 behind (text ∷ texts) = 0x20 ∷ (text ++ behind texts)

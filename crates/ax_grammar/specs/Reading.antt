@@ -1,4 +1,4 @@
--- How texts are read from left to right. A reader answers what it read and the texts behind it, or the texts from the
+-- How texts are read from left to right. A reader answers what it read and the texts after it, or the texts from the
 -- bad one on. Only private calls are seen as readers; what they read is said by the spelling.
 use Rattle.std.specs.Prelude.{ℕ, zero, suc, Bool, true, false, if◌then◌else◌, bytes_eq, List, [], ◌∷◌, length, Option, Some, None, Result, Ok, Err}
 use Rattle.ax_grammar.specs.Keywords.{keyword_text}
@@ -9,7 +9,7 @@ use Rattle.ax_grammar.specs.declared.keyword.Keyword.TheVariants as Word
 abbrev pub Texts : Type 0
 Texts = List (List ℕ)
 
--- what was read and the texts behind it, or the texts from the bad one on
+-- what was read and the texts after it, or the texts from the bad one on
 abbrev pub Read : Type 0 → Type 0
 Read A = Result (A × Texts) Texts
 
@@ -48,7 +48,7 @@ unfoldable pub within : {A : Type 0} → ((Texts → Read A) → Texts → Read 
 within step zero texts = Err texts
 within step (suc n) texts = step (within step n) texts
 
--- each call is behind a text more, so one call for each text, and one for none, are enough
+-- each call is after a text more, so one call for each text, and one for none, are enough
 unfoldable pub recursive : {A : Type 0} → ((Texts → Read A) → Texts → Read A) → Texts → Read A
 recursive step texts = within step (suc (length texts)) texts
 

@@ -1,6 +1,7 @@
 -- The spelling of a specification: the texts of its tokens, rule by rule of the grammar.
-use Rattle.std.specs.Prelude.{ℕ, ◌+◌, ◌/◌, ◌%◌, List, [], ◌∷◌, ◌++◌, decimal}
+use Rattle.std.specs.Prelude.{ℕ, List, [], ◌∷◌, ◌++◌, decimal}
 use Rattle.std.specs.List.{flat_map, join_with_byte}
+use Rattle.ax_model.specs.Paths.{three_digits}
 use Rattle.ax_model.specs.Specification.{ItemTree, SpecTree}
 use Rattle.ax_model.specs.Tree.{FixedTree, element, group, MemberTree, named, spare, MembersTree, no_members, member_and, KindTree, fixed, extended, counted, by_fx, explicit, compound, SlotTree, spare_slot, subitem, SlotsTree, no_slots, slot_and}
 use Rattle.ax_model.specs.declared.content.Content.{Content}
@@ -17,10 +18,6 @@ use Rattle.ax_grammar.specs.declared.keyword.Keyword.TheVariants as Word
 
 -- ---- single tokens
 
--- a category has three digits
-abbrev pub three_digits : ℕ → List ℕ
-three_digits n = (48 + n / 100) ∷ (48 + n / 10 % 10) ∷ (48 + n % 10) ∷ []
-
 -- a text stands in quotes
 abbrev pub quoted : List ℕ → List ℕ
 quoted text = quote ∷ (text ++ quote ∷ [])
@@ -34,7 +31,7 @@ sign_text Signed = keyword_text Word.Signed
 abbrev pub closed : List (List ℕ) → List (List ℕ)
 closed texts = texts ++ keyword_text Word.Close ∷ []
 
--- texts in braces, behind a keyword
+-- texts in braces, after a keyword
 abbrev pub block : Keyword → List (List ℕ) → List (List ℕ)
 block word texts = keyword_text word ∷ keyword_text Word.Open ∷ closed texts
 
@@ -44,7 +41,7 @@ block word texts = keyword_text word ∷ keyword_text Word.Open ∷ closed texts
 abbrev pub entry_texts : TableText → List (List ℕ)
 entry_texts entry = decimal entry.number ∷ quoted entry.text ∷ []
 
--- a content, behind the width of its element
+-- a content, after the width of its element
 abbrev pub content_texts : Content → List (List ℕ)
 content_texts Meaning.Raw = keyword_text Word.Raw ∷ []
 content_texts (Meaning.Table entries) = block Word.Table (flat_map entry_texts entries)
@@ -68,7 +65,7 @@ abbrev mutual
   member_texts (named name kind) = name ∷ fixed_texts kind
   member_texts (spare width) = keyword_text Word.Spare ∷ decimal width ∷ []
 
-  -- members one behind another
+  -- members one after another
   pub members_texts : MembersTree → List (List ℕ)
   members_texts no_members = []
   members_texts (member_and member members) = member_texts member ++ members_texts members
@@ -94,7 +91,7 @@ abbrev mutual
   slot_texts spare_slot = keyword_text Word.Dash ∷ []
   slot_texts (subitem name kind) = name ∷ kind_texts kind
 
-  -- slots one behind another
+  -- slots one after another
   pub slots_texts : SlotsTree → List (List ℕ)
   slots_texts no_slots = []
   slots_texts (slot_and slot slots) = slot_texts slot ++ slots_texts slots
@@ -116,6 +113,6 @@ spelled spec =
     keyword_text Word.Category ∷ three_digits spec.category ∷ keyword_text Word.Edition ∷ quoted spec.edition
     ∷ (block Word.Items (flat_map item_texts spec.items) ++ block Word.Uap (flat_map uap_slot_texts spec.uap))
 
--- they are printed with one space between, and a line feed behind
+-- they are printed with one space between, and a line feed after
 abbrev pub printed : SpecTree → List ℕ
 printed spec = join_with_byte 0x20 (spelled spec) ++ line_feed ∷ []

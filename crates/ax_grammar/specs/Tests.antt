@@ -14,7 +14,7 @@ name_of text =
 abbrev pub is_digit : ℕ → Bool
 is_digit octet = nat_le 48 octet && nat_le octet 57
 
--- the number that digits behind a number stand for
+-- the number that digits after a number stand for
 abbrev pub number_behind : ℕ → List ℕ → ℕ
 number_behind n [] = n
 number_behind n (digit ∷ digits) = number_behind (10 * n + (digit - 48)) digits

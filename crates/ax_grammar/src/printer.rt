@@ -5,17 +5,18 @@ ghost use Rattle.std.specs.List.{flat_map};
 ghost use Rattle.ax_model.specs.Plain.{fixed_tree, member_tree, members_tree, part_tree, kind_tree, slot_tree, slots_tree, item_tree};
 ghost use Rattle.ax_grammar.specs.Keywords.{keyword_text};
 ghost use Rattle.ax_grammar.specs.Printing.{behind};
-ghost use Rattle.ax_grammar.specs.Spelling.{three_digits, quoted, sign_text, entry_texts, content_texts, fixed_texts, member_texts, members_texts, part_texts, kind_texts, slot_texts, slots_texts, item_texts, uap_slot_texts};
+ghost use Rattle.ax_grammar.specs.Spelling.{quoted, sign_text, entry_texts, content_texts, fixed_texts, member_texts, members_texts, part_texts, kind_texts, slot_texts, slots_texts, item_texts, uap_slot_texts};
+ghost use Rattle.ax_model.specs.Paths.{three_digits};
 
 use crate::keyword::Keyword;
 use ax_model::{
     Content, Fixed, Item, Items, Kind, Member, Members, Name, Part, Parts, Scale, Sign, Slot,
-    Slots, TableText, TableTexts, Text, UapSlot, UapSlots,
+    Slots, TableText, TableTexts, Text, UapSlot, UapSlots, category_digits,
 };
 use itoa::Buffer;
 use std::alloc::AllocError;
 
-/// Prints tokens, each behind a space.
+/// Prints tokens, each after a space.
 #[derive(Drop)]
 pub struct Printer {
     pub out: Vec<u8>,
@@ -46,12 +47,7 @@ impl Printer {
     pub fn category(&mut self, category: u8) -> Result<(), AllocError>
         ensures { OnOk result (self.new.out.items ≡ self.old.out.items ++ 0x20 ∷ three_digits category) }
     {
-        let digits = [
-            b'0' + category / 100,
-            b'0' + category / 10 % 10,
-            b'0' + category % 10,
-        ];
-        self.octets(&digits)
+        self.octets(&category_digits(category))
     }
 
     fn number(&mut self, number: u64) -> Result<(), AllocError>

@@ -10,7 +10,7 @@ use crate::printer::Printer;
 use ax_model::Spec;
 use std::alloc::{AllocError, Global};
 
-/// The text of a specification: the tokens that spell it, with one space between, and a line feed behind.
+/// The text of a specification: the tokens that spell it, with one space between, and a line feed after.
 ///
 /// Widths have at most nine digits, and numbers of scales and tables at most 18, so that the text spells the
 /// specification when it is read again. The text is all that takes memory.

@@ -5,16 +5,16 @@ ghost use Rattle.std.specs.List.{AllByRecursion};
 ghost use Rattle.ax_model.specs.Characters.{IsTextOctet};
 ghost use Rattle.ax_tokens.specs.PlainToken.{plain_token};
 ghost use Rattle.ax_tokens.specs.Lexing.{HasTokenText};
-ghost use Rattle.ax_grammar.specs.declared.error.Stopped.TheVariants.{Bad};
+ghost use Rattle.ax_token_reader.specs.declared.stopped.Stopped.TheVariants.{Bad};
 ghost use Rattle.ax_grammar.specs.Answers.{texts_of};
 ghost use Rattle.ax_grammar.specs.Gives.{Gives, Stops};
 ghost use Rattle.ax_grammar.specs.Reading.{expect_at, takes_at};
 ghost use Rattle.ax_grammar.specs.Rules.{keyword_at, name_at, category_at, width_at, number_at, text_at};
 
-use crate::error::Stopped;
 use crate::keyword::Keyword;
 use crate::octets;
 use ax_model::{Name, Text};
+use ax_token_reader::Stopped;
 use ax_tokens::{Token, Tokens};
 use std::alloc::{AllocError, Global};
 use std::marker::Model;
@@ -23,22 +23,15 @@ use std::marker::Model;
 /// of the tokens that are left.
 #[derive(Drop)]
 pub struct Reader<'r, 't> {
-    tokens: &'r Tokens<'t>,
-    /// How many there are.
-    end: u32,
-    /// The number of the next token.
-    at: u32,
+    inside: ax_token_reader::Reader<'r, 't>,
 }
 
 impl<'r, 't> Model for Reader<'r, 't> {
-    ghost use Rattle.std.specs.Prelude.{List, ℕ, length, drop, ◌≤◌, ◌<◌, ◌≡◌};
-    ghost use Rattle.ax_grammar.specs.Answers.{texts_of};
+    ghost use Rattle.std.specs.Prelude.{List, ℕ};
 
     ghost Value = { List (List ℕ) };
 
-    ghost view = { λ r. drop r.at (texts_of r.tokens.now) };
-
-    ghost invariant = { λ r. (r.at ≤ r.end) × (r.end ≡ length r.tokens.now) × (r.end < 4294967296) };
+    ghost view = { λ r. r.inside };
 }
 
 /// A text of these octets.
@@ -60,9 +53,7 @@ impl<'r, 't> Reader<'r, 't> {
         ensures { result ≡ texts_of tokens.now }
     {
         Reader {
-            tokens,
-            end: tokens.count(),
-            at: 0,
+            inside: ax_token_reader::Reader::new(tokens),
         }
     }
 
@@ -70,7 +61,7 @@ impl<'r, 't> Reader<'r, 't> {
     pub fn count(&self) -> u32
         ensures { result ≡ length self.now }
     {
-        self.end - self.at
+        self.inside.count()
     }
 
     /// The next token.
@@ -80,18 +71,15 @@ impl<'r, 't> Reader<'r, 't> {
         ensures end { IfErr result (λ e. (e ≡ Bad) × (self.now ≡ [])) }
         ensures bound { OnOk result (length self.now < 2 ^ 32) }
     {
-        match self.tokens.get(self.at) {
-            Some(token) => Ok(token),
-            None => Err(Stopped::Bad),
-        }
+        self.inside.peek()
     }
 
-    /// Goes behind the next token.
+    /// Goes after the next token.
     pub fn skip(&mut self)
         requires { 0 < length self.old }
         ensures { self.new ≡ drop 1 self.old }
     {
-        self.at += 1;
+        self.inside.skip();
     }
 
     /// Reads the keyword.

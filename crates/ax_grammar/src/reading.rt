@@ -8,9 +8,10 @@ ghost use Rattle.ax_grammar.specs.Gives.{Gives};
 ghost use Rattle.ax_grammar.specs.Rules.{end_at, whole_at};
 ghost use Rattle.ax_grammar.specs.declared.error.SyntaxError.TheVariants.{OutOfMemory};
 
-use crate::error::{Stopped, SyntaxError};
+use crate::error::SyntaxError;
 use crate::reader::Reader;
 use ax_model::Spec;
+use ax_token_reader::Stopped;
 use ax_tokens::Tokens;
 use std::alloc::Global;
 
@@ -38,8 +39,8 @@ fn whole(alloc: Global, reader: &mut Reader<'_, '_>) -> Result<Spec, Stopped>
 ///
 /// A list of tokens spells at most one specification. Where it spells none, `BadToken` names the token at which
 /// the reader stops, or the count of the tokens where they end too early: a category that isn't three digits up to 255, a
-/// name or a number out of its form, a word of another rule, a missing brace, or a token behind the end. No spelling
-/// begins with the tokens through that one.
+/// name or a number out of its form, a word of another rule, a missing brace, or a token after the end. The tokens
+/// before that one begin some spelling, and none begins with those and that one.
 ///
 /// Each token is read once, from left to right, and the tree is all that takes memory. The calls nest as the tokens'
 /// braces do: the depth that the tokens were made with bounds the stack.

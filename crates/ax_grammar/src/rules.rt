@@ -7,13 +7,13 @@ ghost use Rattle.ax_grammar.specs.Gives.{Gives};
 ghost use Rattle.ax_grammar.specs.Reading.{braced_at};
 ghost use Rattle.ax_grammar.specs.Rules.{sign_at, entry_at, scale_at, content_at, member_at, fixed_at, part_at, kind_at, slot_at, item_at, uap_slot_at, spec_at};
 
-use crate::error::Stopped;
 use crate::keyword::Keyword;
 use crate::reader::Reader;
 use ax_model::{
     Content, Fixed, Item, Items, Kind, Member, Members, Part, Parts, Scale, Sign, Slot, Slots,
     Spec, TableText, TableTexts, UapSlot, UapSlots,
 };
+use ax_token_reader::Stopped;
 use std::alloc::Global;
 
 impl<'r, 't> Reader<'r, 't> {

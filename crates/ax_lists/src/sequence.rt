@@ -7,7 +7,7 @@ use std::marker::Model;
 /// A list of fewer than 2^32 members, which contracts see as that list. It grows at its end alone and keeps
 /// its allocator.
 ///
-/// Two sequences are equal where their members are: the room behind the members and the place in memory are
+/// Two sequences are equal where their members are: the room after the members and the place in memory are
 /// no part of the list.
 #[derive(Drop)]
 pub struct Sequence<T> {

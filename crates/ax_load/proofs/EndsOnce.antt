@@ -6,13 +6,14 @@ use Rattle.ax_model.specs.Flaws.{flaws_of}
 use Rattle.ax_model.specs.Specification.{SpecTree, spec_of}
 use Rattle.ax_tokens.proofs.Once.{no_bad_byte, none_too_deep, bad_byte_once, too_deep_once, one_kind}
 use Rattle.ax_grammar.specs.Answers.{SpellsSpec}
-use Rattle.ax_command.specs.declared.outcome.Outcome.{Outcome}
-use Rattle.ax_command.specs.declared.outcome.Outcome.TheVariants as OutcomeOf
-use Rattle.ax_command.specs.declared.outcome.SpecFault.{SpecFault}
-use Rattle.ax_command.specs.declared.outcome.SpecFault.TheVariants.{TooLarge, BadByte, TooDeep, BadToken, Flawed}
+use Rattle.ax_load.specs.declared.fault.LoadStop.{LoadStop}
+use Rattle.ax_load.specs.declared.fault.LoadStop.TheVariants as LoadStopOf
+use Rattle.ax_load.specs.declared.fault.SpecFault.{SpecFault}
+use Rattle.ax_load.specs.declared.fault.SpecFault.TheVariants.{TooLarge, BadByte, TooDeep, BadToken, Flawed}
 use Rattle.ax_load.specs.FileAnswers.{IsFlawed, IsRefused}
-use Rattle.ax_load.specs.Loading.{Counts, GivesSpec, IsRefusedFile, StopsAtFile, EachGives, AreNewBehind, HasCategoryTwice, EndsAtFile, by_file, by_category, FilesEnd}
-use Rattle.ax_load.specs.SameEnds.{IsSameFault, same, another_token, IsSameOutcome, same_outcome, same_file}
+use Rattle.ax_outside.specs.Changes.{LibraryCounts}
+use Rattle.ax_load.specs.Loading.{GivesSpec, IsRefusedFile, StopsAtFile, EachGives, AreNewAfter, HasCategoryTwice, EndsAtFile, by_file, by_category, FilesEnd}
+use Rattle.ax_load.specs.SameEnds.{IsSameFault, same, another_token, IsSameStop, same_stop, same_file}
 use Rattle.ax_load.proofs.FilesOnce.{same_tokens, same_spelled, same_octets, spec_given_once, given_stops_for_memory, none_is_none}
 
 -- ---- one file's octets
@@ -54,68 +55,56 @@ exceeds_some : (o : Option (List ℕ)) (limit : ℕ) → Exceeds o limit → (oc
 exceeds_some None limit h = absurd h
 exceeds_some (Some octets) limit h = (octets, refl, h)
 
-refused_there : (files : List File) (c : Counts) (name : List ℕ) (fault : SpecFault) → IsRefusedFile (Some files) c name fault → (octets : List ℕ) × (octets_of name files ≡ Some octets) × IsRefused octets fault
+refused_there : (files : List File) (c : LibraryCounts) (name : List ℕ) (fault : SpecFault) → IsRefusedFile (Some files) c name fault → (octets : List ℕ) × (octets_of name files ≡ Some octets) × IsRefused octets fault
 refused_there files c name TooLarge h = exceeds_some (octets_of name files) 1048576 h
 refused_there files c name (BadByte at) h = (h.octets, h.holds, h.refused)
 refused_there files c name (TooDeep token) h = (h.octets, h.holds, h.refused)
 refused_there files c name (BadToken token) h = (h.octets, h.holds, h.refused)
 refused_there files c name (Flawed flaws) h = (h.octets, h.holds, h.refused)
 
-refused_once : (files : List File) (c : Counts) (name : List ℕ) (fault next : SpecFault) → (octets : List ℕ) × (octets_of name files ≡ Some octets) × IsRefused octets fault → (octets : List ℕ) × (octets_of name files ≡ Some octets) × IsRefused octets next → IsSameFault fault next
+refused_once : (files : List File) (c : LibraryCounts) (name : List ℕ) (fault next : SpecFault) → (octets : List ℕ) × (octets_of name files ≡ Some octets) × IsRefused octets fault → (octets : List ℕ) × (octets_of name files ≡ Some octets) × IsRefused octets next → IsSameFault fault next
 refused_once files c name fault next (octets, is, h) (others, is', k) = fault_once others fault next (subst (λ o. IsRefused o fault) (same_octets files name octets others is is') h) k
 
-lacks_or_refused : (files : List File) (c : Counts) (name : List ℕ) (fault : SpecFault) → (Rose c.faults c.faults' → ⊥) → Rose c.faults c.faults' ⊎ Lacks (Some files) name → (octets : List ℕ) × (octets_of name files ≡ Some octets) × IsRefused octets fault → ⊥
+lacks_or_refused : (files : List File) (c : LibraryCounts) (name : List ℕ) (fault : SpecFault) → (Rose c.faults c.faults' → ⊥) → Rose c.faults c.faults' ⊎ Lacks (Some files) name → (octets : List ℕ) × (octets_of name files ≡ Some octets) × IsRefused octets fault → ⊥
 lacks_or_refused files c name fault quiet (inl rose) k = quiet rose
 lacks_or_refused files c name fault quiet (inr lacks) (octets, is, k) = let e : None ≡ Some octets = sym lacks ∙ is in absurd (cc)
 
-refusals_once : (files : List File) (c : Counts) (name : List ℕ) (i n m : ℕ) (fault next : SpecFault) → n ≡ i → m ≡ i → IsRefusedFile (Some files) c name fault → IsRefusedFile (Some files) c name next → IsSameOutcome (OutcomeOf.SpecRefused n fault) (OutcomeOf.SpecRefused m next)
+refusals_once : (files : List File) (c : LibraryCounts) (name : List ℕ) (i n m : ℕ) (fault next : SpecFault) → n ≡ i → m ≡ i → IsRefusedFile (Some files) c name fault → IsRefusedFile (Some files) c name next → IsSameStop (LoadStopOf.SpecRefused n fault) (LoadStopOf.SpecRefused m next)
 refusals_once files c name i n m fault next is is' h k =
-    same_file i fault next (ap (λ x. OutcomeOf.SpecRefused x fault) is) (ap (λ x. OutcomeOf.SpecRefused x next) is') (refused_once files c name fault next (refused_there files c name fault h) (refused_there files c name next k))
+    same_file i fault next (ap (λ x. LoadStopOf.SpecRefused x fault) is) (ap (λ x. LoadStopOf.SpecRefused x next) is') (refused_once files c name fault next (refused_there files c name fault h) (refused_there files c name next k))
 
-stops_once : (files : List File) (c : Counts) (name : List ℕ) (i : ℕ) (outcome other : Outcome) → (Rose c.faults c.faults' → ⊥) → outcome ≢ OutcomeOf.OutOfMemory → other ≢ OutcomeOf.OutOfMemory
-    → StopsAtFile (Some files) c name i outcome → StopsAtFile (Some files) c name i other → IsSameOutcome outcome other
-stops_once files c name i (OutcomeOf.LoadFault n) (OutcomeOf.LoadFault m) quiet some others h k = same_outcome (ap OutcomeOf.LoadFault (h.0 ∙ sym k.0))
-stops_once files c name i (OutcomeOf.LoadFault n) (OutcomeOf.SpecRefused m next) quiet some others h k = absurd (lacks_or_refused files c name next quiet h.1 (refused_there files c name next k.1))
-stops_once files c name i (OutcomeOf.SpecRefused n fault) (OutcomeOf.LoadFault m) quiet some others h k = absurd (lacks_or_refused files c name fault quiet k.1 (refused_there files c name fault h.1))
-stops_once files c name i (OutcomeOf.SpecRefused n fault) (OutcomeOf.SpecRefused m next) quiet some others h k = refusals_once files c name i n m fault next h.0 k.0 h.1 k.1
-stops_once files c name i OutcomeOf.OutOfMemory other quiet some others h k = absurd (some refl)
-stops_once files c name i outcome OutcomeOf.OutOfMemory quiet some others h k = absurd (others refl)
-stops_once files c name i (OutcomeOf.CategoryTwice n category) other quiet some others h k = absurd h
-stops_once files c name i (OutcomeOf.Done blocks) other quiet some others h k = absurd h
-stops_once files c name i OutcomeOf.Usage other quiet some others h k = absurd h
-stops_once files c name i (OutcomeOf.InputRefused fault) other quiet some others h k = absurd h
-stops_once files c name i OutcomeOf.InputTooLong other quiet some others h k = absurd h
-stops_once files c name i OutcomeOf.ReadFault other quiet some others h k = absurd h
-stops_once files c name i OutcomeOf.WriteFault other quiet some others h k = absurd h
-stops_once files c name i outcome (OutcomeOf.CategoryTwice n category) quiet some others h k = absurd k
-stops_once files c name i outcome (OutcomeOf.Done blocks) quiet some others h k = absurd k
-stops_once files c name i outcome OutcomeOf.Usage quiet some others h k = absurd k
-stops_once files c name i outcome (OutcomeOf.InputRefused fault) quiet some others h k = absurd k
-stops_once files c name i outcome OutcomeOf.InputTooLong quiet some others h k = absurd k
-stops_once files c name i outcome OutcomeOf.ReadFault quiet some others h k = absurd k
-stops_once files c name i outcome OutcomeOf.WriteFault quiet some others h k = absurd k
+stops_once : (files : List File) (c : LibraryCounts) (name : List ℕ) (i : ℕ) (outcome other : LoadStop) → (Rose c.faults c.faults' → ⊥) → outcome ≢ LoadStopOf.OutOfMemory → other ≢ LoadStopOf.OutOfMemory
+    → StopsAtFile (Some files) c name i outcome → StopsAtFile (Some files) c name i other → IsSameStop outcome other
+stops_once files c name i (LoadStopOf.LoadFault n) (LoadStopOf.LoadFault m) quiet some others h k = same_stop (ap LoadStopOf.LoadFault (h.0 ∙ sym k.0))
+stops_once files c name i (LoadStopOf.LoadFault n) (LoadStopOf.SpecRefused m next) quiet some others h k = absurd (lacks_or_refused files c name next quiet h.1 (refused_there files c name next k.1))
+stops_once files c name i (LoadStopOf.SpecRefused n fault) (LoadStopOf.LoadFault m) quiet some others h k = absurd (lacks_or_refused files c name fault quiet k.1 (refused_there files c name fault h.1))
+stops_once files c name i (LoadStopOf.SpecRefused n fault) (LoadStopOf.SpecRefused m next) quiet some others h k = refusals_once files c name i n m fault next h.0 k.0 h.1 k.1
+stops_once files c name i LoadStopOf.OutOfMemory other quiet some others h k = absurd (some refl)
+stops_once files c name i outcome LoadStopOf.OutOfMemory quiet some others h k = absurd (others refl)
+stops_once files c name i (LoadStopOf.CategoryTwice n category) other quiet some others h k = absurd h
+stops_once files c name i outcome (LoadStopOf.CategoryTwice n category) quiet some others h k = absurd k
 
 twice_once : (files : List File) (before : List SpecTree) (name : List ℕ) (category next : ℕ) → HasCategoryTwice (Some files) before name category → HasCategoryTwice (Some files) before name next → category ≡ next
 twice_once files before name category next h k = h.is ∙ ap (λ s. s.category) (spec_given_once files name h.spec k.spec h.gives k.gives) ∙ sym k.is
 
-file_ends_once : (files : List File) (c : Counts) (before : List SpecTree) (name : List ℕ) (i : ℕ) (outcome other : Outcome) → (Rose c.faults c.faults' → ⊥) → outcome ≢ OutcomeOf.OutOfMemory → other ≢ OutcomeOf.OutOfMemory
-    → EndsAtFile (Some files) c before name i outcome → EndsAtFile (Some files) c before name i other → IsSameOutcome outcome other
+file_ends_once : (files : List File) (c : LibraryCounts) (before : List SpecTree) (name : List ℕ) (i : ℕ) (outcome other : LoadStop) → (Rose c.faults c.faults' → ⊥) → outcome ≢ LoadStopOf.OutOfMemory → other ≢ LoadStopOf.OutOfMemory
+    → EndsAtFile (Some files) c before name i outcome → EndsAtFile (Some files) c before name i other → IsSameStop outcome other
 file_ends_once files c before name i outcome other quiet some others (by_file h) (by_file k) = stops_once files c name i outcome other quiet some others h k
 file_ends_once files c before name i outcome other quiet some others (by_file h) (by_category category is twice) = absurd (some (given_stops_for_memory files c name i twice.spec outcome twice.gives quiet h))
 file_ends_once files c before name i outcome other quiet some others (by_category category is twice) (by_file k) = absurd (others (given_stops_for_memory files c name i twice.spec other twice.gives quiet k))
 file_ends_once files c before name i outcome other quiet some others (by_category category is twice) (by_category next is' twice') =
-    same_outcome (is ∙ ap (OutcomeOf.CategoryTwice i) (twice_once files before name category next twice twice') ∙ sym is')
+    same_stop (is ∙ ap (LoadStopOf.CategoryTwice i) (twice_once files before name category next twice twice') ∙ sym is')
 
 -- ---- files one after another
 
--- behind specifications, these names end the run
-abbrev EndOn : List File → Counts → ℕ → List SpecTree → List (List ℕ) → Outcome → Type 0
+-- after specifications, these names end the run
+abbrev EndOn : List File → LibraryCounts → ℕ → List SpecTree → List (List ℕ) → LoadStop → Type 0
 EndOn files c i before [] outcome = ⊥
 EndOn files c i before (name ∷ more) outcome =
     EndsAtFile (Some files) c before name i outcome
     ⊎ ((spec : SpecTree) × GivesSpec (Some files) name spec × (spec_of spec.category before ≡ None) × EndOn files c (i + 1) (before ++ spec ∷ []) more outcome)
 
-ends_on : (files : List File) (c : Counts) (i : ℕ) (before : List SpecTree) (earlier : List (List ℕ)) (specs : List SpecTree) (name : List ℕ) (more : List (List ℕ)) (outcome : Outcome) → EachGives (Some files) earlier specs → AreNewBehind before specs
+ends_on : (files : List File) (c : LibraryCounts) (i : ℕ) (before : List SpecTree) (earlier : List (List ℕ)) (specs : List SpecTree) (name : List ℕ) (more : List (List ℕ)) (outcome : LoadStop) → EachGives (Some files) earlier specs → AreNewAfter before specs
     → EndsAtFile (Some files) c (before ++ specs) name (i + length earlier) outcome → EndOn files c i before (earlier ++ (name ∷ more)) outcome
 ends_on files c i before [] [] name more outcome h new ends =
     let e : i + length {A = List ℕ} [] ≡ i = omega arith in
@@ -133,21 +122,21 @@ ends_on files c i before (n ∷ earlier) (s ∷ specs) name more outcome h new e
           (subst (λ x. EndsAtFile (Some files) c x name (i + length (n ∷ earlier)) outcome) (sym (append_assoc before (s ∷ []) specs)) ends)),
     )
 
-ends_from_the_start : (files : List File) (c : Counts) (names : List (List ℕ)) (outcome : Outcome) → FilesEnd (Some files) c names outcome → EndOn files c 0 [] names outcome
+ends_from_the_start : (files : List File) (c : LibraryCounts) (names : List (List ℕ)) (outcome : LoadStop) → FilesEnd (Some files) c names outcome → EndOn files c 0 [] names outcome
 ends_from_the_start files c names outcome h =
     let e : 0 + length h.earlier ≡ length h.earlier = omega arith in
     subst (λ n. EndOn files c 0 [] n outcome) (sym h.split)
     (ends_on files c 0 [] h.earlier h.before h.name h.more outcome h.give.each h.give.distinct (subst (λ k. EndsAtFile (Some files) c h.before h.name k outcome) (sym e) h.ends))
 
-given_ends_not : (files : List File) (c : Counts) (before : List SpecTree) (name : List ℕ) (i : ℕ) (spec : SpecTree) (outcome : Outcome) → (Rose c.faults c.faults' → ⊥) → outcome ≢ OutcomeOf.OutOfMemory → GivesSpec (Some files) name spec → spec_of spec.category before ≡ None
+given_ends_not : (files : List File) (c : LibraryCounts) (before : List SpecTree) (name : List ℕ) (i : ℕ) (spec : SpecTree) (outcome : LoadStop) → (Rose c.faults c.faults' → ⊥) → outcome ≢ LoadStopOf.OutOfMemory → GivesSpec (Some files) name spec → spec_of spec.category before ≡ None
     → EndsAtFile (Some files) c before name i outcome → ⊥
 given_ends_not files c before name i spec outcome quiet some gives fresh (by_file h) = some (given_stops_for_memory files c name i spec outcome gives quiet h)
 given_ends_not files c before name i spec outcome quiet some gives fresh (by_category category is twice) =
     let e : category ≡ spec.category = twice.is ∙ ap (λ s. s.category) (spec_given_once files name twice.spec spec twice.gives gives) in
     none_is_none (spec_of spec.category before) fresh (subst (λ n. IsSome (spec_of n before)) e twice.twice)
 
-ends_on_once : (files : List File) (c : Counts) (i : ℕ) (before : List SpecTree) (names : List (List ℕ)) (outcome other : Outcome) → (Rose c.faults c.faults' → ⊥) → outcome ≢ OutcomeOf.OutOfMemory → other ≢ OutcomeOf.OutOfMemory
-    → EndOn files c i before names outcome → EndOn files c i before names other → IsSameOutcome outcome other
+ends_on_once : (files : List File) (c : LibraryCounts) (i : ℕ) (before : List SpecTree) (names : List (List ℕ)) (outcome other : LoadStop) → (Rose c.faults c.faults' → ⊥) → outcome ≢ LoadStopOf.OutOfMemory → other ≢ LoadStopOf.OutOfMemory
+    → EndOn files c i before names outcome → EndOn files c i before names other → IsSameStop outcome other
 ends_on_once files c i before [] outcome other quiet some others h k = absurd h
 ends_on_once files c i before (name ∷ more) outcome other quiet some others (inl h) (inl k) = file_ends_once files c before name i outcome other quiet some others h k
 ends_on_once files c i before (name ∷ more) outcome other quiet some others (inl h) (inr (spec, gives, fresh, k)) = absurd (given_ends_not files c before name i spec outcome quiet some gives fresh h)
@@ -156,7 +145,7 @@ ends_on_once files c i before (name ∷ more) outcome other quiet some others (i
     ends_on_once files c (i + 1) (before ++ spec ∷ []) more outcome other quiet some others h
     (subst (λ s. EndOn files c (i + 1) (before ++ s ∷ []) more other) (spec_given_once files name spec' spec gives' gives) k)
 
-pub loading_ends_once : (files : List File) (c : Counts) (names : List (List ℕ)) (outcome other : Outcome) → (Rose c.faults c.faults' → ⊥) → outcome ≢ OutcomeOf.OutOfMemory → other ≢ OutcomeOf.OutOfMemory
-    → FilesEnd (Some files) c names outcome → FilesEnd (Some files) c names other → IsSameOutcome outcome other
+pub loading_ends_once : (files : List File) (c : LibraryCounts) (names : List (List ℕ)) (outcome other : LoadStop) → (Rose c.faults c.faults' → ⊥) → outcome ≢ LoadStopOf.OutOfMemory → other ≢ LoadStopOf.OutOfMemory
+    → FilesEnd (Some files) c names outcome → FilesEnd (Some files) c names other → IsSameStop outcome other
 loading_ends_once files c names outcome other quiet some others h k =
     ends_on_once files c 0 [] names outcome other quiet some others (ends_from_the_start files c names outcome h) (ends_from_the_start files c names other k)

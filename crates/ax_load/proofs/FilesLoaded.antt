@@ -7,11 +7,12 @@ use Rattle.ax_check.specs.declared.catalogue.AddError.TheVariants as AddErrorOf
 use Rattle.ax_model.specs.Plain.{spec_tree, catalogue_tree}
 use Rattle.ax_model.specs.Specification.{spec_of}
 use Rattle.ax_model.specs.declared.spec.Spec.{Spec}
-use Rattle.ax_load.specs.Loading.{Counts, GivesSpec, EndsAtFile, FilesEnd, by_file, by_category}
-use Rattle.ax_load.specs.Adding.{outcome_of_adding}
+use Rattle.ax_outside.specs.Changes.{LibraryCounts}
+use Rattle.ax_load.specs.Loading.{GivesSpec, EndsAtFile, FilesEnd, by_file, by_category}
+use Rattle.ax_load.specs.Adding.{stop_of_adding}
 use Rattle.ax_load.proofs.Passes.{Passed, none_passed, one_passed}
-use Rattle.ax_command.specs.declared.outcome.Outcome.{Outcome}
-use Rattle.ax_command.specs.declared.outcome.Outcome.TheVariants.{CategoryTwice, OutOfMemory}
+use Rattle.ax_load.specs.declared.fault.LoadStop.{LoadStop}
+use Rattle.ax_load.specs.declared.fault.LoadStop.TheVariants.{CategoryTwice, OutOfMemory}
 
 -- the first i files gave the catalogue, and these names are left
 pub record Loaded (files files' : Option (List File)) (names left : List (List ℕ)) (i file : ℕ) (catalogue : List Spec) (f f' t t' : ℕ) : Type 0 where
@@ -34,15 +35,15 @@ pub names_left : {A : Type 0} (f : A → List ℕ) (xs : List A) (i : ℕ) (x : 
 names_left f xs i x name within is same =
     ap (map f) (drop-cons xs i x within) ∙ ap (λ n. f (get_or xs i x) ∷ map f (drop n xs)) (sym (add-one i)) ∙ ap (λ y. y ∷ map f (drop (i + 1) xs)) (sym (same ∙ ap f is))
 
-tree_behind : (catalogue : List Spec) (one : Spec) → catalogue_tree (catalogue ++ one ∷ []) ≡ catalogue_tree catalogue ++ spec_tree one ∷ []
-tree_behind [] one = refl
-tree_behind (s ∷ more) one = ap (λ t. spec_tree s ∷ t) (tree_behind more one)
+tree_after : (catalogue : List Spec) (one : Spec) → catalogue_tree (catalogue ++ one ∷ []) ≡ catalogue_tree catalogue ++ spec_tree one ∷ []
+tree_after [] one = refl
+tree_after (s ∷ more) one = ap (λ t. spec_tree s ∷ t) (tree_after more one)
 
 pub one_loaded : (files files' files'' : Option (List File)) (names left : List (List ℕ)) (name : List ℕ) (more : List (List ℕ)) (i file : ℕ) (catalogue new : List Spec) (one : Spec) (f f' f'' t t' t'' : ℕ)
     → Loaded files files' names left i file catalogue f f' t t' → left ≡ name ∷ more → GivesSpec files' name (spec_tree one) → spec_of one.category (catalogue_tree catalogue) ≡ None
     → new ≡ catalogue ++ one ∷ [] → files'' ≡ files' → f' ≤ f'' → t' ≤ t'' → Loaded files files'' names more (i + 1) (file + 1) new f f'' t t''
 one_loaded files files' files'' names left name more i file catalogue new one f f' f'' t t' t'' l is gives none new_is same lf lt = record {
-  pass = subst (λ s. Passed files names (i + 1) s more) (sym (ap catalogue_tree new_is ∙ tree_behind catalogue one))
+  pass = subst (λ s. Passed files names (i + 1) s more) (sym (ap catalogue_tree new_is ∙ tree_after catalogue one))
       (one_passed files names i (catalogue_tree catalogue) name more (spec_tree one) (subst (λ x. Passed files names i (catalogue_tree catalogue) x) is l.pass) (subst (λ x. GivesSpec x name (spec_tree one)) l.keeps gives) none);
   number = ap (λ n. n + 1) l.number;
   keeps = same ∙ l.keeps;
@@ -50,8 +51,8 @@ one_loaded files files' files'' names left name more i file catalogue new one f 
   taken = let a = l.taken in omega arith;
 }
 
--- the file behind those that passed ends the run
-pub ends_there : (files files' : Option (List File)) (c : Counts) (names left : List (List ℕ)) (name : List ℕ) (more : List (List ℕ)) (i file : ℕ) (catalogue : List Spec) (f f' t t' : ℕ) (outcome : Outcome)
+-- the file after those that passed ends the run
+pub ends_there : (files files' : Option (List File)) (c : LibraryCounts) (names left : List (List ℕ)) (name : List ℕ) (more : List (List ℕ)) (i file : ℕ) (catalogue : List Spec) (f f' t t' : ℕ) (outcome : LoadStop)
     → Loaded files files' names left i file catalogue f f' t t' → left ≡ name ∷ more → EndsAtFile files c (catalogue_tree catalogue) name file outcome → FilesEnd files c names outcome
 ends_there files files' c names left name more i file catalogue f f' t t' outcome l is ends = record {
   earlier = l.pass.earlier;
@@ -63,7 +64,7 @@ ends_there files files' c names left name more i file catalogue f f' t t' outcom
   ends = subst (λ n. EndsAtFile files c (catalogue_tree catalogue) name n outcome) (l.number ∙ l.pass.counted) ends;
 }
 
-twice_ends : (files files' : Option (List File)) (c : Counts) (names left : List (List ℕ)) (name : List ℕ) (more : List (List ℕ)) (i file : ℕ) (catalogue : List Spec) (one : Spec) (category f f' t t' : ℕ)
+twice_ends : (files files' : Option (List File)) (c : LibraryCounts) (names left : List (List ℕ)) (name : List ℕ) (more : List (List ℕ)) (i file : ℕ) (catalogue : List Spec) (one : Spec) (category f f' t t' : ℕ)
     → Loaded files files' names left i file catalogue f f' t t' → left ≡ name ∷ more → GivesSpec files' name (spec_tree one) → category ≡ one.category
     → IsSome (spec_of one.category (catalogue_tree catalogue)) → FilesEnd files c names (CategoryTwice file category)
 twice_ends files files' c names left name more i file catalogue one category f f' t t' l is gives same twice =
@@ -74,12 +75,12 @@ twice_ends files files' c names left name more i file catalogue one category f f
       twice = subst (λ x. IsSome (spec_of x (catalogue_tree catalogue))) (sym same) twice;
     }))
 
-memory_ends : (files files' : Option (List File)) (c : Counts) (names left : List (List ℕ)) (name : List ℕ) (more : List (List ℕ)) (i file : ℕ) (catalogue : List Spec) (f f' t t' : ℕ)
+memory_ends : (files files' : Option (List File)) (c : LibraryCounts) (names left : List (List ℕ)) (name : List ℕ) (more : List (List ℕ)) (i file : ℕ) (catalogue : List Spec) (f f' t t' : ℕ)
     → Loaded files files' names left i file catalogue f f' t t' → left ≡ name ∷ more → FilesEnd files c names OutOfMemory
 memory_ends files files' c names left name more i file catalogue f f' t t' l is = ends_there files files' c names left name more i file catalogue f f' t t' OutOfMemory l is (by_file tt)
 
-pub adding_ends : (files files' : Option (List File)) (c : Counts) (names left : List (List ℕ)) (name : List ℕ) (more : List (List ℕ)) (i file : ℕ) (catalogue : List Spec) (one : Spec) (f f' t t' : ℕ) (error : AddError) (outcome : Outcome)
-    → Loaded files files' names left i file catalogue f f' t t' → left ≡ name ∷ more → GivesSpec files' name (spec_tree one) → WhyRefused catalogue one error → outcome ≡ outcome_of_adding file error → FilesEnd files c names outcome
+pub adding_ends : (files files' : Option (List File)) (c : LibraryCounts) (names left : List (List ℕ)) (name : List ℕ) (more : List (List ℕ)) (i file : ℕ) (catalogue : List Spec) (one : Spec) (f f' t t' : ℕ) (error : AddError) (outcome : LoadStop)
+    → Loaded files files' names left i file catalogue f f' t t' → left ≡ name ∷ more → GivesSpec files' name (spec_tree one) → WhyRefused catalogue one error → outcome ≡ stop_of_adding file error → FilesEnd files c names outcome
 adding_ends files files' c names left name more i file catalogue one f f' t t' (AddErrorOf.CategoryTwice category) outcome l is gives why same =
     subst (λ x. FilesEnd files c names x) (sym same) (twice_ends files files' c names left name more i file catalogue one category f f' t t' l is gives why.0 why.1)
 adding_ends files files' c names left name more i file catalogue one f f' t t' AddErrorOf.OutOfMemory outcome l is gives why same =

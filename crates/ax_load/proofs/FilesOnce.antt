@@ -8,12 +8,13 @@ use Rattle.ax_tokens.specs.PlainToken.{PlainToken}
 use Rattle.ax_tokens.proofs.Once.{tokens_once, no_bad_byte, none_too_deep}
 use Rattle.ax_grammar.specs.Answers.{SpellsSpec, texts_of}
 use Rattle.ax_grammar.proofs.TokenTexts.{spelling_once}
-use Rattle.ax_command.specs.declared.outcome.Outcome.{Outcome}
-use Rattle.ax_command.specs.declared.outcome.Outcome.TheVariants as OutcomeOf
-use Rattle.ax_command.specs.declared.outcome.SpecFault.{SpecFault}
-use Rattle.ax_command.specs.declared.outcome.SpecFault.TheVariants.{TooLarge, BadByte, TooDeep, BadToken, Flawed}
+use Rattle.ax_load.specs.declared.fault.LoadStop.{LoadStop}
+use Rattle.ax_load.specs.declared.fault.LoadStop.TheVariants as LoadStopOf
+use Rattle.ax_load.specs.declared.fault.SpecFault.{SpecFault}
+use Rattle.ax_load.specs.declared.fault.SpecFault.TheVariants.{TooLarge, BadByte, TooDeep, BadToken, Flawed}
 use Rattle.ax_load.specs.FileAnswers.{HasTokens, IsAccepted, IsRefused}
-use Rattle.ax_load.specs.Loading.{Counts, GivesSpec, IsRefusedFile, IsRefusedOctets, StopsAtFile, EachGives, AreNewBehind, HasCategoryTwice, EndsAtFile, by_file, by_category, FilesGive, FilesEnd}
+use Rattle.ax_outside.specs.Changes.{LibraryCounts}
+use Rattle.ax_load.specs.Loading.{GivesSpec, IsRefusedFile, IsRefusedOctets, StopsAtFile, EachGives, AreNewAfter, HasCategoryTwice, EndsAtFile, by_file, by_category, FilesGive, FilesEnd}
 
 -- ---- one file
 
@@ -51,42 +52,36 @@ refused_octets_not_given files name spec fault h k =
 given_not_longer : (files : List File) (name octets : List ℕ) → octets_of name files ≡ Some octets → length octets ≤ 1048576 → IsLonger (Some files) name 1048576 → ⊥
 given_not_longer files name octets is small h = let k : Exceeds (Some octets) 1048576 = subst (λ o. Exceeds o 1048576) is h in absurd (omega arith)
 
-refused_not_given : (files : List File) (c : Counts) (name : List ℕ) (spec : SpecTree) (fault : SpecFault) → GivesSpec (Some files) name spec → IsRefusedFile (Some files) c name fault → ⊥
+refused_not_given : (files : List File) (c : LibraryCounts) (name : List ℕ) (spec : SpecTree) (fault : SpecFault) → GivesSpec (Some files) name spec → IsRefusedFile (Some files) c name fault → ⊥
 refused_not_given files c name spec TooLarge h k = given_not_longer files name h.octets h.holds h.accepted.has.small k
 refused_not_given files c name spec (BadByte at) h k = refused_octets_not_given files name spec (BadByte at) h k
 refused_not_given files c name spec (TooDeep token) h k = refused_octets_not_given files name spec (TooDeep token) h k
 refused_not_given files c name spec (BadToken token) h k = refused_octets_not_given files name spec (BadToken token) h k
 refused_not_given files c name spec (Flawed flaws) h k = refused_octets_not_given files name spec (Flawed flaws) h k
 
-fault_not_given : (files : List File) (c : Counts) (name : List ℕ) (spec : SpecTree) → GivesSpec (Some files) name spec → (Rose c.faults c.faults' → ⊥) → Rose c.faults c.faults' ⊎ Lacks (Some files) name → ⊥
+fault_not_given : (files : List File) (c : LibraryCounts) (name : List ℕ) (spec : SpecTree) → GivesSpec (Some files) name spec → (Rose c.faults c.faults' → ⊥) → Rose c.faults c.faults' ⊎ Lacks (Some files) name → ⊥
 fault_not_given files c name spec h quiet (inl rose) = quiet rose
 fault_not_given files c name spec h quiet (inr lacks) = let e : None ≡ Some h.octets = sym lacks ∙ h.holds in absurd (cc)
 
 -- a file that gives a specification ends no run, but for want of memory
-pub given_stops_for_memory : (files : List File) (c : Counts) (name : List ℕ) (i : ℕ) (spec : SpecTree) (outcome : Outcome) → GivesSpec (Some files) name spec → (Rose c.faults c.faults' → ⊥) → StopsAtFile (Some files) c name i outcome → outcome ≡ OutcomeOf.OutOfMemory
-given_stops_for_memory files c name i spec (OutcomeOf.LoadFault n) h quiet k = absurd (fault_not_given files c name spec h quiet k.1)
-given_stops_for_memory files c name i spec (OutcomeOf.SpecRefused n fault) h quiet k = absurd (refused_not_given files c name spec fault h k.1)
-given_stops_for_memory files c name i spec OutcomeOf.OutOfMemory h quiet k = refl
-given_stops_for_memory files c name i spec (OutcomeOf.CategoryTwice n category) h quiet k = absurd k
-given_stops_for_memory files c name i spec (OutcomeOf.Done blocks) h quiet k = absurd k
-given_stops_for_memory files c name i spec OutcomeOf.Usage h quiet k = absurd k
-given_stops_for_memory files c name i spec (OutcomeOf.InputRefused fault) h quiet k = absurd k
-given_stops_for_memory files c name i spec OutcomeOf.InputTooLong h quiet k = absurd k
-given_stops_for_memory files c name i spec OutcomeOf.ReadFault h quiet k = absurd k
-given_stops_for_memory files c name i spec OutcomeOf.WriteFault h quiet k = absurd k
+pub given_stops_for_memory : (files : List File) (c : LibraryCounts) (name : List ℕ) (i : ℕ) (spec : SpecTree) (outcome : LoadStop) → GivesSpec (Some files) name spec → (Rose c.faults c.faults' → ⊥) → StopsAtFile (Some files) c name i outcome → outcome ≡ LoadStopOf.OutOfMemory
+given_stops_for_memory files c name i spec (LoadStopOf.LoadFault n) h quiet k = absurd (fault_not_given files c name spec h quiet k.1)
+given_stops_for_memory files c name i spec (LoadStopOf.SpecRefused n fault) h quiet k = absurd (refused_not_given files c name spec fault h k.1)
+given_stops_for_memory files c name i spec LoadStopOf.OutOfMemory h quiet k = refl
+given_stops_for_memory files c name i spec (LoadStopOf.CategoryTwice n category) h quiet k = absurd k
 
 pub none_is_none : {A : Type 0} (x : Option A) → x ≡ None → IsSome x → ⊥
 none_is_none {A = A} x is h = let e : IsSome {T = A} None = subst IsSome is h in absurd (cc)
 
 -- ---- files one after another
 
--- behind specifications, these names give the rest of the catalogue
+-- after specifications, these names give the rest of the catalogue
 abbrev GiveOn : List File → List SpecTree → List (List ℕ) → List SpecTree → Type 0
 GiveOn files before [] catalogue = before ≡ catalogue
 GiveOn files before (name ∷ more) catalogue =
     (spec : SpecTree) × GivesSpec (Some files) name spec × (spec_of spec.category before ≡ None) × GiveOn files (before ++ spec ∷ []) more catalogue
 
-gives_on : (files : List File) (before : List SpecTree) (names : List (List ℕ)) (specs : List SpecTree) → EachGives (Some files) names specs → AreNewBehind before specs → GiveOn files before names (before ++ specs)
+gives_on : (files : List File) (before : List SpecTree) (names : List (List ℕ)) (specs : List SpecTree) → EachGives (Some files) names specs → AreNewAfter before specs → GiveOn files before names (before ++ specs)
 gives_on files before [] [] h new = sym (append-nil before)
 gives_on files before [] (s ∷ specs) h new = absurd h
 gives_on files before (n ∷ names) [] h new = absurd h
@@ -96,15 +91,15 @@ gives_on files before (n ∷ names) (s ∷ specs) h new =
 from_the_start : (files : List File) (names : List (List ℕ)) (catalogue : List SpecTree) → FilesGive (Some files) names catalogue → GiveOn files [] names catalogue
 from_the_start files names catalogue h = gives_on files [] names catalogue h.each h.distinct
 
-behind : (files : List File) (before : List SpecTree) (name : List ℕ) (more : List (List ℕ)) (spec : SpecTree) (catalogue : List SpecTree) → GivesSpec (Some files) name spec → GiveOn files before (name ∷ more) catalogue → GiveOn files (before ++ spec ∷ []) more catalogue
-behind files before name more spec catalogue gives (other, given, fresh, on) = subst (λ s. GiveOn files (before ++ s ∷ []) more catalogue) (spec_given_once files name other spec given gives) on
+after : (files : List File) (before : List SpecTree) (name : List ℕ) (more : List (List ℕ)) (spec : SpecTree) (catalogue : List SpecTree) → GivesSpec (Some files) name spec → GiveOn files before (name ∷ more) catalogue → GiveOn files (before ++ spec ∷ []) more catalogue
+after files before name more spec catalogue gives (other, given, fresh, on) = subst (λ s. GiveOn files (before ++ s ∷ []) more catalogue) (spec_given_once files name other spec given gives) on
 
 up_to_there : (files : List File) (before : List SpecTree) (earlier : List (List ℕ)) (specs : List SpecTree) (left : List (List ℕ)) (catalogue : List SpecTree) → EachGives (Some files) earlier specs → GiveOn files before (earlier ++ left) catalogue → GiveOn files (before ++ specs) left catalogue
 up_to_there files before [] [] left catalogue h g = subst (λ x. GiveOn files x left catalogue) (sym (append-nil before)) g
 up_to_there files before [] (s ∷ specs) left catalogue h g = absurd h
 up_to_there files before (n ∷ earlier) [] left catalogue h g = absurd h
 up_to_there files before (n ∷ earlier) (s ∷ specs) left catalogue h g =
-    subst (λ x. GiveOn files x left catalogue) (append_assoc before (s ∷ []) specs) (up_to_there files (before ++ s ∷ []) earlier specs left catalogue h.1 (behind files before n (earlier ++ left) s catalogue h.0 g))
+    subst (λ x. GiveOn files x left catalogue) (append_assoc before (s ∷ []) specs) (up_to_there files (before ++ s ∷ []) earlier specs left catalogue h.1 (after files before n (earlier ++ left) s catalogue h.0 g))
 
 pub each_given_once : (files : List File) (names : List (List ℕ)) (specs others : List SpecTree) → EachGives (Some files) names specs → EachGives (Some files) names others → specs ≡ others
 each_given_once files [] [] [] h k = refl
@@ -123,13 +118,13 @@ twice_not_given files before name more catalogue category twice (spec, given, fr
     let is : category ≡ spec.category = twice.is ∙ ap (λ s. s.category) (sym same) in
     none_is_none (spec_of spec.category before) fresh (subst (λ n. IsSome (spec_of n before)) is twice.twice)
 
-ends_for_memory : (files : List File) (c : Counts) (before : List SpecTree) (name : List ℕ) (more : List (List ℕ)) (i : ℕ) (catalogue : List SpecTree) (outcome : Outcome) → (Rose c.faults c.faults' → ⊥)
-    → EndsAtFile (Some files) c before name i outcome → GiveOn files before (name ∷ more) catalogue → outcome ≡ OutcomeOf.OutOfMemory
+ends_for_memory : (files : List File) (c : LibraryCounts) (before : List SpecTree) (name : List ℕ) (more : List (List ℕ)) (i : ℕ) (catalogue : List SpecTree) (outcome : LoadStop) → (Rose c.faults c.faults' → ⊥)
+    → EndsAtFile (Some files) c before name i outcome → GiveOn files before (name ∷ more) catalogue → outcome ≡ LoadStopOf.OutOfMemory
 ends_for_memory files c before name more i catalogue outcome quiet (by_file h) (spec, given, fresh, on) = given_stops_for_memory files c name i spec outcome given quiet h
 ends_for_memory files c before name more i catalogue outcome quiet (by_category category is twice) g = absurd (twice_not_given files before name more catalogue category twice g)
 
 -- where the files give a catalogue and no fault of the library is counted, only want of memory ends the run at a file
-pub given_ends_for_memory : (files : List File) (c : Counts) (names : List (List ℕ)) (catalogue : List SpecTree) (outcome : Outcome) → (Rose c.faults c.faults' → ⊥) → FilesGive (Some files) names catalogue → FilesEnd (Some files) c names outcome → outcome ≡ OutcomeOf.OutOfMemory
+pub given_ends_for_memory : (files : List File) (c : LibraryCounts) (names : List (List ℕ)) (catalogue : List SpecTree) (outcome : LoadStop) → (Rose c.faults c.faults' → ⊥) → FilesGive (Some files) names catalogue → FilesEnd (Some files) c names outcome → outcome ≡ LoadStopOf.OutOfMemory
 given_ends_for_memory files c names catalogue outcome quiet h k =
     ends_for_memory files c k.before k.name k.more (length k.earlier) catalogue outcome quiet k.ends
     (up_to_there files [] k.earlier k.before (k.name ∷ k.more) catalogue k.give.each (subst (λ n. GiveOn files [] n catalogue) k.split (from_the_start files names catalogue h)))

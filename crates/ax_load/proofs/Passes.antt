@@ -2,7 +2,7 @@
 use Rattle.std.proofs.Common.{◌≡◌, ℕ, ◌+◌, List, [], ◌∷◌, ◌++◌, Option, None, length, refl, sym, ◌∙◌, ap, subst, append_assoc, append-nil, length-append}
 use Rattle.ax_outside.specs.Files.{File}
 use Rattle.ax_model.specs.Specification.{SpecTree, spec_of}
-use Rattle.ax_load.specs.Loading.{GivesSpec, EachGives, AreNewBehind, FilesGive}
+use Rattle.ax_load.specs.Loading.{GivesSpec, EachGives, AreNewAfter, FilesGive}
 
 each_more : (files : Option (List File)) (names : List (List ℕ)) (specs : List SpecTree) (name : List ℕ) (spec : SpecTree) → EachGives files names specs → GivesSpec files name spec → EachGives files (names ++ name ∷ []) (specs ++ spec ∷ [])
 each_more files [] [] name spec h g = (g, tt)
@@ -10,7 +10,7 @@ each_more files [] (s ∷ specs) name spec h g = absurd h
 each_more files (n ∷ names) [] name spec h g = absurd h
 each_more files (n ∷ names) (s ∷ specs) name spec h g = (h.0, each_more files names specs name spec h.1 g)
 
-new_more : (before specs : List SpecTree) (spec : SpecTree) → AreNewBehind before specs → spec_of spec.category (before ++ specs) ≡ None → AreNewBehind before (specs ++ spec ∷ [])
+new_more : (before specs : List SpecTree) (spec : SpecTree) → AreNewAfter before specs → spec_of spec.category (before ++ specs) ≡ None → AreNewAfter before (specs ++ spec ∷ [])
 new_more before [] spec h fresh = (subst (λ x. spec_of spec.category x ≡ None) (append-nil before) fresh, tt)
 new_more before (s ∷ specs) spec h fresh =
     (h.0, new_more (before ++ s ∷ []) specs spec h.1 (subst (λ x. spec_of spec.category x ≡ None) (sym (append_assoc before (s ∷ []) specs)) fresh))

@@ -1,20 +1,14 @@
 -- Which specifications the files of a command line give, or how the run ends at the first one that gives none.
 use Rattle.std.specs.Prelude.{◌≡◌, ℕ, ◌⊎◌, List, [], ◌∷◌, ◌++◌, Option, None, IsSome, length}
 use Rattle.ax_outside.specs.Files.{File, HoldsFile, Lacks, TooMany}
+use Rattle.ax_outside.specs.Changes.{LibraryCounts}
 use Rattle.ax_outside.specs.Told.{Rose}
 use Rattle.ax_model.specs.Specification.{SpecTree, spec_of}
 use Rattle.ax_load.specs.FileAnswers.{largest_file, IsAccepted, IsRefused}
-use Rattle.ax_command.specs.declared.outcome.Outcome.{Outcome}
-use Rattle.ax_command.specs.declared.outcome.Outcome.TheVariants.{Done, Usage, SpecRefused, CategoryTwice, InputRefused, InputTooLong, LoadFault, ReadFault, WriteFault, OutOfMemory}
-use Rattle.ax_command.specs.declared.outcome.SpecFault.{SpecFault}
-use Rattle.ax_command.specs.declared.outcome.SpecFault.TheVariants.{TooLarge, BadByte, TooDeep, BadToken, Flawed}
-
--- the counts of faults and of octets taken, before and after
-pub record Counts : Type 0 where
-  pub faults : ℕ
-  pub faults' : ℕ
-  pub taken : ℕ
-  pub taken' : ℕ
+use Rattle.ax_load.specs.declared.fault.LoadStop.{LoadStop}
+use Rattle.ax_load.specs.declared.fault.LoadStop.TheVariants.{SpecRefused, CategoryTwice, LoadFault, OutOfMemory}
+use Rattle.ax_load.specs.declared.fault.SpecFault.{SpecFault}
+use Rattle.ax_load.specs.declared.fault.SpecFault.TheVariants.{TooLarge, BadByte, TooDeep, BadToken, Flawed}
 
 -- the file of this name is an accepted one, of this specification
 pub record GivesSpec (files : Option (List File)) (name : List ℕ) (spec : SpecTree) : Type 0 where
@@ -30,23 +24,23 @@ EachGives files (name ∷ names) [] = ⊥
 EachGives files (name ∷ names) (spec ∷ specs) = GivesSpec files name spec × EachGives files names specs
 
 -- none of these specifications has the category of one before it
-abbrev pub AreNewBehind : List SpecTree → List SpecTree → Type 0
-AreNewBehind before [] = Unit {0}
-AreNewBehind before (spec ∷ specs) = (spec_of spec.category before ≡ None) × AreNewBehind (before ++ spec ∷ []) specs
+abbrev pub AreNewAfter : List SpecTree → List SpecTree → Type 0
+AreNewAfter before [] = Unit {0}
+AreNewAfter before (spec ∷ specs) = (spec_of spec.category before ≡ None) × AreNewAfter (before ++ spec ∷ []) specs
 
 -- the files give these specifications, no category twice
 pub record FilesGive (files : Option (List File)) (names : List (List ℕ)) (catalogue : List SpecTree) : Type 0 where
   pub each : EachGives files names catalogue
-  pub distinct : AreNewBehind [] catalogue
+  pub distinct : AreNewAfter [] catalogue
 
--- ---- a file ends the run: the one of number i, behind files that gave these specifications
+-- ---- a file ends the run: the one of number i, after files that gave these specifications
 
 pub record IsRefusedOctets (files : Option (List File)) (name : List ℕ) (fault : SpecFault) : Type 0 where
   pub octets : List ℕ
   pub holds : HoldsFile files name octets
   pub refused : IsRefused octets fault
 
-abbrev pub IsRefusedFile : Option (List File) → Counts → List ℕ → SpecFault → Type 0
+abbrev pub IsRefusedFile : Option (List File) → LibraryCounts → List ℕ → SpecFault → Type 0
 IsRefusedFile files c name TooLarge = TooMany files name largest_file c.taken c.taken'
 IsRefusedFile files c name (BadByte at) = IsRefusedOctets files name (BadByte at)
 IsRefusedFile files c name (TooDeep token) = IsRefusedOctets files name (TooDeep token)
@@ -60,25 +54,19 @@ pub record HasCategoryTwice (files : Option (List File)) (before : List SpecTree
   pub twice : IsSome (spec_of category before)
 
 -- by itself: it isn't there, a fault of the library, it is refused, or want of memory
-abbrev pub StopsAtFile : Option (List File) → Counts → List ℕ → ℕ → Outcome → Type 0
+abbrev pub StopsAtFile : Option (List File) → LibraryCounts → List ℕ → ℕ → LoadStop → Type 0
 StopsAtFile files c name i (LoadFault n) = (n ≡ i) × (Rose c.faults c.faults' ⊎ Lacks files name)
 StopsAtFile files c name i (SpecRefused n fault) = (n ≡ i) × IsRefusedFile files c name fault
 StopsAtFile files c name i OutOfMemory = Unit {0}
 StopsAtFile files c name i (CategoryTwice n category) = ⊥
-StopsAtFile files c name i (Done blocks) = ⊥
-StopsAtFile files c name i Usage = ⊥
-StopsAtFile files c name i (InputRefused fault) = ⊥
-StopsAtFile files c name i InputTooLong = ⊥
-StopsAtFile files c name i ReadFault = ⊥
-StopsAtFile files c name i WriteFault = ⊥
 
 -- a file ends the run by itself, or by its category, which is that of an earlier one
-pub data EndsAtFile (files : Option (List File)) (c : Counts) (before : List SpecTree) (name : List ℕ) (i : ℕ) (outcome : Outcome) : Type 0 where
+pub data EndsAtFile (files : Option (List File)) (c : LibraryCounts) (before : List SpecTree) (name : List ℕ) (i : ℕ) (outcome : LoadStop) : Type 0 where
   by_file : StopsAtFile files c name i outcome → EndsAtFile files c before name i outcome
   by_category : (category : ℕ) → outcome ≡ CategoryTwice i category → HasCategoryTwice files before name category → EndsAtFile files c before name i outcome
 
 -- the files before one give specifications, and that one ends the run so
-pub record FilesEnd (files : Option (List File)) (c : Counts) (names : List (List ℕ)) (outcome : Outcome) : Type 0 where
+pub record FilesEnd (files : Option (List File)) (c : LibraryCounts) (names : List (List ℕ)) (outcome : LoadStop) : Type 0 where
   pub earlier : List (List ℕ)
   pub name : List ℕ
   pub more : List (List ℕ)

@@ -2,12 +2,13 @@
 ghost use Rattle.std.specs.Prelude.{◌≡◌, ◌≤◌, ◌<◌, length, map, IfOk, IfErr};
 ghost use Rattle.std.specs.String.{string_bytes};
 ghost use Rattle.ax_model.specs.Plain.{spec_tree, catalogue_tree};
-ghost use Rattle.ax_load.specs.Adding.{outcome_of_adding};
+ghost use Rattle.ax_load.specs.Adding.{stop_of_adding};
+ghost use Rattle.ax_outside.specs.Changes.{library_counts};
 ghost use Rattle.ax_load.specs.Loading.{GivesSpec, StopsAtFile, FilesGive, FilesEnd};
 
+use crate::fault::{LoadStop, SpecFault};
 use crate::files::{FileStop, LARGEST_FILE, read_file};
 use ax_check::{Accepted, AddError, Catalogue};
-use ax_command::{Outcome, SpecFault};
 use ax_outside::{Library, LoadError};
 use std::alloc::Global;
 
@@ -18,38 +19,38 @@ pub fn load_file<L: Library>(
     library: &mut L,
     name: &str,
     file: u32,
-) -> Result<Accepted, Outcome>
+) -> Result<Accepted, LoadStop>
     ensures gives { IfOk result (λ accepted. GivesSpec (L.files library.old) name.now (spec_tree accepted)) }
-    ensures stops { IfErr result (λ outcome. StopsAtFile (L.files library.old) (record { faults = L.faults library.old; faults' = L.faults library.new; taken = L.taken library.old; taken' = L.taken library.new }) name.now file outcome) }
+    ensures stops { IfErr result (λ outcome. StopsAtFile (L.files library.old) (library_counts L.Library library.old library.new) name.now file outcome) }
     ensures keeps { L.files library.new ≡ L.files library.old }
     ensures number_never_falls { L.taken library.old ≤ L.taken library.new }
     ensures never_falls { L.faults library.old ≤ L.faults library.new }
 {
     let octets = match library.load(alloc, name, LARGEST_FILE) {
         Ok(octets) => octets,
-        Err(LoadError::Failed) => return Err(Outcome::LoadFault { file }),
+        Err(LoadError::Failed) => return Err(LoadStop::LoadFault { file }),
         Err(LoadError::TooLarge) => {
-            return Err(Outcome::SpecRefused {
+            return Err(LoadStop::SpecRefused {
                 file,
                 fault: SpecFault::TooLarge,
             });
         }
-        Err(LoadError::OutOfMemory) => return Err(Outcome::OutOfMemory),
+        Err(LoadError::OutOfMemory) => return Err(LoadStop::OutOfMemory),
     };
     match read_file(alloc, &octets) {
         Ok(accepted) => Ok(accepted),
-        Err(FileStop::Refused(fault)) => Err(Outcome::SpecRefused { file, fault }),
-        Err(FileStop::OutOfMemory) => Err(Outcome::OutOfMemory),
+        Err(FileStop::Refused(fault)) => Err(LoadStop::SpecRefused { file, fault }),
+        Err(FileStop::OutOfMemory) => Err(LoadStop::OutOfMemory),
     }
 }
 
 /// How the run ends where the specification of the file of that number isn't added to the catalogue.
-fn adding_outcome(error: AddError, file: u32) -> Outcome
-    ensures { result ≡ outcome_of_adding file error }
+fn adding_stop(error: AddError, file: u32) -> LoadStop
+    ensures { result ≡ stop_of_adding file error }
 {
     match error {
-        AddError::CategoryTwice { category } => Outcome::CategoryTwice { file, category },
-        AddError::OutOfMemory => Outcome::OutOfMemory,
+        AddError::CategoryTwice { category } => LoadStop::CategoryTwice { file, category },
+        AddError::OutOfMemory => LoadStop::OutOfMemory,
     }
 }
 
@@ -58,10 +59,11 @@ pub fn load_catalogue<L: Library>(
     alloc: Global,
     library: &mut L,
     names: &[String],
-) -> Result<Catalogue, Outcome>
+) -> Result<Catalogue, LoadStop>
     requires { length names.now < 4294967296 }
     ensures gives { IfOk result (λ catalogue. FilesGive (L.files library.old) (map string_bytes names.now) (catalogue_tree catalogue)) }
-    ensures ends { IfErr result (λ outcome. FilesEnd (L.files library.old) (record { faults = L.faults library.old; faults' = L.faults library.new; taken = L.taken library.old; taken' = L.taken library.new }) (map string_bytes names.now) outcome) }
+    ensures ends { IfErr result (λ outcome. FilesEnd (L.files library.old) (library_counts L.Library library.old library.new) (map string_bytes names.now) outcome) }
+    ensures keeps { L.files library.new ≡ L.files library.old }
     ensures number_never_falls { L.taken library.old ≤ L.taken library.new }
     ensures never_falls { L.faults library.old ≤ L.faults library.new }
 {
@@ -70,7 +72,7 @@ pub fn load_catalogue<L: Library>(
     for name in names {
         let one = load_file(alloc, library, name.as_str(), file)?;
         if let Err(error) = catalogue.add(one) {
-            return Err(adding_outcome(error, file));
+            return Err(adding_stop(error, file));
         }
         file += 1;
     }

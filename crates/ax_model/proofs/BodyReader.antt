@@ -3,7 +3,7 @@ use Rattle.std.proofs.Common.{◌≡◌, ℕ, zero, suc, ◌+◌, ◌<◌, ◌�
 use Rattle.ax_bits.specs.Bits.{AreBits}
 use Rattle.ax_model.proofs.Failed.{read_failed}
 use Rattle.ax_model.proofs.Meets.{Meets, bits_of, read_meets}
-use Rattle.ax_model.proofs.Reader.{Read, got, lost, read}
+use Rattle.ax_model.specs.Reader.{Read, got, failed, read}
 use Rattle.ax_model.proofs.Spelled.{read_spelled}
 use Rattle.ax_model.specs.Bodies.{SpellsRecord, RecordsSpell, FailsRecord, FailsBody}
 use Rattle.ax_model.specs.Failing.{Fails}
@@ -26,7 +26,7 @@ body_after v n (fault_at p c) = fault_at (n + p) c
 abbrev pub body_more : Read ValueTree → (List ℕ → Body) → Body
 body_more (got (marked es) n y) go = body_after es n (go y)
 body_more (got _ n y) go = whole_body []
-body_more (lost p c) go = fault_at p c
+body_more (failed p c) go = fault_at p c
 
 abbrev pub body_read : ℕ → SpecTree → List ℕ → Body
 body_read zero spec b = whole_body []
@@ -91,7 +91,7 @@ body_later spec v n b x y e l h (fault_at p c) t = record {
 }
 
 body_step : (spec : SpecTree) (b : List ℕ) → AreBits b → 0 < length b → (go : List ℕ → Body) → ((y : List ℕ) → AreBits y → length y < length b → BodyMeets spec y (go y)) → (r : Read ValueTree) → Meets (Spells (record_kind spec)) (Fails (record_kind spec) b) b r → BodyMeets spec b (body_more r go)
-body_step spec b bit some go ih (lost p c) h = record { records = []; before = []; left = b; split = refl; spelled = refl; some = some; place = p; counted = omega arith; fails = record { fails = h } }
+body_step spec b bit some go ih (failed p c) h = record { records = []; before = []; left = b; split = refl; spelled = refl; some = some; place = p; counted = omega arith; fails = record { fails = h } }
 body_step spec b bit some go ih (got (marked es) n y) (x, e, l, h) =
     let one = compound_some (record_slots spec) es x h in
     body_later spec es n b x y e l (record { spells = h }) (go y) (ih y (bits_of b x y e bit).1 (omega (arith, ap length e, length-append x y)))

@@ -4,7 +4,8 @@ use Rattle.std.specs.List.{AllByRecursion, find}
 use Rattle.std.proofs.lemmas.List.{length-map}
 use Rattle.std.proofs.lemmas.Bool.{eqb-true, eqb-false, ltb-false}
 use Rattle.ax_model.specs.declared.spec.UapSlot.TheVariants as Uap
-use Rattle.ax_model.specs.Flaws.{flaw_where, is_no_multiple, is_bad_width, is_bad_element_width, fixed_flaws, is_bad_scale, is_bad_string_width, has_no_member, members_flaws, at, is_among, parts_flaws, is_too_wide, names_with, kind_flaws, slots_flaws, items_flaws, NoFlaw, three_digits, uap_flaws}
+use Rattle.ax_model.specs.Flaws.{flaw_where, is_no_multiple, is_bad_width, is_bad_element_width, fixed_flaws, is_bad_scale, is_bad_string_width, has_no_member, members_flaws, is_among, parts_flaws, is_too_wide, names_with, kind_flaws, slots_flaws, items_flaws, NoFlaw, uap_flaws}
+use Rattle.ax_model.specs.Paths.{at, three_digits}
 use Rattle.ax_model.specs.InBounds.{IsWidth, FixedInBounds, MembersInBounds, PartInBounds, InBounds, SlotsInBounds}
 use Rattle.ax_model.specs.Sound.{Sound, SlotsSound}
 use Rattle.ax_model.specs.Specification.{ItemTree, slot_of_item, uap_slot, SpecTree, record_slots, record_kind}

@@ -86,7 +86,7 @@ module _ (ms f seven marks more : List ℕ) (fx : ℕ) (y : List ℕ) (n : ℕ) 
       let t = fxs 0 (omega arith) in
       ((λ h. let lt : 0 + 1 < suc n = t.0 (same ∙ h) in omega arith), (λ h. sym same ∙ t.1 (omega arith)))
 
--- what is to be shown of the octets behind the first
+-- what is to be shown of the octets after the first
 abbrev Goes : ℕ → ℕ → Type 0
 Goes k n = (more y : List ℕ) → 1 ≤ n → length y ≡ 8 * n → length more ≡ 7 * n → AreBits y → Places n more y → Continues n y → Presence k more y
 
@@ -146,7 +146,7 @@ later_marked zero ms t e = ap (λ t. get_or ms t 0) (let z : 0 + t ≡ t = omega
 later_marked (suc n) ms t e =
     ap (λ t. get_or ms t 0) (let z : suc n + t ≡ suc (n + t) = omega arith in z) ∙ later_mark ms (n + t) (later_marked n (later_marks ms) t e)
 
--- a mark that the octets behind the first need is one that all of them need
+-- a mark that the octets after the first need is one that all of them need
 placed : (ms : List ℕ) (n : ℕ) → AreBits ms → none_marked (marks_after 7 ms) ≡ false → (n ≡ 1) ⊎ ((t : ℕ) × (7 * n ≤ t + 7) × (get_or (marks_after 7 ms) t 0 ≡ 1))
     → (t : ℕ) × (7 * suc n ≤ t + 7) × (get_or ms t 0 ≡ 1)
 placed ms n bit e (inl one) = let t = some_marked (marks_after 7 ms) (rests-AreBits 7 ms bit) e in (7 + t.0, omega arith, later_marked 7 ms t.0 t.1)

@@ -6,7 +6,7 @@ use Rattle.ax_model.proofs.BodyReader.{body_read, whole_body, BodyMeets, body_me
 use Rattle.ax_model.proofs.Failed.{read_failed}
 use Rattle.ax_model.proofs.Meets.{Meets, read_meets}
 use Rattle.ax_model.proofs.Once.{read_fault}
-use Rattle.ax_model.proofs.Reader.{read, lost, got, Read}
+use Rattle.ax_model.specs.Reader.{read, failed, got, Read}
 use Rattle.ax_model.specs.Bodies.{SpellsRecord, SpellsBody, FailsBody}
 use Rattle.ax_model.specs.Failing.{Fails, IsFault}
 use Rattle.ax_model.specs.Sound.{Sound}
@@ -15,7 +15,7 @@ use Rattle.ax_model.specs.Spelling.{Spells, IsSpelling}
 use Rattle.ax_model.specs.Tree.{KindTree, ValueTree, EntriesTree, marked}
 use Rattle.ax_model.specs.declared.fault.BodyCause.{BodyCause}
 
-pub failed_by_reading : (k : KindTree) (b : List ℕ) (p : ℕ) (c : BodyCause) → Sound k → AreBits b → read k b ≡ lost p c → Fails k b p c
+pub failed_by_reading : (k : KindTree) (b : List ℕ) (p : ℕ) (c : BodyCause) → Sound k → AreBits b → read k b ≡ failed p c → Fails k b p c
 failed_by_reading k b p c sound bit e = subst (Meets (Spells k) (Fails k b) b) e (read_meets k b sound bit)
 
 pub front_by_reading : (k : KindTree) (v : ValueTree) (b y : List ℕ) (n : ℕ) → Sound k → AreBits b → read k b ≡ got v n y → (x : List ℕ) × (b ≡ x ++ y) × (length x ≡ n) × Spells k v x
@@ -30,12 +30,12 @@ spelled_by_reading k v b n sound bit e =
 pub spelling : (k : KindTree) (v : ValueTree) (xs : List ℕ) (n : ℕ) → Sound k → read k (bits xs) ≡ got v n [] → IsSpelling k v (bits xs)
 spelling k v xs n sound e = record { spells = spelled_by_reading k v (bits xs) n sound (bits-AreBits xs) e }
 
-pub fault : (k : KindTree) (xs : List ℕ) (p : ℕ) (c : BodyCause) → Sound k → read k (bits xs) ≡ lost p c → IsFault k (bits xs) p c
+pub fault : (k : KindTree) (xs : List ℕ) (p : ℕ) (c : BodyCause) → Sound k → read k (bits xs) ≡ failed p c → IsFault k (bits xs) p c
 fault k xs p c sound e = record { fails = failed_by_reading k (bits xs) p c sound (bits-AreBits xs) e }
 
 -- octets that fail at a place with a cause fail at no other place and with no other cause
-pub only_fault : (k : KindTree) (xs : List ℕ) (p q : ℕ) (c d : BodyCause) → read k (bits xs) ≡ lost q d → IsFault k (bits xs) p c → (p ≡ q) × (c ≡ d)
-only_fault k xs p q c d e h = let same : ◌≡◌ {A = Read ValueTree} (lost p c) (lost q d) = sym (read_failed k (bits xs) p c h.fails) ∙ e in (cc, cc)
+pub only_fault : (k : KindTree) (xs : List ℕ) (p q : ℕ) (c d : BodyCause) → read k (bits xs) ≡ failed q d → IsFault k (bits xs) p c → (p ≡ q) × (c ≡ d)
+only_fault k xs p q c d e h = let same : ◌≡◌ {A = Read ValueTree} (failed p c) (failed q d) = sym (read_failed k (bits xs) p c h.fails) ∙ e in (cc, cc)
 
 -- ---- bodies
 

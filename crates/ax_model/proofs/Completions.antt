@@ -4,7 +4,7 @@ use Rattle.std.proofs.lemmas.List.{nil_from_length}
 use Rattle.ax_bits.proofs.Words.{append-AreBits, length-word, bits-AreBits, length-bits}
 use Rattle.ax_bits.specs.Bits.{AreBits, word, bits}
 use Rattle.ax_model.proofs.Meets.{members_all, bits_of, fixed_all, NoneUndefined-append, skip, none_marked_left, rest_defined, rest_bits, spare_first, first_bit, octets_some, presence_bits}
-use Rattle.ax_model.proofs.Reader.{members_value, fixed_value, octets_in}
+use Rattle.ax_model.specs.Reader.{members_value, fixed_value, octets_in}
 use Rattle.ax_model.proofs.Spelled.{unmarked}
 use Rattle.ax_model.proofs.WholeOctets.{each_whole, spells_whole, presence_whole}
 use Rattle.ax_model.specs.Completing.{Completes}

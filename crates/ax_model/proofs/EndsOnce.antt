@@ -203,7 +203,7 @@ by_spec : (catalogue : List SpecTree) (raw : RawTree) (o : Option SpecTree) → 
 by_spec catalogue raw None h sound is = inl (opaque_block raw.category raw.body, record { octets = h.octets; framed = h.framed; spelled = record { unknown = is; framed = h.framed; some = h.some } })
 by_spec catalogue raw (Some spec) h sound is = body_judged catalogue raw spec h is (body_spelled_or_fails spec raw.body (sound_of raw.category catalogue spec sound is) h.some)
 
--- all raw blocks spell, or one fails behind those that spell
+-- all raw blocks spell, or one fails after those that spell
 record OneFails (catalogue : List SpecTree) (raws : List RawTree) (blocks : List BlockTree) (p : ℕ) (c : BodyCause) : Type 0 where
   before : List RawTree
   bad : RawTree

@@ -3,7 +3,7 @@ use Rattle.std.proofs.Common.{◌≡◌, ℕ, zero, suc, ◌+◌, ◌*◌, ◌<�
 use Rattle.ax_bits.proofs.Words.{length-word}
 use Rattle.ax_bits.specs.Bits.{word, number_of}
 use Rattle.ax_model.proofs.FixedKinds.{split_at, split_short, number_word}
-use Rattle.ax_model.proofs.Reader.{Read, lost, split, short, cut, cut_more, part_read, parts_read, one_read, run_read, got, each_read, count_read, after, explicit_read, contents_read, octets_read, undefined, up, octet_read, presence_read, read, fixed_read, entries_read}
+use Rattle.ax_model.specs.Reader.{Read, failed, split, short, cut, cut_more, part_read, parts_read, one_read, run_read, got, each_read, count_read, after, explicit_read, contents_read, octets_read, undefined, up, octet_read, presence_read, read, fixed_read, entries_read}
 use Rattle.ax_model.proofs.Spelled.{length_unit, undefined_none, read_spelled, presence_spelled}
 use Rattle.ax_model.specs.Failing.{PartsFail, RunFails, Fails, PresenceFails, EntriesFail}
 use Rattle.ax_model.specs.Presence.{FirstUndefined, later_slots, slots_past, octets_needed, later_marks}
@@ -13,8 +13,8 @@ use Rattle.ax_model.specs.Widths.{members_width, width}
 use Rattle.ax_model.specs.declared.fault.BodyCause.{BodyCause}
 use Rattle.ax_model.specs.declared.fault.BodyCause.TheVariants.{RunsOut}
 
-pub lost_is : {A : Type 0} {m n : ℕ} {c d : BodyCause} → m ≡ n → c ≡ d → ◌≡◌ {A = Read A} (lost m c) (lost n d)
-lost_is p q = λ i. lost (p i) (q i)
+pub failed_is : {A : Type 0} {m n : ℕ} {c d : BodyCause} → m ≡ n → c ≡ d → ◌≡◌ {A = Read A} (failed m c) (failed n d)
+failed_is p q = λ i. failed (p i) (q i)
 
 -- ---- a unit and its FX bit don't fit
 
@@ -34,62 +34,62 @@ misfit (suc w) (a ∷ b) h = misfit_more a w b (misfit w b (omega arith))
 
 -- ---- parts and occurrences
 
-part_misfit : (p : MembersTree) (ps : List MembersTree) (b : List ℕ) (go : List ℕ → Read ListsTree) → Misfit (members_width p) b → part_read p ps (split (members_width p) b) go ≡ lost 0 RunsOut
+part_misfit : (p : MembersTree) (ps : List MembersTree) (b : List ℕ) (go : List ℕ → Read ListsTree) → Misfit (members_width p) b → part_read p ps (split (members_width p) b) go ≡ failed 0 RunsOut
 part_misfit p ps b go (misfit_short e) = ap (λ s. part_read p ps s go) e
 part_misfit p ps b go (misfit_end e) = ap (λ s. part_read p ps s go) e
 
-pub parts_failed : (ps : List MembersTree) (b : List ℕ) (p : ℕ) (c : BodyCause) → PartsFail ps b p c → parts_read ps b ≡ lost p c
+pub parts_failed : (ps : List MembersTree) (b : List ℕ) (p : ℕ) (c : BodyCause) → PartsFail ps b p c → parts_read ps b ≡ failed p c
 parts_failed [] b p c h = absurd h
-parts_failed (ms ∷ ps) b p c (inl (le, e, f)) = part_misfit ms ps b (parts_read ps) (misfit (members_width ms) b le) ∙ lost_is (sym e) (sym f)
-parts_failed (ms ∷ []) b p c (inr (x, y, l, e, inl (f, g, h))) = rw (e, split_at x (1 ∷ y) (members_width ms) l) (lost_is (sym g) (sym h))
+parts_failed (ms ∷ ps) b p c (inl (le, e, f)) = part_misfit ms ps b (parts_read ps) (misfit (members_width ms) b le) ∙ failed_is (sym e) (sym f)
+parts_failed (ms ∷ []) b p c (inr (x, y, l, e, inl (f, g, h))) = rw (e, split_at x (1 ∷ y) (members_width ms) l) (failed_is (sym g) (sym h))
 parts_failed (ms ∷ m ∷ ps) b p c (inr (x, y, l, e, inl (f, g, h))) = cc
 parts_failed (ms ∷ []) b p c (inr (x, y, l, e, inr (q, f, h))) = absurd h
 parts_failed (ms ∷ m ∷ ps) b p c (inr (x, y, l, e, inr (q, f, h))) =
-    rw (e, split_at x (1 ∷ y) (members_width ms) l, parts_failed (m ∷ ps) y q c h) (lost_is (sym f) refl)
+    rw (e, split_at x (1 ∷ y) (members_width ms) l, parts_failed (m ∷ ps) y q c h) (failed_is (sym f) refl)
 
-one_misfit : (f : FixedTree) (b : List ℕ) (go : List ℕ → Read ValuesTree) → Misfit (width f) b → one_read f (split (width f) b) go ≡ lost 0 RunsOut
+one_misfit : (f : FixedTree) (b : List ℕ) (go : List ℕ → Read ValuesTree) → Misfit (width f) b → one_read f (split (width f) b) go ≡ failed 0 RunsOut
 one_misfit f b go (misfit_short e) = ap (λ s. one_read f s go) e
 one_misfit f b go (misfit_end e) = ap (λ s. one_read f s go) e
 
-pub run_failed : (m n : ℕ) (f : FixedTree) (b : List ℕ) (p : ℕ) (c : BodyCause) → length b < m → RunFails n f b p c → run_read m f b ≡ lost p c
+pub run_failed : (m n : ℕ) (f : FixedTree) (b : List ℕ) (p : ℕ) (c : BodyCause) → length b < m → RunFails n f b p c → run_read m f b ≡ failed p c
 run_failed zero n f b p c lt h = absurd (omega arith)
-run_failed (suc m) zero f b p c lt (le, e, g) = one_misfit f b (run_read m f) (misfit (width f) b le) ∙ lost_is (sym e) (sym g)
+run_failed (suc m) zero f b p c lt (le, e, g) = one_misfit f b (run_read m f) (misfit (width f) b le) ∙ failed_is (sym e) (sym g)
 run_failed (suc m) (suc n) f b p c lt (x, y, l, e, q, g, h) =
     let lt2 : length y < m = omega (arith, ap length e, length_unit x y 1 (width f) l) in
-    rw (e, split_at x (1 ∷ y) (width f) l, run_failed m n f y q c lt2 h) (lost_is (sym g) refl)
+    rw (e, split_at x (1 ∷ y) (width f) l, run_failed m n f y q c lt2 h) (failed_is (sym g) refl)
 
 -- ---- counted and explicit
 
 pub each_failed : (R : ValueTree → List ℕ → Type 0) (rule : List ℕ → Read ValueTree) → ((v : ValueTree) (b r : List ℕ) → R v b → rule (b ++ r) ≡ got v (length b) r)
-    → (n : ℕ) (vs : ValuesTree) (x y : List ℕ) (q : ℕ) (c : BodyCause) → value_count vs < n → EachSpells R vs x → rule y ≡ lost q c → each_read rule n (x ++ y) ≡ lost (length x + q) c
+    → (n : ℕ) (vs : ValuesTree) (x y : List ℕ) (q : ℕ) (c : BodyCause) → value_count vs < n → EachSpells R vs x → rule y ≡ failed q c → each_read rule n (x ++ y) ≡ failed (length x + q) c
 each_failed R rule one zero vs x y q c lt h e = absurd (omega arith)
-each_failed R rule one (suc n) no_values x y q c lt h e = rw (h, e) (lost_is (omega arith) refl)
+each_failed R rule one (suc n) no_values x y q c lt h e = rw (h, e) (failed_is (omega arith) refl)
 each_failed R rule one (suc n) (value_and v vs) x y q c lt (a, b, f, h, t) e =
     let l : length x ≡ length a + length b = ap length f ∙ length-append a b in
-    rw (l, f, append_assoc, one v a (b ++ y) h, each_failed R rule one n vs b y q c (omega arith) t e) (lost_is (omega arith) refl)
+    rw (l, f, append_assoc, one v a (b ++ y) h, each_failed R rule one n vs b y q c (omega arith) t e) (failed_is (omega arith) refl)
 
-counted_short : (rule : List ℕ → Read ValueTree) (b : List ℕ) (p : ℕ) (c : BodyCause) → length b < 8 → p ≡ 0 → c ≡ RunsOut → count_read rule (split 8 b) ≡ lost p c
-counted_short rule b p c lt e f = ap (count_read rule) (split_short b 8 lt) ∙ lost_is (sym e) (sym f)
+counted_short : (rule : List ℕ → Read ValueTree) (b : List ℕ) (p : ℕ) (c : BodyCause) → length b < 8 → p ≡ 0 → c ≡ RunsOut → count_read rule (split 8 b) ≡ failed p c
+counted_short rule b p c lt e f = ap (count_read rule) (split_short b 8 lt) ∙ failed_is (sym e) (sym f)
 
 -- a length octet in front
 lead : (n : ℕ) (b y : List ℕ) → b ≡ word 8 n ++ y → split 8 b ≡ cut (word 8 n) y
 lead n b y e = ap (split 8) e ∙ split_at (word 8 n) y 8 (length-word 8 n)
 
 counted_failed : (R : ValueTree → List ℕ → Type 0) (rule : List ℕ → Read ValueTree) → ((v : ValueTree) (b r : List ℕ) → R v b → rule (b ++ r) ≡ got v (length b) r)
-    → (n : ℕ) (vs : ValuesTree) (b x y : List ℕ) (p q : ℕ) (c : BodyCause) → n < 256 → value_count vs < n → b ≡ word 8 n ++ (x ++ y) → EachSpells R vs x → p ≡ 8 + (length x + q) → rule y ≡ lost q c
-    → count_read rule (split 8 b) ≡ lost p c
+    → (n : ℕ) (vs : ValuesTree) (b x y : List ℕ) (p q : ℕ) (c : BodyCause) → n < 256 → value_count vs < n → b ≡ word 8 n ++ (x ++ y) → EachSpells R vs x → p ≡ 8 + (length x + q) → rule y ≡ failed q c
+    → count_read rule (split 8 b) ≡ failed p c
 counted_failed R rule one n vs b x y p q c le lt e h f g =
     ap (count_read rule) (lead n b (x ++ y) e) ∙ ap (λ n. after 8 (λ vs. occurrences vs) (each_read rule n (x ++ y))) (number_word 8 n le)
-    ∙ ap (after 8 (λ vs. occurrences vs)) (each_failed R rule one n vs x y q c lt h g) ∙ lost_is (sym f) refl
+    ∙ ap (after 8 (λ vs. occurrences vs)) (each_failed R rule one n vs x y q c lt h g) ∙ failed_is (sym f) refl
 
-explicit_failed : (b : List ℕ) (p : ℕ) (c : BodyCause) → Fails explicit b p c → explicit_read (split 8 b) ≡ lost p c
-explicit_failed b p c (inl (lt, e, f)) = ap explicit_read (split_short b 8 lt) ∙ lost_is (sym e) (sym f)
+explicit_failed : (b : List ℕ) (p : ℕ) (c : BodyCause) → Fails explicit b p c → explicit_read (split 8 b) ≡ failed p c
+explicit_failed b p c (inl (lt, e, f)) = ap explicit_read (split_short b 8 lt) ∙ failed_is (sym e) (sym f)
 explicit_failed b p c (inr (inl (y, e, f, g))) =
-    ap explicit_read (lead 0 b y e) ∙ ap (λ n. contents_read n y) (number_word 8 0 (omega arith)) ∙ lost_is (sym f) (sym g)
+    ap explicit_read (lead 0 b y e) ∙ ap (λ n. contents_read n y) (number_word 8 0 (omega arith)) ∙ failed_is (sym f) (sym g)
 explicit_failed b p c (inr (inr (m, le, y, e, lt, f, g))) =
     let n : number_of (word 8 (1 + m)) ≡ 1 + m = number_word 8 (1 + m) (omega arith) in
     let n2 : number_of (word 8 (1 + m)) ≡ suc m = omega arith in
-    ap explicit_read (lead (1 + m) b y e) ∙ ap (λ n. contents_read n y) n2 ∙ ap (octets_read m) (split_short y (8 * m) lt) ∙ lost_is (sym f) (sym g)
+    ap explicit_read (lead (1 + m) b y e) ∙ ap (λ n. contents_read n y) n2 ∙ ap (octets_read m) (split_short y (8 * m) lt) ∙ failed_is (sym f) (sym g)
 
 -- ---- presence fields
 
@@ -106,41 +106,41 @@ undefined_first (true ∷ ds) (suc zero ∷ ms) (suc j) h = ap up (undefined_fir
 undefined_first ds (suc (suc m) ∷ ms) zero h = absurd (omega (arith, h.0))
 undefined_first ds (suc (suc m) ∷ ms) (suc j) h = ap up (undefined_first (later_slots ds) ms j h.1)
 
-octet_misfit : (k : ℕ) (ds : List Bool) (b : List ℕ) (go : List Bool → List ℕ → Read (List ℕ)) → Misfit 7 b → octet_read k ds (split 7 b) go ≡ lost 0 RunsOut
+octet_misfit : (k : ℕ) (ds : List Bool) (b : List ℕ) (go : List Bool → List ℕ → Read (List ℕ)) → Misfit 7 b → octet_read k ds (split 7 b) go ≡ failed 0 RunsOut
 octet_misfit k ds b go (misfit_short e) = ap (λ s. octet_read k ds s go) e
 octet_misfit k ds b go (misfit_end e) = ap (λ s. octet_read k ds s go) e
 
-pub presence_failed : (k : ℕ) (ds : List Bool) (b : List ℕ) (p : ℕ) (c : BodyCause) → PresenceFails k ds b p c → presence_read k ds b ≡ lost p c
+pub presence_failed : (k : ℕ) (ds : List Bool) (b : List ℕ) (p : ℕ) (c : BodyCause) → PresenceFails k ds b p c → presence_read k ds b ≡ failed p c
 presence_failed zero ds b p c h = absurd h
-presence_failed (suc k) ds b p c (inl (lt, e, f)) = octet_misfit k ds b (presence_read k) (misfit 7 b (omega arith)) ∙ lost_is (sym e) (sym f)
+presence_failed (suc k) ds b p c (inl (lt, e, f)) = octet_misfit k ds b (presence_read k) (misfit 7 b (omega arith)) ∙ failed_is (sym e) (sym f)
 presence_failed (suc k) ds b p c (inr (seven, fx, y, l, e, inl (h, f))) =
-    rw (e, split_at seven (fx ∷ y) 7 l, undefined_first ds seven p h) (lost_is refl (sym f))
+    rw (e, split_at seven (fx ∷ y) 7 l, undefined_first ds seven p h) (failed_is refl (sym f))
 presence_failed (suc zero) ds b p c (inr (seven, fx, y, l, e, inr (clear, f, inl (z, g, h)))) =
-    rw (e, f, split_at seven (1 ∷ y) 7 l, undefined_none ds seven clear) (lost_is (sym g) (sym h))
+    rw (e, f, split_at seven (1 ∷ y) 7 l, undefined_none ds seven clear) (failed_is (sym g) (sym h))
 presence_failed (suc (suc k)) ds b p c (inr (seven, fx, y, l, e, inr (clear, f, inl (z, g, h)))) = absurd (omega arith)
 presence_failed (suc zero) ds b p c (inr (seven, fx, y, l, e, inr (clear, f, inr (q, g, h)))) = absurd h
 presence_failed (suc (suc k)) ds b p c (inr (seven, fx, y, l, e, inr (clear, f, inr (q, g, h)))) =
-    rw (e, f, split_at seven (1 ∷ y) 7 l, undefined_none ds seven clear, presence_failed (suc k) (slots_past seven ds) y q c h) (lost_is (sym g) refl)
+    rw (e, f, split_at seven (1 ∷ y) 7 l, undefined_none ds seven clear, presence_failed (suc k) (slots_past seven ds) y q c h) (failed_is (sym g) refl)
 
 -- ---- kinds
 
 mutual
-  pub read_failed : (k : KindTree) (b : List ℕ) (p : ℕ) (c : BodyCause) → Fails k b p c → read k b ≡ lost p c
-  read_failed (fixed f) b p c (lt, e, g) = ap (fixed_read f) (split_short b (width f) lt) ∙ lost_is (sym e) (sym g)
-  read_failed (extended ps) b p c h = rw (parts_failed ps b p c h) (lost_is (omega arith) refl)
+  pub read_failed : (k : KindTree) (b : List ℕ) (p : ℕ) (c : BodyCause) → Fails k b p c → read k b ≡ failed p c
+  read_failed (fixed f) b p c (lt, e, g) = ap (fixed_read f) (split_short b (width f) lt) ∙ failed_is (sym e) (sym g)
+  read_failed (extended ps) b p c h = rw (parts_failed ps b p c h) (failed_is (omega arith) refl)
   read_failed (counted k) b p c (inl (lt, e, f)) = counted_short (read k) b p c lt e f
   read_failed (counted k) b p c (inr (r, le, vs, lt, x, y, e, h, q, f, g)) =
       counted_failed (Spells k) (read k) (read_spelled k) r vs b x y p q c le lt e h f (read_failed k y q c g)
-  read_failed (by_fx f) b p c (n, h) = rw (run_failed (suc (length b)) n f b p c (omega arith) h) (lost_is (omega arith) refl)
+  read_failed (by_fx f) b p c (n, h) = rw (run_failed (suc (length b)) n f b p c (omega arith) h) (failed_is (omega arith) refl)
   read_failed explicit b p c h = explicit_failed b p c h
   read_failed (compound ss) b p c (inl h) = rw (presence_failed (octets_needed (slot_count ss)) (defined_slots ss) b p c h) refl
   read_failed (compound ss) b p c (inr (ms, x, y, e, h, clear, q, f, g)) =
-      rw (e, presence_spelled (octets_needed (slot_count ss)) (defined_slots ss) ms x y h clear, entries_failed 1 ss ms y q c g) (lost_is (sym f) refl)
+      rw (e, presence_spelled (octets_needed (slot_count ss)) (defined_slots ss) ms x y h clear, entries_failed 1 ss ms y q c g) (failed_is (sym f) refl)
 
-  pub entries_failed : (s : ℕ) (ss : SlotsTree) (ms b : List ℕ) (p : ℕ) (c : BodyCause) → EntriesFail ss ms b p c → entries_read s ss ms b ≡ lost p c
+  pub entries_failed : (s : ℕ) (ss : SlotsTree) (ms b : List ℕ) (p : ℕ) (c : BodyCause) → EntriesFail ss ms b p c → entries_read s ss ms b ≡ failed p c
   entries_failed s no_slots ms b p c h = absurd h
   entries_failed s (slot_and spare_slot ss) ms b p c h = entries_failed (s + 1) ss (later_marks ms) b p c h
   entries_failed s (slot_and (subitem name k) ss) ms b p c (inl (m, h)) = rw (m, read_failed k b p c h) refl
   entries_failed s (slot_and (subitem name k) ss) ms b p c (inr (inl (m, v, x, y, e, h, q, f, g))) =
-      rw (m, e, read_spelled k v x y h, entries_failed (s + 1) ss (later_marks ms) y q c g) (lost_is (sym f) refl)
+      rw (m, e, read_spelled k v x y h, entries_failed (s + 1) ss (later_marks ms) y q c g) (failed_is (sym f) refl)
   entries_failed s (slot_and (subitem name k) ss) ms b p c (inr (inr (m, h))) = rw m (entries_failed (s + 1) ss (later_marks ms) b p c h)

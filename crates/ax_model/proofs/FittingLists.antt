@@ -81,7 +81,7 @@ no_values_there vs b none = nought (length vs) _ b (value_count-is vs) none
 
 pub ruleset counts = (no_list, too_many_lists, counted_parts, few_values, many_values, some_values, no_values_there)
 
--- the slots from place i on are the one there and those behind it
+-- the slots from place i on are the one there and those after it
 pub slots_from : (ss : List Slot) (i : ℕ) (s : Slot) → i < length ss → s ≡ get_or ss i s → slots_tree (drop i ss) ≡ slot_and (slot_tree s) (slots_tree (drop (i + 1) ss))
 slots_from ss i s within e = ap slots_tree (drop-cons ss i s within ∙ ap (λ x. x ∷ drop (suc i) ss) (sym e)) ∙ ap (λ n. slot_and (slot_tree s) (slots_tree (drop n ss))) (sym (add-one i))
 
@@ -89,7 +89,7 @@ no_slots_from : (n : ℕ) (es : List Entry) → entries_fit n (slots_tree []) (e
 no_slots_from n [] = refl
 no_slots_from n (e ∷ es) = let h : 0 < length (e ∷ es) = omega arith in grind (arith, nat_tests)
 
--- behind the last slot there is no entry
+-- after the last slot there is no entry
 pub slots_end : (ss : List Slot) (i n : ℕ) (es : List Entry) → length ss ≤ i → entries_fit n (slots_tree (drop i ss)) (entries_tree es) ≡ (length es == 0)
 slots_end ss i n es past = rw (drop_all i ss past) (no_slots_from n es)
 

@@ -7,7 +7,7 @@ use Rattle.std.proofs.Math.Pow.{pow_pos}
 use Rattle.std.proofs.Math.Seq.{take-add}
 use Rattle.ax_bits.proofs.Words.{word-mod, length-word, number_below, word-number}
 use Rattle.ax_bits.specs.Bits.{number_of, word, AreBits}
-use Rattle.ax_model.proofs.Reader.{split, cut, short, Split, cut_more, fixed_value, members_value}
+use Rattle.ax_model.specs.Reader.{split, cut, short, Split, cut_more, fixed_value, members_value}
 use Rattle.ax_model.specs.Spelling.{NumberSpells, FixedSpells, MembersSpell}
 use Rattle.ax_model.specs.Tree.{ValueTree, number, FixedTree, element, group, member_values, MembersTree, ValuesTree, no_members, no_values, value_and, member_and, named, spare}
 use Rattle.ax_model.specs.Widths.{width, members_width}

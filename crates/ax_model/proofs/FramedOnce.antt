@@ -6,14 +6,14 @@ use Rattle.ax_model.proofs.Framings.{len_of_front, some_next, one_next}
 use Rattle.ax_model.specs.Framing.{RawTree, AreRaws, FramingEnd, whole, FramingEnds, BeginsWithBlock, NextPart, block, end, IsNext, Framed}
 use Rattle.ax_model.specs.Streams.{HasOneEnd}
 
--- the octets, behind `before` others, are these blocks one after another, and then that end
+-- the octets, after `before` others, are these blocks one after another, and then that end
 abbrev Frames : ℕ → ℕ → List ℕ → List RawTree → FramingEnd → Type 0
 Frames limit before octets [] e = FramingEnds limit before octets e
 Frames limit before octets (raw ∷ raws) e = (h : BeginsWithBlock limit before octets raw) × Frames limit (before + length h.front) h.after raws e
 
 -- ---- one way
 
--- what is behind a block that begins the octets
+-- what is after a block that begins the octets
 same_after : (limit before : ℕ) (octets : List ℕ) (raw other : RawTree) (h : BeginsWithBlock limit before octets raw) (g : BeginsWithBlock limit before octets other)
     → (length h.front ≡ length g.front) × (h.after ≡ g.after)
 same_after limit before octets raw other h g =
@@ -41,7 +41,7 @@ behind : (xs ys : List ℕ) → AreOctets (xs ++ ys) → AreOctets ys
 behind [] ys h = h
 behind (x ∷ xs) ys h = behind xs ys h.1
 
--- what comes next, and what comes behind it
+-- what comes next, and what comes after it
 with_next : (limit before : ℕ) (octets : List ℕ) (part : NextPart) → AreOctets octets → IsNext limit before octets part
     → ((between : ℕ) (later : List ℕ) → length later < length octets → AreOctets later → (raws : List RawTree) × (e : FramingEnd) × Frames limit between later raws e)
     → (raws : List RawTree) × (e : FramingEnd) × Frames limit before octets raws e
@@ -122,7 +122,7 @@ some_framed octets limit all =
 pub one_framed : (octets : List ℕ) (limit : ℕ) → AreOctets octets → HasOneEnd (Framed octets limit)
 one_framed octets limit all = record { some = some_framed octets limit all; one = λ raws others e d h g. framed_once octets limit raws others e d h g }
 
--- ---- some whole blocks, and octets behind them
+-- ---- some whole blocks, and octets after them
 
 raws_append : (raws others : List RawTree) (front octets : List ℕ) → AreRaws raws front → AreRaws others octets → AreRaws (raws ++ others) (front ++ octets)
 raws_append [] others front octets h g = subst (AreRaws others) (ap (λ l. l ++ octets) (sym h)) g

@@ -32,7 +32,7 @@ stream_more catalogue [] block front octets h s = (octets, [], ap (λ l. l ++ oc
 stream_more catalogue (b ∷ blocks) block front octets (x, y, split, p, more) s =
     (x, y ++ octets, ap (λ l. l ++ octets) split ∙ append_assoc x y octets, p, stream_more catalogue blocks block y octets more s)
 
--- ---- the end, behind blocks that spell
+-- ---- the end, after blocks that spell
 
 pub ends_by_framing : (catalogue : List SpecTree) (limit : ℕ) (raws : List RawTree) (blocks : List BlockTree) (front rest : List ℕ) (e : FramingEnd) → AreRaws raws front → RawsSpell catalogue raws blocks → length front ≤ limit
     → FramingEnds limit (length front) rest e → Ends catalogue (front ++ rest) limit blocks (by_framing e)
@@ -42,7 +42,7 @@ ends_by_framing catalogue limit raws blocks front rest e h s within ends = recor
   spelled = s;
 }
 
--- the body of the next block fails, whatever octets are behind it
+-- the body of the next block fails, whatever octets are after it
 pub ends_by_body : (catalogue : List SpecTree) (limit : ℕ) (raws : List RawTree) (bad : RawTree) (blocks : List BlockTree) (front octets rest : List ℕ) (p : ℕ) (c : BodyCause)
     → AreRaws raws front → RawsSpell catalogue raws blocks → IsFramed bad.category bad.body octets → 0 < length bad.body → length (front ++ octets) ≤ limit → AreOctets rest → RawFails catalogue bad p c
     → Ends catalogue ((front ++ octets) ++ rest) limit blocks (by_body (length raws) (24 + p) c)

@@ -6,7 +6,7 @@ use Rattle.ax_bits.proofs.Words.{word-number, number_below, append-AreBits}
 use Rattle.ax_bits.specs.Bits.{AreBits, word, number_of, bits}
 use Rattle.ax_model.proofs.FixedKinds.{fixed_some, members_some, SplitIs, split_is}
 use Rattle.ax_model.proofs.Least.{here}
-use Rattle.ax_model.proofs.Reader.{Read, got, lost, after, both, fixed_value, members_value, Split, fixed_read, short, cut, part_read, parts_read, split, one_read, run_read, each_read, read, count_read, octets_in, octets_read, contents_read, explicit_read, up, undefined, fx_read, octet_read, presence_read, mark_read, marked_read, entries_read}
+use Rattle.ax_model.specs.Reader.{Read, got, failed, after, both, fixed_value, members_value, Split, fixed_read, short, cut, part_read, parts_read, split, one_read, run_read, each_read, read, count_read, octets_in, octets_read, contents_read, explicit_read, up, undefined, fx_read, octet_read, presence_read, mark_read, marked_read, entries_read}
 use Rattle.ax_model.specs.Failing.{Fails, PartsFail, RunFails, PresenceFails, EntriesFail}
 use Rattle.ax_model.specs.Presence.{later_slots, FirstUndefined, NoneUndefined, IsDefined, slots_past, Presence, none_marked, first_mark, later_marks, octets_needed}
 use Rattle.ax_model.specs.Sound.{Sound, SlotsSound}
@@ -17,12 +17,12 @@ use Rattle.ax_model.specs.declared.fault.BodyCause.{BodyCause}
 
 abbrev pub Meets : {A : Type 0} → (A → List ℕ → Type 0) → (ℕ → BodyCause → Type 0) → List ℕ → Read A → Type 0
 Meets S F b (got a n y) = (x : List ℕ) × (b ≡ x ++ y) × (length x ≡ n) × S a x
-Meets S F b (lost p c) = F p c
+Meets S F b (failed p c) = F p c
 
 pub meets_map : {A : Type 0} (S T : A → List ℕ → Type 0) (F G : ℕ → BodyCause → Type 0) (b : List ℕ)
     → ((a : A) (x : List ℕ) → S a x → T a x) → ((p : ℕ) (c : BodyCause) → F p c → G p c) → (r : Read A) → Meets S F b r → Meets T G b r
 meets_map S T F G b good bad (got a n y) (x, e, l, h) = (x, e, l, good a x h)
-meets_map S T F G b good bad (lost p c) h = bad p c h
+meets_map S T F G b good bad (failed p c) h = bad p c h
 
 -- a front x of n bits, and then what is read from y
 pub after_meets : {A C : Type 0} (f : A → C) (n : ℕ) (T : A → List ℕ → Type 0) (G : ℕ → BodyCause → Type 0) (U : C → List ℕ → Type 0) (H : ℕ → BodyCause → Type 0) (b x y : List ℕ)
@@ -30,7 +30,7 @@ pub after_meets : {A C : Type 0} (f : A → C) (n : ℕ) (T : A → List ℕ →
     → (r : Read A) → Meets T G y r → Meets U H b (after n f r)
 after_meets f n T G U H b x y e l good bad (got a m z) (x2, e2, l2, h) =
     (x ++ x2, e ∙ ap (λ y. x ++ y) e2 ∙ sym (append_assoc x x2 z), length-append x x2 ∙ omega arith, good a x2 h)
-after_meets f n T G U H b x y e l good bad (lost q c) h = bad q c h
+after_meets f n T G U H b x y e l good bad (failed q c) h = bad q c h
 
 bits-parts : (x y : List ℕ) → AreBits (x ++ y) → AreBits x × AreBits y
 bits-parts [] y h = (tt, h)
@@ -44,7 +44,7 @@ pub both_meets : {A B C : Type 0} (f : A → B → C) (S : A → List ℕ → Ty
     (b : List ℕ) → AreBits b → ((a : A) (d : B) (x z : List ℕ) → S a x → T d z → U (f a d) (x ++ z)) → ((p : ℕ) (c : BodyCause) → F p c → H p c)
     → ((a : A) (x y : List ℕ) (q : ℕ) (c : BodyCause) → b ≡ x ++ y → S a x → G y q c → H (length x + q) c)
     → (go : List ℕ → Read B) → ((y : List ℕ) → AreBits y → Meets T (G y) y (go y)) → (r : Read A) → Meets S F b r → Meets U H b (both f r go)
-both_meets f S F T G U H b bit good bad later_slots go ih (lost p c) h = bad p c h
+both_meets f S F T G U H b bit good bad later_slots go ih (failed p c) h = bad p c h
 both_meets f S F T G U H b bit good bad later_slots go ih (got a n y) (x, e, l, h) =
     after_meets (f a) n T (G y) U H b x y e l (λ d z t. good a d x z h t) (λ q c g. subst (λ k. H (k + q) c) l (later_slots a x y q c e h g)) (go y) (ih y (bits_of b x y e bit).1)
 
@@ -280,7 +280,7 @@ module _ (s : ℕ) (name : List ℕ) (k : KindTree) (ss : SlotsTree) (ms : List 
 marked_meets : (ss : SlotsTree) (b : List ℕ) → AreBits b → (go : List ℕ → List ℕ → Read EntriesTree)
     → ((ms y : List ℕ) → NoneUndefined (defined_slots ss) ms → AreBits ms → AreBits y → Meets (EntriesSpell 1 ss ms) (EntriesFail ss ms y) y (go ms y))
     → (r : Read (List ℕ)) → Meets (MarksAre (octets_needed (slot_count ss)) (defined_slots ss)) (PresenceFails (octets_needed (slot_count ss)) (defined_slots ss) b) b r → Meets (Spells (compound ss)) (Fails (compound ss) b) b (marked_read r go)
-marked_meets ss b bit go ih (lost p c) h = inl h
+marked_meets ss b bit go ih (failed p c) h = inl h
 marked_meets ss b bit go ih (got ms n y) (x, e, l, (h, clear)) =
     after_meets (λ es. marked es) n (EntriesSpell 1 ss ms) (EntriesFail ss ms y) (Spells (compound ss)) (Fails (compound ss) b) b x y e l
     (λ es z t. (x, z, ms, refl, h, t)) (λ q c t. inr (ms, x, y, e, h, clear, q, ap (λ n. n + q) (sym l), t))

@@ -5,7 +5,7 @@ use Rattle.ax_bits.specs.Bits.{AreBits, bits}
 use Rattle.ax_model.proofs.BodyReader.{whole_body, fault_at, body_read, body_failed, body_spelled, Body, BodyMeets, body_meets}
 use Rattle.ax_model.proofs.Failed.{read_failed}
 use Rattle.ax_model.proofs.Meets.{Meets, read_meets}
-use Rattle.ax_model.proofs.Reader.{got, lost, Read, read}
+use Rattle.ax_model.specs.Reader.{got, failed, Read, read}
 use Rattle.ax_model.proofs.Spelled.{read_spelled}
 use Rattle.ax_model.specs.Bodies.{FailsBody, SpellsBody, RecordsSpell}
 use Rattle.ax_model.specs.Failing.{Fails}
@@ -17,10 +17,10 @@ use Rattle.ax_model.specs.declared.fault.BodyCause.{BodyCause}
 
 -- ---- kinds
 
-apart : {A : Type 0} {a : A} {n p : ℕ} {y : List ℕ} {c : BodyCause} → got a n y ≡ lost p c → ⊥
+apart : {A : Type 0} {a : A} {n p : ℕ} {y : List ℕ} {c : BodyCause} → got a n y ≡ failed p c → ⊥
 apart e = cc
 
-same_fault : {A : Type 0} {p q : ℕ} {c d : BodyCause} → ◌≡◌ {A = Read A} (lost p c) (lost q d) → (p ≡ q) × (c ≡ d)
+same_fault : {A : Type 0} {p q : ℕ} {c d : BodyCause} → ◌≡◌ {A = Read A} (failed p c) (failed q d) → (p ≡ q) × (c ≡ d)
 same_fault e = (cc, cc)
 
 pub never_both : (k : KindTree) (v : ValueTree) (x y : List ℕ) (p : ℕ) (c : BodyCause) → Spells k v x → Fails k (x ++ y) p c → ⊥
@@ -32,7 +32,7 @@ fails_once k b p q c d g h = same_fault (sym (read_failed k b p c g) ∙ read_fa
 found : (k : KindTree) (b : List ℕ) (r : Read ValueTree) → Meets (Spells k) (Fails k b) b r
     → ((v : ValueTree) × (x : List ℕ) × (y : List ℕ) × (b ≡ x ++ y) × Spells k v x) ⊎ ((p : ℕ) × (c : BodyCause) × Fails k b p c)
 found k b (got v n y) (x, e, l, h) = inl (v, x, y, e, h)
-found k b (lost p c) h = inr (p, c, h)
+found k b (failed p c) h = inr (p, c, h)
 
 pub spelled_or_fails : (k : KindTree) (b : List ℕ) → Sound k → AreBits b
     → ((v : ValueTree) × (x : List ℕ) × (y : List ℕ) × (b ≡ x ++ y) × Spells k v x) ⊎ ((p : ℕ) × (c : BodyCause) × Fails k b p c)

@@ -1,7 +1,7 @@
 -- No spelling begins another, and a spelling determines the value.
 use Rattle.std.proofs.Common.{◌≡◌, ℕ, List, ◌++◌, length, sym, ◌∙◌, ap}
 use Rattle.std.proofs.lemmas.List.{append_cancel_right}
-use Rattle.ax_model.proofs.Reader.{got, read}
+use Rattle.ax_model.specs.Reader.{got, read}
 use Rattle.ax_model.proofs.Spelled.{read_spelled}
 use Rattle.ax_model.specs.Spelling.{Spells}
 use Rattle.ax_model.specs.Tree.{KindTree, ValueTree}

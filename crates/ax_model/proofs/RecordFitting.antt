@@ -25,7 +25,7 @@ use Rattle.ax_model.specs.declared.value.Entry.{Entry, fold_out-Entry}
 entry_is : (e : Entry) → entry_tree e ≡ (e.slot, value_tree e.value)
 entry_is e = fold_out-Entry ValueTree (ℕ × ValueTree) value_step entry_step e
 
--- the first entry and those behind it
+-- the first entry and those after it
 pub entries_split : (e : Entry) (es later : List Entry) → es ≡ e ∷ later → entries_tree es ≡ entry_and e.slot (value_tree e.value) (entries_tree later)
 entries_split e es later is = ap entries_tree is ∙ ap (λ p. entry_and p.0 p.1 (entries_tree later)) (entry_is e)
 
@@ -74,7 +74,7 @@ pub ruleset slot_steps = (nothing, other, spare_is, here_found, here_refused)
 
 -- ---- all slots
 
--- the slots from place i on are the one there and those behind it
+-- the slots from place i on are the one there and those after it
 pub slots_from : (items : List Item) (ss : List UapSlot) (i : ℕ) (s : UapSlot) → i < length ss → s ≡ get_or ss i s
     → slots_of (map (uap_slot (map item_tree items)) (drop i ss)) ≡ slot_and (uap_slot (map item_tree items) s) (slots_of (map (uap_slot (map item_tree items)) (drop (i + 1) ss)))
 slots_from items ss i s within e =
@@ -85,7 +85,7 @@ no_slots_from : (n : ℕ) (es : List Entry) → entries_fit n no_slots (entries_
 no_slots_from n [] = refl
 no_slots_from n (e ∷ es) = let h : 0 < length (e ∷ es) = omega arith in grind (arith, nat_tests)
 
--- behind the last slot there is no entry
+-- after the last slot there is no entry
 pub slots_end : (items : List Item) (ss : List UapSlot) (i n : ℕ) (es : List Entry) → length ss ≤ i
     → entries_fit n (slots_of (map (uap_slot (map item_tree items)) (drop i ss))) (entries_tree es) ≡ (length es == 0)
 slots_end items ss i n es past = rw (drop_all i ss past) (no_slots_from n es)

@@ -4,7 +4,7 @@ use Rattle.std.specs.List.{AllByRecursion}
 use Rattle.ax_bits.proofs.Words.{length-word, length-bits}
 use Rattle.ax_bits.specs.Bits.{bits, number_of, word}
 use Rattle.ax_model.proofs.FixedKinds.{fixed_length, split_at, fixed_back_all, members_length, members_back_all, number_word}
-use Rattle.ax_model.proofs.Reader.{got, fixed_read, split, parts_read, run_read, Read, each_read, octets_in, explicit_read, cut, contents_read, octets_read, count_read, after, undefined, up, presence_read, read, entries_read}
+use Rattle.ax_model.specs.Reader.{got, fixed_read, split, parts_read, run_read, Read, each_read, octets_in, explicit_read, cut, contents_read, octets_read, count_read, after, undefined, up, presence_read, read, entries_read}
 use Rattle.ax_model.specs.Presence.{NoneUndefined, later_slots, slots_past, Presence, none_marked, first_mark, IsDefined, later_marks, octets_needed}
 use Rattle.ax_model.specs.Spelling.{FixedSpells, PartsSpell, RunSpells, EachSpells, EntriesSpell, Spells}
 use Rattle.ax_model.specs.Tree.{FixedTree, ValueTree, MembersTree, ListsTree, no_lists, list_and, ValuesTree, no_values, value_and, value_count, content_octets, occurrences, SlotsTree, EntriesTree, defined_slots, no_slots, no_entries, entry_and, slot_and, spare_slot, subitem, KindTree, fixed, extended, part_values, counted, by_fx, explicit, compound, marked, slot_count}

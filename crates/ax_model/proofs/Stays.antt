@@ -20,7 +20,7 @@ front_of (c ∷ h) r (a ∷ x) y e le =
     let same : c ≡ a = cc in
     (t.0, (λ i. same i ∷ t.1 i), t.2)
 
--- behind a common front
+-- after a common front
 pub behind : (n m : ℕ) (b d x y : List ℕ) → BeginAlike n b d → b ≡ x ++ y → length x + m ≤ n → (z : List ℕ) × (d ≡ x ++ z) × BeginAlike m y z
 behind n m b d x y s e le =
     let t = front_of s.common s.left x y (sym s.first ∙ e) (let l = s.long in omega arith) in
@@ -28,7 +28,7 @@ behind n m b d x y s e le =
     let all : length s.common ≡ length x + length t.0 = ap length t.1 ∙ length-append x t.0 in
     (t.0 ++ s.right, second, record { common = t.0; left = s.left; right = s.right; long = (let l = s.long in omega arith); first = t.2; second = refl })
 
--- behind a front and one more bit
+-- after a front and one more bit
 behind_unit : (n m : ℕ) (b d x y : List ℕ) (fx : ℕ) → BeginAlike n b d → b ≡ x ++ fx ∷ y → length x + 1 + m ≤ n → (z : List ℕ) × (d ≡ x ++ fx ∷ z) × BeginAlike m y z
 behind_unit n m b d x y fx s e le =
     let t = behind n m b d (x ++ fx ∷ []) y s (e ∙ sym (append_assoc x (fx ∷ []) y)) (omega (arith, length-append x (fx ∷ []))) in

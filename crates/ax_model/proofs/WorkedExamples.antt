@@ -5,7 +5,7 @@ use Rattle.ax_bits.specs.Bits.{bits}
 use Rattle.ax_model.proofs.ByReading.{spelling, fault, only_fault, record_by_reading, body_spelled_by_reading, body_failed_by_reading, only_body_fault}
 use Rattle.ax_model.specs.Blocks.{read_block, opaque_block, SpellsBlock}
 use Rattle.ax_model.specs.Bodies.{SpellsRecord, FailsBody}
-use Rattle.ax_model.specs.Examples.{octet, two_octets, seven_bits, two_parts, nested_group, spare_between, eight_slots, one_subitem, small, flawed, flaws_in_their_order}
+use Rattle.ax_model.specs.Examples.{octet, two_octets, seven_bits, two_parts, long_part, nested_group, spare_between, eight_slots, one_subitem, small, flawed, flaws_in_their_order}
 use Rattle.ax_model.specs.Failing.{IsFault}
 use Rattle.ax_model.specs.Flaws.{flaws_of}
 use Rattle.ax_model.specs.Specification.{spec_of}
@@ -73,6 +73,12 @@ presence_too_long = fault eight_slots (0x81 ∷ 0x81 ∷ []) 15 PresenceTooLong 
 pub not_third_octet : IsFault eight_slots (bits (0x81 ∷ 0x81 ∷ [])) 16 RunsOut → ⊥
 not_third_octet h = absurd (omega (arith, (only_fault eight_slots (0x81 ∷ 0x81 ∷ []) 16 15 RunsOut PresenceTooLong refl h).0))
 
+pub in_the_second_octet : IsFault eight_slots (bits (0x01 ∷ 0xc0 ∷ [])) 9 UndefinedSlot
+in_the_second_octet = fault eight_slots (0x01 ∷ 0xc0 ∷ []) 9 UndefinedSlot (lit< tt, (tt, (tt, tt))) refl
+
+pub not_in_the_first_octet : IsFault eight_slots (bits (0x01 ∷ 0xc0 ∷ [])) 1 UndefinedSlot → ⊥
+not_in_the_first_octet h = absurd (omega (arith, (only_fault eight_slots (0x01 ∷ 0xc0 ∷ []) 1 9 UndefinedSlot UndefinedSlot refl h).0))
+
 pub extension_past_end : IsFault two_parts (bits (0x03 ∷ 0x55 ∷ [])) 15 ExtensionPastEnd
 extension_past_end = fault two_parts (0x03 ∷ 0x55 ∷ []) 15 ExtensionPastEnd (lit< tt) refl
 
@@ -114,6 +120,12 @@ part_missing = fault two_parts (0x03 ∷ []) 8 RunsOut (lit< tt) refl
 
 pub not_first_part : IsFault two_parts (bits (0x03 ∷ [])) 0 RunsOut → ⊥
 not_first_part h = absurd (omega (arith, (only_fault two_parts (0x03 ∷ []) 0 8 RunsOut RunsOut refl h).0))
+
+pub part_cut : IsFault long_part (bits (0x03 ∷ 0x55 ∷ [])) 8 RunsOut
+part_cut = fault long_part (0x03 ∷ 0x55 ∷ []) 8 RunsOut (lit< tt) refl
+
+pub not_where_the_part_is_cut : IsFault long_part (bits (0x03 ∷ 0x55 ∷ [])) 16 RunsOut → ⊥
+not_where_the_part_is_cut h = absurd (omega (arith, (only_fault long_part (0x03 ∷ 0x55 ∷ []) 16 8 RunsOut RunsOut refl h).0))
 
 pub past_the_last : IsFault spare_between (bits (0x30 ∷ 0xaa ∷ [])) 3 UndefinedSlot
 past_the_last = fault spare_between (0x30 ∷ 0xaa ∷ []) 3 UndefinedSlot (lit< tt, (tt, (tt, tt))) refl

@@ -25,7 +25,7 @@ pub record RawFails (catalogue : List SpecTree) (raw : RawTree) (p : ℕ) (c : B
   pub known : spec_of raw.category catalogue ≡ Some spec
   pub fails : FailsBody spec (bits raw.body) p c
 
--- how an input ends: as framing does, in the block behind those that were taken; or by a fault of a body, in the block
+-- how an input ends: as framing does, in the block after those that were taken; or by a fault of a body, in the block
 -- of this number, from 0, at this bit of the block
 pub data InputEnd : Type 0 where
   by_framing : FramingEnd → InputEnd

@@ -22,6 +22,10 @@ seven_bits = element 7 Raw
 abbrev pub two_parts : KindTree
 two_parts = extended (members_of (named (codes "A") seven_bits ∷ []) ∷ members_of (named (codes "B") (element 4 Raw) ∷ named (codes "C") (element 3 Raw) ∷ []) ∷ [])
 
+-- a part of seven bits, and one of fifteen
+abbrev pub long_part : KindTree
+long_part = extended (members_of (named (codes "A") seven_bits ∷ []) ∷ members_of (named (codes "B") (element 15 Raw) ∷ []) ∷ [])
+
 -- three bits, a spare bit, and a group of two and two bits
 abbrev pub nested_group : KindTree
 nested_group = fixed (group (members_of (

@@ -1,6 +1,7 @@
 -- The flaws of a specification, in their order (this project's own rules).
-use Rattle.std.specs.Prelude.{◌≡◌, ℕ, ◌+◌, ◌/◌, ◌%◌, ◌==◌, nat_lt, Bool, true, false, ◌||◌, not, if◌then◌else◌, is_some, List, [], ◌∷◌, ◌++◌, length, codes, decimal, bytes_eq}
+use Rattle.std.specs.Prelude.{◌≡◌, ℕ, ◌+◌, ◌%◌, ◌==◌, nat_lt, Bool, true, false, ◌||◌, not, if◌then◌else◌, is_some, List, [], ◌∷◌, ◌++◌, length, codes, decimal, bytes_eq}
 use Rattle.std.specs.List.{list_any}
+use Rattle.ax_model.specs.Paths.{at, three_digits}
 use Rattle.ax_model.specs.Specification.{ItemTree, SpecTree, first_named}
 use Rattle.ax_model.specs.Tree.{FixedTree, element, group, MembersTree, no_members, member_and, named, spare, KindTree, fixed, extended, counted, by_fx, explicit, compound, SlotsTree, no_slots, slot_and, spare_slot, subitem, slot_count}
 use Rattle.ax_model.specs.Widths.{width, members_width}
@@ -17,13 +18,6 @@ use Rattle.ax_model.specs.declared.spec.UapSlot.TheVariants as Uap
 -- a flaw at the path where the test holds
 abbrev pub flaw_where : Bool → FlawKind → List ℕ → List Flaw
 flaw_where holds kind path = if holds then record { kind = kind; path = path } ∷ [] else []
-
--- a path and one name more
-abbrev pub at : List ℕ → List ℕ → List ℕ
-at path name = path ++ codes "/" ++ name
-
-abbrev pub three_digits : ℕ → List ℕ
-three_digits n = (48 + n / 100) ∷ (48 + n / 10 % 10) ∷ (48 + n % 10) ∷ []
 
 abbrev pub is_among : List ℕ → List (List ℕ) → Bool
 is_among name names = list_any (bytes_eq name) names
@@ -66,7 +60,7 @@ abbrev mutual
       ++ flaw_where (is_bad_string_width w c) BadStringWidth path
   fixed_flaws path (group ms) = flaw_where (has_no_member ms) Empty path ++ members_flaws path [] ms
 
-  -- of members that stand behind others of these names
+  -- of members that stand after others of these names
   pub members_flaws : List ℕ → List (List ℕ) → MembersTree → List Flaw
   members_flaws path earlier no_members = []
   members_flaws path earlier (member_and (spare w) ms) = flaw_where (is_bad_width w) BadWidth (at path (codes "spare")) ++ members_flaws path earlier ms
@@ -85,7 +79,7 @@ names_with earlier no_members = earlier
 names_with earlier (member_and (spare w) ms) = names_with earlier ms
 names_with earlier (member_and (named name f) ms) = names_with (name ∷ earlier) ms
 
--- part i and those after it, behind parts whose members have these names; a member's path doesn't name its part
+-- part i and those after it, after parts whose members have these names; a member's path doesn't name its part
 abbrev pub parts_flaws : List ℕ → ℕ → List (List ℕ) → List MembersTree → List Flaw
 parts_flaws path i earlier [] = []
 parts_flaws path i earlier (p ∷ ps) =
@@ -106,7 +100,7 @@ abbrev mutual
   kind_flaws broken path (compound ss) =
       flaw_where (slot_count ss == 0) Empty path ++ flaw_where (nat_lt 126 (slot_count ss)) TooManySlots path ++ slots_flaws path [] ss
 
-  -- of slots that stand behind others of these names
+  -- of slots that stand after others of these names
   pub slots_flaws : List ℕ → List (List ℕ) → SlotsTree → List Flaw
   slots_flaws path earlier no_slots = []
   slots_flaws path earlier (slot_and spare_slot ss) = slots_flaws path earlier ss
@@ -115,14 +109,14 @@ abbrev mutual
 
 -- ---- specifications
 
--- of items that stand behind others of these names
+-- of items that stand after others of these names
 abbrev pub items_flaws : List ℕ → List (List ℕ) → List ItemTree → List Flaw
 items_flaws path earlier [] = []
 items_flaws path earlier (item ∷ items) =
     flaw_where (is_among item.name earlier) DuplicateItem (at path item.name) ++ kind_flaws NotOctets (at path item.name) item.kind
     ++ items_flaws path (item.name ∷ earlier) items
 
--- of UAP slots that stand behind others of these names
+-- of UAP slots that stand after others of these names
 abbrev pub uap_flaws : List ℕ → List ItemTree → List (List ℕ) → List UapSlot → List Flaw
 uap_flaws path items earlier [] = []
 uap_flaws path items earlier (Uap.Spare ∷ ss) = uap_flaws path items earlier ss

@@ -1,5 +1,5 @@
 -- How octets are framed into data blocks, and where that ends (data blocks; the limit on an input is this project's own rule).
-use Rattle.std.specs.Prelude.{◌≡◌, ℕ, ◌+◌, ◌*◌, ◌<◌, ◌≤◌, ◌⊎◌, List, [], ◌∷◌, ◌++◌, length, Option, Some, None}
+use Rattle.std.specs.Prelude.{◌≡◌, ℕ, ◌+◌, ◌*◌, ◌<◌, ◌≤◌, ◌⊎◌, List, [], ◌∷◌, ◌++◌, length}
 use Rattle.ax_model.specs.Blocks.{IsFramed}
 
 -- a block as it stands in the input: its category and its body
@@ -20,14 +20,6 @@ pub data FramingEnd : Type 0 where
   ends_in_header : ℕ → FramingEnd
   bad_len : FramingEnd
   ends_in_block : ℕ → FramingEnd
-
--- the bit at which a fault of framing stands: the first one missing, or LEN's first
-abbrev pub fault_bit : FramingEnd → Option ℕ
-fault_bit whole = None
-fault_bit input_too_long = None
-fault_bit (ends_in_header bit) = Some bit
-fault_bit bad_len = Some 8
-fault_bit (ends_in_block bit) = Some bit
 
 -- the number in the LEN of the block that begins the octets
 abbrev pub len_of : List ℕ → ℕ
@@ -65,7 +57,7 @@ pub record BlockIsCut (limit before : ℕ) (rest : List ℕ) (bit : ℕ) : Type 
   pub within : before + length rest ≤ limit
   pub missing : bit ≡ 8 * length rest
 
--- framing ends so, where the rest stands behind whole blocks of `before` octets
+-- framing ends so, where the rest stands after whole blocks of `before` octets
 abbrev pub FramingEnds : ℕ → ℕ → List ℕ → FramingEnd → Type 0
 FramingEnds limit before rest whole = rest ≡ []
 FramingEnds limit before rest input_too_long = HeaderPassesLimit limit before rest ⊎ BlockPassesLimit limit before rest

@@ -24,7 +24,7 @@ abbrev pub kind_of_slot : SlotTree → Option KindTree
 kind_of_slot spare_slot = None
 kind_of_slot (subitem name k) = Some k
 
--- the kind of the slot behind i others
+-- the kind of the slot after i others
 abbrev pub kind_behind : ℕ → SlotsTree → Option KindTree
 kind_behind i no_slots = None
 kind_behind zero (slot_and s ss) = kind_of_slot s

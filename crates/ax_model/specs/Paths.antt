@@ -1,5 +1,5 @@
--- Paths: names joined by '/'.
-use Rattle.std.specs.Prelude.{◌≡◌, ℕ, ◌<◌, ◌==◌, if◌then◌else◌, List, [], ◌∷◌, ◌++◌, length}
+-- Paths: names joined by '/' (this project's own rule), and their texts, which begin with the category in three digits.
+use Rattle.std.specs.Prelude.{◌≡◌, ℕ, ◌+◌, ◌/◌, ◌%◌, ◌<◌, ◌==◌, if◌then◌else◌, List, [], ◌∷◌, ◌++◌, length, codes}
 use Rattle.std.specs.List.{AllByRecursion}
 use Rattle.ax_model.specs.Characters.{IsName}
 
@@ -14,6 +14,20 @@ pub record IsPathOf (text : List ℕ) (names : List (List ℕ)) : Type 0 where
   pub some : 0 < length names
   pub named : AllByRecursion IsName names
   pub spelled : joined names ≡ text
+
+-- ---- texts of paths
+
+-- a category, as its three decimal digits
+abbrev pub three_digits : ℕ → List ℕ
+three_digits n = (48 + n / 100) ∷ (48 + n / 10 % 10) ∷ (48 + n % 10) ∷ []
+
+-- a path and one name more
+abbrev pub at : List ℕ → List ℕ → List ℕ
+at path name = path ++ codes "/" ++ name
+
+-- the category and the names
+abbrev pub path_text : ℕ → List (List ℕ) → List ℕ
+path_text category names = joined (three_digits category ∷ names)
 
 -- ---- the pieces of a text
 

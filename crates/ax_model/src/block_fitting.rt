@@ -24,7 +24,7 @@ fn item_of<'s>(spec: &'s Spec, slot: &UapSlot) -> Option<&'s Item>
     }
 }
 
-/// The entries behind the one of this slot of the UAP, if there is one. None comes where that doesn't fit.
+/// The entries after the one of this slot of the UAP, if there is one. None comes where that doesn't fit.
 #[tactic(auto, using(crate::proofs::RecordFitting::slot_steps))]
 fn behind_slot<'e>(
     spec: &Spec,

@@ -1,7 +1,7 @@
 //! How many octets the canonical form of a block has. Nothing here takes memory.
 ghost use Rattle.std.specs.Prelude.{◌≡◌, ◌+◌, ◌*◌, ◌/◌, map, option_map};
 ghost use Rattle.std.specs.Option.{option_copied};
-ghost use Rattle.ax_model.specs.Lengths.{held, octets, each_octets, entries_octets, octets_where, kind_of_slot, slot_kind, unit_octets, parts_octets, presence_octets, last_slot};
+ghost use Rattle.ax_model.specs.Lengths.{held, octets, each_octets, entries_octets, octets_where, slot_kind, unit_octets, parts_octets, presence_octets, last_slot};
 ghost use Rattle.ax_model.specs.Lengths.{record_octets, records_octets};
 ghost use Rattle.ax_model.specs.OfCode.{BlockFits, HasNoFlaw, block_length};
 ghost use Rattle.ax_model.specs.Plain.{fixed_tree, kind_tree, slot_tree, part_tree, spec_tree, slots_tree, value_tree, values_tree, lists_tree, entries_tree};
@@ -9,7 +9,8 @@ ghost use Rattle.ax_model.specs.Specification.{record_slots};
 ghost use Rattle.ax_model.specs.Tree.{marked, compound, value_count};
 ghost use Rattle.ax_model.specs.Widths.{width};
 
-use crate::kind::{Fixed, Kind, Part, Slot, Slots};
+use crate::kind::{Fixed, Kind, Part, Slots};
+use crate::lookup::subitem_kind;
 use crate::record::{Block, Record};
 use crate::spec::Spec;
 use crate::value::{Entries, Entry, Value, Values};
@@ -55,27 +56,6 @@ fn octets_of_run(values: &Values, fixed: &Fixed) -> u64
     u64::from(values.count()).saturating_mul(unit_octets_of(fixed.width()))
 }
 
-/// The kind of a slot. None comes exactly where the slot is spare.
-fn kind_in(slot: &Slot) -> Option<&Kind>
-    ensures { option_map kind_tree (option_copied result) ≡ kind_of_slot (slot_tree slot.now) }
-{
-    match slot {
-        Slot::Spare => None,
-        Slot::Sub { kind, .. } => Some(kind),
-    }
-}
-
-/// The kind of the slot of that number, from 1. None comes exactly where there is no such slot or it is spare.
-#[tactic(auto, using(crate::proofs::Counting::kinds))]
-fn kind_of(slots: &Slots, number: u32) -> Option<&Kind>
-    ensures { option_map kind_tree (option_copied result) ≡ slot_kind (slots_tree slots.now) number }
-{
-    if number == 0 {
-        return None;
-    }
-    kind_in(slots.get(number - 1)?)
-}
-
 /// The octets of a value's canonical spelling under its kind.
 #[cycle(octets)]
 fn octets_of(value: &Value, kind: &Kind) -> u64
@@ -112,7 +92,7 @@ fn octets_of_each(values: &Values, kind: &Kind) -> u64
 fn octets_of_entry(entry: &Entry, slots: &Slots) -> u64
     ensures { result ≡ held (octets_where (slot_kind (slots_tree slots.now) entry.now.slot) (octets (value_tree entry.now.value))) }
 {
-    match kind_of(slots, entry.slot) {
+    match subitem_kind(slots, entry.slot) {
         Some(kind) => octets_of(&entry.value, kind),
         None => 0,
     }

@@ -5,9 +5,10 @@ ghost use Rattle.ax_model.specs.Blocks.{read_block, opaque_block, SpellsBlock};
 ghost use Rattle.ax_model.specs.Bodies.{SpellsRecord, CanonRecord, FailsBody};
 ghost use Rattle.ax_model.specs.Canonical.{canon};
 ghost use Rattle.ax_model.specs.CanonicalOctets.{CanonBytes, canon_length};
-ghost use Rattle.ax_model.specs.Examples.{octet, two_octets, seven_bits, two_parts, nested_group, spare_between, eight_slots, one_subitem, small, flawed, flaws_in_their_order};
+ghost use Rattle.ax_model.specs.Examples.{octet, two_octets, seven_bits, two_parts, long_part, nested_group, spare_between, eight_slots, one_subitem, small, flawed, flaws_in_their_order};
 ghost use Rattle.ax_model.specs.Failing.{IsFault};
 ghost use Rattle.ax_model.specs.Flaws.{flaws_of};
+ghost use Rattle.ax_model.specs.Presence.{least_presence};
 ghost use Rattle.ax_model.specs.Shape.{Shape};
 ghost use Rattle.ax_model.specs.Spelling.{IsSpelling};
 ghost use Rattle.ax_model.specs.Tree.{element, counted, by_fx, explicit, number, member_values, part_values, occurrences, content_octets, marked, values_of, lists_of, no_entries, entry_and};
@@ -67,7 +68,7 @@ pub fn explicit_without_and_with_content()
     ensures two { IsSpelling explicit (content_octets (0xaa ∷ 0xbb ∷ [])) (bits (0x03 ∷ 0xaa ∷ 0xbb ∷ [])) }
 {}
 
-/// Behind a spare slot stands slot 3.
+/// After a spare slot stands slot 3.
 #[tactic(auto, using(crate::proofs::WorkedExamples::behind_a_spare_slot))]
 pub fn compound_with_a_spare_slot()
     ensures third { IsSpelling spare_between (marked (entry_and 3 (number 0xcc) no_entries)) (bits (0x20 ∷ 0xcc ∷ [])) }
@@ -79,6 +80,14 @@ pub fn compound_with_a_spare_slot()
 pub fn redundant_presence_octet()
     ensures accepted { IsSpelling eight_slots (marked (entry_and 1 (number 0xaa) no_entries)) (bits (0x81 ∷ 0x00 ∷ 0xaa ∷ [])) }
     ensures canonical { canon eight_slots (marked (entry_and 1 (number 0xaa) no_entries)) ≡ bits (0x80 ∷ 0xaa ∷ []) }
+{}
+
+/// The least presence field over two octets has one where no slot is marked or the last marked one is among the first
+/// seven, and else both.
+pub fn least_presence_fields()
+    ensures none { least_presence 2 [] ≡ bits (0x00 ∷ []) }
+    ensures seventh { least_presence 2 (0 ∷ 0 ∷ 0 ∷ 0 ∷ 0 ∷ 0 ∷ 1 ∷ 0 ∷ []) ≡ bits (0x02 ∷ []) }
+    ensures eighth { least_presence 2 (1 ∷ 0 ∷ 0 ∷ 0 ∷ 0 ∷ 0 ∷ 0 ∷ 1 ∷ []) ≡ bits (0x81 ∷ 0x80 ∷ []) }
 {}
 
 /// A record with items 1 and 8, of which the second is a compound with a redundant presence octet.
@@ -115,6 +124,13 @@ pub fn undefined_slot_before_the_missing_octet()
 pub fn fx_in_the_last_presence_octet()
     ensures fails { IsFault eight_slots (bits (0x81 ∷ 0x81 ∷ [])) 15 PresenceTooLong }
     ensures not_missing { IsFault eight_slots (bits (0x81 ∷ 0x81 ∷ [])) 16 RunsOut → ⊥ }
+{}
+
+/// The second presence octet marks slot 9 of eight.
+#[tactic(auto, using(crate::proofs::WorkedExamples::in_the_second_octet, crate::proofs::WorkedExamples::not_in_the_first_octet))]
+pub fn undefined_slot_in_the_second_octet()
+    ensures fails { IsFault eight_slots (bits (0x01 ∷ 0xc0 ∷ [])) 9 UndefinedSlot }
+    ensures not_in_the_first { IsFault eight_slots (bits (0x01 ∷ 0xc0 ∷ [])) 1 UndefinedSlot → ⊥ }
 {}
 
 /// The second of two parts has FX.
@@ -171,6 +187,14 @@ pub fn explicit_content_cut()
 pub fn second_part_missing()
     ensures fails { IsFault two_parts (bits (0x03 ∷ [])) 8 RunsOut }
     ensures not_first { IsFault two_parts (bits (0x03 ∷ [])) 0 RunsOut → ⊥ }
+{}
+
+/// The second part has fifteen bits and FX, and one octet of it is there: the fault stands at the part's first bit, not
+/// where the bits end.
+#[tactic(auto, using(crate::proofs::WorkedExamples::part_cut, crate::proofs::WorkedExamples::not_where_the_part_is_cut))]
+pub fn part_cut_in_its_middle()
+    ensures fails { IsFault long_part (bits (0x03 ∷ 0x55 ∷ [])) 8 RunsOut }
+    ensures not_at_the_cut { IsFault long_part (bits (0x03 ∷ 0x55 ∷ [])) 16 RunsOut → ⊥ }
 {}
 
 /// Slot 4 of three is marked.

@@ -194,7 +194,7 @@ fn fits_slots(slots: &Slots, entries: &Entries) -> bool
     rest.is_empty()
 }
 
-/// The entries behind the one of this slot, if there is one. None comes where that doesn't fit.
+/// The entries after the one of this slot, if there is one. None comes where that doesn't fit.
 #[cycle(kind_fits)]
 fn behind_slot<'e>(number: u64, slot: &Slot, entries: &'e [Entry]) -> Option<&'e [Entry]>
     ensures { MatchOption result

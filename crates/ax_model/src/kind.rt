@@ -22,7 +22,7 @@ pub enum Member {
     Spare { width: u32 },
 }
 
-/// A part of an extended item: its members, behind which the field has one FX bit.
+/// A part of an extended item: its members, after which the field has one FX bit.
 #[derive(Drop)]
 pub struct Part {
     pub members: Members,

@@ -1,17 +1,33 @@
-//! Items by name and by field reference number.
-ghost use Rattle.std.specs.Prelude.{◌≡◌};
-ghost use Rattle.std.specs.Option.{option_copied};
-ghost use Rattle.std.specs.Str.{bytes_eq};
-ghost use Rattle.ax_model.specs.Lookup.{item_named, item_of_frn};
+//! Items by name and by field reference number, and kinds by slot number.
+ghost use Rattle.std.specs.Prelude.{◌≡◌, Some};
+ghost use Rattle.std.specs.Option.{option_copied, option_map};
+ghost use Rattle.ax_model.specs.Lengths.{kind_of_slot, slot_kind};
+ghost use Rattle.ax_model.specs.Lookup.{item_named, item_of_slot, item_of_frn};
+ghost use Rattle.ax_model.specs.Plain.{kind_tree, slot_tree, slots_tree};
 
+use crate::kind::{Kind, Slot, Slots};
 use crate::name::Name;
 use crate::spec::{Item, Spec, UapSlot};
 
-/// Whether the two names are one.
-fn is_same(one: &Name, other: &Name) -> bool
-    ensures { result ≡ bytes_eq one.now other.now }
+/// The kind of a slot. None comes exactly where the slot is spare.
+fn kind_in(slot: &Slot) -> Option<&Kind>
+    ensures { option_map kind_tree (option_copied result) ≡ kind_of_slot (slot_tree slot.now) }
 {
-    one.octets() == other.octets()
+    match slot {
+        Slot::Spare => None,
+        Slot::Sub { kind, .. } => Some(kind),
+    }
+}
+
+/// The kind of the slot of that number, from 1. None comes exactly where there is no such slot or it is spare.
+#[tactic(auto, using(crate::proofs::Counting::kinds))]
+pub fn subitem_kind(slots: &Slots, number: u32) -> Option<&Kind>
+    ensures { option_map kind_tree (option_copied result) ≡ slot_kind (slots_tree slots.now) number }
+{
+    if number == 0 {
+        return None;
+    }
+    kind_in(slots.get(number - 1)?)
 }
 
 impl Spec {
@@ -19,10 +35,17 @@ impl Spec {
     pub fn item(&self, name: &Name) -> Option<&Item>
         ensures { option_copied result ≡ item_named name.now self.now.items }
     {
-        self.items
-            .as_slice()
-            .iter()
-            .find(|item| is_same(&item.name, name))
+        self.items.as_slice().iter().find(|item| item.name == *name)
+    }
+
+    /// The item of a slot of the UAP. None comes exactly where the slot is spare, and where no item has its name.
+    pub fn item_of(&self, slot: &UapSlot) -> Option<&Item>
+        ensures { option_copied result ≡ item_of_slot (Some slot.now) self.now.items }
+    {
+        match slot {
+            UapSlot::Spare => None,
+            UapSlot::Item(name) => self.item(name),
+        }
     }
 
     /// The item of that field reference number. None comes exactly where the UAP has no such slot, where the
@@ -33,9 +56,6 @@ impl Spec {
         if frn == 0 {
             return None;
         }
-        match self.uap.get(frn - 1)? {
-            UapSlot::Spare => None,
-            UapSlot::Item(name) => self.item(name),
-        }
+        self.item_of(self.uap.get(frn - 1)?)
     }
 }

@@ -1,7 +1,12 @@
 ghost use Rattle.std.specs.Prelude.{◌≡◌, ◌↔◌, ◌≤◌, ◌-◌, ◌++◌, length, replicate, IsTrue, MatchOption};
 ghost use Rattle.std.specs.List.{list_all};
+ghost use Rattle.std.specs.Hash as fed;
+ghost use Rattle.std.specs.Str.{bytes_eq};
+ghost use Rattle.std.specs.Cmp.Rules.{comparing, hashing};
+ghost use Rattle.std.proofs.Common.{rules};
 ghost use Rattle.ax_model.specs.Characters.{IsName, is_name_octet};
 
+use std::hash::{Hash, Hasher};
 use std::marker::Model;
 
 /// A name: 1 to 16 octets, each `A` to `Z` or `0` to `9`. Contracts see it as the list of its octets. It
@@ -46,7 +51,7 @@ fn is_name(text: &[u8]) -> bool
     all_in_names(text)
 }
 
-/// The octets, and zeros behind them.
+/// The octets, and zeros after them.
 fn padded(text: &[u8]) -> [u8; 16]
     requires { length text.now ≤ 16 }
     ensures { result ≡ text.now ++ replicate (16 - length text.now) 0 }
@@ -82,6 +87,32 @@ impl Name {
     pub fn is(&self, other: &Name) -> bool
         ensures { IsTrue result ↔ (self.now ≡ other.now) }
     {
+        *self == *other
+    }
+}
+
+/// Two names are equal where their octets are.
+impl PartialEq for Name {
+    ghost eq = { λ a b. bytes_eq a b };
+
+    ghost laws = { Prim.search (comparing, rules) };
+
+    fn eq(&self, other: &Name) -> bool {
         self.octets() == other.octets()
+    }
+}
+
+impl Eq for Name {
+    ghost laws = { Prim.search (comparing, rules) };
+}
+
+/// A name feeds its octets.
+impl Hash for Name {
+    ghost hash_input = { λ a. fed.slice fed.u8 a };
+
+    ghost respects_eq = { Prim.search (hashing, rules) };
+
+    fn hash<H: Hasher>(&self, state: &mut H) {
+        self.octets().hash(state);
     }
 }

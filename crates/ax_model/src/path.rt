@@ -24,7 +24,7 @@ impl Model for Path {
     ghost invariant = { λ p. 0 < length p.names };
 }
 
-/// What stands in front of the first `/`, and what stands behind it, if there is one.
+/// What stands in front of the first `/`, and what stands after it, if there is one.
 #[tactic(auto, using(crate::proofs::PathTexts::fronts))]
 fn first_piece<'t>(text: &'t [u8]) -> (&'t [u8], Option<&'t [u8]>)
     ensures pieces { MatchOption result.1 (pieces text.now ≡ result.0.now ∷ []) (λ more. pieces text.now ≡ result.0.now ∷ pieces more.now) }

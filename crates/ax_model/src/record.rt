@@ -19,7 +19,7 @@ pub enum Block {
     Opaque { category: u8, octets: Octets },
 }
 
-/// A data block as it stands in the input: CAT and the octets behind LEN, of which there are 1 to 65,532.
+/// A data block as it stands in the input: CAT and the octets after LEN, of which there are 1 to 65,532.
 #[derive(Clone, Copy)]
 pub struct RawBlock<'a> {
     pub category: u8,

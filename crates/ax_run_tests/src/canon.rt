@@ -1,4 +1,4 @@
-//! `canon` over inputs without fault and with one. Each of these reads its input to the end.
+//! `canon` over inputs without fault and with one.
 
 use crate::world::{Outside, leaves, wanted};
 use ax_samples::octets;
@@ -98,119 +98,164 @@ fn the_largest_block_is_unchanged(rt: HostRuntime) -> Result<(), Fail> {
     leaves(&rt, alloc, "canon 048", &input, Outside::Sound, want)
 }
 
-// The words, the input, the output before the fault, and the report.
-const REFUSED: [(&str, &str, &str, &str); 18] = [
+// The words, the input, the output before the fault, the report, and how many octets aren't read.
+const REFUSED: [(&str, &str, &str, &str, usize); 21] = [
     (
         "canon A",
         "22 00 04 01",
         "",
         "refused block 0 bit 31 PresenceTooLong\n",
+        0,
     ),
     (
         "canon E",
         "22 00 04 01",
         "",
         "refused block 0 bit 31 PresenceTooLong\n",
+        0,
     ),
     (
         "canon A",
         "22 00 04 10",
         "",
         "refused block 0 bit 27 UndefinedSlot\n",
+        0,
     ),
     (
         "canon E",
         "22 00 04 10",
         "",
         "refused block 0 bit 27 UndefinedSlot\n",
+        0,
     ),
     (
         "canon A",
         "22 00 05 80 19",
         "",
         "refused block 0 bit 32 RunsOut\n",
+        0,
     ),
     (
         "canon E",
         "22 00 05 80 19",
         "",
         "refused block 0 bit 32 RunsOut\n",
+        0,
     ),
     (
         "canon 048",
         "30 00 06 20 A1 01",
         "",
         "refused block 0 bit 47 ExtensionPastEnd\n",
+        0,
     ),
     (
         "canon 048",
         "30 00 06 01 20 01",
         "",
         "refused block 0 bit 48 RunsOut\n",
+        0,
     ),
     (
         "canon 048",
         "30 00 08 01 01 01 04 00",
         "",
         "refused block 0 bit 56 BadExplicitLength\n",
+        0,
     ),
     (
         "canon 048",
         "30 00 05 80 19",
         "",
         "refused block 0 bit 32 RunsOut\n",
+        0,
     ),
     (
         "canon 048",
         "30 00 04 81",
         "",
         "refused block 0 bit 32 RunsOut\n",
+        0,
     ),
     (
         "canon 048",
         "30 00 03",
         "",
         "refused block 0 bit 8 BadLen\n",
+        0,
     ),
     (
         "canon 048",
         "30 00 00",
         "",
         "refused block 0 bit 8 BadLen\n",
+        0,
     ),
-    ("canon A", "3E 00 03", "", "refused block 0 bit 8 BadLen\n"),
+    (
+        "canon A",
+        "3E 00 03",
+        "",
+        "refused block 0 bit 8 BadLen\n",
+        0,
+    ),
     (
         "canon 048",
         "30 00",
         "",
         "refused block 0 bit 16 EndsInHeader\n",
+        0,
     ),
     (
         "canon 048",
         "30 00 06 80 19",
         "",
         "refused block 0 bit 40 EndsInBlock\n",
+        0,
     ),
     (
         "canon 048",
         "30 00 06 80 19 0C 30 00 05 80 19",
         "30 00 06 80 19 0C",
         "refused block 1 bit 32 RunsOut\n",
+        0,
     ),
     (
         "canon S",
         "CC 00 04 41",
         "",
         "refused block 0 bit 25 UndefinedSlot\n",
+        0,
+    ),
+    // Nothing is read after the block, or the octets of framing, that are refused.
+    (
+        "canon 048",
+        "30 00 05 80 19 30 00 06 80 19 0C",
+        "",
+        "refused block 0 bit 32 RunsOut\n",
+        6,
+    ),
+    (
+        "canon 048",
+        "30 00 04 00 30 00 05 80 19 30 00 04 00",
+        "30 00 04 00",
+        "refused block 1 bit 32 RunsOut\n",
+        4,
+    ),
+    (
+        "canon 048",
+        "30 00 04 00 30 00 03 30 00 04 00",
+        "30 00 04 00",
+        "refused block 1 bit 8 BadLen\n",
+        4,
     ),
 ];
 
 #[test]
 fn the_first_fault_is_named_at_its_bit(rt: HostRuntime) -> Result<(), Fail> {
     let alloc = rt.alloc();
-    for (words, input, out, report) in REFUSED {
+    for (words, input, out, report, left) in REFUSED {
         let input = octets(alloc, input)?;
-        let want = wanted(alloc, 3, &octets(alloc, out)?, report, 0)?;
+        let want = wanted(alloc, 3, &octets(alloc, out)?, report, left)?;
         leaves(&rt, alloc, words, &input, Outside::Sound, want)?;
     }
     Ok(())

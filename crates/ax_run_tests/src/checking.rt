@@ -51,7 +51,7 @@ fn refused_words_and_files(rt: HostRuntime) -> Result<(), Fail> {
     Ok(())
 }
 
-// The line, and behind it the words of the text with one blank between them, as a specification is printed.
+// The line, and after it the words of the text with one blank between them, as a specification is printed.
 fn accepted(alloc: Global, line: &str, text: &str) -> Result<Vec<u8>, AllocError> {
     let mut made = line.as_bytes().to_vec(alloc)?;
     for word in text.split_whitespace() {
@@ -79,5 +79,23 @@ fn an_accepted_file_is_written_in_one_line(rt: HostRuntime) -> Result<(), Fail> 
         leaves(&rt, alloc, words, &input, Outside::Sound, want)?;
     }
     assert_eq!(rt; accepted(alloc, "", FILE_E)?.as_slice(), FILE_E.as_bytes());
+    Ok(())
+}
+
+// The file is loaded once, and its text is one write: a second call of either would fail.
+#[test]
+fn check_loads_once_and_writes_once(rt: HostRuntime) -> Result<(), Fail> {
+    let alloc = rt.alloc();
+    let input = octets(alloc, INPUT)?;
+    for outside in [Outside::Load(1), Outside::Write(1)] {
+        let want = wanted(
+            alloc,
+            0,
+            &accepted(alloc, LINE_OF_E, FILE_E)?,
+            "",
+            10,
+        )?;
+        leaves(&rt, alloc, "check E", &input, outside, want)?;
+    }
     Ok(())
 }

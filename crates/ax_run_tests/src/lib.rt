@@ -1,11 +1,16 @@
-//! Tests of the call `run` over files, an input and outputs in memory. The crate has nothing else.
+//! Tests of the call `run` over files, an input and outputs in memory, and of the block loop below it. The crate has nothing
+//! else.
 #![tactic(auto)]
 
 #[cfg(test)]
 mod canon;
 #[cfg(test)]
+mod categories;
+#[cfg(test)]
 mod checking;
 #[cfg(test)]
 mod outside;
+#[cfg(test)]
+mod texts;
 #[cfg(test)]
 mod world;

@@ -12,7 +12,8 @@ const NORTH_TWICE: &str = "22 00 0A E0 19 0C 01 00 00 80 22 00 0A E0 19 0C 01 00
 const FRONT_OF_E: &str = "61 63 63 65 70 74 65 64 20 30 33 34 20 22 30 33 34 2D 45 22";
 
 // How the outside fails, the words and the input; and the status, the output, the report, and how many octets aren't read.
-const FAILING: [(Outside, &str, &str, u8, &str, &str, usize); 15] = [
+// A file is loaded once, and none where the words have no shape.
+const FAILING: [(Outside, &str, &str, u8, &str, &str, usize); 18] = [
     (
         Outside::Load(0),
         "canon A",
@@ -85,6 +86,9 @@ const FAILING: [(Outside, &str, &str, u8, &str, &str, usize); 15] = [
         "fault write\n",
         10,
     ),
+    (Outside::Load(2), "canon A 048", NORTH, 0, NORTH, "", 0),
+    (Outside::Load(0), "canon", NORTH, 1, "", "refused usage\n", 10),
+    (Outside::Write(1), "canon A", NORTH, 0, NORTH, "", 0),
     (Outside::Report(0), "", NORTH, 1, "", "", 10),
     (Outside::Report(0), "canon A", "22 00 04 01", 3, "", "", 0),
     (Outside::Report(0), "check F", NORTH, 2, "", "", 10),

@@ -1,4 +1,4 @@
-//! One run in memory: the files that it finds, how its outside is cut and fails, and what it leaves behind.
+//! One run in memory: the files that it finds, how its outside is cut and fails, and what it leaves.
 
 use ax_app::run;
 use ax_outside::{MemLibrary, MemSink, MemSource, fill};
@@ -61,7 +61,7 @@ fn library_of(alloc: Global, outside: Outside) -> Result<MemLibrary, AllocError>
 
 fn source_of(alloc: Global, outside: Outside, input: &[u8]) -> Result<MemSource, AllocError> {
     let cuts = match outside {
-        // A block of ten octets, and the end behind it.
+        // A block of ten octets, and the end after it.
         Outside::OctetReads | Outside::OctetRead(_) => vec![in alloc; 1; 12]?,
         Outside::CutReads => vec![in alloc; 2, 3, 5]?,
         _ => Vec::new(alloc),
@@ -101,7 +101,7 @@ fn report_of(alloc: Global, outside: Outside) -> Result<MemSink, AllocError> {
     MemSink::new(alloc, room, AMPLE, failing)
 }
 
-/// What a run leaves behind: its exit status, what stands on both outputs, and how many octets of the input were not
+/// What a run leaves: its exit status, what stands on both outputs, and how many octets of the input were not
 /// read.
 #[derive(Debug, PartialEq, Eq, Drop)]
 pub struct Ended {
@@ -111,7 +111,7 @@ pub struct Ended {
     pub left: usize,
 }
 
-/// The value that a run should leave behind.
+/// The value that a run should leave.
 pub fn wanted(
     alloc: Global,
     status: u8,
@@ -127,7 +127,7 @@ pub fn wanted(
     })
 }
 
-// File E behind a comment, with two line feeds for each blank.
+// File E after a comment, with two line feeds for each blank.
 fn commented(alloc: Global) -> Result<Vec<u8>, AllocError> {
     let mut made = b"# a comment\n".to_vec(alloc)?;
     for octet in FILE_E.as_bytes() {
@@ -181,8 +181,8 @@ fn words_of(alloc: Global, text: &str) -> Result<Vec<String>, AllocError> {
     Ok(made)
 }
 
-// How many octets the source has left, which it then gives.
-fn left_of(alloc: Global, source: &mut MemSource) -> Result<usize, Fail> {
+/// How many octets the source has left, which it then gives.
+pub fn left_of(alloc: Global, source: &mut MemSource) -> Result<usize, Fail> {
     let mut buffer = vec![in alloc; 0; 70_000]?;
     Ok(fill(source, &mut buffer)?)
 }
@@ -210,7 +210,7 @@ fn ran(alloc: Global, words: &str, input: &[u8], outside: Outside) -> Result<End
     })
 }
 
-/// Runs the words over this input, and asserts that the run leaves behind what is wanted.
+/// Runs the words over this input, and asserts that the run leaves what is wanted.
 pub fn leaves(
     rt: &impl Abort,
     alloc: Global,

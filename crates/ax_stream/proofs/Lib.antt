@@ -1,3 +1,10 @@
+pub mod AnswersOnce
 pub mod BlockSteps
+pub mod CanonWritten
+pub mod Completes
+pub mod MadeBlocks
+pub mod OpaqueBlocks
+pub mod Prefixes
+pub mod Results
 pub mod Runs
 pub mod Streams

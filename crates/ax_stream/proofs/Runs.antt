@@ -1,340 +1,473 @@
--- What holds after each block of a stream, and where the run over it stops.
-use Rattle.std.proofs.Common.{◌≡◌, ℕ, suc, ◌+◌, ◌<◌, ◌≤◌, List, [], ◌∷◌, ◌++◌, Option, Some, None, length, take, refl, sym, ◌∙◌, ap, subst, arith, append_assoc, append-nil, length-append, inl, inr, Result, Ok, Err}
+-- What holds after each block of an input, and where the run over it stops.
+use Rattle.std.proofs.Common.{◌≡◌, ℕ, ◌+◌, ◌<◌, ◌≤◌, List, [], ◌∷◌, ◌++◌, Option, Some, None, length, take, refl, sym, ◌∙◌, ap, subst, arith, append_assoc, length-append, inl, inr, Result, Ok, Err}
 use Rattle.ax_bits.specs.Bits.{AreOctets}
-use Rattle.ax_blocks.specs.Reader.{ReaderState, IsOpen, IsAfter, OnBlock, OnEnd, OnReadFault, block_octets, ended_by, GivesBlock, FindsEnd, StopsUnfinished}
+use Rattle.ax_blocks.specs.Reader.{ReaderState, IsOpen, GivesBlock, FindsEnd, StopsUnfinished, OnBlock, OnEnd, OnReadFault, OnTooLong, IsAfter, block_octets, ended_by, octets_to_end}
 use Rattle.ax_blocks.specs.Taking.{IsUnfinished, OnTold}
-use Rattle.ax_model.specs.Blocks.{BlockTree, SpellsStream}
-use Rattle.ax_model.specs.CanonicalOctets.{CanonBytes}
-use Rattle.ax_model.specs.Ends.{RawSpells, RawsSpell, RawFails, by_framing, by_body}
-use Rattle.ax_model.specs.Framing.{RawTree, AreRaws, FramingEnd, FramingEnds, whole, bad_len, ends_in_header, ends_in_block, input_too_long, IsJustNext, block, end}
-use Rattle.ax_model.specs.Specification.{SpecTree}
-use Rattle.ax_model.specs.declared.fault.BodyCause.{BodyCause}
-use Rattle.ax_outside.specs.Told.{with_front, with_end, IsAtEnd}
-use Rattle.ax_stream.proofs.Streams.{raws_snoc, raws_append, spell_snoc, spell_count, stream_snoc, canon_snoc, length_snoc, framed_count, raw_spells_block, FramedOn, framed_on, octets_behind}
-use Rattle.ax_stream.specs.InputEnds.{longest_input, cause_of, refused_at, framing_outcome, error_outcome}
-use Rattle.ax_stream.specs.Stops.{Answered, AnsweredWhole, StoppedReading, StoppedWriting, StoppedForMemory, StreamRuns}
-use Rattle.ax_stream.specs.BlockCanon.{IsCanonOf, HasNoCanon, stop_outcome}
-use Rattle.ax_stream.specs.declared.block.BlockStop.{BlockStop}
-use Rattle.ax_stream.specs.declared.block.BlockStop.TheVariants.{Fault, OutOfMemory}
 use Rattle.ax_blocks.specs.declared.next_error.NextError.{NextError}
 use Rattle.ax_blocks.specs.declared.next_error.NextError.TheVariants.{BadLen, EndsInHeader, EndsInBlock, InputTooLong, ReadFault}
+use Rattle.ax_model.specs.Blocks.{BlockTree}
+use Rattle.ax_model.proofs.InputSteps.{ends_by_framing, ends_by_body}
+use Rattle.ax_model.specs.Ends.{RawSpells, RawsSpell, RawFails, Ends, by_framing, by_body}
+use Rattle.ax_model.specs.Framing.{RawTree, AreRaws, FramingEnd, FramingEnds, whole, bad_len, ends_in_header, ends_in_block, input_too_long, IsJustNext, block, end}
+use Rattle.ax_model.specs.declared.fault.BodyCause.{BodyCause}
 use Rattle.ax_model.specs.declared.record.RawBlock.{RawBlock}
-use Rattle.ax_command.specs.declared.outcome.Outcome.TheVariants.{Done}
+use Rattle.ax_outside.proofs.Ends.{Rose-later}
+use Rattle.ax_outside.specs.Changes.{SourceChange, SinkChange, Gains, GainsNothing, GainsPart}
+use Rattle.ax_outside.specs.Told.{with_front, with_end, IsAtEnd, Rose}
+use Rattle.ax_stream.proofs.Results.{output_snoc, report_snoc, given_snoc, both, gains_both, gains_on, gains_part, gains_none}
+use Rattle.ax_stream.proofs.Streams.{raws_snoc, spell_snoc, spell_count, stream_snoc, length_snoc, framed_count, raw_spells_block, octets_after}
+use Rattle.ax_stream.specs.Commands.{BlockCommand, gives, lines_in, octets_in, report_of, output_of, IsGiven}
+use Rattle.ax_stream.specs.Ending.{cause_of, refused_at, framing_end, error_end, stop_end}
+use Rattle.ax_stream.specs.Streams.{BeginsWith, ThenBlock, EndsWithInput, AtBlock, IsLeft, RefusesBlock, in_body, by_length, ToldRun, reading, writing, reporting, for_memory, StreamRuns, IsCaused, IsLicensed, Reports}
+use Rattle.ax_stream.specs.Taking.{GivesFor, IsTooLongFor, IsCutFor, StopsFor, Takes}
+use Rattle.ax_stream.specs.declared.end.StreamEnd.{StreamEnd}
+use Rattle.ax_stream.specs.declared.end.StreamEnd.TheVariants as EndOf
+use Rattle.ax_stream.specs.declared.work.WorkStop.{WorkStop}
+use Rattle.ax_stream.specs.declared.work.WorkStop.TheVariants.{Fault, TooLong, ReportFault, OutOfMemory}
 
--- the input began with whole blocks, `given` octets of them, whose canonical octets were written
-pub record SoFar (catalogue : List SpecTree) (input : List ℕ) (start left held : Option (List ℕ)) (given count : ℕ) : Type 0 where
+-- the input began with whole blocks, `given` octets of them, whose results were written
+pub record SoFar (c : BlockCommand) (limit : ℕ) (input : List ℕ) (left : Option (List ℕ)) (o r : SinkChange) (given count : ℕ) : Type 0 where
   pub octets : List ℕ
   pub rest : List ℕ
   pub raws : List RawTree
   pub blocks : List BlockTree
+  pub begins : BeginsWith c limit input blocks octets rest
   pub left_is : left ≡ Some rest
-  pub split : input ≡ octets ++ rest
   pub framed : AreRaws raws octets
-  pub spelled : RawsSpell catalogue raws blocks
-  pub stream : SpellsStream catalogue blocks octets
-  pub within : length octets ≤ longest_input
-  pub held_is : held ≡ with_end start (CanonBytes catalogue blocks)
+  pub spelled : RawsSpell c.catalogue raws blocks
+  pub out : Gains o (output_of c 0 blocks)
+  pub report : Gains r (report_of c 0 blocks)
   pub counted : count ≡ length blocks
   pub given_is : given ≡ length octets
 
-pub with_nothing : (held : Option (List ℕ)) → held ≡ with_end held []
-with_nothing None = refl
-with_nothing (Some xs) = ap Some (sym (append-nil xs))
-
-with_end_twice : (held : Option (List ℕ)) (a b : List ℕ) → with_end (with_end held a) b ≡ with_end held (a ++ b)
-with_end_twice None a b = refl
-with_end_twice (Some xs) a b = ap Some (append_assoc xs a b)
-
-pub at_start : (catalogue : List SpecTree) (input : List ℕ) (start left : Option (List ℕ)) → left ≡ Some input → SoFar catalogue input start left start 0 0
-at_start catalogue input start left e = record {
-  octets = [];
-  rest = input;
-  raws = [];
-  blocks = [];
-  left_is = e;
-  split = refl;
-  framed = refl;
-  spelled = tt;
-  stream = refl;
-  within = omega arith;
-  held_is = with_nothing start;
-  counted = refl;
-  given_is = refl;
-}
-
 -- what was left, with the octets taken in front of what is left now
-left_splits : (rest octets : List ℕ) (left left' : Option (List ℕ)) → left ≡ Some rest → left ≡ with_front octets left' → (rest' : List ℕ) × (left' ≡ Some rest') × (rest ≡ octets ++ rest')
+pub record Split (rest octets : List ℕ) (left' : Option (List ℕ)) : Type 0 where
+  pub after : List ℕ
+  pub left : left' ≡ Some after
+  pub split : rest ≡ octets ++ after
+
+left_splits : (rest octets : List ℕ) (left left' : Option (List ℕ)) → left ≡ Some rest → left ≡ with_front octets left' → Split rest octets left'
 left_splits rest octets left None e f = let g : ◌≡◌ {A = Option (List ℕ)} (Some rest) None = sym e ∙ f in absurd (cc)
-left_splits rest octets left (Some rest') e f = let g : ◌≡◌ {A = Option (List ℕ)} (Some rest) (Some (octets ++ rest')) = sym e ∙ f in (rest', refl, cc)
+left_splits rest octets left (Some after) e f = let g : ◌≡◌ {A = Option (List ℕ)} (Some rest) (Some (octets ++ after)) = sym e ∙ f in record { after = after; left = refl; split = cc }
 
-held_grows : (a b : List ℕ) (start held held' : Option (List ℕ)) → held ≡ with_end start a → held' ≡ with_end held b → held' ≡ with_end start (a ++ b)
-held_grows a b start held held' e f = f ∙ ap (λ h. with_end h b) e ∙ with_end_twice start a b
+-- ---- the invariant of the block loop
 
-pub one_block_more : (catalogue : List SpecTree) (input : List ℕ) (start left left' held held' : Option (List ℕ)) (given count taken taken' : ℕ) (raw : RawTree) (b : BlockTree)
-    → SoFar catalogue input start left held given count → GivesBlock longest_input given left left' taken taken' raw → RawSpells catalogue raw b → held' ≡ with_end held (CanonBytes catalogue (b ∷ []))
-    → SoFar catalogue input start left' held' (given + (3 + length raw.body)) (count + 1)
-one_block_more catalogue input start left left' held held' given count taken taken' raw b s g r w =
-    let t : (rest' : List ℕ) × (left' ≡ Some rest') × (s.rest ≡ g.octets ++ rest') = left_splits s.rest g.octets left left' s.left_is g.took.gives in
-    let just : IsJustNext longest_input given s.rest (block raw) = subst (λ l. OnTold l (λ r. IsJustNext longest_input given r (block raw))) s.left_is g.just in
-    let size : length g.octets ≡ 3 + length raw.body = framed_count raw.category raw.body g.octets g.framed in
-    let old : given ≡ length s.octets = s.given_is in
-    let long : length (s.octets ++ g.octets) ≡ length s.octets + length g.octets = length-append s.octets g.octets in
-    let fit : given + length g.octets ≤ longest_input = g.within in
-    record {
-      octets = s.octets ++ g.octets;
-      rest = t.0;
-      raws = s.raws ++ raw ∷ [];
-      blocks = s.blocks ++ b ∷ [];
-      left_is = t.1;
-      split = s.split ∙ ap (λ x. s.octets ++ x) t.2 ∙ sym (append_assoc s.octets g.octets t.0);
-      framed = raws_snoc s.raws s.octets g.octets raw s.framed g.framed just.is.some;
-      spelled = spell_snoc catalogue s.raws s.blocks raw b s.spelled r;
-      stream = stream_snoc catalogue s.blocks s.octets g.octets b s.stream (raw_spells_block catalogue raw b g.octets g.framed r);
-      within = omega arith;
-      held_is = held_grows (CanonBytes catalogue s.blocks) (CanonBytes catalogue (b ∷ [])) start held held' s.held_is w ∙ ap (with_end start) (sym (canon_snoc catalogue s.blocks b));
-      counted = ap (λ n. n + 1) s.counted ∙ sym (length_snoc s.blocks b);
-      given_is = omega arith;
-    }
-
--- memory was wanting for a block that was taken
-pub stops_for_memory : (catalogue : List SpecTree) (input : List ℕ) (start left left' held : Option (List ℕ)) (given count taken taken' : ℕ) (raw : RawTree)
-    → SoFar catalogue input start left held given count → GivesBlock longest_input given left left' taken taken' raw → StoppedForMemory catalogue input left' start held
-stops_for_memory catalogue input start left left' held given count taken taken' raw s g =
-    let t : (rest' : List ℕ) × (left' ≡ Some rest') × (s.rest ≡ g.octets ++ rest') = left_splits s.rest g.octets left left' s.left_is g.took.gives in
-    record {
-      blocks = s.blocks;
-      octets = s.octets;
-      front = g.octets;
-      rest = t.0;
-      wrote = record { split = s.split ∙ ap (λ x. s.octets ++ x) t.2; within = s.within; spelled = s.stream; gained = s.held_is };
-      next = inr (raw, g.framed);
-      left = t.1;
-    }
-
--- and for the reader, before anything was taken
-pub stops_before_reading : (catalogue : List SpecTree) (input : List ℕ) (left held : Option (List ℕ)) → left ≡ Some input → StoppedForMemory catalogue input left held held
-stops_before_reading catalogue input left held is = record {
-  blocks = [];
-  octets = [];
-  front = [];
-  rest = input;
-  wrote = record { split = refl; within = omega arith; spelled = refl; gained = with_nothing held };
-  next = inl refl;
-  left = is;
-}
-
-pub stops_reading : (catalogue : List SpecTree) (input : List ℕ) (start left left' held : Option (List ℕ)) (given count taken taken' : ℕ)
-    → SoFar catalogue input start left held given count → StopsUnfinished longest_input given left left' taken taken' → StoppedReading catalogue input left' start held
-stops_reading catalogue input start left left' held given count taken taken' s u =
-    let t : (rest' : List ℕ) × (left' ≡ Some rest') × (s.rest ≡ u.octets ++ rest') = left_splits s.rest u.octets left left' s.left_is u.took.gives in
-    record {
-      blocks = s.blocks;
-      octets = s.octets;
-      part = u.octets;
-      rest = t.0;
-      wrote = record { split = s.split ∙ ap (λ x. s.octets ++ x) t.2; within = s.within; spelled = s.stream; gained = s.held_is };
-      left = t.1;
-      unfinished = (let P : ℕ → Type 0 = λ n. IsUnfinished longest_input n u.octets in subst P s.given_is u.unfinished);
-    }
-
-pub stops_writing : (catalogue : List SpecTree) (input : List ℕ) (start left left' held held' : Option (List ℕ)) (given count taken taken' n : ℕ) (raw : RawTree) (b : BlockTree)
-    → SoFar catalogue input start left held given count → GivesBlock longest_input given left left' taken taken' raw → RawSpells catalogue raw b
-    → n < length (CanonBytes catalogue (b ∷ [])) → held' ≡ with_end held (take n (CanonBytes catalogue (b ∷ []))) → StoppedWriting catalogue input left' start held'
-stops_writing catalogue input start left left' held held' given count taken taken' n raw b s g r less w =
-    let t : (rest' : List ℕ) × (left' ≡ Some rest') × (s.rest ≡ g.octets ++ rest') = left_splits s.rest g.octets left left' s.left_is g.took.gives in
-    let old : given ≡ length s.octets = s.given_is in
-    let long : length (s.octets ++ g.octets) ≡ length s.octets + length g.octets = length-append s.octets g.octets in
-    let fit : given + length g.octets ≤ longest_input = g.within in
-    record {
-      blocks = s.blocks;
-      block = b;
-      octets = s.octets;
-      front = g.octets;
-      rest = t.0;
-      split = s.split ∙ ap (λ x. s.octets ++ x) t.2;
-      within = omega arith;
-      spelled = s.stream;
-      next = raw_spells_block catalogue raw b g.octets g.framed r;
-      left = t.1;
-      count = n;
-      fewer = less;
-      gained = held_grows (CanonBytes catalogue s.blocks) (take n (CanonBytes catalogue (b ∷ []))) start held held' s.held_is w;
-    }
-
--- framing has ended
-pub answers_end : (catalogue : List SpecTree) (input : List ℕ) (start left left' held : Option (List ℕ)) (given count taken taken' : ℕ) (e : FramingEnd) → given ≤ longest_input
-    → SoFar catalogue input start left held given count → FindsEnd longest_input given left left' taken taken' e → Answered catalogue input start held (framing_outcome count e)
-answers_end catalogue input start left left' held given count taken taken' e le s f =
-    let just : IsJustNext longest_input given s.rest (end e) = subst (λ l. OnTold l (λ r. IsJustNext longest_input given r (end e))) s.left_is f.just in
-    record {
-      written = CanonBytes catalogue s.blocks;
-      ends = record {
-        blocks = s.blocks;
-        end = by_framing e;
-        ends = record {
-          raws = s.raws;
-          framed = record {
-            front = s.octets;
-            rest = s.rest;
-            split = s.split;
-            blocks = s.framed;
-            within = (let q : given ≡ length s.octets = s.given_is in omega arith);
-            ends = (let P : ℕ → Type 0 = λ n. FramingEnds longest_input n s.rest e in subst P s.given_is just.is);
-          };
-          spelled = s.spelled;
-        };
-        outcome_is = ap (λ n. framing_outcome n e) s.counted;
-        written_is = refl;
-      };
-      gained = s.held_is;
-    }
-
--- and the input was read to its end
-pub answers_whole : (catalogue : List SpecTree) (input : List ℕ) (start left left' held : Option (List ℕ)) (given count taken taken' : ℕ) → given ≤ longest_input
-    → SoFar catalogue input start left held given count → FindsEnd longest_input given left left' taken taken' whole → AnsweredWhole catalogue input left' start held (Done count)
-answers_whole catalogue input start left left' held given count taken taken' le s f =
-    let t : (rest' : List ℕ) × (left' ≡ Some rest') × (s.rest ≡ f.octets ++ rest') = left_splits s.rest f.octets left left' s.left_is f.took.gives in
-    let none : t.0 ≡ [] = subst IsAtEnd t.1 f.ran_out in
-    record { answered = answers_end catalogue input start left left' held given count taken taken' whole le s f; read = t.1 ∙ ap Some none }
-
--- the body of a block has failed
-pub answers_fault : (catalogue : List SpecTree) (input : List ℕ) (start left left' held : Option (List ℕ)) (given count taken taken' : ℕ) (raw : RawTree) (p : ℕ) (c : BodyCause) → given ≤ longest_input
-    → AreOctets input → SoFar catalogue input start left held given count → GivesBlock longest_input given left left' taken taken' raw → RawFails catalogue raw p c
-    → Answered catalogue input start held (refused_at (cause_of c) count (24 + p))
-answers_fault catalogue input start left left' held given count taken taken' raw p c le are s g f =
-    let t : (rest' : List ℕ) × (left' ≡ Some rest') × (s.rest ≡ g.octets ++ rest') = left_splits s.rest g.octets left left' s.left_is g.took.gives in
-    let just : IsJustNext longest_input given s.rest (block raw) = subst (λ l. OnTold l (λ r. IsJustNext longest_input given r (block raw))) s.left_is g.just in
-    let whole_split : input ≡ (s.octets ++ g.octets) ++ t.0 = s.split ∙ ap (λ x. s.octets ++ x) t.2 ∙ sym (append_assoc s.octets g.octets t.0) in
-    let size : length (s.octets ++ g.octets) ≡ length s.octets + length g.octets = length-append s.octets g.octets in
-    let old : given ≡ length s.octets = s.given_is in
-    let fit : given + length g.octets ≤ longest_input = g.within in
-    let fits : length (s.octets ++ g.octets) ≤ longest_input = omega arith in
-    let behind : AreOctets t.0 = octets_behind (s.octets ++ g.octets) t.0 (subst AreOctets whole_split are) in
-    let on : FramedOn longest_input (length (s.octets ++ g.octets)) t.0 = framed_on (suc (length t.0)) longest_input (length (s.octets ++ g.octets)) t.0 (omega arith) fits behind in
-    let all : length ((s.octets ++ g.octets) ++ on.front) ≡ length (s.octets ++ g.octets) + length on.front = length-append (s.octets ++ g.octets) on.front in
-    let on_within : length (s.octets ++ g.octets) + length on.front ≤ longest_input = on.within in
-    record {
-      written = CanonBytes catalogue s.blocks;
-      ends = record {
-        blocks = s.blocks;
-        end = by_body count (24 + p) c;
-        ends = record {
-          before = s.raws;
-          bad = raw;
-          after = on.raws;
-          end = on.ending;
-          framed = record {
-            front = (s.octets ++ g.octets) ++ on.front;
-            rest = on.back;
-            split = whole_split ∙ ap (λ x. (s.octets ++ g.octets) ++ x) on.split ∙ sym (append_assoc (s.octets ++ g.octets) on.front on.back);
-            blocks = (let P : List RawTree → Type 0 = λ rs. AreRaws rs ((s.octets ++ g.octets) ++ on.front) in
-                subst P (append_assoc s.raws (raw ∷ []) on.raws) (raws_append (s.raws ++ raw ∷ []) on.raws (s.octets ++ g.octets) on.front (raws_snoc s.raws s.octets g.octets raw s.framed g.framed just.is.some) on.blocks));
-            within = omega arith;
-            ends = (let P : ℕ → Type 0 = λ n. FramingEnds longest_input n on.back on.ending in subst P (sym all) on.ends);
-          };
-          spelled = s.spelled;
-          place = p;
-          fails = f;
-          counted = s.counted ∙ sym (spell_count catalogue s.raws s.blocks s.spelled);
-          header = refl;
-        };
-        outcome_is = refl;
-        written_is = refl;
-      };
-      gained = s.held_is;
-    }
-
--- the invariant of the block loop
-pub record Running (catalogue : List SpecTree) (left left' held held' : Option (List ℕ)) (taken taken' faults faults' fails fails' : ℕ) (reader : ReaderState) (count : ℕ) : Type 0 where
-  pub limit : reader.limit ≡ longest_input
+pub record Running (c : BlockCommand) (limit : ℕ) (i : SourceChange) (o r : SinkChange) (now : BlockCommand) (reader : ReaderState) (count : ℕ) : Type 0 where
+  pub same : now ≡ c
+  pub limit_is : reader.limit ≡ limit
   pub open_ : IsOpen reader
-  pub within : reader.given ≤ longest_input
+  pub within : reader.given ≤ limit
   pub few : count ≤ reader.given
-  pub took : taken' ≡ taken + reader.given
-  pub source_later : faults ≤ faults'
-  pub out_later : fails ≤ fails'
-  pub told : (input : List ℕ) → AreOctets input → left ≡ Some input → SoFar catalogue input held left' held' reader.given count
+  pub took : i.taken' ≡ i.taken + reader.given
+  pub source_later : i.faults ≤ i.faults'
+  pub out_later : o.faults ≤ o.faults'
+  pub report_later : r.faults ≤ r.faults'
+  pub told : (input : List ℕ) → AreOctets input → i.left ≡ Some input → SoFar c limit input i.left' o r reader.given count
 
-pub running_begins : (catalogue : List SpecTree) (left held : Option (List ℕ)) (taken faults fails : ℕ) (reader : ReaderState) → reader ≡ record { limit = longest_input; given = 0; ended = None }
-    → Running catalogue left left held held taken taken faults faults fails fails reader 0
-running_begins catalogue left held taken faults fails reader e =
-    let z : reader.given ≡ 0 = ap (λ r. r.given) e in
+pub running_begins : (c : BlockCommand) (left held shown : Option (List ℕ)) (taken faults fails flaws : ℕ) (reader : ReaderState) → reader ≡ record { limit = reader.limit; given = 0; ended = None }
+    → Running c reader.limit (record { left = left; left' = left; taken = taken; taken' = taken; faults = faults; faults' = faults })
+    (record { held = held; held' = held; faults = fails; faults' = fails }) (record { held = shown; held' = shown; faults = flaws; faults' = flaws }) c reader 0
+running_begins c left held shown taken faults fails flaws reader e =
+    let z : reader.given ≡ 0 = ap (λ x. x.given) e in
     record {
-      limit = ap (λ r. r.limit) e;
-      open_ = ap (λ r. r.ended) e;
+      same = refl;
+      limit_is = refl;
+      open_ = ap (λ x. x.ended) e;
       within = omega arith;
       few = omega arith;
       took = omega arith;
       source_later = omega arith;
       out_later = omega arith;
-      told = λ input are l. (let P : ℕ → Type 0 = λ n. SoFar catalogue input held left held n 0 in subst P (sym z) (at_start catalogue input held left l));
+      report_later = omega arith;
+      told = λ input are l. record {
+        octets = [];
+        rest = input;
+        raws = [];
+        blocks = [];
+        begins = record { split = refl; within = omega arith; spelled = refl; given = tt };
+        left_is = l;
+        framed = refl;
+        spelled = tt;
+        out = gains_none held fails fails;
+        report = gains_none shown flaws flaws;
+        counted = refl;
+        given_is = z;
+      };
     }
 
-module _ (catalogue : List SpecTree) (left left' held held' : Option (List ℕ)) (taken taken' faults faults' fails fails' : ℕ) (reader : ReaderState) (count : ℕ)
-    (r : Running catalogue left left' held held' taken taken' faults faults' fails fails' reader count) where
-  pub runs_out_of_memory : (next : Option (List ℕ)) (t t' : ℕ) (raw : RawTree) → GivesBlock reader.limit reader.given left' next t t' raw
-      → (input : List ℕ) → AreOctets input → left ≡ Some input → StoppedForMemory catalogue input next held held'
-  runs_out_of_memory next t t' raw g input are l =
-      stops_for_memory catalogue input held left' next held' reader.given count t t' raw (r.told input are l)
-      (subst (λ n. GivesBlock n reader.given left' next t t' raw) r.limit g)
+-- the source, after one more read
+abbrev pub read_on : SourceChange → SourceChange → SourceChange
+read_on i j = record { left = i.left; left' = j.left'; taken = i.taken; taken' = j.taken'; faults = i.faults; faults' = j.faults' }
 
-  pub runs_to_the_end : (next : Option (List ℕ)) (t t' : ℕ) → FindsEnd reader.limit reader.given left' next t t' whole
-      → (input : List ℕ) → AreOctets input → left ≡ Some input → AnsweredWhole catalogue input next held held' (Done count)
-  runs_to_the_end next t t' f input are l =
-      answers_whole catalogue input held left' next held' reader.given count t t' r.within (r.told input are l)
-      (subst (λ n. FindsEnd n reader.given left' next t t' whole) r.limit f)
+-- ---- one block more
 
-  pub runs_into_a_fault : (next : Option (List ℕ)) (t t' : ℕ) (raw : RawTree) (p : ℕ) (c : BodyCause) → GivesBlock reader.limit reader.given left' next t t' raw → RawFails catalogue raw p c
-      → (input : List ℕ) → AreOctets input → left ≡ Some input → Answered catalogue input held held' (refused_at (cause_of c) count (24 + p))
-  runs_into_a_fault next t t' raw p c g f input are l =
-      answers_fault catalogue input held left' next held' reader.given count t t' raw p c r.within are (r.told input are l)
-      (subst (λ n. GivesBlock n reader.given left' next t t' raw) r.limit g) f
+module _ (c : BlockCommand) (limit : ℕ) (input : List ℕ) (left left' : Option (List ℕ)) (o r : SinkChange) (given count taken taken' : ℕ) (raw : RawTree)
+    (s : SoFar c limit input left o r given count) (g : GivesBlock limit given left left' taken taken' raw) where
+  after_block : Split s.rest g.octets left'
+  after_block = left_splits s.rest g.octets left left' s.left_is g.took.gives
 
-  pub runs_into_a_refusal : (next : Option (List ℕ)) (t t' : ℕ) (e : NextError)
-      → OnEnd {A = RawBlock} (Err e) (FindsEnd reader.limit reader.given left' next t t') → OnReadFault {A = RawBlock} (Err e) (StopsUnfinished reader.limit reader.given left' next t t')
-      → (input : List ℕ) → AreOctets input → left ≡ Some input → StreamRuns catalogue input next held held' (error_outcome count e)
-  runs_into_a_refusal next t t' BadLen f u input are l =
-      answers_end catalogue input held left' next held' reader.given count t t' bad_len r.within (r.told input are l) (subst (λ n. FindsEnd n reader.given left' next t t' bad_len) r.limit f)
-  runs_into_a_refusal next t t' (EndsInHeader bit) f u input are l =
-      answers_end catalogue input held left' next held' reader.given count t t' (ends_in_header bit) r.within (r.told input are l) (subst (λ n. FindsEnd n reader.given left' next t t' (ends_in_header bit)) r.limit f)
-  runs_into_a_refusal next t t' (EndsInBlock bit) f u input are l =
-      answers_end catalogue input held left' next held' reader.given count t t' (ends_in_block bit) r.within (r.told input are l) (subst (λ n. FindsEnd n reader.given left' next t t' (ends_in_block bit)) r.limit f)
-  runs_into_a_refusal next t t' InputTooLong f u input are l =
-      answers_end catalogue input held left' next held' reader.given count t t' input_too_long r.within (r.told input are l) (subst (λ n. FindsEnd n reader.given left' next t t' input_too_long) r.limit f)
-  runs_into_a_refusal next t t' ReadFault f u input are l =
-      stops_reading catalogue input held left' next held' reader.given count t t' (r.told input are l) (subst (λ n. StopsUnfinished n reader.given left' next t t') r.limit u)
+  is_some : 0 < length raw.body
+  is_some = (subst (λ l. OnTold l (λ x. IsJustNext limit given x (block raw))) s.left_is g.just).is.some
 
-  pub runs_into_a_failed_write : (next cut : Option (List ℕ)) (t t' : ℕ) (raw : RawTree) (octets : List ℕ) → GivesBlock reader.limit reader.given left' next t t' raw → IsCanonOf catalogue raw octets
-      → (n : ℕ) × (n < length octets) × (cut ≡ with_end held' (take n octets))
-      → (input : List ℕ) → AreOctets input → left ≡ Some input → StoppedWriting catalogue input next held cut
-  runs_into_a_failed_write next cut t t' raw octets g c (n, less, w) input are l =
-      let size : length octets ≡ length (CanonBytes catalogue (c.block ∷ [])) = ap length c.canonical in
-      stops_writing catalogue input held left' next held' cut reader.given count t t' n raw c.block (r.told input are l)
-      (subst (λ k. GivesBlock k reader.given left' next t t' raw) r.limit g) c.spells (omega arith) (w ∙ ap (λ x. with_end held' (take n x)) c.canonical)
+  fits : length (s.octets ++ g.octets) ≤ limit
+  fits =
+      let long : length (s.octets ++ g.octets) ≡ length s.octets + length g.octets = length-append s.octets g.octets in
+      let old : given ≡ length s.octets = s.given_is in
+      let fit : given + length g.octets ≤ limit = g.within in
+      omega arith
 
-  pub runs_on : (next added : Option (List ℕ)) (t' later later' : ℕ) (raw : RawTree) (octets : List ℕ) (reader' : ReaderState) → GivesBlock reader.limit reader.given left' next taken' t' raw → IsCanonOf catalogue raw octets
-      → added ≡ with_end held' octets → faults' ≤ later → fails' ≤ later' → reader'.limit ≡ reader.limit → reader'.given ≡ reader.given + (3 + length raw.body) → reader'.given ≤ reader'.limit → IsOpen reader'
-      → Running catalogue left next held added taken t' faults later fails later' reader' (count + 1)
-  runs_on next added t' later later' raw octets reader' g c w a b same counts fits opened =
+  then_block : (b : BlockTree) → RawSpells c.catalogue raw b → ThenBlock c limit s.octets s.rest b g.octets after_block.after
+  then_block b spells = record { split = after_block.split; within = fits; spelled = raw_spells_block c.catalogue raw b g.octets g.framed spells }
+
+  numbered : (b : BlockTree) (lines laid : List ℕ) → c.answer count b ≡ gives lines laid → c.answer (length s.blocks) b ≡ gives lines laid
+  numbered b lines laid answer = ap (λ n. c.answer n b) (sym s.counted) ∙ answer
+
+  at_block : (b : BlockTree) (lines laid : List ℕ) → RawSpells c.catalogue raw b → c.answer count b ≡ gives lines laid → AtBlock c limit input left' s.blocks lines laid
+  at_block b lines laid spells answer = record {
+    octets = s.octets;
+    rest = s.rest;
+    begins = s.begins;
+    block = b;
+    front = g.octets;
+    after = after_block.after;
+    next = then_block b spells;
+    answer = numbered b lines laid answer;
+    left = after_block.left;
+  }
+
+  pub one_block_more : (lines laid : List ℕ) (p q : SinkChange) → GivesFor c count raw lines laid → p.held ≡ o.held' → Gains p laid → q.held ≡ r.held' → Gains q lines
+      → SoFar c limit input left' (both o p) (both r q) (given + (3 + length raw.body)) (count + 1)
+  one_block_more lines laid p q f joins added shows said =
+      let first : 0 + length s.blocks ≡ length s.blocks = omega arith in
+      let answer : c.answer (0 + length s.blocks) f.block ≡ gives lines laid = ap (λ n. c.answer n f.block) first ∙ numbered f.block lines laid f.answer in
       let size : length g.octets ≡ 3 + length raw.body = framed_count raw.category raw.body g.octets g.framed in
-      let q : t' ≡ taken' + length g.octets = g.took.counted in
-      let o : taken' ≡ taken + reader.given = r.took in
-      let lim : reader.limit ≡ longest_input = r.limit in
-      let few : count ≤ reader.given = r.few in
-      let la : faults ≤ faults' = r.source_later in
-      let lb : fails ≤ fails' = r.out_later in
+      let old : given ≡ length s.octets = s.given_is in
+      let long : length (s.octets ++ g.octets) ≡ length s.octets + length g.octets = length-append s.octets g.octets in
       record {
-        limit = same ∙ r.limit;
-        open_ = opened;
-        within = omega arith;
-        few = omega arith;
-        took = omega arith;
-        source_later = omega arith;
-        out_later = omega arith;
-        told = λ input are l. (let P : ℕ → Type 0 = λ n. SoFar catalogue input held next added n (count + 1) in
-            subst P (sym counts) (one_block_more catalogue input held left' next held' added reader.given count taken' t' raw c.block (r.told input are l)
-            (subst (λ k. GivesBlock k reader.given left' next taken' t' raw) r.limit g) c.spells (w ∙ ap (with_end held') c.canonical)));
+        octets = s.octets ++ g.octets;
+        rest = after_block.after;
+        raws = s.raws ++ raw ∷ [];
+        blocks = s.blocks ++ f.block ∷ [];
+        begins = record {
+          split = s.begins.split ∙ ap (λ x. s.octets ++ x) after_block.split ∙ sym (append_assoc s.octets g.octets after_block.after);
+          within = fits;
+          spelled = stream_snoc c.catalogue s.blocks s.octets g.octets f.block s.begins.spelled (raw_spells_block c.catalogue raw f.block g.octets g.framed f.spells);
+          given = given_snoc c 0 s.blocks f.block s.begins.given (subst IsGiven (sym answer) tt);
+        };
+        left_is = after_block.left;
+        framed = raws_snoc s.raws s.octets g.octets raw s.framed g.framed is_some;
+        spelled = spell_snoc c.catalogue s.raws s.blocks raw f.block s.spelled f.spells;
+        out = gains_both o p (output_of c 0 s.blocks) laid joins s.out added ∙ ap (with_end o.held) (sym (output_snoc c 0 s.blocks f.block ∙ ap (λ a. output_of c 0 s.blocks ++ octets_in a) answer));
+        report = gains_both r q (report_of c 0 s.blocks) lines shows s.report said ∙ ap (with_end r.held) (sym (report_snoc c 0 s.blocks f.block ∙ ap (λ a. report_of c 0 s.blocks ++ lines_in a) answer));
+        counted = ap (λ n. n + 1) s.counted ∙ sym (length_snoc s.blocks f.block);
+        given_is = omega arith;
       }
+
+  -- ---- and no more
+
+  pub stops_for_memory : (q : SinkChange) → q.held ≡ r.held' → GainsNothing q → ToldRun c limit input left' o (both r q) EndOf.OutOfMemory
+  stops_for_memory q shows nothing = inr (for_memory refl (record {
+    blocks = s.blocks;
+    octets = s.octets;
+    front = g.octets;
+    rest = after_block.after;
+    stands = record {
+      begins = record { split = s.begins.split ∙ ap (λ x. s.octets ++ x) after_block.split; within = s.begins.within; spelled = s.begins.spelled; given = s.begins.given };
+      out = s.out;
+      report = gains_on r q (report_of c 0 s.blocks) shows s.report nothing;
+    };
+    next = inr (record { raw = raw; framed = g.framed; some = is_some; within = fits });
+    left = after_block.left;
+  }))
+
+  pub stops_writing : (lines laid : List ℕ) (p q : SinkChange) → GivesFor c count raw lines laid → p.held ≡ o.held' → GainsPart p laid → q.held ≡ r.held' → Gains q lines
+      → ToldRun c limit input left' (both o p) (both r q) EndOf.WriteFault
+  stops_writing lines laid p q f joins part shows said = inr (writing refl (record {
+    blocks = s.blocks;
+    lines = lines;
+    laid = laid;
+    at = at_block f.block lines laid f.spells f.answer;
+    out = gains_part o p (output_of c 0 s.blocks) laid joins s.out part;
+    report = gains_both r q (report_of c 0 s.blocks) lines shows s.report said;
+  }))
+
+  pub stops_reporting : (q : SinkChange) → q.held ≡ r.held' → IsCutFor c count raw q → ToldRun c limit input left' o (both r q) EndOf.ReportFault
+  stops_reporting q shows f = inr (reporting refl (record {
+    blocks = s.blocks;
+    lines = f.lines;
+    laid = f.octets;
+    at = at_block f.is.block f.lines f.octets f.is.spells f.is.answer;
+    out = s.out;
+    report = gains_part r q (report_of c 0 s.blocks) f.lines shows s.report f.part;
+  }))
+
+  left_by_block : (e : StreamEnd) → RefusesBlock (length s.blocks) e → IsLeft c limit input left' s.blocks e
+  left_by_block e is = inr (record {
+    octets = s.octets;
+    raw = raw;
+    front = g.octets;
+    after = after_block.after;
+    split = s.begins.split ∙ ap (λ x. s.octets ++ x) after_block.split;
+    spelled = s.begins.spelled;
+    framed = g.framed;
+    left = after_block.left;
+    is = is;
+  })
+
+  pub answers_too_long : (n : ℕ) (q : SinkChange) → q.held ≡ r.held' → IsTooLongFor c count raw q n → ToldRun c limit input left' o (both r q) (EndOf.TooLong count n)
+  answers_too_long n q shows f = inl (record {
+    blocks = s.blocks;
+    answers = inr (record {
+      octets = s.octets;
+      rest = s.rest;
+      begins = s.begins;
+      block = f.block;
+      front = g.octets;
+      after = after_block.after;
+      next = then_block f.block f.spells;
+      count = n;
+      answer = ap (λ m. c.answer m f.block) (sym s.counted) ∙ f.answer;
+      is = ap (λ m. EndOf.TooLong m n) s.counted;
+    });
+    out = s.out;
+    report = gains_on r q (report_of c 0 s.blocks) shows s.report f.nothing;
+    read = λ m e. absurd (cc);
+    left = left_by_block (EndOf.TooLong count n) (by_length n (ap (λ m. EndOf.TooLong m n) s.counted));
+  })
+
+  pub answers_fault : (p : ℕ) (cause : BodyCause) (q : SinkChange) → AreOctets input → q.held ≡ r.held' → GainsNothing q → RawFails c.catalogue raw p cause
+      → ToldRun c limit input left' o (both r q) (refused_at (cause_of cause) count (24 + p))
+  answers_fault p cause q are shows nothing f =
+      let whole_split : input ≡ (s.octets ++ g.octets) ++ after_block.after = s.begins.split ∙ ap (λ x. s.octets ++ x) after_block.split ∙ sym (append_assoc s.octets g.octets after_block.after) in
+      inl (record {
+        blocks = s.blocks;
+        answers = inl (record {
+          end = by_body (length s.raws) (24 + p) cause;
+          ends = subst (λ x. Ends c.catalogue x limit s.blocks (by_body (length s.raws) (24 + p) cause)) (sym whole_split)
+              (ends_by_body c.catalogue limit s.raws raw s.blocks s.octets g.octets after_block.after p cause s.framed s.spelled g.framed is_some fits (octets_after (s.octets ++ g.octets) after_block.after (subst AreOctets whole_split are)) f);
+          given = s.begins.given;
+          is = ap (λ n. refused_at (cause_of cause) n (24 + p)) (s.counted ∙ sym (spell_count c.catalogue s.raws s.blocks s.spelled));
+        });
+        out = s.out;
+        report = gains_on r q (report_of c 0 s.blocks) shows s.report nothing;
+        read = λ m e. absurd (cc);
+        left = left_by_block (refused_at (cause_of cause) count (24 + p)) (in_body p cause (ap (λ m. refused_at (cause_of cause) m (24 + p)) s.counted));
+      })
+
+  pub takes_no_more : (q : SinkChange) (stop : WorkStop) → AreOctets input → q.held ≡ r.held' → StopsFor c count raw q stop → ToldRun c limit input left' o (both r q) (stop_end count stop)
+  takes_no_more q (Fault f) are shows h = answers_fault f.bit f.cause q are shows h.nothing h.fails
+  takes_no_more q (TooLong n) are shows h = answers_too_long n q shows h
+  takes_no_more q ReportFault are shows h = stops_reporting q shows h
+  takes_no_more q OutOfMemory are shows h = stops_for_memory q shows h
+
+-- ---- no block more
+
+module _ (c : BlockCommand) (limit : ℕ) (input : List ℕ) (left left' : Option (List ℕ)) (o r : SinkChange) (given count taken taken' : ℕ)
+    (s : SoFar c limit input left o r given count) where
+  ends_framed : (e : FramingEnd) → FindsEnd limit given left left' taken taken' e → EndsWithInput c limit input s.blocks (framing_end count e)
+  ends_framed e f =
+      let just : IsJustNext limit given s.rest (end e) = subst (λ l. OnTold l (λ x. IsJustNext limit given x (end e))) s.left_is f.just in
+      record {
+        end = by_framing e;
+        ends = subst (λ x. Ends c.catalogue x limit s.blocks (by_framing e)) (sym s.begins.split)
+            (ends_by_framing c.catalogue limit s.raws s.blocks s.octets s.rest e s.framed s.spelled s.begins.within (let P : ℕ → Type 0 = λ n. FramingEnds limit n s.rest e in subst P s.given_is just.is));
+        given = s.begins.given;
+        is = ap (λ n. framing_end n e) s.counted;
+      }
+
+  left_by_framing : (e : FramingEnd) → FindsEnd limit given left left' taken taken' e → IsLeft c limit input left' s.blocks (framing_end count e)
+  left_by_framing e f =
+      let t : Split s.rest f.octets left' = left_splits s.rest f.octets left left' s.left_is f.took.gives in
+      inl (record {
+        octets = s.octets;
+        shown = f.octets;
+        after = t.after;
+        split = s.begins.split ∙ ap (λ x. s.octets ++ x) t.split;
+        spelled = s.begins.spelled;
+        end = e;
+        count = f.count ∙ ap (λ n. octets_to_end limit n e) s.given_is;
+        ran_out = f.ran_out;
+        left = t.left;
+        is = ap (λ n. framing_end n e) s.counted;
+      })
+
+  pub reads_all : FindsEnd limit given left left' taken taken' whole → ToldRun c limit input left' o r (EndOf.Done count)
+  reads_all f =
+      let t : Split s.rest f.octets left' = left_splits s.rest f.octets left left' s.left_is f.took.gives in
+      let none : t.after ≡ [] = subst IsAtEnd t.left f.ran_out in
+      inl (record { blocks = s.blocks; answers = inl (ends_framed whole f); out = s.out; report = s.report; read = λ m e. t.left ∙ ap Some none; left = left_by_framing whole f })
+
+  pub ends_early : (e : FramingEnd) → ((m : ℕ) → framing_end count e ≡ EndOf.Done m → ⊥) → FindsEnd limit given left left' taken taken' e → ToldRun c limit input left' o r (framing_end count e)
+  ends_early e never f = inl (record { blocks = s.blocks; answers = inl (ends_framed e f); out = s.out; report = s.report; read = λ m is. absurd (never m is); left = left_by_framing e f })
+
+  pub stops_reading : StopsUnfinished limit given left left' taken taken' → ToldRun c limit input left' o r EndOf.ReadFault
+  stops_reading u =
+      let t : Split s.rest u.octets left' = left_splits s.rest u.octets left left' s.left_is u.took.gives in
+      inr (reading refl (record {
+        blocks = s.blocks;
+        octets = s.octets;
+        part = u.octets;
+        rest = t.after;
+        stands = record {
+          begins = record { split = s.begins.split ∙ ap (λ x. s.octets ++ x) t.split; within = s.begins.within; spelled = s.begins.spelled; given = s.begins.given };
+          out = s.out;
+          report = s.report;
+        };
+        left = t.left;
+        unfinished = (let P : ℕ → Type 0 = λ n. IsUnfinished limit n u.octets in subst P s.given_is u.unfinished);
+      }))
+
+  pub reader_stops : (e : NextError) → OnEnd {A = RawBlock} (Err e) (FindsEnd limit given left left' taken taken') → OnReadFault {A = RawBlock} (Err e) (StopsUnfinished limit given left left' taken taken')
+      → ToldRun c limit input left' o r (error_end count e)
+  reader_stops BadLen f u = ends_early bad_len (λ m is. absurd (cc)) f
+  reader_stops (EndsInHeader bit) f u = ends_early (ends_in_header bit) (λ m is. absurd (cc)) f
+  reader_stops (EndsInBlock bit) f u = ends_early (ends_in_block bit) (λ m is. absurd (cc)) f
+  reader_stops InputTooLong f u = ends_early input_too_long (λ m is. absurd (cc)) f
+  reader_stops ReadFault f u = stops_reading u
+
+-- ---- what the run ensures
+
+error_caused : (limit count taken given t' : ℕ) (i : SourceChange) (o r : SinkChange) (e : NextError) → i.taken' ≡ t' → taken ≡ i.taken + given
+    → OnTooLong {A = RawBlock} (Err e) (limit + taken < given + t') → OnReadFault {A = RawBlock} (Err e) (Rose i.faults i.faults') → IsCaused limit i o r (error_end count e)
+error_caused limit count taken given t' i o r BadLen a b past rose = tt
+error_caused limit count taken given t' i o r (EndsInHeader bit) a b past rose = tt
+error_caused limit count taken given t' i o r (EndsInBlock bit) a b past rose = tt
+error_caused limit count taken given t' i o r InputTooLong a b past rose = omega (arith, a, b, past)
+error_caused limit count taken given t' i o r ReadFault a b past rose = rose
+
+error_licensed : (c : BlockCommand) (count : ℕ) (e : NextError) → IsLicensed c (error_end count e)
+error_licensed c count BadLen = tt
+error_licensed c count (EndsInHeader bit) = tt
+error_licensed c count (EndsInBlock bit) = tt
+error_licensed c count InputTooLong = tt
+error_licensed c count ReadFault = tt
+
+stop_caused : (limit number count : ℕ) (c : BlockCommand) (raw : RawTree) (i : SourceChange) (o r q : SinkChange) (stop : WorkStop) → r.faults ≤ q.faults → StopsFor c number raw q stop → IsCaused limit i o (both r q) (stop_end count stop)
+stop_caused limit number count c raw i o r q (Fault f) le h = tt
+stop_caused limit number count c raw i o r q (TooLong n) le h = tt
+stop_caused limit number count c raw i o r q ReportFault le h = Rose-later le h.part.rose
+stop_caused limit number count c raw i o r q OutOfMemory le h = tt
+
+-- a line that failed has an octet
+reports : (c : BlockCommand) (number : ℕ) (raw : RawTree) (q : SinkChange) → IsCutFor c number raw q → Reports c
+reports c number raw q h =
+    let within : h.part.count < length h.lines = h.part.within in
+    record { number = number; block = h.is.block; lines = h.lines; octets = h.octets; answer = h.is.answer; some = omega arith }
+
+stop_licensed : (c : BlockCommand) (number : ℕ) (raw : RawTree) (q : SinkChange) (stop : WorkStop) → StopsFor c number raw q stop → IsLicensed c (stop_end number stop)
+stop_licensed c number raw q (Fault f) h = tt
+stop_licensed c number raw q (TooLong n) h = record { block = h.block; answer = h.answer }
+stop_licensed c number raw q ReportFault h = reports c number raw q h
+stop_licensed c number raw q OutOfMemory h = tt
+
+-- a sink, one call further
+abbrev pub step : SinkChange → Option (List ℕ) → ℕ → SinkChange
+step o held faults = record { held = o.held'; held' = held; faults = o.faults'; faults' = faults }
+
+module _ (c : BlockCommand) (limit : ℕ) (i : SourceChange) (o r : SinkChange) (now : BlockCommand) (reader : ReaderState) (count : ℕ) (run : Running c limit i o r now reader count)
+    (next : Option (List ℕ)) (t' f' : ℕ) (later : i.faults' ≤ f') where
+  abbrev pub further : SourceChange
+  further = record { left = i.left; left' = next; taken = i.taken; taken' = t'; faults = i.faults; faults' = f' }
+
+  still_later : i.faults ≤ f'
+  still_later = let a : i.faults ≤ i.faults' = run.source_later in omega arith
+
+  gives_block : (raw : RawTree) → GivesBlock reader.limit reader.given i.left' next i.taken' t' raw → GivesBlock limit reader.given i.left' next i.taken' t' raw
+  gives_block raw g = subst (λ n. GivesBlock n reader.given i.left' next i.taken' t' raw) run.limit_is g
+
+  -- the reader ends
+  pub run_done : FindsEnd reader.limit reader.given i.left' next i.taken' t' whole → StreamRuns c limit further o r (EndOf.Done count)
+  run_done f = record {
+    told = λ input are l. reads_all c limit input i.left' next o r reader.given count i.taken' t' (run.told input are l) (subst (λ n. FindsEnd n reader.given i.left' next i.taken' t' whole) run.limit_is f);
+    caused = tt;
+    licensed = tt;
+    source_later = still_later;
+    out_later = run.out_later;
+    report_later = run.report_later;
+  }
+
+  pub run_refused : (e : NextError) → OnEnd {A = RawBlock} (Err e) (FindsEnd reader.limit reader.given i.left' next i.taken' t') → OnReadFault {A = RawBlock} (Err e) (StopsUnfinished reader.limit reader.given i.left' next i.taken' t')
+      → OnTooLong {A = RawBlock} (Err e) (reader.limit + i.taken' < reader.given + t') → OnReadFault {A = RawBlock} (Err e) (Rose i.faults' f') → StreamRuns c limit further o r (error_end count e)
+  run_refused e f u past rose = record {
+    told = λ input are l. reader_stops c limit input i.left' next o r reader.given count i.taken' t' (run.told input are l) e
+        (subst (λ n. OnEnd {A = RawBlock} (Err e) (FindsEnd n reader.given i.left' next i.taken' t')) run.limit_is f)
+        (subst (λ n. OnReadFault {A = RawBlock} (Err e) (StopsUnfinished n reader.given i.left' next i.taken' t')) run.limit_is u);
+    caused = error_caused limit count i.taken' reader.given t' further o r e refl run.took (subst (λ n. OnTooLong {A = RawBlock} (Err e) (n + i.taken' < reader.given + t')) run.limit_is past) (fault_rose e rose);
+    licensed = error_licensed c count e;
+    source_later = still_later;
+    out_later = run.out_later;
+    report_later = run.report_later;
+  } where
+    fault_rose : (e : NextError) → OnReadFault {A = RawBlock} (Err e) (Rose i.faults' f') → OnReadFault {A = RawBlock} (Err e) (Rose i.faults f')
+    fault_rose BadLen h = h
+    fault_rose (EndsInHeader bit) h = h
+    fault_rose (EndsInBlock bit) h = h
+    fault_rose InputTooLong h = h
+    fault_rose ReadFault h = Rose-later run.source_later h
+
+  -- the work stops
+  pub run_stopped : (raw : RawTree) (stop : WorkStop) (laid : List ℕ) (held : Option (List ℕ)) (faults : ℕ) → GivesBlock reader.limit reader.given i.left' next i.taken' t' raw
+      → Takes now count raw (step r held faults) laid (Err stop) → StreamRuns c limit further o (both r (step r held faults)) (stop_end count stop)
+  run_stopped raw stop laid held faults g t =
+      let s : Takes c count raw (step r held faults) laid (Err stop) = subst (λ n. Takes n count raw (step r held faults) laid (Err stop)) run.same t in
+      let a : r.faults ≤ r.faults' = run.report_later in
+      let b : r.faults' ≤ faults = s.later in
+      record {
+        told = λ input are l. takes_no_more c limit input i.left' next o r reader.given count i.taken' t' raw (run.told input are l) (gives_block raw g) (step r held faults) stop are refl s.means;
+        caused = stop_caused limit count count c raw further o r (step r held faults) stop run.report_later s.means;
+        licensed = stop_licensed c count raw (step r held faults) stop s.means;
+        source_later = still_later;
+        out_later = run.out_later;
+        report_later = omega arith;
+      }
+
+  -- the block is taken, and its octets are written or not
+  module _ (raw : RawTree) (u : Unit) (laid piece : List ℕ) (shown held : Option (List ℕ)) (flaws fails : ℕ) (g : GivesBlock reader.limit reader.given i.left' next i.taken' t' raw)
+      (t : Takes now count raw (step r shown flaws) laid (Ok u)) (is : piece ≡ laid) (wrote : o.faults' ≤ fails) where
+    taken : Takes c count raw (step r shown flaws) laid (Ok u)
+    taken = subst (λ n. Takes n count raw (step r shown flaws) laid (Ok u)) run.same t
+
+    report_still_later : r.faults ≤ flaws
+    report_still_later = let a : r.faults ≤ r.faults' = run.report_later in let b : r.faults' ≤ flaws = taken.later in omega arith
+
+    out_still_later : o.faults ≤ fails
+    out_still_later = let a : o.faults ≤ o.faults' = run.out_later in omega arith
+
+    pub run_cut : (n : ℕ) × (n < length piece) × (held ≡ with_end o.held' (take n piece)) → Rose o.faults' fails → StreamRuns c limit further (both o (step o held fails)) (both r (step r shown flaws)) EndOf.WriteFault
+    run_cut (n, less, added) rose =
+        let size : length piece ≡ length laid = ap length is in
+        record {
+          told = λ input are l. stops_writing c limit input i.left' next o r reader.given count i.taken' t' raw (run.told input are l) (gives_block raw g) taken.means.lines laid (step o held fails) (step r shown flaws)
+              taken.means.is refl (record { count = n; within = omega arith; gained = added ∙ ap (λ x. with_end o.held' (take n x)) is; rose = rose }) refl taken.means.wrote;
+          caused = Rose-later run.out_later rose;
+          licensed = tt;
+          source_later = still_later;
+          out_later = out_still_later;
+          report_later = report_still_later;
+        }
+
+    pub run_on : (now' : BlockCommand) (reader' : ReaderState) → held ≡ with_end o.held' piece → now' ≡ now → reader'.limit ≡ reader.limit → reader'.given ≡ reader.given + (3 + length raw.body) → reader'.given ≤ reader'.limit → IsOpen reader'
+        → Running c limit further (both o (step o held fails)) (both r (step r shown flaws)) now' reader' (count + 1)
+    run_on now' reader' added kept same counts fits opened =
+        let size : length g.octets ≡ 3 + length raw.body = framed_count raw.category raw.body g.octets g.framed in
+        let q : t' ≡ i.taken' + length g.octets = g.took.counted in
+        let k : i.taken' ≡ i.taken + reader.given = run.took in
+        let lim : reader.limit ≡ limit = run.limit_is in
+        let few : count ≤ reader.given = run.few in
+        record {
+          same = kept ∙ run.same;
+          limit_is = same ∙ run.limit_is;
+          open_ = opened;
+          within = omega arith;
+          few = omega arith;
+          took = omega arith;
+          source_later = still_later;
+          out_later = out_still_later;
+          report_later = report_still_later;
+          told = λ input are l. (let P : ℕ → Type 0 = λ n. SoFar c limit input next (both o (step o held fails)) (both r (step r shown flaws)) n (count + 1) in
+              subst P (sym counts) (one_block_more c limit input i.left' next o r reader.given count i.taken' t' raw (run.told input are l) (gives_block raw g) taken.means.lines laid (step o held fails) (step r shown flaws)
+              taken.means.is refl (added ∙ ap (with_end o.held') is) refl taken.means.wrote));
+        }
 
 -- ---- answers of the reader
 
@@ -348,15 +481,24 @@ pub reader_after : (old new : ReaderState) (result : Result (Option RawBlock) Ne
     → (new.limit ≡ old.limit) × ((new.given ≡ old.given + (3 + length raw.body.now)) × ((new.given ≤ new.limit) × IsOpen new))
 reader_after old new result raw e a = (a.same_limit, (a.counts ∙ ap (λ r. old.given + block_octets r) e, (a.within, a.keeps ∙ ap ended_by e)))
 
-pub gives_error : (result : Result (Option RawBlock) NextError) (e : NextError) (P : FramingEnd → Type 0) (Q : Type 0) → result ≡ Err e → OnEnd result P → OnReadFault result Q → OnEnd {A = RawBlock} (Err e) P × OnReadFault {A = RawBlock} (Err e) Q
-gives_error result e P Q is h k = (subst (λ r. OnEnd r P) is h, subst (λ r. OnReadFault r Q) is k)
+-- ---- no memory for the reader
 
--- a block that isn't written
-pub runs_into_a_stop : (catalogue : List SpecTree) (left left' held held' : Option (List ℕ)) (taken taken' faults faults' fails fails' : ℕ) (reader : ReaderState) (count : ℕ)
-    → Running catalogue left left' held held' taken taken' faults faults' fails fails' reader count
-    → (next : Option (List ℕ)) (t t' : ℕ) (raw : RawTree) (stop : BlockStop) → GivesBlock reader.limit reader.given left' next t t' raw → HasNoCanon catalogue raw stop
-    → (input : List ℕ) → AreOctets input → left ≡ Some input → StreamRuns catalogue input next held held' (stop_outcome count stop)
-runs_into_a_stop catalogue left left' held held' taken taken' faults faults' fails fails' reader count r next t t' raw (Fault f) g h input are l =
-    runs_into_a_fault catalogue left left' held held' taken taken' faults faults' fails fails' reader count r next t t' raw f.bit f.cause g h input are l
-runs_into_a_stop catalogue left left' held held' taken taken' faults faults' fails fails' reader count r next t t' raw OutOfMemory g h input are l =
-    runs_out_of_memory catalogue left left' held held' taken taken' faults faults' fails fails' reader count r next t t' raw g input are l
+pub memory_first : (c : BlockCommand) (limit : ℕ) (left held shown : Option (List ℕ)) (taken faults fails flaws : ℕ)
+    → StreamRuns c limit (record { left = left; left' = left; taken = taken; taken' = taken; faults = faults; faults' = faults })
+    (record { held = held; held' = held; faults = fails; faults' = fails }) (record { held = shown; held' = shown; faults = flaws; faults' = flaws }) EndOf.OutOfMemory
+memory_first c limit left held shown taken faults fails flaws = record {
+  told = λ input are l. inr (for_memory refl (record {
+    blocks = [];
+    octets = [];
+    front = [];
+    rest = input;
+    stands = record { begins = record { split = refl; within = omega arith; spelled = refl; given = tt }; out = gains_none held fails fails; report = gains_none shown flaws flaws };
+    next = inl refl;
+    left = l;
+  }));
+  caused = tt;
+  licensed = tt;
+  source_later = omega arith;
+  out_later = omega arith;
+  report_later = omega arith;
+}

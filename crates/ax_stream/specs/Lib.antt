@@ -1,3 +1,6 @@
-pub mod BlockCanon
-pub mod InputEnds
-pub mod Stops
+pub mod BlockCommands
+pub mod Commands
+pub mod Ending
+pub mod Made
+pub mod Streams
+pub mod Taking

@@ -15,7 +15,7 @@ use Rattle.ax_tokens.proofs.Back.{gap_rest_here, gap_back, token_starts, token_b
 use Rattle.ax_tokens.proofs.Levels.{place_last, depth_here}
 use Rattle.ax_tokens.proofs.Steps.{token_some}
 
--- a token in front, which is none too deep, is read, and the gap behind it
+-- a token in front, which is none too deep, is read, and the gap after it
 read_token : (n limit at next_at : ℕ) (before : List PlainToken) (t : PlainToken) (octets rest next : List ℕ) → front_read octets ≡ token t.kind t.text rest → t ≡ token_at t.kind t.text at → gap_rest rest ≡ next
     → is_deep t.kind limit (before ++ t ∷ []) ≡ false → at + length t.text + (length rest - length next) ≡ next_at
     → read (suc n) limit before at octets ≡ read n limit (before ++ t ∷ []) next_at next
@@ -34,19 +34,19 @@ shallow_in : (limit : ℕ) (before ts : List PlainToken) (t : PlainToken) → Is
 shallow_in limit before ts t h =
     shallow_by t.kind limit (before ++ t ∷ []) (λ k. subst (λ d. d ≤ limit) (depth_here before ts t) (h (length before) t (place_last before ts t) k))
 
--- in front of rest no gap begins behind tokens and their gaps
+-- in front of rest no gap begins after tokens and their gaps
 starts : (at : ℕ) (ts : List PlainToken) (octets rest : List ℕ) → BeginsNoGap rest → AreTokensWithGaps at ts octets rest → BeginsNoGap (octets ++ rest)
 starts at [] octets rest h e = subst (λ o. BeginsNoGap (o ++ rest)) (sym e) h
 starts at (t ∷ ts) octets rest h (gap, more, e, f, u, is_text, follows, is_gap, each) =
     subst (λ o. BeginsNoGap o) (sym (ap (λ o. o ++ rest) e ∙ append_assoc t.text (gap ++ more) rest)) (token_starts t.kind t.text ((gap ++ more) ++ rest) is_text)
 
--- what is left to be read in m steps, behind the tokens
+-- what is left to be read in m steps, after the tokens
 pub record Left (limit : ℕ) (all : List PlainToken) (at : ℕ) (rest : List ℕ) (n : ℕ) (before : List PlainToken) (from : ℕ) (octets : List ℕ) : Type 0 where
   pub steps : ℕ
   pub enough : length rest < steps
   pub same : read n limit before from octets ≡ read steps limit all at rest
 
--- one token, and then what is left behind it
+-- one token, and then what is left after it
 left_behind : (n limit at next_at end last : ℕ) (before all whole : List PlainToken) (t : PlainToken) (octets next rest : List ℕ) → read (suc n) limit before at octets ≡ read n limit (before ++ t ∷ []) next_at next → all ≡ whole → end ≡ last
     → Left limit all end rest n (before ++ t ∷ []) next_at next → Left limit whole last rest (suc n) before at octets
 left_behind n limit at next_at end last before all whole t octets next rest one e f left =
@@ -77,7 +77,7 @@ read_tokens (t ∷ ts) (suc n) limit at before octets rest lt no_gap within (gap
     (read_token n limit at (t.to + length gap) before t (octets ++ rest) behind (more ++ rest) front is next (shallow_in limit before ts t within) place) group end
     (read_tokens ts n limit (t.to + length gap) (before ++ t ∷ []) more rest (omega arith) no_gap (subst (λ x. IsWithin limit x) (sym group) within) each)
 
--- what is left of a text behind its first gap
+-- what is left of a text after its first gap
 front_left : (text octets after rest : List ℕ) (limit at end last : ℕ) (ts : List PlainToken) → octets ≡ after → length text - length after ≡ at → end ≡ last → Left limit ts end rest (suc (length after)) [] at after
     → (m : ℕ) × (length rest < m) × (read (suc (length octets)) limit [] (length text - length octets) octets ≡ read m limit ts last rest)
 front_left text octets after rest limit at end last ts e place f left = (
@@ -86,7 +86,7 @@ front_left text octets after rest limit at end last ts e place f left = (
   (λ i. read (suc (length (e i))) limit [] (length text - length (e i)) (e i)) ∙ (λ i. read (suc (length after)) limit [] (place i) after) ∙ left.same ∙ (λ i. read left.steps limit ts (f i) rest),
 )
 
--- the tokens of a front are read, and then what is behind it
+-- the tokens of a front are read, and then what is after it
 pub read_front : (text : List ℕ) (limit : ℕ) (ts : List PlainToken) (front rest : List ℕ) → text ≡ front ++ rest → BeginsNoGap rest → IsWithin limit ts → Lexes ts front rest
     → (m : ℕ) × (length rest < m) × (reading text limit ≡ read m limit ts (length front) rest)
 read_front text limit ts front rest e no_gap within h =

@@ -38,7 +38,7 @@ str_ends : (xs : List ℕ) → Stops is_string_octet xs → (get_or xs 0 0 ≡ q
 str_ends [] h no_quote = tt
 str_ends (x ∷ xs) h no_quote = (h, λ e. no_quote e (omega arith))
 
--- the content of a Str, behind its first quote
+-- the content of a Str, after its first quote
 rest_is : (x : ℕ) (rest : List ℕ) → take (length (x ∷ rest) - 1) (drop 1 (x ∷ rest)) ≡ rest
 rest_is x rest = take_all (length (x ∷ rest) - 1) rest (omega arith)
 

@@ -33,7 +33,7 @@ excess_is : (ts : List PlainToken) → excess ts ≡ opens ts - closes ts
 unfolding opens closes
 excess_is ts = refl
 
--- the excess of the tokens from u on, and of those behind u, behind one more token
+-- the excess of the tokens from u on, and of those after u, after one more token
 level_cases : (k : TokenKind) (o c g : ℕ) → max ((o + open_one k) - (c + close_one k)) (level_behind k g) ≡ level_behind k (max (o - c) g)
 unfolding open_one close_one
 level_cases Word o c g = omega arith
@@ -55,14 +55,14 @@ first_excess t = let e : (0 + open_one t.kind) - (0 + close_one t.kind) ≡ open
 excess_push : (ts : List PlainToken) (t : PlainToken) → excess (ts ++ t ∷ []) ≡ (opens ts + open_one t.kind) - (closes ts + close_one t.kind)
 excess_push ts t = excess_is (ts ++ t ∷ []) ∙ (λ i. opens_push ts t i - closes_push ts t i)
 
--- the level behind one more token
+-- the level after one more token
 pub level_push : (ts : List PlainToken) (t : PlainToken) → greatest_excess (ts ++ t ∷ []) ≡ level_behind t.kind (greatest_excess ts)
 level_push [] t = ap (λ e. max e 0) (excess_push [] t ∙ first_excess t) ∙ level_one t.kind
 level_push (u ∷ ts) t =
     (λ i. max (excess_push (u ∷ ts) t i) (level_push ts t i)) ∙ level_cases t.kind (opens (u ∷ ts)) (closes (u ∷ ts)) (greatest_excess ts)
     ∙ ap (λ e. level_behind t.kind (max e (greatest_excess ts))) (sym (excess_is (u ∷ ts)))
 
--- the token in question is behind the others
+-- the token in question is after the others
 last_token : (limit : ℕ) (ts : List PlainToken) (t : PlainToken) (i : ℕ) → i ≡ length ts → greatest_excess (ts ++ t ∷ []) ≤ limit → depth_of (ts ++ t ∷ []) i ≤ limit
 last_token limit ts t i e h = rw (take_all (i + 1) (ts ++ t ∷ []) (omega (arith, length_push ts t))) h
 

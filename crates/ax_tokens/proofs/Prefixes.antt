@@ -23,7 +23,7 @@ stop_case : (b : Bool) (p : ℕ → Bool) (x : ℕ) (xs : List ℕ) → p x ≡ 
 stop_case true p x xs e ih = rw (one_more (prefix_len p xs)) ih
 stop_case false p x xs e ih = e
 
--- the octet behind the front fails
+-- the octet after the front fails
 pub prefix_stops : (p : ℕ → Bool) (xs : List ℕ) → Stops p (drop (prefix_len p xs) xs)
 prefix_stops p [] = tt
 prefix_stops p (x ∷ xs) = stop_case (p x) p x xs refl (prefix_stops p xs)

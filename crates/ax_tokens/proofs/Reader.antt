@@ -9,7 +9,7 @@ use Rattle.ax_tokens.specs.declared.token.TokenKind.TheVariants.{Word, Str, Open
 use Rattle.ax_tokens.specs.declared.token.LexError.{LexError}
 use Rattle.ax_tokens.specs.declared.token.LexError.TheVariants.{BadByte, TooDeep, OutOfMemory}
 
--- what is left behind the gap in front, and behind the rest of a comment and the gap that it begins
+-- what is left after the gap in front, and after the rest of a comment and the gap that it begins
 abbrev mutual
   pub gap_rest : List ℕ → List ℕ
   gap_rest [] = []
@@ -19,7 +19,7 @@ abbrev mutual
   comment_rest [] = []
   comment_rest (x ∷ xs) = cond (x == line_feed) (gap_rest xs) (comment_rest xs)
 
--- what stands in front: nothing, no token as far as that place, or a token and the octets behind it
+-- what stands in front: nothing, no token as far as that place, or a token and the octets after it
 pub data Front : Type 0 where
   nothing : Front
   stop : ℕ → Front
@@ -55,7 +55,7 @@ read_on go limit before at (token kind text rest) =
     cond (is_deep kind limit (before ++ token_at kind text at ∷ [])) (Err (TooDeep (length before)))
     (go (before ++ token_at kind text at ∷ []) (at + length text + (length rest - length (gap_rest rest))) (gap_rest rest))
 
--- the answer for octets at a place, behind those tokens, by fewer than n steps
+-- the answer for octets at a place, after those tokens, by fewer than n steps
 abbrev pub read : ℕ → ℕ → List PlainToken → ℕ → List ℕ → Result (List PlainToken) LexError
 read zero limit before at octets = Err OutOfMemory
 read (suc n) limit before at octets = read_on (read n limit) limit before at (front_read octets)

@@ -37,7 +37,7 @@ lexed_none text limit n h = record {
 regroup : (more text gap rest : List ℕ) → (more ++ (text ++ gap)) ++ rest ≡ more ++ (text ++ (gap ++ rest))
 regroup more text gap rest = append_assoc more (text ++ gap) rest ∙ ap (λ x. more ++ x) (append_assoc text gap rest)
 
--- one more token and the gap behind it
+-- one more token and the gap after it
 tokens_push : (t : PlainToken) (gap rest : List ℕ) → IsTokenText t.kind t.text → MayFollow t.kind (gap ++ rest) → IsGap rest gap → (ts : List PlainToken) (at : ℕ) (octets : List ℕ)
     → t.from ≡ at + length octets → t.to ≡ t.from + length t.text → AreTokensWithGaps at ts octets (t.text ++ (gap ++ rest)) → AreTokensWithGaps at (ts ++ t ∷ []) (octets ++ (t.text ++ gap)) rest
 tokens_push t gap rest is_text follows is_gap [] at octets from to h =
@@ -87,7 +87,7 @@ token_some Close text h = omega (arith, ap length h)
 place_of : (text front rest : List ℕ) → text ≡ front ++ rest → length front ≡ length text - length rest
 place_of text front rest e = omega (arith, ap length e, length-append front rest)
 
--- a token is found, and the gap behind it
+-- a token is found, and the gap after it
 pub lexed_push : (text : List ℕ) (limit : ℕ) (ts all : List PlainToken) (rest after next : List ℕ) (t : PlainToken) (n k : ℕ) → LexedTo text limit ts rest → TokenInFront rest t.kind n → GapInFront after k
     → level_behind t.kind (greatest_excess ts) ≤ limit → t.text ≡ take n rest → after ≡ drop n rest → next ≡ drop k after → t.from ≡ length text - length rest → t.to ≡ t.from + n → all ≡ ts ++ t ∷ []
     → LexedTo text limit all next

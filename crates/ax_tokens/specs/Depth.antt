@@ -35,7 +35,7 @@ depth_of tokens i = greatest_excess (take (i + 1) tokens)
 abbrev pub IsWithin : ℕ → List PlainToken → Type 0
 IsWithin limit tokens = (i : ℕ) (t : PlainToken) → slice_get tokens i ≡ Some t → t.kind ≡ Open → depth_of tokens i ≤ limit
 
--- the level behind a token, from the level before it: a Close without an Open leaves it at 0
+-- the level after a token, from the level before it: a Close without an Open leaves it at 0
 abbrev pub level_behind : TokenKind → ℕ → ℕ
 level_behind Open level = level + 1
 level_behind Close level = level - 1

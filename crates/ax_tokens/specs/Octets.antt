@@ -9,7 +9,7 @@ line_feed = 0x0A
 abbrev pub hash : ℕ
 hash = 0x23
 
--- the octet in front of and behind the content of a Str
+-- the octet in front of and after the content of a Str
 abbrev pub quote : ℕ
 quote = 0x22
 

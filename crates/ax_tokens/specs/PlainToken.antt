@@ -3,7 +3,7 @@ use Rattle.std.specs.Prelude.{ℕ, List, map}
 use Rattle.ax_tokens.specs.declared.token.TokenKind.{TokenKind}
 use Rattle.ax_tokens.specs.declared.token.Token.{Token}
 
--- the kind, the octets of the whole slice, the place of its first octet and the place behind its last
+-- the kind, the octets of the whole slice, the place of its first octet and the place after its last
 pub record PlainToken : Type 0 where
   pub kind : TokenKind
   pub text : List ℕ

@@ -44,7 +44,7 @@ pub fn running_level()
     ensures { (limit : ℕ) (tokens : List PlainToken) → (IsWithin limit tokens ↔ KeepsWithin limit 0 tokens) }
 {}
 
-/// Tokens that are printed with one space between, with a line feed behind them or without, are the tokens
+/// Tokens that are printed with one space between, with a line feed after them or without, are the tokens
 /// of that text.
 pub fn printed_tokens()
     ensures text { (ts : List (TokenKind × List ℕ)) (limit : ℕ) → AreTokenTexts ts → IsWithin limit (placed 0 ts) → AreTokensOf (spaced ts) limit (placed 0 ts) }

@@ -15,7 +15,7 @@ use crate::octets::{is_separator, is_string_octet, is_word_octet};
 use crate::token::{LexError, Token, TokenKind, Tokens};
 use std::alloc::Global;
 
-/// How many octets behind the first octet of a comment belong to it.
+/// How many octets after the first octet of a comment belong to it.
 #[tactic(auto, unfolding(crate::specs::Octets::is_comment_octet))]
 fn comment_length(octets: &[u8]) -> usize
     ensures longest { result ≡ prefix_len is_comment_octet octets.now }
@@ -100,7 +100,7 @@ fn front_token(octets: &[u8]) -> Result<(TokenKind, usize), usize>
     }
 }
 
-/// The level behind a token, or None for an Open past the depth.
+/// The level after a token, or None for an Open past the depth.
 fn next_level(level: u32, kind: TokenKind, depth: u32) -> Option<u32>
     requires { level ≤ depth }
     ensures some { IfSome result (λ next. (next ≡ level_behind kind level) × (next ≤ depth)) }

@@ -28,7 +28,7 @@ pub struct Token<'t> {
     pub text: &'t [u8],
     /// The place of its first octet in the text, from 0.
     pub from: u32,
-    /// The place behind its last octet.
+    /// The place after its last octet.
     pub to: u32,
 }
 

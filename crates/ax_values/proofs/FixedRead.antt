@@ -3,7 +3,7 @@ use Rattle.std.proofs.Common.{◌≡◌, ℕ, ◌+◌, ◌^◌, ◌<◌, ◌≤�
 use Rattle.std.proofs.lemmas.List.{drop-drop, drop_all}
 use Rattle.ax_bits.proofs.Pieces.{number-word}
 use Rattle.ax_bits.specs.Bits.{number_of, word}
-use Rattle.ax_model.proofs.Reader.{members_value}
+use Rattle.ax_model.specs.Reader.{members_value}
 use Rattle.ax_model.specs.InBounds.{MembersInBounds}
 use Rattle.ax_model.specs.Plain.{member_tree, members_tree, value_tree, values_tree}
 use Rattle.ax_model.specs.Tree.{MembersTree, no_members, member_and, MemberTree, named, spare, ValueTree, ValuesTree, number, no_values, value_and}
@@ -15,7 +15,7 @@ use Rattle.ax_values.proofs.Onto.{values_onto, values_onto_none, values_onto_mor
 pub number_read : (b : List ℕ) (at w n : ℕ) → n < 2 ^ w → word w n ≡ take w (drop at b) → number n ≡ number (number_of (take w (drop at b)))
 number_read b at w n lt e = ap (λ n. number n) (sym (number-word w n lt) ∙ ap number_of e)
 
--- ---- one member and those behind it
+-- ---- one member and those after it
 
 width_more : (m : MemberTree) (ms : MembersTree) → members_width (member_and m ms) ≡ members_width (member_and m no_members) + members_width ms
 width_more (named name f) ms = omega arith

@@ -7,7 +7,6 @@ pub mod NextEntry
 pub mod Onto
 pub mod RecordSlots
 pub mod Repeating
-pub mod AtOctets
 pub mod Written
 pub mod WrittenRuns
 pub mod WrittenKinds

@@ -19,7 +19,7 @@ use Rattle.ax_model.specs.declared.value.Entry.{Entry}
 use Rattle.ax_values.proofs.Written.{written_none, written_more, written_all, written_room, first_room}
 use Rattle.ax_values.specs.Writing.{IsWrittenTo, EntryShape, entry_canon}
 
--- the slots behind the first n
+-- the slots after the first n
 abbrev pub slots_behind : ℕ → SlotsTree → SlotsTree
 slots_behind zero ss = ss
 slots_behind (suc n) no_slots = no_slots
@@ -39,7 +39,7 @@ kind_further m zero ss = ap (λ k. kind_behind k ss) (let e : m ≡ 0 + m = omeg
 kind_further m (suc n) no_slots = refl
 kind_further m (suc n) (slot_and s ss) = kind_further m n ss ∙ ap (λ k. kind_behind k (slot_and s ss)) (let e : suc (n + m) ≡ suc n + m = omega arith in e)
 
--- the first entry is of the slot behind `gap` others, of which the first has the number s
+-- the first entry is of the slot after `gap` others, of which the first has the number s
 record NextIs (s : ℕ) (ss : SlotsTree) (t : ℕ) (v : ValueTree) (es : EntriesTree) : Type 0 where
   gap : ℕ
   number : t ≡ s + gap
@@ -90,7 +90,7 @@ next_entry s no_slots t v es h = absurd h
 next_entry s (slot_and spare_slot ss) t v es h = next_further s spare_slot ss t v es refl refl (next_entry (s + 1) ss t v es h)
 next_entry s (slot_and (subitem name k) ss) t v es h = at_subitem s name k ss t v es (next_entry (s + 1) ss t v es) (t == s) refl h
 
--- ---- what is left of the entries, with the slots behind the first i
+-- ---- what is left of the entries, with the slots after the first i
 
 kind_bounds : (i : ℕ) (ss : SlotsTree) (k : KindTree) → SlotsInBounds ss → kind_behind i ss ≡ Some k → InBounds k
 kind_bounds i no_slots k h e = absurd (let none : ◌≡◌ {A = Option KindTree} None (Some k) = e in cc)
@@ -171,7 +171,7 @@ entries_ended ss old now whole left h e =
 
 -- ---- the marks of the entries
 
--- the entries before these are marked, and no slot behind theirs
+-- the entries before these are marked, and no slot after theirs
 pub record MarksLeft (ss : SlotsTree) (all marks : List ℕ) (es : List Entry) : Type 0 where
   pub slots : ℕ
   pub size : length marks ≡ 126

@@ -1,12 +1,12 @@
 -- What was encoded is read back, and what was read can be encoded.
-use Rattle.std.proofs.Common.{◌≡◌, ◌≢◌, ℕ, ◌+◌, ◌*◌, ◌/◌, ◌%◌, ◌<◌, ◌≤◌, List, [], ◌∷◌, ◌++◌, length, Result, sym, ◌∙◌, ap, arith, subst, length-append}
+use Rattle.std.proofs.Common.{◌≡◌, ◌≢◌, ℕ, ◌+◌, ◌<◌, ◌≤◌, List, [], ◌∷◌, length, sym, ◌∙◌, ap, arith, subst, length-append}
 use Rattle.std.specs.List.{AllByRecursion}
 use Rattle.ax_bits.proofs.Words.{length-bits}
 use Rattle.ax_bits.specs.Bits.{bits}
 use Rattle.ax_model.proofs.BodyReader.{record_some}
 use Rattle.ax_model.proofs.CanonFramed.{length-framed, framed_is}
 use Rattle.ax_model.proofs.RecordLaws.{flawless_body_canon_spells, body_canon_shortest, record_shape}
-use Rattle.ax_model.specs.Blocks.{BlockTree, read_block, opaque_block, Fits}
+use Rattle.ax_model.specs.Blocks.{read_block, opaque_block, Fits}
 use Rattle.ax_model.specs.Bodies.{RecordShape, RecordsSpell, SpellsBody, CanonBody}
 use Rattle.ax_model.specs.CanonicalOctets.{octets_of, framed, canon_length}
 use Rattle.ax_model.specs.OfCode.{HasNoFlaw, BlockFits, block_octets, block_length}
@@ -17,8 +17,7 @@ use Rattle.ax_model.specs.declared.record.Block.{Block}
 use Rattle.ax_model.specs.declared.record.Block.TheVariants as BlockOf
 use Rattle.ax_model.specs.declared.spec.Spec.{Spec}
 use Rattle.ax_values.proofs.WrittenRecords.{body_bits}
-use Rattle.ax_values.specs.Decoding.{DecodesAs, ReadsBack, IsReadOf}
-use Rattle.ax_values.specs.declared.error.DecodeError.{DecodeError}
+use Rattle.ax_values.specs.Decoding.{ReadsBack, IsReadOf}
 
 -- ---- what was encoded is read back
 

@@ -1,4 +1,4 @@
--- Pieces that are written one behind the other.
+-- Pieces that are written one after the other.
 use Rattle.std.proofs.Common.{◌≡◌, ℕ, ◌≤◌, Bool, true, false, List, [], ◌∷◌, ◌++◌, length, refl, sym, ◌∙◌, ap, arith, subst, append_assoc, append-nil, length-append}
 use Rattle.ax_bits.proofs.Outputs.{appends_none, appends_more}
 use Rattle.ax_bits.proofs.Words.{length-word}
@@ -12,7 +12,7 @@ use Rattle.ax_model.specs.Shape.{NumberShape, MembersShape}
 use Rattle.ax_model.specs.Tree.{MembersTree, no_members, member_and, MemberTree, named, spare, ValueTree, number, ValuesTree, no_values, value_and}
 use Rattle.ax_model.specs.declared.kind.Member.{Member}
 use Rattle.ax_model.specs.declared.value.Value.{Value}
-use Rattle.ax_values.specs.Reading.{fx_bit}
+use Rattle.ax_reader.specs.Reading.{fx_bit}
 use Rattle.ax_values.specs.Writing.{IsWrittenTo}
 
 pub written_none : (out : Out) (whole : List ℕ) → IsWrittenTo out out whole whole

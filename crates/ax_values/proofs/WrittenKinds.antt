@@ -1,4 +1,4 @@
--- Occurrences, contents and entries that are written one behind the other.
+-- Occurrences, contents and entries that are written one after the other.
 use Rattle.std.proofs.Common.{◌≡◌, ℕ, suc, ◌+◌, ◌-◌, ◌<◌, ◌≤◌, List, [], ◌∷◌, ◌++◌, length, drop, get_or, set, Option, Some, None, refl, sym, ◌∙◌, ap, arith, subst, length-append, add-one, drop-cons}
 use Rattle.std.proofs.lemmas.List.{drop_all}
 use Rattle.ax_bits.proofs.Outputs.{appends_more}
@@ -61,7 +61,7 @@ pub count_of : (vs : List Value) → value_count (values_tree vs) ≡ length vs
 count_of [] = refl
 count_of (v ∷ vs) = ap suc (count_of vs)
 
--- an octet, and what is behind it
+-- an octet, and what is after it
 pub octet_and : (old mid new : Out) (n m : ℕ) (rest : List ℕ) → n ≡ m → Appends old mid (word 8 n) → Appends mid new rest → Appends old new (word 8 m ++ rest)
 octet_and old mid new n m rest e a b = subst (λ n. Appends old new (word 8 n ++ rest)) e (appends_more old mid new (word 8 n) rest (word 8 n ++ rest) refl a b)
 

@@ -1,4 +1,4 @@
--- Occurrences by FX and parts that are written one behind the other.
+-- Occurrences by FX and parts that are written one after the other.
 use Rattle.std.proofs.Common.{◌≡◌, ℕ, suc, ◌<◌, ◌≤◌, ◌==◌, Bool, true, false, not, List, [], ◌∷◌, ◌++◌, length, map, refl, sym, ◌∙◌, ap, arith, subst, append_assoc, length-append}
 use Rattle.std.proofs.lemmas.Bool.Decides.{nat_tests}
 use Rattle.std.specs.List.{AllByRecursion}
@@ -13,7 +13,7 @@ use Rattle.ax_model.specs.Tree.{FixedTree, MembersTree, no_lists}
 use Rattle.ax_model.specs.declared.kind.Part.{Part}
 use Rattle.ax_model.specs.declared.value.Value.{Value}
 use Rattle.ax_values.proofs.Written.{written_none, written_more, written_all, written_room, first_room}
-use Rattle.ax_values.specs.Reading.{fx_bit}
+use Rattle.ax_reader.specs.Reading.{fx_bit}
 use Rattle.ax_values.specs.Writing.{IsWrittenTo}
 
 -- whether others follow

@@ -3,30 +3,14 @@ use Rattle.std.specs.Prelude.{◌≡◌, ◌≢◌, ℕ, ◌+◌, ◌-◌, ◌*�
 use Rattle.ax_bits.specs.Bits.{bits}
 use Rattle.ax_model.specs.Blocks.{BlockTree, read_block, opaque_block, IsFramed}
 use Rattle.ax_model.specs.Bodies.{SpellsRecord, FailsRecord, SpellsBody, FailsBody}
-use Rattle.ax_model.specs.Failing.{IsFault}
 use Rattle.ax_model.specs.Plain.{spec_tree, block_tree}
 use Rattle.ax_model.specs.Specification.{SpecTree}
-use Rattle.ax_model.specs.Spelling.{IsSpelling}
-use Rattle.ax_model.specs.Tree.{KindTree, ValueTree, EntriesTree}
+use Rattle.ax_model.specs.Tree.{EntriesTree}
 use Rattle.ax_model.specs.declared.fault.BodyFault.{BodyFault}
 use Rattle.ax_model.specs.declared.record.Block.{Block}
 use Rattle.ax_model.specs.declared.spec.Spec.{Spec}
 use Rattle.ax_values.specs.declared.error.DecodeError.{DecodeError}
 use Rattle.ax_values.specs.declared.error.DecodeError.TheVariants as Decoding
-
--- ---- a kind
-
--- the octets of the body from `at` up to `end` spell the value
-pub record IsSpelledAt (k : KindTree) (body : List ℕ) (at end : ℕ) (v : ValueTree) : Type 0 where
-  pub forwards : at ≤ end
-  pub within : end ≤ length body
-  pub spelling : IsSpelling k v (bits (take (end - at) (drop at body)))
-
--- what is left of the body from octet `at` on fails to spell a value of the kind; the fault's bit is one of the body
-pub record IsFaultAt (k : KindTree) (body : List ℕ) (at : ℕ) (fault : BodyFault) : Type 0 where
-  pub place : ℕ
-  pub fails : IsFault k (bits (drop at body)) place fault.cause
-  pub bit : fault.bit ≡ 8 * at + place
 
 -- ---- a record
 

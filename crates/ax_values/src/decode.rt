@@ -8,8 +8,9 @@ ghost use Rattle.ax_model.specs.InBounds.{InBounds};
 ghost use Rattle.ax_model.specs.Plain.{kind_tree, value_tree, spec_tree, record_tree, records_tree, block_tree};
 ghost use Rattle.ax_model.specs.Tree.{ValueTree, EntriesTree};
 ghost use Rattle.ax_model.specs.declared.fault.BodyFault.{BodyFault};
-ghost use Rattle.ax_values.specs.Decoding.{IsSpelledAt, IsFaultAt, IsRecordAt, IsRecordFaultAt, IsReadOf, IsBodyFault, Answers, AnswersFault, Names};
-ghost use Rattle.ax_values.specs.Reading.{IsMaskOf, record_slot_list};
+ghost use Rattle.ax_reader.specs.Reading.{IsSpelledAt, IsFaultAt};
+ghost use Rattle.ax_values.specs.Decoding.{IsRecordAt, IsRecordFaultAt, IsReadOf, IsBodyFault, Answers, AnswersFault, Names};
+ghost use Rattle.ax_reader.specs.Reading.{IsMaskOf, record_slot_list};
 
 use crate::error::DecodeError;
 use crate::kinds::{copy_octets, decode_value};
@@ -19,7 +20,7 @@ use ax_model::{Block, Kind, RawBlock, Record, Records, Spec, Value};
 use std::alloc::Global;
 
 /// Reads the value of a kind that begins at octet `at` of a body. The kind is one of a specification without flaw: an
-/// item's, a subitem's or a counted body's. Ok is the value and the octet behind it; the octets between are exactly a
+/// item's, a subitem's or a counted body's. Ok is the value and the octet after it; the octets between are exactly a
 /// spelling of it. Fault is the first fault of what is left of the body, and its bit is one of the body. There is one
 /// answer: where such octets stand there, it is that value, and where what is left fails, it is that fault.
 pub fn decode_kind(
@@ -40,7 +41,7 @@ pub fn decode_kind(
 }
 
 /// Reads the record that begins at octet `at` of a body, over a specification without flaw. Ok is the record and the
-/// octet behind it; the octets between are exactly a spelling of it. Fault is the first fault of what is left of the
+/// octet after it; the octets between are exactly a spelling of it. Fault is the first fault of what is left of the
 /// body, and its bit is one of the body. There is one answer, as for a kind.
 pub fn decode_record(
     alloc: Global,
@@ -103,7 +104,7 @@ fn decode_body(alloc: Global, spec: &Spec, body: &[u8]) -> Result<Records, Decod
     Ok(made)
 }
 
-/// The record that begins at octet `at` of the body, and the octet behind it, by the mask of the UAP.
+/// The record that begins at octet `at` of the body, and the octet after it, by the mask of the UAP.
 fn decode_masked(
     alloc: Global,
     spec: &Spec,

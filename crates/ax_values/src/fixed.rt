@@ -1,7 +1,7 @@
 //! Runs of bits of a known length: elements, spares and groups.
 ghost use Rattle.std.specs.Prelude.{◌≡◌, ◌+◌, ◌*◌, ◌<◌, ◌≤◌, length, drop, take, IfOk, OnOk};
 ghost use Rattle.ax_bits.specs.Bits.{bits, number_of};
-ghost use Rattle.ax_model.proofs.Reader.{fixed_value, members_value};
+ghost use Rattle.ax_model.specs.Reader.{fixed_value, members_value};
 ghost use Rattle.ax_model.specs.InBounds.{IsWidth, FixedInBounds, MembersInBounds};
 ghost use Rattle.ax_model.specs.Plain.{fixed_tree, member_tree, members_tree, value_tree, values_tree};
 ghost use Rattle.ax_model.specs.Tree.{number, member_and, no_members, value_and, no_values};
@@ -11,7 +11,7 @@ use ax_bits::bits_at;
 use ax_model::{Fixed, Member, Members, Value, Values};
 use std::alloc::{AllocError, Global};
 
-/// The number in the `width` bits from bit `at` of the body on, which is moved behind them.
+/// The number in the `width` bits from bit `at` of the body on, which is moved after them.
 fn decode_number(body: &[u8], at: &mut u32, width: u32) -> u128
     requires width { IsWidth width }
     requires within { at.old + width ≤ 8 * length body.now }
@@ -24,7 +24,7 @@ fn decode_number(body: &[u8], at: &mut u32, width: u32) -> u128
     number
 }
 
-/// The value in the bits from bit `at` of the body on, which is moved behind them.
+/// The value in the bits from bit `at` of the body on, which is moved after them.
 #[cycle(fixed)]
 pub(crate) fn decode_fixed(
     alloc: Global,

@@ -5,7 +5,8 @@ ghost use Rattle.ax_model.specs.InBounds.{InBounds, SlotsInBounds};
 ghost use Rattle.ax_model.specs.Plain.{kind_tree, slot_tree, slots_tree, value_tree, values_tree, entries_tree};
 ghost use Rattle.ax_model.specs.Tree as Tree;
 ghost use Rattle.ax_model.specs.declared.fault.BodyCause.TheVariants as Cause;
-ghost use Rattle.ax_values.specs.Reading.{Gets, IsLost, IsSlotRead, IsSlotLost, SlotInBounds, kind_read, entries_at};
+ghost use Rattle.ax_reader.specs.Reading.{Gets, SlotInBounds, kind_read, entries_at};
+ghost use Rattle.ax_values.specs.Reading.{HasFailed, IsSlotRead, HasSlotFailed};
 
 use crate::error::DecodeError;
 use crate::slots::slots_mask;
@@ -14,7 +15,7 @@ use ax_fspec::{Presence, read_presence};
 use ax_model::{BodyCause, BodyFault, Entries, Entry, Kind, Octets, Slot, Slots, Value, Values};
 use std::alloc::{AllocError, Global};
 
-/// The value of a kind that begins at octet `at` of the body, and the octet behind it.
+/// The value of a kind that begins at octet `at` of the body, and the octet after it.
 #[cycle(kind)]
 pub(crate) fn decode_value(
     alloc: Global,
@@ -26,7 +27,7 @@ pub(crate) fn decode_value(
     requires body { length body.now ≤ 65532 }
     requires at { at ≤ length body.now }
     ensures ok { IfOk result (λ r. Gets (kind_read (kind_tree kind.now) body.now at) body.now at r.1 (value_tree r.0)) }
-    ensures err { IfErr result (λ e. IsLost (kind_read (kind_tree kind.now) body.now at) at e) }
+    ensures err { IfErr result (λ e. HasFailed (kind_read (kind_tree kind.now) body.now at) at e) }
 {
     match kind {
         Kind::Fixed(fixed) => decode_single(alloc, fixed, body, at),
@@ -70,7 +71,7 @@ fn octet_at(body: &[u8], at: u32) -> Result<u8, BodyFault>
     Ok(body[at as usize])
 }
 
-/// The occurrences of a counted item, and the octet behind them.
+/// The occurrences of a counted item, and the octet after them.
 #[tactic(auto, using(crate::proofs::Counting::counts))]
 #[cycle(kind)]
 fn decode_counted(
@@ -83,7 +84,7 @@ fn decode_counted(
     requires body { length body.now ≤ 65532 }
     requires at { at ≤ length body.now }
     ensures ok { IfOk result (λ r. Gets (kind_read (Tree.counted (kind_tree inner.now)) body.now at) body.now at r.1 (Tree.occurrences (values_tree r.0))) }
-    ensures err { IfErr result (λ e. IsLost (kind_read (Tree.counted (kind_tree inner.now)) body.now at) at e) }
+    ensures err { IfErr result (λ e. HasFailed (kind_read (Tree.counted (kind_tree inner.now)) body.now at) at e) }
 {
     let count = octet_at(body, at)?;
     let mut made = Values::new(alloc);
@@ -96,12 +97,12 @@ fn decode_counted(
     Ok((made, here))
 }
 
-/// The content of an explicit item, and the octet behind it.
+/// The content of an explicit item, and the octet after it.
 fn decode_explicit(alloc: Global, body: &[u8], at: u32) -> Result<(Octets, u32), DecodeError>
     requires body { length body.now ≤ 65532 }
     requires at { at ≤ length body.now }
     ensures ok { IfOk result (λ r. Gets (kind_read Tree.explicit body.now at) body.now at r.1 (Tree.content_octets r.0)) }
-    ensures err { IfErr result (λ e. IsLost (kind_read Tree.explicit body.now at) at e) }
+    ensures err { IfErr result (λ e. HasFailed (kind_read Tree.explicit body.now at) at e) }
 {
     let length = octet_at(body, at)?;
     if length == 0 {
@@ -133,7 +134,7 @@ pub(crate) fn copy_octets(alloc: Global, octets: &[u8]) -> Result<Octets, AllocE
     Ok(made)
 }
 
-/// The marked subitems of a compound, and the octet behind them.
+/// The marked subitems of a compound, and the octet after them.
 #[cycle(kind)]
 #[tactic(auto, using(crate::proofs::Marking::fields))]
 fn decode_compound(
@@ -146,14 +147,14 @@ fn decode_compound(
     requires body { length body.now ≤ 65532 }
     requires at { at ≤ length body.now }
     ensures ok { IfOk result (λ r. Gets (kind_read (Tree.compound (slots_tree slots.now)) body.now at) body.now at r.1 (Tree.marked (entries_tree r.0))) }
-    ensures err { IfErr result (λ e. IsLost (kind_read (Tree.compound (slots_tree slots.now)) body.now at) at e) }
+    ensures err { IfErr result (λ e. HasFailed (kind_read (Tree.compound (slots_tree slots.now)) body.now at) at e) }
 {
     let mut marked = Presence::empty();
     let here = read_presence(&slots_mask(slots), body, at, &mut marked)?;
     decode_marked(alloc, slots, &marked, body, here)
 }
 
-/// The entries of the marked slots, of which the first begins at octet `at`, and the octet behind them.
+/// The entries of the marked slots, of which the first begins at octet `at`, and the octet after them.
 #[cycle(kind)]
 #[tactic(auto, using(crate::proofs::Marking::at_slots))]
 fn decode_marked(
@@ -169,7 +170,7 @@ fn decode_marked(
     requires body { length body.now ≤ 65532 }
     requires at { at ≤ length body.now }
     ensures ok { IfOk result (λ r. Gets (entries_at (slots_tree slots.now) marked.now body.now at) body.now at r.1 (entries_tree r.0)) }
-    ensures err { IfErr result (λ e. IsLost (entries_at (slots_tree slots.now) marked.now body.now at) at e) }
+    ensures err { IfErr result (λ e. HasFailed (entries_at (slots_tree slots.now) marked.now body.now at) at e) }
 {
     let mut made = Entries::new(alloc);
     let mut here = at;
@@ -183,7 +184,7 @@ fn decode_marked(
     Ok((made, here))
 }
 
-/// Puts the entry of a slot behind the others. Ok is the octet behind it.
+/// Puts the entry of a slot after the others. Ok is the octet after it.
 #[cycle(kind)]
 fn decode_slot(
     alloc: Global,
@@ -198,7 +199,7 @@ fn decode_slot(
     requires at { at ≤ length body.now }
     requires room { length into.old < 126 }
     ensures ok { IfOk result (λ end. IsSlotRead (slot_tree slot.now) number body.now at end into.old into.new) }
-    ensures err { IfErr result (λ e. IsSlotLost (slot_tree slot.now) body.now at e) }
+    ensures err { IfErr result (λ e. HasSlotFailed (slot_tree slot.now) body.now at e) }
 {
     match slot {
         Slot::Spare => Ok(at),

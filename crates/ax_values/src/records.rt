@@ -5,7 +5,8 @@ ghost use Rattle.ax_model.specs.Flaws.{NoFlaw};
 ghost use Rattle.ax_model.specs.Plain.{spec_tree, entries_tree, record_tree};
 ghost use Rattle.ax_model.specs.Specification.{record_slots, record_kind};
 ghost use Rattle.ax_model.specs.Tree.{marked};
-ghost use Rattle.ax_values.specs.Reading.{Gets, IsLost, IsMaskOf, IsSlotRead, IsSlotLost, SlotInBounds, is_subitem, record_slot_list, slot_of_frn, kind_read, entries_at};
+ghost use Rattle.ax_reader.specs.Reading.{Gets, IsMaskOf, SlotInBounds, is_subitem, record_slot_list, slot_of_frn, kind_read, entries_at};
+ghost use Rattle.ax_values.specs.Reading.{HasFailed, IsSlotRead, HasSlotFailed};
 
 use crate::error::DecodeError;
 use crate::kinds::decode_value;
@@ -37,7 +38,7 @@ pub(crate) fn record_mask(spec: &Spec) -> SlotMask
     }
 }
 
-/// The record that begins at octet `at` of the body, and the octet behind it, by the mask of the UAP.
+/// The record that begins at octet `at` of the body, and the octet after it, by the mask of the UAP.
 pub(crate) fn decode_entries(
     alloc: Global,
     spec: &Spec,
@@ -50,7 +51,7 @@ pub(crate) fn decode_entries(
     requires body { length body.now ≤ 65532 }
     requires at { at ≤ length body.now }
     ensures ok { IfOk result (λ r. Gets (kind_read (record_kind (spec_tree spec.now)) body.now at) body.now at r.1 (marked (record_tree r.0))) }
-    ensures err { IfErr result (λ e. IsLost (kind_read (record_kind (spec_tree spec.now)) body.now at) at e) }
+    ensures err { IfErr result (λ e. HasFailed (kind_read (record_kind (spec_tree spec.now)) body.now at) at e) }
 {
     let mut marked = Presence::empty();
     let here = read_presence(mask, body, at, &mut marked)?;
@@ -58,7 +59,7 @@ pub(crate) fn decode_entries(
     Ok((Record { entries }, end))
 }
 
-/// The entries of the marked field reference numbers, of which the first begins at octet `at`, and the octet behind
+/// The entries of the marked field reference numbers, of which the first begins at octet `at`, and the octet after
 /// them.
 fn decode_marked(
     alloc: Global,
@@ -72,7 +73,7 @@ fn decode_marked(
     requires body { length body.now ≤ 65532 }
     requires at { at ≤ length body.now }
     ensures ok { IfOk result (λ r. Gets (entries_at (record_slots (spec_tree spec.now)) marked.now body.now at) body.now at r.1 (entries_tree r.0)) }
-    ensures err { IfErr result (λ e. IsLost (entries_at (record_slots (spec_tree spec.now)) marked.now body.now at) at e) }
+    ensures err { IfErr result (λ e. HasFailed (entries_at (record_slots (spec_tree spec.now)) marked.now body.now at) at e) }
 {
     let mut made = Entries::new(alloc);
     let mut here = at;
@@ -84,7 +85,7 @@ fn decode_marked(
     Ok((made, here))
 }
 
-/// Puts the entry of a field reference number behind the others. Ok is the octet behind it.
+/// Puts the entry of a field reference number after the others. Ok is the octet after it.
 fn decode_item(
     alloc: Global,
     spec: &Spec,
@@ -98,7 +99,7 @@ fn decode_item(
     requires at { at ≤ length body.now }
     requires room { length into.old < 126 }
     ensures ok { IfOk result (λ end. IsSlotRead (slot_of_frn frn spec.now) frn body.now at end into.old into.new) }
-    ensures err { IfErr result (λ e. IsSlotLost (slot_of_frn frn spec.now) body.now at e) }
+    ensures err { IfErr result (λ e. HasSlotFailed (slot_of_frn frn spec.now) body.now at e) }
 {
     let Some(item) = spec.slot(frn) else {
         return Ok(at);

@@ -1,7 +1,7 @@
 //! The masks of the slots of compounds and records.
 ghost use Rattle.std.specs.Prelude.{◌≡◌, ◌≤◌, length, map};
 ghost use Rattle.ax_model.specs.Plain.{slot_tree};
-ghost use Rattle.ax_values.specs.Reading.{IsMaskOf, is_subitem};
+ghost use Rattle.ax_reader.specs.Reading.{IsMaskOf, is_subitem};
 
 use ax_fspec::{Presence, SlotMask};
 use ax_model::{Slot, Slots};

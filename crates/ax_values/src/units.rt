@@ -5,7 +5,8 @@ ghost use Rattle.ax_model.specs.InBounds.{InBounds};
 ghost use Rattle.ax_model.specs.Plain.{fixed_tree, part_tree, value_tree, values_tree, lists_tree};
 ghost use Rattle.ax_model.specs.Tree as Tree;
 ghost use Rattle.ax_model.specs.declared.fault.BodyCause.TheVariants as Cause;
-ghost use Rattle.ax_values.specs.Reading.{Gets, IsLost, kind_read, fx_bit};
+ghost use Rattle.ax_reader.specs.Reading.{Gets, kind_read, fx_bit};
+ghost use Rattle.ax_values.specs.Reading.{HasFailed};
 
 use crate::error::DecodeError;
 use crate::fixed::{decode_fixed, decode_members};
@@ -13,7 +14,7 @@ use ax_bits::bits_at;
 use ax_model::{BodyCause, BodyFault, Fixed, Lists, Parts, Value, Values};
 use std::alloc::Global;
 
-/// The octet behind a unit of `width` bits, whole octets, that begins at octet `at`. RunsOut at its first bit where it
+/// The octet after a unit of `width` bits, whole octets, that begins at octet `at`. RunsOut at its first bit where it
 /// doesn't fit.
 pub(crate) fn unit_end(body: &[u8], at: u32, width: u32) -> Result<u32, BodyFault>
     requires width { (width % 8 ≡ 0) × (width ≤ 524264) }
@@ -34,7 +35,7 @@ pub(crate) fn unit_end(body: &[u8], at: u32, width: u32) -> Result<u32, BodyFaul
 }
 
 /// Whether the FX bit at bit `at` of the body is set.
-#[tactic(auto, using(crate::proofs::AtOctets::fx_read))]
+#[tactic(auto, using(ax_reader::proofs::AtOctets::fx_read))]
 fn has_fx(body: &[u8], at: u32) -> bool
     requires { at < 8 * length body.now }
     ensures { take 1 (drop at (bits body.now)) ≡ fx_bit result ∷ [] }
@@ -42,8 +43,8 @@ fn has_fx(body: &[u8], at: u32) -> bool
     bits_at(body, at, 1) == 1
 }
 
-/// The value of a fixed kind that stands by itself, and the octet behind it.
-#[tactic(auto, using(crate::proofs::Continuing::errors, crate::proofs::AtOctets::fixed_loses))]
+/// The value of a fixed kind that stands by itself, and the octet after it.
+#[tactic(auto, using(crate::proofs::Continuing::errors, ax_reader::proofs::AtOctets::fixed_fails))]
 pub(crate) fn decode_single(
     alloc: Global,
     fixed: &Fixed,
@@ -54,7 +55,7 @@ pub(crate) fn decode_single(
     requires body { length body.now ≤ 65532 }
     requires at { at ≤ length body.now }
     ensures ok { IfOk result (λ r. Gets (kind_read (Tree.fixed (fixed_tree fixed.now)) body.now at) body.now at r.1 (value_tree r.0)) }
-    ensures err { IfErr result (λ e. IsLost (kind_read (Tree.fixed (fixed_tree fixed.now)) body.now at) at e) }
+    ensures err { IfErr result (λ e. HasFailed (kind_read (Tree.fixed (fixed_tree fixed.now)) body.now at) at e) }
 {
     let end = unit_end(body, at, fixed.width() as u32)?;
     let mut bit = 8 * at;
@@ -62,8 +63,8 @@ pub(crate) fn decode_single(
     Ok((value, end))
 }
 
-/// The values of the parts that are present, and the octet behind them.
-#[tactic(auto, using(crate::proofs::Continuing::errors, crate::proofs::Repeating::parts_none, crate::proofs::AtOctets::extended_loses))]
+/// The values of the parts that are present, and the octet after them.
+#[tactic(auto, using(crate::proofs::Continuing::errors, crate::proofs::Repeating::parts_none, ax_reader::proofs::AtOctets::extended_fails))]
 pub(crate) fn decode_parts(
     alloc: Global,
     parts: &Parts,
@@ -74,7 +75,7 @@ pub(crate) fn decode_parts(
     requires body { length body.now ≤ 65532 }
     requires at { at ≤ length body.now }
     ensures ok { IfOk result (λ r. Gets (kind_read (Tree.extended (map part_tree parts.now)) body.now at) body.now at r.1 (Tree.part_values (lists_tree r.0))) }
-    ensures err { IfErr result (λ e. IsLost (kind_read (Tree.extended (map part_tree parts.now)) body.now at) at e) }
+    ensures err { IfErr result (λ e. HasFailed (kind_read (Tree.extended (map part_tree parts.now)) body.now at) at e) }
 {
     let mut made = Lists::new(alloc);
     let mut here = at;
@@ -94,7 +95,7 @@ pub(crate) fn decode_parts(
     }))
 }
 
-/// The values of occurrences by FX, and the octet behind them.
+/// The values of occurrences by FX, and the octet after them.
 #[tactic(auto, using(crate::proofs::Continuing::errors, crate::proofs::Repeating::run_none))]
 pub(crate) fn decode_run(
     alloc: Global,
@@ -106,7 +107,7 @@ pub(crate) fn decode_run(
     requires body { length body.now ≤ 65532 }
     requires at { at ≤ length body.now }
     ensures ok { IfOk result (λ r. Gets (kind_read (Tree.by_fx (fixed_tree fixed.now)) body.now at) body.now at r.1 (Tree.occurrences (values_tree r.0))) }
-    ensures err { IfErr result (λ e. IsLost (kind_read (Tree.by_fx (fixed_tree fixed.now)) body.now at) at e) }
+    ensures err { IfErr result (λ e. HasFailed (kind_read (Tree.by_fx (fixed_tree fixed.now)) body.now at) at e) }
 {
     let width = fixed.width() as u32;
     let mut made = Values::new(alloc);

@@ -1,11 +1,10 @@
 //! Values written under their kinds.
 ghost use Rattle.std.specs.Prelude.{◌≡◌, ◌<◌, ◌≤◌, length};
-ghost use Rattle.std.specs.Option.{option_copied, option_map};
 ghost use Rattle.ax_bits.specs.Out.{Appends, room};
 ghost use Rattle.ax_model.specs.Canonical.{canon, each_canon, entries_canon};
 ghost use Rattle.ax_model.specs.InBounds.{InBounds};
-ghost use Rattle.ax_model.specs.Lengths.{kind_of_slot, slot_kind};
-ghost use Rattle.ax_model.specs.Plain.{kind_tree, slot_tree, slots_tree, value_tree, values_tree, entries_tree};
+ghost use Rattle.ax_model.specs.Lengths.{slot_kind};
+ghost use Rattle.ax_model.specs.Plain.{kind_tree, slots_tree, value_tree, values_tree, entries_tree};
 ghost use Rattle.ax_model.specs.Shape.{Shape, EachShape};
 ghost use Rattle.ax_model.specs.Tree.{counted, explicit, compound, occurrences, content_octets, marked};
 ghost use Rattle.ax_values.specs.Writing.{EntryShape, entry_canon, AreEntriesOf};
@@ -14,7 +13,7 @@ use crate::marks::entry_marks;
 use crate::write_units::{write_fixed, write_parts, write_run};
 use ax_bits::Out;
 use ax_fspec::write_presence;
-use ax_model::{Entries, Entry, Kind, Octets, Slot, Slots, Value, Values};
+use ax_model::{Entries, Entry, Kind, Octets, Slots, Value, Values, subitem_kind};
 
 /// Appends the canonical spelling of a value of a kind.
 #[cycle(write_value)]
@@ -101,28 +100,7 @@ fn write_entry(entry: &Entry, slots: &Slots, out: &mut Out<'_>)
     requires room { length (entry_canon (slot_kind (slots_tree slots.now) entry.now.slot) (value_tree entry.now.value)) ≤ room out.old }
     ensures { Appends out.old out.new (entry_canon (slot_kind (slots_tree slots.now) entry.now.slot) (value_tree entry.now.value)) }
 {
-    if let Some(kind) = kind_of(slots, entry.slot) {
+    if let Some(kind) = subitem_kind(slots, entry.slot) {
         write_value(&entry.value, kind, out);
     }
-}
-
-/// The kind of a slot. None comes exactly where the slot is spare.
-fn kind_in(slot: &Slot) -> Option<&Kind>
-    ensures { option_map kind_tree (option_copied result) ≡ kind_of_slot (slot_tree slot.now) }
-{
-    match slot {
-        Slot::Spare => None,
-        Slot::Sub { kind, .. } => Some(kind),
-    }
-}
-
-/// The kind of the slot of that number, from 1. None comes exactly where there is no such slot or it is spare.
-#[tactic(auto, using(ax_model::proofs::Counting::kinds))]
-fn kind_of(slots: &Slots, number: u32) -> Option<&Kind>
-    ensures { option_map kind_tree (option_copied result) ≡ slot_kind (slots_tree slots.now) number }
-{
-    if number == 0 {
-        return None;
-    }
-    kind_in(slots.get(number - 1)?)
 }

@@ -8,7 +8,7 @@ ghost use Rattle.ax_model.specs.InBounds.{IsWidth, FixedInBounds, MembersInBound
 ghost use Rattle.ax_model.specs.Plain.{fixed_tree, member_tree, members_tree, part_tree, value_tree, values_tree, lists_tree};
 ghost use Rattle.ax_model.specs.Shape.{NumberShape, FixedShape, MembersShape, PartsShape, EachShape};
 ghost use Rattle.ax_model.specs.Tree.{member_and, no_members, value_and, no_values};
-ghost use Rattle.ax_values.specs.Reading.{fx_bit};
+ghost use Rattle.ax_reader.specs.Reading.{fx_bit};
 
 use ax_bits::Out;
 use ax_model::{Fixed, Lists, Member, Members, Parts, Value, Values};

@@ -1,22 +1,29 @@
 use Rattle.std.proofs.Common.{refl, subst, map}
 use Rattle.std.specs.String.{string_bytes}
-use Rattle.ax_command.specs.Words.{HasShape, asked}
-use Rattle.ax_command.specs.declared.words.Command.TheVariants.{Check, Canon}
-use Rattle.ax_app.specs.Running.{check_runs, canon_runs}
+use Rattle.ax_command.specs.Words.{HasShape, HasNoShape, asked}
+use Rattle.ax_app.specs.Running.{at_words, at_files, before_input, in_job}
+use Rattle.ax_app.proofs.Once.{ready}
 use Rattle.ax_app.proofs.gateway.obey.Goals as goal
 
-pub returns-in-Some-Check : goal.returns-in-Some-Check
-returns-in-Some-Check g c = record {
-  runs = check_runs c.in-Some-Check.file.now
-      (subst (λ words. HasShape (map string_bytes words) (asked (Check c.in-Some-Check.file))) c.deref.ensures.value
-      (subst (λ command. HasShape (map string_bytes c.deref.result.now) (asked command)) c.in-Some-Check.field-0-is c.in-Some-Check.ensures))
-      c.check.ensures.runs (record { left = refl; taken = refl });
-}
+pub returns-in_default-clause-runs : goal.returns-in_default-clause-runs
+returns-in_default-clause-runs g c = at_words (subst (λ words. HasNoShape (map string_bytes words)) c.deref.ensures.value c.in_default.ensures) refl (record { faults = refl; taken = refl }) (record { untouched = record { left = refl; taken = refl }; out = refl; report = refl })
 
-pub returns-in-Some-Canon : goal.returns-in-Some-Canon
-returns-in-Some-Canon g c = record {
-  runs = canon_runs (map string_bytes c.in-Some-Canon.files.now)
-      (subst (λ words. HasShape (map string_bytes words) (asked (Canon c.in-Some-Canon.files))) c.deref.ensures.value
-      (subst (λ command. HasShape (map string_bytes c.deref.result.now) (asked command)) c.in-Some-Canon.field-0-is c.in-Some-Canon.ensures))
-      c.canon.ensures.runs;
-}
+pub do_job-requires : goal.do_job-requires
+do_job-requires g c = ready _ _ _ _ _ c.in-Some.ensures.before c.in-Some.ensures.count c.in-Ok.ensures.gives.each
+
+pub returns-in-Ok-do_job-clause-runs : goal.returns-in-Ok-do_job-clause-runs
+returns-in-Ok-do_job-clause-runs g c =
+    in_job c.in-Ok-do_job.ensures.runs.job c.in-Ok-do_job.end
+    (record { what = asked c.in-Some.command; shape = subst (λ words. HasShape (map string_bytes words) (asked c.in-Some.command)) c.deref.ensures.value c.in-Some.ensures; specs = _; give = c.in-Ok.ensures.gives; is = c.in-Ok-do_job.ensures.runs.is })
+    c.in-Ok-do_job.ensures.runs.runs c.from.ensures
+
+pub returns-in-Ok-clause-runs : goal.returns-in-Ok-clause-runs
+returns-in-Ok-clause-runs g c =
+    before_input c.in-Err-do_job.stop
+    (record { what = asked c.in-Some.command; shape = subst (λ words. HasShape (map string_bytes words) (asked c.in-Some.command)) c.deref.ensures.value c.in-Some.ensures; specs = _; give = c.in-Ok.ensures.gives; stopped = c.in-Err-do_job.ensures.stopped })
+    c.from-in-Err-do_job.ensures c.in-Err-do_job.ensures.idle
+
+pub returns-clause-runs : goal.returns-clause-runs
+returns-clause-runs g c =
+    at_files c.in-Err.stop (record { what = asked c.in-Some.command; shape = subst (λ words. HasShape (map string_bytes words) (asked c.in-Some.command)) c.deref.ensures.value c.in-Some.ensures; ends = c.in-Err.ensures.ends })
+    c.from-in-Err.ensures (record { untouched = record { left = refl; taken = refl }; out = refl; report = refl })

@@ -1,25 +1,28 @@
-use Rattle.ax_app.proofs.Headlines.{headline}
-use Rattle.ax_app.proofs.Causes.{usage_only, usage_there, of_files, reads_all, check_as_a_whole}
-use Rattle.ax_app.proofs.Complete.{complete_check, complete_canon}
+use Rattle.ax_app.proofs.Stages.{headline, usage_only, usage_there, causes, causes_on, completes, reads_all, ended}
+use Rattle.ax_app.proofs.SoFar.{so_far, later_on}
 use Rattle.ax_app.proofs.gateway.run.Goals as goal
 
 pub returns-clause-headline : goal.returns-clause-headline
-returns-clause-headline g c = λ files input octets is left. headline _ _ files _ input _ _ _ c.obey-outcome.ensures.runs octets is left
+returns-clause-headline g c = λ files input octets is left. ended _ _ _ _ _ _ _ _ _ (headline _ _ files _ input _ _ _ _ is octets left c.obey-outcome.ensures.runs) c.write_lines.ensures
 
-pub returns-clause-check : goal.returns-clause-check
-returns-clause-check g c = λ file k. check_as_a_whole _ _ _ _ _ _ file c.obey-outcome.ensures.runs k
-
-pub returns-clause-done_reads_all : goal.returns-clause-done_reads_all
-returns-clause-done_reads_all g c = λ input names blocks octets left shape is. reads_all _ _ _ input _ _ _ names blocks c.obey-outcome.ensures.runs octets left shape is
-
-pub returns-clause-complete_check : goal.returns-clause-complete_check
-returns-clause-complete_check g c = λ files spec is library out can. complete_check _ _ files _ _ _ _ spec c.obey-outcome.ensures.runs is library out can
-
-pub returns-clause-complete_canon : goal.returns-clause-complete_canon
-returns-clause-complete_canon g c = λ files catalogue input blocks is left octets quiet can. complete_canon _ _ files _ catalogue input _ _ blocks _ c.obey-outcome.ensures.runs is left octets quiet can
+pub returns-clause-runs : goal.returns-clause-runs
+returns-clause-runs g c = ended _ _ _ _ _ _ _ _ _ c.obey-outcome.ensures.runs c.write_lines.ensures
 
 pub returns-clause-usage : goal.returns-clause-usage
-returns-clause-usage g c = (usage_only _ _ _ _ _ _ c.obey-outcome.ensures.runs, usage_there _ _ _ _ _ _ c.obey-outcome.ensures.runs)
+returns-clause-usage g c = (usage_only _ _ _ _ _ _ _ c.obey-outcome.ensures.runs, usage_there _ _ _ _ _ _ _ c.obey-outcome.ensures.runs)
 
-pub returns-clause-file_outcomes : goal.returns-clause-file_outcomes
-returns-clause-file_outcomes g c = of_files _ _ _ _ _ _ c.obey-outcome.ensures.runs
+pub returns-clause-causes : goal.returns-clause-causes
+returns-clause-causes g c = causes_on _ _ _ _ _ _ _ _ _ c.obey-outcome.ensures.later.report c.write_lines.ensures.later (causes _ _ _ _ _ _ _ c.obey-outcome.ensures.runs)
+
+pub returns-clause-reads_all : goal.returns-clause-reads_all
+returns-clause-reads_all g c = λ files input k blocks octets is left d done. reads_all _ _ files _ input _ _ _ _ k blocks is octets left d done c.obey-outcome.ensures.runs
+
+pub returns-clause-completes : goal.returns-clause-completes
+returns-clause-completes g c = λ files input job count written reported octets is left quiet d can.
+    completes _ _ files _ input _ _ _ _ _ _ _ _ _ _ job count written reported c.obey-outcome.ensures.later.report c.write_lines.ensures.later c.write_lines.ensures c.obey-outcome.ensures.runs octets is left quiet d can
+
+pub returns-clause-so_far : goal.returns-clause-so_far
+returns-clause-so_far g c = so_far _ _ _ _ _ _ _ c.obey-outcome.ensures.runs
+
+pub returns-clause-later : goal.returns-clause-later
+returns-clause-later g c = later_on _ _ _ _ _ _ _ _ _ c.write_lines.ensures.later c.obey-outcome.ensures.later

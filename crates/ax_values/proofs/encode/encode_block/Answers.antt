@@ -1,4 +1,4 @@
-use Rattle.std.proofs.Common.{◌≡◌, ◌≤◌, arith, subst, sym}
+use Rattle.std.proofs.Common.{◌≤◌, arith, subst, sym}
 use Rattle.ax_model.specs.OfCode.{block_length}
 use Rattle.ax_values.proofs.RoundTrip.{read_back}
 use Rattle.ax_values.specs.Decoding.{ReadsBack}

@@ -6,9 +6,11 @@ use Rattle.ax_model.proofs.Bounds.{count_of_slots}
 use Rattle.ax_model.specs.Plain.{kind_tree, slot_tree}
 use Rattle.ax_model.specs.Tree.{SlotTree, counted, compound, slots_of, slot_count}
 use Rattle.ax_values.proofs.Continuing.{err_by_fault, err_is}
-use Rattle.ax_values.proofs.Counting.{CountedSoFar, counted_none, counted_more, counted_lost}
-use Rattle.ax_values.proofs.Marking.{EntriesSoFar, entries_begin, field_lost, entries_skip, entries_more, entries_lost, entries_all, map_at, marks_bits, slot_in_bounds, entries_few, ok_gets, err_lost}
-use Rattle.ax_values.specs.Reading.{kind_read, entries_at}
+use Rattle.ax_reader.proofs.Counting.{counted_none}
+use Rattle.ax_values.proofs.Counting.{CountedSoFar, counted_more, counted_failed}
+use Rattle.ax_reader.proofs.Marking.{field_failed, map_at, marks_bits, slot_in_bounds}
+use Rattle.ax_values.proofs.Marking.{EntriesSoFar, entries_begin, entries_skip, entries_more, entries_failed, entries_all, entries_few, ok_gets, err_failed}
+use Rattle.ax_reader.specs.Reading.{kind_read, entries_at}
 use Rattle.ax_values.proofs.kinds.+kind.Goals.{decode_marked-then-has+in_ok-here, decode_marked-else-has}
 use Rattle.ax_values.proofs.kinds.+kind.Goals as goal
 
@@ -29,7 +31,7 @@ decode_compound-returns-in_err-here-clause-err t c =
     let slots : List SlotTree = map slot_tree c.args.slots.now in
     let fault = c.in_err-here.field-0.0 in
     err_by_fault (kind_read (compound (slots_of slots)) c.args.body.now c.args.at) c.args.at c.from_residual.result fault c.from_residual.ensures.1
-    (field_lost slots c.slots_mask.result c.args.body.now c.args.at fault c.slots_mask.ensures c.in_err-here.ensures.err)
+    (field_failed slots c.slots_mask.result c.args.body.now c.args.at fault c.slots_mask.ensures c.in_err-here.ensures.err)
 
 pub decode_marked-loop-slot-init : goal.decode_marked-loop-slot-init
 decode_marked-loop-slot-init t c =
@@ -52,7 +54,7 @@ decode_marked-returns-in_err-here-clause-err t c =
     let number = c.loop-slot.invariant.number in
     let e = c.in_err-here.field-0.0 in
     err_is (entries_at (slots_of slots) c.args.marked.now c.args.body.now c.args.at) c.args.at c.from_residual.result e c.from_residual.ensures.1
-    (entries_lost slots c.args.marked.now c.args.body.now i (c.loop-slot.number + 1) c.args.at c.loop-slot.here c.loop-slot.made (slot_tree s) e c.loop-slot.invariant.entries (omega arith) (map_at slot_tree all i s is) (omega arith)
+    (entries_failed slots c.args.marked.now c.args.body.now i (c.loop-slot.number + 1) c.args.at c.loop-slot.here c.loop-slot.made (slot_tree s) e c.loop-slot.invariant.entries (omega arith) (map_at slot_tree all i s is) (omega arith)
     (c.has.ensures.0 c.if-has.true) c.in_err-here.ensures.err)
 
 pub decode_marked-loop-slot-preserved : goal.decode_marked-loop-slot-preserved
@@ -98,7 +100,7 @@ decode_counted-returns-in_err-value-clause-err t c =
     let k = kind_tree c.args.inner.now in
     let e = c.in_err-value.field-0.0 in
     err_is (kind_read (counted k) c.args.body.now c.args.at) c.args.at c.from_residual-in_err-value.result e c.from_residual-in_err-value.ensures.1
-    (counted_lost k c.args.body.now c.in_ok-count.count c.loop.counter c.args.at c.loop.here c.loop.made e c.loop.invariant c.loop-test.true c.in_err-value.ensures.err)
+    (counted_failed k c.args.body.now c.in_ok-count.count c.loop.counter c.args.at c.loop.here c.loop.made e c.loop.invariant c.loop-test.true c.in_err-value.ensures.err)
 
 pub decode_counted-loop-preserved : goal.decode_counted-loop-preserved
 decode_counted-loop-preserved t c =
@@ -117,7 +119,7 @@ decode_compound-returns-clause-ok t c =
 pub decode_compound-returns-clause-err : goal.decode_compound-returns-clause-err
 decode_compound-returns-clause-err t c =
     let slots : List SlotTree = map slot_tree c.args.slots.now in
-    err_lost slots c.slots_mask.result c.args.body.now c.read_presence.new.into c.args.at c.in_ok-here.here c.decode_marked.result c.slots_mask.ensures c.in_ok-here.ensures.ok c.decode_marked.ensures.err
+    err_failed slots c.slots_mask.result c.args.body.now c.read_presence.new.into c.args.at c.in_ok-here.here c.decode_marked.result c.slots_mask.ensures c.in_ok-here.ensures.ok c.decode_marked.ensures.err
 
 pub decode_compound-decode_marked-requires : goal.decode_compound-decode_marked-requires
 decode_compound-decode_marked-requires t c =

@@ -1,9 +1,9 @@
 use Rattle.std.proofs.Common.{◌≡◌, ◌+◌, ◌-◌, ℕ, take, drop, ap, arith, refl, subst, sym, ◌∙◌}
 use Rattle.ax_bits.specs.Bits.{AreOctets}
 use Rattle.ax_model.specs.Tree.{explicit}
-use Rattle.ax_values.proofs.Continuing.{err_by_fault, lost_by_fault}
-use Rattle.ax_values.proofs.Counting.{explicit_none, explicit_bad, explicit_short, explicit_gets, octets_part}
-use Rattle.ax_values.specs.Reading.{kind_read}
+use Rattle.ax_values.proofs.Continuing.{err_by_fault, failed_by_fault}
+use Rattle.ax_reader.proofs.Counting.{explicit_none, explicit_bad, explicit_short, explicit_gets, octets_part}
+use Rattle.ax_reader.specs.Reading.{kind_read}
 use Rattle.ax_values.proofs.kinds.decode_explicit.Goals as goal
 
 pub returns-in_err-length-clause-err : goal.returns-in_err-length-clause-err
@@ -14,12 +14,12 @@ returns-in_err-length-clause-err c =
 
 pub returns-then-length-eq0-clause-err : goal.returns-then-length-eq0-clause-err
 returns-then-length-eq0-clause-err c =
-    lost_by_fault (kind_read explicit c.args.body.now c.args.at) c.args.at _ _ refl
+    failed_by_fault (kind_read explicit c.args.body.now c.args.at) c.args.at _ _ refl
     (explicit_bad c.args.body.now c.args.at c.in_ok-length.length _ c.in_ok-length.ensures.ok.0 c.in_ok-length.ensures.ok.1 c.if-length-eq0.true refl refl)
 
 pub returns-then-end-body-clause-err : goal.returns-then-end-body-clause-err
 returns-then-end-body-clause-err c =
-    lost_by_fault (kind_read explicit c.args.body.now c.args.at) c.args.at _ _ refl
+    failed_by_fault (kind_read explicit c.args.body.now c.args.at) c.args.at _ _ refl
     (explicit_short c.args.body.now c.args.at c.in_ok-length.length _ c.in_ok-length.ensures.ok.0 c.in_ok-length.ensures.ok.1 (omega (arith, c.in_ok-length.ensures.ok.1, c.type_inv.body c.args.at)) (omega (arith, c.if-length-eq0.false)) (omega (arith, c.if-end-body.true)) refl refl)
 
 pub returns-clause-ok : goal.returns-clause-ok

@@ -3,9 +3,9 @@ use Rattle.ax_model.specs.Plain.{spec_tree}
 use Rattle.ax_model.specs.Specification.{record_slots}
 use Rattle.ax_model.specs.Tree.{SlotTree}
 use Rattle.ax_values.proofs.Continuing.{err_is}
-use Rattle.ax_values.proofs.Marking.{EntriesSoFar, entries_begin, entries_more, entries_skip, entries_lost, entries_all}
-use Rattle.ax_values.proofs.RecordSlots.{frn_at, frn_count, frn_bounds}
-use Rattle.ax_values.specs.Reading.{record_slot_list, slot_of_frn, entries_at}
+use Rattle.ax_values.proofs.Marking.{EntriesSoFar, entries_begin, entries_more, entries_skip, entries_failed, entries_all}
+use Rattle.ax_reader.proofs.RecordSlots.{frn_at, frn_count, frn_bounds}
+use Rattle.ax_reader.specs.Reading.{record_slot_list, slot_of_frn, entries_at}
 use Rattle.ax_values.proofs.records.decode_marked.Goals.{then-has+in_ok-here, else-has}
 use Rattle.ax_values.proofs.records.decode_marked.Goals as goal
 
@@ -26,7 +26,7 @@ returns-in_err-here-clause-err c =
     let within : i < length spec.uap = omega (arith, c.loop-index-test.true, c.count-index-end.ensures) in
     let e = c.in_err-here.field-0.0 in
     err_is (entries_at (record_slots (spec_tree spec)) c.args.marked.now c.args.body.now c.args.at) c.args.at c.from_residual.result e c.from_residual.ensures.1
-    (entries_lost slots c.args.marked.now c.args.body.now i (i + 1) c.args.at c.loop-index.here c.loop-index.made (slot_of_frn (i + 1) spec) e c.loop-index.invariant (omega arith) (frn_at spec i (i + 1) within refl) refl (c.has.ensures.0 c.if-has.true) c.in_err-here.ensures.err)
+    (entries_failed slots c.args.marked.now c.args.body.now i (i + 1) c.args.at c.loop-index.here c.loop-index.made (slot_of_frn (i + 1) spec) e c.loop-index.invariant (omega arith) (frn_at spec i (i + 1) within refl) refl (c.has.ensures.0 c.if-has.true) c.in_err-here.ensures.err)
 
 pub loop-index-preserved : goal.loop-index-preserved
 loop-index-preserved c =

@@ -2,10 +2,10 @@ use Rattle.std.proofs.Common.{◌≡◌, ◌+◌, ◌<◌, ◌++◌, ◌∷◌, 
 use Rattle.ax_model.specs.Plain.{part_tree, lists_tree}
 use Rattle.ax_model.specs.Widths.{members_width}
 use Rattle.ax_model.specs.Tree.{extended, part_values}
-use Rattle.ax_values.proofs.AtOctets.{extended_gets, extended_loses}
+use Rattle.ax_reader.proofs.AtOctets.{extended_gets, extended_fails}
 use Rattle.ax_values.proofs.Continuing.{err_by_fault}
 use Rattle.ax_values.proofs.Repeating.{PartsSoFar, unit_is, part_bounds, part_more, part_last, part_short}
-use Rattle.ax_values.specs.Reading.{Gets, kind_read}
+use Rattle.ax_reader.specs.Reading.{Gets, kind_read}
 use Rattle.ax_values.proofs.units.decode_parts.Goals as goal
 
 pub returns-in_err-end-clause-err : goal.returns-in_err-end-clause-err
@@ -19,7 +19,7 @@ returns-in_err-end-clause-err c =
     let bounds = part_bounds all i p c.args.body.now c.args.at c.loop-part.here c.loop-part.made c.loop-part.invariant within is in
     let fault = c.in_err-end.field-0.0 in
     err_by_fault (kind_read (extended (map part_tree all)) c.args.body.now c.args.at) c.args.at c.from_residual.result fault c.from_residual.ensures.1
-    (extended_loses (map part_tree all) c.args.body.now c.args.at fault (part_short all i p c.args.body.now c.args.at c.loop-part.here c.loop-part.made fault c.loop-part.invariant within is (omega (arith, c.in_err-end.ensures.short, c.width.ensures, bounds.1)) (ap (λ f. f.cause) c.in_err-end.ensures.fault) (ap (λ f. f.bit) c.in_err-end.ensures.fault)))
+    (extended_fails (map part_tree all) c.args.body.now c.args.at fault (part_short all i p c.args.body.now c.args.at c.loop-part.here c.loop-part.made fault c.loop-part.invariant within is (omega (arith, c.in_err-end.ensures.short, c.width.ensures, bounds.1)) (ap (λ f. f.cause) c.in_err-end.ensures.fault) (ap (λ f. f.bit) c.in_err-end.ensures.fault)))
 
 pub returns-then-not-has_fx-clause-ok : goal.returns-then-not-has_fx-clause-ok
 returns-then-not-has_fx-clause-ok c =

@@ -2,10 +2,10 @@ use Rattle.std.proofs.Common.{◌≡◌, ◌++◌, ◌∷◌, [], true, false, a
 use Rattle.ax_model.specs.Plain.{fixed_tree, values_tree}
 use Rattle.ax_model.specs.Widths.{width}
 use Rattle.ax_model.specs.Tree.{by_fx, occurrences}
-use Rattle.ax_values.proofs.AtOctets.{by_fx_gets, by_fx_loses}
+use Rattle.ax_reader.proofs.AtOctets.{by_fx_gets, by_fx_fails}
 use Rattle.ax_values.proofs.Continuing.{err_by_fault}
 use Rattle.ax_values.proofs.Repeating.{RunSoFar, unit_is, run_more, run_done, run_short}
-use Rattle.ax_values.specs.Reading.{Gets, kind_read}
+use Rattle.ax_reader.specs.Reading.{Gets, kind_read}
 use Rattle.ax_values.proofs.units.decode_run.Goals as goal
 
 pub returns-in_err-end-clause-err : goal.returns-in_err-end-clause-err
@@ -13,7 +13,7 @@ returns-in_err-end-clause-err c =
     let f = fixed_tree c.args.fixed.now in
     let fault = c.in_err-end.field-0.0 in
     err_by_fault (kind_read (by_fx f) c.args.body.now c.args.at) c.args.at c.from_residual.result fault c.from_residual.ensures.1
-    (by_fx_loses f c.args.body.now c.args.at fault (run_short f c.args.body.now c.args.at c.loop-made.here c.loop-made.made fault c.loop-made.invariant (omega (arith, c.in_err-end.ensures.short, c.width-width.ensures, c.requires.bounds.1)) (ap (λ f. f.cause) c.in_err-end.ensures.fault) (ap (λ f. f.bit) c.in_err-end.ensures.fault)))
+    (by_fx_fails f c.args.body.now c.args.at fault (run_short f c.args.body.now c.args.at c.loop-made.here c.loop-made.made fault c.loop-made.invariant (omega (arith, c.in_err-end.ensures.short, c.width-width.ensures, c.requires.bounds.1)) (ap (λ f. f.cause) c.in_err-end.ensures.fault) (ap (λ f. f.bit) c.in_err-end.ensures.fault)))
 
 pub returns-then-not-has_fx-clause-ok : goal.returns-then-not-has_fx-clause-ok
 returns-then-not-has_fx-clause-ok c =

@@ -1,0 +1,50 @@
+-- Words ask for one thing, and over its files that is one job.
+use Rattle.std.proofs.Common.{◌≡◌, ℕ, List, [], ◌∷◌, ◌++◌, Option, Some, length, take, drop, refl, sym, ◌∙◌, ap, subst, arith}
+use Rattle.std.proofs.Math.Seq.{take-append_seam, drop-append_seam}
+use Rattle.ax_command.specs.Words.{Asked, HasShape, verb_of, arguments_of, TakesFiles}
+use Rattle.ax_command.specs.declared.words.Verb.{Verb}
+use Rattle.ax_command.specs.declared.words.Verb.TheVariants.{Check, Canon, Text}
+use Rattle.ax_grammar.proofs.Ranges.{numbers_in_range}
+use Rattle.ax_load.proofs.FilesOnce.{given_once}
+use Rattle.ax_load.specs.Loading.{FilesGive, EachGives}
+use Rattle.ax_model.specs.Specification.{SpecTree}
+use Rattle.ax_outside.specs.Files.{File}
+use Rattle.ax_app.specs.Jobs.{Job, writes, IsJob, IsReady, check_text}
+use Rattle.ax_app.specs.Running.{Does}
+
+pub shape_once : (words : List (List ℕ)) (what next : Asked) → HasShape words what → HasShape words next → what ≡ next
+shape_once words what next h k =
+    let e : h.word ∷ (what.arguments ++ what.files) ≡ k.word ∷ (next.arguments ++ next.files) = sym h.split ∙ k.split in
+    let word : h.word ≡ k.word = cc in
+    let others : what.arguments ++ what.files ≡ next.arguments ++ next.files = cc in
+    let v : Some what.verb ≡ Some next.verb = sym h.verb ∙ ap verb_of word ∙ k.verb in
+    let verb : what.verb ≡ next.verb = cc in
+    let count : length what.arguments ≡ length next.arguments = h.before ∙ ap arguments_of verb ∙ sym k.before in
+    let arguments : what.arguments ≡ next.arguments
+    = sym (take-append_seam what.arguments what.files) ∙ ap (λ n. take n (what.arguments ++ what.files)) count ∙ ap (take (length next.arguments)) others ∙ take-append_seam next.arguments next.files in
+    let files : what.files ≡ next.files
+    = sym (drop-append_seam what.arguments what.files) ∙ ap (λ n. drop n (what.arguments ++ what.files)) count ∙ ap (drop (length next.arguments)) others ∙ drop-append_seam next.arguments next.files in
+    λ i. record { verb = verb i; arguments = arguments i; files = files i }
+
+-- one row for each command
+pub job_once : (verb : Verb) (arguments : List (List ℕ)) (specs : List SpecTree) (job other : Job) → IsJob verb arguments specs job → IsJob verb arguments specs other → job ≡ other
+job_once Check arguments specs job other h k = let e : h.spec ∷ [] ≡ k.spec ∷ [] = sym h.one ∙ k.one in let s : h.spec ≡ k.spec = cc in h.is ∙ ap (λ x. writes (check_text x)) s ∙ sym k.is
+job_once Canon arguments specs job other h k = h ∙ sym k
+job_once Text arguments specs job other h k = h ∙ sym k
+
+pub does_once : (words : List (List ℕ)) (files : List File) (job other : Job) → Does words (Some files) job → Does words (Some files) other → job ≡ other
+does_once words files job other h k =
+    let same : h.what ≡ k.what = shape_once words h.what k.what h.shape k.shape in
+    let specs : k.specs ≡ h.specs = given_once files h.what.files k.specs h.specs (subst (λ w. FilesGive (Some files) w.files k.specs) (sym same) k.give) h.give in
+    job_once h.what.verb h.what.arguments h.specs job other h.is (subst (λ s. IsJob h.what.verb h.what.arguments s other) specs (subst (λ w. IsJob w.verb w.arguments k.specs other) (sym same) k.is))
+
+-- ---- what the code of a command may rely on; one row for each
+
+pub ready : (files : Option (List File)) (verb : Verb) (arguments names : List (List ℕ)) (specs : List SpecTree) → length arguments ≡ arguments_of verb → TakesFiles verb (length names) → EachGives files names specs → IsReady verb arguments specs
+ready files Check arguments [] specs n count gives = absurd (omega (arith, count))
+ready files Check arguments (name ∷ []) [] n count gives = absurd gives
+ready files Check arguments (name ∷ []) (spec ∷ []) n count gives = record { spec = spec; one = refl; in_range = numbers_in_range spec gives.0.accepted.spelled.in_range }
+ready files Check arguments (name ∷ []) (spec ∷ other ∷ specs) n count gives = absurd gives.1
+ready files Check arguments (name ∷ other ∷ names) specs n count gives = absurd (omega (arith, count))
+ready files Canon arguments names specs n count gives = tt
+ready files Text arguments names specs n count gives = tt

@@ -1,0 +1,298 @@
+-- A run, stage by stage.
+use Rattle.std.proofs.Common.{◌≡◌, ℕ, ◌-◌, ◌^◌, ◌<◌, ◌≤◌, ◌⊎◌, inl, inr, List, [], ◌∷◌, Option, Some, None, Result, Ok, Err, length, refl, sym, ◌∙◌, ap, subst, arith}
+use Rattle.std.proofs.Math.Nat.{eq-or-lt_of_le}
+use Rattle.ax_bits.specs.Bits.{AreOctets}
+use Rattle.ax_command.specs.Lines.{lines_of}
+use Rattle.ax_command.specs.Outcomes.{outcome_of_stop, outcome_of_end, outcome_of_refusal, outcome_of_job_stop}
+use Rattle.ax_command.specs.Words.{HasNoShape}
+use Rattle.ax_command.specs.declared.outcome.JobStop.{JobStop}
+use Rattle.ax_command.specs.declared.outcome.JobStop.TheVariants as JobStopOf
+use Rattle.ax_command.specs.declared.outcome.Outcome.{Outcome}
+use Rattle.ax_command.specs.declared.outcome.Outcome.TheVariants.{Usage, Done, ReadFault, WriteFault, ReportFault, InputTooLong, OutOfMemory}
+use Rattle.ax_command.specs.declared.words.Verb.{Verb}
+use Rattle.ax_command.specs.declared.words.Verb.TheVariants.{Check}
+use Rattle.ax_load.proofs.FilesOnce.{given_ends_for_memory}
+use Rattle.ax_load.specs.Loading.{FilesGive, StopsAtFile, EndsAtFile, by_file, by_category, IsRefusedFile}
+use Rattle.ax_load.specs.declared.fault.LoadStop.{LoadStop}
+use Rattle.ax_load.specs.declared.fault.LoadStop.TheVariants as LoadStopOf
+use Rattle.ax_load.specs.declared.fault.SpecFault.{SpecFault}
+use Rattle.ax_load.specs.declared.fault.SpecFault.TheVariants.{TooLarge, BadByte, TooDeep, BadToken, Flawed}
+use Rattle.ax_model.specs.Specification.{SpecTree}
+use Rattle.ax_outside.proofs.Ends.{with_end-nil, Rose-later}
+use Rattle.ax_outside.specs.Changes.{LibraryCounts, SourceChange, SinkChange, IsUntouched, Gains, GainsNothing, Wrote}
+use Rattle.ax_outside.specs.Files.{File}
+use Rattle.ax_outside.specs.Told.{Rose, with_end}
+use Rattle.ax_outside.specs.declared.sinks.SinkFailed.{SinkFailed}
+use Rattle.ax_model.specs.Blocks.{BlockTree}
+use Rattle.ax_stream.proofs.Completes.{IsDoneWithBlocks, stream_completes}
+use Rattle.ax_stream.specs.Commands.{BlockCommand, output_of, report_of}
+use Rattle.ax_stream.specs.Ending.{longest_input}
+use Rattle.ax_stream.specs.Streams.{IsIdle, IsCaused, StreamRuns, ToldRun, reading, writing, reporting, for_memory}
+use Rattle.ax_stream.specs.declared.end.StreamEnd.{StreamEnd}
+use Rattle.ax_stream.specs.declared.end.StreamEnd.TheVariants as EndOf
+use Rattle.ax_app.proofs.Ends.{end_of, end_back, stop_back, job_stop_back, no_usage_in_job, no_usage_at_files, no_usage_before_input}
+use Rattle.ax_app.proofs.Once.{shape_once, does_once}
+use Rattle.ax_app.specs.Answer.{none_counted, by_words, by_files, by_refusal, by_job}
+use Rattle.ax_app.specs.Completing.{NoFaultCounted, HasWhole, IsDoneWith}
+use Rattle.ax_app.specs.Headline.{Headline, answered, stopped_at_files, stopped_before_input, stopped_in_job, IsHindrance, of_library, of_memory}
+use Rattle.ax_app.specs.Jobs.{Job, writes, each_block, refuses, check_text, IsJob, TextEnds, written, cut, no_memory, JobRuns, RunsJob, IsReadyToCheck, IsStopped}
+use Rattle.ax_app.specs.Running.{Does, StopsAtFiles, StopsBeforeInput, Runs, at_words, at_files, before_input, in_job, Ended, Causes}
+
+-- ---- the jobs of the commands
+
+pub check_job : (arguments : List (List ℕ)) (specs : List SpecTree) (left held' : Option (List ℕ)) (taken faults faults' : ℕ) (o : SinkChange) (end : StreamEnd) → IsReadyToCheck specs → ((spec : SpecTree) → specs ≡ spec ∷ [] → TextEnds (check_text spec) o end)
+    → RunsJob Check arguments specs (record { left = left; left' = left; taken = taken; taken' = taken; faults = faults; faults' = faults }) o (record { held = held'; held' = held'; faults = faults'; faults' = faults' }) end
+check_job arguments specs left held' taken faults faults' o end ready ends = record {
+  job = writes (check_text ready.spec);
+  is = record { spec = ready.spec; one = ready.one; is = refl };
+  runs = record { ends = ends ready.spec ready.one; untouched = record { left = refl; taken = refl }; report = refl };
+}
+
+pub block_job : (verb : Verb) (arguments : List (List ℕ)) (specs : List SpecTree) (i : SourceChange) (o r : SinkChange) (c k : BlockCommand) (end : StreamEnd) → IsJob verb arguments specs (each_block k) → c ≡ k → StreamRuns c longest_input i o r end → RunsJob verb arguments specs i o r end
+block_job verb arguments specs i o r c k end job is runs = record { job = each_block k; is = job; runs = subst (λ x. StreamRuns x longest_input i o r end) is runs }
+
+pub text_job : (verb : Verb) (arguments : List (List ℕ)) (specs : List SpecTree) (left held' : Option (List ℕ)) (taken faults faults' : ℕ) (o : SinkChange) (text : List ℕ) (end : StreamEnd) → IsJob verb arguments specs (writes text) → TextEnds text o end
+    → RunsJob verb arguments specs (record { left = left; left' = left; taken = taken; taken' = taken; faults = faults; faults' = faults }) o (record { held = held'; held' = held'; faults = faults'; faults' = faults' }) end
+text_job verb arguments specs left held' taken faults faults' o text end is ends = record {
+  job = writes text;
+  is = is;
+  runs = record { ends = ends; untouched = record { left = refl; taken = refl }; report = refl };
+}
+
+-- ---- causes
+
+text_caused : (text : List ℕ) (i : SourceChange) (o r : SinkChange) (end : StreamEnd) → TextEnds text o end → IsCaused longest_input i o r end
+text_caused text i o r end (written is h) = subst (IsCaused longest_input i o r) (sym is) tt
+text_caused text i o r end (cut is h) = subst (IsCaused longest_input i o r) (sym is) h.rose
+text_caused text i o r end (no_memory is h) = subst (IsCaused longest_input i o r) (sym is) tt
+
+job_caused : (job : Job) (i : SourceChange) (o r : SinkChange) (end : StreamEnd) → JobRuns job i o r end → IsCaused longest_input i o r end
+job_caused (writes text) i o r end h = text_caused text i o r end h.ends
+job_caused (each_block c) i o r end h = h.caused
+job_caused (refuses refusal) i o r end h = absurd h
+
+-- an outcome that only a job gives
+only_job : (words : List (List ℕ)) (files : Option (List File)) (c : LibraryCounts) (i : SourceChange) (o r : SinkChange) (outcome : Outcome) (end : StreamEnd) → (end ≡ EndOf.OutOfMemory → ⊥) → (outcome ≡ Usage → ⊥) → end_of outcome ≡ end
+    → Runs words files c i o r outcome → IsCaused longest_input i o r end
+only_job words files c i o r outcome end never nor e (at_words none is unasked idle) = absurd (nor is)
+only_job words files c i o r outcome end never nor e (at_files stop h is idle) = absurd (never (sym e ∙ ap end_of is ∙ stop_back stop))
+only_job words files c i o r outcome end never nor e (before_input stop h is idle) = absurd (never (sym e ∙ ap end_of is ∙ job_stop_back stop))
+only_job words files c i o r outcome end never nor e (in_job job other d h is) =
+    subst (IsCaused longest_input i o r) (sym (end_back other) ∙ ap end_of (sym is) ∙ e) (job_caused job i o r other h)
+
+pub causes : (words : List (List ℕ)) (files : Option (List File)) (c : LibraryCounts) (i : SourceChange) (o r : SinkChange) (outcome : Outcome) → Runs words files c i o r outcome → Causes i o r outcome
+causes words files c i o r outcome runs = record {
+  read = λ e. only_job words files c i o r outcome EndOf.ReadFault (λ x. absurd (cc)) (λ x. absurd (let y : Usage ≡ ReadFault = sym x ∙ e in cc)) (ap end_of e) runs;
+  write = λ e. only_job words files c i o r outcome EndOf.WriteFault (λ x. absurd (cc)) (λ x. absurd (let y : Usage ≡ WriteFault = sym x ∙ e in cc)) (ap end_of e) runs;
+  report = λ e. only_job words files c i o r outcome EndOf.ReportFault (λ x. absurd (cc)) (λ x. absurd (let y : Usage ≡ ReportFault = sym x ∙ e in cc)) (ap end_of e) runs;
+  too_long = λ e. only_job words files c i o r outcome EndOf.InputTooLong (λ x. absurd (cc)) (λ x. absurd (let y : Usage ≡ InputTooLong = sym x ∙ e in cc)) (ap end_of e) runs;
+}
+
+-- ---- usage
+
+pub usage_only : (words : List (List ℕ)) (files : Option (List File)) (c : LibraryCounts) (i : SourceChange) (o r : SinkChange) (outcome : Outcome) → Runs words files c i o r outcome → outcome ≡ Usage → HasNoShape words
+usage_only words files c i o r outcome (at_words none is unasked idle) e = none
+usage_only words files c i o r outcome (at_files stop h is idle) e = absurd (no_usage_at_files stop (sym is ∙ e))
+usage_only words files c i o r outcome (before_input stop h is idle) e = absurd (no_usage_before_input stop (sym is ∙ e))
+usage_only words files c i o r outcome (in_job job end d h is) e = absurd (no_usage_in_job end (sym is ∙ e))
+
+pub usage_there : (words : List (List ℕ)) (files : Option (List File)) (c : LibraryCounts) (i : SourceChange) (o r : SinkChange) (outcome : Outcome) → Runs words files c i o r outcome → HasNoShape words → outcome ≡ Usage
+usage_there words files c i o r outcome (at_words none is unasked idle) e = is
+usage_there words files c i o r outcome (at_files stop h is idle) e = absurd (e h.what h.shape)
+usage_there words files c i o r outcome (before_input stop h is idle) e = absurd (e h.what h.shape)
+usage_there words files c i o r outcome (in_job job end d h is) e = absurd (e d.what d.shape)
+
+-- ---- the told headline: files
+
+refused_uncounted : (files : List File) (c : LibraryCounts) (name : List ℕ) (fault : SpecFault) → IsRefusedFile (Some files) c name fault → IsRefusedFile (Some files) none_counted name fault
+refused_uncounted files c name TooLarge h = h
+refused_uncounted files c name (BadByte at) h = h
+refused_uncounted files c name (TooDeep token) h = h
+refused_uncounted files c name (BadToken token) h = h
+refused_uncounted files c name (Flawed flaws) h = h
+
+-- a file ends the run by what it is, or a fault of the library or want of memory does
+pub record ByItself (files : List File) (before : List SpecTree) (name : List ℕ) (i : ℕ) (stop : LoadStop) : Type 0 where
+  pub ends : EndsAtFile (Some files) none_counted before name i stop
+  pub not_memory : stop ≡ LoadStopOf.OutOfMemory → ⊥
+
+by_itself : (files : List File) (c : LibraryCounts) (before : List SpecTree) (name : List ℕ) (i : ℕ) (stop : LoadStop) → StopsAtFile (Some files) c name i stop → IsHindrance c stop ⊎ ByItself files before name i stop
+by_itself files c before name i (LoadStopOf.LoadFault n) (is, inl rose) = inl (of_library n refl rose)
+by_itself files c before name i (LoadStopOf.LoadFault n) (is, inr lacks) = inr (record { ends = by_file (is, inr lacks); not_memory = λ e. absurd (cc) })
+by_itself files c before name i (LoadStopOf.SpecRefused n fault) h = inr (record { ends = by_file (h.0, refused_uncounted files c name fault h.1); not_memory = λ e. absurd (cc) })
+by_itself files c before name i LoadStopOf.OutOfMemory h = inl (of_memory refl)
+by_itself files c before name i (LoadStopOf.CategoryTwice n category) h = absurd h
+
+twice_is_not_memory : (stop : LoadStop) (i category : ℕ) → stop ≡ LoadStopOf.CategoryTwice i category → stop ≡ LoadStopOf.OutOfMemory → ⊥
+twice_is_not_memory stop i category is memory = absurd (cc)
+
+at_file : (files : List File) (c : LibraryCounts) (before : List SpecTree) (name : List ℕ) (i : ℕ) (stop : LoadStop) → EndsAtFile (Some files) c before name i stop → IsHindrance c stop ⊎ ByItself files before name i stop
+at_file files c before name i stop (by_file h) = by_itself files c before name i stop h
+at_file files c before name i stop (by_category category is twice) = inr (record { ends = by_category category is twice; not_memory = twice_is_not_memory stop i category is })
+
+files_headline : (words : List (List ℕ)) (files : List File) (c : LibraryCounts) (input : List ℕ) (i : SourceChange) (o r : SinkChange) (outcome : Outcome) (stop : LoadStop) (h : StopsAtFiles words (Some files) c stop) → outcome ≡ outcome_of_stop stop → IsIdle i o r
+    → IsHindrance c stop ⊎ ByItself files h.ends.before h.ends.name (length h.ends.earlier) stop → Headline words files c input i o r outcome
+files_headline words files c input i o r outcome stop h is idle (inl hindered) = stopped_at_files stop h hindered is idle
+files_headline words files c input i o r outcome stop h is idle (inr b) =
+    answered [] [] (by_files stop
+    (record { what = h.what; shape = h.shape; ends = record { earlier = h.ends.earlier; name = h.ends.name; more = h.ends.more; split = h.ends.split; before = h.ends.before; give = h.ends.give; ends = b.ends } })
+    b.not_memory is refl refl)
+    (idle.out ∙ sym (with_end-nil o.held)) (idle.report ∙ sym (with_end-nil r.held))
+
+-- ---- the told headline: jobs
+
+text_headline : (words : List (List ℕ)) (files : List File) (c : LibraryCounts) (input : List ℕ) (i : SourceChange) (o r : SinkChange) (outcome : Outcome) (text : List ℕ) (end : StreamEnd) → Does words (Some files) (writes text)
+    → IsUntouched i → GainsNothing r → outcome ≡ outcome_of_end end → TextEnds text o end → Headline words files c input i o r outcome
+text_headline words files c input i o r outcome text end d idle none is (written done h) =
+    answered text [] (by_job (writes text) end d (record { done = done; written_is = refl; reported_is = refl }) is) h (none ∙ sym (with_end-nil r.held))
+text_headline words files c input i o r outcome text end d idle none is (cut e h) = stopped_in_job (writes text) end d (record { ends = inl (e, h); untouched = idle; report = none }) is
+text_headline words files c input i o r outcome text end d idle none is (no_memory e h) = stopped_in_job (writes text) end d (record { ends = inr (e, h); untouched = idle; report = none }) is
+
+blocks_headline : (words : List (List ℕ)) (files : List File) (c : LibraryCounts) (input : List ℕ) (i : SourceChange) (o r : SinkChange) (outcome : Outcome) (k : BlockCommand) (end : StreamEnd) → Does words (Some files) (each_block k)
+    → outcome ≡ outcome_of_end end → ToldRun k longest_input input i.left' o r end → Headline words files c input i o r outcome
+blocks_headline words files c input i o r outcome k end d is (inl a) =
+    answered _ _ (by_job (each_block k) end d (record { blocks = a.blocks; answers = a.answers; written_is = refl; reported_is = refl }) is) a.out a.report
+blocks_headline words files c input i o r outcome k end d is (inr stops) = stopped_in_job (each_block k) end d stops is
+
+job_headline : (words : List (List ℕ)) (files : List File) (c : LibraryCounts) (input : List ℕ) (i : SourceChange) (o r : SinkChange) (outcome : Outcome) (job : Job) (end : StreamEnd) → AreOctets input → i.left ≡ Some input
+    → Does words (Some files) job → JobRuns job i o r end → outcome ≡ outcome_of_end end → Headline words files c input i o r outcome
+job_headline words files c input i o r outcome (writes text) end octets left d h is = text_headline words files c input i o r outcome text end d h.untouched h.report is h.ends
+job_headline words files c input i o r outcome (each_block k) end octets left d h is = blocks_headline words files c input i o r outcome k end d is (h.told input octets left)
+job_headline words files c input i o r outcome (refuses refusal) end octets left d h is = absurd h
+
+before_headline : (words : List (List ℕ)) (files : List File) (c : LibraryCounts) (input : List ℕ) (i : SourceChange) (o r : SinkChange) (outcome : Outcome) (stop : JobStop) → StopsBeforeInput words (Some files) stop → outcome ≡ outcome_of_job_stop stop → IsIdle i o r
+    → Headline words files c input i o r outcome
+before_headline words files c input i o r outcome (JobStopOf.Refused refusal) h is idle =
+    answered [] [] (by_refusal refusal (record { what = h.what; shape = h.shape; specs = h.specs; give = h.give; is = h.stopped }) is refl refl) (idle.out ∙ sym (with_end-nil o.held)) (idle.report ∙ sym (with_end-nil r.held))
+before_headline words files c input i o r outcome JobStopOf.OutOfMemory h is idle = stopped_before_input h is idle
+
+told_headline : (words : List (List ℕ)) (files : List File) (c : LibraryCounts) (input : List ℕ) (i : SourceChange) (o r : SinkChange) (outcome : Outcome) → AreOctets input → i.left ≡ Some input
+    → Runs words (Some files) c i o r outcome → Headline words files c input i o r outcome
+told_headline words files c input i o r outcome octets left (at_words none is unasked idle) = answered [] [] (by_words none is refl refl) (idle.out ∙ sym (with_end-nil o.held)) (idle.report ∙ sym (with_end-nil r.held))
+told_headline words files c input i o r outcome octets left (at_files stop h is idle) =
+    files_headline words files c input i o r outcome stop h is idle (at_file files c h.ends.before h.ends.name (length h.ends.earlier) stop h.ends.ends)
+told_headline words files c input i o r outcome octets left (before_input stop h is idle) = before_headline words files c input i o r outcome stop h is idle
+told_headline words files c input i o r outcome octets left (in_job job end d h is) = job_headline words files c input i o r outcome job end octets left d h is
+
+pub headline : (words : List (List ℕ)) (told : Option (List File)) (files : List File) (c : LibraryCounts) (input : List ℕ) (i : SourceChange) (o r : SinkChange) (outcome : Outcome) → told ≡ Some files → AreOctets input → i.left ≡ Some input
+    → Runs words told c i o r outcome → Headline words files c input i o r outcome
+headline words told files c input i o r outcome is octets left runs = told_headline words files c input i o r outcome octets left (subst (λ t. Runs words t c i o r outcome) is runs)
+
+-- ---- completeness
+
+text_completes : (text : List ℕ) (o r : SinkChange) (end : StreamEnd) → GainsNothing r → (Rose o.faults o.faults' → ⊥) → TextEnds text o end → (end ≡ EndOf.OutOfMemory) ⊎ ((end ≡ EndOf.Done 0) × Gains o text × Gains r [])
+text_completes text o r end none quiet (written is h) = inr (is, h, none ∙ sym (with_end-nil r.held))
+text_completes text o r end none quiet (cut is h) = absurd (quiet h.rose)
+text_completes text o r end none quiet (no_memory is h) = inl is
+
+by_end : (outcome : Outcome) (count : ℕ) (o r : SinkChange) (all said : List ℕ) (end : StreamEnd) → outcome ≡ outcome_of_end end → (end ≡ EndOf.OutOfMemory) ⊎ ((end ≡ EndOf.Done count) × Gains o all × Gains r said) → IsDoneWith outcome count o r all said
+by_end outcome count o r all said end is (inl memory) = inl (is ∙ ap outcome_of_end memory)
+by_end outcome count o r all said end is (inr (done, out, report)) = inr (is ∙ ap outcome_of_end done, out, report)
+
+with_blocks : (k : BlockCommand) (blocks : List BlockTree) (o r : SinkChange) (end : StreamEnd) (count : ℕ) (all said : List ℕ) → count ≡ length blocks → all ≡ output_of k 0 blocks → said ≡ report_of k 0 blocks
+    → (end ≡ EndOf.OutOfMemory) ⊎ IsDoneWithBlocks k blocks o r end → (end ≡ EndOf.OutOfMemory) ⊎ ((end ≡ EndOf.Done count) × Gains o all × Gains r said)
+with_blocks k blocks o r end count all said n a s (inl memory) = inl memory
+with_blocks k blocks o r end count all said n a s (inr d) = inr (d.done ∙ ap EndOf.Done (sym n), d.out ∙ ap (with_end o.held) (sym a), d.report ∙ ap (with_end r.held) (sym s))
+
+job_completes : (job : Job) (input : List ℕ) (i : SourceChange) (o r : SinkChange) (end : StreamEnd) (count : ℕ) (all said : List ℕ) → AreOctets input → i.left ≡ Some input → (Rose i.faults i.faults' → ⊥) → (Rose o.faults o.faults' → ⊥) → (Rose r.faults r.faults' → ⊥)
+    → HasWhole job input count all said → JobRuns job i o r end → (end ≡ EndOf.OutOfMemory) ⊎ ((end ≡ EndOf.Done count) × Gains o all × Gains r said)
+job_completes (writes text) input i o r end count all said octets left source out report can h =
+    let t : (end ≡ EndOf.OutOfMemory) ⊎ ((end ≡ EndOf.Done 0) × Gains o text × Gains r []) = text_completes text o r end h.report out h.ends in
+    subst (λ n. (end ≡ EndOf.OutOfMemory) ⊎ ((end ≡ EndOf.Done n) × Gains o all × Gains r said)) (sym can.none)
+    (subst (λ s. (end ≡ EndOf.OutOfMemory) ⊎ ((end ≡ EndOf.Done 0) × Gains o all × Gains r s)) (sym can.reported_is)
+    (subst (λ w. (end ≡ EndOf.OutOfMemory) ⊎ ((end ≡ EndOf.Done 0) × Gains o w × Gains r [])) (sym can.written_is) t))
+job_completes (each_block k) input i o r end count all said octets left source out report can h =
+    with_blocks k can.blocks o r end count all said can.count_is can.written_is can.reported_is
+    (stream_completes k longest_input input can.blocks i o r end can.spelled can.within can.given octets left source out report h)
+job_completes (refuses refusal) input i o r end count all said octets left source out report can h = absurd can
+
+-- a job with a whole result isn't refused
+not_refused : (words : List (List ℕ)) (files : List File) (input : List ℕ) (job : Job) (count : ℕ) (all said : List ℕ) (stop : JobStop) → Does words (Some files) job → HasWhole job input count all said → StopsBeforeInput words (Some files) stop → stop ≡ JobStopOf.OutOfMemory
+not_refused words files input job count all said (JobStopOf.Refused refusal) d can h =
+    let same : job ≡ refuses refusal = does_once words files job (refuses refusal) d (record { what = h.what; shape = h.shape; specs = h.specs; give = h.give; is = h.stopped }) in
+    absurd (subst (λ j. HasWhole j input count all said) same can)
+not_refused words files input job count all said JobStopOf.OutOfMemory d can h = refl
+
+run_completes : (words : List (List ℕ)) (files : List File) (c : LibraryCounts) (input : List ℕ) (i : SourceChange) (o r : SinkChange) (outcome : Outcome) (job : Job) (count : ℕ) (all said : List ℕ) → AreOctets input → i.left ≡ Some input
+    → (Rose c.faults c.faults' → ⊥) → (Rose i.faults i.faults' → ⊥) → (Rose o.faults o.faults' → ⊥) → (Rose r.faults r.faults' → ⊥) → Does words (Some files) job → HasWhole job input count all said → Runs words (Some files) c i o r outcome
+    → IsDoneWith outcome count o r all said
+run_completes words files c input i o r outcome job count all said octets left library source out report d can (at_words none is unasked idle) = absurd (none d.what d.shape)
+run_completes words files c input i o r outcome job count all said octets left library source out report d can (at_files stop h is idle) =
+    let same : d.what ≡ h.what = shape_once words d.what h.what d.shape h.shape in
+    let memory : stop ≡ LoadStopOf.OutOfMemory = given_ends_for_memory files c h.what.files d.specs stop library (subst (λ w. FilesGive (Some files) w.files d.specs) same d.give) h.ends in
+    inl (is ∙ ap outcome_of_stop memory)
+run_completes words files c input i o r outcome job count all said octets left library source out report d can (before_input stop h is idle) =
+    inl (is ∙ ap outcome_of_job_stop (not_refused words files input job count all said stop d can h))
+run_completes words files c input i o r outcome job count all said octets left library source out report d can (in_job other end k h is) =
+    let same : other ≡ job = does_once words files other job k d in
+    by_end outcome count o r all said end is (job_completes job input i o r end count all said octets left source out report can (subst (λ j. JobRuns j i o r end) same h))
+
+-- ---- Done of a block command
+
+blocks_read : (k : BlockCommand) (input : List ℕ) (i : SourceChange) (o r : SinkChange) (end : StreamEnd) (count : ℕ) → end ≡ EndOf.Done count → ToldRun k longest_input input i.left' o r end → i.left' ≡ Some []
+blocks_read k input i o r end count is (inl a) = a.read count is
+blocks_read k input i o r end count is (inr (reading e s)) = absurd (let x : EndOf.Done count ≡ EndOf.ReadFault = sym is ∙ e in cc)
+blocks_read k input i o r end count is (inr (writing e s)) = absurd (let x : EndOf.Done count ≡ EndOf.WriteFault = sym is ∙ e in cc)
+blocks_read k input i o r end count is (inr (reporting e s)) = absurd (let x : EndOf.Done count ≡ EndOf.ReportFault = sym is ∙ e in cc)
+blocks_read k input i o r end count is (inr (for_memory e s)) = absurd (let x : EndOf.Done count ≡ EndOf.OutOfMemory = sym is ∙ e in cc)
+
+done_reads : (words : List (List ℕ)) (files : List File) (c : LibraryCounts) (input : List ℕ) (i : SourceChange) (o r : SinkChange) (outcome : Outcome) (k : BlockCommand) (count : ℕ) → AreOctets input → i.left ≡ Some input
+    → Does words (Some files) (each_block k) → outcome ≡ Done count → Runs words (Some files) c i o r outcome → i.left' ≡ Some []
+done_reads words files c input i o r outcome k count octets left d done (at_words none is unasked idle) = absurd (let x : Usage ≡ Done count = sym is ∙ done in cc)
+done_reads words files c input i o r outcome k count octets left d done (at_files stop h is idle) = absurd (let x : EndOf.OutOfMemory ≡ EndOf.Done count = sym (stop_back stop) ∙ ap end_of (sym is ∙ done) in cc)
+done_reads words files c input i o r outcome k count octets left d done (before_input stop h is idle) = absurd (let x : EndOf.OutOfMemory ≡ EndOf.Done count = sym (job_stop_back stop) ∙ ap end_of (sym is ∙ done) in cc)
+done_reads words files c input i o r outcome k count octets left d done (in_job other end h runs is) =
+    let same : other ≡ each_block k = does_once words files other (each_block k) h d in
+    let e : end ≡ EndOf.Done count = sym (end_back end) ∙ ap end_of (sym is ∙ done) in
+    let run : JobRuns (each_block k) i o r end = subst (λ j. JobRuns j i o r end) same runs in
+    blocks_read k input i o r end count e (run.told input octets left)
+
+-- ---- the report, with the lines of the outcome last
+
+pub ended : (P : SinkChange → Type 0) (held between held' : Option (List ℕ)) (faults counted faults' : ℕ) (result : Result Unit SinkFailed) (lines : List ℕ) → P (record { held = held; held' = between; faults = faults; faults' = counted })
+    → Wrote (record { held = between; held' = held'; faults = counted; faults' = faults' }) result lines → Ended P (record { held = held; held' = held'; faults = faults; faults' = faults' }) lines
+ended P held between held' faults counted faults' (Ok u) lines before w = record { between = between; counted = counted; before = before; lines_after = inl w.whole }
+ended P held between held' faults counted faults' (Err e) lines before w = record { between = between; counted = counted; before = before; lines_after = inr w.part }
+
+-- ---- the whole report
+
+-- what rose stays risen
+later_or_same : (a b c : ℕ) → a ≤ b → b ≤ c → b ≡ 2 ^ 64 - 1 → (a ≡ c) ⊎ (a < c) → Rose a c
+later_or_same a b c le more last (inl same) = inr (omega (arith, le, more, last, same))
+later_or_same a b c le more last (inr less) = inl less
+
+pub Rose-on : (a b c : ℕ) → a ≤ b → b ≤ c → Rose a b → Rose a c
+Rose-on a b c le more (inl less) = inl (omega arith)
+Rose-on a b c le more (inr last) = later_or_same a b c le more last (eq-or-lt_of_le {n = a} {m = c} (omega arith))
+
+pub causes_on : (i : SourceChange) (o : SinkChange) (held between held' : Option (List ℕ)) (faults counted faults' : ℕ) (outcome : Outcome) → faults ≤ counted → counted ≤ faults'
+    → Causes i o (record { held = held; held' = between; faults = faults; faults' = counted }) outcome → Causes i o (record { held = held; held' = held'; faults = faults; faults' = faults' }) outcome
+causes_on i o held between held' faults counted faults' outcome a b h = record { read = h.read; write = h.write; report = λ e. Rose-on faults counted faults' a b (h.report e); too_long = h.too_long }
+
+no_lines : (held between held' : Option (List ℕ)) (faults counted faults' : ℕ) (said : List ℕ) (result : Result Unit SinkFailed) → faults ≤ counted → (Rose faults faults' → ⊥) → between ≡ with_end held said
+    → Wrote (record { held = between; held' = held'; faults = counted; faults' = faults' }) result [] → held' ≡ with_end held said
+no_lines held between held' faults counted faults' said (Ok u) a quiet e w = w.whole ∙ with_end-nil between ∙ e
+no_lines held between held' faults counted faults' said (Err f) a quiet e w = absurd (quiet (Rose-later a w.part.rose))
+
+done_after : (o : SinkChange) (held between held' : Option (List ℕ)) (faults counted faults' count : ℕ) (all said : List ℕ) (outcome : Outcome) (result : Result Unit SinkFailed) → faults ≤ counted → (Rose faults faults' → ⊥)
+    → Wrote (record { held = between; held' = held'; faults = counted; faults' = faults' }) result (lines_of outcome)
+    → IsDoneWith outcome count o (record { held = held; held' = between; faults = faults; faults' = counted }) all said → IsDoneWith outcome count o (record { held = held; held' = held'; faults = faults; faults' = faults' }) all said
+done_after o held between held' faults counted faults' count all said outcome result a quiet w (inl memory) = inl memory
+done_after o held between held' faults counted faults' count all said outcome result a quiet w (inr (done, out, report)) =
+    let none : lines_of outcome ≡ [] = ap lines_of done in
+    inr (done, out, no_lines held between held' faults counted faults' said result a quiet report (subst (λ l. Wrote (record { held = between; held' = held'; faults = counted; faults' = faults' }) result l) none w))
+
+pub completes : (words : List (List ℕ)) (told : Option (List File)) (files : List File) (c : LibraryCounts) (input : List ℕ) (i : SourceChange) (o : SinkChange) (held between held' : Option (List ℕ)) (faults counted faults' : ℕ) (outcome : Outcome) (result : Result Unit SinkFailed)
+    (job : Job) (count : ℕ) (all said : List ℕ) → faults ≤ counted → counted ≤ faults' → Wrote (record { held = between; held' = held'; faults = counted; faults' = faults' }) result (lines_of outcome)
+    → Runs words told c i o (record { held = held; held' = between; faults = faults; faults' = counted }) outcome
+    → AreOctets input → told ≡ Some files → i.left ≡ Some input → NoFaultCounted c i o (record { held = held; held' = held'; faults = faults; faults' = faults' }) → Does words (Some files) job → HasWhole job input count all said
+    → IsDoneWith outcome count o (record { held = held; held' = held'; faults = faults; faults' = faults' }) all said
+completes words told files c input i o held between held' faults counted faults' outcome result job count all said a b w runs octets is left quiet d can =
+    done_after o held between held' faults counted faults' count all said outcome result a quiet.report w
+    (run_completes words files c input i o (record { held = held; held' = between; faults = faults; faults' = counted }) outcome job count all said octets left quiet.library quiet.source quiet.out
+    (λ rose. quiet.report (Rose-on faults counted faults' a b rose)) d can (subst (λ t. Runs words t c i o (record { held = held; held' = between; faults = faults; faults' = counted }) outcome) is runs))
+
+pub reads_all : (words : List (List ℕ)) (told : Option (List File)) (files : List File) (c : LibraryCounts) (input : List ℕ) (i : SourceChange) (o r : SinkChange) (outcome : Outcome) (k : BlockCommand) (count : ℕ) → told ≡ Some files → AreOctets input → i.left ≡ Some input
+    → Does words (Some files) (each_block k) → outcome ≡ Done count → Runs words told c i o r outcome → i.left' ≡ Some []
+reads_all words told files c input i o r outcome k count is octets left d done runs =
+    done_reads words files c input i o r outcome k count octets left d done (subst (λ t. Runs words t c i o r outcome) is runs)

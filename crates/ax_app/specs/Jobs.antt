@@ -1,0 +1,105 @@
+-- The commands: what each does once its files are accepted. A command is one row of `IsJob`.
+use Rattle.std.specs.Prelude.{◌≡◌, ℕ, List, [], ◌∷◌, ◌++◌}
+use Rattle.ax_command.specs.Accepted.{accepted_line}
+use Rattle.ax_command.specs.declared.outcome.JobStop.{JobStop}
+use Rattle.ax_command.specs.declared.outcome.JobStop.TheVariants as JobStopOf
+use Rattle.ax_command.specs.declared.outcome.Refusal.{Refusal}
+use Rattle.ax_command.specs.declared.words.Verb.{Verb}
+use Rattle.ax_command.specs.declared.words.Verb.TheVariants.{Check, Canon, Text}
+use Rattle.ax_grammar.specs.InRange.{AreNumbersInRange}
+use Rattle.ax_grammar.specs.Spelling.{printed}
+use Rattle.ax_model.specs.Blocks.{BlockTree}
+use Rattle.ax_model.specs.Specification.{SpecTree}
+use Rattle.ax_outside.specs.Changes.{SourceChange, SinkChange, IsUntouched, Gains, GainsNothing, GainsPart}
+use Rattle.ax_stream.specs.BlockCommands.{canon_command}
+use Rattle.ax_stream.specs.Commands.{BlockCommand, output_of, report_of}
+use Rattle.ax_stream.specs.Ending.{longest_input}
+use Rattle.ax_stream.specs.Made.{tree_command}
+use Rattle.ax_stream.specs.Streams.{StreamAnswers, StreamRuns}
+use Rattle.ax_stream.specs.declared.end.StreamEnd.{StreamEnd}
+use Rattle.ax_stream.specs.declared.end.StreamEnd.TheVariants.{Done, WriteFault, OutOfMemory}
+use Rattle.ax_text.specs.BlockText.{BlockLine, OpaqueLine}
+
+-- it writes a text and reads no input, or it answers each block of the input, or it refuses its arguments or what its files
+-- have in common
+pub data Job : Type 0 where
+  writes : List ℕ → Job
+  each_block : BlockCommand → Job
+  refuses : Refusal → Job
+
+-- what `check` writes: the line of the accepted file, and the specification printed
+abbrev pub check_text : SpecTree → List ℕ
+check_text spec = accepted_line spec ++ printed spec
+
+pub record IsCheckJob (specs : List SpecTree) (job : Job) : Type 0 where
+  pub spec : SpecTree
+  pub one : specs ≡ spec ∷ []
+  pub is : job ≡ writes (check_text spec)
+
+-- `text`: the line of each block
+abbrev pub text_command : List SpecTree → BlockCommand
+text_command catalogue = tree_command (λ number spec block. BlockLine spec block) (λ number category content. OpaqueLine category content) catalogue
+
+-- the job of a command with these arguments, over the specifications of its files
+abbrev pub IsJob : Verb → List (List ℕ) → List SpecTree → Job → Type 0
+IsJob Check arguments specs job = IsCheckJob specs job
+IsJob Canon arguments specs job = job ≡ each_block (canon_command specs)
+IsJob Text arguments specs job = job ≡ each_block (text_command specs)
+
+-- the job is a refusal, or memory was wanting before it was known
+abbrev pub IsStopped : Verb → List (List ℕ) → List SpecTree → JobStop → Type 0
+IsStopped verb arguments specs (JobStopOf.Refused refusal) = IsJob verb arguments specs (refuses refusal)
+IsStopped verb arguments specs JobStopOf.OutOfMemory = Unit {0}
+
+-- ---- its answer
+
+pub record TextAnswers (text : List ℕ) (end : StreamEnd) (written reported : List ℕ) : Type 0 where
+  pub done : end ≡ Done 0
+  pub written_is : written ≡ text
+  pub reported_is : reported ≡ []
+
+pub record BlocksAnswer (c : BlockCommand) (input : List ℕ) (end : StreamEnd) (written reported : List ℕ) : Type 0 where
+  pub blocks : List BlockTree
+  pub answers : StreamAnswers c longest_input input blocks end
+  pub written_is : written ≡ output_of c 0 blocks
+  pub reported_is : reported ≡ report_of c 0 blocks
+
+abbrev pub JobAnswers : Job → List ℕ → StreamEnd → List ℕ → List ℕ → Type 0
+JobAnswers (writes text) input end written reported = TextAnswers text end written reported
+JobAnswers (each_block c) input end written reported = BlocksAnswer c input end written reported
+JobAnswers (refuses refusal) input end written reported = ⊥
+
+-- ---- its run, whatever is told
+
+pub data TextEnds (text : List ℕ) (o : SinkChange) (end : StreamEnd) : Type 0 where
+  written : end ≡ Done 0 → Gains o text → TextEnds text o end
+  cut : end ≡ WriteFault → GainsPart o text → TextEnds text o end
+  no_memory : end ≡ OutOfMemory → GainsNothing o → TextEnds text o end
+
+pub record TextRuns (text : List ℕ) (i : SourceChange) (o r : SinkChange) (end : StreamEnd) : Type 0 where
+  pub ends : TextEnds text o end
+  pub untouched : IsUntouched i
+  pub report : GainsNothing r
+
+abbrev pub JobRuns : Job → SourceChange → SinkChange → SinkChange → StreamEnd → Type 0
+JobRuns (writes text) i o r end = TextRuns text i o r end
+JobRuns (each_block c) i o r end = StreamRuns c longest_input i o r end
+JobRuns (refuses refusal) i o r end = ⊥
+
+-- ---- what a command's code may rely on
+
+pub record IsReadyToCheck (specs : List SpecTree) : Type 0 where
+  pub spec : SpecTree
+  pub one : specs ≡ spec ∷ []
+  pub in_range : AreNumbersInRange spec
+
+abbrev pub IsReady : Verb → List (List ℕ) → List SpecTree → Type 0
+IsReady Check arguments specs = IsReadyToCheck specs
+IsReady Canon arguments specs = Unit {0}
+IsReady Text arguments specs = Unit {0}
+
+-- the command ran its job
+pub record RunsJob (verb : Verb) (arguments : List (List ℕ)) (specs : List SpecTree) (i : SourceChange) (o r : SinkChange) (end : StreamEnd) : Type 0 where
+  pub job : Job
+  pub is : IsJob verb arguments specs job
+  pub runs : JobRuns job i o r end

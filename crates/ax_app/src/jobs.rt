@@ -1,0 +1,81 @@
+//! The commands, over the specifications of their files.
+ghost use Rattle.std.specs.Prelude.{◌≡◌, ◌≤◌, List, ℕ, [], ◌∷◌, IfOk, IfErr, OnErr, map};
+ghost use Rattle.ax_command.specs.declared.words.Verb.TheVariants.{Check};
+ghost use Rattle.ax_grammar.specs.InRange.{AreNumbersInRange};
+ghost use Rattle.ax_model.specs.Plain.{spec_tree, catalogue_tree};
+ghost use Rattle.ax_model.specs.Specification.{SpecTree};
+ghost use Rattle.ax_outside.specs.Changes.{source_change, sink_change};
+ghost use Rattle.std.specs.String.{string_bytes};
+ghost use Rattle.ax_command.specs.declared.outcome.JobStop.{JobStop};
+ghost use Rattle.ax_stream.specs.Streams.{IsIdle};
+ghost use Rattle.ax_app.specs.Jobs.{IsReady, IsStopped, RunsJob, TextEnds, check_text};
+
+use crate::makers::TextMaker;
+use ax_check::Catalogue;
+use ax_command::{JobStop, Verb, line_of};
+use ax_grammar::print_spec;
+use ax_model::Spec;
+use ax_outside::{Sink, Source, write_text};
+use ax_stream::{CanonMaker, StreamEnd, TreeWork, run_blocks};
+use std::alloc::{AllocError, Global};
+
+/// The line of an accepted specification, and its text after it.
+fn check_text(alloc: Global, spec: &Spec) -> Result<Vec<u8>, AllocError>
+    requires { AreNumbersInRange (spec_tree spec.now) }
+    ensures { IfOk result (λ text. text.items ≡ check_text (spec_tree spec.now)) }
+{
+    let mut text = line_of(alloc, spec)?;
+    let printed = print_spec(alloc, spec)?;
+    text.extend_from_slice(&printed)?;
+    Ok(text)
+}
+
+/// `check`: writes the line and the text of the accepted file as one piece. Nothing was written where memory was wanted.
+#[tactic(auto, using(crate::proofs::Checks::checks))]
+fn check<K: Sink>(alloc: Global, catalogue: &Catalogue, out: &mut K) -> StreamEnd
+    requires { IsReady Check [] (catalogue_tree catalogue.now) }
+    ensures ends { (spec : SpecTree) → catalogue_tree catalogue.now ≡ spec ∷ [] → TextEnds (check_text spec) (sink_change K.Sink out.old out.new) result }
+    ensures never_falls { K.faults out.old ≤ K.faults out.new }
+{
+    let Some(accepted) = catalogue.at(0) else {
+        unreachable!()
+    };
+    let Ok(text) = check_text(alloc, accepted.spec()) else {
+        return StreamEnd::OutOfMemory;
+    };
+    match write_text(out, &text) {
+        Ok(()) => StreamEnd::Done { blocks: 0 },
+        Err(_) => StreamEnd::WriteFault,
+    }
+}
+
+/// Does what the command says, over the specifications of its files.
+pub fn do_job<S: Source, K: Sink, R: Sink>(
+    alloc: Global,
+    verb: Verb,
+    arguments: &[String],
+    catalogue: &Catalogue,
+    source: &mut S,
+    out: &mut K,
+    report: &mut R,
+) -> Result<StreamEnd, JobStop>
+    requires { IsReady verb (map string_bytes arguments.now) (catalogue_tree catalogue.now) }
+    ensures runs { IfOk result (RunsJob verb (map string_bytes arguments.now) (catalogue_tree catalogue.now) (source_change S.Source source.old source.new) (sink_change K.Sink out.old out.new) (sink_change R.Sink report.old report.new)) }
+    ensures stopped { IfErr result (IsStopped verb (map string_bytes arguments.now) (catalogue_tree catalogue.now)) }
+    ensures idle { OnErr result (IsIdle (source_change S.Source source.old source.new) (sink_change K.Sink out.old out.new) (sink_change R.Sink report.old report.new)) }
+    ensures source_later { S.faults source.old ≤ S.faults source.new }
+    ensures out_later { K.faults out.old ≤ K.faults out.new }
+    ensures report_later { R.faults report.old ≤ R.faults report.new }
+{
+    match verb {
+        Verb::Check => Ok(check(alloc, catalogue, out)),
+        Verb::Canon => {
+            let mut work = TreeWork::new(alloc, catalogue, CanonMaker);
+            Ok(run_blocks(alloc, &mut work, source, out, report))
+        }
+        Verb::Text => {
+            let mut work = TreeWork::new(alloc, catalogue, TextMaker);
+            Ok(run_blocks(alloc, &mut work, source, out, report))
+        }
+    }
+}

@@ -1,6 +1,0 @@
-use Rattle.std.proofs.Common.{◌≡◌, ◌+◌, drop}
-use Rattle.ax_check.specs.Places.{frn_of}
-use Rattle.ax_check.proofs.naming.find_frn.Given as goal
-
-abbrev pub invariant-loop-slot : goal.invariant-loop-slot
-invariant-loop-slot l = (l.before ≡ l.slot-index) × (frn_of (l.before + 1) l.name (drop l.slot-index l.slots) ≡ frn_of 1 l.name l.slots)

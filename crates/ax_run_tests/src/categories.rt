@@ -1,0 +1,113 @@
+//! A made-up block command, which reports a line for each block and refuses some for their length: what stands on both
+//! outputs where a call of either fails.
+ghost use Rattle.std.specs.Prelude.{◌≡◌};
+ghost use Rattle.ax_outside.specs.Changes.{Wrote, sink_change};
+ghost use Rattle.ax_run_tests.specs.Categories.{category_command, category_line};
+
+use crate::world::left_of;
+use ax_model::{RawBlock, category_digits};
+use ax_outside::{MemSink, MemSource, Sink, SinkFailed, write_text};
+use ax_samples::octets;
+use ax_stream::{BlockWork, StreamEnd, WorkStop, run_blocks};
+use std::alloc::Global;
+use std::test::Fail;
+
+/// The octets that the result of a refused block would have.
+const TOO_MANY: u32 = 70_000;
+
+fn category_line(category: u8) -> [u8; 4]
+    ensures { result ≡ category_line category }
+{
+    let [hundreds, tens, ones] = category_digits(category);
+    [hundreds, tens, ones, b'\n']
+}
+
+fn write_category_line<R: Sink>(report: &mut R, category: u8) -> Result<(), SinkFailed>
+    ensures { Wrote (sink_change R.Sink report.old report.new) result (category_line category) }
+{
+    write_text(report, &category_line(category))
+}
+
+/// The categories of blocks, and a mark for each.
+#[derive(Drop)]
+struct CategoryWork<'m> {
+    mark: &'m [u8],
+}
+
+impl<'m> BlockWork for CategoryWork<'m> {
+    ghost use Rattle.std.specs.Prelude.{false};
+
+    ghost command = { λ s. category_command s.mark.now };
+
+    ghost laid = { λ s. s.mark.now };
+
+    ghost takes_memory = { false };
+
+    #[tactic(auto, using(crate::proofs::CategoryBlocks::category_takes))]
+    fn take<R: Sink>(
+        &mut self,
+        _number: u64,
+        raw: &RawBlock<'_>,
+        report: &mut R,
+    ) -> Result<(), WorkStop> {
+        if raw.category == 255 {
+            return Err(WorkStop::TooLong { octets: TOO_MANY });
+        }
+        match write_category_line(report, raw.category) {
+            Ok(()) => Ok(()),
+            Err(_) => Err(WorkStop::ReportFault),
+        }
+    }
+
+    fn octets(&self) -> &[u8] {
+        self.mark
+    }
+}
+
+// Two blocks of the categories 48 and 34, one of category 255, and one more.
+const INPUT: &str = "30 00 04 00 22 00 04 00 FF 00 04 00 30 00 04 00";
+
+// Which write of the output and of the report fails, if any, a call taking two octets; and how the run ends, what stands on both,
+// and how many octets aren't read.
+const ROWS: [(Option<u64>, Option<u64>, StreamEnd, &[u8], &[u8], usize); 10] = [
+    (None, None, LONG, b"+++.+++.", b"048\n034\n", 4),
+    (Some(0), None, StreamEnd::WriteFault, b"", b"048\n", 12),
+    (Some(1), None, StreamEnd::WriteFault, b"++", b"048\n", 12),
+    (Some(2), None, StreamEnd::WriteFault, b"+++.", b"048\n034\n", 8),
+    (Some(3), None, StreamEnd::WriteFault, b"+++.++", b"048\n034\n", 8),
+    (None, Some(0), StreamEnd::ReportFault, b"", b"", 12),
+    (None, Some(1), StreamEnd::ReportFault, b"", b"04", 12),
+    (None, Some(2), StreamEnd::ReportFault, b"+++.", b"048\n", 8),
+    (None, Some(3), StreamEnd::ReportFault, b"+++.", b"048\n03", 8),
+    (Some(4), Some(4), LONG, b"+++.+++.", b"048\n034\n", 4),
+];
+
+const LONG: StreamEnd = StreamEnd::TooLong {
+    block: 2,
+    octets: TOO_MANY,
+};
+
+fn sink(alloc: Global, failing: Option<u64>) -> Result<MemSink, Fail> {
+    let mut calls = Vec::new(alloc);
+    if let Some(call) = failing {
+        calls.push(call)?;
+    }
+    Ok(MemSink::new(alloc, 100, 2, calls)?)
+}
+
+#[test]
+fn what_stands_where_a_line_or_a_piece_fails(rt: HostRuntime) -> Result<(), Fail> {
+    let alloc = rt.alloc();
+    for (out_fails, report_fails, end, written, reported, left) in ROWS {
+        let mut source = MemSource::new(octets(alloc, INPUT)?, Vec::new(alloc), Vec::new(alloc));
+        let mut out = sink(alloc, out_fails)?;
+        let mut report = sink(alloc, report_fails)?;
+        let mut work = CategoryWork { mark: b"+++." };
+        let got = run_blocks(alloc, &mut work, &mut source, &mut out, &mut report);
+        assert_eq!(rt; got, end);
+        assert_eq!(rt; out.written(), written);
+        assert_eq!(rt; report.written(), reported);
+        assert_eq!(rt; left_of(alloc, &mut source)?, left);
+    }
+    Ok(())
+}

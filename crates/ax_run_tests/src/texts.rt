@@ -1,0 +1,78 @@
+//! `text` over inputs without fault and with one.
+
+use crate::world::{Outside, leaves, wanted};
+use ax_samples::octets;
+use std::test::Fail;
+
+// The words, the input, the exit status, the output and the report. Each input is read to its end.
+const LINES: [(&str, &str, u8, &str, &str); 7] = [
+    ("text A", "", 0, "", ""),
+    (
+        "text 048",
+        "30 00 06 20 A1 00",
+        0,
+        "block 048 { record { 020 { part { TYP 5 SIM 0 RDP 0 SPI 0 RAB 0 } part { TST 0 spare 0 ME 0 MI 0 FOEFRI 0 } } } }\n",
+        "",
+    ),
+    (
+        "text 048",
+        "30 00 08 01 01 40 0B 0C",
+        0,
+        "block 048 { record { 030 { 5 6 } } }\n",
+        "",
+    ),
+    (
+        "text 048",
+        "30 00 0A 01 01 01 04 03 AA BB",
+        0,
+        "block 048 { record { SP \"aabb\" } }\n",
+        "",
+    ),
+    (
+        "text A",
+        "3E 00 05 80 FF",
+        0,
+        "opaque 062 \"80ff\"\n",
+        "",
+    ),
+    (
+        "text A 048",
+        "30 00 08 01 01 40 0B 0C 3E 00 05 80 FF 30 00 04 00",
+        0,
+        "block 048 { record { 030 { 5 6 } } }\nopaque 062 \"80ff\"\nblock 048 { record { } }\n",
+        "",
+    ),
+    (
+        "text A 048",
+        "3E 00 05 80 FF 30 00 05 80 19",
+        3,
+        "opaque 062 \"80ff\"\n",
+        "refused block 1 bit 32 RunsOut\n",
+    ),
+];
+
+#[test]
+fn a_line_for_each_block(rt: HostRuntime) -> Result<(), Fail> {
+    let alloc = rt.alloc();
+    for (words, input, status, out, report) in LINES {
+        let input = octets(alloc, input)?;
+        let want = wanted(alloc, status, out.as_bytes(), report, 0)?;
+        leaves(&rt, alloc, words, &input, Outside::Sound, want)?;
+    }
+    Ok(())
+}
+
+// A line is one piece: of two blocks' lines a second failing write leaves the first.
+#[test]
+fn a_line_is_one_piece(rt: HostRuntime) -> Result<(), Fail> {
+    let alloc = rt.alloc();
+    let input = octets(alloc, "3E 00 05 80 FF 3E 00 04 01")?;
+    let want = wanted(
+        alloc,
+        4,
+        b"opaque 062 \"80ff\"\n",
+        "fault write\n",
+        0,
+    )?;
+    leaves(&rt, alloc, "text A", &input, Outside::Write(1), want)
+}

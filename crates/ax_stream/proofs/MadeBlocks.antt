@@ -1,0 +1,67 @@
+-- What is made of one block.
+use Rattle.std.proofs.Common.{◌≡◌, ℕ, ◌<◌, ◌≤◌, List, [], Option, Some, None, Ok, Err, length, refl, sym, ◌∙◌, ap, arith}
+use Rattle.ax_model.specs.Blocks.{BlockTree, read_block, opaque_block}
+use Rattle.ax_model.specs.CanonicalOctets.{framed}
+use Rattle.ax_model.specs.Framing.{RawTree}
+use Rattle.ax_model.specs.Specification.{SpecTree, spec_of}
+use Rattle.ax_model.specs.declared.fault.BodyFault.{BodyFault}
+use Rattle.ax_outside.proofs.Ends.{with_end-nil}
+use Rattle.ax_stream.proofs.BlockSteps.{reads_fit, asked_category, short_fault}
+use Rattle.ax_stream.proofs.OpaqueBlocks.{raw_framed}
+use Rattle.ax_stream.specs.Commands.{gives}
+use Rattle.ax_stream.specs.Made.{IsMadeOf, IsMadeRead, NothingMade, NothingMadeRead, IsWithinBody, over, tree_command}
+use Rattle.ax_stream.specs.Taking.{Takes}
+use Rattle.ax_stream.specs.declared.making.BlockStop.{BlockStop}
+use Rattle.ax_stream.specs.declared.making.BlockStop.TheVariants as BlockStopOf
+use Rattle.ax_stream.specs.declared.work.WorkStop.TheVariants.{Fault, OutOfMemory}
+
+pub ruleset made_reads = reads_fit
+
+pub read_stop : (catalogue : List SpecTree) (raw : RawTree) (spec : SpecTree) (stop : BlockStop) → spec_of raw.category catalogue ≡ Some spec → NothingMadeRead spec raw stop → NothingMade catalogue raw stop
+read_stop catalogue raw spec (BlockStopOf.Fault f) known h = record { spec = spec; known = known; fails = h }
+read_stop catalogue raw spec BlockStopOf.OutOfMemory known h = tt
+
+pub short_stop : (raw : RawTree) (spec : SpecTree) (stop : BlockStop) → length raw.body ≤ 65532 → NothingMadeRead spec raw stop → IsWithinBody stop
+short_stop raw spec (BlockStopOf.Fault f) few h = short_fault spec raw.body f.bit f.cause few h
+short_stop raw spec BlockStopOf.OutOfMemory few h = tt
+
+module _ (of_read : ℕ → SpecTree → BlockTree → List ℕ) (of_opaque : ℕ → ℕ → List ℕ → List ℕ) (catalogue : List SpecTree) (number : ℕ) where
+  pub read_made : (raw : RawTree) (spec : SpecTree) (octets : List ℕ) → length raw.body ≤ 65532 → spec_of raw.category catalogue ≡ Some spec → IsMadeRead (of_read number) spec raw octets → IsMadeOf of_read of_opaque catalogue number raw octets
+  read_made raw spec octets few known h = record {
+    block = read_block raw.category h.records;
+    spells = record {
+      octets = framed raw.category raw.body;
+      framed = raw_framed raw.category raw.body few;
+      spelled = record { spec = spec; known = known; body = raw.body; framed = raw_framed raw.category raw.body few; spelled = h.spelled };
+    };
+    is = h.is ∙ ap (λ o. over (of_read number) o (read_block raw.category h.records)) (sym known);
+  }
+
+  pub opaque_made : (raw : RawTree) (octets : List ℕ) → length raw.body ≤ 65532 → 0 < length raw.body → spec_of raw.category catalogue ≡ None → octets ≡ of_opaque number raw.category raw.body → IsMadeOf of_read of_opaque catalogue number raw octets
+  opaque_made raw octets few some unknown is = record {
+    block = opaque_block raw.category raw.body;
+    spells = record {
+      octets = framed raw.category raw.body;
+      framed = raw_framed raw.category raw.body few;
+      spelled = record { unknown = unknown; framed = raw_framed raw.category raw.body few; some = some };
+    };
+    is = is;
+  }
+
+  pub tree_taken : (raw : RawTree) (held : Option (List ℕ)) (faults : ℕ) (u : Unit) (octets laid : List ℕ) → IsMadeOf of_read of_opaque catalogue number raw octets → laid ≡ octets
+      → Takes (tree_command of_read of_opaque catalogue) number raw (record { held = held; held' = held; faults = faults; faults' = faults }) laid (Ok u)
+  tree_taken raw held faults u octets laid h is = record {
+    means = record { lines = []; is = record { block = h.block; spells = h.spells; answer = ap (gives []) (sym (is ∙ h.is)) }; wrote = sym (with_end-nil held) };
+    later = omega arith;
+  }
+
+  pub tree_fails : (raw : RawTree) (held : Option (List ℕ)) (faults : ℕ) (f : BodyFault) (laid : List ℕ) → NothingMade catalogue raw (BlockStopOf.Fault f) → IsWithinBody (BlockStopOf.Fault f)
+      → Takes (tree_command of_read of_opaque catalogue) number raw (record { held = held; held' = held; faults = faults; faults' = faults }) laid (Err (Fault f))
+  tree_fails raw held faults f laid h short = record { means = record { fails = h; short = short; nothing = refl }; later = omega arith }
+
+  pub tree_memory : (raw : RawTree) (held : Option (List ℕ)) (faults : ℕ) (laid : List ℕ) → Takes (tree_command of_read of_opaque catalogue) number raw (record { held = held; held' = held; faults = faults; faults' = faults }) laid (Err OutOfMemory)
+  tree_memory raw held faults laid = record { means = refl; later = omega arith }
+
+pub ruleset made_blocks = (read_made, opaque_made, read_stop, asked_category, short_stop)
+
+pub ruleset tree_takes = (tree_taken, tree_fails, tree_memory)

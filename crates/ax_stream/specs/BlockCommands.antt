@@ -1,0 +1,11 @@
+-- The block commands.
+use Rattle.std.specs.Prelude.{ℕ, List}
+use Rattle.ax_model.specs.Blocks.{BlockTree}
+use Rattle.ax_model.specs.CanonicalOctets.{canon_block, framed}
+use Rattle.ax_model.specs.Specification.{SpecTree}
+use Rattle.ax_stream.specs.Commands.{BlockCommand}
+use Rattle.ax_stream.specs.Made.{tree_command}
+
+-- `canon`: the canonical form of each block, an opaque one as it is
+abbrev pub canon_command : List SpecTree → BlockCommand
+canon_command catalogue = tree_command (λ number spec block. canon_block spec block) (λ number category content. framed category content) catalogue

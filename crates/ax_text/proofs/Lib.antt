@@ -1,0 +1,12 @@
+pub mod Printed
+pub mod Readable
+pub mod Readables
+pub mod Unique
+pub mod FixedWays
+pub mod KindWays
+pub mod EntryWays
+pub mod RecordWays
+pub mod BlockWays
+pub mod BlocksOnce
+pub mod WordTokens
+pub mod Nesting

@@ -1,0 +1,29 @@
+-- The slots of a compound or of a record by their numbers, from 1.
+use Rattle.std.specs.Prelude.{ℕ, zero, suc, ◌∷◌, Option, Some, None}
+use Rattle.ax_model.specs.Shape.{Shape}
+use Rattle.ax_model.specs.Tree.{SlotTree, SlotsTree, no_slots, slot_and, spare_slot, subitem, ValueTree}
+use Rattle.ax_text.specs.ValueText.{Texts, kind_onto}
+
+-- the slot after i others; there is none where it is spare
+abbrev pub slot_behind : ℕ → SlotsTree → SlotTree
+slot_behind i no_slots = spare_slot
+slot_behind zero (slot_and s ss) = s
+slot_behind (suc i) (slot_and s ss) = slot_behind i ss
+
+abbrev pub slot_numbered : SlotsTree → ℕ → SlotTree
+slot_numbered ss zero = spare_slot
+slot_numbered ss (suc i) = slot_behind i ss
+
+abbrev pub or_spare : Option SlotTree → SlotTree
+or_spare None = spare_slot
+or_spare (Some s) = s
+
+-- the slot is defined, and the value has the shape of its kind
+abbrev pub SlotShape : SlotTree → ValueTree → Type 0
+SlotShape spare_slot v = ⊥
+SlotShape (subitem name k) v = Shape k v
+
+-- the name of the slot and its value
+abbrev pub slot_onto : SlotTree → ValueTree → Texts → Texts
+slot_onto spare_slot v rest = rest
+slot_onto (subitem name k) v rest = name ∷ kind_onto k v rest

@@ -1,0 +1,55 @@
+//! The output, token by token.
+ghost use Rattle.std.specs.Prelude.{◌≡◌, decimal, OnOk};
+ghost use Rattle.ax_model.specs.Paths.{three_digits};
+ghost use Rattle.ax_text.specs.Printing.{Puts};
+ghost use Rattle.ax_text.specs.ValueText.{one_onto, hex_text};
+
+use ax_model::category_digits;
+use itoa::Buffer;
+use std::alloc::{AllocError, Global};
+
+/// Prints tokens, each after a space.
+#[derive(Drop)]
+pub(crate) struct Printer {
+    pub(crate) alloc: Global,
+    pub(crate) out: Vec<u8>,
+}
+
+impl Printer {
+    /// Any token.
+    #[tactic(auto, using(crate::proofs::Printed::text_put))]
+    pub(crate) fn text(&mut self, text: &[u8]) -> Result<(), AllocError>
+        ensures { OnOk result (Puts (one_onto text.now) self.old.out.items self.new.out.items) }
+    {
+        self.out.push(b' ')?;
+        self.out.extend_from_slice(text)?;
+        Ok(())
+    }
+
+    /// A number in decimal.
+    pub(crate) fn number(&mut self, number: u128) -> Result<(), AllocError>
+        ensures { OnOk result (Puts (one_onto (decimal number)) self.old.out.items self.new.out.items) }
+    {
+        let mut buffer = Buffer::new();
+        self.text(buffer.format(number).as_bytes())
+    }
+
+    /// A category in three digits.
+    pub(crate) fn category(&mut self, category: u8) -> Result<(), AllocError>
+        ensures { OnOk result (Puts (one_onto (three_digits category)) self.old.out.items self.new.out.items) }
+    {
+        self.text(&category_digits(category))
+    }
+
+    /// Octets in hexadecimal digits, in quotes.
+    #[tactic(auto, using(crate::proofs::Printed::hex_put))]
+    pub(crate) fn hex(&mut self, octets: &[u8]) -> Result<(), AllocError>
+        ensures { OnOk result (Puts (one_onto (hex_text octets.now)) self.old.out.items self.new.out.items) }
+    {
+        let digits = hex::encode(self.alloc, octets)?;
+        self.out.extend_from_slice(b" \"")?;
+        self.out.extend_from_slice(digits.as_bytes())?;
+        self.out.push(b'"')?;
+        Ok(())
+    }
+}

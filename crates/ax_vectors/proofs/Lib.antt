@@ -1,3 +1,5 @@
 pub mod Pushing
 pub mod Left
-pub mod Fields
+pub mod FieldOctets
+pub mod KindDraws
+pub mod SlotDraws

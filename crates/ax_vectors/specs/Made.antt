@@ -55,9 +55,12 @@ abbrev pub run_made : ℕ → FixedTree → Maker
 run_made zero f = just []
 run_made (suc n) f = both (fixed_made f) (both (just (fx_before n ∷ [])) (run_made n f))
 
+abbrev pub octet_made : Maker
+octet_made = by_draw (λ d. just (word 8 (d % 256)))
+
 -- so many octets of content, with their length, itself included, in front
 abbrev pub content_made : ℕ → Maker
-content_made n = both (just (word 8 (1 + n))) (times n (by_draw (λ d. just (word 8 (d % 256)))))
+content_made n = both (just (word 8 (1 + n))) (times n octet_made)
 
 -- ---- presence fields
 
@@ -90,14 +93,16 @@ field_made marks = if nat_lt 0 (octets_spare marks) then by_draw (λ d. just (fi
 
 -- ---- what a field marks; a slot is given by the maker of its value, where it isn't spare
 
-abbrev pub value_made : Option Maker → Maker
-value_made None = just []
-value_made (Some one) = one
+-- a value where the slot is marked
+abbrev pub value_where : Bool → Option Maker → Maker
+value_where true (Some one) = one
+value_where true None = just []
+value_where false slot = just []
 
 -- the values of the marked slots in order
 abbrev pub values_made : List (Option Maker) → List ℕ → Maker
 values_made [] marks = just []
-values_made (slot ∷ slots) marks = if first_mark marks == 1 then both (value_made slot) (values_made slots (later_marks marks)) else values_made slots (later_marks marks)
+values_made (slot ∷ slots) marks = both (value_where (first_mark marks == 1) slot) (values_made slots (later_marks marks))
 
 -- with these marks
 abbrev pub marked_made : List (Option Maker) → List ℕ → Maker

@@ -11,7 +11,7 @@ use crate::fixed::push_fx;
 use std::alloc::AllocError;
 
 /// The mark of a slot: 1 or 0 by a draw where it is defined, else 0.
-#[tactic(auto, using(crate::proofs::Fields::drawn_marks))]
+#[tactic(auto, using(crate::proofs::FieldOctets::drawn_marks))]
 pub(crate) fn draw_mark(is_defined: bool, draws: &mut Draws) -> u8
     ensures made { Adds (mark_made is_defined) [] (result ∷ []) draws.old draws.new }
     ensures bit { result < 2 }
@@ -24,7 +24,7 @@ pub(crate) fn draw_mark(is_defined: bool, draws: &mut Draws) -> u8
 }
 
 /// Whether a slot is marked.
-#[tactic(auto, using(crate::proofs::Fields::any_marked))]
+#[tactic(auto, using(crate::proofs::FieldOctets::any_marked))]
 fn is_any_marked(marks: &[u8]) -> bool
     ensures { result ≡ not (none_marked marks.now) }
 {
@@ -37,7 +37,7 @@ fn is_any_marked(marks: &[u8]) -> bool
 }
 
 /// The marks after the first seven.
-#[tactic(auto, using(crate::proofs::Fields::after_seven))]
+#[tactic(auto, using(crate::proofs::FieldOctets::after_seven))]
 fn after_seven(marks: &[u8]) -> &[u8]
     ensures { result.now ≡ marks_after 7 marks.now }
 {
@@ -45,7 +45,7 @@ fn after_seven(marks: &[u8]) -> &[u8]
 }
 
 /// How many octets the least presence field with these marks has.
-#[tactic(auto, using(crate::proofs::Fields::least))]
+#[tactic(auto, using(crate::proofs::FieldOctets::least))]
 fn least_octets(marks: &[u8]) -> u32
     requires { (1 ≤ length marks.now) × (length marks.now ≤ 126) }
     ensures count { result ≡ least_octets marks.now }
@@ -61,7 +61,7 @@ fn least_octets(marks: &[u8]) -> u32
 }
 
 /// Puts the first seven marks after the bits, 0 for each that isn't there.
-#[tactic(auto, using(crate::proofs::Fields::sevens))]
+#[tactic(auto, using(crate::proofs::FieldOctets::sevens))]
 fn push_seven(marks: &[u8], into: &mut BitString) -> Result<(), AllocError>
     requires { AreBits marks.now }
     ensures { OnOk result (into.new ≡ into.old ++ marks_upto 7 marks.now) }
@@ -85,7 +85,7 @@ fn push_mark(marks: &[u8], place: usize, into: &mut BitString) -> Result<(), All
 }
 
 /// Puts the presence field of `count` octets with these marks after the bits.
-#[tactic(auto, using(crate::proofs::Fields::fields))]
+#[tactic(auto, using(crate::proofs::FieldOctets::fields))]
 fn push_field(count: u32, marks: &[u8], into: &mut BitString) -> Result<(), AllocError>
     requires { AreBits marks.now }
     ensures { OnOk result (into.new ≡ into.old ++ field_of count marks.now) }
@@ -103,7 +103,7 @@ fn push_field(count: u32, marks: &[u8], into: &mut BitString) -> Result<(), Allo
 
 /// Puts a presence field with these marks after the bits: the least one, or one with so many redundant octets as a
 /// draw tells where there is room for any.
-#[tactic(auto, using(crate::proofs::Fields::which_field))]
+#[tactic(auto, using(crate::proofs::FieldOctets::which_field))]
 pub(crate) fn make_field(
     marks: &[u8],
     draws: &mut Draws,

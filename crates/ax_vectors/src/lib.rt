@@ -5,6 +5,7 @@ mod bit_string;
 mod draws;
 mod field;
 mod fixed;
+mod kinds;
 
 pub use ax_samples::{
     CAT019_P1, CAT034_P1, CAT048_P1, CAT048_P2, FILE_A, FILE_E, FILE_F, FILE_G1, FILE_G2, FILE_H1,

@@ -1,5 +1,5 @@
 use Rattle.std.proofs.Common.{length}
-use Rattle.ax_vectors.proofs.Fields.{LeastLeft}
+use Rattle.ax_vectors.proofs.FieldOctets.{LeastLeft}
 use Rattle.ax_vectors.proofs.field.least_octets.Given as goal
 
 abbrev pub invariant-loop-rest : goal.invariant-loop-rest

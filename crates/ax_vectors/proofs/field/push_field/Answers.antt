@@ -1,4 +1,4 @@
-use Rattle.ax_vectors.proofs.Fields.{field_next}
+use Rattle.ax_vectors.proofs.FieldOctets.{field_next}
 use Rattle.ax_vectors.proofs.field.push_field.Goals as goal
 
 pub loop-left-preserved : goal.loop-left-preserved

@@ -1,4 +1,4 @@
-use Rattle.ax_vectors.proofs.Fields.{FieldLeft}
+use Rattle.ax_vectors.proofs.FieldOctets.{FieldLeft}
 use Rattle.ax_vectors.proofs.field.push_field.Given as goal
 
 abbrev pub invariant-loop-left : goal.invariant-loop-left

@@ -1,4 +1,4 @@
-use Rattle.ax_model.specs.Plain.{kind_tree, slots_tree}
+use Rattle.ax_model.specs.Plain.{kind_tree, slot_tree, slots_tree}
 use Rattle.ax_vectors.proofs.Left.{Left}
 use Rattle.ax_vectors.proofs.SlotDraws.{ValuesLeft}
 use Rattle.ax_vectors.specs.Made.{kind_made, values_made, makers}
@@ -13,4 +13,4 @@ decreases-make_each-loop-left l = l.left
 
 abbrev pub invariant-make_marked-loop-slot : goal.invariant-make_marked-loop-slot
 invariant-make_marked-loop-slot l =
-    ValuesLeft l.around (values_made (makers l.around (slots_tree l.slots)) l.marks) l.slot-iterator.a.rest.now l.slot-iterator.b.rest.now l.fn.into l.into l.fn.draws l.draws
+    ValuesLeft slot_tree l.around (values_made (makers l.around (slots_tree l.slots)) l.marks) l.slot-iterator.a.rest.now l.slot-iterator.b.rest.now l.fn.into l.into l.fn.draws l.draws

@@ -1,10 +1,11 @@
 -- What is made under a kind, over a specification, and as data blocks: the bits of a spelling, and the octets of blocks.
 use Rattle.std.specs.Prelude.{ℕ, zero, suc, ◌+◌, ◌-◌, ◌*◌, ◌/◌, ◌%◌, ◌^◌, ◌==◌, nat_lt, Bool, true, false, if◌then◌else◌, List, [], ◌∷◌, ◌++◌, length, Option, Some, None}
 use Rattle.ax_bits.specs.Bits.{word}
+use Rattle.ax_model.specs.Blocks.{SpellsBlock, read_block}
 use Rattle.ax_model.specs.CanonicalOctets.{octets_of, framed}
 use Rattle.ax_model.specs.Presence.{octets_needed, first_mark, later_marks, marks_upto, marks_after, least_presence}
 use Rattle.ax_model.specs.Specification.{SpecTree, record_kind}
-use Rattle.ax_model.specs.Tree.{FixedTree, element, group, MemberTree, MembersTree, no_members, member_and, named, spare, KindTree, fixed, extended, counted, by_fx, explicit, compound, SlotsTree, no_slots, slot_and, spare_slot, subitem, defined_slots}
+use Rattle.ax_model.specs.Tree.{FixedTree, element, group, MemberTree, MembersTree, no_members, member_and, named, spare, KindTree, fixed, extended, counted, by_fx, explicit, compound, SlotsTree, no_slots, slot_and, spare_slot, subitem, defined_slots, EntriesTree}
 use Rattle.ax_vectors.specs.Draws.{drawn, next_state}
 use Rattle.ax_vectors.specs.Making.{Maker, just, both, times, by_draw}
 
@@ -154,3 +155,8 @@ block_made spec state = (block_of spec.category (octets_of (records_made spec st
 -- the octets of so many blocks from one seed
 abbrev pub Made : SpecTree → ℕ → ℕ → List ℕ
 Made spec seed count = (times count (block_made spec) seed).0
+
+-- the octets are a data block of the specification's category, and spell records of it
+pub record IsSpelledBlock (spec : SpecTree) (octets : List ℕ) : Type 0 where
+  pub records : List EntriesTree
+  pub spelled : SpellsBlock (spec ∷ []) (read_block spec.category records) octets

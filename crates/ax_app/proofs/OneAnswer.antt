@@ -22,7 +22,6 @@ use Rattle.ax_app.proofs.Once.{shape_once, does_once}
 use Rattle.ax_app.specs.Answer.{none_counted, Answer, by_words, by_files, by_refusal, by_job}
 use Rattle.ax_app.specs.Jobs.{Job, writes, each_block, refuses, IsJob, JobAnswers}
 use Rattle.ax_app.specs.Running.{Does, StopsAtFiles}
-use Rattle.ax_app.specs.SameAnswers.{IsSameAnswer, same_outcome, same_stop}
 
 none_rose : Rose 0 0 → ⊥
 none_rose (inl r) = omega arith
@@ -31,19 +30,11 @@ none_rose (inr r) = omega arith
 -- ---- jobs
 
 same_job : (job : Job) (input : List ℕ) (end other : StreamEnd) (outcome next : Outcome) (written others reported more : List ℕ) → outcome ≡ outcome_of_end end → next ≡ outcome_of_end other
-    → JobAnswers job input end written reported → JobAnswers job input other others more → IsSameAnswer outcome next written others reported more
-same_job (writes text) input end other outcome next written others reported more is to h k = record {
-  outcome_is = same_outcome (is ∙ ap outcome_of_end (h.done ∙ sym k.done) ∙ sym to);
-  written_is = h.written_is ∙ sym k.written_is;
-  reported_is = h.reported_is ∙ sym k.reported_is;
-}
+    → JobAnswers job input end written reported → JobAnswers job input other others more → (outcome ≡ next) × (written ≡ others) × (reported ≡ more)
+same_job (writes text) input end other outcome next written others reported more is to h k = (is ∙ ap outcome_of_end (h.done ∙ sym k.done) ∙ sym to, h.written_is ∙ sym k.written_is, h.reported_is ∙ sym k.reported_is)
 same_job (each_block c) input end other outcome next written others reported more is to h k =
     let same : (end ≡ other) × (h.blocks ≡ k.blocks) = answers_once c longest_input input h.blocks k.blocks end other h.answers k.answers in
-    record {
-      outcome_is = same_outcome (is ∙ ap outcome_of_end same.0 ∙ sym to);
-      written_is = h.written_is ∙ ap (output_of c 0) same.1 ∙ sym k.written_is;
-      reported_is = h.reported_is ∙ ap (report_of c 0) same.1 ∙ sym k.reported_is;
-    }
+    (is ∙ ap outcome_of_end same.0 ∙ sym to, h.written_is ∙ ap (output_of c 0) same.1 ∙ sym k.written_is, h.reported_is ∙ ap (report_of c 0) same.1 ∙ sym k.reported_is)
 
 same_job (refuses refusal) input end other outcome next written others reported more is to h k = absurd h
 
@@ -54,19 +45,19 @@ refused_or_done : (words : List (List ℕ)) (files : List File) (input : List �
 refused_or_done words files input refusal job end written reported d k h = subst (λ j. JobAnswers j input end written reported) (does_once words files job (refuses refusal) k d) h
 
 same_refusal : (words : List (List ℕ)) (files : List File) (refusal next : Refusal) (outcome other : Outcome) (written others reported more : List ℕ) → Does words (Some files) (refuses refusal) → Does words (Some files) (refuses next)
-    → outcome ≡ outcome_of_refusal refusal → other ≡ outcome_of_refusal next → written ≡ others → reported ≡ more → IsSameAnswer outcome other written others reported more
+    → outcome ≡ outcome_of_refusal refusal → other ≡ outcome_of_refusal next → written ≡ others → reported ≡ more → (outcome ≡ other) × (written ≡ others) × (reported ≡ more)
 same_refusal words files refusal next outcome other written others reported more d k is to w r =
     let same : refusal ≡ next = refusal_once refusal next (does_once words files (refuses refusal) (refuses next) d k) in
-    record { outcome_is = same_outcome (is ∙ ap outcome_of_refusal same ∙ sym to); written_is = w; reported_is = r }
+    (is ∙ ap outcome_of_refusal same ∙ sym to, w, r)
 
 -- ---- files
 
 same_files : (words : List (List ℕ)) (files : List File) (stop next : LoadStop) (outcome other : Outcome) (written others reported more : List ℕ) → StopsAtFiles words (Some files) none_counted stop → StopsAtFiles words (Some files) none_counted next
-    → (stop ≡ LoadStopOf.OutOfMemory → ⊥) → (next ≡ LoadStopOf.OutOfMemory → ⊥) → outcome ≡ outcome_of_stop stop → other ≡ outcome_of_stop next → written ≡ others → reported ≡ more → IsSameAnswer outcome other written others reported more
+    → (stop ≡ LoadStopOf.OutOfMemory → ⊥) → (next ≡ LoadStopOf.OutOfMemory → ⊥) → outcome ≡ outcome_of_stop stop → other ≡ outcome_of_stop next → written ≡ others → reported ≡ more → (outcome ≡ other) × (written ≡ others) × (reported ≡ more)
 same_files words files stop next outcome other written others reported more h k never nor is to w r =
     let same = shape_once words h.what k.what h.shape k.shape in
     let ends : FilesEnd (Some files) none_counted h.what.files next = subst (λ v. FilesEnd (Some files) none_counted v.files next) (sym same) k.ends in
-    record { outcome_is = same_stop stop next is to (loading_ends_once files none_counted h.what.files stop next none_rose never nor h.ends ends); written_is = w; reported_is = r }
+    (is ∙ ap outcome_of_stop (loading_ends_once files none_counted h.what.files stop next none_rose never nor h.ends ends) ∙ sym to, w, r)
 
 files_or_job : (words : List (List ℕ)) (files : List File) (stop : LoadStop) (job : Job) → StopsAtFiles words (Some files) none_counted stop → (stop ≡ LoadStopOf.OutOfMemory → ⊥) → Does words (Some files) job → ⊥
 files_or_job words files stop job h never d =
@@ -76,8 +67,8 @@ files_or_job words files stop job h never d =
 -- ---- all
 
 pub one_answer : (words : List (List ℕ)) (files : List File) (input : List ℕ) (outcome other : Outcome) (written others reported more : List ℕ) → Answer words files input outcome written reported → Answer words files input other others more
-    → IsSameAnswer outcome other written others reported more
-one_answer words files input outcome other written others reported more (by_words never is w r) (by_words also to w' r') = record { outcome_is = same_outcome (is ∙ sym to); written_is = w ∙ sym w'; reported_is = r ∙ sym r' }
+    → (outcome ≡ other) × (written ≡ others) × (reported ≡ more)
+one_answer words files input outcome other written others reported more (by_words never is w r) (by_words also to w' r') = (is ∙ sym to, w ∙ sym w', r ∙ sym r')
 one_answer words files input outcome other written others reported more (by_words never is w r) (by_files stop h some to w' r') = absurd (never h.what h.shape)
 one_answer words files input outcome other written others reported more (by_words never is w r) (by_refusal f d to w' r') = absurd (never d.what d.shape)
 one_answer words files input outcome other written others reported more (by_words never is w r) (by_job job end d h to) = absurd (never d.what d.shape)

@@ -2,7 +2,7 @@
 use Rattle.std.proofs.Common.{◌≡◌, ℕ, ◌<◌, ◌==◌, nat_eq, Bool, true, false, cond, List, [], ◌∷◌, ◌++◌, length, map, Option, Some, None, is_some, if◌then◌else◌, option_map, slice_get, refl, sym, ◌∙◌, ap, subst, arith, length-append}
 use Rattle.std.proofs.lemmas.Bool.{eq-eqb, ne_eqb, eqb-true, eqb-false}
 use Rattle.std.proofs.lemmas.List.{length-map}
-use Rattle.std.specs.List.{AllByRecursion}
+use Rattle.std.specs.List.{AllByRecursion, IsDistinct}
 use Rattle.std.specs.Map.{lookup}
 use Rattle.ax_model.specs.Plain.{spec_tree, catalogue_tree}
 use Rattle.ax_model.specs.Specification.{SpecTree, spec_of}
@@ -84,5 +84,13 @@ pub placed : (es : List (ℕ × Spec)) (i : ℕ) → slice_get (specs_in es) i �
 placed [] i = refl
 placed (e ∷ es) ℕ.zero = refl
 placed (e ∷ es) (ℕ.suc i) = placed es i
+
+-- the categories differ, as the map's keys do
+pub apart : (es : List (ℕ × Spec)) → Keyed es → IsDistinct nat_eq (map (λ e. e.0) es) → IsDistinct nat_eq (map (λ spec. spec.category) (specs_in es))
+apart es h d = subst (IsDistinct nat_eq) (same es h) d
+  where
+    same : (es : List (ℕ × Spec)) → Keyed es → map (λ e. e.0) es ≡ map (λ spec. spec.category) (specs_in es)
+    same [] h = refl
+    same (e ∷ es) h = λ i. h.0 i ∷ same es h.1 i
 
 pub ruleset adding = (added, stays_keyed, stays_small, lacked, had)

@@ -1,17 +1,15 @@
 -- Steps down a kind to an element.
-use Rattle.std.proofs.Common.{◌≡◌, ℕ, zero, suc, ◌-◌, List, [], ◌∷◌, map, slice_get, Option, Some, None, option_map, option_and_then, refl, sym, ◌∙◌, ap, arith}
+use Rattle.std.proofs.Common.{◌≡◌, ℕ, zero, suc, List, [], ◌∷◌, map, slice_get, Option, Some, None, option_map, option_and_then, refl, sym, ◌∙◌, ap}
 use Rattle.ax_check.specs.Places.{fixed_of_member, member_fixed, part_fixed, fixed_element, kind_element, element_at}
-use Rattle.ax_model.proofs.Counting.{slot_there}
 use Rattle.ax_model.proofs.Lookups.{uap_slot_tree}
 use Rattle.ax_model.specs.Lengths.{kind_of_slot, slot_kind}
 use Rattle.ax_model.specs.Lookup.{item_of_frn, item_of_slot}
-use Rattle.ax_model.specs.Plain.{item_tree, kind_tree, member_tree, members_tree, part_tree, slot_tree, slots_tree, spec_tree}
+use Rattle.ax_model.specs.Plain.{item_tree, kind_tree, member_tree, members_tree, part_tree, spec_tree}
 use Rattle.ax_model.specs.Specification.{record_slots, slot_of_item, uap_slot}
 use Rattle.ax_model.specs.Tree.{FixedTree, element, group, MembersTree, KindTree, extended, compound, SlotsTree, slots_of}
 use Rattle.ax_model.specs.declared.content.Content.{Content}
 use Rattle.ax_model.specs.declared.kind.Member.{Member}
 use Rattle.ax_model.specs.declared.kind.Part.{Part}
-use Rattle.ax_model.specs.declared.kind.Slot.{Slot}
 use Rattle.ax_model.specs.declared.place.Place.{Place}
 use Rattle.ax_model.specs.declared.spec.Item.{Item}
 use Rattle.ax_model.specs.declared.spec.Spec.{Spec}

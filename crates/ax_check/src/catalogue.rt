@@ -1,4 +1,5 @@
-ghost use Rattle.std.specs.Prelude.{◌≡◌, ◌∷◌, ◌++◌, [], ◌<◌, ◌↔◌, None, Some, length, slice_get, option_map, OnOk, OnErr, IfErr, IsSome, MatchOption};
+ghost use Rattle.std.specs.Prelude.{◌≡◌, ◌∷◌, ◌++◌, [], ◌<◌, ◌↔◌, None, Some, length, map, nat_eq, slice_get, option_map, OnOk, OnErr, IfErr, IsSome, MatchOption};
+ghost use Rattle.std.specs.List.{IsDistinct};
 ghost use Rattle.std.specs.Option.{option_copied};
 ghost use Rattle.ax_model.specs.Plain.{spec_tree, catalogue_tree};
 ghost use Rattle.ax_model.specs.Specification.{spec_of};
@@ -76,9 +77,10 @@ impl Catalogue {
         self.specs.get(&category)
     }
 
-    /// The number of specifications.
+    /// The number of specifications. Their categories differ.
     pub fn count(&self) -> u32
-        ensures { result ≡ length self.now }
+        ensures number { result ≡ length self.now }
+        ensures apart { IsDistinct nat_eq (map (λ spec. spec.category) self.now) }
     {
         self.specs.len() as u32
     }

@@ -99,6 +99,39 @@ fn groups(rt: HostRuntime) -> Result<(), Fail> {
     Ok(())
 }
 
+// A character is 8 bits of ascii, 6 of icao and 3 of octal, and no other width.
+#[test]
+fn widths_of_characters(rt: HostRuntime) -> Result<(), Fail> {
+    for kind in [
+        "element 8 ascii",
+        "group { A element 6 icao B element 2 raw }",
+        "group { A element 3 octal B element 5 raw }",
+    ] {
+        let found = flaws_of_kind(rt.alloc(), kind)?;
+        assert_eq!(rt; found.as_str(), "", "{kind}");
+    }
+    for kind in [
+        "group { A element 1 ascii B element 7 raw }",
+        "group { A element 2 ascii B element 6 raw }",
+        "group { A element 3 ascii B element 5 raw }",
+        "group { A element 4 ascii B element 4 raw }",
+        "group { A element 5 ascii B element 3 raw }",
+        "group { A element 6 ascii B element 2 raw }",
+        "group { A element 7 ascii B element 1 raw }",
+        "group { A element 1 icao B element 7 raw }",
+        "group { A element 2 icao B element 6 raw }",
+        "group { A element 3 icao B element 5 raw }",
+        "group { A element 4 icao B element 4 raw }",
+        "group { A element 5 icao B element 3 raw }",
+        "group { A element 1 octal B element 7 raw }",
+        "group { A element 2 octal B element 6 raw }",
+    ] {
+        let found = flaws_of_kind(rt.alloc(), kind)?;
+        assert_eq!(rt; found.as_str(), "BadStringWidth 210/010/A", "{kind}");
+    }
+    Ok(())
+}
+
 #[test]
 fn extended_items(rt: HostRuntime) -> Result<(), Fail> {
     for (kind, wanted) in [

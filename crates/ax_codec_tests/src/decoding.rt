@@ -10,6 +10,11 @@ item 010 "" group { A element 4 raw B group { C element 3 raw D group { E elemen
 item 020 "" element 128 raw
 } uap { 010 020 }"#;
 
+// A part of two octets, and one of one.
+const FILE_LONG_PART: &str = r#"category 208 edition "L" items {
+item 010 "" extended { part { A element 15 raw } part { B element 7 raw } }
+} uap { 010 }"#;
+
 // A compound and a UAP of 126 slots, of which the first and the last are defined.
 pub(crate) const FILE_WIDE: &str =
     r#"category 207 edition "W" items { item 010 "" element 8 raw item 020 "" compound { A element 8 raw - - - - - - - - - - - - - - - - - - - - - - - - - - - - - -
@@ -86,6 +91,11 @@ fn deep_and_wide_items_are_read(rt: HostRuntime) -> Result<(), Fail> {
             "206 {2=170141183460469231731687303715884105729}",
         ),
         (FILE_WIDE, WIDE_BLOCK, "207 {1=5 126={126=6}}"),
+        // A part is one unit with its FX: cut within, it runs out at its first bit.
+        (FILE_LONG_PART, "D0 00 06 80 00 02", "208 {1=<1>}"),
+        (FILE_LONG_PART, "D0 00 05 80 01", "RunsOut 8"),
+        (FILE_LONG_PART, "D0 00 07 80 00 03 0A", "208 {1=<1|5>}"),
+        (FILE_LONG_PART, "D0 00 06 80 00 03", "RunsOut 24"),
     ] {
         let file = accepted(&rt, alloc, text)?;
         let octets = octets(alloc, block)?;

@@ -6,6 +6,7 @@ use Rattle.ax_model.specs.Flaws.{flaws_of}
 use Rattle.ax_model.specs.Specification.{SpecTree, spec_of}
 use Rattle.ax_tokens.specs.PlainToken.{PlainToken}
 use Rattle.ax_tokens.proofs.Once.{tokens_once, no_bad_byte, none_too_deep}
+use Rattle.ax_grammar.proofs.BadTokens.{bad_spells_none}
 use Rattle.ax_grammar.specs.Answers.{SpellsSpec, texts_of}
 use Rattle.ax_grammar.proofs.TokenTexts.{spelling_once}
 use Rattle.ax_load.specs.declared.fault.LoadStop.{LoadStop}
@@ -31,7 +32,7 @@ pub accepted_not_refused : (octets : List ℕ) (spec : SpecTree) (fault : SpecFa
 accepted_not_refused octets spec TooLarge h k = let small : length octets ≤ 1048576 = h.has.small in absurd (omega arith)
 accepted_not_refused octets spec (BadByte at) h k = no_bad_byte octets 16 h.tokens at h.has.lexed k.bad
 accepted_not_refused octets spec (TooDeep token) h k = none_too_deep octets 16 h.tokens token h.has.lexed k.deep
-accepted_not_refused octets spec (BadToken token) h k = k.bad.spells_none spec (subst (λ ts. SpellsSpec ts spec) (same_tokens octets h.tokens k.tokens h.has k.has) h.spelled)
+accepted_not_refused octets spec (BadToken token) h k = bad_spells_none k.tokens token spec k.bad (subst (λ ts. SpellsSpec ts spec) (same_tokens octets h.tokens k.tokens h.has k.has) h.spelled)
 accepted_not_refused octets spec (Flawed flaws) h (other, flawed, is) =
     let same : spec ≡ other = same_spelled h.tokens flawed.tokens spec other (same_tokens octets h.tokens flawed.tokens h.has flawed.has) h.spelled flawed.spelled in
     flawed.some (subst (λ s. flaws_of s ≡ []) same h.sound.none)

@@ -36,5 +36,6 @@ pub mod Spelled
 pub mod SpelledBits
 pub mod Stays
 pub mod StreamsApart
+pub mod VariantTrees
 pub mod WholeOctets
 pub mod WorkedExamples

@@ -18,7 +18,7 @@ const FLAWS_OF_V: &str =
     "flaw file 0 BadScale 210/010\nflaw file 0 DuplicateItem 210/010\nflaw file 0 Empty 210/010\nflaw file 0 UnknownInUap 210/uap/020\nrefused file 0 Flawed 4\n";
 
 // The words, the exit status and the report.
-const REFUSED: [(&str, u8, &str); 19] = [
+const REFUSED: [(&str, u8, &str); 21] = [
     ("", 1, "refused usage\n"),
     ("canon", 1, "refused usage\n"),
     ("canon -x", 1, "refused usage\n"),
@@ -29,6 +29,8 @@ const REFUSED: [(&str, u8, &str); 19] = [
     ("check V", 2, FLAWS_OF_V),
     ("check short", 2, "refused file 0 BadToken token 16\n"),
     ("canon short", 2, "refused file 0 BadToken token 16\n"),
+    ("check 256", 2, "refused file 0 BadToken token 1\n"),
+    ("canon A 256", 2, "refused file 1 BadToken token 1\n"),
     ("check unended", 2, "refused file 0 BadByte at 23\n"),
     ("canon unended", 2, "refused file 0 BadByte at 23\n"),
     ("check deep", 2, "refused file 0 TooDeep token 55\n"),
@@ -64,9 +66,10 @@ fn accepted(alloc: Global, line: &str, text: &str) -> Result<Vec<u8>, AllocError
 }
 
 // The words, and the line and the text that are written.
-const ACCEPTED: [(&str, &str, &str); 3] = [
+const ACCEPTED: [(&str, &str, &str); 4] = [
     ("check E", LINE_OF_E, FILE_E),
     ("check commented", LINE_OF_E, FILE_E),
+    ("check largest", LINE_OF_E, FILE_E),
     ("check 019", LINE_OF_019, CAT019_P1),
 ];
 

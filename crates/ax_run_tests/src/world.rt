@@ -18,6 +18,12 @@ const CUT_SHORT: &str =
 
 const UNENDED: &str = r#"category 034 edition "X"#;
 
+// No category: the second token is bad, though five more follow.
+const NO_CATEGORY: &str = r#"category 256 edition "X" items { } uap { - }"#;
+
+/// The most octets that a category file may have.
+const LARGEST: usize = 1_048_576;
+
 /// One octet more than a category file may have.
 const TOO_LARGE: usize = 1_048_577;
 
@@ -140,6 +146,15 @@ fn commented(alloc: Global) -> Result<Vec<u8>, AllocError> {
     Ok(made)
 }
 
+// File E, with blanks at its end.
+fn largest(alloc: Global) -> Result<Vec<u8>, AllocError> {
+    let mut made = FILE_E.as_bytes().to_vec(alloc)?;
+    while made.len() < LARGEST {
+        made.push(b' ')?;
+    }
+    Ok(made)
+}
+
 fn put(
     alloc: Global,
     files: &mut Vec<(String, Vec<u8>)>,
@@ -164,11 +179,13 @@ fn files(alloc: Global) -> Result<Vec<(String, Vec<u8>)>, AllocError> {
         ("048", CAT048_P1),
         ("short", CUT_SHORT),
         ("unended", UNENDED),
+        ("256", NO_CATEGORY),
         ("deep", NESTED_TOO_DEEP),
     ] {
         put(alloc, &mut made, name, text.as_bytes().to_vec(alloc)?)?;
     }
     put(alloc, &mut made, "commented", commented(alloc)?)?;
+    put(alloc, &mut made, "largest", largest(alloc)?)?;
     put(alloc, &mut made, "large", vec![in alloc; b' '; TOO_LARGE]?)?;
     Ok(made)
 }

@@ -3,7 +3,7 @@ use Rattle.ax_model.specs.Plain.{fixed_tree, member_tree, members_tree}
 use Rattle.ax_grammar.specs.Spelling.{fixed_texts, member_texts, members_texts}
 use Rattle.ax_grammar.specs.declared.keyword.Keyword.TheVariants as Word
 use Rattle.ax_grammar.proofs.Printed.{block_printed, print_more, next_item, members_texts_of}
-use Rattle.ax_grammar.proofs.Trees.{group_tree}
+use Rattle.ax_model.proofs.VariantTrees.{group_tree}
 use Rattle.ax_grammar.proofs.printer.Printer.+print_fixed.Goals as goal
 
 pub fixed-returns-in_ok-members-in-Group : goal.fixed-returns-in_ok-members-in-Group

@@ -4,7 +4,7 @@ use Rattle.ax_model.specs.Plain.{fixed_tree, kind_tree, slot_tree, slots_tree}
 use Rattle.ax_grammar.specs.Spelling.{fixed_texts, kind_texts, slot_texts, slots_texts}
 use Rattle.ax_grammar.specs.declared.keyword.Keyword.TheVariants as Word
 use Rattle.ax_grammar.proofs.Printed.{block_printed, second_printed, print_more, next_item, parts_texts, slots_texts_of}
-use Rattle.ax_grammar.proofs.Trees.{extended_tree, counted_tree, by_fx_tree, compound_tree}
+use Rattle.ax_model.proofs.VariantTrees.{extended_tree, counted_tree, by_fx_tree, compound_tree}
 use Rattle.ax_grammar.proofs.printer.Printer.+print_kind.Goals as goal
 
 pub kind-returns-in_ok-parts-in-Extended : goal.kind-returns-in_ok-parts-in-Extended

@@ -4,7 +4,7 @@ use Rattle.std.proofs.lemmas.Result.{err_from_is_err_and}
 use Rattle.ax_model.specs.Plain.{member_tree}
 use Rattle.ax_grammar.specs.Reading.{list_at}
 use Rattle.ax_grammar.specs.Rules.{member_at}
-use Rattle.ax_grammar.proofs.Trees.{element_tree, group_tree}
+use Rattle.ax_model.proofs.VariantTrees.{element_tree, group_tree}
 use Rattle.ax_grammar.proofs.Cases.{element_read, group_read, group_stops}
 use Rattle.ax_grammar.proofs.Lists.{list_goes_on, braced_stops_before, braced_stops_within, braced_ends}
 use Rattle.ax_grammar.proofs.Recursive.{member_shrinks}

@@ -7,7 +7,7 @@ use Rattle.ax_model.specs.declared.kind.Kind.TheVariants.{Counted}
 use Rattle.ax_grammar.specs.Reading.{list_at}
 use Rattle.ax_grammar.specs.Rules.{slot_at}
 use Rattle.ax_grammar.proofs.Cases.{extended_read, counted_read, by_fx_read, explicit_read, compound_read, compound_stops, fixed_read}
-use Rattle.ax_grammar.proofs.Trees.{extended_tree, counted_tree, by_fx_tree, explicit_tree, compound_tree, fixed_kind_tree}
+use Rattle.ax_model.proofs.VariantTrees.{extended_tree, counted_tree, by_fx_tree, explicit_tree, compound_tree, fixed_kind_tree}
 use Rattle.ax_grammar.proofs.Lists.{list_goes_on, braced_stops_before, braced_stops_within, braced_ends}
 use Rattle.ax_grammar.proofs.Recursive.{slot_shrinks}
 use Rattle.ax_grammar.proofs.reader.Reader.+read_kind.Goals as goal

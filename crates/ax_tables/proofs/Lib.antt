@@ -1,0 +1,5 @@
+pub mod CodecLists
+pub mod Compiling
+pub mod Growing
+pub mod BareKinds
+pub mod Tables

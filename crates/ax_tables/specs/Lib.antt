@@ -1,0 +1,7 @@
+pub mod Bare
+pub mod Facts
+pub mod Making
+pub mod Meaning
+pub mod Octets
+pub mod Standing
+pub mod Table

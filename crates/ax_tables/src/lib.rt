@@ -1,0 +1,14 @@
+//! Flat tables of specifications: one list of nodes in which each child stands before its parent.
+//!
+//! A codec is a specification without its titles, names and contents, so that octets are read by numbers alone.
+#![tactic(auto)]
+
+mod build;
+mod codec;
+mod codecs;
+mod node;
+
+pub use build::compile;
+pub use codec::Codec;
+pub use codecs::{CodecList, Codecs};
+pub use node::{Links, Node, Nodes};

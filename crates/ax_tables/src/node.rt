@@ -1,0 +1,144 @@
+//! The nodes of a table: kinds and parts that lead to each other by links.
+ghost use Rattle.std.specs.Prelude.{◌≡◌, ◌<◌, ◌++◌, ◌∷◌, ◌↔◌, [], length, map, slice_get, IsSome, OnOk, OnErr};
+ghost use Rattle.std.specs.Option.{option_copied};
+ghost use Rattle.ax_tables.specs.Octets.{octets_of};
+ghost use Rattle.ax_tables.specs.Meaning.{fixed_bits, part_bits};
+
+use ax_fspec::SlotMask;
+use ax_lists::Sequence;
+use std::alloc::{AllocError, Global};
+use std::marker::Model;
+
+/// Links to nodes, in order. A link is 0 for a spare slot and else 1 more than a node's number, which counts from 0.
+pub type Links = Sequence<u32>;
+
+/// The nodes of a table, in order. Contracts see that list alone; how many octets each fixed kind has stands beside it,
+/// so that octets are walked over without a look at the node.
+#[derive(Drop)]
+pub struct Nodes {
+    items: Vec<Node>,
+    octets: Vec<u32>,
+}
+
+impl Model for Nodes {
+    ghost use Rattle.std.specs.Prelude.{◌≡◌, ◌<◌, List, length, map};
+    ghost use Rattle.ax_tables.specs.Octets.{octets_of};
+    ghost use Rattle.ax_tables.specs.declared.node.Node.{Node};
+
+    ghost Value = { List Node };
+
+    ghost view = { λ n. n.items.items };
+
+    ghost invariant = { λ n. (length n.items.items < 4294967296) × (n.octets.items ≡ map octets_of n.items.items) };
+}
+
+impl Nodes {
+    /// No nodes. Takes no memory.
+    pub fn new(alloc: Global) -> Self
+        ensures { result ≡ [] }
+    {
+        Nodes {
+            items: Vec::new(alloc),
+            octets: Vec::new(alloc),
+        }
+    }
+
+    /// The number of nodes.
+    pub fn count(&self) -> u32
+        ensures { result ≡ length self.now }
+    {
+        self.items.len() as u32
+    }
+
+    /// The node of that number, from 0. None comes exactly past the end.
+    pub fn get(&self, index: u32) -> Option<&Node>
+        ensures value { option_copied result ≡ slice_get self.now index }
+        ensures within { IsSome result ↔ index < length self.now }
+    {
+        self.items.get(index as usize)
+    }
+
+    /// The nodes in order.
+    pub fn as_slice(&self) -> &[Node]
+        ensures members { result.now ≡ self.now }
+        ensures bound { length self.now < 4294967296 }
+    {
+        self.items.as_slice()
+    }
+
+    /// For each node the octets of its fixed kind; 0 where it is no such kind, or not of whole octets.
+    pub fn octets(&self) -> &[u32]
+        ensures { result.now ≡ map octets_of self.now }
+    {
+        self.octets.as_slice()
+    }
+
+    /// Appends one node. Want of memory leaves the list as it was.
+    pub fn push(&mut self, one: Node) -> Result<(), AllocError>
+        requires room { length self.old < 4294967295 }
+        ensures ok { OnOk result (self.new ≡ self.old ++ one ∷ []) }
+        ensures err { OnErr result (self.new ≡ self.old) }
+    {
+        self.octets.push(one.octets())?;
+        if self.items.push(one).is_err() {
+            let _ = self.octets.pop();
+            return Err(AllocError);
+        }
+        Ok(())
+    }
+}
+
+/// A kind, or a part of one. Widths are in bits, without FX.
+#[derive(Drop)]
+pub enum Node {
+    /// An element, or spare bits.
+    Element { width: u32 },
+    /// Members one after another, each an element or a group.
+    Group { width: u32, members: Links },
+    /// A part of an extended item: members one after another, as in a group.
+    Part { width: u32, members: Links },
+    /// The parts of an extended item, each a part's node.
+    Extended { parts: Links },
+    /// Occurrences of any kind, after their number.
+    Counted { inner: u32 },
+    /// Occurrences of a fixed kind, each with its FX bit.
+    ByFx { inner: u32 },
+    /// Octets after their length.
+    Explicit,
+    /// Subitems after a presence field; the mask has the slots that aren't spare.
+    Compound { mask: SlotMask, slots: Links },
+}
+
+impl Node {
+    /// The octets of a fixed kind of whole octets; else 0.
+    #[inline]
+    pub fn octets(&self) -> u32
+        ensures { result ≡ octets_of self.now }
+    {
+        let width = self.fixed_width();
+        if width % 8 == 0 { width / 8 } else { 0 }
+    }
+
+    /// The bits of a fixed kind; else 0.
+    #[inline]
+    pub fn fixed_width(&self) -> u32
+        ensures { result ≡ fixed_bits self.now }
+    {
+        match self {
+            Node::Element { width } => *width,
+            Node::Group { width, .. } => *width,
+            _ => 0,
+        }
+    }
+
+    /// The bits of a part without its FX bit; else 0.
+    #[inline]
+    pub fn part_width(&self) -> u32
+        ensures { result ≡ part_bits self.now }
+    {
+        match self {
+            Node::Part { width, .. } => *width,
+            _ => 0,
+        }
+    }
+}

@@ -1,0 +1,174 @@
+-- Parts that are looked for along an extended item.
+use Rattle.std.proofs.Common.{◌≡◌, ℕ, zero, suc, ◌+◌, ◌-◌, ◌*◌, ◌%◌, ◌<◌, ◌≤◌, Option, Some, None, List, [], ◌∷◌, length, drop, get_or, refl, sym, ◌∙◌, ap, arith, subst, option_and_then}
+use Rattle.std.specs.List.{AllByRecursion}
+use Rattle.ax_bits.specs.Bits.{bits}
+use Rattle.ax_model.specs.Reader.{Read, got, failed, after, fixed_value, members_value, parts_read}
+use Rattle.ax_model.specs.InBounds.{InBounds, PartInBounds, MembersInBounds}
+use Rattle.ax_model.specs.Tree.{MembersTree, ValuesTree, no_values, ListsTree, no_lists, list_and, part_values, extended}
+use Rattle.ax_model.specs.Widths.{members_width}
+use Rattle.ax_model.specs.declared.fault.BodyCause.{BodyCause}
+use Rattle.ax_model.specs.declared.fault.BodyCause.TheVariants.{RunsOut, ExtensionPastEnd}
+use Rattle.ax_model.specs.declared.fault.BodyFault.{BodyFault}
+use Rattle.ax_tables.specs.Meaning.{Meaning, meanings, linked, fixed_of, part_of, linked_part, linked_parts}
+use Rattle.ax_tables.specs.Table.{LinksWithin}
+use Rattle.ax_tables.specs.declared.node.Node.{Node}
+use Rattle.ax_reader.proofs.AtOctets.{IsUnit, parts_at, parts_fail, parts_end, parts_go_on, parts_past_end}
+use Rattle.ax_reader.specs.Reading.{Gets, FailsAt, Continues}
+use Rattle.ax_view.proofs.Found.{all_after, not_lost}
+use Rattle.ax_view.proofs.UnitSteps.{unit_at}
+use Rattle.ax_model.specs.At.{nth_list, nth_value, value_at, number_of_value, number_at}
+use Rattle.ax_view.specs.Values.{IsAll, IsOne, value_read, value_in, lists_in, FindsPart, FindsNoPart, FindsMember, FindsNone}
+
+abbrev pub lists_found : Read ListsTree → ListsTree
+lists_found (got ls n y) = ls
+lists_found (failed p c) = no_lists
+
+list_after : (n : ℕ) (vs : ValuesTree) (r : Read ListsTree) → IsAll r → lists_found (after n (λ ls. list_and vs ls) r) ≡ list_and vs (lists_found r)
+list_after n vs (got ls m y) h = refl
+list_after n vs (failed p c) h = absurd h
+
+parts_after : (n : ℕ) (r : Read ListsTree) → IsAll r → lists_in (value_read (after n (λ ls. part_values ls) r)) ≡ lists_found r
+parts_after n (got ls m y) h = refl
+parts_after n (failed p c) h = absurd h
+
+-- ---- one part
+
+pub parts_left_none : (body : List ℕ) (here : ℕ) → IsAll (parts_at [] body here) → ⊥
+unfolding parts_at
+parts_left_none body here h = h
+
+module _ (p : MembersTree) (left : List MembersTree) (body : List ℕ) (here end w : ℕ) (le : here ≤ end) (within : end ≤ length body) (is : w ≡ members_width p) (long : w + 1 ≡ 8 * (end - here)) (all : IsAll (parts_at (p ∷ left) body here)) where
+  pub last_part : get_or body (end - 1) 0 % 2 ≡ 0 → lists_found (parts_at (p ∷ left) body here) ≡ list_and (members_value p (drop (8 * here) (bits body))) no_lists
+  last_part fx = ap lists_found (parts_end p left body here end w 0 (unit_at body here end w 0 le within long fx) (sym is) (members_value p (drop (8 * here) (bits body))) refl refl).got
+
+pub record MoreParts (p : MembersTree) (left : List MembersTree) (body : List ℕ) (here end : ℕ) : Type 0 where
+  pub all : IsAll (parts_at left body end)
+  pub found : lists_found (parts_at (p ∷ left) body here) ≡ list_and (members_value p (drop (8 * here) (bits body))) (lists_found (parts_at left body end))
+
+pub more_parts : (p : MembersTree) (left : List MembersTree) (body : List ℕ) (here end w : ℕ) → here ≤ end → end ≤ length body → w ≡ members_width p → w + 1 ≡ 8 * (end - here) → IsAll (parts_at (p ∷ left) body here)
+    → get_or body (end - 1) 0 % 2 ≡ 1 → MoreParts p left body here end
+more_parts p [] body here end w le within is long all fx =
+    let fault : BodyFault = record { cause = ExtensionPastEnd; bit = 8 * end - 1 } in
+    let l = parts_past_end p body here end w 1 fault (unit_at body here end w 1 le within long fx) (sym is) refl refl (omega arith) in
+    absurd (not_lost l.place fault.cause (parts_at (p ∷ []) body here) l.failed all)
+more_parts p (q ∷ left) body here end w le within is long all fx =
+    let vs = members_value p (drop (8 * here) (bits body)) in
+    let c = parts_go_on p q left body here end w 1 vs (unit_at body here end w 1 le within long fx) (sym is) refl refl in
+    let rest = all_after (8 * (end - here)) (λ ls. list_and vs ls) (parts_at (q ∷ left) body end) (subst IsAll c.same all) in
+    record { all = rest; found = ap lists_found c.same ∙ list_after (8 * (end - here)) vs (parts_at (q ∷ left) body end) rest }
+
+pub this_part : (p : MembersTree) (left : List MembersTree) (body : List ℕ) (here end w : ℕ) → here ≤ end → end ≤ length body → w ≡ members_width p → w + 1 ≡ 8 * (end - here) → IsAll (parts_at (p ∷ left) body here)
+    → nth_list 0 (lists_found (parts_at (p ∷ left) body here)) ≡ members_value p (drop (8 * here) (bits body))
+this_part p left body here end w le within is long all = by (get_or body (end - 1) 0 % 2) refl
+  where
+    by : (fx : ℕ) → get_or body (end - 1) 0 % 2 ≡ fx → nth_list 0 (lists_found (parts_at (p ∷ left) body here)) ≡ members_value p (drop (8 * here) (bits body))
+    by zero e = ap (nth_list 0) (last_part p left body here end w le within is long all e)
+    by (suc zero) e = ap (nth_list 0) (more_parts p left body here end w le within is long all e).found
+    by (suc (suc n)) e = absurd (omega arith)
+
+pub part_fits : (p : MembersTree) (left : List MembersTree) (body : List ℕ) (here : ℕ) (short : 8 * (length body - here) < members_width p + 1) → IsAll (parts_at (p ∷ left) body here) → ⊥
+part_fits p left body here short all =
+    let fault : BodyFault = record { cause = RunsOut; bit = 8 * here } in
+    let l = parts_fail p left body here fault (omega arith) refl refl in not_lost l.place fault.cause (parts_at (p ∷ left) body here) l.failed all
+
+-- ---- along the parts
+
+pub record PartsFound (nodes : List Node) (whole left body : List ℕ) (here i n : ℕ) : Type 0 where
+  pub within : here ≤ length body
+  pub links : LinksWithin (length nodes) left
+  pub bounds : AllByRecursion PartInBounds (linked_parts (meanings nodes) left)
+  pub all : IsAll (parts_at (linked_parts (meanings nodes) left) body here)
+  pub same : nth_list i (lists_in (value_in (extended (linked_parts (meanings nodes) whole)) body)) ≡ nth_list n (lists_found (parts_at (linked_parts (meanings nodes) left) body here))
+
+pub parts_looked : (nodes : List Node) (links body : List ℕ) (i : ℕ) → LinksWithin (length nodes) links → InBounds (extended (linked_parts (meanings nodes) links)) → IsOne (extended (linked_parts (meanings nodes) links)) body → PartsFound nodes links links body 0 i i
+unfolding parts_at value_in
+parts_looked nodes links body i within bounds one =
+    let r = parts_read (linked_parts (meanings nodes) links) (bits body) in
+    let all = all_after 0 (λ ls. part_values ls) r one.all in record {
+      within = omega arith;
+      links = within;
+      bounds = bounds.1;
+      all = all;
+      same = ap (nth_list i) (parts_after 0 r all);
+    }
+
+pred : (n : ℕ) → (n ≡ 0 → ⊥) → n ≡ suc (n - 1)
+pred zero some = absurd (some refl)
+pred (suc n) some = omega arith
+
+module _ (nodes : List Node) (all left later body : List ℕ) (p here i n : ℕ) (h : PartsFound nodes all left body here i n) (e : left ≡ p ∷ later) where
+  split : PartsFound nodes all (p ∷ later) body here i n
+  split = subst (λ left. PartsFound nodes all left body here i n) e h
+
+  pub part_link : (0 < p) × (p ≤ length nodes)
+  part_link = split.links.0
+
+  pub part_wide : ((members_width (linked_part (meanings nodes) p) + 1) % 8 ≡ 0) × (members_width (linked_part (meanings nodes) p) + 1 ≤ 524264)
+  part_wide = let b = split.bounds.0 in (b.0, (let le = b.1 in omega arith))
+
+  pub part_lost : 8 * (length body - here) < members_width (linked_part (meanings nodes) p) + 1 → ⊥
+  part_lost short = part_fits (linked_part (meanings nodes) p) (linked_parts (meanings nodes) later) body here short split.all
+
+  module _ (end w : ℕ) (le : here ≤ end) (within : end ≤ length body) (is : w ≡ members_width (linked_part (meanings nodes) p)) (long : w + 1 ≡ 8 * (end - here)) where
+    pub part_found_here : n ≡ 0 → FindsPart nodes (linked_parts (meanings nodes) all) body i p (8 * here)
+    part_found_here z = record {
+      some = split.links.0.0;
+      within = split.links.0.1;
+      bounds = split.bounds.0.2;
+      room = omega arith;
+      value = split.same ∙ ap (λ n. nth_list n (lists_found (parts_at (linked_parts (meanings nodes) (p ∷ later)) body here))) z ∙ this_part (linked_part (meanings nodes) p) (linked_parts (meanings nodes) later) body here end w le within is long split.all;
+    }
+
+    pub part_ends : (n ≡ 0 → ⊥) → get_or body (end - 1) 0 % 2 ≡ 0 → FindsNoPart (linked_parts (meanings nodes) all) body i
+    part_ends some fx = record {
+      none = split.same ∙ ap (λ n. nth_list n (lists_found (parts_at (linked_parts (meanings nodes) (p ∷ later)) body here))) (pred n some)
+          ∙ ap (nth_list (suc (n - 1))) (last_part (linked_part (meanings nodes) p) (linked_parts (meanings nodes) later) body here end w le within is long split.all fx);
+    }
+
+    pub part_next : (n ≡ 0 → ⊥) → get_or body (end - 1) 0 % 2 ≡ 1 → PartsFound nodes all later body end i (n - 1)
+    part_next some fx =
+        let m = more_parts (linked_part (meanings nodes) p) (linked_parts (meanings nodes) later) body here end w le within is long split.all fx in record {
+          within = within;
+          links = split.links.1;
+          bounds = split.bounds.1;
+          all = m.all;
+          same = split.same ∙ ap (λ n. nth_list n (lists_found (parts_at (linked_parts (meanings nodes) (p ∷ later)) body here))) (pred n some) ∙ ap (nth_list (suc (n - 1))) m.found;
+        }
+
+pub parts_past_all : (nodes : List Node) (all left body : List ℕ) (here i n : ℕ) → PartsFound nodes all left body here i n → left ≡ [] → ⊥
+parts_past_all nodes all left body here i n h e = parts_left_none body here (subst (λ left. IsAll (parts_at (linked_parts (meanings nodes) left) body here)) e h.all)
+
+-- ---- the number in a part
+
+module _ (ps : List MembersTree) (body : List ℕ) (one : IsOne (extended ps) body) where
+  is_parts : value_in (extended ps) body ≡ part_values (lists_in (value_in (extended ps) body))
+  unfolding value_in
+  is_parts = by (parts_read ps (bits body)) (all_after 0 (λ ls. part_values ls) (parts_read ps (bits body)) one.all)
+    where
+      by : (r : Read ListsTree) → IsAll r → value_read (after 0 (λ ls. part_values ls) r) ≡ part_values (lists_in (value_read (after 0 (λ ls. part_values ls) r)))
+      by (got ls m y) h = refl
+      by (failed p c) h = absurd h
+
+  as_parts : (steps whole : List ℕ) → whole ≡ steps → number_at whole (value_in (extended ps) body) ≡ number_at steps (part_values (lists_in (value_in (extended ps) body)))
+  as_parts steps whole e = ap (λ s. number_at s (value_in (extended ps) body)) e ∙ ap (number_at steps) is_parts
+
+  pub no_part_step : (steps : List ℕ) → steps ≡ [] → None ≡ number_at steps (value_in (extended ps) body)
+  no_part_step steps e = sym (as_parts [] steps e)
+
+  pub no_member_step : (steps inside : List ℕ) (p : ℕ) → steps ≡ p ∷ inside → inside ≡ [] → None ≡ number_at steps (value_in (extended ps) body)
+  no_member_step steps inside p e f = sym (as_parts (p ∷ []) steps (e ∙ ap (λ xs. p ∷ xs) f))
+
+  module _ (steps inside later : List ℕ) (p i : ℕ) (e : steps ≡ p ∷ inside) (f : inside ≡ i ∷ later) where
+    at_parts : number_at steps (value_in (extended ps) body) ≡ option_and_then number_of_value (option_and_then (value_at later) (nth_value i (nth_list p (lists_in (value_in (extended ps) body)))))
+    at_parts = as_parts (p ∷ i ∷ later) steps (e ∙ ap (λ xs. p ∷ xs) f)
+
+    pub not_present : FindsNoPart ps body p → None ≡ number_at steps (value_in (extended ps) body)
+    not_present h = sym (at_parts ∙ ap (λ vs. option_and_then number_of_value (option_and_then (value_at later) (nth_value i vs))) h.none)
+
+    module _ (nodes : List Node) (link bit : ℕ) (h : FindsPart nodes ps body p link bit) where
+      pub no_such_member : FindsNone (part_of (linked (meanings nodes) link)) bit i → None ≡ number_at steps (value_in (extended ps) body)
+      no_such_member m = sym (at_parts ∙ ap (λ vs. option_and_then number_of_value (option_and_then (value_at later) (nth_value i vs))) h.value ∙ ap (λ v. option_and_then number_of_value (option_and_then (value_at later) v)) (m.none (bits body)))
+
+      pub in_member : (member at : ℕ) (r : Option ℕ) → FindsMember nodes (part_of (linked (meanings nodes) link)) bit i member at → r ≡ number_at later (fixed_value (fixed_of (linked (meanings nodes) member)) (drop at (bits body)))
+          → r ≡ number_at steps (value_in (extended ps) body)
+      in_member member at r m is = is ∙ sym (at_parts ∙ ap (λ vs. option_and_then number_of_value (option_and_then (value_at later) (nth_value i vs))) h.value ∙ ap (λ v. option_and_then number_of_value (option_and_then (value_at later) v)) (m.value (bits body)))

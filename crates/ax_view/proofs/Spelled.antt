@@ -1,0 +1,46 @@
+-- What a view's octets spell by the definitions.
+use Rattle.std.proofs.Common.{◌≡◌, ℕ, List, [], refl, sym, ◌∙◌, ap, subst}
+use Rattle.ax_bits.proofs.Words.{bits-AreBits}
+use Rattle.ax_bits.specs.Bits.{bits}
+use Rattle.ax_model.proofs.Bounds.{bounds_sound, record_bounds}
+use Rattle.ax_model.proofs.ByReading.{spelled_by_reading}
+use Rattle.ax_model.specs.Reader.{Read, got, failed, read}
+use Rattle.ax_model.specs.Bodies.{SpellsRecord}
+use Rattle.ax_model.specs.Flaws.{NoFlaw}
+use Rattle.ax_model.specs.InBounds.{InBounds}
+use Rattle.ax_model.specs.Specification.{SpecTree, record_kind}
+use Rattle.ax_model.specs.Spelling.{Spells}
+use Rattle.ax_model.specs.Tree.{KindTree, ValueTree}
+use Rattle.ax_tables.proofs.BareKinds.{bare_read, stands_record}
+use Rattle.ax_tables.specs.Standing.{StandsFor}
+use Rattle.ax_tables.specs.Table.{record_kind_at}
+use Rattle.ax_tables.specs.declared.codec.Codec.{Codec}
+use Rattle.ax_view.proofs.ItemNumbers.{is_marked}
+use Rattle.ax_view.proofs.Plain.{IsPlain, plain_is}
+use Rattle.ax_model.specs.Canonical.{canon}
+use Rattle.ax_view.specs.Values.{IsAll, IsOne, IsRecord, value_read, value_in, entries_in, SpellsAny}
+
+all_spelled : (k : KindTree) (xs : List ℕ) → InBounds k → (r : Read ValueTree) → read k (bits xs) ≡ r → IsAll r → Spells k (value_read r) (bits xs)
+all_spelled k xs bounds (got v n y) e h = spelled_by_reading k v (bits xs) n (bounds_sound k bounds) (bits-AreBits xs) (e ∙ ap (λ y. got v n y) h)
+all_spelled k xs bounds (failed p c) e h = absurd h
+
+pub record_spelled : (codec : Codec) (octets : List ℕ) → IsRecord codec octets → SpellsAny codec octets
+unfolding value_in
+record_spelled codec octets one = record { spells = λ spec clean stands. by spec clean stands }
+  where
+    same : (spec : SpecTree) → StandsFor codec spec → read (record_kind_at codec.nodes codec.slots) (bits octets) ≡ read (record_kind spec) (bits octets)
+    same spec stands = ap (λ k. read k (bits octets)) (stands_record codec spec stands) ∙ bare_read (record_kind spec) (bits octets)
+
+    value : (spec : SpecTree) → StandsFor codec spec → value_read (read (record_kind spec) (bits octets)) ≡ value_in (record_kind_at codec.nodes codec.slots) octets
+    value spec stands = ap value_read (sym (same spec stands))
+
+    by : (spec : SpecTree) → NoFlaw spec → StandsFor codec spec → SpellsRecord spec (entries_in (value_in (record_kind_at codec.nodes codec.slots) octets)) (bits octets)
+    by spec clean stands = record {
+      spells = subst (λ v. Spells (record_kind spec) v (bits octets)) (value spec stands ∙ is_marked codec.nodes codec.slots octets)
+          (all_spelled (record_kind spec) octets (record_bounds spec clean) (read (record_kind spec) (bits octets)) refl (subst IsAll (same spec stands) one.all));
+    }
+
+-- the octets of a value without a presence field are its canonical spelling
+pub leaf_canonical : (k : KindTree) (octets : List ℕ) → IsPlain k → InBounds k → IsOne k octets → canon k (value_in k octets) ≡ bits octets
+unfolding value_in
+leaf_canonical k octets plain bounds one = plain_is k (value_read (read k (bits octets))) (bits octets) plain (all_spelled k octets bounds (read k (bits octets)) refl one.all)

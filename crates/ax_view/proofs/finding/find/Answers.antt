@@ -1,0 +1,35 @@
+use Rattle.std.proofs.Common.{rules, ap, arith, sym, refl, subst, ◌∙◌, ◌≡◌, ◌+◌, ◌-◌, ◌*◌, ◌<◌, ◌≤◌, length, get_or, IfSome, IfNone, IsTrue, option_map, ℕ, ◌/◌, ◌%◌, Bool, true, false, nat_eq, nat_lt, List, [], ◌∷◌, ◌++◌, slice_set, bit_and, bit_or, Fits, w8, w32, w64, Bor, MutBor}
+use Rattle.ax_bits.specs.Bits.{AreBits}
+use Rattle.ax_fspec.specs.declared.mask.SlotMask.{SlotMask}
+use Rattle.ax_model.specs.InBounds.{InBounds, SlotsInBounds}
+use Rattle.ax_model.specs.Presence.{NoneUndefined}
+use Rattle.ax_model.specs.Tree as Tree
+use Rattle.ax_tables.specs.Meaning.{meanings, linked_slots}
+use Rattle.ax_tables.specs.Table.{IsTable, SlotLinksWithin, kind_at, record_kind_at}
+use Rattle.ax_reader.specs.Reading.{IsMaskOf, entries_at}
+use Rattle.ax_reader.proofs.Marking.{marks_bits}
+use Rattle.ax_model.specs.At.{slot_value}
+use Rattle.ax_view.specs.Values.{IsAll, IsOne, entries_found, value_in, entries_in}
+use Rattle.ax_view.proofs.Compounds.{marks_clear, slots_bounds}
+use Rattle.ax_view.proofs.MarkedSteps.{NextMarked, next_marked, within_at}
+use Rattle.ax_view.proofs.Found.{field_never, marks_all, entries_are}
+use Rattle.ax_view.proofs.finding.find.Goals as goal
+
+pub find_marked-requires-clause-bounds : goal.find_marked-requires-clause-bounds
+find_marked-requires-clause-bounds c = slots_bounds c.args.codec.now.nodes c.args.slots.now c.requires.bounds
+
+pub find_marked-requires-clause-marks : goal.find_marked-requires-clause-marks
+find_marked-requires-clause-marks c = marks_bits c.args.mask.now c.args.body.now c.read_presence.new.into 0 c.in-Ok.here c.in-Ok.ensures.ok
+
+pub find_marked-requires-clause-clear : goal.find_marked-requires-clause-clear
+find_marked-requires-clause-clear c = marks_clear (linked_slots (meanings c.args.codec.now.nodes) c.args.slots.now) c.args.mask.now c.args.body.now c.read_presence.new.into 0 c.in-Ok.here c.requires.mask c.in-Ok.ensures.ok
+
+pub find_marked-requires-clause-all : goal.find_marked-requires-clause-all
+find_marked-requires-clause-all c = marks_all c.args.codec.now.nodes c.args.slots.now c.args.mask.now c.args.body.now c.requires.mask c.requires.one c.read_presence.new.into c.in-Ok.here c.in-Ok.ensures.ok
+
+pub returns-in-Ok-clause-value : goal.returns-in-Ok-clause-value
+returns-in-Ok-clause-value c =
+    c.find_marked.ensures.value ∙ ap (slot_value c.args.slot) (entries_are c.args.codec.now.nodes c.args.slots.now c.args.mask.now c.args.body.now c.requires.mask c.requires.one c.read_presence.new.into c.in-Ok.here c.in-Ok.ensures.ok)
+
+pub returns-in-Err-clause-value : goal.returns-in-Err-clause-value
+returns-in-Err-clause-value c = absurd (field_never c.args.codec.now.nodes c.args.slots.now c.args.mask.now c.args.body.now c.requires.mask c.requires.one _ c.in-Err.ensures.err)

@@ -1,0 +1,99 @@
+use Rattle.std.proofs.Common.{◌≡◌, ◌+◌, ◌-◌, ◌*◌, ◌%◌, ◌<◌, ◌≤◌, length, get_or, true, false, IfSome, IfNone, IsTrue, ℕ, Bool, List, ap, arith, refl, sym, subst, ◌∙◌}
+use Rattle.ax_bits.proofs.Pieces.{AreOctets-items}
+use Rattle.ax_bits.specs.Bits.{AreOctets}
+use Rattle.ax_model.specs.Canonical.{canon}
+use Rattle.ax_model.specs.InBounds.{InBounds}
+use Rattle.ax_model.specs.Tree as Tree
+use Rattle.ax_model.specs.declared.content.Content.TheVariants.{Raw}
+use Rattle.ax_tables.specs.Meaning.{meanings, linked, fixed_of, linked_members, linked_parts, linked_slots}
+use Rattle.ax_tables.specs.Table.{IsTable, SlotLinksWithin, kind_at, record_kind_at}
+use Rattle.ax_reader.proofs.Counting.{counted_none}
+use Rattle.ax_reader.specs.Reading.{FailsAt, IsMaskOf, kind_read, entries_at}
+use Rattle.ax_view.proofs.Leading.{if_none}
+use Rattle.ax_view.proofs.NodeKinds.{octets_walk, end_as, fault_as, run_end, run_fault, is_element, is_group, group_width, is_part, is_extended, extended_links, is_counted, counted_link, is_by_fx, by_fx_link, is_explicit, is_compound, compound_links, compound_mask, compound_falls}
+use Rattle.ax_view.proofs.Occurrences.{count_first, count_next, count_last, count_lost}
+use Rattle.ax_view.proofs.Compounds.{marks_clear, slots_bounds, record_lost, compound_end, compound_fault}
+use Rattle.ax_view.proofs.MarkedSteps.{NextMarked, next_marked, marks_first, marks_next, marks_last, marks_lost, greatest_at, within_at}
+use Rattle.ax_reader.proofs.Marking.{marks_bits}
+use Rattle.ax_view.specs.Walking.{Walks, along, NeedsLast}
+use Rattle.ax_view.proofs.octets.walk_item.Goals as goal
+
+pub run-requires-clause-width : goal.run-requires-clause-width
+run-requires-clause-width c =
+    let b : InBounds (Tree.fixed (Tree.element c.in-Element.width Raw)) = subst InBounds (is_element c.args.nodes.now c.args.link c.index-nodes-link.result c.requires.table c.requires.link.0 c.requires.link.1 c.index-nodes-link.is c.in-Element.width c.in-Element.is) c.requires.bounds in (b.0, omega (arith, b.1))
+
+pub run-requires-in-Group-clause-width : goal.run-requires-in-Group-clause-width
+run-requires-in-Group-clause-width c =
+    let b : InBounds (Tree.fixed (Tree.group (linked_members (meanings c.args.nodes.now) c.in-Group.members))) = subst InBounds (is_group c.args.nodes.now c.args.link c.index-nodes-link.result c.requires.table c.requires.link.0 c.requires.link.1 c.index-nodes-link.is c.in-Group.width c.in-Group.members c.in-Group.is) c.requires.bounds in
+    let w = group_width c.args.nodes.now c.args.link c.index-nodes-link.result c.requires.table c.requires.link.0 c.requires.link.1 c.index-nodes-link.is c.in-Group.width c.in-Group.members c.in-Group.is in (ap (λ w. w % 8) w ∙ b.0, omega (arith, b.1))
+
+pub walk_parts-requires-clause-links : goal.walk_parts-requires-clause-links
+walk_parts-requires-clause-links c =
+    extended_links c.args.nodes.now c.args.link c.index-nodes-link.result c.requires.table c.requires.link.0 c.requires.link.1 c.index-nodes-link.is c.in-Extended.parts c.as_slice.result.now c.in-Extended.is c.as_slice.ensures.members
+
+pub walk_parts-requires-clause-bounds : goal.walk_parts-requires-clause-bounds
+walk_parts-requires-clause-bounds c =
+    let b : InBounds (Tree.extended (linked_parts (meanings c.args.nodes.now) c.as_slice.result.now)) = subst InBounds (is_extended c.args.nodes.now c.args.link c.index-nodes-link.result c.requires.table c.requires.link.0 c.requires.link.1 c.index-nodes-link.is c.in-Extended.parts c.as_slice.result.now c.in-Extended.is c.as_slice.ensures.members) c.requires.bounds in b
+
+pub walk_run-requires-clause-link : goal.walk_run-requires-clause-link
+walk_run-requires-clause-link c =
+    by_fx_link c.args.nodes.now c.args.link c.index-nodes-link.result c.requires.table c.requires.link.0 c.requires.link.1 c.index-nodes-link.is c.in-ByFx.inner c.in-ByFx.is
+
+pub walk_run-requires-clause-bounds : goal.walk_run-requires-clause-bounds
+walk_run-requires-clause-bounds c =
+    let b : InBounds (Tree.by_fx (fixed_of (linked (meanings c.args.nodes.now) c.in-ByFx.inner))) = subst InBounds (is_by_fx c.args.nodes.now c.args.link c.index-nodes-link.result c.requires.table c.requires.link.0 c.requires.link.1 c.index-nodes-link.is c.in-ByFx.inner c.in-ByFx.is) c.requires.bounds in b
+
+pub returns-in-Element-clause-end : goal.returns-in-Element-clause-end
+returns-in-Element-clause-end c =
+    let b : InBounds (Tree.fixed (Tree.element c.in-Element.width Raw)) = subst InBounds (is_element c.args.nodes.now c.args.link c.index-nodes-link.result c.requires.table c.requires.link.0 c.requires.link.1 c.index-nodes-link.is c.in-Element.width c.in-Element.is) c.requires.bounds in
+    end_as c.args.body.now c.args.at (kind_at c.args.nodes.now c.args.link) (Tree.fixed (Tree.element c.in-Element.width Raw)) (is_element c.args.nodes.now c.args.link c.index-nodes-link.result c.requires.table c.requires.link.0 c.requires.link.1 c.index-nodes-link.is c.in-Element.width c.in-Element.is) c.run.new.notes.least c.run.result
+    (run_end (Tree.element c.in-Element.width Raw) c.args.body.now c.args.at c.in-Element.width refl c.run.new.notes.least c.run.result b c.run.ensures.end)
+
+pub returns-in-Element-clause-fault : goal.returns-in-Element-clause-fault
+returns-in-Element-clause-fault c =
+    fault_as c.args.body.now c.args.at (kind_at c.args.nodes.now c.args.link) (Tree.fixed (Tree.element c.in-Element.width Raw)) (is_element c.args.nodes.now c.args.link c.index-nodes-link.result c.requires.table c.requires.link.0 c.requires.link.1 c.index-nodes-link.is c.in-Element.width c.in-Element.is) c.run.new.notes.fault c.run.result
+    (run_fault (Tree.element c.in-Element.width Raw) c.args.body.now c.args.at c.in-Element.width refl c.run.new.notes.fault c.run.result c.run.ensures.short c.run.ensures.fault)
+
+pub returns-in-Group-clause-end : goal.returns-in-Group-clause-end
+returns-in-Group-clause-end c =
+    let b : InBounds (Tree.fixed (Tree.group (linked_members (meanings c.args.nodes.now) c.in-Group.members))) = subst InBounds (is_group c.args.nodes.now c.args.link c.index-nodes-link.result c.requires.table c.requires.link.0 c.requires.link.1 c.index-nodes-link.is c.in-Group.width c.in-Group.members c.in-Group.is) c.requires.bounds in
+    end_as c.args.body.now c.args.at (kind_at c.args.nodes.now c.args.link) (Tree.fixed (Tree.group (linked_members (meanings c.args.nodes.now) c.in-Group.members))) (is_group c.args.nodes.now c.args.link c.index-nodes-link.result c.requires.table c.requires.link.0 c.requires.link.1 c.index-nodes-link.is c.in-Group.width c.in-Group.members c.in-Group.is) c.run-in-Group.new.notes.least c.run-in-Group.result
+    (run_end (Tree.group (linked_members (meanings c.args.nodes.now) c.in-Group.members)) c.args.body.now c.args.at c.in-Group.width (group_width c.args.nodes.now c.args.link c.index-nodes-link.result c.requires.table c.requires.link.0 c.requires.link.1 c.index-nodes-link.is c.in-Group.width c.in-Group.members c.in-Group.is) c.run-in-Group.new.notes.least c.run-in-Group.result b c.run-in-Group.ensures.end)
+
+pub returns-in-Group-clause-fault : goal.returns-in-Group-clause-fault
+returns-in-Group-clause-fault c =
+    fault_as c.args.body.now c.args.at (kind_at c.args.nodes.now c.args.link) (Tree.fixed (Tree.group (linked_members (meanings c.args.nodes.now) c.in-Group.members))) (is_group c.args.nodes.now c.args.link c.index-nodes-link.result c.requires.table c.requires.link.0 c.requires.link.1 c.index-nodes-link.is c.in-Group.width c.in-Group.members c.in-Group.is) c.run-in-Group.new.notes.fault c.run-in-Group.result
+    (run_fault (Tree.group (linked_members (meanings c.args.nodes.now) c.in-Group.members)) c.args.body.now c.args.at c.in-Group.width (group_width c.args.nodes.now c.args.link c.index-nodes-link.result c.requires.table c.requires.link.0 c.requires.link.1 c.index-nodes-link.is c.in-Group.width c.in-Group.members c.in-Group.is) c.run-in-Group.new.notes.fault c.run-in-Group.result c.run-in-Group.ensures.short c.run-in-Group.ensures.fault)
+
+pub returns-in-Part-clause-fault : goal.returns-in-Part-clause-fault
+returns-in-Part-clause-fault c =
+    absurd (is_part c.args.nodes.now c.args.link c.index-nodes-link.result c.requires.table c.requires.link.0 c.requires.link.1 c.index-nodes-link.is c.in-Part.width c.in-Part.members c.in-Part.is c.requires.bounds)
+
+pub returns-in-Extended-clause-end : goal.returns-in-Extended-clause-end
+returns-in-Extended-clause-end c =
+    end_as c.args.body.now c.args.at (kind_at c.args.nodes.now c.args.link) (Tree.extended (linked_parts (meanings c.args.nodes.now) c.as_slice.result.now)) (is_extended c.args.nodes.now c.args.link c.index-nodes-link.result c.requires.table c.requires.link.0 c.requires.link.1 c.index-nodes-link.is c.in-Extended.parts c.as_slice.result.now c.in-Extended.is c.as_slice.ensures.members) c.walk_parts.new.notes.least c.walk_parts.result c.walk_parts.ensures.end
+
+pub returns-in-Extended-clause-fault : goal.returns-in-Extended-clause-fault
+returns-in-Extended-clause-fault c =
+    fault_as c.args.body.now c.args.at (kind_at c.args.nodes.now c.args.link) (Tree.extended (linked_parts (meanings c.args.nodes.now) c.as_slice.result.now)) (is_extended c.args.nodes.now c.args.link c.index-nodes-link.result c.requires.table c.requires.link.0 c.requires.link.1 c.index-nodes-link.is c.in-Extended.parts c.as_slice.result.now c.in-Extended.is c.as_slice.ensures.members) c.walk_parts.new.notes.fault c.walk_parts.result c.walk_parts.ensures.fault
+
+pub returns-in-ByFx-clause-end : goal.returns-in-ByFx-clause-end
+returns-in-ByFx-clause-end c =
+    end_as c.args.body.now c.args.at (kind_at c.args.nodes.now c.args.link) (Tree.by_fx (fixed_of (linked (meanings c.args.nodes.now) c.in-ByFx.inner))) (is_by_fx c.args.nodes.now c.args.link c.index-nodes-link.result c.requires.table c.requires.link.0 c.requires.link.1 c.index-nodes-link.is c.in-ByFx.inner c.in-ByFx.is) c.walk_run.new.notes.least c.walk_run.result c.walk_run.ensures.end
+
+pub returns-in-ByFx-clause-fault : goal.returns-in-ByFx-clause-fault
+returns-in-ByFx-clause-fault c =
+    fault_as c.args.body.now c.args.at (kind_at c.args.nodes.now c.args.link) (Tree.by_fx (fixed_of (linked (meanings c.args.nodes.now) c.in-ByFx.inner))) (is_by_fx c.args.nodes.now c.args.link c.index-nodes-link.result c.requires.table c.requires.link.0 c.requires.link.1 c.index-nodes-link.is c.in-ByFx.inner c.in-ByFx.is) c.walk_run.new.notes.fault c.walk_run.result c.walk_run.ensures.fault
+
+pub returns-in-Explicit-clause-end : goal.returns-in-Explicit-clause-end
+returns-in-Explicit-clause-end c =
+    end_as c.args.body.now c.args.at (kind_at c.args.nodes.now c.args.link) Tree.explicit (is_explicit c.args.nodes.now c.args.link c.index-nodes-link.result c.requires.table c.requires.link.0 c.requires.link.1 c.index-nodes-link.is c.in-Explicit.is) c.walk_explicit.new.notes.least c.walk_explicit.result c.walk_explicit.ensures.end
+
+pub returns-in-Explicit-clause-fault : goal.returns-in-Explicit-clause-fault
+returns-in-Explicit-clause-fault c =
+    fault_as c.args.body.now c.args.at (kind_at c.args.nodes.now c.args.link) Tree.explicit (is_explicit c.args.nodes.now c.args.link c.index-nodes-link.result c.requires.table c.requires.link.0 c.requires.link.1 c.index-nodes-link.is c.in-Explicit.is) c.walk_explicit.new.notes.fault c.walk_explicit.result c.walk_explicit.ensures.fault
+
+pub returns-then-run_octets-body-clause-end : goal.returns-then-run_octets-body-clause-end
+returns-then-run_octets-body-clause-end c =
+    octets_walk c.args.nodes.now c.args.link c.args.body.now c.args.at (get_or c.args.octets.now (c.args.link - 1) 0) c.args.notes.now.least c.requires.table c.requires.link.0 c.requires.link.1 c.requires.bounds (omega arith) (omega arith)
+    c.args.octets.now c.requires.octets refl

@@ -1,0 +1,40 @@
+use Rattle.std.proofs.Common.{◌≡◌, ◌+◌, ◌-◌, ◌*◌, ◌%◌, ◌<◌, ◌≤◌, length, get_or, true, false, IfSome, IfNone, IsTrue, ℕ, Bool, List, ap, arith, refl, sym, subst, ◌∙◌}
+use Rattle.ax_bits.proofs.Pieces.{AreOctets-items}
+use Rattle.ax_bits.specs.Bits.{AreOctets}
+use Rattle.ax_model.specs.Canonical.{canon}
+use Rattle.ax_model.specs.InBounds.{InBounds}
+use Rattle.ax_model.specs.Tree as Tree
+use Rattle.ax_model.specs.declared.content.Content.TheVariants.{Raw}
+use Rattle.ax_tables.specs.Meaning.{meanings, linked, fixed_of, linked_members, linked_parts, linked_slots}
+use Rattle.ax_tables.specs.Table.{IsTable, SlotLinksWithin, kind_at, record_kind_at}
+use Rattle.ax_reader.proofs.Counting.{counted_none}
+use Rattle.ax_reader.specs.Reading.{FailsAt, IsMaskOf, kind_read, entries_at}
+use Rattle.ax_view.proofs.Leading.{if_none}
+use Rattle.ax_view.proofs.NodeKinds.{end_as, fault_as, run_end, run_fault, is_element, is_group, group_width, is_part, is_extended, extended_links, is_counted, counted_link, is_by_fx, by_fx_link, is_explicit, is_compound, compound_links, compound_mask, compound_falls}
+use Rattle.ax_view.proofs.Occurrences.{count_first, count_next, count_last, count_lost}
+use Rattle.ax_view.proofs.Compounds.{marks_clear, slots_bounds, record_lost, compound_end, compound_fault}
+use Rattle.ax_view.proofs.MarkedSteps.{NextMarked, next_marked, marks_first, marks_next, marks_last, marks_lost, greatest_at, within_at}
+use Rattle.ax_reader.proofs.Marking.{marks_bits}
+use Rattle.ax_view.specs.Walking.{Walks, along, NeedsLast}
+use Rattle.ax_view.proofs.octets.walk_slots.Goals as goal
+
+pub returns-in-Ok-clause-end : goal.returns-in-Ok-clause-end
+returns-in-Ok-clause-end c =
+    compound_end c.args.nodes.now c.args.slots.now c.args.mask.now c.args.body.now c.read_presence.new.into c.args.at c.in-Ok.here (AreOctets-items c.args.body.now (λ i. (let fits = c.type_inv.body i in omega arith))) c.requires.bounds c.requires.mask c.in-Ok.ensures.ok c.note_field.new.notes.least c.walk_items.new.notes.least c.walk_items.result c.note_field.ensures.needed c.walk_items.ensures.falls c.walk_items.ensures.end
+
+pub returns-in-Ok-clause-fault : goal.returns-in-Ok-clause-fault
+returns-in-Ok-clause-fault c =
+    compound_fault c.args.nodes.now c.args.slots.now c.args.mask.now c.args.body.now c.read_presence.new.into c.args.at c.in-Ok.here (AreOctets-items c.args.body.now (λ i. (let fits = c.type_inv.body i in omega arith))) c.requires.bounds c.requires.mask c.in-Ok.ensures.ok c.note_field.new.notes.least c.walk_items.new.notes.fault c.walk_items.result c.note_field.ensures.needed c.walk_items.ensures.fault
+
+pub returns-in-Err-clause-fault : goal.returns-in-Err-clause-fault
+returns-in-Err-clause-fault c =
+    record_lost c.args.nodes.now c.args.slots.now c.args.mask.now c.args.body.now c.args.at c.in-Err.fault c.requires.mask c.in-Err.ensures.err
+
+pub walk_items-requires-clause-bounds : goal.walk_items-requires-clause-bounds
+walk_items-requires-clause-bounds c = slots_bounds c.args.nodes.now c.args.slots.now c.requires.bounds
+
+pub walk_items-requires-clause-marks : goal.walk_items-requires-clause-marks
+walk_items-requires-clause-marks c = marks_bits c.args.mask.now c.args.body.now c.read_presence.new.into c.args.at c.in-Ok.here c.in-Ok.ensures.ok
+
+pub walk_items-requires-clause-clear : goal.walk_items-requires-clause-clear
+walk_items-requires-clause-clear c = marks_clear (linked_slots (meanings c.args.nodes.now) c.args.slots.now) c.args.mask.now c.args.body.now c.read_presence.new.into c.args.at c.in-Ok.here c.requires.mask c.in-Ok.ensures.ok

@@ -1,0 +1,27 @@
+-- What a scanned body is.
+use Rattle.std.specs.Prelude.{◌≡◌, ℕ, Bool, IsTrue, List, length}
+use Rattle.std.specs.Coded.{Coded-set, coded_ℕ, coded_list}
+use Rattle.ax_bits.specs.Bits.{bits}
+use Rattle.ax_model.specs.Bodies.{SpellsBody, FailsBody, CanonBody}
+use Rattle.ax_model.specs.Flaws.{NoFlaw}
+use Rattle.ax_model.specs.Specification.{SpecTree}
+use Rattle.ax_model.specs.Tree.{EntriesTree}
+use Rattle.ax_model.specs.declared.fault.BodyFault.{BodyFault}
+use Rattle.ax_tables.specs.Standing.{StandsFor}
+use Rattle.ax_tables.specs.declared.codec.Codec.{Codec}
+
+-- where the flag says so, the body is the canonical spelling of the records that it spells, for each specification that the
+-- codec stands for
+abbrev pub IsLeast : Codec → List ℕ → Bool → Type 0
+IsLeast codec body least = (spec : SpecTree) (records : List EntriesTree) → NoFlaw spec → StandsFor codec spec → SpellsBody spec records (bits body) → IsTrue least → CanonBody spec records ≡ bits body
+
+pub IsLeast-prop : (codec : Codec) (body : List ℕ) (least : Bool) → IsProp (IsLeast codec body least)
+IsLeast-prop codec body least a b = λ i. λ spec records clean stands spells yes. Coded-set (coded_list coded_ℕ) (CanonBody spec records) (bits body) (a spec records clean stands spells yes) (b spec records clean stands spells yes) i
+
+-- the body spells records of each specification that the codec stands for
+pub record SpellsSome (codec : Codec) (body : List ℕ) : Type 0 where
+  pub spells : (spec : SpecTree) → NoFlaw spec → StandsFor codec spec → (records : List EntriesTree) × SpellsBody spec records (bits body)
+
+-- the body fails there, for each specification that the codec stands for
+pub record FailsThere (codec : Codec) (body : List ℕ) (fault : BodyFault) : Type 0 where
+  pub fails : (spec : SpecTree) → NoFlaw spec → StandsFor codec spec → FailsBody spec (bits body) fault.bit fault.cause

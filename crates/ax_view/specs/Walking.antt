@@ -1,0 +1,41 @@
+-- What a walk over octets meets, of what is read there.
+use Rattle.std.specs.Prelude.{◌≡◌, ℕ, zero, suc, ◌+◌, ◌-◌, ◌≤◌, ◌⊎◌, get_or, Bool, IsTrue, List, [], ◌∷◌, ◌++◌, length, drop}
+use Rattle.ax_bits.specs.Bits.{bits}
+use Rattle.ax_model.specs.Reader.{Read}
+use Rattle.ax_model.specs.Canonical.{canon}
+use Rattle.ax_model.specs.Presence.{first_mark, later_marks}
+use Rattle.ax_model.specs.Tree.{KindTree, SlotsTree, no_slots, slot_and, spare_slot, subitem, EntriesTree, no_entries, entry_and}
+use Rattle.ax_model.specs.declared.fault.BodyFault.{BodyFault}
+use Rattle.ax_reader.specs.Reading.{Gets, FailsAt}
+
+-- something is read from octet `at` of the body up to octet `end`; and where it is said to be least, its spelling there is
+-- the one that the rule gives
+pub record Walks {A : Type 0} (rule : A → List ℕ) (found : Read A) (body : List ℕ) (at end : ℕ) (least : Bool) : Type 0 where
+  pub value : A
+  pub read : Gets found body at end value
+  pub canonical : IsTrue least → rule value ++ bits (drop end body) ≡ bits (drop at body)
+
+-- what is read from octet `here` on decides what is read from octet `at` on; `least` says whether what is between is least
+pub record Leads {A B : Type 0} (rule : A → List ℕ) (next : Read A) (whole_rule : B → List ℕ) (whole : Read B) (body : List ℕ) (at here : ℕ) (least : Bool) : Type 0 where
+  pub forwards : at ≤ here
+  pub within : here ≤ length body
+  pub gets : (end : ℕ) (l : Bool) → (IsTrue l → IsTrue least) → Walks rule next body here end l → Walks whole_rule whole body at end l
+  pub loses : (fault : BodyFault) → FailsAt next here fault → FailsAt whole at fault
+
+-- the canonical spellings of entries, one for each marked slot
+abbrev pub along_entries : KindTree → (EntriesTree → List ℕ) → EntriesTree → List ℕ
+along_entries k go no_entries = []
+along_entries k go (entry_and t v es) = canon k v ++ go es
+
+abbrev pub along_mark : ℕ → KindTree → (EntriesTree → List ℕ) → EntriesTree → List ℕ
+along_mark zero k go es = go es
+along_mark (suc m) k go es = along_entries k go es
+
+abbrev pub along : SlotsTree → List ℕ → EntriesTree → List ℕ
+along no_slots ms es = []
+along (slot_and spare_slot ss) ms es = along ss (later_marks ms) es
+along (slot_and (subitem name k) ss) ms es = along_mark (first_mark ms) k (along ss (later_marks ms)) es
+
+-- the presence field from octet `at` up to octet `here` has one octet, or its last octet isn't 0
+abbrev pub NeedsLast : List ℕ → ℕ → ℕ → Type 0
+NeedsLast body at here = (here ≤ at + 1) ⊎ (get_or body (here - 1) 0 ≡ 0 → ⊥)

@@ -1,0 +1,251 @@
+//! The walk over a body's octets by the nodes of a table.
+ghost use Rattle.std.specs.Prelude.{◌≡◌, ◌+◌, ◌-◌, ◌*◌, ◌%◌, ◌<◌, ◌≤◌, length, map, get_or, IfSome, IfNone, IsTrue};
+ghost use Rattle.ax_tables.specs.Octets.{octets_of};
+ghost use Rattle.ax_bits.specs.Bits.{AreBits};
+ghost use Rattle.ax_fspec.specs.declared.mask.SlotMask.{SlotMask};
+ghost use Rattle.ax_model.specs.Canonical.{canon};
+ghost use Rattle.ax_model.specs.InBounds.{InBounds, SlotsInBounds};
+ghost use Rattle.ax_model.specs.Presence.{NoneUndefined};
+ghost use Rattle.ax_model.specs.Tree as Tree;
+ghost use Rattle.ax_model.specs.Widths.{width};
+ghost use Rattle.ax_tables.specs.Meaning.{meanings, linked_slots};
+ghost use Rattle.ax_tables.specs.Table.{IsTable, SlotLinksWithin, kind_at, record_kind_at};
+ghost use Rattle.ax_reader.specs.Reading.{FailsAt, IsMaskOf, kind_read, entries_at};
+ghost use Rattle.ax_view.specs.Walking.{Walks, along, NeedsLast};
+
+use crate::notes::{Notes, fail};
+use crate::units::{run, walk_explicit, walk_parts, walk_run};
+use ax_fspec::{Presence, SlotMask, read_presence};
+use ax_model::BodyCause;
+use ax_tables::{Codec, Node};
+
+/// The octet behind the record that begins at octet `at`.
+#[inline]
+pub fn walk_record(codec: &Codec, body: &[u8], at: u32, notes: &mut Notes) -> Option<u32>
+    requires body { length body.now ≤ 65532 }
+    requires at { at ≤ length body.now }
+    ensures end { IfSome result (λ end. Walks (canon (record_kind_at codec.now.nodes codec.now.slots)) (kind_read (record_kind_at codec.now.nodes codec.now.slots) body.now at) body.now at end notes.new.least) }
+    ensures fault { IfNone result (FailsAt (kind_read (record_kind_at codec.now.nodes codec.now.slots) body.now at) at notes.new.fault) }
+    ensures falls { IsTrue notes.new.least → IsTrue notes.old.least }
+{
+    walk_slots(codec.nodes.as_slice(), codec.nodes.octets(), &codec.mask, codec.slots.as_slice(), body, at, notes)
+}
+
+/// The octet behind a record of these slots.
+#[inline]
+fn walk_slots(
+    nodes: &[Node],
+    octets: &[u32],
+    mask: &SlotMask,
+    slots: &[u32],
+    body: &[u8],
+    at: u32,
+    notes: &mut Notes,
+) -> Option<u32>
+    requires table { IsTable nodes.now }
+    requires octets { octets.now ≡ map octets_of nodes.now }
+    requires links { SlotLinksWithin (length nodes.now) slots.now }
+    requires mask { IsMaskOf (linked_slots (meanings nodes.now) slots.now) mask.now }
+    requires bounds { InBounds (record_kind_at nodes.now slots.now) }
+    requires body { length body.now ≤ 65532 }
+    requires at { at ≤ length body.now }
+    ensures end { IfSome result (λ end. Walks (canon (record_kind_at nodes.now slots.now)) (kind_read (record_kind_at nodes.now slots.now) body.now at) body.now at end notes.new.least) }
+    ensures fault { IfNone result (FailsAt (kind_read (record_kind_at nodes.now slots.now) body.now at) at notes.new.fault) }
+    ensures falls { IsTrue notes.new.least → IsTrue notes.old.least }
+{
+    let mut marked = Presence::empty();
+    match read_presence(mask, body, at, &mut marked) {
+        Ok(here) => {
+            note_field(body, at, here, notes);
+            walk_items(nodes, octets, slots, marked, body, here, notes)
+        }
+        Err(fault) => {
+            notes.fault = fault;
+            None
+        }
+    }
+}
+
+/// The octet behind the items of the marked slots, of which the first begins at octet `at`.
+#[inline]
+fn walk_items(
+    nodes: &[Node],
+    octets: &[u32],
+    slots: &[u32],
+    marked: Presence,
+    body: &[u8],
+    at: u32,
+    notes: &mut Notes,
+) -> Option<u32>
+    requires table { IsTable nodes.now }
+    requires octets { octets.now ≡ map octets_of nodes.now }
+    requires links { SlotLinksWithin (length nodes.now) slots.now }
+    requires bounds { SlotsInBounds (Tree.slots_of (linked_slots (meanings nodes.now) slots.now)) }
+    requires marks { AreBits marked }
+    requires clear { NoneUndefined (Tree.defined_slots (Tree.slots_of (linked_slots (meanings nodes.now) slots.now))) marked }
+    requires body { length body.now ≤ 65532 }
+    requires at { at ≤ length body.now }
+    ensures end { IfSome result (λ end. Walks (along (Tree.slots_of (linked_slots (meanings nodes.now) slots.now)) marked) (entries_at (Tree.slots_of (linked_slots (meanings nodes.now) slots.now)) marked body.now at) body.now at end notes.new.least) }
+    ensures fault { IfNone result (FailsAt (entries_at (Tree.slots_of (linked_slots (meanings nodes.now) slots.now)) marked body.now at) at notes.new.fault) }
+    ensures falls { IsTrue notes.new.least → IsTrue notes.old.least }
+{
+    let mut left = marked;
+    let mut here = at;
+    while let Some(slot) = left.take_first() {
+        here = walk_item(nodes, octets, slots[slot as usize - 1], body, here, notes)?;
+    }
+    Some(here)
+}
+
+/// The same for an item of a record: only counted items and compounds are left to a call.
+#[inline(always)]
+fn walk_item(nodes: &[Node], octets: &[u32], link: u32, body: &[u8], at: u32, notes: &mut Notes) -> Option<u32>
+    requires table { IsTable nodes.now }
+    requires octets { octets.now ≡ map octets_of nodes.now }
+    requires link { (0 < link) × (link ≤ length nodes.now) }
+    requires bounds { InBounds (kind_at nodes.now link) }
+    requires body { length body.now ≤ 65532 }
+    requires at { at ≤ length body.now }
+    ensures end { IfSome result (λ end. Walks (canon (kind_at nodes.now link)) (kind_read (kind_at nodes.now link) body.now at) body.now at end notes.new.least) }
+    ensures fault { IfNone result (FailsAt (kind_read (kind_at nodes.now link) body.now at) at notes.new.fault) }
+    ensures falls { IsTrue notes.new.least → IsTrue notes.old.least }
+{
+    let run_octets = octets[link as usize - 1];
+    if run_octets > 0 && run_octets as usize <= body.len() - at as usize {
+        return Some(at + run_octets);
+    }
+    match &nodes[link as usize - 1] {
+        Node::Element { width } => run(body, at, *width, notes),
+        Node::Group { width, .. } => run(body, at, *width, notes),
+        Node::Part { .. } => None,
+        Node::Extended { parts } => walk_parts(nodes, parts.as_slice(), body, at, notes),
+        Node::Counted { .. } => walk(nodes, link, body, at, notes),
+        Node::ByFx { inner } => walk_run(nodes, *inner, body, at, notes),
+        Node::Explicit => walk_explicit(body, at, notes),
+        Node::Compound { .. } => walk(nodes, link, body, at, notes),
+    }
+}
+
+/// The octet behind the value that begins at octet `at`, of the kind that a link leads to.
+#[cycle(walk)]
+pub fn walk(nodes: &[Node], link: u32, body: &[u8], at: u32, notes: &mut Notes) -> Option<u32>
+    requires table { IsTable nodes.now }
+    requires link { (0 < link) × (link ≤ length nodes.now) }
+    requires bounds { InBounds (kind_at nodes.now link) }
+    requires body { length body.now ≤ 65532 }
+    requires at { at ≤ length body.now }
+    ensures end { IfSome result (λ end. Walks (canon (kind_at nodes.now link)) (kind_read (kind_at nodes.now link) body.now at) body.now at end notes.new.least) }
+    ensures fault { IfNone result (FailsAt (kind_read (kind_at nodes.now link) body.now at) at notes.new.fault) }
+    ensures falls { IsTrue notes.new.least → IsTrue notes.old.least }
+{
+    match &nodes[link as usize - 1] {
+        Node::Element { width } => run(body, at, *width, notes),
+        Node::Group { width, .. } => run(body, at, *width, notes),
+        Node::Part { .. } => None,
+        Node::Extended { parts } => walk_parts(nodes, parts.as_slice(), body, at, notes),
+        Node::Counted { inner } => walk_counted(nodes, *inner, body, at, notes),
+        Node::ByFx { inner } => walk_run(nodes, *inner, body, at, notes),
+        Node::Explicit => walk_explicit(body, at, notes),
+        Node::Compound { mask, slots } => {
+            walk_compound(nodes, mask, slots.as_slice(), body, at, notes)
+        }
+    }
+}
+
+/// The octet behind a counted item.
+#[cycle(walk)]
+fn walk_counted(nodes: &[Node], inner: u32, body: &[u8], at: u32, notes: &mut Notes) -> Option<u32>
+    requires table { IsTable nodes.now }
+    requires link { (0 < inner) × (inner ≤ length nodes.now) }
+    requires bounds { InBounds (kind_at nodes.now inner) }
+    requires body { length body.now ≤ 65532 }
+    requires at { at ≤ length body.now }
+    ensures end { IfSome result (λ end. Walks (canon (Tree.counted (kind_at nodes.now inner))) (kind_read (Tree.counted (kind_at nodes.now inner)) body.now at) body.now at end notes.new.least) }
+    ensures fault { IfNone result (FailsAt (kind_read (Tree.counted (kind_at nodes.now inner)) body.now at) at notes.new.fault) }
+    ensures falls { IsTrue notes.new.least → IsTrue notes.old.least }
+{
+    if at as usize >= body.len() {
+        fail(notes, BodyCause::RunsOut, 8 * at);
+        return None;
+    }
+    let count = body[at as usize];
+    let mut here = at + 1;
+    for _ in 0..count {
+        here = walk(nodes, inner, body, here, notes)?;
+    }
+    Some(here)
+}
+
+/// The octet behind a compound of these slots.
+#[cycle(walk)]
+fn walk_compound(
+    nodes: &[Node],
+    mask: &SlotMask,
+    slots: &[u32],
+    body: &[u8],
+    at: u32,
+    notes: &mut Notes,
+) -> Option<u32>
+    requires table { IsTable nodes.now }
+    requires links { SlotLinksWithin (length nodes.now) slots.now }
+    requires mask { IsMaskOf (linked_slots (meanings nodes.now) slots.now) mask.now }
+    requires bounds { InBounds (record_kind_at nodes.now slots.now) }
+    requires body { length body.now ≤ 65532 }
+    requires at { at ≤ length body.now }
+    ensures end { IfSome result (λ end. Walks (canon (record_kind_at nodes.now slots.now)) (kind_read (record_kind_at nodes.now slots.now) body.now at) body.now at end notes.new.least) }
+    ensures fault { IfNone result (FailsAt (kind_read (record_kind_at nodes.now slots.now) body.now at) at notes.new.fault) }
+    ensures falls { IsTrue notes.new.least → IsTrue notes.old.least }
+{
+    let mut marked = Presence::empty();
+    match read_presence(mask, body, at, &mut marked) {
+        Ok(here) => {
+            note_field(body, at, here, notes);
+            walk_marked(nodes, slots, marked, body, here, notes)
+        }
+        Err(fault) => {
+            notes.fault = fault;
+            None
+        }
+    }
+}
+
+/// Notes whether the presence field from octet `at` up to octet `here` needs its last octet.
+#[inline]
+fn note_field(body: &[u8], at: u32, here: u32, notes: &mut Notes)
+    requires { (at < here) × (here ≤ length body.now) }
+    ensures needed { IsTrue notes.new.least → NeedsLast body.now at here }
+    ensures falls { IsTrue notes.new.least → IsTrue notes.old.least }
+{
+    if here - at > 1 && body[here as usize - 1] == 0 {
+        notes.least = false;
+    }
+}
+
+/// The octet behind the subitems of the marked slots, of which the first begins at octet `at`.
+#[cycle(walk)]
+fn walk_marked(
+    nodes: &[Node],
+    slots: &[u32],
+    marked: Presence,
+    body: &[u8],
+    at: u32,
+    notes: &mut Notes,
+) -> Option<u32>
+    requires table { IsTable nodes.now }
+    requires links { SlotLinksWithin (length nodes.now) slots.now }
+    requires bounds { SlotsInBounds (Tree.slots_of (linked_slots (meanings nodes.now) slots.now)) }
+    requires marks { AreBits marked }
+    requires clear { NoneUndefined (Tree.defined_slots (Tree.slots_of (linked_slots (meanings nodes.now) slots.now))) marked }
+    requires body { length body.now ≤ 65532 }
+    requires at { at ≤ length body.now }
+    ensures end { IfSome result (λ end. Walks (along (Tree.slots_of (linked_slots (meanings nodes.now) slots.now)) marked) (entries_at (Tree.slots_of (linked_slots (meanings nodes.now) slots.now)) marked body.now at) body.now at end notes.new.least) }
+    ensures fault { IfNone result (FailsAt (entries_at (Tree.slots_of (linked_slots (meanings nodes.now) slots.now)) marked body.now at) at notes.new.fault) }
+    ensures falls { IsTrue notes.new.least → IsTrue notes.old.least }
+{
+    let mut left = marked;
+    let mut here = at;
+    while let Some(slot) = left.take_first() {
+        here = walk(nodes, slots[slot as usize - 1], body, here, notes)?;
+    }
+    Some(here)
+}

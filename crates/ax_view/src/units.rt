@@ -1,0 +1,152 @@
+//! Units of a known length: fixed kinds, parts, occurrences by FX, explicit contents.
+ghost use Rattle.std.specs.Prelude.{◌≡◌, ◌+◌, ◌-◌, ◌*◌, ◌%◌, ◌<◌, ◌≤◌, ◌↔◌, length, get_or, IfSome, IfNone, IsTrue};
+ghost use Rattle.ax_model.specs.Canonical.{canon};
+ghost use Rattle.ax_model.specs.InBounds.{InBounds};
+ghost use Rattle.ax_model.specs.Tree as Tree;
+ghost use Rattle.ax_model.specs.Widths.{width, members_width};
+ghost use Rattle.ax_model.specs.declared.fault.BodyCause.TheVariants as Cause;
+ghost use Rattle.ax_tables.specs.Meaning.{meanings, linked, fixed_of, part_of, linked_parts};
+ghost use Rattle.ax_tables.specs.Table.{IsTable, LinksWithin, kind_at};
+ghost use Rattle.ax_reader.specs.Reading.{FailsAt, kind_read};
+ghost use Rattle.ax_view.specs.Walking.{Walks};
+
+use crate::notes::{Notes, fail};
+use ax_model::BodyCause;
+use ax_tables::Node;
+
+/// The octet behind a unit of `width` bits, whole octets, that begins at octet `at`.
+#[inline(always)]
+pub(crate) fn run(body: &[u8], at: u32, width: u32, notes: &mut Notes) -> Option<u32>
+    requires width { (width % 8 ≡ 0) × (width ≤ 524264) }
+    requires body { length body.now ≤ 65532 }
+    requires at { at ≤ length body.now }
+    ensures end { IfSome result (λ end. (at ≤ end) × (end ≤ length body.now) × (width ≡ 8 * (end - at))) }
+    ensures short { IfNone result (8 * (length body.now - at) < width) }
+    ensures fault { IfNone result (notes.new.fault ≡ record { cause = Cause.RunsOut; bit = 8 * at }) }
+    ensures least { notes.new.least ≡ notes.old.least }
+{
+    let end = at + width / 8;
+    if end as usize > body.len() {
+        fail(notes, BodyCause::RunsOut, 8 * at);
+        return None;
+    }
+    Some(end)
+}
+
+/// The width of the fixed kind that a link leads to.
+#[inline]
+#[tactic(auto, using(ax_tables::proofs::Tables::widths))]
+pub(crate) fn fixed_width(nodes: &[Node], link: u32) -> u32
+    requires table { IsTable nodes.now }
+    requires link { (0 < link) × (link ≤ length nodes.now) }
+    ensures { result ≡ width (fixed_of (linked (meanings nodes.now) link)) }
+{
+    nodes[link as usize - 1].fixed_width()
+}
+
+/// The width of the part that a link leads to, without its FX bit.
+#[inline]
+#[tactic(auto, using(ax_tables::proofs::Tables::widths))]
+pub(crate) fn part_width(nodes: &[Node], link: u32) -> u32
+    requires table { IsTable nodes.now }
+    requires link { (0 < link) × (link ≤ length nodes.now) }
+    ensures { result ≡ members_width (part_of (linked (meanings nodes.now) link)) }
+{
+    nodes[link as usize - 1].part_width()
+}
+
+/// Whether FX is set in the last bit of an octet of the body.
+#[inline]
+pub(crate) fn has_fx(body: &[u8], octet: u32) -> bool
+    requires { octet < length body.now }
+    ensures { IsTrue result ↔ (get_or body.now octet 0 % 2 ≡ 1) }
+{
+    body[octet as usize] % 2 == 1
+}
+
+/// The octet behind the parts that are present.
+pub(crate) fn walk_parts(
+    nodes: &[Node],
+    parts: &[u32],
+    body: &[u8],
+    at: u32,
+    notes: &mut Notes,
+) -> Option<u32>
+    requires table { IsTable nodes.now }
+    requires links { LinksWithin (length nodes.now) parts.now }
+    requires bounds { InBounds (Tree.extended (linked_parts (meanings nodes.now) parts.now)) }
+    requires body { length body.now ≤ 65532 }
+    requires at { at ≤ length body.now }
+    ensures end { IfSome result (λ end. Walks (canon (Tree.extended (linked_parts (meanings nodes.now) parts.now))) (kind_read (Tree.extended (linked_parts (meanings nodes.now) parts.now)) body.now at) body.now at end notes.new.least) }
+    ensures fault { IfNone result (FailsAt (kind_read (Tree.extended (linked_parts (meanings nodes.now) parts.now)) body.now at) at notes.new.fault) }
+    ensures least { notes.new.least ≡ notes.old.least }
+{
+    let mut left = parts;
+    let mut here = at;
+    while let Some((part, later)) = left.split_first() {
+        let end = run(body, here, part_width(nodes, *part) + 1, notes)?;
+        if !has_fx(body, end - 1) {
+            return Some(end);
+        }
+        if later.is_empty() {
+            fail(notes, BodyCause::ExtensionPastEnd, 8 * end - 1);
+            return None;
+        }
+        left = later;
+        here = end;
+    }
+    None
+}
+
+/// The octet behind the occurrences by FX.
+pub(crate) fn walk_run(
+    nodes: &[Node],
+    inner: u32,
+    body: &[u8],
+    at: u32,
+    notes: &mut Notes,
+) -> Option<u32>
+    requires table { IsTable nodes.now }
+    requires link { (0 < inner) × (inner ≤ length nodes.now) }
+    requires bounds { InBounds (Tree.by_fx (fixed_of (linked (meanings nodes.now) inner))) }
+    requires body { length body.now ≤ 65532 }
+    requires at { at ≤ length body.now }
+    ensures end { IfSome result (λ end. Walks (canon (Tree.by_fx (fixed_of (linked (meanings nodes.now) inner)))) (kind_read (Tree.by_fx (fixed_of (linked (meanings nodes.now) inner))) body.now at) body.now at end notes.new.least) }
+    ensures fault { IfNone result (FailsAt (kind_read (Tree.by_fx (fixed_of (linked (meanings nodes.now) inner))) body.now at) at notes.new.fault) }
+    ensures least { notes.new.least ≡ notes.old.least }
+{
+    let width = fixed_width(nodes, inner);
+    let mut here = at;
+    loop {
+        let end = run(body, here, width + 1, notes)?;
+        if !has_fx(body, end - 1) {
+            return Some(end);
+        }
+        here = end;
+    }
+}
+
+/// The octet behind an explicit item.
+pub(crate) fn walk_explicit(body: &[u8], at: u32, notes: &mut Notes) -> Option<u32>
+    requires body { length body.now ≤ 65532 }
+    requires at { at ≤ length body.now }
+    ensures end { IfSome result (λ end. Walks (canon Tree.explicit) (kind_read Tree.explicit body.now at) body.now at end notes.new.least) }
+    ensures fault { IfNone result (FailsAt (kind_read Tree.explicit body.now at) at notes.new.fault) }
+    ensures least { notes.new.least ≡ notes.old.least }
+{
+    if at as usize >= body.len() {
+        fail(notes, BodyCause::RunsOut, 8 * at);
+        return None;
+    }
+    let length = body[at as usize];
+    if length == 0 {
+        fail(notes, BodyCause::BadExplicitLength, 8 * at);
+        return None;
+    }
+    let end = at + length as u32;
+    if end as usize > body.len() {
+        fail(notes, BodyCause::RunsOut, 8 * at + 8);
+        return None;
+    }
+    Some(end)
+}

@@ -1,0 +1,4 @@
+pub mod Verbs
+pub mod Words
+pub mod Commands
+pub mod Found

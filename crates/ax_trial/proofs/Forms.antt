@@ -1,10 +1,10 @@
 -- A block's canonical form.
-use Rattle.std.proofs.Common.{◌≡◌, ℕ, ◌+◌, ◌*◌, ◌<◌, ◌≤◌, ◌==◌, cond, List, [], ◌∷◌, ◌++◌, length, drop, get_or, Some, None, refl, sym, ◌∙◌, ap, subst, arith, append-nil, length-append, length-drop, true}
+use Rattle.std.proofs.Common.{◌≡◌, ℕ, ◌+◌, ◌<◌, ◌≤◌, ◌==◌, cond, List, [], ◌∷◌, ◌++◌, length, drop, get_or, Some, None, refl, sym, ◌∙◌, ap, subst, arith, append-nil, length-append, length-drop, true}
 use Rattle.std.proofs.lemmas.Bool.Decides.{nat_tests}
 use Rattle.ax_bits.proofs.Words.{length-bits}
 use Rattle.ax_bits.specs.Bits.{bits}
 use Rattle.ax_model.proofs.BodyReader.{record_some}
-use Rattle.ax_model.specs.Blocks.{read_block, SpellsBlock}
+use Rattle.ax_model.specs.Blocks.{read_block}
 use Rattle.ax_model.specs.Bodies.{RecordsSpell, SpellsBody}
 use Rattle.ax_model.specs.CanonicalOctets.{canon_block, canon_over}
 use Rattle.ax_model.specs.OfCode.{HasNoFlaw, BlockFits, block_octets, block_length}

@@ -1,16 +1,16 @@
 -- The numbers of blocks, one by one.
-use Rattle.std.proofs.Common.{◌≡◌, ℕ, zero, suc, ◌+◌, ◌-◌, ◌*◌, ◌<◌, ◌≤◌, List, [], ◌∷◌, ◌++◌, length, sum, sum_by, refl, sym, ◌∙◌, ap, subst, arith, append-nil, append_assoc, length-append}
+use Rattle.std.proofs.Common.{◌≡◌, ℕ, suc, ◌+◌, ◌-◌, ◌<◌, ◌≤◌, List, [], ◌∷◌, ◌++◌, length, sum, sum_by, refl, sym, ◌∙◌, ap, subst, arith, append-nil, append_assoc, length-append}
 use Rattle.std.proofs.lemmas.List.Concat.{flat_map-append}
 use Rattle.std.proofs.lemmas.List.Sums.{sum_by-append}
 use Rattle.ax_model.specs.Blocks.{BlockTree, SpellsBlock, SpellsStream}
 use Rattle.ax_model.specs.CanonicalOctets.{CanonBytes, canon_over, category_of}
 use Rattle.ax_model.specs.Specification.{SpecTree, spec_of}
-use Rattle.ax_trial.specs.Counting.{IsCanonOf, IsWithin, AddsNumbers, AreNumbersOf, AreTotals}
-use Rattle.ax_trial.specs.Trial.{record_count, numbers_line, trial_line, IsTrial}
+use Rattle.ax_trial.specs.Counting.{IsCanonOf, AddsNumbers, AreNumbersOf, AreTotals}
+use Rattle.ax_trial.specs.Trial.{record_count, numbers_line, IsTrial}
 use Rattle.ax_trial.specs.declared.totals.Totals.{Totals}
 use Rattle.ax_vectors.proofs.Left.{Left, left_whole, left_step, left_none}
-use Rattle.ax_vectors.specs.Made.{block_made, Made}
-use Rattle.ax_vectors.specs.Making.{Maker, just, both, times, Adds}
+use Rattle.ax_vectors.specs.Made.{block_made}
+use Rattle.ax_vectors.specs.Making.{both, times, Adds}
 
 -- a stream and one block more
 stream_more : (catalogue : List SpecTree) (blocks : List BlockTree) (block : BlockTree) (octets more : List ℕ) → SpellsStream catalogue blocks octets → SpellsBlock catalogue block more → SpellsStream catalogue (blocks ++ block ∷ []) (octets ++ more)
@@ -54,7 +54,7 @@ one_more spec seed count left old new octets canonical records state after h som
     let one = block_made spec in
     let here : Left (times count one) (both one (times (left - 1) one)) [] h.made seed state = subst (λ n. Left (times count one) (times n one) [] h.made seed state) more h.rest in
     let joined : CanonBytes (spec ∷ []) (h.blocks ++ form.block ∷ []) ≡ CanonBytes (spec ∷ []) h.blocks ++ canonical =
-        flat_map-append (λ block. canon_over (spec_of (category_of block) (spec ∷ [])) block) h.blocks (form.block ∷ []) ∙ ap (λ x. CanonBytes (spec ∷ []) h.blocks ++ x) (sym form.canonical_is) in
+    flat_map-append (λ block. canon_over (spec_of (category_of block) (spec ∷ [])) block) h.blocks (form.block ∷ []) ∙ ap (λ x. CanonBytes (spec ∷ []) h.blocks ++ x) (sym form.canonical_is) in
     let records_in : sum_by record_count (h.blocks ++ form.block ∷ []) ≡ sum_by record_count h.blocks + (0 + record_count form.block) = sum_by-append record_count h.blocks (form.block ∷ []) in
     let sum_in : sum (CanonBytes (spec ∷ []) h.blocks ++ canonical) ≡ sum (CanonBytes (spec ∷ []) h.blocks) + sum canonical = sum_by-append (λ x. x) (CanonBytes (spec ∷ []) h.blocks) canonical in
     record {

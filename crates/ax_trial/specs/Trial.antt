@@ -1,5 +1,5 @@
 -- The line of numbers of generated blocks (this project's own rule).
-use Rattle.std.specs.Prelude.{◌≡◌, ℕ, ◌+◌, ◌<◌, List, [], ◌∷◌, ◌++◌, length, sum, sum_by, codes, decimal}
+use Rattle.std.specs.Prelude.{◌≡◌, ℕ, ◌<◌, List, [], ◌∷◌, ◌++◌, length, sum, sum_by, codes, decimal}
 use Rattle.ax_model.specs.Blocks.{BlockTree, read_block, opaque_block, SpellsStream}
 use Rattle.ax_model.specs.CanonicalOctets.{CanonBytes}
 use Rattle.ax_model.specs.Specification.{SpecTree}

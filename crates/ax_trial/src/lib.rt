@@ -6,3 +6,6 @@ mod totals;
 mod trial;
 
 pub use trial::trial_text;
+
+#[cfg(test)]
+mod tests;

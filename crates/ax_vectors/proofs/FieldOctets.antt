@@ -1,5 +1,5 @@
 -- Presence fields, octet by octet.
-use Rattle.std.proofs.Common.{nat_lt, ◌≡◌, ℕ, zero, suc, ◌+◌, ◌-◌, ◌*◌, ◌/◌, ◌%◌, ◌^◌, ◌<◌, ◌≤◌, Bool, true, false, not, List, [], ◌∷◌, ◌++◌, length, drop, min, get_or, refl, sym, ◌∙◌, ap, subst, arith, add-one, append_assoc, append-nil, length-append, length-drop, drop-cons, cond, ◌⊎◌, inl, inr}
+use Rattle.std.proofs.Common.{nat_lt, ◌≡◌, ℕ, zero, suc, ◌+◌, ◌-◌, ◌*◌, ◌/◌, ◌%◌, ◌^◌, ◌<◌, ◌≤◌, Bool, true, false, not, List, [], ◌∷◌, ◌++◌, length, drop, min, get_or, refl, sym, ◌∙◌, ap, subst, arith, add-one, append_assoc, append-nil, length-drop, drop-cons, cond, ◌⊎◌, inl, inr}
 use Rattle.std.proofs.lemmas.List.{drop_all}
 use Rattle.std.proofs.lemmas.Bool.{cases_lt}
 use Rattle.std.proofs.lemmas.Bool.Decides.{nat_tests}
@@ -7,7 +7,6 @@ use Rattle.ax_bits.specs.Bits.{word, AreBits}
 use Rattle.ax_fspec.proofs.FieldsWritten.{marks_after_is}
 use Rattle.ax_model.proofs.Least.{rests-AreBits}
 use Rattle.ax_model.specs.Presence.{octets_needed, first_mark, later_marks, none_marked, marks_after, marks_upto, least_presence}
-use Rattle.ax_vectors.proofs.Left.{adds_just}
 use Rattle.ax_vectors.specs.Draws.{drawn, next_state}
 use Rattle.ax_vectors.specs.Made.{mark_made, fx_before, least_octets, octets_spare, field_of, field_made}
 use Rattle.ax_vectors.specs.Making.{Maker, just, by_draw, Adds}
@@ -104,7 +103,7 @@ least_next marks rest new count b h is holds e =
     let one : h.more ≡ suc less = omega (arith, h.fits) in
     let marked : none_marked rest ≡ false = turned_off (none_marked rest) (sym is ∙ holds) in
     let size : bits_from h.more rest ≡ 8 + bits_from less new =
-        ap (λ b. cond b 8 (8 + length (least_presence h.more rest))) marked ∙ ap (λ n. 8 + length (least_presence n rest)) one ∙ ap (λ n. 8 + n) (size_from less rest) ∙ ap (λ r. 8 + bits_from less r) (sym e) in
+    ap (λ b. cond b 8 (8 + length (least_presence h.more rest))) marked ∙ ap (λ n. 8 + length (least_presence n rest)) one ∙ ap (λ n. 8 + n) (size_from less rest) ∙ ap (λ r. 8 + bits_from less r) (sym e) in
     record {
       more = less;
       octets = omega (arith, h.octets);
@@ -120,7 +119,7 @@ pub least_over : (marks rest : List ℕ) (count : ℕ) (b : Bool) → LeastLeft 
 least_over marks rest count b h is fails =
     let none : none_marked rest ≡ true = turned (none_marked rest) (sym is ∙ fails) in
     let size : length (least_presence (octets_needed (length marks)) marks) ≡ 8 * count =
-        h.size ∙ ap (λ b. 8 * (count - 1) + cond b 8 (8 + length (least_presence h.more rest))) none ∙ omega (arith, h.some) in
+    h.size ∙ ap (λ b. 8 * (count - 1) + cond b 8 (8 + length (least_presence h.more rest))) none ∙ omega (arith, h.some) in
     omega (arith, size)
 
 pub least_small : (marks rest : List ℕ) (count : ℕ) → LeastLeft marks rest count → length marks ≤ 126 → count ≤ 18

@@ -1,5 +1,5 @@
 -- What is made by a draw, under one kind.
-use Rattle.std.proofs.Common.{◌≡◌, ℕ, zero, suc, ◌+◌, ◌-◌, ◌*◌, ◌%◌, ◌<◌, ◌≤◌, nat_lt, cond, List, [], ◌∷◌, ◌++◌, length, map, refl, sym, ◌∙◌, ap, subst, arith}
+use Rattle.std.proofs.Common.{◌≡◌, ℕ, suc, ◌+◌, ◌-◌, ◌%◌, ◌<◌, ◌≤◌, cond, List, ◌++◌, length, map, sym, ◌∙◌, ap, subst, arith}
 use Rattle.std.proofs.lemmas.List.{length-map}
 use Rattle.ax_bits.specs.Bits.{word}
 use Rattle.ax_model.specs.Plain.{part_tree}
@@ -9,7 +9,7 @@ use Rattle.ax_vectors.proofs.FieldOctets.{is_below, is_not_below}
 use Rattle.ax_vectors.proofs.Left.{Left, left_whole, left_step, left_none, adds_just, adds_both}
 use Rattle.ax_vectors.specs.Draws.{drawn, next_state}
 use Rattle.ax_vectors.specs.Made.{parts_made, run_made, octet_made, content_made, counted_made, kind_made}
-use Rattle.ax_vectors.specs.Making.{Maker, just, both, times, by_draw, Adds}
+use Rattle.ax_vectors.specs.Making.{Maker, just, times, by_draw, Adds}
 
 -- by the draw that comes first
 drawn_first : (rule : ℕ → Maker) (d : ℕ) (old new : List ℕ) (first mid after : ℕ) → d ≡ drawn first → mid ≡ next_state first → Adds (rule d) old new mid after → Adds (by_draw rule) old new first after

@@ -5,14 +5,14 @@ use Rattle.std.proofs.lemmas.List.{drop_all}
 use Rattle.std.proofs.lemmas.Nat.{mul-add-lt, pow-add, pow_pos}
 use Rattle.std.proofs.Math.Nat.{pow-le-pow_right}
 use Rattle.ax_bits.specs.Bits.{word}
-use Rattle.ax_model.specs.InBounds.{FixedInBounds, MembersInBounds, PartInBounds}
+use Rattle.ax_model.specs.InBounds.{MembersInBounds, PartInBounds}
 use Rattle.ax_model.specs.Plain.{member_tree, members_tree, part_tree}
 use Rattle.ax_model.specs.Tree.{FixedTree, MemberTree, named, spare, MembersTree, member_and, no_members}
 use Rattle.ax_model.specs.declared.kind.Member.{Member}
 use Rattle.ax_model.specs.declared.kind.Part.{Part}
 use Rattle.ax_vectors.specs.Made.{member_made, members_made, fixed_made, joined, draws_needed, number_made, fx_before, parts_made, run_made}
 use Rattle.ax_vectors.specs.Draws.{drawn, next_state}
-use Rattle.ax_vectors.specs.Making.{Maker, just, both, times, Adds}
+use Rattle.ax_vectors.specs.Making.{Maker, just, both, Adds}
 
 -- of the whole, what is there and what the rest still makes
 pub record Left (whole rest : Maker) (old now : List ℕ) (first state : ℕ) : Type 0 where

@@ -1,6 +1,6 @@
 -- Bits that are put behind others.
-use Rattle.std.proofs.Common.{◌≡◌, ℕ, ◌+◌, ◌-◌, ◌*◌, ◌%◌, ◌<◌, ◌≤◌, List, [], ◌∷◌, ◌++◌, length, take, drop, refl, sym, ◌∙◌, ap, subst, arith, append_assoc, append-nil, length-append, length-drop, length-take-le}
-use Rattle.std.proofs.Math.Seq.{take-add, take-append-add}
+use Rattle.std.proofs.Common.{◌≡◌, ℕ, ◌+◌, ◌-◌, ◌*◌, ◌%◌, ◌<◌, ◌≤◌, List, [], ◌++◌, length, take, drop, sym, ◌∙◌, ap, arith, append_assoc, append-nil, length-append, length-drop, length-take-le}
+use Rattle.std.proofs.Math.Seq.{take-add}
 use Rattle.std.proofs.lemmas.List.{take_all, take-take, take-append-le, drop-drop, drop_all}
 use Rattle.ax_bits.proofs.Pieces.{take-bits, drop-bits}
 use Rattle.ax_bits.proofs.Words.{bits-append, length-bits, length-word}
@@ -19,7 +19,7 @@ put_there old part from at w v k le all e =
     let b : bits m ≡ drop (8 * from) (bits old) = sym (drop-bits from old) in
     let all_bits = bits old in
     let written : bits part ≡ take at (drop (8 * from) all_bits) ++ (word w v ++ drop (at + w) (drop (8 * from) all_bits)) =
-        e ∙ ap (λ y. take at (bits y) ++ (word w v ++ drop (at + w) (bits y))) whole ∙ ap (λ y. take at y ++ (word w v ++ drop (at + w) y)) b in
+    e ∙ ap (λ y. take at (bits y) ++ (word w v ++ drop (at + w) (bits y))) whole ∙ ap (λ y. take at y ++ (word w v ++ drop (at + w) y)) b in
     let behind : drop (at + w) (drop (8 * from) all_bits) ≡ drop (8 * from + at + w) all_bits = drop-drop (at + w) (8 * from) all_bits ∙ ap (λ n. drop n all_bits) (omega arith) in
     let front : take (8 * from) all_bits ++ take at (drop (8 * from) all_bits) ≡ take (8 * from + at) all_bits = sym (take-add (8 * from) at all_bits) in
     ap (λ y. bits (take from old ++ (part ++ y))) none
@@ -39,9 +39,9 @@ pub pushed : (old grown new : List ℕ) (count from at w v more : ℕ) → take 
 pushed old grown new count from at w v more front size le is e =
     let rest = drop (8 * from + at + w) (bits grown) in
     let kept : take (8 * from + at) (bits grown) ≡ take count (bits old) =
-        ap (λ n. take n (bits grown)) is ∙ sym (take-take count (8 * length old) (bits grown) le) ∙ ap (take count) (take-bits (length old) grown ∙ ap bits front) in
+    ap (λ n. take n (bits grown)) is ∙ sym (take-take count (8 * length old) (bits grown) le) ∙ ap (take count) (take-bits (length old) grown ∙ ap bits front) in
     let there : bits new ≡ (take count (bits old) ++ word w v) ++ rest =
-        e ∙ ap (λ y. y ++ (word w v ++ rest)) kept ∙ sym (append_assoc (take count (bits old)) (word w v) rest) in
+    e ∙ ap (λ y. y ++ (word w v ++ rest)) kept ∙ sym (append_assoc (take count (bits old)) (word w v) rest) in
     let counted : length (take count (bits old)) ≡ count = length-take-le count (bits old) (omega (arith, length-bits old)) in
     let long : length (take count (bits old) ++ word w v) ≡ count + w = length-append (take count (bits old)) (word w v) ∙ omega (arith, counted, length-word w v) in
     ap (take (count + w)) there ∙ ap (λ n. take n ((take count (bits old) ++ word w v) ++ rest)) (sym long)

@@ -1,7 +1,6 @@
 -- Records and blocks that are drawn.
-use Rattle.std.proofs.Common.{zero, suc, get_or, inl, append-nil, IsTrue, lit<, ◌≡◌, ℕ, ◌+◌, ◌-◌, ◌*◌, ◌/◌, ◌%◌, ◌<◌, ◌≤◌, ◌==◌, nat_lt, cond, Bool, true, false, List, [], ◌∷◌, ◌++◌, length, map, Option, Some, None, is_some, refl, sym, ◌∙◌, ap, subst, arith}
+use Rattle.std.proofs.Common.{zero, suc, inl, append-nil, IsTrue, lit<, ◌≡◌, ℕ, ◌+◌, ◌/◌, ◌%◌, ◌<◌, ◌≤◌, ◌==◌, nat_lt, cond, Bool, true, false, List, [], ◌∷◌, length, map, Option, Some, None, is_some, refl, sym, ◌∙◌, ap, subst, arith}
 use Rattle.std.specs.Option.{option_map}
-use Rattle.std.proofs.lemmas.List.{length-map}
 use Rattle.std.proofs.lemmas.Bool.{ltb-false}
 use Rattle.std.proofs.lemmas.Bool.Decides.{nat_tests}
 use Rattle.ax_bits.proofs.Pieces.{number-word}
@@ -23,7 +22,6 @@ use Rattle.ax_model.specs.Presence.{Presence, octets_needed, none_marked, first_
 use Rattle.ax_model.specs.Specification.{SpecTree, slot_of_item, uap_slot, record_slots, record_kind}
 use Rattle.ax_model.specs.Spelling.{Spells, EntriesSpell}
 use Rattle.ax_model.specs.Tree.{KindTree, SlotTree, spare_slot, subitem, SlotsTree, slot_and, no_slots, defined_slots, slot_count, ValueTree, marked, EntriesTree, no_entries}
-use Rattle.ax_model.specs.declared.kind.Kind.{Kind}
 use Rattle.ax_model.specs.declared.spec.Item.{Item}
 use Rattle.ax_model.specs.declared.spec.Spec.{Spec}
 use Rattle.ax_model.specs.declared.spec.UapSlot.{UapSlot}
@@ -33,7 +31,7 @@ use Rattle.ax_vectors.proofs.Spelled.{kind_spelled, none_later}
 use Rattle.ax_vectors.proofs.SlotDraws.{slots_adds}
 use Rattle.ax_vectors.specs.Draws.{drawn, next_state}
 use Rattle.ax_vectors.specs.Made.{marks_made, field_made, values_made, value_where, kind_made, makers, record_made, records_made, block_of, block_made, IsSpelledBlock}
-use Rattle.ax_vectors.specs.Making.{Maker, just, times, by_draw, Adds}
+use Rattle.ax_vectors.specs.Making.{Maker, times, Adds}
 
 at_most : (m n : ℕ) → nat_lt m n ≡ false → n ≤ m
 at_most m n e = ltb-false m n e

@@ -1,5 +1,5 @@
 -- The slots of a compound, one by one.
-use Rattle.std.proofs.Common.{◌≡◌, ℕ, zero, suc, ◌+◌, ◌-◌, ◌<◌, ◌≤◌, ◌==◌, Bool, true, false, List, [], ◌∷◌, ◌++◌, length, map, drop, get_or, Option, Some, None, refl, sym, ◌∙◌, ap, subst, arith, add-one, append-nil, append_assoc, length-append, drop-cons}
+use Rattle.std.proofs.Common.{◌≡◌, ℕ, suc, ◌+◌, ◌<◌, ◌≤◌, ◌==◌, Bool, true, false, List, [], ◌∷◌, ◌++◌, length, map, drop, get_or, Option, refl, sym, ◌∙◌, ap, subst, arith, add-one, length-append, drop-cons}
 use Rattle.std.proofs.lemmas.List.{drop_all, length-map}
 use Rattle.std.specs.Option.{option_map}
 use Rattle.ax_bits.specs.Bits.{AreBits}
@@ -8,12 +8,11 @@ use Rattle.ax_model.proofs.Bounds.{count_of_slots}
 use Rattle.ax_model.specs.InBounds.{InBounds, SlotsInBounds}
 use Rattle.ax_model.specs.Lengths.{kind_of_slot}
 use Rattle.ax_model.specs.Plain.{slot_tree, slots_tree}
-use Rattle.ax_model.specs.Presence.{first_mark, later_marks}
-use Rattle.ax_model.specs.Tree.{KindTree, SlotTree, spare_slot, subitem, SlotsTree, no_slots, slot_and, slots_of, defined_slots, slot_count, compound}
+use Rattle.ax_model.specs.Tree.{SlotTree, spare_slot, subitem, SlotsTree, no_slots, slot_and, slots_of, defined_slots, slot_count, compound}
 use Rattle.ax_model.specs.declared.kind.Slot.{Slot}
 use Rattle.ax_vectors.proofs.Left.{Left, left_whole, left_step, left_none, adds_both}
 use Rattle.ax_vectors.specs.Made.{mark_made, marks_made, field_made, value_where, values_made, marked_made, slots_made, kind_made, makers}
-use Rattle.ax_vectors.specs.Making.{Maker, just, both, Adds}
+use Rattle.ax_vectors.specs.Making.{Maker, Adds}
 
 -- ---- marks
 
@@ -74,8 +73,8 @@ slot_marks_next tree all i s defined made mark first state after h lt e is a low
     let whole = defined_slots (slots_in tree all) in
     let rest = slots_in tree (drop (i + 1) all) in
     let here : MarksLeft whole (defined ∷ defined_slots rest) made first state =
-        subst (λ ds. MarksLeft whole ds made first state) (first_defined (tree s) rest defined is)
-        (subst (λ ss. MarksLeft whole (defined_slots (slots_in tree ss)) made first state) (from_place all i s lt e) h.marks) in
+    subst (λ ds. MarksLeft whole ds made first state) (first_defined (tree s) rest defined is)
+    (subst (λ ss. MarksLeft whole (defined_slots (slots_in tree ss)) made first state) (from_place all i s lt e) h.marks) in
     record { marks = marks_step whole (defined_slots rest) defined made mark first state after here a low }
 
 pub slot_marks_over : {S : Type 0} (tree : S → SlotTree) (all : List S) (i : ℕ) (made : List ℕ) (first state : ℕ) → SlotMarks tree all i made first state → length all ≤ i → Adds (marks_made (defined_slots (slots_in tree all))) [] made first state
@@ -130,7 +129,7 @@ pub slots_next : {S : Type 0} (tree : S → SlotTree) (around : ℕ) (whole : Ma
     → left ≡ s ∷ slots → right ≡ m ∷ marks → Adds (value_where (m == 1) (option_map (kind_made around) (kind_of_slot (tree s)))) now new state after → ValuesLeft tree around whole slots marks old new first after
 slots_next tree around whole s left slots m right marks old now new first state after h e f a =
     let here : ValuesLeft tree around whole (s ∷ slots) (m ∷ marks) old now first state =
-        subst (λ ms. ValuesLeft tree around whole (s ∷ slots) ms old now first state) f (subst (λ ss. ValuesLeft tree around whole ss right old now first state) e h) in
+    subst (λ ms. ValuesLeft tree around whole (s ∷ slots) ms old now first state) f (subst (λ ss. ValuesLeft tree around whole ss right old now first state) e h) in
     let one : Maker = value_where (m == 1) (option_map (kind_made around) (kind_of_slot (tree s))) in
     record {
       bounds = (first_bounds (tree s) (slots_in tree slots) here.bounds).1;

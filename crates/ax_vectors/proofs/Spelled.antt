@@ -1,16 +1,14 @@
 -- What is made under a kind spells a value of it.
-use Rattle.std.proofs.Common.{◌≡◌, ℕ, zero, suc, ◌+◌, ◌-◌, ◌*◌, ◌/◌, ◌%◌, ◌^◌, ◌<◌, ◌≤◌, ◌==◌, nat_lt, ◌⊎◌, inl, inr, Bool, true, false, cond, IsTrue, List, [], ◌∷◌, ◌++◌, length, Option, Some, None, refl, sym, ◌∙◌, ap, subst, arith, append-nil, length-append}
-use Rattle.std.proofs.lemmas.Bool.{cases_lt}
+use Rattle.std.proofs.Common.{◌≡◌, ℕ, zero, suc, ◌+◌, ◌*◌, ◌%◌, ◌^◌, ◌<◌, ◌≤◌, ◌==◌, nat_lt, inl, inr, Bool, true, false, cond, IsTrue, List, [], ◌∷◌, ◌++◌, length, Some, None, refl, sym, ◌∙◌, ap, subst, arith}
 use Rattle.std.proofs.lemmas.Nat.{mod_below, pow_pos}
 use Rattle.ax_bits.specs.Bits.{word, bits, AreBits, AreOctets}
 use Rattle.ax_model.proofs.Least.{Alike, entries_alike, length-rests-le, length-marked, rests-AreBits}
 use Rattle.ax_model.specs.InBounds.{InBounds, SlotsInBounds}
-use Rattle.ax_model.specs.Presence.{Presence, octets_needed, first_mark, later_marks, none_marked, marks_upto, marks_after, least_presence}
+use Rattle.ax_model.specs.Presence.{Presence, octets_needed, later_marks, none_marked, marks_upto, marks_after, least_presence}
 use Rattle.ax_model.specs.Spelling.{NumberSpells, FixedSpells, MembersSpell, PartsSpell, RunSpells, EachSpells, Spells, EntriesSpell}
-use Rattle.ax_model.specs.Tree.{FixedTree, element, group, MemberTree, MembersTree, no_members, member_and, named, spare, KindTree, fixed, extended, counted, by_fx, explicit, compound, SlotsTree, no_slots, slot_and, spare_slot, subitem, slot_count, defined_slots, ValueTree, number, member_values, part_values, occurrences, content_octets, marked, ValuesTree, no_values, value_and, value_count, ListsTree, no_lists, list_and, EntriesTree, no_entries, entry_and}
-use Rattle.ax_vectors.proofs.FieldOctets.{is_below, is_not_below}
+use Rattle.ax_model.specs.Tree.{FixedTree, element, group, MembersTree, no_members, member_and, named, spare, KindTree, fixed, extended, counted, by_fx, explicit, compound, SlotsTree, no_slots, slot_and, spare_slot, subitem, slot_count, defined_slots, ValueTree, number, member_values, part_values, occurrences, content_octets, marked, ValuesTree, no_values, value_and, value_count, ListsTree, no_lists, list_and, EntriesTree, no_entries, entry_and}
 use Rattle.ax_vectors.specs.Draws.{drawn, next_state}
-use Rattle.ax_vectors.specs.Made.{joined, draws_needed, number_made, fixed_made, member_made, members_made, fx_before, parts_made, run_made, octet_made, content_made, mark_made, marks_made, least_octets, octets_spare, field_of, field_made, value_where, values_made, marked_made, slots_made, counted_made, kind_made, makers}
+use Rattle.ax_vectors.specs.Made.{joined, draws_needed, number_made, fixed_made, members_made, parts_made, run_made, octet_made, marks_made, least_octets, octets_spare, field_of, field_made, value_where, values_made, counted_made, kind_made, makers}
 use Rattle.ax_vectors.specs.Making.{Maker, just, both, times, by_draw}
 
 -- ---- fixed kinds
@@ -140,7 +138,7 @@ least_at k ms true e ih = record {
 least_at k ms false e ih =
     let rest = ih refl in
     let long : length (least_presence (suc k) ms) ≡ 8 + length (least_presence k (marks_after 7 ms)) =
-        ap (λ b. length (cond b (marks_upto 7 ms ++ 0 ∷ []) (marks_upto 7 ms ++ 1 ∷ least_presence k (marks_after 7 ms)))) e ∙ omega arith in
+    ap (λ b. length (cond b (marks_upto 7 ms ++ 0 ∷ []) (marks_upto 7 ms ++ 1 ∷ least_presence k (marks_after 7 ms)))) e ∙ omega arith in
     record { octets = suc rest.octets; size = omega (arith, long, rest.size); few = omega (arith, rest.few); enough = rest.enough }
 
 least_of : (k : ℕ) (ms : List ℕ) → 0 < k → length ms ≤ 7 * k → LeastIs k ms

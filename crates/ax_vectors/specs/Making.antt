@@ -1,5 +1,5 @@
 -- Makers: what is made from a state of the draws, a list of numbers, and the state after it.
-use Rattle.std.specs.Prelude.{◌≡◌, ℕ, zero, suc, ◌+◌, List, [], ◌∷◌, ◌++◌}
+use Rattle.std.specs.Prelude.{◌≡◌, ℕ, zero, suc, List, [], ◌++◌}
 use Rattle.ax_vectors.specs.Draws.{drawn, next_state}
 
 abbrev pub Maker : Type 0

@@ -86,11 +86,7 @@ pub(crate) fn make_members(
 }
 
 #[cycle(make_fixed)]
-fn make_member(
-    member: &Member,
-    draws: &mut Draws,
-    into: &mut BitString,
-) -> Result<(), AllocError>
+fn make_member(member: &Member, draws: &mut Draws, into: &mut BitString) -> Result<(), AllocError>
     requires { MembersInBounds (member_and (member_tree member.now) no_members) }
     ensures { OnOk result (Adds (member_made (member_tree member.now)) into.old into.new draws.old draws.new) }
 {

@@ -40,11 +40,7 @@ pub(crate) fn make_value(
 
 /// One part or more.
 #[tactic(auto, using(crate::proofs::KindDraws::extended_adds))]
-fn make_extended(
-    parts: &Parts,
-    draws: &mut Draws,
-    into: &mut BitString,
-) -> Result<(), AllocError>
+fn make_extended(parts: &Parts, draws: &mut Draws, into: &mut BitString) -> Result<(), AllocError>
     requires { InBounds (extended (map part_tree parts.now)) }
     ensures { OnOk result (Adds (kind_made 0 (extended (map part_tree parts.now))) into.old into.new draws.old draws.new) }
 {
@@ -78,11 +74,7 @@ fn make_explicit(draws: &mut Draws, into: &mut BitString) -> Result<(), AllocErr
 
 /// So many octets.
 #[tactic(auto, using(crate::proofs::KindDraws::each))]
-fn make_octets(
-    count: u32,
-    draws: &mut Draws,
-    into: &mut BitString,
-) -> Result<(), AllocError>
+fn make_octets(count: u32, draws: &mut Draws, into: &mut BitString) -> Result<(), AllocError>
     ensures { OnOk result (Adds (times count octet_made) into.old into.new draws.old draws.new) }
 {
     let mut left = count;

@@ -17,7 +17,7 @@ returns-clause-made c =
     let spec = c.spec-spec.ensures.spec in
     let made = c.in_ok-body.ensures in
     let octets : body ≡ octets_of (records_made tree state).0 =
-        octets_are body (records_made tree state).0 (subst AreOctets same c.block_of.ensures.octets) (made.body ∙ ap (λ s. (records_made (spec_tree s) state).0) spec) in
+    octets_are body (records_made tree state).0 (subst AreOctets same c.block_of.ensures.octets) (made.body ∙ ap (λ s. (records_made (spec_tree s) state).0) spec) in
     IfOk-weaker c.block_of.result (λ block. block.items ≡ block_of c.spec-spec.result.now.category c.deref.result.now) (λ block. Adds (block_made tree) [] block.items state c.make_body.new.draws)
     (λ block is. block_adds tree body block.items state c.make_body.new.draws octets (made.state ∙ ap (λ s. (records_made (spec_tree s) state).1) spec) (is ∙ (λ k. block_of (spec k).category (same k))))
     c.block_of.ensures.block

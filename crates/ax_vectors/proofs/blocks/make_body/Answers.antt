@@ -1,7 +1,7 @@
-use Rattle.std.proofs.Common.{◌≡◌, ◌+◌, ◌%◌, ℕ, length, subst, sym, ◌∙◌, arith}
+use Rattle.std.proofs.Common.{◌≡◌, ◌+◌, ◌%◌, length, subst, sym, ◌∙◌}
 use Rattle.ax_model.specs.Plain.{spec_tree}
 use Rattle.ax_vectors.proofs.RecordDraws.{body_drawn, body_whole}
-use Rattle.ax_vectors.specs.Made.{record_made, records_made}
+use Rattle.ax_vectors.specs.Made.{record_made}
 use Rattle.ax_vectors.specs.Making.{Adds, times}
 use Rattle.ax_vectors.proofs.blocks.make_body.Goals as goal
 

@@ -1,4 +1,3 @@
-use Rattle.std.proofs.Common.{ℕ}
 use Rattle.ax_vectors.proofs.Left.{JoinedLeft}
 use Rattle.ax_vectors.proofs.fixed.draw_joined.Given as goal
 

@@ -1,4 +1,3 @@
-use Rattle.std.proofs.Common.{ℕ}
 use Rattle.ax_model.specs.Plain.{fixed_tree}
 use Rattle.ax_vectors.proofs.Left.{Left}
 use Rattle.ax_vectors.specs.Made.{run_made}

@@ -1,7 +1,3 @@
-use Rattle.std.proofs.Common.{◌≡◌, ℕ, ◌-◌, ◌*◌, ◌%◌, length, take, ap, sym, ◌∙◌, arith}
-use Rattle.std.proofs.lemmas.List.{take_all}
-use Rattle.ax_bits.proofs.Words.{length-bits}
-use Rattle.ax_bits.specs.Bits.{bits}
 use Rattle.ax_vectors.proofs.Pushing.{none_free}
 use Rattle.ax_vectors.proofs.bit_string.BitString.into_octets.Goals as goal
 

@@ -1,4 +1,0 @@
-pub mod Verbs
-pub mod Words
-pub mod Commands
-pub mod Found

@@ -255,10 +255,10 @@ done_reads words files c input i o r outcome k count octets left d done (in_job 
 
 -- ---- the report, with the lines of the outcome last
 
-pub ended : (P : SinkChange → Type 0) (held between held' : Option (List ℕ)) (faults counted faults' : ℕ) (result : Result Unit SinkFailed) (lines : List ℕ) → P (record { held = held; held' = between; faults = faults; faults' = counted })
+pub ended : (P : SinkChange → Type 0) (held between held' : Option (List ℕ)) (faults counted faults' : ℕ) (result : Result Unit SinkFailed) (lines : List ℕ) → faults ≤ counted → counted ≤ faults' → P (record { held = held; held' = between; faults = faults; faults' = counted })
     → Wrote (record { held = between; held' = held'; faults = counted; faults' = faults' }) result lines → Ended P (record { held = held; held' = held'; faults = faults; faults' = faults' }) lines
-ended P held between held' faults counted faults' (Ok u) lines before w = record { between = between; counted = counted; before = before; lines_after = inl w.whole }
-ended P held between held' faults counted faults' (Err e) lines before w = record { between = between; counted = counted; before = before; lines_after = inr w.part }
+ended P held between held' faults counted faults' (Ok u) lines a b before w = record { between = between; counted = counted; from_start = a; to_end = b; before = before; lines_after = inl w.whole }
+ended P held between held' faults counted faults' (Err e) lines a b before w = record { between = between; counted = counted; from_start = a; to_end = b; before = before; lines_after = inr w.part }
 
 -- ---- the whole report
 

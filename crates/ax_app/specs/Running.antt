@@ -47,10 +47,13 @@ pub data Runs (words : List (List ℕ)) (files : Option (List File)) (c : Librar
 
 -- ---- the report, to which the lines of the outcome come last
 
--- what the report gained before, and these lines after it, or a prefix of them where its count of faults rose
+-- what the report gained before, up to this count of its faults, and these lines after it, or a prefix of them where the
+-- count rose from there
 pub record Ended (Before : SinkChange → Type 0) (r : SinkChange) (lines : List ℕ) : Type 0 where
   pub between : Option (List ℕ)
   pub counted : ℕ
+  pub from_start : r.faults ≤ counted
+  pub to_end : counted ≤ r.faults'
   pub before : Before (record { held = r.held; held' = between; faults = r.faults; faults' = counted })
   pub lines_after : Gains (record { held = between; held' = r.held'; faults = counted; faults' = r.faults' }) lines ⊎ GainsPart (record { held = between; held' = r.held'; faults = counted; faults' = r.faults' }) lines
 

@@ -3,10 +3,10 @@ use Rattle.ax_app.proofs.SoFar.{so_far, later_on}
 use Rattle.ax_app.proofs.gateway.run.Goals as goal
 
 pub returns-clause-headline : goal.returns-clause-headline
-returns-clause-headline g c = λ files input octets is left. ended _ _ _ _ _ _ _ _ _ (headline _ _ files _ input _ _ _ _ is octets left c.obey-outcome.ensures.runs) c.write_lines.ensures
+returns-clause-headline g c = λ files input octets is left. ended _ _ _ _ _ _ _ _ _ c.obey-outcome.ensures.later.report c.write_lines.ensures.later (headline _ _ files _ input _ _ _ _ is octets left c.obey-outcome.ensures.runs) c.write_lines.ensures
 
 pub returns-clause-runs : goal.returns-clause-runs
-returns-clause-runs g c = ended _ _ _ _ _ _ _ _ _ c.obey-outcome.ensures.runs c.write_lines.ensures
+returns-clause-runs g c = ended _ _ _ _ _ _ _ _ _ c.obey-outcome.ensures.later.report c.write_lines.ensures.later c.obey-outcome.ensures.runs c.write_lines.ensures
 
 pub returns-clause-usage : goal.returns-clause-usage
 returns-clause-usage g c = (usage_only _ _ _ _ _ _ _ c.obey-outcome.ensures.runs, usage_there _ _ _ _ _ _ _ c.obey-outcome.ensures.runs)

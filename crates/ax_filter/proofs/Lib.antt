@@ -1,0 +1,10 @@
+pub mod Decimals
+pub mod Categories
+pub mod FullPaths
+pub mod Tokens
+pub mod Unique
+pub mod Arms
+pub mod Ways
+pub mod Trees
+pub mod Whole
+pub mod Leads

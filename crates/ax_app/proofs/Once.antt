@@ -3,7 +3,7 @@ use Rattle.std.proofs.Common.{◌≡◌, ℕ, List, [], ◌∷◌, ◌++◌, Opt
 use Rattle.std.proofs.Math.Seq.{take-append_seam, drop-append_seam}
 use Rattle.ax_command.specs.Words.{Asked, HasShape, verb_of, arguments_of, TakesFiles}
 use Rattle.ax_command.specs.declared.words.Verb.{Verb}
-use Rattle.ax_command.specs.declared.words.Verb.TheVariants.{Check, Canon, Text}
+use Rattle.ax_command.specs.declared.words.Verb.TheVariants.{Check, Canon, Show, Text}
 use Rattle.ax_grammar.proofs.Ranges.{numbers_in_range}
 use Rattle.ax_load.proofs.FilesOnce.{given_once}
 use Rattle.ax_load.specs.Loading.{FilesGive, EachGives}
@@ -30,6 +30,7 @@ shape_once words what next h k =
 pub job_once : (verb : Verb) (arguments : List (List ℕ)) (specs : List SpecTree) (job other : Job) → IsJob verb arguments specs job → IsJob verb arguments specs other → job ≡ other
 job_once Check arguments specs job other h k = let e : h.spec ∷ [] ≡ k.spec ∷ [] = sym h.one ∙ k.one in let s : h.spec ≡ k.spec = cc in h.is ∙ ap (λ x. writes (check_text x)) s ∙ sym k.is
 job_once Canon arguments specs job other h k = h ∙ sym k
+job_once Show arguments specs job other h k = h ∙ sym k
 job_once Text arguments specs job other h k = h ∙ sym k
 
 pub does_once : (words : List (List ℕ)) (files : List File) (job other : Job) → Does words (Some files) job → Does words (Some files) other → job ≡ other
@@ -47,4 +48,5 @@ ready files Check arguments (name ∷ []) (spec ∷ []) n count gives = record {
 ready files Check arguments (name ∷ []) (spec ∷ other ∷ specs) n count gives = absurd gives.1
 ready files Check arguments (name ∷ other ∷ names) specs n count gives = absurd (omega (arith, count))
 ready files Canon arguments names specs n count gives = tt
+ready files Show arguments names specs n count gives = tt
 ready files Text arguments names specs n count gives = tt

@@ -1,5 +1,5 @@
 -- Words, files and an input have one answer.
-use Rattle.std.proofs.Common.{◌≡◌, ℕ, inl, inr, List, [], Option, Some, None, length, sym, ◌∙◌, ap, subst, arith}
+use Rattle.std.proofs.Common.{◌≡◌, ℕ, inl, inr, List, Some, sym, ◌∙◌, ap, subst, arith}
 use Rattle.ax_command.specs.Outcomes.{outcome_of_stop, outcome_of_end, outcome_of_refusal}
 use Rattle.ax_command.specs.declared.outcome.Outcome.{Outcome}
 use Rattle.ax_command.specs.declared.outcome.Refusal.{Refusal}
@@ -8,19 +8,15 @@ use Rattle.ax_load.proofs.FilesOnce.{given_ends_for_memory}
 use Rattle.ax_load.specs.Loading.{FilesGive, FilesEnd}
 use Rattle.ax_load.specs.declared.fault.LoadStop.{LoadStop}
 use Rattle.ax_load.specs.declared.fault.LoadStop.TheVariants as LoadStopOf
-use Rattle.ax_model.proofs.EndsOnce.{ends_once}
-use Rattle.ax_model.specs.Blocks.{BlockTree}
-use Rattle.ax_model.specs.Specification.{SpecTree}
 use Rattle.ax_outside.specs.Files.{File}
 use Rattle.ax_outside.specs.Told.{Rose}
 use Rattle.ax_stream.proofs.AnswersOnce.{answers_once}
-use Rattle.ax_stream.specs.Commands.{BlockCommand, IsGiven, output_of, report_of}
-use Rattle.ax_stream.specs.Ending.{longest_input, stream_end}
-use Rattle.ax_stream.specs.Streams.{StreamAnswers}
+use Rattle.ax_stream.specs.Commands.{output_of, report_of}
+use Rattle.ax_stream.specs.Ending.{longest_input}
 use Rattle.ax_stream.specs.declared.end.StreamEnd.{StreamEnd}
 use Rattle.ax_app.proofs.Once.{shape_once, does_once}
 use Rattle.ax_app.specs.Answer.{none_counted, Answer, by_words, by_files, by_refusal, by_job}
-use Rattle.ax_app.specs.Jobs.{Job, writes, each_block, refuses, IsJob, JobAnswers}
+use Rattle.ax_app.specs.Jobs.{Job, writes, each_block, refuses, JobAnswers}
 use Rattle.ax_app.specs.Running.{Does, StopsAtFiles}
 
 none_rose : Rose 0 0 → ⊥

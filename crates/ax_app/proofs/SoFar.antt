@@ -1,13 +1,13 @@
 -- What no command answers so far.
-use Rattle.std.proofs.Common.{◌≡◌, ℕ, ◌<◌, ◌≤◌, List, [], ◌∷◌, Option, length, sym, ◌∙◌, ap, subst, arith, refl}
+use Rattle.std.proofs.Common.{◌≡◌, ℕ, ◌<◌, ◌≤◌, List, [], Option, length, sym, ◌∙◌, ap, subst, arith, refl}
 use Rattle.ax_command.specs.Outcomes.{outcome_of_stop, outcome_of_end, outcome_of_job_stop}
 use Rattle.ax_command.specs.declared.outcome.JobStop.{JobStop}
 use Rattle.ax_command.specs.declared.outcome.JobStop.TheVariants as JobStopOf
 use Rattle.ax_command.specs.declared.outcome.Outcome.{Outcome}
-use Rattle.ax_command.specs.declared.outcome.Outcome.TheVariants.{Usage, OtherCategory, MigratedTooLong, ReportFault}
+use Rattle.ax_command.specs.declared.outcome.Outcome.TheVariants.{Usage}
 use Rattle.ax_command.specs.declared.outcome.Refusal.{Refusal}
 use Rattle.ax_command.specs.declared.words.Verb.{Verb}
-use Rattle.ax_command.specs.declared.words.Verb.TheVariants.{Check, Canon, Text}
+use Rattle.ax_command.specs.declared.words.Verb.TheVariants.{Check, Canon, Show, Text}
 use Rattle.ax_load.specs.declared.fault.LoadStop.{LoadStop}
 use Rattle.ax_load.specs.declared.fault.LoadStop.TheVariants as LoadStopOf
 use Rattle.ax_model.specs.Blocks.{BlockTree}
@@ -15,11 +15,10 @@ use Rattle.ax_model.specs.Specification.{SpecTree}
 use Rattle.ax_outside.specs.Changes.{LibraryCounts, SourceChange, SinkChange}
 use Rattle.ax_outside.specs.Files.{File}
 use Rattle.ax_stream.specs.Commands.{BlockCommand, gives, too_long}
-use Rattle.ax_stream.specs.Ending.{longest_input}
 use Rattle.ax_stream.specs.Streams.{IsLicensed, Reports, RefusesLength}
 use Rattle.ax_stream.specs.declared.end.StreamEnd.{StreamEnd}
 use Rattle.ax_stream.specs.declared.end.StreamEnd.TheVariants as EndOf
-use Rattle.ax_app.specs.Jobs.{Job, writes, each_block, refuses, IsJob, IsStopped, JobRuns, TextEnds, written, cut, no_memory}
+use Rattle.ax_app.specs.Jobs.{Job, refuses, IsJob, IsStopped, JobRuns, TextEnds, written, cut, no_memory}
 use Rattle.ax_app.specs.Running.{Runs, at_words, at_files, before_input, in_job, NoCountFell, IsOfTheseCommands}
 
 -- an end that is neither a failed line nor a refused length
@@ -57,11 +56,13 @@ silent_is_plain c end s h = record {
 plain_end : (verb : Verb) (arguments : List (List ℕ)) (specs : List SpecTree) (job : Job) (i : SourceChange) (o r : SinkChange) (end : StreamEnd) → IsJob verb arguments specs job → JobRuns job i o r end → IsPlainEnd end
 plain_end Check arguments specs job i o r end is h = text_is_plain _ o end (subst (λ j. JobRuns j i o r end) is.is h).ends
 plain_end Canon arguments specs job i o r end is h = silent_is_plain _ end (record { octets = _; answer = λ number block. refl }) (subst (λ j. JobRuns j i o r end) is h).licensed
+plain_end Show arguments specs job i o r end is h = silent_is_plain _ end (record { octets = _; answer = λ number block. refl }) (subst (λ j. JobRuns j i o r end) is h).licensed
 plain_end Text arguments specs job i o r end is h = silent_is_plain _ end (record { octets = _; answer = λ number block. refl }) (subst (λ j. JobRuns j i o r end) is h).licensed
 
 never_refuses : (verb : Verb) (arguments : List (List ℕ)) (specs : List SpecTree) (refusal : Refusal) → IsJob verb arguments specs (refuses refusal) → ⊥
 never_refuses Check arguments specs refusal h = let e = h.is in absurd (cc)
 never_refuses Canon arguments specs refusal h = absurd (cc)
+never_refuses Show arguments specs refusal h = absurd (cc)
 never_refuses Text arguments specs refusal h = absurd (cc)
 
 -- ---- outcomes

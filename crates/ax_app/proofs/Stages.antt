@@ -1,14 +1,14 @@
 -- A run, stage by stage.
-use Rattle.std.proofs.Common.{◌≡◌, ℕ, ◌-◌, ◌^◌, ◌<◌, ◌≤◌, ◌⊎◌, inl, inr, List, [], ◌∷◌, Option, Some, None, Result, Ok, Err, length, refl, sym, ◌∙◌, ap, subst, arith}
+use Rattle.std.proofs.Common.{◌≡◌, ℕ, ◌-◌, ◌^◌, ◌<◌, ◌≤◌, ◌⊎◌, inl, inr, List, [], ◌∷◌, Option, Some, Result, Ok, Err, length, refl, sym, ◌∙◌, ap, subst, arith}
 use Rattle.std.proofs.Math.Nat.{eq-or-lt_of_le}
 use Rattle.ax_bits.specs.Bits.{AreOctets}
 use Rattle.ax_command.specs.Lines.{lines_of}
-use Rattle.ax_command.specs.Outcomes.{outcome_of_stop, outcome_of_end, outcome_of_refusal, outcome_of_job_stop}
+use Rattle.ax_command.specs.Outcomes.{outcome_of_stop, outcome_of_end, outcome_of_job_stop}
 use Rattle.ax_command.specs.Words.{HasNoShape}
 use Rattle.ax_command.specs.declared.outcome.JobStop.{JobStop}
 use Rattle.ax_command.specs.declared.outcome.JobStop.TheVariants as JobStopOf
 use Rattle.ax_command.specs.declared.outcome.Outcome.{Outcome}
-use Rattle.ax_command.specs.declared.outcome.Outcome.TheVariants.{Usage, Done, ReadFault, WriteFault, ReportFault, InputTooLong, OutOfMemory}
+use Rattle.ax_command.specs.declared.outcome.Outcome.TheVariants.{Usage, Done, ReadFault, WriteFault, ReportFault, InputTooLong}
 use Rattle.ax_command.specs.declared.words.Verb.{Verb}
 use Rattle.ax_command.specs.declared.words.Verb.TheVariants.{Check}
 use Rattle.ax_load.proofs.FilesOnce.{given_ends_for_memory}
@@ -35,7 +35,7 @@ use Rattle.ax_app.proofs.Once.{shape_once, does_once}
 use Rattle.ax_app.specs.Answer.{none_counted, by_words, by_files, by_refusal, by_job}
 use Rattle.ax_app.specs.Completing.{NoFaultCounted, HasWhole, IsDoneWith}
 use Rattle.ax_app.specs.Headline.{Headline, answered, stopped_at_files, stopped_before_input, stopped_in_job, IsHindrance, of_library, of_memory}
-use Rattle.ax_app.specs.Jobs.{Job, writes, each_block, refuses, check_text, IsJob, TextEnds, written, cut, no_memory, JobRuns, RunsJob, IsReadyToCheck, IsStopped}
+use Rattle.ax_app.specs.Jobs.{Job, writes, each_block, refuses, check_text, IsJob, TextEnds, written, cut, no_memory, JobRuns, RunsJob, IsReadyToCheck}
 use Rattle.ax_app.specs.Running.{Does, StopsAtFiles, StopsBeforeInput, Runs, at_words, at_files, before_input, in_job, Ended, Causes}
 
 -- ---- the jobs of the commands

@@ -5,7 +5,7 @@ use Rattle.ax_command.specs.declared.outcome.JobStop.{JobStop}
 use Rattle.ax_command.specs.declared.outcome.JobStop.TheVariants as JobStopOf
 use Rattle.ax_command.specs.declared.outcome.Refusal.{Refusal}
 use Rattle.ax_command.specs.declared.words.Verb.{Verb}
-use Rattle.ax_command.specs.declared.words.Verb.TheVariants.{Check, Canon, Text}
+use Rattle.ax_command.specs.declared.words.Verb.TheVariants.{Check, Canon, Show, Text}
 use Rattle.ax_grammar.specs.InRange.{AreNumbersInRange}
 use Rattle.ax_grammar.specs.Spelling.{printed}
 use Rattle.ax_model.specs.Blocks.{BlockTree}
@@ -19,6 +19,7 @@ use Rattle.ax_stream.specs.Streams.{StreamAnswers, StreamRuns}
 use Rattle.ax_stream.specs.declared.end.StreamEnd.{StreamEnd}
 use Rattle.ax_stream.specs.declared.end.StreamEnd.TheVariants.{Done, WriteFault, OutOfMemory}
 use Rattle.ax_text.specs.BlockText.{BlockLine, OpaqueLine}
+use Rattle.ax_text.specs.ShowText.{ShowText, OpaqueShown}
 
 -- it writes a text and reads no input, or it answers each block of the input, or it refuses its arguments or what its files
 -- have in common
@@ -36,6 +37,10 @@ pub record IsCheckJob (specs : List SpecTree) (job : Job) : Type 0 where
   pub one : specs ≡ spec ∷ []
   pub is : job ≡ writes (check_text spec)
 
+-- `show`: the listing of each block, by its number
+abbrev pub show_command : List SpecTree → BlockCommand
+show_command catalogue = tree_command (λ number spec block. ShowText spec block number) (λ number category content. OpaqueShown number category content) catalogue
+
 -- `text`: the line of each block
 abbrev pub text_command : List SpecTree → BlockCommand
 text_command catalogue = tree_command (λ number spec block. BlockLine spec block) (λ number category content. OpaqueLine category content) catalogue
@@ -44,6 +49,7 @@ text_command catalogue = tree_command (λ number spec block. BlockLine spec bloc
 abbrev pub IsJob : Verb → List (List ℕ) → List SpecTree → Job → Type 0
 IsJob Check arguments specs job = IsCheckJob specs job
 IsJob Canon arguments specs job = job ≡ each_block (canon_command specs)
+IsJob Show arguments specs job = job ≡ each_block (show_command specs)
 IsJob Text arguments specs job = job ≡ each_block (text_command specs)
 
 -- the job is a refusal, or memory was wanting before it was known
@@ -96,6 +102,7 @@ pub record IsReadyToCheck (specs : List SpecTree) : Type 0 where
 abbrev pub IsReady : Verb → List (List ℕ) → List SpecTree → Type 0
 IsReady Check arguments specs = IsReadyToCheck specs
 IsReady Canon arguments specs = Unit {0}
+IsReady Show arguments specs = Unit {0}
 IsReady Text arguments specs = Unit {0}
 
 -- the command ran its job

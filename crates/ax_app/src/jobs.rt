@@ -10,7 +10,7 @@ ghost use Rattle.ax_command.specs.declared.outcome.JobStop.{JobStop};
 ghost use Rattle.ax_stream.specs.Streams.{IsIdle};
 ghost use Rattle.ax_app.specs.Jobs.{IsReady, IsStopped, RunsJob, TextEnds, check_text};
 
-use crate::makers::TextMaker;
+use crate::makers::{ShowMaker, TextMaker};
 use ax_check::Catalogue;
 use ax_command::{JobStop, Verb, line_of};
 use ax_grammar::print_spec;
@@ -71,6 +71,10 @@ pub fn do_job<S: Source, K: Sink, R: Sink>(
         Verb::Check => Ok(check(alloc, catalogue, out)),
         Verb::Canon => {
             let mut work = TreeWork::new(alloc, catalogue, CanonMaker);
+            Ok(run_blocks(alloc, &mut work, source, out, report))
+        }
+        Verb::Show => {
+            let mut work = TreeWork::new(alloc, catalogue, ShowMaker);
             Ok(run_blocks(alloc, &mut work, source, out, report))
         }
         Verb::Text => {

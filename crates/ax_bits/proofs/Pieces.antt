@@ -67,10 +67,6 @@ drop-bits (suc n) (x ∷ xs) =
     let e : 8 * suc n ≡ length (word 8 x) + 8 * n = omega (arith, length-word 8 x) in
     ap (λ k. drop k (word 8 x ++ bits xs)) e ∙ drop-append-add (word 8 x) (bits xs) (8 * n) ∙ drop-bits n xs
 
--- a part that is cut at octets
-pub bits-part : (m n : ℕ) (xs : List ℕ) → take (8 * n) (drop (8 * m) (bits xs)) ≡ bits (take n (drop m xs))
-bits-part m n xs = ap (take (8 * n)) (drop-bits m xs) ∙ take-bits n (drop m xs)
-
 -- an octet's upper 7 bits, and its last one
 pub word-last : (n : ℕ) → word 8 n ≡ word 7 (n / 2) ++ n % 2 ∷ []
 word-last n = word-split 7 1 n ∙ ap (λ k. word 7 (n / 2) ++ k % 2 ∷ []) (omega arith)

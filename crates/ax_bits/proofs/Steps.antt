@@ -1,21 +1,18 @@
 -- What one more octet does to a number that is read, and to bits that are written.
-use Rattle.std.proofs.Common.{◌≡◌, ℕ, suc, ◌+◌, ◌-◌, ◌*◌, ◌/◌, ◌%◌, ◌^◌, ◌<◌, ◌≤◌, List, ◌++◌, length, take, drop, set, get_or, sym, ◌∙◌, ap, arith, append_assoc, length-append, bit_and, bit_or, lit<}
+use Rattle.std.proofs.Common.{◌≡◌, ℕ, ◌+◌, ◌-◌, ◌*◌, ◌/◌, ◌%◌, ◌^◌, ◌<◌, ◌≤◌, List, ◌++◌, length, take, drop, set, get_or, sym, ◌∙◌, ap, arith, append_assoc, length-append, bit_and, bit_or, lit<}
 use Rattle.std.proofs.lemmas.Nat.{shr-shr, shl_below, mul-add-lt, pow-add, one_shl, and_mask, or_shifted, mod_below, pow_pos, shr_below}
 use Rattle.std.proofs.lemmas.List.{take_at, drop_at, drop-drop, length-take-le}
 use Rattle.std.proofs.Math.Nat.{mod-eq_of_lt, pow-le-pow_right}
 use Rattle.std.proofs.Math.Seq.{take-add}
 use Rattle.ax_bits.specs.Bits.{word, bits}
 use Rattle.ax_bits.proofs.Pieces.{word-joined, word-split, word-low, piece_at, with_piece}
-use Rattle.ax_bits.proofs.Words.{length-word, twice}
+use Rattle.ax_bits.proofs.Words.{length-word}
 
 pub one_bit : (k : ℕ) → k < 128 → 1 * 2 ^ k % 2 ^ 128 ≡ 2 ^ k
 one_bit k h = one_shl k 128 h
 
 pub bit_bound : (k : ℕ) → k < 128 → 2 ^ k ≤ 2 ^ 127
 bit_bound k h = let e : k ≤ 127 = omega arith in pow-le-pow_right (lit< tt) e
-
-pub two_halves : (w : ℕ) → 1 ≤ w → 2 ^ w ≡ 2 ^ (w - 1) + 2 ^ (w - 1)
-two_halves w h = let e : w ≡ suc (w - 1) = omega arith in ap (λ k. 2 ^ k) e ∙ twice (w - 1)
 
 -- what a mask of k ones leaves, and what a shift makes room for
 pub mask_low : (n k : ℕ) → k ≤ 8 → bit_and n (1 * 2 ^ k % 2 ^ 128 - 1) ≡ n % 2 ^ k

@@ -1,5 +1,5 @@
 -- Bits and the numbers that they spell.
-use Rattle.std.proofs.Common.{◌≡◌, ℕ, zero, suc, ◌+◌, ◌*◌, ◌/◌, ◌%◌, ◌^◌, ◌<◌, List, [], ◌∷◌, ◌++◌, length, refl, sym, ◌∙◌, ap, arith, length-append, subst}
+use Rattle.std.proofs.Common.{◌≡◌, ℕ, zero, suc, ◌+◌, ◌*◌, ◌/◌, ◌%◌, ◌^◌, ◌<◌, List, [], ◌∷◌, ◌++◌, length, refl, ◌∙◌, ap, arith, length-append}
 use Rattle.std.proofs.lemmas.Nat.{div-mul-add}
 use Rattle.std.proofs.Math.Nat.{add-mul-div_right, add-mul-mod_self_right, mod-eq_of_lt, pow-suc}
 use Rattle.std.proofs.lemmas.Grind.{flat_map-append}
@@ -59,12 +59,3 @@ append-AreBits (x ∷ a) b p q = (p.0, append-AreBits a b p.1 q)
 pub bits-AreBits : (xs : List ℕ) → AreBits (bits xs)
 bits-AreBits [] = tt
 bits-AreBits (x ∷ xs) = append-AreBits (word 8 x) (bits xs) (word-AreBits 8 x) (bits-AreBits xs)
-
--- some number is spelled by whole octets
-pub some_number : (xs : List ℕ) → (n : ℕ) × (n < 2 ^ (8 * length xs)) × (bits xs ≡ word (8 * length xs) n)
-some_number xs =
-    let e : length (bits xs) ≡ 8 * length xs = length-bits xs in (
-      number_of (bits xs),
-      (let P : ℕ → Type 0 = λ k. number_of (bits xs) < 2 ^ k in subst P e (number_below (bits xs) (bits-AreBits xs))),
-      sym (word-number (bits xs) (bits-AreBits xs)) ∙ ap (λ k. word k (number_of (bits xs))) e,
-    )

@@ -30,10 +30,6 @@ told P left (Some rest) front e f = subst (λ l. OnTold l P) (sym e) (f rest ref
 pub none_left : (left' : Option (List ℕ)) (rest : List ℕ) → IsAtEnd left' → left' ≡ Some rest → rest ≡ []
 none_left left' rest h e = subst IsAtEnd e h
 
-some_none : {X : Type 0} (xs : List X) → length xs ≡ 0 → xs ≡ []
-some_none [] e = refl
-some_none (x ∷ xs) e = absurd (omega (arith, e))
-
 -- LEN stands in the first three octets
 len_of-append : (front rest : List ℕ) → 3 ≤ length front → len_of (front ++ rest) ≡ len_of front
 len_of-append [] rest h = absurd (omega (arith, h))

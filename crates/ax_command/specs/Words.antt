@@ -5,13 +5,14 @@ use Rattle.std.specs.Str.{bytes_eq}
 use Rattle.std.specs.String.{string_bytes}
 use Rattle.ax_command.specs.declared.words.Command.{Command}
 use Rattle.ax_command.specs.declared.words.Verb.{Verb}
-use Rattle.ax_command.specs.declared.words.Verb.TheVariants.{Check, Canon, Text}
+use Rattle.ax_command.specs.declared.words.Verb.TheVariants.{Check, Canon, Show, Text}
 
 -- the first word names the command
 abbrev pub verb_of : List ℕ → Option Verb
 verb_of word =
     if bytes_eq word (codes "check") then Some Check
     else if bytes_eq word (codes "canon") then Some Canon
+    else if bytes_eq word (codes "show") then Some Show
     else if bytes_eq word (codes "text") then Some Text
     else None
 
@@ -19,12 +20,14 @@ verb_of word =
 abbrev pub TakesFiles : Verb → ℕ → Type 0
 TakesFiles Check count = count ≡ 1
 TakesFiles Canon count = 0 < count
+TakesFiles Show count = 0 < count
 TakesFiles Text count = 0 < count
 
 -- how many words stand before its files
 abbrev pub arguments_of : Verb → ℕ
 arguments_of Check = 0
 arguments_of Canon = 0
+arguments_of Show = 0
 arguments_of Text = 0
 
 -- what the words ask for

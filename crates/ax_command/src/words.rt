@@ -11,6 +11,8 @@ pub enum Verb {
     Check,
     /// `canon` and one or more SPEC.
     Canon,
+    /// `show` and one or more SPEC.
+    Show,
     /// `text` and one or more SPEC.
     Text,
 }
@@ -31,6 +33,8 @@ fn verb_of(word: &str) -> Option<Verb>
         Some(Verb::Check)
     } else if word == "canon" {
         Some(Verb::Canon)
+    } else if word == "show" {
+        Some(Verb::Show)
     } else if word == "text" {
         Some(Verb::Text)
     } else {
@@ -44,7 +48,7 @@ fn takes_files(verb: Verb, count: usize) -> bool
 {
     match verb {
         Verb::Check => count == 1,
-        Verb::Canon | Verb::Text => count > 0,
+        Verb::Canon | Verb::Show | Verb::Text => count > 0,
     }
 }
 
@@ -53,7 +57,7 @@ fn arguments_of(verb: Verb) -> usize
     ensures { result ≡ arguments_of verb }
 {
     match verb {
-        Verb::Check | Verb::Canon | Verb::Text => 0,
+        Verb::Check | Verb::Canon | Verb::Show | Verb::Text => 0,
     }
 }
 

@@ -1,6 +1,6 @@
 -- The laws of presence fields.
-use Rattle.std.proofs.Common.{◌≡◌, inl, inr, ℕ, zero, suc, ◌+◌, ◌-◌, ◌*◌, ◌%◌, ◌<◌, ◌≤◌, Bool, true, false, cond, IsTrue, List, [], ◌∷◌, ◌++◌, length, take, drop, set, replicate, refl, sym, ◌∙◌, ap, arith, subst, length-append, length-take, length-drop}
-use Rattle.std.proofs.lemmas.List.{drop-set-lt, length-set, length-replicate, drop-drop, append_cancel_right, take-append-drop, length-take-le}
+use Rattle.std.proofs.Common.{◌≡◌, inl, inr, ℕ, zero, suc, ◌+◌, ◌-◌, ◌*◌, ◌%◌, ◌≤◌, Bool, true, false, cond, IsTrue, List, [], ◌∷◌, ◌++◌, length, take, drop, set, replicate, refl, sym, ◌∙◌, ap, arith, subst, length-append, length-take, length-drop}
+use Rattle.std.proofs.lemmas.List.{drop-drop, append_cancel_right, take-append-drop, length-take-le}
 use Rattle.std.proofs.Math.Seq.{take-add}
 use Rattle.ax_bits.specs.Bits.{AreBits, bits}
 use Rattle.ax_bits.proofs.Words.{length-bits}
@@ -282,26 +282,6 @@ least_field_of n marked some few none =
     ∙ least_alike k marked (take n marked) (alike_front n marked none)
 
 -- ---- sets
-
-bits_set : (marked : List ℕ) (i : ℕ) → AreBits marked → AreBits (set marked i 1)
-bits_set [] i h = tt
-bits_set (m ∷ marked) zero h = (omega arith, h.1)
-bits_set (m ∷ marked) (suc i) h = (h.0, bits_set marked i h.1)
-
-bits_none : (n : ℕ) → AreBits (replicate n 0)
-bits_none zero = tt
-bits_none (suc n) = (omega arith, bits_none n)
-
-pub AreMarks-set : (marked : List ℕ) (i : ℕ) → AreMarks marked → AreMarks (set marked i 1)
-AreMarks-set marked i h = record { size = length-set marked i 1 ∙ h.size; each = bits_set marked i h.each }
-
-pub AreMarks-none : AreMarks no_marks
-unfolding no_marks
-AreMarks-none = record { size = length-replicate {A = ℕ} 126 0; each = bits_none 126 }
-
--- a set with one more slot among the first n has none after them, if the set had none
-pub none_behind_mark : (marked : List ℕ) (i n : ℕ) → i < n → IsTrue (none_marked (drop n marked)) → IsTrue (none_marked (drop n (set marked i 1)))
-none_behind_mark marked i n lt h = ap none_marked (drop-set-lt n marked i 1 lt) ∙ h
 
 pub none_behind_none : (n : ℕ) → IsTrue (none_marked (drop n no_marks))
 none_behind_none n = none_further 0 n no_marks (omega arith) none_of_no_marks

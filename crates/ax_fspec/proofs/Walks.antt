@@ -1,6 +1,6 @@
 -- The walk over the slots of a set, along its marks.
 use Rattle.std.proofs.Common.{◌≡◌, ℕ, zero, suc, ◌+◌, ◌<◌, IsTrue, List, [], ◌∷◌, take, drop, get_or, refl, ◌∙◌, ap, arith}
-use Rattle.ax_model.specs.Presence.{none_marked, first_mark, marks_after}
+use Rattle.ax_model.specs.Presence.{none_marked}
 use Rattle.ax_fspec.specs.Marks.{slots_from}
 
 -- slot t comes next after some that aren't in the set, where the first mark is that of slot s, and `rest` come later
@@ -38,10 +38,3 @@ pub no_next_slot : (s : ℕ) (marks : List ℕ) → slots_from s marks ≡ [] �
 no_next_slot s [] e = refl
 no_next_slot s (zero ∷ marks) e = no_next_slot (s + 1) marks e
 no_next_slot s (suc m ∷ marks) e = cc
-
--- the mark of a slot, as definitions that go along slots and marks name it
-pub mark_after : (n : ℕ) (marks : List ℕ) → first_mark (marks_after n marks) ≡ get_or marks n 0
-mark_after zero [] = refl
-mark_after zero (m ∷ marks) = refl
-mark_after (suc n) [] = mark_after n []
-mark_after (suc n) (m ∷ marks) = mark_after n marks

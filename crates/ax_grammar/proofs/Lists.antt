@@ -101,9 +101,6 @@ begins : {A : Type 0} (read : Read (List A)) → with_front [] read ≡ read
 begins (Ok x) = refl
 begins (Err rest) = refl
 
-pub list_begins : {A : Type 0} (element : Texts → Read A) (texts : Texts) → with_front [] (list_at element texts) ≡ list_at element texts
-list_begins element texts = begins (list_at element texts)
-
 pub list_goes_on : {A : Type 0} (element : Texts → Read A) (front : List A) (texts between after : Texts) (a : A) (total : Read (List A)) → Shrinks element
     → takes_at Word.Close texts ≡ Ok (false, between) → element between ≡ Ok (a, after)
     → with_front front (list_at element texts) ≡ total → with_front (front ++ a ∷ []) (list_at element after) ≡ total

@@ -10,10 +10,6 @@ Agree k p q = (texts : Texts) → length texts < k → p texts ≡ q texts
 abbrev pub Shrinks : {A : Type 0} → (Texts → Read A) → Type 0
 Shrinks {A} p = (texts : Texts) (a : A) (rest : Texts) → p texts ≡ Ok (a, rest) → length rest < length texts
 
--- what is left isn't more
-abbrev pub Keeps : {A : Type 0} → (Texts → Read A) → Type 0
-Keeps {A} p = (texts : Texts) (a : A) (rest : Texts) → p texts ≡ Ok (a, rest) → length rest ≤ length texts
-
 -- a step calls itself after a text more
 pub record IsGuarded {A : Type 0} (step : (Texts → Read A) → Texts → Read A) : Type 0 where
   pub agrees : (k : ℕ) (p q : Texts → Read A) → Shrinks p → Shrinks q → Agree k p q → Agree (suc k) (step p) (step q)
@@ -32,9 +28,6 @@ same_behind (Err d) f g h = refl
 
 abbrev done : {A : Type 0} → A → Result A Texts
 done x = Ok x
-
-pub ok_is : {A : Type 0} (x y : A) → done x ≡ done y → x ≡ y
-ok_is x y e = cc
 
 abbrev pub reads : {A : Type 0} → A → Texts → Read A
 reads a rest = Ok (a, rest)

@@ -46,14 +46,6 @@ pub err_leaves : (A : Type 0) (n : ℕ) (texts : Texts) → Leaves {A = A} n (Er
 unfolding Leaves
 err_leaves A n texts a rest e = absurd cc
 
-pub choice_leaves : {A : Type 0} (n : ℕ) (b : Bool) (r s : Read A) → Leaves n r → Leaves n s → Leaves n (cond b r s)
-choice_leaves n true r s h k = h
-choice_leaves n false r s h k = k
-
-pub less_leaves : {A : Type 0} (p : Texts → Read A) → Shrinks p → (texts : Texts) → Leaves (length texts) (p texts)
-unfolding Leaves
-less_leaves p s texts a rest e = omega (arith, s texts a rest e)
-
 -- ---- contents
 
 sign_leaves : (word : Keyword) (texts rest : Texts) → Leaves (length rest) (sign_behind word texts rest)

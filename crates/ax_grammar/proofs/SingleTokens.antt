@@ -1,12 +1,12 @@
 -- What the octets of a token stand for.
-use Rattle.std.proofs.Common.{◌≡◌, ◌≢◌, ℕ, zero, suc, ◌+◌, ◌-◌, ◌*◌, ◌^◌, ◌<◌, ◌≤◌, Bool, true, false, ◌&&◌, cond, eqb, List, [], ◌∷◌, ◌++◌, length, take, drop, Option, Some, None, refl, sym, ◌∙◌, ap, subst, arith, add-one, lit<}
+use Rattle.std.proofs.Common.{◌≡◌, ◌≢◌, ℕ, zero, suc, ◌+◌, ◌-◌, ◌*◌, ◌^◌, ◌<◌, ◌≤◌, Bool, true, false, ◌&&◌, cond, eqb, List, [], ◌∷◌, ◌++◌, length, take, drop, Option, Some, None, refl, sym, ◌∙◌, ap, subst, arith, lit<}
 use Rattle.std.specs.Prelude.{MatchOption, nat_le, get_or}
 use Rattle.std.specs.List.{list_all, AllByRecursion}
 use Rattle.std.specs.Option.{option_map, option_and_then}
 use Rattle.std.proofs.lemmas.Bool.{and_parts, and_from, leb-true, le-leb, eqb-true, eqb-false, ne_eqb, cond-true, cond-false, not-true, not_from_false, ltb-true, lt-ltb, le-ltb}
 use Rattle.std.proofs.lemmas.Option.{cond_some}
 use Rattle.std.proofs.lemmas.List.{take_at, length-append}
-use Rattle.std.proofs.Math.Nat.{pow-le-pow_right, pow-suc}
+use Rattle.std.proofs.Math.Nat.{pow-le-pow_right}
 use Rattle.ax_model.specs.Characters.{IsName, is_name_octet, IsTextOctet}
 use Rattle.ax_tokens.specs.Octets.{quote, is_string_octet, is_word_octet}
 use Rattle.ax_tokens.specs.Lexing.{IsTokenText}
@@ -185,11 +185,6 @@ room value i h lt =
     let le : i ≤ 17 = omega arith in
     let few : 10 ^ i ≤ 10 ^ 17 = pow-le-pow_right (lit< tt) le in
     omega (arith, few, h)
-
-pub bound_more : (value digit i : ℕ) → value < 10 ^ i → digit ≤ 9 → 10 * value + digit < 10 ^ (i + 1)
-bound_more value digit i h le =
-    let e : 10 ^ (i + 1) ≡ 10 ^ i * 10 = ap (λ n. 10 ^ n) (add-one i) ∙ pow-suc 10 i in
-    omega (arith, e, h)
 
 pub bound_most : (value n most : ℕ) → value < 10 ^ n → n ≤ most → value < 10 ^ most
 bound_most value n most h le =

@@ -10,7 +10,8 @@ use Rattle.ax_model.specs.declared.content.Sign.TheVariants as Signs
 use Rattle.ax_model.specs.declared.spec.UapSlot.{UapSlot}
 use Rattle.ax_model.specs.declared.spec.UapSlot.TheVariants as Uap
 use Rattle.ax_grammar.specs.Keywords.{keyword_text, keyword_of}
-use Rattle.ax_grammar.specs.Spelling.{three_digits, quoted}
+use Rattle.ax_grammar.specs.Spelling.{quoted}
+use Rattle.ax_model.specs.Paths.{three_digits}
 use Rattle.ax_grammar.specs.Tests.{name_of, number_of, category_of, text_of}
 use Rattle.ax_grammar.specs.Reading.{Texts, Read, ◌>>=◌, one_of, expect_at, braced_at}
 use Rattle.ax_grammar.specs.Rules.{name_at, category_at, width_at, number_at, text_at, sign_behind, sign_at, entry_at, scale_at, content_behind, content_at, fixed_behind, member_step, fixed_step, fixed_at, member_at, part_at, kind_behind, kind_step, kind_at, slot_step, slot_at, item_at, uap_slot_at, spec_at}

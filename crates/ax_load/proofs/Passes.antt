@@ -33,6 +33,3 @@ one_passed files names i before name more spec p gives fresh = record {
   counted = ap (λ n. n + 1) p.counted ∙ sym (length-append p.earlier (name ∷ []));
   give = record { each = each_more files p.earlier before name spec p.give.each gives; distinct = new_more [] before spec p.give.distinct fresh };
 }
-
-pub all_passed : (files : Option (List File)) (names : List (List ℕ)) (i : ℕ) (catalogue : List SpecTree) → Passed files names i catalogue [] → FilesGive files names catalogue
-all_passed files names i catalogue p = subst (λ n. FilesGive files n catalogue) (sym (append-nil p.earlier) ∙ sym p.split) p.give

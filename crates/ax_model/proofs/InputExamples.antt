@@ -1,5 +1,5 @@
 -- The worked examples of framing and of the ends of an input.
-use Rattle.std.proofs.Common.{◌≡◌, ℕ, ◌≤◌, List, [], ◌∷◌, refl, lit<, arith, ap}
+use Rattle.std.proofs.Common.{◌≡◌, ℕ, List, [], ◌∷◌, refl, lit<, arith, ap}
 use Rattle.ax_model.proofs.EndsOnce.{ends_once}
 use Rattle.ax_model.proofs.FramedOnce.{framed_once}
 use Rattle.ax_model.proofs.WorkedExamples.{second_record}

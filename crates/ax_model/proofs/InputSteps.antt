@@ -19,13 +19,6 @@ raws_more [] raw front octets h framed some = (octets, [], ap (λ l. l ++ octets
 raws_more (r ∷ raws) raw front octets (x, y, split, f, s, more) framed some =
     (x, y ++ octets, ap (λ l. l ++ octets) split ∙ append_assoc x y octets, f, s, raws_more raws raw y octets more framed some)
 
-pub raws_spell_more : (catalogue : List SpecTree) (raws : List RawTree) (raw : RawTree) (blocks : List BlockTree) (block : BlockTree) → RawsSpell catalogue raws blocks → RawSpells catalogue raw block
-    → RawsSpell catalogue (raws ++ raw ∷ []) (blocks ++ block ∷ [])
-raws_spell_more catalogue [] raw [] block h s = (s, tt)
-raws_spell_more catalogue [] raw (b ∷ blocks) block h s = absurd h
-raws_spell_more catalogue (r ∷ raws) raw [] block h s = absurd h
-raws_spell_more catalogue (r ∷ raws) raw (b ∷ blocks) block h s = (h.0, raws_spell_more catalogue raws raw blocks block h.1 s)
-
 pub stream_more : (catalogue : List SpecTree) (blocks : List BlockTree) (block : BlockTree) (front octets : List ℕ) → SpellsStream catalogue blocks front → SpellsBlock catalogue block octets
     → SpellsStream catalogue (blocks ++ block ∷ []) (front ++ octets)
 stream_more catalogue [] block front octets h s = (octets, [], ap (λ l. l ++ octets) h ∙ sym (append-nil octets), s, refl)

@@ -59,10 +59,6 @@ length-rest : (a : List ℕ) → length a ≤ length (later_marks a) + 1
 length-rest [] = omega arith
 length-rest (x ∷ a) = omega arith
 
-length-rests : (n : ℕ) (a : List ℕ) → length a ≤ length (marks_after n a) + n
-length-rests zero a = omega arith
-length-rests (suc n) a = omega (arith, length-rest a, length-rests n (later_marks a))
-
 length-rest-le : (a : List ℕ) → length (later_marks a) ≤ length a - 1
 length-rest-le [] = omega arith
 length-rest-le (x ∷ a) = omega arith

@@ -54,10 +54,6 @@ last_after : (n : ℕ) (ms : List ℕ) → last_mark (marks_after n ms) ≡ last
 last_after zero ms = omega arith
 last_after (suc n) ms = omega (arith, last_after n (later_marks ms), last_later ms)
 
-length-upto : (n : ℕ) (ms : List ℕ) → length (marks_upto n ms) ≡ n
-length-upto zero ms = refl
-length-upto (suc n) ms = ap suc (length-upto n (later_marks ms))
-
 one_octet : (t : ℕ) → t - 7 ≡ 0 → 8 ≡ 8 * presence_octets (max 1 t)
 one_octet t e = omega arith
 

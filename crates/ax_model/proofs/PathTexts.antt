@@ -25,9 +25,6 @@ front_none (x ∷ t) = sym (onto_nothing x (x == 47) (pieces t))
 other_piece : (x : ℕ) (t : List ℕ) → (x == 47) ≡ false → pieces (x ∷ t) ≡ onto (x ∷ []) (pieces t)
 other_piece x t e = rw e refl
 
-slash_piece : (t : List ℕ) → pieces (47 ∷ t) ≡ [] ∷ pieces t
-slash_piece t = refl
-
 some_pieces : (t : List ℕ) → pieces t ≡ [] → ⊥
 some_pieces [] e = cc
 some_pieces (x ∷ t) e = never (x == 47) (pieces t) e
@@ -63,9 +60,6 @@ joined_pieces (x ∷ t) = joined_by x t (x == 47) refl (joined_pieces t)
 
 no_slash : (x : ℕ) → is_name_octet x ≡ true → (x == 47) ≡ false
 no_slash x e = grind (arith, nat_tests)
-
-onto_more : (x : ℕ) (n : List ℕ) (ps : List (List ℕ)) → onto (x ∷ []) (n ∷ ps) ≡ (x ∷ n) ∷ ps
-onto_more x n ps = refl
 
 alone : (n : List ℕ) → list_all is_name_octet n ≡ true → pieces n ≡ n ∷ []
 alone [] e = refl

@@ -58,10 +58,6 @@ records_canon_shortest spec (r ∷ rs) b (x, y, e, h, t) =
 pub body_canon_shortest : (spec : SpecTree) (rs : List EntriesTree) (b : List ℕ) → SpellsBody spec rs b → length (CanonBody spec rs) ≤ length b
 body_canon_shortest spec rs b h = records_canon_shortest spec rs b h.spelled
 
-pub body_shape : (spec : SpecTree) (rs : List EntriesTree) (b : List ℕ) → RecordsSpell spec rs b → AllByRecursion (RecordShape spec) rs
-body_shape spec [] b h = tt
-body_shape spec (r ∷ rs) b (x, y, e, h, t) = (record_shape spec r x h, body_shape spec rs y t)
-
 pub body_canon_once : (spec : SpecTree) (rs ss : List EntriesTree) → Sound (record_kind spec) → 0 < length rs → 0 < length ss → AllByRecursion (RecordShape spec) rs → AllByRecursion (RecordShape spec) ss
     → CanonBody spec rs ≡ CanonBody spec ss ↔ rs ≡ ss
 body_canon_once spec rs ss sound p q h g = (

@@ -2,7 +2,7 @@
 use Rattle.std.specs.Prelude.{ℕ, List, [], ◌∷◌, codes}
 use Rattle.ax_model.specs.Examples.{two_octets}
 use Rattle.ax_model.specs.Specification.{SpecTree}
-use Rattle.ax_model.specs.Tree.{element, group, members_of, named, spare, KindTree, fixed, extended, counted, compound, slots_of, subitem, number, member_values, part_values, occurrences, values_of, lists_of, marked, EntriesTree, no_entries, entry_and}
+use Rattle.ax_model.specs.Tree.{element, members_of, named, spare, KindTree, fixed, extended, counted, compound, slots_of, subitem, number, member_values, part_values, occurrences, values_of, lists_of, marked, EntriesTree, no_entries, entry_and}
 use Rattle.ax_model.specs.declared.content.Content.{Content}
 use Rattle.ax_model.specs.declared.content.Content.TheVariants.{Raw, Integer, Quantity}
 use Rattle.ax_model.specs.declared.content.Sign.TheVariants.{Unsigned}

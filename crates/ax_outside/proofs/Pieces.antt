@@ -1,5 +1,5 @@
 -- Texts that are written piece by piece.
-use Rattle.std.proofs.Common.{◌≡◌, ℕ, ◌+◌, ◌<◌, ◌≤◌, List, ◌++◌, Option, length, take, refl, sym, ◌∙◌, ap, arith, length-append, Result, Ok, Err, OnOk, OnErr, IsErr, [], subst}
+use Rattle.std.proofs.Common.{◌≡◌, ℕ, ◌+◌, ◌<◌, ◌≤◌, List, ◌++◌, Option, length, take, sym, ◌∙◌, ap, arith, length-append, Result, Ok, Err, OnOk, OnErr, IsErr, [], subst}
 use Rattle.std.proofs.Math.Seq.{take-append-add}
 use Rattle.std.proofs.lemmas.List.{take-append-le}
 use Rattle.ax_outside.specs.Told.{with_end, Rose}

@@ -1,11 +1,11 @@
-//! `text` over inputs without fault and with one.
+//! `text` and `show` over inputs without fault and with one.
 
 use crate::world::{Outside, leaves, wanted};
 use ax_samples::octets;
 use std::test::Fail;
 
 // The words, the input, the exit status, the output and the report. Each input is read to its end.
-const LINES: [(&str, &str, u8, &str, &str); 7] = [
+const LINES: [(&str, &str, u8, &str, &str); 10] = [
     ("text A", "", 0, "", ""),
     (
         "text 048",
@@ -49,10 +49,31 @@ const LINES: [(&str, &str, u8, &str, &str); 7] = [
         "opaque 062 \"80ff\"\n",
         "refused block 1 bit 32 RunsOut\n",
     ),
+    (
+        "show A",
+        "22 00 0A E0 19 0C 01 00 00 80 3E 00 05 80 FF",
+        0,
+        "block 0 category 034 octets 10 records 1\nrecord 0\n034/010/SAC = 25\n034/010/SIC = 12\n034/000 = 1 \"North marker message\"\n034/030 = 128 1/1 \"s\"\nblock 1 category 062 octets 5 opaque \"80ff\"\n",
+        "",
+    ),
+    (
+        "show A",
+        "3E 00 05 80 FF",
+        0,
+        "block 0 category 062 octets 5 opaque \"80ff\"\n",
+        "",
+    ),
+    (
+        "show 048",
+        "30 00 04 00 30 00 05 80 19",
+        3,
+        "block 0 category 048 octets 4 records 1\nrecord 0\n",
+        "refused block 1 bit 32 RunsOut\n",
+    ),
 ];
 
 #[test]
-fn a_line_for_each_block(rt: HostRuntime) -> Result<(), Fail> {
+fn lines_of_each_block(rt: HostRuntime) -> Result<(), Fail> {
     let alloc = rt.alloc();
     for (words, input, status, out, report) in LINES {
         let input = octets(alloc, input)?;

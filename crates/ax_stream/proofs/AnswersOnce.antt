@@ -1,17 +1,17 @@
 -- An input has one answer, also where a block is refused for its length.
-use Rattle.std.proofs.Common.{◌≡◌, ℕ, suc, ◌+◌, ◌<◌, ◌≤◌, inl, inr, List, [], ◌∷◌, ◌++◌, length, refl, sym, ◌∙◌, ap, subst, arith, append_assoc, append-nil, length-append}
+use Rattle.std.proofs.Common.{◌≡◌, ℕ, ◌+◌, ◌<◌, ◌≤◌, inl, inr, List, [], ◌∷◌, ◌++◌, length, refl, sym, ◌∙◌, ap, subst, arith, append_assoc, append-nil, length-append}
 use Rattle.ax_model.proofs.EndsOnce.{ends_once}
 use Rattle.ax_model.proofs.Framings.{len_of_front, one_next}
 use Rattle.ax_model.proofs.Framings as framings
 use Rattle.ax_model.proofs.InputSteps.{ends_well, ends_by_body}
 use Rattle.ax_model.specs.Blocks.{BlockTree, IsFramed, SpellsBlock, SpellsStream}
-use Rattle.ax_model.specs.Ends.{RawSpells, RawsSpell, RawFails, InputEnd, by_framing, by_body, Ends}
-use Rattle.ax_model.specs.Framing.{RawTree, AreRaws, FramingEnd, whole, FramingEnds, NextPart, block, end}
+use Rattle.ax_model.specs.Ends.{RawsSpell, RawFails, InputEnd, by_framing, by_body, Ends}
+use Rattle.ax_model.specs.Framing.{RawTree, AreRaws, FramingEnd, whole, FramingEnds, block, end}
 use Rattle.ax_model.specs.Specification.{SpecTree}
 use Rattle.ax_model.specs.declared.fault.BodyCause.{BodyCause}
 use Rattle.ax_stream.proofs.Prefixes.{IsSameFront, same_front, none_more, later_number}
 use Rattle.ax_stream.proofs.Streams.{raw_spells_block}
-use Rattle.ax_stream.specs.Commands.{BlockCommand, BlockAnswer, gives, too_long, IsGiven, AreGiven}
+use Rattle.ax_stream.specs.Commands.{BlockCommand, BlockAnswer, too_long, IsGiven, AreGiven}
 use Rattle.ax_stream.specs.Ending.{stream_end}
 use Rattle.ax_stream.specs.Streams.{StreamAnswers, EndsTooLong, EndsWithInput}
 use Rattle.ax_stream.specs.declared.end.StreamEnd.{StreamEnd}

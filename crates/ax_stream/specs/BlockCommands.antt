@@ -1,6 +1,5 @@
 -- The block commands.
-use Rattle.std.specs.Prelude.{ℕ, List}
-use Rattle.ax_model.specs.Blocks.{BlockTree}
+use Rattle.std.specs.Prelude.{List}
 use Rattle.ax_model.specs.CanonicalOctets.{canon_block, framed}
 use Rattle.ax_model.specs.Specification.{SpecTree}
 use Rattle.ax_stream.specs.Commands.{BlockCommand}

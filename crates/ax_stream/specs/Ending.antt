@@ -9,7 +9,7 @@ use Rattle.ax_stream.specs.declared.end.Cause.TheVariants.{EndsInHeader, BadLen,
 use Rattle.ax_blocks.specs.declared.next_error.NextError.{NextError}
 use Rattle.ax_blocks.specs.declared.next_error.NextError.TheVariants as NextErrorOf
 use Rattle.ax_stream.specs.declared.end.StreamEnd.{StreamEnd}
-use Rattle.ax_stream.specs.declared.end.StreamEnd.TheVariants.{Done, Refused, InputTooLong, TooLong, ReadFault, WriteFault, ReportFault, OutOfMemory}
+use Rattle.ax_stream.specs.declared.end.StreamEnd.TheVariants.{Done, Refused, InputTooLong, TooLong, ReadFault, ReportFault, OutOfMemory}
 use Rattle.ax_stream.specs.declared.work.WorkStop.{WorkStop}
 use Rattle.ax_stream.specs.declared.work.WorkStop.TheVariants as WorkStopOf
 

@@ -1,10 +1,8 @@
 -- The texts of a block determine it, under one catalogue.
-use Rattle.std.proofs.Common.{◌≡◌, ℕ, ◌+◌, ◌*◌, ◌/◌, ◌%◌, ◌<◌, ◌==◌, Bool, true, false, cond, List, [], ◌∷◌, ◌++◌, length, Option, Some, None, refl, sym, ◌∙◌, ap, arith, subst}
-use Rattle.std.specs.Prelude.{codes, bytes_eq}
+use Rattle.std.proofs.Common.{◌≡◌, ℕ, ◌+◌, ◌/◌, ◌%◌, ◌==◌, Bool, true, false, cond, List, [], ◌∷◌, Option, Some, None, refl, sym, ◌∙◌, ap, arith, subst}
+use Rattle.std.specs.Prelude.{codes}
 use Rattle.std.specs.List.{AllByRecursion}
-use Rattle.std.proofs.lemmas.Slice.Eq.{bytes_eq-Decides}
-use Rattle.ax_bits.specs.Bits.{AreOctets}
-use Rattle.ax_model.specs.Blocks.{BlockTree, read_block, opaque_block, Fits}
+use Rattle.ax_model.specs.Blocks.{BlockTree, read_block, opaque_block}
 use Rattle.ax_model.specs.Bodies.{RecordShape}
 use Rattle.ax_model.specs.CanonicalOctets.{category_of}
 use Rattle.ax_model.specs.Flaws.{NoFlaw}
@@ -12,10 +10,10 @@ use Rattle.ax_model.specs.Paths.{three_digits}
 use Rattle.ax_model.specs.Specification.{SpecTree, record_slots, spec_of}
 use Rattle.ax_model.specs.Streams.{FitsOver}
 use Rattle.ax_model.specs.Tree.{EntriesTree}
-use Rattle.ax_text.specs.BlockText.{record_onto, records_onto}
+use Rattle.ax_text.specs.BlockText.{records_onto}
 use Rattle.ax_text.specs.Names.{IsNamed}
-use Rattle.ax_text.specs.Tokens.{TextOver, HoldsOctets, IsOfCatalogue}
-use Rattle.ax_text.specs.ValueText.{Texts, closing, hex_text, entries_onto}
+use Rattle.ax_text.specs.Tokens.{TextOver, IsOfCatalogue}
+use Rattle.ax_text.specs.ValueText.{Texts, closing, hex_text}
 use Rattle.ax_text.proofs.Readable.{SlotsReadable}
 use Rattle.ax_text.proofs.Readables.{record_readable}
 use Rattle.ax_text.proofs.Unique.{heads, tails, different, same_hex, same_entries}

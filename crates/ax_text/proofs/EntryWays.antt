@@ -1,24 +1,41 @@
 -- The entries of a compound or a record, one after the other, by the slots of their numbers.
-use Rattle.std.proofs.Common.{◌≡◌, ℕ, zero, suc, ◌+◌, ◌<◌, ◌≤◌, ◌==◌, Bool, true, false, cond, MatchBool, List, [], ◌∷◌, ◌++◌, ◌-◌, length, drop, get_or, Option, Some, None, slice_get, refl, sym, ◌∙◌, ap, subst, arith, add-one}
+use Rattle.std.proofs.Common.{◌≡◌, ℕ, zero, suc, ◌+◌, ◌<◌, ◌≤◌, ◌==◌, Bool, true, false, cond, MatchBool, List, [], ◌∷◌, ◌++◌, ◌-◌, length, drop, get_or, slice_get, refl, sym, ◌∙◌, ap, subst, arith}
 use Rattle.std.proofs.lemmas.Bool.{eqb-true}
 use Rattle.std.proofs.lemmas.List.{drop_all}
 use Rattle.std.specs.Option.{option_map}
 use Rattle.ax_model.proofs.RecordFitting.{entries_split}
 use Rattle.ax_model.specs.Plain.{slot_tree, slots_tree, value_tree, entries_tree}
-use Rattle.ax_model.specs.Shape.{Shape, EntriesShape}
+use Rattle.ax_model.specs.Shape.{EntriesShape}
 use Rattle.ax_model.specs.Tree.{KindTree, SlotTree, SlotsTree, no_slots, slot_and, spare_slot, subitem, ValueTree, EntriesTree, no_entries, entry_and}
 use Rattle.ax_model.specs.declared.kind.Slot.{Slot}
 use Rattle.ax_model.specs.declared.value.Entry.{Entry}
-use Rattle.ax_text.specs.Printing.{behind, Puts}
+use Rattle.ax_text.specs.Printing.{after_spaces, Puts}
 use Rattle.ax_text.specs.Slots.{slot_behind, slot_numbered, or_spare, SlotShape, slot_onto}
 use Rattle.ax_text.specs.ValueText.{Texts, one_onto, kind_onto, entries_onto}
 use Rattle.ax_text.proofs.Printed.{none_put, both_put, Leaves, leaves_all, leaves_fewer, leaves_none, from_place}
 
 -- ---- entries by the slots of their numbers
 
-abbrev pub by_slots : (ℕ → SlotTree) → EntriesTree → Texts → Texts
-by_slots at no_entries rest = rest
-by_slots at (entry_and t v es) rest = slot_onto (at t) v (by_slots at es rest)
+abbrev pub OfSlot : Type 0
+OfSlot = SlotTree → ValueTree → Texts → Texts
+
+abbrev pub OfEntries : Type 0
+OfEntries = ℕ → SlotsTree → EntriesTree → Texts → Texts
+
+abbrev pub by_slots : OfSlot → (ℕ → SlotTree) → EntriesTree → Texts → Texts
+by_slots one at no_entries rest = rest
+by_slots one at (entry_and t v es) rest = one (at t) v (by_slots one at es rest)
+
+-- the texts of entries are made of those of each, slot by slot
+pub record IsMadeOf (all : OfEntries) (one : OfSlot) : Type 0 where
+  pub none : (s : ℕ) (rest : Texts) → all s no_slots no_entries rest ≡ rest
+  pub skip : (s : ℕ) (ss : SlotsTree) (es : EntriesTree) (rest : Texts) → all s (slot_and spare_slot ss) es rest ≡ all (s + 1) ss es rest
+  pub last : (s : ℕ) (name : List ℕ) (k : KindTree) (ss : SlotsTree) (rest : Texts) → all s (slot_and (subitem name k) ss) no_entries rest ≡ all (s + 1) ss no_entries rest
+  pub take : (s : ℕ) (name : List ℕ) (k : KindTree) (ss : SlotsTree) (t : ℕ) (v : ValueTree) (es : EntriesTree) (rest : Texts) → all s (slot_and (subitem name k) ss) (entry_and t v es) rest
+      ≡ cond (t == s) (one (subitem name k) v (all (s + 1) ss es rest)) (all (s + 1) ss (entry_and t v es) rest)
+
+pub texts_made : IsMadeOf entries_onto slot_onto
+texts_made = record { none = λ s rest. refl; skip = λ s ss es rest. refl; last = λ s name k ss rest. refl; take = λ s name k ss t v es rest. refl }
 
 abbrev pub EachSlotShape : (ℕ → SlotTree) → EntriesTree → Type 0
 EachSlotShape at no_entries = Unit {0}
@@ -42,15 +59,17 @@ shape_choice : (b : Bool) (S T E : Type 0) → MatchBool b S T → (b ≡ true �
 shape_choice true S T E h f g = f refl h
 shape_choice false S T E h f g = g h
 
-entries_same : (at : ℕ → SlotTree) (s : ℕ) (ss : SlotsTree) (es : EntriesTree) (rest : Texts) → AreFrom at s ss → EntriesShape s ss es → entries_onto s ss es rest ≡ by_slots at es rest
-entries_same at s no_slots no_entries rest f h = refl
-entries_same at s no_slots (entry_and t v es) rest f h = absurd h
-entries_same at s (slot_and spare_slot ss) es rest f h = entries_same at (s + 1) ss es rest (next_are at s spare_slot ss f) h
-entries_same at s (slot_and (subitem name k) ss) no_entries rest f h = entries_same at (s + 1) ss no_entries rest (next_are at s (subitem name k) ss f) h
-entries_same at s (slot_and (subitem name k) ss) (entry_and t v es) rest f h =
-    same_choice (t == s) _ _ _ _ _ h
-    (λ e g. ap (λ r. name ∷ kind_onto k v r) (entries_same at (s + 1) ss es rest (next_are at s (subitem name k) ss f) g.1) ∙ ap (λ slot. slot_onto slot v (by_slots at es rest)) (sym (first_is at s t (subitem name k) ss f (eqb-true t s e))))
-    (λ g. entries_same at (s + 1) ss (entry_and t v es) rest (next_are at s (subitem name k) ss f) g)
+entries_same : (all : OfEntries) (one : OfSlot) → IsMadeOf all one → (at : ℕ → SlotTree) (s : ℕ) (ss : SlotsTree) (es : EntriesTree) (rest : Texts) → AreFrom at s ss → EntriesShape s ss es → all s ss es rest ≡ by_slots one at es rest
+entries_same all one m at s no_slots no_entries rest f h = m.none s rest
+entries_same all one m at s no_slots (entry_and t v es) rest f h = absurd h
+entries_same all one m at s (slot_and spare_slot ss) es rest f h = m.skip s ss es rest ∙ entries_same all one m at (s + 1) ss es rest (next_are at s spare_slot ss f) h
+entries_same all one m at s (slot_and (subitem name k) ss) no_entries rest f h = m.last s name k ss rest ∙ entries_same all one m at (s + 1) ss no_entries rest (next_are at s (subitem name k) ss f) h
+entries_same all one m at s (slot_and (subitem name k) ss) (entry_and t v es) rest f h =
+    m.take s name k ss t v es rest
+    ∙ same_choice (t == s) _ _ _ _ _ h
+    (λ e g. ap (λ r. one (subitem name k) v r) (entries_same all one m at (s + 1) ss es rest (next_are at s (subitem name k) ss f) g.1)
+    ∙ ap (λ slot. one slot v (by_slots one at es rest)) (sym (first_is at s t (subitem name k) ss f (eqb-true t s e))))
+    (λ g. entries_same all one m at (s + 1) ss (entry_and t v es) rest (next_are at s (subitem name k) ss f) g)
 
 entries_shaped : (at : ℕ → SlotTree) (s : ℕ) (ss : SlotsTree) (es : EntriesTree) → AreFrom at s ss → EntriesShape s ss es → EachSlotShape at es
 entries_shaped at s no_slots no_entries f h = tt
@@ -67,43 +86,46 @@ numbered ss i = ap (slot_numbered ss) (let e : 1 + i ≡ suc i = omega arith in 
 
 -- ---- a loop over entries
 
-pub record EntriesLeft (ss : SlotsTree) (whole : Texts → Texts) (old now : List ℕ) (es : List Entry) : Type 0 where
+-- entries that are left, each of the shape of its slot
+pub record EntriesLeft (form : Texts → List ℕ) (one : OfSlot) (ss : SlotsTree) (whole : Texts → Texts) (old now : List ℕ) (es : List Entry) : Type 0 where
   pub shape : EachSlotShape (slot_numbered ss) (entries_tree es)
-  pub left : Leaves whole (by_slots (slot_numbered ss) (entries_tree es)) old now
+  pub left : Leaves form whole (by_slots one (slot_numbered ss) (entries_tree es)) old now
 
-pub entries_first : (ss : SlotsTree) (es : List Entry) (out : List ℕ) → EntriesShape 1 ss (entries_tree es) → EntriesLeft ss (entries_onto 1 ss (entries_tree es)) out out es
-entries_first ss es out h = record {
+pub entries_first : (form : Texts → List ℕ) (all : OfEntries) (one : OfSlot) → IsMadeOf all one → (ss : SlotsTree) (es : List Entry) (out : List ℕ) → EntriesShape 1 ss (entries_tree es) → EntriesLeft form one ss (all 1 ss (entries_tree es)) out out es
+entries_first form all one m ss es out h = record {
   shape = entries_shaped (slot_numbered ss) 1 ss (entries_tree es) (numbered ss) h;
-  left = record { left_after = λ rest. ap (λ t. out ++ behind t) (sym (entries_same (slot_numbered ss) 1 ss (entries_tree es) rest (numbered ss) h)) };
+  left = record { left_after = λ rest. ap (λ t. out ++ form t) (sym (entries_same all one m (slot_numbered ss) 1 ss (entries_tree es) rest (numbered ss) h)) };
 }
 
-entry_first : (e : Entry) (es : List Entry) → entries_tree (e ∷ es) ≡ entry_and e.slot (value_tree e.value) (entries_tree es)
-entry_first e es = entries_split e (e ∷ es) es refl
+pub entry_tree_first : (e : Entry) (es : List Entry) → entries_tree (e ∷ es) ≡ entry_and e.slot (value_tree e.value) (entries_tree es)
+entry_tree_first e es = entries_split e (e ∷ es) es refl
 
 -- the tree of the entries from a place on
 from_entry : (all : List Entry) (i : ℕ) (e : Entry) → i < length all → e ≡ get_or all i e → entries_tree (drop i all) ≡ entry_and e.slot (value_tree e.value) (entries_tree (drop (i + 1) all))
-from_entry all i e lt is = ap entries_tree (from_place all i e lt is) ∙ entry_first e (drop (i + 1) all)
+from_entry all i e lt is = ap entries_tree (from_place all i e lt is) ∙ entry_tree_first e (drop (i + 1) all)
 
-pub entry_shape : (ss : SlotsTree) (whole : Texts → Texts) (old now : List ℕ) (all : List Entry) (i : ℕ) (e : Entry) → EntriesLeft ss whole old now (drop i all) → i < length all → e ≡ get_or all i e → SlotShape (slot_numbered ss e.slot) (value_tree e.value)
-entry_shape ss whole old now all i e h lt is = (subst (EachSlotShape (slot_numbered ss)) (from_entry all i e lt is) h.shape).0
+module _ (form : Texts → List ℕ) (one : OfSlot) (ss : SlotsTree) (whole : Texts → Texts) where
+  pub entry_shape : (old now : List ℕ) (all : List Entry) (i : ℕ) (e : Entry) → EntriesLeft form one ss whole old now (drop i all) → i < length all → e ≡ get_or all i e → SlotShape (slot_numbered ss e.slot) (value_tree e.value)
+  entry_shape old now all i e h lt is = (subst (EachSlotShape (slot_numbered ss)) (from_entry all i e lt is) h.shape).0
 
-pub entry_next : (ss : SlotsTree) (whole : Texts → Texts) (old now new : List ℕ) (all : List Entry) (i : ℕ) (e : Entry) → EntriesLeft ss whole old now (drop i all) → i < length all → e ≡ get_or all i e
-    → Puts (slot_onto (slot_numbered ss e.slot) (value_tree e.value)) now new → EntriesLeft ss whole old new (drop (i + 1) all)
-entry_next ss whole old now new all i e h lt is p = record {
-  shape = (subst (EachSlotShape (slot_numbered ss)) (from_entry all i e lt is) h.shape).1;
-  left = leaves_fewer whole (by_slots (slot_numbered ss) (entries_tree (drop i all))) (slot_onto (slot_numbered ss e.slot) (value_tree e.value)) (by_slots (slot_numbered ss) (entries_tree (drop (i + 1) all))) old now new h.left
-      (λ rest. ap (λ es. by_slots (slot_numbered ss) es rest) (from_entry all i e lt is)) p;
-}
+  pub entry_next : (old now new : List ℕ) (all : List Entry) (i : ℕ) (e : Entry) → EntriesLeft form one ss whole old now (drop i all) → i < length all → e ≡ get_or all i e
+      → Puts form (one (slot_numbered ss e.slot) (value_tree e.value)) now new → EntriesLeft form one ss whole old new (drop (i + 1) all)
+  entry_next old now new all i e h lt is p = record {
+    shape = (subst (EachSlotShape (slot_numbered ss)) (from_entry all i e lt is) h.shape).1;
+    left = leaves_fewer whole (by_slots one (slot_numbered ss) (entries_tree (drop i all))) (one (slot_numbered ss e.slot) (value_tree e.value)) (by_slots one (slot_numbered ss) (entries_tree (drop (i + 1) all))) old now new h.left
+        (λ rest. ap (λ es. by_slots one (slot_numbered ss) es rest) (from_entry all i e lt is)) p;
+  }
 
-pub entries_ended : (ss : SlotsTree) (whole : Texts → Texts) (old now : List ℕ) (all : List Entry) (i : ℕ) → EntriesLeft ss whole old now (drop i all) → length all ≤ i → Puts whole old now
-entries_ended ss whole old now all i h past = leaves_none whole (by_slots (slot_numbered ss) (entries_tree (drop i all))) old now h.left (λ rest. ap (λ es. by_slots (slot_numbered ss) (entries_tree es) rest) (drop_all i all past))
+  pub entries_ended : (old now : List ℕ) (all : List Entry) (i : ℕ) → EntriesLeft form one ss whole old now (drop i all) → length all ≤ i → Puts form whole old now
+  entries_ended old now all i h past =
+      leaves_none whole (by_slots one (slot_numbered ss) (entries_tree (drop i all))) old now h.left (λ rest. ap (λ es. by_slots one (slot_numbered ss) (entries_tree es) rest) (drop_all i all past))
 
-pub ruleset entries_ways = (entries_first, entry_shape, entry_next, entries_ended)
+pub ruleset entries_ways = (entry_shape, entry_next, entries_ended)
 
 -- ---- one entry
 
-pub slot_put : (slot : SlotTree) (s : Slot) (name : List ℕ) (k : KindTree) (v : ValueTree) (a b c : List ℕ) → slot_tree s ≡ subitem name k → slot_tree s ≡ slot → Puts (one_onto name) a b → Puts (kind_onto k v) b c → Puts (slot_onto slot v) a c
-slot_put slot s name k v a b c e f p q = subst (λ slot. Puts (slot_onto slot v) a c) (sym e ∙ f) (both_put (one_onto name) (kind_onto k v) a b c p q)
+pub slot_put : (slot : SlotTree) (s : Slot) (name : List ℕ) (k : KindTree) (v : ValueTree) (a b c : List ℕ) → slot_tree s ≡ subitem name k → slot_tree s ≡ slot → Puts after_spaces (one_onto name) a b → Puts after_spaces (kind_onto k v) b c → Puts after_spaces (slot_onto slot v) a c
+slot_put slot s name k v a b c e f p q = subst (λ slot. Puts after_spaces (slot_onto slot v) a c) (sym e ∙ f) (both_put (one_onto name) (kind_onto k v) a b c p q)
 
 pub ruleset entry_ways = (none_put, both_put)
 

@@ -10,3 +10,11 @@ pub mod BlockWays
 pub mod BlocksOnce
 pub mod WordTokens
 pub mod Nesting
+pub mod Pieces
+pub mod Divisors
+pub mod RemarkWays
+pub mod ListedFixed
+pub mod ListedKinds
+pub mod ListedRecords
+pub mod ShowWays
+pub mod Listables

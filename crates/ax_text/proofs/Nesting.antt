@@ -1,10 +1,9 @@
 -- The texts of a block are tokens, and their braces nest no deeper than its specification lets them.
-use Rattle.std.proofs.Common.{◌≡◌, ℕ, ◌+◌, ◌-◌, ◌^◌, ◌<◌, ◌≤◌, max, Bool, true, false, cond, MatchBool, List, [], ◌∷◌, ◌++◌, length, map, refl, sym, ◌∙◌, ap, subst, arith}
+use Rattle.std.proofs.Common.{◌≡◌, ℕ, ◌+◌, ◌-◌, ◌≤◌, Bool, true, false, cond, MatchBool, List, [], ◌∷◌, ◌++◌, length, map, refl, sym, ap, subst, arith}
 use Rattle.std.specs.Prelude.{decimal, codes, ◌==◌}
 use Rattle.std.specs.List.{AllByRecursion, join_with_byte}
 use Rattle.ax_bits.specs.Bits.{AreOctets}
-use Rattle.ax_model.proofs.Bounds.{record_bounds}
-use Rattle.ax_model.specs.Blocks.{BlockTree, read_block, opaque_block, Fits}
+use Rattle.ax_model.specs.Blocks.{BlockTree, read_block, opaque_block}
 use Rattle.ax_model.specs.Bodies.{RecordShape}
 use Rattle.ax_model.specs.Flaws.{NoFlaw}
 use Rattle.ax_model.specs.Paths.{three_digits}
@@ -16,13 +15,12 @@ use Rattle.ax_tokens.specs.Lexing.{IsTokenText, AreTokensOf}
 use Rattle.ax_tokens.specs.Octets.{line_feed}
 use Rattle.ax_tokens.specs.Printing.{AreTokenTexts, placed}
 use Rattle.ax_tokens.specs.declared.token.TokenKind.{TokenKind}
-use Rattle.ax_tokens.specs.declared.token.TokenKind.TheVariants.{Word, Str, Open, Close}
 use Rattle.ax_tokens.proofs.Levels.{keeps_within}
 use Rattle.ax_tokens.proofs.Printed.{printed_line}
-use Rattle.ax_text.specs.BlockText.{record_onto, records_onto, BlockText, BlockLine}
+use Rattle.ax_text.specs.BlockText.{records_onto, BlockText, BlockLine}
 use Rattle.ax_text.specs.Names.{FixedNamed, MembersNamed, KindNamed, SlotsNamed, IsNamed}
-use Rattle.ax_text.specs.Tokens.{kind_of, printed_tokens, BlockTokens, fixed_nesting, members_nesting, parts_nesting, kind_nesting, slots_nesting, block_nesting, HoldsBlock}
-use Rattle.ax_text.specs.ValueText.{Texts, opening, closing, spare_word, part_word, hex_text, in_braces, number_onto, fixed_onto, members_onto, parts_onto, each_onto, kind_onto, entries_onto}
+use Rattle.ax_text.specs.Tokens.{kind_of, BlockTokens, fixed_nesting, members_nesting, parts_nesting, kind_nesting, slots_nesting, block_nesting, HoldsBlock}
+use Rattle.ax_text.specs.ValueText.{Texts, closing, spare_word, part_word, hex_text, in_braces, number_onto, fixed_onto, members_onto, parts_onto, each_onto, kind_onto, entries_onto}
 use Rattle.ax_text.proofs.Readable.{FixedReadable, MembersReadable, Readable, SlotsReadable}
 use Rattle.ax_text.proofs.Readables.{record_readable, record_named}
 use Rattle.ax_text.proofs.Unique.{small}

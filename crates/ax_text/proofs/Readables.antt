@@ -1,10 +1,10 @@
 -- The records of a specification without flaw can be read back.
-use Rattle.std.proofs.Common.{◌≡◌, ℕ, suc, ◌+◌, ◌<◌, ◌≤◌, ◌==◌, nat_lt, Bool, true, false, ◌||◌, List, [], ◌∷◌, ◌++◌, length, map, bytes_eq, cond, Option, Some, None, is_some, refl, sym, ◌∙◌, ap, arith, subst, codes}
-use Rattle.std.specs.List.{AllByRecursion, find, list_any}
+use Rattle.std.proofs.Common.{◌≡◌, ℕ, ◌==◌, nat_lt, Bool, true, false, ◌||◌, List, [], ◌∷◌, ◌++◌, length, map, bytes_eq, cond, Option, Some, None, is_some, refl, sym, ◌∙◌, ap, arith, subst, codes}
+use Rattle.std.specs.List.{AllByRecursion}
 use Rattle.std.proofs.lemmas.Slice.Eq.{bytes_eq-Decides}
 use Rattle.ax_model.proofs.Bounds.{kind_bounds}
 use Rattle.ax_model.specs.Characters.{IsName}
-use Rattle.ax_model.specs.Flaws.{flaw_where, is_among, fixed_flaws, members_flaws, parts_flaws, kind_flaws, slots_flaws, items_flaws, uap_flaws, NoFlaw}
+use Rattle.ax_model.specs.Flaws.{flaw_where, is_among, kind_flaws, slots_flaws, items_flaws, uap_flaws, NoFlaw}
 use Rattle.ax_model.specs.Paths.{at, three_digits}
 use Rattle.ax_model.specs.InBounds.{FixedInBounds, MembersInBounds, PartInBounds, InBounds, SlotsInBounds}
 use Rattle.ax_model.specs.Specification.{ItemTree, SpecTree, first_named, slot_of_item, uap_slot, record_slots}
@@ -18,21 +18,21 @@ use Rattle.ax_text.specs.Names.{ItemNamed, KindNamed, SlotsNamed, IsNamed}
 
 -- ---- lists of flaws
 
-both_empty : {A : Type 0} (a b : List A) → a ++ b ≡ [] → (a ≡ []) × (b ≡ [])
+pub both_empty : {A : Type 0} (a b : List A) → a ++ b ≡ [] → (a ≡ []) × (b ≡ [])
 both_empty [] b e = (refl, e)
 both_empty (x ∷ a) b e = cc
 
-three_empty : {A : Type 0} (a b c : List A) → a ++ b ++ c ≡ [] → (a ≡ []) × (b ≡ []) × (c ≡ [])
+pub three_empty : {A : Type 0} (a b c : List A) → a ++ b ++ c ≡ [] → (a ≡ []) × (b ≡ []) × (c ≡ [])
 three_empty a b c e =
     let t = both_empty (a ++ b) c e in
     let u = both_empty a b t.0 in (u.0, u.1, t.1)
 
-four_empty : {A : Type 0} (a b c d : List A) → a ++ b ++ c ++ d ≡ [] → (a ≡ []) × (b ≡ []) × (c ≡ []) × (d ≡ [])
+pub four_empty : {A : Type 0} (a b c d : List A) → a ++ b ++ c ++ d ≡ [] → (a ≡ []) × (b ≡ []) × (c ≡ []) × (d ≡ [])
 four_empty a b c d e =
     let t = both_empty (a ++ b ++ c) d e in
     let u = three_empty a b c t.0 in (u.0, u.1, u.2, t.1)
 
-holds_not : (b : Bool) (kind : FlawKind) (path : List ℕ) → flaw_where b kind path ≡ [] → b ≡ true → ⊥
+pub holds_not : (b : Bool) (kind : FlawKind) (path : List ℕ) → flaw_where b kind path ≡ [] → b ≡ true → ⊥
 holds_not true kind path e f = cc
 holds_not false kind path e f = cc
 
@@ -173,7 +173,7 @@ uap_named items (Uap.Item name ∷ uap) g = and_named (slot_of_item (first_named
 
 -- ---- records
 
-flaws_parts : (spec : SpecTree) → NoFlaw spec → (items_flaws (three_digits spec.category) [] spec.items ≡ []) × (uap_flaws (at (three_digits spec.category) (codes "uap")) spec.items [] spec.uap ≡ [])
+pub flaws_parts : (spec : SpecTree) → NoFlaw spec → (items_flaws (three_digits spec.category) [] spec.items ≡ []) × (uap_flaws (at (three_digits spec.category) (codes "uap")) spec.items [] spec.uap ≡ [])
 flaws_parts spec h =
     let path = three_digits spec.category in
     let place = at path (codes "uap") in

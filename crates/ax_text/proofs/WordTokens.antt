@@ -1,5 +1,5 @@
 -- Single texts of a line, as tokens.
-use Rattle.std.proofs.Common.{◌≡◌, ℕ, zero, suc, ◌+◌, ◌-◌, ◌*◌, ◌/◌, ◌%◌, ◌^◌, ◌<◌, ◌≤◌, Bool, true, false, cond, eqb, List, [], ◌∷◌, ◌++◌, length, slice_index, refl, sym, ◌∙◌, ap, subst, lit<, arith, inl, inr}
+use Rattle.std.proofs.Common.{◌≡◌, ℕ, zero, suc, ◌/◌, ◌%◌, ◌^◌, ◌<◌, ◌≤◌, Bool, true, false, cond, eqb, List, [], ◌∷◌, length, slice_index, refl, ◌∙◌, ap, lit<, arith, inl, inr}
 use Rattle.std.specs.Prelude.{decimal, codes}
 use Rattle.std.specs.List.{AllByRecursion, list_all}
 use Rattle.std.specs.Str.Parse.{AllDigits}
@@ -10,10 +10,10 @@ use Rattle.hex.specs.Hex.{encode_with, encode_lower, lower_digits}
 use Rattle.ax_bits.specs.Bits.{AreOctets}
 use Rattle.ax_model.specs.Characters.{IsName, is_name_octet}
 use Rattle.ax_model.specs.Paths.{three_digits}
-use Rattle.ax_tokens.specs.Octets.{quote, is_word_octet, is_string_octet}
+use Rattle.ax_tokens.specs.Octets.{is_word_octet, is_string_octet}
 use Rattle.ax_tokens.specs.Lexing.{IsTokenText}
 use Rattle.ax_tokens.specs.declared.token.TokenKind.{TokenKind}
-use Rattle.ax_tokens.specs.declared.token.TokenKind.TheVariants.{Word, Str, Open, Close}
+use Rattle.ax_tokens.specs.declared.token.TokenKind.TheVariants.{Word, Str}
 use Rattle.ax_text.specs.Tokens.{kind_of}
 use Rattle.ax_text.specs.ValueText.{hex_text}
 

@@ -4,3 +4,6 @@ pub mod Printing
 pub mod Slots
 pub mod Names
 pub mod Tokens
+pub mod Remarks
+pub mod ShowText
+pub mod Listable

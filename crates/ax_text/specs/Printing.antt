@@ -1,11 +1,18 @@
--- What is printed, text after text, each after a space.
+-- What is printed, text after text.
 use Rattle.std.specs.Prelude.{◌≡◌, ℕ, List, [], ◌∷◌, ◌++◌}
+use Rattle.ax_tokens.specs.Octets.{line_feed}
 use Rattle.ax_text.specs.ValueText.{Texts}
 
-abbrev pub behind : Texts → List ℕ
-behind [] = []
-behind (text ∷ texts) = 0x20 ∷ (text ++ behind texts)
+-- each text after a space
+abbrev pub after_spaces : Texts → List ℕ
+after_spaces [] = []
+after_spaces (text ∷ texts) = 0x20 ∷ (text ++ after_spaces texts)
 
--- texts were printed: with any others after them, the output is the old one and all of these
-pub record Puts (onto : Texts → Texts) (old new : List ℕ) : Type 0 where
-  pub put : (rest : Texts) → new ++ behind rest ≡ old ++ behind (onto rest)
+-- each text with a line feed after it
+abbrev pub as_lines : Texts → List ℕ
+as_lines [] = []
+as_lines (text ∷ texts) = text ++ line_feed ∷ as_lines texts
+
+-- texts were printed in that form: with any others after them, the output is the old one and all of these
+pub record Puts (form : Texts → List ℕ) (onto : Texts → Texts) (old new : List ℕ) : Type 0 where
+  pub put : (rest : Texts) → new ++ form rest ≡ old ++ form (onto rest)

@@ -1,8 +1,14 @@
--- The slots of a compound or of a record by their numbers, from 1.
-use Rattle.std.specs.Prelude.{ℕ, zero, suc, ◌∷◌, Option, Some, None}
-use Rattle.ax_model.specs.Shape.{Shape}
-use Rattle.ax_model.specs.Tree.{SlotTree, SlotsTree, no_slots, slot_and, spare_slot, subitem, ValueTree}
+-- Members with their values, and the slots of a compound or of a record by their numbers, from 1.
+use Rattle.std.specs.Prelude.{ℕ, zero, suc, List, ◌∷◌, Option, Some, None}
+use Rattle.ax_model.specs.Paths.{at}
+use Rattle.ax_model.specs.Shape.{NumberShape, FixedShape, Shape}
+use Rattle.ax_model.specs.Tree.{MemberTree, named, spare, SlotTree, SlotsTree, no_slots, slot_and, spare_slot, subitem, ValueTree}
+use Rattle.ax_text.specs.ShowText.{kind_lines}
 use Rattle.ax_text.specs.ValueText.{Texts, kind_onto}
+
+abbrev pub MemberShape : MemberTree → ValueTree → Type 0
+MemberShape (named name f) v = FixedShape f v
+MemberShape (spare w) v = NumberShape w v
 
 -- the slot after i others; there is none where it is spare
 abbrev pub slot_behind : ℕ → SlotsTree → SlotTree
@@ -27,3 +33,8 @@ SlotShape (subitem name k) v = Shape k v
 abbrev pub slot_onto : SlotTree → ValueTree → Texts → Texts
 slot_onto spare_slot v rest = rest
 slot_onto (subitem name k) v rest = name ∷ kind_onto k v rest
+
+-- the value at the path of the slot's name
+abbrev pub slot_lines : List ℕ → SlotTree → ValueTree → Texts → Texts
+slot_lines path spare_slot v rest = rest
+slot_lines path (subitem name k) v rest = kind_lines k (at path name) v rest

@@ -58,9 +58,8 @@ fn read_text(
     printer.text(b"{")?;
     printer.records(records, spec)?;
     printer.text(b"}")?;
-    let Printer { mut out, .. } = printer;
-    out.push(b'\n')?;
-    Ok(out)
+    let line = printer.line()?;
+    Ok(line)
 }
 
 /// The line of a block whose category has no specification: its category and its octets after LEN.
@@ -74,7 +73,6 @@ pub fn opaque_text(alloc: Global, category: u8, octets: &[u8]) -> Result<Vec<u8>
     };
     printer.category(category)?;
     printer.hex(octets)?;
-    let Printer { mut out, .. } = printer;
-    out.push(b'\n')?;
-    Ok(out)
+    let line = printer.line()?;
+    Ok(line)
 }

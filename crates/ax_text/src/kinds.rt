@@ -4,7 +4,7 @@ ghost use Rattle.std.specs.Option.{option_copied, option_map};
 ghost use Rattle.ax_model.specs.Plain.{fixed_tree, part_tree, kind_tree, slot_tree, slots_tree, value_tree, values_tree, lists_tree, entries_tree};
 ghost use Rattle.ax_model.specs.Shape.{Shape, EachShape, EntriesShape};
 ghost use Rattle.ax_model.specs.Tree.{counted, occurrences};
-ghost use Rattle.ax_text.specs.Printing.{Puts};
+ghost use Rattle.ax_text.specs.Printing.{after_spaces, Puts};
 ghost use Rattle.ax_text.specs.Slots.{slot_numbered, or_spare, SlotShape, slot_onto};
 ghost use Rattle.ax_text.specs.ValueText.{fixed_onto, part_onto, parts_onto, each_onto, kind_onto, entries_onto};
 
@@ -16,7 +16,7 @@ impl Printer {
     /// The parts that are present.
     #[tactic(auto, using(crate::proofs::KindWays::parts_ways))]
     fn parts(&mut self, lists: &Lists, parts: &Parts) -> Result<(), AllocError>
-        ensures { OnOk result (Puts (parts_onto (map part_tree parts.now) (lists_tree lists.now)) self.old.out.items self.new.out.items) }
+        ensures { OnOk result (Puts after_spaces (parts_onto (map part_tree parts.now) (lists_tree lists.now)) self.old.out.items self.new.out.items) }
     {
         for (part, values) in parts.as_slice().iter().zip(lists.as_slice()) {
             self.part(values, part)?;
@@ -26,7 +26,7 @@ impl Printer {
 
     #[tactic(auto, using(crate::proofs::KindWays::part_ways))]
     fn part(&mut self, values: &Values, part: &Part) -> Result<(), AllocError>
-        ensures { OnOk result (Puts (part_onto (part_tree part.now) (values_tree values.now)) self.old.out.items self.new.out.items) }
+        ensures { OnOk result (Puts after_spaces (part_onto (part_tree part.now) (values_tree values.now)) self.old.out.items self.new.out.items) }
     {
         self.text(b"part")?;
         self.text(b"{")?;
@@ -38,7 +38,7 @@ impl Printer {
     /// The occurrences by FX.
     #[tactic(auto, using(crate::proofs::KindWays::run_ways))]
     fn run(&mut self, values: &Values, fixed: &Fixed) -> Result<(), AllocError>
-        ensures { OnOk result (Puts (each_onto (fixed_onto (fixed_tree fixed.now)) (values_tree values.now)) self.old.out.items self.new.out.items) }
+        ensures { OnOk result (Puts after_spaces (each_onto (fixed_onto (fixed_tree fixed.now)) (values_tree values.now)) self.old.out.items self.new.out.items) }
     {
         for value in values.as_slice() {
             self.fixed(value, fixed)?;
@@ -51,7 +51,7 @@ impl Printer {
     #[tactic(auto, using(crate::proofs::KindWays::kind_ways))]
     pub(crate) fn kind(&mut self, value: &Value, kind: &Kind) -> Result<(), AllocError>
         requires { Shape (kind_tree kind.now) (value_tree value.now) }
-        ensures { OnOk result (Puts (kind_onto (kind_tree kind.now) (value_tree value.now)) self.old.out.items self.new.out.items) }
+        ensures { OnOk result (Puts after_spaces (kind_onto (kind_tree kind.now) (value_tree value.now)) self.old.out.items self.new.out.items) }
     {
         match (value, kind) {
             (value, Kind::Fixed(fixed)) => self.fixed(value, fixed),
@@ -84,7 +84,7 @@ impl Printer {
     #[tactic(auto, using(crate::proofs::KindWays::kind_ways))]
     fn counted(&mut self, values: &Values, inner: &Kind) -> Result<(), AllocError>
         requires { Shape (counted (kind_tree inner.now)) (occurrences (values_tree values.now)) }
-        ensures { OnOk result (Puts (kind_onto (counted (kind_tree inner.now)) (occurrences (values_tree values.now))) self.old.out.items self.new.out.items) }
+        ensures { OnOk result (Puts after_spaces (kind_onto (counted (kind_tree inner.now)) (occurrences (values_tree values.now))) self.old.out.items self.new.out.items) }
     {
         self.text(b"{")?;
         self.each(values, inner)?;
@@ -97,7 +97,7 @@ impl Printer {
     #[tactic(auto, using(crate::proofs::KindWays::each_ways))]
     fn each(&mut self, values: &Values, kind: &Kind) -> Result<(), AllocError>
         requires { EachShape (Shape (kind_tree kind.now)) (values_tree values.now) }
-        ensures { OnOk result (Puts (each_onto (kind_onto (kind_tree kind.now)) (values_tree values.now)) self.old.out.items self.new.out.items) }
+        ensures { OnOk result (Puts after_spaces (each_onto (kind_onto (kind_tree kind.now)) (values_tree values.now)) self.old.out.items self.new.out.items) }
     {
         for value in values.as_slice() {
             self.kind(value, kind)?;
@@ -110,7 +110,7 @@ impl Printer {
     #[tactic(auto, using(crate::proofs::EntryWays::entries_ways))]
     fn entries(&mut self, entries: &Entries, slots: &Slots) -> Result<(), AllocError>
         requires { EntriesShape 1 (slots_tree slots.now) (entries_tree entries.now) }
-        ensures { OnOk result (Puts (entries_onto 1 (slots_tree slots.now) (entries_tree entries.now)) self.old.out.items self.new.out.items) }
+        ensures { OnOk result (Puts after_spaces (entries_onto 1 (slots_tree slots.now) (entries_tree entries.now)) self.old.out.items self.new.out.items) }
     {
         for entry in entries.as_slice() {
             self.entry(entry, slots)?;
@@ -122,7 +122,7 @@ impl Printer {
     #[tactic(auto, using(crate::proofs::EntryWays::entry_ways))]
     fn entry(&mut self, entry: &Entry, slots: &Slots) -> Result<(), AllocError>
         requires { SlotShape (slot_numbered (slots_tree slots.now) entry.now.slot) (value_tree entry.now.value) }
-        ensures { OnOk result (Puts (slot_onto (slot_numbered (slots_tree slots.now) entry.now.slot) (value_tree entry.now.value)) self.old.out.items self.new.out.items) }
+        ensures { OnOk result (Puts after_spaces (slot_onto (slot_numbered (slots_tree slots.now) entry.now.slot) (value_tree entry.now.value)) self.old.out.items self.new.out.items) }
     {
         if let Some(Slot::Sub { name, kind }) = slot_of(slots, entry.slot) {
             self.text(name.octets())?;
@@ -134,7 +134,7 @@ impl Printer {
 
 /// The slot of that number, from 1. None comes exactly where there is no such slot.
 #[tactic(auto, using(crate::proofs::EntryWays::slot_found))]
-fn slot_of(slots: &Slots, number: u32) -> Option<&Slot>
+pub(crate) fn slot_of(slots: &Slots, number: u32) -> Option<&Slot>
     ensures { or_spare (option_map slot_tree (option_copied result)) ≡ slot_numbered (slots_tree slots.now) number }
 {
     if number == 0 {

@@ -2,10 +2,19 @@
 #![tactic(auto)]
 
 mod blocks;
+mod characters;
 mod fixed;
+mod fractions;
 mod kinds;
 pub mod laws;
+mod list_fixed;
+mod list_kinds;
+mod list_records;
+mod lister;
 mod printer;
 mod records;
+mod remarks;
+mod show;
 
 pub use blocks::{block_text, opaque_text, record_text};
+pub use show::{show_lines, show_opaque};

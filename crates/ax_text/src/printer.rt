@@ -1,7 +1,8 @@
 //! The output, token by token.
-ghost use Rattle.std.specs.Prelude.{◌≡◌, decimal, OnOk};
+ghost use Rattle.std.specs.Prelude.{◌≡◌, [], ◌∷◌, ◌++◌, decimal, IfOk, OnOk};
 ghost use Rattle.ax_model.specs.Paths.{three_digits};
-ghost use Rattle.ax_text.specs.Printing.{Puts};
+ghost use Rattle.ax_tokens.specs.Octets.{line_feed};
+ghost use Rattle.ax_text.specs.Printing.{after_spaces, Puts};
 ghost use Rattle.ax_text.specs.ValueText.{one_onto, hex_text};
 
 use ax_model::category_digits;
@@ -19,7 +20,7 @@ impl Printer {
     /// Any token.
     #[tactic(auto, using(crate::proofs::Printed::text_put))]
     pub(crate) fn text(&mut self, text: &[u8]) -> Result<(), AllocError>
-        ensures { OnOk result (Puts (one_onto text.now) self.old.out.items self.new.out.items) }
+        ensures { OnOk result (Puts after_spaces (one_onto text.now) self.old.out.items self.new.out.items) }
     {
         self.out.push(b' ')?;
         self.out.extend_from_slice(text)?;
@@ -28,7 +29,7 @@ impl Printer {
 
     /// A number in decimal.
     pub(crate) fn number(&mut self, number: u128) -> Result<(), AllocError>
-        ensures { OnOk result (Puts (one_onto (decimal number)) self.old.out.items self.new.out.items) }
+        ensures { OnOk result (Puts after_spaces (one_onto (decimal number)) self.old.out.items self.new.out.items) }
     {
         let mut buffer = Buffer::new();
         self.text(buffer.format(number).as_bytes())
@@ -36,7 +37,7 @@ impl Printer {
 
     /// A category in three digits.
     pub(crate) fn category(&mut self, category: u8) -> Result<(), AllocError>
-        ensures { OnOk result (Puts (one_onto (three_digits category)) self.old.out.items self.new.out.items) }
+        ensures { OnOk result (Puts after_spaces (one_onto (three_digits category)) self.old.out.items self.new.out.items) }
     {
         self.text(&category_digits(category))
     }
@@ -44,12 +45,21 @@ impl Printer {
     /// Octets in hexadecimal digits, in quotes.
     #[tactic(auto, using(crate::proofs::Printed::hex_put))]
     pub(crate) fn hex(&mut self, octets: &[u8]) -> Result<(), AllocError>
-        ensures { OnOk result (Puts (one_onto (hex_text octets.now)) self.old.out.items self.new.out.items) }
+        ensures { OnOk result (Puts after_spaces (one_onto (hex_text octets.now)) self.old.out.items self.new.out.items) }
     {
         let digits = hex::encode(self.alloc, octets)?;
         self.out.extend_from_slice(b" \"")?;
         self.out.extend_from_slice(digits.as_bytes())?;
         self.out.push(b'"')?;
         Ok(())
+    }
+
+    /// The output as a line, with its line feed.
+    pub(crate) fn line(self) -> Result<Vec<u8>, AllocError>
+        ensures { IfOk result (λ line. line.items ≡ self.out.items ++ line_feed ∷ []) }
+    {
+        let Printer { mut out, .. } = self;
+        out.push(b'\n')?;
+        Ok(out)
     }
 }

@@ -6,7 +6,7 @@ ghost use Rattle.ax_model.specs.Plain.{spec_tree, value_tree, entries_tree, reco
 ghost use Rattle.ax_model.specs.Shape.{EntriesShape};
 ghost use Rattle.ax_model.specs.Specification.{record_slots};
 ghost use Rattle.ax_text.specs.BlockText.{record_onto, records_onto};
-ghost use Rattle.ax_text.specs.Printing.{Puts};
+ghost use Rattle.ax_text.specs.Printing.{after_spaces, Puts};
 ghost use Rattle.ax_text.specs.Slots.{slot_numbered, SlotShape, slot_onto};
 ghost use Rattle.ax_text.specs.ValueText.{entries_onto};
 
@@ -18,7 +18,7 @@ impl Printer {
     #[tactic(auto, using(crate::proofs::RecordWays::records_ways))]
     pub(crate) fn records(&mut self, records: &Records, spec: &Spec) -> Result<(), AllocError>
         requires { AllByRecursion (RecordShape (spec_tree spec.now)) (records_tree records.now) }
-        ensures { OnOk result (Puts (records_onto (spec_tree spec.now) (records_tree records.now)) self.old.out.items self.new.out.items) }
+        ensures { OnOk result (Puts after_spaces (records_onto (spec_tree spec.now) (records_tree records.now)) self.old.out.items self.new.out.items) }
     {
         for one in records.as_slice() {
             self.record(one, spec)?;
@@ -29,7 +29,7 @@ impl Printer {
     #[tactic(auto, using(crate::proofs::RecordWays::record_ways))]
     fn record(&mut self, one: &Record, spec: &Spec) -> Result<(), AllocError>
         requires { RecordShape (spec_tree spec.now) (record_tree one.now) }
-        ensures { OnOk result (Puts (record_onto (spec_tree spec.now) (record_tree one.now)) self.old.out.items self.new.out.items) }
+        ensures { OnOk result (Puts after_spaces (record_onto (spec_tree spec.now) (record_tree one.now)) self.old.out.items self.new.out.items) }
     {
         self.text(b"record")?;
         self.text(b"{")?;
@@ -42,7 +42,7 @@ impl Printer {
     #[tactic(auto, using(crate::proofs::EntryWays::entries_ways))]
     pub(crate) fn items(&mut self, entries: &Entries, spec: &Spec) -> Result<(), AllocError>
         requires { EntriesShape 1 (record_slots (spec_tree spec.now)) (entries_tree entries.now) }
-        ensures { OnOk result (Puts (entries_onto 1 (record_slots (spec_tree spec.now)) (entries_tree entries.now)) self.old.out.items self.new.out.items) }
+        ensures { OnOk result (Puts after_spaces (entries_onto 1 (record_slots (spec_tree spec.now)) (entries_tree entries.now)) self.old.out.items self.new.out.items) }
     {
         for entry in entries.as_slice() {
             self.item(entry, spec)?;
@@ -53,7 +53,7 @@ impl Printer {
     #[tactic(auto, using(crate::proofs::RecordWays::item_ways))]
     fn item(&mut self, entry: &Entry, spec: &Spec) -> Result<(), AllocError>
         requires { SlotShape (slot_numbered (record_slots (spec_tree spec.now)) entry.now.slot) (value_tree entry.now.value) }
-        ensures { OnOk result (Puts (slot_onto (slot_numbered (record_slots (spec_tree spec.now)) entry.now.slot) (value_tree entry.now.value)) self.old.out.items self.new.out.items) }
+        ensures { OnOk result (Puts after_spaces (slot_onto (slot_numbered (record_slots (spec_tree spec.now)) entry.now.slot) (value_tree entry.now.value)) self.old.out.items self.new.out.items) }
     {
         if let Some(item) = spec.slot(entry.slot) {
             self.text(item.name.octets())?;

@@ -6,3 +6,5 @@
 mod fixtures;
 #[cfg(test)]
 mod lines;
+#[cfg(test)]
+mod listings;

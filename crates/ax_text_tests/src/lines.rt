@@ -23,18 +23,33 @@ fn each_kind_is_printed(rt: HostRuntime) -> Result<(), Fail> {
             "30 00 05 20 A0",
             "block 048 { record { 020 { part { TYP 5 SIM 0 RDP 0 SPI 0 RAB 0 } } } }\n",
         ),
-        ("30 00 08 01 01 40 0B 0C", "block 048 { record { 030 { 5 6 } } }\n"),
-        ("30 00 0A 01 01 01 04 03 AA BB", "block 048 { record { SP \"aabb\" } }\n"),
-        ("30 00 08 01 01 01 04 01", "block 048 { record { SP \"\" } }\n"),
+        (
+            "30 00 08 01 01 40 0B 0C",
+            "block 048 { record { 030 { 5 6 } } }\n",
+        ),
+        (
+            "30 00 0A 01 01 01 04 03 AA BB",
+            "block 048 { record { SP \"aabb\" } }\n",
+        ),
+        (
+            "30 00 08 01 01 01 04 01",
+            "block 048 { record { SP \"\" } }\n",
+        ),
         ("30 00 04 00", "block 048 { record { } }\n"),
         ("30 00 05 02 00", "block 048 { record { 130 { } } }\n"),
-        ("30 00 07 02 82 07 08", "block 048 { record { 130 { SRL 7 APD 8 } } }\n"),
+        (
+            "30 00 07 02 82 07 08",
+            "block 048 { record { 130 { SRL 7 APD 8 } } }\n",
+        ),
         ("30 00 06 01 20 00", "block 048 { record { 250 { } } }\n"),
         (
             "30 00 16 01 20 02 00 00 00 00 00 00 2A 51 00 00 00 00 00 00 00 0F",
             "block 048 { record { 250 { { MB 42 BDS1 5 BDS2 1 } { MB 0 BDS1 0 BDS2 15 } } } }\n",
         ),
-        ("30 00 07 01 10 30 2A", "block 048 { record { 161 { spare 3 TRN 42 } } }\n"),
+        (
+            "30 00 07 01 10 30 2A",
+            "block 048 { record { 161 { spare 3 TRN 42 } } }\n",
+        ),
         (
             "30 00 09 80 19 0C 80 1A 0C",
             "block 048 { record { 010 { SAC 25 SIC 12 } } record { 010 { SAC 26 SIC 12 } } }\n",

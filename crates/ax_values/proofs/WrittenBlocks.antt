@@ -72,11 +72,6 @@ filled old new n xs none full e a =
 pub same_octets : (xs ys : List ℕ) → ((i : ℕ) → get_or xs i 0 < 256) → AreOctets ys → bits xs ≡ bits ys → xs ≡ ys
 same_octets xs ys h t e = bits-injective xs ys (AreOctets-items xs h) t e
 
-pub content_room : (spec : Spec) (block : Block) (category : ℕ) (content : List ℕ) (old new : Out) (n : ℕ) → block ≡ BlockOf.Opaque category content → 8 * block_length spec block ≤ room old → Appends old new (word 8 category ++ word 16 n) → 8 * length content ≤ room new
-content_room spec block category content old new n is le a =
-    let count : block_length spec block ≡ 3 + length content = ap (block_length spec) is ∙ length-framed category content in
-    omega (arith, a.room, length-append (word 8 category) (word 16 n), length-word 8 category, length-word 16 n)
-
 pub front_room : (spec : Spec) (block : Block) → 3 ≤ block_length spec block
 front_room spec (BlockOf.Read category rs) = omega (arith, length-framed category (octets_of (CanonBody (spec_tree spec) (records_tree rs))))
 front_room spec (BlockOf.Opaque category content) = omega (arith, length-framed category content)

@@ -65,22 +65,10 @@ count_of (v ∷ vs) = ap suc (count_of vs)
 pub octet_and : (old mid new : Out) (n m : ℕ) (rest : List ℕ) → n ≡ m → Appends old mid (word 8 n) → Appends mid new rest → Appends old new (word 8 m ++ rest)
 octet_and old mid new n m rest e a b = subst (λ n. Appends old new (word 8 n ++ rest)) e (appends_more old mid new (word 8 n) rest (word 8 n ++ rest) refl a b)
 
-pub octet_room : (n free : ℕ) (rest : List ℕ) → length (word 8 n ++ rest) ≤ free → 8 ≤ free
-octet_room n free rest le = omega (arith, length-append (word 8 n) rest, length-word 8 n)
-
 pub rest_room : (old new : Out) (n m : ℕ) (rest : List ℕ) → length (word 8 n ++ rest) ≤ room old → Appends old new (word 8 m) → length rest ≤ room new
 rest_room old new n m rest le a = omega (arith, length-append (word 8 n) rest, length-word 8 n, length-word 8 m, a.room)
 
 -- ---- entries
-
-pub kind_shape : (o : Option KindTree) (k : KindTree) (v : ValueTree) → Some k ≡ o → EntryShape o v → InBounds k × Shape k v
-kind_shape o k v e h = subst (λ o. EntryShape o v) (sym e) h
-
-pub kind_canon : (o : Option KindTree) (k : KindTree) (v : ValueTree) → Some k ≡ o → canon k v ≡ entry_canon o v
-kind_canon o k v e = ap (λ o. entry_canon o v) e
-
-pub no_kind : (o : Option KindTree) (v : ValueTree) → None ≡ o → EntryShape o v → ⊥
-no_kind o v e h = subst (λ o. EntryShape o v) (sym e) h
 
 pub left_first : (ss : SlotsTree) (out : Out) (es : List Entry) → AreEntriesOf ss (entries_tree es) → EntriesLeft ss out out (entries_canon 1 ss (entries_tree es)) es
 left_first ss out es h = entries_first ss out es h.shape

@@ -1,0 +1,11 @@
+pub mod Entered
+pub mod Indexing
+pub mod MoveLists
+pub mod Pairs
+pub mod PathLists
+pub mod Readable
+pub mod Relations
+pub mod Said
+pub mod Saying
+pub mod UapWalk
+pub mod UnlikeLists

@@ -1,0 +1,83 @@
+-- The paths below a kind, one slot at a time.
+use Rattle.std.proofs.Common.{◌≡◌, ℕ, ◌+◌, ◌<◌, ◌≤◌, List, [], ◌∷◌, ◌++◌, length, map, drop, get_or, Option, option_and_then, refl, sym, ◌∙◌, ap, append_assoc, append-nil}
+use Rattle.std.proofs.lemmas.List.{drop_all}
+use Rattle.std.specs.Borrow.{Bor}
+use Rattle.ax_edition.specs.Relating.{target_below, lead, LeadsBelow, shared_place, related_kind, related_slots, related_slot}
+use Rattle.ax_edition.specs.UapItems.{item_slot, items_tree}
+use Rattle.ax_edition.specs.declared.relating.Level.{Level}
+use Rattle.ax_edition.specs.declared.relation.RelationPath.{RelationPath}
+use Rattle.ax_model.proofs.Namings.{from_place}
+use Rattle.ax_model.specs.Placed.{place_from}
+use Rattle.ax_model.specs.Plain.{slot_tree, slots_tree}
+use Rattle.ax_model.specs.Tree.{KindTree, fixed, extended, counted, by_fx, explicit, compound, SlotTree, SlotsTree, slots_of, slot_and, spare_slot, subitem}
+use Rattle.ax_model.specs.declared.kind.Slot.{Slot}
+use Rattle.ax_model.specs.declared.place.Place.{Place}
+use Rattle.ax_model.specs.declared.spec.Item.{Item}
+
+abbrev path_at : List ℕ → Place → Option Place → RelationPath
+path_at text old new = record { text = text; old = old; new = new }
+
+pub compound_paths : (text numbers : List ℕ) (k : KindTree) (ss : SlotsTree) (target : Option (List ℕ × KindTree)) (level : Level) (path : RelationPath) (before pushed made : List RelationPath)
+    → k ≡ compound ss → LeadsBelow target level → path.text ≡ text → path.old ≡ place_from numbers → path.new ≡ shared_place k target → pushed ≡ before ++ path ∷ [] → made ≡ pushed ++ related_slots text numbers 1 ss (lead level)
+    → made ≡ before ++ related_kind text numbers k target
+compound_paths text numbers k ss target level path before pushed made is h t o n p m =
+    let rules : lead level ≡ (λ name. option_and_then (target_below name) target) = λ i name. h.leads name i in
+    m ∙ ap (λ l. l ++ related_slots text numbers 1 ss (lead level)) p ∙ append_assoc before (path ∷ []) (related_slots text numbers 1 ss (lead level))
+    ∙ (λ i. before ++ path_at (t i) (o i) (n i) ∷ related_slots text numbers 1 ss (rules i))
+    ∙ (λ i. before ++ path_at text (place_from numbers) (shared_place (is i) target) ∷ related_slots text numbers 1 ss (λ name. option_and_then (target_below name) target))
+    ∙ ap (λ x. before ++ related_kind text numbers x target) (sym is)
+
+pub leaf_path : (text numbers : List ℕ) (k : KindTree) (target : Option (List ℕ × KindTree)) (path : RelationPath) (before made : List RelationPath)
+    → ((ss : SlotsTree) → k ≡ compound ss → ⊥) → path.text ≡ text → path.old ≡ place_from numbers → path.new ≡ shared_place k target → made ≡ before ++ path ∷ []
+    → made ≡ before ++ related_kind text numbers k target
+leaf_path text numbers k target path before made not t o n m = m ∙ (λ i. before ++ path_at (t i) (o i) (n i) ∷ []) ∙ ap (λ l. before ++ l) (single k not)
+  where
+    single : (k : KindTree) → ((ss : SlotsTree) → k ≡ compound ss → ⊥) → path_at text (place_from numbers) (shared_place k target) ∷ [] ≡ related_kind text numbers k target
+    single (compound ss) not = absurd (not ss refl)
+    single (fixed f) not = refl
+    single (extended ps) not = refl
+    single (counted k) not = refl
+    single (by_fx f) not = refl
+    single explicit not = refl
+
+pub ruleset kinds = (compound_paths, leaf_path)
+
+-- ---- slots, and items as slots
+
+first_paths : (text numbers : List ℕ) (n : ℕ) (s : SlotTree) (ss : SlotsTree) (rule : List ℕ → Option (List ℕ × KindTree))
+    → related_slots text numbers n (slot_and s ss) rule ≡ related_slot text numbers n s rule ++ related_slots text numbers (n + 1) ss rule
+first_paths text numbers n spare_slot ss rule = refl
+first_paths text numbers n (subitem name k) ss rule = refl
+
+module _ {A : Type 0} (tree : A → SlotTree) (text numbers : List ℕ) (rule : List ℕ → Option (List ℕ × KindTree)) (i n : ℕ) (ss : List A) where
+  step : (s : A) (paths new all : List RelationPath) → i < length ss → s ≡ get_or ss i s → new ≡ paths ++ related_slot text numbers (n + 1) (tree s) rule
+      → paths ++ related_slots text numbers (n + 1) (slots_of (map tree (drop i ss))) rule ≡ all → new ++ related_slots text numbers (n + 1 + 1) (slots_of (map tree (drop (i + 1) ss))) rule ≡ all
+  step s paths new all within is e h =
+      let later = related_slots text numbers (n + 1 + 1) (slots_of (map tree (drop (i + 1) ss))) rule in
+      ap (λ l. l ++ later) e ∙ append_assoc paths (related_slot text numbers (n + 1) (tree s) rule) later
+      ∙ ap (λ l. paths ++ l) (sym (ap (λ x. related_slots text numbers (n + 1) (slots_of (map tree x)) rule) (from_place ss i s within is) ∙ first_paths text numbers (n + 1) (tree s) (slots_of (map tree (drop (i + 1) ss))) rule)) ∙ h
+
+  end : (paths all : List RelationPath) → length ss ≤ i → paths ++ related_slots text numbers (n + 1) (slots_of (map tree (drop i ss))) rule ≡ all → paths ≡ all
+  end paths all past h = sym (append-nil paths) ∙ ap (λ l. paths ++ l) (sym (ap (λ x. related_slots text numbers (n + 1) (slots_of (map tree x)) rule) (drop_all i ss past))) ∙ h
+
+pub slots_step : (text numbers : List ℕ) (rule : List ℕ → Option (List ℕ × KindTree)) (i n : ℕ) (ss : List Slot) (s : Slot) (paths new all : List RelationPath) → i < length ss → s ≡ get_or ss i s
+    → new ≡ paths ++ related_slot text numbers (n + 1) (slot_tree s) rule → paths ++ related_slots text numbers (n + 1) (slots_tree (drop i ss)) rule ≡ all
+    → new ++ related_slots text numbers (n + 1 + 1) (slots_tree (drop (i + 1) ss)) rule ≡ all
+slots_step text numbers rule i n ss = step slot_tree text numbers rule i n ss
+
+pub slots_end : (text numbers : List ℕ) (rule : List ℕ → Option (List ℕ × KindTree)) (i n : ℕ) (ss : List Slot) (paths all : List RelationPath) → length ss ≤ i
+    → paths ++ related_slots text numbers (n + 1) (slots_tree (drop i ss)) rule ≡ all → paths ≡ all
+slots_end text numbers rule i n ss = end slot_tree text numbers rule i n ss
+
+pub ruleset slots = (slots_step, slots_end)
+
+pub items_step : (text : List ℕ) (rule : List ℕ → Option (List ℕ × KindTree)) (i n : ℕ) (ss : List (Option (Bor Item))) (s : Option (Bor Item)) (paths new all : List RelationPath) → i < length ss → s ≡ get_or ss i s
+    → new ≡ paths ++ related_slot text [] (n + 1) (item_slot s) rule → paths ++ related_slots text [] (n + 1) (items_tree (drop i ss)) rule ≡ all
+    → new ++ related_slots text [] (n + 1 + 1) (items_tree (drop (i + 1) ss)) rule ≡ all
+items_step text rule i n ss = step item_slot text [] rule i n ss
+
+pub items_end : (text : List ℕ) (rule : List ℕ → Option (List ℕ × KindTree)) (i n : ℕ) (ss : List (Option (Bor Item))) (paths all : List RelationPath) → length ss ≤ i
+    → paths ++ related_slots text [] (n + 1) (items_tree (drop i ss)) rule ≡ all → paths ≡ all
+items_end text rule i n ss = end item_slot text [] rule i n ss
+
+pub ruleset items = (items_step, items_end)

@@ -1,0 +1,153 @@
+-- What the walk makes is the relation of the two editions.
+use Rattle.std.proofs.Common.{◌≡◌, ℕ, ◌+◌, Bool, true, false, cond, List, [], ◌∷◌, ◌++◌, map, Option, Some, None, option_map, option_and_then, refl, sym, ◌∙◌, ap, codes, append_assoc, append-nil}
+use Rattle.std.specs.List.{AllByRecursion}
+use Rattle.std.proofs.lemmas.List.{map-append}
+use Rattle.ax_model.specs.Naming.{slot_named}
+use Rattle.ax_model.specs.Paths.{joined, three_digits, at, path_text}
+use Rattle.ax_model.specs.Specification.{SpecTree, record_slots, record_kind}
+use Rattle.ax_model.specs.Tree.{KindTree, fixed, extended, counted, by_fx, explicit, compound, SlotsTree, no_slots, slot_and, spare_slot, subitem}
+use Rattle.ax_model.specs.declared.place.Place.{Place}
+use Rattle.ax_edition.specs.Relating.{target_below, shared_place, related_kind, related_slots}
+use Rattle.ax_edition.specs.Relation.{related_path, relation_paths}
+use Rattle.ax_edition.specs.declared.relation.RelationPath.{RelationPath}
+use Rattle.ax_edition_laws.proofs.PlacedPaths.{StandsNamed, all_named}
+use Rattle.ax_edition_laws.proofs.Distinct.{Distinct}
+use Rattle.ax_model.specs.Named.{kind_at}
+use Rattle.ax_model.specs.Placed.{Placed, steps_at, place_from, named_place, placed_under, placed_of, placed_slots, placed_paths}
+use Rattle.ax_model.specs.Shared.{is_shared_kind, are_shared, Shared}
+
+-- ---- texts
+
+-- names below a text
+abbrev text_below : List ℕ → List (List ℕ) → List ℕ
+text_below text [] = text
+text_below text (name ∷ names) = text_below (at text name) names
+
+slash : codes "/" ≡ 47 ∷ []
+slash = refl
+
+slashed : (text name : List ℕ) → at text name ≡ text ++ (47 ∷ name)
+slashed text name = append_assoc text (codes "/") name ∙ ap (λ s. text ++ (s ++ name)) slash
+
+longer : (text name : List ℕ) (names : List (List ℕ)) → joined (at text name ∷ names) ≡ text ++ 47 ∷ joined (name ∷ names)
+longer text name [] = slashed text name
+longer text name (other ∷ names) = ap (λ x. x ++ 47 ∷ joined (other ∷ names)) (slashed text name) ∙ append_assoc text (47 ∷ name) (47 ∷ joined (other ∷ names))
+
+text_joined : (text : List ℕ) (names : List (List ℕ)) → text_below text names ≡ joined (text ∷ names)
+text_joined text [] = refl
+text_joined text (name ∷ names) = text_joined (at text name) names ∙ longer text name names
+
+-- ---- path by path
+
+abbrev target_at : List (List ℕ) → List ℕ × KindTree → Option (List ℕ × KindTree)
+target_at [] t = Some t
+target_at (name ∷ names) t = option_and_then (target_at names) (target_below name t)
+
+abbrev path_for : List ℕ → List ℕ → Option (List ℕ × KindTree) → Placed → RelationPath
+path_for text numbers target p = record {
+  text = text_below text p.names;
+  old = place_from (numbers ++ p.numbers);
+  new = shared_place p.kind (option_and_then (target_at p.names) target);
+}
+
+mapped : {A B C : Type 0} (f : A → C) (g : B → C) (h : A → B) → ((x : A) → f x ≡ g (h x)) → (xs : List A) → map f xs ≡ map g (map h xs)
+mapped f g h one [] = refl
+mapped f g h one (x ∷ xs) = λ i. one x i ∷ mapped f g h one xs i
+
+own_target : (o : Option (List ℕ × KindTree)) → o ≡ option_and_then (target_at []) o
+own_target None = refl
+own_target (Some t) = refl
+
+next_target : (name : List ℕ) (names : List (List ℕ)) (o : Option (List ℕ × KindTree)) → option_and_then (target_at names) (option_and_then (target_below name) o) ≡ option_and_then (target_at (name ∷ names)) o
+next_target name names None = refl
+next_target name names (Some t) = refl
+
+abbrev made_path : List ℕ → List ℕ → KindTree → Option (List ℕ × KindTree) → RelationPath
+made_path text numbers k target = record { text = text; old = place_from numbers; new = shared_place k target }
+
+own_path : (text numbers : List ℕ) (k : KindTree) (target : Option (List ℕ × KindTree)) → made_path text numbers k target ≡ path_for text numbers target (record { names = []; numbers = []; kind = k })
+own_path text numbers k target =
+    let e = sym (append-nil numbers) in λ i. record { text = text; old = place_from (e i); new = shared_place k (own_target target i) }
+
+under_path : (text numbers : List ℕ) (target : Option (List ℕ × KindTree)) (name : List ℕ) (s : ℕ) (p : Placed)
+    → path_for (at text name) (numbers ++ s ∷ []) (option_and_then (target_below name) target) p ≡ path_for text numbers target (placed_under name s p)
+under_path text numbers target name s p =
+    let e = append_assoc numbers (s ∷ []) p.numbers in
+    let f = next_target name p.names target in λ i. record { text = text_below (at text name) p.names; old = place_from (e i); new = shared_place p.kind (f i) }
+
+mutual
+  kind_paths : (text numbers : List ℕ) (k : KindTree) (target : Option (List ℕ × KindTree)) → related_kind text numbers k target ≡ map (path_for text numbers target) (placed_of k)
+  kind_paths text numbers (compound ss) target = λ i. own_path text numbers (compound ss) target i ∷ slots_paths text numbers 1 ss target i
+  kind_paths text numbers (fixed f) target = λ i. own_path text numbers (fixed f) target i ∷ []
+  kind_paths text numbers (extended ps) target = λ i. own_path text numbers (extended ps) target i ∷ []
+  kind_paths text numbers (counted k) target = λ i. own_path text numbers (counted k) target i ∷ []
+  kind_paths text numbers (by_fx f) target = λ i. own_path text numbers (by_fx f) target i ∷ []
+  kind_paths text numbers explicit target = λ i. own_path text numbers explicit target i ∷ []
+
+  slots_paths : (text numbers : List ℕ) (s : ℕ) (ss : SlotsTree) (target : Option (List ℕ × KindTree)) → related_slots text numbers s ss (λ name. option_and_then (target_below name) target) ≡ map (path_for text numbers target) (placed_slots s ss)
+  slots_paths text numbers s no_slots target = refl
+  slots_paths text numbers s (slot_and spare_slot ss) target = slots_paths text numbers (s + 1) ss target
+  slots_paths text numbers s (slot_and (subitem name k) ss) target =
+      let under = option_and_then (target_below name) target in
+      (λ i. kind_paths (at text name) (numbers ++ s ∷ []) k under i ++ slots_paths text numbers (s + 1) ss target i)
+      ∙ ap (λ l. l ++ map (path_for text numbers target) (placed_slots (s + 1) ss))
+      (mapped (path_for (at text name) (numbers ++ s ∷ []) under) (path_for text numbers target) (placed_under name s) (under_path text numbers target name s) (placed_of k))
+      ∙ sym (map-append (path_for text numbers target) (map (placed_under name s) (placed_of k)) (placed_slots (s + 1) ss))
+
+-- ---- the new place
+
+abbrev leading : List ℕ → Option (List ℕ) → Option KindTree → Option (List ℕ × KindTree)
+leading numbers steps kind = option_and_then (λ m. option_map (λ k. (numbers ++ m, k)) kind) steps
+
+one_step : (numbers : List ℕ) (t : ℕ) (steps : Option (List ℕ)) (kind : Option KindTree) → leading (numbers ++ t ∷ []) steps kind ≡ leading numbers (option_map (λ m. t ∷ m) steps) kind
+one_step numbers t None kind = refl
+one_step numbers t (Some m) None = refl
+one_step numbers t (Some m) (Some k) =
+    let e = append_assoc numbers (t ∷ []) m in λ i. Some (e i, k)
+
+leads : (names : List (List ℕ)) (numbers : List ℕ) (l : KindTree) → target_at names (numbers, l) ≡ leading numbers (steps_at names l) (kind_at names l)
+leads [] numbers l =
+    let e = sym (append-nil numbers) in λ i. Some (e i, l)
+leads (name ∷ names) numbers (compound ts) = by (λ ns l. leads names ns l) (slot_named 1 name ts)
+  where
+    by : ((ns : List ℕ) (l : KindTree) → target_at names (ns, l) ≡ leading ns (steps_at names l) (kind_at names l)) → (o : Option (ℕ × KindTree))
+        → option_and_then (target_at names) (option_map (λ t. (numbers ++ t.0 ∷ [], t.1)) o)
+        ≡ leading numbers (option_and_then (λ s. option_map (λ steps. s.0 ∷ steps) (steps_at names s.1)) o) (option_and_then (λ s. kind_at names s.1) o)
+    by below None = refl
+    by below (Some t) = below (numbers ++ t.0 ∷ []) t.1 ∙ one_step numbers t.0 (steps_at names t.1) (kind_at names t.1)
+leads (name ∷ names) numbers (fixed f) = refl
+leads (name ∷ names) numbers (extended ps) = refl
+leads (name ∷ names) numbers (counted k) = refl
+leads (name ∷ names) numbers (by_fx f) = refl
+leads (name ∷ names) numbers explicit = refl
+
+either : (b : Bool) (o : Option Place) → o ≡ cond b o o
+either true o = refl
+either false o = refl
+
+new_place : (k : KindTree) (steps : Option (List ℕ)) (kind : Option KindTree) → shared_place k (leading [] steps kind) ≡ cond (are_shared (Some k) kind) (option_map place_from steps) None
+new_place k None None = refl
+new_place k None (Some l) = either (is_shared_kind k l) None
+new_place k (Some m) None = refl
+new_place k (Some m) (Some l) = refl
+
+-- ---- whole editions
+
+one_path : (old new : SpecTree) (p : Placed) → StandsNamed (record_kind old) p → path_for (three_digits old.category) [] (Some ([], record_kind new)) p ≡ related_path old new p
+one_path old new p h =
+    let place : shared_place p.kind (target_at p.names ([], record_kind new)) ≡ cond (Shared old new p.names) (named_place new p.names) None =
+    ap (shared_place p.kind) (leads p.names [] (record_kind new)) ∙ new_place p.kind (steps_at p.names (record_kind new)) (kind_at p.names (record_kind new))
+    ∙ ap (λ o. cond (are_shared o (kind_at p.names (record_kind new))) (named_place new p.names) None) (sym h.stands.kind) ∙ ap (λ b. cond b (named_place new p.names) None) (shared_is p.names h.names) in
+    let text : text_below (three_digits old.category) p.names ≡ path_text old.category p.names = text_joined (three_digits old.category) p.names in
+    λ i. record { text = text i; old = place_from p.numbers; new = place i }
+  where
+    shared_is : (names : List (List ℕ)) → names ≡ h.first ∷ h.others → are_shared (kind_at names (record_kind old)) (kind_at names (record_kind new)) ≡ Shared old new names
+    shared_is [] e = cc
+    shared_is (name ∷ names) e = refl
+
+all_paths : (old new : SpecTree) (ps : List Placed) → AllByRecursion (StandsNamed (record_kind old)) ps → map (path_for (three_digits old.category) [] (Some ([], record_kind new))) ps ≡ map (related_path old new) ps
+all_paths old new [] h = refl
+all_paths old new (p ∷ ps) h = λ i. one_path old new p h.0 i ∷ all_paths old new ps h.1 i
+
+pub walk_is_relation : (old new : SpecTree) → Distinct (record_kind old) → related_slots (three_digits old.category) [] 1 (record_slots old) (λ name. option_and_then (target_below name) (Some ([], record_kind new))) ≡ relation_paths old new
+walk_is_relation old new d = slots_paths (three_digits old.category) [] 1 (record_slots old) (Some ([], record_kind new)) ∙ all_paths old new (placed_paths old) (all_named old d)

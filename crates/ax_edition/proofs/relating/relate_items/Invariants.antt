@@ -1,0 +1,8 @@
+use Rattle.std.proofs.Common.{◌≡◌, ◌+◌, ◌++◌, [], drop}
+use Rattle.ax_edition.specs.Relating.{lead, related_slots}
+use Rattle.ax_edition.specs.UapItems.{items_tree}
+use Rattle.ax_edition.proofs.relating.relate_items.Given as goal
+
+abbrev pub invariant-loop-item : goal.invariant-loop-item
+invariant-loop-item l =
+    (l.before ≡ l.item-index) × (l.paths ++ related_slots l.text [] (l.before + 1) (items_tree (drop l.item-index l.items)) (lead l.level) ≡ related_slots l.text [] 1 (items_tree l.items) (lead l.level))

@@ -1,0 +1,15 @@
+//! The relation of two editions of one category: which named paths both have, with the same meaning, and where these stand
+//! in each.
+#![tactic(auto)]
+
+mod index;
+mod known;
+mod moves;
+mod numbers;
+mod relating;
+mod relation;
+mod sameness;
+mod uap_items;
+
+pub use moves::{Move, Moves};
+pub use relation::{RelateError, Relation, RelationPath, RelationPaths, relate};

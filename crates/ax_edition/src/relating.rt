@@ -1,0 +1,259 @@
+//! The named paths of the old edition, with their places in both.
+ghost use Rattle.std.specs.Prelude.{◌≡◌, ◌++◌, ◌∷◌, [], Some, IfOk, OnOk, option_map};
+ghost use Rattle.ax_model.specs.Placed.{place_from};
+ghost use Rattle.ax_model.specs.Plain.{kind_tree, slot_tree, slots_tree};
+ghost use Rattle.ax_model.specs.Tree.{compound};
+ghost use Rattle.ax_edition.specs.Relating.{target_tree, lead, LeadsBelow, shared_place, related_kind, related_slot, related_slots};
+ghost use Rattle.ax_edition.specs.UapItems.{item_slot, items_tree};
+
+use crate::index::{Index, index_below, index_items};
+use crate::relation::{RelationPath, RelationPaths};
+use crate::sameness::is_shared;
+use crate::uap_items::UapItems;
+use ax_model::{Item, Kind, Name, Place, Slot, Slots, Steps, Text, at_name};
+use std::alloc::{AllocError, Global};
+
+/// What stands at a path of the new edition: the slot numbers on the way to it, the first of which is an FRN, and its kind.
+#[derive(Drop)]
+struct Target<'k> {
+    numbers: Steps,
+    kind: &'k Kind,
+}
+
+/// What stands below a path of the new edition, by name.
+#[derive(Drop)]
+pub(crate) struct Level<'k> {
+    numbers: Steps,
+    index: Index<'k>,
+}
+
+/// Appends a number. A list of more than 2^32 - 1 numbers is a want of memory.
+fn push_number(numbers: &mut Steps, number: u32) -> Result<(), AllocError>
+    ensures { OnOk result (numbers.new ≡ numbers.old ++ number ∷ []) }
+{
+    if numbers.count() == u32::MAX {
+        return Err(AllocError);
+    }
+    numbers.push(number)
+}
+
+/// The numbers and one more.
+fn with_number(alloc: Global, numbers: &Steps, number: u32) -> Result<Steps, AllocError>
+    ensures { IfOk result (λ made. made ≡ numbers.now ++ number ∷ []) }
+{
+    let mut made = numbers.copy(alloc)?;
+    push_number(&mut made, number)?;
+    Ok(made)
+}
+
+fn steps_of(alloc: Global, numbers: &[u32]) -> Result<Steps, AllocError>
+    ensures { IfOk result (λ made. made ≡ numbers.now) }
+{
+    let mut made = Steps::new(alloc);
+    for number in numbers {
+        push_number(&mut made, *number)?;
+    }
+    Ok(made)
+}
+
+/// The place of slot numbers.
+fn place_of(alloc: Global, numbers: &Steps) -> Result<Place, AllocError>
+    ensures { IfOk result (λ made. made ≡ place_from numbers.now) }
+{
+    match numbers.as_slice().split_first() {
+        None => Ok(Place {
+            frn: 0,
+            steps: Steps::new(alloc),
+        }),
+        Some((frn, steps)) => Ok(Place {
+            frn: *frn,
+            steps: steps_of(alloc, steps)?,
+        }),
+    }
+}
+
+impl<'k> Level<'k> {
+    /// What stands below a target. Below none there is nothing.
+    fn below(alloc: Global, target: &Option<Target<'k>>) -> Result<Level<'k>, AllocError>
+        ensures { IfOk result (λ level. LeadsBelow (option_map target_tree target.now) level) }
+    {
+        match target {
+            None => Ok(Level {
+                numbers: Steps::new(alloc),
+                index: index_below(alloc, &None)?,
+            }),
+            Some(target) => Ok(Level {
+                numbers: target.numbers.copy(alloc)?,
+                index: index_below(alloc, &Some(target.kind))?,
+            }),
+        }
+    }
+
+    /// The items of a record.
+    pub(crate) fn of_record(
+        alloc: Global,
+        items: &UapItems<'k>,
+    ) -> Result<Level<'k>, AllocError>
+        ensures { IfOk result (λ level. LeadsBelow (Some ([], compound (items_tree items.now))) level) }
+    {
+        Ok(Level {
+            numbers: Steps::new(alloc),
+            index: index_items(alloc, items)?,
+        })
+    }
+
+    /// What stands at a name.
+    fn find(&self, alloc: Global, name: &Name) -> Result<Option<Target<'k>>, AllocError>
+        ensures { IfOk result (λ made. option_map target_tree made ≡ lead self.now name.now) }
+    {
+        match self.index.find(name) {
+            None => Ok(None),
+            Some((number, kind)) => Ok(Some(Target {
+                numbers: with_number(alloc, &self.numbers, number)?,
+                kind,
+            })),
+        }
+    }
+}
+
+/// The place of the target, if the kind shares with it.
+fn place_where_shared(
+    alloc: Global,
+    kind: &Kind,
+    target: &Option<Target<'_>>,
+) -> Result<Option<Place>, AllocError>
+    ensures { IfOk result (λ made. made ≡ shared_place (kind_tree kind.now) (option_map target_tree target.now)) }
+{
+    match target {
+        Some(target) if is_shared(kind, target.kind) => {
+            Ok(Some(place_of(alloc, &target.numbers)?))
+        }
+        _ => Ok(None),
+    }
+}
+
+/// Appends a path. A list of more than 2^32 - 1 paths is a want of memory.
+fn push_path(paths: &mut RelationPaths, path: RelationPath) -> Result<(), AllocError>
+    ensures { OnOk result (paths.new ≡ paths.old ++ path ∷ []) }
+{
+    if paths.count() == u32::MAX {
+        return Err(AllocError);
+    }
+    paths.push(path)
+}
+
+/// Appends the path of a kind, and those below.
+#[cycle(relate)]
+#[tactic(auto, using(crate::proofs::PathLists::kinds))]
+fn relate_kind(
+    alloc: Global,
+    paths: &mut RelationPaths,
+    text: &Text,
+    numbers: &Steps,
+    kind: &Kind,
+    target: &Option<Target<'_>>,
+) -> Result<(), AllocError>
+    ensures { OnOk result (paths.new ≡ paths.old ++ related_kind text.now numbers.now (kind_tree kind.now) (option_map target_tree target.now)) }
+{
+    let new = place_where_shared(alloc, kind, target)?;
+    let path = RelationPath {
+        text: text.copy(alloc)?,
+        old: place_of(alloc, numbers)?,
+        new,
+    };
+    push_path(paths, path)?;
+    match kind {
+        Kind::Compound(slots) => {
+            let level = Level::below(alloc, target)?;
+            relate_slots(alloc, paths, text, numbers, slots, &level)?;
+        }
+        _ => {}
+    }
+    Ok(())
+}
+
+/// Appends the paths of a slot of that number.
+#[cycle(relate)]
+fn relate_slot(
+    alloc: Global,
+    paths: &mut RelationPaths,
+    text: &Text,
+    numbers: &Steps,
+    number: u32,
+    slot: &Slot,
+    level: &Level<'_>,
+) -> Result<(), AllocError>
+    ensures { OnOk result (paths.new ≡ paths.old ++ related_slot text.now numbers.now number (slot_tree slot.now) (lead level.now)) }
+{
+    match slot {
+        Slot::Spare => Ok(()),
+        Slot::Sub { name, kind } => {
+            let text = at_name(alloc, text, name)?;
+            let numbers = with_number(alloc, numbers, number)?;
+            let target = level.find(alloc, name)?;
+            relate_kind(alloc, paths, &text, &numbers, kind, &target)
+        }
+    }
+}
+
+/// Appends the paths of the slots of a compound.
+#[cycle(relate)]
+#[tactic(auto, using(crate::proofs::PathLists::slots))]
+fn relate_slots(
+    alloc: Global,
+    paths: &mut RelationPaths,
+    text: &Text,
+    numbers: &Steps,
+    slots: &Slots,
+    level: &Level<'_>,
+) -> Result<(), AllocError>
+    ensures { OnOk result (paths.new ≡ paths.old ++ related_slots text.now numbers.now 1 (slots_tree slots.now) (lead level.now)) }
+{
+    let mut before: u32 = 0;
+    for slot in slots.as_slice() {
+        relate_slot(alloc, paths, text, numbers, before + 1, slot, level)?;
+        before += 1;
+    }
+    Ok(())
+}
+
+/// Appends the paths of a slot of the UAP of that number.
+fn relate_item(
+    alloc: Global,
+    paths: &mut RelationPaths,
+    text: &Text,
+    number: u32,
+    item: &Option<&Item>,
+    level: &Level<'_>,
+) -> Result<(), AllocError>
+    ensures { OnOk result (paths.new ≡ paths.old ++ related_slot text.now [] number (item_slot item.now) (lead level.now)) }
+{
+    match item {
+        None => Ok(()),
+        Some(item) => {
+            let text = at_name(alloc, text, &item.name)?;
+            let numbers = with_number(alloc, &Steps::new(alloc), number)?;
+            let target = level.find(alloc, &item.name)?;
+            relate_kind(alloc, paths, &text, &numbers, &item.kind, &target)
+        }
+    }
+}
+
+/// The paths of the slots of the UAP, below a text.
+#[tactic(auto, using(crate::proofs::PathLists::items))]
+pub(crate) fn relate_items(
+    alloc: Global,
+    text: &Text,
+    items: &UapItems<'_>,
+    level: &Level<'_>,
+) -> Result<RelationPaths, AllocError>
+    ensures { IfOk result (λ made. made ≡ related_slots text.now [] 1 (items_tree items.now) (lead level.now)) }
+{
+    let mut paths = RelationPaths::new(alloc);
+    let mut before: u32 = 0;
+    for item in items.as_slice() {
+        relate_item(alloc, &mut paths, text, before + 1, item, level)?;
+        before += 1;
+    }
+    Ok(paths)
+}

@@ -1,0 +1,237 @@
+-- The migrated value's canonical spelling has at most eighteen times as many bits as the old value's: a kept leaf doesn't
+-- grow, and a presence field of one octet or more becomes at most eighteen, for 126 slots.
+use Rattle.std.proofs.Common.{◌≡◌, ℕ, zero, suc, ◌+◌, ◌*◌, ◌<◌, ◌≤◌, ◌==◌, Bool, true, false, cond, ◌||◌, bytes_eq, List, [], ◌∷◌, ◌++◌, length, map, Option, Some, None, option_map, option_and_then, refl, sym, ◌∙◌, ap, arith, subst, length-append}
+use Rattle.ax_bits.specs.Bits.{word}
+use Rattle.ax_edition_laws.proofs.Lookups.{equal, less, named_from}
+use Rattle.ax_edition_laws.proofs.MovedNamed.{source_value, new_value}
+use Rattle.ax_edition_laws.proofs.MovedShape.{entries_from, entries_moved}
+use Rattle.ax_edition_laws.proofs.NamedOnce.{own_name, Front, front_of, front_value, front_later}
+use Rattle.ax_edition_laws.proofs.SameKinds.{bytes_same, same_kinds}
+use Rattle.ax_edition_laws.proofs.Distinct.{Distinct, SlotsDistinct}
+use Rattle.ax_edition_laws.specs.Moved.{entry_where, moved, moved_entries}
+use Rattle.ax_model.proofs.Least.{enough}
+use Rattle.ax_model.specs.Canonical.{number_canon, fixed_canon, members_canon, parts_canon, run_canon, each_canon, canon, marks_of, entries_canon}
+use Rattle.ax_model.specs.Flaws.{is_among}
+use Rattle.ax_model.specs.InBounds.{InBounds, SlotsInBounds}
+use Rattle.ax_model.specs.Naming.{found_or, slot_named}
+use Rattle.ax_model.specs.Presence.{octets_needed, least_presence, none_marked, marks_after, marks_upto}
+use Rattle.ax_model.specs.Same.{emptied_fixed, emptied_members, emptied, emptied_slots}
+use Rattle.ax_model.specs.Shape.{Shape, EntriesShape}
+use Rattle.ax_model.specs.Shared.{is_shared_kind}
+use Rattle.ax_model.specs.Tree.{FixedTree, element, group, MembersTree, no_members, member_and, named, spare, KindTree, fixed, extended, counted, by_fx, explicit, compound, SlotsTree, no_slots, slot_and, spare_slot, subitem, slot_count, ValueTree, member_values, part_values, occurrences, marked, ValuesTree, no_values, value_and, value_count, ListsTree, no_lists, list_and, EntriesTree, no_entries, entry_and}
+
+-- ---- presence fields
+
+at_most : (k : ℕ) (ms : List ℕ) → length (least_presence k ms) ≤ 8 * k
+at_most zero ms = omega arith
+at_most (suc k) ms = by (none_marked (marks_after 7 ms)) (at_most k (marks_after 7 ms))
+  where
+    by : (b : Bool) → length (least_presence k (marks_after 7 ms)) ≤ 8 * k → length (cond b (marks_upto 7 ms ++ 0 ∷ []) (marks_upto 7 ms ++ 1 ∷ least_presence k (marks_after 7 ms))) ≤ 8 * suc k
+    by true h = omega arith
+    by false h = omega arith
+
+at_least : (k : ℕ) (ms : List ℕ) → 0 < k → 8 ≤ length (least_presence k ms)
+at_least zero ms some = absurd (omega arith)
+at_least (suc k) ms some = by (none_marked (marks_after 7 ms))
+  where
+    by : (b : Bool) → 8 ≤ length (cond b (marks_upto 7 ms ++ 0 ∷ []) (marks_upto 7 ms ++ 1 ∷ least_presence k (marks_after 7 ms)))
+    by true = omega arith
+    by false = omega arith
+
+-- ---- the spelling doesn't depend on tables
+
+mutual
+  fixed_spelling : (f : FixedTree) (v : ValueTree) → fixed_canon (emptied_fixed f) v ≡ fixed_canon f v
+  fixed_spelling (element w c) v = refl
+  fixed_spelling (group ms) (member_values vs) = members_spelling ms vs
+  fixed_spelling (group ms) _ = refl
+
+  members_spelling : (ms : MembersTree) (vs : ValuesTree) → members_canon (emptied_members ms) vs ≡ members_canon ms vs
+  members_spelling no_members vs = refl
+  members_spelling (member_and (named name f) ms) no_values = refl
+  members_spelling (member_and (spare w) ms) no_values = refl
+  members_spelling (member_and (named name f) ms) (value_and v vs) = λ i. fixed_spelling f v i ++ members_spelling ms vs i
+  members_spelling (member_and (spare w) ms) (value_and v vs) = λ i. number_canon w v ++ members_spelling ms vs i
+
+parts_spelling : (ps : List MembersTree) (ls : ListsTree) → parts_canon (map emptied_members ps) ls ≡ parts_canon ps ls
+parts_spelling [] ls = refl
+parts_spelling (p ∷ ps) no_lists = refl
+parts_spelling (p ∷ ps) (list_and vs no_lists) = λ i. members_spelling p vs i ++ 0 ∷ []
+parts_spelling (p ∷ ps) (list_and vs (list_and ws ls)) = λ i. members_spelling p vs i ++ 1 ∷ parts_spelling ps (list_and ws ls) i
+
+run_spelling : (f : FixedTree) (vs : ValuesTree) → run_canon (emptied_fixed f) vs ≡ run_canon f vs
+run_spelling f no_values = refl
+run_spelling f (value_and v no_values) = λ i. fixed_spelling f v i ++ 0 ∷ []
+run_spelling f (value_and v (value_and w vs)) = λ i. fixed_spelling f v i ++ 1 ∷ run_spelling f (value_and w vs) i
+
+same_count : (ss : SlotsTree) → slot_count (emptied_slots ss) ≡ slot_count ss
+same_count no_slots = refl
+same_count (slot_and spare_slot ss) = ap suc (same_count ss)
+same_count (slot_and (subitem name k) ss) = ap suc (same_count ss)
+
+same_marks : (s : ℕ) (ss : SlotsTree) (es : EntriesTree) → marks_of s (emptied_slots ss) es ≡ marks_of s ss es
+same_marks s no_slots es = refl
+same_marks s (slot_and spare_slot ss) es = ap (λ l. 0 ∷ l) (same_marks (s + 1) ss es)
+same_marks s (slot_and (subitem name k) ss) no_entries = ap (λ l. 0 ∷ l) (same_marks (s + 1) ss no_entries)
+same_marks s (slot_and (subitem name k) ss) (entry_and t v es) = λ i. cond (t == s) (1 ∷ same_marks (s + 1) ss es i) (0 ∷ same_marks (s + 1) ss (entry_and t v es) i)
+
+mutual
+  kind_spelling : (k : KindTree) (v : ValueTree) → canon (emptied k) v ≡ canon k v
+  kind_spelling (fixed f) v = fixed_spelling f v
+  kind_spelling (extended ps) (part_values ls) = parts_spelling ps ls
+  kind_spelling (extended ps) _ = refl
+  kind_spelling (counted k) (occurrences vs) = λ i. word 8 (value_count vs) ++ each_canon (λ v. kind_spelling k v i) vs
+  kind_spelling (counted k) _ = refl
+  kind_spelling (by_fx f) (occurrences vs) = run_spelling f vs
+  kind_spelling (by_fx f) _ = refl
+  kind_spelling explicit v = refl
+  kind_spelling (compound ss) (marked es) = λ i. least_presence (octets_needed (same_count ss i)) (same_marks 1 ss es i) ++ entries_spelling 1 ss es i
+  kind_spelling (compound ss) _ = refl
+
+  entries_spelling : (s : ℕ) (ss : SlotsTree) (es : EntriesTree) → entries_canon s (emptied_slots ss) es ≡ entries_canon s ss es
+  entries_spelling s no_slots es = refl
+  entries_spelling s (slot_and spare_slot ss) es = entries_spelling (s + 1) ss es
+  entries_spelling s (slot_and (subitem name k) ss) no_entries = entries_spelling (s + 1) ss no_entries
+  entries_spelling s (slot_and (subitem name k) ss) (entry_and t v es) =
+      λ i. cond (t == s) (kind_spelling k v i ++ entries_spelling (s + 1) ss es i) (entries_spelling (s + 1) ss (entry_and t v es) i)
+
+same_spelling : (k l : KindTree) (v : ValueTree) → emptied k ≡ emptied l → canon l v ≡ canon k v
+same_spelling k l v e = sym (kind_spelling l v) ∙ ap (λ x. canon x v) (sym e) ∙ kind_spelling k v
+
+-- ---- sums over slots
+
+-- of what the rule gives for each defined slot
+abbrev total : (List ℕ → KindTree → ℕ) → SlotsTree → ℕ
+total rule no_slots = 0
+total rule (slot_and spare_slot ts) = total rule ts
+total rule (slot_and (subitem name l) ts) = rule name l + total rule ts
+
+total_none : (rule : List ℕ → KindTree → ℕ) → ((name : List ℕ) (l : KindTree) → rule name l ≡ 0) → (ts : SlotsTree) → total rule ts ≡ 0
+total_none rule h no_slots = refl
+total_none rule h (slot_and spare_slot ts) = total_none rule h ts
+total_none rule h (slot_and (subitem name l) ts) = λ i. h name l i + total_none rule h ts i
+
+still : (b c : Bool) → c ≡ true → (b || c) ≡ true
+still true c e = refl
+still false c e = e
+
+module _ (f g : List ℕ → KindTree → ℕ) (own : List ℕ) (other : (name : List ℕ) (l : KindTree) → bytes_eq own name ≡ false → f name l ≡ g name l) where
+  -- a name that no slot has
+  total_same : (earlier : List (List ℕ)) (ts : SlotsTree) → is_among own earlier ≡ true → SlotsDistinct earlier ts → total f ts ≡ total g ts
+  total_same earlier no_slots a d = refl
+  total_same earlier (slot_and spare_slot ts) a d = total_same earlier ts a d
+  total_same earlier (slot_and (subitem name l) ts) a d =
+      let rest = total_same (name ∷ earlier) ts (still (bytes_eq own name) (is_among own earlier) a) d.2 in
+      let first = other name l (unlike (bytes_eq own name) refl) in λ i. first i + rest i
+    where
+      unlike : (b : Bool) → bytes_eq own name ≡ b → b ≡ false
+      unlike true e = let q = ap (λ x. is_among x earlier) (bytes_same own name e) in let r = d.0 in cc
+      unlike false e = refl
+
+  -- a name that one slot has at most
+  total_once : (h : ℕ) → ((l : KindTree) → Distinct l → InBounds l → f own l ≤ h) → (earlier : List (List ℕ)) (ts : SlotsTree) → SlotsDistinct earlier ts → SlotsInBounds ts → total f ts ≤ h + total g ts
+  total_once h bound earlier no_slots d w = omega arith
+  total_once h bound earlier (slot_and spare_slot ts) d w = total_once h bound earlier ts d w
+  total_once h bound earlier (slot_and (subitem name l) ts) d w = by (bytes_eq own name) refl (total_once h bound (name ∷ earlier) ts d.2 w.1)
+    where
+      by : (b : Bool) → bytes_eq own name ≡ b → total f ts ≤ h + total g ts → f name l + total f ts ≤ h + (g name l + total g ts)
+      by true e later =
+          let again : is_among own (name ∷ earlier) ≡ true = ap (λ b. b || is_among own earlier) e in
+          let rest = total_same (name ∷ earlier) ts again d.2 in
+          let P : List ℕ → Type 0 = λ n. f n l ≤ h in
+          let first = subst P (bytes_same own name e) (bound l d.1 w.0) in omega arith
+      by false e later = let first = other name l e in omega arith
+
+-- ---- entries
+
+abbrev bits_where : KindTree → Option ValueTree → ℕ
+bits_where l None = 0
+bits_where l (Some v) = length (canon l v)
+
+entries_front : (n : ℕ) (name : List ℕ) (l : KindTree) (ts : SlotsTree) (o : Option ValueTree) (rest : EntriesTree) → EntriesShape (n + 1) ts rest
+    → length (entries_canon n (slot_and (subitem name l) ts) (entry_where n o rest)) ≡ bits_where l o + length (entries_canon (n + 1) ts rest)
+entries_front n name l ts (Some v) rest h =
+    ap (λ b. length (cond b (canon l v ++ entries_canon (n + 1) ts rest) (entries_canon (n + 1) ts (entry_and n v rest)))) (equal n n refl) ∙ length-append (canon l v) (entries_canon (n + 1) ts rest)
+entries_front n name l ts None no_entries h = omega arith
+entries_front n name l ts None (entry_and t w es) h =
+    let le = entries_from (n + 1) ts t w es h in
+    let e = ap (λ b. length (cond b (canon l w ++ entries_canon (n + 1) ts es) (entries_canon (n + 1) ts (entry_and t w es)))) (unlike n t (omega arith)) in omega (arith, e)
+  where
+    unlike : (n t : ℕ) → n < t → (t == n) ≡ false
+    unlike n t h = less n t h
+
+moved_bits : (n : ℕ) (ts ss : SlotsTree) (es : EntriesTree) → EntriesShape 1 ss es → length (entries_canon n ts (moved_entries n ts ss es)) ≡ total (λ name l. bits_where l (new_value name l ss es)) ts
+moved_bits n no_slots ss es h = refl
+moved_bits n (slot_and spare_slot ts) ss es h = moved_bits (n + 1) ts ss es h
+moved_bits n (slot_and (subitem name l) ts) ss es h =
+    entries_front n name l ts (new_value name l ss es) (moved_entries (n + 1) ts ss es) (entries_moved (n + 1) ts ss es h) ∙ ap (λ m. bits_where l (new_value name l ss es) + m) (moved_bits (n + 1) ts ss es h)
+
+-- what new slots get from old slots of which the first has the number n
+abbrev bits_from : ℕ → SlotsTree → EntriesTree → List ℕ → KindTree → ℕ
+bits_from n ss es name l = bits_where l (option_and_then (source_value l es) (slot_named n name ss))
+
+-- ---- kinds
+
+abbrev Grows : KindTree → Type 0
+Grows k = (l : KindTree) (v : ValueTree) → is_shared_kind k l ≡ true → Distinct l → InBounds l → Shape k v → length (canon l (moved l k v)) ≤ 18 * length (canon k v)
+
+module _ (n : ℕ) (own : List ℕ) (k : KindTree) (ss : SlotsTree) (es : EntriesTree) (f : Front n k ss es) (grow : Grows k) where
+  other_name : (name : List ℕ) (l : KindTree) → bytes_eq own name ≡ false → bits_from n (slot_and (subitem own k) ss) es name l ≡ bits_from (n + 1) ss f.rest name l
+  other_name name l e = ap (λ b. bits_where l (option_and_then (source_value l es) (found_or (cond b (Some k) None) n (slot_named (n + 1) name ss)))) e ∙ by (slot_named (n + 1) name ss) refl
+    where
+      by : (o : Option (ℕ × KindTree)) → slot_named (n + 1) name ss ≡ o → bits_where l (option_and_then (source_value l es) o) ≡ bits_where l (option_and_then (source_value l f.rest) o)
+      by None q = refl
+      by (Some s) q =
+          let le = named_from (n + 1) name ss s.0 s.1 q in
+          ap (λ o. bits_where l (cond (is_shared_kind s.1 l) (option_map (moved l s.1) o) None)) (front_later n k ss es f s.0 (omega arith))
+
+  same_name : (l : KindTree) → Distinct l → InBounds l → bits_from n (slot_and (subitem own k) ss) es own l ≤ 18 * bits_where k f.here
+  same_name l d w =
+      let e = ap (λ b. bits_where l (option_and_then (source_value l es) (found_or (cond b (Some k) None) n (slot_named (n + 1) own ss)))) (own_name own)
+      ∙ ap (λ o. bits_where l (cond (is_shared_kind k l) (option_map (moved l k) o) None)) (front_value n k ss es f) in
+      let h = by f.here refl (is_shared_kind k l) refl in omega (arith, e, h)
+    where
+      by : (o : Option ValueTree) → f.here ≡ o → (b : Bool) → is_shared_kind k l ≡ b → bits_where l (cond b (option_map (moved l k) o) None) ≤ 18 * bits_where k o
+      by None here b e = none b
+        where
+          none : (b : Bool) → bits_where l (cond b None None) ≤ 18 * 0
+          none true = omega arith
+          none false = omega arith
+      by (Some v) here true e = grow l v e d w (f.shape v here)
+      by (Some v) here false e = omega arith
+
+leaf_grows : (k l : KindTree) (v : ValueTree) → emptied k ≡ emptied l → length (canon l v) ≤ 18 * length (canon k v)
+leaf_grows k l v e = let h = ap length (same_spelling k l v e) in omega arith
+
+mutual
+  pub grows : (k : KindTree) → InBounds k → Grows k
+  grows (compound ss) b (compound ts) (marked es) e d w h =
+      let old = enough (slot_count ss) b.0 in
+      let p = at_least (octets_needed (slot_count ss)) (marks_of 1 ss es) old.0 in
+      let q = at_most (octets_needed (slot_count ts)) (marks_of 1 ts (moved_entries 1 ts ss es)) in
+      let r = entries_grow 1 ss es ts b.2 h d w.2 in
+      omega (
+        arith,
+        length-append (least_presence (octets_needed (slot_count ss)) (marks_of 1 ss es)) (entries_canon 1 ss es),
+        length-append (least_presence (octets_needed (slot_count ts)) (marks_of 1 ts (moved_entries 1 ts ss es))) (entries_canon 1 ts (moved_entries 1 ts ss es)),
+        moved_bits 1 ts ss es h,
+        w.1,
+      )
+  grows (compound ss) b (compound ts) _ e d w h = absurd h
+  grows (fixed f) b (fixed g) v e d w h = leaf_grows (fixed f) (fixed g) v (same_kinds (fixed f) (fixed g) e)
+  grows (extended ps) b (extended qs) v e d w h = leaf_grows (extended ps) (extended qs) v (same_kinds (extended ps) (extended qs) e)
+  grows (counted k) b (counted l) v e d w h = leaf_grows (counted k) (counted l) v (same_kinds (counted k) (counted l) e)
+  grows (by_fx f) b (by_fx g) v e d w h = leaf_grows (by_fx f) (by_fx g) v (same_kinds (by_fx f) (by_fx g) e)
+  grows explicit b explicit v e d w h = leaf_grows explicit explicit v refl
+  grows _ b _ v e d w h = cc
+
+  entries_grow : (n : ℕ) (ss : SlotsTree) (es : EntriesTree) (ts : SlotsTree) → SlotsInBounds ss → EntriesShape n ss es → SlotsDistinct [] ts → SlotsInBounds ts
+      → total (bits_from n ss es) ts ≤ 18 * length (entries_canon n ss es)
+  entries_grow n no_slots es ts b h d w = let e = total_none (bits_from n no_slots es) (λ name l. refl) ts in omega arith
+  entries_grow n (slot_and spare_slot ss) es ts b h d w = entries_grow (n + 1) ss es ts b h d w
+  entries_grow n (slot_and (subitem own k) ss) es ts b h d w =
+      let f = front_of n own k ss es h in
+      let grow = grows k b.0 in
+      let t = total_once (bits_from n (slot_and (subitem own k) ss) es) (bits_from (n + 1) ss f.rest) own (other_name n own k ss es f grow) (18 * bits_where k f.here) (same_name n own k ss es f grow) [] ts d w in
+      let r = entries_grow (n + 1) ss f.rest ts b.1 f.later d w in
+      let c = ap (λ x. length (entries_canon n (slot_and (subitem own k) ss) x)) f.is ∙ entries_front n own k ss f.here f.rest f.later in omega arith

@@ -1,0 +1,14 @@
+pub mod Distinct
+pub mod DistinctNames
+pub mod Grows
+pub mod Lookups
+pub mod Losses
+pub mod MovedNamed
+pub mod MovedShape
+pub mod NamedOnce
+pub mod Once
+pub mod PathPlaces
+pub mod PlacedPaths
+pub mod PresentPaths
+pub mod SameKinds
+pub mod SmallBlocks

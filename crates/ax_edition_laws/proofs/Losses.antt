@@ -1,0 +1,158 @@
+-- Each path that is present is kept, or lost once.
+use Rattle.std.proofs.Common.{◌≡◌, ℕ, ◌+◌, inl, inr, Bool, true, false, cond, ◌&&◌, ◌||◌, not, bytes_eq, is_some, List, [], ◌∷◌, ◌++◌, map, filter, Option, Some, None, option_and_then, refl, ◌∙◌, ap, arith}
+use Rattle.ax_edition_laws.proofs.NamedOnce.{own_name, not_again}
+use Rattle.ax_edition_laws.proofs.SameKinds.{bytes_same, both}
+use Rattle.ax_edition_laws.proofs.Distinct.{Distinct, SlotsDistinct}
+use Rattle.ax_edition_laws.specs.Fates.{is_path, times, KeptOrLost}
+use Rattle.ax_model.specs.At.{slot_value}
+use Rattle.ax_model.specs.Flaws.{is_among}
+use Rattle.ax_model.specs.Migrated.{Migrated, is_lost, Lost, kept_where}
+use Rattle.ax_model.specs.Named.{NamedEntry, paths_of, slot_paths, named_paths, kind_at, entry_at, Named}
+use Rattle.ax_model.specs.Naming.{found_or, slot_named}
+use Rattle.ax_model.specs.Shared.{Shared}
+use Rattle.ax_model.specs.Specification.{SpecTree, record_slots, record_kind}
+use Rattle.ax_model.specs.Tree.{KindTree, fixed, extended, counted, by_fx, explicit, compound, SlotsTree, no_slots, slot_and, spare_slot, subitem, ValueTree, marked, EntriesTree}
+
+-- ---- counts
+
+differ_back : (a b : List ℕ) → bytes_eq a b ≡ false → bytes_eq b a ≡ false
+differ_back a b e = by (bytes_eq b a) refl
+  where
+    by : (c : Bool) → bytes_eq b a ≡ c → c ≡ false
+    by true q = let same = ap (bytes_eq a) (bytes_same b a q) ∙ own_name a in cc
+    by false q = refl
+
+pub path_is : (a b : List (List ℕ)) → is_path a b ≡ true → a ≡ b
+path_is [] [] e = refl
+path_is [] (n ∷ b) e = cc
+path_is (m ∷ a) [] e = cc
+path_is (m ∷ a) (n ∷ b) e =
+    let t = both (bytes_eq m n) (is_path a b) e in
+    let p = bytes_same m n t.0 in
+    let q = path_is a b t.1 in λ i. p i ∷ q i
+
+times_append : (path : List (List ℕ)) (xs ys : List (List (List ℕ))) → times path (xs ++ ys) ≡ times path xs + times path ys
+times_append path [] ys = omega arith
+times_append path (x ∷ xs) ys = by (is_path path x) (times_append path xs ys)
+  where
+    by : (b : Bool) → times path (xs ++ ys) ≡ times path xs + times path ys
+        → cond b (times path (xs ++ ys) + 1) (times path (xs ++ ys)) ≡ cond b (times path xs + 1) (times path xs) + times path ys
+    by true h = omega arith
+    by false h = h
+
+-- among paths below a name
+times_below : (name own : List ℕ) (names : List (List ℕ)) (xs : List (List (List ℕ))) → times (name ∷ names) (map (λ path. own ∷ path) xs) ≡ cond (bytes_eq name own) (times names xs) 0
+times_below name own names xs = by (bytes_eq name own) refl xs
+  where
+    by : (b : Bool) → bytes_eq name own ≡ b → (xs : List (List (List ℕ))) → times (name ∷ names) (map (λ path. own ∷ path) xs) ≡ cond b (times names xs) 0
+    by true e [] = refl
+    by true e (x ∷ xs) = λ i. cond (e i && is_path names x) (by true e xs i + 1) (by true e xs i)
+    by false e [] = refl
+    by false e (x ∷ xs) = (λ i. cond (e i && is_path names x) (times (name ∷ names) (map (λ path. own ∷ path) xs) + 1) (times (name ∷ names) (map (λ path. own ∷ path) xs))) ∙ by false e xs
+
+none_empty : (ss : SlotsTree) → times [] (slot_paths ss) ≡ 0
+none_empty no_slots = refl
+none_empty (slot_and spare_slot ss) = none_empty ss
+none_empty (slot_and (subitem name k) ss) = times_append [] (map (λ path. name ∷ path) (paths_of k)) (slot_paths ss) ∙ (λ i. named (paths_of k) i + none_empty ss i)
+  where
+    named : (xs : List (List (List ℕ))) → times [] (map (λ path. name ∷ path) xs) ≡ 0
+    named [] = refl
+    named (x ∷ xs) = named xs
+
+-- a name that no slot has
+none_named : (n : ℕ) (name : List ℕ) (names : List (List ℕ)) (ss : SlotsTree) → slot_named n name ss ≡ None → times (name ∷ names) (slot_paths ss) ≡ 0
+none_named n name names no_slots e = refl
+none_named n name names (slot_and spare_slot ss) e = none_named (n + 1) name names ss e
+none_named n name names (slot_and (subitem own k) ss) e =
+    times_append (name ∷ names) (map (λ path. own ∷ path) (paths_of k)) (slot_paths ss) ∙ by (bytes_eq own name) refl (λ f. none_named (n + 1) name names ss f) e
+  where
+    by : (b : Bool) → bytes_eq own name ≡ b → (slot_named (n + 1) name ss ≡ None → times (name ∷ names) (slot_paths ss) ≡ 0)
+        → found_or (cond b (Some k) None) n (slot_named (n + 1) name ss) ≡ None
+        → times (name ∷ names) (map (λ path. own ∷ path) (paths_of k)) + times (name ∷ names) (slot_paths ss) ≡ 0
+    by true q later e = cc
+    by false q later e = (λ i. (times_below name own names (paths_of k) ∙ ap (λ b. cond b (times names (paths_of k)) 0) (differ_back own name q)) i + later e i)
+
+this_or_later : (n : ℕ) (earlier : List (List ℕ)) (own name : List ℕ) (names : List (List ℕ)) (k : KindTree) (ss : SlotsTree) → SlotsDistinct (own ∷ earlier) ss
+    → (is_some (kind_at names k) ≡ true → times names (paths_of k) ≡ 1)
+    → (is_some (option_and_then (λ s. kind_at names s.1) (slot_named (n + 1) name ss)) ≡ true → times (name ∷ names) (slot_paths ss) ≡ 1)
+    → (b : Bool) → bytes_eq own name ≡ b → is_some (option_and_then (λ s. kind_at names s.1) (found_or (cond b (Some k) None) n (slot_named (n + 1) name ss))) ≡ true
+    → times (name ∷ names) (map (λ path. own ∷ path) (paths_of k)) + times (name ∷ names) (slot_paths ss) ≡ 1
+this_or_later n earlier own name names k ss d here later true q e =
+    let same : bytes_eq name own ≡ true = ap (bytes_eq name) (bytes_same own name q) ∙ own_name name in
+    let again : is_among name (own ∷ earlier) ≡ true = ap (λ b. b || is_among name earlier) same in
+    let first = times_below name own names (paths_of k) ∙ ap (λ b. cond b (times names (paths_of k)) 0) same ∙ here e in
+    let rest = none_named (n + 1) name names ss (not_again (n + 1) name (own ∷ earlier) ss again d) in omega arith
+this_or_later n earlier own name names k ss d here later false q e =
+    let first = times_below name own names (paths_of k) ∙ ap (λ b. cond b (times names (paths_of k)) 0) (differ_back own name q) in
+    let rest = later e in omega arith
+
+-- a path that leads to a kind stands once among those from there on
+mutual
+  path_once : (names : List (List ℕ)) (k : KindTree) → Distinct k → is_some (kind_at names k) ≡ true → times names (paths_of k) ≡ 1
+  path_once [] (compound ss) d e = ap (λ n. n + 1) (none_empty ss)
+  path_once (name ∷ names) (compound ss) d e = slot_once 1 [] name names ss d e
+  path_once [] (fixed f) d e = refl
+  path_once [] (extended ps) d e = refl
+  path_once [] (counted k) d e = refl
+  path_once [] (by_fx f) d e = refl
+  path_once [] explicit d e = refl
+  path_once (name ∷ names) _ d e = cc
+
+  pub slot_once : (n : ℕ) (earlier : List (List ℕ)) (name : List ℕ) (names : List (List ℕ)) (ss : SlotsTree) → SlotsDistinct earlier ss
+      → is_some (option_and_then (λ s. kind_at names s.1) (slot_named n name ss)) ≡ true → times (name ∷ names) (slot_paths ss) ≡ 1
+  slot_once n earlier name names no_slots d e = cc
+  slot_once n earlier name names (slot_and spare_slot ss) d e = slot_once (n + 1) earlier name names ss d e
+  slot_once n earlier name names (slot_and (subitem own k) ss) d e =
+      times_append (name ∷ names) (map (λ path. own ∷ path) (paths_of k)) (slot_paths ss)
+      ∙ this_or_later n earlier own name names k ss d.2 (path_once names k d.1) (slot_once (n + 1) (own ∷ earlier) name names ss d.2) (bytes_eq own name) refl e
+
+-- what is present leads to a kind
+leads : (names : List (List ℕ)) (k : KindTree) (v : ValueTree) (entry : NamedEntry) → entry_at names k v ≡ Some entry → is_some (kind_at names k) ≡ true
+leads [] k v entry e = refl
+leads (name ∷ names) (compound ss) (marked es) entry e = by_slot (λ s v f. leads names s.1 v entry f) (slot_named 1 name ss) e
+  where
+    by_value : (s : ℕ × KindTree) (o : Option ValueTree) → ((v : ValueTree) → entry_at names s.1 v ≡ Some entry → is_some (kind_at names s.1) ≡ true) → option_and_then (entry_at names s.1) o ≡ Some entry → is_some (kind_at names s.1) ≡ true
+    by_value s None below e = cc
+    by_value s (Some v) below e = below v e
+
+    by_slot : ((s : ℕ × KindTree) (v : ValueTree) → entry_at names s.1 v ≡ Some entry → is_some (kind_at names s.1) ≡ true) → (o : Option (ℕ × KindTree)) → option_and_then (λ s. option_and_then (entry_at names s.1) (slot_value s.0 es)) o ≡ Some entry → is_some (option_and_then (λ s. kind_at names s.1) o) ≡ true
+    by_slot below None e = cc
+    by_slot below (Some s) e = by_value s (slot_value s.0 es) (below s) e
+leads (name ∷ names) _ v entry e = cc
+
+-- a filter keeps what passes
+times_kept : (test : List (List ℕ) → Bool) (path : List (List ℕ)) (xs : List (List (List ℕ))) → times path (filter test xs) ≡ cond (test path) (times path xs) 0
+times_kept test path [] = by (test path)
+  where
+    by : (b : Bool) → times path [] ≡ cond b (times path []) 0
+    by true = refl
+    by false = refl
+times_kept test path (x ∷ xs) = by (test x) (test path) (is_path path x) refl refl refl (times_kept test path xs)
+  where
+    by : (b c d : Bool) → test x ≡ b → test path ≡ c → is_path path x ≡ d → times path (filter test xs) ≡ cond c (times path xs) 0
+        → times path (cond b (x ∷ filter test xs) (filter test xs)) ≡ cond c (cond d (times path xs + 1) (times path xs)) 0
+    by true true d p q r h = (λ i. cond (r i) (h i + 1) (h i))
+    by true false true p q r h = let same = ap test (path_is path x r) in cc
+    by true false false p q r h = ap (λ y. cond y (times path (filter test xs) + 1) (times path (filter test xs))) r ∙ h
+    by false true true p q r h = let same = ap test (path_is path x r) in cc
+    by false true false p q r h = h
+    by false false d p q r h = h
+
+pub kept_or_lost : (old new : SpecTree) (es made : EntriesTree) (path : List (List ℕ)) (entry : NamedEntry) → Distinct (record_kind old) → Migrated old new es made → Named old es path ≡ Some entry
+    → KeptOrLost old new es made path entry
+kept_or_lost old new es made [] entry d m e = cc
+kept_or_lost old new es made (name ∷ names) entry d m e = by (Shared old new (name ∷ names)) refl
+  where
+    once : times (name ∷ names) (named_paths old) ≡ 1
+    once = slot_once 1 [] name names (record_slots old) d (leads (name ∷ names) (record_kind old) (marked es) entry e)
+
+    lost : times (name ∷ names) (Lost old new es) ≡ cond (not (Shared old new (name ∷ names))) (times (name ∷ names) (named_paths old)) 0
+    lost = times_kept (is_lost old new es) (name ∷ names) (named_paths old) ∙ ap (λ o. cond (is_some o && not (Shared old new (name ∷ names))) (times (name ∷ names) (named_paths old)) 0) e
+
+    by : (b : Bool) → Shared old new (name ∷ names) ≡ b → KeptOrLost old new es made (name ∷ names) entry
+    by true s = inl (m.named (name ∷ names) ∙ (λ i. kept_where (s i) (e i)), lost ∙ ap (λ b. cond (not b) (times (name ∷ names) (named_paths old)) 0) s)
+    by false s = inr (m.named (name ∷ names) ∙ ap (λ b. kept_where b (Named old es (name ∷ names))) s, lost ∙ ap (λ b. cond (not b) (times (name ∷ names) (named_paths old)) 0) s ∙ once)
+
+-- what is lost was present
+pub lost_present : (old new : SpecTree) (es : EntriesTree) (path : List (List ℕ)) → Named old es path ≡ None → times path (Lost old new es) ≡ 0
+lost_present old new es path e = times_kept (is_lost old new es) path (named_paths old) ∙ ap (λ o. cond (is_some o && not (Shared old new path)) (times path (named_paths old)) 0) e

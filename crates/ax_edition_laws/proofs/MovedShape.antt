@@ -1,0 +1,164 @@
+-- The moved value has the new kind's shape.
+use Rattle.std.proofs.Common.{◌≡◌, ℕ, ◌+◌, ◌<◌, ◌≤◌, ◌==◌, MatchBool, Bool, true, false, cond, bytes_eq, List, [], ◌∷◌, map, Option, Some, None, option_map, option_and_then, refl, sym, ◌∙◌, ap, arith, subst}
+use Rattle.std.proofs.lemmas.Bool.{eqb-true}
+use Rattle.ax_edition_laws.proofs.Lookups.{equal, less, more, found_is, named_from}
+use Rattle.ax_edition_laws.proofs.MovedNamed.{source_value, new_value}
+use Rattle.ax_edition_laws.proofs.SameKinds.{same_kinds}
+use Rattle.ax_edition_laws.specs.Moved.{entry_where, moved, moved_entries}
+use Rattle.ax_model.specs.At.{slot_value}
+use Rattle.ax_model.specs.Naming.{found_or, slot_named}
+use Rattle.ax_model.specs.Same.{emptied_fixed, emptied_members, emptied, emptied_slots}
+use Rattle.ax_model.specs.Shape.{NumberShape, FixedShape, MembersShape, PartsShape, EachShape, Shape, EntriesShape}
+use Rattle.ax_model.specs.Shared.{is_shared_kind}
+use Rattle.ax_model.specs.Tree.{FixedTree, element, group, MembersTree, no_members, member_and, named, spare, KindTree, fixed, extended, counted, by_fx, explicit, compound, SlotsTree, no_slots, slot_and, spare_slot, subitem, ValueTree, member_values, part_values, occurrences, marked, ValuesTree, no_values, value_and, value_count, ListsTree, no_lists, list_and, EntriesTree, no_entries, entry_and}
+
+-- ---- the shape doesn't depend on tables
+
+mutual
+  fixed_shape : (f : FixedTree) (v : ValueTree) → FixedShape (emptied_fixed f) v ≡ FixedShape f v
+  fixed_shape (element w c) v = refl
+  fixed_shape (group ms) (member_values vs) = members_shape ms vs
+  fixed_shape (group ms) _ = refl
+
+  members_shape : (ms : MembersTree) (vs : ValuesTree) → MembersShape (emptied_members ms) vs ≡ MembersShape ms vs
+  members_shape no_members no_values = refl
+  members_shape no_members (value_and v vs) = refl
+  members_shape (member_and (named name f) ms) no_values = refl
+  members_shape (member_and (spare w) ms) no_values = refl
+  members_shape (member_and (named name f) ms) (value_and v vs) = λ i. fixed_shape f v i × members_shape ms vs i
+  members_shape (member_and (spare w) ms) (value_and v vs) = λ i. NumberShape w v × members_shape ms vs i
+
+parts_shape : (ps : List MembersTree) (ls : ListsTree) → PartsShape (map emptied_members ps) ls ≡ PartsShape ps ls
+parts_shape [] no_lists = refl
+parts_shape (p ∷ ps) no_lists = refl
+parts_shape [] (list_and vs ls) = refl
+parts_shape (p ∷ ps) (list_and vs no_lists) = members_shape p vs
+parts_shape (p ∷ ps) (list_and vs (list_and ws ls)) = λ i. members_shape p vs i × parts_shape ps (list_and ws ls) i
+
+mutual
+  emptied_shape : (k : KindTree) (v : ValueTree) → Shape (emptied k) v ≡ Shape k v
+  emptied_shape (fixed f) v = fixed_shape f v
+  emptied_shape (extended ps) (part_values ls) = parts_shape ps ls
+  emptied_shape (extended ps) _ = refl
+  emptied_shape (counted k) (occurrences vs) = λ i. (value_count vs < 256) × EachShape (λ v. emptied_shape k v i) vs
+  emptied_shape (counted k) _ = refl
+  emptied_shape (by_fx f) (occurrences vs) = λ i. (0 < value_count vs) × EachShape (λ v. fixed_shape f v i) vs
+  emptied_shape (by_fx f) _ = refl
+  emptied_shape explicit v = refl
+  emptied_shape (compound ss) (marked es) = entries_shape 1 ss es
+  emptied_shape (compound ss) _ = refl
+
+  entries_shape : (s : ℕ) (ss : SlotsTree) (es : EntriesTree) → EntriesShape s (emptied_slots ss) es ≡ EntriesShape s ss es
+  entries_shape s no_slots no_entries = refl
+  entries_shape s no_slots (entry_and t v es) = refl
+  entries_shape s (slot_and spare_slot ss) es = entries_shape (s + 1) ss es
+  entries_shape s (slot_and (subitem name k) ss) no_entries = entries_shape (s + 1) ss no_entries
+  entries_shape s (slot_and (subitem name k) ss) (entry_and t v es) =
+      λ i. MatchBool (t == s) (emptied_shape k v i × entries_shape (s + 1) ss es i) (entries_shape (s + 1) ss (entry_and t v es) i)
+
+pub same_shape : (k l : KindTree) (v : ValueTree) → emptied k ≡ emptied l → Shape k v → Shape l v
+same_shape k l v e h =
+    let Q : Type 0 → Type 0 = λ t. t in
+    let R : KindTree → Type 0 = λ x. Shape x v in subst Q (emptied_shape l v) (subst R e (subst Q (sym (emptied_shape k v)) h))
+
+-- ---- entries
+
+-- entries begin at the first slot's number or later
+pub entries_from : (s : ℕ) (ss : SlotsTree) (t : ℕ) (v : ValueTree) (es : EntriesTree) → EntriesShape s ss (entry_and t v es) → s ≤ t
+entries_from s no_slots t v es h = absurd h
+entries_from s (slot_and spare_slot ss) t v es h = let le = entries_from (s + 1) ss t v es h in omega arith
+entries_from s (slot_and (subitem name k) ss) t v es h = by (t == s) refl (λ g. entries_from (s + 1) ss t v es g) h
+  where
+    by : (b : Bool) → (t == s) ≡ b → (EntriesShape (s + 1) ss (entry_and t v es) → s + 1 ≤ t) → MatchBool b (Shape k v × EntriesShape (s + 1) ss es) (EntriesShape (s + 1) ss (entry_and t v es)) → s ≤ t
+    by true e later h = let q = eqb-true t s e in omega arith
+    by false e later h = let q = later h in omega arith
+
+-- no entry stands before the first slot
+pub none_before : (u s : ℕ) (ss : SlotsTree) (es : EntriesTree) → u < s → EntriesShape s ss es → slot_value u es ≡ None
+none_before u s no_slots no_entries h p = refl
+none_before u s no_slots (entry_and t v es) h p = absurd p
+none_before u s (slot_and spare_slot ss) es h p = none_before u (s + 1) ss es (omega arith) p
+none_before u s (slot_and (subitem name k) ss) no_entries h p = refl
+none_before u s (slot_and (subitem name k) ss) (entry_and t v es) h p = by (t == s) refl (λ g. none_before u (s + 1) ss es (omega arith) g) (λ g. none_before u (s + 1) ss (entry_and t v es) (omega arith) g) p
+  where
+    by : (b : Bool) → (t == s) ≡ b → (EntriesShape (s + 1) ss es → slot_value u es ≡ None) → (EntriesShape (s + 1) ss (entry_and t v es) → slot_value u (entry_and t v es) ≡ None)
+        → MatchBool b (Shape k v × EntriesShape (s + 1) ss es) (EntriesShape (s + 1) ss (entry_and t v es)) → slot_value u (entry_and t v es) ≡ None
+    by true e rest all p = let q = eqb-true t s e in ap (λ b. cond b (Some v) (slot_value u es)) (less u t (omega arith)) ∙ rest p.1
+    by false e rest all p = all p
+
+-- a value that is there has its slot's kind
+pub slot_shape : (n : ℕ) (name : List ℕ) (ss : SlotsTree) (es : EntriesTree) (s : ℕ) (k : KindTree) (v : ValueTree)
+    → slot_named n name ss ≡ Some (s, k) → EntriesShape n ss es → slot_value s es ≡ Some v → Shape k v
+slot_shape n name no_slots es s k v e p q = cc
+slot_shape n name (slot_and spare_slot ss) es s k v e p q = slot_shape (n + 1) name ss es s k v e p q
+slot_shape n name (slot_and (subitem own l) ss) no_entries s k v e p q = cc
+slot_shape n name (slot_and (subitem own l) ss) (entry_and t w es) s k v e p q =
+    by (bytes_eq own name) (t == n) refl e (λ f g r. slot_shape (n + 1) name ss es s k v f g r) (λ f g r. slot_shape (n + 1) name ss (entry_and t w es) s k v f g r) p
+  where
+    by : (b c : Bool) → (t == n) ≡ c → found_or (cond b (Some l) None) n (slot_named (n + 1) name ss) ≡ Some (s, k)
+        → (slot_named (n + 1) name ss ≡ Some (s, k) → EntriesShape (n + 1) ss es → slot_value s es ≡ Some v → Shape k v)
+        → (slot_named (n + 1) name ss ≡ Some (s, k) → EntriesShape (n + 1) ss (entry_and t w es) → slot_value s (entry_and t w es) ≡ Some v → Shape k v)
+        → MatchBool c (Shape l w × EntriesShape (n + 1) ss es) (EntriesShape (n + 1) ss (entry_and t w es)) → Shape k v
+    by true true c e rest all p =
+        let f = found_is (n, l) (s, k) e in
+        let w_is : w ≡ v = let h = sym (ap (λ b. cond b (Some w) (slot_value s es)) (equal t s (eqb-true t n c ∙ f.0))) ∙ q in cc in
+        let P : KindTree → Type 0 = λ x. Shape x w in
+        let R : ValueTree → Type 0 = λ x. Shape k x in subst R w_is (subst P f.1 p.0)
+    by true false c e rest all p =
+        let f = found_is (n, l) (s, k) e in
+        let none = none_before s (n + 1) ss (entry_and t w es) (let g = f.0 in omega arith) p in
+        cc
+    by false true c e rest all p =
+        let le = named_from (n + 1) name ss s k e in
+        let at = eqb-true t n c in
+        rest e p.1 (sym (ap (λ b. cond b (Some w) (slot_value s es)) (more t s (omega arith))) ∙ q)
+    by false false c e rest all p = all e p q
+
+-- ---- the moved value
+
+-- behind a slot, entries of later slots are entries from it on
+pub behind : (n : ℕ) (name : List ℕ) (l : KindTree) (ts : SlotsTree) (es : EntriesTree) → EntriesShape (n + 1) ts es → EntriesShape n (slot_and (subitem name l) ts) es
+behind n name l ts no_entries h = h
+behind n name l ts (entry_and t v es) h =
+    let P : Bool → Type 0 = λ b. MatchBool b (Shape l v × EntriesShape (n + 1) ts es) (EntriesShape (n + 1) ts (entry_and t v es)) in
+    let le = entries_from (n + 1) ts t v es h in subst P (sym (less n t (omega arith))) h
+
+-- an entry of this slot in front of them too
+pub in_front : (n : ℕ) (name : List ℕ) (l : KindTree) (ts : SlotsTree) (o : Option ValueTree) (es : EntriesTree) → ((v : ValueTree) → o ≡ Some v → Shape l v) → EntriesShape (n + 1) ts es
+    → EntriesShape n (slot_and (subitem name l) ts) (entry_where n o es)
+in_front n name l ts None es one h = behind n name l ts es h
+in_front n name l ts (Some v) es one h =
+    let P : Bool → Type 0 = λ b. MatchBool b (Shape l v × EntriesShape (n + 1) ts es) (EntriesShape (n + 1) ts (entry_and n v es)) in
+    subst P (sym (equal n n refl)) (one v refl, h)
+
+new_shape : (name : List ℕ) (l : KindTree) (ss : SlotsTree) (es : EntriesTree) → EntriesShape 1 ss es → ((k : KindTree) (w : ValueTree) → is_shared_kind k l ≡ true → Shape k w → Shape l (moved l k w))
+    → (v : ValueTree) → new_value name l ss es ≡ Some v → Shape l v
+new_shape name l ss es h shape v e = by_slot (slot_named 1 name ss) refl e
+  where
+    by_value : (s : ℕ × KindTree) (o : Option ValueTree) (b : Bool) → slot_named 1 name ss ≡ Some s → slot_value s.0 es ≡ o → is_shared_kind s.1 l ≡ b → cond b (option_map (moved l s.1) o) None ≡ Some v → Shape l v
+    by_value s None true found at shared e = cc
+    by_value s (Some w) true found at shared e =
+        let w_is : moved l s.1 w ≡ v = cc in
+        let P : ValueTree → Type 0 = λ x. Shape l x in subst P w_is (shape s.1 w shared (slot_shape 1 name ss es s.0 s.1 w found h at))
+    by_value s o false found at shared e = cc
+
+    by_slot : (o : Option (ℕ × KindTree)) → slot_named 1 name ss ≡ o → option_and_then (source_value l es) o ≡ Some v → Shape l v
+    by_slot None found e = cc
+    by_slot (Some s) found e = by_value s (slot_value s.0 es) (is_shared_kind s.1 l) found refl refl e
+
+mutual
+  pub moved_shape : (l k : KindTree) (v : ValueTree) → is_shared_kind k l ≡ true → Shape k v → Shape l (moved l k v)
+  moved_shape (compound ts) (compound ss) (marked es) e h = entries_moved 1 ts ss es h
+  moved_shape (compound ts) (compound ss) _ e h = absurd h
+  moved_shape (fixed g) (fixed f) v e h = same_shape (fixed f) (fixed g) v (same_kinds (fixed f) (fixed g) e) h
+  moved_shape (extended qs) (extended ps) v e h = same_shape (extended ps) (extended qs) v (same_kinds (extended ps) (extended qs) e) h
+  moved_shape (counted l) (counted k) v e h = same_shape (counted k) (counted l) v (same_kinds (counted k) (counted l) e) h
+  moved_shape (by_fx g) (by_fx f) v e h = same_shape (by_fx f) (by_fx g) v (same_kinds (by_fx f) (by_fx g) e) h
+  moved_shape explicit explicit v e h = h
+  moved_shape _ _ v e h = cc
+
+  pub entries_moved : (n : ℕ) (ts ss : SlotsTree) (es : EntriesTree) → EntriesShape 1 ss es → EntriesShape n ts (moved_entries n ts ss es)
+  entries_moved n no_slots ss es h = tt
+  entries_moved n (slot_and spare_slot ts) ss es h = entries_moved (n + 1) ts ss es h
+  entries_moved n (slot_and (subitem name l) ts) ss es h =
+      in_front n name l ts (new_value name l ss es) (moved_entries (n + 1) ts ss es) (new_shape name l ss es h (λ k w. moved_shape l k w)) (entries_moved (n + 1) ts ss es h)

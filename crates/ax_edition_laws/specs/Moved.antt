@@ -1,0 +1,28 @@
+-- The migrated value as it is made, slot by slot of the new edition.
+use Rattle.std.specs.Prelude.{ℕ, ◌+◌, if◌then◌else◌, Option, Some, None, option_map, option_and_then}
+use Rattle.ax_model.specs.At.{slot_value}
+use Rattle.ax_model.specs.Naming.{slot_named}
+use Rattle.ax_model.specs.Shared.{is_shared_kind}
+use Rattle.ax_model.specs.Specification.{SpecTree, record_slots}
+use Rattle.ax_model.specs.Tree.{KindTree, compound, SlotsTree, no_slots, slot_and, spare_slot, subitem, ValueTree, marked, EntriesTree, no_entries, entry_and}
+
+-- an entry for slot t in front of others, if there is a value
+abbrev pub entry_where : ℕ → Option ValueTree → EntriesTree → EntriesTree
+entry_where t None es = es
+entry_where t (Some v) es = entry_and t v es
+
+abbrev mutual
+  -- of a value of the second kind, for the first
+  pub moved : KindTree → KindTree → ValueTree → ValueTree
+  moved (compound ts) (compound ss) (marked es) = marked (moved_entries 1 ts ss es)
+  moved _ _ v = v
+
+  -- the first of the new slots has the number t
+  pub moved_entries : ℕ → SlotsTree → SlotsTree → EntriesTree → EntriesTree
+  moved_entries t no_slots ss es = no_entries
+  moved_entries t (slot_and spare_slot ts) ss es = moved_entries (t + 1) ts ss es
+  moved_entries t (slot_and (subitem name l) ts) ss es =
+      entry_where t (option_and_then (λ s. if is_shared_kind s.1 l then option_map (moved l s.1) (slot_value s.0 es) else None) (slot_named 1 name ss)) (moved_entries (t + 1) ts ss es)
+
+abbrev pub moved_record : SpecTree → SpecTree → EntriesTree → EntriesTree
+moved_record old new entries = moved_entries 1 (record_slots new) (record_slots old) entries

@@ -1,0 +1,161 @@
+//! One item of two editions, with one thing changed.
+
+use crate::texts::{lost_told, related};
+use std::alloc::Global;
+use std::test::Fail;
+
+/// A file with one item of that kind, and an item that isn't in the UAP.
+fn file_of(alloc: Global, title: &str, kind: &str) -> Result<String, Fail> {
+    if title.len() > 1000 || kind.len() > 1000 {
+        return Err(Fail::from("the kind is too long"));
+    }
+    Ok(format!(in alloc;
+        "category 202 edition \"X\" items {{ item 020 \"\" element 8 raw item 010 \"{title}\" {kind} }} uap {{ - 010 }}"
+    )?)
+}
+
+#[test]
+fn what_changes_a_kind(rt: HostRuntime) -> Result<(), Fail> {
+    let alloc = rt.alloc();
+    for (old, new, wanted) in [
+        ("element 8 raw", "element 16 raw", "202/010 0 shared"),
+        ("element 8 raw", "element 8 ascii", "202/010 0 shared"),
+        ("element 8 raw", "element 8 table { }", "202/010 0 shared"),
+        (
+            "element 8 raw",
+            "group { A element 8 raw }",
+            "202/010 0 shared",
+        ),
+        (
+            "element 8 raw",
+            "compound { A element 8 raw }",
+            "202/010 0 shared",
+        ),
+        (
+            "element 8 integer unsigned",
+            "element 8 integer signed",
+            "202/010 0 shared",
+        ),
+        (
+            "element 8 quantity signed 1 4 \"m\"",
+            "element 8 quantity signed 1 4 \"m\"",
+            "1 shared",
+        ),
+        (
+            "element 8 quantity signed 1 4 \"m\"",
+            "element 8 quantity unsigned 1 4 \"m\"",
+            "202/010 0 shared",
+        ),
+        (
+            "element 8 quantity signed 1 4 \"m\"",
+            "element 8 quantity signed 2 4 \"m\"",
+            "202/010 0 shared",
+        ),
+        (
+            "element 8 quantity signed 1 4 \"m\"",
+            "element 8 quantity signed 1 8 \"m\"",
+            "202/010 0 shared",
+        ),
+        (
+            "element 8 quantity signed 1 4 \"m\"",
+            "element 8 quantity signed 2 8 \"m\"",
+            "202/010 0 shared",
+        ),
+        (
+            "element 8 quantity signed 1 4 \"m\"",
+            "element 8 quantity signed 1 4 \"s\"",
+            "202/010 0 shared",
+        ),
+        (
+            "element 8 table { 1 \"one\" }",
+            "element 8 table { 2 \"two\" }",
+            "1 shared",
+        ),
+        (
+            "element 8 table { 1 \"one\" }",
+            "element 8 table { }",
+            "1 shared",
+        ),
+        (
+            "group { A element 4 raw B element 4 raw }",
+            "group { B element 4 raw A element 4 raw }",
+            "202/010 0 shared",
+        ),
+        (
+            "group { A element 4 raw B element 4 raw }",
+            "group { A element 4 raw C element 4 raw }",
+            "202/010 0 shared",
+        ),
+        (
+            "group { spare 3 A element 4 raw spare 1 }",
+            "group { spare 2 A element 4 raw spare 2 }",
+            "202/010 0 shared",
+        ),
+        (
+            "group { spare 4 A element 4 raw }",
+            "group { B element 4 raw A element 4 raw }",
+            "202/010 0 shared",
+        ),
+        (
+            "extended { part { A element 7 raw } }",
+            "extended { part { A element 7 raw } part { B element 7 raw } }",
+            "202/010 0 shared",
+        ),
+        (
+            "byfx element 7 raw",
+            "counted { element 8 raw }",
+            "202/010 0 shared",
+        ),
+        (
+            "counted { element 8 raw }",
+            "counted { element 16 raw }",
+            "202/010 0 shared",
+        ),
+        (
+            "counted { compound { A element 8 raw } }",
+            "counted { compound { B element 8 raw } }",
+            "202/010 0 shared",
+        ),
+        ("explicit", "explicit", "1 shared"),
+        (
+            "compound { A element 8 raw }",
+            "compound { - A element 8 raw B explicit }",
+            "2 shared",
+        ),
+        (
+            "compound { A compound { B explicit } }",
+            "compound { A compound { C explicit } }",
+            "202/010/A/B 2 shared",
+        ),
+    ] {
+        let relation = related(
+            alloc,
+            file_of(alloc, "", old)?.as_str(),
+            file_of(alloc, "a title", new)?.as_str(),
+        )?;
+        assert_eq!(rt;
+            lost_told(alloc, &relation)?.as_str(),
+            wanted,
+            "of {old} and {new}"
+        );
+    }
+    Ok(())
+}
+
+// An item stands where the UAP has it; one that the UAP doesn't use has no path.
+#[test]
+fn items_outside_the_uap_have_no_path(rt: HostRuntime) -> Result<(), Fail> {
+    let alloc = rt.alloc();
+    let used =
+        "category 202 edition \"X\" items { item 010 \"\" explicit item 020 \"\" explicit } uap { 010 020 }";
+    let unused =
+        "category 202 edition \"Y\" items { item 010 \"\" explicit item 020 \"\" explicit } uap { 020 }";
+    for (old, new, wanted) in [
+        (used, unused, "202/010 1 shared"),
+        (unused, used, "1 shared"),
+    ] {
+        let relation = related(alloc, old, new)?;
+        assert_eq!(rt; lost_told(alloc, &relation)?.as_str(), wanted);
+    }
+    Ok(())
+}

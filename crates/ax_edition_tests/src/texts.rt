@@ -1,0 +1,73 @@
+//! Relations of specifications from texts, and what they tell as texts.
+
+use ax_check::{Accepted, accept};
+use ax_edition::{Move, Moves, Relation, RelationPath, relate};
+use ax_grammar::read_spec;
+use ax_model::{Path, Place};
+use ax_tokens::tokens;
+use std::alloc::Global;
+use std::test::Fail;
+
+pub(crate) fn accepted(alloc: Global, text: &str) -> Result<Accepted, Fail> {
+    let octets = text.as_bytes();
+    if octets.len() > 100_000 {
+        return Err(Fail::from("the text is too long"));
+    }
+    let found = tokens(alloc, octets, 16)?;
+    Ok(accept(alloc, read_spec(alloc, &found)?)?)
+}
+
+pub(crate) fn related(alloc: Global, old: &str, new: &str) -> Result<Relation, Fail> {
+    let (old, new) = (accepted(alloc, old)?, accepted(alloc, new)?);
+    Ok(relate(alloc, &old, &new)?)
+}
+
+/// The field reference number, and the steps.
+fn place_told(alloc: Global, place: &Place) -> Result<String, Fail> {
+    Ok(format!(in alloc; "{} {:?}", place.frn, place.steps.as_slice())?)
+}
+
+/// The text of a path, its old place, and its new one.
+pub(crate) fn path_told(alloc: Global, path: &RelationPath) -> Result<String, Fail> {
+    let text = String::from_utf8_lossy(alloc, path.text.as_slice())?;
+    let old = place_told(alloc, &path.old)?;
+    let told = match &path.new {
+        Some(place) => format!(in alloc; "{text} at {old} to {}", place_told(alloc, place)?)?,
+        None => format!(in alloc; "{text} at {old} lost")?,
+    };
+    Ok(told)
+}
+
+/// The paths that aren't shared, and how many are.
+pub(crate) fn lost_told(alloc: Global, relation: &Relation) -> Result<String, Fail> {
+    let mut told = String::new(alloc);
+    let mut shared: u32 = 0;
+    for path in relation.paths().as_slice() {
+        if path.new.is_some() {
+            shared = shared.saturating_add(1);
+        } else {
+            told.push_str(String::from_utf8_lossy(alloc, path.text.as_slice())?.as_str())?;
+            told.push_str(" ")?;
+        }
+    }
+    Ok(format!(in alloc; "{told}{shared} shared")?)
+}
+
+/// Whether a path, without its category, is shared.
+pub(crate) fn shares(alloc: Global, relation: &Relation, text: &str) -> Result<bool, Fail> {
+    if text.len() > 100 {
+        return Err(Fail::from("the path is too long"));
+    }
+    let path = Path::of(alloc, text.as_bytes())?.ok_or("no path")?;
+    Ok(relation.shared(&path))
+}
+
+/// The moves of one list, as `old to new` with how many move below.
+pub(crate) fn moves_told(alloc: Global, moves: &Moves) -> Result<String, Fail> {
+    let mut told = String::new(alloc);
+    for one in moves.as_slice() {
+        let Move { old, new, below } = one;
+        told.push_str(format!(in alloc; "{old} to {new} with {}; ", below.count())?.as_str())?;
+    }
+    Ok(told)
+}

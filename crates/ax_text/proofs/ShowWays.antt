@@ -1,0 +1,50 @@
+-- The ways out of the functions that list blocks.
+use Rattle.std.proofs.Common.{◌≡◌, ℕ, ◌+◌, List, [], ◌∷◌, ◌++◌, length, codes, decimal, refl, sym, ◌∙◌, ap, subst, append-nil}
+use Rattle.ax_model.specs.Blocks.{read_block}
+use Rattle.ax_model.specs.CanonicalOctets.{canon_length}
+use Rattle.ax_model.specs.Lengths.{held}
+use Rattle.ax_model.specs.Paths.{three_digits}
+use Rattle.ax_model.specs.Plain.{records_tree}
+use Rattle.ax_model.specs.Specification.{SpecTree}
+use Rattle.ax_model.specs.declared.record.Record.{Record}
+use Rattle.ax_text.specs.Printing.{as_lines, Puts}
+use Rattle.ax_text.specs.ShowText.{records_lines, block_front, OpaqueShown, ShowText}
+use Rattle.ax_text.specs.ValueText.{Texts, one_onto, hex_text}
+use Rattle.ax_text.proofs.Pieces.{three_pieces, line_put}
+use Rattle.ax_text.proofs.Printed.{both_put}
+
+-- lines that were put after nothing
+whole_put : (onto : Texts → Texts) (old new : List ℕ) → old ≡ [] → Puts as_lines onto old new → new ≡ as_lines (onto [])
+whole_put onto old new e p = sym (append-nil new) ∙ p.put [] ∙ ap (λ t. t ++ as_lines (onto [])) e
+
+pub front_put : (old a b c d e f : List ℕ) (n category octets : ℕ) → a ≡ old ++ codes "block " → b ≡ a ++ decimal n → c ≡ b ++ codes " category " → d ≡ c ++ three_digits category → e ≡ d ++ codes " octets " → f ≡ e ++ decimal octets → f ≡ old ++ block_front n category octets
+front_put old a b c d e f n category octets g h k l m o =
+    three_pieces old d e f (codes "block " ++ decimal n ++ codes " category " ++ three_digits category) (codes " octets ") (decimal octets)
+    (three_pieces old b c d (codes "block " ++ decimal n) (codes " category ") (three_digits category) (three_pieces old old a b [] (codes "block ") (decimal n) (sym (append-nil old)) g h) k l) m o
+
+pub ruleset front_ways = front_put
+
+pub block_put : (old a b c d : List ℕ) (n category octets records : ℕ) → a ≡ old ++ block_front n category octets → b ≡ a ++ codes " records " → c ≡ b ++ decimal records → d ≡ c ++ 0x0A ∷ [] → Puts as_lines (one_onto (block_front n category octets ++ codes " records " ++ decimal records)) old d
+block_put old a b c d n category octets records e f g h = line_put old c d (block_front n category octets ++ codes " records " ++ decimal records) (three_pieces old a b c (block_front n category octets) (codes " records ") (decimal records) e f g) h
+
+pub ruleset block_ways = block_put
+
+record_count : (rs : List Record) → length (records_tree rs) ≡ length rs
+record_count [] = refl
+record_count (r ∷ rs) = ap (λ n. ℕ.suc n) (record_count rs)
+
+pub read_put : (spec : SpecTree) (n category octets count : ℕ) (rs : List Record) (a b c : List ℕ) → a ≡ [] → octets ≡ held (canon_length spec (read_block category (records_tree rs))) → count ≡ length rs
+    → Puts as_lines (one_onto (block_front n category octets ++ codes " records " ++ decimal count)) a b → Puts as_lines (records_lines spec 0 (records_tree rs)) b c → c ≡ ShowText spec (read_block category (records_tree rs)) n
+read_put spec n category octets count rs a b c e same counted p q =
+    whole_put (λ rest. (block_front n category octets ++ codes " records " ++ decimal count) ∷ records_lines spec 0 (records_tree rs) rest) a c e
+    (both_put (one_onto (block_front n category octets ++ codes " records " ++ decimal count)) (records_lines spec 0 (records_tree rs)) a b c p q)
+    ∙ (λ i. as_lines ((block_front n category (same i) ++ codes " records " ++ decimal ((counted ∙ sym (record_count rs)) i)) ∷ records_lines spec 0 (records_tree rs) []))
+
+pub ruleset read_ways = read_put
+
+pub opaque_put : (n category : ℕ) (content a b c d e : List ℕ) → a ≡ [] → b ≡ a ++ block_front n category (3 + length content) → c ≡ b ++ codes " opaque " → d ≡ c ++ hex_text content → e ≡ d ++ 0x0A ∷ [] → e ≡ OpaqueShown n category content
+opaque_put n category content a b c d e f g h k l =
+    let line = block_front n category (3 + length content) ++ codes " opaque " ++ hex_text content in
+    whole_put (one_onto line) a e f (line_put a d e line (three_pieces a b c d (block_front n category (3 + length content)) (codes " opaque ") (hex_text content) g h k) l)
+
+pub ruleset opaque_ways = opaque_put

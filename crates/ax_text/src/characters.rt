@@ -1,0 +1,84 @@
+//! Characters of a few bits each.
+ghost use Rattle.std.specs.Prelude.{◌≡◌, ◌/◌, ◌%◌, ◌^◌, ◌<◌, ◌≤◌};
+ghost use Rattle.ax_text.specs.Remarks.{piece_size, character, ascii_character, icao_character};
+
+/// The alphabet of an element that is read as characters.
+#[derive(Clone, Copy)]
+pub(crate) enum Alphabet {
+    /// ASCII, eight bits each.
+    Eight,
+    /// The letters, digits and the space of an aircraft identification, six bits each.
+    Six,
+    /// Octal digits, three bits each.
+    Three,
+}
+
+impl Alphabet {
+    /// The bits of a character.
+    pub(crate) fn size(self) -> u32
+        ensures size { result ≡ piece_size self }
+        ensures bounds { (0 < result) × (result ≤ 8) }
+    {
+        match self {
+            Alphabet::Eight => 8,
+            Alphabet::Six => 6,
+            Alphabet::Three => 3,
+        }
+    }
+
+    /// How many pieces of that size there are.
+    fn pieces(self) -> u128
+        ensures pieces { result ≡ 2 ^ piece_size self }
+        ensures bounds { (0 < result) × (result ≤ 256) }
+    {
+        match self {
+            Alphabet::Eight => 256,
+            Alphabet::Six => 64,
+            Alphabet::Three => 8,
+        }
+    }
+
+    /// The character of a number's piece above its `below` lowest bits.
+    pub(crate) fn character(self, number: u128, below: u32) -> u8
+        requires { below < 128 }
+        ensures { result ≡ character self (number / 2 ^ below % 2 ^ piece_size self) }
+    {
+        self.shown((number >> below) % self.pieces())
+    }
+
+    fn shown(self, piece: u128) -> u8
+        requires { piece < 2 ^ piece_size self }
+        ensures { result ≡ character self piece }
+    {
+        match self {
+            Alphabet::Eight => ascii(piece as u8),
+            Alphabet::Six => icao(piece as u8),
+            Alphabet::Three => b'0' + piece as u8,
+        }
+    }
+}
+
+/// A printing octet other than the quote, or a dot.
+fn ascii(piece: u8) -> u8
+    ensures { result ≡ ascii_character piece }
+{
+    if 32 <= piece && piece <= 126 && piece != b'"' {
+        piece
+    } else {
+        b'.'
+    }
+}
+
+/// A capital letter, a space, a digit, or a dot.
+fn icao(piece: u8) -> u8
+    requires { piece < 64 }
+    ensures { result ≡ icao_character piece }
+{
+    if 1 <= piece && piece <= 26 {
+        64 + piece
+    } else if piece == 32 || (48 <= piece && piece <= 57) {
+        piece
+    } else {
+        b'.'
+    }
+}

@@ -1,0 +1,107 @@
+//! The lines of fixed kinds: elements, groups and their members.
+ghost use Rattle.std.specs.Prelude.{◌≡◌, ◌<◌, ◌^◌, ◌++◌, OnOk};
+ghost use Rattle.ax_model.specs.InBounds.{IsWidth};
+ghost use Rattle.ax_model.specs.Plain.{fixed_tree, member_tree, members_tree, value_tree, values_tree};
+ghost use Rattle.ax_model.specs.Shape.{FixedShape, MembersShape};
+ghost use Rattle.ax_text.specs.Listable.{ContentListable, FixedListable, MemberListable, MembersListable};
+ghost use Rattle.ax_text.specs.Printing.{as_lines, Puts};
+ghost use Rattle.ax_text.specs.Remarks.{remark};
+ghost use Rattle.ax_text.specs.ShowText.{number_line, fixed_lines, member_lines, members_lines};
+ghost use Rattle.ax_text.specs.Slots.{MemberShape};
+ghost use Rattle.ax_text.specs.ValueText.{one_onto};
+
+use crate::lister::{Lister, at};
+use ax_model::{Content, Fixed, Member, Members, Value, Values};
+use std::alloc::AllocError;
+
+impl Lister {
+    /// The line of an element.
+    #[tactic(auto, using(crate::proofs::ListedFixed::element_ways))]
+    fn element(
+        &mut self,
+        number: u128,
+        width: u32,
+        content: &Content,
+        path: &[u8],
+    ) -> Result<(), AllocError>
+        requires width { IsWidth width }
+        requires content { ContentListable width content.now }
+        requires fits { number < 2 ^ width }
+        ensures { OnOk result (Puts as_lines (one_onto (number_line path.now number ++ remark width content.now number)) self.old.out.items self.new.out.items) }
+    {
+        self.number(number, path)?;
+        self.remark(number, width, content)?;
+        self.octets(b"\n")?;
+        Ok(())
+    }
+
+    /// The line of spare bits.
+    #[tactic(auto, using(crate::proofs::ListedFixed::spare_ways))]
+    fn spare(&mut self, number: u128, path: &[u8]) -> Result<(), AllocError>
+        ensures { OnOk result (Puts as_lines (one_onto (number_line path.now number)) self.old.out.items self.new.out.items) }
+    {
+        self.number(number, path)?;
+        self.octets(b"\n")?;
+        Ok(())
+    }
+
+    #[cycle(list_fixed)]
+    pub(crate) fn fixed(
+        &mut self,
+        value: &Value,
+        fixed: &Fixed,
+        path: &[u8],
+    ) -> Result<(), AllocError>
+        requires listable { FixedListable (fixed_tree fixed.now) }
+        requires shape { FixedShape (fixed_tree fixed.now) (value_tree value.now) }
+        ensures { OnOk result (Puts as_lines (fixed_lines (fixed_tree fixed.now) path.now (value_tree value.now)) self.old.out.items self.new.out.items) }
+    {
+        match (value, fixed) {
+            (Value::Number(number), Fixed::Element { width, content }) => {
+                self.element(*number, *width, content, path)
+            }
+            (Value::Group(values), Fixed::Group(members)) => self.members(values, members, path),
+            _ => Ok(()),
+        }
+    }
+
+    #[cycle(list_fixed)]
+    fn member(&mut self, value: &Value, member: &Member, path: &[u8]) -> Result<(), AllocError>
+        requires listable { MemberListable (member_tree member.now) }
+        requires shape { MemberShape (member_tree member.now) (value_tree value.now) }
+        ensures { OnOk result (Puts as_lines (member_lines (member_tree member.now) path.now (value_tree value.now)) self.old.out.items self.new.out.items) }
+    {
+        match (value, member) {
+            (value, Member::Named { name, fixed }) => {
+                let path = at(self.alloc, path, name.octets())?;
+                self.fixed(value, fixed, path.as_slice())?;
+                Ok(())
+            }
+            (Value::Number(number), Member::Spare { .. }) => {
+                let path = at(self.alloc, path, b"spare")?;
+                self.spare(*number, path.as_slice())?;
+                Ok(())
+            }
+            _ => Ok(()),
+        }
+    }
+
+    /// Members, one after the other.
+    #[cycle(list_fixed)]
+    #[tactic(auto, using(crate::proofs::ListedFixed::members_ways))]
+    pub(crate) fn members(
+        &mut self,
+        values: &Values,
+        members: &Members,
+        path: &[u8],
+    ) -> Result<(), AllocError>
+        requires listable { MembersListable (members_tree members.now) }
+        requires shape { MembersShape (members_tree members.now) (values_tree values.now) }
+        ensures { OnOk result (Puts as_lines (members_lines (members_tree members.now) path.now (values_tree values.now)) self.old.out.items self.new.out.items) }
+    {
+        for (member, value) in members.as_slice().iter().zip(values.as_slice()) {
+            self.member(value, member, path)?;
+        }
+        Ok(())
+    }
+}

@@ -1,0 +1,125 @@
+//! The listing, piece by piece.
+ghost use Rattle.std.specs.Prelude.{◌≡◌, ◌++◌, decimal, codes, IfOk, OnOk};
+ghost use Rattle.std.specs.Fmt.{signed_decimal};
+ghost use Rattle.ax_model.specs.Paths.{at};
+ghost use Rattle.ax_text.specs.Printing.{as_lines, Puts};
+ghost use Rattle.ax_text.specs.Remarks.{quoted};
+ghost use Rattle.ax_text.specs.ShowText.{number_line, count_line, content_line, occurrence};
+ghost use Rattle.ax_text.specs.ValueText.{one_onto, hex_text};
+
+use itoa::Buffer;
+use std::alloc::{AllocError, Global};
+
+/// Prints lines.
+#[derive(Drop)]
+pub(crate) struct Lister {
+    pub(crate) alloc: Global,
+    pub(crate) out: Vec<u8>,
+}
+
+impl Lister {
+    pub(crate) fn octets(&mut self, text: &[u8]) -> Result<(), AllocError>
+        ensures { OnOk result (self.new.out.items ≡ self.old.out.items ++ text.now) }
+    {
+        self.out.extend_from_slice(text)?;
+        Ok(())
+    }
+
+    pub(crate) fn decimal(&mut self, number: u128) -> Result<(), AllocError>
+        ensures { OnOk result (self.new.out.items ≡ self.old.out.items ++ decimal number) }
+    {
+        let mut buffer = Buffer::new();
+        self.octets(buffer.format(number).as_bytes())
+    }
+
+    pub(crate) fn signed(&mut self, number: i128) -> Result<(), AllocError>
+        ensures { OnOk result (self.new.out.items ≡ self.old.out.items ++ signed_decimal number) }
+    {
+        let mut buffer = Buffer::new();
+        self.octets(buffer.format(number).as_bytes())
+    }
+
+    /// A text in quotes, after a space.
+    #[tactic(auto, using(crate::proofs::Pieces::pieces))]
+    pub(crate) fn quoted(&mut self, text: &[u8]) -> Result<(), AllocError>
+        ensures { OnOk result (self.new.out.items ≡ self.old.out.items ++ (codes " " ++ quoted text.now)) }
+    {
+        self.octets(b" \"")?;
+        self.octets(text)?;
+        self.octets(b"\"")?;
+        Ok(())
+    }
+
+    /// Octets in hexadecimal digits, in quotes.
+    #[tactic(auto, using(crate::proofs::Pieces::pieces))]
+    pub(crate) fn hex(&mut self, octets: &[u8]) -> Result<(), AllocError>
+        ensures { OnOk result (self.new.out.items ≡ self.old.out.items ++ hex_text octets.now) }
+    {
+        let digits = hex::encode(self.alloc, octets)?;
+        self.octets(b"\"")?;
+        self.octets(digits.as_bytes())?;
+        self.octets(b"\"")?;
+        Ok(())
+    }
+
+    /// The front of the line of a number: its path and itself.
+    #[tactic(auto, using(crate::proofs::Pieces::pieces))]
+    pub(crate) fn number(&mut self, number: u128, path: &[u8]) -> Result<(), AllocError>
+        ensures { OnOk result (self.new.out.items ≡ self.old.out.items ++ number_line path.now number) }
+    {
+        self.octets(path)?;
+        self.octets(b" = ")?;
+        self.decimal(number)?;
+        Ok(())
+    }
+
+    /// The line that says how many there are of something.
+    #[tactic(auto, using(crate::proofs::Pieces::count_put))]
+    pub(crate) fn count(&mut self, word: &[u8], count: u32, path: &[u8]) -> Result<(), AllocError>
+        ensures { OnOk result (Puts as_lines (one_onto (count_line path.now word.now count)) self.old.out.items self.new.out.items) }
+    {
+        self.octets(path)?;
+        self.octets(b" ")?;
+        self.octets(word)?;
+        self.octets(b" ")?;
+        self.decimal(u128::from(count))?;
+        self.octets(b"\n")?;
+        Ok(())
+    }
+
+    /// The line of an explicit content.
+    #[tactic(auto, using(crate::proofs::Pieces::content_put))]
+    pub(crate) fn content(&mut self, octets: &[u8], path: &[u8]) -> Result<(), AllocError>
+        ensures { OnOk result (Puts as_lines (one_onto (content_line path.now octets.now)) self.old.out.items self.new.out.items) }
+    {
+        self.octets(path)?;
+        self.octets(b" octets ")?;
+        self.hex(octets)?;
+        self.octets(b"\n")?;
+        Ok(())
+    }
+}
+
+/// A path and one name more.
+#[tactic(auto, using(crate::proofs::Pieces::made))]
+pub(crate) fn at(alloc: Global, path: &[u8], name: &[u8]) -> Result<Vec<u8>, AllocError>
+    ensures { IfOk result (λ made. made.items ≡ at path.now name.now) }
+{
+    let mut made = Vec::from_slice(alloc, path)?;
+    made.extend_from_slice(b"/")?;
+    made.extend_from_slice(name)?;
+    Ok(made)
+}
+
+/// The path of an occurrence, numbered from 0.
+#[tactic(auto, using(crate::proofs::Pieces::made))]
+pub(crate) fn occurrence(alloc: Global, path: &[u8], number: u32) -> Result<Vec<u8>, AllocError>
+    ensures { IfOk result (λ made. made.items ≡ occurrence path.now number) }
+{
+    let mut buffer = Buffer::new();
+    let mut made = Vec::from_slice(alloc, path)?;
+    made.extend_from_slice(b"[")?;
+    made.extend_from_slice(buffer.format(number).as_bytes())?;
+    made.extend_from_slice(b"]")?;
+    Ok(made)
+}

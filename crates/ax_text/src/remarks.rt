@@ -1,0 +1,150 @@
+//! What numbers mean, after them.
+ghost use Rattle.std.specs.Prelude.{◌≡◌, ◌++◌, ◌*◌, ◌<◌, ◌≤◌, ◌^◌, ◌==◌, find, codes, OnOk, IfSome};
+ghost use Rattle.std.specs.Option.{option_copied};
+ghost use Rattle.ax_model.specs.InBounds.{IsWidth};
+ghost use Rattle.ax_text.specs.Listable.{ContentListable};
+ghost use Rattle.ax_text.specs.Remarks.{quoted, characters, reduced_text, multiple_text, by_sign, entry_remark, remark};
+
+use crate::characters::Alphabet;
+use crate::fractions::common_divisor;
+use crate::lister::Lister;
+use ax_bits::signed_of;
+use ax_model::{Content, Scale, Sign, TableText, TableTexts};
+use std::alloc::AllocError;
+
+/// The first entry of that number. None comes exactly where there is none.
+fn entry_of(entries: &TableTexts, number: u128) -> Option<&TableText>
+    ensures { option_copied result ≡ find (λ entry. entry.number == number) entries.now }
+{
+    entries
+        .as_slice()
+        .iter()
+        .find(|entry| u128::from(entry.number) == number)
+}
+
+impl Lister {
+    /// The remark of an element of so many bits, whose number that is. Nothing is printed where there is none.
+    #[tactic(auto, using(crate::proofs::RemarkWays::remark_ways))]
+    pub(crate) fn remark(
+        &mut self,
+        number: u128,
+        width: u32,
+        content: &Content,
+    ) -> Result<(), AllocError>
+        requires width { IsWidth width }
+        requires content { ContentListable width content.now }
+        requires fits { number < 2 ^ width }
+        ensures { OnOk result (self.new.out.items ≡ self.old.out.items ++ remark width content.now number) }
+    {
+        match content {
+            Content::Raw => Ok(()),
+            Content::Table(entries) => self.entry(entries, number),
+            Content::Ascii => self.characters(number, width, Alphabet::Eight),
+            Content::Icao => self.characters(number, width, Alphabet::Six),
+            Content::Octal => self.characters(number, width, Alphabet::Three),
+            Content::Integer(Sign::Unsigned) => Ok(()),
+            Content::Integer(Sign::Signed) => {
+                self.octets(b" ")?;
+                self.signed(signed_of(number, width))?;
+                Ok(())
+            }
+            Content::Quantity(scale) => self.quantity(number, width, scale),
+        }
+    }
+
+    fn entry(&mut self, entries: &TableTexts, number: u128) -> Result<(), AllocError>
+        ensures { OnOk result (self.new.out.items ≡ self.old.out.items ++ entry_remark (find (λ entry. entry.number == number) entries.now)) }
+    {
+        match entry_of(entries, number) {
+            None => Ok(()),
+            Some(entry) => self.quoted(entry.text.as_slice()),
+        }
+    }
+
+    /// The characters of an element of so many bits.
+    #[tactic(auto, using(crate::proofs::Pieces::pieces))]
+    fn characters(
+        &mut self,
+        number: u128,
+        width: u32,
+        alphabet: Alphabet,
+    ) -> Result<(), AllocError>
+        requires { width ≤ 128 }
+        ensures { OnOk result (self.new.out.items ≡ self.old.out.items ++ (codes " " ++ quoted (characters alphabet width number))) }
+    {
+        self.octets(b" \"")?;
+        self.each_character(number, width, alphabet)?;
+        self.octets(b"\"")?;
+        Ok(())
+    }
+
+    #[tactic(auto, using(crate::proofs::RemarkWays::character_ways))]
+    fn each_character(
+        &mut self,
+        number: u128,
+        width: u32,
+        alphabet: Alphabet,
+    ) -> Result<(), AllocError>
+        requires { width ≤ 128 }
+        ensures { OnOk result (self.new.out.items ≡ self.old.out.items ++ characters alphabet width number) }
+    {
+        let size = alphabet.size();
+        let mut left = width / size;
+        while left > 0 {
+            left -= 1;
+            self.out.push(alphabet.character(number, size * left))?;
+        }
+        Ok(())
+    }
+
+    /// A quantity: the multiple of its unit, in lowest terms, and the unit.
+    #[tactic(auto, using(crate::proofs::Pieces::pieces))]
+    fn quantity(&mut self, number: u128, width: u32, scale: &Scale) -> Result<(), AllocError>
+        requires width { IsWidth width }
+        requires narrow { width ≤ 64 }
+        requires denominator { 0 < scale.now.den }
+        requires fits { number < 2 ^ width }
+        ensures { OnOk result (self.new.out.items ≡ self.old.out.items ++ (codes " " ++ multiple_text (by_sign scale.now.sign width number) scale.now.num scale.now.den ++ codes " " ++ quoted scale.now.unit)) }
+    {
+        self.octets(b" ")?;
+        self.multiple(number, width, scale)?;
+        self.quoted(scale.unit.as_slice())?;
+        Ok(())
+    }
+
+    #[tactic(auto, using(crate::proofs::RemarkWays::multiple_ways))]
+    fn multiple(&mut self, number: u128, width: u32, scale: &Scale) -> Result<(), AllocError>
+        requires width { IsWidth width }
+        requires narrow { width ≤ 64 }
+        requires denominator { 0 < scale.now.den }
+        requires fits { number < 2 ^ width }
+        ensures { OnOk result (self.new.out.items ≡ self.old.out.items ++ multiple_text (by_sign scale.now.sign width number) scale.now.num scale.now.den) }
+    {
+        let (num, den) = (scale.num, scale.den);
+        match scale.sign {
+            Sign::Unsigned => self.fraction(number as u64, num, den),
+            Sign::Signed => {
+                let signed = signed_of(number, width);
+                if signed < 0 {
+                    self.octets(b"-")?;
+                }
+                self.fraction(signed.unsigned_abs() as u64, num, den)
+            }
+        }
+    }
+
+    /// So many times a fraction, in lowest terms.
+    #[tactic(auto, using(crate::proofs::RemarkWays::fraction_ways))]
+    fn fraction(&mut self, times: u64, num: u64, den: u64) -> Result<(), AllocError>
+        requires { 0 < den }
+        ensures { OnOk result (self.new.out.items ≡ self.old.out.items ++ reduced_text (times * num) den) }
+    {
+        let numerator = u128::from(times) * u128::from(num);
+        let denominator = u128::from(den);
+        let divisor = common_divisor(numerator, denominator);
+        self.decimal(numerator / divisor)?;
+        self.octets(b"/")?;
+        self.decimal(denominator / divisor)?;
+        Ok(())
+    }
+}

@@ -8,3 +8,8 @@ pub mod Ways
 pub mod Trees
 pub mod Whole
 pub mod Leads
+pub mod Resolved
+pub mod Truth
+pub mod PlaceValues
+pub mod TestLists
+pub mod Signs

@@ -5,6 +5,8 @@ use Rattle.ax_model.specs.Tree.{FixedTree}
 use Rattle.ax_token_reader.specs.Stopping.{Texts}
 use Rattle.ax_filter.specs.Faults.{element_in, IsUnknown, IsNoElement, IsUnknownAt, IsNoElementAt, PathsLead}
 use Rattle.ax_filter.specs.Words.{IsPath, path_word, IsPathText}
+use Rattle.ax_filter.specs.declared.error.FilterError.{FilterError}
+use Rattle.ax_filter.specs.declared.error.FilterError.TheVariants.{BadToken, UnknownPath, NotAnElement, OutOfMemory}
 use Rattle.ax_filter.specs.declared.expr.FullPath.{FullPath}
 use Rattle.ax_filter.specs.declared.faults.Lead.{Lead}
 use Rattle.ax_filter.specs.declared.faults.Lead.TheVariants.{NoPath, Nowhere, ToOther, ToElement}
@@ -38,3 +40,10 @@ HasNoFault catalogue text after_is = (IsUnknown catalogue text → ⊥) × (IsTr
 abbrev pub IsFirstFault : List SpecTree → Texts → ℕ → PathFault → Type 0
 IsFirstFault catalogue texts end (Unknown token) = (token < end) × IsUnknownAt catalogue texts token × PathsLead catalogue texts token
 IsFirstFault catalogue texts end (NoElement token) = (token < end) × IsNoElementAt catalogue texts token × PathsLead catalogue texts token
+
+-- a fault of a path before the end
+abbrev pub IsPathFault : List SpecTree → Texts → ℕ → FilterError → Type 0
+IsPathFault catalogue texts end (UnknownPath token) = IsFirstFault catalogue texts end (Unknown token)
+IsPathFault catalogue texts end (NotAnElement token) = IsFirstFault catalogue texts end (NoElement token)
+IsPathFault catalogue texts end (BadToken token) = ⊥
+IsPathFault catalogue texts end OutOfMemory = Unit {0}

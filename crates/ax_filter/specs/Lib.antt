@@ -5,3 +5,6 @@ pub mod Parts
 pub mod Answers
 pub mod Faults
 pub mod Leading
+pub mod Meaning
+pub mod Tests
+pub mod OfCode

@@ -1,14 +1,23 @@
 //! Filters: expressions over paths, and the records that they hold of.
 #![tactic(auto)]
 
+mod comparing;
 mod error;
 mod expr;
 mod expressions;
 mod faults;
+mod filter;
+mod holding;
 mod numbers;
+mod passing;
 mod paths;
+mod reading;
+mod resolving;
+mod standing;
 mod syntax;
+mod test;
 mod words;
 
 pub use error::FilterError;
-pub use expr::{Expr, Exprs, FullPath, Op};
+pub use filter::Filter;
+pub use reading::read_filter;

@@ -71,7 +71,7 @@ path_not_unknown catalogue text n u = n (u.path, u.form, u.spelled)
 path_not_other : (catalogue : List SpecTree) (text : List ℕ) → (IsPathText text → ⊥) → NotOther catalogue text
 path_not_other catalogue text n u = n (u.path, u.form, u.spelled)
 
-other_not_unknown : (catalogue : List SpecTree) (text : List ℕ) → IsNoElement catalogue text → NotUnknown catalogue text
+pub other_not_unknown : (catalogue : List SpecTree) (text : List ℕ) → IsNoElement catalogue text → NotUnknown catalogue text
 other_not_unknown catalogue text o u =
     let same : u.path ≡ o.path = same_path u.path o.path u.form o.form (sym u.spelled ∙ o.spelled) in
     none_some (place_in catalogue o.path) o.place (sym (ap (place_in catalogue) same) ∙ u.nowhere) o.leads
@@ -113,7 +113,7 @@ none_yet catalogue texts number lt = absurd (omega (arith, lt))
 pub not_after : (texts : Texts) → IsTrue false ↔ IsAfterIs texts 0
 not_after texts = ((λ e. absurd cc), (λ a. absurd (omega (arith, a.1))))
 
-same_text : (texts : Texts) (number : ℕ) (text other : List ℕ) → TokenIs texts number text → TokenIs texts number other → text ≡ other
+pub same_text : (texts : Texts) (number : ℕ) (text other : List ℕ) → TokenIs texts number text → TokenIs texts number other → text ≡ other
 same_text texts number text other e h = some_same text other (sym e ∙ h)
 
 pub one_more : (catalogue : List SpecTree) (tokens : List PlainToken) (number : ℕ) (t : PlainToken) (after_is : Bool) → slice_get tokens number ≡ Some t → IsTrue after_is ↔ IsAfterIs (texts_of tokens) number

@@ -13,3 +13,4 @@ pub mod Truth
 pub mod PlaceValues
 pub mod TestLists
 pub mod Signs
+pub mod Kept

@@ -8,3 +8,5 @@ pub mod Leading
 pub mod Meaning
 pub mod Tests
 pub mod OfCode
+pub mod Matching
+pub mod Examples

@@ -3,11 +3,14 @@
 
 mod comparing;
 mod error;
+pub mod examples;
 mod expr;
 mod expressions;
 mod faults;
 mod filter;
 mod holding;
+pub mod laws;
+mod matching;
 mod numbers;
 mod passing;
 mod paths;

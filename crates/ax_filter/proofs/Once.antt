@@ -27,9 +27,9 @@ order : (a b : ℕ) → (a ≡ b) ⊎ ((a < b) ⊎ (b < a))
 order a b =
     elim (leb_tells a b) [
       | inl le ↦ elim (eq-or-lt_of_le le.1) [
-          | inl e ↦ inl e
-          | inr lt ↦ inr (inl lt)
-        ]
+        | inl e ↦ inl e
+        | inr lt ↦ inr (inl lt)
+      ]
       | inr gt ↦ inr (inr gt.1)
     ]
 

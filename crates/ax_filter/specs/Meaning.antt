@@ -63,7 +63,7 @@ number_at_path catalogue r path =
 -- ---- the truth of an expression for a record of a category
 
 abbrev mutual
-  -- a path of another category stands in no record; a comparison with what isn't there is false, whatever its sign
+  -- a path of another category stands in no record; a comparison with what isn't there is false, also by `!=`
   pub holds : List SpecTree → ℕ → EntriesTree → ExprTree → Bool
   holds catalogue category r (all_of es) = all_hold catalogue category r es
   holds catalogue category r (any_of es) = any_holds catalogue category r es

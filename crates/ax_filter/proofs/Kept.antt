@@ -6,7 +6,6 @@ use Rattle.std.proofs.lemmas.List.{drop_all, map-append, length-map}
 use Rattle.ax_model.proofs.Namings.{from_place}
 use Rattle.ax_model.specs.Blocks.{BlockTree, read_block}
 use Rattle.ax_model.specs.Bodies.{RecordShape}
-use Rattle.ax_model.specs.CanonicalOctets.{canon_block}
 use Rattle.ax_model.specs.OfCode.{BlockFits}
 use Rattle.ax_model.specs.Plain.{spec_tree, record_tree, records_tree, block_tree}
 use Rattle.ax_model.specs.Specification.{SpecTree}
@@ -15,7 +14,7 @@ use Rattle.ax_model.specs.declared.record.Block.{Block}
 use Rattle.ax_model.specs.declared.record.Block.TheVariants.{Read, Opaque}
 use Rattle.ax_model.specs.declared.record.Record.{Record}
 use Rattle.ax_model.specs.declared.spec.Spec.{Spec}
-use Rattle.ax_filter.specs.Matching.{matching, some_block, matching_block, canon_if}
+use Rattle.ax_filter.specs.Matching.{matching, some_block, matching_block}
 use Rattle.ax_filter.specs.Meaning.{holds}
 use Rattle.ax_filter.specs.Tree.{ExprTree}
 
@@ -98,13 +97,3 @@ kept_fit catalogue e spec block category records kept is fits h some =
     (of_all.0, omega (arith, some, length-map kept record_tree), subst (AllByRecursion (RecordShape (spec_tree spec))) (sym h) (all_filtered (RecordShape (spec_tree spec)) (λ r. holds catalogue spec.category r e) (records_tree records) of_all.2))
 
 pub ruleset blocks = (none_match, some_match, opaque_none, kept_fit)
-
--- ---- their canonical form
-
-pub made_some : (spec : SpecTree) (block : BlockTree) (found : Option BlockTree) (octets : List ℕ) → Some block ≡ found → octets ≡ canon_block spec block → octets ≡ canon_if spec found
-made_some spec block found octets e h = h ∙ ap (canon_if spec) e
-
-pub made_none : (spec : SpecTree) (found : Option BlockTree) (octets : List ℕ) → None ≡ found → octets ≡ [] → octets ≡ canon_if spec found
-made_none spec found octets e h = h ∙ ap (canon_if spec) e
-
-pub ruleset makes = (made_some, made_none)

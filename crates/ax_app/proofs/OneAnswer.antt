@@ -31,7 +31,6 @@ same_job (writes text) input end other outcome next written others reported more
 same_job (each_block c) input end other outcome next written others reported more is to h k =
     let same : (end ≡ other) × (h.blocks ≡ k.blocks) = answers_once c longest_input input h.blocks k.blocks end other h.answers k.answers in
     (is ∙ ap outcome_of_end same.0 ∙ sym to, h.written_is ∙ ap (output_of c 0) same.1 ∙ sym k.written_is, h.reported_is ∙ ap (report_of c 0) same.1 ∙ sym k.reported_is)
-
 same_job (refuses refusal) input end other outcome next written others reported more is to h k = absurd h
 
 refusal_once : (refusal next : Refusal) → refuses refusal ≡ refuses next → refusal ≡ next

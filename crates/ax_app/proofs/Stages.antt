@@ -1,5 +1,5 @@
 -- A run, stage by stage.
-use Rattle.std.proofs.Common.{◌≡◌, ℕ, ◌-◌, ◌^◌, ◌<◌, ◌≤◌, ◌⊎◌, inl, inr, List, [], ◌∷◌, Option, Some, Result, Ok, Err, length, refl, sym, ◌∙◌, ap, subst, arith}
+use Rattle.std.proofs.Common.{◌≡◌, ℕ, ◌-◌, ◌^◌, ◌<◌, ◌≤◌, ◌⊎◌, inl, inr, List, [], ◌∷◌, Option, Some, Result, Ok, Err, IfOk, length, refl, sym, ◌∙◌, ap, subst, arith}
 use Rattle.std.proofs.Math.Nat.{eq-or-lt_of_le}
 use Rattle.ax_bits.specs.Bits.{AreOctets}
 use Rattle.ax_command.specs.Lines.{lines_of}
@@ -10,7 +10,7 @@ use Rattle.ax_command.specs.declared.outcome.JobStop.TheVariants as JobStopOf
 use Rattle.ax_command.specs.declared.outcome.Outcome.{Outcome}
 use Rattle.ax_command.specs.declared.outcome.Outcome.TheVariants.{Usage, Done, ReadFault, WriteFault, ReportFault, InputTooLong}
 use Rattle.ax_command.specs.declared.words.Verb.{Verb}
-use Rattle.ax_command.specs.declared.words.Verb.TheVariants.{Check}
+use Rattle.ax_command.specs.declared.words.Verb.TheVariants.{Check, Canon}
 use Rattle.ax_load.proofs.FilesOnce.{given_ends_for_memory}
 use Rattle.ax_load.specs.Loading.{FilesGive, StopsAtFile, EndsAtFile, by_file, by_category, IsRefusedFile}
 use Rattle.ax_load.specs.declared.fault.LoadStop.{LoadStop}
@@ -25,6 +25,7 @@ use Rattle.ax_outside.specs.Told.{Rose, with_end}
 use Rattle.ax_outside.specs.declared.sinks.SinkFailed.{SinkFailed}
 use Rattle.ax_model.specs.Blocks.{BlockTree}
 use Rattle.ax_stream.proofs.Completes.{IsDoneWithBlocks, stream_completes}
+use Rattle.ax_stream.specs.BlockCommands.{canon_command}
 use Rattle.ax_stream.specs.Commands.{BlockCommand, output_of, report_of}
 use Rattle.ax_stream.specs.Ending.{longest_input}
 use Rattle.ax_stream.specs.Streams.{IsIdle, IsCaused, StreamRuns, ToldRun, reading, writing, reporting, for_memory}
@@ -50,6 +51,11 @@ check_job arguments specs left held' taken faults faults' o end ready ends = rec
 
 pub block_job : (verb : Verb) (arguments : List (List ℕ)) (specs : List SpecTree) (i : SourceChange) (o r : SinkChange) (c k : BlockCommand) (end : StreamEnd) → IsJob verb arguments specs (each_block k) → c ≡ k → StreamRuns c longest_input i o r end → RunsJob verb arguments specs i o r end
 block_job verb arguments specs i o r c k end job is runs = record { job = each_block k; is = job; runs = subst (λ x. StreamRuns x longest_input i o r end) is runs }
+
+-- `canon`, where it came to its input
+pub canon_job : (arguments : List (List ℕ)) (specs : List SpecTree) (i : SourceChange) (o r : SinkChange) (result : Result StreamEnd JobStop) → IfOk result (StreamRuns (canon_command specs) longest_input i o r) → IfOk result (RunsJob Canon arguments specs i o r)
+canon_job arguments specs i o r (Ok end) runs = record { job = each_block (canon_command specs); is = refl; runs = runs }
+canon_job arguments specs i o r (Err stop) runs = tt
 
 pub text_job : (verb : Verb) (arguments : List (List ℕ)) (specs : List SpecTree) (left held' : Option (List ℕ)) (taken faults faults' : ℕ) (o : SinkChange) (text : List ℕ) (end : StreamEnd) → IsJob verb arguments specs (writes text) → TextEnds text o end
     → RunsJob verb arguments specs (record { left = left; left' = left; taken = taken; taken' = taken; faults = faults; faults' = faults }) o (record { held = held'; held' = held'; faults = faults'; faults' = faults' }) end

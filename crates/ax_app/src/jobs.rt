@@ -7,7 +7,10 @@ ghost use Rattle.ax_model.specs.Specification.{SpecTree};
 ghost use Rattle.ax_outside.specs.Changes.{source_change, sink_change};
 ghost use Rattle.std.specs.String.{string_bytes};
 ghost use Rattle.ax_command.specs.declared.outcome.JobStop.{JobStop};
-ghost use Rattle.ax_stream.specs.Streams.{IsIdle};
+ghost use Rattle.ax_command.specs.declared.outcome.JobStop.TheVariants.{OutOfMemory};
+ghost use Rattle.ax_stream.specs.BlockCommands.{canon_command};
+ghost use Rattle.ax_stream.specs.Ending.{longest_input};
+ghost use Rattle.ax_stream.specs.Streams.{IsIdle, StreamRuns};
 ghost use Rattle.ax_app.specs.Jobs.{IsReady, IsStopped, RunsJob, TextEnds, check_text};
 
 use crate::makers::{ShowMaker, TextMaker};
@@ -16,7 +19,9 @@ use ax_command::{JobStop, Verb, line_of};
 use ax_grammar::print_spec;
 use ax_model::Spec;
 use ax_outside::{Sink, Source, write_text};
-use ax_stream::{CanonMaker, StreamEnd, TreeWork, run_blocks};
+use ax_stream::{StreamEnd, TreeWork, run_blocks};
+use ax_tables::Codecs;
+use ax_view_work::CanonViews;
 use std::alloc::{AllocError, Global};
 
 /// The line of an accepted specification, and its text after it.
@@ -49,6 +54,30 @@ fn check<K: Sink>(alloc: Global, catalogue: &Catalogue, out: &mut K) -> StreamEn
     }
 }
 
+/// `canon`: the canonical form of each block. All memory is taken before the input is read.
+fn canon<S: Source, K: Sink, R: Sink>(
+    alloc: Global,
+    catalogue: &Catalogue,
+    source: &mut S,
+    out: &mut K,
+    report: &mut R,
+) -> Result<StreamEnd, JobStop>
+    ensures runs { IfOk result (StreamRuns (canon_command (catalogue_tree catalogue.now)) longest_input (source_change S.Source source.old source.new) (sink_change K.Sink out.old out.new) (sink_change R.Sink report.old report.new)) }
+    ensures memory { IfErr result (λ stop. stop ≡ OutOfMemory) }
+    ensures idle { OnErr result (IsIdle (source_change S.Source source.old source.new) (sink_change K.Sink out.old out.new) (sink_change R.Sink report.old report.new)) }
+    ensures source_later { S.faults source.old ≤ S.faults source.new }
+    ensures out_later { K.faults out.old ≤ K.faults out.new }
+    ensures report_later { R.faults report.old ≤ R.faults report.new }
+{
+    let Ok(codecs) = Codecs::compile(alloc, catalogue) else {
+        return Err(JobStop::OutOfMemory);
+    };
+    let Ok(mut work) = CanonViews::new(alloc, catalogue, &codecs) else {
+        return Err(JobStop::OutOfMemory);
+    };
+    Ok(run_blocks(alloc, &mut work, source, out, report))
+}
+
 /// Does what the command says, over the specifications of its files.
 pub fn do_job<S: Source, K: Sink, R: Sink>(
     alloc: Global,
@@ -69,10 +98,7 @@ pub fn do_job<S: Source, K: Sink, R: Sink>(
 {
     match verb {
         Verb::Check => Ok(check(alloc, catalogue, out)),
-        Verb::Canon => {
-            let mut work = TreeWork::new(alloc, catalogue, CanonMaker);
-            Ok(run_blocks(alloc, &mut work, source, out, report))
-        }
+        Verb::Canon => canon(alloc, catalogue, source, out, report),
         Verb::Show => {
             let mut work = TreeWork::new(alloc, catalogue, ShowMaker);
             Ok(run_blocks(alloc, &mut work, source, out, report))

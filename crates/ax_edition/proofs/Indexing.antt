@@ -1,12 +1,12 @@
 -- What an index finds: the slot of the number under a name.
-use Rattle.std.proofs.Common.{◌≡◌, ℕ, zero, suc, ◌+◌, ◌-◌, ◌<◌, ◌≤◌, Bool, true, false, cond, bytes_eq, List, [], ◌∷◌, length, map, slice_get, Option, Some, None, option_map, option_and_then, refl, sym, ◌∙◌, ap, arith}
+use Rattle.std.proofs.Common.{◌≡◌, ℕ, zero, suc, ◌+◌, Bool, true, false, cond, bytes_eq, List, [], ◌∷◌, map, slice_get, Option, Some, None, option_map, option_and_then, refl, ◌∙◌, ap, arith}
 use Rattle.std.specs.Borrow.{Bor}
-use Rattle.ax_edition.specs.Index.{seen_kind, kind_numbered, found, Finds}
-use Rattle.ax_edition.specs.Numbers.{numbered, Counts}
+use Rattle.ax_edition.specs.Index.{seen_kind, kind_numbered, Finds}
+use Rattle.ax_edition.specs.Numbers.{Counts}
 use Rattle.ax_edition.specs.UapItems.{item_slot, items_tree}
 use Rattle.ax_edition.specs.declared.index.Index.{Index}
 use Rattle.ax_edition_laws.proofs.Lookups.{found_is}
-use Rattle.ax_model.specs.Lengths.{kind_of_slot, kind_behind, slot_kind}
+use Rattle.ax_model.specs.Lengths.{kind_of_slot, kind_behind}
 use Rattle.ax_model.specs.Naming.{found_or, slot_named}
 use Rattle.ax_model.specs.Plain.{slot_tree, slots_tree}
 use Rattle.ax_model.specs.Tree.{KindTree, SlotTree, SlotsTree, no_slots, slots_of, slot_and, spare_slot, subitem}
@@ -30,14 +30,14 @@ named_kind n name (slot_and (subitem own l) ss) t k e = by (bytes_eq own name) e
 
 -- kinds that are those of slots, by number
 module _ {A : Type 0} (tree : A → SlotTree) where
-  behind_kinds : (ss : List A) (kinds : List (Option (Bor Kind))) (i : ℕ) → map seen_kind kinds ≡ map (λ s. kind_of_slot (tree s)) ss → option_and_then seen_kind (slice_get kinds i) ≡ kind_behind i (slots_of (map tree ss))
-  behind_kinds [] [] i e = refl
-  behind_kinds [] (k ∷ kinds) i e = cc
-  behind_kinds (s ∷ ss) [] i e = cc
-  behind_kinds (s ∷ ss) (k ∷ kinds) zero e =
+  numbered_kinds : (ss : List A) (kinds : List (Option (Bor Kind))) (i : ℕ) → map seen_kind kinds ≡ map (λ s. kind_of_slot (tree s)) ss → option_and_then seen_kind (slice_get kinds i) ≡ kind_behind i (slots_of (map tree ss))
+  numbered_kinds [] [] i e = refl
+  numbered_kinds [] (k ∷ kinds) i e = cc
+  numbered_kinds (s ∷ ss) [] i e = cc
+  numbered_kinds (s ∷ ss) (k ∷ kinds) zero e =
       let h : seen_kind k ≡ kind_of_slot (tree s) = cc in h
-  behind_kinds (s ∷ ss) (k ∷ kinds) (suc i) e =
-      let h : map seen_kind kinds ≡ map (λ s. kind_of_slot (tree s)) ss = cc in behind_kinds ss kinds i h
+  numbered_kinds (s ∷ ss) (k ∷ kinds) (suc i) e =
+      let h : map seen_kind kinds ≡ map (λ s. kind_of_slot (tree s)) ss = cc in numbered_kinds ss kinds i h
 
   found_slot : (ss : List A) (index : Index) (name : List ℕ) (o : Option (ℕ × KindTree)) → map seen_kind index.kinds ≡ map (λ s. kind_of_slot (tree s)) ss → slot_named 1 name (slots_of (map tree ss)) ≡ o
       → option_and_then (λ n. option_map (λ k. (n, k)) (kind_numbered index.kinds n)) (option_map (λ s. s.0) o) ≡ o
@@ -45,7 +45,7 @@ module _ {A : Type 0} (tree : A → SlotTree) where
   found_slot ss index name (Some s) e f =
       let h = named_kind 1 name (slots_of (map tree ss)) s.0 s.1 f in
       let n : s.0 ≡ suc h.0 = let q = h.1 in omega (arith, q) in
-      let k : kind_numbered index.kinds s.0 ≡ Some s.1 = ap (kind_numbered index.kinds) n ∙ behind_kinds ss index.kinds h.0 e ∙ h.2 in
+      let k : kind_numbered index.kinds s.0 ≡ Some s.1 = ap (kind_numbered index.kinds) n ∙ numbered_kinds ss index.kinds h.0 e ∙ h.2 in
       ap (option_map (λ k. (s.0, k))) k
 
   finds : (ss : List A) (index : Index) → Counts 1 (slots_of (map tree ss)) index.numbers → map seen_kind index.kinds ≡ map (λ s. kind_of_slot (tree s)) ss → Finds 1 (slots_of (map tree ss)) index

@@ -1,9 +1,9 @@
 -- What a relation holds.
-use Rattle.std.proofs.Common.{◌≡◌, ℕ, Bool, false, List, [], map, Option, Some, None, option_map, option_and_then, unwrap_or, refl, sym, ◌∙◌, ap, subst}
+use Rattle.std.proofs.Common.{◌≡◌, ℕ, Bool, false, List, [], map, Some, option_map, option_and_then, unwrap_or, ◌∙◌, ap}
 use Rattle.ax_edition.proofs.Pairs.{whole_known}
 use Rattle.ax_edition.proofs.Readable.{walk_is_relation}
 use Rattle.ax_edition.specs.Index.{found, Finds}
-use Rattle.ax_edition.specs.Known.{said, Knows, IsKnown, kind_found, kind_below, known_slots}
+use Rattle.ax_edition.specs.Known.{said, Knows, IsKnown, kind_found, known_slots}
 use Rattle.ax_edition.specs.Moves.{moves_of, record_moves}
 use Rattle.ax_edition.specs.PlainMoves.{move_tree}
 use Rattle.ax_edition.specs.Relates.{Relates}
@@ -21,8 +21,8 @@ use Rattle.ax_model.specs.Naming.{slot_named}
 use Rattle.ax_model.specs.Paths.{three_digits}
 use Rattle.ax_model.specs.Plain.{spec_tree}
 use Rattle.ax_model.specs.Shared.{Shared}
-use Rattle.ax_model.specs.Specification.{record_slots, record_kind}
-use Rattle.ax_model.specs.Tree.{KindTree, SlotsTree, compound}
+use Rattle.ax_model.specs.Specification.{record_slots}
+use Rattle.ax_model.specs.Tree.{SlotsTree, compound}
 use Rattle.ax_model.specs.declared.spec.Spec.{Spec}
 
 module _ (old new : Spec) (os ns : SlotsTree) (o : os ≡ record_slots (spec_tree old)) (n : ns ≡ record_slots (spec_tree new)) where

@@ -1,5 +1,5 @@
 -- What an index of slots finds by name.
-use Rattle.std.specs.Prelude.{◌≡◌, ℕ, zero, suc, List, slice_get, Option, Some, None, option_map, option_and_then}
+use Rattle.std.specs.Prelude.{◌≡◌, ℕ, zero, suc, List, slice_get, Option, None, option_map, option_and_then}
 use Rattle.std.specs.Borrow.{Bor}
 use Rattle.ax_edition.specs.Numbers.{numbered}
 use Rattle.ax_edition.specs.declared.index.Index.{Index}

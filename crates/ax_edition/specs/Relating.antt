@@ -17,16 +17,16 @@ use Rattle.ax_model.specs.declared.place.Place.{Place}
 abbrev pub target_tree : Target → List ℕ × KindTree
 target_tree t = (t.numbers, kind_tree t.kind.now)
 
--- behind these slot numbers
-abbrev pub behind : List ℕ → ℕ × KindTree → List ℕ × KindTree
-behind numbers s = (numbers ++ s.0 ∷ [], s.1)
+-- after these slot numbers
+abbrev pub after : List ℕ → ℕ × KindTree → List ℕ × KindTree
+after numbers s = (numbers ++ s.0 ∷ [], s.1)
 
 abbrev pub target_below : List ℕ → List ℕ × KindTree → Option (List ℕ × KindTree)
-target_below name t = option_map (behind t.0) (slot_below name t.1)
+target_below name t = option_map (after t.0) (slot_below name t.1)
 
 -- what a level has at a name
 abbrev pub lead : Level → List ℕ → Option (List ℕ × KindTree)
-lead level name = option_map (behind level.numbers) (found level.index name)
+lead level name = option_map (after level.numbers) (found level.index name)
 
 pub record LeadsBelow (target : Option (List ℕ × KindTree)) (level : Level) : Type 0 where
   pub leads : (name : List ℕ) → lead level name ≡ option_and_then (target_below name) target

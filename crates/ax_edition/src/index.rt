@@ -100,10 +100,7 @@ fn kinds_of_items<'k>(alloc: Global, items: &UapItems<'k>) -> Result<Kinds<'k>, 
 
 /// The slots of the UAP, by the names of their items.
 #[tactic(auto, using(crate::proofs::Indexing::whole))]
-pub(crate) fn index_items<'k>(
-    alloc: Global,
-    items: &UapItems<'k>,
-) -> Result<Index<'k>, AllocError>
+pub(crate) fn index_items<'k>(alloc: Global, items: &UapItems<'k>) -> Result<Index<'k>, AllocError>
     ensures { IfOk result (λ index. Finds 1 (items_tree items.now) index) }
 {
     Ok(Index {

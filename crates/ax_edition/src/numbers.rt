@@ -56,10 +56,7 @@ pub(crate) fn number_slots(alloc: Global, slots: &Slots) -> Result<Numbers, Allo
 }
 
 /// The number of the first slot of the UAP whose item has a name, from 1.
-pub(crate) fn number_uap_items(
-    alloc: Global,
-    items: &UapItems<'_>,
-) -> Result<Numbers, AllocError>
+pub(crate) fn number_uap_items(alloc: Global, items: &UapItems<'_>) -> Result<Numbers, AllocError>
     ensures { IfOk result (λ numbers. Counts 1 (items_tree items.now) numbers) }
 {
     let mut numbers = Numbers::new(alloc);

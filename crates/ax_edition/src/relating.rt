@@ -90,10 +90,7 @@ impl<'k> Level<'k> {
     }
 
     /// The items of a record.
-    pub(crate) fn of_record(
-        alloc: Global,
-        items: &UapItems<'k>,
-    ) -> Result<Level<'k>, AllocError>
+    pub(crate) fn of_record(alloc: Global, items: &UapItems<'k>) -> Result<Level<'k>, AllocError>
         ensures { IfOk result (λ level. LeadsBelow (Some ([], compound (items_tree items.now))) level) }
     {
         Ok(Level {

@@ -8,6 +8,7 @@ pub mod MovedShape
 pub mod NamedOnce
 pub mod Once
 pub mod PathPlaces
+pub mod PlacedNames
 pub mod PlacedPaths
 pub mod PresentPaths
 pub mod SameKinds

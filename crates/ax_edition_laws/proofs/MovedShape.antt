@@ -116,17 +116,17 @@ slot_shape n name (slot_and (subitem own l) ss) (entry_and t w es) s k v e p q =
 
 -- ---- the moved value
 
--- behind a slot, entries of later slots are entries from it on
-pub behind : (n : ℕ) (name : List ℕ) (l : KindTree) (ts : SlotsTree) (es : EntriesTree) → EntriesShape (n + 1) ts es → EntriesShape n (slot_and (subitem name l) ts) es
-behind n name l ts no_entries h = h
-behind n name l ts (entry_and t v es) h =
+-- after a slot, entries of later slots are entries from it on
+pub after : (n : ℕ) (name : List ℕ) (l : KindTree) (ts : SlotsTree) (es : EntriesTree) → EntriesShape (n + 1) ts es → EntriesShape n (slot_and (subitem name l) ts) es
+after n name l ts no_entries h = h
+after n name l ts (entry_and t v es) h =
     let P : Bool → Type 0 = λ b. MatchBool b (Shape l v × EntriesShape (n + 1) ts es) (EntriesShape (n + 1) ts (entry_and t v es)) in
     let le = entries_from (n + 1) ts t v es h in subst P (sym (less n t (omega arith))) h
 
 -- an entry of this slot in front of them too
 pub in_front : (n : ℕ) (name : List ℕ) (l : KindTree) (ts : SlotsTree) (o : Option ValueTree) (es : EntriesTree) → ((v : ValueTree) → o ≡ Some v → Shape l v) → EntriesShape (n + 1) ts es
     → EntriesShape n (slot_and (subitem name l) ts) (entry_where n o es)
-in_front n name l ts None es one h = behind n name l ts es h
+in_front n name l ts None es one h = after n name l ts es h
 in_front n name l ts (Some v) es one h =
     let P : Bool → Type 0 = λ b. MatchBool b (Shape l v × EntriesShape (n + 1) ts es) (EntriesShape (n + 1) ts (entry_and n v es)) in
     subst P (sym (equal n n refl)) (one v refl, h)

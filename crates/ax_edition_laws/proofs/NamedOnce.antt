@@ -42,7 +42,7 @@ at_name n ss es name names = option_and_then (λ s. option_and_then (entry_at na
 abbrev pub Agree : ℕ → SlotsTree → EntriesTree → EntriesTree → Type 0
 Agree n ss es fs = (name : List ℕ) (names : List (List ℕ)) → at_name n ss es name names ≡ at_name n ss fs name names
 
--- the slots behind one agree, if they agree with it
+-- the slots after one agree, if they agree with it
 later_agree : (n : ℕ) (own : List ℕ) (k : KindTree) (earlier : List (List ℕ)) (ss : SlotsTree) (es fs ds gs : EntriesTree) → SlotsDistinct (own ∷ earlier) ss
     → ((s : ℕ) → n < s → slot_value s ds ≡ slot_value s es) → ((s : ℕ) → n < s → slot_value s gs ≡ slot_value s fs)
     → Agree n (slot_and (subitem own k) ss) ds gs → Agree (n + 1) ss es fs

@@ -89,8 +89,8 @@ later n earlier own k ss d p h =
         let same = with_name name names (bytes_eq own name) refl a in
         (ap (option_and_then (λ s. kind_at names s.1)) same ∙ a, ap (option_and_then (λ s. option_map (λ steps. s.0 ∷ steps) (steps_at names s.1))) same ∙ b)
 
-behind_spare : (n : ℕ) (ss : SlotsTree) (p : Placed) → StandsUnder (n + 1) ss p → StandsUnder n (slot_and spare_slot ss) p
-behind_spare n ss p h =
+after_spare : (n : ℕ) (ss : SlotsTree) (p : Placed) → StandsUnder (n + 1) ss p → StandsUnder n (slot_and spare_slot ss) p
+after_spare n ss p h =
     let t = by p.names h.kind h.steps in record { kind = t.0; steps = t.1 }
   where
     by : (names : List (List ℕ)) → kind_under (n + 1) ss names ≡ Some p.kind → steps_under (n + 1) ss names ≡ Some p.numbers → (kind_under n (slot_and spare_slot ss) names ≡ Some p.kind) × (steps_under n (slot_and spare_slot ss) names ≡ Some p.numbers)
@@ -117,7 +117,7 @@ mutual
   all_under : (n : ℕ) (earlier : List (List ℕ)) (ss : SlotsTree) → SlotsDistinct earlier ss → AllByRecursion (StandsUnder n ss) (placed_slots n ss)
   all_under n earlier no_slots d = tt
   all_under n earlier (slot_and spare_slot ss) d =
-      all_same (StandsUnder (n + 1) ss) (StandsUnder n (slot_and spare_slot ss)) (behind_spare n ss) (placed_slots (n + 1) ss) (all_under (n + 1) earlier ss d)
+      all_same (StandsUnder (n + 1) ss) (StandsUnder n (slot_and spare_slot ss)) (after_spare n ss) (placed_slots (n + 1) ss) (all_under (n + 1) earlier ss d)
   all_under n earlier (slot_and (subitem own k) ss) d =
       all_append (StandsUnder n (slot_and (subitem own k) ss)) (map (placed_under own n) (placed_of k)) (placed_slots (n + 1) ss)
       (all_map (Stands k) (StandsUnder n (slot_and (subitem own k) ss)) (placed_under own n) (here n own k ss) (placed_of k) (all_stand k d.1))

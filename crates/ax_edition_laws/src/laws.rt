@@ -1,5 +1,6 @@
 //! The laws of migration. Each function stands for what its contract says.
-ghost use Rattle.std.specs.Prelude.{◌≡◌, ℕ, ◌<◌, ◌≤◌, ◌↔◌, List, ◌∷◌, Some, None, true, is_some};
+ghost use Rattle.std.specs.Prelude.{◌≡◌, ℕ, ◌<◌, ◌≤◌, ◌↔◌, List, ◌∷◌, map, Some, None, true, is_some};
+ghost use Rattle.std.specs.List.{AllByRecursion};
 ghost use Rattle.ax_check.specs.Places.{place_of};
 ghost use Rattle.ax_edition_laws.specs.Fates.{KeptOrLost, times};
 ghost use Rattle.ax_model.specs.At.{is_present};
@@ -8,8 +9,8 @@ ghost use Rattle.ax_model.specs.Bodies.{RecordShape};
 ghost use Rattle.ax_model.specs.CanonicalOctets.{canon_length};
 ghost use Rattle.ax_model.specs.Flaws.{NoFlaw};
 ghost use Rattle.ax_model.specs.Migrated.{MigratedBlock, Migrated, Lost};
-ghost use Rattle.ax_model.specs.Named.{NamedEntry, Named};
-ghost use Rattle.ax_model.specs.Placed.{named_place};
+ghost use Rattle.ax_model.specs.Named.{NamedEntry, Named, named_paths};
+ghost use Rattle.ax_model.specs.Placed.{place_from, named_place, placed_paths};
 ghost use Rattle.ax_model.specs.Same.{Same, is_same};
 ghost use Rattle.ax_model.specs.Specification.{SpecTree};
 ghost use Rattle.ax_model.specs.Tree.{KindTree, EntriesTree};
@@ -37,6 +38,12 @@ pub fn kept_or_lost()
 #[tactic(auto, using(crate::proofs::SameKinds::same_kinds, crate::proofs::SameKinds::kinds_same))]
 pub fn sameness_is_tested()
     ensures { (one other : KindTree) → is_same one other ≡ true ↔ Same one other }
+{}
+
+/// The placed paths are the named paths in order, each with its place.
+pub fn placed_paths_are_the_named_paths()
+    ensures names { (spec : SpecTree) → map (λ p. p.names) (placed_paths spec) ≡ named_paths spec }
+    ensures places { (spec : SpecTree) → NoFlaw spec → AllByRecursion (λ p. named_place spec p.names ≡ Some (place_from p.numbers)) (placed_paths spec) }
 {}
 
 /// The place of a named path is where the path leads in its specification.

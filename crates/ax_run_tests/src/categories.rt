@@ -39,6 +39,8 @@ impl<'m> BlockWork for CategoryWork<'m> {
 
     ghost command = { λ s. category_command s.mark.now };
 
+    ghost sound = { λ s. Unit {0} };
+
     ghost laid = { λ s. s.mark.now };
 
     ghost takes_memory = { false };
@@ -73,12 +75,33 @@ const ROWS: [(Option<u64>, Option<u64>, StreamEnd, &[u8], &[u8], usize); 10] = [
     (None, None, LONG, b"+++.+++.", b"048\n034\n", 4),
     (Some(0), None, StreamEnd::WriteFault, b"", b"048\n", 12),
     (Some(1), None, StreamEnd::WriteFault, b"++", b"048\n", 12),
-    (Some(2), None, StreamEnd::WriteFault, b"+++.", b"048\n034\n", 8),
-    (Some(3), None, StreamEnd::WriteFault, b"+++.++", b"048\n034\n", 8),
+    (
+        Some(2),
+        None,
+        StreamEnd::WriteFault,
+        b"+++.",
+        b"048\n034\n",
+        8,
+    ),
+    (
+        Some(3),
+        None,
+        StreamEnd::WriteFault,
+        b"+++.++",
+        b"048\n034\n",
+        8,
+    ),
     (None, Some(0), StreamEnd::ReportFault, b"", b"", 12),
     (None, Some(1), StreamEnd::ReportFault, b"", b"04", 12),
     (None, Some(2), StreamEnd::ReportFault, b"+++.", b"048\n", 8),
-    (None, Some(3), StreamEnd::ReportFault, b"+++.", b"048\n03", 8),
+    (
+        None,
+        Some(3),
+        StreamEnd::ReportFault,
+        b"+++.",
+        b"048\n03",
+        8,
+    ),
     (Some(4), Some(4), LONG, b"+++.+++.", b"048\n034\n", 4),
 ];
 

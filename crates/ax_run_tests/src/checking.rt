@@ -91,13 +91,7 @@ fn check_loads_once_and_writes_once(rt: HostRuntime) -> Result<(), Fail> {
     let alloc = rt.alloc();
     let input = octets(alloc, INPUT)?;
     for outside in [Outside::Load(1), Outside::Write(1)] {
-        let want = wanted(
-            alloc,
-            0,
-            &accepted(alloc, LINE_OF_E, FILE_E)?,
-            "",
-            10,
-        )?;
+        let want = wanted(alloc, 0, &accepted(alloc, LINE_OF_E, FILE_E)?, "", 10)?;
         leaves(&rt, alloc, "check E", &input, outside, want)?;
     }
     Ok(())

@@ -28,13 +28,7 @@ const LINES: [(&str, &str, u8, &str, &str); 10] = [
         "block 048 { record { SP \"aabb\" } }\n",
         "",
     ),
-    (
-        "text A",
-        "3E 00 05 80 FF",
-        0,
-        "opaque 062 \"80ff\"\n",
-        "",
-    ),
+    ("text A", "3E 00 05 80 FF", 0, "opaque 062 \"80ff\"\n", ""),
     (
         "text A 048",
         "30 00 08 01 01 40 0B 0C 3E 00 05 80 FF 30 00 04 00",
@@ -88,12 +82,6 @@ fn lines_of_each_block(rt: HostRuntime) -> Result<(), Fail> {
 fn a_line_is_one_piece(rt: HostRuntime) -> Result<(), Fail> {
     let alloc = rt.alloc();
     let input = octets(alloc, "3E 00 05 80 FF 3E 00 04 01")?;
-    let want = wanted(
-        alloc,
-        4,
-        b"opaque 062 \"80ff\"\n",
-        "fault write\n",
-        0,
-    )?;
+    let want = wanted(alloc, 4, b"opaque 062 \"80ff\"\n", "fault write\n", 0)?;
     leaves(&rt, alloc, "text A", &input, Outside::Write(1), want)
 }

@@ -148,8 +148,9 @@ fn commented(alloc: Global) -> Result<Vec<u8>, AllocError> {
 
 // File E, with blanks at its end.
 fn largest(alloc: Global) -> Result<Vec<u8>, AllocError> {
-    let mut made = FILE_E.as_bytes().to_vec(alloc)?;
-    while made.len() < LARGEST {
+    let text = FILE_E.as_bytes();
+    let mut made = text.to_vec(alloc)?;
+    for _ in text.len()..LARGEST {
         made.push(b' ')?;
     }
     Ok(made)

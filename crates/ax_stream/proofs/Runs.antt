@@ -52,8 +52,9 @@ left_splits rest octets left (Some after) e f = let g : ◌≡◌ {A = Option (L
 
 -- ---- the invariant of the block loop
 
-pub record Running (c : BlockCommand) (limit : ℕ) (i : SourceChange) (o r : SinkChange) (now : BlockCommand) (reader : ReaderState) (count : ℕ) : Type 0 where
+pub record Running (c : BlockCommand) (limit : ℕ) (i : SourceChange) (o r : SinkChange) (now : BlockCommand) (reader : ReaderState) (count : ℕ) (Sound : Type 0) : Type 0 where
   pub same : now ≡ c
+  pub sound : Sound
   pub limit_is : reader.limit ≡ limit
   pub open_ : IsOpen reader
   pub within : reader.given ≤ limit
@@ -64,13 +65,14 @@ pub record Running (c : BlockCommand) (limit : ℕ) (i : SourceChange) (o r : Si
   pub report_later : r.faults ≤ r.faults'
   pub told : (input : List ℕ) → AreOctets input → i.left ≡ Some input → SoFar c limit input i.left' o r reader.given count
 
-pub running_begins : (c : BlockCommand) (left held shown : Option (List ℕ)) (taken faults fails flaws : ℕ) (reader : ReaderState) → reader ≡ record { limit = reader.limit; given = 0; ended = None }
+pub running_begins : (c : BlockCommand) (left held shown : Option (List ℕ)) (taken faults fails flaws : ℕ) (reader : ReaderState) (Sound : Type 0) → Sound → reader ≡ record { limit = reader.limit; given = 0; ended = None }
     → Running c reader.limit (record { left = left; left' = left; taken = taken; taken' = taken; faults = faults; faults' = faults })
-    (record { held = held; held' = held; faults = fails; faults' = fails }) (record { held = shown; held' = shown; faults = flaws; faults' = flaws }) c reader 0
-running_begins c left held shown taken faults fails flaws reader e =
+    (record { held = held; held' = held; faults = fails; faults' = fails }) (record { held = shown; held' = shown; faults = flaws; faults' = flaws }) c reader 0 Sound
+running_begins c left held shown taken faults fails flaws reader Sound sound e =
     let z : reader.given ≡ 0 = ap (λ x. x.given) e in
     record {
       same = refl;
+      sound = sound;
       limit_is = refl;
       open_ = ap (λ x. x.ended) e;
       within = omega arith;
@@ -364,7 +366,7 @@ stop_licensed c number raw q OutOfMemory h = tt
 abbrev pub step : SinkChange → Option (List ℕ) → ℕ → SinkChange
 step o held faults = record { held = o.held'; held' = held; faults = o.faults'; faults' = faults }
 
-module _ (c : BlockCommand) (limit : ℕ) (i : SourceChange) (o r : SinkChange) (now : BlockCommand) (reader : ReaderState) (count : ℕ) (run : Running c limit i o r now reader count)
+module _ (c : BlockCommand) (limit : ℕ) (i : SourceChange) (o r : SinkChange) (now : BlockCommand) (reader : ReaderState) (count : ℕ) (Sound : Type 0) (run : Running c limit i o r now reader count Sound)
     (next : Option (List ℕ)) (t' f' : ℕ) (later : i.faults' ≤ f') where
   abbrev pub further : SourceChange
   further = record { left = i.left; left' = next; taken = i.taken; taken' = t'; faults = i.faults; faults' = f' }
@@ -446,9 +448,9 @@ module _ (c : BlockCommand) (limit : ℕ) (i : SourceChange) (o r : SinkChange) 
           report_later = report_still_later;
         }
 
-    pub run_on : (now' : BlockCommand) (reader' : ReaderState) → held ≡ with_end o.held' piece → now' ≡ now → reader'.limit ≡ reader.limit → reader'.given ≡ reader.given + (3 + length raw.body) → reader'.given ≤ reader'.limit → IsOpen reader'
-        → Running c limit further (both o (step o held fails)) (both r (step r shown flaws)) now' reader' (count + 1)
-    run_on now' reader' added kept same counts fits opened =
+    pub run_on : (now' : BlockCommand) (reader' : ReaderState) (Still : Type 0) → Still → held ≡ with_end o.held' piece → now' ≡ now → reader'.limit ≡ reader.limit → reader'.given ≡ reader.given + (3 + length raw.body) → reader'.given ≤ reader'.limit → IsOpen reader'
+        → Running c limit further (both o (step o held fails)) (both r (step r shown flaws)) now' reader' (count + 1) Still
+    run_on now' reader' Still still added kept same counts fits opened =
         let size : length g.octets ≡ 3 + length raw.body = framed_count raw.category raw.body g.octets g.framed in
         let q : t' ≡ i.taken' + length g.octets = g.took.counted in
         let k : i.taken' ≡ i.taken + reader.given = run.took in
@@ -456,6 +458,7 @@ module _ (c : BlockCommand) (limit : ℕ) (i : SourceChange) (o r : SinkChange) 
         let few : count ≤ reader.given = run.few in
         record {
           same = kept ∙ run.same;
+          sound = still;
           limit_is = same ∙ run.limit_is;
           open_ = opened;
           within = omega arith;

@@ -133,6 +133,8 @@ impl<'c, M: BlockMaker> BlockWork for TreeWork<'c, M> {
 
     ghost command = { λ s. tree_command (M.of_read s.maker) (M.of_opaque s.maker) (catalogue_tree s.catalogue.now) };
 
+    ghost sound = { λ s. Unit {0} };
+
     ghost laid = { λ s. s.octets.items };
 
     ghost takes_memory = { true };
@@ -144,13 +146,7 @@ impl<'c, M: BlockMaker> BlockWork for TreeWork<'c, M> {
         raw: &RawBlock<'_>,
         _report: &mut R,
     ) -> Result<(), WorkStop> {
-        match make_block(
-            self.alloc,
-            &self.maker,
-            self.catalogue,
-            number,
-            raw,
-        ) {
+        match make_block(self.alloc, &self.maker, self.catalogue, number, raw) {
             Ok(octets) => {
                 self.octets = octets;
                 Ok(())

@@ -6,10 +6,10 @@ use Rattle.std.proofs.lemmas.List.{take_more, map-append}
 use Rattle.ax_model.specs.Plain.{spec_tree, catalogue_tree}
 use Rattle.ax_model.specs.Specification.{SpecTree}
 use Rattle.ax_model.specs.declared.spec.Spec.{Spec}
-use Rattle.ax_tables.specs.Standing.{StandsFor, StandForEach}
+use Rattle.ax_tables.specs.Standing.{IsCompiled, StandForEach}
 use Rattle.ax_tables.specs.declared.codec.Codec.{Codec}
 
-each_more : (codecs : List Codec) (specs : List SpecTree) (codec : Codec) (spec : SpecTree) → StandForEach codecs specs → StandsFor codec spec → StandForEach (codecs ++ codec ∷ []) (specs ++ spec ∷ [])
+each_more : (codecs : List Codec) (specs : List SpecTree) (codec : Codec) (spec : SpecTree) → StandForEach codecs specs → IsCompiled codec spec → StandForEach (codecs ++ codec ∷ []) (specs ++ spec ∷ [])
 each_more [] [] codec spec h g = (g, tt)
 each_more [] (s ∷ specs) codec spec h g = absurd h
 each_more (c ∷ codecs) [] codec spec h g = absurd h
@@ -23,7 +23,7 @@ item_at (y ∷ xs) zero x e = same (sym e)
     same e = cc
 item_at (y ∷ xs) (suc i) x e = item_at xs i x e
 
-pub each_next : (all : List Spec) (i : ℕ) (spec : Spec) (codecs new : List Codec) (codec : Codec) → i < length all → slice_get all i ≡ Some spec → StandForEach codecs (catalogue_tree (take i all)) → StandsFor codec (spec_tree spec)
+pub each_next : (all : List Spec) (i : ℕ) (spec : Spec) (codecs new : List Codec) (codec : Codec) → i < length all → slice_get all i ≡ Some spec → StandForEach codecs (catalogue_tree (take i all)) → IsCompiled codec (spec_tree spec)
     → new ≡ codecs ++ codec ∷ [] → StandForEach new (catalogue_tree (take (i + 1) all))
 each_next all i spec codecs new codec lt at h g e =
     let specs : catalogue_tree (take (i + 1) all) ≡ catalogue_tree (take i all) ++ spec_tree spec ∷ [] =
@@ -34,7 +34,7 @@ same_categories : (codecs : List Codec) (all : List Spec) → StandForEach codec
 same_categories [] [] h = refl
 same_categories [] (s ∷ all) h = absurd h
 same_categories (c ∷ codecs) [] h = absurd h
-same_categories (c ∷ codecs) (s ∷ all) h = λ i. sym h.0.category i ∷ same_categories codecs all h.1 i
+same_categories (c ∷ codecs) (s ∷ all) h = λ i. sym h.0.stands.category i ∷ same_categories codecs all h.1 i
 
 -- codecs have categories that differ where the specifications do
 pub apart : (codecs : List Codec) (all : List Spec) → StandForEach codecs (catalogue_tree all) → IsDistinct nat_eq (map (λ spec. spec.category) all) → IsDistinct nat_eq (map (λ codec. codec.category) codecs)

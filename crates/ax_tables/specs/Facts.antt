@@ -12,7 +12,7 @@ use Rattle.ax_tables.specs.declared.node.Node.{Node}
 use Rattle.ax_tables.specs.declared.node.Node.TheVariants as Of
 use Rattle.ax_reader.specs.Reading.{IsMaskOf}
 
-links_prop : (n : ℕ) (links : List ℕ) → IsProp (LinksWithin n links)
+pub links_prop : (n : ℕ) (links : List ℕ) → IsProp (LinksWithin n links)
 links_prop n links = AllByRecursion-prop (λ link. (0 < link) × (link ≤ n)) (λ link. ×_prop le_prop le_prop) links
 
 slot_links_prop : (n : ℕ) (links : List ℕ) → IsProp (SlotLinksWithin n links)
@@ -62,7 +62,7 @@ mutual
   members_bounds_prop (member_and (named name f) ms) = ×_prop (fixed_bounds_prop f) (members_bounds_prop ms)
   members_bounds_prop (member_and (spare w) ms) = ×_prop (×_prop le_prop le_prop) (members_bounds_prop ms)
 
-part_bounds_prop : (p : MembersTree) → IsProp (PartInBounds p)
+pub part_bounds_prop : (p : MembersTree) → IsProp (PartInBounds p)
 part_bounds_prop p = three_prop (width_prop ((members_width p + 1) % 8) 0) le_prop (members_bounds_prop p)
 
 mutual

@@ -1,5 +1,6 @@
 -- The specifications that a codec stands for, and codecs by category.
 use Rattle.std.specs.Prelude.{ℕ, ◌==◌, List, [], ◌∷◌, find, Option}
+use Rattle.ax_model.specs.Flaws.{NoFlaw}
 use Rattle.ax_model.specs.Specification.{SpecTree}
 use Rattle.ax_tables.specs.Bare.{IsTableFor}
 use Rattle.ax_tables.specs.declared.codec.Codec.{Codec}
@@ -9,12 +10,17 @@ use Rattle.ax_tables.specs.declared.codec.Codec.{Codec}
 abbrev pub StandsFor : Codec → SpecTree → Type 0
 StandsFor codec spec = IsTableFor codec.category codec.slots codec.nodes spec
 
+-- the codec stands for that specification, which has no flaw
+pub record IsCompiled (codec : Codec) (spec : SpecTree) : Type 0 where
+  pub stands : StandsFor codec spec
+  pub clean : NoFlaw spec
+
 -- one codec for each specification, in order
 abbrev pub StandForEach : List Codec → List SpecTree → Type 0
 StandForEach [] [] = Unit {0}
 StandForEach [] (spec ∷ specs) = ⊥
 StandForEach (codec ∷ codecs) [] = ⊥
-StandForEach (codec ∷ codecs) (spec ∷ specs) = StandsFor codec spec × StandForEach codecs specs
+StandForEach (codec ∷ codecs) (spec ∷ specs) = IsCompiled codec spec × StandForEach codecs specs
 
 -- the codec of a category, where there is one
 abbrev pub codec_of : ℕ → List Codec → Option Codec

@@ -8,7 +8,7 @@ ghost use Rattle.ax_model.specs.Widths.{width, member_width, members_width};
 ghost use Rattle.ax_tables.specs.Bare.{bare_fixed, bare_of_member, bare_member, bare_members, bare_kind, bare_slot};
 ghost use Rattle.ax_tables.specs.Making.{IsMade, AreMade, SlotIsMade, SlotsAreMade, of_kind};
 ghost use Rattle.ax_tables.specs.Meaning.{Meaning, a_fixed, a_part, a_kind, meaning, meanings, linked_member, linked_part, linked_slots};
-ghost use Rattle.ax_tables.specs.Standing.{StandsFor};
+ghost use Rattle.ax_tables.specs.Standing.{IsCompiled};
 ghost use Rattle.ax_tables.specs.Table.{IsTable, IsNode};
 ghost use Rattle.ax_reader.specs.Reading.{IsMaskOf, SlotInBounds, record_slot_list, slot_of_frn};
 ghost use Rattle.std.specs.List.{AllByRecursion};
@@ -23,7 +23,7 @@ use std::alloc::{AllocError, Global};
 
 /// The table of an accepted specification. It stands for that specification.
 pub fn compile(alloc: Global, accepted: &Accepted) -> Result<Codec, AllocError>
-    ensures { IfOk result (λ codec. StandsFor codec (spec_tree accepted.now)) }
+    ensures { IfOk result (λ codec. IsCompiled codec (spec_tree accepted.now)) }
 {
     let spec = accepted.spec();
     let mut nodes = Nodes::new(alloc);

@@ -25,5 +25,7 @@ opaque_line category content a b c d h p q l =
     l ∙ ap (λ t. t ++ 0x0A ∷ []) (line_put (codes "opaque") (λ rest. three_digits category ∷ hex_text content ∷ rest) a c h (both_put (one_onto (three_digits category)) (one_onto (hex_text content)) a b c p q))
 
 pub ruleset record_ways = record_line
+
 pub ruleset read_ways = read_line
+
 pub ruleset opaque_ways = opaque_line

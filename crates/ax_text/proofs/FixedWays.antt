@@ -9,6 +9,7 @@ use Rattle.ax_text.specs.ValueText.{Texts, member_onto, members_onto}
 use Rattle.ax_text.proofs.Printed.{none_put, both_put, braces_put, Leaves, leaves_all, leaves_fewer, leaves_none}
 
 pub ruleset fixed_ways = (none_put, braces_put)
+
 pub ruleset member_ways = (none_put, both_put)
 
 -- ---- members

@@ -15,6 +15,7 @@ pub part_put : (p : MembersTree) (vs : ValuesTree) (a b c d e : List ℕ) → Pu
 part_put p vs a b c d e f g h k = both_put (one_onto part_word) (in_braces (members_onto p vs)) a b e f (braces_put (members_onto p vs) b c d e g h k)
 
 pub ruleset part_ways = part_put
+
 pub ruleset kind_ways = (none_put, braces_put)
 
 -- ---- parts
@@ -77,4 +78,5 @@ each_anything [] = tt
 each_anything (v ∷ vs) = (tt, each_anything vs)
 
 pub ruleset each_ways = (each_first, each_shape, each_next, each_ended)
+
 pub ruleset run_ways = (each_first, each_next, each_ended, each_anything)

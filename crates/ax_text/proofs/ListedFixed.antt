@@ -18,6 +18,7 @@ pub element_put : (old a b c x y : List ℕ) → a ≡ old ++ x → b ≡ a ++ y
 element_put old a b c x y e f g = line_put old b c (x ++ y) (two_pieces old a b x y e f) g
 
 pub ruleset element_ways = element_put
+
 pub ruleset spare_ways = line_put
 
 -- ---- members

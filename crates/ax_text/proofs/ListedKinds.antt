@@ -52,8 +52,11 @@ pub compound_put : (path : List ℕ) (ss : SlotsTree) (es : List Entry) (n : ℕ
 compound_put path ss es n a b c e p q = counted_put path (codes "subitems") n (entry_count (entries_tree es)) (entries_lines path 1 ss (entries_tree es)) a b c (e ∙ sym (entry_count_is es)) p q
 
 pub ruleset extended_ways = extended_put
+
 pub ruleset counted_ways = counted_lines
+
 pub ruleset run_ways = run_lines
+
 pub ruleset compound_ways = compound_put
 
 -- ---- parts
@@ -167,4 +170,5 @@ slot_listable ss zero h = tt
 slot_listable ss (suc i) h = behind_listable ss i h
 
 pub ruleset entry_ways = none_put
+
 pub ruleset entries_ways = (entry_shape, entry_next, entries_ended, slot_listable)

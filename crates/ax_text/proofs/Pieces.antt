@@ -11,6 +11,7 @@ pub three_pieces : (old a b c x y z : List ℕ) → a ≡ old ++ x → b ≡ a +
 three_pieces old a b c x y z e f g = two_pieces old b c (x ++ y) z (two_pieces old a b x y e f) g
 
 pub ruleset pieces = (two_pieces, three_pieces)
+
 pub ruleset made = (two_pieces, three_pieces)
 
 -- what was written, and a line feed

@@ -36,4 +36,5 @@ pub fraction_put : (old a b c : List ℕ) (n m d : ℕ) → d ≡ common_divisor
 fraction_put old a b c n m d e f g h = three_pieces old a b c (decimal (n / d)) (codes "/") (decimal (m / d)) f g h ∙ ap (λ d. old ++ (decimal (n / d) ++ codes "/" ++ decimal (m / d))) e
 
 pub ruleset fraction_ways = fraction_put
+
 pub ruleset multiple_ways = two_pieces

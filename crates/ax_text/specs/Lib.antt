@@ -7,3 +7,4 @@ pub mod Tokens
 pub mod Remarks
 pub mod ShowText
 pub mod Listable
+pub mod Examples

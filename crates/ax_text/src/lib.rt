@@ -1,8 +1,9 @@
-//! Blocks as text: the line that `text` writes for a block and `build` reads back.
+//! Blocks as text, which can be read back, and as listings, which say what the values mean.
 #![tactic(auto)]
 
 mod blocks;
 mod characters;
+pub mod examples;
 mod fixed;
 mod fractions;
 mod kinds;

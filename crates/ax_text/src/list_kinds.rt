@@ -68,12 +68,7 @@ impl Lister {
 
     /// The value of an item, a subitem or an occurrence.
     #[cycle(list_kind)]
-    pub(crate) fn kind(
-        &mut self,
-        value: &Value,
-        kind: &Kind,
-        path: &[u8],
-    ) -> Result<(), AllocError>
+    pub(crate) fn kind(&mut self, value: &Value, kind: &Kind, path: &[u8]) -> Result<(), AllocError>
         requires listable { KindListable (kind_tree kind.now) }
         requires shape { Shape (kind_tree kind.now) (value_tree value.now) }
         ensures { OnOk result (Puts as_lines (kind_lines (kind_tree kind.now) path.now (value_tree value.now)) self.old.out.items self.new.out.items) }
@@ -123,12 +118,7 @@ impl Lister {
     /// A compound: how many subitems are present, and each of them.
     #[cycle(list_kind)]
     #[tactic(auto, using(crate::proofs::ListedKinds::compound_ways))]
-    fn compound(
-        &mut self,
-        entries: &Entries,
-        slots: &Slots,
-        path: &[u8],
-    ) -> Result<(), AllocError>
+    fn compound(&mut self, entries: &Entries, slots: &Slots, path: &[u8]) -> Result<(), AllocError>
         requires listable { SlotsListable (slots_tree slots.now) }
         requires shape { EntriesShape 1 (slots_tree slots.now) (entries_tree entries.now) }
         ensures { OnOk result (Puts as_lines (kind_lines (compound (slots_tree slots.now)) path.now (marked (entries_tree entries.now))) self.old.out.items self.new.out.items) }
@@ -146,14 +136,14 @@ impl Lister {
         ensures { OnOk result (Puts as_lines (entries_lines path.now 1 (slots_tree slots.now) (entries_tree entries.now)) self.old.out.items self.new.out.items) }
     {
         for entry in entries.as_slice() {
-            self.entry_of(entry, slots, path)?;
+            self.entry(entry, slots, path)?;
         }
         Ok(())
     }
 
     #[cycle(list_kind)]
     #[tactic(auto, using(crate::proofs::ListedKinds::entry_ways))]
-    fn entry_of(&mut self, entry: &Entry, slots: &Slots, path: &[u8]) -> Result<(), AllocError>
+    fn entry(&mut self, entry: &Entry, slots: &Slots, path: &[u8]) -> Result<(), AllocError>
         requires listable { SlotListable (slot_numbered (slots_tree slots.now) entry.now.slot) }
         requires shape { SlotShape (slot_numbered (slots_tree slots.now) entry.now.slot) (value_tree entry.now.value) }
         ensures { OnOk result (Puts as_lines (slot_lines path.now (slot_numbered (slots_tree slots.now) entry.now.slot) (value_tree entry.now.value)) self.old.out.items self.new.out.items) }

@@ -38,7 +38,7 @@ impl Lister {
     {
         match content {
             Content::Raw => Ok(()),
-            Content::Table(entries) => self.entry(entries, number),
+            Content::Table(entries) => self.table_remark(entries, number),
             Content::Ascii => self.characters(number, width, Alphabet::Eight),
             Content::Icao => self.characters(number, width, Alphabet::Six),
             Content::Octal => self.characters(number, width, Alphabet::Three),
@@ -52,7 +52,7 @@ impl Lister {
         }
     }
 
-    fn entry(&mut self, entries: &TableTexts, number: u128) -> Result<(), AllocError>
+    fn table_remark(&mut self, entries: &TableTexts, number: u128) -> Result<(), AllocError>
         ensures { OnOk result (self.new.out.items ≡ self.old.out.items ++ entry_remark (find (λ entry. entry.number == number) entries.now)) }
     {
         match entry_of(entries, number) {
@@ -63,12 +63,7 @@ impl Lister {
 
     /// The characters of an element of so many bits.
     #[tactic(auto, using(crate::proofs::Pieces::pieces))]
-    fn characters(
-        &mut self,
-        number: u128,
-        width: u32,
-        alphabet: Alphabet,
-    ) -> Result<(), AllocError>
+    fn characters(&mut self, number: u128, width: u32, alphabet: Alphabet) -> Result<(), AllocError>
         requires { width ≤ 128 }
         ensures { OnOk result (self.new.out.items ≡ self.old.out.items ++ (codes " " ++ quoted (characters alphabet width number))) }
     {

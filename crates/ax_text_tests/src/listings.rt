@@ -54,60 +54,63 @@ item 010 "" counted { counted { element 8 raw } }
 item 020 "" compound { - A counted { group { B element 8 raw spare 4 C element 4 integer signed } } D explicit }
 } uap { 010 020 }"#;
 
+// Category files, the number of a block under each, its octets, and its listing.
+const LISTED: [(&str, u64, &str, &str); 9] = [
+    (CAT048_P1, 0, TARGET_REPORT, TARGET_REPORT_LISTED),
+    (
+        FILE_A,
+        0,
+        "22 00 0A E0 19 0C 01 00 00 80",
+        "block 0 category 034 octets 10 records 1\nrecord 0\n034/010/SAC = 25\n034/010/SIC = 12\n034/000 = 1 \"North marker message\"\n034/030 = 128 1/1 \"s\"\n",
+    ),
+    (
+        CAT048_P1,
+        7,
+        "30 00 08 0C 0E 00 3F FF",
+        "block 7 category 048 octets 8 records 1\nrecord 0\n048/070/V = 0\n048/070/G = 0\n048/070/L = 0\n048/070/spare = 0\n048/070/MODE3A = 3584 \"7000\"\n048/090/V = 0\n048/090/G = 0\n048/090/FL = 16383 -1/4 \"FL\"\n",
+    ),
+    (
+        CAT048_P1,
+        0,
+        "30 00 06 20 A1 00",
+        "block 0 category 048 octets 6 records 1\nrecord 0\n048/020 parts 2\n048/020/TYP = 5\n048/020/SIM = 0\n048/020/RDP = 0\n048/020/SPI = 0\n048/020/RAB = 0\n048/020/TST = 0\n048/020/spare = 0\n048/020/ME = 0\n048/020/MI = 0\n048/020/FOEFRI = 0\n",
+    ),
+    (
+        FILE_A,
+        0,
+        "3E 00 05 80 FF",
+        "block 0 category 062 octets 5 opaque \"80ff\"\n",
+    ),
+    (
+        CAT048_P1,
+        18446744073709551615,
+        "30 00 0C 81 00 19 0C 01 01 40 0B 0C",
+        "block 18446744073709551615 category 048 octets 11 records 2\nrecord 0\n048/010/SAC = 25\n048/010/SIC = 12\nrecord 1\n048/030 occurrences 2\n048/030[0] = 5\n048/030[1] = 6\n",
+    ),
+    (
+        CAT048_P1,
+        0,
+        "30 00 08 01 01 01 04 01",
+        "block 0 category 048 octets 8 records 1\nrecord 0\n048/SP octets \"\"\n",
+    ),
+    (
+        CAT048_P1,
+        0,
+        "30 00 05 02 00",
+        "block 0 category 048 octets 5 records 1\nrecord 0\n048/130 subitems 0\n",
+    ),
+    (
+        FILE_NESTED,
+        0,
+        "0A 00 13 C0 02 02 05 06 01 07 60 02 08 0F 09 F8 03 AA BB",
+        "block 0 category 010 octets 19 records 1\nrecord 0\n010/010 occurrences 2\n010/010[0] occurrences 2\n010/010[0][0] = 5\n010/010[0][1] = 6\n010/010[1] occurrences 1\n010/010[1][0] = 7\n010/020 subitems 2\n010/020/A occurrences 2\n010/020/A[0]/B = 8\n010/020/A[0]/spare = 0\n010/020/A[0]/C = 15 -1\n010/020/A[1]/B = 9\n010/020/A[1]/spare = 15\n010/020/A[1]/C = 8 -8\n010/020/D octets \"aabb\"\n",
+    ),
+];
+
 #[test]
 fn blocks_are_listed(rt: HostRuntime) -> Result<(), Fail> {
     let alloc = rt.alloc();
-    for (text, number, block, want) in [
-        (CAT048_P1, 0, TARGET_REPORT, TARGET_REPORT_LISTED),
-        (
-            FILE_A,
-            0,
-            "22 00 0A E0 19 0C 01 00 00 80",
-            "block 0 category 034 octets 10 records 1\nrecord 0\n034/010/SAC = 25\n034/010/SIC = 12\n034/000 = 1 \"North marker message\"\n034/030 = 128 1/1 \"s\"\n",
-        ),
-        (
-            CAT048_P1,
-            7,
-            "30 00 08 0C 0E 00 3F FF",
-            "block 7 category 048 octets 8 records 1\nrecord 0\n048/070/V = 0\n048/070/G = 0\n048/070/L = 0\n048/070/spare = 0\n048/070/MODE3A = 3584 \"7000\"\n048/090/V = 0\n048/090/G = 0\n048/090/FL = 16383 -1/4 \"FL\"\n",
-        ),
-        (
-            CAT048_P1,
-            0,
-            "30 00 06 20 A1 00",
-            "block 0 category 048 octets 6 records 1\nrecord 0\n048/020 parts 2\n048/020/TYP = 5\n048/020/SIM = 0\n048/020/RDP = 0\n048/020/SPI = 0\n048/020/RAB = 0\n048/020/TST = 0\n048/020/spare = 0\n048/020/ME = 0\n048/020/MI = 0\n048/020/FOEFRI = 0\n",
-        ),
-        (
-            FILE_A,
-            0,
-            "3E 00 05 80 FF",
-            "block 0 category 062 octets 5 opaque \"80ff\"\n",
-        ),
-        (
-            CAT048_P1,
-            18446744073709551615,
-            "30 00 0C 81 00 19 0C 01 01 40 0B 0C",
-            "block 18446744073709551615 category 048 octets 11 records 2\nrecord 0\n048/010/SAC = 25\n048/010/SIC = 12\nrecord 1\n048/030 occurrences 2\n048/030[0] = 5\n048/030[1] = 6\n",
-        ),
-        (
-            CAT048_P1,
-            0,
-            "30 00 08 01 01 01 04 01",
-            "block 0 category 048 octets 8 records 1\nrecord 0\n048/SP octets \"\"\n",
-        ),
-        (
-            CAT048_P1,
-            0,
-            "30 00 05 02 00",
-            "block 0 category 048 octets 5 records 1\nrecord 0\n048/130 subitems 0\n",
-        ),
-        (
-            FILE_NESTED,
-            0,
-            "0A 00 13 C0 02 02 05 06 01 07 60 02 08 0F 09 F8 03 AA BB",
-            "block 0 category 010 octets 19 records 1\nrecord 0\n010/010 occurrences 2\n010/010[0] occurrences 2\n010/010[0][0] = 5\n010/010[0][1] = 6\n010/010[1] occurrences 1\n010/010[1][0] = 7\n010/020 subitems 2\n010/020/A occurrences 2\n010/020/A[0]/B = 8\n010/020/A[0]/spare = 0\n010/020/A[0]/C = 15 -1\n010/020/A[1]/B = 9\n010/020/A[1]/spare = 15\n010/020/A[1]/C = 8 -8\n010/020/D octets \"aabb\"\n",
-        ),
-    ] {
+    for (text, number, block, want) in LISTED {
         let file = accepted(&rt, alloc, text)?;
         let octets = octets(alloc, block)?;
         let block = decoded(&rt, alloc, file.spec(), &octets)?;
@@ -122,50 +125,54 @@ fn blocks_are_listed(rt: HostRuntime) -> Result<(), Fail> {
     Ok(())
 }
 
+// Records of one item under `FILE_CONTENTS`, and the lines of the item.
+const REMARKED: [(&str, &str); 12] = [
+    ("80 01 01", "009/010/A = 1 \"one\"\n009/010/B = 1 \"one\"\n"),
+    ("80 02 02", "009/010/A = 2 \"two\"\n009/010/B = 2\n"),
+    ("40 41 0A 22 7E", "009/020 = 1091183230 \"A..~\"\n"),
+    ("40 20 7F 1F 80", "009/020 = 545202048 \" ...\"\n"),
+    (
+        "20 00 16 9B 83 0E 7A",
+        "009/030 = 97098337914 \".AZ. 09.\"\n",
+    ),
+    (
+        "10 80 FF 7F",
+        "009/040/A = 128 -128\n009/040/B = 255\n009/040/C = 127 127\n",
+    ),
+    (
+        "10 FF 00 00",
+        "009/040/A = 255 -1\n009/040/B = 0\n009/040/C = 0 0\n",
+    ),
+    (
+        "08 80 00 00 00 00 00 00 00 00 00 00 00 00 00 00 00",
+        "009/050 = 170141183460469231731687303715884105728 -170141183460469231731687303715884105728\n",
+    ),
+    (
+        "08 FF FF FF FF FF FF FF FF FF FF FF FF FF FF FF FF",
+        "009/050 = 340282366920938463463374607431768211455 -1\n",
+    ),
+    (
+        "04 FA 00 06",
+        "009/060/A = 250 -15/2 \"m s\"\n009/060/B = 0 0/1 \"\"\n009/060/C = 6 15/1 \"x\"\n",
+    ),
+    (
+        "02 FF FF FF FF FF FF FF FF",
+        "009/070 = 18446744073709551615 18446744073709551596553255926290448385/1 \"u\"\n",
+    ),
+    (
+        "01 80 80 00 00 00 00 00 00 00",
+        "009/080 = 9223372036854775808 -4611686018427387899388313981572612096/499999999999999999 \"u\"\n",
+    ),
+];
+
 #[test]
 fn each_content_is_remarked(rt: HostRuntime) -> Result<(), Fail> {
     let alloc = rt.alloc();
     let file = accepted(&rt, alloc, FILE_CONTENTS)?;
-    for (item, want) in [
-        ("80 01 01", "009/010/A = 1 \"one\"\n009/010/B = 1 \"one\"\n"),
-        ("80 02 02", "009/010/A = 2 \"two\"\n009/010/B = 2\n"),
-        ("40 41 0A 22 7E", "009/020 = 1091183230 \"A..~\"\n"),
-        ("40 20 7F 1F 80", "009/020 = 545202048 \" ...\"\n"),
-        (
-            "20 00 16 9B 83 0E 7A",
-            "009/030 = 97098337914 \".AZ. 09.\"\n",
-        ),
-        (
-            "10 80 FF 7F",
-            "009/040/A = 128 -128\n009/040/B = 255\n009/040/C = 127 127\n",
-        ),
-        (
-            "10 FF 00 00",
-            "009/040/A = 255 -1\n009/040/B = 0\n009/040/C = 0 0\n",
-        ),
-        (
-            "08 80 00 00 00 00 00 00 00 00 00 00 00 00 00 00 00",
-            "009/050 = 170141183460469231731687303715884105728 -170141183460469231731687303715884105728\n",
-        ),
-        (
-            "08 FF FF FF FF FF FF FF FF FF FF FF FF FF FF FF FF",
-            "009/050 = 340282366920938463463374607431768211455 -1\n",
-        ),
-        (
-            "04 FA 00 06",
-            "009/060/A = 250 -15/2 \"m s\"\n009/060/B = 0 0/1 \"\"\n009/060/C = 6 15/1 \"x\"\n",
-        ),
-        (
-            "02 FF FF FF FF FF FF FF FF",
-            "009/070 = 18446744073709551615 18446744073709551596553255926290448385/1 \"u\"\n",
-        ),
-        (
-            "01 80 80 00 00 00 00 00 00 00",
-            "009/080 = 9223372036854775808 -4611686018427387899388313981572612096/499999999999999999 \"u\"\n",
-        ),
-    ] {
+    for (item, want) in REMARKED {
         let body = octets(alloc, item)?;
-        let mut block = vec![in alloc; 0x09u8, 0, body.len() as u8 + 3]?;
+        assert!(rt; body.len() < 256 - 3);
+        let mut block = vec![in alloc; 9, 0, 3 + body.len() as u8]?;
         block.extend_from_slice(&body)?;
         let front = format!(in alloc;
             "block 0 category 009 octets {} records 1\nrecord 0\n",

@@ -1,23 +1,21 @@
 -- Records of a body, one after the other.
-use Rattle.std.proofs.Common.{◌≡◌, ℕ, zero, suc, ◌+◌, ◌-◌, ◌*◌, ◌<◌, ◌≤◌, Bool, IsTrue, List, [], ◌∷◌, ◌++◌, length, take, drop, flat_map, refl, sym, ◌∙◌, ap, arith, subst, length-append, append_assoc, append-nil, take-append-drop, length-drop, take-add}
+use Rattle.std.proofs.Common.{◌≡◌, ℕ, zero, suc, ◌+◌, ◌-◌, ◌<◌, ◌≤◌, Bool, IsTrue, List, [], ◌∷◌, ◌++◌, length, take, drop, refl, sym, ◌∙◌, ap, arith, subst, append_assoc, append-nil, take-append-drop, length-drop, take-add}
 use Rattle.std.proofs.lemmas.List.{length-take-le, take_all, append_cancel_right}
-use Rattle.std.proofs.lemmas.Grind.{flat_map-append}
 use Rattle.ax_bits.proofs.Words.{bits-append, length-bits}
 use Rattle.ax_bits.specs.Bits.{bits}
 use Rattle.ax_model.proofs.BodyReader.{compound_some}
 use Rattle.ax_model.proofs.Bounds.{record_bounds}
 use Rattle.ax_model.proofs.Once.{body_once}
-use Rattle.ax_model.specs.Bodies.{SpellsRecord, RecordsSpell, SpellsBody, FailsBody, FailsRecord, CanonRecord, CanonBody}
+use Rattle.ax_model.specs.Bodies.{SpellsRecord, RecordsSpell, SpellsBody, CanonRecord, CanonBody}
 use Rattle.ax_model.specs.Canonical.{canon}
 use Rattle.ax_model.specs.Flaws.{NoFlaw}
 use Rattle.ax_model.specs.InBounds.{InBounds}
 use Rattle.ax_model.specs.Specification.{SpecTree, record_kind, record_slots}
 use Rattle.ax_model.specs.Spelling.{Spells}
-use Rattle.ax_model.specs.Tree.{KindTree, SlotsTree, ValueTree, number, member_values, part_values, occurrences, content_octets, marked, EntriesTree, compound, slots_of}
+use Rattle.ax_model.specs.Tree.{SlotsTree, ValueTree, marked, EntriesTree, compound, slots_of}
 use Rattle.ax_model.specs.declared.fault.BodyFault.{BodyFault}
 use Rattle.ax_tables.proofs.BareKinds.{bare_read, bare_canon, stands_record}
 use Rattle.ax_tables.specs.Standing.{StandsFor}
-use Rattle.ax_tables.specs.Bare.{bare_kind}
 use Rattle.ax_tables.specs.Meaning.{meanings, linked_slots}
 use Rattle.ax_tables.specs.Table.{record_kind_at}
 use Rattle.ax_tables.specs.declared.codec.Codec.{Codec}
@@ -107,8 +105,8 @@ records_more codec spec body at end before least clean h t falls walked =
       records = t.records ++ r.entries ∷ [];
       spelled = subst (RecordsSpell spec (t.records ++ r.entries ∷ [])) (sym joined) (one_more spec t.records r.entries (bits (take at body)) x t.spelled (record { spells = r.spells }));
       canonical = λ f. (
-        let c : canon (record_kind spec) w.value ≡ x = append_cancel_right (canon (record_kind spec) w.value) x (bits (drop end body)) (w.canonical f ∙ octets_parts body at end s.forwards) in
-        canon_more spec t.records r.entries ∙ (λ i. t.canonical (falls f) i ++ (sym (ap (canon (record_kind spec)) r.is) ∙ c) i) ∙ sym joined);
+          let c : canon (record_kind spec) w.value ≡ x = append_cancel_right (canon (record_kind spec) w.value) x (bits (drop end body)) (w.canonical f ∙ octets_parts body at end s.forwards) in
+          canon_more spec t.records r.entries ∙ (λ i. t.canonical (falls f) i ++ (sym (ap (canon (record_kind spec)) r.is) ∙ c) i) ∙ sym joined);
     }
 
 pub body_next : (codec : Codec) (body : List ℕ) (at end : ℕ) (before least : Bool) → BodyTo codec body at before → (IsTrue least → IsTrue before)
@@ -121,19 +119,19 @@ body_next codec body at end before least h falls w = record {
 pub body_lost : (codec : Codec) (body : List ℕ) (at : ℕ) (before : Bool) (fault : BodyFault) → BodyTo codec body at before → at < length body → FailsAt (kind_read (record_kind_at codec.nodes codec.slots) body at) at fault → FailsThere codec body fault
 body_lost codec body at before fault h lt l = record {
   fails = λ spec clean stands. (
-    let t = h.records spec clean stands in
-    let f = fault_at (record_kind spec) body at fault (record_bounds spec clean) (loses_of codec spec body at fault stands l) in
-    record {
-      records = t.records;
-      before = bits (take at body);
-      left = bits (drop at body);
-      split = ap bits (sym (take-append-drop at body)) ∙ bits-append (take at body) (drop at body);
-      spelled = t.spelled;
-      some = omega (arith, length-bits (drop at body), length-drop at body);
-      place = f.place;
-      counted = omega (arith, f.bit, length-bits (take at body), length-take-le at body h.within);
-      fails = record { fails = f.fails.fails };
-    });
+      let t = h.records spec clean stands in
+      let f = fault_at (record_kind spec) body at fault (record_bounds spec clean) (loses_of codec spec body at fault stands l) in
+      record {
+        records = t.records;
+        before = bits (take at body);
+        left = bits (drop at body);
+        split = ap bits (sym (take-append-drop at body)) ∙ bits-append (take at body) (drop at body);
+        spelled = t.spelled;
+        some = omega (arith, length-bits (drop at body), length-drop at body);
+        place = f.place;
+        counted = omega (arith, f.bit, length-bits (take at body), length-take-le at body h.within);
+        fails = record { fails = f.fails.fails };
+      });
 }
 
 pub some_records : (spec : SpecTree) (rs : List EntriesTree) (b : List ℕ) → RecordsSpell spec rs b → 0 < length b → 0 < length rs

@@ -1,14 +1,14 @@
 -- A compound, or a record: its presence field and its marked slots.
-use Rattle.std.proofs.Common.{◌≡◌, ℕ, ◌*◌, ◌≤◌, Bool, Option, Some, None, IfSome, IfNone, IsTrue, List, ◌++◌, length, take, drop, subst, sym, take-append-drop}
-use Rattle.ax_bits.specs.Bits.{AreOctets, AreBits}
-use Rattle.ax_fspec.specs.Fields.{MarksSlots, FailsToMark, mask_slots}
+use Rattle.std.proofs.Common.{ℕ, ◌*◌, Bool, Option, Some, None, IfSome, IfNone, IsTrue, List, take, drop, subst, take-append-drop}
+use Rattle.ax_bits.specs.Bits.{AreOctets}
+use Rattle.ax_fspec.specs.Fields.{MarksSlots, FailsToMark}
 use Rattle.ax_fspec.specs.declared.mask.SlotMask.{SlotMask}
 use Rattle.ax_model.proofs.Meets.{NoneUndefined-append}
 use Rattle.ax_model.proofs.Spelled.{unmarked}
 use Rattle.ax_model.specs.Canonical.{canon}
 use Rattle.ax_model.specs.InBounds.{InBounds, SlotsInBounds}
 use Rattle.ax_model.specs.Presence.{NoneUndefined, slots_past}
-use Rattle.ax_model.specs.Tree.{SlotTree, slots_of, defined_slots, compound}
+use Rattle.ax_model.specs.Tree.{SlotTree, slots_of, defined_slots}
 use Rattle.ax_model.specs.declared.fault.BodyFault.{BodyFault}
 use Rattle.ax_tables.specs.Meaning.{meanings, linked_slots}
 use Rattle.ax_tables.specs.Table.{record_kind_at}

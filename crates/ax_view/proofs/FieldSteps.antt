@@ -1,25 +1,23 @@
 -- A presence field whose last octet marks something is the least one.
-use Rattle.std.proofs.Common.{◌≡◌, ℕ, zero, suc, ◌+◌, ◌-◌, ◌*◌, ◌^◌, ◌<◌, ◌≤◌, ◌⊎◌, inl, inr, Bool, true, false, cond, IsTrue, List, [], ◌∷◌, ◌++◌, length, take, drop, get_or, refl, sym, ◌∙◌, ap, arith, subst, length-append, length-drop, append_assoc, append-nil, take-append-drop}
+use Rattle.std.proofs.Common.{◌≡◌, ℕ, zero, suc, ◌+◌, ◌-◌, ◌*◌, ◌<◌, ◌≤◌, ◌⊎◌, inl, inr, Bool, true, false, cond, IsTrue, List, [], ◌∷◌, ◌++◌, length, take, drop, get_or, refl, sym, ◌∙◌, ap, arith, subst, length-append, length-drop, append_assoc, append-nil}
 use Rattle.std.proofs.lemmas.List.{take_at, drop_at, get_or-drop, length-take-le}
 use Rattle.ax_bits.proofs.Pieces.{number-word}
 use Rattle.ax_bits.proofs.Words.{length-word, length-bits, bits-AreBits}
-use Rattle.ax_bits.specs.Bits.{bits, word, number_of, AreBits, AreOctets}
+use Rattle.ax_bits.specs.Bits.{bits, word, number_of, AreOctets}
 use Rattle.ax_fspec.proofs.FieldLaws.{least_alike, alike_set}
 use Rattle.ax_fspec.proofs.FieldsWritten.{least_true, least_false}
-use Rattle.ax_fspec.specs.Fields.{MarksSlots, mask_slots}
+use Rattle.ax_fspec.specs.Fields.{MarksSlots}
 use Rattle.ax_fspec.specs.declared.mask.SlotMask.{SlotMask}
 use Rattle.ax_model.proofs.Bounds.{bounds_sound, count_of_slots}
-use Rattle.ax_model.proofs.Least.{Alike, later_slot, here, not_here, marks_of_spelled, marks_length}
-use Rattle.ax_model.proofs.Meets.{Meets, entries_meets, presence_bits}
-use Rattle.ax_model.specs.Reader.{Read, got, read, entries_read}
+use Rattle.ax_model.proofs.Least.{later_slot, here, not_here, marks_of_spelled}
+use Rattle.ax_model.proofs.Meets.{Meets, entries_meets}
 use Rattle.ax_model.specs.Canonical.{canon, marks_of, entries_canon}
-use Rattle.ax_model.specs.Failing.{IsPresence, EntriesFail}
+use Rattle.ax_model.specs.Failing.{EntriesFail}
 use Rattle.ax_model.specs.InBounds.{InBounds}
-use Rattle.ax_model.specs.Presence.{Presence, octets_needed, none_marked, first_mark, later_marks, least_presence, NoneUndefined}
-use Rattle.ax_model.specs.Sound.{SlotsSound}
+use Rattle.ax_model.specs.Presence.{Presence, octets_needed, none_marked, later_marks, least_presence, NoneUndefined}
 use Rattle.ax_model.specs.Spelling.{EntriesSpell}
-use Rattle.ax_model.specs.Tree.{KindTree, ValueTree, EntriesTree, no_entries, entry_and, SlotsTree, no_slots, slot_and, SlotTree, spare_slot, subitem, slots_of, slot_count, defined_slots, compound, marked}
-use Rattle.ax_reader.proofs.AtOctets.{octets_parts, length-octets}
+use Rattle.ax_model.specs.Tree.{EntriesTree, no_entries, entry_and, SlotsTree, no_slots, slot_and, SlotTree, spare_slot, subitem, slots_of, slot_count, defined_slots, compound, marked}
+use Rattle.ax_reader.proofs.AtOctets.{octets_parts}
 use Rattle.ax_reader.proofs.Marking.{field_read, marks_bits}
 use Rattle.ax_reader.specs.Reading.{Gets, IsMaskOf, kind_read, entries_at}
 use Rattle.ax_view.proofs.Leading.{leads_by}
@@ -32,10 +30,10 @@ none_number [] h = refl
 none_number (zero ∷ b) h = let e = none_number b h in omega arith
 none_number (suc x ∷ b) h = cc
 
-none_behind : (a b : List ℕ) → none_marked b ≡ false → none_marked (a ++ b) ≡ false
-none_behind [] b h = h
-none_behind (zero ∷ a) b h = none_behind a b h
-none_behind (suc x ∷ a) b h = refl
+none_after : (a b : List ℕ) → none_marked b ≡ false → none_marked (a ++ b) ≡ false
+none_after [] b h = h
+none_after (zero ∷ a) b h = none_after a b h
+none_after (suc x ∷ a) b h = refl
 
 none_with_zero : (a : List ℕ) → IsTrue (none_marked a) → IsTrue (none_marked (a ++ 0 ∷ []))
 none_with_zero [] h = refl
@@ -80,9 +78,9 @@ marked_last : (x : ℕ) (xs seven : List ℕ) → x < 256 → (last_of x xs ≡ 
 marked_last x xs seven lt some f =
     let alone : xs ≡ [] = no_octets xs f.rest in
     is_false (none_marked seven) (λ none. (
-      let zeros : IsTrue (none_marked (word 8 x)) = subst (λ b. IsTrue (none_marked b)) (sym f.octet) (none_with_zero seven none) in
-      let z : x ≡ 0 = sym (number-word 8 x lt) ∙ none_number (word 8 x) zeros in
-      some (ap (last_of x) alone ∙ z)))
+    let zeros : IsTrue (none_marked (word 8 x)) = subst (λ b. IsTrue (none_marked b)) (sym f.octet) (none_with_zero seven none) in
+    let z : x ≡ 0 = sym (number-word 8 x lt) ∙ none_number (word 8 x) zeros in
+    some (ap (last_of x) alone ∙ z)))
 
 presence_none : (k : ℕ) (ms : List ℕ) → Presence k ms [] → ⊥
 presence_none zero ms h = h
@@ -96,7 +94,7 @@ marked_octets zero ms (x ∷ xs) d octets h some = absurd h
 marked_octets (suc k) ms (x ∷ xs) d octets (seven, l, bit, inl (e, f)) some = ap none_marked e ∙ marked_last x xs seven octets.0 some (first_octet x xs seven [] 0 f l)
 marked_octets (suc k) ms (x ∷ xs) d octets (seven, l, bit, inr (more, y, e, f, t)) some =
     let o = first_octet x xs seven y 1 f l in
-    ap none_marked e ∙ none_behind seven more (marked_octets k more xs x octets.1 (subst (Presence k more) (sym o.rest) t) some)
+    ap none_marked e ∙ none_after seven more (marked_octets k more xs x octets.1 (subst (Presence k more) (sym o.rest) t) some)
 
 none_of : (xs : List ℕ) → length xs ≡ 0 → xs ≡ []
 none_of [] e = refl
@@ -123,7 +121,6 @@ least_octets (suc k) ms (x ∷ xs) d octets (seven, l, bit, inr (more, y, e, f, 
     ∙ (λ i. take_at seven more 7 l i ++ 1 ∷ least_presence k (drop_at seven more 7 l i))
     ∙ ap (λ z. seven ++ 1 ∷ z) (least_octets k more xs x octets.1 later (inr last) ∙ o.rest) ∙ sym f
 
-
 -- ---- entries along their marks
 
 pub along_is : (s : ℕ) (ss : SlotsTree) (ms : List ℕ) (es : EntriesTree) (b : List ℕ) → EntriesSpell s ss ms es b → entries_canon s ss es ≡ along ss ms es
@@ -139,7 +136,7 @@ along_is s (slot_and (subitem name k) ss) ms (entry_and t v es) b (inr (z, q)) =
     ap (λ b. cond b (canon k v ++ entries_canon (s + 1) ss es) (entries_canon (s + 1) ss (entry_and t v es))) (not_here t s (later_slot (s + 1) ss (later_marks ms) t v es b q))
     ∙ along_is (s + 1) ss (later_marks ms) (entry_and t v es) b q ∙ sym (ap (λ m. along_mark m k (along ss (later_marks ms)) (entry_and t v es)) z)
 
--- ---- behind the field
+-- ---- after the field
 
 octets_taken : (n : ℕ) (xs : List ℕ) → AreOctets xs → AreOctets (take n xs)
 octets_taken zero xs h = tt
@@ -176,7 +173,7 @@ module _ (slots : List SlotTree) (mask : SlotMask) (body marks : List ℕ) (at h
           ∙ last_window (here - at - 1) (drop at body) 0 (omega (arith, length-drop at body, h.within, h.begins)) ∙ get_or-drop at body (here - at - 1) 0
           ∙ ap (λ n. get_or body n 0) (let e : at + (here - at - 1) ≡ here - 1 = omega (arith, h.begins) in e)
 
-  -- the entries that were read behind the field
+  -- the entries that were read after the field
   pub spelled : (es : EntriesTree) (end : ℕ) → Gets (entries_at (slots_of slots) marks body here) body here end es → NoneUndefined (defined_slots (slots_of slots)) marks → (x : List ℕ) × EntriesSpell 1 (slots_of slots) marks es x
   unfolding entries_at
   spelled es end g clear =
@@ -191,9 +188,9 @@ module _ (slots : List SlotTree) (mask : SlotMask) (body marks : List ℕ) (at h
       let k = octets_needed (slot_count ss) in
       leads_by (along ss marks) (entries_at ss marks body here) (canon (compound ss)) (kind_read (compound ss) body at) body at here (λ es. marked es) least h.within (field_read slots mask body marks at here m h)
       (λ es end f g c. (
-        let s = spelled es end g clear in
-        let field : least_presence k (marks_of 1 ss es) ≡ bits window =
-        least_alike k (marks_of 1 ss es) marks (marks_of_spelled 1 ss marks es s.0 s.1) ∙ sym (least_alike k field_marks marks (alike_set (7 * h.field.octets) marks h.field.no_other))
-        ∙ least_octets k field_marks window 0 (octets_taken (here - at) (drop at body) (octets_left at body octets)) presence (needs (need f)) in
-        append_assoc (least_presence k (marks_of 1 ss es)) (entries_canon 1 ss es) (bits (drop end body))
-        ∙ (λ i. field i ++ (along_is 1 ss marks es s.0 s.1 i ++ bits (drop end body))) ∙ ap (λ z. bits window ++ z) c ∙ sym (octets_parts body at here (omega (arith, h.begins)))))
+      let s = spelled es end g clear in
+      let field : least_presence k (marks_of 1 ss es) ≡ bits window =
+      least_alike k (marks_of 1 ss es) marks (marks_of_spelled 1 ss marks es s.0 s.1) ∙ sym (least_alike k field_marks marks (alike_set (7 * h.field.octets) marks h.field.no_other))
+      ∙ least_octets k field_marks window 0 (octets_taken (here - at) (drop at body) (octets_left at body octets)) presence (needs (need f)) in
+      append_assoc (least_presence k (marks_of 1 ss es)) (entries_canon 1 ss es) (bits (drop end body))
+      ∙ (λ i. field i ++ (along_is 1 ss marks es s.0 s.1 i ++ bits (drop end body))) ∙ ap (λ z. bits window ++ z) c ∙ sym (octets_parts body at here (omega (arith, h.begins)))))

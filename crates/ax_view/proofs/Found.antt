@@ -1,6 +1,6 @@
 -- Entries that are looked for along the marks.
-use Rattle.std.proofs.Common.{◌≡◌, ℕ, zero, suc, ◌+◌, ◌-◌, ◌*◌, ◌<◌, ◌≤◌, ◌==◌, if◌then◌else◌, Bool, true, false, IsTrue, Option, Some, None, List, [], ◌∷◌, ◌++◌, length, take, drop, get_or, set, refl, sym, ◌∙◌, ap, arith, subst, append-nil, length-drop}
-use Rattle.std.proofs.lemmas.List.{length-take-le}
+use Rattle.std.proofs.Common.{◌≡◌, ℕ, zero, suc, ◌-◌, ◌*◌, ◌<◌, ◌≤◌, ◌==◌, if◌then◌else◌, Bool, true, false, Option, Some, None, IfSome, List, [], length, take, drop, get_or, refl, sym, ◌∙◌, ap, arith, subst, append-nil, length-drop}
+use Rattle.std.proofs.lemmas.List.{length-take-le, get_or_default}
 use Rattle.std.proofs.lemmas.Bool.{eqb-true}
 use Rattle.ax_bits.specs.Bits.{bits, number_of, AreBits}
 use Rattle.ax_model.specs.Widths.{width}
@@ -15,21 +15,24 @@ use Rattle.ax_model.proofs.Spelled.{read_spelled}
 use Rattle.ax_model.specs.Canonical.{canon}
 use Rattle.ax_model.specs.InBounds.{InBounds}
 use Rattle.ax_model.specs.Presence.{NoneUndefined}
-use Rattle.ax_model.specs.Tree.{FixedTree, element, group, KindTree, fixed, extended, counted, by_fx, explicit, ValueTree, part_values, occurrences, marked, EntriesTree, no_entries, entry_and, SlotTree, SlotsTree, slots_of, defined_slots, compound}
+use Rattle.ax_model.specs.Tree.{FixedTree, element, group, KindTree, fixed, extended, counted, by_fx, explicit, ValueTree, part_values, occurrences, marked, EntriesTree, no_entries, entry_and, SlotTree, slots_of, defined_slots, compound}
 use Rattle.ax_model.specs.declared.fault.BodyCause.{BodyCause}
 use Rattle.ax_model.specs.declared.fault.BodyFault.{BodyFault}
 use Rattle.ax_tables.specs.Meaning.{meanings, linked, fixed_of, linked_members, linked_parts, linked_slots}
-use Rattle.ax_tables.specs.Table.{IsTable, kind_at, record_kind_at}
+use Rattle.ax_tables.specs.Table.{kind_at, record_kind_at}
 use Rattle.ax_tables.specs.declared.node.Node.{Node}
 use Rattle.ax_tables.specs.declared.node.Node.TheVariants as Of
 use Rattle.ax_reader.proofs.Exact.{spelled_at}
 use Rattle.ax_reader.proofs.Marking.{field_read, field_failed}
 use Rattle.ax_reader.specs.Reading.{Gets, FailsAt, IsMaskOf, kind_read, entries_at}
 use Rattle.ax_view.proofs.MarkedSteps.{NextMarked, no_entries_left}
-use Rattle.ax_view.proofs.NodeKinds.{is_element, is_group, is_part, is_extended, is_counted, is_by_fx, is_explicit, is_compound}
+use Rattle.ax_view.proofs.NodeKinds.{is_element, is_group, no_part, is_extended, is_counted, is_by_fx, is_explicit, is_compound}
 use Rattle.ax_model.specs.At.{slot_value}
-use Rattle.ax_view.specs.Values.{IsAll, IsOne, value_read, entries_found, value_in, entries_in}
+use Rattle.ax_tables.specs.declared.codec.Codec.{Codec}
+use Rattle.ax_view.specs.Values.{IsItem, IsItemOf, ItemInBounds, IsAll, IsOne, value_read, entries_found, value_in, entries_in}
+use Rattle.ax_view.specs.Shown.{IsOfSlot, IsSubitem}
 use Rattle.ax_view.specs.Walking.{Walks}
+use Rattle.ax_view.specs.declared.item.ItemView.{ItemView}
 
 -- ---- all of the bits
 
@@ -105,7 +108,7 @@ module _ (nodes : List Node) (links marks left now body : List ℕ) (t at here s
     rest_all : IsAll (entries_at (slots_of (linked_slots (meanings nodes) links)) now body end)
     rest_all = all_after (8 * (end - here)) (λ es. entry_and t w.value es) (entries_at (slots_of (linked_slots (meanings nodes) links)) now body end) (subst IsAll goes_on h.all)
 
-    found : entries_found (entries_at (slots_of (linked_slots (meanings nodes) links)) left body here) ≡ entry_and t w.value (entries_found (entries_at (slots_of (linked_slots (meanings nodes) links)) now body end))
+    pub found : entries_found (entries_at (slots_of (linked_slots (meanings nodes) links)) left body here) ≡ entry_and t w.value (entries_found (entries_at (slots_of (linked_slots (meanings nodes) links)) now body end))
     found = ap entries_found goes_on ∙ found_after t (8 * (end - here)) w.value (entries_at (slots_of (linked_slots (meanings nodes) links)) now body end) rest_all
 
     pub left_next : (t ≡ slot → ⊥) → Left (linked_slots (meanings nodes) links) marks now body at end slot
@@ -133,7 +136,7 @@ pub left_none : (slots : List SlotTree) (marks left body : List ℕ) (at here sl
 unfolding entries_at
 left_none slots marks left body at here slot h e = sym (ap (λ r. slot_value slot (entries_found r)) (no_entries_left 1 (slots_of slots) left (bits (drop here body)) (no_next_slot 1 left e))) ∙ h.same
 
--- ---- behind the presence field
+-- ---- after the presence field
 
 module _ (ns : List Node) (links : List ℕ) (mask : SlotMask) (body : List ℕ) (m : IsMaskOf (linked_slots (meanings ns) links) mask) (one : IsOne (record_kind_at ns links) body) where
   whole_all : IsAll (kind_read (compound (slots_of (linked_slots (meanings ns) links))) body 0)
@@ -155,55 +158,79 @@ module _ (ns : List Node) (links : List ℕ) (mask : SlotMask) (body : List ℕ)
 
 -- ---- a subitem
 
-module _ (ns : List Node) (link : ℕ) (body : List ℕ) (one : Node) (table : IsTable ns) (some : 0 < link) (within : link ≤ length ns) (bounds : InBounds (kind_at ns link)) (octets : IsOne (kind_at ns link) body) (at : one ≡ get_or ns (link - 1) one) where
+bounds_by : (fx : Bool) (ns : List Node) (links : List ℕ) → ItemInBounds fx (record_kind_at ns links) → InBounds (record_kind_at ns links)
+unfolding record_kind_at
+bounds_by false ns links h = h
+bounds_by true ns links h = absurd h
+
+one_by : (fx : Bool) (ns : List Node) (links body : List ℕ) → IsItemOf fx (record_kind_at ns links) body → IsOne (record_kind_at ns links) body
+unfolding record_kind_at
+one_by false ns links body h = h
+one_by true ns links body h = absurd h.fits
+
+entries_after_none : {A : Type 0} (n : ℕ) (f : A → ValueTree) (r : Read A) → ((a : A) → entries_in (f a) ≡ no_entries) → entries_in (value_read (after n f r)) ≡ no_entries
+entries_after_none n f (got a m y) h = h a
+entries_after_none n f (failed p c) h = refl
+
+fixed_none : (f : FixedTree) (x : List ℕ) → entries_in (fixed_value f x) ≡ no_entries
+fixed_none (element w c) x = refl
+fixed_none (group ms) x = refl
+
+fixed_read_none : (f : FixedTree) (s : Split) → entries_in (value_read (fixed_read f s)) ≡ no_entries
+fixed_read_none f short = refl
+fixed_read_none f (cut x y) = fixed_none f x
+
+count_none : (rule : List ℕ → Read ValueTree) (s : Split) → entries_in (value_read (count_read rule s)) ≡ no_entries
+count_none rule short = refl
+count_none rule (cut x y) = entries_after_none 8 (λ vs. occurrences vs) (each_read rule (number_of x) y) (λ vs. refl)
+
+octets_none : (m : ℕ) (s : Split) → entries_in (value_read (octets_read m s)) ≡ no_entries
+octets_none m short = refl
+octets_none m (cut x y) = refl
+
+contents_none : (n : ℕ) (y : List ℕ) → entries_in (value_read (contents_read n y)) ≡ no_entries
+contents_none zero y = refl
+contents_none (suc m) y = octets_none m (split (8 * m) y)
+
+explicit_none : (s : Split) → entries_in (value_read (explicit_read s)) ≡ no_entries
+explicit_none short = refl
+explicit_none (cut x y) = contents_none (number_of x) y
+
+module _ (codec : Codec) (link : ℕ) (fx : Bool) (body : List ℕ) (one : Node) (item : IsItem codec link fx body) (at : one ≡ get_or codec.nodes (link - 1) one) where
   module _ (mask : SlotMask) (links found : List ℕ) (e : one ≡ Of.Compound mask links) (f : found ≡ links) where
-    pub compound_bounds : InBounds (record_kind_at ns found)
-    compound_bounds = subst InBounds (is_compound ns link one table some within at mask links found e f) bounds
+    kind_is : kind_at codec.nodes link ≡ record_kind_at codec.nodes found
+    kind_is = is_compound codec.nodes link one codec.table item.some item.within at mask links found e f
 
-    pub compound_one : IsOne (record_kind_at ns found) body
-    compound_one = subst (λ k. IsOne k body) (is_compound ns link one table some within at mask links found e f) octets
+    pub compound_bounds : InBounds (record_kind_at codec.nodes found)
+    compound_bounds = bounds_by fx codec.nodes found (subst (ItemInBounds fx) kind_is item.bounds)
 
-    pub compound_entries : entries_in (value_in (record_kind_at ns found) body) ≡ entries_in (value_in (kind_at ns link) body)
-    compound_entries = ap (λ k. entries_in (value_in k body)) (sym (is_compound ns link one table some within at mask links found e f))
+    pub compound_one : IsOne (record_kind_at codec.nodes found) body
+    compound_one = one_by fx codec.nodes found body (subst (λ k. IsItemOf fx k body) kind_is item.one)
 
-  no_entries_after : {A : Type 0} (n : ℕ) (f : A → ValueTree) (r : Read A) → ((a : A) → entries_in (f a) ≡ no_entries) → entries_in (value_read (after n f r)) ≡ no_entries
-  no_entries_after n f (got a m y) h = h a
-  no_entries_after n f (failed p c) h = refl
+    pub compound_entries : entries_in (value_in (record_kind_at codec.nodes found) body) ≡ entries_in (value_in (kind_at codec.nodes link) body)
+    compound_entries = ap (λ k. entries_in (value_in k body)) (sym kind_is)
 
-  fixed_none : (f : FixedTree) (x : List ℕ) → entries_in (fixed_value f x) ≡ no_entries
-  fixed_none (element w c) x = refl
-  fixed_none (group ms) x = refl
-
-  fixed_read_none : (f : FixedTree) (s : Split) → entries_in (value_read (fixed_read f s)) ≡ no_entries
-  fixed_read_none f short = refl
-  fixed_read_none f (cut x y) = fixed_none f x
-
-  count_none : (rule : List ℕ → Read ValueTree) (s : Split) → entries_in (value_read (count_read rule s)) ≡ no_entries
-  count_none rule short = refl
-  count_none rule (cut x y) = no_entries_after 8 (λ vs. occurrences vs) (each_read rule (number_of x) y) (λ vs. refl)
-
-  octets_none : (m : ℕ) (s : Split) → entries_in (value_read (octets_read m s)) ≡ no_entries
-  octets_none m short = refl
-  octets_none m (cut x y) = refl
-
-  contents_none : (n : ℕ) (y : List ℕ) → entries_in (value_read (contents_read n y)) ≡ no_entries
-  contents_none zero y = refl
-  contents_none (suc m) y = octets_none m (split (8 * m) y)
-
-  explicit_none : (s : Split) → entries_in (value_read (explicit_read s)) ≡ no_entries
-  explicit_none short = refl
-  explicit_none (cut x y) = contents_none (number_of x) y
-
-  of_kind : (k : KindTree) → kind_at ns link ≡ k → entries_in (value_in k body) ≡ no_entries → entries_in (value_in (kind_at ns link) body) ≡ no_entries
+  of_kind : (k : KindTree) → kind_at codec.nodes link ≡ k → entries_in (value_in k body) ≡ no_entries → entries_in (value_in (kind_at codec.nodes link) body) ≡ no_entries
   of_kind k e h = ap (λ k. entries_in (value_in k body)) e ∙ h
 
-  pub no_compound : (is : Node) → one ≡ is → ((mask : SlotMask) (links : List ℕ) → one ≡ Of.Compound mask links → ⊥) → entries_in (value_in (kind_at ns link) body) ≡ no_entries
+  pub no_compound : (is : Node) → one ≡ is → ((mask : SlotMask) (links : List ℕ) → one ≡ Of.Compound mask links → ⊥) → entries_in (value_in (kind_at codec.nodes link) body) ≡ no_entries
   unfolding value_in
-  no_compound (Of.Element w) e h = of_kind (fixed (element w Raw)) (is_element ns link one table some within at w e) (fixed_read_none (element w Raw) (split w (bits body)))
-  no_compound (Of.Group w links) e h = let f = group (linked_members (meanings ns) links) in of_kind (fixed f) (is_group ns link one table some within at w links e) (fixed_read_none f (split (width f) (bits body)))
-  no_compound (Of.Part w links) e h = absurd (is_part ns link one table some within at w links e bounds)
-  no_compound (Of.Extended links) e h = let ps = linked_parts (meanings ns) links in of_kind (extended ps) (is_extended ns link one table some within at links links e refl) (no_entries_after 0 (λ ls. part_values ls) (parts_read ps (bits body)) (λ ls. refl))
-  no_compound (Of.Counted inner) e h = of_kind (counted (kind_at ns inner)) (is_counted ns link one table some within at inner e) (count_none (read (kind_at ns inner)) (split 8 (bits body)))
-  no_compound (Of.ByFx inner) e h = let f = fixed_of (linked (meanings ns) inner) in of_kind (by_fx f) (is_by_fx ns link one table some within at inner e) (no_entries_after 0 (λ vs. occurrences vs) (run_read (suc (length (bits body))) f (bits body)) (λ vs. refl))
-  no_compound Of.Explicit e h = of_kind explicit (is_explicit ns link one table some within at e) (explicit_none (split 8 (bits body)))
+  no_compound (Of.Element w) e h = of_kind (fixed (element w Raw)) (is_element codec.nodes link one codec.table item.some item.within at w e) (fixed_read_none (element w Raw) (split w (bits body)))
+  no_compound (Of.Group w links) e h = let f = group (linked_members (meanings codec.nodes) links) in of_kind (fixed f) (is_group codec.nodes link one codec.table item.some item.within at w links e) (fixed_read_none f (split (width f) (bits body)))
+  no_compound (Of.Part w links) e h = absurd (no_part fx codec.nodes link one codec.table item.some item.within at w links e item.bounds)
+  no_compound (Of.Extended links) e h = let ps = linked_parts (meanings codec.nodes) links in of_kind (extended ps) (is_extended codec.nodes link one codec.table item.some item.within at links links e refl) (entries_after_none 0 (λ ls. part_values ls) (parts_read ps (bits body)) (λ ls. refl))
+  no_compound (Of.Counted inner) e h = of_kind (counted (kind_at codec.nodes inner)) (is_counted codec.nodes link one codec.table item.some item.within at inner e) (count_none (read (kind_at codec.nodes inner)) (split 8 (bits body)))
+  no_compound (Of.ByFx inner) e h = let f = fixed_of (linked (meanings codec.nodes) inner) in of_kind (by_fx f) (is_by_fx codec.nodes link one codec.table item.some item.within at inner e) (entries_after_none 0 (λ vs. occurrences vs) (run_read (suc (length (bits body))) f (bits body)) (λ vs. refl))
+  no_compound Of.Explicit e h = of_kind explicit (is_explicit codec.nodes link one codec.table item.some item.within at e) (explicit_none (split 8 (bits body)))
   no_compound (Of.Compound mask links) e h = absurd (h mask links e)
+
+-- the place of a subitem
+pub subitem_place : (outer : ItemView) (slot : ℕ) (one : Node) (mask : SlotMask) (links found : List ℕ) (r : Option ItemView) → 0 < outer.link → outer.link ≤ length outer.codec.now.nodes → one ≡ get_or outer.codec.now.nodes (outer.link - 1) one
+    → one ≡ Of.Compound mask links → found ≡ links → IfSome r (IsOfSlot outer.codec.now found slot) → IfSome r (IsSubitem outer slot)
+subitem_place outer slot one mask links found None some within at e f h = tt
+subitem_place outer slot one mask links found (Some item) some within at e f h = record {
+  mask = mask;
+  links = links;
+  node = get_or_default outer.codec.now.nodes (outer.link - 1) Of.Explicit one (omega arith) ∙ sym at ∙ e;
+  of_slot = subst (λ links. IsOfSlot outer.codec.now links slot item) f h;
+}

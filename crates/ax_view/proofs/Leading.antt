@@ -18,7 +18,7 @@ leads_on rule next mid_rule mid whole_rule whole body at here end before least f
   loses = λ fault l. h.loses fault (t.loses fault l);
 }
 
--- what is read behind a front goes on in a larger value
+-- what is read after a front goes on in a larger value
 pub leads_by : {A B : Type 0} (rule : A → List ℕ) (rest : Read A) (whole_rule : B → List ℕ) (whole : Read B) (body : List ℕ) (at here : ℕ) (g : A → B) (least : Bool) → here ≤ length body → Continues whole at here g rest
     → ((a : A) (end : ℕ) → IsTrue least → Gets rest body here end a → rule a ++ bits (drop end body) ≡ bits (drop here body) → whole_rule (g a) ++ bits (drop end body) ≡ bits (drop at body))
     → Leads rule rest whole_rule whole body at here least

@@ -1,25 +1,24 @@
 -- Marked slots, one after the other.
-use Rattle.std.proofs.Common.{◌≡◌, ℕ, zero, suc, ◌+◌, ◌-◌, ◌*◌, ◌<◌, ◌≤◌, max, Bool, true, false, IsTrue, List, [], ◌∷◌, ◌++◌, length, drop, get_or, set, map, refl, sym, ◌∙◌, ap, arith, subst, append_assoc}
+use Rattle.std.proofs.Common.{◌≡◌, ℕ, zero, suc, ◌+◌, ◌-◌, ◌*◌, ◌<◌, ◌≤◌, max, Bool, IsTrue, List, [], ◌∷◌, ◌++◌, length, drop, get_or, set, map, refl, sym, ◌∙◌, ap, arith, subst, append_assoc}
 use Rattle.std.proofs.Math.Nat.{le-max_left, le-max_right, max-le}
 use Rattle.std.proofs.lemmas.List.{length-map}
-use Rattle.std.specs.List.{AllByRecursion}
 use Rattle.ax_bits.specs.Bits.{bits, AreBits}
 use Rattle.ax_fspec.proofs.Walks.{no_next_slot}
 use Rattle.ax_fspec.specs.Marks.{slots_from}
 use Rattle.ax_fspec.specs.Marks as Marks
 use Rattle.ax_model.proofs.Meets.{none_marked_left}
-use Rattle.ax_model.specs.Reader.{Read, got, failed, after, both, read, entries_read}
+use Rattle.ax_model.specs.Reader.{got, both, read, entries_read}
 use Rattle.ax_model.specs.Canonical.{canon}
 use Rattle.ax_model.specs.InBounds.{InBounds, SlotsInBounds}
-use Rattle.ax_model.specs.Presence.{none_marked, first_mark, later_marks, NoneUndefined}
+use Rattle.ax_model.specs.Presence.{none_marked, NoneUndefined}
 use Rattle.ax_model.specs.Tree.{KindTree, ValueTree, EntriesTree, no_entries, entry_and, SlotsTree, no_slots, slot_and, SlotTree, spare_slot, subitem, slots_of, defined_slots}
 use Rattle.ax_model.specs.declared.fault.BodyFault.{BodyFault}
 use Rattle.ax_tables.specs.Meaning.{Meaning, meanings, nothing, kind_of, linked, linked_slot, linked_slots}
 use Rattle.ax_tables.specs.Table.{SlotLinksWithin, kind_at}
 use Rattle.ax_tables.specs.declared.node.Node.{Node}
-use Rattle.ax_reader.specs.Reading.{Gets, FailsAt, kind_read, entries_at}
+use Rattle.ax_reader.specs.Reading.{FailsAt, kind_read, entries_at}
 use Rattle.ax_view.proofs.Leading.{leads_none, leads_on, leads_by}
-use Rattle.ax_view.specs.Walking.{Walks, Leads, along, along_mark}
+use Rattle.ax_view.specs.Walking.{Walks, Leads, along}
 
 -- ---- the greatest link
 

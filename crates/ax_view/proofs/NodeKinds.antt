@@ -21,6 +21,7 @@ use Rattle.ax_reader.proofs.AtOctets.{fixed_gets, fixed_fails}
 use Rattle.ax_reader.specs.Reading.{FailsAt, IsMaskOf, kind_read}
 use Rattle.ax_view.proofs.MarkedSteps.{greatest, greatest_within}
 use Rattle.ax_view.proofs.Plain.{plain_walks}
+use Rattle.ax_view.specs.Values.{ItemInBounds}
 use Rattle.ax_view.specs.Walking.{Walks}
 
 -- ---- one kind in place of another
@@ -145,3 +146,12 @@ module _ (ns : List Node) (link : ℕ) (body : List ℕ) (at n : ℕ) (least : B
   octets_walk octets same e =
       let t = node_there ns (link - 1) (omega arith) in
       by_node t.one t.at (sym t.octets ∙ ap (λ xs. get_or xs (link - 1) 0) (sym same) ∙ e)
+
+-- ---- an item's link leads to no part
+
+part_closed : (fx : Bool) → ItemInBounds fx (compound no_slots) → ⊥
+part_closed false h = let lt : 0 < 0 = h.0 in omega arith
+part_closed true h = h
+
+pub no_part : (fx : Bool) (ns : List Node) (link : ℕ) (one : Node) → IsTable ns → 0 < link → link ≤ length ns → one ≡ get_or ns (link - 1) one → (w : ℕ) (links : List ℕ) → one ≡ Of.Part w links → ItemInBounds fx (kind_at ns link) → ⊥
+no_part fx ns link one table some within at w links e bounds = part_closed fx (subst (ItemInBounds fx) (kind_means ns link one (Of.Part w links) table some within at e) bounds)

@@ -1,23 +1,22 @@
 -- Parts that are looked for along an extended item.
-use Rattle.std.proofs.Common.{◌≡◌, ℕ, zero, suc, ◌+◌, ◌-◌, ◌*◌, ◌%◌, ◌<◌, ◌≤◌, Option, Some, None, List, [], ◌∷◌, length, drop, get_or, refl, sym, ◌∙◌, ap, arith, subst, option_and_then}
+use Rattle.std.proofs.Common.{◌≡◌, ℕ, zero, suc, ◌+◌, ◌-◌, ◌*◌, ◌%◌, ◌<◌, ◌≤◌, None, List, [], ◌∷◌, length, drop, get_or, refl, sym, ◌∙◌, ap, arith, subst, option_and_then}
 use Rattle.std.specs.List.{AllByRecursion}
 use Rattle.ax_bits.specs.Bits.{bits}
 use Rattle.ax_model.specs.Reader.{Read, got, failed, after, fixed_value, members_value, parts_read}
-use Rattle.ax_model.specs.InBounds.{InBounds, PartInBounds, MembersInBounds}
-use Rattle.ax_model.specs.Tree.{MembersTree, ValuesTree, no_values, ListsTree, no_lists, list_and, part_values, extended}
-use Rattle.ax_model.specs.Widths.{members_width}
-use Rattle.ax_model.specs.declared.fault.BodyCause.{BodyCause}
+use Rattle.ax_model.specs.InBounds.{InBounds, PartInBounds}
+use Rattle.ax_model.specs.Tree.{MembersTree, ValuesTree, ListsTree, no_lists, list_and, part_values, extended}
+use Rattle.ax_model.specs.Widths.{width, members_width}
 use Rattle.ax_model.specs.declared.fault.BodyCause.TheVariants.{RunsOut, ExtensionPastEnd}
 use Rattle.ax_model.specs.declared.fault.BodyFault.{BodyFault}
-use Rattle.ax_tables.specs.Meaning.{Meaning, meanings, linked, fixed_of, part_of, linked_part, linked_parts}
+use Rattle.ax_tables.specs.Meaning.{meanings, linked, fixed_of, part_of, linked_part, linked_parts}
 use Rattle.ax_tables.specs.Table.{LinksWithin}
 use Rattle.ax_tables.specs.declared.node.Node.{Node}
-use Rattle.ax_reader.proofs.AtOctets.{IsUnit, parts_at, parts_fail, parts_end, parts_go_on, parts_past_end}
-use Rattle.ax_reader.specs.Reading.{Gets, FailsAt, Continues}
+use Rattle.ax_reader.proofs.AtOctets.{parts_at, parts_fail, parts_end, parts_go_on, parts_past_end}
 use Rattle.ax_view.proofs.Found.{all_after, not_lost}
 use Rattle.ax_view.proofs.UnitSteps.{unit_at}
-use Rattle.ax_model.specs.At.{nth_list, nth_value, value_at, number_of_value, number_at}
-use Rattle.ax_view.specs.Values.{IsAll, IsOne, value_read, value_in, lists_in, FindsPart, FindsNoPart, FindsMember, FindsNone}
+use Rattle.ax_model.specs.At.{nth_list, nth_value, value_at}
+use Rattle.ax_view.specs.Spots.{lists_in, FindsPart, FindsNoPart, FindsMember, FindsNone, FindsFixed, FindsNothing, IsFixedAt, IsNoNumber}
+use Rattle.ax_view.specs.Values.{IsAll, IsOne, value_read, value_in}
 
 abbrev pub lists_found : Read ListsTree → ListsTree
 lists_found (got ls n y) = ls
@@ -27,7 +26,7 @@ list_after : (n : ℕ) (vs : ValuesTree) (r : Read ListsTree) → IsAll r → li
 list_after n vs (got ls m y) h = refl
 list_after n vs (failed p c) h = absurd h
 
-parts_after : (n : ℕ) (r : Read ListsTree) → IsAll r → lists_in (value_read (after n (λ ls. part_values ls) r)) ≡ lists_found r
+pub parts_after : (n : ℕ) (r : Read ListsTree) → IsAll r → lists_in (value_read (after n (λ ls. part_values ls) r)) ≡ lists_found r
 parts_after n (got ls m y) h = refl
 parts_after n (failed p c) h = absurd h
 
@@ -138,10 +137,10 @@ module _ (nodes : List Node) (all left later body : List ℕ) (p here i n : ℕ)
 pub parts_past_all : (nodes : List Node) (all left body : List ℕ) (here i n : ℕ) → PartsFound nodes all left body here i n → left ≡ [] → ⊥
 parts_past_all nodes all left body here i n h e = parts_left_none body here (subst (λ left. IsAll (parts_at (linked_parts (meanings nodes) left) body here)) e h.all)
 
--- ---- the number in a part
+-- ---- what stands in a part
 
 module _ (ps : List MembersTree) (body : List ℕ) (one : IsOne (extended ps) body) where
-  is_parts : value_in (extended ps) body ≡ part_values (lists_in (value_in (extended ps) body))
+  pub is_parts : value_in (extended ps) body ≡ part_values (lists_in (value_in (extended ps) body))
   unfolding value_in
   is_parts = by (parts_read ps (bits body)) (all_after 0 (λ ls. part_values ls) (parts_read ps (bits body)) one.all)
     where
@@ -149,26 +148,42 @@ module _ (ps : List MembersTree) (body : List ℕ) (one : IsOne (extended ps) bo
       by (got ls m y) h = refl
       by (failed p c) h = absurd h
 
-  as_parts : (steps whole : List ℕ) → whole ≡ steps → number_at whole (value_in (extended ps) body) ≡ number_at steps (part_values (lists_in (value_in (extended ps) body)))
-  as_parts steps whole e = ap (λ s. number_at s (value_in (extended ps) body)) e ∙ ap (number_at steps) is_parts
+  as_parts : (steps whole : List ℕ) → whole ≡ steps → value_at whole (value_in (extended ps) body) ≡ value_at steps (part_values (lists_in (value_in (extended ps) body)))
+  as_parts steps whole e = ap (λ s. value_at s (value_in (extended ps) body)) e ∙ ap (value_at steps) is_parts
 
-  pub no_part_step : (steps : List ℕ) → steps ≡ [] → None ≡ number_at steps (value_in (extended ps) body)
-  no_part_step steps e = sym (as_parts [] steps e)
+  pub no_part_step : (steps : List ℕ) → steps ≡ [] → IsNoNumber (value_at steps (value_in (extended ps) body))
+  no_part_step steps e = record { value = part_values (lists_in (value_in (extended ps) body)); is = as_parts [] steps e; none = refl }
 
-  pub no_member_step : (steps inside : List ℕ) (p : ℕ) → steps ≡ p ∷ inside → inside ≡ [] → None ≡ number_at steps (value_in (extended ps) body)
-  no_member_step steps inside p e f = sym (as_parts (p ∷ []) steps (e ∙ ap (λ xs. p ∷ xs) f))
+  pub no_member_step : (steps inside : List ℕ) (p : ℕ) → steps ≡ p ∷ inside → inside ≡ [] → value_at steps (value_in (extended ps) body) ≡ None
+  no_member_step steps inside p e f = as_parts (p ∷ []) steps (e ∙ ap (λ xs. p ∷ xs) f)
 
   module _ (steps inside later : List ℕ) (p i : ℕ) (e : steps ≡ p ∷ inside) (f : inside ≡ i ∷ later) where
-    at_parts : number_at steps (value_in (extended ps) body) ≡ option_and_then number_of_value (option_and_then (value_at later) (nth_value i (nth_list p (lists_in (value_in (extended ps) body)))))
+    at_parts : value_at steps (value_in (extended ps) body) ≡ option_and_then (value_at later) (nth_value i (nth_list p (lists_in (value_in (extended ps) body))))
     at_parts = as_parts (p ∷ i ∷ later) steps (e ∙ ap (λ xs. p ∷ xs) f)
 
-    pub not_present : FindsNoPart ps body p → None ≡ number_at steps (value_in (extended ps) body)
-    not_present h = sym (at_parts ∙ ap (λ vs. option_and_then number_of_value (option_and_then (value_at later) (nth_value i vs))) h.none)
+    pub not_present : FindsNoPart ps body p → value_at steps (value_in (extended ps) body) ≡ None
+    not_present h = at_parts ∙ ap (λ vs. option_and_then (value_at later) (nth_value i vs)) h.none
 
     module _ (nodes : List Node) (link bit : ℕ) (h : FindsPart nodes ps body p link bit) where
-      pub no_such_member : FindsNone (part_of (linked (meanings nodes) link)) bit i → None ≡ number_at steps (value_in (extended ps) body)
-      no_such_member m = sym (at_parts ∙ ap (λ vs. option_and_then number_of_value (option_and_then (value_at later) (nth_value i vs))) h.value ∙ ap (λ v. option_and_then number_of_value (option_and_then (value_at later) v)) (m.none (bits body)))
+      pub no_such_member : FindsNone (part_of (linked (meanings nodes) link)) bit i → value_at steps (value_in (extended ps) body) ≡ None
+      no_such_member m = at_parts ∙ ap (λ vs. option_and_then (value_at later) (nth_value i vs)) h.value ∙ ap (option_and_then (value_at later)) (m.none (bits body))
 
-      pub in_member : (member at : ℕ) (r : Option ℕ) → FindsMember nodes (part_of (linked (meanings nodes) link)) bit i member at → r ≡ number_at later (fixed_value (fixed_of (linked (meanings nodes) member)) (drop at (bits body)))
-          → r ≡ number_at steps (value_in (extended ps) body)
-      in_member member at r m is = is ∙ sym (at_parts ∙ ap (λ vs. option_and_then number_of_value (option_and_then (value_at later) (nth_value i vs))) h.value ∙ ap (λ v. option_and_then number_of_value (option_and_then (value_at later) v)) (m.value (bits body)))
+      module _ (member at : ℕ) (m : FindsMember nodes (part_of (linked (meanings nodes) link)) bit i member at) where
+        in_member : value_at steps (value_in (extended ps) body) ≡ value_at later (fixed_value (fixed_of (linked (meanings nodes) member)) (drop at (bits body)))
+        in_member = at_parts ∙ ap (λ vs. option_and_then (value_at later) (nth_value i vs)) h.value ∙ ap (option_and_then (value_at later)) (m.value (bits body))
+
+        pub member_fits : at + width (fixed_of (linked (meanings nodes) member)) ≤ 524256
+        member_fits = let r = m.room in let s = h.room in let few = one.few in omega arith
+
+        pub in_part : (last from : ℕ) → FindsFixed nodes (fixed_of (linked (meanings nodes) member)) at later last from → IsFixedAt nodes body (value_at steps (value_in (extended ps) body)) last from
+        in_part last from g = record {
+          some = g.some;
+          within = g.within;
+          bounds = g.bounds;
+          few = one.few;
+          room = let r = g.room in let s = m.room in let t = h.room in omega arith;
+          value = in_member ∙ g.value (bits body);
+        }
+
+        pub not_in_part : FindsNothing (fixed_of (linked (meanings nodes) member)) at later → value_at steps (value_in (extended ps) body) ≡ None
+        not_in_part g = in_member ∙ g.none (bits body)

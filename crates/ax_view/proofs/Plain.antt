@@ -1,10 +1,10 @@
 -- Kinds without a presence field have one spelling.
-use Rattle.std.proofs.Common.{◌≡◌, ℕ, ◌-◌, Bool, List, [], ◌∷◌, ◌++◌, length, take, drop, sym, ◌∙◌, ap}
+use Rattle.std.proofs.Common.{◌≡◌, ℕ, ◌-◌, Bool, List, [], ◌∷◌, ◌++◌, take, drop, sym, ◌∙◌, ap}
 use Rattle.ax_bits.specs.Bits.{bits}
 use Rattle.ax_model.specs.Canonical.{number_canon, fixed_canon, members_canon, parts_canon, run_canon, canon}
 use Rattle.ax_model.specs.InBounds.{InBounds}
 use Rattle.ax_model.specs.Spelling.{NumberSpells, FixedSpells, MembersSpell, PartsSpell, RunSpells, Spells}
-use Rattle.ax_model.specs.Tree.{FixedTree, element, group, MembersTree, no_members, member_and, named, spare, KindTree, fixed, extended, counted, by_fx, explicit, compound, ValueTree, number, member_values, part_values, occurrences, content_octets, marked, ValuesTree, no_values, value_and, ListsTree, no_lists, list_and}
+use Rattle.ax_model.specs.Tree.{FixedTree, element, group, MembersTree, no_members, member_and, named, spare, KindTree, fixed, extended, counted, by_fx, explicit, compound, ValueTree, number, member_values, part_values, occurrences, content_octets, ValuesTree, no_values, value_and, ListsTree, no_lists, list_and}
 use Rattle.ax_reader.proofs.AtOctets.{octets_parts}
 use Rattle.ax_reader.proofs.Exact.{spelled_at}
 use Rattle.ax_reader.specs.Reading.{Gets, kind_read}

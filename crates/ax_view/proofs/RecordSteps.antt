@@ -1,14 +1,13 @@
 -- A record's octets alone.
-use Rattle.std.proofs.Common.{◌≡◌, ℕ, ◌-◌, ◌≤◌, Bool, List, length, take, drop, subst, sym, arith, length-drop, refl}
+use Rattle.std.proofs.Common.{ℕ, ◌-◌, ◌≤◌, Bool, List, length, take, drop, subst, sym, arith, length-drop, refl}
 use Rattle.std.proofs.lemmas.List.{length-take-le}
 use Rattle.ax_model.specs.Canonical.{canon}
-use Rattle.ax_model.specs.declared.fault.BodyFault.{BodyFault}
 use Rattle.ax_tables.specs.Table.{record_kind_at}
 use Rattle.ax_tables.specs.declared.codec.Codec.{Codec}
-use Rattle.ax_reader.specs.Reading.{Gets, FailsAt, kind_read}
+use Rattle.ax_reader.specs.Reading.{Gets, kind_read}
 use Rattle.ax_view.proofs.Found.{alone}
-use Rattle.ax_view.specs.RecordsAt.{IsRecordAt, IsNoRecord}
-use Rattle.ax_view.specs.Values.{IsOne, value_in}
+use Rattle.ax_view.specs.RecordsAt.{IsRecordAt}
+use Rattle.ax_view.specs.Values.{IsOne}
 use Rattle.ax_view.specs.Walking.{Walks}
 
 module _ (codec : Codec) (body : List ℕ) (at end : ℕ) (least : Bool) (w : Walks (canon (record_kind_at codec.nodes codec.slots)) (kind_read (record_kind_at codec.nodes codec.slots) body at) body at end least) where

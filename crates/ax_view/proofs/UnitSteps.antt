@@ -1,22 +1,22 @@
 -- Units that begin at an octet: their FX bits, parts, occurrences by FX.
-use Rattle.std.proofs.Common.{◌≡◌, ℕ, zero, suc, ◌+◌, ◌-◌, ◌*◌, ◌/◌, ◌%◌, ◌^◌, ◌<◌, ◌≤◌, ◌==◌, ◌↔◌, IsTrue, Bool, true, false, List, [], ◌∷◌, ◌++◌, length, take, drop, get_or, map, refl, sym, ◌∙◌, ap, arith, subst, drop-cons}
+use Rattle.std.proofs.Common.{◌≡◌, ℕ, zero, suc, ◌+◌, ◌-◌, ◌*◌, ◌/◌, ◌%◌, ◌^◌, ◌<◌, ◌≤◌, ◌==◌, ◌↔◌, IsTrue, Bool, true, false, List, [], ◌∷◌, length, take, drop, get_or, refl, sym, ◌∙◌, ap, arith, subst, drop-cons}
 use Rattle.std.specs.List.{AllByRecursion}
-use Rattle.std.proofs.lemmas.List.{drop-drop, get_or_default}
+use Rattle.std.proofs.lemmas.List.{drop-drop}
 use Rattle.std.proofs.lemmas.Bool.{eqb-true}
 use Rattle.ax_bits.proofs.Pieces.{drop-bits}
-use Rattle.ax_bits.specs.Bits.{bits, word, AreOctets}
+use Rattle.ax_bits.specs.Bits.{bits, AreOctets}
 use Rattle.ax_model.specs.Reader.{fixed_value, members_value, after}
 use Rattle.ax_model.specs.Canonical.{canon, parts_canon, run_canon}
 use Rattle.ax_model.specs.InBounds.{InBounds, PartInBounds}
-use Rattle.ax_model.specs.Tree.{FixedTree, MembersTree, ListsTree, ValuesTree, extended, by_fx, explicit, content_octets, part_values, occurrences, value_and, no_values, list_and, no_lists}
+use Rattle.ax_model.specs.Tree.{FixedTree, MembersTree, extended, by_fx, explicit, content_octets, part_values, occurrences, value_and, no_values, list_and, no_lists}
 use Rattle.ax_model.specs.Widths.{width, members_width}
 use Rattle.ax_model.specs.declared.fault.BodyCause.TheVariants.{RunsOut, ExtensionPastEnd}
 use Rattle.ax_model.specs.declared.fault.BodyFault.{BodyFault}
 use Rattle.ax_tables.specs.Meaning.{Meaning, linked_part, linked_parts}
 use Rattle.ax_reader.proofs.AtOctets.{IsUnit, run_at, parts_at, run_ends, run_goes_on, run_fails, parts_fail, parts_end, parts_go_on, parts_past_end}
 use Rattle.ax_reader.proofs.Counting.{explicit_gets, octets_part}
-use Rattle.ax_reader.specs.Reading.{Gets, FailsAt, Continues, kind_read}
-use Rattle.ax_view.proofs.Leading.{leads_none, leads_on, leads_blind, walks_blind}
+use Rattle.ax_reader.specs.Reading.{FailsAt, Continues, kind_read}
+use Rattle.ax_view.proofs.Leading.{leads_on, leads_blind, walks_blind}
 use Rattle.ax_view.proofs.Plain.{plain_again, plain_walks}
 use Rattle.ax_view.specs.Walking.{Walks, Leads}
 
@@ -128,18 +128,18 @@ parts_lost all p left body at here w fault h e short c b = h.leads.loses fault (
 
 -- ---- explicit
 
+pub octet_items : (xs : List ℕ) → AreOctets xs → (i : ℕ) → get_or xs i 0 < 256
+octet_items [] h i = omega arith
+octet_items (x ∷ xs) h zero = h.0
+octet_items (x ∷ xs) h (suc i) = octet_items xs h.1 i
+
+pub small : (xs : List ℕ) (i n : ℕ) → AreOctets xs → n ≡ get_or xs i 0 → n < 256
+small xs i n h e = omega (arith, octet_items xs h i)
+
 pub explicit_walks : (body : List ℕ) (at n : ℕ) (least : Bool) → AreOctets body → at < length body → n ≡ get_or body at 0 → 0 < n → at + n ≤ length body → Walks (canon explicit) (kind_read explicit body at) body at (at + n) least
 explicit_walks body at n least octets lt e some within =
     plain_walks explicit body at (at + n) (content_octets (take (n - 1) (drop (at + 1) body))) least tt tt
     (explicit_gets body (take (n - 1) (drop (at + 1) body)) at n (at + n) lt e (small body at n octets e) some refl within refl (octets_part (n - 1) (at + 1) body (octet_items body octets)))
-  where
-    octet_items : (xs : List ℕ) → AreOctets xs → (i : ℕ) → get_or xs i 0 < 256
-    octet_items [] h i = omega arith
-    octet_items (x ∷ xs) h zero = h.0
-    octet_items (x ∷ xs) h (suc i) = octet_items xs h.1 i
-
-    small : (xs : List ℕ) (i n : ℕ) → AreOctets xs → n ≡ get_or xs i 0 → n < 256
-    small xs i n h e = omega (arith, octet_items xs h i)
 
 -- ---- what the code finds
 

@@ -1,14 +1,11 @@
 -- The value that a view's octets spell.
-use Rattle.std.specs.Prelude.{◌≡◌, ℕ, zero, suc, ◌+◌, ◌*◌, ◌∷◌, drop, option_and_then, ◌<◌, ◌≤◌, ◌==◌, if◌then◌else◌, List, [], length, Option, Some, None}
+use Rattle.std.specs.Prelude.{◌≡◌, ℕ, ◌+◌, ◌*◌, ◌<◌, ◌≤◌, Bool, true, false, List, [], length}
 use Rattle.std.specs.Coded.{Coded-set, coded_ℕ, coded_list, le_prop}
 use Rattle.ax_bits.specs.Bits.{bits}
-use Rattle.ax_model.specs.Reader.{Read, got, failed, read, fixed_value, members_value}
-use Rattle.ax_model.specs.InBounds.{InBounds, FixedInBounds, MembersInBounds}
-use Rattle.ax_model.specs.At.{nth_value, nth_list}
-use Rattle.ax_model.specs.Tree.{MembersTree, KindTree, extended, ValueTree, number, member_values, part_values, occurrences, content_octets, marked, ValuesTree, no_values, value_and, ListsTree, no_lists, list_and, EntriesTree, no_entries, entry_and}
-use Rattle.ax_model.specs.Widths.{width, members_width}
-use Rattle.ax_tables.specs.Meaning.{meanings, linked, fixed_of, part_of}
-use Rattle.ax_tables.specs.declared.node.Node.{Node}
+use Rattle.ax_model.specs.Reader.{Read, got, failed, read}
+use Rattle.ax_model.specs.InBounds.{InBounds}
+use Rattle.ax_model.specs.Tree.{KindTree, fixed, extended, counted, by_fx, explicit, compound, ValueTree, marked, EntriesTree, no_entries}
+use Rattle.ax_model.specs.Widths.{width}
 use Rattle.ax_model.specs.Bodies.{SpellsRecord}
 use Rattle.ax_model.specs.Flaws.{NoFlaw}
 use Rattle.ax_model.specs.Specification.{SpecTree}
@@ -43,6 +40,32 @@ pub record IsOne (k : KindTree) (octets : List ℕ) : Type 0 where
   pub all : IsAll (read k (bits octets))
   pub few : length octets ≤ 65532
 
+-- the octets are those of a value of a fixed kind and its FX bit
+abbrev pub FitsWithFx : KindTree → List ℕ → Type 0
+FitsWithFx (fixed f) octets = width f + 1 ≡ 8 * length octets
+FitsWithFx (extended ps) octets = ⊥
+FitsWithFx (counted k) octets = ⊥
+FitsWithFx (by_fx f) octets = ⊥
+FitsWithFx explicit octets = ⊥
+FitsWithFx (compound ss) octets = ⊥
+
+FitsWithFx-prop : (k : KindTree) (octets : List ℕ) → IsProp (FitsWithFx k octets)
+FitsWithFx-prop (fixed f) octets = Coded-set coded_ℕ (width f + 1) (8 * length octets)
+FitsWithFx-prop (extended ps) octets = λ a b. absurd a
+FitsWithFx-prop (counted k) octets = λ a b. absurd a
+FitsWithFx-prop (by_fx f) octets = λ a b. absurd a
+FitsWithFx-prop explicit octets = λ a b. absurd a
+FitsWithFx-prop (compound ss) octets = λ a b. absurd a
+
+pub record IsWithFx (k : KindTree) (octets : List ℕ) : Type 0 where
+  pub fits : FitsWithFx k octets
+  pub few : length octets ≤ 65532
+
+-- the octets of one value of the kind, or of an occurrence by FX
+abbrev pub IsItemOf : Bool → KindTree → List ℕ → Type 0
+IsItemOf false k octets = IsOne k octets
+IsItemOf true k octets = IsWithFx k octets
+
 -- the octets spell a record
 abbrev pub IsRecord : Codec → List ℕ → Type 0
 IsRecord codec octets = IsOne (record_kind_at codec.nodes codec.slots) octets
@@ -53,53 +76,47 @@ IsOne-prop k octets a b = λ i. record { all = IsAll-prop (read k (bits octets))
 pub IsRecord-prop : (codec : Codec) (octets : List ℕ) → IsProp (IsRecord codec octets)
 IsRecord-prop codec octets = IsOne-prop (record_kind_at codec.nodes codec.slots) octets
 
--- the link leads to a node of a kind of which the octets spell a value
-pub record IsItem (codec : Codec) (link : ℕ) (octets : List ℕ) : Type 0 where
+-- the kind keeps its bounds; a fixed kind that occurs by FX those of an occurrence
+abbrev pub ItemInBounds : Bool → KindTree → Type 0
+ItemInBounds false k = InBounds k
+ItemInBounds true (fixed f) = InBounds (by_fx f)
+ItemInBounds true (extended ps) = ⊥
+ItemInBounds true (counted k) = ⊥
+ItemInBounds true (by_fx f) = ⊥
+ItemInBounds true explicit = ⊥
+ItemInBounds true (compound ss) = ⊥
+
+pub ItemInBounds-prop : (fx : Bool) (k : KindTree) → IsProp (ItemInBounds fx k)
+ItemInBounds-prop false k = bounds_prop k
+ItemInBounds-prop true (fixed f) = bounds_prop (by_fx f)
+ItemInBounds-prop true (extended ps) = λ a b. absurd a
+ItemInBounds-prop true (counted k) = λ a b. absurd a
+ItemInBounds-prop true (by_fx f) = λ a b. absurd a
+ItemInBounds-prop true explicit = λ a b. absurd a
+ItemInBounds-prop true (compound ss) = λ a b. absurd a
+
+pub IsItemOf-prop : (fx : Bool) (k : KindTree) (octets : List ℕ) → IsProp (IsItemOf fx k octets)
+IsItemOf-prop false k octets = IsOne-prop k octets
+IsItemOf-prop true k octets = λ a b. λ i. record { fits = FitsWithFx-prop k octets a.fits b.fits i; few = le_prop a.few b.few i }
+
+-- the link leads to a node of a kind, and the octets are those of a value of it, or of an occurrence by FX
+pub record IsItem (codec : Codec) (link : ℕ) (fx : Bool) (octets : List ℕ) : Type 0 where
   pub some : 0 < link
   pub within : link ≤ length codec.nodes
-  pub bounds : InBounds (kind_at codec.nodes link)
-  pub one : IsOne (kind_at codec.nodes link) octets
+  pub bounds : ItemInBounds fx (kind_at codec.nodes link)
+  pub one : IsItemOf fx (kind_at codec.nodes link) octets
 
-pub IsItem-prop : (codec : Codec) (link : ℕ) (octets : List ℕ) → IsProp (IsItem codec link octets)
-IsItem-prop codec link octets a b = λ i. record {
+pub IsItem-prop : (codec : Codec) (link : ℕ) (fx : Bool) (octets : List ℕ) → IsProp (IsItem codec link fx octets)
+IsItem-prop codec link fx octets a b = λ i. record {
   some = le_prop a.some b.some i;
   within = le_prop a.within b.within i;
-  bounds = bounds_prop (kind_at codec.nodes link) a.bounds b.bounds i;
-  one = IsOne-prop (kind_at codec.nodes link) octets a.one b.one i;
+  bounds = ItemInBounds-prop fx (kind_at codec.nodes link) a.bounds b.bounds i;
+  one = IsItemOf-prop fx (kind_at codec.nodes link) octets a.one b.one i;
 }
-
--- ---- what stands in a value
 
 abbrev pub entries_in : ValueTree → EntriesTree
 entries_in (marked es) = es
 entries_in _ = no_entries
-
--- the member was found: where its fixed kind is, and the bit at which it begins
-pub record FindsMember (nodes : List Node) (members : MembersTree) (at i link bit : ℕ) : Type 0 where
-  pub some : 0 < link
-  pub within : link ≤ length nodes
-  pub bounds : FixedInBounds (fixed_of (linked (meanings nodes) link))
-  pub room : bit + width (fixed_of (linked (meanings nodes) link)) ≤ at + members_width members
-  pub value : (b : List ℕ) → nth_value i (members_value members (drop at b)) ≡ Some (fixed_value (fixed_of (linked (meanings nodes) link)) (drop bit b))
-
--- there is no such member
-pub record FindsNone (members : MembersTree) (at i : ℕ) : Type 0 where
-  pub none : (b : List ℕ) → nth_value i (members_value members (drop at b)) ≡ None
-
-abbrev pub lists_in : ValueTree → ListsTree
-lists_in (part_values ls) = ls
-lists_in _ = no_lists
-
--- the part was found: its members, and the bit at which they begin
-pub record FindsPart (nodes : List Node) (parts : List MembersTree) (body : List ℕ) (i link bit : ℕ) : Type 0 where
-  pub some : 0 < link
-  pub within : link ≤ length nodes
-  pub bounds : MembersInBounds (part_of (linked (meanings nodes) link))
-  pub room : bit + members_width (part_of (linked (meanings nodes) link)) ≤ 8 * length body
-  pub value : nth_list i (lists_in (value_in (extended parts) body)) ≡ members_value (part_of (linked (meanings nodes) link)) (drop bit (bits body))
-
-pub record FindsNoPart (parts : List MembersTree) (body : List ℕ) (i : ℕ) : Type 0 where
-  pub none : nth_list i (lists_in (value_in (extended parts) body)) ≡ no_values
 
 -- the octets spell a record of each specification that the codec stands for: that of the entries of their value
 pub record SpellsAny (codec : Codec) (octets : List ℕ) : Type 0 where

@@ -1,8 +1,9 @@
 -- What a scanned body is.
-use Rattle.std.specs.Prelude.{◌≡◌, ℕ, Bool, IsTrue, List, length}
+use Rattle.std.specs.Prelude.{◌≡◌, ℕ, Bool, IsTrue, List, length, flat_map}
+use Rattle.std.specs.List.{AllZip}
 use Rattle.std.specs.Coded.{Coded-set, coded_ℕ, coded_list}
 use Rattle.ax_bits.specs.Bits.{bits}
-use Rattle.ax_model.specs.Bodies.{SpellsBody, FailsBody, CanonBody}
+use Rattle.ax_model.specs.Bodies.{SpellsRecord, SpellsBody, FailsBody, CanonBody}
 use Rattle.ax_model.specs.Flaws.{NoFlaw}
 use Rattle.ax_model.specs.Specification.{SpecTree}
 use Rattle.ax_model.specs.Tree.{EntriesTree}
@@ -25,3 +26,16 @@ pub record SpellsSome (codec : Codec) (body : List ℕ) : Type 0 where
 -- the body fails there, for each specification that the codec stands for
 pub record FailsThere (codec : Codec) (body : List ℕ) (fault : BodyFault) : Type 0 where
   pub fails : (spec : SpecTree) → NoFlaw spec → StandsFor codec spec → FailsBody spec (bits body) fault.bit fault.cause
+
+-- that many records are spelled
+pub record CountsRecords (codec : Codec) (body : List ℕ) (count : ℕ) : Type 0 where
+  pub counts : (spec : SpecTree) (records : List EntriesTree) → NoFlaw spec → StandsFor codec spec → SpellsBody spec records (bits body) → count ≡ length records
+
+-- under this codec the octets spell the record
+abbrev pub IsRecordOf : Codec → SpecTree → EntriesTree → Codec × List ℕ → Type 0
+IsRecordOf codec spec entries shown = (shown.0 ≡ codec) × SpellsRecord spec entries (bits shown.1)
+
+-- each of the body's records is spelled by the octets in its place, and these join to the body
+pub record SpellEach (codec : Codec) (body : List ℕ) (shown : List (Codec × List ℕ)) : Type 0 where
+  pub spells : (spec : SpecTree) (records : List EntriesTree) → NoFlaw spec → StandsFor codec spec → SpellsBody spec records (bits body) → AllZip (IsRecordOf codec spec) records shown
+  pub joined : flat_map (λ (s : Codec × List ℕ). s.1) shown ≡ body

@@ -1,5 +1,5 @@
 -- What a walk over octets meets, of what is read there.
-use Rattle.std.specs.Prelude.{◌≡◌, ℕ, zero, suc, ◌+◌, ◌-◌, ◌≤◌, ◌⊎◌, get_or, Bool, IsTrue, List, [], ◌∷◌, ◌++◌, length, drop}
+use Rattle.std.specs.Prelude.{◌≡◌, ℕ, zero, suc, ◌+◌, ◌-◌, ◌≤◌, ◌⊎◌, get_or, Bool, IsTrue, List, [], ◌++◌, length, drop}
 use Rattle.ax_bits.specs.Bits.{bits}
 use Rattle.ax_model.specs.Reader.{Read}
 use Rattle.ax_model.specs.Canonical.{canon}

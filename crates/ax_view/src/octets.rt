@@ -19,7 +19,7 @@ use ax_fspec::{Presence, SlotMask, read_presence};
 use ax_model::BodyCause;
 use ax_tables::{Codec, Node};
 
-/// The octet behind the record that begins at octet `at`.
+/// The octet after the record that begins at octet `at`.
 #[inline]
 pub fn walk_record(codec: &Codec, body: &[u8], at: u32, notes: &mut Notes) -> Option<u32>
     requires body { length body.now ≤ 65532 }
@@ -28,10 +28,18 @@ pub fn walk_record(codec: &Codec, body: &[u8], at: u32, notes: &mut Notes) -> Op
     ensures fault { IfNone result (FailsAt (kind_read (record_kind_at codec.now.nodes codec.now.slots) body.now at) at notes.new.fault) }
     ensures falls { IsTrue notes.new.least → IsTrue notes.old.least }
 {
-    walk_slots(codec.nodes.as_slice(), codec.nodes.octets(), &codec.mask, codec.slots.as_slice(), body, at, notes)
+    walk_slots(
+        codec.nodes.as_slice(),
+        codec.nodes.octets(),
+        &codec.mask,
+        codec.slots.as_slice(),
+        body,
+        at,
+        notes,
+    )
 }
 
-/// The octet behind a record of these slots.
+/// The octet after a record of these slots.
 #[inline]
 fn walk_slots(
     nodes: &[Node],
@@ -66,7 +74,7 @@ fn walk_slots(
     }
 }
 
-/// The octet behind the items of the marked slots, of which the first begins at octet `at`.
+/// The octet after the items of the marked slots, of which the first begins at octet `at`.
 #[inline]
 fn walk_items(
     nodes: &[Node],
@@ -99,7 +107,14 @@ fn walk_items(
 
 /// The same for an item of a record: only counted items and compounds are left to a call.
 #[inline(always)]
-fn walk_item(nodes: &[Node], octets: &[u32], link: u32, body: &[u8], at: u32, notes: &mut Notes) -> Option<u32>
+fn walk_item(
+    nodes: &[Node],
+    octets: &[u32],
+    link: u32,
+    body: &[u8],
+    at: u32,
+    notes: &mut Notes,
+) -> Option<u32>
     requires table { IsTable nodes.now }
     requires octets { octets.now ≡ map octets_of nodes.now }
     requires link { (0 < link) × (link ≤ length nodes.now) }
@@ -126,7 +141,7 @@ fn walk_item(nodes: &[Node], octets: &[u32], link: u32, body: &[u8], at: u32, no
     }
 }
 
-/// The octet behind the value that begins at octet `at`, of the kind that a link leads to.
+/// The octet after the value that begins at octet `at`, of the kind that a link leads to.
 #[cycle(walk)]
 pub fn walk(nodes: &[Node], link: u32, body: &[u8], at: u32, notes: &mut Notes) -> Option<u32>
     requires table { IsTable nodes.now }
@@ -152,7 +167,7 @@ pub fn walk(nodes: &[Node], link: u32, body: &[u8], at: u32, notes: &mut Notes) 
     }
 }
 
-/// The octet behind a counted item.
+/// The octet after a counted item.
 #[cycle(walk)]
 fn walk_counted(nodes: &[Node], inner: u32, body: &[u8], at: u32, notes: &mut Notes) -> Option<u32>
     requires table { IsTable nodes.now }
@@ -176,7 +191,7 @@ fn walk_counted(nodes: &[Node], inner: u32, body: &[u8], at: u32, notes: &mut No
     Some(here)
 }
 
-/// The octet behind a compound of these slots.
+/// The octet after a compound of these slots.
 #[cycle(walk)]
 fn walk_compound(
     nodes: &[Node],
@@ -221,7 +236,7 @@ fn note_field(body: &[u8], at: u32, here: u32, notes: &mut Notes)
     }
 }
 
-/// The octet behind the subitems of the marked slots, of which the first begins at octet `at`.
+/// The octet after the subitems of the marked slots, of which the first begins at octet `at`.
 #[cycle(walk)]
 fn walk_marked(
     nodes: &[Node],

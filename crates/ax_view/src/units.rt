@@ -14,7 +14,7 @@ use crate::notes::{Notes, fail};
 use ax_model::BodyCause;
 use ax_tables::Node;
 
-/// The octet behind a unit of `width` bits, whole octets, that begins at octet `at`.
+/// The octet after a unit of `width` bits, whole octets, that begins at octet `at`.
 #[inline(always)]
 pub(crate) fn run(body: &[u8], at: u32, width: u32, notes: &mut Notes) -> Option<u32>
     requires width { (width % 8 ≡ 0) × (width ≤ 524264) }
@@ -64,7 +64,7 @@ pub(crate) fn has_fx(body: &[u8], octet: u32) -> bool
     body[octet as usize] % 2 == 1
 }
 
-/// The octet behind the parts that are present.
+/// The octet after the parts that are present.
 pub(crate) fn walk_parts(
     nodes: &[Node],
     parts: &[u32],
@@ -98,7 +98,7 @@ pub(crate) fn walk_parts(
     None
 }
 
-/// The octet behind the occurrences by FX.
+/// The octet after the occurrences by FX.
 pub(crate) fn walk_run(
     nodes: &[Node],
     inner: u32,
@@ -126,7 +126,7 @@ pub(crate) fn walk_run(
     }
 }
 
-/// The octet behind an explicit item.
+/// The octet after an explicit item.
 pub(crate) fn walk_explicit(body: &[u8], at: u32, notes: &mut Notes) -> Option<u32>
     requires body { length body.now ≤ 65532 }
     requires at { at ≤ length body.now }

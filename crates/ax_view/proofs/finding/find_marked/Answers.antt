@@ -1,18 +1,7 @@
-use Rattle.std.proofs.Common.{rules, ap, arith, sym, refl, subst, ◌∙◌, ◌≡◌, ◌+◌, ◌-◌, ◌*◌, ◌<◌, ◌≤◌, length, get_or, IfSome, IfNone, IsTrue, option_map, ℕ, ◌/◌, ◌%◌, Bool, true, false, nat_eq, nat_lt, List, [], ◌∷◌, ◌++◌, slice_set, bit_and, bit_or, Fits, w8, w32, w64, Bor, MutBor}
-use Rattle.ax_bits.specs.Bits.{AreBits}
-use Rattle.ax_fspec.specs.declared.mask.SlotMask.{SlotMask}
-use Rattle.ax_model.specs.InBounds.{InBounds, SlotsInBounds}
-use Rattle.ax_model.specs.Presence.{NoneUndefined}
-use Rattle.ax_model.specs.Tree as Tree
+use Rattle.std.proofs.Common.{◌-◌, length}
 use Rattle.ax_tables.specs.Meaning.{meanings, linked_slots}
-use Rattle.ax_tables.specs.Table.{IsTable, SlotLinksWithin, kind_at, record_kind_at}
-use Rattle.ax_reader.specs.Reading.{IsMaskOf, entries_at}
-use Rattle.ax_reader.proofs.Marking.{marks_bits}
-use Rattle.ax_model.specs.At.{slot_value}
-use Rattle.ax_view.specs.Values.{IsAll, IsOne, entries_found, value_in, entries_in}
-use Rattle.ax_view.proofs.Compounds.{marks_clear, slots_bounds}
-use Rattle.ax_view.proofs.MarkedSteps.{NextMarked, next_marked, within_at}
-use Rattle.ax_view.proofs.Found.{left_first, next_lost, left_next, next_found, next_one, left_none}
+use Rattle.ax_view.proofs.MarkedSteps.{next_marked, within_at}
+use Rattle.ax_view.proofs.Found.{next_lost, left_next, next_found, next_one, left_none}
 use Rattle.ax_view.proofs.finding.find_marked.Goals as goal
 
 pub bounds-slots-next : goal.bounds-slots-next

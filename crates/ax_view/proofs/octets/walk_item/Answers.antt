@@ -1,21 +1,10 @@
-use Rattle.std.proofs.Common.{◌≡◌, ◌+◌, ◌-◌, ◌*◌, ◌%◌, ◌<◌, ◌≤◌, length, get_or, true, false, IfSome, IfNone, IsTrue, ℕ, Bool, List, ap, arith, refl, sym, subst, ◌∙◌}
-use Rattle.ax_bits.proofs.Pieces.{AreOctets-items}
-use Rattle.ax_bits.specs.Bits.{AreOctets}
-use Rattle.ax_model.specs.Canonical.{canon}
+use Rattle.std.proofs.Common.{◌-◌, ◌%◌, get_or, ap, arith, refl, subst, ◌∙◌}
 use Rattle.ax_model.specs.InBounds.{InBounds}
 use Rattle.ax_model.specs.Tree as Tree
 use Rattle.ax_model.specs.declared.content.Content.TheVariants.{Raw}
-use Rattle.ax_tables.specs.Meaning.{meanings, linked, fixed_of, linked_members, linked_parts, linked_slots}
-use Rattle.ax_tables.specs.Table.{IsTable, SlotLinksWithin, kind_at, record_kind_at}
-use Rattle.ax_reader.proofs.Counting.{counted_none}
-use Rattle.ax_reader.specs.Reading.{FailsAt, IsMaskOf, kind_read, entries_at}
-use Rattle.ax_view.proofs.Leading.{if_none}
-use Rattle.ax_view.proofs.NodeKinds.{octets_walk, end_as, fault_as, run_end, run_fault, is_element, is_group, group_width, is_part, is_extended, extended_links, is_counted, counted_link, is_by_fx, by_fx_link, is_explicit, is_compound, compound_links, compound_mask, compound_falls}
-use Rattle.ax_view.proofs.Occurrences.{count_first, count_next, count_last, count_lost}
-use Rattle.ax_view.proofs.Compounds.{marks_clear, slots_bounds, record_lost, compound_end, compound_fault}
-use Rattle.ax_view.proofs.MarkedSteps.{NextMarked, next_marked, marks_first, marks_next, marks_last, marks_lost, greatest_at, within_at}
-use Rattle.ax_reader.proofs.Marking.{marks_bits}
-use Rattle.ax_view.specs.Walking.{Walks, along, NeedsLast}
+use Rattle.ax_tables.specs.Meaning.{meanings, linked, fixed_of, linked_members, linked_parts}
+use Rattle.ax_tables.specs.Table.{kind_at}
+use Rattle.ax_view.proofs.NodeKinds.{octets_walk, end_as, fault_as, run_end, run_fault, is_element, is_group, group_width, is_part, is_extended, extended_links, is_by_fx, by_fx_link, is_explicit}
 use Rattle.ax_view.proofs.octets.walk_item.Goals as goal
 
 pub run-requires-clause-width : goal.run-requires-clause-width

@@ -1,4 +1,4 @@
-use Rattle.std.proofs.Common.{◌≡◌, ◌<◌, get_or, ap, arith, refl}
+use Rattle.std.proofs.Common.{ap, arith, refl}
 use Rattle.ax_bits.proofs.Pieces.{AreOctets-items}
 use Rattle.ax_reader.proofs.Counting.{explicit_none, explicit_bad, explicit_short}
 use Rattle.ax_view.proofs.UnitSteps.{explicit_walks}

@@ -44,15 +44,15 @@ entries-loop-entry-preserved t c =
     let i : ℕ = c.loop-entry.entry-index in
     let e = c.entry-item.result in
     let same = c.as_slice-entry-items.ensures.members in
-    entry_next as_lines (slot_lines path) ss (entries_lines path 1 ss (entries_tree all)) c.args.self.now.out.items c.loop-entry.self.out.items c.entry_of.new.self.out.items all i e c.loop-entry.invariant
+    entry_next as_lines (slot_lines path) ss (entries_lines path 1 ss (entries_tree all)) c.args.self.now.out.items c.loop-entry.self.out.items c.entry.new.self.out.items all i e c.loop-entry.invariant
     (subst (λ xs. i < length xs) same c.loop-entry-test.true) (subst (λ xs. e ≡ get_or xs i e) same c.entry-item.is) (search rules)
 
 pub counted-returns : goal.counted-returns
 counted-returns t c =
     counted_lines c.args.path.now (kind_tree c.args.inner.now) c.args.values.now c.count.result c.args.self.now.out.items c.count-2.new.self.out.items c.each.new.self.out.items c.count.ensures c.in_ok-count.ensures (search rules)
 
-pub entries-entry_of-requires : goal.entries-entry_of-requires
-entries-entry_of-requires t c =
+pub entries-entry-requires : goal.entries-entry-requires
+entries-entry-requires t c =
     let all = c.args.entries.now in
     let ss = slots_tree c.args.slots.now in
     let path = c.args.path.now in

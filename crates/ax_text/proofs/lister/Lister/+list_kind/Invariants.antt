@@ -12,7 +12,7 @@ abbrev pub invariant-each-loop-value : goal.invariant-each-loop-value
 invariant-each-loop-value l = record {
   counted : l.number ≡ l.value-index;
   left : EachLeft (Shape (kind_tree l.kind)) (kind_lines (kind_tree l.kind)) l.path (each_lines (kind_lines (kind_tree l.kind)) l.path 0 (values_tree l.values)) l.fn.self.out.items l.self.out.items
-      l.value-index (drop l.value-index l.values)
+      l.value-index (drop l.value-index l.values);
 }
 
 abbrev pub invariant-entries-loop-entry : goal.invariant-entries-loop-entry

@@ -1,0 +1,140 @@
+-- What is copied and what is written anew.
+use Rattle.std.proofs.Common.{◌≡◌, ℕ, zero, suc, ◌+◌, ◌-◌, ◌*◌, ◌/◌, ◌<◌, ◌≤◌, ◌⊎◌, inl, inr, Bool, true, IsTrue, List, [], ◌∷◌, ◌++◌, length, take, drop, get_or, refl, sym, ◌∙◌, ap, arith, subst}
+use Rattle.std.proofs.lemmas.List.{append_cancel_right}
+use Rattle.ax_bits.proofs.Outputs.{appends_none, appends_more}
+use Rattle.ax_bits.proofs.Pieces.{number-word}
+use Rattle.ax_bits.proofs.Words.{length-word, length-bits}
+use Rattle.ax_bits.specs.Bits.{bits, word, number_of, AreBits, AreOctets}
+use Rattle.ax_bits.specs.Out.{Appends, room}
+use Rattle.ax_bits.specs.declared.output.Out.{Out}
+use Rattle.ax_canon.proofs.Fronting.{fronts_none, fronts_by, some_more, CountWrites}
+use Rattle.ax_canon.specs.Rewriting.{Rewrites, Fronts, Writes}
+use Rattle.ax_fspec.proofs.FieldLaws.{least_alike, alike_set, least_field_of, shortest}
+use Rattle.ax_fspec.specs.Fields.{MarksSlots, FailsToMark, least_field, mask_slots}
+use Rattle.ax_fspec.specs.declared.mask.SlotMask.{SlotMask}
+use Rattle.ax_model.proofs.Bounds.{count_of_slots}
+use Rattle.ax_model.proofs.Least.{marks_of_spelled}
+use Rattle.ax_model.proofs.Meets.{none_marked_left}
+use Rattle.ax_model.specs.Reader.{Read, after, read, each_read, count_read}
+use Rattle.ax_model.specs.Canonical.{canon, each_canon, marks_of, entries_canon}
+use Rattle.ax_model.specs.InBounds.{InBounds}
+use Rattle.ax_model.specs.Presence.{octets_needed, none_marked, least_presence, NoneUndefined}
+use Rattle.ax_model.specs.Tree.{KindTree, ValueTree, EntriesTree, counted, occurrences, value_count, compound, marked, SlotTree, spare_slot, subitem, slots_of, slot_count, defined_slots}
+use Rattle.ax_model.specs.declared.fault.BodyCause.TheVariants.{RunsOut}
+use Rattle.ax_model.specs.declared.fault.BodyFault.{BodyFault}
+use Rattle.ax_tables.specs.Meaning.{meanings, linked_slots}
+use Rattle.ax_tables.specs.Table.{record_kind_at}
+use Rattle.ax_tables.specs.declared.node.Node.{Node}
+use Rattle.ax_reader.proofs.AtOctets.{octets_parts, length-octets}
+use Rattle.ax_reader.proofs.Continuing.{gets_after, fails_after}
+use Rattle.ax_reader.proofs.Counting.{front_octet, counted_none}
+use Rattle.ax_reader.proofs.Marking.{field_read, field_failed, marks_bits}
+use Rattle.ax_reader.specs.Reading.{Gets, FailsAt, Continues, IsMaskOf, kind_read, entries_at}
+use Rattle.ax_view.proofs.Compounds.{marks_clear, record_lost}
+use Rattle.ax_view.proofs.FieldSteps.{along_is, spelled}
+use Rattle.ax_view.proofs.CountedSteps.{each_count}
+use Rattle.ax_view.proofs.Plain.{IsPlain, plain_again}
+use Rattle.ax_view.specs.Walking.{Walks, along}
+
+-- ---- copied whole
+
+pub copied : (k : KindTree) (body : List ℕ) (at end : ℕ) (least : Bool) (old new : Out) → IsTrue least → Walks (canon k) (kind_read k body at) body at end least → 8 * (length body - at) ≤ room old → Appends old new (bits (take (end - at) (drop at body)))
+    → Rewrites (canon k) (kind_read k body at) body at end old new
+copied k body at end least old new said w free a =
+    let x = bits (take (end - at) (drop at body)) in
+    let is : canon k w.value ≡ x = append_cancel_right (canon k w.value) x (bits (drop end body)) (w.canonical said ∙ octets_parts body at end w.read.forwards) in
+    record {
+      forwards = w.read.forwards;
+      within = w.read.within;
+      room = omega (arith, a.room, length-octets body at end w.read.forwards w.read.within, w.read.forwards, w.read.within);
+      some = (x, a);
+      state = inl (w.value, w.read, subst (Appends old new) (sym is) a);
+    }
+
+pub copied_plain : (k : KindTree) (body : List ℕ) (at end : ℕ) (least : Bool) (old new : Out) → IsPlain k → InBounds k → Walks (canon k) (kind_read k body at) body at end least → 8 * (length body - at) ≤ room old → Appends old new (bits (take (end - at) (drop at body)))
+    → Rewrites (canon k) (kind_read k body at) body at end old new
+copied_plain k body at end least old new plain bounds w free a = copied k body at end true old new refl (plain_again k body at end least true plain bounds w) free a
+
+pub not_copied : {A : Type 0} (rule : A → List ℕ) (found : Read A) (body : List ℕ) (at : ℕ) (out : Out) (fault : BodyFault) → at ≤ length body → 8 * (length body - at) ≤ room out → FailsAt found at fault → Rewrites rule found body at at out out
+not_copied rule found body at out fault le free l = record { forwards = omega arith; within = le; room = free; some = ([], appends_none out); state = inr (fault, l) }
+
+pub copy_room : (body : List ℕ) (at end free : ℕ) → at ≤ end → end ≤ length body → 8 * (length body - at) ≤ free → 8 * length (take (end - at) (drop at body)) ≤ free
+copy_room body at end free le within h = omega (arith, length-octets body at end le within, length-bits (take (end - at) (drop at body)))
+
+pub as_kind : (j k : KindTree) (body : List ℕ) (at end : ℕ) (old new : Out) → j ≡ k → Rewrites (canon k) (kind_read k body at) body at end old new → Rewrites (canon j) (kind_read j body at) body at end old new
+as_kind j k body at end old new e r = subst (λ k. Rewrites (canon k) (kind_read k body at) body at end old new) (sym e) r
+
+-- ---- counted
+
+pub no_count : (k : KindTree) (body : List ℕ) (at : ℕ) (out : Out) → length body ≤ at → at ≤ length body → 8 * (length body - at) ≤ room out → Rewrites (canon (counted k)) (kind_read (counted k) body at) body at at out out
+no_count k body at out past le free = let f : BodyFault = record { cause = RunsOut; bit = 8 * at } in not_copied (canon (counted k)) (kind_read (counted k) body at) body at out f le free (counted_none k body at f past refl refl)
+
+pub count_first : (k : KindTree) (body : List ℕ) (n at : ℕ) (old now : Out) → at < length body → n ≡ get_or body at 0 → n < 256 → 8 * (length body - at) ≤ room old → Appends old now (word 8 n) → CountWrites k body n 0 at (at + 1) old now
+unfolding kind_read
+count_first k body n at old now lt e small free a = record {
+  writes = record {
+    forwards = omega arith;
+    within = omega arith;
+    room = omega (arith, a.room, length-word 8 n);
+    some = (word 8 n, a);
+    state = inl (fronts_by (each_canon (canon k)) (each_read (read k) (n - 0) (bits (drop (at + 1) body))) (canon (counted k)) (kind_read (counted k) body at) (canon (counted k)) (kind_read (counted k) body at) body at at (at + 1) old old now (λ vs. occurrences vs) (word 8 n)
+        (fronts_none (canon (counted k)) (kind_read (counted k) body at) body at old)
+        (record {
+          forwards = omega arith;
+          same = ap (count_read (read k)) (front_octet body at n lt e) ∙ (λ i. after (eight i) (λ vs. occurrences vs) (each_read (read k) (times i) (bits (drop (at + 1) body))));
+        })
+        a
+        (λ vs last g. (
+        let count : value_count vs ≡ n - 0 = each_count (read k) (n - 0) (8 * (last - (at + 1))) (bits (drop (at + 1) body)) (bits (drop last body)) vs g.got in
+        ap (λ m. word 8 m ++ each_canon (canon k) vs) (let e : value_count vs ≡ n = omega arith in e))));
+  };
+}
+  where
+    eight : 8 ≡ 8 * (at + 1 - at)
+    eight = omega arith
+
+    times : number_of (word 8 n) ≡ n - 0
+    times = number-word 8 n small ∙ omega arith
+
+-- ---- a compound or a record
+
+clear_behind : (slots : List SlotTree) (ms : List ℕ) → NoneUndefined (defined_slots (slots_of slots)) ms → AreBits ms → IsTrue (none_marked (drop (length slots) ms))
+clear_behind [] ms clear bit = none_marked_left ms clear bit
+clear_behind (s ∷ slots) [] clear bit = refl
+clear_behind (spare_slot ∷ slots) (m ∷ ms) clear bit = clear_behind slots ms clear.1 bit.1
+clear_behind (subitem name k ∷ slots) (m ∷ ms) clear bit = clear_behind slots ms clear.1 bit.1
+
+module _ (ns : List Node) (links : List ℕ) (mask : SlotMask) (body marks : List ℕ) (at here : ℕ) (octets : AreOctets body) (bounds : InBounds (record_kind_at ns links)) (m : IsMaskOf (linked_slots (meanings ns) links) mask) (h : MarksSlots mask body at here marks) where
+  pub field_room : (free : ℕ) → 8 * (length body - at) ≤ free → length (least_field marks) ≤ free
+  field_room free le = omega (arith, shortest mask.count (mask_slots mask) marks (bits (take (here - at) (drop at body))) mask.few h.field, length-octets body at here (let lt = h.begins in omega arith) h.within, h.begins, h.within)
+
+  pub room_behind : (old now : Out) → 8 * (length body - at) ≤ room old → Appends old now (least_field marks) → 8 * (length body - here) ≤ room now
+  room_behind old now le a = omega (arith, a.room, shortest mask.count (mask_slots mask) marks (bits (take (here - at) (drop at body))) mask.few h.field, length-octets body at here (let lt = h.begins in omega arith) h.within, h.begins, h.within)
+
+  pub compound_written : (end : ℕ) (old now new : Out) → Appends old now (least_field marks) → Rewrites (along (slots_of (linked_slots (meanings ns) links)) marks) (entries_at (slots_of (linked_slots (meanings ns) links)) marks body here) body here end now new
+      → Rewrites (canon (record_kind_at ns links)) (kind_read (record_kind_at ns links) body at) body at end old new
+  unfolding record_kind_at
+  compound_written end old now new a r = record { forwards = omega (arith, h.begins, r.forwards); within = r.within; room = r.room; some = some_more old now new (least_field marks, a) r.some; state = on r.state }
+    where
+      slots : List SlotTree
+      slots = linked_slots (meanings ns) links
+
+      on : ((es : EntriesTree) × Gets (entries_at (slots_of slots) marks body here) body here end es × Appends now new (along (slots_of slots) marks es)) ⊎ ((fault : BodyFault) × FailsAt (entries_at (slots_of slots) marks body here) here fault)
+          → ((v : ValueTree) × Gets (kind_read (compound (slots_of slots)) body at) body at end v × Appends old new (canon (compound (slots_of slots)) v)) ⊎ ((fault : BodyFault) × FailsAt (kind_read (compound (slots_of slots)) body at) at fault)
+      on (inr (fault, l)) = inr (fault, fails_after (kind_read (compound (slots_of slots)) body at) (entries_at (slots_of slots) marks body here) at here (λ es. marked es) fault (field_read slots mask body marks at here m h) l)
+      on (inl (es, g, w)) =
+          let ss = slots_of slots in
+          let k = octets_needed (slot_count ss) in
+          let bit : AreBits marks = marks_bits mask body marks at here h in
+          let clear : NoneUndefined (defined_slots ss) marks = marks_clear slots mask body marks at here m h in
+          let s = spelled slots mask body marks at here octets bounds m h es end g clear in
+          let n : slot_count ss ≡ length slots = count_of_slots slots in
+          let none : IsTrue (none_marked (drop (slot_count ss) marks)) = subst (λ n. IsTrue (none_marked (drop n marks))) (sym n) (clear_behind slots marks clear bit) in
+          let field : least_presence k (marks_of 1 ss es) ≡ least_field marks =
+          least_alike k (marks_of 1 ss es) marks (marks_of_spelled 1 ss marks es s.0 s.1) ∙ sym (least_alike k (take (slot_count ss) marks) marks (alike_set (slot_count ss) marks none))
+          ∙ sym (least_field_of (slot_count ss) marks bounds.0 bounds.1 none) in
+          inl (
+            marked es,
+            gets_after (kind_read (compound ss) body at) (entries_at ss marks body here) body at here end (λ es. marked es) es (field_read slots mask body marks at here m h) g,
+            appends_more old now new (least_field marks) (along ss marks es) (canon (compound ss) (marked es)) (λ i. field i ++ along_is 1 ss marks es s.0 s.1 i) a w,
+          )

@@ -1,0 +1,170 @@
+//! Values written anew, with least presence fields.
+ghost use Rattle.std.specs.Prelude.{◌≡◌, ◌+◌, ◌-◌, ◌*◌, ◌<◌, ◌≤◌, length, get_or, drop, take};
+ghost use Rattle.ax_bits.specs.Bits.{AreBits, bits};
+ghost use Rattle.ax_bits.specs.Out.{room, Appends};
+ghost use Rattle.ax_canon.specs.Rewriting.{Rewrites};
+ghost use Rattle.ax_fspec.specs.declared.mask.SlotMask.{SlotMask};
+ghost use Rattle.ax_model.specs.Canonical.{canon};
+ghost use Rattle.ax_model.specs.InBounds.{InBounds, SlotsInBounds};
+ghost use Rattle.ax_model.specs.Presence.{NoneUndefined};
+ghost use Rattle.ax_model.specs.Tree as Tree;
+ghost use Rattle.ax_tables.specs.Meaning.{meanings, linked_slots};
+ghost use Rattle.ax_tables.specs.Table.{IsTable, SlotLinksWithin, kind_at, record_kind_at};
+ghost use Rattle.ax_reader.specs.Reading.{IsMaskOf, kind_read, entries_at};
+ghost use Rattle.ax_view.proofs.Plain.{IsPlain};
+ghost use Rattle.ax_view.specs.Walking.{along};
+
+use ax_bits::Out;
+use ax_fspec::{Presence, SlotMask, read_presence, write_presence};
+use ax_tables::{Codec, Node};
+use ax_view::{Notes, walk, walk_record};
+
+/// Appends the canonical spelling of the record at octet `at`. Answers the octet after it.
+pub(crate) fn rewrite_record(codec: &Codec, body: &[u8], at: u32, out: &mut Out<'_>) -> u32
+    requires body { length body.now ≤ 65532 }
+    requires at { at ≤ length body.now }
+    requires room { 8 * (length body.now - at) ≤ room out.old }
+    ensures { Rewrites (canon (record_kind_at codec.now.nodes codec.now.slots)) (kind_read (record_kind_at codec.now.nodes codec.now.slots) body.now at) body.now at result out.old out.new }
+{
+    let mut notes = Notes::new();
+    match walk_record(codec, body, at, &mut notes) {
+        Some(end) if notes.least => {
+            out.push_octets(&body[at as usize..end as usize]);
+            end
+        }
+        _ => rewrite_compound(
+            codec.nodes.as_slice(),
+            &codec.mask,
+            codec.slots.as_slice(),
+            body,
+            at,
+            out,
+        ),
+    }
+}
+
+/// Appends the canonical spelling of the value at octet `at`, of the kind that a link leads to.
+#[cycle(rewrite)]
+fn rewrite(nodes: &[Node], link: u32, body: &[u8], at: u32, out: &mut Out<'_>) -> u32
+    requires table { IsTable nodes.now }
+    requires link { (0 < link) × (link ≤ length nodes.now) }
+    requires bounds { InBounds (kind_at nodes.now link) }
+    requires body { length body.now ≤ 65532 }
+    requires at { at ≤ length body.now }
+    requires room { 8 * (length body.now - at) ≤ room out.old }
+    ensures { Rewrites (canon (kind_at nodes.now link)) (kind_read (kind_at nodes.now link) body.now at) body.now at result out.old out.new }
+{
+    match &nodes[link as usize - 1] {
+        Node::Counted { inner } => rewrite_counted(nodes, *inner, body, at, out),
+        Node::Compound { mask, slots } => {
+            rewrite_compound(nodes, mask, slots.as_slice(), body, at, out)
+        }
+        Node::Part { .. } => at,
+        Node::Element { .. } => copy(nodes, link, body, at, out),
+        Node::Group { .. } => copy(nodes, link, body, at, out),
+        Node::Extended { .. } => copy(nodes, link, body, at, out),
+        Node::ByFx { .. } => copy(nodes, link, body, at, out),
+        Node::Explicit => copy(nodes, link, body, at, out),
+    }
+}
+
+/// Appends the octets of a value whose kind has no presence field.
+fn copy(nodes: &[Node], link: u32, body: &[u8], at: u32, out: &mut Out<'_>) -> u32
+    requires table { IsTable nodes.now }
+    requires link { (0 < link) × (link ≤ length nodes.now) }
+    requires bounds { InBounds (kind_at nodes.now link) }
+    requires plain { IsPlain (kind_at nodes.now link) }
+    requires body { length body.now ≤ 65532 }
+    requires at { at ≤ length body.now }
+    requires room { 8 * (length body.now - at) ≤ room out.old }
+    ensures { Rewrites (canon (kind_at nodes.now link)) (kind_read (kind_at nodes.now link) body.now at) body.now at result out.old out.new }
+{
+    let mut notes = Notes::new();
+    match walk(nodes, link, body, at, &mut notes) {
+        None => at,
+        Some(end) => {
+            out.push_octets(&body[at as usize..end as usize]);
+            end
+        }
+    }
+}
+
+/// Appends the canonical spelling of a counted item.
+#[cycle(rewrite)]
+fn rewrite_counted(nodes: &[Node], inner: u32, body: &[u8], at: u32, out: &mut Out<'_>) -> u32
+    requires table { IsTable nodes.now }
+    requires link { (0 < inner) × (inner ≤ length nodes.now) }
+    requires bounds { InBounds (kind_at nodes.now inner) }
+    requires body { length body.now ≤ 65532 }
+    requires at { at ≤ length body.now }
+    requires room { 8 * (length body.now - at) ≤ room out.old }
+    ensures { Rewrites (canon (Tree.counted (kind_at nodes.now inner))) (kind_read (Tree.counted (kind_at nodes.now inner)) body.now at) body.now at result out.old out.new }
+{
+    if at as usize >= body.len() {
+        return at;
+    }
+    let count = body[at as usize];
+    out.push_octet(count);
+    let mut here = at + 1;
+    for _ in 0..count {
+        here = rewrite(nodes, inner, body, here, out);
+    }
+    here
+}
+
+/// Appends the canonical spelling of a compound, or a record, of these slots.
+#[cycle(rewrite)]
+fn rewrite_compound(
+    nodes: &[Node],
+    mask: &SlotMask,
+    slots: &[u32],
+    body: &[u8],
+    at: u32,
+    out: &mut Out<'_>,
+) -> u32
+    requires table { IsTable nodes.now }
+    requires links { SlotLinksWithin (length nodes.now) slots.now }
+    requires mask { IsMaskOf (linked_slots (meanings nodes.now) slots.now) mask.now }
+    requires bounds { InBounds (record_kind_at nodes.now slots.now) }
+    requires body { length body.now ≤ 65532 }
+    requires at { at ≤ length body.now }
+    requires room { 8 * (length body.now - at) ≤ room out.old }
+    ensures { Rewrites (canon (record_kind_at nodes.now slots.now)) (kind_read (record_kind_at nodes.now slots.now) body.now at) body.now at result out.old out.new }
+{
+    let mut marked = Presence::empty();
+    match read_presence(mask, body, at, &mut marked) {
+        Err(_) => at,
+        Ok(here) => {
+            write_presence(&marked, out);
+            rewrite_marked(nodes, slots, marked, body, here, out)
+        }
+    }
+}
+
+/// Appends the canonical spellings of the subitems of the marked slots.
+#[cycle(rewrite)]
+fn rewrite_marked(
+    nodes: &[Node],
+    slots: &[u32],
+    marked: Presence,
+    body: &[u8],
+    at: u32,
+    out: &mut Out<'_>,
+) -> u32
+    requires table { IsTable nodes.now }
+    requires links { SlotLinksWithin (length nodes.now) slots.now }
+    requires bounds { SlotsInBounds (Tree.slots_of (linked_slots (meanings nodes.now) slots.now)) }
+    requires marks { AreBits marked }
+    requires clear { NoneUndefined (Tree.defined_slots (Tree.slots_of (linked_slots (meanings nodes.now) slots.now))) marked }
+    requires body { length body.now ≤ 65532 }
+    requires at { at ≤ length body.now }
+    requires room { 8 * (length body.now - at) ≤ room out.old }
+    ensures { Rewrites (along (Tree.slots_of (linked_slots (meanings nodes.now) slots.now)) marked) (entries_at (Tree.slots_of (linked_slots (meanings nodes.now) slots.now)) marked body.now at) body.now at result out.old out.new }
+{
+    let mut left = marked;
+    let mut here = at;
+    while let Some(slot) = left.take_first() {
+        here = rewrite(nodes, slots[slot as usize - 1], body, here, out);
+    }
+    here
+}

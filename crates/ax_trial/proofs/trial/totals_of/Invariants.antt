@@ -1,0 +1,9 @@
+use Rattle.ax_model.specs.Plain.{spec_tree}
+use Rattle.ax_trial.proofs.Sums.{SoFar}
+use Rattle.ax_trial.proofs.trial.totals_of.Given as goal
+
+abbrev pub invariant-loop-left : goal.invariant-loop-left
+invariant-loop-left l = SoFar (spec_tree l.accepted) l.seed l.count l.left l.totals l.draws
+
+abbrev pub decreases-loop-left : goal.decreases-loop-left
+decreases-loop-left l = l.left

@@ -1,0 +1,96 @@
+-- Counted items, one occurrence after the other.
+use Rattle.std.proofs.Common.{◌≡◌, ℕ, zero, suc, ◌+◌, ◌-◌, ◌*◌, ◌<◌, ◌≤◌, Bool, IsTrue, List, ◌∷◌, ◌++◌, length, drop, get_or, refl, sym, ◌∙◌, ap, arith, subst, append_assoc, add-one, drop-cons}
+use Rattle.std.proofs.lemmas.List.{get_or_default}
+use Rattle.ax_bits.proofs.Pieces.{number-word}
+use Rattle.ax_bits.specs.Bits.{bits, word, number_of}
+use Rattle.ax_model.specs.Reader.{Read, got, failed, after, both, read, each_read, count_read}
+use Rattle.ax_model.specs.Canonical.{canon, each_canon}
+use Rattle.ax_model.specs.Tree.{KindTree, ValueTree, ValuesTree, counted, occurrences, no_values, value_and, value_count}
+use Rattle.ax_model.specs.declared.fault.BodyFault.{BodyFault}
+use Rattle.ax_reader.proofs.Counting.{front_octet}
+use Rattle.ax_reader.specs.Reading.{FailsAt, kind_read}
+use Rattle.ax_view.proofs.Leading.{leads_on, leads_by}
+use Rattle.ax_view.specs.Walking.{Walks, Leads}
+
+-- what is read as n values has n values
+after_is : {A B : Type 0} (n m : ℕ) (f : A → B) (b : B) (y : List ℕ) (P : B → Type 0) (r : Read A) → after n f r ≡ got b m y → ((a : A) (k : ℕ) → r ≡ got a k y → P (f a)) → P b
+after_is n m f b y P (got a k z) e h =
+    let same : f a ≡ b = cc in
+    let rest : z ≡ y = cc in subst P same (h a k (ap (got a k) rest))
+after_is n m f b y P (failed p c) e h = cc
+
+both_is : {A B C : Type 0} (f : A → B → C) (g : List ℕ → Read B) (m : ℕ) (c : C) (y : List ℕ) (P : C → Type 0) (r : Read A) → both f r g ≡ got c m y → ((a : A) (b : B) (x : List ℕ) (k : ℕ) → g x ≡ got b k y → P (f a b)) → P c
+both_is f g m c y P (got a n x) e h = after_is n m (f a) c y P (g x) e (λ b k t. h a b x k t)
+both_is f g m c y P (failed p q) e h = cc
+
+pub each_count : (rule : List ℕ → Read ValueTree) (n m : ℕ) (b y : List ℕ) (vs : ValuesTree) → each_read rule n b ≡ got vs m y → value_count vs ≡ n
+each_count rule zero m b y vs e = let same : no_values ≡ vs = cc in ap value_count (sym same)
+each_count rule (suc n) m b y vs e =
+    both_is (λ v vs. value_and v vs) (each_read rule n) m vs y (λ vs. value_count vs ≡ suc n) (rule b) e (λ v ws x k t. ap suc (each_count rule n k x y ws t))
+
+-- i of n occurrences are passed, up to octet here
+pub record CountLeads (k : KindTree) (body : List ℕ) (n i at here : ℕ) (least : Bool) : Type 0 where
+  pub within : here ≤ length body
+  pub leads : Leads (each_canon (canon k)) (each_read (read k) (n - i) (bits (drop here body))) (canon (counted k)) (kind_read (counted k) body at) body at here least
+
+octet_front : (body : List ℕ) (at n : ℕ) → at < length body → n ≡ get_or body at 0 → bits (drop at body) ≡ word 8 n ++ bits (drop (at + 1) body)
+octet_front body at n lt e =
+    let is : n ≡ get_or body at n = e ∙ get_or_default body at 0 n lt in
+    ap bits (drop-cons body at n lt ∙ (λ i. sym is i ∷ drop (sym (add-one at) i) body))
+
+pub count_first : (k : KindTree) (body : List ℕ) (n at : ℕ) (least : Bool) → at < length body → n ≡ get_or body at 0 → n < 256 → CountLeads k body n 0 at (at + 1) least
+unfolding kind_read
+count_first k body n at least lt e small = record {
+  within = omega arith;
+  leads = leads_by (each_canon (canon k)) (each_read (read k) (n - 0) (bits (drop (at + 1) body))) (canon (counted k)) (kind_read (counted k) body at) body at (at + 1) (λ vs. occurrences vs) least (omega arith)
+      (record {
+        forwards = omega arith;
+        same = ap (count_read (read k)) (front_octet body at n lt e) ∙ (λ i. after (eight i) (λ vs. occurrences vs) (each_read (read k) (times i) (bits (drop (at + 1) body))));
+      })
+      (λ vs end f g c. (
+      let count : value_count vs ≡ n - 0 = each_count (read k) (n - 0) (8 * (end - (at + 1))) (bits (drop (at + 1) body)) (bits (drop end body)) vs g.got in
+      let is_n : value_count vs ≡ n = omega arith in
+      append_assoc (word 8 (value_count vs)) (each_canon (canon k) vs) (bits (drop end body)) ∙ ap (λ t. word 8 (value_count vs) ++ t) c ∙ ap (λ m. word 8 m ++ bits (drop (at + 1) body)) is_n ∙ sym (octet_front body at n lt e)));
+}
+  where
+    eight : 8 ≡ 8 * (at + 1 - at)
+    eight = omega arith
+
+    times : number_of (word 8 n) ≡ n - 0
+    times = number-word 8 n small ∙ omega arith
+
+-- one occurrence, after which others follow
+module _ (k : KindTree) (body : List ℕ) (m here end : ℕ) (before least : Bool) (falls : IsTrue least → IsTrue before) (w : Walks (canon k) (kind_read k body here) body here end least) where
+  one_first : each_read (read k) (suc m) (bits (drop here body)) ≡ after (8 * (end - here)) (λ vs. value_and w.value vs) (each_read (read k) m (bits (drop end body)))
+  unfolding kind_read
+  one_first = ap (λ r. both (λ v vs. value_and v vs) r (each_read (read k) m)) w.read.got
+
+  one_leads : Leads (each_canon (canon k)) (each_read (read k) m (bits (drop end body))) (each_canon (canon k)) (each_read (read k) (suc m) (bits (drop here body))) body here end least
+  one_leads = leads_by (each_canon (canon k)) (each_read (read k) m (bits (drop end body))) (each_canon (canon k)) (each_read (read k) (suc m) (bits (drop here body))) body here end (λ vs. value_and w.value vs) least w.read.within
+      (record { forwards = w.read.forwards; same = one_first })
+      (λ vs last f g c. append_assoc (canon k w.value) (each_canon (canon k) vs) (bits (drop last body)) ∙ ap (λ t. canon k w.value ++ t) c ∙ w.canonical f)
+
+pub count_next : (k : KindTree) (body : List ℕ) (n i at here end : ℕ) (before least : Bool) → CountLeads k body n i at here before → i < n → (IsTrue least → IsTrue before) → Walks (canon k) (kind_read k body here) body here end least → CountLeads k body n (i + 1) at end least
+count_next k body n i at here end before least h lt falls w =
+    let left : n - i ≡ suc (n - (i + 1)) = omega arith in
+    let one = one_leads k body (n - (i + 1)) here end before least falls w in record {
+      within = w.read.within;
+      leads = leads_on (each_canon (canon k)) (each_read (read k) (n - (i + 1)) (bits (drop end body))) (each_canon (canon k)) (each_read (read k) (n - i) (bits (drop here body))) (canon (counted k)) (kind_read (counted k) body at) body at here end before least falls h.leads
+          (subst (λ m. Leads (each_canon (canon k)) (each_read (read k) (n - (i + 1)) (bits (drop end body))) (each_canon (canon k)) (each_read (read k) m (bits (drop here body))) body here end least) (sym left) one);
+    }
+
+pub count_lost : (k : KindTree) (body : List ℕ) (n i at here : ℕ) (before : Bool) (fault : BodyFault) → CountLeads k body n i at here before → i < n → FailsAt (kind_read k body here) here fault → FailsAt (kind_read (counted k) body at) at fault
+unfolding kind_read
+count_lost k body n i at here before fault h lt t =
+    let left : n - i ≡ suc (n - (i + 1)) = omega arith in
+    let one : FailsAt (each_read (read k) (suc (n - (i + 1))) (bits (drop here body))) here fault = record { place = t.place; failed = ap (λ r. both (λ v vs. value_and v vs) r (each_read (read k) (n - (i + 1)))) t.failed; bit = t.bit } in
+    h.leads.loses fault (subst (λ m. FailsAt (each_read (read k) m (bits (drop here body))) here fault) (sym left) one)
+
+pub count_last : (k : KindTree) (body : List ℕ) (n i at here : ℕ) (least : Bool) → CountLeads k body n i at here least → n ≤ i → Walks (canon (counted k)) (kind_read (counted k) body at) body at here least
+count_last k body n i at here least h past =
+    let none : each_read (read k) (n - i) (bits (drop here body)) ≡ got no_values 0 (bits (drop here body)) = ap (λ m. each_read (read k) m (bits (drop here body))) (let e : n - i ≡ 0 = omega arith in e) in
+    h.leads.gets here least (λ t. t) (record {
+      value = no_values;
+      read = record { forwards = omega arith; within = h.within; got = none ∙ ap (λ m. got no_values m (bits (drop here body))) (let e : 0 ≡ 8 * (here - here) = omega arith in e) };
+      canonical = λ f. refl;
+    })

@@ -1,0 +1,59 @@
+//! The next record of a body.
+ghost use Rattle.std.specs.Prelude.{◌≡◌, ◌≤◌, length, IfSome, IfNone};
+ghost use Rattle.std.specs.Iterator.{YieldsFirstBy, item_count};
+ghost use Rattle.ax_view.specs.Left.{record_shown, records_left};
+ghost use Rattle.ax_view.specs.RecordsAt.{IsRecordAt, IsNoRecord};
+
+use crate::notes::Notes;
+use crate::octets::walk_record;
+use crate::record::RecordView;
+use crate::records::Records;
+use crate::windows::octets_from;
+use ax_tables::Codec;
+
+/// The record that begins at octet `at`, and the octet after it. None comes exactly where none can be read there.
+pub fn record_at<'c, 'a>(
+    codec: &'c Codec,
+    body: &'a [u8],
+    at: u32,
+) -> Option<(RecordView<'c, 'a>, u32)>
+    requires body { length body.now ≤ 65532 }
+    requires at { at ≤ length body.now }
+    ensures some { IfSome result (λ r. IsRecordAt codec.now body.now at r.1 r.0.body.now) }
+    ensures codec { IfSome result (λ r. r.0.codec.now ≡ codec.now) }
+    ensures none { IfNone result (IsNoRecord codec.now body.now at) }
+{
+    let mut notes = Notes::new();
+    let Some(end) = walk_record(codec, body, at, &mut notes) else {
+        return None;
+    };
+    let record = RecordView {
+        codec,
+        body: &body[at as usize..end as usize],
+    };
+    Some((record, end))
+}
+
+impl<'c, 'a> Iterator for Records<'c, 'a> {
+    type Item = RecordView<'c, 'a>;
+
+    ghost next_gives = { YieldsFirstBy record_shown records_left };
+
+    ghost remaining = { item_count records_left };
+
+    #[inline]
+    fn next(&mut self) -> Option<RecordView<'c, 'a>> {
+        if self.count == 0 {
+            return None;
+        }
+        let Some((record, end)) = record_at(self.codec, self.left, 0) else {
+            return None;
+        };
+        *self = Records {
+            codec: self.codec,
+            count: self.count - 1,
+            left: octets_from(self.left, end),
+        };
+        Some(record)
+    }
+}

@@ -1,0 +1,2 @@
+pub mod CanonBlocks
+pub mod LaidOctets

@@ -1,0 +1,85 @@
+//! `canon` over views.
+ghost use Rattle.std.specs.Prelude.{◌≡◌, ◌≤◌, length, IfOk};
+ghost use Rattle.ax_model.specs.Plain.{catalogue_tree};
+ghost use Rattle.ax_stream.specs.BlockCommands.{canon_command};
+ghost use Rattle.ax_tables.specs.Standing.{StandForEach};
+
+use crate::output::{LONGEST, lay_canonical, lay_opaque, zeros};
+use ax_check::Catalogue;
+use ax_model::RawBlock;
+use ax_outside::Sink;
+use ax_stream::{BlockWork, WorkStop};
+use ax_tables::Codecs;
+use std::alloc::{AllocError, Global};
+
+/// `canon` under a catalogue, by the codecs of its specifications. A block is judged and written by walking its octets;
+/// what is written stands in one output, as long as the longest block.
+#[derive(Drop)]
+pub struct CanonViews<'c> {
+    /// What the codecs stand for: contracts speak of it, the code doesn't.
+    catalogue: &'c Catalogue,
+    codecs: &'c Codecs,
+    output: Vec<u8>,
+    filled: u32,
+    ghost room: { length output.items ≡ 65535 },
+    ghost within: { filled ≤ 65535 },
+}
+
+impl<'c> CanonViews<'c> {
+    /// `canon` under that catalogue, by its codecs. The output is taken here, and no memory after that.
+    pub fn new(
+        alloc: Global,
+        catalogue: &'c Catalogue,
+        codecs: &'c Codecs,
+    ) -> Result<CanonViews<'c>, AllocError>
+        requires { StandForEach codecs.now.codecs (catalogue_tree catalogue.now) }
+        ensures command { IfOk result (λ work. ⟦<CanonViews<'c> as BlockWork>⟧.command work ≡ canon_command (catalogue_tree catalogue.now)) }
+        ensures sound { IfOk result (λ work. ⟦<CanonViews<'c> as BlockWork>⟧.sound work) }
+    {
+        let output = zeros(alloc, LONGEST)?;
+        Ok(CanonViews {
+            catalogue,
+            codecs,
+            output,
+            filled: 0,
+        })
+    }
+}
+
+impl<'c> BlockWork for CanonViews<'c> {
+    ghost use Rattle.std.specs.Prelude.{take, false};
+
+    ghost command = { λ s. canon_command (catalogue_tree s.catalogue.now) };
+
+    ghost sound = { λ s. StandForEach s.codecs.now.codecs (catalogue_tree s.catalogue.now) };
+
+    ghost laid = { λ s. take s.filled s.output.items };
+
+    ghost takes_memory = { false };
+
+    #[tactic(auto, using(crate::proofs::CanonBlocks::canon_takes))]
+    fn take<R: Sink>(
+        &mut self,
+        _number: u64,
+        raw: &RawBlock<'_>,
+        _report: &mut R,
+    ) -> Result<(), WorkStop> {
+        match self.codecs.get(raw.category) {
+            Some(codec) => match lay_canonical(codec, raw.category, raw.body, &mut self.output) {
+                Ok(count) => {
+                    self.filled = count;
+                    Ok(())
+                }
+                Err(fault) => Err(WorkStop::Fault(fault)),
+            },
+            None => {
+                self.filled = lay_opaque(raw, &mut self.output);
+                Ok(())
+            }
+        }
+    }
+
+    fn octets(&self) -> &[u8] {
+        &self.output[..self.filled as usize]
+    }
+}

@@ -1,0 +1,7 @@
+//! Works of block commands over borrowed views: none takes memory for a block.
+#![tactic(auto)]
+
+mod canon;
+mod output;
+
+pub use canon::CanonViews;

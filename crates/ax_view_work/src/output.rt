@@ -1,0 +1,67 @@
+//! Blocks laid at the front of an output.
+ghost use Rattle.std.specs.Prelude.{◌≡◌, ◌≤◌, length, take, IfOk, IfErr};
+ghost use Rattle.ax_bits.specs.Bits.{bits};
+ghost use Rattle.ax_model.specs.CanonicalOctets.{framed};
+ghost use Rattle.ax_view.specs.Views.{FailsThere, SpellsSome};
+ghost use Rattle.ax_view_work.specs.Laid.{LaysBits, LaysCanonical};
+
+use ax_bits::Out;
+use ax_canon::canonical;
+use ax_model::{BodyFault, RawBlock};
+use ax_tables::Codec;
+use ax_view::{BlockView, scan};
+use std::alloc::{AllocError, Global};
+
+/// The most octets of a data block.
+pub(crate) const LONGEST: usize = 65_535;
+
+/// So many zeros. They stand in a function of their own, so that no proof spells them out.
+pub(crate) fn zeros(alloc: Global, count: usize) -> Result<Vec<u8>, AllocError>
+    ensures { IfOk result (λ made. length made.items ≡ count) }
+{
+    vec![in alloc; 0; count]
+}
+
+/// Lays the canonical block of a view at the front of the output, and answers its octets.
+fn lay_view(view: &BlockView<'_, '_>, output: &mut [u8]) -> u32
+    requires room { length output.old ≡ 65535 }
+    ensures laid { LaysBits view.now.codec.now view.now.body.now result (bits output.new) }
+    ensures room { length output.new ≡ 65535 }
+{
+    let mut out = Out::over(output);
+    canonical(view, &mut out)
+}
+
+/// Lays the canonical form of the records that a body of the codec's category spells at the front of the output, and answers its octets; or the
+/// first fault of the body, with its bit in the body.
+pub(crate) fn lay_canonical(
+    codec: &Codec,
+    category: u8,
+    body: &[u8],
+    output: &mut [u8],
+) -> Result<u32, BodyFault>
+    requires size { (1 ≤ length body.now) × (length body.now ≤ 65532) }
+    requires room { length output.old ≡ 65535 }
+    requires category { codec.now.category ≡ category }
+    ensures spelled { IfOk result (λ count. SpellsSome codec.now body.now) }
+    ensures laid { IfOk result (λ count. LaysCanonical codec.now body.now count output.new) }
+    ensures fault { IfErr result (λ fault. FailsThere codec.now body.now fault) }
+    ensures room { length output.new ≡ 65535 }
+{
+    let view = scan(codec, body)?;
+    Ok(lay_view(&view, output))
+}
+
+/// Lays a block of a category without a file at the front of the output, and answers its octets.
+pub(crate) fn lay_opaque(raw: &RawBlock<'_>, output: &mut [u8]) -> u32
+    requires room { length output.old ≡ 65535 }
+    ensures laid { take result output.new ≡ framed raw.now.category raw.now.body.now }
+    ensures within { result ≤ 65535 }
+    ensures room { length output.new ≡ 65535 }
+{
+    let count = raw.body.len() + 3;
+    let (header, body) = output.split_at_mut(3);
+    header.copy_from_slice(&[raw.category, (count / 256) as u8, (count % 256) as u8]);
+    body[..raw.body.len()].copy_from_slice(raw.body);
+    count as u32
+}

@@ -1,10 +1,10 @@
 -- The records that a filter holds of.
-use Rattle.std.proofs.Common.{◌≡◌, ℕ, ◌+◌, ◌<◌, ◌≤◌, Bool, true, false, cond, List, [], ◌∷◌, ◌++◌, map, drop, length, get_or, Option, Some, None, refl, sym, ◌∙◌, ap, subst, arith, append_assoc, append-nil}
+use Rattle.std.proofs.Common.{◌≡◌, ℕ, ◌+◌, ◌<◌, ◌≤◌, Bool, true, false, cond, List, [], ◌∷◌, ◌++◌, drop, length, get_or, Some, None, refl, sym, ◌∙◌, ap, subst, arith, append_assoc, append-nil}
 use Rattle.std.specs.List.{AllByRecursion}
 use Rattle.std.specs.Prelude.{filter}
 use Rattle.std.proofs.lemmas.List.{drop_all, map-append, length-map}
 use Rattle.ax_model.proofs.Namings.{from_place}
-use Rattle.ax_model.specs.Blocks.{BlockTree, read_block}
+use Rattle.ax_model.specs.Blocks.{read_block}
 use Rattle.ax_model.specs.Bodies.{RecordShape}
 use Rattle.ax_model.specs.OfCode.{BlockFits}
 use Rattle.ax_model.specs.Plain.{spec_tree, record_tree, records_tree, block_tree}
@@ -46,7 +46,7 @@ one_left_out test rs i r kept within is h so =
 
 pub all_seen : (test : EntriesTree → Bool) (rs : List Record) (i : ℕ) (kept : List Record) → length rs ≤ i → SoFar test rs i kept → records_tree kept ≡ filter test (records_tree rs)
 all_seen test rs i kept past so =
-    sym (append-nil (records_tree kept)) ∙ ap (λ l. records_tree kept ++ l) (sym (ap (λ x. filter test (records_tree x)) (drop_all rs i past))) ∙ so
+    sym (append-nil (records_tree kept)) ∙ ap (λ l. records_tree kept ++ l) (sym (ap (λ x. filter test (records_tree x)) (drop_all i rs past))) ∙ so
 
 pub ruleset records = (none_kept, one_kept, one_left_out, all_seen)
 
@@ -84,11 +84,11 @@ opaque_none catalogue e block category octets is = sym (ap (λ b. matching_block
 
 all_filtered : {A : Type 0} (R : A → Type 0) (test : A → Bool) (xs : List A) → AllByRecursion R xs → AllByRecursion R (filter test xs)
 all_filtered R test [] all = tt
-all_filtered R test (x ∷ xs) all = by_test (test x)
+all_filtered R test (x ∷ xs) all = by_test (test x) (all_filtered R test xs all.1)
   where
-    by_test : (b : Bool) → AllByRecursion R (cond b (x ∷ filter test xs) (filter test xs))
-    by_test true = (all.0, all_filtered R test xs all.1)
-    by_test false = all_filtered R test xs all.1
+    by_test : (b : Bool) → AllByRecursion R (filter test xs) → AllByRecursion R (cond b (x ∷ filter test xs) (filter test xs))
+    by_test true later = (all.0, later)
+    by_test false later = later
 
 pub kept_fit : (catalogue : List SpecTree) (e : ExprTree) (spec : Spec) (block : Block) (category : ℕ) (records kept : List Record) → block ≡ Read category records → BlockFits spec block
     → records_tree kept ≡ matching catalogue spec.category e (records_tree records) → 0 < length kept → BlockFits spec (Read category kept)

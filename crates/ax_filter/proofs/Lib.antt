@@ -14,3 +14,4 @@ pub mod PlaceValues
 pub mod TestLists
 pub mod Signs
 pub mod Kept
+pub mod Once

@@ -2,7 +2,7 @@ use Rattle.std.proofs.Common.{◌≤◌, length}
 use Rattle.ax_filter.specs.Meaning.{holds}
 use Rattle.ax_filter.specs.OfCode.{expression, catalogue_of}
 use Rattle.ax_filter.proofs.Kept.{SoFar}
-use Rattle.ax_filter.proofs.matching.Filter.kept.Given as goal
+use Rattle.ax_filter.proofs.filter.Filter.kept.Given as goal
 
 abbrev pub invariant-loop-one : goal.invariant-loop-one
 invariant-loop-one l = record {

@@ -1,0 +1,17 @@
+pub mod Decimals
+pub mod Categories
+pub mod FullPaths
+pub mod Tokens
+pub mod Unique
+pub mod Arms
+pub mod Ways
+pub mod Trees
+pub mod Whole
+pub mod Leads
+pub mod Resolved
+pub mod Truth
+pub mod PlaceValues
+pub mod TestLists
+pub mod Signs
+pub mod Kept
+pub mod Once

@@ -1,0 +1,12 @@
+pub mod Words
+pub mod Tree
+pub mod Spelling
+pub mod Parts
+pub mod Answers
+pub mod Faults
+pub mod Leading
+pub mod Meaning
+pub mod Tests
+pub mod OfCode
+pub mod Matching
+pub mod Examples

@@ -1,0 +1,45 @@
+//! Expressions as they are written.
+use ax_lists::Sequence;
+use ax_model::Path;
+
+/// How two numbers compare.
+#[derive(Clone, Copy, Debug, PartialEq, Eq)]
+pub enum Op {
+    Equal,
+    Unequal,
+    Less,
+    LessOrEqual,
+    Greater,
+    GreaterOrEqual,
+}
+
+/// A path with its category, as `048/010/SAC`.
+#[derive(Drop)]
+pub struct FullPath {
+    pub category: u8,
+    pub names: Path,
+}
+
+/// Expressions in order.
+pub type Exprs = Sequence<Expr>;
+
+/// An expression, which holds or doesn't hold of a record.
+#[derive(Drop)]
+pub enum Expr {
+    /// Each of them holds.
+    All(Exprs),
+    /// Some of them holds.
+    Any(Exprs),
+    /// It doesn't hold.
+    Not(Box<Expr>),
+    /// Something stands at the path.
+    Present {
+        path: FullPath,
+    },
+    /// The number that stands at the path compares so with this one.
+    Is {
+        path: FullPath,
+        op: Op,
+        number: i128,
+    },
+}

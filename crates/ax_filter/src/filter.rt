@@ -1,0 +1,20 @@
+//! Filters: an expression over a catalogue.
+ghost use Rattle.std.specs.Prelude.{◌≡◌, ℕ};
+ghost use Rattle.ax_model.specs.Plain.{catalogue_tree};
+ghost use Rattle.ax_model.specs.Tree.{EntriesTree};
+ghost use Rattle.ax_filter.specs.Meaning.{holds};
+ghost use Rattle.ax_filter.specs.Tests.{test_tree, passes};
+ghost use Rattle.ax_filter.specs.Tree.{expr_tree};
+
+use crate::expr::Expr;
+use crate::test::Test;
+use ax_check::Catalogue;
+
+/// An expression over a catalogue: it holds of a record of a category or doesn't.
+#[derive(Drop)]
+pub struct Filter<'c> {
+    pub(crate) expr: Expr,
+    pub(crate) catalogue: &'c Catalogue,
+    pub(crate) test: Test,
+    ghost same: { (category : ℕ) (r : EntriesTree) → passes category r (test_tree test) ≡ holds (catalogue_tree catalogue.now) category r (expr_tree expr) },
+}

@@ -1,0 +1,26 @@
+//! Filters: expressions over paths, and the records that they hold of.
+#![tactic(auto)]
+
+mod comparing;
+mod error;
+pub mod examples;
+mod expr;
+mod expressions;
+mod faults;
+mod filter;
+mod holding;
+pub mod laws;
+mod matching;
+mod numbers;
+mod passing;
+mod paths;
+mod reading;
+mod resolving;
+mod standing;
+mod syntax;
+mod test;
+mod words;
+
+pub use error::FilterError;
+pub use filter::Filter;
+pub use reading::read_filter;

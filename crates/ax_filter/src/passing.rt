@@ -1,0 +1,85 @@
+//! Whether a test holds of a record. Nothing here takes memory.
+ghost use Rattle.std.specs.Prelude.{◌≡◌, map, option_and_then};
+ghost use Rattle.ax_model.specs.Plain.{record_tree};
+ghost use Rattle.ax_model.specs.At.{is_present};
+ghost use Rattle.ax_filter.specs.Meaning.{compares, some_passes};
+ghost use Rattle.ax_filter.specs.Tests.{test_tree, tests_of, number_for, passes, all_pass, any_passes};
+
+use crate::comparing::compares_as;
+use crate::expr::Op;
+use crate::standing::{is_present, number_at};
+use crate::test::{Element, Test, Tests};
+use ax_model::{Place, Record};
+
+fn stands(place: &Option<Place>, one: &Record) -> bool
+    ensures { result ≡ some_passes (is_present (record_tree one.now)) place.now }
+{
+    match place {
+        Some(place) => is_present(one, place),
+        None => false,
+    }
+}
+
+/// Whether the element's number compares so with the other one. It doesn't where it is absent.
+fn measures(element: &Option<Element>, op: Op, other: i128, one: &Record) -> bool
+    ensures { result ≡ some_passes (λ n. compares op n other) (option_and_then (number_for (record_tree one.now)) element.now) }
+{
+    let Some(element) = element else {
+        return false;
+    };
+    match number_at(one, &element.place) {
+        Some(number) => compares_as(op, number, element.signed, element.width, other),
+        None => false,
+    }
+}
+
+/// Whether each of the tests holds.
+#[cycle(pass)]
+#[tactic(auto, using(crate::proofs::TestLists::alls))]
+fn all_pass(tests: &Tests, category: u8, one: &Record) -> bool
+    ensures { result ≡ all_pass category (record_tree one.now) (tests_of (map test_tree tests.now)) }
+{
+    for test in tests.as_slice() {
+        if !passes(test, category, one) {
+            return false;
+        }
+    }
+    true
+}
+
+/// Whether some of the tests holds.
+#[cycle(pass)]
+#[tactic(auto, using(crate::proofs::TestLists::anys))]
+fn any_passes(tests: &Tests, category: u8, one: &Record) -> bool
+    ensures { result ≡ any_passes category (record_tree one.now) (tests_of (map test_tree tests.now)) }
+{
+    for test in tests.as_slice() {
+        if passes(test, category, one) {
+            return true;
+        }
+    }
+    false
+}
+
+/// Whether the test holds of a record of that category.
+#[cycle(pass)]
+#[tactic(auto, using(crate::proofs::Trees::passing))]
+pub fn passes(test: &Test, category: u8, one: &Record) -> bool
+    ensures { result ≡ passes category (record_tree one.now) (test_tree test.now) }
+{
+    match test {
+        Test::All(tests) => all_pass(tests, category, one),
+        Test::Any(tests) => any_passes(tests, category, one),
+        Test::Not(inner) => !passes(inner, category, one),
+        Test::Present {
+            category: own,
+            place,
+        } => *own == category && stands(place, one),
+        Test::Is {
+            category: own,
+            element,
+            op,
+            number,
+        } => *own == category && measures(element, *op, *number, one),
+    }
+}

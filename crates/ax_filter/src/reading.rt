@@ -1,0 +1,80 @@
+//! From tokens to a filter, and what it says of a record.
+ghost use Rattle.std.specs.Prelude.{◌≡◌, ◌≤◌, length, IfOk, IfErr, OnOk};
+ghost use Rattle.ax_model.specs.Plain.{catalogue_tree};
+ghost use Rattle.ax_token_reader.specs.Stopping.{texts_of};
+ghost use Rattle.ax_filter.specs.Faults.{PathsLead, IsFault};
+ghost use Rattle.ax_filter.specs.Leading.{IsPathFault};
+ghost use Rattle.ax_filter.specs.declared.error.FilterError.TheVariants as Fault;
+ghost use Rattle.ax_filter.specs.OfCode.{expression, catalogue_of, IsFilterOf};
+
+use crate::error::FilterError;
+use crate::expr::Expr;
+use crate::faults::{PathFault, first_fault};
+use crate::filter::Filter;
+use crate::resolving::resolve;
+use crate::syntax::{SyntaxError, read_expr};
+use ax_check::Catalogue;
+use ax_tokens::Tokens;
+use std::alloc::Global;
+
+/// Judges the paths before the token of that number.
+fn judge_paths(
+    alloc: Global,
+    tokens: &Tokens<'_>,
+    end: u32,
+    catalogue: &Catalogue,
+) -> Result<(), FilterError>
+    requires { end ≤ length tokens.now }
+    ensures lead { OnOk result (PathsLead (catalogue_tree catalogue.now) (texts_of tokens.now) end) }
+    ensures fault { IfErr result (IsPathFault (catalogue_tree catalogue.now) (texts_of tokens.now) end) }
+{
+    match first_fault(alloc, tokens, end, catalogue)? {
+        None => Ok(()),
+        Some(PathFault::Unknown { token }) => Err(FilterError::UnknownPath { token }),
+        Some(PathFault::NoElement { token }) => Err(FilterError::NotAnElement { token }),
+    }
+}
+
+/// The filter of an expression over a catalogue.
+#[tactic(auto, using(crate::proofs::Truth::same_truth))]
+fn filter_of<'c>(
+    alloc: Global,
+    expr: Expr,
+    catalogue: &'c Catalogue,
+) -> Result<Filter<'c>, FilterError>
+    ensures expression { IfOk result (λ filter. filter.expr ≡ expr) }
+    ensures over { IfOk result (λ filter. filter.catalogue.now ≡ catalogue.now) }
+    ensures memory { IfErr result (λ e. e ≡ Fault.OutOfMemory) }
+{
+    let test = resolve(alloc, catalogue, &expr)?;
+    Ok(Filter {
+        expr,
+        catalogue,
+        test,
+    })
+}
+
+/// The filter that the tokens spell over a catalogue. Else the fault of the smallest token number: BadToken names the
+/// first token through which no expression begins, UnknownPath and NotAnElement a path before it.
+#[tactic(auto, using(crate::proofs::Whole::filters))]
+pub fn read_filter<'c>(
+    alloc: Global,
+    tokens: &Tokens<'_>,
+    catalogue: &'c Catalogue,
+) -> Result<Filter<'c>, FilterError>
+    ensures spells { IfOk result (λ filter. IsFilterOf (catalogue_tree catalogue.now) tokens.now (expression filter)) }
+    ensures over { IfOk result (λ filter. catalogue_of filter ≡ catalogue_tree catalogue.now) }
+    ensures fault { IfErr result (IsFault (catalogue_tree catalogue.now) (texts_of tokens.now)) }
+{
+    match read_expr(alloc, tokens) {
+        Ok(expr) => {
+            judge_paths(alloc, tokens, tokens.count(), catalogue)?;
+            filter_of(alloc, expr, catalogue)
+        }
+        Err(SyntaxError::BadToken { token }) => {
+            judge_paths(alloc, tokens, token, catalogue)?;
+            Err(FilterError::BadToken { token })
+        }
+        Err(SyntaxError::OutOfMemory) => Err(FilterError::OutOfMemory),
+    }
+}

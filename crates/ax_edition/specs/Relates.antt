@@ -20,7 +20,7 @@ pub record Relates (old new : Spec) (relation : Relation) : Type 0 where
   pub known : IsKnown (spec_tree old) (spec_tree new) relation.known
   pub moves : map move_tree relation.moves ≡ record_moves (spec_tree old) (spec_tree new)
 
--- want of memory says nothing
+-- memory is wanted only where the categories are the same
 abbrev pub WhyUnrelated : Spec → Spec → RelateError → Type 0
 WhyUnrelated old new (OtherCategory one other) = (one ≡ old.category) × (other ≡ new.category) × (old.category ≡ new.category → ⊥)
-WhyUnrelated old new OutOfMemory = Unit {0}
+WhyUnrelated old new OutOfMemory = old.category ≡ new.category

@@ -97,7 +97,7 @@ impl Relation {
     }
 
     /// The named paths of the old edition in order, each with its text, its old place, and its new one where it is
-    /// shared.
+    /// shared. Takes no memory.
     pub fn paths(&self) -> &RelationPaths
         ensures { result.now ≡ self.now.paths }
     {

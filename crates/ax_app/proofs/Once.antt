@@ -1,5 +1,5 @@
 -- Words ask for one thing, and over its files that is one job.
-use Rattle.std.proofs.Common.{◌≡◌, ℕ, List, [], ◌∷◌, ◌++◌, Option, Some, length, take, drop, refl, sym, ◌∙◌, ap, subst, arith}
+use Rattle.std.proofs.Common.{◌≡◌, ℕ, true, List, [], ◌∷◌, ◌++◌, Option, Some, length, take, drop, refl, sym, ◌∙◌, ap, subst, arith}
 use Rattle.std.proofs.Math.Seq.{take-append_seam, drop-append_seam}
 use Rattle.ax_command.specs.Words.{Asked, HasShape, verb_of, arguments_of, TakesFiles}
 use Rattle.ax_command.specs.declared.words.Verb.{Verb}
@@ -36,7 +36,7 @@ job_once Text arguments specs job other h k = h ∙ sym k
 pub does_once : (words : List (List ℕ)) (files : List File) (job other : Job) → Does words (Some files) job → Does words (Some files) other → job ≡ other
 does_once words files job other h k =
     let same : h.what ≡ k.what = shape_once words h.what k.what h.shape k.shape in
-    let specs : k.specs ≡ h.specs = given_once files h.what.files k.specs h.specs (subst (λ w. FilesGive (Some files) w.files k.specs) (sym same) k.give) h.give in
+    let specs : k.specs ≡ h.specs = given_once true files h.what.files k.specs h.specs (subst (λ w. FilesGive true (Some files) w.files k.specs) (sym same) k.give) h.give in
     job_once h.what.verb h.what.arguments h.specs job other h.is (subst (λ s. IsJob h.what.verb h.what.arguments s other) specs (subst (λ w. IsJob w.verb w.arguments k.specs other) (sym same) k.is))
 
 -- ---- what the code of a command may rely on; one row for each

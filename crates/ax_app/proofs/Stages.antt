@@ -1,5 +1,5 @@
 -- A run, stage by stage.
-use Rattle.std.proofs.Common.{◌≡◌, ℕ, ◌-◌, ◌^◌, ◌<◌, ◌≤◌, ◌⊎◌, inl, inr, List, [], ◌∷◌, Option, Some, Result, Ok, Err, IfOk, length, refl, sym, ◌∙◌, ap, subst, arith}
+use Rattle.std.proofs.Common.{◌≡◌, ℕ, ◌-◌, ◌^◌, ◌<◌, ◌≤◌, ◌⊎◌, inl, inr, true, List, [], ◌∷◌, Option, Some, Result, Ok, Err, IfOk, length, refl, sym, ◌∙◌, ap, subst, arith}
 use Rattle.std.proofs.Math.Nat.{eq-or-lt_of_le}
 use Rattle.ax_bits.specs.Bits.{AreOctets}
 use Rattle.ax_command.specs.Lines.{lines_of}
@@ -119,7 +119,7 @@ refused_uncounted files c name (Flawed flaws) h = h
 
 -- a file ends the run by what it is, or a fault of the library or want of memory does
 pub record ByItself (files : List File) (before : List SpecTree) (name : List ℕ) (i : ℕ) (stop : LoadStop) : Type 0 where
-  pub ends : EndsAtFile (Some files) none_counted before name i stop
+  pub ends : EndsAtFile true (Some files) none_counted before name i stop
   pub not_memory : stop ≡ LoadStopOf.OutOfMemory → ⊥
 
 by_itself : (files : List File) (c : LibraryCounts) (before : List SpecTree) (name : List ℕ) (i : ℕ) (stop : LoadStop) → StopsAtFile (Some files) c name i stop → IsHindrance c stop ⊎ ByItself files before name i stop
@@ -132,9 +132,9 @@ by_itself files c before name i (LoadStopOf.CategoryTwice n category) h = absurd
 twice_is_not_memory : (stop : LoadStop) (i category : ℕ) → stop ≡ LoadStopOf.CategoryTwice i category → stop ≡ LoadStopOf.OutOfMemory → ⊥
 twice_is_not_memory stop i category is memory = absurd (cc)
 
-at_file : (files : List File) (c : LibraryCounts) (before : List SpecTree) (name : List ℕ) (i : ℕ) (stop : LoadStop) → EndsAtFile (Some files) c before name i stop → IsHindrance c stop ⊎ ByItself files before name i stop
+at_file : (files : List File) (c : LibraryCounts) (before : List SpecTree) (name : List ℕ) (i : ℕ) (stop : LoadStop) → EndsAtFile true (Some files) c before name i stop → IsHindrance c stop ⊎ ByItself files before name i stop
 at_file files c before name i stop (by_file h) = by_itself files c before name i stop h
-at_file files c before name i stop (by_category category is twice) = inr (record { ends = by_category category is twice; not_memory = twice_is_not_memory stop i category is })
+at_file files c before name i stop (by_category want category is twice) = inr (record { ends = by_category want category is twice; not_memory = twice_is_not_memory stop i category is })
 
 files_headline : (words : List (List ℕ)) (files : List File) (c : LibraryCounts) (input : List ℕ) (i : SourceChange) (o r : SinkChange) (outcome : Outcome) (stop : LoadStop) (h : StopsAtFiles words (Some files) c stop) → outcome ≡ outcome_of_stop stop → IsIdle i o r
     → IsHindrance c stop ⊎ ByItself files h.ends.before h.ends.name (length h.ends.earlier) stop → Headline words files c input i o r outcome
@@ -225,7 +225,7 @@ run_completes : (words : List (List ℕ)) (files : List File) (c : LibraryCounts
 run_completes words files c input i o r outcome job count all said octets left library source out report d can (at_words none is unasked idle) = absurd (none d.what d.shape)
 run_completes words files c input i o r outcome job count all said octets left library source out report d can (at_files stop h is idle) =
     let same : d.what ≡ h.what = shape_once words d.what h.what d.shape h.shape in
-    let memory : stop ≡ LoadStopOf.OutOfMemory = given_ends_for_memory files c h.what.files d.specs stop library (subst (λ w. FilesGive (Some files) w.files d.specs) same d.give) h.ends in
+    let memory : stop ≡ LoadStopOf.OutOfMemory = given_ends_for_memory true files c h.what.files d.specs stop library (subst (λ w. FilesGive true (Some files) w.files d.specs) same d.give) h.ends in
     inl (is ∙ ap outcome_of_stop memory)
 run_completes words files c input i o r outcome job count all said octets left library source out report d can (before_input stop h is idle) =
     inl (is ∙ ap outcome_of_job_stop (not_refused words files input job count all said stop d can h))

@@ -1,5 +1,5 @@
 -- What a run does, stage by stage, whatever the library, the source and the sinks tell.
-use Rattle.std.specs.Prelude.{◌≡◌, ℕ, ◌+◌, ◌<◌, ◌≤◌, ◌⊎◌, List, Option}
+use Rattle.std.specs.Prelude.{◌≡◌, ℕ, ◌+◌, ◌<◌, ◌≤◌, ◌⊎◌, true, List, Option}
 use Rattle.ax_command.specs.Outcomes.{outcome_of_stop, outcome_of_end, outcome_of_job_stop}
 use Rattle.ax_command.specs.Words.{Asked, HasShape, HasNoShape}
 use Rattle.ax_command.specs.declared.outcome.JobStop.{JobStop}
@@ -21,21 +21,21 @@ pub record Does (words : List (List ℕ)) (files : Option (List File)) (job : Jo
   pub what : Asked
   pub shape : HasShape words what
   pub specs : List SpecTree
-  pub give : FilesGive files what.files specs
+  pub give : FilesGive true files what.files specs
   pub is : IsJob what.verb what.arguments specs job
 
 -- the words ask for this, and loading its files stops so
 pub record StopsAtFiles (words : List (List ℕ)) (files : Option (List File)) (c : LibraryCounts) (stop : LoadStop) : Type 0 where
   pub what : Asked
   pub shape : HasShape words what
-  pub ends : FilesEnd files c what.files stop
+  pub ends : FilesEnd true files c what.files stop
 
 -- its files give these specifications, and the command stops before its input
 pub record StopsBeforeInput (words : List (List ℕ)) (files : Option (List File)) (stop : JobStop) : Type 0 where
   pub what : Asked
   pub shape : HasShape words what
   pub specs : List SpecTree
-  pub give : FilesGive files what.files specs
+  pub give : FilesGive true files what.files specs
   pub stopped : IsStopped what.verb what.arguments specs stop
 
 -- first the words, then the files, then the arguments over them, then the job

@@ -8,6 +8,7 @@ use Rattle.ax_load.proofs.FilesOnce.{given_ends_for_memory}
 use Rattle.ax_load.specs.Loading.{FilesGive, FilesEnd}
 use Rattle.ax_load.specs.declared.fault.LoadStop.{LoadStop}
 use Rattle.ax_load.specs.declared.fault.LoadStop.TheVariants as LoadStopOf
+use Rattle.ax_outside.specs.Changes.{none_counted}
 use Rattle.ax_outside.specs.Files.{File}
 use Rattle.ax_outside.specs.Told.{Rose}
 use Rattle.ax_stream.proofs.AnswersOnce.{answers_once}
@@ -15,7 +16,7 @@ use Rattle.ax_stream.specs.Commands.{output_of, report_of}
 use Rattle.ax_stream.specs.Ending.{longest_input}
 use Rattle.ax_stream.specs.declared.end.StreamEnd.{StreamEnd}
 use Rattle.ax_app.proofs.Once.{shape_once, does_once}
-use Rattle.ax_app.specs.Answer.{none_counted, Answer, by_words, by_files, by_refusal, by_job}
+use Rattle.ax_app.specs.Answer.{Answer, by_words, by_files, by_refusal, by_job}
 use Rattle.ax_app.specs.Jobs.{Job, writes, each_block, refuses, JobAnswers}
 use Rattle.ax_app.specs.Running.{Does, StopsAtFiles}
 

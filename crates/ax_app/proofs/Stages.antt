@@ -19,7 +19,7 @@ use Rattle.ax_load.specs.declared.fault.SpecFault.{SpecFault}
 use Rattle.ax_load.specs.declared.fault.SpecFault.TheVariants.{TooLarge, BadByte, TooDeep, BadToken, Flawed}
 use Rattle.ax_model.specs.Specification.{SpecTree}
 use Rattle.ax_outside.proofs.Ends.{with_end-nil, Rose-later}
-use Rattle.ax_outside.specs.Changes.{LibraryCounts, SourceChange, SinkChange, IsUntouched, Gains, GainsNothing, Wrote}
+use Rattle.ax_outside.specs.Changes.{none_counted, LibraryCounts, SourceChange, SinkChange, IsUntouched, Gains, GainsNothing, Wrote}
 use Rattle.ax_outside.specs.Files.{File}
 use Rattle.ax_outside.specs.Told.{Rose, with_end}
 use Rattle.ax_outside.specs.declared.sinks.SinkFailed.{SinkFailed}
@@ -33,7 +33,7 @@ use Rattle.ax_stream.specs.declared.end.StreamEnd.{StreamEnd}
 use Rattle.ax_stream.specs.declared.end.StreamEnd.TheVariants as EndOf
 use Rattle.ax_app.proofs.Ends.{end_of, end_back, stop_back, job_stop_back, no_usage_in_job, no_usage_at_files, no_usage_before_input}
 use Rattle.ax_app.proofs.Once.{shape_once, does_once}
-use Rattle.ax_app.specs.Answer.{none_counted, by_words, by_files, by_refusal, by_job}
+use Rattle.ax_app.specs.Answer.{by_words, by_files, by_refusal, by_job}
 use Rattle.ax_app.specs.Completing.{NoFaultCounted, HasWhole, IsDoneWith}
 use Rattle.ax_app.specs.Headline.{Headline, answered, stopped_at_files, stopped_before_input, stopped_in_job, IsHindrance, of_library, of_memory}
 use Rattle.ax_app.specs.Jobs.{Job, writes, each_block, refuses, check_text, IsJob, TextEnds, written, cut, no_memory, JobRuns, RunsJob, IsReadyToCheck}

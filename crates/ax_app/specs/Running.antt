@@ -8,7 +8,7 @@ use Rattle.ax_command.specs.declared.outcome.Outcome.TheVariants.{Usage, OtherCa
 use Rattle.ax_load.specs.Loading.{FilesGive, FilesEnd}
 use Rattle.ax_load.specs.declared.fault.LoadStop.{LoadStop}
 use Rattle.ax_model.specs.Specification.{SpecTree}
-use Rattle.ax_outside.specs.Changes.{LibraryCounts, SourceChange, SinkChange, IsUnasked, Gains, GainsPart}
+use Rattle.ax_outside.specs.Changes.{LibraryCounts, SourceChange, SinkChange, IsUnasked, first_step, second_step, Gains, GainsPart}
 use Rattle.ax_outside.specs.Files.{File}
 use Rattle.ax_outside.specs.Told.{Rose}
 use Rattle.ax_stream.specs.Ending.{longest_input}
@@ -54,8 +54,8 @@ pub record Ended (Before : SinkChange → Type 0) (r : SinkChange) (lines : List
   pub counted : ℕ
   pub from_start : r.faults ≤ counted
   pub to_end : counted ≤ r.faults'
-  pub before : Before (record { held = r.held; held' = between; faults = r.faults; faults' = counted })
-  pub lines_after : Gains (record { held = between; held' = r.held'; faults = counted; faults' = r.faults' }) lines ⊎ GainsPart (record { held = between; held' = r.held'; faults = counted; faults' = r.faults' }) lines
+  pub before : Before (first_step r between counted)
+  pub lines_after : Gains (second_step r between counted) lines ⊎ GainsPart (second_step r between counted) lines
 
 -- ---- causes
 

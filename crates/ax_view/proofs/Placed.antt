@@ -82,7 +82,7 @@ module _ (nodes : List Node) (links marks left now body : List ℕ) (t at here s
 pub stands_in_place : (nodes : List Node) (links : List ℕ) (slot : ℕ) (mask : SlotMask) (body marks octets : List ℕ) (here : ℕ) (es : EntriesTree) → IsMaskOf (linked_slots (meanings nodes) links) mask → MarksSlots mask body 0 here marks
     → es ≡ entries_in (value_in (record_kind_at nodes links) body) → FollowsEntries nodes links slot es body here octets → StandsInPlace nodes links slot body octets
 stands_in_place nodes links slot mask body marks octets here es m h same f =
-    let size : mask.count ≡ length links = m.count ∙ length-map (linked_slot (meanings nodes)) links in
+    let size : mask.count ≡ length links = m.count ∙ length-map links (linked_slot (meanings nodes)) in
     record {
       field = take here body;
       marks = take (7 * h.field.octets) marks;

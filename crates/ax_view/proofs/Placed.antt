@@ -83,10 +83,12 @@ pub stands_in_place : (nodes : List Node) (links : List ℕ) (slot : ℕ) (mask 
     → es ≡ entries_in (value_in (record_kind_at nodes links) body) → FollowsEntries nodes links slot es body here octets → StandsInPlace nodes links slot body octets
 stands_in_place nodes links slot mask body marks octets here es m h same f =
     let size : mask.count ≡ length links = m.count ∙ length-map links (linked_slot (meanings nodes)) in
+    let from_0 : here - 0 ≡ here = omega arith in
+    let field : Presence (octets_needed mask.count) (take (7 * h.field.octets) marks) (bits (take here body)) = subst (λ n. Presence (octets_needed mask.count) (take (7 * h.field.octets) marks) (bits (take n body))) from_0 h.field.field.field in
     record {
       field = take here body;
       marks = take (7 * h.field.octets) marks;
-      presence = subst (λ n. Presence (octets_needed n) (take (7 * h.field.octets) marks) (bits (take here body))) size h.field.field.field;
+      presence = subst (λ n. Presence (octets_needed n) (take (7 * h.field.octets) marks) (bits (take here body))) size field;
       front = f.front;
       rest = f.rest;
       split = sym (take-append-drop here body) ∙ ap (λ r. take here body ++ r) f.split;

@@ -16,6 +16,9 @@ const FILE_V: &str =
 const CUT_SHORT: &str =
     r#"category 034 edition "X" items { item 000 "T" element 8 raw } uap { 000"#;
 
+// A brace after the end of a text.
+const BRACE_BEHIND: &str = "category 034 edition \"X\" items { } uap { } }";
+
 const UNENDED: &str = r#"category 034 edition "X"#;
 
 // No category: the second token is bad, though five more follow.
@@ -179,6 +182,7 @@ fn files(alloc: Global) -> Result<Vec<(String, Vec<u8>)>, AllocError> {
         ("034", CAT034_P1),
         ("048", CAT048_P1),
         ("short", CUT_SHORT),
+        ("behind", BRACE_BEHIND),
         ("unended", UNENDED),
         ("256", NO_CATEGORY),
         ("deep", NESTED_TOO_DEEP),

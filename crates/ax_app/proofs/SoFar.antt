@@ -5,9 +5,9 @@ use Rattle.ax_command.specs.declared.outcome.JobStop.{JobStop}
 use Rattle.ax_command.specs.declared.outcome.JobStop.TheVariants as JobStopOf
 use Rattle.ax_command.specs.declared.outcome.Outcome.{Outcome}
 use Rattle.ax_command.specs.declared.outcome.Outcome.TheVariants.{Usage}
-use Rattle.ax_command.specs.declared.outcome.Refusal.{Refusal}
+use Rattle.ax_command.specs.declared.outcome.Refusal.TheVariants.{OtherCategory, FilterRefused}
 use Rattle.ax_command.specs.declared.words.Verb.{Verb}
-use Rattle.ax_command.specs.declared.words.Verb.TheVariants.{Check, Canon, Show, Text}
+use Rattle.ax_command.specs.declared.words.Verb.TheVariants.{Check, Canon, Show, Text, Filter}
 use Rattle.ax_load.specs.declared.fault.LoadStop.{LoadStop}
 use Rattle.ax_load.specs.declared.fault.LoadStop.TheVariants as LoadStopOf
 use Rattle.ax_model.specs.Blocks.{BlockTree}
@@ -18,7 +18,7 @@ use Rattle.ax_stream.specs.Commands.{BlockCommand, gives, too_long}
 use Rattle.ax_stream.specs.Streams.{IsLicensed, Reports, RefusesLength}
 use Rattle.ax_stream.specs.declared.end.StreamEnd.{StreamEnd}
 use Rattle.ax_stream.specs.declared.end.StreamEnd.TheVariants as EndOf
-use Rattle.ax_app.specs.Jobs.{Job, refuses, IsJob, IsStopped, JobRuns, TextEnds, written, cut, no_memory}
+use Rattle.ax_app.specs.Jobs.{Job, refuses, IsJob, IsFilterJob, filters, refused, IsStopped, JobRuns, TextEnds, written, cut, no_memory}
 use Rattle.ax_app.specs.Running.{Runs, at_words, at_files, before_input, in_job, NoCountFell, IsOfTheseCommands}
 
 -- an end that is neither a failed line nor a refused length
@@ -52,18 +52,29 @@ silent_is_plain c end s h = record {
   no_length = λ block octets e. no_refusal c block octets s (subst (IsLicensed c) e h);
 }
 
+filter_is_plain : (expression : List ℕ) (specs : List SpecTree) (job : Job) (i : SourceChange) (o r : SinkChange) (end : StreamEnd) → IsFilterJob expression specs job → JobRuns job i o r end → IsPlainEnd end
+filter_is_plain expression specs job i o r end (filters e h is) runs = silent_is_plain _ end (record { octets = _; answer = λ number block. refl }) (subst (λ j. JobRuns j i o r end) is runs).licensed
+filter_is_plain expression specs job i o r end (refused fault h is) runs = absurd (subst (λ j. JobRuns j i o r end) is runs)
+
 -- one row for each command
 plain_end : (verb : Verb) (arguments : List (List ℕ)) (specs : List SpecTree) (job : Job) (i : SourceChange) (o r : SinkChange) (end : StreamEnd) → IsJob verb arguments specs job → JobRuns job i o r end → IsPlainEnd end
 plain_end Check arguments specs job i o r end is h = text_is_plain _ o end (subst (λ j. JobRuns j i o r end) is.is h).ends
 plain_end Canon arguments specs job i o r end is h = silent_is_plain _ end (record { octets = _; answer = λ number block. refl }) (subst (λ j. JobRuns j i o r end) is h).licensed
 plain_end Show arguments specs job i o r end is h = silent_is_plain _ end (record { octets = _; answer = λ number block. refl }) (subst (λ j. JobRuns j i o r end) is h).licensed
 plain_end Text arguments specs job i o r end is h = silent_is_plain _ end (record { octets = _; answer = λ number block. refl }) (subst (λ j. JobRuns j i o r end) is h).licensed
+plain_end Filter arguments specs job i o r end is h = filter_is_plain is.expression specs job i o r end is.is h
 
-never_refuses : (verb : Verb) (arguments : List (List ℕ)) (specs : List SpecTree) (refusal : Refusal) → IsJob verb arguments specs (refuses refusal) → ⊥
-never_refuses Check arguments specs refusal h = let e = h.is in absurd (cc)
-never_refuses Canon arguments specs refusal h = absurd (cc)
-never_refuses Show arguments specs refusal h = absurd (cc)
-never_refuses Text arguments specs refusal h = absurd (cc)
+filter_has_no_editions : (expression : List ℕ) (specs : List SpecTree) (old new : ℕ) → IsFilterJob expression specs (refuses (OtherCategory old new)) → ⊥
+filter_has_no_editions expression specs old new (filters e h is) = absurd (cc)
+filter_has_no_editions expression specs old new (refused fault h is) = absurd (cc)
+
+-- one row for each command
+no_editions_of : (verb : Verb) (arguments : List (List ℕ)) (specs : List SpecTree) (old new : ℕ) → IsJob verb arguments specs (refuses (OtherCategory old new)) → ⊥
+no_editions_of Check arguments specs old new h = let e = h.is in absurd (cc)
+no_editions_of Canon arguments specs old new h = absurd (cc)
+no_editions_of Show arguments specs old new h = absurd (cc)
+no_editions_of Text arguments specs old new h = absurd (cc)
+no_editions_of Filter arguments specs old new h = filter_has_no_editions h.expression specs old new h.is
 
 -- ---- outcomes
 
@@ -87,7 +98,8 @@ at_end EndOf.ReportFault p = absurd (p.no_lines refl)
 at_end EndOf.OutOfMemory p = record { no_lines = λ e. absurd (cc); no_length = λ b n e. absurd (cc); no_editions = λ a b e. absurd (cc) }
 
 at_job_stop : (verb : Verb) (arguments : List (List ℕ)) (specs : List SpecTree) (refusal : JobStop) → IsStopped verb arguments specs refusal → IsOfTheseCommands (outcome_of_job_stop refusal)
-at_job_stop verb arguments specs (JobStopOf.Refused refusal) h = absurd (never_refuses verb arguments specs refusal h)
+at_job_stop verb arguments specs (JobStopOf.Refused (OtherCategory old new)) h = absurd (no_editions_of verb arguments specs old new h)
+at_job_stop verb arguments specs (JobStopOf.Refused (FilterRefused fault)) h = record { no_lines = λ e. absurd (cc); no_length = λ b n e. absurd (cc); no_editions = λ a b e. absurd (cc) }
 at_job_stop verb arguments specs JobStopOf.OutOfMemory h = record { no_lines = λ e. absurd (cc); no_length = λ b n e. absurd (cc); no_editions = λ a b e. absurd (cc) }
 
 pub so_far : (words : List (List ℕ)) (files : Option (List File)) (c : LibraryCounts) (i : SourceChange) (o r : SinkChange) (outcome : Outcome) → Runs words files c i o r outcome → IsOfTheseCommands outcome

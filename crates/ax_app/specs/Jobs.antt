@@ -1,11 +1,16 @@
 -- The commands: what each does once its files are accepted. A command is one row of `IsJob`.
-use Rattle.std.specs.Prelude.{◌≡◌, ℕ, List, [], ◌∷◌, ◌++◌}
+use Rattle.std.specs.Prelude.{◌≡◌, ℕ, ◌≤◌, ◌^◌, List, [], ◌∷◌, ◌++◌, length}
 use Rattle.ax_command.specs.Accepted.{accepted_line}
 use Rattle.ax_command.specs.declared.outcome.JobStop.{JobStop}
 use Rattle.ax_command.specs.declared.outcome.JobStop.TheVariants as JobStopOf
 use Rattle.ax_command.specs.declared.outcome.Refusal.{Refusal}
+use Rattle.ax_command.specs.declared.outcome.Refusal.TheVariants.{FilterRefused}
 use Rattle.ax_command.specs.declared.words.Verb.{Verb}
-use Rattle.ax_command.specs.declared.words.Verb.TheVariants.{Check, Canon, Show, Text}
+use Rattle.ax_command.specs.declared.words.Verb.TheVariants.{Check, Canon, Show, Text, Filter}
+use Rattle.ax_filter.specs.Texts.{IsFilterText, IsRefused}
+use Rattle.ax_filter.specs.Tree.{ExprTree}
+use Rattle.ax_filter.specs.declared.text.FilterFault.{FilterFault}
+use Rattle.ax_filter_work.specs.FilterCommand.{filter_command}
 use Rattle.ax_grammar.specs.InRange.{AreNumbersInRange}
 use Rattle.ax_grammar.specs.Spelling.{printed}
 use Rattle.ax_model.specs.Blocks.{BlockTree}
@@ -45,12 +50,23 @@ show_command catalogue = tree_command (λ number spec block. ShowText spec block
 abbrev pub text_command : List SpecTree → BlockCommand
 text_command catalogue = tree_command (λ number spec block. BlockLine spec block) (λ number category content. OpaqueLine category content) catalogue
 
+-- `filter`: over the specifications of its files its expression is a filter, or is refused
+pub data IsFilterJob (expression : List ℕ) (specs : List SpecTree) (job : Job) : Type 0 where
+  filters : (e : ExprTree) → IsFilterText specs expression e → job ≡ each_block (filter_command e specs) → IsFilterJob expression specs job
+  refused : (fault : FilterFault) → IsRefused specs expression fault → job ≡ refuses (FilterRefused fault) → IsFilterJob expression specs job
+
+pub record FiltersBy (arguments : List (List ℕ)) (specs : List SpecTree) (job : Job) : Type 0 where
+  pub expression : List ℕ
+  pub one : arguments ≡ expression ∷ []
+  pub is : IsFilterJob expression specs job
+
 -- the job of a command with these arguments, over the specifications of its files
 abbrev pub IsJob : Verb → List (List ℕ) → List SpecTree → Job → Type 0
 IsJob Check arguments specs job = IsCheckJob specs job
 IsJob Canon arguments specs job = job ≡ each_block (canon_command specs)
 IsJob Show arguments specs job = job ≡ each_block (show_command specs)
 IsJob Text arguments specs job = job ≡ each_block (text_command specs)
+IsJob Filter arguments specs job = FiltersBy arguments specs job
 
 -- the job is a refusal, or memory was wanting before it was known
 abbrev pub IsStopped : Verb → List (List ℕ) → List SpecTree → JobStop → Type 0
@@ -99,11 +115,17 @@ pub record IsReadyToCheck (specs : List SpecTree) : Type 0 where
   pub one : specs ≡ spec ∷ []
   pub in_range : AreNumbersInRange spec
 
+pub record IsReadyToFilter (arguments : List (List ℕ)) : Type 0 where
+  pub expression : List ℕ
+  pub one : arguments ≡ expression ∷ []
+  pub short : length expression ≤ 2 ^ 31
+
 abbrev pub IsReady : Verb → List (List ℕ) → List SpecTree → Type 0
 IsReady Check arguments specs = IsReadyToCheck specs
 IsReady Canon arguments specs = Unit {0}
 IsReady Show arguments specs = Unit {0}
 IsReady Text arguments specs = Unit {0}
+IsReady Filter arguments specs = IsReadyToFilter arguments
 
 -- the command ran its job
 pub record RunsJob (verb : Verb) (arguments : List (List ℕ)) (specs : List SpecTree) (i : SourceChange) (o r : SinkChange) (end : StreamEnd) : Type 0 where

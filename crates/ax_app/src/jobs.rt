@@ -1,6 +1,6 @@
 //! The commands, over the specifications of their files.
 ghost use Rattle.std.specs.Prelude.{◌≡◌, ◌≤◌, List, ℕ, [], ◌∷◌, IfOk, IfErr, OnErr, map};
-ghost use Rattle.ax_command.specs.declared.words.Verb.TheVariants.{Check};
+ghost use Rattle.ax_command.specs.declared.words.Verb.TheVariants.{Check, Filter};
 ghost use Rattle.ax_grammar.specs.InRange.{AreNumbersInRange};
 ghost use Rattle.ax_model.specs.Plain.{spec_tree, catalogue_tree};
 ghost use Rattle.ax_model.specs.Specification.{SpecTree};
@@ -11,11 +11,13 @@ ghost use Rattle.ax_command.specs.declared.outcome.JobStop.TheVariants.{OutOfMem
 ghost use Rattle.ax_stream.specs.BlockCommands.{canon_command};
 ghost use Rattle.ax_stream.specs.Ending.{longest_input};
 ghost use Rattle.ax_stream.specs.Streams.{IsIdle, StreamRuns};
-ghost use Rattle.ax_app.specs.Jobs.{IsReady, IsStopped, RunsJob, TextEnds, check_text};
+ghost use Rattle.ax_app.specs.Jobs.{IsReady, IsReadyToFilter, IsStopped, RunsJob, TextEnds, check_text};
 
 use crate::makers::{ShowMaker, TextMaker};
 use ax_check::Catalogue;
-use ax_command::{JobStop, Verb, line_of};
+use ax_command::{JobStop, Refusal, Verb, line_of};
+use ax_filter::{FilterStop, read_expression};
+use ax_filter_work::FilterMaker;
 use ax_grammar::print_spec;
 use ax_model::Spec;
 use ax_outside::{Sink, Source, write_text};
@@ -78,6 +80,37 @@ fn canon<S: Source, K: Sink, R: Sink>(
     Ok(run_blocks(alloc, &mut work, source, out, report))
 }
 
+/// `filter`: the records of each block that the expression holds of, or the refusal of the expression.
+#[tactic(auto, using(crate::proofs::Filters::filter_jobs))]
+fn filter<S: Source, K: Sink, R: Sink>(
+    alloc: Global,
+    arguments: &[String],
+    catalogue: &Catalogue,
+    source: &mut S,
+    out: &mut K,
+    report: &mut R,
+) -> Result<StreamEnd, JobStop>
+    requires { IsReadyToFilter (map string_bytes arguments.now) }
+    ensures runs { IfOk result (RunsJob Filter (map string_bytes arguments.now) (catalogue_tree catalogue.now) (source_change S.Source source.old source.new) (sink_change K.Sink out.old out.new) (sink_change R.Sink report.old report.new)) }
+    ensures stopped { IfErr result (IsStopped Filter (map string_bytes arguments.now) (catalogue_tree catalogue.now)) }
+    ensures idle { OnErr result (IsIdle (source_change S.Source source.old source.new) (sink_change K.Sink out.old out.new) (sink_change R.Sink report.old report.new)) }
+    ensures source_later { S.faults source.old ≤ S.faults source.new }
+    ensures out_later { K.faults out.old ≤ K.faults out.new }
+    ensures report_later { R.faults report.old ≤ R.faults report.new }
+{
+    let Some((expression, _)) = arguments.split_first() else {
+        unreachable!()
+    };
+    match read_expression(alloc, expression.as_bytes(), catalogue) {
+        Ok(filter) => {
+            let mut work = TreeWork::new(alloc, catalogue, FilterMaker { filter: &filter });
+            Ok(run_blocks(alloc, &mut work, source, out, report))
+        }
+        Err(FilterStop::Refused(fault)) => Err(JobStop::Refused(Refusal::FilterRefused { fault })),
+        Err(FilterStop::OutOfMemory) => Err(JobStop::OutOfMemory),
+    }
+}
+
 /// Does what the command says, over the specifications of its files.
 pub fn do_job<S: Source, K: Sink, R: Sink>(
     alloc: Global,
@@ -107,5 +140,6 @@ pub fn do_job<S: Source, K: Sink, R: Sink>(
             let mut work = TreeWork::new(alloc, catalogue, TextMaker);
             Ok(run_blocks(alloc, &mut work, source, out, report))
         }
+        Verb::Filter => filter(alloc, arguments, catalogue, source, out, report),
     }
 }

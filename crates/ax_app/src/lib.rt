@@ -7,6 +7,6 @@ mod jobs;
 mod laws;
 mod makers;
 
-pub use ax_command::{Cause, InputFault, Outcome, SpecFault};
+pub use ax_command::{Cause, FilterFault, InputFault, Outcome, SpecFault};
 pub use gateway::run;
 pub use laws::one_answer;

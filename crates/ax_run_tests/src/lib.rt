@@ -9,6 +9,8 @@ mod categories;
 #[cfg(test)]
 mod checking;
 #[cfg(test)]
+mod filtering;
+#[cfg(test)]
 mod outside;
 #[cfg(test)]
 mod texts;

@@ -209,16 +209,14 @@ pub fn left_of(alloc: Global, source: &mut MemSource) -> Result<usize, Fail> {
     Ok(fill(source, &mut buffer)?)
 }
 
-// Runs the words, which have blanks between them.
-fn ran(alloc: Global, words: &str, input: &[u8], outside: Outside) -> Result<Ended, Fail> {
-    let words = words_of(alloc, words)?;
+fn ran(alloc: Global, words: &Vec<String>, input: &[u8], outside: Outside) -> Result<Ended, Fail> {
     let mut library = library_of(alloc, outside)?;
     let mut source = source_of(alloc, outside, input)?;
     let mut out = out_of(alloc, outside)?;
     let mut report = report_of(alloc, outside)?;
     let outcome = run(
         alloc,
-        &words,
+        words,
         &mut library,
         &mut source,
         &mut out,
@@ -232,7 +230,7 @@ fn ran(alloc: Global, words: &str, input: &[u8], outside: Outside) -> Result<End
     })
 }
 
-/// Runs the words over this input, and asserts that the run leaves what is wanted.
+/// Runs the words, which have blanks between them, over this input, and asserts that the run leaves what is wanted.
 pub fn leaves(
     rt: &impl Abort,
     alloc: Global,
@@ -241,7 +239,30 @@ pub fn leaves(
     outside: Outside,
     want: Ended,
 ) -> Result<(), Fail> {
-    let got = ran(alloc, words, input, outside)?;
+    let got = ran(alloc, &words_of(alloc, words)?, input, outside)?;
     assert_eq!(rt; got, want, "of {words} over {input:?}");
+    Ok(())
+}
+
+/// Runs `filter` with that expression, which is one word, and with files, which have blanks between them, over this
+/// input, and asserts that the run leaves what is wanted.
+pub fn filter_leaves(
+    rt: &impl Abort,
+    alloc: Global,
+    expression: &str,
+    files: &str,
+    input: &[u8],
+    outside: Outside,
+    want: Ended,
+) -> Result<(), Fail> {
+    let mut words = vec![in alloc;
+        String::from_str(alloc, "filter")?,
+        String::from_str(alloc, expression)?,
+    ]?;
+    for file in files.split_whitespace() {
+        words.push(String::from_str(alloc, file)?)?;
+    }
+    let got = ran(alloc, &words, input, outside)?;
+    assert_eq!(rt; got, want, "of {expression} over {files} and {input:?}");
     Ok(())
 }

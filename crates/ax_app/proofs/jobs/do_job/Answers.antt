@@ -17,3 +17,9 @@ returns-in-Show-clause-runs g c = rw c.in-Show.is (block_job Show _ _ _ _ _ _ _ 
 
 pub returns-in-Text-clause-runs : goal.returns-in-Text-clause-runs
 returns-in-Text-clause-runs g c = rw c.in-Text.is (block_job Text _ _ _ _ _ _ _ _ refl c.new-work-in-Text.ensures c.run_blocks-in-Text.ensures.runs)
+
+pub returns-in-Filter-clause-runs : goal.returns-in-Filter-clause-runs
+returns-in-Filter-clause-runs g c = rw c.in-Filter.is c.filter.ensures.runs
+
+pub returns-in-Filter-clause-stopped : goal.returns-in-Filter-clause-stopped
+returns-in-Filter-clause-stopped g c = rw c.in-Filter.is c.filter.ensures.stopped

@@ -5,7 +5,7 @@ use Rattle.std.specs.Str.{bytes_eq}
 use Rattle.std.specs.String.{string_bytes}
 use Rattle.ax_command.specs.declared.words.Command.{Command}
 use Rattle.ax_command.specs.declared.words.Verb.{Verb}
-use Rattle.ax_command.specs.declared.words.Verb.TheVariants.{Check, Canon, Show, Text, Filter}
+use Rattle.ax_command.specs.declared.words.Verb.TheVariants.{Check, Canon, Show, Text, Filter, Migrate}
 
 -- the first word names the command
 abbrev pub verb_of : List ℕ → Option Verb
@@ -15,6 +15,7 @@ verb_of word =
     else if bytes_eq word (codes "show") then Some Show
     else if bytes_eq word (codes "text") then Some Text
     else if bytes_eq word (codes "filter") then Some Filter
+    else if bytes_eq word (codes "migrate") then Some Migrate
     else None
 
 -- how many files it takes
@@ -24,6 +25,7 @@ TakesFiles Canon count = 0 < count
 TakesFiles Show count = 0 < count
 TakesFiles Text count = 0 < count
 TakesFiles Filter count = 0 < count
+TakesFiles Migrate count = count ≡ 2
 
 -- how many words stand before its files
 abbrev pub arguments_of : Verb → ℕ
@@ -32,6 +34,7 @@ arguments_of Canon = 0
 arguments_of Show = 0
 arguments_of Text = 0
 arguments_of Filter = 1
+arguments_of Migrate = 0
 
 -- the first word is an expression, of at most 2^31 octets
 abbrev pub IsExpression : List (List ℕ) → Type 0
@@ -45,6 +48,7 @@ AreArguments Canon arguments = Unit {0}
 AreArguments Show arguments = Unit {0}
 AreArguments Text arguments = Unit {0}
 AreArguments Filter arguments = IsExpression arguments
+AreArguments Migrate arguments = Unit {0}
 
 -- what the words ask for
 pub record Asked : Type 0 where

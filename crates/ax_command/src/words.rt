@@ -20,6 +20,8 @@ pub enum Verb {
     Text,
     /// `filter EXPR` and one or more SPEC.
     Filter,
+    /// `migrate OLD NEW`
+    Migrate,
 }
 
 /// What the words ask for: a command with these arguments, over these files.
@@ -44,6 +46,8 @@ fn verb_of(word: &str) -> Option<Verb>
         Some(Verb::Text)
     } else if word == "filter" {
         Some(Verb::Filter)
+    } else if word == "migrate" {
+        Some(Verb::Migrate)
     } else {
         None
     }
@@ -56,6 +60,7 @@ fn takes_files(verb: Verb, count: usize) -> bool
     match verb {
         Verb::Check => count == 1,
         Verb::Canon | Verb::Show | Verb::Text | Verb::Filter => count > 0,
+        Verb::Migrate => count == 2,
     }
 }
 
@@ -65,7 +70,7 @@ fn arguments_of(verb: Verb) -> usize
 {
     match verb {
         Verb::Filter => 1,
-        Verb::Check | Verb::Canon | Verb::Show | Verb::Text => 0,
+        Verb::Check | Verb::Canon | Verb::Show | Verb::Text | Verb::Migrate => 0,
     }
 }
 
@@ -85,7 +90,7 @@ fn are_arguments(verb: Verb, arguments: &[String]) -> bool
             [text, ..] => is_expression(text.as_str()),
             [] => false,
         },
-        Verb::Check | Verb::Canon | Verb::Show | Verb::Text => true,
+        Verb::Check | Verb::Canon | Verb::Show | Verb::Text | Verb::Migrate => true,
     }
 }
 

@@ -1,5 +1,5 @@
 -- A block has exactly one migrated block.
-use Rattle.std.proofs.Common.{◌≡◌, ℕ, List, [], ◌∷◌, map, refl, sym, ◌∙◌, ap, subst}
+use Rattle.std.proofs.Common.{◌≡◌, List, [], ◌∷◌, map, refl, sym, subst}
 use Rattle.std.specs.List.{AllByRecursion}
 use Rattle.ax_edition_laws.proofs.Once.{moved_migrated, migrated_once}
 use Rattle.ax_edition_laws.specs.Moved.{moved_record}

@@ -1,16 +1,15 @@
 -- What `migrate` answers to a block, by the length of the migrated block.
-use Rattle.std.proofs.Common.{◌≡◌, ℕ, ◌<◌, ◌≤◌, nat_lt, true, false, cond, List, refl, sym, ◌∙◌, ap, subst}
+use Rattle.std.proofs.Common.{◌≡◌, ℕ, ◌<◌, ◌≤◌, cond, List, ap, subst}
 use Rattle.std.proofs.lemmas.Bool.{lt-ltb, le-ltb}
 use Rattle.ax_migrate.proofs.OneBlock.{migrated_is_block}
 use Rattle.ax_migrate.specs.Losing.{block_losses, lost_lines}
-use Rattle.ax_migrate.specs.Migrating.{migrated_block}
-use Rattle.ax_migrate_work.specs.Commands.{within_block, migrate_answer, migrate_command}
+use Rattle.ax_migrate_work.specs.Commands.{within_block, migrate_command}
 use Rattle.ax_model.specs.Blocks.{BlockTree, Fits}
 use Rattle.ax_model.specs.CanonicalOctets.{canon_block, canon_length}
 use Rattle.ax_model.specs.Flaws.{NoFlaw}
 use Rattle.ax_model.specs.Migrated.{MigratedBlock}
 use Rattle.ax_model.specs.Specification.{SpecTree}
-use Rattle.ax_stream.specs.Commands.{BlockAnswer, gives, too_long}
+use Rattle.ax_stream.specs.Commands.{gives, too_long}
 
 pub given : (n : ℕ) (lines octets : List ℕ) → n ≤ 65535 → within_block n lines octets ≡ gives lines octets
 given n lines octets le = ap (λ b. cond b (too_long n) (gives lines octets)) (le-ltb 65535 n le)

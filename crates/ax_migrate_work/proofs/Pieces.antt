@@ -1,6 +1,6 @@
 -- What is made of a block.
-use Rattle.std.proofs.Common.{◌≡◌, ℕ, ◌+◌, ◌<◌, ◌≤◌, ◌==◌, inl, inr, ◌⊎◌, Bool, true, false, cond, List, [], ◌∷◌, Option, Some, None, length, refl, sym, ◌∙◌, ap, subst, arith, Result, Ok, Err, IfOk, IfErr}
-use Rattle.std.proofs.lemmas.Bool.{eqb-true}
+use Rattle.std.proofs.Common.{◌≡◌, ℕ, ◌<◌, ◌≤◌, ◌==◌, nat_lt, Fits, w32, inl, inr, ◌⊎◌, Bool, true, false, cond, List, [], ◌∷◌, Some, None, length, refl, sym, ◌∙◌, ap, subst, arith, Result, Ok, Err, IfOk, IfErr, IsErrOf}
+use Rattle.std.proofs.lemmas.Bool.{eqb-true, ltb-true, ltb-false}
 use Rattle.ax_edition.specs.Relates.{Relates}
 use Rattle.ax_edition.specs.declared.relation.Relation.{Relation}
 use Rattle.ax_edition_laws.proofs.Lookups.{equal}
@@ -33,6 +33,14 @@ use Rattle.ax_values.specs.declared.error.EncodeError.TheVariants as Encoding
 true_or_false : {b : Bool} → b ≡ true → b ≡ false → ⊥
 true_or_false e f = absurd (let x : true ≡ false = sym e ∙ f in cc)
 
+-- a result that is there isn't refused for its length
+pub not_long : {A : Type 0} (n : ℕ) (made : A) (e : EncodeError) → (65535 < n → IsErrOf (Ok made) e) → n ≤ 65535
+not_long n made e long = by (nat_lt 65535 n) refl
+  where
+    by : (b : Bool) → nat_lt 65535 n ≡ b → n ≤ 65535
+    by true t = absurd (let x : Ok made ≡ Err e = long (ltb-true 65535 n t) in cc)
+    by false f = ltb-false 65535 n f
+
 -- ---- of a block
 
 module _ (old new : Spec) (relation : Relation) (block made : Block) (related : Relates old new relation) (fits : BlockFits old block) (migrated : BlockMigrated old new block made) where
@@ -57,6 +65,11 @@ module _ (old new : Spec) (relation : Relation) (block made : Block) (related : 
       let few = small le in
       let same : count ≡ held (block_length new made) = cc in same ∙ omega arith
   count_is e count le is (inr none) = absurd (cc)
+
+  pub count_fits : (e : EncodeError) (count : ℕ) → block_length old block ≤ 65535 → e ≡ Encoding.TooLong count → (e ≡ Encoding.TooLong (held (block_length new made))) ⊎ (e ≡ Encoding.OutOfMemory) → Fits w32 count
+  count_fits e count le is which =
+      let n = count_is e count le is which in
+      let few = small le in omega arith
 
   pub piece_too_long : (e : EncodeError) (count : ℕ) → block_length old block ≤ 65535 → e ≡ Encoding.TooLong count → (e ≡ Encoding.TooLong (held (block_length new made))) ⊎ (e ≡ Encoding.OutOfMemory)
       → (e ≡ Encoding.TooLong (held (block_length new made)) → 65535 < block_length new made) → NoPieceOf (spec_tree old) (spec_tree new) (block_tree block) (TooLong count)

@@ -1,5 +1,5 @@
 -- What `migrate` does with one block.
-use Rattle.std.proofs.Common.{◌≡◌, ℕ, ◌<◌, ◌≤◌, List, Option, refl, sym, ◌∙◌, ap, subst, arith, Ok, Err}
+use Rattle.std.proofs.Common.{◌≡◌, ℕ, ◌<◌, List, Option, refl, sym, ◌∙◌, ap, subst, arith, Ok, Err}
 use Rattle.ax_migrate.specs.Losing.{block_losses, lost_lines}
 use Rattle.ax_migrate.specs.Migrating.{migrated_block}
 use Rattle.ax_migrate.specs.declared.losing.LossEntry.{LossEntry}
@@ -23,8 +23,8 @@ module _ (old new : SpecTree) (number : ℕ) (raw : RawTree) where
     block = h.block;
     spells = h.spells;
     answer =
-      given (canon_length new (migrated_block old new h.block)) (lost_lines number (block_losses old new h.block)) (canon_block new (migrated_block old new h.block)) h.made.short
-      ∙ (λ i. gives (lost_lines number (sym h.made.losses_are i)) (sym h.made.octets_are i));
+        given (canon_length new (migrated_block old new h.block)) (lost_lines number (block_losses old new h.block)) (canon_block new (migrated_block old new h.block)) h.made.short
+        ∙ (λ i. gives (lost_lines number (sym h.made.losses_are i)) (sym h.made.octets_are i));
   }
 
   pub piece_taken : (held held' : Option (List ℕ)) (faults faults' : ℕ) (u v : Unit) (octets laid : List ℕ) (losses : List LossEntry) → IsPiece old new raw octets losses
@@ -49,8 +49,8 @@ module _ (old new : SpecTree) (number : ℕ) (raw : RawTree) where
       block = h.block;
       spells = h.spells;
       answer =
-        let long : 65535 < canon_length new (migrated_block old new h.block) = subst (λ n. 65535 < n) h.count_is h.long in
-        refused (canon_length new (migrated_block old new h.block)) (lost_lines number (block_losses old new h.block)) (canon_block new (migrated_block old new h.block)) long ∙ ap too_long (sym h.count_is);
+          let long : 65535 < canon_length new (migrated_block old new h.block) = subst (λ n. 65535 < n) h.count_is h.long in
+          refused (canon_length new (migrated_block old new h.block)) (lost_lines number (block_losses old new h.block)) (canon_block new (migrated_block old new h.block)) long ∙ ap too_long (sym h.count_is);
       nothing = refl;
     };
     later = omega arith;

@@ -4,7 +4,7 @@ ghost use Rattle.ax_edition.specs.Relates.{Relates};
 ghost use Rattle.ax_migrate_work.specs.Commands.{migrate_command};
 ghost use Rattle.ax_model.specs.Plain.{spec_tree};
 
-use crate::making::{Piece, piece_of};
+use crate::making::piece_of;
 use ax_edition::Relation;
 use ax_migrate::loss_lines;
 use ax_model::{RawBlock, Spec};
@@ -64,9 +64,9 @@ impl<'c> BlockWork for MigrateWork<'c> {
         report: &mut R,
     ) -> Result<(), WorkStop> {
         match piece_of(self.alloc, self.relation, self.old, self.new, raw) {
-            Ok(Piece { octets, losses }) => match loss_lines(report, number, &losses) {
+            Ok(piece) => match loss_lines(report, number, &piece.losses) {
                 Ok(()) => {
-                    self.octets = octets;
+                    self.octets = piece.octets;
                     Ok(())
                 }
                 Err(_) => Err(WorkStop::ReportFault),

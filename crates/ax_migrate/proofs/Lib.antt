@@ -1,0 +1,7 @@
+pub mod ByMoves
+pub mod EntryLists
+pub mod Found
+pub mod LossLines
+pub mod OneBlock
+pub mod RecordLists
+pub mod WholeBlocks

@@ -1,9 +1,9 @@
 -- Words ask for one thing, and over its files that is one job.
-use Rattle.std.proofs.Common.{◌≡◌, ℕ, true, List, [], ◌∷◌, ◌++◌, Option, Some, length, take, drop, refl, sym, ◌∙◌, ap, subst, arith}
+use Rattle.std.proofs.Common.{◌≡◌, ℕ, List, [], ◌∷◌, ◌++◌, Option, Some, length, take, drop, refl, sym, ◌∙◌, ap, subst, arith}
 use Rattle.std.proofs.Math.Seq.{take-append_seam, drop-append_seam}
 use Rattle.ax_command.specs.Words.{Asked, HasShape, verb_of, arguments_of, TakesFiles, AreArguments}
 use Rattle.ax_command.specs.declared.words.Verb.{Verb}
-use Rattle.ax_command.specs.declared.words.Verb.TheVariants.{Check, Canon, Show, Text, Filter}
+use Rattle.ax_command.specs.declared.words.Verb.TheVariants.{Check, Canon, Show, Text, Filter, Migrate}
 use Rattle.ax_command.specs.declared.outcome.Refusal.TheVariants.{FilterRefused}
 use Rattle.ax_filter.proofs.TextStops.{filter_once, refused_once, filter_not_refused}
 use Rattle.ax_filter_work.specs.FilterCommand.{filter_command}
@@ -12,7 +12,8 @@ use Rattle.ax_load.proofs.FilesOnce.{given_once}
 use Rattle.ax_load.specs.Loading.{FilesGive, EachGives}
 use Rattle.ax_model.specs.Specification.{SpecTree}
 use Rattle.ax_outside.specs.Files.{File}
-use Rattle.ax_app.specs.Jobs.{Job, writes, each_block, refuses, IsJob, IsFilterJob, filters, refused, IsReady, check_text}
+use Rattle.ax_app.proofs.Editions.{migrate_job_once}
+use Rattle.ax_app.specs.Jobs.{Job, writes, each_block, refuses, IsJob, IsFilterJob, filters, refused, IsReady, check_text, takes_distinct}
 use Rattle.ax_app.specs.Running.{Does}
 
 pub shape_once : (words : List (List ℕ)) (what next : Asked) → HasShape words what → HasShape words next → what ≡ next
@@ -45,11 +46,12 @@ job_once Filter arguments specs job other h k =
     let e : h.expression ∷ [] ≡ k.expression ∷ [] = sym h.one ∙ k.one in
     let same : k.expression ≡ h.expression = cc in
     filter_job_once h.expression specs job other h.is (subst (λ x. IsFilterJob x specs other) same k.is)
+job_once Migrate arguments specs job other h k = migrate_job_once arguments specs job other h k
 
 pub does_once : (words : List (List ℕ)) (files : List File) (job other : Job) → Does words (Some files) job → Does words (Some files) other → job ≡ other
 does_once words files job other h k =
     let same : h.what ≡ k.what = shape_once words h.what k.what h.shape k.shape in
-    let specs : k.specs ≡ h.specs = given_once true files h.what.files k.specs h.specs (subst (λ w. FilesGive true (Some files) w.files k.specs) (sym same) k.give) h.give in
+    let specs : k.specs ≡ h.specs = given_once (takes_distinct h.what.verb) files h.what.files k.specs h.specs (subst (λ w. FilesGive (takes_distinct w.verb) (Some files) w.files k.specs) (sym same) k.give) h.give in
     job_once h.what.verb h.what.arguments h.specs job other h.is (subst (λ s. IsJob h.what.verb h.what.arguments s other) specs (subst (λ w. IsJob w.verb w.arguments k.specs other) (sym same) k.is))
 
 -- ---- what the code of a command may rely on; one row for each
@@ -66,3 +68,4 @@ ready files Text arguments names specs n form count gives = tt
 ready files Filter [] names specs n form count gives = absurd form
 ready files Filter (expression ∷ []) names specs n form count gives = record { expression = expression; one = refl; short = form }
 ready files Filter (expression ∷ other ∷ more) names specs n form count gives = absurd (omega (arith, n))
+ready files Migrate arguments names specs n form count gives = tt

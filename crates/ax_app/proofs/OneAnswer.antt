@@ -1,5 +1,5 @@
 -- Words, files and an input have one answer.
-use Rattle.std.proofs.Common.{◌≡◌, ℕ, inl, inr, true, List, Some, sym, ◌∙◌, ap, subst, arith}
+use Rattle.std.proofs.Common.{◌≡◌, ℕ, inl, inr, List, Some, sym, ◌∙◌, ap, subst, arith}
 use Rattle.ax_command.specs.Outcomes.{outcome_of_stop, outcome_of_end, outcome_of_refusal}
 use Rattle.ax_command.specs.declared.outcome.Outcome.{Outcome}
 use Rattle.ax_command.specs.declared.outcome.Refusal.{Refusal}
@@ -17,7 +17,7 @@ use Rattle.ax_stream.specs.Ending.{longest_input}
 use Rattle.ax_stream.specs.declared.end.StreamEnd.{StreamEnd}
 use Rattle.ax_app.proofs.Once.{shape_once, does_once}
 use Rattle.ax_app.specs.Answer.{Answer, by_words, by_files, by_refusal, by_job}
-use Rattle.ax_app.specs.Jobs.{Job, writes, each_block, refuses, JobAnswers}
+use Rattle.ax_app.specs.Jobs.{Job, writes, each_block, refuses, JobAnswers, takes_distinct}
 use Rattle.ax_app.specs.Running.{Does, StopsAtFiles}
 
 none_rose : Rose 0 0 → ⊥
@@ -52,13 +52,13 @@ same_files : (words : List (List ℕ)) (files : List File) (stop next : LoadStop
     → (stop ≡ LoadStopOf.OutOfMemory → ⊥) → (next ≡ LoadStopOf.OutOfMemory → ⊥) → outcome ≡ outcome_of_stop stop → other ≡ outcome_of_stop next → written ≡ others → reported ≡ more → (outcome ≡ other) × (written ≡ others) × (reported ≡ more)
 same_files words files stop next outcome other written others reported more h k never nor is to w r =
     let same = shape_once words h.what k.what h.shape k.shape in
-    let ends : FilesEnd true (Some files) none_counted h.what.files next = subst (λ v. FilesEnd true (Some files) none_counted v.files next) (sym same) k.ends in
-    (is ∙ ap outcome_of_stop (loading_ends_once true files none_counted h.what.files stop next none_rose never nor h.ends ends) ∙ sym to, w, r)
+    let ends : FilesEnd (takes_distinct h.what.verb) (Some files) none_counted h.what.files next = subst (λ v. FilesEnd (takes_distinct v.verb) (Some files) none_counted v.files next) (sym same) k.ends in
+    (is ∙ ap outcome_of_stop (loading_ends_once (takes_distinct h.what.verb) files none_counted h.what.files stop next none_rose never nor h.ends ends) ∙ sym to, w, r)
 
 files_or_job : (words : List (List ℕ)) (files : List File) (stop : LoadStop) (job : Job) → StopsAtFiles words (Some files) none_counted stop → (stop ≡ LoadStopOf.OutOfMemory → ⊥) → Does words (Some files) job → ⊥
 files_or_job words files stop job h never d =
     let same = shape_once words d.what h.what d.shape h.shape in
-    never (given_ends_for_memory true files none_counted h.what.files d.specs stop none_rose (subst (λ v. FilesGive true (Some files) v.files d.specs) same d.give) h.ends)
+    never (given_ends_for_memory (takes_distinct h.what.verb) files none_counted h.what.files d.specs stop none_rose (subst (λ v. FilesGive (takes_distinct v.verb) (Some files) v.files d.specs) same d.give) h.ends)
 
 -- ---- all
 

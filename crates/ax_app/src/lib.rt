@@ -5,6 +5,7 @@
 mod gateway;
 mod jobs;
 mod laws;
+mod loading;
 mod makers;
 
 pub use ax_command::{Cause, FilterFault, InputFault, Outcome, SpecFault};

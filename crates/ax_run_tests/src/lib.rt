@@ -11,6 +11,8 @@ mod checking;
 #[cfg(test)]
 mod filtering;
 #[cfg(test)]
+mod migrating;
+#[cfg(test)]
 mod outside;
 #[cfg(test)]
 mod texts;

@@ -3,7 +3,8 @@
 use ax_app::run;
 use ax_outside::{MemLibrary, MemSink, MemSource, fill};
 use ax_samples::{
-    CAT019_P1, CAT034_P1, CAT048_P1, FILE_A, FILE_E, FILE_F, FILE_N, FILE_S, NESTED_TOO_DEEP,
+    CAT019_P1, CAT034_P1, CAT048_P1, CAT048_P2, FILE_A, FILE_E, FILE_F, FILE_G1, FILE_G2, FILE_H1,
+    FILE_H2, FILE_H3, FILE_N, FILE_S, NESTED_TOO_DEEP,
 };
 use std::alloc::{AllocError, Global};
 use std::process::Abort;
@@ -12,6 +13,10 @@ use std::test::Fail;
 // A file with four flaws, one that ends too early, and one with a quotation mark that is never closed.
 const FILE_V: &str =
     r#"category 210 edition "V" items { item 010 "" element 8 quantity unsigned 0 1 "m" item 010 "" compound { } } uap { 020 }"#;
+
+// File H1 with another scale in its subitem A.
+const METRES: &str =
+    r#"category 202 edition "H1" items { item 010 "" compound { A element 8 quantity unsigned 1 2 "m" B element 16 raw } } uap { 010 }"#;
 
 const CUT_SHORT: &str =
     r#"category 034 edition "X" items { item 000 "T" element 8 raw } uap { 000"#;
@@ -53,6 +58,8 @@ pub enum Outside {
     Room(u32),
     /// That write to the report fails.
     Report(u64),
+    /// The writes to the report take one octet each, and that one fails.
+    OctetReport(u64),
     /// The report has room for so many octets.
     ReportRoom(u32),
 }
@@ -104,10 +111,14 @@ fn report_of(alloc: Global, outside: Outside) -> Result<MemSink, AllocError> {
         _ => AMPLE,
     };
     let failing = match outside {
-        Outside::Report(call) => vec![in alloc; call]?,
+        Outside::Report(call) | Outside::OctetReport(call) => vec![in alloc; call]?,
         _ => Vec::new(alloc),
     };
-    MemSink::new(alloc, room, AMPLE, failing)
+    let largest = match outside {
+        Outside::OctetReport(_) => 1,
+        _ => AMPLE,
+    };
+    MemSink::new(alloc, room, largest, failing)
 }
 
 /// What a run leaves: its exit status, what stands on both outputs, and how many octets of the input were not
@@ -175,12 +186,19 @@ fn files(alloc: Global) -> Result<Vec<(String, Vec<u8>)>, AllocError> {
         ("A", FILE_A),
         ("E", FILE_E),
         ("F", FILE_F),
+        ("G1", FILE_G1),
+        ("G2", FILE_G2),
+        ("H1", FILE_H1),
+        ("H2", FILE_H2),
+        ("H3", FILE_H3),
         ("N", FILE_N),
         ("S", FILE_S),
         ("V", FILE_V),
         ("019", CAT019_P1),
         ("034", CAT034_P1),
         ("048", CAT048_P1),
+        ("048-P2", CAT048_P2),
+        ("metres", METRES),
         ("short", CUT_SHORT),
         ("behind", BRACE_BEHIND),
         ("unended", UNENDED),

@@ -22,6 +22,7 @@ fn trees_of(
         assert!(rt; records.count() < 100_000);
         records.push(record.to_value(alloc)?)?;
     }
+    assert_eq!(rt; view.count(), records.count());
     Ok(Block::Read { category, records })
 }
 
@@ -38,7 +39,6 @@ pub(crate) fn body_seen_as(
     match scan(&codec, body) {
         Ok(view) => {
             let block = trees_of(rt, alloc, codec.category(), &view)?;
-            assert_eq!(rt; view.count() as usize, view.records().count());
             Ok(shown_block(alloc, &block)?)
         }
         Err(fault) => Ok(shown_fault(alloc, &fault)?),

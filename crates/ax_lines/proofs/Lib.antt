@@ -1,0 +1,6 @@
+pub mod FirstFeeds
+pub mod Judged
+pub mod LinedOnce
+pub mod NextLines
+pub mod Plain
+pub mod Steps

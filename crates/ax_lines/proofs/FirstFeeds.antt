@@ -1,8 +1,8 @@
 -- What the search for an octet says of the first line feed.
-use Rattle.std.proofs.Common.{◌≡◌, ℕ, zero, suc, ◌+◌, ◌<◌, ◌≤◌, ◌==◌, true, List, [], ◌∷◌, ◌++◌, Option, Some, None, length, slice_index, refl, ap, arith}
+use Rattle.std.proofs.Common.{◌≡◌, ℕ, zero, suc, ◌<◌, ◌≤◌, ◌==◌, true, List, [], ◌∷◌, Option, Some, None, length, slice_index, refl, ap, arith}
 use Rattle.std.proofs.lemmas.Bool.{eqb-true}
 use Rattle.memchr.specs.Find.{IsFirstByte, is_byte}
-use Rattle.ax_lines.specs.Feeds.{IsNoFeed, IsPlain, IsFeedAt, IsFirstFeed}
+use Rattle.ax_lines.specs.Feeds.{IsPlain, IsFeedAt, IsFirstFeed}
 
 -- no place has a line feed
 nowhere : (xs : List ℕ) → ((k : ℕ) → 0 ≤ k → k < length xs → (slice_index xs k == 10) ≡ true → ⊥) → IsPlain xs

@@ -1,11 +1,11 @@
 -- What octets show that end with a line feed, or pass a limit, or end with the input.
-use Rattle.std.proofs.Common.{◌≡◌, ℕ, zero, suc, ◌+◌, ◌-◌, ◌<◌, ◌≤◌, ◌⊎◌, inl, inr, List, [], ◌∷◌, ◌++◌, Option, Some, None, length, take, drop, min, refl, sym, ◌∙◌, ap, subst, arith, append_assoc, append-nil, length-append, length-take-le, Result, Ok, Err}
+use Rattle.std.proofs.Common.{◌≡◌, ℕ, zero, suc, ◌+◌, ◌<◌, ◌≤◌, ◌⊎◌, inl, inr, List, [], ◌∷◌, ◌++◌, Option, Some, None, length, take, drop, min, refl, sym, ◌∙◌, ap, subst, arith, append_assoc, append-nil, length-append, length-take-le, Result, Ok, Err}
 use Rattle.std.proofs.Math.Seq.{take-length, take-append_seam, drop-append-add}
 use Rattle.std.proofs.lemmas.Bool.{cases_lt}
 use Rattle.std.proofs.lemmas.List.{take-append-le}
-use Rattle.ax_lines.specs.Feeds.{IsNoFeed, IsPlain, IsFeedAt, IsFirstFeed}
-use Rattle.ax_lines.specs.Judging.{IsCut, CutsLine, Judges}
-use Rattle.ax_lines.specs.Lined.{IsFedLine, IsLastLine, PassesLimit, PassesLine}
+use Rattle.ax_lines.specs.Feeds.{IsNoFeed, IsPlain, IsFirstFeed}
+use Rattle.ax_lines.specs.Judging.{IsCut, Judges}
+use Rattle.ax_lines.specs.Lined.{PassesLimit, PassesLine}
 use Rattle.ax_lines.specs.declared.judging.Cut.{Cut}
 use Rattle.ax_lines.specs.declared.line_error.LineError.{LineError}
 use Rattle.ax_lines.specs.declared.line_error.LineError.TheVariants.{InputTooLong, LineTooLong}

@@ -1,8 +1,8 @@
 -- Octets are cut into lines in one way.
-use Rattle.std.proofs.Common.{◌≡◌, ℕ, zero, suc, ◌+◌, ◌-◌, ◌<◌, ◌≤◌, ◌⊎◌, inl, inr, ◌==◌, Bool, true, false, cond, List, [], ◌∷◌, ◌++◌, length, refl, sym, ◌∙◌, ap, subst, arith, length-append}
+use Rattle.std.proofs.Common.{◌≡◌, ℕ, zero, suc, ◌+◌, ◌-◌, ◌<◌, ◌≤◌, inl, inr, ◌==◌, Bool, true, false, List, [], ◌∷◌, ◌++◌, length, refl, sym, ◌∙◌, ap, subst, arith, length-append}
 use Rattle.std.proofs.lemmas.Bool.{eqb-true}
 use Rattle.ax_lines.specs.Feeds.{IsNoFeed, IsPlain}
-use Rattle.ax_lines.specs.Lined.{LinedEnd, all_lines, input_too_long, line_too_long, IsJustNextLine, NextLine, line, end, IsNextLine, Lined}
+use Rattle.ax_lines.specs.Lined.{LinedEnd, all_lines, input_too_long, line_too_long, NextLine, line, end, IsNextLine, Lined}
 
 -- what comes next, found octet by octet: the line may have `room` octets more, and the input `left`
 abbrev with_octet : ℕ → NextLine → NextLine

@@ -1,11 +1,11 @@
 -- What the octets held show, and what comes next in the input.
-use Rattle.std.proofs.Common.{◌≡◌, ℕ, zero, suc, ◌+◌, ◌-◌, ◌<◌, ◌≤◌, ◌⊎◌, inl, inr, List, [], ◌∷◌, ◌++◌, Option, Some, None, length, take, drop, slice_range, min, refl, sym, ◌∙◌, ap, subst, arith, append_assoc, append-nil, length-append, length-take-le, length-drop, Result, Ok, Err, IfSome}
+use Rattle.std.proofs.Common.{◌≡◌, ℕ, zero, suc, ◌+◌, ◌-◌, ◌<◌, ◌≤◌, inl, inr, List, [], ◌∷◌, ◌++◌, Option, Some, None, length, take, drop, slice_range, min, refl, sym, ◌∙◌, ap, subst, arith, append_assoc, append-nil, length-append, length-take-le, length-drop, Result, Ok, Err, IfSome}
 use Rattle.std.proofs.lemmas.List.{drop-take}
-use Rattle.ax_lines.specs.Feeds.{IsPlain, IsFirstFeed}
-use Rattle.ax_lines.specs.Holding.{Took, HoldsLine, HoldsPart}
+use Rattle.ax_lines.specs.Feeds.{IsFirstFeed}
+use Rattle.ax_lines.specs.Holding.{HoldsLine, HoldsPart}
 use Rattle.ax_lines.specs.Judging.{CutsLine, Judges}
 use Rattle.ax_lines.specs.Lined.{LinedEnd, all_lines, input_too_long, line_too_long, NextLine, line, end, IsNextLine, IsJustNextLine, PassesLimit}
-use Rattle.ax_lines.specs.Reader.{OnTold, OnLine, OnEnd, OnReadFault, OnTooLong, Shows, ahead, IsToldLine, GivesLine, FindsEnd, StopsInLine}
+use Rattle.ax_lines.specs.Reader.{OnTold, OnEnd, OnReadFault, OnTooLong, Shows, ahead, IsToldLine, FindsEnd, StopsInLine}
 use Rattle.ax_lines.specs.Window.{HoldsNext}
 use Rattle.ax_lines.specs.declared.judging.Cut.{Cut}
 use Rattle.ax_lines.specs.declared.line_error.LineError.{LineError}

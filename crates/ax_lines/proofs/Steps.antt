@@ -1,14 +1,13 @@
 -- Octets taken, step by step.
-use Rattle.std.proofs.Common.{◌≡◌, ℕ, zero, suc, ◌+◌, ◌-◌, ◌<◌, ◌≤◌, List, [], ◌∷◌, ◌++◌, Option, Some, None, length, take, drop, slice_range, refl, sym, ◌∙◌, ap, subst, arith, append_assoc, append-nil, length-take-le, length-drop, length-append}
+use Rattle.std.proofs.Common.{◌≡◌, ℕ, ◌+◌, ◌-◌, ◌<◌, ◌≤◌, List, [], ◌∷◌, ◌++◌, Option, Some, None, length, take, drop, slice_range, sym, ◌∙◌, ap, subst, arith, append_assoc, append-nil, length-take-le, length-append}
 use Rattle.std.proofs.lemmas.List.{take-append-le}
 use Rattle.std.proofs.Math.Seq.{take-append-add, drop-append_seam}
 use Rattle.ax_outside.proofs.Ends.{with_front-append, with_front-nil}
 use Rattle.ax_outside.specs.Changes.{SourceChange}
 use Rattle.ax_outside.specs.Told.{with_front, IsAtEnd}
 use borrow.Rule.Slice.PartMut.{put_mid, post_of}
-use Rattle.ax_lines.specs.Feeds.{IsNoFeed, IsPlain, IsFeedAt, IsFirstFeed}
+use Rattle.ax_lines.specs.Feeds.{IsPlain, IsFeedAt}
 use Rattle.ax_lines.specs.Holding.{Took, HoldsLine}
-use Rattle.ax_lines.specs.declared.reading.Held.{Held}
 
 -- ---- lists without a line feed, and one behind them
 

@@ -152,12 +152,18 @@ mod tests {
         Ok(MemSource::new(octets, cuts, failing))
     }
 
-    // Whether the reader gives that line next.
-    fn gives(reader: &mut LineReader, source: &mut MemSource, line: &str) -> bool {
-        match reader.next(source) {
-            Ok(Some(octets)) => octets == line.as_bytes(),
-            _ => false,
+    // Whether the reader gives those lines next.
+    fn gives(reader: &mut LineReader, source: &mut MemSource, lines: &[&str]) -> bool {
+        for line in lines {
+            let same = match reader.next(source) {
+                Ok(Some(octets)) => octets == line.as_bytes(),
+                _ => false,
+            };
+            if !same {
+                return false;
+            }
         }
+        true
     }
 
     // Whether the reader ends so, and again.
@@ -204,9 +210,7 @@ mod tests {
             for (octets, line_limit, limit, lines, end) in CASES {
                 let mut reader = LineReader::new(alloc, line_limit, limit)?;
                 let mut source = source(alloc, octets, cuts, &[])?;
-                for line in lines {
-                    assert!(rt; gives(&mut reader, &mut source, line), "of {octets}");
-                }
+                assert!(rt; gives(&mut reader, &mut source, lines), "of {octets}");
                 assert!(rt; ends(&mut reader, &mut source, end), "of {octets}");
             }
         }
@@ -216,7 +220,7 @@ mod tests {
     const LINES: [&str; 3] = ["ab", "", "c"];
 
     // Each call of an input octet by octet, and how many of its lines are given where that call fails.
-    const FAILING: [(u64, usize); 6] = [(0, 0), (2, 0), (3, 1), (4, 2), (5, 2), (6, 3)];
+    const FAILING: [(u64, usize); 7] = [(0, 0), (1, 0), (2, 0), (3, 1), (4, 2), (5, 2), (6, 3)];
 
     #[test]
     fn a_failing_read_ends_the_lines(rt: HostRuntime) -> Result<(), Fail> {
@@ -224,9 +228,10 @@ mod tests {
         for (call, count) in FAILING {
             let mut reader = LineReader::new(alloc, 4, 100)?;
             let mut source = source(alloc, "ab\n\nc\n", &[1; 6], &[call])?;
-            for line in &LINES[..count] {
-                assert!(rt; gives(&mut reader, &mut source, line), "of call {call}");
-            }
+            assert!(rt;
+                gives(&mut reader, &mut source, &LINES[..count]),
+                "of call {call}"
+            );
             assert!(rt;
                 ends(&mut reader, &mut source, Some(LineError::ReadFault)),
                 "of call {call}"
@@ -241,9 +246,7 @@ mod tests {
         let alloc = rt.alloc();
         let mut reader = LineReader::new(alloc, 4, 100)?;
         let mut source = source(alloc, "ab\n\nc\nd", &[], &[1])?;
-        for line in LINES {
-            assert!(rt; gives(&mut reader, &mut source, line), "of {line}");
-        }
+        assert!(rt; gives(&mut reader, &mut source, &LINES));
         assert!(rt; ends(&mut reader, &mut source, Some(LineError::ReadFault)));
         Ok(())
     }

@@ -1,4 +1,4 @@
-use Rattle.std.proofs.Common.{[], ◌∷◌, refl, arith, codes}
+use Rattle.std.proofs.Common.{[], refl, arith, codes}
 use Rattle.ax_lines.specs.Lined.{input_too_long, line_too_long}
 use Rattle.ax_lines.proofs.Plain.{fed, line_over, limit_over}
 use Rattle.ax_lines.proofs.examples.ends_of_lines.Goals as goal

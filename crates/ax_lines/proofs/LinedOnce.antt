@@ -109,7 +109,7 @@ module _ (line_limit limit before left : ℕ) (counted : before + left ≡ limit
 same_line : (octets others after later : List ℕ) → line octets after ≡ line others later → (octets ≡ others) × (after ≡ later)
 same_line octets others after later e = let a : octets ≡ others = cc in let b : after ≡ later = cc in (a, b)
 
-line_within : (line_limit limit before : ℕ) (rest octets after : List ℕ) (taken : ℕ) → length rest ≡ taken + length after → IsNextLine line_limit limit before rest (line octets after) → before + taken ≤ limit
+pub line_within : (line_limit limit before : ℕ) (rest octets after : List ℕ) (taken : ℕ) → length rest ≡ taken + length after → IsNextLine line_limit limit before rest (line octets after) → before + taken ≤ limit
 line_within line_limit limit before rest octets after taken count (inl h) =
     let w : before + length octets < limit = h.within in
     let l : length rest ≡ length octets + length (10 ∷ after) = ap length h.split ∙ length-append octets (10 ∷ after) in

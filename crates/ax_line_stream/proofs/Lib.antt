@@ -1,0 +1,4 @@
+pub mod Begins
+pub mod LineSteps
+pub mod Results
+pub mod Running

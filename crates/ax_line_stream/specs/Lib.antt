@@ -1,0 +1,4 @@
+pub mod Commands
+pub mod Ending
+pub mod Runs
+pub mod Taking

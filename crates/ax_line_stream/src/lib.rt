@@ -1,0 +1,12 @@
+//! Line commands over a stream: each line is judged as a whole, and its result written, up to the first refusal.
+#![tactic(auto)]
+
+mod doing;
+mod driving;
+mod end;
+mod stream;
+mod work;
+
+pub use end::LinesEnd;
+pub use stream::run_lines;
+pub use work::{LineStop, LineWork};

@@ -1,3 +1,4 @@
+pub mod AnswersOnce
 pub mod Begins
 pub mod LineSteps
 pub mod Results

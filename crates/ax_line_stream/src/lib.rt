@@ -4,9 +4,11 @@
 mod doing;
 mod driving;
 mod end;
+mod laws;
 mod stream;
 mod work;
 
 pub use end::LinesEnd;
+pub use laws::one_answer;
 pub use stream::run_lines;
 pub use work::{LineStop, LineWork};

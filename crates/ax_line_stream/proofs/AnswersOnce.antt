@@ -1,16 +1,16 @@
 -- An input has one answer by a line command.
-use Rattle.std.proofs.Common.{◌≡◌, ℕ, suc, ◌+◌, ◌-◌, ◌<◌, ◌≤◌, ◌⊎◌, inl, inr, List, [], ◌∷◌, ◌++◌, Some, length, refl, sym, ◌∙◌, ap, subst, arith}
+use Rattle.std.proofs.Common.{◌≡◌, ℕ, suc, ◌+◌, ◌-◌, ◌≤◌, ◌⊎◌, inl, inr, List, [], ◌∷◌, Some, length, refl, sym, ◌∙◌, ap, subst, arith}
 use Rattle.ax_lines.proofs.LinedOnce.{next_once, line_within, lined_once}
 use Rattle.ax_lines.specs.Lined.{LinedEnd, all_lines, NextLine, line, end, IsNextLine, Lined}
-use Rattle.ax_line_stream.proofs.Begins.{BeginsToEnd, lined_begins}
-use Rattle.ax_line_stream.specs.Commands.{LineCommand, LineAnswer, gives, nothing, refused, IsAnswered, output_of, results_of, AreAnswered}
+use Rattle.ax_line_stream.proofs.Begins.{lined_begins}
+use Rattle.ax_line_stream.specs.Commands.{LineCommand, LineAnswer, refused, IsAnswered, output_of, results_of, AreAnswered}
 use Rattle.ax_line_stream.specs.Completing.{IsDoneWith}
 use Rattle.ax_line_stream.specs.Ending.{lines_end}
 use Rattle.ax_line_stream.specs.Runs as RunOf
 use Rattle.ax_line_stream.specs.Runs.{BeginsWith, EndsWithInput, EndsAtLine, LinesAnswer, ToldRun, IsCaused, LinesRun}
 use Rattle.ax_line_stream.specs.declared.end.LinesEnd.{LinesEnd}
 use Rattle.ax_line_stream.specs.declared.end.LinesEnd.TheVariants as EndOf
-use Rattle.ax_outside.specs.Changes.{SourceChange, SinkChange, Gains}
+use Rattle.ax_outside.specs.Changes.{SourceChange, SinkChange}
 use Rattle.ax_outside.specs.Told.{with_end, Rose}
 
 later_number : (n k : ℕ) → n + 1 + k ≡ n + suc k
@@ -68,7 +68,7 @@ module _ {F : Type 0} (c : LineCommand F) (line_limit limit : ℕ) where
       let others_begin : BeginsWith line_limit limit (before + taken) after others past' rest'
       = subst (λ m. BeginsWith line_limit limit (before + m) after others past' rest') n (subst (λ l. BeginsWith line_limit limit (before + took) l others past' rest') (sym same.1) more') in
       let t = same_lines (number + 1) (before + taken) after lines others past past' rest rest' (line_within line_limit limit before octets one after taken count next) more others_begin a.1 a'.1
-          (subst (λ m. HasNoMore m past rest) (sym (later_number number (length lines))) none) (subst (λ m. HasNoMore m past' rest') (sym (later_number number (length others))) none') in
+      (subst (λ m. HasNoMore m past rest) (sym (later_number number (length lines))) none) (subst (λ m. HasNoMore m past' rest') (sym (later_number number (length others))) none') in
       record { lines_are = (λ i. sym same.0 i ∷ t.lines_are i); past_is = t.past_is; rest_is = t.rest_is }
 
   -- ---- answers

@@ -1,5 +1,5 @@
 -- Lines at the front of an input, one line after another.
-use Rattle.std.proofs.Common.{◌≡◌, ℕ, suc, ◌+◌, ◌<◌, ◌≤◌, List, [], ◌∷◌, ◌++◌, Option, Some, None, length, refl, sym, ◌∙◌, ap, subst, arith, append_assoc, append-nil, length-append, inl, inr}
+use Rattle.std.proofs.Common.{◌≡◌, ℕ, ◌+◌, List, [], ◌∷◌, ◌++◌, Option, Some, None, length, refl, sym, ◌∙◌, ap, subst, append_assoc, append-nil, inl, inr}
 use Rattle.ax_lines.specs.Lined.{LinedEnd, line, end, IsNextLine, Lined}
 use Rattle.ax_line_stream.specs.Runs.{BeginsWith, IsLeftOf}
 use Rattle.ax_outside.specs.Told.{with_front, IsAtEnd}

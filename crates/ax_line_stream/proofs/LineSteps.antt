@@ -1,11 +1,10 @@
 -- One line, taken and written.
-use Rattle.std.proofs.Common.{◌≡◌, ℕ, ◌+◌, ◌<◌, ◌≤◌, List, [], Option, length, take, refl, sym, ◌∙◌, ap, subst, arith, Bool, true, Ok}
-use Rattle.ax_line_stream.specs.Commands.{LineCommand, LineAnswer, gives, nothing, refused, octets_in, results_in, IsAnswered}
-use Rattle.ax_line_stream.specs.Taking.{TakesLine, IsWritten, EndsAt, refusing, writing, for_memory}
-use Rattle.ax_line_stream.specs.declared.end.LinesEnd.{LinesEnd}
+use Rattle.std.proofs.Common.{◌≡◌, ℕ, ◌<◌, List, Option, length, take, refl, sym, ◌∙◌, ap, subst, arith, Bool, true, Ok}
+use Rattle.ax_line_stream.specs.Commands.{LineCommand, gives, nothing, octets_in, results_in, IsAnswered}
+use Rattle.ax_line_stream.specs.Taking.{TakesLine, IsWritten, EndsAt, writing}
 use Rattle.ax_line_stream.specs.declared.end.LinesEnd.TheVariants as EndOf
 use Rattle.ax_outside.proofs.Ends.{with_end-nil}
-use Rattle.ax_outside.specs.Changes.{SinkChange, Gains, GainsPart}
+use Rattle.ax_outside.specs.Changes.{SinkChange}
 use Rattle.ax_outside.specs.Told.{with_end, Rose}
 
 abbrev pub change : Option (List ℕ) → Option (List ℕ) → ℕ → ℕ → SinkChange

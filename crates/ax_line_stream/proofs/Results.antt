@@ -1,6 +1,6 @@
 -- The results of lines, one line after another, and what a sink gains by them.
 use Rattle.std.proofs.Common.{◌≡◌, ℕ, suc, ◌+◌, List, [], ◌∷◌, ◌++◌, Option, length, take, sym, ◌∙◌, ap, subst, arith, append_assoc, append-nil}
-use Rattle.ax_line_stream.specs.Commands.{LineCommand, LineAnswer, octets_in, results_in, IsAnswered, output_of, results_of, AreAnswered}
+use Rattle.ax_line_stream.specs.Commands.{LineCommand, octets_in, results_in, IsAnswered, output_of, results_of, AreAnswered}
 use Rattle.ax_outside.proofs.Ends.{with_end-nil, with_end-append}
 use Rattle.ax_outside.specs.Changes.{SinkChange, Gains, GainsNothing, GainsPart, GainsWithPart}
 use Rattle.ax_outside.specs.Told.{with_end}

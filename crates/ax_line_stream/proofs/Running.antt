@@ -2,12 +2,12 @@
 use Rattle.std.proofs.Common.{◌≡◌, ℕ, suc, ◌+◌, ◌-◌, ◌<◌, ◌≤◌, List, [], ◌∷◌, ◌++◌, Option, Some, None, length, refl, sym, ◌∙◌, ap, subst, arith, length-append, inl, inr, Result, Ok, Err}
 use Rattle.std.specs.Borrow.{Bor}
 use Rattle.ax_lines.specs.Lined.{LinedEnd, all_lines, input_too_long, line_too_long, line, end, IsNextLine, IsJustNextLine}
-use Rattle.ax_lines.specs.Reader.{ReaderState, IsOpen, OnTold, OnLine, OnEnd, OnTooLong, OnReadFault, Shows, ahead, IsToldLine, GivesLine, FindsEnd, StopsInLine, IsAfter, line_read, ended_by}
+use Rattle.ax_lines.specs.Reader.{ReaderState, IsOpen, OnTold, OnEnd, OnTooLong, OnReadFault, Shows, ahead, IsToldLine, GivesLine, FindsEnd, StopsInLine, IsAfter, line_read}
 use Rattle.ax_lines.specs.declared.line_error.LineError.{LineError}
 use Rattle.ax_lines.specs.declared.line_error.LineError.TheVariants.{InputTooLong, LineTooLong, ReadFault}
-use Rattle.ax_line_stream.proofs.Begins.{begins_snoc, begins_end, left_on, left_after_line, left_after_lines, left_of_ahead, IsPartOf, part_of_taken, left_of_part, none_left}
+use Rattle.ax_line_stream.proofs.Begins.{begins_snoc, begins_end, left_after_line, left_after_lines, left_of_ahead, IsPartOf, part_of_taken, left_of_part, none_left}
 use Rattle.ax_line_stream.proofs.Results.{output_snoc, results_snoc, answered_snoc, length_snoc, both, gains_both, gains_on, gains_part, gains_none}
-use Rattle.ax_line_stream.specs.Commands.{LineCommand, LineAnswer, gives, nothing, refused, octets_in, results_in, IsAnswered, output_of, results_of, AreAnswered}
+use Rattle.ax_line_stream.specs.Commands.{LineCommand, LineAnswer, gives, nothing, refused, octets_in, results_in, IsAnswered, output_of, results_of}
 use Rattle.ax_line_stream.specs.Ending.{lines_end, error_end}
 use Rattle.ax_line_stream.specs.Runs as RunOf
 use Rattle.ax_line_stream.specs.Runs.{BeginsWith, Answers, IsLeftOf, LinesStop, ToldRun, IsCaused, IsLicensed, LinesRun}

@@ -2,12 +2,12 @@
 -- the run stops before that.
 use Rattle.std.specs.Prelude.{◌≡◌, ℕ, ◌+◌, ◌<◌, ◌≤◌, ◌⊎◌, List, [], ◌∷◌, ◌++◌, length, Option, Some}
 use Rattle.ax_lines.specs.Feeds.{IsPlain}
-use Rattle.ax_lines.specs.Lined.{LinedEnd, line, end, IsNextLine, Lined}
+use Rattle.ax_lines.specs.Lined.{LinedEnd, line, IsNextLine, Lined}
 use Rattle.ax_line_stream.specs.Commands.{LineCommand, gives, refused, output_of, results_of, AreAnswered}
 use Rattle.ax_line_stream.specs.Ending.{lines_end}
 use Rattle.ax_line_stream.specs.declared.end.LinesEnd.{LinesEnd}
 use Rattle.ax_line_stream.specs.declared.end.LinesEnd.TheVariants.{Done, Refused, LineTooLong, InputTooLong, ReadFault, WriteFault, OutOfMemory}
-use Rattle.ax_outside.specs.Changes.{SourceChange, SinkChange, Gains, GainsNothing, GainsWithPart}
+use Rattle.ax_outside.specs.Changes.{SourceChange, SinkChange, Gains, GainsWithPart}
 use Rattle.ax_outside.specs.Told.{Rose}
 
 -- ---- lines at the front of an input

@@ -1,12 +1,11 @@
 -- What the work on one line does.
-use Rattle.std.specs.Prelude.{◌≡◌, ℕ, ◌≤◌, List, Bool, true, false, Result, Ok, Err}
+use Rattle.std.specs.Prelude.{◌≡◌, ℕ, List, Bool, true, false, Result, Ok, Err}
 use Rattle.ax_line_stream.specs.Commands.{LineCommand, gives, nothing, refused, octets_in, results_in, IsAnswered}
 use Rattle.ax_line_stream.specs.declared.end.LinesEnd.{LinesEnd}
 use Rattle.ax_line_stream.specs.declared.end.LinesEnd.TheVariants as EndOf
 use Rattle.ax_line_stream.specs.declared.work.LineStop.{LineStop}
 use Rattle.ax_line_stream.specs.declared.work.LineStop.TheVariants.{Refused, OutOfMemory}
 use Rattle.ax_outside.specs.Changes.{SinkChange, Gains, GainsNothing, GainsPart}
-use Rattle.ax_outside.specs.Told.{Rose}
 
 -- the work's answer is the command's: the octets are laid, or there are none, or the line is refused
 abbrev pub TakesLine : {F : Type 0} → LineCommand F → ℕ → List ℕ → List ℕ → Result Bool (LineStop F) → Type 0

@@ -28,7 +28,10 @@ pub fn do_line<W: LineWork, K: Sink>(
             Err(_) => Err(LinesEnd::WriteFault),
         },
         Ok(false) => Ok(0),
-        Err(LineStop::Refused(fault)) => Err(LinesEnd::Refused { line: number, fault }),
+        Err(LineStop::Refused(fault)) => Err(LinesEnd::Refused {
+            line: number,
+            fault,
+        }),
         Err(LineStop::OutOfMemory) => Err(LinesEnd::OutOfMemory),
     }
 }

@@ -14,6 +14,6 @@ mod reader;
 mod reading;
 
 pub use examples::{ends_of_lines, lines_of_texts};
-pub use laws::lines_once;
+pub use laws::{lines_once, lines_there};
 pub use line_error::LineError;
 pub use reader::LineReader;

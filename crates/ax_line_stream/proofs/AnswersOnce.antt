@@ -1,0 +1,162 @@
+-- An input has one answer by a line command.
+use Rattle.std.proofs.Common.{◌≡◌, ℕ, suc, ◌+◌, ◌-◌, ◌≤◌, ◌⊎◌, inl, inr, List, [], ◌∷◌, Some, length, refl, sym, ◌∙◌, ap, subst, arith}
+use Rattle.ax_lines.proofs.LinedOnce.{next_once, line_within, lined_once}
+use Rattle.ax_lines.specs.Lined.{LinedEnd, all_lines, NextLine, line, end, IsNextLine, Lined}
+use Rattle.ax_line_stream.proofs.Begins.{lined_begins}
+use Rattle.ax_line_stream.specs.Commands.{LineCommand, LineAnswer, refused, IsAnswered, output_of, results_of, AreAnswered}
+use Rattle.ax_line_stream.specs.Completing.{IsDoneWith}
+use Rattle.ax_line_stream.specs.Ending.{lines_end}
+use Rattle.ax_line_stream.specs.Runs as RunOf
+use Rattle.ax_line_stream.specs.Runs.{BeginsWith, EndsWithInput, EndsAtLine, LinesAnswer, ToldRun, IsCaused, LinesRun}
+use Rattle.ax_line_stream.specs.declared.end.LinesEnd.{LinesEnd}
+use Rattle.ax_line_stream.specs.declared.end.LinesEnd.TheVariants as EndOf
+use Rattle.ax_outside.specs.Changes.{SourceChange, SinkChange}
+use Rattle.ax_outside.specs.Told.{with_end, Rose}
+
+later_number : (n k : ℕ) → n + 1 + k ≡ n + suc k
+later_number n k = omega arith
+
+none_more : (n : ℕ) → n ≡ n + 0
+none_more n = omega arith
+
+not_refused : {F : Type 0} (a : LineAnswer F) (fault : F) → a ≡ refused fault → IsAnswered a → ⊥
+not_refused a fault is h = subst IsAnswered is h
+
+module _ {F : Type 0} (c : LineCommand F) (line_limit limit : ℕ) where
+  -- what comes next at a place within the limit
+  once : (before : ℕ) (octets : List ℕ) (part other : NextLine) → before ≤ limit → IsNextLine line_limit limit before octets part → IsNextLine line_limit limit before octets other → part ≡ other
+  once before octets part other le h k = next_once line_limit limit before (limit - before) (omega arith) octets part other h k
+
+  -- the line of that number at this place, if there is one, isn't answered
+  abbrev pub HasNoMore : ℕ → ℕ → List ℕ → Type 0
+  HasNoMore number past rest = (one after : List ℕ) → IsNextLine line_limit limit past rest (line one after) → IsAnswered (c.answer number one) → ⊥
+
+  no_more_at_end : (number past : ℕ) (rest : List ℕ) (e : LinedEnd) → past ≤ limit → IsNextLine line_limit limit past rest (end e) → HasNoMore number past rest
+  no_more_at_end number past rest e le h one after k answered = absurd (let s : line one after ≡ end e = once past rest (line one after) (end e) le k h in cc)
+
+  same_line : (one other after later : List ℕ) → line one after ≡ line other later → (one ≡ other) × (after ≡ later)
+  same_line one other after later s = let a : one ≡ other = cc in let b : after ≡ later = cc in (a, b)
+
+  no_more_at_refused : (number past : ℕ) (rest one after : List ℕ) (fault : F) → past ≤ limit → IsNextLine line_limit limit past rest (line one after) → c.answer number one ≡ refused fault → HasNoMore number past rest
+  no_more_at_refused number past rest one after fault le h is other later k answered =
+      let s : line other later ≡ line one after = once past rest (line other later) (line one after) le k h in
+      not_refused (c.answer number other) fault (ap (λ l. c.answer number l) (same_line other one later after s).0 ∙ is) answered
+
+  -- where both go on as long as lines are answered, both are the same
+  pub record IsSame (lines others : List (List ℕ)) (past before : ℕ) (rest behind : List ℕ) : Type 0 where
+    pub lines_are : others ≡ lines
+    pub past_is : before ≡ past
+    pub rest_is : behind ≡ rest
+
+  pub begins_within : (before : ℕ) (octets : List ℕ) (lines : List (List ℕ)) (past : ℕ) (rest : List ℕ) → before ≤ limit → BeginsWith line_limit limit before octets lines past rest → past ≤ limit
+  begins_within before octets [] past rest le (at, same) = omega arith
+  begins_within before octets (one ∷ lines) past rest le (after, taken, next, count, more) =
+      begins_within (before + taken) after lines past rest (line_within line_limit limit before octets one after taken count next) more
+
+  pub same_lines : (number before : ℕ) (octets : List ℕ) (lines others : List (List ℕ)) (past past' : ℕ) (rest rest' : List ℕ) → before ≤ limit → BeginsWith line_limit limit before octets lines past rest → BeginsWith line_limit limit before octets others past' rest'
+      → AreAnswered c number lines → AreAnswered c number others → HasNoMore (number + length lines) past rest → HasNoMore (number + length others) past' rest' → IsSame lines others past past' rest rest'
+  same_lines number before octets [] [] past past' rest rest' le (at, same) (at', same') a a' none none' = record { lines_are = refl; past_is = sym at' ∙ at; rest_is = sym same' ∙ same }
+  same_lines number before octets [] (other ∷ others) past past' rest rest' le (at, same) (after, taken, next, count, more) a a' none none' =
+      absurd (none other after (subst (λ m. IsNextLine line_limit limit m rest (line other after)) at (subst (λ l. IsNextLine line_limit limit before l (line other after)) same next)) (subst (λ m. IsAnswered (c.answer m other)) (none_more number) a'.0))
+  same_lines number before octets (one ∷ lines) [] past past' rest rest' le (after, taken, next, count, more) (at, same) a a' none none' =
+      absurd (none' one after (subst (λ m. IsNextLine line_limit limit m rest' (line one after)) at (subst (λ l. IsNextLine line_limit limit before l (line one after)) same next)) (subst (λ m. IsAnswered (c.answer m one)) (none_more number) a.0))
+  same_lines number before octets (one ∷ lines) (other ∷ others) past past' rest rest' le (after, taken, next, count, more) (later, took, next', count', more') a a' none none' =
+      let s : line one after ≡ line other later = once before octets (line one after) (line other later) le next next' in
+      let same = same_line one other after later s in
+      let sizes : length after ≡ length later = ap length same.1 in
+      let n : took ≡ taken = omega arith in
+      let others_begin : BeginsWith line_limit limit (before + taken) after others past' rest'
+      = subst (λ m. BeginsWith line_limit limit (before + m) after others past' rest') n (subst (λ l. BeginsWith line_limit limit (before + took) l others past' rest') (sym same.1) more') in
+      let t = same_lines (number + 1) (before + taken) after lines others past past' rest rest' (line_within line_limit limit before octets one after taken count next) more others_begin a.1 a'.1
+      (subst (λ m. HasNoMore m past rest) (sym (later_number number (length lines))) none) (subst (λ m. HasNoMore m past' rest') (sym (later_number number (length others))) none') in
+      record { lines_are = (λ i. sym same.0 i ∷ t.lines_are i); past_is = t.past_is; rest_is = t.rest_is }
+
+  -- ---- answers
+
+  zero_before : (n : ℕ) → n ≡ 0 + n
+  zero_before n = omega arith
+
+  -- how an answer goes on behind its lines
+  record Stop (input : List ℕ) (lines : List (List ℕ)) : Type 0 where
+    pub past : ℕ
+    pub rest : List ℕ
+    pub begins : BeginsWith line_limit limit 0 input lines past rest
+    pub answered : AreAnswered c 0 lines
+    pub none : HasNoMore (0 + length lines) past rest
+    pub within : past ≤ limit
+
+  stop_of_input : (input : List ℕ) (lines : List (List ℕ)) (e : LinesEnd F) → EndsWithInput c line_limit limit input lines e → Stop input lines
+  stop_of_input input lines e h =
+      let b = lined_begins line_limit limit 0 input lines h.end h.lined in
+      let within : b.past ≤ limit = begins_within 0 input lines b.past b.rest (omega arith) b.begins in
+      record { past = b.past; rest = b.rest; begins = b.begins; answered = h.answered; none = no_more_at_end (0 + length lines) b.past b.rest h.end within b.ends; within = within }
+
+  stop_at_line : (input : List ℕ) (lines : List (List ℕ)) (e : LinesEnd F) → EndsAtLine c line_limit limit input lines e → Stop input lines
+  stop_at_line input lines e h =
+      let within : h.past ≤ limit = begins_within 0 input lines h.past h.rest (omega arith) h.front.begins in
+      record {
+        past = h.past;
+        rest = h.rest;
+        begins = h.front.begins;
+        answered = h.front.answered;
+        none = no_more_at_refused (0 + length lines) h.past h.rest h.one h.after h.fault within h.next (ap (λ n. c.answer n h.one) (sym (zero_before (length lines))) ∙ h.answer);
+        within = within;
+      }
+
+  same_stop : (input : List ℕ) (lines others : List (List ℕ)) (s : Stop input lines) (t : Stop input others) → IsSame lines others s.past t.past s.rest t.rest
+  same_stop input lines others s t = same_lines 0 0 input lines others s.past t.past s.rest t.rest (omega arith) s.begins t.begins s.answered t.answered s.none t.none
+
+  -- an end and a line don't come next at one place
+  end_or_line : (past past' : ℕ) (rest rest' one after : List ℕ) (e : LinedEnd) → past ≤ limit → past' ≡ past → rest' ≡ rest → IsNextLine line_limit limit past rest (end e) → IsNextLine line_limit limit past' rest' (line one after) → ⊥
+  end_or_line past past' rest rest' one after e le at same h k =
+      let k' : IsNextLine line_limit limit past rest (line one after) = subst (λ m. IsNextLine line_limit limit m rest (line one after)) at (subst (λ l. IsNextLine line_limit limit past' l (line one after)) same k) in
+      let s : end e ≡ line one after = once past rest (end e) (line one after) le h k' in
+      absurd (cc)
+
+  input_or_line : {Z : Type 0} (input : List ℕ) (lines others : List (List ℕ)) (e d : LinesEnd F) → EndsWithInput c line_limit limit input lines e → EndsAtLine c line_limit limit input others d → Z
+  unfolding stop_of_input stop_at_line
+  input_or_line input lines others e d h k =
+      let b = lined_begins line_limit limit 0 input lines h.end h.lined in
+      let within : b.past ≤ limit = begins_within 0 input lines b.past b.rest (omega arith) b.begins in
+      let same : IsSame lines others b.past k.past b.rest k.rest = same_stop input lines others (stop_of_input input lines e h) (stop_at_line input others d k) in
+      absurd (end_or_line b.past k.past b.rest k.rest k.one k.after h.end within same.past_is same.rest_is b.ends k.next)
+
+  same_fault : (fault other : F) → refused fault ≡ refused other → fault ≡ other
+  same_fault fault other e = cc
+
+  pub answers_once : (input : List ℕ) (lines others : List (List ℕ)) (e d : LinesEnd F) → LinesAnswer c line_limit limit input lines e → LinesAnswer c line_limit limit input others d → (lines ≡ others) × (e ≡ d)
+  unfolding stop_at_line
+  answers_once input lines others e d (inl h) (inl k) =
+      let same : (lines ≡ others) × (h.end ≡ k.end) = lined_once line_limit limit 0 input lines others h.end k.end (omega arith) h.lined k.lined in
+      (same.0, h.is ∙ ap (λ l. lines_end (results_of c 0 l) (length l) h.end) same.0 ∙ ap (λ x. lines_end (results_of c 0 others) (length others) x) same.1 ∙ sym k.is)
+  answers_once input lines others e d (inl h) (inr k) = input_or_line input lines others e d h k
+  answers_once input lines others e d (inr h) (inl k) = input_or_line input others lines d e k h
+  answers_once input lines others e d (inr h) (inr k) =
+      let within : h.past ≤ limit = begins_within 0 input lines h.past h.rest (omega arith) h.front.begins in
+      let same : IsSame lines others h.past k.past h.rest k.rest = same_stop input lines others (stop_at_line input lines e h) (stop_at_line input others d k) in
+      let k' : IsNextLine line_limit limit h.past h.rest (line k.one k.after)
+      = subst (λ m. IsNextLine line_limit limit m h.rest (line k.one k.after)) same.past_is (subst (λ l. IsNextLine line_limit limit k.past l (line k.one k.after)) same.rest_is k.next) in
+      let s : line h.one h.after ≡ line k.one k.after = once h.past h.rest (line h.one h.after) (line k.one k.after) within h.next k' in
+      let one = (same_line h.one k.one h.after k.after s).0 in
+      let faults : h.fault ≡ k.fault
+      = same_fault h.fault k.fault (sym h.answer ∙ ap (λ l. c.answer (length lines) l) one ∙ ap (λ l. c.answer (length l) k.one) (sym same.lines_are) ∙ k.answer) in
+      (sym same.lines_are, h.is ∙ ap (λ l. EndOf.Refused (length l) h.fault) (sym same.lines_are) ∙ ap (λ f. EndOf.Refused (length others) f) faults ∙ sym k.is)
+
+  -- ---- where nothing stands in the way
+
+  module _ (input : List ℕ) (lines : List (List ℕ)) (lined : Lined line_limit limit 0 input lines all_lines) (answered : AreAnswered c 0 lines) (i : SourceChange) (o : SinkChange) (e : LinesEnd F) (caused : IsCaused limit i o e)
+      (source : Rose i.faults i.faults' → ⊥) (out : Rose o.faults o.faults' → ⊥) where
+    told_completes : ToldRun c line_limit limit input i.left' o e → (e ≡ EndOf.OutOfMemory) ⊎ IsDoneWith c lines o e
+    told_completes (inl a) =
+        let whole : LinesAnswer c line_limit limit input lines (EndOf.Done (results_of c 0 lines)) = inl (record { end = all_lines; lined = lined; answered = answered; is = refl }) in
+        let same : (a.lines ≡ lines) × (e ≡ EndOf.Done (results_of c 0 lines)) = answers_once input a.lines lines e (EndOf.Done (results_of c 0 lines)) a.answers whole in
+        inr (record { done = same.1; out = a.out ∙ ap (λ l. with_end o.held (output_of c 0 l)) same.0 })
+    told_completes (inr (RunOf.reading is s)) = absurd (source (subst (IsCaused limit i o) is caused))
+    told_completes (inr (RunOf.writing is s)) = absurd (out (subst (IsCaused limit i o) is caused))
+    told_completes (inr (RunOf.for_memory is s)) = inl is
+
+  pub lines_complete : (m n : ℕ) (i : SourceChange) (o : SinkChange) (e : LinesEnd F) → m ≡ line_limit → n ≡ limit → LinesRun c m n i o e → (input : List ℕ) (lines : List (List ℕ)) → i.left ≡ Some input → Lined line_limit limit 0 input lines all_lines → AreAnswered c 0 lines
+      → (Rose i.faults i.faults' → ⊥) → (Rose o.faults o.faults' → ⊥) → (e ≡ EndOf.OutOfMemory) ⊎ IsDoneWith c lines o e
+  lines_complete m n i o e line_is is run' input lines left lined answered source out =
+      let run : LinesRun c line_limit limit i o e = subst (λ k. LinesRun c line_limit k i o e) is (subst (λ k. LinesRun c k n i o e) line_is run') in
+      told_completes input lines lined answered i o e run.caused source out (run.told input left)

@@ -1,0 +1,6 @@
+pub mod Commands
+pub mod Completing
+pub mod Ending
+pub mod Examples
+pub mod Runs
+pub mod Taking

@@ -1,0 +1,40 @@
+//! The loop over the lines of an input, for every line command.
+ghost use Rattle.std.specs.Prelude.{◌≡◌, ◌<◌, ◌^◌, [], None};
+ghost use Rattle.ax_line_stream.specs.Runs.{LinesRun};
+ghost use Rattle.ax_outside.specs.Changes.{source_change, sink_change};
+
+use crate::doing::do_line;
+use crate::end::{LinesEnd, reader_end};
+use crate::work::LineWork;
+use ax_lines::LineReader;
+use ax_outside::{Sink, Source};
+
+/// Reads the input to its end, line by line: each is judged as a whole, then its octets are written as one piece. It takes
+/// no memory but the work's.
+pub fn drive_lines<W: LineWork, S: Source, K: Sink>(
+    reader: &mut LineReader,
+    work: &mut W,
+    source: &mut S,
+    out: &mut K,
+) -> LinesEnd<W::Fault>
+    requires fresh { reader.old ≡ record { line_limit = reader.old.line_limit; limit = reader.old.limit; given = 0; held = []; ended = None } }
+    requires bounded { reader.old.limit < 2 ^ 63 }
+    requires sound { W.sound work.old }
+    ensures { LinesRun (W.command work.old) reader.old.line_limit reader.old.limit (source_change S.Source source.old source.new) (sink_change K.Sink out.old out.new) result }
+{
+    let mut lines = 0;
+    let mut blocks = 0;
+    'lines: loop {
+        match reader.next(source) {
+            Ok(Some(line)) => match do_line(work, out, lines, line) {
+                Ok(count) => {
+                    lines += 1;
+                    blocks += count;
+                }
+                Err(end) => return end,
+            },
+            Ok(None) => return LinesEnd::Done { blocks },
+            Err(error) => return reader_end(error, lines),
+        }
+    }
+}

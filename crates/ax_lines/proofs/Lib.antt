@@ -1,0 +1,7 @@
+pub mod FirstFeeds
+pub mod Judged
+pub mod LinedOnce
+pub mod LinedThere
+pub mod NextLines
+pub mod Plain
+pub mod Steps

@@ -1,0 +1,253 @@
+//! The line reader.
+ghost use Rattle.std.specs.Prelude.{◌≡◌, IfOk, length};
+
+use crate::line_error::LineError;
+use crate::next_line::next_line;
+use ax_outside::Source;
+use std::alloc::{AllocError, Global};
+use std::marker::Model;
+
+/// How a reader has ended, which it answers from then on.
+#[derive(Clone, Copy)]
+pub enum Ended {
+    EndOfInput,
+    Refused(LineError),
+}
+
+/// A reader of lines, with room for the longest one.
+#[derive(Drop)]
+pub struct LineReader {
+    buffer: Vec<u8>,
+    start: usize,
+    end: usize,
+    line_limit: u32,
+    limit: u64,
+    given: u64,
+    ended: Option<Ended>,
+}
+
+impl Model for LineReader {
+    ghost use Rattle.std.specs.Prelude.{◌≡◌, ◌+◌, ◌≤◌, length, slice_range};
+    ghost use Rattle.ax_lines.specs.Reader.{ReaderState};
+
+    ghost Value = { ReaderState };
+
+    ghost view = { λ r. record {
+      line_limit = r.line_limit;
+      limit = r.limit;
+      given = r.given;
+      held = slice_range r.buffer.items r.start r.end;
+      ended = r.ended;
+    } };
+
+    ghost invariant = { λ r. (length r.buffer.items ≡ r.line_limit + 65536) × (r.start ≤ r.end) × (r.end ≤ length r.buffer.items) × (r.given ≤ r.limit) };
+}
+
+impl LineReader {
+    ghost use Rattle.std.specs.Prelude.{◌≡◌, ◌+◌, ◌^◌, ◌≤◌, ◌<◌, ◌⊎◌, [], Some, None, IfOk, IfSome, length};
+    ghost use Rattle.std.specs.Borrow.{sem};
+    ghost use Rattle.std.specs.Io.BufRead.{Rests};
+    ghost use Rattle.ax_lines.specs.Feeds.{IsPlain};
+    ghost use Rattle.ax_lines.specs.Reader.{IsAfter, IsOpen, line_read, ended_by, OnEnd, OnTooLong, OnReadFault, FindsEnd, StopsInLine};
+    ghost use Rattle.ax_lines.specs.contracts.reader.LineReader.{the_row};
+    ghost use Rattle.ax_outside.specs.Changes.{source_change};
+    ghost use Rattle.ax_outside.specs.Told.{Rose};
+
+    /// A reader of an input of at most `limit` octets in lines of at most `line_limit` octets each, which has taken nothing
+    /// and keeps no answer. The room for the longest line and 65,536 octets behind it is taken here, once; want of memory
+    /// for it is the one refusal.
+    pub fn new(alloc: Global, line_limit: u32, limit: u64) -> Result<LineReader, AllocError>
+        requires { line_limit ≤ 2 ^ 30 }
+        ensures { IfOk result (λ reader. reader ≡ record { line_limit = line_limit; limit = limit; given = 0; held = []; ended = None }) }
+    {
+        let buffer = zeros(alloc, line_limit as usize + READ_AHEAD)?;
+        Ok(LineReader {
+            buffer,
+            start: 0,
+            end: 0,
+            line_limit,
+            limit,
+            given: 0,
+            ended: None,
+        })
+    }
+
+    /// The next line of the input, without its line feed, which the last line needn't have; None exactly where no octet is
+    /// left. It takes no memory, and asks the source only while the octets that it holds have no line feed; it may take
+    /// octets of later lines, and holds them.
+    ///
+    /// - `InputTooLong` exactly at octet number `limit` + 1 of the input; of a source that doesn't tell its octets, only
+    ///   where the number of those taken passes the limit.
+    /// - `LineTooLong` exactly at octet number `line_limit` + 1 of a line, where that isn't the other octet too.
+    /// - `ReadFault` only where the source counted a fault in this call; every line was given then whose line feed was taken.
+    ///
+    /// After None or a refusal it gives the same answer again, and takes nothing.
+    pub fn next<'b, S: Source>(&'b mut self, source: &mut S) -> Result<Option<&'b [u8]>, LineError>
+        ensures* after { sem 𝓛 (Rests the_row self.entry (λ new. IsAfter self.old (source_change S.Source source.old source.new) (line_read result) new)) }
+        ensures again { IfSome self.old.ended (λ ended. (ended_by result ≡ Some ended) × (source.new ≡ source.old)) }
+        ensures end { IsOpen self.old → OnEnd result (FindsEnd self.old.line_limit self.old.limit self.old.given self.old.held (source_change S.Source source.old source.new)) }
+        ensures past_limit { IsOpen self.old → OnTooLong result (self.old.limit + S.taken source.old < self.old.given + length self.old.held + S.taken source.new) }
+        ensures fault { IsOpen self.old → OnReadFault result (StopsInLine self.old.line_limit self.old.limit self.old.given self.old.held (source_change S.Source source.old source.new)) }
+        ensures asks { IsPlain self.old.held ⊎ (source.new ≡ source.old) }
+        ensures rose { IsOpen self.old → OnReadFault result (Rose (S.faults source.old) (S.faults source.new)) }
+        ensures never_falls { S.faults source.old ≤ S.faults source.new }
+    {
+        match self.ended {
+            Some(Ended::EndOfInput) => return Ok(None),
+            Some(Ended::Refused(error)) => return Err(error),
+            None => {}
+        }
+        match next_line(
+            source,
+            &mut self.buffer,
+            self.start,
+            self.end,
+            self.line_limit,
+            self.limit,
+            self.given,
+        ) {
+            Ok(Some(line)) => {
+                self.start = line.next;
+                self.end = line.end;
+                self.given += (line.next - line.start) as u64;
+                Ok(Some(&self.buffer[line.start..line.stop]))
+            }
+            Ok(None) => {
+                self.ended = Some(Ended::EndOfInput);
+                Ok(None)
+            }
+            Err(error) => {
+                self.ended = Some(Ended::Refused(error));
+                Err(error)
+            }
+        }
+    }
+}
+
+/// The octets that the buffer takes besides those of the longest line.
+const READ_AHEAD: usize = 65_536;
+
+// The buffer stands in a function of its own, so that no proof spells out its octets.
+fn zeros(alloc: Global, count: usize) -> Result<Vec<u8>, AllocError>
+    ensures { IfOk result (λ made. length made.items ≡ count) }
+{
+    vec![in alloc; 0; count]
+}
+
+#[cfg(test)]
+mod tests {
+    use super::*;
+    use ax_outside::MemSource;
+    use std::test::Fail;
+
+    fn source(
+        alloc: Global,
+        octets: &str,
+        cuts: &[u32],
+        failing: &[u64],
+    ) -> Result<MemSource, AllocError> {
+        let octets = Vec::from_slice(alloc, octets.as_bytes())?;
+        let cuts = Vec::from_slice(alloc, cuts)?;
+        let failing = Vec::from_slice(alloc, failing)?;
+        Ok(MemSource::new(octets, cuts, failing))
+    }
+
+    // Whether the reader gives those lines next.
+    fn gives(reader: &mut LineReader, source: &mut MemSource, lines: &[&str]) -> bool {
+        for line in lines {
+            let same = match reader.next(source) {
+                Ok(Some(octets)) => octets == line.as_bytes(),
+                _ => false,
+            };
+            if !same {
+                return false;
+            }
+        }
+        true
+    }
+
+    // Whether the reader ends so, and again.
+    fn ends(reader: &mut LineReader, source: &mut MemSource, end: Option<LineError>) -> bool {
+        for _ in 0..2 {
+            let same = match reader.next(source) {
+                Ok(Some(_)) => false,
+                Ok(None) => end.is_none(),
+                Err(error) => end == Some(error),
+            };
+            if !same {
+                return false;
+            }
+        }
+        true
+    }
+
+    // An input, the limits on a line and on the input, the lines that are given, and the end.
+    const CASES: [(&str, u32, u64, &[&str], Option<LineError>); 16] = [
+        ("", 4, 100, &[], None),
+        ("", 0, 0, &[], None),
+        ("abcd\n", 4, 100, &["abcd"], None),
+        ("abcd", 4, 4, &["abcd"], None),
+        ("\n", 4, 100, &[""], None),
+        ("\n\na\n", 4, 100, &["", "", "a"], None),
+        ("a\nb", 4, 3, &["a", "b"], None),
+        ("a\r\nb\r", 4, 100, &["a\r", "b\r"], None),
+        ("\n\n", 0, 2, &["", ""], None),
+        ("abcde", 4, 100, &[], Some(LineError::LineTooLong)),
+        ("abcde\n", 4, 100, &[], Some(LineError::LineTooLong)),
+        ("abcde", 4, 4, &[], Some(LineError::InputTooLong)),
+        ("abcd\n", 4, 4, &[], Some(LineError::InputTooLong)),
+        ("a\nbcdef", 4, 6, &["a"], Some(LineError::InputTooLong)),
+        ("a\nbcdef", 4, 7, &["a"], Some(LineError::LineTooLong)),
+        ("a\nb\n", 4, 3, &["a"], Some(LineError::InputTooLong)),
+    ];
+
+    const CUTS: [&[u32]; 3] = [&[], &[1; 8], &[2, 3, 1, 2]];
+
+    #[test]
+    fn each_cut_gives_the_same(rt: HostRuntime) -> Result<(), Fail> {
+        let alloc = rt.alloc();
+        for cuts in CUTS {
+            for (octets, line_limit, limit, lines, end) in CASES {
+                let mut reader = LineReader::new(alloc, line_limit, limit)?;
+                let mut source = source(alloc, octets, cuts, &[])?;
+                assert!(rt; gives(&mut reader, &mut source, lines), "of {octets}");
+                assert!(rt; ends(&mut reader, &mut source, end), "of {octets}");
+            }
+        }
+        Ok(())
+    }
+
+    const LINES: [&str; 3] = ["ab", "", "c"];
+
+    // Each call of an input octet by octet, and how many of its lines are given where that call fails.
+    const FAILING: [(u64, usize); 7] = [(0, 0), (1, 0), (2, 0), (3, 1), (4, 2), (5, 2), (6, 3)];
+
+    #[test]
+    fn a_failing_read_ends_the_lines(rt: HostRuntime) -> Result<(), Fail> {
+        let alloc = rt.alloc();
+        for (call, count) in FAILING {
+            let mut reader = LineReader::new(alloc, 4, 100)?;
+            let mut source = source(alloc, "ab\n\nc\n", &[1; 6], &[call])?;
+            assert!(rt;
+                gives(&mut reader, &mut source, &LINES[..count]),
+                "of call {call}"
+            );
+            assert!(rt;
+                ends(&mut reader, &mut source, Some(LineError::ReadFault)),
+                "of call {call}"
+            );
+        }
+        Ok(())
+    }
+
+    // Lines that came in one call are given before the source is asked again.
+    #[test]
+    fn lines_held_come_first(rt: HostRuntime) -> Result<(), Fail> {
+        let alloc = rt.alloc();
+        let mut reader = LineReader::new(alloc, 4, 100)?;
+        let mut source = source(alloc, "ab\n\nc\nd", &[], &[1])?;
+        assert!(rt; gives(&mut reader, &mut source, &LINES));
+        assert!(rt; ends(&mut reader, &mut source, Some(LineError::ReadFault)));
+        Ok(())
+    }
+}

@@ -1,0 +1,91 @@
+//! Octets taken until a line ends.
+ghost use Rattle.std.specs.Prelude.{◌≡◌, ◌≤◌, ◌<◌, ◌⊎◌, length, take, slice_range, IfOk, OnErr};
+ghost use Rattle.ax_lines.specs.Feeds.{IsPlain};
+ghost use Rattle.ax_lines.specs.Holding.{HoldsLine, HoldsPart};
+ghost use Rattle.ax_outside.specs.Changes.{source_change};
+ghost use Rattle.ax_outside.specs.Told.{Rose};
+
+use crate::feeds::first_feed;
+use ax_outside::{Source, SourceFailed};
+
+/// The octets `start..end` of a buffer, and the place of the first line feed among them, from the first of them.
+#[derive(Clone, Copy)]
+pub struct Held {
+    pub start: usize,
+    pub end: usize,
+    pub feed: Option<usize>,
+}
+
+// Reads behind the first octets of the buffer, which have no line feed, until one is among them, or that many are held,
+// or the input ends, however the source cuts it.
+#[tactic(auto, using(crate::proofs::Steps::steps))]
+fn read_line<S: Source>(
+    source: &mut S,
+    buffer: &mut [u8],
+    held: usize,
+    most: usize,
+) -> Result<Held, SourceFailed>
+    requires held { held ≤ length buffer.old }
+    requires fits { most ≤ length buffer.old }
+    requires plain { IsPlain (take held buffer.old) }
+    ensures line { IfOk result (HoldsLine (source_change S.Source source.old source.new) (take held buffer.old) buffer.new most) }
+    ensures part { OnErr result (HoldsPart (source_change S.Source source.old source.new) (take held buffer.old) most) }
+    ensures rose { OnErr result (Rose (S.faults source.old) (S.faults source.new)) }
+    ensures never_falls { S.faults source.old ≤ S.faults source.new }
+{
+    let mut filled = held;
+    while filled < most {
+        let count = source.read(&mut buffer[filled..])?;
+        if count == 0 {
+            return Ok(Held {
+                start: 0,
+                end: filled,
+                feed: None,
+            });
+        }
+        if let Some(at) = first_feed(&buffer[filled..filled + count]) {
+            return Ok(Held {
+                start: 0,
+                end: filled + count,
+                feed: Some(filled + at),
+            });
+        }
+        filled += count;
+    }
+    Ok(Held {
+        start: 0,
+        end: filled,
+        feed: None,
+    })
+}
+
+/// The octets `start..end` of the buffer, and behind them those that the source still has to give until a line feed is
+/// among them, or that many are held, or the input ends. It asks the source only where they have no line feed, and moves
+/// them to the front of the buffer then.
+#[tactic(auto, using(crate::proofs::Steps::steps))]
+pub fn hold_line<S: Source>(
+    source: &mut S,
+    buffer: &mut [u8],
+    start: usize,
+    end: usize,
+    most: usize,
+) -> Result<Held, SourceFailed>
+    requires window { start ≤ end }
+    requires within { end ≤ length buffer.old }
+    requires fits { most ≤ length buffer.old }
+    ensures line { IfOk result (HoldsLine (source_change S.Source source.old source.new) (slice_range buffer.old start end) buffer.new most) }
+    ensures part { OnErr result (HoldsPart (source_change S.Source source.old source.new) (slice_range buffer.old start end) most) }
+    ensures asks { IsPlain (slice_range buffer.old start end) ⊎ (source.new ≡ source.old) }
+    ensures rose { OnErr result (Rose (S.faults source.old) (S.faults source.new)) }
+    ensures never_falls { S.faults source.old ≤ S.faults source.new }
+{
+    if let Some(at) = first_feed(&buffer[start..end]) {
+        return Ok(Held {
+            start,
+            end,
+            feed: Some(at),
+        });
+    }
+    buffer.copy_within(start..end, 0);
+    read_line(source, buffer, end - start, most)
+}

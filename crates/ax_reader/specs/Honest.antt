@@ -1,5 +1,4 @@
--- When a fault can be trusted: octets that run out can be completed; any other fault stays, whatever follows its bit, and
--- no bit before that one tells it.
+-- When a fault can be trusted: it is at the earliest bit that tells it, and want of bits is no other fault.
 use Rattle.std.specs.Prelude.{◌≡◌, ◌≢◌, ℕ, ◌+◌, ◌*◌, ◌↔◌, List, ◌++◌, take, drop}
 use Rattle.ax_bits.specs.Bits.{bits, AreOctets}
 use Rattle.ax_model.specs.Bodies.{SpellsRecord, SpellsBody}

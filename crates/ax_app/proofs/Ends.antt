@@ -2,7 +2,7 @@
 use Rattle.std.proofs.Common.{◌≡◌, refl}
 use Rattle.ax_command.specs.Outcomes.{outcome_of_stop, outcome_of_end, outcome_of_job_stop}
 use Rattle.ax_command.specs.declared.outcome.Outcome.{Outcome}
-use Rattle.ax_command.specs.declared.outcome.Outcome.TheVariants.{Done, Usage, SpecRefused, CategoryTwice, InputRefused, MigratedTooLong, InputTooLong, LoadFault, ReadFault, WriteFault, ReportFault, OutOfMemory, OtherCategory}
+use Rattle.ax_command.specs.declared.outcome.Outcome.TheVariants.{Done, Usage, SpecRefused, CategoryTwice, InputRefused, MigratedTooLong, InputTooLong, LoadFault, ReadFault, WriteFault, ReportFault, OutOfMemory, OtherCategory, FilterRefused}
 use Rattle.ax_command.specs.declared.outcome.JobStop.{JobStop}
 use Rattle.ax_command.specs.declared.outcome.JobStop.TheVariants as JobStopOf
 use Rattle.ax_command.specs.declared.outcome.Refusal.TheVariants as RefusalOf
@@ -26,6 +26,7 @@ end_of WriteFault = EndOf.WriteFault
 end_of ReportFault = EndOf.ReportFault
 end_of OutOfMemory = EndOf.OutOfMemory
 end_of (OtherCategory old new) = EndOf.OutOfMemory
+end_of (FilterRefused fault) = EndOf.OutOfMemory
 
 pub end_back : (end : StreamEnd) → end_of (outcome_of_end end) ≡ end
 end_back (EndOf.Done blocks) = refl
@@ -61,8 +62,10 @@ no_usage_at_files LoadStopOf.OutOfMemory e = absurd (cc)
 
 pub job_stop_back : (stop : JobStop) → end_of (outcome_of_job_stop stop) ≡ EndOf.OutOfMemory
 job_stop_back (JobStopOf.Refused (RefusalOf.OtherCategory old new)) = refl
+job_stop_back (JobStopOf.Refused (RefusalOf.FilterRefused fault)) = refl
 job_stop_back JobStopOf.OutOfMemory = refl
 
 pub no_usage_before_input : (stop : JobStop) → outcome_of_job_stop stop ≡ Usage → ⊥
 no_usage_before_input (JobStopOf.Refused (RefusalOf.OtherCategory old new)) e = absurd (cc)
+no_usage_before_input (JobStopOf.Refused (RefusalOf.FilterRefused fault)) e = absurd (cc)
 no_usage_before_input JobStopOf.OutOfMemory e = absurd (cc)

@@ -8,6 +8,7 @@ use Rattle.ax_load.proofs.FilesOnce.{given_ends_for_memory}
 use Rattle.ax_load.specs.Loading.{FilesGive, FilesEnd}
 use Rattle.ax_load.specs.declared.fault.LoadStop.{LoadStop}
 use Rattle.ax_load.specs.declared.fault.LoadStop.TheVariants as LoadStopOf
+use Rattle.ax_outside.specs.Changes.{none_counted}
 use Rattle.ax_outside.specs.Files.{File}
 use Rattle.ax_outside.specs.Told.{Rose}
 use Rattle.ax_stream.proofs.AnswersOnce.{answers_once}
@@ -15,8 +16,8 @@ use Rattle.ax_stream.specs.Commands.{output_of, report_of}
 use Rattle.ax_stream.specs.Ending.{longest_input}
 use Rattle.ax_stream.specs.declared.end.StreamEnd.{StreamEnd}
 use Rattle.ax_app.proofs.Once.{shape_once, does_once}
-use Rattle.ax_app.specs.Answer.{none_counted, Answer, by_words, by_files, by_refusal, by_job}
-use Rattle.ax_app.specs.Jobs.{Job, writes, each_block, refuses, JobAnswers}
+use Rattle.ax_app.specs.Answer.{Answer, by_words, by_files, by_refusal, by_job}
+use Rattle.ax_app.specs.Jobs.{Job, writes, each_block, refuses, JobAnswers, takes_distinct}
 use Rattle.ax_app.specs.Running.{Does, StopsAtFiles}
 
 none_rose : Rose 0 0 → ⊥
@@ -51,13 +52,13 @@ same_files : (words : List (List ℕ)) (files : List File) (stop next : LoadStop
     → (stop ≡ LoadStopOf.OutOfMemory → ⊥) → (next ≡ LoadStopOf.OutOfMemory → ⊥) → outcome ≡ outcome_of_stop stop → other ≡ outcome_of_stop next → written ≡ others → reported ≡ more → (outcome ≡ other) × (written ≡ others) × (reported ≡ more)
 same_files words files stop next outcome other written others reported more h k never nor is to w r =
     let same = shape_once words h.what k.what h.shape k.shape in
-    let ends : FilesEnd (Some files) none_counted h.what.files next = subst (λ v. FilesEnd (Some files) none_counted v.files next) (sym same) k.ends in
-    (is ∙ ap outcome_of_stop (loading_ends_once files none_counted h.what.files stop next none_rose never nor h.ends ends) ∙ sym to, w, r)
+    let ends : FilesEnd (takes_distinct h.what.verb) (Some files) none_counted h.what.files next = subst (λ v. FilesEnd (takes_distinct v.verb) (Some files) none_counted v.files next) (sym same) k.ends in
+    (is ∙ ap outcome_of_stop (loading_ends_once (takes_distinct h.what.verb) files none_counted h.what.files stop next none_rose never nor h.ends ends) ∙ sym to, w, r)
 
 files_or_job : (words : List (List ℕ)) (files : List File) (stop : LoadStop) (job : Job) → StopsAtFiles words (Some files) none_counted stop → (stop ≡ LoadStopOf.OutOfMemory → ⊥) → Does words (Some files) job → ⊥
 files_or_job words files stop job h never d =
     let same = shape_once words d.what h.what d.shape h.shape in
-    never (given_ends_for_memory files none_counted h.what.files d.specs stop none_rose (subst (λ v. FilesGive (Some files) v.files d.specs) same d.give) h.ends)
+    never (given_ends_for_memory (takes_distinct h.what.verb) files none_counted h.what.files d.specs stop none_rose (subst (λ v. FilesGive (takes_distinct v.verb) (Some files) v.files d.specs) same d.give) h.ends)
 
 -- ---- all
 

@@ -1,5 +1,5 @@
 -- A run, stage by stage.
-use Rattle.std.proofs.Common.{◌≡◌, ℕ, ◌-◌, ◌^◌, ◌<◌, ◌≤◌, ◌⊎◌, inl, inr, List, [], ◌∷◌, Option, Some, Result, Ok, Err, IfOk, length, refl, sym, ◌∙◌, ap, subst, arith}
+use Rattle.std.proofs.Common.{◌≡◌, ℕ, ◌-◌, ◌^◌, ◌<◌, ◌≤◌, ◌⊎◌, inl, inr, Bool, List, [], ◌∷◌, Option, Some, Result, Ok, Err, IfOk, length, refl, sym, ◌∙◌, ap, subst, arith}
 use Rattle.std.proofs.Math.Nat.{eq-or-lt_of_le}
 use Rattle.ax_bits.specs.Bits.{AreOctets}
 use Rattle.ax_command.specs.Lines.{lines_of}
@@ -19,7 +19,7 @@ use Rattle.ax_load.specs.declared.fault.SpecFault.{SpecFault}
 use Rattle.ax_load.specs.declared.fault.SpecFault.TheVariants.{TooLarge, BadByte, TooDeep, BadToken, Flawed}
 use Rattle.ax_model.specs.Specification.{SpecTree}
 use Rattle.ax_outside.proofs.Ends.{with_end-nil, Rose-later}
-use Rattle.ax_outside.specs.Changes.{LibraryCounts, SourceChange, SinkChange, IsUntouched, Gains, GainsNothing, Wrote}
+use Rattle.ax_outside.specs.Changes.{none_counted, LibraryCounts, SourceChange, SinkChange, IsUntouched, Gains, GainsNothing, Wrote}
 use Rattle.ax_outside.specs.Files.{File}
 use Rattle.ax_outside.specs.Told.{Rose, with_end}
 use Rattle.ax_outside.specs.declared.sinks.SinkFailed.{SinkFailed}
@@ -33,10 +33,10 @@ use Rattle.ax_stream.specs.declared.end.StreamEnd.{StreamEnd}
 use Rattle.ax_stream.specs.declared.end.StreamEnd.TheVariants as EndOf
 use Rattle.ax_app.proofs.Ends.{end_of, end_back, stop_back, job_stop_back, no_usage_in_job, no_usage_at_files, no_usage_before_input}
 use Rattle.ax_app.proofs.Once.{shape_once, does_once}
-use Rattle.ax_app.specs.Answer.{none_counted, by_words, by_files, by_refusal, by_job}
+use Rattle.ax_app.specs.Answer.{by_words, by_files, by_refusal, by_job}
 use Rattle.ax_app.specs.Completing.{NoFaultCounted, HasWhole, IsDoneWith}
 use Rattle.ax_app.specs.Headline.{Headline, answered, stopped_at_files, stopped_before_input, stopped_in_job, IsHindrance, of_library, of_memory}
-use Rattle.ax_app.specs.Jobs.{Job, writes, each_block, refuses, check_text, IsJob, TextEnds, written, cut, no_memory, JobRuns, RunsJob, IsReadyToCheck}
+use Rattle.ax_app.specs.Jobs.{Job, writes, each_block, refuses, check_text, IsJob, TextEnds, written, cut, no_memory, JobRuns, RunsJob, IsReadyToCheck, takes_distinct}
 use Rattle.ax_app.specs.Running.{Does, StopsAtFiles, StopsBeforeInput, Runs, at_words, at_files, before_input, in_job, Ended, Causes}
 
 -- ---- the jobs of the commands
@@ -118,26 +118,26 @@ refused_uncounted files c name (BadToken token) h = h
 refused_uncounted files c name (Flawed flaws) h = h
 
 -- a file ends the run by what it is, or a fault of the library or want of memory does
-pub record ByItself (files : List File) (before : List SpecTree) (name : List ℕ) (i : ℕ) (stop : LoadStop) : Type 0 where
-  pub ends : EndsAtFile (Some files) none_counted before name i stop
+pub record ByItself (distinct : Bool) (files : List File) (before : List SpecTree) (name : List ℕ) (i : ℕ) (stop : LoadStop) : Type 0 where
+  pub ends : EndsAtFile distinct (Some files) none_counted before name i stop
   pub not_memory : stop ≡ LoadStopOf.OutOfMemory → ⊥
 
-by_itself : (files : List File) (c : LibraryCounts) (before : List SpecTree) (name : List ℕ) (i : ℕ) (stop : LoadStop) → StopsAtFile (Some files) c name i stop → IsHindrance c stop ⊎ ByItself files before name i stop
-by_itself files c before name i (LoadStopOf.LoadFault n) (is, inl rose) = inl (of_library n refl rose)
-by_itself files c before name i (LoadStopOf.LoadFault n) (is, inr lacks) = inr (record { ends = by_file (is, inr lacks); not_memory = λ e. absurd (cc) })
-by_itself files c before name i (LoadStopOf.SpecRefused n fault) h = inr (record { ends = by_file (h.0, refused_uncounted files c name fault h.1); not_memory = λ e. absurd (cc) })
-by_itself files c before name i LoadStopOf.OutOfMemory h = inl (of_memory refl)
-by_itself files c before name i (LoadStopOf.CategoryTwice n category) h = absurd h
+by_itself : (distinct : Bool) (files : List File) (c : LibraryCounts) (before : List SpecTree) (name : List ℕ) (i : ℕ) (stop : LoadStop) → StopsAtFile (Some files) c name i stop → IsHindrance c stop ⊎ ByItself distinct files before name i stop
+by_itself distinct files c before name i (LoadStopOf.LoadFault n) (is, inl rose) = inl (of_library n refl rose)
+by_itself distinct files c before name i (LoadStopOf.LoadFault n) (is, inr lacks) = inr (record { ends = by_file (is, inr lacks); not_memory = λ e. absurd (cc) })
+by_itself distinct files c before name i (LoadStopOf.SpecRefused n fault) h = inr (record { ends = by_file (h.0, refused_uncounted files c name fault h.1); not_memory = λ e. absurd (cc) })
+by_itself distinct files c before name i LoadStopOf.OutOfMemory h = inl (of_memory refl)
+by_itself distinct files c before name i (LoadStopOf.CategoryTwice n category) h = absurd h
 
 twice_is_not_memory : (stop : LoadStop) (i category : ℕ) → stop ≡ LoadStopOf.CategoryTwice i category → stop ≡ LoadStopOf.OutOfMemory → ⊥
 twice_is_not_memory stop i category is memory = absurd (cc)
 
-at_file : (files : List File) (c : LibraryCounts) (before : List SpecTree) (name : List ℕ) (i : ℕ) (stop : LoadStop) → EndsAtFile (Some files) c before name i stop → IsHindrance c stop ⊎ ByItself files before name i stop
-at_file files c before name i stop (by_file h) = by_itself files c before name i stop h
-at_file files c before name i stop (by_category category is twice) = inr (record { ends = by_category category is twice; not_memory = twice_is_not_memory stop i category is })
+at_file : (distinct : Bool) (files : List File) (c : LibraryCounts) (before : List SpecTree) (name : List ℕ) (i : ℕ) (stop : LoadStop) → EndsAtFile distinct (Some files) c before name i stop → IsHindrance c stop ⊎ ByItself distinct files before name i stop
+at_file distinct files c before name i stop (by_file h) = by_itself distinct files c before name i stop h
+at_file distinct files c before name i stop (by_category want category is twice) = inr (record { ends = by_category want category is twice; not_memory = twice_is_not_memory stop i category is })
 
 files_headline : (words : List (List ℕ)) (files : List File) (c : LibraryCounts) (input : List ℕ) (i : SourceChange) (o r : SinkChange) (outcome : Outcome) (stop : LoadStop) (h : StopsAtFiles words (Some files) c stop) → outcome ≡ outcome_of_stop stop → IsIdle i o r
-    → IsHindrance c stop ⊎ ByItself files h.ends.before h.ends.name (length h.ends.earlier) stop → Headline words files c input i o r outcome
+    → IsHindrance c stop ⊎ ByItself (takes_distinct h.what.verb) files h.ends.before h.ends.name (length h.ends.earlier) stop → Headline words files c input i o r outcome
 files_headline words files c input i o r outcome stop h is idle (inl hindered) = stopped_at_files stop h hindered is idle
 files_headline words files c input i o r outcome stop h is idle (inr b) =
     answered [] [] (by_files stop
@@ -176,7 +176,7 @@ told_headline : (words : List (List ℕ)) (files : List File) (c : LibraryCounts
     → Runs words (Some files) c i o r outcome → Headline words files c input i o r outcome
 told_headline words files c input i o r outcome octets left (at_words none is unasked idle) = answered [] [] (by_words none is refl refl) (idle.out ∙ sym (with_end-nil o.held)) (idle.report ∙ sym (with_end-nil r.held))
 told_headline words files c input i o r outcome octets left (at_files stop h is idle) =
-    files_headline words files c input i o r outcome stop h is idle (at_file files c h.ends.before h.ends.name (length h.ends.earlier) stop h.ends.ends)
+    files_headline words files c input i o r outcome stop h is idle (at_file (takes_distinct h.what.verb) files c h.ends.before h.ends.name (length h.ends.earlier) stop h.ends.ends)
 told_headline words files c input i o r outcome octets left (before_input stop h is idle) = before_headline words files c input i o r outcome stop h is idle
 told_headline words files c input i o r outcome octets left (in_job job end d h is) = job_headline words files c input i o r outcome job end octets left d h is
 
@@ -225,7 +225,7 @@ run_completes : (words : List (List ℕ)) (files : List File) (c : LibraryCounts
 run_completes words files c input i o r outcome job count all said octets left library source out report d can (at_words none is unasked idle) = absurd (none d.what d.shape)
 run_completes words files c input i o r outcome job count all said octets left library source out report d can (at_files stop h is idle) =
     let same : d.what ≡ h.what = shape_once words d.what h.what d.shape h.shape in
-    let memory : stop ≡ LoadStopOf.OutOfMemory = given_ends_for_memory files c h.what.files d.specs stop library (subst (λ w. FilesGive (Some files) w.files d.specs) same d.give) h.ends in
+    let memory : stop ≡ LoadStopOf.OutOfMemory = given_ends_for_memory (takes_distinct h.what.verb) files c h.what.files d.specs stop library (subst (λ w. FilesGive (takes_distinct w.verb) (Some files) w.files d.specs) same d.give) h.ends in
     inl (is ∙ ap outcome_of_stop memory)
 run_completes words files c input i o r outcome job count all said octets left library source out report d can (before_input stop h is idle) =
     inl (is ∙ ap outcome_of_job_stop (not_refused words files input job count all said stop d can h))

@@ -1,13 +1,19 @@
 -- The commands: what each does once its files are accepted. A command is one row of `IsJob`.
-use Rattle.std.specs.Prelude.{◌≡◌, ℕ, List, [], ◌∷◌, ◌++◌}
+use Rattle.std.specs.Prelude.{◌≡◌, ℕ, ◌≤◌, ◌^◌, Bool, true, false, List, [], ◌∷◌, ◌++◌, length}
 use Rattle.ax_command.specs.Accepted.{accepted_line}
 use Rattle.ax_command.specs.declared.outcome.JobStop.{JobStop}
 use Rattle.ax_command.specs.declared.outcome.JobStop.TheVariants as JobStopOf
 use Rattle.ax_command.specs.declared.outcome.Refusal.{Refusal}
+use Rattle.ax_command.specs.declared.outcome.Refusal.TheVariants.{FilterRefused, OtherCategory}
 use Rattle.ax_command.specs.declared.words.Verb.{Verb}
-use Rattle.ax_command.specs.declared.words.Verb.TheVariants.{Check, Canon, Show, Text}
+use Rattle.ax_command.specs.declared.words.Verb.TheVariants.{Check, Canon, Show, Text, Filter, Migrate}
+use Rattle.ax_filter.specs.Texts.{IsFilterText, IsRefused}
+use Rattle.ax_filter.specs.Tree.{ExprTree}
+use Rattle.ax_filter.specs.declared.text.FilterFault.{FilterFault}
+use Rattle.ax_filter_work.specs.FilterCommand.{filter_command}
 use Rattle.ax_grammar.specs.InRange.{AreNumbersInRange}
 use Rattle.ax_grammar.specs.Spelling.{printed}
+use Rattle.ax_migrate_work.specs.Commands.{migrate_command}
 use Rattle.ax_model.specs.Blocks.{BlockTree}
 use Rattle.ax_model.specs.Specification.{SpecTree}
 use Rattle.ax_outside.specs.Changes.{SourceChange, SinkChange, IsUntouched, Gains, GainsNothing, GainsPart}
@@ -45,12 +51,44 @@ show_command catalogue = tree_command (λ number spec block. ShowText spec block
 abbrev pub text_command : List SpecTree → BlockCommand
 text_command catalogue = tree_command (λ number spec block. BlockLine spec block) (λ number category content. OpaqueLine category content) catalogue
 
+-- `filter`: over the specifications of its files its expression is a filter, or is refused
+pub data IsFilterJob (expression : List ℕ) (specs : List SpecTree) (job : Job) : Type 0 where
+  filters : (e : ExprTree) → IsFilterText specs expression e → job ≡ each_block (filter_command e specs) → IsFilterJob expression specs job
+  refused : (fault : FilterFault) → IsRefused specs expression fault → job ≡ refuses (FilterRefused fault) → IsFilterJob expression specs job
+
+pub record FiltersBy (arguments : List (List ℕ)) (specs : List SpecTree) (job : Job) : Type 0 where
+  pub expression : List ℕ
+  pub one : arguments ≡ expression ∷ []
+  pub is : IsFilterJob expression specs job
+
+-- `migrate`: of two editions of one category it answers each block; two of different categories it refuses
+pub data IsMigrateJob (old new : SpecTree) (job : Job) : Type 0 where
+  migrates : old.category ≡ new.category → job ≡ each_block (migrate_command old new) → IsMigrateJob old new job
+  other_category : (old.category ≡ new.category → ⊥) → job ≡ refuses (OtherCategory old.category new.category) → IsMigrateJob old new job
+
+pub record MigratesBetween (specs : List SpecTree) (job : Job) : Type 0 where
+  pub old : SpecTree
+  pub new : SpecTree
+  pub two : specs ≡ old ∷ new ∷ []
+  pub is : IsMigrateJob old new job
+
+-- whether the files of the command have to be of distinct categories
+abbrev pub takes_distinct : Verb → Bool
+takes_distinct Check = true
+takes_distinct Canon = true
+takes_distinct Show = true
+takes_distinct Text = true
+takes_distinct Filter = true
+takes_distinct Migrate = false
+
 -- the job of a command with these arguments, over the specifications of its files
 abbrev pub IsJob : Verb → List (List ℕ) → List SpecTree → Job → Type 0
 IsJob Check arguments specs job = IsCheckJob specs job
 IsJob Canon arguments specs job = job ≡ each_block (canon_command specs)
 IsJob Show arguments specs job = job ≡ each_block (show_command specs)
 IsJob Text arguments specs job = job ≡ each_block (text_command specs)
+IsJob Filter arguments specs job = FiltersBy arguments specs job
+IsJob Migrate arguments specs job = MigratesBetween specs job
 
 -- the job is a refusal, or memory was wanting before it was known
 abbrev pub IsStopped : Verb → List (List ℕ) → List SpecTree → JobStop → Type 0
@@ -99,11 +137,18 @@ pub record IsReadyToCheck (specs : List SpecTree) : Type 0 where
   pub one : specs ≡ spec ∷ []
   pub in_range : AreNumbersInRange spec
 
+pub record IsReadyToFilter (arguments : List (List ℕ)) : Type 0 where
+  pub expression : List ℕ
+  pub one : arguments ≡ expression ∷ []
+  pub short : length expression ≤ 2 ^ 31
+
 abbrev pub IsReady : Verb → List (List ℕ) → List SpecTree → Type 0
 IsReady Check arguments specs = IsReadyToCheck specs
 IsReady Canon arguments specs = Unit {0}
 IsReady Show arguments specs = Unit {0}
 IsReady Text arguments specs = Unit {0}
+IsReady Filter arguments specs = IsReadyToFilter arguments
+IsReady Migrate arguments specs = Unit {0}
 
 -- the command ran its job
 pub record RunsJob (verb : Verb) (arguments : List (List ℕ)) (specs : List SpecTree) (i : SourceChange) (o r : SinkChange) (end : StreamEnd) : Type 0 where

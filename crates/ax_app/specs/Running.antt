@@ -4,38 +4,41 @@ use Rattle.ax_command.specs.Outcomes.{outcome_of_stop, outcome_of_end, outcome_o
 use Rattle.ax_command.specs.Words.{Asked, HasShape, HasNoShape}
 use Rattle.ax_command.specs.declared.outcome.JobStop.{JobStop}
 use Rattle.ax_command.specs.declared.outcome.Outcome.{Outcome}
-use Rattle.ax_command.specs.declared.outcome.Outcome.TheVariants.{Usage, OtherCategory, MigratedTooLong, ReadFault, WriteFault, ReportFault, InputTooLong}
+use Rattle.ax_command.specs.declared.outcome.Outcome.TheVariants.{Usage, OtherCategory, FilterRefused, MigratedTooLong, ReadFault, WriteFault, ReportFault, InputTooLong}
+use Rattle.ax_command.specs.declared.words.Verb.{Verb}
+use Rattle.ax_command.specs.declared.words.Verb.TheVariants.{Filter, Migrate}
+use Rattle.ax_filter.specs.declared.text.FilterFault.{FilterFault}
 use Rattle.ax_load.specs.Loading.{FilesGive, FilesEnd}
 use Rattle.ax_load.specs.declared.fault.LoadStop.{LoadStop}
 use Rattle.ax_model.specs.Specification.{SpecTree}
-use Rattle.ax_outside.specs.Changes.{LibraryCounts, SourceChange, SinkChange, IsUnasked, Gains, GainsPart}
+use Rattle.ax_outside.specs.Changes.{LibraryCounts, SourceChange, SinkChange, IsUnasked, first_step, second_step, Gains, GainsPart}
 use Rattle.ax_outside.specs.Files.{File}
 use Rattle.ax_outside.specs.Told.{Rose}
 use Rattle.ax_stream.specs.Ending.{longest_input}
 use Rattle.ax_stream.specs.Streams.{IsIdle}
 use Rattle.ax_stream.specs.declared.end.StreamEnd.{StreamEnd}
-use Rattle.ax_app.specs.Jobs.{Job, IsJob, IsStopped, JobRuns}
+use Rattle.ax_app.specs.Jobs.{Job, IsJob, IsStopped, JobRuns, takes_distinct}
 
 -- the words ask for this, its files give these specifications, and over them it is this job
 pub record Does (words : List (List ℕ)) (files : Option (List File)) (job : Job) : Type 0 where
   pub what : Asked
   pub shape : HasShape words what
   pub specs : List SpecTree
-  pub give : FilesGive files what.files specs
+  pub give : FilesGive (takes_distinct what.verb) files what.files specs
   pub is : IsJob what.verb what.arguments specs job
 
 -- the words ask for this, and loading its files stops so
 pub record StopsAtFiles (words : List (List ℕ)) (files : Option (List File)) (c : LibraryCounts) (stop : LoadStop) : Type 0 where
   pub what : Asked
   pub shape : HasShape words what
-  pub ends : FilesEnd files c what.files stop
+  pub ends : FilesEnd (takes_distinct what.verb) files c what.files stop
 
 -- its files give these specifications, and the command stops before its input
 pub record StopsBeforeInput (words : List (List ℕ)) (files : Option (List File)) (stop : JobStop) : Type 0 where
   pub what : Asked
   pub shape : HasShape words what
   pub specs : List SpecTree
-  pub give : FilesGive files what.files specs
+  pub give : FilesGive (takes_distinct what.verb) files what.files specs
   pub stopped : IsStopped what.verb what.arguments specs stop
 
 -- first the words, then the files, then the arguments over them, then the job
@@ -54,8 +57,8 @@ pub record Ended (Before : SinkChange → Type 0) (r : SinkChange) (lines : List
   pub counted : ℕ
   pub from_start : r.faults ≤ counted
   pub to_end : counted ≤ r.faults'
-  pub before : Before (record { held = r.held; held' = between; faults = r.faults; faults' = counted })
-  pub lines_after : Gains (record { held = between; held' = r.held'; faults = counted; faults' = r.faults' }) lines ⊎ GainsPart (record { held = between; held' = r.held'; faults = counted; faults' = r.faults' }) lines
+  pub before : Before (first_step r between counted)
+  pub lines_after : Gains (second_step r between counted) lines ⊎ GainsPart (second_step r between counted) lines
 
 -- ---- causes
 
@@ -73,8 +76,18 @@ pub record NoCountFell (c : LibraryCounts) (i : SourceChange) (o r : SinkChange)
   pub out : o.faults ≤ o.faults'
   pub report : r.faults ≤ r.faults'
 
--- no command so far has lines for its blocks, refuses a block for its length or compares two editions
-pub record IsOfTheseCommands (outcome : Outcome) : Type 0 where
-  pub no_lines : outcome ≡ ReportFault → ⊥
-  pub no_length : (block octets : ℕ) → outcome ≡ MigratedTooLong block octets → ⊥
-  pub no_editions : (old new : ℕ) → outcome ≡ OtherCategory old new → ⊥
+-- ---- outcomes of one command alone
+
+-- the words ask for this command
+pub record Asks (words : List (List ℕ)) (verb : Verb) : Type 0 where
+  pub what : Asked
+  pub shape : HasShape words what
+  pub is : what.verb ≡ verb
+
+-- only `migrate` reports lines of blocks, refuses a block for its length and compares two editions; only `filter` reads an
+-- expression
+pub record IsOfItsCommand (words : List (List ℕ)) (outcome : Outcome) : Type 0 where
+  pub lines : outcome ≡ ReportFault → Asks words Migrate
+  pub length : (block octets : ℕ) → outcome ≡ MigratedTooLong block octets → Asks words Migrate
+  pub editions : (old new : ℕ) → outcome ≡ OtherCategory old new → Asks words Migrate
+  pub expression : (fault : FilterFault) → outcome ≡ FilterRefused fault → Asks words Filter

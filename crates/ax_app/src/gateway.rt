@@ -10,11 +10,11 @@ ghost use Rattle.ax_stream.specs.Commands.{BlockCommand};
 ghost use Rattle.ax_app.specs.Completing.{NoFaultCounted, HasWhole, IsDoneWith};
 ghost use Rattle.ax_app.specs.Headline.{Headline};
 ghost use Rattle.ax_app.specs.Jobs.{Job, each_block};
-ghost use Rattle.ax_app.specs.Running.{Runs, Does, Causes, Ended, NoCountFell, IsOfTheseCommands};
+ghost use Rattle.ax_app.specs.Running.{Runs, Does, Causes, Ended, NoCountFell, IsOfItsCommand};
 
 use crate::jobs::do_job;
+use crate::loading::load;
 use ax_command::{Outcome, read_command, write_lines};
-use ax_load::load_catalogue;
 use ax_outside::{Library, Sink, Source};
 use std::alloc::Global;
 
@@ -35,12 +35,12 @@ fn obey<L: Library, S: Source, K: Sink, R: Sink>(
     let Some(command) = read_command(words) else {
         return Outcome::Usage;
     };
-    match load_catalogue(alloc, library, command.files) {
-        Ok(catalogue) => match do_job(
+    match load(alloc, library, command.verb, command.files) {
+        Ok(loaded) => match do_job(
             alloc,
             command.verb,
             command.arguments,
-            &catalogue,
+            &loaded,
             source,
             out,
             report,
@@ -68,7 +68,7 @@ pub fn run<L: Library, S: Source, K: Sink, R: Sink>(
         (source_change S.Source source.old source.new) (sink_change K.Sink out.old out.new) before result) (sink_change R.Sink report.old report.new) (lines_of result) }
     ensures usage { result ≡ Outcome.Usage ↔ HasNoShape (map string_bytes words.now.items) }
     ensures causes { Causes (source_change S.Source source.old source.new) (sink_change K.Sink out.old out.new) (sink_change R.Sink report.old report.new) result }
-    ensures so_far { IsOfTheseCommands result }
+    ensures of_its_command { IsOfItsCommand (map string_bytes words.now.items) result }
     ensures keeps { L.files library.new ≡ L.files library.old }
     ensures later { NoCountFell (library_counts L.Library library.old library.new) (source_change S.Source source.old source.new) (sink_change K.Sink out.old out.new) (sink_change R.Sink report.old report.new) }
     ensures reads_all { (files : List File) (input : List ℕ) (c : BlockCommand) (blocks : ℕ) → AreOctets input → L.files library.old ≡ Some files → S.left source.old ≡ Some input

@@ -1,6 +1,6 @@
 //! The commands, over the specifications of their files.
-ghost use Rattle.std.specs.Prelude.{◌≡◌, ◌≤◌, List, ℕ, [], ◌∷◌, IfOk, IfErr, OnErr, map};
-ghost use Rattle.ax_command.specs.declared.words.Verb.TheVariants.{Check};
+ghost use Rattle.std.specs.Prelude.{◌≡◌, ◌≤◌, List, ℕ, [], ◌∷◌, IsTrue, IfOk, IfErr, OnErr, map};
+ghost use Rattle.ax_command.specs.declared.words.Verb.TheVariants.{Check, Filter, Migrate};
 ghost use Rattle.ax_grammar.specs.InRange.{AreNumbersInRange};
 ghost use Rattle.ax_model.specs.Plain.{spec_tree, catalogue_tree};
 ghost use Rattle.ax_model.specs.Specification.{SpecTree};
@@ -11,12 +11,18 @@ ghost use Rattle.ax_command.specs.declared.outcome.JobStop.TheVariants.{OutOfMem
 ghost use Rattle.ax_stream.specs.BlockCommands.{canon_command};
 ghost use Rattle.ax_stream.specs.Ending.{longest_input};
 ghost use Rattle.ax_stream.specs.Streams.{IsIdle, StreamRuns};
-ghost use Rattle.ax_app.specs.Jobs.{IsReady, IsStopped, RunsJob, TextEnds, check_text};
+ghost use Rattle.ax_app.specs.Jobs.{IsReady, IsReadyToFilter, IsStopped, RunsJob, TextEnds, check_text, takes_distinct};
+ghost use Rattle.ax_app.specs.Loaded.{specs_of, IsLoadedFor};
 
+use crate::loading::Loaded;
 use crate::makers::{ShowMaker, TextMaker};
-use ax_check::Catalogue;
-use ax_command::{JobStop, Verb, line_of};
+use ax_check::{Accepted, Catalogue};
+use ax_command::{JobStop, Refusal, Verb, line_of};
+use ax_edition::{RelateError, relate};
+use ax_filter::{FilterStop, read_expression};
+use ax_filter_work::FilterMaker;
 use ax_grammar::print_spec;
+use ax_migrate_work::MigrateWork;
 use ax_model::Spec;
 use ax_outside::{Sink, Source, write_text};
 use ax_stream::{StreamEnd, TreeWork, run_blocks};
@@ -78,8 +84,68 @@ fn canon<S: Source, K: Sink, R: Sink>(
     Ok(run_blocks(alloc, &mut work, source, out, report))
 }
 
-/// Does what the command says, over the specifications of its files.
-pub fn do_job<S: Source, K: Sink, R: Sink>(
+/// `filter`: the records of each block that the expression holds of, or the refusal of the expression.
+#[tactic(auto, using(crate::proofs::Filters::filter_jobs))]
+fn filter<S: Source, K: Sink, R: Sink>(
+    alloc: Global,
+    arguments: &[String],
+    catalogue: &Catalogue,
+    source: &mut S,
+    out: &mut K,
+    report: &mut R,
+) -> Result<StreamEnd, JobStop>
+    requires { IsReadyToFilter (map string_bytes arguments.now) }
+    ensures runs { IfOk result (RunsJob Filter (map string_bytes arguments.now) (catalogue_tree catalogue.now) (source_change S.Source source.old source.new) (sink_change K.Sink out.old out.new) (sink_change R.Sink report.old report.new)) }
+    ensures stopped { IfErr result (IsStopped Filter (map string_bytes arguments.now) (catalogue_tree catalogue.now)) }
+    ensures idle { OnErr result (IsIdle (source_change S.Source source.old source.new) (sink_change K.Sink out.old out.new) (sink_change R.Sink report.old report.new)) }
+    ensures source_later { S.faults source.old ≤ S.faults source.new }
+    ensures out_later { K.faults out.old ≤ K.faults out.new }
+    ensures report_later { R.faults report.old ≤ R.faults report.new }
+{
+    let Some((expression, _)) = arguments.split_first() else {
+        unreachable!()
+    };
+    match read_expression(alloc, expression.as_bytes(), catalogue) {
+        Ok(filter) => {
+            let mut work = TreeWork::new(alloc, catalogue, FilterMaker { filter: &filter });
+            Ok(run_blocks(alloc, &mut work, source, out, report))
+        }
+        Err(FilterStop::Refused(fault)) => Err(JobStop::Refused(Refusal::FilterRefused { fault })),
+        Err(FilterStop::OutOfMemory) => Err(JobStop::OutOfMemory),
+    }
+}
+
+/// `migrate`: each block of the old edition in the new one, or the refusal of two categories.
+#[tactic(auto, using(crate::proofs::Editions::migrate_jobs))]
+fn migrate<S: Source, K: Sink, R: Sink>(
+    alloc: Global,
+    old: &Accepted,
+    new: &Accepted,
+    source: &mut S,
+    out: &mut K,
+    report: &mut R,
+) -> Result<StreamEnd, JobStop>
+    ensures runs { (arguments : List (List ℕ)) → IfOk result (RunsJob Migrate arguments (spec_tree old.now ∷ spec_tree new.now ∷ []) (source_change S.Source source.old source.new) (sink_change K.Sink out.old out.new) (sink_change R.Sink report.old report.new)) }
+    ensures stopped { (arguments : List (List ℕ)) → IfErr result (IsStopped Migrate arguments (spec_tree old.now ∷ spec_tree new.now ∷ [])) }
+    ensures idle { OnErr result (IsIdle (source_change S.Source source.old source.new) (sink_change K.Sink out.old out.new) (sink_change R.Sink report.old report.new)) }
+    ensures source_later { S.faults source.old ≤ S.faults source.new }
+    ensures out_later { K.faults out.old ≤ K.faults out.new }
+    ensures report_later { R.faults report.old ≤ R.faults report.new }
+{
+    match relate(alloc, old, new) {
+        Ok(relation) => {
+            let mut work = MigrateWork::new(alloc, &relation, old.spec(), new.spec());
+            Ok(run_blocks(alloc, &mut work, source, out, report))
+        }
+        Err(RelateError::OtherCategory { old, new }) => {
+            Err(JobStop::Refused(Refusal::OtherCategory { old, new }))
+        }
+        Err(RelateError::OutOfMemory) => Err(JobStop::OutOfMemory),
+    }
+}
+
+/// Does what a command over a catalogue says.
+fn over_catalogue<S: Source, K: Sink, R: Sink>(
     alloc: Global,
     verb: Verb,
     arguments: &[String],
@@ -88,7 +154,8 @@ pub fn do_job<S: Source, K: Sink, R: Sink>(
     out: &mut K,
     report: &mut R,
 ) -> Result<StreamEnd, JobStop>
-    requires { IsReady verb (map string_bytes arguments.now) (catalogue_tree catalogue.now) }
+    requires ready { IsReady verb (map string_bytes arguments.now) (catalogue_tree catalogue.now) }
+    requires distinct { IsTrue (takes_distinct verb) }
     ensures runs { IfOk result (RunsJob verb (map string_bytes arguments.now) (catalogue_tree catalogue.now) (source_change S.Source source.old source.new) (sink_change K.Sink out.old out.new) (sink_change R.Sink report.old report.new)) }
     ensures stopped { IfErr result (IsStopped verb (map string_bytes arguments.now) (catalogue_tree catalogue.now)) }
     ensures idle { OnErr result (IsIdle (source_change S.Source source.old source.new) (sink_change K.Sink out.old out.new) (sink_change R.Sink report.old report.new)) }
@@ -107,5 +174,34 @@ pub fn do_job<S: Source, K: Sink, R: Sink>(
             let mut work = TreeWork::new(alloc, catalogue, TextMaker);
             Ok(run_blocks(alloc, &mut work, source, out, report))
         }
+        Verb::Filter => filter(alloc, arguments, catalogue, source, out, report),
+        Verb::Migrate => unreachable!(),
+    }
+}
+
+/// Does what the command says, over the specifications of its files.
+pub fn do_job<S: Source, K: Sink, R: Sink>(
+    alloc: Global,
+    verb: Verb,
+    arguments: &[String],
+    loaded: &Loaded,
+    source: &mut S,
+    out: &mut K,
+    report: &mut R,
+) -> Result<StreamEnd, JobStop>
+    requires ready { IsReady verb (map string_bytes arguments.now) (specs_of loaded.now) }
+    requires loaded { IsLoadedFor (takes_distinct verb) loaded.now }
+    ensures runs { IfOk result (RunsJob verb (map string_bytes arguments.now) (specs_of loaded.now) (source_change S.Source source.old source.new) (sink_change K.Sink out.old out.new) (sink_change R.Sink report.old report.new)) }
+    ensures stopped { IfErr result (IsStopped verb (map string_bytes arguments.now) (specs_of loaded.now)) }
+    ensures idle { OnErr result (IsIdle (source_change S.Source source.old source.new) (sink_change K.Sink out.old out.new) (sink_change R.Sink report.old report.new)) }
+    ensures source_later { S.faults source.old ≤ S.faults source.new }
+    ensures out_later { K.faults out.old ≤ K.faults out.new }
+    ensures report_later { R.faults report.old ≤ R.faults report.new }
+{
+    match loaded {
+        Loaded::Catalogue(catalogue) => {
+            over_catalogue(alloc, verb, arguments, catalogue, source, out, report)
+        }
+        Loaded::Editions(old, new) => migrate(alloc, old, new, source, out, report),
     }
 }

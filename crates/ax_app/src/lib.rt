@@ -5,8 +5,9 @@
 mod gateway;
 mod jobs;
 mod laws;
+mod loading;
 mod makers;
 
-pub use ax_command::{Cause, InputFault, Outcome, SpecFault};
+pub use ax_command::{Cause, FilterFault, InputFault, Outcome, SpecFault};
 pub use gateway::run;
 pub use laws::one_answer;

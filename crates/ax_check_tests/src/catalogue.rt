@@ -32,17 +32,19 @@ fn told(alloc: Global, catalogue: &Catalogue) -> Result<String, Fail> {
     Ok(made)
 }
 
+const ADDED: [(&str, Option<u8>, &str); 5] = [
+    (FILE_A, None, "34 034-A, "),
+    (CAT034_P1, Some(34), "34 034-A, "),
+    (CAT048_P1, None, "34 034-A, 48 048-P1, "),
+    (CAT019_P1, None, "34 034-A, 48 048-P1, 19 019-P1, "),
+    (CAT048_P1, Some(48), "34 034-A, 48 048-P1, 19 019-P1, "),
+];
+
 #[test]
 fn a_category_stands_once(rt: HostRuntime) -> Result<(), Fail> {
     let alloc = rt.alloc();
     let mut catalogue = Catalogue::new(alloc);
-    for (text, twice, holds) in [
-        (FILE_A, None, "34 034-A, "),
-        (CAT034_P1, Some(34), "34 034-A, "),
-        (CAT048_P1, None, "34 034-A, 48 048-P1, "),
-        (CAT019_P1, None, "34 034-A, 48 048-P1, 19 019-P1, "),
-        (CAT048_P1, Some(48), "34 034-A, 48 048-P1, 19 019-P1, "),
-    ] {
+    for (text, twice, holds) in ADDED {
         assert_eq!(rt; refused(alloc, &mut catalogue, text)?, twice, "{text}");
         let found = told(alloc, &catalogue)?;
         assert_eq!(rt; found.as_str(), holds, "{text}");

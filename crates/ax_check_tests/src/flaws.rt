@@ -4,345 +4,365 @@ use crate::texts::{flaws_of, flaws_of_kind, flaws_over};
 use ax_samples::FILE_F;
 use std::test::Fail;
 
+const ELEMENTS: [(&str, &str); 24] = [
+    ("element 8 raw", ""),
+    ("element 128 raw", ""),
+    ("element 0 raw", "BadWidth 210/010"),
+    ("element 7 raw", "NotOctets 210/010"),
+    ("element 129 raw", "NotOctets 210/010, BadWidth 210/010"),
+    ("element 136 raw", "BadWidth 210/010"),
+    ("element 64 quantity signed 1 128 \"NM\"", ""),
+    (
+        "element 65 quantity unsigned 1 128 \"NM\"",
+        "NotOctets 210/010, BadWidth 210/010",
+    ),
+    (
+        "element 72 quantity signed 1 128 \"NM\"",
+        "BadWidth 210/010",
+    ),
+    ("element 72 integer unsigned", ""),
+    ("element 8 quantity unsigned 0 1 \"m\"", "BadScale 210/010"),
+    ("element 8 quantity unsigned 1 0 \"m\"", "BadScale 210/010"),
+    (
+        "element 0 quantity unsigned 0 0 \"m\"",
+        "BadWidth 210/010, BadScale 210/010",
+    ),
+    ("element 16 ascii", ""),
+    (
+        "element 12 ascii",
+        "NotOctets 210/010, BadStringWidth 210/010",
+    ),
+    ("element 48 icao", ""),
+    ("element 8 icao", "BadStringWidth 210/010"),
+    ("element 24 octal", ""),
+    ("element 8 octal", "BadStringWidth 210/010"),
+    ("element 0 octal", "BadWidth 210/010"),
+    (
+        "element 136 octal",
+        "BadWidth 210/010, BadStringWidth 210/010",
+    ),
+    ("element 524256 raw", "BadWidth 210/010"),
+    ("element 524264 raw", "TooWide 210/010, BadWidth 210/010"),
+    (
+        "element 524257 raw",
+        "NotOctets 210/010, TooWide 210/010, BadWidth 210/010",
+    ),
+];
+
 #[test]
 fn elements(rt: HostRuntime) -> Result<(), Fail> {
-    for (kind, wanted) in [
-        ("element 8 raw", ""),
-        ("element 128 raw", ""),
-        ("element 0 raw", "BadWidth 210/010"),
-        ("element 7 raw", "NotOctets 210/010"),
-        ("element 129 raw", "NotOctets 210/010, BadWidth 210/010"),
-        ("element 136 raw", "BadWidth 210/010"),
-        ("element 64 quantity signed 1 128 \"NM\"", ""),
-        (
-            "element 65 quantity unsigned 1 128 \"NM\"",
-            "NotOctets 210/010, BadWidth 210/010",
-        ),
-        (
-            "element 72 quantity signed 1 128 \"NM\"",
-            "BadWidth 210/010",
-        ),
-        ("element 72 integer unsigned", ""),
-        ("element 8 quantity unsigned 0 1 \"m\"", "BadScale 210/010"),
-        ("element 8 quantity unsigned 1 0 \"m\"", "BadScale 210/010"),
-        (
-            "element 0 quantity unsigned 0 0 \"m\"",
-            "BadWidth 210/010, BadScale 210/010",
-        ),
-        ("element 16 ascii", ""),
-        (
-            "element 12 ascii",
-            "NotOctets 210/010, BadStringWidth 210/010",
-        ),
-        ("element 48 icao", ""),
-        ("element 8 icao", "BadStringWidth 210/010"),
-        ("element 24 octal", ""),
-        ("element 8 octal", "BadStringWidth 210/010"),
-        ("element 0 octal", "BadWidth 210/010"),
-        (
-            "element 136 octal",
-            "BadWidth 210/010, BadStringWidth 210/010",
-        ),
-        ("element 524256 raw", "BadWidth 210/010"),
-        ("element 524264 raw", "TooWide 210/010, BadWidth 210/010"),
-        (
-            "element 524257 raw",
-            "NotOctets 210/010, TooWide 210/010, BadWidth 210/010",
-        ),
-    ] {
+    for (kind, wanted) in ELEMENTS {
         let found = flaws_of_kind(rt.alloc(), kind)?;
         assert_eq!(rt; found.as_str(), wanted, "{kind}");
     }
     Ok(())
 }
 
+const GROUPS: [(&str, &str); 12] = [
+    ("group { A element 4 raw B element 4 raw }", ""),
+    ("group { spare 128 spare 128 }", ""),
+    ("group { }", "Empty 210/010"),
+    ("group { A group { } spare 8 }", "Empty 210/010/A"),
+    (
+        "group { A element 4 raw A element 4 raw }",
+        "DuplicateName 210/010/A",
+    ),
+    (
+        "group { A element 3 raw A element 2 raw A element 1 raw }",
+        "NotOctets 210/010, DuplicateName 210/010/A, DuplicateName 210/010/A",
+    ),
+    (
+        "group { A element 8 raw spare 0 }",
+        "BadWidth 210/010/spare",
+    ),
+    ("group { spare 129 spare 7 }", "BadWidth 210/010/spare"),
+    (
+        "group { A element 0 raw A group { A element 8 raw } }",
+        "BadWidth 210/010/A, DuplicateName 210/010/A",
+    ),
+    (
+        "group { A group { B element 4 raw B element 4 octal } }",
+        "DuplicateName 210/010/A/B, BadStringWidth 210/010/A/B",
+    ),
+    (
+        "group { spare 524264 }",
+        "TooWide 210/010, BadWidth 210/010/spare",
+    ),
+    (
+        "group { A element 524256 raw spare 8 }",
+        "TooWide 210/010, BadWidth 210/010/A",
+    ),
+];
+
 #[test]
 fn groups(rt: HostRuntime) -> Result<(), Fail> {
-    for (kind, wanted) in [
-        ("group { A element 4 raw B element 4 raw }", ""),
-        ("group { spare 128 spare 128 }", ""),
-        ("group { }", "Empty 210/010"),
-        ("group { A group { } spare 8 }", "Empty 210/010/A"),
-        (
-            "group { A element 4 raw A element 4 raw }",
-            "DuplicateName 210/010/A",
-        ),
-        (
-            "group { A element 3 raw A element 2 raw A element 1 raw }",
-            "NotOctets 210/010, DuplicateName 210/010/A, DuplicateName 210/010/A",
-        ),
-        (
-            "group { A element 8 raw spare 0 }",
-            "BadWidth 210/010/spare",
-        ),
-        ("group { spare 129 spare 7 }", "BadWidth 210/010/spare"),
-        (
-            "group { A element 0 raw A group { A element 8 raw } }",
-            "BadWidth 210/010/A, DuplicateName 210/010/A",
-        ),
-        (
-            "group { A group { B element 4 raw B element 4 octal } }",
-            "DuplicateName 210/010/A/B, BadStringWidth 210/010/A/B",
-        ),
-        (
-            "group { spare 524264 }",
-            "TooWide 210/010, BadWidth 210/010/spare",
-        ),
-        (
-            "group { A element 524256 raw spare 8 }",
-            "TooWide 210/010, BadWidth 210/010/A",
-        ),
-    ] {
+    for (kind, wanted) in GROUPS {
         let found = flaws_of_kind(rt.alloc(), kind)?;
         assert_eq!(rt; found.as_str(), wanted, "{kind}");
     }
     Ok(())
 }
+
+const WHOLE_CHARACTERS: [&str; 3] = [
+    "element 8 ascii",
+    "group { A element 6 icao B element 2 raw }",
+    "group { A element 3 octal B element 5 raw }",
+];
+
+const PARTS_OF_CHARACTERS: [&str; 14] = [
+    "group { A element 1 ascii B element 7 raw }",
+    "group { A element 2 ascii B element 6 raw }",
+    "group { A element 3 ascii B element 5 raw }",
+    "group { A element 4 ascii B element 4 raw }",
+    "group { A element 5 ascii B element 3 raw }",
+    "group { A element 6 ascii B element 2 raw }",
+    "group { A element 7 ascii B element 1 raw }",
+    "group { A element 1 icao B element 7 raw }",
+    "group { A element 2 icao B element 6 raw }",
+    "group { A element 3 icao B element 5 raw }",
+    "group { A element 4 icao B element 4 raw }",
+    "group { A element 5 icao B element 3 raw }",
+    "group { A element 1 octal B element 7 raw }",
+    "group { A element 2 octal B element 6 raw }",
+];
 
 // A character is 8 bits of ascii, 6 of icao and 3 of octal, and no other width.
 #[test]
 fn widths_of_characters(rt: HostRuntime) -> Result<(), Fail> {
-    for kind in [
-        "element 8 ascii",
-        "group { A element 6 icao B element 2 raw }",
-        "group { A element 3 octal B element 5 raw }",
-    ] {
+    for kind in WHOLE_CHARACTERS {
         let found = flaws_of_kind(rt.alloc(), kind)?;
         assert_eq!(rt; found.as_str(), "", "{kind}");
     }
-    for kind in [
-        "group { A element 1 ascii B element 7 raw }",
-        "group { A element 2 ascii B element 6 raw }",
-        "group { A element 3 ascii B element 5 raw }",
-        "group { A element 4 ascii B element 4 raw }",
-        "group { A element 5 ascii B element 3 raw }",
-        "group { A element 6 ascii B element 2 raw }",
-        "group { A element 7 ascii B element 1 raw }",
-        "group { A element 1 icao B element 7 raw }",
-        "group { A element 2 icao B element 6 raw }",
-        "group { A element 3 icao B element 5 raw }",
-        "group { A element 4 icao B element 4 raw }",
-        "group { A element 5 icao B element 3 raw }",
-        "group { A element 1 octal B element 7 raw }",
-        "group { A element 2 octal B element 6 raw }",
-    ] {
+    for kind in PARTS_OF_CHARACTERS {
         let found = flaws_of_kind(rt.alloc(), kind)?;
         assert_eq!(rt; found.as_str(), "BadStringWidth 210/010/A", "{kind}");
     }
     Ok(())
 }
 
+const EXTENDED_ITEMS: [(&str, &str); 12] = [
+    (
+        "extended { part { A element 7 raw } part { B element 7 raw } }",
+        "",
+    ),
+    ("extended { }", "Empty 210/010"),
+    (
+        "extended { part { A element 8 raw } }",
+        "PartNotOctets 210/010/part0",
+    ),
+    (
+        "extended { part { A element 7 raw } part { B element 6 raw } }",
+        "PartNotOctets 210/010/part1",
+    ),
+    (
+        "extended { part { spare 7 } part { spare 7 } part { spare 7 } part { spare 7 } part { spare 7 }
+         part { spare 7 } part { spare 7 } part { spare 7 } part { spare 7 } part { spare 7 } part { } }",
+        "PartNotOctets 210/010/part10",
+    ),
+    (
+        "extended { part { A element 3 raw A element 4 raw } }",
+        "DuplicateName 210/010/A",
+    ),
+    (
+        "extended { part { A element 7 raw } part { B element 7 raw } part { A element 7 raw } }",
+        "DuplicateName 210/010/A",
+    ),
+    (
+        "extended { part { A group { B element 7 raw } } part { B element 7 raw } }",
+        "",
+    ),
+    (
+        "extended { part { spare 7 } part { spare 0 A element 7 raw } }",
+        "BadWidth 210/010/spare",
+    ),
+    (
+        "extended { part { A element 6 raw A element 0 raw } part { } }",
+        "PartNotOctets 210/010/part0, DuplicateName 210/010/A, BadWidth 210/010/A, PartNotOctets 210/010/part1",
+    ),
+    (
+        "extended { part { spare 524255 } }",
+        "BadWidth 210/010/spare",
+    ),
+    (
+        "extended { part { spare 524263 } }",
+        "TooWide 210/010/part0, BadWidth 210/010/spare",
+    ),
+];
+
 #[test]
 fn extended_items(rt: HostRuntime) -> Result<(), Fail> {
-    for (kind, wanted) in [
-        (
-            "extended { part { A element 7 raw } part { B element 7 raw } }",
-            "",
-        ),
-        ("extended { }", "Empty 210/010"),
-        (
-            "extended { part { A element 8 raw } }",
-            "PartNotOctets 210/010/part0",
-        ),
-        (
-            "extended { part { A element 7 raw } part { B element 6 raw } }",
-            "PartNotOctets 210/010/part1",
-        ),
-        (
-            "extended { part { spare 7 } part { spare 7 } part { spare 7 } part { spare 7 } part { spare 7 }
-             part { spare 7 } part { spare 7 } part { spare 7 } part { spare 7 } part { spare 7 } part { } }",
-            "PartNotOctets 210/010/part10",
-        ),
-        (
-            "extended { part { A element 3 raw A element 4 raw } }",
-            "DuplicateName 210/010/A",
-        ),
-        (
-            "extended { part { A element 7 raw } part { B element 7 raw } part { A element 7 raw } }",
-            "DuplicateName 210/010/A",
-        ),
-        (
-            "extended { part { A group { B element 7 raw } } part { B element 7 raw } }",
-            "",
-        ),
-        (
-            "extended { part { spare 7 } part { spare 0 A element 7 raw } }",
-            "BadWidth 210/010/spare",
-        ),
-        (
-            "extended { part { A element 6 raw A element 0 raw } part { } }",
-            "PartNotOctets 210/010/part0, DuplicateName 210/010/A, BadWidth 210/010/A, PartNotOctets 210/010/part1",
-        ),
-        (
-            "extended { part { spare 524255 } }",
-            "BadWidth 210/010/spare",
-        ),
-        (
-            "extended { part { spare 524263 } }",
-            "TooWide 210/010/part0, BadWidth 210/010/spare",
-        ),
-    ] {
+    for (kind, wanted) in EXTENDED_ITEMS {
         let found = flaws_of_kind(rt.alloc(), kind)?;
         assert_eq!(rt; found.as_str(), wanted, "{kind}");
     }
     Ok(())
 }
+
+const BODIES: [(&str, &str); 18] = [
+    ("explicit", ""),
+    ("counted { explicit }", ""),
+    ("counted { element 8 raw }", ""),
+    ("counted { element 7 raw }", "BodyNotOctets 210/010/body"),
+    ("counted { element 136 raw }", "BadWidth 210/010/body"),
+    (
+        "counted { element 524264 raw }",
+        "TooWide 210/010/body, BadWidth 210/010/body",
+    ),
+    ("counted { group { } }", "Empty 210/010/body"),
+    (
+        "counted { group { A element 4 raw A element 4 raw } }",
+        "DuplicateName 210/010/body/A",
+    ),
+    ("counted { compound { } }", "Empty 210/010/body"),
+    (
+        "counted { compound { A element 7 raw } }",
+        "NotOctets 210/010/body/A",
+    ),
+    (
+        "counted { extended { part { A element 8 raw } } }",
+        "PartNotOctets 210/010/body/part0",
+    ),
+    (
+        "counted { counted { element 7 raw } }",
+        "BodyNotOctets 210/010/body/body",
+    ),
+    (
+        "counted { byfx element 8 raw }",
+        "BodyNotOctets 210/010/body/body",
+    ),
+    ("byfx element 7 raw", ""),
+    ("byfx element 8 raw", "BodyNotOctets 210/010/body"),
+    (
+        "byfx element 0 raw",
+        "BodyNotOctets 210/010/body, BadWidth 210/010/body",
+    ),
+    (
+        "byfx group { A element 3 raw A element 4 raw }",
+        "DuplicateName 210/010/body/A",
+    ),
+    (
+        "byfx group { spare 524263 }",
+        "TooWide 210/010/body, BadWidth 210/010/body/spare",
+    ),
+];
 
 #[test]
 fn bodies(rt: HostRuntime) -> Result<(), Fail> {
-    for (kind, wanted) in [
-        ("explicit", ""),
-        ("counted { explicit }", ""),
-        ("counted { element 8 raw }", ""),
-        ("counted { element 7 raw }", "BodyNotOctets 210/010/body"),
-        ("counted { element 136 raw }", "BadWidth 210/010/body"),
-        (
-            "counted { element 524264 raw }",
-            "TooWide 210/010/body, BadWidth 210/010/body",
-        ),
-        ("counted { group { } }", "Empty 210/010/body"),
-        (
-            "counted { group { A element 4 raw A element 4 raw } }",
-            "DuplicateName 210/010/body/A",
-        ),
-        ("counted { compound { } }", "Empty 210/010/body"),
-        (
-            "counted { compound { A element 7 raw } }",
-            "NotOctets 210/010/body/A",
-        ),
-        (
-            "counted { extended { part { A element 8 raw } } }",
-            "PartNotOctets 210/010/body/part0",
-        ),
-        (
-            "counted { counted { element 7 raw } }",
-            "BodyNotOctets 210/010/body/body",
-        ),
-        (
-            "counted { byfx element 8 raw }",
-            "BodyNotOctets 210/010/body/body",
-        ),
-        ("byfx element 7 raw", ""),
-        ("byfx element 8 raw", "BodyNotOctets 210/010/body"),
-        (
-            "byfx element 0 raw",
-            "BodyNotOctets 210/010/body, BadWidth 210/010/body",
-        ),
-        (
-            "byfx group { A element 3 raw A element 4 raw }",
-            "DuplicateName 210/010/body/A",
-        ),
-        (
-            "byfx group { spare 524263 }",
-            "TooWide 210/010/body, BadWidth 210/010/body/spare",
-        ),
-    ] {
+    for (kind, wanted) in BODIES {
         let found = flaws_of_kind(rt.alloc(), kind)?;
         assert_eq!(rt; found.as_str(), wanted, "{kind}");
     }
     Ok(())
 }
+
+const COMPOUNDS: [(&str, &str); 8] = [
+    ("compound { A element 8 raw - B element 16 raw }", ""),
+    ("compound { A compound { A element 8 raw } }", ""),
+    ("compound { }", "Empty 210/010"),
+    ("compound { A element 7 raw }", "NotOctets 210/010/A"),
+    (
+        "compound { A element 524264 raw }",
+        "TooWide 210/010/A, BadWidth 210/010/A",
+    ),
+    (
+        "compound { A element 8 raw A element 8 raw }",
+        "DuplicateName 210/010/A",
+    ),
+    (
+        "compound { A element 8 raw - A element 7 raw }",
+        "DuplicateName 210/010/A, NotOctets 210/010/A",
+    ),
+    (
+        "compound { A compound { } B counted { element 7 raw } }",
+        "Empty 210/010/A, BodyNotOctets 210/010/B/body",
+    ),
+];
 
 #[test]
 fn compounds(rt: HostRuntime) -> Result<(), Fail> {
-    for (kind, wanted) in [
-        ("compound { A element 8 raw - B element 16 raw }", ""),
-        ("compound { A compound { A element 8 raw } }", ""),
-        ("compound { }", "Empty 210/010"),
-        ("compound { A element 7 raw }", "NotOctets 210/010/A"),
-        (
-            "compound { A element 524264 raw }",
-            "TooWide 210/010/A, BadWidth 210/010/A",
-        ),
-        (
-            "compound { A element 8 raw A element 8 raw }",
-            "DuplicateName 210/010/A",
-        ),
-        (
-            "compound { A element 8 raw - A element 7 raw }",
-            "DuplicateName 210/010/A, NotOctets 210/010/A",
-        ),
-        (
-            "compound { A compound { } B counted { element 7 raw } }",
-            "Empty 210/010/A, BodyNotOctets 210/010/B/body",
-        ),
-    ] {
+    for (kind, wanted) in COMPOUNDS {
         let found = flaws_of_kind(rt.alloc(), kind)?;
         assert_eq!(rt; found.as_str(), wanted, "{kind}");
     }
     Ok(())
 }
 
+const ITEMS_AND_SLOTS: [(&str, &str, &str); 6] = [
+    (
+        "item 010 \"\" element 8 quantity unsigned 0 1 \"m\" item 010 \"\" compound { }",
+        "020",
+        "BadScale 210/010, DuplicateItem 210/010, Empty 210/010, UnknownInUap 210/uap/020",
+    ),
+    (
+        "item 020 \"\" element 7 raw item 010 \"\" element 0 raw item 020 \"\" explicit item 020 \"\" explicit",
+        "010",
+        "NotOctets 210/020, BadWidth 210/010, DuplicateItem 210/020, DuplicateItem 210/020",
+    ),
+    ("", "", "Empty 210/uap"),
+    ("item 010 \"\" explicit", "", "Empty 210/uap"),
+    (
+        "item 010 \"\" explicit item 020 \"\" explicit",
+        "010 - 010 020 010",
+        "RepeatedInUap 210/uap/010, RepeatedInUap 210/uap/010",
+    ),
+    (
+        "item 010 \"\" explicit",
+        "020 010 020 010",
+        "UnknownInUap 210/uap/020, UnknownInUap 210/uap/020, RepeatedInUap 210/uap/010",
+    ),
+];
+
 #[test]
 fn items_and_slots_of_the_uap(rt: HostRuntime) -> Result<(), Fail> {
-    for (items, uap, wanted) in [
-        (
-            "item 010 \"\" element 8 quantity unsigned 0 1 \"m\" item 010 \"\" compound { }",
-            "020",
-            "BadScale 210/010, DuplicateItem 210/010, Empty 210/010, UnknownInUap 210/uap/020",
-        ),
-        (
-            "item 020 \"\" element 7 raw item 010 \"\" element 0 raw item 020 \"\" explicit item 020 \"\" explicit",
-            "010",
-            "NotOctets 210/020, BadWidth 210/010, DuplicateItem 210/020, DuplicateItem 210/020",
-        ),
-        ("", "", "Empty 210/uap"),
-        ("item 010 \"\" explicit", "", "Empty 210/uap"),
-        (
-            "item 010 \"\" explicit item 020 \"\" explicit",
-            "010 - 010 020 010",
-            "RepeatedInUap 210/uap/010, RepeatedInUap 210/uap/010",
-        ),
-        (
-            "item 010 \"\" explicit",
-            "020 010 020 010",
-            "UnknownInUap 210/uap/020, UnknownInUap 210/uap/020, RepeatedInUap 210/uap/010",
-        ),
-    ] {
+    for (items, uap, wanted) in ITEMS_AND_SLOTS {
         let found = flaws_over(rt.alloc(), items, uap)?;
         assert_eq!(rt; found.as_str(), wanted, "{items} {uap}");
     }
     Ok(())
 }
 
+const WHOLE_FILES: [(&str, &str); 2] = [
+    (FILE_F, "NotOctets 034/010, RepeatedInUap 034/uap/010"),
+    (
+        "category 001 edition \"\" items { } uap { X }",
+        "UnknownInUap 001/uap/X",
+    ),
+];
+
 // A path has the category in three digits.
 #[test]
 fn whole_files(rt: HostRuntime) -> Result<(), Fail> {
-    for (text, wanted) in [
-        (FILE_F, "NotOctets 034/010, RepeatedInUap 034/uap/010"),
-        (
-            "category 001 edition \"\" items { } uap { X }",
-            "UnknownInUap 001/uap/X",
-        ),
-    ] {
+    for (text, wanted) in WHOLE_FILES {
         let found = flaws_of(rt.alloc(), text)?;
         assert_eq!(rt; found.as_str(), wanted, "{text}");
     }
     Ok(())
 }
 
+const MANY_SLOTS: [(usize, &str, &str, &str, &str); 4] = [
+    (126, "", "", "", ""),
+    (127, "", "", "TooManySlots 210/010", "TooManySlots 210/uap"),
+    (
+        125,
+        "A element 7 raw",
+        "A",
+        "NotOctets 210/010/A",
+        "UnknownInUap 210/uap/A",
+    ),
+    (
+        126,
+        "A element 7 raw",
+        "A",
+        "TooManySlots 210/010, NotOctets 210/010/A",
+        "TooManySlots 210/uap, UnknownInUap 210/uap/A",
+    ),
+];
+
 // 126 slots are the most, and the flaws of the slots stand after that of their number.
 #[test]
 fn more_than_126_slots(rt: HostRuntime) -> Result<(), Fail> {
     let alloc = rt.alloc();
-    for (spares, subitem, slot, wanted, wanted_of_uap) in [
-        (126, "", "", "", ""),
-        (127, "", "", "TooManySlots 210/010", "TooManySlots 210/uap"),
-        (
-            125,
-            "A element 7 raw",
-            "A",
-            "NotOctets 210/010/A",
-            "UnknownInUap 210/uap/A",
-        ),
-        (
-            126,
-            "A element 7 raw",
-            "A",
-            "TooManySlots 210/010, NotOctets 210/010/A",
-            "TooManySlots 210/uap, UnknownInUap 210/uap/A",
-        ),
-    ] {
+    for (spares, subitem, slot, wanted, wanted_of_uap) in MANY_SLOTS {
         let dashes = "- ".repeat(alloc, spares)?;
         let compound = format!(in alloc; "compound {{ {dashes}{subitem} }}")?;
         let found = flaws_of_kind(alloc, compound.as_str())?;

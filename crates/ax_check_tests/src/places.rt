@@ -64,17 +64,19 @@ fn copied_path_told(alloc: Global, text: &str) -> Result<String, Fail> {
     joined(alloc, &path.copy(alloc)?)
 }
 
+const PLACES: [(&str, &str); 6] = [
+    ("020/TST", "FRN 3 steps [1, 0] width 1"),
+    ("130/SRL", "FRN 7 steps [1] width 8"),
+    ("010/SIC", "FRN 1 steps [1] width 8"),
+    ("140", "FRN 2 steps [] width 24"),
+    ("020", "FRN 3 steps []"),
+    ("010", "FRN 1 steps []"),
+];
+
 #[test]
 fn paths_lead_to_places(rt: HostRuntime) -> Result<(), Fail> {
     let one = accepted(rt.alloc(), CAT048_P1)?;
-    for (text, wanted) in [
-        ("020/TST", "FRN 3 steps [1, 0] width 1"),
-        ("130/SRL", "FRN 7 steps [1] width 8"),
-        ("010/SIC", "FRN 1 steps [1] width 8"),
-        ("140", "FRN 2 steps [] width 24"),
-        ("020", "FRN 3 steps []"),
-        ("010", "FRN 1 steps []"),
-    ] {
+    for (text, wanted) in PLACES {
         let found = place_told(rt.alloc(), &one, text)?;
         assert_eq!(rt; found.as_str(), wanted, "{text}");
     }

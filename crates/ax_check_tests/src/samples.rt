@@ -19,12 +19,14 @@ fn flaw_count(alloc: Global, text: &str) -> Result<u32, Fail> {
     }
 }
 
+const ACCEPTED: [&str; 15] = [
+    CAT019_P1, CAT034_P1, CAT048_P1, CAT048_P2, FILE_A, FILE_E, FILE_G1, FILE_G2, FILE_H1, FILE_H2,
+    FILE_H3, FILE_K, FILE_N, FILE_S, FILE_Z,
+];
+
 #[test]
 fn each_file_but_one_is_accepted(rt: HostRuntime) -> Result<(), Fail> {
-    for text in [
-        CAT019_P1, CAT034_P1, CAT048_P1, CAT048_P2, FILE_A, FILE_E, FILE_G1, FILE_G2, FILE_H1,
-        FILE_H2, FILE_H3, FILE_K, FILE_N, FILE_S, FILE_Z,
-    ] {
+    for text in ACCEPTED {
         assert_eq!(rt; flaw_count(rt.alloc(), text)?, 0, "{text}");
     }
     assert_eq!(rt; flaw_count(rt.alloc(), FILE_F)?, 2);

@@ -12,18 +12,20 @@ use std::alloc::{AllocError, Global};
 use std::process::Abort;
 use std::test::Fail;
 
+const COPIES: [(&str, &str, &str); 3] = [
+    (
+        FILE_N,
+        "C8 00 0B 80 02 81 00 11 01 80 22",
+        "200 {1=[{1=17} {8=34}]}",
+    ),
+    (FILE_H1, "CA 00 08 80 C0 11 22 33", "202 {1={1=17 2=8755}}"),
+    (FILE_H1, "CB 00 05 80 C0", "203 x80 C0"),
+];
+
 #[test]
 fn copies_are_shown_as_their_originals(rt: HostRuntime) -> Result<(), Fail> {
     let alloc = rt.alloc();
-    for (text, block, want) in [
-        (
-            FILE_N,
-            "C8 00 0B 80 02 81 00 11 01 80 22",
-            "200 {1=[{1=17} {8=34}]}",
-        ),
-        (FILE_H1, "CA 00 08 80 C0 11 22 33", "202 {1={1=17 2=8755}}"),
-        (FILE_H1, "CB 00 05 80 C0", "203 x80 C0"),
-    ] {
+    for (text, block, want) in COPIES {
         let file = accepted(&rt, alloc, text)?;
         let copy = file.spec().copy(alloc)?;
         assert_eq!(rt; shown_spec(alloc, &copy)?.as_str(), text);

@@ -1,6 +1,7 @@
 //! Blocks, and what they are read as.
 
-use crate::fixtures::{accepted, body_read_as, read_as};
+use crate::fixtures::accepted;
+use crate::seeing::{body_read_both_ways, read_both_ways};
 use ax_samples::{FILE_K, FILE_N, FILE_S, octets};
 use std::test::Fail;
 
@@ -32,78 +33,103 @@ pub(crate) const WIDE_BLOCK: &str =
 // A record with an item of each kind, each repeated or extended where its kind can be.
 pub(crate) const RICH: &str = "CD 00 16 FF 80 19 0C 03 54 0B 0C 02 AA BB 03 CC DD A0 07 08 09 0A";
 
+const KINDS: [(&str, &str); 18] = [
+    ("CD 00 07 81 00 19 0C", "205 {1=6412}"),
+    ("CD 00 06 40 03 54", "205 {2=<1|5 2>}"),
+    ("CD 00 06 20 0B 0C", "205 {3=[5 6]}"),
+    ("CD 00 07 10 02 AA BB", "205 {4=[170 187]}"),
+    ("CD 00 06 10 02 AA", "RunsOut 24"),
+    ("CD 00 06 04 20 07", "205 {6={3=7}}"),
+    ("CD 00 06 04 40 07", "UndefinedSlot 9"),
+    ("CD 00 06 40 03 55", "ExtensionPastEnd 23"),
+    ("CD 00 05 08 00", "BadExplicitLength 8"),
+    ("CD 00 05 10 00", "205 {4=[]}"),
+    ("CD 00 05 08 01", "205 {5=x}"),
+    ("CD 00 05 01 40", "UndefinedSlot 9"),
+    ("CD 00 05 01 01", "PresenceTooLong 15"),
+    ("CD 00 05 04 A1", "PresenceTooLong 15"),
+    ("CD 00 08 02 05 02 06 00", "205 {7=5}{7=6}{}"),
+    ("CD 00 07 02 05 40 03", "RunsOut 32"),
+    ("CD 00 08 02 05 00 04 40", "UndefinedSlot 33"),
+    ("CC 00 05 FF FF", "204 xFF FF"),
+];
+
 #[test]
 fn each_kind_is_read(rt: HostRuntime) -> Result<(), Fail> {
     let alloc = rt.alloc();
     let file = accepted(&rt, alloc, FILE_K)?;
-    for (block, want) in [
-        ("CD 00 07 81 00 19 0C", "205 {1=6412}"),
-        ("CD 00 06 40 03 54", "205 {2=<1|5 2>}"),
-        ("CD 00 06 20 0B 0C", "205 {3=[5 6]}"),
-        ("CD 00 07 10 02 AA BB", "205 {4=[170 187]}"),
-        ("CD 00 06 10 02 AA", "RunsOut 24"),
-        ("CD 00 06 04 20 07", "205 {6={3=7}}"),
-        ("CD 00 06 04 40 07", "UndefinedSlot 9"),
-        ("CD 00 06 40 03 55", "ExtensionPastEnd 23"),
-        ("CD 00 05 08 00", "BadExplicitLength 8"),
-        ("CD 00 05 10 00", "205 {4=[]}"),
-        ("CD 00 05 08 01", "205 {5=x}"),
-        ("CD 00 05 01 40", "UndefinedSlot 9"),
-        ("CD 00 05 01 01", "PresenceTooLong 15"),
-        ("CD 00 05 04 A1", "PresenceTooLong 15"),
-        ("CD 00 08 02 05 02 06 00", "205 {7=5}{7=6}{}"),
-        ("CD 00 07 02 05 40 03", "RunsOut 32"),
-        ("CD 00 08 02 05 00 04 40", "UndefinedSlot 33"),
-        ("CC 00 05 FF FF", "204 xFF FF"),
-    ] {
+    for (block, want) in KINDS {
         let octets = octets(alloc, block)?;
-        let got = read_as(&rt, alloc, file.spec(), &octets)?;
+        let got = read_both_ways(&rt, alloc, &file, &octets)?;
         assert_eq!(rt; got.as_str(), want, "of {block}");
     }
     Ok(())
 }
 
+const DEEP_AND_WIDE: [(&str, &str, &str); 12] = [
+    (
+        FILE_N,
+        "C8 00 0B 80 02 81 00 11 01 80 22",
+        "200 {1=[{1=17} {8=34}]}",
+    ),
+    (
+        FILE_N,
+        "C8 00 0A 80 01 81 C0 11 22 33",
+        "200 {1=[{1=17 8=34 9=51}]}",
+    ),
+    (FILE_N, "C8 00 08 80 02 00 01 20", "UndefinedSlot 34"),
+    (FILE_S, "CC 00 07 81 80 07 08", "204 {1=7 8=8}"),
+    (FILE_S, "CC 00 05 40 07", "UndefinedSlot 1"),
+    (
+        FILE_DEEP,
+        "CE 00 07 80 5D AB CD",
+        "206 {1=(5 (6 (1 171)) 205)}",
+    ),
+    (
+        FILE_DEEP,
+        "CE 00 14 40 80 00 00 00 00 00 00 00 00 00 00 00 00 00 00 01",
+        "206 {2=170141183460469231731687303715884105729}",
+    ),
+    (FILE_WIDE, WIDE_BLOCK, "207 {1=5 126={126=6}}"),
+    // A part is one unit with its FX: cut within, it runs out at its first bit.
+    (FILE_LONG_PART, "D0 00 06 80 00 02", "208 {1=<1>}"),
+    (FILE_LONG_PART, "D0 00 05 80 01", "RunsOut 8"),
+    (FILE_LONG_PART, "D0 00 07 80 00 03 0A", "208 {1=<1|5>}"),
+    (FILE_LONG_PART, "D0 00 06 80 00 03", "RunsOut 24"),
+];
+
 #[test]
 fn deep_and_wide_items_are_read(rt: HostRuntime) -> Result<(), Fail> {
     let alloc = rt.alloc();
-    for (text, block, want) in [
-        (
-            FILE_N,
-            "C8 00 0B 80 02 81 00 11 01 80 22",
-            "200 {1=[{1=17} {8=34}]}",
-        ),
-        (
-            FILE_N,
-            "C8 00 0A 80 01 81 C0 11 22 33",
-            "200 {1=[{1=17 8=34 9=51}]}",
-        ),
-        (FILE_N, "C8 00 08 80 02 00 01 20", "UndefinedSlot 34"),
-        (FILE_S, "CC 00 07 81 80 07 08", "204 {1=7 8=8}"),
-        (FILE_S, "CC 00 05 40 07", "UndefinedSlot 1"),
-        (
-            FILE_DEEP,
-            "CE 00 07 80 5D AB CD",
-            "206 {1=(5 (6 (1 171)) 205)}",
-        ),
-        (
-            FILE_DEEP,
-            "CE 00 14 40 80 00 00 00 00 00 00 00 00 00 00 00 00 00 00 01",
-            "206 {2=170141183460469231731687303715884105729}",
-        ),
-        (FILE_WIDE, WIDE_BLOCK, "207 {1=5 126={126=6}}"),
-        // A part is one unit with its FX: cut within, it runs out at its first bit.
-        (FILE_LONG_PART, "D0 00 06 80 00 02", "208 {1=<1>}"),
-        (FILE_LONG_PART, "D0 00 05 80 01", "RunsOut 8"),
-        (FILE_LONG_PART, "D0 00 07 80 00 03 0A", "208 {1=<1|5>}"),
-        (FILE_LONG_PART, "D0 00 06 80 00 03", "RunsOut 24"),
-    ] {
+    for (text, block, want) in DEEP_AND_WIDE {
         let file = accepted(&rt, alloc, text)?;
         let octets = octets(alloc, block)?;
-        let got = read_as(&rt, alloc, file.spec(), &octets)?;
+        let got = read_both_ways(&rt, alloc, &file, &octets)?;
         assert_eq!(rt; got.as_str(), want, "of {block}");
     }
     Ok(())
 }
+
+const CUTS: [(usize, u32); 18] = [
+    (1, 8),
+    (2, 16),
+    (3, 16),
+    (4, 32),
+    (5, 40),
+    (6, 48),
+    (7, 56),
+    (8, 64),
+    (9, 72),
+    (10, 80),
+    (11, 88),
+    (12, 96),
+    (13, 96),
+    (14, 112),
+    (15, 120),
+    (16, 128),
+    (17, 136),
+    (18, 144),
+];
 
 // A body cut after each of its octets, and the bit at which the unit begins that doesn't fit.
 #[test]
@@ -111,33 +137,14 @@ fn a_cut_body_runs_out_where_its_unit_begins(rt: HostRuntime) -> Result<(), Fail
     let alloc = rt.alloc();
     let file = accepted(&rt, alloc, FILE_K)?;
     let whole = octets(alloc, RICH)?;
-    let got = read_as(&rt, alloc, file.spec(), &whole)?;
+    let got = read_both_ways(&rt, alloc, &file, &whole)?;
     let want = "205 {1=6412 2=<1|5 2> 3=[5 6] 4=[170 187] 5=xCC DD 6={1=7 3=8} 7=9 8=10}";
     assert_eq!(rt; got.as_str(), want);
     assert_eq!(rt; whole.len(), 22);
     let body = &whole[3..];
-    for (cut, bit) in [
-        (1, 8),
-        (2, 16),
-        (3, 16),
-        (4, 32),
-        (5, 40),
-        (6, 48),
-        (7, 56),
-        (8, 64),
-        (9, 72),
-        (10, 80),
-        (11, 88),
-        (12, 96),
-        (13, 96),
-        (14, 112),
-        (15, 120),
-        (16, 128),
-        (17, 136),
-        (18, 144),
-    ] {
+    for (cut, bit) in CUTS {
         let want = format!(in alloc; "RunsOut {bit}")?;
-        let got = body_read_as(&rt, alloc, file.spec(), 205, &body[..cut])?;
+        let got = body_read_both_ways(&rt, alloc, &file, 205, &body[..cut])?;
         assert_eq!(rt; got.as_str(), want.as_str(), "cut to {cut} octets");
     }
     Ok(())

@@ -2,46 +2,50 @@
 
 use crate::decoding::{FILE_DEEP, FILE_WIDE, RICH, WIDE_BLOCK};
 use crate::fixtures::{accepted, canon_as, written_as};
+use crate::seeing::read_both_ways;
 use ax_model::{Block, Entries, Record, Records};
 use ax_samples::{FILE_K, FILE_N, FILE_S, octets};
 use std::alloc::{AllocError, Global};
 use std::test::Fail;
 
+const LEAST_FORMS: [(&str, &str, &str); 19] = [
+    (FILE_K, "CD 00 07 81 00 19 0C", "CD 00 06 80 19 0C"),
+    (FILE_K, "CD 00 06 40 03 54", "CD 00 06 40 03 54"),
+    (FILE_K, "CD 00 06 20 0B 0C", "CD 00 06 20 0B 0C"),
+    (FILE_K, "CD 00 07 10 02 AA BB", "CD 00 07 10 02 AA BB"),
+    (FILE_K, "CD 00 06 04 20 07", "CD 00 06 04 20 07"),
+    (FILE_K, "CD 00 05 10 00", "CD 00 05 10 00"),
+    (FILE_K, "CD 00 05 08 01", "CD 00 05 08 01"),
+    (FILE_K, "CD 00 05 40 00", "CD 00 05 40 00"),
+    (FILE_K, "CD 00 06 40 01 00", "CD 00 06 40 01 00"),
+    (FILE_K, "CD 00 08 02 05 02 06 00", "CD 00 08 02 05 02 06 00"),
+    (FILE_K, "CD 00 05 01 00", "CD 00 04 00"),
+    (FILE_K, RICH, RICH),
+    (FILE_K, "CC 00 05 FF FF", "CC 00 05 FF FF"),
+    (
+        FILE_N,
+        "C8 00 0B 80 02 81 00 11 01 80 22",
+        "C8 00 0A 80 02 80 11 01 80 22",
+    ),
+    (FILE_S, "CC 00 07 81 80 07 08", "CC 00 07 81 80 07 08"),
+    (FILE_S, "CC 00 06 81 00 07", "CC 00 05 80 07"),
+    (FILE_DEEP, "CE 00 07 80 5D AB CD", "CE 00 07 80 5D AB CD"),
+    (
+        FILE_DEEP,
+        "CE 00 14 40 80 00 00 00 00 00 00 00 00 00 00 00 00 00 00 01",
+        "CE 00 14 40 80 00 00 00 00 00 00 00 00 00 00 00 00 00 00 01",
+    ),
+    (FILE_WIDE, WIDE_BLOCK, WIDE_BLOCK),
+];
+
 // An octet that a presence field doesn't need is left out, and nothing else changes.
 #[test]
 fn blocks_are_written_in_their_least_form(rt: HostRuntime) -> Result<(), Fail> {
     let alloc = rt.alloc();
-    for (text, block, want) in [
-        (FILE_K, "CD 00 07 81 00 19 0C", "CD 00 06 80 19 0C"),
-        (FILE_K, "CD 00 06 40 03 54", "CD 00 06 40 03 54"),
-        (FILE_K, "CD 00 06 20 0B 0C", "CD 00 06 20 0B 0C"),
-        (FILE_K, "CD 00 07 10 02 AA BB", "CD 00 07 10 02 AA BB"),
-        (FILE_K, "CD 00 06 04 20 07", "CD 00 06 04 20 07"),
-        (FILE_K, "CD 00 05 10 00", "CD 00 05 10 00"),
-        (FILE_K, "CD 00 05 08 01", "CD 00 05 08 01"),
-        (FILE_K, "CD 00 05 40 00", "CD 00 05 40 00"),
-        (FILE_K, "CD 00 06 40 01 00", "CD 00 06 40 01 00"),
-        (FILE_K, "CD 00 08 02 05 02 06 00", "CD 00 08 02 05 02 06 00"),
-        (FILE_K, "CD 00 05 01 00", "CD 00 04 00"),
-        (FILE_K, RICH, RICH),
-        (FILE_K, "CC 00 05 FF FF", "CC 00 05 FF FF"),
-        (
-            FILE_N,
-            "C8 00 0B 80 02 81 00 11 01 80 22",
-            "C8 00 0A 80 02 80 11 01 80 22",
-        ),
-        (FILE_S, "CC 00 07 81 80 07 08", "CC 00 07 81 80 07 08"),
-        (FILE_S, "CC 00 06 81 00 07", "CC 00 05 80 07"),
-        (FILE_DEEP, "CE 00 07 80 5D AB CD", "CE 00 07 80 5D AB CD"),
-        (
-            FILE_DEEP,
-            "CE 00 14 40 80 00 00 00 00 00 00 00 00 00 00 00 00 00 00 01",
-            "CE 00 14 40 80 00 00 00 00 00 00 00 00 00 00 00 00 00 00 01",
-        ),
-        (FILE_WIDE, WIDE_BLOCK, WIDE_BLOCK),
-    ] {
+    for (text, block, want) in LEAST_FORMS {
         let file = accepted(&rt, alloc, text)?;
         let octets = octets(alloc, block)?;
+        let _ = read_both_ways(&rt, alloc, &file, &octets)?;
         let got = canon_as(&rt, alloc, file.spec(), &octets)?;
         assert_eq!(rt; got.as_str(), want, "of {block}");
     }

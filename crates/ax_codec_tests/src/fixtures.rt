@@ -15,7 +15,7 @@ use std::test::Fail;
 /// The specification of a category file without flaw.
 pub(crate) fn accepted(rt: &impl Abort, alloc: Global, text: &str) -> Result<Accepted, Fail> {
     let text = text.as_bytes();
-    assert!(rt; text.len() < 10_000);
+    assert!(rt; text.len() < 100_000);
     let found = tokens(alloc, text, 16)?;
     let spec = read_spec(alloc, &found)?;
     Ok(accept(alloc, spec)?)
@@ -53,34 +53,16 @@ pub(crate) fn body_read_as(
 }
 
 /// The body of a block, after CAT and the LEN that it has.
-fn body_of<'o>(rt: &impl Abort, octets: &'o [u8]) -> &'o [u8] {
+pub(crate) fn body_of<'o>(rt: &impl Abort, octets: &'o [u8]) -> &'o [u8] {
     assert!(rt; octets.len() >= 4);
     let length = octets[1] as usize * 256 + octets[2] as usize;
     assert_eq!(rt; octets.len(), length, "LEN of {octets:?}");
     &octets[3..]
 }
 
-fn category_of(rt: &impl Abort, octets: &[u8]) -> u8 {
+pub(crate) fn category_of(rt: &impl Abort, octets: &[u8]) -> u8 {
     assert!(rt; !octets.is_empty());
     octets[0]
-}
-
-/// The block that the octets are read as, or its fault, in a line.
-pub(crate) fn read_as(
-    rt: &impl Abort,
-    alloc: Global,
-    spec: &Spec,
-    octets: &[u8],
-) -> Result<String, AllocError>
-    requires { HasNoFlaw spec.now }
-{
-    body_read_as(
-        rt,
-        alloc,
-        spec,
-        category_of(rt, octets),
-        body_of(rt, octets),
-    )
 }
 
 /// The block that the octets are read as.

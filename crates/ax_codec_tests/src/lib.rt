@@ -1,5 +1,5 @@
 //! The tests of the codec across crates: category files are read and accepted, and their blocks decoded, encoded and
-//! copied. It holds nothing public.
+//! copied, each body read by trees and by views alike. It holds nothing public.
 #![tactic(auto)]
 
 #[cfg(test)]
@@ -13,6 +13,10 @@ mod fixtures;
 #[cfg(test)]
 mod records;
 #[cfg(test)]
+mod seeing;
+#[cfg(test)]
 mod shown;
 #[cfg(test)]
 mod shown_specs;
+#[cfg(test)]
+mod views;

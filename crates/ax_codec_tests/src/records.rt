@@ -5,8 +5,10 @@ ghost use Rattle.ax_model.specs.OfCode.{HasNoFlaw};
 ghost use Rattle.ax_model.specs.Plain.{kind_tree};
 ghost use Rattle.ax_reader.specs.Reading.{SlotInBounds, slot_of_frn};
 
-use crate::fixtures::{accepted, body_read_as};
+use crate::fixtures::accepted;
+use crate::seeing::body_read_both_ways;
 use crate::shown::{push_record, push_value, shown_error};
+use ax_check::Accepted;
 use ax_model::{Kind, Spec};
 use ax_samples::{CAT048_P1, octets};
 use ax_values::{decode_kind, decode_record};
@@ -73,13 +75,12 @@ fn record_of(alloc: Global, spec: &Spec, body: &[u8]) -> Result<String, AllocErr
 fn three_ways(
     rt: &impl Abort,
     alloc: Global,
-    spec: &Spec,
+    file: &Accepted,
     frn: u32,
     at: u32,
     body: &[u8],
-) -> Result<String, Fail>
-    requires { HasNoFlaw spec.now }
-{
+) -> Result<String, Fail> {
+    let spec = file.spec();
     assert!(rt; body.len() <= 65_532);
     assert!(rt; at as usize <= body.len());
     let kind = kind_at(spec, frn).ok_or("no such item")?;
@@ -87,51 +88,53 @@ fn three_ways(
     text.push_str(" | ")?;
     text.push_str(record_of(alloc, spec, body)?.as_str())?;
     text.push_str(" | ")?;
-    text.push_str(body_read_as(rt, alloc, spec, 48, body)?.as_str())?;
+    text.push_str(body_read_both_ways(rt, alloc, file, 48, body)?.as_str())?;
     Ok(text)
 }
+
+const READINGS: [(&str, u32, u32, &str); 8] = [
+    ("80 19", 1, 1, "RunsOut 8 | RunsOut 8 | RunsOut 8"),
+    (
+        "20 A1 00",
+        3,
+        1,
+        "<5 0 0 0 0|0 0 0 0 0> to 3 | {3=<5 0 0 0 0|0 0 0 0 0>} to 3 | 48 {3=<5 0 0 0 0|0 0 0 0 0>}",
+    ),
+    (
+        "20 A1 01",
+        3,
+        1,
+        "ExtensionPastEnd 23 | ExtensionPastEnd 23 | ExtensionPastEnd 23",
+    ),
+    (
+        "01 01 40 0B 0C",
+        16,
+        3,
+        "[5 6] to 5 | {16=[5 6]} to 5 | 48 {16=[5 6]}",
+    ),
+    ("01 20 00", 10, 2, "[] to 3 | {10=[]} to 3 | 48 {10=[]}"),
+    ("01 20 01", 10, 2, "RunsOut 24 | RunsOut 24 | RunsOut 24"),
+    (
+        "01 01 01 04 03 AA BB",
+        27,
+        4,
+        "xAA BB to 7 | {27=xAA BB} to 7 | 48 {27=xAA BB}",
+    ),
+    (
+        "01 01 01 04 00",
+        27,
+        4,
+        "BadExplicitLength 32 | BadExplicitLength 32 | BadExplicitLength 32",
+    ),
+];
 
 #[test]
 fn an_item_its_record_and_its_body_have_one_reading(rt: HostRuntime) -> Result<(), Fail> {
     let alloc = rt.alloc();
     let file = accepted(&rt, alloc, CAT048_P1)?;
-    for (body, frn, at, want) in [
-        ("80 19", 1, 1, "RunsOut 8 | RunsOut 8 | RunsOut 8"),
-        (
-            "20 A1 00",
-            3,
-            1,
-            "<5 0 0 0 0|0 0 0 0 0> to 3 | {3=<5 0 0 0 0|0 0 0 0 0>} to 3 | 48 {3=<5 0 0 0 0|0 0 0 0 0>}",
-        ),
-        (
-            "20 A1 01",
-            3,
-            1,
-            "ExtensionPastEnd 23 | ExtensionPastEnd 23 | ExtensionPastEnd 23",
-        ),
-        (
-            "01 01 40 0B 0C",
-            16,
-            3,
-            "[5 6] to 5 | {16=[5 6]} to 5 | 48 {16=[5 6]}",
-        ),
-        ("01 20 00", 10, 2, "[] to 3 | {10=[]} to 3 | 48 {10=[]}"),
-        ("01 20 01", 10, 2, "RunsOut 24 | RunsOut 24 | RunsOut 24"),
-        (
-            "01 01 01 04 03 AA BB",
-            27,
-            4,
-            "xAA BB to 7 | {27=xAA BB} to 7 | 48 {27=xAA BB}",
-        ),
-        (
-            "01 01 01 04 00",
-            27,
-            4,
-            "BadExplicitLength 32 | BadExplicitLength 32 | BadExplicitLength 32",
-        ),
-    ] {
+    for (body, frn, at, want) in READINGS {
         let octets = octets(alloc, body)?;
-        let got = three_ways(&rt, alloc, file.spec(), frn, at, &octets)?;
+        let got = three_ways(&rt, alloc, &file, frn, at, &octets)?;
         assert_eq!(rt; got.as_str(), want, "of {body}");
     }
     Ok(())

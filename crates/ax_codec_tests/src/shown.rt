@@ -1,6 +1,6 @@
 //! Values, records and blocks as lines of text, so that tests compare them whole.
 
-use ax_model::{Block, Entries, Lists, Octets, Record, Value, Values};
+use ax_model::{Block, BodyFault, Entries, Lists, Octets, Record, Value, Values};
 use ax_values::DecodeError;
 use std::alloc::{AllocError, Global};
 
@@ -126,13 +126,16 @@ pub(crate) fn shown_block(alloc: Global, block: &Block) -> Result<String, AllocE
 }
 
 /// A fault: its cause and its bit.
+pub(crate) fn shown_fault(alloc: Global, fault: &BodyFault) -> Result<String, AllocError> {
+    let cause = fault.cause;
+    let bit = fault.bit;
+    format!(in alloc; "{cause:?} {bit}")
+}
+
+/// A fault, or that memory was wanting.
 pub(crate) fn shown_error(alloc: Global, error: &DecodeError) -> Result<String, AllocError> {
     match error {
-        DecodeError::Fault(fault) => {
-            let cause = fault.cause;
-            let bit = fault.bit;
-            format!(in alloc; "{cause:?} {bit}")
-        }
+        DecodeError::Fault(fault) => shown_fault(alloc, fault),
         DecodeError::OutOfMemory => String::from_str(alloc, "out of memory"),
     }
 }

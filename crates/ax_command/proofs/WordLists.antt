@@ -4,7 +4,7 @@ use Rattle.std.proofs.Math.Seq.{take-append_seam, drop-append_seam}
 use Rattle.std.specs.List.{AllByRecursion}
 use Rattle.std.proofs.lemmas.List.{length-map, take-append-drop, take-map, drop-map}
 use Rattle.ax_command.specs.declared.words.Verb.{Verb}
-use Rattle.ax_command.specs.Words.{IsFileName, HasShape, HasNoShape, TakesFiles, verb_of, arguments_of, Asked}
+use Rattle.ax_command.specs.Words.{IsFileName, HasShape, HasNoShape, TakesFiles, AreArguments, verb_of, arguments_of, Asked}
 
 pub nothing : (words : List (List ℕ)) → words ≡ [] → HasNoShape words
 nothing words e what h = let f : [] ≡ h.word ∷ (what.arguments ++ what.files) = sym e ∙ h.split in absurd (cc)
@@ -66,12 +66,17 @@ module _ {A : Type 0} (f : A → List ℕ) (words rest : List A) (word : List �
       let size : length what.files ≡ length rest - arguments_of verb = omega (arith, length-map rest f, c) in
       never (subst (λ v. TakesFiles v (length rest - arguments_of verb)) (same_verb verb is what h) (subst (TakesFiles what.verb) size h.count))
 
+  pub other_form : (verb : Verb) → verb_of word ≡ Some verb → (AreArguments verb (map f (take (arguments_of verb) rest)) → ⊥) → HasNoShape (map f words)
+  other_form verb is never what h =
+      let a : what.arguments ≡ map f (take (arguments_of verb) rest) = (same_cut verb is what h).arguments_are ∙ sym (map-take f rest (arguments_of verb)) in
+      never (subst (AreArguments verb) a (subst (λ v. AreArguments v what.arguments) (same_verb verb is what h) h.form))
+
   pub an_option : (AllByRecursion IsFileName (map f rest) → ⊥) → HasNoShape (map f words)
   an_option never what h = never (subst (AllByRecursion IsFileName) (same_parts what h).others h.plain)
 
-  pub is_shape : (verb : Verb) → verb_of word ≡ Some verb → length words ≤ 4294967295 → arguments_of verb ≤ length rest → TakesFiles verb (length rest - arguments_of verb) → AllByRecursion IsFileName (map f rest)
+  pub is_shape : (verb : Verb) → verb_of word ≡ Some verb → length words ≤ 4294967295 → arguments_of verb ≤ length rest → TakesFiles verb (length rest - arguments_of verb) → AreArguments verb (map f (take (arguments_of verb) rest)) → AllByRecursion IsFileName (map f rest)
       → HasShape (map f words) (record { verb = verb; arguments = map f (take (arguments_of verb) rest); files = map f (drop (arguments_of verb) rest) })
-  is_shape verb is few enough count plain =
+  is_shape verb is few enough count form plain =
       let n = arguments_of verb in
       let i : length (map f words) ≡ length words = length-map words f in
       let joined : map f (take n rest) ++ map f (drop n rest) ≡ map f rest = ap (λ x. x ++ map f (drop n rest)) (map-take f rest n) ∙ ap (λ y. take n (map f rest) ++ y) (map-drop f rest n) ∙ take-append-drop n (map f rest) in
@@ -80,9 +85,10 @@ module _ {A : Type 0} (f : A → List ℕ) (words rest : List A) (word : List �
         split = e ∙ ap (λ x. word ∷ x) (sym joined);
         verb = is;
         before = length-map (take n rest) f ∙ length-take-le n rest enough;
+        form = form;
         count = subst (TakesFiles verb) (sym (length-map (drop n rest) f ∙ length-drop n rest)) count;
         few = omega arith;
         plain = subst (AllByRecursion IsFileName) (sym joined) plain;
       }
 
-pub ruleset shapes = (nothing, no_verb, too_many_words, too_few_words, other_count, an_option, is_shape)
+pub ruleset shapes = (nothing, no_verb, too_many_words, too_few_words, other_count, other_form, an_option, is_shape)

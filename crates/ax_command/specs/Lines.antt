@@ -7,7 +7,9 @@ use Rattle.ax_model.specs.declared.flaw.FlawKind.TheVariants.{DuplicateItem, Dup
 use Rattle.ax_stream.specs.declared.end.Cause.{Cause}
 use Rattle.ax_stream.specs.declared.end.Cause.TheVariants.{EndsInHeader, BadLen, EndsInBlock, RunsOut, UndefinedSlot, PresenceTooLong, ExtensionPastEnd, BadExplicitLength}
 use Rattle.ax_command.specs.declared.outcome.Outcome.{Outcome}
-use Rattle.ax_command.specs.declared.outcome.Outcome.TheVariants.{Done, Usage, SpecRefused, CategoryTwice, InputRefused, MigratedTooLong, InputTooLong, LoadFault, ReadFault, WriteFault, ReportFault, OutOfMemory, OtherCategory}
+use Rattle.ax_command.specs.declared.outcome.Outcome.TheVariants.{Done, Usage, SpecRefused, CategoryTwice, InputRefused, MigratedTooLong, InputTooLong, LoadFault, ReadFault, WriteFault, ReportFault, OutOfMemory, OtherCategory, FilterRefused}
+use Rattle.ax_filter.specs.declared.text.FilterFault.{FilterFault}
+use Rattle.ax_filter.specs.declared.text.FilterFault.TheVariants as FilterFaultOf
 use Rattle.ax_load.specs.declared.fault.SpecFault.{SpecFault}
 use Rattle.ax_load.specs.declared.fault.SpecFault.TheVariants.{TooLarge, BadByte, TooDeep, BadToken, Flawed}
 
@@ -54,6 +56,14 @@ fault_lines file (TooDeep token) = numbered (codes "refused file ") file ++ (num
 fault_lines file (BadToken token) = numbered (codes "refused file ") file ++ (numbered (codes " BadToken token ") token ++ codes "\n")
 fault_lines file (Flawed flaws) = flaw_lines file flaws ++ (numbered (codes "refused file ") file ++ (numbered (codes " Flawed ") (length flaws) ++ codes "\n"))
 
+-- of a refused expression
+abbrev pub filter_line : FilterFault → List ℕ
+filter_line (FilterFaultOf.BadByte at) = numbered (codes "refused filter BadByte at ") at ++ codes "\n"
+filter_line (FilterFaultOf.TooDeep token) = numbered (codes "refused filter TooDeep token ") token ++ codes "\n"
+filter_line (FilterFaultOf.BadToken token) = numbered (codes "refused filter BadToken token ") token ++ codes "\n"
+filter_line (FilterFaultOf.UnknownPath token) = numbered (codes "refused filter UnknownPath token ") token ++ codes "\n"
+filter_line (FilterFaultOf.NotAnElement token) = numbered (codes "refused filter NotAnElement token ") token ++ codes "\n"
+
 abbrev pub lines_of : Outcome → List ℕ
 lines_of (Done blocks) = []
 lines_of Usage = codes "refused usage\n"
@@ -68,3 +78,4 @@ lines_of WriteFault = codes "fault write\n"
 lines_of ReportFault = []
 lines_of OutOfMemory = codes "refused memory\n"
 lines_of (OtherCategory old new) = codes "refused editions" ++ (codes " " ++ (three_digits old ++ (codes " " ++ (three_digits new ++ codes "\n"))))
+lines_of (FilterRefused fault) = filter_line fault

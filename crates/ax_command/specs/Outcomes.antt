@@ -28,6 +28,7 @@ outcome_of_end EndOf.OutOfMemory = OutcomeOf.OutOfMemory
 
 abbrev pub outcome_of_refusal : Refusal → Outcome
 outcome_of_refusal (RefusalOf.OtherCategory old new) = OutcomeOf.OtherCategory old new
+outcome_of_refusal (RefusalOf.FilterRefused fault) = OutcomeOf.FilterRefused fault
 
 abbrev pub outcome_of_job_stop : JobStop → Outcome
 outcome_of_job_stop (JobStopOf.Refused refusal) = outcome_of_refusal refusal

@@ -1,7 +1,7 @@
 -- The exit status of each outcome (this project's own rule).
 use Rattle.std.specs.Prelude.{ℕ}
 use Rattle.ax_command.specs.declared.outcome.Outcome.{Outcome}
-use Rattle.ax_command.specs.declared.outcome.Outcome.TheVariants.{Done, Usage, SpecRefused, CategoryTwice, InputRefused, MigratedTooLong, InputTooLong, LoadFault, ReadFault, WriteFault, ReportFault, OutOfMemory, OtherCategory}
+use Rattle.ax_command.specs.declared.outcome.Outcome.TheVariants.{Done, Usage, SpecRefused, CategoryTwice, InputRefused, MigratedTooLong, InputTooLong, LoadFault, ReadFault, WriteFault, ReportFault, OutOfMemory, OtherCategory, FilterRefused}
 
 abbrev pub status_of : Outcome → ℕ
 status_of (Done blocks) = 0
@@ -17,3 +17,4 @@ status_of WriteFault = 4
 status_of ReportFault = 4
 status_of OutOfMemory = 5
 status_of (OtherCategory old new) = 2
+status_of (FilterRefused fault) = 2

@@ -2,9 +2,10 @@
 ghost use Rattle.std.specs.Prelude.{◌≡◌, ◌++◌, codes, decimal};
 ghost use Rattle.ax_outside.specs.Changes.{Wrote, sink_change};
 ghost use Rattle.ax_model.specs.Paths.{three_digits};
-ghost use Rattle.ax_command.specs.Lines.{numbered, cause_name, kind_name, flaw_line, flaw_lines, fault_lines, lines_of};
+ghost use Rattle.ax_command.specs.Lines.{numbered, cause_name, kind_name, flaw_line, flaw_lines, fault_lines, filter_line, lines_of};
 
 use crate::outcome::Outcome;
+use ax_filter::FilterFault;
 use ax_load::SpecFault;
 use ax_model::{Flaw, FlawKind, Flaws, Text, category_digits};
 use ax_outside::{Sink, SinkFailed, write_text};
@@ -204,6 +205,44 @@ fn write_editions<K: Sink>(sink: &mut K, old: u8, new: u8) -> Result<(), SinkFai
     write_two(sink, b"refused editions", &two_categories(old, new))
 }
 
+/// Writes the line of a refused expression.
+fn write_filter_fault<K: Sink>(sink: &mut K, fault: FilterFault) -> Result<(), SinkFailed>
+    ensures { Wrote (sink_change K.Sink sink.old sink.new) result (filter_line fault) }
+{
+    match fault {
+        FilterFault::BadByte { at } => write_numbered_text(
+            sink,
+            b"refused filter BadByte at ",
+            at as u64,
+            b"\n",
+        ),
+        FilterFault::TooDeep { token } => write_numbered_text(
+            sink,
+            b"refused filter TooDeep token ",
+            token as u64,
+            b"\n",
+        ),
+        FilterFault::BadToken { token } => write_numbered_text(
+            sink,
+            b"refused filter BadToken token ",
+            token as u64,
+            b"\n",
+        ),
+        FilterFault::UnknownPath { token } => write_numbered_text(
+            sink,
+            b"refused filter UnknownPath token ",
+            token as u64,
+            b"\n",
+        ),
+        FilterFault::NotAnElement { token } => write_numbered_text(
+            sink,
+            b"refused filter NotAnElement token ",
+            token as u64,
+            b"\n",
+        ),
+    }
+}
+
 /// Writes the lines of the flaws of a file.
 #[tactic(auto, using(crate::proofs::FlawLines::flaws_written))]
 fn write_flaws<K: Sink>(sink: &mut K, file: u32, flaws: &[Flaw]) -> Result<(), SinkFailed>
@@ -297,5 +336,6 @@ pub fn write_lines<K: Sink>(sink: &mut K, outcome: &Outcome) -> Result<(), SinkF
         Outcome::ReportFault => Ok(()),
         Outcome::OutOfMemory => write_text(sink, b"refused memory\n"),
         Outcome::OtherCategory { old, new } => write_editions(sink, *old, *new),
+        Outcome::FilterRefused { fault } => write_filter_fault(sink, *fault),
     }
 }

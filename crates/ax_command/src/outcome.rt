@@ -3,6 +3,7 @@ ghost use Rattle.std.specs.Prelude.{◌≡◌};
 ghost use Rattle.ax_command.specs.Outcomes.{outcome_of_stop, outcome_of_end, outcome_of_job_stop};
 ghost use Rattle.ax_command.specs.Status.{status_of};
 
+use ax_filter::FilterFault;
 use ax_load::{LoadStop, SpecFault};
 use ax_stream::{InputFault, StreamEnd};
 
@@ -18,6 +19,8 @@ pub enum Outcome {
     SpecRefused { file: u32, fault: SpecFault },
     /// An earlier file has the category of that one, which is numbered from 0 in the order of the words.
     CategoryTwice { file: u32, category: u8 },
+    /// The expression of `filter` is refused.
+    FilterRefused { fault: FilterFault },
     /// The two editions are of these two categories, which differ.
     OtherCategory { old: u8, new: u8 },
     /// The input has a fault.
@@ -41,6 +44,8 @@ pub enum Outcome {
 /// Why a command refuses its arguments or what its files have in common, before it reads its input.
 #[derive(Clone, Copy)]
 pub enum Refusal {
+    /// The expression of `filter` has that fault.
+    FilterRefused { fault: FilterFault },
     /// The two editions are of these two categories, which differ.
     OtherCategory { old: u8, new: u8 },
 }
@@ -59,6 +64,7 @@ impl From<JobStop> for Outcome {
 
     fn from(stop: JobStop) -> Self {
         match stop {
+            JobStop::Refused(Refusal::FilterRefused { fault }) => Outcome::FilterRefused { fault },
             JobStop::Refused(Refusal::OtherCategory { old, new }) => {
                 Outcome::OtherCategory { old, new }
             }
@@ -108,6 +114,7 @@ impl Outcome {
             Outcome::Usage => 1,
             Outcome::SpecRefused { .. }
             | Outcome::CategoryTwice { .. }
+            | Outcome::FilterRefused { .. }
             | Outcome::OtherCategory { .. } => 2,
             Outcome::InputRefused { .. }
             | Outcome::MigratedTooLong { .. }

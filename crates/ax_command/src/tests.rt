@@ -33,6 +33,10 @@ fn refused(cause: Cause, block: u64, bit: u32) -> Outcome {
     }
 }
 
+fn filter_refused(fault: FilterFault) -> Outcome {
+    Outcome::FilterRefused { fault }
+}
+
 fn file_refused(fault: SpecFault) -> Outcome {
     Outcome::SpecRefused { file: 0, fault }
 }
@@ -86,6 +90,31 @@ fn lines_and_status_of_each_outcome(rt: HostRuntime) -> Result<(), Fail> {
             refused(Cause::EndsInBlock, 7, 40),
             3,
             "refused block 7 bit 40 EndsInBlock\n",
+        ),
+        (
+            filter_refused(FilterFault::BadByte { at: 3 }),
+            2,
+            "refused filter BadByte at 3\n",
+        ),
+        (
+            filter_refused(FilterFault::TooDeep { token: 32 }),
+            2,
+            "refused filter TooDeep token 32\n",
+        ),
+        (
+            filter_refused(FilterFault::BadToken { token: 2 }),
+            2,
+            "refused filter BadToken token 2\n",
+        ),
+        (
+            filter_refused(FilterFault::UnknownPath { token: 1 }),
+            2,
+            "refused filter UnknownPath token 1\n",
+        ),
+        (
+            filter_refused(FilterFault::NotAnElement { token: 10 }),
+            2,
+            "refused filter NotAnElement token 10\n",
         ),
         (
             Outcome::OtherCategory { old: 34, new: 48 },

@@ -1,8 +1,11 @@
 //! The words of a command line.
-ghost use Rattle.std.specs.Prelude.{◌≡◌, ◌<◌, ◌↔◌, map, length, IsTrue, MatchOption};
+ghost use Rattle.std.specs.Prelude.{◌≡◌, ◌<◌, ◌≤◌, ◌^◌, ◌↔◌, map, length, IsTrue, MatchOption};
 ghost use Rattle.std.specs.List.{AllByRecursion};
 ghost use Rattle.std.specs.String.{string_bytes};
-ghost use Rattle.ax_command.specs.Words.{BeginsWithDash, IsFileName, HasShape, HasNoShape, TakesFiles, verb_of, arguments_of, asked};
+ghost use Rattle.ax_command.specs.Words.{BeginsWithDash, IsFileName, HasShape, HasNoShape, TakesFiles, AreArguments, verb_of, arguments_of, asked};
+
+/// The most octets of an expression.
+const LONGEST_EXPRESSION: usize = 1 << 31;
 
 /// What a command does.
 #[derive(Clone, Copy)]
@@ -15,6 +18,10 @@ pub enum Verb {
     Show,
     /// `text` and one or more SPEC.
     Text,
+    /// `filter EXPR` and one or more SPEC.
+    Filter,
+    /// `migrate OLD NEW`
+    Migrate,
 }
 
 /// What the words ask for: a command with these arguments, over these files.
@@ -37,6 +44,10 @@ fn verb_of(word: &str) -> Option<Verb>
         Some(Verb::Show)
     } else if word == "text" {
         Some(Verb::Text)
+    } else if word == "filter" {
+        Some(Verb::Filter)
+    } else if word == "migrate" {
+        Some(Verb::Migrate)
     } else {
         None
     }
@@ -48,7 +59,8 @@ fn takes_files(verb: Verb, count: usize) -> bool
 {
     match verb {
         Verb::Check => count == 1,
-        Verb::Canon | Verb::Show | Verb::Text => count > 0,
+        Verb::Canon | Verb::Show | Verb::Text | Verb::Filter => count > 0,
+        Verb::Migrate => count == 2,
     }
 }
 
@@ -57,7 +69,28 @@ fn arguments_of(verb: Verb) -> usize
     ensures { result ≡ arguments_of verb }
 {
     match verb {
-        Verb::Check | Verb::Canon | Verb::Show | Verb::Text => 0,
+        Verb::Filter => 1,
+        Verb::Check | Verb::Canon | Verb::Show | Verb::Text | Verb::Migrate => 0,
+    }
+}
+
+/// Whether the text is short enough for an expression.
+fn is_expression(text: &str) -> bool
+    ensures { IsTrue result ↔ (length text.now ≤ 2 ^ 31) }
+{
+    text.len() <= LONGEST_EXPRESSION
+}
+
+/// Whether the words before its files have the form that the command asks.
+fn are_arguments(verb: Verb, arguments: &[String]) -> bool
+    ensures { IsTrue result ↔ AreArguments verb (map string_bytes arguments.now) }
+{
+    match verb {
+        Verb::Filter => match arguments {
+            [text, ..] => is_expression(text.as_str()),
+            [] => false,
+        },
+        Verb::Check | Verb::Canon | Verb::Show | Verb::Text | Verb::Migrate => true,
     }
 }
 
@@ -105,6 +138,9 @@ pub fn read_command(words: &[String]) -> Option<Command<'_>>
     }
     let (arguments, files) = rest.split_at(count);
     if !takes_files(verb, files.len()) {
+        return None;
+    }
+    if !are_arguments(verb, arguments) {
         return None;
     }
     if !are_file_names(rest) {

@@ -14,120 +14,122 @@ fn file_of(alloc: Global, title: &str, kind: &str) -> Result<String, Fail> {
     )?)
 }
 
+const CHANGES: [(&str, &str, &str); 25] = [
+    ("element 8 raw", "element 16 raw", "202/010 0 shared"),
+    ("element 8 raw", "element 8 ascii", "202/010 0 shared"),
+    ("element 8 raw", "element 8 table { }", "202/010 0 shared"),
+    (
+        "element 8 raw",
+        "group { A element 8 raw }",
+        "202/010 0 shared",
+    ),
+    (
+        "element 8 raw",
+        "compound { A element 8 raw }",
+        "202/010 0 shared",
+    ),
+    (
+        "element 8 integer unsigned",
+        "element 8 integer signed",
+        "202/010 0 shared",
+    ),
+    (
+        "element 8 quantity signed 1 4 \"m\"",
+        "element 8 quantity signed 1 4 \"m\"",
+        "1 shared",
+    ),
+    (
+        "element 8 quantity signed 1 4 \"m\"",
+        "element 8 quantity unsigned 1 4 \"m\"",
+        "202/010 0 shared",
+    ),
+    (
+        "element 8 quantity signed 1 4 \"m\"",
+        "element 8 quantity signed 2 4 \"m\"",
+        "202/010 0 shared",
+    ),
+    (
+        "element 8 quantity signed 1 4 \"m\"",
+        "element 8 quantity signed 1 8 \"m\"",
+        "202/010 0 shared",
+    ),
+    (
+        "element 8 quantity signed 1 4 \"m\"",
+        "element 8 quantity signed 2 8 \"m\"",
+        "202/010 0 shared",
+    ),
+    (
+        "element 8 quantity signed 1 4 \"m\"",
+        "element 8 quantity signed 1 4 \"s\"",
+        "202/010 0 shared",
+    ),
+    (
+        "element 8 table { 1 \"one\" }",
+        "element 8 table { 2 \"two\" }",
+        "1 shared",
+    ),
+    (
+        "element 8 table { 1 \"one\" }",
+        "element 8 table { }",
+        "1 shared",
+    ),
+    (
+        "group { A element 4 raw B element 4 raw }",
+        "group { B element 4 raw A element 4 raw }",
+        "202/010 0 shared",
+    ),
+    (
+        "group { A element 4 raw B element 4 raw }",
+        "group { A element 4 raw C element 4 raw }",
+        "202/010 0 shared",
+    ),
+    (
+        "group { spare 3 A element 4 raw spare 1 }",
+        "group { spare 2 A element 4 raw spare 2 }",
+        "202/010 0 shared",
+    ),
+    (
+        "group { spare 4 A element 4 raw }",
+        "group { B element 4 raw A element 4 raw }",
+        "202/010 0 shared",
+    ),
+    (
+        "extended { part { A element 7 raw } }",
+        "extended { part { A element 7 raw } part { B element 7 raw } }",
+        "202/010 0 shared",
+    ),
+    (
+        "byfx element 7 raw",
+        "counted { element 8 raw }",
+        "202/010 0 shared",
+    ),
+    (
+        "counted { element 8 raw }",
+        "counted { element 16 raw }",
+        "202/010 0 shared",
+    ),
+    (
+        "counted { compound { A element 8 raw } }",
+        "counted { compound { B element 8 raw } }",
+        "202/010 0 shared",
+    ),
+    ("explicit", "explicit", "1 shared"),
+    (
+        "compound { A element 8 raw }",
+        "compound { - A element 8 raw B explicit }",
+        "2 shared",
+    ),
+    (
+        "compound { A compound { B explicit } }",
+        "compound { A compound { C explicit } }",
+        "202/010/A/B 2 shared",
+    ),
+];
+
 #[test]
 fn what_changes_a_kind(rt: HostRuntime) -> Result<(), Fail> {
     let alloc = rt.alloc();
-    for (old, new, wanted) in [
-        ("element 8 raw", "element 16 raw", "202/010 0 shared"),
-        ("element 8 raw", "element 8 ascii", "202/010 0 shared"),
-        ("element 8 raw", "element 8 table { }", "202/010 0 shared"),
-        (
-            "element 8 raw",
-            "group { A element 8 raw }",
-            "202/010 0 shared",
-        ),
-        (
-            "element 8 raw",
-            "compound { A element 8 raw }",
-            "202/010 0 shared",
-        ),
-        (
-            "element 8 integer unsigned",
-            "element 8 integer signed",
-            "202/010 0 shared",
-        ),
-        (
-            "element 8 quantity signed 1 4 \"m\"",
-            "element 8 quantity signed 1 4 \"m\"",
-            "1 shared",
-        ),
-        (
-            "element 8 quantity signed 1 4 \"m\"",
-            "element 8 quantity unsigned 1 4 \"m\"",
-            "202/010 0 shared",
-        ),
-        (
-            "element 8 quantity signed 1 4 \"m\"",
-            "element 8 quantity signed 2 4 \"m\"",
-            "202/010 0 shared",
-        ),
-        (
-            "element 8 quantity signed 1 4 \"m\"",
-            "element 8 quantity signed 1 8 \"m\"",
-            "202/010 0 shared",
-        ),
-        (
-            "element 8 quantity signed 1 4 \"m\"",
-            "element 8 quantity signed 2 8 \"m\"",
-            "202/010 0 shared",
-        ),
-        (
-            "element 8 quantity signed 1 4 \"m\"",
-            "element 8 quantity signed 1 4 \"s\"",
-            "202/010 0 shared",
-        ),
-        (
-            "element 8 table { 1 \"one\" }",
-            "element 8 table { 2 \"two\" }",
-            "1 shared",
-        ),
-        (
-            "element 8 table { 1 \"one\" }",
-            "element 8 table { }",
-            "1 shared",
-        ),
-        (
-            "group { A element 4 raw B element 4 raw }",
-            "group { B element 4 raw A element 4 raw }",
-            "202/010 0 shared",
-        ),
-        (
-            "group { A element 4 raw B element 4 raw }",
-            "group { A element 4 raw C element 4 raw }",
-            "202/010 0 shared",
-        ),
-        (
-            "group { spare 3 A element 4 raw spare 1 }",
-            "group { spare 2 A element 4 raw spare 2 }",
-            "202/010 0 shared",
-        ),
-        (
-            "group { spare 4 A element 4 raw }",
-            "group { B element 4 raw A element 4 raw }",
-            "202/010 0 shared",
-        ),
-        (
-            "extended { part { A element 7 raw } }",
-            "extended { part { A element 7 raw } part { B element 7 raw } }",
-            "202/010 0 shared",
-        ),
-        (
-            "byfx element 7 raw",
-            "counted { element 8 raw }",
-            "202/010 0 shared",
-        ),
-        (
-            "counted { element 8 raw }",
-            "counted { element 16 raw }",
-            "202/010 0 shared",
-        ),
-        (
-            "counted { compound { A element 8 raw } }",
-            "counted { compound { B element 8 raw } }",
-            "202/010 0 shared",
-        ),
-        ("explicit", "explicit", "1 shared"),
-        (
-            "compound { A element 8 raw }",
-            "compound { - A element 8 raw B explicit }",
-            "2 shared",
-        ),
-        (
-            "compound { A compound { B explicit } }",
-            "compound { A compound { C explicit } }",
-            "202/010/A/B 2 shared",
-        ),
-    ] {
+    for (old, new, wanted) in CHANGES {
         let relation = related(
             alloc,
             file_of(alloc, "", old)?.as_str(),

@@ -15,3 +15,4 @@ pub mod TestLists
 pub mod Signs
 pub mod Kept
 pub mod Once
+pub mod TextStops

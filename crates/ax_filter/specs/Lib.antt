@@ -9,4 +9,5 @@ pub mod Meaning
 pub mod Tests
 pub mod OfCode
 pub mod Matching
+pub mod Texts
 pub mod Examples

@@ -19,8 +19,10 @@ mod resolving;
 mod standing;
 mod syntax;
 mod test;
+mod text;
 mod words;
 
 pub use error::FilterError;
 pub use filter::Filter;
 pub use reading::read_filter;
+pub use text::{FilterFault, FilterStop, read_expression};

@@ -1,5 +1,5 @@
 -- The loading of files ends in one way.
-use Rattle.std.proofs.Common.{◌≡◌, ◌≢◌, ℕ, ◌+◌, ◌<◌, ◌≤◌, ◌⊎◌, inl, inr, List, [], ◌∷◌, ◌++◌, Option, Some, None, IsSome, length, append_assoc, append-nil, refl, sym, ◌∙◌, ap, subst, arith}
+use Rattle.std.proofs.Common.{◌≡◌, ◌≢◌, ℕ, ◌+◌, ◌<◌, ◌≤◌, ◌⊎◌, inl, inr, List, [], ◌∷◌, ◌++◌, Bool, IsTrue, Option, Some, None, IsSome, length, append_assoc, append-nil, refl, sym, ◌∙◌, ap, subst, arith}
 use Rattle.ax_outside.specs.Files.{File, octets_of, Lacks, Exceeds}
 use Rattle.ax_outside.specs.Told.{Rose}
 use Rattle.ax_model.specs.Flaws.{flaws_of}
@@ -88,65 +88,65 @@ stops_once files c name i outcome (LoadStopOf.CategoryTwice n category) quiet so
 twice_once : (files : List File) (before : List SpecTree) (name : List ℕ) (category next : ℕ) → HasCategoryTwice (Some files) before name category → HasCategoryTwice (Some files) before name next → category ≡ next
 twice_once files before name category next h k = h.is ∙ ap (λ s. s.category) (spec_given_once files name h.spec k.spec h.gives k.gives) ∙ sym k.is
 
-file_ends_once : (files : List File) (c : LibraryCounts) (before : List SpecTree) (name : List ℕ) (i : ℕ) (outcome other : LoadStop) → (Rose c.faults c.faults' → ⊥) → outcome ≢ LoadStopOf.OutOfMemory → other ≢ LoadStopOf.OutOfMemory
-    → EndsAtFile (Some files) c before name i outcome → EndsAtFile (Some files) c before name i other → outcome ≡ other
-file_ends_once files c before name i outcome other quiet some others (by_file h) (by_file k) = stops_once files c name i outcome other quiet some others h k
-file_ends_once files c before name i outcome other quiet some others (by_file h) (by_category category is twice) = absurd (some (given_stops_for_memory files c name i twice.spec outcome twice.gives quiet h))
-file_ends_once files c before name i outcome other quiet some others (by_category category is twice) (by_file k) = absurd (others (given_stops_for_memory files c name i twice.spec other twice.gives quiet k))
-file_ends_once files c before name i outcome other quiet some others (by_category category is twice) (by_category next is' twice') =
+file_ends_once : (distinct : Bool) (files : List File) (c : LibraryCounts) (before : List SpecTree) (name : List ℕ) (i : ℕ) (outcome other : LoadStop) → (Rose c.faults c.faults' → ⊥) → outcome ≢ LoadStopOf.OutOfMemory → other ≢ LoadStopOf.OutOfMemory
+    → EndsAtFile distinct (Some files) c before name i outcome → EndsAtFile distinct (Some files) c before name i other → outcome ≡ other
+file_ends_once distinct files c before name i outcome other quiet some others (by_file h) (by_file k) = stops_once files c name i outcome other quiet some others h k
+file_ends_once distinct files c before name i outcome other quiet some others (by_file h) (by_category want category is twice) = absurd (some (given_stops_for_memory files c name i twice.spec outcome twice.gives quiet h))
+file_ends_once distinct files c before name i outcome other quiet some others (by_category want category is twice) (by_file k) = absurd (others (given_stops_for_memory files c name i twice.spec other twice.gives quiet k))
+file_ends_once distinct files c before name i outcome other quiet some others (by_category want category is twice) (by_category want' next is' twice') =
     is ∙ ap (LoadStopOf.CategoryTwice i) (twice_once files before name category next twice twice') ∙ sym is'
 
 -- ---- files one after another
 
 -- after specifications, these names end the run
-abbrev EndOn : List File → LibraryCounts → ℕ → List SpecTree → List (List ℕ) → LoadStop → Type 0
-EndOn files c i before [] outcome = ⊥
-EndOn files c i before (name ∷ more) outcome =
-    EndsAtFile (Some files) c before name i outcome
-    ⊎ ((spec : SpecTree) × GivesSpec (Some files) name spec × (spec_of spec.category before ≡ None) × EndOn files c (i + 1) (before ++ spec ∷ []) more outcome)
+abbrev EndOn : Bool → List File → LibraryCounts → ℕ → List SpecTree → List (List ℕ) → LoadStop → Type 0
+EndOn distinct files c i before [] outcome = ⊥
+EndOn distinct files c i before (name ∷ more) outcome =
+    EndsAtFile distinct (Some files) c before name i outcome
+    ⊎ ((spec : SpecTree) × GivesSpec (Some files) name spec × (IsTrue distinct → spec_of spec.category before ≡ None) × EndOn distinct files c (i + 1) (before ++ spec ∷ []) more outcome)
 
-ends_on : (files : List File) (c : LibraryCounts) (i : ℕ) (before : List SpecTree) (earlier : List (List ℕ)) (specs : List SpecTree) (name : List ℕ) (more : List (List ℕ)) (outcome : LoadStop) → EachGives (Some files) earlier specs → AreNewAfter before specs
-    → EndsAtFile (Some files) c (before ++ specs) name (i + length earlier) outcome → EndOn files c i before (earlier ++ (name ∷ more)) outcome
-ends_on files c i before [] [] name more outcome h new ends =
+ends_on : (distinct : Bool) (files : List File) (c : LibraryCounts) (i : ℕ) (before : List SpecTree) (earlier : List (List ℕ)) (specs : List SpecTree) (name : List ℕ) (more : List (List ℕ)) (outcome : LoadStop) → EachGives (Some files) earlier specs → (IsTrue distinct → AreNewAfter before specs)
+    → EndsAtFile distinct (Some files) c (before ++ specs) name (i + length earlier) outcome → EndOn distinct files c i before (earlier ++ (name ∷ more)) outcome
+ends_on distinct files c i before [] [] name more outcome h new ends =
     let e : i + length {A = List ℕ} [] ≡ i = omega arith in
-    inl (subst (λ n. EndsAtFile (Some files) c before name n outcome) e (subst (λ x. EndsAtFile (Some files) c x name (i + length {A = List ℕ} []) outcome) (append-nil before) ends))
-ends_on files c i before [] (s ∷ specs) name more outcome h new ends = absurd h
-ends_on files c i before (n ∷ earlier) [] name more outcome h new ends = absurd h
-ends_on files c i before (n ∷ earlier) (s ∷ specs) name more outcome h new ends =
+    inl (subst (λ n. EndsAtFile distinct (Some files) c before name n outcome) e (subst (λ x. EndsAtFile distinct (Some files) c x name (i + length {A = List ℕ} []) outcome) (append-nil before) ends))
+ends_on distinct files c i before [] (s ∷ specs) name more outcome h new ends = absurd h
+ends_on distinct files c i before (n ∷ earlier) [] name more outcome h new ends = absurd h
+ends_on distinct files c i before (n ∷ earlier) (s ∷ specs) name more outcome h new ends =
     let e : i + length (n ∷ earlier) ≡ (i + 1) + length earlier = omega arith in
     inr (
       s,
       h.0,
-      new.0,
-      ends_on files c (i + 1) (before ++ s ∷ []) earlier specs name more outcome h.1 new.1
-          (subst (λ k. EndsAtFile (Some files) c ((before ++ s ∷ []) ++ specs) name k outcome) e
-          (subst (λ x. EndsAtFile (Some files) c x name (i + length (n ∷ earlier)) outcome) (sym (append_assoc before (s ∷ []) specs)) ends)),
+      (λ want. (new want).0),
+      ends_on distinct files c (i + 1) (before ++ s ∷ []) earlier specs name more outcome h.1 (λ want. (new want).1)
+          (subst (λ k. EndsAtFile distinct (Some files) c ((before ++ s ∷ []) ++ specs) name k outcome) e
+          (subst (λ x. EndsAtFile distinct (Some files) c x name (i + length (n ∷ earlier)) outcome) (sym (append_assoc before (s ∷ []) specs)) ends)),
     )
 
-ends_from_the_start : (files : List File) (c : LibraryCounts) (names : List (List ℕ)) (outcome : LoadStop) → FilesEnd (Some files) c names outcome → EndOn files c 0 [] names outcome
-ends_from_the_start files c names outcome h =
+ends_from_the_start : (distinct : Bool) (files : List File) (c : LibraryCounts) (names : List (List ℕ)) (outcome : LoadStop) → FilesEnd distinct (Some files) c names outcome → EndOn distinct files c 0 [] names outcome
+ends_from_the_start distinct files c names outcome h =
     let e : 0 + length h.earlier ≡ length h.earlier = omega arith in
-    subst (λ n. EndOn files c 0 [] n outcome) (sym h.split)
-    (ends_on files c 0 [] h.earlier h.before h.name h.more outcome h.give.each h.give.distinct (subst (λ k. EndsAtFile (Some files) c h.before h.name k outcome) (sym e) h.ends))
+    subst (λ n. EndOn distinct files c 0 [] n outcome) (sym h.split)
+    (ends_on distinct files c 0 [] h.earlier h.before h.name h.more outcome h.give.each h.give.categories (subst (λ k. EndsAtFile distinct (Some files) c h.before h.name k outcome) (sym e) h.ends))
 
-given_ends_not : (files : List File) (c : LibraryCounts) (before : List SpecTree) (name : List ℕ) (i : ℕ) (spec : SpecTree) (outcome : LoadStop) → (Rose c.faults c.faults' → ⊥) → outcome ≢ LoadStopOf.OutOfMemory → GivesSpec (Some files) name spec → spec_of spec.category before ≡ None
-    → EndsAtFile (Some files) c before name i outcome → ⊥
-given_ends_not files c before name i spec outcome quiet some gives fresh (by_file h) = some (given_stops_for_memory files c name i spec outcome gives quiet h)
-given_ends_not files c before name i spec outcome quiet some gives fresh (by_category category is twice) =
+given_ends_not : (distinct : Bool) (files : List File) (c : LibraryCounts) (before : List SpecTree) (name : List ℕ) (i : ℕ) (spec : SpecTree) (outcome : LoadStop) → (Rose c.faults c.faults' → ⊥) → outcome ≢ LoadStopOf.OutOfMemory → GivesSpec (Some files) name spec → (IsTrue distinct → spec_of spec.category before ≡ None)
+    → EndsAtFile distinct (Some files) c before name i outcome → ⊥
+given_ends_not distinct files c before name i spec outcome quiet some gives fresh (by_file h) = some (given_stops_for_memory files c name i spec outcome gives quiet h)
+given_ends_not distinct files c before name i spec outcome quiet some gives fresh (by_category want category is twice) =
     let e : category ≡ spec.category = twice.is ∙ ap (λ s. s.category) (spec_given_once files name twice.spec spec twice.gives gives) in
-    none_is_none (spec_of spec.category before) fresh (subst (λ n. IsSome (spec_of n before)) e twice.twice)
+    none_is_none (spec_of spec.category before) (fresh want) (subst (λ n. IsSome (spec_of n before)) e twice.twice)
 
-ends_on_once : (files : List File) (c : LibraryCounts) (i : ℕ) (before : List SpecTree) (names : List (List ℕ)) (outcome other : LoadStop) → (Rose c.faults c.faults' → ⊥) → outcome ≢ LoadStopOf.OutOfMemory → other ≢ LoadStopOf.OutOfMemory
-    → EndOn files c i before names outcome → EndOn files c i before names other → outcome ≡ other
-ends_on_once files c i before [] outcome other quiet some others h k = absurd h
-ends_on_once files c i before (name ∷ more) outcome other quiet some others (inl h) (inl k) = file_ends_once files c before name i outcome other quiet some others h k
-ends_on_once files c i before (name ∷ more) outcome other quiet some others (inl h) (inr (spec, gives, fresh, k)) = absurd (given_ends_not files c before name i spec outcome quiet some gives fresh h)
-ends_on_once files c i before (name ∷ more) outcome other quiet some others (inr (spec, gives, fresh, h)) (inl k) = absurd (given_ends_not files c before name i spec other quiet others gives fresh k)
-ends_on_once files c i before (name ∷ more) outcome other quiet some others (inr (spec, gives, fresh, h)) (inr (spec', gives', fresh', k)) =
-    ends_on_once files c (i + 1) (before ++ spec ∷ []) more outcome other quiet some others h
-    (subst (λ s. EndOn files c (i + 1) (before ++ s ∷ []) more other) (spec_given_once files name spec' spec gives' gives) k)
+ends_on_once : (distinct : Bool) (files : List File) (c : LibraryCounts) (i : ℕ) (before : List SpecTree) (names : List (List ℕ)) (outcome other : LoadStop) → (Rose c.faults c.faults' → ⊥) → outcome ≢ LoadStopOf.OutOfMemory → other ≢ LoadStopOf.OutOfMemory
+    → EndOn distinct files c i before names outcome → EndOn distinct files c i before names other → outcome ≡ other
+ends_on_once distinct files c i before [] outcome other quiet some others h k = absurd h
+ends_on_once distinct files c i before (name ∷ more) outcome other quiet some others (inl h) (inl k) = file_ends_once distinct files c before name i outcome other quiet some others h k
+ends_on_once distinct files c i before (name ∷ more) outcome other quiet some others (inl h) (inr (spec, gives, fresh, k)) = absurd (given_ends_not distinct files c before name i spec outcome quiet some gives fresh h)
+ends_on_once distinct files c i before (name ∷ more) outcome other quiet some others (inr (spec, gives, fresh, h)) (inl k) = absurd (given_ends_not distinct files c before name i spec other quiet others gives fresh k)
+ends_on_once distinct files c i before (name ∷ more) outcome other quiet some others (inr (spec, gives, fresh, h)) (inr (spec', gives', fresh', k)) =
+    ends_on_once distinct files c (i + 1) (before ++ spec ∷ []) more outcome other quiet some others h
+    (subst (λ s. EndOn distinct files c (i + 1) (before ++ s ∷ []) more other) (spec_given_once files name spec' spec gives' gives) k)
 
-pub loading_ends_once : (files : List File) (c : LibraryCounts) (names : List (List ℕ)) (outcome other : LoadStop) → (Rose c.faults c.faults' → ⊥) → outcome ≢ LoadStopOf.OutOfMemory → other ≢ LoadStopOf.OutOfMemory
-    → FilesEnd (Some files) c names outcome → FilesEnd (Some files) c names other → outcome ≡ other
-loading_ends_once files c names outcome other quiet some others h k =
-    ends_on_once files c 0 [] names outcome other quiet some others (ends_from_the_start files c names outcome h) (ends_from_the_start files c names other k)
+pub loading_ends_once : (distinct : Bool) (files : List File) (c : LibraryCounts) (names : List (List ℕ)) (outcome other : LoadStop) → (Rose c.faults c.faults' → ⊥) → outcome ≢ LoadStopOf.OutOfMemory → other ≢ LoadStopOf.OutOfMemory
+    → FilesEnd distinct (Some files) c names outcome → FilesEnd distinct (Some files) c names other → outcome ≡ other
+loading_ends_once distinct files c names outcome other quiet some others h k =
+    ends_on_once distinct files c 0 [] names outcome other quiet some others (ends_from_the_start distinct files c names outcome h) (ends_from_the_start distinct files c names other k)

@@ -1,5 +1,5 @@
 -- The files of a command line, loaded one after another.
-use Rattle.std.proofs.Common.{◌≡◌, ℕ, ◌+◌, ◌<◌, ◌≤◌, List, [], ◌∷◌, ◌++◌, Option, None, IsSome, length, map, drop, get_or, refl, sym, ◌∙◌, ap, subst, drop-cons, add-one, arith}
+use Rattle.std.proofs.Common.{◌≡◌, ℕ, ◌+◌, ◌<◌, ◌≤◌, List, [], ◌∷◌, ◌++◌, Bool, IsTrue, Option, None, IsSome, length, map, drop, get_or, refl, sym, ◌∙◌, ap, subst, drop-cons, add-one, arith}
 use Rattle.ax_outside.specs.Files.{File}
 use Rattle.ax_check.specs.Adding.{WhyRefused}
 use Rattle.ax_check.specs.declared.catalogue.AddError.{AddError}
@@ -15,16 +15,16 @@ use Rattle.ax_load.specs.declared.fault.LoadStop.{LoadStop}
 use Rattle.ax_load.specs.declared.fault.LoadStop.TheVariants.{CategoryTwice, OutOfMemory}
 
 -- the first i files gave the catalogue, and these names are left
-pub record Loaded (files files' : Option (List File)) (names left : List (List ℕ)) (i file : ℕ) (catalogue : List Spec) (f f' t t' : ℕ) : Type 0 where
-  pub pass : Passed files names i (catalogue_tree catalogue) left
+pub record Loaded (distinct : Bool) (files files' : Option (List File)) (names left : List (List ℕ)) (i file : ℕ) (catalogue : List Spec) (f f' t t' : ℕ) : Type 0 where
+  pub pass : Passed distinct files names i (catalogue_tree catalogue) left
   pub number : file ≡ i
   pub keeps : files' ≡ files
   pub faults : f ≤ f'
   pub taken : t ≤ t'
 
-pub none_loaded : (files : Option (List File)) (names : List (List ℕ)) (catalogue : List Spec) (f t : ℕ) → catalogue ≡ [] → Loaded files files names names 0 0 catalogue f f t t
-none_loaded files names catalogue f t is = record {
-  pass = subst (λ s. Passed files names 0 (catalogue_tree s) names) (sym is) (none_passed files names);
+pub none_loaded : (distinct : Bool) (files : Option (List File)) (names : List (List ℕ)) (catalogue : List Spec) (f t : ℕ) → catalogue ≡ [] → Loaded distinct files files names names 0 0 catalogue f f t t
+none_loaded distinct files names catalogue f t is = record {
+  pass = subst (λ s. Passed distinct files names 0 (catalogue_tree s) names) (sym is) (none_passed distinct files names);
   number = refl;
   keeps = refl;
   faults = omega arith;
@@ -39,12 +39,12 @@ tree_after : (catalogue : List Spec) (one : Spec) → catalogue_tree (catalogue 
 tree_after [] one = refl
 tree_after (s ∷ more) one = ap (λ t. spec_tree s ∷ t) (tree_after more one)
 
-pub one_loaded : (files files' files'' : Option (List File)) (names left : List (List ℕ)) (name : List ℕ) (more : List (List ℕ)) (i file : ℕ) (catalogue new : List Spec) (one : Spec) (f f' f'' t t' t'' : ℕ)
-    → Loaded files files' names left i file catalogue f f' t t' → left ≡ name ∷ more → GivesSpec files' name (spec_tree one) → spec_of one.category (catalogue_tree catalogue) ≡ None
-    → new ≡ catalogue ++ one ∷ [] → files'' ≡ files' → f' ≤ f'' → t' ≤ t'' → Loaded files files'' names more (i + 1) (file + 1) new f f'' t t''
-one_loaded files files' files'' names left name more i file catalogue new one f f' f'' t t' t'' l is gives none new_is same lf lt = record {
-  pass = subst (λ s. Passed files names (i + 1) s more) (sym (ap catalogue_tree new_is ∙ tree_after catalogue one))
-      (one_passed files names i (catalogue_tree catalogue) name more (spec_tree one) (subst (λ x. Passed files names i (catalogue_tree catalogue) x) is l.pass) (subst (λ x. GivesSpec x name (spec_tree one)) l.keeps gives) none);
+pub one_loaded : (distinct : Bool) (files files' files'' : Option (List File)) (names left : List (List ℕ)) (name : List ℕ) (more : List (List ℕ)) (i file : ℕ) (catalogue new : List Spec) (one : Spec) (f f' f'' t t' t'' : ℕ)
+    → Loaded distinct files files' names left i file catalogue f f' t t' → left ≡ name ∷ more → GivesSpec files' name (spec_tree one) → (IsTrue distinct → spec_of one.category (catalogue_tree catalogue) ≡ None)
+    → new ≡ catalogue ++ one ∷ [] → files'' ≡ files' → f' ≤ f'' → t' ≤ t'' → Loaded distinct files files'' names more (i + 1) (file + 1) new f f'' t t''
+one_loaded distinct files files' files'' names left name more i file catalogue new one f f' f'' t t' t'' l is gives none new_is same lf lt = record {
+  pass = subst (λ s. Passed distinct files names (i + 1) s more) (sym (ap catalogue_tree new_is ∙ tree_after catalogue one))
+      (one_passed distinct files names i (catalogue_tree catalogue) name more (spec_tree one) (subst (λ x. Passed distinct files names i (catalogue_tree catalogue) x) is l.pass) (subst (λ x. GivesSpec x name (spec_tree one)) l.keeps gives) none);
   number = ap (λ n. n + 1) l.number;
   keeps = same ∙ l.keeps;
   faults = let a = l.faults in omega arith;
@@ -52,36 +52,36 @@ one_loaded files files' files'' names left name more i file catalogue new one f 
 }
 
 -- the file after those that passed ends the run
-pub ends_there : (files files' : Option (List File)) (c : LibraryCounts) (names left : List (List ℕ)) (name : List ℕ) (more : List (List ℕ)) (i file : ℕ) (catalogue : List Spec) (f f' t t' : ℕ) (outcome : LoadStop)
-    → Loaded files files' names left i file catalogue f f' t t' → left ≡ name ∷ more → EndsAtFile files c (catalogue_tree catalogue) name file outcome → FilesEnd files c names outcome
-ends_there files files' c names left name more i file catalogue f f' t t' outcome l is ends = record {
+pub ends_there : (distinct : Bool) (files files' : Option (List File)) (c : LibraryCounts) (names left : List (List ℕ)) (name : List ℕ) (more : List (List ℕ)) (i file : ℕ) (catalogue : List Spec) (f f' t t' : ℕ) (outcome : LoadStop)
+    → Loaded distinct files files' names left i file catalogue f f' t t' → left ≡ name ∷ more → EndsAtFile distinct files c (catalogue_tree catalogue) name file outcome → FilesEnd distinct files c names outcome
+ends_there distinct files files' c names left name more i file catalogue f f' t t' outcome l is ends = record {
   earlier = l.pass.earlier;
   name = name;
   more = more;
   split = l.pass.split ∙ ap (λ x. l.pass.earlier ++ x) is;
   before = catalogue_tree catalogue;
   give = l.pass.give;
-  ends = subst (λ n. EndsAtFile files c (catalogue_tree catalogue) name n outcome) (l.number ∙ l.pass.counted) ends;
+  ends = subst (λ n. EndsAtFile distinct files c (catalogue_tree catalogue) name n outcome) (l.number ∙ l.pass.counted) ends;
 }
 
-twice_ends : (files files' : Option (List File)) (c : LibraryCounts) (names left : List (List ℕ)) (name : List ℕ) (more : List (List ℕ)) (i file : ℕ) (catalogue : List Spec) (one : Spec) (category f f' t t' : ℕ)
-    → Loaded files files' names left i file catalogue f f' t t' → left ≡ name ∷ more → GivesSpec files' name (spec_tree one) → category ≡ one.category
-    → IsSome (spec_of one.category (catalogue_tree catalogue)) → FilesEnd files c names (CategoryTwice file category)
-twice_ends files files' c names left name more i file catalogue one category f f' t t' l is gives same twice =
-    ends_there files files' c names left name more i file catalogue f f' t t' (CategoryTwice file category) l is (by_category category refl (record {
+twice_ends : (distinct : Bool) (files files' : Option (List File)) (c : LibraryCounts) (names left : List (List ℕ)) (name : List ℕ) (more : List (List ℕ)) (i file : ℕ) (catalogue : List Spec) (one : Spec) (category f f' t t' : ℕ)
+    → Loaded distinct files files' names left i file catalogue f f' t t' → left ≡ name ∷ more → GivesSpec files' name (spec_tree one) → category ≡ one.category
+    → IsTrue distinct → IsSome (spec_of one.category (catalogue_tree catalogue)) → FilesEnd distinct files c names (CategoryTwice file category)
+twice_ends distinct files files' c names left name more i file catalogue one category f f' t t' l is gives same want twice =
+    ends_there distinct files files' c names left name more i file catalogue f f' t t' (CategoryTwice file category) l is (by_category want category refl (record {
       spec = spec_tree one;
       gives = subst (λ x. GivesSpec x name (spec_tree one)) l.keeps gives;
       is = same;
       twice = subst (λ x. IsSome (spec_of x (catalogue_tree catalogue))) (sym same) twice;
     }))
 
-memory_ends : (files files' : Option (List File)) (c : LibraryCounts) (names left : List (List ℕ)) (name : List ℕ) (more : List (List ℕ)) (i file : ℕ) (catalogue : List Spec) (f f' t t' : ℕ)
-    → Loaded files files' names left i file catalogue f f' t t' → left ≡ name ∷ more → FilesEnd files c names OutOfMemory
-memory_ends files files' c names left name more i file catalogue f f' t t' l is = ends_there files files' c names left name more i file catalogue f f' t t' OutOfMemory l is (by_file tt)
+memory_ends : (distinct : Bool) (files files' : Option (List File)) (c : LibraryCounts) (names left : List (List ℕ)) (name : List ℕ) (more : List (List ℕ)) (i file : ℕ) (catalogue : List Spec) (f f' t t' : ℕ)
+    → Loaded distinct files files' names left i file catalogue f f' t t' → left ≡ name ∷ more → FilesEnd distinct files c names OutOfMemory
+memory_ends distinct files files' c names left name more i file catalogue f f' t t' l is = ends_there distinct files files' c names left name more i file catalogue f f' t t' OutOfMemory l is (by_file tt)
 
-pub adding_ends : (files files' : Option (List File)) (c : LibraryCounts) (names left : List (List ℕ)) (name : List ℕ) (more : List (List ℕ)) (i file : ℕ) (catalogue : List Spec) (one : Spec) (f f' t t' : ℕ) (error : AddError) (outcome : LoadStop)
-    → Loaded files files' names left i file catalogue f f' t t' → left ≡ name ∷ more → GivesSpec files' name (spec_tree one) → WhyRefused catalogue one error → outcome ≡ stop_of_adding file error → FilesEnd files c names outcome
-adding_ends files files' c names left name more i file catalogue one f f' t t' (AddErrorOf.CategoryTwice category) outcome l is gives why same =
-    subst (λ x. FilesEnd files c names x) (sym same) (twice_ends files files' c names left name more i file catalogue one category f f' t t' l is gives why.0 why.1)
-adding_ends files files' c names left name more i file catalogue one f f' t t' AddErrorOf.OutOfMemory outcome l is gives why same =
-    subst (λ x. FilesEnd files c names x) (sym same) (memory_ends files files' c names left name more i file catalogue f f' t t' l is)
+pub adding_ends : (distinct : Bool) (files files' : Option (List File)) (c : LibraryCounts) (names left : List (List ℕ)) (name : List ℕ) (more : List (List ℕ)) (i file : ℕ) (catalogue : List Spec) (one : Spec) (f f' t t' : ℕ) (error : AddError) (outcome : LoadStop)
+    → Loaded distinct files files' names left i file catalogue f f' t t' → left ≡ name ∷ more → GivesSpec files' name (spec_tree one) → IsTrue distinct → WhyRefused catalogue one error → outcome ≡ stop_of_adding file error → FilesEnd distinct files c names outcome
+adding_ends distinct files files' c names left name more i file catalogue one f f' t t' (AddErrorOf.CategoryTwice category) outcome l is gives want why same =
+    subst (λ x. FilesEnd distinct files c names x) (sym same) (twice_ends distinct files files' c names left name more i file catalogue one category f f' t t' l is gives why.0 want why.1)
+adding_ends distinct files files' c names left name more i file catalogue one f f' t t' AddErrorOf.OutOfMemory outcome l is gives want why same =
+    subst (λ x. FilesEnd distinct files c names x) (sym same) (memory_ends distinct files files' c names left name more i file catalogue f f' t t' l is)

@@ -1,5 +1,5 @@
 -- Files give one answer.
-use Rattle.std.proofs.Common.{◌≡◌, ℕ, ◌≤◌, ◌⊎◌, inl, inr, List, [], ◌∷◌, ◌++◌, Option, Some, None, IsSome, length, append_assoc, append-nil, refl, sym, ◌∙◌, ap, subst, arith}
+use Rattle.std.proofs.Common.{◌≡◌, ℕ, ◌≤◌, ◌⊎◌, inl, inr, List, [], ◌∷◌, ◌++◌, Bool, IsTrue, Option, Some, None, IsSome, length, append_assoc, append-nil, refl, sym, ◌∙◌, ap, subst, arith}
 use Rattle.ax_outside.specs.Files.{File, octets_of, Lacks, IsLonger, Exceeds}
 use Rattle.ax_outside.specs.Told.{Rose}
 use Rattle.ax_model.specs.Flaws.{flaws_of}
@@ -77,30 +77,30 @@ none_is_none {A = A} x is h = let e : IsSome {T = A} None = subst IsSome is h in
 -- ---- files one after another
 
 -- after specifications, these names give the rest of the catalogue
-abbrev GiveOn : List File → List SpecTree → List (List ℕ) → List SpecTree → Type 0
-GiveOn files before [] catalogue = before ≡ catalogue
-GiveOn files before (name ∷ more) catalogue =
-    (spec : SpecTree) × GivesSpec (Some files) name spec × (spec_of spec.category before ≡ None) × GiveOn files (before ++ spec ∷ []) more catalogue
+abbrev GiveOn : Bool → List File → List SpecTree → List (List ℕ) → List SpecTree → Type 0
+GiveOn distinct files before [] catalogue = before ≡ catalogue
+GiveOn distinct files before (name ∷ more) catalogue =
+    (spec : SpecTree) × GivesSpec (Some files) name spec × (IsTrue distinct → spec_of spec.category before ≡ None) × GiveOn distinct files (before ++ spec ∷ []) more catalogue
 
-gives_on : (files : List File) (before : List SpecTree) (names : List (List ℕ)) (specs : List SpecTree) → EachGives (Some files) names specs → AreNewAfter before specs → GiveOn files before names (before ++ specs)
-gives_on files before [] [] h new = sym (append-nil before)
-gives_on files before [] (s ∷ specs) h new = absurd h
-gives_on files before (n ∷ names) [] h new = absurd h
-gives_on files before (n ∷ names) (s ∷ specs) h new =
-    (s, h.0, new.0, subst (λ x. GiveOn files (before ++ s ∷ []) names x) (append_assoc before (s ∷ []) specs) (gives_on files (before ++ s ∷ []) names specs h.1 new.1))
+gives_on : (distinct : Bool) (files : List File) (before : List SpecTree) (names : List (List ℕ)) (specs : List SpecTree) → EachGives (Some files) names specs → (IsTrue distinct → AreNewAfter before specs) → GiveOn distinct files before names (before ++ specs)
+gives_on distinct files before [] [] h new = sym (append-nil before)
+gives_on distinct files before [] (s ∷ specs) h new = absurd h
+gives_on distinct files before (n ∷ names) [] h new = absurd h
+gives_on distinct files before (n ∷ names) (s ∷ specs) h new =
+    (s, h.0, (λ want. (new want).0), subst (λ x. GiveOn distinct files (before ++ s ∷ []) names x) (append_assoc before (s ∷ []) specs) (gives_on distinct files (before ++ s ∷ []) names specs h.1 (λ want. (new want).1)))
 
-from_the_start : (files : List File) (names : List (List ℕ)) (catalogue : List SpecTree) → FilesGive (Some files) names catalogue → GiveOn files [] names catalogue
-from_the_start files names catalogue h = gives_on files [] names catalogue h.each h.distinct
+from_the_start : (distinct : Bool) (files : List File) (names : List (List ℕ)) (catalogue : List SpecTree) → FilesGive distinct (Some files) names catalogue → GiveOn distinct files [] names catalogue
+from_the_start distinct files names catalogue h = gives_on distinct files [] names catalogue h.each h.categories
 
-after : (files : List File) (before : List SpecTree) (name : List ℕ) (more : List (List ℕ)) (spec : SpecTree) (catalogue : List SpecTree) → GivesSpec (Some files) name spec → GiveOn files before (name ∷ more) catalogue → GiveOn files (before ++ spec ∷ []) more catalogue
-after files before name more spec catalogue gives (other, given, fresh, on) = subst (λ s. GiveOn files (before ++ s ∷ []) more catalogue) (spec_given_once files name other spec given gives) on
+after : (distinct : Bool) (files : List File) (before : List SpecTree) (name : List ℕ) (more : List (List ℕ)) (spec : SpecTree) (catalogue : List SpecTree) → GivesSpec (Some files) name spec → GiveOn distinct files before (name ∷ more) catalogue → GiveOn distinct files (before ++ spec ∷ []) more catalogue
+after distinct files before name more spec catalogue gives (other, given, fresh, on) = subst (λ s. GiveOn distinct files (before ++ s ∷ []) more catalogue) (spec_given_once files name other spec given gives) on
 
-up_to_there : (files : List File) (before : List SpecTree) (earlier : List (List ℕ)) (specs : List SpecTree) (left : List (List ℕ)) (catalogue : List SpecTree) → EachGives (Some files) earlier specs → GiveOn files before (earlier ++ left) catalogue → GiveOn files (before ++ specs) left catalogue
-up_to_there files before [] [] left catalogue h g = subst (λ x. GiveOn files x left catalogue) (sym (append-nil before)) g
-up_to_there files before [] (s ∷ specs) left catalogue h g = absurd h
-up_to_there files before (n ∷ earlier) [] left catalogue h g = absurd h
-up_to_there files before (n ∷ earlier) (s ∷ specs) left catalogue h g =
-    subst (λ x. GiveOn files x left catalogue) (append_assoc before (s ∷ []) specs) (up_to_there files (before ++ s ∷ []) earlier specs left catalogue h.1 (after files before n (earlier ++ left) s catalogue h.0 g))
+up_to_there : (distinct : Bool) (files : List File) (before : List SpecTree) (earlier : List (List ℕ)) (specs : List SpecTree) (left : List (List ℕ)) (catalogue : List SpecTree) → EachGives (Some files) earlier specs → GiveOn distinct files before (earlier ++ left) catalogue → GiveOn distinct files (before ++ specs) left catalogue
+up_to_there distinct files before [] [] left catalogue h g = subst (λ x. GiveOn distinct files x left catalogue) (sym (append-nil before)) g
+up_to_there distinct files before [] (s ∷ specs) left catalogue h g = absurd h
+up_to_there distinct files before (n ∷ earlier) [] left catalogue h g = absurd h
+up_to_there distinct files before (n ∷ earlier) (s ∷ specs) left catalogue h g =
+    subst (λ x. GiveOn distinct files x left catalogue) (append_assoc before (s ∷ []) specs) (up_to_there distinct files (before ++ s ∷ []) earlier specs left catalogue h.1 (after distinct files before n (earlier ++ left) s catalogue h.0 g))
 
 pub each_given_once : (files : List File) (names : List (List ℕ)) (specs others : List SpecTree) → EachGives (Some files) names specs → EachGives (Some files) names others → specs ≡ others
 each_given_once files [] [] [] h k = refl
@@ -110,22 +110,22 @@ each_given_once files (n ∷ names) [] others h k = absurd h
 each_given_once files (n ∷ names) specs [] h k = absurd k
 each_given_once files (n ∷ names) (s ∷ specs) (t ∷ others) h k = ap (λ x. x ∷ specs) (spec_given_once files n s t h.0 k.0) ∙ ap (λ x. t ∷ x) (each_given_once files names specs others h.1 k.1)
 
-pub given_once : (files : List File) (names : List (List ℕ)) (catalogue other : List SpecTree) → FilesGive (Some files) names catalogue → FilesGive (Some files) names other → catalogue ≡ other
-given_once files names catalogue other h k = each_given_once files names catalogue other h.each k.each
+pub given_once : (distinct : Bool) (files : List File) (names : List (List ℕ)) (catalogue other : List SpecTree) → FilesGive distinct (Some files) names catalogue → FilesGive distinct (Some files) names other → catalogue ≡ other
+given_once distinct files names catalogue other h k = each_given_once files names catalogue other h.each k.each
 
-twice_not_given : (files : List File) (before : List SpecTree) (name : List ℕ) (more : List (List ℕ)) (catalogue : List SpecTree) (category : ℕ) → HasCategoryTwice (Some files) before name category → GiveOn files before (name ∷ more) catalogue → ⊥
-twice_not_given files before name more catalogue category twice (spec, given, fresh, on) =
+twice_not_given : (distinct : Bool) (files : List File) (before : List SpecTree) (name : List ℕ) (more : List (List ℕ)) (catalogue : List SpecTree) (category : ℕ) → IsTrue distinct → HasCategoryTwice (Some files) before name category → GiveOn distinct files before (name ∷ more) catalogue → ⊥
+twice_not_given distinct files before name more catalogue category want twice (spec, given, fresh, on) =
     let same : spec ≡ twice.spec = spec_given_once files name spec twice.spec given twice.gives in
     let is : category ≡ spec.category = twice.is ∙ ap (λ s. s.category) (sym same) in
-    none_is_none (spec_of spec.category before) fresh (subst (λ n. IsSome (spec_of n before)) is twice.twice)
+    none_is_none (spec_of spec.category before) (fresh want) (subst (λ n. IsSome (spec_of n before)) is twice.twice)
 
-ends_for_memory : (files : List File) (c : LibraryCounts) (before : List SpecTree) (name : List ℕ) (more : List (List ℕ)) (i : ℕ) (catalogue : List SpecTree) (outcome : LoadStop) → (Rose c.faults c.faults' → ⊥)
-    → EndsAtFile (Some files) c before name i outcome → GiveOn files before (name ∷ more) catalogue → outcome ≡ LoadStopOf.OutOfMemory
-ends_for_memory files c before name more i catalogue outcome quiet (by_file h) (spec, given, fresh, on) = given_stops_for_memory files c name i spec outcome given quiet h
-ends_for_memory files c before name more i catalogue outcome quiet (by_category category is twice) g = absurd (twice_not_given files before name more catalogue category twice g)
+ends_for_memory : (distinct : Bool) (files : List File) (c : LibraryCounts) (before : List SpecTree) (name : List ℕ) (more : List (List ℕ)) (i : ℕ) (catalogue : List SpecTree) (outcome : LoadStop) → (Rose c.faults c.faults' → ⊥)
+    → EndsAtFile distinct (Some files) c before name i outcome → GiveOn distinct files before (name ∷ more) catalogue → outcome ≡ LoadStopOf.OutOfMemory
+ends_for_memory distinct files c before name more i catalogue outcome quiet (by_file h) (spec, given, fresh, on) = given_stops_for_memory files c name i spec outcome given quiet h
+ends_for_memory distinct files c before name more i catalogue outcome quiet (by_category want category is twice) g = absurd (twice_not_given distinct files before name more catalogue category want twice g)
 
 -- where the files give a catalogue and no fault of the library is counted, only want of memory ends the run at a file
-pub given_ends_for_memory : (files : List File) (c : LibraryCounts) (names : List (List ℕ)) (catalogue : List SpecTree) (outcome : LoadStop) → (Rose c.faults c.faults' → ⊥) → FilesGive (Some files) names catalogue → FilesEnd (Some files) c names outcome → outcome ≡ LoadStopOf.OutOfMemory
-given_ends_for_memory files c names catalogue outcome quiet h k =
-    ends_for_memory files c k.before k.name k.more (length k.earlier) catalogue outcome quiet k.ends
-    (up_to_there files [] k.earlier k.before (k.name ∷ k.more) catalogue k.give.each (subst (λ n. GiveOn files [] n catalogue) k.split (from_the_start files names catalogue h)))
+pub given_ends_for_memory : (distinct : Bool) (files : List File) (c : LibraryCounts) (names : List (List ℕ)) (catalogue : List SpecTree) (outcome : LoadStop) → (Rose c.faults c.faults' → ⊥) → FilesGive distinct (Some files) names catalogue → FilesEnd distinct (Some files) c names outcome → outcome ≡ LoadStopOf.OutOfMemory
+given_ends_for_memory distinct files c names catalogue outcome quiet h k =
+    ends_for_memory distinct files c k.before k.name k.more (length k.earlier) catalogue outcome quiet k.ends
+    (up_to_there distinct files [] k.earlier k.before (k.name ∷ k.more) catalogue k.give.each (subst (λ n. GiveOn distinct files [] n catalogue) k.split (from_the_start distinct files names catalogue h)))

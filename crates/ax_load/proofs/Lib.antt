@@ -3,3 +3,4 @@ pub mod Passes
 pub mod FilesLoaded
 pub mod FilesOnce
 pub mod EndsOnce
+pub mod TwoFiles

@@ -1,5 +1,5 @@
 -- Which specifications the files of a command line give, or how the run ends at the first one that gives none.
-use Rattle.std.specs.Prelude.{◌≡◌, ℕ, ◌⊎◌, List, [], ◌∷◌, ◌++◌, Option, None, IsSome, length}
+use Rattle.std.specs.Prelude.{◌≡◌, ℕ, ◌⊎◌, List, [], ◌∷◌, ◌++◌, Bool, IsTrue, Option, None, IsSome, length}
 use Rattle.ax_outside.specs.Files.{File, HoldsFile, Lacks, TooMany}
 use Rattle.ax_outside.specs.Changes.{LibraryCounts}
 use Rattle.ax_outside.specs.Told.{Rose}
@@ -28,10 +28,10 @@ abbrev pub AreNewAfter : List SpecTree → List SpecTree → Type 0
 AreNewAfter before [] = Unit {0}
 AreNewAfter before (spec ∷ specs) = (spec_of spec.category before ≡ None) × AreNewAfter (before ++ spec ∷ []) specs
 
--- the files give these specifications, no category twice
-pub record FilesGive (files : Option (List File)) (names : List (List ℕ)) (catalogue : List SpecTree) : Type 0 where
-  pub each : EachGives files names catalogue
-  pub distinct : AreNewAfter [] catalogue
+-- the files give these specifications, no category twice where the categories have to be distinct
+pub record FilesGive (distinct : Bool) (files : Option (List File)) (names : List (List ℕ)) (specs : List SpecTree) : Type 0 where
+  pub each : EachGives files names specs
+  pub categories : IsTrue distinct → AreNewAfter [] specs
 
 -- ---- a file ends the run: the one of number i, after files that gave these specifications
 
@@ -60,17 +60,17 @@ StopsAtFile files c name i (SpecRefused n fault) = (n ≡ i) × IsRefusedFile fi
 StopsAtFile files c name i OutOfMemory = Unit {0}
 StopsAtFile files c name i (CategoryTwice n category) = ⊥
 
--- a file ends the run by itself, or by its category, which is that of an earlier one
-pub data EndsAtFile (files : Option (List File)) (c : LibraryCounts) (before : List SpecTree) (name : List ℕ) (i : ℕ) (outcome : LoadStop) : Type 0 where
-  by_file : StopsAtFile files c name i outcome → EndsAtFile files c before name i outcome
-  by_category : (category : ℕ) → outcome ≡ CategoryTwice i category → HasCategoryTwice files before name category → EndsAtFile files c before name i outcome
+-- a file ends the run by itself, or, where the categories have to be distinct, by its category, which is that of an earlier one
+pub data EndsAtFile (distinct : Bool) (files : Option (List File)) (c : LibraryCounts) (before : List SpecTree) (name : List ℕ) (i : ℕ) (outcome : LoadStop) : Type 0 where
+  by_file : StopsAtFile files c name i outcome → EndsAtFile distinct files c before name i outcome
+  by_category : IsTrue distinct → (category : ℕ) → outcome ≡ CategoryTwice i category → HasCategoryTwice files before name category → EndsAtFile distinct files c before name i outcome
 
 -- the files before one give specifications, and that one ends the run so
-pub record FilesEnd (files : Option (List File)) (c : LibraryCounts) (names : List (List ℕ)) (outcome : LoadStop) : Type 0 where
+pub record FilesEnd (distinct : Bool) (files : Option (List File)) (c : LibraryCounts) (names : List (List ℕ)) (outcome : LoadStop) : Type 0 where
   pub earlier : List (List ℕ)
   pub name : List ℕ
   pub more : List (List ℕ)
   pub split : names ≡ earlier ++ (name ∷ more)
   pub before : List SpecTree
-  pub give : FilesGive files earlier before
-  pub ends : EndsAtFile files c before name (length earlier) outcome
+  pub give : FilesGive distinct files earlier before
+  pub ends : EndsAtFile distinct files c before name (length earlier) outcome

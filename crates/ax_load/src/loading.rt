@@ -1,5 +1,5 @@
 //! The category files of a command line, loaded one after another into a catalogue.
-ghost use Rattle.std.specs.Prelude.{◌≡◌, ◌≤◌, ◌<◌, length, map, IfOk, IfErr};
+ghost use Rattle.std.specs.Prelude.{◌≡◌, ◌≤◌, ◌<◌, true, false, [], ◌∷◌, length, map, IfOk, IfErr};
 ghost use Rattle.std.specs.String.{string_bytes};
 ghost use Rattle.ax_model.specs.Plain.{spec_tree, catalogue_tree};
 ghost use Rattle.ax_load.specs.Adding.{stop_of_adding};
@@ -61,8 +61,8 @@ pub fn load_catalogue<L: Library>(
     names: &[String],
 ) -> Result<Catalogue, LoadStop>
     requires { length names.now < 4294967296 }
-    ensures gives { IfOk result (λ catalogue. FilesGive (L.files library.old) (map string_bytes names.now) (catalogue_tree catalogue)) }
-    ensures ends { IfErr result (λ outcome. FilesEnd (L.files library.old) (library_counts L.Library library.old library.new) (map string_bytes names.now) outcome) }
+    ensures gives { IfOk result (λ catalogue. FilesGive true (L.files library.old) (map string_bytes names.now) (catalogue_tree catalogue)) }
+    ensures ends { IfErr result (λ outcome. FilesEnd true (L.files library.old) (library_counts L.Library library.old library.new) (map string_bytes names.now) outcome) }
     ensures keeps { L.files library.new ≡ L.files library.old }
     ensures number_never_falls { L.taken library.old ≤ L.taken library.new }
     ensures never_falls { L.faults library.old ≤ L.faults library.new }
@@ -77,4 +77,23 @@ pub fn load_catalogue<L: Library>(
         file += 1;
     }
     Ok(catalogue)
+}
+
+/// The specifications of two files, whatever their categories, or how the run ends at the first file that gives none.
+#[tactic(auto, using(crate::proofs::TwoFiles::two_files))]
+pub fn load_two<L: Library>(
+    alloc: Global,
+    library: &mut L,
+    first: &str,
+    second: &str,
+) -> Result<(Accepted, Accepted), LoadStop>
+    ensures gives { IfOk result (λ both. FilesGive false (L.files library.old) (first.now ∷ second.now ∷ []) (spec_tree both.0 ∷ spec_tree both.1 ∷ [])) }
+    ensures ends { IfErr result (λ outcome. FilesEnd false (L.files library.old) (library_counts L.Library library.old library.new) (first.now ∷ second.now ∷ []) outcome) }
+    ensures keeps { L.files library.new ≡ L.files library.old }
+    ensures number_never_falls { L.taken library.old ≤ L.taken library.new }
+    ensures never_falls { L.faults library.old ≤ L.faults library.new }
+{
+    let one = load_file(alloc, library, first, 0)?;
+    let other = load_file(alloc, library, second, 1)?;
+    Ok((one, other))
 }

@@ -22,6 +22,10 @@ library_counts ghosts before after = record {
   taken' = ghosts.taken after;
 }
 
+-- no fault of the library and no octet is counted
+abbrev pub none_counted : LibraryCounts
+none_counted = record { faults = 0; faults' = 0; taken = 0; taken' = 0 }
+
 -- nothing was loaded
 pub record IsUnasked (c : LibraryCounts) : Type 0 where
   pub faults : c.faults' ≡ c.faults
@@ -67,6 +71,13 @@ sink_change ghosts before after = record {
   faults = ghosts.faults before;
   faults' = ghosts.faults after;
 }
+
+-- a change in two steps: up to what is told and counted between, and from there on
+abbrev pub first_step : SinkChange → Option (List ℕ) → ℕ → SinkChange
+first_step o between counted = record { held = o.held; held' = between; faults = o.faults; faults' = counted }
+
+abbrev pub second_step : SinkChange → Option (List ℕ) → ℕ → SinkChange
+second_step o between counted = record { held = between; held' = o.held'; faults = counted; faults' = o.faults' }
 
 -- exactly the text was added
 abbrev pub Gains : SinkChange → List ℕ → Type 0

@@ -12,7 +12,7 @@ const MIXED_CANONICAL: &str =
     "30 00 06 80 19 0C 3E 00 05 80 FF 22 00 0A E0 19 0C 01 00 00 80 30 00 04 00";
 
 // The words, the input and the output, and how the calls are cut.
-const DONE: [(&str, &str, &str, Outside); 22] = [
+const DONE: [(&str, &str, &str, Outside); 23] = [
     ("canon A", "", "", Outside::Sound),
     ("canon A", NORTH, NORTH, Outside::Sound),
     ("canon E", NORTH, NORTH, Outside::Sound),
@@ -75,6 +75,7 @@ const DONE: [(&str, &str, &str, Outside); 22] = [
         Outside::Sound,
     ),
     ("canon A 048", MIXED, MIXED_CANONICAL, Outside::Sound),
+    ("canon S", "CC 00 05 01 00", "CC 00 04 00", Outside::Sound),
 ];
 
 #[test]
@@ -99,7 +100,7 @@ fn the_largest_block_is_unchanged(rt: HostRuntime) -> Result<(), Fail> {
 }
 
 // The words, the input, the output before the fault, the report, and how many octets aren't read.
-const REFUSED: [(&str, &str, &str, &str, usize); 21] = [
+const REFUSED: [(&str, &str, &str, &str, usize); 23] = [
     (
         "canon A",
         "22 00 04 01",
@@ -224,6 +225,21 @@ const REFUSED: [(&str, &str, &str, &str, usize); 21] = [
         "CC 00 04 41",
         "",
         "refused block 0 bit 25 UndefinedSlot\n",
+        0,
+    ),
+    // Want of octets can be cured by more of them, as a row of those done shows; a bad length can't.
+    (
+        "canon S",
+        "CC 00 04 01",
+        "",
+        "refused block 0 bit 32 RunsOut\n",
+        0,
+    ),
+    (
+        "canon 048",
+        "30 00 09 01 01 01 04 00 00",
+        "",
+        "refused block 0 bit 56 BadExplicitLength\n",
         0,
     ),
     // Nothing is read after the block, or the octets of framing, that are refused.

@@ -18,19 +18,23 @@ const FLAWS_OF_V: &str =
     "flaw file 0 BadScale 210/010\nflaw file 0 DuplicateItem 210/010\nflaw file 0 Empty 210/010\nflaw file 0 UnknownInUap 210/uap/020\nrefused file 0 Flawed 4\n";
 
 // The words, the exit status and the report.
-const REFUSED: [(&str, u8, &str); 21] = [
+const REFUSED: [(&str, u8, &str); 25] = [
     ("", 1, "refused usage\n"),
     ("canon", 1, "refused usage\n"),
     ("canon -x", 1, "refused usage\n"),
     ("check A E", 1, "refused usage\n"),
     ("check -x", 1, "refused usage\n"),
     ("other A", 1, "refused usage\n"),
+    ("filter", 1, "refused usage\n"),
+    ("filter A", 1, "refused usage\n"),
+    ("filter -x A", 1, "refused usage\n"),
     ("check F", 2, FLAWS_OF_F),
     ("check V", 2, FLAWS_OF_V),
     ("check short", 2, "refused file 0 BadToken token 16\n"),
     ("canon short", 2, "refused file 0 BadToken token 16\n"),
     ("check 256", 2, "refused file 0 BadToken token 1\n"),
     ("canon A 256", 2, "refused file 1 BadToken token 1\n"),
+    ("check behind", 2, "refused file 0 BadToken token 10\n"),
     ("check unended", 2, "refused file 0 BadByte at 23\n"),
     ("canon unended", 2, "refused file 0 BadByte at 23\n"),
     ("check deep", 2, "refused file 0 TooDeep token 55\n"),

@@ -9,6 +9,10 @@ mod categories;
 #[cfg(test)]
 mod checking;
 #[cfg(test)]
+mod filtering;
+#[cfg(test)]
+mod migrating;
+#[cfg(test)]
 mod outside;
 #[cfg(test)]
 mod texts;

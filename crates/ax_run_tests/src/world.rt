@@ -3,7 +3,8 @@
 use ax_app::run;
 use ax_outside::{MemLibrary, MemSink, MemSource, fill};
 use ax_samples::{
-    CAT019_P1, CAT034_P1, CAT048_P1, FILE_A, FILE_E, FILE_F, FILE_N, FILE_S, NESTED_TOO_DEEP,
+    CAT019_P1, CAT034_P1, CAT048_P1, CAT048_P2, FILE_A, FILE_E, FILE_F, FILE_G1, FILE_G2, FILE_H1,
+    FILE_H2, FILE_H3, FILE_N, FILE_S, NESTED_TOO_DEEP,
 };
 use std::alloc::{AllocError, Global};
 use std::process::Abort;
@@ -13,8 +14,15 @@ use std::test::Fail;
 const FILE_V: &str =
     r#"category 210 edition "V" items { item 010 "" element 8 quantity unsigned 0 1 "m" item 010 "" compound { } } uap { 020 }"#;
 
+// File H1 with another scale in its subitem A.
+const METRES: &str =
+    r#"category 202 edition "H1" items { item 010 "" compound { A element 8 quantity unsigned 1 2 "m" B element 16 raw } } uap { 010 }"#;
+
 const CUT_SHORT: &str =
     r#"category 034 edition "X" items { item 000 "T" element 8 raw } uap { 000"#;
+
+// A brace after the end of a text.
+const BRACE_BEHIND: &str = "category 034 edition \"X\" items { } uap { } }";
 
 const UNENDED: &str = r#"category 034 edition "X"#;
 
@@ -50,6 +58,8 @@ pub enum Outside {
     Room(u32),
     /// That write to the report fails.
     Report(u64),
+    /// The writes to the report take one octet each, and that one fails.
+    OctetReport(u64),
     /// The report has room for so many octets.
     ReportRoom(u32),
 }
@@ -101,10 +111,14 @@ fn report_of(alloc: Global, outside: Outside) -> Result<MemSink, AllocError> {
         _ => AMPLE,
     };
     let failing = match outside {
-        Outside::Report(call) => vec![in alloc; call]?,
+        Outside::Report(call) | Outside::OctetReport(call) => vec![in alloc; call]?,
         _ => Vec::new(alloc),
     };
-    MemSink::new(alloc, room, AMPLE, failing)
+    let largest = match outside {
+        Outside::OctetReport(_) => 1,
+        _ => AMPLE,
+    };
+    MemSink::new(alloc, room, largest, failing)
 }
 
 /// What a run leaves: its exit status, what stands on both outputs, and how many octets of the input were not
@@ -172,13 +186,21 @@ fn files(alloc: Global) -> Result<Vec<(String, Vec<u8>)>, AllocError> {
         ("A", FILE_A),
         ("E", FILE_E),
         ("F", FILE_F),
+        ("G1", FILE_G1),
+        ("G2", FILE_G2),
+        ("H1", FILE_H1),
+        ("H2", FILE_H2),
+        ("H3", FILE_H3),
         ("N", FILE_N),
         ("S", FILE_S),
         ("V", FILE_V),
         ("019", CAT019_P1),
         ("034", CAT034_P1),
         ("048", CAT048_P1),
+        ("048-P2", CAT048_P2),
+        ("metres", METRES),
         ("short", CUT_SHORT),
+        ("behind", BRACE_BEHIND),
         ("unended", UNENDED),
         ("256", NO_CATEGORY),
         ("deep", NESTED_TOO_DEEP),
@@ -205,16 +227,14 @@ pub fn left_of(alloc: Global, source: &mut MemSource) -> Result<usize, Fail> {
     Ok(fill(source, &mut buffer)?)
 }
 
-// Runs the words, which have blanks between them.
-fn ran(alloc: Global, words: &str, input: &[u8], outside: Outside) -> Result<Ended, Fail> {
-    let words = words_of(alloc, words)?;
+fn ran(alloc: Global, words: &Vec<String>, input: &[u8], outside: Outside) -> Result<Ended, Fail> {
     let mut library = library_of(alloc, outside)?;
     let mut source = source_of(alloc, outside, input)?;
     let mut out = out_of(alloc, outside)?;
     let mut report = report_of(alloc, outside)?;
     let outcome = run(
         alloc,
-        &words,
+        words,
         &mut library,
         &mut source,
         &mut out,
@@ -228,7 +248,7 @@ fn ran(alloc: Global, words: &str, input: &[u8], outside: Outside) -> Result<End
     })
 }
 
-/// Runs the words over this input, and asserts that the run leaves what is wanted.
+/// Runs the words, which have blanks between them, over this input, and asserts that the run leaves what is wanted.
 pub fn leaves(
     rt: &impl Abort,
     alloc: Global,
@@ -237,7 +257,30 @@ pub fn leaves(
     outside: Outside,
     want: Ended,
 ) -> Result<(), Fail> {
-    let got = ran(alloc, words, input, outside)?;
+    let got = ran(alloc, &words_of(alloc, words)?, input, outside)?;
     assert_eq!(rt; got, want, "of {words} over {input:?}");
+    Ok(())
+}
+
+/// Runs `filter` with that expression, which is one word, and with files, which have blanks between them, over this
+/// input, and asserts that the run leaves what is wanted.
+pub fn filter_leaves(
+    rt: &impl Abort,
+    alloc: Global,
+    expression: &str,
+    files: &str,
+    input: &[u8],
+    outside: Outside,
+    want: Ended,
+) -> Result<(), Fail> {
+    let mut words = vec![in alloc;
+        String::from_str(alloc, "filter")?,
+        String::from_str(alloc, expression)?,
+    ]?;
+    for file in files.split_whitespace() {
+        words.push(String::from_str(alloc, file)?)?;
+    }
+    let got = ran(alloc, &words, input, outside)?;
+    assert_eq!(rt; got, want, "of {expression} over {files} and {input:?}");
     Ok(())
 }

@@ -1,20 +1,16 @@
 //! Block commands over a stream: each block is judged as a whole, and its result written, up to the first fault.
 #![tactic(auto)]
 
-mod canon;
 mod driving;
 mod end;
 mod laws;
 mod making;
-mod opaque;
 mod stream;
 mod work;
 
-pub use canon::CanonMaker;
 pub use driving::drive;
 pub use end::{Cause, InputFault, StreamEnd};
 pub use laws::canon_writes_canonical_octets;
 pub use making::{BlockMaker, TreeWork};
-pub use opaque::opaque_octets;
 pub use stream::run_blocks;
 pub use work::{BlockWork, WorkStop};

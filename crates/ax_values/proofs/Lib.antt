@@ -2,6 +2,7 @@ pub mod Continuing
 pub mod Counting
 pub mod Exact
 pub mod FixedRead
+pub mod Honest
 pub mod Marking
 pub mod NextEntry
 pub mod Onto

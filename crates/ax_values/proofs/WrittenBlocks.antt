@@ -52,15 +52,33 @@ module _ (spec : Spec) (block : Block) (category : ℕ) (rs : List Record) (none
   pub read_are_octets : category < 256 → AreOctets (block_octets spec block)
   read_are_octets lt = subst (λ block. AreOctets (block_octets spec block)) (sym is) (read_octets spec category rs none at_read lt)
 
--- an opaque block
-module _ (spec : Spec) (block : Block) (category : ℕ) (content : List ℕ) (is : block ≡ BlockOf.Opaque category content) where
-  pub opaque_written : (old two new : Out) (n : ℕ) → n ≡ block_length spec block → Appends old two (word 8 category ++ word 16 n) → Appends two new (bits content) → Appends old new (bits (block_octets spec block))
-  opaque_written old two new n e a c =
-      let f : n ≡ length (framed category content) = e ∙ ap (block_length spec) is in
-      front_written old two new category n (bits content) (bits (block_octets spec block)) (ap (λ block. bits (block_octets spec block)) is ∙ framed_bits category content n f) a c
+-- ---- an opaque block
 
-  pub opaque_are_octets : category < 256 → AreOctets content → AreOctets (block_octets spec block)
-  opaque_are_octets lt h = subst (λ block. AreOctets (block_octets spec block)) (sym is) (framed_octets category content lt h)
+pub opaque_written : (old two new : Out) (category n : ℕ) (content : List ℕ) → n ≡ length content + 3 → Appends old two (word 8 category ++ word 16 n) → Appends two new (bits content) → Appends old new (bits (framed category content))
+opaque_written old two new category n content e a c =
+    let f : n ≡ length (framed category content) = omega (arith, e, length-framed category content) in
+    front_written old two new category n (bits content) (bits (framed category content)) (framed_bits category content n f) a c
+
+pub opaque_are_octets : (category : ℕ) (content : List ℕ) → category < 256 → AreOctets content → AreOctets (framed category content)
+opaque_are_octets category content lt h = framed_octets category content lt h
+
+pub ruleset opaque_blocks = (opaque_written, opaque_are_octets)
+
+module _ (spec : Spec) (block : Block) (category : ℕ) (content : List ℕ) (is : block ≡ BlockOf.Opaque category content) where
+  opaque_length : block_length spec block ≡ 3 + length content
+  opaque_length = ap (block_length spec) is ∙ length-framed category content
+
+  pub opaque_few : (n : ℕ) → n ≡ block_length spec block → n ≤ 65535 → length content ≤ 65532
+  opaque_few n e le = omega (arith, e, le, opaque_length)
+
+  pub opaque_room : (free : ℕ) → 8 * block_length spec block ≤ free → 24 + 8 * length content ≤ free
+  opaque_room free le = omega (arith, le, opaque_length)
+
+  pub of_opaque : (old new : Out) → Appends old new (bits (framed category content)) → Appends old new (bits (block_octets spec block))
+  of_opaque old new h = subst (λ block. Appends old new (bits (block_octets spec block))) (sym is) h
+
+  pub octets_of_opaque : AreOctets (framed category content) → AreOctets (block_octets spec block)
+  octets_of_opaque h = subst (λ block. AreOctets (block_octets spec block)) (sym is) h
 
 -- ---- a full buffer
 

@@ -8,6 +8,7 @@ ghost use Rattle.ax_model.specs.InBounds.{InBounds};
 ghost use Rattle.ax_model.specs.Plain.{kind_tree, value_tree, spec_tree, record_tree, records_tree, block_tree};
 ghost use Rattle.ax_model.specs.Tree.{ValueTree, EntriesTree};
 ghost use Rattle.ax_model.specs.declared.fault.BodyFault.{BodyFault};
+ghost use Rattle.ax_reader.specs.Honest.{SpellRecords, BeginWithValue, BeginWithRecord, IsHonest, IsHonestAt};
 ghost use Rattle.ax_reader.specs.Reading.{IsSpelledAt, IsFaultAt};
 ghost use Rattle.ax_values.specs.Decoding.{IsRecordAt, IsRecordFaultAt, IsReadOf, IsBodyFault, Answers, AnswersFault, Names};
 ghost use Rattle.ax_reader.specs.Reading.{IsMaskOf, record_slot_list};
@@ -23,6 +24,11 @@ use std::alloc::Global;
 /// item's, a subitem's or a counted body's. Ok is the value and the octet after it; the octets between are exactly a
 /// spelling of it. Fault is the first fault of what is left of the body, and its bit is one of the body. There is one
 /// answer: where such octets stand there, it is that value, and where what is left fails, it is that fault.
+///
+/// The fault can be trusted. It is RunsOut exactly where more octets, put after the body, can make what is left begin with
+/// a spelling. With any other cause, no bits that begin with those of what is left through the named one begin with a
+/// spelling; for BadExplicitLength that is said of the bits through the whole octet. And for every cause, the bits before
+/// the named one begin some spelling: none of them tells a fault.
 pub fn decode_kind(
     alloc: Global,
     kind: &Kind,
@@ -34,6 +40,7 @@ pub fn decode_kind(
     requires at { at ≤ length body.now }
     ensures value { IfOk result (λ r. IsSpelledAt (kind_tree kind.now) body.now at r.1 (value_tree r.0)) }
     ensures fault { IfErr result (Names (IsFaultAt (kind_tree kind.now) body.now at)) }
+    ensures honest { IfErr result (Names (IsHonestAt (BeginWithValue (kind_tree kind.now)) body.now at)) }
     ensures where_spelled { (v : ValueTree) (end : ℕ) → IsSpelledAt (kind_tree kind.now) body.now at end v → Answers (λ r. (value_tree r.0 ≡ v) × (r.1 ≡ end)) result }
     ensures where_faulty { (fault : BodyFault) → IsFaultAt (kind_tree kind.now) body.now at fault → AnswersFault fault result }
 {
@@ -42,7 +49,7 @@ pub fn decode_kind(
 
 /// Reads the record that begins at octet `at` of a body, over a specification without flaw. Ok is the record and the
 /// octet after it; the octets between are exactly a spelling of it. Fault is the first fault of what is left of the
-/// body, and its bit is one of the body. There is one answer, as for a kind.
+/// body, and its bit is one of the body. There is one answer, as for a kind, and the fault can be trusted in the same way.
 pub fn decode_record(
     alloc: Global,
     spec: &Spec,
@@ -54,6 +61,7 @@ pub fn decode_record(
     requires at { at ≤ length body.now }
     ensures record { IfOk result (λ r. IsRecordAt (spec_tree spec.now) body.now at r.1 (record_tree r.0)) }
     ensures fault { IfErr result (Names (IsRecordFaultAt (spec_tree spec.now) body.now at)) }
+    ensures honest { IfErr result (Names (IsHonestAt (BeginWithRecord (spec_tree spec.now)) body.now at)) }
     ensures where_spelled { (entries : EntriesTree) (end : ℕ) → IsRecordAt (spec_tree spec.now) body.now at end entries → Answers (λ r. (record_tree r.0 ≡ entries) × (r.1 ≡ end)) result }
     ensures where_faulty { (fault : BodyFault) → IsRecordFaultAt (spec_tree spec.now) body.now at fault → AnswersFault fault result }
 {
@@ -63,11 +71,17 @@ pub fn decode_record(
 /// Reads a block over a specification without flaw. A block of another category is opaque, whatever its octets. A block
 /// of the specification's category has the records that its body spells, or the body's first fault, with its bit in the
 /// body. There is one answer: where the body spells records, it is these, and where the body fails, it is that fault.
+///
+/// The fault can be trusted. It is RunsOut exactly where more octets, put after the body, can make it spell records. With
+/// any other cause, no bits that begin with those of the body through the named one spell records; for BadExplicitLength
+/// that is said of the bits through the whole octet. And for every cause, the bits before the named one begin some bits
+/// that spell records: none of them tells a fault.
 pub fn decode_block(alloc: Global, spec: &Spec, raw: &RawBlock<'_>) -> Result<Block, DecodeError>
     requires spec { NoFlaw (spec_tree spec.now) }
     ensures opaque { raw.now.category ≢ spec.now.category → Answers (λ block. block_tree block ≡ opaque_block raw.now.category raw.now.body.now) result }
     ensures read { raw.now.category ≡ spec.now.category → IfOk result (λ block. IsReadOf (spec_tree spec.now) raw.now.category raw.now.body.now (block_tree block)) }
     ensures fault { IfErr result (Names (λ fault. (raw.now.category ≡ spec.now.category) × IsBodyFault (spec_tree spec.now) raw.now.body.now fault)) }
+    ensures honest { IfErr result (Names (λ fault. IsHonest (SpellRecords (spec_tree spec.now)) raw.now.body.now fault.bit fault.cause)) }
     ensures where_spelled { (records : List EntriesTree) → raw.now.category ≡ spec.now.category → SpellsBody (spec_tree spec.now) records (bits raw.now.body.now) → Answers (λ block. block_tree block ≡ read_block raw.now.category records) result }
     ensures where_faulty { (fault : BodyFault) → raw.now.category ≡ spec.now.category → IsBodyFault (spec_tree spec.now) raw.now.body.now fault → AnswersFault fault result }
 {

@@ -1,7 +1,8 @@
 //! Blocks to octets.
-ghost use Rattle.std.specs.Prelude.{◌≡◌, ◌*◌, ◌<◌, ◌≤◌, ◌⊎◌, ◌↔◌, ◌++◌, length, IfOk, IfErr, IsErrOf};
+ghost use Rattle.std.specs.Prelude.{◌≡◌, ◌+◌, ◌*◌, ◌<◌, ◌≤◌, ◌⊎◌, ◌↔◌, ◌++◌, length, IfOk, IfErr, IsErrOf};
 ghost use Rattle.ax_bits.specs.Bits.{bits, word, AreOctets};
 ghost use Rattle.ax_bits.specs.Out.{Appends, room};
+ghost use Rattle.ax_model.specs.CanonicalOctets.{framed};
 ghost use Rattle.ax_model.specs.Lengths.{held};
 ghost use Rattle.ax_model.specs.OfCode.{HasNoFlaw, BlockFits, block_octets, block_length};
 ghost use Rattle.ax_values.specs.Decoding.{ReadsBack};
@@ -97,10 +98,21 @@ fn write_block(block: &Block, spec: &Spec, length: u16, out: &mut Out<'_>)
             write_body(records, spec, out);
         }
         Block::Opaque { category, octets } => {
-            write_front(*category, length, out);
-            write_octets(octets.as_slice(), out);
+            write_opaque(*category, octets.as_slice(), out);
         }
     }
+}
+
+/// Appends a block of a category without a specification: CAT, LEN, and at most 65,532 octets as they are.
+#[tactic(auto, using(crate::proofs::WrittenBlocks::opaque_blocks))]
+pub fn write_opaque(category: u8, octets: &[u8], out: &mut Out<'_>)
+    requires few { length octets.now ≤ 65532 }
+    requires room { 24 + 8 * length octets.now ≤ room out.old }
+    ensures written { Appends out.old out.new (bits (framed category octets.now)) }
+    ensures octets { AreOctets (framed category octets.now) }
+{
+    write_front(category, octets.len() as u16 + 3, out);
+    write_octets(octets, out);
 }
 
 /// Appends CAT and LEN.

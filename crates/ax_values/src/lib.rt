@@ -16,5 +16,5 @@ mod write_records;
 mod write_units;
 
 pub use decode::{decode_block, decode_kind, decode_record};
-pub use encode::encode_block;
+pub use encode::{encode_block, write_opaque};
 pub use error::{DecodeError, EncodeError};

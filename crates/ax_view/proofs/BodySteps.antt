@@ -22,8 +22,9 @@ use Rattle.ax_tables.specs.declared.codec.Codec.{Codec}
 use Rattle.ax_tables.specs.declared.node.Node.{Node}
 use Rattle.ax_reader.proofs.AtOctets.{octets_parts}
 use Rattle.ax_reader.proofs.Exact.{spelled_at, fault_at}
+use Rattle.ax_reader.proofs.Honest.{body_honest}
 use Rattle.ax_reader.specs.Reading.{Gets, FailsAt, kind_read}
-use Rattle.ax_view.specs.Views.{IsLeast, SpellsSome, FailsThere}
+use Rattle.ax_view.specs.Views.{IsLeast, SpellsSome, FailsThere, IsHonestThere}
 use Rattle.ax_view.specs.Walking.{Walks}
 
 -- ---- a record's value is its entries
@@ -133,6 +134,9 @@ body_lost codec body at before fault h lt l = record {
         fails = record { fails = f.fails.fails };
       });
 }
+
+pub lost_honest : (codec : Codec) (body : List ℕ) (fault : BodyFault) → FailsThere codec body fault → IsHonestThere codec body fault
+lost_honest codec body fault h = record { honest = λ spec clean stands. body_honest spec body fault.bit fault.cause clean (h.fails spec clean stands) }
 
 pub some_records : (spec : SpecTree) (rs : List EntriesTree) (b : List ℕ) → RecordsSpell spec rs b → 0 < length b → 0 < length rs
 some_records spec [] b h some = absurd (omega (arith, ap length h))

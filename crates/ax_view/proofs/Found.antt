@@ -30,6 +30,7 @@ use Rattle.ax_view.proofs.NodeKinds.{is_element, is_group, no_part, is_extended,
 use Rattle.ax_model.specs.At.{slot_value}
 use Rattle.ax_tables.specs.declared.codec.Codec.{Codec}
 use Rattle.ax_view.specs.Values.{IsItem, IsItemOf, ItemInBounds, IsAll, IsOne, value_read, entries_found, value_in, entries_in}
+use Rattle.ax_view.specs.InPlace.{StandsInPlace}
 use Rattle.ax_view.specs.Shown.{IsOfSlot, IsSubitem}
 use Rattle.ax_view.specs.Walking.{Walks}
 use Rattle.ax_view.specs.declared.item.ItemView.{ItemView}
@@ -87,7 +88,7 @@ is_false : (b : Bool) → (b ≡ true → ⊥) → b ≡ false
 is_false true h = absurd (h refl)
 is_false false h = refl
 
-not_same : (a b : ℕ) → (a ≡ b → ⊥) → (a == b) ≡ false
+pub not_same : (a b : ℕ) → (a ≡ b → ⊥) → (a == b) ≡ false
 not_same a b apart = is_false (a == b) (λ y. apart (eqb-true a b y))
 
 here_is : (slot t : ℕ) (v : ValueTree) (es : EntriesTree) → (t == slot) ≡ true → slot_value slot (entry_and t v es) ≡ Some v
@@ -226,11 +227,13 @@ module _ (codec : Codec) (link : ℕ) (fx : Bool) (body : List ℕ) (one : Node)
 
 -- the place of a subitem
 pub subitem_place : (outer : ItemView) (slot : ℕ) (one : Node) (mask : SlotMask) (links found : List ℕ) (r : Option ItemView) → 0 < outer.link → outer.link ≤ length outer.codec.now.nodes → one ≡ get_or outer.codec.now.nodes (outer.link - 1) one
-    → one ≡ Of.Compound mask links → found ≡ links → IfSome r (IsOfSlot outer.codec.now found slot) → IfSome r (IsSubitem outer slot)
-subitem_place outer slot one mask links found None some within at e f h = tt
-subitem_place outer slot one mask links found (Some item) some within at e f h = record {
+    → one ≡ Of.Compound mask links → found ≡ links → IfSome r (IsOfSlot outer.codec.now found slot)
+    → IfSome r (λ item. StandsInPlace outer.codec.now.nodes found slot outer.body.now item.body.now) → IfSome r (IsSubitem outer slot)
+subitem_place outer slot one mask links found None some within at e f h k = tt
+subitem_place outer slot one mask links found (Some item) some within at e f h k = record {
   mask = mask;
   links = links;
   node = get_or_default outer.codec.now.nodes (outer.link - 1) Of.Explicit one (omega arith) ∙ sym at ∙ e;
   of_slot = subst (λ links. IsOfSlot outer.codec.now links slot item) f h;
+  in_place = subst (λ links. StandsInPlace outer.codec.now.nodes links slot outer.body.now item.body.now) f k;
 }

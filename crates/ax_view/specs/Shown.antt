@@ -8,6 +8,7 @@ use Rattle.ax_tables.specs.Table.{kind_at, record_kind_at}
 use Rattle.ax_tables.specs.declared.codec.Codec.{Codec}
 use Rattle.ax_tables.specs.declared.node.Node.{Node}
 use Rattle.ax_tables.specs.declared.node.Node.TheVariants as Of
+use Rattle.ax_view.specs.InPlace.{StandsInPlace}
 use Rattle.ax_view.specs.Left.{Occurrence, occurrences_shown}
 use Rattle.ax_view.specs.Spots.{lists_in}
 use Rattle.ax_view.specs.Values.{value_in, entries_in}
@@ -55,12 +56,13 @@ pub record IsOfSlot (codec : Codec) (links : List ℕ) (slot : ℕ) (item : Item
   pub link_is : item.link ≡ get_or links (slot - 1) 0
   pub whole : item.by_fx ≡ false
 
--- the item is of this slot of a compound
+-- the item is of this slot of a compound, and its octets stand in their place there
 pub record IsSubitem (outer : ItemView) (slot : ℕ) (item : ItemView) : Type 0 where
   pub mask : SlotMask
   pub links : List ℕ
   pub node : get_or outer.codec.now.nodes (outer.link - 1) Of.Explicit ≡ Of.Compound mask links
   pub of_slot : IsOfSlot outer.codec.now links slot item
+  pub in_place : StandsInPlace outer.codec.now.nodes links slot outer.body.now item.body.now
 
 -- ---- parts
 

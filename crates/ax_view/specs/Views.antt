@@ -8,6 +8,7 @@ use Rattle.ax_model.specs.Flaws.{NoFlaw}
 use Rattle.ax_model.specs.Specification.{SpecTree}
 use Rattle.ax_model.specs.Tree.{EntriesTree}
 use Rattle.ax_model.specs.declared.fault.BodyFault.{BodyFault}
+use Rattle.ax_reader.specs.Honest.{SpellRecords, IsHonest}
 use Rattle.ax_tables.specs.Standing.{StandsFor}
 use Rattle.ax_tables.specs.declared.codec.Codec.{Codec}
 
@@ -26,6 +27,10 @@ pub record SpellsSome (codec : Codec) (body : List ℕ) : Type 0 where
 -- the body fails there, for each specification that the codec stands for
 pub record FailsThere (codec : Codec) (body : List ℕ) (fault : BodyFault) : Type 0 where
   pub fails : (spec : SpecTree) → NoFlaw spec → StandsFor codec spec → FailsBody spec (bits body) fault.bit fault.cause
+
+-- the fault can be trusted, for each specification that the codec stands for
+pub record IsHonestThere (codec : Codec) (body : List ℕ) (fault : BodyFault) : Type 0 where
+  pub honest : (spec : SpecTree) → NoFlaw spec → StandsFor codec spec → IsHonest (SpellRecords spec) body fault.bit fault.cause
 
 -- that many records are spelled
 pub record CountsRecords (codec : Codec) (body : List ℕ) (count : ℕ) : Type 0 where

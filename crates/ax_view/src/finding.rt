@@ -10,6 +10,7 @@ ghost use Rattle.ax_tables.specs.Meaning.{meanings, linked_slots};
 ghost use Rattle.ax_tables.specs.Table.{IsTable, SlotLinksWithin, kind_at, record_kind_at};
 ghost use Rattle.ax_reader.specs.Reading.{FailsAt, IsMaskOf, kind_read, entries_at};
 ghost use Rattle.ax_model.specs.At.{slot_value, number_at};
+ghost use Rattle.ax_view.specs.InPlace.{FollowsEntries, StandsInPlace};
 ghost use Rattle.ax_view.specs.Shown.{item_value, IsOfSlot};
 ghost use Rattle.ax_view.specs.Values.{IsAll, IsOne, entries_found, value_in, entries_in, SpellsAny};
 ghost use Rattle.ax_view.specs.Walking.{Walks};
@@ -20,7 +21,8 @@ use crate::octets::walk;
 use ax_fspec::{Presence, SlotMask, read_presence};
 use ax_tables::Codec;
 
-/// The value of a slot in octets that spell a value of these slots. None comes exactly where the slot isn't marked.
+/// The value of a slot in octets that spell a value of these slots, in its own place there: after the presence field and
+/// the values of the marked slots before. None comes exactly where the slot isn't marked.
 pub(crate) fn find<'c, 'a>(
     codec: &'c Codec,
     mask: &SlotMask,
@@ -34,6 +36,7 @@ pub(crate) fn find<'c, 'a>(
     requires one { IsOne (record_kind_at codec.now.nodes slots.now) body.now }
     ensures value { option_map item_value result ≡ slot_value slot (entries_in (value_in (record_kind_at codec.now.nodes slots.now) body.now)) }
     ensures place { IfSome result (IsOfSlot codec.now slots.now slot) }
+    ensures window { IfSome result (λ item. StandsInPlace codec.now.nodes slots.now slot body.now item.body.now) }
 {
     let mut marked = Presence::empty();
     match read_presence(mask, body, 0, &mut marked) {
@@ -60,6 +63,7 @@ fn find_marked<'c, 'a>(
     requires all { IsAll (entries_at (Tree.slots_of (linked_slots (meanings codec.now.nodes) slots.now)) marked body.now at) }
     ensures value { option_map item_value result ≡ slot_value slot (entries_found (entries_at (Tree.slots_of (linked_slots (meanings codec.now.nodes) slots.now)) marked body.now at)) }
     ensures place { IfSome result (IsOfSlot codec.now slots.now slot) }
+    ensures window { IfSome result (λ item. FollowsEntries codec.now.nodes slots.now slot (entries_found (entries_at (Tree.slots_of (linked_slots (meanings codec.now.nodes) slots.now)) marked body.now at)) body.now at item.body.now) }
 {
     let mut notes = Notes::new();
     let mut left = marked;

@@ -30,8 +30,8 @@ impl<'c, 'a> ItemView<'c, 'a> {
         self.body
     }
 
-    /// The subitem of a slot, which counts from 1. None comes exactly where this isn't a compound with that slot
-    /// marked.
+    /// The subitem of a slot, which counts from 1, in its octets of the compound: those after the presence field and the
+    /// subitems before. None comes exactly where this isn't a compound with that slot marked.
     pub fn subitem(&self, slot: u32) -> Option<ItemView<'c, 'a>>
         ensures value { option_map item_value result ≡ slot_value slot (item_entries self.now) }
         ensures place { IfSome result (IsSubitem self.now slot) }

@@ -2,6 +2,7 @@
 ghost use Rattle.std.specs.Prelude.{◌≡◌, ◌∷◌, option_map, IfSome};
 ghost use Rattle.ax_model.specs.At.{slot_value, value_at, is_present, At};
 ghost use Rattle.ax_model.specs.Tree.{marked};
+ghost use Rattle.ax_view.specs.InPlace.{StandsInPlace};
 ghost use Rattle.ax_view.specs.Shown.{item_value, record_entries, IsOfSlot};
 ghost use Rattle.ax_view.specs.Spots.{IsSpot};
 ghost use Rattle.ax_view.specs.Values.{SpellsAny};
@@ -22,10 +23,12 @@ impl<'c, 'a> RecordView<'c, 'a> {
         self.body
     }
 
-    /// The item of a field reference number. None comes exactly where it isn't marked.
+    /// The item of a field reference number, in its octets of the record: those after the presence field and the items before.
+    /// None comes exactly where it isn't marked.
     pub fn item(&self, frn: u32) -> Option<ItemView<'c, 'a>>
         ensures value { option_map item_value result ≡ slot_value frn (record_entries self.now) }
         ensures place { IfSome result (IsOfSlot self.now.codec.now self.now.codec.now.slots frn) }
+    ensures window { IfSome result (λ item. StandsInPlace self.now.codec.now.nodes self.now.codec.now.slots frn self.now.body.now item.body.now) }
     {
         find(
             self.codec,

@@ -9,7 +9,7 @@ use Rattle.ax_canon.proofs.Patching.{body_shape}
 use Rattle.ax_canon.specs.Blocks.{IsCanonical}
 use Rattle.ax_model.specs.Blocks.{read_block}
 use Rattle.ax_model.specs.Bodies.{SpellsBody, CanonBody}
-use Rattle.ax_model.specs.CanonicalOctets.{canon_block, octets_of}
+use Rattle.ax_model.specs.CanonicalOctets.{canon_block, framed, octets_of}
 use Rattle.ax_model.specs.Flaws.{NoFlaw}
 use Rattle.ax_model.specs.Specification.{SpecTree}
 use Rattle.ax_model.specs.Tree.{EntriesTree}
@@ -60,3 +60,17 @@ is_block codec body n output are few few_octets h spec records clean stands spel
 
 pub octets_laid : (codec : Codec) (body : List ℕ) (n : ℕ) (output : List ℕ) → ((i : ℕ) → get_or output i 0 < 256) → codec.category < 256 → length body ≤ 65532 → LaysBits codec body n (bits output) → LaysCanonical codec body n output
 octets_laid codec body n output items few few_octets h = record { block = is_block codec body n output (AreOctets-items output items) few few_octets h }
+
+-- ---- an opaque block
+
+-- what was appended first stands at the front
+pub front_laid : (old new : Out) (xs : List ℕ) → written old ≡ [] → Appends old new (bits xs) → take (8 * length xs) (bits new.buffer.now) ≡ bits xs
+front_laid old new xs none h =
+    let is : take new.count (bits new.buffer.now) ≡ bits xs = h.written ∙ ap (λ w. w ++ bits xs) none in
+    let all : length (bits new.buffer.now) ≡ 8 * length new.buffer.now = length-bits new.buffer.now in
+    let size : length (take new.count (bits new.buffer.now)) ≡ new.count = length-take-le new.count (bits new.buffer.now) (omega (arith, all, new.within.0)) in
+    let count : new.count ≡ 8 * length xs = omega (arith, size, ap length is, length-bits xs) in
+    ap (λ k. take k (bits new.buffer.now)) (sym count) ∙ is
+
+pub opaque_octets : (category n : ℕ) (body output : List ℕ) → ((i : ℕ) → get_or output i 0 < 256) → n ≡ length body + 3 → AreOctets (framed category body) → take (8 * n) (bits output) ≡ bits (framed category body) → take n output ≡ framed category body
+opaque_octets category n body output items e are laid = bits-injective (take n output) (framed category body) (octets_front n output (AreOctets-items output items)) are (sym (take-bits n output) ∙ laid)

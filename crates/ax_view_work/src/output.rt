@@ -1,6 +1,6 @@
 //! Blocks laid at the front of an output.
-ghost use Rattle.std.specs.Prelude.{◌≡◌, ◌≤◌, length, take, IfOk, IfErr};
-ghost use Rattle.ax_bits.specs.Bits.{bits};
+ghost use Rattle.std.specs.Prelude.{◌≡◌, ◌+◌, ◌*◌, ◌≤◌, length, take, IfOk, IfErr};
+ghost use Rattle.ax_bits.specs.Bits.{bits, AreOctets};
 ghost use Rattle.ax_model.specs.CanonicalOctets.{framed};
 ghost use Rattle.ax_view.specs.Views.{FailsThere, SpellsSome};
 ghost use Rattle.ax_view_work.specs.Laid.{LaysBits, LaysCanonical};
@@ -9,6 +9,7 @@ use ax_bits::Out;
 use ax_canon::canonical;
 use ax_model::{BodyFault, RawBlock};
 use ax_tables::Codec;
+use ax_values::write_opaque;
 use ax_view::{BlockView, scan};
 use std::alloc::{AllocError, Global};
 
@@ -59,9 +60,17 @@ pub(crate) fn lay_opaque(raw: &RawBlock<'_>, output: &mut [u8]) -> u32
     ensures within { result ≤ 65535 }
     ensures room { length output.new ≡ 65535 }
 {
-    let count = raw.body.len() + 3;
-    let (header, body) = output.split_at_mut(3);
-    header.copy_from_slice(&[raw.category, (count / 256) as u8, (count % 256) as u8]);
-    body[..raw.body.len()].copy_from_slice(raw.body);
-    count as u32
+    lay_opaque_bits(raw, output);
+    raw.body.len() as u32 + 3
+}
+
+/// The same, by bits.
+fn lay_opaque_bits(raw: &RawBlock<'_>, output: &mut [u8])
+    requires room { length output.old ≡ 65535 }
+    ensures laid { take (8 * (length raw.now.body.now + 3)) (bits output.new) ≡ bits (framed raw.now.category raw.now.body.now) }
+    ensures octets { AreOctets (framed raw.now.category raw.now.body.now) }
+    ensures room { length output.new ≡ 65535 }
+{
+    let mut out = Out::over(output);
+    write_opaque(raw.category, raw.body, &mut out);
 }

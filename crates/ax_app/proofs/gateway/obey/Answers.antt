@@ -8,8 +8,8 @@ use Rattle.ax_app.proofs.gateway.obey.Goals as goal
 pub returns-in_default-clause-runs : goal.returns-in_default-clause-runs
 returns-in_default-clause-runs g c = at_words (subst (λ words. HasNoShape (map string_bytes words)) c.deref.ensures.value c.in_default.ensures) refl (record { faults = refl; taken = refl }) (record { untouched = record { left = refl; taken = refl }; out = refl; report = refl })
 
-pub do_job-requires : goal.do_job-requires
-do_job-requires g c = ready _ _ _ _ _ c.in-Some.ensures.before c.in-Some.ensures.count c.in-Ok.ensures.gives.each
+pub do_job-requires-clause-ready : goal.do_job-requires-clause-ready
+do_job-requires-clause-ready g c = ready _ _ _ _ _ c.in-Some.ensures.before c.in-Some.ensures.form c.in-Some.ensures.count c.in-Ok.ensures.gives.each
 
 pub returns-in-Ok-do_job-clause-runs : goal.returns-in-Ok-do_job-clause-runs
 returns-in-Ok-do_job-clause-runs g c =

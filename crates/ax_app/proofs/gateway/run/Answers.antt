@@ -1,5 +1,5 @@
 use Rattle.ax_app.proofs.Stages.{headline, usage_only, usage_there, causes, causes_on, completes, reads_all, ended}
-use Rattle.ax_app.proofs.SoFar.{so_far, later_on}
+use Rattle.ax_app.proofs.OwnOutcomes.{of_its_command, later_on}
 use Rattle.ax_app.proofs.gateway.run.Goals as goal
 
 pub returns-clause-headline : goal.returns-clause-headline
@@ -21,8 +21,8 @@ pub returns-clause-completes : goal.returns-clause-completes
 returns-clause-completes g c = λ files input job count written reported octets is left quiet d can.
     completes _ _ files _ input _ _ _ _ _ _ _ _ _ _ job count written reported c.obey-outcome.ensures.later.report c.write_lines.ensures.later c.write_lines.ensures c.obey-outcome.ensures.runs octets is left quiet d can
 
-pub returns-clause-so_far : goal.returns-clause-so_far
-returns-clause-so_far g c = so_far _ _ _ _ _ _ _ c.obey-outcome.ensures.runs
+pub returns-clause-of_its_command : goal.returns-clause-of_its_command
+returns-clause-of_its_command g c = of_its_command _ _ _ _ _ _ _ c.obey-outcome.ensures.runs
 
 pub returns-clause-later : goal.returns-clause-later
 returns-clause-later g c = later_on _ _ _ _ _ _ _ _ _ c.write_lines.ensures.later c.obey-outcome.ensures.later

@@ -3,8 +3,13 @@ use Rattle.ax_bits.specs.Bits.{bits}
 use Rattle.ax_model.proofs.Once.{body_once, body_never_both}
 use Rattle.ax_model.specs.Blocks.{read_block}
 use Rattle.ax_model.specs.Plain.{spec_tree, records_tree, block_tree}
+use Rattle.ax_values.proofs.Honest.{honest_block}
 use Rattle.ax_values.proofs.RecordSlots.{err_spelled, err_faulty}
 use Rattle.ax_values.proofs.decode.decode_block.Goals as goal
+
+pub returns-in_err-records-clause-honest : goal.returns-in_err-records-clause-honest
+returns-in_err-records-clause-honest c =
+    honest_block (spec_tree c.args.spec.now) c.args.raw.now.body.now c.from_residual-in_err-records.result c.in_err-records.field-0.0 c.requires.spec c.from_residual-in_err-records.ensures.1 c.in_err-records.ensures.fault
 
 pub returns-in_err-records-clause-where_spelled : goal.returns-in_err-records-clause-where_spelled
 returns-in_err-records-clause-where_spelled c records e s =

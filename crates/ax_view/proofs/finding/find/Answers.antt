@@ -4,6 +4,7 @@ use Rattle.ax_reader.proofs.Marking.{marks_bits}
 use Rattle.ax_model.specs.At.{slot_value}
 use Rattle.ax_view.proofs.Compounds.{marks_clear, slots_bounds}
 use Rattle.ax_view.proofs.Found.{field_never, marks_all, entries_are}
+use Rattle.ax_view.proofs.Placed.{found_in_place}
 use Rattle.ax_view.proofs.finding.find.Goals as goal
 
 pub find_marked-requires-clause-bounds : goal.find_marked-requires-clause-bounds
@@ -24,3 +25,8 @@ returns-in-Ok-clause-value c =
 
 pub returns-in-Err-clause-value : goal.returns-in-Err-clause-value
 returns-in-Err-clause-value c = absurd (field_never c.args.codec.now.nodes c.args.slots.now c.args.mask.now c.args.body.now c.requires.mask c.requires.one _ c.in-Err.ensures.err)
+
+pub returns-in-Ok-clause-window : goal.returns-in-Ok-clause-window
+returns-in-Ok-clause-window c =
+    found_in_place c.args.codec.now.nodes c.args.slots.now c.args.slot c.args.mask.now c.args.body.now c.read_presence.new.into c.in-Ok.here _ c.find_marked.result c.requires.mask c.in-Ok.ensures.ok
+    (entries_are c.args.codec.now.nodes c.args.slots.now c.args.mask.now c.args.body.now c.requires.mask c.requires.one c.read_presence.new.into c.in-Ok.here c.in-Ok.ensures.ok) c.find_marked.ensures.window

@@ -2,6 +2,7 @@ use Rattle.std.proofs.Common.{◌-◌, length}
 use Rattle.ax_tables.specs.Meaning.{meanings, linked_slots}
 use Rattle.ax_view.proofs.MarkedSteps.{next_marked, within_at}
 use Rattle.ax_view.proofs.Found.{next_lost, left_next, next_found, next_one, left_none}
+use Rattle.ax_view.proofs.Placed.{passed_next, follows}
 use Rattle.ax_view.proofs.finding.find_marked.Goals as goal
 
 pub bounds-slots-next : goal.bounds-slots-next
@@ -42,8 +43,13 @@ returns-then-next-slot-clause-value c =
 pub loop-next-preserved : goal.loop-next-preserved
 loop-next-preserved c =
     let n = next_marked c.args.codec.now.nodes c.args.slots.now c.loop-next.left c.take_first.new.self _ c.in-Some.next c.requires.bounds c.loop-next.invariant.left.clear c.loop-next.invariant.left.are_bits c.in-Some.ensures.some c.in-Some.ensures.marks in
-    record { left = left_next c.args.codec.now.nodes c.args.slots.now c.args.marked c.loop-next.left c.take_first.new.self c.args.body.now c.in-Some.next c.args.at c.loop-next.here c.args.slot c.loop-next.invariant.left n c.in_ok-end.end c.walk_of.new.notes.least c.in_ok-end.ensures.end c.if-next-slot.false }
+    record { left = left_next c.args.codec.now.nodes c.args.slots.now c.args.marked c.loop-next.left c.take_first.new.self c.args.body.now c.in-Some.next c.args.at c.loop-next.here c.args.slot c.loop-next.invariant.left n c.in_ok-end.end c.walk_of.new.notes.least c.in_ok-end.ensures.end c.if-next-slot.false; passed = passed_next c.args.codec.now.nodes c.args.slots.now c.args.marked c.loop-next.left c.take_first.new.self c.args.body.now c.in-Some.next c.args.at c.loop-next.here c.args.slot c.loop-next.invariant.left c.loop-next.invariant.passed n c.in_ok-end.end c.walk_of.new.notes.least c.in_ok-end.ensures.end c.if-next-slot.false }
 
 pub returns-clause-value : goal.returns-clause-value
 returns-clause-value c =
     left_none (linked_slots (meanings c.args.codec.now.nodes) c.args.slots.now) c.args.marked c.loop-next.left c.args.body.now c.args.at c.loop-next.here c.args.slot c.loop-next.invariant.left c.in_default.ensures.none
+
+pub returns-then-next-slot-clause-window : goal.returns-then-next-slot-clause-window
+returns-then-next-slot-clause-window c =
+    let n = next_marked c.args.codec.now.nodes c.args.slots.now c.loop-next.left c.take_first.new.self _ c.in-Some.next c.requires.bounds c.loop-next.invariant.left.clear c.loop-next.invariant.left.are_bits c.in-Some.ensures.some c.in-Some.ensures.marks in
+    follows c.args.codec.now.nodes c.args.slots.now c.args.marked c.loop-next.left c.take_first.new.self c.args.body.now c.in-Some.next c.args.at c.loop-next.here c.args.slot c.loop-next.invariant.left c.loop-next.invariant.passed n c.in_ok-end.end c.walk_of.new.notes.least c.in_ok-end.ensures.end c.if-next-slot.true

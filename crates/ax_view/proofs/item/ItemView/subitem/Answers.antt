@@ -27,4 +27,4 @@ returns-in_default-clause-value c = sym (ap (slot_value c.args.slot) (no_compoun
 
 pub returns-in-Compound-clause-place : goal.returns-in-Compound-clause-place
 returns-in-Compound-clause-place c =
-    subitem_place c.args.self.now c.args.slot c.node.result.now c.in-Compound.mask c.in-Compound.slots c.as_slice.result.now c.find.result c.args.self.now.item.some c.args.self.now.item.within c.node.ensures c.in-Compound.is c.as_slice.ensures.members c.find.ensures.place
+    subitem_place c.args.self.now c.args.slot c.node.result.now c.in-Compound.mask c.in-Compound.slots c.as_slice.result.now c.find.result c.args.self.now.item.some c.args.self.now.item.within c.node.ensures c.in-Compound.is c.as_slice.ensures.members c.find.ensures.place c.find.ensures.window

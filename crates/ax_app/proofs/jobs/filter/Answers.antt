@@ -1,0 +1,16 @@
+use Rattle.std.proofs.Common.{ap, subst, map}
+use Rattle.std.specs.String.{string_bytes}
+use Rattle.ax_filter.specs.OfCode.{expression}
+use Rattle.ax_filter.specs.Texts.{IsFilterText}
+use Rattle.ax_model.specs.Plain.{catalogue_tree}
+use Rattle.ax_app.proofs.Filters.{filter_runs, filter_refuses}
+use Rattle.ax_app.proofs.jobs.filter.Goals as goal
+
+pub returns-in-Ok-clause-runs : goal.returns-in-Ok-clause-runs
+returns-in-Ok-clause-runs g c =
+    filter_runs _ (string_bytes c.in-Some.expression.now) _ (ap (map string_bytes) c.in-Some.ensures.cases.0) c.requires _ _ (expression c.in-Ok.filter) _ _ _ _ _
+    (subst (λ t. IsFilterText (catalogue_tree c.args.catalogue.now) t (expression c.in-Ok.filter)) c.as_bytes.ensures.value c.in-Ok.ensures.filter) c.in-Ok.ensures.over c.new-work.ensures c.run_blocks.ensures.runs
+
+pub returns-in-Err-Refused-clause-stopped : goal.returns-in-Err-Refused-clause-stopped
+returns-in-Err-Refused-clause-stopped g c =
+    rw c.in-Err-Refused.field-0-is (filter_refuses _ (string_bytes c.in-Some.expression.now) _ (ap (map string_bytes) c.in-Some.ensures.cases.0) c.requires _ _ _ _ c.as_bytes.ensures.value c.in-Err-Refused.field-0-is c.in-Err-Refused.ensures.stop)

@@ -1,0 +1,113 @@
+//! The records of a block that an expression holds of, in canonical form.
+use crate::fixtures::{catalogue, keeps};
+use ax_samples::{CAT034_P1, CAT048_P1};
+use std::test::Fail;
+
+// A record with SAC 25, in the canonical form and with a presence octet too many.
+const SAC: &str = "30 00 06 80 19 0C";
+
+const SAC_REDUNDANT: &str = "30 00 07 81 00 19 0C";
+
+// A record of each category, with one item and the same octets.
+const OF_034: &str = "22 00 06 80 19 0C";
+
+// Item 020 with its first part alone, and with its second part, in which TST is 1.
+const ONE_PART: &str = "30 00 05 20 A0";
+
+const TWO_PARTS: &str = "30 00 06 20 A1 80";
+
+// Item 130 with its subitem SRR alone.
+const SRR: &str = "30 00 06 02 40 05";
+
+// The expression, the block, and what it keeps of it.
+const KEPT: [(&str, &str, &str); 24] = [
+    (
+        "is 048/010/SAC = 25",
+        "30 00 0C 80 19 0C 80 1A 0C 80 19 0D",
+        "30 00 09 80 19 0C 80 19 0D",
+    ),
+    (
+        "not { is 048/010/SAC = 25 }",
+        "30 00 0C 80 19 0C 80 1A 0C 80 19 0D",
+        "30 00 06 80 1A 0C",
+    ),
+    ("present 034/010", SAC, ""),
+    ("present 048/010", SAC, SAC),
+    ("present 034/010", OF_034, OF_034),
+    ("any { present 034/010 present 048/010 }", SAC, SAC),
+    ("any { present 034/010 present 048/010 }", OF_034, OF_034),
+    ("all { present 034/010 present 048/010 }", SAC, ""),
+    ("is 034/010/SAC = 25", SAC, ""),
+    ("any { }", SAC_REDUNDANT, ""),
+    ("all { }", SAC_REDUNDANT, SAC),
+    ("not { any { } }", SAC_REDUNDANT, SAC),
+    ("all { }", "30 00 04 00", "30 00 04 00"),
+    ("present 048/020/TYP", ONE_PART, ONE_PART),
+    ("present 048/020/TST", ONE_PART, ""),
+    ("not { is 048/020/TST = 1 }", ONE_PART, ONE_PART),
+    ("is 048/020/TST != 1", ONE_PART, ""),
+    ("present 048/020/TST", TWO_PARTS, TWO_PARTS),
+    ("is 048/020/TST = 1", TWO_PARTS, TWO_PARTS),
+    ("is 048/020/TST != 1", TWO_PARTS, ""),
+    ("present 048/130", SRR, SRR),
+    ("present 048/130/SRL", SRR, ""),
+    ("present 048/130/SRR", SRR, SRR),
+    (
+        "is 048/090/FL < 0",
+        "30 00 08 0C 0E 00 3F FF",
+        "30 00 08 0C 0E 00 3F FF",
+    ),
+];
+
+#[test]
+fn records_are_kept(rt: HostRuntime) -> Result<(), Fail> {
+    let alloc = rt.alloc();
+    let files = catalogue(&rt, alloc, CAT034_P1, CAT048_P1)?;
+    for (text, block, want) in KEPT {
+        keeps(&rt, alloc, &files, text, block, want)?;
+    }
+    Ok(())
+}
+
+// Elements of the greatest width, without a sign and with one.
+const FILE_WIDE: &str = r#"category 209 edition "W" items {
+item 010 "" element 128 raw
+item 020 "" element 128 integer signed
+} uap { 010 020 }"#;
+
+// 2^128 - 1 and, in two's complement, -1 and -2^127.
+const ONES: &str = "D1 00 14 80 FF FF FF FF FF FF FF FF FF FF FF FF FF FF FF FF";
+
+const MINUS_ONE: &str = "D1 00 14 40 FF FF FF FF FF FF FF FF FF FF FF FF FF FF FF FF";
+
+const LEAST: &str = "D1 00 14 40 80 00 00 00 00 00 00 00 00 00 00 00 00 00 00 00";
+
+const WIDE: [(&str, &str, &str); 5] = [
+    (
+        "is 209/010 > 99999999999999999999999999999999999999",
+        ONES,
+        ONES,
+    ),
+    ("is 209/010 = -1", ONES, ""),
+    ("is 209/020 = -1", MINUS_ONE, MINUS_ONE),
+    (
+        "is 209/020 < -99999999999999999999999999999999999999",
+        LEAST,
+        LEAST,
+    ),
+    (
+        "is 209/020 < -99999999999999999999999999999999999999",
+        MINUS_ONE,
+        "",
+    ),
+];
+
+#[test]
+fn the_greatest_width(rt: HostRuntime) -> Result<(), Fail> {
+    let alloc = rt.alloc();
+    let files = catalogue(&rt, alloc, CAT034_P1, FILE_WIDE)?;
+    for (text, block, want) in WIDE {
+        keeps(&rt, alloc, &files, text, block, want)?;
+    }
+    Ok(())
+}

@@ -1,0 +1,12 @@
+use Rattle.std.proofs.Common.{false, [], ◌∷◌}
+use Rattle.ax_outside.specs.Changes.{library_counts}
+use Rattle.ax_load.specs.Loading.{FilesEnd}
+use Rattle.ax_load.proofs.TwoFiles.{first_ends, second_ends, passed_on}
+use Rattle.ax_load.proofs.loading.load_two.Goals as goal
+
+pub returns-in_err-one-clause-ends : goal.returns-in_err-one-clause-ends
+returns-in_err-one-clause-ends g c = passed_on c.from_residual.result c.in_err-one.field-0.0 _ c.from_residual.ensures.1 (first_ends _ _ _ _ _ c.in_err-one.ensures.stops)
+
+pub returns-in_err-other-clause-ends : goal.returns-in_err-other-clause-ends
+returns-in_err-other-clause-ends g c = passed_on c.from_residual-in_err-other.result c.in_err-other.field-0.0 _ c.from_residual-in_err-other.ensures.1
+    (second_ends _ _ _ _ _ _ _ _ _ _ _ _ c.in_ok-one.ensures.gives c.load_file.ensures.keeps c.load_file.ensures.never_falls c.load_file.ensures.number_never_falls c.in_err-other.ensures.stops)

@@ -1,0 +1,269 @@
+//! `migrate`: blocks of one edition in another, the lines of their losses, and what stands where a call fails.
+
+use crate::world::{Outside, leaves, wanted};
+use ax_samples::octets;
+use std::alloc::Global;
+use std::test::Fail;
+
+const PLOT: &str = "30 00 08 A0 19 0C A1 00";
+
+const PLOT_MIGRATED: &str = "30 00 06 80 19 0C";
+
+const PLOT_TWICE: &str = "30 00 08 A0 19 0C A1 00 30 00 08 A0 19 0C A1 00";
+
+const TARGET_REPORT: &str =
+    "30 00 1E FD D0 19 0C 35 00 00 A0 19 00 40 00 0E 00 05 78 3C 65 01 04 2C 60 82 08 20 00 2A";
+
+const FULL: &str = "CA 00 08 80 C0 11 22 33";
+
+const FULL_MIGRATED: &str = "CA 00 07 80 80 22 33";
+
+const FULL_TWICE: &str = "CA 00 08 80 C0 11 22 33 CA 00 08 80 C0 11 22 33";
+
+// How the outside fails, the words and the input; and the status, the output, the report, and how many octets aren't read.
+const RUNS: [(Outside, &str, &str, u8, &str, &str, usize); 21] = [
+    (
+        Outside::Sound,
+        "migrate 048 048-P2",
+        PLOT,
+        0,
+        PLOT_MIGRATED,
+        "lost block 0 record 0 048/020\n",
+        0,
+    ),
+    (
+        Outside::Sound,
+        "migrate 048 048",
+        TARGET_REPORT,
+        0,
+        TARGET_REPORT,
+        "",
+        0,
+    ),
+    (
+        Outside::Sound,
+        "migrate H1 H2",
+        FULL,
+        0,
+        FULL_MIGRATED,
+        "lost block 0 record 0 202/010/A\n",
+        0,
+    ),
+    (
+        Outside::Sound,
+        "migrate H1 H3",
+        FULL,
+        0,
+        "CA 00 04 00",
+        "lost block 0 record 0 202/010\nlost block 0 record 0 202/010/A\nlost block 0 record 0 202/010/B\n",
+        0,
+    ),
+    (
+        Outside::Sound,
+        "migrate H1 metres",
+        FULL,
+        0,
+        "CA 00 07 80 40 22 33",
+        "lost block 0 record 0 202/010/A\n",
+        0,
+    ),
+    // A file beside itself is of its own category.
+    (Outside::Sound, "migrate H1 H1", FULL, 0, FULL, "", 0),
+    (
+        Outside::Sound,
+        "migrate H1 H2",
+        "3E 00 05 80 FF CA 00 06 80 80 11",
+        0,
+        "3E 00 05 80 FF CA 00 05 80 00",
+        "lost block 1 record 0 202/010/A\n",
+        0,
+    ),
+    (Outside::Sound, "migrate H1 H2", "", 0, "", "", 0),
+    (
+        Outside::Sound,
+        "migrate A 048",
+        PLOT,
+        2,
+        "",
+        "refused editions 034 048\n",
+        8,
+    ),
+    (
+        Outside::Sound,
+        "migrate 048 A",
+        PLOT,
+        2,
+        "",
+        "refused editions 048 034\n",
+        8,
+    ),
+    (
+        Outside::Sound,
+        "migrate A short",
+        PLOT,
+        2,
+        "",
+        "refused file 1 BadToken token 16\n",
+        8,
+    ),
+    (
+        Outside::Sound,
+        "migrate short Q",
+        PLOT,
+        2,
+        "",
+        "refused file 0 BadToken token 16\n",
+        8,
+    ),
+    (
+        Outside::Load(1),
+        "migrate H1 H2",
+        FULL,
+        4,
+        "",
+        "fault file 1\n",
+        8,
+    ),
+    (
+        Outside::Sound,
+        "migrate H1",
+        FULL,
+        1,
+        "",
+        "refused usage\n",
+        8,
+    ),
+    (
+        Outside::Sound,
+        "migrate H1 H2 H3",
+        FULL,
+        1,
+        "",
+        "refused usage\n",
+        8,
+    ),
+    // A block with a fault has no line.
+    (
+        Outside::Sound,
+        "migrate H1 H2",
+        "CA 00 06 80 80 11 CA 00 08 80 80 11 80 80",
+        3,
+        "CA 00 05 80 00",
+        "lost block 0 record 0 202/010/A\nrefused block 1 bit 64 RunsOut\n",
+        0,
+    ),
+    // The lines of a block stand before its octets.
+    (
+        Outside::Write(1),
+        "migrate 048 048-P2",
+        PLOT_TWICE,
+        4,
+        PLOT_MIGRATED,
+        "lost block 0 record 0 048/020\nlost block 1 record 0 048/020\nfault write\n",
+        0,
+    ),
+    (
+        Outside::Write(0),
+        "migrate H1 H3",
+        FULL_TWICE,
+        4,
+        "",
+        "lost block 0 record 0 202/010\nlost block 0 record 0 202/010/A\nlost block 0 record 0 202/010/B\nfault write\n",
+        8,
+    ),
+    (
+        Outside::Report(0),
+        "migrate H1 H2",
+        FULL_TWICE,
+        4,
+        "",
+        "",
+        8,
+    ),
+    (
+        Outside::ReportRoom(40),
+        "migrate H1 H2",
+        FULL_TWICE,
+        4,
+        FULL_MIGRATED,
+        "lost block 0 record 0 202/010/A\nlost blo",
+        0,
+    ),
+    (
+        Outside::ReportRoom(40),
+        "migrate H1 H2",
+        FULL,
+        0,
+        FULL_MIGRATED,
+        "lost block 0 record 0 202/010/A\n",
+        0,
+    ),
+];
+
+#[test]
+fn editions_of_one_category(rt: HostRuntime) -> Result<(), Fail> {
+    let alloc = rt.alloc();
+    for (outside, words, input, status, out, report, left) in RUNS {
+        let input = octets(alloc, input)?;
+        let want = wanted(alloc, status, &octets(alloc, out)?, report, left)?;
+        leaves(&rt, alloc, words, &input, outside, want)?;
+    }
+    Ok(())
+}
+
+// The call of the report that fails, each taking one octet; and the status, the output, the report, and how many octets
+// aren't read. The block whose line is cut isn't written, and no line comes after it.
+const CUT_LINES: [(u64, u8, &str, &str, usize); 5] = [
+    (0, 4, "", "", 8),
+    (31, 4, "", "lost block 0 record 0 202/010/A", 8),
+    (32, 4, FULL_MIGRATED, "lost block 0 record 0 202/010/A\n", 0),
+    (
+        63,
+        4,
+        FULL_MIGRATED,
+        "lost block 0 record 0 202/010/A\nlost block 1 record 0 202/010/A",
+        0,
+    ),
+    (
+        64,
+        0,
+        "CA 00 07 80 80 22 33 CA 00 07 80 80 22 33",
+        "lost block 0 record 0 202/010/A\nlost block 1 record 0 202/010/A\n",
+        0,
+    ),
+];
+
+#[test]
+fn lines_that_are_cut(rt: HostRuntime) -> Result<(), Fail> {
+    let alloc = rt.alloc();
+    let input = octets(alloc, FULL_TWICE)?;
+    for (call, status, out, report, left) in CUT_LINES {
+        let want = wanted(alloc, status, &octets(alloc, out)?, report, left)?;
+        let outside = Outside::OctetReport(call);
+        leaves(&rt, alloc, "migrate H1 H2", &input, outside, want)?;
+    }
+    Ok(())
+}
+
+/// The largest block of G1, whose records have one item of one octet, and these octets after it.
+fn largest(alloc: Global, after: &[u8]) -> Result<Vec<u8>, Fail> {
+    let mut made = vec![in alloc; 0xC9, 0xFF, 0xFF]?;
+    for _ in 0..32_766 {
+        made.extend_from_slice(&[0x80, 0x01])?;
+    }
+    made.extend_from_slice(after)?;
+    Ok(made)
+}
+
+// A migrated block that is too long is refused before any fault behind it.
+#[test]
+fn a_migrated_block_is_too_long(rt: HostRuntime) -> Result<(), Fail> {
+    let alloc = rt.alloc();
+    for (after, left) in [("", 0), ("C9 00 03", 3)] {
+        let input = largest(alloc, &octets(alloc, after)?)?;
+        let report = "refused block 0 MigratedTooLong 98301\n";
+        let want = wanted(alloc, 3, b"", report, left)?;
+        leaves(&rt, alloc, "migrate G1 G2", &input, Outside::Sound, want)?;
+    }
+    Ok(())
+}

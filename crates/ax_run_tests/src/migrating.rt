@@ -20,8 +20,6 @@ const FULL_MIGRATED: &str = "CA 00 07 80 80 22 33";
 
 const FULL_TWICE: &str = "CA 00 08 80 C0 11 22 33 CA 00 08 80 C0 11 22 33";
 
-const FULL_LINES: &str = "lost block 0 record 0 202/010/A\nlost block 1 record 0 202/010/A\n";
-
 // How the outside fails, the words and the input; and the status, the output, the report, and how many octets aren't read.
 const RUNS: [(Outside, &str, &str, u8, &str, &str, usize); 21] = [
     (
@@ -213,22 +211,36 @@ fn editions_of_one_category(rt: HostRuntime) -> Result<(), Fail> {
     Ok(())
 }
 
-// Each octet of the lines of two blocks fails: the block whose line is cut isn't written, and no line comes after it.
+// The call of the report that fails, each taking one octet; and the status, the output, the report, and how many octets
+// aren't read. The block whose line is cut isn't written, and no line comes after it.
+const CUT_LINES: [(u64, u8, &str, &str, usize); 5] = [
+    (0, 4, "", "", 8),
+    (31, 4, "", "lost block 0 record 0 202/010/A", 8),
+    (32, 4, FULL_MIGRATED, "lost block 0 record 0 202/010/A\n", 0),
+    (
+        63,
+        4,
+        FULL_MIGRATED,
+        "lost block 0 record 0 202/010/A\nlost block 1 record 0 202/010/A",
+        0,
+    ),
+    (
+        64,
+        0,
+        "CA 00 07 80 80 22 33 CA 00 07 80 80 22 33",
+        "lost block 0 record 0 202/010/A\nlost block 1 record 0 202/010/A\n",
+        0,
+    ),
+];
+
 #[test]
-fn each_octet_of_the_lines_fails(rt: HostRuntime) -> Result<(), Fail> {
+fn lines_that_are_cut(rt: HostRuntime) -> Result<(), Fail> {
     let alloc = rt.alloc();
     let input = octets(alloc, FULL_TWICE)?;
-    let mut reported = String::new(alloc);
-    for (call, character) in FULL_LINES.chars().enumerate() {
-        let (out, left) = if call < 32 {
-            ("", 8)
-        } else {
-            (FULL_MIGRATED, 0)
-        };
-        let want = wanted(alloc, 4, &octets(alloc, out)?, &reported, left)?;
-        let outside = Outside::OctetReport(call as u64);
+    for (call, status, out, report, left) in CUT_LINES {
+        let want = wanted(alloc, status, &octets(alloc, out)?, report, left)?;
+        let outside = Outside::OctetReport(call);
         leaves(&rt, alloc, "migrate H1 H2", &input, outside, want)?;
-        reported.push(character)?;
     }
     Ok(())
 }

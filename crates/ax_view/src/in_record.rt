@@ -28,7 +28,7 @@ impl<'c, 'a> RecordView<'c, 'a> {
     pub fn item(&self, frn: u32) -> Option<ItemView<'c, 'a>>
         ensures value { option_map item_value result ≡ slot_value frn (record_entries self.now) }
         ensures place { IfSome result (IsOfSlot self.now.codec.now self.now.codec.now.slots frn) }
-    ensures window { IfSome result (λ item. StandsInPlace self.now.codec.now.nodes self.now.codec.now.slots frn self.now.body.now item.body.now) }
+        ensures window { IfSome result (λ item. StandsInPlace self.now.codec.now.nodes self.now.codec.now.slots frn self.now.body.now item.body.now) }
     {
         find(
             self.codec,

@@ -1,12 +1,13 @@
 -- Lists that are read member by member.
-use Rattle.std.proofs.Common.{◌≡◌, ℕ, List, [], ◌∷◌, ◌++◌, refl, sym, ◌∙◌, ap, subst, append_assoc, append-nil}
+use Rattle.std.proofs.Common.{◌≡◌, ℕ, List, [], ◌∷◌, ◌++◌, refl, sym, ◌∙◌, ap, subst, append_assoc, ◌⊎◌}
 use Rattle.std.proofs.lemmas.List.{append_cancel_right}
-use Rattle.ax_token_reader.specs.Stopping.{Texts, Stops, Word, Then}
+use Rattle.ax_token_reader.specs.Stopping.{Texts, Stops, IsNotFirst, Word, Then}
 use Rattle.ax_token_reader.specs.declared.stopped.Stopped.{Stopped}
-use Rattle.ax_token_reader.proofs.Stops.{same_lacks, first_lacks}
+use Rattle.ax_token_reader.specs.declared.stopped.Stopped.TheVariants.{Bad, OutOfMemory}
+use Rattle.ax_token_reader.proofs.Stops.{BeginsWith, same_lacks, first_lacks}
 use Rattle.ax_text.specs.ValueText.{closing}
 use Rattle.ax_block_reader.specs.Continuing.{Done, Continues, Spelled, IsRead}
-use Rattle.ax_block_reader.proofs.Continuations.{none_read, none_front, both_read, both_front, lacks_there, then_read, then_front, word_read, Prefixed, prefix_read}
+use Rattle.ax_block_reader.proofs.Continuations.{none_read, none_front, both_read, both_front, lacks_there, then_read, then_front, word_read, skip_read, skip_front, cut_stops, Prefixed, prefix_read}
 
 -- ---- what was read
 
@@ -85,6 +86,18 @@ pub one_lacks : {X Y : Type 0} (R Q : X → Type 0) (spell left : X → Texts) (
 one_lacks R Q spell left P one due stopped old mid new start d s =
     lacks_there (Spelled R spell) (Then (Spelled P one) (Spelled Q left)) stopped old mid new start (first_lacks (Spelled P one) (Spelled Q left) due d stopped mid new s)
 
+-- ---- a word that doesn't come
+
+pub skip_collected : {X : Type 0} (R Q : X → Type 0) (spell left : X → Texts) (word : List ℕ) (old now : Texts) → ((x : X) → Q x → R x) → ((x : X) → Q x → spell x ≡ left x) → ((t : Texts) → Spelled R spell t → BeginsWith word t ⊎ Spelled Q left t)
+    → IsNotFirst (λ text. text ≡ word) old → now ≡ old → Collects R Q spell left (λ x. x) old now
+skip_collected R Q spell left word old now f t g n e =
+    let back : (z : Texts) → Spelled Q left z → Spelled R spell z = λ z m. (m.0, f m.0 m.1, m.2 ∙ sym (t m.0 m.1)) in
+    record {
+      continues = skip_read (Spelled Q left) (Spelled R spell) word old now back g n e;
+      shape = f;
+      texts = λ x h. t x h ∙ ap (λ z. z ++ left x) (sym (skip_front (Spelled Q left) (Spelled R spell) word old now back g n e));
+    }
+
 -- ---- the brace that closes
 
 -- nothing but the brace
@@ -100,3 +113,12 @@ closing_read R spell end old new c e = record {
   split = e ∙ ap (λ t. t ++ new) (sym c.texts);
   whole = word_read (Spelled R spell) Done closing old new (λ t d. (end, c.shape, ap (λ z. closing ∷ z) d ∙ sym c.texts)) c.some c.only e;
 }
+
+-- nothing but the brace may come
+pub closing_lacks : {X : Type 0} (R : X → Type 0) (spell : X → Texts) (end : X) (stopped : Stopped) (old new : Texts) → Closes R spell end → ((t : Texts) → Spelled R spell t → t ≡ closing ∷ []) → Stops stopped (Word closing) old new → Stops stopped (Spelled R spell) old new
+closing_lacks R spell end stopped old new c f s = same_lacks (Word closing) (Spelled R spell) (λ t e. (end, c.shape, e ∙ sym c.texts)) f stopped old new s
+
+-- the texts end where the brace might come
+pub closing_cut : {X : Type 0} (R : X → Type 0) (spell : X → Texts) (end : X) (stopped : Stopped) (old new : Texts) → Closes R spell end → old ≡ [] → new ≡ [] → Stops stopped (Spelled R spell) old new
+closing_cut R spell end Bad old new c e f = cut_stops (Spelled R spell) (closing ∷ []) old new (end, c.shape, sym c.texts) c.some e f
+closing_cut R spell end OutOfMemory old new c e f = tt

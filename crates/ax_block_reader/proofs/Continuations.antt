@@ -170,6 +170,27 @@ pub skip_front : (L M : Texts → Type 0) (word : List ℕ) (old now : Texts) (f
 unfolding skip_read
 skip_front L M word old now f g n e = refl
 
+-- ---- where a word comes
+
+first_behind : (L M : Texts → Type 0) (word : List ℕ) (rest : Texts) → (L [] → ⊥) → ((t : Texts) → L (word ∷ t) → M (word ∷ t)) → (member x y : Texts) → BeginAlike (word ∷ rest) y → L member → member ++ x ≡ y → M member
+first_behind L M word rest n g [] x y al l h = absurd (n l)
+first_behind L M word rest n g (first ∷ member) x y al l h =
+    let same : first ≡ word = heads first word (member ++ x) al.0 (h ∙ al.1) in
+    subst (λ w. M (w ∷ member)) (sym same) (g member (subst (λ w. L (w ∷ member)) same l))
+
+-- the members that begin with the word are those of M
+pub first_read : (L M : Texts → Type 0) (word : List ℕ) (rest old now : Texts) → ((t : Texts) → M t → L t) → (L [] → ⊥) → ((t : Texts) → L (word ∷ t) → M (word ∷ t)) → old ≡ word ∷ rest → now ≡ old → Continues L M old now
+first_read L M word rest old now f n g e same = record {
+  front = [];
+  split = sym same;
+  member = f;
+  behind = λ member x y al l h. (member, refl, first_behind L M word rest n g member x y (subst (λ t. BeginAlike t y) (same ∙ e) al) l h);
+}
+
+pub first_front : (L M : Texts → Type 0) (word : List ℕ) (rest old now : Texts) (f : (t : Texts) → M t → L t) (n : L [] → ⊥) (g : (t : Texts) → L (word ∷ t) → M (word ∷ t)) (e : old ≡ word ∷ rest) (same : now ≡ old) → (first_read L M word rest old now f n g e same).front ≡ []
+unfolding first_read
+first_front L M word rest old now f n g e same = refl
+
 -- ---- the first text of a member
 
 begin_refuses : (L : Texts → Type 0) (Passes : List ℕ → Type 0) → ((t : Texts) → L t → (text : List ℕ) × (rest : Texts) × (t ≡ text ∷ rest) × Passes text) → (texts : Texts) → IsNotFirst Passes texts

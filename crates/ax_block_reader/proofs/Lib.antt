@@ -4,3 +4,7 @@ pub mod Onto
 pub mod Decimals
 pub mod FixedWays
 pub mod MemberWays
+pub mod Contents
+pub mod PartWays
+pub mod Firsts
+pub mod RunWays

@@ -1,11 +1,14 @@
 -- The texts of values, of their parts and of lists of them up to the brace that closes them. As languages they are what
 -- the definition of block texts gives for the shapes.
-use Rattle.std.specs.Prelude.{◌≡◌, ℕ, ◌^◌, ◌<◌, ◌≤◌, List, [], ◌∷◌, length, decimal}
+use Rattle.std.specs.Prelude.{◌≡◌, ℕ, ◌^◌, ◌<◌, ◌≤◌, List, [], ◌∷◌, length, drop, decimal, Result, Ok, Err}
+use Rattle.hex.specs.Hex.{encode_lower}
 use Rattle.ax_bits.specs.Bits.{AreOctets}
-use Rattle.ax_token_reader.specs.Stopping.{Texts}
+use Rattle.ax_token_reader.specs.Stopping.{Texts, IsNotFirst}
+use Rattle.ax_token_reader.specs.declared.stopped.Stopped.{Stopped}
+use Rattle.ax_token_reader.specs.declared.stopped.Stopped.TheVariants.{Bad, OutOfMemory}
 use Rattle.ax_model.specs.Shape.{MembersShape, PartsShape, EachShape, Shape, EntriesShape, FixedShape}
 use Rattle.ax_model.specs.Tree.{FixedTree, MemberTree, MembersTree, KindTree, SlotsTree, ValueTree, ValuesTree, value_count, ListsTree, no_lists, list_and, EntriesTree}
-use Rattle.ax_text.specs.ValueText.{closing, hex_text, fixed_onto, member_onto, members_onto, parts_onto, each_onto, kind_onto, entries_onto}
+use Rattle.ax_text.specs.ValueText.{opening, closing, hex_text, fixed_onto, member_onto, members_onto, part_onto, parts_onto, each_onto, kind_onto, entries_onto}
 
 -- ---- single texts
 
@@ -13,9 +16,26 @@ use Rattle.ax_text.specs.ValueText.{closing, hex_text, fixed_onto, member_onto, 
 abbrev pub IsNumberText : ℕ → List ℕ → Type 0
 IsNumberText w text = (n : ℕ) × (n < 2 ^ w) × (text ≡ decimal n)
 
+-- the digits of no octets
+abbrev pub IsNoDigits : List ℕ → Type 0
+IsNoDigits digits = (octets : List ℕ) → AreOctets octets → digits ≡ encode_lower octets → ⊥
+
 -- octets in quotes
-abbrev pub IsHexText : (List ℕ → Type 0) → List ℕ → Type 0
-IsHexText R text = (octets : List ℕ) × AreOctets octets × R octets × (text ≡ hex_text octets)
+abbrev pub IsHexText : List ℕ → Type 0
+IsHexText text = (octets : List ℕ) × AreOctets octets × (text ≡ hex_text octets)
+
+abbrev pub IsNoHexText : List ℕ → Type 0
+IsNoHexText text = (octets : List ℕ) → AreOctets octets → text ≡ hex_text octets → ⊥
+
+-- the octets of the first text, or no octets are there
+abbrev pub HexAt : Result (List ℕ) Stopped → Texts → Type 0
+HexAt (Ok octets) texts = AreOctets octets × (texts ≡ hex_text octets ∷ drop 1 texts)
+HexAt (Err Bad) texts = IsNotFirst IsHexText texts
+HexAt (Err OutOfMemory) texts = Unit {0}
+
+-- the content of an opaque block
+abbrev pub IsContent : List ℕ → Type 0
+IsContent octets = (0 < length octets) × AreOctets octets
 
 -- ---- the texts of values
 
@@ -32,6 +52,12 @@ kind_texts k v = kind_onto k v []
 
 abbrev pub members_texts : MembersTree → ValuesTree → Texts
 members_texts ms vs = members_onto ms vs (closing ∷ [])
+
+abbrev pub braced_texts : MembersTree → ValuesTree → Texts
+braced_texts ms vs = opening ∷ members_texts ms vs
+
+abbrev pub part_texts : MembersTree → ValuesTree → Texts
+part_texts p vs = part_onto p vs []
 
 -- values of one kind
 abbrev pub each_texts : (ValueTree → Texts → Texts) → ValuesTree → Texts

@@ -1,3 +1,4 @@
 pub mod Continuing
 pub mod Languages
+pub mod Entries
 pub mod Readable

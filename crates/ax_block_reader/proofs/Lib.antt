@@ -8,3 +8,6 @@ pub mod Contents
 pub mod PartWays
 pub mod Firsts
 pub mod RunWays
+pub mod CountedWays
+pub mod EntryWays
+pub mod KindWays

@@ -3,9 +3,10 @@
 
 mod extended;
 mod fixed;
+mod kinds;
 mod numbers;
 mod octets;
 
 pub use extended::{parts_present, run_values};
-pub use fixed::fixed_value;
+pub use kinds::kind_value;
 pub use octets::{explicit_value, opaque_content};

@@ -11,3 +11,6 @@ pub mod RunWays
 pub mod CountedWays
 pub mod EntryWays
 pub mod KindWays
+pub mod RecordWays
+pub mod RecordListWays
+pub mod Readables

@@ -2,3 +2,4 @@ pub mod Continuing
 pub mod Languages
 pub mod Entries
 pub mod Readable
+pub mod Records

@@ -47,7 +47,7 @@ fn part_values(
 
 /// The values of the parts that are present, the first and maybe later ones, and the brace after them.
 #[tactic(auto, using(crate::proofs::PartWays::parts_ways))]
-pub fn parts_present(
+pub(crate) fn parts_present(
     alloc: Global,
     reader: &mut Reader<'_, '_>,
     parts: &Parts,
@@ -76,7 +76,7 @@ pub fn parts_present(
 
 /// One or more values of a fixed kind, and the brace after them.
 #[tactic(auto, using(crate::proofs::RunWays::run_ways))]
-pub fn run_values(
+pub(crate) fn run_values(
     alloc: Global,
     reader: &mut Reader<'_, '_>,
     fixed: &Fixed,

@@ -18,7 +18,7 @@ use std::alloc::Global;
 /// A value of a kind.
 #[cycle(kind_value)]
 #[tactic(auto, using(crate::proofs::KindWays::kind_ways))]
-pub fn kind_value(
+pub(crate) fn kind_value(
     alloc: Global,
     reader: &mut Reader<'_, '_>,
     kind: &Kind,

@@ -6,7 +6,8 @@ mod fixed;
 mod kinds;
 mod numbers;
 mod octets;
+mod records;
 
-pub use extended::{parts_present, run_values};
-pub use kinds::kind_value;
-pub use octets::{explicit_value, opaque_content};
+
+pub use records::braced_records;
+pub use octets::opaque_content;

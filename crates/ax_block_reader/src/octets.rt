@@ -102,7 +102,7 @@ fn next_octets(alloc: Global, reader: &Reader<'_, '_>) -> Result<Octets, Stopped
 
 /// The content of an explicit item, at most 254 octets.
 #[tactic(auto, using(crate::proofs::Contents::explicit_ways))]
-pub fn explicit_value(
+pub(crate) fn explicit_value(
     alloc: Global,
     reader: &mut Reader<'_, '_>,
 ) -> Result<Value, Stopped>

@@ -3,3 +3,5 @@ pub mod Languages
 pub mod Entries
 pub mod Readable
 pub mod Records
+pub mod BlockTexts
+pub mod BlockForms

@@ -15,7 +15,7 @@ use std::alloc::Global;
 /// A value of a fixed kind: a number, or members in braces.
 #[cycle(fixed_value)]
 #[tactic(auto, using(crate::proofs::FixedWays::fixed_ways))]
-pub fn fixed_value(
+pub(crate) fn fixed_value(
     alloc: Global,
     reader: &mut Reader<'_, '_>,
     fixed: &Fixed,

@@ -119,7 +119,7 @@ pub(crate) fn explicit_value(
 
 /// The content of an opaque block, at least one octet.
 #[tactic(auto, using(crate::proofs::Contents::content_ways))]
-pub fn opaque_content(
+pub(crate) fn opaque_content(
     alloc: Global,
     reader: &mut Reader<'_, '_>,
 ) -> Result<Octets, Stopped>

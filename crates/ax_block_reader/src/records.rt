@@ -144,7 +144,7 @@ fn records(
 
 /// One or more records in braces.
 #[tactic(auto, using(crate::proofs::RecordListWays::braced_ways))]
-pub fn braced_records(
+pub(crate) fn braced_records(
     alloc: Global,
     reader: &mut Reader<'_, '_>,
     spec: &Spec,

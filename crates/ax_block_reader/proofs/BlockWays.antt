@@ -1,22 +1,18 @@
 -- Each way through the readers of blocks.
 use Rattle.std.proofs.Common.{◌≡◌, ℕ, ◌+◌, ◌/◌, ◌%◌, ◌<◌, ◌==◌, Bool, true, false, cond, ◌⊎◌, inl, inr, List, [], ◌∷◌, ◌++◌, length, drop, refl, sym, ◌∙◌, ap, subst, arith, codes, Some, None, lit<, is_some}
 use Rattle.std.specs.Prelude.{Option, MatchOption}
-use Rattle.std.specs.List.{AllByRecursion}
 use Rattle.std.proofs.lemmas.Bool.{eqb-true}
-use Rattle.ax_bits.specs.Bits.{AreOctets}
 use Rattle.ax_token_reader.specs.Stopping.{Texts, StopsAt, Stops, IsNotFirst}
 use Rattle.ax_token_reader.specs.declared.stopped.Stopped.{Stopped}
 use Rattle.ax_token_reader.specs.declared.stopped.Stopped.TheVariants.{Bad, OutOfMemory}
 use Rattle.ax_token_reader.proofs.Words.{not_first, none_first}
-use Rattle.ax_model.specs.Blocks.{BlockTree, read_block, opaque_block, Fits}
-use Rattle.ax_model.specs.Bodies.{RecordShape}
-use Rattle.ax_model.specs.CanonicalOctets.{category_of}
+use Rattle.ax_model.specs.Blocks.{BlockTree, read_block, opaque_block}
 use Rattle.ax_model.specs.Paths.{three_digits}
 use Rattle.ax_model.specs.Specification.{SpecTree, spec_of}
 use Rattle.ax_model.specs.Streams.{FitsOver}
 use Rattle.ax_model.specs.Tree.{EntriesTree, no_entries}
 use Rattle.ax_text.proofs.Unique.{different}
-use Rattle.ax_text.specs.Tokens.{TextOver, IsOfCatalogue}
+use Rattle.ax_text.specs.Tokens.{TextOver}
 use Rattle.ax_text.specs.ValueText.{hex_text}
 use Rattle.ax_block_reader.specs.BlockForms.{IsCategoryText, HasKnown, HasLacked, ReadShape, OpaqueShape, records_over, behind_block, behind_opaque}
 use Rattle.ax_block_reader.specs.BlockTexts.{IsBlockOf, block_texts, IsBlockText}
@@ -356,6 +352,9 @@ module _ (catalogue : List SpecTree) where
   no_form known OutOfMemory texts k e = tt
 
 pub ruleset form_ways = no_form
+
 pub ruleset read_ways = records_lack
+
 pub ruleset opaque_ways = content_lacks
+
 pub ruleset block_ways = (read_lacks, opaque_lacks)

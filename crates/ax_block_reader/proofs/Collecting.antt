@@ -1,5 +1,5 @@
 -- Lists that are read member by member.
-use Rattle.std.proofs.Common.{◌≡◌, ℕ, List, [], ◌∷◌, ◌++◌, refl, sym, ◌∙◌, ap, subst, append_assoc, ◌⊎◌}
+use Rattle.std.proofs.Common.{◌≡◌, ℕ, List, [], ◌∷◌, ◌++◌, sym, ◌∙◌, ap, subst, append_assoc, ◌⊎◌}
 use Rattle.std.proofs.lemmas.List.{append_cancel_right}
 use Rattle.ax_token_reader.specs.Stopping.{Texts, Stops, IsNotFirst, Word, Then}
 use Rattle.ax_token_reader.specs.declared.stopped.Stopped.{Stopped}

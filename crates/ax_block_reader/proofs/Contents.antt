@@ -12,7 +12,7 @@ use Rattle.ax_tokens.specs.Octets.{quote}
 use Rattle.ax_model.specs.Plain.{value_tree, value_step, entry_step}
 use Rattle.ax_model.specs.Shape.{Shape}
 use Rattle.ax_model.specs.Tree.{explicit, ValueTree, content_octets}
-use Rattle.ax_model.specs.declared.value.Value.{Value, fold-roll-Value}
+use Rattle.ax_model.specs.declared.value.Value.{fold-roll-Value}
 use Rattle.ax_model.specs.declared.value.Value.TheOpen.{Value-F}
 use Rattle.ax_model.specs.declared.value.Value.TheVariants.{Octets, rolls-Octets}
 use Rattle.ax_text.proofs.Unique.{same_hex}
@@ -72,7 +72,6 @@ hex_there texts text octets e h = e ∙ ap (λ t. t ∷ drop 1 texts) h
 pub ruleset peeking = (no_hex_first, none_there, hex_there)
 
 -- ---- one text of octets, as a language
-
 
 -- the octets of a value
 abbrev octets_in : ValueTree → List ℕ

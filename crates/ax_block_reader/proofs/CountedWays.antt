@@ -1,5 +1,5 @@
 -- Each way through the reader of a counted item.
-use Rattle.std.proofs.Common.{◌≡◌, ℕ, suc, ◌+◌, ◌-◌, ◌<◌, ◌≤◌, ◌⊎◌, inl, inr, List, [], ◌∷◌, ◌++◌, refl, sym, ◌∙◌, ap, subst, length, arith}
+use Rattle.std.proofs.Common.{◌≡◌, ℕ, suc, ◌⊎◌, inl, inr, List, [], ◌∷◌, ◌++◌, refl, sym, ◌∙◌, ap, subst, arith}
 use Rattle.ax_token_reader.specs.Stopping.{Texts, Stops, IsNotFirst, Word, Then}
 use Rattle.ax_token_reader.specs.declared.stopped.Stopped.{Stopped}
 use Rattle.ax_token_reader.proofs.Stops.{BeginsWith}
@@ -65,7 +65,7 @@ module _ (k : KindTree) where
       → CountedRead more less old new
   value_read made more v left less old now mid new e r same n one pushed =
       let step = one_collected (AtMost (suc less) R) (AtMost less R) spell spell R (kind_texts k) value_and (value_tree v) [] now mid new (more_start less now mid n same) (start_front less now mid n same)
-          (λ vs h g. (omega (arith, g.0), (h, g.1))) (λ vs h g. sym (kind_more k (value_tree v) [] (spell vs))) one in
+      (λ vs h g. (omega (arith, g.0), (h, g.1))) (λ vs h g. sym (kind_more k (value_tree v) [] (spell vs))) one in
       subst (λ m. CountedRead m less old new) (sym pushed) (record {
         read = same_put _ _ _ _ (λ vs. values_before made (value_and (value_tree v) vs)) (values_before (made ++ v ∷ [])) old new (λ vs. before_more made v vs)
             (more_collected (AtMost 255 R) (AtMost left R) (AtMost less R) spell spell spell (values_before made) (value_and (value_tree v)) old now new r.read

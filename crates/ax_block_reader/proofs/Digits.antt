@@ -1,14 +1,15 @@
 -- Categories in three digits, and the first token.
-use Rattle.std.proofs.Common.{◌≡◌, ℕ, ◌+◌, ◌*◌, ◌/◌, ◌%◌, ◌<◌, ◌==◌, ◌⊎◌, inl, inr, true, cond, List, [], ◌∷◌, length, drop, slice_get, Some, None, sym, ◌∙◌, ap, arith, refl}
+use Rattle.std.proofs.Common.{◌≡◌, ℕ, ◌+◌, ◌*◌, ◌/◌, ◌%◌, ◌<◌, ◌⊎◌, inl, inr, cond, List, [], ◌∷◌, length, drop, slice_get, Some, None, sym, ◌∙◌, ap, arith, refl}
 use Rattle.std.specs.Prelude.{Option}
 use Rattle.std.proofs.lemmas.Bool.{eq-eqb}
 use Rattle.ax_token_reader.specs.Stopping.{Texts, IsNotFirst}
 use Rattle.ax_token_reader.proofs.Words.{not_first, none_first}
 use Rattle.ax_model.specs.Paths.{three_digits}
 use Rattle.ax_model.specs.Plain.{spec_tree, catalogue_tree}
-use Rattle.ax_model.specs.Specification.{SpecTree, spec_of}
+use Rattle.ax_model.specs.Specification.{spec_of}
 use Rattle.ax_model.specs.declared.spec.Spec.{Spec}
 use Rattle.ax_block_reader.specs.BlockForms.{IsCategoryText}
+
 abbrev IsNoDigit : ℕ → Type 0
 IsNoDigit x = (x < 48) ⊎ (57 < x)
 

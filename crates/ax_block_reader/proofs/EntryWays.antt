@@ -1,6 +1,6 @@
 -- Each way through the readers of entries, by the slots of a compound or a record.
 use Rattle.std.proofs.Common.{◌≡◌, ℕ, ◌+◌, ◌<◌, ◌≤◌, Bool, true, false, cond, ◌⊎◌, inl, inr, List, [], ◌∷◌, ◌++◌, refl, sym, ◌∙◌, ap, subst, length, drop, get_or, arith}
-use Rattle.std.specs.Prelude.{◌==◌, MatchBool, Option, Some, None}
+use Rattle.std.specs.Prelude.{◌==◌, MatchBool}
 use Rattle.std.proofs.lemmas.Bool.{eq-eqb, eqb-true, ne_eqb}
 use Rattle.std.proofs.lemmas.List.{drop_all}
 use Rattle.ax_token_reader.specs.Stopping.{Texts, Stops, IsNotFirst, Word, Then}
@@ -18,11 +18,11 @@ use Rattle.ax_text.proofs.Printed.{from_place}
 use Rattle.ax_text.specs.Slots.{SlotShape}
 use Rattle.ax_text.specs.ValueText.{closing, kind_onto, entries_onto}
 use Rattle.ax_block_reader.specs.Continuing.{Continues, Spelled, IsRead}
-use Rattle.ax_block_reader.specs.Entries.{slot_texts, SlotNamed, IsNotNamed, IsNamedAt, GivesSlot}
+use Rattle.ax_block_reader.specs.Entries.{slot_texts, SlotNamed, IsNotNamed, IsNamedAt}
 use Rattle.ax_block_reader.specs.Languages.{entries_texts}
 use Rattle.ax_block_reader.specs.Readable.{Lacks, SlotLacks, SlotReadable, SlotsReadable}
 use Rattle.ax_block_reader.proofs.Continuations.{heads, tails, no_text, first_read, first_front, cut_stops}
-use Rattle.ax_block_reader.proofs.Collecting.{Collects, none_collected, more_collected, all_collected, same_put, left_lacks, one_collected, one_lacks, skip_collected, Closes, closing_read, closing_lacks, closing_cut}
+use Rattle.ax_block_reader.proofs.Collecting.{Collects, none_collected, more_collected, all_collected, same_put, left_lacks, one_collected, one_lacks, skip_collected, Closes, closing_read, closing_lacks}
 use Rattle.ax_block_reader.proofs.Onto.{kind_more}
 
 abbrev AreEntries : ℕ → SlotsTree → Texts → Type 0
@@ -240,7 +240,7 @@ module _ (all left : SlotsTree) (s : ℕ) (slot : SlotTree) (ss : SlotsTree) (at
       → EntriesRead all ss (s + 1) more old new
   entry_read made more e v old now new r n one is pushed =
       let step : Collects (EntriesShape s left) (EntriesShape (s + 1) ss) (entries_texts s left) (entries_texts (s + 1) ss) (entry_and s v) now new =
-          subst (λ z. Collects (EntriesShape s z) (EntriesShape (s + 1) ss) (entries_texts s z) (entries_texts (s + 1) ss) (entry_and s v) now new) (sym at) (slot_collects s slot ss v now new n (lacks_later made old now r) one) in
+      subst (λ z. Collects (EntriesShape s z) (EntriesShape (s + 1) ss) (entries_texts s z) (entries_texts (s + 1) ss) (entry_and s v) now new) (sym at) (slot_collects s slot ss v now new n (lacks_later made old now r) one) in
       let x : SlotsReadable (slot_and slot ss) = subst SlotsReadable at r.readable in
       subst (λ m. EntriesRead all ss (s + 1) m old new) (sym pushed) (record {
         read = same_put _ _ _ _ (λ es. entries_before made (entry_and s v es)) (entries_before (made ++ e ∷ [])) old new (λ es. ap (λ (p : ℕ × ValueTree). entries_before made (entry_and p.0 p.1 es)) (sym is) ∙ before_more made e es)
@@ -251,7 +251,7 @@ module _ (all left : SlotsTree) (s : ℕ) (slot : SlotTree) (ss : SlotsTree) (at
   pub entry_skipped : (made : List Entry) (old now new : Texts) → EntriesRead all left s made old now → SlotNamed slot → (new ≡ now) × IsNotNamed slot now → EntriesRead all ss (s + 1) made old new
   entry_skipped made old now new r n x =
       let step : Collects (EntriesShape s left) (EntriesShape (s + 1) ss) (entries_texts s left) (entries_texts (s + 1) ss) (λ es. es) now new =
-          subst (λ z. Collects (EntriesShape s z) (EntriesShape (s + 1) ss) (entries_texts s z) (entries_texts (s + 1) ss) (λ es. es) now new) (sym at) (slot_skips s slot ss now new n (lacks_later made old now r) x) in
+      subst (λ z. Collects (EntriesShape s z) (EntriesShape (s + 1) ss) (entries_texts s z) (entries_texts (s + 1) ss) (λ es. es) now new) (sym at) (slot_skips s slot ss now new n (lacks_later made old now r) x) in
       let y : SlotsReadable (slot_and slot ss) = subst SlotsReadable at r.readable in
       record {
         read = more_collected (EntriesShape 1 all) (EntriesShape s left) (EntriesShape (s + 1) ss) (entries_texts 1 all) (entries_texts s left) (entries_texts (s + 1) ss) (entries_before made) (λ es. es) old now new r.read step;

@@ -18,7 +18,7 @@ use Rattle.ax_model.specs.declared.value.Value.{Value, fold-roll-Value}
 use Rattle.ax_model.specs.declared.value.Value.TheOpen.{Value-F}
 use Rattle.ax_model.specs.declared.value.Value.TheVariants.{Number, rolls-Number, Group as GroupOf, rolls-Group as rolls-GroupOf}
 use Rattle.ax_text.specs.Slots.{MemberShape}
-use Rattle.ax_text.specs.ValueText.{opening, closing, spare_word, number_onto, fixed_onto}
+use Rattle.ax_text.specs.ValueText.{opening, spare_word, number_onto, fixed_onto}
 use Rattle.ax_block_reader.specs.Continuing.{Done, Spelled, IsRead}
 use Rattle.ax_block_reader.specs.Languages.{IsNumberText, fixed_texts, member_texts, members_texts}
 use Rattle.ax_block_reader.specs.Readable.{FixedReadable, MemberReadable, MembersReadable}

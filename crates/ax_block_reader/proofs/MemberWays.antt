@@ -127,9 +127,9 @@ module _ (ms : List Member) (i : ℕ) (m : Member) (lt : i < length ms) (at : m 
       let k = member_tree m in
       let ks = members_tree (drop (i + 1) ms) in
       let step = one_collected (MembersShape (member_and k ks)) (MembersShape ks) (members_texts (member_and k ks)) (members_texts ks) (MemberShape k) (member_texts k) value_and (value_tree v) [] now now new (and_start k ks now) (and_front k ks now)
-          (λ vs h g. shape_and k ks (value_tree v) vs h g) (λ vs h g. sym (member_more k (value_tree v) [] (members_texts ks vs))) one in
+      (λ vs h g. shape_and k ks (value_tree v) vs h g) (λ vs h g. sym (member_more k (value_tree v) [] (members_texts ks vs))) one in
       let left : Collects (MembersShape (members_tree (drop i ms))) (MembersShape ks) (members_texts (members_tree (drop i ms))) (members_texts ks) (value_and (value_tree v)) now new =
-          subst (λ t. Collects (MembersShape t) (MembersShape ks) (members_texts t) (members_texts ks) (value_and (value_tree v)) now new) (sym first_member) step in
+      subst (λ t. Collects (MembersShape t) (MembersShape ks) (members_texts t) (members_texts ks) (value_and (value_tree v)) now new) (sym first_member) step in
       subst (λ z. MembersRead ms z (i + 1) old new) (sym pushed) (record {
         read = same_put _ _ _ _ (λ vs. values_before made (value_and (value_tree v) vs)) (values_before (made ++ v ∷ [])) old new (λ vs. before_more made v vs)
             (more_collected (MembersShape (members_tree ms)) (MembersShape (members_tree (drop i ms))) (MembersShape ks) (members_texts (members_tree ms)) (members_texts (members_tree (drop i ms))) (members_texts ks) (values_before made) (value_and (value_tree v)) old now new r.read left);

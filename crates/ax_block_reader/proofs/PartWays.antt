@@ -1,11 +1,11 @@
 -- Each way through the readers of extended items.
-use Rattle.std.proofs.Common.{◌≡◌, ℕ, ◌+◌, ◌<◌, ◌≤◌, ◌⊎◌, inl, inr, List, [], ◌∷◌, ◌++◌, refl, sym, ◌∙◌, ap, subst, length, drop, get_or, map, arith, codes}
+use Rattle.std.proofs.Common.{◌≡◌, ℕ, ◌+◌, ◌<◌, ◌≤◌, ◌⊎◌, inl, inr, List, [], ◌∷◌, ◌++◌, refl, sym, ◌∙◌, ap, subst, length, drop, get_or, map, arith}
 use Rattle.std.specs.List.{AllByRecursion}
 use Rattle.std.proofs.lemmas.List.{drop_all}
 use Rattle.ax_token_reader.specs.Stopping.{Texts, Stops, IsNotFirst, Word, Then}
 use Rattle.ax_token_reader.specs.declared.stopped.Stopped.{Stopped}
 use Rattle.ax_token_reader.proofs.Stops.{BeginsWith}
-use Rattle.ax_model.specs.Plain.{part_tree, value_tree, values_tree, lists_tree}
+use Rattle.ax_model.specs.Plain.{part_tree, values_tree, lists_tree}
 use Rattle.ax_model.specs.Shape.{MembersShape, PartsShape}
 use Rattle.ax_model.specs.Tree.{MembersTree, ValuesTree, ListsTree, no_lists, list_and}
 use Rattle.ax_model.specs.declared.kind.Part.{Part}
@@ -241,7 +241,7 @@ module _ (all : List MembersTree) (later : List Part) (i : ℕ) where
         → more ≡ made ++ vs ∷ [] → PartsRead all later more (i + 1) old new
     part_more_read made more vs old now mid new r same n one pushed =
         let step : Collects (PartsShape left) (LaterParts rest) (parts_texts left) (parts_texts rest) (list_and (values_tree vs)) mid new =
-            subst (λ ps. Collects (PartsShape ps) (LaterParts rest) (parts_texts ps) (parts_texts rest) (list_and (values_tree vs)) mid new) (sym next_part) (must_collect (part_tree p) rest vs mid new one) in
+        subst (λ ps. Collects (PartsShape ps) (LaterParts rest) (parts_texts ps) (parts_texts rest) (list_and (values_tree vs)) mid new) (sym next_part) (must_collect (part_tree p) rest vs mid new one) in
         let x : AllByRecursion MembersReadable (part_tree p ∷ rest) = subst (AllByRecursion MembersReadable) next_part r.readable in
         subst (λ m. PartsRead all later m (i + 1) old new) (sym pushed) (record {
           read = same_put _ _ _ _ (λ ls. lists_before made (list_and (values_tree vs) ls)) (lists_before (made ++ vs ∷ [])) old new (λ ls. before_more made vs ls)

@@ -1,5 +1,5 @@
 -- The records of a specification without flaw can be read.
-use Rattle.std.proofs.Common.{◌≡◌, ℕ, ◌==◌, nat_lt, Bool, true, false, ◌||◌, List, [], ◌∷◌, ◌++◌, length, map, bytes_eq, cond, Option, Some, None, is_some, refl, sym, ◌∙◌, ap, arith, subst, codes}
+use Rattle.std.proofs.Common.{◌≡◌, ℕ, ◌==◌, nat_lt, Bool, true, false, ◌||◌, List, [], ◌∷◌, map, bytes_eq, cond, Option, Some, None, is_some, refl, sym, ◌∙◌, ap, arith, subst, codes}
 use Rattle.std.specs.List.{AllByRecursion}
 use Rattle.std.proofs.lemmas.Slice.Eq.{bytes_eq-Decides}
 use Rattle.ax_model.proofs.Bounds.{kind_bounds}
@@ -13,7 +13,7 @@ use Rattle.ax_model.specs.declared.flaw.FlawKind.TheVariants.{DuplicateName, Rep
 use Rattle.ax_model.specs.declared.spec.UapSlot.{UapSlot}
 use Rattle.ax_model.specs.declared.spec.UapSlot.TheVariants as Uap
 use Rattle.ax_text.proofs.Readables.{both_empty, three_empty, holds_not, flaws_parts}
-use Rattle.ax_block_reader.specs.Readable.{FixedReadable, MembersReadable, Lacks, SlotLacks, Readable, SlotReadable, SlotsReadable}
+use Rattle.ax_block_reader.specs.Readable.{FixedReadable, MembersReadable, Lacks, Readable, SlotsReadable}
 
 -- ---- names that stand among others
 

@@ -1,5 +1,5 @@
 -- Each way through the readers of lists of records.
-use Rattle.std.proofs.Common.{◌≡◌, ℕ, ◌+◌, ◌<◌, ◌≤◌, ◌⊎◌, inl, inr, List, [], ◌∷◌, ◌++◌, refl, sym, ◌∙◌, ap, subst, length, arith, codes}
+use Rattle.std.proofs.Common.{◌≡◌, ◌⊎◌, inl, inr, List, [], ◌∷◌, ◌++◌, refl, sym, ◌∙◌, ap, subst, arith, codes}
 use Rattle.std.specs.List.{AllByRecursion}
 use Rattle.ax_token_reader.specs.Stopping.{Texts, Stops, IsNotFirst, Word, Then}
 use Rattle.ax_token_reader.specs.declared.stopped.Stopped.{Stopped}
@@ -10,7 +10,7 @@ use Rattle.ax_model.specs.Specification.{SpecTree, record_slots}
 use Rattle.ax_model.specs.Tree.{EntriesTree, no_entries}
 use Rattle.ax_model.specs.declared.record.Record.{Record}
 use Rattle.ax_text.proofs.Unique.{different}
-use Rattle.ax_text.specs.BlockText.{record_onto, records_onto}
+use Rattle.ax_text.specs.BlockText.{record_onto}
 use Rattle.ax_text.specs.ValueText.{opening, closing}
 use Rattle.ax_block_reader.specs.Continuing.{Continues, Spelled, IsRead}
 use Rattle.ax_block_reader.specs.Records.{record_texts, SomeRecords, records_texts, braced_records_texts}

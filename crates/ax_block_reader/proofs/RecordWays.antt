@@ -1,5 +1,5 @@
 -- Each way through the readers of a record.
-use Rattle.std.proofs.Common.{◌≡◌, ℕ, ◌+◌, ◌<◌, ◌≤◌, Bool, true, false, cond, ◌⊎◌, inl, inr, List, [], ◌∷◌, ◌++◌, refl, sym, ◌∙◌, ap, subst, length, drop, get_or, map, codes, Some, None}
+use Rattle.std.proofs.Common.{◌≡◌, ℕ, ◌+◌, ◌<◌, ◌≤◌, Bool, true, false, cond, List, [], ◌∷◌, ◌++◌, refl, sym, ◌∙◌, ap, subst, length, drop, get_or, map, codes, Some, None}
 use Rattle.std.specs.Prelude.{bytes_eq, Option}
 use Rattle.std.proofs.lemmas.List.{drop_all}
 use Rattle.std.proofs.lemmas.Slice.Eq.{bytes_eq-Decides}
@@ -10,13 +10,11 @@ use Rattle.ax_model.proofs.RecordFitting.{spare_is, item_is}
 use Rattle.ax_model.specs.Bodies.{RecordShape}
 use Rattle.ax_model.specs.Characters.{IsName}
 use Rattle.ax_model.specs.Lookup.{item_of_slot}
-use Rattle.ax_model.specs.Plain.{item_tree, kind_tree, spec_tree, entries_tree, record_tree}
+use Rattle.ax_model.specs.Plain.{item_tree, kind_tree}
 use Rattle.ax_model.specs.Shape.{Shape, EntriesShape}
 use Rattle.ax_model.specs.Specification.{ItemTree, SpecTree, first_named, slot_of_item, uap_slot, record_slots}
-use Rattle.ax_model.specs.Tree.{KindTree, SlotTree, SlotsTree, no_slots, slot_and, spare_slot, subitem, slots_of, ValueTree, EntriesTree, no_entries}
-use Rattle.ax_model.specs.declared.record.Record.{Record}
+use Rattle.ax_model.specs.Tree.{SlotTree, SlotsTree, no_slots, slot_and, spare_slot, subitem, slots_of, ValueTree, EntriesTree}
 use Rattle.ax_model.specs.declared.spec.Item.{Item}
-use Rattle.ax_model.specs.declared.spec.Spec.{Spec}
 use Rattle.ax_model.specs.declared.spec.UapSlot.{UapSlot}
 use Rattle.ax_model.specs.declared.spec.UapSlot.TheVariants as Uap
 use Rattle.ax_text.proofs.Printed.{from_place}
@@ -29,7 +27,7 @@ use Rattle.ax_block_reader.specs.Readable.{Readable, SlotReadable}
 use Rattle.ax_block_reader.specs.Records.{braced_entries_texts, record_texts}
 use Rattle.ax_block_reader.proofs.Continuations.{lacks_there, Prefixed, prefix_lacks, prefix_read}
 use Rattle.ax_block_reader.proofs.Collecting.{prefix_is_read}
-use Rattle.ax_block_reader.proofs.EntryWays.{no_entries_fit, entries_due}
+use Rattle.ax_block_reader.proofs.EntryWays.{entries_due}
 use Rattle.ax_block_reader.proofs.KindWays.{slot_way, slot_is_read}
 
 -- ---- the slot of an item by its name

@@ -1,5 +1,5 @@
 -- Each way through the reader of an item that repeats by FX.
-use Rattle.std.proofs.Common.{◌≡◌, ℕ, ◌+◌, ◌<◌, ◌≤◌, ◌⊎◌, inl, inr, List, [], ◌∷◌, ◌++◌, refl, sym, ◌∙◌, ap, subst, length, arith}
+use Rattle.std.proofs.Common.{◌≡◌, ◌⊎◌, inl, inr, List, [], ◌∷◌, ◌++◌, refl, sym, ◌∙◌, ap, subst, arith}
 use Rattle.ax_token_reader.specs.Stopping.{Texts, Stops, IsNotFirst, Then}
 use Rattle.ax_token_reader.specs.declared.stopped.Stopped.{Stopped}
 use Rattle.ax_token_reader.proofs.Stops.{BeginsWith}
@@ -64,7 +64,7 @@ module _ (f : FixedTree) where
   pub value_read : (made more : List Value) (v : Value) (old now new : Texts) → RunRead made old now → IsRead S (fixed_texts f) (value_tree v) now new → more ≡ made ++ v ∷ [] → OneMore more old new
   value_read made more v old now new r one pushed =
       let step = one_collected (SomeOf S) (EachShape S) spell spell S (fixed_texts f) value_and (value_tree v) [] now now new (some_start now) (start_front now)
-          (λ vs h g. (omega arith, (h, g))) (λ vs h g. sym (fixed_more f (value_tree v) [] (spell vs))) one in
+      (λ vs h g. (omega arith, (h, g))) (λ vs h g. sym (fixed_more f (value_tree v) [] (spell vs))) one in
       subst (λ m. OneMore m old new) (sym pushed) (record {
         read = same_put _ _ _ _ (λ vs. values_before made (value_and (value_tree v) vs)) (values_before (made ++ v ∷ [])) old new (λ vs. before_more made v vs)
             (more_collected (SomeOf S) (SomeOf S) (EachShape S) spell spell spell (values_before made) (value_and (value_tree v)) old now new r.read step);

@@ -1,17 +1,16 @@
 -- All tokens of a line.
-use Rattle.std.proofs.Common.{◌≡◌, ℕ, zero, suc, ◌+◌, ◌-◌, ◌<◌, ◌≤◌, List, [], ◌∷◌, ◌++◌, length, take, refl, sym, ◌∙◌, ap, subst, append_assoc, append-nil, length-append, arith, Some, None}
+use Rattle.std.proofs.Common.{◌≡◌, ℕ, ◌+◌, ◌-◌, ◌<◌, ◌≤◌, List, [], ◌∷◌, ◌++◌, length, take, refl, sym, ◌∙◌, ap, subst, append_assoc, append-nil, length-append, arith, Some, None}
 use Rattle.std.specs.Prelude.{Option}
-use Rattle.std.specs.Option.{option_map}
 use Rattle.std.proofs.lemmas.List.{take_at, length-map, append_cancel_left}
 use Rattle.ax_tokens.specs.PlainToken.{PlainToken}
 use Rattle.ax_token_reader.specs.FirstBad.{FirstBad}
 use Rattle.ax_token_reader.specs.Stopping.{Texts, StopsAt, texts_of}
 use Rattle.ax_token_reader.proofs.Bad.{stops_bad}
 use Rattle.ax_model.specs.Blocks.{BlockTree, read_block, opaque_block, Fits}
-use Rattle.ax_model.specs.CanonicalOctets.{framed, canon_over, category_of}
+use Rattle.ax_model.specs.CanonicalOctets.{framed, canon_over}
 use Rattle.ax_model.specs.Lengths.{held}
 use Rattle.ax_model.specs.OfCode.{BlockFits, block_length}
-use Rattle.ax_model.specs.Plain.{spec_tree, catalogue_tree, records_tree, block_tree}
+use Rattle.ax_model.specs.Plain.{spec_tree, records_tree, block_tree}
 use Rattle.ax_model.specs.Specification.{SpecTree, spec_of}
 use Rattle.ax_model.specs.Streams.{FitsOver}
 use Rattle.ax_model.specs.Tree.{EntriesTree}
@@ -21,7 +20,6 @@ use Rattle.ax_model.specs.declared.record.Record.{Record}
 use Rattle.ax_model.specs.declared.spec.Spec.{Spec}
 use Rattle.ax_block_reader.specs.BlockTexts.{IsBlockOf, block_texts, IsBlockText, canonical_length, Spells}
 use Rattle.ax_block_reader.specs.Continuing.{Done, Continues, IsRead}
-use Rattle.ax_block_reader.proofs.Collecting.{front_is}
 use Rattle.ax_block_reader.proofs.Continuations.{no_text}
 
 -- ---- texts behind a whole block

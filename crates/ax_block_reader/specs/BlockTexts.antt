@@ -1,12 +1,11 @@
 -- The language of block texts under a catalogue, and what is asked of a line's tokens.
-use Rattle.std.specs.Prelude.{◌≡◌, ℕ, ◌<◌, ◌≤◌, List, [], ◌∷◌, length, codes, Option, Some, None}
+use Rattle.std.specs.Prelude.{◌≡◌, ℕ, ◌<◌, ◌≤◌, List, length}
 use Rattle.ax_token_reader.specs.FirstBad.{FirstBad}
 use Rattle.ax_token_reader.specs.Stopping.{Texts, texts_of}
 use Rattle.ax_tokens.specs.PlainToken.{PlainToken}
 use Rattle.ax_model.specs.Blocks.{BlockTree}
 use Rattle.ax_model.specs.CanonicalOctets.{canon_over, category_of}
 use Rattle.ax_model.specs.Lengths.{held}
-use Rattle.ax_model.specs.Paths.{three_digits}
 use Rattle.ax_model.specs.Specification.{SpecTree, spec_of}
 use Rattle.ax_text.specs.Tokens.{TextOver, IsOfCatalogue}
 use Rattle.ax_block_reader.specs.Continuing.{Spelled}

@@ -1,5 +1,5 @@
 -- How the members of a language go on from texts that were read, and what a call of the reader gives.
-use Rattle.std.specs.Prelude.{◌≡◌, List, [], ◌∷◌, ◌++◌, Result, Ok, Err}
+use Rattle.std.specs.Prelude.{◌≡◌, [], ◌∷◌, ◌++◌, Result, Ok, Err}
 use Rattle.ax_token_reader.specs.Stopping.{Texts, Stops}
 use Rattle.ax_token_reader.specs.declared.stopped.Stopped.{Stopped}
 

@@ -31,11 +31,7 @@ fn braced_members(
 
 /// A part: `part` and its members in braces.
 #[tactic(auto, using(crate::proofs::PartWays::part_ways))]
-fn part_values(
-    alloc: Global,
-    reader: &mut Reader<'_, '_>,
-    part: &Part,
-) -> Result<Values, Stopped>
+fn part_values(alloc: Global, reader: &mut Reader<'_, '_>, part: &Part) -> Result<Values, Stopped>
     requires { MembersReadable (part_tree part.now) }
     ensures gives { Gives values_tree (MembersShape (part_tree part.now)) (part_texts (part_tree part.now)) result reader.old reader.new }
     ensures moves { OnOk result (length reader.new < length reader.old) }

@@ -109,11 +109,7 @@ fn subitem(
 /// The entries of a compound, and the brace after them.
 #[cycle(kind_value)]
 #[tactic(auto, using(crate::proofs::EntryWays::entries_ways))]
-fn subitems(
-    alloc: Global,
-    reader: &mut Reader<'_, '_>,
-    slots: &Slots,
-) -> Result<Entries, Stopped>
+fn subitems(alloc: Global, reader: &mut Reader<'_, '_>, slots: &Slots) -> Result<Entries, Stopped>
     requires { SlotsReadable (slots_tree slots.now) }
     ensures gives { Gives entries_tree (EntriesShape 1 (slots_tree slots.now)) (entries_texts 1 (slots_tree slots.now)) result reader.old reader.new }
     ensures moves { OnOk result (length reader.new < length reader.old) }

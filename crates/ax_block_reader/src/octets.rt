@@ -102,10 +102,7 @@ fn next_octets(alloc: Global, reader: &Reader<'_, '_>) -> Result<Octets, Stopped
 
 /// The content of an explicit item, at most 254 octets.
 #[tactic(auto, using(crate::proofs::Contents::explicit_ways))]
-pub(crate) fn explicit_value(
-    alloc: Global,
-    reader: &mut Reader<'_, '_>,
-) -> Result<Value, Stopped>
+pub(crate) fn explicit_value(alloc: Global, reader: &mut Reader<'_, '_>) -> Result<Value, Stopped>
     ensures gives { Gives value_tree (Shape explicit) (kind_texts explicit) result reader.old reader.new }
     ensures moves { OnOk result (length reader.new < length reader.old) }
 {
@@ -119,10 +116,7 @@ pub(crate) fn explicit_value(
 
 /// The content of an opaque block, at least one octet.
 #[tactic(auto, using(crate::proofs::Contents::content_ways))]
-pub(crate) fn opaque_content(
-    alloc: Global,
-    reader: &mut Reader<'_, '_>,
-) -> Result<Octets, Stopped>
+pub(crate) fn opaque_content(alloc: Global, reader: &mut Reader<'_, '_>) -> Result<Octets, Stopped>
     ensures gives { Gives (λ octets. octets) IsContent (λ octets. hex_text octets ∷ []) result reader.old reader.new }
     ensures moves { OnOk result (length reader.new < length reader.old) }
 {

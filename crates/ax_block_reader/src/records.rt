@@ -122,11 +122,7 @@ fn record(alloc: Global, reader: &mut Reader<'_, '_>, spec: &Spec) -> Result<Rec
 
 /// One or more records, and the brace after them.
 #[tactic(auto, using(crate::proofs::RecordListWays::records_ways))]
-fn records(
-    alloc: Global,
-    reader: &mut Reader<'_, '_>,
-    spec: &Spec,
-) -> Result<Records, Stopped>
+fn records(alloc: Global, reader: &mut Reader<'_, '_>, spec: &Spec) -> Result<Records, Stopped>
     requires readable { SlotsReadable (record_slots (spec_tree spec.now)) }
     requires bound { length reader.old < 4294967296 }
     ensures gives { Gives records_tree (SomeRecords (spec_tree spec.now)) (records_texts (spec_tree spec.now)) result reader.old reader.new }

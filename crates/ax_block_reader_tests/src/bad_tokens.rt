@@ -8,13 +8,37 @@ use std::test::Fail;
 
 // Category files, lines, and the number of the first bad token.
 const BAD: [(&str, &str, u32); 43] = [
-    (CAT048_P1, "block 048 { record { 010 { SAC 256 SIC 12 } } }", 8),
-    (CAT048_P1, "block 048 { record { 010 { SAC 025 SIC 12 } } }", 8),
-    (CAT048_P1, "block 048 { record { 010 { SAC +25 SIC 12 } } }", 8),
-    (CAT048_P1, "block 048 { record { 010 { SIC 12 SAC 25 } } }", 7),
+    (
+        CAT048_P1,
+        "block 048 { record { 010 { SAC 256 SIC 12 } } }",
+        8,
+    ),
+    (
+        CAT048_P1,
+        "block 048 { record { 010 { SAC 025 SIC 12 } } }",
+        8,
+    ),
+    (
+        CAT048_P1,
+        "block 048 { record { 010 { SAC +25 SIC 12 } } }",
+        8,
+    ),
+    (
+        CAT048_P1,
+        "block 048 { record { 010 { SIC 12 SAC 25 } } }",
+        7,
+    ),
     (CAT048_P1, "block 048 { record { 010 { SAC 25 } } }", 9),
-    (CAT048_P1, "block 048 { record { 010 { SAC 25 SIC 12 SAC 1 } } }", 11),
-    (CAT048_P1, "block 048 { record { 140 1 010 { SAC 1 SIC 1 } } }", 7),
+    (
+        CAT048_P1,
+        "block 048 { record { 010 { SAC 25 SIC 12 SAC 1 } } }",
+        11,
+    ),
+    (
+        CAT048_P1,
+        "block 048 { record { 140 1 010 { SAC 1 SIC 1 } } }",
+        7,
+    ),
     (CAT048_P1, "block 048 { record { 140 1 140 1 } }", 7),
     (CAT048_P1, "block 048 { record { 141 1 } }", 5),
     (CAT048_P1, "block 048 { record { 140 } }", 6),
@@ -23,7 +47,11 @@ const BAD: [(&str, &str, u32); 43] = [
     (CAT048_P1, "block 048 { record { SP \"aa \" } }", 6),
     (CAT048_P1, "block 048 { record { SP aa } }", 6),
     (CAT048_P1, "block 048 { record { 161 { TRN 42 } } }", 7),
-    (CAT048_P1, "block 048 { record { 161 { spare 16 TRN 42 } } }", 8),
+    (
+        CAT048_P1,
+        "block 048 { record { 161 { spare 16 TRN 42 } } }",
+        8,
+    ),
     (CAT048_P1, "block 048 { record { 020 { } } }", 7),
     (
         CAT048_P1,
@@ -40,7 +68,11 @@ const BAD: [(&str, &str, u32); 43] = [
     (CAT048_P1, "block 048 { record { 130 { APD 8 SRL 7 } } }", 9),
     (CAT048_P1, "block 048 { record { 250 { 0 } } }", 7),
     (CAT048_P1, "block 048 { record { } } x", 7),
-    (CAT048_P1, "block 048 { record { } } block 048 { record { } }", 7),
+    (
+        CAT048_P1,
+        "block 048 { record { } } block 048 { record { } }",
+        7,
+    ),
     (CAT048_P1, "block 048 { }", 3),
     (CAT048_P1, "block 048 record { }", 2),
     (CAT048_P1, "block 48 { record { } }", 1),
@@ -116,7 +148,9 @@ fn with_all_categories_no_text_begins_with_opaque(rt: HostRuntime) -> Result<(),
     let alloc = rt.alloc();
     let mut catalogue = Catalogue::new(alloc);
     for category in 0..256u32 {
-        let text = format!(in alloc; "category {category:03} edition \"\" items {{ }} uap {{ - }}")?;
+        let text = format!(in alloc;
+            "category {category:03} edition \"\" items {{ }} uap {{ - }}"
+        )?;
         add_file(&rt, alloc, &mut catalogue, &text)?;
     }
     match read_line(&rt, alloc, &catalogue, b"opaque 062 \"00\"")? {

@@ -73,7 +73,7 @@ const READ: [(&str, u8, &str, &str); 11] = [
         FILE_N,
         200,
         "block 200 { record { 010 { { A 17 } { H 34 } } } }",
-        "C8 00 0B 80 02 81 00 11 01 80 22",
+        "C8 00 0A 80 02 80 11 01 80 22",
     ),
     (
         FILE_H1,
@@ -103,12 +103,16 @@ fn blocks_are_read(rt: HostRuntime) -> Result<(), Fail> {
 fn an_opaque_block_needs_no_file(rt: HostRuntime) -> Result<(), Fail> {
     let alloc = rt.alloc();
     let catalogue = Catalogue::new(alloc);
-    let Ok(Block::Opaque { category, octets }) =
-        read_line(&rt, alloc, &catalogue, b"opaque 048 \"80ff\"")?
+    let Ok(Block::Opaque { category, octets }) = read_line(
+        &rt,
+        alloc,
+        &catalogue,
+        b"opaque 048 \"80ff\"",
+    )?
     else {
         return Err(Fail::new("an opaque block"));
     };
     assert_eq!(rt; category, 48);
-    assert_eq!(rt; octets.as_slice(), &[0x80, 0xFF]);
+    assert_eq!(rt; octets.as_slice(), [0x80, 0xFF].as_slice());
     Ok(())
 }

@@ -1,4 +1,4 @@
-use Rattle.std.proofs.Common.{rules, ◌≡◌, None, Some}
+use Rattle.std.proofs.Common.{rules, ◌≡◌, None}
 use Rattle.std.proofs.lemmas.Result.{err_from_is_err_and}
 use Rattle.ax_model.specs.Plain.{catalogue_tree}
 use Rattle.ax_model.specs.Specification.{spec_of}

@@ -2,7 +2,7 @@ use Rattle.std.proofs.Common.{rules, Ok, map, ◌≡◌, ◌∷◌, ◌++◌, []
 use Rattle.std.proofs.lemmas.List.{length_push}
 use Rattle.std.proofs.lemmas.Result.{err_from_is_err_and}
 use Rattle.ax_model.specs.Plain.{part_tree}
-use Rattle.ax_block_reader.proofs.PartWays.{first_lacks, first_part_read, parts_cut, parts_end, parts_lack, part_readable, part_lacks, part_more_read}
+use Rattle.ax_block_reader.proofs.PartWays.{first_lacks, first_part_read, parts_cut, parts_end, parts_lack, part_lacks, part_more_read}
 use Rattle.ax_block_reader.proofs.extended.parts_present.Goals as goal
 
 pub returns-in_err-values-clause-gives : goal.returns-in_err-values-clause-gives

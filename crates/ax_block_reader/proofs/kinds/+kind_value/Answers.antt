@@ -1,12 +1,12 @@
-use Rattle.std.proofs.Common.{rules, Ok, true, suc, ◌-◌, ◌≡◌, ◌+◌, ◌<◌, ◌≤◌, ◌∷◌, ◌++◌, [], length, drop, ap, arith, refl, inl, inr, get_or, ◌∙◌, List, ℕ}
+use Rattle.std.proofs.Common.{rules, Ok, true, suc, ◌-◌, ◌≡◌, ◌+◌, ◌∷◌, ◌++◌, [], length, ap, arith, refl, inr, get_or, ◌∙◌, List, ℕ}
 use Rattle.std.proofs.lemmas.List.{length_push}
 use Rattle.std.proofs.lemmas.Result.{err_from_is_err_and}
-use Rattle.ax_model.specs.Plain.{kind_tree, slot_tree, slots_tree, value_tree}
+use Rattle.ax_model.specs.Plain.{kind_tree}
 use Rattle.ax_model.specs.declared.kind.Slot.{Slot}
 use Rattle.ax_model.specs.declared.value.Entry.{roll-Entry}
-use Rattle.ax_block_reader.proofs.KindWays.{fixed_is_read, explicit_is_read, extended_is_read, counted_is_read, run_is_read, compound_is_read, sub_way, sub_is_read}
+use Rattle.ax_block_reader.proofs.KindWays.{fixed_is_read, extended_is_read, counted_is_read, run_is_read, compound_is_read, sub_way, sub_is_read}
 use Rattle.ax_block_reader.proofs.CountedWays.{value_lacks, value_read, counted_cut, counted_ends, counted_lacks}
-use Rattle.ax_block_reader.proofs.EntryWays.{no_entry_read, slot_readable, entry_lacks, entry_read, entry_skipped, close_lacks, entries_read, slots_from, slots_past, entry_is}
+use Rattle.ax_block_reader.proofs.EntryWays.{no_entry_read, entry_lacks, entry_read, entry_skipped, close_lacks, entries_read, slots_from, slots_past, entry_is}
 use Rattle.ax_block_reader.proofs.kinds.+kind_value.Goals as goal
 
 pub kind_value-returns-in_ok-value-in-Fixed-clause-gives : goal.kind_value-returns-in_ok-value-in-Fixed-clause-gives

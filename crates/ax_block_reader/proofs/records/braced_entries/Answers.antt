@@ -1,4 +1,3 @@
-use Rattle.std.proofs.Common.{rules}
 use Rattle.std.proofs.lemmas.Result.{err_from_is_err_and}
 use Rattle.ax_model.specs.Plain.{spec_tree}
 use Rattle.ax_block_reader.proofs.RecordWays.{open_way, inside_way, braced_read}

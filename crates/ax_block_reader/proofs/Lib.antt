@@ -17,3 +17,4 @@ pub mod Readables
 pub mod Digits
 pub mod BlockWays
 pub mod Whole
+pub mod Once

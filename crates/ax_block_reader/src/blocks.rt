@@ -29,7 +29,6 @@ fn form_of(reader: &Reader<'_, '_>, catalogue: &Catalogue) -> Result<BlockForm, 
     ensures none { IfErr result (λ stopped. Stops stopped (IsBlockText (catalogue_tree catalogue.now)) reader.now reader.now) }
 {
     let known = known_category(catalogue);
-    let lacked = lacked_category(catalogue);
     let token = reader.peek()?;
     if token.text == b"block".as_slice() {
         return match known {
@@ -38,7 +37,7 @@ fn form_of(reader: &Reader<'_, '_>, catalogue: &Catalogue) -> Result<BlockForm, 
         };
     }
     if token.text == b"opaque".as_slice() {
-        return match lacked {
+        return match lacked_category(catalogue) {
             Some(_) => Ok(BlockForm::Opaque),
             None => Err(Stopped::Bad),
         };

@@ -10,6 +10,7 @@ mod error;
 mod extended;
 mod fixed;
 mod kinds;
+pub mod laws;
 mod numbers;
 mod octets;
 mod reading;

@@ -24,9 +24,10 @@ fn spelled_block(
     let mut reader = Reader::new(tokens);
     match block(alloc, &mut reader, catalogue) {
         Ok(found) => {
-            if reader.count() > 0 {
+            let left = reader.count();
+            if left > 0 {
                 return Err(TextError::BadToken {
-                    token: tokens.count() - reader.count(),
+                    token: tokens.count() - left,
                 });
             }
             Ok(found)

@@ -15,9 +15,9 @@ returns-in-None-clause-none c =
     let word : c.in_ok-token.token.now.text.now ≡ codes "block" = search rules in
     unknown_form (catalogue_tree c.args.catalogue.now) c.known_category-known.result c.args.reader.now c.in_ok-token.token.now.text.now c.known_category-known.ensures c.in_ok-token.ensures.next word none
 
-pub returns-in-None-lacked-clause-none : goal.returns-in-None-lacked-clause-none
-returns-in-None-lacked-clause-none c =
-    let none = rw c.in-None-lacked.is at c.lacked_category-lacked.ensures in
+pub returns-in-None-lacked_category-clause-none : goal.returns-in-None-lacked_category-clause-none
+returns-in-None-lacked_category-clause-none c =
+    let none = rw c.in-None-lacked_category.is at c.lacked_category.ensures in
     let word : c.in_ok-token.token.now.text.now ≡ codes "opaque" = search rules in
     unlacked_form (catalogue_tree c.args.catalogue.now) c.known_category-known.result c.args.reader.now c.in_ok-token.token.now.text.now c.known_category-known.ensures c.in_ok-token.ensures.next word none
 

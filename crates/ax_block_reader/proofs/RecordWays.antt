@@ -1,0 +1,158 @@
+-- Each way through the readers of a record.
+use Rattle.std.proofs.Common.{◌≡◌, ℕ, ◌+◌, ◌<◌, ◌≤◌, Bool, true, false, cond, List, [], ◌∷◌, ◌++◌, refl, sym, ◌∙◌, ap, subst, length, drop, get_or, map, codes, Some, None}
+use Rattle.std.specs.Prelude.{bytes_eq, Option}
+use Rattle.std.proofs.lemmas.List.{drop_all}
+use Rattle.std.proofs.lemmas.Slice.Eq.{bytes_eq-Decides}
+use Rattle.ax_token_reader.specs.Stopping.{Texts, Stops, IsNotFirst, Word}
+use Rattle.ax_token_reader.specs.declared.stopped.Stopped.{Stopped}
+use Rattle.ax_token_reader.proofs.Words.{not_first}
+use Rattle.ax_model.proofs.RecordFitting.{spare_is, item_is}
+use Rattle.ax_model.specs.Bodies.{RecordShape}
+use Rattle.ax_model.specs.Characters.{IsName}
+use Rattle.ax_model.specs.Lookup.{item_of_slot}
+use Rattle.ax_model.specs.Plain.{item_tree, kind_tree}
+use Rattle.ax_model.specs.Shape.{Shape, EntriesShape}
+use Rattle.ax_model.specs.Specification.{ItemTree, SpecTree, first_named, slot_of_item, uap_slot, record_slots}
+use Rattle.ax_model.specs.Tree.{SlotTree, SlotsTree, no_slots, slot_and, spare_slot, subitem, slots_of, ValueTree, EntriesTree}
+use Rattle.ax_model.specs.declared.spec.Item.{Item}
+use Rattle.ax_model.specs.declared.spec.UapSlot.{UapSlot}
+use Rattle.ax_model.specs.declared.spec.UapSlot.TheVariants as Uap
+use Rattle.ax_text.proofs.Printed.{from_place}
+use Rattle.ax_text.specs.Slots.{SlotShape}
+use Rattle.ax_text.specs.ValueText.{opening, closing}
+use Rattle.ax_block_reader.specs.Continuing.{Spelled, IsRead}
+use Rattle.ax_block_reader.specs.Entries.{slot_texts, SlotNamed, IsNotNamed, IsNamedAt}
+use Rattle.ax_block_reader.specs.Languages.{kind_texts, entries_texts}
+use Rattle.ax_block_reader.specs.Readable.{Readable, SlotReadable}
+use Rattle.ax_block_reader.specs.Records.{braced_entries_texts, record_texts}
+use Rattle.ax_block_reader.proofs.Continuations.{lacks_there, Prefixed, prefix_lacks, prefix_read}
+use Rattle.ax_block_reader.proofs.Collecting.{prefix_is_read}
+use Rattle.ax_block_reader.proofs.EntryWays.{entries_due}
+use Rattle.ax_block_reader.proofs.KindWays.{slot_way, slot_is_read}
+
+-- ---- the slot of an item by its name
+
+-- the slot is undefined, or has the name
+abbrev HasName : List ℕ → SlotTree → Type 0
+HasName name spare_slot = Unit {0}
+HasName name (subitem other k) = other ≡ name
+
+found_case : (b : Bool) (name : List ℕ) (item : ItemTree) (o : Option ItemTree) → bytes_eq item.name name ≡ b → HasName name (slot_of_item o) → HasName name (slot_of_item (cond b (Some item) o))
+found_case true name item o e h = (bytes_eq-Decides item.name name).0 e
+found_case false name item o e h = h
+
+found_named : (name : List ℕ) (items : List ItemTree) → HasName name (slot_of_item (first_named name items))
+found_named name [] = tt
+found_named name (item ∷ items) = found_case (bytes_eq item.name name) name item (first_named name items) refl (found_named name items)
+
+is_named : (name : List ℕ) (slot : SlotTree) → HasName name slot → IsName name → SlotNamed slot
+is_named name spare_slot h n = tt
+is_named name (subitem other k) h n = subst IsName (sym h) n
+
+not_named : (name : List ℕ) (slot : SlotTree) (texts : Texts) → HasName name slot → IsNotFirst (λ text. text ≡ name) texts → IsNotNamed slot texts
+not_named name spare_slot texts h n = tt
+not_named name (subitem other k) texts h n = subst (λ w. IsNotFirst (λ text. text ≡ w) texts) (sym h) n
+
+slot_has : (items : List Item) (slot : UapSlot) (name : List ℕ) → slot ≡ Uap.Item name → HasName name (uap_slot (map item_tree items) slot)
+slot_has items slot name e = subst (λ s. HasName name (uap_slot (map item_tree items) s)) (sym e) (found_named name (map item_tree items))
+
+pub spare_named : (items : List Item) (slot : UapSlot) → slot ≡ Uap.Spare → SlotNamed (uap_slot (map item_tree items) slot)
+spare_named items slot e = subst (λ s. SlotNamed (uap_slot (map item_tree items) s)) (sym e) tt
+
+pub spare_skipped : (items : List Item) (slot : UapSlot) (texts : Texts) → slot ≡ Uap.Spare → IsNotNamed (uap_slot (map item_tree items) slot) texts
+spare_skipped items slot texts e = subst (λ s. IsNotNamed (uap_slot (map item_tree items) s) texts) (sym e) tt
+
+pub item_named : (items : List Item) (slot : UapSlot) (name : List ℕ) → slot ≡ Uap.Item name → IsName name → SlotNamed (uap_slot (map item_tree items) slot)
+item_named items slot name e n = is_named name (uap_slot (map item_tree items) slot) (slot_has items slot name e) n
+
+-- another text comes
+pub other_comes : (items : List Item) (slot : UapSlot) (name word text : List ℕ) (texts : Texts) → slot ≡ Uap.Item name → word ≡ name → texts ≡ text ∷ drop 1 texts → (text ≡ word → ⊥) → IsNotNamed (uap_slot (map item_tree items) slot) texts
+other_comes items slot name word text texts e same is n =
+    not_named name (uap_slot (map item_tree items) slot) texts (slot_has items slot name e) (not_first (λ t. t ≡ name) texts text is (λ h. n (h ∙ sym same)))
+
+-- the name comes, and no item has it
+pub none_has : (items : List Item) (slot : UapSlot) (texts : Texts) → item_of_slot (Some slot) items ≡ None → IsNotNamed (uap_slot (map item_tree items) slot) texts
+none_has items slot texts e = subst (λ s. IsNotNamed s texts) (sym (spare_is items slot e)) tt
+
+pub item_there : (items : List Item) (slot : UapSlot) (item : Item) → item_of_slot (Some slot) items ≡ Some item → uap_slot (map item_tree items) slot ≡ subitem item.name (kind_tree item.kind)
+item_there items slot item e = item_is items slot item e
+
+pub name_there : (items : List Item) (slot : UapSlot) (item : Item) (name word text : List ℕ) (texts new : Texts) → slot ≡ Uap.Item name → word ≡ name → item_of_slot (Some slot) items ≡ Some item → texts ≡ text ∷ drop 1 texts → text ≡ word → new ≡ drop 1 texts → texts ≡ item.name ∷ new
+name_there items slot item name word text texts new e same found is h n =
+    let has : item.name ≡ name = subst (HasName name) (item_is items slot item found) (slot_has items slot name e) in
+    is ∙ (λ i. (h ∙ same ∙ sym has) i ∷ sym n i)
+
+pub ruleset item_steps = (spare_named, spare_skipped, item_named, other_comes, none_has, item_there, name_there)
+
+-- ---- its value
+
+pub readable_item : (slot : SlotTree) (item : Item) → slot ≡ subitem item.name (kind_tree item.kind) → SlotReadable slot → Readable (kind_tree item.kind)
+readable_item slot item e r = subst SlotReadable e r
+
+pub item_way : (slot : SlotTree) (item : Item) (stopped : Stopped) (old mid new : Texts) → slot ≡ subitem item.name (kind_tree item.kind) → old ≡ item.name ∷ mid → Stops stopped (Spelled (Shape (kind_tree item.kind)) (kind_texts (kind_tree item.kind))) mid new
+    → Stops stopped (Spelled (SlotShape slot) (slot_texts slot)) old new × IsNamedAt slot old
+item_way slot item stopped old mid new e h s = slot_way slot item.name (kind_tree item.kind) stopped old mid new e h s
+
+pub item_is_read : (slot : SlotTree) (item : Item) (v : ValueTree) (old mid new : Texts) → slot ≡ subitem item.name (kind_tree item.kind) → old ≡ item.name ∷ mid → IsRead (Shape (kind_tree item.kind)) (kind_texts (kind_tree item.kind)) v mid new
+    → IsRead (SlotShape slot) (slot_texts slot) v old new
+item_is_read slot item v old mid new e h r = slot_is_read slot item.name (kind_tree item.kind) v old mid new e h r
+
+pub ruleset value_steps = readable_item
+
+-- ---- the slots of the UAP
+
+abbrev pub slots_of_uap : List Item → List UapSlot → SlotsTree
+slots_of_uap items uap = slots_of (map (uap_slot (map item_tree items)) uap)
+
+pub uap_from : (items : List Item) (uap : List UapSlot) (i : ℕ) (slot : UapSlot) → i < length uap → slot ≡ get_or uap i slot → slots_of_uap items (drop i uap) ≡ slot_and (uap_slot (map item_tree items) slot) (slots_of_uap items (drop (i + 1) uap))
+uap_from items uap i slot lt at = ap (slots_of_uap items) (from_place uap i slot lt at)
+
+pub uap_past : (items : List Item) (uap : List UapSlot) (i : ℕ) → length uap ≤ i → slots_of_uap items (drop i uap) ≡ no_slots
+uap_past items uap i le = ap (slots_of_uap items) (drop_all i uap le)
+
+-- ---- records
+
+abbrev AreEntries : SpecTree → Texts → Type 0
+AreEntries spec = Spelled (EntriesShape 1 (record_slots spec)) (entries_texts 1 (record_slots spec))
+
+abbrev AreBraced : SpecTree → Texts → Type 0
+AreBraced spec = Spelled (EntriesShape 1 (record_slots spec)) (braced_entries_texts spec)
+
+abbrev AreRecord : SpecTree → Texts → Type 0
+AreRecord spec = Spelled (RecordShape spec) (record_texts spec)
+
+braced_prefixed : (spec : SpecTree) → Prefixed opening (AreEntries spec) (AreBraced spec)
+braced_prefixed spec = record { put = λ t m. (m.0, m.1, ap (λ x. opening ∷ x) m.2); taken = λ t m. (entries_texts 1 (record_slots spec) m.0, m.2, (m.0, m.1, refl)) }
+
+pub open_way : (spec : SpecTree) (stopped : Stopped) (old new : Texts) → Stops stopped (Word opening) old new → Stops stopped (AreBraced spec) old new
+open_way spec stopped old new s = prefix_lacks opening (AreEntries spec) (AreBraced spec) (closing ∷ []) stopped old new (braced_prefixed spec) (entries_due 1 (record_slots spec)) s
+
+pub inside_way : (spec : SpecTree) (stopped : Stopped) (old mid new : Texts) → old ≡ (opening ∷ []) ++ mid → Stops stopped (AreEntries spec) mid new → Stops stopped (AreBraced spec) old new
+inside_way spec stopped old mid new e s = lacks_there (AreBraced spec) (AreEntries spec) stopped old mid new (prefix_read opening (AreEntries spec) (AreBraced spec) old mid (braced_prefixed spec) e) s
+
+pub braced_read : (spec : SpecTree) (es : EntriesTree) (old mid new : Texts) → old ≡ (opening ∷ []) ++ mid → IsRead (EntriesShape 1 (record_slots spec)) (entries_texts 1 (record_slots spec)) es mid new → IsRead (EntriesShape 1 (record_slots spec)) (braced_entries_texts spec) es old new
+braced_read spec es old mid new e r =
+    prefix_is_read opening (EntriesShape 1 (record_slots spec)) (braced_entries_texts spec) (EntriesShape 1 (record_slots spec)) (entries_texts 1 (record_slots spec)) es es old mid new (braced_prefixed spec) r.shape refl e r
+
+pub ruleset braced_ways = (open_way, inside_way, braced_read)
+
+record_prefixed : (spec : SpecTree) → Prefixed (codes "record") (AreBraced spec) (AreRecord spec)
+record_prefixed spec = record {
+  put = λ t m. (m.0, record { shape = m.1 }, ap (λ x. codes "record" ∷ x) m.2);
+  taken = λ t m. (braced_entries_texts spec m.0, m.2, (m.0, m.1.shape, refl));
+}
+
+-- the record that is due has no entry
+pub word_way : (spec : SpecTree) (stopped : Stopped) (old new : Texts) → Stops stopped (Word (codes "record")) old new → Stops stopped (AreRecord spec) old new
+word_way spec stopped old new s =
+    let d = entries_due 1 (record_slots spec) in
+    prefix_lacks (codes "record") (AreBraced spec) (AreRecord spec) (opening ∷ closing ∷ []) stopped old new (record_prefixed spec) (d.0, d.1, ap (λ x. opening ∷ x) d.2) s
+
+pub behind_way : (spec : SpecTree) (stopped : Stopped) (old mid new : Texts) → old ≡ (codes "record" ∷ []) ++ mid → Stops stopped (AreBraced spec) mid new → Stops stopped (AreRecord spec) old new
+behind_way spec stopped old mid new e s = lacks_there (AreRecord spec) (AreBraced spec) stopped old mid new (prefix_read (codes "record") (AreBraced spec) (AreRecord spec) old mid (record_prefixed spec) e) s
+
+pub record_is_read : (spec : SpecTree) (es : EntriesTree) (old mid new : Texts) → old ≡ (codes "record" ∷ []) ++ mid → IsRead (EntriesShape 1 (record_slots spec)) (braced_entries_texts spec) es mid new → IsRead (RecordShape spec) (record_texts spec) es old new
+record_is_read spec es old mid new e r =
+    prefix_is_read (codes "record") (RecordShape spec) (record_texts spec) (EntriesShape 1 (record_slots spec)) (braced_entries_texts spec) es es old mid new (record_prefixed spec) (record { shape = r.shape }) refl e r
+
+pub ruleset record_ways = (word_way, behind_way, record_is_read)

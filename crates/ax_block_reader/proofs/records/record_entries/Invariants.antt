@@ -1,0 +1,14 @@
+use Rattle.std.proofs.Common.{◌≡◌, ◌≤◌, ◌+◌, length, drop}
+use Rattle.ax_model.specs.Plain.{spec_tree}
+use Rattle.ax_model.specs.Specification.{record_slots}
+use Rattle.ax_block_reader.proofs.EntryWays.{EntriesRead}
+use Rattle.ax_block_reader.proofs.RecordWays.{slots_of_uap}
+use Rattle.ax_block_reader.proofs.records.record_entries.Given as goal
+
+abbrev pub invariant-loop-slot : goal.invariant-loop-slot
+invariant-loop-slot l = record {
+  read : EntriesRead (record_slots (spec_tree l.fn.spec)) (slots_of_uap l.fn.spec.items (drop l.slot-index l.fn.spec.uap)) (l.number + 1) l.entries l.initial.reader l.reader;
+  number : l.number ≡ l.slot-index;
+  few : length l.entries ≤ l.slot-index;
+  less : length l.reader ≤ length l.initial.reader;
+}

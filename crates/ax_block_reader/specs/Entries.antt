@@ -1,0 +1,36 @@
+-- What a call for one slot of a compound or a record gives.
+use Rattle.std.specs.Prelude.{◌≡◌, [], ◌∷◌, ◌⊎◌, Option, Some, None, Result, Ok, Err}
+use Rattle.ax_token_reader.specs.Stopping.{Texts, Stops, IsNotFirst}
+use Rattle.ax_token_reader.specs.declared.stopped.Stopped.{Stopped}
+use Rattle.ax_model.specs.Characters.{IsName}
+use Rattle.ax_model.specs.Plain.{value_tree}
+use Rattle.ax_model.specs.Tree.{SlotTree, spare_slot, subitem, ValueTree}
+use Rattle.ax_model.specs.declared.value.Value.{Value}
+use Rattle.ax_text.specs.Slots.{SlotShape, slot_onto}
+use Rattle.ax_block_reader.specs.Continuing.{Spelled, IsRead}
+
+-- the name of the slot and its value
+abbrev pub slot_texts : SlotTree → ValueTree → Texts
+slot_texts slot v = slot_onto slot v []
+
+-- the slot is spare, or its name is a name
+abbrev pub SlotNamed : SlotTree → Type 0
+SlotNamed spare_slot = Unit {0}
+SlotNamed (subitem name k) = IsName name
+
+-- the first text isn't the slot's name
+abbrev pub IsNotNamed : SlotTree → Texts → Type 0
+IsNotNamed spare_slot texts = Unit {0}
+IsNotNamed (subitem name k) texts = IsNotFirst (λ text. text ≡ name) texts
+
+-- the first text is the slot's name
+abbrev pub IsNamedAt : SlotTree → Texts → Type 0
+IsNamedAt spare_slot texts = ⊥
+IsNamedAt (subitem name k) texts = (rest : Texts) × (texts ≡ name ∷ rest)
+
+-- the slot's value is read where its name comes, and nothing where it doesn't; a reader stops where the texts end, or in the
+-- value behind the name
+abbrev pub GivesSlot : SlotTree → Result (Option Value) Stopped → Texts → Texts → Type 0
+GivesSlot slot (Ok (Some v)) old new = IsRead (SlotShape slot) (slot_texts slot) (value_tree v) old new
+GivesSlot slot (Ok None) old new = (new ≡ old) × IsNotNamed slot old
+GivesSlot slot (Err stopped) old new = ((old ≡ []) × (new ≡ [])) ⊎ (Stops stopped (Spelled (SlotShape slot) (slot_texts slot)) old new × IsNamedAt slot old)

@@ -1,0 +1,89 @@
+//! Categories: as tokens, and which of them a catalogue has.
+ghost use Rattle.std.specs.Prelude.{◌≡◌, ◌+◌, ◌<◌, ◌⊎◌, ℕ, ◌∷◌, [], drop, IfOk, IfErr, MatchOption, Some, None};
+ghost use Rattle.ax_model.specs.Paths.{three_digits};
+ghost use Rattle.ax_model.specs.Plain.{catalogue_tree};
+ghost use Rattle.ax_model.specs.Specification.{SpecTree, spec_of};
+ghost use Rattle.ax_token_reader.specs.Stopping.{IsNotFirst};
+ghost use Rattle.ax_token_reader.specs.declared.stopped.Stopped.TheVariants.{Bad};
+ghost use Rattle.ax_block_reader.specs.BlockForms.{IsCategoryText};
+
+use ax_check::Catalogue;
+use ax_model::Spec;
+use ax_token_reader::{Reader, Stopped};
+
+/// The number of a digit. None comes exactly where the octet is none.
+fn digit_of(octet: u8) -> Option<u16>
+    ensures { MatchOption result ((octet < 48) ⊎ (57 < octet)) (λ digit. (octet ≡ 48 + digit) × digit < 10) }
+{
+    if octet < b'0' || octet > b'9' {
+        return None;
+    }
+    Some(u16::from(octet - b'0'))
+}
+
+/// The category of three digits, 000 to 255. None comes exactly where the octets are none.
+#[tactic(auto, using(crate::proofs::Digits::digits))]
+fn category_of_digits(hundreds: u8, tens: u8, ones: u8) -> Option<u8>
+    ensures { MatchOption result ((n : ℕ) → n < 256 → hundreds ∷ tens ∷ ones ∷ [] ≡ three_digits n → ⊥)
+        (λ n. hundreds ∷ tens ∷ ones ∷ [] ≡ three_digits n) }
+{
+    let number = 100 * digit_of(hundreds)? + 10 * digit_of(tens)? + digit_of(ones)?;
+    if number > 255 {
+        return None;
+    }
+    Some(number as u8)
+}
+
+/// The category that the text is, in three digits. None comes exactly where it is none.
+#[tactic(auto, using(crate::proofs::Digits::categories))]
+fn category_of(text: &[u8]) -> Option<u8>
+    ensures { MatchOption result ((n : ℕ) → n < 256 → text.now ≡ three_digits n → ⊥) (λ n. (n < 256) × (text.now ≡ three_digits n)) }
+{
+    let [hundreds, tens, ones] = text else {
+        return None;
+    };
+    category_of_digits(*hundreds, *tens, *ones)
+}
+
+/// The category of the next token, which isn't read yet.
+#[tactic(auto, using(crate::proofs::Digits::peeking))]
+pub(crate) fn next_category(reader: &Reader<'_, '_>) -> Result<u8, Stopped>
+    ensures category { IfOk result (λ n. (n < 256) × (reader.now ≡ three_digits n ∷ drop 1 reader.now)) }
+    ensures none { IfErr result (λ e. (e ≡ Bad) × IsNotFirst IsCategoryText reader.now) }
+{
+    let token = reader.peek()?;
+    match category_of(token.text) {
+        Some(category) => Ok(category),
+        None => Err(Stopped::Bad),
+    }
+}
+
+/// The category of a specification, which is an octet.
+fn category_in(spec: &Spec) -> u8
+    ensures value { result ≡ spec.now.category }
+    ensures octet { spec.now.category < 256 }
+{
+    spec.category
+}
+
+/// A category that the catalogue has. None comes exactly where it has none.
+#[tactic(auto, using(crate::proofs::Digits::firsts))]
+pub(crate) fn known_category(catalogue: &Catalogue) -> Option<u8>
+    ensures { MatchOption result (catalogue_tree catalogue.now ≡ []) (λ n. (n < 256) × ((spec : SpecTree) × (spec_of n (catalogue_tree catalogue.now) ≡ Some spec))) }
+{
+    let first = catalogue.at(0)?;
+    Some(category_in(first.spec()))
+}
+
+/// A category that the catalogue lacks. None comes exactly where it has all 256.
+pub(crate) fn lacked_category(catalogue: &Catalogue) -> Option<u8>
+    ensures { MatchOption result ((n : ℕ) → n < 256 → spec_of n (catalogue_tree catalogue.now) ≡ None → ⊥) (λ n. (n < 256) × (spec_of n (catalogue_tree catalogue.now) ≡ None)) }
+{
+    for number in 0..256u16 {
+        let category = number as u8;
+        if catalogue.get(category).is_none() {
+            return Some(category);
+        }
+    }
+    None
+}

@@ -1,0 +1,93 @@
+//! Values of extended items and of items that repeat by FX: lists of fixed kinds.
+ghost use Rattle.std.specs.Prelude.{◌≡◌, ◌<◌, ◌∷◌, length, map, OnOk};
+ghost use Rattle.ax_model.specs.Plain.{fixed_tree, members_tree, part_tree, value_tree, values_tree, lists_tree};
+ghost use Rattle.ax_model.specs.Shape.{FixedShape, MembersShape, PartsShape};
+ghost use Rattle.std.specs.List.{AllByRecursion};
+ghost use Rattle.ax_text.specs.ValueText.{opening, fixed_onto};
+ghost use Rattle.ax_block_reader.specs.Continuing.{Gives};
+ghost use Rattle.ax_block_reader.specs.Languages.{braced_texts, part_texts, parts_texts, each_texts, SomeOf};
+ghost use Rattle.ax_block_reader.specs.Readable.{FixedReadable, MembersReadable};
+
+use crate::fixed::{fixed_value, member_values};
+use ax_model::{Fixed, Lists, Members, Part, Parts, Values};
+use ax_token_reader::{Reader, Stopped};
+use std::alloc::Global;
+
+/// Members in braces.
+#[tactic(auto, using(crate::proofs::PartWays::braced_ways))]
+fn braced_members(
+    alloc: Global,
+    reader: &mut Reader<'_, '_>,
+    members: &Members,
+) -> Result<Values, Stopped>
+    requires { MembersReadable (members_tree members.now) }
+    ensures gives { Gives values_tree (MembersShape (members_tree members.now)) (braced_texts (members_tree members.now)) result reader.old reader.new }
+    ensures moves { OnOk result (length reader.new < length reader.old) }
+{
+    reader.expect(b"{")?;
+    let values = member_values(alloc, reader, members)?;
+    Ok(values)
+}
+
+/// A part: `part` and its members in braces.
+#[tactic(auto, using(crate::proofs::PartWays::part_ways))]
+fn part_values(alloc: Global, reader: &mut Reader<'_, '_>, part: &Part) -> Result<Values, Stopped>
+    requires { MembersReadable (part_tree part.now) }
+    ensures gives { Gives values_tree (MembersShape (part_tree part.now)) (part_texts (part_tree part.now)) result reader.old reader.new }
+    ensures moves { OnOk result (length reader.new < length reader.old) }
+{
+    reader.expect(b"part")?;
+    let values = braced_members(alloc, reader, &part.members)?;
+    Ok(values)
+}
+
+/// The values of the parts that are present, the first and maybe later ones, and the brace after them.
+#[tactic(auto, using(crate::proofs::PartWays::parts_ways))]
+pub(crate) fn parts_present(
+    alloc: Global,
+    reader: &mut Reader<'_, '_>,
+    parts: &Parts,
+) -> Result<Lists, Stopped>
+    requires some { 0 < length parts.now }
+    requires readable { AllByRecursion MembersReadable (map part_tree parts.now) }
+    ensures gives { Gives lists_tree (PartsShape (map part_tree parts.now)) (parts_texts (map part_tree parts.now)) result reader.old reader.new }
+    ensures moves { OnOk result (length reader.new < length reader.old) }
+{
+    let mut lists = Lists::new(alloc);
+    let Some((first, later)) = parts.as_slice().split_first() else {
+        return Err(Stopped::Bad);
+    };
+    let values = part_values(alloc, reader, first)?;
+    lists.push(values)?;
+    for part in later {
+        if reader.takes(b"}")? {
+            return Ok(lists);
+        }
+        let values = part_values(alloc, reader, part)?;
+        lists.push(values)?;
+    }
+    reader.expect(b"}")?;
+    Ok(lists)
+}
+
+/// One or more values of a fixed kind, and the brace after them.
+#[tactic(auto, using(crate::proofs::RunWays::run_ways))]
+pub(crate) fn run_values(
+    alloc: Global,
+    reader: &mut Reader<'_, '_>,
+    fixed: &Fixed,
+) -> Result<Values, Stopped>
+    requires readable { FixedReadable (fixed_tree fixed.now) }
+    requires bound { length reader.old < 4294967296 }
+    ensures gives { Gives values_tree (SomeOf (FixedShape (fixed_tree fixed.now))) (each_texts (fixed_onto (fixed_tree fixed.now))) result reader.old reader.new }
+    ensures moves { OnOk result (length reader.new < length reader.old) }
+{
+    let mut values = Values::new(alloc);
+    loop {
+        let value = fixed_value(alloc, reader, fixed)?;
+        values.push(value)?;
+        if reader.takes(b"}")? {
+            return Ok(values);
+        }
+    }
+}

@@ -1,0 +1,20 @@
+//! Block texts read back: from a line's tokens to the block whose text they are.
+//!
+//! Which tokens a block's text has is the definition of `ax_text`, from which `block_text` prints too. Here are the
+//! languages that it gives for each rule, and a reader of each that says where it stops.
+#![tactic(auto)]
+
+mod blocks;
+mod categories;
+mod error;
+mod extended;
+mod fixed;
+mod kinds;
+pub mod laws;
+mod numbers;
+mod octets;
+mod reading;
+mod records;
+
+pub use error::TextError;
+pub use reading::read_block_text;

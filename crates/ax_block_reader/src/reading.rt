@@ -1,0 +1,85 @@
+//! From a line's tokens to the block whose text they are.
+ghost use Rattle.std.specs.Prelude.{◌≡◌, IfOk, IfErr};
+ghost use Rattle.ax_model.specs.Lengths.{held};
+ghost use Rattle.ax_model.specs.Plain.{catalogue_tree, block_tree};
+ghost use Rattle.ax_block_reader.specs.BlockTexts.{IsBlockOf, canonical_length, Spells, IsTextOf, IsFault, IsBad};
+
+use crate::blocks::block;
+use crate::error::TextError;
+use ax_check::Catalogue;
+use ax_model::{Block, canon_length};
+use ax_token_reader::{Reader, Stopped};
+use ax_tokens::Tokens;
+use std::alloc::Global;
+
+/// The block whose text the tokens are, of whatever length.
+fn spelled_block(
+    alloc: Global,
+    catalogue: &Catalogue,
+    tokens: &Tokens<'_>,
+) -> Result<Block, TextError>
+    ensures spells { IfOk result (λ found. Spells (catalogue_tree catalogue.now) tokens.now (block_tree found)) }
+    ensures bad { IfErr result (IsBad (catalogue_tree catalogue.now) tokens.now) }
+{
+    let mut reader = Reader::new(tokens);
+    match block(alloc, &mut reader, catalogue) {
+        Ok(found) => {
+            let left = reader.count();
+            if left > 0 {
+                return Err(TextError::BadToken {
+                    token: tokens.count() - left,
+                });
+            }
+            Ok(found)
+        }
+        Err(Stopped::Bad) => Err(TextError::BadToken {
+            token: tokens.count() - reader.count(),
+        }),
+        Err(Stopped::OutOfMemory) => Err(TextError::OutOfMemory),
+    }
+}
+
+/// The octets of the block's canonical form, held at 2^64 - 1. Of an opaque block they are its octets, and 3.
+#[tactic(auto, using(crate::proofs::Whole::lengths))]
+fn canonical_octets(catalogue: &Catalogue, found: &Block) -> u64
+    requires { IsBlockOf (catalogue_tree catalogue.now) (block_tree found.now) }
+    ensures { result ≡ held (canonical_length (catalogue_tree catalogue.now) (block_tree found.now)) }
+{
+    match found {
+        Block::Opaque { octets, .. } => u64::from(octets.count()) + 3,
+        Block::Read { category, .. } => match catalogue.get(*category) {
+            Some(accepted) => canon_length(accepted.spec(), found),
+            None => 3,
+        },
+    }
+}
+
+/// The block whose text the tokens of a line are. A text is of one block, of a category that the catalogue has, or an
+/// opaque one of a category that it lacks; each number stands in decimal without leading zeros, and octets in lower-case
+/// hexadecimal digits.
+///
+/// `BadToken` comes exactly where the tokens are no block's text. It names the first token through which none begins, or
+/// the count of the tokens where all of them begin one: a category that the catalogue lacks, an item out of order, a
+/// number too great, an occurrence too many, a token after the end. Then `TooLong` comes exactly where the canonical form
+/// has more than 65,535 octets.
+///
+/// Each token is read once, from left to right, and the block is all that takes memory. The calls nest as the kinds of
+/// the specification do.
+pub fn read_block_text(
+    alloc: Global,
+    catalogue: &Catalogue,
+    tokens: &Tokens<'_>,
+) -> Result<Block, TextError>
+    ensures text { IfOk result (λ found. IsTextOf (catalogue_tree catalogue.now) tokens.now (block_tree found)) }
+    ensures fault { IfErr result (IsFault (catalogue_tree catalogue.now) tokens.now) }
+{
+    let found = match spelled_block(alloc, catalogue, tokens) {
+        Ok(found) => found,
+        Err(error) => return Err(error),
+    };
+    let octets = canonical_octets(catalogue, &found);
+    if octets > 65_535 {
+        return Err(TextError::TooLong { octets });
+    }
+    Ok(found)
+}

@@ -1,0 +1,155 @@
+//! Records and lists of them.
+ghost use Rattle.std.specs.Prelude.{◌≡◌, ◌<◌, ◌≤◌, ◌∷◌, [], length, map, IfOk, IfErr, OnOk, MatchOption};
+ghost use Rattle.ax_model.specs.Bodies.{RecordShape};
+ghost use Rattle.ax_model.specs.Plain.{item_tree, kind_tree, spec_tree, entries_tree, record_tree, records_tree};
+ghost use Rattle.ax_model.specs.Shape.{EntriesShape};
+ghost use Rattle.ax_model.specs.Specification.{uap_slot, record_slots};
+ghost use Rattle.ax_model.specs.Tree.{subitem};
+ghost use Rattle.ax_token_reader.specs.declared.stopped.Stopped.TheVariants.{Bad};
+ghost use Rattle.ax_block_reader.specs.Continuing.{Gives};
+ghost use Rattle.ax_block_reader.specs.Entries.{SlotNamed, IsNotNamed, GivesSlot};
+ghost use Rattle.ax_block_reader.specs.Languages.{entries_texts};
+ghost use Rattle.ax_block_reader.specs.Records.{braced_entries_texts, record_texts, SomeRecords, records_texts, braced_records_texts};
+ghost use Rattle.ax_block_reader.specs.Readable.{SlotReadable, SlotsReadable};
+
+use crate::kinds::kind_value;
+use ax_model::{Entries, Entry, Item, Record, Records, Spec, UapSlot, Value};
+use ax_token_reader::{Reader, Stopped};
+use std::alloc::Global;
+
+/// The item of a slot of the UAP, where its name comes. The name is read if so.
+#[tactic(auto, using(crate::proofs::RecordWays::item_steps))]
+fn item_that_comes<'s>(
+    reader: &mut Reader<'_, '_>,
+    spec: &'s Spec,
+    slot: &UapSlot,
+) -> Result<Option<&'s Item>, Stopped>
+    ensures found { IfOk result (λ found. MatchOption found
+        ((reader.new ≡ reader.old) × IsNotNamed (uap_slot (map item_tree spec.now.items) slot.now) reader.old)
+        (λ item. (uap_slot (map item_tree spec.now.items) slot.now ≡ subitem item.now.name (kind_tree item.now.kind)) × (reader.old ≡ item.now.name ∷ reader.new))) }
+    ensures end { IfErr result (λ e. (e ≡ Bad) × (reader.old ≡ []) × (reader.new ≡ [])) }
+    ensures named { SlotNamed (uap_slot (map item_tree spec.now.items) slot.now) }
+{
+    let UapSlot::Item(name) = slot else {
+        return Ok(None);
+    };
+    let wanted = name.octets();
+    let token = reader.peek()?;
+    if token.text != wanted {
+        return Ok(None);
+    }
+    let Some(item) = spec.item_of(slot) else {
+        return Ok(None);
+    };
+    reader.skip();
+    Ok(Some(item))
+}
+
+/// The value of the slot's item, where the item's name comes. It doesn't where the slot is spare.
+#[tactic(auto, using(crate::proofs::RecordWays::value_steps))]
+fn item_value(
+    alloc: Global,
+    reader: &mut Reader<'_, '_>,
+    spec: &Spec,
+    slot: &UapSlot,
+) -> Result<Option<Value>, Stopped>
+    requires { SlotReadable (uap_slot (map item_tree spec.now.items) slot.now) }
+    ensures gives { GivesSlot (uap_slot (map item_tree spec.now.items) slot.now) result reader.old reader.new }
+    ensures named { SlotNamed (uap_slot (map item_tree spec.now.items) slot.now) }
+    ensures moves { OnOk result (length reader.new ≤ length reader.old) }
+{
+    let Some(item) = item_that_comes(reader, spec, slot)? else {
+        return Ok(None);
+    };
+    let value = kind_value(alloc, reader, &item.kind)?;
+    Ok(Some(value))
+}
+
+/// The entries of a record, and the brace after them.
+#[tactic(auto, using(crate::proofs::EntryWays::entries_ways))]
+fn record_entries(
+    alloc: Global,
+    reader: &mut Reader<'_, '_>,
+    spec: &Spec,
+) -> Result<Entries, Stopped>
+    requires { SlotsReadable (record_slots (spec_tree spec.now)) }
+    ensures gives { Gives entries_tree (EntriesShape 1 (record_slots (spec_tree spec.now))) (entries_texts 1 (record_slots (spec_tree spec.now))) result reader.old reader.new }
+    ensures moves { OnOk result (length reader.new < length reader.old) }
+{
+    let mut entries = Entries::new(alloc);
+    let mut number = 0;
+    for slot in spec.uap.as_slice() {
+        number += 1;
+        let Some(value) = item_value(alloc, reader, spec, slot)? else {
+            continue;
+        };
+        entries.push(Entry {
+            slot: number,
+            value,
+        })?;
+    }
+    reader.expect(b"}")?;
+    Ok(entries)
+}
+
+/// The entries of a record in braces.
+#[tactic(auto, using(crate::proofs::RecordWays::braced_ways))]
+fn braced_entries(
+    alloc: Global,
+    reader: &mut Reader<'_, '_>,
+    spec: &Spec,
+) -> Result<Entries, Stopped>
+    requires { SlotsReadable (record_slots (spec_tree spec.now)) }
+    ensures gives { Gives entries_tree (EntriesShape 1 (record_slots (spec_tree spec.now))) (braced_entries_texts (spec_tree spec.now)) result reader.old reader.new }
+    ensures moves { OnOk result (length reader.new < length reader.old) }
+{
+    reader.expect(b"{")?;
+    let entries = record_entries(alloc, reader, spec)?;
+    Ok(entries)
+}
+
+/// A record: `record` and its entries in braces.
+#[tactic(auto, using(crate::proofs::RecordWays::record_ways))]
+fn record(alloc: Global, reader: &mut Reader<'_, '_>, spec: &Spec) -> Result<Record, Stopped>
+    requires { SlotsReadable (record_slots (spec_tree spec.now)) }
+    ensures gives { Gives record_tree (RecordShape (spec_tree spec.now)) (record_texts (spec_tree spec.now)) result reader.old reader.new }
+    ensures moves { OnOk result (length reader.new < length reader.old) }
+{
+    reader.expect(b"record")?;
+    let entries = braced_entries(alloc, reader, spec)?;
+    Ok(Record { entries })
+}
+
+/// One or more records, and the brace after them.
+#[tactic(auto, using(crate::proofs::RecordListWays::records_ways))]
+fn records(alloc: Global, reader: &mut Reader<'_, '_>, spec: &Spec) -> Result<Records, Stopped>
+    requires readable { SlotsReadable (record_slots (spec_tree spec.now)) }
+    requires bound { length reader.old < 4294967296 }
+    ensures gives { Gives records_tree (SomeRecords (spec_tree spec.now)) (records_texts (spec_tree spec.now)) result reader.old reader.new }
+    ensures moves { OnOk result (length reader.new < length reader.old) }
+{
+    let mut made = Records::new(alloc);
+    loop {
+        let one = record(alloc, reader, spec)?;
+        made.push(one)?;
+        if reader.takes(b"}")? {
+            return Ok(made);
+        }
+    }
+}
+
+/// One or more records in braces.
+#[tactic(auto, using(crate::proofs::RecordListWays::braced_ways))]
+pub(crate) fn braced_records(
+    alloc: Global,
+    reader: &mut Reader<'_, '_>,
+    spec: &Spec,
+) -> Result<Records, Stopped>
+    requires { SlotsReadable (record_slots (spec_tree spec.now)) }
+    ensures gives { Gives records_tree (SomeRecords (spec_tree spec.now)) (braced_records_texts (spec_tree spec.now)) result reader.old reader.new }
+    ensures moves { OnOk result (length reader.new < length reader.old) }
+{
+    reader.expect(b"{")?;
+    let made = records(alloc, reader, spec)?;
+    Ok(made)
+}

@@ -1,0 +1,73 @@
+//! What was printed for a block reads back as that block.
+
+use crate::fixtures::{catalogue_of, read_line};
+use ax_check::Catalogue;
+use ax_model::{RawBlock, fits};
+use ax_samples::{CAT019_P1, CAT034_P1, CAT048_P1, FILE_A, FILE_H1, FILE_N, octets};
+use ax_text::block_text;
+use ax_values::{decode_block, encode_block};
+use std::alloc::Global;
+use std::process::Abort;
+use std::test::Fail;
+
+/// The octets of the block that is read from the text of the block that these octets are.
+fn printed_and_read(
+    rt: &impl Abort,
+    alloc: Global,
+    catalogue: &Catalogue,
+    octets: &[u8],
+) -> Result<Vec<u8>, Fail> {
+    assert!(rt; octets.len() >= 4);
+    let length = octets[1] as usize * 256 + octets[2] as usize;
+    assert_eq!(rt; octets.len(), length, "LEN of {octets:?}");
+    let (category, body) = (octets[0], &octets[3..]);
+    assert!(rt; body.len() <= 65_532);
+    let Some(accepted) = catalogue.at(0) else {
+        return Err(Fail::new("a file"));
+    };
+    let block = decode_block(alloc, accepted.spec(), &RawBlock { category, body })?;
+    assert!(rt; fits(accepted.spec(), &block));
+    let line = block_text(alloc, accepted.spec(), &block)?;
+    let Ok(back) = read_line(rt, alloc, catalogue, &line)? else {
+        return Err(Fail::new("a block"));
+    };
+    assert!(rt; fits(accepted.spec(), &back));
+    Ok(encode_block(alloc, accepted.spec(), &back)?)
+}
+
+// Category files, and canonical blocks under them.
+const BLOCKS: [(&str, &str); 18] = [
+    (CAT048_P1, "30 00 06 20 A1 00"),
+    (CAT048_P1, "30 00 05 20 A0"),
+    (CAT048_P1, "30 00 08 01 01 40 0B 0C"),
+    (CAT048_P1, "30 00 0A 01 01 01 04 03 AA BB"),
+    (CAT048_P1, "30 00 08 01 01 01 04 01"),
+    (CAT048_P1, "30 00 04 00"),
+    (CAT048_P1, "30 00 05 02 00"),
+    (CAT048_P1, "30 00 07 02 82 07 08"),
+    (CAT048_P1, "30 00 06 01 20 00"),
+    (
+        CAT048_P1,
+        "30 00 16 01 20 02 00 00 00 00 00 00 2A 51 00 00 00 00 00 00 00 0F",
+    ),
+    (CAT048_P1, "30 00 07 01 10 30 2A"),
+    (CAT048_P1, "30 00 09 80 19 0C 80 1A 0C"),
+    (CAT034_P1, "22 00 0B F0 19 0C 02 54 60 00 10"),
+    (CAT019_P1, "13 00 0A E0 05 06 02 12 34 56"),
+    (FILE_A, "22 00 07 C0 19 0C 01"),
+    (FILE_A, "3E 00 05 80 FF"),
+    (FILE_N, "C8 00 0A 80 02 80 11 01 80 22"),
+    (FILE_H1, "CA 00 08 80 C0 11 22 33"),
+];
+
+#[test]
+fn printed_blocks_read_back(rt: HostRuntime) -> Result<(), Fail> {
+    let alloc = rt.alloc();
+    for (file, block) in BLOCKS {
+        let catalogue = catalogue_of(&rt, alloc, file)?;
+        let octets = octets(alloc, block)?;
+        let back = printed_and_read(&rt, alloc, &catalogue, &octets)?;
+        assert_eq!(rt; back.as_slice(), octets.as_slice(), "{block}");
+    }
+    Ok(())
+}

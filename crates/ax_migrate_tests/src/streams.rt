@@ -1,10 +1,10 @@
 //! `migrate` over a stream: how it ends, and what stands on both outputs where a call of either fails.
 
-use crate::texts::accepted;
+use crate::texts::{Edition, accepted};
 use ax_edition::relate;
 use ax_migrate_work::MigrateWork;
 use ax_outside::{MemSink, MemSource};
-use ax_samples::{CAT048_P1, CAT048_P2, FILE_G1, FILE_G2, FILE_H1, FILE_H2, FILE_H3, octets};
+use ax_samples::octets;
 use ax_stream::{Cause, InputFault, StreamEnd, run_blocks};
 use std::alloc::Global;
 use std::process::Abort;
@@ -47,7 +47,7 @@ fn sink(alloc: Global, cut: Cut) -> Result<MemSink, Fail> {
 fn leaves(
     rt: &impl Abort,
     alloc: Global,
-    (old, new, input): (&str, &str, Vec<u8>),
+    (old, new, input): (Edition, Edition, Vec<u8>),
     (out, report): (Cut, Cut),
     end: StreamEnd,
     (written, reported): (&[u8], &[u8]),
@@ -76,10 +76,10 @@ const RUNS_OUT: StreamEnd = StreamEnd::Refused {
 };
 
 // The editions and the input; the call of the output that fails; the end, the output and the report.
-const STREAMS: [(&str, &str, &str, Option<u64>, StreamEnd, &str, &str); 6] = [
+const STREAMS: [(Edition, Edition, &str, Option<u64>, StreamEnd, &str, &str); 6] = [
     (
-        CAT048_P1,
-        CAT048_P2,
+        Edition::P1,
+        Edition::P2,
         PLOT,
         None,
         StreamEnd::Done { blocks: 1 },
@@ -88,8 +88,8 @@ const STREAMS: [(&str, &str, &str, Option<u64>, StreamEnd, &str, &str); 6] = [
     ),
     // Both blocks' lines stand where the second block can't be written.
     (
-        CAT048_P1,
-        CAT048_P2,
+        Edition::P1,
+        Edition::P2,
         PLOT_TWICE,
         Some(1),
         StreamEnd::WriteFault,
@@ -97,8 +97,8 @@ const STREAMS: [(&str, &str, &str, Option<u64>, StreamEnd, &str, &str); 6] = [
         "lost block 0 record 0 048/020\nlost block 1 record 0 048/020\n",
     ),
     (
-        CAT048_P1,
-        CAT048_P2,
+        Edition::P1,
+        Edition::P2,
         PLOT_TWICE,
         Some(0),
         StreamEnd::WriteFault,
@@ -107,8 +107,8 @@ const STREAMS: [(&str, &str, &str, Option<u64>, StreamEnd, &str, &str); 6] = [
     ),
     // A block of another category passes, though the new edition, too, has none.
     (
-        FILE_H1,
-        FILE_H3,
+        Edition::H1,
+        Edition::H3,
         "3E 00 05 80 FF CA 00 06 80 80 11",
         None,
         DONE,
@@ -117,8 +117,8 @@ const STREAMS: [(&str, &str, &str, Option<u64>, StreamEnd, &str, &str); 6] = [
     ),
     // A block with a fault has no line, though its first record loses an entry.
     (
-        FILE_H1,
-        FILE_H2,
+        Edition::H1,
+        Edition::H2,
         "CA 00 06 80 80 11 CA 00 08 80 80 11 80 80",
         None,
         StreamEnd::Refused {
@@ -132,8 +132,8 @@ const STREAMS: [(&str, &str, &str, Option<u64>, StreamEnd, &str, &str); 6] = [
         "lost block 0 record 0 202/010/A\n",
     ),
     (
-        FILE_H1,
-        FILE_H2,
+        Edition::H1,
+        Edition::H2,
         "CA 00 06 80 80 11 CA 00 05 80 C0",
         None,
         RUNS_OUT,
@@ -179,7 +179,7 @@ fn each_octet_of_the_report_fails(rt: HostRuntime) -> Result<(), Fail> {
         leaves(
             &rt,
             alloc,
-            (FILE_H1, FILE_H2, octets(alloc, FULL_TWICE)?),
+            (Edition::H1, Edition::H2, octets(alloc, FULL_TWICE)?),
             (WHOLE, cut),
             StreamEnd::ReportFault,
             (&octets(alloc, written)?, front(FULL_LINES, call as usize)),
@@ -211,7 +211,7 @@ fn a_migrated_block_is_too_long(rt: HostRuntime) -> Result<(), Fail> {
         leaves(
             &rt,
             alloc,
-            (FILE_G1, FILE_G2, input),
+            (Edition::G1, Edition::G2, input),
             (WHOLE, WHOLE),
             end,
             (b"", b""),

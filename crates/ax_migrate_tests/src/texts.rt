@@ -7,6 +7,7 @@ use ax_grammar::read_spec;
 use ax_migrate::{LossList, loss_lines};
 use ax_model::{Block, RawBlock, Spec, fits};
 use ax_outside::MemSink;
+use ax_samples::{CAT048_P1, CAT048_P2, FILE_G1, FILE_G2, FILE_H1, FILE_H2, FILE_H3};
 use ax_tokens::tokens;
 use ax_values::decode_block;
 use std::alloc::Global;
@@ -16,9 +17,79 @@ use std::test::Fail;
 /// More octets than the lines of any block here have.
 const AMPLE: u32 = 10_000;
 
-/// The specification of a category file without flaw.
-pub(crate) fn accepted(rt: &impl Abort, alloc: Global, text: &str) -> Result<Accepted, Fail> {
-    let text = text.as_bytes();
+// H1 with another scale in subitem A, twice.
+const FILE_METRES: &str =
+    r#"category 202 edition "H1" items { item 010 "" compound { A element 8 quantity unsigned 1 2 "m" B element 16 raw } } uap { 010 }"#;
+
+const FILE_QUARTERS: &str =
+    r#"category 202 edition "H1" items { item 010 "" compound { A element 8 quantity unsigned 2 4 "m" B element 16 raw } } uap { 010 }"#;
+
+// Two items; the same in another order behind a spare slot; and the first alone, behind seven spare slots.
+const FILE_TWO: &str =
+    r#"category 203 edition "1" items { item 010 "" element 8 raw item 020 "" extended { part { A element 7 raw } part { B element 7 raw } } } uap { 010 020 }"#;
+
+const FILE_SWAPPED: &str =
+    r#"category 203 edition "2" items { item 010 "another title" element 8 raw item 020 "" extended { part { A element 7 raw } part { B element 7 raw } } } uap { - 020 010 }"#;
+
+const FILE_FIRST: &str =
+    r#"category 203 edition "3" items { item 010 "" element 8 raw } uap { - - - - - - - 010 }"#;
+
+// Compounds in compounds; the same where slots changed places and two subitems are gone; and where the inner one is an element.
+const FILE_DEEP: &str =
+    r#"category 204 edition "1" items { item 010 "" compound { A compound { P element 8 raw Q element 8 raw } B explicit C compound { R element 8 raw } } item 020 "" counted { element 8 raw } } uap { 010 020 }"#;
+
+const FILE_DEEP_CHANGED: &str =
+    r#"category 204 edition "2" items { item 010 "" compound { B explicit - C compound { S element 8 raw R element 8 raw } A compound { Q element 8 raw } } item 020 "" counted { element 8 raw } } uap { 020 010 }"#;
+
+const FILE_DEEP_FLAT: &str =
+    r#"category 204 edition "3" items { item 010 "" compound { A element 8 raw B explicit } item 020 "" counted { element 16 raw } } uap { 010 020 }"#;
+
+/// The files of these tests.
+#[derive(Clone, Copy)]
+pub(crate) enum Edition {
+    /// Category 048, its first and its second edition.
+    P1,
+    P2,
+    G1,
+    G2,
+    H1,
+    H2,
+    H3,
+    Metres,
+    Quarters,
+    Two,
+    Swapped,
+    First,
+    Deep,
+    DeepChanged,
+    DeepFlat,
+}
+
+impl Edition {
+    fn text(self) -> &'static str {
+        match self {
+            Edition::P1 => CAT048_P1,
+            Edition::P2 => CAT048_P2,
+            Edition::G1 => FILE_G1,
+            Edition::G2 => FILE_G2,
+            Edition::H1 => FILE_H1,
+            Edition::H2 => FILE_H2,
+            Edition::H3 => FILE_H3,
+            Edition::Metres => FILE_METRES,
+            Edition::Quarters => FILE_QUARTERS,
+            Edition::Two => FILE_TWO,
+            Edition::Swapped => FILE_SWAPPED,
+            Edition::First => FILE_FIRST,
+            Edition::Deep => FILE_DEEP,
+            Edition::DeepChanged => FILE_DEEP_CHANGED,
+            Edition::DeepFlat => FILE_DEEP_FLAT,
+        }
+    }
+}
+
+/// The specification of a file.
+pub(crate) fn accepted(rt: &impl Abort, alloc: Global, edition: Edition) -> Result<Accepted, Fail> {
+    let text = edition.text().as_bytes();
     assert!(rt; text.len() < 10_000);
     let found = tokens(alloc, text, 16)?;
     let spec = read_spec(alloc, &found)?;

@@ -211,43 +211,38 @@ fn editions_of_one_category(rt: HostRuntime) -> Result<(), Fail> {
     Ok(())
 }
 
-const FULL_LINES: &str = "lost block 0 record 0 202/010/A\nlost block 1 record 0 202/010/A\n";
+// The call of the report that fails, each taking one octet; and the status, the output, the report, and how many octets
+// aren't read. The block whose line is cut isn't written, and no line comes after it.
+const CUT_LINES: [(u64, u8, &str, &str, usize); 5] = [
+    (0, 4, "", "", 8),
+    (31, 4, "", "lost block 0 record 0 202/010/A", 8),
+    (32, 4, FULL_MIGRATED, "lost block 0 record 0 202/010/A\n", 0),
+    (
+        63,
+        4,
+        FULL_MIGRATED,
+        "lost block 0 record 0 202/010/A\nlost block 1 record 0 202/010/A",
+        0,
+    ),
+    (
+        64,
+        0,
+        "CA 00 07 80 80 22 33 CA 00 07 80 80 22 33",
+        "lost block 0 record 0 202/010/A\nlost block 1 record 0 202/010/A\n",
+        0,
+    ),
+];
 
-// Each call of the report takes one octet, and one of them fails. The block whose line is cut isn't written, and no line comes
-// after it.
 #[test]
 fn lines_that_are_cut(rt: HostRuntime) -> Result<(), Fail> {
     let alloc = rt.alloc();
     let input = octets(alloc, FULL_TWICE)?;
-    for call in 0..64 {
-        let (out, left) = if call < 32 {
-            ("", 8)
-        } else {
-            (FULL_MIGRATED, 0)
-        };
-        let report = FULL_LINES.chars().take(call).collect::<String>(alloc)?;
-        let want = wanted(alloc, 4, &octets(alloc, out)?, report.as_str(), left)?;
-        let outside = Outside::OctetReport(call as u64);
+    for (call, status, out, report, left) in CUT_LINES {
+        let want = wanted(alloc, status, &octets(alloc, out)?, report, left)?;
+        let outside = Outside::OctetReport(call);
         leaves(&rt, alloc, "migrate H1 H2", &input, outside, want)?;
     }
     Ok(())
-}
-
-// No call that it makes fails.
-#[test]
-fn lines_octet_by_octet(rt: HostRuntime) -> Result<(), Fail> {
-    let alloc = rt.alloc();
-    let input = octets(alloc, FULL_TWICE)?;
-    let out = octets(alloc, "CA 00 07 80 80 22 33 CA 00 07 80 80 22 33")?;
-    let want = wanted(alloc, 0, &out, FULL_LINES, 0)?;
-    leaves(
-        &rt,
-        alloc,
-        "migrate H1 H2",
-        &input,
-        Outside::OctetReport(64),
-        want,
-    )
 }
 
 /// The largest block of G1, whose records have one item of one octet, and these octets after it.

@@ -1,6 +1,6 @@
 -- One line, taken and written.
 use Rattle.std.proofs.Common.{◌≡◌, ℕ, ◌<◌, List, Option, length, take, refl, sym, ◌∙◌, ap, subst, arith, Bool, true, Ok}
-use Rattle.ax_line_stream.specs.Commands.{LineCommand, gives, nothing, octets_in, results_in, IsAnswered}
+use Rattle.ax_line_stream.specs.Commands.{LineCommand, gives, nothing}
 use Rattle.ax_line_stream.specs.Taking.{TakesLine, IsWritten, EndsAt, writing}
 use Rattle.ax_line_stream.specs.declared.end.LinesEnd.TheVariants as EndOf
 use Rattle.ax_outside.proofs.Ends.{with_end-nil}
@@ -12,24 +12,28 @@ change held held' faults faults' = record { held = held; held' = held'; faults =
 
 module _ {F : Type 0} (c : LineCommand F) (number : ℕ) (octets : List ℕ) where
   -- the work says that there is a result
-  pub takes_result : (laid : List ℕ) (b : Bool) → b ≡ true → TakesLine c number octets laid (Ok b) → c.answer number octets ≡ gives laid
+  pub takes_result : (laid : List ℕ) (b : Bool) → b ≡ true → TakesLine c number octets laid (Ok b) → c number octets (gives laid)
   takes_result laid b is h = let P : Bool → Type 0 = λ x. TakesLine c number octets laid (Ok x) in subst P is h
 
-  pub result_written : (held held' : Option (List ℕ)) (faults faults' : ℕ) (laid piece : List ℕ) → c.answer number octets ≡ gives laid → piece ≡ laid → held' ≡ with_end held piece → IsWritten c number octets (change held held' faults faults') 1
+  pub result_written : (held held' : Option (List ℕ)) (faults faults' : ℕ) (laid piece : List ℕ) → c number octets (gives laid) → piece ≡ laid → held' ≡ with_end held piece → IsWritten c number octets (change held held' faults faults') 1
   result_written held held' faults faults' laid piece answer is added = record {
-    answered = subst IsAnswered (sym answer) tt;
-    gained = added ∙ ap (with_end held) (is ∙ ap octets_in (sym answer));
-    counted = ap results_in (sym answer);
+    answer = gives laid;
+    is = answer;
+    answered = tt;
+    gained = added ∙ ap (with_end held) is;
+    counted = refl;
   }
 
-  pub nothing_written : (held : Option (List ℕ)) (faults : ℕ) → c.answer number octets ≡ nothing → IsWritten c number octets (change held held faults faults) 0
+  pub nothing_written : (held : Option (List ℕ)) (faults : ℕ) → c number octets nothing → IsWritten c number octets (change held held faults faults) 0
   nothing_written held faults answer = record {
-    answered = subst IsAnswered (sym answer) tt;
-    gained = sym (with_end-nil held) ∙ ap (with_end held) (ap octets_in (sym answer));
-    counted = ap results_in (sym answer);
+    answer = nothing;
+    is = answer;
+    answered = tt;
+    gained = sym (with_end-nil held);
+    counted = refl;
   }
 
-  pub result_cut : (held held' : Option (List ℕ)) (faults faults' : ℕ) (laid piece : List ℕ) → c.answer number octets ≡ gives laid → piece ≡ laid → (n : ℕ) × (n < length piece) × (held' ≡ with_end held (take n piece)) → Rose faults faults'
+  pub result_cut : (held held' : Option (List ℕ)) (faults faults' : ℕ) (laid piece : List ℕ) → c number octets (gives laid) → piece ≡ laid → (n : ℕ) × (n < length piece) × (held' ≡ with_end held (take n piece)) → Rose faults faults'
       → EndsAt c number octets (change held held' faults faults') EndOf.WriteFault
   result_cut held held' faults faults' laid piece answer is (n, less, added) rose =
       let size : length piece ≡ length laid = ap length is in

@@ -1,6 +1,9 @@
--- The results of lines, one line after another, and what a sink gains by them.
-use Rattle.std.proofs.Common.{◌≡◌, ℕ, suc, ◌+◌, List, [], ◌∷◌, ◌++◌, Option, length, take, sym, ◌∙◌, ap, subst, arith, append_assoc, append-nil}
-use Rattle.ax_line_stream.specs.Commands.{LineCommand, octets_in, results_in, IsAnswered, output_of, results_of, AreAnswered}
+-- The answers to lines, one line after another, and what a sink gains by them.
+use Rattle.std.proofs.Common.{◌≡◌, ℕ, suc, ◌+◌, List, [], ◌∷◌, ◌++◌, Option, length, take, sum_by, sym, ◌∙◌, ap, subst, arith, append-nil}
+use Rattle.std.proofs.lemmas.List.Concat.{flat_map-append}
+use Rattle.std.proofs.lemmas.List.Sums.{sum_by-append, sum_by-cons}
+use Rattle.std.specs.List.{AllByRecursion}
+use Rattle.ax_line_stream.specs.Commands.{LineCommand, LineAnswer, octets_in, results_in, IsAnswered, output_of, results_of, AreAnswersFrom, AreAnswered}
 use Rattle.ax_outside.proofs.Ends.{with_end-nil, with_end-append}
 use Rattle.ax_outside.specs.Changes.{SinkChange, Gains, GainsNothing, GainsPart, GainsWithPart}
 use Rattle.ax_outside.specs.Told.{with_end}
@@ -8,31 +11,34 @@ use Rattle.ax_outside.specs.Told.{with_end}
 later_number : (n k : ℕ) → n + 1 + k ≡ n + suc k
 later_number n k = omega arith
 
+from_none : (n : ℕ) → n ≡ 0 + n
+from_none n = omega arith
+
 none_more : (n : ℕ) → n ≡ n + 0
 none_more n = omega arith
 
-add_on : (a b c : ℕ) → a + (b + c) ≡ a + b + c
-add_on a b c = omega arith
+pub output_snoc : {F : Type 0} (answers : List (LineAnswer F)) (a : LineAnswer F) → output_of (answers ++ a ∷ []) ≡ output_of answers ++ octets_in a
+output_snoc answers a = flat_map-append octets_in answers (a ∷ []) ∙ ap (λ x. output_of answers ++ x) (append-nil (octets_in a))
+
+pub results_snoc : {F : Type 0} (answers : List (LineAnswer F)) (a : LineAnswer F) → results_of (answers ++ a ∷ []) ≡ results_of answers + results_in a
+results_snoc answers a =
+    let both : results_of (answers ++ a ∷ []) ≡ results_of answers + sum_by results_in (a ∷ []) = sum_by-append results_in answers (a ∷ []) in
+    let one : sum_by results_in (a ∷ []) ≡ results_in a + 0 = sum_by-cons results_in a [] in
+    omega arith
 
 module _ {F : Type 0} (c : LineCommand F) where
-  answer_at : (n k : ℕ) (l : List ℕ) → c.answer (n + 1 + k) l ≡ c.answer (n + suc k) l
-  answer_at n k l = ap (λ m. c.answer m l) (later_number n k)
+  each_snoc : (n : ℕ) (lines : List (List ℕ)) (answers : List (LineAnswer F)) (l : List ℕ) (a : LineAnswer F) → AreAnswersFrom c n lines answers → c (n + length lines) l a → AreAnswersFrom c n (lines ++ l ∷ []) (answers ++ a ∷ [])
+  each_snoc n [] [] l a h g = (subst (λ m. c m l a) (sym (none_more n)) g, tt)
+  each_snoc n [] (x ∷ answers) l a h g = absurd h
+  each_snoc n (x ∷ lines) [] l a h g = absurd h
+  each_snoc n (x ∷ lines) (y ∷ answers) l a h g = (h.0, each_snoc (n + 1) lines answers l a h.1 (subst (λ m. c m l a) (sym (later_number n (length lines))) g))
 
-  pub output_snoc : (n : ℕ) (lines : List (List ℕ)) (l : List ℕ) → output_of c n (lines ++ l ∷ []) ≡ output_of c n lines ++ octets_in (c.answer (n + length lines) l)
-  output_snoc n [] l = append-nil (octets_in (c.answer n l)) ∙ ap (λ m. octets_in (c.answer m l)) (none_more n)
-  output_snoc n (x ∷ lines) l =
-      ap (λ o. octets_in (c.answer n x) ++ o) (output_snoc (n + 1) lines l ∙ ap (λ a. output_of c (n + 1) lines ++ octets_in a) (answer_at n (length lines) l))
-      ∙ sym (append_assoc (octets_in (c.answer n x)) (output_of c (n + 1) lines) (octets_in (c.answer (n + suc (length lines)) l)))
+  none_snoc : (answers : List (LineAnswer F)) (a : LineAnswer F) → AllByRecursion IsAnswered answers → IsAnswered a → AllByRecursion IsAnswered (answers ++ a ∷ [])
+  none_snoc [] a h g = (g, tt)
+  none_snoc (x ∷ answers) a h g = (h.0, none_snoc answers a h.1 g)
 
-  pub results_snoc : (n : ℕ) (lines : List (List ℕ)) (l : List ℕ) → results_of c n (lines ++ l ∷ []) ≡ results_of c n lines + results_in (c.answer (n + length lines) l)
-  results_snoc n [] l = let e : results_in (c.answer n l) ≡ results_in (c.answer (n + 0) l) = ap (λ m. results_in (c.answer m l)) (none_more n) in omega arith
-  results_snoc n (x ∷ lines) l =
-      ap (λ m. results_in (c.answer n x) + m) (results_snoc (n + 1) lines l ∙ ap (λ a. results_of c (n + 1) lines + results_in a) (answer_at n (length lines) l))
-      ∙ add_on (results_in (c.answer n x)) (results_of c (n + 1) lines) (results_in (c.answer (n + suc (length lines)) l))
-
-  pub answered_snoc : (n : ℕ) (lines : List (List ℕ)) (l : List ℕ) → AreAnswered c n lines → IsAnswered (c.answer (n + length lines) l) → AreAnswered c n (lines ++ l ∷ [])
-  answered_snoc n [] l h g = (subst (λ m. IsAnswered (c.answer m l)) (sym (none_more n)) g, tt)
-  answered_snoc n (x ∷ lines) l h g = (h.0, answered_snoc (n + 1) lines l h.1 (subst IsAnswered (sym (answer_at n (length lines) l)) g))
+  pub answered_snoc : (lines : List (List ℕ)) (answers : List (LineAnswer F)) (l : List ℕ) (a : LineAnswer F) → AreAnswered c lines answers → c (length lines) l a → IsAnswered a → AreAnswered c (lines ++ l ∷ []) (answers ++ a ∷ [])
+  answered_snoc lines answers l a h g is = record { each = each_snoc 0 lines answers l a h.each (subst (λ m. c m l a) (from_none (length lines)) g); none_refused = none_snoc answers a h.none_refused is }
 
 pub length_snoc : (lines : List (List ℕ)) (l : List ℕ) → length (lines ++ l ∷ []) ≡ length lines + 1
 length_snoc [] l = omega arith

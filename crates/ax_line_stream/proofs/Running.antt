@@ -7,7 +7,7 @@ use Rattle.ax_lines.specs.declared.line_error.LineError.{LineError}
 use Rattle.ax_lines.specs.declared.line_error.LineError.TheVariants.{InputTooLong, LineTooLong, ReadFault}
 use Rattle.ax_line_stream.proofs.Begins.{begins_snoc, begins_end, left_after_line, left_after_lines, left_of_ahead, IsPartOf, part_of_taken, left_of_part, none_left}
 use Rattle.ax_line_stream.proofs.Results.{output_snoc, results_snoc, answered_snoc, length_snoc, both, gains_both, gains_on, gains_part, gains_none}
-use Rattle.ax_line_stream.specs.Commands.{LineCommand, LineAnswer, gives, nothing, refused, octets_in, results_in, IsAnswered, output_of, results_of}
+use Rattle.ax_line_stream.specs.Commands.{LineCommand, LineAnswer, KeepsTo, gives, nothing, refused, octets_in, results_in, output_of, results_of}
 use Rattle.ax_line_stream.specs.Ending.{lines_end, error_end}
 use Rattle.ax_line_stream.specs.Runs as RunOf
 use Rattle.ax_line_stream.specs.Runs.{BeginsWith, Answers, IsLeftOf, LinesStop, ToldRun, IsCaused, IsLicensed, LinesRun}
@@ -21,16 +21,17 @@ use Rattle.ax_outside.specs.Told.{with_front, with_end, IsAtEnd, Rose}
 -- the input began with lines that are answered, whose results were written; `behind` are the octets that aren't given yet
 pub record SoFar {F : Type 0} (c : LineCommand F) (line_limit limit : ℕ) (input : List ℕ) (behind : Option (List ℕ)) (o : SinkChange) (given number count : ℕ) : Type 0 where
   pub lines : List (List ℕ)
+  pub answers : List (LineAnswer F)
   pub rest : List ℕ
   pub behind_is : behind ≡ Some rest
-  pub front : Answers c line_limit limit input lines given rest
-  pub out : Gains o (output_of c 0 lines)
+  pub front : Answers c line_limit limit input lines answers given rest
+  pub out : Gains o (output_of answers)
   pub numbered : number ≡ length lines
-  pub counted : count ≡ results_of c 0 lines
+  pub counted : count ≡ results_of answers
 
 -- the invariant of the loop
 pub record Running {F : Type 0} (c : LineCommand F) (line_limit limit : ℕ) (i : SourceChange) (o : SinkChange) (now : LineCommand F) (reader : ReaderState) (number count : ℕ) (Sound : Type 0) : Type 0 where
-  pub same : now ≡ c
+  pub same : KeepsTo c now
   pub sound : Sound
   pub line_limit_is : reader.line_limit ≡ line_limit
   pub limit_is : reader.limit ≡ limit
@@ -66,8 +67,18 @@ results_at_most (gives octets) = omega arith
 results_at_most nothing = omega arith
 results_at_most (refused fault) = omega arith
 
-at_most : {F : Type 0} (c : LineCommand F) (number : ℕ) (one : List ℕ) (results : ℕ) → results ≡ results_in (c.answer number one) → results ≤ 1
-at_most c number one results is = let e : results_in (c.answer number one) ≤ 1 = results_at_most (c.answer number one) in omega arith
+at_most : {F : Type 0} (a : LineAnswer F) (results : ℕ) → results ≡ results_in a → results ≤ 1
+at_most a results is = let e : results_in a ≤ 1 = results_at_most a in omega arith
+
+-- ---- a command that another keeps to
+
+ends_of_kept : {F : Type 0} (c now : LineCommand F) (number : ℕ) (one : List ℕ) (s : SinkChange) (e : LinesEnd F) → KeepsTo c now → EndsAt now number one s e → EndsAt c number one s e
+ends_of_kept c now number one s e kept (refusing fault is answer k) = refusing fault is (kept number one (refused fault) answer) k
+ends_of_kept c now number one s e kept (writing laid is answer part) = writing laid is (kept number one (gives laid) answer) part
+ends_of_kept c now number one s e kept (for_memory is k) = for_memory is k
+
+written_of_kept : {F : Type 0} (c now : LineCommand F) (number : ℕ) (one : List ℕ) (s : SinkChange) (results : ℕ) → KeepsTo c now → IsWritten now number one s results → IsWritten c number one s results
+written_of_kept c now number one s results kept w = record { answer = w.answer; is = kept number one w.answer w.is; answered = w.answered; gained = w.gained; counted = w.counted }
 
 -- ---- the beginning
 
@@ -79,7 +90,7 @@ running_begins c left held taken faults fails reader Sound sound e =
     let none : reader.held ≡ [] = ap (λ x. x.held) e in
     let size : length reader.held ≡ 0 = ap length none in
     record {
-      same = refl;
+      same = λ n octets a h. h;
       sound = sound;
       line_limit_is = refl;
       limit_is = refl;
@@ -92,9 +103,10 @@ running_begins c left held taken faults fails reader Sound sound e =
       out_later = omega arith;
       told = λ input l. record {
         lines = [];
+        answers = [];
         rest = input;
         behind_is = ap (λ h. with_front h left) none ∙ ap (with_front []) l;
-        front = record { begins = (sym z, refl); answered = tt };
+        front = record { begins = (sym z, refl); answered = record { each = tt; none_refused = tt } };
         out = gains_none held fails fails;
         numbered = refl;
         counted = refl;
@@ -127,11 +139,12 @@ module _ {F : Type 0} (c : LineCommand F) (line_limit limit : ℕ) (i : SourceCh
         let s = run.told input l in
         inl (record {
           lines = s.lines;
-          answers = inl (record {
+          answers = s.answers;
+          ends = inl (record {
             end = e;
             lined = begins_end line_limit limit 0 input s.lines reader.given s.rest e s.front.begins (ends_told input l);
             answered = s.front.answered;
-            is = is ∙ ap (λ n. lines_end n number e) s.counted ∙ ap (λ n. lines_end (results_of c 0 s.lines) n e) s.numbered;
+            is = is ∙ ap (λ n. lines_end n number e) s.counted ∙ ap (λ n. lines_end (results_of s.answers) n e) s.numbered;
           });
           out = s.out;
           read = λ n done. none_left s.rest j.left' (left_told input l) (at_end n done);
@@ -152,9 +165,10 @@ module _ {F : Type 0} (c : LineCommand F) (line_limit limit : ℕ) (i : SourceCh
   reading_told f input l =
       let s = run.told input l in
       let part : IsPartOf s.rest (reader.held ++ f.taken) j.left' = part_of_taken reader.held f.taken s.rest j.left j.left' (seen input l) f.took.gives in
-      let front : Answers c line_limit limit input s.lines reader.given ((reader.held ++ f.taken) ++ part.after) = subst (Answers c line_limit limit input s.lines reader.given) part.split s.front in
+      let front : Answers c line_limit limit input s.lines s.answers reader.given ((reader.held ++ f.taken) ++ part.after) = subst (Answers c line_limit limit input s.lines s.answers reader.given) part.split s.front in
       inr (RunOf.reading refl (record {
         lines = s.lines;
+        answers = s.answers;
         past = reader.given;
         part = reader.held ++ f.taken;
         rest = part.after;
@@ -233,7 +247,8 @@ module _ {F : Type 0} (c : LineCommand F) (line_limit limit : ℕ) (i : SourceCh
           let so = run.told input l in
           inl (record {
             lines = so.lines;
-            answers = inr (record {
+            answers = so.answers;
+            ends = inr (record {
               past = reader.given;
               rest = so.rest;
               front = so.front;
@@ -241,10 +256,10 @@ module _ {F : Type 0} (c : LineCommand F) (line_limit limit : ℕ) (i : SourceCh
               after = (told_line input l).after;
               next = (told_line input l).just.is;
               fault = fault;
-              answer = ap (λ n. c.answer n one) (sym so.numbered) ∙ answer;
+              answer = subst (λ n. c n one (refused fault)) so.numbered answer;
               is = is ∙ ap (λ n. EndOf.Refused n fault) so.numbered;
             });
-            out = gains_on o s (output_of c 0 so.lines) writes so.out kept;
+            out = gains_on o s (output_of so.answers) writes so.out kept;
             read = λ n done. absurd (let x : EndOf.Refused number fault ≡ EndOf.Done n = sym is ∙ done in cc);
             left = left_after_lines line_limit limit 0 input so.lines reader.given so.rest j.left' so.front.begins (left_after_line line_limit limit reader.given so.rest one (told_line input l).after j.left' (told_line input l).just.is (left_behind input l));
           })
@@ -252,6 +267,7 @@ module _ {F : Type 0} (c : LineCommand F) (line_limit limit : ℕ) (i : SourceCh
           let so = run.told input l in
           inr (RunOf.writing is (record {
             lines = so.lines;
+            answers = so.answers;
             past = reader.given;
             rest = so.rest;
             front = so.front;
@@ -259,19 +275,20 @@ module _ {F : Type 0} (c : LineCommand F) (line_limit limit : ℕ) (i : SourceCh
             after = (told_line input l).after;
             next = (told_line input l).just.is;
             laid = laid;
-            answer = ap (λ n. c.answer n one) (sym so.numbered) ∙ answer;
+            answer = subst (λ n. c n one (gives laid)) so.numbered answer;
             left = left_behind input l;
-            out = gains_part o s (output_of c 0 so.lines) laid writes so.out part;
+            out = gains_part o s (output_of so.answers) laid writes so.out part;
           }))
       stops_told e (for_memory is kept) input l =
           let so = run.told input l in
           inr (RunOf.for_memory is (record {
             lines = so.lines;
+            answers = so.answers;
             past = reader.given;
             rest = so.rest;
             front = so.front;
             next = RunOf.one_taken one (told_line input l).after (told_line input l).just.is (left_behind input l);
-            out = gains_on o s (output_of c 0 so.lines) writes so.out kept;
+            out = gains_on o s (output_of so.answers) writes so.out kept;
           }))
 
       stop_caused : (e : LinesEnd F) → EndsAt c number one s e → IsCaused limit (read_on i j) (both o s) e
@@ -286,7 +303,7 @@ module _ {F : Type 0} (c : LineCommand F) (line_limit limit : ℕ) (i : SourceCh
 
       pub run_stopped : (e : LinesEnd F) → EndsAt now number one s e → LinesRun c line_limit limit (read_on i j) (both o s) e
       run_stopped e h =
-          let k : EndsAt c number one s e = subst (λ n. EndsAt n number one s e) run.same h in record {
+          let k : EndsAt c number one s e = ends_of_kept c now number one s e run.same h in record {
             told = stops_told e k;
             caused = stop_caused e k;
             licensed = stop_licensed e k;
@@ -298,34 +315,33 @@ module _ {F : Type 0} (c : LineCommand F) (line_limit limit : ℕ) (i : SourceCh
       line_more : (results : ℕ) → IsWritten c number one s results → (input : List ℕ) → i.left ≡ Some input → SoFar c line_limit limit input (ahead held' j.left') (both o s) given' (number + 1) (count + results)
       line_more results w input l =
           let so = run.told input l in
-          let at : c.answer number one ≡ c.answer (0 + length so.lines) one = (let n : number ≡ length so.lines = so.numbered in let m : number ≡ 0 + length so.lines = omega arith in ap (λ k. c.answer k one) m) in
           let more : reader.given < given' = longer in
           let past : reader.given + (given' - reader.given) ≡ given' = omega arith in
           let begins : BeginsWith line_limit limit 0 input (so.lines ++ (one ∷ [])) (reader.given + (given' - reader.given)) (told_line input l).after
           = begins_snoc line_limit limit 0 input so.lines reader.given so.rest one (told_line input l).after (given' - reader.given) so.front.begins (told_line input l).just.is (taken_by input l) in
-          let results_now : results_of c 0 (so.lines ++ (one ∷ [])) ≡ results_of c 0 so.lines + results_in (c.answer (0 + length so.lines) one) = results_snoc c 0 so.lines one in
-          let one_more : results_in (c.answer number one) ≡ results_in (c.answer (0 + length so.lines) one) = ap results_in at in
+          let results_now : results_of (so.answers ++ (w.answer ∷ [])) ≡ results_of so.answers + results_in w.answer = results_snoc so.answers w.answer in
           let size : length (so.lines ++ (one ∷ [])) ≡ length so.lines + 1 = length_snoc so.lines one in
           let numbered : number ≡ length so.lines = so.numbered in
-          let counted_so : count ≡ results_of c 0 so.lines = so.counted in
-          let counted_now : results ≡ results_in (c.answer number one) = w.counted in
+          let counted_so : count ≡ results_of so.answers = so.counted in
+          let counted_now : results ≡ results_in w.answer = w.counted in
           record {
             lines = so.lines ++ (one ∷ []);
+            answers = so.answers ++ (w.answer ∷ []);
             rest = (told_line input l).after;
             behind_is = (told_line input l).behind_is;
             front = record {
               begins = subst (λ n. BeginsWith line_limit limit 0 input (so.lines ++ (one ∷ [])) n (told_line input l).after) past begins;
-              answered = answered_snoc c 0 so.lines one so.front.answered (subst IsAnswered at w.answered);
+              answered = answered_snoc c so.lines so.answers one w.answer so.front.answered (subst (λ n. c n one w.answer) so.numbered w.is) w.answered;
             };
-            out = gains_both o s (output_of c 0 so.lines) (octets_in (c.answer number one)) writes so.out w.gained ∙ ap (with_end o.held) (ap (λ x. output_of c 0 so.lines ++ octets_in x) at ∙ sym (output_snoc c 0 so.lines one));
+            out = gains_both o s (output_of so.answers) (octets_in w.answer) writes so.out w.gained ∙ ap (with_end o.held) (sym (output_snoc so.answers w.answer));
             numbered = omega arith;
             counted = omega arith;
           }
 
-      pub run_on : (now' : LineCommand F) (reader' : ReaderState) (results : ℕ) (Still : Type 0) → Still → IsWritten now number one s results → now' ≡ now → reader'.line_limit ≡ reader.line_limit → reader'.limit ≡ reader.limit → reader'.given ≡ given' → reader'.held ≡ held'
+      pub run_on : (now' : LineCommand F) (reader' : ReaderState) (results : ℕ) (Still : Type 0) → Still → IsWritten now number one s results → KeepsTo now now' → reader'.line_limit ≡ reader.line_limit → reader'.limit ≡ reader.limit → reader'.given ≡ given' → reader'.held ≡ held'
           → reader'.given ≤ reader'.limit → IsOpen reader' → Running c line_limit limit (read_on i j) (both o s) now' reader' (number + 1) (count + results) Still
       run_on now' reader' results Still still w kept same_line same given_is held_is fits opened =
-          let w' : IsWritten c number one s results = subst (λ n. IsWritten n number one s results) run.same w in
+          let w' : IsWritten c number one s results = written_of_kept c now number one s results run.same w in
           let more : reader.given < given' = longer in
           let few : number ≤ reader.given = run.few in
           let fewer : count ≤ number = run.fewer in
@@ -336,9 +352,9 @@ module _ {F : Type 0} (c : LineCommand F) (line_limit limit : ℕ) (i : SourceCh
           let counts : given' + length held' ≡ reader.given + length (reader.held ++ g.taken) = g.counts in
           let held_size : length reader'.held ≡ length held' = ap length held_is in
           let lim : reader.limit ≡ limit = run.limit_is in
-          let one_at_most : results ≤ 1 = at_most c number one results w'.counted in
+          let one_at_most : results ≤ 1 = at_most w'.answer results w'.counted in
           record {
-            same = kept ∙ run.same;
+            same = λ n octets a h. run.same n octets a (kept n octets a h);
             sound = still;
             line_limit_is = same_line ∙ run.line_limit_is;
             limit_is = same ∙ run.limit_is;
@@ -370,9 +386,10 @@ pub memory_first : {F : Type 0} (c : LineCommand F) (line_limit limit : ℕ) (le
 memory_first c line_limit limit left held taken faults fails = record {
   told = λ input l. inr (RunOf.for_memory refl (record {
     lines = [];
+    answers = [];
     past = 0;
     rest = input;
-    front = record { begins = (refl, refl); answered = tt };
+    front = record { begins = (refl, refl); answered = record { each = tt; none_refused = tt } };
     next = RunOf.nothing_taken l;
     out = gains_none held fails fails;
   }));

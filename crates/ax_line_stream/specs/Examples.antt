@@ -1,6 +1,6 @@
 -- A line command for the tests and the worked examples: an empty line asks for nothing, a line that begins with `x` is
 -- refused, for a fault that is its number, and another one gives its octets.
-use Rattle.std.specs.Prelude.{ℕ, List, [], ◌∷◌, ◌==◌, if◌then◌else◌}
+use Rattle.std.specs.Prelude.{◌≡◌, ℕ, List, [], ◌∷◌, ◌==◌, if◌then◌else◌}
 use Rattle.ax_line_stream.specs.Commands.{LineAnswer, gives, nothing, refused, LineCommand}
 
 abbrev pub echo : ℕ → List ℕ → LineAnswer ℕ
@@ -8,4 +8,4 @@ echo number [] = nothing
 echo number (first ∷ line) = if first == 120 then refused number else gives (first ∷ line)
 
 abbrev pub echo_command : LineCommand ℕ
-echo_command = record { answer = echo }
+echo_command = λ number line answer. answer ≡ echo number line

@@ -3,7 +3,7 @@
 use Rattle.std.specs.Prelude.{◌≡◌, ℕ, ◌+◌, ◌<◌, ◌≤◌, ◌⊎◌, List, [], ◌∷◌, ◌++◌, length, Option, Some}
 use Rattle.ax_lines.specs.Feeds.{IsPlain}
 use Rattle.ax_lines.specs.Lined.{LinedEnd, line, IsNextLine, Lined}
-use Rattle.ax_line_stream.specs.Commands.{LineCommand, gives, refused, output_of, results_of, AreAnswered}
+use Rattle.ax_line_stream.specs.Commands.{LineCommand, LineAnswer, gives, refused, output_of, results_of, AreAnswered}
 use Rattle.ax_line_stream.specs.Ending.{lines_end}
 use Rattle.ax_line_stream.specs.declared.end.LinesEnd.{LinesEnd}
 use Rattle.ax_line_stream.specs.declared.end.LinesEnd.TheVariants.{Done, Refused, LineTooLong, InputTooLong, ReadFault, WriteFault, OutOfMemory}
@@ -19,35 +19,35 @@ BeginsWith line_limit limit before octets [] past rest = (before ≡ past) × (o
 BeginsWith line_limit limit before octets (one ∷ lines) past rest =
     (after : List ℕ) × (taken : ℕ) × IsNextLine line_limit limit before octets (line one after) × (length octets ≡ taken + length after) × BeginsWith line_limit limit (before + taken) after lines past rest
 
--- the input begins with lines that the command answers, and then the rest
-pub record Answers {F : Type 0} (c : LineCommand F) (line_limit limit : ℕ) (input : List ℕ) (lines : List (List ℕ)) (past : ℕ) (rest : List ℕ) : Type 0 where
+-- the input begins with lines that the command answers so, and then the rest
+pub record Answers {F : Type 0} (c : LineCommand F) (line_limit limit : ℕ) (input : List ℕ) (lines : List (List ℕ)) (answers : List (LineAnswer F)) (past : ℕ) (rest : List ℕ) : Type 0 where
   pub begins : BeginsWith line_limit limit 0 input lines past rest
-  pub answered : AreAnswered c 0 lines
+  pub answered : AreAnswered c lines answers
 
 -- ---- the answer
 
 -- all lines of the input are answered, and the run ends as they do
-pub record EndsWithInput {F : Type 0} (c : LineCommand F) (line_limit limit : ℕ) (input : List ℕ) (lines : List (List ℕ)) (e : LinesEnd F) : Type 0 where
+pub record EndsWithInput {F : Type 0} (c : LineCommand F) (line_limit limit : ℕ) (input : List ℕ) (lines : List (List ℕ)) (answers : List (LineAnswer F)) (e : LinesEnd F) : Type 0 where
   pub end : LinedEnd
   pub lined : Lined line_limit limit 0 input lines end
-  pub answered : AreAnswered c 0 lines
-  pub is : e ≡ lines_end (results_of c 0 lines) (length lines) end
+  pub answered : AreAnswered c lines answers
+  pub is : e ≡ lines_end (results_of answers) (length lines) end
 
 -- the line after these is refused
-pub record EndsAtLine {F : Type 0} (c : LineCommand F) (line_limit limit : ℕ) (input : List ℕ) (lines : List (List ℕ)) (e : LinesEnd F) : Type 0 where
+pub record EndsAtLine {F : Type 0} (c : LineCommand F) (line_limit limit : ℕ) (input : List ℕ) (lines : List (List ℕ)) (answers : List (LineAnswer F)) (e : LinesEnd F) : Type 0 where
   pub past : ℕ
   pub rest : List ℕ
-  pub front : Answers c line_limit limit input lines past rest
+  pub front : Answers c line_limit limit input lines answers past rest
   pub one : List ℕ
   pub after : List ℕ
   pub next : IsNextLine line_limit limit past rest (line one after)
   pub fault : F
-  pub answer : c.answer (length lines) one ≡ refused fault
+  pub answer : c (length lines) one (refused fault)
   pub is : e ≡ Refused (length lines) fault
 
--- the answer: the end, and the lines whose results are written
-abbrev pub LinesAnswer : {F : Type 0} → LineCommand F → ℕ → ℕ → List ℕ → List (List ℕ) → LinesEnd F → Type 0
-LinesAnswer c line_limit limit input lines e = EndsWithInput c line_limit limit input lines e ⊎ EndsAtLine c line_limit limit input lines e
+-- the answer to an input: the end, the lines before it, and the answers to these
+abbrev pub LinesAnswer : {F : Type 0} → LineCommand F → ℕ → ℕ → List ℕ → List (List ℕ) → List (LineAnswer F) → LinesEnd F → Type 0
+LinesAnswer c line_limit limit input lines answers e = EndsWithInput c line_limit limit input lines answers e ⊎ EndsAtLine c line_limit limit input lines answers e
 
 -- ---- what stands where a run has stopped
 
@@ -61,29 +61,31 @@ pub record IsLeftOf (octets : List ℕ) (left' : Option (List ℕ)) : Type 0 whe
 -- a read failed: the lines are all those whose line feed was taken, and `part` are the octets taken of the next one
 pub record StoppedReading {F : Type 0} (c : LineCommand F) (line_limit limit : ℕ) (input : List ℕ) (left' : Option (List ℕ)) (o : SinkChange) : Type 0 where
   pub lines : List (List ℕ)
+  pub answers : List (LineAnswer F)
   pub past : ℕ
   pub part : List ℕ
   pub rest : List ℕ
-  pub front : Answers c line_limit limit input lines past (part ++ rest)
+  pub front : Answers c line_limit limit input lines answers past (part ++ rest)
   pub plain : IsPlain part
   pub short : length part ≤ line_limit
   pub within : past + length part ≤ limit
   pub left : left' ≡ Some rest
-  pub out : Gains o (output_of c 0 lines)
+  pub out : Gains o (output_of answers)
 
 -- a write failed: a prefix of the result through the line after these was added
 pub record StoppedWriting {F : Type 0} (c : LineCommand F) (line_limit limit : ℕ) (input : List ℕ) (left' : Option (List ℕ)) (o : SinkChange) : Type 0 where
   pub lines : List (List ℕ)
+  pub answers : List (LineAnswer F)
   pub past : ℕ
   pub rest : List ℕ
-  pub front : Answers c line_limit limit input lines past rest
+  pub front : Answers c line_limit limit input lines answers past rest
   pub one : List ℕ
   pub after : List ℕ
   pub next : IsNextLine line_limit limit past rest (line one after)
   pub laid : List ℕ
-  pub answer : c.answer (length lines) one ≡ gives laid
+  pub answer : c (length lines) one (gives laid)
   pub left : IsLeftOf after left'
-  pub out : GainsWithPart o (output_of c 0 lines) laid
+  pub out : GainsWithPart o (output_of answers) laid
 
 -- nothing was taken, or a line
 pub data IsBefore (line_limit limit past : ℕ) (input rest : List ℕ) (left' : Option (List ℕ)) : Type 0 where
@@ -93,11 +95,12 @@ pub data IsBefore (line_limit limit past : ℕ) (input rest : List ℕ) (left' :
 -- memory was wanting: before the first line, or for the line after these
 pub record StoppedForMemory {F : Type 0} (c : LineCommand F) (line_limit limit : ℕ) (input : List ℕ) (left' : Option (List ℕ)) (o : SinkChange) : Type 0 where
   pub lines : List (List ℕ)
+  pub answers : List (LineAnswer F)
   pub past : ℕ
   pub rest : List ℕ
-  pub front : Answers c line_limit limit input lines past rest
+  pub front : Answers c line_limit limit input lines answers past rest
   pub next : IsBefore line_limit limit past input rest left'
-  pub out : Gains o (output_of c 0 lines)
+  pub out : Gains o (output_of answers)
 
 pub data LinesStop {F : Type 0} (c : LineCommand F) (line_limit limit : ℕ) (input : List ℕ) (left' : Option (List ℕ)) (o : SinkChange) (e : LinesEnd F) : Type 0 where
   reading : e ≡ ReadFault → StoppedReading c line_limit limit input left' o → LinesStop c line_limit limit input left' o e
@@ -110,8 +113,9 @@ pub data LinesStop {F : Type 0} (c : LineCommand F) (line_limit limit : ℕ) (in
 -- the answer needs, up to all of the input
 pub record Answered {F : Type 0} (c : LineCommand F) (line_limit limit : ℕ) (input : List ℕ) (left' : Option (List ℕ)) (o : SinkChange) (e : LinesEnd F) : Type 0 where
   pub lines : List (List ℕ)
-  pub answers : LinesAnswer c line_limit limit input lines e
-  pub out : Gains o (output_of c 0 lines)
+  pub answers : List (LineAnswer F)
+  pub ends : LinesAnswer c line_limit limit input lines answers e
+  pub out : Gains o (output_of answers)
   pub read : (count : ℕ) → e ≡ Done count → left' ≡ Some []
   pub left : IsLeftOf input left'
 
@@ -123,7 +127,7 @@ ToldRun c line_limit limit input left' o e = Answered c line_limit limit input l
 -- the command refuses some line of that number so
 pub record RefusesLine {F : Type 0} (c : LineCommand F) (number : ℕ) (fault : F) : Type 0 where
   pub octets : List ℕ
-  pub answer : c.answer number octets ≡ refused fault
+  pub answer : c number octets (refused fault)
 
 -- a refused line comes only of a command that has such
 abbrev pub IsLicensed : {F : Type 0} → LineCommand F → LinesEnd F → Type 0

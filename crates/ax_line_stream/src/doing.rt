@@ -1,5 +1,6 @@
 //! One line of a line command: judged as a whole, then written.
 ghost use Rattle.std.specs.Prelude.{◌≡◌, ◌≤◌};
+ghost use Rattle.ax_line_stream.specs.Commands.{KeepsTo};
 ghost use Rattle.ax_line_stream.specs.Taking.{DoesLine};
 ghost use Rattle.ax_outside.specs.Changes.{sink_change};
 
@@ -19,7 +20,7 @@ pub fn do_line<W: LineWork, K: Sink>(
     requires sound { W.sound work.old }
     ensures does { DoesLine (W.command work.old) number line.now (sink_change K.Sink out.old out.new) result }
     ensures out_later { K.faults out.old ≤ K.faults out.new }
-    ensures same { W.command work.new ≡ W.command work.old }
+    ensures same { KeepsTo (W.command work.old) (W.command work.new) }
     ensures still_sound { W.sound work.new }
 {
     match work.take(number, line) {

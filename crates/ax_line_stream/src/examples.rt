@@ -1,15 +1,17 @@
 //! Worked examples of what a line command answers. Each function stands for what its contract says.
-ghost use Rattle.std.specs.Prelude.{◌≡◌, [], ◌∷◌, codes};
-ghost use Rattle.ax_line_stream.specs.Commands.{output_of, results_of};
+ghost use Rattle.std.specs.Prelude.{◌≡◌, ℕ, [], ◌∷◌, codes};
+ghost use Rattle.ax_line_stream.specs.Commands.{gives, nothing, refused, HasOneAnswer, output_of, results_of, AreAnswered};
 ghost use Rattle.ax_line_stream.specs.Examples.{echo_command};
 ghost use Rattle.ax_line_stream.specs.Runs.{LinesAnswer};
 ghost use Rattle.ax_line_stream.specs.declared.end.LinesEnd.TheVariants.{Done, Refused, LineTooLong};
 
 /// An empty line counts as a line and not as a result: the line after it has the next number.
 pub fn answers_of_texts()
-    ensures results { results_of echo_command 0 (codes "12" ∷ [] ∷ codes "3" ∷ []) ≡ 2 }
-    ensures output { output_of echo_command 0 (codes "12" ∷ [] ∷ codes "3" ∷ []) ≡ codes "123" }
-    ensures done { LinesAnswer echo_command 4 100 (49 ∷ 10 ∷ 10 ∷ 50 ∷ []) (codes "1" ∷ [] ∷ codes "2" ∷ []) (Done 2) }
-    ensures refused { LinesAnswer echo_command 4 100 (49 ∷ 10 ∷ 10 ∷ 120 ∷ 10 ∷ 50 ∷ []) (codes "1" ∷ [] ∷ []) (Refused 2 2) }
-    ensures too_long { LinesAnswer echo_command 1 100 (49 ∷ 10 ∷ 10 ∷ 50 ∷ 51 ∷ []) (codes "1" ∷ [] ∷ []) (LineTooLong 2) }
+    ensures one { HasOneAnswer echo_command }
+    ensures answered { AreAnswered echo_command (codes "12" ∷ [] ∷ codes "3" ∷ []) (gives (codes "12") ∷ nothing ∷ gives (codes "3") ∷ []) }
+    ensures results { results_of {F = ℕ} (gives (codes "12") ∷ nothing ∷ gives (codes "3") ∷ refused 3 ∷ []) ≡ 2 }
+    ensures output { output_of {F = ℕ} (gives (codes "12") ∷ nothing ∷ gives (codes "3") ∷ refused 3 ∷ []) ≡ codes "123" }
+    ensures done { LinesAnswer echo_command 4 100 (49 ∷ 10 ∷ 10 ∷ 50 ∷ []) (codes "1" ∷ [] ∷ codes "2" ∷ []) (gives (codes "1") ∷ nothing ∷ gives (codes "2") ∷ []) (Done 2) }
+    ensures refused { LinesAnswer echo_command 4 100 (49 ∷ 10 ∷ 10 ∷ 120 ∷ 10 ∷ 50 ∷ []) (codes "1" ∷ [] ∷ []) (gives (codes "1") ∷ nothing ∷ []) (Refused 2 2) }
+    ensures too_long { LinesAnswer echo_command 1 100 (49 ∷ 10 ∷ 10 ∷ 50 ∷ 51 ∷ []) (codes "1" ∷ [] ∷ []) (gives (codes "1") ∷ nothing ∷ []) (LineTooLong 2) }
 {}

@@ -1,6 +1,6 @@
 //! What a line command does with one line.
 ghost use Rattle.std.specs.Prelude.{◌≡◌, List, ℕ};
-ghost use Rattle.ax_line_stream.specs.Commands.{LineCommand};
+ghost use Rattle.ax_line_stream.specs.Commands.{LineCommand, KeepsTo};
 ghost use Rattle.ax_line_stream.specs.Taking.{TakesLine};
 
 /// Why a line has no result.
@@ -17,7 +17,7 @@ pub trait LineWork {
     /// Why it refuses a line.
     type Fault;
 
-    // The command: its answer to each line.
+    // The command: which answer each line has.
     ghost command: { Self → LineCommand Self.Fault };
 
     // What the work relies on from one line to the next.
@@ -31,7 +31,7 @@ pub trait LineWork {
     fn take(&mut self, number: u64, line: &[u8]) -> Result<bool, LineStop<Self::Fault>>
         requires sound { sound self.old }
         ensures takes { TakesLine (command self.old) number line.now (laid self.new) result }
-        ensures same { command self.new ≡ command self.old }
+        ensures same { KeepsTo (command self.old) (command self.new) }
         ensures still_sound { sound self.new };
 
     /// The octets that were laid last.

@@ -1,6 +1,7 @@
 //! One line of a line command: judged as a whole, then written.
-ghost use Rattle.std.specs.Prelude.{◌≡◌, ◌≤◌};
+ghost use Rattle.std.specs.Prelude.{◌≤◌, length};
 ghost use Rattle.ax_line_stream.specs.Commands.{KeepsTo};
+ghost use Rattle.ax_line_stream.specs.Ending.{longest_line};
 ghost use Rattle.ax_line_stream.specs.Taking.{DoesLine};
 ghost use Rattle.ax_outside.specs.Changes.{sink_change};
 
@@ -18,6 +19,7 @@ pub fn do_line<W: LineWork, K: Sink>(
     line: &[u8],
 ) -> Result<u64, LinesEnd<W::Fault>>
     requires sound { W.sound work.old }
+    requires short { length line.now ≤ longest_line }
     ensures does { DoesLine (W.command work.old) number line.now (sink_change K.Sink out.old out.new) result }
     ensures out_later { K.faults out.old ≤ K.faults out.new }
     ensures same { KeepsTo (W.command work.old) (W.command work.new) }

@@ -1,5 +1,6 @@
 //! The loop over the lines of an input, for every line command.
-ghost use Rattle.std.specs.Prelude.{◌≡◌, ◌<◌, ◌^◌, [], None};
+ghost use Rattle.std.specs.Prelude.{◌≡◌, ◌<◌, ◌≤◌, ◌^◌, [], None};
+ghost use Rattle.ax_line_stream.specs.Ending.{longest_line};
 ghost use Rattle.ax_line_stream.specs.Runs.{LinesRun};
 ghost use Rattle.ax_outside.specs.Changes.{source_change, sink_change};
 
@@ -18,6 +19,7 @@ pub fn drive_lines<W: LineWork, S: Source, K: Sink>(
     out: &mut K,
 ) -> LinesEnd<W::Fault>
     requires fresh { reader.old ≡ record { line_limit = reader.old.line_limit; limit = reader.old.limit; given = 0; held = []; ended = None } }
+    requires short { reader.old.line_limit ≤ longest_line }
     requires bounded { reader.old.limit < 2 ^ 63 }
     requires sound { W.sound work.old }
     ensures { LinesRun (W.command work.old) reader.old.line_limit reader.old.limit (source_change S.Source source.old source.new) (sink_change K.Sink out.old out.new) result }

@@ -1,6 +1,7 @@
 //! What a line command does with one line.
-ghost use Rattle.std.specs.Prelude.{◌≡◌, List, ℕ};
+ghost use Rattle.std.specs.Prelude.{◌≡◌, ◌≤◌, List, ℕ, length};
 ghost use Rattle.ax_line_stream.specs.Commands.{LineCommand, KeepsTo};
+ghost use Rattle.ax_line_stream.specs.Ending.{longest_line};
 ghost use Rattle.ax_line_stream.specs.Taking.{TakesLine};
 
 /// Why a line has no result.
@@ -30,6 +31,7 @@ pub trait LineWork {
     /// whether the line has any result.
     fn take(&mut self, number: u64, line: &[u8]) -> Result<bool, LineStop<Self::Fault>>
         requires sound { sound self.old }
+        requires short { length line.now ≤ longest_line }
         ensures takes { TakesLine (command self.old) number line.now (laid self.new) result }
         ensures same { KeepsTo (command self.old) (command self.new) }
         ensures still_sound { sound self.new };

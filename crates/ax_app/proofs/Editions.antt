@@ -1,9 +1,11 @@
 -- The files and the job of `migrate`.
 use Rattle.std.proofs.Common.{◌≡◌, ℕ, false, true, IsFalse, Result, IfOk, IfErr, List, [], ◌∷◌, length, map, refl, sym, ◌∙◌, ap, subst, arith}
+use Rattle.ax_command.specs.Outcomes.{outcome_of_end}
 use Rattle.ax_command.specs.declared.outcome.JobStop.{JobStop}
+use Rattle.ax_command.specs.declared.outcome.Outcome.{Outcome}
 use Rattle.ax_command.specs.declared.outcome.Refusal.TheVariants.{OtherCategory}
 use Rattle.ax_command.specs.declared.words.Verb.{Verb}
-use Rattle.ax_command.specs.declared.words.Verb.TheVariants.{Check, Canon, Show, Text, Filter, Migrate}
+use Rattle.ax_command.specs.declared.words.Verb.TheVariants.{Check, Canon, Show, Text, Build, Filter, Migrate}
 use Rattle.ax_migrate_work.specs.Commands.{migrate_command}
 use Rattle.ax_model.specs.Plain.{spec_tree}
 use Rattle.ax_model.specs.Specification.{SpecTree}
@@ -40,29 +42,30 @@ is_migrate Check h = absurd (let x : true ≡ false = h in cc)
 is_migrate Canon h = absurd (let x : true ≡ false = h in cc)
 is_migrate Show h = absurd (let x : true ≡ false = h in cc)
 is_migrate Text h = absurd (let x : true ≡ false = h in cc)
+is_migrate Build h = absurd (let x : true ≡ false = h in cc)
 is_migrate Filter h = absurd (let x : true ≡ false = h in cc)
 is_migrate Migrate h = refl
 
 -- what `migrate` says of two editions, the command says of what was loaded
 module _ (verb : Verb) (arguments : List (List ℕ)) (loaded : Loaded) (old new : Spec) where
-  pub editions_run : (i : SourceChange) (o r : SinkChange) (result : Result StreamEnd JobStop) → loaded ≡ LoadedOf.Editions old new → IsLoadedFor (takes_distinct verb) loaded
+  pub editions_run : (i : SourceChange) (o r : SinkChange) (result : Result Outcome JobStop) → loaded ≡ LoadedOf.Editions old new → IsLoadedFor (takes_distinct verb) loaded
       → IfOk result (RunsJob Migrate arguments (spec_tree old ∷ spec_tree new ∷ []) i o r) → IfOk result (RunsJob verb arguments (specs_of loaded) i o r)
   editions_run i o r result is for run =
       let same : verb ≡ Migrate = is_migrate verb (subst (IsLoadedFor (takes_distinct verb)) is for) in
       subst (λ v. IfOk result (RunsJob v arguments (specs_of loaded) i o r)) (sym same) (subst (λ l. IfOk result (RunsJob Migrate arguments (specs_of l) i o r)) (sym is) run)
 
-  pub editions_stopped : (result : Result StreamEnd JobStop) → loaded ≡ LoadedOf.Editions old new → IsLoadedFor (takes_distinct verb) loaded
+  pub editions_stopped : (result : Result Outcome JobStop) → loaded ≡ LoadedOf.Editions old new → IsLoadedFor (takes_distinct verb) loaded
       → IfErr result (IsStopped Migrate arguments (spec_tree old ∷ spec_tree new ∷ [])) → IfErr result (IsStopped verb arguments (specs_of loaded))
   editions_stopped result is for stopped =
       let same : verb ≡ Migrate = is_migrate verb (subst (IsLoadedFor (takes_distinct verb)) is for) in
       subst (λ v. IfErr result (IsStopped v arguments (specs_of loaded))) (sym same) (subst (λ l. IfErr result (IsStopped Migrate arguments (specs_of l))) (sym is) stopped)
 
-pub migrate_runs : (arguments : List (List ℕ)) (old new : Spec) (i : SourceChange) (o r : SinkChange) (c : BlockCommand) (end : StreamEnd) → old.category ≡ new.category → c ≡ migrate_command (spec_tree old) (spec_tree new) → StreamRuns c longest_input i o r end
-    → RunsJob Migrate arguments (spec_tree old ∷ spec_tree new ∷ []) i o r end
-migrate_runs arguments old new i o r c end same is runs = record {
+pub migrate_runs : (arguments : List (List ℕ)) (old new : Spec) (i : SourceChange) (o r : SinkChange) (c : BlockCommand) (end : StreamEnd) (outcome : Outcome) → old.category ≡ new.category → c ≡ migrate_command (spec_tree old) (spec_tree new) → StreamRuns c longest_input i o r end → outcome ≡ outcome_of_end end
+    → RunsJob Migrate arguments (spec_tree old ∷ spec_tree new ∷ []) i o r outcome
+migrate_runs arguments old new i o r c end outcome same is runs ends = record {
   job = each_block (migrate_command (spec_tree old) (spec_tree new));
   is = record { old = spec_tree old; new = spec_tree new; two = refl; is = migrates same refl };
-  runs = subst (λ k. StreamRuns k longest_input i o r end) is runs;
+  runs = record { end = end; runs = subst (λ k. StreamRuns k longest_input i o r end) is runs; is = ends };
 }
 
 pub migrate_refuses : (arguments : List (List ℕ)) (old new : Spec) (one other : ℕ) → one ≡ old.category → other ≡ new.category → (old.category ≡ new.category → ⊥)

@@ -1,5 +1,7 @@
 -- The job of `filter`.
 use Rattle.std.proofs.Common.{◌≡◌, ℕ, ◌≤◌, ◌^◌, List, [], ◌∷◌, length, refl, sym, ◌∙◌, ap, subst}
+use Rattle.ax_command.specs.Outcomes.{outcome_of_end}
+use Rattle.ax_command.specs.declared.outcome.Outcome.{Outcome}
 use Rattle.ax_command.specs.declared.outcome.Refusal.TheVariants.{FilterRefused}
 use Rattle.ax_command.specs.declared.words.Verb.TheVariants.{Filter}
 use Rattle.ax_filter.specs.Matching.{filtered}
@@ -31,12 +33,12 @@ module _ (arguments : List (List ℕ)) (expression : List ℕ) (more : List (Lis
       let same : ready.expression ≡ expression = cc in
       subst (λ x. length x ≤ 2 ^ 31) same ready.short
 
-  pub filter_runs : (specs over : List SpecTree) (e : ExprTree) (i : SourceChange) (o r : SinkChange) (c : BlockCommand) (end : StreamEnd) → IsFilterText specs expression e → over ≡ specs
-      → c ≡ tree_command (λ number spec block. filtered over e spec block) (λ number category content. []) specs → StreamRuns c longest_input i o r end → RunsJob Filter arguments specs i o r end
-  filter_runs specs over e i o r c end h same is runs = record {
+  pub filter_runs : (specs over : List SpecTree) (e : ExprTree) (i : SourceChange) (o r : SinkChange) (c : BlockCommand) (end : StreamEnd) (outcome : Outcome) → IsFilterText specs expression e → over ≡ specs
+      → c ≡ tree_command (λ number spec block. filtered over e spec block) (λ number category content. []) specs → StreamRuns c longest_input i o r end → outcome ≡ outcome_of_end end → RunsJob Filter arguments specs i o r outcome
+  filter_runs specs over e i o r c end outcome h same is runs ends = record {
     job = each_block (filter_command e specs);
     is = record { expression = expression; one = alone; is = filters e h refl };
-    runs = subst (λ x. StreamRuns x longest_input i o r end) (is ∙ ap (λ k. tree_command (λ number spec block. filtered k e spec block) (λ number category content. []) specs) same) runs;
+    runs = record { end = end; is = ends; runs = subst (λ x. StreamRuns x longest_input i o r end) (is ∙ ap (λ k. tree_command (λ number spec block. filtered k e spec block) (λ number category content. []) specs) same) runs };
   }
 
   pub filter_refuses : (specs : List SpecTree) (text : List ℕ) (stop : FilterStop) (fault : FilterFault) → text ≡ expression → stop ≡ Refused fault → IsStopped specs text stop → IsJob Filter arguments specs (refuses (FilterRefused fault))

@@ -1,3 +1,4 @@
+pub mod Causing
 pub mod Checks
 pub mod Editions
 pub mod Ends

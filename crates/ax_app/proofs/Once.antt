@@ -1,19 +1,23 @@
 -- Words ask for one thing, and over its files that is one job.
 use Rattle.std.proofs.Common.{◌≡◌, ℕ, List, [], ◌∷◌, ◌++◌, Option, Some, length, take, drop, refl, sym, ◌∙◌, ap, subst, arith}
+use Rattle.std.specs.List.{AllByRecursion}
 use Rattle.std.proofs.Math.Seq.{take-append_seam, drop-append_seam}
 use Rattle.ax_command.specs.Words.{Asked, HasShape, verb_of, arguments_of, TakesFiles, AreArguments}
 use Rattle.ax_command.specs.declared.words.Verb.{Verb}
-use Rattle.ax_command.specs.declared.words.Verb.TheVariants.{Check, Canon, Show, Text, Filter, Migrate}
+use Rattle.ax_command.specs.declared.words.Verb.TheVariants.{Check, Canon, Show, Text, Build, Filter, Migrate}
 use Rattle.ax_command.specs.declared.outcome.Refusal.TheVariants.{FilterRefused}
 use Rattle.ax_filter.proofs.TextStops.{filter_once, refused_once, filter_not_refused}
 use Rattle.ax_filter_work.specs.FilterCommand.{filter_command}
 use Rattle.ax_grammar.proofs.Ranges.{numbers_in_range}
 use Rattle.ax_load.proofs.FilesOnce.{given_once}
 use Rattle.ax_load.specs.Loading.{FilesGive, EachGives}
+use Rattle.ax_model.specs.Flaws.{NoFlaw}
 use Rattle.ax_model.specs.Specification.{SpecTree}
 use Rattle.ax_outside.specs.Files.{File}
+use Rattle.ax_text.specs.Names.{IsNamed}
+use Rattle.ax_text_laws.proofs.FileNesting.{spec_named}
 use Rattle.ax_app.proofs.Editions.{migrate_job_once}
-use Rattle.ax_app.specs.Jobs.{Job, writes, each_block, refuses, IsJob, IsFilterJob, filters, refused, IsReady, check_text, takes_distinct}
+use Rattle.ax_app.specs.Jobs.{Job, writes, each_block, builds, refuses, IsJob, IsFilterJob, filters, refused, IsMigrateJob, migrates, other_category, IsReady, check_text, takes_distinct}
 use Rattle.ax_app.specs.Running.{Does}
 
 pub shape_once : (words : List (List ℕ)) (what next : Asked) → HasShape words what → HasShape words next → what ≡ next
@@ -42,6 +46,7 @@ job_once Check arguments specs job other h k = let e : h.spec ∷ [] ≡ k.spec 
 job_once Canon arguments specs job other h k = h ∙ sym k
 job_once Show arguments specs job other h k = h ∙ sym k
 job_once Text arguments specs job other h k = h ∙ sym k
+job_once Build arguments specs job other h k = h ∙ sym k
 job_once Filter arguments specs job other h k =
     let e : h.expression ∷ [] ≡ k.expression ∷ [] = sym h.one ∙ k.one in
     let same : k.expression ≡ h.expression = cc in
@@ -54,6 +59,42 @@ does_once words files job other h k =
     let specs : k.specs ≡ h.specs = given_once (takes_distinct h.what.verb) files h.what.files k.specs h.specs (subst (λ w. FilesGive (takes_distinct w.verb) (Some files) w.files k.specs) (sym same) k.give) h.give in
     job_once h.what.verb h.what.arguments h.specs job other h.is (subst (λ s. IsJob h.what.verb h.what.arguments s other) specs (subst (λ w. IsJob w.verb w.arguments k.specs other) (sym same) k.is))
 
+-- ---- the specifications under which blocks are built
+
+good_specs : (files : Option (List File)) (names : List (List ℕ)) (specs : List SpecTree) → EachGives files names specs → AllByRecursion (λ spec. NoFlaw spec × IsNamed spec) specs
+good_specs files [] [] gives = tt
+good_specs files [] (spec ∷ specs) gives = absurd gives
+good_specs files (name ∷ names) [] gives = absurd gives
+good_specs files (name ∷ names) (spec ∷ specs) gives = ((gives.0.accepted.sound, spec_named spec gives.0.accepted.spelled.in_range), good_specs files names specs gives.1)
+
+-- they have no flaw, and their names are names
+abbrev pub IsGood : Job → Type 0
+IsGood (writes text) = Unit {0}
+IsGood (each_block c) = Unit {0}
+IsGood (builds catalogue) = AllByRecursion (λ spec. NoFlaw spec × IsNamed spec) catalogue
+IsGood (refuses refusal) = Unit {0}
+
+good_filter : (expression : List ℕ) (specs : List SpecTree) (job : Job) → IsFilterJob expression specs job → IsGood job
+good_filter expression specs job (filters e h is) = subst IsGood (sym is) tt
+good_filter expression specs job (refused fault h is) = subst IsGood (sym is) tt
+
+good_migrate : (old new : SpecTree) (job : Job) → IsMigrateJob old new job → IsGood job
+good_migrate old new job (migrates same is) = subst IsGood (sym is) tt
+good_migrate old new job (other_category differ is) = subst IsGood (sym is) tt
+
+-- one row for each command
+good_of : (verb : Verb) (arguments : List (List ℕ)) (specs : List SpecTree) (job : Job) → AllByRecursion (λ spec. NoFlaw spec × IsNamed spec) specs → IsJob verb arguments specs job → IsGood job
+good_of Check arguments specs job good h = subst IsGood (sym h.is) tt
+good_of Canon arguments specs job good h = subst IsGood (sym h) tt
+good_of Show arguments specs job good h = subst IsGood (sym h) tt
+good_of Text arguments specs job good h = subst IsGood (sym h) tt
+good_of Build arguments specs job good h = subst IsGood (sym h) good
+good_of Filter arguments specs job good h = good_filter h.expression specs job h.is
+good_of Migrate arguments specs job good h = good_migrate h.old h.new job h.is
+
+pub good_job : (words : List (List ℕ)) (files : Option (List File)) (job : Job) → Does words files job → IsGood job
+good_job words files job d = good_of d.what.verb d.what.arguments d.specs job (good_specs files d.what.files d.specs d.give.each) d.is
+
 -- ---- what the code of a command may rely on; one row for each
 
 pub ready : (files : Option (List File)) (verb : Verb) (arguments names : List (List ℕ)) (specs : List SpecTree) → length arguments ≡ arguments_of verb → AreArguments verb arguments → TakesFiles verb (length names) → EachGives files names specs → IsReady verb arguments specs
@@ -65,6 +106,7 @@ ready files Check arguments (name ∷ other ∷ names) specs n form count gives 
 ready files Canon arguments names specs n form count gives = tt
 ready files Show arguments names specs n form count gives = tt
 ready files Text arguments names specs n form count gives = tt
+ready files Build arguments names specs n form count gives = tt
 ready files Filter [] names specs n form count gives = absurd form
 ready files Filter (expression ∷ []) names specs n form count gives = record { expression = expression; one = refl; short = form }
 ready files Filter (expression ∷ other ∷ more) names specs n form count gives = absurd (omega (arith, n))

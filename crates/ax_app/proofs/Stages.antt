@@ -2,15 +2,27 @@
 use Rattle.std.proofs.Common.{◌≡◌, ℕ, ◌-◌, ◌^◌, ◌<◌, ◌≤◌, ◌⊎◌, inl, inr, Bool, List, [], ◌∷◌, Option, Some, Result, Ok, Err, IfOk, length, refl, sym, ◌∙◌, ap, subst, arith}
 use Rattle.std.proofs.Math.Nat.{eq-or-lt_of_le}
 use Rattle.ax_bits.specs.Bits.{AreOctets}
+use Rattle.ax_build_work.proofs.Once.{build_once}
+use Rattle.ax_build_work.specs.BuildCommand.{build_command}
+use Rattle.ax_build_work.specs.declared.fault.TextFault.{TextFault}
 use Rattle.ax_command.specs.Lines.{lines_of}
-use Rattle.ax_command.specs.Outcomes.{outcome_of_stop, outcome_of_end, outcome_of_job_stop}
+use Rattle.ax_command.specs.Outcomes.{outcome_of_stop, outcome_of_end, outcome_of_lines, outcome_of_job_stop}
 use Rattle.ax_command.specs.Words.{HasNoShape}
 use Rattle.ax_command.specs.declared.outcome.JobStop.{JobStop}
 use Rattle.ax_command.specs.declared.outcome.JobStop.TheVariants as JobStopOf
 use Rattle.ax_command.specs.declared.outcome.Outcome.{Outcome}
-use Rattle.ax_command.specs.declared.outcome.Outcome.TheVariants.{Usage, Done, ReadFault, WriteFault, ReportFault, InputTooLong}
+use Rattle.ax_command.specs.declared.outcome.Outcome.TheVariants.{Usage, Done, WriteFault, OutOfMemory}
 use Rattle.ax_command.specs.declared.words.Verb.{Verb}
-use Rattle.ax_command.specs.declared.words.Verb.TheVariants.{Check, Canon}
+use Rattle.ax_command.specs.declared.words.Verb.TheVariants.{Check, Build}
+use Rattle.ax_line_stream.proofs.AnswersOnce.{lines_complete}
+use Rattle.ax_line_stream.specs.Commands as Lines
+use Rattle.ax_line_stream.specs.Commands.{LineAnswer}
+use Rattle.ax_line_stream.specs.Completing as OfLinesDone
+use Rattle.ax_line_stream.specs.Ending.{longest_line}
+use Rattle.ax_line_stream.specs.Runs as OfLines
+use Rattle.ax_line_stream.specs.Runs.{LinesRun}
+use Rattle.ax_line_stream.specs.declared.end.LinesEnd.{LinesEnd}
+use Rattle.ax_line_stream.specs.declared.end.LinesEnd.TheVariants as LinesEndOf
 use Rattle.ax_load.proofs.FilesOnce.{given_ends_for_memory}
 use Rattle.ax_load.specs.Loading.{FilesGive, StopsAtFile, EndsAtFile, by_file, by_category, IsRefusedFile}
 use Rattle.ax_load.specs.declared.fault.LoadStop.{LoadStop}
@@ -25,88 +37,62 @@ use Rattle.ax_outside.specs.Told.{Rose, with_end}
 use Rattle.ax_outside.specs.declared.sinks.SinkFailed.{SinkFailed}
 use Rattle.ax_model.specs.Blocks.{BlockTree}
 use Rattle.ax_stream.proofs.Completes.{IsDoneWithBlocks, stream_completes}
-use Rattle.ax_stream.specs.BlockCommands.{canon_command}
 use Rattle.ax_stream.specs.Commands.{BlockCommand, output_of, report_of}
 use Rattle.ax_stream.specs.Ending.{longest_input}
-use Rattle.ax_stream.specs.Streams.{IsIdle, IsCaused, StreamRuns, ToldRun, reading, writing, reporting, for_memory}
+use Rattle.ax_stream.specs.Streams.{IsIdle, StreamRuns, ToldRun, reading, writing, reporting, for_memory}
 use Rattle.ax_stream.specs.declared.end.StreamEnd.{StreamEnd}
 use Rattle.ax_stream.specs.declared.end.StreamEnd.TheVariants as EndOf
-use Rattle.ax_app.proofs.Ends.{end_of, end_back, stop_back, job_stop_back, no_usage_in_job, no_usage_at_files, no_usage_before_input}
-use Rattle.ax_app.proofs.Once.{shape_once, does_once}
+use Rattle.ax_app.proofs.Ends.{IsEarly, stop_is_early, job_stop_is_early, no_usage_of_blocks, no_usage_of_lines, done_of_blocks, done_of_lines}
+use Rattle.ax_app.proofs.Once.{shape_once, does_once, IsGood, good_job}
 use Rattle.ax_app.specs.Answer.{by_words, by_files, by_refusal, by_job}
 use Rattle.ax_app.specs.Completing.{NoFaultCounted, HasWhole, IsDoneWith}
 use Rattle.ax_app.specs.Headline.{Headline, answered, stopped_at_files, stopped_before_input, stopped_in_job, IsHindrance, of_library, of_memory}
-use Rattle.ax_app.specs.Jobs.{Job, writes, each_block, refuses, check_text, IsJob, TextEnds, written, cut, no_memory, JobRuns, RunsJob, IsReadyToCheck, takes_distinct}
+use Rattle.ax_app.specs.Jobs.{Job, writes, each_block, builds, refuses, check_text, IsJob, ReadsInput, TextEnds, written, cut, no_memory, JobRuns, RunsJob, IsReadyToCheck, takes_distinct}
 use Rattle.ax_app.specs.Running.{Does, StopsAtFiles, StopsBeforeInput, Runs, at_words, at_files, before_input, in_job, Ended, Causes}
 
 -- ---- the jobs of the commands
 
-pub check_job : (arguments : List (List ℕ)) (specs : List SpecTree) (left held' : Option (List ℕ)) (taken faults faults' : ℕ) (o : SinkChange) (end : StreamEnd) → IsReadyToCheck specs → ((spec : SpecTree) → specs ≡ spec ∷ [] → TextEnds (check_text spec) o end)
-    → RunsJob Check arguments specs (record { left = left; left' = left; taken = taken; taken' = taken; faults = faults; faults' = faults }) o (record { held = held'; held' = held'; faults = faults'; faults' = faults' }) end
-check_job arguments specs left held' taken faults faults' o end ready ends = record {
+pub check_job : (arguments : List (List ℕ)) (specs : List SpecTree) (left held' : Option (List ℕ)) (taken faults faults' : ℕ) (o : SinkChange) (outcome : Outcome) → IsReadyToCheck specs → ((spec : SpecTree) → specs ≡ spec ∷ [] → TextEnds (check_text spec) o outcome)
+    → RunsJob Check arguments specs (record { left = left; left' = left; taken = taken; taken' = taken; faults = faults; faults' = faults }) o (record { held = held'; held' = held'; faults = faults'; faults' = faults' }) outcome
+check_job arguments specs left held' taken faults faults' o outcome ready ends = record {
   job = writes (check_text ready.spec);
   is = record { spec = ready.spec; one = ready.one; is = refl };
   runs = record { ends = ends ready.spec ready.one; untouched = record { left = refl; taken = refl }; report = refl };
 }
 
-pub block_job : (verb : Verb) (arguments : List (List ℕ)) (specs : List SpecTree) (i : SourceChange) (o r : SinkChange) (c k : BlockCommand) (end : StreamEnd) → IsJob verb arguments specs (each_block k) → c ≡ k → StreamRuns c longest_input i o r end → RunsJob verb arguments specs i o r end
-block_job verb arguments specs i o r c k end job is runs = record { job = each_block k; is = job; runs = subst (λ x. StreamRuns x longest_input i o r end) is runs }
+pub block_job : (verb : Verb) (arguments : List (List ℕ)) (specs : List SpecTree) (i : SourceChange) (o r : SinkChange) (c k : BlockCommand) (end : StreamEnd) (outcome : Outcome) → IsJob verb arguments specs (each_block k) → c ≡ k → StreamRuns c longest_input i o r end → outcome ≡ outcome_of_end end
+    → RunsJob verb arguments specs i o r outcome
+block_job verb arguments specs i o r c k end outcome job is runs ends = record { job = each_block k; is = job; runs = record { end = end; runs = subst (λ x. StreamRuns x longest_input i o r end) is runs; is = ends } }
 
--- `canon`, where it came to its input
-pub canon_job : (arguments : List (List ℕ)) (specs : List SpecTree) (i : SourceChange) (o r : SinkChange) (result : Result StreamEnd JobStop) → IfOk result (StreamRuns (canon_command specs) longest_input i o r) → IfOk result (RunsJob Canon arguments specs i o r)
-canon_job arguments specs i o r (Ok end) runs = record { job = each_block (canon_command specs); is = refl; runs = runs }
-canon_job arguments specs i o r (Err stop) runs = tt
-
-pub text_job : (verb : Verb) (arguments : List (List ℕ)) (specs : List SpecTree) (left held' : Option (List ℕ)) (taken faults faults' : ℕ) (o : SinkChange) (text : List ℕ) (end : StreamEnd) → IsJob verb arguments specs (writes text) → TextEnds text o end
-    → RunsJob verb arguments specs (record { left = left; left' = left; taken = taken; taken' = taken; faults = faults; faults' = faults }) o (record { held = held'; held' = held'; faults = faults'; faults' = faults' }) end
-text_job verb arguments specs left held' taken faults faults' o text end is ends = record {
-  job = writes text;
-  is = is;
-  runs = record { ends = ends; untouched = record { left = refl; taken = refl }; report = refl };
-}
-
--- ---- causes
-
-text_caused : (text : List ℕ) (i : SourceChange) (o r : SinkChange) (end : StreamEnd) → TextEnds text o end → IsCaused longest_input i o r end
-text_caused text i o r end (written is h) = subst (IsCaused longest_input i o r) (sym is) tt
-text_caused text i o r end (cut is h) = subst (IsCaused longest_input i o r) (sym is) h.rose
-text_caused text i o r end (no_memory is h) = subst (IsCaused longest_input i o r) (sym is) tt
-
-job_caused : (job : Job) (i : SourceChange) (o r : SinkChange) (end : StreamEnd) → JobRuns job i o r end → IsCaused longest_input i o r end
-job_caused (writes text) i o r end h = text_caused text i o r end h.ends
-job_caused (each_block c) i o r end h = h.caused
-job_caused (refuses refusal) i o r end h = absurd h
-
--- an outcome that only a job gives
-only_job : (words : List (List ℕ)) (files : Option (List File)) (c : LibraryCounts) (i : SourceChange) (o r : SinkChange) (outcome : Outcome) (end : StreamEnd) → (end ≡ EndOf.OutOfMemory → ⊥) → (outcome ≡ Usage → ⊥) → end_of outcome ≡ end
-    → Runs words files c i o r outcome → IsCaused longest_input i o r end
-only_job words files c i o r outcome end never nor e (at_words none is unasked idle) = absurd (nor is)
-only_job words files c i o r outcome end never nor e (at_files stop h is idle) = absurd (never (sym e ∙ ap end_of is ∙ stop_back stop))
-only_job words files c i o r outcome end never nor e (before_input stop h is idle) = absurd (never (sym e ∙ ap end_of is ∙ job_stop_back stop))
-only_job words files c i o r outcome end never nor e (in_job job other d h is) =
-    subst (IsCaused longest_input i o r) (sym (end_back other) ∙ ap end_of (sym is) ∙ e) (job_caused job i o r other h)
-
-pub causes : (words : List (List ℕ)) (files : Option (List File)) (c : LibraryCounts) (i : SourceChange) (o r : SinkChange) (outcome : Outcome) → Runs words files c i o r outcome → Causes i o r outcome
-causes words files c i o r outcome runs = record {
-  read = λ e. only_job words files c i o r outcome EndOf.ReadFault (λ x. absurd (cc)) (λ x. absurd (let y : Usage ≡ ReadFault = sym x ∙ e in cc)) (ap end_of e) runs;
-  write = λ e. only_job words files c i o r outcome EndOf.WriteFault (λ x. absurd (cc)) (λ x. absurd (let y : Usage ≡ WriteFault = sym x ∙ e in cc)) (ap end_of e) runs;
-  report = λ e. only_job words files c i o r outcome EndOf.ReportFault (λ x. absurd (cc)) (λ x. absurd (let y : Usage ≡ ReportFault = sym x ∙ e in cc)) (ap end_of e) runs;
-  too_long = λ e. only_job words files c i o r outcome EndOf.InputTooLong (λ x. absurd (cc)) (λ x. absurd (let y : Usage ≡ InputTooLong = sym x ∙ e in cc)) (ap end_of e) runs;
-}
+-- `build` reports nothing
+pub build_job : (arguments : List (List ℕ)) (specs : List SpecTree) (i : SourceChange) (o : SinkChange) (held : Option (List ℕ)) (faults : ℕ) (end : LinesEnd TextFault) (outcome : Outcome) → LinesRun (build_command specs) longest_line longest_input i o end → outcome ≡ outcome_of_lines end
+    → RunsJob Build arguments specs i o (record { held = held; held' = held; faults = faults; faults' = faults }) outcome
+build_job arguments specs i o held faults end outcome runs is = record { job = builds specs; is = refl; runs = record { end = end; runs = runs; is = is; report = refl } }
 
 -- ---- usage
 
+no_usage_of_text : (text : List ℕ) (o : SinkChange) (outcome : Outcome) → TextEnds text o outcome → outcome ≡ Usage → ⊥
+no_usage_of_text text o outcome (written is h) e = absurd (let x : Done 0 ≡ Usage = sym is ∙ e in cc)
+no_usage_of_text text o outcome (cut is h) e = absurd (let x : WriteFault ≡ Usage = sym is ∙ e in cc)
+no_usage_of_text text o outcome (no_memory is h) e = absurd (let x : OutOfMemory ≡ Usage = sym is ∙ e in cc)
+
+no_usage_in_job : (job : Job) (i : SourceChange) (o r : SinkChange) (outcome : Outcome) → JobRuns job i o r outcome → outcome ≡ Usage → ⊥
+no_usage_in_job (writes text) i o r outcome h e = no_usage_of_text text o outcome h.ends e
+no_usage_in_job (each_block c) i o r outcome h e = no_usage_of_blocks h.end (sym h.is ∙ e)
+no_usage_in_job (builds catalogue) i o r outcome h e = no_usage_of_lines h.end (sym h.is ∙ e)
+no_usage_in_job (refuses refusal) i o r outcome h e = h
+
 pub usage_only : (words : List (List ℕ)) (files : Option (List File)) (c : LibraryCounts) (i : SourceChange) (o r : SinkChange) (outcome : Outcome) → Runs words files c i o r outcome → outcome ≡ Usage → HasNoShape words
 usage_only words files c i o r outcome (at_words none is unasked idle) e = none
-usage_only words files c i o r outcome (at_files stop h is idle) e = absurd (no_usage_at_files stop (sym is ∙ e))
-usage_only words files c i o r outcome (before_input stop h is idle) e = absurd (no_usage_before_input stop (sym is ∙ e))
-usage_only words files c i o r outcome (in_job job end d h is) e = absurd (no_usage_in_job end (sym is ∙ e))
+usage_only words files c i o r outcome (at_files stop h is idle) e = absurd (subst IsEarly (sym is ∙ e) (stop_is_early stop))
+usage_only words files c i o r outcome (before_input stop h is idle) e = absurd (subst IsEarly (sym is ∙ e) (job_stop_is_early stop))
+usage_only words files c i o r outcome (in_job job d h) e = absurd (no_usage_in_job job i o r outcome h e)
 
 pub usage_there : (words : List (List ℕ)) (files : Option (List File)) (c : LibraryCounts) (i : SourceChange) (o r : SinkChange) (outcome : Outcome) → Runs words files c i o r outcome → HasNoShape words → outcome ≡ Usage
 usage_there words files c i o r outcome (at_words none is unasked idle) e = is
 usage_there words files c i o r outcome (at_files stop h is idle) e = absurd (e h.what h.shape)
 usage_there words files c i o r outcome (before_input stop h is idle) e = absurd (e h.what h.shape)
-usage_there words files c i o r outcome (in_job job end d h is) e = absurd (e d.what d.shape)
+usage_there words files c i o r outcome (in_job job d h) e = absurd (e d.what d.shape)
 
 -- ---- the told headline: files
 
@@ -147,24 +133,31 @@ files_headline words files c input i o r outcome stop h is idle (inr b) =
 
 -- ---- the told headline: jobs
 
-text_headline : (words : List (List ℕ)) (files : List File) (c : LibraryCounts) (input : List ℕ) (i : SourceChange) (o r : SinkChange) (outcome : Outcome) (text : List ℕ) (end : StreamEnd) → Does words (Some files) (writes text)
-    → IsUntouched i → GainsNothing r → outcome ≡ outcome_of_end end → TextEnds text o end → Headline words files c input i o r outcome
-text_headline words files c input i o r outcome text end d idle none is (written done h) =
-    answered text [] (by_job (writes text) end d (record { done = done; written_is = refl; reported_is = refl }) is) h (none ∙ sym (with_end-nil r.held))
-text_headline words files c input i o r outcome text end d idle none is (cut e h) = stopped_in_job (writes text) end d (record { ends = inl (e, h); untouched = idle; report = none }) is
-text_headline words files c input i o r outcome text end d idle none is (no_memory e h) = stopped_in_job (writes text) end d (record { ends = inr (e, h); untouched = idle; report = none }) is
+text_headline : (words : List (List ℕ)) (files : List File) (c : LibraryCounts) (input : List ℕ) (i : SourceChange) (o r : SinkChange) (outcome : Outcome) (text : List ℕ) → Does words (Some files) (writes text)
+    → IsUntouched i → GainsNothing r → TextEnds text o outcome → Headline words files c input i o r outcome
+text_headline words files c input i o r outcome text d idle none (written done h) =
+    answered text [] (by_job (writes text) d (record { done = done; written_is = refl; reported_is = refl })) h (none ∙ sym (with_end-nil r.held))
+text_headline words files c input i o r outcome text d idle none (cut e h) = stopped_in_job (writes text) d (record { ends = inl (e, h); untouched = idle; report = none })
+text_headline words files c input i o r outcome text d idle none (no_memory e h) = stopped_in_job (writes text) d (record { ends = inr (e, h); untouched = idle; report = none })
 
 blocks_headline : (words : List (List ℕ)) (files : List File) (c : LibraryCounts) (input : List ℕ) (i : SourceChange) (o r : SinkChange) (outcome : Outcome) (k : BlockCommand) (end : StreamEnd) → Does words (Some files) (each_block k)
     → outcome ≡ outcome_of_end end → ToldRun k longest_input input i.left' o r end → Headline words files c input i o r outcome
 blocks_headline words files c input i o r outcome k end d is (inl a) =
-    answered _ _ (by_job (each_block k) end d (record { blocks = a.blocks; answers = a.answers; written_is = refl; reported_is = refl }) is) a.out a.report
-blocks_headline words files c input i o r outcome k end d is (inr stops) = stopped_in_job (each_block k) end d stops is
+    answered _ _ (by_job (each_block k) d (record { blocks = a.blocks; end = end; answers = a.answers; is = is; written_is = refl; reported_is = refl })) a.out a.report
+blocks_headline words files c input i o r outcome k end d is (inr stops) = stopped_in_job (each_block k) d (record { end = end; stops = stops; is = is })
 
-job_headline : (words : List (List ℕ)) (files : List File) (c : LibraryCounts) (input : List ℕ) (i : SourceChange) (o r : SinkChange) (outcome : Outcome) (job : Job) (end : StreamEnd) → AreOctets input → i.left ≡ Some input
-    → Does words (Some files) job → JobRuns job i o r end → outcome ≡ outcome_of_end end → Headline words files c input i o r outcome
-job_headline words files c input i o r outcome (writes text) end octets left d h is = text_headline words files c input i o r outcome text end d h.untouched h.report is h.ends
-job_headline words files c input i o r outcome (each_block k) end octets left d h is = blocks_headline words files c input i o r outcome k end d is (h.told input octets left)
-job_headline words files c input i o r outcome (refuses refusal) end octets left d h is = absurd h
+lines_headline : (words : List (List ℕ)) (files : List File) (c : LibraryCounts) (input : List ℕ) (i : SourceChange) (o r : SinkChange) (outcome : Outcome) (catalogue : List SpecTree) (end : LinesEnd TextFault) → Does words (Some files) (builds catalogue)
+    → outcome ≡ outcome_of_lines end → GainsNothing r → OfLines.ToldRun (build_command catalogue) longest_line longest_input input i.left' o end → Headline words files c input i o r outcome
+lines_headline words files c input i o r outcome catalogue end d is none (inl a) =
+    answered _ [] (by_job (builds catalogue) d (record { lines = a.lines; answers = a.answers; end = end; ends = a.ends; is = is; written_is = refl; reported_is = refl })) a.out (none ∙ sym (with_end-nil r.held))
+lines_headline words files c input i o r outcome catalogue end d is none (inr stops) = stopped_in_job (builds catalogue) d (record { end = end; stops = stops; is = is; report = none })
+
+job_headline : (words : List (List ℕ)) (files : List File) (c : LibraryCounts) (input : List ℕ) (i : SourceChange) (o r : SinkChange) (outcome : Outcome) (job : Job) → AreOctets input → i.left ≡ Some input
+    → Does words (Some files) job → JobRuns job i o r outcome → Headline words files c input i o r outcome
+job_headline words files c input i o r outcome (writes text) octets left d h = text_headline words files c input i o r outcome text d h.untouched h.report h.ends
+job_headline words files c input i o r outcome (each_block k) octets left d h = blocks_headline words files c input i o r outcome k h.end d h.is (h.runs.told input octets left)
+job_headline words files c input i o r outcome (builds catalogue) octets left d h = lines_headline words files c input i o r outcome catalogue h.end d h.is h.report (h.runs.told input left)
+job_headline words files c input i o r outcome (refuses refusal) octets left d h = absurd h
 
 before_headline : (words : List (List ℕ)) (files : List File) (c : LibraryCounts) (input : List ℕ) (i : SourceChange) (o r : SinkChange) (outcome : Outcome) (stop : JobStop) → StopsBeforeInput words (Some files) stop → outcome ≡ outcome_of_job_stop stop → IsIdle i o r
     → Headline words files c input i o r outcome
@@ -178,7 +171,7 @@ told_headline words files c input i o r outcome octets left (at_words none is un
 told_headline words files c input i o r outcome octets left (at_files stop h is idle) =
     files_headline words files c input i o r outcome stop h is idle (at_file (takes_distinct h.what.verb) files c h.ends.before h.ends.name (length h.ends.earlier) stop h.ends.ends)
 told_headline words files c input i o r outcome octets left (before_input stop h is idle) = before_headline words files c input i o r outcome stop h is idle
-told_headline words files c input i o r outcome octets left (in_job job end d h is) = job_headline words files c input i o r outcome job end octets left d h is
+told_headline words files c input i o r outcome octets left (in_job job d h) = job_headline words files c input i o r outcome job octets left d h
 
 pub headline : (words : List (List ℕ)) (told : Option (List File)) (files : List File) (c : LibraryCounts) (input : List ℕ) (i : SourceChange) (o r : SinkChange) (outcome : Outcome) → told ≡ Some files → AreOctets input → i.left ≡ Some input
     → Runs words told c i o r outcome → Headline words files c input i o r outcome
@@ -186,31 +179,37 @@ headline words told files c input i o r outcome is octets left runs = told_headl
 
 -- ---- completeness
 
-text_completes : (text : List ℕ) (o r : SinkChange) (end : StreamEnd) → GainsNothing r → (Rose o.faults o.faults' → ⊥) → TextEnds text o end → (end ≡ EndOf.OutOfMemory) ⊎ ((end ≡ EndOf.Done 0) × Gains o text × Gains r [])
-text_completes text o r end none quiet (written is h) = inr (is, h, none ∙ sym (with_end-nil r.held))
-text_completes text o r end none quiet (cut is h) = absurd (quiet h.rose)
-text_completes text o r end none quiet (no_memory is h) = inl is
+text_completes : (text : List ℕ) (o r : SinkChange) (outcome : Outcome) → GainsNothing r → (Rose o.faults o.faults' → ⊥) → TextEnds text o outcome → IsDoneWith outcome 0 o r text []
+text_completes text o r outcome none quiet (written is h) = inr (is, h, none ∙ sym (with_end-nil r.held))
+text_completes text o r outcome none quiet (cut is h) = absurd (quiet h.rose)
+text_completes text o r outcome none quiet (no_memory is h) = inl is
 
-by_end : (outcome : Outcome) (count : ℕ) (o r : SinkChange) (all said : List ℕ) (end : StreamEnd) → outcome ≡ outcome_of_end end → (end ≡ EndOf.OutOfMemory) ⊎ ((end ≡ EndOf.Done count) × Gains o all × Gains r said) → IsDoneWith outcome count o r all said
-by_end outcome count o r all said end is (inl memory) = inl (is ∙ ap outcome_of_end memory)
-by_end outcome count o r all said end is (inr (done, out, report)) = inr (is ∙ ap outcome_of_end done, out, report)
+blocks_complete : (k : BlockCommand) (blocks : List BlockTree) (o r : SinkChange) (end : StreamEnd) (outcome : Outcome) → outcome ≡ outcome_of_end end → (end ≡ EndOf.OutOfMemory) ⊎ IsDoneWithBlocks k blocks o r end
+    → IsDoneWith outcome (length blocks) o r (output_of k 0 blocks) (report_of k 0 blocks)
+blocks_complete k blocks o r end outcome is (inl memory) = inl (is ∙ ap outcome_of_end memory)
+blocks_complete k blocks o r end outcome is (inr d) = inr (is ∙ ap outcome_of_end d.done, d.out, d.report)
 
-with_blocks : (k : BlockCommand) (blocks : List BlockTree) (o r : SinkChange) (end : StreamEnd) (count : ℕ) (all said : List ℕ) → count ≡ length blocks → all ≡ output_of k 0 blocks → said ≡ report_of k 0 blocks
-    → (end ≡ EndOf.OutOfMemory) ⊎ IsDoneWithBlocks k blocks o r end → (end ≡ EndOf.OutOfMemory) ⊎ ((end ≡ EndOf.Done count) × Gains o all × Gains r said)
-with_blocks k blocks o r end count all said n a s (inl memory) = inl memory
-with_blocks k blocks o r end count all said n a s (inr d) = inr (d.done ∙ ap EndOf.Done (sym n), d.out ∙ ap (with_end o.held) (sym a), d.report ∙ ap (with_end r.held) (sym s))
+lines_done : (answers : List (LineAnswer TextFault)) (o r : SinkChange) (end : LinesEnd TextFault) (outcome : Outcome) → outcome ≡ outcome_of_lines end → GainsNothing r → (end ≡ LinesEndOf.OutOfMemory) ⊎ OfLinesDone.IsDoneWith answers o end
+    → IsDoneWith outcome (Lines.results_of answers) o r (Lines.output_of answers) []
+lines_done answers o r end outcome is none (inl memory) = inl (is ∙ ap outcome_of_lines memory)
+lines_done answers o r end outcome is none (inr d) = inr (is ∙ ap outcome_of_lines d.done, d.out, none ∙ sym (with_end-nil r.held))
 
-job_completes : (job : Job) (input : List ℕ) (i : SourceChange) (o r : SinkChange) (end : StreamEnd) (count : ℕ) (all said : List ℕ) → AreOctets input → i.left ≡ Some input → (Rose i.faults i.faults' → ⊥) → (Rose o.faults o.faults' → ⊥) → (Rose r.faults r.faults' → ⊥)
-    → HasWhole job input count all said → JobRuns job i o r end → (end ≡ EndOf.OutOfMemory) ⊎ ((end ≡ EndOf.Done count) × Gains o all × Gains r said)
-job_completes (writes text) input i o r end count all said octets left source out report can h =
-    let t : (end ≡ EndOf.OutOfMemory) ⊎ ((end ≡ EndOf.Done 0) × Gains o text × Gains r []) = text_completes text o r end h.report out h.ends in
-    subst (λ n. (end ≡ EndOf.OutOfMemory) ⊎ ((end ≡ EndOf.Done n) × Gains o all × Gains r said)) (sym can.none)
-    (subst (λ s. (end ≡ EndOf.OutOfMemory) ⊎ ((end ≡ EndOf.Done 0) × Gains o all × Gains r s)) (sym can.reported_is)
-    (subst (λ w. (end ≡ EndOf.OutOfMemory) ⊎ ((end ≡ EndOf.Done 0) × Gains o w × Gains r [])) (sym can.written_is) t))
-job_completes (each_block k) input i o r end count all said octets left source out report can h =
-    with_blocks k can.blocks o r end count all said can.count_is can.written_is can.reported_is
-    (stream_completes k longest_input input can.blocks i o r end can.spelled can.within can.given octets left source out report h)
-job_completes (refuses refusal) input i o r end count all said octets left source out report can h = absurd can
+-- the same count, octets and lines
+same_whole : (outcome : Outcome) (n count : ℕ) (o r : SinkChange) (text all lines said : List ℕ) → count ≡ n → all ≡ text → said ≡ lines → IsDoneWith outcome n o r text lines → IsDoneWith outcome count o r all said
+same_whole outcome n count o r text all lines said a b c (inl memory) = inl memory
+same_whole outcome n count o r text all lines said a b c (inr (done, out, report)) = inr (done ∙ ap Done (sym a), out ∙ ap (with_end o.held) (sym b), report ∙ ap (with_end r.held) (sym c))
+
+module _ (input : List ℕ) (i : SourceChange) (o r : SinkChange) (outcome : Outcome) (count : ℕ) (all said : List ℕ) (octets : AreOctets input) (left : i.left ≡ Some input) (source : Rose i.faults i.faults' → ⊥) (out : Rose o.faults o.faults' → ⊥) (report : Rose r.faults r.faults' → ⊥) where
+  job_completes : (job : Job) → IsGood job → HasWhole job input count all said → JobRuns job i o r outcome → IsDoneWith outcome count o r all said
+  job_completes (writes text) good can h = same_whole outcome 0 count o r text all [] said can.none can.written_is can.reported_is (text_completes text o r outcome h.report out h.ends)
+  job_completes (each_block k) good can h =
+      same_whole outcome (length can.blocks) count o r (output_of k 0 can.blocks) all (report_of k 0 can.blocks) said can.count_is can.written_is can.reported_is
+      (blocks_complete k can.blocks o r h.end outcome h.is (stream_completes k longest_input input can.blocks i o r h.end can.spelled can.within can.given octets left source out report h.runs))
+  job_completes (builds catalogue) good can h =
+      same_whole outcome (Lines.results_of can.answers) count o r (Lines.output_of can.answers) all [] said can.count_is can.written_is can.reported_is
+      (lines_done can.answers o r h.end outcome h.is h.report
+      (lines_complete (build_command catalogue) longest_line longest_input longest_line longest_input i o h.end refl refl h.runs (build_once catalogue good) input can.lines can.answers left can.lined can.answered source out))
+  job_completes (refuses refusal) good can h = absurd can
 
 -- a job with a whole result isn't refused
 not_refused : (words : List (List ℕ)) (files : List File) (input : List ℕ) (job : Job) (count : ℕ) (all said : List ℕ) (stop : JobStop) → Does words (Some files) job → HasWhole job input count all said → StopsBeforeInput words (Some files) stop → stop ≡ JobStopOf.OutOfMemory
@@ -229,11 +228,11 @@ run_completes words files c input i o r outcome job count all said octets left l
     inl (is ∙ ap outcome_of_stop memory)
 run_completes words files c input i o r outcome job count all said octets left library source out report d can (before_input stop h is idle) =
     inl (is ∙ ap outcome_of_job_stop (not_refused words files input job count all said stop d can h))
-run_completes words files c input i o r outcome job count all said octets left library source out report d can (in_job other end k h is) =
+run_completes words files c input i o r outcome job count all said octets left library source out report d can (in_job other k h) =
     let same : other ≡ job = does_once words files other job k d in
-    by_end outcome count o r all said end is (job_completes job input i o r end count all said octets left source out report can (subst (λ j. JobRuns j i o r end) same h))
+    job_completes input i o r outcome count all said octets left source out report job (good_job words (Some files) job d) can (subst (λ j. JobRuns j i o r outcome) same h)
 
--- ---- Done of a block command
+-- ---- Done of a command that reads its input
 
 blocks_read : (k : BlockCommand) (input : List ℕ) (i : SourceChange) (o r : SinkChange) (end : StreamEnd) (count : ℕ) → end ≡ EndOf.Done count → ToldRun k longest_input input i.left' o r end → i.left' ≡ Some []
 blocks_read k input i o r end count is (inl a) = a.read count is
@@ -242,16 +241,26 @@ blocks_read k input i o r end count is (inr (writing e s)) = absurd (let x : End
 blocks_read k input i o r end count is (inr (reporting e s)) = absurd (let x : EndOf.Done count ≡ EndOf.ReportFault = sym is ∙ e in cc)
 blocks_read k input i o r end count is (inr (for_memory e s)) = absurd (let x : EndOf.Done count ≡ EndOf.OutOfMemory = sym is ∙ e in cc)
 
-done_reads : (words : List (List ℕ)) (files : List File) (c : LibraryCounts) (input : List ℕ) (i : SourceChange) (o r : SinkChange) (outcome : Outcome) (k : BlockCommand) (count : ℕ) → AreOctets input → i.left ≡ Some input
-    → Does words (Some files) (each_block k) → outcome ≡ Done count → Runs words (Some files) c i o r outcome → i.left' ≡ Some []
-done_reads words files c input i o r outcome k count octets left d done (at_words none is unasked idle) = absurd (let x : Usage ≡ Done count = sym is ∙ done in cc)
-done_reads words files c input i o r outcome k count octets left d done (at_files stop h is idle) = absurd (let x : EndOf.OutOfMemory ≡ EndOf.Done count = sym (stop_back stop) ∙ ap end_of (sym is ∙ done) in cc)
-done_reads words files c input i o r outcome k count octets left d done (before_input stop h is idle) = absurd (let x : EndOf.OutOfMemory ≡ EndOf.Done count = sym (job_stop_back stop) ∙ ap end_of (sym is ∙ done) in cc)
-done_reads words files c input i o r outcome k count octets left d done (in_job other end h runs is) =
-    let same : other ≡ each_block k = does_once words files other (each_block k) h d in
-    let e : end ≡ EndOf.Done count = sym (end_back end) ∙ ap end_of (sym is ∙ done) in
-    let run : JobRuns (each_block k) i o r end = subst (λ j. JobRuns j i o r end) same runs in
-    blocks_read k input i o r end count e (run.told input octets left)
+lines_read : (catalogue : List SpecTree) (input : List ℕ) (i : SourceChange) (o : SinkChange) (end : LinesEnd TextFault) (count : ℕ) → end ≡ LinesEndOf.Done count → OfLines.ToldRun (build_command catalogue) longest_line longest_input input i.left' o end → i.left' ≡ Some []
+lines_read catalogue input i o end count is (inl a) = a.read count is
+lines_read catalogue input i o end count is (inr (OfLines.reading e s)) = absurd (let x : LinesEndOf.Done {F = TextFault} count ≡ LinesEndOf.ReadFault = sym is ∙ e in cc)
+lines_read catalogue input i o end count is (inr (OfLines.writing e s)) = absurd (let x : LinesEndOf.Done {F = TextFault} count ≡ LinesEndOf.WriteFault = sym is ∙ e in cc)
+lines_read catalogue input i o end count is (inr (OfLines.for_memory e s)) = absurd (let x : LinesEndOf.Done {F = TextFault} count ≡ LinesEndOf.OutOfMemory = sym is ∙ e in cc)
+
+job_reads : (job : Job) (input : List ℕ) (i : SourceChange) (o r : SinkChange) (outcome : Outcome) (count : ℕ) → AreOctets input → i.left ≡ Some input → ReadsInput job → outcome ≡ Done count → JobRuns job i o r outcome → i.left' ≡ Some []
+job_reads (writes text) input i o r outcome count octets left reads done h = absurd reads
+job_reads (each_block k) input i o r outcome count octets left reads done h = blocks_read k input i o r h.end count (done_of_blocks h.end count (sym h.is ∙ done)) (h.runs.told input octets left)
+job_reads (builds catalogue) input i o r outcome count octets left reads done h = lines_read catalogue input i o h.end count (done_of_lines h.end count (sym h.is ∙ done)) (h.runs.told input left)
+job_reads (refuses refusal) input i o r outcome count octets left reads done h = absurd reads
+
+done_reads : (words : List (List ℕ)) (files : List File) (c : LibraryCounts) (input : List ℕ) (i : SourceChange) (o r : SinkChange) (outcome : Outcome) (job : Job) (count : ℕ) → AreOctets input → i.left ≡ Some input
+    → Does words (Some files) job → ReadsInput job → outcome ≡ Done count → Runs words (Some files) c i o r outcome → i.left' ≡ Some []
+done_reads words files c input i o r outcome job count octets left d reads done (at_words none is unasked idle) = absurd (let x : Usage ≡ Done count = sym is ∙ done in cc)
+done_reads words files c input i o r outcome job count octets left d reads done (at_files stop h is idle) = absurd (subst IsEarly (sym is ∙ done) (stop_is_early stop))
+done_reads words files c input i o r outcome job count octets left d reads done (before_input stop h is idle) = absurd (subst IsEarly (sym is ∙ done) (job_stop_is_early stop))
+done_reads words files c input i o r outcome job count octets left d reads done (in_job other h runs) =
+    let same : other ≡ job = does_once words files other job h d in
+    job_reads job input i o r outcome count octets left reads done (subst (λ j. JobRuns j i o r outcome) same runs)
 
 -- ---- the report, with the lines of the outcome last
 
@@ -298,7 +307,7 @@ completes words told files c input i o held between held' faults counted faults'
     (run_completes words files c input i o (record { held = held; held' = between; faults = faults; faults' = counted }) outcome job count all said octets left quiet.library quiet.source quiet.out
     (λ rose. quiet.report (Rose-on faults counted faults' a b rose)) d can (subst (λ t. Runs words t c i o (record { held = held; held' = between; faults = faults; faults' = counted }) outcome) is runs))
 
-pub reads_all : (words : List (List ℕ)) (told : Option (List File)) (files : List File) (c : LibraryCounts) (input : List ℕ) (i : SourceChange) (o r : SinkChange) (outcome : Outcome) (k : BlockCommand) (count : ℕ) → told ≡ Some files → AreOctets input → i.left ≡ Some input
-    → Does words (Some files) (each_block k) → outcome ≡ Done count → Runs words told c i o r outcome → i.left' ≡ Some []
-reads_all words told files c input i o r outcome k count is octets left d done runs =
-    done_reads words files c input i o r outcome k count octets left d done (subst (λ t. Runs words t c i o r outcome) is runs)
+pub reads_all : (words : List (List ℕ)) (told : Option (List File)) (files : List File) (c : LibraryCounts) (input : List ℕ) (i : SourceChange) (o r : SinkChange) (outcome : Outcome) (job : Job) (count : ℕ) → told ≡ Some files → AreOctets input → i.left ≡ Some input
+    → Does words (Some files) job → ReadsInput job → outcome ≡ Done count → Runs words told c i o r outcome → i.left' ≡ Some []
+reads_all words told files c input i o r outcome job count is octets left d reads done runs =
+    done_reads words files c input i o r outcome job count octets left d reads done (subst (λ t. Runs words t c i o r outcome) is runs)

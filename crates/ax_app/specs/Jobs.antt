@@ -1,18 +1,28 @@
 -- The commands: what each does once its files are accepted. A command is one row of `IsJob`.
 use Rattle.std.specs.Prelude.{◌≡◌, ℕ, ◌≤◌, ◌^◌, Bool, true, false, List, [], ◌∷◌, ◌++◌, length}
+use Rattle.ax_build_work.specs.BuildCommand.{build_command}
+use Rattle.ax_build_work.specs.declared.fault.TextFault.{TextFault}
 use Rattle.ax_command.specs.Accepted.{accepted_line}
+use Rattle.ax_command.specs.Outcomes.{outcome_of_end, outcome_of_lines}
 use Rattle.ax_command.specs.declared.outcome.JobStop.{JobStop}
 use Rattle.ax_command.specs.declared.outcome.JobStop.TheVariants as JobStopOf
+use Rattle.ax_command.specs.declared.outcome.Outcome.{Outcome}
+use Rattle.ax_command.specs.declared.outcome.Outcome.TheVariants.{Done, WriteFault, OutOfMemory}
 use Rattle.ax_command.specs.declared.outcome.Refusal.{Refusal}
 use Rattle.ax_command.specs.declared.outcome.Refusal.TheVariants.{FilterRefused, OtherCategory}
 use Rattle.ax_command.specs.declared.words.Verb.{Verb}
-use Rattle.ax_command.specs.declared.words.Verb.TheVariants.{Check, Canon, Show, Text, Filter, Migrate}
+use Rattle.ax_command.specs.declared.words.Verb.TheVariants.{Check, Canon, Show, Text, Build, Filter, Migrate}
 use Rattle.ax_filter.specs.Texts.{IsFilterText, IsRefused}
 use Rattle.ax_filter.specs.Tree.{ExprTree}
 use Rattle.ax_filter.specs.declared.text.FilterFault.{FilterFault}
 use Rattle.ax_filter_work.specs.FilterCommand.{filter_command}
 use Rattle.ax_grammar.specs.InRange.{AreNumbersInRange}
 use Rattle.ax_grammar.specs.Spelling.{printed}
+use Rattle.ax_line_stream.specs.Commands as Lines
+use Rattle.ax_line_stream.specs.Commands.{LineAnswer}
+use Rattle.ax_line_stream.specs.Ending.{longest_line}
+use Rattle.ax_line_stream.specs.Runs.{LinesAnswer, LinesRun}
+use Rattle.ax_line_stream.specs.declared.end.LinesEnd.{LinesEnd}
 use Rattle.ax_migrate_work.specs.Commands.{migrate_command}
 use Rattle.ax_model.specs.Blocks.{BlockTree}
 use Rattle.ax_model.specs.Specification.{SpecTree}
@@ -23,15 +33,15 @@ use Rattle.ax_stream.specs.Ending.{longest_input}
 use Rattle.ax_stream.specs.Made.{tree_command}
 use Rattle.ax_stream.specs.Streams.{StreamAnswers, StreamRuns}
 use Rattle.ax_stream.specs.declared.end.StreamEnd.{StreamEnd}
-use Rattle.ax_stream.specs.declared.end.StreamEnd.TheVariants.{Done, WriteFault, OutOfMemory}
 use Rattle.ax_text.specs.BlockText.{BlockLine, OpaqueLine}
 use Rattle.ax_text.specs.ShowText.{ShowText, OpaqueShown}
 
--- it writes a text and reads no input, or it answers each block of the input, or it refuses its arguments or what its files
--- have in common
+-- it writes a text and reads no input, or it answers each block of the input, or it builds a block of each line of the input,
+-- under this catalogue; or it refuses its arguments or what its files have in common
 pub data Job : Type 0 where
   writes : List ℕ → Job
   each_block : BlockCommand → Job
+  builds : List SpecTree → Job
   refuses : Refusal → Job
 
 -- what `check` writes: the line of the accepted file, and the specification printed
@@ -78,6 +88,7 @@ takes_distinct Check = true
 takes_distinct Canon = true
 takes_distinct Show = true
 takes_distinct Text = true
+takes_distinct Build = true
 takes_distinct Filter = true
 takes_distinct Migrate = false
 
@@ -87,6 +98,7 @@ IsJob Check arguments specs job = IsCheckJob specs job
 IsJob Canon arguments specs job = job ≡ each_block (canon_command specs)
 IsJob Show arguments specs job = job ≡ each_block (show_command specs)
 IsJob Text arguments specs job = job ≡ each_block (text_command specs)
+IsJob Build arguments specs job = job ≡ builds specs
 IsJob Filter arguments specs job = FiltersBy arguments specs job
 IsJob Migrate arguments specs job = MigratesBetween specs job
 
@@ -95,40 +107,70 @@ abbrev pub IsStopped : Verb → List (List ℕ) → List SpecTree → JobStop �
 IsStopped verb arguments specs (JobStopOf.Refused refusal) = IsJob verb arguments specs (refuses refusal)
 IsStopped verb arguments specs JobStopOf.OutOfMemory = Unit {0}
 
--- ---- its answer
+abbrev pub ReadsInput : Job → Type 0
+ReadsInput (writes text) = ⊥
+ReadsInput (each_block c) = Unit {0}
+ReadsInput (builds catalogue) = Unit {0}
+ReadsInput (refuses refusal) = ⊥
 
-pub record TextAnswers (text : List ℕ) (end : StreamEnd) (written reported : List ℕ) : Type 0 where
-  pub done : end ≡ Done 0
+-- ---- its answer: how the run ends, what it writes and what it reports
+
+pub record TextAnswers (text : List ℕ) (outcome : Outcome) (written reported : List ℕ) : Type 0 where
+  pub done : outcome ≡ Done 0
   pub written_is : written ≡ text
   pub reported_is : reported ≡ []
 
-pub record BlocksAnswer (c : BlockCommand) (input : List ℕ) (end : StreamEnd) (written reported : List ℕ) : Type 0 where
+pub record BlocksAnswer (c : BlockCommand) (input : List ℕ) (outcome : Outcome) (written reported : List ℕ) : Type 0 where
   pub blocks : List BlockTree
+  pub end : StreamEnd
   pub answers : StreamAnswers c longest_input input blocks end
+  pub is : outcome ≡ outcome_of_end end
   pub written_is : written ≡ output_of c 0 blocks
   pub reported_is : reported ≡ report_of c 0 blocks
 
-abbrev pub JobAnswers : Job → List ℕ → StreamEnd → List ℕ → List ℕ → Type 0
-JobAnswers (writes text) input end written reported = TextAnswers text end written reported
-JobAnswers (each_block c) input end written reported = BlocksAnswer c input end written reported
-JobAnswers (refuses refusal) input end written reported = ⊥
+pub record BuildAnswers (catalogue : List SpecTree) (input : List ℕ) (outcome : Outcome) (written reported : List ℕ) : Type 0 where
+  pub lines : List (List ℕ)
+  pub answers : List (LineAnswer TextFault)
+  pub end : LinesEnd TextFault
+  pub ends : LinesAnswer (build_command catalogue) longest_line longest_input input lines answers end
+  pub is : outcome ≡ outcome_of_lines end
+  pub written_is : written ≡ Lines.output_of answers
+  pub reported_is : reported ≡ []
+
+abbrev pub JobAnswers : Job → List ℕ → Outcome → List ℕ → List ℕ → Type 0
+JobAnswers (writes text) input outcome written reported = TextAnswers text outcome written reported
+JobAnswers (each_block c) input outcome written reported = BlocksAnswer c input outcome written reported
+JobAnswers (builds catalogue) input outcome written reported = BuildAnswers catalogue input outcome written reported
+JobAnswers (refuses refusal) input outcome written reported = ⊥
 
 -- ---- its run, whatever is told
 
-pub data TextEnds (text : List ℕ) (o : SinkChange) (end : StreamEnd) : Type 0 where
-  written : end ≡ Done 0 → Gains o text → TextEnds text o end
-  cut : end ≡ WriteFault → GainsPart o text → TextEnds text o end
-  no_memory : end ≡ OutOfMemory → GainsNothing o → TextEnds text o end
+pub data TextEnds (text : List ℕ) (o : SinkChange) (outcome : Outcome) : Type 0 where
+  written : outcome ≡ Done 0 → Gains o text → TextEnds text o outcome
+  cut : outcome ≡ WriteFault → GainsPart o text → TextEnds text o outcome
+  no_memory : outcome ≡ OutOfMemory → GainsNothing o → TextEnds text o outcome
 
-pub record TextRuns (text : List ℕ) (i : SourceChange) (o r : SinkChange) (end : StreamEnd) : Type 0 where
-  pub ends : TextEnds text o end
+pub record TextRuns (text : List ℕ) (i : SourceChange) (o r : SinkChange) (outcome : Outcome) : Type 0 where
+  pub ends : TextEnds text o outcome
   pub untouched : IsUntouched i
   pub report : GainsNothing r
 
-abbrev pub JobRuns : Job → SourceChange → SinkChange → SinkChange → StreamEnd → Type 0
-JobRuns (writes text) i o r end = TextRuns text i o r end
-JobRuns (each_block c) i o r end = StreamRuns c longest_input i o r end
-JobRuns (refuses refusal) i o r end = ⊥
+pub record BlocksRun (c : BlockCommand) (i : SourceChange) (o r : SinkChange) (outcome : Outcome) : Type 0 where
+  pub end : StreamEnd
+  pub runs : StreamRuns c longest_input i o r end
+  pub is : outcome ≡ outcome_of_end end
+
+pub record BuildRuns (catalogue : List SpecTree) (i : SourceChange) (o r : SinkChange) (outcome : Outcome) : Type 0 where
+  pub end : LinesEnd TextFault
+  pub runs : LinesRun (build_command catalogue) longest_line longest_input i o end
+  pub is : outcome ≡ outcome_of_lines end
+  pub report : GainsNothing r
+
+abbrev pub JobRuns : Job → SourceChange → SinkChange → SinkChange → Outcome → Type 0
+JobRuns (writes text) i o r outcome = TextRuns text i o r outcome
+JobRuns (each_block c) i o r outcome = BlocksRun c i o r outcome
+JobRuns (builds catalogue) i o r outcome = BuildRuns catalogue i o r outcome
+JobRuns (refuses refusal) i o r outcome = ⊥
 
 -- ---- what a command's code may rely on
 
@@ -147,11 +189,12 @@ IsReady Check arguments specs = IsReadyToCheck specs
 IsReady Canon arguments specs = Unit {0}
 IsReady Show arguments specs = Unit {0}
 IsReady Text arguments specs = Unit {0}
+IsReady Build arguments specs = Unit {0}
 IsReady Filter arguments specs = IsReadyToFilter arguments
 IsReady Migrate arguments specs = Unit {0}
 
 -- the command ran its job
-pub record RunsJob (verb : Verb) (arguments : List (List ℕ)) (specs : List SpecTree) (i : SourceChange) (o r : SinkChange) (end : StreamEnd) : Type 0 where
+pub record RunsJob (verb : Verb) (arguments : List (List ℕ)) (specs : List SpecTree) (i : SourceChange) (o r : SinkChange) (outcome : Outcome) : Type 0 where
   pub job : Job
   pub is : IsJob verb arguments specs job
-  pub runs : JobRuns job i o r end
+  pub runs : JobRuns job i o r outcome

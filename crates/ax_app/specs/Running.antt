@@ -1,13 +1,12 @@
 -- What a run does, stage by stage, whatever the library, the source and the sinks tell.
-use Rattle.std.specs.Prelude.{◌≡◌, ℕ, ◌+◌, ◌<◌, ◌≤◌, ◌⊎◌, List, Option}
-use Rattle.ax_command.specs.Outcomes.{outcome_of_stop, outcome_of_end, outcome_of_job_stop}
+use Rattle.std.specs.Prelude.{◌≡◌, ℕ, ◌+◌, ◌<◌, ◌≤◌, ◌⊎◌, List, Option, Some, None}
+use Rattle.ax_command.specs.Outcomes.{outcome_of_stop, outcome_of_job_stop}
 use Rattle.ax_command.specs.Words.{Asked, HasShape, HasNoShape}
 use Rattle.ax_command.specs.declared.outcome.JobStop.{JobStop}
 use Rattle.ax_command.specs.declared.outcome.Outcome.{Outcome}
-use Rattle.ax_command.specs.declared.outcome.Outcome.TheVariants.{Usage, OtherCategory, FilterRefused, MigratedTooLong, ReadFault, WriteFault, ReportFault, InputTooLong}
+use Rattle.ax_command.specs.declared.outcome.Outcome.TheVariants.{Done, Usage, SpecRefused, CategoryTwice, OtherCategory, FilterRefused, InputRefused, TextRefused, MigratedTooLong, LoadFault, ReadFault, WriteFault, ReportFault, InputTooLong, OutOfMemory}
 use Rattle.ax_command.specs.declared.words.Verb.{Verb}
-use Rattle.ax_command.specs.declared.words.Verb.TheVariants.{Filter, Migrate}
-use Rattle.ax_filter.specs.declared.text.FilterFault.{FilterFault}
+use Rattle.ax_command.specs.declared.words.Verb.TheVariants.{Build, Filter, Migrate}
 use Rattle.ax_load.specs.Loading.{FilesGive, FilesEnd}
 use Rattle.ax_load.specs.declared.fault.LoadStop.{LoadStop}
 use Rattle.ax_model.specs.Specification.{SpecTree}
@@ -16,7 +15,6 @@ use Rattle.ax_outside.specs.Files.{File}
 use Rattle.ax_outside.specs.Told.{Rose}
 use Rattle.ax_stream.specs.Ending.{longest_input}
 use Rattle.ax_stream.specs.Streams.{IsIdle}
-use Rattle.ax_stream.specs.declared.end.StreamEnd.{StreamEnd}
 use Rattle.ax_app.specs.Jobs.{Job, IsJob, IsStopped, JobRuns, takes_distinct}
 
 -- the words ask for this, its files give these specifications, and over them it is this job
@@ -46,7 +44,7 @@ pub data Runs (words : List (List ℕ)) (files : Option (List File)) (c : Librar
   at_words : HasNoShape words → outcome ≡ Usage → IsUnasked c → IsIdle i o r → Runs words files c i o r outcome
   at_files : (stop : LoadStop) → StopsAtFiles words files c stop → outcome ≡ outcome_of_stop stop → IsIdle i o r → Runs words files c i o r outcome
   before_input : (stop : JobStop) → StopsBeforeInput words files stop → outcome ≡ outcome_of_job_stop stop → IsIdle i o r → Runs words files c i o r outcome
-  in_job : (job : Job) (end : StreamEnd) → Does words files job → JobRuns job i o r end → outcome ≡ outcome_of_end end → Runs words files c i o r outcome
+  in_job : (job : Job) → Does words files job → JobRuns job i o r outcome → Runs words files c i o r outcome
 
 -- ---- the report, to which the lines of the outcome come last
 
@@ -84,10 +82,25 @@ pub record Asks (words : List (List ℕ)) (verb : Verb) : Type 0 where
   pub shape : HasShape words what
   pub is : what.verb ≡ verb
 
--- only `migrate` reports lines of blocks, refuses a block for its length and compares two editions; only `filter` reads an
--- expression
-pub record IsOfItsCommand (words : List (List ℕ)) (outcome : Outcome) : Type 0 where
-  pub lines : outcome ≡ ReportFault → Asks words Migrate
-  pub length : (block octets : ℕ) → outcome ≡ MigratedTooLong block octets → Asks words Migrate
-  pub editions : (old new : ℕ) → outcome ≡ OtherCategory old new → Asks words Migrate
-  pub expression : (fault : FilterFault) → outcome ≡ FilterRefused fault → Asks words Filter
+-- the one command that gives the outcome, where others don't: only `migrate` reports lines of blocks, refuses a block for its
+-- length and compares two editions; only `filter` reads an expression, and only `build` reads lines
+abbrev pub only_command : Outcome → Option Verb
+only_command ReportFault = Some Migrate
+only_command (MigratedTooLong block octets) = Some Migrate
+only_command (OtherCategory old new) = Some Migrate
+only_command (FilterRefused fault) = Some Filter
+only_command (TextRefused line fault) = Some Build
+only_command (Done blocks) = None
+only_command Usage = None
+only_command (SpecRefused file fault) = None
+only_command (CategoryTwice file category) = None
+only_command (InputRefused fault) = None
+only_command InputTooLong = None
+only_command (LoadFault file) = None
+only_command ReadFault = None
+only_command WriteFault = None
+only_command OutOfMemory = None
+
+-- the words ask for the command that alone gives the outcome
+abbrev pub IsOfItsCommand : List (List ℕ) → Outcome → Type 0
+IsOfItsCommand words outcome = (verb : Verb) → only_command outcome ≡ Some verb → Asks words verb

@@ -6,10 +6,9 @@ ghost use Rattle.ax_command.specs.Lines.{lines_of};
 ghost use Rattle.ax_command.specs.Words.{HasNoShape};
 ghost use Rattle.ax_outside.specs.Changes.{library_counts, source_change, sink_change};
 ghost use Rattle.ax_outside.specs.Files.{File};
-ghost use Rattle.ax_stream.specs.Commands.{BlockCommand};
 ghost use Rattle.ax_app.specs.Completing.{NoFaultCounted, HasWhole, IsDoneWith};
 ghost use Rattle.ax_app.specs.Headline.{Headline};
-ghost use Rattle.ax_app.specs.Jobs.{Job, each_block};
+ghost use Rattle.ax_app.specs.Jobs.{Job, ReadsInput};
 ghost use Rattle.ax_app.specs.Running.{Runs, Does, Causes, Ended, NoCountFell, IsOfItsCommand};
 
 use crate::jobs::do_job;
@@ -45,7 +44,7 @@ fn obey<L: Library, S: Source, K: Sink, R: Sink>(
             out,
             report,
         ) {
-            Ok(end) => Outcome::from(end),
+            Ok(outcome) => outcome,
             Err(stop) => Outcome::from(stop),
         },
         Err(stop) => Outcome::from(stop),
@@ -71,8 +70,8 @@ pub fn run<L: Library, S: Source, K: Sink, R: Sink>(
     ensures of_its_command { IsOfItsCommand (map string_bytes words.now.items) result }
     ensures keeps { L.files library.new ≡ L.files library.old }
     ensures later { NoCountFell (library_counts L.Library library.old library.new) (source_change S.Source source.old source.new) (sink_change K.Sink out.old out.new) (sink_change R.Sink report.old report.new) }
-    ensures reads_all { (files : List File) (input : List ℕ) (c : BlockCommand) (blocks : ℕ) → AreOctets input → L.files library.old ≡ Some files → S.left source.old ≡ Some input
-        → Does (map string_bytes words.now.items) (Some files) (each_block c) → result ≡ Outcome.Done blocks → S.left source.new ≡ Some [] }
+    ensures reads_all { (files : List File) (input : List ℕ) (job : Job) (blocks : ℕ) → AreOctets input → L.files library.old ≡ Some files → S.left source.old ≡ Some input
+        → Does (map string_bytes words.now.items) (Some files) job → ReadsInput job → result ≡ Outcome.Done blocks → S.left source.new ≡ Some [] }
     ensures completes { (files : List File) (input : List ℕ) (job : Job) (count : ℕ) (written reported : List ℕ)
         → AreOctets input → L.files library.old ≡ Some files → S.left source.old ≡ Some input
         → NoFaultCounted (library_counts L.Library library.old library.new) (source_change S.Source source.old source.new) (sink_change K.Sink out.old out.new) (sink_change R.Sink report.old report.new)

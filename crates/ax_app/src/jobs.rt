@@ -1,6 +1,6 @@
 //! The commands, over the specifications of their files.
 ghost use Rattle.std.specs.Prelude.{◌≡◌, ◌≤◌, List, ℕ, [], ◌∷◌, IsTrue, IfOk, IfErr, OnErr, map};
-ghost use Rattle.ax_command.specs.declared.words.Verb.TheVariants.{Check, Filter, Migrate};
+ghost use Rattle.ax_command.specs.declared.words.Verb.TheVariants.{Check, Canon, Filter, Migrate};
 ghost use Rattle.ax_grammar.specs.InRange.{AreNumbersInRange};
 ghost use Rattle.ax_model.specs.Plain.{spec_tree, catalogue_tree};
 ghost use Rattle.ax_model.specs.Specification.{SpecTree};
@@ -8,16 +8,15 @@ ghost use Rattle.ax_outside.specs.Changes.{source_change, sink_change};
 ghost use Rattle.std.specs.String.{string_bytes};
 ghost use Rattle.ax_command.specs.declared.outcome.JobStop.{JobStop};
 ghost use Rattle.ax_command.specs.declared.outcome.JobStop.TheVariants.{OutOfMemory};
-ghost use Rattle.ax_stream.specs.BlockCommands.{canon_command};
-ghost use Rattle.ax_stream.specs.Ending.{longest_input};
-ghost use Rattle.ax_stream.specs.Streams.{IsIdle, StreamRuns};
+ghost use Rattle.ax_stream.specs.Streams.{IsIdle};
 ghost use Rattle.ax_app.specs.Jobs.{IsReady, IsReadyToFilter, IsStopped, RunsJob, TextEnds, check_text, takes_distinct};
 ghost use Rattle.ax_app.specs.Loaded.{specs_of, IsLoadedFor};
 
 use crate::loading::Loaded;
 use crate::makers::{ShowMaker, TextMaker};
+use ax_build_work::build_lines;
 use ax_check::{Accepted, Catalogue};
-use ax_command::{JobStop, Refusal, Verb, line_of};
+use ax_command::{JobStop, Outcome, Refusal, Verb, line_of};
 use ax_edition::{RelateError, relate};
 use ax_filter::{FilterStop, read_expression};
 use ax_filter_work::FilterMaker;
@@ -25,7 +24,7 @@ use ax_grammar::print_spec;
 use ax_migrate_work::MigrateWork;
 use ax_model::Spec;
 use ax_outside::{Sink, Source, write_text};
-use ax_stream::{StreamEnd, TreeWork, run_blocks};
+use ax_stream::{TreeWork, run_blocks};
 use ax_tables::Codecs;
 use ax_view_work::CanonViews;
 use std::alloc::{AllocError, Global};
@@ -43,7 +42,7 @@ fn check_text(alloc: Global, spec: &Spec) -> Result<Vec<u8>, AllocError>
 
 /// `check`: writes the line and the text of the accepted file as one piece. Nothing was written where memory was wanted.
 #[tactic(auto, using(crate::proofs::Checks::checks))]
-fn check<K: Sink>(alloc: Global, catalogue: &Catalogue, out: &mut K) -> StreamEnd
+fn check<K: Sink>(alloc: Global, catalogue: &Catalogue, out: &mut K) -> Outcome
     requires { IsReady Check [] (catalogue_tree catalogue.now) }
     ensures ends { (spec : SpecTree) → catalogue_tree catalogue.now ≡ spec ∷ [] → TextEnds (check_text spec) (sink_change K.Sink out.old out.new) result }
     ensures never_falls { K.faults out.old ≤ K.faults out.new }
@@ -52,11 +51,11 @@ fn check<K: Sink>(alloc: Global, catalogue: &Catalogue, out: &mut K) -> StreamEn
         unreachable!()
     };
     let Ok(text) = check_text(alloc, accepted.spec()) else {
-        return StreamEnd::OutOfMemory;
+        return Outcome::OutOfMemory;
     };
     match write_text(out, &text) {
-        Ok(()) => StreamEnd::Done { blocks: 0 },
-        Err(_) => StreamEnd::WriteFault,
+        Ok(()) => Outcome::Done { blocks: 0 },
+        Err(_) => Outcome::WriteFault,
     }
 }
 
@@ -67,8 +66,8 @@ fn canon<S: Source, K: Sink, R: Sink>(
     source: &mut S,
     out: &mut K,
     report: &mut R,
-) -> Result<StreamEnd, JobStop>
-    ensures runs { IfOk result (StreamRuns (canon_command (catalogue_tree catalogue.now)) longest_input (source_change S.Source source.old source.new) (sink_change K.Sink out.old out.new) (sink_change R.Sink report.old report.new)) }
+) -> Result<Outcome, JobStop>
+    ensures runs { (arguments : List (List ℕ)) → IfOk result (RunsJob Canon arguments (catalogue_tree catalogue.now) (source_change S.Source source.old source.new) (sink_change K.Sink out.old out.new) (sink_change R.Sink report.old report.new)) }
     ensures memory { IfErr result (λ stop. stop ≡ OutOfMemory) }
     ensures idle { OnErr result (IsIdle (source_change S.Source source.old source.new) (sink_change K.Sink out.old out.new) (sink_change R.Sink report.old report.new)) }
     ensures source_later { S.faults source.old ≤ S.faults source.new }
@@ -81,7 +80,7 @@ fn canon<S: Source, K: Sink, R: Sink>(
     let Ok(mut work) = CanonViews::new(alloc, catalogue, &codecs) else {
         return Err(JobStop::OutOfMemory);
     };
-    Ok(run_blocks(alloc, &mut work, source, out, report))
+    Ok(Outcome::from(run_blocks(alloc, &mut work, source, out, report)))
 }
 
 /// `filter`: the records of each block that the expression holds of, or the refusal of the expression.
@@ -93,7 +92,7 @@ fn filter<S: Source, K: Sink, R: Sink>(
     source: &mut S,
     out: &mut K,
     report: &mut R,
-) -> Result<StreamEnd, JobStop>
+) -> Result<Outcome, JobStop>
     requires { IsReadyToFilter (map string_bytes arguments.now) }
     ensures runs { IfOk result (RunsJob Filter (map string_bytes arguments.now) (catalogue_tree catalogue.now) (source_change S.Source source.old source.new) (sink_change K.Sink out.old out.new) (sink_change R.Sink report.old report.new)) }
     ensures stopped { IfErr result (IsStopped Filter (map string_bytes arguments.now) (catalogue_tree catalogue.now)) }
@@ -108,7 +107,7 @@ fn filter<S: Source, K: Sink, R: Sink>(
     match read_expression(alloc, expression.as_bytes(), catalogue) {
         Ok(filter) => {
             let mut work = TreeWork::new(alloc, catalogue, FilterMaker { filter: &filter });
-            Ok(run_blocks(alloc, &mut work, source, out, report))
+            Ok(Outcome::from(run_blocks(alloc, &mut work, source, out, report)))
         }
         Err(FilterStop::Refused(fault)) => Err(JobStop::Refused(Refusal::FilterRefused { fault })),
         Err(FilterStop::OutOfMemory) => Err(JobStop::OutOfMemory),
@@ -124,7 +123,7 @@ fn migrate<S: Source, K: Sink, R: Sink>(
     source: &mut S,
     out: &mut K,
     report: &mut R,
-) -> Result<StreamEnd, JobStop>
+) -> Result<Outcome, JobStop>
     ensures runs { (arguments : List (List ℕ)) → IfOk result (RunsJob Migrate arguments (spec_tree old.now ∷ spec_tree new.now ∷ []) (source_change S.Source source.old source.new) (sink_change K.Sink out.old out.new) (sink_change R.Sink report.old report.new)) }
     ensures stopped { (arguments : List (List ℕ)) → IfErr result (IsStopped Migrate arguments (spec_tree old.now ∷ spec_tree new.now ∷ [])) }
     ensures idle { OnErr result (IsIdle (source_change S.Source source.old source.new) (sink_change K.Sink out.old out.new) (sink_change R.Sink report.old report.new)) }
@@ -135,7 +134,7 @@ fn migrate<S: Source, K: Sink, R: Sink>(
     match relate(alloc, old, new) {
         Ok(relation) => {
             let mut work = MigrateWork::new(alloc, &relation, old.spec(), new.spec());
-            Ok(run_blocks(alloc, &mut work, source, out, report))
+            Ok(Outcome::from(run_blocks(alloc, &mut work, source, out, report)))
         }
         Err(RelateError::OtherCategory { old, new }) => {
             Err(JobStop::Refused(Refusal::OtherCategory { old, new }))
@@ -153,7 +152,7 @@ fn over_catalogue<S: Source, K: Sink, R: Sink>(
     source: &mut S,
     out: &mut K,
     report: &mut R,
-) -> Result<StreamEnd, JobStop>
+) -> Result<Outcome, JobStop>
     requires ready { IsReady verb (map string_bytes arguments.now) (catalogue_tree catalogue.now) }
     requires distinct { IsTrue (takes_distinct verb) }
     ensures runs { IfOk result (RunsJob verb (map string_bytes arguments.now) (catalogue_tree catalogue.now) (source_change S.Source source.old source.new) (sink_change K.Sink out.old out.new) (sink_change R.Sink report.old report.new)) }
@@ -168,12 +167,13 @@ fn over_catalogue<S: Source, K: Sink, R: Sink>(
         Verb::Canon => canon(alloc, catalogue, source, out, report),
         Verb::Show => {
             let mut work = TreeWork::new(alloc, catalogue, ShowMaker);
-            Ok(run_blocks(alloc, &mut work, source, out, report))
+            Ok(Outcome::from(run_blocks(alloc, &mut work, source, out, report)))
         }
         Verb::Text => {
             let mut work = TreeWork::new(alloc, catalogue, TextMaker);
-            Ok(run_blocks(alloc, &mut work, source, out, report))
+            Ok(Outcome::from(run_blocks(alloc, &mut work, source, out, report)))
         }
+        Verb::Build => Ok(Outcome::from(build_lines(alloc, catalogue, source, out))),
         Verb::Filter => filter(alloc, arguments, catalogue, source, out, report),
         Verb::Migrate => unreachable!(),
     }
@@ -188,7 +188,7 @@ pub fn do_job<S: Source, K: Sink, R: Sink>(
     source: &mut S,
     out: &mut K,
     report: &mut R,
-) -> Result<StreamEnd, JobStop>
+) -> Result<Outcome, JobStop>
     requires ready { IsReady verb (map string_bytes arguments.now) (specs_of loaded.now) }
     requires loaded { IsLoadedFor (takes_distinct verb) loaded.now }
     ensures runs { IfOk result (RunsJob verb (map string_bytes arguments.now) (specs_of loaded.now) (source_change S.Source source.old source.new) (sink_change K.Sink out.old out.new) (sink_change R.Sink report.old report.new)) }

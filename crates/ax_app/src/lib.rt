@@ -8,6 +8,6 @@ mod laws;
 mod loading;
 mod makers;
 
-pub use ax_command::{Cause, FilterFault, InputFault, Outcome, SpecFault};
+pub use ax_command::{Cause, FilterFault, InputFault, Outcome, SpecFault, TextFault};
 pub use gateway::run;
 pub use laws::one_answer;

@@ -66,7 +66,7 @@ pub fn load<L: Library>(
             Ok((old, new)) => Ok(Loaded::Editions(old, new)),
             Err(stop) => Err(stop),
         },
-        Verb::Check | Verb::Canon | Verb::Show | Verb::Text | Verb::Filter => {
+        Verb::Check | Verb::Canon | Verb::Show | Verb::Text | Verb::Build | Verb::Filter => {
             match load_catalogue(alloc, library, names) {
                 Ok(catalogue) => Ok(Loaded::Catalogue(catalogue)),
                 Err(stop) => Err(stop),

@@ -7,7 +7,9 @@ use Rattle.ax_model.specs.declared.flaw.FlawKind.TheVariants.{DuplicateItem, Dup
 use Rattle.ax_stream.specs.declared.end.Cause.{Cause}
 use Rattle.ax_stream.specs.declared.end.Cause.TheVariants.{EndsInHeader, BadLen, EndsInBlock, RunsOut, UndefinedSlot, PresenceTooLong, ExtensionPastEnd, BadExplicitLength}
 use Rattle.ax_command.specs.declared.outcome.Outcome.{Outcome}
-use Rattle.ax_command.specs.declared.outcome.Outcome.TheVariants.{Done, Usage, SpecRefused, CategoryTwice, InputRefused, MigratedTooLong, InputTooLong, LoadFault, ReadFault, WriteFault, ReportFault, OutOfMemory, OtherCategory, FilterRefused}
+use Rattle.ax_command.specs.declared.outcome.Outcome.TheVariants.{Done, Usage, SpecRefused, CategoryTwice, InputRefused, TextRefused, MigratedTooLong, InputTooLong, LoadFault, ReadFault, WriteFault, ReportFault, OutOfMemory, OtherCategory, FilterRefused}
+use Rattle.ax_build_work.specs.declared.fault.TextFault.{TextFault}
+use Rattle.ax_build_work.specs.declared.fault.TextFault.TheVariants as TextFaultOf
 use Rattle.ax_filter.specs.declared.text.FilterFault.{FilterFault}
 use Rattle.ax_filter.specs.declared.text.FilterFault.TheVariants as FilterFaultOf
 use Rattle.ax_load.specs.declared.fault.SpecFault.{SpecFault}
@@ -64,12 +66,21 @@ filter_line (FilterFaultOf.BadToken token) = numbered (codes "refused filter Bad
 filter_line (FilterFaultOf.UnknownPath token) = numbered (codes "refused filter UnknownPath token ") token ++ codes "\n"
 filter_line (FilterFaultOf.NotAnElement token) = numbered (codes "refused filter NotAnElement token ") token ++ codes "\n"
 
+-- of a refused line
+abbrev pub text_line : ℕ → TextFault → List ℕ
+text_line line TextFaultOf.LineTooLong = numbered (codes "refused line ") line ++ codes " LineTooLong\n"
+text_line line (TextFaultOf.BadByte at) = numbered (codes "refused line ") line ++ (numbered (codes " BadByte at ") at ++ codes "\n")
+text_line line (TextFaultOf.TooDeep token) = numbered (codes "refused line ") line ++ (numbered (codes " TooDeep token ") token ++ codes "\n")
+text_line line (TextFaultOf.BadToken token) = numbered (codes "refused line ") line ++ (numbered (codes " BadToken token ") token ++ codes "\n")
+text_line line (TextFaultOf.TooLong octets) = numbered (codes "refused line ") line ++ (numbered (codes " TooLong ") octets ++ codes "\n")
+
 abbrev pub lines_of : Outcome → List ℕ
 lines_of (Done blocks) = []
 lines_of Usage = codes "refused usage\n"
 lines_of (SpecRefused file fault) = fault_lines file fault
 lines_of (CategoryTwice file category) = numbered (codes "refused file ") file ++ (codes " CategoryTwice " ++ (three_digits category ++ codes "\n"))
 lines_of (InputRefused fault) = numbered (codes "refused block ") fault.block ++ (numbered (codes " bit ") fault.bit ++ (codes " " ++ (cause_name fault.cause ++ codes "\n")))
+lines_of (TextRefused line fault) = text_line line fault
 lines_of (MigratedTooLong block octets) = numbered (codes "refused block ") block ++ (numbered (codes " MigratedTooLong ") octets ++ codes "\n")
 lines_of InputTooLong = codes "refused input InputTooLong\n"
 lines_of (LoadFault file) = numbered (codes "fault file ") file ++ codes "\n"

@@ -5,6 +5,10 @@ use Rattle.ax_command.specs.declared.outcome.JobStop.TheVariants as JobStopOf
 use Rattle.ax_command.specs.declared.outcome.Outcome.TheVariants as OutcomeOf
 use Rattle.ax_command.specs.declared.outcome.Refusal.{Refusal}
 use Rattle.ax_command.specs.declared.outcome.Refusal.TheVariants as RefusalOf
+use Rattle.ax_build_work.specs.declared.fault.TextFault.{TextFault}
+use Rattle.ax_build_work.specs.declared.fault.TextFault.TheVariants as TextFaultOf
+use Rattle.ax_line_stream.specs.declared.end.LinesEnd.{LinesEnd}
+use Rattle.ax_line_stream.specs.declared.end.LinesEnd.TheVariants as LinesEndOf
 use Rattle.ax_load.specs.declared.fault.LoadStop.{LoadStop}
 use Rattle.ax_load.specs.declared.fault.LoadStop.TheVariants as LoadStopOf
 use Rattle.ax_stream.specs.declared.end.StreamEnd.{StreamEnd}
@@ -25,6 +29,16 @@ outcome_of_end EndOf.ReadFault = OutcomeOf.ReadFault
 outcome_of_end EndOf.WriteFault = OutcomeOf.WriteFault
 outcome_of_end EndOf.ReportFault = OutcomeOf.ReportFault
 outcome_of_end EndOf.OutOfMemory = OutcomeOf.OutOfMemory
+
+-- a line that is too long is refused as any other
+abbrev pub outcome_of_lines : LinesEnd TextFault → Outcome
+outcome_of_lines (LinesEndOf.Done blocks) = OutcomeOf.Done blocks
+outcome_of_lines (LinesEndOf.Refused line fault) = OutcomeOf.TextRefused line fault
+outcome_of_lines (LinesEndOf.LineTooLong line) = OutcomeOf.TextRefused line TextFaultOf.LineTooLong
+outcome_of_lines LinesEndOf.InputTooLong = OutcomeOf.InputTooLong
+outcome_of_lines LinesEndOf.ReadFault = OutcomeOf.ReadFault
+outcome_of_lines LinesEndOf.WriteFault = OutcomeOf.WriteFault
+outcome_of_lines LinesEndOf.OutOfMemory = OutcomeOf.OutOfMemory
 
 abbrev pub outcome_of_refusal : Refusal → Outcome
 outcome_of_refusal (RefusalOf.OtherCategory old new) = OutcomeOf.OtherCategory old new

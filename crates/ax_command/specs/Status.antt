@@ -1,7 +1,7 @@
 -- The exit status of each outcome (this project's own rule).
 use Rattle.std.specs.Prelude.{ℕ}
 use Rattle.ax_command.specs.declared.outcome.Outcome.{Outcome}
-use Rattle.ax_command.specs.declared.outcome.Outcome.TheVariants.{Done, Usage, SpecRefused, CategoryTwice, InputRefused, MigratedTooLong, InputTooLong, LoadFault, ReadFault, WriteFault, ReportFault, OutOfMemory, OtherCategory, FilterRefused}
+use Rattle.ax_command.specs.declared.outcome.Outcome.TheVariants.{Done, Usage, SpecRefused, CategoryTwice, InputRefused, TextRefused, MigratedTooLong, InputTooLong, LoadFault, ReadFault, WriteFault, ReportFault, OutOfMemory, OtherCategory, FilterRefused}
 
 abbrev pub status_of : Outcome → ℕ
 status_of (Done blocks) = 0
@@ -9,6 +9,7 @@ status_of Usage = 1
 status_of (SpecRefused file fault) = 2
 status_of (CategoryTwice file category) = 2
 status_of (InputRefused fault) = 3
+status_of (TextRefused line fault) = 3
 status_of (MigratedTooLong block octets) = 3
 status_of InputTooLong = 3
 status_of (LoadFault file) = 4

@@ -5,7 +5,7 @@ use Rattle.std.specs.Str.{bytes_eq}
 use Rattle.std.specs.String.{string_bytes}
 use Rattle.ax_command.specs.declared.words.Command.{Command}
 use Rattle.ax_command.specs.declared.words.Verb.{Verb}
-use Rattle.ax_command.specs.declared.words.Verb.TheVariants.{Check, Canon, Show, Text, Filter, Migrate}
+use Rattle.ax_command.specs.declared.words.Verb.TheVariants.{Check, Canon, Show, Text, Build, Filter, Migrate}
 
 -- the first word names the command
 abbrev pub verb_of : List ℕ → Option Verb
@@ -14,6 +14,7 @@ verb_of word =
     else if bytes_eq word (codes "canon") then Some Canon
     else if bytes_eq word (codes "show") then Some Show
     else if bytes_eq word (codes "text") then Some Text
+    else if bytes_eq word (codes "build") then Some Build
     else if bytes_eq word (codes "filter") then Some Filter
     else if bytes_eq word (codes "migrate") then Some Migrate
     else None
@@ -24,6 +25,7 @@ TakesFiles Check count = count ≡ 1
 TakesFiles Canon count = 0 < count
 TakesFiles Show count = 0 < count
 TakesFiles Text count = 0 < count
+TakesFiles Build count = 0 < count
 TakesFiles Filter count = 0 < count
 TakesFiles Migrate count = count ≡ 2
 
@@ -33,6 +35,7 @@ arguments_of Check = 0
 arguments_of Canon = 0
 arguments_of Show = 0
 arguments_of Text = 0
+arguments_of Build = 0
 arguments_of Filter = 1
 arguments_of Migrate = 0
 
@@ -47,6 +50,7 @@ AreArguments Check arguments = Unit {0}
 AreArguments Canon arguments = Unit {0}
 AreArguments Show arguments = Unit {0}
 AreArguments Text arguments = Unit {0}
+AreArguments Build arguments = Unit {0}
 AreArguments Filter arguments = IsExpression arguments
 AreArguments Migrate arguments = Unit {0}
 

@@ -2,9 +2,10 @@
 ghost use Rattle.std.specs.Prelude.{◌≡◌, ◌++◌, codes, decimal};
 ghost use Rattle.ax_outside.specs.Changes.{Wrote, sink_change};
 ghost use Rattle.ax_model.specs.Paths.{three_digits};
-ghost use Rattle.ax_command.specs.Lines.{numbered, cause_name, kind_name, flaw_line, flaw_lines, fault_lines, filter_line, lines_of};
+ghost use Rattle.ax_command.specs.Lines.{numbered, cause_name, kind_name, flaw_line, flaw_lines, fault_lines, filter_line, text_line, lines_of};
 
 use crate::outcome::Outcome;
+use ax_build_work::TextFault;
 use ax_filter::FilterFault;
 use ax_load::SpecFault;
 use ax_model::{Flaw, FlawKind, Flaws, Text, category_digits};
@@ -243,6 +244,48 @@ fn write_filter_fault<K: Sink>(sink: &mut K, fault: FilterFault) -> Result<(), S
     }
 }
 
+/// Writes the line of a refused line of the input.
+fn write_text_fault<K: Sink>(sink: &mut K, line: u64, fault: TextFault) -> Result<(), SinkFailed>
+    ensures { Wrote (sink_change K.Sink sink.old sink.new) result (text_line line fault) }
+{
+    match fault {
+        TextFault::LineTooLong => write_numbered_text(
+            sink,
+            b"refused line ",
+            line,
+            b" LineTooLong\n",
+        ),
+        TextFault::BadByte { at } => write_two_numbers(
+            sink,
+            b"refused line ",
+            line,
+            b" BadByte at ",
+            at as u64,
+        ),
+        TextFault::TooDeep { token } => write_two_numbers(
+            sink,
+            b"refused line ",
+            line,
+            b" TooDeep token ",
+            token as u64,
+        ),
+        TextFault::BadToken { token } => write_two_numbers(
+            sink,
+            b"refused line ",
+            line,
+            b" BadToken token ",
+            token as u64,
+        ),
+        TextFault::TooLong { octets } => write_two_numbers(
+            sink,
+            b"refused line ",
+            line,
+            b" TooLong ",
+            octets,
+        ),
+    }
+}
+
 /// Writes the lines of the flaws of a file.
 #[tactic(auto, using(crate::proofs::FlawLines::flaws_written))]
 fn write_flaws<K: Sink>(sink: &mut K, file: u32, flaws: &[Flaw]) -> Result<(), SinkFailed>
@@ -317,6 +360,7 @@ pub fn write_lines<K: Sink>(sink: &mut K, outcome: &Outcome) -> Result<(), SinkF
         Outcome::SpecRefused { file, fault } => write_refused_file(sink, *file, fault),
         Outcome::CategoryTwice { file, category } => write_category_twice(sink, *file, *category),
         Outcome::InputRefused { fault } => write_fault(sink, *fault),
+        Outcome::TextRefused { line, fault } => write_text_fault(sink, *line, *fault),
         Outcome::MigratedTooLong { block, octets } => write_two_numbers(
             sink,
             b"refused block ",

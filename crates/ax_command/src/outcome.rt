@@ -1,9 +1,11 @@
 //! How a run ends.
 ghost use Rattle.std.specs.Prelude.{◌≡◌};
-ghost use Rattle.ax_command.specs.Outcomes.{outcome_of_stop, outcome_of_end, outcome_of_job_stop};
+ghost use Rattle.ax_command.specs.Outcomes.{outcome_of_stop, outcome_of_end, outcome_of_lines, outcome_of_job_stop};
 ghost use Rattle.ax_command.specs.Status.{status_of};
 
+use ax_build_work::TextFault;
 use ax_filter::FilterFault;
+use ax_line_stream::LinesEnd;
 use ax_load::{LoadStop, SpecFault};
 use ax_stream::{InputFault, StreamEnd};
 
@@ -25,6 +27,8 @@ pub enum Outcome {
     OtherCategory { old: u8, new: u8 },
     /// The input has a fault.
     InputRefused { fault: InputFault },
+    /// That line of the input, numbered from 0, is no block's text.
+    TextRefused { line: u64, fault: TextFault },
     /// The migrated form of that block has that many octets, more than a block can have.
     MigratedTooLong { block: u64, octets: u32 },
     /// The input has more than 2^40 octets.
@@ -103,6 +107,25 @@ impl From<StreamEnd> for Outcome {
     }
 }
 
+impl From<LinesEnd<TextFault>> for Outcome {
+    ghost from_gives = { λ end outcome. outcome ≡ outcome_of_lines end };
+
+    fn from(end: LinesEnd<TextFault>) -> Self {
+        match end {
+            LinesEnd::Done { blocks } => Outcome::Done { blocks },
+            LinesEnd::Refused { line, fault } => Outcome::TextRefused { line, fault },
+            LinesEnd::LineTooLong { line } => {
+                let fault = TextFault::LineTooLong;
+                Outcome::TextRefused { line, fault }
+            }
+            LinesEnd::InputTooLong => Outcome::InputTooLong,
+            LinesEnd::ReadFault => Outcome::ReadFault,
+            LinesEnd::WriteFault => Outcome::WriteFault,
+            LinesEnd::OutOfMemory => Outcome::OutOfMemory,
+        }
+    }
+}
+
 impl Outcome {
     /// The exit status: 0 for Done, 1 for faulty words, 2 for a refused file, 3 for a refused input, 4 for a
     /// fault of the outside, 5 for want of memory. Takes no memory.
@@ -117,6 +140,7 @@ impl Outcome {
             | Outcome::FilterRefused { .. }
             | Outcome::OtherCategory { .. } => 2,
             Outcome::InputRefused { .. }
+            | Outcome::TextRefused { .. }
             | Outcome::MigratedTooLong { .. }
             | Outcome::InputTooLong => 3,
             Outcome::LoadFault { .. }

@@ -37,6 +37,10 @@ fn filter_refused(fault: FilterFault) -> Outcome {
     Outcome::FilterRefused { fault }
 }
 
+fn text_refused(line: u64, fault: TextFault) -> Outcome {
+    Outcome::TextRefused { line, fault }
+}
+
 fn file_refused(fault: SpecFault) -> Outcome {
     Outcome::SpecRefused { file: 0, fault }
 }
@@ -128,6 +132,31 @@ fn lines_and_status_of_each_outcome(rt: HostRuntime) -> Result<(), Fail> {
             },
             3,
             "refused block 0 MigratedTooLong 98301\n",
+        ),
+        (
+            text_refused(1, TextFault::LineTooLong),
+            3,
+            "refused line 1 LineTooLong\n",
+        ),
+        (
+            text_refused(0, TextFault::BadByte { at: 23 }),
+            3,
+            "refused line 0 BadByte at 23\n",
+        ),
+        (
+            text_refused(2, TextFault::TooDeep { token: 20 }),
+            3,
+            "refused line 2 TooDeep token 20\n",
+        ),
+        (
+            text_refused(7, TextFault::BadToken { token: 8 }),
+            3,
+            "refused line 7 BadToken token 8\n",
+        ),
+        (
+            text_refused(0, TextFault::TooLong { octets: 65_536 }),
+            3,
+            "refused line 0 TooLong 65536\n",
         ),
         (Outcome::InputTooLong, 3, "refused input InputTooLong\n"),
         (Outcome::ReportFault, 4, ""),

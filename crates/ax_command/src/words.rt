@@ -18,6 +18,8 @@ pub enum Verb {
     Show,
     /// `text` and one or more SPEC.
     Text,
+    /// `build` and one or more SPEC.
+    Build,
     /// `filter EXPR` and one or more SPEC.
     Filter,
     /// `migrate OLD NEW`
@@ -44,6 +46,8 @@ fn verb_of(word: &str) -> Option<Verb>
         Some(Verb::Show)
     } else if word == "text" {
         Some(Verb::Text)
+    } else if word == "build" {
+        Some(Verb::Build)
     } else if word == "filter" {
         Some(Verb::Filter)
     } else if word == "migrate" {
@@ -59,7 +63,7 @@ fn takes_files(verb: Verb, count: usize) -> bool
 {
     match verb {
         Verb::Check => count == 1,
-        Verb::Canon | Verb::Show | Verb::Text | Verb::Filter => count > 0,
+        Verb::Canon | Verb::Show | Verb::Text | Verb::Build | Verb::Filter => count > 0,
         Verb::Migrate => count == 2,
     }
 }
@@ -70,7 +74,7 @@ fn arguments_of(verb: Verb) -> usize
 {
     match verb {
         Verb::Filter => 1,
-        Verb::Check | Verb::Canon | Verb::Show | Verb::Text | Verb::Migrate => 0,
+        Verb::Check | Verb::Canon | Verb::Show | Verb::Text | Verb::Build | Verb::Migrate => 0,
     }
 }
 
@@ -90,7 +94,7 @@ fn are_arguments(verb: Verb, arguments: &[String]) -> bool
             [text, ..] => is_expression(text.as_str()),
             [] => false,
         },
-        Verb::Check | Verb::Canon | Verb::Show | Verb::Text | Verb::Migrate => true,
+        Verb::Check | Verb::Canon | Verb::Show | Verb::Text | Verb::Build | Verb::Migrate => true,
     }
 }
 

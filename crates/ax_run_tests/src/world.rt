@@ -77,8 +77,8 @@ fn library_of(alloc: Global, outside: Outside) -> Result<MemLibrary, AllocError>
 
 fn source_of(alloc: Global, outside: Outside, input: &[u8]) -> Result<MemSource, AllocError> {
     let cuts = match outside {
-        // A block of ten octets, and the end after it.
-        Outside::OctetReads | Outside::OctetRead(_) => vec![in alloc; 1; 12]?,
+        // Each octet, and the end after them.
+        Outside::OctetReads | Outside::OctetRead(_) => vec![in alloc; 1; input.len() + 1]?,
         Outside::CutReads => vec![in alloc; 2, 3, 5]?,
         _ => Vec::new(alloc),
     };

@@ -231,7 +231,7 @@ items_named : (items : List ItemTree) → AllByRecursion ItemInRange items → A
 items_named [] h = tt
 items_named (item ∷ items) h = ((h.0.0, kind_named item.kind h.0.2), items_named items h.1)
 
-spec_named : (spec : SpecTree) → InRange spec → IsNamed spec
+pub spec_named : (spec : SpecTree) → InRange spec → IsNamed spec
 spec_named spec h = record { items = items_named spec.items h.items }
 
 pub file_tokens : (spec : SpecTree) (block : BlockTree) → InRange spec → NoFlaw spec → IsWithin 16 (spelled_tokens spec) → HoldsBlock spec block → AreTokensOf (BlockLine spec block) 20 (BlockTokens spec block)

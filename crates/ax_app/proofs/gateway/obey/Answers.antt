@@ -13,9 +13,9 @@ do_job-requires-clause-ready g c = ready _ _ _ _ _ c.in-Some.ensures.before c.in
 
 pub returns-in-Ok-do_job-clause-runs : goal.returns-in-Ok-do_job-clause-runs
 returns-in-Ok-do_job-clause-runs g c =
-    in_job c.in-Ok-do_job.ensures.runs.job c.in-Ok-do_job.end
+    in_job c.in-Ok-do_job.ensures.runs.job
     (record { what = asked c.in-Some.command; shape = subst (λ words. HasShape (map string_bytes words) (asked c.in-Some.command)) c.deref.ensures.value c.in-Some.ensures; specs = _; give = c.in-Ok.ensures.gives; is = c.in-Ok-do_job.ensures.runs.is })
-    c.in-Ok-do_job.ensures.runs.runs c.from.ensures
+    c.in-Ok-do_job.ensures.runs.runs
 
 pub returns-in-Ok-clause-runs : goal.returns-in-Ok-clause-runs
 returns-in-Ok-clause-runs g c =

@@ -1,4 +1,5 @@
-use Rattle.ax_app.proofs.Stages.{headline, usage_only, usage_there, causes, causes_on, completes, reads_all, ended}
+use Rattle.ax_app.proofs.Causing.{causes}
+use Rattle.ax_app.proofs.Stages.{headline, usage_only, usage_there, causes_on, completes, reads_all, ended}
 use Rattle.ax_app.proofs.OwnOutcomes.{of_its_command, later_on}
 use Rattle.ax_app.proofs.gateway.run.Goals as goal
 
@@ -15,7 +16,7 @@ pub returns-clause-causes : goal.returns-clause-causes
 returns-clause-causes g c = causes_on _ _ _ _ _ _ _ _ _ c.obey-outcome.ensures.later.report c.write_lines.ensures.later (causes _ _ _ _ _ _ _ c.obey-outcome.ensures.runs)
 
 pub returns-clause-reads_all : goal.returns-clause-reads_all
-returns-clause-reads_all g c = λ files input k blocks octets is left d done. reads_all _ _ files _ input _ _ _ _ k blocks is octets left d done c.obey-outcome.ensures.runs
+returns-clause-reads_all g c = λ files input job blocks octets is left d reads done. reads_all _ _ files _ input _ _ _ _ job blocks is octets left d reads done c.obey-outcome.ensures.runs
 
 pub returns-clause-completes : goal.returns-clause-completes
 returns-clause-completes g c = λ files input job count written reported octets is left quiet d can.

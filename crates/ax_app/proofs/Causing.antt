@@ -1,0 +1,94 @@
+-- What an outcome says of the outside.
+use Rattle.std.proofs.Common.{◌≡◌, ℕ, ◌+◌, ◌<◌, List, Option, sym, subst}
+use Rattle.ax_build_work.specs.declared.fault.TextFault.{TextFault}
+use Rattle.ax_command.specs.Outcomes.{outcome_of_stop, outcome_of_end, outcome_of_lines, outcome_of_job_stop}
+use Rattle.ax_command.specs.declared.outcome.JobStop.{JobStop}
+use Rattle.ax_command.specs.declared.outcome.JobStop.TheVariants as JobStopOf
+use Rattle.ax_command.specs.declared.outcome.Outcome.{Outcome}
+use Rattle.ax_command.specs.declared.outcome.Outcome.TheVariants.{Done, Usage, SpecRefused, CategoryTwice, InputRefused, TextRefused, MigratedTooLong, InputTooLong, LoadFault, ReadFault, WriteFault, ReportFault, OutOfMemory, OtherCategory, FilterRefused}
+use Rattle.ax_command.specs.declared.outcome.Refusal.TheVariants as RefusalOf
+use Rattle.ax_line_stream.specs.Runs as OfLines
+use Rattle.ax_line_stream.specs.declared.end.LinesEnd.{LinesEnd}
+use Rattle.ax_line_stream.specs.declared.end.LinesEnd.TheVariants as LinesEndOf
+use Rattle.ax_load.specs.declared.fault.LoadStop.{LoadStop}
+use Rattle.ax_load.specs.declared.fault.LoadStop.TheVariants as LoadStopOf
+use Rattle.ax_outside.specs.Changes.{LibraryCounts, SourceChange, SinkChange}
+use Rattle.ax_outside.specs.Files.{File}
+use Rattle.ax_outside.specs.Told.{Rose}
+use Rattle.ax_stream.specs.Ending.{longest_input}
+use Rattle.ax_stream.specs.Streams.{IsCaused}
+use Rattle.ax_stream.specs.declared.end.StreamEnd.{StreamEnd}
+use Rattle.ax_stream.specs.declared.end.StreamEnd.TheVariants as EndOf
+use Rattle.ax_app.specs.Jobs.{Job, writes, each_block, builds, refuses, TextEnds, written, cut, no_memory, JobRuns}
+use Rattle.ax_app.specs.Running.{Runs, at_words, at_files, before_input, in_job, Causes}
+
+-- a fault of the outside comes only where its count rose, and a limit only where more octets were taken
+abbrev IsCausedBy : SourceChange → SinkChange → SinkChange → Outcome → Type 0
+IsCausedBy i o r ReadFault = Rose i.faults i.faults'
+IsCausedBy i o r WriteFault = Rose o.faults o.faults'
+IsCausedBy i o r ReportFault = Rose r.faults r.faults'
+IsCausedBy i o r InputTooLong = i.taken + longest_input < i.taken'
+IsCausedBy i o r (Done blocks) = Unit {0}
+IsCausedBy i o r Usage = Unit {0}
+IsCausedBy i o r (SpecRefused file fault) = Unit {0}
+IsCausedBy i o r (CategoryTwice file category) = Unit {0}
+IsCausedBy i o r (InputRefused fault) = Unit {0}
+IsCausedBy i o r (TextRefused line fault) = Unit {0}
+IsCausedBy i o r (MigratedTooLong block octets) = Unit {0}
+IsCausedBy i o r (LoadFault file) = Unit {0}
+IsCausedBy i o r OutOfMemory = Unit {0}
+IsCausedBy i o r (OtherCategory old new) = Unit {0}
+IsCausedBy i o r (FilterRefused fault) = Unit {0}
+
+module _ (i : SourceChange) (o r : SinkChange) where
+  caused_at_files : (stop : LoadStop) → IsCausedBy i o r (outcome_of_stop stop)
+  caused_at_files (LoadStopOf.SpecRefused file fault) = tt
+  caused_at_files (LoadStopOf.CategoryTwice file category) = tt
+  caused_at_files (LoadStopOf.LoadFault file) = tt
+  caused_at_files LoadStopOf.OutOfMemory = tt
+
+  caused_before : (stop : JobStop) → IsCausedBy i o r (outcome_of_job_stop stop)
+  caused_before (JobStopOf.Refused (RefusalOf.OtherCategory old new)) = tt
+  caused_before (JobStopOf.Refused (RefusalOf.FilterRefused fault)) = tt
+  caused_before JobStopOf.OutOfMemory = tt
+
+  caused_by_text : (text : List ℕ) (outcome : Outcome) → TextEnds text o outcome → IsCausedBy i o r outcome
+  caused_by_text text outcome (written is h) = subst (IsCausedBy i o r) (sym is) tt
+  caused_by_text text outcome (cut is h) = subst (IsCausedBy i o r) (sym is) h.rose
+  caused_by_text text outcome (no_memory is h) = subst (IsCausedBy i o r) (sym is) tt
+
+  caused_by_blocks : (end : StreamEnd) → IsCaused longest_input i o r end → IsCausedBy i o r (outcome_of_end end)
+  caused_by_blocks (EndOf.Done blocks) h = tt
+  caused_by_blocks (EndOf.Refused fault) h = tt
+  caused_by_blocks EndOf.InputTooLong h = h
+  caused_by_blocks (EndOf.TooLong block octets) h = tt
+  caused_by_blocks EndOf.ReadFault h = h
+  caused_by_blocks EndOf.WriteFault h = h
+  caused_by_blocks EndOf.ReportFault h = h
+  caused_by_blocks EndOf.OutOfMemory h = tt
+
+  caused_by_lines : (end : LinesEnd TextFault) → OfLines.IsCaused longest_input i o end → IsCausedBy i o r (outcome_of_lines end)
+  caused_by_lines (LinesEndOf.Done blocks) h = tt
+  caused_by_lines (LinesEndOf.Refused line fault) h = tt
+  caused_by_lines (LinesEndOf.LineTooLong line) h = tt
+  caused_by_lines LinesEndOf.InputTooLong h = h
+  caused_by_lines LinesEndOf.ReadFault h = h
+  caused_by_lines LinesEndOf.WriteFault h = h
+  caused_by_lines LinesEndOf.OutOfMemory h = tt
+
+  caused_in_job : (job : Job) (outcome : Outcome) → JobRuns job i o r outcome → IsCausedBy i o r outcome
+  caused_in_job (writes text) outcome h = caused_by_text text outcome h.ends
+  caused_in_job (each_block c) outcome h = subst (IsCausedBy i o r) (sym h.is) (caused_by_blocks h.end h.runs.caused)
+  caused_in_job (builds catalogue) outcome h = subst (IsCausedBy i o r) (sym h.is) (caused_by_lines h.end h.runs.caused)
+  caused_in_job (refuses refusal) outcome h = absurd h
+
+  caused : (words : List (List ℕ)) (files : Option (List File)) (c : LibraryCounts) (outcome : Outcome) → Runs words files c i o r outcome → IsCausedBy i o r outcome
+  caused words files c outcome (at_words none is unasked idle) = subst (IsCausedBy i o r) (sym is) tt
+  caused words files c outcome (at_files stop h is idle) = subst (IsCausedBy i o r) (sym is) (caused_at_files stop)
+  caused words files c outcome (before_input stop h is idle) = subst (IsCausedBy i o r) (sym is) (caused_before stop)
+  caused words files c outcome (in_job job d h) = caused_in_job job outcome h
+
+pub causes : (words : List (List ℕ)) (files : Option (List File)) (c : LibraryCounts) (i : SourceChange) (o r : SinkChange) (outcome : Outcome) → Runs words files c i o r outcome → Causes i o r outcome
+causes words files c i o r outcome runs =
+    let h = caused i o r words files c outcome runs in
+    record { read = λ e. subst (IsCausedBy i o r) e h; write = λ e. subst (IsCausedBy i o r) e h; report = λ e. subst (IsCausedBy i o r) e h; too_long = λ e. subst (IsCausedBy i o r) e h }

@@ -1,0 +1,2 @@
+pub mod BuildCommand
+pub mod Stops

@@ -1,0 +1,74 @@
+//! From a line to the octets of its block.
+ghost use Rattle.std.specs.Prelude.{◌≡◌, ◌≤◌, length, IfOk, IfErr, MatchOption};
+ghost use Rattle.ax_block_reader.specs.BlockTexts.{IsBlockOf, canonical_length};
+ghost use Rattle.ax_build_work.specs.BuildCommand.{IsBuiltOf, AnswersLine};
+ghost use Rattle.ax_build_work.specs.Stops.{NotBuilt, StopsLine};
+ghost use Rattle.ax_line_stream.specs.Commands.{gives, nothing};
+ghost use Rattle.ax_line_stream.specs.Ending.{longest_line};
+ghost use Rattle.ax_model.specs.CanonicalOctets.{canon_over, category_of};
+ghost use Rattle.ax_model.specs.Plain.{catalogue_tree, block_tree};
+ghost use Rattle.ax_model.specs.Specification.{spec_of};
+
+use crate::fault::BuildStop;
+use crate::opaque::opaque_block;
+use ax_block_reader::read_block_text;
+use ax_check::Catalogue;
+use ax_model::Block;
+use ax_tokens::{Tokens, tokens};
+use ax_values::encode_block;
+use std::alloc::{AllocError, Global};
+
+/// How deep the braces of a line may nest.
+const DEEPEST: u32 = 20;
+
+/// The canonical octets of a block that fits the catalogue. They are no more than a block may have, so that encoding never
+/// refuses their number.
+fn canonical_octets(
+    alloc: Global,
+    catalogue: &Catalogue,
+    block: &Block,
+) -> Result<Vec<u8>, AllocError>
+    requires fits { IsBlockOf (catalogue_tree catalogue.now) (block_tree block.now) }
+    requires within { canonical_length (catalogue_tree catalogue.now) (block_tree block.now) ≤ 65535 }
+    ensures { IfOk result (λ made. made.items ≡ canon_over (spec_of (category_of (block_tree block.now)) (catalogue_tree catalogue.now)) (block_tree block.now)) }
+{
+    match block {
+        Block::Opaque { category, octets } => opaque_block(alloc, *category, octets.as_slice()),
+        Block::Read { category, .. } => match catalogue.get(*category) {
+            Some(accepted) => match encode_block(alloc, accepted.spec(), block) {
+                Ok(octets) => Ok(octets),
+                Err(_) => Err(AllocError),
+            },
+            None => unreachable!(),
+        },
+    }
+}
+
+/// The canonical octets of the block whose text the tokens are.
+fn built(alloc: Global, catalogue: &Catalogue, tokens: &Tokens<'_>) -> Result<Vec<u8>, BuildStop>
+    ensures octets { IfOk result (λ made. IsBuiltOf (catalogue_tree catalogue.now) tokens.now made.items) }
+    ensures stop { IfErr result (NotBuilt (catalogue_tree catalogue.now) tokens.now) }
+{
+    let block = read_block_text(alloc, catalogue, tokens)?;
+    let octets = canonical_octets(alloc, catalogue, &block)?;
+    Ok(octets)
+}
+
+/// The canonical octets of the block whose text the line is, or None where the line has no token.
+#[tactic(auto, using(crate::proofs::Built::lines_built))]
+pub(crate) fn line_octets(
+    alloc: Global,
+    catalogue: &Catalogue,
+    line: &[u8],
+) -> Result<Option<Vec<u8>>, BuildStop>
+    requires { length line.now ≤ longest_line }
+    ensures answer { IfOk result (λ made. MatchOption made (AnswersLine (catalogue_tree catalogue.now) line.now nothing) (λ octets. AnswersLine (catalogue_tree catalogue.now) line.now (gives octets.items))) }
+    ensures stop { IfErr result (StopsLine (catalogue_tree catalogue.now) line.now) }
+{
+    let found = tokens(alloc, line, DEEPEST)?;
+    if found.count() == 0 {
+        return Ok(None);
+    }
+    let octets = built(alloc, catalogue, &found)?;
+    Ok(Some(octets))
+}

@@ -1,0 +1,67 @@
+//! The command `build` over an input.
+ghost use Rattle.ax_build_work.specs.BuildCommand.{build_command};
+ghost use Rattle.ax_line_stream.specs.Completing.{Completes};
+ghost use Rattle.ax_line_stream.specs.Ending.{longest_input, longest_line};
+ghost use Rattle.ax_line_stream.specs.Runs.{LinesRun};
+ghost use Rattle.ax_model.specs.Plain.{catalogue_tree};
+ghost use Rattle.ax_outside.specs.Changes.{sink_change, source_change};
+
+use crate::building::line_octets;
+use crate::fault::{BuildStop, TextFault};
+use ax_check::Catalogue;
+use ax_line_stream::{LineStop, LineWork, LinesEnd, run_lines};
+use ax_outside::{Sink, Source};
+use std::alloc::Global;
+
+/// `build` under a catalogue.
+#[derive(Drop)]
+struct BuildWork<'c> {
+    alloc: Global,
+    catalogue: &'c Catalogue,
+    octets: Vec<u8>,
+}
+
+impl<'c> LineWork for BuildWork<'c> {
+    type Fault = TextFault;
+
+    ghost command = { λ s. build_command (catalogue_tree s.catalogue.now) };
+
+    ghost sound = { λ s. Unit {0} };
+
+    ghost laid = { λ s. s.octets.items };
+
+    fn take(&mut self, _number: u64, line: &[u8]) -> Result<bool, LineStop<TextFault>> {
+        match line_octets(self.alloc, self.catalogue, line) {
+            Ok(Some(octets)) => {
+                self.octets = octets;
+                Ok(true)
+            }
+            Ok(None) => Ok(false),
+            Err(BuildStop::Refused(fault)) => Err(LineStop::Refused(fault)),
+            Err(BuildStop::OutOfMemory) => Err(LineStop::OutOfMemory),
+        }
+    }
+
+    fn octets(&self) -> &[u8] {
+        &self.octets
+    }
+}
+
+/// Builds the block of each line of the input that has a token, and writes its canonical form as one piece, up to the first
+/// line that is refused. Lines are numbered from 0, empty ones and comments among them.
+pub fn build_lines<S: Source, K: Sink>(
+    alloc: Global,
+    catalogue: &Catalogue,
+    source: &mut S,
+    out: &mut K,
+) -> LinesEnd<TextFault>
+    ensures completes { Completes (build_command (catalogue_tree catalogue.now)) longest_line longest_input (source_change S.Source source.old source.new) (sink_change K.Sink out.old out.new) result }
+    ensures runs { LinesRun (build_command (catalogue_tree catalogue.now)) longest_line longest_input (source_change S.Source source.old source.new) (sink_change K.Sink out.old out.new) result }
+{
+    let mut work = BuildWork {
+        alloc,
+        catalogue,
+        octets: Vec::new(alloc),
+    };
+    run_lines(alloc, &mut work, source, out)
+}

@@ -1,0 +1,294 @@
+//! `build` over lines that are blocks' texts, and over lines that are not.
+
+use crate::world::{Outside, leaves, wanted};
+use ax_samples::octets;
+use std::alloc::{AllocError, Global};
+use std::test::Fail;
+
+// The words, the lines, the exit status, the output and the report. Each input is read to its end.
+const LINES: [(&str, &str, u8, &str, &str); 27] = [
+    ("build 048", "", 0, "", ""),
+    (
+        "build 048",
+        "block 048 { record { 010 { SAC 25 SIC 12 } } }",
+        0,
+        "30 00 06 80 19 0C",
+        "",
+    ),
+    (
+        "build 048",
+        "block 048 { record { 010 { SAC 256 SIC 12 } } }",
+        3,
+        "",
+        "refused line 0 BadToken token 8\n",
+    ),
+    (
+        "build 048",
+        "\nblock 048 { record { 010 { SAC 256 SIC 12 } } }\n",
+        3,
+        "",
+        "refused line 1 BadToken token 8\n",
+    ),
+    (
+        "build 048",
+        "block 048 { record { 010 { SAC 025 SIC 12 } } }\n",
+        3,
+        "",
+        "refused line 0 BadToken token 8\n",
+    ),
+    (
+        "build 048",
+        "block 048 { record { 010 { SIC 12 SAC 25 } } }",
+        3,
+        "",
+        "refused line 0 BadToken token 7\n",
+    ),
+    (
+        "build 048",
+        "block 048 { record { 140 1 010 { SAC 1 SIC 1 } } }",
+        3,
+        "",
+        "refused line 0 BadToken token 7\n",
+    ),
+    (
+        "build 048",
+        "block 048 { record { 140 1 140 1 } }",
+        3,
+        "",
+        "refused line 0 BadToken token 7\n",
+    ),
+    (
+        "build 048",
+        "block 048 { record { SP \"AA\" } }",
+        3,
+        "",
+        "refused line 0 BadToken token 6\n",
+    ),
+    (
+        "build 048",
+        "block 048 { record { } } x",
+        3,
+        "",
+        "refused line 0 BadToken token 7\n",
+    ),
+    (
+        "build 048",
+        "block 048 { }",
+        3,
+        "",
+        "refused line 0 BadToken token 3\n",
+    ),
+    (
+        "build 048",
+        "block 048 { record {",
+        3,
+        "",
+        "refused line 0 BadToken token 5\n",
+    ),
+    (
+        "build 048",
+        "block 048 { record { 161 { spare 16 TRN 42 } } }",
+        3,
+        "",
+        "refused line 0 BadToken token 8\n",
+    ),
+    (
+        "build 048",
+        "block 048 { record { 161 { TRN 42 } } }",
+        3,
+        "",
+        "refused line 0 BadToken token 7\n",
+    ),
+    // What `text` writes for these octets.
+    (
+        "build 048",
+        "block 048 { record { 010 { SAC 25 SIC 12 } } record { 010 { SAC 26 SIC 12 } } record { 010 { SAC 25 SIC 13 } } }\n",
+        0,
+        "30 00 0C 80 19 0C 80 1A 0C 80 19 0D",
+        "",
+    ),
+    ("build A", "opaque 062 \"80ff\"", 0, "3E 00 05 80 FF", ""),
+    (
+        "build A",
+        "opaque 034 \"00\"",
+        3,
+        "",
+        "refused line 0 BadToken token 1\n",
+    ),
+    (
+        "build A",
+        "block 062 { record { } }",
+        3,
+        "",
+        "refused line 0 BadToken token 1\n",
+    ),
+    (
+        "build A",
+        "opaque 062 \"\"",
+        3,
+        "",
+        "refused line 0 BadToken token 2\n",
+    ),
+    (
+        "build A",
+        "opaque 062 \"8G\"",
+        3,
+        "",
+        "refused line 0 BadToken token 2\n",
+    ),
+    // Comments and carriage returns are no tokens. Neither their lines nor empty ones give a block, and they are counted.
+    (
+        "build A 048",
+        "# a comment\r\n\r\nblock 048 { record { } } # another\r\n\nopaque 062 \"01\"\r\n",
+        0,
+        "30 00 04 00 3E 00 04 01",
+        "",
+    ),
+    (
+        "build A 048",
+        "# a comment\r\n\r\nblock 048 { record { } }\r\n\nopaque 048 \"01\"\r\n",
+        3,
+        "30 00 04 00",
+        "refused line 4 BadToken token 1\n",
+    ),
+    // An octet that no token begins with, in a line without a token, and a string that the line's end leaves open.
+    (
+        "build A",
+        "opaque 062 \"01\"\n \u{7f}",
+        3,
+        "3E 00 04 01",
+        "refused line 1 BadByte at 1\n",
+    ),
+    (
+        "build A",
+        "opaque 062 \"01\nopaque 062 \"01\"",
+        3,
+        "",
+        "refused line 0 BadByte at 14\n",
+    ),
+    // Twenty braces may stand open, however wrong the text is, and one more may not.
+    (
+        "build A",
+        "{{{{{{{{{{{{{{{{{{{{",
+        3,
+        "",
+        "refused line 0 BadToken token 0\n",
+    ),
+    (
+        "build A",
+        "opaque 062 \"01\"\n{{{{{{{{{{{{{{{{{{{{{",
+        3,
+        "3E 00 04 01",
+        "refused line 1 TooDeep token 20\n",
+    ),
+    ("build", "opaque 062 \"01\"", 1, "", "refused usage\n"),
+];
+
+#[test]
+fn blocks_of_lines(rt: HostRuntime) -> Result<(), Fail> {
+    let alloc = rt.alloc();
+    for (words, lines, status, out, report) in LINES {
+        let left = if status == 1 { lines.len() } else { 0 };
+        let want = wanted(alloc, status, &octets(alloc, out)?, report, left)?;
+        leaves(&rt, alloc, words, lines.as_bytes(), Outside::Sound, want)?;
+    }
+    Ok(())
+}
+
+// A front, so many times a piece, and an end.
+fn repeated(
+    alloc: Global,
+    front: &[u8],
+    count: u32,
+    piece: &[u8],
+    end: &[u8],
+) -> Result<Vec<u8>, AllocError> {
+    let mut made = front.to_vec(alloc)?;
+    for _ in 0..count {
+        made.extend_from_slice(piece)?;
+    }
+    made.extend_from_slice(end)?;
+    Ok(made)
+}
+
+// A front, the count of a piece, the piece, an end, the exit status, the output, the report, and what is left of the input.
+const LONG: [(&[u8], u32, &[u8], &[u8], &[u8], &str, usize); 4] = [
+    (
+        b"block 048 {",
+        65_533,
+        b" record { }",
+        b" }",
+        b"",
+        "refused line 0 TooLong 65536\n",
+        0,
+    ),
+    (
+        b"opaque 062 \"",
+        65_533,
+        b"00",
+        b"\"",
+        b"",
+        "refused line 0 TooLong 65536\n",
+        0,
+    ),
+    (
+        b"",
+        16_777_217,
+        b" ",
+        b"",
+        b"",
+        "refused line 0 LineTooLong\n",
+        0,
+    ),
+    (
+        b"block 048 { record { } }\n",
+        16_777_217,
+        b" ",
+        b"",
+        b"\x30\x00\x04\x00",
+        "refused line 1 LineTooLong\n",
+        0,
+    ),
+];
+
+#[test]
+fn blocks_and_lines_that_are_too_long(rt: HostRuntime) -> Result<(), Fail> {
+    let alloc = rt.alloc();
+    for (front, count, piece, end, out, report, left) in LONG {
+        let input = repeated(alloc, front, count, piece, end)?;
+        let want = wanted(alloc, 3, out, report, left)?;
+        leaves(&rt, alloc, "build 048", &input, Outside::Sound, want)?;
+    }
+    Ok(())
+}
+
+const THREE_LINES: &str = "opaque 062 \"80ff\"\n\nopaque 063 \"00\"\n";
+
+// What is written where so many octets of these lines came, one a call, and the next read failed: the blocks of the lines
+// whose line feed came.
+const WRITTEN: [(usize, usize, &[u8]); 3] = [
+    (0, 18, b""),
+    (18, 35, b"\x3e\x00\x05\x80\xff"),
+    (35, 36, b"\x3e\x00\x05\x80\xff\x3f\x00\x04\x00"),
+];
+
+#[test]
+fn a_failing_read_keeps_the_lines_before_it(rt: HostRuntime) -> Result<(), Fail> {
+    let alloc = rt.alloc();
+    for (from, to, out) in WRITTEN {
+        for call in from..to {
+            let want = wanted(alloc, 4, out, "fault read\n", THREE_LINES.len() - call)?;
+            let outside = Outside::OctetRead(call as u64);
+            leaves(&rt, alloc, "build A", THREE_LINES.as_bytes(), outside, want)?;
+        }
+    }
+    Ok(())
+}
+
+// Each block is one piece: of two blocks a second failing write leaves the first.
+#[test]
+fn a_block_is_one_piece(rt: HostRuntime) -> Result<(), Fail> {
+    let alloc = rt.alloc();
+    let want = wanted(alloc, 4, b"\x3e\x00\x05\x80\xff", "fault write\n", 0)?;
+    leaves(&rt, alloc, "build A", THREE_LINES.as_bytes(), Outside::Write(1), want)
+}

@@ -243,9 +243,9 @@ blocks_read k input i o r end count is (inr (for_memory e s)) = absurd (let x : 
 
 lines_read : (catalogue : List SpecTree) (input : List ℕ) (i : SourceChange) (o : SinkChange) (end : LinesEnd TextFault) (count : ℕ) → end ≡ LinesEndOf.Done count → OfLines.ToldRun (build_command catalogue) longest_line longest_input input i.left' o end → i.left' ≡ Some []
 lines_read catalogue input i o end count is (inl a) = a.read count is
-lines_read catalogue input i o end count is (inr (OfLines.reading e s)) = absurd (let x : LinesEndOf.Done {F = TextFault} count ≡ LinesEndOf.ReadFault = sym is ∙ e in cc)
-lines_read catalogue input i o end count is (inr (OfLines.writing e s)) = absurd (let x : LinesEndOf.Done {F = TextFault} count ≡ LinesEndOf.WriteFault = sym is ∙ e in cc)
-lines_read catalogue input i o end count is (inr (OfLines.for_memory e s)) = absurd (let x : LinesEndOf.Done {F = TextFault} count ≡ LinesEndOf.OutOfMemory = sym is ∙ e in cc)
+lines_read catalogue input i o end count is (inr (OfLines.reading e s)) = absurd (let x : ◌≡◌ {A = LinesEnd TextFault} (LinesEndOf.Done count) LinesEndOf.ReadFault = sym is ∙ e in cc)
+lines_read catalogue input i o end count is (inr (OfLines.writing e s)) = absurd (let x : ◌≡◌ {A = LinesEnd TextFault} (LinesEndOf.Done count) LinesEndOf.WriteFault = sym is ∙ e in cc)
+lines_read catalogue input i o end count is (inr (OfLines.for_memory e s)) = absurd (let x : ◌≡◌ {A = LinesEnd TextFault} (LinesEndOf.Done count) LinesEndOf.OutOfMemory = sym is ∙ e in cc)
 
 job_reads : (job : Job) (input : List ℕ) (i : SourceChange) (o r : SinkChange) (outcome : Outcome) (count : ℕ) → AreOctets input → i.left ≡ Some input → ReadsInput job → outcome ≡ Done count → JobRuns job i o r outcome → i.left' ≡ Some []
 job_reads (writes text) input i o r outcome count octets left reads done h = absurd reads

@@ -290,5 +290,12 @@ fn a_failing_read_keeps_the_lines_before_it(rt: HostRuntime) -> Result<(), Fail>
 fn a_block_is_one_piece(rt: HostRuntime) -> Result<(), Fail> {
     let alloc = rt.alloc();
     let want = wanted(alloc, 4, b"\x3e\x00\x05\x80\xff", "fault write\n", 0)?;
-    leaves(&rt, alloc, "build A", THREE_LINES.as_bytes(), Outside::Write(1), want)
+    leaves(
+        &rt,
+        alloc,
+        "build A",
+        THREE_LINES.as_bytes(),
+        Outside::Write(1),
+        want,
+    )
 }

@@ -21,7 +21,7 @@ pub returns-in-Ok-clause-runs : goal.returns-in-Ok-clause-runs
 returns-in-Ok-clause-runs g c =
     before_input c.in-Err-do_job.stop
     (record { what = asked c.in-Some.command; shape = subst (λ words. HasShape (map string_bytes words) (asked c.in-Some.command)) c.deref.ensures.value c.in-Some.ensures; specs = _; give = c.in-Ok.ensures.gives; stopped = c.in-Err-do_job.ensures.stopped })
-    c.from-in-Err-do_job.ensures c.in-Err-do_job.ensures.idle
+    c.from.ensures c.in-Err-do_job.ensures.idle
 
 pub returns-clause-runs : goal.returns-clause-runs
 returns-clause-runs g c =

@@ -14,6 +14,7 @@ mod matching;
 mod numbers;
 mod passing;
 mod paths;
+mod places;
 mod reading;
 mod resolving;
 mod standing;

@@ -1,2 +1,4 @@
+pub mod FilterBlocks
 pub mod Made
+pub mod MatchingRecords
 pub mod Written

@@ -3,6 +3,9 @@
 
 mod laws;
 mod maker;
+mod output;
+mod views;
 
 pub use laws::filter_writes_matching_records;
 pub use maker::FilterMaker;
+pub use views::FilterViews;

@@ -10,7 +10,6 @@ mod faults;
 mod filter;
 mod holding;
 pub mod laws;
-mod matching;
 mod numbers;
 mod passing;
 mod paths;

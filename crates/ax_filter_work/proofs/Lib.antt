@@ -1,4 +1,3 @@
 pub mod FilterBlocks
-pub mod Made
 pub mod MatchingRecords
 pub mod Written

@@ -1,6 +1,8 @@
 //! The commands, over the specifications of their files.
 ghost use Rattle.std.specs.Prelude.{◌≡◌, ◌≤◌, List, ℕ, [], ◌∷◌, IsTrue, IfOk, IfErr, OnErr, map};
 ghost use Rattle.ax_command.specs.declared.words.Verb.TheVariants.{Check, Canon, Filter, Migrate};
+ghost use Rattle.ax_filter.specs.OfCode.{catalogue_of, expression};
+ghost use Rattle.ax_filter_work.specs.FilterCommand.{filter_command};
 ghost use Rattle.ax_grammar.specs.InRange.{AreNumbersInRange};
 ghost use Rattle.ax_model.specs.Plain.{spec_tree, catalogue_tree};
 ghost use Rattle.ax_model.specs.Specification.{SpecTree};
@@ -9,7 +11,7 @@ ghost use Rattle.std.specs.String.{string_bytes};
 ghost use Rattle.ax_command.specs.declared.outcome.JobStop.{JobStop};
 ghost use Rattle.ax_command.specs.declared.outcome.JobStop.TheVariants.{OutOfMemory};
 ghost use Rattle.ax_stream.specs.Streams.{IsIdle};
-ghost use Rattle.ax_app.specs.Jobs.{IsReady, IsReadyToFilter, IsStopped, RunsJob, TextEnds, check_text, takes_distinct};
+ghost use Rattle.ax_app.specs.Jobs.{BlocksRun, IsReady, IsReadyToFilter, IsStopped, RunsJob, TextEnds, check_text, takes_distinct};
 ghost use Rattle.ax_app.specs.Loaded.{specs_of, IsLoadedFor};
 
 use crate::loading::Loaded;
@@ -19,7 +21,7 @@ use ax_check::{Accepted, Catalogue};
 use ax_command::{JobStop, Outcome, Refusal, Verb, line_of};
 use ax_edition::{RelateError, relate};
 use ax_filter::{FilterStop, read_expression};
-use ax_filter_work::FilterMaker;
+use ax_filter_work::FilterViews;
 use ax_grammar::print_spec;
 use ax_migrate_work::MigrateWork;
 use ax_model::Spec;
@@ -83,6 +85,32 @@ fn canon<S: Source, K: Sink, R: Sink>(
     Ok(Outcome::from(run_blocks(alloc, &mut work, source, out, report)))
 }
 
+/// The records of each block that a filter over the catalogue holds of. All memory is taken before the input is read.
+fn filter_blocks<S: Source, K: Sink, R: Sink>(
+    alloc: Global,
+    filter: &ax_filter::Filter<'_>,
+    catalogue: &Catalogue,
+    source: &mut S,
+    out: &mut K,
+    report: &mut R,
+) -> Result<Outcome, JobStop>
+    requires { catalogue_of filter.now ≡ catalogue_tree catalogue.now }
+    ensures runs { IfOk result (BlocksRun (filter_command (expression filter.now) (catalogue_tree catalogue.now)) (source_change S.Source source.old source.new) (sink_change K.Sink out.old out.new) (sink_change R.Sink report.old report.new)) }
+    ensures memory { IfErr result (λ stop. stop ≡ OutOfMemory) }
+    ensures idle { OnErr result (IsIdle (source_change S.Source source.old source.new) (sink_change K.Sink out.old out.new) (sink_change R.Sink report.old report.new)) }
+    ensures source_later { S.faults source.old ≤ S.faults source.new }
+    ensures out_later { K.faults out.old ≤ K.faults out.new }
+    ensures report_later { R.faults report.old ≤ R.faults report.new }
+{
+    let Ok(codecs) = Codecs::compile(alloc, catalogue) else {
+        return Err(JobStop::OutOfMemory);
+    };
+    let Ok(mut work) = FilterViews::new(alloc, filter, &codecs) else {
+        return Err(JobStop::OutOfMemory);
+    };
+    Ok(Outcome::from(run_blocks(alloc, &mut work, source, out, report)))
+}
+
 /// `filter`: the records of each block that the expression holds of, or the refusal of the expression.
 #[tactic(auto, using(crate::proofs::Filters::filter_jobs))]
 fn filter<S: Source, K: Sink, R: Sink>(
@@ -105,10 +133,7 @@ fn filter<S: Source, K: Sink, R: Sink>(
         unreachable!()
     };
     match read_expression(alloc, expression.as_bytes(), catalogue) {
-        Ok(filter) => {
-            let mut work = TreeWork::new(alloc, catalogue, FilterMaker { filter: &filter });
-            Ok(Outcome::from(run_blocks(alloc, &mut work, source, out, report)))
-        }
+        Ok(filter) => filter_blocks(alloc, &filter, catalogue, source, out, report),
         Err(FilterStop::Refused(fault)) => Err(JobStop::Refused(Refusal::FilterRefused { fault })),
         Err(FilterStop::OutOfMemory) => Err(JobStop::OutOfMemory),
     }

@@ -13,6 +13,5 @@ pub mod Truth
 pub mod PlaceValues
 pub mod TestLists
 pub mod Signs
-pub mod Kept
 pub mod Once
 pub mod TextStops

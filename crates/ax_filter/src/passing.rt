@@ -1,33 +1,32 @@
 //! Whether a test holds of a record. Nothing here takes memory.
 ghost use Rattle.std.specs.Prelude.{◌≡◌, map, option_and_then};
-ghost use Rattle.ax_model.specs.Plain.{record_tree};
 ghost use Rattle.ax_model.specs.At.{is_present};
 ghost use Rattle.ax_filter.specs.Meaning.{compares, some_passes};
 ghost use Rattle.ax_filter.specs.Tests.{test_tree, tests_of, number_for, passes, all_pass, any_passes};
 
 use crate::comparing::compares_as;
 use crate::expr::Op;
-use crate::standing::{is_present, number_at};
+use crate::places::Places;
 use crate::test::{Element, Test, Tests};
-use ax_model::{Place, Record};
+use ax_model::Place;
 
-fn stands(place: &Option<Place>, one: &Record) -> bool
-    ensures { result ≡ some_passes (is_present (record_tree one.now)) place.now }
+fn stands<R: Places>(place: &Option<Place>, one: &R) -> bool
+    ensures { result ≡ some_passes (is_present (R.entries one.now)) place.now }
 {
     match place {
-        Some(place) => is_present(one, place),
+        Some(place) => one.has(place),
         None => false,
     }
 }
 
 /// Whether the element's number compares so with the other one. It doesn't where it is absent.
-fn measures(element: &Option<Element>, op: Op, other: i128, one: &Record) -> bool
-    ensures { result ≡ some_passes (λ n. compares op n other) (option_and_then (number_for (record_tree one.now)) element.now) }
+fn measures<R: Places>(element: &Option<Element>, op: Op, other: i128, one: &R) -> bool
+    ensures { result ≡ some_passes (λ n. compares op n other) (option_and_then (number_for (R.entries one.now)) element.now) }
 {
     let Some(element) = element else {
         return false;
     };
-    match number_at(one, &element.place) {
+    match one.number_at(&element.place) {
         Some(number) => compares_as(op, number, element.signed, element.width, other),
         None => false,
     }
@@ -36,8 +35,8 @@ fn measures(element: &Option<Element>, op: Op, other: i128, one: &Record) -> boo
 /// Whether each of the tests holds.
 #[cycle(pass)]
 #[tactic(auto, using(crate::proofs::TestLists::alls))]
-fn all_pass(tests: &Tests, category: u8, one: &Record) -> bool
-    ensures { result ≡ all_pass category (record_tree one.now) (tests_of (map test_tree tests.now)) }
+fn all_pass<R: Places>(tests: &Tests, category: u8, one: &R) -> bool
+    ensures { result ≡ all_pass category (R.entries one.now) (tests_of (map test_tree tests.now)) }
 {
     for test in tests.as_slice() {
         if !passes(test, category, one) {
@@ -50,8 +49,8 @@ fn all_pass(tests: &Tests, category: u8, one: &Record) -> bool
 /// Whether some of the tests holds.
 #[cycle(pass)]
 #[tactic(auto, using(crate::proofs::TestLists::anys))]
-fn any_passes(tests: &Tests, category: u8, one: &Record) -> bool
-    ensures { result ≡ any_passes category (record_tree one.now) (tests_of (map test_tree tests.now)) }
+fn any_passes<R: Places>(tests: &Tests, category: u8, one: &R) -> bool
+    ensures { result ≡ any_passes category (R.entries one.now) (tests_of (map test_tree tests.now)) }
 {
     for test in tests.as_slice() {
         if passes(test, category, one) {
@@ -64,8 +63,8 @@ fn any_passes(tests: &Tests, category: u8, one: &Record) -> bool
 /// Whether the test holds of a record of that category.
 #[cycle(pass)]
 #[tactic(auto, using(crate::proofs::Trees::passing))]
-pub fn passes(test: &Test, category: u8, one: &Record) -> bool
-    ensures { result ≡ passes category (record_tree one.now) (test_tree test.now) }
+pub fn passes<R: Places>(test: &Test, category: u8, one: &R) -> bool
+    ensures { result ≡ passes category (R.entries one.now) (test_tree test.now) }
 {
     match test {
         Test::All(tests) => all_pass(tests, category, one),

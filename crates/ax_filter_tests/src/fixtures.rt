@@ -1,11 +1,15 @@
 //! Catalogues, filters and blocks, read from texts.
+use ax_bits::Out;
+use ax_canon::canonical_if;
 use ax_check::{Accepted, Catalogue, accept};
 use ax_filter::{Filter, FilterFault, FilterStop, read_expression};
 use ax_grammar::read_spec;
-use ax_model::{RawBlock, fits};
+use ax_model::{Block, RawBlock, Spec};
 use ax_samples::octets;
+use ax_tables::compile;
 use ax_tokens::tokens;
-use ax_values::{decode_block, encode_block};
+use ax_values::decode_block;
+use ax_view::{BlockView, RecordView, scan};
 use std::alloc::Global;
 use std::process::Abort;
 use std::test::Fail;
@@ -48,6 +52,27 @@ pub(crate) fn fault_of(
     }
 }
 
+/// How many records of the block the filter holds of, as trees.
+fn matching_trees(filter: &Filter<'_>, spec: &Spec, block: &Block) -> usize {
+    match block {
+        Block::Read { records, .. } => records
+            .as_slice()
+            .iter()
+            .filter(|one| filter.holds_tree(spec, one))
+            .count(),
+        Block::Opaque { .. } => 0,
+    }
+}
+
+/// How many records of a block of that category the filter holds of, as views.
+fn matching_views(filter: &Filter<'_>, category: u8, view: &BlockView<'_, '_>) -> usize {
+    view.records()
+        .filter(|one| filter.holds(category, one))
+        .count()
+}
+
+/// The canonical block of the records that the filter holds of; no octets where it holds of none. Trees and views agree on
+/// how many these are.
 fn filtered(
     rt: &impl Abort,
     alloc: Global,
@@ -59,13 +84,31 @@ fn filtered(
     assert!(rt; block.len() <= 65_535);
     let category = block[0];
     let body = &block[3..];
-    let spec = catalogue.get(category).ok_or("no specification")?.spec();
-    let read = decode_block(alloc, spec, &RawBlock { category, body })?;
-    assert!(rt; fits(spec, &read));
-    match filter.matching(alloc, spec, &read)? {
-        Some(matching) => Ok(encode_block(alloc, spec, &matching)?),
-        None => Ok(Vec::new(alloc)),
-    }
+    let accepted = catalogue.get(category).ok_or("no specification")?;
+    let read = decode_block(alloc, accepted.spec(), &RawBlock { category, body })?;
+    let codec = compile(alloc, accepted)?;
+    let Ok(view) = scan(&codec, body) else {
+        return Err(Fail::from("no records"));
+    };
+    let matching = matching_views(filter, category, &view);
+    assert_eq!(rt; matching, matching_trees(filter, accepted.spec(), &read));
+    kept(rt, alloc, filter, category, &view)
+}
+
+/// The canonical block of the records of a view that the filter holds of.
+fn kept(
+    rt: &impl Abort,
+    alloc: Global,
+    filter: &Filter<'_>,
+    category: u8,
+    view: &BlockView<'_, '_>,
+) -> Result<Vec<u8>, Fail> {
+    let mut output = vec![in alloc; 0; view.octets().len() + 3]?;
+    let holds = |one: &RecordView<'_, '_>| filter.holds(category, one);
+    let mut out = Out::over(&mut output);
+    let count = canonical_if(view, holds, &mut out) as usize;
+    assert!(rt; count <= output.len());
+    Ok(Vec::from_slice(alloc, &output[..count])?)
 }
 
 /// Asserts that of a block the records that the expression holds of make this one, in canonical form; no octets where it

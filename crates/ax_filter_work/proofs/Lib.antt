@@ -1,2 +1,3 @@
-pub mod Made
+pub mod FilterBlocks
+pub mod MatchingRecords
 pub mod Written

@@ -1,1 +1,2 @@
 pub mod FilterCommand
+pub mod Laid

@@ -2,7 +2,8 @@
 #![tactic(auto)]
 
 mod laws;
-mod maker;
+mod output;
+mod views;
 
 pub use laws::filter_writes_matching_records;
-pub use maker::FilterMaker;
+pub use views::FilterViews;

@@ -1,11 +1,14 @@
 -- A record's octets alone.
-use Rattle.std.proofs.Common.{ℕ, ◌-◌, ◌≤◌, Bool, List, length, take, drop, subst, sym, arith, length-drop, refl}
-use Rattle.std.proofs.lemmas.List.{length-take-le}
+use Rattle.std.proofs.Common.{ℕ, ◌≡◌, ◌-◌, ◌≤◌, Bool, IsTrue, List, length, take, drop, subst, sym, ap, ◌∙◌, arith, length-drop, refl}
+use Rattle.std.proofs.lemmas.List.{length-take-le, append_cancel_right}
+use Rattle.ax_bits.specs.Bits.{bits}
 use Rattle.ax_model.specs.Canonical.{canon}
 use Rattle.ax_tables.specs.Table.{record_kind_at}
 use Rattle.ax_tables.specs.declared.codec.Codec.{Codec}
+use Rattle.ax_reader.proofs.AtOctets.{octets_parts}
 use Rattle.ax_reader.specs.Reading.{Gets, kind_read}
 use Rattle.ax_view.proofs.Found.{alone}
+use Rattle.ax_view.specs.Noted.{IsLeastRecord}
 use Rattle.ax_view.specs.RecordsAt.{IsRecordAt}
 use Rattle.ax_view.specs.Values.{IsOne}
 use Rattle.ax_view.specs.Walking.{Walks}
@@ -22,3 +25,9 @@ module _ (codec : Codec) (body : List ℕ) (at end : ℕ) (least : Bool) (w : Wa
     all = (alone (record_kind_at codec.nodes codec.slots) body at end w.value codec.records.bounds w.read).all;
     few = omega (arith, w.read.forwards, w.read.within, few, length-drop at body, length-take-le (end - at) (drop at body) (omega (arith, length-drop at body, w.read.within)));
   }
+
+  pub record_least : IsLeastRecord codec (take (end - at) (drop at body)) least
+  record_least said =
+      let x = bits (take (end - at) (drop at body)) in
+      ap (canon (record_kind_at codec.nodes codec.slots)) (alone (record_kind_at codec.nodes codec.slots) body at end w.value codec.records.bounds w.read).value
+      ∙ append_cancel_right (canon (record_kind_at codec.nodes codec.slots) w.value) x (bits (drop end body)) (w.canonical said ∙ octets_parts body at end w.read.forwards)

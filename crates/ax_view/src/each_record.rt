@@ -1,7 +1,10 @@
 //! The next record of a body.
 ghost use Rattle.std.specs.Prelude.{◌≡◌, ◌≤◌, length, IfSome, IfNone};
 ghost use Rattle.std.specs.Iterator.{YieldsFirstBy, item_count};
+ghost use Rattle.ax_reader.specs.Reading.{FailsAt, kind_read};
+ghost use Rattle.ax_tables.specs.Table.{record_kind_at};
 ghost use Rattle.ax_view.specs.Left.{record_shown, records_left};
+ghost use Rattle.ax_view.specs.Noted.{IsLeastRecord};
 ghost use Rattle.ax_view.specs.RecordsAt.{IsRecordAt, IsNoRecord};
 
 use crate::notes::Notes;
@@ -24,7 +27,26 @@ pub fn record_at<'c, 'a>(
     ensures none { IfNone result (IsNoRecord codec.now body.now at) }
 {
     let mut notes = Notes::new();
-    let Some(end) = walk_record(codec, body, at, &mut notes) else {
+    record_noted(codec, body, at, &mut notes)
+}
+
+/// The same, and what the walk over the record noted: the fault where none can be read there; else, in notes that were new,
+/// whether its octets are its canonical spelling.
+#[inline]
+pub fn record_noted<'c, 'a>(
+    codec: &'c Codec,
+    body: &'a [u8],
+    at: u32,
+    notes: &mut Notes,
+) -> Option<(RecordView<'c, 'a>, u32)>
+    requires body { length body.now ≤ 65532 }
+    requires at { at ≤ length body.now }
+    ensures some { IfSome result (λ r. IsRecordAt codec.now body.now at r.1 r.0.body.now) }
+    ensures codec { IfSome result (λ r. r.0.codec.now ≡ codec.now) }
+    ensures least { IfSome result (λ r. IsLeastRecord codec.now r.0.body.now notes.new.least) }
+    ensures fault { IfNone result (FailsAt (kind_read (record_kind_at codec.now.nodes codec.now.slots) body.now at) at notes.new.fault) }
+{
+    let Some(end) = walk_record(codec, body, at, notes) else {
         return None;
     };
     let record = RecordView {

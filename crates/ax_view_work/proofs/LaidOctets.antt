@@ -33,7 +33,7 @@ begins codec body n old new none h spec records clean stands spells =
 pub view_laid : (codec : Codec) (body : List ℕ) (n : ℕ) (old new : Out) → written old ≡ [] → IsCanonical codec body n old new → LaysBits codec body n (bits new.buffer.now)
 view_laid codec body n old new none h = record { begins = begins codec body n old new none h }
 
-octets_front : (n : ℕ) (xs : List ℕ) → AreOctets xs → AreOctets (take n xs)
+pub octets_front : (n : ℕ) (xs : List ℕ) → AreOctets xs → AreOctets (take n xs)
 octets_front zero xs h = tt
 octets_front (suc n) [] h = tt
 octets_front (suc n) (x ∷ xs) h = (h.0, octets_front n xs h.1)

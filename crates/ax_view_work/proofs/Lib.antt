@@ -1,2 +1,3 @@
 pub mod CanonBlocks
+pub mod CodecsOf
 pub mod LaidOctets

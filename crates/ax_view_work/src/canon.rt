@@ -4,7 +4,7 @@ ghost use Rattle.ax_model.specs.Plain.{catalogue_tree};
 ghost use Rattle.ax_stream.specs.BlockCommands.{canon_command};
 ghost use Rattle.ax_tables.specs.Standing.{StandForEach};
 
-use crate::output::{LONGEST, lay_canonical, lay_opaque, zeros};
+use crate::output::{blank_output, lay_canonical, lay_opaque};
 use ax_check::Catalogue;
 use ax_model::RawBlock;
 use ax_outside::Sink;
@@ -36,7 +36,7 @@ impl<'c> CanonViews<'c> {
         ensures command { IfOk result (λ work. ⟦<CanonViews<'c> as BlockWork>⟧.command work ≡ canon_command (catalogue_tree catalogue.now)) }
         ensures sound { IfOk result (λ work. ⟦<CanonViews<'c> as BlockWork>⟧.sound work) }
     {
-        let output = zeros(alloc, LONGEST)?;
+        let output = blank_output(alloc)?;
         Ok(CanonViews {
             catalogue,
             codecs,

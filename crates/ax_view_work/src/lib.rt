@@ -5,3 +5,4 @@ mod canon;
 mod output;
 
 pub use canon::CanonViews;
+pub use output::blank_output;

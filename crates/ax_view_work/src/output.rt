@@ -14,10 +14,17 @@ use ax_view::{BlockView, scan};
 use std::alloc::{AllocError, Global};
 
 /// The most octets of a data block.
-pub(crate) const LONGEST: usize = 65_535;
+const LONGEST: usize = 65_535;
+
+/// An output as long as the longest data block.
+pub fn blank_output(alloc: Global) -> Result<Vec<u8>, AllocError>
+    ensures { IfOk result (λ made. length made.items ≡ 65535) }
+{
+    zeros(alloc, LONGEST)
+}
 
 /// So many zeros. They stand in a function of their own, so that no proof spells them out.
-pub(crate) fn zeros(alloc: Global, count: usize) -> Result<Vec<u8>, AllocError>
+fn zeros(alloc: Global, count: usize) -> Result<Vec<u8>, AllocError>
     ensures { IfOk result (λ made. length made.items ≡ count) }
 {
     vec![in alloc; 0; count]

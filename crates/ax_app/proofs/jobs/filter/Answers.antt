@@ -11,8 +11,8 @@ use Rattle.ax_app.proofs.jobs.filter.Goals as goal
 
 pub returns-in-Ok-clause-runs : goal.returns-in-Ok-clause-runs
 returns-in-Ok-clause-runs g c =
-    filter_runs _ (string_bytes c.in-Some.expression.now) _ (ap (map string_bytes) c.in-Some.ensures.cases.0) c.requires _ _ (expression c.in-Ok.filter) _ _ _ _ _ _
-    (subst (λ t. IsFilterText (catalogue_tree c.args.catalogue.now) t (expression c.in-Ok.filter)) c.as_bytes.ensures.value c.in-Ok.ensures.filter) c.in-Ok.ensures.over c.new-work.ensures c.run_blocks.ensures.runs c.from.ensures
+    filter_runs _ (string_bytes c.in-Some.expression.now) _ (ap (map string_bytes) c.in-Some.ensures.cases.0) c.requires (catalogue_tree c.args.catalogue.now) (expression c.in-Ok.filter) _ _ _ c.filter_blocks.result
+    (subst (λ t. IsFilterText (catalogue_tree c.args.catalogue.now) t (expression c.in-Ok.filter)) c.as_bytes.ensures.value c.in-Ok.ensures.filter) c.filter_blocks.ensures.runs
 
 pub returns-in-Err-Refused-clause-stopped : goal.returns-in-Err-Refused-clause-stopped
 returns-in-Err-Refused-clause-stopped g c =

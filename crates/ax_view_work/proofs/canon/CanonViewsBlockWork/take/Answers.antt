@@ -1,6 +1,7 @@
 use Rattle.std.proofs.Common.{◌∙◌, ap, length, arith, sym}
 use Rattle.std.specs.Option.{option_copied}
-use Rattle.ax_view_work.proofs.CanonBlocks.{canon_laid, canon_within, canon_fails, opaque_laid, found_category, in_place}
+use Rattle.ax_view_work.proofs.CanonBlocks.{canon_laid, canon_within, canon_fails, opaque_laid, in_place}
+use Rattle.ax_view_work.proofs.CodecsOf.{found_category}
 use Rattle.ax_view_work.proofs.canon.CanonViewsBlockWork.take.Goals as goal
 
 pub lay_canonical-requires-clause-category : goal.lay_canonical-requires-clause-category

@@ -1,0 +1,48 @@
+//! Records of which a filter asks what stands at their places.
+ghost use Rattle.std.specs.Prelude.{◌≡◌};
+ghost use Rattle.ax_model.specs.At.{is_present, At};
+ghost use Rattle.ax_model.specs.Plain.{record_tree};
+ghost use Rattle.ax_model.specs.Tree.{EntriesTree};
+ghost use Rattle.ax_view.specs.Shown.{record_entries};
+
+use crate::standing;
+use ax_model::{Place, Record};
+use ax_view::RecordView;
+
+/// A record, as far as a filter asks for it. Nothing here takes memory.
+pub trait Places {
+    // The record's entries.
+    ghost entries: { Self → EntriesTree };
+
+    /// Whether something stands at the place.
+    fn has(&self, place: &Place) -> bool
+        ensures { result ≡ is_present (entries self.now) place.now };
+
+    /// The number that stands at the place, if it is one.
+    fn number_at(&self, place: &Place) -> Option<u128>
+        ensures { result ≡ At (entries self.now) place.now };
+}
+
+impl Places for Record {
+    ghost entries = { λ one. record_tree one };
+
+    fn has(&self, place: &Place) -> bool {
+        standing::is_present(self, place)
+    }
+
+    fn number_at(&self, place: &Place) -> Option<u128> {
+        standing::number_at(self, place)
+    }
+}
+
+impl Places for RecordView<'_, '_> {
+    ghost entries = { λ one. record_entries one };
+
+    fn has(&self, place: &Place) -> bool {
+        self.present(place)
+    }
+
+    fn number_at(&self, place: &Place) -> Option<u128> {
+        self.number(place)
+    }
+}

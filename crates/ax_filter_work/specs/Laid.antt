@@ -1,0 +1,30 @@
+-- The blocks of matching records that stand at the front of an output.
+use Rattle.std.specs.Prelude.{◌≡◌, ℕ, ◌*◌, ◌≤◌, List, length, take}
+use Rattle.ax_bits.specs.Bits.{bits}
+use Rattle.ax_filter.specs.Matching.{filtered}
+use Rattle.ax_filter.specs.Tree.{ExprTree}
+use Rattle.ax_model.specs.Blocks.{read_block}
+use Rattle.ax_model.specs.Bodies.{SpellsBody}
+use Rattle.ax_model.specs.Flaws.{NoFlaw}
+use Rattle.ax_model.specs.Specification.{SpecTree}
+use Rattle.ax_model.specs.Tree.{EntriesTree}
+use Rattle.ax_tables.specs.Standing.{StandsFor}
+use Rattle.ax_tables.specs.declared.codec.Codec.{Codec}
+
+-- the bits begin with the canonical block, of so many octets, of those of the records that match
+pub record BeginsWithMatching (catalogue : List SpecTree) (e : ExprTree) (spec : SpecTree) (records : List EntriesTree) (count : ℕ) (output : List ℕ) : Type 0 where
+  pub laid : take (8 * count) output ≡ bits (filtered catalogue e spec (read_block spec.category records))
+  pub counted : count ≡ length (filtered catalogue e spec (read_block spec.category records))
+  pub within : count ≤ 65535
+
+-- of the records that the body spells, for each specification that the codec stands for
+pub record LaysMatchingBits (catalogue : List SpecTree) (e : ExprTree) (codec : Codec) (body : List ℕ) (count : ℕ) (output : List ℕ) : Type 0 where
+  pub begins : (spec : SpecTree) (records : List EntriesTree) → NoFlaw spec → StandsFor codec spec → SpellsBody spec records (bits body) → BeginsWithMatching catalogue e spec records count output
+
+-- so many octets of the output are that block
+pub record IsMatchingBlock (catalogue : List SpecTree) (e : ExprTree) (spec : SpecTree) (records : List EntriesTree) (count : ℕ) (output : List ℕ) : Type 0 where
+  pub laid : take count output ≡ filtered catalogue e spec (read_block spec.category records)
+  pub within : count ≤ 65535
+
+pub record LaysMatching (catalogue : List SpecTree) (e : ExprTree) (codec : Codec) (body : List ℕ) (count : ℕ) (output : List ℕ) : Type 0 where
+  pub block : (spec : SpecTree) (records : List EntriesTree) → NoFlaw spec → StandsFor codec spec → SpellsBody spec records (bits body) → IsMatchingBlock catalogue e spec records count output

@@ -1,0 +1,54 @@
+//! Blocks of matching records laid at the front of an output.
+ghost use Rattle.std.specs.Prelude.{◌≡◌, ◌≤◌, length, IfOk, IfErr};
+ghost use Rattle.ax_bits.specs.Bits.{bits};
+ghost use Rattle.ax_filter.specs.OfCode.{expression, catalogue_of};
+ghost use Rattle.ax_filter_work.specs.Laid.{LaysMatching, LaysMatchingBits};
+ghost use Rattle.ax_view.specs.Views.{FailsThere, SpellsSome};
+
+use ax_bits::Out;
+use ax_canon::scan_if;
+use ax_filter::Filter;
+use ax_model::BodyFault;
+use ax_tables::Codec;
+use ax_view::RecordView;
+
+/// Lays the canonical block of those records of a body of the codec's category that the filter holds of at the front of the
+/// output, and answers its octets, 0 where there is none; or the first fault of the body, with its bit in the body.
+pub(crate) fn lay_matching(
+    filter: &Filter<'_>,
+    codec: &Codec,
+    category: u8,
+    body: &[u8],
+    output: &mut [u8],
+) -> Result<u32, BodyFault>
+    requires size { (1 ≤ length body.now) × (length body.now ≤ 65532) }
+    requires room { length output.old ≡ 65535 }
+    requires category { codec.now.category ≡ category }
+    ensures spelled { IfOk result (λ count. SpellsSome codec.now body.now) }
+    ensures laid { IfOk result (λ count. LaysMatching (catalogue_of filter.now) (expression filter.now) codec.now body.now count output.new) }
+    ensures fault { IfErr result (λ fault. FailsThere codec.now body.now fault) }
+    ensures room { length output.new ≡ 65535 }
+{
+    lay_matching_bits(filter, codec, category, body, output)
+}
+
+/// The same, by bits.
+fn lay_matching_bits(
+    filter: &Filter<'_>,
+    codec: &Codec,
+    category: u8,
+    body: &[u8],
+    output: &mut [u8],
+) -> Result<u32, BodyFault>
+    requires size { (1 ≤ length body.now) × (length body.now ≤ 65532) }
+    requires room { length output.old ≡ 65535 }
+    requires category { codec.now.category ≡ category }
+    ensures spelled { IfOk result (λ count. SpellsSome codec.now body.now) }
+    ensures laid { IfOk result (λ count. LaysMatchingBits (catalogue_of filter.now) (expression filter.now) codec.now body.now count (bits output.new)) }
+    ensures fault { IfErr result (λ fault. FailsThere codec.now body.now fault) }
+    ensures room { length output.new ≡ 65535 }
+{
+    let matches = |one: &RecordView<'_, '_>| filter.holds(category, one);
+    let mut out = Out::over(output);
+    scan_if(codec, body, matches, &mut out)
+}

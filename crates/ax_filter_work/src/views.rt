@@ -1,0 +1,87 @@
+//! `filter` over views.
+ghost use Rattle.std.specs.Prelude.{◌≡◌, ◌≤◌, length, IfOk};
+ghost use Rattle.ax_filter.specs.OfCode.{expression, catalogue_of};
+ghost use Rattle.ax_filter_work.specs.FilterCommand.{filter_command};
+ghost use Rattle.ax_tables.specs.Standing.{StandForEach};
+
+use crate::output::lay_matching;
+use ax_filter::Filter;
+use ax_model::RawBlock;
+use ax_outside::Sink;
+use ax_stream::{BlockWork, WorkStop};
+use ax_tables::Codecs;
+use ax_view_work::blank_output;
+use std::alloc::{AllocError, Global};
+
+/// `filter` under the catalogue of a filter, by the codecs of its specifications: the canonical form of the records that
+/// the filter holds of. A block is judged, and its records are asked for and written, in one walk over its octets; what is
+/// written stands in one output, as long as the longest block.
+#[derive(Drop)]
+pub struct FilterViews<'f, 'c> {
+    filter: &'f Filter<'c>,
+    codecs: &'f Codecs,
+    output: Vec<u8>,
+    filled: u32,
+    ghost room: { length output.items ≡ 65535 },
+    ghost within: { filled ≤ 65535 },
+}
+
+impl<'f, 'c> FilterViews<'f, 'c> {
+    /// `filter` by that filter and the codecs of its catalogue. The output is taken here, and no memory after that.
+    pub fn new(
+        alloc: Global,
+        filter: &'f Filter<'c>,
+        codecs: &'f Codecs,
+    ) -> Result<FilterViews<'f, 'c>, AllocError>
+        requires { StandForEach codecs.now.codecs (catalogue_of filter.now) }
+        ensures command { IfOk result (λ work. ⟦<FilterViews<'f, 'c> as BlockWork>⟧.command work ≡ filter_command (expression filter.now) (catalogue_of filter.now)) }
+        ensures sound { IfOk result (λ work. ⟦<FilterViews<'f, 'c> as BlockWork>⟧.sound work) }
+    {
+        let output = blank_output(alloc)?;
+        Ok(FilterViews {
+            filter,
+            codecs,
+            output,
+            filled: 0,
+        })
+    }
+}
+
+impl<'f, 'c> BlockWork for FilterViews<'f, 'c> {
+    ghost use Rattle.std.specs.Prelude.{take, false};
+
+    ghost command = { λ s. filter_command (expression s.filter.now) (catalogue_of s.filter.now) };
+
+    ghost sound = { λ s. StandForEach s.codecs.now.codecs (catalogue_of s.filter.now) };
+
+    ghost laid = { λ s. take s.filled s.output.items };
+
+    ghost takes_memory = { false };
+
+    fn take<R: Sink>(
+        &mut self,
+        _number: u64,
+        raw: &RawBlock<'_>,
+        _report: &mut R,
+    ) -> Result<(), WorkStop> {
+        match self.codecs.get(raw.category) {
+            Some(codec) => {
+                match lay_matching(self.filter, codec, raw.category, raw.body, &mut self.output) {
+                    Ok(count) => {
+                        self.filled = count;
+                        Ok(())
+                    }
+                    Err(fault) => Err(WorkStop::Fault(fault)),
+                }
+            }
+            None => {
+                self.filled = 0;
+                Ok(())
+            }
+        }
+    }
+
+    fn octets(&self) -> &[u8] {
+        &self.output[..self.filled as usize]
+    }
+}

@@ -69,10 +69,6 @@ names_at (Some b) = refl
 names_agree : (m : ArgMatches) (o : Option Text) → o ≡ subcommand_name_of m → o ≡ option_map (λ (p : Pair). p.0) (subcommand_rows_of m)
 names_agree m o e = e ∙ names_at (out-ArgMatches m).subcommand
 
-pub rows_none : (o : Option Pair) → None ≡ option_map (λ (p : Pair). p.0) o → None ≡ o
-rows_none None e = refl
-rows_none (Some p) e = absurd cc
-
 -- ---- the answer
 
 -- what a parse that succeeds is known by
@@ -130,10 +126,6 @@ few_files Trial (w ∷ ws) lt = omega arith
 
 pub found_few : (words : List Text) (name : Text) (rows : List Row) → Found words name rows → HasFewFiles rows
 found_few words name rows x = subst HasFewFiles (sym x.rows_are) (few_files x.verb x.behind x.taken_are.few)
-
-pub answers_none : (words : List Text) → Parsed words → fault_of program words ≡ [] → None ≡ subcommand_of program words → HasNoShape words
-answers_none words (taken v ws w p t f s) e g = let bad : ◌≡◌ {A = Option Pair} (some (name_of v, found v ws)) None = sym s ∙ sym g in absurd cc
-answers_none words (refused h f) e g = h
 
 no_kind : (fault : Kinds) (e : Error) → fault ≡ [] → HasKind fault e → (kind_of e ≡ OutOfMemory → ⊥) → ⊥
 no_kind [] e f (inl h) n = n h

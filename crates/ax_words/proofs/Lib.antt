@@ -5,5 +5,6 @@ pub mod Counts
 pub mod Getters
 pub mod Lines
 pub mod Numbers
+pub mod Once
 pub mod Program
 pub mod Shapes

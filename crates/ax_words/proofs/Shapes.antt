@@ -9,10 +9,10 @@ use Rattle.ax_words.specs.declared.line.Line.TheVariants as LineOf
 use Rattle.ax_words.specs.declared.verb.Verb.{Verb}
 use Rattle.ax_words.specs.declared.verb.Verb.TheVariants.{Check, Canon, Show, Text, Build, Filter, Migrate, Trial}
 
-abbrev Words : Type 0
+abbrev pub Words : Type 0
 Words = List (List ℕ)
 
-abbrev first : Words → List ℕ
+abbrev pub first : Words → List ℕ
 first [] = []
 first (w ∷ ws) = w
 
@@ -40,7 +40,7 @@ named Filter = refl
 named Migrate = refl
 named Trial = refl
 
-line_named : (line : Line) → verb_named (first (words_of line)) ≡ verb_of line
+pub line_named : (line : Line) → verb_named (first (words_of line)) ≡ verb_of line
 unfolding verb_named
 line_named (LineOf.Check file) = refl
 line_named (LineOf.Canon files) = refl

@@ -1,0 +1,10 @@
+pub mod Answers
+pub mod Plain
+pub mod Leaves
+pub mod Counts
+pub mod Getters
+pub mod Lines
+pub mod Numbers
+pub mod Once
+pub mod Program
+pub mod Shapes

@@ -1,0 +1,22 @@
+-- What clap finds of the words behind a verb.
+use Rattle.std.specs.Prelude.{List, [], ◌∷◌, Some, None, codes, take, drop}
+use Rattle.clap.specs.Values.{reading_of}
+use Rattle.clap.specs.Walk.{Row, Text}
+use Rattle.clap.specs.declared.builder.value_parser.ValueParser.TheVariants as parser
+use Rattle.clap.specs.declared.parser.matches.ValueSource.TheVariants.{CommandLine}
+use Rattle.ax_words.specs.declared.verb.Verb.{Verb}
+use Rattle.ax_words.specs.declared.verb.Verb.TheVariants as VerbOf
+
+-- the row of words that were given
+abbrev pub given : Text → List Text → Row
+given id values = record { id = id; values = values; count = None; source = Some CommandLine; reading = reading_of parser.String }
+
+-- the first word under one name, and those behind it under another
+abbrev pub given_two : Text → Text → List Text → List Row
+given_two first second words = given first (take 1 words) ∷ given second (drop 1 words) ∷ []
+
+abbrev pub found : Verb → List Text → List Row
+found VerbOf.Filter words = given_two (codes "EXPR") (codes "SPEC") words
+found VerbOf.Migrate words = given_two (codes "OLD") (codes "NEW") words
+found VerbOf.Trial words = given (codes "SPEC") (take 1 words) ∷ given_two (codes "SEED") (codes "COUNT") (drop 1 words)
+found _ words = given (codes "SPEC") words ∷ []

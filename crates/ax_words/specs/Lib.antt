@@ -1,0 +1,5 @@
+pub mod Commands
+pub mod Found
+pub mod Lines
+pub mod Verbs
+pub mod Words

@@ -1,0 +1,86 @@
+//! What the words ask for.
+ghost use Rattle.std.specs.Prelude.{◌≡◌, IfOk};
+
+use ax_lists::Sequence;
+use std::alloc::{AllocError, Global};
+use std::marker::Model;
+
+/// A word of the command line. Contracts see it as the list of its octets.
+#[derive(Drop)]
+pub struct WordText {
+    word: String,
+}
+
+impl Model for WordText {
+    ghost use Rattle.std.specs.Prelude.{List, ℕ};
+    ghost use Rattle.std.specs.String.{string_bytes};
+
+    ghost Value = { List ℕ };
+
+    ghost view = { λ w. string_bytes w.word };
+}
+
+impl WordText {
+    /// A word of the same octets. Takes their room once.
+    pub fn of(alloc: Global, word: &str) -> Result<WordText, AllocError>
+        ensures { IfOk result (λ made. made ≡ word.now) }
+    {
+        let word = String::from_str(alloc, word)?;
+        Ok(WordText { word })
+    }
+
+    /// The word. Takes no memory.
+    pub fn text(&self) -> &str
+        ensures { result.now ≡ self.now }
+    {
+        self.word.as_str()
+    }
+}
+
+/// Words in their order, fewer than 2^32 of them.
+pub type WordTexts = Sequence<WordText>;
+
+/// What the words ask for: one variant for each shape.
+#[derive(Drop)]
+pub enum Line {
+    /// `check SPEC`
+    Check {
+        file: WordText,
+    },
+    /// `canon` and one or more SPEC.
+    Canon {
+        files: WordTexts,
+    },
+    /// `show` and one or more SPEC.
+    Show {
+        files: WordTexts,
+    },
+    /// `text` and one or more SPEC.
+    Text {
+        files: WordTexts,
+    },
+    /// `build` and one or more SPEC.
+    Build {
+        files: WordTexts,
+    },
+    /// `filter EXPR` and one or more SPEC.
+    Filter {
+        expr: WordText,
+        files: WordTexts,
+    },
+    /// `migrate OLD NEW`
+    Migrate {
+        old: WordText,
+        new: WordText,
+    },
+    /// `trial SPEC SEED COUNT`
+    Trial {
+        file: WordText,
+        seed: u64,
+        count: u32,
+    },
+    /// `--help` alone.
+    Help,
+    /// `--version` alone.
+    Version,
+}

@@ -1,0 +1,256 @@
+//! What the words ask for.
+ghost use Rattle.std.specs.Prelude.{◌≡◌, [], ◌∷◌, ◌⊎◌, ◌<◌, ◌≤◌, ◌^◌, ◌↔◌, IsTrue, Some, None, map, length, codes, IfOk, MatchResult};
+ghost use Rattle.std.specs.List.{AllByRecursion};
+ghost use Rattle.std.specs.String.{string_bytes};
+ghost use Rattle.clap.specs.Words.{first_of, all_of, rows_of, found_of};
+ghost use Rattle.ax_words.specs.Lines.{AnswersRows, HasFewFiles};
+ghost use Rattle.ax_words.specs.Words.{IsPlain, Answers};
+ghost use Rattle.ax_words.specs.declared.error.WordsError.TheVariants as Fault;
+
+use crate::builder::command;
+use crate::error::WordsError;
+use crate::line::{Line, WordText, WordTexts};
+use crate::number::{count_of, seed_of};
+use crate::verb::{Verb, verb_named};
+use clap::ArgMatches;
+use clap::error::ErrorKind;
+use std::alloc::{AllocError, Global};
+
+/// The most octets of an expression.
+const LONGEST_EXPRESSION: usize = 1 << 31;
+
+/// Whether the word doesn't begin with `-`.
+fn is_plain(word: &str) -> bool
+    ensures { IsTrue result ↔ IsPlain word.now }
+{
+    match word.as_bytes() {
+        [first, ..] => *first != b'-',
+        [] => true,
+    }
+}
+
+/// Whether no word begins with `-`.
+fn are_plain(words: &[String]) -> bool
+    ensures { IsTrue result ↔ AllByRecursion IsPlain (map string_bytes words.now) }
+{
+    let mut rest = words;
+    while let Some((word, later)) = rest.split_first() {
+        if !is_plain(word.as_str()) {
+            return false;
+        }
+        rest = later;
+    }
+    true
+}
+
+/// The word of an argument that takes one.
+#[tactic(auto, using(crate::proofs::Getters::getters))]
+fn word_of<'w>(matches: &ArgMatches<'w>, id: &str) -> Result<&'w str, WordsError>
+    ensures { MatchResult result (λ word. first_of id.now (rows_of (found_of matches.now)) ≡ Some word.now) (λ e. first_of id.now (rows_of (found_of matches.now)) ≡ None) }
+{
+    match matches.get_str(id) {
+        Some(word) => Ok(word),
+        None => Err(WordsError::Usage),
+    }
+}
+
+/// A copy of the words.
+fn copied(alloc: Global, words: &[&str]) -> Result<WordTexts, AllocError>
+    requires { length words.now < 4294967296 }
+    ensures { IfOk result (λ texts. texts ≡ map (λ word. word.now) words.now) }
+{
+    let mut texts = WordTexts::new(alloc);
+    for word in words {
+        texts.push(WordText::of(alloc, word)?)?;
+    }
+    Ok(texts)
+}
+
+/// The words of SPEC.
+#[tactic(auto, using(crate::proofs::Getters::getters))]
+fn files_of(alloc: Global, matches: &ArgMatches<'_>) -> Result<WordTexts, WordsError>
+    requires { HasFewFiles (rows_of (found_of matches.now)) }
+    ensures { MatchResult result (λ files. all_of (codes "SPEC") (rows_of (found_of matches.now)) ≡ Some files) (λ e. (e ≡ Fault.OutOfMemory) ⊎ (all_of (codes "SPEC") (rows_of (found_of matches.now)) ≡ None)) }
+{
+    match matches.get_strs("SPEC") {
+        Some(words) => Ok(copied(alloc, words)?),
+        None => Err(WordsError::Usage),
+    }
+}
+
+/// The line of `check`.
+#[tactic(auto, using(crate::proofs::Lines::check_lines))]
+fn check_line(alloc: Global, matches: &ArgMatches<'_>) -> Result<Line, WordsError>
+    ensures { AnswersRows Verb.Check (rows_of (found_of matches.now)) result }
+{
+    let file = word_of(matches, "SPEC")?;
+    let file = WordText::of(alloc, file)?;
+    Ok(Line::Check { file })
+}
+
+/// The line of `canon`.
+#[tactic(auto, using(crate::proofs::Lines::canon_lines))]
+fn canon_line(alloc: Global, matches: &ArgMatches<'_>) -> Result<Line, WordsError>
+    requires { HasFewFiles (rows_of (found_of matches.now)) }
+    ensures { AnswersRows Verb.Canon (rows_of (found_of matches.now)) result }
+{
+    let files = files_of(alloc, matches)?;
+    Ok(Line::Canon { files })
+}
+
+/// The line of `show`.
+#[tactic(auto, using(crate::proofs::Lines::show_lines))]
+fn show_line(alloc: Global, matches: &ArgMatches<'_>) -> Result<Line, WordsError>
+    requires { HasFewFiles (rows_of (found_of matches.now)) }
+    ensures { AnswersRows Verb.Show (rows_of (found_of matches.now)) result }
+{
+    let files = files_of(alloc, matches)?;
+    Ok(Line::Show { files })
+}
+
+/// The line of `text`.
+#[tactic(auto, using(crate::proofs::Lines::text_lines))]
+fn text_line(alloc: Global, matches: &ArgMatches<'_>) -> Result<Line, WordsError>
+    requires { HasFewFiles (rows_of (found_of matches.now)) }
+    ensures { AnswersRows Verb.Text (rows_of (found_of matches.now)) result }
+{
+    let files = files_of(alloc, matches)?;
+    Ok(Line::Text { files })
+}
+
+/// The line of `build`.
+#[tactic(auto, using(crate::proofs::Lines::build_lines))]
+fn build_line(alloc: Global, matches: &ArgMatches<'_>) -> Result<Line, WordsError>
+    requires { HasFewFiles (rows_of (found_of matches.now)) }
+    ensures { AnswersRows Verb.Build (rows_of (found_of matches.now)) result }
+{
+    let files = files_of(alloc, matches)?;
+    Ok(Line::Build { files })
+}
+
+/// Whether the word is short enough for an expression.
+fn is_expression(word: &str) -> bool
+    ensures { IsTrue result ↔ (length word.now ≤ 2 ^ 31) }
+{
+    word.len() <= LONGEST_EXPRESSION
+}
+
+/// The line of `filter`.
+#[tactic(auto, using(crate::proofs::Lines::filter_lines))]
+fn filter_line(alloc: Global, matches: &ArgMatches<'_>) -> Result<Line, WordsError>
+    requires { HasFewFiles (rows_of (found_of matches.now)) }
+    ensures { AnswersRows Verb.Filter (rows_of (found_of matches.now)) result }
+{
+    let expr = word_of(matches, "EXPR")?;
+    if !is_expression(expr) {
+        return Err(WordsError::Usage);
+    }
+    let expr = WordText::of(alloc, expr)?;
+    let files = files_of(alloc, matches)?;
+    Ok(Line::Filter { expr, files })
+}
+
+/// The line of `migrate`.
+#[tactic(auto, using(crate::proofs::Lines::migrate_lines))]
+fn migrate_line(alloc: Global, matches: &ArgMatches<'_>) -> Result<Line, WordsError>
+    ensures { AnswersRows Verb.Migrate (rows_of (found_of matches.now)) result }
+{
+    let old = word_of(matches, "OLD")?;
+    let new = word_of(matches, "NEW")?;
+    let old = WordText::of(alloc, old)?;
+    let new = WordText::of(alloc, new)?;
+    Ok(Line::Migrate { old, new })
+}
+
+/// The line of `trial`.
+#[tactic(auto, using(crate::proofs::Lines::trial_lines))]
+fn trial_line(alloc: Global, matches: &ArgMatches<'_>) -> Result<Line, WordsError>
+    ensures { AnswersRows Verb.Trial (rows_of (found_of matches.now)) result }
+{
+    let file = word_of(matches, "SPEC")?;
+    let Some(seed) = seed_of(word_of(matches, "SEED")?) else {
+        return Err(WordsError::Usage);
+    };
+    let Some(count) = count_of(word_of(matches, "COUNT")?) else {
+        return Err(WordsError::Usage);
+    };
+    let file = WordText::of(alloc, file)?;
+    Ok(Line::Trial { file, seed, count })
+}
+
+/// The line of a verb and its matches.
+fn line_of(alloc: Global, verb: Verb, matches: &ArgMatches<'_>) -> Result<Line, WordsError>
+    requires { HasFewFiles (rows_of (found_of matches.now)) }
+    ensures { AnswersRows verb (rows_of (found_of matches.now)) result }
+{
+    match verb {
+        Verb::Check => check_line(alloc, matches),
+        Verb::Canon => canon_line(alloc, matches),
+        Verb::Show => show_line(alloc, matches),
+        Verb::Text => text_line(alloc, matches),
+        Verb::Build => build_line(alloc, matches),
+        Verb::Filter => filter_line(alloc, matches),
+        Verb::Migrate => migrate_line(alloc, matches),
+        Verb::Trial => trial_line(alloc, matches),
+    }
+}
+
+/// The line that clap finds in words without `-`.
+fn parse(alloc: Global, words: &[String]) -> Result<Line, WordsError>
+    requires plain { AllByRecursion IsPlain (map string_bytes words.now) }
+    requires few { length words.now < 4294967296 }
+    ensures { Answers (map string_bytes words.now) result }
+{
+    let command = command(alloc)?;
+    match command.try_get_matches_from(words) {
+        Ok(matches) => match matches.subcommand() {
+            Some((name, inner)) => match verb_named(name) {
+                Some(verb) => line_of(alloc, verb, inner),
+                None => Err(WordsError::Usage),
+            },
+            None => Err(WordsError::Usage),
+        },
+        Err(error) => match error.kind() {
+            ErrorKind::OutOfMemory => Err(WordsError::OutOfMemory),
+            _ => Err(WordsError::Usage),
+        },
+    }
+}
+
+/// Whether the text is that word.
+fn is_word(text: &str, word: &str) -> bool
+    ensures { IsTrue result ↔ (text.now ≡ word.now) }
+{
+    text == word
+}
+
+/// Whether the words are this one alone.
+fn are_alone(words: &[String], word: &str) -> bool
+    ensures { IsTrue result ↔ (map string_bytes words.now ≡ word.now ∷ []) }
+{
+    match words {
+        [only] => is_word(only.as_str(), word),
+        _ => false,
+    }
+}
+
+/// What the words ask for: exactly the line of the one shape that they have. Usage comes exactly where they have none,
+/// and OutOfMemory may come at any words.
+#[tactic(auto, using(crate::proofs::Shapes::outside))]
+pub fn read_words(alloc: Global, words: &[String]) -> Result<Line, WordsError>
+    ensures { Answers (map string_bytes words.now) result }
+{
+    if words.len() > u32::MAX as usize {
+        return Err(WordsError::Usage);
+    }
+    if are_alone(words, "--help") {
+        return Ok(Line::Help);
+    }
+    if are_alone(words, "--version") {
+        return Ok(Line::Version);
+    }
+    if !are_plain(words) {
+        return Err(WordsError::Usage);
+    }
+    parse(alloc, words)
+}

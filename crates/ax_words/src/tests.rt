@@ -1,0 +1,120 @@
+use super::*;
+use std::alloc::{AllocError, Global};
+use std::test::Fail;
+
+/// The words between the spaces of a text. The empty text has none.
+fn words_in(alloc: Global, text: &str) -> Result<Vec<String>, AllocError> {
+    let mut words = Vec::new(alloc);
+    if text.is_empty() {
+        return Ok(words);
+    }
+    for word in text.split(' ') {
+        words.push(String::from_str(alloc, word)?)?;
+    }
+    Ok(words)
+}
+
+/// A verb and each of the files, in brackets.
+fn with_files(alloc: Global, verb: &str, files: &WordTexts) -> Result<String, AllocError> {
+    let mut shown = String::from_str(alloc, verb)?;
+    for file in files.as_slice() {
+        write!(shown, " [{}]", file.text())?;
+    }
+    Ok(shown)
+}
+
+/// What a line says.
+fn shown(alloc: Global, line: &Line) -> Result<String, AllocError> {
+    match line {
+        Line::Check { file } => format!(in alloc; "check [{}]", file.text()),
+        Line::Canon { files } => with_files(alloc, "canon", files),
+        Line::Show { files } => with_files(alloc, "show", files),
+        Line::Text { files } => with_files(alloc, "text", files),
+        Line::Build { files } => with_files(alloc, "build", files),
+        Line::Filter { expr, files } => with_files(alloc, expr.text(), files),
+        Line::Migrate { old, new } => {
+            format!(in alloc; "migrate [{}] to [{}]", old.text(), new.text())
+        }
+        Line::Trial { file, seed, count } => {
+            format!(in alloc; "trial [{}] {seed} {count}", file.text())
+        }
+        Line::Help => String::from_str(alloc, "help"),
+        Line::Version => String::from_str(alloc, "version"),
+    }
+}
+
+/// What the words of a text ask for.
+fn read(alloc: Global, text: &str) -> Result<String, AllocError> {
+    let words = words_in(alloc, text)?;
+    match read_words(alloc, words.as_slice()) {
+        Ok(line) => shown(alloc, &line),
+        Err(WordsError::Usage) => String::from_str(alloc, "usage"),
+        Err(WordsError::OutOfMemory) => Err(AllocError),
+    }
+}
+
+#[test]
+fn lines_of_words(rt: HostRuntime) -> Result<(), Fail> {
+    let alloc = rt.alloc();
+    for (text, want) in [
+        ("check A", "check [A]"),
+        ("check ", "check []"),
+        ("canon A", "canon [A]"),
+        ("canon A B C", "canon [A] [B] [C]"),
+        ("canon help check", "canon [help] [check]"),
+        ("show A", "show [A]"),
+        ("text A B", "text [A] [B]"),
+        ("build A", "build [A]"),
+        ("filter any{} A", "any{} [A]"),
+        ("filter any{} A B", "any{} [A] [B]"),
+        ("migrate A B", "migrate [A] to [B]"),
+        ("trial Z 0 0", "trial [Z] 0 0"),
+        (
+            "trial Z 18446744073709551615 1000000",
+            "trial [Z] 18446744073709551615 1000000",
+        ),
+        ("--help", "help"),
+        ("--version", "version"),
+    ] {
+        let found = read(alloc, text)?;
+        assert_eq!(rt; found.as_str(), want, "at {text}");
+    }
+    Ok(())
+}
+
+#[test]
+fn words_without_a_line(rt: HostRuntime) -> Result<(), Fail> {
+    let alloc = rt.alloc();
+    for text in [
+        "",
+        " ",
+        "help",
+        "Check A",
+        "check",
+        "check A E",
+        "canon",
+        "canon -x",
+        "canon A --help",
+        "-- canon A",
+        "canon -- A",
+        "filter any{}",
+        "migrate A",
+        "migrate A B C",
+        "trial Z 1",
+        "trial Z 1 1 1",
+        "trial Z 01 1",
+        "trial Z +1 1",
+        "trial Z 1 00",
+        "trial Z  1",
+        "trial Z 18446744073709551616 1",
+        "trial Z 1 1000001",
+        "--help A",
+        "--version A",
+        "-h",
+        "--version=1",
+    ] {
+        let found = read(alloc, text)?;
+        assert_eq!(rt; found.as_str(), "usage", "at {text}");
+    }
+    Ok(())
+}

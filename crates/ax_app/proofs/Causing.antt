@@ -1,5 +1,5 @@
 -- What an outcome says of the outside.
-use Rattle.std.proofs.Common.{◌≡◌, ℕ, ◌+◌, ◌<◌, List, Option, sym, subst}
+use Rattle.std.proofs.Common.{ℕ, ◌+◌, ◌<◌, List, Option, sym, subst}
 use Rattle.ax_build_work.specs.declared.fault.TextFault.{TextFault}
 use Rattle.ax_command.specs.Outcomes.{outcome_of_stop, outcome_of_end, outcome_of_lines, outcome_of_job_stop}
 use Rattle.ax_command.specs.declared.outcome.JobStop.{JobStop}
@@ -20,7 +20,7 @@ use Rattle.ax_stream.specs.Streams.{IsCaused}
 use Rattle.ax_stream.specs.declared.end.StreamEnd.{StreamEnd}
 use Rattle.ax_stream.specs.declared.end.StreamEnd.TheVariants as EndOf
 use Rattle.ax_app.specs.Jobs.{Job, writes, each_block, builds, refuses, TextEnds, written, cut, no_memory, JobRuns}
-use Rattle.ax_app.specs.Running.{Runs, at_words, at_files, before_input, in_job, Causes}
+use Rattle.ax_app.specs.Running.{Runs, at_words, no_words, at_files, before_input, in_job, Causes}
 
 -- a fault of the outside comes only where its count rose, and a limit only where more octets were taken
 abbrev IsCausedBy : SourceChange → SinkChange → SinkChange → Outcome → Type 0
@@ -52,10 +52,10 @@ module _ (i : SourceChange) (o r : SinkChange) where
   caused_before (JobStopOf.Refused (RefusalOf.FilterRefused fault)) = tt
   caused_before JobStopOf.OutOfMemory = tt
 
-  caused_by_text : (text : List ℕ) (outcome : Outcome) → TextEnds text o outcome → IsCausedBy i o r outcome
-  caused_by_text text outcome (written is h) = subst (IsCausedBy i o r) (sym is) tt
-  caused_by_text text outcome (cut is h) = subst (IsCausedBy i o r) (sym is) h.rose
-  caused_by_text text outcome (no_memory is h) = subst (IsCausedBy i o r) (sym is) tt
+  caused_by_text : (count : ℕ) (text : List ℕ) (outcome : Outcome) → TextEnds count text o outcome → IsCausedBy i o r outcome
+  caused_by_text count text outcome (written is h) = subst (IsCausedBy i o r) (sym is) tt
+  caused_by_text count text outcome (cut is h) = subst (IsCausedBy i o r) (sym is) h.rose
+  caused_by_text count text outcome (no_memory is h) = subst (IsCausedBy i o r) (sym is) tt
 
   caused_by_blocks : (end : StreamEnd) → IsCaused longest_input i o r end → IsCausedBy i o r (outcome_of_end end)
   caused_by_blocks (EndOf.Done blocks) h = tt
@@ -77,13 +77,14 @@ module _ (i : SourceChange) (o r : SinkChange) where
   caused_by_lines LinesEndOf.OutOfMemory h = tt
 
   caused_in_job : (job : Job) (outcome : Outcome) → JobRuns job i o r outcome → IsCausedBy i o r outcome
-  caused_in_job (writes text) outcome h = caused_by_text text outcome h.ends
+  caused_in_job (writes count text) outcome h = caused_by_text count text outcome h.ends
   caused_in_job (each_block c) outcome h = subst (IsCausedBy i o r) (sym h.is) (caused_by_blocks h.end h.runs.caused)
   caused_in_job (builds catalogue) outcome h = subst (IsCausedBy i o r) (sym h.is) (caused_by_lines h.end h.runs.caused)
   caused_in_job (refuses refusal) outcome h = absurd h
 
   caused : (words : List (List ℕ)) (files : Option (List File)) (c : LibraryCounts) (outcome : Outcome) → Runs words files c i o r outcome → IsCausedBy i o r outcome
   caused words files c outcome (at_words none is unasked idle) = subst (IsCausedBy i o r) (sym is) tt
+  caused words files c outcome (no_words is unasked idle) = subst (IsCausedBy i o r) (sym is) tt
   caused words files c outcome (at_files stop h is idle) = subst (IsCausedBy i o r) (sym is) (caused_at_files stop)
   caused words files c outcome (before_input stop h is idle) = subst (IsCausedBy i o r) (sym is) (caused_before stop)
   caused words files c outcome (in_job job d h) = caused_in_job job outcome h

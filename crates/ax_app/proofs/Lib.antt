@@ -7,3 +7,4 @@ pub mod Once
 pub mod OneAnswer
 pub mod OwnOutcomes
 pub mod Stages
+pub mod Trials

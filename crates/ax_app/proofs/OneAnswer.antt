@@ -20,9 +20,10 @@ use Rattle.ax_outside.specs.Told.{Rose}
 use Rattle.ax_stream.proofs.AnswersOnce.{answers_once}
 use Rattle.ax_stream.specs.Commands.{output_of, report_of}
 use Rattle.ax_stream.specs.Ending.{longest_input}
-use Rattle.ax_app.proofs.Once.{shape_once, does_once, IsGood, good_job}
+use Rattle.ax_words.proofs.Once.{once as shape_once}
+use Rattle.ax_app.proofs.Once.{does_once, IsGood, good_job}
 use Rattle.ax_app.specs.Answer.{Answer, by_words, by_files, by_refusal, by_job}
-use Rattle.ax_app.specs.Jobs.{Job, writes, each_block, builds, refuses, JobAnswers, takes_distinct}
+use Rattle.ax_app.specs.Jobs.{Job, writes, each_block, builds, refuses, JobAnswers, files_of, takes_distinct}
 use Rattle.ax_app.specs.Running.{Does, StopsAtFiles}
 
 none_rose : Rose 0 0 → ⊥
@@ -35,7 +36,7 @@ abbrev Same : Outcome → Outcome → List ℕ → List ℕ → List ℕ → Lis
 Same outcome next written others reported more = (outcome ≡ next) × (written ≡ others) × (reported ≡ more)
 
 same_job : (job : Job) (input : List ℕ) (outcome next : Outcome) (written others reported more : List ℕ) → IsGood job → JobAnswers job input outcome written reported → JobAnswers job input next others more → Same outcome next written others reported more
-same_job (writes text) input outcome next written others reported more good h k = (h.done ∙ sym k.done, h.written_is ∙ sym k.written_is, h.reported_is ∙ sym k.reported_is)
+same_job (writes count text) input outcome next written others reported more good h k = (h.done ∙ sym k.done, h.written_is ∙ sym k.written_is, h.reported_is ∙ sym k.reported_is)
 same_job (each_block c) input outcome next written others reported more good h k =
     let same : (h.end ≡ k.end) × (h.blocks ≡ k.blocks) = answers_once c longest_input input h.blocks k.blocks h.end k.end h.answers k.answers in
     (h.is ∙ ap outcome_of_end same.0 ∙ sym k.is, h.written_is ∙ ap (output_of c 0) same.1 ∙ sym k.written_is, h.reported_is ∙ ap (report_of c 0) same.1 ∙ sym k.reported_is)
@@ -63,13 +64,13 @@ same_files : (words : List (List ℕ)) (files : List File) (stop next : LoadStop
     → (stop ≡ LoadStopOf.OutOfMemory → ⊥) → (next ≡ LoadStopOf.OutOfMemory → ⊥) → outcome ≡ outcome_of_stop stop → other ≡ outcome_of_stop next → written ≡ others → reported ≡ more → (outcome ≡ other) × (written ≡ others) × (reported ≡ more)
 same_files words files stop next outcome other written others reported more h k never nor is to w r =
     let same = shape_once words h.what k.what h.shape k.shape in
-    let ends : FilesEnd (takes_distinct h.what.verb) (Some files) none_counted h.what.files next = subst (λ v. FilesEnd (takes_distinct v.verb) (Some files) none_counted v.files next) (sym same) k.ends in
-    (is ∙ ap outcome_of_stop (loading_ends_once (takes_distinct h.what.verb) files none_counted h.what.files stop next none_rose never nor h.ends ends) ∙ sym to, w, r)
+    let ends : FilesEnd (takes_distinct h.what) (Some files) none_counted (files_of h.what) next = subst (λ v. FilesEnd (takes_distinct v) (Some files) none_counted (files_of v) next) (sym same) k.ends in
+    (is ∙ ap outcome_of_stop (loading_ends_once (takes_distinct h.what) files none_counted (files_of h.what) stop next none_rose never nor h.ends ends) ∙ sym to, w, r)
 
 files_or_job : (words : List (List ℕ)) (files : List File) (stop : LoadStop) (job : Job) → StopsAtFiles words (Some files) none_counted stop → (stop ≡ LoadStopOf.OutOfMemory → ⊥) → Does words (Some files) job → ⊥
 files_or_job words files stop job h never d =
     let same = shape_once words d.what h.what d.shape h.shape in
-    never (given_ends_for_memory (takes_distinct h.what.verb) files none_counted h.what.files d.specs stop none_rose (subst (λ v. FilesGive (takes_distinct v.verb) (Some files) v.files d.specs) same d.give) h.ends)
+    never (given_ends_for_memory (takes_distinct h.what) files none_counted (files_of h.what) d.specs stop none_rose (subst (λ v. FilesGive (takes_distinct v) (Some files) (files_of v) d.specs) same d.give) h.ends)
 
 -- ---- all
 

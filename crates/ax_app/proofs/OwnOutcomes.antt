@@ -1,14 +1,11 @@
 -- Outcomes of one command alone.
-use Rattle.std.proofs.Common.{◌≡◌, ℕ, ◌<◌, ◌≤◌, ◌⊎◌, inl, inr, List, [], Option, Some, None, length, sym, ◌∙◌, ap, subst, arith, refl}
+use Rattle.std.proofs.Common.{◌≡◌, ℕ, ◌<◌, ◌≤◌, List, [], Option, Some, None, length, sym, ◌∙◌, ap, subst, arith, refl}
 use Rattle.ax_build_work.specs.declared.fault.TextFault.{TextFault}
 use Rattle.ax_command.specs.Outcomes.{outcome_of_stop, outcome_of_end, outcome_of_lines, outcome_of_job_stop}
 use Rattle.ax_command.specs.declared.outcome.JobStop.{JobStop}
 use Rattle.ax_command.specs.declared.outcome.JobStop.TheVariants as JobStopOf
 use Rattle.ax_command.specs.declared.outcome.Outcome.{Outcome}
-use Rattle.ax_command.specs.declared.outcome.Refusal.{Refusal}
 use Rattle.ax_command.specs.declared.outcome.Refusal.TheVariants.{OtherCategory, FilterRefused}
-use Rattle.ax_command.specs.declared.words.Verb.{Verb}
-use Rattle.ax_command.specs.declared.words.Verb.TheVariants.{Check, Canon, Show, Text, Build, Filter, Migrate}
 use Rattle.ax_filter.specs.declared.text.FilterFault.{FilterFault}
 use Rattle.ax_line_stream.specs.declared.end.LinesEnd.{LinesEnd}
 use Rattle.ax_line_stream.specs.declared.end.LinesEnd.TheVariants as LinesEndOf
@@ -22,8 +19,10 @@ use Rattle.ax_stream.specs.Commands.{BlockCommand, gives, too_long}
 use Rattle.ax_stream.specs.Streams.{IsLicensed, Reports, RefusesLength}
 use Rattle.ax_stream.specs.declared.end.StreamEnd.{StreamEnd}
 use Rattle.ax_stream.specs.declared.end.StreamEnd.TheVariants as EndOf
+use Rattle.ax_words.specs.declared.line.Line.{Line}
+use Rattle.ax_words.specs.declared.line.Line.TheVariants.{Check, Canon, Show, Text, Build, Filter, Migrate, Trial, Help, Version}
 use Rattle.ax_app.specs.Jobs.{Job, writes, each_block, builds, refuses, IsJob, IsFilterJob, filters, refused, IsMigrateJob, migrates, other_category, IsStopped, JobRuns, TextEnds, written, cut, no_memory}
-use Rattle.ax_app.specs.Running.{Runs, at_words, at_files, before_input, in_job, NoCountFell, only_command, IsOfItsCommand}
+use Rattle.ax_app.specs.Running.{Runs, at_words, no_words, at_files, before_input, in_job, NoCountFell, Owner, owner_of, of_build, of_filter, of_migrate, only_command, IsOfItsCommand}
 
 -- ---- ends of jobs
 
@@ -42,8 +41,8 @@ no_line c s h =
 no_refusal : (c : BlockCommand) (number count : ℕ) → IsSilent c → RefusesLength c number count → ⊥
 no_refusal c number count s h = let e : gives [] (s.octets number h.block) ≡ too_long count = sym (s.answer number h.block) ∙ h.answer in absurd (cc)
 
-none_is_some : (outcome : Outcome) (verb : Verb) → only_command outcome ≡ None → only_command outcome ≡ Some verb → ⊥
-none_is_some outcome verb none some = absurd (let x : None ≡ Some verb = sym none ∙ some in cc)
+none_is_some : (outcome : Outcome) (owner : Owner) → only_command outcome ≡ None → only_command outcome ≡ Some owner → ⊥
+none_is_some outcome owner none some = absurd (let x : None ≡ Some owner = sym none ∙ some in cc)
 
 of_silent : (c : BlockCommand) (end : StreamEnd) → IsSilent c → IsLicensed c end → only_command (outcome_of_end end) ≡ None
 of_silent c (EndOf.Done blocks) s h = refl
@@ -55,51 +54,58 @@ of_silent c EndOf.WriteFault s h = refl
 of_silent c EndOf.ReportFault s h = absurd (no_line c s h)
 of_silent c EndOf.OutOfMemory s h = refl
 
-of_blocks : (end : StreamEnd) (verb : Verb) → only_command (outcome_of_end end) ≡ Some verb → Migrate ≡ verb
-of_blocks (EndOf.Done blocks) verb e = absurd (cc)
-of_blocks (EndOf.Refused fault) verb e = absurd (cc)
-of_blocks EndOf.InputTooLong verb e = absurd (cc)
-of_blocks (EndOf.TooLong block octets) verb e = cc
-of_blocks EndOf.ReadFault verb e = absurd (cc)
-of_blocks EndOf.WriteFault verb e = absurd (cc)
-of_blocks EndOf.ReportFault verb e = cc
-of_blocks EndOf.OutOfMemory verb e = absurd (cc)
+blocks_owner : (end : StreamEnd) (owner : Owner) → only_command (outcome_of_end end) ≡ Some owner → of_migrate ≡ owner
+blocks_owner (EndOf.Done blocks) owner e = absurd (cc)
+blocks_owner (EndOf.Refused fault) owner e = absurd (cc)
+blocks_owner EndOf.InputTooLong owner e = absurd (cc)
+blocks_owner (EndOf.TooLong block octets) owner e = cc
+blocks_owner EndOf.ReadFault owner e = absurd (cc)
+blocks_owner EndOf.WriteFault owner e = absurd (cc)
+blocks_owner EndOf.ReportFault owner e = cc
+blocks_owner EndOf.OutOfMemory owner e = absurd (cc)
 
-of_lines : (end : LinesEnd TextFault) (verb : Verb) → only_command (outcome_of_lines end) ≡ Some verb → Build ≡ verb
-of_lines (LinesEndOf.Done blocks) verb e = absurd (cc)
-of_lines (LinesEndOf.Refused line fault) verb e = cc
-of_lines (LinesEndOf.LineTooLong line) verb e = cc
-of_lines LinesEndOf.InputTooLong verb e = absurd (cc)
-of_lines LinesEndOf.ReadFault verb e = absurd (cc)
-of_lines LinesEndOf.WriteFault verb e = absurd (cc)
-of_lines LinesEndOf.OutOfMemory verb e = absurd (cc)
+lines_owner : (end : LinesEnd TextFault) (owner : Owner) → only_command (outcome_of_lines end) ≡ Some owner → of_build ≡ owner
+lines_owner (LinesEndOf.Done blocks) owner e = absurd (cc)
+lines_owner (LinesEndOf.Refused line fault) owner e = cc
+lines_owner (LinesEndOf.LineTooLong line) owner e = cc
+lines_owner LinesEndOf.InputTooLong owner e = absurd (cc)
+lines_owner LinesEndOf.ReadFault owner e = absurd (cc)
+lines_owner LinesEndOf.WriteFault owner e = absurd (cc)
+lines_owner LinesEndOf.OutOfMemory owner e = absurd (cc)
 
-of_text : (text : List ℕ) (o : SinkChange) (outcome : Outcome) → TextEnds text o outcome → only_command outcome ≡ None
-of_text text o outcome (written is h) = ap only_command is
-of_text text o outcome (cut is h) = ap only_command is
-of_text text o outcome (no_memory is h) = ap only_command is
-
-of_silent_job : (c : BlockCommand) (i : SourceChange) (o r : SinkChange) (outcome : Outcome) → IsSilent c → JobRuns (each_block c) i o r outcome → only_command outcome ≡ None
-of_silent_job c i o r outcome s h = ap only_command h.is ∙ of_silent c h.end s h.runs.licensed
+none_of_text : (count : ℕ) (text : List ℕ) (o : SinkChange) (outcome : Outcome) → TextEnds count text o outcome → only_command outcome ≡ None
+none_of_text count text o outcome (written is h) = ap only_command is
+none_of_text count text o outcome (cut is h) = ap only_command is
+none_of_text count text o outcome (no_memory is h) = ap only_command is
 
 module _ (i : SourceChange) (o r : SinkChange) (outcome : Outcome) where
-  of_filter : (expression : List ℕ) (specs : List SpecTree) (job : Job) → IsFilterJob expression specs job → JobRuns job i o r outcome → only_command outcome ≡ None
-  of_filter expression specs job (filters e h is) runs = of_silent_job _ i o r outcome (record { octets = _; answer = λ number block. refl }) (subst (λ j. JobRuns j i o r outcome) is runs)
-  of_filter expression specs job (refused fault h is) runs = absurd (subst (λ j. JobRuns j i o r outcome) is runs)
+  -- the run of that job
+  run_of : (job other : Job) → job ≡ other → JobRuns job i o r outcome → JobRuns other i o r outcome
+  run_of job other is runs = subst (λ j. JobRuns j i o r outcome) is runs
 
-  of_migrate : (old new : SpecTree) (job : Job) (verb : Verb) → IsMigrateJob old new job → JobRuns job i o r outcome → only_command outcome ≡ Some verb → Migrate ≡ verb
-  of_migrate old new job verb (migrates same is) runs e = let h : JobRuns (each_block _) i o r outcome = subst (λ j. JobRuns j i o r outcome) is runs in of_blocks h.end verb (sym (ap only_command h.is) ∙ e)
-  of_migrate old new job verb (other_category differ is) runs e = absurd (subst (λ j. JobRuns j i o r outcome) is runs)
+  none_of_silent : (c : BlockCommand) → IsSilent c → JobRuns (each_block c) i o r outcome → only_command outcome ≡ None
+  none_of_silent c s h = ap only_command h.is ∙ of_silent c h.end s h.runs.licensed
+
+  none_of_filter : (expression : List ℕ) (specs : List SpecTree) (job : Job) → IsFilterJob expression specs job → JobRuns job i o r outcome → only_command outcome ≡ None
+  none_of_filter expression specs job (filters e h is) runs = none_of_silent _ (record { octets = _; answer = λ number block. refl }) (run_of job _ is runs)
+  none_of_filter expression specs job (refused fault h is) runs = absurd (run_of job _ is runs)
+
+  migrate_owner : (old new : SpecTree) (job : Job) (owner : Owner) → IsMigrateJob old new job → JobRuns job i o r outcome → only_command outcome ≡ Some owner → of_migrate ≡ owner
+  migrate_owner old new job owner (migrates same is) runs e = let h : JobRuns (each_block _) i o r outcome = run_of job _ is runs in blocks_owner h.end owner (sym (ap only_command h.is) ∙ e)
+  migrate_owner old new job owner (other_category differ is) runs e = absurd (run_of job _ is runs)
 
   -- one row for each command
-  own_in_job : (verb : Verb) (arguments : List (List ℕ)) (specs : List SpecTree) (job : Job) (other : Verb) → IsJob verb arguments specs job → JobRuns job i o r outcome → only_command outcome ≡ Some other → verb ≡ other
-  own_in_job Check arguments specs job other is h e = let run : JobRuns (writes _) i o r outcome = subst (λ j. JobRuns j i o r outcome) is.is h in absurd (none_is_some outcome other (of_text _ o outcome run.ends) e)
-  own_in_job Canon arguments specs job other is h e = absurd (none_is_some outcome other (of_silent_job _ i o r outcome (record { octets = _; answer = λ number block. refl }) (subst (λ j. JobRuns j i o r outcome) is h)) e)
-  own_in_job Show arguments specs job other is h e = absurd (none_is_some outcome other (of_silent_job _ i o r outcome (record { octets = _; answer = λ number block. refl }) (subst (λ j. JobRuns j i o r outcome) is h)) e)
-  own_in_job Text arguments specs job other is h e = absurd (none_is_some outcome other (of_silent_job _ i o r outcome (record { octets = _; answer = λ number block. refl }) (subst (λ j. JobRuns j i o r outcome) is h)) e)
-  own_in_job Build arguments specs job other is h e = let run : JobRuns (builds specs) i o r outcome = subst (λ j. JobRuns j i o r outcome) is h in of_lines run.end other (sym (ap only_command run.is) ∙ e)
-  own_in_job Filter arguments specs job other is h e = absurd (none_is_some outcome other (of_filter is.expression specs job is.is h) e)
-  own_in_job Migrate arguments specs job other is h e = of_migrate is.old is.new job other is.is h e
+  own_in_job : (line : Line) (specs : List SpecTree) (job : Job) (owner : Owner) → IsJob line specs job → JobRuns job i o r outcome → only_command outcome ≡ Some owner → owner_of line ≡ Some owner
+  own_in_job (Check file) specs job owner is h e = let run : JobRuns (writes _ _) i o r outcome = run_of job _ is.is h in absurd (none_is_some outcome owner (none_of_text _ _ o outcome run.ends) e)
+  own_in_job (Canon files) specs job owner is h e = absurd (none_is_some outcome owner (none_of_silent _ (record { octets = _; answer = λ number block. refl }) (run_of job _ is h)) e)
+  own_in_job (Show files) specs job owner is h e = absurd (none_is_some outcome owner (none_of_silent _ (record { octets = _; answer = λ number block. refl }) (run_of job _ is h)) e)
+  own_in_job (Text files) specs job owner is h e = absurd (none_is_some outcome owner (none_of_silent _ (record { octets = _; answer = λ number block. refl }) (run_of job _ is h)) e)
+  own_in_job (Build files) specs job owner is h e = let run : JobRuns (builds specs) i o r outcome = run_of job _ is h in ap Some (lines_owner run.end owner (sym (ap only_command run.is) ∙ e))
+  own_in_job (Filter expression files) specs job owner is h e = absurd (none_is_some outcome owner (none_of_filter expression specs job is h) e)
+  own_in_job (Migrate old new) specs job owner is h e = ap Some (migrate_owner is.old is.new job owner is.is h e)
+  own_in_job (Trial file seed count) specs job owner is h e = let run : JobRuns (writes _ _) i o r outcome = run_of job _ is.is h in absurd (none_is_some outcome owner (none_of_text _ _ o outcome run.ends) e)
+  own_in_job Help specs job owner is h e = let run : JobRuns (writes _ _) i o r outcome = run_of job _ is h in absurd (none_is_some outcome owner (none_of_text _ _ o outcome run.ends) e)
+  own_in_job Version specs job owner is h e = let run : JobRuns (writes _ _) i o r outcome = run_of job _ is h in absurd (none_is_some outcome owner (none_of_text _ _ o outcome run.ends) e)
 
 -- ---- refusals before the input
 
@@ -114,42 +120,48 @@ filter_has_no_editions expression specs old new (filters e h is) = absurd (cc)
 filter_has_no_editions expression specs old new (refused fault h is) = absurd (cc)
 
 -- one row for each command
-editions_of : (verb : Verb) (arguments : List (List ℕ)) (specs : List SpecTree) (old new : ℕ) → IsJob verb arguments specs (refuses (OtherCategory old new)) → verb ≡ Migrate
-editions_of Check arguments specs old new h = let e = h.is in absurd (cc)
-editions_of Canon arguments specs old new h = absurd (cc)
-editions_of Show arguments specs old new h = absurd (cc)
-editions_of Text arguments specs old new h = absurd (cc)
-editions_of Build arguments specs old new h = absurd (cc)
-editions_of Filter arguments specs old new h = absurd (filter_has_no_editions h.expression specs old new h.is)
-editions_of Migrate arguments specs old new h = refl
+editions_of : (line : Line) (specs : List SpecTree) (old new : ℕ) → IsJob line specs (refuses (OtherCategory old new)) → owner_of line ≡ Some of_migrate
+editions_of (Check file) specs old new h = let e = h.is in absurd (cc)
+editions_of (Canon files) specs old new h = absurd (cc)
+editions_of (Show files) specs old new h = absurd (cc)
+editions_of (Text files) specs old new h = absurd (cc)
+editions_of (Build files) specs old new h = absurd (cc)
+editions_of (Filter expression files) specs old new h = absurd (filter_has_no_editions expression specs old new h)
+editions_of (Migrate one other) specs old new h = refl
+editions_of (Trial file seed count) specs old new h = let e = h.is in absurd (cc)
+editions_of Help specs old new h = absurd (cc)
+editions_of Version specs old new h = absurd (cc)
 
 migrate_has_no_expression : (old new : SpecTree) (fault : FilterFault) → IsMigrateJob old new (refuses (FilterRefused fault)) → ⊥
 migrate_has_no_expression old new fault (migrates same is) = absurd (cc)
 migrate_has_no_expression old new fault (other_category differ is) = absurd (cc)
 
 -- one row for each command
-expression_of : (verb : Verb) (arguments : List (List ℕ)) (specs : List SpecTree) (fault : FilterFault) → IsJob verb arguments specs (refuses (FilterRefused fault)) → verb ≡ Filter
-expression_of Check arguments specs fault h = let e = h.is in absurd (cc)
-expression_of Canon arguments specs fault h = absurd (cc)
-expression_of Show arguments specs fault h = absurd (cc)
-expression_of Text arguments specs fault h = absurd (cc)
-expression_of Build arguments specs fault h = absurd (cc)
-expression_of Filter arguments specs fault h = refl
-expression_of Migrate arguments specs fault h = absurd (migrate_has_no_expression h.old h.new fault h.is)
+expression_of : (line : Line) (specs : List SpecTree) (fault : FilterFault) → IsJob line specs (refuses (FilterRefused fault)) → owner_of line ≡ Some of_filter
+expression_of (Check file) specs fault h = let e = h.is in absurd (cc)
+expression_of (Canon files) specs fault h = absurd (cc)
+expression_of (Show files) specs fault h = absurd (cc)
+expression_of (Text files) specs fault h = absurd (cc)
+expression_of (Build files) specs fault h = absurd (cc)
+expression_of (Filter expression files) specs fault h = refl
+expression_of (Migrate old new) specs fault h = absurd (migrate_has_no_expression h.old h.new fault h.is)
+expression_of (Trial file seed count) specs fault h = let e = h.is in absurd (cc)
+expression_of Help specs fault h = absurd (cc)
+expression_of Version specs fault h = absurd (cc)
 
-own_before : (verb : Verb) (arguments : List (List ℕ)) (specs : List SpecTree) (stop : JobStop) (other : Verb) → IsStopped verb arguments specs stop → only_command (outcome_of_job_stop stop) ≡ Some other → verb ≡ other
-own_before verb arguments specs (JobStopOf.Refused (OtherCategory old new)) other h e = editions_of verb arguments specs old new h ∙ (cc)
-own_before verb arguments specs (JobStopOf.Refused (FilterRefused fault)) other h e = expression_of verb arguments specs fault h ∙ (cc)
-own_before verb arguments specs JobStopOf.OutOfMemory other h e = absurd (cc)
+own_before : (line : Line) (specs : List SpecTree) (stop : JobStop) (owner : Owner) → IsStopped line specs stop → only_command (outcome_of_job_stop stop) ≡ Some owner → owner_of line ≡ Some owner
+own_before line specs (JobStopOf.Refused (OtherCategory old new)) owner h e = editions_of line specs old new h ∙ e
+own_before line specs (JobStopOf.Refused (FilterRefused fault)) owner h e = expression_of line specs fault h ∙ e
+own_before line specs JobStopOf.OutOfMemory owner h e = absurd (cc)
 
 -- ---- of a run
 
 pub of_its_command : (words : List (List ℕ)) (files : Option (List File)) (c : LibraryCounts) (i : SourceChange) (o r : SinkChange) (outcome : Outcome) → Runs words files c i o r outcome → IsOfItsCommand words outcome
-of_its_command words files c i o r outcome (at_words none is unasked idle) verb e = absurd (none_is_some outcome verb (ap only_command is) e)
-of_its_command words files c i o r outcome (at_files stop h is idle) verb e = absurd (none_is_some outcome verb (ap only_command is ∙ none_at_files stop) e)
-of_its_command words files c i o r outcome (before_input stop h is idle) verb e =
-    record { what = h.what; shape = h.shape; is = own_before h.what.verb h.what.arguments h.specs stop verb h.stopped (sym (ap only_command is) ∙ e) }
-of_its_command words files c i o r outcome (in_job job d h) verb e = record { what = d.what; shape = d.shape; is = own_in_job i o r outcome d.what.verb d.what.arguments d.specs job verb d.is h e }
+of_its_command words files c i o r outcome (at_words none is unasked idle) owner e = absurd (none_is_some outcome owner (ap only_command is) e)
+of_its_command words files c i o r outcome (no_words is unasked idle) owner e = absurd (none_is_some outcome owner (ap only_command is) e)
+of_its_command words files c i o r outcome (at_files stop h is idle) owner e = absurd (none_is_some outcome owner (ap only_command is ∙ none_at_files stop) e)
+of_its_command words files c i o r outcome (before_input stop h is idle) owner e = record { what = h.what; shape = h.shape; is = own_before h.what h.specs stop owner h.stopped (sym (ap only_command is) ∙ e) }
+of_its_command words files c i o r outcome (in_job job d h) owner e = record { what = d.what; shape = d.shape; is = own_in_job i o r outcome d.what d.specs job owner d.is h e }
 
 -- ---- counts
 

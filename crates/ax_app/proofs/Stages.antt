@@ -7,13 +7,10 @@ use Rattle.ax_build_work.specs.BuildCommand.{build_command}
 use Rattle.ax_build_work.specs.declared.fault.TextFault.{TextFault}
 use Rattle.ax_command.specs.Lines.{lines_of}
 use Rattle.ax_command.specs.Outcomes.{outcome_of_stop, outcome_of_end, outcome_of_lines, outcome_of_job_stop}
-use Rattle.ax_command.specs.Words.{HasNoShape}
 use Rattle.ax_command.specs.declared.outcome.JobStop.{JobStop}
 use Rattle.ax_command.specs.declared.outcome.JobStop.TheVariants as JobStopOf
 use Rattle.ax_command.specs.declared.outcome.Outcome.{Outcome}
 use Rattle.ax_command.specs.declared.outcome.Outcome.TheVariants.{Usage, Done, WriteFault, OutOfMemory}
-use Rattle.ax_command.specs.declared.words.Verb.{Verb}
-use Rattle.ax_command.specs.declared.words.Verb.TheVariants.{Check, Build}
 use Rattle.ax_line_stream.proofs.AnswersOnce.{lines_complete}
 use Rattle.ax_line_stream.specs.Commands as Lines
 use Rattle.ax_line_stream.specs.Commands.{LineAnswer}
@@ -31,7 +28,7 @@ use Rattle.ax_load.specs.declared.fault.SpecFault.{SpecFault}
 use Rattle.ax_load.specs.declared.fault.SpecFault.TheVariants.{TooLarge, BadByte, TooDeep, BadToken, Flawed}
 use Rattle.ax_model.specs.Specification.{SpecTree}
 use Rattle.ax_outside.proofs.Ends.{with_end-nil, Rose-later}
-use Rattle.ax_outside.specs.Changes.{none_counted, LibraryCounts, SourceChange, SinkChange, IsUntouched, Gains, GainsNothing, Wrote}
+use Rattle.ax_outside.specs.Changes.{none_counted, LibraryCounts, SourceChange, SinkChange, IsUntouched, GainsNothing, Wrote}
 use Rattle.ax_outside.specs.Files.{File}
 use Rattle.ax_outside.specs.Told.{Rose, with_end}
 use Rattle.ax_outside.specs.declared.sinks.SinkFailed.{SinkFailed}
@@ -42,54 +39,79 @@ use Rattle.ax_stream.specs.Ending.{longest_input}
 use Rattle.ax_stream.specs.Streams.{IsIdle, StreamRuns, ToldRun, reading, writing, reporting, for_memory}
 use Rattle.ax_stream.specs.declared.end.StreamEnd.{StreamEnd}
 use Rattle.ax_stream.specs.declared.end.StreamEnd.TheVariants as EndOf
+use Rattle.ax_words.specs.Words.{HasNoShape, Answers}
+use Rattle.ax_words.specs.declared.error.WordsError.{WordsError}
+use Rattle.ax_words.specs.declared.error.WordsError.TheVariants as WordsErrorOf
+use Rattle.ax_words.specs.declared.line.Line.{Line}
+use Rattle.ax_words.specs.declared.line.Line.TheVariants.{Check, Build, Trial}
 use Rattle.ax_app.proofs.Ends.{IsEarly, stop_is_early, job_stop_is_early, no_usage_of_blocks, no_usage_of_lines, done_of_blocks, done_of_lines}
-use Rattle.ax_app.proofs.Once.{shape_once, does_once, IsGood, good_job}
+use Rattle.ax_words.proofs.Once.{once as shape_once}
+use Rattle.ax_app.proofs.Once.{does_once, IsGood, good_job}
 use Rattle.ax_app.specs.Answer.{by_words, by_files, by_refusal, by_job}
 use Rattle.ax_app.specs.Completing.{NoFaultCounted, HasWhole, IsDoneWith}
-use Rattle.ax_app.specs.Headline.{Headline, answered, stopped_at_files, stopped_before_input, stopped_in_job, IsHindrance, of_library, of_memory}
-use Rattle.ax_app.specs.Jobs.{Job, writes, each_block, builds, refuses, check_text, IsJob, ReadsInput, TextEnds, written, cut, no_memory, JobRuns, RunsJob, IsReadyToCheck, takes_distinct}
-use Rattle.ax_app.specs.Running.{Does, StopsAtFiles, StopsBeforeInput, Runs, at_words, at_files, before_input, in_job, Ended, Causes}
+use Rattle.ax_app.specs.Headline.{Headline, answered, stopped_at_words, stopped_at_files, stopped_before_input, stopped_in_job, IsHindrance, of_library, of_memory}
+use Rattle.ax_app.specs.Jobs.{Job, writes, each_block, builds, refuses, check_text, IsJob, ReadsInput, TextEnds, written, cut, no_memory, JobRuns, RunsJob, EndsTrial, IsReadyToCheck, IsReadyToTry, files_of, takes_distinct}
+use Rattle.ax_app.specs.Running.{Does, StopsAtFiles, StopsBeforeInput, Runs, at_words, no_words, at_files, before_input, in_job, Ended, Causes}
 
 -- ---- the jobs of the commands
 
-pub check_job : (arguments : List (List ℕ)) (specs : List SpecTree) (left held' : Option (List ℕ)) (taken faults faults' : ℕ) (o : SinkChange) (outcome : Outcome) → IsReadyToCheck specs → ((spec : SpecTree) → specs ≡ spec ∷ [] → TextEnds (check_text spec) o outcome)
-    → RunsJob Check arguments specs (record { left = left; left' = left; taken = taken; taken' = taken; faults = faults; faults' = faults }) o (record { held = held'; held' = held'; faults = faults'; faults' = faults' }) outcome
-check_job arguments specs left held' taken faults faults' o outcome ready ends = record {
-  job = writes (check_text ready.spec);
-  is = record { spec = ready.spec; one = ready.one; is = refl };
-  runs = record { ends = ends ready.spec ready.one; untouched = record { left = refl; taken = refl }; report = refl };
+-- a text is written, no octet taken and nothing reported
+pub text_job : (line : Line) (specs : List SpecTree) (left held' : Option (List ℕ)) (taken faults faults' : ℕ) (o : SinkChange) (count : ℕ) (text : List ℕ) (outcome : Outcome) → IsJob line specs (writes count text) → TextEnds count text o outcome
+    → RunsJob line specs (record { left = left; left' = left; taken = taken; taken' = taken; faults = faults; faults' = faults }) o (record { held = held'; held' = held'; faults = faults'; faults' = faults' }) outcome
+text_job line specs left held' taken faults faults' o count text outcome is ends = record {
+  job = writes count text;
+  is = is;
+  runs = record { ends = ends; untouched = record { left = refl; taken = refl }; report = refl };
 }
 
-pub block_job : (verb : Verb) (arguments : List (List ℕ)) (specs : List SpecTree) (i : SourceChange) (o r : SinkChange) (c k : BlockCommand) (end : StreamEnd) (outcome : Outcome) → IsJob verb arguments specs (each_block k) → c ≡ k → StreamRuns c longest_input i o r end → outcome ≡ outcome_of_end end
-    → RunsJob verb arguments specs i o r outcome
-block_job verb arguments specs i o r c k end outcome job is runs ends = record { job = each_block k; is = job; runs = record { end = end; runs = subst (λ x. StreamRuns x longest_input i o r end) is runs; is = ends } }
+pub check_job : (file : List ℕ) (specs : List SpecTree) (left held' : Option (List ℕ)) (taken faults faults' : ℕ) (o : SinkChange) (outcome : Outcome) → IsReadyToCheck specs → ((spec : SpecTree) → specs ≡ spec ∷ [] → TextEnds 0 (check_text spec) o outcome)
+    → RunsJob (Check file) specs (record { left = left; left' = left; taken = taken; taken' = taken; faults = faults; faults' = faults }) o (record { held = held'; held' = held'; faults = faults'; faults' = faults' }) outcome
+check_job file specs left held' taken faults faults' o outcome ready ends =
+    text_job (Check file) specs left held' taken faults faults' o 0 (check_text ready.spec) outcome (record { spec = ready.spec; one = ready.one; is = refl }) (ends ready.spec ready.one)
+
+pub trial_job : (file : List ℕ) (seed count : ℕ) (specs : List SpecTree) (left held' : Option (List ℕ)) (taken faults faults' : ℕ) (o : SinkChange) (result : Result Outcome JobStop) → IsReadyToTry count specs
+    → IfOk result (λ outcome. (spec : SpecTree) → specs ≡ spec ∷ [] → EndsTrial spec seed count o outcome)
+    → IfOk result (RunsJob (Trial file seed count) specs (record { left = left; left' = left; taken = taken; taken' = taken; faults = faults; faults' = faults }) o (record { held = held'; held' = held'; faults = faults'; faults' = faults' }))
+trial_job file seed count specs left held' taken faults faults' o (Ok outcome) ready ends =
+    let t = ends ready.spec ready.one in
+    text_job (Trial file seed count) specs left held' taken faults faults' o count t.line outcome (record { spec = ready.spec; one = ready.one; line = t.line; trial = t.trial; is = refl }) t.ends
+trial_job file seed count specs left held' taken faults faults' o (Err stop) ready ends = tt
+
+pub block_job : (line : Line) (specs : List SpecTree) (i : SourceChange) (o r : SinkChange) (c k : BlockCommand) (end : StreamEnd) (outcome : Outcome) → IsJob line specs (each_block k) → c ≡ k → StreamRuns c longest_input i o r end → outcome ≡ outcome_of_end end
+    → RunsJob line specs i o r outcome
+block_job line specs i o r c k end outcome job is runs ends = record { job = each_block k; is = job; runs = record { end = end; runs = subst (λ x. StreamRuns x longest_input i o r end) is runs; is = ends } }
 
 -- `build` reports nothing
-pub build_job : (arguments : List (List ℕ)) (specs : List SpecTree) (i : SourceChange) (o : SinkChange) (held : Option (List ℕ)) (faults : ℕ) (end : LinesEnd TextFault) (outcome : Outcome) → LinesRun (build_command specs) longest_line longest_input i o end → outcome ≡ outcome_of_lines end
-    → RunsJob Build arguments specs i o (record { held = held; held' = held; faults = faults; faults' = faults }) outcome
-build_job arguments specs i o held faults end outcome runs is = record { job = builds specs; is = refl; runs = record { end = end; runs = runs; is = is; report = refl } }
+pub build_job : (files : List (List ℕ)) (specs : List SpecTree) (i : SourceChange) (o : SinkChange) (held : Option (List ℕ)) (faults : ℕ) (end : LinesEnd TextFault) (outcome : Outcome) → LinesRun (build_command specs) longest_line longest_input i o end → outcome ≡ outcome_of_lines end
+    → RunsJob (Build files) specs i o (record { held = held; held' = held; faults = faults; faults' = faults }) outcome
+build_job files specs i o held faults end outcome runs is = record { job = builds specs; is = refl; runs = record { end = end; runs = runs; is = is; report = refl } }
 
 -- ---- usage
 
-no_usage_of_text : (text : List ℕ) (o : SinkChange) (outcome : Outcome) → TextEnds text o outcome → outcome ≡ Usage → ⊥
-no_usage_of_text text o outcome (written is h) e = absurd (let x : Done 0 ≡ Usage = sym is ∙ e in cc)
-no_usage_of_text text o outcome (cut is h) e = absurd (let x : WriteFault ≡ Usage = sym is ∙ e in cc)
-no_usage_of_text text o outcome (no_memory is h) e = absurd (let x : OutOfMemory ≡ Usage = sym is ∙ e in cc)
+pub no_shape : (words : List (List ℕ)) (error : WordsError) → error ≡ WordsErrorOf.Usage → Answers words (Err error) → HasNoShape words
+no_shape words error is h = subst (λ e. Answers words (Err e)) is h
+
+no_usage_of_text : (count : ℕ) (text : List ℕ) (o : SinkChange) (outcome : Outcome) → TextEnds count text o outcome → outcome ≡ Usage → ⊥
+no_usage_of_text count text o outcome (written is h) e = absurd (let x : Done count ≡ Usage = sym is ∙ e in cc)
+no_usage_of_text count text o outcome (cut is h) e = absurd (let x : WriteFault ≡ Usage = sym is ∙ e in cc)
+no_usage_of_text count text o outcome (no_memory is h) e = absurd (let x : OutOfMemory ≡ Usage = sym is ∙ e in cc)
 
 no_usage_in_job : (job : Job) (i : SourceChange) (o r : SinkChange) (outcome : Outcome) → JobRuns job i o r outcome → outcome ≡ Usage → ⊥
-no_usage_in_job (writes text) i o r outcome h e = no_usage_of_text text o outcome h.ends e
+no_usage_in_job (writes count text) i o r outcome h e = no_usage_of_text count text o outcome h.ends e
 no_usage_in_job (each_block c) i o r outcome h e = no_usage_of_blocks h.end (sym h.is ∙ e)
 no_usage_in_job (builds catalogue) i o r outcome h e = no_usage_of_lines h.end (sym h.is ∙ e)
 no_usage_in_job (refuses refusal) i o r outcome h e = h
 
 pub usage_only : (words : List (List ℕ)) (files : Option (List File)) (c : LibraryCounts) (i : SourceChange) (o r : SinkChange) (outcome : Outcome) → Runs words files c i o r outcome → outcome ≡ Usage → HasNoShape words
 usage_only words files c i o r outcome (at_words none is unasked idle) e = none
+usage_only words files c i o r outcome (no_words is unasked idle) e = absurd (let x : OutOfMemory ≡ Usage = sym is ∙ e in cc)
 usage_only words files c i o r outcome (at_files stop h is idle) e = absurd (subst IsEarly (sym is ∙ e) (stop_is_early stop))
 usage_only words files c i o r outcome (before_input stop h is idle) e = absurd (subst IsEarly (sym is ∙ e) (job_stop_is_early stop))
 usage_only words files c i o r outcome (in_job job d h) e = absurd (no_usage_in_job job i o r outcome h e)
 
-pub usage_there : (words : List (List ℕ)) (files : Option (List File)) (c : LibraryCounts) (i : SourceChange) (o r : SinkChange) (outcome : Outcome) → Runs words files c i o r outcome → HasNoShape words → outcome ≡ Usage
-usage_there words files c i o r outcome (at_words none is unasked idle) e = is
+pub usage_there : (words : List (List ℕ)) (files : Option (List File)) (c : LibraryCounts) (i : SourceChange) (o r : SinkChange) (outcome : Outcome) → Runs words files c i o r outcome → HasNoShape words → (outcome ≡ Usage) ⊎ (outcome ≡ OutOfMemory)
+usage_there words files c i o r outcome (at_words none is unasked idle) e = inl is
+usage_there words files c i o r outcome (no_words is unasked idle) e = inr is
 usage_there words files c i o r outcome (at_files stop h is idle) e = absurd (e h.what h.shape)
 usage_there words files c i o r outcome (before_input stop h is idle) e = absurd (e h.what h.shape)
 usage_there words files c i o r outcome (in_job job d h) e = absurd (e d.what d.shape)
@@ -123,7 +145,7 @@ at_file distinct files c before name i stop (by_file h) = by_itself distinct fil
 at_file distinct files c before name i stop (by_category want category is twice) = inr (record { ends = by_category want category is twice; not_memory = twice_is_not_memory stop i category is })
 
 files_headline : (words : List (List ℕ)) (files : List File) (c : LibraryCounts) (input : List ℕ) (i : SourceChange) (o r : SinkChange) (outcome : Outcome) (stop : LoadStop) (h : StopsAtFiles words (Some files) c stop) → outcome ≡ outcome_of_stop stop → IsIdle i o r
-    → IsHindrance c stop ⊎ ByItself (takes_distinct h.what.verb) files h.ends.before h.ends.name (length h.ends.earlier) stop → Headline words files c input i o r outcome
+    → IsHindrance c stop ⊎ ByItself (takes_distinct h.what) files h.ends.before h.ends.name (length h.ends.earlier) stop → Headline words files c input i o r outcome
 files_headline words files c input i o r outcome stop h is idle (inl hindered) = stopped_at_files stop h hindered is idle
 files_headline words files c input i o r outcome stop h is idle (inr b) =
     answered [] [] (by_files stop
@@ -133,12 +155,12 @@ files_headline words files c input i o r outcome stop h is idle (inr b) =
 
 -- ---- the told headline: jobs
 
-text_headline : (words : List (List ℕ)) (files : List File) (c : LibraryCounts) (input : List ℕ) (i : SourceChange) (o r : SinkChange) (outcome : Outcome) (text : List ℕ) → Does words (Some files) (writes text)
-    → IsUntouched i → GainsNothing r → TextEnds text o outcome → Headline words files c input i o r outcome
-text_headline words files c input i o r outcome text d idle none (written done h) =
-    answered text [] (by_job (writes text) d (record { done = done; written_is = refl; reported_is = refl })) h (none ∙ sym (with_end-nil r.held))
-text_headline words files c input i o r outcome text d idle none (cut e h) = stopped_in_job (writes text) d (record { ends = inl (e, h); untouched = idle; report = none })
-text_headline words files c input i o r outcome text d idle none (no_memory e h) = stopped_in_job (writes text) d (record { ends = inr (e, h); untouched = idle; report = none })
+text_headline : (words : List (List ℕ)) (files : List File) (c : LibraryCounts) (input : List ℕ) (i : SourceChange) (o r : SinkChange) (outcome : Outcome) (count : ℕ) (text : List ℕ) → Does words (Some files) (writes count text)
+    → IsUntouched i → GainsNothing r → TextEnds count text o outcome → Headline words files c input i o r outcome
+text_headline words files c input i o r outcome count text d idle none (written done h) =
+    answered text [] (by_job (writes count text) d (record { done = done; written_is = refl; reported_is = refl })) h (none ∙ sym (with_end-nil r.held))
+text_headline words files c input i o r outcome count text d idle none (cut e h) = stopped_in_job (writes count text) d (record { ends = inl (e, h); untouched = idle; report = none })
+text_headline words files c input i o r outcome count text d idle none (no_memory e h) = stopped_in_job (writes count text) d (record { ends = inr (e, h); untouched = idle; report = none })
 
 blocks_headline : (words : List (List ℕ)) (files : List File) (c : LibraryCounts) (input : List ℕ) (i : SourceChange) (o r : SinkChange) (outcome : Outcome) (k : BlockCommand) (end : StreamEnd) → Does words (Some files) (each_block k)
     → outcome ≡ outcome_of_end end → ToldRun k longest_input input i.left' o r end → Headline words files c input i o r outcome
@@ -154,7 +176,7 @@ lines_headline words files c input i o r outcome catalogue end d is none (inr st
 
 job_headline : (words : List (List ℕ)) (files : List File) (c : LibraryCounts) (input : List ℕ) (i : SourceChange) (o r : SinkChange) (outcome : Outcome) (job : Job) → AreOctets input → i.left ≡ Some input
     → Does words (Some files) job → JobRuns job i o r outcome → Headline words files c input i o r outcome
-job_headline words files c input i o r outcome (writes text) octets left d h = text_headline words files c input i o r outcome text d h.untouched h.report h.ends
+job_headline words files c input i o r outcome (writes count text) octets left d h = text_headline words files c input i o r outcome count text d h.untouched h.report h.ends
 job_headline words files c input i o r outcome (each_block k) octets left d h = blocks_headline words files c input i o r outcome k h.end d h.is (h.runs.told input octets left)
 job_headline words files c input i o r outcome (builds catalogue) octets left d h = lines_headline words files c input i o r outcome catalogue h.end d h.is h.report (h.runs.told input left)
 job_headline words files c input i o r outcome (refuses refusal) octets left d h = absurd h
@@ -168,8 +190,9 @@ before_headline words files c input i o r outcome JobStopOf.OutOfMemory h is idl
 told_headline : (words : List (List ℕ)) (files : List File) (c : LibraryCounts) (input : List ℕ) (i : SourceChange) (o r : SinkChange) (outcome : Outcome) → AreOctets input → i.left ≡ Some input
     → Runs words (Some files) c i o r outcome → Headline words files c input i o r outcome
 told_headline words files c input i o r outcome octets left (at_words none is unasked idle) = answered [] [] (by_words none is refl refl) (idle.out ∙ sym (with_end-nil o.held)) (idle.report ∙ sym (with_end-nil r.held))
+told_headline words files c input i o r outcome octets left (no_words is unasked idle) = stopped_at_words is idle
 told_headline words files c input i o r outcome octets left (at_files stop h is idle) =
-    files_headline words files c input i o r outcome stop h is idle (at_file (takes_distinct h.what.verb) files c h.ends.before h.ends.name (length h.ends.earlier) stop h.ends.ends)
+    files_headline words files c input i o r outcome stop h is idle (at_file (takes_distinct h.what) files c h.ends.before h.ends.name (length h.ends.earlier) stop h.ends.ends)
 told_headline words files c input i o r outcome octets left (before_input stop h is idle) = before_headline words files c input i o r outcome stop h is idle
 told_headline words files c input i o r outcome octets left (in_job job d h) = job_headline words files c input i o r outcome job octets left d h
 
@@ -179,10 +202,10 @@ headline words told files c input i o r outcome is octets left runs = told_headl
 
 -- ---- completeness
 
-text_completes : (text : List ℕ) (o r : SinkChange) (outcome : Outcome) → GainsNothing r → (Rose o.faults o.faults' → ⊥) → TextEnds text o outcome → IsDoneWith outcome 0 o r text []
-text_completes text o r outcome none quiet (written is h) = inr (is, h, none ∙ sym (with_end-nil r.held))
-text_completes text o r outcome none quiet (cut is h) = absurd (quiet h.rose)
-text_completes text o r outcome none quiet (no_memory is h) = inl is
+text_completes : (count : ℕ) (text : List ℕ) (o r : SinkChange) (outcome : Outcome) → GainsNothing r → (Rose o.faults o.faults' → ⊥) → TextEnds count text o outcome → IsDoneWith outcome count o r text []
+text_completes count text o r outcome none quiet (written is h) = inr (is, h, none ∙ sym (with_end-nil r.held))
+text_completes count text o r outcome none quiet (cut is h) = absurd (quiet h.rose)
+text_completes count text o r outcome none quiet (no_memory is h) = inl is
 
 blocks_complete : (k : BlockCommand) (blocks : List BlockTree) (o r : SinkChange) (end : StreamEnd) (outcome : Outcome) → outcome ≡ outcome_of_end end → (end ≡ EndOf.OutOfMemory) ⊎ IsDoneWithBlocks k blocks o r end
     → IsDoneWith outcome (length blocks) o r (output_of k 0 blocks) (report_of k 0 blocks)
@@ -201,7 +224,7 @@ same_whole outcome n count o r text all lines said a b c (inr (done, out, report
 
 module _ (input : List ℕ) (i : SourceChange) (o r : SinkChange) (outcome : Outcome) (count : ℕ) (all said : List ℕ) (octets : AreOctets input) (left : i.left ≡ Some input) (source : Rose i.faults i.faults' → ⊥) (out : Rose o.faults o.faults' → ⊥) (report : Rose r.faults r.faults' → ⊥) where
   job_completes : (job : Job) → IsGood job → HasWhole job input count all said → JobRuns job i o r outcome → IsDoneWith outcome count o r all said
-  job_completes (writes text) good can h = same_whole outcome 0 count o r text all [] said can.none can.written_is can.reported_is (text_completes text o r outcome h.report out h.ends)
+  job_completes (writes blocks text) good can h = same_whole outcome blocks count o r text all [] said can.count_is can.written_is can.reported_is (text_completes blocks text o r outcome h.report out h.ends)
   job_completes (each_block k) good can h =
       same_whole outcome (length can.blocks) count o r (output_of k 0 can.blocks) all (report_of k 0 can.blocks) said can.count_is can.written_is can.reported_is
       (blocks_complete k can.blocks o r h.end outcome h.is (stream_completes k longest_input input can.blocks i o r h.end can.spelled can.within can.given octets left source out report h.runs))
@@ -222,9 +245,10 @@ run_completes : (words : List (List ℕ)) (files : List File) (c : LibraryCounts
     → (Rose c.faults c.faults' → ⊥) → (Rose i.faults i.faults' → ⊥) → (Rose o.faults o.faults' → ⊥) → (Rose r.faults r.faults' → ⊥) → Does words (Some files) job → HasWhole job input count all said → Runs words (Some files) c i o r outcome
     → IsDoneWith outcome count o r all said
 run_completes words files c input i o r outcome job count all said octets left library source out report d can (at_words none is unasked idle) = absurd (none d.what d.shape)
+run_completes words files c input i o r outcome job count all said octets left library source out report d can (no_words is unasked idle) = inl is
 run_completes words files c input i o r outcome job count all said octets left library source out report d can (at_files stop h is idle) =
     let same : d.what ≡ h.what = shape_once words d.what h.what d.shape h.shape in
-    let memory : stop ≡ LoadStopOf.OutOfMemory = given_ends_for_memory (takes_distinct h.what.verb) files c h.what.files d.specs stop library (subst (λ w. FilesGive (takes_distinct w.verb) (Some files) w.files d.specs) same d.give) h.ends in
+    let memory : stop ≡ LoadStopOf.OutOfMemory = given_ends_for_memory (takes_distinct h.what) files c (files_of h.what) d.specs stop library (subst (λ w. FilesGive (takes_distinct w) (Some files) (files_of w) d.specs) same d.give) h.ends in
     inl (is ∙ ap outcome_of_stop memory)
 run_completes words files c input i o r outcome job count all said octets left library source out report d can (before_input stop h is idle) =
     inl (is ∙ ap outcome_of_job_stop (not_refused words files input job count all said stop d can h))
@@ -248,7 +272,7 @@ lines_read catalogue input i o end count is (inr (OfLines.writing e s)) = absurd
 lines_read catalogue input i o end count is (inr (OfLines.for_memory e s)) = absurd (let x : ◌≡◌ {A = LinesEnd TextFault} (LinesEndOf.Done count) LinesEndOf.OutOfMemory = sym is ∙ e in cc)
 
 job_reads : (job : Job) (input : List ℕ) (i : SourceChange) (o r : SinkChange) (outcome : Outcome) (count : ℕ) → AreOctets input → i.left ≡ Some input → ReadsInput job → outcome ≡ Done count → JobRuns job i o r outcome → i.left' ≡ Some []
-job_reads (writes text) input i o r outcome count octets left reads done h = absurd reads
+job_reads (writes blocks text) input i o r outcome count octets left reads done h = absurd reads
 job_reads (each_block k) input i o r outcome count octets left reads done h = blocks_read k input i o r h.end count (done_of_blocks h.end count (sym h.is ∙ done)) (h.runs.told input octets left)
 job_reads (builds catalogue) input i o r outcome count octets left reads done h = lines_read catalogue input i o h.end count (done_of_lines h.end count (sym h.is ∙ done)) (h.runs.told input left)
 job_reads (refuses refusal) input i o r outcome count octets left reads done h = absurd reads
@@ -256,6 +280,7 @@ job_reads (refuses refusal) input i o r outcome count octets left reads done h =
 done_reads : (words : List (List ℕ)) (files : List File) (c : LibraryCounts) (input : List ℕ) (i : SourceChange) (o r : SinkChange) (outcome : Outcome) (job : Job) (count : ℕ) → AreOctets input → i.left ≡ Some input
     → Does words (Some files) job → ReadsInput job → outcome ≡ Done count → Runs words (Some files) c i o r outcome → i.left' ≡ Some []
 done_reads words files c input i o r outcome job count octets left d reads done (at_words none is unasked idle) = absurd (let x : Usage ≡ Done count = sym is ∙ done in cc)
+done_reads words files c input i o r outcome job count octets left d reads done (no_words is unasked idle) = absurd (let x : OutOfMemory ≡ Done count = sym is ∙ done in cc)
 done_reads words files c input i o r outcome job count octets left d reads done (at_files stop h is idle) = absurd (subst IsEarly (sym is ∙ done) (stop_is_early stop))
 done_reads words files c input i o r outcome job count octets left d reads done (before_input stop h is idle) = absurd (subst IsEarly (sym is ∙ done) (job_stop_is_early stop))
 done_reads words files c input i o r outcome job count octets left d reads done (in_job other h runs) =

@@ -1,5 +1,5 @@
 -- The commands: what each does once its files are accepted. A command is one row of `IsJob`.
-use Rattle.std.specs.Prelude.{◌≡◌, ℕ, ◌≤◌, ◌^◌, Bool, true, false, List, [], ◌∷◌, ◌++◌, length}
+use Rattle.std.specs.Prelude.{◌≡◌, ℕ, ◌≤◌, ◌^◌, Bool, true, false, List, [], ◌∷◌, ◌++◌, length, codes}
 use Rattle.ax_build_work.specs.BuildCommand.{build_command}
 use Rattle.ax_build_work.specs.declared.fault.TextFault.{TextFault}
 use Rattle.ax_command.specs.Accepted.{accepted_line}
@@ -10,8 +10,6 @@ use Rattle.ax_command.specs.declared.outcome.Outcome.{Outcome}
 use Rattle.ax_command.specs.declared.outcome.Outcome.TheVariants.{Done, WriteFault, OutOfMemory}
 use Rattle.ax_command.specs.declared.outcome.Refusal.{Refusal}
 use Rattle.ax_command.specs.declared.outcome.Refusal.TheVariants.{FilterRefused, OtherCategory}
-use Rattle.ax_command.specs.declared.words.Verb.{Verb}
-use Rattle.ax_command.specs.declared.words.Verb.TheVariants.{Check, Canon, Show, Text, Build, Filter, Migrate}
 use Rattle.ax_filter.specs.Texts.{IsFilterText, IsRefused}
 use Rattle.ax_filter.specs.Tree.{ExprTree}
 use Rattle.ax_filter.specs.declared.text.FilterFault.{FilterFault}
@@ -35,11 +33,14 @@ use Rattle.ax_stream.specs.Streams.{StreamAnswers, StreamRuns}
 use Rattle.ax_stream.specs.declared.end.StreamEnd.{StreamEnd}
 use Rattle.ax_text.specs.BlockText.{BlockLine, OpaqueLine}
 use Rattle.ax_text.specs.ShowText.{ShowText, OpaqueShown}
+use Rattle.ax_trial.specs.Trial.{IsTrial}
+use Rattle.ax_words.specs.declared.line.Line.{Line}
+use Rattle.ax_words.specs.declared.line.Line.TheVariants.{Check, Canon, Show, Text, Build, Filter, Migrate, Trial, Help, Version}
 
--- it writes a text and reads no input, or it answers each block of the input, or it builds a block of each line of the input,
+-- it writes a text, which counts so many blocks, and reads no input, or it answers each block of the input, or it builds a block of each line of the input,
 -- under this catalogue; or it refuses its arguments or what its files have in common
 pub data Job : Type 0 where
-  writes : List ℕ → Job
+  writes : ℕ → List ℕ → Job
   each_block : BlockCommand → Job
   builds : List SpecTree → Job
   refuses : Refusal → Job
@@ -51,7 +52,7 @@ check_text spec = accepted_line spec ++ printed spec
 pub record IsCheckJob (specs : List SpecTree) (job : Job) : Type 0 where
   pub spec : SpecTree
   pub one : specs ≡ spec ∷ []
-  pub is : job ≡ writes (check_text spec)
+  pub is : job ≡ writes 0 (check_text spec)
 
 -- `show`: the listing of each block, by its number
 abbrev pub show_command : List SpecTree → BlockCommand
@@ -66,11 +67,6 @@ pub data IsFilterJob (expression : List ℕ) (specs : List SpecTree) (job : Job)
   filters : (e : ExprTree) → IsFilterText specs expression e → job ≡ each_block (filter_command e specs) → IsFilterJob expression specs job
   refused : (fault : FilterFault) → IsRefused specs expression fault → job ≡ refuses (FilterRefused fault) → IsFilterJob expression specs job
 
-pub record FiltersBy (arguments : List (List ℕ)) (specs : List SpecTree) (job : Job) : Type 0 where
-  pub expression : List ℕ
-  pub one : arguments ≡ expression ∷ []
-  pub is : IsFilterJob expression specs job
-
 -- `migrate`: of two editions of one category it answers each block; two of different categories it refuses
 pub data IsMigrateJob (old new : SpecTree) (job : Job) : Type 0 where
   migrates : old.category ≡ new.category → job ≡ each_block (migrate_command old new) → IsMigrateJob old new job
@@ -82,41 +78,75 @@ pub record MigratesBetween (specs : List SpecTree) (job : Job) : Type 0 where
   pub two : specs ≡ old ∷ new ∷ []
   pub is : IsMigrateJob old new job
 
--- whether the files of the command have to be of distinct categories
-abbrev pub takes_distinct : Verb → Bool
-takes_distinct Check = true
-takes_distinct Canon = true
-takes_distinct Show = true
-takes_distinct Text = true
-takes_distinct Build = true
-takes_distinct Filter = true
-takes_distinct Migrate = false
+-- `trial`: the line of so many blocks made from the seed over its file
+pub record IsTrialJob (seed count : ℕ) (specs : List SpecTree) (job : Job) : Type 0 where
+  pub spec : SpecTree
+  pub one : specs ≡ spec ∷ []
+  pub line : List ℕ
+  pub trial : IsTrial spec seed count line
+  pub is : job ≡ writes count line
 
--- the job of a command with these arguments, over the specifications of its files
-abbrev pub IsJob : Verb → List (List ℕ) → List SpecTree → Job → Type 0
-IsJob Check arguments specs job = IsCheckJob specs job
-IsJob Canon arguments specs job = job ≡ each_block (canon_command specs)
-IsJob Show arguments specs job = job ≡ each_block (show_command specs)
-IsJob Text arguments specs job = job ≡ each_block (text_command specs)
-IsJob Build arguments specs job = job ≡ builds specs
-IsJob Filter arguments specs job = FiltersBy arguments specs job
-IsJob Migrate arguments specs job = MigratesBetween specs job
+-- `--help`: the shapes of the commands
+abbrev pub help_text : List ℕ
+help_text = codes "asterix check SPEC\nasterix canon SPEC...\nasterix show SPEC...\nasterix text SPEC...\nasterix build SPEC...\nasterix filter EXPR SPEC...\nasterix migrate OLD NEW\nasterix trial SPEC SEED COUNT\n"
+
+abbrev pub version_text : List ℕ
+version_text = codes "asterix 1\n"
+
+-- the names of a line's files, in their order
+abbrev pub files_of : Line → List (List ℕ)
+files_of (Check file) = file ∷ []
+files_of (Canon files) = files
+files_of (Show files) = files
+files_of (Text files) = files
+files_of (Build files) = files
+files_of (Filter expression files) = files
+files_of (Migrate old new) = old ∷ new ∷ []
+files_of (Trial file seed count) = file ∷ []
+files_of Help = []
+files_of Version = []
+
+-- whether they have to be of distinct categories
+abbrev pub takes_distinct : Line → Bool
+takes_distinct (Check file) = true
+takes_distinct (Canon files) = true
+takes_distinct (Show files) = true
+takes_distinct (Text files) = true
+takes_distinct (Build files) = true
+takes_distinct (Filter expression files) = true
+takes_distinct (Migrate old new) = false
+takes_distinct (Trial file seed count) = true
+takes_distinct Help = true
+takes_distinct Version = true
+
+-- the job of a line, over the specifications of its files
+abbrev pub IsJob : Line → List SpecTree → Job → Type 0
+IsJob (Check file) specs job = IsCheckJob specs job
+IsJob (Canon files) specs job = job ≡ each_block (canon_command specs)
+IsJob (Show files) specs job = job ≡ each_block (show_command specs)
+IsJob (Text files) specs job = job ≡ each_block (text_command specs)
+IsJob (Build files) specs job = job ≡ builds specs
+IsJob (Filter expression files) specs job = IsFilterJob expression specs job
+IsJob (Migrate old new) specs job = MigratesBetween specs job
+IsJob (Trial file seed count) specs job = IsTrialJob seed count specs job
+IsJob Help specs job = job ≡ writes 0 help_text
+IsJob Version specs job = job ≡ writes 0 version_text
 
 -- the job is a refusal, or memory was wanting before it was known
-abbrev pub IsStopped : Verb → List (List ℕ) → List SpecTree → JobStop → Type 0
-IsStopped verb arguments specs (JobStopOf.Refused refusal) = IsJob verb arguments specs (refuses refusal)
-IsStopped verb arguments specs JobStopOf.OutOfMemory = Unit {0}
+abbrev pub IsStopped : Line → List SpecTree → JobStop → Type 0
+IsStopped line specs (JobStopOf.Refused refusal) = IsJob line specs (refuses refusal)
+IsStopped line specs JobStopOf.OutOfMemory = Unit {0}
 
 abbrev pub ReadsInput : Job → Type 0
-ReadsInput (writes text) = ⊥
+ReadsInput (writes count text) = ⊥
 ReadsInput (each_block c) = Unit {0}
 ReadsInput (builds catalogue) = Unit {0}
 ReadsInput (refuses refusal) = ⊥
 
 -- ---- its answer: how the run ends, what it writes and what it reports
 
-pub record TextAnswers (text : List ℕ) (outcome : Outcome) (written reported : List ℕ) : Type 0 where
-  pub done : outcome ≡ Done 0
+pub record TextAnswers (count : ℕ) (text : List ℕ) (outcome : Outcome) (written reported : List ℕ) : Type 0 where
+  pub done : outcome ≡ Done count
   pub written_is : written ≡ text
   pub reported_is : reported ≡ []
 
@@ -138,20 +168,20 @@ pub record BuildAnswers (catalogue : List SpecTree) (input : List ℕ) (outcome 
   pub reported_is : reported ≡ []
 
 abbrev pub JobAnswers : Job → List ℕ → Outcome → List ℕ → List ℕ → Type 0
-JobAnswers (writes text) input outcome written reported = TextAnswers text outcome written reported
+JobAnswers (writes count text) input outcome written reported = TextAnswers count text outcome written reported
 JobAnswers (each_block c) input outcome written reported = BlocksAnswer c input outcome written reported
 JobAnswers (builds catalogue) input outcome written reported = BuildAnswers catalogue input outcome written reported
 JobAnswers (refuses refusal) input outcome written reported = ⊥
 
 -- ---- its run, whatever is told
 
-pub data TextEnds (text : List ℕ) (o : SinkChange) (outcome : Outcome) : Type 0 where
-  written : outcome ≡ Done 0 → Gains o text → TextEnds text o outcome
-  cut : outcome ≡ WriteFault → GainsPart o text → TextEnds text o outcome
-  no_memory : outcome ≡ OutOfMemory → GainsNothing o → TextEnds text o outcome
+pub data TextEnds (count : ℕ) (text : List ℕ) (o : SinkChange) (outcome : Outcome) : Type 0 where
+  written : outcome ≡ Done count → Gains o text → TextEnds count text o outcome
+  cut : outcome ≡ WriteFault → GainsPart o text → TextEnds count text o outcome
+  no_memory : outcome ≡ OutOfMemory → GainsNothing o → TextEnds count text o outcome
 
-pub record TextRuns (text : List ℕ) (i : SourceChange) (o r : SinkChange) (outcome : Outcome) : Type 0 where
-  pub ends : TextEnds text o outcome
+pub record TextRuns (count : ℕ) (text : List ℕ) (i : SourceChange) (o r : SinkChange) (outcome : Outcome) : Type 0 where
+  pub ends : TextEnds count text o outcome
   pub untouched : IsUntouched i
   pub report : GainsNothing r
 
@@ -167,7 +197,7 @@ pub record BuildRuns (catalogue : List SpecTree) (i : SourceChange) (o r : SinkC
   pub report : GainsNothing r
 
 abbrev pub JobRuns : Job → SourceChange → SinkChange → SinkChange → Outcome → Type 0
-JobRuns (writes text) i o r outcome = TextRuns text i o r outcome
+JobRuns (writes count text) i o r outcome = TextRuns count text i o r outcome
 JobRuns (each_block c) i o r outcome = BlocksRun c i o r outcome
 JobRuns (builds catalogue) i o r outcome = BuildRuns catalogue i o r outcome
 JobRuns (refuses refusal) i o r outcome = ⊥
@@ -179,22 +209,31 @@ pub record IsReadyToCheck (specs : List SpecTree) : Type 0 where
   pub one : specs ≡ spec ∷ []
   pub in_range : AreNumbersInRange spec
 
-pub record IsReadyToFilter (arguments : List (List ℕ)) : Type 0 where
-  pub expression : List ℕ
-  pub one : arguments ≡ expression ∷ []
-  pub short : length expression ≤ 2 ^ 31
+pub record IsReadyToTry (count : ℕ) (specs : List SpecTree) : Type 0 where
+  pub spec : SpecTree
+  pub one : specs ≡ spec ∷ []
+  pub few : count ≤ 1000000
 
-abbrev pub IsReady : Verb → List (List ℕ) → List SpecTree → Type 0
-IsReady Check arguments specs = IsReadyToCheck specs
-IsReady Canon arguments specs = Unit {0}
-IsReady Show arguments specs = Unit {0}
-IsReady Text arguments specs = Unit {0}
-IsReady Build arguments specs = Unit {0}
-IsReady Filter arguments specs = IsReadyToFilter arguments
-IsReady Migrate arguments specs = Unit {0}
+abbrev pub IsReady : Line → List SpecTree → Type 0
+IsReady (Check file) specs = IsReadyToCheck specs
+IsReady (Canon files) specs = Unit {0}
+IsReady (Show files) specs = Unit {0}
+IsReady (Text files) specs = Unit {0}
+IsReady (Build files) specs = Unit {0}
+IsReady (Filter expression files) specs = length expression ≤ 2 ^ 31
+IsReady (Migrate old new) specs = Unit {0}
+IsReady (Trial file seed count) specs = IsReadyToTry count specs
+IsReady Help specs = Unit {0}
+IsReady Version specs = Unit {0}
 
--- the command ran its job
-pub record RunsJob (verb : Verb) (arguments : List (List ℕ)) (specs : List SpecTree) (i : SourceChange) (o r : SinkChange) (outcome : Outcome) : Type 0 where
+-- a trial's line was written, or a part of it, or nothing
+pub record EndsTrial (spec : SpecTree) (seed count : ℕ) (o : SinkChange) (outcome : Outcome) : Type 0 where
+  pub line : List ℕ
+  pub trial : IsTrial spec seed count line
+  pub ends : TextEnds count line o outcome
+
+-- the line's job was run
+pub record RunsJob (line : Line) (specs : List SpecTree) (i : SourceChange) (o r : SinkChange) (outcome : Outcome) : Type 0 where
   pub job : Job
-  pub is : IsJob verb arguments specs job
+  pub is : IsJob line specs job
   pub runs : JobRuns job i o r outcome

@@ -1,12 +1,9 @@
 -- What a run does, stage by stage, whatever the library, the source and the sinks tell.
 use Rattle.std.specs.Prelude.{◌≡◌, ℕ, ◌+◌, ◌<◌, ◌≤◌, ◌⊎◌, List, Option, Some, None}
 use Rattle.ax_command.specs.Outcomes.{outcome_of_stop, outcome_of_job_stop}
-use Rattle.ax_command.specs.Words.{Asked, HasShape, HasNoShape}
 use Rattle.ax_command.specs.declared.outcome.JobStop.{JobStop}
 use Rattle.ax_command.specs.declared.outcome.Outcome.{Outcome}
 use Rattle.ax_command.specs.declared.outcome.Outcome.TheVariants.{Done, Usage, SpecRefused, CategoryTwice, OtherCategory, FilterRefused, InputRefused, TextRefused, MigratedTooLong, LoadFault, ReadFault, WriteFault, ReportFault, InputTooLong, OutOfMemory}
-use Rattle.ax_command.specs.declared.words.Verb.{Verb}
-use Rattle.ax_command.specs.declared.words.Verb.TheVariants.{Build, Filter, Migrate}
 use Rattle.ax_load.specs.Loading.{FilesGive, FilesEnd}
 use Rattle.ax_load.specs.declared.fault.LoadStop.{LoadStop}
 use Rattle.ax_model.specs.Specification.{SpecTree}
@@ -15,33 +12,37 @@ use Rattle.ax_outside.specs.Files.{File}
 use Rattle.ax_outside.specs.Told.{Rose}
 use Rattle.ax_stream.specs.Ending.{longest_input}
 use Rattle.ax_stream.specs.Streams.{IsIdle}
-use Rattle.ax_app.specs.Jobs.{Job, IsJob, IsStopped, JobRuns, takes_distinct}
+use Rattle.ax_words.specs.Words.{HasShape, HasNoShape}
+use Rattle.ax_words.specs.declared.line.Line.{Line}
+use Rattle.ax_words.specs.declared.line.Line.TheVariants as LineOf
+use Rattle.ax_app.specs.Jobs.{Job, IsJob, IsStopped, JobRuns, files_of, takes_distinct}
 
 -- the words ask for this, its files give these specifications, and over them it is this job
 pub record Does (words : List (List ℕ)) (files : Option (List File)) (job : Job) : Type 0 where
-  pub what : Asked
+  pub what : Line
   pub shape : HasShape words what
   pub specs : List SpecTree
-  pub give : FilesGive (takes_distinct what.verb) files what.files specs
-  pub is : IsJob what.verb what.arguments specs job
+  pub give : FilesGive (takes_distinct what) files (files_of what) specs
+  pub is : IsJob what specs job
 
 -- the words ask for this, and loading its files stops so
 pub record StopsAtFiles (words : List (List ℕ)) (files : Option (List File)) (c : LibraryCounts) (stop : LoadStop) : Type 0 where
-  pub what : Asked
+  pub what : Line
   pub shape : HasShape words what
-  pub ends : FilesEnd (takes_distinct what.verb) files c what.files stop
+  pub ends : FilesEnd (takes_distinct what) files c (files_of what) stop
 
 -- its files give these specifications, and the command stops before its input
 pub record StopsBeforeInput (words : List (List ℕ)) (files : Option (List File)) (stop : JobStop) : Type 0 where
-  pub what : Asked
+  pub what : Line
   pub shape : HasShape words what
   pub specs : List SpecTree
-  pub give : FilesGive (takes_distinct what.verb) files what.files specs
-  pub stopped : IsStopped what.verb what.arguments specs stop
+  pub give : FilesGive (takes_distinct what) files (files_of what) specs
+  pub stopped : IsStopped what specs stop
 
--- first the words, then the files, then the arguments over them, then the job
+-- first the words, for which memory may be wanting, then the files, then what else the words say over them, then the job
 pub data Runs (words : List (List ℕ)) (files : Option (List File)) (c : LibraryCounts) (i : SourceChange) (o r : SinkChange) (outcome : Outcome) : Type 0 where
   at_words : HasNoShape words → outcome ≡ Usage → IsUnasked c → IsIdle i o r → Runs words files c i o r outcome
+  no_words : outcome ≡ OutOfMemory → IsUnasked c → IsIdle i o r → Runs words files c i o r outcome
   at_files : (stop : LoadStop) → StopsAtFiles words files c stop → outcome ≡ outcome_of_stop stop → IsIdle i o r → Runs words files c i o r outcome
   before_input : (stop : JobStop) → StopsBeforeInput words files stop → outcome ≡ outcome_of_job_stop stop → IsIdle i o r → Runs words files c i o r outcome
   in_job : (job : Job) → Does words files job → JobRuns job i o r outcome → Runs words files c i o r outcome
@@ -76,20 +77,32 @@ pub record NoCountFell (c : LibraryCounts) (i : SourceChange) (o r : SinkChange)
 
 -- ---- outcomes of one command alone
 
--- the words ask for this command
-pub record Asks (words : List (List ℕ)) (verb : Verb) : Type 0 where
-  pub what : Asked
-  pub shape : HasShape words what
-  pub is : what.verb ≡ verb
+-- the commands that give outcomes which no other gives
+pub data Owner : Type 0 where
+  of_build : Owner
+  of_filter : Owner
+  of_migrate : Owner
 
--- the one command that gives the outcome, where others don't: only `migrate` reports lines of blocks, refuses a block for its
--- length and compares two editions; only `filter` reads an expression, and only `build` reads lines
-abbrev pub only_command : Outcome → Option Verb
-only_command ReportFault = Some Migrate
-only_command (MigratedTooLong block octets) = Some Migrate
-only_command (OtherCategory old new) = Some Migrate
-only_command (FilterRefused fault) = Some Filter
-only_command (TextRefused line fault) = Some Build
+abbrev pub owner_of : Line → Option Owner
+owner_of (LineOf.Build files) = Some of_build
+owner_of (LineOf.Filter expression files) = Some of_filter
+owner_of (LineOf.Migrate old new) = Some of_migrate
+owner_of (LineOf.Check file) = None
+owner_of (LineOf.Canon files) = None
+owner_of (LineOf.Show files) = None
+owner_of (LineOf.Text files) = None
+owner_of (LineOf.Trial file seed count) = None
+owner_of LineOf.Help = None
+owner_of LineOf.Version = None
+
+-- only `migrate` reports lines of blocks, refuses a block for its length and compares two editions; only `filter` reads an
+-- expression, and only `build` reads lines
+abbrev pub only_command : Outcome → Option Owner
+only_command ReportFault = Some of_migrate
+only_command (MigratedTooLong block octets) = Some of_migrate
+only_command (OtherCategory old new) = Some of_migrate
+only_command (FilterRefused fault) = Some of_filter
+only_command (TextRefused line fault) = Some of_build
 only_command (Done blocks) = None
 only_command Usage = None
 only_command (SpecRefused file fault) = None
@@ -101,6 +114,12 @@ only_command ReadFault = None
 only_command WriteFault = None
 only_command OutOfMemory = None
 
+-- the words ask for a line of that command
+pub record Asks (words : List (List ℕ)) (owner : Owner) : Type 0 where
+  pub what : Line
+  pub shape : HasShape words what
+  pub is : owner_of what ≡ Some owner
+
 -- the words ask for the command that alone gives the outcome
 abbrev pub IsOfItsCommand : List (List ℕ) → Outcome → Type 0
-IsOfItsCommand words outcome = (verb : Verb) → only_command outcome ≡ Some verb → Asks words verb
+IsOfItsCommand words outcome = (owner : Owner) → only_command outcome ≡ Some owner → Asks words owner

@@ -1,11 +1,11 @@
 //! The top call.
-ghost use Rattle.std.specs.Prelude.{◌≡◌, ℕ, ◌≤◌, ◌↔◌, List, [], Some, map};
+ghost use Rattle.std.specs.Prelude.{◌≡◌, ℕ, ◌≤◌, ◌⊎◌, List, [], Some, map};
 ghost use Rattle.std.specs.String.{string_bytes};
 ghost use Rattle.ax_bits.specs.Bits.{AreOctets};
 ghost use Rattle.ax_command.specs.Lines.{lines_of};
-ghost use Rattle.ax_command.specs.Words.{HasNoShape};
 ghost use Rattle.ax_outside.specs.Changes.{library_counts, source_change, sink_change};
 ghost use Rattle.ax_outside.specs.Files.{File};
+ghost use Rattle.ax_words.specs.Words.{IsInBounds, HasShape, HasNoShape};
 ghost use Rattle.ax_app.specs.Completing.{NoFaultCounted, HasWhole, IsDoneWith};
 ghost use Rattle.ax_app.specs.Headline.{Headline};
 ghost use Rattle.ax_app.specs.Jobs.{Job, ReadsInput};
@@ -13,9 +13,34 @@ ghost use Rattle.ax_app.specs.Running.{Runs, Does, Causes, Ended, NoCountFell, I
 
 use crate::jobs::do_job;
 use crate::loading::load;
-use ax_command::{Outcome, read_command, write_lines};
+use ax_command::{Outcome, write_lines};
 use ax_outside::{Library, Sink, Source};
+use ax_words::{Line, WordsError, read_words};
 use std::alloc::Global;
+
+/// Does what a line says: first its files, then its job.
+fn obey_line<L: Library, S: Source, K: Sink, R: Sink>(
+    alloc: Global,
+    line: &Line,
+    library: &mut L,
+    source: &mut S,
+    out: &mut K,
+    report: &mut R,
+) -> Outcome
+    requires { IsInBounds line.now }
+    ensures runs { (words : List (List ℕ)) → HasShape words line.now → Runs words (L.files library.old) (library_counts L.Library library.old library.new)
+        (source_change S.Source source.old source.new) (sink_change K.Sink out.old out.new) (sink_change R.Sink report.old report.new) result }
+    ensures keeps { L.files library.new ≡ L.files library.old }
+    ensures later { NoCountFell (library_counts L.Library library.old library.new) (source_change S.Source source.old source.new) (sink_change K.Sink out.old out.new) (sink_change R.Sink report.old report.new) }
+{
+    match load(alloc, library, line) {
+        Ok(loaded) => match do_job(alloc, line, &loaded, source, out, report) {
+            Ok(outcome) => outcome,
+            Err(stop) => Outcome::from(stop),
+        },
+        Err(stop) => Outcome::from(stop),
+    }
+}
 
 /// Does what the words say: first the words, then the files, then the job.
 fn obey<L: Library, S: Source, K: Sink, R: Sink>(
@@ -31,27 +56,15 @@ fn obey<L: Library, S: Source, K: Sink, R: Sink>(
     ensures keeps { L.files library.new ≡ L.files library.old }
     ensures later { NoCountFell (library_counts L.Library library.old library.new) (source_change S.Source source.old source.new) (sink_change K.Sink out.old out.new) (sink_change R.Sink report.old report.new) }
 {
-    let Some(command) = read_command(words) else {
-        return Outcome::Usage;
-    };
-    match load(alloc, library, command.verb, command.files) {
-        Ok(loaded) => match do_job(
-            alloc,
-            command.verb,
-            command.arguments,
-            &loaded,
-            source,
-            out,
-            report,
-        ) {
-            Ok(outcome) => outcome,
-            Err(stop) => Outcome::from(stop),
-        },
-        Err(stop) => Outcome::from(stop),
+    match read_words(alloc, words) {
+        Ok(line) => obey_line(alloc, &line, library, source, out, report),
+        Err(WordsError::Usage) => Outcome::Usage,
+        Err(WordsError::OutOfMemory) => Outcome::OutOfMemory,
     }
 }
 
-/// Does what the words say, and answers how that ended.
+/// Does what the words say, and answers how that ended. Usage comes exactly where the words have no shape, but that want of
+/// memory may stand in its place, since reading the words takes memory.
 pub fn run<L: Library, S: Source, K: Sink, R: Sink>(
     alloc: Global,
     words: &Vec<String>,
@@ -65,7 +78,8 @@ pub fn run<L: Library, S: Source, K: Sink, R: Sink>(
         (source_change S.Source source.old source.new) (sink_change K.Sink out.old out.new) before result) (sink_change R.Sink report.old report.new) (lines_of result) }
     ensures runs { Ended (λ before. Runs (map string_bytes words.now.items) (L.files library.old) (library_counts L.Library library.old library.new)
         (source_change S.Source source.old source.new) (sink_change K.Sink out.old out.new) before result) (sink_change R.Sink report.old report.new) (lines_of result) }
-    ensures usage { result ≡ Outcome.Usage ↔ HasNoShape (map string_bytes words.now.items) }
+    ensures usage { result ≡ Outcome.Usage → HasNoShape (map string_bytes words.now.items) }
+    ensures no_shape { HasNoShape (map string_bytes words.now.items) → (result ≡ Outcome.Usage) ⊎ (result ≡ Outcome.OutOfMemory) }
     ensures causes { Causes (source_change S.Source source.old source.new) (sink_change K.Sink out.old out.new) (sink_change R.Sink report.old report.new) result }
     ensures of_its_command { IsOfItsCommand (map string_bytes words.now.items) result }
     ensures keeps { L.files library.new ≡ L.files library.old }

@@ -1,24 +1,23 @@
 //! The commands, over the specifications of their files.
-ghost use Rattle.std.specs.Prelude.{◌≡◌, ◌≤◌, List, ℕ, [], ◌∷◌, IsTrue, IfOk, IfErr, OnErr, map};
-ghost use Rattle.ax_command.specs.declared.words.Verb.TheVariants.{Check, Canon, Filter, Migrate};
+ghost use Rattle.std.specs.Prelude.{◌≡◌, ◌≤◌, ◌^◌, List, ℕ, [], ◌∷◌, length, IsTrue, IfOk, IfErr, OnErr};
 ghost use Rattle.ax_filter.specs.OfCode.{catalogue_of, expression};
 ghost use Rattle.ax_filter_work.specs.FilterCommand.{filter_command};
 ghost use Rattle.ax_grammar.specs.InRange.{AreNumbersInRange};
 ghost use Rattle.ax_model.specs.Plain.{spec_tree, catalogue_tree};
 ghost use Rattle.ax_model.specs.Specification.{SpecTree};
-ghost use Rattle.ax_outside.specs.Changes.{source_change, sink_change};
-ghost use Rattle.std.specs.String.{string_bytes};
+ghost use Rattle.ax_outside.specs.Changes.{source_change, sink_change, GainsNothing};
 ghost use Rattle.ax_command.specs.declared.outcome.JobStop.{JobStop};
 ghost use Rattle.ax_command.specs.declared.outcome.JobStop.TheVariants.{OutOfMemory};
 ghost use Rattle.ax_stream.specs.Streams.{IsIdle};
-ghost use Rattle.ax_app.specs.Jobs.{BlocksRun, IsReady, IsReadyToFilter, IsStopped, RunsJob, TextEnds, check_text, takes_distinct};
+ghost use Rattle.ax_words.specs.declared.line.Line.TheVariants.{Canon, Filter, Migrate};
+ghost use Rattle.ax_app.specs.Jobs.{BlocksRun, IsReady, IsReadyToCheck, IsReadyToTry, EndsTrial, IsStopped, RunsJob, TextEnds, check_text, takes_distinct};
 ghost use Rattle.ax_app.specs.Loaded.{specs_of, IsLoadedFor};
 
 use crate::loading::Loaded;
 use crate::makers::{ShowMaker, TextMaker};
 use ax_build_work::build_lines;
 use ax_check::{Accepted, Catalogue};
-use ax_command::{JobStop, Outcome, Refusal, Verb, line_of};
+use ax_command::{JobStop, Outcome, Refusal, line_of};
 use ax_edition::{RelateError, relate};
 use ax_filter::{FilterStop, read_expression};
 use ax_filter_work::FilterViews;
@@ -28,8 +27,17 @@ use ax_model::Spec;
 use ax_outside::{Sink, Source, write_text};
 use ax_stream::{TreeWork, run_blocks};
 use ax_tables::Codecs;
+use ax_trial::trial_text;
 use ax_view_work::CanonViews;
+use ax_words::Line;
 use std::alloc::{AllocError, Global};
+
+/// What `--help` writes.
+const HELP: &[u8] =
+    b"asterix check SPEC\nasterix canon SPEC...\nasterix show SPEC...\nasterix text SPEC...\nasterix build SPEC...\nasterix filter EXPR SPEC...\nasterix migrate OLD NEW\nasterix trial SPEC SEED COUNT\n";
+
+/// What `--version` writes.
+const VERSION: &[u8] = b"asterix 1\n";
 
 /// The line of an accepted specification, and its text after it.
 fn check_text(alloc: Global, spec: &Spec) -> Result<Vec<u8>, AllocError>
@@ -42,11 +50,22 @@ fn check_text(alloc: Global, spec: &Spec) -> Result<Vec<u8>, AllocError>
     Ok(text)
 }
 
+/// Writes a text that counts so many blocks, as one piece.
+fn write_out<K: Sink>(out: &mut K, text: &[u8], blocks: u64) -> Outcome
+    ensures ends { TextEnds blocks text.now (sink_change K.Sink out.old out.new) result }
+    ensures never_falls { K.faults out.old ≤ K.faults out.new }
+{
+    match write_text(out, text) {
+        Ok(()) => Outcome::Done { blocks },
+        Err(_) => Outcome::WriteFault,
+    }
+}
+
 /// `check`: writes the line and the text of the accepted file as one piece. Nothing was written where memory was wanted.
 #[tactic(auto, using(crate::proofs::Checks::checks))]
 fn check<K: Sink>(alloc: Global, catalogue: &Catalogue, out: &mut K) -> Outcome
-    requires { IsReady Check [] (catalogue_tree catalogue.now) }
-    ensures ends { (spec : SpecTree) → catalogue_tree catalogue.now ≡ spec ∷ [] → TextEnds (check_text spec) (sink_change K.Sink out.old out.new) result }
+    requires { IsReadyToCheck (catalogue_tree catalogue.now) }
+    ensures ends { (spec : SpecTree) → catalogue_tree catalogue.now ≡ spec ∷ [] → TextEnds 0 (check_text spec) (sink_change K.Sink out.old out.new) result }
     ensures never_falls { K.faults out.old ≤ K.faults out.new }
 {
     let Some(accepted) = catalogue.at(0) else {
@@ -55,10 +74,32 @@ fn check<K: Sink>(alloc: Global, catalogue: &Catalogue, out: &mut K) -> Outcome
     let Ok(text) = check_text(alloc, accepted.spec()) else {
         return Outcome::OutOfMemory;
     };
-    match write_text(out, &text) {
-        Ok(()) => Outcome::Done { blocks: 0 },
-        Err(_) => Outcome::WriteFault,
-    }
+    write_out(out, &text, 0)
+}
+
+/// `trial`: writes the line of that many blocks made from the seed over the accepted file. Nothing was written where memory
+/// was wanted.
+#[tactic(auto, using(crate::proofs::Trials::trials))]
+fn trial<K: Sink>(
+    alloc: Global,
+    catalogue: &Catalogue,
+    seed: u64,
+    count: u32,
+    out: &mut K,
+) -> Result<Outcome, JobStop>
+    requires { IsReadyToTry count (catalogue_tree catalogue.now) }
+    ensures ends { IfOk result (λ outcome. (spec : SpecTree) → catalogue_tree catalogue.now ≡ spec ∷ [] → EndsTrial spec seed count (sink_change K.Sink out.old out.new) outcome) }
+    ensures memory { IfErr result (λ stop. stop ≡ OutOfMemory) }
+    ensures nothing { OnErr result (GainsNothing (sink_change K.Sink out.old out.new)) }
+    ensures never_falls { K.faults out.old ≤ K.faults out.new }
+{
+    let Some(accepted) = catalogue.at(0) else {
+        unreachable!()
+    };
+    let Ok(line) = trial_text(alloc, accepted, seed, count) else {
+        return Err(JobStop::OutOfMemory);
+    };
+    Ok(write_out(out, &line, u64::from(count)))
 }
 
 /// `canon`: the canonical form of each block. All memory is taken before the input is read.
@@ -69,7 +110,7 @@ fn canon<S: Source, K: Sink, R: Sink>(
     out: &mut K,
     report: &mut R,
 ) -> Result<Outcome, JobStop>
-    ensures runs { (arguments : List (List ℕ)) → IfOk result (RunsJob Canon arguments (catalogue_tree catalogue.now) (source_change S.Source source.old source.new) (sink_change K.Sink out.old out.new) (sink_change R.Sink report.old report.new)) }
+    ensures runs { (files : List (List ℕ)) → IfOk result (RunsJob (Canon files) (catalogue_tree catalogue.now) (source_change S.Source source.old source.new) (sink_change K.Sink out.old out.new) (sink_change R.Sink report.old report.new)) }
     ensures memory { IfErr result (λ stop. stop ≡ OutOfMemory) }
     ensures idle { OnErr result (IsIdle (source_change S.Source source.old source.new) (sink_change K.Sink out.old out.new) (sink_change R.Sink report.old report.new)) }
     ensures source_later { S.faults source.old ≤ S.faults source.new }
@@ -115,24 +156,21 @@ fn filter_blocks<S: Source, K: Sink, R: Sink>(
 #[tactic(auto, using(crate::proofs::Filters::filter_jobs))]
 fn filter<S: Source, K: Sink, R: Sink>(
     alloc: Global,
-    arguments: &[String],
+    text: &str,
     catalogue: &Catalogue,
     source: &mut S,
     out: &mut K,
     report: &mut R,
 ) -> Result<Outcome, JobStop>
-    requires { IsReadyToFilter (map string_bytes arguments.now) }
-    ensures runs { IfOk result (RunsJob Filter (map string_bytes arguments.now) (catalogue_tree catalogue.now) (source_change S.Source source.old source.new) (sink_change K.Sink out.old out.new) (sink_change R.Sink report.old report.new)) }
-    ensures stopped { IfErr result (IsStopped Filter (map string_bytes arguments.now) (catalogue_tree catalogue.now)) }
+    requires { length text.now ≤ 2 ^ 31 }
+    ensures runs { (files : List (List ℕ)) → IfOk result (RunsJob (Filter text.now files) (catalogue_tree catalogue.now) (source_change S.Source source.old source.new) (sink_change K.Sink out.old out.new) (sink_change R.Sink report.old report.new)) }
+    ensures stopped { (files : List (List ℕ)) → IfErr result (IsStopped (Filter text.now files) (catalogue_tree catalogue.now)) }
     ensures idle { OnErr result (IsIdle (source_change S.Source source.old source.new) (sink_change K.Sink out.old out.new) (sink_change R.Sink report.old report.new)) }
     ensures source_later { S.faults source.old ≤ S.faults source.new }
     ensures out_later { K.faults out.old ≤ K.faults out.new }
     ensures report_later { R.faults report.old ≤ R.faults report.new }
 {
-    let Some((expression, _)) = arguments.split_first() else {
-        unreachable!()
-    };
-    match read_expression(alloc, expression.as_bytes(), catalogue) {
+    match read_expression(alloc, text.as_bytes(), catalogue) {
         Ok(filter) => filter_blocks(alloc, &filter, catalogue, source, out, report),
         Err(FilterStop::Refused(fault)) => Err(JobStop::Refused(Refusal::FilterRefused { fault })),
         Err(FilterStop::OutOfMemory) => Err(JobStop::OutOfMemory),
@@ -149,8 +187,8 @@ fn migrate<S: Source, K: Sink, R: Sink>(
     out: &mut K,
     report: &mut R,
 ) -> Result<Outcome, JobStop>
-    ensures runs { (arguments : List (List ℕ)) → IfOk result (RunsJob Migrate arguments (spec_tree old.now ∷ spec_tree new.now ∷ []) (source_change S.Source source.old source.new) (sink_change K.Sink out.old out.new) (sink_change R.Sink report.old report.new)) }
-    ensures stopped { (arguments : List (List ℕ)) → IfErr result (IsStopped Migrate arguments (spec_tree old.now ∷ spec_tree new.now ∷ [])) }
+    ensures runs { (names : List ℕ × List ℕ) → IfOk result (RunsJob (Migrate names.0 names.1) (spec_tree old.now ∷ spec_tree new.now ∷ []) (source_change S.Source source.old source.new) (sink_change K.Sink out.old out.new) (sink_change R.Sink report.old report.new)) }
+    ensures stopped { (names : List ℕ × List ℕ) → IfErr result (IsStopped (Migrate names.0 names.1) (spec_tree old.now ∷ spec_tree new.now ∷ [])) }
     ensures idle { OnErr result (IsIdle (source_change S.Source source.old source.new) (sink_change K.Sink out.old out.new) (sink_change R.Sink report.old report.new)) }
     ensures source_later { S.faults source.old ≤ S.faults source.new }
     ensures out_later { K.faults out.old ≤ K.faults out.new }
@@ -171,53 +209,54 @@ fn migrate<S: Source, K: Sink, R: Sink>(
 /// Does what a command over a catalogue says.
 fn over_catalogue<S: Source, K: Sink, R: Sink>(
     alloc: Global,
-    verb: Verb,
-    arguments: &[String],
+    line: &Line,
     catalogue: &Catalogue,
     source: &mut S,
     out: &mut K,
     report: &mut R,
 ) -> Result<Outcome, JobStop>
-    requires ready { IsReady verb (map string_bytes arguments.now) (catalogue_tree catalogue.now) }
-    requires distinct { IsTrue (takes_distinct verb) }
-    ensures runs { IfOk result (RunsJob verb (map string_bytes arguments.now) (catalogue_tree catalogue.now) (source_change S.Source source.old source.new) (sink_change K.Sink out.old out.new) (sink_change R.Sink report.old report.new)) }
-    ensures stopped { IfErr result (IsStopped verb (map string_bytes arguments.now) (catalogue_tree catalogue.now)) }
+    requires ready { IsReady line.now (catalogue_tree catalogue.now) }
+    requires distinct { IsTrue (takes_distinct line.now) }
+    ensures runs { IfOk result (RunsJob line.now (catalogue_tree catalogue.now) (source_change S.Source source.old source.new) (sink_change K.Sink out.old out.new) (sink_change R.Sink report.old report.new)) }
+    ensures stopped { IfErr result (IsStopped line.now (catalogue_tree catalogue.now)) }
     ensures idle { OnErr result (IsIdle (source_change S.Source source.old source.new) (sink_change K.Sink out.old out.new) (sink_change R.Sink report.old report.new)) }
     ensures source_later { S.faults source.old ≤ S.faults source.new }
     ensures out_later { K.faults out.old ≤ K.faults out.new }
     ensures report_later { R.faults report.old ≤ R.faults report.new }
 {
-    match verb {
-        Verb::Check => Ok(check(alloc, catalogue, out)),
-        Verb::Canon => canon(alloc, catalogue, source, out, report),
-        Verb::Show => {
+    match line {
+        Line::Check { .. } => Ok(check(alloc, catalogue, out)),
+        Line::Canon { .. } => canon(alloc, catalogue, source, out, report),
+        Line::Show { .. } => {
             let mut work = TreeWork::new(alloc, catalogue, ShowMaker);
             Ok(Outcome::from(run_blocks(alloc, &mut work, source, out, report)))
         }
-        Verb::Text => {
+        Line::Text { .. } => {
             let mut work = TreeWork::new(alloc, catalogue, TextMaker);
             Ok(Outcome::from(run_blocks(alloc, &mut work, source, out, report)))
         }
-        Verb::Build => Ok(Outcome::from(build_lines(alloc, catalogue, source, out))),
-        Verb::Filter => filter(alloc, arguments, catalogue, source, out, report),
-        Verb::Migrate => unreachable!(),
+        Line::Build { .. } => Ok(Outcome::from(build_lines(alloc, catalogue, source, out))),
+        Line::Filter { expr, .. } => filter(alloc, expr.text(), catalogue, source, out, report),
+        Line::Trial { seed, count, .. } => trial(alloc, catalogue, *seed, *count, out),
+        Line::Help => Ok(write_out(out, HELP, 0)),
+        Line::Version => Ok(write_out(out, VERSION, 0)),
+        Line::Migrate { .. } => unreachable!(),
     }
 }
 
 /// Does what the command says, over the specifications of its files.
 pub fn do_job<S: Source, K: Sink, R: Sink>(
     alloc: Global,
-    verb: Verb,
-    arguments: &[String],
+    line: &Line,
     loaded: &Loaded,
     source: &mut S,
     out: &mut K,
     report: &mut R,
 ) -> Result<Outcome, JobStop>
-    requires ready { IsReady verb (map string_bytes arguments.now) (specs_of loaded.now) }
-    requires loaded { IsLoadedFor (takes_distinct verb) loaded.now }
-    ensures runs { IfOk result (RunsJob verb (map string_bytes arguments.now) (specs_of loaded.now) (source_change S.Source source.old source.new) (sink_change K.Sink out.old out.new) (sink_change R.Sink report.old report.new)) }
-    ensures stopped { IfErr result (IsStopped verb (map string_bytes arguments.now) (specs_of loaded.now)) }
+    requires ready { IsReady line.now (specs_of loaded.now) }
+    requires loaded { IsLoadedFor (takes_distinct line.now) loaded.now }
+    ensures runs { IfOk result (RunsJob line.now (specs_of loaded.now) (source_change S.Source source.old source.new) (sink_change K.Sink out.old out.new) (sink_change R.Sink report.old report.new)) }
+    ensures stopped { IfErr result (IsStopped line.now (specs_of loaded.now)) }
     ensures idle { OnErr result (IsIdle (source_change S.Source source.old source.new) (sink_change K.Sink out.old out.new) (sink_change R.Sink report.old report.new)) }
     ensures source_later { S.faults source.old ≤ S.faults source.new }
     ensures out_later { K.faults out.old ≤ K.faults out.new }
@@ -225,7 +264,7 @@ pub fn do_job<S: Source, K: Sink, R: Sink>(
 {
     match loaded {
         Loaded::Catalogue(catalogue) => {
-            over_catalogue(alloc, verb, arguments, catalogue, source, out, report)
+            over_catalogue(alloc, line, catalogue, source, out, report)
         }
         Loaded::Editions(old, new) => migrate(alloc, old, new, source, out, report),
     }

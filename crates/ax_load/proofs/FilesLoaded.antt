@@ -1,5 +1,5 @@
 -- The files of a command line, loaded one after another.
-use Rattle.std.proofs.Common.{◌≡◌, ℕ, ◌+◌, ◌<◌, ◌≤◌, List, [], ◌∷◌, ◌++◌, Bool, IsTrue, Option, None, IsSome, length, map, drop, get_or, refl, sym, ◌∙◌, ap, subst, drop-cons, add-one, arith}
+use Rattle.std.proofs.Common.{◌≡◌, ℕ, ◌+◌, ◌<◌, ◌≤◌, List, [], ◌∷◌, ◌++◌, Bool, IsTrue, Option, None, IsSome, length, drop, get_or, refl, sym, ◌∙◌, ap, subst, drop-cons, add-one, arith}
 use Rattle.ax_outside.specs.Files.{File}
 use Rattle.ax_check.specs.Adding.{WhyRefused}
 use Rattle.ax_check.specs.declared.catalogue.AddError.{AddError}
@@ -31,9 +31,8 @@ none_loaded distinct files names catalogue f t is = record {
   taken = omega arith;
 }
 
-pub names_left : {A : Type 0} (f : A → List ℕ) (xs : List A) (i : ℕ) (x : A) (name : List ℕ) → i < length xs → x ≡ get_or xs i x → name ≡ f x → map f (drop i xs) ≡ name ∷ map f (drop (i + 1) xs)
-names_left f xs i x name within is same =
-    ap (map f) (drop-cons xs i x within) ∙ ap (λ n. f (get_or xs i x) ∷ map f (drop n xs)) (sym (add-one i)) ∙ ap (λ y. y ∷ map f (drop (i + 1) xs)) (sym (same ∙ ap f is))
+pub names_left : (xs : List (List ℕ)) (i : ℕ) (x name : List ℕ) → i < length xs → x ≡ get_or xs i x → name ≡ x → drop i xs ≡ name ∷ drop (i + 1) xs
+names_left xs i x name within is same = drop-cons xs i x within ∙ ap (λ n. get_or xs i x ∷ drop n xs) (sym (add-one i)) ∙ ap (λ y. y ∷ drop (i + 1) xs) (sym (same ∙ is))
 
 tree_after : (catalogue : List Spec) (one : Spec) → catalogue_tree (catalogue ++ one ∷ []) ≡ catalogue_tree catalogue ++ spec_tree one ∷ []
 tree_after [] one = refl

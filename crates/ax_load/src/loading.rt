@@ -1,6 +1,5 @@
 //! The category files of a command line, loaded one after another into a catalogue.
-ghost use Rattle.std.specs.Prelude.{◌≡◌, ◌≤◌, ◌<◌, true, false, [], ◌∷◌, length, map, IfOk, IfErr};
-ghost use Rattle.std.specs.String.{string_bytes};
+ghost use Rattle.std.specs.Prelude.{◌≡◌, ◌≤◌, ◌<◌, true, false, [], ◌∷◌, length, IfOk, IfErr};
 ghost use Rattle.ax_model.specs.Plain.{spec_tree, catalogue_tree};
 ghost use Rattle.ax_load.specs.Adding.{stop_of_adding};
 ghost use Rattle.ax_outside.specs.Changes.{library_counts};
@@ -10,6 +9,7 @@ use crate::fault::{LoadStop, SpecFault};
 use crate::files::{FileStop, LARGEST_FILE, read_file};
 use ax_check::{Accepted, AddError, Catalogue};
 use ax_outside::{Library, LoadError};
+use ax_words::WordText;
 use std::alloc::Global;
 
 /// The specification of the file of that name, or how the run ends. The file has that number in the order of the words.
@@ -58,11 +58,11 @@ fn adding_stop(error: AddError, file: u32) -> LoadStop
 pub fn load_catalogue<L: Library>(
     alloc: Global,
     library: &mut L,
-    names: &[String],
+    names: &[WordText],
 ) -> Result<Catalogue, LoadStop>
     requires { length names.now < 4294967296 }
-    ensures gives { IfOk result (λ catalogue. FilesGive true (L.files library.old) (map string_bytes names.now) (catalogue_tree catalogue)) }
-    ensures ends { IfErr result (λ outcome. FilesEnd true (L.files library.old) (library_counts L.Library library.old library.new) (map string_bytes names.now) outcome) }
+    ensures gives { IfOk result (λ catalogue. FilesGive true (L.files library.old) names.now (catalogue_tree catalogue)) }
+    ensures ends { IfErr result (λ outcome. FilesEnd true (L.files library.old) (library_counts L.Library library.old library.new) names.now outcome) }
     ensures keeps { L.files library.new ≡ L.files library.old }
     ensures number_never_falls { L.taken library.old ≤ L.taken library.new }
     ensures never_falls { L.faults library.old ≤ L.faults library.new }
@@ -70,7 +70,7 @@ pub fn load_catalogue<L: Library>(
     let mut catalogue = Catalogue::new(alloc);
     let mut file: u32 = 0;
     for name in names {
-        let one = load_file(alloc, library, name.as_str(), file)?;
+        let one = load_file(alloc, library, name.text(), file)?;
         if let Err(error) = catalogue.add(one) {
             return Err(adding_stop(error, file));
         }

@@ -10,7 +10,10 @@ pub returns-clause-runs : goal.returns-clause-runs
 returns-clause-runs g c = ended _ _ _ _ _ _ _ _ _ c.obey-outcome.ensures.later.report c.write_lines.ensures.later c.obey-outcome.ensures.runs c.write_lines.ensures
 
 pub returns-clause-usage : goal.returns-clause-usage
-returns-clause-usage g c = (usage_only _ _ _ _ _ _ _ c.obey-outcome.ensures.runs, usage_there _ _ _ _ _ _ _ c.obey-outcome.ensures.runs)
+returns-clause-usage g c = usage_only _ _ _ _ _ _ _ c.obey-outcome.ensures.runs
+
+pub returns-clause-no_shape : goal.returns-clause-no_shape
+returns-clause-no_shape g c = usage_there _ _ _ _ _ _ _ c.obey-outcome.ensures.runs
 
 pub returns-clause-causes : goal.returns-clause-causes
 returns-clause-causes g c = causes_on _ _ _ _ _ _ _ _ _ c.obey-outcome.ensures.later.report c.write_lines.ensures.later (causes _ _ _ _ _ _ _ c.obey-outcome.ensures.runs)

@@ -1,20 +1,19 @@
-use Rattle.std.proofs.Common.{sym, ap, subst, map}
-use Rattle.std.specs.String.{string_bytes}
+use Rattle.std.proofs.Common.{sym, subst}
 use Rattle.ax_command.specs.declared.outcome.Refusal.TheVariants.{FilterRefused}
-use Rattle.ax_command.specs.declared.words.Verb.TheVariants.{Filter}
 use Rattle.ax_filter.specs.OfCode.{expression}
 use Rattle.ax_filter.specs.Texts.{IsFilterText}
 use Rattle.ax_model.specs.Plain.{catalogue_tree}
+use Rattle.ax_words.specs.declared.line.Line.TheVariants.{Filter}
 use Rattle.ax_app.specs.Jobs.{refuses, IsJob}
 use Rattle.ax_app.proofs.Filters.{filter_runs, filter_refuses}
 use Rattle.ax_app.proofs.jobs.filter.Goals as goal
 
 pub returns-in-Ok-clause-runs : goal.returns-in-Ok-clause-runs
 returns-in-Ok-clause-runs g c =
-    filter_runs _ (string_bytes c.in-Some.expression.now) _ (ap (map string_bytes) c.in-Some.ensures.cases.0) c.requires (catalogue_tree c.args.catalogue.now) (expression c.in-Ok.filter) _ _ _ c.filter_blocks.result
+    λ files. filter_runs c.args.text.now files (catalogue_tree c.args.catalogue.now) (expression c.in-Ok.filter) _ _ _ c.filter_blocks.result
     (subst (λ t. IsFilterText (catalogue_tree c.args.catalogue.now) t (expression c.in-Ok.filter)) c.as_bytes.ensures.value c.in-Ok.ensures.filter) c.filter_blocks.ensures.runs
 
 pub returns-in-Err-Refused-clause-stopped : goal.returns-in-Err-Refused-clause-stopped
 returns-in-Err-Refused-clause-stopped g c =
-    subst (λ fault. IsJob Filter (map string_bytes c.args.arguments.now) (catalogue_tree c.args.catalogue.now) (refuses (FilterRefused fault))) (sym c.in-Err-Refused.fault-is)
-    (filter_refuses _ (string_bytes c.in-Some.expression.now) _ (ap (map string_bytes) c.in-Some.ensures.cases.0) c.requires _ _ _ _ c.as_bytes.ensures.value c.in-Err-Refused.field-0-is c.in-Err-Refused.ensures.stop)
+    λ files. subst (λ fault. IsJob (Filter c.args.text.now files) (catalogue_tree c.args.catalogue.now) (refuses (FilterRefused fault))) (sym c.in-Err-Refused.fault-is)
+    (filter_refuses c.args.text.now files _ _ _ _ c.as_bytes.ensures.value c.in-Err-Refused.field-0-is c.in-Err-Refused.ensures.stop)

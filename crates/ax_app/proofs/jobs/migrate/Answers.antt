@@ -6,5 +6,5 @@ use Rattle.ax_app.proofs.jobs.migrate.Goals as goal
 
 pub returns-in-Ok-clause-runs : goal.returns-in-Ok-clause-runs
 returns-in-Ok-clause-runs g c =
-    λ arguments. migrate_runs arguments c.args.old.now c.args.new.now _ _ _ _ _ _ c.in-Ok.ensures.same_category
+    λ names. migrate_runs names c.args.old.now c.args.new.now _ _ _ _ _ _ c.in-Ok.ensures.same_category
     (c.new-work.ensures.command ∙ (λ i. migrate_command (spec_tree (c.spec.ensures.spec i)) (spec_tree (c.spec-in-Ok.ensures.spec i)))) c.run_blocks.ensures.runs c.from.ensures

@@ -1,28 +1,34 @@
-use Rattle.std.proofs.Common.{refl, subst, map}
-use Rattle.std.specs.String.{string_bytes}
-use Rattle.ax_command.specs.declared.words.Verb.TheVariants.{Show, Text}
+use Rattle.std.proofs.Common.{IfErr, refl, subst}
 use Rattle.ax_model.specs.Plain.{catalogue_tree}
-use Rattle.ax_app.specs.Jobs.{IsReady}
-use Rattle.ax_app.proofs.Stages.{check_job, block_job, build_job}
+use Rattle.ax_words.specs.declared.line.Line.TheVariants.{Filter, Help, Version}
+use Rattle.ax_app.specs.Jobs.{IsReady, IsStopped, help_text, version_text}
+use Rattle.ax_app.proofs.Stages.{text_job, check_job, trial_job, block_job, build_job}
 use Rattle.ax_app.proofs.jobs.over_catalogue.Goals as goal
 
 pub returns-in-Check-clause-runs : goal.returns-in-Check-clause-runs
-returns-in-Check-clause-runs g c = rw c.in-Check.is (check_job _ _ _ _ _ _ _ _ _ (subst (λ v. IsReady v (map string_bytes c.args.arguments.now) (catalogue_tree c.args.catalogue.now)) c.in-Check.is c.requires.ready) c.check.ensures.ends)
+returns-in-Check-clause-runs g c = rw c.in-Check.is (check_job _ _ _ _ _ _ _ _ _ (subst (λ l. IsReady l (catalogue_tree c.args.catalogue.now)) c.in-Check.is c.requires.ready) c.check.ensures.ends)
 
 pub returns-in-Canon-clause-runs : goal.returns-in-Canon-clause-runs
-returns-in-Canon-clause-runs g c = rw c.in-Canon.is (c.canon.ensures.runs (map string_bytes c.args.arguments.now))
+returns-in-Canon-clause-runs g c = rw c.in-Canon.is (c.canon.ensures.runs _)
 
 pub returns-in-Show-clause-runs : goal.returns-in-Show-clause-runs
-returns-in-Show-clause-runs g c = rw c.in-Show.is (block_job Show _ _ _ _ _ _ _ _ _ refl c.new-work.ensures c.run_blocks.ensures.runs c.from.ensures)
+returns-in-Show-clause-runs g c = rw c.in-Show.is (block_job _ _ _ _ _ _ _ _ _ refl c.new-work.ensures c.run_blocks.ensures.runs c.from.ensures)
 
 pub returns-in-Text-clause-runs : goal.returns-in-Text-clause-runs
-returns-in-Text-clause-runs g c = rw c.in-Text.is (block_job Text _ _ _ _ _ _ _ _ _ refl c.new-work-in-Text.ensures c.run_blocks-in-Text.ensures.runs c.from-in-Text.ensures)
+returns-in-Text-clause-runs g c = rw c.in-Text.is (block_job _ _ _ _ _ _ _ _ _ refl c.new-work-in-Text.ensures c.run_blocks-in-Text.ensures.runs c.from-in-Text.ensures)
 
 pub returns-in-Build-clause-runs : goal.returns-in-Build-clause-runs
 returns-in-Build-clause-runs g c = rw c.in-Build.is (build_job _ _ _ _ _ _ _ _ c.build_lines.ensures.runs c.from-in-Build.ensures)
 
-pub returns-in-Filter-clause-runs : goal.returns-in-Filter-clause-runs
-returns-in-Filter-clause-runs g c = rw c.in-Filter.is c.filter.ensures.runs
-
 pub returns-in-Filter-clause-stopped : goal.returns-in-Filter-clause-stopped
-returns-in-Filter-clause-stopped g c = rw c.in-Filter.is c.filter.ensures.stopped
+returns-in-Filter-clause-stopped g c =
+    rw c.in-Filter.is (subst (λ t. IfErr c.filter.result (IsStopped (Filter t c.in-Filter.files) (catalogue_tree c.args.catalogue.now))) c.text.ensures (c.filter.ensures.stopped c.in-Filter.files))
+
+pub returns-in-Trial-clause-runs : goal.returns-in-Trial-clause-runs
+returns-in-Trial-clause-runs g c = rw c.in-Trial.is (trial_job _ _ _ _ _ _ _ _ _ _ _ (subst (λ l. IsReady l (catalogue_tree c.args.catalogue.now)) c.in-Trial.is c.requires.ready) c.trial.ensures.ends)
+
+pub returns-in-Help-clause-runs : goal.returns-in-Help-clause-runs
+returns-in-Help-clause-runs g c = rw c.in-Help.is (text_job Help _ _ _ _ _ _ _ 0 help_text _ refl c.write_out.ensures.ends)
+
+pub returns-in-Version-clause-runs : goal.returns-in-Version-clause-runs
+returns-in-Version-clause-runs g c = rw c.in-Version.is (text_job Version _ _ _ _ _ _ _ 0 version_text _ refl c.write_out-in-Version.ensures.ends)

@@ -1,6 +1,3 @@
-use Rattle.std.proofs.Common.{false, [], ◌∷◌}
-use Rattle.ax_outside.specs.Changes.{library_counts}
-use Rattle.ax_load.specs.Loading.{FilesEnd}
 use Rattle.ax_load.proofs.TwoFiles.{first_ends, second_ends, passed_on}
 use Rattle.ax_load.proofs.loading.load_two.Goals as goal
 

@@ -1,13 +1,5 @@
-use Rattle.std.proofs.Common.{◌≡◌, ℕ, List, sym, ◌∙◌, ap}
-use Rattle.ax_model.proofs.StreamsApart.{stream_once}
-use Rattle.ax_model.specs.Specification.{SpecTree}
-use Rattle.ax_vectors.specs.Made.{Made}
-use Rattle.ax_trial.specs.Trial.{IsTrial, trial_line}
+use Rattle.ax_trial.proofs.Once.{trial_once}
 use Rattle.ax_trial.proofs.laws.line_once.Goals as goal
 
-once : (spec : SpecTree) (seed count : ℕ) (line other : List ℕ) → IsTrial spec seed count line → IsTrial spec seed count other → line ≡ other
-once spec seed count line other a b =
-    a.is ∙ ap (λ blocks. trial_line spec blocks (Made spec seed count)) (stream_once _ a.blocks b.blocks _ a.spelled b.spelled) ∙ sym b.is
-
 pub returns : goal.returns
-returns c = once
+returns c = trial_once

@@ -1,5 +1,5 @@
 -- The records that a call says to keep are those that match.
-use Rattle.std.proofs.Common.{◌≡◌, ℕ, ◌+◌, ◌*◌, ◌<◌, ◌≤◌, ◌⊎◌, inl, inr, Bool, true, false, cond, List, [], ◌∷◌, ◌++◌, Result, Ok, Err, IfOk, length, take, get_or, filter, refl, sym, ◌∙◌, ap, subst, arith, append-nil, length-take-le}
+use Rattle.std.proofs.Common.{◌≡◌, ℕ, ◌*◌, ◌<◌, inl, inr, Bool, true, false, cond, List, [], ◌∷◌, Result, Ok, Err, IfOk, length, take, get_or, filter, refl, sym, ◌∙◌, ap, subst, arith, append-nil}
 use Rattle.std.specs.List.{AllByRecursion}
 use Rattle.ax_bits.proofs.Pieces.{bits-injective, AreOctets-items, take-bits}
 use Rattle.ax_bits.proofs.Words.{length-bits}
@@ -10,7 +10,7 @@ use Rattle.ax_canon.specs.Kept.{Says, Keeps, kept_octets, IsCanonicalIf}
 use Rattle.ax_filter.specs.Matching.{matching, some_block, canon_if, filtered}
 use Rattle.ax_filter.specs.Meaning.{holds}
 use Rattle.ax_filter.specs.Tree.{ExprTree}
-use Rattle.ax_filter_work.specs.Laid.{BeginsWithMatching, LaysMatchingBits, IsMatchingBlock, LaysMatching}
+use Rattle.ax_filter_work.specs.Laid.{LaysMatchingBits, LaysMatching}
 use Rattle.ax_model.proofs.Once.{body_once}
 use Rattle.ax_model.proofs.RecordLaws.{record_shape}
 use Rattle.ax_model.specs.Blocks.{read_block}

@@ -1,5 +1,5 @@
 -- Blocks as bits.
-use Rattle.std.proofs.Common.{◌≡◌, ℕ, ◌+◌, ◌*◌, List, [], ◌∷◌, ◌++◌, length, true, refl, sym, ◌∙◌, ap, arith, subst, append_assoc}
+use Rattle.std.proofs.Common.{◌≡◌, ℕ, ◌+◌, ◌*◌, List, ◌++◌, length, true, refl, sym, ◌∙◌, ap, arith, append_assoc}
 use Rattle.ax_bits.proofs.Outputs.{appends_more}
 use Rattle.ax_bits.proofs.Words.{bits-append, length-bits, length-word, word-AreBits, bits-AreBits}
 use Rattle.ax_bits.specs.Bits.{bits, word, AreBits}
@@ -8,12 +8,8 @@ use Rattle.ax_bits.specs.declared.output.Out.{Out}
 use Rattle.ax_canon.specs.Blocks.{IsCanonical}
 use Rattle.ax_model.proofs.CanonFramed.{bits-octets_of, length-framed}
 use Rattle.ax_model.specs.Blocks.{read_block}
-use Rattle.ax_model.specs.Bodies.{SpellsBody, CanonBody}
-use Rattle.ax_model.specs.CanonicalOctets.{canon_block, canon_length, octets_of, framed}
-use Rattle.ax_model.specs.Flaws.{NoFlaw}
-use Rattle.ax_model.specs.Specification.{SpecTree}
-use Rattle.ax_model.specs.Tree.{EntriesTree}
-use Rattle.ax_tables.specs.Standing.{StandsFor}
+use Rattle.ax_model.specs.Bodies.{CanonBody}
+use Rattle.ax_model.specs.CanonicalOctets.{canon_block, octets_of, framed}
 use Rattle.ax_tables.specs.declared.codec.Codec.{Codec}
 use Rattle.ax_view.specs.Views.{IsLeast}
 

@@ -1,16 +1,16 @@
 -- Writing goes on after what was written.
-use Rattle.std.proofs.Common.{◌≡◌, ℕ, zero, suc, ◌+◌, ◌-◌, ◌*◌, ◌<◌, ◌≤◌, ◌⊎◌, inl, inr, List, [], ◌∷◌, ◌++◌, length, take, drop, get_or, set, refl, sym, ◌∙◌, ap, arith, subst, append_assoc, append-nil}
+use Rattle.std.proofs.Common.{◌≡◌, ℕ, suc, ◌+◌, ◌-◌, ◌*◌, ◌<◌, ◌≤◌, ◌⊎◌, inl, inr, List, [], ◌++◌, length, drop, get_or, refl, sym, ◌∙◌, ap, arith, subst, append_assoc, append-nil}
 use Rattle.ax_bits.proofs.Outputs.{appends_none, appends_more}
-use Rattle.ax_bits.specs.Bits.{bits, word, AreBits}
+use Rattle.ax_bits.specs.Bits.{bits, AreBits}
 use Rattle.ax_bits.specs.Out.{Appends, room}
 use Rattle.ax_bits.specs.declared.output.Out.{Out}
 use Rattle.ax_canon.specs.Rewriting.{Rewrites, Fronts, Writes}
 use Rattle.ax_fspec.proofs.Walks.{no_next_slot}
 use Rattle.ax_fspec.specs.Marks as Marks
-use Rattle.ax_model.specs.Reader.{Read, got, failed, after, both, read, each_read, entries_read}
+use Rattle.ax_model.specs.Reader.{Read, got, both, read, each_read, entries_read}
 use Rattle.ax_model.specs.Canonical.{canon, each_canon}
 use Rattle.ax_model.specs.Presence.{NoneUndefined}
-use Rattle.ax_model.specs.Tree.{KindTree, ValueTree, counted, occurrences, no_values, value_and, value_count, ValuesTree, EntriesTree, no_entries, entry_and, SlotTree, slots_of, defined_slots}
+use Rattle.ax_model.specs.Tree.{KindTree, ValueTree, counted, no_values, value_and, no_entries, entry_and, SlotTree, slots_of, defined_slots}
 use Rattle.ax_model.specs.declared.fault.BodyFault.{BodyFault}
 use Rattle.ax_tables.specs.Meaning.{meanings, linked_slots}
 use Rattle.ax_tables.specs.Table.{kind_at}
@@ -18,7 +18,6 @@ use Rattle.ax_tables.specs.declared.node.Node.{Node}
 use Rattle.ax_reader.proofs.Continuing.{gets_after, fails_after}
 use Rattle.ax_reader.specs.Reading.{Gets, FailsAt, Continues, kind_read, entries_at}
 use Rattle.ax_view.proofs.MarkedSteps.{NextMarked, no_entries_left, along_none}
-use Rattle.ax_view.proofs.CountedSteps.{each_count}
 use Rattle.ax_view.specs.Walking.{along}
 
 -- ---- fronts

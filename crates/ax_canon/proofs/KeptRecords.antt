@@ -5,17 +5,17 @@ use Rattle.std.specs.List.{AllByRecursion}
 use Rattle.ax_bits.proofs.Outputs.{appends_none, appends_more}
 use Rattle.ax_bits.proofs.Words.{bits-append, length-bits, length-word}
 use Rattle.ax_bits.specs.Bits.{bits, word}
-use Rattle.ax_bits.specs.Out.{Appends, loan, room, written}
+use Rattle.ax_bits.specs.Out.{Appends, room, written}
 use Rattle.ax_bits.specs.declared.output.Out.{Out}
 use Rattle.ax_canon.proofs.BodyWriting.{gets_of}
 use Rattle.ax_canon.proofs.Patching.{IsBlock, block_of}
-use Rattle.ax_canon.specs.Kept.{Says, Keeps, kept_octets, KeepsOf, IsCanonicalIf, are_some, front_if, block_if, room_for, KeptWritten, IsKeptBody, HasLength}
+use Rattle.ax_canon.specs.Kept.{Says, Keeps, KeepsOf, IsCanonicalIf, are_some, front_if, block_if, room_for, KeptWritten, IsKeptBody, HasLength}
 use Rattle.ax_canon.specs.Rewriting.{Rewrites}
 use Rattle.ax_model.proofs.Bounds.{record_bounds}
 use Rattle.ax_model.proofs.CanonSpells.{canon_shortest}
 use Rattle.ax_model.proofs.Once.{body_once, body_never_both}
 use Rattle.ax_model.proofs.RecordLaws.{record_shape}
-use Rattle.ax_model.specs.Bodies.{RecordsSpell, RecordShape, SpellsRecord, SpellsBody, FailsBody, CanonBody}
+use Rattle.ax_model.specs.Bodies.{RecordsSpell, RecordShape, SpellsRecord, SpellsBody, CanonBody}
 use Rattle.ax_model.specs.Canonical.{canon}
 use Rattle.ax_model.specs.Flaws.{NoFlaw}
 use Rattle.ax_model.specs.Specification.{SpecTree, record_kind, record_slots}
@@ -32,7 +32,7 @@ use Rattle.ax_view.proofs.Found.{read_all}
 use Rattle.ax_view.proofs.Spelled.{value_spelled}
 use Rattle.ax_view.specs.Noted.{canon_in, IsLeastRecord}
 use Rattle.ax_view.specs.RecordsAt.{IsRecordAt}
-use Rattle.ax_view.specs.Values.{IsAll, IsRecord, value_read, value_in}
+use Rattle.ax_view.specs.Values.{IsRecord, value_read, value_in}
 use Rattle.ax_view.specs.Views.{SpellsSome, FailsThere}
 use Rattle.ax_view.specs.declared.record.RecordView.{RecordView}
 

@@ -1,11 +1,11 @@
 -- LEN written again after CAT.
-use Rattle.std.proofs.Common.{◌≡◌, ℕ, ◌+◌, ◌-◌, ◌*◌, ◌/◌, ◌%◌, ◌^◌, ◌<◌, ◌≤◌, List, [], ◌∷◌, ◌++◌, length, take, drop, refl, sym, ◌∙◌, ap, arith, subst, length-append, append_assoc}
+use Rattle.std.proofs.Common.{◌≡◌, ℕ, ◌+◌, ◌-◌, ◌*◌, ◌/◌, ◌%◌, ◌^◌, ◌<◌, List, [], ◌∷◌, ◌++◌, length, take, drop, refl, sym, ◌∙◌, ap, arith, subst, length-append, append_assoc}
 use Rattle.std.proofs.lemmas.List.{take_at, drop_at}
 use Rattle.ax_bits.proofs.Outputs.{appends_more}
 use Rattle.ax_bits.proofs.Pieces.{word-split, word-low}
 use Rattle.ax_bits.proofs.Words.{length-word}
-use Rattle.ax_bits.specs.Bits.{bits, word, AreBits}
-use Rattle.ax_bits.specs.Out.{Appends, Replaces, loan, written, unwritten, room}
+use Rattle.ax_bits.specs.Bits.{bits, word}
+use Rattle.ax_bits.specs.Out.{Appends, Replaces, written, unwritten, room}
 use Rattle.ax_bits.specs.declared.output.Out.{Out}
 use Rattle.ax_canon.proofs.Framing.{framed_bits, octets_long}
 use Rattle.ax_canon.specs.Blocks.{IsCanonical, IsCanonicalBody}
@@ -18,7 +18,7 @@ use Rattle.ax_model.proofs.WholeOctets.{two_whole, spells_whole}
 use Rattle.ax_model.specs.Blocks.{read_block}
 use Rattle.ax_model.specs.Bodies.{SpellsBody, RecordsSpell, RecordShape, CanonBody}
 use Rattle.std.specs.List.{AllByRecursion}
-use Rattle.ax_model.specs.CanonicalOctets.{canon_block, canon_length, octets_of, framed}
+use Rattle.ax_model.specs.CanonicalOctets.{canon_block, canon_length, octets_of}
 use Rattle.ax_model.specs.Flaws.{NoFlaw}
 use Rattle.ax_model.specs.Specification.{SpecTree, record_kind}
 use Rattle.ax_model.specs.Tree.{EntriesTree, marked}

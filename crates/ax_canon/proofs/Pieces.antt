@@ -1,5 +1,5 @@
 -- What is copied and what is written anew.
-use Rattle.std.proofs.Common.{◌≡◌, ℕ, zero, suc, ◌+◌, ◌-◌, ◌*◌, ◌/◌, ◌<◌, ◌≤◌, ◌⊎◌, inl, inr, Bool, true, IsTrue, List, [], ◌∷◌, ◌++◌, length, take, drop, get_or, refl, sym, ◌∙◌, ap, arith, subst}
+use Rattle.std.proofs.Common.{◌≡◌, ℕ, ◌+◌, ◌-◌, ◌*◌, ◌<◌, ◌≤◌, ◌⊎◌, inl, inr, Bool, true, IsTrue, List, [], ◌∷◌, ◌++◌, length, take, drop, get_or, refl, sym, ◌∙◌, ap, arith, subst}
 use Rattle.std.proofs.lemmas.List.{append_cancel_right}
 use Rattle.ax_bits.proofs.Outputs.{appends_none, appends_more}
 use Rattle.ax_bits.proofs.Pieces.{number-word}
@@ -8,15 +8,15 @@ use Rattle.ax_bits.specs.Bits.{bits, word, number_of, AreBits, AreOctets}
 use Rattle.ax_bits.specs.Out.{Appends, room}
 use Rattle.ax_bits.specs.declared.output.Out.{Out}
 use Rattle.ax_canon.proofs.Fronting.{fronts_none, fronts_by, some_more, CountWrites}
-use Rattle.ax_canon.specs.Rewriting.{Rewrites, Fronts, Writes}
+use Rattle.ax_canon.specs.Rewriting.{Rewrites}
 use Rattle.ax_fspec.proofs.FieldLaws.{least_alike, alike_set, least_field_of, shortest}
-use Rattle.ax_fspec.specs.Fields.{MarksSlots, FailsToMark, least_field, mask_slots}
+use Rattle.ax_fspec.specs.Fields.{MarksSlots, least_field, mask_slots}
 use Rattle.ax_fspec.specs.declared.mask.SlotMask.{SlotMask}
 use Rattle.ax_model.proofs.Bounds.{count_of_slots}
 use Rattle.ax_model.proofs.Least.{marks_of_spelled}
 use Rattle.ax_model.proofs.Meets.{none_marked_left}
 use Rattle.ax_model.specs.Reader.{Read, after, read, each_read, count_read}
-use Rattle.ax_model.specs.Canonical.{canon, each_canon, marks_of, entries_canon}
+use Rattle.ax_model.specs.Canonical.{canon, each_canon, marks_of}
 use Rattle.ax_model.specs.InBounds.{InBounds}
 use Rattle.ax_model.specs.Presence.{octets_needed, none_marked, least_presence, NoneUndefined}
 use Rattle.ax_model.specs.Tree.{KindTree, ValueTree, EntriesTree, counted, occurrences, value_count, compound, marked, SlotTree, spare_slot, subitem, slots_of, slot_count, defined_slots}
@@ -28,9 +28,9 @@ use Rattle.ax_tables.specs.declared.node.Node.{Node}
 use Rattle.ax_reader.proofs.AtOctets.{octets_parts, length-octets}
 use Rattle.ax_reader.proofs.Continuing.{gets_after, fails_after}
 use Rattle.ax_reader.proofs.Counting.{front_octet, counted_none}
-use Rattle.ax_reader.proofs.Marking.{field_read, field_failed, marks_bits}
-use Rattle.ax_reader.specs.Reading.{Gets, FailsAt, Continues, IsMaskOf, kind_read, entries_at}
-use Rattle.ax_view.proofs.Compounds.{marks_clear, record_lost}
+use Rattle.ax_reader.proofs.Marking.{field_read, marks_bits}
+use Rattle.ax_reader.specs.Reading.{Gets, FailsAt, IsMaskOf, kind_read, entries_at}
+use Rattle.ax_view.proofs.Compounds.{marks_clear}
 use Rattle.ax_view.proofs.FieldSteps.{along_is, spelled}
 use Rattle.ax_view.proofs.CountedSteps.{each_count}
 use Rattle.ax_view.proofs.Plain.{IsPlain, plain_again}

@@ -10,7 +10,7 @@ use Rattle.ax_tokens.specs.declared.token.LexError.{LexError}
 use Rattle.ax_tokens.specs.declared.token.LexError.TheVariants as LexErrorOf
 use Rattle.ax_filter.specs.Faults.{IsFault}
 use Rattle.ax_filter.specs.OfCode.{IsFilterOf}
-use Rattle.ax_filter.specs.Texts.{deepest, IsFilterText, TokensFail, IsRefused, IsStopped, stop_of_lexing, stop_of_reading}
+use Rattle.ax_filter.specs.Texts.{IsFilterText, TokensFail, IsRefused, IsStopped, stop_of_lexing, stop_of_reading}
 use Rattle.ax_filter.specs.Tree.{ExprTree}
 use Rattle.ax_filter.specs.declared.error.FilterError.{FilterError}
 use Rattle.ax_filter.specs.declared.error.FilterError.TheVariants as FilterErrorOf

@@ -65,10 +65,20 @@ fn matching_trees(filter: &Filter<'_>, spec: &Spec, block: &Block) -> usize {
 }
 
 /// How many records of a block of that category the filter holds of, as views.
-fn matching_views(filter: &Filter<'_>, category: u8, view: &BlockView<'_, '_>) -> usize {
-    view.records()
-        .filter(|one| filter.holds(category, one))
-        .count()
+fn matching_views(
+    rt: &impl Abort,
+    filter: &Filter<'_>,
+    category: u8,
+    view: &BlockView<'_, '_>,
+) -> usize {
+    let mut count = 0;
+    for one in view.records() {
+        assert!(rt; count < 100_000);
+        if filter.holds(category, &one) {
+            count += 1;
+        }
+    }
+    count
 }
 
 /// The canonical block of the records that the filter holds of; no octets where it holds of none. Trees and views agree on
@@ -90,7 +100,7 @@ fn filtered(
     let Ok(view) = scan(&codec, body) else {
         return Err(Fail::from("no records"));
     };
-    let matching = matching_views(filter, category, &view);
+    let matching = matching_views(rt, filter, category, &view);
     assert_eq!(rt; matching, matching_trees(filter, accepted.spec(), &read));
     kept(rt, alloc, filter, category, &view)
 }

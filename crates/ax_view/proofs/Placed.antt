@@ -1,5 +1,5 @@
 -- The octets of a slot stand in its place.
-use Rattle.std.proofs.Common.{◌≡◌, ℕ, ◌+◌, ◌-◌, ◌*◌, ◌<◌, ◌≤◌, ◌==◌, if◌then◌else◌, Bool, true, false, List, [], ◌++◌, length, take, drop, get_or, Option, Some, None, IfSome, refl, sym, ◌∙◌, ap, arith, subst, append-nil, append_assoc, take-append-drop, drop-drop}
+use Rattle.std.proofs.Common.{◌≡◌, ℕ, ◌+◌, ◌-◌, ◌*◌, ◌≤◌, ◌==◌, if◌then◌else◌, Bool, true, false, List, [], ◌++◌, length, take, drop, get_or, Option, Some, None, IfSome, refl, sym, ◌∙◌, ap, arith, subst, append-nil, append_assoc, take-append-drop, drop-drop}
 use Rattle.std.proofs.lemmas.List.{length-map}
 use Rattle.ax_bits.specs.Bits.{bits}
 use Rattle.ax_fspec.specs.Fields.{MarksSlots}

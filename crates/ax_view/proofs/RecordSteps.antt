@@ -1,5 +1,5 @@
 -- A record's octets alone.
-use Rattle.std.proofs.Common.{ℕ, ◌≡◌, ◌-◌, ◌≤◌, Bool, IsTrue, List, length, take, drop, subst, sym, ap, ◌∙◌, arith, length-drop, refl}
+use Rattle.std.proofs.Common.{ℕ, ◌-◌, ◌≤◌, Bool, List, length, take, drop, subst, sym, ap, ◌∙◌, arith, length-drop, refl}
 use Rattle.std.proofs.lemmas.List.{length-take-le, append_cancel_right}
 use Rattle.ax_bits.specs.Bits.{bits}
 use Rattle.ax_model.specs.Canonical.{canon}

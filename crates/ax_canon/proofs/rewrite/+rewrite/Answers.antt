@@ -1,12 +1,11 @@
-use Rattle.std.proofs.Common.{◌≡◌, ◌+◌, ◌-◌, ◌*◌, ◌%◌, ◌<◌, ◌≤◌, length, get_or, true, false, IsTrue, ℕ, Bool, List, ap, arith, refl, sym, subst, ◌∙◌}
+use Rattle.std.proofs.Common.{◌-◌, length, get_or, arith, refl, sym, subst}
 use Rattle.ax_bits.proofs.Pieces.{AreOctets-items}
-use Rattle.ax_canon.proofs.Fronting.{count_next, count_last, marks_first, marks_next, marks_last}
+use Rattle.ax_canon.proofs.Fronting.{count_next, count_last, marks_next, marks_last}
 use Rattle.ax_canon.proofs.Pieces.{not_copied, as_kind, no_count, count_first, field_room, room_behind, compound_written}
 use Rattle.ax_model.specs.Canonical.{canon}
 use Rattle.ax_model.specs.InBounds.{InBounds}
 use Rattle.ax_model.specs.Tree as Tree
-use Rattle.ax_model.specs.declared.content.Content.TheVariants.{Raw}
-use Rattle.ax_tables.specs.Meaning.{meanings, linked, fixed_of, linked_members, linked_parts, linked_slots}
+use Rattle.ax_tables.specs.Meaning.{meanings, linked_slots}
 use Rattle.ax_tables.specs.Table.{kind_at, record_kind_at}
 use Rattle.ax_reader.proofs.Marking.{marks_bits}
 use Rattle.ax_reader.specs.Reading.{kind_read}

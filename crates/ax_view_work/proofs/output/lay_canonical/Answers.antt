@@ -1,4 +1,4 @@
-use Rattle.std.proofs.Common.{arith, subst, sym}
+use Rattle.std.proofs.Common.{arith, subst}
 use Rattle.ax_bits.specs.Bits.{bits}
 use Rattle.ax_view_work.proofs.LaidOctets.{octets_laid}
 use Rattle.ax_view_work.specs.Laid.{LaysBits}

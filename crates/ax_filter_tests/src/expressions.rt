@@ -29,7 +29,7 @@ const ACCEPTED: [&str; 17] = [
 fn each_form_is_read(rt: HostRuntime) -> Result<(), Fail> {
     let alloc = rt.alloc();
     let files = catalogue(&rt, alloc, CAT034_P1, CAT048_P1)?;
-    for text in ACCEPTED {
+    for &text in &ACCEPTED {
         let got = fault_of(&rt, alloc, &files, text)?;
         assert_eq!(rt; got, None, "{text}");
     }
@@ -144,7 +144,7 @@ const REFUSED: [(&str, FilterFault); 55] = [
 fn the_first_fault_is_named(rt: HostRuntime) -> Result<(), Fail> {
     let alloc = rt.alloc();
     let files = catalogue(&rt, alloc, CAT034_P1, CAT048_P1)?;
-    for (text, want) in REFUSED {
+    for &(text, want) in &REFUSED {
         let got = fault_of(&rt, alloc, &files, text)?;
         assert_eq!(rt; got, Some(want), "{text}");
     }

@@ -1,8 +1,10 @@
 //! Catalogues, filters and blocks, read from texts.
+ghost use Rattle.ax_model.specs.OfCode.{BlockFits, HasNoFlaw};
+
 use ax_check::{Accepted, Catalogue, accept};
 use ax_filter::{Filter, FilterFault, FilterStop, read_expression};
 use ax_grammar::read_spec;
-use ax_model::{RawBlock, fits};
+use ax_model::{Block, RawBlock, Spec, fits};
 use ax_samples::octets;
 use ax_tokens::tokens;
 use ax_values::{decode_block, encode_block};
@@ -10,13 +12,17 @@ use std::alloc::Global;
 use std::process::Abort;
 use std::test::Fail;
 
-/// The specification of a category file without flaw.
-fn accepted(rt: &impl Abort, alloc: Global, text: &str) -> Result<Accepted, Fail> {
+/// The specification that a text spells.
+fn spec_of(rt: &impl Abort, alloc: Global, text: &str) -> Result<Spec, Fail> {
     let text = text.as_bytes();
     assert!(rt; text.len() < 10_000);
     let found = tokens(alloc, text, 16)?;
-    let spec = read_spec(alloc, &found)?;
-    Ok(accept(alloc, spec)?)
+    Ok(read_spec(alloc, &found)?)
+}
+
+/// The specification of a category file without flaw.
+fn accepted(rt: &impl Abort, alloc: Global, text: &str) -> Result<Accepted, Fail> {
+    Ok(accept(alloc, spec_of(rt, alloc, text)?)?)
 }
 
 /// The catalogue of two category files.
@@ -48,6 +54,17 @@ pub(crate) fn fault_of(
     }
 }
 
+/// The octets of the records of a block that the filter holds of; none where it holds of none.
+fn matching(alloc: Global, spec: &Spec, filter: &Filter<'_>, block: &Block) -> Result<Vec<u8>, Fail>
+    requires no_flaw { HasNoFlaw spec.now }
+    requires fits { BlockFits spec.now block.now }
+{
+    match filter.matching(alloc, spec, block)? {
+        Some(matching) => Ok(encode_block(alloc, spec, &matching)?),
+        None => Ok(Vec::new(alloc)),
+    }
+}
+
 fn filtered(
     rt: &impl Abort,
     alloc: Global,
@@ -62,10 +79,33 @@ fn filtered(
     let spec = catalogue.get(category).ok_or("no specification")?.spec();
     let read = decode_block(alloc, spec, &RawBlock { category, body })?;
     assert!(rt; fits(spec, &read));
-    match filter.matching(alloc, spec, &read)? {
-        Some(matching) => Ok(encode_block(alloc, spec, &matching)?),
-        None => Ok(Vec::new(alloc)),
-    }
+    matching(alloc, spec, filter, &read)
+}
+
+/// What the filter keeps of a block in hexadecimal.
+fn kept(
+    rt: &impl Abort,
+    alloc: Global,
+    catalogue: &Catalogue,
+    filter: &Filter<'_>,
+    block: &str,
+) -> Result<Vec<u8>, Fail> {
+    let octets = octets(alloc, block)?;
+    filtered(rt, alloc, catalogue, filter, &octets)
+}
+
+/// What the expression keeps of a block in hexadecimal.
+fn kept_by(
+    rt: &impl Abort,
+    alloc: Global,
+    catalogue: &Catalogue,
+    text: &str,
+    block: &str,
+) -> Result<Vec<u8>, Fail> {
+    let expression = text.as_bytes();
+    assert!(rt; expression.len() < 10_000);
+    let filter = read_expression(alloc, expression, catalogue).map_err(|_| "no filter")?;
+    kept(rt, alloc, catalogue, &filter, block)
 }
 
 /// Asserts that of a block the records that the expression holds of make this one, in canonical form; no octets where it
@@ -78,11 +118,7 @@ pub(crate) fn keeps(
     block: &str,
     want: &str,
 ) -> Result<(), Fail> {
-    let expression = text.as_bytes();
-    assert!(rt; expression.len() < 10_000);
-    let filter = read_expression(alloc, expression, catalogue).map_err(|_| "no filter")?;
-    let octets_of_block = octets(alloc, block)?;
-    let got = filtered(rt, alloc, catalogue, &filter, &octets_of_block)?;
+    let got = kept_by(rt, alloc, catalogue, text, block)?;
     let want = octets(alloc, want)?;
     assert_eq!(rt; got.as_slice(), want.as_slice(), "{text} of {block}");
     Ok(())

@@ -46,8 +46,8 @@ fn compares(
 fn each_comparison(rt: HostRuntime) -> Result<(), Fail> {
     let alloc = rt.alloc();
     let files = catalogue(&rt, alloc, CAT034_P1, CAT048_P1)?;
-    for (element, block, equal, above, below) in NUMBERS {
-        for (operator, at_equal, if_below, if_above) in OPERATORS {
+    for &(element, block, equal, above, below) in &NUMBERS {
+        for &(operator, at_equal, if_below, if_above) in &OPERATORS {
             compares(
                 &rt,
                 alloc,

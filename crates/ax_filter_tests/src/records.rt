@@ -63,7 +63,7 @@ const KEPT: [(&str, &str, &str); 24] = [
 fn records_are_kept(rt: HostRuntime) -> Result<(), Fail> {
     let alloc = rt.alloc();
     let files = catalogue(&rt, alloc, CAT034_P1, CAT048_P1)?;
-    for (text, block, want) in KEPT {
+    for &(text, block, want) in &KEPT {
         keeps(&rt, alloc, &files, text, block, want)?;
     }
     Ok(())
@@ -106,7 +106,7 @@ const WIDE: [(&str, &str, &str); 5] = [
 fn the_greatest_width(rt: HostRuntime) -> Result<(), Fail> {
     let alloc = rt.alloc();
     let files = catalogue(&rt, alloc, CAT034_P1, FILE_WIDE)?;
-    for (text, block, want) in WIDE {
+    for &(text, block, want) in &WIDE {
         keeps(&rt, alloc, &files, text, block, want)?;
     }
     Ok(())

@@ -1,14 +1,56 @@
 //! What was printed for a block reads back as that block.
 
-use crate::fixtures::{catalogue_of, read_line};
-use ax_check::Catalogue;
-use ax_model::{RawBlock, fits};
+use crate::fixtures::{block_of, catalogue_of};
+use ax_check::{Accepted, Catalogue};
+use ax_model::{Block, RawBlock, fits};
 use ax_samples::{CAT019_P1, CAT034_P1, CAT048_P1, FILE_A, FILE_H1, FILE_N, octets};
 use ax_text::block_text;
 use ax_values::{decode_block, encode_block};
 use std::alloc::Global;
 use std::process::Abort;
 use std::test::Fail;
+
+/// The body of a block, after CAT and the LEN that it has.
+fn body_of<'o>(rt: &impl Abort, octets: &'o [u8]) -> &'o [u8] {
+    assert!(rt; octets.len() >= 4);
+    let length = octets[1] as usize * 256 + octets[2] as usize;
+    assert_eq!(rt; octets.len(), length, "LEN of {octets:?}");
+    &octets[3..]
+}
+
+fn decoded(rt: &impl Abort, alloc: Global, file: &Accepted, octets: &[u8]) -> Result<Block, Fail> {
+    let body = body_of(rt, octets);
+    assert!(rt; !octets.is_empty());
+    assert!(rt; !body.is_empty());
+    assert!(rt; body.len() <= 65_532);
+    let category = octets[0];
+    Ok(decode_block(alloc, file.spec(), &RawBlock { category, body })?)
+}
+
+/// The text of the block that these octets are.
+fn printed(
+    rt: &impl Abort,
+    alloc: Global,
+    file: &Accepted,
+    octets: &[u8],
+) -> Result<Vec<u8>, Fail> {
+    let block = decoded(rt, alloc, file, octets)?;
+    assert!(rt; fits(file.spec(), &block));
+    Ok(block_text(alloc, file.spec(), &block)?)
+}
+
+/// The octets of the block of a line.
+fn read(
+    rt: &impl Abort,
+    alloc: Global,
+    catalogue: &Catalogue,
+    file: &Accepted,
+    line: &[u8],
+) -> Result<Vec<u8>, Fail> {
+    let block = block_of(rt, alloc, catalogue, line)?;
+    assert!(rt; fits(file.spec(), &block));
+    Ok(encode_block(alloc, file.spec(), &block)?)
+}
 
 /// The octets of the block that is read from the text of the block that these octets are.
 fn printed_and_read(
@@ -17,22 +59,22 @@ fn printed_and_read(
     catalogue: &Catalogue,
     octets: &[u8],
 ) -> Result<Vec<u8>, Fail> {
-    assert!(rt; octets.len() >= 4);
-    let length = octets[1] as usize * 256 + octets[2] as usize;
-    assert_eq!(rt; octets.len(), length, "LEN of {octets:?}");
-    let (category, body) = (octets[0], &octets[3..]);
-    assert!(rt; body.len() <= 65_532);
-    let Some(accepted) = catalogue.at(0) else {
-        return Err(Fail::new("a file"));
-    };
-    let block = decode_block(alloc, accepted.spec(), &RawBlock { category, body })?;
-    assert!(rt; fits(accepted.spec(), &block));
-    let line = block_text(alloc, accepted.spec(), &block)?;
-    let Ok(back) = read_line(rt, alloc, catalogue, &line)? else {
-        return Err(Fail::new("a block"));
-    };
-    assert!(rt; fits(accepted.spec(), &back));
-    Ok(encode_block(alloc, accepted.spec(), &back)?)
+    let file = catalogue.at(0).ok_or("a file")?;
+    let line = printed(rt, alloc, file, octets)?;
+    read(rt, alloc, catalogue, file, &line)
+}
+
+/// Asserts that a block in hexadecimal is printed and read back.
+fn reads_back(
+    rt: &impl Abort,
+    alloc: Global,
+    catalogue: &Catalogue,
+    block: &str,
+) -> Result<(), Fail> {
+    let octets = octets(alloc, block)?;
+    let back = printed_and_read(rt, alloc, catalogue, &octets)?;
+    assert_eq!(rt; back.as_slice(), octets.as_slice(), "{block}");
+    Ok(())
 }
 
 // Category files, and canonical blocks under them.
@@ -63,11 +105,9 @@ const BLOCKS: [(&str, &str); 18] = [
 #[test]
 fn printed_blocks_read_back(rt: HostRuntime) -> Result<(), Fail> {
     let alloc = rt.alloc();
-    for (file, block) in BLOCKS {
+    for &(file, block) in &BLOCKS {
         let catalogue = catalogue_of(&rt, alloc, file)?;
-        let octets = octets(alloc, block)?;
-        let back = printed_and_read(&rt, alloc, &catalogue, &octets)?;
-        assert_eq!(rt; back.as_slice(), octets.as_slice(), "{block}");
+        reads_back(&rt, alloc, &catalogue, block)?;
     }
     Ok(())
 }

@@ -1,89 +1,60 @@
 //! The first bad token of texts that are no block's.
 
-use crate::fixtures::{add_file, catalogue_of, read_line};
-use ax_block_reader::TextError;
+use crate::fixtures::{add_file, bad_token, catalogue_of};
 use ax_check::Catalogue;
 use ax_samples::{CAT048_P1, FILE_A, FILE_H1, FILE_N};
+use std::alloc::{AllocError, Global};
+use std::process::Abort;
 use std::test::Fail;
 
-// Category files, lines, and the number of the first bad token.
-const BAD: [(&str, &str, u32); 43] = [
+// Lines under category 048, and the number of the first bad token.
+const BAD: [(&str, u32); 36] = [
+    ("block 048 { record { 010 { SAC 256 SIC 12 } } }", 8),
+    ("block 048 { record { 010 { SAC 025 SIC 12 } } }", 8),
+    ("block 048 { record { 010 { SAC +25 SIC 12 } } }", 8),
+    ("block 048 { record { 010 { SIC 12 SAC 25 } } }", 7),
+    ("block 048 { record { 010 { SAC 25 } } }", 9),
+    ("block 048 { record { 010 { SAC 25 SIC 12 SAC 1 } } }", 11),
+    ("block 048 { record { 140 1 010 { SAC 1 SIC 1 } } }", 7),
+    ("block 048 { record { 140 1 140 1 } }", 7),
+    ("block 048 { record { 141 1 } }", 5),
+    ("block 048 { record { 140 } }", 6),
+    ("block 048 { record { 140 16777216 } }", 6),
+    ("block 048 { record { SP \"AA\" } }", 6),
+    ("block 048 { record { SP \"aa \" } }", 6),
+    ("block 048 { record { SP aa } }", 6),
+    ("block 048 { record { 161 { TRN 42 } } }", 7),
+    ("block 048 { record { 161 { spare 16 TRN 42 } } }", 8),
+    ("block 048 { record { 020 { } } }", 7),
     (
-        CAT048_P1,
-        "block 048 { record { 010 { SAC 256 SIC 12 } } }",
-        8,
-    ),
-    (
-        CAT048_P1,
-        "block 048 { record { 010 { SAC 025 SIC 12 } } }",
-        8,
-    ),
-    (
-        CAT048_P1,
-        "block 048 { record { 010 { SAC +25 SIC 12 } } }",
-        8,
-    ),
-    (
-        CAT048_P1,
-        "block 048 { record { 010 { SIC 12 SAC 25 } } }",
-        7,
-    ),
-    (CAT048_P1, "block 048 { record { 010 { SAC 25 } } }", 9),
-    (
-        CAT048_P1,
-        "block 048 { record { 010 { SAC 25 SIC 12 SAC 1 } } }",
-        11,
-    ),
-    (
-        CAT048_P1,
-        "block 048 { record { 140 1 010 { SAC 1 SIC 1 } } }",
-        7,
-    ),
-    (CAT048_P1, "block 048 { record { 140 1 140 1 } }", 7),
-    (CAT048_P1, "block 048 { record { 141 1 } }", 5),
-    (CAT048_P1, "block 048 { record { 140 } }", 6),
-    (CAT048_P1, "block 048 { record { 140 16777216 } }", 6),
-    (CAT048_P1, "block 048 { record { SP \"AA\" } }", 6),
-    (CAT048_P1, "block 048 { record { SP \"aa \" } }", 6),
-    (CAT048_P1, "block 048 { record { SP aa } }", 6),
-    (CAT048_P1, "block 048 { record { 161 { TRN 42 } } }", 7),
-    (
-        CAT048_P1,
-        "block 048 { record { 161 { spare 16 TRN 42 } } }",
-        8,
-    ),
-    (CAT048_P1, "block 048 { record { 020 { } } }", 7),
-    (
-        CAT048_P1,
         "block 048 { record { 020 { part { TYP 5 SIM 0 RDP 0 SPI 0 RAB 0 } part { TST 0 ME 0 } } } }",
         24,
     ),
     (
-        CAT048_P1,
         "block 048 { record { 020 { part { TYP 5 SIM 0 RDP 0 SPI 0 RAB 0 } part { TST 0 spare 0 ME 0 MI 0 FOEFRI 0 } part { } } } }",
         33,
     ),
-    (CAT048_P1, "block 048 { record { 030 { } } }", 7),
-    (CAT048_P1, "block 048 { record { 030 { 5 128 } } }", 8),
-    (CAT048_P1, "block 048 { record { 130 { APD 8 SRL 7 } } }", 9),
-    (CAT048_P1, "block 048 { record { 250 { 0 } } }", 7),
-    (CAT048_P1, "block 048 { record { } } x", 7),
-    (
-        CAT048_P1,
-        "block 048 { record { } } block 048 { record { } }",
-        7,
-    ),
-    (CAT048_P1, "block 048 { }", 3),
-    (CAT048_P1, "block 048 record { }", 2),
-    (CAT048_P1, "block 48 { record { } }", 1),
-    (CAT048_P1, "block 256 { record { } }", 1),
-    (CAT048_P1, "block 049 { record { } }", 1),
-    (CAT048_P1, "blocks 048 { record { } }", 0),
-    (CAT048_P1, "", 0),
-    (CAT048_P1, "block", 1),
-    (CAT048_P1, "block 048 { record {", 5),
-    (CAT048_P1, "block 048 { record { }", 6),
-    (CAT048_P1, "block 048 { record { SP", 6),
+    ("block 048 { record { 030 { } } }", 7),
+    ("block 048 { record { 030 { 5 128 } } }", 8),
+    ("block 048 { record { 130 { APD 8 SRL 7 } } }", 9),
+    ("block 048 { record { 250 { 0 } } }", 7),
+    ("block 048 { record { } } x", 7),
+    ("block 048 { record { } } block 048 { record { } }", 7),
+    ("block 048 { }", 3),
+    ("block 048 record { }", 2),
+    ("block 48 { record { } }", 1),
+    ("block 256 { record { } }", 1),
+    ("block 049 { record { } }", 1),
+    ("blocks 048 { record { } }", 0),
+    ("", 0),
+    ("block", 1),
+    ("block 048 { record {", 5),
+    ("block 048 { record { }", 6),
+    ("block 048 { record { SP", 6),
+];
+
+// Category files, lines, and the number of the first bad token.
+const OTHER_BAD: [(&str, &str, u32); 7] = [
     (FILE_A, "opaque 034 \"00\"", 1),
     (FILE_A, "block 062 { record { } }", 1),
     (FILE_A, "opaque 062 \"\"", 2),
@@ -93,41 +64,91 @@ const BAD: [(&str, &str, u32); 43] = [
     (FILE_H1, "block 202 { record { 010 { B 1 A 1 } } }", 9),
 ];
 
+fn is_bad_at(
+    rt: &impl Abort,
+    alloc: Global,
+    catalogue: &Catalogue,
+    line: &str,
+    want: u32,
+) -> Result<(), Fail> {
+    let token = bad_token(rt, alloc, catalogue, line.as_bytes())?;
+    assert_eq!(rt; token, want, "{line}");
+    Ok(())
+}
+
 #[test]
 fn the_first_bad_token_is_named(rt: HostRuntime) -> Result<(), Fail> {
     let alloc = rt.alloc();
-    for (file, line, want) in BAD {
-        let catalogue = catalogue_of(&rt, alloc, file)?;
-        match read_line(&rt, alloc, &catalogue, line.as_bytes())? {
-            Err(TextError::BadToken { token }) => assert_eq!(rt; token, want, "{line}"),
-            _ => return Err(Fail::new("no bad token")),
-        }
+    let catalogue = catalogue_of(&rt, alloc, CAT048_P1)?;
+    for &(line, want) in &BAD {
+        is_bad_at(&rt, alloc, &catalogue, line, want)?;
     }
     Ok(())
 }
 
+#[test]
+fn the_first_bad_token_under_other_files(rt: HostRuntime) -> Result<(), Fail> {
+    let alloc = rt.alloc();
+    for &(file, line, want) in &OTHER_BAD {
+        let catalogue = catalogue_of(&rt, alloc, file)?;
+        is_bad_at(&rt, alloc, &catalogue, line, want)?;
+    }
+    Ok(())
+}
+
+/// A front, so many times the middle, and an end.
+fn repeated(
+    alloc: Global,
+    front: &[u8],
+    count: u32,
+    middle: &[u8],
+    end: &[u8],
+) -> Result<Vec<u8>, AllocError> {
+    let mut line = front.to_vec(alloc)?;
+    for _ in 0..count {
+        line.extend_from_slice(middle)?;
+    }
+    line.extend_from_slice(end)?;
+    Ok(line)
+}
+
 // An SP of 255 octets, and a 256th occurrence of item 250.
+const TOO_MANY: [(&str, u32, &str, &str, u32); 2] = [
+    ("block 048 { record { SP \"", 255, "0a", "\" } }", 6),
+    (
+        "block 048 { record { 250 {",
+        256,
+        " { MB 1 BDS1 2 BDS2 3 }",
+        " } } }",
+        2047,
+    ),
+];
+
+fn is_bad_where_repeated(
+    rt: &impl Abort,
+    alloc: Global,
+    catalogue: &Catalogue,
+    (front, count, middle, end): (&str, u32, &str, &str),
+    want: u32,
+) -> Result<(), Fail> {
+    let line = repeated(
+        alloc,
+        front.as_bytes(),
+        count,
+        middle.as_bytes(),
+        end.as_bytes(),
+    )?;
+    let token = bad_token(rt, alloc, catalogue, &line)?;
+    assert_eq!(rt; token, want, "{front}");
+    Ok(())
+}
+
 #[test]
 fn a_list_has_at_most_so_many(rt: HostRuntime) -> Result<(), Fail> {
     let alloc = rt.alloc();
     let catalogue = catalogue_of(&rt, alloc, CAT048_P1)?;
-    let mut line = b"block 048 { record { SP \"".to_vec(alloc)?;
-    for _ in 0..255 {
-        line.extend_from_slice(b"0a")?;
-    }
-    line.extend_from_slice(b"\" } }")?;
-    match read_line(&rt, alloc, &catalogue, &line)? {
-        Err(TextError::BadToken { token }) => assert_eq!(rt; token, 6),
-        _ => return Err(Fail::new("no bad token")),
-    }
-    let mut line = b"block 048 { record { 250 {".to_vec(alloc)?;
-    for _ in 0..256 {
-        line.extend_from_slice(b" { MB 1 BDS1 2 BDS2 3 }")?;
-    }
-    line.extend_from_slice(b" } } }")?;
-    match read_line(&rt, alloc, &catalogue, &line)? {
-        Err(TextError::BadToken { token }) => assert_eq!(rt; token, 2047),
-        _ => return Err(Fail::new("no bad token")),
+    for &(front, count, middle, end, want) in &TOO_MANY {
+        is_bad_where_repeated(&rt, alloc, &catalogue, (front, count, middle, end), want)?;
     }
     Ok(())
 }
@@ -136,26 +157,30 @@ fn a_list_has_at_most_so_many(rt: HostRuntime) -> Result<(), Fail> {
 fn without_a_file_no_text_begins_with_block(rt: HostRuntime) -> Result<(), Fail> {
     let alloc = rt.alloc();
     let catalogue = Catalogue::new(alloc);
-    match read_line(&rt, alloc, &catalogue, b"block 048 { record { } }")? {
-        Err(TextError::BadToken { token }) => assert_eq!(rt; token, 0),
-        _ => return Err(Fail::new("no bad token")),
-    }
+    let token = bad_token(&rt, alloc, &catalogue, b"block 048 { record { } }")?;
+    assert_eq!(rt; token, 0);
     Ok(())
+}
+
+/// A file of a category, with no item.
+fn file_of(alloc: Global, category: u32) -> Result<String, AllocError> {
+    format!(in alloc; "category {category:03} edition \"\" items {{ }} uap {{ - }}")
+}
+
+fn all_categories(rt: &impl Abort, alloc: Global) -> Result<Catalogue, Fail> {
+    let mut catalogue = Catalogue::new(alloc);
+    for category in 0..256u32 {
+        let text = file_of(alloc, category)?;
+        add_file(rt, alloc, &mut catalogue, text.as_str())?;
+    }
+    Ok(catalogue)
 }
 
 #[test]
 fn with_all_categories_no_text_begins_with_opaque(rt: HostRuntime) -> Result<(), Fail> {
     let alloc = rt.alloc();
-    let mut catalogue = Catalogue::new(alloc);
-    for category in 0..256u32 {
-        let text = format!(in alloc;
-            "category {category:03} edition \"\" items {{ }} uap {{ - }}"
-        )?;
-        add_file(&rt, alloc, &mut catalogue, &text)?;
-    }
-    match read_line(&rt, alloc, &catalogue, b"opaque 062 \"00\"")? {
-        Err(TextError::BadToken { token }) => assert_eq!(rt; token, 0),
-        _ => return Err(Fail::new("no bad token")),
-    }
+    let catalogue = all_categories(&rt, alloc)?;
+    let token = bad_token(&rt, alloc, &catalogue, b"opaque 062 \"00\"")?;
+    assert_eq!(rt; token, 0);
     Ok(())
 }

@@ -1,23 +1,57 @@
 //! Texts of blocks whose canonical form is too long.
 
-use crate::fixtures::{catalogue_of, read_line};
-use ax_block_reader::TextError;
+use crate::fixtures::{bad_token, block_of, catalogue_of, too_long};
+use ax_check::Catalogue;
 use ax_samples::{CAT048_P1, FILE_A};
+use std::alloc::{AllocError, Global};
+use std::process::Abort;
 use std::test::Fail;
+
+/// A block of that many records without items.
+fn empty_records(alloc: Global, count: u32) -> Result<Vec<u8>, AllocError> {
+    let mut line = b"block 048 {".to_vec(alloc)?;
+    for _ in 0..count {
+        line.extend_from_slice(b" record { }")?;
+    }
+    line.extend_from_slice(b" }")?;
+    Ok(line)
+}
 
 #[test]
 fn records_of_65533_octets_are_too_long(rt: HostRuntime) -> Result<(), Fail> {
     let alloc = rt.alloc();
     let catalogue = catalogue_of(&rt, alloc, CAT048_P1)?;
-    let mut line = b"block 048 {".to_vec(alloc)?;
-    for _ in 0..65_533 {
-        line.extend_from_slice(b" record { }")?;
+    let line = empty_records(alloc, 65_533)?;
+    assert_eq!(rt; too_long(&rt, alloc, &catalogue, &line)?, 65_536);
+    Ok(())
+}
+
+/// An opaque block of that many octets, and what stands behind it.
+fn opaque(alloc: Global, count: u32, behind: &[u8]) -> Result<Vec<u8>, AllocError> {
+    let mut line = b"opaque 062 \"".to_vec(alloc)?;
+    for _ in 0..count {
+        line.extend_from_slice(b"0a")?;
     }
-    line.extend_from_slice(b" }")?;
-    match read_line(&rt, alloc, &catalogue, &line)? {
-        Err(TextError::TooLong { octets }) => assert_eq!(rt; octets, 65_536),
-        _ => return Err(Fail::new("not too long")),
-    }
+    line.extend_from_slice(b"\"")?;
+    line.extend_from_slice(behind)?;
+    Ok(line)
+}
+
+fn is_read(rt: &impl Abort, alloc: Global, catalogue: &Catalogue, count: u32) -> Result<(), Fail> {
+    let line = opaque(alloc, count, b"")?;
+    let _block = block_of(rt, alloc, catalogue, &line)?;
+    Ok(())
+}
+
+fn is_too_long(
+    rt: &impl Abort,
+    alloc: Global,
+    catalogue: &Catalogue,
+    count: u32,
+    want: u64,
+) -> Result<(), Fail> {
+    let line = opaque(alloc, count, b"")?;
+    assert_eq!(rt; too_long(rt, alloc, catalogue, &line)?, want);
     Ok(())
 }
 
@@ -25,23 +59,10 @@ fn records_of_65533_octets_are_too_long(rt: HostRuntime) -> Result<(), Fail> {
 fn opaque_octets_are_too_long(rt: HostRuntime) -> Result<(), Fail> {
     let alloc = rt.alloc();
     let catalogue = catalogue_of(&rt, alloc, FILE_A)?;
-    let mut line = b"opaque 062 \"".to_vec(alloc)?;
-    for _ in 0..65_532 {
-        line.extend_from_slice(b"0a")?;
-    }
-    let mut longest = line.as_slice().to_vec(alloc)?;
-    longest.extend_from_slice(b"\"")?;
-    assert!(rt; read_line(&rt, alloc, &catalogue, &longest)?.is_ok());
-    line.extend_from_slice(b"0a\"")?;
-    match read_line(&rt, alloc, &catalogue, &line)? {
-        Err(TextError::TooLong { octets }) => assert_eq!(rt; octets, 65_536),
-        _ => return Err(Fail::new("not too long")),
-    }
+    is_read(&rt, alloc, &catalogue, 65_532)?;
+    is_too_long(&rt, alloc, &catalogue, 65_533, 65_536)?;
     // A bad token comes before the length.
-    line.extend_from_slice(b" x")?;
-    match read_line(&rt, alloc, &catalogue, &line)? {
-        Err(TextError::BadToken { token }) => assert_eq!(rt; token, 3),
-        _ => return Err(Fail::new("no bad token")),
-    }
+    let line = opaque(alloc, 65_533, b" x")?;
+    assert_eq!(rt; bad_token(&rt, alloc, &catalogue, &line)?, 3);
     Ok(())
 }

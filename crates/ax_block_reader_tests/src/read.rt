@@ -1,6 +1,6 @@
 //! Texts, and the octets of the blocks that they are.
 
-use crate::fixtures::{catalogue_of, read_line};
+use crate::fixtures::{block_of, catalogue_of};
 use ax_check::Catalogue;
 use ax_model::{Block, fits};
 use ax_samples::{CAT048_P1, FILE_A, FILE_H1, FILE_N, octets};
@@ -22,6 +22,44 @@ fn encoded(
     };
     assert!(rt; fits(accepted.spec(), block));
     Ok(encode_block(alloc, accepted.spec(), block)?)
+}
+
+/// The octets of the block of a line.
+fn line_encoded(
+    rt: &impl Abort,
+    alloc: Global,
+    catalogue: &Catalogue,
+    category: u8,
+    line: &str,
+) -> Result<Vec<u8>, Fail> {
+    let block = block_of(rt, alloc, catalogue, line.as_bytes())?;
+    encoded(rt, alloc, catalogue, category, &block)
+}
+
+fn is_read_as(
+    rt: &impl Abort,
+    alloc: Global,
+    catalogue: &Catalogue,
+    category: u8,
+    line: &str,
+    want: &str,
+) -> Result<(), Fail> {
+    let made = line_encoded(rt, alloc, catalogue, category, line)?;
+    let want = octets(alloc, want)?;
+    assert_eq!(rt; made.as_slice(), want.as_slice(), "{line}");
+    Ok(())
+}
+
+fn is_read_under(
+    rt: &impl Abort,
+    alloc: Global,
+    file: &str,
+    category: u8,
+    line: &str,
+    want: &str,
+) -> Result<(), Fail> {
+    let catalogue = catalogue_of(rt, alloc, file)?;
+    is_read_as(rt, alloc, &catalogue, category, line, want)
 }
 
 // Category files and their categories, lines, and the octets of the blocks.
@@ -87,14 +125,8 @@ const READ: [(&str, u8, &str, &str); 11] = [
 #[test]
 fn blocks_are_read(rt: HostRuntime) -> Result<(), Fail> {
     let alloc = rt.alloc();
-    for (file, category, line, want) in READ {
-        let catalogue = catalogue_of(&rt, alloc, file)?;
-        let Ok(block) = read_line(&rt, alloc, &catalogue, line.as_bytes())? else {
-            return Err(Fail::new("a block"));
-        };
-        let made = encoded(&rt, alloc, &catalogue, category, &block)?;
-        let want = octets(alloc, want)?;
-        assert_eq!(rt; made.as_slice(), want.as_slice(), "{line}");
+    for &(file, category, line, want) in &READ {
+        is_read_under(&rt, alloc, file, category, line, want)?;
     }
     Ok(())
 }
@@ -103,16 +135,11 @@ fn blocks_are_read(rt: HostRuntime) -> Result<(), Fail> {
 fn an_opaque_block_needs_no_file(rt: HostRuntime) -> Result<(), Fail> {
     let alloc = rt.alloc();
     let catalogue = Catalogue::new(alloc);
-    let Ok(Block::Opaque { category, octets }) = read_line(
-        &rt,
-        alloc,
-        &catalogue,
-        b"opaque 048 \"80ff\"",
-    )?
-    else {
+    let block = block_of(&rt, alloc, &catalogue, b"opaque 048 \"80ff\"")?;
+    let Block::Opaque { category, octets } = &block else {
         return Err(Fail::new("an opaque block"));
     };
-    assert_eq!(rt; category, 48);
+    assert_eq!(rt; *category, 48);
     assert_eq!(rt; octets.as_slice(), [0x80, 0xFF].as_slice());
     Ok(())
 }

@@ -15,19 +15,20 @@ fn refused(alloc: Global, catalogue: &mut Catalogue, text: &str) -> Result<Optio
     }
 }
 
+/// The category at a place, and the edition that `get` finds.
+fn told_at(alloc: Global, catalogue: &Catalogue, index: u32) -> Result<String, Fail> {
+    let one = catalogue.at(index).ok_or("not at its place")?;
+    let category = one.spec().category;
+    let found = catalogue.get(category).ok_or("not found")?;
+    let edition = String::from_utf8_lossy(alloc, found.spec().edition.as_slice())?;
+    Ok(format!(in alloc; "{category} {edition}, ")?)
+}
+
 /// The categories in the order of the catalogue, and after each the edition that `get` finds.
 fn told(alloc: Global, catalogue: &Catalogue) -> Result<String, Fail> {
     let mut made = String::new(alloc);
     for index in 0..catalogue.count() {
-        let category = catalogue
-            .at(index)
-            .ok_or("not at its place")?
-            .spec()
-            .category;
-        let found = catalogue.get(category).ok_or("not found")?;
-        let edition = String::from_utf8_lossy(alloc, found.spec().edition.as_slice())?;
-        let line = format!(in alloc; "{category} {edition}, ")?;
-        made.push_str(line.as_str())?;
+        made.push_str(told_at(alloc, catalogue, index)?.as_str())?;
     }
     Ok(made)
 }
@@ -44,7 +45,7 @@ const ADDED: [(&str, Option<u8>, &str); 5] = [
 fn a_category_stands_once(rt: HostRuntime) -> Result<(), Fail> {
     let alloc = rt.alloc();
     let mut catalogue = Catalogue::new(alloc);
-    for (text, twice, holds) in ADDED {
+    for &(text, twice, holds) in &ADDED {
         assert_eq!(rt; refused(alloc, &mut catalogue, text)?, twice, "{text}");
         let found = told(alloc, &catalogue)?;
         assert_eq!(rt; found.as_str(), holds, "{text}");

@@ -34,7 +34,7 @@ const FLAWLESS: [(&str, &str, &str); 6] = [
 
 #[test]
 fn what_is_no_flaw(rt: HostRuntime) -> Result<(), Fail> {
-    for (rule, items, uap) in FLAWLESS {
+    for &(rule, items, uap) in &FLAWLESS {
         let found = flaws_over(rt.alloc(), items, uap)?;
         assert_eq!(rt; found.as_str(), "", "{rule}");
     }

@@ -2,6 +2,7 @@
 
 use crate::texts::{flaws_of, flaws_of_kind, flaws_over};
 use ax_samples::FILE_F;
+use std::alloc::Global;
 use std::test::Fail;
 
 const ELEMENTS: [(&str, &str); 24] = [
@@ -51,7 +52,7 @@ const ELEMENTS: [(&str, &str); 24] = [
 
 #[test]
 fn elements(rt: HostRuntime) -> Result<(), Fail> {
-    for (kind, wanted) in ELEMENTS {
+    for &(kind, wanted) in &ELEMENTS {
         let found = flaws_of_kind(rt.alloc(), kind)?;
         assert_eq!(rt; found.as_str(), wanted, "{kind}");
     }
@@ -96,7 +97,7 @@ const GROUPS: [(&str, &str); 12] = [
 
 #[test]
 fn groups(rt: HostRuntime) -> Result<(), Fail> {
-    for (kind, wanted) in GROUPS {
+    for &(kind, wanted) in &GROUPS {
         let found = flaws_of_kind(rt.alloc(), kind)?;
         assert_eq!(rt; found.as_str(), wanted, "{kind}");
     }
@@ -129,11 +130,11 @@ const PARTS_OF_CHARACTERS: [&str; 14] = [
 // A character is 8 bits of ascii, 6 of icao and 3 of octal, and no other width.
 #[test]
 fn widths_of_characters(rt: HostRuntime) -> Result<(), Fail> {
-    for kind in WHOLE_CHARACTERS {
+    for &kind in &WHOLE_CHARACTERS {
         let found = flaws_of_kind(rt.alloc(), kind)?;
         assert_eq!(rt; found.as_str(), "", "{kind}");
     }
-    for kind in PARTS_OF_CHARACTERS {
+    for &kind in &PARTS_OF_CHARACTERS {
         let found = flaws_of_kind(rt.alloc(), kind)?;
         assert_eq!(rt; found.as_str(), "BadStringWidth 210/010/A", "{kind}");
     }
@@ -191,7 +192,7 @@ const EXTENDED_ITEMS: [(&str, &str); 12] = [
 
 #[test]
 fn extended_items(rt: HostRuntime) -> Result<(), Fail> {
-    for (kind, wanted) in EXTENDED_ITEMS {
+    for &(kind, wanted) in &EXTENDED_ITEMS {
         let found = flaws_of_kind(rt.alloc(), kind)?;
         assert_eq!(rt; found.as_str(), wanted, "{kind}");
     }
@@ -248,7 +249,7 @@ const BODIES: [(&str, &str); 18] = [
 
 #[test]
 fn bodies(rt: HostRuntime) -> Result<(), Fail> {
-    for (kind, wanted) in BODIES {
+    for &(kind, wanted) in &BODIES {
         let found = flaws_of_kind(rt.alloc(), kind)?;
         assert_eq!(rt; found.as_str(), wanted, "{kind}");
     }
@@ -280,7 +281,7 @@ const COMPOUNDS: [(&str, &str); 8] = [
 
 #[test]
 fn compounds(rt: HostRuntime) -> Result<(), Fail> {
-    for (kind, wanted) in COMPOUNDS {
+    for &(kind, wanted) in &COMPOUNDS {
         let found = flaws_of_kind(rt.alloc(), kind)?;
         assert_eq!(rt; found.as_str(), wanted, "{kind}");
     }
@@ -314,7 +315,7 @@ const ITEMS_AND_SLOTS: [(&str, &str, &str); 6] = [
 
 #[test]
 fn items_and_slots_of_the_uap(rt: HostRuntime) -> Result<(), Fail> {
-    for (items, uap, wanted) in ITEMS_AND_SLOTS {
+    for &(items, uap, wanted) in &ITEMS_AND_SLOTS {
         let found = flaws_over(rt.alloc(), items, uap)?;
         assert_eq!(rt; found.as_str(), wanted, "{items} {uap}");
     }
@@ -332,7 +333,7 @@ const WHOLE_FILES: [(&str, &str); 2] = [
 // A path has the category in three digits.
 #[test]
 fn whole_files(rt: HostRuntime) -> Result<(), Fail> {
-    for (text, wanted) in WHOLE_FILES {
+    for &(text, wanted) in &WHOLE_FILES {
         let found = flaws_of(rt.alloc(), text)?;
         assert_eq!(rt; found.as_str(), wanted, "{text}");
     }
@@ -358,18 +359,29 @@ const MANY_SLOTS: [(usize, &str, &str, &str, &str); 4] = [
     ),
 ];
 
+/// The flaws of a compound with so many spare slots, and a subitem.
+fn flaws_of_subitems(alloc: Global, spares: usize, subitem: &str) -> Result<String, Fail> {
+    let dashes = "- ".repeat(alloc, spares)?;
+    let compound = format!(in alloc; "compound {{ {dashes}{subitem} }}")?;
+    flaws_of_kind(alloc, compound.as_str())
+}
+
+/// The flaws of a UAP with so many spare slots, and a slot.
+fn flaws_of_slots(alloc: Global, spares: usize, slot: &str) -> Result<String, Fail> {
+    let dashes = "- ".repeat(alloc, spares)?;
+    let uap = format!(in alloc; "{dashes}{slot}")?;
+    flaws_over(alloc, "", uap.as_str())
+}
+
 // 126 slots are the most, and the flaws of the slots stand after that of their number.
 #[test]
 fn more_than_126_slots(rt: HostRuntime) -> Result<(), Fail> {
     let alloc = rt.alloc();
-    for (spares, subitem, slot, wanted, wanted_of_uap) in MANY_SLOTS {
-        let dashes = "- ".repeat(alloc, spares)?;
-        let compound = format!(in alloc; "compound {{ {dashes}{subitem} }}")?;
-        let found = flaws_of_kind(alloc, compound.as_str())?;
-        assert_eq!(rt; found.as_str(), wanted, "{compound}");
-        let uap = format!(in alloc; "{dashes}{slot}")?;
-        let found = flaws_over(alloc, "", uap.as_str())?;
-        assert_eq!(rt; found.as_str(), wanted_of_uap, "{uap}");
+    for &(spares, subitem, slot, wanted, wanted_of_uap) in &MANY_SLOTS {
+        let found = flaws_of_subitems(alloc, spares, subitem)?;
+        assert_eq!(rt; found.as_str(), wanted, "{spares} {subitem}");
+        let found = flaws_of_slots(alloc, spares, slot)?;
+        assert_eq!(rt; found.as_str(), wanted_of_uap, "{spares} {slot}");
     }
     Ok(())
 }

@@ -76,7 +76,7 @@ const PLACES: [(&str, &str); 6] = [
 #[test]
 fn paths_lead_to_places(rt: HostRuntime) -> Result<(), Fail> {
     let one = accepted(rt.alloc(), CAT048_P1)?;
-    for (text, wanted) in PLACES {
+    for &(text, wanted) in &PLACES {
         let found = place_told(rt.alloc(), &one, text)?;
         assert_eq!(rt; found.as_str(), wanted, "{text}");
     }
@@ -99,10 +99,15 @@ fn a_path_has_no_empty_name(rt: HostRuntime) -> Result<(), Fail> {
 }
 
 #[test]
-fn copies_equal_their_originals(rt: HostRuntime) -> Result<(), Fail> {
-    let one = accepted(rt.alloc(), CAT048_P1)?;
+fn copied_paths_equal_their_originals(rt: HostRuntime) -> Result<(), Fail> {
     let path = copied_path_told(rt.alloc(), "020/TST")?;
     assert_eq!(rt; path.as_str(), "020/TST");
+    Ok(())
+}
+
+#[test]
+fn copied_places_equal_their_originals(rt: HostRuntime) -> Result<(), Fail> {
+    let one = accepted(rt.alloc(), CAT048_P1)?;
     let place = copied_place_told(rt.alloc(), &one, "020/TST")?;
     assert_eq!(rt; place.as_str(), "FRN 3 steps [1, 0] width 1");
     Ok(())

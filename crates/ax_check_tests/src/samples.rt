@@ -26,7 +26,7 @@ const ACCEPTED: [&str; 15] = [
 
 #[test]
 fn each_file_but_one_is_accepted(rt: HostRuntime) -> Result<(), Fail> {
-    for text in ACCEPTED {
+    for &text in &ACCEPTED {
         assert_eq!(rt; flaw_count(rt.alloc(), text)?, 0, "{text}");
     }
     assert_eq!(rt; flaw_count(rt.alloc(), FILE_F)?, 2);

@@ -3,11 +3,12 @@
 use crate::fixtures::{accepted, decoded};
 use crate::shown::shown_block;
 use crate::shown_specs::shown_spec;
+use ax_check::Accepted;
 use ax_model::{
-    Content, Fixed, Item, Items, Kind, Member, Members, Name, Part, Parts, Slot, Slots, Spec, Text,
-    UapSlot, UapSlots,
+    Block, Content, Fixed, Item, Items, Kind, Member, Members, Name, Part, Parts, Slot, Slots,
+    Spec, Text, UapSlot, UapSlots,
 };
-use ax_samples::{FILE_H1, FILE_K, FILE_N, octets};
+use ax_samples::{FILE_H1, FILE_K, FILE_N};
 use std::alloc::{AllocError, Global};
 use std::process::Abort;
 use std::test::Fail;
@@ -22,18 +23,66 @@ const COPIES: [(&str, &str, &str); 3] = [
     (FILE_H1, "CB 00 05 80 C0", "203 x80 C0"),
 ];
 
+/// Asserts that a specification is shown as that text.
+fn spec_is_shown_as(rt: &impl Abort, alloc: Global, spec: &Spec, want: &str) -> Result<(), Fail> {
+    let got = shown_spec(alloc, spec)?;
+    assert_eq!(rt; got.as_str(), want);
+    Ok(())
+}
+
+fn spec_copy_is_shown_as(
+    rt: &impl Abort,
+    alloc: Global,
+    spec: &Spec,
+    want: &str,
+) -> Result<(), Fail> {
+    let copy = spec.copy(alloc)?;
+    spec_is_shown_as(rt, alloc, &copy, want)
+}
+
+/// Asserts that a block is shown as that text.
+fn block_is_shown_as(
+    rt: &impl Abort,
+    alloc: Global,
+    block: &Block,
+    want: &str,
+) -> Result<(), Fail> {
+    let got = shown_block(alloc, block)?;
+    assert_eq!(rt; got.as_str(), want);
+    Ok(())
+}
+
+fn block_copy_is_shown_as(
+    rt: &impl Abort,
+    alloc: Global,
+    block: &Block,
+    want: &str,
+) -> Result<(), Fail> {
+    let copy = block.copy(alloc)?;
+    block_is_shown_as(rt, alloc, &copy, want)
+}
+
+/// Asserts that a specification without flaw and a block under it are shown as these texts, and so are their copies.
+fn copies_are_shown_as(
+    rt: &impl Abort,
+    alloc: Global,
+    file: &Accepted,
+    text: &str,
+    block: &str,
+    want: &str,
+) -> Result<(), Fail> {
+    spec_copy_is_shown_as(rt, alloc, file.spec(), text)?;
+    let block = decoded(rt, alloc, file.spec(), block)?;
+    block_is_shown_as(rt, alloc, &block, want)?;
+    block_copy_is_shown_as(rt, alloc, &block, want)
+}
+
 #[test]
 fn copies_are_shown_as_their_originals(rt: HostRuntime) -> Result<(), Fail> {
     let alloc = rt.alloc();
-    for (text, block, want) in COPIES {
+    for &(text, block, want) in &COPIES {
         let file = accepted(&rt, alloc, text)?;
-        let copy = file.spec().copy(alloc)?;
-        assert_eq!(rt; shown_spec(alloc, &copy)?.as_str(), text);
-        let octets = octets(alloc, block)?;
-        let block = decoded(&rt, alloc, file.spec(), &octets)?;
-        let copy = block.copy(alloc)?;
-        assert_eq!(rt; shown_block(alloc, &block)?.as_str(), want);
-        assert_eq!(rt; shown_block(alloc, &copy)?.as_str(), want);
+        copies_are_shown_as(&rt, alloc, &file, text, block, want)?;
     }
     Ok(())
 }
@@ -105,6 +154,18 @@ fn edition(alloc: Global) -> Result<Text, AllocError> {
     Ok(made)
 }
 
+fn add_each_kind(rt: &impl Abort, alloc: Global, spec: &mut Spec) -> Result<(), AllocError> {
+    add(rt, alloc, spec, "010", Kind::Fixed(element(16)))?;
+    add(rt, alloc, spec, "020", extended(rt, alloc)?)?;
+    add(rt, alloc, spec, "030", Kind::ByFx(element(7)))?;
+    let inner = Box::new(alloc, Kind::Fixed(element(8)))?;
+    add(rt, alloc, spec, "040", Kind::Counted(inner))?;
+    add(rt, alloc, spec, "050", Kind::Explicit)?;
+    add(rt, alloc, spec, "060", compound(rt, alloc)?)?;
+    add(rt, alloc, spec, "070", Kind::Fixed(element(8)))?;
+    add(rt, alloc, spec, "080", Kind::Fixed(element(8)))
+}
+
 // The specification of FILE_K.
 fn each_kind(rt: &impl Abort, alloc: Global) -> Result<Spec, AllocError> {
     let mut spec = Spec {
@@ -113,15 +174,7 @@ fn each_kind(rt: &impl Abort, alloc: Global) -> Result<Spec, AllocError> {
         items: Items::new(alloc),
         uap: UapSlots::new(alloc),
     };
-    add(rt, alloc, &mut spec, "010", Kind::Fixed(element(16)))?;
-    add(rt, alloc, &mut spec, "020", extended(rt, alloc)?)?;
-    add(rt, alloc, &mut spec, "030", Kind::ByFx(element(7)))?;
-    let inner = Box::new(alloc, Kind::Fixed(element(8)))?;
-    add(rt, alloc, &mut spec, "040", Kind::Counted(inner))?;
-    add(rt, alloc, &mut spec, "050", Kind::Explicit)?;
-    add(rt, alloc, &mut spec, "060", compound(rt, alloc)?)?;
-    add(rt, alloc, &mut spec, "070", Kind::Fixed(element(8)))?;
-    add(rt, alloc, &mut spec, "080", Kind::Fixed(element(8)))?;
+    add_each_kind(rt, alloc, &mut spec)?;
     Ok(spec)
 }
 
@@ -129,8 +182,12 @@ fn each_kind(rt: &impl Abort, alloc: Global) -> Result<Spec, AllocError> {
 fn a_specification_made_of_its_parts_is_that_of_its_file(rt: HostRuntime) -> Result<(), Fail> {
     let alloc = rt.alloc();
     let made = each_kind(&rt, alloc)?;
+    spec_is_shown_as(&rt, alloc, &made, FILE_K)
+}
+
+#[test]
+fn a_specification_that_is_read_is_that_of_its_file(rt: HostRuntime) -> Result<(), Fail> {
+    let alloc = rt.alloc();
     let file = accepted(&rt, alloc, FILE_K)?;
-    assert_eq!(rt; shown_spec(alloc, &made)?.as_str(), FILE_K);
-    assert_eq!(rt; shown_spec(alloc, file.spec())?.as_str(), FILE_K);
-    Ok(())
+    spec_is_shown_as(&rt, alloc, file.spec(), FILE_K)
 }

@@ -1,8 +1,11 @@
 //! Blocks, and what they are read as.
 
 use crate::fixtures::accepted;
-use crate::seeing::{body_read_both_ways, read_both_ways};
+use crate::seeing::{body_read_both_ways, is_read_as, is_read_under};
+use ax_check::Accepted;
 use ax_samples::{FILE_K, FILE_N, FILE_S, octets};
+use std::alloc::Global;
+use std::process::Abort;
 use std::test::Fail;
 
 // A group in a group in a group, with a spare after it, and an element of the greatest width.
@@ -58,10 +61,8 @@ const KINDS: [(&str, &str); 18] = [
 fn each_kind_is_read(rt: HostRuntime) -> Result<(), Fail> {
     let alloc = rt.alloc();
     let file = accepted(&rt, alloc, FILE_K)?;
-    for (block, want) in KINDS {
-        let octets = octets(alloc, block)?;
-        let got = read_both_ways(&rt, alloc, &file, &octets)?;
-        assert_eq!(rt; got.as_str(), want, "of {block}");
+    for &(block, want) in &KINDS {
+        is_read_as(&rt, alloc, &file, block, want)?;
     }
     Ok(())
 }
@@ -101,11 +102,8 @@ const DEEP_AND_WIDE: [(&str, &str, &str); 12] = [
 #[test]
 fn deep_and_wide_items_are_read(rt: HostRuntime) -> Result<(), Fail> {
     let alloc = rt.alloc();
-    for (text, block, want) in DEEP_AND_WIDE {
-        let file = accepted(&rt, alloc, text)?;
-        let octets = octets(alloc, block)?;
-        let got = read_both_ways(&rt, alloc, &file, &octets)?;
-        assert_eq!(rt; got.as_str(), want, "of {block}");
+    for &(text, block, want) in &DEEP_AND_WIDE {
+        is_read_under(&rt, alloc, text, block, want)?;
     }
     Ok(())
 }
@@ -131,21 +129,41 @@ const CUTS: [(usize, u32); 18] = [
     (18, 144),
 ];
 
+// The body cut to so many octets runs out at that bit.
+fn runs_out(
+    rt: &impl Abort,
+    alloc: Global,
+    file: &Accepted,
+    body: &[u8],
+    (cut, bit): (usize, u32),
+) -> Result<(), Fail> {
+    assert!(rt; cut <= body.len());
+    let got = body_read_both_ways(rt, alloc, file, 205, &body[..cut])?;
+    let want = format!(in alloc; "RunsOut {bit}")?;
+    assert_eq!(rt; got.as_str(), want.as_str(), "cut to {cut} octets");
+    Ok(())
+}
+
+fn each_cut_runs_out(
+    rt: &impl Abort,
+    alloc: Global,
+    file: &Accepted,
+    body: &[u8],
+) -> Result<(), Fail> {
+    for &cut in &CUTS {
+        runs_out(rt, alloc, file, body, cut)?;
+    }
+    Ok(())
+}
+
 // A body cut after each of its octets, and the bit at which the unit begins that doesn't fit.
 #[test]
 fn a_cut_body_runs_out_where_its_unit_begins(rt: HostRuntime) -> Result<(), Fail> {
     let alloc = rt.alloc();
     let file = accepted(&rt, alloc, FILE_K)?;
-    let whole = octets(alloc, RICH)?;
-    let got = read_both_ways(&rt, alloc, &file, &whole)?;
     let want = "205 {1=6412 2=<1|5 2> 3=[5 6] 4=[170 187] 5=xCC DD 6={1=7 3=8} 7=9 8=10}";
-    assert_eq!(rt; got.as_str(), want);
+    is_read_as(&rt, alloc, &file, RICH, want)?;
+    let whole = octets(alloc, RICH)?;
     assert_eq!(rt; whole.len(), 22);
-    let body = &whole[3..];
-    for (cut, bit) in CUTS {
-        let want = format!(in alloc; "RunsOut {bit}")?;
-        let got = body_read_both_ways(&rt, alloc, &file, 205, &body[..cut])?;
-        assert_eq!(rt; got.as_str(), want.as_str(), "cut to {cut} octets");
-    }
-    Ok(())
+    each_cut_runs_out(&rt, alloc, &file, &whole[3..])
 }

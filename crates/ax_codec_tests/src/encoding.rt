@@ -2,10 +2,12 @@
 
 use crate::decoding::{FILE_DEEP, FILE_WIDE, RICH, WIDE_BLOCK};
 use crate::fixtures::{accepted, canon_as, written_as};
-use crate::seeing::read_both_ways;
+use crate::seeing::is_read_alike;
+use ax_check::Accepted;
 use ax_model::{Block, Entries, Record, Records};
-use ax_samples::{FILE_K, FILE_N, FILE_S, octets};
+use ax_samples::{FILE_K, FILE_N, FILE_S};
 use std::alloc::{AllocError, Global};
+use std::process::Abort;
 use std::test::Fail;
 
 const LEAST_FORMS: [(&str, &str, &str); 19] = [
@@ -38,16 +40,37 @@ const LEAST_FORMS: [(&str, &str, &str); 19] = [
     (FILE_WIDE, WIDE_BLOCK, WIDE_BLOCK),
 ];
 
+/// Asserts that the canonical form of a block is that one, and that trees and views read the block alike.
+fn is_written_as(
+    rt: &impl Abort,
+    alloc: Global,
+    text: &str,
+    block: &str,
+    want: &str,
+) -> Result<(), Fail> {
+    let file = accepted(rt, alloc, text)?;
+    is_read_alike(rt, alloc, &file, block)?;
+    has_canon(rt, alloc, &file, block, want)
+}
+
+fn has_canon(
+    rt: &impl Abort,
+    alloc: Global,
+    file: &Accepted,
+    block: &str,
+    want: &str,
+) -> Result<(), Fail> {
+    let got = canon_as(rt, alloc, file.spec(), block)?;
+    assert_eq!(rt; got.as_str(), want, "of {block}");
+    Ok(())
+}
+
 // An octet that a presence field doesn't need is left out, and nothing else changes.
 #[test]
 fn blocks_are_written_in_their_least_form(rt: HostRuntime) -> Result<(), Fail> {
     let alloc = rt.alloc();
-    for (text, block, want) in LEAST_FORMS {
-        let file = accepted(&rt, alloc, text)?;
-        let octets = octets(alloc, block)?;
-        let _ = read_both_ways(&rt, alloc, &file, &octets)?;
-        let got = canon_as(&rt, alloc, file.spec(), &octets)?;
-        assert_eq!(rt; got.as_str(), want, "of {block}");
+    for &(text, block, want) in &LEAST_FORMS {
+        is_written_as(&rt, alloc, text, block, want)?;
     }
     Ok(())
 }
@@ -68,15 +91,35 @@ fn empty_records(alloc: Global, count: u32) -> Result<Block, AllocError> {
     })
 }
 
+/// What a block of that many records without items is written as.
+fn empty_records_written(
+    rt: &impl Abort,
+    alloc: Global,
+    file: &Accepted,
+    count: u32,
+) -> Result<String, Fail> {
+    let block = empty_records(alloc, count)?;
+    Ok(written_as(rt, alloc, file.spec(), &block)?)
+}
+
+/// The same under file K, whose category the block has.
+fn records_written(rt: &impl Abort, alloc: Global, count: u32) -> Result<String, Fail> {
+    let file = accepted(rt, alloc, FILE_K)?;
+    empty_records_written(rt, alloc, &file, count)
+}
+
 // Each empty record is one octet, after the three of CAT and LEN.
 #[test]
 fn the_longest_block_has_65_535_octets(rt: HostRuntime) -> Result<(), Fail> {
-    let alloc = rt.alloc();
-    let file = accepted(&rt, alloc, FILE_K)?;
-    let longest = written_as(&rt, alloc, file.spec(), &empty_records(alloc, 65_532)?)?;
+    let longest = records_written(&rt, rt.alloc(), 65_532)?;
     assert!(rt; longest.as_str().starts_with("CD FF FF 00 00 "));
     assert_eq!(rt; longest.len(), 65_535 * 3 - 1);
-    let more = written_as(&rt, alloc, file.spec(), &empty_records(alloc, 65_533)?)?;
+    Ok(())
+}
+
+#[test]
+fn a_block_of_65_536_octets_is_too_long(rt: HostRuntime) -> Result<(), Fail> {
+    let more = records_written(&rt, rt.alloc(), 65_533)?;
     assert_eq!(rt; more.as_str(), "TooLong 65536");
     Ok(())
 }

@@ -1,24 +1,35 @@
 //! Specifications and octets, read from texts.
-ghost use Rattle.std.specs.Prelude.{◌≡◌};
 ghost use Rattle.ax_model.specs.OfCode.{HasNoFlaw};
 
 use crate::shown::{shown_block, shown_error, shown_octets};
 use ax_check::{Accepted, accept};
 use ax_grammar::read_spec;
 use ax_model::{Block, RawBlock, Spec, fits};
+use ax_samples::octets;
+use ax_tables::{Codec, compile};
 use ax_tokens::tokens;
 use ax_values::{DecodeError, EncodeError, decode_block, encode_block};
 use std::alloc::{AllocError, Global};
 use std::process::Abort;
 use std::test::Fail;
 
-/// The specification of a category file without flaw.
-pub(crate) fn accepted(rt: &impl Abort, alloc: Global, text: &str) -> Result<Accepted, Fail> {
+/// The specification that a text spells.
+fn spec_of(rt: &impl Abort, alloc: Global, text: &str) -> Result<Spec, Fail> {
     let text = text.as_bytes();
     assert!(rt; text.len() < 100_000);
     let found = tokens(alloc, text, 16)?;
-    let spec = read_spec(alloc, &found)?;
-    Ok(accept(alloc, spec)?)
+    Ok(read_spec(alloc, &found)?)
+}
+
+/// The specification of a category file without flaw.
+pub(crate) fn accepted(rt: &impl Abort, alloc: Global, text: &str) -> Result<Accepted, Fail> {
+    Ok(accept(alloc, spec_of(rt, alloc, text)?)?)
+}
+
+/// The flat table of a category file without flaw.
+pub(crate) fn codec_of(rt: &impl Abort, alloc: Global, text: &str) -> Result<Codec, Fail> {
+    let file = accepted(rt, alloc, text)?;
+    Ok(compile(alloc, &file)?)
 }
 
 /// The block that a body of this category is read as.
@@ -66,7 +77,7 @@ pub(crate) fn category_of(rt: &impl Abort, octets: &[u8]) -> u8 {
 }
 
 /// The block that the octets are read as.
-pub(crate) fn decoded(
+fn octets_decoded(
     rt: &impl Abort,
     alloc: Global,
     spec: &Spec,
@@ -74,13 +85,21 @@ pub(crate) fn decoded(
 ) -> Result<Block, DecodeError>
     requires { HasNoFlaw spec.now }
 {
-    body_decoded(
-        rt,
-        alloc,
-        spec,
-        category_of(rt, octets),
-        body_of(rt, octets),
-    )
+    let category = category_of(rt, octets);
+    body_decoded(rt, alloc, spec, category, body_of(rt, octets))
+}
+
+/// The block that octets in hexadecimal are read as.
+pub(crate) fn decoded(
+    rt: &impl Abort,
+    alloc: Global,
+    spec: &Spec,
+    block: &str,
+) -> Result<Block, Fail>
+    requires { HasNoFlaw spec.now }
+{
+    let octets = octets(alloc, block)?;
+    Ok(octets_decoded(rt, alloc, spec, &octets)?)
 }
 
 /// The octets of a block, in a line, or how many they are where they are too many.
@@ -101,7 +120,7 @@ pub(crate) fn written_as(
 }
 
 /// The canonical form of the block that the octets are, in a line, or their fault.
-pub(crate) fn canon_as(
+fn octets_canon_as(
     rt: &impl Abort,
     alloc: Global,
     spec: &Spec,
@@ -109,8 +128,21 @@ pub(crate) fn canon_as(
 ) -> Result<String, AllocError>
     requires { HasNoFlaw spec.now }
 {
-    match decoded(rt, alloc, spec, octets) {
+    match octets_decoded(rt, alloc, spec, octets) {
         Ok(block) => written_as(rt, alloc, spec, &block),
         Err(error) => shown_error(alloc, &error),
     }
+}
+
+/// The canonical form of the block that octets in hexadecimal are, in a line, or their fault.
+pub(crate) fn canon_as(
+    rt: &impl Abort,
+    alloc: Global,
+    spec: &Spec,
+    block: &str,
+) -> Result<String, Fail>
+    requires { HasNoFlaw spec.now }
+{
+    let octets = octets(alloc, block)?;
+    Ok(octets_canon_as(rt, alloc, spec, &octets)?)
 }

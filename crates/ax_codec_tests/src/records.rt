@@ -72,24 +72,50 @@ fn record_of(alloc: Global, spec: &Spec, body: &[u8]) -> Result<String, AllocErr
 }
 
 // What the item, the record and the body are read as, with a bar between.
-fn three_ways(
+fn push_three_ways(
+    rt: &impl Abort,
+    alloc: Global,
+    text: &mut String,
+    file: &Accepted,
+    (frn, at): (u32, u32),
+    body: &[u8],
+) -> Result<(), Fail> {
+    assert!(rt; body.len() <= 65_532);
+    assert!(rt; at as usize <= body.len());
+    let kind = kind_at(file.spec(), frn).ok_or("no such item")?;
+    text.push_str(value_at(alloc, kind, body, at)?.as_str())?;
+    text.push_str(" | ")?;
+    text.push_str(record_of(alloc, file.spec(), body)?.as_str())?;
+    text.push_str(" | ")?;
+    text.push_str(body_read_both_ways(rt, alloc, file, 48, body)?.as_str())?;
+    Ok(())
+}
+
+// The same of a body in hexadecimal.
+fn three_readings(
     rt: &impl Abort,
     alloc: Global,
     file: &Accepted,
-    frn: u32,
-    at: u32,
-    body: &[u8],
+    place: (u32, u32),
+    body: &str,
 ) -> Result<String, Fail> {
-    let spec = file.spec();
-    assert!(rt; body.len() <= 65_532);
-    assert!(rt; at as usize <= body.len());
-    let kind = kind_at(spec, frn).ok_or("no such item")?;
-    let mut text = value_at(alloc, kind, body, at)?;
-    text.push_str(" | ")?;
-    text.push_str(record_of(alloc, spec, body)?.as_str())?;
-    text.push_str(" | ")?;
-    text.push_str(body_read_both_ways(rt, alloc, file, 48, body)?.as_str())?;
+    let octets = octets(alloc, body)?;
+    let mut text = String::new(alloc);
+    push_three_ways(rt, alloc, &mut text, file, place, &octets)?;
     Ok(text)
+}
+
+fn have_one_reading(
+    rt: &impl Abort,
+    alloc: Global,
+    file: &Accepted,
+    place: (u32, u32),
+    body: &str,
+    want: &str,
+) -> Result<(), Fail> {
+    let got = three_readings(rt, alloc, file, place, body)?;
+    assert_eq!(rt; got.as_str(), want, "of {body}");
+    Ok(())
 }
 
 const READINGS: [(&str, u32, u32, &str); 8] = [
@@ -132,10 +158,8 @@ const READINGS: [(&str, u32, u32, &str); 8] = [
 fn an_item_its_record_and_its_body_have_one_reading(rt: HostRuntime) -> Result<(), Fail> {
     let alloc = rt.alloc();
     let file = accepted(&rt, alloc, CAT048_P1)?;
-    for (body, frn, at, want) in READINGS {
-        let octets = octets(alloc, body)?;
-        let got = three_ways(&rt, alloc, &file, frn, at, &octets)?;
-        assert_eq!(rt; got.as_str(), want, "of {body}");
+    for &(body, frn, at, want) in &READINGS {
+        have_one_reading(&rt, alloc, &file, (frn, at), body, want)?;
     }
     Ok(())
 }

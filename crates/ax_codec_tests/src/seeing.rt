@@ -1,9 +1,10 @@
 //! Bodies seen through views: by the flat table of their file, without a tree of the block until they are shown.
 
-use crate::fixtures::{body_of, body_read_as, category_of};
+use crate::fixtures::{accepted, body_of, body_read_as, category_of};
 use crate::shown::{shown_block, shown_fault};
 use ax_check::Accepted;
 use ax_model::{Block, Records};
+use ax_samples::octets;
 use ax_tables::compile;
 use ax_view::{BlockView, scan};
 use std::alloc::{AllocError, Global};
@@ -63,7 +64,7 @@ pub(crate) fn body_read_both_ways(
 }
 
 /// The block that the octets are read as, by trees and by views alike, or its fault, in a line.
-pub(crate) fn read_both_ways(
+fn octets_read_both_ways(
     rt: &impl Abort,
     alloc: Global,
     file: &Accepted,
@@ -71,4 +72,51 @@ pub(crate) fn read_both_ways(
 ) -> Result<String, Fail> {
     let category = category_of(rt, octets);
     body_read_both_ways(rt, alloc, file, category, body_of(rt, octets))
+}
+
+/// The block that octets in hexadecimal are read as, by trees and by views alike, or its fault, in a line.
+fn read_both_ways(
+    rt: &impl Abort,
+    alloc: Global,
+    file: &Accepted,
+    block: &str,
+) -> Result<String, Fail> {
+    let octets = octets(alloc, block)?;
+    octets_read_both_ways(rt, alloc, file, &octets)
+}
+
+/// Asserts that octets in hexadecimal are read alike by trees and by views.
+pub(crate) fn is_read_alike(
+    rt: &impl Abort,
+    alloc: Global,
+    file: &Accepted,
+    block: &str,
+) -> Result<(), Fail> {
+    let _ = read_both_ways(rt, alloc, file, block)?;
+    Ok(())
+}
+
+/// Asserts that octets in hexadecimal are read as that block or fault, by trees and by views alike.
+pub(crate) fn is_read_as(
+    rt: &impl Abort,
+    alloc: Global,
+    file: &Accepted,
+    block: &str,
+    want: &str,
+) -> Result<(), Fail> {
+    let got = read_both_ways(rt, alloc, file, block)?;
+    assert_eq!(rt; got.as_str(), want, "of {block}");
+    Ok(())
+}
+
+/// Asserts that octets in hexadecimal are read as that block or fault under the file of that text.
+pub(crate) fn is_read_under(
+    rt: &impl Abort,
+    alloc: Global,
+    text: &str,
+    block: &str,
+    want: &str,
+) -> Result<(), Fail> {
+    let file = accepted(rt, alloc, text)?;
+    is_read_as(rt, alloc, &file, block, want)
 }

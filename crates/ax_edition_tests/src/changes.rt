@@ -1,6 +1,6 @@
 //! One item of two editions, with one thing changed.
 
-use crate::texts::{lost_told, related};
+use crate::texts::related_told;
 use std::alloc::Global;
 use std::test::Fail;
 
@@ -126,20 +126,19 @@ const CHANGES: [(&str, &str, &str); 25] = [
     ),
 ];
 
+/// The paths that aren't shared by editions with one item of these kinds, and how many are.
+fn change_told(alloc: Global, old: &str, new: &str) -> Result<String, Fail> {
+    let old = file_of(alloc, "", old)?;
+    let new = file_of(alloc, "a title", new)?;
+    related_told(alloc, old.as_str(), new.as_str())
+}
+
 #[test]
 fn what_changes_a_kind(rt: HostRuntime) -> Result<(), Fail> {
     let alloc = rt.alloc();
-    for (old, new, wanted) in CHANGES {
-        let relation = related(
-            alloc,
-            file_of(alloc, "", old)?.as_str(),
-            file_of(alloc, "a title", new)?.as_str(),
-        )?;
-        assert_eq!(rt;
-            lost_told(alloc, &relation)?.as_str(),
-            wanted,
-            "of {old} and {new}"
-        );
+    for &(old, new, wanted) in &CHANGES {
+        let told = change_told(alloc, old, new)?;
+        assert_eq!(rt; told.as_str(), wanted, "of {old} and {new}");
     }
     Ok(())
 }
@@ -152,12 +151,12 @@ fn items_outside_the_uap_have_no_path(rt: HostRuntime) -> Result<(), Fail> {
         "category 202 edition \"X\" items { item 010 \"\" explicit item 020 \"\" explicit } uap { 010 020 }";
     let unused =
         "category 202 edition \"Y\" items { item 010 \"\" explicit item 020 \"\" explicit } uap { 020 }";
-    for (old, new, wanted) in [
+    for &(old, new, wanted) in &[
         (used, unused, "202/010 1 shared"),
         (unused, used, "1 shared"),
     ] {
-        let relation = related(alloc, old, new)?;
-        assert_eq!(rt; lost_told(alloc, &relation)?.as_str(), wanted);
+        let told = related_told(alloc, old, new)?;
+        assert_eq!(rt; told.as_str(), wanted, "of {old}");
     }
     Ok(())
 }

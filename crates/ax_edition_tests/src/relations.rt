@@ -1,8 +1,11 @@
 //! Relations of the sample and test files.
 
-use crate::texts::{accepted, lost_told, moves_told, path_told, related, shares};
-use ax_edition::{RelateError, relate};
+use crate::texts::{accepted, moves_told, path_told, related, related_told, shares};
+use ax_check::Accepted;
+use ax_edition::{Moves, RelateError, Relation, relate};
 use ax_samples::{CAT034_P1, CAT048_P1, CAT048_P2, FILE_H1, FILE_H2, FILE_H3};
+use std::alloc::Global;
+use std::process::Abort;
 use std::test::Fail;
 
 const FILES: [(&str, &str, &str); 7] = [
@@ -18,13 +21,9 @@ const FILES: [(&str, &str, &str); 7] = [
 #[test]
 fn files_share_their_paths(rt: HostRuntime) -> Result<(), Fail> {
     let alloc = rt.alloc();
-    for (old, new, wanted) in FILES {
-        let relation = related(alloc, old, new)?;
-        assert_eq!(rt;
-            lost_told(alloc, &relation)?.as_str(),
-            wanted,
-            "of {old} and {new}"
-        );
+    for &(old, new, wanted) in &FILES {
+        let told = related_told(alloc, old, new)?;
+        assert_eq!(rt; told.as_str(), wanted, "of {old} and {new}");
     }
     Ok(())
 }
@@ -35,30 +34,42 @@ const BOTH_PLACES: [(u32, &str); 3] = [
     (2, "202/010/B at 1 [2] to 1 [1]"),
 ];
 
+/// The path at a place among those of a relation.
+fn path_at(alloc: Global, relation: &Relation, index: u32) -> Result<String, Fail> {
+    path_told(alloc, relation.paths().get(index).ok_or("no path")?)
+}
+
 // In the old edition's order, a compound before its subitems, with the places in both editions.
 #[test]
 fn paths_have_both_places(rt: HostRuntime) -> Result<(), Fail> {
     let alloc = rt.alloc();
     let relation = related(alloc, FILE_H1, FILE_H2)?;
-    for (index, wanted) in BOTH_PLACES {
-        let path = relation.paths().get(index).ok_or("no path")?;
-        assert_eq!(rt; path_told(alloc, path)?.as_str(), wanted);
+    for &(index, wanted) in &BOTH_PLACES {
+        let told = path_at(alloc, &relation, index)?;
+        assert_eq!(rt; told.as_str(), wanted, "at {index}");
     }
     assert_eq!(rt; relation.paths().count(), 3);
     Ok(())
+}
+
+fn are_told_as(rt: &impl Abort, alloc: Global, moves: &Moves, wanted: &str) -> Result<(), Fail> {
+    let told = moves_told(alloc, moves)?;
+    assert_eq!(rt; told.as_str(), wanted);
+    Ok(())
+}
+
+/// Asserts that one item moves, and that one of its subitems does.
+fn compound_moves(rt: &impl Abort, alloc: Global, moves: &Moves) -> Result<(), Fail> {
+    are_told_as(rt, alloc, moves, "1 to 1 with 1; ")?;
+    let one = moves.get(0).ok_or("no move")?;
+    are_told_as(rt, alloc, &one.below, "2 to 1 with 0; ")
 }
 
 #[test]
 fn moves_are_in_the_new_order(rt: HostRuntime) -> Result<(), Fail> {
     let alloc = rt.alloc();
     let relation = related(alloc, FILE_H1, FILE_H2)?;
-    assert_eq!(rt;
-        moves_told(alloc, relation.moves())?.as_str(),
-        "1 to 1 with 1; "
-    );
-    let one = relation.moves().get(0).ok_or("no move")?;
-    assert_eq!(rt; moves_told(alloc, &one.below)?.as_str(), "2 to 1 with 0; ");
-    Ok(())
+    compound_moves(&rt, alloc, relation.moves())
 }
 
 const NAMED_PATHS: [(&str, bool); 9] = [
@@ -77,20 +88,29 @@ const NAMED_PATHS: [(&str, bool); 9] = [
 fn only_named_paths_are_shared(rt: HostRuntime) -> Result<(), Fail> {
     let alloc = rt.alloc();
     let relation = related(alloc, CAT048_P1, CAT048_P2)?;
-    for (text, wanted) in NAMED_PATHS {
+    for &(text, wanted) in &NAMED_PATHS {
         assert_eq!(rt; shares(alloc, &relation, text)?, wanted, "of {text}");
     }
     Ok(())
 }
 
+/// The two categories for which there is no relation.
+fn refused(alloc: Global, old: &Accepted, new: &Accepted) -> Result<(u8, u8), Fail> {
+    match relate(alloc, old, new) {
+        Err(RelateError::OtherCategory { old, new }) => Ok((old, new)),
+        _ => Err(Fail::from("a relation of two categories")),
+    }
+}
+
+fn categories_refused(alloc: Global, old: &str, new: &str) -> Result<(u8, u8), Fail> {
+    let old = accepted(alloc, old)?;
+    let new = accepted(alloc, new)?;
+    refused(alloc, &old, &new)
+}
+
 #[test]
 fn other_categories_have_no_relation(rt: HostRuntime) -> Result<(), Fail> {
-    let alloc = rt.alloc();
-    let old = accepted(alloc, CAT034_P1)?;
-    let new = accepted(alloc, CAT048_P1)?;
-    match relate(alloc, &old, &new) {
-        Err(RelateError::OtherCategory { old, new }) => assert_eq!(rt; (old, new), (34, 48)),
-        _ => return Err(Fail::from("a relation of two categories")),
-    }
+    let found = categories_refused(rt.alloc(), CAT034_P1, CAT048_P1)?;
+    assert_eq!(rt; found, (34, 48));
     Ok(())
 }

@@ -3,18 +3,23 @@
 use ax_check::{Accepted, accept};
 use ax_edition::{Move, Moves, Relation, RelationPath, relate};
 use ax_grammar::read_spec;
-use ax_model::{Path, Place};
+use ax_model::{Path, Place, Spec};
 use ax_tokens::tokens;
 use std::alloc::Global;
 use std::test::Fail;
 
-pub(crate) fn accepted(alloc: Global, text: &str) -> Result<Accepted, Fail> {
+/// The specification that a text spells.
+fn read(alloc: Global, text: &str) -> Result<Spec, Fail> {
     let octets = text.as_bytes();
     if octets.len() > 100_000 {
         return Err(Fail::from("the text is too long"));
     }
     let found = tokens(alloc, octets, 16)?;
-    Ok(accept(alloc, read_spec(alloc, &found)?)?)
+    Ok(read_spec(alloc, &found)?)
+}
+
+pub(crate) fn accepted(alloc: Global, text: &str) -> Result<Accepted, Fail> {
+    Ok(accept(alloc, read(alloc, text)?)?)
 }
 
 pub(crate) fn related(alloc: Global, old: &str, new: &str) -> Result<Relation, Fail> {
@@ -27,15 +32,26 @@ fn place_told(alloc: Global, place: &Place) -> Result<String, Fail> {
     Ok(format!(in alloc; "{} {:?}", place.frn, place.steps.as_slice())?)
 }
 
+/// The new place of a path, or that it is lost.
+fn new_place_told(alloc: Global, path: &RelationPath) -> Result<String, Fail> {
+    match &path.new {
+        Some(place) => Ok(format!(in alloc; "to {}", place_told(alloc, place)?)?),
+        None => Ok(String::from_str(alloc, "lost")?),
+    }
+}
+
+/// Both places of a path.
+fn places_told(alloc: Global, path: &RelationPath) -> Result<String, Fail> {
+    let old = place_told(alloc, &path.old)?;
+    let new = new_place_told(alloc, path)?;
+    Ok(format!(in alloc; "{old} {new}")?)
+}
+
 /// The text of a path, its old place, and its new one.
 pub(crate) fn path_told(alloc: Global, path: &RelationPath) -> Result<String, Fail> {
     let text = String::from_utf8_lossy(alloc, path.text.as_slice())?;
-    let old = place_told(alloc, &path.old)?;
-    let told = match &path.new {
-        Some(place) => format!(in alloc; "{text} at {old} to {}", place_told(alloc, place)?)?,
-        None => format!(in alloc; "{text} at {old} lost")?,
-    };
-    Ok(told)
+    let places = places_told(alloc, path)?;
+    Ok(format!(in alloc; "{text} at {places}")?)
 }
 
 /// The paths that aren't shared, and how many are.
@@ -51,6 +67,12 @@ pub(crate) fn lost_told(alloc: Global, relation: &Relation) -> Result<String, Fa
         }
     }
     Ok(format!(in alloc; "{told}{shared} shared")?)
+}
+
+/// The paths of two texts that aren't shared, and how many are.
+pub(crate) fn related_told(alloc: Global, old: &str, new: &str) -> Result<String, Fail> {
+    let relation = related(alloc, old, new)?;
+    lost_told(alloc, &relation)
 }
 
 /// Whether a path, without its category, is shared.

@@ -1,8 +1,10 @@
 //! Single blocks of one edition in another.
 
 use crate::texts::{Edition, accepted, decoded, lines_of};
+use ax_check::Accepted;
 use ax_edition::relate;
-use ax_migrate::migrate_tree;
+use ax_migrate::{LossList, Migrated, migrate_tree};
+use ax_model::{Block, fits};
 use ax_samples::octets;
 use ax_values::encode_block;
 use std::alloc::Global;
@@ -152,35 +154,87 @@ const MIGRATED: [(Edition, Edition, &str, &str, &str); 21] = [
     ),
 ];
 
+/// The migrated block, and what it lost.
+fn migrated(
+    rt: &impl Abort,
+    alloc: Global,
+    old: &Accepted,
+    new: &Accepted,
+    input: &str,
+) -> Result<Migrated, Fail> {
+    let relation = relate(alloc, old, new)?;
+    let block = decoded(rt, alloc, old.spec(), input)?;
+    Ok(migrate_tree(alloc, &relation, old.spec(), new.spec(), &block)?)
+}
+
+/// The octets of a block that fits a specification.
+fn encoded(
+    rt: &impl Abort,
+    alloc: Global,
+    file: &Accepted,
+    block: &Block,
+) -> Result<Vec<u8>, Fail> {
+    assert!(rt; fits(file.spec(), block));
+    Ok(encode_block(alloc, file.spec(), block)?)
+}
+
+/// Asserts that the migrated block has these octets.
+fn is_written_as(
+    rt: &impl Abort,
+    alloc: Global,
+    file: &Accepted,
+    block: &Block,
+    want: &str,
+    input: &str,
+) -> Result<(), Fail> {
+    let made = encoded(rt, alloc, file, block)?;
+    let want = octets(alloc, want)?;
+    assert_eq!(rt; made.as_slice(), want.as_slice(), "of {input}");
+    Ok(())
+}
+
+/// Asserts that the losses of block 7 have these lines.
+fn has_lines(
+    rt: &impl Abort,
+    alloc: Global,
+    losses: &LossList,
+    want: &str,
+    input: &str,
+) -> Result<(), Fail> {
+    let made = lines_of(alloc, 7, losses)?;
+    assert_eq!(rt; made.as_slice(), want.as_bytes(), "of {input}");
+    Ok(())
+}
+
+fn migrates_as(
+    rt: &impl Abort,
+    alloc: Global,
+    old: &Accepted,
+    new: &Accepted,
+    input: &str,
+    (made, lines): (&str, &str),
+) -> Result<(), Fail> {
+    let got = migrated(rt, alloc, old, new, input)?;
+    is_written_as(rt, alloc, new, &got.block, made, input)?;
+    has_lines(rt, alloc, &got.losses, lines, input)
+}
+
 fn migrates(
     rt: &impl Abort,
     alloc: Global,
     (old, new, input): (Edition, Edition, &str),
-    made: &str,
-    lines: &str,
+    want: (&str, &str),
 ) -> Result<(), Fail> {
-    let (old, new) = (accepted(rt, alloc, old)?, accepted(rt, alloc, new)?);
-    let relation = relate(alloc, &old, &new)?;
-    let block = decoded(rt, alloc, old.spec(), &octets(alloc, input)?)?;
-    let got = migrate_tree(alloc, &relation, old.spec(), new.spec(), &block)?;
-    assert_eq!(rt;
-        encode_block(alloc, new.spec(), &got.block)?,
-        octets(alloc, made)?,
-        "of {input}"
-    );
-    assert_eq!(rt;
-        lines_of(alloc, 7, &got.losses)?.as_slice(),
-        lines.as_bytes(),
-        "of {input}"
-    );
-    Ok(())
+    let old = accepted(rt, alloc, old)?;
+    let new = accepted(rt, alloc, new)?;
+    migrates_as(rt, alloc, &old, &new, input, want)
 }
 
 #[test]
 fn entries_pass_or_are_lost(rt: HostRuntime) -> Result<(), Fail> {
     let alloc = rt.alloc();
-    for (old, new, input, made, lines) in MIGRATED {
-        migrates(&rt, alloc, (old, new, input), made, lines)?;
+    for &(old, new, input, made, lines) in &MIGRATED {
+        migrates(&rt, alloc, (old, new, input), (made, lines))?;
     }
     Ok(())
 }

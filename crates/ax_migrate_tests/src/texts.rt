@@ -7,7 +7,7 @@ use ax_grammar::read_spec;
 use ax_migrate::{LossList, loss_lines};
 use ax_model::{Block, RawBlock, Spec, fits};
 use ax_outside::MemSink;
-use ax_samples::{CAT048_P1, CAT048_P2, FILE_G1, FILE_G2, FILE_H1, FILE_H2, FILE_H3};
+use ax_samples::{CAT048_P1, CAT048_P2, FILE_G1, FILE_G2, FILE_H1, FILE_H2, FILE_H3, octets};
 use ax_tokens::tokens;
 use ax_values::decode_block;
 use std::alloc::Global;
@@ -87,31 +87,51 @@ impl Edition {
     }
 }
 
-/// The specification of a file.
-pub(crate) fn accepted(rt: &impl Abort, alloc: Global, edition: Edition) -> Result<Accepted, Fail> {
-    let text = edition.text().as_bytes();
+/// The specification that a text spells.
+fn spec_of(rt: &impl Abort, alloc: Global, text: &str) -> Result<Spec, Fail> {
+    let text = text.as_bytes();
     assert!(rt; text.len() < 10_000);
     let found = tokens(alloc, text, 16)?;
-    let spec = read_spec(alloc, &found)?;
-    Ok(accept(alloc, spec)?)
+    Ok(read_spec(alloc, &found)?)
+}
+
+/// The specification of a file.
+pub(crate) fn accepted(rt: &impl Abort, alloc: Global, edition: Edition) -> Result<Accepted, Fail> {
+    Ok(accept(alloc, spec_of(rt, alloc, edition.text())?)?)
+}
+
+/// The body of a block, after CAT and the LEN that it has.
+fn body_of<'o>(rt: &impl Abort, octets: &'o [u8]) -> &'o [u8] {
+    assert!(rt; octets.len() >= 4);
+    let length = octets[1] as usize * 256 + octets[2] as usize;
+    assert_eq!(rt; octets.len(), length, "LEN of {octets:?}");
+    &octets[3..]
 }
 
 /// The block that these octets are read as.
+fn octets_decoded(rt: &impl Abort, alloc: Global, spec: &Spec, octets: &[u8]) -> Result<Block, Fail>
+    requires { HasNoFlaw spec.now }
+{
+    let body = body_of(rt, octets);
+    assert!(rt; !octets.is_empty());
+    assert!(rt; !body.is_empty());
+    assert!(rt; body.len() <= 65_532);
+    let category = octets[0];
+    Ok(decode_block(alloc, spec, &RawBlock { category, body })?)
+}
+
+/// The block that octets in hexadecimal are read as.
 pub(crate) fn decoded(
     rt: &impl Abort,
     alloc: Global,
     spec: &Spec,
-    octets: &[u8],
+    block: &str,
 ) -> Result<Block, Fail>
     requires { HasNoFlaw spec.now }
     ensures { IfOk result (λ block. BlockFits spec.now block) }
 {
-    assert!(rt; octets.len() >= 4);
-    let length = octets[1] as usize * 256 + octets[2] as usize;
-    assert_eq!(rt; octets.len(), length, "LEN of {octets:?}");
-    let (category, body) = (octets[0], &octets[3..]);
-    assert!(rt; body.len() <= 65_532);
-    let block = decode_block(alloc, spec, &RawBlock { category, body })?;
+    let octets = octets(alloc, block)?;
+    let block = octets_decoded(rt, alloc, spec, &octets)?;
     assert!(rt; fits(spec, &block));
     Ok(block)
 }

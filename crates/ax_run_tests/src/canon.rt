@@ -1,6 +1,6 @@
 //! `canon` over inputs without fault and with one.
 
-use crate::world::{Outside, leaves, wanted};
+use crate::world::{Left, Outside, leaves, leaves_octets};
 use ax_samples::octets;
 use std::test::Fail;
 
@@ -81,10 +81,8 @@ const DONE: [(&str, &str, &str, Outside); 23] = [
 #[test]
 fn canonical_octets_of_inputs_without_fault(rt: HostRuntime) -> Result<(), Fail> {
     let alloc = rt.alloc();
-    for (words, input, out, outside) in DONE {
-        let input = octets(alloc, input)?;
-        let want = wanted(alloc, 0, &octets(alloc, out)?, "", 0)?;
-        leaves(&rt, alloc, words, &input, outside, want)?;
+    for &(words, input, out, outside) in &DONE {
+        leaves_octets(&rt, alloc, words, input, outside, (0, out, "", 0))?;
     }
     Ok(())
 }
@@ -95,7 +93,12 @@ fn the_largest_block_is_unchanged(rt: HostRuntime) -> Result<(), Fail> {
     let alloc = rt.alloc();
     let mut input = octets(alloc, "30 FF FF")?;
     input.extend_from_slice(&[0; 65_532])?;
-    let want = wanted(alloc, 0, &input, "", 0)?;
+    let want = Left {
+        status: 0,
+        out: &input,
+        report: b"",
+        left: 0,
+    };
     leaves(&rt, alloc, "canon 048", &input, Outside::Sound, want)
 }
 
@@ -269,10 +272,9 @@ const REFUSED: [(&str, &str, &str, &str, usize); 23] = [
 #[test]
 fn the_first_fault_is_named_at_its_bit(rt: HostRuntime) -> Result<(), Fail> {
     let alloc = rt.alloc();
-    for (words, input, out, report, left) in REFUSED {
-        let input = octets(alloc, input)?;
-        let want = wanted(alloc, 3, &octets(alloc, out)?, report, left)?;
-        leaves(&rt, alloc, words, &input, Outside::Sound, want)?;
+    for &(words, input, out, report, left) in &REFUSED {
+        let want = (3, out, report, left);
+        leaves_octets(&rt, alloc, words, input, Outside::Sound, want)?;
     }
     Ok(())
 }

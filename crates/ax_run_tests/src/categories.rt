@@ -10,6 +10,7 @@ use ax_outside::{MemSink, MemSource, Sink, SinkFailed, write_text};
 use ax_samples::octets;
 use ax_stream::{BlockWork, StreamEnd, WorkStop, run_blocks};
 use std::alloc::Global;
+use std::process::Abort;
 use std::test::Fail;
 
 /// The octets that the result of a refused block would have.
@@ -118,19 +119,54 @@ fn sink(alloc: Global, failing: Option<u64>) -> Result<MemSink, Fail> {
     Ok(MemSink::new(alloc, 100, 2, calls)?)
 }
 
+/// The outside of a run.
+#[derive(Drop)]
+struct World {
+    source: MemSource,
+    out: MemSink,
+    report: MemSink,
+}
+
+fn world_of(
+    alloc: Global,
+    out_fails: Option<u64>,
+    report_fails: Option<u64>,
+) -> Result<World, Fail> {
+    Ok(World {
+        source: MemSource::new(octets(alloc, INPUT)?, Vec::new(alloc), Vec::new(alloc)),
+        out: sink(alloc, out_fails)?,
+        report: sink(alloc, report_fails)?,
+    })
+}
+
+fn ends_as(
+    rt: &impl Abort,
+    alloc: Global,
+    world: &mut World,
+    end: StreamEnd,
+    (written, reported, left): (&[u8], &[u8], usize),
+) -> Result<(), Fail> {
+    let mut work = CategoryWork { mark: b"+++." };
+    let got = run_blocks(
+        alloc,
+        &mut work,
+        &mut world.source,
+        &mut world.out,
+        &mut world.report,
+    );
+    assert_eq!(rt; got, end);
+    assert_eq!(rt; world.out.written(), written);
+    assert_eq!(rt; world.report.written(), reported);
+    assert_eq!(rt; left_of(alloc, &mut world.source)?, left);
+    Ok(())
+}
+
 #[test]
 fn what_stands_where_a_line_or_a_piece_fails(rt: HostRuntime) -> Result<(), Fail> {
     let alloc = rt.alloc();
-    for (out_fails, report_fails, end, written, reported, left) in ROWS {
-        let mut source = MemSource::new(octets(alloc, INPUT)?, Vec::new(alloc), Vec::new(alloc));
-        let mut out = sink(alloc, out_fails)?;
-        let mut report = sink(alloc, report_fails)?;
-        let mut work = CategoryWork { mark: b"+++." };
-        let got = run_blocks(alloc, &mut work, &mut source, &mut out, &mut report);
-        assert_eq!(rt; got, end);
-        assert_eq!(rt; out.written(), written);
-        assert_eq!(rt; report.written(), reported);
-        assert_eq!(rt; left_of(alloc, &mut source)?, left);
+    for &(out_fails, report_fails, end, written, reported, left) in &ROWS {
+        let mut world = world_of(alloc, out_fails, report_fails)?;
+        ends_as(&rt, alloc, &mut world, end, (written, reported, left))?;
     }
     Ok(())
 }

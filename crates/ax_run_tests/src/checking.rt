@@ -1,8 +1,9 @@
 //! `check`, refused files and refused words. None of these reads the input.
 
-use crate::world::{Outside, leaves, wanted};
+use crate::world::{Left, Outside, leaves, leaves_octets};
 use ax_samples::{CAT019_P1, FILE_E, octets};
 use std::alloc::{AllocError, Global};
+use std::process::Abort;
 use std::test::Fail;
 
 const INPUT: &str = "22 00 0A E0 19 0C 01 00 00 80";
@@ -49,10 +50,9 @@ const REFUSED: [(&str, u8, &str); 25] = [
 #[test]
 fn refused_words_and_files(rt: HostRuntime) -> Result<(), Fail> {
     let alloc = rt.alloc();
-    let input = octets(alloc, INPUT)?;
-    for (words, status, report) in REFUSED {
-        let want = wanted(alloc, status, b"", report, 10)?;
-        leaves(&rt, alloc, words, &input, Outside::Sound, want)?;
+    for &(words, status, report) in &REFUSED {
+        let want = (status, "", report, 10);
+        leaves_octets(&rt, alloc, words, INPUT, Outside::Sound, want)?;
     }
     Ok(())
 }
@@ -69,6 +69,26 @@ fn accepted(alloc: Global, line: &str, text: &str) -> Result<Vec<u8>, AllocError
     Ok(made)
 }
 
+/// Asserts that the words write the line and the text, and read no input.
+fn writes(
+    rt: &impl Abort,
+    alloc: Global,
+    words: &str,
+    outside: Outside,
+    line: &str,
+    text: &str,
+) -> Result<(), Fail> {
+    let out = accepted(alloc, line, text)?;
+    let input = octets(alloc, INPUT)?;
+    let want = Left {
+        status: 0,
+        out: &out,
+        report: b"",
+        left: 10,
+    };
+    leaves(rt, alloc, words, &input, outside, want)
+}
+
 // The words, and the line and the text that are written.
 const ACCEPTED: [(&str, &str, &str); 4] = [
     ("check E", LINE_OF_E, FILE_E),
@@ -80,12 +100,16 @@ const ACCEPTED: [(&str, &str, &str); 4] = [
 #[test]
 fn an_accepted_file_is_written_in_one_line(rt: HostRuntime) -> Result<(), Fail> {
     let alloc = rt.alloc();
-    let input = octets(alloc, INPUT)?;
-    for (words, line, text) in ACCEPTED {
-        let want = wanted(alloc, 0, &accepted(alloc, line, text)?, "", 10)?;
-        leaves(&rt, alloc, words, &input, Outside::Sound, want)?;
+    for &(words, line, text) in &ACCEPTED {
+        writes(&rt, alloc, words, Outside::Sound, line, text)?;
     }
-    assert_eq!(rt; accepted(alloc, "", FILE_E)?.as_slice(), FILE_E.as_bytes());
+    Ok(())
+}
+
+#[test]
+fn the_text_of_file_e_is_in_its_words(rt: HostRuntime) -> Result<(), Fail> {
+    let text = accepted(rt.alloc(), "", FILE_E)?;
+    assert_eq!(rt; text.as_slice(), FILE_E.as_bytes());
     Ok(())
 }
 
@@ -93,10 +117,8 @@ fn an_accepted_file_is_written_in_one_line(rt: HostRuntime) -> Result<(), Fail> 
 #[test]
 fn check_loads_once_and_writes_once(rt: HostRuntime) -> Result<(), Fail> {
     let alloc = rt.alloc();
-    let input = octets(alloc, INPUT)?;
     for outside in [Outside::Load(1), Outside::Write(1)] {
-        let want = wanted(alloc, 0, &accepted(alloc, LINE_OF_E, FILE_E)?, "", 10)?;
-        leaves(&rt, alloc, "check E", &input, outside, want)?;
+        writes(&rt, alloc, "check E", outside, LINE_OF_E, FILE_E)?;
     }
     Ok(())
 }

@@ -1,7 +1,6 @@
 //! `filter` over inputs, and its refused expressions.
 
-use crate::world::{Outside, filter_leaves, wanted};
-use ax_samples::octets;
+use crate::world::{Outside, filter_leaves};
 use std::test::Fail;
 
 const SAC: &str = "30 00 06 80 19 0C";
@@ -57,10 +56,9 @@ const DONE: [(&str, &str, &str, &str); 14] = [
 #[test]
 fn the_records_that_match(rt: HostRuntime) -> Result<(), Fail> {
     let alloc = rt.alloc();
-    for (expression, files, input, out) in DONE {
-        let input = octets(alloc, input)?;
-        let want = wanted(alloc, 0, &octets(alloc, out)?, "", 0)?;
-        filter_leaves(&rt, alloc, expression, files, &input, Outside::Sound, want)?;
+    for &(expression, files, input, out) in &DONE {
+        let words = (expression, files);
+        filter_leaves(&rt, alloc, words, input, Outside::Sound, (0, out, "", 0))?;
     }
     Ok(())
 }
@@ -126,10 +124,10 @@ const REFUSED: [(&str, &str, u8, &str); 13] = [
 #[test]
 fn refused_expressions(rt: HostRuntime) -> Result<(), Fail> {
     let alloc = rt.alloc();
-    let input = octets(alloc, SAC)?;
-    for (expression, files, status, report) in REFUSED {
-        let want = wanted(alloc, status, b"", report, 6)?;
-        filter_leaves(&rt, alloc, expression, files, &input, Outside::Sound, want)?;
+    for &(expression, files, status, report) in &REFUSED {
+        let words = (expression, files);
+        let want = (status, "", report, 6);
+        filter_leaves(&rt, alloc, words, SAC, Outside::Sound, want)?;
     }
     Ok(())
 }
@@ -169,10 +167,10 @@ const FAILING: [(Outside, &str, &str, u8, &str, &str); 6] = [
 #[test]
 fn no_empty_piece_is_written(rt: HostRuntime) -> Result<(), Fail> {
     let alloc = rt.alloc();
-    for (outside, expression, input, status, out, report) in FAILING {
-        let input = octets(alloc, input)?;
-        let want = wanted(alloc, status, &octets(alloc, out)?, report, 0)?;
-        filter_leaves(&rt, alloc, expression, "048", &input, outside, want)?;
+    for &(outside, expression, input, status, out, report) in &FAILING {
+        let words = (expression, "048");
+        let want = (status, out, report, 0);
+        filter_leaves(&rt, alloc, words, input, outside, want)?;
     }
     Ok(())
 }

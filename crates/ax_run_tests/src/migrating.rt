@@ -1,8 +1,9 @@
 //! `migrate`: blocks of one edition in another, the lines of their losses, and what stands where a call fails.
 
-use crate::world::{Outside, leaves, wanted};
+use crate::world::{Left, Outside, leaves, leaves_octets};
 use ax_samples::octets;
-use std::alloc::Global;
+use std::alloc::{AllocError, Global};
+use std::process::Abort;
 use std::test::Fail;
 
 const PLOT: &str = "30 00 08 A0 19 0C A1 00";
@@ -203,10 +204,9 @@ const RUNS: [(Outside, &str, &str, u8, &str, &str, usize); 21] = [
 #[test]
 fn editions_of_one_category(rt: HostRuntime) -> Result<(), Fail> {
     let alloc = rt.alloc();
-    for (outside, words, input, status, out, report, left) in RUNS {
-        let input = octets(alloc, input)?;
-        let want = wanted(alloc, status, &octets(alloc, out)?, report, left)?;
-        leaves(&rt, alloc, words, &input, outside, want)?;
+    for &(outside, words, input, status, out, report, left) in &RUNS {
+        let want = (status, out, report, left);
+        leaves_octets(&rt, alloc, words, input, outside, want)?;
     }
     Ok(())
 }
@@ -236,17 +236,16 @@ const CUT_LINES: [(u64, u8, &str, &str, usize); 5] = [
 #[test]
 fn lines_that_are_cut(rt: HostRuntime) -> Result<(), Fail> {
     let alloc = rt.alloc();
-    let input = octets(alloc, FULL_TWICE)?;
-    for (call, status, out, report, left) in CUT_LINES {
-        let want = wanted(alloc, status, &octets(alloc, out)?, report, left)?;
+    for &(call, status, out, report, left) in &CUT_LINES {
         let outside = Outside::OctetReport(call);
-        leaves(&rt, alloc, "migrate H1 H2", &input, outside, want)?;
+        let want = (status, out, report, left);
+        leaves_octets(&rt, alloc, "migrate H1 H2", FULL_TWICE, outside, want)?;
     }
     Ok(())
 }
 
 /// The largest block of G1, whose records have one item of one octet, and these octets after it.
-fn largest(alloc: Global, after: &[u8]) -> Result<Vec<u8>, Fail> {
+fn largest(alloc: Global, after: &[u8]) -> Result<Vec<u8>, AllocError> {
     let mut made = vec![in alloc; 0xC9, 0xFF, 0xFF]?;
     for _ in 0..32_766 {
         made.extend_from_slice(&[0x80, 0x01])?;
@@ -255,15 +254,25 @@ fn largest(alloc: Global, after: &[u8]) -> Result<Vec<u8>, Fail> {
     Ok(made)
 }
 
+// Asserts that the octets after the largest block, in hexadecimal, aren't read: there are so many.
+fn is_too_long(rt: &impl Abort, alloc: Global, after: &str, left: usize) -> Result<(), Fail> {
+    let after = octets(alloc, after)?;
+    let input = largest(alloc, &after)?;
+    let want = Left {
+        status: 3,
+        out: b"",
+        report: b"refused block 0 MigratedTooLong 98301\n",
+        left,
+    };
+    leaves(rt, alloc, "migrate G1 G2", &input, Outside::Sound, want)
+}
+
 // A migrated block that is too long is refused before any fault behind it.
 #[test]
 fn a_migrated_block_is_too_long(rt: HostRuntime) -> Result<(), Fail> {
     let alloc = rt.alloc();
     for (after, left) in [("", 0), ("C9 00 03", 3)] {
-        let input = largest(alloc, &octets(alloc, after)?)?;
-        let report = "refused block 0 MigratedTooLong 98301\n";
-        let want = wanted(alloc, 3, b"", report, left)?;
-        leaves(&rt, alloc, "migrate G1 G2", &input, Outside::Sound, want)?;
+        is_too_long(&rt, alloc, after, left)?;
     }
     Ok(())
 }

@@ -1,7 +1,6 @@
 //! Faults of the outside: each call that fails, and outputs that are too small.
 
-use crate::world::{Outside, leaves, wanted};
-use ax_samples::octets;
+use crate::world::{Outside, leaves_octets};
 use std::test::Fail;
 
 const NORTH: &str = "22 00 0A E0 19 0C 01 00 00 80";
@@ -117,10 +116,9 @@ const FAILING: [(Outside, &str, &str, u8, &str, &str, usize); 18] = [
 #[test]
 fn failing_calls_and_outputs_that_are_too_small(rt: HostRuntime) -> Result<(), Fail> {
     let alloc = rt.alloc();
-    for (outside, words, input, status, out, report, left) in FAILING {
-        let input = octets(alloc, input)?;
-        let want = wanted(alloc, status, &octets(alloc, out)?, report, left)?;
-        leaves(&rt, alloc, words, &input, outside, want)?;
+    for &(outside, words, input, status, out, report, left) in &FAILING {
+        let want = (status, out, report, left);
+        leaves_octets(&rt, alloc, words, input, outside, want)?;
     }
     Ok(())
 }

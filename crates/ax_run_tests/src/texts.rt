@@ -1,7 +1,6 @@
 //! `text` and `show` over inputs without fault and with one.
 
-use crate::world::{Outside, leaves, wanted};
-use ax_samples::octets;
+use crate::world::{Outside, leaves_text};
 use std::test::Fail;
 
 // The words, the input, the exit status, the output and the report. Each input is read to its end.
@@ -69,10 +68,9 @@ const LINES: [(&str, &str, u8, &str, &str); 10] = [
 #[test]
 fn lines_of_each_block(rt: HostRuntime) -> Result<(), Fail> {
     let alloc = rt.alloc();
-    for (words, input, status, out, report) in LINES {
-        let input = octets(alloc, input)?;
-        let want = wanted(alloc, status, out.as_bytes(), report, 0)?;
-        leaves(&rt, alloc, words, &input, Outside::Sound, want)?;
+    for &(words, input, status, out, report) in &LINES {
+        let want = (status, out, report, 0);
+        leaves_text(&rt, alloc, words, input, Outside::Sound, want)?;
     }
     Ok(())
 }
@@ -80,8 +78,7 @@ fn lines_of_each_block(rt: HostRuntime) -> Result<(), Fail> {
 // A line is one piece: of two blocks' lines a second failing write leaves the first.
 #[test]
 fn a_line_is_one_piece(rt: HostRuntime) -> Result<(), Fail> {
-    let alloc = rt.alloc();
-    let input = octets(alloc, "3E 00 05 80 FF 3E 00 04 01")?;
-    let want = wanted(alloc, 4, b"opaque 062 \"80ff\"\n", "fault write\n", 0)?;
-    leaves(&rt, alloc, "text A", &input, Outside::Write(1), want)
+    let input = "3E 00 05 80 FF 3E 00 04 01";
+    let want = (4, "opaque 062 \"80ff\"\n", "fault write\n", 0);
+    leaves_text(&rt, rt.alloc(), "text A", input, Outside::Write(1), want)
 }

@@ -4,7 +4,7 @@ use ax_app::run;
 use ax_outside::{MemLibrary, MemSink, MemSource, fill};
 use ax_samples::{
     CAT019_P1, CAT034_P1, CAT048_P1, CAT048_P2, FILE_A, FILE_E, FILE_F, FILE_G1, FILE_G2, FILE_H1,
-    FILE_H2, FILE_H3, FILE_N, FILE_S, NESTED_TOO_DEEP,
+    FILE_H2, FILE_H3, FILE_N, FILE_S, NESTED_TOO_DEEP, octets,
 };
 use std::alloc::{AllocError, Global};
 use std::process::Abort;
@@ -123,28 +123,12 @@ fn report_of(alloc: Global, outside: Outside) -> Result<MemSink, AllocError> {
 
 /// What a run leaves: its exit status, what stands on both outputs, and how many octets of the input were not
 /// read.
-#[derive(Debug, PartialEq, Eq, Drop)]
-pub struct Ended {
+#[derive(Clone, Copy, Debug, PartialEq, Eq)]
+pub struct Left<'t> {
     pub status: u8,
-    pub out: Vec<u8>,
-    pub report: Vec<u8>,
+    pub out: &'t [u8],
+    pub report: &'t [u8],
     pub left: usize,
-}
-
-/// The value that a run should leave.
-pub fn wanted(
-    alloc: Global,
-    status: u8,
-    out: &[u8],
-    report: &str,
-    left: usize,
-) -> Result<Ended, AllocError> {
-    Ok(Ended {
-        status,
-        out: out.to_vec(alloc)?,
-        report: report.as_bytes().to_vec(alloc)?,
-        left,
-    })
 }
 
 // File E after a comment, with two line feeds for each blank.
@@ -180,36 +164,42 @@ fn put(
     Ok(())
 }
 
+const TEXTS: [(&str, &str); 21] = [
+    ("A", FILE_A),
+    ("E", FILE_E),
+    ("F", FILE_F),
+    ("G1", FILE_G1),
+    ("G2", FILE_G2),
+    ("H1", FILE_H1),
+    ("H2", FILE_H2),
+    ("H3", FILE_H3),
+    ("N", FILE_N),
+    ("S", FILE_S),
+    ("V", FILE_V),
+    ("019", CAT019_P1),
+    ("034", CAT034_P1),
+    ("048", CAT048_P1),
+    ("048-P2", CAT048_P2),
+    ("metres", METRES),
+    ("short", CUT_SHORT),
+    ("behind", BRACE_BEHIND),
+    ("unended", UNENDED),
+    ("256", NO_CATEGORY),
+    ("deep", NESTED_TOO_DEEP),
+];
+
+fn put_files(alloc: Global, made: &mut Vec<(String, Vec<u8>)>) -> Result<(), AllocError> {
+    for &(name, text) in &TEXTS {
+        put(alloc, made, name, text.as_bytes().to_vec(alloc)?)?;
+    }
+    put(alloc, made, "commented", commented(alloc)?)?;
+    put(alloc, made, "largest", largest(alloc)?)?;
+    put(alloc, made, "large", vec![in alloc; b' '; TOO_LARGE]?)
+}
+
 fn files(alloc: Global) -> Result<Vec<(String, Vec<u8>)>, AllocError> {
     let mut made = Vec::new(alloc);
-    for (name, text) in [
-        ("A", FILE_A),
-        ("E", FILE_E),
-        ("F", FILE_F),
-        ("G1", FILE_G1),
-        ("G2", FILE_G2),
-        ("H1", FILE_H1),
-        ("H2", FILE_H2),
-        ("H3", FILE_H3),
-        ("N", FILE_N),
-        ("S", FILE_S),
-        ("V", FILE_V),
-        ("019", CAT019_P1),
-        ("034", CAT034_P1),
-        ("048", CAT048_P1),
-        ("048-P2", CAT048_P2),
-        ("metres", METRES),
-        ("short", CUT_SHORT),
-        ("behind", BRACE_BEHIND),
-        ("unended", UNENDED),
-        ("256", NO_CATEGORY),
-        ("deep", NESTED_TOO_DEEP),
-    ] {
-        put(alloc, &mut made, name, text.as_bytes().to_vec(alloc)?)?;
-    }
-    put(alloc, &mut made, "commented", commented(alloc)?)?;
-    put(alloc, &mut made, "largest", largest(alloc)?)?;
-    put(alloc, &mut made, "large", vec![in alloc; b' '; TOO_LARGE]?)?;
+    put_files(alloc, &mut made)?;
     Ok(made)
 }
 
@@ -227,25 +217,62 @@ pub fn left_of(alloc: Global, source: &mut MemSource) -> Result<usize, Fail> {
     Ok(fill(source, &mut buffer)?)
 }
 
-fn ran(alloc: Global, words: &Vec<String>, input: &[u8], outside: Outside) -> Result<Ended, Fail> {
-    let mut library = library_of(alloc, outside)?;
-    let mut source = source_of(alloc, outside, input)?;
-    let mut out = out_of(alloc, outside)?;
-    let mut report = report_of(alloc, outside)?;
+/// The outside of a run.
+#[derive(Drop)]
+struct World {
+    library: MemLibrary,
+    source: MemSource,
+    out: MemSink,
+    report: MemSink,
+}
+
+fn world_of(alloc: Global, outside: Outside, input: &[u8]) -> Result<World, AllocError> {
+    Ok(World {
+        library: library_of(alloc, outside)?,
+        source: source_of(alloc, outside, input)?,
+        out: out_of(alloc, outside)?,
+        report: report_of(alloc, outside)?,
+    })
+}
+
+/// Runs the words in a world with this input, and asserts that the run leaves what is wanted.
+fn world_leaves(
+    rt: &impl Abort,
+    alloc: Global,
+    words: &Vec<String>,
+    input: &[u8],
+    world: &mut World,
+    want: Left<'_>,
+) -> Result<(), Fail> {
     let outcome = run(
         alloc,
         words,
-        &mut library,
-        &mut source,
-        &mut out,
-        &mut report,
+        &mut world.library,
+        &mut world.source,
+        &mut world.out,
+        &mut world.report,
     );
-    Ok(Ended {
+    let got = Left {
         status: outcome.status(),
-        out: out.written().to_vec(alloc)?,
-        report: report.written().to_vec(alloc)?,
-        left: left_of(alloc, &mut source)?,
-    })
+        out: world.out.written(),
+        report: world.report.written(),
+        left: left_of(alloc, &mut world.source)?,
+    };
+    assert_eq!(rt; got, want, "of {words:?} over {input:?}");
+    Ok(())
+}
+
+/// Runs the words over this input, and asserts that the run leaves what is wanted.
+fn words_leave(
+    rt: &impl Abort,
+    alloc: Global,
+    words: &Vec<String>,
+    input: &[u8],
+    outside: Outside,
+    want: Left<'_>,
+) -> Result<(), Fail> {
+    let mut world = world_of(alloc, outside, input)?;
+    world_leaves(rt, alloc, words, input, &mut world, want)
 }
 
 /// Runs the words, which have blanks between them, over this input, and asserts that the run leaves what is wanted.
@@ -255,24 +282,53 @@ pub fn leaves(
     words: &str,
     input: &[u8],
     outside: Outside,
-    want: Ended,
+    want: Left<'_>,
 ) -> Result<(), Fail> {
-    let got = ran(alloc, &words_of(alloc, words)?, input, outside)?;
-    assert_eq!(rt; got, want, "of {words} over {input:?}");
-    Ok(())
+    let words = words_of(alloc, words)?;
+    words_leave(rt, alloc, &words, input, outside, want)
 }
 
-/// Runs `filter` with that expression, which is one word, and with files, which have blanks between them, over this
-/// input, and asserts that the run leaves what is wanted.
-pub fn filter_leaves(
+/// The same where the input and the output are in hexadecimal: what is left is a status, the output, the report, and how
+/// many octets were not read.
+pub fn leaves_octets(
     rt: &impl Abort,
     alloc: Global,
-    expression: &str,
-    files: &str,
-    input: &[u8],
+    words: &str,
+    input: &str,
     outside: Outside,
-    want: Ended,
+    (status, out, report, left): (u8, &str, &str, usize),
 ) -> Result<(), Fail> {
+    let input = octets(alloc, input)?;
+    let out = octets(alloc, out)?;
+    let want = Left {
+        status,
+        out: &out,
+        report: report.as_bytes(),
+        left,
+    };
+    leaves(rt, alloc, words, &input, outside, want)
+}
+
+/// The same where the input is in hexadecimal, and the output is a text.
+pub fn leaves_text(
+    rt: &impl Abort,
+    alloc: Global,
+    words: &str,
+    input: &str,
+    outside: Outside,
+    (status, out, report, left): (u8, &str, &str, usize),
+) -> Result<(), Fail> {
+    let input = octets(alloc, input)?;
+    let want = Left {
+        status,
+        out: out.as_bytes(),
+        report: report.as_bytes(),
+        left,
+    };
+    leaves(rt, alloc, words, &input, outside, want)
+}
+
+fn filter_words(alloc: Global, expression: &str, files: &str) -> Result<Vec<String>, AllocError> {
     let mut words = vec![in alloc;
         String::from_str(alloc, "filter")?,
         String::from_str(alloc, expression)?,
@@ -280,7 +336,27 @@ pub fn filter_leaves(
     for file in files.split_whitespace() {
         words.push(String::from_str(alloc, file)?)?;
     }
-    let got = ran(alloc, &words, input, outside)?;
-    assert_eq!(rt; got, want, "of {expression} over {files} and {input:?}");
-    Ok(())
+    Ok(words)
+}
+
+/// Runs `filter` with that expression, which is one word, and with files, which have blanks between them, over an input in
+/// hexadecimal, and asserts that the run leaves what is wanted, as `leaves_octets` does.
+pub fn filter_leaves(
+    rt: &impl Abort,
+    alloc: Global,
+    (expression, files): (&str, &str),
+    input: &str,
+    outside: Outside,
+    (status, out, report, left): (u8, &str, &str, usize),
+) -> Result<(), Fail> {
+    let words = filter_words(alloc, expression, files)?;
+    let input = octets(alloc, input)?;
+    let out = octets(alloc, out)?;
+    let want = Left {
+        status,
+        out: &out,
+        report: report.as_bytes(),
+        left,
+    };
+    words_leave(rt, alloc, &words, &input, outside, want)
 }

@@ -1,9 +1,12 @@
 //! Blocks as listings.
 
-use crate::fixtures::{accepted, decoded};
+use crate::fixtures::{accepted, decoded, octets_decoded};
+use ax_check::Accepted;
 use ax_samples::{CAT048_P1, FILE_A, octets};
 use ax_text::{show_lines, show_opaque};
 use ax_values::encode_block;
+use std::alloc::{AllocError, Global};
+use std::process::Abort;
 use std::test::Fail;
 
 const TARGET_REPORT: &str =
@@ -107,17 +110,56 @@ const LISTED: [(&str, u64, &str, &str); 9] = [
     ),
 ];
 
+/// The listing of the block of that number that these octets are.
+fn listing_of(
+    rt: &impl Abort,
+    alloc: Global,
+    file: &Accepted,
+    number: u64,
+    octets: &[u8],
+) -> Result<Vec<u8>, Fail> {
+    let block = octets_decoded(rt, alloc, file.spec(), octets)?;
+    Ok(show_lines(alloc, file.spec(), &block, number)?)
+}
+
+fn has_listing(
+    rt: &impl Abort,
+    alloc: Global,
+    file: &Accepted,
+    number: u64,
+    octets: &[u8],
+    want: &str,
+) -> Result<(), Fail> {
+    let lines = listing_of(rt, alloc, file, number, octets)?;
+    assert_eq!(rt; lines.as_slice(), want.as_bytes(), "of {octets:?}");
+    Ok(())
+}
+
+fn is_listed_as(
+    rt: &impl Abort,
+    alloc: Global,
+    text: &str,
+    number: u64,
+    block: &str,
+    want: &str,
+) -> Result<(), Fail> {
+    let file = accepted(rt, alloc, text)?;
+    let octets = octets(alloc, block)?;
+    has_listing(rt, alloc, &file, number, &octets, want)
+}
+
 #[test]
 fn blocks_are_listed(rt: HostRuntime) -> Result<(), Fail> {
     let alloc = rt.alloc();
-    for (text, number, block, want) in LISTED {
-        let file = accepted(&rt, alloc, text)?;
-        let octets = octets(alloc, block)?;
-        let block = decoded(&rt, alloc, file.spec(), &octets)?;
-        let lines = show_lines(alloc, file.spec(), &block, number)?;
-        assert_eq!(rt; lines.as_slice(), want.as_bytes());
+    for &(text, number, block, want) in &LISTED {
+        is_listed_as(&rt, alloc, text, number, block, want)?;
     }
-    let line = show_opaque(alloc, 3, 7, &[0x80, 0xFF])?;
+    Ok(())
+}
+
+#[test]
+fn opaque_octets_are_listed(rt: HostRuntime) -> Result<(), Fail> {
+    let line = show_opaque(rt.alloc(), 3, 7, &[0x80, 0xFF])?;
     assert_eq!(rt;
         line.as_slice(),
         "block 3 category 007 octets 5 opaque \"80ff\"\n".as_bytes()
@@ -165,24 +207,57 @@ const REMARKED: [(&str, &str); 12] = [
     ),
 ];
 
+/// The block of category 9 with the body that is in hexadecimal.
+fn block_of(rt: &impl Abort, alloc: Global, body: &str) -> Result<Vec<u8>, Fail> {
+    let body = octets(alloc, body)?;
+    assert!(rt; body.len() < 256 - 3);
+    let mut block = vec![in alloc; 9, 0, 3 + body.len() as u8]?;
+    block.extend_from_slice(&body)?;
+    Ok(block)
+}
+
+/// The listing of a block of category 9 with one record, whose item has these lines.
+fn whole_listing(alloc: Global, length: usize, lines: &str) -> Result<String, AllocError> {
+    format!(in alloc; "block 0 category 009 octets {length} records 1\nrecord 0\n{lines}")
+}
+
+fn is_remarked_as(
+    rt: &impl Abort,
+    alloc: Global,
+    file: &Accepted,
+    item: &str,
+    want: &str,
+) -> Result<(), Fail> {
+    let block = block_of(rt, alloc, item)?;
+    let want = whole_listing(alloc, block.len(), want)?;
+    has_listing(rt, alloc, file, 0, &block, want.as_str())
+}
+
 #[test]
 fn each_content_is_remarked(rt: HostRuntime) -> Result<(), Fail> {
     let alloc = rt.alloc();
     let file = accepted(&rt, alloc, FILE_CONTENTS)?;
-    for (item, want) in REMARKED {
-        let body = octets(alloc, item)?;
-        assert!(rt; body.len() < 256 - 3);
-        let mut block = vec![in alloc; 9, 0, 3 + body.len() as u8]?;
-        block.extend_from_slice(&body)?;
-        let front = format!(in alloc;
-            "block 0 category 009 octets {} records 1\nrecord 0\n",
-            block.len()
-        )?;
-        let read = decoded(&rt, alloc, file.spec(), &block)?;
-        let lines = show_lines(alloc, file.spec(), &read, 0)?;
-        let whole = format!(in alloc; "{front}{want}")?;
-        assert_eq!(rt; lines.as_slice(), whole.as_bytes());
+    for &(item, want) in &REMARKED {
+        is_remarked_as(&rt, alloc, &file, item, want)?;
     }
+    Ok(())
+}
+
+/// The canonical form of the block that octets in hexadecimal are.
+fn canonical(
+    rt: &impl Abort,
+    alloc: Global,
+    file: &Accepted,
+    block: &str,
+) -> Result<Vec<u8>, Fail> {
+    let block = decoded(rt, alloc, file.spec(), block)?;
+    Ok(encode_block(alloc, file.spec(), &block)?)
+}
+
+fn is_canonical(rt: &impl Abort, alloc: Global, file: &Accepted, block: &str) -> Result<(), Fail> {
+    let canonical = canonical(rt, alloc, file, block)?;
+    let octets = octets(alloc, block)?;
+    assert_eq!(rt; canonical.as_slice(), octets.as_slice());
     Ok(())
 }
 
@@ -190,9 +265,5 @@ fn each_content_is_remarked(rt: HostRuntime) -> Result<(), Fail> {
 fn a_listed_block_is_canonical(rt: HostRuntime) -> Result<(), Fail> {
     let alloc = rt.alloc();
     let file = accepted(&rt, alloc, CAT048_P1)?;
-    let octets = octets(alloc, TARGET_REPORT)?;
-    let block = decoded(&rt, alloc, file.spec(), &octets)?;
-    let canonical = encode_block(alloc, file.spec(), &block)?;
-    assert_eq!(rt; canonical.as_slice(), octets.as_slice());
-    Ok(())
+    is_canonical(&rt, alloc, &file, TARGET_REPORT)
 }

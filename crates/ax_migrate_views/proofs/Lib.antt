@@ -1,0 +1,4 @@
+pub mod BareSame
+pub mod MovedCanon
+pub mod MovedMarks
+pub mod OneSlot

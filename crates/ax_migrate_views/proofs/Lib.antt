@@ -1,4 +1,6 @@
 pub mod BareSame
+pub mod LaidBits
 pub mod MovedCanon
 pub mod MovedMarks
 pub mod OneSlot
+pub mod Slots

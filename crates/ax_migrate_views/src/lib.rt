@@ -2,5 +2,9 @@
 #![tactic(auto)]
 
 mod laws;
+mod laying;
+mod marks;
+mod values;
+mod whole;
 
 pub use laws::moves_spell_the_migrated_record;

@@ -1,4 +1,5 @@
 pub mod BareSame
+pub mod Entries
 pub mod LaidBits
 pub mod MovedCanon
 pub mod MovedMarks

@@ -1,5 +1,6 @@
 -- The set of the new slots of the entries that move has the marks of the moved entries.
-use Rattle.std.proofs.Common.{◌≡◌, ℕ, zero, suc, ◌+◌, ◌-◌, ◌<◌, ◌≤◌, ◌⊎◌, inl, inr, cond, IsTrue, List, [], ◌∷◌, ◌++◌, length, take, drop, set, Option, Some, None, option_map, refl, sym, ◌∙◌, ap, arith, subst, append_assoc, append-nil}
+use Rattle.std.proofs.Common.{◌≡◌, ℕ, zero, suc, ◌+◌, ◌-◌, ◌<◌, ◌≤◌, ◌⊎◌, inl, inr, cond, nat_lt, IsTrue, List, [], ◌∷◌, ◌++◌, length, take, drop, set, Option, Some, None, option_map, refl, sym, ◌∙◌, ap, arith, subst, append_assoc, append-nil}
+use Rattle.std.proofs.lemmas.Bool.{lt-ltb}
 use Rattle.std.proofs.lemmas.List.{take_more_set, drop-set-lt, length-set, length-replicate}
 use Rattle.ax_edition.specs.Index.{slot_below}
 use Rattle.ax_edition.specs.Moves.{MoveTree, moves_from, move_where, moves_below, moves_of}
@@ -29,9 +30,9 @@ slot_marked : (t : ℕ) (name : List ℕ) (l : KindTree) (ts : SlotsTree) (v : V
 slot_marked t name l ts v es = ap (λ b. cond b (1 ∷ marks_of (t + 1) ts es) (0 ∷ marks_of (t + 1) ts (entry_and t v es))) (equal t t refl)
 
 -- the set with a slot
-set_with : (t : ℕ) (marks : List ℕ) → 1 ≤ t → with_slot t marks ≡ set marks (t - 1) 1
-set_with zero marks le = absurd (omega arith)
-set_with (suc i) marks le = ap (λ n. set marks n 1) (let e : i ≡ suc i - 1 = omega arith in e)
+set_with : (t : ℕ) (marks : List ℕ) → 1 ≤ t → t ≤ 126 → with_slot t marks ≡ set marks (t - 1) 1
+set_with t marks some few =
+    ap (λ b. cond b (cond (nat_lt t 127) (set marks (t - 1) 1) marks) marks) (lt-ltb 0 t (omega arith)) ∙ ap (λ b. cond b (set marks (t - 1) 1) marks) (lt-ltb t 127 (omega arith))
 
 one_zero : (n : ℕ) (ms : List ℕ) → IsTrue (none_marked (drop n ms)) → n < length ms → take (suc n) ms ≡ take n ms ++ 0 ∷ []
 one_zero n [] h lt = absurd (omega arith)
@@ -62,17 +63,17 @@ marks t n before later made some few size m =
     let j : t + 1 - 1 ≡ t - 1 + 1 = omega arith in record {
       size = m.size;
       front = ap (λ k. take k made) i ∙ m.front
-          ∙ ap (λ x. x ++ later) ((λ p. take (j p) (set_with t before some p)) ∙ take_more_set before (t - 1) 1 (omega (arith, size)))
+          ∙ ap (λ x. x ++ later) ((λ p. take (j p) (set_with t before some few p)) ∙ take_more_set before (t - 1) 1 (omega (arith, size)))
           ∙ append_assoc (take (t - 1) before) (1 ∷ []) later;
       behind = subst (λ k. IsTrue (none_marked (drop k made))) (sym i) m.behind;
     }
 
-with_size : (t : ℕ) (before : List ℕ) → 1 ≤ t → length before ≡ 126 → length (with_slot t before) ≡ 126
-with_size t before some size = ap length (set_with t before some) ∙ length-set before (t - 1) 1 ∙ size
+with_size : (t : ℕ) (before : List ℕ) → 1 ≤ t → t ≤ 126 → length before ≡ 126 → length (with_slot t before) ≡ 126
+with_size t before some few size = ap length (set_with t before some few) ∙ length-set before (t - 1) 1 ∙ size
 
-with_behind : (t : ℕ) (before : List ℕ) → 1 ≤ t → IsTrue (none_marked (drop (t - 1) before)) → IsTrue (none_marked (drop (t + 1 - 1) (with_slot t before)))
-with_behind t before some none =
-    ap (λ x. none_marked (drop (t + 1 - 1) x)) (set_with t before some) ∙ ap none_marked (drop-set-lt (t + 1 - 1) before (t - 1) 1 (omega arith)) ∙ none_further (t - 1) (t + 1 - 1) before (omega arith) none
+with_behind : (t : ℕ) (before : List ℕ) → 1 ≤ t → t ≤ 126 → IsTrue (none_marked (drop (t - 1) before)) → IsTrue (none_marked (drop (t + 1 - 1) (with_slot t before)))
+with_behind t before some few none =
+    ap (λ x. none_marked (drop (t + 1 - 1) x)) (set_with t before some few) ∙ ap none_marked (drop-set-lt (t + 1 - 1) before (t - 1) 1 (omega arith)) ∙ none_further (t - 1) (t + 1 - 1) before (omega arith) none
 
 pub moves_mark : (t : ℕ) (ts ss : SlotsTree) (es : EntriesTree) (before : List ℕ) → EntriesShape 1 ss es → 1 ≤ t → t - 1 + slot_count ts ≤ 126 → length before ≡ 126 → IsTrue (none_marked (drop (t - 1) before))
     → Marked t (slot_count ts) before (marks_of t ts (moved_entries t ts ss es)) (marks_by (moves_from (moves_of t ts (λ name. slot_below name (compound ss)))) es before)
@@ -110,7 +111,7 @@ moves_mark t (slot_and (subitem name l) ts) ss es before h some few size none =
 
     a_value : Later → (v : ValueTree) → Goal (Some v) (later (with_slot t before))
     a_value g v = subst (λ x. Marked t (suc (slot_count ts)) before x (later (with_slot t before))) (sym (slot_marked t name l ts v rest))
-        (marks t (slot_count ts) before (marks_of (t + 1) ts rest) (later (with_slot t before)) some (omega arith) size (g (with_slot t before) (with_size t before some size) (with_behind t before some none)))
+        (marks t (slot_count ts) before (marks_of (t + 1) ts rest) (later (with_slot t before)) some (omega arith) size (g (with_slot t before) (with_size t before some (omega arith) size) (with_behind t before some (omega arith) none)))
 
     by_value : Later → (k : KindTree) (o : Option ValueTree) → Goal (option_map (moved l k) o) (later (with_slot_where o t before))
     by_value g k None = no_value g

@@ -1,7 +1,7 @@
 -- The canonical octets of a migrated value, of the old value as it stands: by the moves from the old slots to the new ones,
 -- without the migrated value itself.
-use Rattle.std.specs.Prelude.{ℕ, zero, suc, ◌-◌, List, [], ◌++◌, set, Option, Some, None}
-use Rattle.ax_edition.specs.Moves.{move_from, MovesTree, no_moves, move_and}
+use Rattle.std.specs.Prelude.{ℕ, ◌-◌, nat_lt, if◌then◌else◌, List, [], ◌++◌, set, Option, Some, None}
+use Rattle.ax_edition.specs.Moves.{MoveTree, move_from, MovesTree, no_moves, move_and}
 use Rattle.ax_fspec.specs.Fields.{least_field}
 use Rattle.ax_fspec.specs.Marks.{no_marks}
 use Rattle.ax_model.specs.At.{slot_value}
@@ -11,10 +11,9 @@ use Rattle.ax_model.specs.Tree.{KindTree, compound, SlotsTree, ValueTree, marked
 
 -- ---- presence fields
 
--- the set with that slot, which counts from 1
+-- the set with that slot, if it is one from 1 to 126
 abbrev pub with_slot : ℕ → List ℕ → List ℕ
-with_slot zero marks = marks
-with_slot (suc i) marks = set marks i 1
+with_slot t marks = if nat_lt 0 t then (if nat_lt t 127 then set marks (t - 1) 1 else marks) else marks
 
 abbrev pub with_slot_where : Option ValueTree → ℕ → List ℕ → List ℕ
 with_slot_where None t marks = marks
@@ -50,3 +49,10 @@ entries_canon_by (move_and (move_from s t below) ms) ss es =
 -- a value of an old kind as it moves
 abbrev pub canon_by : MovesTree → KindTree → ValueTree → List ℕ
 canon_by ms k v = compound_canon (field_by ms) (entries_canon_by ms) k v
+
+-- the entry that a move makes, if there is one
+abbrev pub move_canon : MoveTree → SlotsTree → EntriesTree → List ℕ
+move_canon (move_from s t below) ss es = spelled_where (kind_behind (s - 1) ss) (slot_value s es) (canon_by below)
+
+abbrev pub move_marks : MoveTree → EntriesTree → List ℕ → List ℕ
+move_marks (move_from s t below) es marks = with_slot_where (slot_value s es) t marks

@@ -1,11 +1,9 @@
 //! Migrated values, laid from those of the old edition.
-ghost use Rattle.std.specs.Prelude.{◌≡◌, ◌-◌, ◌++◌, false, length};
-ghost use Rattle.ax_edition.specs.PlainMoves.{moves_tree};
+ghost use Rattle.std.specs.Prelude.{◌≡◌, ◌++◌, false, length};
+ghost use Rattle.ax_edition.specs.PlainMoves.{move_tree, moves_tree};
 ghost use Rattle.ax_migrate_views.specs.Laying.{Lays};
-ghost use Rattle.ax_migrate_views.specs.Octets.{canon_by, compound_canon, entries_canon_by, field_by, spelled_where};
+ghost use Rattle.ax_migrate_views.specs.Octets.{canon_by, entries_canon_by, field_by, move_canon};
 ghost use Rattle.ax_migrate_views.specs.Wholes.{whole_codec, whole_entries, whole_slots};
-ghost use Rattle.ax_model.specs.At.{slot_value};
-ghost use Rattle.ax_model.specs.Lengths.{kind_behind};
 ghost use Rattle.ax_view.specs.Shown.{item_kind, item_value};
 
 use crate::laying::{lay_field, lay_item};
@@ -66,7 +64,7 @@ fn lay_entry(
 ) -> u32
     requires codec { whole_codec whole.now ≡ codec.now }
     requires room { length output.old ≡ 131067 }
-    ensures laid { Lays (spelled_where (kind_behind (one.now.old - 1) (whole_slots whole.now)) (slot_value one.now.old (whole_entries whole.now)) (canon_by (moves_tree one.now.below))) at result output.old output.new }
+    ensures laid { Lays (move_canon (move_tree one.now) (whole_slots whole.now) (whole_entries whole.now)) at result output.old output.new }
     ensures room { length output.new ≡ 131067 }
 {
     match whole.item(one.old) {

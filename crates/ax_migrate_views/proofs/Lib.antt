@@ -1,4 +1,5 @@
 pub mod BareSame
+pub mod BodySteps
 pub mod Entries
 pub mod LaidBits
 pub mod MovedCanon

@@ -1,6 +1,7 @@
 //! Migration of data blocks over views, without memory for a block.
 #![tactic(auto)]
 
+mod bodies;
 mod laws;
 mod laying;
 mod marks;

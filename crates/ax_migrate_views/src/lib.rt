@@ -5,7 +5,9 @@ mod bodies;
 mod laws;
 mod laying;
 mod marks;
+mod migrator;
 mod values;
 mod whole;
 
+pub use migrator::Migrator;
 pub use laws::moves_spell_the_migrated_record;

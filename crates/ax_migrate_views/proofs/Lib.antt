@@ -2,6 +2,7 @@ pub mod BareSame
 pub mod BodySteps
 pub mod Entries
 pub mod LaidBits
+pub mod LossSteps
 pub mod MigratedBlocks
 pub mod MovedCanon
 pub mod MovedMarks

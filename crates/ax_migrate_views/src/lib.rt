@@ -4,6 +4,7 @@
 mod bodies;
 mod laws;
 mod laying;
+mod losses;
 mod marks;
 mod migrator;
 mod values;

@@ -8,3 +8,4 @@ pub mod MovedCanon
 pub mod MovedMarks
 pub mod OneSlot
 pub mod Slots
+pub mod ToldLosses

@@ -2,12 +2,16 @@
 ghost use Rattle.std.specs.Prelude.{◌≡◌, ◌≤◌, length};
 ghost use Rattle.ax_edition.specs.Relates.{Relates};
 ghost use Rattle.ax_migrate_views.specs.Blocks.{IsOfEditions, LaysMigrated, new_tree, old_tree, with_head};
+ghost use Rattle.ax_migrate_views.specs.Losses.{WritesLosses};
 ghost use Rattle.ax_model.specs.Plain.{spec_tree};
+ghost use Rattle.ax_outside.specs.Changes.{sink_change};
 ghost use Rattle.ax_tables.specs.Standing.{IsCompiled};
 
 use crate::bodies::lay_body;
+use crate::losses::lose_records;
 use ax_edition::Relation;
 use ax_model::Spec;
+use ax_outside::{Sink, SinkFailed};
 use ax_tables::Codec;
 use ax_view::BlockView;
 
@@ -73,5 +77,21 @@ impl<'c> Migrator<'c> {
         let count = lay_body(self.codec, view.octets(), self.relation.moves(), 3, output);
         write_head(self.codec.category(), count, output);
         count
+    }
+
+    /// Writes the line `lost block N record M PATH` of each path that a record of a view loses, by record and, in a record, in
+    /// the order of the paths of the old edition; the block has the number N. At `SinkFailed` a prefix of the lines was added,
+    /// not all of them, and the report counted a fault.
+    pub fn write_losses<R: Sink>(
+        &self,
+        report: &mut R,
+        block: u64,
+        view: &BlockView<'_, '_>,
+    ) -> Result<(), SinkFailed>
+        requires editions { IsOfEditions self.now }
+        requires view { view.now.codec.now ≡ self.now.codec.now }
+        ensures { WritesLosses self.now view.now.body.now block (sink_change R.Sink report.old report.new) result }
+    {
+        lose_records(report, block, self.relation.paths(), &mut view.records())
     }
 }

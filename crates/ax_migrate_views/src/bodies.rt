@@ -30,13 +30,7 @@ fn lay_record(
 }
 
 /// Lays the records of a body as they move, and answers how many octets were laid.
-pub(crate) fn lay_body(
-    codec: &Codec,
-    body: &[u8],
-    moves: &Moves,
-    at: u32,
-    output: &mut [u8],
-) -> u32
+pub(crate) fn lay_body(codec: &Codec, body: &[u8], moves: &Moves, at: u32, output: &mut [u8]) -> u32
     requires body { length body.now ≤ 65532 }
     requires room { length output.old ≡ 131067 }
     ensures laid { LaysBody codec.now moves.now body.now at result output.old output.new }

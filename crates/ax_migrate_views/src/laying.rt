@@ -51,12 +51,7 @@ pub(crate) fn lay_field(marked: &Presence, at: u32, output: &mut [u8]) -> u32
 }
 
 /// Lays the canonical spelling of an item's value after `at` octets, and answers how many octets were laid.
-pub(crate) fn lay_item(
-    codec: &Codec,
-    item: &ItemView<'_, '_>,
-    at: u32,
-    output: &mut [u8],
-) -> u32
+pub(crate) fn lay_item(codec: &Codec, item: &ItemView<'_, '_>, at: u32, output: &mut [u8]) -> u32
     requires codec { item.now.codec.now ≡ codec.now }
     requires whole { item.now.by_fx ≡ false }
     requires room { length output.old ≡ 131067 }

@@ -10,5 +10,5 @@ mod migrator;
 mod values;
 mod whole;
 
-pub use migrator::Migrator;
 pub use laws::moves_spell_the_migrated_record;
+pub use migrator::Migrator;

@@ -2,6 +2,7 @@
 #![tactic(auto)]
 
 mod bodies;
+mod examples;
 mod laws;
 mod laying;
 mod losses;
@@ -10,5 +11,6 @@ mod migrator;
 mod values;
 mod whole;
 
+pub use examples::{octets_by_moves, slots_of_a_set};
 pub use laws::moves_spell_the_migrated_record;
 pub use migrator::Migrator;

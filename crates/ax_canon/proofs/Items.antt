@@ -1,5 +1,5 @@
 -- The canonical spelling of an item's value, from its octets.
-use Rattle.std.proofs.Common.{◌≡◌, ℕ, ◌+◌, ◌-◌, ◌*◌, ◌<◌, ◌≤◌, ◌⊎◌, inl, inr, Bool, false, List, length, drop, get_or, refl, sym, ◌∙◌, ap, arith, subst}
+use Rattle.std.proofs.Common.{◌≡◌, ℕ, ◌-◌, ◌<◌, ◌≤◌, ◌⊎◌, inl, inr, false, List, length, get_or, refl, sym, ◌∙◌, ap, arith, subst}
 use Rattle.ax_bits.specs.Bits.{bits}
 use Rattle.ax_bits.specs.Out.{Appends}
 use Rattle.ax_bits.specs.declared.output.Out.{Out}
@@ -7,7 +7,7 @@ use Rattle.ax_canon.specs.Rewriting.{Rewrites}
 use Rattle.ax_fspec.specs.declared.mask.SlotMask.{SlotMask}
 use Rattle.ax_model.specs.Canonical.{canon}
 use Rattle.ax_model.specs.InBounds.{InBounds}
-use Rattle.ax_model.specs.Reader.{Read, got, failed, read}
+use Rattle.ax_model.specs.Reader.{read}
 use Rattle.ax_model.specs.Tree.{KindTree, counted, ValueTree}
 use Rattle.ax_model.specs.declared.fault.BodyFault.{BodyFault}
 use Rattle.ax_reader.specs.Reading.{Gets, FailsAt, IsMaskOf, kind_read}

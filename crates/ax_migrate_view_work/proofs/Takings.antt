@@ -1,5 +1,5 @@
 -- What `migrate` over views does with one block.
-use Rattle.std.proofs.Common.{◌≡◌, ℕ, ◌+◌, ◌<◌, ◌≤◌, ◌==◌, Bool, true, false, cond, List, [], ◌∷◌, ◌++◌, Option, Some, None, length, take, refl, sym, ◌∙◌, ap, subst, arith, Result, Ok, Err}
+use Rattle.std.proofs.Common.{◌≡◌, ℕ, ◌<◌, ◌≤◌, ◌==◌, Bool, true, false, cond, List, [], ◌∷◌, ◌++◌, Option, Some, None, length, take, refl, sym, ◌∙◌, ap, subst, arith, Ok, Err}
 use Rattle.std.proofs.lemmas.Bool.{eqb-true}
 use Rattle.std.proofs.lemmas.List.{take-append-le, take-take}
 use Rattle.ax_bits.specs.Bits.{bits}
@@ -14,7 +14,7 @@ use Rattle.ax_migrate_work.proofs.Answering.{given, refused}
 use Rattle.ax_migrate_work.specs.Commands.{migrate_command}
 use Rattle.ax_model.proofs.CanonFramed.{length-framed}
 use Rattle.ax_model.specs.Blocks.{BlockTree, read_block, opaque_block}
-use Rattle.ax_model.specs.Bodies.{SpellsBody, FailsBody}
+use Rattle.ax_model.specs.Bodies.{SpellsBody}
 use Rattle.ax_model.specs.CanonicalOctets.{canon_block, canon_length, framed}
 use Rattle.ax_model.specs.Ends.{RawSpells}
 use Rattle.ax_model.specs.Framing.{RawTree}
@@ -23,13 +23,12 @@ use Rattle.ax_model.specs.Tree.{EntriesTree}
 use Rattle.ax_model.specs.declared.fault.BodyFault.{BodyFault}
 use Rattle.ax_outside.proofs.Ends.{with_end-nil}
 use Rattle.ax_outside.proofs.Pieces.{change}
-use Rattle.ax_outside.specs.Changes.{SinkChange, Wrote}
 use Rattle.ax_outside.specs.declared.sinks.SinkFailed.{SinkFailed}
 use Rattle.ax_stream.proofs.BlockSteps.{short_fault}
 use Rattle.ax_stream.proofs.OpaqueBlocks.{raw_framed}
 use Rattle.ax_stream.specs.Commands.{gives, too_long}
 use Rattle.ax_stream.specs.Taking.{Takes, GivesFor}
-use Rattle.ax_stream.specs.declared.work.WorkStop.TheVariants.{Fault, TooLong, ReportFault, OutOfMemory}
+use Rattle.ax_stream.specs.declared.work.WorkStop.TheVariants.{Fault, TooLong, ReportFault}
 use Rattle.ax_view.specs.Views.{SpellsSome, FailsThere}
 
 -- ---- the category

@@ -1,5 +1,5 @@
 -- What becomes of a block, where its octets are laid at the front of an output.
-use Rattle.std.specs.Prelude.{◌≡◌, ℕ, ◌≤◌, List, take, Result, Ok, Err}
+use Rattle.std.specs.Prelude.{◌≡◌, ℕ, ◌≤◌, List, take, Ok, Err}
 use Rattle.ax_migrate_views.specs.Blocks.{old_tree, new_tree}
 use Rattle.ax_migrate_views.specs.declared.migrator.Migrator.{Migrator}
 use Rattle.ax_migrate_work.specs.Commands.{migrate_command}

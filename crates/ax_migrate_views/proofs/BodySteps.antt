@@ -1,5 +1,5 @@
 -- Records laid one after the other.
-use Rattle.std.proofs.Common.{◌≡◌, ℕ, ◌+◌, ◌-◌, ◌*◌, ◌<◌, ◌≤◌, false, List, [], ◌∷◌, ◌++◌, length, take, drop, flat_map, refl, sym, ◌∙◌, ap, arith, subst, append_assoc, append-nil, take-append-drop, take-add, length-drop, length-append}
+use Rattle.std.proofs.Common.{◌≡◌, ℕ, ◌+◌, ◌-◌, ◌<◌, ◌≤◌, false, List, [], ◌∷◌, ◌++◌, length, take, drop, refl, sym, ◌∙◌, ap, arith, subst, append_assoc, append-nil, take-append-drop, take-add, length-drop}
 use Rattle.std.proofs.lemmas.List.{length-take-le, take_all}
 use Rattle.ax_bits.proofs.Words.{bits-append, length-bits}
 use Rattle.ax_bits.specs.Bits.{bits}
@@ -17,10 +17,10 @@ use Rattle.ax_model.specs.Bodies.{RecordsSpell, SpellsBody, FailsBody}
 use Rattle.ax_model.specs.Flaws.{NoFlaw}
 use Rattle.ax_model.specs.InBounds.{InBounds}
 use Rattle.ax_model.specs.Specification.{SpecTree, record_kind, record_slots}
-use Rattle.ax_model.specs.Tree.{EntriesTree, ValueTree, marked}
+use Rattle.ax_model.specs.Tree.{EntriesTree, marked}
 use Rattle.ax_model.specs.declared.fault.BodyFault.{BodyFault}
 use Rattle.ax_reader.proofs.Exact.{spelled_at, fault_at}
-use Rattle.ax_reader.specs.Reading.{Gets, FailsAt, kind_read}
+use Rattle.ax_reader.specs.Reading.{FailsAt, kind_read}
 use Rattle.ax_tables.proofs.BareKinds.{stands_record}
 use Rattle.ax_tables.specs.Bare.{bare_kind}
 use Rattle.ax_tables.specs.Standing.{StandsFor}

@@ -1,6 +1,6 @@
 -- Bits laid one after another.
-use Rattle.std.proofs.Common.{◌≡◌, ℕ, zero, suc, ◌+◌, ◌-◌, ◌*◌, ◌/◌, ◌%◌, ◌<◌, ◌≤◌, min, Bool, true, false, cond, List, [], ◌∷◌, ◌++◌, length, take, drop, refl, sym, ◌∙◌, ap, arith, subst, length-append, append_assoc, append-nil, length-take-le, length-take}
-use Rattle.std.proofs.lemmas.List.{take_at, take-append-le}
+use Rattle.std.proofs.Common.{◌≡◌, ℕ, zero, suc, ◌+◌, ◌-◌, ◌*◌, ◌/◌, ◌%◌, ◌≤◌, min, Bool, true, false, cond, List, [], ◌∷◌, ◌++◌, length, take, sym, ◌∙◌, ap, arith, subst, length-append, append_assoc, append-nil, length-take-le, length-take}
+use Rattle.std.proofs.lemmas.List.{take-append-le}
 use Rattle.std.proofs.Math.Seq.{take-append-add}
 use Rattle.ax_bits.proofs.Outputs.{length-written}
 use Rattle.ax_bits.proofs.Pieces.{take-bits}
@@ -11,7 +11,7 @@ use Rattle.ax_bits.specs.declared.output.Out.{Out}
 use Rattle.ax_fspec.specs.Fields.{least_field}
 use Rattle.ax_migrate_views.specs.Laying.{Begins, Lays}
 use Rattle.ax_model.proofs.Bounds.{bounds_sound, bounds_whole}
-use Rattle.ax_model.proofs.CanonSpells.{canon_spells, canon_shortest, spells_shape}
+use Rattle.ax_model.proofs.CanonSpells.{canon_spells, spells_shape}
 use Rattle.ax_model.proofs.WholeOctets.{spells_whole}
 use Rattle.ax_model.specs.Canonical.{canon}
 use Rattle.ax_model.specs.InBounds.{InBounds}

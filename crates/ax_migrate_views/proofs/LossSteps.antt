@@ -1,5 +1,5 @@
 -- Lines of losses, written one after another.
-use Rattle.std.proofs.Common.{◌≡◌, ℕ, zero, suc, ◌+◌, ◌&&◌, cond, Bool, true, false, is_none, ◌<◌, ◌≤◌, List, [], ◌∷◌, ◌++◌, flat_map, length, take, drop, length-drop, get_or, map, Option, Some, None, is_some, option_and_then, option_map, refl, sym, ◌∙◌, ap, arith, subst, append_assoc, append-nil, Result, Ok, Err, IsErr}
+use Rattle.std.proofs.Common.{◌≡◌, ℕ, zero, suc, ◌+◌, ◌&&◌, cond, Bool, true, false, is_none, ◌<◌, ◌≤◌, List, [], ◌∷◌, ◌++◌, length, take, drop, length-drop, get_or, Option, option_and_then, refl, sym, ◌∙◌, ap, arith, subst, append_assoc, append-nil, Result, Ok, Err, IsErr}
 use Rattle.std.proofs.lemmas.List.{drop_all, length-map, length-take-le}
 use Rattle.std.proofs.lemmas.List.Concat.{flat_map-append}
 use Rattle.ax_bits.proofs.Words.{length-bits}
@@ -14,7 +14,7 @@ use Rattle.ax_model.proofs.Namings.{from_place}
 use Rattle.ax_model.specs.At.{slot_value}
 use Rattle.ax_model.specs.InBounds.{InBounds}
 use Rattle.ax_model.specs.Spelling.{Spells}
-use Rattle.ax_model.specs.Tree.{slots_of, KindTree, ValueTree, marked, EntriesTree, no_entries}
+use Rattle.ax_model.specs.Tree.{slots_of, KindTree, ValueTree, marked, EntriesTree}
 use Rattle.ax_outside.proofs.Pieces.{change, written_then, failed_before, same_text, nothing_written}
 use Rattle.ax_outside.specs.Changes.{Wrote}
 use Rattle.ax_outside.specs.declared.sinks.SinkFailed.{SinkFailed}

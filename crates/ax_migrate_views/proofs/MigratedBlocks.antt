@@ -1,9 +1,9 @@
 -- A migrated block, from its head and the bits of its records.
-use Rattle.std.proofs.Common.{◌≡◌, ℕ, zero, suc, ◌+◌, ◌-◌, ◌*◌, ◌/◌, ◌%◌, ◌^◌, ◌<◌, ◌≤◌, min, List, [], ◌∷◌, ◌++◌, length, take, drop, set, get_or, map, refl, sym, ◌∙◌, ap, arith, subst, append_assoc, append-nil, length-append, length-take-le}
+use Rattle.std.proofs.Common.{◌≡◌, ℕ, zero, suc, ◌+◌, ◌*◌, ◌/◌, ◌%◌, ◌^◌, ◌<◌, ◌≤◌, List, [], ◌∷◌, ◌++◌, length, take, drop, get_or, map, refl, sym, ◌∙◌, ap, arith, subst, append_assoc, length-take-le}
 use Rattle.std.proofs.lemmas.List.{drop_at}
 use Rattle.std.specs.List.{AllByRecursion}
 use Rattle.ax_bits.proofs.Pieces.{word-split, word-low, bits-injective, AreOctets-items, take-bits, drop-bits}
-use Rattle.ax_bits.proofs.Words.{bits-append, length-bits}
+use Rattle.ax_bits.proofs.Words.{length-bits}
 use Rattle.ax_bits.specs.Bits.{bits, word, AreBits, AreOctets}
 use Rattle.ax_canon.proofs.Framing.{framed_bits, octets_long}
 use Rattle.ax_canon.proofs.Patching.{body_shape}
@@ -19,12 +19,12 @@ use Rattle.ax_migrate_views.specs.Blocks.{with_head, old_tree, new_tree, IsOfEdi
 use Rattle.ax_migrate_views.specs.Bodies.{body_by, LaysBody}
 use Rattle.ax_migrate_views.specs.Laying.{Lays}
 use Rattle.ax_migrate_views.specs.declared.migrator.Migrator.{Migrator}
-use Rattle.ax_model.proofs.CanonFramed.{bits-octets_of, length-framed}
+use Rattle.ax_model.proofs.CanonFramed.{length-framed}
 use Rattle.ax_model.proofs.RecordLaws.{flawless_body_canon_spells, body_canon_shortest}
 use Rattle.ax_model.proofs.SpelledBits.{records_bits}
 use Rattle.ax_model.specs.Blocks.{BlockTree, read_block, Fits}
-use Rattle.ax_model.specs.Bodies.{RecordShape, SpellsBody, CanonBody, CanonRecord}
-use Rattle.ax_model.specs.CanonicalOctets.{canon_block, canon_length, octets_of, framed}
+use Rattle.ax_model.specs.Bodies.{RecordShape, SpellsBody, CanonBody}
+use Rattle.ax_model.specs.CanonicalOctets.{canon_length, octets_of, framed}
 use Rattle.ax_model.specs.Flaws.{NoFlaw}
 use Rattle.ax_model.specs.Specification.{SpecTree}
 use Rattle.ax_model.specs.Tree.{EntriesTree}

@@ -1,13 +1,11 @@
 -- What stands in the slots of a record or a compound.
-use Rattle.std.proofs.Common.{◌≡◌, ℕ, zero, suc, ◌+◌, ◌-◌, ◌<◌, ◌≤◌, Bool, false, List, [], ◌∷◌, length, map, get_or, Option, Some, None, IfSome, refl, sym, ◌∙◌, ap, arith, subst}
-use Rattle.ax_migrate_views.specs.Wholes.{slots_in, whole_slots, IsInSlot}
+use Rattle.std.proofs.Common.{◌≡◌, ℕ, zero, suc, ◌-◌, ◌<◌, List, [], ◌∷◌, length, map, get_or, Option, Some, None, IfSome, refl, sym, ◌∙◌, ap, arith}
+use Rattle.ax_migrate_views.specs.Wholes.{slots_in, IsInSlot}
 use Rattle.ax_migrate_views.specs.declared.whole.Whole.TheVariants.{Record, Compound}
 use Rattle.ax_model.specs.Lengths.{kind_behind}
-use Rattle.ax_model.specs.Tree.{KindTree, compound, slots_of}
-use Rattle.ax_fspec.specs.declared.mask.SlotMask.{SlotMask}
-use Rattle.ax_tables.specs.Meaning.{Meaning, nothing, kind_of, linked, linked_slot, meanings}
+use Rattle.ax_model.specs.Tree.{slots_of}
+use Rattle.ax_tables.specs.Meaning.{Meaning, kind_of, linked, linked_slot, meanings}
 use Rattle.ax_tables.specs.Table.{kind_at, record_kind_at}
-use Rattle.ax_tables.specs.declared.codec.Codec.{Codec}
 use Rattle.ax_tables.specs.declared.node.Node.{Node}
 use Rattle.ax_tables.specs.declared.node.Node.TheVariants as Of
 use Rattle.ax_view.proofs.NodeKinds.{is_compound}

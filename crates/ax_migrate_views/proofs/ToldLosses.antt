@@ -12,7 +12,6 @@ use Rattle.ax_migrate_views.specs.Blocks.{old_tree, new_tree, IsOfEditions}
 use Rattle.ax_migrate_views.specs.Losses.{shown_entries, shown_losses, WritesLosses}
 use Rattle.ax_migrate_views.specs.declared.migrator.Migrator.{Migrator}
 use Rattle.ax_model.proofs.Spelled.{read_spelled}
-use Rattle.ax_model.specs.Flaws.{NoFlaw}
 use Rattle.ax_model.specs.Migrated.{Lost}
 use Rattle.ax_model.specs.Reader.{read, got}
 use Rattle.ax_model.specs.Specification.{SpecTree, record_kind}

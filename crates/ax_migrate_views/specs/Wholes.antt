@@ -3,10 +3,10 @@ use Rattle.std.specs.Prelude.{◌≡◌, ℕ, ◌-◌, false, Some}
 use Rattle.ax_migrate_views.specs.declared.whole.Whole.{Whole}
 use Rattle.ax_migrate_views.specs.declared.whole.Whole.TheVariants.{Record, Compound}
 use Rattle.ax_model.specs.Lengths.{kind_behind}
-use Rattle.ax_model.specs.Tree.{KindTree, fixed, extended, counted, by_fx, explicit, compound, SlotsTree, no_slots, ValueTree, EntriesTree}
+use Rattle.ax_model.specs.Tree.{KindTree, compound, SlotsTree, no_slots, ValueTree, EntriesTree}
 use Rattle.ax_tables.specs.Table.{record_kind_at}
 use Rattle.ax_tables.specs.declared.codec.Codec.{Codec}
-use Rattle.ax_view.specs.Shown.{item_kind, item_value, record_entries}
+use Rattle.ax_view.specs.Shown.{item_kind, item_value}
 use Rattle.ax_view.specs.Values.{value_in, entries_in}
 use Rattle.ax_view.specs.declared.item.ItemView.{ItemView}
 

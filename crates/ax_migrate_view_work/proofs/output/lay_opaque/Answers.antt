@@ -1,6 +1,4 @@
-use Rattle.std.proofs.Common.{◌+◌, ◌*◌, ◌≡◌, length, take, arith, subst}
-use Rattle.ax_bits.specs.Bits.{bits}
-use Rattle.ax_model.specs.CanonicalOctets.{framed}
+use Rattle.std.proofs.Common.{◌+◌, length, arith}
 use Rattle.ax_view_work.proofs.LaidOctets.{opaque_octets}
 use Rattle.ax_migrate_view_work.proofs.output.lay_opaque.Goals as goal
 

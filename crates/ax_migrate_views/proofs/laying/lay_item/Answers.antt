@@ -1,5 +1,4 @@
 use Rattle.std.proofs.Common.{arith}
-use Rattle.ax_fspec.specs.Fields.{least_field}
 use Rattle.ax_migrate_views.proofs.LaidBits.{lays_at}
 use Rattle.ax_model.specs.Canonical.{canon}
 use Rattle.ax_view.specs.Shown.{item_kind, item_value}

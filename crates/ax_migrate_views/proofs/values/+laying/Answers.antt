@@ -1,4 +1,4 @@
-use Rattle.std.proofs.Common.{◌≡◌, ◌++◌, [], arith, ap, sym, subst, refl, length, get_or, ◌∙◌, option_map}
+use Rattle.std.proofs.Common.{◌++◌, arith, ap, sym, subst, refl, length, get_or, ◌∙◌, option_map}
 use Rattle.ax_edition.specs.PlainMoves.{move_tree, moves_tree}
 use Rattle.ax_fspec.specs.Fields.{least_field}
 use Rattle.ax_migrate_views.proofs.Entries.{none_laid, one_laid, all_laid, nothing_moves, nothing_laid, compound_canon_by, leaf_canon_by}

@@ -1,6 +1,6 @@
-use Rattle.std.proofs.Common.{◌≡◌, ◌≤◌, length, arith, ap, subst, sym, ◌∙◌}
+use Rattle.std.proofs.Common.{◌≤◌, length, arith, ap, subst, ◌∙◌}
 use Rattle.ax_migrate_views.proofs.MigratedBlocks.{migrated_laid}
-use Rattle.ax_migrate_views.specs.Blocks.{LaysMigrated, with_head}
+use Rattle.ax_migrate_views.specs.Blocks.{with_head}
 use Rattle.ax_migrate_views.specs.Bodies.{LaysBody}
 use Rattle.ax_migrate_views.proofs.migrator.Migrator.lay.Goals as goal
 

@@ -91,7 +91,13 @@ fn copy(nodes: &[Node], link: u32, body: &[u8], at: u32, out: &mut Out<'_>) -> u
 
 /// Appends the canonical spelling of a counted item.
 #[cycle(rewrite)]
-fn rewrite_counted(nodes: &[Node], inner: u32, body: &[u8], at: u32, out: &mut Out<'_>) -> u32
+pub(crate) fn rewrite_counted(
+    nodes: &[Node],
+    inner: u32,
+    body: &[u8],
+    at: u32,
+    out: &mut Out<'_>,
+) -> u32
     requires table { IsTable nodes.now }
     requires link { (0 < inner) × (inner ≤ length nodes.now) }
     requires bounds { InBounds (kind_at nodes.now inner) }
@@ -114,7 +120,7 @@ fn rewrite_counted(nodes: &[Node], inner: u32, body: &[u8], at: u32, out: &mut O
 
 /// Appends the canonical spelling of a compound, or a record, of these slots.
 #[cycle(rewrite)]
-fn rewrite_compound(
+pub(crate) fn rewrite_compound(
     nodes: &[Node],
     mask: &SlotMask,
     slots: &[u32],

@@ -1,0 +1,30 @@
+//! Canonical spellings of single values.
+ghost use Rattle.std.specs.Prelude.{◌≡◌, ◌*◌, ◌≤◌, false, length};
+ghost use Rattle.ax_bits.specs.Out.{room, Appends};
+ghost use Rattle.ax_model.specs.Canonical.{canon};
+ghost use Rattle.ax_view.specs.Shown.{item_kind, item_value};
+
+use crate::rewrite::{rewrite_compound, rewrite_counted};
+use ax_bits::Out;
+use ax_tables::{Codec, Node};
+use ax_view::ItemView;
+
+/// Appends the canonical spelling of the value of an item, which was found under that codec. An occurrence by FX is no such
+/// item.
+pub fn canonical_item(codec: &Codec, item: &ItemView<'_, '_>, out: &mut Out<'_>)
+    requires codec { item.now.codec.now ≡ codec.now }
+    requires whole { item.now.by_fx ≡ false }
+    requires room { 8 * length item.now.body.now ≤ room out.old }
+    ensures { Appends out.old out.new (canon (item_kind item.now) (item_value item.now)) }
+{
+    let nodes = codec.nodes.as_slice();
+    match item.node() {
+        Node::Counted { inner } => {
+            rewrite_counted(nodes, *inner, item.octets(), 0, out);
+        }
+        Node::Compound { mask, slots } => {
+            rewrite_compound(nodes, mask, slots.as_slice(), item.octets(), 0, out);
+        }
+        _ => out.push_octets(item.octets()),
+    }
+}

@@ -1,0 +1,8 @@
+//! The command `migrate` over views: it takes no memory for a block.
+#![tactic(auto)]
+
+mod block;
+mod output;
+mod work;
+
+pub use work::MigrateViews;

@@ -1,0 +1,41 @@
+//! The output, and opaque blocks laid at its front.
+ghost use Rattle.std.specs.Prelude.{◌≡◌, ◌+◌, ◌*◌, ◌≤◌, length, take, IfOk};
+ghost use Rattle.ax_bits.specs.Bits.{bits, AreOctets};
+ghost use Rattle.ax_model.specs.CanonicalOctets.{framed};
+
+use ax_bits::Out;
+use ax_model::RawBlock;
+use ax_values::write_opaque;
+use std::alloc::{AllocError, Global};
+
+/// The octets of an output: those of the longest data block, and behind it those of the longest item.
+pub(crate) const ROOM: usize = 131_067;
+
+/// So many zeros. They stand in a function of their own, so that no proof spells them out.
+pub(crate) fn zeros(alloc: Global, count: usize) -> Result<Vec<u8>, AllocError>
+    ensures { IfOk result (λ made. length made.items ≡ count) }
+{
+    vec![in alloc; 0; count]
+}
+
+/// Lays a block of another category at the front of an output, and answers its octets.
+pub(crate) fn lay_opaque(raw: &RawBlock<'_>, output: &mut [u8]) -> u32
+    requires room { length output.old ≡ 131067 }
+    ensures laid { take result output.new ≡ framed raw.now.category raw.now.body.now }
+    ensures within { result ≤ 65535 }
+    ensures room { length output.new ≡ 131067 }
+{
+    lay_opaque_bits(raw, output);
+    raw.body.len() as u32 + 3
+}
+
+/// The same, by bits.
+fn lay_opaque_bits(raw: &RawBlock<'_>, output: &mut [u8])
+    requires room { length output.old ≡ 131067 }
+    ensures laid { take (8 * (length raw.now.body.now + 3)) (bits output.new) ≡ bits (framed raw.now.category raw.now.body.now) }
+    ensures octets { AreOctets (framed raw.now.category raw.now.body.now) }
+    ensures room { length output.new ≡ 131067 }
+{
+    let mut out = Out::over(output);
+    write_opaque(raw.category, raw.body, &mut out);
+}

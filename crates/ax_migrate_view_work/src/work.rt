@@ -1,0 +1,73 @@
+//! The work of `migrate` on one block.
+ghost use Rattle.std.specs.Prelude.{◌≡◌, ◌≤◌, length, IfOk};
+ghost use Rattle.ax_migrate_views.specs.Blocks.{IsOfEditions, new_tree, old_tree};
+ghost use Rattle.ax_migrate_work.specs.Commands.{migrate_command};
+
+use crate::block::migrate_block;
+use crate::output::{ROOM, lay_opaque, zeros};
+use ax_migrate_views::Migrator;
+use ax_model::RawBlock;
+use ax_outside::Sink;
+use ax_stream::{BlockWork, WorkStop};
+use std::alloc::{AllocError, Global};
+
+/// `migrate` over views, by a migrator between the two editions. What is written stands in one output.
+#[derive(Drop)]
+pub struct MigrateViews<'c> {
+    migrator: Migrator<'c>,
+    output: Vec<u8>,
+    filled: u32,
+    ghost room: { length output.items ≡ 131067 },
+    ghost within: { filled ≤ 65535 },
+}
+
+impl<'c> MigrateViews<'c> {
+    /// `migrate` by that migrator. The output is taken here, and no memory after that.
+    pub fn new(alloc: Global, migrator: Migrator<'c>) -> Result<MigrateViews<'c>, AllocError>
+        requires { IsOfEditions migrator }
+        ensures command { IfOk result (λ work. ⟦<MigrateViews<'c> as BlockWork>⟧.command work ≡ migrate_command (old_tree migrator.entry) (new_tree migrator.entry)) }
+        ensures sound { IfOk result (λ work. ⟦<MigrateViews<'c> as BlockWork>⟧.sound work) }
+    {
+        let output = zeros(alloc, ROOM)?;
+        Ok(MigrateViews {
+            migrator,
+            output,
+            filled: 0,
+        })
+    }
+}
+
+impl<'c> BlockWork for MigrateViews<'c> {
+    ghost use Rattle.std.specs.Prelude.{take, false};
+
+    ghost command = { λ s. migrate_command (old_tree s.migrator) (new_tree s.migrator) };
+
+    ghost sound = { λ s. IsOfEditions s.migrator };
+
+    ghost laid = { λ s. take s.filled s.output.items };
+
+    ghost takes_memory = { false };
+
+    fn take<R: Sink>(
+        &mut self,
+        number: u64,
+        raw: &RawBlock<'_>,
+        report: &mut R,
+    ) -> Result<(), WorkStop> {
+        if raw.category != self.migrator.old().category() {
+            self.filled = lay_opaque(raw, &mut self.output);
+            return Ok(());
+        }
+        match migrate_block(&self.migrator, number, raw, report, &mut self.output) {
+            Ok(count) => {
+                self.filled = count;
+                Ok(())
+            }
+            Err(stop) => Err(stop),
+        }
+    }
+
+    fn octets(&self) -> &[u8] {
+        &self.output[..self.filled as usize]
+    }
+}

@@ -1,0 +1,11 @@
+pub mod BareSame
+pub mod BodySteps
+pub mod Entries
+pub mod LaidBits
+pub mod LossSteps
+pub mod MigratedBlocks
+pub mod MovedCanon
+pub mod MovedMarks
+pub mod OneSlot
+pub mod Slots
+pub mod ToldLosses

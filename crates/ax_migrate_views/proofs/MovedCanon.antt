@@ -1,0 +1,83 @@
+-- The octets by the moves are the canonical ones of the moved value.
+use Rattle.std.proofs.Common.{◌≡◌, ℕ, ◌+◌, ◌-◌, ◌⊎◌, inl, inr, true, cond, List, [], ◌++◌, Option, Some, None, option_map, refl, sym, ◌∙◌, ap, arith}
+use Rattle.ax_edition.specs.Index.{slot_below}
+use Rattle.ax_edition.specs.Moves.{moves_from, move_where, moves_below, moves_of, record_moves}
+use Rattle.ax_edition_laws.proofs.Lookups.{equal, less}
+use Rattle.ax_edition_laws.proofs.MovedNamed.{new_value}
+use Rattle.ax_edition_laws.proofs.MovedShape.{entries_from, entries_moved, slot_shape}
+use Rattle.ax_edition_laws.specs.Moved.{entry_where, moved, moved_entries, moved_record}
+use Rattle.ax_migrate_views.proofs.BareSame.{same_canon, bare_behind}
+use Rattle.ax_migrate_views.proofs.MovedMarks.{moved_field}
+use Rattle.ax_migrate_views.proofs.OneSlot.{Moves, Stays, slot_cases, named_kind}
+use Rattle.ax_migrate_views.specs.Octets.{spelled_where, canon_by, entries_canon_by}
+use Rattle.ax_model.proofs.Bounds.{record_bounds}
+use Rattle.ax_model.specs.At.{slot_value}
+use Rattle.ax_model.specs.Bodies.{RecordShape}
+use Rattle.ax_model.specs.Canonical.{canon, entries_canon}
+use Rattle.ax_model.specs.Flaws.{NoFlaw}
+use Rattle.ax_model.specs.InBounds.{InBounds, SlotsInBounds}
+use Rattle.ax_model.specs.Lengths.{kind_behind}
+use Rattle.ax_model.specs.Naming.{slot_named}
+use Rattle.ax_model.specs.Shape.{Shape, EntriesShape}
+use Rattle.ax_model.specs.Shared.{is_shared_kind}
+use Rattle.ax_model.specs.Specification.{SpecTree, record_kind}
+use Rattle.ax_model.specs.Tree.{KindTree, fixed, extended, counted, by_fx, explicit, compound, SlotsTree, no_slots, slot_and, spare_slot, subitem, ValueTree, marked, EntriesTree, no_entries, entry_and}
+use Rattle.ax_tables.specs.Bare.{bare_kind, bare_slots}
+
+-- an entry of the first slot, or none, in front of others
+abbrev canon_where : KindTree → Option ValueTree → List ℕ
+canon_where l None = []
+canon_where l (Some v) = canon l v
+
+front_canon : (t : ℕ) (name : List ℕ) (l : KindTree) (ts : SlotsTree) (o : Option ValueTree) (rest : EntriesTree) → EntriesShape (t + 1) ts rest
+    → entries_canon t (slot_and (subitem name l) ts) (entry_where t o rest) ≡ canon_where l o ++ entries_canon (t + 1) ts rest
+front_canon t name l ts (Some v) rest h = ap (λ b. cond b (canon l v ++ entries_canon (t + 1) ts rest) (entries_canon (t + 1) ts (entry_and t v rest))) (equal t t refl)
+front_canon t name l ts None no_entries h = refl
+front_canon t name l ts None (entry_and u w es) h =
+    let le = entries_from (t + 1) ts u w es h in ap (λ b. cond b (canon l w ++ entries_canon (t + 1) ts es) (entries_canon (t + 1) ts (entry_and u w es))) (less t u (omega arith))
+
+mutual
+  -- of a value of the old kind, for the new one
+  pub canon_moved : (l k : KindTree) (v : ValueTree) → is_shared_kind k l ≡ true → InBounds l → Shape k v → canon_by (moves_from (moves_below l k)) (bare_kind k) v ≡ canon l (moved l k v)
+  canon_moved (compound ts) (compound ss) (marked es) e b h = λ i. moved_field ts ss es h b.0 b.1 i ++ entries_canon_moved 1 ts ss es h b.2 i
+  canon_moved (compound ts) (compound ss) _ e b h = absurd h
+  canon_moved (fixed g) (fixed f) v e b h = same_canon (fixed f) (fixed g) v e
+  canon_moved (extended qs) (extended ps) v e b h = same_canon (extended ps) (extended qs) v e
+  canon_moved (counted l) (counted k) v e b h = same_canon (counted k) (counted l) v e
+  canon_moved (by_fx g) (by_fx f) v e b h = same_canon (by_fx f) (by_fx g) v e
+  canon_moved explicit explicit v e b h = refl
+  canon_moved _ _ v e b h = cc
+
+  pub entries_canon_moved : (t : ℕ) (ts ss : SlotsTree) (es : EntriesTree) → EntriesShape 1 ss es → SlotsInBounds ts
+      → entries_canon_by (moves_from (moves_of t ts (λ name. slot_below name (compound ss)))) (bare_slots ss) es ≡ entries_canon t ts (moved_entries t ts ss es)
+  entries_canon_moved t no_slots ss es h b = refl
+  entries_canon_moved t (slot_and spare_slot ts) ss es h b = entries_canon_moved (t + 1) ts ss es h b
+  entries_canon_moved t (slot_and (subitem name l) ts) ss es h b =
+      by_case (slot_cases t name l ss es) (entries_canon_moved (t + 1) ts ss es h b.1) (λ k v e s. canon_moved l k v e b.0 s) ∙ sym (front_canon t name l ts (new_value name l ss es) (moved_entries (t + 1) ts ss es) (entries_moved (t + 1) ts ss es h))
+    where
+      rule : List ℕ → Option (ℕ × KindTree)
+      rule = λ own. slot_below own (compound ss)
+
+      Later : Type 0
+      Later = entries_canon_by (moves_from (moves_of (t + 1) ts (λ own. slot_below own (compound ss)))) (bare_slots ss) es ≡ entries_canon (t + 1) ts (moved_entries (t + 1) ts ss es)
+
+      Below : Type 0
+      Below = (k : KindTree) (v : ValueTree) → is_shared_kind k l ≡ true → Shape k v → canon_by (moves_from (moves_below l k)) (bare_kind k) v ≡ canon l (moved l k v)
+
+      by_value : Below → (s : ℕ) (k : KindTree) (o : Option ValueTree) → slot_named 1 name ss ≡ Some (s, k) → is_shared_kind k l ≡ true → slot_value s es ≡ o
+          → spelled_where (Some (bare_kind k)) o (canon_by (moves_from (moves_below l k))) ≡ canon_where l (option_map (moved l k) o)
+      by_value below s k None found shared is = refl
+      by_value below s k (Some v) found shared is = below k v shared (slot_shape 1 name ss es s k v found h is)
+
+      by_case : Moves t name l ss es ⊎ Stays t name l ss es → Later → Below
+          → entries_canon_by (moves_from (move_where t l (slot_named 1 name ss) (moves_below l) ++ moves_of (t + 1) ts rule)) (bare_slots ss) es ≡ canon_where l (new_value name l ss es) ++ entries_canon (t + 1) ts (moved_entries (t + 1) ts ss es)
+      by_case (inl m) later below =
+          let kind : kind_behind (m.old - 1) (bare_slots ss) ≡ Some (bare_kind m.kind) = bare_behind (m.old - 1) ss ∙ ap (option_map bare_kind) (named_kind 1 name ss m.old m.kind m.found) in
+          let here = ap (λ o. spelled_where o (slot_value m.old es) (canon_by (moves_from (moves_below l m.kind)))) kind ∙ by_value below m.old m.kind (slot_value m.old es) m.found m.shared refl ∙ ap (canon_where l) (sym m.value) in
+          ap (λ x. entries_canon_by (moves_from (x ++ moves_of (t + 1) ts rule)) (bare_slots ss) es) m.move ∙ (λ i. here i ++ later i)
+      by_case (inr s) later below =
+          ap (λ x. entries_canon_by (moves_from (x ++ moves_of (t + 1) ts rule)) (bare_slots ss) es) s.0 ∙ later ∙ ap (λ o. canon_where l o ++ entries_canon (t + 1) ts (moved_entries (t + 1) ts ss es)) (sym s.1)
+
+pub record_canon_moved : (old new : SpecTree) (es : EntriesTree) → NoFlaw new → RecordShape old es
+    → canon_by (moves_from (record_moves old new)) (bare_kind (record_kind old)) (marked es) ≡ canon (record_kind new) (marked (moved_record old new es))
+record_canon_moved old new es clean h = canon_moved (record_kind new) (record_kind old) (marked es) refl (record_bounds new clean) h.shape

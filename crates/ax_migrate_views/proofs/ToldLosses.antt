@@ -1,0 +1,55 @@
+-- What the records of a view lose is what the records of its body lose.
+use Rattle.std.proofs.Common.{◌≡◌, ℕ, ◌+◌, List, [], ◌∷◌, ◌++◌, Option, length, map, refl, sym, ◌∙◌, ap, subst, append-nil, Result}
+use Rattle.std.specs.List.{AllZip}
+use Rattle.ax_bits.specs.Bits.{bits}
+use Rattle.ax_edition.specs.Relation.{relation_paths}
+use Rattle.ax_edition.specs.declared.relation.RelationPath.{RelationPath}
+use Rattle.ax_edition_laws.proofs.Distinct.{Distinct}
+use Rattle.ax_edition_laws.proofs.DistinctNames.{record_distinct}
+use Rattle.ax_migrate.proofs.Found.{found_is_lost}
+use Rattle.ax_migrate.specs.Losing.{loss, losses_from, lost_lines}
+use Rattle.ax_migrate_views.specs.Blocks.{old_tree, new_tree, IsOfEditions}
+use Rattle.ax_migrate_views.specs.Losses.{shown_entries, shown_losses, WritesLosses}
+use Rattle.ax_migrate_views.specs.declared.migrator.Migrator.{Migrator}
+use Rattle.ax_model.proofs.Spelled.{read_spelled}
+use Rattle.ax_model.specs.Migrated.{Lost}
+use Rattle.ax_model.specs.Reader.{read, got}
+use Rattle.ax_model.specs.Specification.{SpecTree, record_kind}
+use Rattle.ax_model.specs.Tree.{marked, EntriesTree}
+use Rattle.ax_outside.proofs.Pieces.{change, same_text}
+use Rattle.ax_outside.specs.Changes.{Wrote}
+use Rattle.ax_outside.specs.declared.sinks.SinkFailed.{SinkFailed}
+use Rattle.ax_tables.proofs.BareKinds.{bare_read, stands_record}
+use Rattle.ax_tables.specs.Standing.{StandsFor}
+use Rattle.ax_tables.specs.Table.{record_kind_at}
+use Rattle.ax_tables.specs.declared.codec.Codec.{Codec}
+use Rattle.ax_view.specs.Values.{value_in, value_read, entries_in}
+use Rattle.ax_view.specs.Views.{IsRecordOf, SpellEach}
+
+-- what octets that spell a record show is that record
+shown_is : (codec : Codec) (spec : SpecTree) (entries : EntriesTree) (s : Codec × List ℕ) → StandsFor codec spec → IsRecordOf codec spec entries s → shown_entries s ≡ entries
+unfolding value_in
+shown_is codec spec entries s stands h =
+    let own : StandsFor s.0 spec = subst (λ c. StandsFor c spec) (sym h.0) stands in
+    let same : read (record_kind_at s.0.nodes s.0.slots) (bits s.1) ≡ read (record_kind spec) (bits s.1) = ap (λ k. read k (bits s.1)) (stands_record s.0 spec own) ∙ bare_read (record_kind spec) (bits s.1) in
+    let whole : read (record_kind spec) (bits s.1) ≡ got (marked entries) (length (bits s.1)) [] = ap (read (record_kind spec)) (sym (append-nil (bits s.1))) ∙ read_spelled (record_kind spec) (marked entries) (bits s.1) [] h.1.spells in
+    ap (λ r. entries_in (value_read r)) (same ∙ whole)
+
+shown_told : (codec : Codec) (old new : SpecTree) (n : ℕ) (records : List EntriesTree) (shown : List (Codec × List ℕ)) → StandsFor codec old → Distinct (record_kind old) → AllZip (IsRecordOf codec old) records shown
+    → shown_losses (relation_paths old new) n shown ≡ losses_from old new n records
+shown_told codec old new n [] [] stands d h = refl
+shown_told codec old new n [] (s ∷ shown) stands d h = absurd h
+shown_told codec old new n (r ∷ records) [] stands d h = absurd h
+shown_told codec old new n (r ∷ records) (s ∷ shown) stands d h =
+    let first = found_is_lost old new n (shown_entries s) d in
+    let is = shown_is codec old r s stands h.0 in
+    (λ i. first i ++ shown_told codec old new (n + 1) records shown stands d h.1 i) ∙ ap (λ es. map (loss old.category n) (Lost old new es) ++ losses_from old new (n + 1) records) is
+
+pub losses_written : (m : Migrator) (body : List ℕ) (block : ℕ) (paths : List RelationPath) (shown : List (Codec × List ℕ)) (h h' : Option (List ℕ)) (f f' : ℕ) (r : Result Unit SinkFailed) → IsOfEditions m → paths ≡ m.relation.now.paths → SpellEach m.codec.now body shown
+    → Wrote (change h h' f f') r (lost_lines block (shown_losses paths 0 shown)) → WritesLosses m body block (change h h' f f') r
+losses_written m body block paths shown h h' f f' r of are each w = record {
+  lines = λ records spells. (
+      let told = ap (λ ps. shown_losses ps 0 shown) (are ∙ of.related.paths)
+      ∙ shown_told m.codec.now (old_tree m) (new_tree m) 0 records shown of.compiled.stands (record_distinct (old_tree m) of.related.old_no_flaw) (each.spells (old_tree m) records of.compiled.clean of.compiled.stands spells) in
+      same_text h h' f f' r (lost_lines block (shown_losses paths 0 shown)) (lost_lines block (losses_from (old_tree m) (new_tree m) 0 records)) (ap (lost_lines block) told) w);
+}

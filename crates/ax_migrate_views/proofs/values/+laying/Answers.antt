@@ -1,0 +1,44 @@
+use Rattle.std.proofs.Common.{◌++◌, arith, ap, sym, subst, refl, length, get_or, ◌∙◌, option_map}
+use Rattle.ax_edition.specs.PlainMoves.{move_tree, moves_tree}
+use Rattle.ax_fspec.specs.Fields.{least_field}
+use Rattle.ax_migrate_views.proofs.Entries.{none_laid, one_laid, all_laid, nothing_moves, nothing_laid, compound_canon_by, leaf_canon_by}
+use Rattle.ax_migrate_views.proofs.LaidBits.{lays_more}
+use Rattle.ax_migrate_views.specs.Laying.{Lays}
+use Rattle.ax_migrate_views.specs.Octets.{field_by, entries_canon_by, move_canon}
+use Rattle.ax_migrate_views.specs.Wholes.{whole_slots, whole_entries}
+use Rattle.ax_view.specs.Shown.{item_value}
+use Rattle.ax_migrate_views.proofs.values.+laying.Goals as goal
+
+pub lay_entries-loop-one-init : goal.lay_entries-loop-one-init
+lay_entries-loop-one-init t c = none_laid c.args.moves.now (whole_slots c.args.whole.now) (whole_entries c.args.whole.now) c.args.at c.args.output.now c.ranges.at.fits
+
+pub lay_entries-loop-one-preserved : goal.lay_entries-loop-one-preserved
+lay_entries-loop-one-preserved t c =
+    let m = c.as_slice-one-items.ensures.members in
+    one_laid c.args.moves.now c.loop-one.one-index c.one-item.result (whole_slots c.args.whole.now) (whole_entries c.args.whole.now) c.args.at c.loop-one.end c.lay_entry-end.result c.args.output.now c.loop-one.output c.lay_entry-end.new.output
+    (omega (arith, c.loop-one-test.true, ap length m)) (c.one-item.is ∙ ap (λ ms. get_or ms c.loop-one.one-index c.one-item.result) m) c.loop-one.invariant c.lay_entry-end.ensures.laid
+
+pub lay_entries-returns-clause-laid : goal.lay_entries-returns-clause-laid
+lay_entries-returns-clause-laid t c =
+    all_laid c.args.moves.now c.loop-one.one-index (whole_slots c.args.whole.now) (whole_entries c.args.whole.now) c.args.at c.loop-one.end c.args.output.now c.loop-one.output (omega (arith, c.loop-one-test.false, ap length c.as_slice-one-items.ensures.members)) c.loop-one.invariant
+
+pub lay_entry-returns-in-None-clause-laid : goal.lay_entry-returns-in-None-clause-laid
+lay_entry-returns-in-None-clause-laid t c =
+    nothing_laid (move_canon (move_tree c.args.one.now) (whole_slots c.args.whole.now) (whole_entries c.args.whole.now)) c.args.at c.args.output.now
+    (nothing_moves c.args.one.now (whole_slots c.args.whole.now) (whole_entries c.args.whole.now) (sym c.item.ensures.value ∙ ap (option_map item_value) c.in-None.is)) c.ranges.at.fits
+
+pub lay_value-returns-in-Compound-clause-laid : goal.lay_value-returns-in-Compound-clause-laid
+lay_value-returns-in-Compound-clause-laid t c = subst (λ b. Lays b c.args.at c.lay_whole.result c.args.output.now c.lay_whole.new.output) (sym (compound_canon_by c.args.item.now c.node.result.now c.node.ensures (moves_tree c.args.moves.now) c.in-Compound.mask c.in-Compound.slots c.in-Compound.is)) c.lay_whole.ensures.laid
+
+pub lay_value-returns-in_default : goal.lay_value-returns-in_default
+lay_value-returns-in_default t c = record {
+  laid = subst (λ b. Lays b c.args.at c.lay_item.result c.args.output.now c.lay_item.new.output) (sym (leaf_canon_by c.args.item.now c.node.result.now c.node.ensures (moves_tree c.args.moves.now) c.in_default.not-Compound)) c.lay_item.ensures.laid;
+  room = c.lay_item.ensures.room;
+}
+
+pub lay_whole-returns-clause-laid : goal.lay_whole-returns-clause-laid
+lay_whole-returns-clause-laid t c =
+    let field = subst (λ b. Lays b c.args.at c.lay_field-end.result c.args.output.now c.lay_field-end.new.output) (ap least_field c.moved_slots-marked.ensures) c.lay_field-end.ensures.laid in
+    let rest = entries_canon_by (moves_tree c.args.moves.now) (whole_slots c.args.whole.now) (whole_entries c.args.whole.now) in
+    let front = field_by (moves_tree c.args.moves.now) (whole_entries c.args.whole.now) in
+    lays_more front rest (front ++ rest) c.args.at c.lay_field-end.result c.lay_entries.result c.args.output.now c.lay_field-end.new.output c.lay_entries.new.output refl field c.lay_entries.ensures.laid

@@ -1,0 +1,38 @@
+-- Migrated blocks at the front of an output, and what a migrator is made of.
+use Rattle.std.specs.Prelude.{◌≡◌, ℕ, ◌/◌, ◌%◌, ◌≤◌, List, set, take}
+use Rattle.ax_bits.specs.Bits.{bits}
+use Rattle.ax_edition.specs.Relates.{Relates}
+use Rattle.ax_migrate.specs.Migrating.{migrated_block}
+use Rattle.ax_migrate_views.specs.declared.migrator.Migrator.{Migrator}
+use Rattle.ax_model.specs.Blocks.{read_block}
+use Rattle.ax_model.specs.Bodies.{SpellsBody}
+use Rattle.ax_model.specs.CanonicalOctets.{canon_block, canon_length}
+use Rattle.ax_model.specs.Plain.{spec_tree}
+use Rattle.ax_model.specs.Specification.{SpecTree}
+use Rattle.ax_model.specs.Tree.{EntriesTree}
+use Rattle.ax_tables.specs.Standing.{IsCompiled}
+
+-- CAT and LEN written over the first three octets
+abbrev pub with_head : ℕ → ℕ → List ℕ → List ℕ
+with_head category n output = set (set (set output 0 category) 1 (n / 256 % 256)) 2 (n % 256)
+
+abbrev pub old_tree : Migrator → SpecTree
+old_tree m = spec_tree m.old.now
+
+abbrev pub new_tree : Migrator → SpecTree
+new_tree m = spec_tree m.new.now
+
+-- the relation is of its two editions, and the codec stands for the old one
+pub record IsOfEditions (m : Migrator) : Type 0 where
+  pub related : Relates m.old.now m.new.now m.relation.now
+  pub compiled : IsCompiled m.codec.now (old_tree m)
+
+-- the canonical form of the migrated block has so many octets, and they stand at the front of the output, where a block can
+-- have as many
+pub record IsMigratedBlock (old new : SpecTree) (records : List EntriesTree) (count : ℕ) (output : List ℕ) : Type 0 where
+  pub counted : count ≡ canon_length new (migrated_block old new (read_block old.category records))
+  pub laid : count ≤ 65535 → take count output ≡ canon_block new (migrated_block old new (read_block old.category records))
+
+-- that of the records that the body spells
+pub record LaysMigrated (m : Migrator) (body : List ℕ) (count : ℕ) (output : List ℕ) : Type 0 where
+  pub block : (records : List EntriesTree) → SpellsBody (old_tree m) records (bits body) → IsMigratedBlock (old_tree m) (new_tree m) records count output

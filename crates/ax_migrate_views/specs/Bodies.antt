@@ -1,0 +1,23 @@
+-- Bodies as they move.
+use Rattle.std.specs.Prelude.{ℕ, List, flat_map}
+use Rattle.ax_bits.specs.Bits.{bits}
+use Rattle.ax_edition.specs.Moves.{MovesTree}
+use Rattle.ax_edition.specs.PlainMoves.{moves_tree}
+use Rattle.ax_edition.specs.declared.moves.Move.{Move}
+use Rattle.ax_migrate_views.specs.Laying.{Lays}
+use Rattle.ax_migrate_views.specs.Octets.{canon_by}
+use Rattle.ax_model.specs.Bodies.{SpellsBody}
+use Rattle.ax_model.specs.Flaws.{NoFlaw}
+use Rattle.ax_model.specs.Specification.{SpecTree, record_kind}
+use Rattle.ax_model.specs.Tree.{marked, EntriesTree}
+use Rattle.ax_tables.specs.Bare.{bare_kind}
+use Rattle.ax_tables.specs.Standing.{StandsFor}
+use Rattle.ax_tables.specs.declared.codec.Codec.{Codec}
+
+-- the records of the old edition, one after the other
+abbrev pub body_by : MovesTree → SpecTree → List EntriesTree → List ℕ
+body_by ms old records = flat_map (λ r. canon_by ms (bare_kind (record_kind old)) (marked r)) records
+
+-- the records that the body spells are laid as they move, for each specification that the codec stands for
+pub record LaysBody (codec : Codec) (moves : List Move) (body : List ℕ) (at n : ℕ) (old new : List ℕ) : Type 0 where
+  pub laid : (spec : SpecTree) (records : List EntriesTree) → NoFlaw spec → StandsFor codec spec → SpellsBody spec records (bits body) → Lays (body_by (moves_tree moves) spec records) at n old new

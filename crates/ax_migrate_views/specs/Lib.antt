@@ -1,0 +1,6 @@
+pub mod Blocks
+pub mod Bodies
+pub mod Laying
+pub mod Losses
+pub mod Octets
+pub mod Wholes

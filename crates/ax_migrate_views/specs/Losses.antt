@@ -1,0 +1,29 @@
+-- The losses of the records of a view, and that their lines are written.
+use Rattle.std.specs.Prelude.{ℕ, ◌+◌, List, [], ◌∷◌, ◌++◌, Result}
+use Rattle.ax_bits.specs.Bits.{bits}
+use Rattle.ax_edition.specs.declared.relation.RelationPath.{RelationPath}
+use Rattle.ax_migrate.specs.Finding.{record_losses}
+use Rattle.ax_migrate.specs.Losing.{losses_from, lost_lines}
+use Rattle.ax_migrate.specs.declared.losing.LossEntry.{LossEntry}
+use Rattle.ax_migrate_views.specs.Blocks.{old_tree, new_tree}
+use Rattle.ax_migrate_views.specs.declared.migrator.Migrator.{Migrator}
+use Rattle.ax_model.specs.Bodies.{SpellsBody}
+use Rattle.ax_model.specs.Tree.{EntriesTree}
+use Rattle.ax_outside.specs.Changes.{SinkChange, Wrote}
+use Rattle.ax_outside.specs.declared.sinks.SinkFailed.{SinkFailed}
+use Rattle.ax_tables.specs.Table.{record_kind_at}
+use Rattle.ax_tables.specs.declared.codec.Codec.{Codec}
+use Rattle.ax_view.specs.Values.{value_in, entries_in}
+
+-- the entries of a record that a view shows
+abbrev pub shown_entries : Codec × List ℕ → EntriesTree
+shown_entries shown = entries_in (value_in (record_kind_at shown.0.nodes shown.0.slots) shown.1)
+
+-- the first of these records has the number n
+abbrev pub shown_losses : List RelationPath → ℕ → List (Codec × List ℕ) → List LossEntry
+shown_losses paths n [] = []
+shown_losses paths n (s ∷ shown) = record_losses n (shown_entries s) paths ++ shown_losses paths (n + 1) shown
+
+-- the lines of the losses of the records that the body spells were written, or a prefix at a failure
+pub record WritesLosses (m : Migrator) (body : List ℕ) (block : ℕ) (change : SinkChange) (result : Result Unit SinkFailed) : Type 0 where
+  pub lines : (records : List EntriesTree) → SpellsBody (old_tree m) records (bits body) → Wrote change result (lost_lines block (losses_from (old_tree m) (new_tree m) 0 records))

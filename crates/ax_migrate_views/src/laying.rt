@@ -1,0 +1,63 @@
+//! Octets laid one after another at the front of an output.
+ghost use Rattle.std.specs.Prelude.{◌≡◌, ◌^◌, ◌≤◌, false, length};
+ghost use Rattle.ax_fspec.specs.Fields.{least_field};
+ghost use Rattle.ax_migrate_views.specs.Laying.{Begins, Lays};
+ghost use Rattle.ax_model.specs.Canonical.{canon};
+ghost use Rattle.ax_view.specs.Shown.{item_kind, item_value};
+
+use ax_bits::Out;
+use ax_canon::canonical_item;
+use ax_fspec::{Presence, write_presence};
+use ax_tables::Codec;
+use ax_view::ItemView;
+
+/// The most octets of a data block.
+pub(crate) const LONGEST: u32 = 65_535;
+
+/// Writes the least presence field of a set at the front of an output, and answers its octets.
+fn spell_field(marked: &Presence, output: &mut [u8]) -> u32
+    requires room { (18 ≤ length output.old) × (length output.old ≤ 2 ^ 20) }
+    ensures begins { Begins (least_field marked.now) result output.new }
+    ensures room { length output.new ≡ length output.old }
+{
+    let mut out = Out::over(output);
+    let before = out.room();
+    write_presence(marked, &mut out);
+    (before - out.room()) / 8
+}
+
+/// Writes the canonical spelling of an item's value at the front of an output, and answers its octets.
+fn spell_item(codec: &Codec, item: &ItemView<'_, '_>, output: &mut [u8]) -> u32
+    requires codec { item.now.codec.now ≡ codec.now }
+    requires whole { item.now.by_fx ≡ false }
+    requires room { (65532 ≤ length output.old) × (length output.old ≤ 2 ^ 20) }
+    ensures begins { Begins (canon (item_kind item.now) (item_value item.now)) result output.new }
+    ensures room { length output.new ≡ length output.old }
+{
+    let mut out = Out::over(output);
+    let before = out.room();
+    canonical_item(codec, item, &mut out);
+    (before - out.room()) / 8
+}
+
+/// Lays the least presence field of a set after `at` octets, and answers how many octets were laid.
+pub(crate) fn lay_field(marked: &Presence, at: u32, output: &mut [u8]) -> u32
+    requires room { length output.old ≡ 131067 }
+    ensures laid { Lays (least_field marked.now) at result output.old output.new }
+    ensures room { length output.new ≡ 131067 }
+{
+    let octets = spell_field(marked, &mut output[at.min(LONGEST) as usize..]);
+    at.saturating_add(octets)
+}
+
+/// Lays the canonical spelling of an item's value after `at` octets, and answers how many octets were laid.
+pub(crate) fn lay_item(codec: &Codec, item: &ItemView<'_, '_>, at: u32, output: &mut [u8]) -> u32
+    requires codec { item.now.codec.now ≡ codec.now }
+    requires whole { item.now.by_fx ≡ false }
+    requires room { length output.old ≡ 131067 }
+    ensures laid { Lays (canon (item_kind item.now) (item_value item.now)) at result output.old output.new }
+    ensures room { length output.new ≡ 131067 }
+{
+    let octets = spell_item(codec, item, &mut output[at.min(LONGEST) as usize..]);
+    at.saturating_add(octets)
+}

@@ -1,0 +1,16 @@
+//! Migration of data blocks over views, without memory for a block.
+#![tactic(auto)]
+
+mod bodies;
+mod examples;
+mod laws;
+mod laying;
+mod losses;
+mod marks;
+mod migrator;
+mod values;
+mod whole;
+
+pub use examples::{octets_by_moves, slots_of_a_set};
+pub use laws::moves_spell_the_migrated_record;
+pub use migrator::Migrator;

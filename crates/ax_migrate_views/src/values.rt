@@ -1,0 +1,95 @@
+//! Migrated values, laid from those of the old edition.
+ghost use Rattle.std.specs.Prelude.{◌≡◌, ◌++◌, false, length};
+ghost use Rattle.ax_edition.specs.PlainMoves.{move_tree, moves_tree};
+ghost use Rattle.ax_migrate_views.specs.Laying.{Lays};
+ghost use Rattle.ax_migrate_views.specs.Octets.{canon_by, entries_canon_by, field_by, move_canon};
+ghost use Rattle.ax_migrate_views.specs.Wholes.{whole_codec, whole_entries, whole_slots};
+ghost use Rattle.ax_view.specs.Shown.{item_kind, item_value};
+
+use crate::laying::{lay_field, lay_item};
+use crate::marks::moved_slots;
+use crate::whole::Whole;
+use ax_edition::{Move, Moves};
+use ax_tables::{Codec, Node};
+use ax_view::ItemView;
+
+/// Lays the value of an item as it moves, and answers how many octets were laid.
+#[cycle(laying)]
+fn lay_value(
+    codec: &Codec,
+    item: &ItemView<'_, '_>,
+    moves: &Moves,
+    at: u32,
+    output: &mut [u8],
+) -> u32
+    requires codec { item.now.codec.now ≡ codec.now }
+    requires whole { item.now.by_fx ≡ false }
+    requires room { length output.old ≡ 131067 }
+    ensures laid { Lays (canon_by (moves_tree moves.now) (item_kind item.now) (item_value item.now)) at result output.old output.new }
+    ensures room { length output.new ≡ 131067 }
+{
+    match item.node() {
+        Node::Compound { .. } => lay_whole(codec, &Whole::Compound(item), moves, at, output),
+        _ => lay_item(codec, item, at, output),
+    }
+}
+
+/// Lays the entries that move, after the presence field of their new slots.
+#[cycle(laying)]
+pub(crate) fn lay_whole(
+    codec: &Codec,
+    whole: &Whole<'_, '_, '_>,
+    moves: &Moves,
+    at: u32,
+    output: &mut [u8],
+) -> u32
+    requires codec { whole_codec whole.now ≡ codec.now }
+    requires room { length output.old ≡ 131067 }
+    ensures laid { Lays (field_by (moves_tree moves.now) (whole_entries whole.now) ++ entries_canon_by (moves_tree moves.now) (whole_slots whole.now) (whole_entries whole.now)) at result output.old output.new }
+    ensures room { length output.new ≡ 131067 }
+{
+    let marked = moved_slots(whole, moves);
+    let end = lay_field(&marked, at, output);
+    lay_entries(codec, whole, moves, end, output)
+}
+
+/// Lays the entry that a move makes, if there is one.
+#[cycle(laying)]
+fn lay_entry(
+    codec: &Codec,
+    whole: &Whole<'_, '_, '_>,
+    one: &Move,
+    at: u32,
+    output: &mut [u8],
+) -> u32
+    requires codec { whole_codec whole.now ≡ codec.now }
+    requires room { length output.old ≡ 131067 }
+    ensures laid { Lays (move_canon (move_tree one.now) (whole_slots whole.now) (whole_entries whole.now)) at result output.old output.new }
+    ensures room { length output.new ≡ 131067 }
+{
+    match whole.item(one.old) {
+        Some(item) => lay_value(codec, &item, &one.below, at, output),
+        None => at,
+    }
+}
+
+/// Lays the entries that move, in the order of the moves.
+#[cycle(laying)]
+fn lay_entries(
+    codec: &Codec,
+    whole: &Whole<'_, '_, '_>,
+    moves: &Moves,
+    at: u32,
+    output: &mut [u8],
+) -> u32
+    requires codec { whole_codec whole.now ≡ codec.now }
+    requires room { length output.old ≡ 131067 }
+    ensures laid { Lays (entries_canon_by (moves_tree moves.now) (whole_slots whole.now) (whole_entries whole.now)) at result output.old output.new }
+    ensures room { length output.new ≡ 131067 }
+{
+    let mut end = at;
+    for one in moves.as_slice() {
+        end = lay_entry(codec, whole, one, end, output);
+    }
+    end
+}

@@ -1,5 +1,5 @@
 -- The files and the job of `migrate`.
-use Rattle.std.proofs.Common.{◌≡◌, ℕ, false, true, IsFalse, Result, IfOk, IfErr, List, [], ◌∷◌, refl, sym, ◌∙◌, subst}
+use Rattle.std.proofs.Common.{◌≡◌, ℕ, false, true, IsFalse, Result, Ok, Err, IfOk, IfErr, List, [], ◌∷◌, refl, sym, ◌∙◌, subst}
 use Rattle.ax_command.specs.Outcomes.{outcome_of_end}
 use Rattle.ax_command.specs.declared.outcome.JobStop.{JobStop}
 use Rattle.ax_command.specs.declared.outcome.Outcome.{Outcome}
@@ -15,7 +15,7 @@ use Rattle.ax_stream.specs.Streams.{StreamRuns}
 use Rattle.ax_stream.specs.declared.end.StreamEnd.{StreamEnd}
 use Rattle.ax_words.specs.declared.line.Line.{Line}
 use Rattle.ax_words.specs.declared.line.Line.TheVariants.{Check, Canon, Show, Text, Build, Filter, Migrate, Trial, Help, Version}
-use Rattle.ax_app.specs.Jobs.{Job, each_block, refuses, IsJob, MigratesBetween, IsMigrateJob, migrates, other_category, IsStopped, RunsJob, takes_distinct}
+use Rattle.ax_app.specs.Jobs.{Job, each_block, refuses, IsJob, MigratesBetween, IsMigrateJob, migrates, other_category, IsStopped, BlocksRun, RunsJob, takes_distinct}
 use Rattle.ax_app.specs.Loaded.{specs_of, IsLoadedFor}
 use Rattle.ax_app.specs.declared.loading.Loaded.{Loaded}
 use Rattle.ax_app.specs.declared.loading.Loaded.TheVariants as LoadedOf
@@ -54,13 +54,10 @@ module _ (line : Line) (loaded : Loaded) (old new : Spec) where
       let m = is_migrate line (subst (IsLoadedFor (takes_distinct line)) is for) in
       subst (λ l. IfErr result (IsStopped l (specs_of loaded))) (sym m.is) (subst (λ l. IfErr result (IsStopped (Migrate m.names.0 m.names.1) (specs_of l))) (sym is) (stopped m.names))
 
-pub migrate_runs : (names : List ℕ × List ℕ) (old new : Spec) (i : SourceChange) (o r : SinkChange) (c : BlockCommand) (end : StreamEnd) (outcome : Outcome) → old.category ≡ new.category → c ≡ migrate_command (spec_tree old) (spec_tree new) → StreamRuns c longest_input i o r end → outcome ≡ outcome_of_end end
-    → RunsJob (Migrate names.0 names.1) (spec_tree old ∷ spec_tree new ∷ []) i o r outcome
-migrate_runs names old new i o r c end outcome same is runs ends = record {
-  job = each_block (migrate_command (spec_tree old) (spec_tree new));
-  is = record { old = spec_tree old; new = spec_tree new; two = refl; is = migrates same refl };
-  runs = record { end = end; runs = subst (λ k. StreamRuns k longest_input i o r end) is runs; is = ends };
-}
+pub migrate_runs : (names : List ℕ × List ℕ) (old new : Spec) (i : SourceChange) (o r : SinkChange) (result : Result Outcome JobStop) → old.category ≡ new.category → IfOk result (BlocksRun (migrate_command (spec_tree old) (spec_tree new)) i o r)
+    → IfOk result (RunsJob (Migrate names.0 names.1) (spec_tree old ∷ spec_tree new ∷ []) i o r)
+migrate_runs names old new i o r (Ok outcome) same runs = record { job = each_block (migrate_command (spec_tree old) (spec_tree new)); is = record { old = spec_tree old; new = spec_tree new; two = refl; is = migrates same refl }; runs = runs }
+migrate_runs names old new i o r (Err stop) same runs = tt
 
 pub migrate_refuses : (names : List ℕ × List ℕ) (old new : Spec) (one other : ℕ) → one ≡ old.category → other ≡ new.category → (old.category ≡ new.category → ⊥)
     → IsJob (Migrate names.0 names.1) (spec_tree old ∷ spec_tree new ∷ []) (refuses (OtherCategory one other))

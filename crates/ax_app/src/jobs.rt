@@ -1,8 +1,10 @@
 //! The commands, over the specifications of their files.
 ghost use Rattle.std.specs.Prelude.{◌≡◌, ◌≤◌, ◌^◌, List, ℕ, [], ◌∷◌, length, IsTrue, IfOk, IfErr, OnErr};
+ghost use Rattle.ax_edition.specs.Relates.{Relates};
 ghost use Rattle.ax_filter.specs.OfCode.{catalogue_of, expression};
 ghost use Rattle.ax_filter_work.specs.FilterCommand.{filter_command};
 ghost use Rattle.ax_grammar.specs.InRange.{AreNumbersInRange};
+ghost use Rattle.ax_migrate_work.specs.Commands.{migrate_command};
 ghost use Rattle.ax_model.specs.Plain.{spec_tree, catalogue_tree};
 ghost use Rattle.ax_model.specs.Specification.{SpecTree};
 ghost use Rattle.ax_outside.specs.Changes.{source_change, sink_change, GainsNothing};
@@ -18,15 +20,16 @@ use crate::makers::{ShowMaker, TextMaker};
 use ax_build_work::build_lines;
 use ax_check::{Accepted, Catalogue};
 use ax_command::{JobStop, Outcome, Refusal, line_of};
-use ax_edition::{RelateError, relate};
+use ax_edition::{RelateError, Relation, relate};
 use ax_filter::{FilterStop, read_expression};
 use ax_filter_work::FilterViews;
 use ax_grammar::print_spec;
-use ax_migrate_work::MigrateWork;
+use ax_migrate_view_work::MigrateViews;
+use ax_migrate_views::Migrator;
 use ax_model::Spec;
 use ax_outside::{Sink, Source, write_text};
 use ax_stream::{TreeWork, run_blocks};
-use ax_tables::Codecs;
+use ax_tables::{Codecs, compile};
 use ax_trial::trial_text;
 use ax_view_work::CanonViews;
 use ax_words::Line;
@@ -177,6 +180,34 @@ fn filter<S: Source, K: Sink, R: Sink>(
     }
 }
 
+/// Each block of the old edition in the new one, by the relation of the two. All memory is taken before the input is read.
+fn migrate_blocks<S: Source, K: Sink, R: Sink>(
+    alloc: Global,
+    relation: &Relation,
+    old: &Accepted,
+    new: &Accepted,
+    source: &mut S,
+    out: &mut K,
+    report: &mut R,
+) -> Result<Outcome, JobStop>
+    requires { Relates old.now new.now relation.now }
+    ensures runs { IfOk result (BlocksRun (migrate_command (spec_tree old.now) (spec_tree new.now)) (source_change S.Source source.old source.new) (sink_change K.Sink out.old out.new) (sink_change R.Sink report.old report.new)) }
+    ensures memory { IfErr result (λ stop. stop ≡ OutOfMemory) }
+    ensures idle { OnErr result (IsIdle (source_change S.Source source.old source.new) (sink_change K.Sink out.old out.new) (sink_change R.Sink report.old report.new)) }
+    ensures source_later { S.faults source.old ≤ S.faults source.new }
+    ensures out_later { K.faults out.old ≤ K.faults out.new }
+    ensures report_later { R.faults report.old ≤ R.faults report.new }
+{
+    let Ok(codec) = compile(alloc, old) else {
+        return Err(JobStop::OutOfMemory);
+    };
+    let migrator = Migrator::new(old.spec(), new.spec(), relation, &codec);
+    let Ok(mut work) = MigrateViews::new(alloc, migrator) else {
+        return Err(JobStop::OutOfMemory);
+    };
+    Ok(Outcome::from(run_blocks(alloc, &mut work, source, out, report)))
+}
+
 /// `migrate`: each block of the old edition in the new one, or the refusal of two categories.
 #[tactic(auto, using(crate::proofs::Editions::migrate_jobs))]
 fn migrate<S: Source, K: Sink, R: Sink>(
@@ -195,10 +226,7 @@ fn migrate<S: Source, K: Sink, R: Sink>(
     ensures report_later { R.faults report.old ≤ R.faults report.new }
 {
     match relate(alloc, old, new) {
-        Ok(relation) => {
-            let mut work = MigrateWork::new(alloc, &relation, old.spec(), new.spec());
-            Ok(Outcome::from(run_blocks(alloc, &mut work, source, out, report)))
-        }
+        Ok(relation) => migrate_blocks(alloc, &relation, old, new, source, out, report),
         Err(RelateError::OtherCategory { old, new }) => {
             Err(JobStop::Refused(Refusal::OtherCategory { old, new }))
         }

@@ -1,12 +1,13 @@
 //! `build` over lines that are blocks' texts, and over lines that are not.
 
-use crate::world::{Outside, leaves, wanted};
+use crate::world::{Left, Outside, leaves};
 use ax_samples::octets;
 use std::alloc::{AllocError, Global};
+use std::process::Abort;
 use std::test::Fail;
 
 // The words, the lines, the exit status, the output and the report. Each input is read to its end.
-const LINES: [(&str, &str, u8, &str, &str); 27] = [
+const LINES: [(&str, &str, u8, &str, &str); 26] = [
     ("build 048", "", 0, "", ""),
     (
         "build 048",
@@ -181,16 +182,34 @@ const LINES: [(&str, &str, u8, &str, &str); 27] = [
         "3E 00 04 01",
         "refused line 1 TooDeep token 20\n",
     ),
-    ("build", "opaque 062 \"01\"", 1, "", "refused usage\n"),
 ];
+
+/// Builds lines, and asserts the status, the output in hexadecimal, the report and what is left of the input.
+fn builds(
+    rt: &impl Abort,
+    alloc: Global,
+    words: &str,
+    lines: &[u8],
+    outside: Outside,
+    want: (u8, &str, &str, usize),
+) -> Result<(), Fail> {
+    let (status, out, report, left) = want;
+    let out = octets(alloc, out)?;
+    let want = Left {
+        status,
+        out: &out,
+        report: report.as_bytes(),
+        left,
+    };
+    leaves(rt, alloc, words, lines, outside, want)
+}
 
 #[test]
 fn blocks_of_lines(rt: HostRuntime) -> Result<(), Fail> {
     let alloc = rt.alloc();
-    for (words, lines, status, out, report) in LINES {
-        let left = if status == 1 { lines.len() } else { 0 };
-        let want = wanted(alloc, status, &octets(alloc, out)?, report, left)?;
-        leaves(&rt, alloc, words, lines.as_bytes(), Outside::Sound, want)?;
+    for &(words, lines, status, out, report) in &LINES {
+        let want = (status, out, report, 0);
+        builds(&rt, alloc, words, lines.as_bytes(), Outside::Sound, want)?;
     }
     Ok(())
 }
@@ -211,53 +230,49 @@ fn repeated(
     Ok(made)
 }
 
-// A front, the count of a piece, the piece, an end, the exit status, the output, the report, and what is left of the input.
-const LONG: [(&[u8], u32, &[u8], &[u8], &[u8], &str, usize); 4] = [
+// A front, the count of a piece, the piece, an end, the output in hexadecimal and the report.
+const LONG: [(&[u8], u32, &[u8], &[u8], &str, &str); 4] = [
     (
         b"block 048 {",
         65_533,
         b" record { }",
         b" }",
-        b"",
+        "",
         "refused line 0 TooLong 65536\n",
-        0,
     ),
     (
         b"opaque 062 \"",
         65_533,
         b"00",
         b"\"",
-        b"",
+        "",
         "refused line 0 TooLong 65536\n",
-        0,
     ),
     (
         b"",
         16_777_217,
         b" ",
         b"",
-        b"",
+        "",
         "refused line 0 LineTooLong\n",
-        0,
     ),
     (
         b"block 048 { record { } }\n",
         16_777_217,
         b" ",
         b"",
-        b"\x30\x00\x04\x00",
+        "30 00 04 00",
         "refused line 1 LineTooLong\n",
-        0,
     ),
 ];
 
 #[test]
 fn blocks_and_lines_that_are_too_long(rt: HostRuntime) -> Result<(), Fail> {
     let alloc = rt.alloc();
-    for (front, count, piece, end, out, report, left) in LONG {
+    for &(front, count, piece, end, out, report) in &LONG {
         let input = repeated(alloc, front, count, piece, end)?;
-        let want = wanted(alloc, 3, out, report, left)?;
-        leaves(&rt, alloc, "build 048", &input, Outside::Sound, want)?;
+        let want = (3, out, report, 0);
+        builds(&rt, alloc, "build 048", &input, Outside::Sound, want)?;
     }
     Ok(())
 }
@@ -266,20 +281,27 @@ const THREE_LINES: &str = "opaque 062 \"80ff\"\n\nopaque 063 \"00\"\n";
 
 // What is written where so many octets of these lines came, one a call, and the next read failed: the blocks of the lines
 // whose line feed came.
-const WRITTEN: [(usize, usize, &[u8]); 3] = [
-    (0, 18, b""),
-    (18, 35, b"\x3e\x00\x05\x80\xff"),
-    (35, 36, b"\x3e\x00\x05\x80\xff\x3f\x00\x04\x00"),
+const WRITTEN: [(usize, usize, &str); 3] = [
+    (0, 18, ""),
+    (18, 35, "3E 00 05 80 FF"),
+    (35, 36, "3E 00 05 80 FF 3F 00 04 00"),
 ];
 
 #[test]
 fn a_failing_read_keeps_the_lines_before_it(rt: HostRuntime) -> Result<(), Fail> {
     let alloc = rt.alloc();
-    for (from, to, out) in WRITTEN {
+    let lines = THREE_LINES.as_bytes();
+    for &(from, to, out) in &WRITTEN {
         for call in from..to {
-            let want = wanted(alloc, 4, out, "fault read\n", THREE_LINES.len() - call)?;
-            let outside = Outside::OctetRead(call as u64);
-            leaves(&rt, alloc, "build A", THREE_LINES.as_bytes(), outside, want)?;
+            let want = (4, out, "fault read\n", 35 - call);
+            builds(
+                &rt,
+                alloc,
+                "build A",
+                lines,
+                Outside::OctetRead(call as u64),
+                want,
+            )?;
         }
     }
     Ok(())
@@ -288,11 +310,10 @@ fn a_failing_read_keeps_the_lines_before_it(rt: HostRuntime) -> Result<(), Fail>
 // Each block is one piece: of two blocks a second failing write leaves the first.
 #[test]
 fn a_block_is_one_piece(rt: HostRuntime) -> Result<(), Fail> {
-    let alloc = rt.alloc();
-    let want = wanted(alloc, 4, b"\x3e\x00\x05\x80\xff", "fault write\n", 0)?;
-    leaves(
+    let want = (4, "3E 00 05 80 FF", "fault write\n", 0);
+    builds(
         &rt,
-        alloc,
+        rt.alloc(),
         "build A",
         THREE_LINES.as_bytes(),
         Outside::Write(1),

@@ -19,4 +19,6 @@ mod outside;
 #[cfg(test)]
 mod texts;
 #[cfg(test)]
+mod wording;
+#[cfg(test)]
 mod world;

@@ -4,7 +4,7 @@ use ax_app::run;
 use ax_outside::{MemLibrary, MemSink, MemSource, fill};
 use ax_samples::{
     CAT019_P1, CAT034_P1, CAT048_P1, CAT048_P2, FILE_A, FILE_E, FILE_F, FILE_G1, FILE_G2, FILE_H1,
-    FILE_H2, FILE_H3, FILE_N, FILE_S, NESTED_TOO_DEEP, octets,
+    FILE_H2, FILE_H3, FILE_N, FILE_S, FILE_Z, NESTED_TOO_DEEP, octets,
 };
 use std::alloc::{AllocError, Global};
 use std::process::Abort;
@@ -164,7 +164,7 @@ fn put(
     Ok(())
 }
 
-const TEXTS: [(&str, &str); 21] = [
+const TEXTS: [(&str, &str); 22] = [
     ("A", FILE_A),
     ("E", FILE_E),
     ("F", FILE_F),
@@ -176,6 +176,7 @@ const TEXTS: [(&str, &str); 21] = [
     ("N", FILE_N),
     ("S", FILE_S),
     ("V", FILE_V),
+    ("Z", FILE_Z),
     ("019", CAT019_P1),
     ("034", CAT034_P1),
     ("048", CAT048_P1),

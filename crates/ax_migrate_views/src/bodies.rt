@@ -16,17 +16,17 @@ use ax_view::{RecordView, record_at};
 /// Lays a record as it moves, and answers how many octets were laid.
 fn lay_record(
     codec: &Codec,
-    record: &RecordView<'_, '_>,
+    one: &RecordView<'_, '_>,
     moves: &Moves,
     at: u32,
     output: &mut [u8],
 ) -> u32
-    requires codec { record.now.codec.now ≡ codec.now }
+    requires codec { one.now.codec.now ≡ codec.now }
     requires room { length output.old ≡ 131067 }
-    ensures laid { Lays (canon_by (moves_tree moves.now) (record_kind_at codec.now.nodes codec.now.slots) (value_in (record_kind_at codec.now.nodes codec.now.slots) record.now.body.now)) at result output.old output.new }
+    ensures laid { Lays (canon_by (moves_tree moves.now) (record_kind_at codec.now.nodes codec.now.slots) (value_in (record_kind_at codec.now.nodes codec.now.slots) one.now.body.now)) at result output.old output.new }
     ensures room { length output.new ≡ 131067 }
 {
-    lay_whole(codec, &Whole::Record(record), moves, at, output)
+    lay_whole(codec, &Whole::Record(one), moves, at, output)
 }
 
 /// Lays the records of a body as they move, and answers how many octets were laid.

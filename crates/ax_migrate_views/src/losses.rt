@@ -28,10 +28,10 @@ fn leads_on(item: &ItemView<'_, '_>, steps: &[u32]) -> bool
 }
 
 /// Whether there is an entry where slot numbers lead.
-fn is_there(record: &RecordView<'_, '_>, place: &Place) -> bool
-    ensures { result ≡ is_there place.now (record_entries record.now) }
+fn is_there(one: &RecordView<'_, '_>, place: &Place) -> bool
+    ensures { result ≡ is_there place.now (record_entries one.now) }
 {
-    match record.item(place.frn) {
+    match one.item(place.frn) {
         Some(item) => leads_on(&item, place.steps.as_slice()),
         None => false,
     }
@@ -42,12 +42,12 @@ fn lose_path<R: Sink>(
     report: &mut R,
     block: u64,
     number: u32,
-    record: &RecordView<'_, '_>,
+    one: &RecordView<'_, '_>,
     path: &RelationPath,
 ) -> Result<(), SinkFailed>
-    ensures { Wrote (sink_change R.Sink report.old report.new) result (lost_lines block (path_loss number (record_entries record.now) path.now)) }
+    ensures { Wrote (sink_change R.Sink report.old report.new) result (lost_lines block (path_loss number (record_entries one.now) path.now)) }
 {
-    if path.new.is_none() && is_there(record, &path.old) {
+    if path.new.is_none() && is_there(one, &path.old) {
         let loss = Loss {
             record_at: number,
             path: &path.text,
@@ -63,13 +63,13 @@ fn lose_record<R: Sink>(
     report: &mut R,
     block: u64,
     number: u32,
-    record: &RecordView<'_, '_>,
+    one: &RecordView<'_, '_>,
     paths: &RelationPaths,
 ) -> Result<(), SinkFailed>
-    ensures { Wrote (sink_change R.Sink report.old report.new) result (lost_lines block (record_losses number (record_entries record.now) paths.now)) }
+    ensures { Wrote (sink_change R.Sink report.old report.new) result (lost_lines block (record_losses number (record_entries one.now) paths.now)) }
 {
     for path in paths.as_slice() {
-        lose_path(report, block, number, record, path)?;
+        lose_path(report, block, number, one, path)?;
     }
     Ok(())
 }

@@ -9,7 +9,7 @@ use Rattle.ax_migrate_views.proofs.bodies.lay_record.Goals as goal
 
 pub returns-clause-laid : goal.returns-clause-laid
 returns-clause-laid c =
-    let own = c.args.record.now.codec.now in
-    let octets = c.args.record.now.body.now in
+    let own = c.args.one.now.codec.now in
+    let octets = c.args.one.now.body.now in
     let laid = subst (λ b. Lays b c.args.at c.lay_whole.result c.args.output.now c.lay_whole.new.output) (sym (whole_canon (moves_tree c.args.moves.now) own.nodes own.slots octets (record_kind_at own.nodes own.slots) refl)) c.lay_whole.ensures.laid in
     subst (λ x. Lays (canon_by (moves_tree c.args.moves.now) (record_kind_at x.nodes x.slots) (value_in (record_kind_at x.nodes x.slots) octets)) c.args.at c.lay_whole.result c.args.output.now c.lay_whole.new.output) c.requires.codec laid

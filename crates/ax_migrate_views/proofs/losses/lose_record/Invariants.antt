@@ -7,5 +7,5 @@ use Rattle.ax_migrate_views.proofs.losses.lose_record.Given as goal
 
 abbrev pub invariant-loop-path : goal.invariant-loop-path
 invariant-loop-path g l =
-    Front (g.R.Sink.held l.fn.report) (g.R.Sink.held l.report) (g.R.Sink.faults l.fn.report) (g.R.Sink.faults l.report) (lost_lines l.block (record_losses l.number (record_entries l.record) l.paths))
-    (lost_lines l.block (record_losses l.number (record_entries l.record) (drop l.path-index l.paths)))
+    Front (g.R.Sink.held l.fn.report) (g.R.Sink.held l.report) (g.R.Sink.faults l.fn.report) (g.R.Sink.faults l.report) (lost_lines l.block (record_losses l.number (record_entries l.one) l.paths))
+    (lost_lines l.block (record_losses l.number (record_entries l.one) (drop l.path-index l.paths)))

@@ -1,6 +1,5 @@
 -- The files and the job of `migrate`.
 use Rattle.std.proofs.Common.{◌≡◌, ℕ, false, true, IsFalse, Result, Ok, Err, IfOk, IfErr, List, [], ◌∷◌, refl, sym, ◌∙◌, subst}
-use Rattle.ax_command.specs.Outcomes.{outcome_of_end}
 use Rattle.ax_command.specs.declared.outcome.JobStop.{JobStop}
 use Rattle.ax_command.specs.declared.outcome.Outcome.{Outcome}
 use Rattle.ax_command.specs.declared.outcome.Refusal.TheVariants.{OtherCategory}
@@ -9,10 +8,6 @@ use Rattle.ax_model.specs.Plain.{spec_tree}
 use Rattle.ax_model.specs.Specification.{SpecTree}
 use Rattle.ax_model.specs.declared.spec.Spec.{Spec}
 use Rattle.ax_outside.specs.Changes.{SourceChange, SinkChange}
-use Rattle.ax_stream.specs.Commands.{BlockCommand}
-use Rattle.ax_stream.specs.Ending.{longest_input}
-use Rattle.ax_stream.specs.Streams.{StreamRuns}
-use Rattle.ax_stream.specs.declared.end.StreamEnd.{StreamEnd}
 use Rattle.ax_words.specs.declared.line.Line.{Line}
 use Rattle.ax_words.specs.declared.line.Line.TheVariants.{Check, Canon, Show, Text, Build, Filter, Migrate, Trial, Help, Version}
 use Rattle.ax_app.specs.Jobs.{Job, each_block, refuses, IsJob, MigratesBetween, IsMigrateJob, migrates, other_category, IsStopped, BlocksRun, RunsJob, takes_distinct}

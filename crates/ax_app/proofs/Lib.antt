@@ -3,6 +3,7 @@ pub mod Checks
 pub mod Editions
 pub mod Ends
 pub mod Filters
+pub mod Memory
 pub mod Once
 pub mod OneAnswer
 pub mod OwnOutcomes

@@ -37,8 +37,9 @@ use Rattle.ax_trial.specs.Trial.{IsTrial}
 use Rattle.ax_words.specs.declared.line.Line.{Line}
 use Rattle.ax_words.specs.declared.line.Line.TheVariants.{Check, Canon, Show, Text, Build, Filter, Migrate, Trial, Help, Version}
 
--- it writes a text, which counts so many blocks, and reads no input, or it answers each block of the input, or it builds a block of each line of the input,
--- under this catalogue; or it refuses its arguments or what its files have in common
+-- it writes a text, which counts so many blocks, and reads no input, or it answers each block of the input, or it builds a
+-- block of each line of the input that has a token, under this catalogue; or it refuses what else the words say, or what its
+-- files have in common
 pub data Job : Type 0 where
   writes : ℕ → List ℕ → Job
   each_block : BlockCommand → Job
@@ -132,7 +133,7 @@ IsJob (Trial file seed count) specs job = IsTrialJob seed count specs job
 IsJob Help specs job = job ≡ writes 0 help_text
 IsJob Version specs job = job ≡ writes 0 version_text
 
--- the job is a refusal, or memory was wanting before it was known
+-- the job is a refusal, or memory was wanting before anything was taken or written
 abbrev pub IsStopped : Line → List SpecTree → JobStop → Type 0
 IsStopped line specs (JobStopOf.Refused refusal) = IsJob line specs (refuses refusal)
 IsStopped line specs JobStopOf.OutOfMemory = Unit {0}

@@ -7,7 +7,7 @@ use Rattle.ax_command.specs.declared.outcome.Outcome.TheVariants.{Done, Usage, S
 use Rattle.ax_load.specs.Loading.{FilesGive, FilesEnd}
 use Rattle.ax_load.specs.declared.fault.LoadStop.{LoadStop}
 use Rattle.ax_model.specs.Specification.{SpecTree}
-use Rattle.ax_outside.specs.Changes.{LibraryCounts, SourceChange, SinkChange, IsUnasked, first_step, second_step, Gains, GainsPart}
+use Rattle.ax_outside.specs.Changes.{LibraryCounts, SourceChange, SinkChange, IsUntouched, IsUnasked, first_step, second_step, Gains, GainsNothing, GainsPart}
 use Rattle.ax_outside.specs.Files.{File}
 use Rattle.ax_outside.specs.Told.{Rose}
 use Rattle.ax_stream.specs.Ending.{longest_input}
@@ -74,6 +74,35 @@ pub record NoCountFell (c : LibraryCounts) (i : SourceChange) (o r : SinkChange)
   pub source : i.faults ≤ i.faults'
   pub out : o.faults ≤ o.faults'
   pub report : r.faults ≤ r.faults'
+
+-- ---- want of memory
+
+-- the commands that take memory once they read
+abbrev pub TakesMemory : Line → Type 0
+TakesMemory (LineOf.Show files) = Unit {0}
+TakesMemory (LineOf.Text files) = Unit {0}
+TakesMemory (LineOf.Build files) = Unit {0}
+TakesMemory (LineOf.Check file) = ⊥
+TakesMemory (LineOf.Canon files) = ⊥
+TakesMemory (LineOf.Filter expression files) = ⊥
+TakesMemory (LineOf.Migrate old new) = ⊥
+TakesMemory (LineOf.Trial file seed count) = ⊥
+TakesMemory LineOf.Help = ⊥
+TakesMemory LineOf.Version = ⊥
+
+-- where memory was wanting, no octet was taken from the source and none added to the output
+abbrev pub WasIdle : SourceChange → SinkChange → Outcome → Type 0
+WasIdle i o outcome = outcome ≡ OutOfMemory → IsUntouched i × GainsNothing o
+
+-- so it is, but of a command that takes memory once it reads
+abbrev pub WantsFirst : Line → SourceChange → SinkChange → Outcome → Type 0
+WantsFirst line i o outcome = outcome ≡ OutOfMemory → TakesMemory line ⊎ (IsUntouched i × GainsNothing o)
+
+-- the words ask for such a command
+pub record AsksForMemory (words : List (List ℕ)) : Type 0 where
+  pub what : Line
+  pub shape : HasShape words what
+  pub takes : TakesMemory what
 
 -- ---- outcomes of one command alone
 

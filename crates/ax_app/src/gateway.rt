@@ -3,13 +3,13 @@ ghost use Rattle.std.specs.Prelude.{◌≡◌, ℕ, ◌≤◌, ◌⊎◌, List, 
 ghost use Rattle.std.specs.String.{string_bytes};
 ghost use Rattle.ax_bits.specs.Bits.{AreOctets};
 ghost use Rattle.ax_command.specs.Lines.{lines_of};
-ghost use Rattle.ax_outside.specs.Changes.{library_counts, source_change, sink_change};
+ghost use Rattle.ax_outside.specs.Changes.{library_counts, source_change, sink_change, IsUntouched, GainsNothing};
 ghost use Rattle.ax_outside.specs.Files.{File};
 ghost use Rattle.ax_words.specs.Words.{IsInBounds, HasShape, HasNoShape};
 ghost use Rattle.ax_app.specs.Completing.{NoFaultCounted, HasWhole, IsDoneWith};
 ghost use Rattle.ax_app.specs.Headline.{Headline};
 ghost use Rattle.ax_app.specs.Jobs.{Job, ReadsInput};
-ghost use Rattle.ax_app.specs.Running.{Runs, Does, Causes, Ended, NoCountFell, IsOfItsCommand};
+ghost use Rattle.ax_app.specs.Running.{Runs, Does, Causes, Ended, NoCountFell, WantsFirst, AsksForMemory, IsOfItsCommand};
 
 use crate::jobs::do_job;
 use crate::loading::load;
@@ -30,6 +30,7 @@ fn obey_line<L: Library, S: Source, K: Sink, R: Sink>(
     requires { IsInBounds line.now }
     ensures runs { (words : List (List ℕ)) → HasShape words line.now → Runs words (L.files library.old) (library_counts L.Library library.old library.new)
         (source_change S.Source source.old source.new) (sink_change K.Sink out.old out.new) (sink_change R.Sink report.old report.new) result }
+    ensures first { WantsFirst line.now (source_change S.Source source.old source.new) (sink_change K.Sink out.old out.new) result }
     ensures keeps { L.files library.new ≡ L.files library.old }
     ensures later { NoCountFell (library_counts L.Library library.old library.new) (source_change S.Source source.old source.new) (sink_change K.Sink out.old out.new) (sink_change R.Sink report.old report.new) }
 {
@@ -53,6 +54,7 @@ fn obey<L: Library, S: Source, K: Sink, R: Sink>(
 ) -> Outcome
     ensures runs { Runs (map string_bytes words.now.items) (L.files library.old) (library_counts L.Library library.old library.new)
         (source_change S.Source source.old source.new) (sink_change K.Sink out.old out.new) (sink_change R.Sink report.old report.new) result }
+    ensures first { result ≡ Outcome.OutOfMemory → AsksForMemory (map string_bytes words.now.items) ⊎ (IsUntouched (source_change S.Source source.old source.new) × GainsNothing (sink_change K.Sink out.old out.new)) }
     ensures keeps { L.files library.new ≡ L.files library.old }
     ensures later { NoCountFell (library_counts L.Library library.old library.new) (source_change S.Source source.old source.new) (sink_change K.Sink out.old out.new) (sink_change R.Sink report.old report.new) }
 {
@@ -64,7 +66,8 @@ fn obey<L: Library, S: Source, K: Sink, R: Sink>(
 }
 
 /// Does what the words say, and answers how that ended. Usage comes exactly where the words have no shape, but that want of
-/// memory may stand in its place, since reading the words takes memory.
+/// memory may stand in its place, since reading the words takes memory. Where memory is wanting, the source is untouched and
+/// nothing was written, but of the commands that take memory once they read: `show`, `text` and `build`.
 pub fn run<L: Library, S: Source, K: Sink, R: Sink>(
     alloc: Global,
     words: &Vec<String>,
@@ -82,6 +85,7 @@ pub fn run<L: Library, S: Source, K: Sink, R: Sink>(
     ensures no_shape { HasNoShape (map string_bytes words.now.items) → (result ≡ Outcome.Usage) ⊎ (result ≡ Outcome.OutOfMemory) }
     ensures causes { Causes (source_change S.Source source.old source.new) (sink_change K.Sink out.old out.new) (sink_change R.Sink report.old report.new) result }
     ensures of_its_command { IsOfItsCommand (map string_bytes words.now.items) result }
+    ensures memory { result ≡ Outcome.OutOfMemory → AsksForMemory (map string_bytes words.now.items) ⊎ (IsUntouched (source_change S.Source source.old source.new) × GainsNothing (sink_change K.Sink out.old out.new)) }
     ensures keeps { L.files library.new ≡ L.files library.old }
     ensures later { NoCountFell (library_counts L.Library library.old library.new) (source_change S.Source source.old source.new) (sink_change K.Sink out.old out.new) (sink_change R.Sink report.old report.new) }
     ensures reads_all { (files : List File) (input : List ℕ) (job : Job) (blocks : ℕ) → AreOctets input → L.files library.old ≡ Some files → S.left source.old ≡ Some input

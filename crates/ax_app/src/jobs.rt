@@ -14,6 +14,7 @@ ghost use Rattle.ax_stream.specs.Streams.{IsIdle};
 ghost use Rattle.ax_words.specs.declared.line.Line.TheVariants.{Canon, Filter, Migrate};
 ghost use Rattle.ax_app.specs.Jobs.{BlocksRun, IsReady, IsReadyToCheck, IsReadyToTry, EndsTrial, IsStopped, RunsJob, TextEnds, check_text, takes_distinct};
 ghost use Rattle.ax_app.specs.Loaded.{specs_of, IsLoadedFor};
+ghost use Rattle.ax_app.specs.Running.{WasIdle, WantsFirst};
 
 use crate::loading::Loaded;
 use crate::makers::{ShowMaker, TextMaker};
@@ -56,6 +57,7 @@ fn check_text(alloc: Global, spec: &Spec) -> Result<Vec<u8>, AllocError>
 /// Writes a text that counts so many blocks, as one piece.
 fn write_out<K: Sink>(out: &mut K, text: &[u8], blocks: u64) -> Outcome
     ensures ends { TextEnds blocks text.now (sink_change K.Sink out.old out.new) result }
+    ensures never_wants { result ≡ Outcome.OutOfMemory → ⊥ }
     ensures never_falls { K.faults out.old ≤ K.faults out.new }
 {
     match write_text(out, text) {
@@ -69,6 +71,7 @@ fn write_out<K: Sink>(out: &mut K, text: &[u8], blocks: u64) -> Outcome
 fn check<K: Sink>(alloc: Global, catalogue: &Catalogue, out: &mut K) -> Outcome
     requires { IsReadyToCheck (catalogue_tree catalogue.now) }
     ensures ends { (spec : SpecTree) → catalogue_tree catalogue.now ≡ spec ∷ [] → TextEnds 0 (check_text spec) (sink_change K.Sink out.old out.new) result }
+    ensures first { result ≡ Outcome.OutOfMemory → GainsNothing (sink_change K.Sink out.old out.new) }
     ensures never_falls { K.faults out.old ≤ K.faults out.new }
 {
     let Some(accepted) = catalogue.at(0) else {
@@ -92,6 +95,7 @@ fn trial<K: Sink>(
 ) -> Result<Outcome, JobStop>
     requires { IsReadyToTry count (catalogue_tree catalogue.now) }
     ensures ends { IfOk result (λ outcome. (spec : SpecTree) → catalogue_tree catalogue.now ≡ spec ∷ [] → EndsTrial spec seed count (sink_change K.Sink out.old out.new) outcome) }
+    ensures first { IfOk result (λ outcome. outcome ≡ Outcome.OutOfMemory → ⊥) }
     ensures memory { IfErr result (λ stop. stop ≡ OutOfMemory) }
     ensures nothing { OnErr result (GainsNothing (sink_change K.Sink out.old out.new)) }
     ensures never_falls { K.faults out.old ≤ K.faults out.new }
@@ -106,6 +110,7 @@ fn trial<K: Sink>(
 }
 
 /// `canon`: the canonical form of each block. All memory is taken before the input is read.
+#[tactic(auto, using(crate::proofs::Memory::firsts))]
 fn canon<S: Source, K: Sink, R: Sink>(
     alloc: Global,
     catalogue: &Catalogue,
@@ -115,6 +120,7 @@ fn canon<S: Source, K: Sink, R: Sink>(
 ) -> Result<Outcome, JobStop>
     ensures runs { (files : List (List ℕ)) → IfOk result (RunsJob (Canon files) (catalogue_tree catalogue.now) (source_change S.Source source.old source.new) (sink_change K.Sink out.old out.new) (sink_change R.Sink report.old report.new)) }
     ensures memory { IfErr result (λ stop. stop ≡ OutOfMemory) }
+    ensures first { IfOk result (WasIdle (source_change S.Source source.old source.new) (sink_change K.Sink out.old out.new)) }
     ensures idle { OnErr result (IsIdle (source_change S.Source source.old source.new) (sink_change K.Sink out.old out.new) (sink_change R.Sink report.old report.new)) }
     ensures source_later { S.faults source.old ≤ S.faults source.new }
     ensures out_later { K.faults out.old ≤ K.faults out.new }
@@ -130,6 +136,7 @@ fn canon<S: Source, K: Sink, R: Sink>(
 }
 
 /// The records of each block that a filter over the catalogue holds of. All memory is taken before the input is read.
+#[tactic(auto, using(crate::proofs::Memory::firsts))]
 fn filter_blocks<S: Source, K: Sink, R: Sink>(
     alloc: Global,
     filter: &ax_filter::Filter<'_>,
@@ -141,6 +148,7 @@ fn filter_blocks<S: Source, K: Sink, R: Sink>(
     requires { catalogue_of filter.now ≡ catalogue_tree catalogue.now }
     ensures runs { IfOk result (BlocksRun (filter_command (expression filter.now) (catalogue_tree catalogue.now)) (source_change S.Source source.old source.new) (sink_change K.Sink out.old out.new) (sink_change R.Sink report.old report.new)) }
     ensures memory { IfErr result (λ stop. stop ≡ OutOfMemory) }
+    ensures first { IfOk result (WasIdle (source_change S.Source source.old source.new) (sink_change K.Sink out.old out.new)) }
     ensures idle { OnErr result (IsIdle (source_change S.Source source.old source.new) (sink_change K.Sink out.old out.new) (sink_change R.Sink report.old report.new)) }
     ensures source_later { S.faults source.old ≤ S.faults source.new }
     ensures out_later { K.faults out.old ≤ K.faults out.new }
@@ -168,6 +176,7 @@ fn filter<S: Source, K: Sink, R: Sink>(
     requires { length text.now ≤ 2 ^ 31 }
     ensures runs { (files : List (List ℕ)) → IfOk result (RunsJob (Filter text.now files) (catalogue_tree catalogue.now) (source_change S.Source source.old source.new) (sink_change K.Sink out.old out.new) (sink_change R.Sink report.old report.new)) }
     ensures stopped { (files : List (List ℕ)) → IfErr result (IsStopped (Filter text.now files) (catalogue_tree catalogue.now)) }
+    ensures first { IfOk result (WasIdle (source_change S.Source source.old source.new) (sink_change K.Sink out.old out.new)) }
     ensures idle { OnErr result (IsIdle (source_change S.Source source.old source.new) (sink_change K.Sink out.old out.new) (sink_change R.Sink report.old report.new)) }
     ensures source_later { S.faults source.old ≤ S.faults source.new }
     ensures out_later { K.faults out.old ≤ K.faults out.new }
@@ -181,6 +190,7 @@ fn filter<S: Source, K: Sink, R: Sink>(
 }
 
 /// Each block of the old edition in the new one, by the relation of the two. All memory is taken before the input is read.
+#[tactic(auto, using(crate::proofs::Memory::firsts))]
 fn migrate_blocks<S: Source, K: Sink, R: Sink>(
     alloc: Global,
     relation: &Relation,
@@ -193,6 +203,7 @@ fn migrate_blocks<S: Source, K: Sink, R: Sink>(
     requires { Relates old.now new.now relation.now }
     ensures runs { IfOk result (BlocksRun (migrate_command (spec_tree old.now) (spec_tree new.now)) (source_change S.Source source.old source.new) (sink_change K.Sink out.old out.new) (sink_change R.Sink report.old report.new)) }
     ensures memory { IfErr result (λ stop. stop ≡ OutOfMemory) }
+    ensures first { IfOk result (WasIdle (source_change S.Source source.old source.new) (sink_change K.Sink out.old out.new)) }
     ensures idle { OnErr result (IsIdle (source_change S.Source source.old source.new) (sink_change K.Sink out.old out.new) (sink_change R.Sink report.old report.new)) }
     ensures source_later { S.faults source.old ≤ S.faults source.new }
     ensures out_later { K.faults out.old ≤ K.faults out.new }
@@ -220,6 +231,7 @@ fn migrate<S: Source, K: Sink, R: Sink>(
 ) -> Result<Outcome, JobStop>
     ensures runs { (names : List ℕ × List ℕ) → IfOk result (RunsJob (Migrate names.0 names.1) (spec_tree old.now ∷ spec_tree new.now ∷ []) (source_change S.Source source.old source.new) (sink_change K.Sink out.old out.new) (sink_change R.Sink report.old report.new)) }
     ensures stopped { (names : List ℕ × List ℕ) → IfErr result (IsStopped (Migrate names.0 names.1) (spec_tree old.now ∷ spec_tree new.now ∷ [])) }
+    ensures first { IfOk result (WasIdle (source_change S.Source source.old source.new) (sink_change K.Sink out.old out.new)) }
     ensures idle { OnErr result (IsIdle (source_change S.Source source.old source.new) (sink_change K.Sink out.old out.new) (sink_change R.Sink report.old report.new)) }
     ensures source_later { S.faults source.old ≤ S.faults source.new }
     ensures out_later { K.faults out.old ≤ K.faults out.new }
@@ -247,6 +259,7 @@ fn over_catalogue<S: Source, K: Sink, R: Sink>(
     requires distinct { IsTrue (takes_distinct line.now) }
     ensures runs { IfOk result (RunsJob line.now (catalogue_tree catalogue.now) (source_change S.Source source.old source.new) (sink_change K.Sink out.old out.new) (sink_change R.Sink report.old report.new)) }
     ensures stopped { IfErr result (IsStopped line.now (catalogue_tree catalogue.now)) }
+    ensures first { IfOk result (WantsFirst line.now (source_change S.Source source.old source.new) (sink_change K.Sink out.old out.new)) }
     ensures idle { OnErr result (IsIdle (source_change S.Source source.old source.new) (sink_change K.Sink out.old out.new) (sink_change R.Sink report.old report.new)) }
     ensures source_later { S.faults source.old ≤ S.faults source.new }
     ensures out_later { K.faults out.old ≤ K.faults out.new }
@@ -285,6 +298,7 @@ pub fn do_job<S: Source, K: Sink, R: Sink>(
     requires loaded { IsLoadedFor (takes_distinct line.now) loaded.now }
     ensures runs { IfOk result (RunsJob line.now (specs_of loaded.now) (source_change S.Source source.old source.new) (sink_change K.Sink out.old out.new) (sink_change R.Sink report.old report.new)) }
     ensures stopped { IfErr result (IsStopped line.now (specs_of loaded.now)) }
+    ensures first { IfOk result (WantsFirst line.now (source_change S.Source source.old source.new) (sink_change K.Sink out.old out.new)) }
     ensures idle { OnErr result (IsIdle (source_change S.Source source.old source.new) (sink_change K.Sink out.old out.new) (sink_change R.Sink report.old report.new)) }
     ensures source_later { S.faults source.old ≤ S.faults source.new }
     ensures out_later { K.faults out.old ≤ K.faults out.new }

@@ -12,13 +12,13 @@ ghost use Rattle.ax_text.specs.Names.{IsNamed};
 ghost use Rattle.ax_text.specs.Tokens.{BlockTokens};
 ghost use Rattle.ax_tokens.specs.Lexing.{AreTokensOf};
 
-/// Under specifications without flaw no line has two answers.
+/// Under specifications without flaw whose names are names, no line has two answers.
 pub fn one_answer()
     ensures { (catalogue : List SpecTree) → AllByRecursion (λ spec. NoFlaw spec × IsNamed spec) catalogue → HasOneAnswer (build_command catalogue) }
 {}
 
-/// A line whose tokens are those of a printed block is answered with the block's canonical form, where that is no longer
-/// than a block may be.
+/// A line whose tokens are those of a printed block, of a category with a specification, is answered with the block's
+/// canonical form, where that is no longer than a block may be.
 pub fn printed_lines_are_built()
     ensures { (catalogue : List SpecTree) (spec : SpecTree) (block : BlockTree) (number : ℕ) (line : List ℕ) → spec_of (category_of block) catalogue ≡ Some spec → IsBlockOf catalogue block → canonical_length catalogue block ≤ 65535
         → AreTokensOf line deepest (BlockTokens spec block) → build_command catalogue number line (gives (canon_block spec block)) }

@@ -12,8 +12,8 @@ use ax_stream::{InputFault, StreamEnd};
 /// How a run ends.
 #[derive(Drop)]
 pub enum Outcome {
-    /// The input, where the command reads it, was read to its end, and the result of its blocks was written. `blocks`
-    /// counts them.
+    /// The input, where the command reads it, was read to its end, and the whole result was written. `blocks` counts the blocks
+    /// that were taken, or by `build` and `trial` made; it is 0 of a command without any.
     Done { blocks: u64 },
     /// The words have no shape that the program knows.
     Usage,
@@ -27,7 +27,7 @@ pub enum Outcome {
     OtherCategory { old: u8, new: u8 },
     /// The input has a fault.
     InputRefused { fault: InputFault },
-    /// That line of the input, numbered from 0, is no block's text.
+    /// That line of the input, numbered from 0, is too long, no block's text, or the text of a block that is too long.
     TextRefused { line: u64, fault: TextFault },
     /// The migrated form of that block has that many octets, more than a block can have.
     MigratedTooLong { block: u64, octets: u32 },
@@ -39,7 +39,7 @@ pub enum Outcome {
     ReadFault,
     /// The output could not be written.
     WriteFault,
-    /// A line of the report could not be written.
+    /// The line of a loss could not be written.
     ReportFault,
     /// Want of memory.
     OutOfMemory,
@@ -59,7 +59,7 @@ pub enum Refusal {
 pub enum JobStop {
     /// The command refuses what it is asked to do.
     Refused(Refusal),
-    /// No memory was left before it was known what the command does.
+    /// No memory was left, and nothing was taken or written.
     OutOfMemory,
 }
 
@@ -112,7 +112,7 @@ impl From<LinesEnd<TextFault>> for Outcome {
 
     fn from(end: LinesEnd<TextFault>) -> Self {
         match end {
-            LinesEnd::Done { blocks } => Outcome::Done { blocks },
+            LinesEnd::Done { results } => Outcome::Done { blocks: results },
             LinesEnd::Refused { line, fault } => Outcome::TextRefused { line, fault },
             LinesEnd::LineTooLong { line } => {
                 let fault = TextFault::LineTooLong;
@@ -127,7 +127,8 @@ impl From<LinesEnd<TextFault>> for Outcome {
 }
 
 impl Outcome {
-    /// The exit status: 0 for Done, 1 for faulty words, 2 for a refused file, 3 for a refused input, 4 for a
+    /// The exit status: 0 for Done, 1 for faulty words, 2 for a refused file or expression and for two editions of
+    /// different categories, 3 for a refused input, 4 for a
     /// fault of the outside, 5 for want of memory. Takes no memory.
     pub fn status(&self) -> u8
         ensures { result ≡ status_of self.now }

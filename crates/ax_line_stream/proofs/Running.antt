@@ -390,7 +390,7 @@ memory_first c line_limit limit left held taken faults fails = record {
     past = 0;
     rest = input;
     front = record { begins = (refl, refl); answered = record { each = tt; none_refused = tt } };
-    next = RunOf.nothing_taken l;
+    next = RunOf.nothing_taken refl l;
     out = gains_none held fails fails;
   }));
   caused = tt;

@@ -58,7 +58,8 @@ pub record IsLeftOf (octets : List ℕ) (left' : Option (List ℕ)) : Type 0 whe
   pub split : octets ≡ held ++ rest
   pub left : left' ≡ Some rest
 
--- a read failed: the lines are all those whose line feed was taken, and `part` are the octets taken of the next one
+-- a read failed: the lines are all those whose line feed was taken, and a last one without it where the input had ended; `part`
+-- are the octets taken of the next one
 pub record StoppedReading {F : Type 0} (c : LineCommand F) (line_limit limit : ℕ) (input : List ℕ) (left' : Option (List ℕ)) (o : SinkChange) : Type 0 where
   pub lines : List (List ℕ)
   pub answers : List (LineAnswer F)
@@ -87,9 +88,9 @@ pub record StoppedWriting {F : Type 0} (c : LineCommand F) (line_limit limit : �
   pub left : IsLeftOf after left'
   pub out : GainsWithPart o (output_of answers) laid
 
--- nothing was taken, or a line
+-- nothing was taken, all of the input being left, or a line
 pub data IsBefore (line_limit limit past : ℕ) (input rest : List ℕ) (left' : Option (List ℕ)) : Type 0 where
-  nothing_taken : left' ≡ Some input → IsBefore line_limit limit past input rest left'
+  nothing_taken : rest ≡ input → left' ≡ Some input → IsBefore line_limit limit past input rest left'
   one_taken : (one after : List ℕ) → IsNextLine line_limit limit past rest (line one after) → IsLeftOf after left' → IsBefore line_limit limit past input rest left'
 
 -- memory was wanting: before the first line, or for the line after these

@@ -25,17 +25,17 @@ pub fn drive_lines<W: LineWork, S: Source, K: Sink>(
     ensures { LinesRun (W.command work.old) reader.old.line_limit reader.old.limit (source_change S.Source source.old source.new) (sink_change K.Sink out.old out.new) result }
 {
     let mut lines = 0;
-    let mut blocks = 0;
+    let mut results = 0;
     'lines: loop {
         match reader.next(source) {
             Ok(Some(line)) => match do_line(work, out, lines, line) {
                 Ok(count) => {
                     lines += 1;
-                    blocks += count;
+                    results += count;
                 }
                 Err(end) => return end,
             },
-            Ok(None) => return LinesEnd::Done { blocks },
+            Ok(None) => return LinesEnd::Done { results },
             Err(error) => return reader_end(error, lines),
         }
     }

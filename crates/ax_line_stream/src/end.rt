@@ -8,7 +8,7 @@ use ax_lines::LineError;
 #[derive(Clone, Copy, Debug, PartialEq, Eq)]
 pub enum LinesEnd<F> {
     /// The input was read to its end, and so many lines had a result.
-    Done { blocks: u64 },
+    Done { results: u64 },
     /// That line is refused.
     Refused { line: u64, fault: F },
     /// That line has more octets than the limit on a line.

@@ -70,10 +70,10 @@ fn echo_work(alloc: Global) -> Echo {
 
 // An input, the limits on a line and on the input, what is written, and the end.
 const CASES: [(&str, u32, u32, &str, LinesEnd<u64>); 12] = [
-    ("", 4, 100, "", LinesEnd::Done { blocks: 0 }),
-    ("\n\n", 4, 100, "", LinesEnd::Done { blocks: 0 }),
-    ("12\n\n3", 4, 100, "123", LinesEnd::Done { blocks: 2 }),
-    ("12\n\n3\n", 4, 6, "123", LinesEnd::Done { blocks: 2 }),
+    ("", 4, 100, "", LinesEnd::Done { results: 0 }),
+    ("\n\n", 4, 100, "", LinesEnd::Done { results: 0 }),
+    ("12\n\n3", 4, 100, "123", LinesEnd::Done { results: 2 }),
+    ("12\n\n3\n", 4, 6, "123", LinesEnd::Done { results: 2 }),
     ("x", 4, 100, "", LinesEnd::Refused { line: 0, fault: 0 }),
     (
         "1\n\nx\n2",
@@ -148,15 +148,34 @@ fn a_failing_read_ends_the_run(rt: HostRuntime) -> Result<(), Fail> {
     Ok(())
 }
 
+const UNENDED: &str = "12\n3";
+
+// The same of an input whose last line has no line feed: it is a line once the input has ended, though a later read fails.
+const LAST_READS: [(u64, &str); 3] = [(3, "12"), (4, "12"), (5, "123")];
+
+#[test]
+fn a_last_line_is_given_where_the_input_ended(rt: HostRuntime) -> Result<(), Fail> {
+    let alloc = rt.alloc();
+    for (call, written) in LAST_READS {
+        let mut source = source(alloc, UNENDED, &[1; 6], &[call])?;
+        let mut out = sink(alloc, 100, &[])?;
+        let mut reader = LineReader::new(alloc, 4, 100)?;
+        let ended = drive_lines(&mut reader, &mut echo_work(alloc), &mut source, &mut out);
+        assert!(rt; ended == LinesEnd::ReadFault, "of call {call}");
+        assert_eq!(rt; out.written(), written.as_bytes(), "of call {call}");
+    }
+    Ok(())
+}
+
 // How many octets a call writes at most, the failing call, what is written, and the end: each result is one piece.
 const WRITES: [(u32, u64, &str, LinesEnd<u64>); 7] = [
     (1, 0, "", LinesEnd::WriteFault),
     (1, 1, "1", LinesEnd::WriteFault),
     (1, 2, "12", LinesEnd::WriteFault),
-    (1, 3, "123", LinesEnd::Done { blocks: 2 }),
+    (1, 3, "123", LinesEnd::Done { results: 2 }),
     (100, 0, "", LinesEnd::WriteFault),
     (100, 1, "12", LinesEnd::WriteFault),
-    (100, 2, "123", LinesEnd::Done { blocks: 2 }),
+    (100, 2, "123", LinesEnd::Done { results: 2 }),
 ];
 
 #[test]
@@ -179,7 +198,7 @@ fn a_run_reads_the_input_to_its_end(rt: HostRuntime) -> Result<(), Fail> {
     let mut source = source(alloc, LINES, &[], &[])?;
     let mut out = sink(alloc, 100, &[])?;
     let ended = run_lines(alloc, &mut echo_work(alloc), &mut source, &mut out);
-    assert!(rt; ended == LinesEnd::Done { blocks: 2 });
+    assert!(rt; ended == LinesEnd::Done { results: 2 });
     assert_eq!(rt; out.written(), b"123".as_slice());
     Ok(())
 }

@@ -109,6 +109,7 @@ fn each_cut_gives_the_same(rt: HostRuntime) -> Result<(), Fail> {
     let alloc = rt.alloc();
     for cuts in CUTS {
         for (octets, line_limit, limit, written, end) in CASES {
+            assert!(rt; line_limit <= 4);
             let mut reader = LineReader::new(alloc, line_limit, limit as u64)?;
             let mut source = source(alloc, octets, cuts, &[])?;
             let mut out = sink(alloc, 100, &[])?;

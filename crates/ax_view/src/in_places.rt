@@ -9,7 +9,7 @@ use crate::places::{FoundItem, PlacedSlots};
 
 impl<'v, 'c, 'a> PlacedSlots<'v, 'c, 'a> {
     /// The item of a slot, without a walk. None comes exactly where it isn't marked.
-    #[inline]
+    #[inline(always)]
     pub fn item(&self, slot: u32) -> Option<FoundItem<'c, 'a>>
         requires placed { IsPlaced self.now }
         ensures value { option_map (λ found. item_value found.item) result ≡ slot_value slot (placed_entries self.now) }

@@ -27,6 +27,7 @@ pub struct Places {
 
 impl Places {
     /// No slot is marked.
+    #[inline(always)]
     pub fn new() -> Places {
         Places {
             marked: Presence::empty(),

@@ -212,7 +212,9 @@ fn migrate_blocks<S: Source, K: Sink, R: Sink>(
     let Ok(codec) = compile(alloc, old) else {
         return Err(JobStop::OutOfMemory);
     };
-    let migrator = Migrator::new(old.spec(), new.spec(), relation, &codec);
+    let Ok(migrator) = Migrator::new(alloc, old.spec(), new.spec(), relation, &codec) else {
+        return Err(JobStop::OutOfMemory);
+    };
     let Ok(mut work) = MigrateViews::new(alloc, migrator) else {
         return Err(JobStop::OutOfMemory);
     };

@@ -1,5 +1,5 @@
 -- What `migrate` over views does with one block.
-use Rattle.std.proofs.Common.{◌≡◌, ℕ, ◌<◌, ◌≤◌, ◌==◌, Bool, true, false, cond, List, [], ◌∷◌, ◌++◌, Option, Some, None, length, take, refl, sym, ◌∙◌, ap, subst, arith, Ok, Err}
+use Rattle.std.proofs.Common.{◌≡◌, ℕ, ◌<◌, ◌≤◌, ◌==◌, Bool, true, false, cond, List, [], ◌∷◌, ◌++◌, Option, Some, None, length, take, refl, sym, ◌∙◌, ap, subst, arith, Result, Ok, Err}
 use Rattle.std.proofs.lemmas.Bool.{eqb-true}
 use Rattle.std.proofs.lemmas.List.{take-append-le, take-take}
 use Rattle.ax_bits.specs.Bits.{bits}
@@ -8,11 +8,12 @@ use Rattle.ax_migrate.specs.Losing.{losses_from, lost_lines}
 use Rattle.ax_migrate.specs.Migrating.{migrated_block}
 use Rattle.ax_migrate_view_work.specs.Ending.{LaysTaken, StopsAt}
 use Rattle.ax_migrate_views.specs.Blocks.{old_tree, new_tree, IsOfEditions, IsMigratedBlock, LaysMigrated}
-use Rattle.ax_migrate_views.specs.Losses.{WritesLosses}
+use Rattle.ax_migrate_views.specs.Losses.{TellsLosses, WritesLosses}
 use Rattle.ax_migrate_views.specs.declared.migrator.Migrator.{Migrator}
 use Rattle.ax_migrate_work.proofs.Answering.{given, refused}
 use Rattle.ax_migrate_work.specs.Commands.{migrate_command}
 use Rattle.ax_model.proofs.CanonFramed.{length-framed}
+use Rattle.ax_model.proofs.Once.{body_never_both}
 use Rattle.ax_model.specs.Blocks.{BlockTree, read_block, opaque_block}
 use Rattle.ax_model.specs.Bodies.{SpellsBody}
 use Rattle.ax_model.specs.CanonicalOctets.{canon_block, canon_length, framed}
@@ -22,7 +23,8 @@ use Rattle.ax_model.specs.Specification.{SpecTree, spec_of}
 use Rattle.ax_model.specs.Tree.{EntriesTree}
 use Rattle.ax_model.specs.declared.fault.BodyFault.{BodyFault}
 use Rattle.ax_outside.proofs.Ends.{with_end-nil}
-use Rattle.ax_outside.proofs.Pieces.{change}
+use Rattle.ax_outside.proofs.Pieces.{change, same_text}
+use Rattle.ax_outside.specs.Changes.{Wrote}
 use Rattle.ax_outside.specs.declared.sinks.SinkFailed.{SinkFailed}
 use Rattle.ax_stream.proofs.BlockSteps.{short_fault}
 use Rattle.ax_stream.proofs.OpaqueBlocks.{raw_framed}
@@ -153,3 +155,16 @@ opaque_taken m number raw h f count u output laid other few some block is = reco
 
 pub in_place : (n len : ℕ) (output after : List ℕ) → n ≤ 65535 → length output ≡ 131067 → 131067 ≤ len → take n (take len (output ++ after)) ≡ take n output
 in_place n len output after within room enough = take-take n len (output ++ after) (omega arith) ∙ take-append-le n output after (omega arith)
+
+-- ---- the lines
+
+pub lines_whole : (m : Migrator) (body : List ℕ) (number told : ℕ) (lines : List ℕ) (h h' : Option (List ℕ)) (f f' : ℕ) (r : Result Unit SinkFailed) → told ≤ 65535 → TellsLosses m body number told lines → Wrote (change h h' f f') r (take told lines)
+    → WritesLosses m body number (change h h' f f') r
+lines_whole m body number told lines h h' f f' r short t w = record {
+  lines = λ records spells. same_text h h' f f' r (take told lines) (lost_lines number (losses_from (old_tree m) (new_tree m) 0 records)) (t.told records spells short) w;
+}
+
+pub lines_never : (m : Migrator) (body : List ℕ) (number : ℕ) (fault : BodyFault) (h h' : Option (List ℕ)) (f f' : ℕ) (r : Result Unit SinkFailed) → IsOfEditions m → FailsThere m.codec.now body fault → WritesLosses m body number (change h h' f f') r
+lines_never m body number fault h h' f f' r of fails = record {
+  lines = λ records spells. absurd (body_never_both (old_tree m) (bits body) records fault.bit fault.cause spells (fails.fails (old_tree m) of.compiled.clean of.compiled.stands));
+}

@@ -8,7 +8,7 @@ use ax_model::RawBlock;
 use ax_values::write_opaque;
 use std::alloc::{AllocError, Global};
 
-/// The octets of an output: those of the longest data block, and behind it those of the longest item.
+/// The octets of an output: 65,535 that are kept, and behind them room for the longest item.
 pub(crate) const ROOM: usize = 131_067;
 
 /// So many zeros. They stand in a function of their own, so that no proof spells them out.

@@ -11,27 +11,32 @@ use ax_outside::Sink;
 use ax_stream::{BlockWork, WorkStop};
 use std::alloc::{AllocError, Global};
 
-/// `migrate` over views, by a migrator between the two editions. What is written stands in one output.
+/// `migrate` over views, by a migrator between the two editions. What is written of a block stands in one output, and the
+/// lines of what it loses in another.
 #[derive(Drop)]
 pub struct MigrateViews<'c> {
     migrator: Migrator<'c>,
     output: Vec<u8>,
+    lines: Vec<u8>,
     filled: u32,
     ghost room: { length output.items ≡ 131067 },
+    ghost lines_room: { length lines.items ≡ 131067 },
     ghost within: { filled ≤ 65535 },
 }
 
 impl<'c> MigrateViews<'c> {
-    /// `migrate` by that migrator. The output is taken here, and no memory after that.
+    /// `migrate` by that migrator. Both outputs are taken here, and no memory after that.
     pub fn new(alloc: Global, migrator: Migrator<'c>) -> Result<MigrateViews<'c>, AllocError>
         requires { IsOfEditions migrator }
         ensures command { IfOk result (λ work. ⟦<MigrateViews<'c> as BlockWork>⟧.command work ≡ migrate_command (old_tree migrator.entry) (new_tree migrator.entry)) }
         ensures sound { IfOk result (λ work. ⟦<MigrateViews<'c> as BlockWork>⟧.sound work) }
     {
         let output = zeros(alloc, ROOM)?;
+        let lines = zeros(alloc, ROOM)?;
         Ok(MigrateViews {
             migrator,
             output,
+            lines,
             filled: 0,
         })
     }
@@ -58,7 +63,14 @@ impl<'c> BlockWork for MigrateViews<'c> {
             self.filled = lay_opaque(raw, &mut self.output);
             return Ok(());
         }
-        match migrate_block(&self.migrator, number, raw, report, &mut self.output) {
+        match migrate_block(
+            &self.migrator,
+            number,
+            raw,
+            report,
+            &mut self.output,
+            &mut self.lines,
+        ) {
             Ok(count) => {
                 self.filled = count;
                 Ok(())

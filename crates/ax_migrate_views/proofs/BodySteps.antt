@@ -1,15 +1,22 @@
 -- Records laid one after the other.
-use Rattle.std.proofs.Common.{◌≡◌, ℕ, ◌+◌, ◌-◌, ◌<◌, ◌≤◌, false, List, [], ◌∷◌, ◌++◌, length, take, drop, refl, sym, ◌∙◌, ap, arith, subst, append_assoc, append-nil, take-append-drop, take-add, length-drop}
+use Rattle.std.proofs.Common.{◌≡◌, ℕ, ◌+◌, ◌-◌, ◌<◌, ◌≤◌, false, List, [], ◌∷◌, ◌++◌, length, take, drop, refl, sym, ◌∙◌, ap, arith, subst, append_assoc, append-nil, take-append-drop, take-add, length-append, length-drop}
 use Rattle.std.proofs.lemmas.List.{length-take-le, take_all}
+use Rattle.std.proofs.lemmas.List.Concat.{flat_map-append}
 use Rattle.ax_bits.proofs.Words.{bits-append, length-bits}
 use Rattle.ax_bits.specs.Bits.{bits}
 use Rattle.ax_canon.proofs.BodyWriting.{gets_of, some_bits}
 use Rattle.ax_edition.specs.Moves.{MovesTree}
 use Rattle.ax_edition.specs.PlainMoves.{moves_tree}
 use Rattle.ax_edition.specs.declared.moves.Move.{Move}
+use Rattle.ax_edition.specs.declared.relation.RelationPath.{RelationPath}
+use Rattle.ax_migrate.specs.Finding.{record_losses, found_losses}
+use Rattle.ax_migrate.specs.Losing.{lost_line, lost_lines}
+use Rattle.ax_migrate.specs.declared.losing.LossEntry.{LossEntry}
+use Rattle.ax_migrate_views.proofs.GonePaths.{found_more}
 use Rattle.ax_migrate_views.proofs.LaidBits.{lays_none, lays_more}
-use Rattle.ax_migrate_views.specs.Bodies.{body_by, LaysBody}
-use Rattle.ax_migrate_views.specs.Laying.{Lays}
+use Rattle.ax_migrate_views.proofs.ToldLines.{gathers_none, gathers_then, told_same}
+use Rattle.ax_migrate_views.specs.Bodies.{body_by, LaysBody, TellsBody}
+use Rattle.ax_migrate_views.specs.Laying.{Gathers, Lays}
 use Rattle.ax_migrate_views.specs.Octets.{canon_by}
 use Rattle.ax_model.proofs.Bounds.{record_bounds}
 use Rattle.ax_model.proofs.Once.{body_once, body_never_both}
@@ -27,21 +34,30 @@ use Rattle.ax_tables.specs.Standing.{StandsFor}
 use Rattle.ax_tables.specs.Table.{record_kind_at}
 use Rattle.ax_tables.specs.declared.codec.Codec.{Codec}
 use Rattle.ax_view.proofs.BodySteps.{loses_of, one_more, record_value, some_records, record_forwards}
-use Rattle.ax_view.specs.RecordsAt.{IsRecordAt, IsNoRecord}
-use Rattle.ax_view.specs.Values.{value_in}
+use Rattle.ax_view.specs.Placing.{PlacesKind, entries_there}
+use Rattle.ax_view.specs.Values.{value_read, entries_in}
+use Rattle.ax_view.specs.Views.{FailsThere, SpellsSome}
+use Rattle.ax_view.specs.declared.places.Places.{Places}
 
 -- the records in front are laid
-pub record RecordsMoved (spec : SpecTree) (moves : List Move) (body : List ℕ) (here at end : ℕ) (old now : List ℕ) : Type 0 where
+pub record RecordsMoved (spec : SpecTree) (moves : List Move) (lost : List RelationPath) (block : ℕ) (body : List ℕ) (here end number told : ℕ) (old now before lines : List ℕ) : Type 0 where
   pub records : List EntriesTree
   pub spelled : RecordsSpell spec records (bits (take here body))
-  pub laid : Lays (body_by (moves_tree moves) spec records) at end old now
+  pub count : number ≡ length records
+  pub laid : Lays (body_by (moves_tree moves) spec records) 3 end old now
+  pub lost_of : Gathers (lost_lines block (found_losses lost 0 records)) 0 told before lines
 
-pub record BodyMoves (codec : Codec) (moves : List Move) (body : List ℕ) (here at end : ℕ) (old now : List ℕ) : Type 0 where
+pub record BodyMoves (codec : Codec) (moves : List Move) (lost : List RelationPath) (block : ℕ) (body : List ℕ) (here end number told : ℕ) (old now before lines : List ℕ) : Type 0 where
   pub within : here ≤ length body
-  pub records : (spec : SpecTree) → NoFlaw spec → StandsFor codec spec → RecordsMoved spec moves body here at end old now
+  pub few : number ≤ here
+  pub records : (spec : SpecTree) → NoFlaw spec → StandsFor codec spec → RecordsMoved spec moves lost block body here end number told old now before lines
 
-pub body_first : (codec : Codec) (moves : List Move) (body : List ℕ) (at : ℕ) (output : List ℕ) → at < 4294967296 → BodyMoves codec moves body 0 at at output output
-body_first codec moves body at output few = record { within = omega arith; records = λ spec clean stands. record { records = []; spelled = refl; laid = lays_none at output (omega arith) } }
+pub body_first : (codec : Codec) (moves : List Move) (lost : List RelationPath) (block : ℕ) (body output lines : List ℕ) → BodyMoves codec moves lost block body 0 3 0 0 output output lines lines
+body_first codec moves lost block body output lines = record {
+  within = omega arith;
+  few = omega arith;
+  records = λ spec clean stands. record { records = []; spelled = refl; count = refl; laid = lays_none 3 output (omega arith); lost_of = gathers_none 0 lines (omega arith) };
+}
 
 by_more : (ms : MovesTree) (spec : SpecTree) (rs : List EntriesTree) (r : EntriesTree) → body_by ms spec (rs ++ r ∷ []) ≡ body_by ms spec rs ++ canon_by ms (bare_kind (record_kind spec)) (marked r)
 by_more ms spec [] r = append-nil (canon_by ms (bare_kind (record_kind spec)) (marked r))
@@ -49,31 +65,44 @@ by_more ms spec (x ∷ rs) r =
     ap (λ y. canon_by ms (bare_kind (record_kind spec)) (marked x) ++ y) (by_more ms spec rs r)
     ∙ sym (append_assoc (canon_by ms (bare_kind (record_kind spec)) (marked x)) (body_by ms spec rs) (canon_by ms (bare_kind (record_kind spec)) (marked r)))
 
-module _ (codec : Codec) (moves : List Move) (body : List ℕ) (here at end : ℕ) (old now : List ℕ) (h : BodyMoves codec moves body here at end old now) (lt : here < length body) where
-  module _ (next n : ℕ) (new octets : List ℕ) (r : IsRecordAt codec body here next octets)
-      (l : Lays (canon_by (moves_tree moves) (record_kind_at codec.nodes codec.slots) (value_in (record_kind_at codec.nodes codec.slots) octets)) end n now new) where
-    more : (spec : SpecTree) → NoFlaw spec → StandsFor codec spec → RecordsMoved spec moves body here at end old now → RecordsMoved spec moves body next at n old new
+-- each record has some octets
+pub body_goes_on : (codec : Codec) (body : List ℕ) (here next : ℕ) (p : Places) → PlacesKind codec.nodes codec.slots body here p next → here < next
+body_goes_on codec body here next p r =
+    record_forwards codec.nodes codec.slots body here next false codec.records.bounds (record { value = marked r.entries; read = r.read; canonical = λ no_flag. cc })
+
+module _ (codec : Codec) (moves : List Move) (lost : List RelationPath) (block : ℕ) (body : List ℕ) (here end number told : ℕ) (old now before lines : List ℕ) (h : BodyMoves codec moves lost block body here end number told old now before lines) (lt : here < length body) where
+  module _ (next n : ℕ) (new : List ℕ) (p : Places) (r : PlacesKind codec.nodes codec.slots body here p next)
+      (l : Lays (canon_by (moves_tree moves) (record_kind_at codec.nodes codec.slots) (marked (entries_there codec.nodes codec.slots body here))) end n now new)
+      (tells : ℕ) (after : List ℕ) (g : Gathers (lost_lines block (record_losses number (entries_there codec.nodes codec.slots body here) lost)) told tells lines after) where
+    more : (spec : SpecTree) → NoFlaw spec → StandsFor codec spec → RecordsMoved spec moves lost block body here end number told old now before lines → RecordsMoved spec moves lost block body next n (number + 1) tells old new before after
     more spec clean stands t =
-        let v = value_in (record_kind_at codec.nodes codec.slots) octets in
+        let v = marked r.entries in
         let own = gets_of codec spec body here next v stands r.read in
         let x = bits (take (next - here) (drop here body)) in
         let s = spelled_at (record_kind spec) body here next v (record_bounds spec clean) own in
         let q = record_value (record_slots spec) v x s.spelling.spells in
         let joined : bits (take next body) ≡ bits (take here body) ++ x =
         ap (λ n. bits (take n body)) (let e : next ≡ here + (next - here) = omega (arith, s.forwards) in e) ∙ ap bits (take-add here (next - here) body) ∙ bits-append (take here body) (take (next - here) (drop here body)) in
-        let same : canon_by (moves_tree moves) (record_kind_at codec.nodes codec.slots) v ≡ canon_by (moves_tree moves) (bare_kind (record_kind spec)) (marked q.entries) =
-        λ i. canon_by (moves_tree moves) (stands_record codec spec stands i) (q.is i) in
+        let there : marked (entries_there codec.nodes codec.slots body here) ≡ marked q.entries = ap (λ r. marked (entries_in (value_read r))) r.read.got ∙ q.is in
+        let of_number : 0 + length t.records ≡ number = omega (arith, t.count) in
+        let same : canon_by (moves_tree moves) (record_kind_at codec.nodes codec.slots) (marked (entries_there codec.nodes codec.slots body here)) ≡ canon_by (moves_tree moves) (bare_kind (record_kind spec)) (marked q.entries) =
+        λ i. canon_by (moves_tree moves) (stands_record codec spec stands i) (there i) in
         record {
           records = t.records ++ q.entries ∷ [];
           spelled = subst (RecordsSpell spec (t.records ++ q.entries ∷ [])) (sym joined) (one_more spec t.records q.entries (bits (take here body)) x t.spelled (record { spells = q.spells }));
-          laid = lays_more (body_by (moves_tree moves) spec t.records) (canon_by (moves_tree moves) (bare_kind (record_kind spec)) (marked q.entries)) (body_by (moves_tree moves) spec (t.records ++ q.entries ∷ [])) at end n old now new
+          count = omega (arith, t.count, length-append t.records (q.entries ∷ []));
+          laid = lays_more (body_by (moves_tree moves) spec t.records) (canon_by (moves_tree moves) (bare_kind (record_kind spec)) (marked q.entries)) (body_by (moves_tree moves) spec (t.records ++ q.entries ∷ [])) 3 end n old now new
               (by_more (moves_tree moves) spec t.records q.entries) t.laid (subst (λ b. Lays b end n now new) same l);
+          lost_of = told_same (lost_lines block (found_losses lost 0 t.records) ++ lost_lines block (record_losses number (entries_there codec.nodes codec.slots body here) lost)) (lost_lines block (found_losses lost 0 (t.records ++ q.entries ∷ []))) 0 tells before after
+              (ap (lost_lines block) (found_more lost 0 t.records q.entries) ∙ flat_map-append (λ (l : LossEntry). lost_line block l.record_at l.path) (found_losses lost 0 t.records) (record_losses (0 + length t.records) q.entries lost)
+              ∙ (λ i. lost_lines block (found_losses lost 0 t.records) ++ lost_lines block (record_losses (of_number i) (entries_in (sym there i)) lost)))
+              (gathers_then (lost_lines block (found_losses lost 0 t.records)) (lost_lines block (record_losses number (entries_there codec.nodes codec.slots body here) lost)) 0 told tells before lines after t.lost_of g);
         }
 
-    pub body_next : BodyMoves codec moves body next at n old new
-    body_next = record { within = r.read.within; records = λ spec clean stands. more spec clean stands (h.records spec clean stands) }
+    pub body_next : BodyMoves codec moves lost block body next n (number + 1) tells old new before after
+    body_next = record { within = r.read.within; few = (let on = body_goes_on codec body here next p r in let count = h.few in omega arith); records = λ spec clean stands. more spec clean stands (h.records spec clean stands) }
 
-  failed : (spec : SpecTree) → NoFlaw spec → StandsFor codec spec → RecordsMoved spec moves body here at end old now → (fault : BodyFault) → FailsAt (kind_read (record_kind_at codec.nodes codec.slots) body here) here fault → FailsBody spec (bits body) fault.bit fault.cause
+  failed : (spec : SpecTree) → NoFlaw spec → StandsFor codec spec → RecordsMoved spec moves lost block body here end number told old now before lines → (fault : BodyFault) → FailsAt (kind_read (record_kind_at codec.nodes codec.slots) body here) here fault → FailsBody spec (bits body) fault.bit fault.cause
   failed spec clean stands t fault l =
       let f = fault_at (record_kind spec) body here fault (record_bounds spec clean) (loses_of codec spec body here fault stands l) in
       record {
@@ -88,21 +117,31 @@ module _ (codec : Codec) (moves : List Move) (body : List ℕ) (here at end : �
         fails = record { fails = f.fails.fails };
       }
 
-  pub body_fails : IsNoRecord codec body here → LaysBody codec moves body at end old now
-  body_fails none = record {
-    laid = λ spec records clean stands spells. absurd (body_never_both spec (bits body) records none.fault.bit none.fault.cause spells (failed spec clean stands (h.records spec clean stands) none.fault none.failed));
+  pub body_fails : (fault : BodyFault) → FailsAt (kind_read (record_kind_at codec.nodes codec.slots) body here) here fault → FailsThere codec body fault
+  body_fails fault f = record { fails = λ spec clean stands. failed spec clean stands (h.records spec clean stands) fault f }
+
+module _ (codec : Codec) (moves : List Move) (lost : List RelationPath) (block : ℕ) (body : List ℕ) (here end number told : ℕ) (old now before lines : List ℕ) (h : BodyMoves codec moves lost block body here end number told old now before lines) (past : length body ≤ here) where
+  all_spelled : (spec : SpecTree) (t : RecordsMoved spec moves lost block body here end number told old now before lines) → 0 < length (bits body) → SpellsBody spec t.records (bits body)
+  all_spelled spec t some =
+      let s : RecordsSpell spec t.records (bits body) = subst (RecordsSpell spec t.records) (ap bits (take_all here body past)) t.spelled in
+      record { some = some_records spec t.records (bits body) s some; spelled = s }
+
+  pub body_laid : LaysBody codec moves body 3 end old now
+  body_laid = record {
+    laid = λ spec records clean stands spells. (
+        let t = h.records spec clean stands in
+        subst (λ rs. Lays (body_by (moves_tree moves) spec rs) 3 end old now) (body_once spec (bits body) t.records records (all_spelled spec t (some_bits spec body records spells)) spells) t.laid);
   }
 
-pub body_last : (codec : Codec) (moves : List Move) (body : List ℕ) (here at end : ℕ) (old now : List ℕ) → BodyMoves codec moves body here at end old now → length body ≤ here → LaysBody codec moves body at end old now
-body_last codec moves body here at end old now h past = record {
-  laid = λ spec records clean stands spells. (
-      let w = h.records spec clean stands in
-      let s : RecordsSpell spec w.records (bits body) = subst (RecordsSpell spec w.records) (ap bits (take_all here body past)) w.spelled in
-      let own : SpellsBody spec w.records (bits body) = record { some = some_records spec w.records (bits body) s (some_bits spec body records spells); spelled = s } in
-      subst (λ rs. Lays (body_by (moves_tree moves) spec rs) at end old now) (body_once spec (bits body) w.records records own spells) w.laid);
-}
+  pub body_told : TellsBody codec lost block body told before lines
+  body_told = record {
+    told = λ spec records clean stands spells. (
+        let t = h.records spec clean stands in
+        subst (λ rs. Gathers (lost_lines block (found_losses lost 0 rs)) 0 told before lines) (body_once spec (bits body) t.records records (all_spelled spec t (some_bits spec body records spells)) spells) t.lost_of);
+  }
 
--- each record has some octets
-pub body_goes_on : (codec : Codec) (body : List ℕ) (here next : ℕ) (octets : List ℕ) → IsRecordAt codec body here next octets → InBounds (record_kind_at codec.nodes codec.slots) → here < next
-body_goes_on codec body here next octets r bounds =
-    record_forwards codec.nodes codec.slots body here next false bounds (record { value = value_in (record_kind_at codec.nodes codec.slots) octets; read = r.read; canonical = λ no_flag. cc })
+  pub body_spelled : 1 ≤ length body → SpellsSome codec body
+  body_spelled some = record {
+    spells = λ spec clean stands. (
+        let t = h.records spec clean stands in (t.records, all_spelled spec t (omega (arith, length-bits body))));
+  }

@@ -14,11 +14,14 @@ use Rattle.ax_model.specs.Canonical.{canon}
 use Rattle.ax_model.specs.Lengths.{kind_behind}
 use Rattle.ax_model.specs.Tree.{KindTree, SlotsTree, ValueTree, marked, EntriesTree}
 use Rattle.ax_fspec.specs.declared.mask.SlotMask.{SlotMask}
+use Rattle.ax_reader.specs.Reading.{kind_read}
 use Rattle.ax_tables.specs.Table.{record_kind_at}
+use Rattle.ax_tables.specs.declared.codec.Codec.{Codec}
 use Rattle.ax_tables.specs.declared.node.Node.{Node}
 use Rattle.ax_tables.specs.declared.node.Node.TheVariants as Of
 use Rattle.ax_view.proofs.ItemSteps.{is_marked}
 use Rattle.ax_view.proofs.NodeKinds.{is_element, is_group, no_part, is_extended, is_counted, is_by_fx, is_explicit, is_compound}
+use Rattle.ax_view.specs.Placing.{entries_there}
 use Rattle.ax_view.specs.Shown.{item_kind, item_value}
 use Rattle.ax_view.specs.Values.{value_in, entries_in}
 use Rattle.ax_view.specs.declared.item.ItemView.{ItemView}
@@ -95,11 +98,20 @@ whole_canon ms nodes links octets k e =
     own : (es : EntriesTree) → canon_by ms (record_kind_at nodes links) (marked es) ≡ field_by ms es ++ entries_canon_by ms (slots_in (record_kind_at nodes links)) es
     own es = refl
 
+-- that of a record by its entries
+pub record_canon : (ms : MovesTree) (nodes : List Node) (links : List ℕ) (es : EntriesTree) → field_by ms es ++ entries_canon_by ms (slots_in (record_kind_at nodes links)) es ≡ canon_by ms (record_kind_at nodes links) (marked es)
+unfolding record_kind_at
+record_canon ms nodes links es = refl
+
 module _ (item : ItemView) (one : Node) (at : one ≡ get_or item.codec.now.nodes (item.link - 1) one) where
-  pub compound_canon_by : (ms : MovesTree) (mask : SlotMask) (links : List ℕ) → one ≡ Of.Compound mask links
-      → canon_by ms (item_kind item) (item_value item) ≡ field_by ms (entries_in (item_value item)) ++ entries_canon_by ms (slots_in (item_kind item)) (entries_in (item_value item))
-  compound_canon_by ms mask links e =
-      whole_canon ms item.codec.now.nodes links item.body.now (item_kind item) (is_compound item.codec.now.nodes item.link one item.codec.now.table item.item.some item.item.within at mask links links e refl)
+  -- what its places show is its value as it moves
+  pub compound_there : (ms : MovesTree) (mask : SlotMask) (links found body : List ℕ) (codec : Codec) → one ≡ Of.Compound mask links → links ≡ found → item.body.now ≡ body → item.codec.now ≡ codec
+      → field_by ms (entries_there codec.nodes found body 0) ++ entries_canon_by ms (slots_in (record_kind_at codec.nodes found)) (entries_there codec.nodes found body 0) ≡ canon_by ms (item_kind item) (item_value item)
+  unfolding value_in kind_read
+  compound_there ms mask links found body codec e f g h =
+      let kind = is_compound item.codec.now.nodes item.link one item.codec.now.table item.item.some item.item.within at mask links links e refl in
+      sym (ap (λ k. canon_by ms k (value_in k item.body.now)) kind ∙ whole_canon ms item.codec.now.nodes links item.body.now (record_kind_at item.codec.now.nodes links) refl
+      ∙ (λ i. field_by ms (entries_there (h i).nodes (f i) (g i) 0) ++ entries_canon_by ms (slots_in (record_kind_at (h i).nodes (f i))) (entries_there (h i).nodes (f i) (g i) 0)))
 
   leaf_node : (ms : MovesTree) (v : ValueTree) (n : Node) → one ≡ n → ((mask : SlotMask) (links : List ℕ) → one ≡ Of.Compound mask links → ⊥) → canon_by ms (item_kind item) v ≡ canon (item_kind item) v
   leaf_node ms v (Of.Element w) e d = subst (λ k. canon_by ms k v ≡ canon k v) (sym (is_element item.codec.now.nodes item.link one item.codec.now.table item.item.some item.item.within at w e)) refl

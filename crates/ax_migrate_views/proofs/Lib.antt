@@ -9,3 +9,5 @@ pub mod MovedMarks
 pub mod OneSlot
 pub mod Slots
 pub mod ToldLosses
+pub mod GonePaths
+pub mod ToldLines

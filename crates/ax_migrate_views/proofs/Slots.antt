@@ -1,18 +1,21 @@
 -- What stands in the slots of a record or a compound.
-use Rattle.std.proofs.Common.{◌≡◌, ℕ, zero, suc, ◌-◌, ◌<◌, List, [], ◌∷◌, length, map, get_or, Option, Some, None, IfSome, refl, sym, ◌∙◌, ap, arith}
+use Rattle.std.proofs.Common.{◌≡◌, ℕ, zero, suc, ◌-◌, ◌<◌, ◌≤◌, List, [], ◌∷◌, length, map, get_or, Option, Some, None, IfSome, sym, ◌∙◌, ap, arith, subst}
+use Rattle.std.proofs.lemmas.List.{get_or_default}
+use Rattle.ax_fspec.specs.declared.mask.SlotMask.{SlotMask}
 use Rattle.ax_migrate_views.specs.Wholes.{slots_in, IsInSlot}
-use Rattle.ax_migrate_views.specs.declared.whole.Whole.TheVariants.{Record, Compound}
 use Rattle.ax_model.specs.Lengths.{kind_behind}
 use Rattle.ax_model.specs.Tree.{slots_of}
 use Rattle.ax_tables.specs.Meaning.{Meaning, kind_of, linked, linked_slot, meanings}
-use Rattle.ax_tables.specs.Table.{kind_at, record_kind_at}
+use Rattle.ax_tables.specs.Table.{SlotLinksWithin, kind_at, record_kind_at}
+use Rattle.ax_tables.specs.declared.codec.Codec.{Codec}
 use Rattle.ax_tables.specs.declared.node.Node.{Node}
 use Rattle.ax_tables.specs.declared.node.Node.TheVariants as Of
-use Rattle.ax_view.proofs.NodeKinds.{is_compound}
-use Rattle.ax_view.specs.Shown.{item_kind, IsOfSlot, IsSubitem}
-use Rattle.ax_view.specs.declared.item.ItemView.{ItemView}
-use Rattle.ax_view.specs.declared.record.RecordView.{RecordView}
-use Rattle.std.specs.Borrow.{Bor}
+use Rattle.ax_view.specs.Placing.{ArePlaced, IsPlaced, PlacesKind, entries_there}
+use Rattle.ax_view.specs.Shown.{IsOfSlot}
+use Rattle.ax_view.specs.Values.{value_read, entries_in}
+use Rattle.ax_view.specs.declared.places.FoundItem.{FoundItem}
+use Rattle.ax_view.specs.declared.places.PlacedSlots.{PlacedSlots}
+use Rattle.ax_view.specs.declared.places.Places.{Places}
 
 -- the kind of a slot that isn't spare is the one that its link leads to
 link_kind : (ms : List Meaning) (links : List ℕ) (i link : ℕ) → link ≡ get_or links i 0 → 0 < link → kind_behind i (slots_of (map (linked_slot ms) links)) ≡ Some (kind_of (linked ms link))
@@ -26,32 +29,30 @@ table_kind : (nodes : List Node) (links : List ℕ) (i link : ℕ) → link ≡ 
 unfolding record_kind_at kind_at
 table_kind nodes links i link e some = link_kind (meanings nodes) links i link e some
 
--- ---- a record
+-- ---- a record or a compound
 
-pub record_slot : (r : Bor RecordView) (slot : ℕ) (o : Option ItemView) → IfSome o (IsOfSlot r.now.codec.now r.now.codec.now.slots slot) → IfSome o (IsInSlot (Record r) slot)
-record_slot r slot None h = tt
-record_slot r slot (Some item) h = record {
+pub placed_slot : (w : PlacedSlots) (slot : ℕ) (o : Option FoundItem) → IfSome o (λ found. IsOfSlot w.codec.now w.slots.now slot found.item) → IfSome o (λ found. IsInSlot w slot found.item)
+placed_slot w slot None h = tt
+placed_slot w slot (Some found) h = record {
   codec_is = h.codec_is;
-  kind_is = table_kind r.now.codec.now.nodes r.now.codec.now.slots (slot - 1) item.link h.link_is item.item.some ∙ ap (λ codec. Some (kind_at codec.nodes item.link)) (sym h.codec_is);
+  kind_is = table_kind w.codec.now.nodes w.slots.now (slot - 1) found.item.link h.link_is found.item.item.some ∙ ap (λ codec. Some (kind_at codec.nodes found.item.link)) (sym h.codec_is);
   one = h.whole;
 }
 
--- ---- a compound
+-- where its values stand
+Holds : Codec → List ℕ → List ℕ → ℕ → Places → Type 0
+Holds codec links body at places = SlotLinksWithin (length codec.nodes) links × ArePlaced codec.nodes links places.marked body (entries_there codec.nodes links body at) places.windows
 
-other_default : (ns : List Node) (i : ℕ) (n m d : Node) → i < length ns → get_or ns i d ≡ n → n ≡ get_or ns i n
-other_default [] i n m d lt e = absurd (omega arith)
-other_default (x ∷ ns) zero n m d lt e = sym e
-other_default (x ∷ ns) (suc i) n m d lt e = other_default ns i n m d (omega arith) e
+pub placed_by : (p : PlacedSlots) (codec : Codec) (links body : List ℕ) (at : ℕ) (places : Places) (end : ℕ) → codec ≡ p.codec.now → links ≡ p.slots.now → body ≡ p.body.now → at ≡ p.at → places ≡ p.places.now
+    → SlotLinksWithin (length codec.nodes) links → PlacesKind codec.nodes links body at places end → IsPlaced p
+unfolding Holds
+placed_by p codec links body at places end e f g h i within k =
+    let own : Holds codec links body at places = (within, subst (λ es. ArePlaced codec.nodes links places.marked body es places.windows) (sym (ap (λ r. entries_in (value_read r)) k.read.got)) k.placed) in
+    let there : Holds p.codec.now p.slots.now p.body.now p.at p.places.now =
+    subst (λ c. Holds c p.slots.now p.body.now p.at p.places.now) e
+    (subst (λ l. Holds codec l p.body.now p.at p.places.now) f (subst (λ b. Holds codec links b p.at p.places.now) g (subst (λ a. Holds codec links body a p.places.now) h (subst (λ x. Holds codec links body at x) i own)))) in
+    record { links = there.0; placed = there.1 }
 
-pub compound_slot : (outer : Bor ItemView) (slot : ℕ) (o : Option ItemView) → IfSome o (IsSubitem outer.now slot) → IfSome o (IsInSlot (Compound outer) slot)
-compound_slot outer slot None h = tt
-compound_slot outer slot (Some item) h =
-    let codec = outer.now.codec.now in
-    let one : Of.Compound h.mask h.links ≡ get_or codec.nodes (outer.now.link - 1) (Of.Compound h.mask h.links) =
-    other_default codec.nodes (outer.now.link - 1) (Of.Compound h.mask h.links) Of.Explicit Of.Explicit (omega (arith, outer.now.item.some, outer.now.item.within)) h.node in
-    let kind : item_kind outer.now ≡ record_kind_at codec.nodes h.links = is_compound codec.nodes outer.now.link (Of.Compound h.mask h.links) codec.table outer.now.item.some outer.now.item.within one h.mask h.links h.links refl refl in
-    record {
-      codec_is = h.of_slot.codec_is;
-      kind_is = ap (λ k. kind_behind (slot - 1) (slots_in k)) kind ∙ table_kind codec.nodes h.links (slot - 1) item.link h.of_slot.link_is item.item.some ∙ ap (λ codec. Some (kind_at codec.nodes item.link)) (sym h.of_slot.codec_is);
-      one = h.of_slot.whole;
-    }
+-- the node of a compound
+pub compound_node : (nodes : List Node) (link : ℕ) (one : Node) (mask : SlotMask) (links : List ℕ) → 0 < link → link ≤ length nodes → one ≡ get_or nodes (link - 1) one → one ≡ Of.Compound mask links → get_or nodes (link - 1) Of.Explicit ≡ Of.Compound mask links
+compound_node nodes link one mask links some within at e = get_or_default nodes (link - 1) Of.Explicit one (omega arith) ∙ sym at ∙ e

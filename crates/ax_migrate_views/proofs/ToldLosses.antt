@@ -7,9 +7,12 @@ use Rattle.ax_edition.specs.declared.relation.RelationPath.{RelationPath}
 use Rattle.ax_edition_laws.proofs.Distinct.{Distinct}
 use Rattle.ax_edition_laws.proofs.DistinctNames.{record_distinct}
 use Rattle.ax_migrate.proofs.Found.{found_is_lost}
+use Rattle.ax_migrate.specs.Finding.{found_losses}
 use Rattle.ax_migrate.specs.Losing.{loss, losses_from, lost_lines}
+use Rattle.ax_migrate_views.proofs.GonePaths.{found_gone, found_told}
 use Rattle.ax_migrate_views.specs.Blocks.{old_tree, new_tree, IsOfEditions}
-use Rattle.ax_migrate_views.specs.Losses.{shown_entries, shown_losses, WritesLosses}
+use Rattle.ax_migrate_views.specs.Bodies.{TellsBody}
+use Rattle.ax_migrate_views.specs.Losses.{shown_entries, shown_losses, TellsLosses, WritesLosses}
 use Rattle.ax_migrate_views.specs.declared.migrator.Migrator.{Migrator}
 use Rattle.ax_model.proofs.Spelled.{read_spelled}
 use Rattle.ax_model.specs.Migrated.{Lost}
@@ -52,4 +55,12 @@ losses_written m body block paths shown h h' f f' r of are each w = record {
       let told = ap (λ ps. shown_losses ps 0 shown) (are ∙ of.related.paths)
       ∙ shown_told m.codec.now (old_tree m) (new_tree m) 0 records shown of.compiled.stands (record_distinct (old_tree m) of.related.old_no_flaw) (each.spells (old_tree m) records of.compiled.clean of.compiled.stands spells) in
       same_text h h' f f' r (lost_lines block (shown_losses paths 0 shown)) (lost_lines block (losses_from (old_tree m) (new_tree m) 0 records)) (ap (lost_lines block) told) w);
+}
+
+-- those that were laid
+pub losses_told : (m : Migrator) (body : List ℕ) (block n : ℕ) (before lines : List ℕ) → IsOfEditions m → TellsBody m.codec.now m.lost block body n before lines → TellsLosses m body block n lines
+losses_told m body block n before lines of t = record {
+  told = λ records spells short. (
+      (t.told (old_tree m) records of.compiled.clean of.compiled.stands spells).laid short ∙ ap (λ ps. lost_lines block (found_losses ps 0 records)) of.lost
+      ∙ ap (lost_lines block) (found_gone 0 m.relation.now.paths records ∙ ap (λ ps. found_losses ps 0 records) of.related.paths ∙ found_told (old_tree m) (new_tree m) 0 records (record_distinct (old_tree m) of.related.old_no_flaw)));
 }

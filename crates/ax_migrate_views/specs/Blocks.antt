@@ -3,6 +3,7 @@ use Rattle.std.specs.Prelude.{◌≡◌, ℕ, ◌/◌, ◌%◌, ◌≤◌, List,
 use Rattle.ax_bits.specs.Bits.{bits}
 use Rattle.ax_edition.specs.Relates.{Relates}
 use Rattle.ax_migrate.specs.Migrating.{migrated_block}
+use Rattle.ax_migrate_views.specs.Gone.{gone}
 use Rattle.ax_migrate_views.specs.declared.migrator.Migrator.{Migrator}
 use Rattle.ax_model.specs.Blocks.{read_block}
 use Rattle.ax_model.specs.Bodies.{SpellsBody}
@@ -22,10 +23,11 @@ old_tree m = spec_tree m.old.now
 abbrev pub new_tree : Migrator → SpecTree
 new_tree m = spec_tree m.new.now
 
--- the relation is of its two editions, and the codec stands for the old one
+-- the relation is of its two editions, the codec stands for the old one, and the paths without a new place are known
 pub record IsOfEditions (m : Migrator) : Type 0 where
   pub related : Relates m.old.now m.new.now m.relation.now
   pub compiled : IsCompiled m.codec.now (old_tree m)
+  pub lost : m.lost ≡ gone m.relation.now.paths
 
 -- the canonical form of the migrated block has so many octets, and they stand at the front of the output, where a block can
 -- have as many

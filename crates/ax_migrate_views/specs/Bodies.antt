@@ -4,7 +4,10 @@ use Rattle.ax_bits.specs.Bits.{bits}
 use Rattle.ax_edition.specs.Moves.{MovesTree}
 use Rattle.ax_edition.specs.PlainMoves.{moves_tree}
 use Rattle.ax_edition.specs.declared.moves.Move.{Move}
-use Rattle.ax_migrate_views.specs.Laying.{Lays}
+use Rattle.ax_edition.specs.declared.relation.RelationPath.{RelationPath}
+use Rattle.ax_migrate.specs.Finding.{found_losses}
+use Rattle.ax_migrate.specs.Losing.{lost_lines}
+use Rattle.ax_migrate_views.specs.Laying.{Gathers, Lays}
 use Rattle.ax_migrate_views.specs.Octets.{canon_by}
 use Rattle.ax_model.specs.Bodies.{SpellsBody}
 use Rattle.ax_model.specs.Flaws.{NoFlaw}
@@ -13,11 +16,22 @@ use Rattle.ax_model.specs.Tree.{marked, EntriesTree}
 use Rattle.ax_tables.specs.Bare.{bare_kind}
 use Rattle.ax_tables.specs.Standing.{StandsFor}
 use Rattle.ax_tables.specs.declared.codec.Codec.{Codec}
+use Rattle.ax_view.specs.Placing.{PlacesKind}
+use Rattle.ax_view.specs.declared.places.Places.{Places}
 
 -- the records of the old edition, one after the other
 abbrev pub body_by : MovesTree → SpecTree → List EntriesTree → List ℕ
 body_by ms old records = flat_map (λ r. canon_by ms (bare_kind (record_kind old)) (marked r)) records
 
+-- a record is read from octet `here` on, and its items stand in these places
+pub record IsRecordPlaced (codec : Codec) (body : List ℕ) (here : ℕ) (places : Places) : Type 0 where
+  pub end : ℕ
+  pub placed : PlacesKind codec.nodes codec.slots body here places end
+
 -- the records that the body spells are laid as they move, for each specification that the codec stands for
 pub record LaysBody (codec : Codec) (moves : List Move) (body : List ℕ) (at n : ℕ) (old new : List ℕ) : Type 0 where
   pub laid : (spec : SpecTree) (records : List EntriesTree) → NoFlaw spec → StandsFor codec spec → SpellsBody spec records (bits body) → Lays (body_by (moves_tree moves) spec records) at n old new
+
+-- the lines of what the records lose that the body spells are laid, for each specification that the codec stands for
+pub record TellsBody (codec : Codec) (lost : List RelationPath) (block : ℕ) (body : List ℕ) (n : ℕ) (old new : List ℕ) : Type 0 where
+  pub told : (spec : SpecTree) (records : List EntriesTree) → NoFlaw spec → StandsFor codec spec → SpellsBody spec records (bits body) → Gathers (lost_lines block (found_losses lost 0 records)) 0 n old new

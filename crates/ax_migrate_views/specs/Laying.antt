@@ -14,3 +14,8 @@ pub record Lays (b : List ℕ) (at n : ℕ) (old new : List ℕ) : Type 0 where
   pub size : length b ≡ 8 * octets
   pub counted : n ≡ min (at + octets) 4294967295
   pub laid : n ≤ 65535 → take (8 * n) (bits new) ≡ take (8 * at) (bits old) ++ b
+
+-- after `at` octets the text is laid, so that n octets were laid; counted and kept as above
+pub record Gathers (text : List ℕ) (at n : ℕ) (old new : List ℕ) : Type 0 where
+  pub counted : n ≡ min (at + length text) 4294967295
+  pub laid : n ≤ 65535 → take n new ≡ take at old ++ text

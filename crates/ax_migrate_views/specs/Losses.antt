@@ -1,5 +1,5 @@
 -- The losses of the records of a view, and that their lines are written.
-use Rattle.std.specs.Prelude.{ℕ, ◌+◌, List, [], ◌∷◌, ◌++◌, Result}
+use Rattle.std.specs.Prelude.{◌≡◌, ℕ, ◌+◌, ◌≤◌, List, [], ◌∷◌, ◌++◌, take, Result}
 use Rattle.ax_bits.specs.Bits.{bits}
 use Rattle.ax_edition.specs.declared.relation.RelationPath.{RelationPath}
 use Rattle.ax_migrate.specs.Finding.{record_losses}
@@ -27,3 +27,7 @@ shown_losses paths n (s ∷ shown) = record_losses n (shown_entries s) paths ++ 
 -- the lines of the losses of the records that the body spells were written, or a prefix at a failure
 pub record WritesLosses (m : Migrator) (body : List ℕ) (block : ℕ) (change : SinkChange) (result : Result Unit SinkFailed) : Type 0 where
   pub lines : (records : List EntriesTree) → SpellsBody (old_tree m) records (bits body) → Wrote change result (lost_lines block (losses_from (old_tree m) (new_tree m) 0 records))
+
+-- where n octets can be kept, they are the lines of the losses of the records that the body spells
+pub record TellsLosses (m : Migrator) (body : List ℕ) (block n : ℕ) (lines : List ℕ) : Type 0 where
+  pub told : (records : List EntriesTree) → SpellsBody (old_tree m) records (bits body) → n ≤ 65535 → take n lines ≡ lost_lines block (losses_from (old_tree m) (new_tree m) 0 records)

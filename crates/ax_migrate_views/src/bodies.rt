@@ -1,49 +1,121 @@
-//! Bodies, laid record by record as they move.
-ghost use Rattle.std.specs.Prelude.{◌≡◌, ◌≤◌, length};
+//! Bodies, judged and laid record by record as they move.
+ghost use Rattle.std.specs.Prelude.{◌≡◌, ◌≤◌, length, IfOk, IfErr};
 ghost use Rattle.ax_edition.specs.PlainMoves.{moves_tree};
-ghost use Rattle.ax_migrate_views.specs.Bodies.{LaysBody};
-ghost use Rattle.ax_migrate_views.specs.Laying.{Lays};
+ghost use Rattle.ax_migrate.specs.Finding.{record_losses};
+ghost use Rattle.ax_migrate.specs.Losing.{lost_lines};
+ghost use Rattle.ax_migrate_views.specs.Bodies.{IsRecordPlaced, LaysBody, TellsBody};
+ghost use Rattle.ax_migrate_views.specs.Laying.{Gathers, Lays};
 ghost use Rattle.ax_migrate_views.specs.Octets.{canon_by};
+ghost use Rattle.ax_model.specs.Tree.{marked};
 ghost use Rattle.ax_tables.specs.Table.{record_kind_at};
-ghost use Rattle.ax_view.specs.Values.{value_in};
+ghost use Rattle.ax_view.specs.Placing.{entries_there};
+ghost use Rattle.ax_view.specs.Views.{FailsThere, SpellsSome};
 
+use crate::telling::tell_record;
 use crate::values::lay_whole;
-use crate::whole::Whole;
-use ax_edition::Moves;
+use ax_edition::{Moves, RelationPaths};
+use ax_model::BodyFault;
 use ax_tables::Codec;
-use ax_view::{RecordView, record_at};
+use ax_view::{Notes, PlacedSlots, Places, place_record};
 
-/// Lays a record as it moves, and answers how many octets were laid.
+/// Lays the record at octet `here` of a body as it moves, and answers how many octets were laid.
 fn lay_record(
     codec: &Codec,
-    one: &RecordView<'_, '_>,
+    body: &[u8],
+    here: u32,
+    places: &Places,
     moves: &Moves,
     at: u32,
     output: &mut [u8],
 ) -> u32
-    requires codec { one.now.codec.now ≡ codec.now }
+    requires placed { IsRecordPlaced codec.now body.now here places.now }
     requires room { length output.old ≡ 131067 }
-    ensures laid { Lays (canon_by (moves_tree moves.now) (record_kind_at codec.now.nodes codec.now.slots) (value_in (record_kind_at codec.now.nodes codec.now.slots) one.now.body.now)) at result output.old output.new }
+    ensures laid { Lays (canon_by (moves_tree moves.now) (record_kind_at codec.now.nodes codec.now.slots) (marked (entries_there codec.now.nodes codec.now.slots body.now here))) at result output.old output.new }
     ensures room { length output.new ≡ 131067 }
 {
-    lay_whole(codec, &Whole::Record(one), moves, at, output)
+    let record = PlacedSlots {
+        codec,
+        slots: codec.slots.as_slice(),
+        body,
+        at: here,
+        places,
+    };
+    lay_whole(codec, &record, moves, at, output)
 }
 
-/// Lays the records of a body as they move, and answers how many octets were laid.
-pub(crate) fn lay_body(codec: &Codec, body: &[u8], moves: &Moves, at: u32, output: &mut [u8]) -> u32
-    requires body { length body.now ≤ 65532 }
-    requires room { length output.old ≡ 131067 }
-    ensures laid { LaysBody codec.now moves.now body.now at result output.old output.new }
-    ensures room { length output.new ≡ 131067 }
+/// Lays the lines of what the record at octet `here` of a body loses, and answers how many octets of lines were laid.
+fn tell_losses(
+    codec: &Codec,
+    body: &[u8],
+    here: u32,
+    places: &Places,
+    lost: &RelationPaths,
+    block: u64,
+    number: u32,
+    at: u32,
+    lines: &mut [u8],
+) -> u32
+    requires placed { IsRecordPlaced codec.now body.now here places.now }
+    requires room { length lines.old ≡ 131067 }
+    ensures told { Gathers (lost_lines block (record_losses number (entries_there codec.now.nodes codec.now.slots body.now here) lost.now)) at result lines.old lines.new }
+    ensures room { length lines.new ≡ 131067 }
 {
-    let mut end = at;
+    let record = PlacedSlots {
+        codec,
+        slots: codec.slots.as_slice(),
+        body,
+        at: here,
+        places,
+    };
+    tell_record(block, number, &record, lost, at, lines)
+}
+
+/// What was laid of a body: so many octets of the migrated block, and so many of the lines of what its records lose.
+#[derive(Clone, Copy)]
+pub struct Laid {
+    pub octets: u32,
+    pub lines: u32,
+}
+
+/// Lays the records of a body of 1 to 65,532 octets as they move, behind a block's first three octets, and the lines of what
+/// they lose, in one walk over the body. Where the body fails, that is its first fault, by bits of the body from 0; some
+/// records before may have been laid.
+pub(crate) fn lay_body(
+    codec: &Codec,
+    body: &[u8],
+    moves: &Moves,
+    lost: &RelationPaths,
+    block: u64,
+    output: &mut [u8],
+    lines: &mut [u8],
+) -> Result<Laid, BodyFault>
+    requires size { (1 ≤ length body.now) × (length body.now ≤ 65532) }
+    requires room { length output.old ≡ 131067 }
+    requires lines_room { length lines.old ≡ 131067 }
+    ensures spelled { IfOk result (λ laid. SpellsSome codec.now body.now) }
+    ensures laid { IfOk result (λ laid. LaysBody codec.now moves.now body.now 3 laid.octets output.old output.new) }
+    ensures told { IfOk result (λ laid. TellsBody codec.now lost.now block body.now laid.lines lines.old lines.new) }
+    ensures fault { IfErr result (λ fault. FailsThere codec.now body.now fault) }
+    ensures room { length output.new ≡ 131067 }
+    ensures lines_room { length lines.new ≡ 131067 }
+{
+    let mut places = Places::new();
+    let mut end = 3;
+    let mut told = 0;
+    let mut number = 0;
     let mut here = 0;
     while (here as usize) < body.len() {
-        let Some((record, next)) = record_at(codec, body, here) else {
-            return end;
+        let mut notes = Notes::new();
+        let Some(next) = place_record(codec, body, here, &mut notes, &mut places) else {
+            return Err(notes.fault);
         };
-        end = lay_record(codec, &record, moves, end, output);
+        end = lay_record(codec, body, here, &places, moves, end, output);
+        told = tell_losses(codec, body, here, &places, lost, block, number, told, lines);
         here = next;
+        number += 1;
     }
-    end
+    Ok(Laid {
+        octets: end,
+        lines: told,
+    })
 }

@@ -1,7 +1,7 @@
 //! Octets laid one after another at the front of an output.
 ghost use Rattle.std.specs.Prelude.{◌≡◌, ◌^◌, ◌≤◌, false, length};
 ghost use Rattle.ax_fspec.specs.Fields.{least_field};
-ghost use Rattle.ax_migrate_views.specs.Laying.{Begins, Lays};
+ghost use Rattle.ax_migrate_views.specs.Laying.{Begins, Gathers, Lays};
 ghost use Rattle.ax_model.specs.Canonical.{canon};
 ghost use Rattle.ax_view.specs.Shown.{item_kind, item_value};
 
@@ -9,7 +9,7 @@ use ax_bits::Out;
 use ax_canon::canonical_item;
 use ax_fspec::{Presence, write_presence};
 use ax_tables::Codec;
-use ax_view::ItemView;
+use ax_view::{FoundItem, ItemView};
 
 /// The most octets of a data block.
 pub(crate) const LONGEST: u32 = 65_535;
@@ -50,14 +50,33 @@ pub(crate) fn lay_field(marked: &Presence, at: u32, output: &mut [u8]) -> u32
     at.saturating_add(octets)
 }
 
-/// Lays the canonical spelling of an item's value after `at` octets, and answers how many octets were laid.
-pub(crate) fn lay_item(codec: &Codec, item: &ItemView<'_, '_>, at: u32, output: &mut [u8]) -> u32
-    requires codec { item.now.codec.now ≡ codec.now }
-    requires whole { item.now.by_fx ≡ false }
+/// Lays octets after `at` octets, and answers how many octets were laid. Past 65,535 they are counted alone.
+#[inline]
+pub(crate) fn lay_octets(octets: &[u8], at: u32, output: &mut [u8]) -> u32
     requires room { length output.old ≡ 131067 }
-    ensures laid { Lays (canon (item_kind item.now) (item_value item.now)) at result output.old output.new }
+    ensures laid { Gathers octets.now at result output.old output.new }
     ensures room { length output.new ≡ 131067 }
 {
-    let octets = spell_item(codec, item, &mut output[at.min(LONGEST) as usize..]);
+    let count = octets.len().min(u32::MAX as usize) as u32;
+    let end = at.saturating_add(count);
+    if end <= LONGEST {
+        output[at as usize..end as usize].copy_from_slice(octets);
+    }
+    end
+}
+
+/// Lays the canonical spelling of an item's value after `at` octets, and answers how many octets were laid.
+#[inline]
+pub(crate) fn lay_item(codec: &Codec, found: &FoundItem<'_, '_>, at: u32, output: &mut [u8]) -> u32
+    requires codec { found.now.item.codec.now ≡ codec.now }
+    requires whole { found.now.item.by_fx ≡ false }
+    requires room { length output.old ≡ 131067 }
+    ensures laid { Lays (canon (item_kind found.now.item) (item_value found.now.item)) at result output.old output.new }
+    ensures room { length output.new ≡ 131067 }
+{
+    if found.least {
+        return lay_octets(found.item.octets(), at, output);
+    }
+    let octets = spell_item(codec, &found.item, &mut output[at.min(LONGEST) as usize..]);
     at.saturating_add(octets)
 }

@@ -15,7 +15,7 @@ use ax_view::{ItemView, RecordView, Records};
 
 /// Whether slot numbers lead on from an item.
 #[cycle(leads_on)]
-fn leads_on(item: &ItemView<'_, '_>, steps: &[u32]) -> bool
+pub(crate) fn leads_on(item: &ItemView<'_, '_>, steps: &[u32]) -> bool
     ensures { result ≡ is_some (value_below steps.now (item_value item.now)) }
 {
     let Some((step, later)) = steps.split_first() else {

@@ -4,12 +4,15 @@ ghost use Rattle.ax_edition.specs.PlainMoves.{move_tree, moves_tree};
 ghost use Rattle.ax_fspec.specs.Marks.{no_marks};
 ghost use Rattle.ax_migrate_views.specs.Octets.{marks_by, move_marks, with_slot};
 ghost use Rattle.ax_migrate_views.specs.Wholes.{whole_entries};
+ghost use Rattle.ax_view.specs.Placing.{IsPlaced};
 
-use crate::whole::Whole;
+use crate::whole::item_of;
 use ax_edition::{Move, Moves};
 use ax_fspec::Presence;
+use ax_view::PlacedSlots;
 
 /// Adds a slot from 1 to 126; another number changes nothing.
+#[inline]
 fn add_slot(slot: u32, marked: &mut Presence)
     ensures { marked.new ≡ with_slot slot marked.old }
 {
@@ -19,17 +22,20 @@ fn add_slot(slot: u32, marked: &mut Presence)
 }
 
 /// Adds the new slot of the entry that a move makes, if there is one.
-fn add_moved(whole: &Whole<'_, '_, '_>, one: &Move, marked: &mut Presence)
+#[inline]
+fn add_moved(whole: &PlacedSlots<'_, '_, '_>, one: &Move, marked: &mut Presence)
+    requires placed { IsPlaced whole.now }
     ensures { marked.new ≡ move_marks (move_tree one.now) (whole_entries whole.now) marked.old }
 {
-    if whole.item(one.old).is_some() {
+    if item_of(whole, one.old).is_some() {
         add_slot(one.new, marked);
     }
 }
 
 /// The set of the new slots of the entries that move.
 #[tactic(auto, using(crate::proofs::Entries::marks))]
-pub(crate) fn moved_slots(whole: &Whole<'_, '_, '_>, moves: &Moves) -> Presence
+pub(crate) fn moved_slots(whole: &PlacedSlots<'_, '_, '_>, moves: &Moves) -> Presence
+    requires placed { IsPlaced whole.now }
     ensures { result ≡ marks_by (moves_tree moves.now) (whole_entries whole.now) no_marks }
 {
     let mut marked = Presence::empty();

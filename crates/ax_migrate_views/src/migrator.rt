@@ -1,19 +1,22 @@
 //! Blocks of one edition in another.
-ghost use Rattle.std.specs.Prelude.{◌≡◌, ◌≤◌, length};
+ghost use Rattle.std.specs.Prelude.{◌≡◌, ◌≤◌, length, IfOk, IfErr};
 ghost use Rattle.ax_edition.specs.Relates.{Relates};
 ghost use Rattle.ax_migrate_views.specs.Blocks.{IsOfEditions, LaysMigrated, new_tree, old_tree, with_head};
-ghost use Rattle.ax_migrate_views.specs.Losses.{WritesLosses};
+ghost use Rattle.ax_migrate_views.specs.Losses.{TellsLosses, WritesLosses};
 ghost use Rattle.ax_model.specs.Plain.{spec_tree};
 ghost use Rattle.ax_outside.specs.Changes.{sink_change};
 ghost use Rattle.ax_tables.specs.Standing.{IsCompiled};
+ghost use Rattle.ax_view.specs.Views.{FailsThere, SpellsSome};
 
-use crate::bodies::lay_body;
+use crate::bodies::{Laid, lay_body};
+use crate::gone::gone_paths;
 use crate::losses::lose_records;
-use ax_edition::Relation;
-use ax_model::Spec;
+use ax_edition::{Relation, RelationPaths};
+use ax_model::{BodyFault, Spec};
 use ax_outside::{Sink, SinkFailed};
 use ax_tables::Codec;
 use ax_view::BlockView;
+use std::alloc::{AllocError, Global};
 
 /// Writes CAT and LEN over the first three octets.
 fn write_head(category: u8, count: u32, output: &mut [u8])
@@ -25,37 +28,43 @@ fn write_head(category: u8, count: u32, output: &mut [u8])
     output[2] = (count % 256) as u8;
 }
 
-/// Migration from one edition to another, by the relation of the two and the codec of the old one. It takes no memory.
-#[derive(Clone, Copy)]
+/// Migration from one edition to another, by the relation of the two and the codec of the old one. Memory is taken when it is
+/// made, and none for a block.
+#[derive(Drop)]
 pub struct Migrator<'c> {
     /// The two editions: contracts speak of them, the code doesn't.
     old: &'c Spec,
     new: &'c Spec,
     relation: &'c Relation,
     codec: &'c Codec,
+    /// The paths that have no new place.
+    lost: RelationPaths,
 }
 
 impl<'c> Migrator<'c> {
     /// Migration between two editions.
     pub fn new(
+        alloc: Global,
         old: &'c Spec,
         new: &'c Spec,
         relation: &'c Relation,
         codec: &'c Codec,
-    ) -> Migrator<'c>
+    ) -> Result<Migrator<'c>, AllocError>
         requires related { Relates old.now new.now relation.now }
         requires compiled { IsCompiled codec.now (spec_tree old.now) }
-        ensures editions { IsOfEditions result }
-        ensures old { old_tree result ≡ spec_tree old.now }
-        ensures new { new_tree result ≡ spec_tree new.now }
-        ensures codec { result.codec.now ≡ codec.now }
+        ensures editions { IfOk result IsOfEditions }
+        ensures old { IfOk result (λ made. old_tree made ≡ spec_tree old.now) }
+        ensures new { IfOk result (λ made. new_tree made ≡ spec_tree new.now) }
+        ensures codec { IfOk result (λ made. made.codec.now ≡ codec.now) }
     {
-        Migrator {
+        let lost = gone_paths(alloc, relation.paths())?;
+        Ok(Migrator {
             old,
             new,
             relation,
             codec,
-        }
+            lost,
+        })
     }
 
     /// The codec of the old edition.
@@ -65,18 +74,32 @@ impl<'c> Migrator<'c> {
         self.codec
     }
 
-    /// Lays the canonical form of the migrated block of a view at the front of the output, and answers its octets. Where they
-    /// are more than 65,535, what is laid is no block.
-    pub fn lay(&self, view: &BlockView<'_, '_>, output: &mut [u8]) -> u32
+    /// Lays the canonical form of the migrated block of a body at the front of the output, and the lines of what its records
+    /// lose at the front of `lines`, for a block of that number. Answers the octets of both; where the block's or the lines'
+    /// are more than 65,535, what is laid there is none. The body is judged in the same walk: a fault is its first one, by
+    /// bits of the body from 0.
+    pub fn lay(
+        &self,
+        number: u64,
+        body: &[u8],
+        output: &mut [u8],
+        lines: &mut [u8],
+    ) -> Result<Laid, BodyFault>
         requires editions { IsOfEditions self.now }
-        requires view { view.now.codec.now ≡ self.now.codec.now }
+        requires size { (1 ≤ length body.now) × (length body.now ≤ 65532) }
         requires room { length output.old ≡ 131067 }
-        ensures laid { LaysMigrated self.now view.now.body.now result output.new }
+        requires lines_room { length lines.old ≡ 131067 }
+        ensures spelled { IfOk result (λ laid. SpellsSome self.now.codec.now body.now) }
+        ensures laid { IfOk result (λ laid. LaysMigrated self.now body.now laid.octets output.new) }
+        ensures told { IfOk result (λ laid. TellsLosses self.now body.now number laid.lines lines.new) }
+        ensures fault { IfErr result (λ fault. FailsThere self.now.codec.now body.now fault) }
         ensures room { length output.new ≡ 131067 }
+        ensures lines_room { length lines.new ≡ 131067 }
     {
-        let count = lay_body(self.codec, view.octets(), self.relation.moves(), 3, output);
-        write_head(self.codec.category(), count, output);
-        count
+        let moves = self.relation.moves();
+        let laid = lay_body(self.codec, body, moves, &self.lost, number, output, lines)?;
+        write_head(self.codec.category(), laid.octets, output);
+        Ok(laid)
     }
 
     /// Writes the line `lost block N record M PATH` of each path that a record of a view loses, by record and, in a record, in

@@ -4,33 +4,45 @@ ghost use Rattle.ax_edition.specs.PlainMoves.{move_tree, moves_tree};
 ghost use Rattle.ax_migrate_views.specs.Laying.{Lays};
 ghost use Rattle.ax_migrate_views.specs.Octets.{canon_by, entries_canon_by, field_by, move_canon};
 ghost use Rattle.ax_migrate_views.specs.Wholes.{whole_codec, whole_entries, whole_slots};
+ghost use Rattle.ax_view.specs.Placing.{IsPlaced};
 ghost use Rattle.ax_view.specs.Shown.{item_kind, item_value};
 
 use crate::laying::{lay_field, lay_item};
 use crate::marks::moved_slots;
-use crate::whole::Whole;
+use crate::whole::item_of;
 use ax_edition::{Move, Moves};
 use ax_tables::{Codec, Node};
-use ax_view::ItemView;
+use ax_view::{FoundItem, PlacedSlots, Places, place_subitems};
 
 /// Lays the value of an item as it moves, and answers how many octets were laid.
 #[cycle(laying)]
 fn lay_value(
     codec: &Codec,
-    item: &ItemView<'_, '_>,
+    found: &FoundItem<'_, '_>,
     moves: &Moves,
     at: u32,
     output: &mut [u8],
 ) -> u32
-    requires codec { item.now.codec.now ≡ codec.now }
-    requires whole { item.now.by_fx ≡ false }
+    requires codec { found.now.item.codec.now ≡ codec.now }
+    requires whole { found.now.item.by_fx ≡ false }
     requires room { length output.old ≡ 131067 }
-    ensures laid { Lays (canon_by (moves_tree moves.now) (item_kind item.now) (item_value item.now)) at result output.old output.new }
+    ensures laid { Lays (canon_by (moves_tree moves.now) (item_kind found.now.item) (item_value found.now.item)) at result output.old output.new }
     ensures room { length output.new ≡ 131067 }
 {
-    match item.node() {
-        Node::Compound { .. } => lay_whole(codec, &Whole::Compound(item), moves, at, output),
-        _ => lay_item(codec, item, at, output),
+    match found.item.node() {
+        Node::Compound { slots, .. } => {
+            let mut places = Places::new();
+            place_subitems(&found.item, &mut places);
+            let whole = PlacedSlots {
+                codec,
+                slots: slots.as_slice(),
+                body: found.item.octets(),
+                at: 0,
+                places: &places,
+            };
+            lay_whole(codec, &whole, moves, at, output)
+        }
+        _ => lay_item(codec, found, at, output),
     }
 }
 
@@ -38,12 +50,13 @@ fn lay_value(
 #[cycle(laying)]
 pub(crate) fn lay_whole(
     codec: &Codec,
-    whole: &Whole<'_, '_, '_>,
+    whole: &PlacedSlots<'_, '_, '_>,
     moves: &Moves,
     at: u32,
     output: &mut [u8],
 ) -> u32
     requires codec { whole_codec whole.now ≡ codec.now }
+    requires placed { IsPlaced whole.now }
     requires room { length output.old ≡ 131067 }
     ensures laid { Lays (field_by (moves_tree moves.now) (whole_entries whole.now) ++ entries_canon_by (moves_tree moves.now) (whole_slots whole.now) (whole_entries whole.now)) at result output.old output.new }
     ensures room { length output.new ≡ 131067 }
@@ -57,18 +70,19 @@ pub(crate) fn lay_whole(
 #[cycle(laying)]
 fn lay_entry(
     codec: &Codec,
-    whole: &Whole<'_, '_, '_>,
+    whole: &PlacedSlots<'_, '_, '_>,
     one: &Move,
     at: u32,
     output: &mut [u8],
 ) -> u32
     requires codec { whole_codec whole.now ≡ codec.now }
+    requires placed { IsPlaced whole.now }
     requires room { length output.old ≡ 131067 }
     ensures laid { Lays (move_canon (move_tree one.now) (whole_slots whole.now) (whole_entries whole.now)) at result output.old output.new }
     ensures room { length output.new ≡ 131067 }
 {
-    match whole.item(one.old) {
-        Some(item) => lay_value(codec, &item, &one.below, at, output),
+    match item_of(whole, one.old) {
+        Some(found) => lay_value(codec, &found, &one.below, at, output),
         None => at,
     }
 }
@@ -77,12 +91,13 @@ fn lay_entry(
 #[cycle(laying)]
 fn lay_entries(
     codec: &Codec,
-    whole: &Whole<'_, '_, '_>,
+    whole: &PlacedSlots<'_, '_, '_>,
     moves: &Moves,
     at: u32,
     output: &mut [u8],
 ) -> u32
     requires codec { whole_codec whole.now ≡ codec.now }
+    requires placed { IsPlaced whole.now }
     requires room { length output.old ≡ 131067 }
     ensures laid { Lays (entries_canon_by (moves_tree moves.now) (whole_slots whole.now) (whole_entries whole.now)) at result output.old output.new }
     ensures room { length output.new ≡ 131067 }

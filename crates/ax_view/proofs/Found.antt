@@ -91,7 +91,7 @@ is_false false h = refl
 pub not_same : (a b : ℕ) → (a ≡ b → ⊥) → (a == b) ≡ false
 not_same a b apart = is_false (a == b) (λ y. apart (eqb-true a b y))
 
-here_is : (slot t : ℕ) (v : ValueTree) (es : EntriesTree) → (t == slot) ≡ true → slot_value slot (entry_and t v es) ≡ Some v
+pub here_is : (slot t : ℕ) (v : ValueTree) (es : EntriesTree) → (t == slot) ≡ true → slot_value slot (entry_and t v es) ≡ Some v
 here_is slot t v es e = ap (λ b. if b then Some v else slot_value slot es) e
 
 module _ (nodes : List Node) (links marks left now body : List ℕ) (t at here slot : ℕ) (h : Left (linked_slots (meanings nodes) links) marks left body at here slot) (n : NextMarked nodes links left now t) where

@@ -107,7 +107,7 @@ fn walk_items(
 
 /// The same for an item of a record: only counted items and compounds are left to a call.
 #[inline(always)]
-fn walk_item(
+pub(crate) fn walk_item(
     nodes: &[Node],
     octets: &[u32],
     link: u32,

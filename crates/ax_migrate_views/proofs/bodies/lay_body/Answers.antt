@@ -1,27 +1,36 @@
 use Rattle.std.proofs.Common.{arith}
-use Rattle.ax_migrate_views.proofs.BodySteps.{body_first, body_next, body_fails, body_last, body_goes_on}
+use Rattle.ax_migrate_views.proofs.BodySteps.{body_first, body_next, body_fails, body_laid, body_told, body_spelled, body_goes_on}
 use Rattle.ax_migrate_views.proofs.bodies.lay_body.Goals as goal
 
 pub loop-here-init : goal.loop-here-init
-loop-here-init c = body_first c.args.codec.now c.args.moves.now c.args.body.now c.args.at c.args.output.now c.ranges.at.fits
+loop-here-init c = body_first c.args.codec.now c.args.moves.now c.args.lost.now c.args.block c.args.body.now c.args.output.now c.args.lines.now
 
-pub returns-in_default-clause-laid : goal.returns-in_default-clause-laid
-returns-in_default-clause-laid c =
-    body_fails c.args.codec.now c.args.moves.now c.args.body.now c.loop-here.here c.args.at c.loop-here.end c.args.output.now c.loop-here.output c.loop-here.invariant c.loop-here-test.true c.in_default.ensures.none
+pub returns-in_default-clause-fault : goal.returns-in_default-clause-fault
+returns-in_default-clause-fault c = body_fails c.args.codec.now c.args.moves.now c.args.lost.now c.args.block c.args.body.now c.loop-here.here c.loop-here.end c.loop-here.number c.loop-here.told c.args.output.now c.loop-here.output c.args.lines.now c.loop-here.lines c.loop-here.invariant c.loop-here-test.true c.place_record.new.notes.fault c.in_default.ensures.fault
+
+pub lay_record-end-requires-clause-placed : goal.lay_record-end-requires-clause-placed
+lay_record-end-requires-clause-placed c = record { end = c.in-Some.next; placed = c.in-Some.ensures.end }
+
+pub tell_losses-told-requires-clause-placed : goal.tell_losses-told-requires-clause-placed
+tell_losses-told-requires-clause-placed c = record { end = c.in-Some.next; placed = c.in-Some.ensures.end }
+
+pub overflow_add-number : goal.overflow_add-number
+overflow_add-number c = omega (arith, c.loop-here.invariant.few, c.loop-here.invariant.within, c.requires.size.1)
 
 pub loop-here-smaller : goal.loop-here-smaller
 loop-here-smaller c =
-    omega (
-      arith,
-      body_goes_on c.args.codec.now c.args.body.now c.loop-here.here c.in-Some.next c.in-Some.record.body.now c.in-Some.ensures.some c.args.codec.now.records.bounds,
-      c.in-Some.ensures.some.read.within,
-    )
+    omega (arith, body_goes_on c.args.codec.now c.args.body.now c.loop-here.here c.in-Some.next c.place_record.new.places c.in-Some.ensures.end, c.in-Some.ensures.end.read.within)
 
 pub loop-here-preserved : goal.loop-here-preserved
 loop-here-preserved c =
-    body_next c.args.codec.now c.args.moves.now c.args.body.now c.loop-here.here c.args.at c.loop-here.end c.args.output.now c.loop-here.output c.loop-here.invariant c.loop-here-test.true
-    c.in-Some.next c.lay_record-end.result c.lay_record-end.new.output c.in-Some.record.body.now c.in-Some.ensures.some c.lay_record-end.ensures.laid
+    body_next c.args.codec.now c.args.moves.now c.args.lost.now c.args.block c.args.body.now c.loop-here.here c.loop-here.end c.loop-here.number c.loop-here.told c.args.output.now c.loop-here.output c.args.lines.now c.loop-here.lines c.loop-here.invariant c.loop-here-test.true
+    c.in-Some.next c.lay_record-end.result c.lay_record-end.new.output c.place_record.new.places c.in-Some.ensures.end c.lay_record-end.ensures.laid c.tell_losses-told.result c.tell_losses-told.new.lines c.tell_losses-told.ensures.told
+
+pub returns-clause-spelled : goal.returns-clause-spelled
+returns-clause-spelled c = body_spelled c.args.codec.now c.args.moves.now c.args.lost.now c.args.block c.args.body.now c.loop-here.here c.loop-here.end c.loop-here.number c.loop-here.told c.args.output.now c.loop-here.output c.args.lines.now c.loop-here.lines c.loop-here.invariant c.loop-here-test.false c.requires.size.0
 
 pub returns-clause-laid : goal.returns-clause-laid
-returns-clause-laid c =
-    body_last c.args.codec.now c.args.moves.now c.args.body.now c.loop-here.here c.args.at c.loop-here.end c.args.output.now c.loop-here.output c.loop-here.invariant c.loop-here-test.false
+returns-clause-laid c = body_laid c.args.codec.now c.args.moves.now c.args.lost.now c.args.block c.args.body.now c.loop-here.here c.loop-here.end c.loop-here.number c.loop-here.told c.args.output.now c.loop-here.output c.args.lines.now c.loop-here.lines c.loop-here.invariant c.loop-here-test.false
+
+pub returns-clause-told : goal.returns-clause-told
+returns-clause-told c = body_told c.args.codec.now c.args.moves.now c.args.lost.now c.args.block c.args.body.now c.loop-here.here c.loop-here.end c.loop-here.number c.loop-here.told c.args.output.now c.loop-here.output c.args.lines.now c.loop-here.lines c.loop-here.invariant c.loop-here-test.false

@@ -3,7 +3,7 @@ use Rattle.ax_migrate_views.proofs.BodySteps.{BodyMoves}
 use Rattle.ax_migrate_views.proofs.bodies.lay_body.Given as goal
 
 abbrev pub invariant-loop-here : goal.invariant-loop-here
-invariant-loop-here l = BodyMoves l.codec l.moves l.body l.here l.at l.end l.fn.output l.output
+invariant-loop-here l = BodyMoves l.codec l.moves l.lost l.block l.body l.here l.end l.number l.told l.fn.output l.output l.fn.lines l.lines
 
 abbrev pub decreases-loop-here : goal.decreases-loop-here
 decreases-loop-here l = length l.body - l.here

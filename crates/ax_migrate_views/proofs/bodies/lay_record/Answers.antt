@@ -1,15 +1,21 @@
-use Rattle.std.proofs.Common.{sym, subst, refl}
+use Rattle.std.proofs.Common.{sym, ◌∙◌, ap, subst, refl, ◌++◌}
 use Rattle.ax_edition.specs.PlainMoves.{moves_tree}
-use Rattle.ax_migrate_views.proofs.Entries.{whole_canon}
+use Rattle.ax_migrate_views.proofs.Entries.{record_canon}
+use Rattle.ax_migrate_views.proofs.Slots.{placed_by}
 use Rattle.ax_migrate_views.specs.Laying.{Lays}
-use Rattle.ax_migrate_views.specs.Octets.{canon_by}
+use Rattle.ax_migrate_views.specs.Octets.{field_by, entries_canon_by}
+use Rattle.ax_migrate_views.specs.Wholes.{slots_in}
 use Rattle.ax_tables.specs.Table.{record_kind_at}
-use Rattle.ax_view.specs.Values.{value_in}
+use Rattle.ax_view.specs.Placing.{entries_there}
 use Rattle.ax_migrate_views.proofs.bodies.lay_record.Goals as goal
+
+pub lay_whole-requires-clause-placed : goal.lay_whole-requires-clause-placed
+lay_whole-requires-clause-placed c =
+    placed_by _ c.args.codec.now c.args.codec.now.slots c.args.body.now c.args.here c.args.places.now c.requires.placed.end refl (sym c.as_slice.ensures.members) refl refl refl c.args.codec.now.records.within c.requires.placed.placed
 
 pub returns-clause-laid : goal.returns-clause-laid
 returns-clause-laid c =
-    let own = c.args.one.now.codec.now in
-    let octets = c.args.one.now.body.now in
-    let laid = subst (λ b. Lays b c.args.at c.lay_whole.result c.args.output.now c.lay_whole.new.output) (sym (whole_canon (moves_tree c.args.moves.now) own.nodes own.slots octets (record_kind_at own.nodes own.slots) refl)) c.lay_whole.ensures.laid in
-    subst (λ x. Lays (canon_by (moves_tree c.args.moves.now) (record_kind_at x.nodes x.slots) (value_in (record_kind_at x.nodes x.slots) octets)) c.args.at c.lay_whole.result c.args.output.now c.lay_whole.new.output) c.requires.codec laid
+    let ms = moves_tree c.args.moves.now in
+    let ns = c.args.codec.now.nodes in
+    let same = ap (λ links. field_by ms (entries_there ns links c.args.body.now c.args.here) ++ entries_canon_by ms (slots_in (record_kind_at ns links)) (entries_there ns links c.args.body.now c.args.here)) c.as_slice.ensures.members in
+    subst (λ b. Lays b c.args.at c.lay_whole.result c.args.output.now c.lay_whole.new.output) (same ∙ record_canon ms ns c.args.codec.now.slots (entries_there ns c.args.codec.now.slots c.args.body.now c.args.here)) c.lay_whole.ensures.laid

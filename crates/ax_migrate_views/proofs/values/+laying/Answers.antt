@@ -1,12 +1,15 @@
-use Rattle.std.proofs.Common.{◌++◌, arith, ap, sym, subst, refl, length, get_or, ◌∙◌, option_map}
+use Rattle.std.proofs.Common.{rules, ◌++◌, arith, ap, sym, subst, refl, length, get_or, ◌∙◌, option_map}
 use Rattle.ax_edition.specs.PlainMoves.{move_tree, moves_tree}
 use Rattle.ax_fspec.specs.Fields.{least_field}
-use Rattle.ax_migrate_views.proofs.Entries.{none_laid, one_laid, all_laid, nothing_moves, nothing_laid, compound_canon_by, leaf_canon_by}
+use Rattle.ax_migrate_views.proofs.Entries.{none_laid, one_laid, all_laid, nothing_moves, nothing_laid, compound_there, leaf_canon_by}
 use Rattle.ax_migrate_views.proofs.LaidBits.{lays_more}
+use Rattle.ax_migrate_views.proofs.Slots.{placed_by, compound_node}
 use Rattle.ax_migrate_views.specs.Laying.{Lays}
 use Rattle.ax_migrate_views.specs.Octets.{field_by, entries_canon_by, move_canon}
 use Rattle.ax_migrate_views.specs.Wholes.{whole_slots, whole_entries}
+use Rattle.ax_view.proofs.NodeKinds.{compound_links}
 use Rattle.ax_view.specs.Shown.{item_value}
+use Rattle.ax_view.specs.declared.places.FoundItem.{FoundItem}
 use Rattle.ax_migrate_views.proofs.values.+laying.Goals as goal
 
 pub lay_entries-loop-one-init : goal.lay_entries-loop-one-init
@@ -25,14 +28,26 @@ lay_entries-returns-clause-laid t c =
 pub lay_entry-returns-in-None-clause-laid : goal.lay_entry-returns-in-None-clause-laid
 lay_entry-returns-in-None-clause-laid t c =
     nothing_laid (move_canon (move_tree c.args.one.now) (whole_slots c.args.whole.now) (whole_entries c.args.whole.now)) c.args.at c.args.output.now
-    (nothing_moves c.args.one.now (whole_slots c.args.whole.now) (whole_entries c.args.whole.now) (sym c.item.ensures.value ∙ ap (option_map item_value) c.in-None.is)) c.ranges.at.fits
+    (nothing_moves c.args.one.now (whole_slots c.args.whole.now) (whole_entries c.args.whole.now) (sym c.item_of.ensures.value ∙ ap (option_map (λ (found : FoundItem). item_value found.item)) c.in-None.is)) c.ranges.at.fits
+
+pub lay_value-lay_whole-requires : goal.lay_value-lay_whole-requires
+lay_value-lay_whole-requires t c =
+    let item = c.args.found.now.item in
+    let own = item.codec.now in
+    let placed = placed_by _ own c.in-Compound.slots item.body.now 0 c.place_subitems.new.places (length item.body.now) c.requires.codec (sym c.as_slice.ensures.members) (sym c.octets.ensures.body) refl refl
+    (compound_links own.nodes item.link c.node.result.now own.table item.item.some item.item.within c.node.ensures c.in-Compound.mask c.in-Compound.slots c.in-Compound.slots c.in-Compound.is refl)
+    (c.place_subitems.ensures c.in-Compound.mask c.in-Compound.slots (compound_node own.nodes item.link c.node.result.now c.in-Compound.mask c.in-Compound.slots item.item.some item.item.within c.node.ensures c.in-Compound.is)) in
+    (search rules, (refl, (placed, c.requires.room)))
 
 pub lay_value-returns-in-Compound-clause-laid : goal.lay_value-returns-in-Compound-clause-laid
-lay_value-returns-in-Compound-clause-laid t c = subst (λ b. Lays b c.args.at c.lay_whole.result c.args.output.now c.lay_whole.new.output) (sym (compound_canon_by c.args.item.now c.node.result.now c.node.ensures (moves_tree c.args.moves.now) c.in-Compound.mask c.in-Compound.slots c.in-Compound.is)) c.lay_whole.ensures.laid
+lay_value-returns-in-Compound-clause-laid t c =
+    subst (λ b. Lays b c.args.at c.lay_whole.result c.args.output.now c.lay_whole.new.output)
+    (compound_there c.args.found.now.item c.node.result.now c.node.ensures (moves_tree c.args.moves.now) c.in-Compound.mask c.in-Compound.slots c.as_slice.result.now c.octets.result.now c.args.codec.now c.in-Compound.is (sym c.as_slice.ensures.members) (sym c.octets.ensures.body) c.requires.codec)
+    c.lay_whole.ensures.laid
 
 pub lay_value-returns-in_default : goal.lay_value-returns-in_default
 lay_value-returns-in_default t c = record {
-  laid = subst (λ b. Lays b c.args.at c.lay_item.result c.args.output.now c.lay_item.new.output) (sym (leaf_canon_by c.args.item.now c.node.result.now c.node.ensures (moves_tree c.args.moves.now) c.in_default.not-Compound)) c.lay_item.ensures.laid;
+  laid = subst (λ b. Lays b c.args.at c.lay_item.result c.args.output.now c.lay_item.new.output) (sym (leaf_canon_by c.args.found.now.item c.node.result.now c.node.ensures (moves_tree c.args.moves.now) c.in_default.not-Compound)) c.lay_item.ensures.laid;
   room = c.lay_item.ensures.room;
 }
 

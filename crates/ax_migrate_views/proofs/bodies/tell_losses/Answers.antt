@@ -1,0 +1,16 @@
+use Rattle.std.proofs.Common.{sym, subst, refl}
+use Rattle.ax_migrate.specs.Finding.{record_losses}
+use Rattle.ax_migrate.specs.Losing.{lost_lines}
+use Rattle.ax_migrate_views.proofs.Slots.{placed_by}
+use Rattle.ax_migrate_views.specs.Laying.{Gathers}
+use Rattle.ax_view.specs.Placing.{entries_there}
+use Rattle.ax_migrate_views.proofs.bodies.tell_losses.Goals as goal
+
+pub tell_record-requires-clause-placed : goal.tell_record-requires-clause-placed
+tell_record-requires-clause-placed c =
+    placed_by _ c.args.codec.now c.args.codec.now.slots c.args.body.now c.args.here c.args.places.now c.requires.placed.end refl (sym c.as_slice.ensures.members) refl refl refl c.args.codec.now.records.within c.requires.placed.placed
+
+pub returns-clause-told : goal.returns-clause-told
+returns-clause-told c =
+    let ns = c.args.codec.now.nodes in
+    subst (λ links. Gathers (lost_lines c.args.block (record_losses c.args.number (entries_there ns links c.args.body.now c.args.here) c.args.lost.now)) c.args.at c.tell_record.result c.args.lines.now c.tell_record.new.lines) c.as_slice.ensures.members c.tell_record.ensures.told

@@ -2,6 +2,7 @@ pub mod Continuations
 pub mod Collecting
 pub mod Onto
 pub mod Decimals
+pub mod ShortNumbers
 pub mod FixedWays
 pub mod MemberWays
 pub mod Contents

@@ -6,6 +6,7 @@
 
 mod blocks;
 mod categories;
+mod digit;
 mod error;
 mod extended;
 mod fixed;

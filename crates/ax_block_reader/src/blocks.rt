@@ -12,6 +12,7 @@ use crate::records::braced_records;
 use ax_check::Catalogue;
 use ax_model::Block;
 use ax_token_reader::{Reader, Stopped};
+use ax_uap::UapItems;
 use std::alloc::Global;
 
 /// The form of a block's text, by its first word.
@@ -60,7 +61,8 @@ fn read_block(
         return Err(Stopped::Bad);
     };
     reader.skip();
-    let records = braced_records(alloc, reader, accepted.spec())?;
+    let items = UapItems::of(alloc, accepted.spec())?;
+    let records = braced_records(alloc, reader, &items)?;
     Ok(Block::Read { category, records })
 }
 

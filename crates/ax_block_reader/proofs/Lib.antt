@@ -19,3 +19,4 @@ pub mod Digits
 pub mod BlockWays
 pub mod Whole
 pub mod Once
+pub mod CatalogueLists

@@ -7,8 +7,8 @@ ghost use Rattle.ax_token_reader.specs.Stopping.{IsNotFirst};
 ghost use Rattle.ax_token_reader.specs.declared.stopped.Stopped.TheVariants.{Bad};
 ghost use Rattle.ax_block_reader.specs.BlockForms.{IsCategoryText};
 
+use crate::catalogue_items::CatalogueItems;
 use crate::digit::digit_of;
-use ax_check::Catalogue;
 use ax_model::Spec;
 use ax_token_reader::{Reader, Stopped};
 
@@ -60,20 +60,20 @@ fn category_in(spec: &Spec) -> u8
 
 /// A category that the catalogue has. None comes exactly where it has none.
 #[tactic(auto, using(crate::proofs::Digits::firsts))]
-pub(crate) fn known_category(catalogue: &Catalogue) -> Option<u8>
-    ensures { MatchOption result (catalogue_tree catalogue.now ≡ []) (λ n. (n < 256) × ((spec : SpecTree) × (spec_of n (catalogue_tree catalogue.now) ≡ Some spec))) }
+pub(crate) fn known_category(items: &CatalogueItems<'_>) -> Option<u8>
+    ensures { MatchOption result (catalogue_tree items.now ≡ []) (λ n. (n < 256) × ((spec : SpecTree) × (spec_of n (catalogue_tree items.now) ≡ Some spec))) }
 {
-    let first = catalogue.at(0)?;
-    Some(category_in(first.spec()))
+    let first = items.first()?;
+    Some(category_in(first))
 }
 
 /// A category that the catalogue lacks. None comes exactly where it has all 256.
-pub(crate) fn lacked_category(catalogue: &Catalogue) -> Option<u8>
-    ensures { MatchOption result ((n : ℕ) → n < 256 → spec_of n (catalogue_tree catalogue.now) ≡ None → ⊥) (λ n. (n < 256) × (spec_of n (catalogue_tree catalogue.now) ≡ None)) }
+pub(crate) fn lacked_category(items: &CatalogueItems<'_>) -> Option<u8>
+    ensures { MatchOption result ((n : ℕ) → n < 256 → spec_of n (catalogue_tree items.now) ≡ None → ⊥) (λ n. (n < 256) × (spec_of n (catalogue_tree items.now) ≡ None)) }
 {
     for number in 0..256u16 {
         let category = number as u8;
-        if catalogue.get(category).is_none() {
+        if items.get(category).is_none() {
             return Some(category);
         }
     }

@@ -116,7 +116,11 @@ fn braced_entries(
 
 /// A record: `record` and its entries in braces.
 #[tactic(auto, using(crate::proofs::RecordWays::record_ways))]
-fn record(alloc: Global, reader: &mut Reader<'_, '_>, items: &UapItems<'_>) -> Result<Record, Stopped>
+fn record(
+    alloc: Global,
+    reader: &mut Reader<'_, '_>,
+    items: &UapItems<'_>,
+) -> Result<Record, Stopped>
     requires { SlotsReadable (record_slots (spec_tree items.now.spec.now)) }
     ensures gives { Gives record_tree (RecordShape (spec_tree items.now.spec.now)) (record_texts (spec_tree items.now.spec.now)) result reader.old reader.new }
     ensures moves { OnOk result (length reader.new < length reader.old) }
@@ -128,7 +132,11 @@ fn record(alloc: Global, reader: &mut Reader<'_, '_>, items: &UapItems<'_>) -> R
 
 /// One or more records, and the brace after them.
 #[tactic(auto, using(crate::proofs::RecordListWays::records_ways))]
-fn records(alloc: Global, reader: &mut Reader<'_, '_>, items: &UapItems<'_>) -> Result<Records, Stopped>
+fn records(
+    alloc: Global,
+    reader: &mut Reader<'_, '_>,
+    items: &UapItems<'_>,
+) -> Result<Records, Stopped>
     requires readable { SlotsReadable (record_slots (spec_tree items.now.spec.now)) }
     requires bound { length reader.old < 4294967296 }
     ensures gives { Gives records_tree (SomeRecords (spec_tree items.now.spec.now)) (records_texts (spec_tree items.now.spec.now)) result reader.old reader.new }

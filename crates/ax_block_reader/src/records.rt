@@ -82,9 +82,10 @@ fn record_entries(
     ensures gives { Gives entries_tree (EntriesShape 1 (record_slots (spec_tree items.now.spec.now))) (entries_texts 1 (record_slots (spec_tree items.now.spec.now))) result reader.old reader.new }
     ensures moves { OnOk result (length reader.new < length reader.old) }
 {
-    let mut entries = Entries::new(alloc);
+    let spec = items.spec();
+    let mut entries = Entries::with_capacity(alloc, spec.uap.count())?;
     let mut number = 0;
-    for slot in items.spec().uap.as_slice() {
+    for slot in spec.uap.as_slice() {
         number += 1;
         let Some(value) = item_value(alloc, reader, items, number, slot)? else {
             continue;

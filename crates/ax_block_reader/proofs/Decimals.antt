@@ -13,7 +13,7 @@ use Rattle.ax_token_reader.proofs.Words.{not_first, none_first}
 use Rattle.ax_block_reader.specs.Languages.{IsNumberText}
 use Rattle.ax_text.proofs.Unique.{same_decimal}
 
-wide : (n : ℕ) → n < 2 ^ 128 → n < 10 ^ 64
+pub wide : (n : ℕ) → n < 2 ^ 128 → n < 10 ^ 64
 wide n lt = omega (arith, lt)
 
 pub no_utf8 : (text : List ℕ) → (IsUtf8 text → ⊥) → (n : ℕ) → n < 2 ^ 128 → text ≡ decimal n → ⊥

@@ -2,6 +2,7 @@ pub mod Continuations
 pub mod Collecting
 pub mod Onto
 pub mod Decimals
+pub mod ShortNumbers
 pub mod FixedWays
 pub mod MemberWays
 pub mod Contents
@@ -18,3 +19,4 @@ pub mod Digits
 pub mod BlockWays
 pub mod Whole
 pub mod Once
+pub mod CatalogueLists

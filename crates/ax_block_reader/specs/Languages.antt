@@ -16,6 +16,10 @@ use Rattle.ax_text.specs.ValueText.{opening, closing, hex_text, fixed_onto, memb
 abbrev pub IsNumberText : ℕ → List ℕ → Type 0
 IsNumberText w text = (n : ℕ) × (n < 2 ^ w) × (text ≡ decimal n)
 
+-- the text of no number below 2^128
+abbrev pub IsNoNumber : List ℕ → Type 0
+IsNoNumber text = (n : ℕ) → n < 2 ^ 128 → text ≡ decimal n → ⊥
+
 -- the digits of no octets
 abbrev pub IsNoDigits : List ℕ → Type 0
 IsNoDigits digits = (octets : List ℕ) → AreOctets octets → digits ≡ encode_lower octets → ⊥

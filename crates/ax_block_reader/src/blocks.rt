@@ -6,10 +6,10 @@ ghost use Rattle.ax_block_reader.specs.BlockForms.{HasKnown, HasLacked, ReadShap
 ghost use Rattle.ax_block_reader.specs.BlockTexts.{IsBlockOf, block_texts, IsBlockText};
 ghost use Rattle.ax_block_reader.specs.Continuing.{Gives};
 
+use crate::catalogue_items::CatalogueItems;
 use crate::categories::{known_category, lacked_category, next_category};
 use crate::octets::opaque_content;
 use crate::records::braced_records;
-use ax_check::Catalogue;
 use ax_model::Block;
 use ax_token_reader::{Reader, Stopped};
 use std::alloc::Global;
@@ -24,11 +24,11 @@ enum BlockForm {
 
 /// The form of the block whose first word comes. The word isn't read yet.
 #[tactic(auto, using(crate::proofs::BlockWays::form_ways))]
-fn form_of(reader: &Reader<'_, '_>, catalogue: &Catalogue) -> Result<BlockForm, Stopped>
-    ensures form { IfOk result (λ form. IsForm (catalogue_tree catalogue.now) form reader.now) }
-    ensures none { IfErr result (λ stopped. Stops stopped (IsBlockText (catalogue_tree catalogue.now)) reader.now reader.now) }
+fn form_of(reader: &Reader<'_, '_>, items: &CatalogueItems<'_>) -> Result<BlockForm, Stopped>
+    ensures form { IfOk result (λ form. IsForm (catalogue_tree items.now) form reader.now) }
+    ensures none { IfErr result (λ stopped. Stops stopped (IsBlockText (catalogue_tree items.now)) reader.now reader.now) }
 {
-    let known = known_category(catalogue);
+    let known = known_category(items);
     let token = reader.peek()?;
     if token.text == b"block".as_slice() {
         return match known {
@@ -37,7 +37,7 @@ fn form_of(reader: &Reader<'_, '_>, catalogue: &Catalogue) -> Result<BlockForm, 
         };
     }
     if token.text == b"opaque".as_slice() {
-        return match lacked_category(catalogue) {
+        return match lacked_category(items) {
             Some(_) => Ok(BlockForm::Opaque),
             None => Err(Stopped::Bad),
         };
@@ -50,17 +50,17 @@ fn form_of(reader: &Reader<'_, '_>, catalogue: &Catalogue) -> Result<BlockForm, 
 fn read_block(
     alloc: Global,
     reader: &mut Reader<'_, '_>,
-    catalogue: &Catalogue,
+    items: &CatalogueItems<'_>,
 ) -> Result<Block, Stopped>
-    requires { HasKnown (catalogue_tree catalogue.now) }
-    ensures { Gives block_tree (ReadShape (catalogue_tree catalogue.now)) (behind_block (catalogue_tree catalogue.now)) result reader.old reader.new }
+    requires { HasKnown (catalogue_tree items.now) }
+    ensures { Gives block_tree (ReadShape (catalogue_tree items.now)) (behind_block (catalogue_tree items.now)) result reader.old reader.new }
 {
     let category = next_category(reader)?;
-    let Some(accepted) = catalogue.get(category) else {
+    let Some(uap) = items.get(category) else {
         return Err(Stopped::Bad);
     };
     reader.skip();
-    let records = braced_records(alloc, reader, accepted.spec())?;
+    let records = braced_records(alloc, reader, uap)?;
     Ok(Block::Read { category, records })
 }
 
@@ -69,13 +69,13 @@ fn read_block(
 fn opaque_block(
     alloc: Global,
     reader: &mut Reader<'_, '_>,
-    catalogue: &Catalogue,
+    items: &CatalogueItems<'_>,
 ) -> Result<Block, Stopped>
-    requires { HasLacked (catalogue_tree catalogue.now) }
-    ensures { Gives block_tree (OpaqueShape (catalogue_tree catalogue.now)) behind_opaque result reader.old reader.new }
+    requires { HasLacked (catalogue_tree items.now) }
+    ensures { Gives block_tree (OpaqueShape (catalogue_tree items.now)) behind_opaque result reader.old reader.new }
 {
     let category = next_category(reader)?;
-    if catalogue.get(category).is_some() {
+    if items.get(category).is_some() {
         return Err(Stopped::Bad);
     }
     reader.skip();
@@ -88,19 +88,19 @@ fn opaque_block(
 pub(crate) fn block(
     alloc: Global,
     reader: &mut Reader<'_, '_>,
-    catalogue: &Catalogue,
+    items: &CatalogueItems<'_>,
 ) -> Result<Block, Stopped>
-    ensures { Gives block_tree (IsBlockOf (catalogue_tree catalogue.now)) (block_texts (catalogue_tree catalogue.now)) result reader.old reader.new }
+    ensures { Gives block_tree (IsBlockOf (catalogue_tree items.now)) (block_texts (catalogue_tree items.now)) result reader.old reader.new }
 {
-    match form_of(reader, catalogue)? {
+    match form_of(reader, items)? {
         BlockForm::Read => {
             reader.skip();
-            let block = read_block(alloc, reader, catalogue)?;
+            let block = read_block(alloc, reader, items)?;
             Ok(block)
         }
         BlockForm::Opaque => {
             reader.skip();
-            let block = opaque_block(alloc, reader, catalogue)?;
+            let block = opaque_block(alloc, reader, items)?;
             Ok(block)
         }
     }

@@ -7,19 +7,10 @@ ghost use Rattle.ax_token_reader.specs.Stopping.{IsNotFirst};
 ghost use Rattle.ax_token_reader.specs.declared.stopped.Stopped.TheVariants.{Bad};
 ghost use Rattle.ax_block_reader.specs.BlockForms.{IsCategoryText};
 
-use ax_check::Catalogue;
+use crate::catalogue_items::CatalogueItems;
+use crate::digit::digit_of;
 use ax_model::Spec;
 use ax_token_reader::{Reader, Stopped};
-
-/// The number of a digit. None comes exactly where the octet is none.
-fn digit_of(octet: u8) -> Option<u16>
-    ensures { MatchOption result ((octet < 48) ⊎ (57 < octet)) (λ digit. (octet ≡ 48 + digit) × digit < 10) }
-{
-    if octet < b'0' || octet > b'9' {
-        return None;
-    }
-    Some(u16::from(octet - b'0'))
-}
 
 /// The category of three digits, 000 to 255. None comes exactly where the octets are none.
 #[tactic(auto, using(crate::proofs::Digits::digits))]
@@ -27,7 +18,8 @@ fn category_of_digits(hundreds: u8, tens: u8, ones: u8) -> Option<u8>
     ensures { MatchOption result ((n : ℕ) → n < 256 → hundreds ∷ tens ∷ ones ∷ [] ≡ three_digits n → ⊥)
         (λ n. hundreds ∷ tens ∷ ones ∷ [] ≡ three_digits n) }
 {
-    let number = 100 * digit_of(hundreds)? + 10 * digit_of(tens)? + digit_of(ones)?;
+    let number = 100 * u16::from(digit_of(hundreds)?)
+        + u16::from(10 * digit_of(tens)? + digit_of(ones)?);
     if number > 255 {
         return None;
     }
@@ -68,20 +60,20 @@ fn category_in(spec: &Spec) -> u8
 
 /// A category that the catalogue has. None comes exactly where it has none.
 #[tactic(auto, using(crate::proofs::Digits::firsts))]
-pub(crate) fn known_category(catalogue: &Catalogue) -> Option<u8>
-    ensures { MatchOption result (catalogue_tree catalogue.now ≡ []) (λ n. (n < 256) × ((spec : SpecTree) × (spec_of n (catalogue_tree catalogue.now) ≡ Some spec))) }
+pub(crate) fn known_category(items: &CatalogueItems<'_>) -> Option<u8>
+    ensures { MatchOption result (catalogue_tree items.now ≡ []) (λ n. (n < 256) × ((spec : SpecTree) × (spec_of n (catalogue_tree items.now) ≡ Some spec))) }
 {
-    let first = catalogue.at(0)?;
-    Some(category_in(first.spec()))
+    let first = items.first()?;
+    Some(category_in(first))
 }
 
 /// A category that the catalogue lacks. None comes exactly where it has all 256.
-pub(crate) fn lacked_category(catalogue: &Catalogue) -> Option<u8>
-    ensures { MatchOption result ((n : ℕ) → n < 256 → spec_of n (catalogue_tree catalogue.now) ≡ None → ⊥) (λ n. (n < 256) × (spec_of n (catalogue_tree catalogue.now) ≡ None)) }
+pub(crate) fn lacked_category(items: &CatalogueItems<'_>) -> Option<u8>
+    ensures { MatchOption result ((n : ℕ) → n < 256 → spec_of n (catalogue_tree items.now) ≡ None → ⊥) (λ n. (n < 256) × (spec_of n (catalogue_tree items.now) ≡ None)) }
 {
     for number in 0..256u16 {
         let category = number as u8;
-        if catalogue.get(category).is_none() {
+        if items.get(category).is_none() {
             return Some(category);
         }
     }

@@ -75,7 +75,7 @@ pub(crate) fn member_values(
     ensures gives { Gives values_tree (MembersShape (members_tree members.now)) (members_texts (members_tree members.now)) result reader.old reader.new }
     ensures moves { OnOk result (length reader.new < length reader.old) }
 {
-    let mut values = Values::new(alloc);
+    let mut values = Values::with_capacity(alloc, members.count())?;
     for member in members.as_slice() {
         let value = member_value(alloc, reader, member)?;
         values.push(value)?;

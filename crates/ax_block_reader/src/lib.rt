@@ -5,7 +5,9 @@
 #![tactic(auto)]
 
 mod blocks;
+mod catalogue_items;
 mod categories;
+mod digit;
 mod error;
 mod extended;
 mod fixed;
@@ -16,5 +18,6 @@ mod octets;
 mod reading;
 mod records;
 
+pub use catalogue_items::CatalogueItems;
 pub use error::TextError;
-pub use reading::read_block_text;
+pub use reading::{SizedBlock, read_block_over, read_block_text};

@@ -1,10 +1,14 @@
 //! Numbers in decimal.
-ghost use Rattle.std.specs.Prelude.{◌≡◌, ◌↔◌, ◌<◌, ◌≤◌, ◌^◌, ◌∷◌, ◌++◌, [], ℕ, length, decimal, IsTrue, MatchOption, IfOk, OnOk};
+ghost use Rattle.std.specs.Prelude.{◌≡◌, ◌↔◌, ◌+◌, ◌<◌, ◌≤◌, ◌^◌, ◌∷◌, ◌++◌, [], ℕ, length, decimal, IsTrue, MatchOption, IfOk, OnOk};
 ghost use Rattle.ax_token_reader.specs.Stopping.{Reads, One};
-ghost use Rattle.ax_block_reader.specs.Languages.{IsNumberText};
+ghost use Rattle.ax_block_reader.specs.Languages.{IsNumberText, IsNoNumber};
 
+use crate::digit::digit_of;
 use ax_token_reader::{Reader, Stopped};
 use itoa::Buffer;
+
+/// The most digits of which each number fits 64 bits.
+const SHORT: usize = 19;
 
 /// Whether this is the number in decimal.
 fn is_text_of(text: &[u8], number: u128) -> bool
@@ -14,11 +18,47 @@ fn is_text_of(text: &[u8], number: u128) -> bool
     buffer.format(number).as_bytes() == text
 }
 
-/// The number that the text is in decimal, without leading zeros. None comes exactly where it is the text of none
-/// below 2^128.
+/// The number that a digit from 1 to 9 and the octets after it are in decimal. None comes exactly where an octet is no
+/// digit.
+#[tactic(auto, using(crate::proofs::ShortNumbers::digits))]
+fn number_after(digit: u8, octets: &[u8]) -> Option<u64>
+    requires digit { (0 < digit) × (digit < 10) }
+    requires few { length octets.now ≤ 18 }
+    ensures { MatchOption result (IsNoNumber ((48 + digit) ∷ octets.now)) (λ n. (48 + digit) ∷ octets.now ≡ decimal n) }
+{
+    let mut number = u64::from(digit);
+    for octet in octets {
+        let Some(digit) = digit_of(*octet) else {
+            return None;
+        };
+        number = 10 * number + u64::from(digit);
+    }
+    Some(number)
+}
+
+/// The number that at most 19 octets are in decimal, without leading zeros. None comes exactly where they are the text of
+/// none.
+#[tactic(auto, using(crate::proofs::ShortNumbers::short))]
+fn short_number(text: &[u8]) -> Option<u64>
+    requires { length text.now ≤ 19 }
+    ensures { MatchOption result (IsNoNumber text.now) (λ n. text.now ≡ decimal n) }
+{
+    match text.split_first() {
+        None => None,
+        Some((first, later)) => match digit_of(*first) {
+            None => None,
+            Some(0) if !later.is_empty() => None,
+            Some(0) => Some(0),
+            Some(digit) => number_after(digit, later),
+        },
+    }
+}
+
+/// The number that a text of any length is in decimal, without leading zeros. None comes exactly where it is the text of
+/// none below 2^128.
 #[tactic(auto, using(crate::proofs::Decimals::numbers))]
-fn number_of(text: &[u8]) -> Option<u128>
-    ensures { MatchOption result ((n : ℕ) → n < 2 ^ 128 → text.now ≡ decimal n → ⊥) (λ n. text.now ≡ decimal n) }
+fn long_number(text: &[u8]) -> Option<u128>
+    ensures { MatchOption result (IsNoNumber text.now) (λ n. text.now ≡ decimal n) }
 {
     let Ok(written) = str::from_utf8(text) else {
         return None;
@@ -30,6 +70,18 @@ fn number_of(text: &[u8]) -> Option<u128>
         return None;
     }
     Some(number)
+}
+
+/// The number that the text is in decimal, without leading zeros. None comes exactly where it is the text of none
+/// below 2^128.
+fn number_of(text: &[u8]) -> Option<u128>
+    ensures { MatchOption result (IsNoNumber text.now) (λ n. text.now ≡ decimal n) }
+{
+    if text.len() > SHORT {
+        return long_number(text);
+    }
+    let number = short_number(text)?;
+    Some(u128::from(number))
 }
 
 /// Whether the number has at most that many bits.

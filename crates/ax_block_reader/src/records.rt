@@ -1,6 +1,7 @@
 //! Records and lists of them.
-ghost use Rattle.std.specs.Prelude.{◌≡◌, ◌<◌, ◌≤◌, ◌∷◌, [], length, map, IfOk, IfErr, OnOk, MatchOption};
+ghost use Rattle.std.specs.Prelude.{◌≡◌, ◌<◌, ◌≤◌, ◌∷◌, [], length, map, Some, IfOk, IfErr, OnOk, MatchOption};
 ghost use Rattle.ax_model.specs.Bodies.{RecordShape};
+ghost use Rattle.ax_model.specs.Lookup.{item_of_frn, item_of_slot};
 ghost use Rattle.ax_model.specs.Plain.{item_tree, kind_tree, spec_tree, entries_tree, record_tree, records_tree};
 ghost use Rattle.ax_model.specs.Shape.{EntriesShape};
 ghost use Rattle.ax_model.specs.Specification.{uap_slot, record_slots};
@@ -13,22 +14,25 @@ ghost use Rattle.ax_block_reader.specs.Records.{braced_entries_texts, record_tex
 ghost use Rattle.ax_block_reader.specs.Readable.{SlotReadable, SlotsReadable};
 
 use crate::kinds::kind_value;
-use ax_model::{Entries, Entry, Item, Record, Records, Spec, UapSlot, Value};
+use ax_model::{Entries, Entry, Item, Record, Records, UapSlot, Value};
 use ax_token_reader::{Reader, Stopped};
+use ax_uap::UapItems;
 use std::alloc::Global;
 
-/// The item of a slot of the UAP, where its name comes. The name is read if so.
+/// The item of a slot of the UAP, which has that field reference number, where its name comes. The name is read if so.
 #[tactic(auto, using(crate::proofs::RecordWays::item_steps))]
 fn item_that_comes<'s>(
     reader: &mut Reader<'_, '_>,
-    spec: &'s Spec,
+    items: &UapItems<'s>,
+    frn: u32,
     slot: &UapSlot,
 ) -> Result<Option<&'s Item>, Stopped>
+    requires { item_of_frn frn items.now.spec.now.uap items.now.spec.now.items ≡ item_of_slot (Some slot.now) items.now.spec.now.items }
     ensures found { IfOk result (λ found. MatchOption found
-        ((reader.new ≡ reader.old) × IsNotNamed (uap_slot (map item_tree spec.now.items) slot.now) reader.old)
-        (λ item. (uap_slot (map item_tree spec.now.items) slot.now ≡ subitem item.now.name (kind_tree item.now.kind)) × (reader.old ≡ item.now.name ∷ reader.new))) }
+        ((reader.new ≡ reader.old) × IsNotNamed (uap_slot (map item_tree items.now.spec.now.items) slot.now) reader.old)
+        (λ item. (uap_slot (map item_tree items.now.spec.now.items) slot.now ≡ subitem item.now.name (kind_tree item.now.kind)) × (reader.old ≡ item.now.name ∷ reader.new))) }
     ensures end { IfErr result (λ e. (e ≡ Bad) × (reader.old ≡ []) × (reader.new ≡ [])) }
-    ensures named { SlotNamed (uap_slot (map item_tree spec.now.items) slot.now) }
+    ensures named { SlotNamed (uap_slot (map item_tree items.now.spec.now.items) slot.now) }
 {
     let UapSlot::Item(name) = slot else {
         return Ok(None);
@@ -38,7 +42,7 @@ fn item_that_comes<'s>(
     if token.text != wanted {
         return Ok(None);
     }
-    let Some(item) = spec.item_of(slot) else {
+    let Some(item) = items.item(frn) else {
         return Ok(None);
     };
     reader.skip();
@@ -50,15 +54,17 @@ fn item_that_comes<'s>(
 fn item_value(
     alloc: Global,
     reader: &mut Reader<'_, '_>,
-    spec: &Spec,
+    items: &UapItems<'_>,
+    frn: u32,
     slot: &UapSlot,
 ) -> Result<Option<Value>, Stopped>
-    requires { SlotReadable (uap_slot (map item_tree spec.now.items) slot.now) }
-    ensures gives { GivesSlot (uap_slot (map item_tree spec.now.items) slot.now) result reader.old reader.new }
-    ensures named { SlotNamed (uap_slot (map item_tree spec.now.items) slot.now) }
+    requires readable { SlotReadable (uap_slot (map item_tree items.now.spec.now.items) slot.now) }
+    requires at { item_of_frn frn items.now.spec.now.uap items.now.spec.now.items ≡ item_of_slot (Some slot.now) items.now.spec.now.items }
+    ensures gives { GivesSlot (uap_slot (map item_tree items.now.spec.now.items) slot.now) result reader.old reader.new }
+    ensures named { SlotNamed (uap_slot (map item_tree items.now.spec.now.items) slot.now) }
     ensures moves { OnOk result (length reader.new ≤ length reader.old) }
 {
-    let Some(item) = item_that_comes(reader, spec, slot)? else {
+    let Some(item) = item_that_comes(reader, items, frn, slot)? else {
         return Ok(None);
     };
     let value = kind_value(alloc, reader, &item.kind)?;
@@ -70,17 +76,18 @@ fn item_value(
 fn record_entries(
     alloc: Global,
     reader: &mut Reader<'_, '_>,
-    spec: &Spec,
+    items: &UapItems<'_>,
 ) -> Result<Entries, Stopped>
-    requires { SlotsReadable (record_slots (spec_tree spec.now)) }
-    ensures gives { Gives entries_tree (EntriesShape 1 (record_slots (spec_tree spec.now))) (entries_texts 1 (record_slots (spec_tree spec.now))) result reader.old reader.new }
+    requires { SlotsReadable (record_slots (spec_tree items.now.spec.now)) }
+    ensures gives { Gives entries_tree (EntriesShape 1 (record_slots (spec_tree items.now.spec.now))) (entries_texts 1 (record_slots (spec_tree items.now.spec.now))) result reader.old reader.new }
     ensures moves { OnOk result (length reader.new < length reader.old) }
 {
-    let mut entries = Entries::new(alloc);
+    let spec = items.spec();
+    let mut entries = Entries::with_capacity(alloc, spec.uap.count())?;
     let mut number = 0;
     for slot in spec.uap.as_slice() {
         number += 1;
-        let Some(value) = item_value(alloc, reader, spec, slot)? else {
+        let Some(value) = item_value(alloc, reader, items, number, slot)? else {
             continue;
         };
         entries.push(Entry {
@@ -97,40 +104,48 @@ fn record_entries(
 fn braced_entries(
     alloc: Global,
     reader: &mut Reader<'_, '_>,
-    spec: &Spec,
+    items: &UapItems<'_>,
 ) -> Result<Entries, Stopped>
-    requires { SlotsReadable (record_slots (spec_tree spec.now)) }
-    ensures gives { Gives entries_tree (EntriesShape 1 (record_slots (spec_tree spec.now))) (braced_entries_texts (spec_tree spec.now)) result reader.old reader.new }
+    requires { SlotsReadable (record_slots (spec_tree items.now.spec.now)) }
+    ensures gives { Gives entries_tree (EntriesShape 1 (record_slots (spec_tree items.now.spec.now))) (braced_entries_texts (spec_tree items.now.spec.now)) result reader.old reader.new }
     ensures moves { OnOk result (length reader.new < length reader.old) }
 {
     reader.expect(b"{")?;
-    let entries = record_entries(alloc, reader, spec)?;
+    let entries = record_entries(alloc, reader, items)?;
     Ok(entries)
 }
 
 /// A record: `record` and its entries in braces.
 #[tactic(auto, using(crate::proofs::RecordWays::record_ways))]
-fn record(alloc: Global, reader: &mut Reader<'_, '_>, spec: &Spec) -> Result<Record, Stopped>
-    requires { SlotsReadable (record_slots (spec_tree spec.now)) }
-    ensures gives { Gives record_tree (RecordShape (spec_tree spec.now)) (record_texts (spec_tree spec.now)) result reader.old reader.new }
+fn record(
+    alloc: Global,
+    reader: &mut Reader<'_, '_>,
+    items: &UapItems<'_>,
+) -> Result<Record, Stopped>
+    requires { SlotsReadable (record_slots (spec_tree items.now.spec.now)) }
+    ensures gives { Gives record_tree (RecordShape (spec_tree items.now.spec.now)) (record_texts (spec_tree items.now.spec.now)) result reader.old reader.new }
     ensures moves { OnOk result (length reader.new < length reader.old) }
 {
     reader.expect(b"record")?;
-    let entries = braced_entries(alloc, reader, spec)?;
+    let entries = braced_entries(alloc, reader, items)?;
     Ok(Record { entries })
 }
 
 /// One or more records, and the brace after them.
 #[tactic(auto, using(crate::proofs::RecordListWays::records_ways))]
-fn records(alloc: Global, reader: &mut Reader<'_, '_>, spec: &Spec) -> Result<Records, Stopped>
-    requires readable { SlotsReadable (record_slots (spec_tree spec.now)) }
+fn records(
+    alloc: Global,
+    reader: &mut Reader<'_, '_>,
+    items: &UapItems<'_>,
+) -> Result<Records, Stopped>
+    requires readable { SlotsReadable (record_slots (spec_tree items.now.spec.now)) }
     requires bound { length reader.old < 4294967296 }
-    ensures gives { Gives records_tree (SomeRecords (spec_tree spec.now)) (records_texts (spec_tree spec.now)) result reader.old reader.new }
+    ensures gives { Gives records_tree (SomeRecords (spec_tree items.now.spec.now)) (records_texts (spec_tree items.now.spec.now)) result reader.old reader.new }
     ensures moves { OnOk result (length reader.new < length reader.old) }
 {
     let mut made = Records::new(alloc);
     loop {
-        let one = record(alloc, reader, spec)?;
+        let one = record(alloc, reader, items)?;
         made.push(one)?;
         if reader.takes(b"}")? {
             return Ok(made);
@@ -143,13 +158,13 @@ fn records(alloc: Global, reader: &mut Reader<'_, '_>, spec: &Spec) -> Result<Re
 pub(crate) fn braced_records(
     alloc: Global,
     reader: &mut Reader<'_, '_>,
-    spec: &Spec,
+    items: &UapItems<'_>,
 ) -> Result<Records, Stopped>
-    requires { SlotsReadable (record_slots (spec_tree spec.now)) }
-    ensures gives { Gives records_tree (SomeRecords (spec_tree spec.now)) (braced_records_texts (spec_tree spec.now)) result reader.old reader.new }
+    requires { SlotsReadable (record_slots (spec_tree items.now.spec.now)) }
+    ensures gives { Gives records_tree (SomeRecords (spec_tree items.now.spec.now)) (braced_records_texts (spec_tree items.now.spec.now)) result reader.old reader.new }
     ensures moves { OnOk result (length reader.new < length reader.old) }
 {
     reader.expect(b"{")?;
-    let made = records(alloc, reader, spec)?;
+    let made = records(alloc, reader, items)?;
     Ok(made)
 }

@@ -11,46 +11,47 @@ ghost use Rattle.ax_model.specs.Specification.{spec_of};
 
 use crate::fault::BuildStop;
 use crate::opaque::opaque_block;
-use ax_block_reader::read_block_text;
-use ax_check::Catalogue;
+use ax_block_reader::{CatalogueItems, read_block_over};
 use ax_model::Block;
 use ax_tokens::{Tokens, tokens};
-use ax_values::encode_block;
+use ax_values::encode_of_length;
 use std::alloc::{AllocError, Global};
 
 /// How deep the braces of a line may nest.
 const DEEPEST: u32 = 20;
 
-/// The canonical octets of a block that fits the catalogue. They are no more than a block may have, so that encoding never
-/// refuses their number.
+/// The canonical octets of a block that fits the catalogue. There are so many of them, no more than a block may have.
 fn canonical_octets(
     alloc: Global,
-    catalogue: &Catalogue,
+    items: &CatalogueItems<'_>,
     block: &Block,
+    count: usize,
 ) -> Result<Vec<u8>, AllocError>
-    requires fits { IsBlockOf (catalogue_tree catalogue.now) (block_tree block.now) }
-    requires within { canonical_length (catalogue_tree catalogue.now) (block_tree block.now) ≤ 65535 }
-    ensures { IfOk result (λ made. made.items ≡ canon_over (spec_of (category_of (block_tree block.now)) (catalogue_tree catalogue.now)) (block_tree block.now)) }
+    requires fits { IsBlockOf (catalogue_tree items.now) (block_tree block.now) }
+    requires count { count ≡ canonical_length (catalogue_tree items.now) (block_tree block.now) }
+    requires within { count ≤ 65535 }
+    ensures { IfOk result (λ made. made.items ≡ canon_over (spec_of (category_of (block_tree block.now)) (catalogue_tree items.now)) (block_tree block.now)) }
 {
     match block {
         Block::Opaque { category, octets } => opaque_block(alloc, *category, octets.as_slice()),
-        Block::Read { category, .. } => match catalogue.get(*category) {
-            Some(accepted) => match encode_block(alloc, accepted.spec(), block) {
-                Ok(octets) => Ok(octets),
-                Err(_) => Err(AllocError),
-            },
+        Block::Read { category, .. } => match items.get(*category) {
+            Some(uap) => encode_of_length(alloc, uap, block, count),
             None => unreachable!(),
         },
     }
 }
 
 /// The canonical octets of the block whose text the tokens are.
-fn built(alloc: Global, catalogue: &Catalogue, tokens: &Tokens<'_>) -> Result<Vec<u8>, BuildStop>
-    ensures octets { IfOk result (λ made. IsBuiltOf (catalogue_tree catalogue.now) tokens.now made.items) }
-    ensures stop { IfErr result (NotBuilt (catalogue_tree catalogue.now) tokens.now) }
+fn built(
+    alloc: Global,
+    items: &CatalogueItems<'_>,
+    tokens: &Tokens<'_>,
+) -> Result<Vec<u8>, BuildStop>
+    ensures octets { IfOk result (λ made. IsBuiltOf (catalogue_tree items.now) tokens.now made.items) }
+    ensures stop { IfErr result (NotBuilt (catalogue_tree items.now) tokens.now) }
 {
-    let block = read_block_text(alloc, catalogue, tokens)?;
-    let octets = canonical_octets(alloc, catalogue, &block)?;
+    let found = read_block_over(alloc, items, tokens)?;
+    let octets = canonical_octets(alloc, items, &found.block, found.octets)?;
     Ok(octets)
 }
 
@@ -58,17 +59,17 @@ fn built(alloc: Global, catalogue: &Catalogue, tokens: &Tokens<'_>) -> Result<Ve
 #[tactic(auto, using(crate::proofs::Built::lines_built))]
 pub(crate) fn line_octets(
     alloc: Global,
-    catalogue: &Catalogue,
+    items: &CatalogueItems<'_>,
     line: &[u8],
 ) -> Result<Option<Vec<u8>>, BuildStop>
     requires { length line.now ≤ longest_line }
-    ensures answer { IfOk result (λ made. MatchOption made (AnswersLine (catalogue_tree catalogue.now) line.now nothing) (λ octets. AnswersLine (catalogue_tree catalogue.now) line.now (gives octets.items))) }
-    ensures stop { IfErr result (StopsLine (catalogue_tree catalogue.now) line.now) }
+    ensures answer { IfOk result (λ made. MatchOption made (AnswersLine (catalogue_tree items.now) line.now nothing) (λ octets. AnswersLine (catalogue_tree items.now) line.now (gives octets.items))) }
+    ensures stop { IfErr result (StopsLine (catalogue_tree items.now) line.now) }
 {
     let found = tokens(alloc, line, DEEPEST)?;
     if found.count() == 0 {
         return Ok(None);
     }
-    let octets = built(alloc, catalogue, &found)?;
+    let octets = built(alloc, items, &found)?;
     Ok(Some(octets))
 }

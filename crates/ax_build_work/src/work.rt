@@ -8,6 +8,7 @@ ghost use Rattle.ax_outside.specs.Changes.{sink_change, source_change};
 
 use crate::building::line_octets;
 use crate::fault::{BuildStop, TextFault};
+use ax_block_reader::CatalogueItems;
 use ax_check::Catalogue;
 use ax_line_stream::{LineStop, LineWork, LinesEnd, run_lines};
 use ax_outside::{Sink, Source};
@@ -17,21 +18,21 @@ use std::alloc::Global;
 #[derive(Drop)]
 struct BuildWork<'c> {
     alloc: Global,
-    catalogue: &'c Catalogue,
+    items: CatalogueItems<'c>,
     octets: Vec<u8>,
 }
 
 impl<'c> LineWork for BuildWork<'c> {
     type Fault = TextFault;
 
-    ghost command = { λ s. build_command (catalogue_tree s.catalogue.now) };
+    ghost command = { λ s. build_command (catalogue_tree s.items) };
 
     ghost sound = { λ s. Unit {0} };
 
     ghost laid = { λ s. s.octets.items };
 
     fn take(&mut self, _number: u64, line: &[u8]) -> Result<bool, LineStop<TextFault>> {
-        match line_octets(self.alloc, self.catalogue, line) {
+        match line_octets(self.alloc, &self.items, line) {
             Ok(Some(octets)) => {
                 self.octets = octets;
                 Ok(true)
@@ -47,7 +48,7 @@ impl<'c> LineWork for BuildWork<'c> {
     }
 }
 
-/// Builds the block of each line of the input that has a token, and writes its canonical form as one piece, up to the first
+/// Looks the items of the catalogue's UAPs up, once. Then it builds the block of each line of the input that has a token, and writes its canonical form as one piece, up to the first
 /// line that is refused. Lines are numbered from 0, empty ones and comments among them.
 pub fn build_lines<S: Source, K: Sink>(
     alloc: Global,
@@ -58,9 +59,12 @@ pub fn build_lines<S: Source, K: Sink>(
     ensures completes { Completes (build_command (catalogue_tree catalogue.now)) longest_line longest_input (source_change S.Source source.old source.new) (sink_change K.Sink out.old out.new) result }
     ensures runs { LinesRun (build_command (catalogue_tree catalogue.now)) longest_line longest_input (source_change S.Source source.old source.new) (sink_change K.Sink out.old out.new) result }
 {
+    let Ok(items) = CatalogueItems::of(alloc, catalogue) else {
+        return LinesEnd::OutOfMemory;
+    };
     let mut work = BuildWork {
         alloc,
-        catalogue,
+        items,
         octets: Vec::new(alloc),
     };
     run_lines(alloc, &mut work, source, out)

@@ -37,6 +37,14 @@ impl<T> Sequence<T> {
         }
     }
 
+    /// The empty list, with the room that so many members take.
+    pub fn with_capacity(alloc: Global, members: u32) -> Result<Self, AllocError>
+        ensures { IfOk result (λ made. made ≡ []) }
+    {
+        let members = Vec::with_capacity(alloc, members as usize)?;
+        Ok(Sequence { members })
+    }
+
     /// The number of members.
     pub fn count(&self) -> u32
         ensures { result ≡ length self.now }

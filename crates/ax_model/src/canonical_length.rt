@@ -56,9 +56,9 @@ fn octets_of_run(values: &Values, fixed: &Fixed) -> u64
     u64::from(values.count()).saturating_mul(unit_octets_of(fixed.width()))
 }
 
-/// The octets of a value's canonical spelling under its kind.
+/// The octets of a value's canonical spelling under its kind, held at 2^64 - 1. Takes no memory.
 #[cycle(octets)]
-fn octets_of(value: &Value, kind: &Kind) -> u64
+pub fn octets_of(value: &Value, kind: &Kind) -> u64
     ensures { result ≡ held (octets (value_tree value.now) (kind_tree kind.now)) }
 {
     match (value, kind) {

@@ -32,7 +32,7 @@ mod width;
 
 pub use ax_lists::Sequence;
 pub use block_fitting::fits;
-pub use canonical_length::canon_length;
+pub use canonical_length::{canon_length, octets_of};
 pub use content::{Content, Scale, Sign, TableText, TableTexts};
 pub use fault::{BodyCause, BodyFault};
 pub use flaw::{Flaw, FlawKind, Flaws};

@@ -1,5 +1,5 @@
 //! The place in a list of tokens.
-ghost use Rattle.std.specs.Prelude.{◌≡◌, ◌<◌, ◌≤◌, ◌^◌, length, drop, [], ◌∷◌, Ok, true, false, IfOk, IfErr, OnOk, MatchResult};
+ghost use Rattle.std.specs.Prelude.{◌≡◌, ◌↔◌, ◌<◌, ◌≤◌, ◌^◌, IsTrue, length, drop, [], ◌∷◌, Ok, true, false, IfOk, IfErr, OnOk, MatchResult};
 ghost use Rattle.ax_tokens.specs.PlainToken.{plain_token};
 ghost use Rattle.ax_tokens.specs.Lexing.{HasTokenText};
 ghost use Rattle.ax_token_reader.specs.declared.stopped.Stopped.TheVariants.{Bad};
@@ -29,6 +29,13 @@ impl<'r, 't> Model for Reader<'r, 't> {
     ghost view = { λ r. drop r.at (texts_of r.tokens.now) };
 
     ghost invariant = { λ r. (r.at ≤ r.end) × (r.end ≡ length r.tokens.now) × (r.end < 4294967296) };
+}
+
+/// Whether the texts are the same. Words are short, so that octet by octet is quickest.
+fn same_text(text: &[u8], word: &[u8]) -> bool
+    ensures { IsTrue result ↔ (text.now ≡ word.now) }
+{
+    text.len() == word.len() && text.iter().zip(word).all(|(octet, wanted)| octet == wanted)
 }
 
 impl<'r, 't> Reader<'r, 't> {
@@ -79,7 +86,7 @@ impl<'r, 't> Reader<'r, 't> {
         ensures bound { OnOk result (length self.old < 2 ^ 32) }
     {
         let token = self.peek()?;
-        if token.text != word {
+        if !same_text(token.text, word) {
             return Err(Stopped::Bad);
         }
         self.skip();
@@ -94,7 +101,7 @@ impl<'r, 't> Reader<'r, 't> {
         ensures end { IfErr result (λ e. (e ≡ Bad) × (self.old ≡ []) × (self.new ≡ [])) }
     {
         let token = self.peek()?;
-        let taken = token.text == word;
+        let taken = same_text(token.text, word);
         if taken {
             self.skip();
         }

@@ -16,7 +16,8 @@ pub fn is_separator(octet: u8) -> bool
 pub fn is_word_octet(octet: u8) -> bool
     ensures { result ≡ is_word_octet octet }
 {
-    matches!(octet, 0x21..=0x7E) && !matches!(octet, b'"' | b'#' | b'{' | b'}')
+    // Most octets of a Word are of this run, so that one test is enough for them.
+    matches!(octet, b'$'..=b'z') || matches!(octet, b'!' | b'|' | b'~')
 }
 
 /// An octet between the quotes of a Str.

@@ -12,11 +12,12 @@ use crate::error::EncodeError;
 use crate::write_records::write_body;
 use ax_bits::Out;
 use ax_model::{Block, Spec, canon_length};
+use ax_uap::UapItems;
 use std::alloc::{AllocError, Global};
 
 /// The canonical form of a block that fits a specification without flaw: CAT, LEN and the records, each presence field
 /// the least; reading it gives the block back. TooLong comes exactly where it has more than 65,535 octets, with their number, held at 2^64 - 1. Takes
-/// the room of the octets once.
+/// the room of the octets once, and looks each item of the UAP up once.
 pub fn encode_block(alloc: Global, spec: &Spec, block: &Block) -> Result<Vec<u8>, EncodeError>
     requires no_flaw { HasNoFlaw spec.now }
     requires block_fits { BlockFits spec.now block.now }
@@ -29,25 +30,27 @@ pub fn encode_block(alloc: Global, spec: &Spec, block: &Block) -> Result<Vec<u8>
     if length > 65_535 {
         return Err(EncodeError::TooLong { octets: length });
     }
-    let octets = encode_short(alloc, spec, block, length as usize)?;
+    let items = UapItems::of(alloc, spec)?;
+    let octets = encode_of_length(alloc, &items, block, length as usize)?;
     Ok(octets)
 }
 
-/// The canonical form of a block, which has that many octets.
-fn encode_short(
+/// The canonical form of a block that fits a specification without flaw, over the items of its UAP, where it has that many
+/// octets, at most 65,535. Takes their room once.
+pub fn encode_of_length(
     alloc: Global,
-    spec: &Spec,
+    items: &UapItems<'_>,
     block: &Block,
     length: usize,
 ) -> Result<Vec<u8>, AllocError>
-    requires no_flaw { HasNoFlaw spec.now }
-    requires block_fits { BlockFits spec.now block.now }
-    requires length { length ≡ block_length spec.now block.now }
+    requires no_flaw { HasNoFlaw items.now.spec.now }
+    requires block_fits { BlockFits items.now.spec.now block.now }
+    requires length { length ≡ block_length items.now.spec.now block.now }
     requires small { length ≤ 65535 }
-    ensures { IfOk result (λ made. made.items ≡ block_octets spec.now block.now) }
+    ensures { IfOk result (λ made. made.items ≡ block_octets items.now.spec.now block.now) }
 {
     let mut buffer = zeros(alloc, length)?;
-    fill(block, spec, &mut buffer);
+    fill(block, items, &mut buffer);
     Ok(buffer)
 }
 
@@ -59,43 +62,43 @@ fn zeros(alloc: Global, count: usize) -> Result<Vec<u8>, AllocError>
 }
 
 /// Fills a buffer of just its length with the canonical form of a block.
-fn fill(block: &Block, spec: &Spec, buffer: &mut [u8])
-    requires no_flaw { HasNoFlaw spec.now }
-    requires block_fits { BlockFits spec.now block.now }
-    requires length { length buffer.old ≡ block_length spec.now block.now }
+fn fill(block: &Block, items: &UapItems<'_>, buffer: &mut [u8])
+    requires no_flaw { HasNoFlaw items.now.spec.now }
+    requires block_fits { BlockFits items.now.spec.now block.now }
+    requires length { length buffer.old ≡ block_length items.now.spec.now block.now }
     requires small { length buffer.old ≤ 65535 }
-    ensures { buffer.new ≡ block_octets spec.now block.now }
+    ensures { buffer.new ≡ block_octets items.now.spec.now block.now }
 {
-    write_over(block, spec, buffer);
+    write_over(block, items, buffer);
 }
 
 #[tactic(auto, using(crate::proofs::WrittenBlocks::filled))]
-fn write_over(block: &Block, spec: &Spec, buffer: &mut [u8])
-    requires no_flaw { HasNoFlaw spec.now }
-    requires block_fits { BlockFits spec.now block.now }
-    requires length { length buffer.old ≡ block_length spec.now block.now }
+fn write_over(block: &Block, items: &UapItems<'_>, buffer: &mut [u8])
+    requires no_flaw { HasNoFlaw items.now.spec.now }
+    requires block_fits { BlockFits items.now.spec.now block.now }
+    requires length { length buffer.old ≡ block_length items.now.spec.now block.now }
     requires small { length buffer.old ≤ 65535 }
-    ensures bits { bits buffer.new ≡ bits (block_octets spec.now block.now) }
-    ensures octets { AreOctets (block_octets spec.now block.now) }
+    ensures bits { bits buffer.new ≡ bits (block_octets items.now.spec.now block.now) }
+    ensures octets { AreOctets (block_octets items.now.spec.now block.now) }
 {
     let length = buffer.len() as u16;
     let mut out = Out::over(buffer);
-    write_block(block, spec, length, &mut out);
+    write_block(block, items, length, &mut out);
 }
 
 /// Appends the canonical form of a block of that many octets.
-fn write_block(block: &Block, spec: &Spec, length: u16, out: &mut Out<'_>)
-    requires no_flaw { HasNoFlaw spec.now }
-    requires block_fits { BlockFits spec.now block.now }
-    requires length { length ≡ block_length spec.now block.now }
-    requires room { 8 * block_length spec.now block.now ≤ room out.old }
-    ensures written { Appends out.old out.new (bits (block_octets spec.now block.now)) }
-    ensures octets { AreOctets (block_octets spec.now block.now) }
+fn write_block(block: &Block, items: &UapItems<'_>, length: u16, out: &mut Out<'_>)
+    requires no_flaw { HasNoFlaw items.now.spec.now }
+    requires block_fits { BlockFits items.now.spec.now block.now }
+    requires length { length ≡ block_length items.now.spec.now block.now }
+    requires room { 8 * block_length items.now.spec.now block.now ≤ room out.old }
+    ensures written { Appends out.old out.new (bits (block_octets items.now.spec.now block.now)) }
+    ensures octets { AreOctets (block_octets items.now.spec.now block.now) }
 {
     match block {
         Block::Read { category, records } => {
             write_front(*category, length, out);
-            write_body(records, spec, out);
+            write_body(records, items, out);
         }
         Block::Opaque { category, octets } => {
             write_opaque(*category, octets.as_slice(), out);

@@ -7,6 +7,7 @@ mod error;
 mod fixed;
 mod kinds;
 pub mod laws;
+mod lengths;
 mod marks;
 mod records;
 mod slots;
@@ -16,5 +17,6 @@ mod write_records;
 mod write_units;
 
 pub use decode::{decode_block, decode_kind, decode_record};
-pub use encode::{encode_block, write_opaque};
+pub use encode::{encode_block, encode_of_length, write_opaque};
 pub use error::{DecodeError, EncodeError};
+pub use lengths::length_over;

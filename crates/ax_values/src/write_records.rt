@@ -1,4 +1,4 @@
-//! Records written over a specification.
+//! Records written over the items of a UAP.
 ghost use Rattle.std.specs.Prelude.{◌≡◌, ◌≤◌, length};
 ghost use Rattle.std.specs.List.{AllByRecursion};
 ghost use Rattle.ax_bits.specs.Out.{Appends, room};
@@ -14,48 +14,49 @@ use crate::marks::entry_marks;
 use crate::write_kinds::write_value;
 use ax_bits::Out;
 use ax_fspec::write_presence;
-use ax_model::{Entries, Entry, Record, Records, Spec};
+use ax_model::{Entries, Entry, Record, Records};
+use ax_uap::UapItems;
 
 /// Appends the canonical spellings of records, in order.
 #[tactic(auto, using(crate::proofs::WrittenRecords::records))]
-pub(crate) fn write_body(records: &Records, spec: &Spec, out: &mut Out<'_>)
-    requires spec { NoFlaw (spec_tree spec.now) }
-    requires shape { AllByRecursion (RecordShape (spec_tree spec.now)) (records_tree records.now) }
-    requires room { length (CanonBody (spec_tree spec.now) (records_tree records.now)) ≤ room out.old }
-    ensures { Appends out.old out.new (CanonBody (spec_tree spec.now) (records_tree records.now)) }
+pub(crate) fn write_body(records: &Records, items: &UapItems<'_>, out: &mut Out<'_>)
+    requires spec { NoFlaw (spec_tree items.now.spec.now) }
+    requires shape { AllByRecursion (RecordShape (spec_tree items.now.spec.now)) (records_tree records.now) }
+    requires room { length (CanonBody (spec_tree items.now.spec.now) (records_tree records.now)) ≤ room out.old }
+    ensures { Appends out.old out.new (CanonBody (spec_tree items.now.spec.now) (records_tree records.now)) }
 {
     for one in records.as_slice() {
-        write_record(one, spec, out);
+        write_record(one, items, out);
     }
 }
 
 /// Appends the entries of a record, with the least FSPEC in front.
-fn write_record(one: &Record, spec: &Spec, out: &mut Out<'_>)
-    requires entries { AreEntriesOf (record_slots (spec_tree spec.now)) (record_tree one.now) }
-    requires room { length (CanonRecord (spec_tree spec.now) (record_tree one.now)) ≤ room out.old }
-    ensures { Appends out.old out.new (CanonRecord (spec_tree spec.now) (record_tree one.now)) }
+fn write_record(one: &Record, items: &UapItems<'_>, out: &mut Out<'_>)
+    requires entries { AreEntriesOf (record_slots (spec_tree items.now.spec.now)) (record_tree one.now) }
+    requires room { length (CanonRecord (spec_tree items.now.spec.now) (record_tree one.now)) ≤ room out.old }
+    ensures { Appends out.old out.new (CanonRecord (spec_tree items.now.spec.now) (record_tree one.now)) }
 {
     write_presence(&entry_marks(&one.entries), out);
-    write_items(&one.entries, spec, out);
+    write_items(&one.entries, items, out);
 }
 
 #[tactic(auto, using(crate::proofs::WrittenKinds::entries))]
-fn write_items(entries: &Entries, spec: &Spec, out: &mut Out<'_>)
-    requires entries { AreEntriesOf (record_slots (spec_tree spec.now)) (entries_tree entries.now) }
-    requires room { length (entries_canon 1 (record_slots (spec_tree spec.now)) (entries_tree entries.now)) ≤ room out.old }
-    ensures { Appends out.old out.new (entries_canon 1 (record_slots (spec_tree spec.now)) (entries_tree entries.now)) }
+fn write_items(entries: &Entries, items: &UapItems<'_>, out: &mut Out<'_>)
+    requires entries { AreEntriesOf (record_slots (spec_tree items.now.spec.now)) (entries_tree entries.now) }
+    requires room { length (entries_canon 1 (record_slots (spec_tree items.now.spec.now)) (entries_tree entries.now)) ≤ room out.old }
+    ensures { Appends out.old out.new (entries_canon 1 (record_slots (spec_tree items.now.spec.now)) (entries_tree entries.now)) }
 {
     for entry in entries.as_slice() {
-        write_item(entry, spec, out);
+        write_item(entry, items, out);
     }
 }
 
-fn write_item(entry: &Entry, spec: &Spec, out: &mut Out<'_>)
-    requires shape { EntryShape (slot_kind (record_slots (spec_tree spec.now)) entry.now.slot) (value_tree entry.now.value) }
-    requires room { length (entry_canon (slot_kind (record_slots (spec_tree spec.now)) entry.now.slot) (value_tree entry.now.value)) ≤ room out.old }
-    ensures { Appends out.old out.new (entry_canon (slot_kind (record_slots (spec_tree spec.now)) entry.now.slot) (value_tree entry.now.value)) }
+fn write_item(entry: &Entry, items: &UapItems<'_>, out: &mut Out<'_>)
+    requires shape { EntryShape (slot_kind (record_slots (spec_tree items.now.spec.now)) entry.now.slot) (value_tree entry.now.value) }
+    requires room { length (entry_canon (slot_kind (record_slots (spec_tree items.now.spec.now)) entry.now.slot) (value_tree entry.now.value)) ≤ room out.old }
+    ensures { Appends out.old out.new (entry_canon (slot_kind (record_slots (spec_tree items.now.spec.now)) entry.now.slot) (value_tree entry.now.value)) }
 {
-    if let Some(item) = spec.slot(entry.slot) {
+    if let Some(item) = items.item(entry.slot) {
         write_value(&entry.value, &item.kind, out);
     }
 }

@@ -4,4 +4,4 @@ use Rattle.ax_model.specs.Specification.{spec_of}
 use Rattle.ax_block_reader.proofs.categories.lacked_category.Given as goal
 
 abbrev pub invariant-loop-number : goal.invariant-loop-number
-invariant-loop-number l = (n : ℕ) → n < l.number → spec_of n (catalogue_tree l.catalogue) ≡ None → ⊥
+invariant-loop-number l = (n : ℕ) → n < l.number → spec_of n (catalogue_tree l.items) ≡ None → ⊥

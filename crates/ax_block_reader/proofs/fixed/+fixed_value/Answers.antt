@@ -24,7 +24,7 @@ at_place : (slice list : List Member) (i : ℕ) (m : Member) → slice ≡ list 
 at_place slice list i m e is = is ∙ ap (λ s. get_or s i m) e
 
 pub member_values-loop-member-init : goal.member_values-loop-member-init
-member_values-loop-member-init t c = record { read = no_member_read _ _ _ _ c.new-values.ensures refl c.requires; count = ap length c.new-values.ensures; less = omega arith }
+member_values-loop-member-init t c = record { read = no_member_read _ _ _ _ c.in_ok-values.ensures refl c.requires; count = ap length c.in_ok-values.ensures; less = omega arith }
 
 pub member_values-member_value-requires : goal.member_values-member_value-requires
 member_values-member_value-requires t c =
@@ -32,7 +32,7 @@ member_values-member_value-requires t c =
 
 pub member_values-returns-in_err-value-clause-gives : goal.member_values-returns-in_err-value-clause-gives
 member_values-returns-in_err-value-clause-gives t c =
-    let p = err_from_is_err_and c.from_residual.result c.from_residual.ensures.1 in
+    let p = err_from_is_err_and c.from_residual-in_err-value.result c.from_residual-in_err-value.ensures.1 in
     rw (p.1, p.2) (member_lacks c.args.members.now c.loop-member.member-index c.member-item.result (omega (arith, ap length c.as_slice-member-items.ensures.members)) (at_place _ _ _ _ c.as_slice-member-items.ensures.members c.member-item.is) _ _ _ _ _ c.loop-member.invariant.read c.in_err-value.ensures.gives)
 
 pub member_values-loop-member-preserved : goal.member_values-loop-member-preserved

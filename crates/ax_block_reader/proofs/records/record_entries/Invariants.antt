@@ -7,7 +7,7 @@ use Rattle.ax_block_reader.proofs.records.record_entries.Given as goal
 
 abbrev pub invariant-loop-slot : goal.invariant-loop-slot
 invariant-loop-slot l = record {
-  read : EntriesRead (record_slots (spec_tree l.fn.spec)) (slots_of_uap l.fn.spec.items (drop l.slot-index l.fn.spec.uap)) (l.number + 1) l.entries l.initial.reader l.reader;
+  read : EntriesRead (record_slots (spec_tree l.fn.items.spec.now)) (slots_of_uap l.fn.items.spec.now.items (drop l.slot-index l.fn.items.spec.now.uap)) (l.number + 1) l.entries l.initial.reader l.reader;
   number : l.number ≡ l.slot-index;
   few : length l.entries ≤ l.slot-index;
   less : length l.reader ≤ length l.initial.reader;

@@ -5,7 +5,7 @@ use Rattle.ax_block_reader.proofs.records.records.Given as goal
 
 abbrev pub invariant-loop-made : goal.invariant-loop-made
 invariant-loop-made l = record {
-  read : RecordsRead (spec_tree l.spec) l.made l.fn.reader l.reader;
+  read : RecordsRead (spec_tree l.items.spec.now) l.made l.fn.reader l.reader;
   count : length l.made + length l.reader ≤ length l.fn.reader;
 }
 

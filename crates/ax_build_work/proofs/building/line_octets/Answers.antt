@@ -9,7 +9,7 @@ returns-then-count-eq0-clause-answer c = none_asked _ _ _ _ c.in_ok-found.ensure
 
 pub returns-in_err-octets-clause-stop : goal.returns-in_err-octets-clause-stop
 returns-in_err-octets-clause-stop c =
-    let h : StopsLine (catalogue_tree c.args.catalogue.now) c.args.line.now c.in_err-octets.field-0.0 = not_built _ _ _ _ c.in_ok-found.ensures.tokens c.count.ensures.count _ c.if-count-eq0.false c.in_err-octets.ensures.stop in search rules
+    let h : StopsLine (catalogue_tree c.args.items.now) c.args.line.now c.in_err-octets.field-0.0 = not_built _ _ _ _ c.in_ok-found.ensures.tokens c.count.ensures.count _ c.if-count-eq0.false c.in_err-octets.ensures.stop in search rules
 
 pub returns-clause-answer : goal.returns-clause-answer
 returns-clause-answer c = built_line _ _ _ _ c.in_ok-found.ensures.tokens c.count.ensures.count _ c.if-count-eq0.false c.in_ok-octets.ensures.octets

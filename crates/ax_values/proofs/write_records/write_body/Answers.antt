@@ -7,7 +7,7 @@ use Rattle.ax_values.proofs.write_records.write_body.Goals as goal
 pub write_record-requires-clause-entries : goal.write_record-requires-clause-entries
 write_record-requires-clause-entries c =
     let all = c.args.records.now in
-    let spec = spec_tree c.args.spec.now in
+    let spec = spec_tree c.args.items.now.spec.now in
     let i : ℕ = c.loop-one.one-index in
     let r = c.one-item.result in
     let same = c.as_slice-one-items.ensures.members in

@@ -5,4 +5,4 @@ use Rattle.ax_values.proofs.WrittenRecords.{RecordsLeft}
 use Rattle.ax_values.proofs.write_records.write_body.Given as goal
 
 abbrev pub invariant-loop-one : goal.invariant-loop-one
-invariant-loop-one l = RecordsLeft (spec_tree l.spec) l.fn.out l.out (CanonBody (spec_tree l.spec) (records_tree l.records)) (drop l.one-index l.records)
+invariant-loop-one l = RecordsLeft (spec_tree l.items.spec.now) l.fn.out l.out (CanonBody (spec_tree l.items.spec.now) (records_tree l.records)) (drop l.one-index l.records)

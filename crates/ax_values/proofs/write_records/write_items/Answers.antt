@@ -8,7 +8,7 @@ use Rattle.ax_values.proofs.write_records.write_items.Goals as goal
 pub write_item-requires-clause-shape : goal.write_item-requires-clause-shape
 write_item-requires-clause-shape c =
     let all = c.args.entries.now in
-    let ss = record_slots (spec_tree c.args.spec.now) in
+    let ss = record_slots (spec_tree c.args.items.now.spec.now) in
     let i : ℕ = c.loop-entry.entry-index in
     let e = c.entry-item.result in
     let same = c.as_slice-entry-items.ensures.members in
@@ -17,7 +17,7 @@ write_item-requires-clause-shape c =
 pub write_item-requires-clause-room : goal.write_item-requires-clause-room
 write_item-requires-clause-room c =
     let all = c.args.entries.now in
-    let ss = record_slots (spec_tree c.args.spec.now) in
+    let ss = record_slots (spec_tree c.args.items.now.spec.now) in
     let i : ℕ = c.loop-entry.entry-index in
     let e = c.entry-item.result in
     let same = c.as_slice-entry-items.ensures.members in
@@ -26,5 +26,5 @@ write_item-requires-clause-room c =
 pub returns : goal.returns
 returns c =
     let all = c.args.entries.now in
-    let ss = record_slots (spec_tree c.args.spec.now) in
+    let ss = record_slots (spec_tree c.args.items.now.spec.now) in
     left_ended ss c.args.out.now c.loop-entry.out (entries_canon 1 ss (entries_tree all)) all c.loop-entry.entry-index c.loop-entry.invariant (subst (λ xs. length xs ≤ c.loop-entry.entry-index) c.as_slice-entry-items.ensures.members c.loop-entry-test.false)

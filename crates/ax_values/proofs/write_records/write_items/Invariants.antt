@@ -6,4 +6,4 @@ use Rattle.ax_values.proofs.NextEntry.{EntriesLeft}
 use Rattle.ax_values.proofs.write_records.write_items.Given as goal
 
 abbrev pub invariant-loop-entry : goal.invariant-loop-entry
-invariant-loop-entry l = EntriesLeft (record_slots (spec_tree l.spec)) l.fn.out l.out (entries_canon 1 (record_slots (spec_tree l.spec)) (entries_tree l.entries)) (drop l.entry-index l.entries)
+invariant-loop-entry l = EntriesLeft (record_slots (spec_tree l.items.spec.now)) l.fn.out l.out (entries_canon 1 (record_slots (spec_tree l.items.spec.now)) (entries_tree l.entries)) (drop l.entry-index l.entries)

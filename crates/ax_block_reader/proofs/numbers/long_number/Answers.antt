@@ -1,6 +1,6 @@
 use Rattle.std.proofs.Common.{rules}
 use Rattle.ax_block_reader.proofs.Decimals.{no_parse, other_text}
-use Rattle.ax_block_reader.proofs.numbers.number_of.Goals as goal
+use Rattle.ax_block_reader.proofs.numbers.long_number.Goals as goal
 
 pub returns-in_default-parse : goal.returns-in_default-parse
 returns-in_default-parse c = no_parse c.args.text.now c.in-Ok.written.now _ c.parse.result (search rules) c.in_default-parse.is c.parse.ensures.value.0

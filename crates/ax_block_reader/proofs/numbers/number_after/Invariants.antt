@@ -1,0 +1,5 @@
+use Rattle.ax_block_reader.proofs.ShortNumbers.{Read}
+use Rattle.ax_block_reader.proofs.numbers.number_after.Given as goal
+
+abbrev pub invariant-loop-octet : goal.invariant-loop-octet
+invariant-loop-octet l = Read l.digit l.octets l.octet-index l.number

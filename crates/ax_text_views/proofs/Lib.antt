@@ -4,3 +4,4 @@ pub mod Repeated
 pub mod Counted
 pub mod Marked
 pub mod RecordsPrinted
+pub mod Octets

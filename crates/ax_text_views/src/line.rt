@@ -63,26 +63,43 @@ impl Line {
         Ok(())
     }
 
+    /// A token of one octet.
+    #[tactic(auto, using(crate::proofs::Octets::octet_put))]
+    fn octet(&mut self, octet: u8) -> Result<(), AllocError>
+        ensures { OnOk result (Puts after_spaces (one_onto (octet ∷ [])) self.old self.new) }
+    {
+        self.octets.extend_from_slice(&[b' ', octet])?;
+        Ok(())
+    }
+
     /// An opening brace.
     pub(crate) fn open(&mut self) -> Result<(), AllocError>
         ensures { OnOk result (Puts after_spaces (one_onto opening) self.old self.new) }
     {
-        self.text(b"{")
+        self.octet(b'{')
     }
 
     /// A closing brace.
     pub(crate) fn close(&mut self) -> Result<(), AllocError>
         ensures { OnOk result (Puts after_spaces (one_onto closing) self.old self.new) }
     {
-        self.text(b"}")
+        self.octet(b'}')
     }
 
-    /// A number in decimal.
+    /// A number in decimal. Most have one digit, and few more than 64 bits.
+    #[tactic(auto, using(crate::proofs::Octets::digit_put))]
     pub(crate) fn number(&mut self, number: u128) -> Result<(), AllocError>
         ensures { OnOk result (Puts after_spaces (one_onto (decimal number)) self.old self.new) }
     {
+        if number < 10 {
+            return self.octet(b'0' + number as u8);
+        }
         let mut buffer = Buffer::new();
-        self.text(buffer.format(number).as_bytes())
+        if number <= u128::from(u64::MAX) {
+            self.text(buffer.format(number as u64).as_bytes())
+        } else {
+            self.text(buffer.format(number).as_bytes())
+        }
     }
 
     /// A category in three digits.

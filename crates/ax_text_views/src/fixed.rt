@@ -1,6 +1,6 @@
 //! Runs of bits of a known length, printed: elements, spares and groups.
-ghost use Rattle.std.specs.Prelude.{◌≡◌, ◌+◌, ◌*◌, ◌<◌, ◌≤◌, length, drop, take, decimal, OnOk};
-ghost use Rattle.ax_bits.specs.Bits.{bits, number_of};
+ghost use Rattle.std.specs.Prelude.{◌≡◌, ◌+◌, ◌*◌, ◌/◌, ◌%◌, ◌^◌, ◌<◌, ◌≤◌, length, drop, take, decimal, OnOk};
+ghost use Rattle.ax_bits.specs.Bits.{bits, number_of, word};
 ghost use Rattle.ax_model.specs.Reader.{fixed_value};
 ghost use Rattle.ax_model.specs.InBounds.{IsWidth, FixedInBounds, MembersInBounds};
 ghost use Rattle.ax_model.specs.Plain.{fixed_tree, member_tree, members_tree};
@@ -15,6 +15,30 @@ use ax_bits::bits_at;
 use ax_model::{Fixed, Member, Members};
 use std::alloc::AllocError;
 
+/// The `count` bits of an octet above its `below` lowest.
+#[tactic(auto, using(ax_bits::proofs::Steps::mask_octet))]
+fn piece_of(octet: u8, below: u32, count: u32) -> u8
+    requires { below + count ≤ 8 }
+    ensures value { result ≡ octet / 2 ^ below % 2 ^ count }
+    ensures below { result < 2 ^ count }
+{
+    (octet as u32 >> below & ((1 << count) - 1)) as u8
+}
+
+/// The number in the `width` bits from bit `at` of the body on. Most stand in one octet.
+fn number_at(body: &[u8], at: u32, width: u32) -> u128
+    requires width { IsWidth width }
+    requires within { at + width ≤ 8 * length body.now }
+    ensures number { word width result ≡ take width (drop at (bits body.now)) }
+    ensures below { result < 2 ^ width }
+{
+    let offset = at % 8;
+    if offset + width > 8 {
+        return bits_at(body, at, width);
+    }
+    u128::from(piece_of(body[(at / 8) as usize], 8 - offset - width, width))
+}
+
 /// Prints the number in the `width` bits from bit `at` of the body on, which is moved after them.
 #[tactic(auto, using(crate::proofs::FixedPrinted::number_printed))]
 fn print_number(line: &mut Line, width: u32, body: &[u8], at: &mut u32) -> Result<(), AllocError>
@@ -24,7 +48,7 @@ fn print_number(line: &mut Line, width: u32, body: &[u8], at: &mut u32) -> Resul
     ensures text { OnOk result (Puts after_spaces (one_onto (decimal (number_of (take width (drop at.old (bits body.now)))))) line.old line.new) }
     ensures at { at.new ≡ at.old + width }
 {
-    let number = bits_at(body, *at, width);
+    let number = number_at(body, *at, width);
     *at += width;
     line.number(number)
 }

@@ -106,7 +106,7 @@ part_last all i p body at here end w made vs fx h within e u l none values =
     (parts_end (part_tree p) ps body here end w (fx_bit fx) u l (values_tree vs) (ap fx_bit none) values))
 
 -- after a part with FX 1
-behind_part : (p : Part) (left : List Part) (ps : List MembersTree) → map part_tree left ≡ ps → 0 < length left → (q : MembersTree) × (qs : List MembersTree) × (ps ≡ q ∷ qs)
+pub behind_part : (p : Part) (left : List Part) (ps : List MembersTree) → map part_tree left ≡ ps → 0 < length left → (q : MembersTree) × (qs : List MembersTree) × (ps ≡ q ∷ qs)
 behind_part p [] ps e lt = absurd (omega arith)
 behind_part p (q ∷ left) ps e lt = (part_tree q, map part_tree left, sym e)
 

@@ -19,4 +19,8 @@ mod write_units;
 pub use decode::{decode_block, decode_kind, decode_record};
 pub use encode::{encode_block, encode_of_length, write_opaque};
 pub use error::{DecodeError, EncodeError};
+pub use kinds::octet_at;
 pub use lengths::length_over;
+pub use records::record_mask;
+pub use slots::slots_mask;
+pub use units::{has_fx, unit_end};

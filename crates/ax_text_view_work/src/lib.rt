@@ -1,0 +1,7 @@
+//! What `text` makes of each block.
+#![tactic(auto)]
+
+mod tables;
+mod work;
+
+pub use work::TextViews;

@@ -1,0 +1,75 @@
+//! `text` as a block command.
+ghost use Rattle.std.specs.Prelude.{◌≡◌, IfOk};
+ghost use Rattle.ax_model.specs.Plain.{catalogue_tree};
+ghost use Rattle.ax_text_view_work.specs.Standing.{AreTables};
+ghost use Rattle.ax_text_view_work.specs.TextCommand.{text_command};
+
+use crate::tables::{Tables, table_for, tables_of};
+use ax_check::Catalogue;
+use ax_model::RawBlock;
+use ax_outside::Sink;
+use ax_stream::{BlockWork, WorkStop};
+use ax_text_views::{Line, print_block, print_opaque};
+use ax_values::DecodeError;
+use std::alloc::{AllocError, Global};
+
+/// `text` under a catalogue: the line of each block, printed in one walk over its octets. The line's memory is kept from
+/// block to block, and grows to what the longest line needs.
+#[derive(Drop)]
+pub struct TextViews<'c> {
+    /// What the tables are of: contracts speak of it, the code doesn't.
+    catalogue: &'c Catalogue,
+    tables: Tables<'c>,
+    line: Line,
+}
+
+impl<'c> TextViews<'c> {
+    /// `text` under that catalogue. What it needs of each category is found here.
+    pub fn new(alloc: Global, catalogue: &'c Catalogue) -> Result<TextViews<'c>, AllocError>
+        ensures command { IfOk result (λ work. ⟦<TextViews<'c> as BlockWork>⟧.command work ≡ text_command (catalogue_tree catalogue.now)) }
+        ensures sound { IfOk result (λ work. ⟦<TextViews<'c> as BlockWork>⟧.sound work) }
+    {
+        let tables = tables_of(alloc, catalogue)?;
+        Ok(TextViews {
+            catalogue,
+            tables,
+            line: Line::new(alloc),
+        })
+    }
+}
+
+impl<'c> BlockWork for TextViews<'c> {
+    ghost use Rattle.std.specs.Prelude.{true};
+
+    ghost command = { λ s. text_command (catalogue_tree s.catalogue.now) };
+
+    ghost sound = { λ s. AreTables s.tables (catalogue_tree s.catalogue.now) };
+
+    ghost laid = { λ s. s.line };
+
+    ghost takes_memory = { true };
+
+    #[tactic(auto, using(crate::proofs::TextBlocks::text_takes))]
+    fn take<R: Sink>(
+        &mut self,
+        _number: u64,
+        raw: &RawBlock<'_>,
+        _report: &mut R,
+    ) -> Result<(), WorkStop> {
+        match table_for(&self.tables, raw.category) {
+            Some(table) => match print_block(&mut self.line, &table.items, &table.mask, raw) {
+                Ok(()) => Ok(()),
+                Err(DecodeError::Fault(fault)) => Err(WorkStop::Fault(fault)),
+                Err(DecodeError::OutOfMemory) => Err(WorkStop::OutOfMemory),
+            },
+            None => match print_opaque(&mut self.line, raw) {
+                Ok(()) => Ok(()),
+                Err(_) => Err(WorkStop::OutOfMemory),
+            },
+        }
+    }
+
+    fn octets(&self) -> &[u8] {
+        self.line.octets()
+    }
+}

@@ -25,18 +25,27 @@ impl Lister {
         Ok(())
     }
 
+    /// A number in decimal. Those of 64 bits are divided by themselves, which is faster.
     pub(crate) fn decimal(&mut self, number: u128) -> Result<(), AllocError>
         ensures { OnOk result (self.new.out.items ≡ self.old.out.items ++ decimal number) }
     {
         let mut buffer = Buffer::new();
-        self.octets(buffer.format(number).as_bytes())
+        if number <= u128::from(u64::MAX) {
+            self.octets(buffer.format(number as u64).as_bytes())
+        } else {
+            self.octets(buffer.format(number).as_bytes())
+        }
     }
 
     pub(crate) fn signed(&mut self, number: i128) -> Result<(), AllocError>
         ensures { OnOk result (self.new.out.items ≡ self.old.out.items ++ signed_decimal number) }
     {
         let mut buffer = Buffer::new();
-        self.octets(buffer.format(number).as_bytes())
+        if i128::from(i64::MIN) <= number && number <= i128::from(i64::MAX) {
+            self.octets(buffer.format(number as i64).as_bytes())
+        } else {
+            self.octets(buffer.format(number).as_bytes())
+        }
     }
 
     /// A text in quotes, after a space.

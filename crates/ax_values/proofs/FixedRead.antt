@@ -17,15 +17,15 @@ number_read b at w n lt e = ap (λ n. number n) (sym (number-word w n lt) ∙ ap
 
 -- ---- one member and those after it
 
-width_more : (m : MemberTree) (ms : MembersTree) → members_width (member_and m ms) ≡ members_width (member_and m no_members) + members_width ms
+pub width_more : (m : MemberTree) (ms : MembersTree) → members_width (member_and m ms) ≡ members_width (member_and m no_members) + members_width ms
 width_more (named name f) ms = omega arith
 width_more (spare w) ms = omega arith
 
-bounds_first : (m : MemberTree) (ms : MembersTree) → MembersInBounds (member_and m ms) → MembersInBounds (member_and m no_members)
+pub bounds_first : (m : MemberTree) (ms : MembersTree) → MembersInBounds (member_and m ms) → MembersInBounds (member_and m no_members)
 bounds_first (named name f) ms h = (h.0, tt)
 bounds_first (spare w) ms h = (h.0, tt)
 
-bounds_rest : (m : MemberTree) (ms : MembersTree) → MembersInBounds (member_and m ms) → MembersInBounds ms
+pub bounds_rest : (m : MemberTree) (ms : MembersTree) → MembersInBounds (member_and m ms) → MembersInBounds ms
 bounds_rest (named name f) ms h = h.1
 bounds_rest (spare w) ms h = h.1
 
@@ -43,7 +43,7 @@ value_more (spare w) ms b v e =
 
 -- ---- members so far
 
-members_from : (all : List Member) (i : ℕ) (m : Member) → i < length all → m ≡ get_or all i m → members_tree (drop i all) ≡ member_and (member_tree m) (members_tree (drop (i + 1) all))
+pub members_from : (all : List Member) (i : ℕ) (m : Member) → i < length all → m ≡ get_or all i m → members_tree (drop i all) ≡ member_and (member_tree m) (members_tree (drop (i + 1) all))
 members_from all i m within e =
     ap members_tree (drop-cons all i m within ∙ ap (λ x. x ∷ drop (suc i) all) (sym e)) ∙ ap (λ n. member_and (member_tree m) (members_tree (drop n all))) (sym (add-one i))
 

@@ -30,7 +30,7 @@ pub entries_begin : (slots : List SlotTree) (marks body : List ℕ) (at : ℕ) �
 unfolding entries_at
 entries_begin slots marks body at bit le = record { within = le; few = omega arith; are_bits = bit; read = begins (entries_read 1 (slots_of slots) marks (bits (drop at body))) at }
 
-slots_at : (slots : List SlotTree) (i : ℕ) (s : SlotTree) → i < length slots → s ≡ get_or slots i s → slots_of (drop i slots) ≡ slot_and s (slots_of (drop (i + 1) slots))
+pub slots_at : (slots : List SlotTree) (i : ℕ) (s : SlotTree) → i < length slots → s ≡ get_or slots i s → slots_of (drop i slots) ≡ slot_and s (slots_of (drop (i + 1) slots))
 slots_at slots i s lt e = ap slots_of (drop-cons slots i s lt) ∙ (λ k. slot_and (sym e k) (slots_of (drop (sym (add-one i) k) slots)))
 
 -- what is read at a slot

@@ -25,7 +25,7 @@ record_at spec body at end es h = record { forwards = h.forwards; within = h.wit
 value_at : (spec : SpecTree) (body : List ℕ) (at end : ℕ) (es : EntriesTree) → IsRecordAt spec body at end es → IsSpelledAt (record_kind spec) body at end (marked es)
 value_at spec body at end es h = record { forwards = h.forwards; within = h.within; spelling = record { spells = h.spelling.spells } }
 
-record_fault : (spec : SpecTree) (body : List ℕ) (at : ℕ) (fault : BodyFault) → IsFaultAt (record_kind spec) body at fault → IsRecordFaultAt spec body at fault
+pub record_fault : (spec : SpecTree) (body : List ℕ) (at : ℕ) (fault : BodyFault) → IsFaultAt (record_kind spec) body at fault → IsRecordFaultAt spec body at fault
 record_fault spec body at fault h = record { place = h.place; fails = record { fails = h.fails.fails }; bit = h.bit }
 
 value_fault : (spec : SpecTree) (body : List ℕ) (at : ℕ) (fault : BodyFault) → IsRecordFaultAt spec body at fault → IsFaultAt (record_kind spec) body at fault
@@ -63,7 +63,7 @@ pub record BodySoFar (spec : SpecTree) (body : List ℕ) (at : ℕ) (made : List
 pub body_none : (spec : SpecTree) (body : List ℕ) → BodySoFar spec body 0 []
 body_none spec body = record { within = omega arith; few = omega arith; spelled = refl }
 
-one_more : (spec : SpecTree) (rs : List EntriesTree) (r : EntriesTree) (x y : List ℕ) → RecordsSpell spec rs x → SpellsRecord spec r y → RecordsSpell spec (rs ++ r ∷ []) (x ++ y)
+pub one_more : (spec : SpecTree) (rs : List EntriesTree) (r : EntriesTree) (x y : List ℕ) → RecordsSpell spec rs x → SpellsRecord spec r y → RecordsSpell spec (rs ++ r ∷ []) (x ++ y)
 one_more spec [] r x y h g = (y, [], ap (λ x. x ++ y) h ∙ sym (append-nil y), g, refl)
 one_more spec (s ∷ rs) r x y (u, v, e, h, t) g = (u, v ++ y, ap (λ x. x ++ y) e ∙ append_assoc u v y, h, one_more spec rs r v y t g)
 

@@ -55,7 +55,7 @@ pub(crate) fn decode_value(
 }
 
 /// The octet `at` of the body. RunsOut at its first bit where there is none.
-fn octet_at(body: &[u8], at: u32) -> Result<u8, BodyFault>
+pub fn octet_at(body: &[u8], at: u32) -> Result<u8, BodyFault>
     requires body { length body.now ≤ 65532 }
     requires at { at ≤ length body.now }
     ensures ok { IfOk result (λ octet. (at < length body.now) × (octet ≡ get_or body.now at 0)) }

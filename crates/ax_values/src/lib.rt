@@ -18,3 +18,7 @@ mod write_units;
 pub use decode::{decode_block, decode_kind, decode_record};
 pub use encode::{encode_block, write_opaque};
 pub use error::{DecodeError, EncodeError};
+pub use kinds::octet_at;
+pub use records::record_mask;
+pub use slots::slots_mask;
+pub use units::{has_fx, unit_end};

@@ -22,7 +22,7 @@ fn has_item(spec: &Spec, frn: u32) -> bool
 }
 
 /// The mask of the slots of the UAP, of which there are 1 to 126.
-pub(crate) fn record_mask(spec: &Spec) -> SlotMask
+pub fn record_mask(spec: &Spec) -> SlotMask
     requires { (1 ≤ length spec.now.uap) × (length spec.now.uap ≤ 126) }
     ensures { IsMaskOf (record_slot_list (spec_tree spec.now)) result }
 {

@@ -17,7 +17,7 @@ fn is_sub(slot: &Slot) -> bool
 }
 
 /// The mask of the slots of a compound, of which there are 1 to 126.
-pub(crate) fn slots_mask(slots: &Slots) -> SlotMask
+pub fn slots_mask(slots: &Slots) -> SlotMask
     requires { (1 ≤ length slots.now) × (length slots.now ≤ 126) }
     ensures { IsMaskOf (map slot_tree slots.now) result }
 {

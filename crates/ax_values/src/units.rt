@@ -16,7 +16,7 @@ use std::alloc::Global;
 
 /// The octet after a unit of `width` bits, whole octets, that begins at octet `at`. RunsOut at its first bit where it
 /// doesn't fit.
-pub(crate) fn unit_end(body: &[u8], at: u32, width: u32) -> Result<u32, BodyFault>
+pub fn unit_end(body: &[u8], at: u32, width: u32) -> Result<u32, BodyFault>
     requires width { (width % 8 ≡ 0) × (width ≤ 524264) }
     requires body { length body.now ≤ 65532 }
     requires at { at ≤ length body.now }
@@ -36,7 +36,7 @@ pub(crate) fn unit_end(body: &[u8], at: u32, width: u32) -> Result<u32, BodyFaul
 
 /// Whether the FX bit at bit `at` of the body is set.
 #[tactic(auto, using(ax_reader::proofs::AtOctets::fx_read))]
-fn has_fx(body: &[u8], at: u32) -> bool
+pub fn has_fx(body: &[u8], at: u32) -> bool
     requires { at < 8 * length body.now }
     ensures { take 1 (drop at (bits body.now)) ≡ fx_bit result ∷ [] }
 {

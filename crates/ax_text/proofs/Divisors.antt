@@ -54,4 +54,11 @@ down (suc n) a b g some h le = down_choice n a b g (divides_both a b (suc n)) re
 pub greatest_is : (a b g : ℕ) → 0 < b → IsGcd a b g → g ≡ common_divisor b a b
 greatest_is a b g some h = sym (down b a b g some h (le_of_dvd some h.1))
 
-pub ruleset greatest = (greatest_is, some_divisor)
+-- the numerator was first made less than the denominator
+pub greatest_less : (a b g : ℕ) → 0 < b → IsGcd b (a % b) g → g ≡ common_divisor b a b
+greatest_less a b g some h = greatest_is a b g some (IsGcd-from_mod a b g h)
+
+pub some_less : (a b g : ℕ) → 0 < b → IsGcd b (a % b) g → 0 < g
+some_less a b g some h = some_divisor a b g some (IsGcd-from_mod a b g h)
+
+pub ruleset greatest = (greatest_is, some_divisor, greatest_less, some_less)

@@ -59,7 +59,7 @@ shape_choice : (b : Bool) (S T E : Type 0) → MatchBool b S T → (b ≡ true �
 shape_choice true S T E h f g = f refl h
 shape_choice false S T E h f g = g h
 
-entries_same : (all : OfEntries) (one : OfSlot) → IsMadeOf all one → (at : ℕ → SlotTree) (s : ℕ) (ss : SlotsTree) (es : EntriesTree) (rest : Texts) → AreFrom at s ss → EntriesShape s ss es → all s ss es rest ≡ by_slots one at es rest
+pub entries_same : (all : OfEntries) (one : OfSlot) → IsMadeOf all one → (at : ℕ → SlotTree) (s : ℕ) (ss : SlotsTree) (es : EntriesTree) (rest : Texts) → AreFrom at s ss → EntriesShape s ss es → all s ss es rest ≡ by_slots one at es rest
 entries_same all one m at s no_slots no_entries rest f h = m.none s rest
 entries_same all one m at s no_slots (entry_and t v es) rest f h = absurd h
 entries_same all one m at s (slot_and spare_slot ss) es rest f h = m.skip s ss es rest ∙ entries_same all one m at (s + 1) ss es rest (next_are at s spare_slot ss f) h
@@ -81,7 +81,7 @@ entries_shaped at s (slot_and (subitem name k) ss) (entry_and t v es) f h =
     (λ e g. (subst (λ slot. SlotShape slot v) (sym (first_is at s t (subitem name k) ss f (eqb-true t s e))) g.0, entries_shaped at (s + 1) ss es (next_are at s (subitem name k) ss f) g.1))
     (λ g. entries_shaped at (s + 1) ss (entry_and t v es) (next_are at s (subitem name k) ss f) g)
 
-numbered : (ss : SlotsTree) → AreFrom (slot_numbered ss) 1 ss
+pub numbered : (ss : SlotsTree) → AreFrom (slot_numbered ss) 1 ss
 numbered ss i = ap (slot_numbered ss) (let e : 1 + i ≡ suc i = omega arith in e)
 
 -- ---- a loop over entries

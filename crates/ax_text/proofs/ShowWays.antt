@@ -10,7 +10,7 @@ use Rattle.ax_model.specs.declared.record.Record.{Record}
 use Rattle.ax_text.specs.Printing.{as_lines, Puts}
 use Rattle.ax_text.specs.ShowText.{records_lines, block_front, OpaqueShown, ShowText}
 use Rattle.ax_text.specs.ValueText.{Texts, one_onto, hex_text}
-use Rattle.ax_text.proofs.Pieces.{three_pieces, line_put}
+use Rattle.ax_text.proofs.Pieces.{two_pieces, three_pieces, line_put}
 use Rattle.ax_text.proofs.Printed.{both_put}
 
 -- lines that were put after nothing
@@ -42,9 +42,14 @@ read_put spec n category octets count rs a b c e same counted p q =
 
 pub ruleset read_ways = read_put
 
-pub opaque_put : (n category : ℕ) (content a b c d e : List ℕ) → a ≡ [] → b ≡ a ++ block_front n category (3 + length content) → c ≡ b ++ codes " opaque " → d ≡ c ++ hex_text content → e ≡ d ++ 0x0A ∷ [] → e ≡ OpaqueShown n category content
-opaque_put n category content a b c d e f g h k l =
+pub opaque_line_put : (n category : ℕ) (content old b c d e : List ℕ) → b ≡ old ++ block_front n category (3 + length content) → c ≡ b ++ codes " opaque " → d ≡ c ++ hex_text content → e ≡ d ++ 0x0A ∷ [] → e ≡ old ++ OpaqueShown n category content
+opaque_line_put n category content old b c d e g h k l =
     let line = block_front n category (3 + length content) ++ codes " opaque " ++ hex_text content in
-    whole_put (one_onto line) a e f (line_put a d e line (three_pieces a b c d (block_front n category (3 + length content)) (codes " opaque ") (hex_text content) g h k) l)
+    two_pieces old d e line (0x0A ∷ []) (three_pieces old b c d (block_front n category (3 + length content)) (codes " opaque ") (hex_text content) g h k) l
+
+pub ruleset opaque_line_ways = opaque_line_put
+
+pub opaque_put : (n category : ℕ) (content a b : List ℕ) → a ≡ [] → b ≡ a ++ OpaqueShown n category content → b ≡ OpaqueShown n category content
+opaque_put n category content a b e f = f ∙ ap (λ a. a ++ OpaqueShown n category content) e
 
 pub ruleset opaque_ways = opaque_put

@@ -26,34 +26,16 @@ impl Alphabet {
         }
     }
 
-    /// How many pieces of that size there are.
-    fn pieces(self) -> u128
-        ensures pieces { result ≡ 2 ^ piece_size self }
-        ensures bounds { (0 < result) × (result ≤ 256) }
-    {
-        match self {
-            Alphabet::Eight => 256,
-            Alphabet::Six => 64,
-            Alphabet::Three => 8,
-        }
-    }
-
     /// The character of a number's piece above its `below` lowest bits.
     pub(crate) fn character(self, number: u128, below: u32) -> u8
         requires { below < 128 }
         ensures { result ≡ character self (number / 2 ^ below % 2 ^ piece_size self) }
     {
-        self.shown((number >> below) % self.pieces())
-    }
-
-    fn shown(self, piece: u128) -> u8
-        requires { piece < 2 ^ piece_size self }
-        ensures { result ≡ character self piece }
-    {
+        let shifted = number >> below;
         match self {
-            Alphabet::Eight => ascii(piece as u8),
-            Alphabet::Six => icao(piece as u8),
-            Alphabet::Three => b'0' + piece as u8,
+            Alphabet::Eight => ascii((shifted % 256) as u8),
+            Alphabet::Six => icao((shifted % 64) as u8),
+            Alphabet::Three => b'0' + (shifted % 8) as u8,
         }
     }
 }

@@ -1,11 +1,11 @@
 //! Fractions in lowest terms.
-ghost use Rattle.std.specs.Prelude.{◌≡◌, ◌<◌};
+ghost use Rattle.std.specs.Prelude.{◌≡◌, ◌/◌, ◌<◌};
 ghost use Rattle.ax_text.specs.Remarks.{common_divisor};
 ghost use Rattle.std.specs.Int.{IsGcd};
 
 /// The greatest number that divides both, by Euclid's algorithm.
 #[tactic(auto, using(crate::proofs::Divisors::divisors))]
-fn gcd(a: u128, b: u128) -> u128
+fn gcd(a: u64, b: u64) -> u64
     ensures { IsGcd a b result }
 {
     let mut a = a;
@@ -18,12 +18,29 @@ fn gcd(a: u128, b: u128) -> u128
     a
 }
 
-/// The greatest number up to the denominator that divides both.
+/// The greatest number up to the denominator that divides both. A numerator of more than 64 bits is first made less than
+/// the denominator, so that all other steps are on 64 bits.
 #[tactic(auto, using(crate::proofs::Divisors::greatest))]
-pub(crate) fn common_divisor(numerator: u128, denominator: u128) -> u128
+pub(crate) fn common_divisor(numerator: u128, denominator: u64) -> u64
     requires { 0 < denominator }
     ensures value { result ≡ common_divisor denominator numerator denominator }
     ensures some { 0 < result }
 {
-    gcd(numerator, denominator)
+    if numerator <= u128::from(u64::MAX) {
+        gcd(numerator as u64, denominator)
+    } else {
+        gcd(denominator, (numerator % denominator as u128) as u64)
+    }
+}
+
+/// The quotient, on 64 bits where the number has no more.
+pub(crate) fn quotient(number: u128, divisor: u64) -> u128
+    requires { 0 < divisor }
+    ensures { result ≡ number / divisor }
+{
+    if number <= u128::from(u64::MAX) {
+        u128::from(number as u64 / divisor)
+    } else {
+        number / u128::from(divisor)
+    }
 }

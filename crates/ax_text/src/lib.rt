@@ -18,4 +18,5 @@ mod remarks;
 mod show;
 
 pub use blocks::{block_text, opaque_text, record_text};
+pub use lister::{Lister, at, occurrence};
 pub use show::{show_lines, show_opaque};

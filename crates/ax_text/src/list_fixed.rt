@@ -17,7 +17,7 @@ use std::alloc::AllocError;
 impl Lister {
     /// The line of an element.
     #[tactic(auto, using(crate::proofs::ListedFixed::element_ways))]
-    fn element(
+    pub fn element(
         &mut self,
         number: u128,
         width: u32,

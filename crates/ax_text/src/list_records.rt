@@ -44,8 +44,9 @@ impl Lister {
         Ok(())
     }
 
+    /// The line of a record of that number in its block.
     #[tactic(auto, using(crate::proofs::ListedFixed::element_ways))]
-    fn record_front(&mut self, number: u32) -> Result<(), AllocError>
+    pub fn record_front(&mut self, number: u32) -> Result<(), AllocError>
         ensures { OnOk result (Puts as_lines (one_onto (codes "record " ++ decimal number)) self.old.out.items self.new.out.items) }
     {
         self.octets(b"record ")?;

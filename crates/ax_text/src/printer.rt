@@ -27,12 +27,16 @@ impl Printer {
         Ok(())
     }
 
-    /// A number in decimal.
+    /// A number in decimal. Those of 64 bits are divided by themselves, which is faster.
     pub(crate) fn number(&mut self, number: u128) -> Result<(), AllocError>
         ensures { OnOk result (Puts after_spaces (one_onto (decimal number)) self.old.out.items self.new.out.items) }
     {
         let mut buffer = Buffer::new();
-        self.text(buffer.format(number).as_bytes())
+        if number <= u128::from(u64::MAX) {
+            self.text(buffer.format(number as u64).as_bytes())
+        } else {
+            self.text(buffer.format(number).as_bytes())
+        }
     }
 
     /// A category in three digits.

@@ -6,7 +6,7 @@ ghost use Rattle.ax_text.specs.Listable.{ContentListable};
 ghost use Rattle.ax_text.specs.Remarks.{quoted, characters, reduced_text, multiple_text, by_sign, entry_remark, remark};
 
 use crate::characters::Alphabet;
-use crate::fractions::common_divisor;
+use crate::fractions::{common_divisor, quotient};
 use crate::lister::Lister;
 use ax_bits::signed_of;
 use ax_model::{Content, Scale, Sign, TableText, TableTexts};
@@ -135,11 +135,10 @@ impl Lister {
         ensures { OnOk result (self.new.out.items ≡ self.old.out.items ++ reduced_text (times * num) den) }
     {
         let numerator = u128::from(times) * u128::from(num);
-        let denominator = u128::from(den);
-        let divisor = common_divisor(numerator, denominator);
-        self.decimal(numerator / divisor)?;
+        let divisor = common_divisor(numerator, den);
+        self.decimal(quotient(numerator, divisor))?;
         self.octets(b"/")?;
-        self.decimal(denominator / divisor)?;
+        self.decimal(u128::from(den / divisor))?;
         Ok(())
     }
 }

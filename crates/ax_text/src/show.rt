@@ -54,10 +54,7 @@ fn read_lines(
     requires octets { octets ≡ held (canon_length (spec_tree spec.now) (read_block category (records_tree records.now))) }
     ensures { IfOk result (λ lines. lines.items ≡ ShowText (spec_tree spec.now) (read_block category (records_tree records.now)) number) }
 {
-    let mut lister = Lister {
-        alloc,
-        out: Vec::new(alloc),
-    };
+    let mut lister = Lister::new(alloc);
     lister.block_line(number, category, octets, records.count())?;
     lister.records(records, spec)?;
     let Lister { out, .. } = lister;
@@ -74,14 +71,8 @@ pub fn show_opaque(
 ) -> Result<Vec<u8>, AllocError>
     ensures { IfOk result (λ lines. lines.items ≡ OpaqueShown number category octets.now) }
 {
-    let mut lister = Lister {
-        alloc,
-        out: Vec::new(alloc),
-    };
-    lister.front(number, category, 3 + octets.len() as u64)?;
-    lister.octets(b" opaque ")?;
-    lister.hex(octets)?;
-    lister.octets(b"\n")?;
+    let mut lister = Lister::new(alloc);
+    lister.opaque_line(number, category, octets)?;
     let Lister { out, .. } = lister;
     Ok(out)
 }
@@ -89,7 +80,7 @@ pub fn show_opaque(
 impl Lister {
     /// The line of a block of records.
     #[tactic(auto, using(crate::proofs::ShowWays::block_ways))]
-    fn block_line(
+    pub fn block_line(
         &mut self,
         number: u64,
         category: u8,
@@ -101,6 +92,23 @@ impl Lister {
         self.front(number, category, octets)?;
         self.octets(b" records ")?;
         self.decimal(u128::from(records))?;
+        self.octets(b"\n")?;
+        Ok(())
+    }
+
+    /// The line of an opaque block, from its octets after LEN.
+    #[tactic(auto, using(crate::proofs::ShowWays::opaque_line_ways))]
+    pub fn opaque_line(
+        &mut self,
+        number: u64,
+        category: u8,
+        octets: &[u8],
+    ) -> Result<(), AllocError>
+        ensures { OnOk result (self.new.out.items ≡ self.old.out.items ++ OpaqueShown number category octets.now) }
+    {
+        self.front(number, category, 3 + octets.len() as u64)?;
+        self.octets(b" opaque ")?;
+        self.hex(octets)?;
         self.octets(b"\n")?;
         Ok(())
     }

@@ -1,0 +1,87 @@
+-- Lines that lead on: what is read and shown later decides what is read and shown of the whole.
+use Rattle.std.proofs.Common.{◌≡◌, ℕ, suc, ◌+◌, ◌≤◌, List, [], ◌∷◌, ◌++◌, length, take, drop, refl, sym, ◌∙◌, ap, subst, arith, append-nil, append_assoc, length-append}
+use Rattle.std.proofs.lemmas.List.{append_cancel_left, take_at, drop_at}
+use Rattle.ax_model.specs.Reader.{Read}
+use Rattle.ax_model.specs.Tree.{KindTree, ValueTree}
+use Rattle.ax_model.specs.declared.fault.BodyFault.{BodyFault}
+use Rattle.ax_reader.proofs.Continuing.{gets_after, fails_after}
+use Rattle.ax_reader.specs.Reading.{Gets, FailsAt, Continues, kind_read}
+use Rattle.ax_text.specs.Printing.{as_lines, Puts}
+use Rattle.ax_text.specs.ShowText.{count_line, kind_lines}
+use Rattle.ax_text.specs.ValueText.{Texts}
+use Rattle.ax_values.proofs.Continuing.{failed_by_want}
+use Rattle.ax_values.specs.Reading.{HasFailed}
+use Rattle.ax_values.specs.declared.error.DecodeError.{DecodeError}
+use Rattle.ax_values.specs.declared.error.DecodeError.TheVariants as Decoding
+use Rattle.ax_show_views.specs.Shown.{Shows, ShowsCounted}
+
+-- what is done once reading ended at an octet, with these lines and so many things shown; and what a fault means
+abbrev pub Ending : Type 1
+Ending = ℕ → List ℕ → ℕ → Type 0
+
+pub record Leads {A : Type 0} (Done : Ending) (Lost : BodyFault → Type 0) (lines : A → Texts → Texts) (size : A → ℕ) (next : Read A) (body : List ℕ) (here : ℕ) (now : List ℕ) (i : ℕ) : Type 0 where
+  pub within : here ≤ length body
+  pub ends : (end : ℕ) (a : A) (new : List ℕ) (n : ℕ) → Gets next body here end a → Puts as_lines (lines a) now new → n ≡ i + size a → Done end new n
+  pub loses : (fault : BodyFault) → FailsAt next here fault → Lost fault
+
+-- one thing more was shown
+pub leads_next : {A B : Type 0} (Done : Ending) (Lost : BodyFault → Type 0) (lines : B → Texts → Texts) (later : A → Texts → Texts) (one : Texts → Texts) (size : B → ℕ) (fewer : A → ℕ) (next : Read B) (rest : Read A) (body : List ℕ) (here end : ℕ) (now new : List ℕ) (i : ℕ) (cons : A → B)
+    → Leads Done Lost lines size next body here now i → end ≤ length body → Continues next here end cons rest → Puts as_lines one now new → ((a : A) (t : Texts) → lines (cons a) t ≡ one (later a t)) → ((a : A) → size (cons a) ≡ suc (fewer a))
+    → Leads Done Lost later fewer rest body end new (i + 1)
+leads_next Done Lost lines later one size fewer next rest body here end now new i cons h le c p e s = record {
+  within = le;
+  ends = λ last a out n g q m.
+      h.ends last (cons a) out n (gets_after next rest body here end last cons a c g) (record { put = λ t. q.put t ∙ p.put (later a t) ∙ ap (λ u. now ++ as_lines u) (sym (e a t)) }) (let k = s a in omega (arith, m, k));
+  loses = λ fault f. h.loses fault (fails_after next rest here end cons fault c f);
+}
+
+-- the lines under a count line, from the first on
+pub counted_first : {A : Type 0} (k : KindTree) (path word : List ℕ) (body : List ℕ) (at here : ℕ) (out : List ℕ) (lines : A → Texts → Texts) (size : A → ℕ) (next : Read A) (value : A → ValueTree)
+    → here ≤ length body → Continues (kind_read k body at) at here value next → ((a : A) (end : ℕ) → Gets (kind_read k body at) body at end (value a) → (t : Texts) → kind_lines k path (value a) t ≡ count_line path word (size a) ∷ lines a t)
+    → Leads (λ end new n. ShowsCounted k path word body at end out new n) (FailsAt (kind_read k body at) at) lines size next body here out 0
+counted_first k path word body at here out lines size next value le c e = record {
+  within = le;
+  ends = λ end a new n g p m.
+      let read = gets_after (kind_read k body at) next body at here end value a c g in
+      let same : size a ≡ n = omega (arith, m) in record {
+        value = value a;
+        read = read;
+        later = lines a;
+        put = p;
+        first = λ t. e a end read t ∙ ap (λ n. count_line path word n ∷ lines a t) same;
+      };
+  loses = λ fault f. fails_after (kind_read k body at) next at here value fault c f;
+}
+
+-- the count line was put in front of them
+pub counted_shown : (k : KindTree) (path word body : List ℕ) (at end start : ℕ) (old mid new : List ℕ) (n : ℕ) → start ≡ length old → ShowsCounted k path word body at end old mid n → new ≡ take start mid ++ (count_line path word n ++ 0x0A ∷ drop start mid)
+    → Shows (kind_lines k path) (kind_read k body at) body at end old new
+counted_shown k path word body at end start old mid new n e h is =
+    let mid_is : mid ≡ old ++ as_lines (h.later []) = sym (append-nil mid) ∙ h.put.put [] in
+    let front : take start mid ≡ old = ap (take start) mid_is ∙ take_at old (as_lines (h.later [])) start (sym e) in
+    let back : drop start mid ≡ as_lines (h.later []) = ap (drop start) mid_is ∙ drop_at old (as_lines (h.later [])) start (sym e) in
+    let line = count_line path word n in
+    record {
+      value = h.value;
+      read = h.read;
+      put = record {
+        put = λ t.
+            let tail : as_lines (h.later []) ++ as_lines t ≡ as_lines (h.later t) =
+            append_cancel_left old (as_lines (h.later []) ++ as_lines t) (as_lines (h.later t)) (sym (append_assoc old (as_lines (h.later [])) (as_lines t)) ∙ ap (λ m. m ++ as_lines t) (sym mid_is) ∙ h.put.put t) in
+            ap (λ m. m ++ as_lines t) (is ∙ (λ i. front i ++ (line ++ 0x0A ∷ back i)))
+            ∙ append_assoc old (line ++ 0x0A ∷ as_lines (h.later [])) (as_lines t)
+            ∙ ap (λ m. old ++ m) (append_assoc line (0x0A ∷ as_lines (h.later [])) (as_lines t) ∙ ap (λ m. line ++ 0x0A ∷ m) tail)
+            ∙ ap (λ m. old ++ as_lines m) (sym (h.first t));
+      };
+    }
+
+pub counted_failed : {A : Type 0} (found : Read A) (at : ℕ) (e : DecodeError) → e ≡ Decoding.OutOfMemory → HasFailed found at e
+counted_failed found at e is = failed_by_want found at e is
+
+-- nothing was taken away
+pub counted_longer : (k : KindTree) (path word body : List ℕ) (at end start : ℕ) (old mid : List ℕ) (n : ℕ) → start ≡ length old → ShowsCounted k path word body at end old mid n → start ≤ length mid
+counted_longer k path word body at end start old mid n e h =
+    let mid_is : mid ≡ old ++ as_lines (h.later []) = sym (append-nil mid) ∙ h.put.put [] in
+    omega (arith, e, ap length mid_is, length-append old (as_lines (h.later [])))
+
+pub ruleset counts = (counted_shown, counted_failed, counted_longer)

@@ -1,0 +1,7 @@
+mod Members
+mod Leading
+mod UnitLines
+mod CountedLines
+mod MarkedLines
+mod SlotLines
+mod RecordLines

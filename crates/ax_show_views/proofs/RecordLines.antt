@@ -1,0 +1,176 @@
+-- Records, and bodies of them.
+use Rattle.std.proofs.Common.{◌≡◌, ℕ, zero, suc, ◌+◌, ◌-◌, ◌*◌, ◌<◌, ◌≤◌, List, [], ◌∷◌, ◌++◌, length, take, drop, Some, None, Result, Ok, Err, IfErr, codes, decimal, refl, sym, ◌∙◌, ap, arith, subst, add-one, length-append, append-nil, take-append-drop, length-drop, take-add}
+use Rattle.std.specs.Result.{IsErrAnd}
+use Rattle.std.specs.Option.{option_map}
+use Rattle.std.proofs.lemmas.List.{length-take-le, take_all}
+use Rattle.ax_bits.proofs.Words.{bits-append, length-bits}
+use Rattle.ax_bits.specs.Bits.{bits}
+use Rattle.ax_fspec.specs.Fields.{MarksSlots}
+use Rattle.ax_fspec.specs.declared.mask.SlotMask.{SlotMask}
+use Rattle.ax_model.proofs.Bounds.{record_bounds}
+use Rattle.ax_model.specs.Bodies.{RecordsSpell, SpellsBody}
+use Rattle.ax_model.specs.Flaws.{NoFlaw}
+use Rattle.ax_model.specs.InBounds.{InBounds, SlotsInBounds}
+use Rattle.ax_model.specs.Lookup.{item_of_frn}
+use Rattle.ax_model.specs.Paths.{three_digits, at}
+use Rattle.ax_model.specs.Plain.{spec_tree, item_tree, kind_tree}
+use Rattle.ax_model.specs.Specification.{SpecTree, slot_of_item, record_kind, record_slots}
+use Rattle.ax_model.specs.Tree.{EntriesTree, marked, subitem, slots_of}
+use Rattle.ax_model.specs.declared.fault.BodyFault.{BodyFault}
+use Rattle.ax_model.specs.declared.spec.Item.{Item}
+use Rattle.ax_model.specs.declared.spec.Spec.{Spec}
+use Rattle.ax_reader.proofs.Continuing.{gets_after, fails_after}
+use Rattle.ax_reader.proofs.Exact.{spelled_at, fault_at}
+use Rattle.ax_reader.proofs.Marking.{field_read, marks_bits}
+use Rattle.ax_reader.specs.Reading.{Gets, FailsAt, IsMaskOf, SlotInBounds, record_slot_list, slot_of_frn, kind_read, entries_at}
+use Rattle.ax_text.proofs.EntryWays.{by_slots}
+use Rattle.ax_text.proofs.ListedKinds.{slot_listable}
+use Rattle.ax_text.proofs.RecordWays as Ways
+use Rattle.ax_text.specs.Listable.{SlotListable, SlotsListable}
+use Rattle.ax_text.specs.Printing.{as_lines, Puts}
+use Rattle.ax_text.specs.ShowText.{kind_lines, entries_lines, entry_count, record_lines, records_lines}
+use Rattle.ax_text.specs.Slots.{slot_numbered, slot_lines}
+use Rattle.ax_text.specs.ValueText.{Texts, one_onto}
+use Rattle.ax_values.proofs.RecordSlots.{record_at, record_fault, one_more, forwards_record}
+use Rattle.ax_values.specs.Decoding.{IsRecordAt, IsRecordFaultAt, IsBodyFault, Names}
+use Rattle.ax_values.specs.Reading.{HasFailed, HasSlotFailed}
+use Rattle.ax_values.specs.declared.error.DecodeError.{DecodeError}
+use Rattle.ax_values.specs.declared.error.DecodeError.TheVariants as Decoding
+use Rattle.ax_show_views.specs.Shown.{Shows, ShowsEntries, ShowsRecords, IsSlotShown}
+use Rattle.ax_show_views.proofs.Leading.{Leads, Ending}
+use Rattle.ax_show_views.proofs.MarkedLines.{MarksShown, marks_clear, entries_lines_are, numbered_bounds, few_at_first}
+
+-- ---- one item
+
+pub item_shown : (spec : Spec) (frn : ℕ) (item : Item) (path inner body : List ℕ) (here end : ℕ) (old new : List ℕ) → Some item ≡ item_of_frn frn spec.uap spec.items → inner ≡ at path item.name
+    → Shows (kind_lines (kind_tree item.kind) inner) (kind_read (kind_tree item.kind) body here) body here end old new → IsSlotShown (slot_of_frn frn spec) path body here end old new
+item_shown spec frn item path inner body here end old new e is h =
+    subst (λ o. IsSlotShown (slot_of_item (option_map item_tree o)) path body here end old new) e (record { shows = subst (λ inner. Shows (kind_lines (kind_tree item.kind) inner) (kind_read (kind_tree item.kind) body here) body here end old new) is h })
+
+pub no_item_shown : (spec : Spec) (frn : ℕ) (path body : List ℕ) (here : ℕ) (out : List ℕ) → None ≡ item_of_frn frn spec.uap spec.items → IsSlotShown (slot_of_frn frn spec) path body here here out out
+no_item_shown spec frn path body here out e = subst (λ o. IsSlotShown (slot_of_item (option_map item_tree o)) path body here here out out) e (record { shows = tt })
+
+pub item_failed : (spec : Spec) (frn : ℕ) (item : Item) (body : List ℕ) (here : ℕ) (d : DecodeError) → Some item ≡ item_of_frn frn spec.uap spec.items → HasFailed (kind_read (kind_tree item.kind) body here) here d → HasSlotFailed (slot_of_frn frn spec) body here d
+item_failed spec frn item body here d e h = subst (λ o. HasSlotFailed (slot_of_item (option_map item_tree o)) body here d) e (record { failed = h })
+
+pub item_bounds : (spec : Spec) (frn : ℕ) (item : Item) → Some item ≡ item_of_frn frn spec.uap spec.items → SlotInBounds (slot_of_frn frn spec) → InBounds (kind_tree item.kind)
+item_bounds spec frn item e h = subst (λ o. SlotInBounds (slot_of_item (option_map item_tree o))) (sym e) h
+
+pub item_listable : (spec : Spec) (frn : ℕ) (item : Item) → Some item ≡ item_of_frn frn spec.uap spec.items → SlotListable (slot_of_frn frn spec) → SlotListable (subitem item.name (kind_tree item.kind))
+item_listable spec frn item e h = subst (λ o. SlotListable (slot_of_item (option_map item_tree o))) (sym e) h
+
+pub ruleset item_ways = (item_shown, no_item_shown, item_failed, item_bounds, item_listable)
+
+-- the slot of a field reference number
+pub slot_is : (spec : Spec) (frn : ℕ) → slot_numbered (slots_of (record_slot_list (spec_tree spec))) frn ≡ slot_of_frn frn spec
+slot_is spec frn = Ways.slot_of_frn spec frn
+
+pub frn_in_bounds : (spec : Spec) (frn : ℕ) → NoFlaw (spec_tree spec) → SlotInBounds (slot_of_frn frn spec)
+frn_in_bounds spec frn h = subst SlotInBounds (slot_is spec frn) (numbered_bounds (record_slots (spec_tree spec)) frn (record_bounds (spec_tree spec) h).2)
+
+pub frn_listable : (spec : Spec) (frn : ℕ) → SlotsListable (record_slots (spec_tree spec)) → SlotListable (slot_of_frn frn spec)
+frn_listable spec frn h = subst SlotListable (slot_is spec frn) (slot_listable (record_slots (spec_tree spec)) frn h)
+
+-- ---- the items of a record
+
+abbrev pub items_done : SpecTree → List ℕ → List ℕ → ℕ → List ℕ → Ending
+items_done spec path body at old end new n = ShowsEntries spec (entries_lines path 1 (record_slots spec)) body at end old new
+
+pub items_first : (spec : SpecTree) (mask : SlotMask) (path body marks : List ℕ) (at here : ℕ) (out : List ℕ) → InBounds (record_kind spec) → IsMaskOf (record_slot_list spec) mask → MarksSlots mask body at here marks
+    → MarksShown (items_done spec path body at out) (FailsAt (kind_read (record_kind spec) body at) at) (record_slot_list spec) path marks body here out 0
+items_first spec mask path body marks at here out bounds m h = record {
+  within = h.within;
+  few = few_at_first marks;
+  clear = marks_clear (record_slot_list spec) mask body marks at here m h;
+  are_bits = marks_bits mask body marks at here h;
+  leads = record {
+    within = h.within;
+    ends = λ end es new n g p e.
+        let ss = record_slots spec in
+        let read = gets_after (kind_read (record_kind spec) body at) (entries_at ss marks body here) body at here end (λ es. marked es) es (field_read (record_slot_list spec) mask body marks at here m h) g in record {
+          entries = es;
+          read = read;
+          put = record { put = λ t. p.put t ∙ ap (λ u. out ++ as_lines u) (sym (entries_lines_are ss path body at end es t bounds read)) };
+        };
+    loses = λ fault f. fails_after (kind_read (record_kind spec) body at) (entries_at (record_slots spec) marks body here) at here (λ es. marked es) fault (field_read (record_slot_list spec) mask body marks at here m h) f;
+  };
+}
+
+-- ---- a record
+
+pub record_shown : (spec : SpecTree) (number : ℕ) (path body : List ℕ) (here end : ℕ) (old mid new : List ℕ) → path ≡ three_digits spec.category → Puts as_lines (one_onto (codes "record " ++ decimal number)) old mid
+    → ShowsEntries spec (entries_lines path 1 (record_slots spec)) body here end mid new → ShowsEntries spec (record_lines spec number) body here end old new
+record_shown spec number path body here end old mid new e p h = record {
+  entries = h.entries;
+  read = h.read;
+  put = record { put = λ t. h.put.put t ∙ ap (λ path. mid ++ as_lines (entries_lines path 1 (record_slots spec) h.entries t)) e ∙ p.put (entries_lines (three_digits spec.category) 1 (record_slots spec) h.entries t) };
+}
+
+pub ruleset record_ways = record_shown
+
+-- ---- a body
+
+-- these records are spelled by the first octets, and shown
+pub record BodyShown (spec : SpecTree) (body : List ℕ) (at number : ℕ) (old now : List ℕ) : Type 0 where
+  pub records : List EntriesTree
+  pub counted : length records ≡ number
+  pub within : at ≤ length body
+  pub few : number ≤ at
+  pub spelled : RecordsSpell spec records (bits (take at body))
+  pub put : Puts as_lines (records_lines spec 0 records) old now
+
+pub body_first : (spec : SpecTree) (body out : List ℕ) → BodyShown spec body 0 0 out out
+body_first spec body out = record { records = []; counted = refl; within = omega arith; few = omega arith; spelled = refl; put = record { put = λ t. refl } }
+
+lines_more : (spec : SpecTree) (i : ℕ) (rs : List EntriesTree) (r : EntriesTree) (t : Texts) → records_lines spec i (rs ++ r ∷ []) t ≡ records_lines spec i rs (record_lines spec (i + length rs) r t)
+lines_more spec i [] r t = ap (λ n. record_lines spec n r t) (let e : i ≡ i + 0 = omega arith in e)
+lines_more spec i (s ∷ rs) r t = ap (λ u. record_lines spec i s u) (lines_more spec (i + 1) rs r t ∙ ap (λ n. records_lines spec (i + 1) rs (record_lines spec n r t)) (let e : i + 1 + length rs ≡ i + suc (length rs) = omega arith in e))
+
+module _ (spec : SpecTree) (clean : NoFlaw spec) (body : List ℕ) (at number : ℕ) (old now : List ℕ) (h : BodyShown spec body at number old now) where
+  is_record : (end : ℕ) (new : List ℕ) (w : ShowsEntries spec (record_lines spec number) body at end now new) → IsRecordAt spec body at end w.entries
+  is_record end new w = record_at spec body at end w.entries (spelled_at (record_kind spec) body at end (marked w.entries) (record_bounds spec clean) w.read)
+
+  pub record_on : (end : ℕ) (new : List ℕ) → ShowsEntries spec (record_lines spec number) body at end now new → at < end
+  record_on end new w = forwards_record spec body at end w.entries (is_record end new w)
+
+  pub body_next : (end : ℕ) (new : List ℕ) → ShowsEntries spec (record_lines spec number) body at end now new → BodyShown spec body end (number + 1) old new
+  body_next end new w =
+      let r = is_record end new w in
+      let joined : bits (take end body) ≡ bits (take at body) ++ bits (take (end - at) (drop at body)) =
+      ap (λ n. bits (take n body)) (let e : end ≡ at + (end - at) = omega (arith, r.forwards) in e) ∙ ap bits (take-add at (end - at) body) ∙ bits-append (take at body) (take (end - at) (drop at body)) in record {
+        records = h.records ++ w.entries ∷ [];
+        counted = omega (arith, length-append h.records (w.entries ∷ []), h.counted);
+        within = r.within;
+        few = omega (arith, h.few, record_on end new w);
+        spelled = subst (RecordsSpell spec (h.records ++ w.entries ∷ [])) (sym joined) (one_more spec h.records w.entries (bits (take at body)) (bits (take (end - at) (drop at body))) h.spelled r.spelling);
+        put = record {
+          put = λ t. w.put.put t ∙ h.put.put (record_lines spec number w.entries t)
+              ∙ ap (λ n. old ++ as_lines (records_lines spec 0 h.records (record_lines spec n w.entries t))) (let e : number ≡ 0 + length h.records = omega (arith, h.counted) in e) ∙ ap (λ u. old ++ as_lines u) (sym (lines_more spec 0 h.records w.entries t));
+        };
+      }
+
+  pub body_failed : (e : DecodeError) → at < length body → HasFailed (kind_read (record_kind spec) body at) at e → Names (IsBodyFault spec body) e
+  body_failed Decoding.OutOfMemory lt f = tt
+  body_failed (Decoding.Fault fault) lt f =
+      let g = record_fault spec body at fault (fault_at (record_kind spec) body at fault (record_bounds spec clean) (f.met fault refl)) in record {
+        fails = record {
+          records = h.records;
+          before = bits (take at body);
+          left = bits (drop at body);
+          split = ap bits (sym (take-append-drop at body)) ∙ bits-append (take at body) (drop at body);
+          spelled = h.spelled;
+          some = omega (arith, length-bits (drop at body), length-drop at body);
+          place = g.place;
+          counted = omega (arith, g.bit, length-bits (take at body), length-take-le at body h.within);
+          fails = g.fails;
+        };
+      }
+
+  pub body_last : length body ≤ at → 1 ≤ length body → ShowsRecords spec body old now
+  body_last past some =
+      let s : RecordsSpell spec h.records (bits body) = subst (RecordsSpell spec h.records) (ap bits (take_all at body past)) h.spelled in
+      record { records = h.records; spelled = record { some = some_records h.records (bits body) s (omega (arith, length-bits body)); spelled = s }; put = h.put }
+    where
+      some_records : (rs : List EntriesTree) (b : List ℕ) → RecordsSpell spec rs b → 0 < length b → 0 < length rs
+      some_records [] b s some = absurd (omega (arith, ap length s))
+      some_records (r ∷ rs) b s some = omega arith

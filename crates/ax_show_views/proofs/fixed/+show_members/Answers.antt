@@ -1,0 +1,16 @@
+use Rattle.std.proofs.Common.{◌≡◌, ◌+◌, ◌<◌, length, get_or, subst}
+use Rattle.ax_bits.specs.Bits.{bits}
+use Rattle.ax_model.specs.Plain.{members_tree}
+use Rattle.ax_show_views.proofs.Members.{member_next}
+use Rattle.ax_show_views.proofs.fixed.+show_members.Goals as goal
+
+pub show_members-loop-member-preserved : goal.show_members-loop-member-preserved
+show_members-loop-member-preserved t c =
+    let all = c.args.members.now in
+    let i = c.loop-member.member-index in
+    let m = c.member-item.result in
+    let same = c.as_slice-member-items.ensures.members in
+    let within : i < length all = subst (λ xs. i < length xs) same c.loop-member-test.true in
+    let is : m ≡ get_or all i m = subst (λ xs. m ≡ get_or xs i m) same c.member-item.is in
+    member_next (members_tree all) all i m (bits c.args.body.now) c.args.at.now c.loop-member.at c.args.path.now c.args.lister.now.out.items c.loop-member.lister.out.items c.loop-member.invariant within is
+    c.show_member.new.at c.show_member.new.lister.out.items c.in_ok-show_member.ensures.lines c.in_ok-show_member.ensures.at

@@ -1,0 +1,145 @@
+use denote.Param.Weighed.{at_most}
+use Rattle.ax_model.proofs.kind.Slot.TheLaws.{the_size}
+use Rattle.std.proofs.Common.{◌≡◌, ◌+◌, ◌-◌, ◌<◌, ◌≤◌, ℕ, List, length, map, get_or, codes, ap, arith, refl, subst, sym, ◌∙◌}
+use Rattle.std.proofs.lemmas.List.{length-map}
+use Rattle.ax_model.proofs.Bounds.{count_of_slots}
+use Rattle.ax_model.specs.Plain.{kind_tree, slot_tree, slots_tree}
+use Rattle.ax_model.specs.Tree.{SlotTree, counted, compound, slots_of, slot_count}
+use Rattle.ax_reader.proofs.Counting.{counted_none}
+use Rattle.ax_reader.proofs.Marking.{field_failed, slot_in_bounds}
+use Rattle.ax_reader.specs.Reading.{FailsAt, kind_read}
+use Rattle.ax_text.proofs.ListedKinds.{slot_listable}
+use Rattle.ax_text.specs.Listable.{SlotListable}
+use Rattle.ax_values.proofs.Continuing.{err_by_fault, err_is}
+use Rattle.ax_values.specs.Reading.{HasSlotFailed}
+use Rattle.ax_show_views.specs.Shown.{ShowsCounted, IsSlotShown}
+use Rattle.ax_show_views.proofs.CountedLines.{count_first, count_next, count_last, count_lost}
+use Rattle.ax_show_views.proofs.Leading.{counted_shown}
+use Rattle.ax_show_views.proofs.MarkedLines.{compound_done, compound_first, next_slot, marks_next, marks_last, marks_lost, at_number}
+use Rattle.ax_show_views.proofs.kinds.+show_kind.Goals as goal
+
+pub show_counted-returns-clause-ok : goal.show_counted-returns-clause-ok
+show_counted-returns-clause-ok t c =
+    counted_shown (counted (kind_tree c.args.inner.now)) c.args.path.now (codes "occurrences") c.args.body.now c.args.at c.in_ok-end.end c.len-start.result c.args.lister.now.out.items c.show_each.new.lister.out.items c.count_before.new.self.out.items c.in_ok-end.count
+    c.len-start.ensures c.in_ok-end.ensures.ok c.in_ok-count_before.ensures
+
+pub show_compound-returns-clause-ok : goal.show_compound-returns-clause-ok
+show_compound-returns-clause-ok t c =
+    counted_shown (compound (slots_tree c.args.slots.now)) c.args.path.now (codes "subitems") c.args.body.now c.args.at c.in_ok-end.end c.len-start.result c.args.lister.now.out.items c.show_subitems.new.lister.out.items c.count_before.new.self.out.items c.in_ok-end.count
+    c.len-start.ensures c.in_ok-end.ensures.ok c.in_ok-count_before.ensures
+
+-- ---- occurrences
+
+pub show_each-returns-in_err-count-clause-err : goal.show_each-returns-in_err-count-clause-err
+show_each-returns-in_err-count-clause-err t c =
+    let k = kind_tree c.args.inner.now in
+    let fault = c.in_err-count.field-0.0 in
+    err_by_fault (kind_read (counted k) c.args.body.now c.args.at) c.args.at c.from_residual.result fault c.from_residual.ensures.1
+    (counted_none k c.args.body.now c.args.at fault c.in_err-count.ensures.short (ap (λ f. f.cause) c.in_err-count.ensures.fault) (ap (λ f. f.bit) c.in_err-count.ensures.fault))
+
+pub show_each-loop-number-init : goal.show_each-loop-number-init
+show_each-loop-number-init t c =
+    count_first (kind_tree c.args.inner.now) c.args.path.now c.args.body.now c.in_ok-count.count c.args.at c.args.lister.now.out.items c.in_ok-count.ensures.ok.0 c.in_ok-count.ensures.ok.1 (omega (arith, c.in_ok-count.ensures.ok.1, c.type_inv.body c.args.at))
+
+pub show_each-returns-in_err-here-clause-err : goal.show_each-returns-in_err-here-clause-err
+show_each-returns-in_err-here-clause-err t c =
+    let k = kind_tree c.args.inner.now in
+    let e = c.in_err-here.field-0.0 in
+    err_is (kind_read (counted k) c.args.body.now c.args.at) c.args.at c.from_residual-in_err-here.result e c.from_residual-in_err-here.ensures.1
+    (count_lost k c.args.path.now c.args.body.now c.in_ok-count.count c.loop-number.number c.args.at c.loop-number.here c.args.lister.now.out.items c.loop-number.lister.out.items e c.loop-number.invariant (omega (arith, c.loop-number-test.true, c.from-number-end.ensures)) c.in_err-here.ensures.err)
+
+pub show_each-loop-number-preserved : goal.show_each-loop-number-preserved
+show_each-loop-number-preserved t c =
+    count_next (kind_tree c.args.inner.now) c.args.path.now c.args.body.now c.in_ok-count.count c.loop-number.number c.args.at c.loop-number.here c.in_ok-here.here c.as_slice.result.now c.args.lister.now.out.items c.loop-number.lister.out.items c.show_value.new.lister.out.items
+    c.loop-number.invariant (omega (arith, c.loop-number-test.true, c.from-number-end.ensures)) (c.as_slice.ensures.value ∙ c.in_ok-each.ensures) c.in_ok-here.ensures.ok
+
+pub show_each-returns-clause-ok : goal.show_each-returns-clause-ok
+show_each-returns-clause-ok t c =
+    subst (λ m. ShowsCounted (counted (kind_tree c.args.inner.now)) c.args.path.now (codes "occurrences") c.args.body.now c.args.at c.loop-number.here c.args.lister.now.out.items c.loop-number.lister.out.items m) (sym c.from.ensures)
+    (count_last (kind_tree c.args.inner.now) c.args.path.now c.args.body.now c.in_ok-count.count c.loop-number.number c.args.at c.loop-number.here c.args.lister.now.out.items c.loop-number.lister.out.items c.loop-number.invariant (omega (arith, c.loop-number-test.false, c.from-number-end.ensures)))
+
+-- ---- subitems
+
+pub show_subitems-slots_mask-requires : goal.show_subitems-slots_mask-requires
+show_subitems-slots_mask-requires t c =
+    let size : slot_count (slots_of (map slot_tree c.args.slots.now)) ≡ length c.args.slots.now = count_of_slots (map slot_tree c.args.slots.now) ∙ length-map c.args.slots.now slot_tree in
+    (omega (arith, c.requires.bounds.0), omega (arith, c.requires.bounds.1))
+
+pub show_subitems-returns-in_err-here-clause-err : goal.show_subitems-returns-in_err-here-clause-err
+show_subitems-returns-in_err-here-clause-err t c =
+    let slots : List SlotTree = map slot_tree c.args.slots.now in
+    let fault = c.in_err-here.field-0.0 in
+    err_by_fault (kind_read (compound (slots_of slots)) c.args.body.now c.args.at) c.args.at c.from_residual.result fault c.from_residual.ensures.1
+    (field_failed slots c.slots_mask.result c.args.body.now c.args.at fault c.slots_mask.ensures c.in_err-here.ensures.err)
+
+pub show_subitems-loop-number-init : goal.show_subitems-loop-number-init
+show_subitems-loop-number-init t c =
+    compound_first (map slot_tree c.args.slots.now) c.slots_mask.result c.args.path.now c.args.body.now c.read_presence.new.into c.args.at c.in_ok-here.here c.args.lister.now.out.items c.requires.bounds c.slots_mask.ensures c.in_ok-here.ensures.ok
+
+pub show_subitems-bounds-as_slice-number : goal.show_subitems-bounds-as_slice-number
+show_subitems-bounds-as_slice-number t c =
+    let all = c.args.slots.now in
+    let h = c.loop-number.invariant in
+    let n = next_slot (map slot_tree all) c.loop-number.left c.take_first.new.self _ c.in-Some.number h.clear h.are_bits c.in-Some.ensures.some c.in-Some.ensures.marks in
+    omega (arith, n.within, length-map all slot_tree, ap length c.as_slice.ensures.members)
+
+pub show_subitems-show_slot-requires : goal.show_subitems-show_slot-requires
+show_subitems-show_slot-requires t c =
+    let all = c.args.slots.now in
+    let h = c.loop-number.invariant in
+    let number : ℕ = c.in-Some.number in
+    let n = next_slot (map slot_tree all) c.loop-number.left c.take_first.new.self _ number h.clear h.are_bits c.in-Some.ensures.some c.in-Some.ensures.marks in
+    let s = c.index-as_slice-number.result in
+    let same = c.as_slice.ensures.members in
+    let within : number - 1 < length all = omega (arith, n.within, length-map all slot_tree) in
+    let is : s ≡ get_or all (number - 1) s = subst (λ xs. s ≡ get_or xs (number - 1) s) same c.index-as_slice-number.is in
+    let small = at_most the_size all (number - 1) s within in
+    let same_size : the_size s ≡ the_size (get_or all (number - 1) s) = ap the_size is in (
+      omega (arith, small, same_size, c.decreases),
+      (
+        slot_in_bounds all (number - 1) s c.requires.bounds.2 within is,
+        (subst SlotListable (at_number all number s c.in-Some.ensures.within.0 within is) (slot_listable (slots_tree all) number c.requires.listable), (c.requires.body, h.within)),
+      ),
+    )
+
+pub show_subitems-returns-in_err-here-2-clause-err : goal.show_subitems-returns-in_err-here-2-clause-err
+show_subitems-returns-in_err-here-2-clause-err t c =
+    let all = c.args.slots.now in
+    let slots : List SlotTree = map slot_tree all in
+    let body = c.args.body.now in
+    let path = c.args.path.now in
+    let h = c.loop-number.invariant in
+    let number : ℕ = c.in-Some.number in
+    let n = next_slot slots c.loop-number.left c.take_first.new.self _ number h.clear h.are_bits c.in-Some.ensures.some c.in-Some.ensures.marks in
+    let s = c.index-as_slice-number.result in
+    let within : number - 1 < length all = omega (arith, n.within, length-map all slot_tree) in
+    let is : s ≡ get_or all (number - 1) s = subst (λ xs. s ≡ get_or xs (number - 1) s) c.as_slice.ensures.members c.index-as_slice-number.is in
+    let e = c.in_err-here-2.field-0.0 in
+    err_is (kind_read (compound (slots_of slots)) body c.args.at) c.args.at c.from_residual-in_err-here-2.result e c.from_residual-in_err-here-2.ensures.1
+    (record {
+      met = marks_lost (compound_done slots path body c.args.at c.args.lister.now.out.items) (FailsAt (kind_read (compound (slots_of slots)) body c.args.at) c.args.at) slots path c.loop-number.left c.take_first.new.self body number c.loop-number.here c.loop-number.lister.out.items c.loop-number.count h n e
+          (subst (λ slot. HasSlotFailed slot body c.loop-number.here e) (sym (at_number all number s c.in-Some.ensures.within.0 within is)) c.in_err-here-2.ensures.err);
+    })
+
+pub show_subitems-loop-number-preserved : goal.show_subitems-loop-number-preserved
+show_subitems-loop-number-preserved t c =
+    let all = c.args.slots.now in
+    let slots : List SlotTree = map slot_tree all in
+    let body = c.args.body.now in
+    let path = c.args.path.now in
+    let h = c.loop-number.invariant in
+    let number : ℕ = c.in-Some.number in
+    let n = next_slot slots c.loop-number.left c.take_first.new.self _ number h.clear h.are_bits c.in-Some.ensures.some c.in-Some.ensures.marks in
+    let s = c.index-as_slice-number.result in
+    let within : number - 1 < length all = omega (arith, n.within, length-map all slot_tree) in
+    let is : s ≡ get_or all (number - 1) s = subst (λ xs. s ≡ get_or xs (number - 1) s) c.as_slice.ensures.members c.index-as_slice-number.is in
+    marks_next (compound_done slots path body c.args.at c.args.lister.now.out.items) (FailsAt (kind_read (compound (slots_of slots)) body c.args.at) c.args.at) slots path c.loop-number.left c.take_first.new.self body number c.loop-number.here c.loop-number.lister.out.items c.loop-number.count h n
+    c.in_ok-here-2.here c.show_slot.new.lister.out.items c.in-Some.ensures.some
+    (subst (λ slot. IsSlotShown slot path body c.loop-number.here c.in_ok-here-2.here c.loop-number.lister.out.items c.show_slot.new.lister.out.items) (sym (at_number all number s c.in-Some.ensures.within.0 within is)) c.in_ok-here-2.ensures.ok)
+
+pub show_subitems-returns-clause-ok : goal.show_subitems-returns-clause-ok
+show_subitems-returns-clause-ok t c =
+    let slots : List SlotTree = map slot_tree c.args.slots.now in
+    let body = c.args.body.now in
+    marks_last (compound_done slots c.args.path.now body c.args.at c.args.lister.now.out.items) (FailsAt (kind_read (compound (slots_of slots)) body c.args.at) c.args.at) slots c.args.path.now c.loop-number.left body c.loop-number.here c.loop-number.lister.out.items c.loop-number.count c.loop-number.invariant
+    c.in_default.ensures.none

@@ -1,0 +1,44 @@
+//! Bodies, shown while they are read.
+ghost use Rattle.std.specs.Prelude.{◌≡◌, ◌≤◌, length, IfErr, OnOk};
+ghost use Rattle.ax_model.specs.Flaws.{NoFlaw};
+ghost use Rattle.ax_model.specs.Plain.{spec_tree};
+ghost use Rattle.ax_model.specs.Specification.{record_slots};
+ghost use Rattle.ax_reader.specs.Reading.{IsMaskOf, record_slot_list};
+ghost use Rattle.ax_text.specs.Listable.{SlotsListable};
+ghost use Rattle.ax_values.specs.Decoding.{IsBodyFault, Names};
+ghost use Rattle.ax_show_views.specs.Shown.{ShowsRecords};
+
+use crate::records::show_record;
+use ax_fspec::SlotMask;
+use ax_model::category_digits;
+use ax_text::Lister;
+use ax_uap::UapItems;
+use ax_values::DecodeError;
+use std::alloc::Global;
+
+/// Puts the lines of the records of a body on a listing, over the items of a specification without flaw and the mask of
+/// its UAP. Fault is the first fault of the body, by its bits; what was put on the listing before is then of no use.
+pub fn show_records(
+    alloc: Global,
+    lister: &mut Lister,
+    items: &UapItems<'_>,
+    mask: &SlotMask,
+    body: &[u8],
+) -> Result<(), DecodeError>
+    requires spec { NoFlaw (spec_tree items.now.spec.now) }
+    requires listable { SlotsListable (record_slots (spec_tree items.now.spec.now)) }
+    requires mask { IsMaskOf (record_slot_list (spec_tree items.now.spec.now)) mask.now }
+    requires body { length body.now ≤ 65532 }
+    requires some { 1 ≤ length body.now }
+    ensures ok { OnOk result (ShowsRecords (spec_tree items.now.spec.now) body.now lister.old.out.items lister.new.out.items) }
+    ensures err { IfErr result (Names (IsBodyFault (spec_tree items.now.spec.now) body.now)) }
+{
+    let path = category_digits(items.spec().category);
+    let mut at = 0;
+    let mut number = 0;
+    while (at as usize) < body.len() {
+        at = show_record(alloc, lister, items, mask, number, body, at, &path)?;
+        number += 1;
+    }
+    Ok(())
+}

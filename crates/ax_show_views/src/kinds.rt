@@ -1,0 +1,203 @@
+//! The kinds of items and subitems, shown by one function each.
+ghost use Rattle.std.specs.Prelude.{◌≡◌, ◌+◌, ◌*◌, ◌<◌, ◌≤◌, length, map, codes, IfOk, IfErr};
+ghost use Rattle.ax_bits.specs.Bits.{AreBits};
+ghost use Rattle.ax_model.specs.InBounds.{InBounds, SlotsInBounds};
+ghost use Rattle.ax_model.specs.Plain.{kind_tree, slot_tree, slots_tree};
+ghost use Rattle.ax_model.specs.Tree as Tree;
+ghost use Rattle.ax_reader.specs.Reading.{SlotInBounds, kind_read};
+ghost use Rattle.ax_text.specs.Listable.{KindListable, SlotListable, SlotsListable};
+ghost use Rattle.ax_text.specs.ShowText.{kind_lines};
+ghost use Rattle.ax_values.specs.Reading.{HasFailed, HasSlotFailed};
+ghost use Rattle.ax_show_views.specs.Shown.{Shows, ShowsCounted, IsSlotShown};
+
+use crate::units::{show_by_fx, show_extended, show_single};
+use ax_fspec::{Presence, read_presence};
+use ax_model::{BodyCause, BodyFault, Kind, Slot, Slots};
+use ax_text::{Lister, occurrence};
+use ax_values::{DecodeError, octet_at, slots_mask};
+use std::alloc::Global;
+
+/// The lines of the value of a kind that begins at octet `at` of the body. Ok is the octet after it.
+#[cycle(show_kind)]
+pub(crate) fn show_value(
+    alloc: Global,
+    lister: &mut Lister,
+    kind: &Kind,
+    body: &[u8],
+    at: u32,
+    path: &[u8],
+) -> Result<u32, DecodeError>
+    requires bounds { InBounds (kind_tree kind.now) }
+    requires listable { KindListable (kind_tree kind.now) }
+    requires body { length body.now ≤ 65532 }
+    requires at { at ≤ length body.now }
+    ensures ok { IfOk result (λ end. Shows (kind_lines (kind_tree kind.now) path.now) (kind_read (kind_tree kind.now) body.now at) body.now at end lister.old.out.items lister.new.out.items) }
+    ensures err { IfErr result (λ e. HasFailed (kind_read (kind_tree kind.now) body.now at) at e) }
+{
+    match kind {
+        Kind::Fixed(fixed) => show_single(alloc, lister, fixed, body, at, path),
+        Kind::Extended(parts) => show_extended(alloc, lister, parts, body, at, path),
+        Kind::Counted(inner) => show_counted(alloc, lister, inner, body, at, path),
+        Kind::ByFx(fixed) => show_by_fx(alloc, lister, fixed, body, at, path),
+        Kind::Explicit => show_explicit(lister, body, at, path),
+        Kind::Compound(slots) => show_compound(alloc, lister, slots, body, at, path),
+    }
+}
+
+/// The line of an explicit item. Ok is the octet after it.
+fn show_explicit(lister: &mut Lister, body: &[u8], at: u32, path: &[u8]) -> Result<u32, DecodeError>
+    requires bounds { InBounds (Tree.explicit) }
+    requires body { length body.now ≤ 65532 }
+    requires at { at ≤ length body.now }
+    ensures ok { IfOk result (λ end. Shows (kind_lines (Tree.explicit) path.now) (kind_read (Tree.explicit) body.now at) body.now at end lister.old.out.items lister.new.out.items) }
+    ensures err { IfErr result (λ e. HasFailed (kind_read (Tree.explicit) body.now at) at e) }
+{
+    let length = octet_at(body, at)?;
+    if length == 0 {
+        return Err(DecodeError::Fault(BodyFault {
+            cause: BodyCause::BadExplicitLength,
+            bit: 8 * at,
+        }));
+    }
+    let end = at + length as u32;
+    if end as usize > body.len() {
+        return Err(DecodeError::Fault(BodyFault {
+            cause: BodyCause::RunsOut,
+            bit: 8 * at + 8,
+        }));
+    }
+    lister.content(&body[at as usize + 1..end as usize], path)?;
+    Ok(end)
+}
+
+/// A counted item: how many occurrences there are, and each of them. Ok is the octet after it.
+#[cycle(show_kind)]
+#[tactic(auto, using(crate::proofs::Leading::counts))]
+fn show_counted(
+    alloc: Global,
+    lister: &mut Lister,
+    inner: &Kind,
+    body: &[u8],
+    at: u32,
+    path: &[u8],
+) -> Result<u32, DecodeError>
+    requires bounds { InBounds (Tree.counted (kind_tree inner.now)) }
+    requires listable { KindListable (kind_tree inner.now) }
+    requires body { length body.now ≤ 65532 }
+    requires at { at ≤ length body.now }
+    ensures ok { IfOk result (λ end. Shows (kind_lines (Tree.counted (kind_tree inner.now)) path.now) (kind_read (Tree.counted (kind_tree inner.now)) body.now at) body.now at end lister.old.out.items lister.new.out.items) }
+    ensures err { IfErr result (λ e. HasFailed (kind_read (Tree.counted (kind_tree inner.now)) body.now at) at e) }
+{
+    let start = lister.len();
+    let (end, count) = show_each(alloc, lister, inner, body, at, path)?;
+    lister.count_before(start, b"occurrences", count, path)?;
+    Ok(end)
+}
+
+/// The lines of the occurrences of a counted item. Ok is the octet after them, and their number.
+#[cycle(show_kind)]
+#[tactic(auto, using(ax_values::proofs::Continuing::errors))]
+fn show_each(
+    alloc: Global,
+    lister: &mut Lister,
+    inner: &Kind,
+    body: &[u8],
+    at: u32,
+    path: &[u8],
+) -> Result<(u32, u32), DecodeError>
+    requires bounds { InBounds (Tree.counted (kind_tree inner.now)) }
+    requires listable { KindListable (kind_tree inner.now) }
+    requires body { length body.now ≤ 65532 }
+    requires at { at ≤ length body.now }
+    ensures ok { IfOk result (λ r. ShowsCounted (Tree.counted (kind_tree inner.now)) path.now (codes "occurrences") body.now at r.0 lister.old.out.items lister.new.out.items r.1) }
+    ensures err { IfErr result (λ e. HasFailed (kind_read (Tree.counted (kind_tree inner.now)) body.now at) at e) }
+{
+    let count = octet_at(body, at)?;
+    let mut here = at + 1;
+    for number in 0..u32::from(count) {
+        let each = occurrence(alloc, path, number)?;
+        here = show_value(alloc, lister, inner, body, here, each.as_slice())?;
+    }
+    Ok((here, u32::from(count)))
+}
+
+/// A compound: how many subitems are present, and each of them. Ok is the octet after it.
+#[cycle(show_kind)]
+#[tactic(auto, using(crate::proofs::Leading::counts))]
+fn show_compound(
+    alloc: Global,
+    lister: &mut Lister,
+    slots: &Slots,
+    body: &[u8],
+    at: u32,
+    path: &[u8],
+) -> Result<u32, DecodeError>
+    requires bounds { InBounds (Tree.compound (slots_tree slots.now)) }
+    requires listable { SlotsListable (slots_tree slots.now) }
+    requires body { length body.now ≤ 65532 }
+    requires at { at ≤ length body.now }
+    ensures ok { IfOk result (λ end. Shows (kind_lines (Tree.compound (slots_tree slots.now)) path.now) (kind_read (Tree.compound (slots_tree slots.now)) body.now at) body.now at end lister.old.out.items lister.new.out.items) }
+    ensures err { IfErr result (λ e. HasFailed (kind_read (Tree.compound (slots_tree slots.now)) body.now at) at e) }
+{
+    let start = lister.len();
+    let (end, count) = show_subitems(alloc, lister, slots, body, at, path)?;
+    lister.count_before(start, b"subitems", count, path)?;
+    Ok(end)
+}
+
+/// The lines of the marked subitems of a compound. Ok is the octet after them, and their number.
+#[cycle(show_kind)]
+#[tactic(auto, using(ax_values::proofs::Continuing::errors))]
+fn show_subitems(
+    alloc: Global,
+    lister: &mut Lister,
+    slots: &Slots,
+    body: &[u8],
+    at: u32,
+    path: &[u8],
+) -> Result<(u32, u32), DecodeError>
+    requires bounds { InBounds (Tree.compound (slots_tree slots.now)) }
+    requires listable { SlotsListable (slots_tree slots.now) }
+    requires body { length body.now ≤ 65532 }
+    requires at { at ≤ length body.now }
+    ensures ok { IfOk result (λ r. ShowsCounted (Tree.compound (slots_tree slots.now)) path.now (codes "subitems") body.now at r.0 lister.old.out.items lister.new.out.items r.1) }
+    ensures err { IfErr result (λ e. HasFailed (kind_read (Tree.compound (slots_tree slots.now)) body.now at) at e) }
+{
+    let mut left = Presence::empty();
+    let mut here = read_presence(&slots_mask(slots), body, at, &mut left)?;
+    let mut count = 0;
+    while let Some(number) = left.take_first() {
+        let slot = &slots.as_slice()[number as usize - 1];
+        here = show_slot(alloc, lister, slot, body, here, path)?;
+        count += 1;
+    }
+    Ok((here, count))
+}
+
+/// The lines of the subitem of a slot, under a path. Ok is the octet after it.
+#[cycle(show_kind)]
+#[tactic(auto, using(ax_values::proofs::Continuing::errors, crate::proofs::SlotLines::slot_ways))]
+fn show_slot(
+    alloc: Global,
+    lister: &mut Lister,
+    slot: &Slot,
+    body: &[u8],
+    at: u32,
+    path: &[u8],
+) -> Result<u32, DecodeError>
+    requires bounds { SlotInBounds (slot_tree slot.now) }
+    requires listable { SlotListable (slot_tree slot.now) }
+    requires body { length body.now ≤ 65532 }
+    requires at { at ≤ length body.now }
+    ensures ok { IfOk result (λ end. IsSlotShown (slot_tree slot.now) path.now body.now at end lister.old.out.items lister.new.out.items) }
+    ensures err { IfErr result (λ e. HasSlotFailed (slot_tree slot.now) body.now at e) }
+{
+    match slot {
+        Slot::Spare => Ok(at),
+        Slot::Sub { name, kind } => {
+            let inner = ax_text::at(alloc, path, name.octets())?;
+            let end = show_value(alloc, lister, kind, body, at, inner.as_slice())?;
+            Ok(end)
+        }
+    }
+}

@@ -57,6 +57,13 @@ impl BlockReader {
         })
     }
 
+    /// The most octets that the input may have.
+    pub fn limit(&self) -> u64
+        ensures { result ≡ self.now.limit }
+    {
+        self.limit
+    }
+
     /// The next block of the input, or None exactly where the input ends at a block's border. It takes no memory, and asks
     /// only for octets that the header, and then the block, still needs.
     ///

@@ -1,5 +1,5 @@
 -- What holds after each block of an input, and where the run over it stops.
-use Rattle.std.proofs.Common.{◌≡◌, ℕ, ◌+◌, ◌<◌, ◌≤◌, List, [], ◌∷◌, ◌++◌, Option, Some, None, length, take, refl, sym, ◌∙◌, ap, subst, arith, append_assoc, length-append, inl, inr, Result, Ok, Err}
+use Rattle.std.proofs.Common.{◌≡◌, ℕ, ◌+◌, ◌*◌, ◌<◌, ◌≤◌, List, [], ◌∷◌, ◌++◌, Option, Some, None, length, take, refl, sym, ◌∙◌, ap, subst, arith, append_assoc, length-append, inl, inr, Result, Ok, Err}
 use Rattle.ax_bits.specs.Bits.{AreOctets}
 use Rattle.ax_blocks.specs.Reader.{ReaderState, IsOpen, GivesBlock, FindsEnd, StopsUnfinished, OnBlock, OnEnd, OnReadFault, OnTooLong, IsAfter, block_octets, ended_by, octets_to_end}
 use Rattle.ax_blocks.specs.Taking.{IsUnfinished, OnTold}
@@ -58,7 +58,7 @@ pub record Running (c : BlockCommand) (limit : ℕ) (i : SourceChange) (o r : Si
   pub limit_is : reader.limit ≡ limit
   pub open_ : IsOpen reader
   pub within : reader.given ≤ limit
-  pub few : count ≤ reader.given
+  pub few : 3 * count ≤ reader.given
   pub took : i.taken' ≡ i.taken + reader.given
   pub source_later : i.faults ≤ i.faults'
   pub out_later : o.faults ≤ o.faults'
@@ -455,7 +455,7 @@ module _ (c : BlockCommand) (limit : ℕ) (i : SourceChange) (o r : SinkChange) 
         let q : t' ≡ i.taken' + length g.octets = g.took.counted in
         let k : i.taken' ≡ i.taken + reader.given = run.took in
         let lim : reader.limit ≡ limit = run.limit_is in
-        let few : count ≤ reader.given = run.few in
+        let few : 3 * count ≤ reader.given = run.few in
         record {
           same = kept ∙ run.same;
           sound = still;

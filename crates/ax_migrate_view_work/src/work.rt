@@ -14,8 +14,8 @@ use std::alloc::{AllocError, Global};
 /// `migrate` over views, by a migrator between the two editions. What is written of a block stands in one output, and the
 /// lines of what it loses in another.
 #[derive(Drop)]
-pub struct MigrateViews<'c> {
-    migrator: Migrator<'c>,
+pub struct MigrateViews<'m, 'c> {
+    migrator: &'m Migrator<'c>,
     output: Vec<u8>,
     lines: Vec<u8>,
     filled: u32,
@@ -24,12 +24,15 @@ pub struct MigrateViews<'c> {
     ghost within: { filled ≤ 65535 },
 }
 
-impl<'c> MigrateViews<'c> {
+impl<'m, 'c> MigrateViews<'m, 'c> {
     /// `migrate` by that migrator. Both outputs are taken here, and no memory after that.
-    pub fn new(alloc: Global, migrator: Migrator<'c>) -> Result<MigrateViews<'c>, AllocError>
-        requires { IsOfEditions migrator }
-        ensures command { IfOk result (λ work. ⟦<MigrateViews<'c> as BlockWork>⟧.command work ≡ migrate_command (old_tree migrator.entry) (new_tree migrator.entry)) }
-        ensures sound { IfOk result (λ work. ⟦<MigrateViews<'c> as BlockWork>⟧.sound work) }
+    pub fn new(
+        alloc: Global,
+        migrator: &'m Migrator<'c>,
+    ) -> Result<MigrateViews<'m, 'c>, AllocError>
+        requires { IsOfEditions migrator.now }
+        ensures command { IfOk result (λ work. ⟦<MigrateViews<'m, 'c> as BlockWork>⟧.command work ≡ migrate_command (old_tree migrator.now) (new_tree migrator.now)) }
+        ensures sound { IfOk result (λ work. ⟦<MigrateViews<'m, 'c> as BlockWork>⟧.sound work) }
     {
         let output = zeros(alloc, ROOM)?;
         let lines = zeros(alloc, ROOM)?;
@@ -42,12 +45,12 @@ impl<'c> MigrateViews<'c> {
     }
 }
 
-impl<'c> BlockWork for MigrateViews<'c> {
+impl<'m, 'c> BlockWork for MigrateViews<'m, 'c> {
     ghost use Rattle.std.specs.Prelude.{take, false};
 
-    ghost command = { λ s. migrate_command (old_tree s.migrator) (new_tree s.migrator) };
+    ghost command = { λ s. migrate_command (old_tree s.migrator.now) (new_tree s.migrator.now) };
 
-    ghost sound = { λ s. IsOfEditions s.migrator };
+    ghost sound = { λ s. IsOfEditions s.migrator.now };
 
     ghost laid = { λ s. take s.filled s.output.items };
 
@@ -64,7 +67,7 @@ impl<'c> BlockWork for MigrateViews<'c> {
             return Ok(());
         }
         match migrate_block(
-            &self.migrator,
+            self.migrator,
             number,
             raw,
             report,

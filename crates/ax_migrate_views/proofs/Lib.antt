@@ -11,3 +11,5 @@ pub mod Slots
 pub mod ToldLosses
 pub mod GonePaths
 pub mod ToldLines
+pub mod KeptWhole
+pub mod KeepingSteps

@@ -25,11 +25,11 @@ use Rattle.ax_model.specs.Tree.{KindTree, fixed, extended, counted, by_fx, expli
 use Rattle.ax_tables.specs.Bare.{bare_kind, bare_slots}
 
 -- an entry of the first slot, or none, in front of others
-abbrev canon_where : KindTree → Option ValueTree → List ℕ
+abbrev pub canon_where : KindTree → Option ValueTree → List ℕ
 canon_where l None = []
 canon_where l (Some v) = canon l v
 
-front_canon : (t : ℕ) (name : List ℕ) (l : KindTree) (ts : SlotsTree) (o : Option ValueTree) (rest : EntriesTree) → EntriesShape (t + 1) ts rest
+pub front_canon : (t : ℕ) (name : List ℕ) (l : KindTree) (ts : SlotsTree) (o : Option ValueTree) (rest : EntriesTree) → EntriesShape (t + 1) ts rest
     → entries_canon t (slot_and (subitem name l) ts) (entry_where t o rest) ≡ canon_where l o ++ entries_canon (t + 1) ts rest
 front_canon t name l ts (Some v) rest h = ap (λ b. cond b (canon l v ++ entries_canon (t + 1) ts rest) (entries_canon (t + 1) ts (entry_and t v rest))) (equal t t refl)
 front_canon t name l ts None no_entries h = refl

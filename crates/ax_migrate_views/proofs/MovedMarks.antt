@@ -21,12 +21,12 @@ use Rattle.ax_model.specs.Shape.{EntriesShape}
 use Rattle.ax_model.specs.Tree.{KindTree, compound, SlotsTree, no_slots, slot_and, spare_slot, subitem, slot_count, ValueTree, EntriesTree, no_entries, entry_and}
 
 -- no entry of a later slot marks this one
-unmarked : (t : ℕ) (name : List ℕ) (l : KindTree) (ts : SlotsTree) (es : EntriesTree) → EntriesShape (t + 1) ts es → marks_of t (slot_and (subitem name l) ts) es ≡ 0 ∷ marks_of (t + 1) ts es
+pub unmarked : (t : ℕ) (name : List ℕ) (l : KindTree) (ts : SlotsTree) (es : EntriesTree) → EntriesShape (t + 1) ts es → marks_of t (slot_and (subitem name l) ts) es ≡ 0 ∷ marks_of (t + 1) ts es
 unmarked t name l ts no_entries h = refl
 unmarked t name l ts (entry_and u v es) h =
     let le = entries_from (t + 1) ts u v es h in ap (λ b. cond b (1 ∷ marks_of (t + 1) ts es) (0 ∷ marks_of (t + 1) ts (entry_and u v es))) (less t u (omega arith))
 
-slot_marked : (t : ℕ) (name : List ℕ) (l : KindTree) (ts : SlotsTree) (v : ValueTree) (es : EntriesTree) → marks_of t (slot_and (subitem name l) ts) (entry_and t v es) ≡ 1 ∷ marks_of (t + 1) ts es
+pub slot_marked : (t : ℕ) (name : List ℕ) (l : KindTree) (ts : SlotsTree) (v : ValueTree) (es : EntriesTree) → marks_of t (slot_and (subitem name l) ts) (entry_and t v es) ≡ 1 ∷ marks_of (t + 1) ts es
 slot_marked t name l ts v es = ap (λ b. cond b (1 ∷ marks_of (t + 1) ts es) (0 ∷ marks_of (t + 1) ts (entry_and t v es))) (equal t t refl)
 
 -- the set with a slot
@@ -47,7 +47,7 @@ pub record Marked (t n : ℕ) (before later made : List ℕ) : Type 0 where
   pub behind : IsTrue (none_marked (drop (t - 1 + n) made))
 
 -- a slot that isn't marked, and the others
-skips : (t n : ℕ) (before later made : List ℕ) → 1 ≤ t → t ≤ 126 → length before ≡ 126 → IsTrue (none_marked (drop (t - 1) before)) → Marked (t + 1) n before later made → Marked t (suc n) before (0 ∷ later) made
+pub skips : (t n : ℕ) (before later made : List ℕ) → 1 ≤ t → t ≤ 126 → length before ≡ 126 → IsTrue (none_marked (drop (t - 1) before)) → Marked (t + 1) n before later made → Marked t (suc n) before (0 ∷ later) made
 skips t n before later made some few size none m =
     let i : t - 1 + suc n ≡ t + 1 - 1 + n = omega arith in
     let j : t + 1 - 1 ≡ suc (t - 1) = omega arith in record {
@@ -57,7 +57,7 @@ skips t n before later made some few size none m =
     }
 
 -- one that is
-marks : (t n : ℕ) (before later made : List ℕ) → 1 ≤ t → t ≤ 126 → length before ≡ 126 → Marked (t + 1) n (with_slot t before) later made → Marked t (suc n) before (1 ∷ later) made
+pub marks : (t n : ℕ) (before later made : List ℕ) → 1 ≤ t → t ≤ 126 → length before ≡ 126 → Marked (t + 1) n (with_slot t before) later made → Marked t (suc n) before (1 ∷ later) made
 marks t n before later made some few size m =
     let i : t - 1 + suc n ≡ t + 1 - 1 + n = omega arith in
     let j : t + 1 - 1 ≡ t - 1 + 1 = omega arith in record {
@@ -68,10 +68,10 @@ marks t n before later made some few size m =
       behind = subst (λ k. IsTrue (none_marked (drop k made))) (sym i) m.behind;
     }
 
-with_size : (t : ℕ) (before : List ℕ) → 1 ≤ t → t ≤ 126 → length before ≡ 126 → length (with_slot t before) ≡ 126
+pub with_size : (t : ℕ) (before : List ℕ) → 1 ≤ t → t ≤ 126 → length before ≡ 126 → length (with_slot t before) ≡ 126
 with_size t before some few size = ap length (set_with t before some few) ∙ length-set before (t - 1) 1 ∙ size
 
-with_behind : (t : ℕ) (before : List ℕ) → 1 ≤ t → t ≤ 126 → IsTrue (none_marked (drop (t - 1) before)) → IsTrue (none_marked (drop (t + 1 - 1) (with_slot t before)))
+pub with_behind : (t : ℕ) (before : List ℕ) → 1 ≤ t → t ≤ 126 → IsTrue (none_marked (drop (t - 1) before)) → IsTrue (none_marked (drop (t + 1 - 1) (with_slot t before)))
 with_behind t before some few none =
     ap (λ x. none_marked (drop (t + 1 - 1) x)) (set_with t before some few) ∙ ap none_marked (drop-set-lt (t + 1 - 1) before (t - 1) 1 (omega arith)) ∙ none_further (t - 1) (t + 1 - 1) before (omega arith) none
 
@@ -127,7 +127,7 @@ moves_mark t (slot_and (subitem name l) ts) ss es before h some few size none =
     by_case (inl m) g = moved_by (sym m.move) (sym m.value) (by_value g m.kind (slot_value m.old es))
     by_case (inr s) g = moved_by (sym s.0) (sym s.1) (no_value g)
 
-size_none : length no_marks ≡ 126
+pub size_none : length no_marks ≡ 126
 unfolding no_marks
 size_none = length-replicate {A = ℕ} 126 0
 

@@ -9,7 +9,7 @@ use ax_bits::Out;
 use ax_canon::canonical_item;
 use ax_fspec::{Presence, write_presence};
 use ax_tables::Codec;
-use ax_view::{FoundItem, ItemView};
+use ax_view::ItemView;
 
 /// The most octets of a data block.
 pub(crate) const LONGEST: u32 = 65_535;
@@ -66,17 +66,13 @@ pub(crate) fn lay_octets(octets: &[u8], at: u32, output: &mut [u8]) -> u32
 }
 
 /// Lays the canonical spelling of an item's value after `at` octets, and answers how many octets were laid.
-#[inline]
-pub(crate) fn lay_item(codec: &Codec, found: &FoundItem<'_, '_>, at: u32, output: &mut [u8]) -> u32
-    requires codec { found.now.item.codec.now ≡ codec.now }
-    requires whole { found.now.item.by_fx ≡ false }
+pub(crate) fn lay_item(codec: &Codec, item: &ItemView<'_, '_>, at: u32, output: &mut [u8]) -> u32
+    requires codec { item.now.codec.now ≡ codec.now }
+    requires whole { item.now.by_fx ≡ false }
     requires room { length output.old ≡ 131067 }
-    ensures laid { Lays (canon (item_kind found.now.item) (item_value found.now.item)) at result output.old output.new }
+    ensures laid { Lays (canon (item_kind item.now) (item_value item.now)) at result output.old output.new }
     ensures room { length output.new ≡ 131067 }
 {
-    if found.least {
-        return lay_octets(found.item.octets(), at, output);
-    }
-    let octets = spell_item(codec, &found.item, &mut output[at.min(LONGEST) as usize..]);
+    let octets = spell_item(codec, item, &mut output[at.min(LONGEST) as usize..]);
     at.saturating_add(octets)
 }

@@ -4,6 +4,7 @@
 mod bodies;
 mod examples;
 mod gone;
+mod keeping;
 mod laws;
 mod laying;
 mod losses;

@@ -7,14 +7,15 @@ ghost use Rattle.ax_migrate_views.specs.Wholes.{whole_codec, whole_entries, whol
 ghost use Rattle.ax_view.specs.Placing.{IsPlaced};
 ghost use Rattle.ax_view.specs.Shown.{item_kind, item_value};
 
-use crate::laying::{lay_field, lay_item};
+use crate::keeping::moves_whole;
+use crate::laying::{lay_field, lay_item, lay_octets};
 use crate::marks::moved_slots;
 use crate::whole::item_of;
 use ax_edition::{Move, Moves};
 use ax_tables::{Codec, Node};
-use ax_view::{FoundItem, PlacedSlots, Places, place_subitems};
+use ax_view::{FoundItem, ItemView, PlacedSlots, Places, place_subitems};
 
-/// Lays the value of an item as it moves, and answers how many octets were laid.
+/// Lays the value of an item as it moves, and answers how many octets were laid: the item's own octets, where they are that.
 #[cycle(laying)]
 fn lay_value(
     codec: &Codec,
@@ -29,20 +30,42 @@ fn lay_value(
     ensures laid { Lays (canon_by (moves_tree moves.now) (item_kind found.now.item) (item_value found.now.item)) at result output.old output.new }
     ensures room { length output.new ≡ 131067 }
 {
-    match found.item.node() {
+    if moves_whole(codec, found, moves) {
+        return lay_octets(found.item.octets(), at, output);
+    }
+    lay_anew(codec, &found.item, moves, at, output)
+}
+
+/// The same, slot by slot in a compound. It has a table of places on its stack, and so stands apart.
+#[cycle(laying)]
+#[inline(never)]
+fn lay_anew(
+    codec: &Codec,
+    item: &ItemView<'_, '_>,
+    moves: &Moves,
+    at: u32,
+    output: &mut [u8],
+) -> u32
+    requires codec { item.now.codec.now ≡ codec.now }
+    requires whole { item.now.by_fx ≡ false }
+    requires room { length output.old ≡ 131067 }
+    ensures laid { Lays (canon_by (moves_tree moves.now) (item_kind item.now) (item_value item.now)) at result output.old output.new }
+    ensures room { length output.new ≡ 131067 }
+{
+    match item.node() {
         Node::Compound { slots, .. } => {
             let mut places = Places::new();
-            place_subitems(&found.item, &mut places);
+            place_subitems(item, &mut places);
             let whole = PlacedSlots {
                 codec,
                 slots: slots.as_slice(),
-                body: found.item.octets(),
+                body: item.octets(),
                 at: 0,
                 places: &places,
             };
             lay_whole(codec, &whole, moves, at, output)
         }
-        _ => lay_item(codec, found, at, output),
+        _ => lay_item(codec, item, at, output),
     }
 }
 

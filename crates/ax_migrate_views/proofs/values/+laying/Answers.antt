@@ -1,9 +1,11 @@
 use Rattle.std.proofs.Common.{rules, ◌++◌, arith, ap, sym, subst, refl, length, get_or, ◌∙◌, option_map}
+use Rattle.ax_bits.specs.Bits.{bits}
 use Rattle.ax_edition.specs.PlainMoves.{move_tree, moves_tree}
 use Rattle.ax_fspec.specs.Fields.{least_field}
 use Rattle.ax_migrate_views.proofs.Entries.{none_laid, one_laid, all_laid, nothing_moves, nothing_laid, compound_there, leaf_canon_by}
 use Rattle.ax_migrate_views.proofs.LaidBits.{lays_more}
 use Rattle.ax_migrate_views.proofs.Slots.{placed_by, compound_node}
+use Rattle.ax_migrate_views.proofs.ToldLines.{gathered_bits}
 use Rattle.ax_migrate_views.specs.Laying.{Lays}
 use Rattle.ax_migrate_views.specs.Octets.{field_by, entries_canon_by, move_canon}
 use Rattle.ax_migrate_views.specs.Wholes.{whole_slots, whole_entries}
@@ -30,24 +32,24 @@ lay_entry-returns-in-None-clause-laid t c =
     nothing_laid (move_canon (move_tree c.args.one.now) (whole_slots c.args.whole.now) (whole_entries c.args.whole.now)) c.args.at c.args.output.now
     (nothing_moves c.args.one.now (whole_slots c.args.whole.now) (whole_entries c.args.whole.now) (sym c.item_of.ensures.value ∙ ap (option_map (λ (found : FoundItem). item_value found.item)) c.in-None.is)) c.ranges.at.fits
 
-pub lay_value-lay_whole-requires : goal.lay_value-lay_whole-requires
-lay_value-lay_whole-requires t c =
-    let item = c.args.found.now.item in
+pub lay_anew-lay_whole-requires : goal.lay_anew-lay_whole-requires
+lay_anew-lay_whole-requires t c =
+    let item = c.args.item.now in
     let own = item.codec.now in
     let placed = placed_by _ own c.in-Compound.slots item.body.now 0 c.place_subitems.new.places (length item.body.now) c.requires.codec (sym c.as_slice.ensures.members) (sym c.octets.ensures.body) refl refl
     (compound_links own.nodes item.link c.node.result.now own.table item.item.some item.item.within c.node.ensures c.in-Compound.mask c.in-Compound.slots c.in-Compound.slots c.in-Compound.is refl)
     (c.place_subitems.ensures c.in-Compound.mask c.in-Compound.slots (compound_node own.nodes item.link c.node.result.now c.in-Compound.mask c.in-Compound.slots item.item.some item.item.within c.node.ensures c.in-Compound.is)) in
     (search rules, (refl, (placed, c.requires.room)))
 
-pub lay_value-returns-in-Compound-clause-laid : goal.lay_value-returns-in-Compound-clause-laid
-lay_value-returns-in-Compound-clause-laid t c =
+pub lay_anew-returns-in-Compound-clause-laid : goal.lay_anew-returns-in-Compound-clause-laid
+lay_anew-returns-in-Compound-clause-laid t c =
     subst (λ b. Lays b c.args.at c.lay_whole.result c.args.output.now c.lay_whole.new.output)
-    (compound_there c.args.found.now.item c.node.result.now c.node.ensures (moves_tree c.args.moves.now) c.in-Compound.mask c.in-Compound.slots c.as_slice.result.now c.octets.result.now c.args.codec.now c.in-Compound.is (sym c.as_slice.ensures.members) (sym c.octets.ensures.body) c.requires.codec)
+    (compound_there c.args.item.now c.node.result.now c.node.ensures (moves_tree c.args.moves.now) c.in-Compound.mask c.in-Compound.slots c.as_slice.result.now c.octets.result.now c.args.codec.now c.in-Compound.is (sym c.as_slice.ensures.members) (sym c.octets.ensures.body) c.requires.codec)
     c.lay_whole.ensures.laid
 
-pub lay_value-returns-in_default : goal.lay_value-returns-in_default
-lay_value-returns-in_default t c = record {
-  laid = subst (λ b. Lays b c.args.at c.lay_item.result c.args.output.now c.lay_item.new.output) (sym (leaf_canon_by c.args.found.now.item c.node.result.now c.node.ensures (moves_tree c.args.moves.now) c.in_default.not-Compound)) c.lay_item.ensures.laid;
+pub lay_anew-returns-in_default : goal.lay_anew-returns-in_default
+lay_anew-returns-in_default t c = record {
+  laid = subst (λ b. Lays b c.args.at c.lay_item.result c.args.output.now c.lay_item.new.output) (sym (leaf_canon_by c.args.item.now c.node.result.now c.node.ensures (moves_tree c.args.moves.now) c.in_default.not-Compound)) c.lay_item.ensures.laid;
   room = c.lay_item.ensures.room;
 }
 
@@ -57,3 +59,8 @@ lay_whole-returns-clause-laid t c =
     let rest = entries_canon_by (moves_tree c.args.moves.now) (whole_slots c.args.whole.now) (whole_entries c.args.whole.now) in
     let front = field_by (moves_tree c.args.moves.now) (whole_entries c.args.whole.now) in
     lays_more front rest (front ++ rest) c.args.at c.lay_field-end.result c.lay_entries.result c.args.output.now c.lay_field-end.new.output c.lay_entries.new.output refl field c.lay_entries.ensures.laid
+
+pub lay_value-returns-then-moves_whole-clause-laid : goal.lay_value-returns-then-moves_whole-clause-laid
+lay_value-returns-then-moves_whole-clause-laid t c =
+    subst (λ b. Lays b c.args.at c.lay_octets.result c.args.output.now c.lay_octets.new.output) (ap bits c.octets.ensures.body ∙ sym (c.moves_whole.ensures c.if-moves_whole.true))
+    (gathered_bits c.octets.result.now c.args.at c.lay_octets.result c.args.output.now c.lay_octets.new.output c.lay_octets.ensures.laid)

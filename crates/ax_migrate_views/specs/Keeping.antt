@@ -1,0 +1,20 @@
+-- Compounds of which each subitem keeps its slot.
+use Rattle.std.specs.Prelude.{◌≡◌, ℕ, ◌+◌}
+use Rattle.ax_edition.specs.Moves.{MoveTree, move_from, MovesTree, no_moves, move_and}
+use Rattle.ax_model.specs.Tree.{KindTree, fixed, extended, counted, by_fx, explicit, compound, SlotsTree, no_slots, slot_and, spare_slot, subitem}
+
+abbrev pub IsLeaf : KindTree → Type 0
+IsLeaf (compound ss) = ⊥
+IsLeaf _ = Unit {0}
+
+-- the value of slot t stays in that slot
+abbrev pub StaysIn : ℕ → KindTree → MoveTree → Type 0
+StaysIn t k (move_from s u below) = (s ≡ t) × (u ≡ t) × IsLeaf k
+
+-- each of these slots, of which the first has the number t, stays, none is a compound, and nothing else moves
+abbrev pub KeepsAll : ℕ → SlotsTree → MovesTree → Type 0
+KeepsAll t no_slots no_moves = Unit {0}
+KeepsAll t no_slots (move_and m ms) = ⊥
+KeepsAll t (slot_and spare_slot ss) ms = KeepsAll (t + 1) ss ms
+KeepsAll t (slot_and (subitem name k) ss) no_moves = ⊥
+KeepsAll t (slot_and (subitem name k) ss) (move_and m ms) = StaysIn t k m × KeepsAll (t + 1) ss ms

@@ -1,0 +1,77 @@
+//! Items whose octets stay as they are.
+ghost use Rattle.std.specs.Prelude.{◌≡◌, ◌+◌, ◌<◌, ◌≤◌, false, length, IsTrue};
+ghost use Rattle.ax_bits.specs.Bits.{bits};
+ghost use Rattle.ax_edition.specs.PlainMoves.{move_tree, moves_tree};
+ghost use Rattle.ax_migrate_views.specs.Keeping.{IsLeaf, KeepsAll, StaysIn};
+ghost use Rattle.ax_migrate_views.specs.Octets.{canon_by};
+ghost use Rattle.ax_model.specs.Tree.{slots_of};
+ghost use Rattle.ax_tables.specs.Meaning.{linked_slots, meanings};
+ghost use Rattle.ax_tables.specs.Table.{IsTable, SlotLinksWithin, kind_at};
+ghost use Rattle.ax_view.specs.Shown.{item_kind, item_value};
+
+use ax_edition::{Move, Moves};
+use ax_tables::{Codec, Node};
+use ax_view::FoundItem;
+
+/// Whether the kind of a link is sure to be no compound.
+#[inline]
+fn is_leaf(nodes: &[Node], link: u32) -> bool
+    requires table { IsTable nodes.now }
+    requires link { (0 < link) × (link ≤ length nodes.now) }
+    ensures { IsTrue result → IsLeaf (kind_at nodes.now link) }
+{
+    match &nodes[link as usize - 1] {
+        Node::Part { .. } => false,
+        Node::Compound { .. } => false,
+        _ => true,
+    }
+}
+
+/// Whether a move leaves the value of the slot of that number, which has the kind of the link and isn't a compound, in its slot.
+#[inline]
+fn stays(nodes: &[Node], link: u32, slot: usize, one: &Move) -> bool
+    requires table { IsTable nodes.now }
+    requires link { (0 < link) × (link ≤ length nodes.now) }
+    ensures { IsTrue result → StaysIn slot (kind_at nodes.now link) (move_tree one.now) }
+{
+    one.old as usize == slot && one.new as usize == slot && is_leaf(nodes, link)
+}
+
+/// Whether each slot of a compound stays, none is a compound itself, and nothing else moves.
+fn keeps_all(nodes: &[Node], slots: &[u32], moves: &Moves) -> bool
+    requires table { IsTable nodes.now }
+    requires links { SlotLinksWithin (length nodes.now) slots.now }
+    ensures { IsTrue result → KeepsAll 1 (slots_of (linked_slots (meanings nodes.now) slots.now)) (moves_tree moves.now) }
+{
+    let moves = moves.as_slice();
+    let mut next = 0;
+    for index in 0..slots.len() {
+        let link = slots[index];
+        if link == 0 {
+            continue;
+        }
+        if next >= moves.len() || !stays(nodes, link, index + 1, &moves[next]) {
+            return false;
+        }
+        next += 1;
+    }
+    next == moves.len()
+}
+
+/// Whether an item's octets are the canonical ones of its value as it moves, so that they can be copied: they are those of the
+/// value, and where it is a compound, each of its slots stays.
+pub(crate) fn moves_whole(codec: &Codec, found: &FoundItem<'_, '_>, moves: &Moves) -> bool
+    requires codec { found.now.item.codec.now ≡ codec.now }
+    requires whole { found.now.item.by_fx ≡ false }
+    ensures { IsTrue result → canon_by (moves_tree moves.now) (item_kind found.now.item) (item_value found.now.item) ≡ bits found.now.item.body.now }
+{
+    if !found.least {
+        return false;
+    }
+    match found.item.node() {
+        Node::Compound { slots, .. } => {
+            keeps_all(codec.nodes.as_slice(), slots.as_slice(), moves)
+        }
+        _ => true,
+    }
+}

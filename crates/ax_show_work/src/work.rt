@@ -1,0 +1,88 @@
+//! `show` over the blocks of an input.
+ghost use Rattle.std.specs.Prelude.{◌≡◌, length, IfOk};
+ghost use Rattle.ax_model.specs.Plain.{catalogue_tree};
+ghost use Rattle.ax_stream.specs.Made.{tree_command};
+ghost use Rattle.ax_tables.specs.Standing.{StandForEach};
+ghost use Rattle.ax_text.specs.ShowText.{ShowText, OpaqueShown};
+
+use crate::block::list_block;
+use ax_check::Catalogue;
+use ax_model::RawBlock;
+use ax_outside::Sink;
+use ax_stream::{BlockStop, BlockWork, WorkStop};
+use ax_tables::Codecs;
+use ax_text::Lister;
+use ax_view_work::blank_output;
+use std::alloc::{AllocError, Global};
+
+/// `show` under a catalogue, by the codecs of its specifications: the listing of each block, by its number in the input. The
+/// listing's memory is kept from block to block.
+#[derive(Drop)]
+pub struct ShowViews<'c> {
+    alloc: Global,
+    catalogue: &'c Catalogue,
+    codecs: &'c Codecs,
+    output: Vec<u8>,
+    lister: Lister,
+    ghost room: { length output.items ≡ 65535 },
+}
+
+impl<'c> ShowViews<'c> {
+    /// `show` under that catalogue, by its codecs. Err is want of memory.
+    pub fn new(
+        alloc: Global,
+        catalogue: &'c Catalogue,
+        codecs: &'c Codecs,
+    ) -> Result<ShowViews<'c>, AllocError>
+        requires { StandForEach codecs.now.codecs (catalogue_tree catalogue.now) }
+        ensures command { IfOk result (λ work. ⟦<ShowViews<'c> as BlockWork>⟧.command work ≡ tree_command (λ number spec block. ShowText spec block number) (λ number category content. OpaqueShown number category content) (catalogue_tree catalogue.now)) }
+        ensures sound { IfOk result (λ work. ⟦<ShowViews<'c> as BlockWork>⟧.sound work) }
+    {
+        let output = blank_output(alloc)?;
+        Ok(ShowViews {
+            alloc,
+            catalogue,
+            codecs,
+            output,
+            lister: Lister::new(alloc),
+        })
+    }
+}
+
+impl<'c> BlockWork for ShowViews<'c> {
+    ghost use Rattle.std.specs.Prelude.{true};
+
+    ghost command = { λ s. tree_command (λ number spec block. ShowText spec block number) (λ number category content. OpaqueShown number category content) (catalogue_tree s.catalogue.now) };
+
+    ghost sound = { λ s. StandForEach s.codecs.now.codecs (catalogue_tree s.catalogue.now) };
+
+    ghost laid = { λ s. s.lister.out.items };
+
+    ghost takes_memory = { true };
+
+    #[tactic(auto, using(ax_stream::proofs::MadeBlocks::tree_takes, crate::proofs::Blocks::takes))]
+    fn take<R: Sink>(
+        &mut self,
+        number: u64,
+        raw: &RawBlock<'_>,
+        _report: &mut R,
+    ) -> Result<(), WorkStop> {
+        match list_block(
+            self.alloc,
+            &mut self.lister,
+            &mut self.output,
+            self.codecs,
+            self.catalogue,
+            number,
+            raw,
+        ) {
+            Ok(()) => Ok(()),
+            Err(BlockStop::Fault(fault)) => Err(WorkStop::Fault(fault)),
+            Err(BlockStop::OutOfMemory) => Err(WorkStop::OutOfMemory),
+        }
+    }
+
+    fn octets(&self) -> &[u8] {
+        self.lister.listing()
+    }
+}

@@ -32,6 +32,13 @@ pub record AddsNumbers (old new : Totals) (records : ℕ) (octets canonical : Li
   pub sum_is : new.sum ≡ old.sum + sum canonical
   pub within : IsWithin new
 
+-- a block that these octets spell was counted, with its canonical form
+pub record AddsForm (spec : SpecTree) (old new : Totals) (octets : List ℕ) : Type 0 where
+  pub records : ℕ
+  pub canonical : List ℕ
+  pub form : IsCanonOf spec octets records canonical
+  pub added : AddsNumbers old new records octets canonical
+
 -- the numbers are those of these blocks, which were made as these octets
 pub record AreNumbersOf (spec : SpecTree) (blocks : List BlockTree) (octets : List ℕ) (t : Totals) : Type 0 where
   pub blocks_are : t.blocks ≡ length blocks

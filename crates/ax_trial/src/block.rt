@@ -1,26 +1,15 @@
 //! One generated block, and its canonical form.
-ghost use Rattle.std.specs.Prelude.{◌≡◌, ◌≤◌, ◌<◌, length, drop, get_or, sum, IfOk};
-ghost use Rattle.ax_model.specs.OfCode.{HasNoFlaw, BlockFits, block_octets, block_length};
-ghost use Rattle.ax_model.specs.Plain.{spec_tree, block_tree};
-ghost use Rattle.ax_trial.specs.Counting.{IsCanonOf};
-ghost use Rattle.ax_trial.specs.Trial.{record_count};
-ghost use Rattle.ax_values.specs.Decoding.{IsReadOf};
+ghost use Rattle.std.specs.Prelude.{◌≡◌, ◌≤◌, ◌<◌, length, sum, take, drop};
+ghost use Rattle.ax_model.specs.Plain.{spec_tree};
+ghost use Rattle.ax_tables.specs.Standing.{IsCompiled};
+ghost use Rattle.ax_trial.specs.Counting.{AddsForm, IsCanonOf, IsWithin};
 ghost use Rattle.ax_vectors.specs.Made.{IsSpelledBlock};
 
-use ax_check::Accepted;
-use ax_model::{Block, RawBlock, Spec};
-use ax_values::{decode_block, encode_block};
-use std::alloc::{AllocError, Global};
-
-/// How many records a block has.
-fn record_count(block: &Block) -> u32
-    ensures { result ≡ record_count (block_tree block.now) }
-{
-    match block {
-        Block::Read { records, .. } => records.count(),
-        Block::Opaque { .. } => 0,
-    }
-}
+use crate::totals::Totals;
+use ax_model::Spec;
+use ax_tables::Codec;
+use ax_view::scan;
+use ax_view_work::lay_block;
 
 /// The sum of octets as numbers.
 pub(crate) fn sum_of(octets: &[u8]) -> u64
@@ -35,55 +24,50 @@ pub(crate) fn sum_of(octets: &[u8]) -> u64
     total
 }
 
-/// The category and the body of a block of 4 to 65,535 octets.
-fn raw_of(octets: &[u8]) -> RawBlock<'_>
-    requires { (4 ≤ length octets.now) × (length octets.now ≤ 65535) }
-    ensures category { result.category ≡ get_or octets.now 0 0 }
-    ensures body { result.body.now ≡ drop 3 octets.now }
+/// The octets of a block after CAT and LEN.
+fn body_of(octets: &[u8]) -> &[u8]
+    requires { 3 ≤ length octets.now }
+    ensures { result.now ≡ drop 3 octets.now }
 {
-    RawBlock {
-        category: octets[0],
-        body: &octets[3..],
-    }
+    &octets[3..]
 }
 
-/// The block that octets spell.
-#[tactic(auto, using(crate::proofs::Forms::decoding))]
-fn decode(alloc: Global, spec: &Spec, octets: &[u8]) -> Result<Block, AllocError>
-    requires no_flaw { HasNoFlaw spec.now }
-    requires spelled { IsSpelledBlock (spec_tree spec.now) octets.now }
-    ensures { IfOk result (λ block. IsReadOf (spec_tree spec.now) spec.now.category (drop 3 octets.now) (block_tree block)) }
-{
-    match decode_block(alloc, spec, &raw_of(octets)) {
-        Ok(block) => Ok(block),
-        Err(_) => Err(AllocError),
-    }
-}
-
-/// The canonical form of a block, of no more than 65,535 octets.
-fn encode(alloc: Global, spec: &Spec, block: &Block) -> Result<Vec<u8>, AllocError>
-    requires no_flaw { HasNoFlaw spec.now }
-    requires fits { BlockFits spec.now block.now }
-    ensures { IfOk result (λ octets. octets.items ≡ block_octets spec.now block.now) }
-{
-    match encode_block(alloc, spec, block) {
-        Ok(octets) => Ok(octets),
-        Err(_) => Err(AllocError),
-    }
-}
-
-/// The canonical form of a block of the specification's category that spells records of it, and how many these are.
+/// Lays the canonical form of a block of the specification's category that spells records of it at the front of an output, and
+/// answers how many records it has, and its octets. Contracts speak of the specification, the code doesn't.
 #[tactic(auto, using(crate::proofs::Forms::forms))]
-pub(crate) fn canonical_form(
-    alloc: Global,
-    spec: &Spec,
-    octets: &[u8],
-) -> Result<(u32, Vec<u8>), AllocError>
-    requires no_flaw { HasNoFlaw spec.now }
-    requires spelled { IsSpelledBlock (spec_tree spec.now) octets.now }
-    ensures { IfOk result (λ form. IsCanonOf (spec_tree spec.now) octets.now form.0 form.1.items) }
+fn lay_form(_spec: &Spec, codec: &Codec, octets: &[u8], output: &mut [u8]) -> (u32, u32)
+    requires compiled { IsCompiled codec.now (spec_tree _spec.now) }
+    requires spelled { IsSpelledBlock (spec_tree _spec.now) octets.now }
+    requires room { length output.old ≡ 65535 }
+    ensures form { IsCanonOf (spec_tree _spec.now) octets.now result.0 (take result.1 output.new) }
+    ensures within { result.1 ≤ 65535 }
+    ensures room { length output.new ≡ 65535 }
 {
-    let block = decode(alloc, spec, octets)?;
-    let canonical = encode(alloc, spec, &block)?;
-    Ok((record_count(&block), canonical))
+    match scan(codec, body_of(octets)) {
+        Ok(view) => {
+            let count = lay_block(&view, output);
+            (view.count(), count)
+        }
+        Err(_) => unreachable!(),
+    }
+}
+
+/// Counts a block that was made: its records, its octets and its canonical form, which is laid at the front of the output.
+pub(crate) fn count_block(
+    spec: &Spec,
+    codec: &Codec,
+    octets: &[u8],
+    output: &mut [u8],
+    totals: &mut Totals,
+)
+    requires compiled { IsCompiled codec.now (spec_tree spec.now) }
+    requires spelled { IsSpelledBlock (spec_tree spec.now) octets.now }
+    requires room { length output.old ≡ 65535 }
+    requires within { IsWithin totals.old }
+    requires few { totals.old.blocks < 1000000 }
+    ensures counted { AddsForm (spec_tree spec.now) totals.old totals.new octets.now }
+    ensures room { length output.new ≡ 65535 }
+{
+    let (records, count) = lay_form(spec, codec, octets, output);
+    totals.add(records, octets, &output[..count as usize]);
 }

@@ -1,24 +1,32 @@
 //! The line of `trial`.
-ghost use Rattle.std.specs.Prelude.{◌≡◌, ◌≤◌, IfOk};
+ghost use Rattle.std.specs.Prelude.{◌≡◌, ◌≤◌, length, IfOk};
 ghost use Rattle.ax_model.specs.Plain.{spec_tree};
+ghost use Rattle.ax_tables.specs.Standing.{IsCompiled};
 ghost use Rattle.ax_trial.specs.Counting.{AreTotals};
 ghost use Rattle.ax_trial.specs.Trial.{IsTrial};
 
-use crate::block::canonical_form;
+use crate::block::count_block;
 use crate::totals::Totals;
 use ax_check::Accepted;
+use ax_tables::{Codec, compile};
 use ax_vectors::{Draws, make_block};
+use ax_view_work::blank_output;
 use std::alloc::{AllocError, Global};
 
-/// The numbers of so many blocks made from a seed, one after another.
+/// The numbers of so many blocks made from a seed, one after another, each of which is laid in its canonical form at the front of
+/// the output.
 #[tactic(auto, using(crate::proofs::Sums::steps))]
 fn totals_of(
     alloc: Global,
     accepted: &Accepted,
+    codec: &Codec,
     seed: u64,
     count: u32,
+    output: &mut [u8],
 ) -> Result<Totals, AllocError>
-    requires { count ≤ 1000000 }
+    requires compiled { IsCompiled codec.now (spec_tree accepted.now) }
+    requires few { count ≤ 1000000 }
+    requires room { length output.old ≡ 65535 }
     ensures { IfOk result (λ totals. AreTotals (spec_tree accepted.now) seed count totals) }
 {
     let mut draws = Draws::new(seed);
@@ -27,8 +35,7 @@ fn totals_of(
     while left > 0 {
         left -= 1;
         let octets = make_block(alloc, accepted, &mut draws)?;
-        let (records, canonical) = canonical_form(alloc, accepted.spec(), &octets)?;
-        totals.add(records, &octets, &canonical);
+        count_block(accepted.spec(), codec, &octets, output, &mut totals);
     }
     Ok(totals)
 }
@@ -46,6 +53,8 @@ pub fn trial_text(
     requires { count ≤ 1000000 }
     ensures { IfOk result (λ line. IsTrial (spec_tree accepted.now) seed count line.items) }
 {
-    let totals = totals_of(alloc, accepted, seed, count)?;
+    let codec = compile(alloc, accepted)?;
+    let mut output = blank_output(alloc)?;
+    let totals = totals_of(alloc, accepted, &codec, seed, count, &mut output)?;
     totals.line(alloc)
 }

@@ -65,7 +65,7 @@ impl<'c> BlockWork for CanonViews<'c> {
         _report: &mut R,
     ) -> Result<(), WorkStop> {
         match self.codecs.get(raw.category) {
-            Some(codec) => match lay_canonical(codec, raw.category, raw.body, &mut self.output) {
+            Some(codec) => match lay_canonical(codec, raw.body, &mut self.output) {
                 Ok(count) => {
                     self.filled = count;
                     Ok(())

@@ -31,7 +31,7 @@ fn zeros(alloc: Global, count: usize) -> Result<Vec<u8>, AllocError>
 }
 
 /// Lays the canonical block of a view at the front of the output, and answers its octets.
-fn lay_view(view: &BlockView<'_, '_>, output: &mut [u8]) -> u32
+pub fn lay_view(view: &BlockView<'_, '_>, output: &mut [u8]) -> u32
     requires room { length output.old ≡ 65535 }
     ensures laid { LaysBits view.now.codec.now view.now.body.now result (bits output.new) }
     ensures room { length output.new ≡ 65535 }
@@ -40,24 +40,30 @@ fn lay_view(view: &BlockView<'_, '_>, output: &mut [u8]) -> u32
     canonical(view, &mut out)
 }
 
+/// Lays the canonical block of the records that a view stands for at the front of an output as long as the longest data block,
+/// and answers its octets.
+pub fn lay_block(view: &BlockView<'_, '_>, output: &mut [u8]) -> u32
+    requires room { length output.old ≡ 65535 }
+    ensures laid { LaysCanonical view.now.codec.now view.now.body.now result output.new }
+    ensures room { length output.new ≡ 65535 }
+{
+    // Read for its range: a category is an octet.
+    let _category = view.codec().category();
+    lay_view(view, output)
+}
+
 /// Lays the canonical form of the records that a body of the codec's category spells at the front of the output, and answers its octets; or the
 /// first fault of the body, with its bit in the body.
-pub(crate) fn lay_canonical(
-    codec: &Codec,
-    category: u8,
-    body: &[u8],
-    output: &mut [u8],
-) -> Result<u32, BodyFault>
+pub(crate) fn lay_canonical(codec: &Codec, body: &[u8], output: &mut [u8]) -> Result<u32, BodyFault>
     requires size { (1 ≤ length body.now) × (length body.now ≤ 65532) }
     requires room { length output.old ≡ 65535 }
-    requires category { codec.now.category ≡ category }
     ensures spelled { IfOk result (λ count. SpellsSome codec.now body.now) }
     ensures laid { IfOk result (λ count. LaysCanonical codec.now body.now count output.new) }
     ensures fault { IfErr result (λ fault. FailsThere codec.now body.now fault) }
     ensures room { length output.new ≡ 65535 }
 {
     let view = scan(codec, body)?;
-    Ok(lay_view(&view, output))
+    Ok(lay_block(&view, output))
 }
 
 /// Lays a block of a category without a file at the front of the output, and answers its octets.

@@ -1,11 +1,7 @@
 use Rattle.std.proofs.Common.{◌∙◌, ap, length, arith, sym}
 use Rattle.std.specs.Option.{option_copied}
 use Rattle.ax_view_work.proofs.CanonBlocks.{canon_laid, canon_within, canon_fails, opaque_laid, in_place}
-use Rattle.ax_view_work.proofs.CodecsOf.{found_category}
 use Rattle.ax_view_work.proofs.canon.CanonViewsBlockWork.take.Goals as goal
-
-pub lay_canonical-requires-clause-category : goal.lay_canonical-requires-clause-category
-lay_canonical-requires-clause-category g c = found_category _ _ _ (sym c.get.ensures ∙ ap option_copied c.in-Some.is)
 
 pub invariant_of-self-clause-within : goal.invariant_of-self-clause-within
 invariant_of-self-clause-within g c = canon_within _ _ (record { category = c.args.raw.now.category; body = c.args.raw.now.body.now }) c.in-Some.codec.now c.in-Ok.count _ c.requires.sound (sym c.get.ensures ∙ ap option_copied c.in-Some.is) c.in-Ok.ensures.spelled c.in-Ok.ensures.laid

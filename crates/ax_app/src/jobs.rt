@@ -1,5 +1,6 @@
 //! The commands, over the specifications of their files.
 ghost use Rattle.std.specs.Prelude.{◌≡◌, ◌≤◌, ◌^◌, List, ℕ, [], ◌∷◌, length, IsTrue, IfOk, IfErr, OnErr};
+ghost use Rattle.ax_drive.specs.Working.{IsSoundJob, job_command};
 ghost use Rattle.ax_edition.specs.Relates.{Relates};
 ghost use Rattle.ax_filter.specs.OfCode.{catalogue_of, expression};
 ghost use Rattle.ax_filter_work.specs.FilterCommand.{filter_command};
@@ -11,28 +12,27 @@ ghost use Rattle.ax_outside.specs.Changes.{source_change, sink_change, GainsNoth
 ghost use Rattle.ax_command.specs.declared.outcome.JobStop.{JobStop};
 ghost use Rattle.ax_command.specs.declared.outcome.JobStop.TheVariants.{OutOfMemory};
 ghost use Rattle.ax_stream.specs.Streams.{IsIdle};
-ghost use Rattle.ax_words.specs.declared.line.Line.TheVariants.{Canon, Filter, Migrate};
+ghost use Rattle.ax_words.specs.declared.line.Line.TheVariants.{Canon, Show, Text, Filter, Migrate};
 ghost use Rattle.ax_app.specs.Jobs.{BlocksRun, IsReady, IsReadyToCheck, IsReadyToTry, EndsTrial, IsStopped, RunsJob, TextEnds, check_text, takes_distinct};
 ghost use Rattle.ax_app.specs.Loaded.{specs_of, IsLoadedFor};
 ghost use Rattle.ax_app.specs.Running.{WasIdle, WantsFirst};
 
 use crate::loading::Loaded;
-use crate::makers::{ShowMaker, TextMaker};
 use ax_build_work::build_lines;
 use ax_check::{Accepted, Catalogue};
 use ax_command::{JobStop, Outcome, Refusal, line_of};
+use ax_drive::{Job, Work, drive};
 use ax_edition::{RelateError, Relation, relate};
 use ax_filter::{FilterStop, read_expression};
-use ax_filter_work::FilterViews;
 use ax_grammar::print_spec;
-use ax_migrate_view_work::MigrateViews;
 use ax_migrate_views::Migrator;
 use ax_model::Spec;
 use ax_outside::{Sink, Source, write_text};
-use ax_stream::{TreeWork, run_blocks};
+use ax_show_work::ShowViews;
+use ax_stream::{StreamEnd, run_blocks};
 use ax_tables::{Codecs, compile};
+use ax_text_view_work::TextViews;
 use ax_trial::trial_text;
-use ax_view_work::CanonViews;
 use ax_words::Line;
 use std::alloc::{AllocError, Global};
 
@@ -109,8 +109,35 @@ fn trial<K: Sink>(
     Ok(write_out(out, &line, u64::from(count)))
 }
 
-/// `canon`: the canonical form of each block. All memory is taken before the input is read.
+/// The most octets of an input.
+const LONGEST_INPUT: u64 = 1 << 40;
+
+/// Does a job on each block of the input. All memory is taken before the input is read.
 #[tactic(auto, using(crate::proofs::Memory::firsts))]
+fn drive_job<S: Source, K: Sink, R: Sink>(
+    alloc: Global,
+    job: Job<'_, '_>,
+    source: &mut S,
+    out: &mut K,
+    report: &mut R,
+) -> Result<Outcome, JobStop>
+    requires { IsSoundJob job }
+    ensures runs { IfOk result (BlocksRun (job_command job.entry) (source_change S.Source source.old source.new) (sink_change K.Sink out.old out.new) (sink_change R.Sink report.old report.new)) }
+    ensures memory { IfErr result (λ stop. stop ≡ OutOfMemory) }
+    ensures first { IfOk result (WasIdle (source_change S.Source source.old source.new) (sink_change K.Sink out.old out.new)) }
+    ensures idle { OnErr result (IsIdle (source_change S.Source source.old source.new) (sink_change K.Sink out.old out.new) (sink_change R.Sink report.old report.new)) }
+    ensures source_later { S.faults source.old ≤ S.faults source.new }
+    ensures out_later { K.faults out.old ≤ K.faults out.new }
+    ensures report_later { R.faults report.old ≤ R.faults report.new }
+{
+    let Ok(mut work) = Work::new(alloc, job, LONGEST_INPUT) else {
+        return Err(JobStop::OutOfMemory);
+    };
+    let end = StreamEnd::from(drive(&mut work, source, out, report));
+    Ok(Outcome::from(end))
+}
+
+/// `canon`: the canonical form of each block. All memory is taken before the input is read.
 fn canon<S: Source, K: Sink, R: Sink>(
     alloc: Global,
     catalogue: &Catalogue,
@@ -129,14 +156,55 @@ fn canon<S: Source, K: Sink, R: Sink>(
     let Ok(codecs) = Codecs::compile(alloc, catalogue) else {
         return Err(JobStop::OutOfMemory);
     };
-    let Ok(mut work) = CanonViews::new(alloc, catalogue, &codecs) else {
+    drive_job(alloc, Job::Canon(catalogue, &codecs), source, out, report)
+}
+
+/// `show`: the listing of each block.
+fn show<S: Source, K: Sink, R: Sink>(
+    alloc: Global,
+    catalogue: &Catalogue,
+    source: &mut S,
+    out: &mut K,
+    report: &mut R,
+) -> Result<Outcome, JobStop>
+    ensures runs { (files : List (List ℕ)) → IfOk result (RunsJob (Show files) (catalogue_tree catalogue.now) (source_change S.Source source.old source.new) (sink_change K.Sink out.old out.new) (sink_change R.Sink report.old report.new)) }
+    ensures memory { IfErr result (λ stop. stop ≡ OutOfMemory) }
+    ensures idle { OnErr result (IsIdle (source_change S.Source source.old source.new) (sink_change K.Sink out.old out.new) (sink_change R.Sink report.old report.new)) }
+    ensures source_later { S.faults source.old ≤ S.faults source.new }
+    ensures out_later { K.faults out.old ≤ K.faults out.new }
+    ensures report_later { R.faults report.old ≤ R.faults report.new }
+{
+    let Ok(codecs) = Codecs::compile(alloc, catalogue) else {
+        return Err(JobStop::OutOfMemory);
+    };
+    let Ok(mut work) = ShowViews::new(alloc, catalogue, &codecs) else {
+        return Err(JobStop::OutOfMemory);
+    };
+    Ok(Outcome::from(run_blocks(alloc, &mut work, source, out, report)))
+}
+
+/// `text`: the line of each block.
+fn text_blocks<S: Source, K: Sink, R: Sink>(
+    alloc: Global,
+    catalogue: &Catalogue,
+    source: &mut S,
+    out: &mut K,
+    report: &mut R,
+) -> Result<Outcome, JobStop>
+    ensures runs { (files : List (List ℕ)) → IfOk result (RunsJob (Text files) (catalogue_tree catalogue.now) (source_change S.Source source.old source.new) (sink_change K.Sink out.old out.new) (sink_change R.Sink report.old report.new)) }
+    ensures memory { IfErr result (λ stop. stop ≡ OutOfMemory) }
+    ensures idle { OnErr result (IsIdle (source_change S.Source source.old source.new) (sink_change K.Sink out.old out.new) (sink_change R.Sink report.old report.new)) }
+    ensures source_later { S.faults source.old ≤ S.faults source.new }
+    ensures out_later { K.faults out.old ≤ K.faults out.new }
+    ensures report_later { R.faults report.old ≤ R.faults report.new }
+{
+    let Ok(mut work) = TextViews::new(alloc, catalogue) else {
         return Err(JobStop::OutOfMemory);
     };
     Ok(Outcome::from(run_blocks(alloc, &mut work, source, out, report)))
 }
 
 /// The records of each block that a filter over the catalogue holds of. All memory is taken before the input is read.
-#[tactic(auto, using(crate::proofs::Memory::firsts))]
 fn filter_blocks<S: Source, K: Sink, R: Sink>(
     alloc: Global,
     filter: &ax_filter::Filter<'_>,
@@ -157,10 +225,7 @@ fn filter_blocks<S: Source, K: Sink, R: Sink>(
     let Ok(codecs) = Codecs::compile(alloc, catalogue) else {
         return Err(JobStop::OutOfMemory);
     };
-    let Ok(mut work) = FilterViews::new(alloc, filter, &codecs) else {
-        return Err(JobStop::OutOfMemory);
-    };
-    Ok(Outcome::from(run_blocks(alloc, &mut work, source, out, report)))
+    drive_job(alloc, Job::Filter(&codecs, filter), source, out, report)
 }
 
 /// `filter`: the records of each block that the expression holds of, or the refusal of the expression.
@@ -190,12 +255,11 @@ fn filter<S: Source, K: Sink, R: Sink>(
 }
 
 /// Each block of the old edition in the new one, by the relation of the two. All memory is taken before the input is read.
-#[tactic(auto, using(crate::proofs::Memory::firsts))]
-fn migrate_blocks<S: Source, K: Sink, R: Sink>(
+fn migrate_blocks<'x, S: Source, K: Sink, R: Sink>(
     alloc: Global,
-    relation: &Relation,
-    old: &Accepted,
-    new: &Accepted,
+    relation: &'x Relation,
+    old: &'x Accepted,
+    new: &'x Accepted,
     source: &mut S,
     out: &mut K,
     report: &mut R,
@@ -215,10 +279,7 @@ fn migrate_blocks<S: Source, K: Sink, R: Sink>(
     let Ok(migrator) = Migrator::new(alloc, old.spec(), new.spec(), relation, &codec) else {
         return Err(JobStop::OutOfMemory);
     };
-    let Ok(mut work) = MigrateViews::new(alloc, migrator) else {
-        return Err(JobStop::OutOfMemory);
-    };
-    Ok(Outcome::from(run_blocks(alloc, &mut work, source, out, report)))
+    drive_job(alloc, Job::Migrate(&migrator), source, out, report)
 }
 
 /// `migrate`: each block of the old edition in the new one, or the refusal of two categories.
@@ -270,14 +331,8 @@ fn over_catalogue<S: Source, K: Sink, R: Sink>(
     match line {
         Line::Check { .. } => Ok(check(alloc, catalogue, out)),
         Line::Canon { .. } => canon(alloc, catalogue, source, out, report),
-        Line::Show { .. } => {
-            let mut work = TreeWork::new(alloc, catalogue, ShowMaker);
-            Ok(Outcome::from(run_blocks(alloc, &mut work, source, out, report)))
-        }
-        Line::Text { .. } => {
-            let mut work = TreeWork::new(alloc, catalogue, TextMaker);
-            Ok(Outcome::from(run_blocks(alloc, &mut work, source, out, report)))
-        }
+        Line::Show { .. } => show(alloc, catalogue, source, out, report),
+        Line::Text { .. } => text_blocks(alloc, catalogue, source, out, report),
         Line::Build { .. } => Ok(Outcome::from(build_lines(alloc, catalogue, source, out))),
         Line::Filter { expr, .. } => filter(alloc, expr.text(), catalogue, source, out, report),
         Line::Trial { seed, count, .. } => trial(alloc, catalogue, *seed, *count, out),

@@ -6,7 +6,6 @@ mod gateway;
 mod jobs;
 mod laws;
 mod loading;
-mod makers;
 
 pub use ax_command::{Cause, FilterFault, InputFault, Outcome, SpecFault, TextFault};
 pub use gateway::run;

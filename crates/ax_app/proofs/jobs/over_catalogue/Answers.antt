@@ -2,7 +2,7 @@ use Rattle.std.proofs.Common.{IfErr, refl, subst}
 use Rattle.ax_model.specs.Plain.{catalogue_tree}
 use Rattle.ax_words.specs.declared.line.Line.TheVariants.{Filter, Help, Version}
 use Rattle.ax_app.specs.Jobs.{IsReady, IsStopped, help_text, version_text}
-use Rattle.ax_app.proofs.Stages.{text_job, check_job, trial_job, block_job, build_job}
+use Rattle.ax_app.proofs.Stages.{text_job, check_job, trial_job, build_job}
 use Rattle.ax_app.proofs.jobs.over_catalogue.Goals as goal
 
 pub returns-in-Check-clause-runs : goal.returns-in-Check-clause-runs
@@ -12,13 +12,13 @@ pub returns-in-Canon-clause-runs : goal.returns-in-Canon-clause-runs
 returns-in-Canon-clause-runs g c = rw c.in-Canon.is (c.canon.ensures.runs _)
 
 pub returns-in-Show-clause-runs : goal.returns-in-Show-clause-runs
-returns-in-Show-clause-runs g c = rw c.in-Show.is (block_job _ _ _ _ _ _ _ _ _ refl c.new-work.ensures c.run_blocks.ensures.runs c.from.ensures)
+returns-in-Show-clause-runs g c = rw c.in-Show.is (c.show.ensures.runs _)
 
 pub returns-in-Text-clause-runs : goal.returns-in-Text-clause-runs
-returns-in-Text-clause-runs g c = rw c.in-Text.is (block_job _ _ _ _ _ _ _ _ _ refl c.new-work-in-Text.ensures c.run_blocks-in-Text.ensures.runs c.from-in-Text.ensures)
+returns-in-Text-clause-runs g c = rw c.in-Text.is (c.text_blocks.ensures.runs _)
 
 pub returns-in-Build-clause-runs : goal.returns-in-Build-clause-runs
-returns-in-Build-clause-runs g c = rw c.in-Build.is (build_job _ _ _ _ _ _ _ _ c.build_lines.ensures.runs c.from-in-Build.ensures)
+returns-in-Build-clause-runs g c = rw c.in-Build.is (build_job _ _ _ _ _ _ _ _ c.build_lines.ensures.runs c.from.ensures)
 
 pub returns-in-Filter-clause-stopped : goal.returns-in-Filter-clause-stopped
 returns-in-Filter-clause-stopped g c =

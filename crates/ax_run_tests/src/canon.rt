@@ -11,8 +11,17 @@ const MIXED: &str = "30 00 07 81 00 19 0C 3E 00 05 80 FF 22 00 0A E0 19 0C 01 00
 const MIXED_CANONICAL: &str =
     "30 00 06 80 19 0C 3E 00 05 80 FF 22 00 0A E0 19 0C 01 00 00 80 30 00 04 00";
 
+// Three records, of which the first, the second or the third has a presence octet that marks nothing.
+const THREE_RECORDS: &str = "30 00 0C 80 19 0C 80 1A 0C 80 1B 0C";
+
+const FIRST_REDUNDANT: &str = "30 00 0D 81 00 19 0C 80 1A 0C 80 1B 0C";
+
+const MIDDLE_REDUNDANT: &str = "30 00 0D 80 19 0C 81 00 1A 0C 80 1B 0C";
+
+const LAST_REDUNDANT: &str = "30 00 0D 80 19 0C 80 1A 0C 81 00 1B 0C";
+
 // The words, the input and the output, and how the calls are cut.
-const DONE: [(&str, &str, &str, Outside); 23] = [
+const DONE: [(&str, &str, &str, Outside); 32] = [
     ("canon A", "", "", Outside::Sound),
     ("canon A", NORTH, NORTH, Outside::Sound),
     ("canon E", NORTH, NORTH, Outside::Sound),
@@ -76,6 +85,45 @@ const DONE: [(&str, &str, &str, Outside); 23] = [
     ),
     ("canon A 048", MIXED, MIXED_CANONICAL, Outside::Sound),
     ("canon S", "CC 00 05 01 00", "CC 00 04 00", Outside::Sound),
+    ("canon 048", FIRST_REDUNDANT, THREE_RECORDS, Outside::Sound),
+    ("canon 048", MIDDLE_REDUNDANT, THREE_RECORDS, Outside::Sound),
+    ("canon 048", LAST_REDUNDANT, THREE_RECORDS, Outside::Sound),
+    (
+        "filter all{} 048",
+        FIRST_REDUNDANT,
+        THREE_RECORDS,
+        Outside::Sound,
+    ),
+    (
+        "filter all{} 048",
+        MIDDLE_REDUNDANT,
+        THREE_RECORDS,
+        Outside::Sound,
+    ),
+    (
+        "filter all{} 048",
+        LAST_REDUNDANT,
+        THREE_RECORDS,
+        Outside::Sound,
+    ),
+    (
+        "migrate 048 048",
+        FIRST_REDUNDANT,
+        THREE_RECORDS,
+        Outside::Sound,
+    ),
+    (
+        "migrate 048 048",
+        MIDDLE_REDUNDANT,
+        THREE_RECORDS,
+        Outside::Sound,
+    ),
+    (
+        "migrate 048 048",
+        LAST_REDUNDANT,
+        THREE_RECORDS,
+        Outside::Sound,
+    ),
 ];
 
 #[test]

@@ -11,6 +11,10 @@ mod categories;
 #[cfg(test)]
 mod checking;
 #[cfg(test)]
+mod driving;
+#[cfg(test)]
+mod each_call;
+#[cfg(test)]
 mod filtering;
 #[cfg(test)]
 mod migrating;

@@ -12,7 +12,7 @@ const FRONT_OF_E: &str = "61 63 63 65 70 74 65 64 20 30 33 34 20 22 30 33 34 2D 
 
 // How the outside fails, the words and the input; and the status, the output, the report, and how many octets aren't read.
 // A file is loaded once, and none where the words have no shape.
-const FAILING: [(Outside, &str, &str, u8, &str, &str, usize); 18] = [
+const FAILING: [(Outside, &str, &str, u8, &str, &str, usize); 19] = [
     (
         Outside::Load(0),
         "canon A",
@@ -98,6 +98,7 @@ const FAILING: [(Outside, &str, &str, u8, &str, &str, usize); 18] = [
     (Outside::Write(1), "canon A", NORTH, 0, NORTH, "", 0),
     (Outside::Report(0), "", NORTH, 1, "", "", 10),
     (Outside::Report(0), "canon A", "22 00 04 01", 3, "", "", 0),
+    (Outside::Report(0), "canon E", "22 00 04 10", 3, "", "", 0),
     (Outside::Report(0), "check F", NORTH, 2, "", "", 10),
     (Outside::ReportRoom(5), "", NORTH, 1, "", "refus", 10),
     (

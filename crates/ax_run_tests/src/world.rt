@@ -36,7 +36,7 @@ const LARGEST: usize = 1_048_576;
 const TOO_LARGE: usize = 1_048_577;
 
 /// How the calls of the outside are cut, or which one fails, by its number from 0.
-#[derive(Clone, Copy)]
+#[derive(Clone, Copy, Debug)]
 pub enum Outside {
     /// None is cut or fails.
     Sound,
@@ -242,6 +242,7 @@ fn world_leaves(
     alloc: Global,
     words: &Vec<String>,
     input: &[u8],
+    outside: Outside,
     world: &mut World,
     want: Left<'_>,
 ) -> Result<(), Fail> {
@@ -259,7 +260,7 @@ fn world_leaves(
         report: world.report.written(),
         left: left_of(alloc, &mut world.source)?,
     };
-    assert_eq!(rt; got, want, "of {words:?} over {input:?}");
+    assert_eq!(rt; got, want, "of {words:?} over {input:?} where {outside:?}");
     Ok(())
 }
 
@@ -273,7 +274,7 @@ fn words_leave(
     want: Left<'_>,
 ) -> Result<(), Fail> {
     let mut world = world_of(alloc, outside, input)?;
-    world_leaves(rt, alloc, words, input, &mut world, want)
+    world_leaves(rt, alloc, words, input, outside, &mut world, want)
 }
 
 /// Runs the words, which have blanks between them, over this input, and asserts that the run leaves what is wanted.

@@ -39,7 +39,7 @@ use Rattle.ax_stream.specs.Ending.{longest_input}
 use Rattle.ax_stream.specs.Streams.{IsIdle, StreamRuns, ToldRun, reading, writing, reporting, for_memory}
 use Rattle.ax_stream.specs.declared.end.StreamEnd.{StreamEnd}
 use Rattle.ax_stream.specs.declared.end.StreamEnd.TheVariants as EndOf
-use Rattle.ax_words.specs.Words.{HasNoShape, Answers}
+use Rattle.ax_words.specs.Words.{HasNoShape, JudgesWords}
 use Rattle.ax_words.specs.declared.error.WordsError.{WordsError}
 use Rattle.ax_words.specs.declared.error.WordsError.TheVariants as WordsErrorOf
 use Rattle.ax_words.specs.declared.line.Line.{Line}
@@ -77,10 +77,6 @@ trial_job file seed count specs left held' taken faults faults' o (Ok outcome) r
     text_job (Trial file seed count) specs left held' taken faults faults' o count t.line outcome (record { spec = ready.spec; one = ready.one; line = t.line; trial = t.trial; is = refl }) t.ends
 trial_job file seed count specs left held' taken faults faults' o (Err stop) ready ends = tt
 
-pub block_job : (line : Line) (specs : List SpecTree) (i : SourceChange) (o r : SinkChange) (c k : BlockCommand) (end : StreamEnd) (outcome : Outcome) → IsJob line specs (each_block k) → c ≡ k → StreamRuns c longest_input i o r end → outcome ≡ outcome_of_end end
-    → RunsJob line specs i o r outcome
-block_job line specs i o r c k end outcome job is runs ends = record { job = each_block k; is = job; runs = record { end = end; runs = subst (λ x. StreamRuns x longest_input i o r end) is runs; is = ends } }
-
 -- `build` reports nothing
 pub build_job : (files : List (List ℕ)) (specs : List SpecTree) (i : SourceChange) (o : SinkChange) (held : Option (List ℕ)) (faults : ℕ) (end : LinesEnd TextFault) (outcome : Outcome) → LinesRun (build_command specs) longest_line longest_input i o end → outcome ≡ outcome_of_lines end
     → RunsJob (Build files) specs i o (record { held = held; held' = held; faults = faults; faults' = faults }) outcome
@@ -88,8 +84,8 @@ build_job files specs i o held faults end outcome runs is = record { job = build
 
 -- ---- usage
 
-pub no_shape : (words : List (List ℕ)) (error : WordsError) → error ≡ WordsErrorOf.Usage → Answers words (Err error) → HasNoShape words
-no_shape words error is h = subst (λ e. Answers words (Err e)) is h
+pub no_shape : (words : List (List ℕ)) (error : WordsError) → error ≡ WordsErrorOf.Usage → JudgesWords words (Err error) → HasNoShape words
+no_shape words error is h = subst (λ e. JudgesWords words (Err e)) is h
 
 no_usage_of_text : (count : ℕ) (text : List ℕ) (o : SinkChange) (outcome : Outcome) → TextEnds count text o outcome → outcome ≡ Usage → ⊥
 no_usage_of_text count text o outcome (written is h) e = absurd (let x : Done count ≡ Usage = sym is ∙ e in cc)

@@ -57,12 +57,12 @@ take_over all x p q n e h f =
     let long : length (take p all ++ x) ≡ q = omega (arith, length-append (take p all) x, length-take-le p all (omega arith)) in
     let cut : n ≡ length (take p all ++ x) + m = omega arith in
     let before : take p all ≡ take p (take n all) = sym (take-take p n all (omega arith)) in
-    let behind : take m (drop q all) ≡ drop q (take n all) = sym (drop-take q m all) ∙ ap (λ k. drop q (take k all)) (sym split) in
+    let following : take m (drop q all) ≡ drop q (take n all) = sym (drop-take q m all) ∙ ap (λ k. drop q (take k all)) (sym split) in
     ap (take n) (sym (append_assoc (take p all) x (drop q all)))
     ∙ ap (λ k. take k ((take p all ++ x) ++ drop q all)) cut
     ∙ take-append-add (take p all ++ x) (drop q all) m
     ∙ append_assoc (take p all) x (take m (drop q all))
-    ∙ (λ i. before i ++ (x ++ behind i))
+    ∙ (λ i. before i ++ (x ++ following i))
 
 drop_over : (all x : List ℕ) (p q n : ℕ) → length x + p ≡ q → q ≤ n → n ≤ length all → drop n (take p all ++ (x ++ drop q all)) ≡ drop n all
 drop_over all x p q n e h f =

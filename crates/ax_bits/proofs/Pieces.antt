@@ -29,14 +29,6 @@ word-joined a b m n h =
     let low : word b (m * 2 ^ b + n) ≡ word b n = ap (word b) e ∙ word-mod b m n in
     word-split a b (m * 2 ^ b + n) ∙ ap (λ k. word a k ++ word b (m * 2 ^ b + n)) (div-mul-add m (2 ^ b) n h) ∙ ap (λ k. word a m ++ k) low
 
-pub number-append : (a b : List ℕ) → number_of (a ++ b) ≡ number_of a * 2 ^ length b + number_of b
-number-append [] b = omega arith
-number-append (x ∷ a) b =
-    let ih : number_of (a ++ b) ≡ number_of a * 2 ^ length b + number_of b = number-append a b in
-    let e : x * 2 ^ length (a ++ b) ≡ x * (2 ^ length a * 2 ^ length b)
-    = ap (λ k. x * k) (ap (λ k. 2 ^ k) (length-append a b) ∙ pow-add 2 (length a) (length b)) in
-    omega arith
-
 -- a word spells its number
 pub number-word : (w n : ℕ) → n < 2 ^ w → number_of (word w n) ≡ n
 number-word zero n h = omega arith

@@ -14,7 +14,7 @@ use Rattle.ax_model.specs.Tree.{EntriesTree, no_entries}
 use Rattle.ax_text.proofs.Unique.{different}
 use Rattle.ax_text.specs.Tokens.{TextOver}
 use Rattle.ax_text.specs.ValueText.{hex_text}
-use Rattle.ax_block_reader.specs.BlockForms.{IsCategoryText, HasKnown, HasLacked, ReadShape, OpaqueShape, records_over, behind_block, behind_opaque}
+use Rattle.ax_block_reader.specs.BlockForms.{IsCategoryText, HasKnown, HasLacked, ReadShape, OpaqueShape, records_over, after_block_word, after_opaque_word}
 use Rattle.ax_block_reader.specs.BlockTexts.{IsBlockOf, block_texts, IsBlockText}
 use Rattle.ax_block_reader.specs.Continuing.{Done, Continues, Spelled, IsRead}
 use Rattle.ax_block_reader.specs.Languages.{IsContent}
@@ -63,7 +63,7 @@ text_case (Some spec) category rs h = refl
 
 module _ (catalogue : List SpecTree) where
   abbrev AreRead : Texts → Type 0
-  AreRead = Spelled (ReadShape catalogue) (behind_block catalogue)
+  AreRead = Spelled (ReadShape catalogue) (after_block_word catalogue)
 
   abbrev AreRecords : SpecTree → Texts → Type 0
   AreRecords spec = Spelled (SomeRecords spec) (braced_records_texts spec)
@@ -73,20 +73,20 @@ module _ (catalogue : List SpecTree) where
       let over : FitsOver (Some spec) (read_block category rs) = (sym (found_category category catalogue spec e), h.0, h.1) in
       record { fits = record { fits = subst (λ o. FitsOver o (read_block category rs)) (sym e) over; octets = tt }; category = lt }
 
-  behind_known : (category : ℕ) (spec : SpecTree) (rs : List EntriesTree) → spec_of category catalogue ≡ Some spec → behind_block catalogue (read_block category rs) ≡ three_digits category ∷ braced_records_texts spec rs
-  behind_known category spec rs e = ap (λ o. three_digits category ∷ records_over o rs) e
+  after_known : (category : ℕ) (spec : SpecTree) (rs : List EntriesTree) → spec_of category catalogue ≡ Some spec → after_block_word catalogue (read_block category rs) ≡ three_digits category ∷ braced_records_texts spec rs
+  after_known category spec rs e = ap (λ o. three_digits category ∷ records_over o rs) e
 
   known_f : (category : ℕ) (spec : SpecTree) → category < 256 → spec_of category catalogue ≡ Some spec → (t : Texts) → AreRecords spec t → AreRead (three_digits category ∷ t)
-  known_f category spec lt e t (rs, h, q) = (read_block category rs, read_fits category spec rs lt e h, ap (λ x. three_digits category ∷ x) q ∙ sym (behind_known category spec rs e))
+  known_f category spec lt e t (rs, h, q) = (read_block category rs, read_fits category spec rs lt e h, ap (λ x. three_digits category ∷ x) q ∙ sym (after_known category spec rs e))
 
-  read_some : (block : BlockTree) → ReadShape catalogue block → [] ≡ behind_block catalogue block → ⊥
+  read_some : (block : BlockTree) → ReadShape catalogue block → [] ≡ after_block_word catalogue block → ⊥
   read_some (read_block category rs) h e = no_text (three_digits category) _ e
   read_some (opaque_block category content) h e = h
 
   same_spec : (a b : SpecTree) → some_spec a ≡ some_spec b → a ≡ b
   same_spec a b e = cc
 
-  known_back : (category : ℕ) (spec : SpecTree) → spec_of category catalogue ≡ Some spec → (t : Texts) (block : BlockTree) → ReadShape catalogue block → three_digits category ∷ t ≡ behind_block catalogue block → AreRecords spec t
+  known_back : (category : ℕ) (spec : SpecTree) → spec_of category catalogue ≡ Some spec → (t : Texts) (block : BlockTree) → ReadShape catalogue block → three_digits category ∷ t ≡ after_block_word catalogue block → AreRecords spec t
   known_back category spec e t (opaque_block other content) h f = absurd h
   known_back category spec e t (read_block other rs) h f =
       let same : category ≡ other = same_category category other (heads (three_digits category) (three_digits other) t _ f) in
@@ -94,7 +94,7 @@ module _ (catalogue : List SpecTree) where
       let spec_same : over.0 ≡ spec = same_spec over.0 spec (sym over.1 ∙ ap (λ n. spec_of n catalogue) (sym same) ∙ e) in
       (rs, subst (λ s. SomeRecords s rs) spec_same over.2, tails (three_digits category) (three_digits other) t _ f ∙ ap (λ o. records_over o rs) over.1 ∙ ap (λ s. braced_records_texts s rs) spec_same)
 
-  -- behind the category the records come
+  -- after the category the records come
   known_read : (category : ℕ) (spec : SpecTree) (old now : Texts) → category < 256 → spec_of category catalogue ≡ Some spec → old ≡ three_digits category ∷ now → Continues AreRead (AreRecords spec) old now
   known_read category spec old now lt e h =
       word_read AreRead (AreRecords spec) (three_digits category) old now (known_f category spec lt e) (λ m. read_some m.0 m.1 m.2) (λ t m. known_back category spec e t m.0 m.1 m.2) h
@@ -103,10 +103,10 @@ module _ (catalogue : List SpecTree) where
   records_lack category spec stopped old mid new lt e h s = lacks_there AreRead (AreRecords spec) stopped old mid new (known_read category spec old mid lt e h) s
 
   pub read_is_read : (category : ℕ) (spec : SpecTree) (rs : List EntriesTree) (old mid new : Texts) → category < 256 → spec_of category catalogue ≡ Some spec → old ≡ three_digits category ∷ mid → IsRead (SomeRecords spec) (braced_records_texts spec) rs mid new
-      → IsRead (ReadShape catalogue) (behind_block catalogue) (read_block category rs) old new
+      → IsRead (ReadShape catalogue) (after_block_word catalogue) (read_block category rs) old new
   read_is_read category spec rs old mid new lt e h r = record {
     shape = read_fits category spec rs lt e r.shape;
-    split = h ∙ ap (λ t. three_digits category ∷ t) r.split ∙ ap (λ t. t ++ new) (sym (behind_known category spec rs e));
+    split = h ∙ ap (λ t. three_digits category ∷ t) r.split ∙ ap (λ t. t ++ new) (sym (after_known category spec rs e));
     whole = both_read AreRead (AreRecords spec) Done old mid new (known_read category spec old mid lt e h) r.whole;
   }
 
@@ -114,7 +114,7 @@ module _ (catalogue : List SpecTree) where
   abbrev IsKnownText : List ℕ → Type 0
   IsKnownText text = (category : ℕ) × (category < 256) × (spec : SpecTree) × (spec_of category catalogue ≡ Some spec) × (text ≡ three_digits category)
 
-  begins_known : (block : BlockTree) → ReadShape catalogue block → (text : List ℕ) × (rest : Texts) × (behind_block catalogue block ≡ text ∷ rest) × IsKnownText text
+  begins_known : (block : BlockTree) → ReadShape catalogue block → (text : List ℕ) × (rest : Texts) × (after_block_word catalogue block ≡ text ∷ rest) × IsKnownText text
   begins_known (opaque_block category content) h = absurd h
   begins_known (read_block category rs) h =
       let over = over_case (spec_of category catalogue) category rs h.fits.fits in
@@ -122,7 +122,7 @@ module _ (catalogue : List SpecTree) where
 
   known_stops : (texts : Texts) → HasKnown catalogue → IsNotFirst IsKnownText texts → StopsAt AreRead texts texts
   known_stops texts (category, lt, (spec, e)) n =
-      begin_stops AreRead IsKnownText (behind_block catalogue (read_block category (no_entries ∷ []))) texts (read_block category (no_entries ∷ []), read_fits category spec (no_entries ∷ []) lt e (records_due spec), refl)
+      begin_stops AreRead IsKnownText (after_block_word catalogue (read_block category (no_entries ∷ []))) texts (read_block category (no_entries ∷ []), read_fits category spec (no_entries ∷ []) lt e (records_due spec), refl)
       (λ t m. let x = begins_known m.0 m.1 in (x.0, x.1, m.2 ∙ x.2, x.3)) n
 
   fewer_known : (texts : Texts) → IsNotFirst IsCategoryText texts → IsNotFirst IsKnownText texts
@@ -154,7 +154,7 @@ opaque_text (Some spec) category content = refl
 
 module _ (catalogue : List SpecTree) where
   abbrev AreOpaque : Texts → Type 0
-  AreOpaque = Spelled (OpaqueShape catalogue) behind_opaque
+  AreOpaque = Spelled (OpaqueShape catalogue) after_opaque_word
 
   abbrev AreContent : Texts → Type 0
   AreContent = Spelled IsContent (λ octets. hex_text octets ∷ [])
@@ -169,11 +169,11 @@ module _ (catalogue : List SpecTree) where
   lacked_f : (category : ℕ) → category < 256 → spec_of category catalogue ≡ None → (t : Texts) → AreContent t → AreOpaque (three_digits category ∷ t)
   lacked_f category lt e t (content, h, q) = (opaque_block category content, opaque_fits category content lt e h, ap (λ x. three_digits category ∷ x) q)
 
-  opaque_some : (block : BlockTree) → OpaqueShape catalogue block → [] ≡ behind_opaque block → ⊥
+  opaque_some : (block : BlockTree) → OpaqueShape catalogue block → [] ≡ after_opaque_word block → ⊥
   opaque_some (read_block category rs) h e = h
   opaque_some (opaque_block category content) h e = no_text (three_digits category) (hex_text content ∷ []) e
 
-  lacked_back : (category : ℕ) (t : Texts) (block : BlockTree) → OpaqueShape catalogue block → three_digits category ∷ t ≡ behind_opaque block → AreContent t
+  lacked_back : (category : ℕ) (t : Texts) (block : BlockTree) → OpaqueShape catalogue block → three_digits category ∷ t ≡ after_opaque_word block → AreContent t
   lacked_back category t (read_block other rs) h f = absurd h
   lacked_back category t (opaque_block other content) h f = (content, (opaque_parts other content h).1, tails (three_digits category) (three_digits other) t (hex_text content ∷ []) f)
 
@@ -184,7 +184,7 @@ module _ (catalogue : List SpecTree) where
   content_lacks category stopped old mid new lt e h s = lacks_there AreOpaque AreContent stopped old mid new (lacked_read category old mid lt e h) s
 
   pub opaque_is_read : (category : ℕ) (content : List ℕ) (old mid new : Texts) → category < 256 → spec_of category catalogue ≡ None → old ≡ three_digits category ∷ mid → IsRead IsContent (λ octets. hex_text octets ∷ []) content mid new
-      → IsRead (OpaqueShape catalogue) behind_opaque (opaque_block category content) old new
+      → IsRead (OpaqueShape catalogue) after_opaque_word (opaque_block category content) old new
   opaque_is_read category content old mid new lt e h r = record {
     shape = opaque_fits category content lt e r.shape;
     split = h ∙ ap (λ t. three_digits category ∷ t) r.split;
@@ -195,7 +195,7 @@ module _ (catalogue : List SpecTree) where
   abbrev IsLackedText : List ℕ → Type 0
   IsLackedText text = (category : ℕ) × (category < 256) × (spec_of category catalogue ≡ None) × (text ≡ three_digits category)
 
-  begins_lacked : (block : BlockTree) → OpaqueShape catalogue block → (text : List ℕ) × (rest : Texts) × (behind_opaque block ≡ text ∷ rest) × IsLackedText text
+  begins_lacked : (block : BlockTree) → OpaqueShape catalogue block → (text : List ℕ) × (rest : Texts) × (after_opaque_word block ≡ text ∷ rest) × IsLackedText text
   begins_lacked (read_block category rs) h = absurd h
   begins_lacked (opaque_block category content) h = (three_digits category, hex_text content ∷ [], refl, (category, h.category, (opaque_parts category content h).0, refl))
 
@@ -234,18 +234,18 @@ module _ (catalogue : List SpecTree) where
   abbrev AreBlock : Texts → Type 0
   AreBlock = IsBlockText catalogue
 
-  read_f : (t : Texts) (block : BlockTree) → ReadShape catalogue block → t ≡ behind_block catalogue block → AreBlock (codes "block" ∷ t)
+  read_f : (t : Texts) (block : BlockTree) → ReadShape catalogue block → t ≡ after_block_word catalogue block → AreBlock (codes "block" ∷ t)
   read_f t (opaque_block category content) h e = absurd h
   read_f t (read_block category rs) h e = (read_block category rs, h, ap (λ x. codes "block" ∷ x) e ∙ sym (text_case (spec_of category catalogue) category rs h.fits.fits))
 
-  opaque_f : (t : Texts) (block : BlockTree) → OpaqueShape catalogue block → t ≡ behind_opaque block → AreBlock (codes "opaque" ∷ t)
+  opaque_f : (t : Texts) (block : BlockTree) → OpaqueShape catalogue block → t ≡ after_opaque_word block → AreBlock (codes "opaque" ∷ t)
   opaque_f t (read_block category rs) h e = absurd h
   opaque_f t (opaque_block category content) h e = (opaque_block category content, h, ap (λ x. codes "opaque" ∷ x) e ∙ sym (opaque_text (spec_of category catalogue) category content))
 
   -- a block's text is of one of the two forms
   forms : (t : Texts) (block : BlockTree) → IsBlockOf catalogue block → t ≡ block_texts catalogue block → ((rest : Texts) × (t ≡ codes "block" ∷ rest) × AreRead catalogue rest) ⊎ ((rest : Texts) × (t ≡ codes "opaque" ∷ rest) × AreOpaque catalogue rest)
-  forms t (read_block category rs) h e = inl (behind_block catalogue (read_block category rs), e ∙ text_case (spec_of category catalogue) category rs h.fits.fits, (read_block category rs, h, refl))
-  forms t (opaque_block category content) h e = inr (behind_opaque (opaque_block category content), e ∙ opaque_text (spec_of category catalogue) category content, (opaque_block category content, h, refl))
+  forms t (read_block category rs) h e = inl (after_block_word catalogue (read_block category rs), e ∙ text_case (spec_of category catalogue) category rs h.fits.fits, (read_block category rs, h, refl))
+  forms t (opaque_block category content) h e = inr (after_opaque_word (opaque_block category content), e ∙ opaque_text (spec_of category catalogue) category content, (opaque_block category content, h, refl))
 
   abbrev Forms : Texts → Type 0
   Forms t = ((rest : Texts) × (t ≡ codes "block" ∷ rest) × AreRead catalogue rest) ⊎ ((rest : Texts) × (t ≡ codes "opaque" ∷ rest) × AreOpaque catalogue rest)
@@ -274,15 +274,15 @@ module _ (catalogue : List SpecTree) where
   pub opaque_lacks : (stopped : Stopped) (old mid new : Texts) → old ≡ codes "opaque" ∷ mid → Stops stopped (AreOpaque catalogue) mid new → Stops stopped AreBlock old new
   opaque_lacks stopped old mid new e s = lacks_there AreBlock (AreOpaque catalogue) stopped old mid new (opaque_read old mid e) s
 
-  shaped : (block : BlockTree) → ReadShape catalogue block → IsBlockOf catalogue block × (block_texts catalogue block ≡ codes "block" ∷ behind_block catalogue block)
+  shaped : (block : BlockTree) → ReadShape catalogue block → IsBlockOf catalogue block × (block_texts catalogue block ≡ codes "block" ∷ after_block_word catalogue block)
   shaped (opaque_block category content) h = absurd h
   shaped (read_block category rs) h = (h, text_case (spec_of category catalogue) category rs h.fits.fits)
 
-  shaped_opaque : (block : BlockTree) → OpaqueShape catalogue block → IsBlockOf catalogue block × (block_texts catalogue block ≡ codes "opaque" ∷ behind_opaque block)
+  shaped_opaque : (block : BlockTree) → OpaqueShape catalogue block → IsBlockOf catalogue block × (block_texts catalogue block ≡ codes "opaque" ∷ after_opaque_word block)
   shaped_opaque (read_block category rs) h = absurd h
   shaped_opaque (opaque_block category content) h = (h, opaque_text (spec_of category catalogue) category content)
 
-  pub block_of_records : (block : BlockTree) (old mid new : Texts) → old ≡ codes "block" ∷ mid → IsRead (ReadShape catalogue) (behind_block catalogue) block mid new → IsRead (IsBlockOf catalogue) (block_texts catalogue) block old new
+  pub block_of_records : (block : BlockTree) (old mid new : Texts) → old ≡ codes "block" ∷ mid → IsRead (ReadShape catalogue) (after_block_word catalogue) block mid new → IsRead (IsBlockOf catalogue) (block_texts catalogue) block old new
   block_of_records block old mid new e r =
       let x = shaped block r.shape in
       record {
@@ -291,7 +291,7 @@ module _ (catalogue : List SpecTree) where
         whole = both_read AreBlock (AreRead catalogue) Done old mid new (block_read old mid e) r.whole;
       }
 
-  pub block_of_octets : (block : BlockTree) (old mid new : Texts) → old ≡ codes "opaque" ∷ mid → IsRead (OpaqueShape catalogue) behind_opaque block mid new → IsRead (IsBlockOf catalogue) (block_texts catalogue) block old new
+  pub block_of_octets : (block : BlockTree) (old mid new : Texts) → old ≡ codes "opaque" ∷ mid → IsRead (OpaqueShape catalogue) after_opaque_word block mid new → IsRead (IsBlockOf catalogue) (block_texts catalogue) block old new
   block_of_octets block old mid new e r =
       let x = shaped_opaque block r.shape in
       record {

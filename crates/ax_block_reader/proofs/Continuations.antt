@@ -18,9 +18,9 @@ no_text a x e = cc
 
 -- ---- texts that begin alike
 
-alike_behind : (front now y : Texts) → BeginAlike now y → BeginAlike (front ++ now) (front ++ y)
-alike_behind [] now y h = h
-alike_behind (text ∷ front) now y h = (front ++ y, refl)
+alike_following : (front now y : Texts) → BeginAlike now y → BeginAlike (front ++ now) (front ++ y)
+alike_following [] now y h = h
+alike_following (text ∷ front) now y h = (front ++ y, refl)
 
 alike_stop : (front new more : Texts) → BeginAlike (front ++ new) (front ++ first_with new more)
 alike_stop [] [] more = refl
@@ -34,19 +34,19 @@ none_read L old now e = record {
   front = [];
   split = sym e;
   member = λ rest m. m;
-  behind = λ member x y al l h. (member, refl, l);
+  following = λ member x y al l h. (member, refl, l);
 }
 
 pub none_front : (L : Texts → Type 0) (old now : Texts) (e : now ≡ old) → (none_read L old now e).front ≡ []
 unfolding none_read
 none_front L old now e = refl
 
-both_behind : (L M N : Texts → Type 0) (a b old mid now : Texts) → mid ≡ b ++ now
+both_after : (L M N : Texts → Type 0) (a b old mid now : Texts) → mid ≡ b ++ now
     → ((member x y : Texts) → BeginAlike mid y → L member → member ++ x ≡ a ++ y → (rest : Texts) × (member ≡ a ++ rest) × M rest)
     → ((member x y : Texts) → BeginAlike now y → M member → member ++ x ≡ b ++ y → (rest : Texts) × (member ≡ b ++ rest) × N rest)
     → (member x y : Texts) → BeginAlike now y → L member → member ++ x ≡ (a ++ b) ++ y → (rest : Texts) × (member ≡ (a ++ b) ++ rest) × N rest
-both_behind L M N a b old mid now split f g member x y al l h =
-    let one = f member x (b ++ y) (subst (λ t. BeginAlike t (b ++ y)) (sym split) (alike_behind b now y al)) l (h ∙ append_assoc a b y) in
+both_after L M N a b old mid now split f g member x y al l h =
+    let one = f member x (b ++ y) (subst (λ t. BeginAlike t (b ++ y)) (sym split) (alike_following b now y al)) l (h ∙ append_assoc a b y) in
     let more : one.0 ++ x ≡ b ++ y = append_cancel_left a (one.0 ++ x) (b ++ y) (sym (append_assoc a one.0 x) ∙ sym (ap (λ t. t ++ x) one.1) ∙ h ∙ append_assoc a b y) in
     let two = g one.0 x y al one.2 more in
     (two.0, one.1 ∙ ap (λ t. a ++ t) two.1 ∙ sym (append_assoc a b two.0), two.2)
@@ -56,7 +56,7 @@ both_read L M N old mid now c d = record {
   front = c.front ++ d.front;
   split = c.split ∙ ap (λ t. c.front ++ t) d.split ∙ sym (append_assoc c.front d.front now);
   member = λ rest n. subst L (sym (append_assoc c.front d.front rest)) (c.member (d.front ++ rest) (d.member rest n));
-  behind = both_behind L M N c.front d.front old mid now d.split c.behind d.behind;
+  following = both_after L M N c.front d.front old mid now d.split c.following d.following;
 }
 
 pub both_front : (L M N : Texts → Type 0) (old mid now : Texts) (c : Continues L M old mid) (d : Continues M N mid now) → (both_read L M N old mid now c d).front ≡ c.front ++ d.front
@@ -70,10 +70,10 @@ stops_there L M old mid new c s = record {
   split = c.split ∙ ap (λ t. c.front ++ t) s.split ∙ sym (append_assoc c.front s.front new);
   rest = s.rest;
   begins = subst L (sym (append_assoc c.front s.front s.rest)) (c.member (s.front ++ s.rest) s.begins);
-  refuses = λ member behind more l h.
-      let e : member ++ behind ≡ c.front ++ (s.front ++ first_with new more) = h ∙ append_assoc c.front s.front (first_with new more) in
-      let one = c.behind member behind (s.front ++ first_with new more) (subst (λ t. BeginAlike t (s.front ++ first_with new more)) (sym s.split) (alike_stop s.front new more)) l e in
-      s.refuses one.0 behind more one.2 (append_cancel_left c.front (one.0 ++ behind) (s.front ++ first_with new more) (sym (append_assoc c.front one.0 behind) ∙ sym (ap (λ t. t ++ behind) one.1) ∙ e));
+  refuses = λ member following more l h.
+      let e : member ++ following ≡ c.front ++ (s.front ++ first_with new more) = h ∙ append_assoc c.front s.front (first_with new more) in
+      let one = c.following member following (s.front ++ first_with new more) (subst (λ t. BeginAlike t (s.front ++ first_with new more)) (sym s.split) (alike_stop s.front new more)) l e in
+      s.refuses one.0 following more one.2 (append_cancel_left c.front (one.0 ++ following) (s.front ++ first_with new more) (sym (append_assoc c.front one.0 following) ∙ sym (ap (λ t. t ++ following) one.1) ∙ e));
 }
 
 pub lacks_there : (L M : Texts → Type 0) (stopped : Stopped) (old mid new : Texts) → Continues L M old mid → Stops stopped M mid new → Stops stopped L old new
@@ -86,18 +86,18 @@ same_read L M old now f g e = record {
   front = [];
   split = sym e;
   member = f;
-  behind = λ member x y al l h. (member, refl, g member l);
+  following = λ member x y al l h. (member, refl, g member l);
 }
 
 pub same_front : (L M : Texts → Type 0) (old now : Texts) (f : (t : Texts) → M t → L t) (g : (t : Texts) → L t → M t) (e : now ≡ old) → (same_read L M old now f g e).front ≡ []
 unfolding same_read
 same_front L M old now f g e = refl
 
--- ---- a word, and what stands behind it
+-- ---- a word, and what stands after it
 
-word_behind : (L M : Texts → Type 0) (word : List ℕ) → (L [] → ⊥) → ((t : Texts) → L (word ∷ t) → M t) → (member x y : Texts) → L member → member ++ x ≡ word ∷ y → (rest : Texts) × (member ≡ word ∷ rest) × M rest
-word_behind L M word n g [] x y l h = absurd (n l)
-word_behind L M word n g (first ∷ member) x y l h =
+word_after : (L M : Texts → Type 0) (word : List ℕ) → (L [] → ⊥) → ((t : Texts) → L (word ∷ t) → M t) → (member x y : Texts) → L member → member ++ x ≡ word ∷ y → (rest : Texts) × (member ≡ word ∷ rest) × M rest
+word_after L M word n g [] x y l h = absurd (n l)
+word_after L M word n g (first ∷ member) x y l h =
     let same : first ≡ word = heads first word (member ++ x) y h in
     (member, ap (λ w. w ∷ member) same, g member (subst (λ w. L (w ∷ member)) same l))
 
@@ -106,7 +106,7 @@ word_read L M word old now f n g e = record {
   front = word ∷ [];
   split = e;
   member = f;
-  behind = λ member x y al l h. word_behind L M word n g member x y l h;
+  following = λ member x y al l h. word_after L M word n g member x y l h;
 }
 
 pub word_front : (L M : Texts → Type 0) (word : List ℕ) (old now : Texts) (f : (t : Texts) → M t → L (word ∷ t)) (n : L [] → ⊥) (g : (t : Texts) → L (word ∷ t) → M t) (e : old ≡ word ∷ now) → (word_read L M word old now f n g e).front ≡ word ∷ []
@@ -133,9 +133,9 @@ prefix_read word M L old now p e =
 
 -- ---- one language after another
 
-then_behind : (L M : Texts → Type 0) (front now : Texts) → ((member x y : Texts) → BeginAlike now y → L member → member ++ x ≡ front ++ y → (rest : Texts) × (member ≡ front ++ rest) × Done rest)
+then_after : (L M : Texts → Type 0) (front now : Texts) → ((member x y : Texts) → BeginAlike now y → L member → member ++ x ≡ front ++ y → (rest : Texts) × (member ≡ front ++ rest) × Done rest)
     → (member x y : Texts) → BeginAlike now y → Then L M member → member ++ x ≡ front ++ y → (rest : Texts) × (member ≡ front ++ rest) × M rest
-then_behind L M front now f member x y al (a, b, e, l, m) h =
+then_after L M front now f member x y al (a, b, e, l, m) h =
     let one = f a (b ++ x) y al l (sym (append_assoc a b x) ∙ sym (ap (λ t. t ++ x) e) ∙ h) in
     (b, e ∙ ap (λ t. t ++ b) (one.1 ∙ ap (λ t. front ++ t) one.2 ∙ append-nil front), m)
 
@@ -144,7 +144,7 @@ then_read L M old now c = record {
   front = c.front;
   split = c.split;
   member = λ rest m. (c.front ++ [], rest, ap (λ t. t ++ rest) (sym (append-nil c.front)), c.member [] refl, m);
-  behind = then_behind L M c.front now c.behind;
+  following = then_after L M c.front now c.following;
 }
 
 pub then_front : (L M : Texts → Type 0) (old now : Texts) (c : Continues L Done old now) → (then_read L M old now c).front ≡ c.front
@@ -163,7 +163,7 @@ skip_read L M word old now f g n same = record {
   front = [];
   split = sym same;
   member = f;
-  behind = λ member x y al m h. (member, refl, skip_case L word old member x y n (subst (λ t. BeginAlike t y) same al) h (g member m));
+  following = λ member x y al m h. (member, refl, skip_case L word old member x y n (subst (λ t. BeginAlike t y) same al) h (g member m));
 }
 
 pub skip_front : (L M : Texts → Type 0) (word : List ℕ) (old now : Texts) (f : (t : Texts) → L t → M t) (g : (t : Texts) → M t → BeginsWith word t ⊎ L t) (n : IsNotFirst (λ w. w ≡ word) old) (e : now ≡ old) → (skip_read L M word old now f g n e).front ≡ []
@@ -172,9 +172,9 @@ skip_front L M word old now f g n e = refl
 
 -- ---- where a word comes
 
-first_behind : (L M : Texts → Type 0) (word : List ℕ) (rest : Texts) → (L [] → ⊥) → ((t : Texts) → L (word ∷ t) → M (word ∷ t)) → (member x y : Texts) → BeginAlike (word ∷ rest) y → L member → member ++ x ≡ y → M member
-first_behind L M word rest n g [] x y al l h = absurd (n l)
-first_behind L M word rest n g (first ∷ member) x y al l h =
+first_after : (L M : Texts → Type 0) (word : List ℕ) (rest : Texts) → (L [] → ⊥) → ((t : Texts) → L (word ∷ t) → M (word ∷ t)) → (member x y : Texts) → BeginAlike (word ∷ rest) y → L member → member ++ x ≡ y → M member
+first_after L M word rest n g [] x y al l h = absurd (n l)
+first_after L M word rest n g (first ∷ member) x y al l h =
     let same : first ≡ word = heads first word (member ++ x) al.0 (h ∙ al.1) in
     subst (λ w. M (w ∷ member)) (sym same) (g member (subst (λ w. L (w ∷ member)) same l))
 
@@ -184,7 +184,7 @@ first_read L M word rest old now f n g e same = record {
   front = [];
   split = sym same;
   member = f;
-  behind = λ member x y al l h. (member, refl, first_behind L M word rest n g member x y (subst (λ t. BeginAlike t y) (same ∙ e) al) l h);
+  following = λ member x y al l h. (member, refl, first_after L M word rest n g member x y (subst (λ t. BeginAlike t y) (same ∙ e) al) l h);
 }
 
 pub first_front : (L M : Texts → Type 0) (word : List ℕ) (rest old now : Texts) (f : (t : Texts) → M t → L t) (n : L [] → ⊥) (g : (t : Texts) → L (word ∷ t) → M (word ∷ t)) (e : old ≡ word ∷ rest) (same : now ≡ old) → (first_read L M word rest old now f n g e same).front ≡ []
@@ -194,9 +194,9 @@ first_front L M word rest old now f n g e same = refl
 -- ---- the first text of a member
 
 begin_refuses : (L : Texts → Type 0) (Passes : List ℕ → Type 0) → ((t : Texts) → L t → (text : List ℕ) × (rest : Texts) × (t ≡ text ∷ rest) × Passes text) → (texts : Texts) → IsNotFirst Passes texts
-    → (member behind more : Texts) → L member → member ++ behind ≡ first_with texts more → ⊥
-begin_refuses L Passes g [] n member behind more l h = let x = g member l in no_text x.0 (x.1 ++ behind) (sym h ∙ ap (λ t. t ++ behind) x.2)
-begin_refuses L Passes g (text ∷ after) n member behind more l h = let x = g member l in n (subst Passes (sym (heads text x.0 more (x.1 ++ behind) (sym h ∙ ap (λ t. t ++ behind) x.2))) x.3)
+    → (member following more : Texts) → L member → member ++ following ≡ first_with texts more → ⊥
+begin_refuses L Passes g [] n member following more l h = let x = g member l in no_text x.0 (x.1 ++ following) (sym h ∙ ap (λ t. t ++ following) x.2)
+begin_refuses L Passes g (text ∷ after) n member following more l h = let x = g member l in n (subst Passes (sym (heads text x.0 more (x.1 ++ following) (sym h ∙ ap (λ t. t ++ following) x.2))) x.3)
 
 -- the next text begins no member, or there is none
 pub begin_stops : (L : Texts → Type 0) (Passes : List ℕ → Type 0) (due texts : Texts) → L due → ((t : Texts) → L t → (text : List ℕ) × (rest : Texts) × (t ≡ text ∷ rest) × Passes text) → IsNotFirst Passes texts → StopsAt L texts texts

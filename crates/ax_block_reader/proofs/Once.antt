@@ -4,7 +4,7 @@ use Rattle.std.specs.List.{AllByRecursion}
 use Rattle.ax_model.specs.Blocks.{BlockTree, read_block, opaque_block}
 use Rattle.ax_model.specs.CanonicalOctets.{category_of}
 use Rattle.ax_model.specs.Flaws.{NoFlaw}
-use Rattle.ax_model.specs.Lengths.{held}
+use Rattle.ax_model.specs.Lengths.{capped}
 use Rattle.ax_model.specs.Specification.{SpecTree, spec_of}
 use Rattle.ax_token_reader.specs.Stopping.{Texts, texts_of}
 use Rattle.ax_token_reader.proofs.Bad.{first_bad_once}
@@ -49,7 +49,7 @@ is_text : (catalogue : List SpecTree) (tokens : List PlainToken) (block : BlockT
 is_text catalogue tokens block s = (block, s.of_catalogue, s.texts)
 
 long_same : (catalogue : List SpecTree) (tokens : List PlainToken) (n m : ℕ) → AllGood catalogue → IsLongText catalogue tokens n → IsLongText catalogue tokens m → n ≡ m
-long_same catalogue tokens n m g a b = a.number ∙ ap (λ block. held (canonical_length catalogue block)) (same_spelled catalogue tokens a.block b.block g a.spells b.spells) ∙ sym b.number
+long_same catalogue tokens n m g a b = a.number ∙ ap (λ block. capped (canonical_length catalogue block)) (same_spelled catalogue tokens a.block b.block g a.spells b.spells) ∙ sym b.number
 
 abbrev Same : TextError → TextError → Type 0
 Same a b = (a ≡ b) ⊎ ((a ≡ OutOfMemory) ⊎ (b ≡ OutOfMemory))

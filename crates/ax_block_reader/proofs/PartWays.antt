@@ -54,13 +54,13 @@ word_way p stopped old new s =
     let d = members_due_texts p in
     prefix_lacks part_word (AreBraced p) (ArePart p) (opening ∷ d.0) stopped old new (part_prefixed p) (d.1.0, d.1.1, ap (λ x. opening ∷ x) d.1.2) s
 
-pub behind_way : (p : MembersTree) (stopped : Stopped) (old mid new : Texts) → old ≡ (part_word ∷ []) ++ mid → Stops stopped (AreBraced p) mid new → Stops stopped (ArePart p) old new
-behind_way p stopped old mid new e s = lacks_there (ArePart p) (AreBraced p) stopped old mid new (prefix_read part_word (AreBraced p) (ArePart p) old mid (part_prefixed p) e) s
+pub after_way : (p : MembersTree) (stopped : Stopped) (old mid new : Texts) → old ≡ (part_word ∷ []) ++ mid → Stops stopped (AreBraced p) mid new → Stops stopped (ArePart p) old new
+after_way p stopped old mid new e s = lacks_there (ArePart p) (AreBraced p) stopped old mid new (prefix_read part_word (AreBraced p) (ArePart p) old mid (part_prefixed p) e) s
 
 pub part_read : (p : MembersTree) (vs : ValuesTree) (old mid new : Texts) → old ≡ (part_word ∷ []) ++ mid → IsRead (MembersShape p) (braced_texts p) vs mid new → IsRead (MembersShape p) (part_texts p) vs old new
 part_read p vs old mid new e r = prefix_is_read part_word (MembersShape p) (part_texts p) (MembersShape p) (braced_texts p) vs vs old mid new (part_prefixed p) r.shape refl e r
 
-pub ruleset part_ways = (word_way, behind_way, part_read)
+pub ruleset part_ways = (word_way, after_way, part_read)
 
 -- ---- lists in front of others
 

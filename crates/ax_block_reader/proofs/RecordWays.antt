@@ -148,11 +148,11 @@ word_way spec stopped old new s =
     let d = entries_due 1 (record_slots spec) in
     prefix_lacks (codes "record") (AreBraced spec) (AreRecord spec) (opening ∷ closing ∷ []) stopped old new (record_prefixed spec) (d.0, d.1, ap (λ x. opening ∷ x) d.2) s
 
-pub behind_way : (spec : SpecTree) (stopped : Stopped) (old mid new : Texts) → old ≡ (codes "record" ∷ []) ++ mid → Stops stopped (AreBraced spec) mid new → Stops stopped (AreRecord spec) old new
-behind_way spec stopped old mid new e s = lacks_there (AreRecord spec) (AreBraced spec) stopped old mid new (prefix_read (codes "record") (AreBraced spec) (AreRecord spec) old mid (record_prefixed spec) e) s
+pub after_way : (spec : SpecTree) (stopped : Stopped) (old mid new : Texts) → old ≡ (codes "record" ∷ []) ++ mid → Stops stopped (AreBraced spec) mid new → Stops stopped (AreRecord spec) old new
+after_way spec stopped old mid new e s = lacks_there (AreRecord spec) (AreBraced spec) stopped old mid new (prefix_read (codes "record") (AreBraced spec) (AreRecord spec) old mid (record_prefixed spec) e) s
 
 pub record_is_read : (spec : SpecTree) (es : EntriesTree) (old mid new : Texts) → old ≡ (codes "record" ∷ []) ++ mid → IsRead (EntriesShape 1 (record_slots spec)) (braced_entries_texts spec) es mid new → IsRead (RecordShape spec) (record_texts spec) es old new
 record_is_read spec es old mid new e r =
     prefix_is_read (codes "record") (RecordShape spec) (record_texts spec) (EntriesShape 1 (record_slots spec)) (braced_entries_texts spec) es es old mid new (record_prefixed spec) (record { shape = r.shape }) refl e r
 
-pub ruleset record_ways = (word_way, behind_way, record_is_read)
+pub ruleset record_ways = (word_way, after_way, record_is_read)

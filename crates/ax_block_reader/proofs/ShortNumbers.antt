@@ -20,7 +20,7 @@ abbrev pub led : ℕ → List ℕ → List ℕ
 led digit octets = (48 + digit) ∷ octets
 
 -- a number above 0 is written by the text up to the octet of that number among at most 18 after the first one
-pub record Read (digit : ℕ) (octets : List ℕ) (i number : ℕ) : Type 0 where
+pub record DigitsRead (digit : ℕ) (octets : List ℕ) (i number : ℕ) : Type 0 where
   pub split : led digit octets ≡ decimal number ++ drop i octets
   pub some : 0 < number
   pub few : length octets ≤ 18
@@ -28,9 +28,9 @@ pub record Read (digit : ℕ) (octets : List ℕ) (i number : ℕ) : Type 0 wher
 
 -- ---- octets that are no digit
 
-digits_behind : (front : List ℕ) (c : ℕ) (rest : List ℕ) → AllDigits 10 (front ++ c ∷ rest) → digit_value c < 10
-digits_behind [] c rest h = h.0
-digits_behind (x ∷ front) c rest h = digits_behind front c rest h.1
+digits_after : (front : List ℕ) (c : ℕ) (rest : List ℕ) → AllDigits 10 (front ++ c ∷ rest) → digit_value c < 10
+digits_after [] c rest h = h.0
+digits_after (x ∷ front) c rest h = digits_after front c rest h.1
 
 no_digit : (c : ℕ) → IsNoDigit c → digit_value c < 10 → ⊥
 no_digit c (inl lt) h = let r = digit_from_value c h in omega (arith, r, lt)
@@ -38,7 +38,7 @@ no_digit c (inr lt) h = let r = digit_from_value c h in omega (arith, r, lt)
 
 stopped : (text front : List ℕ) (c : ℕ) (rest : List ℕ) → text ≡ front ++ c ∷ rest → IsNoDigit c → IsNoNumber text
 stopped text front c rest split h n lt e =
-    no_digit c h (digits_behind front c rest (subst (AllDigits 10) (sym e ∙ split) (decimal_is_IsNumeral_wide n (wide n lt)).0.1))
+    no_digit c h (digits_after front c rest (subst (AllDigits 10) (sym e ∙ split) (decimal_is_IsNumeral_wide n (wide n lt)).0.1))
 
 pub no_octet : (text : List ℕ) → length text ≡ 0 → IsNoNumber text
 no_octet text none n lt e =
@@ -51,7 +51,7 @@ no_first text c rest split = stopped text [] c rest split
 next : (octets : List ℕ) (i c : ℕ) → i < length octets → c ≡ get_or octets i 0 → drop i octets ≡ c ∷ drop (i + 1) octets
 next octets i c lt is = drop_more octets i 0 lt ∙ ap (λ x. x ∷ drop (i + 1) octets) (sym is)
 
-pub no_later : (digit : ℕ) (octets : List ℕ) (i m c : ℕ) → Read digit octets i m → i < length octets → c ≡ get_or octets i 0 → IsNoDigit c → IsNoNumber (led digit octets)
+pub no_later : (digit : ℕ) (octets : List ℕ) (i m c : ℕ) → DigitsRead digit octets i m → i < length octets → c ≡ get_or octets i 0 → IsNoDigit c → IsNoNumber (led digit octets)
 no_later digit octets i m c r lt is = stopped _ (decimal m) c _ (r.split ∙ ap (λ l. decimal m ++ l) (next octets i c lt is))
 
 -- ---- zeros in front
@@ -73,7 +73,7 @@ zero_led text c d rest split is z some n lt e = zero_alone c rest (omega (arith,
 
 -- ---- digits
 
-pub first_read : (digit : ℕ) (octets : List ℕ) → 0 < digit → digit < 10 → length octets ≤ 18 → Read digit octets 0 digit
+pub first_read : (digit : ℕ) (octets : List ℕ) → 0 < digit → digit < 10 → length octets ≤ 18 → DigitsRead digit octets 0 digit
 first_read digit octets some lt few = record {
   split = ap (λ l. l ++ octets) (sym (decimal_digit digit lt));
   some = some;
@@ -90,13 +90,13 @@ decimal_more m d some lt small =
 tenfold : (m d j : ℕ) → d < 10 → m < 10 ^ (j + 1) → 10 * m + d < 10 ^ (j + 1 + 1)
 tenfold m d j lt below = let more = pow_more 10 (j + 1) in omega (arith, lt, below, more)
 
-pub bound : (digit : ℕ) (octets : List ℕ) (i m : ℕ) → Read digit octets i m → i < length octets → m < 10 ^ 18
+pub bound : (digit : ℕ) (octets : List ℕ) (i m : ℕ) → DigitsRead digit octets i m → i < length octets → m < 10 ^ 18
 bound digit octets i m r lt =
     let fewer : i + 1 ≤ 18 = omega (arith, lt, r.few) in
     let high : 10 ^ (i + 1) ≤ 10 ^ 18 = pow-le-pow_right (lit< tt) fewer in
     omega (arith, r.below, high)
 
-pub next_read : (digit : ℕ) (octets : List ℕ) (i m c d : ℕ) → Read digit octets i m → i < length octets → c ≡ get_or octets i 0 → c ≡ 48 + d → d < 10 → Read digit octets (i + 1) (10 * m + d)
+pub next_read : (digit : ℕ) (octets : List ℕ) (i m c d : ℕ) → DigitsRead digit octets i m → i < length octets → c ≡ get_or octets i 0 → c ≡ 48 + d → d < 10 → DigitsRead digit octets (i + 1) (10 * m + d)
 next_read digit octets i m c d r lt is of below =
     let few = bound digit octets i m r lt in
     let more : decimal (10 * m + d) ≡ decimal m ++ (48 + d) ∷ [] = decimal_more m d r.some below (omega (arith, few, below)) in
@@ -108,7 +108,7 @@ next_read digit octets i m c d r lt is of below =
       below = tenfold m d i below r.below;
     }
 
-pub all_read : (digit : ℕ) (octets : List ℕ) (i m : ℕ) → Read digit octets i m → i ≡ length octets → led digit octets ≡ decimal m
+pub all_read : (digit : ℕ) (octets : List ℕ) (i m : ℕ) → DigitsRead digit octets i m → i ≡ length octets → led digit octets ≡ decimal m
 all_read digit octets i m r e = r.split ∙ ap (λ l. decimal m ++ l) (drop_all i octets (omega (arith, e))) ∙ append-nil (decimal m)
 
 pub ruleset digits = (no_later, first_read, next_read, all_read, bound)

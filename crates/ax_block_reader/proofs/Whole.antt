@@ -8,7 +8,7 @@ use Rattle.ax_token_reader.specs.Stopping.{Texts, StopsAt, texts_of}
 use Rattle.ax_token_reader.proofs.Bad.{stops_bad}
 use Rattle.ax_model.specs.Blocks.{BlockTree, read_block, opaque_block, Fits}
 use Rattle.ax_model.specs.CanonicalOctets.{framed, canon_over}
-use Rattle.ax_model.specs.Lengths.{held}
+use Rattle.ax_model.specs.Lengths.{capped}
 use Rattle.ax_model.specs.OfCode.{BlockFits, block_length}
 use Rattle.ax_model.specs.Plain.{spec_tree, records_tree, block_tree}
 use Rattle.ax_model.specs.Specification.{SpecTree, spec_of}
@@ -22,7 +22,7 @@ use Rattle.ax_block_reader.specs.BlockTexts.{IsBlockOf, block_texts, IsBlockText
 use Rattle.ax_block_reader.specs.Continuing.{Done, Continues, IsRead}
 use Rattle.ax_block_reader.proofs.Continuations.{no_text}
 
--- ---- texts behind a whole block
+-- ---- texts after a whole block
 
 take_one_more : (front : Texts) (text : List ℕ) (after more : Texts) → take (length front + 1) (front ++ text ∷ after) ++ more ≡ front ++ text ∷ more
 take_one_more front text after more =
@@ -30,17 +30,17 @@ take_one_more front text after more =
 
 -- a longer member than the front there is none
 no_longer : (L : Texts → Type 0) (old front after : Texts) (text : List ℕ) (more : Texts) → ((member x y : Texts) → (z : Texts) × (y ≡ text ∷ z) → L member → member ++ x ≡ front ++ y → (rest : Texts) × (member ≡ front ++ rest) × Done rest) → L (front ++ text ∷ more) → ⊥
-no_longer L old front after text more behind l =
-    let x = behind (front ++ text ∷ more) [] (text ∷ more) (more, refl) l (append-nil (front ++ text ∷ more)) in
+no_longer L old front after text more following l =
+    let x = following (front ++ text ∷ more) [] (text ∷ more) (more, refl) l (append-nil (front ++ text ∷ more)) in
     no_text text more (sym x.2 ∙ sym (append_cancel_left front (text ∷ more) x.0 x.1))
 
 trailing : (L : Texts → Type 0) (front after : Texts) (text : List ℕ) → L front → ((member x y : Texts) → (z : Texts) × (y ≡ text ∷ z) → L member → member ++ x ≡ front ++ y → (rest : Texts) × (member ≡ front ++ rest) × Done rest) → FirstBad L (front ++ text ∷ after) (length front)
-trailing L front after text l behind = record {
-  no_member = no_longer L (front ++ text ∷ after) front after text after behind;
+trailing L front after text l following = record {
+  no_member = no_longer L (front ++ text ∷ after) front after text after following;
   within = omega (arith, length-append front (text ∷ after));
   rest = [];
   begins = subst L (sym (ap (λ t. t ++ []) (take_at front (text ∷ after) (length front) refl) ∙ append-nil front)) l;
-  refuses = λ lt more h. no_longer L (front ++ text ∷ after) front after text more behind (subst L (take_one_more front text after more) h);
+  refuses = λ lt more h. no_longer L (front ++ text ∷ after) front after text more following (subst L (take_one_more front text after more) h);
 }
 
 trailing_case : (L : Texts → Type 0) (old new : Texts) (c : Continues L Done old new) → 0 < length new → FirstBad L old (length old - length new)
@@ -48,7 +48,7 @@ trailing_case L old [] c lt = absurd (omega (arith, lt))
 trailing_case L old (text ∷ after) c lt =
     let member : L c.front = subst L (append-nil c.front) (c.member [] refl) in
     let at : length old - length (text ∷ after) ≡ length c.front = omega (arith, ap length c.split, length-append c.front (text ∷ after)) in
-    subst (λ n. FirstBad L old n) (sym at) (subst (λ t. FirstBad L t (length c.front)) (sym c.split) (trailing L c.front after text member (λ m x y al l h. c.behind m x y al l h)))
+    subst (λ n. FirstBad L old n) (sym at) (subst (λ t. FirstBad L t (length c.front)) (sym c.split) (trailing L c.front after text member (λ m x y al l h. c.following m x y al l h)))
 
 -- ---- the tokens
 
@@ -84,18 +84,18 @@ opaque_case : (o : Option SpecTree) (category : ℕ) (content : List ℕ) → ca
 opaque_case None category content = refl
 opaque_case (Some spec) category content = refl
 
-pub opaque_length : (catalogue : List SpecTree) (block : Block) (category : ℕ) (content : List ℕ) (n : ℕ) → block ≡ BlockOf.Opaque category content → length content < 4294967296 → n ≡ length content + 3 → n ≡ held (canonical_length catalogue (block_tree block))
+pub opaque_length : (catalogue : List SpecTree) (block : Block) (category : ℕ) (content : List ℕ) (n : ℕ) → block ≡ BlockOf.Opaque category content → length content < 4294967296 → n ≡ length content + 3 → n ≡ capped (canonical_length catalogue (block_tree block))
 opaque_length catalogue block category content n e small h =
-    subst (λ b. n ≡ held (canonical_length catalogue (block_tree b))) (sym e)
+    subst (λ b. n ≡ capped (canonical_length catalogue (block_tree b))) (sym e)
     (let same : canonical_length catalogue (opaque_block category content) ≡ length content + 3 = ap length (opaque_case (spec_of category catalogue) category content) ∙ framed_length category content in omega (arith, h, same, small))
 
 none_case : (o : Option SpecTree) (category : ℕ) (records : List EntriesTree) → o ≡ None → length (canon_over o (read_block category records)) ≡ 3
 none_case None category records e = framed_length category []
 none_case (Some spec) category records e = absurd cc
 
-pub none_length : (catalogue : List SpecTree) (block : Block) (category : ℕ) (records : List Record) → block ≡ BlockOf.Read category records → spec_of category catalogue ≡ None → 3 ≡ held (canonical_length catalogue (block_tree block))
+pub none_length : (catalogue : List SpecTree) (block : Block) (category : ℕ) (records : List Record) → block ≡ BlockOf.Read category records → spec_of category catalogue ≡ None → 3 ≡ capped (canonical_length catalogue (block_tree block))
 none_length catalogue block category records e h =
-    subst (λ b. 3 ≡ held (canonical_length catalogue (block_tree b))) (sym e) (omega (arith, none_case (spec_of category catalogue) category (records_tree records) h))
+    subst (λ b. 3 ≡ capped (canonical_length catalogue (block_tree b))) (sym e) (omega (arith, none_case (spec_of category catalogue) category (records_tree records) h))
 
 found_case : (o : Option SpecTree) (spec : SpecTree) (block : BlockTree) → o ≡ Some spec → FitsOver o block → Fits spec block
 found_case o spec block e h = subst (λ p. FitsOver p block) e h
@@ -104,9 +104,9 @@ pub fits_found : (catalogue : List SpecTree) (block : Block) (category : ℕ) (r
 fits_found catalogue block category records spec e h is =
     subst (λ b. BlockFits spec b) (sym e) (found_case (spec_of category catalogue) (spec_tree spec) (read_block category (records_tree records)) h (subst (λ b. IsBlockOf catalogue (block_tree b)) e is).fits.fits)
 
-pub found_length : (catalogue : List SpecTree) (block : Block) (category : ℕ) (records : List Record) (spec : Spec) (n : ℕ) → block ≡ BlockOf.Read category records → spec_of category catalogue ≡ Some (spec_tree spec) → n ≡ held (block_length spec block) → n ≡ held (canonical_length catalogue (block_tree block))
+pub found_length : (catalogue : List SpecTree) (block : Block) (category : ℕ) (records : List Record) (spec : Spec) (n : ℕ) → block ≡ BlockOf.Read category records → spec_of category catalogue ≡ Some (spec_tree spec) → n ≡ capped (block_length spec block) → n ≡ capped (canonical_length catalogue (block_tree block))
 found_length catalogue block category records spec n e h is =
-    let base : n ≡ held (block_length spec (BlockOf.Read category records)) = is ∙ ap (λ b. held (block_length spec b)) e in
-    subst (λ b. n ≡ held (canonical_length catalogue (block_tree b))) (sym e) (base ∙ ap (λ o. held (length (canon_over o (read_block category (records_tree records))))) (sym h))
+    let base : n ≡ capped (block_length spec (BlockOf.Read category records)) = is ∙ ap (λ b. capped (block_length spec b)) e in
+    subst (λ b. n ≡ capped (canonical_length catalogue (block_tree b))) (sym e) (base ∙ ap (λ o. capped (length (canon_over o (read_block category (records_tree records))))) (sym h))
 
 pub ruleset lengths = (opaque_length, none_length, fits_found, found_length)

@@ -1,4 +1,4 @@
--- The two forms of a block's text, and what stands behind the first word of each.
+-- The two forms of a block's text, and what stands after the first word of each.
 use Rattle.std.specs.Prelude.{◌≡◌, ℕ, ◌<◌, List, [], ◌∷◌, drop, codes, Option, Some, None}
 use Rattle.ax_token_reader.specs.Stopping.{Texts}
 use Rattle.ax_model.specs.Blocks.{BlockTree, read_block, opaque_block}
@@ -32,10 +32,10 @@ abbrev pub records_over : Option SpecTree → List EntriesTree → Texts
 records_over None records = []
 records_over (Some spec) records = braced_records_texts spec records
 
--- behind `block`
-abbrev pub behind_block : List SpecTree → BlockTree → Texts
-behind_block catalogue (read_block category records) = three_digits category ∷ records_over (spec_of category catalogue) records
-behind_block catalogue (opaque_block category content) = []
+-- after `block`
+abbrev pub after_block_word : List SpecTree → BlockTree → Texts
+after_block_word catalogue (read_block category records) = three_digits category ∷ records_over (spec_of category catalogue) records
+after_block_word catalogue (opaque_block category content) = []
 
 -- ---- opaque blocks
 
@@ -43,10 +43,10 @@ abbrev pub OpaqueShape : List SpecTree → BlockTree → Type 0
 OpaqueShape catalogue (read_block category records) = ⊥
 OpaqueShape catalogue (opaque_block category content) = IsBlockOf catalogue (opaque_block category content)
 
--- behind `opaque`
-abbrev pub behind_opaque : BlockTree → Texts
-behind_opaque (read_block category records) = []
-behind_opaque (opaque_block category content) = three_digits category ∷ hex_text content ∷ []
+-- after `opaque`
+abbrev pub after_opaque_word : BlockTree → Texts
+after_opaque_word (read_block category records) = []
+after_opaque_word (opaque_block category content) = three_digits category ∷ hex_text content ∷ []
 
 -- ---- the first word
 

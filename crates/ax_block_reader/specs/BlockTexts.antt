@@ -1,11 +1,12 @@
 -- The language of block texts under a catalogue, and what is asked of a line's tokens.
 use Rattle.std.specs.Prelude.{◌≡◌, ℕ, ◌<◌, ◌≤◌, List, length}
+use Rattle.ax_model.specs.Sizes.{longest_block}
 use Rattle.ax_token_reader.specs.FirstBad.{FirstBad}
 use Rattle.ax_token_reader.specs.Stopping.{Texts, texts_of}
 use Rattle.ax_tokens.specs.PlainToken.{PlainToken}
 use Rattle.ax_model.specs.Blocks.{BlockTree}
 use Rattle.ax_model.specs.CanonicalOctets.{canon_over, category_of}
-use Rattle.ax_model.specs.Lengths.{held}
+use Rattle.ax_model.specs.Lengths.{capped}
 use Rattle.ax_model.specs.Specification.{SpecTree, spec_of}
 use Rattle.ax_text.specs.Tokens.{TextOver, IsOfCatalogue}
 use Rattle.ax_block_reader.specs.Continuing.{Spelled}
@@ -39,14 +40,14 @@ pub record Spells (catalogue : List SpecTree) (tokens : List PlainToken) (block 
 -- and the block's canonical form has no more octets than a block may have
 pub record IsTextOf (catalogue : List SpecTree) (tokens : List PlainToken) (block : BlockTree) : Type 0 where
   pub spells : Spells catalogue tokens block
-  pub within : canonical_length catalogue block ≤ 65535
+  pub within : canonical_length catalogue block ≤ longest_block
 
 -- the tokens are the text of a block, and its canonical form has that many octets, too many
 pub record IsLongText (catalogue : List SpecTree) (tokens : List PlainToken) (octets : ℕ) : Type 0 where
   pub block : BlockTree
   pub spells : Spells catalogue tokens block
-  pub above : 65535 < canonical_length catalogue block
-  pub number : octets ≡ held (canonical_length catalogue block)
+  pub above : longest_block < canonical_length catalogue block
+  pub number : octets ≡ capped (canonical_length catalogue block)
 
 -- what an error says of the tokens; want of memory may come at any
 abbrev pub IsFault : List SpecTree → List PlainToken → TextError → Type 0

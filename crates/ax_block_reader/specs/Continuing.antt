@@ -19,7 +19,7 @@ pub record Continues (L M : Texts → Type 0) (old now : Texts) : Type 0 where
   pub front : Texts
   pub split : old ≡ front ++ now
   pub member : (rest : Texts) → M rest → L (front ++ rest)
-  pub behind : (member x y : Texts) → BeginAlike now y → L member → member ++ x ≡ front ++ y → (rest : Texts) × (member ≡ front ++ rest) × M rest
+  pub following : (member x y : Texts) → BeginAlike now y → L member → member ++ x ≡ front ++ y → (rest : Texts) × (member ≡ front ++ rest) × M rest
 
 -- the texts of what has the shape
 abbrev pub Spelled : {X : Type 0} → (X → Type 0) → (X → Texts) → Texts → Type 0

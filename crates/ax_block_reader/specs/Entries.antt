@@ -29,7 +29,7 @@ IsNamedAt spare_slot texts = ⊥
 IsNamedAt (subitem name k) texts = (rest : Texts) × (texts ≡ name ∷ rest)
 
 -- the slot's value is read where its name comes, and nothing where it doesn't; a reader stops where the texts end, or in the
--- value behind the name
+-- value after the name
 abbrev pub GivesSlot : SlotTree → Result (Option Value) Stopped → Texts → Texts → Type 0
 GivesSlot slot (Ok (Some v)) old new = IsRead (SlotShape slot) (slot_texts slot) (value_tree v) old new
 GivesSlot slot (Ok None) old new = (new ≡ old) × IsNotNamed slot old

@@ -2,7 +2,7 @@
 ghost use Rattle.std.specs.Prelude.{◌≡◌, ◌<◌, length, IfOk, IfErr, OnOk};
 ghost use Rattle.ax_model.specs.Plain.{catalogue_tree, block_tree};
 ghost use Rattle.ax_token_reader.specs.Stopping.{Stops};
-ghost use Rattle.ax_block_reader.specs.BlockForms.{HasKnown, HasLacked, ReadShape, OpaqueShape, behind_block, behind_opaque, IsForm};
+ghost use Rattle.ax_block_reader.specs.BlockForms.{HasKnown, HasLacked, ReadShape, OpaqueShape, after_block_word, after_opaque_word, IsForm};
 ghost use Rattle.ax_block_reader.specs.BlockTexts.{IsBlockOf, block_texts, IsBlockText};
 ghost use Rattle.ax_block_reader.specs.Continuing.{Gives};
 
@@ -45,7 +45,7 @@ fn form_of(reader: &Reader<'_, '_>, items: &CatalogueItems<'_>) -> Result<BlockF
     Err(Stopped::Bad)
 }
 
-/// What stands behind `block`: a category that the catalogue has, and records in braces.
+/// What stands after `block`: a category that the catalogue has, and records in braces.
 #[tactic(auto, using(crate::proofs::BlockWays::read_ways))]
 fn read_block(
     alloc: Global,
@@ -53,7 +53,7 @@ fn read_block(
     items: &CatalogueItems<'_>,
 ) -> Result<Block, Stopped>
     requires { HasKnown (catalogue_tree items.now) }
-    ensures { Gives block_tree (ReadShape (catalogue_tree items.now)) (behind_block (catalogue_tree items.now)) result reader.old reader.new }
+    ensures { Gives block_tree (ReadShape (catalogue_tree items.now)) (after_block_word (catalogue_tree items.now)) result reader.old reader.new }
 {
     let category = next_category(reader)?;
     let Some(uap) = items.get(category) else {
@@ -64,7 +64,7 @@ fn read_block(
     Ok(Block::Read { category, records })
 }
 
-/// What stands behind `opaque`: a category that the catalogue lacks, and octets.
+/// What stands after `opaque`: a category that the catalogue lacks, and octets.
 #[tactic(auto, using(crate::proofs::BlockWays::opaque_ways))]
 fn opaque_block(
     alloc: Global,
@@ -72,7 +72,7 @@ fn opaque_block(
     items: &CatalogueItems<'_>,
 ) -> Result<Block, Stopped>
     requires { HasLacked (catalogue_tree items.now) }
-    ensures { Gives block_tree (OpaqueShape (catalogue_tree items.now)) behind_opaque result reader.old reader.new }
+    ensures { Gives block_tree (OpaqueShape (catalogue_tree items.now)) after_opaque_word result reader.old reader.new }
 {
     let category = next_category(reader)?;
     if items.get(category).is_some() {

@@ -8,23 +8,8 @@ ghost use Rattle.ax_token_reader.specs.declared.stopped.Stopped.TheVariants.{Bad
 ghost use Rattle.ax_block_reader.specs.BlockForms.{IsCategoryText};
 
 use crate::catalogue_items::CatalogueItems;
-use crate::digit::digit_of;
-use ax_model::Spec;
+use ax_model::{Spec, category_of_digits};
 use ax_token_reader::{Reader, Stopped};
-
-/// The category of three digits, 000 to 255. None comes exactly where the octets are none.
-#[tactic(auto, using(crate::proofs::Digits::digits))]
-fn category_of_digits(hundreds: u8, tens: u8, ones: u8) -> Option<u8>
-    ensures { MatchOption result ((n : ℕ) → n < 256 → hundreds ∷ tens ∷ ones ∷ [] ≡ three_digits n → ⊥)
-        (λ n. hundreds ∷ tens ∷ ones ∷ [] ≡ three_digits n) }
-{
-    let number = 100 * u16::from(digit_of(hundreds)?)
-        + u16::from(10 * digit_of(tens)? + digit_of(ones)?);
-    if number > 255 {
-        return None;
-    }
-    Some(number as u8)
-}
 
 /// The category that the text is, in three digits. None comes exactly where it is none.
 #[tactic(auto, using(crate::proofs::Digits::categories))]

@@ -11,7 +11,7 @@ pub enum TextError {
     /// The first token through which no block's text begins, or the count of the tokens where the text is cut short.
     #[error("no block text goes on with token {token}")]
     BadToken { token: u32 },
-    /// The tokens are the text of a block whose canonical form has that many octets, held at 2^64 - 1, where a block
+    /// The tokens are the text of a block whose canonical form has that many octets, capped at 2^64 - 1, where a block
     /// has at most 65,535.
     #[error("the block has {octets} octets")]
     TooLong { octets: u64 },

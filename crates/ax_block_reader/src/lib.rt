@@ -7,7 +7,6 @@
 mod blocks;
 mod catalogue_items;
 mod categories;
-mod digit;
 mod error;
 mod extended;
 mod fixed;

@@ -3,7 +3,7 @@ ghost use Rattle.std.specs.Prelude.{◌≡◌, ◌↔◌, ◌+◌, ◌<◌, ◌�
 ghost use Rattle.ax_token_reader.specs.Stopping.{Reads, One};
 ghost use Rattle.ax_block_reader.specs.Languages.{IsNumberText, IsNoNumber};
 
-use crate::digit::digit_of;
+use ax_model::digit_of;
 use ax_token_reader::{Reader, Stopped};
 use itoa::Buffer;
 

@@ -1,6 +1,6 @@
 //! From a line's tokens to the block whose text they are.
 ghost use Rattle.std.specs.Prelude.{◌≡◌, IfOk, IfErr};
-ghost use Rattle.ax_model.specs.Lengths.{held};
+ghost use Rattle.ax_model.specs.Lengths.{capped};
 ghost use Rattle.ax_model.specs.Plain.{catalogue_tree, block_tree};
 ghost use Rattle.ax_block_reader.specs.BlockTexts.{IsBlockOf, canonical_length, Spells, IsTextOf, IsFault, IsBad};
 
@@ -41,11 +41,11 @@ fn spelled_block(
     }
 }
 
-/// The octets of the block's canonical form, held at 2^64 - 1. Of an opaque block they are its octets, and 3.
+/// The octets of the block's canonical form, capped at 2^64 - 1. Of an opaque block they are its octets, and 3.
 #[tactic(auto, using(crate::proofs::Whole::lengths))]
 fn canonical_octets(items: &CatalogueItems<'_>, found: &Block) -> u64
     requires { IsBlockOf (catalogue_tree items.now) (block_tree found.now) }
-    ensures { result ≡ held (canonical_length (catalogue_tree items.now) (block_tree found.now)) }
+    ensures { result ≡ capped (canonical_length (catalogue_tree items.now) (block_tree found.now)) }
 {
     match found {
         Block::Opaque { octets, .. } => u64::from(octets.count()) + 3,

@@ -26,14 +26,14 @@ fn records_of_65533_octets_are_too_long(rt: HostRuntime) -> Result<(), Fail> {
     Ok(())
 }
 
-/// An opaque block of that many octets, and what stands behind it.
-fn opaque(alloc: Global, count: u32, behind: &[u8]) -> Result<Vec<u8>, AllocError> {
+/// An opaque block of that many octets, and what stands after it.
+fn opaque(alloc: Global, count: u32, following: &[u8]) -> Result<Vec<u8>, AllocError> {
     let mut line = b"opaque 062 \"".to_vec(alloc)?;
     for _ in 0..count {
         line.extend_from_slice(b"0a")?;
     }
     line.extend_from_slice(b"\"")?;
-    line.extend_from_slice(behind)?;
+    line.extend_from_slice(following)?;
     Ok(line)
 }
 

@@ -60,14 +60,14 @@ pub record Header (limit given : ℕ) (left mid : Option (List ℕ)) (taken betw
   pub len : len_of (take 3 buffer) ≡ n
   pub least : 4 ≤ n
 
-pub header_there : (limit given : ℕ) (left mid : Option (List ℕ)) (taken between : ℕ) (buffer buffer' : List ℕ) (held n : ℕ) → given ≤ limit → PartTaken left mid taken between buffer buffer' 0 3 (limit - given) held
-    → 3 ≤ held → 3 ≤ length buffer' → n ≡ from_be_bytes w16 (get_or buffer' 1 0 ∷ get_or buffer' 2 0 ∷ []) → 4 ≤ n → Header limit given left mid taken between buffer' n
-header_there limit given left mid taken between buffer buffer' held n le p three fits len least =
-    let within : held ≤ limit - given = p.within in
-    let most : held ≤ 3 = p.most in
-    let count : held ≡ 0 + length p.octets = p.count in
-    let held_three : held ≡ 3 = omega arith in
-    let stands : p.octets ≡ take 3 buffer' = sym p.stands ∙ ap (λ k. take k buffer') held_three in record {
+pub header_there : (limit given : ℕ) (left mid : Option (List ℕ)) (taken between : ℕ) (buffer buffer' : List ℕ) (buffered n : ℕ) → given ≤ limit → PartTaken left mid taken between buffer buffer' 0 3 (limit - given) buffered
+    → 3 ≤ buffered → 3 ≤ length buffer' → n ≡ from_be_bytes w16 (get_or buffer' 1 0 ∷ get_or buffer' 2 0 ∷ []) → 4 ≤ n → Header limit given left mid taken between buffer' n
+header_there limit given left mid taken between buffer buffer' buffered n le p three fits len least =
+    let within : buffered ≤ limit - given = p.within in
+    let most : buffered ≤ 3 = p.most in
+    let count : buffered ≡ 0 + length p.octets = p.count in
+    let buffered_three : buffered ≡ 3 = omega arith in
+    let stands : p.octets ≡ take 3 buffer' = sym p.stands ∙ ap (λ k. take k buffer') buffered_three in record {
       took = subst (Took left mid taken between) stands p.took;
       count = ap length (sym stands) ∙ omega arith;
       within = omega arith;

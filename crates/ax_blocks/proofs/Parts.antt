@@ -7,12 +7,12 @@ use borrow.Rule.Slice.PartMut.{put_mid, post_of}
 use Rattle.ax_blocks.specs.Taking.{Took, PartTaken}
 use Rattle.ax_outside.specs.Told.{with_front, IsAtEnd}
 
--- the first n octets of the part stand after those held
-stands_behind : (buffer part : List ℕ) (held k n : ℕ) → held ≤ length buffer → n ≤ length part → take (held + n) (put_mid held k buffer part) ≡ take held buffer ++ take n part
-stands_behind buffer part held k n le room =
-    let e : length (take held buffer) ≡ held = length-take-le held buffer le in
-    ap (λ m. take (m + n) (put_mid held k buffer part)) (sym e) ∙ take-append-add (take held buffer) (part ++ post_of held k buffer) n
-    ∙ ap (λ l. take held buffer ++ l) (take-append-le n part (post_of held k buffer) room)
+-- the first n octets of the part stand after those buffered
+stands_following : (buffer part : List ℕ) (buffered k n : ℕ) → buffered ≤ length buffer → n ≤ length part → take (buffered + n) (put_mid buffered k buffer part) ≡ take buffered buffer ++ take n part
+stands_following buffer part buffered k n le room =
+    let e : length (take buffered buffer) ≡ buffered = length-take-le buffered buffer le in
+    ap (λ m. take (m + n) (put_mid buffered k buffer part)) (sym e) ∙ take-append-add (take buffered buffer) (part ++ post_of buffered k buffer) n
+    ∙ ap (λ l. take buffered buffer ++ l) (take-append-le n part (post_of buffered k buffer) room)
 
 took_front : (left left' : Option (List ℕ)) (taken taken' : ℕ) (part : List ℕ) (n : ℕ) → n ≤ length part → left ≡ with_front (take n part) left' → taken' ≡ taken + n
     → Took left left' taken taken' (take n part)
@@ -34,19 +34,19 @@ pub wants_all : (needed room wanted : ℕ) → needed ≤ room → wanted ≡ ne
 wants_all needed room wanted le e = record { most = omega arith; past = λ h. absurd (omega arith); within = omega arith }
 
 -- the part isn't full where the needed octets aren't there
-is_fewer : (needed room wanted held n size : ℕ) → (wanted < needed) ⊎ (needed ≤ wanted) → (wanted < needed → wanted ≡ room + 1) → size ≡ wanted - held → held + n < needed → held + n ≤ room → n < size
-is_fewer needed room wanted held n size (inl lt) past e fewer within = let w : wanted ≡ room + 1 = past lt in omega arith
-is_fewer needed room wanted held n size (inr le) past e fewer within = omega arith
+is_fewer : (needed room wanted buffered n size : ℕ) → (wanted < needed) ⊎ (needed ≤ wanted) → (wanted < needed → wanted ≡ room + 1) → size ≡ wanted - buffered → buffered + n < needed → buffered + n ≤ room → n < size
+is_fewer needed room wanted buffered n size (inl lt) past e fewer within = let w : wanted ≡ room + 1 = past lt in omega arith
+is_fewer needed room wanted buffered n size (inr le) past e fewer within = omega arith
 
-pub part_taken : (left left' : Option (List ℕ)) (taken taken' : ℕ) (buffer part : List ℕ) (held needed room wanted n : ℕ) → held ≤ length buffer → IsWanted needed room wanted → length part ≡ wanted - held → n ≤ length part
-    → left ≡ with_front (take n part) left' → taken' ≡ taken + n → held + n ≤ room → held < needed → held ≤ room → (n < length part → IsAtEnd left')
-    → PartTaken left left' taken taken' buffer (put_mid held (wanted - held) buffer part) held needed room (held + n)
-part_taken left left' taken taken' buffer part held needed room wanted n le w size fits gives counted within lt le' ended = record {
+pub part_taken : (left left' : Option (List ℕ)) (taken taken' : ℕ) (buffer part : List ℕ) (buffered needed room wanted n : ℕ) → buffered ≤ length buffer → IsWanted needed room wanted → length part ≡ wanted - buffered → n ≤ length part
+    → left ≡ with_front (take n part) left' → taken' ≡ taken + n → buffered + n ≤ room → buffered < needed → buffered ≤ room → (n < length part → IsAtEnd left')
+    → PartTaken left left' taken taken' buffer (put_mid buffered (wanted - buffered) buffer part) buffered needed room (buffered + n)
+part_taken left left' taken taken' buffer part buffered needed room wanted n le w size fits gives counted within lt le' ended = record {
   octets = take n part;
   took = took_front left left' taken taken' part n fits gives counted;
-  stands = stands_behind buffer part held (wanted - held) n le fits;
+  stands = stands_following buffer part buffered (wanted - buffered) n le fits;
   count = (let e : length (take n part) ≡ n = length-take-le n part fits in omega arith);
   most = (let m : wanted ≤ needed = w.most in omega arith);
   within = within;
-  ended = λ fewer. ended (is_fewer needed room wanted held n (length part) (cases_lt wanted needed) w.past size fewer within);
+  ended = λ fewer. ended (is_fewer needed room wanted buffered n (length part) (cases_lt wanted needed) w.past size fewer within);
 }

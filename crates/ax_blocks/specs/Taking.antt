@@ -22,37 +22,37 @@ pub record IsUnfinished (limit before : ℕ) (octets : List ℕ) : Type 0 where
   pub len : 3 ≤ length octets → 4 ≤ len_of octets
   pub more : 3 ≤ length octets → length octets < len_of octets
 
--- ---- taking a part of a block into a buffer, after the octets held, up to those needed
+-- ---- taking a part of a block into a buffer, after the octets buffered, up to those needed
 
 -- the buffer holds n octets of the block now; fewer than are needed where the input has ended
-pub record PartTaken (left left' : Option (List ℕ)) (taken taken' : ℕ) (buffer buffer' : List ℕ) (held needed room n : ℕ) : Type 0 where
+pub record PartTaken (left left' : Option (List ℕ)) (taken taken' : ℕ) (buffer buffer' : List ℕ) (buffered needed room n : ℕ) : Type 0 where
   pub octets : List ℕ
   pub took : Took left left' taken taken' octets
-  pub stands : take n buffer' ≡ take held buffer ++ octets
-  pub count : n ≡ held + length octets
+  pub stands : take n buffer' ≡ take buffered buffer ++ octets
+  pub count : n ≡ buffered + length octets
   pub most : n ≤ needed
   pub within : n ≤ room
   pub ended : n < needed → IsAtEnd left'
 
 -- one octet past the room was taken, which the part needs
-pub record PartPastRoom (left left' : Option (List ℕ)) (taken taken' held needed room : ℕ) : Type 0 where
+pub record PartPastRoom (left left' : Option (List ℕ)) (taken taken' buffered needed room : ℕ) : Type 0 where
   pub octets : List ℕ
   pub took : Took left left' taken taken' octets
-  pub count : held + length octets ≡ room + 1
+  pub count : buffered + length octets ≡ room + 1
   pub needs : room < needed
 
 -- fewer octets than are needed, within the room
-pub record PartCut (left left' : Option (List ℕ)) (taken taken' held needed room : ℕ) : Type 0 where
+pub record PartCut (left left' : Option (List ℕ)) (taken taken' buffered needed room : ℕ) : Type 0 where
   pub octets : List ℕ
   pub took : Took left left' taken taken' octets
-  pub fewer : held + length octets < needed
-  pub within : held + length octets ≤ room
+  pub fewer : buffered + length octets < needed
+  pub within : buffered + length octets ≤ room
 
 abbrev pub PartMeans : Option (List ℕ) → Option (List ℕ) → ℕ → ℕ → List ℕ → List ℕ → ℕ → ℕ → ℕ → Result ℕ NextError → Type 0
-PartMeans left left' taken taken' buffer buffer' held needed room (Ok n) = PartTaken left left' taken taken' buffer buffer' held needed room n
-PartMeans left left' taken taken' buffer buffer' held needed room (Err InputTooLong) = PartPastRoom left left' taken taken' held needed room
-PartMeans left left' taken taken' buffer buffer' held needed room (Err ReadFault) = PartCut left left' taken taken' held needed room
-PartMeans left left' taken taken' buffer buffer' held needed room (Err _) = ⊥
+PartMeans left left' taken taken' buffer buffer' buffered needed room (Ok n) = PartTaken left left' taken taken' buffer buffer' buffered needed room n
+PartMeans left left' taken taken' buffer buffer' buffered needed room (Err InputTooLong) = PartPastRoom left left' taken taken' buffered needed room
+PartMeans left left' taken taken' buffer buffer' buffered needed room (Err ReadFault) = PartCut left left' taken taken' buffered needed room
+PartMeans left left' taken taken' buffer buffer' buffered needed room (Err _) = ⊥
 
 abbrev pub OnPartFault : Result ℕ NextError → Type 0 → Type 0
 OnPartFault (Err ReadFault) P = P

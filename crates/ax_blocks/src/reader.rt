@@ -1,5 +1,6 @@
 //! The block reader.
 ghost use Rattle.std.specs.Prelude.{◌≡◌, IfOk, length};
+ghost use Rattle.ax_model.specs.Sizes.{longest_block};
 
 use crate::framing::{next_length, raw_block};
 use crate::next_error::NextError;
@@ -27,12 +28,13 @@ pub struct BlockReader {
 impl Model for BlockReader {
     ghost use Rattle.std.specs.Prelude.{◌≡◌, ◌≤◌, length};
     ghost use Rattle.ax_blocks.specs.Reader.{ReaderState};
+    ghost use Rattle.ax_model.specs.Sizes.{longest_block};
 
     ghost Value = { ReaderState };
 
     ghost view = { λ r. record { limit = r.limit; given = r.given; ended = r.ended } };
 
-    ghost invariant = { λ r. (length r.buffer.items ≡ 65535) × (r.given ≤ r.limit) };
+    ghost invariant = { λ r. (length r.buffer.items ≡ longest_block) × (r.given ≤ r.limit) };
 }
 
 impl BlockReader {

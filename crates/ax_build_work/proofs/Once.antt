@@ -10,7 +10,7 @@ use Rattle.ax_line_stream.specs.Commands.{LineAnswer, gives, nothing, refused, H
 use Rattle.ax_model.specs.Blocks.{BlockTree, read_block, opaque_block}
 use Rattle.ax_model.specs.CanonicalOctets.{canon_block, canon_over, category_of}
 use Rattle.ax_model.specs.Flaws.{NoFlaw}
-use Rattle.ax_model.specs.Lengths.{held}
+use Rattle.ax_model.specs.Lengths.{capped}
 use Rattle.ax_model.specs.Specification.{SpecTree, spec_of}
 use Rattle.ax_text.proofs.BlocksOnce.{same_block}
 use Rattle.ax_text.specs.Names.{IsNamed}
@@ -38,7 +38,7 @@ module _ (catalogue : List SpecTree) (good : AllByRecursion (λ spec. NoFlaw spe
       h.canonical ∙ ap (λ block. canon_over (spec_of (category_of block) catalogue) block) (same_spelled tokens h.block k.block h.text.spells k.text.spells) ∙ sym k.canonical
 
   long_same : (tokens : List PlainToken) (n m : ℕ) → IsLongText catalogue tokens n → IsLongText catalogue tokens m → n ≡ m
-  long_same tokens n m a b = a.number ∙ ap (λ block. held (canonical_length catalogue block)) (same_spelled tokens a.block b.block a.spells b.spells) ∙ sym b.number
+  long_same tokens n m a b = a.number ∙ ap (λ block. capped (canonical_length catalogue block)) (same_spelled tokens a.block b.block a.spells b.spells) ∙ sym b.number
 
   built_not_refused : (tokens : List PlainToken) (octets : List ℕ) (fault : TextFault) → IsBuiltOf catalogue tokens octets → IsRefusedFor catalogue tokens fault → ⊥
   built_not_refused tokens octets LineTooLong h k = k

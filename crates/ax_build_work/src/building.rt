@@ -7,6 +7,7 @@ ghost use Rattle.ax_line_stream.specs.Commands.{gives, nothing};
 ghost use Rattle.ax_line_stream.specs.Ending.{longest_line};
 ghost use Rattle.ax_model.specs.CanonicalOctets.{canon_over, category_of};
 ghost use Rattle.ax_model.specs.Plain.{catalogue_tree, block_tree};
+ghost use Rattle.ax_model.specs.Sizes.{longest_block};
 ghost use Rattle.ax_model.specs.Specification.{spec_of};
 
 use crate::fault::BuildStop;
@@ -29,7 +30,7 @@ fn canonical_octets(
 ) -> Result<Vec<u8>, AllocError>
     requires fits { IsBlockOf (catalogue_tree items.now) (block_tree block.now) }
     requires count { count ≡ canonical_length (catalogue_tree items.now) (block_tree block.now) }
-    requires within { count ≤ 65535 }
+    requires within { count ≤ longest_block }
     ensures { IfOk result (λ made. made.items ≡ canon_over (spec_of (category_of (block_tree block.now)) (catalogue_tree items.now)) (block_tree block.now)) }
 {
     match block {

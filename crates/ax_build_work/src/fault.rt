@@ -18,7 +18,7 @@ pub enum TextFault {
     TooDeep { token: u32 },
     /// The first token through which no block's text begins, or the count of the tokens where the text is cut short.
     BadToken { token: u32 },
-    /// The line is the text of a block whose canonical form has that many octets, more than 65,535, held at 2^64 - 1.
+    /// The line is the text of a block whose canonical form has that many octets, more than 65,535, capped at 2^64 - 1.
     TooLong { octets: u64 },
 }
 

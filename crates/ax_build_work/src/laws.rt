@@ -7,6 +7,7 @@ ghost use Rattle.ax_line_stream.specs.Commands.{gives, HasOneAnswer};
 ghost use Rattle.ax_model.specs.Blocks.{BlockTree};
 ghost use Rattle.ax_model.specs.CanonicalOctets.{canon_block, category_of};
 ghost use Rattle.ax_model.specs.Flaws.{NoFlaw};
+ghost use Rattle.ax_model.specs.Sizes.{longest_block};
 ghost use Rattle.ax_model.specs.Specification.{SpecTree, spec_of};
 ghost use Rattle.ax_text.specs.Names.{IsNamed};
 ghost use Rattle.ax_text.specs.Tokens.{BlockTokens};
@@ -20,6 +21,6 @@ pub fn one_answer()
 /// A line whose tokens are those of a printed block, of a category with a specification, is answered with the block's
 /// canonical form, where that is no longer than a block may be.
 pub fn printed_lines_are_built()
-    ensures { (catalogue : List SpecTree) (spec : SpecTree) (block : BlockTree) (number : ℕ) (line : List ℕ) → spec_of (category_of block) catalogue ≡ Some spec → IsBlockOf catalogue block → canonical_length catalogue block ≤ 65535
+    ensures { (catalogue : List SpecTree) (spec : SpecTree) (block : BlockTree) (number : ℕ) (line : List ℕ) → spec_of (category_of block) catalogue ≡ Some spec → IsBlockOf catalogue block → canonical_length catalogue block ≤ longest_block
         → AreTokensOf line deepest (BlockTokens spec block) → build_command catalogue number line (gives (canon_block spec block)) }
 {}

@@ -2,6 +2,7 @@
 ghost use Rattle.std.specs.Prelude.{◌≡◌, ◌+◌, ◌≤◌, length, IfOk};
 ghost use Rattle.ax_bits.specs.Bits.{bits, AreOctets};
 ghost use Rattle.ax_model.specs.CanonicalOctets.{framed};
+ghost use Rattle.ax_model.specs.Sizes.{longest_body};
 
 use ax_bits::Out;
 use ax_values::write_opaque;
@@ -16,7 +17,7 @@ fn zeros(alloc: Global, count: usize) -> Result<Vec<u8>, AllocError>
 
 /// Fills a buffer of just its length with an opaque block.
 fn fill(category: u8, octets: &[u8], buffer: &mut [u8])
-    requires few { length octets.now ≤ 65532 }
+    requires few { length octets.now ≤ longest_body }
     requires length { length buffer.old ≡ 3 + length octets.now }
     ensures { buffer.new ≡ framed category octets.now }
 {
@@ -24,7 +25,7 @@ fn fill(category: u8, octets: &[u8], buffer: &mut [u8])
 }
 
 fn write_over(category: u8, octets: &[u8], buffer: &mut [u8])
-    requires few { length octets.now ≤ 65532 }
+    requires few { length octets.now ≤ longest_body }
     requires length { length buffer.old ≡ 3 + length octets.now }
     ensures bits { bits buffer.new ≡ bits (framed category octets.now) }
     ensures octets { AreOctets (framed category octets.now) }
@@ -39,7 +40,7 @@ pub(crate) fn opaque_block(
     category: u8,
     octets: &[u8],
 ) -> Result<Vec<u8>, AllocError>
-    requires { length octets.now ≤ 65532 }
+    requires { length octets.now ≤ longest_body }
     ensures { IfOk result (λ made. made.items ≡ framed category octets.now) }
 {
     let mut buffer = zeros(alloc, octets.len() + 3)?;

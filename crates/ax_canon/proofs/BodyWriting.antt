@@ -25,7 +25,7 @@ use Rattle.ax_tables.specs.Table.{record_kind_at}
 use Rattle.ax_tables.specs.declared.codec.Codec.{Codec}
 use Rattle.ax_reader.proofs.Exact.{spelled_at, fault_at}
 use Rattle.ax_reader.specs.Reading.{Gets, FailsAt, kind_read}
-use Rattle.ax_view.proofs.BodySteps.{loses_of, one_more, canon_more, record_value, some_records, record_forwards}
+use Rattle.ax_view.proofs.BodySteps.{fails_of, one_more, canon_more, record_value, some_records, record_forwards}
 
 pub gets_of : (codec : Codec) (spec : SpecTree) (body : List ℕ) (at end : ℕ) (v : ValueTree) → StandsFor codec spec → Gets (kind_read (record_kind_at codec.nodes codec.slots) body at) body at end v → Gets (kind_read (record_kind spec) body at) body at end v
 unfolding kind_read
@@ -53,7 +53,7 @@ module _ (codec : Codec) (body : List ℕ) (at end : ℕ) (old now new : Out) (h
     (r : Rewrites (canon (record_kind_at codec.nodes codec.slots)) (kind_read (record_kind_at codec.nodes codec.slots) body at) body at end now new) where
   failed : (spec : SpecTree) → NoFlaw spec → StandsFor codec spec → RecordsWritten spec body at old now → (fault : BodyFault) → FailsAt (kind_read (record_kind_at codec.nodes codec.slots) body at) at fault → FailsBody spec (bits body) fault.bit fault.cause
   failed spec clean stands t fault l =
-      let f = fault_at (record_kind spec) body at fault (record_bounds spec clean) (loses_of codec spec body at fault stands l) in
+      let f = fault_at (record_kind spec) body at fault (record_bounds spec clean) (fails_of codec spec body at fault stands l) in
       record {
         records = t.records;
         before = bits (take at body);

@@ -23,7 +23,7 @@ use Rattle.ax_view.specs.Walking.{along}
 -- ---- fronts
 
 pub fronts_none : {A : Type 0} (rule : A → List ℕ) (found : Read A) (body : List ℕ) (at : ℕ) (out : Out) → Fronts rule found rule found body at at out out
-fronts_none rule found body at out = record { front = []; appends = appends_none out; gets = λ a end g. (a, g, refl); loses = λ fault l. l }
+fronts_none rule found body at out = record { front = []; appends = appends_none out; gets = λ a end g. (a, g, refl); fails = λ fault l. l }
 
 -- one piece more
 pub fronts_by : {A B C : Type 0} (rule : A → List ℕ) (rest : Read A) (mid_rule : B → List ℕ) (mid : Read B) (whole_rule : C → List ℕ) (whole : Read C) (body : List ℕ) (at here end : ℕ) (old now new : Out) (g : A → B) (piece : List ℕ)
@@ -34,7 +34,7 @@ fronts_by rule rest mid_rule mid whole_rule whole body at here end old now new g
   gets = λ x last r. (
       let t = h.gets (g x) last (gets_after mid rest body here end last g x c r) in
       (t.0, t.1, t.2 ∙ ap (λ y. h.front ++ y) (step x last r) ∙ sym (append_assoc h.front piece (rule x))));
-  loses = λ fault l. h.loses fault (fails_after mid rest here end g fault c l);
+  fails = λ fault l. h.fails fault (fails_after mid rest here end g fault c l);
 }
 
 pub some_more : (old now new : Out) → (b : List ℕ) × Appends old now b → (b : List ℕ) × Appends now new b → (b : List ℕ) × Appends old new b
@@ -73,7 +73,7 @@ module _ (k : KindTree) (body : List ℕ) (m at here end : ℕ) (old now new : O
           → Fronts (each_canon (canon k)) (each_read (read k) m (bits (drop end body))) (canon (counted k)) (kind_read (counted k) body at) body at end old new ⊎ ((fault : BodyFault) × FailsAt (kind_read (counted k) body at) at fault)
       by (inl (v, g, a)) = inl (fronts_by (each_canon (canon k)) (each_read (read k) m (bits (drop end body))) (each_canon (canon k)) (each_read (read k) (suc m) (bits (drop here body))) (canon (counted k)) (kind_read (counted k) body at) body at here end old now new (λ vs. value_and v vs) (canon k v) f
           (each_on k body m here end v g) a (λ vs last t. refl))
-      by (inr (fault, l)) = inr (fault, f.loses fault (each_off k body m here fault l))
+      by (inr (fault, l)) = inr (fault, f.fails fault (each_off k body m here fault l))
 
 pub count_next : (k : KindTree) (body : List ℕ) (n i at here end : ℕ) (old now new : Out) → CountWrites k body n i at here old now → i < n → Rewrites (canon k) (kind_read k body here) body here end now new → CountWrites k body n (i + 1) at end old new
 count_next k body n i at here end old now new h lt r = record {
@@ -101,13 +101,6 @@ pub record MarksWrite (slots : List SlotTree) (marks left body : List ℕ) (at h
   pub are_bits : AreBits left
   pub writes : Writes (along (slots_of slots) left) (entries_at (slots_of slots) left body here) (along (slots_of slots) marks) (entries_at (slots_of slots) marks body at) body at here old now
 
-pub marks_first : (slots : List SlotTree) (marks body : List ℕ) (at : ℕ) (out : Out) → NoneUndefined (defined_slots (slots_of slots)) marks → AreBits marks → at ≤ length body → 8 * (length body - at) ≤ room out → MarksWrite slots marks marks body at at out out
-marks_first slots marks body at out clear bit le free = record {
-  clear = clear;
-  are_bits = bit;
-  writes = record { forwards = omega arith; within = le; room = free; some = ([], appends_none out); state = inl (fronts_none (along (slots_of slots) marks) (entries_at (slots_of slots) marks body at) body at out) };
-}
-
 module _ (nodes : List Node) (links marks left now_left body : List ℕ) (t at here end : ℕ) (old now new : Out) (n : NextMarked nodes links left now_left t)
     (r : Rewrites (canon (kind_at nodes (get_or links (t - 1) 0))) (kind_read (kind_at nodes (get_or links (t - 1) 0)) body here) body here end now new) where
   slot_on : (v : ValueTree) → Gets (kind_read (kind_at nodes (get_or links (t - 1) 0)) body here) body here end v
@@ -127,7 +120,7 @@ module _ (nodes : List Node) (links marks left now_left body : List ℕ) (t at h
       let ss = slots_of (linked_slots (meanings nodes) links) in
       inl (fronts_by (along ss now_left) (entries_at ss now_left body end) (along ss left) (entries_at ss left body here) (along ss marks) (entries_at ss marks body at) body at here end old now new (λ es. entry_and t v es) (canon (kind_at nodes (get_or links (t - 1) 0)) v) f
       (slot_on v g) a (λ es last q. n.spells v es))
-  slot_more f (inr (fault, l)) = inr (fault, f.loses fault (slot_off fault l))
+  slot_more f (inr (fault, l)) = inr (fault, f.fails fault (slot_off fault l))
 
   pub marks_next : MarksWrite (linked_slots (meanings nodes) links) marks left body at here old now → MarksWrite (linked_slots (meanings nodes) links) marks now_left body at end old new
   marks_next h = record {

@@ -16,7 +16,7 @@ use Rattle.ax_tables.specs.Table.{SlotLinksWithin, kind_at, record_kind_at}
 use Rattle.ax_tables.specs.declared.node.Node.{Node}
 use Rattle.ax_tables.specs.declared.node.Node.TheVariants as Of
 use Rattle.ax_view.proofs.NodeKinds.{is_element, is_group, is_part, is_extended, is_counted, counted_link, is_by_fx, is_explicit, is_compound, compound_links, compound_mask}
-use Rattle.ax_view.proofs.Plain.{IsPlain}
+use Rattle.ax_view.specs.Plain.{IsPlain}
 use Rattle.ax_view.proofs.Spelled.{leaf_canonical}
 use Rattle.ax_view.specs.Shown.{item_kind, item_value}
 use Rattle.ax_view.specs.Values.{IsAll, IsOne, IsItemOf, ItemInBounds, value_in, value_read}

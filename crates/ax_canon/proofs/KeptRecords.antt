@@ -27,7 +27,7 @@ use Rattle.ax_tables.specs.Table.{record_kind_at}
 use Rattle.ax_tables.specs.declared.codec.Codec.{Codec}
 use Rattle.ax_reader.proofs.Exact.{spelled_at, fault_at}
 use Rattle.ax_reader.specs.Reading.{Gets, FailsAt, kind_read}
-use Rattle.ax_view.proofs.BodySteps.{loses_of, one_more, canon_more, record_value, some_records, record_forwards}
+use Rattle.ax_view.proofs.BodySteps.{fails_of, one_more, canon_more, record_value, some_records, record_forwards}
 use Rattle.ax_view.proofs.Found.{read_all}
 use Rattle.ax_view.proofs.Spelled.{value_spelled}
 use Rattle.ax_view.specs.Noted.{canon_in, IsLeastRecord}
@@ -38,9 +38,6 @@ use Rattle.ax_view.specs.declared.record.RecordView.{RecordView}
 
 -- ---- one record
 
-pub written_whole : (codec : Codec) (octets : List ℕ) (least : Bool) (old new : Out) → IsTrue least → IsLeastRecord codec octets least → Appends old new (bits octets) → Appends old new (canon_in codec octets)
-written_whole codec octets least old new said h a = subst (Appends old new) (sym (h said)) a
-
 pub written_anew : (codec : Codec) (octets : List ℕ) (end : ℕ) (old new : Out) → IsRecord codec octets
     → Rewrites (canon (record_kind_at codec.nodes codec.slots)) (kind_read (record_kind_at codec.nodes codec.slots) octets 0) octets 0 end old new → Appends old new (canon_in codec octets)
 unfolding kind_read value_in
@@ -50,18 +47,8 @@ written_anew codec octets end old new one r = by r.state
     by (inl (v, g, a)) = subst (λ v. Appends old new (canon (record_kind_at codec.nodes codec.slots) v)) (sym (ap value_read g.got)) a
     by (inr (fault, l)) = absurd (read_all (record_kind_at codec.nodes codec.slots) octets 0 fault l one.all)
 
-pub front_written : (first : Bool) (category : ℕ) (out : Out) → first ≡ false → Appends out out (front_if first category)
-front_written first category out e = subst (λ b. Appends out out (front_if b category)) (sym e) (appends_none out)
-
-pub front_first : (first : Bool) (category : ℕ) (old new : Out) → first ≡ true → Appends old new (word 8 category ++ word 16 0) → Appends old new (front_if first category)
-front_first first category old new e a = subst (λ b. Appends old new (front_if b category)) (sym e) a
-
 front_length : (category : ℕ) → length (word 8 category ++ word 16 0) ≡ 24
 front_length category = omega (arith, length-append (word 8 category) (word 16 0), length-word 8 category, length-word 16 0)
-
-pub room_behind : (first : Bool) (category n : ℕ) (old now : Out) → room_for (not first) n ≤ room old → Appends old now (front_if first category) → n ≤ room now
-room_behind true category n old now free a = omega (arith, free, a.room, front_length category)
-room_behind false category n old now free a = omega (arith, free, a.room)
 
 -- no record is longer in its canonical spelling
 canon_few : (codec : Codec) (octets : List ℕ) → IsRecord codec octets → length (canon_in codec octets) ≤ 8 * length octets
@@ -111,16 +98,6 @@ pub record BodyKeeps (call : RecordView → Bool → Type 0) (codec : Codec) (bo
   pub none : some ≡ false → b ≡ []
   pub appends : Appends old now (block_if some codec.category b)
   pub records : (spec : SpecTree) → NoFlaw spec → StandsFor codec spec → RecordsKept call codec spec body at some old now
-
-pub keeps_first : (call : RecordView → Bool → Type 0) (codec : Codec) (body : List ℕ) (out : Out) → 8 * (length body + 3) ≤ room out → BodyKeeps call codec body 0 false out out
-keeps_first call codec body out free = record {
-  within = omega arith;
-  room = omega arith;
-  b = [];
-  none = λ e. refl;
-  appends = appends_none out;
-  records = λ spec clean stands. record { records = []; spelled = refl; kept = record { kept = []; keeps = refl; said = refl; appends = appends_none out } };
-}
 
 module _ (call : RecordView → Bool → Type 0) (codec : Codec) (body : List ℕ) (at end : ℕ) (some : Bool) (old now : Out) (view : RecordView) (same : view.codec.now ≡ codec) (h : BodyKeeps call codec body at some old now) (r : IsRecordAt codec body at end view.body.now) where
   value : ValueTree
@@ -228,11 +205,11 @@ module _ (call : RecordView → Bool → Type 0) (codec : Codec) (body : List �
     }
 
 module _ (call : RecordView → Bool → Type 0) (codec : Codec) (body : List ℕ) (at : ℕ) (some : Bool) (old now : Out) (h : BodyKeeps call codec body at some old now) where
-  pub kept_lost : (fault : BodyFault) → at < length body → FailsAt (kind_read (record_kind_at codec.nodes codec.slots) body at) at fault → FailsThere codec body fault
-  kept_lost fault lt l = record {
+  pub kept_failed : (fault : BodyFault) → at < length body → FailsAt (kind_read (record_kind_at codec.nodes codec.slots) body at) at fault → FailsThere codec body fault
+  kept_failed fault lt l = record {
     fails = λ spec clean stands. (
         let t = h.records spec clean stands in
-        let f = fault_at (record_kind spec) body at fault (record_bounds spec clean) (loses_of codec spec body at fault stands l) in
+        let f = fault_at (record_kind spec) body at fault (record_bounds spec clean) (fails_of codec spec body at fault stands l) in
         record {
           records = t.records;
           before = bits (take at body);
@@ -271,13 +248,6 @@ kept_shape call codec spec [] ks h = subst (AllByRecursion (RecordShape spec)) (
 kept_shape call codec spec (r ∷ rs) ks (inl (n, t)) = kept_shape call codec spec rs ks t
 kept_shape call codec spec (r ∷ rs) ks (inr (rest, y, e, t)) = subst (AllByRecursion (RecordShape spec)) (sym e) (record_shape spec r (bits y.view.body.now) y.spells, kept_shape call codec spec rs rest t)
 
-pub nothing_kept : (call : RecordView → Bool → Type 0) (codec : Codec) (body : List ℕ) (some : Bool) (old new : Out) → some ≡ false → IsKeptBody call codec body some old new → IsCanonicalIf call codec body 0 old new
-nothing_kept call codec body some old new e h = record { kept = λ spec records clean stands spells. (let w = h.written spec records clean stands spells in by spec records w.kept w.keeps (w.said ∙ e) (subst (λ b. Appends old new (block_if b codec.category (CanonBody spec w.kept))) e w.appends)) }
-  where
-    by : (spec : SpecTree) (records kept : List EntriesTree) → Keeps (Says call codec spec) records kept → are_some kept ≡ false → Appends old new [] → KeepsOf call codec spec records 0 old new
-    by spec records [] keeps said a = record { kept = []; keeps = keeps; written = a; octets = refl }
-    by spec records (k ∷ kept) keeps said a = absurd (let no : true ≡ false = said in cc)
-
 module _ (call : RecordView → Bool → Type 0) (codec : Codec) (body : List ℕ) (old now new : Out) (n : ℕ) (empty : written old ≡ []) (count : n ≡ (room old - room now) / 8) (set : HasLength n now new) where
   block_kept : (spec : SpecTree) (records kept : List EntriesTree) → NoFlaw spec → StandsFor codec spec → Keeps (Says call codec spec) records kept → are_some kept ≡ true → Appends old now (block_if true codec.category (CanonBody spec kept)) → KeepsOf call codec spec records n old new
   block_kept spec records [] clean stands keeps said a = absurd (let no : false ≡ true = said in cc)
@@ -289,12 +259,6 @@ module _ (call : RecordView → Bool → Type 0) (codec : Codec) (body : List �
   some_kept some e h = record { kept = λ spec records clean stands spells. (let w = h.written spec records clean stands spells in block_kept spec records w.kept clean stands w.keeps (w.said ∙ e) (subst (λ b. Appends old now (block_if b codec.category (CanonBody spec w.kept))) e w.appends)) }
 
 -- ---- what was written, for those who write LEN
-
-pub front_there : (codec : Codec) (some : Bool) (b : List ℕ) (old now : Out) → some ≡ true → Appends old now (block_if some codec.category b) → 24 ≤ length (written now)
-front_there codec some b old now e a =
-    let f = word 8 codec.category ++ word 16 0 in
-    let whole : Appends old now (f ++ b) = subst (λ s. Appends old now (block_if s codec.category b)) e a in
-    omega (arith, ap length whole.written, length-append (written old) (f ++ b), length-append f b, front_length codec.category)
 
 -- a body that fails spells no records
 pub none_if_fails : (call : RecordView → Bool → Type 0) (codec : Codec) (body : List ℕ) (fault : BodyFault) (old new : Out) → FailsThere codec body fault → IsCanonicalIf call codec body 0 old new

@@ -33,8 +33,9 @@ use Rattle.ax_reader.specs.Reading.{Gets, FailsAt, IsMaskOf, kind_read, entries_
 use Rattle.ax_view.proofs.Compounds.{marks_clear}
 use Rattle.ax_view.proofs.FieldSteps.{along_is, spelled}
 use Rattle.ax_view.proofs.CountedSteps.{each_count}
-use Rattle.ax_view.proofs.Plain.{IsPlain, plain_again}
+use Rattle.ax_view.proofs.Plain.{plain_again}
 use Rattle.ax_view.specs.Walking.{Walks, along}
+use Rattle.ax_view.specs.Plain.{IsPlain}
 
 -- ---- copied whole
 
@@ -57,9 +58,6 @@ copied_plain k body at end least old new plain bounds w free a = copied k body a
 
 pub not_copied : {A : Type 0} (rule : A → List ℕ) (found : Read A) (body : List ℕ) (at : ℕ) (out : Out) (fault : BodyFault) → at ≤ length body → 8 * (length body - at) ≤ room out → FailsAt found at fault → Rewrites rule found body at at out out
 not_copied rule found body at out fault le free l = record { forwards = omega arith; within = le; room = free; some = ([], appends_none out); state = inr (fault, l) }
-
-pub copy_room : (body : List ℕ) (at end free : ℕ) → at ≤ end → end ≤ length body → 8 * (length body - at) ≤ free → 8 * length (take (end - at) (drop at body)) ≤ free
-copy_room body at end free le within h = omega (arith, length-octets body at end le within, length-bits (take (end - at) (drop at body)))
 
 pub as_kind : (j k : KindTree) (body : List ℕ) (at end : ℕ) (old new : Out) → j ≡ k → Rewrites (canon k) (kind_read k body at) body at end old new → Rewrites (canon j) (kind_read j body at) body at end old new
 as_kind j k body at end old new e r = subst (λ k. Rewrites (canon k) (kind_read k body at) body at end old new) (sym e) r
@@ -98,18 +96,18 @@ count_first k body n at old now lt e small free a = record {
 
 -- ---- a compound or a record
 
-clear_behind : (slots : List SlotTree) (ms : List ℕ) → NoneUndefined (defined_slots (slots_of slots)) ms → AreBits ms → IsTrue (none_marked (drop (length slots) ms))
-clear_behind [] ms clear bit = none_marked_left ms clear bit
-clear_behind (s ∷ slots) [] clear bit = refl
-clear_behind (spare_slot ∷ slots) (m ∷ ms) clear bit = clear_behind slots ms clear.1 bit.1
-clear_behind (subitem name k ∷ slots) (m ∷ ms) clear bit = clear_behind slots ms clear.1 bit.1
+clear_after : (slots : List SlotTree) (ms : List ℕ) → NoneUndefined (defined_slots (slots_of slots)) ms → AreBits ms → IsTrue (none_marked (drop (length slots) ms))
+clear_after [] ms clear bit = none_marked_left ms clear bit
+clear_after (s ∷ slots) [] clear bit = refl
+clear_after (spare_slot ∷ slots) (m ∷ ms) clear bit = clear_after slots ms clear.1 bit.1
+clear_after (subitem name k ∷ slots) (m ∷ ms) clear bit = clear_after slots ms clear.1 bit.1
 
 module _ (ns : List Node) (links : List ℕ) (mask : SlotMask) (body marks : List ℕ) (at here : ℕ) (octets : AreOctets body) (bounds : InBounds (record_kind_at ns links)) (m : IsMaskOf (linked_slots (meanings ns) links) mask) (h : MarksSlots mask body at here marks) where
   pub field_room : (free : ℕ) → 8 * (length body - at) ≤ free → length (least_field marks) ≤ free
   field_room free le = omega (arith, shortest mask.count (mask_slots mask) marks (bits (take (here - at) (drop at body))) mask.few h.field, length-octets body at here (let lt = h.begins in omega arith) h.within, h.begins, h.within)
 
-  pub room_behind : (old now : Out) → 8 * (length body - at) ≤ room old → Appends old now (least_field marks) → 8 * (length body - here) ≤ room now
-  room_behind old now le a = omega (arith, a.room, shortest mask.count (mask_slots mask) marks (bits (take (here - at) (drop at body))) mask.few h.field, length-octets body at here (let lt = h.begins in omega arith) h.within, h.begins, h.within)
+  pub room_following : (old now : Out) → 8 * (length body - at) ≤ room old → Appends old now (least_field marks) → 8 * (length body - here) ≤ room now
+  room_following old now le a = omega (arith, a.room, shortest mask.count (mask_slots mask) marks (bits (take (here - at) (drop at body))) mask.few h.field, length-octets body at here (let lt = h.begins in omega arith) h.within, h.begins, h.within)
 
   pub compound_written : (end : ℕ) (old now new : Out) → Appends old now (least_field marks) → Rewrites (along (slots_of (linked_slots (meanings ns) links)) marks) (entries_at (slots_of (linked_slots (meanings ns) links)) marks body here) body here end now new
       → Rewrites (canon (record_kind_at ns links)) (kind_read (record_kind_at ns links) body at) body at end old new
@@ -129,7 +127,7 @@ module _ (ns : List Node) (links : List ℕ) (mask : SlotMask) (body marks : Lis
           let clear : NoneUndefined (defined_slots ss) marks = marks_clear slots mask body marks at here m h in
           let s = spelled slots mask body marks at here octets bounds m h es end g clear in
           let n : slot_count ss ≡ length slots = count_of_slots slots in
-          let none : IsTrue (none_marked (drop (slot_count ss) marks)) = subst (λ n. IsTrue (none_marked (drop n marks))) (sym n) (clear_behind slots marks clear bit) in
+          let none : IsTrue (none_marked (drop (slot_count ss) marks)) = subst (λ n. IsTrue (none_marked (drop n marks))) (sym n) (clear_after slots marks clear bit) in
           let field : least_presence k (marks_of 1 ss es) ≡ least_field marks =
           least_alike k (marks_of 1 ss es) marks (marks_of_spelled 1 ss marks es s.0 s.1) ∙ sym (least_alike k (take (slot_count ss) marks) marks (alike_set (slot_count ss) marks none))
           ∙ sym (least_field_of (slot_count ss) marks bounds.0 bounds.1 none) in

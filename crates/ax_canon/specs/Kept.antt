@@ -52,7 +52,7 @@ abbrev pub front_if : Bool → ℕ → List ℕ
 front_if false category = []
 front_if true category = word 8 category ++ word 16 0
 
--- the same and what stands behind it; nothing before a record is kept
+-- the same and what stands after it; nothing before a record is kept
 abbrev pub block_if : Bool → ℕ → List ℕ → List ℕ
 block_if false category b = []
 block_if true category b = front_if true category ++ b

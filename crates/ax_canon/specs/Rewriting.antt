@@ -20,7 +20,7 @@ pub record Fronts {A B : Type 0} (rule : A → List ℕ) (next : Read A) (whole_
   pub front : List ℕ
   pub appends : Appends old now front
   pub gets : (a : A) (end : ℕ) → Gets next body here end a → (b : B) × Gets whole body at end b × (whole_rule b ≡ front ++ rule a)
-  pub loses : (fault : BodyFault) → FailsAt next here fault → FailsAt whole at fault
+  pub fails : (fault : BodyFault) → FailsAt next here fault → FailsAt whole at fault
 
 -- the same, or nothing can be read
 pub record Writes {A B : Type 0} (rule : A → List ℕ) (next : Read A) (whole_rule : B → List ℕ) (whole : Read B) (body : List ℕ) (at here : ℕ) (old now : Out) : Type 0 where

@@ -7,11 +7,12 @@ ghost use Rattle.ax_fspec.specs.declared.mask.SlotMask.{SlotMask};
 ghost use Rattle.ax_model.specs.Canonical.{canon};
 ghost use Rattle.ax_model.specs.InBounds.{InBounds, SlotsInBounds};
 ghost use Rattle.ax_model.specs.Presence.{NoneUndefined};
+ghost use Rattle.ax_model.specs.Sizes.{longest_body};
 ghost use Rattle.ax_model.specs.Tree as Tree;
 ghost use Rattle.ax_tables.specs.Meaning.{meanings, linked_slots};
 ghost use Rattle.ax_tables.specs.Table.{IsTable, SlotLinksWithin, kind_at, record_kind_at};
 ghost use Rattle.ax_reader.specs.Reading.{IsMaskOf, kind_read, entries_at};
-ghost use Rattle.ax_view.proofs.Plain.{IsPlain};
+ghost use Rattle.ax_view.specs.Plain.{IsPlain};
 ghost use Rattle.ax_view.specs.Walking.{along};
 
 use ax_bits::Out;
@@ -21,7 +22,7 @@ use ax_view::{Notes, walk, walk_record};
 
 /// Appends the canonical spelling of the record at octet `at`. Answers the octet after it.
 pub(crate) fn rewrite_record(codec: &Codec, body: &[u8], at: u32, out: &mut Out<'_>) -> u32
-    requires body { length body.now ≤ 65532 }
+    requires body { length body.now ≤ longest_body }
     requires at { at ≤ length body.now }
     requires room { 8 * (length body.now - at) ≤ room out.old }
     ensures { Rewrites (canon (record_kind_at codec.now.nodes codec.now.slots)) (kind_read (record_kind_at codec.now.nodes codec.now.slots) body.now at) body.now at result out.old out.new }
@@ -49,7 +50,7 @@ fn rewrite(nodes: &[Node], link: u32, body: &[u8], at: u32, out: &mut Out<'_>) -
     requires table { IsTable nodes.now }
     requires link { (0 < link) × (link ≤ length nodes.now) }
     requires bounds { InBounds (kind_at nodes.now link) }
-    requires body { length body.now ≤ 65532 }
+    requires body { length body.now ≤ longest_body }
     requires at { at ≤ length body.now }
     requires room { 8 * (length body.now - at) ≤ room out.old }
     ensures { Rewrites (canon (kind_at nodes.now link)) (kind_read (kind_at nodes.now link) body.now at) body.now at result out.old out.new }
@@ -74,7 +75,7 @@ fn copy(nodes: &[Node], link: u32, body: &[u8], at: u32, out: &mut Out<'_>) -> u
     requires link { (0 < link) × (link ≤ length nodes.now) }
     requires bounds { InBounds (kind_at nodes.now link) }
     requires plain { IsPlain (kind_at nodes.now link) }
-    requires body { length body.now ≤ 65532 }
+    requires body { length body.now ≤ longest_body }
     requires at { at ≤ length body.now }
     requires room { 8 * (length body.now - at) ≤ room out.old }
     ensures { Rewrites (canon (kind_at nodes.now link)) (kind_read (kind_at nodes.now link) body.now at) body.now at result out.old out.new }
@@ -101,7 +102,7 @@ pub(crate) fn rewrite_counted(
     requires table { IsTable nodes.now }
     requires link { (0 < inner) × (inner ≤ length nodes.now) }
     requires bounds { InBounds (kind_at nodes.now inner) }
-    requires body { length body.now ≤ 65532 }
+    requires body { length body.now ≤ longest_body }
     requires at { at ≤ length body.now }
     requires room { 8 * (length body.now - at) ≤ room out.old }
     ensures { Rewrites (canon (Tree.counted (kind_at nodes.now inner))) (kind_read (Tree.counted (kind_at nodes.now inner)) body.now at) body.now at result out.old out.new }
@@ -132,7 +133,7 @@ pub(crate) fn rewrite_compound(
     requires links { SlotLinksWithin (length nodes.now) slots.now }
     requires mask { IsMaskOf (linked_slots (meanings nodes.now) slots.now) mask.now }
     requires bounds { InBounds (record_kind_at nodes.now slots.now) }
-    requires body { length body.now ≤ 65532 }
+    requires body { length body.now ≤ longest_body }
     requires at { at ≤ length body.now }
     requires room { 8 * (length body.now - at) ≤ room out.old }
     ensures { Rewrites (canon (record_kind_at nodes.now slots.now)) (kind_read (record_kind_at nodes.now slots.now) body.now at) body.now at result out.old out.new }
@@ -162,7 +163,7 @@ fn rewrite_marked(
     requires bounds { SlotsInBounds (Tree.slots_of (linked_slots (meanings nodes.now) slots.now)) }
     requires marks { AreBits marked }
     requires clear { NoneUndefined (Tree.defined_slots (Tree.slots_of (linked_slots (meanings nodes.now) slots.now))) marked }
-    requires body { length body.now ≤ 65532 }
+    requires body { length body.now ≤ longest_body }
     requires at { at ≤ length body.now }
     requires room { 8 * (length body.now - at) ≤ room out.old }
     ensures { Rewrites (along (Tree.slots_of (linked_slots (meanings nodes.now) slots.now)) marked) (entries_at (Tree.slots_of (linked_slots (meanings nodes.now) slots.now)) marked body.now at) body.now at result out.old out.new }

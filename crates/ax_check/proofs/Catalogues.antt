@@ -77,9 +77,6 @@ lacked category es h e = none_of (spec_of category (catalogue_tree (specs_in es)
 pub had : (category : ℕ) (es : List (ℕ × Spec)) → Keyed es → is_some (lookup (nat_eq category) es) ≡ true → is_some (spec_of category (catalogue_tree (specs_in es))) ≡ true
 had category es h e = sym (some_tree (lookup (nat_eq category) es) _ (looked_up category es h)) ∙ e
 
-count_of : (es : List (ℕ × Spec)) → length (specs_in es) ≡ length es
-count_of es = length-map es (λ e. e.1)
-
 pub placed : (es : List (ℕ × Spec)) (i : ℕ) → slice_get (specs_in es) i ≡ option_map (λ e. e.1) (slice_get es i)
 placed [] i = refl
 placed (e ∷ es) ℕ.zero = refl

@@ -14,6 +14,7 @@ use Rattle.ax_model.specs.declared.place.Place.{Place}
 use Rattle.ax_model.specs.declared.spec.Item.{Item}
 use Rattle.ax_model.specs.declared.spec.Spec.{Spec}
 use Rattle.ax_model.specs.declared.spec.UapSlot.{UapSlot}
+use Rattle.ax_model.proofs.ItemKinds.{kind_of_item, kind_of_frn}
 
 -- ---- by number
 
@@ -94,23 +95,6 @@ no_slot_step steps k ss e g = ap (λ s. kind_element s k) e ∙ ap (kind_element
 pub ruleset kind_walks = (into_slot, no_slot, into_part, no_part, no_step, one_step, no_slot_step)
 
 -- ---- items
-
-abbrev kind_of_item : Option Item → Option KindTree
-kind_of_item None = None
-kind_of_item (Some item) = Some (kind_tree item.kind)
-
-item_slot : (o : Option Item) → kind_of_slot (slot_of_item (option_map item_tree o)) ≡ kind_of_item o
-item_slot None = refl
-item_slot (Some item) = refl
-
-kind_at_place : (items : List Item) (uap : List UapSlot) (i : ℕ) → slot_kind (slots_of (map (uap_slot (map item_tree items)) uap)) (suc i) ≡ kind_of_item (item_of_slot (slice_get uap i) items)
-kind_at_place items [] i = refl
-kind_at_place items (s ∷ ss) zero = ap kind_of_slot (uap_slot_tree items s) ∙ item_slot (item_of_slot (Some s) items)
-kind_at_place items (s ∷ ss) (suc i) = kind_at_place items ss i
-
-kind_of_frn : (spec : Spec) (t : ℕ) → slot_kind (record_slots (spec_tree spec)) t ≡ kind_of_item (item_of_frn t spec.uap spec.items)
-kind_of_frn spec zero = refl
-kind_of_frn spec (suc i) = kind_at_place spec.items spec.uap i
 
 pub item_there : (spec : Spec) (place : Place) (item : Item) → item_of_frn place.frn spec.uap spec.items ≡ Some item → element_at (spec_tree spec) place ≡ kind_element place.steps (kind_tree item.kind)
 item_there spec place item e = ap (option_and_then (kind_element place.steps)) (kind_of_frn spec place.frn ∙ ap kind_of_item e)

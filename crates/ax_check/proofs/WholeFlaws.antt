@@ -2,7 +2,7 @@
 use Rattle.std.proofs.Common.{◌≡◌, ℕ, ◌+◌, ◌%◌, ◌==◌, nat_lt, Bool, not, List, ◌++◌, refl, ◌∙◌, ap, arith, append_assoc}
 use Rattle.std.proofs.lemmas.Bool.Decides.{nat_tests}
 use Rattle.ax_model.specs.Flaws.{is_no_multiple, is_too_wide}
-use Rattle.ax_model.specs.Lengths.{held}
+use Rattle.ax_model.specs.Lengths.{capped}
 
 -- ---- the tests
 
@@ -15,7 +15,7 @@ broken_unit w over e = ap not (same (over == 7) ((w + 1) % 8 == 0) refl refl)
     same : (a b : Bool) → (over == 7) ≡ a → ((w + 1) % 8 == 0) ≡ b → (over == 7) ≡ ((w + 1) % 8 == 0)
     same a b p q = grind (arith, nat_tests)
 
-pub passes : (w held_width : ℕ) → held_width ≡ held w → nat_lt 524256 held_width ≡ is_too_wide w
+pub passes : (w held_width : ℕ) → held_width ≡ capped w → nat_lt 524256 held_width ≡ is_too_wide w
 passes w held_width e = grind (arith, nat_tests)
 
 -- ---- three lists joined

@@ -1,6 +1,7 @@
 ghost use Rattle.std.specs.Prelude.{◌≡◌, ◌∷◌, ◌++◌, [], ◌<◌, ◌↔◌, None, Some, length, map, nat_eq, slice_get, option_map, OnOk, OnErr, IfErr, IsSome, MatchOption};
 ghost use Rattle.std.specs.List.{IsDistinct};
 ghost use Rattle.std.specs.Option.{option_copied};
+ghost use Rattle.ax_lists.specs.Sizes.{list_bound};
 ghost use Rattle.ax_model.specs.Plain.{spec_tree, catalogue_tree};
 ghost use Rattle.ax_model.specs.Specification.{spec_of};
 ghost use Rattle.ax_check.specs.Adding.{WhyRefused};
@@ -27,6 +28,7 @@ impl Model for Catalogue {
     ghost use Rattle.std.specs.Coded.{coded_list};
     ghost use Rattle.ax_model.specs.contracts.spec.Spec as row;
     ghost use Rattle.ax_model.specs.declared.spec.Spec.{Spec};
+    ghost use Rattle.ax_lists.specs.Sizes.{list_bound};
 
     ghost Value = { List Spec };
 
@@ -34,7 +36,7 @@ impl Model for Catalogue {
 
     ghost view = { λ c. map (λ e. e.1) c.specs.entries };
 
-    ghost invariant = { λ c. AllByRecursion (λ e. e.0 ≡ e.1.category) c.specs.entries × (length c.specs.entries < 4294967296) };
+    ghost invariant = { λ c. AllByRecursion (λ e. e.0 ≡ e.1.category) c.specs.entries × (length c.specs.entries < list_bound) };
 }
 
 impl Catalogue {

@@ -6,7 +6,7 @@ use Rattle.ax_edition.specs.Numbers.{Counts}
 use Rattle.ax_edition.specs.UapItems.{item_slot, items_tree}
 use Rattle.ax_edition.specs.declared.index.Index.{Index}
 use Rattle.ax_edition_laws.proofs.Lookups.{found_is}
-use Rattle.ax_model.specs.Lengths.{kind_of_slot, kind_behind}
+use Rattle.ax_model.specs.Lengths.{kind_of_slot, kind_after}
 use Rattle.ax_model.specs.Naming.{found_or, slot_named}
 use Rattle.ax_model.specs.Plain.{slot_tree, slots_tree}
 use Rattle.ax_model.specs.Tree.{KindTree, SlotTree, SlotsTree, no_slots, slots_of, slot_and, spare_slot, subitem}
@@ -15,14 +15,14 @@ use Rattle.ax_model.specs.declared.kind.Slot.{Slot}
 use Rattle.ax_model.specs.declared.spec.Item.{Item}
 
 -- the slot found has its number's kind
-named_kind : (n : ℕ) (name : List ℕ) (ss : SlotsTree) (t : ℕ) (k : KindTree) → slot_named n name ss ≡ Some (t, k) → (i : ℕ) × (t ≡ n + i) × (kind_behind i ss ≡ Some k)
+named_kind : (n : ℕ) (name : List ℕ) (ss : SlotsTree) (t : ℕ) (k : KindTree) → slot_named n name ss ≡ Some (t, k) → (i : ℕ) × (t ≡ n + i) × (kind_after i ss ≡ Some k)
 named_kind n name no_slots t k e = absurd (cc)
 named_kind n name (slot_and spare_slot ss) t k e =
     let h = named_kind (n + 1) name ss t k e in (suc h.0, (let q = h.1 in omega (arith, q)), h.2)
 named_kind n name (slot_and (subitem own l) ss) t k e = by (bytes_eq own name) e (λ f. named_kind (n + 1) name ss t k f)
   where
-    by : (b : Bool) → found_or (cond b (Some l) None) n (slot_named (n + 1) name ss) ≡ Some (t, k) → (slot_named (n + 1) name ss ≡ Some (t, k) → (i : ℕ) × (t ≡ n + 1 + i) × (kind_behind i ss ≡ Some k))
-        → (i : ℕ) × (t ≡ n + i) × (kind_behind i (slot_and (subitem own l) ss) ≡ Some k)
+    by : (b : Bool) → found_or (cond b (Some l) None) n (slot_named (n + 1) name ss) ≡ Some (t, k) → (slot_named (n + 1) name ss ≡ Some (t, k) → (i : ℕ) × (t ≡ n + 1 + i) × (kind_after i ss ≡ Some k))
+        → (i : ℕ) × (t ≡ n + i) × (kind_after i (slot_and (subitem own l) ss) ≡ Some k)
     by true e later =
         let f = found_is (n, l) (t, k) e in (0, (let q = f.0 in omega (arith, q)), ap Some f.1)
     by false e later =
@@ -30,7 +30,7 @@ named_kind n name (slot_and (subitem own l) ss) t k e = by (bytes_eq own name) e
 
 -- kinds that are those of slots, by number
 module _ {A : Type 0} (tree : A → SlotTree) where
-  numbered_kinds : (ss : List A) (kinds : List (Option (Bor Kind))) (i : ℕ) → map seen_kind kinds ≡ map (λ s. kind_of_slot (tree s)) ss → option_and_then seen_kind (slice_get kinds i) ≡ kind_behind i (slots_of (map tree ss))
+  numbered_kinds : (ss : List A) (kinds : List (Option (Bor Kind))) (i : ℕ) → map seen_kind kinds ≡ map (λ s. kind_of_slot (tree s)) ss → option_and_then seen_kind (slice_get kinds i) ≡ kind_after i (slots_of (map tree ss))
   numbered_kinds [] [] i e = refl
   numbered_kinds [] (k ∷ kinds) i e = cc
   numbered_kinds (s ∷ ss) [] i e = cc

@@ -12,6 +12,7 @@ ghost use Rattle.ax_model.specs.Migrated.{MigratedBlock, Migrated, Lost};
 ghost use Rattle.ax_model.specs.Named.{NamedEntry, Named, named_paths};
 ghost use Rattle.ax_model.specs.Placed.{place_from, named_place, placed_paths};
 ghost use Rattle.ax_model.specs.Same.{Same, is_same};
+ghost use Rattle.ax_model.specs.Sizes.{longest_block};
 ghost use Rattle.ax_model.specs.Specification.{SpecTree};
 ghost use Rattle.ax_model.specs.Tree.{KindTree, EntriesTree};
 ghost use Rattle.ax_model.specs.declared.place.Place.{Place};
@@ -54,7 +55,7 @@ pub fn named_paths_lead_to_their_places()
 /// A migrated block of a block of at most 65,535 octets has fewer than 2^32 octets.
 pub fn migrated_block_is_small()
     ensures { (old new : SpecTree) (block made : BlockTree) →
-        NoFlaw old → NoFlaw new → Fits old block → MigratedBlock old new block made → canon_length old block ≤ 65535 → canon_length new made < 4294967296 }
+        NoFlaw old → NoFlaw new → Fits old block → MigratedBlock old new block made → canon_length old block ≤ longest_block → canon_length new made < 4294967296 }
 {}
 
 /// A named path is present in a record exactly where its place is.

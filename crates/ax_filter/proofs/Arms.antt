@@ -4,7 +4,7 @@ use Rattle.std.specs.Prelude.{bytes_eq}
 use Rattle.std.specs.List.{AllByRecursion}
 use Rattle.ax_token_reader.specs.Stopping.{Texts, first_with, StopsAt, IsNotFirst, Stops, One, joined}
 use Rattle.ax_token_reader.specs.declared.stopped.Stopped.{Stopped}
-use Rattle.ax_token_reader.proofs.Stops.{behind_lacks}
+use Rattle.ax_token_reader.proofs.Stops.{after_lacks}
 use Rattle.ax_filter.specs.Words.{op_text, keyword_text, path_word, int_text, IsPathText, IsKeyword}
 use Rattle.ax_filter.specs.Tree.{ExprTree, all_of, any_of, not_of, present, compared, ExprsTree, no_exprs, expr_and}
 use Rattle.ax_filter.specs.Spelling.{opening, closing, expr_texts, exprs_texts, AllInForm, IsExpr}
@@ -28,8 +28,8 @@ scatter (expr_and e es) i =
 
 -- ---- after each word
 
-behind : (a b : List ℕ) (x y : Texts) → a ∷ x ≡ b ∷ y → x ≡ y
-behind a b x y e = cc
+following : (a b : List ℕ) (x y : Texts) → a ∷ x ≡ b ∷ y → x ≡ y
+following a b x y e = cc
 
 append-none : (x : Texts) → x ≡ x ++ []
 append-none [] = refl
@@ -53,14 +53,14 @@ pub all_f : (t : Texts) → IsBraced t → IsExpr (keyword_text Word.All ∷ t)
 all_f t b = let l = list_texts t b in (all_of l.0, l.1, ap (λ x. keyword_text Word.All ∷ x) l.2)
 
 all_g : (t : Texts) → IsExpr (keyword_text Word.All ∷ t) → IsBraced t
-all_g t (all_of es, i, h) = texts_list es t i (behind _ _ _ _ h)
+all_g t (all_of es, i, h) = texts_list es t i (following _ _ _ _ h)
 all_g t (e, i, h) = absurd (other (keyword_text Word.All) t e refl h)
 
 pub any_f : (t : Texts) → IsBraced t → IsExpr (keyword_text Word.Any ∷ t)
 any_f t b = let l = list_texts t b in (any_of l.0, l.1, ap (λ x. keyword_text Word.Any ∷ x) l.2)
 
 any_g : (t : Texts) → IsExpr (keyword_text Word.Any ∷ t) → IsBraced t
-any_g t (any_of es, i, h) = texts_list es t i (behind _ _ _ _ h)
+any_g t (any_of es, i, h) = texts_list es t i (following _ _ _ _ h)
 any_g t (e, i, h) = absurd (other (keyword_text Word.Any) t e refl h)
 
 pub not_f : (t : Texts) → IsNegated t → IsExpr (keyword_text Word.Not ∷ t)
@@ -68,14 +68,14 @@ not_f t (a, b, e, w, (c, d, f, (x, i, g), v)) =
     (not_of x, i, ap (λ y. keyword_text Word.Not ∷ y) (e ∙ ap (λ y. y ++ b) w ∙ ap (λ y. opening ∷ y) (f ∙ ap (λ y. y ++ d) g ∙ ap (λ y. expr_texts x ++ y) v)))
 
 not_g : (t : Texts) → IsExpr (keyword_text Word.Not ∷ t) → IsNegated t
-not_g t (not_of e, i, h) = (opening ∷ [], expr_texts e ++ closing ∷ [], behind _ _ _ _ h, refl, (expr_texts e, closing ∷ [], refl, (e, i, refl), refl))
+not_g t (not_of e, i, h) = (opening ∷ [], expr_texts e ++ closing ∷ [], following _ _ _ _ h, refl, (expr_texts e, closing ∷ [], refl, (e, i, refl), refl))
 not_g t (e, i, h) = absurd (other (keyword_text Word.Not) t e refl h)
 
 pub present_f : (t : Texts) → One IsPathText t → IsExpr (keyword_text Word.Present ∷ t)
 present_f t (text, e, (path, i, w)) = (present path, i, ap (λ y. keyword_text Word.Present ∷ y) (e ∙ ap (λ y. y ∷ []) w))
 
 present_g : (t : Texts) → IsExpr (keyword_text Word.Present ∷ t) → One IsPathText t
-present_g t (present path, i, h) = (path_word path, behind _ _ _ _ h, (path, i, refl))
+present_g t (present path, i, h) = (path_word path, following _ _ _ _ h, (path, i, refl))
 present_g t (e, i, h) = absurd (other (keyword_text Word.Present) t e refl h)
 
 pub is_f : (t : Texts) → IsComparison t → IsExpr (keyword_text Word.Is ∷ t)
@@ -90,7 +90,7 @@ is_g : (t : Texts) → IsExpr (keyword_text Word.Is ∷ t) → IsComparison t
 is_g t (compared path op number, i, h) = (
   path_word path ∷ [],
   op_text op ∷ int_text number ∷ [],
-  behind _ _ _ _ h,
+  following _ _ _ _ h,
   (path_word path, refl, (path, i.0, refl)),
   (op_text op ∷ [], int_text number ∷ [], refl, (op_text op, refl, (op, refl)), (int_text number, refl, (number, i.1, refl))),
 )
@@ -108,41 +108,41 @@ nothing (compared path op number) h = cc
 no_expr : IsExpr [] → ⊥
 no_expr (e, i, h) = nothing e h
 
-stops_behind : (L : Texts → Type 0) (word : List ℕ) → ((t : Texts) → L t → IsExpr (word ∷ t)) → ((t : Texts) → IsExpr (word ∷ t) → L t) → (stopped : Stopped) (old rest new : Texts) → old ≡ word ∷ rest → Stops stopped L rest new
+stops_after : (L : Texts → Type 0) (word : List ℕ) → ((t : Texts) → L t → IsExpr (word ∷ t)) → ((t : Texts) → IsExpr (word ∷ t) → L t) → (stopped : Stopped) (old rest new : Texts) → old ≡ word ∷ rest → Stops stopped L rest new
     → Stops stopped IsExpr old new
-stops_behind L word f g = behind_lacks L IsExpr word no_expr f g
+stops_after L word f g = after_lacks L IsExpr word no_expr f g
 
 pub all_stops : (stopped : Stopped) (old rest new : Texts) → old ≡ keyword_text Word.All ∷ rest → Stops stopped IsBraced rest new → Stops stopped IsExpr old new
-all_stops = stops_behind IsBraced (keyword_text Word.All) all_f all_g
+all_stops = stops_after IsBraced (keyword_text Word.All) all_f all_g
 
 pub any_stops : (stopped : Stopped) (old rest new : Texts) → old ≡ keyword_text Word.Any ∷ rest → Stops stopped IsBraced rest new → Stops stopped IsExpr old new
-any_stops = stops_behind IsBraced (keyword_text Word.Any) any_f any_g
+any_stops = stops_after IsBraced (keyword_text Word.Any) any_f any_g
 
 pub not_stops : (stopped : Stopped) (old rest new : Texts) → old ≡ keyword_text Word.Not ∷ rest → Stops stopped IsNegated rest new → Stops stopped IsExpr old new
-not_stops = stops_behind IsNegated (keyword_text Word.Not) not_f not_g
+not_stops = stops_after IsNegated (keyword_text Word.Not) not_f not_g
 
 pub present_stops : (stopped : Stopped) (old rest new : Texts) → old ≡ keyword_text Word.Present ∷ rest → Stops stopped (One IsPathText) rest new → Stops stopped IsExpr old new
-present_stops = stops_behind (One IsPathText) (keyword_text Word.Present) present_f present_g
+present_stops = stops_after (One IsPathText) (keyword_text Word.Present) present_f present_g
 
 pub is_stops : (stopped : Stopped) (old rest new : Texts) → old ≡ keyword_text Word.Is ∷ rest → Stops stopped IsComparison rest new → Stops stopped IsExpr old new
-is_stops = stops_behind IsComparison (keyword_text Word.Is) is_f is_g
+is_stops = stops_after IsComparison (keyword_text Word.Is) is_f is_g
 
 -- no first word
 first_text : (a b : List ℕ) (x y : Texts) → a ∷ x ≡ b ∷ y → a ≡ b
 first_text a b x y e = cc
 
-expr_begins : (e : ExprTree) (behind : Texts) → (t : Texts) × (expr_texts e ++ behind ≡ keyword_text (keyword_in e) ∷ t)
-expr_begins (all_of es) behind = (_, refl)
-expr_begins (any_of es) behind = (_, refl)
-expr_begins (not_of e) behind = (_, refl)
-expr_begins (present path) behind = (_, refl)
-expr_begins (compared path op number) behind = (_, refl)
+expr_begins : (e : ExprTree) (following : Texts) → (t : Texts) × (expr_texts e ++ following ≡ keyword_text (keyword_in e) ∷ t)
+expr_begins (all_of es) following = (_, refl)
+expr_begins (any_of es) following = (_, refl)
+expr_begins (not_of e) following = (_, refl)
+expr_begins (present path) following = (_, refl)
+expr_begins (compared path op number) following = (_, refl)
 
-word_refuses : (texts : Texts) → IsNotFirst IsKeyword texts → (member behind more : Texts) → IsExpr member → member ++ behind ≡ first_with texts more → ⊥
-word_refuses [] n member behind more (e, i, p) h = let b = expr_begins e behind in let bad : keyword_text (keyword_in e) ∷ b.0 ≡ [] = sym b.1 ∙ sym (ap (λ t. t ++ behind) p) ∙ h in absurd cc
-word_refuses (text ∷ texts) n member behind more (e, i, p) h =
-    let b = expr_begins e behind in
-    n (keyword_in e, first_text text _ more b.0 (sym h ∙ ap (λ t. t ++ behind) p ∙ b.1))
+word_refuses : (texts : Texts) → IsNotFirst IsKeyword texts → (member following more : Texts) → IsExpr member → member ++ following ≡ first_with texts more → ⊥
+word_refuses [] n member following more (e, i, p) h = let b = expr_begins e following in let bad : keyword_text (keyword_in e) ∷ b.0 ≡ [] = sym b.1 ∙ sym (ap (λ t. t ++ following) p) ∙ h in absurd cc
+word_refuses (text ∷ texts) n member following more (e, i, p) h =
+    let b = expr_begins e following in
+    n (keyword_in e, first_text text _ more b.0 (sym h ∙ ap (λ t. t ++ following) p ∙ b.1))
 
 pub word_stops : (texts : Texts) → IsNotFirst IsKeyword texts → StopsAt IsExpr texts texts
 word_stops texts n = record {

@@ -38,9 +38,6 @@ pub ruleset sizes = (no_size, too_long)
 
 -- ---- with a sign
 
-front : (a b : ℕ) (x y : List ℕ) → a ∷ x ≡ b ∷ y → a ≡ b
-front a b x y e = cc
-
 rest : (a b : ℕ) (x y : List ℕ) → a ∷ x ≡ b ∷ y → x ≡ y
 rest a b x y e = cc
 

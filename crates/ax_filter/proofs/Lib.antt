@@ -1,5 +1,4 @@
 pub mod Decimals
-pub mod Categories
 pub mod FullPaths
 pub mod Tokens
 pub mod Unique

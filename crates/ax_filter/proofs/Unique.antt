@@ -47,8 +47,8 @@ never_closing (not_of e) = refl
 never_closing (present path) = refl
 never_closing (compared path op number) = refl
 
-behind : (a b : List ℕ) (x y : Texts) → a ∷ x ≡ b ∷ y → x ≡ y
-behind a b x y e = cc
+following : (a b : List ℕ) (x y : Texts) → a ∷ x ≡ b ∷ y → x ≡ y
+following a b x y e = cc
 
 front : (a b : List ℕ) (x y : Texts) → a ∷ x ≡ b ∷ y → a ≡ b
 front a b x y e = cc
@@ -67,24 +67,24 @@ same_op op other e = let found = sym (op_back op) ∙ ap op_of e ∙ op_back oth
 
 mutual
   pub same_expr : (e f : ExprTree) → InForm e → InForm f → (x y : Texts) → expr_texts e ++ x ≡ expr_texts f ++ y → (e ≡ f) × (x ≡ y)
-  same_expr (all_of es) (all_of fs) i j x y h = let r = same_exprs es fs i j x y (behind _ _ _ _ (behind _ _ _ _ h)) in (ap all_of r.0, r.1)
-  same_expr (any_of es) (any_of fs) i j x y h = let r = same_exprs es fs i j x y (behind _ _ _ _ (behind _ _ _ _ h)) in (ap any_of r.0, r.1)
+  same_expr (all_of es) (all_of fs) i j x y h = let r = same_exprs es fs i j x y (following _ _ _ _ (following _ _ _ _ h)) in (ap all_of r.0, r.1)
+  same_expr (any_of es) (any_of fs) i j x y h = let r = same_exprs es fs i j x y (following _ _ _ _ (following _ _ _ _ h)) in (ap any_of r.0, r.1)
   same_expr (not_of e) (not_of f) i j x y h =
-      let r = same_expr e f i j (closing ∷ x) (closing ∷ y) (sym (append_assoc (expr_texts e) (closing ∷ []) x) ∙ behind _ _ _ _ (behind _ _ _ _ h) ∙ append_assoc (expr_texts f) (closing ∷ []) y) in
-      (ap not_of r.0, behind _ _ _ _ r.1)
-  same_expr (present p) (present q) i j x y h = (ap present (same_path p q i j (front _ _ _ _ (behind _ _ _ _ h))), behind _ _ _ _ (behind _ _ _ _ h))
+      let r = same_expr e f i j (closing ∷ x) (closing ∷ y) (sym (append_assoc (expr_texts e) (closing ∷ []) x) ∙ following _ _ _ _ (following _ _ _ _ h) ∙ append_assoc (expr_texts f) (closing ∷ []) y) in
+      (ap not_of r.0, following _ _ _ _ r.1)
+  same_expr (present p) (present q) i j x y h = (ap present (same_path p q i j (front _ _ _ _ (following _ _ _ _ h))), following _ _ _ _ (following _ _ _ _ h))
   same_expr (compared p o n) (compared q r m) i j x y h =
-      let h1 = behind _ _ _ _ h in
-      let h2 = behind _ _ _ _ h1 in
-      let h3 = behind _ _ _ _ h2 in
+      let h1 = following _ _ _ _ h in
+      let h2 = following _ _ _ _ h1 in
+      let h3 = following _ _ _ _ h2 in
       let a : p ≡ q = same_path p q i.0 j.0 (front _ _ _ _ h1) in
       let b : o ≡ r = same_op o r (front _ _ _ _ h2) in
       let c : n ≡ m = same_int n m i.1 j.1 (front _ _ _ _ h3) in
-      ((λ k. compared (a k) (b k) (c k)), behind _ _ _ _ h3)
+      ((λ k. compared (a k) (b k) (c k)), following _ _ _ _ h3)
   same_expr e f i j x y h = absurd (apart f y (expr_texts e ++ x) refl h)
 
   pub same_exprs : (es fs : ExprsTree) → AllInForm es → AllInForm fs → (x y : Texts) → (exprs_texts es ++ closing ∷ []) ++ x ≡ (exprs_texts fs ++ closing ∷ []) ++ y → (es ≡ fs) × (x ≡ y)
-  same_exprs no_exprs no_exprs i j x y h = (refl, behind _ _ _ _ h)
+  same_exprs no_exprs no_exprs i j x y h = (refl, following _ _ _ _ h)
   same_exprs no_exprs (expr_and f fs) i j x y h = absurd (apart f _ (closing ∷ x) (never_closing f) (h ∙ shift (expr_texts f) (exprs_texts fs) (closing ∷ []) y))
   same_exprs (expr_and e es) no_exprs i j x y h = absurd (apart e _ (closing ∷ y) (never_closing e) (sym h ∙ shift (expr_texts e) (exprs_texts es) (closing ∷ []) x))
   same_exprs (expr_and e es) (expr_and f fs) i j x y h =
@@ -96,4 +96,4 @@ pub expr_free : PrefixFree IsExpr
 expr_free a b x y (e, i, p) (f, j, q) h = p ∙ ap expr_texts (same_expr e f i j x y (sym (ap (λ t. t ++ x) p) ∙ h ∙ ap (λ t. t ++ y) q)).0 ∙ sym q
 
 pub expr_never : NeverBegins IsExpr closing
-expr_never member behind x (e, i, p) h = apart e behind (closing ∷ x) (never_closing e) (sym h ∙ ap (λ t. t ++ behind) p)
+expr_never member following x (e, i, p) h = apart e following (closing ∷ x) (never_closing e) (sym h ∙ ap (λ t. t ++ following) p)

@@ -6,11 +6,11 @@ ghost use Rattle.ax_filter.specs.Tests.{test_tree, tests_of, number_for, passes,
 
 use crate::comparing::compares_as;
 use crate::expr::Op;
-use crate::places::Places;
+use crate::places::HasPlaces;
 use crate::test::{Element, Test, Tests};
 use ax_model::Place;
 
-fn stands<R: Places>(place: &Option<Place>, one: &R) -> bool
+fn stands<R: HasPlaces>(place: &Option<Place>, one: &R) -> bool
     ensures { result ≡ some_passes (is_present (R.entries one.now)) place.now }
 {
     match place {
@@ -20,7 +20,7 @@ fn stands<R: Places>(place: &Option<Place>, one: &R) -> bool
 }
 
 /// Whether the element's number compares so with the other one. It doesn't where it is absent.
-fn measures<R: Places>(element: &Option<Element>, op: Op, other: i128, one: &R) -> bool
+fn measures<R: HasPlaces>(element: &Option<Element>, op: Op, other: i128, one: &R) -> bool
     ensures { result ≡ some_passes (λ n. compares op n other) (option_and_then (number_for (R.entries one.now)) element.now) }
 {
     let Some(element) = element else {
@@ -35,7 +35,7 @@ fn measures<R: Places>(element: &Option<Element>, op: Op, other: i128, one: &R) 
 /// Whether each of the tests holds.
 #[cycle(pass)]
 #[tactic(auto, using(crate::proofs::TestLists::alls))]
-fn all_pass<R: Places>(tests: &Tests, category: u8, one: &R) -> bool
+fn all_pass<R: HasPlaces>(tests: &Tests, category: u8, one: &R) -> bool
     ensures { result ≡ all_pass category (R.entries one.now) (tests_of (map test_tree tests.now)) }
 {
     for test in tests.as_slice() {
@@ -49,7 +49,7 @@ fn all_pass<R: Places>(tests: &Tests, category: u8, one: &R) -> bool
 /// Whether some of the tests holds.
 #[cycle(pass)]
 #[tactic(auto, using(crate::proofs::TestLists::anys))]
-fn any_passes<R: Places>(tests: &Tests, category: u8, one: &R) -> bool
+fn any_passes<R: HasPlaces>(tests: &Tests, category: u8, one: &R) -> bool
     ensures { result ≡ any_passes category (R.entries one.now) (tests_of (map test_tree tests.now)) }
 {
     for test in tests.as_slice() {
@@ -63,7 +63,7 @@ fn any_passes<R: Places>(tests: &Tests, category: u8, one: &R) -> bool
 /// Whether the test holds of a record of that category.
 #[cycle(pass)]
 #[tactic(auto, using(crate::proofs::Trees::passing))]
-pub fn passes<R: Places>(test: &Test, category: u8, one: &R) -> bool
+pub fn passes<R: HasPlaces>(test: &Test, category: u8, one: &R) -> bool
     ensures { result ≡ passes category (R.entries one.now) (test_tree test.now) }
 {
     match test {

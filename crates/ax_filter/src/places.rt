@@ -10,7 +10,7 @@ use ax_model::{Place, Record};
 use ax_view::RecordView;
 
 /// A record, as far as a filter asks for it. Nothing here takes memory.
-pub trait Places {
+pub trait HasPlaces {
     // The record's entries.
     ghost entries: { Self → EntriesTree };
 
@@ -23,7 +23,7 @@ pub trait Places {
         ensures { result ≡ At (entries self.now) place.now };
 }
 
-impl Places for Record {
+impl HasPlaces for Record {
     ghost entries = { λ one. record_tree one };
 
     fn has(&self, place: &Place) -> bool {
@@ -35,7 +35,7 @@ impl Places for Record {
     }
 }
 
-impl Places for RecordView<'_, '_> {
+impl HasPlaces for RecordView<'_, '_> {
     ghost entries = { λ one. record_entries one };
 
     fn has(&self, place: &Place) -> bool {

@@ -6,6 +6,7 @@ use Rattle.ax_filter.specs.Tree.{ExprTree}
 use Rattle.ax_model.specs.Blocks.{read_block}
 use Rattle.ax_model.specs.Bodies.{SpellsBody}
 use Rattle.ax_model.specs.Flaws.{NoFlaw}
+use Rattle.ax_model.specs.Sizes.{longest_block}
 use Rattle.ax_model.specs.Specification.{SpecTree}
 use Rattle.ax_model.specs.Tree.{EntriesTree}
 use Rattle.ax_tables.specs.Standing.{StandsFor}
@@ -15,7 +16,7 @@ use Rattle.ax_tables.specs.declared.codec.Codec.{Codec}
 pub record BeginsWithMatching (catalogue : List SpecTree) (e : ExprTree) (spec : SpecTree) (records : List EntriesTree) (count : ℕ) (output : List ℕ) : Type 0 where
   pub laid : take (8 * count) output ≡ bits (filtered catalogue e spec (read_block spec.category records))
   pub counted : count ≡ length (filtered catalogue e spec (read_block spec.category records))
-  pub within : count ≤ 65535
+  pub within : count ≤ longest_block
 
 -- of the records that the body spells, for each specification that the codec stands for
 pub record LaysMatchingBits (catalogue : List SpecTree) (e : ExprTree) (codec : Codec) (body : List ℕ) (count : ℕ) (output : List ℕ) : Type 0 where
@@ -24,7 +25,7 @@ pub record LaysMatchingBits (catalogue : List SpecTree) (e : ExprTree) (codec : 
 -- so many octets of the output are that block
 pub record IsMatchingBlock (catalogue : List SpecTree) (e : ExprTree) (spec : SpecTree) (records : List EntriesTree) (count : ℕ) (output : List ℕ) : Type 0 where
   pub laid : take count output ≡ filtered catalogue e spec (read_block spec.category records)
-  pub within : count ≤ 65535
+  pub within : count ≤ longest_block
 
 pub record LaysMatching (catalogue : List SpecTree) (e : ExprTree) (codec : Codec) (body : List ℕ) (count : ℕ) (output : List ℕ) : Type 0 where
   pub block : (spec : SpecTree) (records : List EntriesTree) → NoFlaw spec → StandsFor codec spec → SpellsBody spec records (bits body) → IsMatchingBlock catalogue e spec records count output

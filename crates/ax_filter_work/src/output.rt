@@ -3,6 +3,7 @@ ghost use Rattle.std.specs.Prelude.{◌≡◌, ◌≤◌, length, IfOk, IfErr};
 ghost use Rattle.ax_bits.specs.Bits.{bits};
 ghost use Rattle.ax_filter.specs.OfCode.{expression, catalogue_of};
 ghost use Rattle.ax_filter_work.specs.Laid.{LaysMatching, LaysMatchingBits};
+ghost use Rattle.ax_model.specs.Sizes.{longest_block, longest_body};
 ghost use Rattle.ax_view.specs.Views.{FailsThere, SpellsSome};
 
 use ax_bits::Out;
@@ -21,13 +22,13 @@ pub(crate) fn lay_matching(
     body: &[u8],
     output: &mut [u8],
 ) -> Result<u32, BodyFault>
-    requires size { (1 ≤ length body.now) × (length body.now ≤ 65532) }
-    requires room { length output.old ≡ 65535 }
+    requires size { (1 ≤ length body.now) × (length body.now ≤ longest_body) }
+    requires room { length output.old ≡ longest_block }
     requires category { codec.now.category ≡ category }
     ensures spelled { IfOk result (λ count. SpellsSome codec.now body.now) }
     ensures laid { IfOk result (λ count. LaysMatching (catalogue_of filter.now) (expression filter.now) codec.now body.now count output.new) }
     ensures fault { IfErr result (λ fault. FailsThere codec.now body.now fault) }
-    ensures room { length output.new ≡ 65535 }
+    ensures room { length output.new ≡ longest_block }
 {
     lay_matching_bits(filter, codec, category, body, output)
 }
@@ -40,13 +41,13 @@ fn lay_matching_bits(
     body: &[u8],
     output: &mut [u8],
 ) -> Result<u32, BodyFault>
-    requires size { (1 ≤ length body.now) × (length body.now ≤ 65532) }
-    requires room { length output.old ≡ 65535 }
+    requires size { (1 ≤ length body.now) × (length body.now ≤ longest_body) }
+    requires room { length output.old ≡ longest_block }
     requires category { codec.now.category ≡ category }
     ensures spelled { IfOk result (λ count. SpellsSome codec.now body.now) }
     ensures laid { IfOk result (λ count. LaysMatchingBits (catalogue_of filter.now) (expression filter.now) codec.now body.now count (bits output.new)) }
     ensures fault { IfErr result (λ fault. FailsThere codec.now body.now fault) }
-    ensures room { length output.new ≡ 65535 }
+    ensures room { length output.new ≡ longest_block }
 {
     let matches = |one: &RecordView<'_, '_>| filter.holds(category, one);
     let mut out = Out::over(output);

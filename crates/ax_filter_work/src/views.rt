@@ -2,6 +2,7 @@
 ghost use Rattle.std.specs.Prelude.{◌≡◌, ◌≤◌, length, IfOk};
 ghost use Rattle.ax_filter.specs.OfCode.{expression, catalogue_of};
 ghost use Rattle.ax_filter_work.specs.FilterCommand.{filter_command};
+ghost use Rattle.ax_model.specs.Sizes.{longest_block};
 ghost use Rattle.ax_tables.specs.Standing.{StandForEach};
 
 use crate::output::lay_matching;
@@ -22,8 +23,8 @@ pub struct FilterViews<'f, 'c> {
     codecs: &'f Codecs,
     output: Vec<u8>,
     filled: u32,
-    ghost room: { length output.items ≡ 65535 },
-    ghost within: { filled ≤ 65535 },
+    ghost room: { length output.items ≡ longest_block },
+    ghost within: { filled ≤ longest_block },
 }
 
 impl<'f, 'c> FilterViews<'f, 'c> {

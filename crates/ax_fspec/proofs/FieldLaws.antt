@@ -18,6 +18,7 @@ use Rattle.ax_fspec.specs.declared.mask.SlotMask.{SlotMask}
 use Rattle.ax_fspec.proofs.Sets.{none_of_no_marks}
 use Rattle.ax_fspec.proofs.FieldsRead.{bits_parts}
 use Rattle.ax_fspec.proofs.FieldsWritten.{none_left, marks_after_is, least_true, least_false}
+use Rattle.ax_model.proofs.Unmarked.{none_first, none_later}
 
 -- ---- a field is read in one way
 
@@ -59,16 +60,6 @@ one_set n ds marked other b l f g =
 
 -- ---- the least field is a field, and the shortest
 
-none_first : (ms : List ℕ) → IsTrue (none_marked ms) → first_mark ms ≡ 0
-none_first [] h = refl
-none_first (zero ∷ ms) h = refl
-none_first (suc m ∷ ms) h = cc
-
-none_later : (ms : List ℕ) → IsTrue (none_marked ms) → IsTrue (none_marked (later_marks ms))
-none_later [] h = refl
-none_later (zero ∷ ms) h = h
-none_later (suc m ∷ ms) h = cc
-
 pub alike_front : (m : ℕ) (ms : List ℕ) → IsTrue (none_marked (drop m ms)) → Alike ms (take m ms)
 alike_front zero [] h = refl
 alike_front zero (zero ∷ ms) h = (refl, alike_front zero ms h)
@@ -100,10 +91,10 @@ bits_front zero ms h = tt
 bits_front (suc n) [] h = tt
 bits_front (suc n) (m ∷ ms) h = (h.0, bits_front n ms h.1)
 
-bits_behind : (n : ℕ) (ms : List ℕ) → AreBits ms → AreBits (drop n ms)
-bits_behind zero ms h = h
-bits_behind (suc n) [] h = tt
-bits_behind (suc n) (m ∷ ms) h = bits_behind n ms h.1
+bits_after : (n : ℕ) (ms : List ℕ) → AreBits ms → AreBits (drop n ms)
+bits_after zero ms h = h
+bits_after (suc n) [] h = tt
+bits_after (suc n) (m ∷ ms) h = bits_after n ms h.1
 
 least_at : (k : ℕ) (ms : List ℕ) (b : Bool) → none_marked (drop 7 ms) ≡ b → AreBits ms → 7 ≤ length ms → (b ≡ false → Least k (drop 7 ms)) → Least (suc k) ms
 least_at k ms true e bit long later = record {
@@ -131,15 +122,15 @@ least_at k ms false e bit long later =
       no_other = ap none_marked (ap (λ n. drop n ms) next ∙ sym (drop-drop (7 * rest.octets) 7 ms)) ∙ rest.no_other;
     }
 
-behind : (k : ℕ) (ms : List ℕ) → drop (7 * suc k) ms ≡ drop (7 * k) (drop 7 ms)
-behind k ms = ap (λ n. drop n ms) (let e : 7 * suc k ≡ 7 + 7 * k = omega arith in e) ∙ sym (drop-drop (7 * k) 7 ms)
+following : (k : ℕ) (ms : List ℕ) → drop (7 * suc k) ms ≡ drop (7 * k) (drop 7 ms)
+following k ms = ap (λ n. drop n ms) (let e : 7 * suc k ≡ 7 + 7 * k = omega arith in e) ∙ sym (drop-drop (7 * k) 7 ms)
 
 least_is : (k : ℕ) (ms : List ℕ) → 1 ≤ k → AreBits ms → 7 * k ≤ length ms → IsTrue (none_marked (drop (7 * k) ms)) → Least k ms
 least_is zero ms some bit long none = absurd (omega arith)
 least_is (suc zero) ms some bit long none = least_at zero ms (none_marked (drop 7 ms)) refl bit (omega arith) (λ e. absurd (cc))
 least_is (suc (suc k)) ms some bit long none =
     least_at (suc k) ms (none_marked (drop 7 ms)) refl bit (omega arith)
-    (λ e. least_is (suc k) (drop 7 ms) (omega arith) (bits_behind 7 ms bit) (omega (arith, length-drop 7 ms)) (ap none_marked (sym (behind (suc k) ms)) ∙ none))
+    (λ e. least_is (suc k) (drop 7 ms) (omega arith) (bits_after 7 ms bit) (omega (arith, length-drop 7 ms)) (ap none_marked (sym (following (suc k) ms)) ∙ none))
 
 -- more octets than the marks need change nothing
 enough_at : (k j : ℕ) (ms : List ℕ) (b : Bool) → none_marked (marks_after 7 ms) ≡ b → (b ≡ false → least_presence k (marks_after 7 ms) ≡ least_presence j (marks_after 7 ms)) →
@@ -154,7 +145,7 @@ least_enough (suc k) (suc zero) ms some le none =
     enough_at k zero ms (none_marked (marks_after 7 ms)) refl (λ e. let t : none_marked (marks_after 7 ms) ≡ true = ap none_marked (marks_after_is 7 ms) ∙ none in absurd (cc))
 least_enough (suc k) (suc (suc j)) ms some le none =
     let later : IsTrue (none_marked (drop (7 * suc j) (marks_after 7 ms)))
-    = ap (λ z. none_marked (drop (7 * suc j) z)) (marks_after_is 7 ms) ∙ ap none_marked (sym (behind (suc j) ms)) ∙ none in
+    = ap (λ z. none_marked (drop (7 * suc j) z)) (marks_after_is 7 ms) ∙ ap none_marked (sym (following (suc j) ms)) ∙ none in
     enough_at k (suc j) ms (none_marked (marks_after 7 ms)) refl (λ e. least_enough k (suc j) (marks_after 7 ms) (omega arith) (omega arith) later)
 
 -- past the last slot no bit is a mark
@@ -283,8 +274,8 @@ least_field_of n marked some few none =
 
 -- ---- sets
 
-pub none_behind_none : (n : ℕ) → IsTrue (none_marked (drop n no_marks))
-none_behind_none n = none_further 0 n no_marks (omega arith) none_of_no_marks
+pub none_after_none : (n : ℕ) → IsTrue (none_marked (drop n no_marks))
+none_after_none n = none_further 0 n no_marks (omega arith) none_of_no_marks
 
 -- the least field has at most 18 octets
 least_fits_at : (k : ℕ) (ms : List ℕ) (b : Bool) → length (least_presence k (marks_after 7 ms)) ≤ 8 * k →

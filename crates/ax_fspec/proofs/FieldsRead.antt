@@ -84,10 +84,10 @@ pub record ReadSoFar (ds : List Bool) (octets : List ℕ) (i : ℕ) (marked : Li
   pub within : i ≤ length octets
   pub leads : Leads i (take (7 * i) marked) (bits (take i octets))
   pub clear : NoneUndefined ds (take (7 * i) marked)
-  pub none_behind : IsTrue (none_marked (drop (7 * i) marked))
+  pub none_following : IsTrue (none_marked (drop (7 * i) marked))
 
 pub nothing_read : (ds : List Bool) (octets marked : List ℕ) → IsTrue (none_marked marked) → ReadSoFar ds octets 0 marked
-nothing_read ds octets marked h = record { within = omega arith; leads = (refl, refl); clear = tt; none_behind = h }
+nothing_read ds octets marked h = record { within = omega arith; leads = (refl, refl); clear = tt; none_following = h }
 
 pub bits_parts : (octets : List ℕ) (i : ℕ) → bits octets ≡ bits (take i octets) ++ bits (drop i octets)
 bits_parts octets i = ap bits (sym (take-append-drop i octets)) ∙ bits-append (take i octets) (drop i octets)
@@ -110,9 +110,9 @@ octet_at : (octets : List ℕ) (i : ℕ) → i < length octets →
     bits (drop i octets) ≡ seven (get_or octets i 0 / 2) ++ (get_or octets i 0 % 2) ∷ bits (drop (i + 1) octets)
 octet_at octets i h = ap bits (drop_more octets i 0 h) ∙ octet_bits (get_or octets i 0) (bits (drop (i + 1) octets))
 
-octet_behind : (octets : List ℕ) (i : ℕ) → i < length octets →
+octet_after : (octets : List ℕ) (i : ℕ) → i < length octets →
     bits (take (i + 1) octets) ≡ bits (take i octets) ++ (seven (get_or octets i 0 / 2) ++ (get_or octets i 0 % 2) ∷ [])
-octet_behind octets i h =
+octet_after octets i h =
     bits_more octets i h ∙ ap (λ k. bits (take i octets) ++ k) (sym (append-nil (word 8 (get_or octets i 0))) ∙ octet_bits (get_or octets i 0) [])
 
 seven-AreBits : (n : ℕ) → AreBits (seven n)
@@ -144,11 +144,11 @@ next new i = ap (λ k. take k new) (omega arith)
 pub read_more : (ds : List Bool) (octets marked new : List ℕ) (i m : ℕ) → ReadSoFar ds octets i marked → i < length octets → m ≡ get_or octets i 0 / 2 → get_or octets i 0 % 2 ≡ 1 →
     NoneUndefined (slots_past (take (7 * i) marked) ds) (seven m) → take (7 * i + 7) new ≡ take (7 * i) marked ++ seven m → IsTrue (none_marked (drop (7 * i + 7) new)) →
     ReadSoFar ds octets (i + 1) new
-read_more ds octets marked new i m h inside mark fx clear front behind =
+read_more ds octets marked new i m h inside mark fx clear front following =
     let ms = take (7 * i) marked in
     let all : ms ++ seven m ≡ take (7 * (i + 1)) new = sym front ∙ next new i in
     let field : bits (take i octets) ++ (seven m ++ 1 ∷ []) ≡ bits (take (i + 1) octets)
-    = (λ j. bits (take i octets) ++ (seven (mark j) ++ sym fx j ∷ [])) ∙ sym (octet_behind octets i inside) in
+    = (λ j. bits (take i octets) ++ (seven (mark j) ++ sym fx j ∷ [])) ∙ sym (octet_after octets i inside) in
     let count : suc i ≡ i + 1 = omega arith in
     let leads : Leads (suc i) (ms ++ seven m) (bits (take i octets) ++ (seven m ++ 1 ∷ []))
     = leads_more i ms (bits (take i octets)) (seven m) (length-seven m) (seven-AreBits m) h.leads in
@@ -157,7 +157,7 @@ read_more ds octets marked new i m h inside mark fx clear front behind =
       leads = subst (λ k. Leads k (take (7 * (i + 1)) new) (bits (take (i + 1) octets))) count
           (subst (λ k. Leads (suc i) k (bits (take (i + 1) octets))) all (subst (λ k. Leads (suc i) (ms ++ seven m) k) field leads));
       clear = subst (λ k. NoneUndefined ds k) all (clear_both ms (seven m) ds h.clear clear);
-      none_behind = subst (λ k. IsTrue (none_marked (drop k new))) (let e : 7 * i + 7 ≡ 7 * (i + 1) = omega arith in e) behind;
+      none_following = subst (λ k. IsTrue (none_marked (drop k new))) (let e : 7 * i + 7 ≡ 7 * (i + 1) = omega arith in e) following;
     }
 
 pub read_last : (ds : List Bool) (octets marked new : List ℕ) (i n m : ℕ) → ReadSoFar ds octets i marked → i < n → i < length octets → m ≡ get_or octets i 0 / 2 → get_or octets i 0 % 2 ≡ 0 →
@@ -168,7 +168,7 @@ read_last ds octets marked new i n m h lt inside mark fx clear front =
     let count : n ≡ i + suc (n - i - 1) = omega arith in
     let all : ms ++ seven m ≡ take (7 * (i + 1)) new = sym front ∙ next new i in
     let field : bits (take i octets) ++ (seven m ++ 0 ∷ []) ≡ bits (take (i + 1) octets)
-    = (λ j. bits (take i octets) ++ (seven (mark j) ++ sym fx j ∷ [])) ∙ sym (octet_behind octets i inside) in
+    = (λ j. bits (take i octets) ++ (seven (mark j) ++ sym fx j ∷ [])) ∙ sym (octet_after octets i inside) in
     let last : Presence (suc (n - i - 1)) (seven m) (seven m ++ 0 ∷ []) = (seven m, length-seven m, seven-AreBits m, inl (refl, refl)) in
     let whole : Presence n (ms ++ seven m) (bits (take i octets) ++ (seven m ++ 0 ∷ []))
     = leads_field i (suc (n - i - 1)) n ms (bits (take i octets)) (seven m) (seven m ++ 0 ∷ []) count h.leads last in

@@ -95,16 +95,16 @@ unmarked : (b : Bool) → false ≡ not b → b ≡ true
 unmarked true e = refl
 unmarked false e = cc
 
-behind : (marked : List ℕ) (i : ℕ) → drop 7 (drop (7 * i) marked) ≡ drop (7 * i + 7) marked
-behind marked i = drop-drop 7 (7 * i) marked
+following : (marked : List ℕ) (i : ℕ) → drop 7 (drop (7 * i) marked) ≡ drop (7 * i + 7) marked
+following marked i = drop-drop 7 (7 * i) marked
 
 goes_on : (marked : List ℕ) (i m : ℕ) → i < 17 → m < 128 → seven m ≡ take 7 (drop (7 * i) marked) → none_marked (drop (7 * i + 7) marked) ≡ false →
     least_presence (18 - i) (drop (7 * i) marked) ≡ word 8 (bit_or (m * 2 % 256) 1) ++ least_presence (18 - (i + 1)) (drop (7 * (i + 1)) marked)
 goes_on marked i m h f e some =
     let count : 18 - i ≡ suc (18 - (i + 1)) = omega arith in
-    let next : drop 7 (drop (7 * i) marked) ≡ drop (7 * (i + 1)) marked = behind marked i ∙ ap (λ k. drop k marked) (omega arith) in
+    let next : drop 7 (drop (7 * i) marked) ≡ drop (7 * (i + 1)) marked = following marked i ∙ ap (λ k. drop k marked) (omega arith) in
     ap (λ k. least_presence k (drop (7 * i) marked)) count
-    ∙ least_goes_on (18 - (i + 1)) (drop (7 * i) marked) m e (ap none_marked (behind marked i) ∙ some)
+    ∙ least_goes_on (18 - (i + 1)) (drop (7 * i) marked) m e (ap none_marked (following marked i) ∙ some)
     ∙ (λ k. sym (octet_that_goes_on m f) k ++ least_presence (18 - (i + 1)) (next k))
 
 ends : (marked : List ℕ) (i m : ℕ) → i < 18 → m < 128 → seven m ≡ take 7 (drop (7 * i) marked) → none_marked (drop (7 * i + 7) marked) ≡ true →
@@ -112,7 +112,7 @@ ends : (marked : List ℕ) (i m : ℕ) → i < 18 → m < 128 → seven m ≡ ta
 ends marked i m h f e none =
     let count : 18 - i ≡ suc (18 - (i + 1)) = omega arith in
     ap (λ k. least_presence k (drop (7 * i) marked)) count
-    ∙ least_ends (18 - (i + 1)) (drop (7 * i) marked) m e (ap none_marked (behind marked i) ∙ none) ∙ sym (octet_that_ends m f)
+    ∙ least_ends (18 - (i + 1)) (drop (7 * i) marked) m e (ap none_marked (following marked i) ∙ none) ∙ sym (octet_that_ends m f)
 
 pub written_more : (old now new : Out) (marked : List ℕ) (i m : ℕ) → WrittenSoFar old now marked i → i < 17 → m < 128 → seven m ≡ take 7 (drop (7 * i) marked) → true ≡ not (none_marked (drop (7 * i + 7) marked)) →
     Appends now new (word 8 (bit_or (m * 2 % 256) 1)) → WrittenSoFar old new marked (i + 1)

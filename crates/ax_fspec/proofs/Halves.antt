@@ -36,13 +36,13 @@ half-is w n e = ap (λ k. word k n) (sym e)
 -- ---- one mark
 
 -- the bits after the mark at place p
-behind : (p : ℕ) → p < 63 → p + suc (62 - p) ≡ 63
-behind p h = omega arith
+following : (p : ℕ) → p < 63 → p + suc (62 - p) ≡ 63
+following p h = omega arith
 
 pub mark_at : (n p : ℕ) → p < 63 → get_or (half n) p 0 ≡ n / 2 ^ (62 - p) % 2
 mark_at n p h =
     let r = 62 - p in
-    ap (λ k. get_or k p 0) (half-is (p + suc r) n (behind p h) ∙ word-bit p r n)
+    ap (λ k. get_or k p 0) (half-is (p + suc r) n (following p h) ∙ word-bit p r n)
     ∙ get_or_at (word p (n / 2 ^ suc r)) (n / 2 ^ r % 2) (word r n) 0 p (length-word p (n / 2 ^ suc r))
 
 or_zero : (x : ℕ) → bit_or x 0 ≡ x
@@ -74,9 +74,9 @@ with_mark n p h =
     let r = 62 - p in
     let q = n / 2 ^ suc r in
     let l = n % 2 ^ r in
-    half-is (p + suc r) (bit_or n (2 ^ r)) (behind p h) ∙ ap (word (p + suc r)) (or_one n r)
+    half-is (p + suc r) (bit_or n (2 ^ r)) (following p h) ∙ ap (word (p + suc r)) (or_one n r)
     ∙ word-with p r q l (mod_below n (2 ^ r) (pow_pos r)) ∙ ap (λ k. word p q ++ 1 ∷ k) (word-low r n)
-    ∙ sym (ap (λ k. set k p 1) (half-is (p + suc r) n (behind p h) ∙ word-bit p r n) ∙ set_at (word p q) (n / 2 ^ r % 2) (word r n) 1 p (length-word p q))
+    ∙ sym (ap (λ k. set k p 1) (half-is (p + suc r) n (following p h) ∙ word-bit p r n) ∙ set_at (word p q) (n / 2 ^ r % 2) (word r n) 1 p (length-word p q))
 
 -- ---- seven marks
 
@@ -91,8 +91,8 @@ seven_at n i h =
     ∙ take_at (word 7 (n / 2 ^ r)) (word r n) 7 (length-word 7 (n / 2 ^ r))
 
 -- the marks after those of octet i
-pub behind_seven : (n i : ℕ) → i < 9 → drop (7 * i + 7) (half n) ≡ word (56 - 7 * i) n
-behind_seven n i h =
+pub after_the_seventh : (n i : ℕ) → i < 9 → drop (7 * i + 7) (half n) ≡ word (56 - 7 * i) n
+after_the_seventh n i h =
     let r = 56 - 7 * i in
     let q = n / 2 ^ r in
     let e : 7 * i + 7 + r ≡ 63 = omega arith in
@@ -115,10 +115,10 @@ none_marked-word (suc w) n =
     none_marked-cons (n / 2 ^ w % 2) w (n % 2 ^ w) (n % 2 ^ suc w) (word w n) (omega arith) whole (none_marked-word w n)
 
 -- whether a mark stands after those of octet i
-pub none_behind_seven : (n i : ℕ) → i < 9 → none_marked (drop (7 * i + 7) (half n)) ≡ (bit_and n (2 ^ (56 - 7 * i) - 1) == 0)
-none_behind_seven n i h =
+pub none_after_seven : (n i : ℕ) → i < 9 → none_marked (drop (7 * i + 7) (half n)) ≡ (bit_and n (2 ^ (56 - 7 * i) - 1) == 0)
+none_after_seven n i h =
     let r = 56 - 7 * i in
-    ap none_marked (behind_seven n i h) ∙ none_marked-word r n ∙ ap (λ k. k == 0) (sym (and_mask n r))
+    ap none_marked (after_the_seventh n i h) ∙ none_marked-word r n ∙ ap (λ k. k == 0) (sym (and_mask n r))
 
 pub none_from_seven : (n i : ℕ) → i < 9 → none_marked (drop (7 * i) (half n)) ≡ (n % 2 ^ (63 - 7 * i) == 0)
 none_from_seven n i h =
@@ -174,8 +174,8 @@ first_mark_at n p h low high =
     let same : n % 2 ^ r ≡ l = ap (λ k. k % 2 ^ r) (let e : n ≡ 1 * 2 ^ r + l = omega arith in e) ∙ mod-mul-add 1 (2 ^ r) l less in
     let rest : word r l ≡ word r n = ap (word r) (sym same) ∙ word-low r n in
     let lone : l ≡ 0 * 2 ^ suc r + l = omega arith in (
-      half-is (p + suc r) n (behind p h) ∙ ap (word (p + suc r)) whole ∙ word-with p r 0 l less ∙ (λ i. zeros p i ++ 1 ∷ rest i),
-      half-is (p + suc r) l (behind p h) ∙ ap (word (p + suc r)) lone ∙ word-joined p (suc r) 0 l below
+      half-is (p + suc r) n (following p h) ∙ ap (word (p + suc r)) whole ∙ word-with p r 0 l less ∙ (λ i. zeros p i ++ 1 ∷ rest i),
+      half-is (p + suc r) l (following p h) ∙ ap (word (p + suc r)) lone ∙ word-joined p (suc r) 0 l below
           ∙ (λ i. zeros p i ++ (zero_above r l less i % 2) ∷ rest i),
     )
 
@@ -266,9 +266,9 @@ pub ruleset seven_written = (seven_marks_written, seven_marks_fit)
 pub marked_by_mask : (n i : ℕ) → i < 9 → not (bit_and n (1 * 2 ^ (56 - 7 * i) % 2 ^ 64 - 1) == 0) ≡ not (none_marked (drop (7 * i + 7) (half n)))
 marked_by_mask n i h =
     let e : 56 - 7 * i < 64 = omega arith in
-    ap (λ k. not (bit_and n (k - 1) == 0)) (one_shl (56 - 7 * i) 64 e) ∙ ap not (sym (none_behind_seven n i h))
+    ap (λ k. not (bit_and n (k - 1) == 0)) (one_shl (56 - 7 * i) 64 e) ∙ ap not (sym (none_after_seven n i h))
 
-pub ruleset marked_behind = (marked_by_mask)
+pub ruleset marked_following = (marked_by_mask)
 
 record Leads (a z : ℕ) : Type 0 where
   some : 1 ≤ z

@@ -57,16 +57,16 @@ clear_here mask body marked at i m own h window clear =
 pub one_more : (mask : SlotMask) (body marked new : List ℕ) (at i m own : ℕ) → ReadSoFar (mask_slots mask) (drop at body) i marked → at + i < length body →
     m ≡ get_or body (at + i) 0 / 2 → get_or body (at + i) 0 % 2 ≡ 1 → seven own ≡ take 7 (drop (7 * i) mask.defined) → NoneUndefined (are_marked (seven own)) (seven m) →
     take (7 * i + 7) new ≡ take (7 * i) marked ++ seven m → IsTrue (none_marked (drop (7 * i + 7) new)) → ReadSoFar (mask_slots mask) (drop at body) (i + 1) new
-one_more mask body marked new at i m own h inside mark fx window clear front behind =
+one_more mask body marked new at i m own h inside mark fx window clear front following =
     let octets = drop at body in
     let same : get_or body (at + i) 0 ≡ get_or octets i 0 = sym (get_or-drop at body i 0) in
     read_more (mask_slots mask) octets marked new i m h (omega (arith, length-drop at body)) (mark ∙ ap (λ k. k / 2) same) (sym (ap (λ k. k % 2) same) ∙ fx)
-    (clear_here mask body marked at i m own h window clear) front behind
+    (clear_here mask body marked at i m own h window clear) front following
 
 pub last_one : (mask : SlotMask) (body marked new : List ℕ) (at i m own : ℕ) → ReadSoFar (mask_slots mask) (drop at body) i marked → i < octets_needed mask.count → at + i < length body →
     m ≡ get_or body (at + i) 0 / 2 → get_or body (at + i) 0 % 2 ≡ 0 → seven own ≡ take 7 (drop (7 * i) mask.defined) → NoneUndefined (are_marked (seven own)) (seven m) →
     take (7 * i + 7) new ≡ take (7 * i) marked ++ seven m → IsTrue (none_marked (drop (7 * i + 7) new)) → length new ≡ 126 → MarksSlots mask body at (at + i + 1) new
-last_one mask body marked new at i m own h lt inside mark fx window clear front behind size =
+last_one mask body marked new at i m own h lt inside mark fx window clear front following size =
     let octets = drop at body in
     let same : get_or body (at + i) 0 ≡ get_or octets i 0 = sym (get_or-drop at body i 0) in
     let count : i + 1 ≡ at + i + 1 - at = omega arith in
@@ -78,7 +78,7 @@ last_one mask body marked new at i m own h lt inside mark fx window clear front 
       field = record {
         octets = i + 1;
         field = subst (λ k. IsPresence (octets_needed mask.count) (mask_slots mask) (take (7 * (i + 1)) new) (bits (take k octets))) count field;
-        no_other = subst (λ k. IsTrue (none_marked (drop k new))) (let e : 7 * i + 7 ≡ 7 * (i + 1) = omega arith in e) behind;
+        no_other = subst (λ k. IsTrue (none_marked (drop k new))) (let e : 7 * i + 7 ≡ 7 * (i + 1) = omega arith in e) following;
       };
       size = size;
     }

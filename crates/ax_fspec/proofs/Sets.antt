@@ -106,32 +106,32 @@ both false y h = cc
 none_in_first : (a b n : ℕ) (marks : List ℕ) → marks_in a b ≡ marks → n ≤ 63 → none_marked (drop n marks) ≡ (none_marked (drop n (half a)) && none_marked (half b))
 none_in_first a b n marks e h = ap none_marked (drop_in_first a b n marks e h) ∙ none_marked-append (drop n (half a)) (half b)
 
-pub behind_in_both : (a b o : ℕ) (marks : List ℕ) → marks_in a b ≡ marks → o < 9 → b < 2 ^ 63 → b ≢ 0 → not (b == 0) ≡ not (none_marked (drop (7 * o + 7) marks))
-behind_in_both a b o marks e h f g =
+pub after_in_both : (a b o : ℕ) (marks : List ℕ) → marks_in a b ≡ marks → o < 9 → b < 2 ^ 63 → b ≢ 0 → not (b == 0) ≡ not (none_marked (drop (7 * o + 7) marks))
+after_in_both a b o marks e h f g =
     let some : (b == 0) ≡ false = ne_eqb b 0 g in
     let none : none_marked (drop (7 * o + 7) marks) ≡ false
     = none_in_first a b (7 * o + 7) marks e (omega arith)
     ∙ ap (λ k. none_marked (drop (7 * o + 7) (half a)) && k) (none_half b f ∙ some) ∙ and_false (none_marked (drop (7 * o + 7) (half a))) in
     ap not (some ∙ sym none)
 
-pub behind_in_first : (a b o : ℕ) (marks : List ℕ) (r : Bool) → marks_in a b ≡ marks → o < 9 → b ≡ 0 → r ≡ not (none_marked (drop (7 * o + 7) (half a))) → r ≡ not (none_marked (drop (7 * o + 7) marks))
-behind_in_first a b o marks r e h z f =
+pub after_in_first : (a b o : ℕ) (marks : List ℕ) (r : Bool) → marks_in a b ≡ marks → o < 9 → b ≡ 0 → r ≡ not (none_marked (drop (7 * o + 7) (half a))) → r ≡ not (none_marked (drop (7 * o + 7) marks))
+after_in_first a b o marks r e h z f =
     let none : none_marked (half b) ≡ true = ap (λ k. none_marked (half k)) z ∙ none_half 0 (lit< tt) in
     f ∙ ap not (sym (none_in_first a b (7 * o + 7) marks e (omega arith) ∙ ap (λ k. none_marked (drop (7 * o + 7) (half a)) && k) none ∙ and_true (none_marked (drop (7 * o + 7) (half a)))))
 
-pub behind_in_second : (a b o : ℕ) (marks : List ℕ) (r : Bool) → marks_in a b ≡ marks → 9 ≤ o → r ≡ not (none_marked (drop (7 * (o - 9) + 7) (half b))) → r ≡ not (none_marked (drop (7 * o + 7) marks))
-behind_in_second a b o marks r e h f = f ∙ ap (λ k. not (none_marked k)) (sym (drop_in_second a b (7 * o + 7) (7 * (o - 9) + 7) marks e (omega arith)))
+pub after_in_second : (a b o : ℕ) (marks : List ℕ) (r : Bool) → marks_in a b ≡ marks → 9 ≤ o → r ≡ not (none_marked (drop (7 * (o - 9) + 7) (half b))) → r ≡ not (none_marked (drop (7 * o + 7) marks))
+after_in_second a b o marks r e h f = f ∙ ap (λ k. not (none_marked k)) (sym (drop_in_second a b (7 * o + 7) (7 * (o - 9) + 7) marks e (omega arith)))
 
-behind_last_at : (b o : ℕ) → o < 18 → (o < 17) ⊎ (17 ≤ o) → not (none_marked (drop (7 * (o - 9) + 7) (half b))) ≡ true → o < 17
-behind_last_at b o h (inl lt) t = lt
-behind_last_at b o h (inr ge) t =
+after_last_at : (b o : ℕ) → o < 18 → (o < 17) ⊎ (17 ≤ o) → not (none_marked (drop (7 * (o - 9) + 7) (half b))) ≡ true → o < 17
+after_last_at b o h (inl lt) t = lt
+after_last_at b o h (inr ge) t =
     let last : 7 * (o - 9) + 7 ≡ 63 = omega arith in
     let none : drop (7 * (o - 9) + 7) (half b) ≡ [] = drop_all (7 * (o - 9) + 7) (half b) (omega (arith, length-half b)) in
     let no : not (none_marked []) ≡ true = sym (ap (λ k. not (none_marked k)) none) ∙ t in
     absurd (cc)
 
-pub behind_last : (b o : ℕ) (r : Bool) → o < 18 → r ≡ not (none_marked (drop (7 * (o - 9) + 7) (half b))) → IsTrue r → o < 17
-behind_last b o r h e t = behind_last_at b o h (cases_lt o 17) (sym e ∙ t)
+pub after_last : (b o : ℕ) (r : Bool) → o < 18 → r ≡ not (none_marked (drop (7 * (o - 9) + 7) (half b))) → IsTrue r → o < 17
+after_last b o r h e t = after_last_at b o h (cases_lt o 17) (sym e ∙ t)
 
 -- ---- an octet's marks are written
 

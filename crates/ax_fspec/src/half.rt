@@ -45,7 +45,7 @@ pub fn with_seven(marks: u64, octet: u32, new: u8) -> u64
     requires octet { octet < 9 }
     requires new { new < 128 }
     requires fits { marks < 2 ^ 63 }
-    requires none_behind { IsTrue (none_marked (drop (7 * octet) (half marks))) }
+    requires none_following { IsTrue (none_marked (drop (7 * octet) (half marks))) }
     ensures marks { half result ≡ take (7 * octet) (half marks) ++ (seven new ++ word (56 - 7 * octet) 0) }
     ensures fits { result < 2 ^ 63 }
 {
@@ -54,8 +54,8 @@ pub fn with_seven(marks: u64, octet: u32, new: u8) -> u64
 
 /// Whether a mark after those of a presence octet is set.
 #[inline]
-#[tactic(auto, using(crate::proofs::Halves::marked_behind))]
-pub fn is_marked_behind(marks: u64, octet: u32) -> bool
+#[tactic(auto, using(crate::proofs::Halves::marked_following))]
+pub fn is_marked_after(marks: u64, octet: u32) -> bool
     requires { octet < 9 }
     ensures { result ≡ not (none_marked (drop (7 * octet + 7) (half marks))) }
 {

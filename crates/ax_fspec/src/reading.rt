@@ -4,6 +4,7 @@ ghost use Rattle.std.specs.Prelude.{◌≡◌, ℕ, ◌+◌, ◌-◌, ◌*◌, �
 ghost use Rattle.ax_model.specs.Presence.{NoneUndefined, FirstUndefined};
 ghost use Rattle.ax_fspec.specs.Marks.{seven, are_marked};
 ghost use Rattle.ax_fspec.specs.Fields.{MarksSlots, FailsToMark};
+ghost use Rattle.ax_model.specs.Sizes.{longest_body};
 
 use crate::mask::SlotMask;
 use crate::set::Presence;
@@ -20,7 +21,7 @@ pub fn read_presence(
     at: u32,
     into: &mut Presence,
 ) -> Result<u32, BodyFault>
-    requires body { length body.now ≤ 65532 }
+    requires body { length body.now ≤ longest_body }
     requires at { at ≤ length body.now }
     ensures ok { IfOk result (λ end. MarksSlots mask.now body.now at end into.new) }
     ensures err { IfErr result (λ fault. FailsToMark mask.now body.now at fault) }

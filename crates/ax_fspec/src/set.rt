@@ -5,7 +5,7 @@ ghost use Rattle.ax_model.specs.Presence.{none_marked};
 ghost use Rattle.ax_fspec.specs.Marks.{seven, no_marks, IsMarked, slots_of};
 
 use crate::half::{
-    first_place, has_mark, is_marked_behind, seven_marks, with_mark, with_seven, without_first,
+    first_place, has_mark, is_marked_after, seven_marks, with_mark, with_seven, without_first,
 };
 use std::marker::Model;
 
@@ -115,9 +115,9 @@ impl Presence {
     pub(crate) fn mark_octet(&mut self, octet: u32, marks: u8)
         requires octet { octet < 18 }
         requires marks { marks < 128 }
-        requires none_behind { IsTrue (none_marked (drop (7 * octet) self.old)) }
+        requires none_following { IsTrue (none_marked (drop (7 * octet) self.old)) }
         ensures marks { take (7 * octet + 7) self.new ≡ take (7 * octet) self.old ++ seven marks }
-        ensures none_behind { IsTrue (none_marked (drop (7 * octet + 7) self.new)) }
+        ensures none_following { IsTrue (none_marked (drop (7 * octet + 7) self.new)) }
         ensures size { length self.new ≡ 126 }
     {
         if octet < 9 {
@@ -129,15 +129,15 @@ impl Presence {
 
     /// Whether a slot after those of a presence octet from 0 to 17 is in the set.
     #[inline]
-    pub(crate) fn goes_on_behind(&self, octet: u32) -> bool
+    pub(crate) fn goes_on_after(&self, octet: u32) -> bool
         requires { octet < 18 }
         ensures marked { result ≡ not (none_marked (drop (7 * octet + 7) self.now)) }
         ensures within { IsTrue result → octet < 17 }
     {
         if octet < 9 {
-            self.second != 0 || is_marked_behind(self.first, octet)
+            self.second != 0 || is_marked_after(self.first, octet)
         } else {
-            is_marked_behind(self.second, octet - 9)
+            is_marked_after(self.second, octet - 9)
         }
     }
 }

@@ -14,7 +14,7 @@ pub fn write_presence(marked: &Presence, out: &mut Out<'_>)
     ensures { Appends out.old out.new (least_field marked.now) }
 {
     let mut octet = 0;
-    while marked.goes_on_behind(octet) {
+    while marked.goes_on_after(octet) {
         out.push_octet(marked.octet(octet) << 1 | 1);
         octet += 1;
     }

@@ -10,7 +10,7 @@ use Rattle.ax_token_reader.proofs.Bad.{stops_bad, trails_bad, first_bad_once}
 use Rattle.ax_grammar.specs.Spelling.{spelled}
 use Rattle.ax_grammar.specs.InRange.{InRange}
 use Rattle.ax_grammar.specs.Answers.{texts_of, SpellsSpec, IsSpec, NamesBadToken}
-use Rattle.ax_grammar.specs.Reading.{Texts, Read, ◌>>=◌}
+use Rattle.ax_grammar.specs.Parsing.{Texts, Parsed, ◌>>=◌}
 use Rattle.ax_grammar.specs.Rules.{spec_at, end_at, whole_at}
 use Rattle.ax_grammar.proofs.Recursion.{reads, value_is}
 use Rattle.ax_grammar.proofs.Steady.{At, Halts}
@@ -18,7 +18,7 @@ use Rattle.ax_grammar.proofs.SteadyRules.{spec_steady}
 use Rattle.ax_grammar.proofs.Complete.{spec_read, whole_read}
 use Rattle.ax_grammar.proofs.Sound.{spec_found, whole_found}
 
-abbrev stops : Texts → Read SpecTree
+abbrev stops : Texts → Parsed SpecTree
 stops rest = Err rest
 
 stops_is : (a b : Texts) → stops a ≡ stops b → a ≡ b
@@ -41,7 +41,7 @@ halts_stops old new s =
       split = s.split;
       rest = s.rest;
       begins = (s.value, f.0, ap (λ t. s.front ++ t) (sym (append-nil s.rest)) ∙ f.1 ∙ append-nil (spelled s.value));
-      refuses = λ member behind more m h. never m.0 behind (first_with new more) (sym (ap (λ t. spec_at (t ++ behind)) m.2 ∙ spec_read m.0 behind m.1) ∙ ap spec_at h ∙ s.again more);
+      refuses = λ member following more m h. never m.0 following (first_with new more) (sym (ap (λ t. spec_at (t ++ following)) m.2 ∙ spec_read m.0 following m.1) ∙ ap spec_at h ∙ s.again more);
     }
 
 -- all of a specification was read, and texts follow
@@ -50,7 +50,7 @@ end_bad texts spec [] after r e h = absurd (never spec [] after h)
 end_bad texts spec (bad ∷ last) after r e h =
     subst (λ t. FirstBad IsSpec texts (length texts - length t)) (stops_is (bad ∷ last) after h) (trails_bad IsSpec texts (spelled spec) (bad ∷ last) spec_free (spec, r, refl) e (omega arith))
 
-read_bad : (texts after : Texts) (r : Read SpecTree) → spec_at texts ≡ r → At spec_at texts r → (r >>= λ s. end_at s.1 >>= λ x. reads s.0 x.1) ≡ stops after → FirstBad IsSpec texts (length texts - length after)
+read_bad : (texts after : Texts) (r : Parsed SpecTree) → spec_at texts ≡ r → At spec_at texts r → (r >>= λ s. end_at s.1 >>= λ x. reads s.0 x.1) ≡ stops after → FirstBad IsSpec texts (length texts - length after)
 read_bad texts after (Ok x) e s h = let f = spec_found texts x.1 x.0 e in end_bad texts x.0 x.1 after f.0 f.1 h
 read_bad texts after (Err new) e s h = subst (λ t. FirstBad IsSpec texts (length texts - length t)) (stops_is new after h) (stops_bad IsSpec texts new (halts_stops texts new s))
 
@@ -66,7 +66,7 @@ end_within : (texts : Texts) (spec : SpecTree) (last after : Texts) → texts �
 end_within texts spec [] after e h = absurd (never spec [] after h)
 end_within texts spec (bad ∷ last) after e h = omega (arith, ap length e, length-append (spelled spec) (bad ∷ last), ap length (stops_is (bad ∷ last) after h))
 
-read_within : (texts after : Texts) (r : Read SpecTree) → spec_at texts ≡ r → At spec_at texts r → (r >>= λ s. end_at s.1 >>= λ x. reads s.0 x.1) ≡ stops after → length after ≤ length texts
+read_within : (texts after : Texts) (r : Parsed SpecTree) → spec_at texts ≡ r → At spec_at texts r → (r >>= λ s. end_at s.1 >>= λ x. reads s.0 x.1) ≡ stops after → length after ≤ length texts
 read_within texts after (Ok x) e s h = end_within texts x.0 x.1 after (spec_found texts x.1 x.0 e).1 h
 read_within texts after (Err new) e s h = omega (arith, ap length s.split, length-append s.front new, ap length (stops_is new after h))
 

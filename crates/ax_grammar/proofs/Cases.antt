@@ -3,8 +3,8 @@ use Rattle.std.proofs.Common.{◌≡◌, ℕ, List, Ok, refl, sym, ap, ◌∙◌
 use Rattle.ax_model.specs.Tree.{FixedTree, element, group, MemberTree, MembersTree, members_of, KindTree, fixed, extended, counted, by_fx, explicit, compound, SlotTree, slots_of}
 use Rattle.ax_model.specs.declared.content.Content.{Content}
 use Rattle.ax_grammar.specs.Gives.{Stops}
-use Rattle.ax_grammar.specs.Reading.{Texts, ◌>>=◌, expect_at, braced_at}
-use Rattle.ax_grammar.specs.Rules.{keyword_at, width_at, content_at, fixed_step, fixed_at, member_at, part_at, kind_behind, kind_step, kind_at, slot_at}
+use Rattle.ax_grammar.specs.Parsing.{Texts, ◌>>=◌, expect_at, braced_at}
+use Rattle.ax_grammar.specs.Rules.{keyword_at, width_at, content_at, fixed_step, fixed_at, member_at, part_at, kind_by_word, kind_step, kind_at, slot_at}
 use Rattle.ax_token_reader.specs.declared.stopped.Stopped.{Stopped}
 use Rattle.ax_token_reader.specs.declared.stopped.Stopped.TheVariants.{Bad, OutOfMemory}
 use Rattle.ax_grammar.specs.declared.keyword.Keyword.{Keyword}
@@ -57,7 +57,7 @@ compound_stops old a b OutOfMemory e f = tt
 
 -- a kind that is none of the others is a fixed one
 default_case : (word : Keyword) (old a : Texts) → (word ≡ Word.Extended → ⊥) → (word ≡ Word.Counted → ⊥) → (word ≡ Word.ByFx → ⊥) → (word ≡ Word.Explicit → ⊥) → (word ≡ Word.Compound → ⊥)
-    → kind_behind kind_at word old a ≡ (fixed_at old >>= λ f. Ok (fixed f.0, f.1))
+    → kind_by_word kind_at word old a ≡ (fixed_at old >>= λ f. Ok (fixed f.0, f.1))
 default_case Word.Extended old a h1 h2 h3 h4 h5 = absurd (h1 refl)
 default_case Word.Counted old a h1 h2 h3 h4 h5 = absurd (h2 refl)
 default_case Word.ByFx old a h1 h2 h3 h4 h5 = absurd (h3 refl)
@@ -70,4 +70,4 @@ pub fixed_read : (old a b : Texts) (word : Keyword) (inner : FixedTree) (tree : 
     → keyword_at old ≡ Ok (word, a) → fixed_at old ≡ Ok (inner, b) → kind_at old ≡ Ok (tree, b)
 unfolding kind_step
 fixed_read old a b word inner tree same h1 h2 h3 h4 h5 e f =
-    kind_is old ∙ ap (λ r. r >>= λ w. kind_behind kind_at w.0 old w.1) e ∙ default_case word old a h1 h2 h3 h4 h5 ∙ ap (λ r. r >>= λ f. Ok (fixed f.0, f.1)) f ∙ ap (λ x. Ok (x, b)) (sym same)
+    kind_is old ∙ ap (λ r. r >>= λ w. kind_by_word kind_at w.0 old w.1) e ∙ default_case word old a h1 h2 h3 h4 h5 ∙ ap (λ r. r >>= λ f. Ok (fixed f.0, f.1)) f ∙ ap (λ x. Ok (x, b)) (sym same)

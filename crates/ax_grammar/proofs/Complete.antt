@@ -17,8 +17,8 @@ use Rattle.ax_grammar.specs.InRange.{IsText, IsWidth, IsNumber, EntryInRange, Co
 use Rattle.ax_grammar.specs.Spelling.{quoted, sign_text, closed, block, entry_texts, content_texts, fixed_texts, member_texts, members_texts, part_texts, kind_texts, slot_texts, slots_texts, item_texts, uap_slot_texts, spelled}
 use Rattle.ax_model.specs.Paths.{three_digits}
 use Rattle.ax_grammar.specs.Tests.{name_of, number_of, category_of, text_of}
-use Rattle.ax_grammar.specs.Reading.{Texts, Read, ◌>>=◌, one_of, one_at, expect_at, takes_at, list_at}
-use Rattle.ax_grammar.specs.Rules.{keyword_at, name_at, width_at, number_at, text_at, sign_behind, sign_at, entry_at, scale_at, content_behind, content_at, fixed_behind, member_step, fixed_step, fixed_at, member_at, part_at, kind_behind, kind_step, kind_at, slot_step, slot_at, item_at, uap_slot_at, spec_at, end_at, whole_at}
+use Rattle.ax_grammar.specs.Parsing.{Texts, Parsed, ◌>>=◌, one_of, one_at, expect_at, takes_at, list_at}
+use Rattle.ax_grammar.specs.Rules.{keyword_at, name_at, width_at, number_at, text_at, sign_by_word, sign_at, entry_at, scale_at, content_by_word, content_at, fixed_by_word, member_step, fixed_step, fixed_at, member_at, part_at, kind_by_word, kind_step, kind_at, slot_step, slot_at, item_at, uap_slot_at, spec_at, end_at, whole_at}
 use Rattle.ax_grammar.specs.declared.keyword.Keyword.{Keyword}
 use Rattle.ax_grammar.specs.declared.keyword.Keyword.TheVariants as Word
 use Rattle.ax_grammar.proofs.Recursion.{Shrinks, reads}
@@ -82,14 +82,14 @@ number_read number rest h = some_at (number_of 18) (decimal number) number rest 
 abbrev Goes : Texts → Type 0
 Goes texts = takes_at Word.Close texts ≡ Ok (false, texts)
 
-list_closed : {A : Type 0} (p : Texts → Read A) → Shrinks p → (rest : Texts) → list_at p (keyword_text Word.Close ∷ rest) ≡ Ok ([], rest)
+list_closed : {A : Type 0} (p : Texts → Parsed A) → Shrinks p → (rest : Texts) → list_at p (keyword_text Word.Close ∷ rest) ≡ Ok ([], rest)
 list_closed p s rest = list_is p s (keyword_text Word.Close ∷ rest)
 
-list_more : {A : Type 0} (p : Texts → Read A) → Shrinks p → (texts after rest : Texts) (a : A) (others : List A) → Goes texts → p texts ≡ Ok (a, after) → list_at p after ≡ Ok (others, rest) → list_at p texts ≡ Ok (a ∷ others, rest)
+list_more : {A : Type 0} (p : Texts → Parsed A) → Shrinks p → (texts after rest : Texts) (a : A) (others : List A) → Goes texts → p texts ≡ Ok (a, after) → list_at p after ≡ Ok (others, rest) → list_at p texts ≡ Ok (a ∷ others, rest)
 list_more p s texts after rest a others goes e f = list_is p s texts ∙ rw (goes, e, f) refl
 
 -- elements, each read from its texts
-list_read : {A : Type 0} (p : Texts → Read A) → Shrinks p → (spell : A → Texts) (Fits : A → Type 0) → ((a : A) (rest : Texts) → Fits a → p (spell a ++ rest) ≡ Ok (a, rest)) → ((a : A) (rest : Texts) → Fits a → Goes (spell a ++ rest))
+list_read : {A : Type 0} (p : Texts → Parsed A) → Shrinks p → (spell : A → Texts) (Fits : A → Type 0) → ((a : A) (rest : Texts) → Fits a → p (spell a ++ rest) ≡ Ok (a, rest)) → ((a : A) (rest : Texts) → Fits a → Goes (spell a ++ rest))
     → (xs : List A) (rest : Texts) → AllByRecursion Fits xs → list_at p (closed (flat_map spell xs) ++ rest) ≡ Ok (xs, rest)
 list_read p s spell Fits each goes [] rest h = list_closed p s rest
 list_read p s spell Fits each goes (x ∷ xs) rest h =
@@ -101,8 +101,8 @@ list_read p s spell Fits each goes (x ∷ xs) rest h =
 
 sign_read : (sign : Sign) (rest : Texts) → sign_at (sign_text sign ∷ rest) ≡ Ok (sign, rest)
 unfolding sign_at
-sign_read Sign.Unsigned rest = ap (λ r. r >>= λ w. sign_behind w.0 (keyword_text Word.Unsigned ∷ rest) w.1) (keyword_read Word.Unsigned rest)
-sign_read Sign.Signed rest = ap (λ r. r >>= λ w. sign_behind w.0 (keyword_text Word.Signed ∷ rest) w.1) (keyword_read Word.Signed rest)
+sign_read Sign.Unsigned rest = ap (λ r. r >>= λ w. sign_by_word w.0 (keyword_text Word.Unsigned ∷ rest) w.1) (keyword_read Word.Unsigned rest)
+sign_read Sign.Signed rest = ap (λ r. r >>= λ w. sign_by_word w.0 (keyword_text Word.Signed ∷ rest) w.1) (keyword_read Word.Signed rest)
 
 entry_read : (entry : TableText) (rest : Texts) → EntryInRange entry → entry_at (entry_texts entry ++ rest) ≡ Ok (entry, rest)
 unfolding entry_at
@@ -117,32 +117,32 @@ name_goes name rest h = no_close (bytes_eq (125 ∷ []) name) name rest (name_no
 entry_goes : (entry : TableText) (rest : Texts) → EntryInRange entry → Goes (entry_texts entry ++ rest)
 entry_goes entry rest h = no_close (bytes_eq (125 ∷ []) (decimal entry.number)) (decimal entry.number) (quoted entry.text ∷ rest) (number_no_close entry.number h.0)
 
-behind_read : (word : Keyword) (rest : Texts) → content_at (keyword_text word ∷ rest) ≡ content_behind word (keyword_text word ∷ rest) rest
+after_read : (word : Keyword) (rest : Texts) → content_at (keyword_text word ∷ rest) ≡ content_by_word word (keyword_text word ∷ rest) rest
 unfolding content_at
-behind_read word rest = ap (λ r. r >>= λ w. content_behind w.0 (keyword_text word ∷ rest) w.1) (keyword_read word rest)
+after_read word rest = ap (λ r. r >>= λ w. content_by_word w.0 (keyword_text word ∷ rest) w.1) (keyword_read word rest)
 
 content_read : (content : Content) (rest : Texts) → ContentInRange content → content_at (content_texts content ++ rest) ≡ Ok (content, rest)
 unfolding scale_at
-content_read Meaning.Raw rest h = behind_read Word.Raw rest
+content_read Meaning.Raw rest h = after_read Word.Raw rest
 content_read (Meaning.Table entries) rest h =
     let texts = closed (flat_map entry_texts entries) ++ rest in
-    behind_read Word.Table (keyword_text Word.Open ∷ texts) ∙ ap (λ r. r >>= λ es. Ok (Meaning.Table es.0, es.1)) (list_read entry_at entry_shrinks entry_texts EntryInRange entry_read entry_goes entries rest h)
-content_read Meaning.Ascii rest h = behind_read Word.Ascii rest
-content_read Meaning.Icao rest h = behind_read Word.Icao rest
-content_read Meaning.Octal rest h = behind_read Word.Octal rest
-content_read (Meaning.Integer sign) rest h = behind_read Word.Integer (sign_text sign ∷ rest) ∙ ap (λ r. r >>= λ s. Ok (Meaning.Integer s.0, s.1)) (sign_read sign rest)
+    after_read Word.Table (keyword_text Word.Open ∷ texts) ∙ ap (λ r. r >>= λ es. Ok (Meaning.Table es.0, es.1)) (list_read entry_at entry_shrinks entry_texts EntryInRange entry_read entry_goes entries rest h)
+content_read Meaning.Ascii rest h = after_read Word.Ascii rest
+content_read Meaning.Icao rest h = after_read Word.Icao rest
+content_read Meaning.Octal rest h = after_read Word.Octal rest
+content_read (Meaning.Integer sign) rest h = after_read Word.Integer (sign_text sign ∷ rest) ∙ ap (λ r. r >>= λ s. Ok (Meaning.Integer s.0, s.1)) (sign_read sign rest)
 content_read (Meaning.Quantity scale) rest h =
     let d = quoted scale.unit ∷ rest in
     let c = decimal scale.den ∷ d in
     let b = decimal scale.num ∷ c in
-    behind_read Word.Quantity (sign_text scale.sign ∷ b)
+    after_read Word.Quantity (sign_text scale.sign ∷ b)
     ∙ rw (sign_read scale.sign b, number_read scale.num c h.0, number_read scale.den d h.1, text_read scale.unit rest h.2) refl
 
 -- ---- fixed kinds
 
-fixed_behind_read : (word : Keyword) (rest : Texts) → fixed_at (keyword_text word ∷ rest) ≡ fixed_behind fixed_at word (keyword_text word ∷ rest) rest
+fixed_by_word_read : (word : Keyword) (rest : Texts) → fixed_at (keyword_text word ∷ rest) ≡ fixed_by_word fixed_at word (keyword_text word ∷ rest) rest
 unfolding fixed_step
-fixed_behind_read word rest = fixed_is (keyword_text word ∷ rest) ∙ ap (λ r. r >>= λ w. fixed_behind fixed_at w.0 (keyword_text word ∷ rest) w.1) (keyword_read word rest)
+fixed_by_word_read word rest = fixed_is (keyword_text word ∷ rest) ∙ ap (λ r. r >>= λ w. fixed_by_word fixed_at w.0 (keyword_text word ∷ rest) w.1) (keyword_read word rest)
 
 abbrev members_list : MembersTree → List MemberTree
 members_list no_members = []
@@ -172,9 +172,9 @@ mutual
   pub fixed_read : (f : FixedTree) (rest : Texts) → FixedInRange f → fixed_at (fixed_texts f ++ rest) ≡ Ok (f, rest)
   fixed_read (element width content) rest h =
       let a = content_texts content ++ rest in
-      fixed_behind_read Word.Element (decimal width ∷ a) ∙ rw (width_read width a h.0, content_read content rest h.1) refl
+      fixed_by_word_read Word.Element (decimal width ∷ a) ∙ rw (width_read width a h.0, content_read content rest h.1) refl
   fixed_read (group ms) rest h =
-      fixed_behind_read Word.Group (keyword_text Word.Open ∷ (closed (members_texts ms) ++ rest))
+      fixed_by_word_read Word.Group (keyword_text Word.Open ∷ (closed (members_texts ms) ++ rest))
       ∙ members_whole ms rest (members_read ms rest h)
 
   pub member_read : (m : MemberTree) (rest : Texts) → MemberInRange m → member_at (member_texts m ++ rest) ≡ Ok (m, rest)
@@ -199,9 +199,9 @@ part_read ms rest h = ap (λ r. r >>= λ m. Ok (members_of m.0, m.1)) (members_r
 part_goes : (ms : MembersTree) (rest : Texts) → MembersInRange ms → Goes (part_texts ms ++ rest)
 part_goes ms rest h = refl
 
-kind_behind_read : (word : Keyword) (rest : Texts) → kind_at (keyword_text word ∷ rest) ≡ kind_behind kind_at word (keyword_text word ∷ rest) rest
+kind_by_word_read : (word : Keyword) (rest : Texts) → kind_at (keyword_text word ∷ rest) ≡ kind_by_word kind_at word (keyword_text word ∷ rest) rest
 unfolding kind_step
-kind_behind_read word rest = kind_is (keyword_text word ∷ rest) ∙ ap (λ r. r >>= λ w. kind_behind kind_at w.0 (keyword_text word ∷ rest) w.1) (keyword_read word rest)
+kind_by_word_read word rest = kind_is (keyword_text word ∷ rest) ∙ ap (λ r. r >>= λ w. kind_by_word kind_at w.0 (keyword_text word ∷ rest) w.1) (keyword_read word rest)
 
 abbrev slots_list : SlotsTree → List SlotTree
 slots_list no_slots = []
@@ -218,9 +218,9 @@ slot_goes (subitem name k) rest h = name_goes name (kind_texts k ++ rest) h.0
 -- a fixed kind, as its own keyword leads to it
 fixed_kind_read : (f : FixedTree) (rest : Texts) → FixedInRange f → kind_at (fixed_texts f ++ rest) ≡ Ok (fixed f, rest)
 fixed_kind_read (element width content) rest h =
-    kind_behind_read Word.Element (decimal width ∷ (content_texts content ++ rest)) ∙ ap (λ r. r >>= λ f. Ok (fixed f.0, f.1)) (fixed_read (element width content) rest h)
+    kind_by_word_read Word.Element (decimal width ∷ (content_texts content ++ rest)) ∙ ap (λ r. r >>= λ f. Ok (fixed f.0, f.1)) (fixed_read (element width content) rest h)
 fixed_kind_read (group ms) rest h =
-    kind_behind_read Word.Group (keyword_text Word.Open ∷ (closed (members_texts ms) ++ rest)) ∙ ap (λ r. r >>= λ f. Ok (fixed f.0, f.1)) (fixed_read (group ms) rest h)
+    kind_by_word_read Word.Group (keyword_text Word.Open ∷ (closed (members_texts ms) ++ rest)) ∙ ap (λ r. r >>= λ f. Ok (fixed f.0, f.1)) (fixed_read (group ms) rest h)
 
 slots_whole : (ss : SlotsTree) (rest : Texts) → list_at slot_at (closed (slots_texts ss) ++ rest) ≡ Ok (slots_list ss, rest) → (list_at (slot_step kind_at) (closed (slots_texts ss) ++ rest) >>= λ i. reads (compound (slots_of i.0)) i.1) ≡ Ok (compound ss, rest)
 unfolding slot_at
@@ -232,18 +232,18 @@ mutual
   pub kind_read : (k : KindTree) (rest : Texts) → KindInRange k → kind_at (kind_texts k ++ rest) ≡ Ok (k, rest)
   kind_read (fixed f) rest h = fixed_kind_read f rest h
   kind_read (extended ps) rest h =
-      kind_behind_read Word.Extended (keyword_text Word.Open ∷ (closed (flat_map part_texts ps) ++ rest))
+      kind_by_word_read Word.Extended (keyword_text Word.Open ∷ (closed (flat_map part_texts ps) ++ rest))
       ∙ ap (λ r. r >>= λ p. Ok (extended p.0, p.1)) (list_read part_at part_shrinks part_texts MembersInRange part_read part_goes ps rest h)
   kind_read (counted k) rest h =
       let close = keyword_text Word.Close ∷ rest in
       let front : closed (kind_texts k) ++ rest ≡ kind_texts k ++ close = append_assoc (kind_texts k) (keyword_text Word.Close ∷ []) rest in
-      kind_behind_read Word.Counted (keyword_text Word.Open ∷ (closed (kind_texts k) ++ rest))
+      kind_by_word_read Word.Counted (keyword_text Word.Open ∷ (closed (kind_texts k) ++ rest))
       ∙ ap (λ t. kind_at t >>= λ i. expect_at Word.Close i.1 >>= λ c. Ok (counted i.0, c.1)) front
       ∙ ap (λ r. r >>= λ i. expect_at Word.Close i.1 >>= λ c. Ok (counted i.0, c.1)) (kind_read k close h)
-  kind_read (by_fx f) rest h = kind_behind_read Word.ByFx (fixed_texts f ++ rest) ∙ ap (λ r. r >>= λ i. Ok (by_fx i.0, i.1)) (fixed_read f rest h)
-  kind_read explicit rest h = kind_behind_read Word.Explicit rest
+  kind_read (by_fx f) rest h = kind_by_word_read Word.ByFx (fixed_texts f ++ rest) ∙ ap (λ r. r >>= λ i. Ok (by_fx i.0, i.1)) (fixed_read f rest h)
+  kind_read explicit rest h = kind_by_word_read Word.Explicit rest
   kind_read (compound ss) rest h =
-      kind_behind_read Word.Compound (keyword_text Word.Open ∷ (closed (slots_texts ss) ++ rest))
+      kind_by_word_read Word.Compound (keyword_text Word.Open ∷ (closed (slots_texts ss) ++ rest))
       ∙ slots_whole ss rest (slots_read ss rest h)
 
   pub slot_read : (s : SlotTree) (rest : Texts) → SlotInRange s → slot_at (slot_texts s ++ rest) ≡ Ok (s, rest)
@@ -284,8 +284,8 @@ pub spec_read : (spec : SpecTree) (rest : Texts) → InRange spec → spec_at (s
 unfolding spec_at
 spec_read spec rest h =
     let uap = closed (flat_map uap_slot_texts spec.uap) ++ rest in
-    let behind = keyword_text Word.Uap ∷ keyword_text Word.Open ∷ uap in
-    let items = closed (flat_map item_texts spec.items) ++ behind in
+    let following = keyword_text Word.Uap ∷ keyword_text Word.Open ∷ uap in
+    let items = closed (flat_map item_texts spec.items) ++ following in
     let c = keyword_text Word.Items ∷ keyword_text Word.Open ∷ items in
     let b = keyword_text Word.Edition ∷ quoted spec.edition ∷ c in
     let front : spelled spec ++ rest ≡ keyword_text Word.Category ∷ three_digits spec.category ∷ b
@@ -294,7 +294,7 @@ spec_read spec rest h =
     ∙ rw (
       some_at category_of (three_digits spec.category) spec.category b (category_some spec.category h.category),
       text_read spec.edition c h.edition,
-      list_read item_at item_shrinks item_texts ItemInRange item_read item_goes spec.items behind h.items,
+      list_read item_at item_shrinks item_texts ItemInRange item_read item_goes spec.items following h.items,
       list_read uap_slot_at uap_slot_shrinks uap_slot_texts UapSlotInRange uap_slot_read uap_slot_goes spec.uap rest h.uap,
     ) refl
 

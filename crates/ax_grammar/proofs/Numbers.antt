@@ -9,13 +9,13 @@ use Rattle.std.proofs.lemmas.Str.Parse.{IsNumeralModel, numerals_by_fold, digits
 use Rattle.std.proofs.Math.Nat.{pow-le-pow_right}
 use Rattle.ax_model.specs.Characters.{IsName, is_name_octet}
 use Rattle.ax_model.specs.Paths.{three_digits}
-use Rattle.ax_grammar.specs.Tests.{is_digit, number_behind, has_leading_zero, number_of, category_of}
+use Rattle.ax_grammar.specs.Tests.{is_digit, number_after_digits, has_leading_zero, number_of, category_of}
 
 abbrev pub AreDigits : List ℕ → Type 0
 AreDigits digits = list_all is_digit digits ≡ true
 
-pub model : IsNumeralModel AreDigits (number_behind 0)
-model = numerals_by_fold AreDigits (search rules) number_behind (search rules)
+pub model : IsNumeralModel AreDigits (number_after_digits 0)
+model = numerals_by_fold AreDigits (search rules) number_after_digits (search rules)
 
 -- one of more digits has no leading zero where it is 0 alone
 zero_alone : (digits : List ℕ) → has_leading_zero digits ≡ false → get_or digits 0 0 ≡ 48 → 0 < length digits → length digits ≡ 1
@@ -44,7 +44,7 @@ pub number_some : (most n : ℕ) → 0 < most → most ≤ 18 → n < 10 ^ most 
 unfolding number_of
 number_some most n pos le h =
     let small = few most n le h in
-    cond-true (number_test most (decimal n)) (Some (number_behind 0 (decimal n))) None
+    cond-true (number_test most (decimal n)) (Some (number_after_digits 0 (decimal n))) None
     (and_from _ _ (and_from _ _ (and_from _ _ (le-leb 1 (length (decimal n)) (decimal_nonempty n small)) (le-leb (length (decimal n)) most (length-decimal-le most n pos h small))) (digits_decimal model n small))
     (not_from_false _ (no_zero (decimal n) (decimal_shape n small))))
     ∙ ap (λ v. Some v) (digits_value-decimal model n small)
@@ -52,19 +52,19 @@ number_some most n pos le h =
 pub number_found : (most n : ℕ) (text : List ℕ) → most ≤ 18 → number_of most text ≡ Some n → (n < 10 ^ most) × (text ≡ decimal n)
 unfolding number_of
 number_found most n text le e =
-    let p = cond_some (number_test most text) (number_behind 0 text) n e in
+    let p = cond_some (number_test most text) (number_after_digits 0 text) n e in
     let q = and_parts _ _ p.0 in
     let r = and_parts _ _ q.0 in
     let s = and_parts _ _ r.0 in
-    let bound : number_behind 0 text < 10 ^ most = digits_value_short model text most r.1 (leb-true (length text) most s.1) in
+    let bound : number_after_digits 0 text < 10 ^ most = digits_value_short model text most r.1 (leb-true (length text) most s.1) in
     let some : 0 < length text = leb-true 1 (length text) s.0 in
-    let back : decimal (number_behind 0 text) ≡ text = decimal-digits_value model text r.1 some (λ z. zero_alone text (not-true _ q.1) z some) (few most (number_behind 0 text) le bound) in
+    let back : decimal (number_after_digits 0 text) ≡ text = decimal-digits_value model text r.1 some (λ z. zero_alone text (not-true _ q.1) z some) (few most (number_after_digits 0 text) le bound) in
     subst (λ v. (v < 10 ^ most) × (text ≡ decimal v)) p.1 (bound, sym back)
 
 -- ---- categories
 
 abbrev category_test : List ℕ → Bool
-category_test text = (length text == 3) && list_all is_digit text && nat_lt (number_behind 0 text) 256
+category_test text = (length text == 3) && list_all is_digit text && nat_lt (number_after_digits 0 text) 256
 
 pub digit : (n : ℕ) → n < 10 → is_digit (48 + n) ≡ true
 digit n h = and_from _ _ (le-leb 48 (48 + n) (omega arith)) (le-leb (48 + n) 57 (omega arith))
@@ -75,12 +75,12 @@ digit_range x h = let p = and_parts _ _ h in (leb-true 48 x p.0, leb-true x 57 p
 pub category_some : (n : ℕ) → n < 256 → category_of (three_digits n) ≡ Some n
 unfolding category_of
 category_some n h =
-    let value : number_behind 0 (three_digits n) ≡ n = omega arith in
-    cond-true (category_test (three_digits n)) (Some (number_behind 0 (three_digits n))) None
+    let value : number_after_digits 0 (three_digits n) ≡ n = omega arith in
+    cond-true (category_test (three_digits n)) (Some (number_after_digits 0 (three_digits n))) None
     (and_from _ _ (and_from _ _ refl (and_from _ _ (digit (n / 100) (omega arith)) (and_from _ _ (digit (n / 10 % 10) (omega arith)) (and_from _ _ (digit (n % 10) (omega arith)) refl)))) (lt-ltb _ 256 (omega (arith, value, h))))
     ∙ ap (λ v. Some v) value
 
-digits_are : (text : List ℕ) → length text ≡ 3 → list_all is_digit text ≡ true → text ≡ three_digits (number_behind 0 text)
+digits_are : (text : List ℕ) → length text ≡ 3 → list_all is_digit text ≡ true → text ≡ three_digits (number_after_digits 0 text)
 digits_are [] e h = absurd (omega (arith, e))
 digits_are (a ∷ []) e h = absurd (omega (arith, e))
 digits_are (a ∷ b ∷ []) e h = absurd (omega (arith, e))
@@ -91,7 +91,7 @@ digits_are (a ∷ b ∷ c ∷ []) e h =
     let x = digit_range a p.0 in
     let y = digit_range b q.0 in
     let z = digit_range c r.0 in
-    let n = number_behind 0 (a ∷ b ∷ c ∷ []) in
+    let n = number_after_digits 0 (a ∷ b ∷ c ∷ []) in
     let first : a ≡ 48 + n / 100 = omega (arith, x, y, z) in
     let second : b ≡ 48 + n / 10 % 10 = omega (arith, x, y, z) in
     let third : c ≡ 48 + n % 10 = omega (arith, x, y, z) in
@@ -101,10 +101,10 @@ digits_are (a ∷ b ∷ c ∷ d ∷ text) e h = absurd (omega (arith, e))
 pub category_found : (n : ℕ) (text : List ℕ) → category_of text ≡ Some n → (n < 256) × (text ≡ three_digits n)
 unfolding category_of
 category_found n text e =
-    let p = cond_some (category_test text) (number_behind 0 text) n e in
+    let p = cond_some (category_test text) (number_after_digits 0 text) n e in
     let q = and_parts _ _ p.0 in
     let r = and_parts _ _ q.0 in
-    subst (λ v. (v < 256) × (text ≡ three_digits v)) p.1 (ltb-true (number_behind 0 text) 256 q.1, digits_are text (eqb-true (length text) 3 r.0) r.1)
+    subst (λ v. (v < 256) × (text ≡ three_digits v)) p.1 (ltb-true (number_after_digits 0 text) 256 q.1, digits_are text (eqb-true (length text) 3 r.0) r.1)
 
 -- ---- names and numbers are no keywords
 

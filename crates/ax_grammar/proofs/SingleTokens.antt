@@ -14,7 +14,7 @@ use Rattle.ax_tokens.specs.declared.token.TokenKind.{TokenKind}
 use Rattle.ax_tokens.specs.declared.token.TokenKind.TheVariants.{Word, Str, Open, Close}
 use Rattle.ax_grammar.specs.InRange.{IsText}
 use Rattle.ax_grammar.specs.Spelling.{quoted}
-use Rattle.ax_grammar.specs.Tests.{is_digit, number_behind, name_of, unquoted, content_in_quotes, if_short, text_of}
+use Rattle.ax_grammar.specs.Tests.{is_digit, number_after_digits, name_of, unquoted, content_in_quotes, if_short, text_of}
 
 -- ---- names
 
@@ -171,13 +171,6 @@ pub digit_at : (digits : List ℕ) (i : ℕ) → list_all is_digit digits ≡ tr
 digit_at [] i h lt = absurd (omega arith)
 digit_at (x ∷ digits) zero h lt = let p = and_parts _ _ (and_parts _ _ h).0 in (leb-true 48 x p.0, leb-true x 57 p.1)
 digit_at (x ∷ digits) (suc i) h lt = digit_at digits i (and_parts _ _ h).1 (omega arith)
-
-pub next_digit : (digits : List ℕ) (i value : ℕ) → i < length digits → number_behind value (drop i digits) ≡ number_behind (10 * value + (get_or digits i 0 - 48)) (drop (i + 1) digits)
-next_digit [] i value lt = absurd (omega arith)
-next_digit (x ∷ digits) zero value lt = refl
-next_digit (x ∷ digits) (suc i) value lt =
-    let e : suc i + 1 ≡ suc (i + 1) = omega arith in
-    next_digit digits i value (omega arith) ∙ ap (λ n. number_behind (10 * value + (get_or digits i 0 - 48)) (drop n (x ∷ digits))) (sym e)
 
 -- 18 digits fit
 pub room : (value i : ℕ) → value < 10 ^ i → i < 18 → 10 * value + 9 < 10 ^ 18

@@ -18,8 +18,8 @@ use Rattle.ax_grammar.specs.InRange.{IsText, IsWidth, IsNumber, EntryInRange, Co
 use Rattle.ax_grammar.specs.Spelling.{quoted, sign_text, closed, block, entry_texts, content_texts, fixed_texts, member_texts, members_texts, part_texts, kind_texts, slot_texts, slots_texts, item_texts, uap_slot_texts, spelled}
 use Rattle.ax_model.specs.Paths.{three_digits}
 use Rattle.ax_grammar.specs.Tests.{name_of, number_of, category_of, text_of}
-use Rattle.ax_grammar.specs.Reading.{Texts, Read, ◌>>=◌, one_of, one_at, expect_at, takes_at, list_at, braced_at}
-use Rattle.ax_grammar.specs.Rules.{keyword_at, name_at, category_at, width_at, number_at, text_at, sign_behind, sign_at, entry_at, scale_at, content_behind, content_at, fixed_behind, member_step, fixed_step, fixed_at, member_at, part_at, kind_behind, kind_step, kind_at, slot_step, slot_at, item_at, uap_slot_at, spec_at, end_at, whole_at}
+use Rattle.ax_grammar.specs.Parsing.{Texts, Parsed, ◌>>=◌, one_of, one_at, expect_at, takes_at, list_at, braced_at}
+use Rattle.ax_grammar.specs.Rules.{keyword_at, name_at, category_at, width_at, number_at, text_at, sign_by_word, sign_at, entry_at, scale_at, content_by_word, content_at, fixed_by_word, member_step, fixed_step, fixed_at, member_at, part_at, kind_by_word, kind_step, kind_at, slot_step, slot_at, item_at, uap_slot_at, spec_at, end_at, whole_at}
 use Rattle.ax_grammar.specs.declared.keyword.Keyword.{Keyword}
 use Rattle.ax_grammar.specs.declared.keyword.Keyword.TheVariants as Word
 use Rattle.ax_grammar.proofs.Recursion.{Shrinks, bind_ok, reads, rest_is, value_is}
@@ -27,13 +27,14 @@ use Rattle.ax_grammar.proofs.Lists.{list_is, taking, expect_shrinks, takes_keeps
 use Rattle.ax_grammar.proofs.Recursive.{one_shrinks, sign_shrinks, entry_shrinks, member_shrinks, part_shrinks, slot_shrinks, item_shrinks, uap_slot_shrinks, fixed_is, kind_is}
 use Rattle.ax_grammar.proofs.SingleTokens.{name_found, text_found}
 use Rattle.ax_grammar.proofs.Numbers.{number_found, category_found}
+use Rattle.ax_grammar.proofs.SpecParts.{made, uap_part, items_part, edition_part, category_part}
 
 -- what p reads from fewer than k texts fits, and is spelled by the texts in front of what is left
-abbrev pub Finds : {A : Type 0} → ℕ → (Texts → Read A) → (A → Type 0) → (A → Texts) → Type 0
+abbrev pub Finds : {A : Type 0} → ℕ → (Texts → Parsed A) → (A → Type 0) → (A → Texts) → Type 0
 Finds {A} k p Fits spell = (texts rest : Texts) (a : A) → length texts < k → p texts ≡ reads a rest → Fits a × (texts ≡ spell a ++ rest)
 
 -- the last reader's value, as it is made a part of another
-mapped : {A B : Type 0} (g : A → B) (r : Read A) (b : B) (rest : Texts) → (r >>= λ x. Ok (g x.0, x.1)) ≡ reads b rest → (a : A) × (r ≡ reads a rest) × (g a ≡ b)
+mapped : {A B : Type 0} (g : A → B) (r : Parsed A) (b : B) (rest : Texts) → (r >>= λ x. Ok (g x.0, x.1)) ≡ reads b rest → (a : A) × (r ≡ reads a rest) × (g a ≡ b)
 mapped g (Ok x) b rest e = (x.0, ap (λ t. reads x.0 t) (rest_is (g x.0) b x.1 rest e), value_is (g x.0) b x.1 rest e)
 mapped g (Err d) b rest e = absurd cc
 
@@ -97,7 +98,7 @@ takes_found word (text ∷ after) rest c e = taking_found (bytes_eq (keyword_tex
 
 -- ---- lists
 
-list_case : {A : Type 0} (p : Texts → Read A) (Fits : A → Type 0) (spell : A → Texts) (c : Bool) (texts after rest : Texts) (xs : List A) → texts ≡ cond c (keyword_text Word.Close ∷ after) after
+list_case : {A : Type 0} (p : Texts → Parsed A) (Fits : A → Type 0) (spell : A → Texts) (c : Bool) (texts after rest : Texts) (xs : List A) → texts ≡ cond c (keyword_text Word.Close ∷ after) after
     → ((a : A) (last : Texts) → p after ≡ reads a last → Fits a × (after ≡ spell a ++ last))
     → ((a : A) (last : Texts) → p after ≡ reads a last → (ys : List A) → list_at p last ≡ reads ys rest → AllByRecursion Fits ys × (last ≡ closed (flat_map spell ys) ++ rest))
     → cond c (reads [] after) (p after >>= λ first. list_at p first.1 >>= λ others. Ok (first.0 ∷ others.0, others.1)) ≡ reads xs rest → AllByRecursion Fits xs × (texts ≡ closed (flat_map spell xs) ++ rest)
@@ -111,7 +112,7 @@ list_case p Fits spell false texts after rest xs front one more e =
     let whole : closed (flat_map spell (f.0.0 ∷ m.0)) ++ rest ≡ spell f.0.0 ++ (closed (flat_map spell m.0) ++ rest) = rw (flat_map-cons, append_assoc, append_assoc, append_assoc) refl in
     subst (λ ys. AllByRecursion Fits ys × (texts ≡ closed (flat_map spell ys) ++ rest)) m.2 ((a.0, b.0), front ∙ a.1 ∙ ap (λ t. spell f.0.0 ++ t) b.1 ∙ sym whole)
 
-list_found : {A : Type 0} (p : Texts → Read A) → Shrinks p → (Fits : A → Type 0) (spell : A → Texts) (k : ℕ) → Finds k p Fits spell → Finds k (list_at p) (AllByRecursion Fits) (λ xs. closed (flat_map spell xs))
+list_found : {A : Type 0} (p : Texts → Parsed A) → Shrinks p → (Fits : A → Type 0) (spell : A → Texts) (k : ℕ) → Finds k p Fits spell → Finds k (list_at p) (AllByRecursion Fits) (λ xs. closed (flat_map spell xs))
 list_found p s Fits spell zero h texts rest xs lt e = absurd (omega arith)
 list_found p s Fits spell (suc k) h texts rest xs lt e =
     let f = bind_ok (takes_at Word.Close texts) (λ c. cond c.0 (reads [] c.1) (p c.1 >>= λ first. list_at p first.1 >>= λ others. Ok (first.0 ∷ others.0, others.1))) (xs, rest) (sym (list_is p s texts) ∙ e) in
@@ -121,7 +122,7 @@ list_found p s Fits spell (suc k) h texts rest xs lt e =
     (λ a last e' ys e''. list_found p s Fits spell k (λ t r x l. h t r x (omega arith)) last rest ys (omega (arith, less, s f.0.1 a last e')) e'')
     f.2
 
-braced_found : {A : Type 0} (p : Texts → Read A) → Shrinks p → (Fits : A → Type 0) (spell : A → Texts) (k : ℕ) → Finds k p Fits spell → Finds (suc k) (braced_at p) (AllByRecursion Fits) (λ xs. keyword_text Word.Open ∷ closed (flat_map spell xs))
+braced_found : {A : Type 0} (p : Texts → Parsed A) → Shrinks p → (Fits : A → Type 0) (spell : A → Texts) (k : ℕ) → Finds k p Fits spell → Finds (suc k) (braced_at p) (AllByRecursion Fits) (λ xs. keyword_text Word.Open ∷ closed (flat_map spell xs))
 braced_found p s Fits spell k h texts rest xs lt e =
     let f = bind_ok (expect_at Word.Open texts) (λ o. list_at p o.1) (xs, rest) e in
     let l = list_found p s Fits spell k h f.0.1 rest xs (omega (arith, expect_shrinks Word.Open texts f.0.0 f.0.1 f.1)) f.2 in
@@ -129,7 +130,7 @@ braced_found p s Fits spell k h texts rest xs lt e =
 
 -- ---- contents
 
-sign_case : (word : Keyword) (texts after rest : Texts) (sign : Sign) → texts ≡ keyword_text word ∷ after → sign_behind word texts after ≡ reads sign rest → texts ≡ sign_text sign ∷ rest
+sign_case : (word : Keyword) (texts after rest : Texts) (sign : Sign) → texts ≡ keyword_text word ∷ after → sign_by_word word texts after ≡ reads sign rest → texts ≡ sign_text sign ∷ rest
 sign_case Word.Unsigned texts after rest sign front e =
     front ∙ ap (λ t. keyword_text Word.Unsigned ∷ t) (rest_is Sign.Unsigned sign after rest e) ∙ ap (λ s. sign_text s ∷ rest) (value_is Sign.Unsigned sign after rest e)
 sign_case Word.Signed texts after rest sign front e =
@@ -139,7 +140,7 @@ sign_case word texts after rest sign front e = absurd cc
 sign_found : (k : ℕ) → Finds k sign_at (λ sign. Unit {0}) (λ sign. sign_text sign ∷ [])
 unfolding sign_at
 sign_found k texts rest sign lt e =
-    let f = bind_ok (keyword_at texts) (λ w. sign_behind w.0 texts w.1) (sign, rest) e in
+    let f = bind_ok (keyword_at texts) (λ w. sign_by_word w.0 texts w.1) (sign, rest) e in
     (tt, sign_case f.0.0 texts f.0.1 rest sign (keyword_found k texts f.0.1 f.0.0 lt f.1).1 f.2)
 
 entry_found : (k : ℕ) → Finds k entry_at EntryInRange entry_texts
@@ -174,7 +175,7 @@ scale_found k texts rest scale lt e =
 abbrev Spells : {A : Type 0} → (A → Type 0) → (A → Texts) → Texts → Texts → A → Type 0
 Spells Fits spell texts rest a = Fits a × (texts ≡ spell a ++ rest)
 
-content_case : (k : ℕ) (word : Keyword) (texts after rest : Texts) (content : Content) → length after < k → texts ≡ keyword_text word ∷ after → content_behind word texts after ≡ reads content rest
+content_case : (k : ℕ) (word : Keyword) (texts after rest : Texts) (content : Content) → length after < k → texts ≡ keyword_text word ∷ after → content_by_word word texts after ≡ reads content rest
     → Spells ContentInRange content_texts texts rest content
 unfolding scale_texts
 content_case k Word.Raw texts after rest content lt front e =
@@ -202,7 +203,7 @@ content_case k word texts after rest content lt front e = absurd cc
 content_found : (k : ℕ) → Finds k content_at ContentInRange content_texts
 unfolding content_at
 content_found k texts rest content lt e =
-    let f = bind_ok (keyword_at texts) (λ w. content_behind w.0 texts w.1) (content, rest) e in
+    let f = bind_ok (keyword_at texts) (λ w. content_by_word w.0 texts w.1) (content, rest) e in
     content_case k f.0.0 texts f.0.1 rest content (omega (arith, one_shrinks keyword_of texts f.0.0 f.0.1 f.1)) (keyword_found k texts f.0.1 f.0.0 lt f.1).1 f.2
 
 -- ---- fixed kinds
@@ -247,7 +248,7 @@ members_found k h texts rest ms lt e =
     let f = braced_found member_at member_shrinks MemberInRange member_texts (suc k) (member_found k h) texts rest ms lt e in
     (members_fit ms f.0, f.1 ∙ ap (λ t. (keyword_text Word.Open ∷ closed t) ++ rest) (sym (members_spelled ms)))
 
-fixed_case : (k : ℕ) → Finds k fixed_at FixedInRange fixed_texts → (word : Keyword) (texts after rest : Texts) (f : FixedTree) → length after < suc k → texts ≡ keyword_text word ∷ after → fixed_behind fixed_at word texts after ≡ reads f rest
+fixed_case : (k : ℕ) → Finds k fixed_at FixedInRange fixed_texts → (word : Keyword) (texts after rest : Texts) (f : FixedTree) → length after < suc k → texts ≡ keyword_text word ∷ after → fixed_by_word fixed_at word texts after ≡ reads f rest
     → FixedInRange f × (texts ≡ fixed_texts f ++ rest)
 unfolding member_at
 fixed_case k h Word.Element texts after rest f lt front e =
@@ -266,7 +267,7 @@ fixed_found : (k : ℕ) → Finds k fixed_at FixedInRange fixed_texts
 unfolding fixed_step
 fixed_found zero texts rest f lt e = absurd (omega arith)
 fixed_found (suc k) texts rest f lt e =
-    let g = bind_ok (keyword_at texts) (λ w. fixed_behind fixed_at w.0 texts w.1) (f, rest) (sym (fixed_is texts) ∙ e) in
+    let g = bind_ok (keyword_at texts) (λ w. fixed_by_word fixed_at w.0 texts w.1) (f, rest) (sym (fixed_is texts) ∙ e) in
     fixed_case k (fixed_found k) g.0.0 texts g.0.1 rest f (omega (arith, lt, one_shrinks keyword_of texts g.0.0 g.0.1 g.1)) (keyword_found (suc k) texts g.0.1 g.0.0 lt g.1).1 g.2
 
 -- ---- kinds
@@ -307,7 +308,7 @@ slots_fit : (ss : List SlotTree) → AllByRecursion SlotInRange ss → SlotsInRa
 slots_fit [] h = tt
 slots_fit (s ∷ ss) h = (h.0, slots_fit ss h.1)
 
-kind_case : (k : ℕ) → Finds k kind_at KindInRange kind_texts → (word : Keyword) (texts after rest : Texts) (f : KindTree) → length texts < suc k → length after < length texts → texts ≡ keyword_text word ∷ after → kind_behind kind_at word texts after ≡ reads f rest
+kind_case : (k : ℕ) → Finds k kind_at KindInRange kind_texts → (word : Keyword) (texts after rest : Texts) (f : KindTree) → length texts < suc k → length after < length texts → texts ≡ keyword_text word ∷ after → kind_by_word kind_at word texts after ≡ reads f rest
     → KindInRange f × (texts ≡ kind_texts f ++ rest)
 unfolding slot_at
 kind_case k h Word.Extended texts after rest f lt le front e =
@@ -343,7 +344,7 @@ kind_found : (k : ℕ) → Finds k kind_at KindInRange kind_texts
 unfolding kind_step
 kind_found zero texts rest f lt e = absurd (omega arith)
 kind_found (suc k) texts rest f lt e =
-    let g = bind_ok (keyword_at texts) (λ w. kind_behind kind_at w.0 texts w.1) (f, rest) (sym (kind_is texts) ∙ e) in
+    let g = bind_ok (keyword_at texts) (λ w. kind_by_word kind_at w.0 texts w.1) (f, rest) (sym (kind_is texts) ∙ e) in
     kind_case k (kind_found k) g.0.0 texts g.0.1 rest f lt (one_shrinks keyword_of texts g.0.0 g.0.1 g.1) (keyword_found (suc k) texts g.0.1 g.0.0 lt g.1).1 g.2
 
 -- ---- specifications
@@ -386,26 +387,10 @@ categories_found : (k : ℕ) → Finds k category_at (λ n. n < 256) (λ n. thre
 categories_found = one_found category_of (λ n. n < 256) three_digits (λ text n e. category_found n text e)
 
 -- a keyword, and then a reader
-expect_then : {B : Type 0} (word : Keyword) (q : Texts → Read B) (texts rest : Texts) (b : B) → (expect_at word texts >>= λ u. q u.1) ≡ reads b rest
+expect_then : {B : Type 0} (word : Keyword) (q : Texts → Parsed B) (texts rest : Texts) (b : B) → (expect_at word texts >>= λ u. q u.1) ≡ reads b rest
     → (after : Texts) × (texts ≡ keyword_text word ∷ after) × (length after < length texts) × (q after ≡ reads b rest)
 expect_then word q texts rest b e =
     let f = bind_ok (expect_at word texts) (λ u. q u.1) (b, rest) e in (f.0.1, expect_found word texts f.0.1 f.0.0 f.1, expect_shrinks word texts f.0.0 f.0.1 f.1, f.2)
-
-abbrev made : ℕ → List ℕ → List ItemTree → List UapSlot → SpecTree
-made category edition items uap = record { category = category; edition = edition; items = items; uap = uap }
-
--- the rule of a specification, from its parts on
-abbrev uap_part : ℕ → List ℕ → List ItemTree → Texts → Read SpecTree
-uap_part category edition items texts = braced_at uap_slot_at texts >>= λ u. reads (made category edition items u.0) u.1
-
-abbrev items_part : ℕ → List ℕ → Texts → Read SpecTree
-items_part category edition texts = braced_at item_at texts >>= λ i. expect_at Word.Uap i.1 >>= λ u. uap_part category edition i.0 u.1
-
-abbrev edition_part : ℕ → Texts → Read SpecTree
-edition_part category texts = text_at texts >>= λ t. expect_at Word.Items t.1 >>= λ u. items_part category t.0 u.1
-
-abbrev category_part : Texts → Read SpecTree
-category_part texts = category_at texts >>= λ c. expect_at Word.Edition c.1 >>= λ u. edition_part c.0 u.1
 
 pub spec_found : (texts rest : Texts) (spec : SpecTree) → spec_at texts ≡ reads spec rest → InRange spec × (texts ≡ spelled spec ++ rest)
 unfolding spec_at

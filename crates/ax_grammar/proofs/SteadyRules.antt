@@ -13,8 +13,8 @@ use Rattle.ax_grammar.specs.Keywords.{keyword_text, keyword_of}
 use Rattle.ax_grammar.specs.Spelling.{quoted}
 use Rattle.ax_model.specs.Paths.{three_digits}
 use Rattle.ax_grammar.specs.Tests.{name_of, number_of, category_of, text_of}
-use Rattle.ax_grammar.specs.Reading.{Texts, Read, ◌>>=◌, one_of, expect_at, braced_at}
-use Rattle.ax_grammar.specs.Rules.{name_at, category_at, width_at, number_at, text_at, sign_behind, sign_at, entry_at, scale_at, content_behind, content_at, fixed_behind, member_step, fixed_step, fixed_at, member_at, part_at, kind_behind, kind_step, kind_at, slot_step, slot_at, item_at, uap_slot_at, spec_at}
+use Rattle.ax_grammar.specs.Parsing.{Texts, Parsed, ◌>>=◌, one_of, expect_at, braced_at}
+use Rattle.ax_grammar.specs.Rules.{name_at, category_at, width_at, number_at, text_at, sign_by_word, sign_at, entry_at, scale_at, content_by_word, content_at, fixed_by_word, member_step, fixed_step, fixed_at, member_at, part_at, kind_by_word, kind_step, kind_at, slot_step, slot_at, item_at, uap_slot_at, spec_at}
 use Rattle.ax_grammar.specs.declared.keyword.Keyword.{Keyword}
 use Rattle.ax_grammar.specs.declared.keyword.Keyword.TheVariants as Word
 use Rattle.ax_grammar.proofs.Recursion.{Shrinks, reads}
@@ -24,6 +24,7 @@ use Rattle.ax_grammar.proofs.SingleTokens.{quoted_is, name_some}
 use Rattle.ax_grammar.proofs.Numbers.{number_some, category_some}
 use Rattle.ax_grammar.proofs.Complete.{fixed_read, kind_read, member_read, slot_read}
 use Rattle.ax_grammar.proofs.Steady.{At, IsSteady, Due, refused, done, after, same, one_steady, expect_read, expect_steady, mapping, map_steady, mapped_due, then_steady, list_due, braced_steady}
+use Rattle.ax_grammar.proofs.SpecParts.{made, uap_part, items_part, edition_part, category_part}
 
 -- ---- single tokens
 
@@ -64,8 +65,8 @@ category_steady : (k : ℕ) → IsSteady k category_at
 category_steady k = one_steady k category_of (three_digits 0) 0 category_due
 
 -- the rule, where the first text is known to be a keyword or none
-abbrev on_keyword : {A : Type 0} → Option Keyword → (Keyword → Texts → Texts → Read A) → List ℕ → Texts → Read A
-on_keyword o behind text more = one_of o text more >>= λ w. behind w.0 (text ∷ more) w.1
+abbrev on_keyword : {A : Type 0} → Option Keyword → (Keyword → Texts → Texts → Parsed A) → List ℕ → Texts → Parsed A
+on_keyword o following text more = one_of o text more >>= λ w. following w.0 (text ∷ more) w.1
 
 -- ---- contents
 
@@ -73,7 +74,7 @@ sign_due : Due sign_at
 unfolding sign_at keyword_of
 sign_due = record { texts = keyword_text Word.Unsigned ∷ []; value = Signs.Unsigned; due = λ more. refl }
 
-sign_case : (o : Option Keyword) (text : List ℕ) (rest : Texts) → ((more : Texts) → sign_at (text ∷ more) ≡ on_keyword o sign_behind text more) → At sign_at (text ∷ rest) (sign_at (text ∷ rest))
+sign_case : (o : Option Keyword) (text : List ℕ) (rest : Texts) → ((more : Texts) → sign_at (text ∷ more) ≡ on_keyword o sign_by_word text more) → At sign_at (text ∷ rest) (sign_at (text ∷ rest))
 sign_case None text rest e = refused sign_at (text ∷ rest) sign_due e
 sign_case (Some Word.Unsigned) text rest e = done sign_at Signs.Unsigned text rest e
 sign_case (Some Word.Signed) text rest e = done sign_at Signs.Signed text rest e
@@ -93,20 +94,20 @@ entry_steady k =
     then_steady k number_at (λ n texts. text_at texts >>= λ t. reads (record { number = n; text = t.0 }) t.1) (number_steady k) (λ n. map_steady k (λ t. record { number = n; text = t }) text_at (text_steady k)) (λ n. text_then (λ t. record { number = n; text = t }))
 
 -- a number is due, and what is due after it
-number_then : {B : Type 0} (q : ℕ → Texts → Read B) → ((n : ℕ) → Due (q n)) → Due (λ texts. number_at texts >>= λ n. q n.0 n.1)
+number_then : {B : Type 0} (q : ℕ → Texts → Parsed B) → ((n : ℕ) → Due (q n)) → Due (λ texts. number_at texts >>= λ n. q n.0 n.1)
 number_then q d = record { texts = decimal 0 ∷ (d 0).texts; value = (d 0).value; due = λ more. ap (λ o. one_of o (decimal 0) ((d 0).texts ++ more) >>= λ n. q n.0 n.1) number_due ∙ (d 0).due more }
 
 abbrev scaled : Sign → ℕ → ℕ → List ℕ → Scale
 scaled sign num den unit = record { sign = sign; num = num; den = den; unit = unit }
 
 -- the rule of a scale, from its parts on
-abbrev unit_part : Sign → ℕ → ℕ → Texts → Read Scale
+abbrev unit_part : Sign → ℕ → ℕ → Texts → Parsed Scale
 unit_part sign num den texts = text_at texts >>= λ u. reads (scaled sign num den u.0) u.1
 
-abbrev den_part : Sign → ℕ → Texts → Read Scale
+abbrev den_part : Sign → ℕ → Texts → Parsed Scale
 den_part sign num texts = number_at texts >>= λ d. unit_part sign num d.0 d.1
 
-abbrev num_part : Sign → Texts → Read Scale
+abbrev num_part : Sign → Texts → Parsed Scale
 num_part sign texts = number_at texts >>= λ n. den_part sign n.0 n.1
 
 unit_due : (sign : Sign) (num den : ℕ) → Due (unit_part sign num den)
@@ -129,7 +130,7 @@ content_due : Due content_at
 unfolding content_at keyword_of
 content_due = record { texts = keyword_text Word.Raw ∷ []; value = Meaning.Raw; due = λ more. refl }
 
-content_case : (o : Option Keyword) (text : List ℕ) (rest : Texts) → ((more : Texts) → content_at (text ∷ more) ≡ on_keyword o content_behind text more) → At content_at (text ∷ rest) (content_at (text ∷ rest))
+content_case : (o : Option Keyword) (text : List ℕ) (rest : Texts) → ((more : Texts) → content_at (text ∷ more) ≡ on_keyword o content_by_word text more) → At content_at (text ∷ rest) (content_at (text ∷ rest))
 content_case None text rest e = refused content_at (text ∷ rest) content_due e
 content_case (Some Word.Raw) text rest e = done content_at Meaning.Raw text rest e
 content_case (Some Word.Ascii) text rest e = done content_at Meaning.Ascii text rest e
@@ -156,10 +157,10 @@ fixed_due = let a_fixed = element 1 Meaning.Raw in record { texts = keyword_text
 member_due : Due member_at
 member_due = let a_member = named a_name (element 1 Meaning.Raw) in record { texts = a_name ∷ keyword_text Word.Element ∷ decimal 1 ∷ keyword_text Word.Raw ∷ []; value = a_member; due = λ more. member_read a_member more ((lit≤ tt, lit≤ tt, refl), (lit< tt, tt)) }
 
-abbrev named_at : Texts → Read MemberTree
+abbrev named_at : Texts → Parsed MemberTree
 named_at texts = name_at texts >>= λ n. fixed_at n.1 >>= λ f. reads (named n.0 f.0) f.1
 
-abbrev spare_at : Texts → Read MemberTree
+abbrev spare_at : Texts → Parsed MemberTree
 spare_at texts = width_at texts >>= λ w. reads (spare w.0) w.1
 
 member_case : (k : ℕ) → IsSteady k fixed_at → (b : Bool) (text : List ℕ) (rest : Texts) → length (text ∷ rest) < k
@@ -174,7 +175,7 @@ unfolding member_at member_step
 member_steady k l [] lt = refused member_at [] member_due (λ more. refl)
 member_steady k l (text ∷ rest) lt = member_case k l (bytes_eq (keyword_text Word.Spare) text) text rest lt (λ more. refl)
 
-fixed_case : (k : ℕ) → IsSteady k fixed_at → (o : Option Keyword) (text : List ℕ) (rest : Texts) → length rest < k → ((more : Texts) → fixed_at (text ∷ more) ≡ on_keyword o (fixed_behind fixed_at) text more) → At fixed_at (text ∷ rest) (fixed_at (text ∷ rest))
+fixed_case : (k : ℕ) → IsSteady k fixed_at → (o : Option Keyword) (text : List ℕ) (rest : Texts) → length rest < k → ((more : Texts) → fixed_at (text ∷ more) ≡ on_keyword o (fixed_by_word fixed_at) text more) → At fixed_at (text ∷ rest) (fixed_at (text ∷ rest))
 unfolding member_at
 fixed_case k l None text rest lt e = refused fixed_at (text ∷ rest) fixed_due e
 fixed_case k l (Some Word.Element) text rest lt e =
@@ -184,7 +185,7 @@ fixed_case k l (Some Word.Group) text rest lt e =
     after fixed_at _ text rest e (map_steady k (λ ms. group (members_of ms)) (braced_at member_at) (braced_steady member_at member_shrinks k (member_steady k l)) rest lt)
 fixed_case k l (Some word) text rest lt e = refused fixed_at (text ∷ rest) fixed_due e
 
-fixed_unfolds : (text : List ℕ) (more : Texts) → fixed_at (text ∷ more) ≡ on_keyword (keyword_of text) (fixed_behind fixed_at) text more
+fixed_unfolds : (text : List ℕ) (more : Texts) → fixed_at (text ∷ more) ≡ on_keyword (keyword_of text) (fixed_by_word fixed_at) text more
 unfolding fixed_step
 fixed_unfolds text more = fixed_is (text ∷ more)
 
@@ -203,7 +204,7 @@ members_steady k = braced_steady member_at member_shrinks k (member_steady k (fi
 -- ---- kinds
 
 -- braces with nothing in them
-braced_due : {A : Type 0} (p : Texts → Read A) → Shrinks p → Due (braced_at p)
+braced_due : {A : Type 0} (p : Texts → Parsed A) → Shrinks p → Due (braced_at p)
 braced_due p s = let inner = list_due p s in record { texts = keyword_text Word.Open ∷ inner.texts; value = inner.value; due = inner.due }
 
 part_steady : (k : ℕ) → IsSteady k part_at
@@ -218,7 +219,7 @@ kind_due = record { texts = keyword_text Word.Explicit ∷ []; value = explicit;
 slot_due : Due slot_at
 slot_due = record { texts = keyword_text Word.Dash ∷ []; value = spare_slot; due = λ more. slot_read spare_slot more tt }
 
-abbrev subitem_at : Texts → Read SlotTree
+abbrev subitem_at : Texts → Parsed SlotTree
 subitem_at texts = name_at texts >>= λ n. kind_at n.1 >>= λ f. reads (subitem n.0 f.0) f.1
 
 slot_case : (k : ℕ) → IsSteady k kind_at → (b : Bool) (text : List ℕ) (rest : Texts) → length (text ∷ rest) < k
@@ -234,7 +235,7 @@ slot_steady k l [] lt = refused slot_at [] slot_due (λ more. refl)
 slot_steady k l (text ∷ rest) lt = slot_case k l (bytes_eq (keyword_text Word.Dash) text) text rest lt (λ more. refl)
 
 -- a fixed kind is read from its first text on
-abbrev fixed_kind_at : Texts → Read KindTree
+abbrev fixed_kind_at : Texts → Parsed KindTree
 fixed_kind_at texts = fixed_at texts >>= λ f. reads (fixed f.0) f.1
 
 -- a kind, and the brace that closes it
@@ -250,7 +251,7 @@ counted_steady k l =
     (λ o. then_steady k kind_at (λ i texts. expect_at Word.Close texts >>= λ c. reads (counted i) c.1) l (λ i. map_steady k (λ u. counted i) (expect_at Word.Close) (expect_steady k Word.Close)) closes_due)
     (λ o. inner_due)
 
-kind_case : (k : ℕ) → IsSteady k kind_at → (o : Option Keyword) (text : List ℕ) (rest : Texts) → length rest < k → ((more : Texts) → kind_at (text ∷ more) ≡ on_keyword o (kind_behind kind_at) text more) → At kind_at (text ∷ rest) (kind_at (text ∷ rest))
+kind_case : (k : ℕ) → IsSteady k kind_at → (o : Option Keyword) (text : List ℕ) (rest : Texts) → length rest < k → ((more : Texts) → kind_at (text ∷ more) ≡ on_keyword o (kind_by_word kind_at) text more) → At kind_at (text ∷ rest) (kind_at (text ∷ rest))
 unfolding slot_at
 kind_case k l None text rest lt e = refused kind_at (text ∷ rest) kind_due e
 kind_case k l (Some Word.Extended) text rest lt e = after kind_at _ text rest e (map_steady k extended (braced_at part_at) (braced_steady part_at part_shrinks k (part_steady k)) rest lt)
@@ -261,7 +262,7 @@ kind_case k l (Some Word.Compound) text rest lt e =
     after kind_at _ text rest e (map_steady k (λ ss. compound (slots_of ss)) (braced_at slot_at) (braced_steady slot_at slot_shrinks k (slot_steady k l)) rest lt)
 kind_case k l (Some word) text rest lt e = same kind_at fixed_kind_at text rest kind_due e (map_steady (suc k) fixed fixed_at (fixed_steady (suc k)) (text ∷ rest) (omega (arith, lt)))
 
-kind_unfolds : (text : List ℕ) (more : Texts) → kind_at (text ∷ more) ≡ on_keyword (keyword_of text) (kind_behind kind_at) text more
+kind_unfolds : (text : List ℕ) (more : Texts) → kind_at (text ∷ more) ≡ on_keyword (keyword_of text) (kind_by_word kind_at) text more
 unfolding kind_step
 kind_unfolds text more = kind_is (text ∷ more)
 
@@ -280,10 +281,10 @@ abbrev an_item : List ℕ → List ℕ → KindTree → ItemTree
 an_item name title kind = record { name = name; title = title; kind = kind }
 
 -- what follows an item's name, and its title
-abbrev title_part : List ℕ → Texts → Read ItemTree
+abbrev title_part : List ℕ → Texts → Parsed ItemTree
 title_part name texts = text_at texts >>= λ t. kind_at t.1 >>= λ x. reads (an_item name t.0 x.0) x.1
 
-abbrev name_part : Texts → Read ItemTree
+abbrev name_part : Texts → Parsed ItemTree
 name_part texts = name_at texts >>= λ n. title_part n.0 n.1
 
 title_due : (name : List ℕ) → Due (title_part name)
@@ -315,68 +316,52 @@ unfolding uap_slot_at
 uap_slot_steady k [] lt = refused uap_slot_at [] uap_slot_due (λ more. refl)
 uap_slot_steady k (text ∷ rest) lt = uap_slot_case k (bytes_eq (keyword_text Word.Dash) text) text rest lt (λ more. refl)
 
-abbrev made : ℕ → List ℕ → List ItemTree → List UapSlot → SpecTree
-made category edition items uap = record { category = category; edition = edition; items = items; uap = uap }
-
--- the rule of a specification, from its parts on
-abbrev uap_part : ℕ → List ℕ → List ItemTree → Texts → Read SpecTree
-uap_part category edition items texts = braced_at uap_slot_at texts >>= λ u. reads (made category edition items u.0) u.1
-
-abbrev items_part : ℕ → List ℕ → Texts → Read SpecTree
-items_part category edition texts = braced_at item_at texts >>= λ i. expect_at Word.Uap i.1 >>= λ u. uap_part category edition i.0 u.1
-
-abbrev edition_part : ℕ → Texts → Read SpecTree
-edition_part category texts = text_at texts >>= λ t. expect_at Word.Items t.1 >>= λ u. items_part category t.0 u.1
-
-abbrev category_part : Texts → Read SpecTree
-category_part texts = category_at texts >>= λ c. expect_at Word.Edition c.1 >>= λ u. edition_part c.0 u.1
-
 -- a keyword is due, and what is due after it
-word_then : {B : Type 0} (word : Keyword) (q : Texts → Read B) → Due q → Due (λ texts. expect_at word texts >>= λ u. q u.1)
+word_then : {B : Type 0} (word : Keyword) (q : Texts → Parsed B) → Due q → Due (λ texts. expect_at word texts >>= λ u. q u.1)
 word_then word q d = record { texts = keyword_text word ∷ d.texts; value = d.value; due = λ more. ap (λ r. r >>= λ u. q u.1) (expect_read word (d.texts ++ more)) ∙ d.due more }
 
 uap_due : (category : ℕ) (edition : List ℕ) (items : List ItemTree) → Due (uap_part category edition items)
 uap_due category edition items = mapped_due (made category edition items) (braced_at uap_slot_at) (braced_due uap_slot_at uap_slot_shrinks)
 
-behind_items_due : (category : ℕ) (edition : List ℕ) (items : List ItemTree) → Due (λ texts. expect_at Word.Uap texts >>= λ u. uap_part category edition items u.1)
-behind_items_due category edition items = word_then Word.Uap (uap_part category edition items) (uap_due category edition items)
+after_items_due : (category : ℕ) (edition : List ℕ) (items : List ItemTree) → Due (λ texts. expect_at Word.Uap texts >>= λ u. uap_part category edition items u.1)
+after_items_due category edition items = word_then Word.Uap (uap_part category edition items) (uap_due category edition items)
 
 items_due : (category : ℕ) (edition : List ℕ) → Due (items_part category edition)
-items_due category edition = let i = braced_due item_at item_shrinks in let d = behind_items_due category edition i.value in record {
+items_due category edition = let i = braced_due item_at item_shrinks in let d = after_items_due category edition i.value in record {
   texts = i.texts ++ d.texts;
   value = d.value;
   due = λ more. ap (λ t. items_part category edition t) (append_assoc i.texts d.texts more) ∙ ap (λ r. r >>= λ i. expect_at Word.Uap i.1 >>= λ u. uap_part category edition i.0 u.1) (i.due (d.texts ++ more)) ∙ d.due more;
 }
 
-behind_edition_due : (category : ℕ) (edition : List ℕ) → Due (λ texts. expect_at Word.Items texts >>= λ u. items_part category edition u.1)
-behind_edition_due category edition = word_then Word.Items (items_part category edition) (items_due category edition)
+after_edition_due : (category : ℕ) (edition : List ℕ) → Due (λ texts. expect_at Word.Items texts >>= λ u. items_part category edition u.1)
+after_edition_due category edition = word_then Word.Items (items_part category edition) (items_due category edition)
 
 edition_due : (category : ℕ) → Due (edition_part category)
-edition_due category = let d = behind_edition_due category [] in record { texts = quoted [] ∷ d.texts; value = d.value; due = λ more. ap (λ o. one_of o (quoted []) (d.texts ++ more) >>= λ t. expect_at Word.Items t.1 >>= λ u. items_part category t.0 u.1) text_due ∙ d.due more }
+edition_due category = let d = after_edition_due category [] in record { texts = quoted [] ∷ d.texts; value = d.value; due = λ more. ap (λ o. one_of o (quoted []) (d.texts ++ more) >>= λ t. expect_at Word.Items t.1 >>= λ u. items_part category t.0 u.1) text_due ∙ d.due more }
 
-behind_category_due : (category : ℕ) → Due (λ texts. expect_at Word.Edition texts >>= λ u. edition_part category u.1)
-behind_category_due category = word_then Word.Edition (edition_part category) (edition_due category)
+after_category_due : (category : ℕ) → Due (λ texts. expect_at Word.Edition texts >>= λ u. edition_part category u.1)
+after_category_due category = word_then Word.Edition (edition_part category) (edition_due category)
 
 whole_due : Due category_part
-whole_due = let d = behind_category_due 0 in record { texts = three_digits 0 ∷ d.texts; value = d.value; due = λ more. ap (λ o. one_of o (three_digits 0) (d.texts ++ more) >>= λ c. expect_at Word.Edition c.1 >>= λ u. edition_part c.0 u.1) category_due ∙ d.due more }
+whole_due = let d = after_category_due 0 in record { texts = three_digits 0 ∷ d.texts; value = d.value; due = λ more. ap (λ o. one_of o (three_digits 0) (d.texts ++ more) >>= λ c. expect_at Word.Edition c.1 >>= λ u. edition_part c.0 u.1) category_due ∙ d.due more }
 
 items_part_steady : (k category : ℕ) (edition : List ℕ) → IsSteady k (items_part category edition)
 items_part_steady k category edition =
     then_steady k (braced_at item_at) (λ i texts. expect_at Word.Uap texts >>= λ u. uap_part category edition i u.1) (braced_steady item_at item_shrinks k (item_steady k))
     (λ i. then_steady k (expect_at Word.Uap) (λ u texts. uap_part category edition i texts) (expect_steady k Word.Uap) (λ u. map_steady k (made category edition i) (braced_at uap_slot_at) (braced_steady uap_slot_at uap_slot_shrinks k (uap_slot_steady k))) (λ u. uap_due category edition i))
-    (behind_items_due category edition)
+    (after_items_due category edition)
 
 edition_part_steady : (k category : ℕ) → IsSteady k (edition_part category)
 edition_part_steady k category =
     then_steady k text_at (λ t texts. expect_at Word.Items texts >>= λ u. items_part category t u.1) (text_steady k)
     (λ t. then_steady k (expect_at Word.Items) (λ u texts. items_part category t texts) (expect_steady k Word.Items) (λ u. items_part_steady k category t) (λ u. items_due category t))
-    (behind_edition_due category)
+    (after_edition_due category)
 
 category_part_steady : (k : ℕ) → IsSteady k category_part
 category_part_steady k =
     then_steady k category_at (λ c texts. expect_at Word.Edition texts >>= λ u. edition_part c u.1) (category_steady k)
     (λ c. then_steady k (expect_at Word.Edition) (λ u texts. edition_part c texts) (expect_steady k Word.Edition) (λ u. edition_part_steady k c) (λ u. edition_due c))
-    behind_category_due
+    after_category_due
 
 pub spec_steady : (k : ℕ) → IsSteady k spec_at
 unfolding spec_at

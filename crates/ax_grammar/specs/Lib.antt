@@ -3,7 +3,7 @@ pub mod Spelling
 pub mod InRange
 pub mod Answers
 pub mod Tests
-pub mod Reading
+pub mod Parsing
 pub mod Rules
 pub mod Gives
 pub mod Printing

@@ -9,9 +9,9 @@ use Rattle.ax_tokens.specs.declared.token.TokenKind.TheVariants as Kind
 use Rattle.ax_grammar.specs.Spelling.{spelled}
 
 -- each text after a space
-abbrev pub behind : List (List ℕ) → List ℕ
-behind [] = []
-behind (text ∷ texts) = 0x20 ∷ (text ++ behind texts)
+abbrev pub after_spaces : List (List ℕ) → List ℕ
+after_spaces [] = []
+after_spaces (text ∷ texts) = 0x20 ∷ (text ++ after_spaces texts)
 
 -- the kind of token that a text is, by its first octet
 abbrev pub kind_of : List ℕ → TokenKind

@@ -15,9 +15,9 @@ abbrev pub is_digit : ℕ → Bool
 is_digit octet = nat_le 48 octet && nat_le octet 57
 
 -- the number that digits after a number stand for
-abbrev pub number_behind : ℕ → List ℕ → ℕ
-number_behind n [] = n
-number_behind n (digit ∷ digits) = number_behind (10 * n + (digit - 48)) digits
+abbrev pub number_after_digits : ℕ → List ℕ → ℕ
+number_after_digits n [] = n
+number_after_digits n (digit ∷ digits) = number_after_digits (10 * n + (digit - 48)) digits
 
 -- the first of several octets is the digit 0
 abbrev pub has_leading_zero : List ℕ → Bool
@@ -29,13 +29,13 @@ has_leading_zero (first ∷ second ∷ rest) = first == 48
 unfoldable pub number_of : ℕ → List ℕ → Option ℕ
 number_of most text =
     if nat_le 1 (length text) && nat_le (length text) most && list_all is_digit text && not (has_leading_zero text)
-    then Some (number_behind 0 text) else None
+    then Some (number_after_digits 0 text) else None
 
 -- three digits, 000 to 255
 unfoldable pub category_of : List ℕ → Option ℕ
 category_of text =
-    if length text == 3 && list_all is_digit text && nat_lt (number_behind 0 text) 256
-    then Some (number_behind 0 text) else None
+    if length text == 3 && list_all is_digit text && nat_lt (number_after_digits 0 text) 256
+    then Some (number_after_digits 0 text) else None
 
 -- octets of a text, and the quote that ends it
 abbrev pub unquoted : List ℕ → Option (List ℕ)

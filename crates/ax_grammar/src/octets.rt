@@ -6,7 +6,7 @@ ghost use Rattle.std.specs.List.{list_all};
 ghost use Rattle.ax_tokens.specs.PlainToken.{plain_token};
 ghost use Rattle.ax_tokens.specs.Lexing.{HasTokenText};
 ghost use Rattle.ax_grammar.specs.InRange.{IsText};
-ghost use Rattle.ax_grammar.specs.Tests.{is_digit, number_behind, number_of, category_of, has_leading_zero, name_of, text_of};
+ghost use Rattle.ax_grammar.specs.Tests.{is_digit, number_after_digits, number_of, category_of, has_leading_zero, name_of, text_of};
 
 use ax_model::Name;
 use ax_tokens::{Token, TokenKind};
@@ -29,7 +29,7 @@ fn has_leading_zero(text: &[u8]) -> bool
 fn value(digits: &[u8]) -> u64
     requires few { length digits.now ≤ 18 }
     requires digits { list_all is_digit digits.now ≡ true }
-    ensures value { result ≡ number_behind 0 digits.now }
+    ensures value { result ≡ number_after_digits 0 digits.now }
     ensures bound { result < 10 ^ length digits.now }
 {
     let mut value: u64 = 0;

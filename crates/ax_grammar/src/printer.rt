@@ -4,7 +4,7 @@ ghost use Rattle.std.specs.Prelude.{◌≡◌, [], ◌∷◌, ◌++◌, map, dec
 ghost use Rattle.std.specs.List.{flat_map};
 ghost use Rattle.ax_model.specs.Plain.{fixed_tree, member_tree, members_tree, part_tree, kind_tree, slot_tree, slots_tree, item_tree};
 ghost use Rattle.ax_grammar.specs.Keywords.{keyword_text};
-ghost use Rattle.ax_grammar.specs.Printing.{behind};
+ghost use Rattle.ax_grammar.specs.Printing.{after_spaces};
 ghost use Rattle.ax_grammar.specs.Spelling.{quoted, sign_text, entry_texts, content_texts, fixed_texts, member_texts, members_texts, part_texts, kind_texts, slot_texts, slots_texts, item_texts, uap_slot_texts};
 ghost use Rattle.ax_model.specs.Paths.{three_digits};
 
@@ -77,7 +77,7 @@ impl Printer {
     }
 
     fn scale(&mut self, scale: &Scale) -> Result<(), AllocError>
-        ensures { OnOk result (self.new.out.items ≡ self.old.out.items ++ behind (sign_text scale.now.sign ∷ decimal scale.now.num ∷ decimal scale.now.den ∷ quoted scale.now.unit ∷ [])) }
+        ensures { OnOk result (self.new.out.items ≡ self.old.out.items ++ after_spaces (sign_text scale.now.sign ∷ decimal scale.now.num ∷ decimal scale.now.den ∷ quoted scale.now.unit ∷ [])) }
     {
         self.sign(scale.sign)?;
         self.number(scale.num)?;
@@ -86,14 +86,14 @@ impl Printer {
     }
 
     fn entry(&mut self, entry: &TableText) -> Result<(), AllocError>
-        ensures { OnOk result (self.new.out.items ≡ self.old.out.items ++ behind (entry_texts entry.now)) }
+        ensures { OnOk result (self.new.out.items ≡ self.old.out.items ++ after_spaces (entry_texts entry.now)) }
     {
         self.number(entry.number)?;
         self.text(&entry.text)
     }
 
     fn entries(&mut self, entries: &TableTexts) -> Result<(), AllocError>
-        ensures { OnOk result (self.new.out.items ≡ self.old.out.items ++ behind (flat_map entry_texts entries.now)) }
+        ensures { OnOk result (self.new.out.items ≡ self.old.out.items ++ after_spaces (flat_map entry_texts entries.now)) }
     {
         for entry in entries.as_slice() {
             self.entry(entry)?;
@@ -102,7 +102,7 @@ impl Printer {
     }
 
     fn content(&mut self, content: &Content) -> Result<(), AllocError>
-        ensures { OnOk result (self.new.out.items ≡ self.old.out.items ++ behind (content_texts content.now)) }
+        ensures { OnOk result (self.new.out.items ≡ self.old.out.items ++ after_spaces (content_texts content.now)) }
     {
         match content {
             Content::Raw => self.word(Keyword::Raw),
@@ -128,7 +128,7 @@ impl Printer {
 
     #[cycle(print_fixed)]
     fn fixed(&mut self, fixed: &Fixed) -> Result<(), AllocError>
-        ensures { OnOk result (self.new.out.items ≡ self.old.out.items ++ behind (fixed_texts (fixed_tree fixed.now))) }
+        ensures { OnOk result (self.new.out.items ≡ self.old.out.items ++ after_spaces (fixed_texts (fixed_tree fixed.now))) }
     {
         match fixed {
             Fixed::Element { width, content } => {
@@ -147,7 +147,7 @@ impl Printer {
 
     #[cycle(print_fixed)]
     fn member(&mut self, member: &Member) -> Result<(), AllocError>
-        ensures { OnOk result (self.new.out.items ≡ self.old.out.items ++ behind (member_texts (member_tree member.now))) }
+        ensures { OnOk result (self.new.out.items ≡ self.old.out.items ++ after_spaces (member_texts (member_tree member.now))) }
     {
         match member {
             Member::Named { name, fixed } => {
@@ -163,7 +163,7 @@ impl Printer {
 
     #[cycle(print_fixed)]
     fn members(&mut self, members: &Members) -> Result<(), AllocError>
-        ensures { OnOk result (self.new.out.items ≡ self.old.out.items ++ behind (members_texts (members_tree members.now))) }
+        ensures { OnOk result (self.new.out.items ≡ self.old.out.items ++ after_spaces (members_texts (members_tree members.now))) }
     {
         for member in members.as_slice() {
             self.member(member)?;
@@ -172,7 +172,7 @@ impl Printer {
     }
 
     fn part(&mut self, part: &Part) -> Result<(), AllocError>
-        ensures { OnOk result (self.new.out.items ≡ self.old.out.items ++ behind (part_texts (part_tree part.now))) }
+        ensures { OnOk result (self.new.out.items ≡ self.old.out.items ++ after_spaces (part_texts (part_tree part.now))) }
     {
         self.word(Keyword::Part)?;
         self.word(Keyword::Open)?;
@@ -181,7 +181,7 @@ impl Printer {
     }
 
     fn parts(&mut self, parts: &Parts) -> Result<(), AllocError>
-        ensures { OnOk result (self.new.out.items ≡ self.old.out.items ++ behind (flat_map part_texts (map part_tree parts.now))) }
+        ensures { OnOk result (self.new.out.items ≡ self.old.out.items ++ after_spaces (flat_map part_texts (map part_tree parts.now))) }
     {
         for part in parts.as_slice() {
             self.part(part)?;
@@ -191,7 +191,7 @@ impl Printer {
 
     #[cycle(print_kind)]
     fn kind(&mut self, kind: &Kind) -> Result<(), AllocError>
-        ensures { OnOk result (self.new.out.items ≡ self.old.out.items ++ behind (kind_texts (kind_tree kind.now))) }
+        ensures { OnOk result (self.new.out.items ≡ self.old.out.items ++ after_spaces (kind_texts (kind_tree kind.now))) }
     {
         match kind {
             Kind::Fixed(fixed) => self.fixed(fixed),
@@ -223,7 +223,7 @@ impl Printer {
 
     #[cycle(print_kind)]
     fn slot(&mut self, slot: &Slot) -> Result<(), AllocError>
-        ensures { OnOk result (self.new.out.items ≡ self.old.out.items ++ behind (slot_texts (slot_tree slot.now))) }
+        ensures { OnOk result (self.new.out.items ≡ self.old.out.items ++ after_spaces (slot_texts (slot_tree slot.now))) }
     {
         match slot {
             Slot::Spare => self.word(Keyword::Dash),
@@ -236,7 +236,7 @@ impl Printer {
 
     #[cycle(print_kind)]
     fn slots(&mut self, slots: &Slots) -> Result<(), AllocError>
-        ensures { OnOk result (self.new.out.items ≡ self.old.out.items ++ behind (slots_texts (slots_tree slots.now))) }
+        ensures { OnOk result (self.new.out.items ≡ self.old.out.items ++ after_spaces (slots_texts (slots_tree slots.now))) }
     {
         for slot in slots.as_slice() {
             self.slot(slot)?;
@@ -245,7 +245,7 @@ impl Printer {
     }
 
     fn item(&mut self, item: &Item) -> Result<(), AllocError>
-        ensures { OnOk result (self.new.out.items ≡ self.old.out.items ++ behind (item_texts (item_tree item.now))) }
+        ensures { OnOk result (self.new.out.items ≡ self.old.out.items ++ after_spaces (item_texts (item_tree item.now))) }
     {
         self.word(Keyword::Item)?;
         self.name(&item.name)?;
@@ -254,7 +254,7 @@ impl Printer {
     }
 
     pub fn items(&mut self, items: &Items) -> Result<(), AllocError>
-        ensures { OnOk result (self.new.out.items ≡ self.old.out.items ++ behind (flat_map item_texts (map item_tree items.now))) }
+        ensures { OnOk result (self.new.out.items ≡ self.old.out.items ++ after_spaces (flat_map item_texts (map item_tree items.now))) }
     {
         for item in items.as_slice() {
             self.item(item)?;
@@ -263,7 +263,7 @@ impl Printer {
     }
 
     fn uap_slot(&mut self, slot: &UapSlot) -> Result<(), AllocError>
-        ensures { OnOk result (self.new.out.items ≡ self.old.out.items ++ behind (uap_slot_texts slot.now)) }
+        ensures { OnOk result (self.new.out.items ≡ self.old.out.items ++ after_spaces (uap_slot_texts slot.now)) }
     {
         match slot {
             UapSlot::Spare => self.word(Keyword::Dash),
@@ -272,7 +272,7 @@ impl Printer {
     }
 
     pub fn uap(&mut self, slots: &UapSlots) -> Result<(), AllocError>
-        ensures { OnOk result (self.new.out.items ≡ self.old.out.items ++ behind (flat_map uap_slot_texts slots.now)) }
+        ensures { OnOk result (self.new.out.items ≡ self.old.out.items ++ after_spaces (flat_map uap_slot_texts slots.now)) }
     {
         for slot in slots.as_slice() {
             self.uap_slot(slot)?;

@@ -8,7 +8,7 @@ ghost use Rattle.ax_tokens.specs.Lexing.{HasTokenText};
 ghost use Rattle.ax_token_reader.specs.declared.stopped.Stopped.TheVariants.{Bad};
 ghost use Rattle.ax_grammar.specs.Answers.{texts_of};
 ghost use Rattle.ax_grammar.specs.Gives.{Gives, Stops};
-ghost use Rattle.ax_grammar.specs.Reading.{expect_at, takes_at};
+ghost use Rattle.ax_grammar.specs.Parsing.{expect_at, takes_at};
 ghost use Rattle.ax_grammar.specs.Rules.{keyword_at, name_at, category_at, width_at, number_at, text_at};
 
 use crate::keyword::Keyword;
@@ -22,11 +22,11 @@ use std::marker::Model;
 /// Reads tokens from left to right. Where one doesn't fit, it stays in front of it. Contracts see it as the texts
 /// of the tokens that are left.
 #[derive(Drop)]
-pub struct Reader<'r, 't> {
+pub struct SpecReader<'r, 't> {
     inside: ax_token_reader::Reader<'r, 't>,
 }
 
-impl<'r, 't> Model for Reader<'r, 't> {
+impl<'r, 't> Model for SpecReader<'r, 't> {
     ghost use Rattle.std.specs.Prelude.{List, ℕ};
 
     ghost Value = { List (List ℕ) };
@@ -47,12 +47,12 @@ fn text_of(alloc: Global, octets: &[u8]) -> Result<Text, AllocError>
     Ok(text)
 }
 
-impl<'r, 't> Reader<'r, 't> {
+impl<'r, 't> SpecReader<'r, 't> {
     /// In front of the first token.
     pub fn new(tokens: &'r Tokens<'t>) -> Self
         ensures { result ≡ texts_of tokens.now }
     {
-        Reader {
+        SpecReader {
             inside: ax_token_reader::Reader::new(tokens),
         }
     }

@@ -9,14 +9,14 @@ ghost use Rattle.ax_grammar.specs.Rules.{end_at, whole_at};
 ghost use Rattle.ax_grammar.specs.declared.error.SyntaxError.TheVariants.{OutOfMemory};
 
 use crate::error::SyntaxError;
-use crate::reader::Reader;
+use crate::reader::SpecReader;
 use ax_model::Spec;
 use ax_token_reader::Stopped;
 use ax_tokens::Tokens;
 use std::alloc::Global;
 
 /// Nothing is left.
-fn end(reader: &mut Reader<'_, '_>) -> Result<(), Stopped>
+fn end(reader: &mut SpecReader<'_, '_>) -> Result<(), Stopped>
     ensures { Gives (λ _. tt) result reader.new (end_at reader.old) }
 {
     if reader.count() > 0 {
@@ -27,7 +27,7 @@ fn end(reader: &mut Reader<'_, '_>) -> Result<(), Stopped>
 
 /// All tokens that are left are a specification.
 #[tactic(auto, unfolding(crate::specs::Rules::whole_at))]
-fn whole(alloc: Global, reader: &mut Reader<'_, '_>) -> Result<Spec, Stopped>
+fn whole(alloc: Global, reader: &mut SpecReader<'_, '_>) -> Result<Spec, Stopped>
     ensures { Gives spec_tree result reader.new (whole_at reader.old) }
 {
     let spec = reader.spec(alloc)?;
@@ -54,7 +54,7 @@ pub fn read_spec(alloc: Global, tokens: &Tokens<'_>) -> Result<Spec, SyntaxError
     ensures always_spells { (spec : SpecTree) → SpellsSpec tokens.now spec → MatchResult result (λ found. spec_tree found ≡ spec) (λ error. error ≡ OutOfMemory) }
     ensures always_bad { ((spec : SpecTree) → SpellsSpec tokens.now spec → ⊥) → OnOk result ⊥ }
 {
-    let mut reader = Reader::new(tokens);
+    let mut reader = SpecReader::new(tokens);
     match whole(alloc, &mut reader) {
         Ok(spec) => Ok(spec),
         Err(Stopped::Bad) => Err(SyntaxError::BadToken {

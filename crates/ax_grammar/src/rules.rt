@@ -4,11 +4,11 @@
 ghost use Rattle.std.specs.Prelude.{◌≡◌, ◌<◌, length, map, OnOk};
 ghost use Rattle.ax_model.specs.Plain.{fixed_tree, member_tree, part_tree, kind_tree, slot_tree, item_tree, spec_tree};
 ghost use Rattle.ax_grammar.specs.Gives.{Gives};
-ghost use Rattle.ax_grammar.specs.Reading.{braced_at};
+ghost use Rattle.ax_grammar.specs.Parsing.{braced_at};
 ghost use Rattle.ax_grammar.specs.Rules.{sign_at, entry_at, scale_at, content_at, member_at, fixed_at, part_at, kind_at, slot_at, item_at, uap_slot_at, spec_at};
 
 use crate::keyword::Keyword;
-use crate::reader::Reader;
+use crate::reader::SpecReader;
 use ax_model::{
     Content, Fixed, Item, Items, Kind, Member, Members, Part, Parts, Scale, Sign, Slot, Slots,
     Spec, TableText, TableTexts, UapSlot, UapSlots,
@@ -16,7 +16,7 @@ use ax_model::{
 use ax_token_reader::Stopped;
 use std::alloc::Global;
 
-impl<'r, 't> Reader<'r, 't> {
+impl<'r, 't> SpecReader<'r, 't> {
     #[tactic(auto, unfolding(crate::specs::Rules::sign_at))]
     fn sign(&mut self) -> Result<Sign, Stopped>
         ensures reads { Gives (λ sign. sign) result self.new (sign_at self.old) }

@@ -44,11 +44,11 @@ module _ {F : Type 0} (c : LineCommand F) (once_only : HasOneAnswer c) (line_lim
       not_refused a fault (once_only number one a (refused fault) (subst (λ l. c number l a) (same_line other one later after s).0 other_is) is) answered
 
   -- where both go on as long as lines are answered, both are the same
-  pub record IsSame (lines others : List (List ℕ)) (answers replies : List (LineAnswer F)) (past before : ℕ) (rest behind : List ℕ) : Type 0 where
+  pub record IsSame (lines others : List (List ℕ)) (answers replies : List (LineAnswer F)) (past before : ℕ) (rest following : List ℕ) : Type 0 where
     pub lines_are : others ≡ lines
     pub answers_are : replies ≡ answers
     pub past_is : before ≡ past
-    pub rest_is : behind ≡ rest
+    pub rest_is : following ≡ rest
 
   pub begins_within : (before : ℕ) (octets : List ℕ) (lines : List (List ℕ)) (past : ℕ) (rest : List ℕ) → before ≤ limit → BeginsWith line_limit limit before octets lines past rest → past ≤ limit
   begins_within before octets [] past rest le (at, same) = omega arith
@@ -83,7 +83,7 @@ module _ {F : Type 0} (c : LineCommand F) (once_only : HasOneAnswer c) (line_lim
   zero_before : (n : ℕ) → n ≡ 0 + n
   zero_before n = omega arith
 
-  -- how an answer goes on behind its lines
+  -- how an answer goes on after its lines
   record Stop (input : List ℕ) (lines : List (List ℕ)) (answers : List (LineAnswer F)) : Type 0 where
     pub past : ℕ
     pub rest : List ℕ

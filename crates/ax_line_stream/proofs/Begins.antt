@@ -13,7 +13,7 @@ begins_snoc line_limit limit before octets [] past rest one after taken (at, sam
 begins_snoc line_limit limit before octets (first ∷ lines) past rest one after taken (mid, n, first_next, counted, more) next count =
     (mid, n, first_next, counted, begins_snoc line_limit limit (before + n) mid lines past rest one after taken more next count)
 
--- the end behind them
+-- the end after them
 pub begins_end : (line_limit limit before : ℕ) (octets : List ℕ) (lines : List (List ℕ)) (past : ℕ) (rest : List ℕ) (e : LinedEnd) → BeginsWith line_limit limit before octets lines past rest → IsNextLine line_limit limit past rest (end e) → Lined line_limit limit before octets lines e
 begins_end line_limit limit before octets [] past rest e (at, same) next =
     subst (λ n. IsNextLine line_limit limit n octets (end e)) (sym at) (subst (λ l. IsNextLine line_limit limit past l (end e)) (sym same) next)
@@ -44,7 +44,7 @@ left_on octets front mid left split l = record {
 
 pub left_after_line : (line_limit limit before : ℕ) (octets one after : List ℕ) (left : Option (List ℕ)) → IsNextLine line_limit limit before octets (line one after) → IsLeftOf after left → IsLeftOf octets left
 left_after_line line_limit limit before octets one after left (inl h) l = left_on octets (one ++ (10 ∷ [])) after left (h.split ∙ sym (append_assoc one (10 ∷ []) after)) l
-left_after_line line_limit limit before octets one after left (inr h) l = left_on octets one after left (h.split ∙ sym (append-nil one) ∙ ap (λ x. one ++ x) (sym h.none_behind)) l
+left_after_line line_limit limit before octets one after left (inr h) l = left_on octets one after left (h.split ∙ sym (append-nil one) ∙ ap (λ x. one ++ x) (sym h.none_following)) l
 
 pub left_after_lines : (line_limit limit before : ℕ) (octets : List ℕ) (lines : List (List ℕ)) (past : ℕ) (rest : List ℕ) (left : Option (List ℕ)) → BeginsWith line_limit limit before octets lines past rest → IsLeftOf rest left → IsLeftOf octets left
 left_after_lines line_limit limit before octets [] past rest left (at, same) l = subst (λ x. IsLeftOf x left) (sym same) l

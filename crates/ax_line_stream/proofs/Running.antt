@@ -10,7 +10,7 @@ use Rattle.ax_line_stream.proofs.Results.{output_snoc, results_snoc, answered_sn
 use Rattle.ax_line_stream.specs.Commands.{LineCommand, LineAnswer, KeepsTo, gives, nothing, refused, octets_in, results_in, output_of, results_of}
 use Rattle.ax_line_stream.specs.Ending.{lines_end, error_end}
 use Rattle.ax_line_stream.specs.Runs as RunOf
-use Rattle.ax_line_stream.specs.Runs.{BeginsWith, Answers, IsLeftOf, LinesStop, ToldRun, IsCaused, IsLicensed, LinesRun}
+use Rattle.ax_line_stream.specs.Runs.{BeginsWith, AnswersLines, IsLeftOf, LinesStop, ToldRun, IsCaused, IsLicensed, LinesRun}
 use Rattle.ax_line_stream.specs.Taking.{IsWritten, EndsAt, refusing, writing, for_memory}
 use Rattle.ax_line_stream.specs.declared.end.LinesEnd.{LinesEnd}
 use Rattle.ax_line_stream.specs.declared.end.LinesEnd.TheVariants as EndOf
@@ -18,13 +18,13 @@ use Rattle.ax_outside.proofs.Ends.{Rose-later}
 use Rattle.ax_outside.specs.Changes.{SourceChange, SinkChange, Gains}
 use Rattle.ax_outside.specs.Told.{with_front, with_end, IsAtEnd, Rose}
 
--- the input began with lines that are answered, whose results were written; `behind` are the octets that aren't given yet
-pub record SoFar {F : Type 0} (c : LineCommand F) (line_limit limit : ℕ) (input : List ℕ) (behind : Option (List ℕ)) (o : SinkChange) (given number count : ℕ) : Type 0 where
+-- the input began with lines that are answered, whose results were written; `after` are the octets that aren't given yet
+pub record SoFar {F : Type 0} (c : LineCommand F) (line_limit limit : ℕ) (input : List ℕ) (following : Option (List ℕ)) (o : SinkChange) (given number count : ℕ) : Type 0 where
   pub lines : List (List ℕ)
   pub answers : List (LineAnswer F)
   pub rest : List ℕ
-  pub behind_is : behind ≡ Some rest
-  pub front : Answers c line_limit limit input lines answers given rest
+  pub following_is : following ≡ Some rest
+  pub front : AnswersLines c line_limit limit input lines answers given rest
   pub out : Gains o (output_of answers)
   pub numbered : number ≡ length lines
   pub counted : count ≡ results_of answers
@@ -60,7 +60,7 @@ told_at P t x e h = subst (λ l. OnTold l P) e h
 shown_longer : (line_limit limit given : ℕ) (octets one after : List ℕ) (left : Option (List ℕ)) → Shows line_limit limit given octets left (line one after) → length after < length octets
 shown_longer line_limit limit given octets one after left (inl h) = let e : length octets ≡ length one + suc (length after) = ap length h.split ∙ length-append one (10 ∷ after) in omega arith
 shown_longer line_limit limit given octets one after left (inr (h, at_end)) =
-    let e : length octets ≡ length one = ap length h.split in let f : length after ≡ 0 = ap length h.none_behind in let g : 0 < length one = h.some in omega arith
+    let e : length octets ≡ length one = ap length h.split in let f : length after ≡ 0 = ap length h.none_following in let g : 0 < length one = h.some in omega arith
 
 results_at_most : {F : Type 0} (a : LineAnswer F) → results_in a ≤ 1
 results_at_most (gives octets) = omega arith
@@ -105,7 +105,7 @@ running_begins c left held taken faults fails reader Sound sound e =
         lines = [];
         answers = [];
         rest = input;
-        behind_is = ap (λ h. with_front h left) none ∙ ap (with_front []) l;
+        following_is = ap (λ h. with_front h left) none ∙ ap (with_front []) l;
         front = record { begins = (sym z, refl); answered = record { each = tt; none_refused = tt } };
         out = gains_none held fails fails;
         numbered = refl;
@@ -120,7 +120,7 @@ module _ {F : Type 0} (c : LineCommand F) (line_limit limit : ℕ) (i : SourceCh
 
   -- what is not given yet, as the reader sees it now
   seen : (input : List ℕ) (l : i.left ≡ Some input) → ahead reader.held j.left ≡ Some (run.told input l).rest
-  seen input l = ap (ahead reader.held) joins.left ∙ (run.told input l).behind_is
+  seen input l = ap (ahead reader.held) joins.left ∙ (run.told input l).following_is
 
   -- ---- the lines end
 
@@ -165,7 +165,7 @@ module _ {F : Type 0} (c : LineCommand F) (line_limit limit : ℕ) (i : SourceCh
   reading_told f input l =
       let s = run.told input l in
       let part : IsPartOf s.rest (reader.held ++ f.taken) j.left' = part_of_taken reader.held f.taken s.rest j.left j.left' (seen input l) f.took.gives in
-      let front : Answers c line_limit limit input s.lines s.answers reader.given ((reader.held ++ f.taken) ++ part.after) = subst (Answers c line_limit limit input s.lines s.answers reader.given) part.split s.front in
+      let front : AnswersLines c line_limit limit input s.lines s.answers reader.given ((reader.held ++ f.taken) ++ part.after) = subst (AnswersLines c line_limit limit input s.lines s.answers reader.given) part.split s.front in
       inr (RunOf.reading refl (record {
         lines = s.lines;
         answers = s.answers;
@@ -208,15 +208,15 @@ module _ {F : Type 0} (c : LineCommand F) (line_limit limit : ℕ) (i : SourceCh
   -- ---- a line is given
 
   module _ (given' : ℕ) (held' one : List ℕ) (g : GivesLine reader.line_limit reader.limit reader.given reader.held j given' held' one) where
-    -- it comes next, and what is behind it is told
+    -- it comes next, and what is after it is told
     told_line : (input : List ℕ) (l : i.left ≡ Some input) → IsToldLine line_limit limit reader.given (run.told input l).rest (ahead held' j.left') one
     told_line input l =
         let next : IsToldLine reader.line_limit reader.limit reader.given (run.told input l).rest (ahead held' j.left') one
         = told_at (λ before. IsToldLine reader.line_limit reader.limit reader.given before (ahead held' j.left') one) (ahead reader.held j.left) (run.told input l).rest (seen input l) g.told in
         subst (λ m. IsToldLine line_limit m reader.given (run.told input l).rest (ahead held' j.left') one) run.limit_is (subst (λ m. IsToldLine m reader.limit reader.given (run.told input l).rest (ahead held' j.left') one) run.line_limit_is next)
 
-    left_behind : (input : List ℕ) (l : i.left ≡ Some input) → IsLeftOf (told_line input l).after j.left'
-    left_behind input l = left_of_ahead held' (told_line input l).after j.left' (told_line input l).behind_is
+    left_following : (input : List ℕ) (l : i.left ≡ Some input) → IsLeftOf (told_line input l).after j.left'
+    left_following input l = left_of_ahead held' (told_line input l).after j.left' (told_line input l).following_is
 
     longer : reader.given < given'
     longer =
@@ -230,9 +230,9 @@ module _ {F : Type 0} (c : LineCommand F) (line_limit limit : ℕ) (i : SourceCh
         let s = run.told input l in
         let part : IsPartOf s.rest (reader.held ++ g.taken) j.left' = part_of_taken reader.held g.taken s.rest j.left j.left' (seen input l) g.took.gives in
         let all : length s.rest ≡ length (reader.held ++ g.taken) + length part.after = ap length part.split ∙ length-append (reader.held ++ g.taken) part.after in
-        let behind : (told_line input l).after ≡ held' ++ part.after
-        = (let e : ◌≡◌ {A = Option (List ℕ)} (Some (held' ++ part.after)) (Some (told_line input l).after) = sym (ap (with_front held') part.left_is) ∙ (told_line input l).behind_is in cc) in
-        let rest : length (told_line input l).after ≡ length held' + length part.after = ap length behind ∙ length-append held' part.after in
+        let following : (told_line input l).after ≡ held' ++ part.after
+        = (let e : ◌≡◌ {A = Option (List ℕ)} (Some (held' ++ part.after)) (Some (told_line input l).after) = sym (ap (with_front held') part.left_is) ∙ (told_line input l).following_is in cc) in
+        let rest : length (told_line input l).after ≡ length held' + length part.after = ap length following ∙ length-append held' part.after in
         let counts : given' + length held' ≡ reader.given + length (reader.held ++ g.taken) = g.counts in
         let more : reader.given < given' = longer in
         omega arith
@@ -261,7 +261,7 @@ module _ {F : Type 0} (c : LineCommand F) (line_limit limit : ℕ) (i : SourceCh
             });
             out = gains_on o s (output_of so.answers) writes so.out kept;
             read = λ n done. absurd (let x : EndOf.Refused number fault ≡ EndOf.Done n = sym is ∙ done in cc);
-            left = left_after_lines line_limit limit 0 input so.lines reader.given so.rest j.left' so.front.begins (left_after_line line_limit limit reader.given so.rest one (told_line input l).after j.left' (told_line input l).just.is (left_behind input l));
+            left = left_after_lines line_limit limit 0 input so.lines reader.given so.rest j.left' so.front.begins (left_after_line line_limit limit reader.given so.rest one (told_line input l).after j.left' (told_line input l).just.is (left_following input l));
           })
       stops_told e (writing laid is answer part) input l =
           let so = run.told input l in
@@ -276,7 +276,7 @@ module _ {F : Type 0} (c : LineCommand F) (line_limit limit : ℕ) (i : SourceCh
             next = (told_line input l).just.is;
             laid = laid;
             answer = subst (λ n. c n one (gives laid)) so.numbered answer;
-            left = left_behind input l;
+            left = left_following input l;
             out = gains_part o s (output_of so.answers) laid writes so.out part;
           }))
       stops_told e (for_memory is kept) input l =
@@ -287,7 +287,7 @@ module _ {F : Type 0} (c : LineCommand F) (line_limit limit : ℕ) (i : SourceCh
             past = reader.given;
             rest = so.rest;
             front = so.front;
-            next = RunOf.one_taken one (told_line input l).after (told_line input l).just.is (left_behind input l);
+            next = RunOf.one_taken one (told_line input l).after (told_line input l).just.is (left_following input l);
             out = gains_on o s (output_of so.answers) writes so.out kept;
           }))
 
@@ -328,7 +328,7 @@ module _ {F : Type 0} (c : LineCommand F) (line_limit limit : ℕ) (i : SourceCh
             lines = so.lines ++ (one ∷ []);
             answers = so.answers ++ (w.answer ∷ []);
             rest = (told_line input l).after;
-            behind_is = (told_line input l).behind_is;
+            following_is = (told_line input l).following_is;
             front = record {
               begins = subst (λ n. BeginsWith line_limit limit 0 input (so.lines ++ (one ∷ [])) n (told_line input l).after) past begins;
               answered = answered_snoc c so.lines so.answers one w.answer so.front.answered (subst (λ n. c n one w.answer) so.numbered w.is) w.answered;

@@ -20,7 +20,7 @@ BeginsWith line_limit limit before octets (one ∷ lines) past rest =
     (after : List ℕ) × (taken : ℕ) × IsNextLine line_limit limit before octets (line one after) × (length octets ≡ taken + length after) × BeginsWith line_limit limit (before + taken) after lines past rest
 
 -- the input begins with lines that the command answers so, and then the rest
-pub record Answers {F : Type 0} (c : LineCommand F) (line_limit limit : ℕ) (input : List ℕ) (lines : List (List ℕ)) (answers : List (LineAnswer F)) (past : ℕ) (rest : List ℕ) : Type 0 where
+pub record AnswersLines {F : Type 0} (c : LineCommand F) (line_limit limit : ℕ) (input : List ℕ) (lines : List (List ℕ)) (answers : List (LineAnswer F)) (past : ℕ) (rest : List ℕ) : Type 0 where
   pub begins : BeginsWith line_limit limit 0 input lines past rest
   pub answered : AreAnswered c lines answers
 
@@ -37,7 +37,7 @@ pub record EndsWithInput {F : Type 0} (c : LineCommand F) (line_limit limit : �
 pub record EndsAtLine {F : Type 0} (c : LineCommand F) (line_limit limit : ℕ) (input : List ℕ) (lines : List (List ℕ)) (answers : List (LineAnswer F)) (e : LinesEnd F) : Type 0 where
   pub past : ℕ
   pub rest : List ℕ
-  pub front : Answers c line_limit limit input lines answers past rest
+  pub front : AnswersLines c line_limit limit input lines answers past rest
   pub one : List ℕ
   pub after : List ℕ
   pub next : IsNextLine line_limit limit past rest (line one after)
@@ -66,7 +66,7 @@ pub record StoppedReading {F : Type 0} (c : LineCommand F) (line_limit limit : �
   pub past : ℕ
   pub part : List ℕ
   pub rest : List ℕ
-  pub front : Answers c line_limit limit input lines answers past (part ++ rest)
+  pub front : AnswersLines c line_limit limit input lines answers past (part ++ rest)
   pub plain : IsPlain part
   pub short : length part ≤ line_limit
   pub within : past + length part ≤ limit
@@ -79,7 +79,7 @@ pub record StoppedWriting {F : Type 0} (c : LineCommand F) (line_limit limit : �
   pub answers : List (LineAnswer F)
   pub past : ℕ
   pub rest : List ℕ
-  pub front : Answers c line_limit limit input lines answers past rest
+  pub front : AnswersLines c line_limit limit input lines answers past rest
   pub one : List ℕ
   pub after : List ℕ
   pub next : IsNextLine line_limit limit past rest (line one after)
@@ -99,7 +99,7 @@ pub record StoppedForMemory {F : Type 0} (c : LineCommand F) (line_limit limit :
   pub answers : List (LineAnswer F)
   pub past : ℕ
   pub rest : List ℕ
-  pub front : Answers c line_limit limit input lines answers past rest
+  pub front : AnswersLines c line_limit limit input lines answers past rest
   pub next : IsBefore line_limit limit past input rest left'
   pub out : Gains o (output_of answers)
 

@@ -12,12 +12,12 @@ nowhere (x ∷ xs) h = ((λ e. h 0 (omega arith) (omega arith) (ap (λ y. y == 1
 -- no place before it has a line feed
 there : (xs : List ℕ) (at : ℕ) → ((k : ℕ) → 0 ≤ k → k < at → (slice_index xs k == 10) ≡ true → ⊥) → at < length xs → (slice_index xs at == 10) ≡ true → IsFeedAt xs at
 there [] at h less is = absurd (omega arith)
-there (x ∷ xs) zero h less is = record { front = []; behind = xs; split = ap (λ y. y ∷ xs) (eqb-true x 10 is); plain = tt; place = refl }
+there (x ∷ xs) zero h less is = record { front = []; following = xs; split = ap (λ y. y ∷ xs) (eqb-true x 10 is); plain = tt; place = refl }
 there (x ∷ xs) (suc at) h less is =
     let later = there xs at (λ k low high at_k. h (suc k) (omega arith) (omega arith) at_k) (omega arith) is in
     record {
       front = x ∷ later.front;
-      behind = later.behind;
+      following = later.following;
       split = ap (λ l. x ∷ l) later.split;
       plain = ((λ e. h 0 (omega arith) (omega arith) (ap (λ y. y == 10) e)), later.plain);
       place = ap (λ n. suc n) later.place;

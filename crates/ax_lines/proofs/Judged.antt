@@ -13,25 +13,20 @@ use Rattle.ax_outside.specs.Told.{IsAtEnd}
 
 -- ---- octets parted at a place
 
--- the octet at that place, and those behind it
+-- the octet at that place, and those after it
 record Parted (xs : List ℕ) (n : ℕ) : Type 0 where
   pub octet : ℕ
-  pub behind : List ℕ
-  pub split : xs ≡ take n xs ++ (octet ∷ behind)
+  pub following : List ℕ
+  pub split : xs ≡ take n xs ++ (octet ∷ following)
 
 parted : (xs : List ℕ) (n : ℕ) → n < length xs → Parted xs n
 parted [] n less = absurd (omega arith)
-parted (x ∷ xs) zero less = record { octet = x; behind = xs; split = refl }
-parted (x ∷ xs) (suc n) less = let p = parted xs n (omega arith) in record { octet = p.octet; behind = p.behind; split = ap (λ l. x ∷ l) p.split }
+parted (x ∷ xs) zero less = record { octet = x; following = xs; split = refl }
+parted (x ∷ xs) (suc n) less = let p = parted xs n (omega arith) in record { octet = p.octet; following = p.following; split = ap (λ l. x ∷ l) p.split }
 
--- without a line feed: so are the octets in front, and that one is none
-plain_front : (front behind : List ℕ) → IsPlain (front ++ behind) → IsPlain front
-plain_front [] behind p = tt
-plain_front (x ∷ front) behind p = (p.0, plain_front front behind p.1)
-
-plain_behind : (front behind : List ℕ) (octet : ℕ) → IsPlain (front ++ (octet ∷ behind)) → IsNoFeed octet
-plain_behind [] behind octet p = p.0
-plain_behind (x ∷ front) behind octet p = plain_behind front behind octet p.1
+plain_after : (front following : List ℕ) (octet : ℕ) → IsPlain (front ++ (octet ∷ following)) → IsNoFeed octet
+plain_after [] following octet p = p.0
+plain_after (x ∷ front) following octet p = plain_after front following octet p.1
 
 plain_take : (xs : List ℕ) (n : ℕ) → IsPlain xs → IsPlain (take n xs)
 plain_take xs zero p = tt
@@ -40,30 +35,30 @@ plain_take (x ∷ xs) (suc n) p = (p.0, plain_take xs n p.1)
 
 -- ---- a limit is passed
 
-passes_line : (line_limit limit given room : ℕ) (octets front behind : List ℕ) → given + room ≡ limit → octets ≡ front ++ behind → IsPlain front → line_limit < length front → line_limit < room → PassesLine line_limit limit given octets
-passes_line line_limit limit given room octets front behind counted split plain far within =
+passes_line : (line_limit limit given room : ℕ) (octets front following : List ℕ) → given + room ≡ limit → octets ≡ front ++ following → IsPlain front → line_limit < length front → line_limit < room → PassesLine line_limit limit given octets
+passes_line line_limit limit given room octets front following counted split plain far within =
     let p = parted front line_limit far in
     let size : length (take line_limit front) ≡ line_limit = length-take-le line_limit front (omega arith) in
     record {
       front = take line_limit front;
       octet = p.octet;
-      behind = p.behind ++ behind;
-      split = split ∙ ap (λ l. l ++ behind) p.split ∙ append_assoc (take line_limit front) (p.octet ∷ p.behind) behind;
+      following = p.following ++ following;
+      split = split ∙ ap (λ l. l ++ following) p.split ∙ append_assoc (take line_limit front) (p.octet ∷ p.following) following;
       plain = plain_take front line_limit plain;
-      one_more = plain_behind (take line_limit front) p.behind p.octet (subst IsPlain p.split plain);
+      one_more = plain_after (take line_limit front) p.following p.octet (subst IsPlain p.split plain);
       count = size;
       within = omega arith;
     }
 
-passes_limit : (line_limit limit given room : ℕ) (octets front behind : List ℕ) → given + room ≡ limit → octets ≡ front ++ behind → IsPlain front → room ≤ length front → room < length octets → room ≤ line_limit → PassesLimit line_limit limit given octets
-passes_limit line_limit limit given room octets front behind counted split plain le far short =
+passes_limit : (line_limit limit given room : ℕ) (octets front following : List ℕ) → given + room ≡ limit → octets ≡ front ++ following → IsPlain front → room ≤ length front → room < length octets → room ≤ line_limit → PassesLimit line_limit limit given octets
+passes_limit line_limit limit given room octets front following counted split plain le far short =
     let p = parted octets room far in
     let size : length (take room octets) ≡ room = length-take-le room octets (omega arith) in
-    let same : take room octets ≡ take room front = ap (take room) split ∙ take-append-le room front behind le in
+    let same : take room octets ≡ take room front = ap (take room) split ∙ take-append-le room front following le in
     record {
       front = take room octets;
       octet = p.octet;
-      behind = p.behind;
+      following = p.following;
       split = p.split;
       plain = subst IsPlain (sym same) (plain_take front room plain);
       short = omega arith;
@@ -85,16 +80,16 @@ JudgesAll line_limit room feed count result =
     (limit given : ℕ) (octets : List ℕ) (left : Option (List ℕ)) → given + room ≡ limit → length octets ≡ count → IsFirstFeed octets feed → (feed ≡ None → count < min line_limit room + 1 → IsAtEnd left)
     → Judges line_limit limit given octets left result
 
-front_of : (octets front behind : List ℕ) (at : ℕ) → octets ≡ front ++ (10 ∷ behind) → length front ≡ at → take at octets ≡ front
-front_of octets front behind at split place = ap (take at) split ∙ ap (λ n. take n (front ++ (10 ∷ behind))) (sym place) ∙ take-append_seam front (10 ∷ behind)
+front_of : (octets front following : List ℕ) (at : ℕ) → octets ≡ front ++ (10 ∷ following) → length front ≡ at → take at octets ≡ front
+front_of octets front following at split place = ap (take at) split ∙ ap (λ n. take n (front ++ (10 ∷ following))) (sym place) ∙ take-append_seam front (10 ∷ following)
 
-behind_of : (octets front behind : List ℕ) (at whole : ℕ) → octets ≡ front ++ (10 ∷ behind) → length front ≡ at → whole ≡ at + 1 → drop whole octets ≡ behind
-behind_of octets front behind at whole split place is =
+after_of : (octets front following : List ℕ) (at whole : ℕ) → octets ≡ front ++ (10 ∷ following) → length front ≡ at → whole ≡ at + 1 → drop whole octets ≡ following
+after_of octets front following at whole split place is =
     let e : whole ≡ length front + 1 = omega arith in
-    ap (drop whole) split ∙ ap (λ n. drop n (front ++ (10 ∷ behind))) e ∙ drop-append-add front (10 ∷ behind) 1
+    ap (drop whole) split ∙ ap (λ n. drop n (front ++ (10 ∷ following))) e ∙ drop-append-add front (10 ∷ following) 1
 
-size_of : (octets front behind : List ℕ) → octets ≡ front ++ (10 ∷ behind) → length octets ≡ length front + suc (length behind)
-size_of octets front behind split = ap length split ∙ length-append front (10 ∷ behind)
+size_of : (octets front following : List ℕ) → octets ≡ front ++ (10 ∷ following) → length octets ≡ length front + suc (length following)
+size_of octets front following split = ap length split ∙ length-append front (10 ∷ following)
 
 none_dropped : (octets : List ℕ) (n : ℕ) → length octets ≤ n → drop n octets ≡ []
 none_dropped [] zero le = refl
@@ -111,16 +106,16 @@ empty (x ∷ octets) e = absurd (omega arith)
 
 pub line_there : (line_limit room count : ℕ) (feed : Option ℕ) (cut : Cut) → IsCut feed count cut → cut.line ≤ line_limit → cut.whole ≤ room → (cut.whole ≡ 0 → ⊥) → JudgesAll line_limit room feed count (Ok (Some cut))
 line_there line_limit room count (Some at) cut is short within some limit given octets left counted size h whole =
-    let front : take cut.line octets ≡ h.front = front_of octets h.front h.behind cut.line h.split (h.place ∙ sym is.0) in
-    let behind : drop cut.whole octets ≡ h.behind = behind_of octets h.front h.behind at cut.whole h.split h.place is.1 in
-    let long : length octets ≡ length h.front + suc (length h.behind) = size_of octets h.front h.behind h.split in
+    let front : take cut.line octets ≡ h.front = front_of octets h.front h.following cut.line h.split (h.place ∙ sym is.0) in
+    let following : drop cut.whole octets ≡ h.following = after_of octets h.front h.following at cut.whole h.split h.place is.1 in
+    let long : length octets ≡ length h.front + suc (length h.following) = size_of octets h.front h.following h.split in
     let line : cut.line ≡ at = is.0 in let all : cut.whole ≡ at + 1 = is.1 in let place : length h.front ≡ at = h.place in
     let taken : length (take cut.line octets) ≡ length h.front = ap length front in
     record {
       order = omega arith;
       within = omega arith;
       shows = inl (record {
-        split = h.split ∙ (λ i. sym front i ++ (10 ∷ sym behind i));
+        split = h.split ∙ (λ i. sym front i ++ (10 ∷ sym following i));
         plain = subst IsPlain (sym front) h.plain;
         short = omega arith;
         within = omega arith;
@@ -136,7 +131,7 @@ line_there line_limit room count None cut is short within some limit given octet
       shows = inr (
         record {
           split = sym front;
-          none_behind = none_dropped octets cut.whole (omega arith);
+          none_following = none_dropped octets cut.whole (omega arith);
           some = not_le (length (take cut.line octets)) 0 (λ le. some (omega arith));
           plain = subst IsPlain (sym front) h;
           short = omega arith;
@@ -168,7 +163,7 @@ pub line_passed : (line_limit room count : ℕ) (feed : Option ℕ) (cut : Cut) 
 line_passed line_limit room count (Some at) cut is never less limit given octets left counted size h whole =
     let line : cut.line ≡ at = is.0 in let all : cut.whole ≡ at + 1 = is.1 in let place : length h.front ≡ at = h.place in
     let far : line_limit < cut.line = past line_limit room cut (omega arith) never less in
-    passes_line line_limit limit given room octets h.front (10 ∷ h.behind) counted h.split h.plain (omega arith) less
+    passes_line line_limit limit given room octets h.front (10 ∷ h.following) counted h.split h.plain (omega arith) less
 line_passed line_limit room count None cut is never less limit given octets left counted size h whole =
     let line : cut.line ≡ count = is.0 in let all : cut.whole ≡ count = is.1 in
     let far : line_limit < cut.line = past line_limit room cut (omega arith) never less in
@@ -178,8 +173,8 @@ pub limit_passed : (line_limit room count : ℕ) (feed : Option ℕ) (cut : Cut)
 limit_passed line_limit room count (Some at) cut is never le limit given octets left counted size h whole =
     let line : cut.line ≡ at = is.0 in let all : cut.whole ≡ at + 1 = is.1 in let place : length h.front ≡ at = h.place in
     let far : room < cut.whole = beyond line_limit room cut (omega arith) never le in
-    let long : length octets ≡ length h.front + suc (length h.behind) = size_of octets h.front h.behind h.split in
-    passes_limit line_limit limit given room octets h.front (10 ∷ h.behind) counted h.split h.plain (omega arith) (omega arith) le
+    let long : length octets ≡ length h.front + suc (length h.following) = size_of octets h.front h.following h.split in
+    passes_limit line_limit limit given room octets h.front (10 ∷ h.following) counted h.split h.plain (omega arith) (omega arith) le
 limit_passed line_limit room count None cut is never le limit given octets left counted size h whole =
     let line : cut.line ≡ count = is.0 in let all : cut.whole ≡ count = is.1 in
     let far : room < cut.whole = beyond line_limit room cut (omega arith) never le in

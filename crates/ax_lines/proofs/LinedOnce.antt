@@ -56,22 +56,22 @@ last (x ∷ octets) zero left plain short within = absurd (omega arith)
 last (x ∷ octets) (suc room) zero plain short within = absurd (omega arith)
 last (x ∷ octets) (suc room) (suc left) plain short within = plain_on room left x octets plain.0 ∙ ap (with_octet x) (last octets room left plain.1 (omega arith) (omega arith))
 
-past_limit : (front behind : List ℕ) (octet room left : ℕ) → IsPlain front → length front ≤ room → length front ≡ left → walk room left (front ++ (octet ∷ behind)) ≡ end input_too_long
-past_limit [] behind octet room zero plain short count = refl
-past_limit [] behind octet room (suc left) plain short count = absurd (omega arith)
-past_limit (x ∷ front) behind octet zero left plain short count = absurd (omega arith)
-past_limit (x ∷ front) behind octet (suc room) zero plain short count = absurd (omega arith)
-past_limit (x ∷ front) behind octet (suc room) (suc left) plain short count =
-    plain_on room left x (front ++ (octet ∷ behind)) plain.0 ∙ ap (with_octet x) (past_limit front behind octet room left plain.1 (omega arith) (omega arith))
+past_limit : (front following : List ℕ) (octet room left : ℕ) → IsPlain front → length front ≤ room → length front ≡ left → walk room left (front ++ (octet ∷ following)) ≡ end input_too_long
+past_limit [] following octet room zero plain short count = refl
+past_limit [] following octet room (suc left) plain short count = absurd (omega arith)
+past_limit (x ∷ front) following octet zero left plain short count = absurd (omega arith)
+past_limit (x ∷ front) following octet (suc room) zero plain short count = absurd (omega arith)
+past_limit (x ∷ front) following octet (suc room) (suc left) plain short count =
+    plain_on room left x (front ++ (octet ∷ following)) plain.0 ∙ ap (with_octet x) (past_limit front following octet room left plain.1 (omega arith) (omega arith))
 
-past_line : (front behind : List ℕ) (octet room left : ℕ) → IsPlain front → IsNoFeed octet → length front ≡ room → length front < left → walk room left (front ++ (octet ∷ behind)) ≡ end line_too_long
-past_line [] behind octet zero zero plain one count within = absurd (omega arith)
-past_line [] behind octet zero (suc left) plain one count within = ap (λ b. by_feed b 0 octet behind (walk 0 left behind)) (no_feed octet (octet == 10) refl one)
-past_line [] behind octet (suc room) left plain one count within = absurd (omega arith)
-past_line (x ∷ front) behind octet zero left plain one count within = absurd (omega arith)
-past_line (x ∷ front) behind octet (suc room) zero plain one count within = absurd (omega arith)
-past_line (x ∷ front) behind octet (suc room) (suc left) plain one count within =
-    plain_on room left x (front ++ (octet ∷ behind)) plain.0 ∙ ap (with_octet x) (past_line front behind octet room left plain.1 one (omega arith) (omega arith))
+past_line : (front following : List ℕ) (octet room left : ℕ) → IsPlain front → IsNoFeed octet → length front ≡ room → length front < left → walk room left (front ++ (octet ∷ following)) ≡ end line_too_long
+past_line [] following octet zero zero plain one count within = absurd (omega arith)
+past_line [] following octet zero (suc left) plain one count within = ap (λ b. by_feed b 0 octet following (walk 0 left following)) (no_feed octet (octet == 10) refl one)
+past_line [] following octet (suc room) left plain one count within = absurd (omega arith)
+past_line (x ∷ front) following octet zero left plain one count within = absurd (omega arith)
+past_line (x ∷ front) following octet (suc room) zero plain one count within = absurd (omega arith)
+past_line (x ∷ front) following octet (suc room) (suc left) plain one count within =
+    plain_on room left x (front ++ (octet ∷ following)) plain.0 ∙ ap (with_octet x) (past_line front following octet room left plain.1 one (omega arith) (omega arith))
 
 -- ---- one thing comes next
 
@@ -79,9 +79,9 @@ some_walk : (room left : ℕ) (rest : List ℕ) → 0 < length rest → next_of 
 some_walk room left [] h = absurd (omega arith)
 some_walk room left (x ∷ rest) h = refl
 
-some_more : (front : List ℕ) (octet : ℕ) (behind : List ℕ) → 0 < length (front ++ (octet ∷ behind))
-some_more [] octet behind = omega arith
-some_more (x ∷ front) octet behind = omega arith
+some_more : (front : List ℕ) (octet : ℕ) (following : List ℕ) → 0 < length (front ++ (octet ∷ following))
+some_more [] octet following = omega arith
+some_more (x ∷ front) octet following = omega arith
 
 some_fed : (octets after : List ℕ) → 0 < length (octets ++ (10 ∷ after))
 some_fed octets after = some_more octets 10 after
@@ -94,12 +94,12 @@ module _ (line_limit limit before left : ℕ) (counted : before + left ≡ limit
       ap (next_of line_limit left) h.split ∙ some_walk line_limit left (octets ++ (10 ∷ after)) some ∙ walked
   found rest (line octets after) (inr h) =
       let walked : walk line_limit left octets ≡ line octets [] = last octets line_limit left h.plain h.short (let w = h.within in omega arith) in
-      ap (next_of line_limit left) h.split ∙ some_walk line_limit left octets h.some ∙ walked ∙ ap (line octets) (sym h.none_behind)
+      ap (next_of line_limit left) h.split ∙ some_walk line_limit left octets h.some ∙ walked ∙ ap (line octets) (sym h.none_following)
   found rest (end all_lines) h = ap (next_of line_limit left) h
   found rest (end input_too_long) h =
-      ap (next_of line_limit left) h.split ∙ some_walk line_limit left (h.front ++ (h.octet ∷ h.behind)) (some_more h.front h.octet h.behind) ∙ past_limit h.front h.behind h.octet line_limit left h.plain h.short (let w = h.count in omega arith)
+      ap (next_of line_limit left) h.split ∙ some_walk line_limit left (h.front ++ (h.octet ∷ h.following)) (some_more h.front h.octet h.following) ∙ past_limit h.front h.following h.octet line_limit left h.plain h.short (let w = h.count in omega arith)
   found rest (end line_too_long) h =
-      ap (next_of line_limit left) h.split ∙ some_walk line_limit left (h.front ++ (h.octet ∷ h.behind)) (some_more h.front h.octet h.behind) ∙ past_line h.front h.behind h.octet line_limit left h.plain h.one_more h.count (let w = h.within in omega arith)
+      ap (next_of line_limit left) h.split ∙ some_walk line_limit left (h.front ++ (h.octet ∷ h.following)) (some_more h.front h.octet h.following) ∙ past_line h.front h.following h.octet line_limit left h.plain h.one_more h.count (let w = h.within in omega arith)
 
   pub next_once : (rest : List ℕ) (part other : NextLine) → IsNextLine line_limit limit before rest part → IsNextLine line_limit limit before rest other → part ≡ other
   next_once rest part other h k = sym (found rest part h) ∙ found rest other k
@@ -126,7 +126,7 @@ lined_once line_limit limit before rest (octets ∷ lines) [] e d le (after, tak
 lined_once line_limit limit before rest (octets ∷ lines) (next ∷ others) e d le (after, taken, h, count, more) (later, took, k, counted, rests) =
     let s : line octets after ≡ line next later = next_once line_limit limit before (limit - before) (omega arith) rest (line octets after) (line next later) h k in
     let same = same_line octets next after later s in
-    let behind : length after ≡ length later = ap length same.1 in
+    let following : length after ≡ length later = ap length same.1 in
     let n : taken ≡ took = omega arith in
     let within : before + taken ≤ limit = line_within line_limit limit before rest octets after taken count h in
     let t = lined_once line_limit limit (before + taken) after lines others e d within more (subst (λ m. Lined line_limit limit (before + m) after others d) (sym n) (subst (λ x. Lined line_limit limit (before + took) x others d) (sym same.1) rests)) in

@@ -21,20 +21,20 @@ module _ (line_limit limit before : ℕ) where
       (line front rest, inl (record { split = ap (λ y. front ++ (y ∷ rest)) (eqb-true x 10 is); plain = plain; short = short; within = within }))
   at_octet front x rest plain short within later false is (inl less) = later less (no_feed x is)
   at_octet front x rest plain short within later false is (inr le) =
-      (end line_too_long, record { front = front; octet = x; behind = rest; split = refl; plain = plain; one_more = no_feed x is; count = omega arith; within = within })
+      (end line_too_long, record { front = front; octet = x; following = rest; split = refl; plain = plain; one_more = no_feed x is; count = omega arith; within = within })
 
   at_limit : (front : List ℕ) (x : ℕ) (rest : List ℕ) → IsPlain front → length front ≤ line_limit → before + length front ≤ limit → (before + length front < limit → HasNext line_limit limit before (front ++ (x ∷ rest)))
       → (before + length front < limit) ⊎ (limit ≤ before + length front) → HasNext line_limit limit before (front ++ (x ∷ rest))
   at_limit front x rest plain short fits later (inl less) = later less
   at_limit front x rest plain short fits later (inr le) =
-      (end input_too_long, record { front = front; octet = x; behind = rest; split = refl; plain = plain; short = short; count = omega arith })
+      (end input_too_long, record { front = front; octet = x; following = rest; split = refl; plain = plain; short = short; count = omega arith })
 
   at_end : (front : List ℕ) → IsPlain front → length front ≤ line_limit → before + length front ≤ limit → HasNext line_limit limit before (front ++ [])
   at_end [] plain short fits = (end all_lines, refl)
   at_end (x ∷ front) plain short fits =
-      (line (x ∷ front) [], inr (record { split = append-nil (x ∷ front); none_behind = refl; some = omega arith; plain = plain; short = short; within = fits }))
+      (line (x ∷ front) [], inr (record { split = append-nil (x ∷ front); none_following = refl; some = omega arith; plain = plain; short = short; within = fits }))
 
-  -- behind octets without a line feed, within both limits
+  -- after octets without a line feed, within both limits
   has_next : (rest front : List ℕ) → IsPlain front → length front ≤ line_limit → before + length front ≤ limit → HasNext line_limit limit before (front ++ rest)
   has_next [] front plain short fits = at_end front plain short fits
   has_next (x ∷ rest) front plain short fits =
@@ -48,7 +48,7 @@ module _ (line_limit limit before : ℕ) where
 longer : (line_limit limit before : ℕ) (rest one after : List ℕ) → IsNextLine line_limit limit before rest (line one after) → length after < length rest
 longer line_limit limit before rest one after (inl h) = let e : length rest ≡ length one + suc (length after) = ap length h.split ∙ length-append one (10 ∷ after) in omega arith
 longer line_limit limit before rest one after (inr h) =
-    let e : length rest ≡ length one = ap length h.split in let f : length after ≡ 0 = ap length h.none_behind in let g : 0 < length one = h.some in omega arith
+    let e : length rest ≡ length one = ap length h.split in let f : length after ≡ 0 = ap length h.none_following in let g : 0 < length one = h.some in omega arith
 
 empty : (rest : List ℕ) → length rest ≤ 0 → rest ≡ []
 empty [] le = refl

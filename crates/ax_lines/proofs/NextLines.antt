@@ -1,4 +1,4 @@
--- What the octets held show, and what comes next in the input.
+-- What the octets buffered show, and what comes next in the input.
 use Rattle.std.proofs.Common.{◌≡◌, ℕ, zero, suc, ◌+◌, ◌-◌, ◌<◌, ◌≤◌, inl, inr, List, [], ◌∷◌, ◌++◌, Option, Some, None, length, take, drop, slice_range, min, refl, sym, ◌∙◌, ap, subst, arith, append_assoc, append-nil, length-append, length-take-le, length-drop, Result, Ok, Err, IfSome}
 use Rattle.std.proofs.lemmas.List.{drop-take}
 use Rattle.ax_lines.specs.Feeds.{IsFirstFeed}
@@ -10,8 +10,8 @@ use Rattle.ax_lines.specs.Window.{HoldsNext}
 use Rattle.ax_lines.specs.declared.judging.Cut.{Cut}
 use Rattle.ax_lines.specs.declared.line_error.LineError.{LineError}
 use Rattle.ax_lines.specs.declared.line_error.LineError.TheVariants.{InputTooLong, LineTooLong, ReadFault}
-use Rattle.ax_lines.specs.declared.next_line.HeldLine.{HeldLine}
-use Rattle.ax_lines.specs.declared.reading.Held.{Held}
+use Rattle.ax_lines.specs.declared.next_line.BufferedLine.{BufferedLine}
+use Rattle.ax_lines.specs.declared.reading.Buffered.{Buffered}
 use Rattle.ax_lines.proofs.Judged.{JudgesAll}
 use Rattle.ax_lines.proofs.LinedOnce.{next_once}
 use Rattle.ax_outside.specs.Changes.{SourceChange}
@@ -33,7 +33,7 @@ shown_next line_limit limit given octets rest left (line one after) is (inr (h, 
     let none : rest ≡ [] = none_left left rest at_end is in
     inr (record {
       split = ap (λ l. octets ++ l) none ∙ append-nil octets ∙ h.split;
-      none_behind = ap (λ l. l ++ rest) h.none_behind ∙ none;
+      none_following = ap (λ l. l ++ rest) h.none_following ∙ none;
       some = h.some;
       plain = h.plain;
       short = h.short;
@@ -43,8 +43,8 @@ shown_next line_limit limit given octets rest left (end all_lines) is h = ap (λ
 shown_next line_limit limit given octets rest left (end input_too_long) is h = record {
   front = h.front;
   octet = h.octet;
-  behind = h.behind ++ rest;
-  split = ap (λ l. l ++ rest) h.split ∙ append_assoc h.front (h.octet ∷ h.behind) rest;
+  following = h.following ++ rest;
+  split = ap (λ l. l ++ rest) h.split ∙ append_assoc h.front (h.octet ∷ h.following) rest;
   plain = h.plain;
   short = h.short;
   count = h.count;
@@ -52,8 +52,8 @@ shown_next line_limit limit given octets rest left (end input_too_long) is h = r
 shown_next line_limit limit given octets rest left (end line_too_long) is h = record {
   front = h.front;
   octet = h.octet;
-  behind = h.behind ++ rest;
-  split = ap (λ l. l ++ rest) h.split ∙ append_assoc h.front (h.octet ∷ h.behind) rest;
+  following = h.following ++ rest;
+  split = ap (λ l. l ++ rest) h.split ∙ append_assoc h.front (h.octet ∷ h.following) rest;
   plain = h.plain;
   one_more = h.one_more;
   count = h.count;
@@ -102,7 +102,7 @@ back_of_range buffer start stop n le =
     ap (λ k. drop n (take k (drop start buffer))) (let e : stop - start ≡ n + (stop - (start + n)) = omega arith in e) ∙ drop-take n (stop - (start + n)) (drop start buffer)
     ∙ ap (take (stop - (start + n))) (drop_more buffer start n (start + n) refl)
 
--- ---- what is held for a line is judged
+-- ---- what is buffered for a line is judged
 
 -- a line and its line feed are within the limit of the input
 line_within : (line_limit limit given : ℕ) (octets one after : List ℕ) (left : Option (List ℕ)) (n : ℕ) → length octets ≡ n + length after → Shows line_limit limit given octets left (line one after) → given + n ≤ limit
@@ -115,14 +115,14 @@ line_within line_limit limit given octets one after left n size (inr (h, at_end)
     let within : given + length one ≤ limit = h.within in
     omega arith
 
-module _ (line_limit limit given : ℕ) (le : given ≤ limit) (i : SourceChange) (before buffer : List ℕ) (most : ℕ) (held : Held) (enough : most ≡ min (limit - given) line_limit + 1) (h : HoldsLine i before buffer most held) where
-  size : length (before ++ h.octets) ≡ held.end - held.start
-  size = ap length (sym h.stands) ∙ size_of_range buffer held.start held.end h.window h.within
+module _ (line_limit limit given : ℕ) (le : given ≤ limit) (i : SourceChange) (before buffer : List ℕ) (most : ℕ) (buffered : Buffered) (enough : most ≡ min (limit - given) line_limit + 1) (h : HoldsLine i before buffer most buffered) where
+  size : length (before ++ h.octets) ≡ buffered.end - buffered.start
+  size = ap length (sym h.stands) ∙ size_of_range buffer buffered.start buffered.end h.window h.within
 
-  abbrev pub JudgesHeld : Result (Option Cut) LineError → Type 0
-  JudgesHeld result = JudgesAll line_limit (limit - given) held.feed (held.end - held.start) result
+  abbrev pub JudgesBuffered : Result (Option Cut) LineError → Type 0
+  JudgesBuffered result = JudgesAll line_limit (limit - given) buffered.feed (buffered.end - buffered.start) result
 
-  shown : (result : Result (Option Cut) LineError) → JudgesHeld result → Judges line_limit limit given (before ++ h.octets) i.left' result
+  shown : (result : Result (Option Cut) LineError) → JudgesBuffered result → Judges line_limit limit given (before ++ h.octets) i.left' result
   shown result j = j limit given (before ++ h.octets) i.left' (omega arith) size h.feed (λ none fewer. h.whole none (let s = size in omega arith))
 
   finds : (e : LinedEnd) → Shows line_limit limit given (before ++ h.octets) i.left' (end e) → FindsEnd line_limit limit given before i e
@@ -134,82 +134,82 @@ module _ (line_limit limit given : ℕ) (le : given ≤ limit) (i : SourceChange
   }
 
   -- a line
-  pub line_held : (cut : Cut) → JudgesHeld (Ok (Some cut)) → HoldsNext line_limit limit given before i buffer (record { start = held.start; stop = held.start + cut.line; next = held.start + cut.whole; end = held.end })
-  line_held cut j =
+  pub line_buffered : (cut : Cut) → JudgesBuffered (Ok (Some cut)) → HoldsNext line_limit limit given before i buffer (record { start = buffered.start; stop = buffered.start + cut.line; next = buffered.start + cut.whole; end = buffered.end })
+  line_buffered cut j =
       let c : CutsLine line_limit limit given (before ++ h.octets) i.left' cut = shown (Ok (Some cut)) j in
       let s = size in
       let order : cut.line ≤ cut.whole = c.order in let inside : cut.whole ≤ length (before ++ h.octets) = c.within in
-      let window : held.start ≤ held.end = h.window in
-      let front : take cut.line (before ++ h.octets) ≡ slice_range buffer held.start (held.start + cut.line)
-      = ap (take cut.line) (sym h.stands) ∙ front_of_range buffer held.start held.end cut.line (omega arith) in
-      let back : drop cut.whole (before ++ h.octets) ≡ slice_range buffer (held.start + cut.whole) held.end
-      = ap (drop cut.whole) (sym h.stands) ∙ back_of_range buffer held.start held.end cut.whole (omega arith) in
-      let shows : Shows line_limit limit given (before ++ h.octets) i.left' (line (slice_range buffer held.start (held.start + cut.line)) (slice_range buffer (held.start + cut.whole) held.end))
-      = subst (λ l. Shows line_limit limit given (before ++ h.octets) i.left' (line l (slice_range buffer (held.start + cut.whole) held.end))) front
+      let window : buffered.start ≤ buffered.end = h.window in
+      let front : take cut.line (before ++ h.octets) ≡ slice_range buffer buffered.start (buffered.start + cut.line)
+      = ap (take cut.line) (sym h.stands) ∙ front_of_range buffer buffered.start buffered.end cut.line (omega arith) in
+      let back : drop cut.whole (before ++ h.octets) ≡ slice_range buffer (buffered.start + cut.whole) buffered.end
+      = ap (drop cut.whole) (sym h.stands) ∙ back_of_range buffer buffered.start buffered.end cut.whole (omega arith) in
+      let shows : Shows line_limit limit given (before ++ h.octets) i.left' (line (slice_range buffer buffered.start (buffered.start + cut.line)) (slice_range buffer (buffered.start + cut.whole) buffered.end))
+      = subst (λ l. Shows line_limit limit given (before ++ h.octets) i.left' (line l (slice_range buffer (buffered.start + cut.whole) buffered.end))) front
       (subst (λ l. Shows line_limit limit given (before ++ h.octets) i.left' (line (take cut.line (before ++ h.octets)) l)) back c.shows) in
-      let rest_size : length (slice_range buffer (held.start + cut.whole) held.end) ≡ held.end - (held.start + cut.whole) = size_of_range buffer (held.start + cut.whole) held.end (omega arith) h.within in
+      let rest_size : length (slice_range buffer (buffered.start + cut.whole) buffered.end) ≡ buffered.end - (buffered.start + cut.whole) = size_of_range buffer (buffered.start + cut.whole) buffered.end (omega arith) h.within in
       let dropped : length (drop cut.whole (before ++ h.octets)) ≡ length (before ++ h.octets) - cut.whole = length-drop cut.whole (before ++ h.octets) in
       record {
         line_order = omega arith;
         feed_order = omega arith;
         order = omega arith;
         inside = h.within;
-        within = line_within line_limit limit given (before ++ h.octets) (take cut.line (before ++ h.octets)) (drop cut.whole (before ++ h.octets)) i.left' (held.start + cut.whole - held.start) (omega arith) c.shows;
+        within = line_within line_limit limit given (before ++ h.octets) (take cut.line (before ++ h.octets)) (drop cut.whole (before ++ h.octets)) i.left' (buffered.start + cut.whole - buffered.start) (omega arith) c.shows;
         gives = record {
           taken = h.octets;
           took = h.took;
           shows = shows;
           counts = omega arith;
-          told = on_told (λ rest. IsToldLine line_limit limit given rest (ahead (slice_range buffer (held.start + cut.whole) held.end) i.left') (slice_range buffer held.start (held.start + cut.line))) before h.octets i.left i.left' h.took.gives (λ rest is. record {
-            after = slice_range buffer (held.start + cut.whole) held.end ++ rest;
-            behind_is = ap (with_front (slice_range buffer (held.start + cut.whole) held.end)) is;
-            just = just_next line_limit limit given (before ++ h.octets) rest i.left' (line (slice_range buffer held.start (held.start + cut.line)) (slice_range buffer (held.start + cut.whole) held.end)) le is shows;
+          told = on_told (λ rest. IsToldLine line_limit limit given rest (ahead (slice_range buffer (buffered.start + cut.whole) buffered.end) i.left') (slice_range buffer buffered.start (buffered.start + cut.line))) before h.octets i.left i.left' h.took.gives (λ rest is. record {
+            after = slice_range buffer (buffered.start + cut.whole) buffered.end ++ rest;
+            following_is = ap (with_front (slice_range buffer (buffered.start + cut.whole) buffered.end)) is;
+            just = just_next line_limit limit given (before ++ h.octets) rest i.left' (line (slice_range buffer buffered.start (buffered.start + cut.line)) (slice_range buffer (buffered.start + cut.whole) buffered.end)) le is shows;
           });
         };
       }
 
   -- no octet
-  pub none_held : JudgesHeld (Ok None) → FindsEnd line_limit limit given before i all_lines
-  none_held j = finds all_lines (shown (Ok None) j)
+  pub none_buffered : JudgesBuffered (Ok None) → FindsEnd line_limit limit given before i all_lines
+  none_buffered j = finds all_lines (shown (Ok None) j)
 
   -- a limit is passed
-  pub refusal_held : (e : LineError) → JudgesHeld (Err e) → OnEnd {A = HeldLine} (Err e) (FindsEnd line_limit limit given before i)
-  refusal_held InputTooLong j = finds input_too_long (shown (Err InputTooLong) j)
-  refusal_held LineTooLong j = finds line_too_long (shown (Err LineTooLong) j)
-  refusal_held ReadFault j = tt
+  pub refusal_buffered : (e : LineError) → JudgesBuffered (Err e) → OnEnd {A = BufferedLine} (Err e) (FindsEnd line_limit limit given before i)
+  refusal_buffered InputTooLong j = finds input_too_long (shown (Err InputTooLong) j)
+  refusal_buffered LineTooLong j = finds line_too_long (shown (Err LineTooLong) j)
+  refusal_buffered ReadFault j = tt
 
-  pub limit_held : (e : LineError) → JudgesHeld (Err e) → OnTooLong {A = HeldLine} (Err e) (limit + i.taken < given + length before + i.taken')
-  limit_held InputTooLong j =
+  pub limit_buffered : (e : LineError) → JudgesBuffered (Err e) → OnTooLong {A = BufferedLine} (Err e) (limit + i.taken < given + length before + i.taken')
+  limit_buffered InputTooLong j =
       let p : PassesLimit line_limit limit given (before ++ h.octets) = shown (Err InputTooLong) j in
-      let all : length (before ++ h.octets) ≡ length p.front + suc (length p.behind) = ap length p.split ∙ length-append p.front (p.octet ∷ p.behind) in
+      let all : length (before ++ h.octets) ≡ length p.front + suc (length p.following) = ap length p.split ∙ length-append p.front (p.octet ∷ p.following) in
       let both : length (before ++ h.octets) ≡ length before + length h.octets = length-append before h.octets in
       let number : i.taken' ≡ i.taken + length h.octets = h.took.number in
       let count : given + length p.front ≡ limit = p.count in
       omega arith
-  limit_held LineTooLong j = tt
-  limit_held ReadFault j = tt
+  limit_buffered LineTooLong j = tt
+  limit_buffered ReadFault j = tt
 
-  pub no_fault_held : (P : Type 0) (e : LineError) → JudgesHeld (Err e) → OnReadFault {A = HeldLine} (Err e) P
-  no_fault_held P InputTooLong j = tt
-  no_fault_held P LineTooLong j = tt
-  no_fault_held P ReadFault j = absurd (shown (Err ReadFault) j)
+  pub no_fault_buffered : (P : Type 0) (e : LineError) → JudgesBuffered (Err e) → OnReadFault {A = BufferedLine} (Err e) P
+  no_fault_buffered P InputTooLong j = tt
+  no_fault_buffered P LineTooLong j = tt
+  no_fault_buffered P ReadFault j = absurd (shown (Err ReadFault) j)
 
 -- a read failed
-pub part_held : (line_limit limit given : ℕ) (i : SourceChange) (before : List ℕ) (most : ℕ) → given ≤ limit → most ≡ min (limit - given) line_limit + 1 → HoldsPart i before most → StopsInLine line_limit limit given before i
-part_held line_limit limit given i before most le enough h =
+pub part_buffered : (line_limit limit given : ℕ) (i : SourceChange) (before : List ℕ) (most : ℕ) → given ≤ limit → most ≡ min (limit - given) line_limit + 1 → HoldsPart i before most → StopsInLine line_limit limit given before i
+part_buffered line_limit limit given i before most le enough h =
     let fewer : length (before ++ h.octets) < most = h.fewer in
     record { taken = h.octets; took = h.took; plain = h.plain; short = omega arith; within = omega arith }
 
 found : (octets : List ℕ) (feed : Option ℕ) (n : ℕ) → length octets ≡ n → IsFirstFeed octets feed → IfSome feed (λ at. at < n)
 found octets None n size h = tt
 found octets (Some at) n size h =
-    let all : length octets ≡ length h.front + suc (length h.behind) = ap length h.split ∙ length-append h.front (10 ∷ h.behind) in
+    let all : length octets ≡ length h.front + suc (length h.following) = ap length h.split ∙ length-append h.front (10 ∷ h.following) in
     let place : length h.front ≡ at = h.place in
     omega arith
 
--- the feed found is among the octets held
-pub feed_inside : (i : SourceChange) (before buffer : List ℕ) (most : ℕ) (held : Held) → HoldsLine i before buffer most held → IfSome held.feed (λ at. at < held.end - held.start)
-feed_inside i before buffer most held h =
-    found (before ++ h.octets) held.feed (held.end - held.start) (ap length (sym h.stands) ∙ size_of_range buffer held.start held.end h.window h.within) h.feed
+-- the feed found is among the octets buffered
+pub feed_inside : (i : SourceChange) (before buffer : List ℕ) (most : ℕ) (buffered : Buffered) → HoldsLine i before buffer most buffered → IfSome buffered.feed (λ at. at < buffered.end - buffered.start)
+feed_inside i before buffer most buffered h =
+    found (before ++ h.octets) buffered.feed (buffered.end - buffered.start) (ap length (sym h.stands) ∙ size_of_range buffer buffered.start buffered.end h.window h.within) h.feed
 
-pub ruleset next_lines = (line_held, none_held, refusal_held, limit_held, no_fault_held, part_held, feed_inside)
+pub ruleset next_lines = (line_buffered, none_buffered, refusal_buffered, limit_buffered, no_fault_buffered, part_buffered, feed_inside)

@@ -29,15 +29,15 @@ fed line_limit limit before octets after lines e none short within more =
 -- the last line
 pub last : (line_limit limit before : ℕ) (octets : List ℕ) → has_none octets ≡ true → 0 < length octets → length octets ≤ line_limit → before + length octets ≤ limit → Lined line_limit limit before octets (octets ∷ []) all_lines
 last line_limit limit before octets none some short within =
-    ([], length octets, inr (record { split = refl; none_behind = refl; some = some; plain = plain_by octets none; short = short; within = within }), omega arith, refl)
+    ([], length octets, inr (record { split = refl; none_following = refl; some = some; plain = plain_by octets none; short = short; within = within }), omega arith, refl)
 
 -- an octet past a limit
-pub line_over : (line_limit limit before : ℕ) (front : List ℕ) (octet : ℕ) (behind : List ℕ) → has_none front ≡ true → has_none (octet ∷ []) ≡ true → length front ≡ line_limit → before + length front < limit
-    → Lined line_limit limit before (front ++ (octet ∷ behind)) [] line_too_long
-line_over line_limit limit before front octet behind none one count within =
-    record { front = front; octet = octet; behind = behind; split = refl; plain = plain_by front none; one_more = (plain_by (octet ∷ []) one).0; count = count; within = within }
+pub line_over : (line_limit limit before : ℕ) (front : List ℕ) (octet : ℕ) (following : List ℕ) → has_none front ≡ true → has_none (octet ∷ []) ≡ true → length front ≡ line_limit → before + length front < limit
+    → Lined line_limit limit before (front ++ (octet ∷ following)) [] line_too_long
+line_over line_limit limit before front octet following none one count within =
+    record { front = front; octet = octet; following = following; split = refl; plain = plain_by front none; one_more = (plain_by (octet ∷ []) one).0; count = count; within = within }
 
-pub limit_over : (line_limit limit before : ℕ) (front : List ℕ) (octet : ℕ) (behind : List ℕ) → has_none front ≡ true → length front ≤ line_limit → before + length front ≡ limit
-    → Lined line_limit limit before (front ++ (octet ∷ behind)) [] input_too_long
-limit_over line_limit limit before front octet behind none short count =
-    record { front = front; octet = octet; behind = behind; split = refl; plain = plain_by front none; short = short; count = count }
+pub limit_over : (line_limit limit before : ℕ) (front : List ℕ) (octet : ℕ) (following : List ℕ) → has_none front ≡ true → length front ≤ line_limit → before + length front ≡ limit
+    → Lined line_limit limit before (front ++ (octet ∷ following)) [] input_too_long
+limit_over line_limit limit before front octet following none short count =
+    record { front = front; octet = octet; following = following; split = refl; plain = plain_by front none; short = short; count = count }

@@ -9,7 +9,7 @@ use borrow.Rule.Slice.PartMut.{put_mid, post_of}
 use Rattle.ax_lines.specs.Feeds.{IsPlain, IsFeedAt}
 use Rattle.ax_lines.specs.Holding.{Took, HoldsLine}
 
--- ---- lists without a line feed, and one behind them
+-- ---- lists without a line feed, and one after them
 
 pub plain-append : (xs ys : List ℕ) → IsPlain xs → IsPlain ys → IsPlain (xs ++ ys)
 plain-append [] ys p q = q
@@ -18,22 +18,22 @@ plain-append (x ∷ xs) ys p q = (p.0, plain-append xs ys p.1 q)
 pub plain_on : (before octets more : List ℕ) → IsPlain (before ++ octets) → IsPlain more → IsPlain (before ++ (octets ++ more))
 plain_on before octets more p q = subst IsPlain (append_assoc before octets more) (plain-append (before ++ octets) more p q)
 
-feed_behind : (xs ys : List ℕ) (at : ℕ) → IsPlain xs → IsFeedAt ys at → IsFeedAt (xs ++ ys) (length xs + at)
-feed_behind xs ys at p h = record {
+feed_after : (xs ys : List ℕ) (at : ℕ) → IsPlain xs → IsFeedAt ys at → IsFeedAt (xs ++ ys) (length xs + at)
+feed_after xs ys at p h = record {
   front = xs ++ h.front;
-  behind = h.behind;
-  split = ap (λ l. xs ++ l) h.split ∙ sym (append_assoc xs h.front (10 ∷ h.behind));
+  following = h.following;
+  split = ap (λ l. xs ++ l) h.split ∙ sym (append_assoc xs h.front (10 ∷ h.following));
   plain = plain-append xs h.front p h.plain;
   place = length-append xs h.front ∙ ap (λ n. length xs + n) h.place;
 }
 
 pub feed_on : (before octets more : List ℕ) (filled at : ℕ) → length (before ++ octets) ≡ filled → IsPlain (before ++ octets) → IsFeedAt more at → IsFeedAt (before ++ (octets ++ more)) (filled + at)
 feed_on before octets more filled at size p h =
-    subst (λ l. IsFeedAt l (filled + at)) (append_assoc before octets more) (subst (λ n. IsFeedAt ((before ++ octets) ++ more) (n + at)) size (feed_behind (before ++ octets) more at p h))
+    subst (λ l. IsFeedAt l (filled + at)) (append_assoc before octets more) (subst (λ n. IsFeedAt ((before ++ octets) ++ more) (n + at)) size (feed_after (before ++ octets) more at p h))
 
 -- ---- what was taken stands in the buffer
 
--- behind those held before, these octets were taken, and both stand at the front of the buffer
+-- after those buffered before, these octets were taken, and both stand at the front of the buffer
 pub record Stands (i : SourceChange) (before buffer : List ℕ) (filled : ℕ) : Type 0 where
   pub octets : List ℕ
   pub took : Took i octets
@@ -51,10 +51,10 @@ change left left' taken taken' faults faults' = record { left = left; left' = le
 pub took_none : (left : Option (List ℕ)) (taken faults faults' : ℕ) → Took (change left left taken taken faults faults') []
 took_none left taken faults faults' = record { gives = sym (with_front-nil left); number = omega arith }
 
-pub starts_plain : (left : Option (List ℕ)) (taken faults : ℕ) (buffer : List ℕ) (held : ℕ) → held ≤ length buffer → IsPlain (take held buffer) → StandsPlain (change left left taken taken faults faults) (take held buffer) buffer held
-starts_plain left taken faults buffer held le plain = record {
-  all = record { octets = []; took = took_none left taken faults faults; within = le; stands = sym (append-nil (take held buffer)) };
-  plain = subst IsPlain (sym (append-nil (take held buffer))) plain;
+pub starts_plain : (left : Option (List ℕ)) (taken faults : ℕ) (buffer : List ℕ) (buffered : ℕ) → buffered ≤ length buffer → IsPlain (take buffered buffer) → StandsPlain (change left left taken taken faults faults) (take buffered buffer) buffer buffered
+starts_plain left taken faults buffer buffered le plain = record {
+  all = record { octets = []; took = took_none left taken faults faults; within = le; stands = sym (append-nil (take buffered buffer)) };
+  plain = subst IsPlain (sym (append-nil (take buffered buffer))) plain;
 }
 
 pub stands_size : (i : SourceChange) (before buffer : List ℕ) (filled : ℕ) (s : Stands i before buffer filled) → length (before ++ s.octets) ≡ filled
@@ -65,9 +65,9 @@ pub part_read : (buffer part : List ℕ) (at k n : ℕ) → at ≤ length buffer
 part_read buffer part at k n le room =
     let size : length (take at buffer) ≡ at = length-take-le at buffer le in
     let count : at + n - at ≡ n = omega arith in
-    let behind : drop at (put_mid at k buffer part) ≡ part ++ post_of at k buffer
+    let following : drop at (put_mid at k buffer part) ≡ part ++ post_of at k buffer
     = ap (λ m. drop m (put_mid at k buffer part)) (sym size) ∙ drop-append_seam (take at buffer) (part ++ post_of at k buffer) in
-    ap (λ m. take m (drop at (put_mid at k buffer part))) count ∙ ap (take n) behind ∙ take-append-le n part (post_of at k buffer) room
+    ap (λ m. take m (drop at (put_mid at k buffer part))) count ∙ ap (take n) following ∙ take-append-le n part (post_of at k buffer) room
 
 -- there is room for it
 pub still_within : (buffer part : List ℕ) (at k n : ℕ) → at ≤ length buffer → n ≤ length part → at + n ≤ length (put_mid at k buffer part)
@@ -131,7 +131,7 @@ holds_plain i before buffer filled most s ended =
       whole = λ e fewer. ended (omega arith);
     }
 
--- a line feed is among those held before
+-- a line feed is among those buffered before
 pub holds_before : (left : Option (List ℕ)) (taken faults : ℕ) (buffer : List ℕ) (start end most at : ℕ) → start ≤ end → end ≤ length buffer → IsFeedAt (slice_range buffer start end) at
     → HoldsLine (change left left taken taken faults faults) (slice_range buffer start end) buffer most (record { start = start; end = end; feed = Some at })
 holds_before left taken faults buffer start end most at window within h = record {

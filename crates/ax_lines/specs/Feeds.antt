@@ -12,8 +12,8 @@ IsPlain octets = AllByRecursion IsNoFeed octets
 -- the first line feed stands there
 pub record IsFeedAt (octets : List ℕ) (at : ℕ) : Type 0 where
   pub front : List ℕ
-  pub behind : List ℕ
-  pub split : octets ≡ front ++ (10 ∷ behind)
+  pub following : List ℕ
+  pub split : octets ≡ front ++ (10 ∷ following)
   pub plain : IsPlain front
   pub place : length front ≡ at
 

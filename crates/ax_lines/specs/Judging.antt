@@ -6,12 +6,12 @@ use Rattle.ax_lines.specs.declared.judging.Cut.{Cut}
 use Rattle.ax_lines.specs.declared.line_error.LineError.{LineError}
 use Rattle.ax_lines.specs.declared.line_error.LineError.TheVariants.{InputTooLong, LineTooLong, ReadFault}
 
--- behind the first line feed, or behind all of them
+-- after the first line feed, or after all of them
 abbrev pub IsCut : Option ℕ → ℕ → Cut → Type 0
 IsCut None count cut = (cut.line ≡ count) × (cut.whole ≡ count)
 IsCut (Some at) count cut = (cut.line ≡ at) × (cut.whole ≡ at + 1)
 
--- the line that is cut off stands at the front, and what is behind it and its line feed is left
+-- the line that is cut off stands at the front, and what is after it and its line feed is left
 pub record CutsLine (line_limit limit given : ℕ) (octets : List ℕ) (left : Option (List ℕ)) (cut : Cut) : Type 0 where
   pub order : cut.line ≤ cut.whole
   pub within : cut.whole ≤ length octets

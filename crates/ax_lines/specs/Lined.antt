@@ -20,7 +20,7 @@ pub record IsFedLine (line_limit limit before : ℕ) (rest line after : List ℕ
 -- the last line, which has no line feed
 pub record IsLastLine (line_limit limit before : ℕ) (rest line after : List ℕ) : Type 0 where
   pub split : rest ≡ line
-  pub none_behind : after ≡ []
+  pub none_following : after ≡ []
   pub some : 0 < length line
   pub plain : IsPlain line
   pub short : length line ≤ line_limit
@@ -30,8 +30,8 @@ pub record IsLastLine (line_limit limit before : ℕ) (rest line after : List �
 pub record PassesLimit (line_limit limit before : ℕ) (rest : List ℕ) : Type 0 where
   pub front : List ℕ
   pub octet : ℕ
-  pub behind : List ℕ
-  pub split : rest ≡ front ++ (octet ∷ behind)
+  pub following : List ℕ
+  pub split : rest ≡ front ++ (octet ∷ following)
   pub plain : IsPlain front
   pub short : length front ≤ line_limit
   pub count : before + length front ≡ limit
@@ -40,8 +40,8 @@ pub record PassesLimit (line_limit limit before : ℕ) (rest : List ℕ) : Type 
 pub record PassesLine (line_limit limit before : ℕ) (rest : List ℕ) : Type 0 where
   pub front : List ℕ
   pub octet : ℕ
-  pub behind : List ℕ
-  pub split : rest ≡ front ++ (octet ∷ behind)
+  pub following : List ℕ
+  pub split : rest ≡ front ++ (octet ∷ following)
   pub plain : IsPlain front
   pub one_more : IsNoFeed octet
   pub count : length front ≡ line_limit

@@ -12,12 +12,12 @@ use Rattle.ax_outside.specs.Changes.{SourceChange}
 use Rattle.ax_outside.specs.Told.{with_front, IsAtEnd}
 
 -- a reader: the limits on a line and on its input, the count of octets of the lines that it gave, line feeds included, the
--- octets that it has taken behind them, and what it answers from now on, once it has ended or refused
+-- octets that it has taken after them, and what it answers from now on, once it has ended or refused
 pub record ReaderState : Type 0 where
   pub line_limit : ℕ
   pub limit : ℕ
   pub given : ℕ
-  pub held : List ℕ
+  pub buffered : List ℕ
   pub ended : Option Ended
 
 abbrev pub IsOpen : ReaderState → Type 0
@@ -72,40 +72,40 @@ Shows line_limit limit given octets left (end all_lines) = (octets ≡ []) × Is
 Shows line_limit limit given octets left (end input_too_long) = PassesLimit line_limit limit given octets
 Shows line_limit limit given octets left (end line_too_long) = PassesLine line_limit limit given octets
 
--- ---- what an answer says. `held` are the octets that the reader had taken before the call
+-- ---- what an answer says. `buffered` are the octets that the reader had taken before the call
 
 -- all octets that aren't given yet, where they are told
 abbrev pub ahead : List ℕ → Option (List ℕ) → Option (List ℕ)
-ahead held left = with_front held left
+ahead buffered left = with_front buffered left
 
 -- that line comes next and nothing else does, and these octets are not given yet
-pub record IsToldLine (line_limit limit given : ℕ) (before : List ℕ) (behind : Option (List ℕ)) (octets : List ℕ) : Type 0 where
+pub record IsToldLine (line_limit limit given : ℕ) (before : List ℕ) (following : Option (List ℕ)) (octets : List ℕ) : Type 0 where
   pub after : List ℕ
-  pub behind_is : behind ≡ Some after
+  pub following_is : following ≡ Some after
   pub just : IsJustNextLine line_limit limit given before (line octets after)
 
--- a line is given: the octets held and those taken begin with it, and the reader holds what is behind it and its line feed
-pub record GivesLine (line_limit limit given : ℕ) (held : List ℕ) (i : SourceChange) (given' : ℕ) (held' octets : List ℕ) : Type 0 where
+-- a line is given: the octets buffered and those taken begin with it, and the reader holds what is after it and its line feed
+pub record GivesLine (line_limit limit given : ℕ) (buffered : List ℕ) (i : SourceChange) (given' : ℕ) (buffered' octets : List ℕ) : Type 0 where
   pub taken : List ℕ
   pub took : Took i taken
-  pub shows : Shows line_limit limit given (held ++ taken) i.left' (line octets held')
-  pub counts : given' + length held' ≡ given + length (held ++ taken)
-  pub told : OnTold (ahead held i.left) (λ before. IsToldLine line_limit limit given before (ahead held' i.left') octets)
+  pub shows : Shows line_limit limit given (buffered ++ taken) i.left' (line octets buffered')
+  pub counts : given' + length buffered' ≡ given + length (buffered ++ taken)
+  pub told : OnTold (ahead buffered i.left) (λ before. IsToldLine line_limit limit given before (ahead buffered' i.left') octets)
 
--- an end: the octets held and those taken show it; it comes next, and nothing else does
-pub record FindsEnd (line_limit limit given : ℕ) (held : List ℕ) (i : SourceChange) (e : LinedEnd) : Type 0 where
+-- an end: the octets buffered and those taken show it; it comes next, and nothing else does
+pub record FindsEnd (line_limit limit given : ℕ) (buffered : List ℕ) (i : SourceChange) (e : LinedEnd) : Type 0 where
   pub taken : List ℕ
   pub took : Took i taken
-  pub shows : Shows line_limit limit given (held ++ taken) i.left' (end e)
-  pub told : OnTold (ahead held i.left) (λ before. IsJustNextLine line_limit limit given before (end e))
+  pub shows : Shows line_limit limit given (buffered ++ taken) i.left' (end e)
+  pub told : OnTold (ahead buffered i.left) (λ before. IsJustNextLine line_limit limit given before (end e))
 
--- a read failed: no line feed is among the octets held and those taken, and they pass no limit
-pub record StopsInLine (line_limit limit given : ℕ) (held : List ℕ) (i : SourceChange) : Type 0 where
+-- a read failed: no line feed is among the octets buffered and those taken, and they pass no limit
+pub record StopsInLine (line_limit limit given : ℕ) (buffered : List ℕ) (i : SourceChange) : Type 0 where
   pub taken : List ℕ
   pub took : Took i taken
-  pub plain : IsPlain (held ++ taken)
-  pub short : length (held ++ taken) ≤ line_limit
-  pub within : given + length (held ++ taken) ≤ limit
+  pub plain : IsPlain (buffered ++ taken)
+  pub short : length (buffered ++ taken) ≤ line_limit
+  pub within : given + length (buffered ++ taken) ≤ limit
 
 -- the reader after an answer
 pub record IsAfter (old : ReaderState) (i : SourceChange) (result : Result (Option (List ℕ)) LineError) (new : ReaderState) : Type 0 where
@@ -113,4 +113,4 @@ pub record IsAfter (old : ReaderState) (i : SourceChange) (result : Result (Opti
   pub same_limit : new.limit ≡ old.limit
   pub within : new.given ≤ new.limit
   pub keeps : new.ended ≡ ended_by result
-  pub gives : OnLine result (GivesLine old.line_limit old.limit old.given old.held i new.given new.held)
+  pub gives : OnLine result (GivesLine old.line_limit old.limit old.given old.buffered i new.given new.buffered)

@@ -13,7 +13,7 @@ pub struct Cut {
     pub whole: usize,
 }
 
-// Cuts that many octets at their first line feed, or behind all of them.
+// Cuts that many octets at their first line feed, or after all of them.
 fn line_cut(feed: Option<usize>, count: usize) -> Cut
     requires there { IfSome feed (λ at. at < count) }
     ensures { IsCut feed count result }

@@ -1,4 +1,4 @@
-//! The next line, held in a buffer.
+//! The next line, buffered in a buffer.
 ghost use Rattle.std.specs.Prelude.{◌≡◌, ◌+◌, ◌≤◌, ◌<◌, ◌⊎◌, length, slice_range};
 ghost use Rattle.ax_lines.specs.Feeds.{IsPlain};
 ghost use Rattle.ax_lines.specs.Reader.{OnLine, OnEnd, OnReadFault, OnTooLong, FindsEnd, StopsInLine};
@@ -11,9 +11,9 @@ use crate::line_error::LineError;
 use crate::reading::hold_line;
 use ax_outside::Source;
 
-/// A line in a buffer, the octets `start..stop`; those behind it and its line feed are `next..end`.
+/// A line in a buffer, the octets `start..stop`; those after it and its line feed are `next..end`.
 #[derive(Clone, Copy)]
-pub struct HeldLine {
+pub struct BufferedLine {
     pub start: usize,
     pub stop: usize,
     pub next: usize,
@@ -32,7 +32,7 @@ pub fn next_line<S: Source>(
     line_limit: u32,
     limit: u64,
     given: u64,
-) -> Result<Option<HeldLine>, LineError>
+) -> Result<Option<BufferedLine>, LineError>
     requires window { start ≤ end }
     requires within { end ≤ length buffer.old }
     requires fits { line_limit < length buffer.old }
@@ -47,15 +47,20 @@ pub fn next_line<S: Source>(
 {
     let room = limit - given;
     let most = room.min(line_limit as u64) as usize + 1;
-    let Ok(held) = hold_line(source, buffer, start, end, most) else {
+    let Ok(buffered) = hold_line(source, buffer, start, end, most) else {
         return Err(LineError::ReadFault);
     };
-    match judge(held.feed, held.end - held.start, line_limit as u64, room) {
-        Ok(Some(cut)) => Ok(Some(HeldLine {
-            start: held.start,
-            stop: held.start + cut.line,
-            next: held.start + cut.whole,
-            end: held.end,
+    match judge(
+        buffered.feed,
+        buffered.end - buffered.start,
+        line_limit as u64,
+        room,
+    ) {
+        Ok(Some(cut)) => Ok(Some(BufferedLine {
+            start: buffered.start,
+            stop: buffered.start + cut.line,
+            next: buffered.start + cut.whole,
+            end: buffered.end,
         })),
         Ok(None) => Ok(None),
         Err(error) => Err(error),

@@ -36,7 +36,7 @@ impl Model for LineReader {
       line_limit = r.line_limit;
       limit = r.limit;
       given = r.given;
-      held = slice_range r.buffer.items r.start r.end;
+      buffered = slice_range r.buffer.items r.start r.end;
       ended = r.ended;
     } };
 
@@ -54,11 +54,11 @@ impl LineReader {
     ghost use Rattle.ax_outside.specs.Told.{Rose};
 
     /// A reader of an input of at most `limit` octets in lines of at most `line_limit` octets each, which has taken nothing
-    /// and keeps no answer. The room for the longest line and 65,536 octets behind it is taken here, once; want of memory
+    /// and keeps no answer. The room for the longest line and 65,536 octets after it is taken here, once; want of memory
     /// for it is the one refusal.
     pub fn new(alloc: Global, line_limit: u32, limit: u64) -> Result<LineReader, AllocError>
         requires { line_limit ≤ 2 ^ 30 }
-        ensures { IfOk result (λ reader. reader ≡ record { line_limit = line_limit; limit = limit; given = 0; held = []; ended = None }) }
+        ensures { IfOk result (λ reader. reader ≡ record { line_limit = line_limit; limit = limit; given = 0; buffered = []; ended = None }) }
     {
         let buffer = zeros(alloc, line_limit as usize + READ_AHEAD)?;
         Ok(LineReader {
@@ -85,10 +85,10 @@ impl LineReader {
     pub fn next<'b, S: Source>(&'b mut self, source: &mut S) -> Result<Option<&'b [u8]>, LineError>
         ensures* after { sem 𝓛 (Rests the_row self.entry (λ new. IsAfter self.old (source_change S.Source source.old source.new) (line_read result) new)) }
         ensures again { IfSome self.old.ended (λ ended. (ended_by result ≡ Some ended) × (source.new ≡ source.old)) }
-        ensures end { IsOpen self.old → OnEnd result (FindsEnd self.old.line_limit self.old.limit self.old.given self.old.held (source_change S.Source source.old source.new)) }
-        ensures past_limit { IsOpen self.old → OnTooLong result (self.old.limit + S.taken source.old < self.old.given + length self.old.held + S.taken source.new) }
-        ensures fault { IsOpen self.old → OnReadFault result (StopsInLine self.old.line_limit self.old.limit self.old.given self.old.held (source_change S.Source source.old source.new)) }
-        ensures asks { IsPlain self.old.held ⊎ (source.new ≡ source.old) }
+        ensures end { IsOpen self.old → OnEnd result (FindsEnd self.old.line_limit self.old.limit self.old.given self.old.buffered (source_change S.Source source.old source.new)) }
+        ensures past_limit { IsOpen self.old → OnTooLong result (self.old.limit + S.taken source.old < self.old.given + length self.old.buffered + S.taken source.new) }
+        ensures fault { IsOpen self.old → OnReadFault result (StopsInLine self.old.line_limit self.old.limit self.old.given self.old.buffered (source_change S.Source source.old source.new)) }
+        ensures asks { IsPlain self.old.buffered ⊎ (source.new ≡ source.old) }
         ensures rose { IsOpen self.old → OnReadFault result (Rose (S.faults source.old) (S.faults source.new)) }
         ensures never_falls { S.faults source.old ≤ S.faults source.new }
     {
@@ -242,7 +242,7 @@ mod tests {
 
     // Lines that came in one call are given before the source is asked again.
     #[test]
-    fn lines_held_come_first(rt: HostRuntime) -> Result<(), Fail> {
+    fn lines_buffered_come_first(rt: HostRuntime) -> Result<(), Fail> {
         let alloc = rt.alloc();
         let mut reader = LineReader::new(alloc, 4, 100)?;
         let mut source = source(alloc, "ab\n\nc\nd", &[], &[1])?;

@@ -10,41 +10,41 @@ use ax_outside::{Source, SourceFailed};
 
 /// The octets `start..end` of a buffer, and the place of the first line feed among them, from the first of them.
 #[derive(Clone, Copy)]
-pub struct Held {
+pub struct Buffered {
     pub start: usize,
     pub end: usize,
     pub feed: Option<usize>,
 }
 
-// Reads behind the first octets of the buffer, which have no line feed, until one is among them, or that many are held,
+// Reads after the first octets of the buffer, which have no line feed, until one is among them, or that many are buffered,
 // or the input ends, however the source cuts it.
 #[tactic(auto, using(crate::proofs::Steps::steps))]
 fn read_line<S: Source>(
     source: &mut S,
     buffer: &mut [u8],
-    held: usize,
+    buffered: usize,
     most: usize,
-) -> Result<Held, SourceFailed>
-    requires held { held ≤ length buffer.old }
+) -> Result<Buffered, SourceFailed>
+    requires buffered { buffered ≤ length buffer.old }
     requires fits { most ≤ length buffer.old }
-    requires plain { IsPlain (take held buffer.old) }
-    ensures line { IfOk result (HoldsLine (source_change S.Source source.old source.new) (take held buffer.old) buffer.new most) }
-    ensures part { OnErr result (HoldsPart (source_change S.Source source.old source.new) (take held buffer.old) most) }
+    requires plain { IsPlain (take buffered buffer.old) }
+    ensures line { IfOk result (HoldsLine (source_change S.Source source.old source.new) (take buffered buffer.old) buffer.new most) }
+    ensures part { OnErr result (HoldsPart (source_change S.Source source.old source.new) (take buffered buffer.old) most) }
     ensures rose { OnErr result (Rose (S.faults source.old) (S.faults source.new)) }
     ensures never_falls { S.faults source.old ≤ S.faults source.new }
 {
-    let mut filled = held;
+    let mut filled = buffered;
     while filled < most {
         let count = source.read(&mut buffer[filled..])?;
         if count == 0 {
-            return Ok(Held {
+            return Ok(Buffered {
                 start: 0,
                 end: filled,
                 feed: None,
             });
         }
         if let Some(at) = first_feed(&buffer[filled..filled + count]) {
-            return Ok(Held {
+            return Ok(Buffered {
                 start: 0,
                 end: filled + count,
                 feed: Some(filled + at),
@@ -52,15 +52,15 @@ fn read_line<S: Source>(
         }
         filled += count;
     }
-    Ok(Held {
+    Ok(Buffered {
         start: 0,
         end: filled,
         feed: None,
     })
 }
 
-/// The octets `start..end` of the buffer, and behind them those that the source still has to give until a line feed is
-/// among them, or that many are held, or the input ends. It asks the source only where they have no line feed, and moves
+/// The octets `start..end` of the buffer, and after them those that the source still has to give until a line feed is
+/// among them, or that many are buffered, or the input ends. It asks the source only where they have no line feed, and moves
 /// them to the front of the buffer then.
 #[tactic(auto, using(crate::proofs::Steps::steps))]
 pub fn hold_line<S: Source>(
@@ -69,7 +69,7 @@ pub fn hold_line<S: Source>(
     start: usize,
     end: usize,
     most: usize,
-) -> Result<Held, SourceFailed>
+) -> Result<Buffered, SourceFailed>
     requires window { start ≤ end }
     requires within { end ≤ length buffer.old }
     requires fits { most ≤ length buffer.old }
@@ -80,7 +80,7 @@ pub fn hold_line<S: Source>(
     ensures never_falls { S.faults source.old ≤ S.faults source.new }
 {
     if let Some(at) = first_feed(&buffer[start..end]) {
-        return Ok(Held {
+        return Ok(Buffered {
             start,
             end,
             feed: Some(at),

@@ -1,5 +1,6 @@
 ghost use Rattle.std.specs.Prelude.{◌≡◌, [], ◌∷◌, ◌++◌, ◌<◌, ◌↔◌, length, slice_get, IsSome, IfOk, OnOk, OnErr};
 ghost use Rattle.std.specs.Option.{option_copied};
+ghost use Rattle.ax_lists.specs.Sizes.{list_bound};
 
 use std::alloc::{AllocError, Global};
 use std::marker::Model;
@@ -17,6 +18,7 @@ pub struct Sequence<T> {
 impl<T> Model for Sequence<T> {
     ghost use Rattle.std.specs.Prelude.{List, length, ◌<◌};
     ghost use Rattle.std.specs.Coded.{coded_list};
+    ghost use Rattle.ax_lists.specs.Sizes.{list_bound};
 
     ghost Value = { List T };
 
@@ -24,7 +26,7 @@ impl<T> Model for Sequence<T> {
 
     ghost view = { λ s. s.members.items };
 
-    ghost invariant = { λ s. length s.members.items < 4294967296 };
+    ghost invariant = { λ s. length s.members.items < list_bound };
 }
 
 impl<T> Sequence<T> {
@@ -63,7 +65,7 @@ impl<T> Sequence<T> {
     /// The members in order.
     pub fn as_slice(&self) -> &[T]
         ensures members { result.now ≡ self.now }
-        ensures bound { length self.now < 4294967296 }
+        ensures bound { length self.now < list_bound }
     {
         self.members.as_slice()
     }

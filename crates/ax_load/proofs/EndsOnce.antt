@@ -11,7 +11,7 @@ use Rattle.ax_load.specs.declared.fault.LoadStop.{LoadStop}
 use Rattle.ax_load.specs.declared.fault.LoadStop.TheVariants as LoadStopOf
 use Rattle.ax_load.specs.declared.fault.SpecFault.{SpecFault}
 use Rattle.ax_load.specs.declared.fault.SpecFault.TheVariants.{TooLarge, BadByte, TooDeep, BadToken, Flawed}
-use Rattle.ax_load.specs.FileAnswers.{IsFlawed, IsRefused}
+use Rattle.ax_load.specs.FileAnswers.{IsFlawed, IsRefused, largest_file}
 use Rattle.ax_outside.specs.Changes.{LibraryCounts}
 use Rattle.ax_load.specs.Loading.{GivesSpec, IsRefusedFile, StopsAtFile, EachGives, AreNewAfter, HasCategoryTwice, EndsAtFile, by_file, by_category, FilesEnd}
 use Rattle.ax_load.proofs.FilesOnce.{same_tokens, same_spelled, same_octets, spec_given_once, given_stops_for_memory, none_is_none}
@@ -23,27 +23,27 @@ flawed_once octets spec other h k = same_spelled h.tokens k.tokens spec other (s
 
 pub fault_once : (octets : List ℕ) (fault other : SpecFault) → IsRefused octets fault → IsRefused octets other → fault ≡ other
 fault_once octets TooLarge TooLarge h k = refl
-fault_once octets TooLarge (BadByte at) h k = let s : length octets ≤ 1048576 = k.small in absurd (omega arith)
-fault_once octets TooLarge (TooDeep token) h k = let s : length octets ≤ 1048576 = k.small in absurd (omega arith)
-fault_once octets TooLarge (BadToken token) h k = let s : length octets ≤ 1048576 = k.has.small in absurd (omega arith)
-fault_once octets TooLarge (Flawed flaws) h (spec, k, is) = let s : length octets ≤ 1048576 = k.has.small in absurd (omega arith)
-fault_once octets (BadByte at) TooLarge h k = let s : length octets ≤ 1048576 = h.small in absurd (omega arith)
+fault_once octets TooLarge (BadByte at) h k = let s : length octets ≤ largest_file = k.small in absurd (omega arith)
+fault_once octets TooLarge (TooDeep token) h k = let s : length octets ≤ largest_file = k.small in absurd (omega arith)
+fault_once octets TooLarge (BadToken token) h k = let s : length octets ≤ largest_file = k.has.small in absurd (omega arith)
+fault_once octets TooLarge (Flawed flaws) h (spec, k, is) = let s : length octets ≤ largest_file = k.has.small in absurd (omega arith)
+fault_once octets (BadByte at) TooLarge h k = let s : length octets ≤ largest_file = h.small in absurd (omega arith)
 fault_once octets (BadByte at) (BadByte next) h k = ap BadByte (bad_byte_once octets 16 at next h.bad k.bad)
 fault_once octets (BadByte at) (TooDeep token) h k = absurd (one_kind octets 16 at token h.bad k.deep)
 fault_once octets (BadByte at) (BadToken token) h k = absurd (no_bad_byte octets 16 k.tokens at k.has.lexed h.bad)
 fault_once octets (BadByte at) (Flawed flaws) h (spec, k, is) = absurd (no_bad_byte octets 16 k.tokens at k.has.lexed h.bad)
-fault_once octets (TooDeep token) TooLarge h k = let s : length octets ≤ 1048576 = h.small in absurd (omega arith)
+fault_once octets (TooDeep token) TooLarge h k = let s : length octets ≤ largest_file = h.small in absurd (omega arith)
 fault_once octets (TooDeep token) (BadByte at) h k = absurd (one_kind octets 16 at token k.bad h.deep)
 fault_once octets (TooDeep token) (TooDeep next) h k = ap TooDeep (too_deep_once octets 16 token next h.deep k.deep)
 fault_once octets (TooDeep token) (BadToken next) h k = absurd (none_too_deep octets 16 k.tokens token k.has.lexed h.deep)
 fault_once octets (TooDeep token) (Flawed flaws) h (spec, k, is) = absurd (none_too_deep octets 16 k.tokens token k.has.lexed h.deep)
-fault_once octets (BadToken token) TooLarge h k = let s : length octets ≤ 1048576 = h.has.small in absurd (omega arith)
+fault_once octets (BadToken token) TooLarge h k = let s : length octets ≤ largest_file = h.has.small in absurd (omega arith)
 fault_once octets (BadToken token) (BadByte at) h k = absurd (no_bad_byte octets 16 h.tokens at h.has.lexed k.bad)
 fault_once octets (BadToken token) (TooDeep next) h k = absurd (none_too_deep octets 16 h.tokens next h.has.lexed k.deep)
 fault_once octets (BadToken token) (BadToken next) h k =
     ap BadToken (bad_token_once h.tokens token next h.bad (subst (λ ts. NamesBadToken ts next) (same_tokens octets k.tokens h.tokens k.has h.has) k.bad))
 fault_once octets (BadToken token) (Flawed flaws) h (spec, k, is) = absurd (bad_spells_none h.tokens token spec h.bad (subst (λ ts. SpellsSpec ts spec) (same_tokens octets k.tokens h.tokens k.has h.has) k.spelled))
-fault_once octets (Flawed flaws) TooLarge (spec, h, is) k = let s : length octets ≤ 1048576 = h.has.small in absurd (omega arith)
+fault_once octets (Flawed flaws) TooLarge (spec, h, is) k = let s : length octets ≤ largest_file = h.has.small in absurd (omega arith)
 fault_once octets (Flawed flaws) (BadByte at) (spec, h, is) k = absurd (no_bad_byte octets 16 h.tokens at h.has.lexed k.bad)
 fault_once octets (Flawed flaws) (TooDeep token) (spec, h, is) k = absurd (none_too_deep octets 16 h.tokens token h.has.lexed k.deep)
 fault_once octets (Flawed flaws) (BadToken token) (spec, h, is) k = absurd (bad_spells_none k.tokens token spec k.bad (subst (λ ts. SpellsSpec ts spec) (same_tokens octets h.tokens k.tokens h.has k.has) h.spelled))
@@ -57,7 +57,7 @@ exceeds_some None limit h = absurd h
 exceeds_some (Some octets) limit h = (octets, refl, h)
 
 refused_there : (files : List File) (c : LibraryCounts) (name : List ℕ) (fault : SpecFault) → IsRefusedFile (Some files) c name fault → (octets : List ℕ) × (octets_of name files ≡ Some octets) × IsRefused octets fault
-refused_there files c name TooLarge h = exceeds_some (octets_of name files) 1048576 h
+refused_there files c name TooLarge h = exceeds_some (octets_of name files) largest_file h
 refused_there files c name (BadByte at) h = (h.octets, h.holds, h.refused)
 refused_there files c name (TooDeep token) h = (h.octets, h.holds, h.refused)
 refused_there files c name (BadToken token) h = (h.octets, h.holds, h.refused)

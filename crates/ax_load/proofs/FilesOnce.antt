@@ -13,7 +13,7 @@ use Rattle.ax_load.specs.declared.fault.LoadStop.{LoadStop}
 use Rattle.ax_load.specs.declared.fault.LoadStop.TheVariants as LoadStopOf
 use Rattle.ax_load.specs.declared.fault.SpecFault.{SpecFault}
 use Rattle.ax_load.specs.declared.fault.SpecFault.TheVariants.{TooLarge, BadByte, TooDeep, BadToken, Flawed}
-use Rattle.ax_load.specs.FileAnswers.{HasTokens, IsAccepted, IsRefused}
+use Rattle.ax_load.specs.FileAnswers.{HasTokens, IsAccepted, IsRefused, largest_file}
 use Rattle.ax_outside.specs.Changes.{LibraryCounts}
 use Rattle.ax_load.specs.Loading.{GivesSpec, IsRefusedFile, IsRefusedOctets, StopsAtFile, EachGives, AreNewAfter, HasCategoryTwice, EndsAtFile, by_file, by_category, FilesGive, FilesEnd}
 
@@ -29,7 +29,7 @@ pub accepted_once : (octets : List ℕ) (spec other : SpecTree) → IsAccepted o
 accepted_once octets spec other h k = same_spelled h.tokens k.tokens spec other (same_tokens octets h.tokens k.tokens h.has k.has) h.spelled k.spelled
 
 pub accepted_not_refused : (octets : List ℕ) (spec : SpecTree) (fault : SpecFault) → IsAccepted octets spec → IsRefused octets fault → ⊥
-accepted_not_refused octets spec TooLarge h k = let small : length octets ≤ 1048576 = h.has.small in absurd (omega arith)
+accepted_not_refused octets spec TooLarge h k = let small : length octets ≤ largest_file = h.has.small in absurd (omega arith)
 accepted_not_refused octets spec (BadByte at) h k = no_bad_byte octets 16 h.tokens at h.has.lexed k.bad
 accepted_not_refused octets spec (TooDeep token) h k = none_too_deep octets 16 h.tokens token h.has.lexed k.deep
 accepted_not_refused octets spec (BadToken token) h k = bad_spells_none k.tokens token spec k.bad (subst (λ ts. SpellsSpec ts spec) (same_tokens octets h.tokens k.tokens h.has k.has) h.spelled)
@@ -50,8 +50,8 @@ refused_octets_not_given : (files : List File) (name : List ℕ) (spec : SpecTre
 refused_octets_not_given files name spec fault h k =
     accepted_not_refused k.octets spec fault (subst (λ o. IsAccepted o spec) (same_octets files name h.octets k.octets h.holds k.holds) h.accepted) k.refused
 
-given_not_longer : (files : List File) (name octets : List ℕ) → octets_of name files ≡ Some octets → length octets ≤ 1048576 → IsLonger (Some files) name 1048576 → ⊥
-given_not_longer files name octets is small h = let k : Exceeds (Some octets) 1048576 = subst (λ o. Exceeds o 1048576) is h in absurd (omega arith)
+given_not_longer : (files : List File) (name octets : List ℕ) → octets_of name files ≡ Some octets → length octets ≤ largest_file → IsLonger (Some files) name largest_file → ⊥
+given_not_longer files name octets is small h = let k : Exceeds (Some octets) largest_file = subst (λ o. Exceeds o largest_file) is h in absurd (omega arith)
 
 refused_not_given : (files : List File) (c : LibraryCounts) (name : List ℕ) (spec : SpecTree) (fault : SpecFault) → GivesSpec (Some files) name spec → IsRefusedFile (Some files) c name fault → ⊥
 refused_not_given files c name spec TooLarge h k = given_not_longer files name h.octets h.holds h.accepted.has.small k

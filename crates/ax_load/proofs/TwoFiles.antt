@@ -11,6 +11,7 @@ use Rattle.ax_load.specs.declared.fault.LoadStop.{LoadStop}
 use Rattle.ax_load.specs.declared.fault.LoadStop.TheVariants.{SpecRefused, CategoryTwice, LoadFault, OutOfMemory}
 use Rattle.ax_load.specs.declared.fault.SpecFault.{SpecFault}
 use Rattle.ax_load.specs.declared.fault.SpecFault.TheVariants.{TooLarge, BadByte, TooDeep, BadToken, Flawed}
+use Rattle.ax_load.specs.FileAnswers.{largest_file}
 
 -- ---- what a later part of a call licenses, the whole call does
 
@@ -18,7 +19,7 @@ abbrev counts : ℕ → ℕ → ℕ → ℕ → LibraryCounts
 counts faults faults' taken taken' = record { faults = faults; faults' = faults'; taken = taken; taken' = taken' }
 
 module _ (files : Option (List File)) (name : List ℕ) (f f' f'' t t' t'' : ℕ) (rose : f ≤ f') (more : t ≤ t') where
-  many_over : (told : Option (List File)) → TooMany told name 1048576 t' t'' → TooMany told name 1048576 t t''
+  many_over : (told : Option (List File)) → TooMany told name largest_file t' t'' → TooMany told name largest_file t t''
   many_over None h = let a = more in omega arith
   many_over (Some files) h = h
 

@@ -24,7 +24,7 @@ const FILE_METRES: &str =
 const FILE_QUARTERS: &str =
     r#"category 202 edition "H1" items { item 010 "" compound { A element 8 quantity unsigned 2 4 "m" B element 16 raw } } uap { 010 }"#;
 
-// Two items; the same in another order behind a spare slot; and the first alone, behind seven spare slots.
+// Two items; the same in another order after a spare slot; and the first alone, after seven spare slots.
 const FILE_TWO: &str =
     r#"category 203 edition "1" items { item 010 "" element 8 raw item 020 "" extended { part { A element 7 raw } part { B element 7 raw } } } uap { 010 020 }"#;
 

@@ -4,6 +4,7 @@ use Rattle.ax_migrate_views.specs.Blocks.{old_tree, new_tree}
 use Rattle.ax_migrate_views.specs.declared.migrator.Migrator.{Migrator}
 use Rattle.ax_migrate_work.specs.Commands.{migrate_command}
 use Rattle.ax_model.specs.Framing.{RawTree}
+use Rattle.ax_model.specs.Sizes.{longest_block}
 use Rattle.ax_outside.specs.Changes.{SinkChange}
 use Rattle.ax_stream.specs.Taking.{Takes}
 use Rattle.ax_stream.specs.declared.work.WorkStop.{WorkStop}
@@ -11,7 +12,7 @@ use Rattle.ax_stream.specs.declared.work.WorkStop.TheVariants.{OutOfMemory}
 
 -- so many octets are laid
 pub record LaysTaken (m : Migrator) (number : ℕ) (raw : RawTree) (change : SinkChange) (output : List ℕ) (count : ℕ) : Type 0 where
-  pub within : count ≤ 65535
+  pub within : count ≤ longest_block
   pub takes : Takes (migrate_command (old_tree m) (new_tree m)) number raw change (take count output) (Ok tt)
 
 -- whatever is laid, the block isn't written; but never for want of memory

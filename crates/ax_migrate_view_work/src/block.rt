@@ -4,6 +4,7 @@ ghost use Rattle.ax_blocks.specs.Reader.{raw_tree};
 ghost use Rattle.ax_migrate_view_work.specs.Ending.{LaysTaken, StopsAt};
 ghost use Rattle.ax_migrate_views.specs.Blocks.{IsOfEditions, old_tree};
 ghost use Rattle.ax_migrate_views.specs.Losses.{TellsLosses, WritesLosses};
+ghost use Rattle.ax_model.specs.Sizes.{longest_body};
 ghost use Rattle.ax_outside.specs.Changes.{sink_change};
 ghost use Rattle.ax_view.specs.Views.{SpellsSome};
 
@@ -61,7 +62,7 @@ fn report_losses<R: Sink>(
     report: &mut R,
 ) -> Result<(), SinkFailed>
     requires editions { IsOfEditions migrator.now }
-    requires size { (1 ≤ length body.now) × (length body.now ≤ 65532) }
+    requires size { (1 ≤ length body.now) × (length body.now ≤ longest_body) }
     requires spelled { SpellsSome migrator.now.codec.now body.now }
     requires told { TellsLosses migrator.now body.now number told lines.now }
     requires lines_room { length lines.now ≡ 131067 }

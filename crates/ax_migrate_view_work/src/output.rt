@@ -2,13 +2,14 @@
 ghost use Rattle.std.specs.Prelude.{◌≡◌, ◌+◌, ◌*◌, ◌≤◌, length, take, IfOk};
 ghost use Rattle.ax_bits.specs.Bits.{bits, AreOctets};
 ghost use Rattle.ax_model.specs.CanonicalOctets.{framed};
+ghost use Rattle.ax_model.specs.Sizes.{longest_block};
 
 use ax_bits::Out;
 use ax_model::RawBlock;
 use ax_values::write_opaque;
 use std::alloc::{AllocError, Global};
 
-/// The octets of an output: 65,535 that are kept, and behind them room for the longest item.
+/// The octets of an output: 65,535 that are kept, and after them room for the longest item.
 pub(crate) const ROOM: usize = 131_067;
 
 /// So many zeros. They stand in a function of their own, so that no proof spells them out.
@@ -22,7 +23,7 @@ pub(crate) fn zeros(alloc: Global, count: usize) -> Result<Vec<u8>, AllocError>
 pub(crate) fn lay_opaque(raw: &RawBlock<'_>, output: &mut [u8]) -> u32
     requires room { length output.old ≡ 131067 }
     ensures laid { take result output.new ≡ framed raw.now.category raw.now.body.now }
-    ensures within { result ≤ 65535 }
+    ensures within { result ≤ longest_block }
     ensures room { length output.new ≡ 131067 }
 {
     lay_opaque_bits(raw, output);

@@ -2,6 +2,7 @@
 ghost use Rattle.std.specs.Prelude.{◌≡◌, ◌≤◌, length, IfOk};
 ghost use Rattle.ax_migrate_views.specs.Blocks.{IsOfEditions, new_tree, old_tree};
 ghost use Rattle.ax_migrate_work.specs.Commands.{migrate_command};
+ghost use Rattle.ax_model.specs.Sizes.{longest_block};
 
 use crate::block::migrate_block;
 use crate::output::{ROOM, lay_opaque, zeros};
@@ -21,7 +22,7 @@ pub struct MigrateViews<'m, 'c> {
     filled: u32,
     ghost room: { length output.items ≡ 131067 },
     ghost lines_room: { length lines.items ≡ 131067 },
-    ghost within: { filled ≤ 65535 },
+    ghost within: { filled ≤ longest_block },
 }
 
 impl<'m, 'c> MigrateViews<'m, 'c> {

@@ -2,7 +2,7 @@
 use Rattle.std.proofs.Common.{◌≡◌, ℕ, zero, suc, true, List, [], ◌∷◌, map, option_map, refl, sym, ◌∙◌, ap}
 use Rattle.ax_edition_laws.proofs.SameKinds.{same_kinds}
 use Rattle.ax_model.specs.Canonical.{canon}
-use Rattle.ax_model.specs.Lengths.{kind_behind}
+use Rattle.ax_model.specs.Lengths.{kind_after}
 use Rattle.ax_model.specs.Same.{emptied_fixed, emptied_members, emptied, emptied_slots, is_same}
 use Rattle.ax_model.specs.Tree.{FixedTree, element, group, MembersTree, no_members, member_and, named, spare, KindTree, fixed, extended, counted, by_fx, explicit, compound, SlotsTree, no_slots, slot_and, spare_slot, subitem, ValueTree}
 use Rattle.ax_model.specs.declared.content.Content.TheVariants.{Raw}
@@ -43,9 +43,9 @@ same_canon k l v e =
     let bare : bare_kind k ≡ bare_kind l = sym (kind_emptied k) ∙ ap bare_kind (same_kinds k l e) ∙ kind_emptied l in
     ap (λ x. canon x v) bare ∙ bare_canon l v
 
-pub bare_behind : (i : ℕ) (ss : SlotsTree) → kind_behind i (bare_slots ss) ≡ option_map bare_kind (kind_behind i ss)
-bare_behind i no_slots = refl
-bare_behind zero (slot_and spare_slot ss) = refl
-bare_behind zero (slot_and (subitem name k) ss) = refl
-bare_behind (suc i) (slot_and spare_slot ss) = bare_behind i ss
-bare_behind (suc i) (slot_and (subitem name k) ss) = bare_behind i ss
+pub bare_after : (i : ℕ) (ss : SlotsTree) → kind_after i (bare_slots ss) ≡ option_map bare_kind (kind_after i ss)
+bare_after i no_slots = refl
+bare_after zero (slot_and spare_slot ss) = refl
+bare_after zero (slot_and (subitem name k) ss) = refl
+bare_after (suc i) (slot_and spare_slot ss) = bare_after i ss
+bare_after (suc i) (slot_and (subitem name k) ss) = bare_after i ss

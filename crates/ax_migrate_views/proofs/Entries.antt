@@ -11,7 +11,7 @@ use Rattle.ax_migrate_views.specs.Wholes.{slots_in}
 use Rattle.ax_model.proofs.Namings.{from_place}
 use Rattle.ax_model.specs.At.{slot_value}
 use Rattle.ax_model.specs.Canonical.{canon}
-use Rattle.ax_model.specs.Lengths.{kind_behind}
+use Rattle.ax_model.specs.Lengths.{kind_after}
 use Rattle.ax_model.specs.Tree.{KindTree, SlotsTree, ValueTree, marked, EntriesTree}
 use Rattle.ax_fspec.specs.declared.mask.SlotMask.{SlotMask}
 use Rattle.ax_reader.specs.Reading.{kind_read}
@@ -81,8 +81,8 @@ move_is m = fold_out-Move MoveTree move_step m
 
 pub nothing_moves : (m : Move) (ss : SlotsTree) (es : EntriesTree) → slot_value (out-Move m).old es ≡ None → move_canon (move_tree m) ss es ≡ []
 nothing_moves m ss es e =
-    ap (λ t. move_canon t ss es) (move_is m) ∙ ap (λ o. spelled_where (kind_behind ((out-Move m).old - 1) ss) o (canon_by (moves_tree (out-Move m).below))) e
-    ∙ nothing_there (kind_behind ((out-Move m).old - 1) ss) (canon_by (moves_tree (out-Move m).below))
+    ap (λ t. move_canon t ss es) (move_is m) ∙ ap (λ o. spelled_where (kind_after ((out-Move m).old - 1) ss) o (canon_by (moves_tree (out-Move m).below))) e
+    ∙ nothing_there (kind_after ((out-Move m).old - 1) ss) (canon_by (moves_tree (out-Move m).below))
 
 pub nothing_laid : (b : List ℕ) (at : ℕ) (output : List ℕ) → b ≡ [] → at < 4294967296 → Lays b at at output output
 nothing_laid b at output e few = subst (λ b. Lays b at at output output) (sym e) (lays_none at output (omega arith))

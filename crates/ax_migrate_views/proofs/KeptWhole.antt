@@ -3,16 +3,16 @@ use Rattle.std.proofs.Common.{◌≡◌, ℕ, zero, suc, ◌+◌, ◌-◌, ◌<�
 use Rattle.ax_edition.specs.Moves.{MoveTree, move_from, MovesTree, no_moves, move_and}
 use Rattle.ax_edition_laws.proofs.NamedOnce.{front_of, front_value, front_later}
 use Rattle.ax_edition_laws.specs.Moved.{entry_where}
-use Rattle.ax_fspec.proofs.FieldLaws.{least_field_of, none_further, none_behind_none}
+use Rattle.ax_fspec.proofs.FieldLaws.{least_field_of, none_further, none_after_none}
 use Rattle.ax_fspec.specs.Fields.{least_field}
 use Rattle.ax_fspec.specs.Marks.{no_marks}
 use Rattle.ax_migrate_views.proofs.MovedCanon.{canon_where, front_canon}
-use Rattle.ax_migrate_views.proofs.MovedMarks.{Marked, skips, marks, with_size, with_behind, unmarked, slot_marked, size_none}
+use Rattle.ax_migrate_views.proofs.MovedMarks.{Marked, skips, marks, with_size, with_following, unmarked, slot_marked, size_none}
 use Rattle.ax_migrate_views.specs.Keeping.{IsLeaf, KeepsAll}
 use Rattle.ax_migrate_views.specs.Octets.{with_slot, with_slot_where, marks_by, spelled_where, canon_by, entries_canon_by}
 use Rattle.ax_model.specs.At.{slot_value}
 use Rattle.ax_model.specs.Canonical.{canon, marks_of, entries_canon}
-use Rattle.ax_model.specs.Lengths.{kind_behind}
+use Rattle.ax_model.specs.Lengths.{kind_after}
 use Rattle.ax_model.specs.Presence.{octets_needed, none_marked, least_presence}
 use Rattle.ax_model.specs.Shape.{EntriesShape}
 use Rattle.ax_model.specs.Tree.{KindTree, fixed, extended, counted, by_fx, explicit, compound, SlotsTree, no_slots, slot_and, spare_slot, subitem, slot_count, ValueTree, marked, EntriesTree}
@@ -31,18 +31,18 @@ one_canon below k (Some v) h = leaf_canon below k v h
 
 -- the entries from slot t on
 pub entries_stay : (t : ℕ) (ss all : SlotsTree) (ms : MovesTree) (whole es : EntriesTree) → KeepsAll t ss ms → EntriesShape t ss es → ((u : ℕ) → t ≤ u → slot_value u whole ≡ slot_value u es) → 1 ≤ t
-    → ((i : ℕ) → kind_behind (t - 1 + i) all ≡ kind_behind i ss) → entries_canon_by ms all whole ≡ entries_canon t ss es
+    → ((i : ℕ) → kind_after (t - 1 + i) all ≡ kind_after i ss) → entries_canon_by ms all whole ≡ entries_canon t ss es
 entries_stay t no_slots all no_moves whole es h shape values some kinds = refl
 entries_stay t no_slots all (move_and m ms) whole es h shape values some kinds = absurd h
 entries_stay t (slot_and spare_slot ss) all ms whole es h shape values some kinds =
-    entries_stay (t + 1) ss all ms whole es h shape (λ u le. values u (omega arith)) (omega arith) (λ i. ap (λ k. kind_behind k all) (let e : t + 1 - 1 + i ≡ t - 1 + suc i = omega arith in e) ∙ kinds (suc i))
+    entries_stay (t + 1) ss all ms whole es h shape (λ u le. values u (omega arith)) (omega arith) (λ i. ap (λ k. kind_after k all) (let e : t + 1 - 1 + i ≡ t - 1 + suc i = omega arith in e) ∙ kinds (suc i))
 entries_stay t (slot_and (subitem name k) ss) all no_moves whole es h shape values some kinds = absurd h
 entries_stay t (slot_and (subitem name k) ss) all (move_and (move_from s u below) ms) whole es h shape values some kinds =
     let f = front_of t name k ss es shape in
-    let kind : kind_behind (s - 1) all ≡ Some k = ap (λ x. kind_behind x all) (let e : s - 1 ≡ t - 1 + 0 = (let g = h.0.0 in omega arith) in e) ∙ kinds 0 in
+    let kind : kind_after (s - 1) all ≡ Some k = ap (λ x. kind_after x all) (let e : s - 1 ≡ t - 1 + 0 = (let g = h.0.0 in omega arith) in e) ∙ kinds 0 in
     let value : slot_value s whole ≡ f.here = ap (λ x. slot_value x whole) h.0.0 ∙ values t (omega arith) ∙ front_value t k ss es f in
     let later = entries_stay (t + 1) ss all ms whole f.rest h.1 f.later (λ u le. values u (omega arith) ∙ front_later t k ss es f u (omega arith)) (omega arith)
-    (λ i. ap (λ x. kind_behind x all) (let e : t + 1 - 1 + i ≡ t - 1 + suc i = omega arith in e) ∙ kinds (suc i)) in
+    (λ i. ap (λ x. kind_after x all) (let e : t + 1 - 1 + i ≡ t - 1 + suc i = omega arith in e) ∙ kinds (suc i)) in
     (λ i. spelled_where (kind i) (value i) (canon_by below) ++ later i) ∙ ap (λ x. x ++ entries_canon (t + 1) ss f.rest) (one_canon below k f.here h.0.2)
     ∙ sym (front_canon t name k ss f.here f.rest f.later) ∙ ap (entries_canon t (slot_and (subitem name k) ss)) (sym f.is)
 
@@ -51,7 +51,7 @@ pub marks_stay : (t : ℕ) (ss : SlotsTree) (ms : MovesTree) (whole es : Entries
 marks_stay t no_slots no_moves whole es before h shape values some few size none = record {
   size = size;
   front = ap (λ k. take k before) (let e : t - 1 + 0 ≡ t - 1 = omega arith in e) ∙ sym (append-nil (take (t - 1) before));
-  behind = subst (λ k. IsTrue (none_marked (drop k before))) (let e : t - 1 ≡ t - 1 + 0 = omega arith in e) none;
+  following = subst (λ k. IsTrue (none_marked (drop k before))) (let e : t - 1 ≡ t - 1 + 0 = omega arith in e) none;
 }
 marks_stay t no_slots (move_and m ms) whole es before h shape values some few size none = absurd h
 marks_stay t (slot_and spare_slot ss) ms whole es before h shape values some few size none =
@@ -74,14 +74,14 @@ marks_stay t (slot_and (subitem name k) ss) (move_and (move_from s u below) ms) 
     by_here None rest later g = subst (λ x. Marked t (suc (slot_count ss)) before x (marks_by ms whole before)) (sym (unmarked t name k ss rest later))
         (skips t (slot_count ss) before (marks_of (t + 1) ss rest) (marks_by ms whole before) some (omega arith) size none (g before size (none_further (t - 1) (t + 1 - 1) before (omega arith) none)))
     by_here (Some v) rest later g = subst (λ x. Marked t (suc (slot_count ss)) before x (marks_by ms whole (with_slot t before))) (sym (slot_marked t name k ss v rest))
-        (marks t (slot_count ss) before (marks_of (t + 1) ss rest) (marks_by ms whole (with_slot t before)) some (omega arith) size (g (with_slot t before) (with_size t before some (omega arith) size) (with_behind t before some (omega arith) none)))
+        (marks t (slot_count ss) before (marks_of (t + 1) ss rest) (marks_by ms whole (with_slot t before)) some (omega arith) size (g (with_slot t before) (with_size t before some (omega arith) size) (with_following t before some (omega arith) none)))
 
 pub whole_stays : (ss : SlotsTree) (ms : MovesTree) (es : EntriesTree) → KeepsAll 1 ss ms → EntriesShape 1 ss es → 1 ≤ slot_count ss → slot_count ss ≤ 126 → canon_by ms (compound ss) (marked es) ≡ canon (compound ss) (marked es)
 whole_stays ss ms es h shape some few =
-    let m = marks_stay 1 ss ms es es no_marks h shape (λ u le. refl) (omega arith) (omega arith) size_none (none_behind_none 0) in
+    let m = marks_stay 1 ss ms es es no_marks h shape (λ u le. refl) (omega arith) (omega arith) size_none (none_after_none 0) in
     let made = marks_by ms es no_marks in
     let n : 1 - 1 + slot_count ss ≡ slot_count ss = omega arith in
     let field : least_field made ≡ least_presence (octets_needed (slot_count ss)) (marks_of 1 ss es) =
-    least_field_of (slot_count ss) made some few (subst (λ k. IsTrue (none_marked (drop k made))) n m.behind) ∙ ap (least_presence (octets_needed (slot_count ss))) (ap (λ k. take k made) (sym n) ∙ m.front) in
-    let entries = entries_stay 1 ss ss ms es es h shape (λ u le. refl) (omega arith) (λ i. ap (λ x. kind_behind x ss) (let e : 1 - 1 + i ≡ i = omega arith in e)) in
+    least_field_of (slot_count ss) made some few (subst (λ k. IsTrue (none_marked (drop k made))) n m.following) ∙ ap (least_presence (octets_needed (slot_count ss))) (ap (λ k. take k made) (sym n) ∙ m.front) in
+    let entries = entries_stay 1 ss ss ms es es h shape (λ u le. refl) (omega arith) (λ i. ap (λ x. kind_after x ss) (let e : 1 - 1 + i ≡ i = omega arith in e)) in
     λ i. field i ++ entries i

@@ -41,8 +41,8 @@ len_bits : (n : ℕ) → word 8 (n / 256 % 256) ++ word 8 (n % 256) ≡ word 16 
 len_bits n = (λ i. word-low 8 (n / 2 ^ 8) i ++ word-low 8 n i) ∙ sym (word-split 8 8 n)
 
 -- the bits after the first three octets
-behind_head : (b old now : List ℕ) (m : ℕ) → 3 ≤ length old → take (8 * (3 + m)) (bits now) ≡ take 24 (bits old) ++ b → bits (drop 3 (take (3 + m) now)) ≡ b
-behind_head b old now m long e =
+after_head : (b old now : List ℕ) (m : ℕ) → 3 ≤ length old → take (8 * (3 + m)) (bits now) ≡ take 24 (bits old) ++ b → bits (drop 3 (take (3 + m) now)) ≡ b
+after_head b old now m long e =
     sym (drop-bits 3 (take (3 + m) now)) ∙ ap (drop 24) (sym (take-bits (3 + m) now) ∙ e)
     ∙ drop_at (take 24 (bits old)) b 24 (length-take-le 24 (bits old) (omega (arith, length-bits old)))
 
@@ -119,7 +119,7 @@ module _ (old new : SpecTree) (records : List EntriesTree) (body : List ℕ) (cl
         counted = count ∙ sym whole;
         laid = λ short. (
             let front : take (8 * (3 + m)) (bits now) ≡ take 24 (bits before) ++ b = ap (λ k. take (8 * k) (bits now)) (sym count) ∙ l.laid short in
-            let written : bits (take n final) ≡ (word 8 old.category ++ word 16 n) ++ b = ap (λ x. bits (take n x)) is ∙ headed old.category n m b now count long_now (behind_head b before now m long front) in
+            let written : bits (take n final) ≡ (word 8 old.category ++ word 16 n) ++ b = ap (λ x. bits (take n x)) is ∙ headed old.category n m b now count long_now (after_head b before now m long front) in
             let wanted : bits (framed old.category (octets_of b)) ≡ (word 8 old.category ++ word 16 n) ++ b = framed_bits old.category m b l.size bit ∙ ap (λ k. (word 8 old.category ++ word 16 k) ++ b) (let e : m + 3 ≡ n = omega arith in e) in
             bits-injective (take n final) (framed old.category (octets_of b)) (octets_front n final octets) (framed_octets old.category (octets_of b) cat (body_octets new (map (moved_record old new) records) new_clean some_made (moved_shapes old new records shapes))) (written ∙ sym wanted));
       }

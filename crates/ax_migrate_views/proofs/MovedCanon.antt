@@ -6,7 +6,7 @@ use Rattle.ax_edition_laws.proofs.Lookups.{equal, less}
 use Rattle.ax_edition_laws.proofs.MovedNamed.{new_value}
 use Rattle.ax_edition_laws.proofs.MovedShape.{entries_from, entries_moved, slot_shape}
 use Rattle.ax_edition_laws.specs.Moved.{entry_where, moved, moved_entries, moved_record}
-use Rattle.ax_migrate_views.proofs.BareSame.{same_canon, bare_behind}
+use Rattle.ax_migrate_views.proofs.BareSame.{same_canon, bare_after}
 use Rattle.ax_migrate_views.proofs.MovedMarks.{moved_field}
 use Rattle.ax_migrate_views.proofs.OneSlot.{Moves, Stays, slot_cases, named_kind}
 use Rattle.ax_migrate_views.specs.Octets.{spelled_where, canon_by, entries_canon_by}
@@ -16,7 +16,7 @@ use Rattle.ax_model.specs.Bodies.{RecordShape}
 use Rattle.ax_model.specs.Canonical.{canon, entries_canon}
 use Rattle.ax_model.specs.Flaws.{NoFlaw}
 use Rattle.ax_model.specs.InBounds.{InBounds, SlotsInBounds}
-use Rattle.ax_model.specs.Lengths.{kind_behind}
+use Rattle.ax_model.specs.Lengths.{kind_after}
 use Rattle.ax_model.specs.Naming.{slot_named}
 use Rattle.ax_model.specs.Shape.{Shape, EntriesShape}
 use Rattle.ax_model.specs.Shared.{is_shared_kind}
@@ -72,7 +72,7 @@ mutual
       by_case : Moves t name l ss es ⊎ Stays t name l ss es → Later → Below
           → entries_canon_by (moves_from (move_where t l (slot_named 1 name ss) (moves_below l) ++ moves_of (t + 1) ts rule)) (bare_slots ss) es ≡ canon_where l (new_value name l ss es) ++ entries_canon (t + 1) ts (moved_entries (t + 1) ts ss es)
       by_case (inl m) later below =
-          let kind : kind_behind (m.old - 1) (bare_slots ss) ≡ Some (bare_kind m.kind) = bare_behind (m.old - 1) ss ∙ ap (option_map bare_kind) (named_kind 1 name ss m.old m.kind m.found) in
+          let kind : kind_after (m.old - 1) (bare_slots ss) ≡ Some (bare_kind m.kind) = bare_after (m.old - 1) ss ∙ ap (option_map bare_kind) (named_kind 1 name ss m.old m.kind m.found) in
           let here = ap (λ o. spelled_where o (slot_value m.old es) (canon_by (moves_from (moves_below l m.kind)))) kind ∙ by_value below m.old m.kind (slot_value m.old es) m.found m.shared refl ∙ ap (canon_where l) (sym m.value) in
           ap (λ x. entries_canon_by (moves_from (x ++ moves_of (t + 1) ts rule)) (bare_slots ss) es) m.move ∙ (λ i. here i ++ later i)
       by_case (inr s) later below =

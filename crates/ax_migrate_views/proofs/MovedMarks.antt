@@ -8,7 +8,7 @@ use Rattle.ax_edition_laws.proofs.Lookups.{equal, less}
 use Rattle.ax_edition_laws.proofs.MovedNamed.{new_value}
 use Rattle.ax_edition_laws.proofs.MovedShape.{entries_from, entries_moved}
 use Rattle.ax_edition_laws.specs.Moved.{entry_where, moved, moved_entries}
-use Rattle.ax_fspec.proofs.FieldLaws.{least_field_of, none_further, none_behind_none}
+use Rattle.ax_fspec.proofs.FieldLaws.{least_field_of, none_further, none_after_none}
 use Rattle.ax_fspec.specs.Fields.{least_field}
 use Rattle.ax_fspec.specs.Marks.{no_marks}
 use Rattle.ax_migrate_views.proofs.OneSlot.{Moves, Stays, slot_cases}
@@ -44,7 +44,7 @@ one_zero (suc n) (m ∷ ms) h lt = ap (λ x. m ∷ x) (one_zero n ms h (omega ar
 pub record Marked (t n : ℕ) (before later made : List ℕ) : Type 0 where
   pub size : length made ≡ 126
   pub front : take (t - 1 + n) made ≡ take (t - 1) before ++ later
-  pub behind : IsTrue (none_marked (drop (t - 1 + n) made))
+  pub following : IsTrue (none_marked (drop (t - 1 + n) made))
 
 -- a slot that isn't marked, and the others
 pub skips : (t n : ℕ) (before later made : List ℕ) → 1 ≤ t → t ≤ 126 → length before ≡ 126 → IsTrue (none_marked (drop (t - 1) before)) → Marked (t + 1) n before later made → Marked t (suc n) before (0 ∷ later) made
@@ -53,7 +53,7 @@ skips t n before later made some few size none m =
     let j : t + 1 - 1 ≡ suc (t - 1) = omega arith in record {
       size = m.size;
       front = ap (λ k. take k made) i ∙ m.front ∙ ap (λ x. x ++ later) (ap (λ k. take k before) j ∙ one_zero (t - 1) before none (omega (arith, size))) ∙ append_assoc (take (t - 1) before) (0 ∷ []) later;
-      behind = subst (λ k. IsTrue (none_marked (drop k made))) (sym i) m.behind;
+      following = subst (λ k. IsTrue (none_marked (drop k made))) (sym i) m.following;
     }
 
 -- one that is
@@ -65,14 +65,14 @@ marks t n before later made some few size m =
       front = ap (λ k. take k made) i ∙ m.front
           ∙ ap (λ x. x ++ later) ((λ p. take (j p) (set_with t before some few p)) ∙ take_more_set before (t - 1) 1 (omega (arith, size)))
           ∙ append_assoc (take (t - 1) before) (1 ∷ []) later;
-      behind = subst (λ k. IsTrue (none_marked (drop k made))) (sym i) m.behind;
+      following = subst (λ k. IsTrue (none_marked (drop k made))) (sym i) m.following;
     }
 
 pub with_size : (t : ℕ) (before : List ℕ) → 1 ≤ t → t ≤ 126 → length before ≡ 126 → length (with_slot t before) ≡ 126
 with_size t before some few size = ap length (set_with t before some few) ∙ length-set before (t - 1) 1 ∙ size
 
-pub with_behind : (t : ℕ) (before : List ℕ) → 1 ≤ t → t ≤ 126 → IsTrue (none_marked (drop (t - 1) before)) → IsTrue (none_marked (drop (t + 1 - 1) (with_slot t before)))
-with_behind t before some few none =
+pub with_following : (t : ℕ) (before : List ℕ) → 1 ≤ t → t ≤ 126 → IsTrue (none_marked (drop (t - 1) before)) → IsTrue (none_marked (drop (t + 1 - 1) (with_slot t before)))
+with_following t before some few none =
     ap (λ x. none_marked (drop (t + 1 - 1) x)) (set_with t before some few) ∙ ap none_marked (drop-set-lt (t + 1 - 1) before (t - 1) 1 (omega arith)) ∙ none_further (t - 1) (t + 1 - 1) before (omega arith) none
 
 pub moves_mark : (t : ℕ) (ts ss : SlotsTree) (es : EntriesTree) (before : List ℕ) → EntriesShape 1 ss es → 1 ≤ t → t - 1 + slot_count ts ≤ 126 → length before ≡ 126 → IsTrue (none_marked (drop (t - 1) before))
@@ -80,7 +80,7 @@ pub moves_mark : (t : ℕ) (ts ss : SlotsTree) (es : EntriesTree) (before : List
 moves_mark t no_slots ss es before h some few size none = record {
   size = size;
   front = ap (λ k. take k before) (let e : t - 1 + 0 ≡ t - 1 = omega arith in e) ∙ sym (append-nil (take (t - 1) before));
-  behind = subst (λ k. IsTrue (none_marked (drop k before))) (let e : t - 1 ≡ t - 1 + 0 = omega arith in e) none;
+  following = subst (λ k. IsTrue (none_marked (drop k before))) (let e : t - 1 ≡ t - 1 + 0 = omega arith in e) none;
 }
 moves_mark t (slot_and spare_slot ts) ss es before h some few size none =
     skips t (slot_count ts) before (marks_of (t + 1) ts (moved_entries (t + 1) ts ss es)) (marks_by (moves_from (moves_of (t + 1) ts (λ name. slot_below name (compound ss)))) es before) some (omega arith) size none
@@ -111,7 +111,7 @@ moves_mark t (slot_and (subitem name l) ts) ss es before h some few size none =
 
     a_value : Later → (v : ValueTree) → Goal (Some v) (later (with_slot t before))
     a_value g v = subst (λ x. Marked t (suc (slot_count ts)) before x (later (with_slot t before))) (sym (slot_marked t name l ts v rest))
-        (marks t (slot_count ts) before (marks_of (t + 1) ts rest) (later (with_slot t before)) some (omega arith) size (g (with_slot t before) (with_size t before some (omega arith) size) (with_behind t before some (omega arith) none)))
+        (marks t (slot_count ts) before (marks_of (t + 1) ts rest) (later (with_slot t before)) some (omega arith) size (g (with_slot t before) (with_size t before some (omega arith) size) (with_following t before some (omega arith) none)))
 
     by_value : Later → (k : KindTree) (o : Option ValueTree) → Goal (option_map (moved l k) o) (later (with_slot_where o t before))
     by_value g k None = no_value g
@@ -136,7 +136,7 @@ pub moved_field : (ts ss : SlotsTree) (es : EntriesTree) → EntriesShape 1 ss e
     → least_field (marks_by (moves_from (moves_of 1 ts (λ name. slot_below name (compound ss)))) es no_marks) ≡ least_presence (octets_needed (slot_count ts)) (marks_of 1 ts (moved_entries 1 ts ss es))
 moved_field ts ss es h some few =
     let made = marks_by (moves_from (moves_of 1 ts (λ name. slot_below name (compound ss)))) es no_marks in
-    let m = moves_mark 1 ts ss es no_marks h (omega arith) (omega arith) size_none (none_behind_none 0) in
+    let m = moves_mark 1 ts ss es no_marks h (omega arith) (omega arith) size_none (none_after_none 0) in
     let n : 1 - 1 + slot_count ts ≡ slot_count ts = omega arith in
-    least_field_of (slot_count ts) made some few (subst (λ k. IsTrue (none_marked (drop k made))) n m.behind)
+    least_field_of (slot_count ts) made some few (subst (λ k. IsTrue (none_marked (drop k made))) n m.following)
     ∙ ap (least_presence (octets_needed (slot_count ts))) (ap (λ k. take k made) (sym n) ∙ m.front)

@@ -5,7 +5,7 @@ use Rattle.ax_edition_laws.proofs.Lookups.{found_is, named_from}
 use Rattle.ax_edition_laws.proofs.MovedNamed.{source_value, new_value}
 use Rattle.ax_edition_laws.specs.Moved.{moved}
 use Rattle.ax_model.specs.At.{slot_value}
-use Rattle.ax_model.specs.Lengths.{kind_behind}
+use Rattle.ax_model.specs.Lengths.{kind_after}
 use Rattle.ax_model.specs.Naming.{found_or, slot_named}
 use Rattle.ax_model.specs.Shared.{is_shared_kind}
 use Rattle.ax_model.specs.Tree.{KindTree, SlotsTree, no_slots, slot_and, spare_slot, subitem, EntriesTree}
@@ -45,18 +45,18 @@ slot_cases t name l ss es = by_found (slot_named 1 name ss) refl
     by_found (Some s) found = by_shared s (is_shared_kind s.1 l) found refl
 
 -- the slot of a name has its kind
-pub named_kind : (n : ℕ) (name : List ℕ) (ss : SlotsTree) (s : ℕ) (k : KindTree) → slot_named n name ss ≡ Some (s, k) → kind_behind (s - n) ss ≡ Some k
+pub named_kind : (n : ℕ) (name : List ℕ) (ss : SlotsTree) (s : ℕ) (k : KindTree) → slot_named n name ss ≡ Some (s, k) → kind_after (s - n) ss ≡ Some k
 named_kind n name no_slots s k e = cc
 named_kind n name (slot_and spare_slot ss) s k e =
     let le = named_from (n + 1) name ss s k e in
-    let i : s - n ≡ suc (s - (n + 1)) = omega arith in ap (λ i. kind_behind i (slot_and spare_slot ss)) i ∙ named_kind (n + 1) name ss s k e
+    let i : s - n ≡ suc (s - (n + 1)) = omega arith in ap (λ i. kind_after i (slot_and spare_slot ss)) i ∙ named_kind (n + 1) name ss s k e
 named_kind n name (slot_and (subitem own l) ss) s k e = by (bytes_eq own name) e (λ f. named_kind (n + 1) name ss s k f)
   where
-    by : (b : Bool) → found_or (cond b (Some l) None) n (slot_named (n + 1) name ss) ≡ Some (s, k) → (slot_named (n + 1) name ss ≡ Some (s, k) → kind_behind (s - (n + 1)) ss ≡ Some k)
-        → kind_behind (s - n) (slot_and (subitem own l) ss) ≡ Some k
+    by : (b : Bool) → found_or (cond b (Some l) None) n (slot_named (n + 1) name ss) ≡ Some (s, k) → (slot_named (n + 1) name ss ≡ Some (s, k) → kind_after (s - (n + 1)) ss ≡ Some k)
+        → kind_after (s - n) (slot_and (subitem own l) ss) ≡ Some k
     by true e later =
         let f = found_is (n, l) (s, k) e in
-        let i : s - n ≡ 0 = let g = f.0 in omega arith in ap (λ i. kind_behind i (slot_and (subitem own l) ss)) i ∙ ap (λ x. Some x) f.1
+        let i : s - n ≡ 0 = let g = f.0 in omega arith in ap (λ i. kind_after i (slot_and (subitem own l) ss)) i ∙ ap (λ x. Some x) f.1
     by false e later =
         let le = named_from (n + 1) name ss s k e in
-        let i : s - n ≡ suc (s - (n + 1)) = omega arith in ap (λ i. kind_behind i (slot_and (subitem own l) ss)) i ∙ later e
+        let i : s - n ≡ suc (s - (n + 1)) = omega arith in ap (λ i. kind_after i (slot_and (subitem own l) ss)) i ∙ later e

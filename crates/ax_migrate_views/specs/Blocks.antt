@@ -9,6 +9,7 @@ use Rattle.ax_model.specs.Blocks.{read_block}
 use Rattle.ax_model.specs.Bodies.{SpellsBody}
 use Rattle.ax_model.specs.CanonicalOctets.{canon_block, canon_length}
 use Rattle.ax_model.specs.Plain.{spec_tree}
+use Rattle.ax_model.specs.Sizes.{longest_block}
 use Rattle.ax_model.specs.Specification.{SpecTree}
 use Rattle.ax_model.specs.Tree.{EntriesTree}
 use Rattle.ax_tables.specs.Standing.{IsCompiled}
@@ -33,7 +34,7 @@ pub record IsOfEditions (m : Migrator) : Type 0 where
 -- have as many
 pub record IsMigratedBlock (old new : SpecTree) (records : List EntriesTree) (count : ℕ) (output : List ℕ) : Type 0 where
   pub counted : count ≡ canon_length new (migrated_block old new (read_block old.category records))
-  pub laid : count ≤ 65535 → take count output ≡ canon_block new (migrated_block old new (read_block old.category records))
+  pub laid : count ≤ longest_block → take count output ≡ canon_block new (migrated_block old new (read_block old.category records))
 
 -- that of the records that the body spells
 pub record LaysMigrated (m : Migrator) (body : List ℕ) (count : ℕ) (output : List ℕ) : Type 0 where

@@ -8,6 +8,7 @@ use Rattle.ax_migrate.specs.declared.losing.LossEntry.{LossEntry}
 use Rattle.ax_migrate_views.specs.Blocks.{old_tree, new_tree}
 use Rattle.ax_migrate_views.specs.declared.migrator.Migrator.{Migrator}
 use Rattle.ax_model.specs.Bodies.{SpellsBody}
+use Rattle.ax_model.specs.Sizes.{longest_block}
 use Rattle.ax_model.specs.Tree.{EntriesTree}
 use Rattle.ax_outside.specs.Changes.{SinkChange, Wrote}
 use Rattle.ax_outside.specs.declared.sinks.SinkFailed.{SinkFailed}
@@ -30,4 +31,4 @@ pub record WritesLosses (m : Migrator) (body : List ℕ) (block : ℕ) (change :
 
 -- where n octets can be kept, they are the lines of the losses of the records that the body spells
 pub record TellsLosses (m : Migrator) (body : List ℕ) (block n : ℕ) (lines : List ℕ) : Type 0 where
-  pub told : (records : List EntriesTree) → SpellsBody (old_tree m) records (bits body) → n ≤ 65535 → take n lines ≡ lost_lines block (losses_from (old_tree m) (new_tree m) 0 records)
+  pub told : (records : List EntriesTree) → SpellsBody (old_tree m) records (bits body) → n ≤ longest_block → take n lines ≡ lost_lines block (losses_from (old_tree m) (new_tree m) 0 records)

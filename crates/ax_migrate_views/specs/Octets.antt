@@ -6,7 +6,7 @@ use Rattle.ax_fspec.specs.Fields.{least_field}
 use Rattle.ax_fspec.specs.Marks.{no_marks}
 use Rattle.ax_model.specs.At.{slot_value}
 use Rattle.ax_model.specs.Canonical.{canon}
-use Rattle.ax_model.specs.Lengths.{kind_behind}
+use Rattle.ax_model.specs.Lengths.{kind_after}
 use Rattle.ax_model.specs.Tree.{KindTree, compound, SlotsTree, ValueTree, marked, EntriesTree}
 
 -- ---- presence fields
@@ -44,7 +44,7 @@ compound_canon field rule k v = canon k v
 abbrev pub entries_canon_by : MovesTree → SlotsTree → EntriesTree → List ℕ
 entries_canon_by no_moves ss es = []
 entries_canon_by (move_and (move_from s t below) ms) ss es =
-    spelled_where (kind_behind (s - 1) ss) (slot_value s es) (compound_canon (field_by below) (entries_canon_by below)) ++ entries_canon_by ms ss es
+    spelled_where (kind_after (s - 1) ss) (slot_value s es) (compound_canon (field_by below) (entries_canon_by below)) ++ entries_canon_by ms ss es
 
 -- a value of an old kind as it moves
 abbrev pub canon_by : MovesTree → KindTree → ValueTree → List ℕ
@@ -52,7 +52,7 @@ canon_by ms k v = compound_canon (field_by ms) (entries_canon_by ms) k v
 
 -- the entry that a move makes, if there is one
 abbrev pub move_canon : MoveTree → SlotsTree → EntriesTree → List ℕ
-move_canon (move_from s t below) ss es = spelled_where (kind_behind (s - 1) ss) (slot_value s es) (canon_by below)
+move_canon (move_from s t below) ss es = spelled_where (kind_after (s - 1) ss) (slot_value s es) (canon_by below)
 
 abbrev pub move_marks : MoveTree → EntriesTree → List ℕ → List ℕ
 move_marks (move_from s t below) es marks = with_slot_where (slot_value s es) t marks

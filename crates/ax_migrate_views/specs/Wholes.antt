@@ -1,6 +1,6 @@
 -- A record or a compound, and what stands in its slots.
 use Rattle.std.specs.Prelude.{◌≡◌, ℕ, ◌-◌, false, Some}
-use Rattle.ax_model.specs.Lengths.{kind_behind}
+use Rattle.ax_model.specs.Lengths.{kind_after}
 use Rattle.ax_model.specs.Tree.{KindTree, compound, SlotsTree, no_slots, EntriesTree}
 use Rattle.ax_tables.specs.Table.{record_kind_at}
 use Rattle.ax_tables.specs.declared.codec.Codec.{Codec}
@@ -25,5 +25,5 @@ whole_entries w = placed_entries w
 -- the item is of that slot, under the same codec
 pub record IsInSlot (w : PlacedSlots) (slot : ℕ) (item : ItemView) : Type 0 where
   pub codec_is : item.codec.now ≡ whole_codec w
-  pub kind_is : kind_behind (slot - 1) (whole_slots w) ≡ Some (item_kind item)
+  pub kind_is : kind_after (slot - 1) (whole_slots w) ≡ Some (item_kind item)
   pub one : item.by_fx ≡ false

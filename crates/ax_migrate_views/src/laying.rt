@@ -3,6 +3,7 @@ ghost use Rattle.std.specs.Prelude.{◌≡◌, ◌^◌, ◌≤◌, false, length
 ghost use Rattle.ax_fspec.specs.Fields.{least_field};
 ghost use Rattle.ax_migrate_views.specs.Laying.{Begins, Gathers, Lays};
 ghost use Rattle.ax_model.specs.Canonical.{canon};
+ghost use Rattle.ax_model.specs.Sizes.{longest_body};
 ghost use Rattle.ax_view.specs.Shown.{item_kind, item_value};
 
 use ax_bits::Out;
@@ -30,7 +31,7 @@ fn spell_field(marked: &Presence, output: &mut [u8]) -> u32
 fn spell_item(codec: &Codec, item: &ItemView<'_, '_>, output: &mut [u8]) -> u32
     requires codec { item.now.codec.now ≡ codec.now }
     requires whole { item.now.by_fx ≡ false }
-    requires room { (65532 ≤ length output.old) × (length output.old ≤ 2 ^ 20) }
+    requires room { (longest_body ≤ length output.old) × (length output.old ≤ 2 ^ 20) }
     ensures begins { Begins (canon (item_kind item.now) (item_value item.now)) result output.new }
     ensures room { length output.new ≡ length output.old }
 {

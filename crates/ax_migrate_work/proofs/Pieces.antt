@@ -14,7 +14,7 @@ use Rattle.ax_model.specs.Blocks.{BlockTree, opaque_block}
 use Rattle.ax_model.specs.CanonicalOctets.{canon_block, canon_length, framed}
 use Rattle.ax_model.specs.Ends.{RawSpells}
 use Rattle.ax_model.specs.Framing.{RawTree}
-use Rattle.ax_model.specs.Lengths.{held}
+use Rattle.ax_model.specs.Lengths.{capped}
 use Rattle.ax_model.specs.OfCode.{HasNoFlaw, BlockFits, block_octets, block_length}
 use Rattle.ax_model.specs.Plain.{spec_tree, block_tree}
 use Rattle.ax_model.specs.Specification.{SpecTree, spec_of}
@@ -60,23 +60,23 @@ module _ (old new : Spec) (relation : Relation) (block made : Block) (related : 
   pub small : block_length old block ≤ 65535 → block_length new made < 4294967296
   small le = migrated_is_small (spec_tree old) (spec_tree new) (block_tree block) (block_tree made) related.old_no_flaw related.new_no_flaw fits migrated le
 
-  pub count_is : (e : EncodeError) (count : ℕ) → block_length old block ≤ 65535 → e ≡ Encoding.TooLong count → (e ≡ Encoding.TooLong (held (block_length new made))) ⊎ (e ≡ Encoding.OutOfMemory) → count ≡ block_length new made
+  pub count_is : (e : EncodeError) (count : ℕ) → block_length old block ≤ 65535 → e ≡ Encoding.TooLong count → (e ≡ Encoding.TooLong (capped (block_length new made))) ⊎ (e ≡ Encoding.OutOfMemory) → count ≡ block_length new made
   count_is e count le is (inl long) =
       let few = small le in
-      let same : count ≡ held (block_length new made) = cc in same ∙ omega arith
+      let same : count ≡ capped (block_length new made) = cc in same ∙ omega arith
   count_is e count le is (inr none) = absurd (cc)
 
-  pub count_fits : (e : EncodeError) (count : ℕ) → block_length old block ≤ 65535 → e ≡ Encoding.TooLong count → (e ≡ Encoding.TooLong (held (block_length new made))) ⊎ (e ≡ Encoding.OutOfMemory) → Fits w32 count
+  pub count_fits : (e : EncodeError) (count : ℕ) → block_length old block ≤ 65535 → e ≡ Encoding.TooLong count → (e ≡ Encoding.TooLong (capped (block_length new made))) ⊎ (e ≡ Encoding.OutOfMemory) → Fits w32 count
   count_fits e count le is which =
       let n = count_is e count le is which in
       let few = small le in omega arith
 
-  pub piece_too_long : (e : EncodeError) (count : ℕ) → block_length old block ≤ 65535 → e ≡ Encoding.TooLong count → (e ≡ Encoding.TooLong (held (block_length new made))) ⊎ (e ≡ Encoding.OutOfMemory)
-      → (e ≡ Encoding.TooLong (held (block_length new made)) → 65535 < block_length new made) → NoPieceOf (spec_tree old) (spec_tree new) (block_tree block) (TooLong count)
+  pub piece_too_long : (e : EncodeError) (count : ℕ) → block_length old block ≤ 65535 → e ≡ Encoding.TooLong count → (e ≡ Encoding.TooLong (capped (block_length new made))) ⊎ (e ≡ Encoding.OutOfMemory)
+      → (e ≡ Encoding.TooLong (capped (block_length new made)) → 65535 < block_length new made) → NoPieceOf (spec_tree old) (spec_tree new) (block_tree block) (TooLong count)
   piece_too_long e count le is which long =
       let n = count_is e count le is which in
       let few = small le in
-      let same : held (block_length new made) ≡ count = omega arith in
+      let same : capped (block_length new made) ≡ count = omega arith in
       let more = long (is ∙ ap Encoding.TooLong (sym same)) in
       (omega arith, n ∙ ap (canon_length (spec_tree new)) made_is)
 

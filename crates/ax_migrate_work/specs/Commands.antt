@@ -4,12 +4,13 @@ use Rattle.ax_migrate.specs.Losing.{block_losses, lost_lines}
 use Rattle.ax_migrate.specs.Migrating.{migrated_block}
 use Rattle.ax_model.specs.Blocks.{BlockTree}
 use Rattle.ax_model.specs.CanonicalOctets.{canon_block, canon_length}
+use Rattle.ax_model.specs.Sizes.{longest_block}
 use Rattle.ax_model.specs.Specification.{SpecTree}
 use Rattle.ax_stream.specs.Commands.{BlockCommand, BlockAnswer, gives, too_long}
 
 -- a block has at most 65,535 octets
 abbrev pub within_block : ℕ → List ℕ → List ℕ → BlockAnswer
-within_block count lines octets = if nat_lt 65535 count then too_long count else gives lines octets
+within_block count lines octets = if nat_lt longest_block count then too_long count else gives lines octets
 
 -- the lines of its losses, and the canonical form of the migrated block
 abbrev pub migrate_answer : SpecTree → SpecTree → ℕ → BlockTree → BlockAnswer

@@ -9,6 +9,7 @@ use Rattle.ax_model.specs.Ends.{RawSpells, RawFails}
 use Rattle.ax_model.specs.Framing.{RawTree}
 use Rattle.ax_model.specs.OfCode.{BlockFits, block_length}
 use Rattle.ax_model.specs.Plain.{spec_tree, block_tree}
+use Rattle.ax_model.specs.Sizes.{longest_block}
 use Rattle.ax_model.specs.Specification.{SpecTree}
 use Rattle.ax_model.specs.declared.record.Block.{Block}
 use Rattle.ax_model.specs.declared.spec.Spec.{Spec}
@@ -19,17 +20,17 @@ use Rattle.ax_stream.specs.declared.work.WorkStop.TheVariants.{Fault, TooLong, R
 pub record IsRead (old : Spec) (raw : RawTree) (block : Block) : Type 0 where
   pub spells : RawSpells (spec_tree old ∷ []) raw (block_tree block)
   pub fits : BlockFits old block
-  pub short : block_length old block ≤ 65535
+  pub short : block_length old block ≤ longest_block
 
 -- the octets of the migrated block, and what it lost
 pub record IsPieceOf (old new : SpecTree) (block : BlockTree) (octets : List ℕ) (losses : List LossEntry) : Type 0 where
-  pub short : canon_length new (migrated_block old new block) ≤ 65535
+  pub short : canon_length new (migrated_block old new block) ≤ longest_block
   pub octets_are : octets ≡ canon_block new (migrated_block old new block)
   pub losses_are : losses ≡ block_losses old new block
 
 -- the migrated block has so many octets, or there was no memory
 abbrev pub NoPieceOf : SpecTree → SpecTree → BlockTree → WorkStop → Type 0
-NoPieceOf old new block (TooLong count) = (65535 < count) × (count ≡ canon_length new (migrated_block old new block))
+NoPieceOf old new block (TooLong count) = (longest_block < count) × (count ≡ canon_length new (migrated_block old new block))
 NoPieceOf old new block OutOfMemory = Unit {0}
 NoPieceOf old new block (Fault f) = ⊥
 NoPieceOf old new block ReportFault = ⊥
@@ -44,7 +45,7 @@ pub record IsPiece (old new : SpecTree) (raw : RawTree) (octets : List ℕ) (los
 pub record IsTooLongPiece (old new : SpecTree) (raw : RawTree) (count : ℕ) : Type 0 where
   pub block : BlockTree
   pub spells : RawSpells (old ∷ []) raw block
-  pub long : 65535 < count
+  pub long : longest_block < count
   pub count_is : count ≡ canon_length new (migrated_block old new block)
 
 -- the body fails, within the longest body; the migrated block is too long; or there was no memory

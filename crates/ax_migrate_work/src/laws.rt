@@ -6,6 +6,7 @@ ghost use Rattle.ax_model.specs.Blocks.{BlockTree, Fits};
 ghost use Rattle.ax_model.specs.CanonicalOctets.{canon_block, canon_length};
 ghost use Rattle.ax_model.specs.Flaws.{NoFlaw};
 ghost use Rattle.ax_model.specs.Migrated.{MigratedBlock};
+ghost use Rattle.ax_model.specs.Sizes.{longest_block};
 ghost use Rattle.ax_model.specs.Specification.{SpecTree};
 ghost use Rattle.ax_stream.specs.Commands.{gives, too_long};
 
@@ -13,8 +14,8 @@ ghost use Rattle.ax_stream.specs.Commands.{gives, too_long};
 /// octets, or the number of the octets where a block can't have as many.
 #[tactic(auto, using(crate::proofs::Answering::answers_short, crate::proofs::Answering::answers_long))]
 pub fn migrate_answers_by_the_migrated_block()
-    ensures short { (old new : SpecTree) (number : ℕ) (block made : BlockTree) → NoFlaw new → Fits old block → MigratedBlock old new block made → canon_length new made ≤ 65535
+    ensures short { (old new : SpecTree) (number : ℕ) (block made : BlockTree) → NoFlaw new → Fits old block → MigratedBlock old new block made → canon_length new made ≤ longest_block
         → (migrate_command old new).answer number block ≡ gives (lost_lines number (block_losses old new block)) (canon_block new made) }
-    ensures long { (old new : SpecTree) (number : ℕ) (block made : BlockTree) → NoFlaw new → Fits old block → MigratedBlock old new block made → 65535 < canon_length new made
+    ensures long { (old new : SpecTree) (number : ℕ) (block made : BlockTree) → NoFlaw new → Fits old block → MigratedBlock old new block made → longest_block < canon_length new made
         → (migrate_command old new).answer number block ≡ too_long (canon_length new made) }
 {}

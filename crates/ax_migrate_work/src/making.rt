@@ -5,6 +5,7 @@ ghost use Rattle.ax_edition.specs.Relates.{Relates};
 ghost use Rattle.ax_migrate_work.specs.Making.{IsRead, IsPieceOf, NoPieceOf, IsPiece, NoPiece};
 ghost use Rattle.ax_model.specs.OfCode.{BlockFits, HasNoFlaw, block_length};
 ghost use Rattle.ax_model.specs.Plain.{spec_tree, block_tree};
+ghost use Rattle.ax_model.specs.Sizes.{longest_block};
 ghost use Rattle.ax_model.specs.Specification.{SpecTree};
 
 use ax_edition::Relation;
@@ -48,7 +49,7 @@ fn migrated_piece(
 ) -> Result<Piece, WorkStop>
     requires related { Relates old.now new.now relation.now }
     requires fits { BlockFits old.now block.now }
-    requires length { block_length old.now block.now ≤ 65535 }
+    requires length { block_length old.now block.now ≤ longest_block }
     ensures piece { IfOk result (λ piece. IsPieceOf (spec_tree old.now) (spec_tree new.now) (block_tree block.now) piece.octets.items piece.losses) }
     ensures stop { IfErr result (NoPieceOf (spec_tree old.now) (spec_tree new.now) (block_tree block.now)) }
 {

@@ -7,7 +7,7 @@ use Rattle.ax_model.specs.Bodies.{RecordShape, CanonBody}
 use Rattle.ax_model.specs.Canonical.{canon}
 use Rattle.ax_model.specs.CanonicalOctets.{octets_of, framed}
 use Rattle.ax_model.specs.InBounds.{InBounds}
-use Rattle.ax_model.specs.Lengths.{held, records_octets}
+use Rattle.ax_model.specs.Lengths.{capped, records_octets}
 use Rattle.ax_model.specs.OfCode.{HasNoFlaw}
 use Rattle.ax_model.specs.Plain.{record_tree, records_tree, spec_tree}
 use Rattle.ax_model.specs.Specification.{record_kind}
@@ -43,13 +43,13 @@ framed_length category body = omega arith
 
 -- a block of records
 pub read_length : (spec : Spec) (category : ℕ) (rs : List Record) (n : ℕ) → HasNoFlaw spec → AllByRecursion (RecordShape (spec_tree spec)) (records_tree rs)
-    → n ≡ held (held (records_octets spec rs) + 3) → n ≡ held (length (framed category (octets_of (CanonBody (spec_tree spec) (records_tree rs)))))
+    → n ≡ capped (capped (records_octets spec rs) + 3) → n ≡ capped (length (framed category (octets_of (CanonBody (spec_tree spec) (records_tree rs)))))
 read_length spec category rs n none fit e =
     let body = octets_of (CanonBody (spec_tree spec) (records_tree rs)) in
     let counted : length body ≡ records_octets spec rs = length-octets_of (records_octets spec rs) _ (body_length spec rs (record_bounds (spec_tree spec) none) fit) in
     omega (arith, e, framed_length category body, counted)
 
-pub opaque_length : (category : ℕ) (content : List ℕ) (n : ℕ) → length content < 4294967296 → n ≡ length content + 3 → n ≡ held (length (framed category content))
+pub opaque_length : (category : ℕ) (content : List ℕ) (n : ℕ) → length content < 4294967296 → n ≡ length content + 3 → n ≡ capped (length (framed category content))
 opaque_length category content n small e = omega (arith, framed_length category content)
 
 pub ruleset blocks = (read_length, opaque_length)

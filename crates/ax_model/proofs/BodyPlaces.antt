@@ -2,23 +2,23 @@
 use Rattle.std.proofs.Common.{◌≡◌, ℕ, ◌+◌, ◌%◌, ◌<◌, ◌≤◌, List, [], ◌∷◌, ◌++◌, length, refl, sym, ◌∙◌, ap, arith, length-append, append_assoc, append-nil, subst}
 use Rattle.ax_bits.proofs.Words.{length-bits, bits-AreBits}
 use Rattle.ax_bits.specs.Bits.{bits}
-use Rattle.ax_model.proofs.Completions.{behind_kept, completes}
+use Rattle.ax_model.proofs.Completions.{after_kept, completes}
 use Rattle.ax_model.proofs.Meets.{bits_of}
 use Rattle.ax_model.proofs.Once.{body_never_both}
-use Rattle.ax_model.proofs.Stays.{behind, fails_stays}
+use Rattle.ax_model.proofs.Stays.{following, fails_stays}
 use Rattle.ax_model.proofs.WholeOctets.{two_whole, spells_whole}
 use Rattle.ax_model.specs.Bodies.{FailsBody, SpellsBody, RecordsSpell, SpellsRecord}
 use Rattle.ax_model.specs.Completing.{Completes}
 use Rattle.ax_model.specs.Sound.{Sound}
 use Rattle.ax_model.specs.Specification.{SpecTree, record_kind}
 use Rattle.ax_model.specs.Spelling.{Spells}
-use Rattle.ax_model.specs.Telling.{told, BeginAlike}
+use Rattle.ax_model.specs.Telling.{fault_bits, BeginAlike}
 use Rattle.ax_model.specs.Tree.{EntriesTree, marked, ValueTree}
 use Rattle.ax_model.specs.Whole.{Whole}
 use Rattle.ax_model.specs.declared.fault.BodyCause.{BodyCause}
 use Rattle.ax_model.specs.declared.fault.BodyCause.TheVariants.{RunsOut, UndefinedSlot, PresenceTooLong, ExtensionPastEnd, BadExplicitLength}
 
-told_some : (c : BodyCause) → (c ≡ RunsOut → ⊥) → 0 < told c
+told_some : (c : BodyCause) → (c ≡ RunsOut → ⊥) → 0 < fault_bits c
 told_some RunsOut more = absurd (more refl)
 told_some UndefinedSlot more = omega arith
 told_some PresenceTooLong more = omega arith
@@ -28,15 +28,15 @@ told_some BadExplicitLength more = omega arith
 begin_some : (n : ℕ) (b d : List ℕ) → BeginAlike n b d → n ≤ length d
 begin_some n b d s = let long : n ≤ length s.common = s.long in omega (arith, ap length s.second, length-append s.common s.right)
 
-body_stays : (spec : SpecTree) (b d : List ℕ) (p : ℕ) (c : BodyCause) → (c ≡ RunsOut → ⊥) → BeginAlike (p + told c) b d → FailsBody spec b p c → (q : ℕ) × (e : BodyCause) × FailsBody spec d q e
+body_stays : (spec : SpecTree) (b d : List ℕ) (p : ℕ) (c : BodyCause) → (c ≡ RunsOut → ⊥) → BeginAlike (p + fault_bits c) b d → FailsBody spec b p c → (q : ℕ) × (e : BodyCause) × FailsBody spec d q e
 body_stays spec b d p c more s h =
     let f : p ≡ length h.before + h.place = h.counted in
-    let t = behind (p + told c) (h.place + told c) b d h.before h.left s h.split (omega arith) in
+    let t = following (p + fault_bits c) (h.place + fault_bits c) b d h.before h.left s h.split (omega arith) in
     let u = fails_stays (record_kind spec) h.left t.0 h.place c more t.2 h.fails.fails in
-    let some : 0 < length t.0 = omega (arith, told_some c more, begin_some (h.place + told c) h.left t.0 t.2) in
+    let some : 0 < length t.0 = omega (arith, told_some c more, begin_some (h.place + fault_bits c) h.left t.0 t.2) in
     (length h.before + u.0, u.1, record { records = h.records; before = h.before; left = t.0; split = t.1; spelled = h.spelled; some = some; place = u.0; counted = refl; fails = record { fails = u.2 } })
 
-pub told_spells_no_body : (spec : SpecTree) (b d : List ℕ) (p : ℕ) (c : BodyCause) (vs : List EntriesTree) → (c ≡ RunsOut → ⊥) → BeginAlike (p + told c) b d → FailsBody spec b p c → SpellsBody spec vs d → ⊥
+pub told_spells_no_body : (spec : SpecTree) (b d : List ℕ) (p : ℕ) (c : BodyCause) (vs : List EntriesTree) → (c ≡ RunsOut → ⊥) → BeginAlike (p + fault_bits c) b d → FailsBody spec b p c → SpellsBody spec vs d → ⊥
 told_spells_no_body spec b d p c vs more s h g = let u = body_stays spec b d p c more s h in body_never_both spec d vs u.0 u.1 g u.2
 
 one_more : (spec : SpecTree) (vs : List EntriesTree) (x : List ℕ) (v : EntriesTree) (w : List ℕ) → RecordsSpell spec vs x → SpellsRecord spec v w → RecordsSpell spec (vs ++ v ∷ []) (x ++ w)
@@ -66,6 +66,6 @@ body_completes spec xs p c sound w h =
     let xw : length h.before % 8 ≡ 0 = records_whole spec h.records h.before w h.spelled in
     let yw : length h.left % 8 ≡ 0 = omega (arith, ap length h.split, length-append h.before h.left, length-bits xs) in
     let bit = bits_of (bits xs) h.before h.left h.split (bits-AreBits xs) in
-    behind_kept (Some_body spec) (λ w. (v : ValueTree) × Spells (record_kind spec) v w) (bits xs) h.before h.left p h.place c h.split h.counted
+    after_kept (Some_body spec) (λ w. (v : ValueTree) × Spells (record_kind spec) v w) (bits xs) h.before h.left p h.place c h.split h.counted
     (λ w t. put_record spec h.records h.before h.spelled w (record_of spec t.0 w t.1))
     (completes (record_kind spec) h.left h.place c sound w bit.1 yw h.fails.fails)

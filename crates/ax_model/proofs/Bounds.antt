@@ -248,10 +248,10 @@ mutual
   slots_within_bounds (slot_and (subitem name k) ss) inner (inl w) h = within_bounds k inner w h.0
   slots_within_bounds (slot_and (subitem name k) ss) inner (inr w) h = slots_within_bounds ss inner w h.1
 
-held_bounds : (items : List ItemTree) (k : KindTree) → ItemsHold items k → AllByRecursion ItemInBounds items → InBounds k
-held_bounds [] k w h = absurd w
-held_bounds (item ∷ items) k (inl w) h = within_bounds item.kind k w h.0
-held_bounds (item ∷ items) k (inr w) h = held_bounds items k w h.1
+capped_bounds : (items : List ItemTree) (k : KindTree) → ItemsHold items k → AllByRecursion ItemInBounds items → InBounds k
+capped_bounds [] k w h = absurd w
+capped_bounds (item ∷ items) k (inl w) h = within_bounds item.kind k w h.0
+capped_bounds (item ∷ items) k (inr w) h = capped_bounds items k w h.1
 
 pub standing_bounds : (spec : SpecTree) (k : KindTree) → NoFlaw spec → StandsIn spec k → InBounds k
-standing_bounds spec k h s = held_bounds spec.items k s.items (parts_of spec h).0
+standing_bounds spec k h s = capped_bounds spec.items k s.items (parts_of spec h).0

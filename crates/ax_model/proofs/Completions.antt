@@ -17,6 +17,7 @@ use Rattle.ax_model.specs.Whole.{Whole, SlotsWhole}
 use Rattle.ax_model.specs.Widths.{members_width, width}
 use Rattle.ax_model.specs.declared.fault.BodyCause.{BodyCause}
 use Rattle.ax_model.specs.declared.fault.BodyCause.TheVariants.{RunsOut}
+use Rattle.ax_model.proofs.Unmarked.{none_first, none_later}
 
 -- ---- zeros
 
@@ -55,8 +56,8 @@ front_kept : (S : List ℕ → Type 0) (b x y z : List ℕ) (p : ℕ) (c : BodyC
 front_kept S b x y z p c e le not h = record { kept = x; cut = y; more = z; split = e; far = le; whole = (λ e. absurd (not e)); spelled = h }
 
 -- a front, then what completes the rest, and then more
-pub behind_kept : (S T : List ℕ → Type 0) (b x y : List ℕ) (p q : ℕ) (c : BodyCause) → b ≡ x ++ y → p ≡ length x + q → ((w : List ℕ) → T w → (d : List ℕ) × S (x ++ (w ++ d))) → Completes T y q c → Completes S b p c
-behind_kept S T b x y p q c e f good t =
+pub after_kept : (S T : List ℕ → Type 0) (b x y : List ℕ) (p q : ℕ) (c : BodyCause) → b ≡ x ++ y → p ≡ length x + q → ((w : List ℕ) → T w → (d : List ℕ) × S (x ++ (w ++ d))) → Completes T y q c → Completes S b p c
+after_kept S T b x y p q c e f good t =
     let u = good (t.kept ++ t.more) t.spelled in
     let le : q ≤ length t.kept = t.far in
     let same : x ++ ((t.kept ++ t.more) ++ u.0) ≡ (x ++ t.kept) ++ (t.more ++ u.0) = ap (λ y. x ++ y) (append_assoc t.kept t.more u.0) ∙ sym (append_assoc x t.kept (t.more ++ u.0)) in
@@ -94,7 +95,7 @@ parts_complete (m ∷ ps) b p c bit (inr (x, y, l, e, inl (f, g, h))) =
 parts_complete (m ∷ []) b p c bit (inr (x, y, l, e, inr (q, f, h))) = absurd h
 parts_complete (m ∷ n ∷ ps) b p c bit (inr (x, y, l, e, inr (q, f, h))) =
     let t = bits_of b x (1 ∷ y) e bit in
-    behind_kept (λ w. (ls : ListsTree) × PartsSpell (m ∷ n ∷ ps) ls w) (λ w. (ls : ListsTree) × PartsSpell (n ∷ ps) ls w) b (x ++ 1 ∷ []) y p q c (e ∙ sym (append_assoc x (1 ∷ []) y)) (omega (arith, length-append x (1 ∷ [])))
+    after_kept (λ w. (ls : ListsTree) × PartsSpell (m ∷ n ∷ ps) ls w) (λ w. (ls : ListsTree) × PartsSpell (n ∷ ps) ls w) b (x ++ 1 ∷ []) y p q c (e ∙ sym (append_assoc x (1 ∷ []) y)) (omega (arith, length-append x (1 ∷ [])))
     (more_parts m n ps x t.0 l) (parts_complete (n ∷ ps) y q c t.1.1 h)
 
 run_end : (f : FixedTree) (b : List ℕ) → AreBits b → length b ≤ width f → (vs : ValuesTree) × RunSpells f vs (b ++ (zeros (width f - length b) ++ 0 ∷ []))
@@ -112,7 +113,7 @@ run_complete : (n : ℕ) (f : FixedTree) (b : List ℕ) (p : ℕ) (c : BodyCause
 run_complete zero f b p c bit (le, e, g) = all_kept (λ w. (vs : ValuesTree) × RunSpells f vs w) b (zeros (width f - length b) ++ 0 ∷ []) p c (omega arith) (run_end f b bit le)
 run_complete (suc n) f b p c bit (x, y, l, e, q, g, h) =
     let t = bits_of b x (1 ∷ y) e bit in
-    behind_kept (λ w. (vs : ValuesTree) × RunSpells f vs w) (λ w. (vs : ValuesTree) × RunSpells f vs w) b (x ++ 1 ∷ []) y p q c (e ∙ sym (append_assoc x (1 ∷ []) y)) (omega (arith, length-append x (1 ∷ [])))
+    after_kept (λ w. (vs : ValuesTree) × RunSpells f vs w) (λ w. (vs : ValuesTree) × RunSpells f vs w) b (x ++ 1 ∷ []) y p q c (e ∙ sym (append_assoc x (1 ∷ []) y)) (omega (arith, length-append x (1 ∷ [])))
     (more_run f x t.0 l) (run_complete n f y q c t.1.1 h)
 
 -- ---- presence fields
@@ -158,7 +159,7 @@ presence_complete (suc k) ds b p c bit w (inr (x, fx, y, l, e, inr (clear, f, in
 presence_complete (suc k) ds b p c bit w (inr (x, fx, y, l, e, inr (clear, f, inr (q, g, h)))) =
     let xb = bits_of b x (fx ∷ y) e bit in
     let e1 : b ≡ x ++ 1 ∷ y = e ∙ ap (λ fx. x ++ fx ∷ y) f in
-    behind_kept (Field (suc k) ds) (Field k (slots_past x ds)) b (x ++ 1 ∷ []) y p q c (e1 ∙ sym (append_assoc x (1 ∷ []) y)) (omega (arith, length-append x (1 ∷ [])))
+    after_kept (Field (suc k) ds) (Field k (slots_past x ds)) b (x ++ 1 ∷ []) y p q c (e1 ∙ sym (append_assoc x (1 ∷ []) y)) (omega (arith, length-append x (1 ∷ [])))
     (more_field k ds x l xb.0 clear) (presence_complete k (slots_past x ds) y q c xb.1.1 (omega (arith, ap length e, length-append x (fx ∷ y))) h)
 
 -- ---- something of each kind
@@ -166,20 +167,10 @@ presence_complete (suc k) ds b p c bit w (inr (x, fx, y, l, e, inr (clear, f, in
 abbrev Some_of : KindTree → List ℕ → Type 0
 Some_of k w = (v : ValueTree) × Spells k v w
 
-first_none : (ms : List ℕ) → IsTrue (none_marked ms) → first_mark ms ≡ 0
-first_none [] h = refl
-first_none (zero ∷ ms) h = refl
-first_none (suc m ∷ ms) h = cc
-
-rest_none : (ms : List ℕ) → IsTrue (none_marked ms) → IsTrue (none_marked (later_marks ms))
-rest_none [] h = refl
-rest_none (zero ∷ ms) h = h
-rest_none (suc m ∷ ms) h = cc
-
 none_entered : (s : ℕ) (ss : SlotsTree) (ms : List ℕ) → IsTrue (none_marked ms) → EntriesSpell s ss ms no_entries []
 none_entered s no_slots ms h = (h, refl)
-none_entered s (slot_and spare_slot ss) ms h = (first_none ms h, none_entered (s + 1) ss (later_marks ms) (rest_none ms h))
-none_entered s (slot_and (subitem name k) ss) ms h = (first_none ms h, none_entered (s + 1) ss (later_marks ms) (rest_none ms h))
+none_entered s (slot_and spare_slot ss) ms h = (none_first ms h, none_entered (s + 1) ss (later_marks ms) (none_later ms h))
+none_entered s (slot_and (subitem name k) ss) ms h = (none_first ms h, none_entered (s + 1) ss (later_marks ms) (none_later ms h))
 
 room_for : (n : ℕ) → 0 < n → (k : ℕ) × (n ≡ suc k)
 room_for zero h = absurd (omega arith)
@@ -267,7 +258,7 @@ mutual
       let u = padded b (width f) bit (omega arith) in
       let z = zeros (width f - length b) in all_kept (Some_of (fixed f)) b z p c (omega arith) (fixed_value f (b ++ z), fixed_all f (b ++ z) u.0 u.1)
   completes (extended ps) b p c sound w bit all h =
-      behind_kept (Some_of (extended ps)) (λ w. (ls : ListsTree) × PartsSpell ps ls w) b [] b p p c refl (omega arith) (λ w t. ([], (part_values t.0, subst (PartsSpell ps t.0) (sym (append-nil w)) t.1))) (parts_complete ps b p c bit h)
+      after_kept (Some_of (extended ps)) (λ w. (ls : ListsTree) × PartsSpell ps ls w) b [] b p p c refl (omega arith) (λ w t. ([], (part_values t.0, subst (PartsSpell ps t.0) (sym (append-nil w)) t.1))) (parts_complete ps b p c bit h)
   completes (counted k) b p c sound w bit all (inl (lt, e, f)) =
       none_kept (Some_of (counted k)) b (word 8 0) p c e (λ r. nil_from_length b (omega arith)) (occurrences no_values, (omega arith, [], refl, refl))
   completes (counted k) b p c sound w bit all (inr (r, le, vs, lt, x, y, e, h, q, f, g)) =
@@ -275,39 +266,39 @@ mutual
       let l : length (word 8 r ++ x) ≡ 8 + length x = length-append (word 8 r) x ∙ ap (λ n. n + length x) (length-word 8 r) in
       let xw : length x % 8 ≡ 0 = each_whole (Spells k) (λ v b t. spells_whole k v b w t) vs x h in
       let yw : length y % 8 ≡ 0 = omega (arith, ap length front, length-append (word 8 r ++ x) y) in
-      behind_kept (Some_of (counted k)) (Some_of k) b (word 8 r ++ x) y p q c front (omega arith) (more_values k sound r le vs lt x h) (completes k y q c sound w (bits_of b (word 8 r ++ x) y front bit).1 yw g)
+      after_kept (Some_of (counted k)) (Some_of k) b (word 8 r ++ x) y p q c front (omega arith) (more_values k sound r le vs lt x h) (completes k y q c sound w (bits_of b (word 8 r ++ x) y front bit).1 yw g)
   completes (by_fx f) b p c sound w bit all (n, h) =
-      behind_kept (Some_of (by_fx f)) (λ w. (vs : ValuesTree) × RunSpells f vs w) b [] b p p c refl (omega arith) (λ w t. ([], (occurrences t.0, subst (RunSpells f t.0) (sym (append-nil w)) t.1))) (run_complete n f b p c bit h)
+      after_kept (Some_of (by_fx f)) (λ w. (vs : ValuesTree) × RunSpells f vs w) b [] b p p c refl (omega arith) (λ w t. ([], (occurrences t.0, subst (RunSpells f t.0) (sym (append-nil w)) t.1))) (run_complete n f b p c bit h)
   completes explicit b p c sound w bit all (inl (lt, e, f)) = none_kept (Some_of explicit) b (word 8 1) p c e (λ r. nil_from_length b (omega arith)) (content_octets [], (omega arith, tt, refl))
   completes explicit b p c sound w bit all (inr (inl (y, e, f, g))) = none_kept (Some_of explicit) b (word 8 1) p c f (λ r. cc) (content_octets [], (omega arith, tt, refl))
   completes explicit b p c sound w bit all (inr (inr (m, le, y, e, lt, f, g))) =
       all_kept (Some_of explicit) b (zeros (8 * m - length y)) p c (omega (arith, ap length e, length-append (word 8 (1 + m)) y, length-word 8 (1 + m))) (contents_end m b y le (bits_of b (word 8 (1 + m)) y e bit).1 e lt)
   completes (compound ss) b p c sound w bit all (inl h) =
-      behind_kept (Some_of (compound ss)) (Field (octets_needed (slot_count ss)) (defined_slots ss)) b [] b p p c refl (omega arith) (fill_field ss sound.1) (presence_complete (octets_needed (slot_count ss)) (defined_slots ss) b p c bit all h)
+      after_kept (Some_of (compound ss)) (Field (octets_needed (slot_count ss)) (defined_slots ss)) b [] b p p c refl (omega arith) (fill_field ss sound.1) (presence_complete (octets_needed (slot_count ss)) (defined_slots ss) b p c bit all h)
   completes (compound ss) b p c sound w bit all (inr (ms, x, y, e, h, clear, q, f, g)) =
       let xw : length x % 8 ≡ 0 = presence_whole (octets_needed (slot_count ss)) ms x h in
       let yw : length y % 8 ≡ 0 = omega (arith, ap length e, length-append x y) in
-      behind_kept (Some_of (compound ss)) (Entries_of 1 ss ms) b x y p q c e f (put_entries ss ms x h)
+      after_kept (Some_of (compound ss)) (Entries_of 1 ss ms) b x y p q c e f (put_entries ss ms x h)
       (entries_complete 1 ss ms y q c sound.1 w clear (presence_bits (octets_needed (slot_count ss)) ms x h) (bits_of b x y e bit).1 yw g)
 
   pub entries_complete : (s : ℕ) (ss : SlotsTree) (ms b : List ℕ) (p : ℕ) (c : BodyCause) → SlotsSound ss → SlotsWhole ss → NoneUndefined (defined_slots ss) ms → AreBits ms → AreBits b → length b % 8 ≡ 0 → EntriesFail ss ms b p c → Completes (Entries_of s ss ms) b p c
   entries_complete s no_slots ms b p c sound w clear marks bit all h = absurd h
   entries_complete s (slot_and spare_slot ss) ms b p c sound w clear marks bit all h =
-      behind_kept (Entries_of s (slot_and spare_slot ss) ms) (Entries_of (s + 1) ss (later_marks ms)) b [] b p p c refl (omega arith)
+      after_kept (Entries_of s (slot_and spare_slot ss) ms) (Entries_of (s + 1) ss (later_marks ms)) b [] b p p c refl (omega arith)
       (λ w t. ([], (t.0, (spare_first (defined_slots ss) ms clear marks, subst (EntriesSpell (s + 1) ss (later_marks ms) t.0) (sym (append-nil w)) t.1))))
       (entries_complete (s + 1) ss (later_marks ms) b p c sound w (rest_defined false (defined_slots ss) ms clear) (rest_bits ms marks) bit all h)
   entries_complete s (slot_and (subitem name k) ss) ms b p c sound w clear marks bit all (inl (m, h)) =
       let others = some_entries (s + 1) ss (later_marks ms) sound.1 (rest_defined true (defined_slots ss) ms clear) (rest_bits ms marks) in
-      behind_kept (Entries_of s (slot_and (subitem name k) ss) ms) (Some_of k) b [] b p p c refl (omega arith)
+      after_kept (Entries_of s (slot_and (subitem name k) ss) ms) (Some_of k) b [] b p p c refl (omega arith)
       (λ w t. (others.0, (entry_and s t.0 others.1, inl (m, refl, w, others.0, refl, t.1, others.2)))) (completes k b p c sound.0 w.0 bit all h)
   entries_complete s (slot_and (subitem name k) ss) ms b p c sound w clear marks bit all (inr (inl (m, v, x, y, e, h, q, f, g))) =
       let xw : length x % 8 ≡ 0 = spells_whole k v x w.0 h in
       let yw : length y % 8 ≡ 0 = omega (arith, ap length e, length-append x y) in
-      behind_kept (Entries_of s (slot_and (subitem name k) ss) ms) (Entries_of (s + 1) ss (later_marks ms)) b x y p q c e f
+      after_kept (Entries_of s (slot_and (subitem name k) ss) ms) (Entries_of (s + 1) ss (later_marks ms)) b x y p q c e f
       (λ w t. ([], (entry_and s v t.0, inl (m, refl, x, w, ap (λ w. x ++ w) (append-nil w), h, t.1))))
       (entries_complete (s + 1) ss (later_marks ms) y q c sound.1 w.1 (rest_defined true (defined_slots ss) ms clear) (rest_bits ms marks) (bits_of b x y e bit).1 yw g)
   entries_complete s (slot_and (subitem name k) ss) ms b p c sound w clear marks bit all (inr (inr (m, h))) =
-      behind_kept (Entries_of s (slot_and (subitem name k) ss) ms) (Entries_of (s + 1) ss (later_marks ms)) b [] b p p c refl (omega arith)
+      after_kept (Entries_of s (slot_and (subitem name k) ss) ms) (Entries_of (s + 1) ss (later_marks ms)) b [] b p p c refl (omega arith)
       (λ w t. ([], (t.0, skip s name k ss ms m t.0 (w ++ []) (subst (EntriesSpell (s + 1) ss (later_marks ms) t.0) (sym (append-nil w)) t.1))))
       (entries_complete (s + 1) ss (later_marks ms) b p c sound.1 w.1 (rest_defined true (defined_slots ss) ms clear) (rest_bits ms marks) bit all h)
 

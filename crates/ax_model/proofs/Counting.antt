@@ -1,4 +1,4 @@
--- Sums that are held at 2^64 - 1, over lists from a place on.
+-- Sums that are capped at 2^64 - 1, over lists from a place on.
 use Rattle.std.proofs.Common.{◌≡◌, ℕ, zero, suc, ◌+◌, ◌*◌, ◌/◌, ◌<◌, ◌≤◌, ◌-◌, min, List, [], ◌∷◌, length, map, drop, get_or, Option, Some, None, slice_get, refl, sym, ◌∙◌, ap, arith, add-one, drop-cons}
 use Rattle.std.proofs.lemmas.List.{drop_all}
 use Rattle.std.specs.Option.{option_map}
@@ -6,7 +6,7 @@ use Rattle.ax_model.proofs.RecordFitting.{entries_split}
 use Rattle.ax_model.proofs.Lookups.{uap_slot_tree}
 use Rattle.ax_model.specs.Lookup.{item_of_slot, item_of_frn}
 use Rattle.ax_model.specs.Specification.{record_slots, uap_slot, slot_of_item}
-use Rattle.ax_model.specs.Lengths.{record_octets, records_octets, held, octets, each_octets, entries_octets, octets_where, last_slot, presence_octets, unit_octets, parts_octets, slot_kind, kind_behind, kind_of_slot}
+use Rattle.ax_model.specs.Lengths.{record_octets, records_octets, capped, octets, each_octets, entries_octets, octets_where, last_slot, presence_octets, unit_octets, parts_octets, slot_kind, kind_after, kind_of_slot}
 use Rattle.ax_model.specs.Plain.{entries_tree, item_tree, kind_tree, spec_tree, member_tree, members_tree, slot_tree, slots_tree, value_tree, values_tree}
 use Rattle.ax_model.specs.Tree.{MembersTree, member_and, MemberTree, named, spare, KindTree, slots_of, ValueTree, ValuesTree, value_count, ListsTree, no_lists, list_and, entry_and}
 use Rattle.ax_model.specs.Widths.{member_width, members_width}
@@ -18,15 +18,16 @@ use Rattle.ax_model.specs.declared.spec.Spec.{Spec}
 use Rattle.ax_model.specs.declared.spec.UapSlot.{UapSlot}
 use Rattle.ax_model.specs.declared.value.Entry.{Entry}
 use Rattle.ax_model.specs.declared.value.Value.{Value}
+use Rattle.ax_model.proofs.ItemKinds.{kind_of_item, kind_of_frn}
 
 -- ---- sums
 
-sum_more : (total one rest : ℕ) → held (held (total + held one) + rest) ≡ held (total + (one + rest))
+sum_more : (total one rest : ℕ) → capped (capped (total + capped one) + rest) ≡ capped (total + (one + rest))
 sum_more total one rest = omega arith
 
--- a sum held and a term held, where the term was in front of what is left
-pub taken : (total new one left rest all : ℕ) → left ≡ one + rest → held (total + left) ≡ held all → new ≡ held (total + held one) → held (new + rest) ≡ held all
-taken total new one left rest all e h n = ap (λ x. held (x + rest)) n ∙ sum_more total one rest ∙ ap (λ x. held (total + x)) (sym e) ∙ h
+-- a sum capped and a term capped, where the term was in front of what is left
+pub taken : (total new one left rest all : ℕ) → left ≡ one + rest → capped (total + left) ≡ capped all → new ≡ capped (total + capped one) → capped (new + rest) ≡ capped all
+taken total new one left rest all e h n = ap (λ x. capped (x + rest)) n ∙ sum_more total one rest ∙ ap (λ x. capped (total + x)) (sym e) ∙ h
 
 -- ---- members
 
@@ -38,13 +39,13 @@ member_first (named name f) ms = refl
 member_first (spare w) ms = refl
 
 pub member_taken : (ms : List Member) (i : ℕ) (m : Member) (total new all : ℕ) → i < length ms → m ≡ get_or ms i m
-    → held (total + members_width (members_tree (drop i ms))) ≡ held all → new ≡ held (total + held (member_width (member_tree m)))
-    → held (new + members_width (members_tree (drop (i + 1) ms))) ≡ held all
+    → capped (total + members_width (members_tree (drop i ms))) ≡ capped all → new ≡ capped (total + capped (member_width (member_tree m)))
+    → capped (new + members_width (members_tree (drop (i + 1) ms))) ≡ capped all
 member_taken ms i m total new all within e h n =
     taken total new (member_width (member_tree m)) (members_width (members_tree (drop i ms))) (members_width (members_tree (drop (i + 1) ms))) all
     (ap (λ x. members_width (members_tree x)) (from_place ms i m within e) ∙ member_first (member_tree m) (members_tree (drop (i + 1) ms))) h n
 
-pub members_done : (ms : List Member) (i total all : ℕ) → length ms ≤ i → total ≤ 18446744073709551615 → held (total + members_width (members_tree (drop i ms))) ≡ held all → total ≡ held all
+pub members_done : (ms : List Member) (i total all : ℕ) → length ms ≤ i → total ≤ 18446744073709551615 → capped (total + members_width (members_tree (drop i ms))) ≡ capped all → total ≡ capped all
 members_done ms i total all past small h =
     let none : members_width (members_tree (drop i ms)) ≡ 0 = ap (λ x. members_width (members_tree x)) (drop_all i ms past) in
     omega (arith, none, h)
@@ -54,21 +55,21 @@ pub ruleset widths = (member_taken, members_done)
 -- ---- parts
 
 pub part_taken : (p : MembersTree) (ps : List MembersTree) (vs : ValuesTree) (ls : ListsTree) (total new all : ℕ)
-    → held (total + parts_octets (p ∷ ps) (list_and vs ls)) ≡ held all → new ≡ held (total + held (held (members_width p) + 1) / 8)
-    → held (new + parts_octets ps ls) ≡ held all
-part_taken p ps vs ls total new all h n = taken total new (unit_octets (members_width p)) (parts_octets (p ∷ ps) (list_and vs ls)) (parts_octets ps ls) all refl h (n ∙ small (held (members_width p)))
+    → capped (total + parts_octets (p ∷ ps) (list_and vs ls)) ≡ capped all → new ≡ capped (total + capped (capped (members_width p) + 1) / 8)
+    → capped (new + parts_octets ps ls) ≡ capped all
+part_taken p ps vs ls total new all h n = taken total new (unit_octets (members_width p)) (parts_octets (p ∷ ps) (list_and vs ls)) (parts_octets ps ls) all refl h (n ∙ small (capped (members_width p)))
   where
-    small : (w : ℕ) → held (total + held (w + 1) / 8) ≡ held (total + held (held (w + 1) / 8))
+    small : (w : ℕ) → capped (total + capped (w + 1) / 8) ≡ capped (total + capped (capped (w + 1) / 8))
     small w = omega arith
 
-pub no_parts : (ps : List MembersTree) (ls : ListsTree) (total all : ℕ) → ps ≡ [] → total ≤ 18446744073709551615 → held (total + parts_octets ps ls) ≡ held all → total ≡ held all
+pub no_parts : (ps : List MembersTree) (ls : ListsTree) (total all : ℕ) → ps ≡ [] → total ≤ 18446744073709551615 → capped (total + parts_octets ps ls) ≡ capped all → total ≡ capped all
 no_parts ps ls total all e small h = let none : parts_octets ps ls ≡ 0 = ap (λ x. parts_octets x ls) e in omega (arith, none, h)
 
 without_lists : (ps : List MembersTree) → parts_octets ps no_lists ≡ 0
 without_lists [] = refl
 without_lists (p ∷ ps) = refl
 
-pub no_lists_left : (ps : List MembersTree) (ls : ListsTree) (total all : ℕ) → ls ≡ no_lists → total ≤ 18446744073709551615 → held (total + parts_octets ps ls) ≡ held all → total ≡ held all
+pub no_lists_left : (ps : List MembersTree) (ls : ListsTree) (total all : ℕ) → ls ≡ no_lists → total ≤ 18446744073709551615 → capped (total + parts_octets ps ls) ≡ capped all → total ≡ capped all
 no_lists_left ps ls total all e small h = let none : parts_octets ps ls ≡ 0 = ap (parts_octets ps) e ∙ without_lists ps in omega (arith, none, h)
 
 pub ruleset parts = (part_taken, no_parts, no_lists_left)
@@ -79,17 +80,17 @@ value_count-is : (vs : List Value) → value_count (values_tree vs) ≡ length v
 value_count-is [] = refl
 value_count-is (v ∷ vs) = ap suc (value_count-is vs)
 
-pub run_counted : (vs : List Value) (w n u r : ℕ) → n ≡ length vs → u ≡ unit_octets w → r ≡ min (n * u) 18446744073709551615 → r ≡ held (value_count (values_tree vs) * unit_octets w)
-run_counted vs w n u r count unit e = e ∙ (λ i. held ((count ∙ sym (value_count-is vs)) i * unit i))
+pub run_counted : (vs : List Value) (w n u r : ℕ) → n ≡ length vs → u ≡ unit_octets w → r ≡ min (n * u) 18446744073709551615 → r ≡ capped (value_count (values_tree vs) * unit_octets w)
+run_counted vs w n u r count unit e = e ∙ (λ i. capped ((count ∙ sym (value_count-is vs)) i * unit i))
 
 pub value_taken : (vs : List Value) (k : KindTree) (i : ℕ) (v : Value) (total new all : ℕ) → i < length vs → v ≡ get_or vs i v
-    → held (total + each_octets (values_tree (drop i vs)) k) ≡ held all → new ≡ held (total + held (octets (value_tree v) k))
-    → held (new + each_octets (values_tree (drop (i + 1) vs)) k) ≡ held all
+    → capped (total + each_octets (values_tree (drop i vs)) k) ≡ capped all → new ≡ capped (total + capped (octets (value_tree v) k))
+    → capped (new + each_octets (values_tree (drop (i + 1) vs)) k) ≡ capped all
 value_taken vs k i v total new all within e h n =
     taken total new (octets (value_tree v) k) (each_octets (values_tree (drop i vs)) k) (each_octets (values_tree (drop (i + 1) vs)) k) all
     (ap (λ x. each_octets (values_tree x) k) (from_place vs i v within e)) h n
 
-pub values_done : (vs : List Value) (k : KindTree) (i total all : ℕ) → length vs ≤ i → total ≤ 18446744073709551615 → held (total + each_octets (values_tree (drop i vs)) k) ≡ held all → total ≡ held all
+pub values_done : (vs : List Value) (k : KindTree) (i total all : ℕ) → length vs ≤ i → total ≤ 18446744073709551615 → capped (total + each_octets (values_tree (drop i vs)) k) ≡ capped all → total ≡ capped all
 values_done vs k i total all past small h =
     let none : each_octets (values_tree (drop i vs)) k ≡ 0 = ap (λ x. each_octets (values_tree x) k) (drop_all i vs past) in
     omega (arith, none, h)
@@ -102,8 +103,8 @@ entry_first : (e : Entry) (es : List Entry) → entries_tree (e ∷ es) ≡ entr
 entry_first e es = entries_split e (e ∷ es) es refl
 
 pub entry_taken : (es : List Entry) (ks : ℕ → Option KindTree) (i : ℕ) (e : Entry) (total new all : ℕ) → i < length es → e ≡ get_or es i e
-    → held (total + entries_octets (entries_tree (drop i es)) ks) ≡ held all → new ≡ held (total + held (octets_where (ks e.slot) (octets (value_tree e.value))))
-    → held (new + entries_octets (entries_tree (drop (i + 1) es)) ks) ≡ held all
+    → capped (total + entries_octets (entries_tree (drop i es)) ks) ≡ capped all → new ≡ capped (total + capped (octets_where (ks e.slot) (octets (value_tree e.value))))
+    → capped (new + entries_octets (entries_tree (drop (i + 1) es)) ks) ≡ capped all
 entry_taken es ks i e total new all within is h n =
     taken total new (octets_where (ks e.slot) (octets (value_tree e.value))) (entries_octets (entries_tree (drop i es)) ks) (entries_octets (entries_tree (drop (i + 1) es)) ks) all
     (ap (λ x. entries_octets (entries_tree x) ks) (from_place es i e within is) ∙ ap (λ x. entries_octets x ks) (entry_first e (drop (i + 1) es))) h n
@@ -112,14 +113,14 @@ pub entry_last : (es : List Entry) (i t : ℕ) (e : Entry) (all : ℕ) → i < l
     → last_slot t (entries_tree (drop i es)) ≡ all → last_slot e.slot (entries_tree (drop (i + 1) es)) ≡ all
 entry_last es i t e all within is h = sym (ap (λ x. last_slot t (entries_tree x)) (from_place es i e within is) ∙ ap (last_slot t) (entry_first e (drop (i + 1) es))) ∙ h
 
-pub entries_done : (es : List Entry) (ks : ℕ → Option KindTree) (i total t sum last result : ℕ) → length es ≤ i → held (total + entries_octets (entries_tree (drop i es)) ks) ≡ held sum
-    → last_slot t (entries_tree (drop i es)) ≡ last → result ≡ held (total + presence_octets t) → result ≡ held (sum + presence_octets last)
+pub entries_done : (es : List Entry) (ks : ℕ → Option KindTree) (i total t sum last result : ℕ) → length es ≤ i → capped (total + entries_octets (entries_tree (drop i es)) ks) ≡ capped sum
+    → last_slot t (entries_tree (drop i es)) ≡ last → result ≡ capped (total + presence_octets t) → result ≡ capped (sum + presence_octets last)
 entries_done es ks i total t sum last result past h l r =
     let none : entries_octets (entries_tree (drop i es)) ks ≡ 0 = ap (λ x. entries_octets (entries_tree x) ks) (drop_all i es past) in
     let same : t ≡ last = sym (ap (λ x. last_slot t (entries_tree x)) (drop_all i es past)) ∙ l in
-    r ∙ ap (λ u. held (total + presence_octets u)) same ∙ add_same (presence_octets last) none
+    r ∙ ap (λ u. capped (total + presence_octets u)) same ∙ add_same (presence_octets last) none
   where
-    add_same : (p : ℕ) → entries_octets (entries_tree (drop i es)) ks ≡ 0 → held (total + p) ≡ held (sum + p)
+    add_same : (p : ℕ) → entries_octets (entries_tree (drop i es)) ks ≡ 0 → capped (total + p) ≡ capped (sum + p)
     add_same p none = omega (arith, h, none)
 
 pub ruleset entries = (entry_taken, entry_last, entries_done)
@@ -130,7 +131,7 @@ abbrev slot_of : Option Slot → Option KindTree
 slot_of None = None
 slot_of (Some s) = kind_of_slot (slot_tree s)
 
-pub kind_at_slot : (ss : List Slot) (i : ℕ) → kind_behind i (slots_tree ss) ≡ slot_of (slice_get ss i)
+pub kind_at_slot : (ss : List Slot) (i : ℕ) → kind_after i (slots_tree ss) ≡ slot_of (slice_get ss i)
 kind_at_slot [] i = refl
 kind_at_slot (s ∷ ss) zero = refl
 kind_at_slot (s ∷ ss) (suc i) = kind_at_slot ss i
@@ -147,23 +148,6 @@ slot_there ss t s some e = kind_of_number ss t some ∙ ap slot_of e
 
 pub ruleset kinds = (kind_of_number, slot_there, slot_zero)
 
-abbrev kind_of_item : Option Item → Option KindTree
-kind_of_item None = None
-kind_of_item (Some item) = Some (kind_tree item.kind)
-
-item_slot : (o : Option Item) → kind_of_slot (slot_of_item (option_map item_tree o)) ≡ kind_of_item o
-item_slot None = refl
-item_slot (Some item) = refl
-
-kind_at_place : (items : List Item) (uap : List UapSlot) (i : ℕ) → kind_behind i (slots_of (map (uap_slot (map item_tree items)) uap)) ≡ kind_of_item (item_of_slot (slice_get uap i) items)
-kind_at_place items [] i = refl
-kind_at_place items (s ∷ ss) zero = ap kind_of_slot (uap_slot_tree items s) ∙ item_slot (item_of_slot (Some s) items)
-kind_at_place items (s ∷ ss) (suc i) = kind_at_place items ss i
-
-kind_of_frn : (spec : Spec) (t : ℕ) → slot_kind (record_slots (spec_tree spec)) t ≡ kind_of_item (item_of_frn t spec.uap spec.items)
-kind_of_frn spec zero = refl
-kind_of_frn spec (suc i) = kind_at_place spec.items spec.uap i
-
 pub item_counted : (spec : Spec) (t : ℕ) (item : Item) (v : ValueTree) → item_of_frn t spec.uap spec.items ≡ Some item
     → octets_where (slot_kind (record_slots (spec_tree spec)) t) (octets v) ≡ octets v (kind_tree item.kind)
 item_counted spec t item v e = ap (λ o. octets_where o (octets v)) (kind_of_frn spec t ∙ ap kind_of_item e)
@@ -176,12 +160,12 @@ pub ruleset item_kinds = (item_counted, no_item_counted)
 -- ---- records
 
 pub record_taken : (spec : Spec) (rs : List Record) (i : ℕ) (r : Record) (total new all : ℕ) → i < length rs → r ≡ get_or rs i r
-    → held (total + records_octets spec (drop i rs)) ≡ held all → new ≡ held (total + held (record_octets spec r))
-    → held (new + records_octets spec (drop (i + 1) rs)) ≡ held all
+    → capped (total + records_octets spec (drop i rs)) ≡ capped all → new ≡ capped (total + capped (record_octets spec r))
+    → capped (new + records_octets spec (drop (i + 1) rs)) ≡ capped all
 record_taken spec rs i r total new all within e h n =
     taken total new (record_octets spec r) (records_octets spec (drop i rs)) (records_octets spec (drop (i + 1) rs)) all (ap (records_octets spec) (from_place rs i r within e)) h n
 
-pub records_done : (spec : Spec) (rs : List Record) (i total all : ℕ) → length rs ≤ i → total ≤ 18446744073709551615 → held (total + records_octets spec (drop i rs)) ≡ held all → total ≡ held all
+pub records_done : (spec : Spec) (rs : List Record) (i total all : ℕ) → length rs ≤ i → total ≤ 18446744073709551615 → capped (total + records_octets spec (drop i rs)) ≡ capped all → total ≡ capped all
 records_done spec rs i total all past small h =
     let none : records_octets spec (drop i rs) ≡ 0 = ap (records_octets spec) (drop_all i rs past) in
     omega (arith, none, h)

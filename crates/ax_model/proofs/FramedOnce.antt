@@ -37,9 +37,9 @@ frames_once limit before octets (raw ∷ raws) (other ∷ others) e d le h g =
 
 -- ---- some way
 
-behind : (xs ys : List ℕ) → AreOctets (xs ++ ys) → AreOctets ys
-behind [] ys h = h
-behind (x ∷ xs) ys h = behind xs ys h.1
+following : (xs ys : List ℕ) → AreOctets (xs ++ ys) → AreOctets ys
+following [] ys h = h
+following (x ∷ xs) ys h = following xs ys h.1
 
 -- what comes next, and what comes after it
 with_next : (limit before : ℕ) (octets : List ℕ) (part : NextPart) → AreOctets octets → IsNext limit before octets part
@@ -48,7 +48,7 @@ with_next : (limit before : ℕ) (octets : List ℕ) (part : NextPart) → AreOc
 with_next limit before octets (end e) all h more = ([], e, h)
 with_next limit before octets (block raw) all h more =
     let p = len_of_front raw.category raw.body h.front h.after octets h.framed h.split in
-    let rest = more (before + length h.front) h.after (omega (arith, p)) (behind h.front h.after (subst AreOctets h.split all)) in
+    let rest = more (before + length h.front) h.after (omega (arith, p)) (following h.front h.after (subst AreOctets h.split all)) in
     (raw ∷ rest.0, rest.1, (h, rest.2))
 
 -- n is at least the count of the octets
@@ -129,9 +129,9 @@ raws_append [] others front octets h g = subst (AreRaws others) (ap (λ l. l ++ 
 raws_append (raw ∷ raws) others front octets (x, y, split, framed, some, more) g =
     (x, y ++ octets, ap (λ l. l ++ octets) split ∙ append_assoc x y octets, framed, some, raws_append raws others y octets more g)
 
-pub some_framed_behind : (front rest : List ℕ) (limit : ℕ) (raws : List RawTree) → AreRaws raws front → length front ≤ limit → AreOctets rest
+pub some_framed_after : (front rest : List ℕ) (limit : ℕ) (raws : List RawTree) → AreRaws raws front → length front ≤ limit → AreOctets rest
     → (after : List RawTree) × (e : FramingEnd) × Framed (front ++ rest) limit (raws ++ after) e
-some_framed_behind front rest limit raws h le all =
+some_framed_after front rest limit raws h le all =
     let t = some_frames (length rest) limit (length front) rest (omega arith) all in
     let g = at_once limit (length front) rest t.0 t.1 le t.2 in
     let count : length front + length g.front ≡ length (front ++ g.front) = sym (length-append front g.front) in

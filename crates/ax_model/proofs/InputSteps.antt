@@ -3,7 +3,7 @@ use Rattle.std.proofs.Common.{◌≡◌, ◌↔◌, ℕ, ◌+◌, ◌*◌, ◌<�
 use Rattle.ax_bits.proofs.Words.{length-bits}
 use Rattle.ax_bits.specs.Bits.{bits, AreOctets}
 use Rattle.ax_model.proofs.BodyReader.{record_some}
-use Rattle.ax_model.proofs.FramedOnce.{some_framed_behind}
+use Rattle.ax_model.proofs.FramedOnce.{some_framed_after}
 use Rattle.ax_model.specs.Blocks.{BlockTree, read_block, opaque_block, IsFramed, SpellsBlock, SpellsStream}
 use Rattle.ax_model.specs.Bodies.{RecordsSpell}
 use Rattle.ax_model.specs.Ends.{RawSpells, RawsSpell, RawFails, by_framing, by_body, Ends}
@@ -18,12 +18,6 @@ pub raws_more : (raws : List RawTree) (raw : RawTree) (front octets : List ℕ) 
 raws_more [] raw front octets h framed some = (octets, [], ap (λ l. l ++ octets) h ∙ sym (append-nil octets), framed, some, refl)
 raws_more (r ∷ raws) raw front octets (x, y, split, f, s, more) framed some =
     (x, y ++ octets, ap (λ l. l ++ octets) split ∙ append_assoc x y octets, f, s, raws_more raws raw y octets more framed some)
-
-pub stream_more : (catalogue : List SpecTree) (blocks : List BlockTree) (block : BlockTree) (front octets : List ℕ) → SpellsStream catalogue blocks front → SpellsBlock catalogue block octets
-    → SpellsStream catalogue (blocks ++ block ∷ []) (front ++ octets)
-stream_more catalogue [] block front octets h s = (octets, [], ap (λ l. l ++ octets) h ∙ sym (append-nil octets), s, refl)
-stream_more catalogue (b ∷ blocks) block front octets (x, y, split, p, more) s =
-    (x, y ++ octets, ap (λ l. l ++ octets) split ∙ append_assoc x y octets, p, stream_more catalogue blocks block y octets more s)
 
 -- ---- the end, after blocks that spell
 
@@ -40,7 +34,7 @@ pub ends_by_body : (catalogue : List SpecTree) (limit : ℕ) (raws : List RawTre
     → AreRaws raws front → RawsSpell catalogue raws blocks → IsFramed bad.category bad.body octets → 0 < length bad.body → length (front ++ octets) ≤ limit → AreOctets rest → RawFails catalogue bad p c
     → Ends catalogue ((front ++ octets) ++ rest) limit blocks (by_body (length raws) (24 + p) c)
 ends_by_body catalogue limit raws bad blocks front octets rest p c h s framed some within all fails =
-    let t = some_framed_behind (front ++ octets) rest limit (raws ++ bad ∷ []) (raws_more raws bad front octets h framed some) within all in record {
+    let t = some_framed_after (front ++ octets) rest limit (raws ++ bad ∷ []) (raws_more raws bad front octets h framed some) within all in record {
       before = raws;
       bad = bad;
       after = t.0;

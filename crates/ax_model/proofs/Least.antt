@@ -6,28 +6,19 @@ use Rattle.ax_model.specs.Canonical.{marks_of}
 use Rattle.ax_model.specs.Presence.{none_marked, first_mark, later_marks, marks_after, marks_upto, Presence, least_presence, octets_needed}
 use Rattle.ax_model.specs.Spelling.{EntriesSpell}
 use Rattle.ax_model.specs.Tree.{SlotsTree, EntriesTree, no_slots, no_entries, entry_and, slot_and, spare_slot, subitem, ValueTree, slot_count}
+use Rattle.ax_model.proofs.Unmarked.{none_first, none_later}
 
 -- the same marks, if a list goes on with zeros
 abbrev pub Alike : List ℕ → List ℕ → Type 0
 Alike [] b = IsTrue (none_marked b)
 Alike (x ∷ a) b = (x ≡ first_mark b) × Alike a (later_marks b)
 
-none_marked_first : (b : List ℕ) → IsTrue (none_marked b) → first_mark b ≡ 0
-none_marked_first [] h = refl
-none_marked_first (zero ∷ b) h = refl
-none_marked_first (suc x ∷ b) h = cc
-
-none_marked_rest : (b : List ℕ) → IsTrue (none_marked b) → IsTrue (none_marked (later_marks b))
-none_marked_rest [] h = refl
-none_marked_rest (zero ∷ b) h = h
-none_marked_rest (suc x ∷ b) h = cc
-
 Alike-first : (a b : List ℕ) → Alike a b → first_mark a ≡ first_mark b
-Alike-first [] b h = sym (none_marked_first b h)
+Alike-first [] b h = sym (none_first b h)
 Alike-first (x ∷ a) b h = h.0
 
 Alike-rest : (a b : List ℕ) → Alike a b → Alike (later_marks a) (later_marks b)
-Alike-rest [] b h = none_marked_rest b h
+Alike-rest [] b h = none_later b h
 Alike-rest (x ∷ a) b h = h.1
 
 Alike-rests : (n : ℕ) (a b : List ℕ) → Alike a b → Alike (marks_after n a) (marks_after n b)
@@ -40,7 +31,7 @@ none_marked_cons (suc x) a e h = absurd (omega arith)
 
 Alike-none : (a b : List ℕ) → Alike a b → IsTrue (none_marked b) → IsTrue (none_marked a)
 Alike-none [] b h n = refl
-Alike-none (x ∷ a) b h n = none_marked_cons x a (h.0 ∙ none_marked_first b n) (Alike-none a (later_marks b) h.1 (none_marked_rest b n))
+Alike-none (x ∷ a) b h n = none_marked_cons x a (h.0 ∙ none_first b n) (Alike-none a (later_marks b) h.1 (none_later b n))
 
 rests-append : (n : ℕ) (a b : List ℕ) → length a ≡ n → marks_after n (a ++ b) ≡ b
 rests-append zero [] b e = refl
@@ -54,10 +45,6 @@ rests-append (suc n) (x ∷ a) b e = rests-append n a b (omega arith)
 abbrev pub kept : ℕ → List ℕ → List ℕ
 kept zero ms = []
 kept (suc k) ms = cond (none_marked (marks_after 7 ms)) (marks_upto 7 ms) (marks_upto 7 ms ++ kept k (marks_after 7 ms))
-
-length-rest : (a : List ℕ) → length a ≤ length (later_marks a) + 1
-length-rest [] = omega arith
-length-rest (x ∷ a) = omega arith
 
 length-rest-le : (a : List ℕ) → length (later_marks a) ≤ length a - 1
 length-rest-le [] = omega arith

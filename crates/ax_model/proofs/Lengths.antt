@@ -9,7 +9,7 @@ use Rattle.ax_model.proofs.FixedKinds.{fixed_length, members_length}
 use Rattle.ax_model.proofs.Least.{marks_length, enough}
 use Rattle.ax_model.specs.Canonical.{fixed_canon, members_canon, parts_canon, run_canon, each_canon, canon, marks_of, entries_canon}
 use Rattle.ax_model.specs.InBounds.{PartInBounds, InBounds, SlotsInBounds}
-use Rattle.ax_model.specs.Lengths.{run_octets, unit_octets, kind_behind, slot_kind, last_slot, presence_octets, parts_octets, octets_where, octets, each_octets, entries_octets}
+use Rattle.ax_model.specs.Lengths.{run_octets, unit_octets, kind_after, slot_kind, last_slot, presence_octets, parts_octets, octets_where, octets, each_octets, entries_octets}
 use Rattle.ax_model.specs.Presence.{octets_needed, least_presence, later_marks, marks_after, marks_upto, none_marked}
 use Rattle.ax_model.specs.Shape.{FixedShape, MembersShape, PartsShape, EachShape, Shape, EntriesShape}
 use Rattle.ax_model.specs.Tree.{FixedTree, MembersTree, KindTree, fixed, extended, counted, by_fx, explicit, compound, SlotTree, SlotsTree, no_slots, slot_and, spare_slot, subitem, slot_count, ValueTree, part_values, occurrences, content_octets, marked, ValuesTree, no_values, value_and, value_count, ListsTree, no_lists, list_and, EntriesTree, no_entries, entry_and}
@@ -18,34 +18,34 @@ use Rattle.ax_model.specs.Widths.{width, members_width}
 -- ---- presence fields
 
 -- the number, from 1, of the last mark that isn't 0, or 0
-abbrev behind_zero : ℕ → ℕ
-behind_zero zero = zero
-behind_zero (suc n) = suc (suc n)
+abbrev after_zero : ℕ → ℕ
+after_zero zero = zero
+after_zero (suc n) = suc (suc n)
 
 abbrev last_mark : List ℕ → ℕ
 last_mark [] = 0
-last_mark (zero ∷ ms) = behind_zero (last_mark ms)
+last_mark (zero ∷ ms) = after_zero (last_mark ms)
 last_mark (suc m ∷ ms) = suc (last_mark ms)
 
-behind_zero-less : (n : ℕ) → behind_zero n ≡ 0 → n ≡ 0
-behind_zero-less zero e = refl
-behind_zero-less (suc n) e = absurd (omega arith)
+after_zero-less : (n : ℕ) → after_zero n ≡ 0 → n ≡ 0
+after_zero-less zero e = refl
+after_zero-less (suc n) e = absurd (omega arith)
 
 last_none : (ms : List ℕ) → last_mark ms ≡ 0 → none_marked ms ≡ true
 last_none [] e = refl
-last_none (zero ∷ ms) e = last_none ms (behind_zero-less (last_mark ms) e)
+last_none (zero ∷ ms) e = last_none ms (after_zero-less (last_mark ms) e)
 last_none (suc m ∷ ms) e = absurd (omega arith)
 
 none_last : (ms : List ℕ) → none_marked ms ≡ true → last_mark ms ≡ 0
 none_last [] e = refl
-none_last (zero ∷ ms) e = ap behind_zero (none_last ms e)
+none_last (zero ∷ ms) e = ap after_zero (none_last ms e)
 none_last (suc m ∷ ms) e = cc
 
 last_later : (ms : List ℕ) → last_mark (later_marks ms) ≡ last_mark ms - 1
 last_later [] = refl
 last_later (zero ∷ ms) = one_less (last_mark ms)
   where
-    one_less : (n : ℕ) → n ≡ behind_zero n - 1
+    one_less : (n : ℕ) → n ≡ after_zero n - 1
     one_less zero = refl
     one_less (suc n) = omega arith
 last_later (suc m ∷ ms) = omega arith
@@ -79,10 +79,10 @@ least_length (suc (suc k)) ms some le =
 
 no_marks : (s : ℕ) (ss : SlotsTree) → last_mark (marks_of s ss no_entries) ≡ 0
 no_marks s no_slots = refl
-no_marks s (slot_and spare_slot ss) = ap behind_zero (no_marks (s + 1) ss)
-no_marks s (slot_and (subitem name k) ss) = ap behind_zero (no_marks (s + 1) ss)
+no_marks s (slot_and spare_slot ss) = ap after_zero (no_marks (s + 1) ss)
+no_marks s (slot_and (subitem name k) ss) = ap after_zero (no_marks (s + 1) ss)
 
-pushed : (n : ℕ) → 0 < n → behind_zero n ≡ n + 1
+pushed : (n : ℕ) → 0 < n → after_zero n ≡ n + 1
 pushed zero h = absurd (omega arith)
 pushed (suc n) h = omega arith
 
@@ -116,7 +116,7 @@ last_within : (ms : List ℕ) → last_mark ms ≤ length ms
 last_within [] = omega arith
 last_within (zero ∷ ms) = pushed_within (last_mark ms) (length ms) (last_within ms)
   where
-    pushed_within : (n l : ℕ) → n ≤ l → behind_zero n ≤ suc l
+    pushed_within : (n l : ℕ) → n ≤ l → after_zero n ≤ suc l
     pushed_within zero l h = omega arith
     pushed_within (suc n) l h = omega arith
 last_within (suc m ∷ ms) = let h = last_within ms in omega arith
@@ -176,14 +176,14 @@ each_length k one (value_and v vs) h = omega (arith, length-append (canon k v) (
 
 -- the kinds of slots by number are those of the slots from s on
 abbrev AreKinds : (ℕ → Option KindTree) → ℕ → SlotsTree → Type 0
-AreKinds kinds s ss = (i n : ℕ) → n ≡ s + i → kinds n ≡ kind_behind i ss
+AreKinds kinds s ss = (i n : ℕ) → n ≡ s + i → kinds n ≡ kind_after i ss
 
 later_kinds : (kinds : ℕ → Option KindTree) (s : ℕ) (slot : SlotTree) (ss : SlotsTree) → AreKinds kinds s (slot_and slot ss) → AreKinds kinds (s + 1) ss
 later_kinds kinds s slot ss h = λ i n e. h (suc i) n (omega arith)
 
 own_kinds : (ss : SlotsTree) → AreKinds (slot_kind ss) 1 ss
 own_kinds ss i zero e = absurd (omega arith)
-own_kinds ss i (suc n) e = let same : n ≡ i = omega arith in ap (λ j. kind_behind j ss) same
+own_kinds ss i (suc n) e = let same : n ≡ i = omega arith in ap (λ j. kind_after j ss) same
 
 entry_length : (s : ℕ) (k : KindTree) (ss : SlotsTree) (t : ℕ) (v : ValueTree) (es : EntriesTree) (kinds : ℕ → Option KindTree) (b : Bool) → (t == s) ≡ b → (t ≡ s → kinds t ≡ Some k)
     → (Shape k v → length (canon k v) ≡ 8 * octets v k) → (EntriesShape (s + 1) ss es → length (entries_canon (s + 1) ss es) ≡ 8 * entries_octets es kinds)

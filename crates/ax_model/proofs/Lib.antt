@@ -7,6 +7,7 @@ pub mod ByReading
 pub mod CanonFramed
 pub mod CanonOnce
 pub mod CanonSpells
+pub mod CategoryDigits
 pub mod Completions
 pub mod Counting
 pub mod EndsOnce
@@ -19,6 +20,7 @@ pub mod Framings
 pub mod Fronts
 pub mod InputExamples
 pub mod InputSteps
+pub mod ItemKinds
 pub mod Judged
 pub mod Least
 pub mod Lengths
@@ -36,6 +38,7 @@ pub mod Spelled
 pub mod SpelledBits
 pub mod Stays
 pub mod StreamsApart
+pub mod Unmarked
 pub mod VariantTrees
 pub mod WholeOctets
 pub mod WorkedExamples

@@ -126,8 +126,8 @@ pub named_more : (names : List (List ℕ)) (front : List ℕ) → AllByRecursion
 named_more names front all is = all_append names (front ∷ []) all (is, tt)
 
 -- the first piece of a text, whether others follow it or not
-pub begins : {A : Type 0} (o : Option A) (t front : List ℕ) (behind : A → List ℕ) → MatchOption o (pieces t ≡ front ∷ []) (λ a. pieces t ≡ front ∷ pieces (behind a)) → (more : List (List ℕ)) × (pieces t ≡ front ∷ more)
-begins None t front behind e = ([], e)
-begins (Some a) t front behind e = (pieces (behind a), e)
+pub begins : {A : Type 0} (o : Option A) (t front : List ℕ) (following : A → List ℕ) → MatchOption o (pieces t ≡ front ∷ []) (λ a. pieces t ≡ front ∷ pieces (following a)) → (more : List (List ℕ)) × (pieces t ≡ front ∷ more)
+begins None t front following e = ([], e)
+begins (Some a) t front following e = (pieces (following a), e)
 
 pub ruleset texts = (path_found, no_path, one_more, named_more)

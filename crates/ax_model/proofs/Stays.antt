@@ -6,7 +6,7 @@ use Rattle.ax_model.proofs.Once.{never_both}
 use Rattle.ax_model.specs.Failing.{PartsFail, RunFails, PresenceFails, Fails, EntriesFail}
 use Rattle.ax_model.specs.Presence.{FirstUndefined, later_slots, slots_past, octets_needed, later_marks}
 use Rattle.ax_model.specs.Spelling.{Spells}
-use Rattle.ax_model.specs.Telling.{BeginAlike, told}
+use Rattle.ax_model.specs.Telling.{BeginAlike, fault_bits}
 use Rattle.ax_model.specs.Tree.{MembersTree, FixedTree, KindTree, fixed, extended, counted, by_fx, explicit, compound, slot_count, defined_slots, SlotsTree, no_slots, slot_and, spare_slot, subitem, ValueTree}
 use Rattle.ax_model.specs.declared.fault.BodyCause.{BodyCause}
 use Rattle.ax_model.specs.declared.fault.BodyCause.TheVariants.{RunsOut, UndefinedSlot, BadExplicitLength}
@@ -21,31 +21,31 @@ front_of (c ∷ h) r (a ∷ x) y e le =
     (t.0, (λ i. same i ∷ t.1 i), t.2)
 
 -- after a common front
-pub behind : (n m : ℕ) (b d x y : List ℕ) → BeginAlike n b d → b ≡ x ++ y → length x + m ≤ n → (z : List ℕ) × (d ≡ x ++ z) × BeginAlike m y z
-behind n m b d x y s e le =
+pub following : (n m : ℕ) (b d x y : List ℕ) → BeginAlike n b d → b ≡ x ++ y → length x + m ≤ n → (z : List ℕ) × (d ≡ x ++ z) × BeginAlike m y z
+following n m b d x y s e le =
     let t = front_of s.common s.left x y (sym s.first ∙ e) (let l = s.long in omega arith) in
     let second : d ≡ x ++ (t.0 ++ s.right) = s.second ∙ ap (λ h. h ++ s.right) t.1 ∙ append_assoc x t.0 s.right in
     let all : length s.common ≡ length x + length t.0 = ap length t.1 ∙ length-append x t.0 in
     (t.0 ++ s.right, second, record { common = t.0; left = s.left; right = s.right; long = (let l = s.long in omega arith); first = t.2; second = refl })
 
 -- after a front and one more bit
-behind_unit : (n m : ℕ) (b d x y : List ℕ) (fx : ℕ) → BeginAlike n b d → b ≡ x ++ fx ∷ y → length x + 1 + m ≤ n → (z : List ℕ) × (d ≡ x ++ fx ∷ z) × BeginAlike m y z
-behind_unit n m b d x y fx s e le =
-    let t = behind n m b d (x ++ fx ∷ []) y s (e ∙ sym (append_assoc x (fx ∷ []) y)) (omega (arith, length-append x (fx ∷ []))) in
+after_unit : (n m : ℕ) (b d x y : List ℕ) (fx : ℕ) → BeginAlike n b d → b ≡ x ++ fx ∷ y → length x + 1 + m ≤ n → (z : List ℕ) × (d ≡ x ++ fx ∷ z) × BeginAlike m y z
+after_unit n m b d x y fx s e le =
+    let t = following n m b d (x ++ fx ∷ []) y s (e ∙ sym (append_assoc x (fx ∷ []) y)) (omega (arith, length-append x (fx ∷ []))) in
     (t.0, t.1 ∙ append_assoc x (fx ∷ []) t.0, t.2)
 
 weaker : (n m : ℕ) (b d : List ℕ) → BeginAlike n b d → m ≤ n → BeginAlike m b d
 weaker n m b d s le = record { common = s.common; left = s.left; right = s.right; long = (let l = s.long in omega arith); first = s.first; second = s.second }
 
 -- the parts still fail, with the same place and cause
-parts_stay : (ps : List MembersTree) (b d : List ℕ) (p : ℕ) (c : BodyCause) → (c ≡ RunsOut → ⊥) → BeginAlike (p + told c) b d → PartsFail ps b p c → PartsFail ps d p c
+parts_stay : (ps : List MembersTree) (b d : List ℕ) (p : ℕ) (c : BodyCause) → (c ≡ RunsOut → ⊥) → BeginAlike (p + fault_bits c) b d → PartsFail ps b p c → PartsFail ps d p c
 parts_stay [] b d p c more s h = h
 parts_stay (ms ∷ ps) b d p c more s (inl h) = absurd (more h.2)
 parts_stay (ms ∷ ps) b d p c more s (inr (x, y, l, e, inl (f, g, h))) =
-    let one : told c ≡ 1 = ap told h in
-    let t = behind_unit (p + told c) 0 b d x y 1 s e (omega arith) in inr (x, t.0, l, t.1, inl (f, g, h))
+    let one : fault_bits c ≡ 1 = ap fault_bits h in
+    let t = after_unit (p + fault_bits c) 0 b d x y 1 s e (omega arith) in inr (x, t.0, l, t.1, inl (f, g, h))
 parts_stay (ms ∷ ps) b d p c more s (inr (x, y, l, e, inr (q, f, h))) =
-    let t = behind_unit (p + told c) (q + told c) b d x y 1 s e (omega arith) in inr (x, t.0, l, t.1, inr (q, f, parts_stay ps y t.0 q c more t.2 h))
+    let t = after_unit (p + fault_bits c) (q + fault_bits c) b d x y 1 s e (omega arith) in inr (x, t.0, l, t.1, inr (q, f, parts_stay ps y t.0 q c more t.2 h))
 
 run_ends : (n : ℕ) (f : FixedTree) (b : List ℕ) (p : ℕ) (c : BodyCause) → RunFails n f b p c → c ≡ RunsOut
 run_ends zero f b p c h = h.2
@@ -99,18 +99,18 @@ undefined_in ds [] j h = absurd h
 undefined_in ds (m ∷ ms) zero h = omega arith
 undefined_in ds (m ∷ ms) (suc j) h = omega (arith, undefined_in (later_slots ds) ms j h.1)
 
-presence_stays : (k : ℕ) (ds : List Bool) (b d : List ℕ) (p : ℕ) (c : BodyCause) → (c ≡ RunsOut → ⊥) → BeginAlike (p + told c) b d → PresenceFails k ds b p c → PresenceStops k ds d
+presence_stays : (k : ℕ) (ds : List Bool) (b d : List ℕ) (p : ℕ) (c : BodyCause) → (c ≡ RunsOut → ⊥) → BeginAlike (p + fault_bits c) b d → PresenceFails k ds b p c → PresenceStops k ds d
 presence_stays zero ds b d p c more s h = absurd h
 presence_stays (suc k) ds b d p c more s (inl h) = absurd (more h.2)
 presence_stays (suc k) ds b d p c more s (inr (x, fx, y, l, e, inl (h, f))) =
-    let one : told c ≡ 1 = ap told f in
+    let one : fault_bits c ≡ 1 = ap fault_bits f in
     let lt : p < 7 = omega (arith, undefined_in ds x p h) in
-    undefined_octet k ds b d x (fx ∷ y) p (weaker (p + told c) (p + 1) b d s (omega arith)) e l lt h (octet_or_end d)
+    undefined_octet k ds b d x (fx ∷ y) p (weaker (p + fault_bits c) (p + 1) b d s (omega arith)) e l lt h (octet_or_end d)
 presence_stays (suc k) ds b d p c more s (inr (x, fx, y, l, e, inr (clear, f, inl (z, g, h)))) =
-    let one : told c ≡ 1 = ap told h in
-    let t = behind_unit (p + told c) 0 b d x y fx s e (omega arith) in (p, c, inr (x, fx, t.0, l, t.1, inr (clear, f, inl (z, g, h))))
+    let one : fault_bits c ≡ 1 = ap fault_bits h in
+    let t = after_unit (p + fault_bits c) 0 b d x y fx s e (omega arith) in (p, c, inr (x, fx, t.0, l, t.1, inr (clear, f, inl (z, g, h))))
 presence_stays (suc k) ds b d p c more s (inr (x, fx, y, l, e, inr (clear, f, inr (q, g, h)))) =
-    let t = behind_unit (p + told c) (q + told c) b d x y fx s e (omega arith) in
+    let t = after_unit (p + fault_bits c) (q + fault_bits c) b d x y fx s e (omega arith) in
     let u = presence_stays k (slots_past x ds) y t.0 q c more t.2 h in (8 + u.0, u.1, inr (x, fx, t.0, l, t.1, inr (clear, f, inr (u.0, refl, u.2))))
 
 abbrev pub Stops : KindTree → List ℕ → Type 0
@@ -118,35 +118,35 @@ Stops k d = (q : ℕ) × (e : BodyCause) × Fails k d q e
 
 mutual
   -- whatever follows the bits that tell the fault, the kind fails
-  pub fails_stays : (k : KindTree) (b d : List ℕ) (p : ℕ) (c : BodyCause) → (c ≡ RunsOut → ⊥) → BeginAlike (p + told c) b d → Fails k b p c → Stops k d
+  pub fails_stays : (k : KindTree) (b d : List ℕ) (p : ℕ) (c : BodyCause) → (c ≡ RunsOut → ⊥) → BeginAlike (p + fault_bits c) b d → Fails k b p c → Stops k d
   fails_stays (fixed f) b d p c more s h = absurd (more h.2)
   fails_stays (extended ps) b d p c more s h = (p, c, parts_stay ps b d p c more s h)
   fails_stays (counted k) b d p c more s (inl h) = absurd (more h.2)
   fails_stays (counted k) b d p c more s (inr (r, le, vs, lt, x, y, e, h, q, f, g)) =
-      let t = behind (p + told c) (q + told c) b d (word 8 r ++ x) y s (e ∙ sym (append_assoc (word 8 r) x y)) (omega (arith, length-append (word 8 r) x, length-word 8 r)) in
+      let t = following (p + fault_bits c) (q + fault_bits c) b d (word 8 r ++ x) y s (e ∙ sym (append_assoc (word 8 r) x y)) (omega (arith, length-append (word 8 r) x, length-word 8 r)) in
       let u = fails_stays k y t.0 q c more t.2 g in
       (8 + (length x + u.0), u.1, inr (r, le, vs, lt, x, t.0, t.1 ∙ append_assoc (word 8 r) x t.0, h, u.0, refl, u.2))
   fails_stays (by_fx f) b d p c more s (n, h) = absurd (more (run_ends n f b p c h))
   fails_stays explicit b d p c more s (inl h) = absurd (more h.2)
   fails_stays explicit b d p c more s (inr (inl (y, e, f, g))) =
-      let eight : told c ≡ 8 = ap told g in
-      let t = behind (p + told c) 0 b d (word 8 0) y s e (omega (arith, length-word 8 0)) in (0, BadExplicitLength, inr (inl (t.0, t.1, refl, refl)))
+      let eight : fault_bits c ≡ 8 = ap fault_bits g in
+      let t = following (p + fault_bits c) 0 b d (word 8 0) y s e (omega (arith, length-word 8 0)) in (0, BadExplicitLength, inr (inl (t.0, t.1, refl, refl)))
   fails_stays explicit b d p c more s (inr (inr (m, le, y, e, lt, f, g))) = absurd (more g)
   fails_stays (compound ss) b d p c more s (inl h) = let u = presence_stays (octets_needed (slot_count ss)) (defined_slots ss) b d p c more s h in (u.0, u.1, inl u.2)
   fails_stays (compound ss) b d p c more s (inr (ms, x, y, e, h, clear, q, f, g)) =
-      let t = behind (p + told c) (q + told c) b d x y s e (omega arith) in
+      let t = following (p + fault_bits c) (q + fault_bits c) b d x y s e (omega arith) in
       let u = entries_stay ss ms y t.0 q c more t.2 g in (length x + u.0, u.1, inr (ms, x, t.0, t.1, h, clear, u.0, refl, u.2))
 
-  pub entries_stay : (ss : SlotsTree) (ms b d : List ℕ) (p : ℕ) (c : BodyCause) → (c ≡ RunsOut → ⊥) → BeginAlike (p + told c) b d → EntriesFail ss ms b p c → (q : ℕ) × (e : BodyCause) × EntriesFail ss ms d q e
+  pub entries_stay : (ss : SlotsTree) (ms b d : List ℕ) (p : ℕ) (c : BodyCause) → (c ≡ RunsOut → ⊥) → BeginAlike (p + fault_bits c) b d → EntriesFail ss ms b p c → (q : ℕ) × (e : BodyCause) × EntriesFail ss ms d q e
   entries_stay no_slots ms b d p c more s h = absurd h
   entries_stay (slot_and spare_slot ss) ms b d p c more s h = entries_stay ss (later_marks ms) b d p c more s h
   entries_stay (slot_and (subitem name k) ss) ms b d p c more s (inl h) = let u = fails_stays k b d p c more s h.1 in (u.0, u.1, inl (h.0, u.2))
   entries_stay (slot_and (subitem name k) ss) ms b d p c more s (inr (inl (m, v, x, y, e, h, q, f, g))) =
-      let t = behind (p + told c) (q + told c) b d x y s e (omega arith) in
+      let t = following (p + fault_bits c) (q + fault_bits c) b d x y s e (omega arith) in
       let u = entries_stay ss (later_marks ms) y t.0 q c more t.2 g in (length x + u.0, u.1, inr (inl (m, v, x, t.0, t.1, h, u.0, refl, u.2)))
   entries_stay (slot_and (subitem name k) ss) ms b d p c more s (inr (inr h)) = let u = entries_stay ss (later_marks ms) b d p c more s h.1 in (u.0, u.1, inr (inr (h.0, u.2)))
 
 -- so they begin no spelling
-pub told_spells_none : (k : KindTree) (b d x y : List ℕ) (p : ℕ) (c : BodyCause) (v : ValueTree) → (c ≡ RunsOut → ⊥) → BeginAlike (p + told c) b d → Fails k b p c → d ≡ x ++ y → Spells k v x → ⊥
+pub told_spells_none : (k : KindTree) (b d x y : List ℕ) (p : ℕ) (c : BodyCause) (v : ValueTree) → (c ≡ RunsOut → ⊥) → BeginAlike (p + fault_bits c) b d → Fails k b p c → d ≡ x ++ y → Spells k v x → ⊥
 told_spells_none k b d x y p c v more s h e g =
     let u = fails_stays k b d p c more s h in never_both k v x y u.0 u.1 g (subst (λ d. Fails k d u.0 u.1) e u.2)

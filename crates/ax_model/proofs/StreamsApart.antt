@@ -49,9 +49,9 @@ stream_once catalogue (block ∷ blocks) (other ∷ others) octets (front, rest,
     let p = len_of_front f.category f.body front rest octets f.framed split in
     let q = len_of_front g.category g.body begin later octets g.framed cut in
     let fronts : begin ≡ front = same_front begin front later rest (sym cut ∙ split) (sym q.0 ∙ p.0) in
-    let behind : later ≡ rest = sym (drop-append_seam begin later) ∙ ap (drop (length begin)) (sym cut ∙ split) ∙ ap (λ l. drop (length l) (front ++ rest)) fronts ∙ drop-append_seam front rest in
+    let following : later ≡ rest = sym (drop-append_seam begin later) ∙ ap (drop (length begin)) (sym cut ∙ split) ∙ ap (λ l. drop (length l) (front ++ rest)) fronts ∙ drop-append_seam front rest in
     let head : block ≡ other = block_once catalogue front f.category f.body block other f.framed s (subst (SpellsBlock catalogue other) fronts t) in
-    let tail : blocks ≡ others = stream_once catalogue blocks others rest more (subst (SpellsStream catalogue others) behind rests) in
+    let tail : blocks ≡ others = stream_once catalogue blocks others rest more (subst (SpellsStream catalogue others) following rests) in
     λ i. head i ∷ tail i
 
 -- ---- canonical octets

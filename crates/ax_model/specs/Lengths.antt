@@ -1,4 +1,4 @@
--- How many octets the canonical spelling of a value has, as a count along the value. Widths are held at 2^64 - 1.
+-- How many octets the canonical spelling of a value has, as a count along the value. Widths are capped at 2^64 - 1.
 use Rattle.std.specs.Prelude.{ℕ, zero, suc, ◌+◌, ◌*◌, ◌/◌, min, List, [], ◌∷◌, length, Option, Some, None}
 use Rattle.ax_model.specs.Plain.{spec_tree, record_tree}
 use Rattle.ax_model.specs.Specification.{record_kind}
@@ -8,15 +8,15 @@ use Rattle.ax_model.specs.declared.record.Record.{Record}
 use Rattle.ax_model.specs.declared.spec.Spec.{Spec}
 
 -- the greatest count that 64 bits hold stands for every greater one
-abbrev pub held : ℕ → ℕ
-held n = min n 18446744073709551615
+abbrev pub capped : ℕ → ℕ
+capped n = min n 18446744073709551615
 
 -- whole octets of w bits, and of w bits and an FX bit
 abbrev pub run_octets : ℕ → ℕ
-run_octets w = held w / 8
+run_octets w = capped w / 8
 
 abbrev pub unit_octets : ℕ → ℕ
-unit_octets w = held (held w + 1) / 8
+unit_octets w = capped (capped w + 1) / 8
 
 -- ---- slots by number
 
@@ -25,15 +25,15 @@ kind_of_slot spare_slot = None
 kind_of_slot (subitem name k) = Some k
 
 -- the kind of the slot after i others
-abbrev pub kind_behind : ℕ → SlotsTree → Option KindTree
-kind_behind i no_slots = None
-kind_behind zero (slot_and s ss) = kind_of_slot s
-kind_behind (suc i) (slot_and s ss) = kind_behind i ss
+abbrev pub kind_after : ℕ → SlotsTree → Option KindTree
+kind_after i no_slots = None
+kind_after zero (slot_and s ss) = kind_of_slot s
+kind_after (suc i) (slot_and s ss) = kind_after i ss
 
 -- the kind of the slot of a number, which counts from 1
 abbrev pub slot_kind : SlotsTree → ℕ → Option KindTree
 slot_kind ss zero = None
-slot_kind ss (suc i) = kind_behind i ss
+slot_kind ss (suc i) = kind_after i ss
 
 -- the number of the last entry's slot, or t where there is no entry
 abbrev pub last_slot : ℕ → EntriesTree → ℕ

@@ -115,6 +115,3 @@ records_tree rs = map record_tree rs
 abbrev pub block_tree : Block → BlockTree
 block_tree (BlockOf.Read category records) = read_block category (records_tree records)
 block_tree (BlockOf.Opaque category octets) = opaque_block category octets
-
-abbrev pub blocks_tree : List Block → List BlockTree
-blocks_tree blocks = map block_tree blocks

@@ -2,6 +2,7 @@
 use Rattle.std.specs.Prelude.{◌≡◌, ◌<◌, ◌≤◌, List, length, Option, Some, None}
 use Rattle.ax_model.specs.Blocks.{BlockTree, read_block, opaque_block, Fits}
 use Rattle.ax_model.specs.CanonicalOctets.{canon_over, category_of}
+use Rattle.ax_model.specs.Sizes.{longest_block}
 use Rattle.ax_model.specs.Specification.{SpecTree, spec_of}
 
 -- there is one list of blocks and one end
@@ -18,4 +19,4 @@ FitsOver None (opaque_block category content) = 0 < length content
 -- it fits the catalogue, and its canonical form is no longer than LEN can say
 pub record IsWritable (catalogue : List SpecTree) (block : BlockTree) : Type 0 where
   pub fits : FitsOver (spec_of (category_of block) catalogue) block
-  pub within : length (canon_over (spec_of (category_of block) catalogue) block) ≤ 65535
+  pub within : length (canon_over (spec_of (category_of block) catalogue) block) ≤ longest_block

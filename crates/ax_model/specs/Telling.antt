@@ -5,11 +5,11 @@ use Rattle.ax_model.specs.declared.fault.BodyCause.TheVariants.{RunsOut, Undefin
 
 -- how many bits from the place on tell a fault: the bit itself, or the whole length octet; want of bits isn't told by any
 abbrev pub told : BodyCause → ℕ
-told BadExplicitLength = 8
-told RunsOut = 0
-told UndefinedSlot = 1
-told PresenceTooLong = 1
-told ExtensionPastEnd = 1
+fault_bits BadExplicitLength = 8
+fault_bits RunsOut = 0
+fault_bits UndefinedSlot = 1
+fault_bits PresenceTooLong = 1
+fault_bits ExtensionPastEnd = 1
 
 -- two lists begin alike for n bits
 pub record BeginAlike (n : ℕ) (b d : List ℕ) : Type 0 where

@@ -26,7 +26,7 @@ fn item_of<'s>(spec: &'s Spec, slot: &UapSlot) -> Option<&'s Item>
 
 /// The entries after the one of this slot of the UAP, if there is one. None comes where that doesn't fit.
 #[tactic(auto, using(crate::proofs::RecordFitting::slot_steps))]
-fn behind_slot<'e>(
+fn after_slot<'e>(
     spec: &Spec,
     number: u64,
     slot: &UapSlot,
@@ -62,7 +62,7 @@ fn fits_record(spec: &Spec, one: &Record) -> bool
     let mut number: u64 = 1;
     let mut rest = one.entries.as_slice();
     for slot in spec.uap.as_slice() {
-        let Some(later) = behind_slot(spec, number, slot, rest) else {
+        let Some(later) = after_slot(spec, number, slot, rest) else {
             return false;
         };
         number += 1;

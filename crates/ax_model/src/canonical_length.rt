@@ -1,7 +1,7 @@
 //! How many octets the canonical form of a block has. Nothing here takes memory.
 ghost use Rattle.std.specs.Prelude.{◌≡◌, ◌+◌, ◌*◌, ◌/◌, map, option_map};
 ghost use Rattle.std.specs.Option.{option_copied};
-ghost use Rattle.ax_model.specs.Lengths.{held, octets, each_octets, entries_octets, octets_where, slot_kind, unit_octets, parts_octets, presence_octets, last_slot};
+ghost use Rattle.ax_model.specs.Lengths.{capped, octets, each_octets, entries_octets, octets_where, slot_kind, unit_octets, parts_octets, presence_octets, last_slot};
 ghost use Rattle.ax_model.specs.Lengths.{record_octets, records_octets};
 ghost use Rattle.ax_model.specs.OfCode.{BlockFits, HasNoFlaw, block_length};
 ghost use Rattle.ax_model.specs.Plain.{fixed_tree, kind_tree, slot_tree, part_tree, spec_tree, slots_tree, value_tree, values_tree, lists_tree, entries_tree};
@@ -17,7 +17,7 @@ use crate::value::{Entries, Entry, Value, Values};
 
 /// Whole octets of so many bits and an FX bit.
 fn unit_octets_of(width: u64) -> u64
-    ensures { result ≡ held (width + 1) / 8 }
+    ensures { result ≡ capped (width + 1) / 8 }
 {
     width.saturating_add(1) / 8
 }
@@ -32,7 +32,7 @@ fn presence_octets_of(last: u32) -> u64
 /// The octets of the parts that are present.
 #[tactic(auto, using(crate::proofs::Counting::parts))]
 fn octets_of_parts(parts: &[Part], lists: &[Values]) -> u64
-    ensures { result ≡ held (parts_octets (map part_tree parts.now) (lists_tree lists.now)) }
+    ensures { result ≡ capped (parts_octets (map part_tree parts.now) (lists_tree lists.now)) }
 {
     let mut total: u64 = 0;
     let mut parts = parts;
@@ -51,15 +51,15 @@ fn octets_of_parts(parts: &[Part], lists: &[Values]) -> u64
 /// The octets of occurrences of a fixed kind, each with its FX bit.
 #[tactic(auto, using(crate::proofs::Counting::run_counted))]
 fn octets_of_run(values: &Values, fixed: &Fixed) -> u64
-    ensures { result ≡ held (value_count (values_tree values.now) * unit_octets (width (fixed_tree fixed.now))) }
+    ensures { result ≡ capped (value_count (values_tree values.now) * unit_octets (width (fixed_tree fixed.now))) }
 {
     u64::from(values.count()).saturating_mul(unit_octets_of(fixed.width()))
 }
 
-/// The octets of a value's canonical spelling under its kind, held at 2^64 - 1. Takes no memory.
+/// The octets of a value's canonical spelling under its kind, capped at 2^64 - 1. Takes no memory.
 #[cycle(octets)]
 pub fn octets_of(value: &Value, kind: &Kind) -> u64
-    ensures { result ≡ held (octets (value_tree value.now) (kind_tree kind.now)) }
+    ensures { result ≡ capped (octets (value_tree value.now) (kind_tree kind.now)) }
 {
     match (value, kind) {
         (_, Kind::Fixed(fixed)) => fixed.width() / 8,
@@ -79,7 +79,7 @@ pub fn octets_of(value: &Value, kind: &Kind) -> u64
 #[cycle(octets)]
 #[tactic(auto, using(crate::proofs::Counting::each))]
 fn octets_of_each(values: &Values, kind: &Kind) -> u64
-    ensures { result ≡ held (each_octets (values_tree values.now) (kind_tree kind.now)) }
+    ensures { result ≡ capped (each_octets (values_tree values.now) (kind_tree kind.now)) }
 {
     let mut total: u64 = 0;
     for value in values.as_slice() {
@@ -90,7 +90,7 @@ fn octets_of_each(values: &Values, kind: &Kind) -> u64
 
 #[cycle(octets)]
 fn octets_of_entry(entry: &Entry, slots: &Slots) -> u64
-    ensures { result ≡ held (octets_where (slot_kind (slots_tree slots.now) entry.now.slot) (octets (value_tree entry.now.value))) }
+    ensures { result ≡ capped (octets_where (slot_kind (slots_tree slots.now) entry.now.slot) (octets (value_tree entry.now.value))) }
 {
     match subitem_kind(slots, entry.slot) {
         Some(kind) => octets_of(&entry.value, kind),
@@ -102,7 +102,7 @@ fn octets_of_entry(entry: &Entry, slots: &Slots) -> u64
 #[cycle(octets)]
 #[tactic(auto, using(crate::proofs::Counting::entries))]
 fn octets_of_entries(entries: &Entries, slots: &Slots) -> u64
-    ensures { result ≡ held (octets (marked (entries_tree entries.now)) (compound (slots_tree slots.now))) }
+    ensures { result ≡ capped (octets (marked (entries_tree entries.now)) (compound (slots_tree slots.now))) }
 {
     let mut last: u32 = 1;
     let mut total: u64 = 0;
@@ -115,7 +115,7 @@ fn octets_of_entries(entries: &Entries, slots: &Slots) -> u64
 
 #[tactic(auto, using(crate::proofs::Counting::item_kinds))]
 fn octets_of_item(spec: &Spec, entry: &Entry) -> u64
-    ensures { result ≡ held (octets_where (slot_kind (record_slots (spec_tree spec.now)) entry.now.slot) (octets (value_tree entry.now.value))) }
+    ensures { result ≡ capped (octets_where (slot_kind (record_slots (spec_tree spec.now)) entry.now.slot) (octets (value_tree entry.now.value))) }
 {
     match spec.slot(entry.slot) {
         Some(item) => octets_of(&entry.value, &item.kind),
@@ -126,7 +126,7 @@ fn octets_of_item(spec: &Spec, entry: &Entry) -> u64
 /// The octets of a record: of its FSPEC, then of its items.
 #[tactic(auto, using(crate::proofs::Counting::entries))]
 fn octets_of_record(spec: &Spec, one: &Record) -> u64
-    ensures { result ≡ held (record_octets spec.now one.now) }
+    ensures { result ≡ capped (record_octets spec.now one.now) }
 {
     let mut last: u32 = 1;
     let mut total: u64 = 0;
@@ -139,7 +139,7 @@ fn octets_of_record(spec: &Spec, one: &Record) -> u64
 
 #[tactic(auto, using(crate::proofs::Counting::records))]
 fn octets_of_records(spec: &Spec, records: &[Record]) -> u64
-    ensures { result ≡ held (records_octets spec.now records.now) }
+    ensures { result ≡ capped (records_octets spec.now records.now) }
 {
     let mut total: u64 = 0;
     for one in records {
@@ -148,13 +148,13 @@ fn octets_of_records(spec: &Spec, records: &[Record]) -> u64
     total
 }
 
-/// The octets of the block's canonical form, CAT and LEN included, held at 2^64 - 1 where there are more. The
+/// The octets of the block's canonical form, CAT and LEN included, capped at 2^64 - 1 where there are more. The
 /// specification has no flaw, and the block fits it.
 #[tactic(auto, using(crate::proofs::BlockLengths::blocks))]
 pub fn canon_length(spec: &Spec, block: &Block) -> u64
     requires no_flaw { HasNoFlaw spec.now }
     requires block_fits { BlockFits spec.now block.now }
-    ensures { result ≡ held (block_length spec.now block.now) }
+    ensures { result ≡ capped (block_length spec.now block.now) }
 {
     match block {
         Block::Read { records, .. } => {

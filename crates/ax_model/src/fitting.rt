@@ -185,7 +185,7 @@ fn fits_slots(slots: &Slots, entries: &Entries) -> bool
     let mut number: u64 = 1;
     let mut rest = entries.as_slice();
     for slot in slots.as_slice() {
-        let Some(later) = behind_slot(number, slot, rest) else {
+        let Some(later) = after_slot(number, slot, rest) else {
             return false;
         };
         number += 1;
@@ -196,7 +196,7 @@ fn fits_slots(slots: &Slots, entries: &Entries) -> bool
 
 /// The entries after the one of this slot, if there is one. None comes where that doesn't fit.
 #[cycle(kind_fits)]
-fn behind_slot<'e>(number: u64, slot: &Slot, entries: &'e [Entry]) -> Option<&'e [Entry]>
+fn after_slot<'e>(number: u64, slot: &Slot, entries: &'e [Entry]) -> Option<&'e [Entry]>
     ensures { MatchOption result
         ((ss : SlotsTree) → entries_fit number (slot_and (slot_tree slot.now) ss) (entries_tree entries.now) ≡ false)
         (λ rest. (ss : SlotsTree) → entries_fit number (slot_and (slot_tree slot.now) ss) (entries_tree entries.now) ≡ entries_fit (number + 1) ss (entries_tree rest.now)) }

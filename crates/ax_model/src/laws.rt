@@ -19,7 +19,7 @@ ghost use Rattle.ax_model.specs.Sound.{Sound};
 ghost use Rattle.ax_model.specs.Specification.{SpecTree, record_kind};
 ghost use Rattle.ax_model.specs.Spelling.{Spells, EntriesSpell};
 ghost use Rattle.ax_model.specs.Standing.{StandsIn};
-ghost use Rattle.ax_model.specs.Telling.{told, BeginAlike};
+ghost use Rattle.ax_model.specs.Telling.{fault_bits, BeginAlike};
 ghost use Rattle.ax_model.specs.Tree.{KindTree, SlotsTree, ValueTree, EntriesTree};
 ghost use Rattle.ax_model.specs.Whole.{Whole};
 ghost use Rattle.ax_model.specs.declared.fault.BodyCause.TheVariants.{RunsOut};
@@ -145,7 +145,7 @@ pub fn least_presence_is_least()
 /// spelling.
 pub fn told_spells_none()
     ensures { (k : KindTree) (b d x y : List ℕ) (p : ℕ) (c : BodyCause) (v : ValueTree) →
-        (c ≡ RunsOut → ⊥) → BeginAlike (p + told c) b d → Fails k b p c → d ≡ x ++ y → Spells k v x → ⊥ }
+        (c ≡ RunsOut → ⊥) → BeginAlike (p + fault_bits c) b d → Fails k b p c → d ≡ x ++ y → Spells k v x → ⊥ }
 {}
 
 /// The bits before a fault begin some spelling, and where octets only run out all of them do.
@@ -158,7 +158,7 @@ pub fn completes()
 /// records.
 pub fn told_spells_no_body()
     ensures { (spec : SpecTree) (b d : List ℕ) (p : ℕ) (c : BodyCause) (records : List EntriesTree) →
-        (c ≡ RunsOut → ⊥) → BeginAlike (p + told c) b d → FailsBody spec b p c → SpellsBody spec records d → ⊥ }
+        (c ≡ RunsOut → ⊥) → BeginAlike (p + fault_bits c) b d → FailsBody spec b p c → SpellsBody spec records d → ⊥ }
 {}
 
 /// The bits before a body's fault begin some body, and where its octets only run out all of them do.

@@ -1,5 +1,6 @@
 ghost use Rattle.std.specs.Prelude.{◌≡◌, ◌≤◌, ◌<◌, ◌+◌, ◌↔◌, ℕ, List, ◌∷◌, [], length, slice_get, IsSome, IfOk, MatchOption};
 ghost use Rattle.std.specs.Option.{option_copied};
+ghost use Rattle.ax_lists.specs.Sizes.{list_bound};
 ghost use Rattle.ax_model.specs.Paths.{IsPathOf, pieces};
 
 use crate::name::Name;
@@ -49,12 +50,12 @@ impl Path {
         let mut names: Sequence<Name> = Sequence::new(alloc);
         let mut rest = text;
         loop {
-            let (front, behind) = first_piece(rest);
+            let (front, following) = first_piece(rest);
             let Some(name) = Name::of(front) else {
                 return Ok(None);
             };
             names.push(name)?;
-            let Some(more) = behind else {
+            let Some(more) = following else {
                 return Ok(Some(Path { names }));
             };
             rest = more;
@@ -81,7 +82,7 @@ impl Path {
     pub fn as_slice(&self) -> &[Name]
         ensures names { result.now ≡ self.now }
         ensures some { 0 < length self.now }
-        ensures bound { length self.now < 4294967296 }
+        ensures bound { length self.now < list_bound }
     {
         self.names.as_slice()
     }

@@ -4,20 +4,10 @@ ghost use Rattle.std.specs.List.{AllByRecursion};
 ghost use Rattle.ax_model.specs.Characters.{IsTextOctet};
 ghost use Rattle.ax_model.specs.Paths.{at, three_digits};
 
+use crate::digits::category_digits;
 use crate::name::Name;
 use crate::text::Text;
 use std::alloc::{AllocError, Global};
-
-/// A category as its three decimal digits.
-pub fn category_digits(category: u8) -> [u8; 3]
-    ensures { result ≡ three_digits category }
-{
-    [
-        b'0' + category / 100,
-        b'0' + category / 10 % 10,
-        b'0' + category % 10,
-    ]
-}
 
 /// Appends octets. A text of more than 2^32 - 1 octets is a want of memory.
 fn push_all(text: &mut Text, octets: &[u8]) -> Result<(), AllocError>

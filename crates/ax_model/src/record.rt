@@ -1,4 +1,5 @@
 ghost use Rattle.std.specs.Prelude.{◌≤◌, length};
+ghost use Rattle.ax_model.specs.Sizes.{longest_body};
 
 use crate::value::{Entries, Octets};
 use ax_lists::Sequence;
@@ -25,5 +26,5 @@ pub struct RawBlock<'a> {
     pub category: u8,
     pub body: &'a [u8],
     pub ghost nonempty: { 1 ≤ length body.now },
-    pub ghost within_block: { length body.now ≤ 65532 },
+    pub ghost within_block: { length body.now ≤ longest_body },
 }

@@ -1,6 +1,7 @@
 ghost use Rattle.std.specs.Prelude.{◌≡◌, ◌∷◌, [], ◌++◌, ◌<◌, ◌↔◌, length, slice_get, IsSome, IfOk, OnOk, OnErr};
 ghost use Rattle.std.specs.Option.{option_copied};
 ghost use Rattle.std.specs.List.{AllByRecursion};
+ghost use Rattle.ax_lists.specs.Sizes.{list_bound};
 ghost use Rattle.ax_model.specs.Characters.{IsTextOctet};
 
 use std::alloc::{AllocError, Global};
@@ -17,12 +18,13 @@ impl Model for Text {
     ghost use Rattle.std.specs.Prelude.{List, ℕ, length, ◌<◌};
     ghost use Rattle.std.specs.List.{AllByRecursion};
     ghost use Rattle.ax_model.specs.Characters.{IsTextOctet};
+    ghost use Rattle.ax_lists.specs.Sizes.{list_bound};
 
     ghost Value = { List ℕ };
 
     ghost view = { λ t. t.octets.items };
 
-    ghost invariant = { λ t. (length t.octets.items < 4294967296) × AllByRecursion IsTextOctet t.octets.items };
+    ghost invariant = { λ t. (length t.octets.items < list_bound) × AllByRecursion IsTextOctet t.octets.items };
 }
 
 impl Text {
@@ -72,7 +74,7 @@ impl Text {
     /// The octets in order.
     pub fn as_slice(&self) -> &[u8]
         ensures octets { result.now ≡ self.now }
-        ensures bound { length self.now < 4294967296 }
+        ensures bound { length self.now < list_bound }
         ensures printable { AllByRecursion IsTextOctet self.now }
     {
         self.octets.as_slice()

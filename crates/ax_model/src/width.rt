@@ -1,24 +1,24 @@
-//! Widths in bits. A width is held at 2^64 - 1 where it is more.
+//! Widths in bits. A width is capped at 2^64 - 1 where it is more.
 ghost use Rattle.std.specs.Prelude.{◌≡◌};
-ghost use Rattle.ax_model.specs.Lengths.{held};
+ghost use Rattle.ax_model.specs.Lengths.{capped};
 ghost use Rattle.ax_model.specs.Plain.{fixed_tree, member_tree, members_tree, part_tree};
 ghost use Rattle.ax_model.specs.Widths.{width, member_width, members_width};
 
 use crate::kind::{Fixed, Member, Members, Part};
 
 impl Fixed {
-    /// The width in bits, held at 2^64 - 1 where it is more. Takes no memory.
+    /// The width in bits, capped at 2^64 - 1 where it is more. Takes no memory.
     pub fn width(&self) -> u64
-        ensures { result ≡ held (width (fixed_tree self.now)) }
+        ensures { result ≡ capped (width (fixed_tree self.now)) }
     {
         width_of(self)
     }
 }
 
 impl Part {
-    /// The width in bits without the FX bit, held at 2^64 - 1 where it is more. Takes no memory.
+    /// The width in bits without the FX bit, capped at 2^64 - 1 where it is more. Takes no memory.
     pub fn width(&self) -> u64
-        ensures { result ≡ held (members_width (part_tree self.now)) }
+        ensures { result ≡ capped (members_width (part_tree self.now)) }
     {
         width_of_members(&self.members)
     }
@@ -26,7 +26,7 @@ impl Part {
 
 #[cycle(width)]
 fn width_of(fixed: &Fixed) -> u64
-    ensures { result ≡ held (width (fixed_tree fixed.now)) }
+    ensures { result ≡ capped (width (fixed_tree fixed.now)) }
 {
     match fixed {
         Fixed::Element { width, .. } => u64::from(*width),
@@ -36,7 +36,7 @@ fn width_of(fixed: &Fixed) -> u64
 
 #[cycle(width)]
 fn width_of_member(member: &Member) -> u64
-    ensures { result ≡ held (member_width (member_tree member.now)) }
+    ensures { result ≡ capped (member_width (member_tree member.now)) }
 {
     match member {
         Member::Named { fixed, .. } => width_of(fixed),
@@ -47,7 +47,7 @@ fn width_of_member(member: &Member) -> u64
 #[cycle(width)]
 #[tactic(auto, using(crate::proofs::Counting::widths))]
 fn width_of_members(members: &Members) -> u64
-    ensures { result ≡ held (members_width (members_tree members.now)) }
+    ensures { result ≡ capped (members_width (members_tree members.now)) }
 {
     let mut total: u64 = 0;
     for member in members.as_slice() {

@@ -91,11 +91,6 @@ fx_is (suc (suc r)) xs lt e = absurd (omega arith)
 pub fx_read : (b : List ℕ) (at r : ℕ) → r < 2 ^ 1 → word 1 r ≡ take 1 (drop at b) → take 1 (drop at b) ≡ fx_bit (r == 1) ∷ []
 fx_read b at r lt e = fx_is r (take 1 (drop at b)) (omega arith) e
 
-single : (z : List ℕ) (fx : ℕ) → length z ≡ 1 → take 1 z ≡ fx ∷ [] → z ≡ fx ∷ []
-single [] fx l e = absurd (omega arith)
-single (a ∷ []) fx l e = e
-single (a ∷ b ∷ z) fx l e = absurd (omega arith)
-
 -- w bits and their FX bit are the octets from `at` up to `end`
 pub record IsUnit (body : List ℕ) (at end w fx : ℕ) : Type 0 where
   pub forwards : at < end

@@ -19,7 +19,7 @@ use Rattle.ax_model.specs.Flaws.{NoFlaw}
 use Rattle.ax_model.specs.InBounds.{InBounds}
 use Rattle.ax_model.specs.Specification.{SpecTree, record_kind}
 use Rattle.ax_model.specs.Spelling.{Spells}
-use Rattle.ax_model.specs.Telling.{told, BeginAlike}
+use Rattle.ax_model.specs.Telling.{fault_bits, BeginAlike}
 use Rattle.ax_model.specs.Tree.{KindTree, ValueTree, EntriesTree, marked}
 use Rattle.ax_model.specs.Whole.{Whole}
 use Rattle.ax_model.specs.declared.fault.BodyCause.{BodyCause}
@@ -59,11 +59,11 @@ module _ (W S : List ℕ → Type 0) (xs : List ℕ) (p : ℕ) (c : BodyCause)
     (whole : (b : List ℕ) → W b → (length b % 8 ≡ 0) × AreBits b)
     (good : (b : List ℕ) → W b → S b)
     (h : Completes W (bits xs) p c)
-    (within : c ≢ RunsOut → p + told c ≤ length (bits xs))
-    (none : (d : List ℕ) → c ≢ RunsOut → BeginAlike (p + told c) (bits xs) d → S d → ⊥) where
-  none_behind : c ≢ RunsOut → (rest : List ℕ) → S (take (p + told c) (bits xs) ++ rest) → ⊥
-  none_behind not rest s =
-      let n = p + told c in
+    (within : c ≢ RunsOut → p + fault_bits c ≤ length (bits xs))
+    (none : (d : List ℕ) → c ≢ RunsOut → BeginAlike (p + fault_bits c) (bits xs) d → S d → ⊥) where
+  none_following : c ≢ RunsOut → (rest : List ℕ) → S (take (p + fault_bits c) (bits xs) ++ rest) → ⊥
+  none_following not rest s =
+      let n = p + fault_bits c in
       none (take n (bits xs) ++ rest) not (record {
         common = take n (bits xs);
         left = drop n (bits xs);
@@ -75,10 +75,10 @@ module _ (W S : List ℕ → Type 0) (xs : List ℕ) (p : ℕ) (c : BodyCause)
 
   none_after : c ≢ RunsOut → (more : List ℕ) → S (bits (xs ++ more)) → ⊥
   none_after not more s =
-      let n = p + told c in
+      let n = p + fault_bits c in
       let joined : bits (xs ++ more) ≡ take n (bits xs) ++ (drop n (bits xs) ++ bits more)
       = bits-append xs more ∙ ap (λ b. b ++ bits more) (sym (take-append-drop n (bits xs))) ∙ append_assoc (take n (bits xs)) (drop n (bits xs)) (bits more) in
-      none_behind not (drop n (bits xs) ++ bits more) (subst S joined s)
+      none_following not (drop n (bits xs) ++ bits more) (subst S joined s)
 
   only : (more : List ℕ) → S (bits (xs ++ more)) → (c ≡ RunsOut) ⊎ (c ≢ RunsOut) → c ≡ RunsOut
   only more s (inl e) = e
@@ -102,7 +102,7 @@ module _ (W S : List ℕ → Type 0) (xs : List ℕ) (p : ℕ) (c : BodyCause)
       (drop p h.kept ++ h.more, subst S (sym joined) (good (h.kept ++ h.more) h.spelled))
 
   pub is_honest : IsHonest S xs p c
-  is_honest = record { runs_out = (completed, λ t. only t.0 t.2 (runs_out_or_not c)); told = none_behind; begins = begun }
+  is_honest = record { runs_out = (completed, λ t. only t.0 t.2 (runs_out_or_not c)); told = none_following; begins = begun }
 
 -- ---- kinds, records, bodies
 

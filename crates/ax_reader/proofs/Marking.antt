@@ -20,28 +20,14 @@ use Rattle.ax_model.specs.Tree.{ValueTree, SlotTree, SlotsTree, compound, marked
 use Rattle.ax_model.specs.declared.fault.BodyFault.{BodyFault}
 use Rattle.ax_reader.proofs.AtOctets.{octets_parts, length-octets}
 use Rattle.ax_reader.specs.Reading.{FailsAt, Continues, IsMaskOf, kind_read, is_subitem, entries_at, SlotInBounds}
+use Rattle.ax_model.proofs.Unmarked.{none_first, none_later}
 
 -- ---- marks
-
-none_at : (ms : List ℕ) → IsTrue (none_marked ms) → get_or ms 0 0 ≡ 0
-none_at [] h = refl
-none_at (zero ∷ ms) h = refl
-none_at (suc m ∷ ms) h = cc
-
-none_later : (ms : List ℕ) → IsTrue (none_marked ms) → IsTrue (none_marked (later_marks ms))
-none_later [] h = refl
-none_later (zero ∷ ms) h = h
-none_later (suc m ∷ ms) h = cc
 
 none_bits : (ms : List ℕ) → IsTrue (none_marked ms) → AreBits ms
 none_bits [] h = tt
 none_bits (zero ∷ ms) h = (omega arith, none_bits ms h)
 none_bits (suc m ∷ ms) h = cc
-
-none_first : (ms : List ℕ) → IsTrue (none_marked ms) → first_mark ms ≡ 0
-none_first [] h = refl
-none_first (zero ∷ ms) h = refl
-none_first (suc m ∷ ms) h = cc
 
 pub mark_at : (ms : List ℕ) (i : ℕ) → first_mark (drop i ms) ≡ get_or ms i 0
 mark_at [] zero = refl

@@ -4,7 +4,7 @@ use Rattle.ax_bits.specs.Bits.{bits, AreOctets}
 use Rattle.ax_model.specs.Bodies.{SpellsRecord, SpellsBody}
 use Rattle.ax_model.specs.Specification.{SpecTree}
 use Rattle.ax_model.specs.Spelling.{Spells}
-use Rattle.ax_model.specs.Telling.{told}
+use Rattle.ax_model.specs.Telling.{fault_bits}
 use Rattle.ax_model.specs.Tree.{KindTree, ValueTree, EntriesTree}
 use Rattle.ax_model.specs.declared.fault.BodyCause.{BodyCause}
 use Rattle.ax_model.specs.declared.fault.BodyCause.TheVariants.{RunsOut}

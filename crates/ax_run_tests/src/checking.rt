@@ -35,7 +35,7 @@ const REFUSED: [(&str, u8, &str); 25] = [
     ("canon short", 2, "refused file 0 BadToken token 16\n"),
     ("check 256", 2, "refused file 0 BadToken token 1\n"),
     ("canon A 256", 2, "refused file 1 BadToken token 1\n"),
-    ("check behind", 2, "refused file 0 BadToken token 10\n"),
+    ("check following", 2, "refused file 0 BadToken token 10\n"),
     ("check unended", 2, "refused file 0 BadByte at 23\n"),
     ("canon unended", 2, "refused file 0 BadByte at 23\n"),
     ("check deep", 2, "refused file 0 TooDeep token 55\n"),

@@ -267,7 +267,7 @@ fn is_too_long(rt: &impl Abort, alloc: Global, after: &str, left: usize) -> Resu
     leaves(rt, alloc, "migrate G1 G2", &input, Outside::Sound, want)
 }
 
-// A migrated block that is too long is refused before any fault behind it.
+// A migrated block that is too long is refused before any fault after it.
 #[test]
 fn a_migrated_block_is_too_long(rt: HostRuntime) -> Result<(), Fail> {
     let alloc = rt.alloc();

@@ -22,7 +22,7 @@ const CUT_SHORT: &str =
     r#"category 034 edition "X" items { item 000 "T" element 8 raw } uap { 000"#;
 
 // A brace after the end of a text.
-const BRACE_BEHIND: &str = "category 034 edition \"X\" items { } uap { } }";
+const BRACE_AFTER: &str = "category 034 edition \"X\" items { } uap { } }";
 
 const UNENDED: &str = r#"category 034 edition "X"#;
 
@@ -183,7 +183,7 @@ const TEXTS: [(&str, &str); 22] = [
     ("048-P2", CAT048_P2),
     ("metres", METRES),
     ("short", CUT_SHORT),
-    ("behind", BRACE_BEHIND),
+    ("following", BRACE_AFTER),
     ("unended", UNENDED),
     ("256", NO_CATEGORY),
     ("deep", NESTED_TOO_DEEP),

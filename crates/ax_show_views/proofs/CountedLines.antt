@@ -9,7 +9,7 @@ use Rattle.ax_reader.specs.Reading.{FailsAt, kind_read}
 use Rattle.ax_text.specs.Printing.{as_lines, Puts}
 use Rattle.ax_text.specs.ShowText.{kind_lines, each_lines, occurrence}
 use Rattle.ax_values.proofs.Counting.{counted_begins}
-use Rattle.ax_values.specs.Reading.{HasFailed}
+use Rattle.ax_values.specs.SlotReading.{HasFailed}
 use Rattle.ax_values.specs.declared.error.DecodeError.{DecodeError}
 use Rattle.ax_show_views.specs.Shown.{Shows, ShowsCounted}
 use Rattle.ax_show_views.proofs.Leading.{Leads, Ending, leads_next, counted_first}
@@ -51,10 +51,10 @@ count_last k path body n i at here old now h past =
     (record { forwards = omega arith; within = h.within; got = none ∙ ap (λ m. got no_values m (bits (drop here body))) (let e : 0 ≡ 8 * (here - here) = omega arith in e) })
     (record { put = λ t. refl }) (omega (arith, h.upto))
 
-pub count_lost : (k : KindTree) (path body : List ℕ) (n i at here : ℕ) (old now : List ℕ) (e : DecodeError) → CountShown k path body n i at here old now → i < n → HasFailed (kind_read k body here) here e → HasFailed (kind_read (counted k) body at) at e
+pub count_failed : (k : KindTree) (path body : List ℕ) (n i at here : ℕ) (old now : List ℕ) (e : DecodeError) → CountShown k path body n i at here old now → i < n → HasFailed (kind_read k body here) here e → HasFailed (kind_read (counted k) body at) at e
 unfolding kind_read
-count_lost k path body n i at here old now e h lt t = record {
+count_failed k path body n i at here old now e h lt t = record {
   met = λ fault is.
       let left : n - i ≡ suc (n - (i + 1)) = omega arith in
-      h.leads.loses fault (subst (λ m. FailsAt (each_read (read k) m (bits (drop here body))) here fault) (sym left) (each_fails_at (read k) (n - (i + 1)) (bits (drop here body)) fault here (t.met fault is)));
+      h.leads.fails fault (subst (λ m. FailsAt (each_read (read k) m (bits (drop here body))) here fault) (sym left) (each_fails_at (read k) (n - (i + 1)) (bits (drop here body)) fault here (t.met fault is)));
 }

@@ -10,7 +10,7 @@ use Rattle.ax_text.specs.Printing.{as_lines, Puts}
 use Rattle.ax_text.specs.ShowText.{count_line, kind_lines}
 use Rattle.ax_text.specs.ValueText.{Texts}
 use Rattle.ax_values.proofs.Continuing.{failed_by_want}
-use Rattle.ax_values.specs.Reading.{HasFailed}
+use Rattle.ax_values.specs.SlotReading.{HasFailed}
 use Rattle.ax_values.specs.declared.error.DecodeError.{DecodeError}
 use Rattle.ax_values.specs.declared.error.DecodeError.TheVariants as Decoding
 use Rattle.ax_show_views.specs.Shown.{Shows, ShowsCounted}
@@ -19,20 +19,20 @@ use Rattle.ax_show_views.specs.Shown.{Shows, ShowsCounted}
 abbrev pub Ending : Type 1
 Ending = ℕ → List ℕ → ℕ → Type 0
 
-pub record Leads {A : Type 0} (Done : Ending) (Lost : BodyFault → Type 0) (lines : A → Texts → Texts) (size : A → ℕ) (next : Read A) (body : List ℕ) (here : ℕ) (now : List ℕ) (i : ℕ) : Type 0 where
+pub record Leads {A : Type 0} (Done : Ending) (Failed : BodyFault → Type 0) (lines : A → Texts → Texts) (size : A → ℕ) (next : Read A) (body : List ℕ) (here : ℕ) (now : List ℕ) (i : ℕ) : Type 0 where
   pub within : here ≤ length body
   pub ends : (end : ℕ) (a : A) (new : List ℕ) (n : ℕ) → Gets next body here end a → Puts as_lines (lines a) now new → n ≡ i + size a → Done end new n
-  pub loses : (fault : BodyFault) → FailsAt next here fault → Lost fault
+  pub fails : (fault : BodyFault) → FailsAt next here fault → Failed fault
 
 -- one thing more was shown
-pub leads_next : {A B : Type 0} (Done : Ending) (Lost : BodyFault → Type 0) (lines : B → Texts → Texts) (later : A → Texts → Texts) (one : Texts → Texts) (size : B → ℕ) (fewer : A → ℕ) (next : Read B) (rest : Read A) (body : List ℕ) (here end : ℕ) (now new : List ℕ) (i : ℕ) (cons : A → B)
-    → Leads Done Lost lines size next body here now i → end ≤ length body → Continues next here end cons rest → Puts as_lines one now new → ((a : A) (t : Texts) → lines (cons a) t ≡ one (later a t)) → ((a : A) → size (cons a) ≡ suc (fewer a))
-    → Leads Done Lost later fewer rest body end new (i + 1)
-leads_next Done Lost lines later one size fewer next rest body here end now new i cons h le c p e s = record {
+pub leads_next : {A B : Type 0} (Done : Ending) (Failed : BodyFault → Type 0) (lines : B → Texts → Texts) (later : A → Texts → Texts) (one : Texts → Texts) (size : B → ℕ) (fewer : A → ℕ) (next : Read B) (rest : Read A) (body : List ℕ) (here end : ℕ) (now new : List ℕ) (i : ℕ) (cons : A → B)
+    → Leads Done Failed lines size next body here now i → end ≤ length body → Continues next here end cons rest → Puts as_lines one now new → ((a : A) (t : Texts) → lines (cons a) t ≡ one (later a t)) → ((a : A) → size (cons a) ≡ suc (fewer a))
+    → Leads Done Failed later fewer rest body end new (i + 1)
+leads_next Done Failed lines later one size fewer next rest body here end now new i cons h le c p e s = record {
   within = le;
   ends = λ last a out n g q m.
       h.ends last (cons a) out n (gets_after next rest body here end last cons a c g) (record { put = λ t. q.put t ∙ p.put (later a t) ∙ ap (λ u. now ++ as_lines u) (sym (e a t)) }) (let k = s a in omega (arith, m, k));
-  loses = λ fault f. h.loses fault (fails_after next rest here end cons fault c f);
+  fails = λ fault f. h.fails fault (fails_after next rest here end cons fault c f);
 }
 
 -- the lines under a count line, from the first on
@@ -50,7 +50,7 @@ counted_first k path word body at here out lines size next value le c e = record
         put = p;
         first = λ t. e a end read t ∙ ap (λ n. count_line path word n ∷ lines a t) same;
       };
-  loses = λ fault f. fails_after (kind_read k body at) next at here value fault c f;
+  fails = λ fault f. fails_after (kind_read k body at) next at here value fault c f;
 }
 
 -- the count line was put in front of them

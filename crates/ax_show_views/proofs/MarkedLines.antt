@@ -27,9 +27,9 @@ use Rattle.ax_text.proofs.ListedKinds.{lines_made, slot_listable}
 use Rattle.ax_text.specs.Listable.{SlotListable, SlotsListable}
 use Rattle.ax_text.specs.Printing.{as_lines, Puts}
 use Rattle.ax_text.specs.ShowText.{count_line, kind_lines, entries_lines, entry_count}
-use Rattle.ax_text.specs.Slots.{slot_behind, slot_numbered, slot_lines}
+use Rattle.ax_text.specs.Slots.{slot_after, slot_numbered, slot_lines}
 use Rattle.ax_text.specs.ValueText.{Texts}
-use Rattle.ax_values.specs.Reading.{HasFailed, HasSlotFailed, SlotFails}
+use Rattle.ax_values.specs.SlotReading.{HasFailed, HasSlotFailed, SlotFails}
 use Rattle.ax_values.specs.declared.error.DecodeError.{DecodeError}
 use Rattle.ax_show_views.specs.Shown.{Shows, ShowsCounted, SlotShows, IsSlotShown}
 use Rattle.ax_show_views.proofs.Leading.{Leads, Ending, leads_next, counted_first}
@@ -117,28 +117,28 @@ ascend s (suc m ∷ ms) t u rest e =
 
 -- ---- slots by their numbers
 
-behind_is : (slots : List SlotTree) (i : ℕ) → slot_behind i (slots_of slots) ≡ get_or slots i spare_slot
-behind_is [] zero = refl
-behind_is [] (suc i) = refl
-behind_is (s ∷ slots) zero = refl
-behind_is (s ∷ slots) (suc i) = behind_is slots i
+following_is : (slots : List SlotTree) (i : ℕ) → slot_after i (slots_of slots) ≡ get_or slots i spare_slot
+following_is [] zero = refl
+following_is [] (suc i) = refl
+following_is (s ∷ slots) zero = refl
+following_is (s ∷ slots) (suc i) = following_is slots i
 
-behind_bounds : (ss : SlotsTree) (i : ℕ) → SlotsInBounds ss → SlotInBounds (slot_behind i ss)
-behind_bounds no_slots i h = tt
-behind_bounds (slot_and spare_slot ss) zero h = tt
-behind_bounds (slot_and (subitem name k) ss) zero h = h.0
-behind_bounds (slot_and spare_slot ss) (suc i) h = behind_bounds ss i h
-behind_bounds (slot_and (subitem name k) ss) (suc i) h = behind_bounds ss i h.1
+after_bounds : (ss : SlotsTree) (i : ℕ) → SlotsInBounds ss → SlotInBounds (slot_after i ss)
+after_bounds no_slots i h = tt
+after_bounds (slot_and spare_slot ss) zero h = tt
+after_bounds (slot_and (subitem name k) ss) zero h = h.0
+after_bounds (slot_and spare_slot ss) (suc i) h = after_bounds ss i h
+after_bounds (slot_and (subitem name k) ss) (suc i) h = after_bounds ss i h.1
 
 pub numbered_bounds : (ss : SlotsTree) (t : ℕ) → SlotsInBounds ss → SlotInBounds (slot_numbered ss t)
 numbered_bounds ss zero h = tt
-numbered_bounds ss (suc i) h = behind_bounds ss i h
+numbered_bounds ss (suc i) h = after_bounds ss i h
 
 numbered_is : (slots : List SlotTree) (t gap : ℕ) → t ≡ 1 + gap → slot_numbered (slots_of slots) t ≡ get_or slots gap spare_slot
-numbered_is slots t gap e = ap (slot_numbered (slots_of slots)) (let f : t ≡ suc gap = omega (arith, e) in f) ∙ behind_is slots gap
+numbered_is slots t gap e = ap (slot_numbered (slots_of slots)) (let f : t ≡ suc gap = omega (arith, e) in f) ∙ following_is slots gap
 
 -- the slot that the code finds at a place
-at_place : (all : List Slot) (i : ℕ) (s : Slot) → i < length all → s ≡ get_or all i s → slot_behind i (slots_tree all) ≡ slot_tree s
+at_place : (all : List Slot) (i : ℕ) (s : Slot) → i < length all → s ≡ get_or all i s → slot_after i (slots_tree all) ≡ slot_tree s
 at_place [] i s lt e = absurd (omega arith)
 at_place (r ∷ all) zero s lt e = ap slot_tree (sym e)
 at_place (r ∷ all) (suc i) s lt e = at_place all i s (omega arith) e
@@ -150,12 +150,12 @@ at_number all (suc i) s some lt e =
 
 -- ---- the marked slots that are left
 
-pub record MarksShown (Done : Ending) (Lost : BodyFault → Type 0) (slots : List SlotTree) (path left body : List ℕ) (here : ℕ) (now : List ℕ) (i : ℕ) : Type 0 where
+pub record MarksShown (Done : Ending) (Failed : BodyFault → Type 0) (slots : List SlotTree) (path left body : List ℕ) (here : ℕ) (now : List ℕ) (i : ℕ) : Type 0 where
   pub within : here ≤ length body
   pub few : (t : ℕ) (rest : List ℕ) → Marks.slots_of left ≡ t ∷ rest → i < t
   pub clear : NoneUndefined (defined_slots (slots_of slots)) left
   pub are_bits : AreBits left
-  pub leads : Leads Done Lost (by_slots (slot_lines path) (slot_numbered (slots_of slots))) entry_count (entries_at (slots_of slots) left body here) body here now i
+  pub leads : Leads Done Failed (by_slots (slot_lines path) (slot_numbered (slots_of slots))) entry_count (entries_at (slots_of slots) left body here) body here now i
 
 -- what is known of the next slot
 pub record NextSlot (slots : List SlotTree) (left now : List ℕ) (t : ℕ) : Type 0 where
@@ -181,8 +181,8 @@ next_slot slots left now rest t clear bit e is =
       are_bits = subst AreBits left_is f.are_bits;
     }
 
-module _ (Done : Ending) (Lost : BodyFault → Type 0) (slots : List SlotTree) (path left next body : List ℕ) (t here : ℕ) (now : List ℕ) (i : ℕ) (h : MarksShown Done Lost slots path left body here now i) (n : NextSlot slots left next t) where
-  pub marks_next : (end : ℕ) (new : List ℕ) → Marks.slots_of left ≡ t ∷ Marks.slots_of next → IsSlotShown (slot_numbered (slots_of slots) t) path body here end now new → MarksShown Done Lost slots path next body end new (i + 1)
+module _ (Done : Ending) (Failed : BodyFault → Type 0) (slots : List SlotTree) (path left next body : List ℕ) (t here : ℕ) (now : List ℕ) (i : ℕ) (h : MarksShown Done Failed slots path left body here now i) (n : NextSlot slots left next t) where
+  pub marks_next : (end : ℕ) (new : List ℕ) → Marks.slots_of left ≡ t ∷ Marks.slots_of next → IsSlotShown (slot_numbered (slots_of slots) t) path body here end now new → MarksShown Done Failed slots path next body end new (i + 1)
   unfolding kind_read entries_at
   marks_next end new e s =
       let ss = slots_of slots in
@@ -192,18 +192,18 @@ module _ (Done : Ending) (Lost : BodyFault → Type 0) (slots : List SlotTree) (
         few = λ u rest f. (let lt = h.few t (Marks.slots_of next) e in let up = ascend 1 left t u rest (e ∙ ap (λ x. t ∷ x) f) in omega (arith, lt, up));
         clear = n.clear;
         are_bits = n.are_bits;
-        leads = leads_next Done Lost (by_slots (slot_lines path) (slot_numbered ss)) (by_slots (slot_lines path) (slot_numbered ss)) (slot_lines path (slot_numbered ss t) w.value) entry_count entry_count
+        leads = leads_next Done Failed (by_slots (slot_lines path) (slot_numbered ss)) (by_slots (slot_lines path) (slot_numbered ss)) (slot_lines path (slot_numbered ss t) w.value) entry_count entry_count
             (entries_at ss left body here) (entries_at ss next body end) body here end now new i (λ es. entry_and t w.value es) h.leads w.read.within
             (record { forwards = w.read.forwards; same = n.reads (bits (drop here body)) ∙ ap (λ r. both (λ v es. entry_and t v es) r (entries_read 1 ss next)) w.read.got })
             put (λ es u. refl) (λ es. add-one (entry_count es));
       }
 
-  pub marks_lost : (e : DecodeError) → HasSlotFailed (slot_numbered (slots_of slots) t) body here e → (fault : BodyFault) → e ≡ DecodeError.Fault fault → Lost fault
+  pub marks_failed : (e : DecodeError) → HasSlotFailed (slot_numbered (slots_of slots) t) body here e → (fault : BodyFault) → e ≡ DecodeError.Fault fault → Failed fault
   unfolding kind_read entries_at
-  marks_lost e l fault is =
+  marks_failed e l fault is =
       let f : HasFailed (kind_read n.kind body here) here e = subst (λ slot. SlotFails slot body here e) n.found l.failed in
       let met = f.met fault is in
-      h.leads.loses fault (record { place = met.place; failed = n.reads (bits (drop here body)) ∙ ap (λ r. both (λ v es. entry_and t v es) r (entries_read 1 (slots_of slots) next)) met.failed; bit = met.bit })
+      h.leads.fails fault (record { place = met.place; failed = n.reads (bits (drop here body)) ∙ ap (λ r. both (λ v es. entry_and t v es) r (entries_read 1 (slots_of slots) next)) met.failed; bit = met.bit })
 
 no_entries_left : (s : ℕ) (ss : SlotsTree) (ms b : List ℕ) → IsTrue (none_marked ms) → entries_read s ss ms b ≡ got no_entries 0 b
 no_entries_left s no_slots ms b h = refl
@@ -213,9 +213,9 @@ no_entries_left s (slot_and (subitem name k) ss) [] b h = no_entries_left (s + 1
 no_entries_left s (slot_and (subitem name k) ss) (zero ∷ ms) b h = no_entries_left (s + 1) ss ms b h
 no_entries_left s ss (suc m ∷ ms) b h = cc
 
-pub marks_last : (Done : Ending) (Lost : BodyFault → Type 0) (slots : List SlotTree) (path left body : List ℕ) (here : ℕ) (now : List ℕ) (i : ℕ) → MarksShown Done Lost slots path left body here now i → Marks.slots_of left ≡ [] → Done here now i
+pub marks_last : (Done : Ending) (Failed : BodyFault → Type 0) (slots : List SlotTree) (path left body : List ℕ) (here : ℕ) (now : List ℕ) (i : ℕ) → MarksShown Done Failed slots path left body here now i → Marks.slots_of left ≡ [] → Done here now i
 unfolding entries_at
-marks_last Done Lost slots path left body here now i h e =
+marks_last Done Failed slots path left body here now i h e =
     let none = no_next_slot 1 left e in
     h.leads.ends here no_entries now i
     (record { forwards = omega arith; within = h.within; got = no_entries_left 1 (slots_of slots) left (bits (drop here body)) none ∙ ap (λ m. got no_entries m (bits (drop here body))) (let e : 0 ≡ 8 * (here - here) = omega arith in e) })

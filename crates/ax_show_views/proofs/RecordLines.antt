@@ -32,8 +32,8 @@ use Rattle.ax_text.specs.ShowText.{kind_lines, entries_lines, entry_count, recor
 use Rattle.ax_text.specs.Slots.{slot_numbered, slot_lines}
 use Rattle.ax_text.specs.ValueText.{Texts, one_onto}
 use Rattle.ax_values.proofs.RecordSlots.{record_at, record_fault, one_more, forwards_record}
-use Rattle.ax_values.specs.Decoding.{IsRecordAt, IsRecordFaultAt, IsBodyFault, Names}
-use Rattle.ax_values.specs.Reading.{HasFailed, HasSlotFailed}
+use Rattle.ax_values.specs.Decoding.{IsRecordAt, IsRecordFaultAt, IsBodyFault, IsFaultOf}
+use Rattle.ax_values.specs.SlotReading.{HasFailed, HasSlotFailed}
 use Rattle.ax_values.specs.declared.error.DecodeError.{DecodeError}
 use Rattle.ax_values.specs.declared.error.DecodeError.TheVariants as Decoding
 use Rattle.ax_show_views.specs.Shown.{Shows, ShowsEntries, ShowsRecords, IsSlotShown}
@@ -92,7 +92,7 @@ items_first spec mask path body marks at here out bounds m h = record {
           read = read;
           put = record { put = λ t. p.put t ∙ ap (λ u. out ++ as_lines u) (sym (entries_lines_are ss path body at end es t bounds read)) };
         };
-    loses = λ fault f. fails_after (kind_read (record_kind spec) body at) (entries_at (record_slots spec) marks body here) at here (λ es. marked es) fault (field_read (record_slot_list spec) mask body marks at here m h) f;
+    fails = λ fault f. fails_after (kind_read (record_kind spec) body at) (entries_at (record_slots spec) marks body here) at here (λ es. marked es) fault (field_read (record_slot_list spec) mask body marks at here m h) f;
   };
 }
 
@@ -149,7 +149,7 @@ module _ (spec : SpecTree) (clean : NoFlaw spec) (body : List ℕ) (at number : 
         };
       }
 
-  pub body_failed : (e : DecodeError) → at < length body → HasFailed (kind_read (record_kind spec) body at) at e → Names (IsBodyFault spec body) e
+  pub body_failed : (e : DecodeError) → at < length body → HasFailed (kind_read (record_kind spec) body at) at e → IsFaultOf (IsBodyFault spec body) e
   body_failed Decoding.OutOfMemory lt f = tt
   body_failed (Decoding.Fault fault) lt f =
       let g = record_fault spec body at fault (fault_at (record_kind spec) body at fault (record_bounds spec clean) (f.met fault refl)) in record {

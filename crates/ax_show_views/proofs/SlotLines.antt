@@ -5,7 +5,7 @@ use Rattle.ax_model.specs.Paths.{at}
 use Rattle.ax_model.specs.Tree.{KindTree, subitem}
 use Rattle.ax_reader.specs.Reading.{kind_read}
 use Rattle.ax_text.specs.ShowText.{kind_lines}
-use Rattle.ax_values.specs.Reading.{HasFailed, HasSlotFailed}
+use Rattle.ax_values.specs.SlotReading.{HasFailed, HasSlotFailed}
 use Rattle.ax_values.specs.declared.error.DecodeError.{DecodeError}
 use Rattle.ax_show_views.specs.Shown.{Shows, IsSlotShown}
 

@@ -65,9 +65,9 @@ module _ (f : FixedTree) (path body : List ℕ) (at here end w : ℕ) (old now n
       let v = fixed_value f (drop (8 * here) (bits body)) in
       h.leads.ends end (value_and v no_values) new n (run_ends f body here end w (fx_bit fx) v u l (ap fx_bit none) refl) (record { put = λ t. p.put t }) e
 
-pub run_lost : (f : FixedTree) (path body : List ℕ) (at here : ℕ) (old now : List ℕ) (i : ℕ) (fault : BodyFault) → RunShown f path body at here old now i → 8 * (length body - here) ≤ width f → fault.cause ≡ RunsOut → fault.bit ≡ 8 * here
+pub run_failed : (f : FixedTree) (path body : List ℕ) (at here : ℕ) (old now : List ℕ) (i : ℕ) (fault : BodyFault) → RunShown f path body at here old now i → 8 * (length body - here) ≤ width f → fault.cause ≡ RunsOut → fault.bit ≡ 8 * here
     → FailsAt (kind_read (by_fx f) body at) at fault
-run_lost f path body at here old now i fault h less c b = h.leads.loses fault (run_fails f body here fault less c b)
+run_failed f path body at here old now i fault h less c b = h.leads.fails fault (run_fails f body here fault less c b)
 
 -- ---- parts
 
@@ -97,9 +97,9 @@ no_list_left [] path t = refl
 no_list_left (p ∷ ps) path t = refl
 
 -- after a part with FX 1
-behind_part : (left : List Part) (ps : List MembersTree) → map part_tree left ≡ ps → 0 < length left → (q : MembersTree) × (qs : List MembersTree) × (ps ≡ q ∷ qs)
-behind_part [] ps e lt = absurd (omega arith)
-behind_part (q ∷ left) ps e lt = (part_tree q, map part_tree left, sym e)
+after_part : (left : List Part) (ps : List MembersTree) → map part_tree left ≡ ps → 0 < length left → (q : MembersTree) × (qs : List MembersTree) × (ps ≡ q ∷ qs)
+after_part [] ps e lt = absurd (omega arith)
+after_part (q ∷ left) ps e lt = (part_tree q, map part_tree left, sym e)
 
 module _ (all : List Part) (i : ℕ) (p : Part) (path body : List ℕ) (at here : ℕ) (old now : List ℕ) (h : PartsShown all i path body at here old now) (within : i < length all) (e : p ≡ get_or all i p) where
   from : map part_tree (drop i all) ≡ part_tree p ∷ map part_tree (drop (i + 1) all)
@@ -115,7 +115,7 @@ module _ (all : List Part) (i : ℕ) (p : Part) (path body : List ℕ) (at here 
   at_part = subst (λ ps. Leads (parts_done (map part_tree all) path body at old) (FailsAt (kind_read (extended (map part_tree all)) body at) at) (parts_lines ps path) list_count (parts_at ps body here) body here now i) from (h.leads within)
 
   pub part_short : (fault : BodyFault) → 8 * (length body - here) ≤ members_width (part_tree p) → fault.cause ≡ RunsOut → fault.bit ≡ 8 * here → FailsAt (kind_read (extended (map part_tree all)) body at) at fault
-  part_short fault less c b = at_part.loses fault (parts_fail (part_tree p) (map part_tree (drop (i + 1) all)) body here fault less c b)
+  part_short fault less c b = at_part.fails fault (parts_fail (part_tree p) (map part_tree (drop (i + 1) all)) body here fault less c b)
 
 module _ (all : List Part) (i : ℕ) (p : Part) (path body : List ℕ) (at here : ℕ) (old now : List ℕ) (h : PartsShown all i path body at here old now) (within : i < length all) (e : p ≡ get_or all i p) (end w : ℕ) (fx : Bool) (new : List ℕ)
     (u : IsUnit body here end w (fx_bit fx)) (l : members_width (part_tree p) ≡ w) (put : Puts as_lines (members_lines (part_tree p) path (members_value (part_tree p) (drop (8 * here) (bits body)))) now new) where
@@ -131,7 +131,7 @@ module _ (all : List Part) (i : ℕ) (p : Part) (path body : List ℕ) (at here 
   part_leads one lt =
       let ps = map part_tree (drop (i + 1) all) in
       let vs = members_value (part_tree p) (drop (8 * here) (bits body)) in
-      let t = behind_part (drop (i + 1) all) ps refl (omega (arith, length-drop (i + 1) all)) in
+      let t = after_part (drop (i + 1) all) ps refl (omega (arith, length-drop (i + 1) all)) in
       let on : Continues (parts_at (part_tree p ∷ ps) body here) here end (λ ls. list_and vs ls) (parts_at ps body end) =
       subst (λ ps. Continues (parts_at (part_tree p ∷ ps) body here) here end (λ ls. list_and vs ls) (parts_at ps body end)) (sym t.2) (parts_go_on (part_tree p) t.0 t.1 body here end w (fx_bit fx) vs u l (ap fx_bit one) refl) in
       leads_next (parts_done (map part_tree all) path body at old) (FailsAt (kind_read (extended (map part_tree all)) body at) at) (parts_lines (part_tree p ∷ ps) path) (parts_lines ps path) (members_lines (part_tree p) path vs) list_count list_count
@@ -147,7 +147,7 @@ module _ (all : List Part) (i : ℕ) (p : Part) (path body : List ℕ) (at here 
     past = λ none. (
       omega (arith, u.forwards),
       λ fault c b.
-          (at_part all i p path body at here old now h within e).loses fault
+          (at_part all i p path body at here old now h within e).fails fault
           (subst (λ ps. FailsAt (parts_at (part_tree p ∷ ps) body here) here fault) (sym (ap (map part_tree) (drop_all (i + 1) all none))) (parts_past_end (part_tree p) body here end w (fx_bit fx) fault u l (ap fx_bit one) c b)),
     );
   }

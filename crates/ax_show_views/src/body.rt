@@ -2,10 +2,11 @@
 ghost use Rattle.std.specs.Prelude.{◌≡◌, ◌≤◌, length, IfErr, OnOk};
 ghost use Rattle.ax_model.specs.Flaws.{NoFlaw};
 ghost use Rattle.ax_model.specs.Plain.{spec_tree};
+ghost use Rattle.ax_model.specs.Sizes.{longest_body};
 ghost use Rattle.ax_model.specs.Specification.{record_slots};
 ghost use Rattle.ax_reader.specs.Reading.{IsMaskOf, record_slot_list};
 ghost use Rattle.ax_text.specs.Listable.{SlotsListable};
-ghost use Rattle.ax_values.specs.Decoding.{IsBodyFault, Names};
+ghost use Rattle.ax_values.specs.Decoding.{IsBodyFault, IsFaultOf};
 ghost use Rattle.ax_show_views.specs.Shown.{ShowsRecords};
 
 use crate::records::show_record;
@@ -28,10 +29,10 @@ pub fn show_records(
     requires spec { NoFlaw (spec_tree items.now.spec.now) }
     requires listable { SlotsListable (record_slots (spec_tree items.now.spec.now)) }
     requires mask { IsMaskOf (record_slot_list (spec_tree items.now.spec.now)) mask.now }
-    requires body { length body.now ≤ 65532 }
+    requires body { length body.now ≤ longest_body }
     requires some { 1 ≤ length body.now }
     ensures ok { OnOk result (ShowsRecords (spec_tree items.now.spec.now) body.now lister.old.out.items lister.new.out.items) }
-    ensures err { IfErr result (Names (IsBodyFault (spec_tree items.now.spec.now) body.now)) }
+    ensures err { IfErr result (IsFaultOf (IsBodyFault (spec_tree items.now.spec.now) body.now)) }
 {
     let path = category_digits(items.spec().category);
     let mut at = 0;

@@ -5,6 +5,7 @@ ghost use Rattle.ax_model.specs.InBounds.{IsWidth, FixedInBounds, MembersInBound
 ghost use Rattle.ax_model.specs.Paths as Paths;
 ghost use Rattle.ax_model.specs.Plain.{fixed_tree, member_tree, members_tree};
 ghost use Rattle.ax_model.specs.Reader.{fixed_value, members_value};
+ghost use Rattle.ax_model.specs.Sizes.{longest_body};
 ghost use Rattle.ax_model.specs.Widths.{width, members_width};
 ghost use Rattle.ax_text.specs.Listable.{FixedListable, MemberListable, MembersListable};
 ghost use Rattle.ax_text.specs.Printing.{as_lines, Puts};
@@ -20,7 +21,7 @@ use std::alloc::{AllocError, Global};
 fn number_at(body: &[u8], at: &mut u32, width: u32) -> u128
     requires width { IsWidth width }
     requires within { at.old + width ≤ 8 * length body.now }
-    requires body { length body.now ≤ 65532 }
+    requires body { length body.now ≤ longest_body }
     ensures value { result ≡ number_of (take width (drop at.old (bits body.now))) }
     ensures fits { result < 2 ^ width }
     ensures at { at.new ≡ at.old + width }
@@ -43,7 +44,7 @@ pub(crate) fn show_fixed(
     requires bounds { FixedInBounds (fixed_tree fixed.now) }
     requires listable { FixedListable (fixed_tree fixed.now) }
     requires within { at.old + width (fixed_tree fixed.now) ≤ 8 * length body.now }
-    requires body { length body.now ≤ 65532 }
+    requires body { length body.now ≤ longest_body }
     ensures lines { OnOk result (Puts as_lines (fixed_lines (fixed_tree fixed.now) path.now (fixed_value (fixed_tree fixed.now) (drop at.old (bits body.now)))) lister.old.out.items lister.new.out.items) }
     ensures at { OnOk result (at.new ≡ at.old + width (fixed_tree fixed.now)) }
 {
@@ -70,7 +71,7 @@ pub(crate) fn show_members(
     requires bounds { MembersInBounds (members_tree members.now) }
     requires listable { MembersListable (members_tree members.now) }
     requires within { at.old + members_width (members_tree members.now) ≤ 8 * length body.now }
-    requires body { length body.now ≤ 65532 }
+    requires body { length body.now ≤ longest_body }
     ensures lines { OnOk result (Puts as_lines (members_lines (members_tree members.now) path.now (members_value (members_tree members.now) (drop at.old (bits body.now)))) lister.old.out.items lister.new.out.items) }
     ensures at { OnOk result (at.new ≡ at.old + members_width (members_tree members.now)) }
 {
@@ -93,7 +94,7 @@ fn show_member(
     requires bounds { MemberInBounds (member_tree member.now) }
     requires listable { MemberListable (member_tree member.now) }
     requires within { at.old + member_width (member_tree member.now) ≤ 8 * length body.now }
-    requires body { length body.now ≤ 65532 }
+    requires body { length body.now ≤ longest_body }
     ensures lines { OnOk result (Puts as_lines (member_lines (member_tree member.now) path.now (member_value (member_tree member.now) (drop at.old (bits body.now)))) lister.old.out.items lister.new.out.items) }
     ensures at { OnOk result (at.new ≡ at.old + member_width (member_tree member.now)) }
 {
@@ -121,7 +122,7 @@ fn show_named(
     requires bounds { FixedInBounds (fixed_tree fixed.now) }
     requires listable { FixedListable (fixed_tree fixed.now) }
     requires within { at.old + width (fixed_tree fixed.now) ≤ 8 * length body.now }
-    requires body { length body.now ≤ 65532 }
+    requires body { length body.now ≤ longest_body }
     ensures lines { OnOk result (Puts as_lines (fixed_lines (fixed_tree fixed.now) (Paths.at path.now name.now) (fixed_value (fixed_tree fixed.now) (drop at.old (bits body.now)))) lister.old.out.items lister.new.out.items) }
     ensures at { OnOk result (at.new ≡ at.old + width (fixed_tree fixed.now)) }
 {

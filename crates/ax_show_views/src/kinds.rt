@@ -3,11 +3,12 @@ ghost use Rattle.std.specs.Prelude.{◌≡◌, ◌+◌, ◌*◌, ◌<◌, ◌≤
 ghost use Rattle.ax_bits.specs.Bits.{AreBits};
 ghost use Rattle.ax_model.specs.InBounds.{InBounds, SlotsInBounds};
 ghost use Rattle.ax_model.specs.Plain.{kind_tree, slot_tree, slots_tree};
+ghost use Rattle.ax_model.specs.Sizes.{longest_body};
 ghost use Rattle.ax_model.specs.Tree as Tree;
 ghost use Rattle.ax_reader.specs.Reading.{SlotInBounds, kind_read};
 ghost use Rattle.ax_text.specs.Listable.{KindListable, SlotListable, SlotsListable};
 ghost use Rattle.ax_text.specs.ShowText.{kind_lines};
-ghost use Rattle.ax_values.specs.Reading.{HasFailed, HasSlotFailed};
+ghost use Rattle.ax_values.specs.SlotReading.{HasFailed, HasSlotFailed};
 ghost use Rattle.ax_show_views.specs.Shown.{Shows, ShowsCounted, IsSlotShown};
 
 use crate::units::{show_by_fx, show_extended, show_single};
@@ -29,7 +30,7 @@ pub(crate) fn show_value(
 ) -> Result<u32, DecodeError>
     requires bounds { InBounds (kind_tree kind.now) }
     requires listable { KindListable (kind_tree kind.now) }
-    requires body { length body.now ≤ 65532 }
+    requires body { length body.now ≤ longest_body }
     requires at { at ≤ length body.now }
     ensures ok { IfOk result (λ end. Shows (kind_lines (kind_tree kind.now) path.now) (kind_read (kind_tree kind.now) body.now at) body.now at end lister.old.out.items lister.new.out.items) }
     ensures err { IfErr result (λ e. HasFailed (kind_read (kind_tree kind.now) body.now at) at e) }
@@ -47,7 +48,7 @@ pub(crate) fn show_value(
 /// The line of an explicit item. Ok is the octet after it.
 fn show_explicit(lister: &mut Lister, body: &[u8], at: u32, path: &[u8]) -> Result<u32, DecodeError>
     requires bounds { InBounds (Tree.explicit) }
-    requires body { length body.now ≤ 65532 }
+    requires body { length body.now ≤ longest_body }
     requires at { at ≤ length body.now }
     ensures ok { IfOk result (λ end. Shows (kind_lines (Tree.explicit) path.now) (kind_read (Tree.explicit) body.now at) body.now at end lister.old.out.items lister.new.out.items) }
     ensures err { IfErr result (λ e. HasFailed (kind_read (Tree.explicit) body.now at) at e) }
@@ -83,7 +84,7 @@ fn show_counted(
 ) -> Result<u32, DecodeError>
     requires bounds { InBounds (Tree.counted (kind_tree inner.now)) }
     requires listable { KindListable (kind_tree inner.now) }
-    requires body { length body.now ≤ 65532 }
+    requires body { length body.now ≤ longest_body }
     requires at { at ≤ length body.now }
     ensures ok { IfOk result (λ end. Shows (kind_lines (Tree.counted (kind_tree inner.now)) path.now) (kind_read (Tree.counted (kind_tree inner.now)) body.now at) body.now at end lister.old.out.items lister.new.out.items) }
     ensures err { IfErr result (λ e. HasFailed (kind_read (Tree.counted (kind_tree inner.now)) body.now at) at e) }
@@ -107,7 +108,7 @@ fn show_each(
 ) -> Result<(u32, u32), DecodeError>
     requires bounds { InBounds (Tree.counted (kind_tree inner.now)) }
     requires listable { KindListable (kind_tree inner.now) }
-    requires body { length body.now ≤ 65532 }
+    requires body { length body.now ≤ longest_body }
     requires at { at ≤ length body.now }
     ensures ok { IfOk result (λ r. ShowsCounted (Tree.counted (kind_tree inner.now)) path.now (codes "occurrences") body.now at r.0 lister.old.out.items lister.new.out.items r.1) }
     ensures err { IfErr result (λ e. HasFailed (kind_read (Tree.counted (kind_tree inner.now)) body.now at) at e) }
@@ -134,7 +135,7 @@ fn show_compound(
 ) -> Result<u32, DecodeError>
     requires bounds { InBounds (Tree.compound (slots_tree slots.now)) }
     requires listable { SlotsListable (slots_tree slots.now) }
-    requires body { length body.now ≤ 65532 }
+    requires body { length body.now ≤ longest_body }
     requires at { at ≤ length body.now }
     ensures ok { IfOk result (λ end. Shows (kind_lines (Tree.compound (slots_tree slots.now)) path.now) (kind_read (Tree.compound (slots_tree slots.now)) body.now at) body.now at end lister.old.out.items lister.new.out.items) }
     ensures err { IfErr result (λ e. HasFailed (kind_read (Tree.compound (slots_tree slots.now)) body.now at) at e) }
@@ -158,7 +159,7 @@ fn show_subitems(
 ) -> Result<(u32, u32), DecodeError>
     requires bounds { InBounds (Tree.compound (slots_tree slots.now)) }
     requires listable { SlotsListable (slots_tree slots.now) }
-    requires body { length body.now ≤ 65532 }
+    requires body { length body.now ≤ longest_body }
     requires at { at ≤ length body.now }
     ensures ok { IfOk result (λ r. ShowsCounted (Tree.compound (slots_tree slots.now)) path.now (codes "subitems") body.now at r.0 lister.old.out.items lister.new.out.items r.1) }
     ensures err { IfErr result (λ e. HasFailed (kind_read (Tree.compound (slots_tree slots.now)) body.now at) at e) }
@@ -187,7 +188,7 @@ fn show_slot(
 ) -> Result<u32, DecodeError>
     requires bounds { SlotInBounds (slot_tree slot.now) }
     requires listable { SlotListable (slot_tree slot.now) }
-    requires body { length body.now ≤ 65532 }
+    requires body { length body.now ≤ longest_body }
     requires at { at ≤ length body.now }
     ensures ok { IfOk result (λ end. IsSlotShown (slot_tree slot.now) path.now body.now at end lister.old.out.items lister.new.out.items) }
     ensures err { IfErr result (λ e. HasSlotFailed (slot_tree slot.now) body.now at e) }

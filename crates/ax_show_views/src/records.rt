@@ -3,11 +3,12 @@ ghost use Rattle.std.specs.Prelude.{◌≡◌, ◌<◌, ◌≤◌, length, IfOk,
 ghost use Rattle.ax_model.specs.Flaws.{NoFlaw};
 ghost use Rattle.ax_model.specs.Paths.{three_digits};
 ghost use Rattle.ax_model.specs.Plain.{spec_tree};
+ghost use Rattle.ax_model.specs.Sizes.{longest_body};
 ghost use Rattle.ax_model.specs.Specification.{record_kind, record_slots};
 ghost use Rattle.ax_reader.specs.Reading.{IsMaskOf, SlotInBounds, record_slot_list, slot_of_frn, kind_read};
 ghost use Rattle.ax_text.specs.Listable.{SlotListable, SlotsListable};
 ghost use Rattle.ax_text.specs.ShowText.{entries_lines, record_lines};
-ghost use Rattle.ax_values.specs.Reading.{HasFailed, HasSlotFailed};
+ghost use Rattle.ax_values.specs.SlotReading.{HasFailed, HasSlotFailed};
 ghost use Rattle.ax_show_views.specs.Shown.{ShowsEntries, IsSlotShown};
 
 use crate::kinds::show_value;
@@ -34,7 +35,7 @@ pub(crate) fn show_record(
     requires listable { SlotsListable (record_slots (spec_tree items.now.spec.now)) }
     requires mask { IsMaskOf (record_slot_list (spec_tree items.now.spec.now)) mask.now }
     requires path { path.now ≡ three_digits items.now.spec.now.category }
-    requires body { length body.now ≤ 65532 }
+    requires body { length body.now ≤ longest_body }
     requires at { at ≤ length body.now }
     ensures ok { IfOk result (λ end. ShowsEntries (spec_tree items.now.spec.now) (record_lines (spec_tree items.now.spec.now) number) body.now at end lister.old.out.items lister.new.out.items) }
     ensures err { IfErr result (λ e. HasFailed (kind_read (record_kind (spec_tree items.now.spec.now)) body.now at) at e) }
@@ -58,7 +59,7 @@ fn show_items(
     requires spec { NoFlaw (spec_tree items.now.spec.now) }
     requires listable { SlotsListable (record_slots (spec_tree items.now.spec.now)) }
     requires mask { IsMaskOf (record_slot_list (spec_tree items.now.spec.now)) mask.now }
-    requires body { length body.now ≤ 65532 }
+    requires body { length body.now ≤ longest_body }
     requires at { at ≤ length body.now }
     ensures ok { IfOk result (λ end. ShowsEntries (spec_tree items.now.spec.now) (entries_lines path.now 1 (record_slots (spec_tree items.now.spec.now))) body.now at end lister.old.out.items lister.new.out.items) }
     ensures err { IfErr result (λ e. HasFailed (kind_read (record_kind (spec_tree items.now.spec.now)) body.now at) at e) }
@@ -84,7 +85,7 @@ fn show_item(
 ) -> Result<u32, DecodeError>
     requires bounds { SlotInBounds (slot_of_frn frn items.now.spec.now) }
     requires listable { SlotListable (slot_of_frn frn items.now.spec.now) }
-    requires body { length body.now ≤ 65532 }
+    requires body { length body.now ≤ longest_body }
     requires at { at ≤ length body.now }
     ensures ok { IfOk result (λ end. IsSlotShown (slot_of_frn frn items.now.spec.now) path.now body.now at end lister.old.out.items lister.new.out.items) }
     ensures err { IfErr result (λ e. HasSlotFailed (slot_of_frn frn items.now.spec.now) body.now at e) }

@@ -5,13 +5,14 @@ ghost use Rattle.ax_bits.specs.Bits.{bits};
 ghost use Rattle.ax_model.specs.InBounds.{InBounds, FixedInBounds};
 ghost use Rattle.ax_model.specs.Plain.{fixed_tree, part_tree};
 ghost use Rattle.ax_model.specs.Reader.{fixed_value};
+ghost use Rattle.ax_model.specs.Sizes.{longest_body};
 ghost use Rattle.ax_model.specs.Tree as Tree;
 ghost use Rattle.ax_model.specs.Widths.{width};
 ghost use Rattle.ax_reader.specs.Reading.{kind_read};
 ghost use Rattle.ax_text.specs.Listable.{FixedListable, MembersListable};
 ghost use Rattle.ax_text.specs.Printing.{as_lines, Puts};
 ghost use Rattle.ax_text.specs.ShowText.{fixed_lines, kind_lines, occurrence};
-ghost use Rattle.ax_values.specs.Reading.{HasFailed};
+ghost use Rattle.ax_values.specs.SlotReading.{HasFailed};
 ghost use Rattle.ax_show_views.specs.Shown.{Shows, ShowsCounted};
 
 use crate::fixed::{show_fixed, show_members};
@@ -32,7 +33,7 @@ pub(crate) fn show_single(
 ) -> Result<u32, DecodeError>
     requires bounds { InBounds (Tree.fixed (fixed_tree fixed.now)) }
     requires listable { FixedListable (fixed_tree fixed.now) }
-    requires body { length body.now ≤ 65532 }
+    requires body { length body.now ≤ longest_body }
     requires at { at ≤ length body.now }
     ensures ok { IfOk result (λ end. Shows (kind_lines (Tree.fixed (fixed_tree fixed.now)) path.now) (kind_read (Tree.fixed (fixed_tree fixed.now)) body.now at) body.now at end lister.old.out.items lister.new.out.items) }
     ensures err { IfErr result (λ e. HasFailed (kind_read (Tree.fixed (fixed_tree fixed.now)) body.now at) at e) }
@@ -55,7 +56,7 @@ fn show_parts(
 ) -> Result<(u32, u32), DecodeError>
     requires bounds { InBounds (Tree.extended (map part_tree parts.now)) }
     requires listable { AllByRecursion MembersListable (map part_tree parts.now) }
-    requires body { length body.now ≤ 65532 }
+    requires body { length body.now ≤ longest_body }
     requires at { at ≤ length body.now }
     ensures ok { IfOk result (λ r. ShowsCounted (Tree.extended (map part_tree parts.now)) path.now (codes "parts") body.now at r.0 lister.old.out.items lister.new.out.items r.1) }
     ensures err { IfErr result (λ e. HasFailed (kind_read (Tree.extended (map part_tree parts.now)) body.now at) at e) }
@@ -90,7 +91,7 @@ pub(crate) fn show_extended(
 ) -> Result<u32, DecodeError>
     requires bounds { InBounds (Tree.extended (map part_tree parts.now)) }
     requires listable { AllByRecursion MembersListable (map part_tree parts.now) }
-    requires body { length body.now ≤ 65532 }
+    requires body { length body.now ≤ longest_body }
     requires at { at ≤ length body.now }
     ensures ok { IfOk result (λ end. Shows (kind_lines (Tree.extended (map part_tree parts.now)) path.now) (kind_read (Tree.extended (map part_tree parts.now)) body.now at) body.now at end lister.old.out.items lister.new.out.items) }
     ensures err { IfErr result (λ e. HasFailed (kind_read (Tree.extended (map part_tree parts.now)) body.now at) at e) }
@@ -115,7 +116,7 @@ fn show_occurrence(
     requires bounds { FixedInBounds (fixed_tree fixed.now) }
     requires listable { FixedListable (fixed_tree fixed.now) }
     requires within { at.old + width (fixed_tree fixed.now) ≤ 8 * length body.now }
-    requires body { length body.now ≤ 65532 }
+    requires body { length body.now ≤ longest_body }
     ensures lines { OnOk result (Puts as_lines (fixed_lines (fixed_tree fixed.now) (occurrence path.now number) (fixed_value (fixed_tree fixed.now) (drop at.old (bits body.now)))) lister.old.out.items lister.new.out.items) }
     ensures at { OnOk result (at.new ≡ at.old + width (fixed_tree fixed.now)) }
 {
@@ -135,7 +136,7 @@ fn show_run(
 ) -> Result<(u32, u32), DecodeError>
     requires bounds { InBounds (Tree.by_fx (fixed_tree fixed.now)) }
     requires listable { FixedListable (fixed_tree fixed.now) }
-    requires body { length body.now ≤ 65532 }
+    requires body { length body.now ≤ longest_body }
     requires at { at ≤ length body.now }
     ensures ok { IfOk result (λ r. ShowsCounted (Tree.by_fx (fixed_tree fixed.now)) path.now (codes "occurrences") body.now at r.0 lister.old.out.items lister.new.out.items r.1) }
     ensures err { IfErr result (λ e. HasFailed (kind_read (Tree.by_fx (fixed_tree fixed.now)) body.now at) at e) }
@@ -167,7 +168,7 @@ pub(crate) fn show_by_fx(
 ) -> Result<u32, DecodeError>
     requires bounds { InBounds (Tree.by_fx (fixed_tree fixed.now)) }
     requires listable { FixedListable (fixed_tree fixed.now) }
-    requires body { length body.now ≤ 65532 }
+    requires body { length body.now ≤ longest_body }
     requires at { at ≤ length body.now }
     ensures ok { IfOk result (λ end. Shows (kind_lines (Tree.by_fx (fixed_tree fixed.now)) path.now) (kind_read (Tree.by_fx (fixed_tree fixed.now)) body.now at) body.now at end lister.old.out.items lister.new.out.items) }
     ensures err { IfErr result (λ e. HasFailed (kind_read (Tree.by_fx (fixed_tree fixed.now)) body.now at) at e) }

@@ -6,7 +6,7 @@ use Rattle.ax_model.specs.Blocks.{read_block}
 use Rattle.ax_model.specs.CanonicalOctets.{canon_block, canon_length}
 use Rattle.ax_model.specs.Flaws.{NoFlaw}
 use Rattle.ax_model.specs.Framing.{RawTree}
-use Rattle.ax_model.specs.Lengths.{held}
+use Rattle.ax_model.specs.Lengths.{capped}
 use Rattle.ax_model.specs.Plain.{spec_tree}
 use Rattle.ax_model.specs.Specification.{SpecTree, spec_of, record_slots}
 use Rattle.ax_model.specs.declared.fault.BodyFault.{BodyFault}
@@ -51,7 +51,7 @@ pub read_listed : (codec : Codec) (spec : SpecTree) (raw : RawTree) (number octe
     → LaysBits codec raw.body octets output → CountsRecords codec raw.body count → ListsBody spec number raw.category octets count raw.body listing → IsMadeRead (λ spec block. ShowText spec block number) spec raw listing
 read_listed codec spec raw number octets count output listing clean stands same less laid counts h =
     let length_is : octets ≡ canon_length spec (read_block raw.category h.records) = (laid.begins spec h.records clean stands h.spelled).counted ∙ ap (λ n. canon_length spec (read_block n h.records)) (sym same) in
-    let held_is : octets ≡ held (canon_length spec (read_block raw.category h.records)) = sym (held_small octets less) ∙ ap held length_is in
+    let held_is : octets ≡ capped (canon_length spec (read_block raw.category h.records)) = sym (held_small octets less) ∙ ap held length_is in
     let count_is : count ≡ length h.records = counts.counts spec h.records clean stands h.spelled in record {
       records = h.records;
       spelled = h.spelled;

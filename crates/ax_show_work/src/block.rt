@@ -3,10 +3,11 @@ ghost use Rattle.std.specs.Prelude.{◌≡◌, ◌<◌, ◌≤◌, [], length, I
 ghost use Rattle.ax_blocks.specs.Reader.{raw_tree};
 ghost use Rattle.ax_model.specs.OfCode.{HasNoFlaw};
 ghost use Rattle.ax_model.specs.Plain.{spec_tree, catalogue_tree};
+ghost use Rattle.ax_model.specs.Sizes.{longest_block};
 ghost use Rattle.ax_stream.specs.Made.{IsMadeOf, IsMadeRead, NothingMade, NothingMadeRead, IsWithinBody};
 ghost use Rattle.ax_tables.specs.Standing.{StandsFor, StandForEach};
 ghost use Rattle.ax_text.specs.ShowText.{ShowText, OpaqueShown};
-ghost use Rattle.ax_values.specs.Decoding.{IsBodyFault, Names};
+ghost use Rattle.ax_values.specs.Decoding.{IsBodyFault, IsFaultOf};
 ghost use Rattle.ax_show_work.specs.Listing.{ListsBody};
 
 use ax_check::Catalogue;
@@ -36,7 +37,7 @@ fn list_body(
     requires no_flaw { HasNoFlaw spec.now }
     requires empty { lister.old.out.items ≡ [] }
     ensures ok { OnOk result (ListsBody (spec_tree spec.now) number raw.now.category octets count raw.now.body.now lister.new.out.items) }
-    ensures err { IfErr result (Names (IsBodyFault (spec_tree spec.now) raw.now.body.now)) }
+    ensures err { IfErr result (IsFaultOf (IsBodyFault (spec_tree spec.now) raw.now.body.now)) }
     ensures small { octets < 4294967296 }
 {
     lister.block_line(number, raw.category, u64::from(octets), count)?;
@@ -61,10 +62,10 @@ fn list_read(
     requires no_flaw { HasNoFlaw spec.now }
     requires stands { StandsFor codec.now (spec_tree spec.now) }
     requires category { raw.now.category ≡ spec.now.category }
-    requires room { length output.old ≡ 65535 }
+    requires room { length output.old ≡ longest_block }
     ensures octets { OnOk result (IsMadeRead (λ spec block. ShowText spec block number) (spec_tree spec.now) (raw_tree raw.now) lister.new.out.items) }
     ensures stop { IfErr result (λ stop. NothingMadeRead (spec_tree spec.now) (raw_tree raw.now) stop) }
-    ensures room { length output.new ≡ 65535 }
+    ensures room { length output.new ≡ longest_block }
 {
     lister.clear();
     let view = match scan(codec, raw.body) {
@@ -92,11 +93,11 @@ pub(crate) fn list_block(
     raw: &RawBlock<'_>,
 ) -> Result<(), BlockStop>
     requires sound { StandForEach codecs.now.codecs (catalogue_tree catalogue.now) }
-    requires room { length output.old ≡ 65535 }
+    requires room { length output.old ≡ longest_block }
     ensures octets { OnOk result (IsMadeOf (λ number spec block. ShowText spec block number) (λ number category content. OpaqueShown number category content) (catalogue_tree catalogue.now) number (raw_tree raw.now) lister.new.out.items) }
     ensures stop { IfErr result (λ stop. NothingMade (catalogue_tree catalogue.now) (raw_tree raw.now) stop) }
     ensures short { IfErr result IsWithinBody }
-    ensures room { length output.new ≡ 65535 }
+    ensures room { length output.new ≡ longest_block }
 {
     match codecs.get(raw.category) {
         Some(codec) => match catalogue.get(raw.category) {

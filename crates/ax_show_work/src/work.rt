@@ -1,6 +1,7 @@
 //! `show` over the blocks of an input.
 ghost use Rattle.std.specs.Prelude.{◌≡◌, length, IfOk};
 ghost use Rattle.ax_model.specs.Plain.{catalogue_tree};
+ghost use Rattle.ax_model.specs.Sizes.{longest_block};
 ghost use Rattle.ax_stream.specs.Made.{tree_command};
 ghost use Rattle.ax_tables.specs.Standing.{StandForEach};
 ghost use Rattle.ax_text.specs.ShowText.{ShowText, OpaqueShown};
@@ -24,7 +25,7 @@ pub struct ShowViews<'c> {
     codecs: &'c Codecs,
     output: Vec<u8>,
     lister: Lister,
-    ghost room: { length output.items ≡ 65535 },
+    ghost room: { length output.items ≡ longest_block },
 }
 
 impl<'c> ShowViews<'c> {

@@ -6,7 +6,7 @@ use Rattle.ax_model.specs.Framing.{RawTree}
 use Rattle.ax_model.specs.Specification.{SpecTree, spec_of}
 use Rattle.ax_model.specs.declared.fault.BodyFault.{BodyFault}
 use Rattle.ax_outside.proofs.Ends.{with_end-nil}
-use Rattle.ax_stream.proofs.BlockSteps.{reads_fit, asked_category, short_fault}
+use Rattle.ax_stream.proofs.BlockSteps.{short_fault}
 use Rattle.ax_stream.proofs.OpaqueBlocks.{raw_framed}
 use Rattle.ax_stream.specs.Commands.{gives}
 use Rattle.ax_stream.specs.Made.{IsMadeOf, IsMadeRead, NothingMade, NothingMadeRead, IsWithinBody, over, tree_command}
@@ -14,8 +14,6 @@ use Rattle.ax_stream.specs.Taking.{Takes}
 use Rattle.ax_stream.specs.declared.making.BlockStop.{BlockStop}
 use Rattle.ax_stream.specs.declared.making.BlockStop.TheVariants as BlockStopOf
 use Rattle.ax_stream.specs.declared.work.WorkStop.TheVariants.{Fault, OutOfMemory}
-
-pub ruleset made_reads = reads_fit
 
 pub read_stop : (catalogue : List SpecTree) (raw : RawTree) (spec : SpecTree) (stop : BlockStop) → spec_of raw.category catalogue ≡ Some spec → NothingMadeRead spec raw stop → NothingMade catalogue raw stop
 read_stop catalogue raw spec (BlockStopOf.Fault f) known h = record { spec = spec; known = known; fails = h }
@@ -61,7 +59,5 @@ module _ (of_read : ℕ → SpecTree → BlockTree → List ℕ) (of_opaque : �
 
   pub tree_memory : (raw : RawTree) (held : Option (List ℕ)) (faults : ℕ) (laid : List ℕ) → Takes (tree_command of_read of_opaque catalogue) number raw (record { held = held; held' = held; faults = faults; faults' = faults }) laid (Err OutOfMemory)
   tree_memory raw held faults laid = record { means = refl; later = omega arith }
-
-pub ruleset made_blocks = (read_made, opaque_made, read_stop, asked_category, short_stop)
 
 pub ruleset tree_takes = (tree_taken, tree_fails, tree_memory)

@@ -97,10 +97,6 @@ running_begins c left held shown taken faults fails flaws reader Sound sound e =
       };
     }
 
--- the source, after one more read
-abbrev pub read_on : SourceChange → SourceChange → SourceChange
-read_on i j = record { left = i.left; left' = j.left'; taken = i.taken; taken' = j.taken'; faults = i.faults; faults' = j.faults' }
-
 -- ---- one block more
 
 module _ (c : BlockCommand) (limit : ℕ) (input : List ℕ) (left left' : Option (List ℕ)) (o r : SinkChange) (given count taken taken' : ℕ) (raw : RawTree)

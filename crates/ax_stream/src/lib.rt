@@ -11,6 +11,6 @@ mod work;
 pub use driving::drive;
 pub use end::{Cause, InputFault, StreamEnd};
 pub use laws::canon_writes_canonical_octets;
-pub use making::{BlockMaker, BlockStop, TreeWork};
+pub use making::BlockStop;
 pub use stream::run_blocks;
 pub use work::{BlockWork, WorkStop};

@@ -144,9 +144,6 @@ slots_count old new links slots h = sym (length-map links (linked_slot (meanings
 
 -- ---- slots
 
-pub spare_made : (ns : List Node) → IsTable ns → SlotIsMade ns ns 0 spare_slot
-spare_made ns h = record { grows = goes_nowhere ns h; within = omega arith; means = refl }
-
 -- ---- records
 
 pub record_bounds_at : (spec : SpecTree) (ns : List Node) (links : List ℕ) → NoFlaw spec → linked_slots (meanings ns) links ≡ map bare_slot (record_slot_list spec) → InBounds (record_kind_at ns links)

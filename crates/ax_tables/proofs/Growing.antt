@@ -109,9 +109,6 @@ part_shows = record { same = λ ms link. refl }
 
 -- ---- slots
 
-pub slots_none : (ns : List Node) → IsTable ns → SlotsAreMade ns ns [] []
-slots_none ns h = record { grows = goes_nowhere ns h; within = tt; means = refl }
-
 pub slots_more : (old mid new : List Node) (links : List ℕ) (made : List SlotTree) (link : ℕ) (slot : SlotTree) → SlotsAreMade old mid links made → SlotIsMade mid new link slot → SlotsAreMade old new (links ++ link ∷ []) (made ++ slot ∷ [])
 slots_more old mid new links made link slot h g = record {
   grows = goes_far old mid new h.grows g.grows;
@@ -127,8 +124,3 @@ kind_back (counted k) = refl
 kind_back (by_fx f) = refl
 kind_back explicit = refl
 kind_back (compound ss) = refl
-
--- a kind's node as a slot's
-pub slot_made : (old new : List Node) (link : ℕ) (k : KindTree) → IsMade old new link (of_kind k) → SlotIsMade old new link (subitem [] k)
-slot_made old new zero k h = absurd (omega (arith, h.some))
-slot_made old new (suc i) k h = record { grows = h.grows; within = h.within; means = ap (λ m. subitem [] (kind_of m)) h.means ∙ ap (λ k. subitem [] k) (kind_back k) }

@@ -1,6 +1,7 @@
 //! The nodes of a table: kinds and parts that lead to each other by links.
 ghost use Rattle.std.specs.Prelude.{◌≡◌, ◌<◌, ◌++◌, ◌∷◌, ◌↔◌, [], length, map, slice_get, IsSome, OnOk, OnErr};
 ghost use Rattle.std.specs.Option.{option_copied};
+ghost use Rattle.ax_lists.specs.Sizes.{list_bound};
 ghost use Rattle.ax_tables.specs.Octets.{octets_of};
 ghost use Rattle.ax_tables.specs.Meaning.{fixed_bits, part_bits};
 
@@ -24,12 +25,13 @@ impl Model for Nodes {
     ghost use Rattle.std.specs.Prelude.{◌≡◌, ◌<◌, List, length, map};
     ghost use Rattle.ax_tables.specs.Octets.{octets_of};
     ghost use Rattle.ax_tables.specs.declared.node.Node.{Node};
+    ghost use Rattle.ax_lists.specs.Sizes.{list_bound};
 
     ghost Value = { List Node };
 
     ghost view = { λ n. n.items.items };
 
-    ghost invariant = { λ n. (length n.items.items < 4294967296) × (n.octets.items ≡ map octets_of n.items.items) };
+    ghost invariant = { λ n. (length n.items.items < list_bound) × (n.octets.items ≡ map octets_of n.items.items) };
 }
 
 impl Nodes {
@@ -61,7 +63,7 @@ impl Nodes {
     /// The nodes in order.
     pub fn as_slice(&self) -> &[Node]
         ensures members { result.now ≡ self.now }
-        ensures bound { length self.now < 4294967296 }
+        ensures bound { length self.now < list_bound }
     {
         self.items.as_slice()
     }

@@ -10,7 +10,7 @@ use Rattle.ax_model.specs.Tree.{KindTree, SlotTree, SlotsTree, no_slots, slot_an
 use Rattle.ax_model.specs.declared.kind.Slot.{Slot}
 use Rattle.ax_model.specs.declared.value.Entry.{Entry}
 use Rattle.ax_text.specs.Printing.{after_spaces, Puts}
-use Rattle.ax_text.specs.Slots.{slot_behind, slot_numbered, or_spare, SlotShape, slot_onto}
+use Rattle.ax_text.specs.Slots.{slot_after, slot_numbered, or_spare, SlotShape, slot_onto}
 use Rattle.ax_text.specs.ValueText.{Texts, one_onto, kind_onto, entries_onto}
 use Rattle.ax_text.proofs.Printed.{none_put, both_put, Leaves, leaves_all, leaves_fewer, leaves_none, from_place}
 
@@ -43,7 +43,7 @@ EachSlotShape at (entry_and t v es) = SlotShape (at t) v × EachSlotShape at es
 
 -- the slots from number s on are these
 abbrev AreFrom : (ℕ → SlotTree) → ℕ → SlotsTree → Type 0
-AreFrom at s ss = (i : ℕ) → at (s + i) ≡ slot_behind i ss
+AreFrom at s ss = (i : ℕ) → at (s + i) ≡ slot_after i ss
 
 next_are : (at : ℕ → SlotTree) (s : ℕ) (slot : SlotTree) (ss : SlotsTree) → AreFrom at s (slot_and slot ss) → AreFrom at (s + 1) ss
 next_are at s slot ss h i = ap at (let e : (s + 1) + i ≡ s + suc i = omega arith in e) ∙ h (suc i)
@@ -124,14 +124,11 @@ pub ruleset entries_ways = (entry_shape, entry_next, entries_ended)
 
 -- ---- one entry
 
-pub slot_put : (slot : SlotTree) (s : Slot) (name : List ℕ) (k : KindTree) (v : ValueTree) (a b c : List ℕ) → slot_tree s ≡ subitem name k → slot_tree s ≡ slot → Puts after_spaces (one_onto name) a b → Puts after_spaces (kind_onto k v) b c → Puts after_spaces (slot_onto slot v) a c
-slot_put slot s name k v a b c e f p q = subst (λ slot. Puts after_spaces (slot_onto slot v) a c) (sym e ∙ f) (both_put (one_onto name) (kind_onto k v) a b c p q)
-
 pub ruleset entry_ways = (none_put, both_put)
 
 -- ---- slots by their numbers
 
-pub slot_at : (ss : List Slot) (i : ℕ) → or_spare (option_map slot_tree (slice_get ss i)) ≡ slot_behind i (slots_tree ss)
+pub slot_at : (ss : List Slot) (i : ℕ) → or_spare (option_map slot_tree (slice_get ss i)) ≡ slot_after i (slots_tree ss)
 slot_at [] i = refl
 slot_at (s ∷ ss) zero = refl
 slot_at (s ∷ ss) (suc i) = slot_at ss i

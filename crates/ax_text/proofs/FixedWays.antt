@@ -25,9 +25,6 @@ pub member_next : (whole : Texts → Texts) (old now new : List ℕ) (m : Member
 member_next whole old now new m left ms v right vs h e f p =
     leaves_fewer whole (some_members left right) (member_onto (member_tree m) (value_tree v)) (some_members ms vs) old now new h (λ rest. (λ i. some_members (e i) (f i) rest)) p
 
-no_member_left : (vs : ValuesTree) (rest : Texts) → members_onto no_members vs rest ≡ rest
-no_member_left vs rest = refl
-
 no_value_left : (ms : MembersTree) (rest : Texts) → members_onto ms no_values rest ≡ rest
 no_value_left no_members rest = refl
 no_value_left ms rest = refl

@@ -26,11 +26,6 @@ some_parts ps ls = parts_onto (map part_tree ps) (lists_tree ls)
 pub parts_first : (ps : List Part) (ls : List (List Value)) (out : List ℕ) → Leaves after_spaces (some_parts ps ls) (some_parts ps ls) out out
 parts_first ps ls out = leaves_all (some_parts ps ls) out
 
-pub part_next : (whole : Texts → Texts) (old now new : List ℕ) (p : Part) (left ps : List Part) (vs : List Value) (right ls : List (List Value)) → Leaves after_spaces whole (some_parts left right) old now → left ≡ p ∷ ps → right ≡ vs ∷ ls
-    → Puts after_spaces (part_onto (part_tree p) (values_tree vs)) now new → Leaves after_spaces whole (some_parts ps ls) old new
-part_next whole old now new p left ps vs right ls h e f w =
-    leaves_fewer whole (some_parts left right) (part_onto (part_tree p) (values_tree vs)) (some_parts ps ls) old now new h (λ rest. (λ i. some_parts (e i) (f i) rest)) w
-
 no_list_left : (ps : List MembersTree) (rest : Texts) → parts_onto ps no_lists rest ≡ rest
 no_list_left [] rest = refl
 no_list_left (p ∷ ps) rest = refl

@@ -12,7 +12,7 @@ use Rattle.ax_model.specs.declared.value.Value.{Value}
 use Rattle.ax_text.specs.Listable.{MembersListable, SlotListable, SlotsListable}
 use Rattle.ax_text.specs.Printing.{as_lines, Puts}
 use Rattle.ax_text.specs.ShowText.{count_line, fixed_lines, members_lines, parts_lines, each_lines, occurrence, entry_count, kind_lines, entries_lines}
-use Rattle.ax_text.specs.Slots.{slot_behind, slot_numbered, slot_lines}
+use Rattle.ax_text.specs.Slots.{slot_after, slot_numbered, slot_lines}
 use Rattle.ax_text.specs.ValueText.{Texts, one_onto}
 use Rattle.ax_text.proofs.EntryWays.{IsMadeOf, entry_tree_first, entry_shape, entry_next, entries_ended}
 use Rattle.ax_text.proofs.FixedWays.{empty}
@@ -160,14 +160,14 @@ pub ruleset each_ways = (each_first, each_shape, each_next, each_ended)
 pub lines_made : (path : List ℕ) → IsMadeOf (entries_lines path) (slot_lines path)
 lines_made path = record { none = λ s rest. refl; skip = λ s ss es rest. refl; last = λ s name k ss rest. refl; take = λ s name k ss t v es rest. refl }
 
-behind_listable : (ss : SlotsTree) (i : ℕ) → SlotsListable ss → SlotListable (slot_behind i ss)
-behind_listable no_slots i h = tt
-behind_listable (slot_and s ss) zero h = h.0
-behind_listable (slot_and s ss) (suc i) h = behind_listable ss i h.1
+after_listable : (ss : SlotsTree) (i : ℕ) → SlotsListable ss → SlotListable (slot_after i ss)
+after_listable no_slots i h = tt
+after_listable (slot_and s ss) zero h = h.0
+after_listable (slot_and s ss) (suc i) h = after_listable ss i h.1
 
 pub slot_listable : (ss : SlotsTree) (n : ℕ) → SlotsListable ss → SlotListable (slot_numbered ss n)
 slot_listable ss zero h = tt
-slot_listable ss (suc i) h = behind_listable ss i h
+slot_listable ss (suc i) h = after_listable ss i h
 
 pub ruleset entry_ways = none_put
 

@@ -10,7 +10,7 @@ use Rattle.ax_model.specs.Paths.{three_digits}
 use Rattle.ax_model.specs.Shape.{NumberShape, FixedShape, MembersShape, PartsShape, EachShape, Shape, EntriesShape}
 use Rattle.ax_model.specs.Specification.{SpecTree, record_slots}
 use Rattle.ax_model.specs.Tree.{FixedTree, element, group, MembersTree, no_members, member_and, named, spare, KindTree, fixed, extended, counted, by_fx, explicit, compound, SlotsTree, no_slots, slot_and, spare_slot, subitem, ValueTree, number, member_values, part_values, occurrences, content_octets, marked, ValuesTree, no_values, value_and, ListsTree, no_lists, list_and, EntriesTree, no_entries, entry_and}
-use Rattle.ax_tokens.specs.Depth.{level_behind, KeepsWithin, IsWithin}
+use Rattle.ax_tokens.specs.Depth.{level_after, KeepsWithin, IsWithin}
 use Rattle.ax_tokens.specs.Lexing.{IsTokenText, AreTokensOf}
 use Rattle.ax_tokens.specs.Octets.{line_feed}
 use Rattle.ax_tokens.specs.Printing.{AreTokenTexts, placed}
@@ -29,12 +29,12 @@ use Rattle.ax_text.proofs.WordTokens.{IsWord, decimal_word, name_word, category_
 -- texts of tokens that keep their level within the limit, from a level on
 abbrev pub Keep : ℕ → ℕ → Texts → Type 0
 Keep limit level [] = Unit {0}
-Keep limit level (text ∷ texts) = IsTokenText (kind_of text) text × (level_behind (kind_of text) level ≤ limit) × Keep limit (level_behind (kind_of text) level) texts
+Keep limit level (text ∷ texts) = IsTokenText (kind_of text) text × (level_after (kind_of text) level ≤ limit) × Keep limit (level_after (kind_of text) level) texts
 
 -- ---- single texts
 
 word_keeps : (limit level : ℕ) (text : List ℕ) (rest : Texts) → IsWord text → level ≤ limit → Keep limit level rest → Keep limit level (text ∷ rest)
-word_keeps limit level text rest w le k = subst (λ kind. IsTokenText kind text × (level_behind kind level ≤ limit) × Keep limit (level_behind kind level) rest) (sym w.kind) (w.octets, le, k)
+word_keeps limit level text rest w le k = subst (λ kind. IsTokenText kind text × (level_after kind level ≤ limit) × Keep limit (level_after kind level) rest) (sym w.kind) (w.octets, le, k)
 
 braces_keep : (limit level : ℕ) (onto : Texts → Texts) (rest : Texts) → level + 1 ≤ limit → (Keep limit (level + 1) (closing ∷ rest) → Keep limit (level + 1) (onto (closing ∷ rest))) → Keep limit level rest → Keep limit level (in_braces onto rest)
 braces_keep limit level onto rest le h k =
@@ -150,11 +150,11 @@ with_kinds texts = map (λ text. (kind_of text, text)) texts
 
 are_texts : (limit level : ℕ) (texts : Texts) → Keep limit level texts → AreTokenTexts (with_kinds texts)
 are_texts limit level [] h = tt
-are_texts limit level (text ∷ texts) h = (h.0, are_texts limit (level_behind (kind_of text) level) texts h.2)
+are_texts limit level (text ∷ texts) h = (h.0, are_texts limit (level_after (kind_of text) level) texts h.2)
 
 keep_levels : (limit level at : ℕ) (texts : Texts) → Keep limit level texts → KeepsWithin limit level (placed at (with_kinds texts))
 keep_levels limit level at [] h = tt
-keep_levels limit level at (text ∷ texts) h = (h.1, keep_levels limit (level_behind (kind_of text) level) (at + length text + 1) texts h.2)
+keep_levels limit level at (text ∷ texts) h = (h.1, keep_levels limit (level_after (kind_of text) level) (at + length text + 1) texts h.2)
 
 texts_back : (texts : Texts) → map (λ t. t.1) (with_kinds texts) ≡ texts
 texts_back [] = refl

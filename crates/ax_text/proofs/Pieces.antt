@@ -26,7 +26,7 @@ count_put old a b c d e f path word n g h k l m o =
 pub content_put : (old a b c d path octets : List ℕ) → a ≡ old ++ path → b ≡ a ++ codes " octets " → c ≡ b ++ hex_text octets → d ≡ c ++ 0x0A ∷ [] → Puts as_lines (one_onto (content_line path octets)) old d
 content_put old a b c d path octets e f g h = line_put old c d (content_line path octets) (three_pieces old a b c path (codes " octets ") (hex_text octets) e f g) h
 
--- what stood behind the first octets was moved behind a line
+-- what stood after the first octets was moved after a line
 pub moved_put : (old moved cut counted new line : List ℕ) (start : ℕ) → moved ≡ drop start old → cut ≡ take start old → Puts as_lines (one_onto line) cut counted → new ≡ counted ++ moved → new ≡ take start old ++ (line ++ 0x0A ∷ drop start old)
 moved_put old moved cut counted new line start e f p g =
     g ∙ ap (λ t. t ++ moved) (sym (append-nil counted) ∙ p.put []) ∙ append_assoc cut (line ++ 0x0A ∷ []) moved ∙ ap (λ t. cut ++ t) (append_assoc line (0x0A ∷ []) moved) ∙ (λ i. f i ++ (line ++ 0x0A ∷ e i))

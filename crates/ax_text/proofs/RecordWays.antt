@@ -16,7 +16,7 @@ use Rattle.ax_model.specs.declared.spec.Spec.{Spec}
 use Rattle.ax_model.specs.declared.spec.UapSlot.{UapSlot}
 use Rattle.ax_text.specs.BlockText.{record_onto, records_onto}
 use Rattle.ax_text.specs.Printing.{after_spaces, Puts}
-use Rattle.ax_text.specs.Slots.{slot_behind, slot_numbered, SlotShape, slot_onto}
+use Rattle.ax_text.specs.Slots.{slot_after, slot_numbered, SlotShape, slot_onto}
 use Rattle.ax_text.specs.ValueText.{Texts, opening, closing, one_onto, in_braces, kind_onto, entries_onto}
 use Rattle.ax_text.proofs.Printed.{none_put, both_put, braces_put, Leaves, leaves_all, leaves_fewer, leaves_none, from_place}
 
@@ -60,7 +60,7 @@ pub ruleset records_ways = (records_first, record_shape, record_next, records_en
 
 -- ---- items by field reference number
 
-tree_at : (items : List Item) (uap : List UapSlot) (i : ℕ) → slot_behind i (slots_of (map (uap_slot (map item_tree items)) uap)) ≡ slot_of_item (option_map item_tree (item_of_slot (slice_get uap i) items))
+tree_at : (items : List Item) (uap : List UapSlot) (i : ℕ) → slot_after i (slots_of (map (uap_slot (map item_tree items)) uap)) ≡ slot_of_item (option_map item_tree (item_of_slot (slice_get uap i) items))
 tree_at items [] i = refl
 tree_at items (u ∷ uap) zero = uap_slot_tree items u
 tree_at items (u ∷ uap) (suc i) = tree_at items uap i

@@ -2,7 +2,7 @@
 use Rattle.std.proofs.Common.{◌≡◌, ℕ, ◌+◌, List, [], ◌∷◌, ◌++◌, length, codes, decimal, refl, sym, ◌∙◌, ap, subst, append-nil}
 use Rattle.ax_model.specs.Blocks.{read_block}
 use Rattle.ax_model.specs.CanonicalOctets.{canon_length}
-use Rattle.ax_model.specs.Lengths.{held}
+use Rattle.ax_model.specs.Lengths.{capped}
 use Rattle.ax_model.specs.Paths.{three_digits}
 use Rattle.ax_model.specs.Plain.{records_tree}
 use Rattle.ax_model.specs.Specification.{SpecTree}
@@ -33,7 +33,7 @@ record_count : (rs : List Record) → length (records_tree rs) ≡ length rs
 record_count [] = refl
 record_count (r ∷ rs) = ap (λ n. ℕ.suc n) (record_count rs)
 
-pub read_put : (spec : SpecTree) (n category octets count : ℕ) (rs : List Record) (a b c : List ℕ) → a ≡ [] → octets ≡ held (canon_length spec (read_block category (records_tree rs))) → count ≡ length rs
+pub read_put : (spec : SpecTree) (n category octets count : ℕ) (rs : List Record) (a b c : List ℕ) → a ≡ [] → octets ≡ capped (canon_length spec (read_block category (records_tree rs))) → count ≡ length rs
     → Puts as_lines (one_onto (block_front n category octets ++ codes " records " ++ decimal count)) a b → Puts as_lines (records_lines spec 0 (records_tree rs)) b c → c ≡ ShowText spec (read_block category (records_tree rs)) n
 read_put spec n category octets count rs a b c e same counted p q =
     whole_put (λ rest. (block_front n category octets ++ codes " records " ++ decimal count) ∷ records_lines spec 0 (records_tree rs) rest) a c e

@@ -185,9 +185,6 @@ entries_never s (slot_and (subitem other k) ss) no_entries x name i l a y e = en
 entries_never s (slot_and (subitem other k) ss) (entry_and t v es) x name i l a y e =
     never_choice (t == s) _ _ _ _ name a (λ h z f. l.0 (heads _ _ _ _ f)) (λ h z f. entries_never (s + 1) ss (entry_and t v es) x name i l.1 h z f) y e
 
-abbrev Equal : ℕ → ℕ → ValueTree → ValueTree → EntriesTree → EntriesTree → Texts → Texts → Type 0
-Equal t u v w es fs x y = (entry_and t v es ≡ entry_and u w fs) × (x ≡ y)
-
 -- both entries are of the slot, one is, or none
 both_choice : (b c : Bool) (t u s : ℕ) (S T U V : Type 0) (p q m n : Texts) (E : Type 0) → (t == s) ≡ b → (u == s) ≡ c → MatchBool b S T → MatchBool c U V → cond b p q ≡ cond c m n
     → (t ≡ u → S → U → p ≡ m → E) → (S → V → p ≡ n → E) → (T → U → q ≡ m → E) → (T → V → q ≡ n → E) → E

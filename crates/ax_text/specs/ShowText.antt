@@ -3,7 +3,7 @@ use Rattle.std.specs.Prelude.{ℕ, ◌+◌, ◌==◌, if◌then◌else◌, List,
 use Rattle.ax_model.specs.Blocks.{BlockTree, read_block, opaque_block}
 use Rattle.ax_model.specs.CanonicalOctets.{canon_length}
 use Rattle.ax_model.specs.Fitting.{list_count}
-use Rattle.ax_model.specs.Lengths.{held}
+use Rattle.ax_model.specs.Lengths.{capped}
 use Rattle.ax_model.specs.Paths.{three_digits, at}
 use Rattle.ax_model.specs.Specification.{SpecTree, record_slots}
 use Rattle.ax_model.specs.Tree.{FixedTree, element, group, MembersTree, no_members, member_and, MemberTree, named, spare, KindTree, fixed, extended, counted, by_fx, explicit, compound, SlotTree, SlotsTree, no_slots, slot_and, spare_slot, subitem, ValueTree, number, member_values, part_values, occurrences, content_octets, marked, ValuesTree, no_values, value_and, value_count, ListsTree, no_lists, list_and, EntriesTree, no_entries, entry_and}
@@ -98,8 +98,8 @@ block_front n category octets = codes "block " ++ decimal n ++ codes " category 
 abbrev pub OpaqueShown : ℕ → ℕ → List ℕ → List ℕ
 OpaqueShown n category content = as_lines ((block_front n category (3 + length content) ++ codes " opaque " ++ hex_text content) ∷ [])
 
--- a count of octets is held at 2^64 - 1; that of a block that was read is at most 65,535
+-- a count of octets is capped at 2^64 - 1; that of a block that was read is at most 65,535
 abbrev pub ShowText : SpecTree → BlockTree → ℕ → List ℕ
 ShowText spec (read_block category records) n =
-    as_lines ((block_front n category (held (canon_length spec (read_block category records))) ++ codes " records " ++ decimal (length records)) ∷ records_lines spec 0 records [])
+    as_lines ((block_front n category (capped (canon_length spec (read_block category records))) ++ codes " records " ++ decimal (length records)) ∷ records_lines spec 0 records [])
 ShowText spec (opaque_block category content) n = OpaqueShown n category content

@@ -11,14 +11,14 @@ MemberShape (named name f) v = FixedShape f v
 MemberShape (spare w) v = NumberShape w v
 
 -- the slot after i others; there is none where it is spare
-abbrev pub slot_behind : ℕ → SlotsTree → SlotTree
-slot_behind i no_slots = spare_slot
-slot_behind zero (slot_and s ss) = s
-slot_behind (suc i) (slot_and s ss) = slot_behind i ss
+abbrev pub slot_after : ℕ → SlotsTree → SlotTree
+slot_after i no_slots = spare_slot
+slot_after zero (slot_and s ss) = s
+slot_after (suc i) (slot_and s ss) = slot_after i ss
 
 abbrev pub slot_numbered : SlotsTree → ℕ → SlotTree
 slot_numbered ss zero = spare_slot
-slot_numbered ss (suc i) = slot_behind i ss
+slot_numbered ss (suc i) = slot_after i ss
 
 abbrev pub or_spare : Option SlotTree → SlotTree
 or_spare None = spare_slot

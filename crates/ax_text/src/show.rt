@@ -4,7 +4,7 @@ ghost use Rattle.std.specs.List.{AllByRecursion};
 ghost use Rattle.ax_model.specs.Blocks.{read_block};
 ghost use Rattle.ax_model.specs.Bodies.{RecordShape};
 ghost use Rattle.ax_model.specs.CanonicalOctets.{canon_length};
-ghost use Rattle.ax_model.specs.Lengths.{held};
+ghost use Rattle.ax_model.specs.Lengths.{capped};
 ghost use Rattle.ax_model.specs.OfCode.{HasNoFlaw, BlockFits};
 ghost use Rattle.ax_model.specs.Plain.{spec_tree, records_tree, block_tree};
 ghost use Rattle.ax_model.specs.Specification.{record_slots};
@@ -51,7 +51,7 @@ fn read_lines(
 ) -> Result<Vec<u8>, AllocError>
     requires listable { SlotsListable (record_slots (spec_tree spec.now)) }
     requires shape { AllByRecursion (RecordShape (spec_tree spec.now)) (records_tree records.now) }
-    requires octets { octets ≡ held (canon_length (spec_tree spec.now) (read_block category (records_tree records.now))) }
+    requires octets { octets ≡ capped (canon_length (spec_tree spec.now) (read_block category (records_tree records.now))) }
     ensures { IfOk result (λ lines. lines.items ≡ ShowText (spec_tree spec.now) (read_block category (records_tree records.now)) number) }
 {
     let mut lister = Lister::new(alloc);

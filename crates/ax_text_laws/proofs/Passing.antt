@@ -1,6 +1,6 @@
 -- Texts through which the level of braces passes, and how deep it is inside.
 use Rattle.std.proofs.Common.{◌≡◌, ℕ, ◌+◌, ◌-◌, ◌≤◌, max, List, [], ◌∷◌, ◌++◌, length, map, refl, sym, ◌∙◌, ap, subst, arith, append_assoc}
-use Rattle.ax_tokens.specs.Depth.{level_behind, KeepsWithin}
+use Rattle.ax_tokens.specs.Depth.{level_after, KeepsWithin}
 use Rattle.ax_tokens.specs.Octets.{quote}
 use Rattle.ax_tokens.specs.Printing.{placed}
 use Rattle.ax_tokens.specs.declared.token.TokenKind.{TokenKind}
@@ -14,18 +14,18 @@ use Rattle.ax_text.proofs.WordTokens.{IsWord}
 -- the level keeps the limit, from one text to the next
 abbrev pub Levels : ℕ → ℕ → List (List ℕ) → Type 0
 Levels limit level [] = Unit {0}
-Levels limit level (text ∷ texts) = (level_behind (kind_of text) level ≤ limit) × Levels limit (level_behind (kind_of text) level) texts
+Levels limit level (text ∷ texts) = (level_after (kind_of text) level ≤ limit) × Levels limit (level_after (kind_of text) level) texts
 
 pub levels : (limit level at : ℕ) (texts : List (List ℕ)) → KeepsWithin limit level (placed at (map (λ text. (kind_of text, text)) texts)) → Levels limit level texts
 levels limit level at [] h = tt
-levels limit level at (text ∷ texts) h = (h.0, levels limit (level_behind (kind_of text) level) (at + length text + 1) texts h.1)
+levels limit level at (text ∷ texts) h = (h.0, levels limit (level_after (kind_of text) level) (at + length text + 1) texts h.1)
 
 -- a text that is no brace
 pub record IsFlat (text : List ℕ) : Type 0 where
-  pub flat : (level : ℕ) → level_behind (kind_of text) level ≡ level
+  pub flat : (level : ℕ) → level_after (kind_of text) level ≡ level
 
 pub word_flat : (text : List ℕ) → IsWord text → IsFlat text
-word_flat text w = record { flat = λ level. ap (λ kind. level_behind kind level) w.kind }
+word_flat text w = record { flat = λ level. ap (λ kind. level_after kind level) w.kind }
 
 -- the level after the texts is that before them, and inside them it is so much deeper
 pub record Passes (texts : List (List ℕ)) (depth : ℕ) : Type 0 where

@@ -10,7 +10,7 @@ use Rattle.ax_text.specs.ValueText.{opening, closing, one_onto, each_onto, kind_
 use Rattle.ax_text_views.proofs.Leading.{Leads, closed, leads_by, leads_on}
 use Rattle.ax_text_views.specs.Prints.{Prints}
 use Rattle.ax_values.proofs.Counting.{counted_begins}
-use Rattle.ax_values.specs.Reading.{HasFailed}
+use Rattle.ax_values.specs.SlotReading.{HasFailed}
 use Rattle.ax_values.specs.declared.error.DecodeError.{DecodeError}
 
 -- i of n occurrences are printed, up to octet here
@@ -49,9 +49,9 @@ counted_closes k body n i at here old now new h past p =
       put = record { put = λ rest. p.put rest };
     })
 
-pub counted_lost : (k : KindTree) (body : List ℕ) (n i at here : ℕ) (old now : List ℕ) (e : DecodeError) → CountedLeads k body n i at here old now → i < n → HasFailed (kind_read k body here) here e → HasFailed (kind_read (counted k) body at) at e
+pub counted_failed : (k : KindTree) (body : List ℕ) (n i at here : ℕ) (old now : List ℕ) (e : DecodeError) → CountedLeads k body n i at here old now → i < n → HasFailed (kind_read k body here) here e → HasFailed (kind_read (counted k) body at) at e
 unfolding kind_read
-counted_lost k body n i at here old now e h lt t =
+counted_failed k body n i at here old now e h lt t =
     h.leads.fails e (record { met = λ fault is. subst (λ m. FailsAt (each_read (read k) m (bits (drop here body))) here fault) (sym left) (each_fails_at (read k) (n - (i + 1)) (bits (drop here body)) fault here (t.met fault is)) })
   where
     left : n - i ≡ suc (n - (i + 1))

@@ -8,7 +8,7 @@ use Rattle.ax_text.specs.Printing.{after_spaces, Puts}
 use Rattle.ax_text.specs.ValueText.{Texts, opening, closing, one_onto, in_braces}
 use Rattle.ax_text_views.specs.Prints.{Prints}
 use Rattle.ax_values.proofs.Continuing.{failed_after, failed_by_fault}
-use Rattle.ax_values.specs.Reading.{HasFailed}
+use Rattle.ax_values.specs.SlotReading.{HasFailed}
 use Rattle.ax_values.specs.declared.error.DecodeError.{DecodeError}
 use Rattle.ax_values.specs.declared.error.DecodeError.TheVariants as Decoding
 

@@ -18,7 +18,7 @@ use Rattle.ax_text.specs.ValueText.{Texts, opening, closing, one_onto, kind_onto
 use Rattle.ax_text_views.proofs.Leading.{Leads, leads_none, leads_by, leads_on}
 use Rattle.ax_text_views.specs.Prints.{Prints, IsSlotPrinted}
 use Rattle.ax_values.proofs.Marking.{slots_at, compound_gets}
-use Rattle.ax_values.specs.Reading.{HasFailed, HasSlotFailed}
+use Rattle.ax_values.specs.SlotReading.{HasFailed, HasSlotFailed}
 use Rattle.ax_values.specs.declared.error.DecodeError.{DecodeError}
 
 -- ---- entries that are read are of the slots that are left

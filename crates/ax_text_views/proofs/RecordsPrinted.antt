@@ -26,8 +26,8 @@ use Rattle.ax_text_views.proofs.Marked.{slot_printed}
 use Rattle.ax_text_views.specs.Prints.{Prints, IsSlotPrinted, IsRecordPrinted, PrintsBody}
 use Rattle.ax_values.proofs.Marking.{compound_gets}
 use Rattle.ax_values.proofs.RecordSlots.{record_at, record_fault, forwards_record, one_more}
-use Rattle.ax_values.specs.Decoding.{IsRecordAt, IsBodyFault, Names}
-use Rattle.ax_values.specs.Reading.{HasFailed}
+use Rattle.ax_values.specs.Decoding.{IsRecordAt, IsBodyFault, IsFaultOf}
+use Rattle.ax_values.specs.SlotReading.{HasFailed}
 use Rattle.ax_values.specs.declared.error.DecodeError.{DecodeError}
 use Rattle.ax_values.specs.declared.error.DecodeError.TheVariants as Decoding
 
@@ -92,7 +92,7 @@ records_all spec body at old now h past some =
     record { records = h.records; spelled = record { some = some_records h.records spec (bits body) s (omega (arith, length-bits body)); spelled = s }; put = h.put }
 
 -- the fault of a record is the body's
-pub records_fault : (spec : SpecTree) (body : List ℕ) (at : ℕ) (old now : List ℕ) (e : DecodeError) → NoFlaw spec → RecordsPrinted spec body at old now → at < length body → HasFailed (kind_read (record_kind spec) body at) at e → Names (IsBodyFault spec body) e
+pub records_fault : (spec : SpecTree) (body : List ℕ) (at : ℕ) (old now : List ℕ) (e : DecodeError) → NoFlaw spec → RecordsPrinted spec body at old now → at < length body → HasFailed (kind_read (record_kind spec) body at) at e → IsFaultOf (IsBodyFault spec body) e
 records_fault spec body at old now Decoding.OutOfMemory clean h lt t = tt
 records_fault spec body at old now (Decoding.Fault fault) clean h lt t =
     let g = record_fault spec body at fault (fault_at (record_kind spec) body at fault (record_bounds spec clean) (t.met fault refl)) in record {

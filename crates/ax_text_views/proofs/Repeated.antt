@@ -18,7 +18,7 @@ use Rattle.ax_text.specs.Printing.{after_spaces, Puts}
 use Rattle.ax_text.specs.ValueText.{Texts, opening, closing, one_onto, fixed_onto, part_onto, parts_onto, each_onto, kind_onto}
 use Rattle.ax_text_views.proofs.Leading.{Leads, closed, opened, leads_by, leads_on, fails_too}
 use Rattle.ax_text_views.specs.Prints.{Prints}
-use Rattle.ax_values.proofs.Repeating.{parts_from, behind_part}
+use Rattle.ax_values.proofs.Repeating.{parts_from, after_part}
 
 -- ---- occurrences by FX
 
@@ -106,7 +106,7 @@ module _ (all : List Part) (i : ℕ) (p : Part) (body : List ℕ) (at here end w
 
   part_next : fx ≡ true → i + 1 < length all → Leads (closed (parts_onto (map part_tree (drop (i + 1) all)))) (parts_at (map part_tree (drop (i + 1) all)) body end) (closed (parts_onto (part_tree p ∷ map part_tree (drop (i + 1) all)))) (parts_at (part_tree p ∷ map part_tree (drop (i + 1) all)) body here) body here end now mid
   part_next one lt =
-      let t = behind_part p (drop (i + 1) all) (map part_tree (drop (i + 1) all)) refl (omega (arith, length-drop (i + 1) all)) in
+      let t = after_part p (drop (i + 1) all) (map part_tree (drop (i + 1) all)) refl (omega (arith, length-drop (i + 1) all)) in
       let vs = members_value (part_tree p) (drop (8 * here) (bits body)) in
       subst (λ ps. Leads (closed (parts_onto ps)) (parts_at ps body end) (closed (parts_onto (part_tree p ∷ ps))) (parts_at (part_tree p ∷ ps) body here) body here end now mid) (sym t.2)
       (leads_by (closed (parts_onto (t.0 ∷ t.1))) (parts_at (t.0 ∷ t.1) body end) (closed (parts_onto (part_tree p ∷ t.0 ∷ t.1))) (parts_at (part_tree p ∷ t.0 ∷ t.1) body here) body here end now mid (λ ls. list_and vs ls) (part_onto (part_tree p) vs)

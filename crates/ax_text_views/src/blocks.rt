@@ -2,10 +2,11 @@
 ghost use Rattle.std.specs.Prelude.{◌≡◌, ◌≤◌, length, IfErr, OnOk};
 ghost use Rattle.ax_model.specs.Flaws.{NoFlaw};
 ghost use Rattle.ax_model.specs.Plain.{spec_tree};
+ghost use Rattle.ax_model.specs.Sizes.{longest_body};
 ghost use Rattle.ax_reader.specs.Reading.{IsMaskOf, record_slot_list};
 ghost use Rattle.ax_text.specs.BlockText.{OpaqueLine};
 ghost use Rattle.ax_text_views.specs.Prints.{IsBlockPrinted, PrintsBody};
-ghost use Rattle.ax_values.specs.Decoding.{IsBodyFault, Names};
+ghost use Rattle.ax_values.specs.Decoding.{IsBodyFault, IsFaultOf};
 
 use crate::line::Line;
 use crate::records::print_record;
@@ -27,7 +28,7 @@ pub fn print_block(
     requires spec { NoFlaw (spec_tree items.now.spec.now) }
     requires mask { IsMaskOf (record_slot_list (spec_tree items.now.spec.now)) mask.now }
     ensures printed { OnOk result (IsBlockPrinted (spec_tree items.now.spec.now) raw.now.category raw.now.body.now line.new) }
-    ensures fault { IfErr result (Names (IsBodyFault (spec_tree items.now.spec.now) raw.now.body.now)) }
+    ensures fault { IfErr result (IsFaultOf (IsBodyFault (spec_tree items.now.spec.now) raw.now.body.now)) }
 {
     line.begin(b"block")?;
     line.category(raw.category)?;
@@ -47,10 +48,10 @@ fn print_body(
 ) -> Result<(), DecodeError>
     requires spec { NoFlaw (spec_tree items.now.spec.now) }
     requires mask { IsMaskOf (record_slot_list (spec_tree items.now.spec.now)) mask.now }
-    requires body { length body.now ≤ 65532 }
+    requires body { length body.now ≤ longest_body }
     requires some { 1 ≤ length body.now }
     ensures records { OnOk result (PrintsBody (spec_tree items.now.spec.now) body.now line.old line.new) }
-    ensures fault { IfErr result (Names (IsBodyFault (spec_tree items.now.spec.now) body.now)) }
+    ensures fault { IfErr result (IsFaultOf (IsBodyFault (spec_tree items.now.spec.now) body.now)) }
 {
     let mut at = 0;
     while (at as usize) < body.len() {

@@ -4,6 +4,7 @@ ghost use Rattle.ax_bits.specs.Bits.{bits, number_of, word};
 ghost use Rattle.ax_model.specs.Reader.{fixed_value};
 ghost use Rattle.ax_model.specs.InBounds.{IsWidth, FixedInBounds, MembersInBounds};
 ghost use Rattle.ax_model.specs.Plain.{fixed_tree, member_tree, members_tree};
+ghost use Rattle.ax_model.specs.Sizes.{longest_body};
 ghost use Rattle.ax_model.specs.Tree.{member_and, no_members};
 ghost use Rattle.ax_model.specs.Widths.{width, members_width};
 ghost use Rattle.ax_text.specs.Printing.{after_spaces, Puts};
@@ -44,7 +45,7 @@ fn number_at(body: &[u8], at: u32, width: u32) -> u128
 fn print_number(line: &mut Line, width: u32, body: &[u8], at: &mut u32) -> Result<(), AllocError>
     requires width { IsWidth width }
     requires within { at.old + width ≤ 8 * length body.now }
-    requires body { length body.now ≤ 65532 }
+    requires body { length body.now ≤ longest_body }
     ensures text { OnOk result (Puts after_spaces (one_onto (decimal (number_of (take width (drop at.old (bits body.now)))))) line.old line.new) }
     ensures at { at.new ≡ at.old + width }
 {
@@ -64,7 +65,7 @@ pub(crate) fn print_fixed(
 ) -> Result<(), AllocError>
     requires bounds { FixedInBounds (fixed_tree fixed.now) }
     requires within { at.old + width (fixed_tree fixed.now) ≤ 8 * length body.now }
-    requires body { length body.now ≤ 65532 }
+    requires body { length body.now ≤ longest_body }
     ensures text { OnOk result (Puts after_spaces (fixed_onto (fixed_tree fixed.now) (fixed_value (fixed_tree fixed.now) (drop at.old (bits body.now)))) line.old line.new) }
     ensures at { OnOk result (at.new ≡ at.old + width (fixed_tree fixed.now)) }
 {
@@ -90,7 +91,7 @@ pub(crate) fn print_members(
 ) -> Result<(), AllocError>
     requires bounds { MembersInBounds (members_tree members.now) }
     requires within { at.old + members_width (members_tree members.now) ≤ 8 * length body.now }
-    requires body { length body.now ≤ 65532 }
+    requires body { length body.now ≤ longest_body }
     ensures text { OnOk result (Puts after_spaces (members_read_onto (members_tree members.now) (drop at.old (bits body.now))) line.old line.new) }
     ensures at { OnOk result (at.new ≡ at.old + members_width (members_tree members.now)) }
 {
@@ -110,7 +111,7 @@ fn print_member(
 ) -> Result<(), AllocError>
     requires bounds { MembersInBounds (member_and (member_tree member.now) no_members) }
     requires within { at.old + members_width (member_and (member_tree member.now) no_members) ≤ 8 * length body.now }
-    requires body { length body.now ≤ 65532 }
+    requires body { length body.now ≤ longest_body }
     ensures text { OnOk result (Puts after_spaces (members_read_onto (member_and (member_tree member.now) no_members) (drop at.old (bits body.now))) line.old line.new) }
     ensures at { OnOk result (at.new ≡ at.old + members_width (member_and (member_tree member.now) no_members)) }
 {

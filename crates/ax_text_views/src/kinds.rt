@@ -3,11 +3,12 @@ ghost use Rattle.std.specs.Prelude.{◌≡◌, ◌≤◌, length, IfOk, IfErr};
 ghost use Rattle.ax_bits.specs.Bits.{AreBits};
 ghost use Rattle.ax_model.specs.InBounds.{InBounds, SlotsInBounds};
 ghost use Rattle.ax_model.specs.Plain.{kind_tree, slot_tree, slots_tree};
+ghost use Rattle.ax_model.specs.Sizes.{longest_body};
 ghost use Rattle.ax_model.specs.Tree as Tree;
 ghost use Rattle.ax_reader.specs.Reading.{SlotInBounds, kind_read, entries_at};
 ghost use Rattle.ax_text.specs.ValueText.{kind_onto, entries_onto};
 ghost use Rattle.ax_text_views.specs.Prints.{Prints, IsSlotPrinted};
-ghost use Rattle.ax_values.specs.Reading.{HasFailed, HasSlotFailed};
+ghost use Rattle.ax_values.specs.SlotReading.{HasFailed, HasSlotFailed};
 
 use crate::line::Line;
 use crate::units::{print_parts, print_run, print_single};
@@ -25,7 +26,7 @@ pub(crate) fn print_value(
     at: u32,
 ) -> Result<u32, DecodeError>
     requires bounds { InBounds (kind_tree kind.now) }
-    requires body { length body.now ≤ 65532 }
+    requires body { length body.now ≤ longest_body }
     requires at { at ≤ length body.now }
     ensures ok { IfOk result (λ end. Prints (kind_onto (kind_tree kind.now)) (kind_read (kind_tree kind.now) body.now at) body.now at end line.old line.new) }
     ensures err { IfErr result (λ e. HasFailed (kind_read (kind_tree kind.now) body.now at) at e) }
@@ -45,7 +46,7 @@ pub(crate) fn print_value(
 #[tactic(auto, using(ax_values::proofs::Continuing::errors, crate::proofs::Counted::counts))]
 fn print_counted(line: &mut Line, inner: &Kind, body: &[u8], at: u32) -> Result<u32, DecodeError>
     requires bounds { InBounds (kind_tree inner.now) }
-    requires body { length body.now ≤ 65532 }
+    requires body { length body.now ≤ longest_body }
     requires at { at ≤ length body.now }
     ensures ok { IfOk result (λ end. Prints (kind_onto (Tree.counted (kind_tree inner.now))) (kind_read (Tree.counted (kind_tree inner.now)) body.now at) body.now at end line.old line.new) }
     ensures err { IfErr result (λ e. HasFailed (kind_read (Tree.counted (kind_tree inner.now)) body.now at) at e) }
@@ -63,7 +64,7 @@ fn print_counted(line: &mut Line, inner: &Kind, body: &[u8], at: u32) -> Result<
 /// Prints the content of an explicit item. Ok is the octet after it.
 #[tactic(auto, using(ax_values::proofs::Continuing::errors))]
 fn print_explicit(line: &mut Line, body: &[u8], at: u32) -> Result<u32, DecodeError>
-    requires body { length body.now ≤ 65532 }
+    requires body { length body.now ≤ longest_body }
     requires at { at ≤ length body.now }
     ensures ok { IfOk result (λ end. Prints (kind_onto Tree.explicit) (kind_read Tree.explicit body.now at) body.now at end line.old line.new) }
     ensures err { IfErr result (λ e. HasFailed (kind_read Tree.explicit body.now at) at e) }
@@ -91,7 +92,7 @@ fn print_explicit(line: &mut Line, body: &[u8], at: u32) -> Result<u32, DecodeEr
 #[tactic(auto, using(ax_values::proofs::Continuing::errors, ax_values::proofs::Marking::fields))]
 fn print_compound(line: &mut Line, slots: &Slots, body: &[u8], at: u32) -> Result<u32, DecodeError>
     requires bounds { InBounds (Tree.compound (slots_tree slots.now)) }
-    requires body { length body.now ≤ 65532 }
+    requires body { length body.now ≤ longest_body }
     requires at { at ≤ length body.now }
     ensures ok { IfOk result (λ end. Prints (kind_onto (Tree.compound (slots_tree slots.now))) (kind_read (Tree.compound (slots_tree slots.now)) body.now at) body.now at end line.old line.new) }
     ensures err { IfErr result (λ e. HasFailed (kind_read (Tree.compound (slots_tree slots.now)) body.now at) at e) }
@@ -117,7 +118,7 @@ fn print_marked(
     requires bounds { SlotsInBounds (slots_tree slots.now) }
     requires few { length slots.now ≤ 126 }
     requires marks { AreBits marked.now }
-    requires body { length body.now ≤ 65532 }
+    requires body { length body.now ≤ longest_body }
     requires at { at ≤ length body.now }
     ensures ok { IfOk result (λ end. Prints (entries_onto 1 (slots_tree slots.now)) (entries_at (slots_tree slots.now) marked.now body.now at) body.now at end line.old line.new) }
     ensures err { IfErr result (λ e. HasFailed (entries_at (slots_tree slots.now) marked.now body.now at) at e) }
@@ -138,7 +139,7 @@ fn print_marked(
 #[tactic(auto, using(ax_values::proofs::Continuing::errors, crate::proofs::Marked::slot_printed))]
 fn print_slot(line: &mut Line, slot: &Slot, body: &[u8], at: u32) -> Result<u32, DecodeError>
     requires bounds { SlotInBounds (slot_tree slot.now) }
-    requires body { length body.now ≤ 65532 }
+    requires body { length body.now ≤ longest_body }
     requires at { at ≤ length body.now }
     ensures ok { IfOk result (λ end. IsSlotPrinted (slot_tree slot.now) body.now at end line.old line.new) }
     ensures err { IfErr result (λ e. HasSlotFailed (slot_tree slot.now) body.now at e) }

@@ -121,7 +121,7 @@ impl Line {
         Ok(())
     }
 
-    /// The line feed behind the last token.
+    /// The line feed after the last token.
     pub(crate) fn end(&mut self) -> Result<(), AllocError>
         ensures { OnOk result (self.new ≡ self.old ++ line_feed ∷ []) }
     {

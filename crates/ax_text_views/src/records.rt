@@ -3,11 +3,12 @@ ghost use Rattle.std.specs.Prelude.{◌≡◌, ◌≤◌, length, IfOk, IfErr};
 ghost use Rattle.ax_bits.specs.Bits.{AreBits};
 ghost use Rattle.ax_model.specs.Flaws.{NoFlaw};
 ghost use Rattle.ax_model.specs.Plain.{spec_tree};
+ghost use Rattle.ax_model.specs.Sizes.{longest_body};
 ghost use Rattle.ax_model.specs.Specification.{record_slots, record_kind};
 ghost use Rattle.ax_reader.specs.Reading.{IsMaskOf, SlotInBounds, record_slot_list, slot_of_frn, kind_read, entries_at};
 ghost use Rattle.ax_text.specs.ValueText.{entries_onto};
 ghost use Rattle.ax_text_views.specs.Prints.{Prints, IsSlotPrinted, IsRecordPrinted};
-ghost use Rattle.ax_values.specs.Reading.{HasFailed, HasSlotFailed};
+ghost use Rattle.ax_values.specs.SlotReading.{HasFailed, HasSlotFailed};
 
 use crate::kinds::print_value;
 use crate::line::Line;
@@ -26,7 +27,7 @@ pub(crate) fn print_record(
 ) -> Result<u32, DecodeError>
     requires spec { NoFlaw (spec_tree items.now.spec.now) }
     requires mask { IsMaskOf (record_slot_list (spec_tree items.now.spec.now)) mask.now }
-    requires body { length body.now ≤ 65532 }
+    requires body { length body.now ≤ longest_body }
     requires at { at ≤ length body.now }
     ensures ok { IfOk result (λ end. IsRecordPrinted (spec_tree items.now.spec.now) body.now at end line.old line.new) }
     ensures err { IfErr result (λ e. HasFailed (kind_read (record_kind (spec_tree items.now.spec.now)) body.now at) at e) }
@@ -52,7 +53,7 @@ fn print_items(
 ) -> Result<u32, DecodeError>
     requires spec { NoFlaw (spec_tree items.now.spec.now) }
     requires marks { AreBits marked.now }
-    requires body { length body.now ≤ 65532 }
+    requires body { length body.now ≤ longest_body }
     requires at { at ≤ length body.now }
     ensures ok { IfOk result (λ end. Prints (entries_onto 1 (record_slots (spec_tree items.now.spec.now))) (entries_at (record_slots (spec_tree items.now.spec.now)) marked.now body.now at) body.now at end line.old line.new) }
     ensures err { IfErr result (λ e. HasFailed (entries_at (record_slots (spec_tree items.now.spec.now)) marked.now body.now at) at e) }
@@ -76,7 +77,7 @@ fn print_item(
     at: u32,
 ) -> Result<u32, DecodeError>
     requires bounds { SlotInBounds (slot_of_frn frn items.now.spec.now) }
-    requires body { length body.now ≤ 65532 }
+    requires body { length body.now ≤ longest_body }
     requires at { at ≤ length body.now }
     ensures ok { IfOk result (λ end. IsSlotPrinted (slot_of_frn frn items.now.spec.now) body.now at end line.old line.new) }
     ensures err { IfErr result (λ e. HasSlotFailed (slot_of_frn frn items.now.spec.now) body.now at e) }

@@ -4,13 +4,14 @@ ghost use Rattle.ax_bits.specs.Bits.{bits};
 ghost use Rattle.ax_model.specs.InBounds.{InBounds, MembersInBounds};
 ghost use Rattle.ax_model.specs.Plain.{fixed_tree, part_tree};
 ghost use Rattle.ax_model.specs.Reader.{members_value};
+ghost use Rattle.ax_model.specs.Sizes.{longest_body};
 ghost use Rattle.ax_model.specs.Tree as Tree;
 ghost use Rattle.ax_model.specs.Widths.{members_width};
 ghost use Rattle.ax_reader.specs.Reading.{kind_read};
 ghost use Rattle.ax_text.specs.Printing.{after_spaces, Puts};
 ghost use Rattle.ax_text.specs.ValueText.{part_onto, kind_onto};
 ghost use Rattle.ax_text_views.specs.Prints.{Prints};
-ghost use Rattle.ax_values.specs.Reading.{HasFailed};
+ghost use Rattle.ax_values.specs.SlotReading.{HasFailed};
 
 use crate::fixed::{print_fixed, print_members};
 use crate::line::Line;
@@ -27,7 +28,7 @@ pub(crate) fn print_single(
     at: u32,
 ) -> Result<u32, DecodeError>
     requires bounds { InBounds (Tree.fixed (fixed_tree fixed.now)) }
-    requires body { length body.now ≤ 65532 }
+    requires body { length body.now ≤ longest_body }
     requires at { at ≤ length body.now }
     ensures ok { IfOk result (λ end. Prints (kind_onto (Tree.fixed (fixed_tree fixed.now))) (kind_read (Tree.fixed (fixed_tree fixed.now)) body.now at) body.now at end line.old line.new) }
     ensures err { IfErr result (λ e. HasFailed (kind_read (Tree.fixed (fixed_tree fixed.now)) body.now at) at e) }
@@ -43,7 +44,7 @@ pub(crate) fn print_single(
 fn print_part(line: &mut Line, part: &Part, body: &[u8], at: &mut u32) -> Result<(), AllocError>
     requires bounds { MembersInBounds (part_tree part.now) }
     requires within { at.old + members_width (part_tree part.now) ≤ 8 * length body.now }
-    requires body { length body.now ≤ 65532 }
+    requires body { length body.now ≤ longest_body }
     ensures text { OnOk result (Puts after_spaces (part_onto (part_tree part.now) (members_value (part_tree part.now) (drop at.old (bits body.now)))) line.old line.new) }
     ensures at { OnOk result (at.new ≡ at.old + members_width (part_tree part.now)) }
 {
@@ -63,7 +64,7 @@ pub(crate) fn print_parts(
     at: u32,
 ) -> Result<u32, DecodeError>
     requires bounds { InBounds (Tree.extended (map part_tree parts.now)) }
-    requires body { length body.now ≤ 65532 }
+    requires body { length body.now ≤ longest_body }
     requires at { at ≤ length body.now }
     ensures ok { IfOk result (λ end. Prints (kind_onto (Tree.extended (map part_tree parts.now))) (kind_read (Tree.extended (map part_tree parts.now)) body.now at) body.now at end line.old line.new) }
     ensures err { IfErr result (λ e. HasFailed (kind_read (Tree.extended (map part_tree parts.now)) body.now at) at e) }
@@ -95,7 +96,7 @@ pub(crate) fn print_run(
     at: u32,
 ) -> Result<u32, DecodeError>
     requires bounds { InBounds (Tree.by_fx (fixed_tree fixed.now)) }
-    requires body { length body.now ≤ 65532 }
+    requires body { length body.now ≤ longest_body }
     requires at { at ≤ length body.now }
     ensures ok { IfOk result (λ end. Prints (kind_onto (Tree.by_fx (fixed_tree fixed.now))) (kind_read (Tree.by_fx (fixed_tree fixed.now)) body.now at) body.now at end line.old line.new) }
     ensures err { IfErr result (λ e. HasFailed (kind_read (Tree.by_fx (fixed_tree fixed.now)) body.now at) at e) }

@@ -14,7 +14,7 @@ take_more front [] more lt = absurd (omega (arith, lt, length-append front []))
 take_more front (text ∷ new) more lt =
     ap (λ t. t ++ more) (ap (take (length front + 1)) (sym (append_assoc front (text ∷ []) new)) ∙ take_at (front ++ text ∷ []) new (length front + 1) (length-append front (text ∷ []))) ∙ append_assoc front (text ∷ []) more
 
-bad_at : (L : Texts → Type 0) (front new rest : Texts) → L (front ++ rest) → ((member behind more : Texts) → L member → member ++ behind ≡ front ++ first_with new more → ⊥) → FirstBad L (front ++ new) (length front)
+bad_at : (L : Texts → Type 0) (front new rest : Texts) → L (front ++ rest) → ((member following more : Texts) → L member → member ++ following ≡ front ++ first_with new more → ⊥) → FirstBad L (front ++ new) (length front)
 bad_at L front new rest begins refuses = record {
   no_member = λ l. let f = first_with_rest new in refuses (front ++ new) [] f.0 l (append-nil (front ++ new) ∙ ap (λ t. front ++ t) (sym f.1));
   within = omega (arith, length-append front new);
@@ -60,9 +60,9 @@ take_take (suc n) (suc m) (text ∷ texts) le = ap (λ t. text ∷ t) (take_take
 
 no_later : (L : Texts → Type 0) (texts : Texts) (at other : ℕ) → FirstBad L texts at → FirstBad L texts other → at < other → ⊥
 no_later L texts at other a b lt =
-    let behind = drop (at + 1) (take other texts) in
-    let parts : take other texts ≡ take (at + 1) texts ++ behind = sym (take-append-drop (at + 1) (take other texts)) ∙ ap (λ t. t ++ behind) (take_take (at + 1) other texts (omega (arith, lt))) in
-    a.refuses (omega (arith, lt, b.within)) (behind ++ b.rest) (subst L (ap (λ t. t ++ b.rest) parts ∙ append_assoc (take (at + 1) texts) behind b.rest) b.begins)
+    let following = drop (at + 1) (take other texts) in
+    let parts : take other texts ≡ take (at + 1) texts ++ following = sym (take-append-drop (at + 1) (take other texts)) ∙ ap (λ t. t ++ following) (take_take (at + 1) other texts (omega (arith, lt))) in
+    a.refuses (omega (arith, lt, b.within)) (following ++ b.rest) (subst L (ap (λ t. t ++ b.rest) parts ∙ append_assoc (take (at + 1) texts) following b.rest) b.begins)
 
 equal_or : (n m : ℕ) → (n < m → ⊥) → (m < n → ⊥) → n ≡ m
 equal_or zero zero h k = refl

@@ -22,9 +22,9 @@ rest_same a b x y e = cc
 no_cons : (a : List ℕ) (x : Texts) → a ∷ x ≡ [] → ⊥
 no_cons a x e = cc
 
-one_refuses : (Passes : List ℕ → Type 0) (texts : Texts) → IsNotFirst Passes texts → (member behind more : Texts) → One Passes member → member ++ behind ≡ first_with texts more → ⊥
-one_refuses Passes [] n member behind more (text, e, p) h = no_cons text behind (sym (ap (λ m. m ++ behind) e) ∙ h)
-one_refuses Passes (first ∷ rest) n member behind more (text, e, p) h = n (subst Passes (first_same text first behind more (sym (ap (λ m. m ++ behind) e) ∙ h)) p)
+one_refuses : (Passes : List ℕ → Type 0) (texts : Texts) → IsNotFirst Passes texts → (member following more : Texts) → One Passes member → member ++ following ≡ first_with texts more → ⊥
+one_refuses Passes [] n member following more (text, e, p) h = no_cons text following (sym (ap (λ m. m ++ following) e) ∙ h)
+one_refuses Passes (first ∷ rest) n member following more (text, e, p) h = n (subst Passes (first_same text first following more (sym (ap (λ m. m ++ following) e) ∙ h)) p)
 
 -- the next text doesn't pass, or there is none
 pub one_stops : (Passes : List ℕ → Type 0) (sample : List ℕ) → Passes sample → (texts : Texts) → IsNotFirst Passes texts → StopsAt (One Passes) texts texts
@@ -33,23 +33,23 @@ one_stops Passes sample p texts n = record { front = []; split = refl; rest = sa
 -- ---- the same members
 
 pub same_stops : (L M : Texts → Type 0) (old new : Texts) → ((t : Texts) → L t → M t) → ((t : Texts) → M t → L t) → StopsAt L old new → StopsAt M old new
-same_stops L M old new f g s = record { front = s.front; split = s.split; rest = s.rest; begins = f _ s.begins; refuses = λ member behind more m. s.refuses member behind more (g member m) }
+same_stops L M old new f g s = record { front = s.front; split = s.split; rest = s.rest; begins = f _ s.begins; refuses = λ member following more m. s.refuses member following more (g member m) }
 
 -- ---- a first text, and what stands after it
 
-behind_refuses : (L M : Texts → Type 0) (word : List ℕ) (front new : Texts) → (M [] → ⊥) → ((t : Texts) → M (word ∷ t) → L t) → ((member behind more : Texts) → L member → member ++ behind ≡ front ++ first_with new more → ⊥)
-    → (member behind more : Texts) → M member → member ++ behind ≡ (word ∷ front) ++ first_with new more → ⊥
-behind_refuses L M word front new none g r [] behind more m h = none m
-behind_refuses L M word front new none g r (first ∷ member) behind more m h =
-    r member behind more (g member (subst (λ w. M (w ∷ member)) (first_same first word _ _ h) m)) (rest_same first word _ _ h)
+after_refuses : (L M : Texts → Type 0) (word : List ℕ) (front new : Texts) → (M [] → ⊥) → ((t : Texts) → M (word ∷ t) → L t) → ((member following more : Texts) → L member → member ++ following ≡ front ++ first_with new more → ⊥)
+    → (member following more : Texts) → M member → member ++ following ≡ (word ∷ front) ++ first_with new more → ⊥
+after_refuses L M word front new none g r [] following more m h = none m
+after_refuses L M word front new none g r (first ∷ member) following more m h =
+    r member following more (g member (subst (λ w. M (w ∷ member)) (first_same first word _ _ h) m)) (rest_same first word _ _ h)
 
-pub behind_stops : (L M : Texts → Type 0) (word : List ℕ) (old new : Texts) → (M [] → ⊥) → ((t : Texts) → L t → M (word ∷ t)) → ((t : Texts) → M (word ∷ t) → L t) → StopsAt L old new → StopsAt M (word ∷ old) new
-behind_stops L M word old new none f g s = record {
+pub after_stops : (L M : Texts → Type 0) (word : List ℕ) (old new : Texts) → (M [] → ⊥) → ((t : Texts) → L t → M (word ∷ t)) → ((t : Texts) → M (word ∷ t) → L t) → StopsAt L old new → StopsAt M (word ∷ old) new
+after_stops L M word old new none f g s = record {
   front = word ∷ s.front;
   split = ap (λ t. word ∷ t) s.split;
   rest = s.rest;
   begins = f _ s.begins;
-  refuses = behind_refuses L M word s.front new none g s.refuses;
+  refuses = after_refuses L M word s.front new none g s.refuses;
 }
 
 -- ---- one language after another
@@ -60,7 +60,7 @@ first_stops L M old new due d s = record {
   split = s.split;
   rest = s.rest ++ due;
   begins = (s.front ++ s.rest, due, sym (append_assoc s.front s.rest due), s.begins, d);
-  refuses = λ member behind more m h. s.refuses m.0 (m.1 ++ behind) more m.3 (sym (append_assoc m.0 m.1 behind) ∙ sym (ap (λ t. t ++ behind) m.2) ∙ h);
+  refuses = λ member following more m h. s.refuses m.0 (m.1 ++ following) more m.3 (sym (append_assoc m.0 m.1 following) ∙ sym (ap (λ t. t ++ following) m.2) ∙ h);
 }
 
 pub second_stops : (L M : Texts → Type 0) (a old new : Texts) → PrefixFree L → L a → StopsAt M old new → StopsAt (Then L M) (a ++ old) new
@@ -69,22 +69,22 @@ second_stops L M a old new free l s = record {
   split = ap (λ t. a ++ t) s.split ∙ sym (append_assoc a s.front new);
   rest = s.rest;
   begins = (a, s.front ++ s.rest, append_assoc a s.front s.rest, l, s.begins);
-  refuses = λ member behind more m h.
-      let e : m.0 ++ (m.1 ++ behind) ≡ a ++ (s.front ++ first_with new more) = sym (append_assoc m.0 m.1 behind) ∙ sym (ap (λ t. t ++ behind) m.2) ∙ h ∙ append_assoc a s.front (first_with new more) in
+  refuses = λ member following more m h.
+      let e : m.0 ++ (m.1 ++ following) ≡ a ++ (s.front ++ first_with new more) = sym (append_assoc m.0 m.1 following) ∙ sym (ap (λ t. t ++ following) m.2) ∙ h ∙ append_assoc a s.front (first_with new more) in
       let same : m.0 ≡ a = free m.0 a _ _ m.3 l e in
-      s.refuses m.1 behind more m.4 (append_cancel_left a _ _ (sym (ap (λ x. x ++ (m.1 ++ behind)) same) ∙ e));
+      s.refuses m.1 following more m.4 (append_cancel_left a _ _ (sym (ap (λ x. x ++ (m.1 ++ following)) same) ∙ e));
 }
 
 -- ---- members up to a text that closes them
 
 -- no member begins with the text that closes
 abbrev pub NeverBegins : (Texts → Type 0) → List ℕ → Type 0
-NeverBegins L close = (member behind x : Texts) → L member → member ++ behind ≡ close ∷ x → ⊥
+NeverBegins L close = (member following x : Texts) → L member → member ++ following ≡ close ∷ x → ⊥
 
-ends_refuses : (L : Texts → Type 0) (close : List ℕ) → NeverBegins L close → (members : List Texts) → AllByRecursion L members → (behind : Texts) → (joined members ++ close ∷ []) ++ behind ≡ [] → ⊥
-ends_refuses L close n [] all behind h = no_cons close behind h
-ends_refuses L close n ([] ∷ members) all behind h = absurd (n [] (close ∷ []) [] all.0 refl)
-ends_refuses L close n ((x ∷ m) ∷ members) all behind h = no_cons x _ h
+ends_refuses : (L : Texts → Type 0) (close : List ℕ) → NeverBegins L close → (members : List Texts) → AllByRecursion L members → (following : Texts) → (joined members ++ close ∷ []) ++ following ≡ [] → ⊥
+ends_refuses L close n [] all following h = no_cons close following h
+ends_refuses L close n ([] ∷ members) all following h = absurd (n [] (close ∷ []) [] all.0 refl)
+ends_refuses L close n ((x ∷ m) ∷ members) all following h = no_cons x _ h
 
 -- nothing is left
 pub closed_ends : (L : Texts → Type 0) (close : List ℕ) → NeverBegins L close → StopsAt (Closed L close) [] []
@@ -93,23 +93,23 @@ closed_ends L close n = record {
   split = refl;
   rest = close ∷ [];
   begins = ([], tt, refl);
-  refuses = λ member behind more m h. ends_refuses L close n m.0 m.1 behind (sym (ap (λ t. t ++ behind) m.2) ∙ h);
+  refuses = λ member following more m h. ends_refuses L close n m.0 m.1 following (sym (ap (λ t. t ++ following) m.2) ∙ h);
 }
 
-not_close : (L : Texts → Type 0) (close : List ℕ) → NeverBegins L close → (front rest old new behind more : Texts) → L (front ++ rest) → old ≡ front ++ new → IsNotFirst (λ w. w ≡ close) old → close ∷ behind ≡ front ++ first_with new more → ⊥
-not_close L close n [] rest old [] behind more l split first h = no_cons close behind h
-not_close L close n [] rest old (text ∷ new) behind more l split first h =
+not_close : (L : Texts → Type 0) (close : List ℕ) → NeverBegins L close → (front rest old new following more : Texts) → L (front ++ rest) → old ≡ front ++ new → IsNotFirst (λ w. w ≡ close) old → close ∷ following ≡ front ++ first_with new more → ⊥
+not_close L close n [] rest old [] following more l split first h = no_cons close following h
+not_close L close n [] rest old (text ∷ new) following more l split first h =
     let at : IsNotFirst (λ w. w ≡ close) (text ∷ new) = subst (IsNotFirst (λ w. w ≡ close)) split first in
-    at (sym (first_same close text behind more h))
-not_close L close n (x ∷ front) rest old new behind more l split first h =
-    n (x ∷ (front ++ rest)) [] (front ++ rest) l (append-nil _ ∙ ap (λ w. w ∷ (front ++ rest)) (sym (first_same close x behind _ h)))
+    at (sym (first_same close text following more h))
+not_close L close n (x ∷ front) rest old new following more l split first h =
+    n (x ∷ (front ++ rest)) [] (front ++ rest) l (append-nil _ ∙ ap (λ w. w ∷ (front ++ rest)) (sym (first_same close x following _ h)))
 
 inside_refuses : (L : Texts → Type 0) (close : List ℕ) (old new : Texts) → NeverBegins L close → (s : StopsAt L old new) → IsNotFirst (λ w. w ≡ close) old
-    → (members : List Texts) → AllByRecursion L members → (behind more : Texts) → (joined members ++ close ∷ []) ++ behind ≡ s.front ++ first_with new more → ⊥
-inside_refuses L close old new n s first [] all behind more h = not_close L close n s.front s.rest old new behind more s.begins s.split first h
-inside_refuses L close old new n s first (m ∷ members) all behind more h =
-    s.refuses m ((joined members ++ close ∷ []) ++ behind) more all.0
-    (sym (ap (λ t. t ++ behind) (append_assoc m (joined members) (close ∷ [])) ∙ append_assoc m (joined members ++ close ∷ []) behind) ∙ h)
+    → (members : List Texts) → AllByRecursion L members → (following more : Texts) → (joined members ++ close ∷ []) ++ following ≡ s.front ++ first_with new more → ⊥
+inside_refuses L close old new n s first [] all following more h = not_close L close n s.front s.rest old new following more s.begins s.split first h
+inside_refuses L close old new n s first (m ∷ members) all following more h =
+    s.refuses m ((joined members ++ close ∷ []) ++ following) more all.0
+    (sym (ap (λ t. t ++ following) (append_assoc m (joined members) (close ∷ [])) ∙ append_assoc m (joined members ++ close ∷ []) following) ∙ h)
 
 -- a reader stopped in the first of the members
 closed_inside : (L : Texts → Type 0) (close : List ℕ) (old new : Texts) → NeverBegins L close → IsNotFirst (λ w. w ≡ close) old → StopsAt L old new → StopsAt (Closed L close) old new
@@ -118,16 +118,16 @@ closed_inside L close old new n first s = record {
   split = s.split;
   rest = s.rest ++ close ∷ [];
   begins = ((s.front ++ s.rest) ∷ [], (s.begins, tt), sym (append_assoc s.front s.rest (close ∷ [])) ∙ ap (λ t. t ++ close ∷ []) (sym (append-nil (s.front ++ s.rest))));
-  refuses = λ member behind more m h. inside_refuses L close old new n s first m.0 m.1 behind more (sym (ap (λ t. t ++ behind) m.2) ∙ h);
+  refuses = λ member following more m h. inside_refuses L close old new n s first m.0 m.1 following more (sym (ap (λ t. t ++ following) m.2) ∙ h);
 }
 
-behind_member : (L : Texts → Type 0) (close : List ℕ) (a front new : Texts) → PrefixFree L → NeverBegins L close → L a → ((member behind more : Texts) → Closed L close member → member ++ behind ≡ front ++ first_with new more → ⊥)
-    → (members : List Texts) → AllByRecursion L members → (behind more : Texts) → (joined members ++ close ∷ []) ++ behind ≡ a ++ (front ++ first_with new more) → ⊥
-behind_member L close a front new free n l r [] all behind more h = n a (front ++ first_with new more) behind l (sym h)
-behind_member L close a front new free n l r (m ∷ members) all behind more h =
-    let e : m ++ ((joined members ++ close ∷ []) ++ behind) ≡ a ++ (front ++ first_with new more) = sym (ap (λ t. t ++ behind) (append_assoc m (joined members) (close ∷ [])) ∙ append_assoc m (joined members ++ close ∷ []) behind) ∙ h in
+after_member : (L : Texts → Type 0) (close : List ℕ) (a front new : Texts) → PrefixFree L → NeverBegins L close → L a → ((member following more : Texts) → Closed L close member → member ++ following ≡ front ++ first_with new more → ⊥)
+    → (members : List Texts) → AllByRecursion L members → (following more : Texts) → (joined members ++ close ∷ []) ++ following ≡ a ++ (front ++ first_with new more) → ⊥
+after_member L close a front new free n l r [] all following more h = n a (front ++ first_with new more) following l (sym h)
+after_member L close a front new free n l r (m ∷ members) all following more h =
+    let e : m ++ ((joined members ++ close ∷ []) ++ following) ≡ a ++ (front ++ first_with new more) = sym (ap (λ t. t ++ following) (append_assoc m (joined members) (close ∷ [])) ∙ append_assoc m (joined members ++ close ∷ []) following) ∙ h in
     let same : m ≡ a = free m a _ _ all.0 l e in
-    r (joined members ++ close ∷ []) behind more (members, all.1, refl) (append_cancel_left a _ _ (sym (ap (λ x. x ++ ((joined members ++ close ∷ []) ++ behind)) same) ∙ e))
+    r (joined members ++ close ∷ []) following more (members, all.1, refl) (append_cancel_left a _ _ (sym (ap (λ x. x ++ ((joined members ++ close ∷ []) ++ following)) same) ∙ e))
 
 closed_step : (L : Texts → Type 0) (close : List ℕ) (a old new : Texts) → PrefixFree L → NeverBegins L close → L a → StopsAt (Closed L close) old new → StopsAt (Closed L close) (a ++ old) new
 closed_step L close a old new free n l s = record {
@@ -135,41 +135,26 @@ closed_step L close a old new free n l s = record {
   split = ap (λ t. a ++ t) s.split ∙ sym (append_assoc a s.front new);
   rest = s.rest;
   begins = (a ∷ s.begins.0, (l, s.begins.1), append_assoc a s.front s.rest ∙ ap (λ t. a ++ t) s.begins.2 ∙ sym (append_assoc a (joined s.begins.0) (close ∷ [])));
-  refuses = λ member behind more m h. behind_member L close a s.front new free n l s.refuses m.0 m.1 behind more (sym (ap (λ t. t ++ behind) m.2) ∙ h ∙ append_assoc a s.front (first_with new more));
+  refuses = λ member following more m h. after_member L close a s.front new free n l s.refuses m.0 m.1 following more (sym (ap (λ t. t ++ following) m.2) ∙ h ∙ append_assoc a s.front (first_with new more));
 }
 
-closed_behind : (L : Texts → Type 0) (close : List ℕ) (made : List Texts) (old new : Texts) → PrefixFree L → NeverBegins L close → AllByRecursion L made → StopsAt (Closed L close) old new → StopsAt (Closed L close) (joined made ++ old) new
-closed_behind L close [] old new free n all s = s
-closed_behind L close (a ∷ made) old new free n all s =
-    subst (λ t. StopsAt (Closed L close) t new) (sym (append_assoc a (joined made) old)) (closed_step L close a (joined made ++ old) new free n all.0 (closed_behind L close made old new free n all.1 s))
+closed_after : (L : Texts → Type 0) (close : List ℕ) (made : List Texts) (old new : Texts) → PrefixFree L → NeverBegins L close → AllByRecursion L made → StopsAt (Closed L close) old new → StopsAt (Closed L close) (joined made ++ old) new
+closed_after L close [] old new free n all s = s
+closed_after L close (a ∷ made) old new free n all s =
+    subst (λ t. StopsAt (Closed L close) t new) (sym (append_assoc a (joined made) old)) (closed_step L close a (joined made ++ old) new free n all.0 (closed_after L close made old new free n all.1 s))
 
 -- a reader stopped after some members
 pub closed_stops : (L : Texts → Type 0) (close : List ℕ) (made : List Texts) (old new : Texts) → PrefixFree L → NeverBegins L close → AllByRecursion L made → IsNotFirst (λ w. w ≡ close) old → StopsAt L old new
     → StopsAt (Closed L close) (joined made ++ old) new
-closed_stops L close made old new free n all first s = closed_behind L close made old new free n all (closed_inside L close old new n first s)
+closed_stops L close made old new free n all first s = closed_after L close made old new free n all (closed_inside L close old new n first s)
 
 pub closed_cut : (L : Texts → Type 0) (close : List ℕ) (made : List Texts) → PrefixFree L → NeverBegins L close → AllByRecursion L made → StopsAt (Closed L close) (joined made ++ []) []
-closed_cut L close made free n all = closed_behind L close made [] [] free n all (closed_ends L close n)
+closed_cut L close made free n all = closed_after L close made [] [] free n all (closed_ends L close n)
 
 -- ---- where some members begin with a word that doesn't come
 
 abbrev pub BeginsWith : List ℕ → Texts → Type 0
 BeginsWith word texts = (x : Texts) × (texts ≡ word ∷ x)
-
-skip_refuses : (L M : Texts → Type 0) (word : List ℕ) (old new : Texts) → NeverBegins L word → (s : StopsAt L old new) → IsNotFirst (λ w. w ≡ word) old
-    → (member behind more : Texts) → BeginsWith word member ⊎ L member → member ++ behind ≡ s.front ++ first_with new more → ⊥
-skip_refuses L M word old new n s first member behind more (inl b) h =
-    not_close L word n s.front s.rest old new (b.0 ++ behind) more s.begins s.split first (sym (ap (λ t. t ++ behind) b.1) ∙ h)
-skip_refuses L M word old new n s first member behind more (inr l) h = s.refuses member behind more l h
-
-pub skip_stops : (L M : Texts → Type 0) (word : List ℕ) (old new : Texts) → ((t : Texts) → L t → M t) → ((t : Texts) → M t → BeginsWith word t ⊎ L t) → NeverBegins L word → IsNotFirst (λ w. w ≡ word) old → StopsAt L old new → StopsAt M old new
-skip_stops L M word old new f g n first s = record {
-  front = s.front;
-  split = s.split;
-  rest = s.rest;
-  begins = f _ s.begins;
-  refuses = λ member behind more m h. skip_refuses L M word old new n s first member behind more (g member m) h;
-}
 
 append_empty : (a b : Texts) → a ++ b ≡ [] → a ≡ []
 append_empty [] b h = refl
@@ -182,7 +167,7 @@ end_stops L due d n = record {
   split = refl;
   rest = due;
   begins = d;
-  refuses = λ member behind more m h. n (subst L (append_empty member behind h) m);
+  refuses = λ member following more m h. n (subst L (append_empty member following h) m);
 }
 
 -- ---- by either cause
@@ -199,10 +184,6 @@ pub second_lacks : (L M : Texts → Type 0) → PrefixFree L → (stopped : Stop
 second_lacks L M free Bad old a mid new l e s = subst (λ x. StopsAt (Then L M) x new) (sym e) (second_stops L M a mid new free l s)
 second_lacks L M free OutOfMemory old a mid new l e s = tt
 
-pub behind_lacks : (L M : Texts → Type 0) (word : List ℕ) → (M [] → ⊥) → ((t : Texts) → L t → M (word ∷ t)) → ((t : Texts) → M (word ∷ t) → L t) → (stopped : Stopped) (old mid new : Texts) → old ≡ word ∷ mid → Stops stopped L mid new → Stops stopped M old new
-behind_lacks L M word n f g Bad old mid new e s = subst (λ t. StopsAt M t new) (sym e) (behind_stops L M word mid new n f g s)
-behind_lacks L M word n f g OutOfMemory old mid new e s = tt
-
-pub skip_lacks : (L M : Texts → Type 0) (word : List ℕ) → ((t : Texts) → L t → M t) → ((t : Texts) → M t → BeginsWith word t ⊎ L t) → NeverBegins L word → (stopped : Stopped) (old mid new : Texts) → mid ≡ old → IsNotFirst (λ w. w ≡ word) old → Stops stopped L mid new → Stops stopped M old new
-skip_lacks L M word f g n Bad old mid new e first s = skip_stops L M word old new f g n first (subst (λ t. StopsAt L t new) e s)
-skip_lacks L M word f g n OutOfMemory old mid new e first s = tt
+pub after_lacks : (L M : Texts → Type 0) (word : List ℕ) → (M [] → ⊥) → ((t : Texts) → L t → M (word ∷ t)) → ((t : Texts) → M (word ∷ t) → L t) → (stopped : Stopped) (old mid new : Texts) → old ≡ word ∷ mid → Stops stopped L mid new → Stops stopped M old new
+after_lacks L M word n f g Bad old mid new e s = subst (λ t. StopsAt M t new) (sym e) (after_stops L M word mid new n f g s)
+after_lacks L M word n f g OutOfMemory old mid new e s = tt

@@ -21,7 +21,7 @@ pub record StopsAt (L : Texts → Type 0) (old new : Texts) : Type 0 where
   pub split : old ≡ front ++ new
   pub rest : Texts
   pub begins : L (front ++ rest)
-  pub refuses : (member behind more : Texts) → L member → member ++ behind ≡ front ++ first_with new more → ⊥
+  pub refuses : (member following more : Texts) → L member → member ++ following ≡ front ++ first_with new more → ⊥
 
 -- the first of the texts doesn't pass, or there is none
 abbrev pub IsNotFirst : (List ℕ → Type 0) → Texts → Type 0

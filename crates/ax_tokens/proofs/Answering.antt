@@ -47,9 +47,9 @@ pub record Left (limit : ℕ) (all : List PlainToken) (at : ℕ) (rest : List �
   pub same : read n limit before from octets ≡ read steps limit all at rest
 
 -- one token, and then what is left after it
-left_behind : (n limit at next_at end last : ℕ) (before all whole : List PlainToken) (t : PlainToken) (octets next rest : List ℕ) → read (suc n) limit before at octets ≡ read n limit (before ++ t ∷ []) next_at next → all ≡ whole → end ≡ last
+left_following : (n limit at next_at end last : ℕ) (before all whole : List PlainToken) (t : PlainToken) (octets next rest : List ℕ) → read (suc n) limit before at octets ≡ read n limit (before ++ t ∷ []) next_at next → all ≡ whole → end ≡ last
     → Left limit all end rest n (before ++ t ∷ []) next_at next → Left limit whole last rest (suc n) before at octets
-left_behind n limit at next_at end last before all whole t octets next rest one e f left =
+left_following n limit at next_at end last before all whole t octets next rest one e f left =
     record { steps = left.steps; enough = left.enough; same = one ∙ left.same ∙ (λ i. read left.steps limit (e i) (f i) rest) }
 
 read_tokens : (ts : List PlainToken) (n limit at : ℕ) (before : List PlainToken) (octets rest : List ℕ) → length octets + length rest < n → BeginsNoGap rest → IsWithin limit (before ++ ts)
@@ -61,20 +61,20 @@ read_tokens [] n limit at before octets rest lt no_gap within e = record {
 }
 read_tokens (t ∷ ts) zero limit at before octets rest lt no_gap within h = absurd (omega arith)
 read_tokens (t ∷ ts) (suc n) limit at before octets rest lt no_gap within (gap, more, e, from, to, is_text, follows, is_gap, each) =
-    let behind = gap ++ (more ++ rest) in
-    let regroup : octets ++ rest ≡ t.text ++ behind = ap (λ o. o ++ rest) e ∙ append_assoc t.text (gap ++ more) rest ∙ ap (λ x. t.text ++ x) (append_assoc gap more rest) in
-    let front : front_read (octets ++ rest) ≡ token t.kind t.text behind = ap front_read regroup ∙ token_back t.kind t.text behind is_text follows in
+    let following = gap ++ (more ++ rest) in
+    let regroup : octets ++ rest ≡ t.text ++ following = ap (λ o. o ++ rest) e ∙ append_assoc t.text (gap ++ more) rest ∙ ap (λ x. t.text ++ x) (append_assoc gap more rest) in
+    let front : front_read (octets ++ rest) ≡ token t.kind t.text following = ap front_read regroup ∙ token_back t.kind t.text following is_text follows in
     let to_at : t.to ≡ at + length t.text = to in
     let is : t ≡ token_at t.kind t.text at = λ i. record { kind = t.kind; text = t.text; from = from i; to = to_at i } in
-    let next : gap_rest behind ≡ more ++ rest = gap_back (more ++ rest) gap is_gap ∙ gap_rest_here (more ++ rest) (starts (t.to + length gap) ts more rest no_gap each) in
+    let next : gap_rest following ≡ more ++ rest = gap_back (more ++ rest) gap is_gap ∙ gap_rest_here (more ++ rest) (starts (t.to + length gap) ts more rest no_gap each) in
     let some : 0 < length t.text = token_some t.kind t.text is_text in
     let lengths : length octets ≡ length t.text + (length gap + length more) = ap length e ∙ length-append t.text (gap ++ more) ∙ ap (λ n. length t.text + n) (length-append gap more) in
-    let skipped : length behind ≡ length gap + length (more ++ rest) = length-append gap (more ++ rest) in
-    let place : at + length t.text + (length behind - length (more ++ rest)) ≡ t.to + length gap = omega arith in
+    let skipped : length following ≡ length gap + length (more ++ rest) = length-append gap (more ++ rest) in
+    let place : at + length t.text + (length following - length (more ++ rest)) ≡ t.to + length gap = omega arith in
     let end : t.to + length gap + length more ≡ at + length octets = omega arith in
     let group : (before ++ t ∷ []) ++ ts ≡ before ++ t ∷ ts = append_assoc before (t ∷ []) ts in
-    left_behind n limit at (t.to + length gap) (t.to + length gap + length more) (at + length octets) before ((before ++ t ∷ []) ++ ts) (before ++ t ∷ ts) t (octets ++ rest) (more ++ rest) rest
-    (read_token n limit at (t.to + length gap) before t (octets ++ rest) behind (more ++ rest) front is next (shallow_in limit before ts t within) place) group end
+    left_following n limit at (t.to + length gap) (t.to + length gap + length more) (at + length octets) before ((before ++ t ∷ []) ++ ts) (before ++ t ∷ ts) t (octets ++ rest) (more ++ rest) rest
+    (read_token n limit at (t.to + length gap) before t (octets ++ rest) following (more ++ rest) front is next (shallow_in limit before ts t within) place) group end
     (read_tokens ts n limit (t.to + length gap) (before ++ t ∷ []) more rest (omega arith) no_gap (subst (λ x. IsWithin limit x) (sym group) within) each)
 
 -- what is left of a text after its first gap
@@ -92,13 +92,13 @@ pub read_front : (text : List ℕ) (limit : ℕ) (ts : List PlainToken) (front r
 read_front text limit ts front rest e no_gap within h =
     let after = h.more ++ rest in
     let regroup : text ≡ h.gap ++ after = e ∙ ap (λ f. f ++ rest) h.split ∙ append_assoc h.gap h.more rest in
-    let behind : gap_rest text ≡ after = ap gap_rest regroup ∙ gap_back after h.gap h.first_gap ∙ gap_rest_here after (starts (length h.gap) ts h.more rest no_gap h.each_token) in
+    let following : gap_rest text ≡ after = ap gap_rest regroup ∙ gap_back after h.gap h.first_gap ∙ gap_rest_here after (starts (length h.gap) ts h.more rest no_gap h.each_token) in
     let lengths : length text ≡ length h.gap + length after = ap length regroup ∙ length-append h.gap after in
     let parts : length after ≡ length h.more + length rest = length-append h.more rest in
     let all = read_tokens ts (suc (length after)) limit (length h.gap) [] h.more rest (omega arith) no_gap within h.each_token in
     let place : length text - length after ≡ length h.gap = omega arith in
     let end : length h.gap + length h.more ≡ length front = sym (ap length h.split ∙ length-append h.gap h.more) in
-    front_left text (gap_rest text) after rest limit (length h.gap) (length h.gap + length h.more) (length front) ts behind place end all
+    front_left text (gap_rest text) after rest limit (length h.gap) (length h.gap + length h.more) (length front) ts following place end all
 
 stop_read : (m limit at k : ℕ) (before : List PlainToken) (octets : List ℕ) → length octets < m → front_read octets ≡ stop k → read m limit before at octets ≡ Err (BadByte (at + k))
 stop_read zero limit at k before octets lt e = absurd (omega arith)

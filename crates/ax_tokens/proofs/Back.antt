@@ -106,8 +106,8 @@ token_back Str text rest (content, e, all) f =
     let regroup : ys ≡ content ++ quote ∷ rest = append_assoc content (quote ∷ []) rest in
     let n : prefix_len is_string_octet ys ≡ length content = ap (prefix_len is_string_octet) regroup ∙ prefix_is is_string_octet content (quote ∷ rest) all quote_stops in
     let front : take (prefix_len is_string_octet ys) ys ≡ content = ap (take (prefix_len is_string_octet ys)) regroup ∙ take_at content (quote ∷ rest) (prefix_len is_string_octet ys) (sym n) in
-    let behind : drop (prefix_len is_string_octet ys) ys ≡ quote ∷ rest = ap (drop (prefix_len is_string_octet ys)) regroup ∙ drop_at content (quote ∷ rest) (prefix_len is_string_octet ys) (sym n) in
-    let read : front_read (quote ∷ ys) ≡ token Str (quote ∷ (content ++ quote ∷ [])) rest = λ i. str_read (front i) (behind i) in
+    let following : drop (prefix_len is_string_octet ys) ys ≡ quote ∷ rest = ap (drop (prefix_len is_string_octet ys)) regroup ∙ drop_at content (quote ∷ rest) (prefix_len is_string_octet ys) (sym n) in
+    let read : front_read (quote ∷ ys) ≡ token Str (quote ∷ (content ++ quote ∷ [])) rest = λ i. str_read (front i) (following i) in
     ap (λ t. front_read (t ++ rest)) e ∙ read ∙ ap (λ t. token Str t rest) (sym e)
 token_back Open text rest h f = ap (λ t. front_read (t ++ rest)) h ∙ ap (λ t. token Open t rest) (sym h)
 token_back Close text rest h f = ap (λ t. front_read (t ++ rest)) h ∙ ap (λ t. token Close t rest) (sym h)
@@ -131,8 +131,8 @@ stop_back octets k (stops_str content rest e at all h) =
     let ys = content ++ rest in
     let n : prefix_len is_string_octet ys ≡ length content = prefix_is is_string_octet content rest all (str_stops_prefix rest h) in
     let front : take (prefix_len is_string_octet ys) ys ≡ content = take_at content rest (prefix_len is_string_octet ys) (sym n) in
-    let behind : drop (prefix_len is_string_octet ys) ys ≡ rest = drop_at content rest (prefix_len is_string_octet ys) (sym n) in
-    let read : front_read (quote ∷ ys) ≡ str_read content rest = λ i. str_read (front i) (behind i) in
+    let following : drop (prefix_len is_string_octet ys) ys ≡ rest = drop_at content rest (prefix_len is_string_octet ys) (sym n) in
+    let read : front_read (quote ∷ ys) ≡ str_read content rest = λ i. str_read (front i) (following i) in
     ap front_read e ∙ read ∙ str_stops_read content rest h ∙ ap stop (sym at)
 
 pub nowhere_starts : (octets : List ℕ) (k : ℕ) → FitsNowhere octets k → BeginsNoGap octets

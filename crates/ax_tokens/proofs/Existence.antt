@@ -6,7 +6,7 @@ use Rattle.std.proofs.lemmas.Bool.Decides.{nat_tests}
 use Rattle.ax_tokens.specs.Octets.{line_feed, hash, quote, open_brace, close_brace, is_separator, is_word_octet, is_string_octet, is_comment_octet}
 use Rattle.ax_tokens.specs.PlainToken.{PlainToken}
 use Rattle.ax_tokens.specs.Gap.{EndsComment, IsGap, no_octet, separator, comment}
-use Rattle.ax_tokens.specs.Depth.{greatest_excess, level_behind}
+use Rattle.ax_tokens.specs.Depth.{greatest_excess, level_after}
 use Rattle.ax_tokens.specs.Lexing.{IsTokenText, MayFollow, AreTokensOf}
 use Rattle.ax_tokens.specs.Faults.{FitsNowhere, begins_nothing, stops_str, HasBadByte, IsTooDeep}
 use Rattle.ax_tokens.specs.Fronts.{BeginsNoGap, GapInFront, TokenInFront}
@@ -91,14 +91,14 @@ gap_measured : (xs : List ℕ) → Measured xs
 gap_measured xs =
     let g = gap_is xs in
     let front : take (length g.gap) xs ≡ g.gap = ap (take (length g.gap)) g.split ∙ take_at g.gap (gap_rest xs) (length g.gap) refl in
-    let behind : drop (length g.gap) xs ≡ gap_rest xs = ap (drop (length g.gap)) g.split ∙ drop_at g.gap (gap_rest xs) (length g.gap) refl in
+    let following : drop (length g.gap) xs ≡ gap_rest xs = ap (drop (length g.gap)) g.split ∙ drop_at g.gap (gap_rest xs) (length g.gap) refl in
     let sum : length xs ≡ length g.gap + length (gap_rest xs) = ap length g.split ∙ length-append g.gap (gap_rest xs) in
-    let is_gap : IsGap (drop (length g.gap) xs) (take (length g.gap) xs) = rw (front, behind) g.is_gap in
-    let ends : BeginsNoGap (drop (length g.gap) xs) = rw behind g.ends in
+    let is_gap : IsGap (drop (length g.gap) xs) (take (length g.gap) xs) = rw (front, following) g.is_gap in
+    let ends : BeginsNoGap (drop (length g.gap) xs) = rw following g.ends in
     record {
       n = length g.gap;
       in_front = record { inside = omega arith; is_gap = is_gap; ends = ends };
-      rest = sym behind;
+      rest = sym following;
       length_is = sym sum;
     }
 
@@ -113,11 +113,11 @@ FrontIs octets (token kind text rest) = TokenInFront octets kind (length text) �
 token_is : (kind : TokenKind) (octets text rest : List ℕ) → octets ≡ text ++ rest → IsTokenText kind text → MayFollow kind rest → FrontIs octets (token kind text rest)
 token_is kind octets text rest e is_text follows =
     let front : take (length text) octets ≡ text = ap (take (length text)) e ∙ take_at text rest (length text) refl in
-    let behind : drop (length text) octets ≡ rest = ap (drop (length text)) e ∙ drop_at text rest (length text) refl in
+    let following : drop (length text) octets ≡ rest = ap (drop (length text)) e ∙ drop_at text rest (length text) refl in
     let inside : length text ≤ length octets = omega (arith, ap length e, length-append text rest) in
     let is_text_here : IsTokenText kind (take (length text) octets) = rw front is_text in
-    let follows_here : MayFollow kind (drop (length text) octets) = rw behind follows in
-    (record { inside = inside; is_text = is_text_here; follows = follows_here }, sym front, sym behind)
+    let follows_here : MayFollow kind (drop (length text) octets) = rw following follows in
+    (record { inside = inside; is_text = is_text_here; follows = follows_here }, sym front, sym following)
 
 -- an octet that stops a content is the quote, or it may not stand there
 str_by : (q : Bool) (xs content : List ℕ) (x : ℕ) (rest : List ℕ) → xs ≡ content ++ x ∷ rest → list_all is_string_octet content ≡ true → is_string_octet x ≡ false → (x == quote) ≡ q
@@ -184,7 +184,7 @@ deep_is Word limit tokens h = cc
 deep_is Str limit tokens h = cc
 deep_is Close limit tokens h = cc
 
-shallow_is : (kind : TokenKind) (limit level : ℕ) (tokens : List PlainToken) → is_deep kind limit tokens ≡ false → level ≤ limit → greatest_excess tokens ≡ level_behind kind level → level_behind kind level ≤ limit
+shallow_is : (kind : TokenKind) (limit level : ℕ) (tokens : List PlainToken) → is_deep kind limit tokens ≡ false → level ≤ limit → greatest_excess tokens ≡ level_after kind level → level_after kind level ≤ limit
 shallow_is Open limit level tokens h le e = let ge : greatest_excess tokens ≤ limit = grind (arith, nat_tests) in omega arith
 shallow_is Word limit level tokens h le e = le
 shallow_is Str limit level tokens h le e = le
@@ -193,18 +193,18 @@ shallow_is Close limit level tokens h le e = omega arith
 token_by : (deep : Bool) (n : ℕ) (text : List ℕ) (limit : ℕ) → Reads n text limit → (before : List PlainToken) (at : ℕ) (octets : List ℕ) → length octets < suc n → at ≡ length text - length octets → LexedTo text limit before octets
     → (kind : TokenKind) (slice rest : List ℕ) → FrontIs octets (token kind slice rest) → is_deep kind limit (before ++ token_at kind slice at ∷ []) ≡ deep
     → IsAnswer text limit (cond deep (Err (TooDeep (length before))) (read n limit (before ++ token_at kind slice at ∷ []) (at + length slice + (length rest - length (gap_rest rest))) (gap_rest rest)))
-token_by true n text limit go before at octets lt is_at h kind slice rest (found, front, behind) is_d =
+token_by true n text limit go before at octets lt is_at h kind slice rest (found, front, following) is_d =
     let d = deep_is kind limit (before ++ token_at kind slice at ∷ []) is_d in
-    let above : greatest_excess (before ++ token_at kind slice at ∷ []) ≡ greatest_excess before + 1 = level_push before (token_at kind slice at) ∙ ap (λ k. level_behind k (greatest_excess before)) d.0 in
+    let above : greatest_excess (before ++ token_at kind slice at ∷ []) ≡ greatest_excess before + 1 = level_push before (token_at kind slice at) ∙ ap (λ k. level_after k (greatest_excess before)) d.0 in
     let full : greatest_excess before ≡ limit = omega (arith, d.1, h.level) in
     lexed_deep text limit before octets kind (length slice) (greatest_excess before) (length before) h found d.0 full refl refl
-token_by false n text limit go before at octets lt is_at h kind slice rest (found, front, behind) is_d =
+token_by false n text limit go before at octets lt is_at h kind slice rest (found, front, following) is_d =
     let t = token_at kind slice at in
     let gap = gap_measured rest in
     let fits = shallow_is kind limit (greatest_excess before) (before ++ t ∷ []) is_d h.level (level_push before t) in
-    let next = lexed_push text limit before (before ++ t ∷ []) octets rest (gap_rest rest) t (length slice) gap.n h found gap.in_front fits front behind gap.rest is_at refl refl in
+    let next = lexed_push text limit before (before ++ t ∷ []) octets rest (gap_rest rest) t (length slice) gap.n h found gap.in_front fits front following gap.rest is_at refl refl in
     let some : 0 < length slice = token_some kind slice (subst (λ x. IsTokenText kind x) (sym front) found.is_text) in
-    let parts : length octets ≡ length slice + length rest = ap length (sym (take-append-drop (length slice) octets) ∙ (λ i. sym front i ++ sym behind i)) ∙ length-append slice rest in
+    let parts : length octets ≡ length slice + length rest = ap length (sym (take-append-drop (length slice) octets) ∙ (λ i. sym front i ++ sym following i)) ∙ length-append slice rest in
     let all : length text ≡ length h.front + length octets = ap length h.split ∙ length-append h.front octets in
     let gap_sum : gap.n + length (gap_rest rest) ≡ length rest = gap.length_is in
     go (before ++ t ∷ []) _ (gap_rest rest) (omega arith) (omega arith) next

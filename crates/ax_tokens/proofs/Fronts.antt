@@ -42,8 +42,8 @@ str_ends (x ∷ xs) h no_quote = (h, λ e. no_quote e (omega arith))
 rest_is : (x : ℕ) (rest : List ℕ) → take (length (x ∷ rest) - 1) (drop 1 (x ∷ rest)) ≡ rest
 rest_is x rest = take_all (length (x ∷ rest) - 1) rest (omega arith)
 
-behind : (k : ℕ) (rest : List ℕ) → get_or (drop k rest) 0 0 ≡ get_or rest k 0
-behind k rest = get_or-drop k rest 0 0 ∙ ap (λ n. get_or rest n 0) (omega arith)
+following : (k : ℕ) (rest : List ℕ) → get_or (drop k rest) 0 0 ≡ get_or rest k 0
+following k rest = get_or-drop k rest 0 0 ∙ ap (λ n. get_or rest n 0) (omega arith)
 
 pub str_front : (octets : List ℕ) (k end : ℕ) → 0 < length octets → get_or octets 0 0 ≡ quote → k ≡ prefix_len is_string_octet (take (length octets - 1) (drop 1 octets)) → end ≡ 1 + k
     → end < length octets → get_or octets end 0 ≡ quote → TokenInFront octets Str (end + 1)
@@ -71,7 +71,7 @@ str_stopped (x ∷ rest) k end some first is at no_quote =
     let le : k ≤ length rest = omega arith in
     let stops : Stops is_string_octet (drop k rest) = rw e (prefix_stops is_string_octet rest) in
     let no_end : get_or (drop k rest) 0 0 ≡ quote → 0 < length (drop k rest) → ⊥
-    = λ q lt. no_quote (omega (arith, length-drop k rest)) (rw (at1, ← behind k rest) q) in
+    = λ q lt. no_quote (omega (arith, length-drop k rest)) (rw (at1, ← following k rest) q) in
     stops_str (take k rest) (drop k rest) (λ i. first i ∷ sym (take-append-drop k rest) i) (at ∙ ap (λ n. 1 + n) (sym (length-take-le k rest le)))
     (rw e (prefix_passes is_string_octet rest)) (str_ends (drop k rest) stops no_end)
 

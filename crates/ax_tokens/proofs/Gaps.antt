@@ -53,10 +53,10 @@ gap_comment octets n k lt s is h =
     let front : drop n octets ≡ hash ∷ after = drop_more octets n 0 lt ∙ ap (λ x. x ∷ after) s in
     let body = take k after in
     let piece : take (1 + k) (drop n octets) ≡ hash ∷ body = rw (front, one_more k) refl in
-    let behind : drop (n + (1 + k)) octets ≡ drop k after = ap (λ m. drop m octets) (let m : n + (1 + k) ≡ n + 1 + k = omega arith in m) ∙ sym (drop-drop k (n + 1) octets) in
+    let following : drop (n + (1 + k)) octets ≡ drop k after = ap (λ m. drop m octets) (let m : n + (1 + k) ≡ n + 1 + k = omega arith in m) ∙ sym (drop-drop k (n + 1) octets) in
     let all : list_all is_comment_octet body ≡ true = rw e (prefix_passes is_comment_octet after) in
     let stops : Stops is_comment_octet (drop k after) = rw e (prefix_stops is_comment_octet after) in
-    let ends : EndsComment (drop (n + (1 + k)) octets) = rw behind (comment_end (drop k after) stops) in
+    let ends : EndsComment (drop (n + (1 + k)) octets) = rw following (comment_end (drop k after) stops) in
     gap_piece octets (hash ∷ body) n (1 + k) le piece h (comment body [] (hash ∷ body) (ap (λ x. hash ∷ x) (sym (append-nil body))) all ends no_octet)
 
 -- the gap ends in front of an octet that neither separates nor begins a comment

@@ -5,7 +5,7 @@ use Rattle.std.proofs.lemmas.List.Sums.{sum_by_push, count_by-le-length}
 use Rattle.std.proofs.lemmas.Bool.{cases_lt}
 use Rattle.std.proofs.lemmas.Option.{slice_get_within}
 use Rattle.ax_tokens.specs.PlainToken.{PlainToken}
-use Rattle.ax_tokens.specs.Depth.{is_open, is_close, excess, greatest_excess, depth_of, IsWithin, level_behind, KeepsWithin}
+use Rattle.ax_tokens.specs.Depth.{is_open, is_close, excess, greatest_excess, depth_of, IsWithin, level_after, KeepsWithin}
 use Rattle.ax_tokens.specs.declared.token.TokenKind.{TokenKind}
 use Rattle.ax_tokens.specs.declared.token.TokenKind.TheVariants.{Word, Str, Open, Close}
 
@@ -34,14 +34,14 @@ unfolding opens closes
 excess_is ts = refl
 
 -- the excess of the tokens from u on, and of those after u, after one more token
-level_cases : (k : TokenKind) (o c g : ℕ) → max ((o + open_one k) - (c + close_one k)) (level_behind k g) ≡ level_behind k (max (o - c) g)
+level_cases : (k : TokenKind) (o c g : ℕ) → max ((o + open_one k) - (c + close_one k)) (level_after k g) ≡ level_after k (max (o - c) g)
 unfolding open_one close_one
 level_cases Word o c g = omega arith
 level_cases Str o c g = omega arith
 level_cases Open o c g = omega arith
 level_cases Close o c g = omega arith
 
-level_one : (k : TokenKind) → max (open_one k - close_one k) 0 ≡ level_behind k 0
+level_one : (k : TokenKind) → max (open_one k - close_one k) 0 ≡ level_after k 0
 unfolding open_one close_one
 level_one Word = refl
 level_one Str = refl
@@ -56,11 +56,11 @@ excess_push : (ts : List PlainToken) (t : PlainToken) → excess (ts ++ t ∷ []
 excess_push ts t = excess_is (ts ++ t ∷ []) ∙ (λ i. opens_push ts t i - closes_push ts t i)
 
 -- the level after one more token
-pub level_push : (ts : List PlainToken) (t : PlainToken) → greatest_excess (ts ++ t ∷ []) ≡ level_behind t.kind (greatest_excess ts)
+pub level_push : (ts : List PlainToken) (t : PlainToken) → greatest_excess (ts ++ t ∷ []) ≡ level_after t.kind (greatest_excess ts)
 level_push [] t = ap (λ e. max e 0) (excess_push [] t ∙ first_excess t) ∙ level_one t.kind
 level_push (u ∷ ts) t =
     (λ i. max (excess_push (u ∷ ts) t i) (level_push ts t i)) ∙ level_cases t.kind (opens (u ∷ ts)) (closes (u ∷ ts)) (greatest_excess ts)
-    ∙ ap (λ e. level_behind t.kind (max e (greatest_excess ts))) (sym (excess_is (u ∷ ts)))
+    ∙ ap (λ e. level_after t.kind (max e (greatest_excess ts))) (sym (excess_is (u ∷ ts)))
 
 -- the token in question is after the others
 last_token : (limit : ℕ) (ts : List PlainToken) (t : PlainToken) (i : ℕ) → i ≡ length ts → greatest_excess (ts ++ t ∷ []) ≤ limit → depth_of (ts ++ t ∷ []) i ≤ limit
@@ -103,7 +103,7 @@ pub depth_here : (before ts : List PlainToken) (t : PlainToken) → depth_of (be
 depth_here before ts t =
     ap greatest_excess (ap (take (length before + 1)) (sym (append_assoc before (t ∷ []) ts)) ∙ take_at (before ++ t ∷ []) ts (length before + 1) (length_push before t))
 
-kept_by : (k : TokenKind) (limit level : ℕ) → level ≤ limit → (k ≡ Open → level_behind k level ≤ limit) → level_behind k level ≤ limit
+kept_by : (k : TokenKind) (limit level : ℕ) → level ≤ limit → (k ≡ Open → level_after k level ≤ limit) → level_after k level ≤ limit
 kept_by Open limit level le h = h refl
 kept_by Word limit level le h = le
 kept_by Str limit level le h = le
@@ -113,8 +113,8 @@ kept_by Close limit level le h = omega arith
 keeps : (limit : ℕ) (before ts : List PlainToken) → greatest_excess before ≤ limit → IsWithin limit (before ++ ts) → KeepsWithin limit (greatest_excess before) ts
 keeps limit before [] le h = tt
 keeps limit before (t ∷ ts) le h =
-    let next : greatest_excess (before ++ t ∷ []) ≡ level_behind t.kind (greatest_excess before) = level_push before t in
-    let within : level_behind t.kind (greatest_excess before) ≤ limit
+    let next : greatest_excess (before ++ t ∷ []) ≡ level_after t.kind (greatest_excess before) = level_push before t in
+    let within : level_after t.kind (greatest_excess before) ≤ limit
     = kept_by t.kind limit (greatest_excess before) le (λ k. subst (λ d. d ≤ limit) (depth_here before ts t ∙ next) (h (length before) t (place_last before ts t) k)) in
     let later = keeps limit (before ++ t ∷ []) ts (subst (λ n. n ≤ limit) (sym next) within) (subst (λ x. IsWithin limit x) (sym (append_assoc before (t ∷ []) ts)) h) in
     (within, subst (λ n. KeepsWithin limit n ts) next later)
@@ -122,7 +122,7 @@ keeps limit before (t ∷ ts) le h =
 kept : (limit : ℕ) (before ts : List PlainToken) → IsWithin limit before → KeepsWithin limit (greatest_excess before) ts → IsWithin limit (before ++ ts)
 kept limit before [] h k = subst (λ x. IsWithin limit x) (sym (append-nil before)) h
 kept limit before (t ∷ ts) h k =
-    let next : greatest_excess (before ++ t ∷ []) ≡ level_behind t.kind (greatest_excess before) = level_push before t in
+    let next : greatest_excess (before ++ t ∷ []) ≡ level_after t.kind (greatest_excess before) = level_push before t in
     let within = within_push limit before t h (subst (λ n. n ≤ limit) (sym next) k.0) in
     subst (λ x. IsWithin limit x) (append_assoc before (t ∷ []) ts) (kept limit (before ++ t ∷ []) ts within (subst (λ n. KeepsWithin limit n ts) (sym next) k.1))
 

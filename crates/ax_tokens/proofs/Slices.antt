@@ -11,9 +11,9 @@ IsSlice text t = t.text ≡ slice_range text t.from t.to
 
 slice_is : (text front middle back : List ℕ) (from to : ℕ) → text ≡ front ++ (middle ++ back) → from ≡ length front → to ≡ from + length middle → middle ≡ slice_range text from to
 slice_is text front middle back from to e begins ends =
-    let behind : drop from text ≡ middle ++ back = ap (drop from) e ∙ drop_at front (middle ++ back) from (sym begins) in
+    let following : drop from text ≡ middle ++ back = ap (drop from) e ∙ drop_at front (middle ++ back) from (sym begins) in
     let n : length middle ≡ to - from = omega arith in
-    sym (ap (take (to - from)) behind ∙ take_at middle back (to - from) n)
+    sym (ap (take (to - from)) following ∙ take_at middle back (to - from) n)
 
 each_slice : (text : List ℕ) (ts : List PlainToken) (front octets : List ℕ) (at : ℕ) → text ≡ front ++ octets → at ≡ length front → AreTokensWithGaps at ts octets [] → AllByRecursion (IsSlice text) ts
 each_slice text [] front octets at e begins h = tt

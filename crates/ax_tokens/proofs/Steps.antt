@@ -4,7 +4,7 @@ use Rattle.std.proofs.lemmas.List.{length-take-le, take_all}
 use Rattle.ax_tokens.specs.Octets.{open_brace}
 use Rattle.ax_tokens.specs.PlainToken.{PlainToken}
 use Rattle.ax_tokens.specs.Gap.{IsGap}
-use Rattle.ax_tokens.specs.Depth.{greatest_excess, IsWithin, level_behind}
+use Rattle.ax_tokens.specs.Depth.{greatest_excess, IsWithin, level_after}
 use Rattle.ax_tokens.specs.Lexing.{IsTokenText, MayFollow, AreTokensWithGaps, Lexes, AreTokensOf}
 use Rattle.ax_tokens.specs.Faults.{FitsNowhere, HasBadByte, opening, IsTooDeep}
 use Rattle.ax_tokens.specs.Fronts.{BeginsNoGap, GapInFront, TokenInFront}
@@ -89,18 +89,18 @@ place_of text front rest e = omega (arith, ap length e, length-append front rest
 
 -- a token is found, and the gap after it
 pub lexed_push : (text : List ℕ) (limit : ℕ) (ts all : List PlainToken) (rest after next : List ℕ) (t : PlainToken) (n k : ℕ) → LexedTo text limit ts rest → TokenInFront rest t.kind n → GapInFront after k
-    → level_behind t.kind (greatest_excess ts) ≤ limit → t.text ≡ take n rest → after ≡ drop n rest → next ≡ drop k after → t.from ≡ length text - length rest → t.to ≡ t.from + n → all ≡ ts ++ t ∷ []
+    → level_after t.kind (greatest_excess ts) ≤ limit → t.text ≡ take n rest → after ≡ drop n rest → next ≡ drop k after → t.from ≡ length text - length rest → t.to ≡ t.from + n → all ≡ ts ++ t ∷ []
     → LexedTo text limit all next
-lexed_push text limit ts all rest after next t n k h found gap fits slice behind last begins ends whole =
+lexed_push text limit ts all rest after next t n k h found gap fits slice following last begins ends whole =
     let g = take k after in
     let count : length t.text ≡ n = ap length slice ∙ length-take-le n rest found.inside in
     let parts : g ++ next ≡ after = ap (λ x. g ++ x) last ∙ take-append-drop k after in
-    let split : t.text ++ (g ++ next) ≡ rest = (λ i. slice i ++ (parts ∙ behind) i) ∙ take-append-drop n rest in
+    let split : t.text ++ (g ++ next) ≡ rest = (λ i. slice i ++ (parts ∙ following) i) ∙ take-append-drop n rest in
     let is_gap : IsGap next g = subst (λ x. IsGap x g) (sym last) gap.is_gap in
     let is_text : IsTokenText t.kind t.text = subst (λ x. IsTokenText t.kind x) (sym slice) found.is_text in
-    let follows : MayFollow t.kind (g ++ next) = subst (λ x. MayFollow t.kind x) (sym (parts ∙ behind)) found.follows in
+    let follows : MayFollow t.kind (g ++ next) = subst (λ x. MayFollow t.kind x) (sym (parts ∙ following)) found.follows in
     let at : t.from ≡ length h.front = begins ∙ sym (place_of text h.front rest h.split) in
-    let is_behind : t.to ≡ t.from + length t.text = ends ∙ ap (λ m. t.from + m) (sym count) in
+    let is_following : t.to ≡ t.from + length t.text = ends ∙ ap (λ m. t.from + m) (sym count) in
     let before : Lexes ts h.front (t.text ++ (g ++ next)) = subst (λ x. Lexes ts h.front x) (sym split) h.lexed in
     let level_is : greatest_excess (ts ++ t ∷ []) ≤ limit = rw (level_push ts t) fits in
     let some : 0 < length t.text = token_some t.kind t.text is_text in
@@ -109,7 +109,7 @@ lexed_push text limit ts all rest after next t n k h found gap fits slice behind
     rw whole (record {
       front = h.front ++ (t.text ++ g);
       split = h.split ∙ ap (λ x. h.front ++ x) (sym split ∙ sym (append_assoc t.text g next)) ∙ sym (append_assoc h.front (t.text ++ g) next);
-      lexed = lexes_push t g next is_text follows is_gap ts h.front at is_behind before;
+      lexed = lexes_push t g next is_text follows is_gap ts h.front at is_following before;
       within = within_push limit ts t h.within level_is;
       level = level_is;
       few = few;

@@ -36,13 +36,13 @@ abbrev pub IsWithin : ℕ → List PlainToken → Type 0
 IsWithin limit tokens = (i : ℕ) (t : PlainToken) → slice_get tokens i ≡ Some t → t.kind ≡ Open → depth_of tokens i ≤ limit
 
 -- the level after a token, from the level before it: a Close without an Open leaves it at 0
-abbrev pub level_behind : TokenKind → ℕ → ℕ
-level_behind Open level = level + 1
-level_behind Close level = level - 1
-level_behind Word level = level
-level_behind Str level = level
+abbrev pub level_after : TokenKind → ℕ → ℕ
+level_after Open level = level + 1
+level_after Close level = level - 1
+level_after Word level = level
+level_after Str level = level
 
 -- the level that is kept from token to token, from that level on, stays within the limit
 abbrev pub KeepsWithin : ℕ → ℕ → List PlainToken → Type 0
 KeepsWithin limit level [] = Unit {0}
-KeepsWithin limit level (t ∷ tokens) = (level_behind t.kind level ≤ limit) × KeepsWithin limit (level_behind t.kind level) tokens
+KeepsWithin limit level (t ∷ tokens) = (level_after t.kind level ≤ limit) × KeepsWithin limit (level_after t.kind level) tokens

@@ -4,7 +4,7 @@ ghost use Rattle.std.specs.Prelude.{◌≡◌, ℕ, ◌+◌, ◌^◌, ◌<◌, �
 ghost use Rattle.std.specs.List.{prefix_len};
 ghost use Rattle.ax_tokens.specs.Octets.{quote, is_comment_octet, is_word_octet, is_string_octet};
 ghost use Rattle.ax_tokens.specs.PlainToken.{PlainToken, plain_tokens};
-ghost use Rattle.ax_tokens.specs.Depth.{level_behind};
+ghost use Rattle.ax_tokens.specs.Depth.{level_after};
 ghost use Rattle.ax_tokens.specs.Lexing.{AreTokensOf};
 ghost use Rattle.ax_tokens.specs.Faults.{FitsNowhere, HasBadByte, IsTooDeep, IsFault, IsUnlessOutOfMemory};
 ghost use Rattle.ax_tokens.specs.declared.token.TokenKind.TheVariants.{Str, Open};
@@ -103,7 +103,7 @@ fn front_token(octets: &[u8]) -> Result<(TokenKind, usize), usize>
 /// The level after a token, or None for an Open past the depth.
 fn next_level(level: u32, kind: TokenKind, depth: u32) -> Option<u32>
     requires { level ≤ depth }
-    ensures some { IfSome result (λ next. (next ≡ level_behind kind level) × (next ≤ depth)) }
+    ensures some { IfSome result (λ next. (next ≡ level_after kind level) × (next ≤ depth)) }
     ensures none { IfNone result ((kind ≡ Open) × (level ≡ depth)) }
 {
     match kind {

@@ -2,6 +2,7 @@
 use Rattle.std.specs.Prelude.{◌≡◌, ℕ, ◌+◌, ◌*◌, ◌≤◌, List, [], ◌∷◌, length, sum, sum_by}
 use Rattle.ax_model.specs.Blocks.{BlockTree, SpellsBlock, SpellsStream}
 use Rattle.ax_model.specs.CanonicalOctets.{CanonBytes}
+use Rattle.ax_model.specs.Sizes.{longest_block}
 use Rattle.ax_model.specs.Specification.{SpecTree}
 use Rattle.ax_trial.specs.Trial.{record_count}
 use Rattle.ax_trial.specs.declared.totals.Totals.{Totals}
@@ -13,14 +14,14 @@ pub record IsCanonOf (spec : SpecTree) (octets : List ℕ) (records : ℕ) (cano
   pub spelled : SpellsBlock (spec ∷ []) block octets
   pub records_are : records ≡ record_count block
   pub canonical_is : canonical ≡ CanonBytes (spec ∷ []) (block ∷ [])
-  pub short : length octets ≤ 65535
-  pub no_longer : length canonical ≤ 65535
+  pub short : length octets ≤ longest_block
+  pub no_longer : length canonical ≤ longest_block
 
 -- numbers of so many blocks as they count: what each block adds is bounded
 pub record IsWithin (t : Totals) : Type 0 where
   pub records : t.records ≤ 4294967296 * t.blocks
-  pub octets : t.octets ≤ 65535 * t.blocks
-  pub canonical : t.canonical ≤ 65535 * t.blocks
+  pub octets : t.octets ≤ longest_block * t.blocks
+  pub canonical : t.canonical ≤ longest_block * t.blocks
   pub sum : t.sum ≤ 16711425 * t.blocks
 
 -- one block more was counted

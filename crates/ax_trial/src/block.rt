@@ -1,6 +1,7 @@
 //! One generated block, and its canonical form.
 ghost use Rattle.std.specs.Prelude.{◌≡◌, ◌≤◌, ◌<◌, length, sum, take, drop};
 ghost use Rattle.ax_model.specs.Plain.{spec_tree};
+ghost use Rattle.ax_model.specs.Sizes.{longest_block};
 ghost use Rattle.ax_tables.specs.Standing.{IsCompiled};
 ghost use Rattle.ax_trial.specs.Counting.{AddsForm, IsCanonOf, IsWithin};
 ghost use Rattle.ax_vectors.specs.Made.{IsSpelledBlock};
@@ -13,7 +14,7 @@ use ax_view_work::lay_block;
 
 /// The sum of octets as numbers.
 pub(crate) fn sum_of(octets: &[u8]) -> u64
-    requires { length octets.now ≤ 65535 }
+    requires { length octets.now ≤ longest_block }
     ensures sum { result ≡ sum octets.now }
     ensures small { result ≤ 16711425 }
 {
@@ -38,10 +39,10 @@ fn body_of(octets: &[u8]) -> &[u8]
 fn lay_form(_spec: &Spec, codec: &Codec, octets: &[u8], output: &mut [u8]) -> (u32, u32)
     requires compiled { IsCompiled codec.now (spec_tree _spec.now) }
     requires spelled { IsSpelledBlock (spec_tree _spec.now) octets.now }
-    requires room { length output.old ≡ 65535 }
+    requires room { length output.old ≡ longest_block }
     ensures form { IsCanonOf (spec_tree _spec.now) octets.now result.0 (take result.1 output.new) }
-    ensures within { result.1 ≤ 65535 }
-    ensures room { length output.new ≡ 65535 }
+    ensures within { result.1 ≤ longest_block }
+    ensures room { length output.new ≡ longest_block }
 {
     match scan(codec, body_of(octets)) {
         Ok(view) => {
@@ -62,11 +63,11 @@ pub(crate) fn count_block(
 )
     requires compiled { IsCompiled codec.now (spec_tree spec.now) }
     requires spelled { IsSpelledBlock (spec_tree spec.now) octets.now }
-    requires room { length output.old ≡ 65535 }
+    requires room { length output.old ≡ longest_block }
     requires within { IsWithin totals.old }
     requires few { totals.old.blocks < 1000000 }
     ensures counted { AddsForm (spec_tree spec.now) totals.old totals.new octets.now }
-    ensures room { length output.new ≡ 65535 }
+    ensures room { length output.new ≡ longest_block }
 {
     let (records, count) = lay_form(spec, codec, octets, output);
     totals.add(records, octets, &output[..count as usize]);

@@ -1,5 +1,6 @@
 //! The numbers of the line.
 ghost use Rattle.std.specs.Prelude.{◌≡◌, ◌+◌, ◌*◌, ◌<◌, ◌≤◌, ◌++◌, length, decimal, IfOk, OnOk};
+ghost use Rattle.ax_model.specs.Sizes.{longest_block};
 ghost use Rattle.ax_trial.specs.Trial.{numbers_line};
 ghost use Rattle.ax_trial.specs.Counting.{IsWithin, AddsNumbers};
 
@@ -35,8 +36,8 @@ impl Totals {
     pub(crate) fn add(&mut self, records: u32, octets: &[u8], canonical: &[u8])
         requires within { IsWithin self.old }
         requires few { self.old.blocks < 1000000 }
-        requires octets { length octets.now ≤ 65535 }
-        requires canonical { length canonical.now ≤ 65535 }
+        requires octets { length octets.now ≤ longest_block }
+        requires canonical { length canonical.now ≤ longest_block }
         ensures { AddsNumbers self.old self.new records octets.now canonical.now }
     {
         self.blocks += 1;

@@ -1,6 +1,7 @@
 //! The line of `trial`.
 ghost use Rattle.std.specs.Prelude.{◌≡◌, ◌≤◌, length, IfOk};
 ghost use Rattle.ax_model.specs.Plain.{spec_tree};
+ghost use Rattle.ax_model.specs.Sizes.{longest_block};
 ghost use Rattle.ax_tables.specs.Standing.{IsCompiled};
 ghost use Rattle.ax_trial.specs.Counting.{AreTotals};
 ghost use Rattle.ax_trial.specs.Trial.{IsTrial};
@@ -26,7 +27,7 @@ fn totals_of(
 ) -> Result<Totals, AllocError>
     requires compiled { IsCompiled codec.now (spec_tree accepted.now) }
     requires few { count ≤ 1000000 }
-    requires room { length output.old ≡ 65535 }
+    requires room { length output.old ≡ longest_block }
     ensures { IfOk result (λ totals. AreTotals (spec_tree accepted.now) seed count totals) }
 {
     let mut draws = Draws::new(seed);

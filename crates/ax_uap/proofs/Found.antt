@@ -17,12 +17,6 @@ at_place : (items : List Item) (slot : UapSlot) → slice_get items (place_of_sl
 at_place items Uap.Spare = past items
 at_place items (Uap.Item name) = sym (find_at (λ item. bytes_eq item.name name) items)
 
--- no slot of that number: no item
-pub no_slot : (i : ℕ) (slots : List UapSlot) (items : List Item) → slice_get (uap_places slots items) i ≡ None → item_of_frn (suc i) slots items ≡ None
-no_slot i [] items none = refl
-no_slot zero (slot ∷ slots) items none = absurd (let h : Some (place_of_slot items slot) ≡ None = none in cc)
-no_slot (suc i) (slot ∷ slots) items none = no_slot i slots items none
-
 pub its_item : (i place : ℕ) (slots : List UapSlot) (items : List Item) → slice_get (uap_places slots items) i ≡ Some place → slice_get items place ≡ item_of_frn (suc i) slots items
 its_item i place [] items some = absurd (let h : None ≡ Some place = some in cc)
 its_item zero place (slot ∷ slots) items some = let h : Some (place_of_slot items slot) ≡ Some place = some in let same : place_of_slot items slot ≡ place = cc in ap (slice_get items) (sym same) ∙ at_place items slot

@@ -4,7 +4,7 @@ use Rattle.std.specs.Result.{IsErrAnd}
 use Rattle.ax_model.specs.Reader.{Read}
 use Rattle.ax_model.specs.declared.fault.BodyFault.{BodyFault}
 use Rattle.ax_reader.specs.Reading.{FailsAt, Continues}
-use Rattle.ax_values.specs.Reading.{HasFailed}
+use Rattle.ax_values.specs.SlotReading.{HasFailed}
 use Rattle.ax_values.specs.declared.error.DecodeError.{DecodeError}
 use Rattle.ax_values.specs.declared.error.DecodeError.TheVariants as Decoding
 use Rattle.ax_reader.proofs.Continuing.{fails_after}

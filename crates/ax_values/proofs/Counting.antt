@@ -10,7 +10,7 @@ use Rattle.ax_reader.proofs.Continuing.{goes_on, gets_after, front_is}
 use Rattle.ax_values.proofs.Continuing.{failed_after}
 use Rattle.ax_values.proofs.Onto.{values_onto, values_onto_none, values_onto_more}
 use Rattle.ax_reader.specs.Reading.{Gets, FailsAt, Continues, kind_read}
-use Rattle.ax_values.specs.Reading.{HasFailed}
+use Rattle.ax_values.specs.SlotReading.{HasFailed}
 use Rattle.ax_values.specs.declared.error.DecodeError.{DecodeError}
 use Rattle.ax_reader.proofs.Counting.{front_octet, each_first, each_fails_at}
 

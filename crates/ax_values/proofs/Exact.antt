@@ -4,8 +4,8 @@ use Rattle.ax_model.specs.InBounds.{InBounds}
 use Rattle.ax_model.specs.Tree.{KindTree, ValueTree}
 use Rattle.ax_model.specs.declared.fault.BodyFault.{BodyFault}
 use Rattle.ax_reader.specs.Reading.{IsSpelledAt, IsFaultAt, Gets, kind_read}
-use Rattle.ax_values.specs.Decoding.{Answers, AnswersFault, Names}
-use Rattle.ax_values.specs.Reading.{HasFailed}
+use Rattle.ax_values.specs.Decoding.{IsOrMemory, AnswersFault, IsFaultOf}
+use Rattle.ax_values.specs.SlotReading.{HasFailed}
 use Rattle.ax_values.specs.declared.error.DecodeError.{DecodeError}
 use Rattle.ax_values.specs.declared.error.DecodeError.TheVariants as Decoding
 use Rattle.ax_reader.proofs.Exact.{spelled_at, fault_at, gets_spelled, fails_faulty, gets_once, never_both, fails_at_once}
@@ -15,13 +15,13 @@ module _ {A : Type 0} (tree : A → ValueTree) (k : KindTree) (body : List ℕ) 
   is_spelled (Ok r) h = spelled_at k body at r.1 (tree r.0) bounds h
   is_spelled (Err e) h = h
 
-  pub is_faulty : (r : Result (A × ℕ) DecodeError) → IfErr r (λ e. HasFailed (kind_read k body at) at e) → IfErr r (Names (IsFaultAt k body at))
+  pub is_faulty : (r : Result (A × ℕ) DecodeError) → IfErr r (λ e. HasFailed (kind_read k body at) at e) → IfErr r (IsFaultOf (IsFaultAt k body at))
   is_faulty (Ok r) h = h
   is_faulty (Err (Decoding.Fault fault)) h = fault_at k body at fault bounds (h.met fault refl)
   is_faulty (Err Decoding.OutOfMemory) h = tt
 
   pub where_spelled : (r : Result (A × ℕ) DecodeError) → IfOk r (λ r. Gets (kind_read k body at) body at r.1 (tree r.0)) → IfErr r (λ e. HasFailed (kind_read k body at) at e) → (v : ValueTree) (end : ℕ) → IsSpelledAt k body at end v
-      → Answers (λ r. (tree r.0 ≡ v) × (r.1 ≡ end)) r
+      → IsOrMemory (λ r. (tree r.0 ≡ v) × (r.1 ≡ end)) r
   where_spelled (Ok r) h g v end s = gets_once (kind_read k body at) body at r.1 end (tree r.0) v h (gets_spelled k body at end v s)
   where_spelled (Err (Decoding.Fault fault)) h g v end s = absurd (never_both (kind_read k body at) body at end v fault (gets_spelled k body at end v s) (g.met fault refl))
   where_spelled (Err Decoding.OutOfMemory) h g v end s = refl

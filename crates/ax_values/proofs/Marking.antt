@@ -15,7 +15,7 @@ use Rattle.ax_reader.proofs.Continuing.{begins, goes_on, gets_after, front_is}
 use Rattle.ax_values.proofs.Continuing.{failed_after}
 use Rattle.ax_values.proofs.Onto.{entries_onto, entries_onto_none, entries_onto_more}
 use Rattle.ax_reader.specs.Reading.{Gets, FailsAt, Continues, IsMaskOf, kind_read, entries_at}
-use Rattle.ax_values.specs.Reading.{HasFailed, Adds, IsSlotRead, HasSlotFailed}
+use Rattle.ax_values.specs.SlotReading.{HasFailed, Adds, IsSlotRead, HasSlotFailed}
 use Rattle.ax_values.specs.declared.error.DecodeError.{DecodeError}
 use Rattle.ax_reader.proofs.Marking.{mark_at, later_at, later_bits, first_below, field_read, marks_bits, marks_end, slot_in_bounds}
 

@@ -13,7 +13,7 @@ use Rattle.ax_model.specs.Tree.{EntriesTree, ValueTree, marked}
 use Rattle.ax_model.specs.declared.fault.BodyFault.{BodyFault}
 use Rattle.ax_model.specs.declared.record.Record.{Record}
 use Rattle.ax_reader.specs.Reading.{IsSpelledAt, IsFaultAt}
-use Rattle.ax_values.specs.Decoding.{IsRecordAt, IsRecordFaultAt, IsBodyFault, Answers, AnswersFault, Names}
+use Rattle.ax_values.specs.Decoding.{IsRecordAt, IsRecordFaultAt, IsBodyFault, IsOrMemory, AnswersFault, IsFaultOf}
 use Rattle.ax_values.specs.declared.error.DecodeError.{DecodeError}
 use Rattle.ax_values.specs.declared.error.DecodeError.TheVariants as Decoding
 
@@ -39,13 +39,13 @@ module _ (spec : SpecTree) (body : List ℕ) (at : ℕ) where
   record_ok (Ok r) h = record_at spec body at r.1 (record_tree r.0) h
   record_ok (Err e) h = h
 
-  pub record_err : (r : Result (Record × ℕ) DecodeError) → IfErr r (Names (IsFaultAt (record_kind spec) body at)) → IfErr r (Names (IsRecordFaultAt spec body at))
+  pub record_err : (r : Result (Record × ℕ) DecodeError) → IfErr r (IsFaultOf (IsFaultAt (record_kind spec) body at)) → IfErr r (IsFaultOf (IsRecordFaultAt spec body at))
   record_err (Ok r) h = h
   record_err (Err (Decoding.Fault fault)) h = record_fault spec body at fault h
   record_err (Err Decoding.OutOfMemory) h = tt
 
-  pub record_spelled : (r : Result (Record × ℕ) DecodeError) → ((v : ValueTree) (end : ℕ) → IsSpelledAt (record_kind spec) body at end v → Answers (λ r. (marked (record_tree r.0) ≡ v) × (r.1 ≡ end)) r)
-      → (es : EntriesTree) (end : ℕ) → IsRecordAt spec body at end es → Answers (λ r. (record_tree r.0 ≡ es) × (r.1 ≡ end)) r
+  pub record_spelled : (r : Result (Record × ℕ) DecodeError) → ((v : ValueTree) (end : ℕ) → IsSpelledAt (record_kind spec) body at end v → IsOrMemory (λ r. (marked (record_tree r.0) ≡ v) × (r.1 ≡ end)) r)
+      → (es : EntriesTree) (end : ℕ) → IsRecordAt spec body at end es → IsOrMemory (λ r. (record_tree r.0 ≡ es) × (r.1 ≡ end)) r
   record_spelled (Ok r) h es end s = let t = h (marked es) end (value_at spec body at end es s) in (entries_same t.0, t.1)
   record_spelled (Err e) h es end s = h (marked es) end (value_at spec body at end es s)
 
@@ -59,9 +59,6 @@ pub record BodySoFar (spec : SpecTree) (body : List ℕ) (at : ℕ) (made : List
   pub within : at ≤ length body
   pub few : length made ≤ at
   pub spelled : RecordsSpell spec (records_tree made) (bits (take at body))
-
-pub body_none : (spec : SpecTree) (body : List ℕ) → BodySoFar spec body 0 []
-body_none spec body = record { within = omega arith; few = omega arith; spelled = refl }
 
 pub one_more : (spec : SpecTree) (rs : List EntriesTree) (r : EntriesTree) (x y : List ℕ) → RecordsSpell spec rs x → SpellsRecord spec r y → RecordsSpell spec (rs ++ r ∷ []) (x ++ y)
 one_more spec [] r x y h g = (y, [], ap (λ x. x ++ y) h ∙ sym (append-nil y), g, refl)
@@ -118,20 +115,20 @@ body_fault spec body at made fault h lt g = record {
 -- ---- one answer for a body
 
 module _ (spec : SpecTree) (body : List ℕ) where
-  pub body_err : (at : ℕ) (made : List Record) (e : DecodeError) → BodySoFar spec body at made → at < length body → Names (IsRecordFaultAt spec body at) e → Names (IsBodyFault spec body) e
+  pub body_err : (at : ℕ) (made : List Record) (e : DecodeError) → BodySoFar spec body at made → at < length body → IsFaultOf (IsRecordFaultAt spec body at) e → IsFaultOf (IsBodyFault spec body) e
   body_err at made (Decoding.Fault fault) h lt g = body_fault spec body at made fault h lt g
   body_err at made Decoding.OutOfMemory h lt g = tt
 
-  pub names_passed : {B : Type 0} (r : Result B DecodeError) (e : DecodeError) → IsErrAnd r (λ d. d ≡ e) → Names (IsBodyFault spec body) e → IfErr r (Names (IsBodyFault spec body))
+  pub names_passed : {B : Type 0} (r : Result B DecodeError) (e : DecodeError) → IsErrAnd r (λ d. d ≡ e) → IsFaultOf (IsBodyFault spec body) e → IfErr r (IsFaultOf (IsBodyFault spec body))
   names_passed (Ok b) e h g = absurd h
-  names_passed (Err d) e h g = subst (Names (IsBodyFault spec body)) (sym h) g
+  names_passed (Err d) e h g = subst (IsFaultOf (IsBodyFault spec body)) (sym h) g
 
-  pub err_spelled : {B : Type 0} (P : B → Type 0) (r : Result B DecodeError) (e : DecodeError) → IsErrAnd r (λ d. d ≡ e) → Names (IsBodyFault spec body) e → (rs : List EntriesTree) → SpellsBody spec rs (bits body) → Answers P r
+  pub err_spelled : {B : Type 0} (P : B → Type 0) (r : Result B DecodeError) (e : DecodeError) → IsErrAnd r (λ d. d ≡ e) → IsFaultOf (IsBodyFault spec body) e → (rs : List EntriesTree) → SpellsBody spec rs (bits body) → IsOrMemory P r
   err_spelled P (Ok b) e h g rs s = absurd h
   err_spelled P (Err d) (Decoding.Fault fault) h g rs s = absurd (body_never_both spec (bits body) rs fault.bit fault.cause s g.fails)
   err_spelled P (Err d) Decoding.OutOfMemory h g rs s = h
 
-  pub err_faulty : {B : Type 0} (r : Result B DecodeError) (e : DecodeError) → IsErrAnd r (λ d. d ≡ e) → Names (IsBodyFault spec body) e → (fault : BodyFault) → IsBodyFault spec body fault → AnswersFault fault r
+  pub err_faulty : {B : Type 0} (r : Result B DecodeError) (e : DecodeError) → IsErrAnd r (λ d. d ≡ e) → IsFaultOf (IsBodyFault spec body) e → (fault : BodyFault) → IsBodyFault spec body fault → AnswersFault fault r
   err_faulty (Ok b) e h g fault s = absurd h
   err_faulty (Err d) (Decoding.Fault other) h g fault s =
       let t = body_fails_once spec (bits body) other.bit fault.bit other.cause fault.cause g.fails s.fails in inl (h ∙ (λ i. Decoding.Fault (record { cause = t.1 i; bit = t.0 i })))

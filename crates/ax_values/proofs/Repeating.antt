@@ -106,15 +106,15 @@ part_last all i p body at here end w made vs fx h within e u l none values =
     (parts_end (part_tree p) ps body here end w (fx_bit fx) u l (values_tree vs) (ap fx_bit none) values))
 
 -- after a part with FX 1
-pub behind_part : (p : Part) (left : List Part) (ps : List MembersTree) → map part_tree left ≡ ps → 0 < length left → (q : MembersTree) × (qs : List MembersTree) × (ps ≡ q ∷ qs)
-behind_part p [] ps e lt = absurd (omega arith)
-behind_part p (q ∷ left) ps e lt = (part_tree q, map part_tree left, sym e)
+pub after_part : (p : Part) (left : List Part) (ps : List MembersTree) → map part_tree left ≡ ps → 0 < length left → (q : MembersTree) × (qs : List MembersTree) × (ps ≡ q ∷ qs)
+after_part p [] ps e lt = absurd (omega arith)
+after_part p (q ∷ left) ps e lt = (part_tree q, map part_tree left, sym e)
 
 module _ (all : List Part) (i : ℕ) (p : Part) (body : List ℕ) (at here end w : ℕ) (made : List (List Value)) (vs : List Value) (fx : Bool) (h : PartsSoFar all i body at here made) (within : i < length all) (e : p ≡ get_or all i p)
     (u : IsUnit body here end w (fx_bit fx)) (l : members_width (part_tree p) ≡ w) (one : fx ≡ true) (values : values_tree vs ≡ members_value (part_tree p) (drop (8 * here) (bits body))) where
   part_next : i + 1 < length all → Continues (parts_at (part_tree p ∷ map part_tree (drop (i + 1) all)) body here) here end (λ ls. list_and (values_tree vs) ls) (parts_at (map part_tree (drop (i + 1) all)) body end)
   part_next lt =
-      let t = behind_part p (drop (i + 1) all) (map part_tree (drop (i + 1) all)) refl (omega (arith, length-drop (i + 1) all)) in
+      let t = after_part p (drop (i + 1) all) (map part_tree (drop (i + 1) all)) refl (omega (arith, length-drop (i + 1) all)) in
       subst (λ ps. Continues (parts_at (part_tree p ∷ ps) body here) here end (λ ls. list_and (values_tree vs) ls) (parts_at ps body end)) (sym t.2)
       (parts_go_on (part_tree p) t.0 t.1 body here end w (fx_bit fx) (values_tree vs) u l (ap fx_bit one) values)
 

@@ -19,7 +19,7 @@ use Rattle.ax_model.specs.Canonical.{canon}
 use Rattle.ax_model.specs.CanonicalOctets.{octets_of, framed}
 use Rattle.ax_model.specs.Flaws.{NoFlaw}
 use Rattle.ax_model.specs.InBounds.{InBounds}
-use Rattle.ax_model.specs.Lengths.{kind_of_slot, kind_behind, slot_kind}
+use Rattle.ax_model.specs.Lengths.{kind_of_slot, kind_after, slot_kind}
 use Rattle.ax_model.specs.Lookup.{item_of_frn, item_of_slot}
 use Rattle.ax_model.specs.Plain.{kind_tree, item_tree, spec_tree, record_tree, records_tree}
 use Rattle.ax_model.specs.Shape.{Shape}
@@ -34,20 +34,12 @@ use Rattle.ax_values.proofs.Written.{written_none, written_more, written_all, wr
 use Rattle.ax_values.proofs.WrittenKinds.{from_place}
 use Rattle.ax_reader.specs.Reading.{slot_of_frn}
 use Rattle.ax_values.specs.Writing.{IsWrittenTo, EntryShape, entry_canon, AreEntriesOf}
+use Rattle.ax_model.proofs.ItemKinds.{kind_in_slot, kind_of_item, kind_of_frn}
 
 -- ---- items by field reference number
 
-kind_at_place : (items : List Item) (uap : List UapSlot) (i : ℕ) → kind_behind i (slots_of (map (uap_slot (map item_tree items)) uap)) ≡ kind_of_slot (slot_of_item (option_map item_tree (item_of_slot (slice_get uap i) items)))
-kind_at_place items [] i = refl
-kind_at_place items (u ∷ uap) zero = ap kind_of_slot (uap_slot_tree items u)
-kind_at_place items (u ∷ uap) (suc i) = kind_at_place items uap i
-
-kind_of_frn : (spec : Spec) (t : ℕ) → slot_kind (record_slots (spec_tree spec)) t ≡ kind_of_slot (slot_of_frn t spec)
-kind_of_frn spec zero = refl
-kind_of_frn spec (suc i) = kind_at_place spec.items spec.uap i
-
 found : (spec : Spec) (t : ℕ) (o : Option Item) → o ≡ item_of_frn t spec.uap spec.items → slot_kind (record_slots (spec_tree spec)) t ≡ kind_of_slot (slot_of_item (option_map item_tree o))
-found spec t o e = kind_of_frn spec t ∙ ap (λ o. kind_of_slot (slot_of_item (option_map item_tree o))) (sym e)
+found spec t o e = kind_of_frn spec t ∙ ap kind_of_item (sym e) ∙ sym (kind_in_slot o)
 
 pub item_bounds : (spec : Spec) (t : ℕ) (item : Item) (v : ValueTree) → Some item ≡ item_of_frn t spec.uap spec.items → EntryShape (slot_kind (record_slots (spec_tree spec)) t) v → InBounds (kind_tree item.kind)
 item_bounds spec t item v e h = (subst (λ o. EntryShape o v) (found spec t (Some item) e) h).0

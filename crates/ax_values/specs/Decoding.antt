@@ -4,6 +4,7 @@ use Rattle.ax_bits.specs.Bits.{bits}
 use Rattle.ax_model.specs.Blocks.{BlockTree, read_block, opaque_block, IsFramed}
 use Rattle.ax_model.specs.Bodies.{SpellsRecord, FailsRecord, SpellsBody, FailsBody}
 use Rattle.ax_model.specs.Plain.{spec_tree, block_tree}
+use Rattle.ax_model.specs.Sizes.{longest_body}
 use Rattle.ax_model.specs.Specification.{SpecTree}
 use Rattle.ax_model.specs.Tree.{EntriesTree}
 use Rattle.ax_model.specs.declared.fault.BodyFault.{BodyFault}
@@ -38,9 +39,9 @@ pub record IsBodyFault (spec : SpecTree) (body : List ℕ) (fault : BodyFault) :
 -- ---- answers; want of memory may stand in place of any
 
 -- the answer is good
-abbrev pub Answers : {A : Type 0} → (A → Type 0) → Result A DecodeError → Type 0
-Answers P (Ok a) = P a
-Answers P (Err e) = e ≡ Decoding.OutOfMemory
+abbrev pub IsOrMemory : {A : Type 0} → (A → Type 0) → Result A DecodeError → Type 0
+IsOrMemory P (Ok a) = P a
+IsOrMemory P (Err e) = e ≡ Decoding.OutOfMemory
 
 -- the answer is this fault
 abbrev pub AnswersFault : {A : Type 0} → BodyFault → Result A DecodeError → Type 0
@@ -48,16 +49,16 @@ AnswersFault fault (Ok a) = ⊥
 AnswersFault fault (Err e) = (e ≡ Decoding.Fault fault) ⊎ (e ≡ Decoding.OutOfMemory)
 
 -- a fault that the error names is such a one
-abbrev pub Names : (BodyFault → Type 0) → DecodeError → Type 0
-Names F (Decoding.Fault fault) = F fault
-Names F Decoding.OutOfMemory = Unit {0}
+abbrev pub IsFaultOf : (BodyFault → Type 0) → DecodeError → Type 0
+IsFaultOf F (Decoding.Fault fault) = F fault
+IsFaultOf F Decoding.OutOfMemory = Unit {0}
 
 -- ---- a block
 
 -- what reading a block of this category and body may answer, where it is opaque, and where its body spells records
 pub record DecodesAs (spec : Spec) (category : ℕ) (body : List ℕ) (answer : Result Block DecodeError) : Type 0 where
-  pub opaque : category ≢ spec.category → Answers (λ block. block_tree block ≡ opaque_block category body) answer
-  pub where_spelled : (records : List EntriesTree) → category ≡ spec.category → SpellsBody (spec_tree spec) records (bits body) → Answers (λ block. block_tree block ≡ read_block category records) answer
+  pub opaque : category ≢ spec.category → IsOrMemory (λ block. block_tree block ≡ opaque_block category body) answer
+  pub where_spelled : (records : List EntriesTree) → category ≡ spec.category → SpellsBody (spec_tree spec) records (bits body) → IsOrMemory (λ block. block_tree block ≡ read_block category records) answer
 
 -- the octets are a block's, and reading them gives this block
 pub record ReadsBack (spec : Spec) (block : Block) (octets : List ℕ) : Type 0 where
@@ -65,5 +66,5 @@ pub record ReadsBack (spec : Spec) (block : Block) (octets : List ℕ) : Type 0 
   pub body : List ℕ
   pub framed : IsFramed category body octets
   pub some : 1 ≤ length body
-  pub few : length body ≤ 65532
-  pub same : (answer : Result Block DecodeError) → DecodesAs spec category body answer → Answers (λ again. block_tree again ≡ block_tree block) answer
+  pub few : length body ≤ longest_body
+  pub same : (answer : Result Block DecodeError) → DecodesAs spec category body answer → IsOrMemory (λ again. block_tree again ≡ block_tree block) answer

@@ -1,3 +1,3 @@
-pub mod Reading
+pub mod SlotReading
 pub mod Decoding
 pub mod Writing

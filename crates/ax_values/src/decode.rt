@@ -6,11 +6,12 @@ ghost use Rattle.ax_model.specs.Bodies.{SpellsBody};
 ghost use Rattle.ax_model.specs.Flaws.{NoFlaw};
 ghost use Rattle.ax_model.specs.InBounds.{InBounds};
 ghost use Rattle.ax_model.specs.Plain.{kind_tree, value_tree, spec_tree, record_tree, records_tree, block_tree};
+ghost use Rattle.ax_model.specs.Sizes.{longest_body};
 ghost use Rattle.ax_model.specs.Tree.{ValueTree, EntriesTree};
 ghost use Rattle.ax_model.specs.declared.fault.BodyFault.{BodyFault};
 ghost use Rattle.ax_reader.specs.Honest.{SpellRecords, BeginWithValue, BeginWithRecord, IsHonest, IsHonestAt};
 ghost use Rattle.ax_reader.specs.Reading.{IsSpelledAt, IsFaultAt};
-ghost use Rattle.ax_values.specs.Decoding.{IsRecordAt, IsRecordFaultAt, IsReadOf, IsBodyFault, Answers, AnswersFault, Names};
+ghost use Rattle.ax_values.specs.Decoding.{IsRecordAt, IsRecordFaultAt, IsReadOf, IsBodyFault, IsOrMemory, AnswersFault, IsFaultOf};
 ghost use Rattle.ax_reader.specs.Reading.{IsMaskOf, record_slot_list};
 
 use crate::error::DecodeError;
@@ -36,12 +37,12 @@ pub fn decode_kind(
     at: u32,
 ) -> Result<(Value, u32), DecodeError>
     requires kind { InBounds (kind_tree kind.now) }
-    requires body { length body.now ≤ 65532 }
+    requires body { length body.now ≤ longest_body }
     requires at { at ≤ length body.now }
     ensures value { IfOk result (λ r. IsSpelledAt (kind_tree kind.now) body.now at r.1 (value_tree r.0)) }
-    ensures fault { IfErr result (Names (IsFaultAt (kind_tree kind.now) body.now at)) }
-    ensures honest { IfErr result (Names (IsHonestAt (BeginWithValue (kind_tree kind.now)) body.now at)) }
-    ensures where_spelled { (v : ValueTree) (end : ℕ) → IsSpelledAt (kind_tree kind.now) body.now at end v → Answers (λ r. (value_tree r.0 ≡ v) × (r.1 ≡ end)) result }
+    ensures fault { IfErr result (IsFaultOf (IsFaultAt (kind_tree kind.now) body.now at)) }
+    ensures honest { IfErr result (IsFaultOf (IsHonestAt (BeginWithValue (kind_tree kind.now)) body.now at)) }
+    ensures where_spelled { (v : ValueTree) (end : ℕ) → IsSpelledAt (kind_tree kind.now) body.now at end v → IsOrMemory (λ r. (value_tree r.0 ≡ v) × (r.1 ≡ end)) result }
     ensures where_faulty { (fault : BodyFault) → IsFaultAt (kind_tree kind.now) body.now at fault → AnswersFault fault result }
 {
     decode_value(alloc, kind, body, at)
@@ -57,12 +58,12 @@ pub fn decode_record(
     at: u32,
 ) -> Result<(Record, u32), DecodeError>
     requires spec { NoFlaw (spec_tree spec.now) }
-    requires body { length body.now ≤ 65532 }
+    requires body { length body.now ≤ longest_body }
     requires at { at ≤ length body.now }
     ensures record { IfOk result (λ r. IsRecordAt (spec_tree spec.now) body.now at r.1 (record_tree r.0)) }
-    ensures fault { IfErr result (Names (IsRecordFaultAt (spec_tree spec.now) body.now at)) }
-    ensures honest { IfErr result (Names (IsHonestAt (BeginWithRecord (spec_tree spec.now)) body.now at)) }
-    ensures where_spelled { (entries : EntriesTree) (end : ℕ) → IsRecordAt (spec_tree spec.now) body.now at end entries → Answers (λ r. (record_tree r.0 ≡ entries) × (r.1 ≡ end)) result }
+    ensures fault { IfErr result (IsFaultOf (IsRecordFaultAt (spec_tree spec.now) body.now at)) }
+    ensures honest { IfErr result (IsFaultOf (IsHonestAt (BeginWithRecord (spec_tree spec.now)) body.now at)) }
+    ensures where_spelled { (entries : EntriesTree) (end : ℕ) → IsRecordAt (spec_tree spec.now) body.now at end entries → IsOrMemory (λ r. (record_tree r.0 ≡ entries) × (r.1 ≡ end)) result }
     ensures where_faulty { (fault : BodyFault) → IsRecordFaultAt (spec_tree spec.now) body.now at fault → AnswersFault fault result }
 {
     decode_masked(alloc, spec, &record_mask(spec), body, at)
@@ -78,11 +79,11 @@ pub fn decode_record(
 /// that spell records: none of them tells a fault.
 pub fn decode_block(alloc: Global, spec: &Spec, raw: &RawBlock<'_>) -> Result<Block, DecodeError>
     requires spec { NoFlaw (spec_tree spec.now) }
-    ensures opaque { raw.now.category ≢ spec.now.category → Answers (λ block. block_tree block ≡ opaque_block raw.now.category raw.now.body.now) result }
+    ensures opaque { raw.now.category ≢ spec.now.category → IsOrMemory (λ block. block_tree block ≡ opaque_block raw.now.category raw.now.body.now) result }
     ensures read { raw.now.category ≡ spec.now.category → IfOk result (λ block. IsReadOf (spec_tree spec.now) raw.now.category raw.now.body.now (block_tree block)) }
-    ensures fault { IfErr result (Names (λ fault. (raw.now.category ≡ spec.now.category) × IsBodyFault (spec_tree spec.now) raw.now.body.now fault)) }
-    ensures honest { IfErr result (Names (λ fault. IsHonest (SpellRecords (spec_tree spec.now)) raw.now.body.now fault.bit fault.cause)) }
-    ensures where_spelled { (records : List EntriesTree) → raw.now.category ≡ spec.now.category → SpellsBody (spec_tree spec.now) records (bits raw.now.body.now) → Answers (λ block. block_tree block ≡ read_block raw.now.category records) result }
+    ensures fault { IfErr result (IsFaultOf (λ fault. (raw.now.category ≡ spec.now.category) × IsBodyFault (spec_tree spec.now) raw.now.body.now fault)) }
+    ensures honest { IfErr result (IsFaultOf (λ fault. IsHonest (SpellRecords (spec_tree spec.now)) raw.now.body.now fault.bit fault.cause)) }
+    ensures where_spelled { (records : List EntriesTree) → raw.now.category ≡ spec.now.category → SpellsBody (spec_tree spec.now) records (bits raw.now.body.now) → IsOrMemory (λ block. block_tree block ≡ read_block raw.now.category records) result }
     ensures where_faulty { (fault : BodyFault) → raw.now.category ≡ spec.now.category → IsBodyFault (spec_tree spec.now) raw.now.body.now fault → AnswersFault fault result }
 {
     if raw.category != spec.category {
@@ -102,10 +103,10 @@ pub fn decode_block(alloc: Global, spec: &Spec, raw: &RawBlock<'_>) -> Result<Bl
 /// The records of a body.
 fn decode_body(alloc: Global, spec: &Spec, body: &[u8]) -> Result<Records, DecodeError>
     requires spec { NoFlaw (spec_tree spec.now) }
-    requires body { length body.now ≤ 65532 }
+    requires body { length body.now ≤ longest_body }
     requires some { 1 ≤ length body.now }
     ensures records { IfOk result (λ records. SpellsBody (spec_tree spec.now) (records_tree records) (bits body.now)) }
-    ensures fault { IfErr result (Names (IsBodyFault (spec_tree spec.now) body.now)) }
+    ensures fault { IfErr result (IsFaultOf (IsBodyFault (spec_tree spec.now) body.now)) }
 {
     let mask = record_mask(spec);
     let mut made = Records::new(alloc);
@@ -128,11 +129,11 @@ fn decode_masked(
 ) -> Result<(Record, u32), DecodeError>
     requires spec { NoFlaw (spec_tree spec.now) }
     requires mask { IsMaskOf (record_slot_list (spec_tree spec.now)) mask.now }
-    requires body { length body.now ≤ 65532 }
+    requires body { length body.now ≤ longest_body }
     requires at { at ≤ length body.now }
     ensures record { IfOk result (λ r. IsRecordAt (spec_tree spec.now) body.now at r.1 (record_tree r.0)) }
-    ensures fault { IfErr result (Names (IsRecordFaultAt (spec_tree spec.now) body.now at)) }
-    ensures where_spelled { (entries : EntriesTree) (end : ℕ) → IsRecordAt (spec_tree spec.now) body.now at end entries → Answers (λ r. (record_tree r.0 ≡ entries) × (r.1 ≡ end)) result }
+    ensures fault { IfErr result (IsFaultOf (IsRecordFaultAt (spec_tree spec.now) body.now at)) }
+    ensures where_spelled { (entries : EntriesTree) (end : ℕ) → IsRecordAt (spec_tree spec.now) body.now at end entries → IsOrMemory (λ r. (record_tree r.0 ≡ entries) × (r.1 ≡ end)) result }
     ensures where_faulty { (fault : BodyFault) → IsRecordFaultAt (spec_tree spec.now) body.now at fault → AnswersFault fault result }
 {
     decode_entries(alloc, spec, mask, body, at)

@@ -3,8 +3,9 @@ ghost use Rattle.std.specs.Prelude.{◌≡◌, ◌+◌, ◌*◌, ◌<◌, ◌≤
 ghost use Rattle.ax_bits.specs.Bits.{bits, word, AreOctets};
 ghost use Rattle.ax_bits.specs.Out.{Appends, room};
 ghost use Rattle.ax_model.specs.CanonicalOctets.{framed};
-ghost use Rattle.ax_model.specs.Lengths.{held};
+ghost use Rattle.ax_model.specs.Lengths.{capped};
 ghost use Rattle.ax_model.specs.OfCode.{HasNoFlaw, BlockFits, block_octets, block_length};
+ghost use Rattle.ax_model.specs.Sizes.{longest_block, longest_body};
 ghost use Rattle.ax_values.specs.Decoding.{ReadsBack};
 ghost use Rattle.ax_values.specs.declared.error.EncodeError.TheVariants as Encoding;
 
@@ -16,15 +17,15 @@ use ax_uap::UapItems;
 use std::alloc::{AllocError, Global};
 
 /// The canonical form of a block that fits a specification without flaw: CAT, LEN and the records, each presence field
-/// the least; reading it gives the block back. TooLong comes exactly where it has more than 65,535 octets, with their number, held at 2^64 - 1. Takes
+/// the least; reading it gives the block back. TooLong comes exactly where it has more than 65,535 octets, with their number, capped at 2^64 - 1. Takes
 /// the room of the octets once, and looks each item of the UAP up once.
 pub fn encode_block(alloc: Global, spec: &Spec, block: &Block) -> Result<Vec<u8>, EncodeError>
     requires no_flaw { HasNoFlaw spec.now }
     requires block_fits { BlockFits spec.now block.now }
     ensures octets { IfOk result (λ made. made.items ≡ block_octets spec.now block.now) }
     ensures reads_back { IfOk result (λ made. ReadsBack spec.now block.now made.items) }
-    ensures too_long { 65535 < block_length spec.now block.now ↔ IsErrOf result (Encoding.TooLong (held (block_length spec.now block.now))) }
-    ensures error { IfErr result (λ e. (e ≡ Encoding.TooLong (held (block_length spec.now block.now))) ⊎ (e ≡ Encoding.OutOfMemory)) }
+    ensures too_long { longest_block < block_length spec.now block.now ↔ IsErrOf result (Encoding.TooLong (capped (block_length spec.now block.now))) }
+    ensures error { IfErr result (λ e. (e ≡ Encoding.TooLong (capped (block_length spec.now block.now))) ⊎ (e ≡ Encoding.OutOfMemory)) }
 {
     let length = canon_length(spec, block);
     if length > 65_535 {
@@ -46,7 +47,7 @@ pub fn encode_of_length(
     requires no_flaw { HasNoFlaw items.now.spec.now }
     requires block_fits { BlockFits items.now.spec.now block.now }
     requires length { length ≡ block_length items.now.spec.now block.now }
-    requires small { length ≤ 65535 }
+    requires small { length ≤ longest_block }
     ensures { IfOk result (λ made. made.items ≡ block_octets items.now.spec.now block.now) }
 {
     let mut buffer = zeros(alloc, length)?;
@@ -66,7 +67,7 @@ fn fill(block: &Block, items: &UapItems<'_>, buffer: &mut [u8])
     requires no_flaw { HasNoFlaw items.now.spec.now }
     requires block_fits { BlockFits items.now.spec.now block.now }
     requires length { length buffer.old ≡ block_length items.now.spec.now block.now }
-    requires small { length buffer.old ≤ 65535 }
+    requires small { length buffer.old ≤ longest_block }
     ensures { buffer.new ≡ block_octets items.now.spec.now block.now }
 {
     write_over(block, items, buffer);
@@ -77,7 +78,7 @@ fn write_over(block: &Block, items: &UapItems<'_>, buffer: &mut [u8])
     requires no_flaw { HasNoFlaw items.now.spec.now }
     requires block_fits { BlockFits items.now.spec.now block.now }
     requires length { length buffer.old ≡ block_length items.now.spec.now block.now }
-    requires small { length buffer.old ≤ 65535 }
+    requires small { length buffer.old ≤ longest_block }
     ensures bits { bits buffer.new ≡ bits (block_octets items.now.spec.now block.now) }
     ensures octets { AreOctets (block_octets items.now.spec.now block.now) }
 {
@@ -109,7 +110,7 @@ fn write_block(block: &Block, items: &UapItems<'_>, length: u16, out: &mut Out<'
 /// Appends a block of a category without a specification: CAT, LEN, and at most 65,532 octets as they are.
 #[tactic(auto, using(crate::proofs::WrittenBlocks::opaque_blocks))]
 pub fn write_opaque(category: u8, octets: &[u8], out: &mut Out<'_>)
-    requires few { length octets.now ≤ 65532 }
+    requires few { length octets.now ≤ longest_body }
     requires room { 24 + 8 * length octets.now ≤ room out.old }
     ensures written { Appends out.old out.new (bits (framed category octets.now)) }
     ensures octets { AreOctets (framed category octets.now) }

@@ -37,7 +37,7 @@ impl From<BodyFault> for DecodeError {
 /// Why a block has no octets.
 #[derive(Debug, Drop, Error)]
 pub enum EncodeError {
-    /// Its canonical form has that many octets, held at 2^64 - 1, where a block has at most 65,535.
+    /// Its canonical form has that many octets, capped at 2^64 - 1, where a block has at most 65,535.
     #[error("the block has {octets} octets")]
     TooLong { octets: u64 },
     /// No memory was left for the octets.

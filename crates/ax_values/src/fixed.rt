@@ -4,6 +4,7 @@ ghost use Rattle.ax_bits.specs.Bits.{bits, number_of};
 ghost use Rattle.ax_model.specs.Reader.{fixed_value, members_value};
 ghost use Rattle.ax_model.specs.InBounds.{IsWidth, FixedInBounds, MembersInBounds};
 ghost use Rattle.ax_model.specs.Plain.{fixed_tree, member_tree, members_tree, value_tree, values_tree};
+ghost use Rattle.ax_model.specs.Sizes.{longest_body};
 ghost use Rattle.ax_model.specs.Tree.{number, member_and, no_members, value_and, no_values};
 ghost use Rattle.ax_model.specs.Widths.{width, members_width};
 
@@ -15,7 +16,7 @@ use std::alloc::{AllocError, Global};
 fn decode_number(body: &[u8], at: &mut u32, width: u32) -> u128
     requires width { IsWidth width }
     requires within { at.old + width ≤ 8 * length body.now }
-    requires body { length body.now ≤ 65532 }
+    requires body { length body.now ≤ longest_body }
     ensures value { number result ≡ number (number_of (take width (drop at.old (bits body.now)))) }
     ensures at { at.new ≡ at.old + width }
 {
@@ -34,7 +35,7 @@ pub(crate) fn decode_fixed(
 ) -> Result<Value, AllocError>
     requires bounds { FixedInBounds (fixed_tree fixed.now) }
     requires within { at.old + width (fixed_tree fixed.now) ≤ 8 * length body.now }
-    requires body { length body.now ≤ 65532 }
+    requires body { length body.now ≤ longest_body }
     ensures value { IfOk result (λ value. value_tree value ≡ fixed_value (fixed_tree fixed.now) (drop at.old (bits body.now))) }
     ensures at { OnOk result (at.new ≡ at.old + width (fixed_tree fixed.now)) }
 {
@@ -58,7 +59,7 @@ pub(crate) fn decode_members(
 ) -> Result<Values, AllocError>
     requires bounds { MembersInBounds (members_tree members.now) }
     requires within { at.old + members_width (members_tree members.now) ≤ 8 * length body.now }
-    requires body { length body.now ≤ 65532 }
+    requires body { length body.now ≤ longest_body }
     ensures values { IfOk result (λ values. values_tree values ≡ members_value (members_tree members.now) (drop at.old (bits body.now))) }
     ensures at { OnOk result (at.new ≡ at.old + members_width (members_tree members.now)) }
 {
@@ -79,7 +80,7 @@ fn decode_member(
 ) -> Result<Value, AllocError>
     requires bounds { MembersInBounds (member_and (member_tree member.now) no_members) }
     requires within { at.old + members_width (member_and (member_tree member.now) no_members) ≤ 8 * length body.now }
-    requires body { length body.now ≤ 65532 }
+    requires body { length body.now ≤ longest_body }
     ensures value { IfOk result (λ value. value_and (value_tree value) no_values ≡ members_value (member_and (member_tree member.now) no_members) (drop at.old (bits body.now))) }
     ensures at { OnOk result (at.new ≡ at.old + members_width (member_and (member_tree member.now) no_members)) }
 {

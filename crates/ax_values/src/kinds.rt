@@ -3,10 +3,11 @@ ghost use Rattle.std.specs.Prelude.{◌≡◌, ◌+◌, ◌*◌, ◌<◌, ◌≤
 ghost use Rattle.ax_bits.specs.Bits.{AreBits};
 ghost use Rattle.ax_model.specs.InBounds.{InBounds, SlotsInBounds};
 ghost use Rattle.ax_model.specs.Plain.{kind_tree, slot_tree, slots_tree, value_tree, values_tree, entries_tree};
+ghost use Rattle.ax_model.specs.Sizes.{longest_body};
 ghost use Rattle.ax_model.specs.Tree as Tree;
 ghost use Rattle.ax_model.specs.declared.fault.BodyCause.TheVariants as Cause;
 ghost use Rattle.ax_reader.specs.Reading.{Gets, SlotInBounds, kind_read, entries_at};
-ghost use Rattle.ax_values.specs.Reading.{HasFailed, IsSlotRead, HasSlotFailed};
+ghost use Rattle.ax_values.specs.SlotReading.{HasFailed, IsSlotRead, HasSlotFailed};
 
 use crate::error::DecodeError;
 use crate::slots::slots_mask;
@@ -24,7 +25,7 @@ pub(crate) fn decode_value(
     at: u32,
 ) -> Result<(Value, u32), DecodeError>
     requires bounds { InBounds (kind_tree kind.now) }
-    requires body { length body.now ≤ 65532 }
+    requires body { length body.now ≤ longest_body }
     requires at { at ≤ length body.now }
     ensures ok { IfOk result (λ r. Gets (kind_read (kind_tree kind.now) body.now at) body.now at r.1 (value_tree r.0)) }
     ensures err { IfErr result (λ e. HasFailed (kind_read (kind_tree kind.now) body.now at) at e) }
@@ -56,7 +57,7 @@ pub(crate) fn decode_value(
 
 /// The octet `at` of the body. RunsOut at its first bit where there is none.
 pub fn octet_at(body: &[u8], at: u32) -> Result<u8, BodyFault>
-    requires body { length body.now ≤ 65532 }
+    requires body { length body.now ≤ longest_body }
     requires at { at ≤ length body.now }
     ensures ok { IfOk result (λ octet. (at < length body.now) × (octet ≡ get_or body.now at 0)) }
     ensures short { IfErr result (λ fault. length body.now ≤ at) }
@@ -81,7 +82,7 @@ fn decode_counted(
     at: u32,
 ) -> Result<(Values, u32), DecodeError>
     requires bounds { InBounds (kind_tree inner.now) }
-    requires body { length body.now ≤ 65532 }
+    requires body { length body.now ≤ longest_body }
     requires at { at ≤ length body.now }
     ensures ok { IfOk result (λ r. Gets (kind_read (Tree.counted (kind_tree inner.now)) body.now at) body.now at r.1 (Tree.occurrences (values_tree r.0))) }
     ensures err { IfErr result (λ e. HasFailed (kind_read (Tree.counted (kind_tree inner.now)) body.now at) at e) }
@@ -99,7 +100,7 @@ fn decode_counted(
 
 /// The content of an explicit item, and the octet after it.
 fn decode_explicit(alloc: Global, body: &[u8], at: u32) -> Result<(Octets, u32), DecodeError>
-    requires body { length body.now ≤ 65532 }
+    requires body { length body.now ≤ longest_body }
     requires at { at ≤ length body.now }
     ensures ok { IfOk result (λ r. Gets (kind_read Tree.explicit body.now at) body.now at r.1 (Tree.content_octets r.0)) }
     ensures err { IfErr result (λ e. HasFailed (kind_read Tree.explicit body.now at) at e) }
@@ -124,7 +125,7 @@ fn decode_explicit(alloc: Global, body: &[u8], at: u32) -> Result<(Octets, u32),
 
 /// A list of the octets.
 pub(crate) fn copy_octets(alloc: Global, octets: &[u8]) -> Result<Octets, AllocError>
-    requires { length octets.now ≤ 65532 }
+    requires { length octets.now ≤ longest_body }
     ensures { IfOk result (λ made. made ≡ octets.now) }
 {
     let mut made = Octets::new(alloc);
@@ -144,7 +145,7 @@ fn decode_compound(
     at: u32,
 ) -> Result<(Entries, u32), DecodeError>
     requires bounds { InBounds (Tree.compound (slots_tree slots.now)) }
-    requires body { length body.now ≤ 65532 }
+    requires body { length body.now ≤ longest_body }
     requires at { at ≤ length body.now }
     ensures ok { IfOk result (λ r. Gets (kind_read (Tree.compound (slots_tree slots.now)) body.now at) body.now at r.1 (Tree.marked (entries_tree r.0))) }
     ensures err { IfErr result (λ e. HasFailed (kind_read (Tree.compound (slots_tree slots.now)) body.now at) at e) }
@@ -167,7 +168,7 @@ fn decode_marked(
     requires bounds { SlotsInBounds (slots_tree slots.now) }
     requires few { length slots.now ≤ 126 }
     requires marks { AreBits marked.now }
-    requires body { length body.now ≤ 65532 }
+    requires body { length body.now ≤ longest_body }
     requires at { at ≤ length body.now }
     ensures ok { IfOk result (λ r. Gets (entries_at (slots_tree slots.now) marked.now body.now at) body.now at r.1 (entries_tree r.0)) }
     ensures err { IfErr result (λ e. HasFailed (entries_at (slots_tree slots.now) marked.now body.now at) at e) }
@@ -195,7 +196,7 @@ fn decode_slot(
     into: &mut Entries,
 ) -> Result<u32, DecodeError>
     requires bounds { SlotInBounds (slot_tree slot.now) }
-    requires body { length body.now ≤ 65532 }
+    requires body { length body.now ≤ longest_body }
     requires at { at ≤ length body.now }
     requires room { length into.old < 126 }
     ensures ok { IfOk result (λ end. IsSlotRead (slot_tree slot.now) number body.now at end into.old into.new) }

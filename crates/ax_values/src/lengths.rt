@@ -1,6 +1,6 @@
 //! How many octets the canonical form of a block has, over the items of a UAP. Nothing here takes memory.
 ghost use Rattle.std.specs.Prelude.{◌≡◌};
-ghost use Rattle.ax_model.specs.Lengths.{held, octets, octets_where, slot_kind, presence_octets, record_octets, records_octets};
+ghost use Rattle.ax_model.specs.Lengths.{capped, octets, octets_where, slot_kind, presence_octets, record_octets, records_octets};
 ghost use Rattle.ax_model.specs.OfCode.{BlockFits, HasNoFlaw, block_length};
 ghost use Rattle.ax_model.specs.Plain.{spec_tree, value_tree};
 ghost use Rattle.ax_model.specs.Specification.{record_slots};
@@ -17,7 +17,7 @@ fn presence_octets_of(last: u32) -> u64
 
 #[tactic(auto, using(ax_model::proofs::Counting::item_kinds))]
 fn octets_of_item(items: &UapItems<'_>, entry: &Entry) -> u64
-    ensures { result ≡ held (octets_where (slot_kind (record_slots (spec_tree items.now.spec.now)) entry.now.slot) (octets (value_tree entry.now.value))) }
+    ensures { result ≡ capped (octets_where (slot_kind (record_slots (spec_tree items.now.spec.now)) entry.now.slot) (octets (value_tree entry.now.value))) }
 {
     match items.item(entry.slot) {
         Some(item) => octets_of(&entry.value, &item.kind),
@@ -28,7 +28,7 @@ fn octets_of_item(items: &UapItems<'_>, entry: &Entry) -> u64
 /// The octets of a record: of its FSPEC, then of its items.
 #[tactic(auto, using(ax_model::proofs::Counting::entries))]
 fn octets_of_record(items: &UapItems<'_>, one: &Record) -> u64
-    ensures { result ≡ held (record_octets items.now.spec.now one.now) }
+    ensures { result ≡ capped (record_octets items.now.spec.now one.now) }
 {
     let mut last: u32 = 1;
     let mut total: u64 = 0;
@@ -41,7 +41,7 @@ fn octets_of_record(items: &UapItems<'_>, one: &Record) -> u64
 
 #[tactic(auto, using(ax_model::proofs::Counting::records))]
 fn octets_of_records(items: &UapItems<'_>, records: &[Record]) -> u64
-    ensures { result ≡ held (records_octets items.now.spec.now records.now) }
+    ensures { result ≡ capped (records_octets items.now.spec.now records.now) }
 {
     let mut total: u64 = 0;
     for one in records {
@@ -50,13 +50,13 @@ fn octets_of_records(items: &UapItems<'_>, records: &[Record]) -> u64
     total
 }
 
-/// The octets of the block's canonical form, CAT and LEN included, held at 2^64 - 1 where there are more, as `canon_length`
+/// The octets of the block's canonical form, CAT and LEN included, capped at 2^64 - 1 where there are more, as `canon_length`
 /// of the specification gives them. The specification has no flaw, and the block fits it.
 #[tactic(auto, using(ax_model::proofs::BlockLengths::blocks))]
 pub fn length_over(items: &UapItems<'_>, block: &Block) -> u64
     requires no_flaw { HasNoFlaw items.now.spec.now }
     requires block_fits { BlockFits items.now.spec.now block.now }
-    ensures { result ≡ held (block_length items.now.spec.now block.now) }
+    ensures { result ≡ capped (block_length items.now.spec.now block.now) }
 {
     match block {
         Block::Read { records, .. } => {

@@ -3,10 +3,11 @@ ghost use Rattle.std.specs.Prelude.{◌≡◌, ◌+◌, ◌-◌, ◌<◌, ◌≤
 ghost use Rattle.ax_bits.specs.Bits.{AreBits};
 ghost use Rattle.ax_model.specs.Flaws.{NoFlaw};
 ghost use Rattle.ax_model.specs.Plain.{spec_tree, entries_tree, record_tree};
+ghost use Rattle.ax_model.specs.Sizes.{longest_body};
 ghost use Rattle.ax_model.specs.Specification.{record_slots, record_kind};
 ghost use Rattle.ax_model.specs.Tree.{marked};
 ghost use Rattle.ax_reader.specs.Reading.{Gets, IsMaskOf, SlotInBounds, is_subitem, record_slot_list, slot_of_frn, kind_read, entries_at};
-ghost use Rattle.ax_values.specs.Reading.{HasFailed, IsSlotRead, HasSlotFailed};
+ghost use Rattle.ax_values.specs.SlotReading.{HasFailed, IsSlotRead, HasSlotFailed};
 
 use crate::error::DecodeError;
 use crate::kinds::decode_value;
@@ -48,7 +49,7 @@ pub(crate) fn decode_entries(
 ) -> Result<(Record, u32), DecodeError>
     requires spec { NoFlaw (spec_tree spec.now) }
     requires mask { IsMaskOf (record_slot_list (spec_tree spec.now)) mask.now }
-    requires body { length body.now ≤ 65532 }
+    requires body { length body.now ≤ longest_body }
     requires at { at ≤ length body.now }
     ensures ok { IfOk result (λ r. Gets (kind_read (record_kind (spec_tree spec.now)) body.now at) body.now at r.1 (marked (record_tree r.0))) }
     ensures err { IfErr result (λ e. HasFailed (kind_read (record_kind (spec_tree spec.now)) body.now at) at e) }
@@ -70,7 +71,7 @@ fn decode_marked(
 ) -> Result<(Entries, u32), DecodeError>
     requires spec { NoFlaw (spec_tree spec.now) }
     requires marks { AreBits marked.now }
-    requires body { length body.now ≤ 65532 }
+    requires body { length body.now ≤ longest_body }
     requires at { at ≤ length body.now }
     ensures ok { IfOk result (λ r. Gets (entries_at (record_slots (spec_tree spec.now)) marked.now body.now at) body.now at r.1 (entries_tree r.0)) }
     ensures err { IfErr result (λ e. HasFailed (entries_at (record_slots (spec_tree spec.now)) marked.now body.now at) at e) }
@@ -95,7 +96,7 @@ fn decode_item(
     into: &mut Entries,
 ) -> Result<u32, DecodeError>
     requires bounds { SlotInBounds (slot_of_frn frn spec.now) }
-    requires body { length body.now ≤ 65532 }
+    requires body { length body.now ≤ longest_body }
     requires at { at ≤ length body.now }
     requires room { length into.old < 126 }
     ensures ok { IfOk result (λ end. IsSlotRead (slot_of_frn frn spec.now) frn body.now at end into.old into.new) }

@@ -3,10 +3,11 @@ ghost use Rattle.std.specs.Prelude.{◌≡◌, ◌+◌, ◌-◌, ◌*◌, ◌%�
 ghost use Rattle.ax_bits.specs.Bits.{bits};
 ghost use Rattle.ax_model.specs.InBounds.{InBounds};
 ghost use Rattle.ax_model.specs.Plain.{fixed_tree, part_tree, value_tree, values_tree, lists_tree};
+ghost use Rattle.ax_model.specs.Sizes.{longest_body};
 ghost use Rattle.ax_model.specs.Tree as Tree;
 ghost use Rattle.ax_model.specs.declared.fault.BodyCause.TheVariants as Cause;
 ghost use Rattle.ax_reader.specs.Reading.{Gets, kind_read, fx_bit};
-ghost use Rattle.ax_values.specs.Reading.{HasFailed};
+ghost use Rattle.ax_values.specs.SlotReading.{HasFailed};
 
 use crate::error::DecodeError;
 use crate::fixed::{decode_fixed, decode_members};
@@ -18,7 +19,7 @@ use std::alloc::Global;
 /// doesn't fit.
 pub fn unit_end(body: &[u8], at: u32, width: u32) -> Result<u32, BodyFault>
     requires width { (width % 8 ≡ 0) × (width ≤ 524264) }
-    requires body { length body.now ≤ 65532 }
+    requires body { length body.now ≤ longest_body }
     requires at { at ≤ length body.now }
     ensures ok { IfOk result (λ end. (at ≤ end) × (end ≤ length body.now) × (width ≡ 8 * (end - at))) }
     ensures short { IfErr result (λ fault. 8 * (length body.now - at) < width) }
@@ -52,7 +53,7 @@ pub(crate) fn decode_single(
     at: u32,
 ) -> Result<(Value, u32), DecodeError>
     requires bounds { InBounds (Tree.fixed (fixed_tree fixed.now)) }
-    requires body { length body.now ≤ 65532 }
+    requires body { length body.now ≤ longest_body }
     requires at { at ≤ length body.now }
     ensures ok { IfOk result (λ r. Gets (kind_read (Tree.fixed (fixed_tree fixed.now)) body.now at) body.now at r.1 (value_tree r.0)) }
     ensures err { IfErr result (λ e. HasFailed (kind_read (Tree.fixed (fixed_tree fixed.now)) body.now at) at e) }
@@ -72,7 +73,7 @@ pub(crate) fn decode_parts(
     at: u32,
 ) -> Result<(Lists, u32), DecodeError>
     requires bounds { InBounds (Tree.extended (map part_tree parts.now)) }
-    requires body { length body.now ≤ 65532 }
+    requires body { length body.now ≤ longest_body }
     requires at { at ≤ length body.now }
     ensures ok { IfOk result (λ r. Gets (kind_read (Tree.extended (map part_tree parts.now)) body.now at) body.now at r.1 (Tree.part_values (lists_tree r.0))) }
     ensures err { IfErr result (λ e. HasFailed (kind_read (Tree.extended (map part_tree parts.now)) body.now at) at e) }
@@ -104,7 +105,7 @@ pub(crate) fn decode_run(
     at: u32,
 ) -> Result<(Values, u32), DecodeError>
     requires bounds { InBounds (Tree.by_fx (fixed_tree fixed.now)) }
-    requires body { length body.now ≤ 65532 }
+    requires body { length body.now ≤ longest_body }
     requires at { at ≤ length body.now }
     ensures ok { IfOk result (λ r. Gets (kind_read (Tree.by_fx (fixed_tree fixed.now)) body.now at) body.now at r.1 (Tree.occurrences (values_tree r.0))) }
     ensures err { IfErr result (λ e. HasFailed (kind_read (Tree.by_fx (fixed_tree fixed.now)) body.now at) at e) }

@@ -51,7 +51,7 @@ after_seven marks n e = cases_of (cases_lt (length marks) 7) ∙ sym (marks_afte
 
 -- ---- the least field
 
--- the octets of a least field of at most k octets more than the first, where these marks stand behind those of the first
+-- the octets of a least field of at most k octets more than the first, where these marks stand after those of the first
 abbrev pub bits_from : ℕ → List ℕ → ℕ
 bits_from k rest = cond (none_marked rest) 8 (8 + length (least_presence k rest))
 
@@ -150,9 +150,6 @@ seven_none marks old = sym (append-nil old)
 
 pub ruleset sevens = (seven_none, seven_more)
 
-bit_word : (m : ℕ) → m < 2 → word 1 m ≡ m ∷ []
-bit_word m h = let e : m / 2 ^ 0 % 2 ≡ m = omega arith in ap (λ x. x ∷ []) e
-
 -- ---- a whole field
 
 pub record FieldLeft (count : ℕ) (marks : List ℕ) (left : ℕ) (rest old now : List ℕ) : Type 0 where
@@ -162,9 +159,9 @@ pub record FieldLeft (count : ℕ) (marks : List ℕ) (left : ℕ) (rest old now
 pub field_first : (count : ℕ) (marks old : List ℕ) → AreBits marks → FieldLeft count marks count marks old old
 field_first count marks old h = record { each = h; list = refl }
 
-pub field_next : (count : ℕ) (marks : List ℕ) (left : ℕ) (rest old now mid new behind : List ℕ) → FieldLeft count marks left rest old now → 0 < left → mid ≡ now ++ marks_upto 7 rest → new ≡ mid ++ fx_before (left - 1) ∷ []
-    → behind ≡ marks_after 7 rest → FieldLeft count marks (left - 1) behind old new
-field_next count marks left rest old now mid new behind h some a b e =
+pub field_next : (count : ℕ) (marks : List ℕ) (left : ℕ) (rest old now mid new following : List ℕ) → FieldLeft count marks left rest old now → 0 < left → mid ≡ now ++ marks_upto 7 rest → new ≡ mid ++ fx_before (left - 1) ∷ []
+    → following ≡ marks_after 7 rest → FieldLeft count marks (left - 1) following old new
+field_next count marks left rest old now mid new following h some a b e =
     let less = left - 1 in
     let one : left ≡ suc less = omega arith in
     let seven = marks_upto 7 rest in

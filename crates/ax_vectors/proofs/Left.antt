@@ -104,14 +104,6 @@ members_first all old first b = record { bounds = b; left = left_whole (members_
 pub members_bounds : (all : List Member) (i : ℕ) (m : Member) (old now : List ℕ) (first state : ℕ) → MembersLeft all i old now first state → i < length all → m ≡ get_or all i m → MembersInBounds (member_and (member_tree m) no_members)
 members_bounds all i m old now first state h lt e = (first_bounds (member_tree m) (members_tree (drop (i + 1) all)) (subst (λ ms. MembersInBounds (members_tree ms)) (from_place all i m lt e) h.bounds)).0
 
-pub members_next : (all : List Member) (i : ℕ) (m : Member) (old now new : List ℕ) (first state after : ℕ) → MembersLeft all i old now first state → i < length all → m ≡ get_or all i m
-    → Adds (member_made (member_tree m)) now new state after → MembersLeft all (i + 1) old new first after
-members_next all i m old now new first state after h lt e a = record {
-  bounds = (first_bounds (member_tree m) (members_tree (drop (i + 1) all)) (subst (λ ms. MembersInBounds (members_tree ms)) (from_place all i m lt e) h.bounds)).1;
-  left = left_step (members_made (members_tree all)) (member_made (member_tree m)) (members_made (members_tree (drop (i + 1) all))) old now new first state after
-      (subst (λ ms. Left (members_made (members_tree all)) (members_made (members_tree ms)) old now first state) (from_place all i m lt e) h.left) a;
-}
-
 pub members_ended : (all : List Member) (i : ℕ) (old now : List ℕ) (first state : ℕ) → MembersLeft all i old now first state → length all ≤ i → Adds (members_made (members_tree all)) old now first state
 members_ended all i old now first state h past = left_none (members_made (members_tree all)) old now first state
     (subst (λ ms. Left (members_made (members_tree all)) (members_made (members_tree ms)) old now first state) (drop_all i all past) h.left)

@@ -1,4 +1,4 @@
--- Bits that are put behind others.
+-- Bits that are put after others.
 use Rattle.std.proofs.Common.{◌≡◌, ℕ, ◌+◌, ◌-◌, ◌*◌, ◌%◌, ◌<◌, ◌≤◌, List, [], ◌++◌, length, take, drop, sym, ◌∙◌, ap, arith, append_assoc, append-nil, length-append, length-drop, length-take-le}
 use Rattle.std.proofs.Math.Seq.{take-add}
 use Rattle.std.proofs.lemmas.List.{take_all, take-take, take-append-le, drop-drop, drop_all}
@@ -20,18 +20,18 @@ put_there old part from at w v k le all e =
     let all_bits = bits old in
     let written : bits part ≡ take at (drop (8 * from) all_bits) ++ (word w v ++ drop (at + w) (drop (8 * from) all_bits)) =
     e ∙ ap (λ y. take at (bits y) ++ (word w v ++ drop (at + w) (bits y))) whole ∙ ap (λ y. take at y ++ (word w v ++ drop (at + w) y)) b in
-    let behind : drop (at + w) (drop (8 * from) all_bits) ≡ drop (8 * from + at + w) all_bits = drop-drop (at + w) (8 * from) all_bits ∙ ap (λ n. drop n all_bits) (omega arith) in
+    let following : drop (at + w) (drop (8 * from) all_bits) ≡ drop (8 * from + at + w) all_bits = drop-drop (at + w) (8 * from) all_bits ∙ ap (λ n. drop n all_bits) (omega arith) in
     let front : take (8 * from) all_bits ++ take at (drop (8 * from) all_bits) ≡ take (8 * from + at) all_bits = sym (take-add (8 * from) at all_bits) in
     ap (λ y. bits (take from old ++ (part ++ y))) none
     ∙ ap (λ y. bits (take from old ++ y)) (append-nil part)
     ∙ bits-append (take from old) part
     ∙ ap (λ y. y ++ bits part) (sym (take-bits from old))
     ∙ ap (λ y. take (8 * from) all_bits ++ y) written
-    ∙ ap (λ y. take (8 * from) all_bits ++ (take at (drop (8 * from) all_bits) ++ (word w v ++ y))) behind
+    ∙ ap (λ y. take (8 * from) all_bits ++ (take at (drop (8 * from) all_bits) ++ (word w v ++ y))) following
     ∙ sym (append_assoc (take (8 * from) all_bits) (take at (drop (8 * from) all_bits)) (word w v ++ drop (8 * from + at + w) all_bits))
     ∙ ap (λ y. y ++ (word w v ++ drop (8 * from + at + w) all_bits)) front
 
--- the bits that count, where octets were put behind the old ones and then w bits written behind the old bits
+-- the bits that count, where octets were put after the old ones and then w bits written after the old bits
 pub pushed : (old grown new : List ℕ) (count from at w v more : ℕ) → take (length old) grown ≡ old → length grown ≡ length old + more
     → count ≤ 8 * length old → 8 * from + at ≡ count
     → bits new ≡ take (8 * from + at) (bits grown) ++ (word w v ++ drop (8 * from + at + w) (bits grown))

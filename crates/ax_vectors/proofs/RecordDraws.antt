@@ -27,22 +27,18 @@ use Rattle.ax_model.specs.declared.spec.Spec.{Spec}
 use Rattle.ax_model.specs.declared.spec.UapSlot.{UapSlot}
 use Rattle.ax_vectors.proofs.FieldOctets.{is_below, is_not_below}
 use Rattle.ax_vectors.proofs.Left.{adds_just}
-use Rattle.ax_vectors.proofs.Spelled.{kind_spelled, none_later}
+use Rattle.ax_vectors.proofs.Spelled.{kind_spelled}
 use Rattle.ax_vectors.proofs.SlotDraws.{slots_adds}
 use Rattle.ax_vectors.specs.Draws.{drawn, next_state}
 use Rattle.ax_vectors.specs.Made.{marks_made, field_made, values_made, value_where, kind_made, makers, record_made, records_made, block_of, block_made, IsSpelledBlock}
 use Rattle.ax_vectors.specs.Making.{Maker, times, Adds}
+use Rattle.ax_model.proofs.Unmarked.{none_first, none_later}
 
 at_most : (m n : ℕ) → nat_lt m n ≡ false → n ≤ m
 at_most m n e = ltb-false m n e
 
 eqb_same : (n : ℕ) → (n == n) ≡ true
 eqb_same n = grind (arith, nat_tests)
-
-none_first : (ms : List ℕ) → IsTrue (none_marked ms) → first_mark ms ≡ 0
-none_first [] h = refl
-none_first (zero ∷ ms) h = refl
-none_first (suc m ∷ ms) h = cc
 
 -- ---- the kinds of items
 

@@ -16,10 +16,6 @@ use Rattle.ax_vectors.specs.Making.{Maker, Adds}
 
 -- ---- marks
 
--- after other numbers
-adds_after : (one : Maker) (old list : List ℕ) (first after : ℕ) → Adds one [] list first after → Adds one old (old ++ list) first after
-adds_after one old list first after a = record { list = ap (λ x. old ++ x) a.list; left = a.left }
-
 -- the marks made of these slots, and those that are left
 pub record MarksLeft (all rest : List Bool) (made : List ℕ) (first state : ℕ) : Type 0 where
   pub left : Left (marks_made all) (marks_made rest) [] made first state
@@ -29,29 +25,14 @@ pub record MarksLeft (all rest : List Bool) (made : List ℕ) (first state : ℕ
 pub marks_begun : (all : List Bool) (first : ℕ) → MarksLeft all all [] first first
 marks_begun all first = record { left = left_whole (marks_made all) [] first; each = tt; count = omega arith }
 
-pub marks_step : (all rest : List Bool) (defined : Bool) (made : List ℕ) (mark first state after : ℕ) → MarksLeft all (defined ∷ rest) made first state → Adds (mark_made defined) [] (mark ∷ []) state after → mark < 2
-    → MarksLeft all rest (made ++ mark ∷ []) first after
-marks_step all rest defined made mark first state after h a low = record {
-  left = left_step (marks_made all) (mark_made defined) (marks_made rest) [] made (made ++ mark ∷ []) first state after h.left (adds_after (mark_made defined) made (mark ∷ []) state after a);
-  each = append-AreBits made (mark ∷ []) h.each (low, tt);
-  count = omega (arith, length-append made (mark ∷ []), h.count);
-}
-
 pub marks_over : (all : List Bool) (made : List ℕ) (first state : ℕ) → MarksLeft all [] made first state → Adds (marks_made all) [] made first state
 marks_over all made first state h = left_none (marks_made all) [] made first state h.left
 
 -- ---- of a list of slots, which are these trees
 
-from_place : {S : Type 0} (all : List S) (i : ℕ) (s : S) → i < length all → s ≡ get_or all i s → drop i all ≡ s ∷ drop (i + 1) all
-from_place all i s lt e = drop-cons all i s lt ∙ (λ k. sym e k ∷ drop (sym (add-one i) k) all)
-
 -- the slots of a list
 abbrev pub slots_in : {S : Type 0} → (S → SlotTree) → List S → SlotsTree
 slots_in tree all = slots_of (map tree all)
-
-first_defined : (slot : SlotTree) (ss : SlotsTree) (d : Bool) → d ∷ [] ≡ defined_slots (slot_and slot no_slots) → defined_slots (slot_and slot ss) ≡ d ∷ defined_slots ss
-first_defined spare_slot ss d e = let f : d ≡ false = cc in ap (λ b. b ∷ defined_slots ss) (sym f)
-first_defined (subitem name k) ss d e = let f : d ≡ true = cc in ap (λ b. b ∷ defined_slots ss) (sym f)
 
 defined_count : {S : Type 0} (tree : S → SlotTree) (slots : List S) → length (defined_slots (slots_in tree slots)) ≡ length slots
 defined_count tree slots = count_at (map tree slots) ∙ length-map slots tree where
@@ -66,16 +47,6 @@ pub record SlotMarks {S : Type 0} (tree : S → SlotTree) (all : List S) (i : �
 
 pub slot_marks_begun : {S : Type 0} (tree : S → SlotTree) (all : List S) (first : ℕ) → SlotMarks tree all 0 [] first first
 slot_marks_begun tree all first = record { marks = marks_begun (defined_slots (slots_in tree all)) first }
-
-pub slot_marks_next : {S : Type 0} (tree : S → SlotTree) (all : List S) (i : ℕ) (s : S) (defined : Bool) (made : List ℕ) (mark first state after : ℕ) → SlotMarks tree all i made first state → i < length all → s ≡ get_or all i s
-    → defined ∷ [] ≡ defined_slots (slot_and (tree s) no_slots) → Adds (mark_made defined) [] (mark ∷ []) state after → mark < 2 → SlotMarks tree all (i + 1) (made ++ mark ∷ []) first after
-slot_marks_next tree all i s defined made mark first state after h lt e is a low =
-    let whole = defined_slots (slots_in tree all) in
-    let rest = slots_in tree (drop (i + 1) all) in
-    let here : MarksLeft whole (defined ∷ defined_slots rest) made first state =
-    subst (λ ds. MarksLeft whole ds made first state) (first_defined (tree s) rest defined is)
-    (subst (λ ss. MarksLeft whole (defined_slots (slots_in tree ss)) made first state) (from_place all i s lt e) h.marks) in
-    record { marks = marks_step whole (defined_slots rest) defined made mark first state after here a low }
 
 pub slot_marks_over : {S : Type 0} (tree : S → SlotTree) (all : List S) (i : ℕ) (made : List ℕ) (first state : ℕ) → SlotMarks tree all i made first state → length all ≤ i → Adds (marks_made (defined_slots (slots_in tree all))) [] made first state
 slot_marks_over tree all i made first state h past =

@@ -10,6 +10,7 @@ use Rattle.ax_model.specs.Tree.{FixedTree, element, group, MembersTree, no_membe
 use Rattle.ax_vectors.specs.Draws.{drawn, next_state}
 use Rattle.ax_vectors.specs.Made.{joined, draws_needed, number_made, fixed_made, members_made, parts_made, run_made, octet_made, marks_made, least_octets, octets_spare, field_of, field_made, value_where, values_made, counted_made, kind_made, makers}
 use Rattle.ax_vectors.specs.Making.{Maker, just, both, times, by_draw}
+use Rattle.ax_model.proofs.Unmarked.{none_later}
 
 -- ---- fixed kinds
 
@@ -103,11 +104,6 @@ Enough (suc n) ms = Enough n (marks_after 7 ms)
 enough_alike : (n : ℕ) (ms : List ℕ) → Enough n ms → Alike (marks_in n ms) ms
 enough_alike zero ms h = h
 enough_alike (suc n) ms h = (refl, (refl, (refl, (refl, (refl, (refl, (refl, enough_alike n (marks_after 7 ms) h)))))))
-
-pub none_later : (ms : List ℕ) → IsTrue (none_marked ms) → IsTrue (none_marked (later_marks ms))
-none_later [] h = refl
-none_later (zero ∷ ms) h = h
-none_later (suc m ∷ ms) h = cc
 
 none_after : (n : ℕ) (ms : List ℕ) → IsTrue (none_marked ms) → IsTrue (none_marked (marks_after n ms))
 none_after zero ms h = h

@@ -4,6 +4,7 @@ use Rattle.ax_bits.specs.Bits.{word}
 use Rattle.ax_model.specs.Blocks.{SpellsBlock, read_block}
 use Rattle.ax_model.specs.CanonicalOctets.{octets_of, framed}
 use Rattle.ax_model.specs.Presence.{octets_needed, first_mark, later_marks, marks_upto, marks_after, least_presence}
+use Rattle.ax_model.specs.Sizes.{longest_block}
 use Rattle.ax_model.specs.Specification.{SpecTree, record_kind}
 use Rattle.ax_model.specs.Tree.{FixedTree, element, group, MemberTree, MembersTree, no_members, member_and, named, spare, KindTree, fixed, extended, counted, by_fx, explicit, compound, SlotsTree, no_slots, slot_and, spare_slot, subitem, defined_slots, EntriesTree}
 use Rattle.ax_vectors.specs.Draws.{drawn, next_state}
@@ -11,7 +12,7 @@ use Rattle.ax_vectors.specs.Making.{Maker, just, both, times, by_draw}
 
 -- ---- fixed kinds
 
--- so many draws joined behind a number, the first one most significant; and the state after them
+-- so many draws joined after a number, the first one most significant; and the state after them
 abbrev pub joined : ℕ → ℕ → ℕ → ℕ × ℕ
 joined zero number state = (number, state)
 joined (suc n) number state = joined n (number * 2 ^ 32 + drawn state) (next_state state)
@@ -79,7 +80,7 @@ marks_made (defined ∷ slots) = both (mark_made defined) (marks_made slots)
 abbrev pub least_octets : List ℕ → ℕ
 least_octets marks = length (least_presence (octets_needed (length marks)) marks) / 8
 
--- the presence field of so many octets with these marks, and zeros behind them
+-- the presence field of so many octets with these marks, and zeros after them
 abbrev pub field_of : ℕ → List ℕ → List ℕ
 field_of zero marks = []
 field_of (suc n) marks = marks_upto 7 marks ++ fx_before n ∷ field_of n (marks_after 7 marks)
@@ -146,7 +147,7 @@ records_made spec = by_draw (λ d. times (1 + d % 4) (record_made spec))
 
 -- the octets of the block with that body; where it would have more than 65,535, of the block of one record without items
 abbrev pub block_of : ℕ → List ℕ → List ℕ
-block_of category body = if nat_lt 65535 (3 + length body) then framed category (0 ∷ []) else framed category body
+block_of category body = if nat_lt longest_block (3 + length body) then framed category (0 ∷ []) else framed category body
 
 -- the octets of one block
 abbrev pub block_made : SpecTree → Maker

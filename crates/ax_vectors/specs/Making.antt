@@ -26,7 +26,7 @@ times (suc n) one = both one (times n one)
 abbrev pub by_draw : (ℕ → Maker) → Maker
 by_draw rule state = rule (drawn state) (next_state state)
 
--- the list was made from the state behind what was there, and this is the state after
+-- the list was made from the state after what was there, and this is the state after
 pub record Adds (maker : Maker) (old new : List ℕ) (state after : ℕ) : Type 0 where
   pub list : new ≡ old ++ (maker state).0
   pub left : after ≡ (maker state).1

@@ -1,4 +1,4 @@
-//! Bits that are put one behind the other into octets.
+//! Bits that are put one after the other into octets.
 ghost use Rattle.std.specs.Prelude.{◌≡◌, ◌*◌, ◌+◌, ◌%◌, ◌^◌, ◌<◌, ◌≤◌, ◌++◌, [], length, take, drop, if◌then◌else◌, is_ok, OnOk, OnErr};
 ghost use Rattle.ax_bits.specs.Bits.{word, bits};
 
@@ -36,7 +36,7 @@ impl BitString {
         }
     }
 
-    /// Puts the `width` bits that spell `value` behind the others. Without memory it is as before.
+    /// Puts the `width` bits that spell `value` after the others. Without memory it is as before.
     pub(crate) fn push(&mut self, value: u128, width: u32) -> Result<(), AllocError>
         requires width { (1 ≤ width) × (width ≤ 128) }
         requires fits { value < 2 ^ width }
@@ -47,7 +47,7 @@ impl BitString {
         let from = self.octets.len() - begun as usize;
         let at = 8 * begun - self.free;
         grow(&mut self.octets, more as usize)?;
-        put_behind(&mut self.octets, from, at, width, value);
+        put_after(&mut self.octets, from, at, width, value);
         self.free = self.free + 8 * more - width;
         Ok(())
     }
@@ -61,7 +61,7 @@ impl BitString {
     }
 }
 
-/// Puts up to 16 zeros behind the octets. Without memory they are as before.
+/// Puts up to 16 zeros after the octets. Without memory they are as before.
 fn grow(octets: &mut Vec<u8>, count: usize) -> Result<(), AllocError>
     requires { count ≤ 16 }
     ensures length { OnOk result (length octets.new.items ≡ length octets.old.items + count) }
@@ -73,7 +73,7 @@ fn grow(octets: &mut Vec<u8>, count: usize) -> Result<(), AllocError>
 
 /// Writes `value` into `width` bits of the octets, from bit `at` of octet `from` on. All other bits stay.
 #[tactic(auto, using(crate::proofs::Pushing::put_there))]
-fn put_behind(octets: &mut [u8], from: usize, at: u32, width: u32, value: u128)
+fn put_after(octets: &mut [u8], from: usize, at: u32, width: u32, value: u128)
     requires width { (1 ≤ width) × (width ≤ 128) }
     requires at { at < 8 }
     requires within { 8 * from + at + width ≤ 8 * length octets.old }

@@ -7,6 +7,7 @@ ghost use Rattle.ax_model.specs.InBounds.{SlotsInBounds};
 ghost use Rattle.ax_model.specs.Lengths.{kind_of_slot};
 ghost use Rattle.ax_model.specs.OfCode.{HasNoFlaw};
 ghost use Rattle.ax_model.specs.Plain.{item_tree, kind_tree, spec_tree};
+ghost use Rattle.ax_model.specs.Sizes.{longest_body};
 ghost use Rattle.ax_model.specs.Specification.{uap_slot, record_slots};
 ghost use Rattle.ax_model.specs.Tree.{slot_and, no_slots, defined_slots};
 ghost use Rattle.ax_vectors.specs.Made.{marks_made, value_where, values_made, kind_made, makers, record_made, records_made, block_of, block_made, IsSpelledBlock};
@@ -145,7 +146,7 @@ fn make_body(alloc: Global, spec: &Spec, draws: &mut Draws) -> Result<Vec<u8>, A
 
 /// A data block with that body: CAT, LEN and the body.
 fn framed(alloc: Global, category: u8, body: &[u8]) -> Result<Vec<u8>, AllocError>
-    requires { length body.now ≤ 65532 }
+    requires { length body.now ≤ longest_body }
     ensures { IfOk result (λ block. block.items ≡ framed category body.now) }
 {
     let length = body.len() as u16 + 3;

@@ -42,7 +42,7 @@ fn low_bits(number: u128, width: u32) -> u128
     number % (1 << width)
 }
 
-/// Puts the drawn number of an element or a spare behind the bits.
+/// Puts the drawn number of an element or a spare after the bits.
 #[tactic(auto, using(crate::proofs::Left::number_adds))]
 fn make_number(width: u32, draws: &mut Draws, into: &mut BitString) -> Result<(), AllocError>
     requires { IsWidth width }
@@ -52,7 +52,7 @@ fn make_number(width: u32, draws: &mut Draws, into: &mut BitString) -> Result<()
     into.push(low_bits(number, width), width)
 }
 
-/// Puts what is drawn under a fixed kind behind the bits.
+/// Puts what is drawn under a fixed kind after the bits.
 #[cycle(make_fixed)]
 pub(crate) fn make_fixed(
     fixed: &Fixed,
@@ -68,7 +68,7 @@ pub(crate) fn make_fixed(
     }
 }
 
-/// Puts what is drawn for members, one after the other, behind the bits.
+/// Puts what is drawn for members, one after the other, after the bits.
 #[cycle(make_fixed)]
 #[tactic(auto, using(crate::proofs::Left::members))]
 pub(crate) fn make_members(
@@ -96,7 +96,7 @@ fn make_member(member: &Member, draws: &mut Draws, into: &mut BitString) -> Resu
     }
 }
 
-/// Puts the FX bit behind the bits, where so many units follow.
+/// Puts the FX bit after the bits, where so many units follow.
 #[tactic(auto, using(crate::proofs::Left::fx_pushed))]
 pub(crate) fn push_fx(left: u32, into: &mut BitString) -> Result<(), AllocError>
     ensures { OnOk result (into.new ≡ into.old ++ fx_before left ∷ []) }
@@ -104,7 +104,7 @@ pub(crate) fn push_fx(left: u32, into: &mut BitString) -> Result<(), AllocError>
     into.push(if left > 0 { 1 } else { 0 }, 1)
 }
 
-/// Puts what is drawn for the first `count` parts behind the bits.
+/// Puts what is drawn for the first `count` parts after the bits.
 #[tactic(auto, using(crate::proofs::Left::parts))]
 pub(crate) fn make_parts(
     count: u32,
@@ -127,7 +127,7 @@ pub(crate) fn make_parts(
     Ok(())
 }
 
-/// Puts what is drawn for `count` occurrences by FX behind the bits.
+/// Puts what is drawn for `count` occurrences by FX after the bits.
 #[tactic(auto, using(crate::proofs::Left::run))]
 pub(crate) fn make_run(
     count: u32,

@@ -66,9 +66,9 @@ walks_of codec spec body at end least h w =
       canonical = λ f. ap (λ x. x ++ bits (drop end body)) (sym (ap (λ k. canon k w.value) e ∙ bare_canon k w.value)) ∙ w.canonical f;
     }
 
-pub loses_of : (codec : Codec) (spec : SpecTree) (body : List ℕ) (at : ℕ) (fault : BodyFault) → StandsFor codec spec → FailsAt (kind_read (record_kind_at codec.nodes codec.slots) body at) at fault → FailsAt (kind_read (record_kind spec) body at) at fault
+pub fails_of : (codec : Codec) (spec : SpecTree) (body : List ℕ) (at : ℕ) (fault : BodyFault) → StandsFor codec spec → FailsAt (kind_read (record_kind_at codec.nodes codec.slots) body at) at fault → FailsAt (kind_read (record_kind spec) body at) at fault
 unfolding kind_read
-loses_of codec spec body at fault h l =
+fails_of codec spec body at fault h l =
     let k = record_kind spec in
     subst (λ r. FailsAt r at fault) (ap (λ k. kind_read k body at) (stands_record codec spec h) ∙ bare_read k (bits (drop at body))) l
 
@@ -117,11 +117,11 @@ body_next codec body at end before least h falls w = record {
   records = λ spec clean stands. records_more codec spec body at end before least clean stands (h.records spec clean stands) falls w;
 }
 
-pub body_lost : (codec : Codec) (body : List ℕ) (at : ℕ) (before : Bool) (fault : BodyFault) → BodyTo codec body at before → at < length body → FailsAt (kind_read (record_kind_at codec.nodes codec.slots) body at) at fault → FailsThere codec body fault
-body_lost codec body at before fault h lt l = record {
+pub body_failed : (codec : Codec) (body : List ℕ) (at : ℕ) (before : Bool) (fault : BodyFault) → BodyTo codec body at before → at < length body → FailsAt (kind_read (record_kind_at codec.nodes codec.slots) body at) at fault → FailsThere codec body fault
+body_failed codec body at before fault h lt l = record {
   fails = λ spec clean stands. (
       let t = h.records spec clean stands in
-      let f = fault_at (record_kind spec) body at fault (record_bounds spec clean) (loses_of codec spec body at fault stands l) in
+      let f = fault_at (record_kind spec) body at fault (record_bounds spec clean) (fails_of codec spec body at fault stands l) in
       record {
         records = t.records;
         before = bits (take at body);
@@ -135,8 +135,8 @@ body_lost codec body at before fault h lt l = record {
       });
 }
 
-pub lost_honest : (codec : Codec) (body : List ℕ) (fault : BodyFault) → FailsThere codec body fault → IsHonestThere codec body fault
-lost_honest codec body fault h = record { honest = λ spec clean stands. body_honest spec body fault.bit fault.cause clean (h.fails spec clean stands) }
+pub failed_honest : (codec : Codec) (body : List ℕ) (fault : BodyFault) → FailsThere codec body fault → IsHonestThere codec body fault
+failed_honest codec body fault h = record { honest = λ spec clean stands. body_honest spec body fault.bit fault.cause clean (h.fails spec clean stands) }
 
 pub some_records : (spec : SpecTree) (rs : List EntriesTree) (b : List ℕ) → RecordsSpell spec rs b → 0 < length b → 0 < length rs
 some_records spec [] b h some = absurd (omega (arith, ap length h))

@@ -32,9 +32,9 @@ module _ (ns : List Node) (links : List ℕ) where
   unfolding record_kind_at
   slots_bounds h = h.2
 
-  pub record_lost : (mask : SlotMask) (body : List ℕ) (at : ℕ) (fault : BodyFault) → IsMaskOf (linked_slots (meanings ns) links) mask → FailsToMark mask body at fault → FailsAt (kind_read (record_kind_at ns links) body at) at fault
+  pub record_failed : (mask : SlotMask) (body : List ℕ) (at : ℕ) (fault : BodyFault) → IsMaskOf (linked_slots (meanings ns) links) mask → FailsToMark mask body at fault → FailsAt (kind_read (record_kind_at ns links) body at) at fault
   unfolding record_kind_at
-  record_lost mask body at fault m h = field_failed (linked_slots (meanings ns) links) mask body at fault m h
+  record_failed mask body at fault m h = field_failed (linked_slots (meanings ns) links) mask body at fault m h
 
   module _ (mask : SlotMask) (body marks : List ℕ) (at here : ℕ) (octets : AreOctets body) (bounds : InBounds (record_kind_at ns links)) (m : IsMaskOf (linked_slots (meanings ns) links) mask) (h : MarksSlots mask body at here marks) where
     pub compound_leads : (least : Bool) → (IsTrue least → NeedsLast body at here)
@@ -51,4 +51,4 @@ module _ (ns : List Node) (links : List ℕ) where
     pub compound_fault : (before : Bool) (fault : BodyFault) (r : Option ℕ) → (IsTrue before → NeedsLast body at here)
         → IfNone r (FailsAt (entries_at (slots_of (linked_slots (meanings ns) links)) marks body here) here fault) → IfNone r (FailsAt (kind_read (record_kind_at ns links) body at) at fault)
     compound_fault before fault (Some end) need l = tt
-    compound_fault before fault None need l = (compound_leads before need).loses fault l
+    compound_fault before fault None need l = (compound_leads before need).fails fault l

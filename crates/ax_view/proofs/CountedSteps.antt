@@ -79,12 +79,12 @@ count_next k body n i at here end before least h lt falls w =
           (subst (λ m. Leads (each_canon (canon k)) (each_read (read k) (n - (i + 1)) (bits (drop end body))) (each_canon (canon k)) (each_read (read k) m (bits (drop here body))) body here end least) (sym left) one);
     }
 
-pub count_lost : (k : KindTree) (body : List ℕ) (n i at here : ℕ) (before : Bool) (fault : BodyFault) → CountLeads k body n i at here before → i < n → FailsAt (kind_read k body here) here fault → FailsAt (kind_read (counted k) body at) at fault
+pub count_failed : (k : KindTree) (body : List ℕ) (n i at here : ℕ) (before : Bool) (fault : BodyFault) → CountLeads k body n i at here before → i < n → FailsAt (kind_read k body here) here fault → FailsAt (kind_read (counted k) body at) at fault
 unfolding kind_read
-count_lost k body n i at here before fault h lt t =
+count_failed k body n i at here before fault h lt t =
     let left : n - i ≡ suc (n - (i + 1)) = omega arith in
     let one : FailsAt (each_read (read k) (suc (n - (i + 1))) (bits (drop here body))) here fault = record { place = t.place; failed = ap (λ r. both (λ v vs. value_and v vs) r (each_read (read k) (n - (i + 1)))) t.failed; bit = t.bit } in
-    h.leads.loses fault (subst (λ m. FailsAt (each_read (read k) m (bits (drop here body))) here fault) (sym left) one)
+    h.leads.fails fault (subst (λ m. FailsAt (each_read (read k) m (bits (drop here body))) here fault) (sym left) one)
 
 pub count_last : (k : KindTree) (body : List ℕ) (n i at here : ℕ) (least : Bool) → CountLeads k body n i at here least → n ≤ i → Walks (canon (counted k)) (kind_read (counted k) body at) body at here least
 count_last k body n i at here least h past =

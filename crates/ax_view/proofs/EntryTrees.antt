@@ -86,9 +86,6 @@ pub record OccurrencesMade (all left : List Occurrence) (made : List Value) : Ty
   pub falls : greatest (links_shown left) ≤ greatest (links_shown all)
   pub same : map value_tree made ++ map occurrence_value left ≡ map occurrence_value all
 
-pub occurrences_begin : (all : List Occurrence) → OccurrencesMade all all []
-occurrences_begin all = record { few = omega arith; falls = omega arith; same = refl }
-
 module _ (all left later : List Occurrence) (o : Occurrence) (made : List Value) (h : OccurrencesMade all left made) (e : left ≡ o ∷ later) where
   pub occurrence_falls : o.1 ≤ greatest (links_shown all)
   occurrence_falls = let g : greatest (links_shown left) ≡ greatest (links_shown (o ∷ later)) = ap (λ left. greatest (links_shown left)) e in let f = h.falls in omega (arith, g, le-max_left o.1 (greatest (links_shown later)))
@@ -103,9 +100,6 @@ module _ (all left later : List Occurrence) (o : Occurrence) (made : List Value)
     same = ap (λ new. map value_tree new ++ map occurrence_value later) pushed ∙ maps_end value_tree made v (map occurrence_value later)
         ∙ ap (λ x. map value_tree made ++ x ∷ map occurrence_value later) value ∙ ap (λ left. map value_tree made ++ map occurrence_value left) (sym e) ∙ h.same;
   }
-
-pub occurrences_all : (all left : List Occurrence) (made : List Value) → OccurrencesMade all left made → left ≡ [] → map value_tree made ≡ map occurrence_value all
-occurrences_all all left made h e = sym (append-nil (map value_tree made)) ∙ ap (λ left. map value_tree made ++ map occurrence_value left) (sym e) ∙ h.same
 
 pieces_count : (fx : Bool) (k : KindTree) (n : ℕ) (xs : List ℕ) → length (pieces fx k n xs) ≡ n
 pieces_count fx k zero xs = refl

@@ -110,9 +110,6 @@ pub record MembersMade (nodes : List Node) (all left : List ℕ) (body : List �
   pub falls : greatest left ≤ greatest all
   pub same : map value_tree made ++ values_list (members_value (linked_members (meanings nodes) left) (drop here (bits body))) ≡ values_list (members_value (linked_members (meanings nodes) all) (drop at (bits body)))
 
-pub members_begin : (nodes : List Node) (all body : List ℕ) (at : ℕ) → LinksWithin (length nodes) all → MembersInBounds (linked_members (meanings nodes) all) → at + members_width (linked_members (meanings nodes) all) ≤ 8 * length body → MembersMade nodes all all body at at []
-members_begin nodes all body at links bounds room = record { links = links; bounds = bounds; room = room; few = omega arith; falls = omega arith; same = refl }
-
 module _ (nodes : List Node) (all left later body : List ℕ) (m at here : ℕ) (made : List Value) (h : MembersMade nodes all left body at here made) (e : left ≡ m ∷ later) where
   opened : MembersMade nodes all (m ∷ later) body at here made
   opened = subst (λ left. MembersMade nodes all left body at here made) e h

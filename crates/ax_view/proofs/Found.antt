@@ -49,11 +49,11 @@ marked_after : (n : ℕ) (r : Read EntriesTree) → IsAll r → entries_in (valu
 marked_after n (got es m y) h = refl
 marked_after n (failed p c) h = absurd h
 
-pub not_lost : {A : Type 0} (p : ℕ) (c : BodyCause) (r : Read A) → r ≡ failed p c → IsAll r → ⊥
-not_lost p c r e h = subst IsAll e h
+pub not_failed : {A : Type 0} (p : ℕ) (c : BodyCause) (r : Read A) → r ≡ failed p c → IsAll r → ⊥
+not_failed p c r e h = subst IsAll e h
 
 pub read_all : (k : KindTree) (body : List ℕ) (at : ℕ) (fault : BodyFault) → FailsAt (kind_read k body at) at fault → IsAll (kind_read k body at) → ⊥
-read_all k body at fault l h = not_lost l.place fault.cause (kind_read k body at) l.failed h
+read_all k body at fault l h = not_failed l.place fault.cause (kind_read k body at) l.failed h
 
 -- ---- what is read at a place is read of its octets alone
 
@@ -95,11 +95,11 @@ pub here_is : (slot t : ℕ) (v : ValueTree) (es : EntriesTree) → (t == slot) 
 here_is slot t v es e = ap (λ b. if b then Some v else slot_value slot es) e
 
 module _ (nodes : List Node) (links marks left now body : List ℕ) (t at here slot : ℕ) (h : Left (linked_slots (meanings nodes) links) marks left body at here slot) (n : NextMarked nodes links left now t) where
-  pub next_lost : (fault : BodyFault) → FailsAt (kind_read (kind_at nodes (get_or links (t - 1) 0)) body here) here fault → ⊥
+  pub next_failed : (fault : BodyFault) → FailsAt (kind_read (kind_at nodes (get_or links (t - 1) 0)) body here) here fault → ⊥
   unfolding kind_read entries_at
-  next_lost fault l =
+  next_failed fault l =
       let ss = slots_of (linked_slots (meanings nodes) links) in
-      not_lost l.place fault.cause (entries_at ss left body here) (n.reads (bits (drop here body)) ∙ ap (λ r. both (λ v es. entry_and t v es) r (entries_read 1 ss now)) l.failed) h.all
+      not_failed l.place fault.cause (entries_at ss left body here) (n.reads (bits (drop here body)) ∙ ap (λ r. both (λ v es. entry_and t v es) r (entries_read 1 ss now)) l.failed) h.all
 
   module _ (end : ℕ) (least : Bool) (w : Walks (canon (kind_at nodes (get_or links (t - 1) 0))) (kind_read (kind_at nodes (get_or links (t - 1) 0)) body here) body here end least) where
     goes_on : entries_at (slots_of (linked_slots (meanings nodes) links)) left body here ≡ after (8 * (end - here)) (λ es. entry_and t w.value es) (entries_at (slots_of (linked_slots (meanings nodes) links)) now body end)

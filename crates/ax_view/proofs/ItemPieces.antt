@@ -360,9 +360,6 @@ module _ (nodes : List Node) (links later left : List ℕ) (part size : ℕ) (h 
         ap (λ links. part_pieces (map part_size (linked_parts (meanings nodes) links)) left) e ∙ first.2
         ∙ (λ i. (ap (λ n. take n left) (sym s) ∙ sym t) i ∷ part_pieces (map part_size (linked_parts (meanings nodes) later)) ((ap (λ n. drop n left) (sym s) ∙ sym r) i))
 
-pub no_links : (nodes : List Node) (links left : List ℕ) → ArePartsLeft nodes links left → (left ≡ [] → ⊥) → links ≡ [] → ⊥
-no_links nodes links left h some e = let n : left ≡ [] = (subst (λ links. ArePartsLeft nodes links left) e h).pieces_are in some n
-
 -- ---- the next occurrence
 
 -- by FX, of a fixed kind

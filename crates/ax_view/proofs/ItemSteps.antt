@@ -214,10 +214,6 @@ module _ (ns : List Node) (link : ℕ) (body : List ℕ) (one : Node) (h : ItemI
 
 -- ---- a subitem
 
--- what was found in the subitem stands at the steps
-pub in_subitem : (codec : Codec) (item : ItemView) (links : List ℕ) (slot : ℕ) (r : Spot) (v w : Option ValueTree) → IsSpot item.codec.now.nodes r v → item.codec.now ≡ codec → w ≡ v → IsSpot codec.nodes r w
-in_subitem codec item links slot r v w h same e = subst (λ v. IsSpot codec.nodes r v) (sym e) (subst (λ c. IsSpot c.nodes r v) same h)
-
 pub slot_in : (codec : Codec) (ns : List Node) (link slot : ℕ) (body : List ℕ) (inner : Option ValueTree) → ns ≡ codec.nodes → inner ≡ slot_value slot (entries_in (value_in (kind_at codec.nodes link) body)) → inner ≡ slot_value slot (entries_in (value_in (kind_at ns link) body))
 slot_in codec ns link slot body inner same h = subst (λ ns. inner ≡ slot_value slot (entries_in (value_in (kind_at ns link) body))) (sym same) h
 

@@ -7,7 +7,7 @@ use Rattle.ax_reader.specs.Reading.{Gets, Continues}
 use Rattle.ax_view.specs.Walking.{Walks, Leads}
 
 pub leads_none : {A : Type 0} (rule : A → List ℕ) (found : Read A) (body : List ℕ) (at : ℕ) (least : Bool) → at ≤ length body → Leads rule found rule found body at at least
-leads_none rule found body at least le = record { forwards = omega arith; within = le; gets = λ end l f w. w; loses = λ fault h. h }
+leads_none rule found body at least le = record { forwards = omega arith; within = le; gets = λ end l f w. w; fails = λ fault h. h }
 
 pub leads_on : {A B C : Type 0} (rule : A → List ℕ) (next : Read A) (mid_rule : B → List ℕ) (mid : Read B) (whole_rule : C → List ℕ) (whole : Read C) (body : List ℕ) (at here end : ℕ) (before least : Bool) → (IsTrue least → IsTrue before)
     → Leads mid_rule mid whole_rule whole body at here before → Leads rule next mid_rule mid body here end least → Leads rule next whole_rule whole body at end least
@@ -15,7 +15,7 @@ leads_on rule next mid_rule mid whole_rule whole body at here end before least f
   forwards = omega (arith, h.forwards, t.forwards);
   within = t.within;
   gets = λ last l f w. h.gets last l (λ k. falls (f k)) (t.gets last l f w);
-  loses = λ fault l. h.loses fault (t.loses fault l);
+  fails = λ fault l. h.fails fault (t.fails fault l);
 }
 
 -- what is read after a front goes on in a larger value
@@ -30,7 +30,7 @@ leads_by rule rest whole_rule whole body at here g least le h step = record {
     read = gets_after whole rest body at here end g w.value h w.read;
     canonical = λ k. step w.value end (f k) w.read (w.canonical k);
   };
-  loses = λ fault w. fails_after whole rest at here g fault h w;
+  fails = λ fault w. fails_after whole rest at here g fault h w;
 }
 
 -- the same, where nothing is said of what is least

@@ -187,11 +187,11 @@ module _ (nodes : List Node) (links marks left now body : List ℕ) (t at here :
             (λ es last f g c. ap (λ x. x ++ bits (drop last body)) (n.spells w.value es) ∙ append_assoc (canon k w.value) (along ss now es) (bits (drop last body)) ∙ ap (λ z. canon k w.value ++ z) c ∙ w.canonical f));
       }
 
-  pub marks_lost : (fault : BodyFault) → FailsAt (kind_read (kind_at nodes (get_or links (t - 1) 0)) body here) here fault → FailsAt (entries_at (slots_of (linked_slots (meanings nodes) links)) marks body at) at fault
+  pub marks_failed : (fault : BodyFault) → FailsAt (kind_read (kind_at nodes (get_or links (t - 1) 0)) body here) here fault → FailsAt (entries_at (slots_of (linked_slots (meanings nodes) links)) marks body at) at fault
   unfolding kind_read entries_at
-  marks_lost fault l =
+  marks_failed fault l =
       let ss = slots_of (linked_slots (meanings nodes) links) in
-      h.leads.loses fault (record { place = l.place; failed = n.reads (bits (drop here body)) ∙ ap (λ r. both (λ v es. entry_and t v es) r (entries_read 1 ss now)) l.failed; bit = l.bit })
+      h.leads.fails fault (record { place = l.place; failed = n.reads (bits (drop here body)) ∙ ap (λ r. both (λ v es. entry_and t v es) r (entries_read 1 ss now)) l.failed; bit = l.bit })
 
 pub no_entries_left : (s : ℕ) (ss : SlotsTree) (ms b : List ℕ) → IsTrue (none_marked ms) → entries_read s ss ms b ≡ got no_entries 0 b
 no_entries_left s no_slots ms b h = refl

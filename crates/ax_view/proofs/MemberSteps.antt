@@ -24,9 +24,6 @@ pub record MembersLeft (nodes : List Node) (all left : List ℕ) (at here i n : 
   pub room : here + members_width (linked_members (meanings nodes) left) ≤ at + members_width (linked_members (meanings nodes) all)
   pub same : (b : List ℕ) → nth_value i (members_value (linked_members (meanings nodes) all) (drop at b)) ≡ nth_value n (members_value (linked_members (meanings nodes) left) (drop here b))
 
-pub members_first : (nodes : List Node) (all : List ℕ) (at i : ℕ) → LinksWithin (length nodes) all → MembersInBounds (linked_members (meanings nodes) all) → MembersLeft nodes all all at at i i
-members_first nodes all at i links bounds = record { links = links; bounds = bounds; room = omega arith; same = λ b. refl }
-
 module _ (nodes : List Node) (all left later : List ℕ) (m at here i n : ℕ) (h : MembersLeft nodes all left at here i n) (e : left ≡ m ∷ later) where
   split : MembersLeft nodes all (m ∷ later) at here i n
   split = subst (λ left. MembersLeft nodes all left at here i n) e h
@@ -61,9 +58,6 @@ module _ (nodes : List Node) (all left later : List ℕ) (m at here i n : ℕ) (
           positive : (n : ℕ) → (n ≡ 0 → ⊥) → n ≡ suc (n - 1)
           positive zero some = absurd (some refl)
           positive (suc n) some = omega arith
-
-pub members_none : (nodes : List Node) (all left : List ℕ) (at here i n : ℕ) → MembersLeft nodes all left at here i n → left ≡ [] → FindsNone (linked_members (meanings nodes) all) at i
-members_none nodes all left at here i n h e = record { none = λ b. h.same b ∙ ap (λ left. nth_value n (members_value (linked_members (meanings nodes) left) (drop here b))) e }
 
 -- ---- down the groups
 

@@ -12,7 +12,7 @@ use Rattle.ax_tables.specs.Meaning.{meanings, linked, fixed_of, part_of, linked_
 use Rattle.ax_tables.specs.Table.{LinksWithin}
 use Rattle.ax_tables.specs.declared.node.Node.{Node}
 use Rattle.ax_reader.proofs.AtOctets.{parts_at, parts_fail, parts_end, parts_go_on, parts_past_end}
-use Rattle.ax_view.proofs.Found.{all_after, not_lost}
+use Rattle.ax_view.proofs.Found.{all_after, not_failed}
 use Rattle.ax_view.proofs.UnitSteps.{unit_at}
 use Rattle.ax_model.specs.At.{nth_list, nth_value, value_at}
 use Rattle.ax_view.specs.Spots.{lists_in, FindsPart, FindsNoPart, FindsMember, FindsNone, FindsFixed, FindsNothing, IsFixedAt, IsNoNumber}
@@ -49,7 +49,7 @@ pub more_parts : (p : MembersTree) (left : List MembersTree) (body : List ℕ) (
 more_parts p [] body here end w le within is long all fx =
     let fault : BodyFault = record { cause = ExtensionPastEnd; bit = 8 * end - 1 } in
     let l = parts_past_end p body here end w 1 fault (unit_at body here end w 1 le within long fx) (sym is) refl refl (omega arith) in
-    absurd (not_lost l.place fault.cause (parts_at (p ∷ []) body here) l.failed all)
+    absurd (not_failed l.place fault.cause (parts_at (p ∷ []) body here) l.failed all)
 more_parts p (q ∷ left) body here end w le within is long all fx =
     let vs = members_value p (drop (8 * here) (bits body)) in
     let c = parts_go_on p q left body here end w 1 vs (unit_at body here end w 1 le within long fx) (sym is) refl refl in
@@ -68,7 +68,7 @@ this_part p left body here end w le within is long all = by (get_or body (end - 
 pub part_fits : (p : MembersTree) (left : List MembersTree) (body : List ℕ) (here : ℕ) (short : 8 * (length body - here) < members_width p + 1) → IsAll (parts_at (p ∷ left) body here) → ⊥
 part_fits p left body here short all =
     let fault : BodyFault = record { cause = RunsOut; bit = 8 * here } in
-    let l = parts_fail p left body here fault (omega arith) refl refl in not_lost l.place fault.cause (parts_at (p ∷ left) body here) l.failed all
+    let l = parts_fail p left body here fault (omega arith) refl refl in not_failed l.place fault.cause (parts_at (p ∷ left) body here) l.failed all
 
 -- ---- along the parts
 
@@ -105,8 +105,8 @@ module _ (nodes : List Node) (all left later body : List ℕ) (p here i n : ℕ)
   pub part_wide : ((members_width (linked_part (meanings nodes) p) + 1) % 8 ≡ 0) × (members_width (linked_part (meanings nodes) p) + 1 ≤ 524264)
   part_wide = let b = split.bounds.0 in (b.0, (let le = b.1 in omega arith))
 
-  pub part_lost : 8 * (length body - here) < members_width (linked_part (meanings nodes) p) + 1 → ⊥
-  part_lost short = part_fits (linked_part (meanings nodes) p) (linked_parts (meanings nodes) later) body here short split.all
+  pub part_failed : 8 * (length body - here) < members_width (linked_part (meanings nodes) p) + 1 → ⊥
+  part_failed short = part_fits (linked_part (meanings nodes) p) (linked_parts (meanings nodes) later) body here short split.all
 
   module _ (end w : ℕ) (le : here ≤ end) (within : end ≤ length body) (is : w ≡ members_width (linked_part (meanings nodes) p)) (long : w + 1 ≡ 8 * (end - here)) where
     pub part_found_here : n ≡ 0 → FindsPart nodes (linked_parts (meanings nodes) all) body i p (8 * here)

@@ -36,9 +36,6 @@ pub record Passed (nodes : List Node) (links marks left body : List ℕ) (at her
   pub split : drop at body ≡ front ++ drop here body
   pub goes_on : (e : List ℕ) → SpellInOrder nodes links (entries_before slot (entries_of nodes links left body here)) e → SpellInOrder nodes links (entries_before slot (entries_of nodes links marks body at)) (front ++ e)
 
-pub passed_first : (nodes : List Node) (links marks body : List ℕ) (at slot : ℕ) → Passed nodes links marks marks body at at slot
-passed_first nodes links marks body at slot = record { front = []; split = refl; goes_on = λ e h. h }
-
 before_other : (slot t : ℕ) (v : ValueTree) (es : EntriesTree) → (t == slot) ≡ false → entries_before slot (entry_and t v es) ≡ entry_and t v (entries_before slot es)
 before_other slot t v es e = ap (λ b. if b then no_entries else entry_and t v (entries_before slot es)) e
 

@@ -9,6 +9,7 @@ use Rattle.ax_reader.proofs.AtOctets.{octets_parts}
 use Rattle.ax_reader.proofs.Exact.{spelled_at}
 use Rattle.ax_reader.specs.Reading.{Gets, kind_read}
 use Rattle.ax_view.specs.Walking.{Walks}
+use Rattle.ax_view.specs.Plain.{IsPlain}
 
 number_is : (w : ℕ) (v : ValueTree) (b : List ℕ) → NumberSpells w v b → number_canon w v ≡ b
 number_is w (number n) b h = sym h.1
@@ -38,15 +39,6 @@ run_is : (f : FixedTree) (vs : ValuesTree) (b : List ℕ) → RunSpells f vs b �
 run_is f no_values b h = absurd h
 run_is f (value_and v no_values) b (x, e, h) = ap (λ x. x ++ 0 ∷ []) (fixed_is f v x h) ∙ sym e
 run_is f (value_and v (value_and w vs)) b (x, y, e, h, t) = (λ i. fixed_is f v x h i ++ 1 ∷ run_is f (value_and w vs) y t i) ∙ sym e
-
--- a kind without a presence field at any depth
-abbrev pub IsPlain : KindTree → Type 0
-IsPlain (fixed f) = Unit {0}
-IsPlain (extended ps) = Unit {0}
-IsPlain (counted k) = ⊥
-IsPlain (by_fx f) = Unit {0}
-IsPlain explicit = Unit {0}
-IsPlain (compound ss) = ⊥
 
 pub plain_is : (k : KindTree) (v : ValueTree) (b : List ℕ) → IsPlain k → Spells k v b → canon k v ≡ b
 plain_is (fixed f) v b plain h = fixed_is f v b h

@@ -26,9 +26,10 @@ use Rattle.ax_tables.specs.Standing.{StandsFor}
 use Rattle.ax_tables.specs.Table.{record_kind_at}
 use Rattle.ax_tables.specs.declared.codec.Codec.{Codec}
 use Rattle.ax_view.proofs.ItemSteps.{is_marked}
-use Rattle.ax_view.proofs.Plain.{IsPlain, plain_is}
+use Rattle.ax_view.proofs.Plain.{plain_is}
 use Rattle.ax_model.specs.Canonical.{canon}
 use Rattle.ax_view.specs.Values.{IsAll, IsOne, IsRecord, value_read, value_in, entries_in, SpellsAny}
+use Rattle.ax_view.specs.Plain.{IsPlain}
 
 pub all_spelled : (k : KindTree) (xs : List ℕ) → InBounds k → (r : Read ValueTree) → read k (bits xs) ≡ r → IsAll r → Spells k (value_read r) (bits xs)
 all_spelled k xs bounds (got v n y) e h = spelled_by_reading k v (bits xs) n (bounds_sound k bounds) (bits-AreBits xs) (e ∙ ap (λ y. got v n y) h)

@@ -81,8 +81,8 @@ run_last f body at here end w least h bounds le within e l fx =
     let v = fixed_value f (drop (8 * here) (bits body)) in
     plain_again (by_fx f) body at end false least tt bounds (h.leads.gets end false (λ t. t) (walks_blind (run_canon f) (run_at f body here) body here end (value_and v no_values) (run_ends f body here end w 0 v u (sym e) refl refl)))
 
-pub run_lost : (f : FixedTree) (body : List ℕ) (at here w : ℕ) (fault : BodyFault) → RunLeads f body at here → w ≡ width f → 8 * (length body - here) < w + 1 → fault.cause ≡ RunsOut → fault.bit ≡ 8 * here → FailsAt (kind_read (by_fx f) body at) at fault
-run_lost f body at here w fault h e short c b = h.leads.loses fault (run_fails f body here fault (omega arith) c b)
+pub run_failed : (f : FixedTree) (body : List ℕ) (at here w : ℕ) (fault : BodyFault) → RunLeads f body at here → w ≡ width f → 8 * (length body - here) < w + 1 → fault.cause ≡ RunsOut → fault.bit ≡ 8 * here → FailsAt (kind_read (by_fx f) body at) at fault
+run_failed f body at here w fault h e short c b = h.leads.fails fault (run_fails f body here fault (omega arith) c b)
 
 -- ---- parts
 
@@ -120,11 +120,11 @@ parts_last all p left body at here end w least h bounds le within e l fx =
 pub parts_past : (all : List MembersTree) (p : MembersTree) (body : List ℕ) (at here end w : ℕ) (fault : BodyFault) → PartsLead all (p ∷ []) body at here → here ≤ end → end ≤ length body → w ≡ members_width p → w + 1 ≡ 8 * (end - here)
     → get_or body (end - 1) 0 % 2 ≡ 1 → fault.cause ≡ ExtensionPastEnd → fault.bit + 1 ≡ 8 * end → FailsAt (kind_read (extended all) body at) at fault
 parts_past all p body at here end w fault h le within e l fx c b =
-    h.leads.loses fault (parts_past_end p body here end w 1 fault (unit_at body here end w 1 le within l fx) (sym e) refl c b)
+    h.leads.fails fault (parts_past_end p body here end w 1 fault (unit_at body here end w 1 le within l fx) (sym e) refl c b)
 
-pub parts_lost : (all : List MembersTree) (p : MembersTree) (left : List MembersTree) (body : List ℕ) (at here w : ℕ) (fault : BodyFault) → PartsLead all (p ∷ left) body at here → w ≡ members_width p → 8 * (length body - here) < w + 1 → fault.cause ≡ RunsOut → fault.bit ≡ 8 * here
+pub parts_failed : (all : List MembersTree) (p : MembersTree) (left : List MembersTree) (body : List ℕ) (at here w : ℕ) (fault : BodyFault) → PartsLead all (p ∷ left) body at here → w ≡ members_width p → 8 * (length body - here) < w + 1 → fault.cause ≡ RunsOut → fault.bit ≡ 8 * here
     → FailsAt (kind_read (extended all) body at) at fault
-parts_lost all p left body at here w fault h e short c b = h.leads.loses fault (parts_fail p left body here fault (omega arith) c b)
+parts_failed all p left body at here w fault h e short c b = h.leads.fails fault (parts_fail p left body here fault (omega arith) c b)
 
 -- ---- explicit
 

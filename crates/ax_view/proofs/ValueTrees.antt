@@ -13,9 +13,6 @@ number_tree n = ap value_tree (sym (rolls-Number n)) ∙ fold-roll-Value ValueTr
 pub group_value_tree : (vs : List Value) → value_tree (Group vs) ≡ member_values (values_of (map value_tree vs))
 group_value_tree vs = ap value_tree (sym (rolls-Group vs)) ∙ fold-roll-Value ValueTree (ℕ × ValueTree) value_step entry_step (Value-F.Group vs)
 
-pub extended_value_tree : (ls : List (List Value)) → value_tree (Extended ls) ≡ part_values (lists_of (map value_list ls))
-extended_value_tree ls = ap value_tree (sym (rolls-Extended ls)) ∙ fold-roll-Value ValueTree (ℕ × ValueTree) value_step entry_step (Value-F.Extended ls)
-
 pub repeat_tree : (vs : List Value) → value_tree (Repeat vs) ≡ occurrences (values_of (map value_tree vs))
 repeat_tree vs = ap value_tree (sym (rolls-Repeat vs)) ∙ fold-roll-Value ValueTree (ℕ × ValueTree) value_step entry_step (Value-F.Repeat vs)
 

@@ -5,6 +5,7 @@ use Rattle.std.specs.Coded.{Coded-set, coded_ℕ, coded_list, le_prop, Unit-prop
 use Rattle.ax_bits.specs.Bits.{bits}
 use Rattle.ax_model.specs.InBounds.{PartInBounds}
 use Rattle.ax_model.specs.Reader.{Read, got, failed, read}
+use Rattle.ax_model.specs.Sizes.{longest_body}
 use Rattle.ax_model.specs.Tree.{MembersTree, KindTree, fixed, extended, counted, by_fx, explicit, compound, ValueTree}
 use Rattle.ax_model.specs.Widths.{width, members_width}
 use Rattle.ax_tables.specs.Facts.{links_prop, part_bounds_prop}
@@ -70,7 +71,7 @@ pub record ArePartsLeft (nodes : List Node) (links octets : List ℕ) : Type 0 w
   pub links_within : LinksWithin (length nodes) links
   pub bounds : AllByRecursion PartInBounds (linked_parts (meanings nodes) links)
   pub pieces_are : ArePartPieces (map part_size (linked_parts (meanings nodes) links)) octets
-  pub few : length octets ≤ 65532
+  pub few : length octets ≤ longest_body
 
 pub ArePartsLeft-prop : (nodes : List Node) (links octets : List ℕ) → IsProp (ArePartsLeft nodes links octets)
 ArePartsLeft-prop nodes links octets a b = λ i. record {
@@ -88,8 +89,8 @@ pub record AreOccurrencesLeft (codec : Codec) (link : ℕ) (fx : Bool) (count : 
   pub within : link ≤ length codec.nodes
   pub bounds : ItemInBounds fx (kind_at codec.nodes link)
   pub pieces_are : ArePieces fx (kind_at codec.nodes link) count octets
-  pub count_few : count ≤ 65532
-  pub few : length octets ≤ 65532
+  pub count_few : count ≤ longest_body
+  pub few : length octets ≤ longest_body
 
 pub AreOccurrencesLeft-prop : (codec : Codec) (link : ℕ) (fx : Bool) (count : ℕ) (octets : List ℕ) → IsProp (AreOccurrencesLeft codec link fx count octets)
 AreOccurrencesLeft-prop codec link fx count octets a b = λ i. record {

@@ -4,6 +4,7 @@ use Rattle.ax_bits.specs.Bits.{bits}
 use Rattle.ax_model.specs.At.{nth_value, nth_list, value_at, number_of_value}
 use Rattle.ax_model.specs.InBounds.{FixedInBounds, MembersInBounds}
 use Rattle.ax_model.specs.Reader.{fixed_value, members_value}
+use Rattle.ax_model.specs.Sizes.{longest_body}
 use Rattle.ax_model.specs.Tree.{FixedTree, MembersTree, extended, ValueTree, no_values, part_values, ListsTree, no_lists}
 use Rattle.ax_model.specs.Widths.{width, members_width}
 use Rattle.ax_tables.specs.Meaning.{meanings, linked, fixed_of, part_of}
@@ -63,7 +64,7 @@ pub record IsFixedAt (nodes : List Node) (body : List ℕ) (found : Option Value
   pub some : 0 < link
   pub within : link ≤ length nodes
   pub bounds : FixedInBounds (fixed_of (linked (meanings nodes) link))
-  pub few : length body ≤ 65532
+  pub few : length body ≤ longest_body
   pub room : bit + width (fixed_of (linked (meanings nodes) link)) ≤ 8 * length body
   pub value : found ≡ Some (fixed_value (fixed_of (linked (meanings nodes) link)) (drop bit (bits body)))
 

@@ -4,6 +4,7 @@ use Rattle.std.specs.Coded.{Coded-set, coded_ℕ, coded_list, le_prop}
 use Rattle.ax_bits.specs.Bits.{bits}
 use Rattle.ax_model.specs.Reader.{Read, got, failed, read}
 use Rattle.ax_model.specs.InBounds.{InBounds}
+use Rattle.ax_model.specs.Sizes.{longest_body}
 use Rattle.ax_model.specs.Tree.{KindTree, fixed, extended, counted, by_fx, explicit, compound, ValueTree, marked, EntriesTree, no_entries}
 use Rattle.ax_model.specs.Widths.{width}
 use Rattle.ax_model.specs.Bodies.{SpellsRecord}
@@ -38,7 +39,7 @@ value_in k octets = value_read (read k (bits octets))
 -- the octets spell one value of the kind, and are those of a body
 pub record IsOne (k : KindTree) (octets : List ℕ) : Type 0 where
   pub all : IsAll (read k (bits octets))
-  pub few : length octets ≤ 65532
+  pub few : length octets ≤ longest_body
 
 -- the octets are those of a value of a fixed kind and its FX bit
 abbrev pub FitsWithFx : KindTree → List ℕ → Type 0
@@ -59,7 +60,7 @@ FitsWithFx-prop (compound ss) octets = λ a b. absurd a
 
 pub record IsWithFx (k : KindTree) (octets : List ℕ) : Type 0 where
   pub fits : FitsWithFx k octets
-  pub few : length octets ≤ 65532
+  pub few : length octets ≤ longest_body
 
 -- the octets of one value of the kind, or of an occurrence by FX
 abbrev pub IsItemOf : Bool → KindTree → List ℕ → Type 0

@@ -20,7 +20,7 @@ pub record Leads {A B : Type 0} (rule : A → List ℕ) (next : Read A) (whole_r
   pub forwards : at ≤ here
   pub within : here ≤ length body
   pub gets : (end : ℕ) (l : Bool) → (IsTrue l → IsTrue least) → Walks rule next body here end l → Walks whole_rule whole body at end l
-  pub loses : (fault : BodyFault) → FailsAt next here fault → FailsAt whole at fault
+  pub fails : (fault : BodyFault) → FailsAt next here fault → FailsAt whole at fault
 
 -- the canonical spellings of entries, one for each marked slot
 abbrev pub along_entries : KindTree → (EntriesTree → List ℕ) → EntriesTree → List ℕ

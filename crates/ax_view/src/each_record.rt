@@ -1,6 +1,7 @@
 //! The next record of a body.
 ghost use Rattle.std.specs.Prelude.{◌≡◌, ◌≤◌, length, IfSome, IfNone};
 ghost use Rattle.std.specs.Iterator.{YieldsFirstBy, item_count};
+ghost use Rattle.ax_model.specs.Sizes.{longest_body};
 ghost use Rattle.ax_reader.specs.Reading.{FailsAt, kind_read};
 ghost use Rattle.ax_tables.specs.Table.{record_kind_at};
 ghost use Rattle.ax_view.specs.Left.{record_shown, records_left};
@@ -20,7 +21,7 @@ pub fn record_at<'c, 'a>(
     body: &'a [u8],
     at: u32,
 ) -> Option<(RecordView<'c, 'a>, u32)>
-    requires body { length body.now ≤ 65532 }
+    requires body { length body.now ≤ longest_body }
     requires at { at ≤ length body.now }
     ensures some { IfSome result (λ r. IsRecordAt codec.now body.now at r.1 r.0.body.now) }
     ensures codec { IfSome result (λ r. r.0.codec.now ≡ codec.now) }
@@ -39,7 +40,7 @@ pub fn record_noted<'c, 'a>(
     at: u32,
     notes: &mut Notes,
 ) -> Option<(RecordView<'c, 'a>, u32)>
-    requires body { length body.now ≤ 65532 }
+    requires body { length body.now ≤ longest_body }
     requires at { at ≤ length body.now }
     ensures some { IfSome result (λ r. IsRecordAt codec.now body.now at r.1 r.0.body.now) }
     ensures codec { IfSome result (λ r. r.0.codec.now ≡ codec.now) }

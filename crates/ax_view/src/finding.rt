@@ -5,6 +5,7 @@ ghost use Rattle.ax_fspec.specs.declared.mask.SlotMask.{SlotMask};
 ghost use Rattle.ax_model.specs.Canonical.{canon};
 ghost use Rattle.ax_model.specs.InBounds.{InBounds, SlotsInBounds};
 ghost use Rattle.ax_model.specs.Presence.{NoneUndefined};
+ghost use Rattle.ax_model.specs.Sizes.{longest_body};
 ghost use Rattle.ax_model.specs.Tree as Tree;
 ghost use Rattle.ax_tables.specs.Meaning.{meanings, linked_slots};
 ghost use Rattle.ax_tables.specs.Table.{IsTable, SlotLinksWithin, kind_at, record_kind_at};
@@ -58,7 +59,7 @@ fn find_marked<'c, 'a>(
     requires bounds { SlotsInBounds (Tree.slots_of (linked_slots (meanings codec.now.nodes) slots.now)) }
     requires marks { AreBits marked }
     requires clear { NoneUndefined (Tree.defined_slots (Tree.slots_of (linked_slots (meanings codec.now.nodes) slots.now))) marked }
-    requires body { length body.now ≤ 65532 }
+    requires body { length body.now ≤ longest_body }
     requires at { at ≤ length body.now }
     requires all { IsAll (entries_at (Tree.slots_of (linked_slots (meanings codec.now.nodes) slots.now)) marked body.now at) }
     ensures value { option_map item_value result ≡ slot_value slot (entries_found (entries_at (Tree.slots_of (linked_slots (meanings codec.now.nodes) slots.now)) marked body.now at)) }
@@ -95,7 +96,7 @@ pub(crate) fn walk_of(
 ) -> Option<u32>
     requires link { (0 < link) × (link ≤ length codec.now.nodes) }
     requires bounds { InBounds (kind_at codec.now.nodes link) }
-    requires body { length body.now ≤ 65532 }
+    requires body { length body.now ≤ longest_body }
     requires at { at ≤ length body.now }
     ensures end { IfSome result (λ end. Walks (canon (kind_at codec.now.nodes link)) (kind_read (kind_at codec.now.nodes link) body.now at) body.now at end notes.new.least) }
     ensures fault { IfNone result (FailsAt (kind_read (kind_at codec.now.nodes link) body.now at) at notes.new.fault) }

@@ -1,9 +1,11 @@
 //! Values of fixed kinds and of parts, made of their bits.
 ghost use Rattle.std.specs.Prelude.{◌≡◌, ◌+◌, ◌*◌, ◌<◌, ◌≤◌, length, drop, map, IfOk};
 ghost use Rattle.ax_bits.specs.Bits.{bits};
+ghost use Rattle.ax_lists.specs.Sizes.{list_bound};
 ghost use Rattle.ax_model.specs.InBounds.{InBounds, FixedInBounds, MembersInBounds};
 ghost use Rattle.ax_model.specs.Plain.{value_tree, values_tree, lists_tree};
 ghost use Rattle.ax_model.specs.Reader.{fixed_value, members_value};
+ghost use Rattle.ax_model.specs.Sizes.{longest_body};
 ghost use Rattle.ax_model.specs.Tree as Tree;
 ghost use Rattle.ax_model.specs.Widths.{width, members_width};
 ghost use Rattle.ax_tables.specs.Meaning.{meanings, linked, fixed_of, part_of, linked_members, linked_parts};
@@ -28,7 +30,7 @@ pub(crate) fn fixed_to_value(
     requires table { IsTable nodes.now }
     requires link { (0 < link) × (link ≤ length nodes.now) }
     requires bounds { FixedInBounds (fixed_of (linked (meanings nodes.now) link)) }
-    requires body { length body.now ≤ 65532 }
+    requires body { length body.now ≤ longest_body }
     requires room { at + width (fixed_of (linked (meanings nodes.now) link)) ≤ 8 * length body.now }
     ensures { IfOk result (λ value. value_tree value ≡ fixed_value (fixed_of (linked (meanings nodes.now) link)) (drop at (bits body.now))) }
 {
@@ -53,9 +55,9 @@ pub(crate) fn members_to_values(
 ) -> Result<Values, AllocError>
     requires table { IsTable nodes.now }
     requires links { LinksWithin (length nodes.now) members.now }
-    requires few { length members.now < 4294967296 }
+    requires few { length members.now < list_bound }
     requires bounds { MembersInBounds (linked_members (meanings nodes.now) members.now) }
-    requires body { length body.now ≤ 65532 }
+    requires body { length body.now ≤ longest_body }
     requires room { at + members_width (linked_members (meanings nodes.now) members.now) ≤ 8 * length body.now }
     ensures { IfOk result (λ values. values_tree values ≡ members_value (linked_members (meanings nodes.now) members.now) (drop at (bits body.now))) }
 {
@@ -82,7 +84,7 @@ fn part_to_values(
     requires table { IsTable nodes.now }
     requires link { (0 < link) × (link ≤ length nodes.now) }
     requires bounds { MembersInBounds (part_of (linked (meanings nodes.now) link)) }
-    requires body { length body.now ≤ 65532 }
+    requires body { length body.now ≤ longest_body }
     requires room { at + members_width (part_of (linked (meanings nodes.now) link)) ≤ 8 * length body.now }
     ensures { IfOk result (λ values. values_tree values ≡ members_value (part_of (linked (meanings nodes.now) link)) (drop at (bits body.now))) }
 {

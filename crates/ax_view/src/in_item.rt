@@ -1,6 +1,7 @@
 //! What stands in the value of an item.
 ghost use Rattle.std.specs.Prelude.{◌≡◌, ◌-◌, ◌≤◌, length, get_or, option_map, Some, IfSome};
 ghost use Rattle.ax_model.specs.At.{slot_value};
+ghost use Rattle.ax_model.specs.Sizes.{longest_body};
 ghost use Rattle.ax_model.specs.Tree.{explicit};
 ghost use Rattle.ax_view.specs.Left.{parts_left, occurrences_left};
 ghost use Rattle.ax_view.specs.Shown.{item_value, item_entries, content_in, IsSubitem, SpellsItem, IsParts, IsOccurrences};
@@ -82,7 +83,7 @@ impl<'c, 'a> ItemView<'c, 'a> {
 pub(crate) fn content(body: &[u8]) -> &[u8]
     requires { IsOne explicit body.now }
     ensures value { Some result.now ≡ content_in (value_in explicit body.now) }
-    ensures few { length result.now ≤ 65532 }
+    ensures few { length result.now ≤ longest_body }
 {
     let length = body[0] as usize;
     &body[1..length]

@@ -1,5 +1,6 @@
 //! The walk over a body's octets by the nodes of a table.
 ghost use Rattle.std.specs.Prelude.{◌≡◌, ◌+◌, ◌-◌, ◌*◌, ◌%◌, ◌<◌, ◌≤◌, length, map, get_or, IfSome, IfNone, IsTrue};
+ghost use Rattle.ax_model.specs.Sizes.{longest_body};
 ghost use Rattle.ax_tables.specs.Octets.{octets_of};
 ghost use Rattle.ax_bits.specs.Bits.{AreBits};
 ghost use Rattle.ax_fspec.specs.declared.mask.SlotMask.{SlotMask};
@@ -22,7 +23,7 @@ use ax_tables::{Codec, Node};
 /// The octet after the record that begins at octet `at`.
 #[inline]
 pub fn walk_record(codec: &Codec, body: &[u8], at: u32, notes: &mut Notes) -> Option<u32>
-    requires body { length body.now ≤ 65532 }
+    requires body { length body.now ≤ longest_body }
     requires at { at ≤ length body.now }
     ensures end { IfSome result (λ end. Walks (canon (record_kind_at codec.now.nodes codec.now.slots)) (kind_read (record_kind_at codec.now.nodes codec.now.slots) body.now at) body.now at end notes.new.least) }
     ensures fault { IfNone result (FailsAt (kind_read (record_kind_at codec.now.nodes codec.now.slots) body.now at) at notes.new.fault) }
@@ -55,7 +56,7 @@ fn walk_slots(
     requires links { SlotLinksWithin (length nodes.now) slots.now }
     requires mask { IsMaskOf (linked_slots (meanings nodes.now) slots.now) mask.now }
     requires bounds { InBounds (record_kind_at nodes.now slots.now) }
-    requires body { length body.now ≤ 65532 }
+    requires body { length body.now ≤ longest_body }
     requires at { at ≤ length body.now }
     ensures end { IfSome result (λ end. Walks (canon (record_kind_at nodes.now slots.now)) (kind_read (record_kind_at nodes.now slots.now) body.now at) body.now at end notes.new.least) }
     ensures fault { IfNone result (FailsAt (kind_read (record_kind_at nodes.now slots.now) body.now at) at notes.new.fault) }
@@ -91,7 +92,7 @@ fn walk_items(
     requires bounds { SlotsInBounds (Tree.slots_of (linked_slots (meanings nodes.now) slots.now)) }
     requires marks { AreBits marked }
     requires clear { NoneUndefined (Tree.defined_slots (Tree.slots_of (linked_slots (meanings nodes.now) slots.now))) marked }
-    requires body { length body.now ≤ 65532 }
+    requires body { length body.now ≤ longest_body }
     requires at { at ≤ length body.now }
     ensures end { IfSome result (λ end. Walks (along (Tree.slots_of (linked_slots (meanings nodes.now) slots.now)) marked) (entries_at (Tree.slots_of (linked_slots (meanings nodes.now) slots.now)) marked body.now at) body.now at end notes.new.least) }
     ensures fault { IfNone result (FailsAt (entries_at (Tree.slots_of (linked_slots (meanings nodes.now) slots.now)) marked body.now at) at notes.new.fault) }
@@ -119,7 +120,7 @@ pub(crate) fn walk_item(
     requires octets { octets.now ≡ map octets_of nodes.now }
     requires link { (0 < link) × (link ≤ length nodes.now) }
     requires bounds { InBounds (kind_at nodes.now link) }
-    requires body { length body.now ≤ 65532 }
+    requires body { length body.now ≤ longest_body }
     requires at { at ≤ length body.now }
     ensures end { IfSome result (λ end. Walks (canon (kind_at nodes.now link)) (kind_read (kind_at nodes.now link) body.now at) body.now at end notes.new.least) }
     ensures fault { IfNone result (FailsAt (kind_read (kind_at nodes.now link) body.now at) at notes.new.fault) }
@@ -147,7 +148,7 @@ pub fn walk(nodes: &[Node], link: u32, body: &[u8], at: u32, notes: &mut Notes) 
     requires table { IsTable nodes.now }
     requires link { (0 < link) × (link ≤ length nodes.now) }
     requires bounds { InBounds (kind_at nodes.now link) }
-    requires body { length body.now ≤ 65532 }
+    requires body { length body.now ≤ longest_body }
     requires at { at ≤ length body.now }
     ensures end { IfSome result (λ end. Walks (canon (kind_at nodes.now link)) (kind_read (kind_at nodes.now link) body.now at) body.now at end notes.new.least) }
     ensures fault { IfNone result (FailsAt (kind_read (kind_at nodes.now link) body.now at) at notes.new.fault) }
@@ -173,7 +174,7 @@ fn walk_counted(nodes: &[Node], inner: u32, body: &[u8], at: u32, notes: &mut No
     requires table { IsTable nodes.now }
     requires link { (0 < inner) × (inner ≤ length nodes.now) }
     requires bounds { InBounds (kind_at nodes.now inner) }
-    requires body { length body.now ≤ 65532 }
+    requires body { length body.now ≤ longest_body }
     requires at { at ≤ length body.now }
     ensures end { IfSome result (λ end. Walks (canon (Tree.counted (kind_at nodes.now inner))) (kind_read (Tree.counted (kind_at nodes.now inner)) body.now at) body.now at end notes.new.least) }
     ensures fault { IfNone result (FailsAt (kind_read (Tree.counted (kind_at nodes.now inner)) body.now at) at notes.new.fault) }
@@ -205,7 +206,7 @@ fn walk_compound(
     requires links { SlotLinksWithin (length nodes.now) slots.now }
     requires mask { IsMaskOf (linked_slots (meanings nodes.now) slots.now) mask.now }
     requires bounds { InBounds (record_kind_at nodes.now slots.now) }
-    requires body { length body.now ≤ 65532 }
+    requires body { length body.now ≤ longest_body }
     requires at { at ≤ length body.now }
     ensures end { IfSome result (λ end. Walks (canon (record_kind_at nodes.now slots.now)) (kind_read (record_kind_at nodes.now slots.now) body.now at) body.now at end notes.new.least) }
     ensures fault { IfNone result (FailsAt (kind_read (record_kind_at nodes.now slots.now) body.now at) at notes.new.fault) }
@@ -251,7 +252,7 @@ fn walk_marked(
     requires bounds { SlotsInBounds (Tree.slots_of (linked_slots (meanings nodes.now) slots.now)) }
     requires marks { AreBits marked }
     requires clear { NoneUndefined (Tree.defined_slots (Tree.slots_of (linked_slots (meanings nodes.now) slots.now))) marked }
-    requires body { length body.now ≤ 65532 }
+    requires body { length body.now ≤ longest_body }
     requires at { at ≤ length body.now }
     ensures end { IfSome result (λ end. Walks (along (Tree.slots_of (linked_slots (meanings nodes.now) slots.now)) marked) (entries_at (Tree.slots_of (linked_slots (meanings nodes.now) slots.now)) marked body.now at) body.now at end notes.new.least) }
     ensures fault { IfNone result (FailsAt (entries_at (Tree.slots_of (linked_slots (meanings nodes.now) slots.now)) marked body.now at) at notes.new.fault) }

@@ -4,6 +4,7 @@ ghost use Rattle.ax_bits.specs.Bits.{AreBits};
 ghost use Rattle.ax_fspec.specs.declared.mask.SlotMask.{SlotMask};
 ghost use Rattle.ax_model.specs.InBounds.{InBounds, SlotsInBounds};
 ghost use Rattle.ax_model.specs.Presence.{NoneUndefined};
+ghost use Rattle.ax_model.specs.Sizes.{longest_body};
 ghost use Rattle.ax_model.specs.Tree as Tree;
 ghost use Rattle.ax_reader.specs.Reading.{FailsAt, IsMaskOf, kind_read, entries_at};
 ghost use Rattle.ax_tables.specs.Meaning.{meanings, linked_slots};
@@ -28,7 +29,7 @@ pub fn place_record(
     notes: &mut Notes,
     places: &mut Places,
 ) -> Option<u32>
-    requires body { length body.now ≤ 65532 }
+    requires body { length body.now ≤ longest_body }
     requires at { at ≤ length body.now }
     ensures end { IfSome result (PlacesKind codec.now.nodes codec.now.slots body.now at places.new) }
     ensures fault { IfNone result (FailsAt (kind_read (record_kind_at codec.now.nodes codec.now.slots) body.now at) at notes.new.fault) }
@@ -62,7 +63,7 @@ fn place_slots(
     requires links { SlotLinksWithin (length nodes.now) slots.now }
     requires mask { IsMaskOf (linked_slots (meanings nodes.now) slots.now) mask.now }
     requires bounds { InBounds (record_kind_at nodes.now slots.now) }
-    requires body { length body.now ≤ 65532 }
+    requires body { length body.now ≤ longest_body }
     requires at { at ≤ length body.now }
     ensures end { IfSome result (PlacesKind nodes.now slots.now body.now at places.new) }
     ensures fault { IfNone result (FailsAt (kind_read (record_kind_at nodes.now slots.now) body.now at) at notes.new.fault) }
@@ -107,7 +108,7 @@ fn place_items(
     requires bounds { SlotsInBounds (Tree.slots_of (linked_slots (meanings nodes.now) slots.now)) }
     requires marks { AreBits marked }
     requires clear { NoneUndefined (Tree.defined_slots (Tree.slots_of (linked_slots (meanings nodes.now) slots.now))) marked }
-    requires body { length body.now ≤ 65532 }
+    requires body { length body.now ≤ longest_body }
     requires at { at ≤ length body.now }
     requires windows { length windows.old ≡ 127 }
     ensures end { IfSome result (PlacesEntries nodes.now slots.now marked body.now at windows.new) }

@@ -4,6 +4,7 @@ ghost use Rattle.ax_bits.specs.Bits.{bits};
 ghost use Rattle.ax_model.specs.At.{value_at, number_of_value};
 ghost use Rattle.ax_model.specs.InBounds.{InBounds, FixedInBounds};
 ghost use Rattle.ax_model.specs.Reader.{fixed_value};
+ghost use Rattle.ax_model.specs.Sizes.{longest_body};
 ghost use Rattle.ax_model.specs.Tree as Tree;
 ghost use Rattle.ax_model.specs.Widths.{width};
 ghost use Rattle.ax_tables.specs.Meaning.{meanings, linked, fixed_of, linked_parts};
@@ -64,7 +65,7 @@ fn fixed_spot<'a>(nodes: &[Node], link: u32, octets: &'a [u8], steps: &[u32]) ->
     requires table { IsTable nodes.now }
     requires link { (0 < link) × (link ≤ length nodes.now) }
     requires bounds { FixedInBounds (fixed_of (linked (meanings nodes.now) link)) }
-    requires octets { length octets.now ≤ 65532 }
+    requires octets { length octets.now ≤ longest_body }
     requires room { width (fixed_of (linked (meanings nodes.now) link)) ≤ 8 * length octets.now }
     ensures { IsSpot nodes.now result (value_at steps.now (fixed_value (fixed_of (linked (meanings nodes.now) link)) (bits octets.now))) }
 {
@@ -135,7 +136,7 @@ pub(crate) fn fixed_number(nodes: &[Node], link: u32, at: u32, body: &[u8]) -> O
     requires table { IsTable nodes.now }
     requires link { (0 < link) × (link ≤ length nodes.now) }
     requires bounds { FixedInBounds (fixed_of (linked (meanings nodes.now) link)) }
-    requires body { length body.now ≤ 65532 }
+    requires body { length body.now ≤ longest_body }
     requires room { at + width (fixed_of (linked (meanings nodes.now) link)) ≤ 8 * length body.now }
     ensures { result ≡ number_of_value (fixed_value (fixed_of (linked (meanings nodes.now) link)) (drop at (bits body.now))) }
 {

@@ -4,6 +4,7 @@ ghost use Rattle.ax_bits.specs.Bits.{bits, AreBits};
 ghost use Rattle.ax_model.specs.InBounds.{FixedInBounds, InBounds, SlotsInBounds};
 ghost use Rattle.ax_model.specs.Plain.{value_tree, entries_tree, record_tree};
 ghost use Rattle.ax_model.specs.Reader.{fixed_value};
+ghost use Rattle.ax_model.specs.Sizes.{longest_body};
 ghost use Rattle.ax_model.specs.Widths.{width};
 ghost use Rattle.ax_model.specs.Presence.{NoneUndefined};
 ghost use Rattle.ax_model.specs.Tree.{extended, slots_of, defined_slots};
@@ -73,7 +74,7 @@ fn item_to_value(alloc: Global, item: &ItemView<'_, '_>) -> Result<Value, AllocE
 fn fixed_item(alloc: Global, codec: &Codec, link: u32, body: &[u8]) -> Result<Value, AllocError>
     requires link { (0 < link) × (link ≤ length codec.now.nodes) }
     requires bounds { FixedInBounds (fixed_of (linked (meanings codec.now.nodes) link)) }
-    requires body { length body.now ≤ 65532 }
+    requires body { length body.now ≤ longest_body }
     requires room { width (fixed_of (linked (meanings codec.now.nodes) link)) ≤ 8 * length body.now }
     ensures { IfOk result (λ value. value_tree value ≡ fixed_value (fixed_of (linked (meanings codec.now.nodes) link)) (bits body.now)) }
 {
@@ -98,7 +99,7 @@ fn extended_item(
 
 /// A list of the octets.
 fn copy_octets(alloc: Global, octets: &[u8]) -> Result<Octets, AllocError>
-    requires { length octets.now ≤ 65532 }
+    requires { length octets.now ≤ longest_body }
     ensures { IfOk result (λ made. made ≡ octets.now) }
 {
     let mut made = Octets::new(alloc);
@@ -161,7 +162,7 @@ fn marked_to_values(
     requires marks { AreBits marked }
     requires size { length marked ≡ 126 }
     requires clear { NoneUndefined (defined_slots (slots_of (linked_slots (meanings codec.now.nodes) slots.now))) marked }
-    requires body { length body.now ≤ 65532 }
+    requires body { length body.now ≤ longest_body }
     requires at { at ≤ length body.now }
     requires all { IsAll (entries_at (slots_of (linked_slots (meanings codec.now.nodes) slots.now)) marked body.now at) }
     ensures { IfOk result (λ made. entries_tree made ≡ entries_found (entries_at (slots_of (linked_slots (meanings codec.now.nodes) slots.now)) marked body.now at)) }

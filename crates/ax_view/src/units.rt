@@ -2,6 +2,7 @@
 ghost use Rattle.std.specs.Prelude.{◌≡◌, ◌+◌, ◌-◌, ◌*◌, ◌%◌, ◌<◌, ◌≤◌, ◌↔◌, length, get_or, IfSome, IfNone, IsTrue};
 ghost use Rattle.ax_model.specs.Canonical.{canon};
 ghost use Rattle.ax_model.specs.InBounds.{InBounds};
+ghost use Rattle.ax_model.specs.Sizes.{longest_body};
 ghost use Rattle.ax_model.specs.Tree as Tree;
 ghost use Rattle.ax_model.specs.Widths.{width, members_width};
 ghost use Rattle.ax_model.specs.declared.fault.BodyCause.TheVariants as Cause;
@@ -18,7 +19,7 @@ use ax_tables::Node;
 #[inline(always)]
 pub(crate) fn run(body: &[u8], at: u32, width: u32, notes: &mut Notes) -> Option<u32>
     requires width { (width % 8 ≡ 0) × (width ≤ 524264) }
-    requires body { length body.now ≤ 65532 }
+    requires body { length body.now ≤ longest_body }
     requires at { at ≤ length body.now }
     ensures end { IfSome result (λ end. (at ≤ end) × (end ≤ length body.now) × (width ≡ 8 * (end - at))) }
     ensures short { IfNone result (8 * (length body.now - at) < width) }
@@ -75,7 +76,7 @@ pub(crate) fn walk_parts(
     requires table { IsTable nodes.now }
     requires links { LinksWithin (length nodes.now) parts.now }
     requires bounds { InBounds (Tree.extended (linked_parts (meanings nodes.now) parts.now)) }
-    requires body { length body.now ≤ 65532 }
+    requires body { length body.now ≤ longest_body }
     requires at { at ≤ length body.now }
     ensures end { IfSome result (λ end. Walks (canon (Tree.extended (linked_parts (meanings nodes.now) parts.now))) (kind_read (Tree.extended (linked_parts (meanings nodes.now) parts.now)) body.now at) body.now at end notes.new.least) }
     ensures fault { IfNone result (FailsAt (kind_read (Tree.extended (linked_parts (meanings nodes.now) parts.now)) body.now at) at notes.new.fault) }
@@ -109,7 +110,7 @@ pub(crate) fn walk_run(
     requires table { IsTable nodes.now }
     requires link { (0 < inner) × (inner ≤ length nodes.now) }
     requires bounds { InBounds (Tree.by_fx (fixed_of (linked (meanings nodes.now) inner))) }
-    requires body { length body.now ≤ 65532 }
+    requires body { length body.now ≤ longest_body }
     requires at { at ≤ length body.now }
     ensures end { IfSome result (λ end. Walks (canon (Tree.by_fx (fixed_of (linked (meanings nodes.now) inner)))) (kind_read (Tree.by_fx (fixed_of (linked (meanings nodes.now) inner))) body.now at) body.now at end notes.new.least) }
     ensures fault { IfNone result (FailsAt (kind_read (Tree.by_fx (fixed_of (linked (meanings nodes.now) inner))) body.now at) at notes.new.fault) }
@@ -128,7 +129,7 @@ pub(crate) fn walk_run(
 
 /// The octet after an explicit item.
 pub(crate) fn walk_explicit(body: &[u8], at: u32, notes: &mut Notes) -> Option<u32>
-    requires body { length body.now ≤ 65532 }
+    requires body { length body.now ≤ longest_body }
     requires at { at ≤ length body.now }
     ensures end { IfSome result (λ end. Walks (canon Tree.explicit) (kind_read Tree.explicit body.now at) body.now at end notes.new.least) }
     ensures fault { IfNone result (FailsAt (kind_read Tree.explicit body.now at) at notes.new.fault) }

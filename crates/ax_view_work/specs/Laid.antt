@@ -5,6 +5,7 @@ use Rattle.ax_model.specs.Blocks.{read_block}
 use Rattle.ax_model.specs.Bodies.{SpellsBody}
 use Rattle.ax_model.specs.CanonicalOctets.{canon_block}
 use Rattle.ax_model.specs.Flaws.{NoFlaw}
+use Rattle.ax_model.specs.Sizes.{longest_block}
 use Rattle.ax_model.specs.Specification.{SpecTree}
 use Rattle.ax_model.specs.Tree.{EntriesTree}
 use Rattle.ax_tables.specs.Standing.{StandsFor}
@@ -22,7 +23,7 @@ pub record LaysBits (codec : Codec) (body : List ℕ) (count : ℕ) (output : Li
 -- so many octets of the output are the canonical block of the records that the body spells
 pub record IsBlockOf (spec : SpecTree) (records : List EntriesTree) (count : ℕ) (output : List ℕ) : Type 0 where
   pub laid : take count output ≡ canon_block spec (read_block spec.category records)
-  pub within : count ≤ 65535
+  pub within : count ≤ longest_block
 
 -- for each specification that the codec stands for
 pub record LaysCanonical (codec : Codec) (body : List ℕ) (count : ℕ) (output : List ℕ) : Type 0 where

@@ -1,6 +1,7 @@
 //! `canon` over views.
 ghost use Rattle.std.specs.Prelude.{◌≡◌, ◌≤◌, length, IfOk};
 ghost use Rattle.ax_model.specs.Plain.{catalogue_tree};
+ghost use Rattle.ax_model.specs.Sizes.{longest_block};
 ghost use Rattle.ax_stream.specs.BlockCommands.{canon_command};
 ghost use Rattle.ax_tables.specs.Standing.{StandForEach};
 
@@ -21,8 +22,8 @@ pub struct CanonViews<'c> {
     codecs: &'c Codecs,
     output: Vec<u8>,
     filled: u32,
-    ghost room: { length output.items ≡ 65535 },
-    ghost within: { filled ≤ 65535 },
+    ghost room: { length output.items ≡ longest_block },
+    ghost within: { filled ≤ longest_block },
 }
 
 impl<'c> CanonViews<'c> {

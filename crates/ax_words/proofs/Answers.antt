@@ -20,7 +20,7 @@ use Rattle.ax_words.specs.Commands.{program}
 use Rattle.ax_words.specs.Found.{found}
 use Rattle.ax_words.specs.Lines.{AreTaken, AnswersRows, HasFewFiles}
 use Rattle.ax_words.specs.Verbs.{name_of, verb_named}
-use Rattle.ax_words.specs.Words.{IsPlain, HasNoShape, Answers}
+use Rattle.ax_words.specs.Words.{IsPlain, HasNoShape, JudgesWords}
 use Rattle.ax_words.specs.declared.error.WordsError.{WordsError}
 use Rattle.ax_words.specs.declared.line.Line.{Line}
 use Rattle.ax_words.specs.declared.verb.Verb.{Verb}
@@ -74,11 +74,11 @@ names_agree m o e = e ∙ names_at (out-ArgMatches m).subcommand
 -- what a parse that succeeds is known by
 pub record Found (words : List Text) (name : Text) (rows : List Row) : Type 0 where
   pub verb : Verb
-  pub behind : List Text
-  pub words_are : words ≡ name_of verb ∷ behind
-  pub taken_are : AreTaken verb behind
+  pub following : List Text
+  pub words_are : words ≡ name_of verb ∷ following
+  pub taken_are : AreTaken verb following
   pub name_is : name ≡ name_of verb
-  pub rows_are : rows ≡ found verb behind
+  pub rows_are : rows ≡ found verb following
 
 some_pair : (p q : Pair) → some p ≡ some q → p ≡ q
 some_pair p q e = cc
@@ -88,7 +88,7 @@ found_pair words name rows few (taken v ws w p t f s) e g =
     let same : ◌≡◌ {A = Pair} (name, rows) (name_of v, found v ws) = some_pair (name, rows) (name_of v, found v ws) (g ∙ s) in
     record {
       verb = v;
-      behind = ws;
+      following = ws;
       words_are = w;
       taken_are = record { counted = t; plain = p; few = subst (λ x. length x < 4294967296) w few };
       name_is = ap (λ (x : Pair). x.0) same;
@@ -103,11 +103,11 @@ found_in a words m name rows few plain e fault matches n r =
     let pair = pair_is (subcommand_rows_of m) name rows (names_agree m (some name) n) r in
     found_pair words name rows few (parsed words plain few) (fault_is a words [] e fault) (pair ∙ matches_are a words m e matches)
 
-pub answers_line : (words : List Text) (name : Text) (rows : List Row) (v : Verb) (r : Result Line WordsError) → Found words name rows → verb_named name ≡ Some v → AnswersRows v rows r → Answers words r
+pub answers_line : (words : List Text) (name : Text) (rows : List Row) (v : Verb) (r : Result Line WordsError) → Found words name rows → verb_named name ≡ Some v → AnswersRows v rows r → JudgesWords words r
 answers_line words name rows v r x e gives =
     let named_by : some x.verb ≡ some v = sym (named x.verb) ∙ ap verb_named (sym x.name_is) ∙ e in
     let same : x.verb ≡ v = cc in
-    subst (λ ws. Answers ws r) (sym x.words_are) (subst (λ u. AnswersRows u rows r) (sym same) gives x.behind x.taken_are x.rows_are)
+    subst (λ ws. JudgesWords ws r) (sym x.words_are) (subst (λ u. AnswersRows u rows r) (sym same) gives x.following x.taken_are x.rows_are)
 
 pub never_unnamed : (words : List Text) (name : Text) (rows : List Row) → Found words name rows → verb_named name ≡ None → ⊥
 never_unnamed words name rows x e = let bad : some x.verb ≡ None = sym (named x.verb) ∙ ap verb_named (sym x.name_is) ∙ e in cc
@@ -125,7 +125,7 @@ few_files Trial [] lt = omega arith
 few_files Trial (w ∷ ws) lt = omega arith
 
 pub found_few : (words : List Text) (name : Text) (rows : List Row) → Found words name rows → HasFewFiles rows
-found_few words name rows x = subst HasFewFiles (sym x.rows_are) (few_files x.verb x.behind x.taken_are.few)
+found_few words name rows x = subst HasFewFiles (sym x.rows_are) (few_files x.verb x.following x.taken_are.few)
 
 no_kind : (fault : Kinds) (e : Error) → fault ≡ [] → HasKind fault e → (kind_of e ≡ OutOfMemory → ⊥) → ⊥
 no_kind [] e f (inl h) n = n h

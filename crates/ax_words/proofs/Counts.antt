@@ -1,4 +1,4 @@
--- Which words clap takes behind a verb, and what it finds: exactly as many as the verb takes.
+-- Which words clap takes after a verb, and what it finds: exactly as many as the verb takes.
 use Rattle.std.proofs.Common.{◌≡◌, ◌<◌, ◌≤◌, List, [], ◌∷◌, length, refl, codes, arith}
 use Rattle.std.specs.List.{AllByRecursion}
 use Rattle.clap.specs.Lexer.{usize_max}

@@ -1,4 +1,4 @@
--- What clap makes of the words behind a verb.
+-- What clap makes of the words after a verb.
 use Rattle.std.proofs.Common.{◌≡◌, ℕ, suc, ◌≤◌, true, false, List, [], ◌∷◌, ◌++◌, length, Some, refl, sym, ◌∙◌, ap, codes, append_assoc, append-nil, arith}
 use Rattle.std.specs.Prelude.{fold}
 use Rattle.std.specs.List.{AllByRecursion}
@@ -27,7 +27,7 @@ fault s words = level_fault (sub s) [] nothing_held words false []
 abbrev pub rows : Shape → List Text → List Row
 rows s words = rows_after (sub s).rules [] words
 
--- these words of the argument are read, behind those rows
+-- these words of the argument are read, after those rows
 abbrev pub pending : List Row → Text → List Text → Held
 pending before id words = record { rows = before; pending = Some (id, words); skip = 0 }
 

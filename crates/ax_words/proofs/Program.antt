@@ -19,7 +19,7 @@ use Rattle.ax_words.proofs.Counts.{Leaf, takes, refuses, leaf}
 use Rattle.ax_words.proofs.Leaves.{fault, rows}
 use Rattle.ax_words.proofs.Shapes.{other_count, no_verb, no_words}
 
--- ---- behind a verb
+-- ---- after a verb
 
 abbrev stopped : Held → Text → List Text → Walk
 stopped h name ws = record { held = h; waiting = idle; position = 1; is_trailing = false; stopped = Some (name, ws) }
@@ -100,12 +100,12 @@ pick : (w : Text) (vs : List Verb) → Picked w vs
 pick w [] = other tt
 pick w (v ∷ vs) = pick_by w v vs (bytes_eq (name_of v) w) refl (pick w vs)
 
-behind : (v : Verb) (ws : List Text) → AllByRecursion IsPlain ws → Leaf (shape_of_verb v) (TakesWords v (length ws)) ws (found v ws) → Parsed (name_of v ∷ ws)
-behind v ws all (takes t f r) = taken v ws refl all t (enters v ws ∙ f) (finds v ws ∙ ap (λ x. Some (name_of v, x)) r)
-behind v ws all (refuses n f) = refused (other_count v ws n) (λ e. f (sym (enters v ws) ∙ e))
+following : (v : Verb) (ws : List Text) → AllByRecursion IsPlain ws → Leaf (shape_of_verb v) (TakesWords v (length ws)) ws (found v ws) → Parsed (name_of v ∷ ws)
+following v ws all (takes t f r) = taken v ws refl all t (enters v ws ∙ f) (finds v ws ∙ ap (λ x. Some (name_of v, x)) r)
+following v ws all (refuses n f) = refused (other_count v ws n) (λ e. f (sym (enters v ws) ∙ e))
 
 by_name : (w : Text) (ws : List Text) → IsPlain w → AllByRecursion IsPlain ws → suc (length ws) < 4294967296 → Picked w verbs → Parsed (w ∷ ws)
-by_name w ws p all few (named v e) = subst (λ x. Parsed (x ∷ ws)) e (behind v ws all (leaf v ws all (omega (arith, few))))
+by_name w ws p all few (named v e) = subst (λ x. Parsed (x ∷ ws)) e (following v ws all (leaf v ws all (omega (arith, few))))
 by_name w ws p all few (other none) = refused (no_verb w ws p none) (unknown w ws p none)
 
 pub parsed : (words : List Text) → AllByRecursion IsPlain words → length words < 4294967296 → Parsed words

@@ -1,4 +1,4 @@
--- Which words ask for a line: by their first word, and by how many stand behind it.
+-- Which words ask for a line: by their first word, and by how many stand after it.
 use Rattle.std.proofs.Common.{◌≡◌, ℕ, ◌≤◌, true, false, List, [], ◌∷◌, length, drop, Option, Some, None, refl, sym, ◌∙◌, ap, subst, codes, arith}
 use Rattle.std.specs.Prelude.{bytes_eq}
 use Rattle.std.specs.List.{AllByRecursion}
@@ -74,7 +74,7 @@ counted (LineOf.Trial file seed count) h = refl
 counted LineOf.Help h = tt
 counted LineOf.Version h = tt
 
--- so many words don't stand behind the verb
+-- so many words don't stand after the verb
 pub other_count : (v : Verb) (ws : Words) → (TakesWords v (length ws) → ⊥) → HasNoShape (name_of v ∷ ws)
 other_count v ws n line h =
     let c : Takes (Some v) (length (drop 1 (words_of line))) = subst (λ o. Takes o (length (drop 1 (words_of line)))) (verb_is v ws line h) (counted line h.in_bounds) in

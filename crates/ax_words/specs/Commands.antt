@@ -15,7 +15,7 @@ one_word id = record (new_rule id) { required = true }
 abbrev pub some_words : Text → Rule
 some_words id = record (new_rule id) { required = true; range = Some (record { start_inclusive = 1; end_inclusive = usize_max }) }
 
--- the words behind each verb
+-- the words after each verb
 abbrev pub rules_of : Verb → List Rule
 rules_of VerbOf.Check = one_word (codes "SPEC") ∷ []
 rules_of VerbOf.Canon = some_words (codes "SPEC") ∷ []

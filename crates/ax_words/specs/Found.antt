@@ -1,4 +1,4 @@
--- What clap finds of the words behind a verb.
+-- What clap finds of the words after a verb.
 use Rattle.std.specs.Prelude.{List, [], ◌∷◌, Some, None, codes, take, drop}
 use Rattle.clap.specs.Values.{reading_of}
 use Rattle.clap.specs.Walk.{Row, Text}
@@ -11,7 +11,7 @@ use Rattle.ax_words.specs.declared.verb.Verb.TheVariants as VerbOf
 abbrev pub given : Text → List Text → Row
 given id values = record { id = id; values = values; count = None; source = Some CommandLine; reading = reading_of parser.String }
 
--- the first word under one name, and those behind it under another
+-- the first word under one name, and those after it under another
 abbrev pub given_two : Text → Text → List Text → List Row
 given_two first second words = given first (take 1 words) ∷ given second (drop 1 words) ∷ []
 

@@ -4,12 +4,12 @@ use Rattle.std.specs.List.{AllByRecursion}
 use Rattle.clap.specs.Walk.{Row, Text, all_of}
 use Rattle.ax_words.specs.Found.{found}
 use Rattle.ax_words.specs.Verbs.{name_of, TakesWords}
-use Rattle.ax_words.specs.Words.{IsPlain, Answers}
+use Rattle.ax_words.specs.Words.{IsPlain, JudgesWords}
 use Rattle.ax_words.specs.declared.error.WordsError.{WordsError}
 use Rattle.ax_words.specs.declared.line.Line.{Line}
 use Rattle.ax_words.specs.declared.verb.Verb.{Verb}
 
--- the words that may stand behind a verb: as many as it takes, none that begins with `-`
+-- the words that may stand after a verb: as many as it takes, none that begins with `-`
 pub record AreTaken (verb : Verb) (words : List Text) : Type 0 where
   pub counted : TakesWords verb (length words)
   pub plain : AllByRecursion IsPlain words
@@ -17,7 +17,7 @@ pub record AreTaken (verb : Verb) (words : List Text) : Type 0 where
 
 -- the result answers the words of this verb for which clap finds these rows
 abbrev pub AnswersRows : Verb → List Row → Result Line WordsError → Type 0
-AnswersRows verb rows result = (words : List Text) → AreTaken verb words → rows ≡ found verb words → Answers (name_of verb ∷ words) result
+AnswersRows verb rows result = (words : List Text) → AreTaken verb words → rows ≡ found verb words → JudgesWords (name_of verb ∷ words) result
 
 -- fewer than 2^32 words stand under SPEC
 abbrev pub HasFewFiles : List Row → Type 0

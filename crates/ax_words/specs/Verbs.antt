@@ -21,7 +21,7 @@ name_of Trial = codes "trial"
 unfoldable pub verb_named : List ℕ → Option Verb
 verb_named word = find (λ verb. bytes_eq (name_of verb) word) verbs
 
--- how many words may stand behind it
+-- how many words may stand after it
 abbrev pub TakesWords : Verb → ℕ → Type 0
 TakesWords Check count = count ≡ 1
 TakesWords Canon count = 0 < count

@@ -37,7 +37,7 @@ abbrev pub IsPlain : List ℕ → Type 0
 IsPlain [] = Unit {0}
 IsPlain (octet ∷ rest) = (octet == 45) ≡ false
 
--- the words ask for the line; none behind the first begins with `-`, and there are fewer than 2^32
+-- the words ask for the line; none after the first begins with `-`, and there are fewer than 2^32
 pub record HasShape (words : List (List ℕ)) (line : Line) : Type 0 where
   pub words_are : words ≡ words_of line
   pub in_bounds : IsInBounds line
@@ -49,7 +49,7 @@ abbrev pub HasNoShape : List (List ℕ) → Type 0
 HasNoShape words = (line : Line) → HasShape words line → ⊥
 
 -- the line is what the words ask for; Usage comes where they ask for none, and want of memory may come at any words
-abbrev pub Answers : List (List ℕ) → Result Line WordsError → Type 0
-Answers words (Ok line) = HasShape words line
-Answers words (Err ErrorOf.Usage) = HasNoShape words
-Answers words (Err ErrorOf.OutOfMemory) = Unit {0}
+abbrev pub JudgesWords : List (List ℕ) → Result Line WordsError → Type 0
+JudgesWords words (Ok line) = HasShape words line
+JudgesWords words (Err ErrorOf.Usage) = HasNoShape words
+JudgesWords words (Err ErrorOf.OutOfMemory) = Unit {0}

@@ -12,7 +12,7 @@ pub fn words_with_a_shape()
     ensures help { HasShape (codes "--help" ∷ []) LineOf.Help }
 {}
 
-/// Words that ask for no line: without a verb, with too few or too many words behind it, or with `-` before a word.
+/// Words that ask for no line: without a verb, with too few or too many words after it, or with `-` before a word.
 pub fn words_without_a_shape()
     ensures none { HasNoShape [] }
     ensures verb { HasNoShape (codes "help" ∷ []) }

@@ -4,7 +4,7 @@ ghost use Rattle.std.specs.List.{AllByRecursion};
 ghost use Rattle.std.specs.String.{string_bytes};
 ghost use Rattle.clap.specs.Words.{first_of, all_of, rows_of, found_of};
 ghost use Rattle.ax_words.specs.Lines.{AnswersRows, HasFewFiles};
-ghost use Rattle.ax_words.specs.Words.{IsPlain, Answers};
+ghost use Rattle.ax_words.specs.Words.{IsPlain, JudgesWords};
 ghost use Rattle.ax_words.specs.declared.error.WordsError.TheVariants as Fault;
 
 use crate::builder::command;
@@ -199,7 +199,7 @@ fn line_of(alloc: Global, verb: Verb, matches: &ArgMatches<'_>) -> Result<Line, 
 fn parse(alloc: Global, words: &[String]) -> Result<Line, WordsError>
     requires plain { AllByRecursion IsPlain (map string_bytes words.now) }
     requires few { length words.now < 4294967296 }
-    ensures { Answers (map string_bytes words.now) result }
+    ensures { JudgesWords (map string_bytes words.now) result }
 {
     let command = command(alloc)?;
     match command.try_get_matches_from(words) {
@@ -238,7 +238,7 @@ fn are_alone(words: &[String], word: &str) -> bool
 /// and OutOfMemory may come at any words.
 #[tactic(auto, using(crate::proofs::Shapes::outside))]
 pub fn read_words(alloc: Global, words: &[String]) -> Result<Line, WordsError>
-    ensures { Answers (map string_bytes words.now) result }
+    ensures { JudgesWords (map string_bytes words.now) result }
 {
     if words.len() > u32::MAX as usize {
         return Err(WordsError::Usage);

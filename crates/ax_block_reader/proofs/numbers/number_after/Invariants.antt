@@ -1,4 +1,4 @@
-use Rattle.ax_block_reader.proofs.ShortNumbers.{Read}
+use Rattle.ax_block_reader.proofs.ShortNumbers.{DigitsRead}
 use Rattle.ax_block_reader.proofs.numbers.number_after.Given as goal
 
 abbrev pub invariant-loop-octet : goal.invariant-loop-octet

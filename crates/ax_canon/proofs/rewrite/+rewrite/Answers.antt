@@ -1,7 +1,7 @@
 use Rattle.std.proofs.Common.{◌-◌, length, get_or, arith, refl, sym, subst}
 use Rattle.ax_bits.proofs.Pieces.{AreOctets-items}
 use Rattle.ax_canon.proofs.Fronting.{count_next, count_last, marks_next, marks_last}
-use Rattle.ax_canon.proofs.Pieces.{not_copied, as_kind, no_count, count_first, field_room, room_behind, compound_written}
+use Rattle.ax_canon.proofs.Pieces.{not_copied, as_kind, no_count, count_first, field_room, room_following, compound_written}
 use Rattle.ax_model.specs.Canonical.{canon}
 use Rattle.ax_model.specs.InBounds.{InBounds}
 use Rattle.ax_model.specs.Tree as Tree
@@ -9,10 +9,10 @@ use Rattle.ax_tables.specs.Meaning.{meanings, linked_slots}
 use Rattle.ax_tables.specs.Table.{kind_at, record_kind_at}
 use Rattle.ax_reader.proofs.Marking.{marks_bits}
 use Rattle.ax_reader.specs.Reading.{kind_read}
-use Rattle.ax_view.proofs.Compounds.{marks_clear, slots_bounds, record_lost}
+use Rattle.ax_view.proofs.Compounds.{marks_clear, slots_bounds, record_failed}
 use Rattle.ax_view.proofs.MarkedSteps.{next_marked, greatest_at, within_at}
 use Rattle.ax_view.proofs.NodeKinds.{is_element, is_group, is_part, is_extended, is_counted, counted_link, is_by_fx, is_explicit, is_compound, compound_links, compound_mask, compound_falls}
-use Rattle.ax_view.proofs.Plain.{IsPlain}
+use Rattle.ax_view.specs.Plain.{IsPlain}
 use Rattle.ax_canon.proofs.rewrite.+rewrite.Goals as goal
 
 pub rewrite-rewrite_counted-requires : goal.rewrite-rewrite_counted-requires
@@ -65,11 +65,11 @@ rewrite_compound-write_presence-requires t c =
 
 pub rewrite_compound-rewrite_marked-requires : goal.rewrite_compound-rewrite_marked-requires
 rewrite_compound-rewrite_marked-requires t c =
-    (omega (arith, c.decreases), (c.requires.table, (c.requires.links, (slots_bounds c.args.nodes.now c.args.slots.now c.requires.bounds, (marks_bits c.args.mask.now c.args.body.now c.read_presence.new.into c.args.at c.in-Ok.here c.in-Ok.ensures.ok, (marks_clear (linked_slots (meanings c.args.nodes.now) c.args.slots.now) c.args.mask.now c.args.body.now c.read_presence.new.into c.args.at c.in-Ok.here c.requires.mask c.in-Ok.ensures.ok, (c.requires.body, (c.in-Ok.ensures.ok.within, room_behind c.args.nodes.now c.args.slots.now c.args.mask.now c.args.body.now c.read_presence.new.into c.args.at c.in-Ok.here (AreOctets-items c.args.body.now (λ i. (let fits = c.type_inv.body i in omega arith))) c.requires.bounds c.requires.mask c.in-Ok.ensures.ok c.args.out.now c.write_presence.new.out c.requires.room c.write_presence.ensures))))))))
+    (omega (arith, c.decreases), (c.requires.table, (c.requires.links, (slots_bounds c.args.nodes.now c.args.slots.now c.requires.bounds, (marks_bits c.args.mask.now c.args.body.now c.read_presence.new.into c.args.at c.in-Ok.here c.in-Ok.ensures.ok, (marks_clear (linked_slots (meanings c.args.nodes.now) c.args.slots.now) c.args.mask.now c.args.body.now c.read_presence.new.into c.args.at c.in-Ok.here c.requires.mask c.in-Ok.ensures.ok, (c.requires.body, (c.in-Ok.ensures.ok.within, room_following c.args.nodes.now c.args.slots.now c.args.mask.now c.args.body.now c.read_presence.new.into c.args.at c.in-Ok.here (AreOctets-items c.args.body.now (λ i. (let fits = c.type_inv.body i in omega arith))) c.requires.bounds c.requires.mask c.in-Ok.ensures.ok c.args.out.now c.write_presence.new.out c.requires.room c.write_presence.ensures))))))))
 
 pub rewrite_compound-returns-in-Err : goal.rewrite_compound-returns-in-Err
 rewrite_compound-returns-in-Err t c =
-    not_copied (canon (record_kind_at c.args.nodes.now c.args.slots.now)) (kind_read (record_kind_at c.args.nodes.now c.args.slots.now) c.args.body.now c.args.at) c.args.body.now c.args.at c.args.out.now c.in-Err.field-0 c.requires.at c.requires.room (record_lost c.args.nodes.now c.args.slots.now c.args.mask.now c.args.body.now c.args.at c.in-Err.field-0 c.requires.mask c.in-Err.ensures.err)
+    not_copied (canon (record_kind_at c.args.nodes.now c.args.slots.now)) (kind_read (record_kind_at c.args.nodes.now c.args.slots.now) c.args.body.now c.args.at) c.args.body.now c.args.at c.args.out.now c.in-Err.field-0 c.requires.at c.requires.room (record_failed c.args.nodes.now c.args.slots.now c.args.mask.now c.args.body.now c.args.at c.in-Err.field-0 c.requires.mask c.in-Err.ensures.err)
 
 pub rewrite_compound-returns-in-Ok : goal.rewrite_compound-returns-in-Ok
 rewrite_compound-returns-in-Ok t c =

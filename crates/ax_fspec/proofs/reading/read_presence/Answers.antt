@@ -27,7 +27,7 @@ returns-then-octet-eq0-clause-ok c =
     let octet = get_or c.args.body.now (c.args.at + c.loop-index.index) 0 in
     let fx : octet % 2 ≡ 0 = sym (and_mask octet 1) ∙ c.if-octet-eq0.true in
     last_one c.args.mask.now c.args.body.now c.loop-index.marked c.mark_octet.new.self c.args.at c.loop-index.index _ c.octet.result c.loop-index.invariant.read c.loop-index-test.true (omega arith) refl fx c.octet.ensures.marks
-    c.in_default.ensures.first c.mark_octet.ensures.marks c.mark_octet.ensures.none_behind c.mark_octet.ensures.size
+    c.in_default.ensures.first c.mark_octet.ensures.marks c.mark_octet.ensures.none_following c.mark_octet.ensures.size
 
 pub loop-index-preserved : goal.loop-index-preserved
 loop-index-preserved c =
@@ -36,7 +36,7 @@ loop-index-preserved c =
     record {
       unchanged = c.loop-index.invariant.unchanged;
       read = one_more c.args.mask.now c.args.body.now c.loop-index.marked c.mark_octet.new.self c.args.at c.loop-index.index _ c.octet.result c.loop-index.invariant.read (omega arith) refl fx c.octet.ensures.marks
-          c.in_default.ensures.first c.mark_octet.ensures.marks c.mark_octet.ensures.none_behind;
+          c.in_default.ensures.first c.mark_octet.ensures.marks c.mark_octet.ensures.none_following;
     }
 
 pub returns-clause-err : goal.returns-clause-err

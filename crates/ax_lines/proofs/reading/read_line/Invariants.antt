@@ -5,7 +5,7 @@ use Rattle.ax_lines.proofs.reading.read_line.Given as goal
 
 abbrev pub invariant-loop-filled : goal.invariant-loop-filled
 invariant-loop-filled g l =
-    StandsPlain (source_change g.S.Source l.fn.source l.source) (take l.held l.fn.buffer) l.buffer l.filled
+    StandsPlain (source_change g.S.Source l.fn.source l.source) (take l.buffered l.fn.buffer) l.buffer l.filled
     × (length l.buffer ≡ length l.fn.buffer)
     × (g.S.Source.faults l.fn.source ≤ g.S.Source.faults l.source)
 

@@ -11,11 +11,11 @@ use Rattle.ax_reader.specs.Reading.{FailsAt, kind_read}
 use Rattle.ax_text.proofs.ListedKinds.{slot_listable}
 use Rattle.ax_text.specs.Listable.{SlotListable}
 use Rattle.ax_values.proofs.Continuing.{err_by_fault, err_is}
-use Rattle.ax_values.specs.Reading.{HasSlotFailed}
+use Rattle.ax_values.specs.SlotReading.{HasSlotFailed}
 use Rattle.ax_show_views.specs.Shown.{ShowsCounted, IsSlotShown}
-use Rattle.ax_show_views.proofs.CountedLines.{count_first, count_next, count_last, count_lost}
+use Rattle.ax_show_views.proofs.CountedLines.{count_first, count_next, count_last, count_failed}
 use Rattle.ax_show_views.proofs.Leading.{counted_shown}
-use Rattle.ax_show_views.proofs.MarkedLines.{compound_done, compound_first, next_slot, marks_next, marks_last, marks_lost, at_number}
+use Rattle.ax_show_views.proofs.MarkedLines.{compound_done, compound_first, next_slot, marks_next, marks_last, marks_failed, at_number}
 use Rattle.ax_show_views.proofs.kinds.+show_kind.Goals as goal
 
 pub show_counted-returns-clause-ok : goal.show_counted-returns-clause-ok
@@ -46,7 +46,7 @@ show_each-returns-in_err-here-clause-err t c =
     let k = kind_tree c.args.inner.now in
     let e = c.in_err-here.field-0.0 in
     err_is (kind_read (counted k) c.args.body.now c.args.at) c.args.at c.from_residual-in_err-here.result e c.from_residual-in_err-here.ensures.1
-    (count_lost k c.args.path.now c.args.body.now c.in_ok-count.count c.loop-number.number c.args.at c.loop-number.here c.args.lister.now.out.items c.loop-number.lister.out.items e c.loop-number.invariant (omega (arith, c.loop-number-test.true, c.from-number-end.ensures)) c.in_err-here.ensures.err)
+    (count_failed k c.args.path.now c.args.body.now c.in_ok-count.count c.loop-number.number c.args.at c.loop-number.here c.args.lister.now.out.items c.loop-number.lister.out.items e c.loop-number.invariant (omega (arith, c.loop-number-test.true, c.from-number-end.ensures)) c.in_err-here.ensures.err)
 
 pub show_each-loop-number-preserved : goal.show_each-loop-number-preserved
 show_each-loop-number-preserved t c =
@@ -117,7 +117,7 @@ show_subitems-returns-in_err-here-2-clause-err t c =
     let e = c.in_err-here-2.field-0.0 in
     err_is (kind_read (compound (slots_of slots)) body c.args.at) c.args.at c.from_residual-in_err-here-2.result e c.from_residual-in_err-here-2.ensures.1
     (record {
-      met = marks_lost (compound_done slots path body c.args.at c.args.lister.now.out.items) (FailsAt (kind_read (compound (slots_of slots)) body c.args.at) c.args.at) slots path c.loop-number.left c.take_first.new.self body number c.loop-number.here c.loop-number.lister.out.items c.loop-number.count h n e
+      met = marks_failed (compound_done slots path body c.args.at c.args.lister.now.out.items) (FailsAt (kind_read (compound (slots_of slots)) body c.args.at) c.args.at) slots path c.loop-number.left c.take_first.new.self body number c.loop-number.here c.loop-number.lister.out.items c.loop-number.count h n e
           (subst (λ slot. HasSlotFailed slot body c.loop-number.here e) (sym (at_number all number s c.in-Some.ensures.within.0 within is)) c.in_err-here-2.ensures.err);
     })
 

@@ -6,9 +6,9 @@ use Rattle.ax_model.specs.Tree.{SlotTree}
 use Rattle.ax_reader.proofs.Marking.{field_failed}
 use Rattle.ax_reader.specs.Reading.{FailsAt, record_slot_list, kind_read}
 use Rattle.ax_values.proofs.Continuing.{err_by_fault, err_is}
-use Rattle.ax_values.specs.Reading.{HasSlotFailed}
+use Rattle.ax_values.specs.SlotReading.{HasSlotFailed}
 use Rattle.ax_show_views.specs.Shown.{IsSlotShown}
-use Rattle.ax_show_views.proofs.MarkedLines.{next_slot, marks_next, marks_last, marks_lost}
+use Rattle.ax_show_views.proofs.MarkedLines.{next_slot, marks_next, marks_last, marks_failed}
 use Rattle.ax_show_views.proofs.RecordLines.{items_done, items_first, frn_in_bounds, frn_listable, slot_is}
 use Rattle.ax_show_views.proofs.records.show_items.Goals as goal
 
@@ -45,7 +45,7 @@ returns-in_err-here-2-clause-err c =
     let e = c.in_err-here-2.field-0.0 in
     err_is (kind_read (record_kind spec) body c.args.at) c.args.at c.from_residual-in_err-here-2.result e c.from_residual-in_err-here-2.ensures.1
     (record {
-      met = marks_lost (items_done spec path body c.args.at c.args.lister.now.out.items) (FailsAt (kind_read (record_kind spec) body c.args.at) c.args.at) slots path c.loop-frn.left c.take_first.new.self body frn c.loop-frn.here c.loop-frn.lister.out.items c.loop-frn.invariant.0 h n e
+      met = marks_failed (items_done spec path body c.args.at c.args.lister.now.out.items) (FailsAt (kind_read (record_kind spec) body c.args.at) c.args.at) slots path c.loop-frn.left c.take_first.new.self body frn c.loop-frn.here c.loop-frn.lister.out.items c.loop-frn.invariant.0 h n e
           (subst (λ slot. HasSlotFailed slot body c.loop-frn.here e) (sym (slot_is c.args.items.now.spec.now frn)) c.in_err-here-2.ensures.err);
     })
 

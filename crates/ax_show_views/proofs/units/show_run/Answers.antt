@@ -3,7 +3,7 @@ use Rattle.ax_model.specs.Plain.{fixed_tree}
 use Rattle.ax_model.specs.Tree.{by_fx}
 use Rattle.ax_model.specs.Widths.{width}
 use Rattle.ax_reader.specs.Reading.{kind_read}
-use Rattle.ax_show_views.proofs.UnitLines.{run_first, run_next, run_last, run_lost}
+use Rattle.ax_show_views.proofs.UnitLines.{run_first, run_next, run_last, run_failed}
 use Rattle.ax_values.proofs.Continuing.{err_by_fault}
 use Rattle.ax_values.proofs.Repeating.{unit_is}
 use Rattle.ax_show_views.proofs.units.show_run.Goals as goal
@@ -21,7 +21,7 @@ returns-in_err-end-clause-err c =
     let now = c.loop-end.lister.out.items in
     let fault = c.in_err-end.field-0.0 in
     err_by_fault (kind_read (by_fx f) body c.args.at) c.args.at c.from_residual.result fault c.from_residual.ensures.1
-    (run_lost f path body c.args.at here old now c.loop-end.count fault c.loop-end.invariant (omega (arith, c.in_err-end.ensures.short, c.width-width.ensures, c.requires.bounds.1)) (ap (λ f. f.cause) c.in_err-end.ensures.fault) (ap (λ f. f.bit) c.in_err-end.ensures.fault))
+    (run_failed f path body c.args.at here old now c.loop-end.count fault c.loop-end.invariant (omega (arith, c.in_err-end.ensures.short, c.width-width.ensures, c.requires.bounds.1)) (ap (λ f. f.cause) c.in_err-end.ensures.fault) (ap (λ f. f.bit) c.in_err-end.ensures.fault))
 
 pub returns-then-not-has_fx-clause-ok : goal.returns-then-not-has_fx-clause-ok
 returns-then-not-has_fx-clause-ok c =

@@ -7,7 +7,7 @@ use Rattle.ax_model.specs.Plain.{kind_tree, slot_tree}
 use Rattle.ax_model.specs.Tree.{SlotTree, counted, compound, slots_of, slot_count}
 use Rattle.ax_values.proofs.Continuing.{err_by_fault, err_is}
 use Rattle.ax_reader.proofs.Counting.{counted_none}
-use Rattle.ax_text_views.proofs.Counted.{counted_goes_on, counted_lost}
+use Rattle.ax_text_views.proofs.Counted.{counted_goes_on, counted_failed}
 use Rattle.ax_reader.proofs.Marking.{field_failed, map_at, marks_bits, slot_in_bounds}
 use Rattle.ax_text_views.proofs.Marked.{EntriesLead, entries_begin, entries_skip, entries_more, entries_failed, entries_all, compound_printed}
 use Rattle.ax_values.proofs.Marking.{compound_failed}
@@ -101,7 +101,7 @@ print_counted-returns-in_err-here-clause-err t c =
     let k = kind_tree c.args.inner.now in
     let e = c.in_err-here.field-0.0 in
     err_is (kind_read (counted k) c.args.body.now c.args.at) c.args.at c.from_residual-in_err-here.result e c.from_residual-in_err-here.ensures.1
-    (counted_lost k c.args.body.now c.in_ok-count.count c.loop.counter c.args.at c.loop.here c.args.line.now c.loop.line e c.loop.invariant c.loop-test.true c.in_err-here.ensures.err)
+    (counted_failed k c.args.body.now c.in_ok-count.count c.loop.counter c.args.at c.loop.here c.args.line.now c.loop.line e c.loop.invariant c.loop-test.true c.in_err-here.ensures.err)
 
 pub print_counted-loop-preserved : goal.print_counted-loop-preserved
 print_counted-loop-preserved t c =

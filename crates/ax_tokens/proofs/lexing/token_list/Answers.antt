@@ -2,7 +2,7 @@ use Rattle.std.proofs.Common.{◌≡◌, ◌≤◌, length, List, refl, sym, ◌
 use Rattle.std.proofs.lemmas.List.{length-map, map-append}
 use Rattle.ax_tokens.specs.declared.token.Token.{Token}
 use Rattle.ax_tokens.specs.PlainToken.{plain_token, plain_tokens}
-use Rattle.ax_tokens.specs.Depth.{greatest_excess, level_behind}
+use Rattle.ax_tokens.specs.Depth.{greatest_excess, level_after}
 use Rattle.ax_tokens.proofs.Levels.{level_push}
 use Rattle.ax_tokens.proofs.Steps.{lexed_push, lexed_bad, lexed_deep}
 use Rattle.ax_tokens.proofs.lexing.token_list.Goals as goal
@@ -27,8 +27,8 @@ loop-rest-preserved c =
     let slice = c.split_at-in-loop-rest.ensures in
     let next = c.split_at-in-loop-rest-2.ensures in
     let step = c.in-Some.ensures.some in
-    let level : c.in-Some.next ≡ level_behind c.in-Ok.token.0 (greatest_excess ts) = step.0 ∙ ap (level_behind c.in-Ok.token.0) c.loop-rest.invariant.level in
-    let fits : level_behind c.in-Ok.token.0 (greatest_excess ts) ≤ c.args.depth = omega (arith, step.1) in record {
+    let level : c.in-Some.next ≡ level_after c.in-Ok.token.0 (greatest_excess ts) = step.0 ∙ ap (level_after c.in-Ok.token.0) c.loop-rest.invariant.level in
+    let fits : level_after c.in-Ok.token.0 (greatest_excess ts) ≤ c.args.depth = omega (arith, step.1) in record {
       lexed =
           lexed_push c.args.text.now c.args.depth ts _ c.loop-rest.rest.now c.split_at-in-loop-rest.result.1.now c.split_at-in-loop-rest-2.result.1.now _ c.in-Ok.token.1 c.gap_length-in-loop-rest.result c.loop-rest.invariant.lexed
           c.in-Ok.ensures.token c.gap_length-in-loop-rest.ensures fits slice.front slice.back next.back refl refl whole;

@@ -1,6 +1,6 @@
 use Rattle.std.proofs.Common.{◌≡◌, ◌+◌, sym, ◌∙◌, ap, subst}
 use Rattle.ax_model.proofs.BlockLengths.{read_length}
-use Rattle.ax_model.specs.Lengths.{held, records_octets}
+use Rattle.ax_model.specs.Lengths.{capped, records_octets}
 use Rattle.ax_model.specs.OfCode.{BlockFits, block_length}
 use Rattle.ax_values.proofs.lengths.length_over.Goals as goal
 
@@ -8,6 +8,6 @@ pub returns-in-Read : goal.returns-in-Read
 returns-in-Read c =
     let fit = subst (BlockFits c.args.items.now.spec.now) c.in-Read.is c.requires.block_fits in
     let members = ap (records_octets c.args.items.now.spec.now) c.as_slice.ensures.members in
-    let count : c.saturating_add.result ≡ held (held (records_octets c.args.items.now.spec.now c.in-Read.records) + 3) =
-    c.saturating_add.ensures ∙ ap (λ x. held (x + 3)) (c.octets_of_records-body.ensures ∙ ap held members) in
-    read_length c.args.items.now.spec.now c.in-Read.category c.in-Read.records c.saturating_add.result c.requires.no_flaw fit.2 count ∙ ap (λ b. held (block_length c.args.items.now.spec.now b)) (sym c.in-Read.is)
+    let count : c.saturating_add.result ≡ capped (capped (records_octets c.args.items.now.spec.now c.in-Read.records) + 3) =
+    c.saturating_add.ensures ∙ ap (λ x. capped (x + 3)) (c.octets_of_records-body.ensures ∙ ap capped members) in
+    read_length c.args.items.now.spec.now c.in-Read.category c.in-Read.records c.saturating_add.result c.requires.no_flaw fit.2 count ∙ ap (λ b. capped (block_length c.args.items.now.spec.now b)) (sym c.in-Read.is)

@@ -1,10 +1,10 @@
 use Rattle.std.proofs.Common.{◌≡◌, ◌+◌, drop}
-use Rattle.ax_model.specs.Lengths.{held, entries_octets, last_slot, slot_kind}
+use Rattle.ax_model.specs.Lengths.{capped, entries_octets, last_slot, slot_kind}
 use Rattle.ax_model.specs.Plain.{entries_tree, spec_tree}
 use Rattle.ax_model.specs.Specification.{record_slots}
 use Rattle.ax_values.proofs.lengths.octets_of_record.Given as goal
 
 abbrev pub invariant-loop-entry : goal.invariant-loop-entry
 invariant-loop-entry l =
-    (held (l.total + entries_octets (entries_tree (drop l.entry-index l.one.entries)) (slot_kind (record_slots (spec_tree l.items.spec.now)))) ≡ held (entries_octets (entries_tree l.one.entries) (slot_kind (record_slots (spec_tree l.items.spec.now)))))
+    (capped (l.total + entries_octets (entries_tree (drop l.entry-index l.one.entries)) (slot_kind (record_slots (spec_tree l.items.spec.now)))) ≡ capped (entries_octets (entries_tree l.one.entries) (slot_kind (record_slots (spec_tree l.items.spec.now)))))
     × (last_slot l.last (entries_tree (drop l.entry-index l.one.entries)) ≡ last_slot 1 (entries_tree l.one.entries))

@@ -1,7 +1,7 @@
 use Rattle.std.proofs.Common.{◌≡◌, ◌≤◌, ◌+◌, drop}
-use Rattle.ax_model.specs.Lengths.{held, records_octets}
+use Rattle.ax_model.specs.Lengths.{capped, records_octets}
 use Rattle.ax_values.proofs.lengths.octets_of_records.Given as goal
 
 abbrev pub invariant-loop-one : goal.invariant-loop-one
 invariant-loop-one l =
-    (held (l.total + records_octets l.items.spec.now (drop l.one-index l.records)) ≡ held (records_octets l.items.spec.now l.records)) × (l.total ≤ 18446744073709551615)
+    (capped (l.total + records_octets l.items.spec.now (drop l.one-index l.records)) ≡ capped (records_octets l.items.spec.now l.records)) × (l.total ≤ 18446744073709551615)

@@ -1,7 +1,7 @@
 use Rattle.std.proofs.Common.{◌-◌, length}
 use Rattle.ax_tables.specs.Meaning.{meanings, linked_slots}
 use Rattle.ax_view.proofs.MarkedSteps.{next_marked, within_at}
-use Rattle.ax_view.proofs.Found.{next_lost, left_next, next_found, next_one, left_none}
+use Rattle.ax_view.proofs.Found.{next_failed, left_next, next_found, next_one, left_none}
 use Rattle.ax_view.proofs.Placed.{passed_next, follows}
 use Rattle.ax_view.proofs.finding.find_marked.Goals as goal
 
@@ -21,7 +21,7 @@ walk_of-requires-clause-bounds c =
 pub returns-in_err-end-clause-value : goal.returns-in_err-end-clause-value
 returns-in_err-end-clause-value c =
     let n = next_marked c.args.codec.now.nodes c.args.slots.now c.loop-next.left c.take_first.new.self _ c.in-Some.next c.requires.bounds c.loop-next.invariant.left.clear c.loop-next.invariant.left.are_bits c.in-Some.ensures.some c.in-Some.ensures.marks in
-    absurd (next_lost c.args.codec.now.nodes c.args.slots.now c.args.marked c.loop-next.left c.take_first.new.self c.args.body.now c.in-Some.next c.args.at c.loop-next.here c.args.slot c.loop-next.invariant.left n c.walk_of.new.notes.fault c.in_err-end.ensures.fault)
+    absurd (next_failed c.args.codec.now.nodes c.args.slots.now c.args.marked c.loop-next.left c.take_first.new.self c.args.body.now c.in-Some.next c.args.at c.loop-next.here c.args.slot c.loop-next.invariant.left n c.walk_of.new.notes.fault c.in_err-end.ensures.fault)
 
 pub invariant_of-result : goal.invariant_of-result
 invariant_of-result c =

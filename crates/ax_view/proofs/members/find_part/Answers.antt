@@ -1,6 +1,6 @@
 use Rattle.std.proofs.Common.{◌-◌, get_or, arith}
 use Rattle.ax_view.proofs.MemberSteps.{none_left}
-use Rattle.ax_view.proofs.PartSteps.{parts_looked, part_lost, part_found_here, part_ends, part_next, parts_past_all}
+use Rattle.ax_view.proofs.PartSteps.{parts_looked, part_failed, part_found_here, part_ends, part_next, parts_past_all}
 use Rattle.ax_view.proofs.UnitSteps.{fx_set, fx_clear}
 use Rattle.ax_view.proofs.members.find_part.Goals as goal
 
@@ -8,7 +8,7 @@ pub loop-part-init : goal.loop-part-init
 loop-part-init c = record { parts = parts_looked c.args.nodes.now c.args.parts.now c.args.body.now c.args.index c.requires.links c.requires.bounds c.requires.one }
 
 pub returns-in_default-run-clause-none : goal.returns-in_default-run-clause-none
-returns-in_default-run-clause-none c = absurd (part_lost c.args.nodes.now c.args.parts.now c.loop-part.left.now c.in-Some.later.now c.args.body.now c.in-Some.part.now c.loop-part.here c.args.index c.loop-part.number c.loop-part.invariant.parts c.in-Some.ensures.cases.0 (let s = c.in_default-run.ensures.short in let w = c.part_width.ensures in omega arith))
+returns-in_default-run-clause-none c = absurd (part_failed c.args.nodes.now c.args.parts.now c.loop-part.left.now c.in-Some.later.now c.args.body.now c.in-Some.part.now c.loop-part.here c.args.index c.loop-part.number c.loop-part.invariant.parts c.in-Some.ensures.cases.0 (let s = c.in_default-run.ensures.short in let w = c.part_width.ensures in omega arith))
 
 pub returns-then-number-eq0-clause-found : goal.returns-then-number-eq0-clause-found
 returns-then-number-eq0-clause-found c = part_found_here c.args.nodes.now c.args.parts.now c.loop-part.left.now c.in-Some.later.now c.args.body.now c.in-Some.part.now c.loop-part.here c.args.index c.loop-part.number c.loop-part.invariant.parts c.in-Some.ensures.cases.0 c.in-Some-run.end c.part_width.result c.in-Some-run.ensures.end.0 c.in-Some-run.ensures.end.1 c.part_width.ensures c.in-Some-run.ensures.end.2 c.if-number-eq0.true

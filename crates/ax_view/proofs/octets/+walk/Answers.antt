@@ -8,9 +8,9 @@ use Rattle.ax_tables.specs.Table.{kind_at, record_kind_at}
 use Rattle.ax_reader.proofs.Counting.{counted_none}
 use Rattle.ax_view.proofs.Leading.{if_none}
 use Rattle.ax_view.proofs.NodeKinds.{end_as, fault_as, run_end, run_fault, is_element, is_group, group_width, is_part, is_extended, extended_links, is_counted, counted_link, is_by_fx, by_fx_link, is_explicit, is_compound, compound_links, compound_mask, compound_falls}
-use Rattle.ax_view.proofs.CountedSteps.{count_first, count_next, count_last, count_lost}
-use Rattle.ax_view.proofs.Compounds.{marks_clear, slots_bounds, record_lost, compound_end, compound_fault}
-use Rattle.ax_view.proofs.MarkedSteps.{next_marked, marks_next, marks_last, marks_lost, greatest_at, within_at}
+use Rattle.ax_view.proofs.CountedSteps.{count_first, count_next, count_last, count_failed}
+use Rattle.ax_view.proofs.Compounds.{marks_clear, slots_bounds, record_failed, compound_end, compound_fault}
+use Rattle.ax_view.proofs.MarkedSteps.{next_marked, marks_next, marks_last, marks_failed, greatest_at, within_at}
 use Rattle.ax_reader.proofs.Marking.{marks_bits}
 use Rattle.ax_view.proofs.octets.+walk.Goals as goal
 
@@ -131,7 +131,7 @@ walk_compound-returns-in-Ok-clause-fault t c =
 
 pub walk_compound-returns-in-Err-clause-fault : goal.walk_compound-returns-in-Err-clause-fault
 walk_compound-returns-in-Err-clause-fault t c =
-    record_lost c.args.nodes.now c.args.slots.now c.args.mask.now c.args.body.now c.args.at c.in-Err.fault c.requires.mask c.in-Err.ensures.err
+    record_failed c.args.nodes.now c.args.slots.now c.args.mask.now c.args.body.now c.args.at c.in-Err.fault c.requires.mask c.in-Err.ensures.err
 
 pub walk_counted-returns-then-at-body-clause-fault : goal.walk_counted-returns-then-at-body-clause-fault
 walk_counted-returns-then-at-body-clause-fault t c =
@@ -143,7 +143,7 @@ walk_counted-loop-init t c =
 
 pub walk_counted-returns-in_err-here-clause-fault : goal.walk_counted-returns-in_err-here-clause-fault
 walk_counted-returns-in_err-here-clause-fault t c =
-    if_none c.from_residual.result (count_lost (kind_at c.args.nodes.now c.args.inner) c.args.body.now (get_or c.args.body.now c.args.at 0) c.loop.counter c.args.at c.loop.here c.loop.notes.least c.walk.new.notes.fault c.loop.invariant.counted c.loop-test.true c.in_err-here.ensures.fault)
+    if_none c.from_residual.result (count_failed (kind_at c.args.nodes.now c.args.inner) c.args.body.now (get_or c.args.body.now c.args.at 0) c.loop.counter c.args.at c.loop.here c.loop.notes.least c.walk.new.notes.fault c.loop.invariant.counted c.loop-test.true c.in_err-here.ensures.fault)
 
 pub walk_counted-loop-preserved : goal.walk_counted-loop-preserved
 walk_counted-loop-preserved t c =
@@ -167,7 +167,7 @@ walk_marked-walk-requires t c =
 
 pub walk_marked-returns-in_err-here-clause-fault : goal.walk_marked-returns-in_err-here-clause-fault
 walk_marked-returns-in_err-here-clause-fault t c =
-    if_none c.from_residual.result (marks_lost c.args.nodes.now c.args.slots.now c.args.marked c.loop-slot.left c.take_first.new.self c.args.body.now c.in-Some.slot c.args.at c.loop-slot.here c.loop-slot.notes.least c.loop-slot.invariant.marked (next_marked c.args.nodes.now c.args.slots.now c.loop-slot.left c.take_first.new.self _ c.in-Some.slot c.requires.bounds c.loop-slot.invariant.marked.clear c.loop-slot.invariant.marked.are_bits c.in-Some.ensures.some c.in-Some.ensures.marks) c.walk.new.notes.fault c.in_err-here.ensures.fault)
+    if_none c.from_residual.result (marks_failed c.args.nodes.now c.args.slots.now c.args.marked c.loop-slot.left c.take_first.new.self c.args.body.now c.in-Some.slot c.args.at c.loop-slot.here c.loop-slot.notes.least c.loop-slot.invariant.marked (next_marked c.args.nodes.now c.args.slots.now c.loop-slot.left c.take_first.new.self _ c.in-Some.slot c.requires.bounds c.loop-slot.invariant.marked.clear c.loop-slot.invariant.marked.are_bits c.in-Some.ensures.some c.in-Some.ensures.marks) c.walk.new.notes.fault c.in_err-here.ensures.fault)
 
 pub walk_marked-loop-slot-preserved : goal.walk_marked-loop-slot-preserved
 walk_marked-loop-slot-preserved t c =

@@ -1,7 +1,7 @@
 use Rattle.std.proofs.Common.{◌-◌, length}
 use Rattle.ax_tables.specs.Meaning.{meanings, linked_slots}
 use Rattle.ax_view.proofs.Leading.{if_none}
-use Rattle.ax_view.proofs.MarkedSteps.{next_marked, marks_next, marks_last, marks_lost, within_at}
+use Rattle.ax_view.proofs.MarkedSteps.{next_marked, marks_next, marks_last, marks_failed, within_at}
 use Rattle.ax_view.proofs.octets.walk_items.Goals as goal
 
 pub bounds-slots-slot : goal.bounds-slots-slot
@@ -19,7 +19,7 @@ walk_item-requires-clause-bounds c =
 
 pub returns-in_err-here-clause-fault : goal.returns-in_err-here-clause-fault
 returns-in_err-here-clause-fault c =
-    if_none c.from_residual.result (marks_lost c.args.nodes.now c.args.slots.now c.args.marked c.loop-slot.left c.take_first.new.self c.args.body.now c.in-Some.slot c.args.at c.loop-slot.here c.loop-slot.notes.least c.loop-slot.invariant.marked (next_marked c.args.nodes.now c.args.slots.now c.loop-slot.left c.take_first.new.self _ c.in-Some.slot c.requires.bounds c.loop-slot.invariant.marked.clear c.loop-slot.invariant.marked.are_bits c.in-Some.ensures.some c.in-Some.ensures.marks) c.walk_item.new.notes.fault c.in_err-here.ensures.fault)
+    if_none c.from_residual.result (marks_failed c.args.nodes.now c.args.slots.now c.args.marked c.loop-slot.left c.take_first.new.self c.args.body.now c.in-Some.slot c.args.at c.loop-slot.here c.loop-slot.notes.least c.loop-slot.invariant.marked (next_marked c.args.nodes.now c.args.slots.now c.loop-slot.left c.take_first.new.self _ c.in-Some.slot c.requires.bounds c.loop-slot.invariant.marked.clear c.loop-slot.invariant.marked.are_bits c.in-Some.ensures.some c.in-Some.ensures.marks) c.walk_item.new.notes.fault c.in_err-here.ensures.fault)
 
 pub loop-slot-preserved : goal.loop-slot-preserved
 loop-slot-preserved c =

@@ -4,7 +4,7 @@ use Rattle.ax_reader.specs.Reading.{kind_read}
 use Rattle.ax_tables.specs.Meaning.{meanings, linked_slots}
 use Rattle.ax_tables.specs.Table.{kind_at}
 use Rattle.ax_view.proofs.Leading.{if_none, walks_blind}
-use Rattle.ax_view.proofs.MarkedSteps.{next_marked, marks_first, marks_next, marks_lost, within_at}
+use Rattle.ax_view.proofs.MarkedSteps.{next_marked, marks_first, marks_next, marks_failed, within_at}
 use Rattle.ax_view.proofs.PlacingSteps.{placed_first, placed_next, placed_last}
 use Rattle.ax_view.proofs.placing.place_items.Goals as goal
 
@@ -27,7 +27,7 @@ walk_item-requires-clause-bounds c = (next_marked c.args.nodes.now c.args.slots.
 
 pub returns-in_err-end-clause-fault : goal.returns-in_err-end-clause-fault
 returns-in_err-end-clause-fault c =
-    if_none c.from_residual.result (marks_lost c.args.nodes.now c.args.slots.now c.args.marked c.loop-slot.left c.take_first.new.self c.args.body.now c.in-Some.slot c.args.at c.loop-slot.here false c.loop-slot.invariant.marked (next_marked c.args.nodes.now c.args.slots.now c.loop-slot.left c.take_first.new.self _ c.in-Some.slot c.requires.bounds c.loop-slot.invariant.marked.clear c.loop-slot.invariant.marked.are_bits c.in-Some.ensures.some c.in-Some.ensures.marks) c.walk_item.new.notes.fault c.in_err-end.ensures.fault)
+    if_none c.from_residual.result (marks_failed c.args.nodes.now c.args.slots.now c.args.marked c.loop-slot.left c.take_first.new.self c.args.body.now c.in-Some.slot c.args.at c.loop-slot.here false c.loop-slot.invariant.marked (next_marked c.args.nodes.now c.args.slots.now c.loop-slot.left c.take_first.new.self _ c.in-Some.slot c.requires.bounds c.loop-slot.invariant.marked.clear c.loop-slot.invariant.marked.are_bits c.in-Some.ensures.some c.in-Some.ensures.marks) c.walk_item.new.notes.fault c.in_err-end.ensures.fault)
 
 pub loop-slot-preserved : goal.loop-slot-preserved
 loop-slot-preserved c =

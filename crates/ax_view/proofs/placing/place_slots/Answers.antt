@@ -2,7 +2,7 @@ use Rattle.std.proofs.Common.{arith, refl, false}
 use Rattle.ax_bits.proofs.Pieces.{AreOctets-items}
 use Rattle.ax_reader.proofs.Marking.{marks_bits}
 use Rattle.ax_tables.specs.Meaning.{meanings, linked_slots}
-use Rattle.ax_view.proofs.Compounds.{marks_clear, slots_bounds, record_lost, compound_fault}
+use Rattle.ax_view.proofs.Compounds.{marks_clear, slots_bounds, record_failed, compound_fault}
 use Rattle.ax_view.proofs.PlacingSteps.{placed_kind}
 use Rattle.ax_view.proofs.placing.place_slots.Goals as goal
 
@@ -25,4 +25,4 @@ returns-in-Ok-clause-fault c =
 
 pub returns-in-Err-clause-fault : goal.returns-in-Err-clause-fault
 returns-in-Err-clause-fault c =
-    record_lost c.args.nodes.now c.args.slots.now c.args.mask.now c.args.body.now c.args.at c.in-Err.fault c.requires.mask c.in-Err.ensures.err
+    record_failed c.args.nodes.now c.args.slots.now c.args.mask.now c.args.body.now c.args.at c.in-Err.fault c.requires.mask c.in-Err.ensures.err

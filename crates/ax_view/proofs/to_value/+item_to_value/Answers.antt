@@ -6,7 +6,7 @@ use Rattle.ax_tables.specs.Meaning.{meanings, linked_slots}
 use Rattle.ax_view.proofs.Compounds.{marks_clear, slots_bounds}
 use Rattle.ax_view.proofs.Contents.{explicit_one}
 use Rattle.ax_view.proofs.EntryTrees.{EntriesMade, entries_begin, entries_next, entries_all, entry_is, occurrence_few, occurrences_number}
-use Rattle.ax_view.proofs.Found.{field_never, marks_all, entries_are, compound_bounds, compound_one, next_lost, next_one}
+use Rattle.ax_view.proofs.Found.{field_never, marks_all, entries_are, compound_bounds, compound_one, next_failed, next_one}
 use Rattle.ax_view.proofs.ItemTrees.{element_is, group_is, item_bounds, item_room, item_fixed, ext_links, ext_bounds, ext_one, ext_value, compound_value, explicit_made, occurrences_fall, repeat_made}
 use Rattle.ax_view.proofs.MarkedSteps.{next_marked, within_at, greatest_at}
 use Rattle.ax_view.proofs.NodeKinds.{compound_links, compound_mask, compound_falls}
@@ -106,7 +106,7 @@ pub marked_to_values-walk_of-requires-clause-bounds : goal.marked_to_values-walk
 marked_to_values-walk_of-requires-clause-bounds t c = (next_marked c.args.codec.now.nodes c.args.slots.now c.loop-slot.left c.take_first.new.self _ c.in-Some.slot c.requires.bounds c.loop-slot.invariant.made.where_left.clear c.loop-slot.invariant.made.where_left.are_bits c.in-Some.ensures.some c.in-Some.ensures.marks).bounds
 
 pub marked_to_values-returns-in_default-walk_of : goal.marked_to_values-returns-in_default-walk_of
-marked_to_values-returns-in_default-walk_of t c = absurd (next_lost c.args.codec.now.nodes c.args.slots.now c.args.marked c.loop-slot.left c.take_first.new.self c.args.body.now c.in-Some.slot c.args.at c.loop-slot.here 0 c.loop-slot.invariant.made.where_left (next_marked c.args.codec.now.nodes c.args.slots.now c.loop-slot.left c.take_first.new.self _ c.in-Some.slot c.requires.bounds c.loop-slot.invariant.made.where_left.clear c.loop-slot.invariant.made.where_left.are_bits c.in-Some.ensures.some c.in-Some.ensures.marks) c.walk_of.new.notes.fault c.in_default-walk_of.ensures.fault)
+marked_to_values-returns-in_default-walk_of t c = absurd (next_failed c.args.codec.now.nodes c.args.slots.now c.args.marked c.loop-slot.left c.take_first.new.self c.args.body.now c.in-Some.slot c.args.at c.loop-slot.here 0 c.loop-slot.invariant.made.where_left (next_marked c.args.codec.now.nodes c.args.slots.now c.loop-slot.left c.take_first.new.self _ c.in-Some.slot c.requires.bounds c.loop-slot.invariant.made.where_left.clear c.loop-slot.invariant.made.where_left.are_bits c.in-Some.ensures.some c.in-Some.ensures.marks) c.walk_of.new.notes.fault c.in_default-walk_of.ensures.fault)
 
 pub marked_to_values-invariant_of-item : goal.marked_to_values-invariant_of-item
 marked_to_values-invariant_of-item t c =

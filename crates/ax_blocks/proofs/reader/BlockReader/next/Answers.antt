@@ -10,12 +10,12 @@ returns-in-Ok-Some g c =
     let e : c.deref.result.now ≡ c.next_length.new.buffer = grind (arith, common_steps) in
     let framed : IsFramed c.raw_block.result.category c.raw_block.result.body.now (take c.in-Ok-Some.length c.next_length.new.buffer)
     = subst (λ l. IsFramed c.raw_block.result.category c.raw_block.result.body.now (take c.in-Ok-Some.length l)) e c.raw_block.ensures.framed in
-    let held = rw c.in-Ok-Some.field-0-is at c.in-Ok-Some.ensures.block in
+    let buffered = rw c.in-Ok-Some.field-0-is at c.in-Ok-Some.ensures.block in
     let given : GivesBlock c.self.inside.limit c.self.inside.given (g.S.Source.left c.args.source.now) (g.S.Source.left c.next_length.new.source) (g.S.Source.taken c.args.source.now) (g.S.Source.taken c.next_length.new.source) (raw_tree c.raw_block.result)
-    = gives_block c.self.inside.limit c.self.inside.given _ _ _ _ c.next_length.new.buffer c.in-Ok-Some.length (raw_tree c.raw_block.result) c.self.invariant.1 held framed c.raw_block.ensures.count in
+    = gives_block c.self.inside.limit c.self.inside.given _ _ _ _ c.next_length.new.buffer c.in-Ok-Some.length (raw_tree c.raw_block.result) c.self.invariant.1 buffered framed c.raw_block.ensures.count in
     let seen : ReaderState = record { limit = c.self.inside.limit; given = c.self.inside.given; ended = c.self.inside.ended } in
     let is : seen ≡ c.args.self.now = c.self.view_is in (
-      (refl, (λ _. tt), after_block c.args.self.now seen c.in-Ok-Some.length c.raw_block.result is c.in-None.is held.within c.raw_block.ensures.count),
+      (refl, (λ _. tt), after_block c.args.self.now seen c.in-Ok-Some.length c.raw_block.result is c.in-None.is buffered.within c.raw_block.ensures.count),
       record {
         after = tt;
         again = none_kept _ c.args.self.now seen is c.in-None.is;

@@ -3,7 +3,7 @@ use Rattle.std.specs.Option.{option_copied}
 use Rattle.ax_model.specs.Plain.{spec_tree}
 use Rattle.ax_text_view_work.proofs.TextBlocks.{table_mask, text_printed, text_fails, text_opaque}
 use Rattle.ax_text_view_work.proofs.work.TextViewsBlockWork.take.Goals as goal
-use Rattle.ax_values.specs.Decoding.{IsBodyFault, Names}
+use Rattle.ax_values.specs.Decoding.{IsBodyFault, IsFaultOf}
 
 pub print_block-requires-clause-mask : goal.print_block-requires-clause-mask
 print_block-requires-clause-mask g c = table_mask _ _ c.args.raw.now.category c.in-Some.table.now c.requires.sound (sym c.table_for.ensures ∙ ap option_copied c.in-Some.is)
@@ -15,7 +15,7 @@ returns-in-Ok-clause-takes g c =
 pub returns-in-Err-Fault-clause-takes : goal.returns-in-Err-Fault-clause-takes
 returns-in-Err-Fault-clause-takes g c =
     text_fails _ _ _ _ _ _ c.requires.sound c.in-Some.table.now c.in-Err-Fault.fault _ (sym c.table_for.ensures ∙ ap option_copied c.in-Some.is) c.args.raw.now.within_block
-    (subst (Names (IsBodyFault (spec_tree c.in-Some.table.now.items.spec.now) c.args.raw.now.body.now)) c.in-Err-Fault.field-0-is c.in-Err-Fault.ensures.fault)
+    (subst (IsFaultOf (IsBodyFault (spec_tree c.in-Some.table.now.items.spec.now) c.args.raw.now.body.now)) c.in-Err-Fault.field-0-is c.in-Err-Fault.ensures.fault)
 
 pub returns-in-Ok-print_opaque-clause-takes : goal.returns-in-Ok-print_opaque-clause-takes
 returns-in-Ok-print_opaque-clause-takes g c =

@@ -1,0 +1,12 @@
+-- Kinds without a presence field.
+use Rattle.std.specs.Prelude.{Unit}
+use Rattle.ax_model.specs.Tree.{KindTree, fixed, extended, counted, by_fx, explicit, compound}
+
+-- a kind without a presence field at any depth
+abbrev pub IsPlain : KindTree → Type 0
+IsPlain (fixed f) = Unit {0}
+IsPlain (extended ps) = Unit {0}
+IsPlain (counted k) = ⊥
+IsPlain (by_fx f) = Unit {0}
+IsPlain explicit = Unit {0}
+IsPlain (compound ss) = ⊥

@@ -36,9 +36,9 @@ lined_begins line_limit limit before octets (one ∷ lines) e (after, taken, nex
 
 pub left_on : (octets front mid : List ℕ) (left : Option (List ℕ)) → octets ≡ front ++ mid → IsLeftOf mid left → IsLeftOf octets left
 left_on octets front mid left split l = record {
-  held = front ++ l.held;
+  front = front ++ l.front;
   rest = l.rest;
-  split = split ∙ ap (λ x. front ++ x) l.split ∙ sym (append_assoc front l.held l.rest);
+  split = split ∙ ap (λ x. front ++ x) l.split ∙ sym (append_assoc front l.front l.rest);
   left = l.left;
 }
 
@@ -54,7 +54,7 @@ left_after_lines line_limit limit before octets (one ∷ lines) past rest left (
 -- the octets held are in front of those that are left
 pub left_of_ahead : (held rest : List ℕ) (left : Option (List ℕ)) → with_front held left ≡ Some rest → IsLeftOf rest left
 left_of_ahead held rest None is = absurd (let e : ◌≡◌ {A = Option (List ℕ)} None (Some rest) = is in cc)
-left_of_ahead held rest (Some x) is = record { held = held; rest = x; split = (let e : ◌≡◌ {A = Option (List ℕ)} (Some (held ++ x)) (Some rest) = is in cc); left = refl }
+left_of_ahead held rest (Some x) is = record { front = held; rest = x; split = (let e : ◌≡◌ {A = Option (List ℕ)} (Some (held ++ x)) (Some rest) = is in cc); left = refl }
 
 -- these are in front of those that are left
 pub record IsPartOf (octets front : List ℕ) (left : Option (List ℕ)) : Type 0 where
@@ -70,7 +70,7 @@ part_of_taken held taken rest left (Some x) is gives =
     record { after = x; split = f ∙ sym (append_assoc held taken x); left_is = refl }
 
 pub left_of_part : (octets front : List ℕ) (left : Option (List ℕ)) → IsPartOf octets front left → IsLeftOf octets left
-left_of_part octets front left p = record { held = front; rest = p.after; split = p.split; left = p.left_is }
+left_of_part octets front left p = record { front = front; rest = p.after; split = p.split; left = p.left_is }
 
 pub none_left : (octets : List ℕ) (left : Option (List ℕ)) → IsLeftOf octets left → IsAtEnd left → left ≡ Some []
 none_left octets left l at_end = let e : l.rest ≡ [] = subst IsAtEnd l.left at_end in l.left ∙ ap Some e

@@ -39,10 +39,10 @@ pub record Running {F : Type 0} (c : LineCommand F) (line_limit limit : ℕ) (i 
   pub within : reader.given ≤ limit
   pub few : number ≤ reader.given
   pub fewer : count ≤ number
-  pub took : i.taken' ≡ i.taken + (reader.given + length reader.held)
+  pub took : i.taken' ≡ i.taken + (reader.given + length reader.buffered)
   pub source_later : i.faults ≤ i.faults'
   pub out_later : o.faults ≤ o.faults'
-  pub told : (input : List ℕ) → i.left ≡ Some input → SoFar c line_limit limit input (ahead reader.held i.left') o reader.given number count
+  pub told : (input : List ℕ) → i.left ≡ Some input → SoFar c line_limit limit input (ahead reader.buffered i.left') o reader.given number count
 
 -- a read, and one more after it
 abbrev pub read_on : SourceChange → SourceChange → SourceChange
@@ -83,12 +83,12 @@ written_of_kept c now number one s results kept w = record { answer = w.answer; 
 -- ---- the beginning
 
 pub running_begins : {F : Type 0} (c : LineCommand F) (left held : Option (List ℕ)) (taken faults fails : ℕ) (reader : ReaderState) (Sound : Type 0) → Sound
-    → reader ≡ record { line_limit = reader.line_limit; limit = reader.limit; given = 0; held = []; ended = None }
+    → reader ≡ record { line_limit = reader.line_limit; limit = reader.limit; given = 0; buffered = []; ended = None }
     → Running c reader.line_limit reader.limit (record { left = left; left' = left; taken = taken; taken' = taken; faults = faults; faults' = faults }) (record { held = held; held' = held; faults = fails; faults' = fails }) c reader 0 0 Sound
 running_begins c left held taken faults fails reader Sound sound e =
     let z : reader.given ≡ 0 = ap (λ x. x.given) e in
-    let none : reader.held ≡ [] = ap (λ x. x.held) e in
-    let size : length reader.held ≡ 0 = ap length none in
+    let none : reader.buffered ≡ [] = ap (λ x. x.buffered) e in
+    let size : length reader.buffered ≡ 0 = ap length none in
     record {
       same = λ n octets a h. h;
       sound = sound;
@@ -119,20 +119,20 @@ module _ {F : Type 0} (c : LineCommand F) (line_limit limit : ℕ) (i : SourceCh
   still_later = let a : i.faults ≤ i.faults' = run.source_later in let b : j.faults ≡ i.faults' = joins.faults in omega arith
 
   -- what is not given yet, as the reader sees it now
-  seen : (input : List ℕ) (l : i.left ≡ Some input) → ahead reader.held j.left ≡ Some (run.told input l).rest
-  seen input l = ap (ahead reader.held) joins.left ∙ (run.told input l).following_is
+  seen : (input : List ℕ) (l : i.left ≡ Some input) → ahead reader.buffered j.left ≡ Some (run.told input l).rest
+  seen input l = ap (ahead reader.buffered) joins.left ∙ (run.told input l).following_is
 
   -- ---- the lines end
 
-  module _ (e : LinedEnd) (f : FindsEnd reader.line_limit reader.limit reader.given reader.held j e) where
+  module _ (e : LinedEnd) (f : FindsEnd reader.line_limit reader.limit reader.given reader.buffered j e) where
     ends_told : (input : List ℕ) (l : i.left ≡ Some input) → IsNextLine line_limit limit reader.given (run.told input l).rest (end e)
     ends_told input l =
         let next : IsNextLine reader.line_limit reader.limit reader.given (run.told input l).rest (end e)
-        = (told_at (λ before. IsJustNextLine reader.line_limit reader.limit reader.given before (end e)) (ahead reader.held j.left) (run.told input l).rest (seen input l) f.told).is in
+        = (told_at (λ before. IsJustNextLine reader.line_limit reader.limit reader.given before (end e)) (ahead reader.buffered j.left) (run.told input l).rest (seen input l) f.told).is in
         subst (λ m. IsNextLine line_limit m reader.given (run.told input l).rest (end e)) run.limit_is (subst (λ m. IsNextLine m reader.limit reader.given (run.told input l).rest (end e)) run.line_limit_is next)
 
     left_told : (input : List ℕ) (l : i.left ≡ Some input) → IsLeftOf (run.told input l).rest j.left'
-    left_told input l = left_of_part (run.told input l).rest (reader.held ++ f.taken) j.left' (part_of_taken reader.held f.taken (run.told input l).rest j.left j.left' (seen input l) f.took.gives)
+    left_told input l = left_of_part (run.told input l).rest (reader.buffered ++ f.taken) j.left' (part_of_taken reader.buffered f.taken (run.told input l).rest j.left j.left' (seen input l) f.took.gives)
 
     ended : (result : LinesEnd F) → result ≡ lines_end count number e → ((n : ℕ) → result ≡ EndOf.Done n → IsAtEnd j.left') → (input : List ℕ) → i.left ≡ Some input → ToldRun c line_limit limit input j.left' o result
     ended result is at_end input l =
@@ -151,7 +151,7 @@ module _ {F : Type 0} (c : LineCommand F) (line_limit limit : ℕ) (i : SourceCh
           left = left_after_lines line_limit limit 0 input s.lines reader.given s.rest j.left' s.front.begins (left_told input l);
         })
 
-  pub run_done : FindsEnd reader.line_limit reader.limit reader.given reader.held j all_lines → LinesRun c line_limit limit (read_on i j) o (EndOf.Done count)
+  pub run_done : FindsEnd reader.line_limit reader.limit reader.given reader.buffered j all_lines → LinesRun c line_limit limit (read_on i j) o (EndOf.Done count)
   run_done f = record {
     told = ended all_lines f (EndOf.Done count) refl (λ n done. f.shows.1);
     caused = tt;
@@ -161,31 +161,31 @@ module _ {F : Type 0} (c : LineCommand F) (line_limit limit : ℕ) (i : SourceCh
   }
 
   -- a read failed
-  reading_told : StopsInLine reader.line_limit reader.limit reader.given reader.held j → (input : List ℕ) → i.left ≡ Some input → ToldRun c line_limit limit input j.left' o EndOf.ReadFault
+  reading_told : StopsInLine reader.line_limit reader.limit reader.given reader.buffered j → (input : List ℕ) → i.left ≡ Some input → ToldRun c line_limit limit input j.left' o EndOf.ReadFault
   reading_told f input l =
       let s = run.told input l in
-      let part : IsPartOf s.rest (reader.held ++ f.taken) j.left' = part_of_taken reader.held f.taken s.rest j.left j.left' (seen input l) f.took.gives in
-      let front : AnswersLines c line_limit limit input s.lines s.answers reader.given ((reader.held ++ f.taken) ++ part.after) = subst (AnswersLines c line_limit limit input s.lines s.answers reader.given) part.split s.front in
+      let part : IsPartOf s.rest (reader.buffered ++ f.taken) j.left' = part_of_taken reader.buffered f.taken s.rest j.left j.left' (seen input l) f.took.gives in
+      let front : AnswersLines c line_limit limit input s.lines s.answers reader.given ((reader.buffered ++ f.taken) ++ part.after) = subst (AnswersLines c line_limit limit input s.lines s.answers reader.given) part.split s.front in
       inr (RunOf.reading refl (record {
         lines = s.lines;
         answers = s.answers;
         past = reader.given;
-        part = reader.held ++ f.taken;
+        part = reader.buffered ++ f.taken;
         rest = part.after;
         front = front;
         plain = f.plain;
-        short = (let a : length (reader.held ++ f.taken) ≤ reader.line_limit = f.short in let b : reader.line_limit ≡ line_limit = run.line_limit_is in omega arith);
-        within = (let a : reader.given + length (reader.held ++ f.taken) ≤ reader.limit = f.within in let b : reader.limit ≡ limit = run.limit_is in omega arith);
+        short = (let a : length (reader.buffered ++ f.taken) ≤ reader.line_limit = f.short in let b : reader.line_limit ≡ line_limit = run.line_limit_is in omega arith);
+        within = (let a : reader.given + length (reader.buffered ++ f.taken) ≤ reader.limit = f.within in let b : reader.limit ≡ limit = run.limit_is in omega arith);
         left = part.left_is;
         out = s.out;
       }))
 
   -- the reader's refusal
-  pub run_refused : (error : LineError) → OnEnd {A = List ℕ} (Err error) (FindsEnd reader.line_limit reader.limit reader.given reader.held j) → OnReadFault {A = List ℕ} (Err error) (StopsInLine reader.line_limit reader.limit reader.given reader.held j)
-      → OnTooLong {A = List ℕ} (Err error) (reader.limit + j.taken < reader.given + length reader.held + j.taken') → OnReadFault {A = List ℕ} (Err error) (Rose j.faults j.faults') → LinesRun c line_limit limit (read_on i j) o (error_end number error)
+  pub run_refused : (error : LineError) → OnEnd {A = List ℕ} (Err error) (FindsEnd reader.line_limit reader.limit reader.given reader.buffered j) → OnReadFault {A = List ℕ} (Err error) (StopsInLine reader.line_limit reader.limit reader.given reader.buffered j)
+      → OnTooLong {A = List ℕ} (Err error) (reader.limit + j.taken < reader.given + length reader.buffered + j.taken') → OnReadFault {A = List ℕ} (Err error) (Rose j.faults j.faults') → LinesRun c line_limit limit (read_on i j) o (error_end number error)
   run_refused InputTooLong f stops past rose = record {
     told = ended input_too_long f EndOf.InputTooLong refl (λ n done. absurd (cc));
-    caused = (let a : i.taken' ≡ i.taken + (reader.given + length reader.held) = run.took in let b : j.taken ≡ i.taken' = joins.taken in let d : reader.limit ≡ limit = run.limit_is in omega arith);
+    caused = (let a : i.taken' ≡ i.taken + (reader.given + length reader.buffered) = run.took in let b : j.taken ≡ i.taken' = joins.taken in let d : reader.limit ≡ limit = run.limit_is in omega arith);
     licensed = tt;
     source_later = still_later;
     out_later = run.out_later;
@@ -207,12 +207,12 @@ module _ {F : Type 0} (c : LineCommand F) (line_limit limit : ℕ) (i : SourceCh
 
   -- ---- a line is given
 
-  module _ (given' : ℕ) (held' one : List ℕ) (g : GivesLine reader.line_limit reader.limit reader.given reader.held j given' held' one) where
+  module _ (given' : ℕ) (held' one : List ℕ) (g : GivesLine reader.line_limit reader.limit reader.given reader.buffered j given' held' one) where
     -- it comes next, and what is after it is told
     told_line : (input : List ℕ) (l : i.left ≡ Some input) → IsToldLine line_limit limit reader.given (run.told input l).rest (ahead held' j.left') one
     told_line input l =
         let next : IsToldLine reader.line_limit reader.limit reader.given (run.told input l).rest (ahead held' j.left') one
-        = told_at (λ before. IsToldLine reader.line_limit reader.limit reader.given before (ahead held' j.left') one) (ahead reader.held j.left) (run.told input l).rest (seen input l) g.told in
+        = told_at (λ before. IsToldLine reader.line_limit reader.limit reader.given before (ahead held' j.left') one) (ahead reader.buffered j.left) (run.told input l).rest (seen input l) g.told in
         subst (λ m. IsToldLine line_limit m reader.given (run.told input l).rest (ahead held' j.left') one) run.limit_is (subst (λ m. IsToldLine m reader.limit reader.given (run.told input l).rest (ahead held' j.left') one) run.line_limit_is next)
 
     left_following : (input : List ℕ) (l : i.left ≡ Some input) → IsLeftOf (told_line input l).after j.left'
@@ -220,20 +220,20 @@ module _ {F : Type 0} (c : LineCommand F) (line_limit limit : ℕ) (i : SourceCh
 
     longer : reader.given < given'
     longer =
-        let more : length held' < length (reader.held ++ g.taken) = shown_longer reader.line_limit reader.limit reader.given (reader.held ++ g.taken) one held' j.left' g.shows in
-        let counts : given' + length held' ≡ reader.given + length (reader.held ++ g.taken) = g.counts in
+        let more : length held' < length (reader.buffered ++ g.taken) = shown_longer reader.line_limit reader.limit reader.given (reader.buffered ++ g.taken) one held' j.left' g.shows in
+        let counts : given' + length held' ≡ reader.given + length (reader.buffered ++ g.taken) = g.counts in
         omega arith
 
     -- so many octets it takes
     taken_by : (input : List ℕ) (l : i.left ≡ Some input) → length (run.told input l).rest ≡ (given' - reader.given) + length (told_line input l).after
     taken_by input l =
         let s = run.told input l in
-        let part : IsPartOf s.rest (reader.held ++ g.taken) j.left' = part_of_taken reader.held g.taken s.rest j.left j.left' (seen input l) g.took.gives in
-        let all : length s.rest ≡ length (reader.held ++ g.taken) + length part.after = ap length part.split ∙ length-append (reader.held ++ g.taken) part.after in
+        let part : IsPartOf s.rest (reader.buffered ++ g.taken) j.left' = part_of_taken reader.buffered g.taken s.rest j.left j.left' (seen input l) g.took.gives in
+        let all : length s.rest ≡ length (reader.buffered ++ g.taken) + length part.after = ap length part.split ∙ length-append (reader.buffered ++ g.taken) part.after in
         let following : (told_line input l).after ≡ held' ++ part.after
         = (let e : ◌≡◌ {A = Option (List ℕ)} (Some (held' ++ part.after)) (Some (told_line input l).after) = sym (ap (with_front held') part.left_is) ∙ (told_line input l).following_is in cc) in
         let rest : length (told_line input l).after ≡ length held' + length part.after = ap length following ∙ length-append held' part.after in
-        let counts : given' + length held' ≡ reader.given + length (reader.held ++ g.taken) = g.counts in
+        let counts : given' + length held' ≡ reader.given + length (reader.buffered ++ g.taken) = g.counts in
         let more : reader.given < given' = longer in
         omega arith
 
@@ -338,19 +338,19 @@ module _ {F : Type 0} (c : LineCommand F) (line_limit limit : ℕ) (i : SourceCh
             counted = omega arith;
           }
 
-      pub run_on : (now' : LineCommand F) (reader' : ReaderState) (results : ℕ) (Still : Type 0) → Still → IsWritten now number one s results → KeepsTo now now' → reader'.line_limit ≡ reader.line_limit → reader'.limit ≡ reader.limit → reader'.given ≡ given' → reader'.held ≡ held'
+      pub run_on : (now' : LineCommand F) (reader' : ReaderState) (results : ℕ) (Still : Type 0) → Still → IsWritten now number one s results → KeepsTo now now' → reader'.line_limit ≡ reader.line_limit → reader'.limit ≡ reader.limit → reader'.given ≡ given' → reader'.buffered ≡ held'
           → reader'.given ≤ reader'.limit → IsOpen reader' → Running c line_limit limit (read_on i j) (both o s) now' reader' (number + 1) (count + results) Still
       run_on now' reader' results Still still w kept same_line same given_is held_is fits opened =
           let w' : IsWritten c number one s results = written_of_kept c now number one s results run.same w in
           let more : reader.given < given' = longer in
           let few : number ≤ reader.given = run.few in
           let fewer : count ≤ number = run.fewer in
-          let a : i.taken' ≡ i.taken + (reader.given + length reader.held) = run.took in
+          let a : i.taken' ≡ i.taken + (reader.given + length reader.buffered) = run.took in
           let b : j.taken ≡ i.taken' = joins.taken in
           let q : j.taken' ≡ j.taken + length g.taken = g.took.number in
-          let all : length (reader.held ++ g.taken) ≡ length reader.held + length g.taken = length-append reader.held g.taken in
-          let counts : given' + length held' ≡ reader.given + length (reader.held ++ g.taken) = g.counts in
-          let held_size : length reader'.held ≡ length held' = ap length held_is in
+          let all : length (reader.buffered ++ g.taken) ≡ length reader.buffered + length g.taken = length-append reader.buffered g.taken in
+          let counts : given' + length held' ≡ reader.given + length (reader.buffered ++ g.taken) = g.counts in
+          let held_size : length reader'.buffered ≡ length held' = ap length held_is in
           let lim : reader.limit ≡ limit = run.limit_is in
           let one_at_most : results ≤ 1 = at_most w'.answer results w'.counted in
           record {
@@ -366,7 +366,7 @@ module _ {F : Type 0} (c : LineCommand F) (line_limit limit : ℕ) (i : SourceCh
             source_later = still_later;
             out_later = out_still_later;
             told = λ input l.
-                (let P : ℕ → Type 0 = λ n. SoFar c line_limit limit input (ahead reader'.held j.left') (both o s) n (number + 1) (count + results) in
+                (let P : ℕ → Type 0 = λ n. SoFar c line_limit limit input (ahead reader'.buffered j.left') (both o s) n (number + 1) (count + results) in
                 let Q : List ℕ → Type 0 = λ h. SoFar c line_limit limit input (ahead h j.left') (both o s) given' (number + 1) (count + results) in
                 subst P (sym given_is) (subst Q (sym held_is) (line_more results w' input l)));
           }

@@ -53,9 +53,9 @@ LinesAnswer c line_limit limit input lines answers e = EndsWithInput c line_limi
 
 -- what is left in the source are the last of these octets: those before them were taken
 pub record IsLeftOf (octets : List ℕ) (left' : Option (List ℕ)) : Type 0 where
-  pub held : List ℕ
+  pub front : List ℕ
   pub rest : List ℕ
-  pub split : octets ≡ held ++ rest
+  pub split : octets ≡ front ++ rest
   pub left : left' ≡ Some rest
 
 -- a read failed: the lines are all those whose line feed was taken, and a last one without it where the input had ended; `part`

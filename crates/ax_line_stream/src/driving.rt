@@ -18,7 +18,7 @@ pub fn drive_lines<W: LineWork, S: Source, K: Sink>(
     source: &mut S,
     out: &mut K,
 ) -> LinesEnd<W::Fault>
-    requires fresh { reader.old ≡ record { line_limit = reader.old.line_limit; limit = reader.old.limit; given = 0; held = []; ended = None } }
+    requires fresh { reader.old ≡ record { line_limit = reader.old.line_limit; limit = reader.old.limit; given = 0; buffered = []; ended = None } }
     requires short { reader.old.line_limit ≤ longest_line }
     requires bounded { reader.old.limit < 2 ^ 63 }
     requires sound { W.sound work.old }

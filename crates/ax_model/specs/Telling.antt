@@ -4,7 +4,7 @@ use Rattle.ax_model.specs.declared.fault.BodyCause.{BodyCause}
 use Rattle.ax_model.specs.declared.fault.BodyCause.TheVariants.{RunsOut, UndefinedSlot, PresenceTooLong, ExtensionPastEnd, BadExplicitLength}
 
 -- how many bits from the place on tell a fault: the bit itself, or the whole length octet; want of bits isn't told by any
-abbrev pub told : BodyCause → ℕ
+abbrev pub fault_bits : BodyCause → ℕ
 fault_bits BadExplicitLength = 8
 fault_bits RunsOut = 0
 fault_bits UndefinedSlot = 1

@@ -102,7 +102,7 @@ module _ (W S : List ℕ → Type 0) (xs : List ℕ) (p : ℕ) (c : BodyCause)
       (drop p h.kept ++ h.more, subst S (sym joined) (good (h.kept ++ h.more) h.spelled))
 
   pub is_honest : IsHonest S xs p c
-  is_honest = record { runs_out = (completed, λ t. only t.0 t.2 (runs_out_or_not c)); told = none_following; begins = begun }
+  is_honest = record { runs_out = (completed, λ t. only t.0 t.2 (runs_out_or_not c)); stays = none_following; begins = begun }
 
 -- ---- kinds, records, bodies
 

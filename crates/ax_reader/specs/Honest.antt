@@ -32,7 +32,7 @@ pub record IsHonest (Spelled : List ℕ → Type 0) (octets : List ℕ) (bit : �
   pub runs_out : cause ≡ RunsOut ↔ ((more : List ℕ) × AreOctets more × Spelled (bits (octets ++ more)))
   -- with any other cause, no bits are spelled that begin with theirs through the named one (with a bad explicit length,
   -- through the whole octet that begins there)
-  pub told : cause ≢ RunsOut → (rest : List ℕ) → Spelled (take (bit + told cause) (bits octets) ++ rest) → ⊥
+  pub stays : cause ≢ RunsOut → (rest : List ℕ) → Spelled (take (bit + fault_bits cause) (bits octets) ++ rest) → ⊥
   -- their bits before the named one begin bits that are spelled
   pub begins : (rest : List ℕ) × Spelled (take bit (bits octets) ++ rest)
 

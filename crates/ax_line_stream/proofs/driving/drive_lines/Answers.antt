@@ -11,7 +11,7 @@ pub returns-in-Ok-None : goal.returns-in-Ok-None
 returns-in-Ok-None g c =
     let e : c.next.result ≡ Ok None = c.in-Ok-None.is ∙ ap Ok c.in-Ok-None.field-0-is in
     run_done _ _ _ _ _ _ _ _ _ _ c.lines.invariant _ (record { left = refl; taken = refl; faults = refl }) c.next.ensures.never_falls
-    (gives_end _ (FindsEnd c.lines.reader.line_limit c.lines.reader.limit c.lines.reader.given c.lines.reader.held (source_change g.S.Source c.lines.source c.next.new.source)) e (c.next.ensures.end c.lines.invariant.open_))
+    (gives_end _ (FindsEnd c.lines.reader.line_limit c.lines.reader.limit c.lines.reader.given c.lines.reader.buffered (source_change g.S.Source c.lines.source c.next.new.source)) e (c.next.ensures.end c.lines.invariant.open_))
 
 pub returns-in-Err : goal.returns-in-Err
 returns-in-Err g c =

@@ -10,8 +10,8 @@ returns-in_default c =
     let none : IsName c.first_piece.result.0.now → ⊥ = search rules in
     no_path c.args.text.now c.loop-name.names c.first_piece.result.0.now c.loop-name.rest.now s.0 c.loop-name.invariant.0 s.1 none
 
-pub returns-in_default-after : goal.returns-in_default-after
-returns-in_default-after c =
+pub returns-in_default-following : goal.returns-in_default-following
+returns-in_default-following c =
     let new : c.push.new.self ≡ c.loop-name.names ++ c.in-Some.name ∷ [] = search rules in
     let name : c.in-Some.name ≡ c.first_piece.result.0.now = search rules in
     let whole : pieces c.loop-name.rest.now ≡ c.first_piece.result.0.now ∷ [] = search rules in

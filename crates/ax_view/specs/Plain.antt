@@ -1,5 +1,4 @@
 -- Kinds without a presence field.
-use Rattle.std.specs.Prelude.{Unit}
 use Rattle.ax_model.specs.Tree.{KindTree, fixed, extended, counted, by_fx, explicit, compound}
 
 -- a kind without a presence field at any depth

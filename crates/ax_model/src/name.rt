@@ -1,4 +1,4 @@
-ghost use Rattle.std.specs.Prelude.{◌≡◌, ◌↔◌, ◌≤◌, ◌-◌, ◌++◌, length, replicate, IsTrue, MatchOption};
+ghost use Rattle.std.specs.Prelude.{◌≡◌, ◌↔◌, ◌≤◌, ◌-◌, ◌++◌, length, take, replicate, IsTrue, MatchOption};
 ghost use Rattle.std.specs.List.{list_all};
 ghost use Rattle.std.specs.Hash as fed;
 ghost use Rattle.std.specs.Str.{bytes_eq};
@@ -81,6 +81,16 @@ impl Name {
         ensures name { IsName self.now }
     {
         &self.octets[..self.count]
+    }
+
+    /// The octets and zeros after them, 16 in all: a copy of a known length is quick.
+    #[inline(always)]
+    pub fn padded(&self) -> &[u8]
+        ensures front { take (length self.now) result.now ≡ self.now }
+        ensures whole { length result.now ≡ 16 }
+        ensures fits { length self.now ≤ 16 }
+    {
+        &self.octets
     }
 
     /// Whether the two names are one.

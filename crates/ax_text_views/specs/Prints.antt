@@ -1,5 +1,5 @@
 -- What is printed of what is read.
-use Rattle.std.specs.Prelude.{◌≡◌, ℕ, List}
+use Rattle.std.specs.Prelude.{◌≡◌, ℕ, ◌+◌, ◌/◌, ◌%◌, List, [], ◌∷◌}
 use Rattle.ax_bits.specs.Bits.{bits}
 use Rattle.ax_model.specs.Blocks.{read_block}
 use Rattle.ax_model.specs.Bodies.{SpellsBody}
@@ -48,3 +48,7 @@ pub record IsBlockPrinted (spec : SpecTree) (category : ℕ) (body line : List �
   pub records : List EntriesTree
   pub spelled : SpellsBody spec records (bits body)
   pub is : line ≡ BlockLine spec (read_block category records)
+
+-- the three last digits of a number below 1000
+abbrev pub three_last : ℕ → List ℕ
+three_last n = (48 + n / 100) ∷ (48 + n / 10 % 10) ∷ (48 + n % 10) ∷ []

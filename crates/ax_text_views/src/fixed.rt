@@ -26,18 +26,58 @@ fn piece_of(octet: u8, below: u32, count: u32) -> u8
     (octet as u32 >> below & ((1 << count) - 1)) as u8
 }
 
-/// The number in the `width` bits from bit `at` of the body on. Most stand in one octet.
-fn number_at(body: &[u8], at: u32, width: u32) -> u128
-    requires width { IsWidth width }
+/// The number that octets spell.
+#[tactic(auto, using(crate::proofs::Joining::joins))]
+fn joined(octets: &[u8]) -> u64
+    requires { length octets.now ≤ 8 }
+    ensures number { word (8 * length octets.now) result ≡ bits octets.now }
+    ensures below { result < 2 ^ (8 * length octets.now) }
+{
+    let mut number: u64 = 0;
+    for octet in octets {
+        number = number << 8 | u64::from(*octet);
+    }
+    number
+}
+
+/// The number in the `width` bits from bit `at` of the body on, which stand in several octets.
+fn number_across(body: &[u8], at: u32, width: u32) -> u64
+    requires width { (1 ≤ width) × (width ≤ 56) }
     requires within { at + width ≤ 8 * length body.now }
+    requires body { length body.now ≤ longest_body }
+    ensures number { word width result ≡ take width (drop at (bits body.now)) }
+    ensures below { result < 2 ^ width }
+{
+    let end = (at + width + 7) / 8;
+    let number = joined(&body[(at / 8) as usize..end as usize]);
+    number >> (8 * end - at - width) & ((1 << width) - 1)
+}
+
+/// The number in the `width` bits from bit `at` of the body on. Most stand in one octet.
+fn number_at(body: &[u8], at: u32, width: u32) -> u64
+    requires width { (1 ≤ width) × (width ≤ 56) }
+    requires within { at + width ≤ 8 * length body.now }
+    requires body { length body.now ≤ longest_body }
     ensures number { word width result ≡ take width (drop at (bits body.now)) }
     ensures below { result < 2 ^ width }
 {
     let offset = at % 8;
     if offset + width > 8 {
-        return bits_at(body, at, width);
+        return number_across(body, at, width);
     }
-    u128::from(piece_of(body[(at / 8) as usize], 8 - offset - width, width))
+    u64::from(piece_of(body[(at / 8) as usize], 8 - offset - width, width))
+}
+
+/// Prints the number in the `width` bits from bit `at` of the body on, of any width.
+#[cold]
+#[inline(never)]
+#[tactic(auto, using(crate::proofs::FixedPrinted::number_printed))]
+fn print_wide(line: &mut Line, width: u32, body: &[u8], at: u32) -> Result<(), AllocError>
+    requires width { IsWidth width }
+    requires within { at + width ≤ 8 * length body.now }
+    ensures { OnOk result (Puts after_spaces (one_onto (decimal (number_of (take width (drop at (bits body.now)))))) line.old line.new) }
+{
+    line.wide_number(bits_at(body, at, width))
 }
 
 /// Prints the number in the `width` bits from bit `at` of the body on, which is moved after them.
@@ -49,9 +89,12 @@ fn print_number(line: &mut Line, width: u32, body: &[u8], at: &mut u32) -> Resul
     ensures text { OnOk result (Puts after_spaces (one_onto (decimal (number_of (take width (drop at.old (bits body.now)))))) line.old line.new) }
     ensures at { at.new ≡ at.old + width }
 {
-    let number = number_at(body, *at, width);
+    let here = *at;
     *at += width;
-    line.number(number)
+    if width > 56 {
+        return print_wide(line, width, body, here);
+    }
+    line.number(number_at(body, here, width))
 }
 
 /// Prints the value in the bits from bit `at` of the body on, which is moved after them.
@@ -117,7 +160,7 @@ fn print_member(
 {
     match member {
         Member::Named { name, fixed } => {
-            line.text(name.octets())?;
+            line.name(name)?;
             print_fixed(line, fixed, body, at)?;
             Ok(())
         }

@@ -147,7 +147,7 @@ fn print_slot(line: &mut Line, slot: &Slot, body: &[u8], at: u32) -> Result<u32,
     match slot {
         Slot::Spare => Ok(at),
         Slot::Sub { name, kind } => {
-            line.text(name.octets())?;
+            line.name(name)?;
             let end = print_value(line, kind, body, at)?;
             Ok(end)
         }

@@ -6,6 +6,7 @@ mod fixed;
 mod kinds;
 mod line;
 mod records;
+mod room;
 mod units;
 
 pub use blocks::{print_block, print_opaque};

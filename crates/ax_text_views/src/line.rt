@@ -5,7 +5,8 @@ ghost use Rattle.ax_text.specs.Printing.{after_spaces, Puts};
 ghost use Rattle.ax_text.specs.ValueText.{opening, closing, one_onto, hex_text};
 ghost use Rattle.ax_tokens.specs.Octets.{line_feed};
 
-use ax_model::category_digits;
+use crate::room::{make_room, put_name, put_number, put_octets};
+use ax_model::{Name, category_digits};
 use itoa::Buffer;
 use std::alloc::{AllocError, Global};
 use std::marker::Model;
@@ -15,15 +16,19 @@ use std::marker::Model;
 #[derive(Drop)]
 pub struct Line {
     alloc: Global,
-    octets: Vec<u8>,
+    /// The octets so far, and room for others after them.
+    room: Vec<u8>,
+    used: usize,
 }
 
 impl Model for Line {
-    ghost use Rattle.std.specs.Prelude.{List, ℕ};
+    ghost use Rattle.std.specs.Prelude.{List, ℕ, ◌≤◌, length, take};
 
     ghost Value = { List ℕ };
 
-    ghost view = { λ line. line.octets.items };
+    ghost view = { λ line. take line.used line.room.items };
+
+    ghost invariant = { λ line. line.used ≤ length line.room.items };
 }
 
 impl Line {
@@ -33,7 +38,8 @@ impl Line {
     {
         Line {
             alloc,
-            octets: Vec::new(alloc),
+            room: Vec::new(alloc),
+            used: 0,
         }
     }
 
@@ -41,35 +47,46 @@ impl Line {
     pub fn octets(&self) -> &[u8]
         ensures { result.now ≡ self.now }
     {
-        &self.octets
+        &self.room[..self.used]
+    }
+
+    /// Octets after those so far.
+    #[inline(always)]
+    fn more(&mut self, octets: &[u8]) -> Result<(), AllocError>
+        ensures { OnOk result (self.new ≡ self.old ++ octets.now) }
+    {
+        make_room(&mut self.room, self.used, octets.len())?;
+        put_octets(&mut self.room, self.used, octets);
+        self.used += octets.len();
+        Ok(())
     }
 
     /// Begins another line with a token. What was printed before goes.
     pub(crate) fn begin(&mut self, text: &[u8]) -> Result<(), AllocError>
         ensures { OnOk result (self.new ≡ text.now) }
     {
-        self.octets.clear();
-        self.octets.extend_from_slice(text)?;
-        Ok(())
+        self.used = 0;
+        self.more(text)
     }
 
     /// Any token.
+    #[inline(always)]
     #[tactic(auto, using(ax_text::proofs::Printed::text_put))]
     pub(crate) fn text(&mut self, text: &[u8]) -> Result<(), AllocError>
         ensures { OnOk result (Puts after_spaces (one_onto text.now) self.old self.new) }
     {
-        self.octets.push(b' ')?;
-        self.octets.extend_from_slice(text)?;
+        self.more(b" ")?;
+        self.more(text)?;
         Ok(())
     }
 
     /// A token of one octet.
+    #[inline(always)]
     #[tactic(auto, using(crate::proofs::Octets::octet_put))]
     fn octet(&mut self, octet: u8) -> Result<(), AllocError>
         ensures { OnOk result (Puts after_spaces (one_onto (octet ∷ [])) self.old self.new) }
     {
-        self.octets.extend_from_slice(&[b' ', octet])?;
-        Ok(())
+        self.more(&[b' ', octet])
     }
 
     /// An opening brace.
@@ -86,20 +103,34 @@ impl Line {
         self.octet(b'}')
     }
 
-    /// A number in decimal. Most have one digit, and few more than 64 bits.
-    #[tactic(auto, using(crate::proofs::Octets::digit_put))]
-    pub(crate) fn number(&mut self, number: u128) -> Result<(), AllocError>
+    /// A name.
+    #[inline(always)]
+    #[tactic(auto, using(crate::proofs::Octets::token_put))]
+    pub(crate) fn name(&mut self, name: &Name) -> Result<(), AllocError>
+        ensures { OnOk result (Puts after_spaces (one_onto name.now) self.old self.new) }
+    {
+        make_room(&mut self.room, self.used, 17)?;
+        self.used = put_name(&mut self.room, self.used, name);
+        Ok(())
+    }
+
+    /// A number of at most 64 bits in decimal.
+    #[inline(always)]
+    #[tactic(auto, using(crate::proofs::Octets::token_put))]
+    pub(crate) fn number(&mut self, number: u64) -> Result<(), AllocError>
         ensures { OnOk result (Puts after_spaces (one_onto (decimal number)) self.old self.new) }
     {
-        if number < 10 {
-            return self.octet(b'0' + number as u8);
-        }
+        make_room(&mut self.room, self.used, 21)?;
+        self.used = put_number(&mut self.room, self.used, number);
+        Ok(())
+    }
+
+    /// Any number in decimal.
+    pub(crate) fn wide_number(&mut self, number: u128) -> Result<(), AllocError>
+        ensures { OnOk result (Puts after_spaces (one_onto (decimal number)) self.old self.new) }
+    {
         let mut buffer = Buffer::new();
-        if number <= u128::from(u64::MAX) {
-            self.text(buffer.format(number as u64).as_bytes())
-        } else {
-            self.text(buffer.format(number).as_bytes())
-        }
+        self.text(buffer.format(number).as_bytes())
     }
 
     /// A category in three digits.
@@ -115,9 +146,9 @@ impl Line {
         ensures { OnOk result (Puts after_spaces (one_onto (hex_text octets.now)) self.old self.new) }
     {
         let digits = hex::encode(self.alloc, octets)?;
-        self.octets.extend_from_slice(b" \"")?;
-        self.octets.extend_from_slice(digits.as_bytes())?;
-        self.octets.push(b'"')?;
+        self.more(b" \"")?;
+        self.more(digits.as_bytes())?;
+        self.more(b"\"")?;
         Ok(())
     }
 
@@ -125,7 +156,6 @@ impl Line {
     pub(crate) fn end(&mut self) -> Result<(), AllocError>
         ensures { OnOk result (self.new ≡ self.old ++ line_feed ∷ []) }
     {
-        self.octets.push(b'\n')?;
-        Ok(())
+        self.more(b"\n")
     }
 }

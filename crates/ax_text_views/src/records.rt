@@ -85,7 +85,7 @@ fn print_item(
     let Some(item) = items.item(frn) else {
         return Ok(at);
     };
-    line.text(item.name.octets())?;
+    line.name(&item.name)?;
     let end = print_value(line, &item.kind, body, at)?;
     Ok(end)
 }

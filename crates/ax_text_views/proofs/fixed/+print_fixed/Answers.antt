@@ -23,4 +23,4 @@ pub print_member-returns-in_ok-print_number-in-Spare-clause-text : goal.print_me
 print_member-returns-in_ok-print_number-in-Spare-clause-text t c =
     let b = drop c.args.at.now (bits c.args.body.now) in
     subst (λ m. Puts after_spaces (members_read_onto (member_and m no_members) b) c.args.line.now c.print_number.new.line) (sym (ap member_tree c.in-Spare.is ∙ spare_tree c.in-Spare.width))
-    (both_put (one_onto spare_word) (one_onto (decimal (number_of (take c.in-Spare.width b)))) c.args.line.now c.text-in-Spare.new.self c.print_number.new.line c.in_ok-text-in-Spare.ensures c.in_ok-print_number-in-Spare.ensures.text)
+    (both_put (one_onto spare_word) (one_onto (decimal (number_of (take c.in-Spare.width b)))) c.args.line.now c.text.new.self c.print_number.new.line c.in_ok-text-in-Spare.ensures c.in_ok-print_number-in-Spare.ensures.text)

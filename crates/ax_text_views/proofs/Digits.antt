@@ -1,0 +1,40 @@
+-- The digits of short numbers, and octets put at a place.
+use Rattle.std.proofs.Common.{◌≡◌, ℕ, ◌+◌, ◌*◌, ◌/◌, ◌%◌, ◌^◌, ◌<◌, ◌≤◌, List, [], ◌∷◌, ◌++◌, length, take, drop, decimal, refl, sym, ◌∙◌, ap, arith, append_assoc, length-append}
+use Rattle.std.proofs.lemmas.Fmt.{decimal_digit, decimal_step}
+use Rattle.std.proofs.lemmas.List.{take-take, take_at, length-take-le}
+use Rattle.std.proofs.Math.Seq.{take-append-add}
+use Rattle.ax_text_views.specs.Prints.{three_last}
+
+pub two_digits : (n : ℕ) → 10 ≤ n → n < 100 → decimal n ≡ (48 + n / 10) ∷ (48 + n % 10) ∷ []
+two_digits n lo hi = rw (decimal_step n lo (omega arith), decimal_digit (n / 10) (omega arith)) refl
+
+pub three_digits : (n : ℕ) → 100 ≤ n → n < 1000 → decimal n ≡ three_last n
+three_digits n lo hi =
+    let a : n / 10 / 10 ≡ n / 100 = omega arith in
+    rw (decimal_step n (omega arith) (omega arith), decimal_step (n / 10) (omega arith) (omega arith), a, decimal_digit (n / 100) (omega arith)) refl
+
+pub by_thousands : (n : ℕ) → 1000 ≤ n → n < 1000000 → decimal n ≡ decimal (n / 1000) ++ three_last (n % 1000)
+by_thousands n lo hi =
+    let a : n / 10 / 10 / 10 ≡ n / 1000 = omega arith in
+    let b : n / 10 / 10 % 10 ≡ n % 1000 / 100 = omega arith in
+    let c : n / 10 % 10 ≡ n % 1000 / 10 % 10 = omega arith in
+    let d : n % 10 ≡ n % 1000 % 10 = omega arith in
+    decimal_step n (omega arith) (omega arith) ∙ ap (λ t. t ++ (48 + n % 10) ∷ []) (decimal_step (n / 10) (omega arith) (omega arith) ∙ ap (λ t. t ++ (48 + n / 10 % 10) ∷ []) (decimal_step (n / 10 / 10) (omega arith) (omega arith)))
+    ∙ append_assoc (decimal (n / 10 / 10 / 10) ++ (48 + n / 10 / 10 % 10) ∷ []) ((48 + n / 10 % 10) ∷ []) ((48 + n % 10) ∷ [])
+    ∙ append_assoc (decimal (n / 10 / 10 / 10)) ((48 + n / 10 / 10 % 10) ∷ []) ((48 + n / 10 % 10) ∷ (48 + n % 10) ∷ [])
+    ∙ (λ i. decimal (a i) ++ (48 + b i) ∷ (48 + c i) ∷ (48 + d i) ∷ [])
+
+-- a front of n and one of m more is a front of both
+pub put_twice : (first mid last : List ℕ) (a b : List ℕ) (at n m : ℕ) → take n mid ≡ take at first ++ a → take m last ≡ take n mid ++ b → take m last ≡ take at first ++ (a ++ b)
+put_twice first mid last a b at n m p q = q ∙ ap (λ t. t ++ b) p ∙ append_assoc (take at first) a b
+
+-- of what was put, only a front is kept
+pub put_front : (old new all text : List ℕ) (at : ℕ) → at ≤ length old → take (at + length all) new ≡ take at old ++ all → take (length text) all ≡ text → length text ≤ length all → take (at + length text) new ≡ take at old ++ text
+put_front old new all text at le p q fits =
+    sym (take-take (at + length text) (at + length all) new (omega arith)) ∙ ap (take (at + length text)) p ∙ front
+  where
+    front : take (at + length text) (take at old ++ all) ≡ take at old ++ text
+    front = take-append-add-of ∙ ap (λ t. take at old ++ t) q
+      where
+        take-append-add-of : take (at + length text) (take at old ++ all) ≡ take at old ++ take (length text) all
+        take-append-add-of = ap (λ n. take (n + length text) (take at old ++ all)) (sym (length-take-le at old le)) ∙ take-append-add (take at old) all (length text)

@@ -1,0 +1,149 @@
+//! Octets put into room that is there, each run at its place.
+ghost use Rattle.std.specs.Prelude.{◌≡◌, [], ◌∷◌, ◌++◌, ◌+◌, ◌<◌, ◌≤◌, length, take, decimal, OnOk};
+ghost use Rattle.ax_text_views.specs.Prints.{three_last};
+
+use ax_model::Name;
+use itoa::Buffer;
+use std::alloc::AllocError;
+
+/// The octets that room grows by, at least.
+const LEAST: usize = 1024;
+
+/// Sees to room for more than `more` octets after the first `used`, which stay.
+#[inline(always)]
+pub(crate) fn make_room(room: &mut Vec<u8>, used: usize, more: usize) -> Result<(), AllocError>
+    requires { used ≤ length room.old.items }
+    ensures enough { OnOk result (used + more < length room.new.items) }
+    ensures stays { take used room.new.items ≡ take used room.old.items }
+    ensures within { used ≤ length room.new.items }
+{
+    if room.len() - used > more {
+        return Ok(());
+    }
+    lengthen(room, more)
+}
+
+/// Makes the room longer by more than `more` octets, and at least to its double.
+#[cold]
+#[inline(never)]
+fn lengthen(room: &mut Vec<u8>, more: usize) -> Result<(), AllocError>
+    ensures longer { OnOk result (length room.old.items + more < length room.new.items) }
+    ensures stays { take (length room.old.items) room.new.items ≡ room.old.items }
+    ensures within { length room.old.items ≤ length room.new.items }
+{
+    let Some(least) = more.checked_add(LEAST) else {
+        return Err(AllocError);
+    };
+    let Some(wanted) = room.len().checked_add(least.max(room.len())) else {
+        return Err(AllocError);
+    };
+    room.resize(wanted, 0)
+}
+
+/// Puts an octet.
+#[inline(always)]
+fn put_octet(room: &mut [u8], at: usize, octet: u8)
+    requires { at < length room.old }
+    ensures front { take (at + 1) room.new ≡ take at room.old ++ octet ∷ [] }
+    ensures whole { length room.new ≡ length room.old }
+{
+    room[at] = octet;
+}
+
+/// Puts octets, the first at place `at`.
+#[inline(always)]
+pub(crate) fn put_octets(room: &mut [u8], at: usize, octets: &[u8])
+    requires { at + length octets.now ≤ length room.old }
+    ensures front { take (at + length octets.now) room.new ≡ take at room.old ++ octets.now }
+    ensures whole { length room.new ≡ length room.old }
+{
+    room[at..at + octets.len()].copy_from_slice(octets);
+}
+
+/// Puts a space and a name. The result is the place after it. All that can be of the name is copied, since a copy of a known
+/// length is quick.
+#[inline(always)]
+pub(crate) fn put_name(room: &mut [u8], at: usize, name: &Name) -> usize
+    requires { at + 17 ≤ length room.old }
+    ensures front { take result room.new ≡ take at room.old ++ 0x20 ∷ name.now }
+    ensures within { result ≤ length room.new }
+{
+    put_octet(room, at, b' ');
+    put_octets(room, at + 1, name.padded());
+    at + 1 + name.octets().len()
+}
+
+/// Puts the three last digits of a number.
+#[inline(always)]
+fn put_three(room: &mut [u8], at: usize, number: u32)
+    requires { (at + 3 ≤ length room.old) × (number < 1000) }
+    ensures front { take (at + 3) room.new ≡ take at room.old ++ three_last number }
+    ensures whole { length room.new ≡ length room.old }
+{
+    put_octet(room, at, b'0' + (number / 100) as u8);
+    put_octet(room, at + 1, b'0' + (number / 10 % 10) as u8);
+    put_octet(room, at + 2, b'0' + (number % 10) as u8);
+}
+
+/// Puts a number of at most three digits. The result is the place after it.
+#[inline(always)]
+fn put_short(room: &mut [u8], at: usize, number: u32) -> usize
+    requires { (at + 3 ≤ length room.old) × (number < 1000) }
+    ensures front { take result room.new ≡ take at room.old ++ decimal number }
+    ensures within { result ≤ at + 3 }
+    ensures whole { length room.new ≡ length room.old }
+{
+    if number < 10 {
+        put_octet(room, at, b'0' + number as u8);
+        return at + 1;
+    }
+    if number < 100 {
+        put_octet(room, at, b'0' + (number / 10) as u8);
+        put_octet(room, at + 1, b'0' + (number % 10) as u8);
+        return at + 2;
+    }
+    put_three(room, at, number);
+    at + 3
+}
+
+/// Puts a number of at most 64 bits. The result is the place after it.
+#[inline(never)]
+fn put_long(room: &mut [u8], at: usize, number: u64) -> usize
+    requires { at + 20 ≤ length room.old }
+    ensures front { take result room.new ≡ take at room.old ++ decimal number }
+    ensures within { result ≤ length room.new }
+{
+    let mut buffer = Buffer::new();
+    let digits = buffer.format(number).as_bytes();
+    put_octets(room, at, digits);
+    at + digits.len()
+}
+
+/// Puts a number in decimal. Most have at most three digits, and few more than six.
+#[inline(always)]
+fn put_decimal(room: &mut [u8], at: usize, number: u64) -> usize
+    requires { at + 20 ≤ length room.old }
+    ensures front { take result room.new ≡ take at room.old ++ decimal number }
+    ensures within { result ≤ length room.new }
+{
+    if number < 1000 {
+        return put_short(room, at, number as u32);
+    }
+    if number >= 1_000_000 {
+        return put_long(room, at, number);
+    }
+    let end = put_short(room, at, number as u32 / 1000);
+    put_three(room, end, number as u32 % 1000);
+    end + 3
+}
+
+/// Puts a space and a number in decimal. The result is the place after it.
+#[inline(always)]
+pub(crate) fn put_number(room: &mut [u8], at: usize, number: u64) -> usize
+    requires { at + 21 ≤ length room.old }
+    ensures front { take result room.new ≡ take at room.old ++ 0x20 ∷ decimal number }
+    ensures within { result ≤ length room.new }
+{
+    put_octet(room, at, b' ');
+    put_decimal(room, at + 1, number)
+}

@@ -6,7 +6,6 @@ ghost use Rattle.ax_migrate_views.specs.Octets.{marks_by, move_marks, with_slot}
 ghost use Rattle.ax_migrate_views.specs.Wholes.{whole_entries};
 ghost use Rattle.ax_view.specs.Placing.{IsPlaced};
 
-use crate::whole::item_of;
 use ax_edition::{Move, Moves};
 use ax_fspec::Presence;
 use ax_view::PlacedSlots;
@@ -27,7 +26,7 @@ fn add_moved(whole: &PlacedSlots<'_, '_, '_>, one: &Move, marked: &mut Presence)
     requires placed { IsPlaced whole.now }
     ensures { marked.new ≡ move_marks (move_tree one.now) (whole_entries whole.now) marked.old }
 {
-    if item_of(whole, one.old).is_some() {
+    if whole.has(one.old) {
         add_slot(one.new, marked);
     }
 }

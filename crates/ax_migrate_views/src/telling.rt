@@ -45,6 +45,9 @@ fn is_there(whole: &PlacedSlots<'_, '_, '_>, place: &Place) -> bool
     requires placed { IsPlaced whole.now }
     ensures { result ≡ is_there place.now (whole_entries whole.now) }
 {
+    if place.steps.count() == 0 {
+        return whole.has(place.frn);
+    }
     match item_of(whole, place.frn) {
         Some(found) => leads_on(&found.item, place.steps.as_slice()),
         None => false,

@@ -1,5 +1,5 @@
 -- Numbers that octets spell, and those of some of their bits.
-use Rattle.std.proofs.Common.{◌≡◌, ℕ, ◌+◌, ◌-◌, ◌*◌, ◌/◌, ◌%◌, ◌^◌, ◌<◌, ◌≤◌, List, [], ◌++◌, length, take, drop, get_or, refl, sym, ◌∙◌, ap, arith, subst, bit_and, bit_or, lit<}
+use Rattle.std.proofs.Common.{◌≡◌, ℕ, ◌+◌, ◌-◌, ◌*◌, ◌/◌, ◌%◌, ◌^◌, ◌<◌, ◌≤◌, List, ◌++◌, length, take, drop, get_or, refl, sym, ◌∙◌, ap, arith, subst, bit_and, bit_or, lit<}
 use Rattle.std.proofs.lemmas.List.{drop-drop, take-take, take_at, drop_at, take_all, drop-take}
 use Rattle.std.proofs.lemmas.Nat.{one_shl, and_mask, or_shifted, shl_below}
 use Rattle.std.proofs.Math.Nat.{mod-eq_of_lt, pow-le-pow_right}

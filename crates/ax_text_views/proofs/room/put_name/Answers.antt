@@ -1,4 +1,4 @@
-use Rattle.std.proofs.Common.{◌≡◌, ◌+◌, ◌≤◌, ◌∷◌, [], ◌∙◌, ap, arith, length, take}
+use Rattle.std.proofs.Common.{◌+◌, ◌≤◌, ◌∷◌, [], ◌∙◌, ap, arith, length, take}
 use Rattle.ax_text_views.proofs.Digits.{put_front, put_twice}
 use Rattle.ax_text_views.proofs.room.put_name.Goals as goal
 

@@ -1,4 +1,4 @@
-use Rattle.std.proofs.Common.{◌≡◌, ◌+◌, ◌++◌, ◌∷◌, [], ◌/◌, ◌%◌, take, decimal, sym, ◌∙◌, ap, arith}
+use Rattle.std.proofs.Common.{◌≡◌, ◌+◌, ◌++◌, ◌∷◌, [], ◌/◌, ◌%◌, take, sym, ◌∙◌, ap, arith}
 use Rattle.std.proofs.lemmas.Fmt.{decimal_digit}
 use Rattle.ax_text_views.proofs.Digits.{two_digits, three_digits, put_twice}
 use Rattle.ax_text_views.proofs.room.put_short.Goals as goal

@@ -71,12 +71,12 @@ all_laid moves i ss es at end old now past h =
 
 -- ---- values
 
-nothing_there : (o : Option KindTree) (rule : KindTree → ValueTree → List ℕ) → spelled_where o None rule ≡ []
+pub nothing_there : (o : Option KindTree) (rule : KindTree → ValueTree → List ℕ) → spelled_where o None rule ≡ []
 nothing_there None rule = refl
 nothing_there (Some k) rule = refl
 
 -- a move by its fields
-move_is : (m : Move) → move_tree m ≡ move_from (out-Move m).old (out-Move m).new (moves_tree (out-Move m).below)
+pub move_is : (m : Move) → move_tree m ≡ move_from (out-Move m).old (out-Move m).new (moves_tree (out-Move m).below)
 move_is m = fold_out-Move MoveTree move_step m
 
 pub nothing_moves : (m : Move) (ss : SlotsTree) (es : EntriesTree) → slot_value (out-Move m).old es ≡ None → move_canon (move_tree m) ss es ≡ []

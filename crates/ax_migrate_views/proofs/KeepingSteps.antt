@@ -7,7 +7,7 @@ use Rattle.ax_edition.specs.PlainMoves.{move_step, move_tree, moves_tree}
 use Rattle.ax_edition.specs.declared.moves.Move.{Move, out-Move, fold_out-Move}
 use Rattle.ax_fspec.specs.declared.mask.SlotMask.{SlotMask}
 use Rattle.ax_migrate_views.proofs.KeptWhole.{whole_stays}
-use Rattle.ax_migrate_views.specs.Keeping.{IsLeaf, KeepsAll, StaysIn}
+use Rattle.ax_migrate_views.specs.Keeping.{IsLeaf, KeepsAll, MovesWhole, StaysIn}
 use Rattle.ax_migrate_views.specs.Octets.{canon_by}
 use Rattle.ax_model.proofs.CanonSpells.{spells_shape}
 use Rattle.ax_model.proofs.Namings.{from_place}
@@ -79,6 +79,20 @@ keeps_last nodes links moves index next past end h =
     (subst (λ (ms : List Move). KeepsAll (index + 1) (slots_of (map (linked_slot (meanings nodes)) [])) (moves_tree ms)) (sym (drop_all next moves end)) tt))
 
 -- ---- a compound
+
+pub kind_stays : (ns : List Node) (link : ℕ) (one : Node) → IsTable ns → 0 < link → link ≤ length ns → one ≡ get_or ns (link - 1) one → (ms : MovesTree) (mask : SlotMask) (links found : List ℕ) → one ≡ Of.Compound mask links → found ≡ links
+    → KeepsAll 1 (slots_of (linked_slots (meanings ns) found)) ms → MovesWhole ns link ms
+unfolding record_kind_at
+kind_stays ns link one table some within at ms mask links found e f keeps octets bounded whole =
+    let k = record_kind_at ns found in
+    let kind : kind_at ns link ≡ record_kind_at ns found = is_compound ns link one table some within at mask links found e f in
+    let bounds = subst InBounds kind bounded in
+    let own = subst (λ x. IsOne x octets) kind whole in
+    let es = entries_in (value_in k octets) in
+    let is = is_marked ns found octets in
+    let shape = subst (Shape k) is (spells_shape k (value_in k octets) (bits octets) (value_spelled k octets bounds own)) in
+    let stays = whole_stays (slots_of (linked_slots (meanings ns) found)) ms es keeps shape bounds.0 bounds.1 in
+    subst (λ x. canon_by ms x (value_in x octets) ≡ canon x (value_in x octets)) (sym kind) (ap (canon_by ms k) is ∙ stays ∙ sym (ap (canon k) is))
 
 module _ (item : ItemView) (one : Node) (at : one ≡ get_or item.codec.now.nodes (item.link - 1) one) where
   pub compound_stays : (ms : MovesTree) (mask : SlotMask) (links found : List ℕ) → one ≡ Of.Compound mask links → found ≡ links → item.by_fx ≡ false → KeepsAll 1 (slots_of (linked_slots (meanings item.codec.now.nodes) found)) ms

@@ -13,3 +13,5 @@ pub mod GonePaths
 pub mod ToldLines
 pub mod KeptWhole
 pub mod KeepingSteps
+pub mod MovesBySlot
+pub mod LaidRuns

@@ -1,7 +1,13 @@
 -- Compounds of which each subitem keeps its slot.
-use Rattle.std.specs.Prelude.{◌≡◌, ℕ, ◌+◌}
+use Rattle.std.specs.Prelude.{◌≡◌, ℕ, ◌+◌, List}
 use Rattle.ax_edition.specs.Moves.{MoveTree, move_from, MovesTree, no_moves, move_and}
+use Rattle.ax_migrate_views.specs.Octets.{canon_by}
+use Rattle.ax_model.specs.Canonical.{canon}
+use Rattle.ax_model.specs.InBounds.{InBounds}
 use Rattle.ax_model.specs.Tree.{KindTree, fixed, extended, counted, by_fx, explicit, compound, SlotsTree, no_slots, slot_and, spare_slot, subitem}
+use Rattle.ax_tables.specs.Table.{kind_at}
+use Rattle.ax_tables.specs.declared.node.Node.{Node}
+use Rattle.ax_view.specs.Values.{IsOne, value_in}
 
 abbrev pub IsLeaf : KindTree → Type 0
 IsLeaf (compound ss) = ⊥
@@ -18,3 +24,8 @@ KeepsAll t no_slots (move_and m ms) = ⊥
 KeepsAll t (slot_and spare_slot ss) ms = KeepsAll (t + 1) ss ms
 KeepsAll t (slot_and (subitem name k) ss) no_moves = ⊥
 KeepsAll t (slot_and (subitem name k) ss) (move_and m ms) = StaysIn t k m × KeepsAll (t + 1) ss ms
+
+-- the canonical octets of each value of the link's kind stay as it moves
+abbrev pub MovesWhole : List Node → ℕ → MovesTree → Type 0
+MovesWhole nodes link ms = (octets : List ℕ) → InBounds (kind_at nodes link) → IsOne (kind_at nodes link) octets
+    → canon_by ms (kind_at nodes link) (value_in (kind_at nodes link) octets) ≡ canon (kind_at nodes link) (value_in (kind_at nodes link) octets)

@@ -1,5 +1,6 @@
 pub mod Blocks
 pub mod Bodies
+pub mod BySlot
 pub mod Gone
 pub mod Keeping
 pub mod Laying

@@ -4,16 +4,17 @@ ghost use Rattle.ax_edition.specs.PlainMoves.{moves_tree};
 ghost use Rattle.ax_migrate.specs.Finding.{record_losses};
 ghost use Rattle.ax_migrate.specs.Losing.{lost_lines};
 ghost use Rattle.ax_migrate_views.specs.Bodies.{IsRecordPlaced, LaysBody, TellsBody};
+ghost use Rattle.ax_migrate_views.specs.BySlot.{KnowsMoves};
 ghost use Rattle.ax_migrate_views.specs.Laying.{Gathers, Lays};
 ghost use Rattle.ax_migrate_views.specs.Octets.{canon_by};
-ghost use Rattle.ax_model.specs.Sizes.{longest_body};
 ghost use Rattle.ax_model.specs.Tree.{marked};
 ghost use Rattle.ax_tables.specs.Table.{record_kind_at};
 ghost use Rattle.ax_view.specs.Placing.{entries_there};
 ghost use Rattle.ax_view.specs.Views.{FailsThere, SpellsSome};
 
+use crate::by_slot::SlotMoves;
+use crate::in_order::lay_moved;
 use crate::telling::tell_record;
-use crate::values::lay_whole;
 use ax_edition::{Moves, RelationPaths};
 use ax_model::BodyFault;
 use ax_tables::Codec;
@@ -26,10 +27,12 @@ fn lay_record(
     here: u32,
     places: &Places,
     moves: &Moves,
+    known: &SlotMoves,
     at: u32,
     output: &mut [u8],
 ) -> u32
     requires placed { IsRecordPlaced codec.now body.now here places.now }
+    requires known { KnowsMoves moves.now known.now }
     requires room { length output.old ≡ 131067 }
     ensures laid { Lays (canon_by (moves_tree moves.now) (record_kind_at codec.now.nodes codec.now.slots) (marked (entries_there codec.now.nodes codec.now.slots body.now here))) at result output.old output.new }
     ensures room { length output.new ≡ 131067 }
@@ -41,7 +44,7 @@ fn lay_record(
         at: here,
         places,
     };
-    lay_whole(codec, &record, moves, at, output)
+    lay_moved(&record, moves, known, at, output)
 }
 
 /// Lays the lines of what the record at octet `here` of a body loses, and answers how many octets of lines were laid.
@@ -78,19 +81,21 @@ pub struct Laid {
     pub lines: u32,
 }
 
-/// Lays the records of a body of 1 to 65,532 octets as they move, after a block's first three octets, and the lines of what
+/// Lays the records of a body of 1 to 65,532 octets as they move, behind a block's first three octets, and the lines of what
 /// they lose, in one walk over the body. Where the body fails, that is its first fault, by bits of the body from 0; some
 /// records before may have been laid.
 pub(crate) fn lay_body(
     codec: &Codec,
     body: &[u8],
     moves: &Moves,
+    known: &SlotMoves,
     lost: &RelationPaths,
     block: u64,
     output: &mut [u8],
     lines: &mut [u8],
 ) -> Result<Laid, BodyFault>
-    requires size { (1 ≤ length body.now) × (length body.now ≤ longest_body) }
+    requires known { KnowsMoves moves.now known.now }
+    requires size { (1 ≤ length body.now) × (length body.now ≤ 65532) }
     requires room { length output.old ≡ 131067 }
     requires lines_room { length lines.old ≡ 131067 }
     ensures spelled { IfOk result (λ laid. SpellsSome codec.now body.now) }
@@ -110,7 +115,7 @@ pub(crate) fn lay_body(
         let Some(next) = place_record(codec, body, here, &mut notes, &mut places) else {
             return Err(notes.fault);
         };
-        end = lay_record(codec, body, here, &places, moves, end, output);
+        end = lay_record(codec, body, here, &places, moves, known, end, output);
         told = tell_losses(codec, body, here, &places, lost, block, number, told, lines);
         here = next;
         number += 1;

@@ -2,7 +2,7 @@
 ghost use Rattle.std.specs.Prelude.{◌≡◌, ◌+◌, ◌<◌, ◌≤◌, false, length, IsTrue};
 ghost use Rattle.ax_bits.specs.Bits.{bits};
 ghost use Rattle.ax_edition.specs.PlainMoves.{move_tree, moves_tree};
-ghost use Rattle.ax_migrate_views.specs.Keeping.{IsLeaf, KeepsAll, StaysIn};
+ghost use Rattle.ax_migrate_views.specs.Keeping.{IsLeaf, KeepsAll, MovesWhole, StaysIn};
 ghost use Rattle.ax_migrate_views.specs.Octets.{canon_by};
 ghost use Rattle.ax_model.specs.Tree.{slots_of};
 ghost use Rattle.ax_tables.specs.Meaning.{linked_slots, meanings};
@@ -56,6 +56,23 @@ fn keeps_all(nodes: &[Node], slots: &[u32], moves: &Moves) -> bool
         next += 1;
     }
     next == moves.len()
+}
+
+/// Whether the canonical octets of each value of a link's kind stay as it moves: it is no compound, or each of its slots
+/// stays.
+#[inline]
+pub(crate) fn keeps(nodes: &[Node], link: u32, moves: &Moves) -> bool
+    requires table { IsTable nodes.now }
+    requires link { (0 < link) × (link ≤ length nodes.now) }
+    ensures { IsTrue result → MovesWhole nodes.now link (moves_tree moves.now) }
+{
+    if is_leaf(nodes, link) {
+        return true;
+    }
+    match &nodes[link as usize - 1] {
+        Node::Compound { slots, .. } => keeps_all(nodes, slots.as_slice(), moves),
+        _ => false,
+    }
 }
 
 /// Whether an item's octets are the canonical ones of its value as it moves, so that they can be copied: they are those of the

@@ -2,13 +2,16 @@
 #![tactic(auto)]
 
 mod bodies;
+mod by_slot;
 mod examples;
 mod gone;
+mod in_order;
 mod keeping;
 mod laws;
 mod laying;
 mod losses;
 mod marks;
+mod migrating;
 mod migrator;
 mod telling;
 mod values;

@@ -22,7 +22,7 @@ fn add_slot(slot: u32, marked: &mut Presence)
 
 /// Adds the new slot of the entry that a move makes, if there is one.
 #[inline]
-fn add_moved(whole: &PlacedSlots<'_, '_, '_>, one: &Move, marked: &mut Presence)
+pub(crate) fn add_moved(whole: &PlacedSlots<'_, '_, '_>, one: &Move, marked: &mut Presence)
     requires placed { IsPlaced whole.now }
     ensures { marked.new ≡ move_marks (move_tree one.now) (whole_entries whole.now) marked.old }
 {

@@ -1,121 +1,23 @@
-//! Blocks of one edition in another.
-ghost use Rattle.std.specs.Prelude.{◌≡◌, ◌≤◌, length, IfOk, IfErr};
-ghost use Rattle.ax_edition.specs.Relates.{Relates};
-ghost use Rattle.ax_migrate_views.specs.Blocks.{IsOfEditions, LaysMigrated, new_tree, old_tree, with_head};
-ghost use Rattle.ax_migrate_views.specs.Losses.{TellsLosses, WritesLosses};
-ghost use Rattle.ax_model.specs.Plain.{spec_tree};
-ghost use Rattle.ax_model.specs.Sizes.{longest_body};
-ghost use Rattle.ax_outside.specs.Changes.{sink_change};
-ghost use Rattle.ax_tables.specs.Standing.{IsCompiled};
-ghost use Rattle.ax_view.specs.Views.{FailsThere, SpellsSome};
+//! What blocks are migrated by.
+ghost use Rattle.ax_migrate_views.specs.BySlot.{KnowsMoves, KnowsMoves-prop};
 
-use crate::bodies::{Laid, lay_body};
-use crate::gone::gone_paths;
-use crate::losses::lose_records;
+use crate::by_slot::SlotMoves;
 use ax_edition::{Relation, RelationPaths};
-use ax_model::{BodyFault, Spec};
-use ax_outside::{Sink, SinkFailed};
+use ax_model::Spec;
 use ax_tables::Codec;
-use ax_view::BlockView;
-use std::alloc::{AllocError, Global};
-
-/// Writes CAT and LEN over the first three octets.
-fn write_head(category: u8, count: u32, output: &mut [u8])
-    requires { 3 ≤ length output.old }
-    ensures { output.new ≡ with_head category count output.old }
-{
-    output[0] = category;
-    output[1] = (count / 256 % 256) as u8;
-    output[2] = (count % 256) as u8;
-}
 
 /// Migration from one edition to another, by the relation of the two and the codec of the old one. Memory is taken when it is
 /// made, and none for a block.
 #[derive(Drop)]
 pub struct Migrator<'c> {
     /// The two editions: contracts speak of them, the code doesn't.
-    old: &'c Spec,
-    new: &'c Spec,
-    relation: &'c Relation,
-    codec: &'c Codec,
+    pub(crate) old: &'c Spec,
+    pub(crate) new: &'c Spec,
+    pub(crate) relation: &'c Relation,
+    pub(crate) codec: &'c Codec,
     /// The paths that have no new place.
-    lost: RelationPaths,
-}
-
-impl<'c> Migrator<'c> {
-    /// Migration between two editions.
-    pub fn new(
-        alloc: Global,
-        old: &'c Spec,
-        new: &'c Spec,
-        relation: &'c Relation,
-        codec: &'c Codec,
-    ) -> Result<Migrator<'c>, AllocError>
-        requires related { Relates old.now new.now relation.now }
-        requires compiled { IsCompiled codec.now (spec_tree old.now) }
-        ensures editions { IfOk result IsOfEditions }
-        ensures old { IfOk result (λ made. old_tree made ≡ spec_tree old.now) }
-        ensures new { IfOk result (λ made. new_tree made ≡ spec_tree new.now) }
-        ensures codec { IfOk result (λ made. made.codec.now ≡ codec.now) }
-    {
-        let lost = gone_paths(alloc, relation.paths())?;
-        Ok(Migrator {
-            old,
-            new,
-            relation,
-            codec,
-            lost,
-        })
-    }
-
-    /// The codec of the old edition.
-    pub fn old(&self) -> &'c Codec
-        ensures { result.now ≡ self.now.codec.now }
-    {
-        self.codec
-    }
-
-    /// Lays the canonical form of the migrated block of a body at the front of the output, and the lines of what its records
-    /// lose at the front of `lines`, for a block of that number. Answers the octets of both; where the block's or the lines'
-    /// are more than 65,535, what is laid there is none. The body is judged in the same walk: a fault is its first one, by
-    /// bits of the body from 0.
-    pub fn lay(
-        &self,
-        number: u64,
-        body: &[u8],
-        output: &mut [u8],
-        lines: &mut [u8],
-    ) -> Result<Laid, BodyFault>
-        requires editions { IsOfEditions self.now }
-        requires size { (1 ≤ length body.now) × (length body.now ≤ longest_body) }
-        requires room { length output.old ≡ 131067 }
-        requires lines_room { length lines.old ≡ 131067 }
-        ensures spelled { IfOk result (λ laid. SpellsSome self.now.codec.now body.now) }
-        ensures laid { IfOk result (λ laid. LaysMigrated self.now body.now laid.octets output.new) }
-        ensures told { IfOk result (λ laid. TellsLosses self.now body.now number laid.lines lines.new) }
-        ensures fault { IfErr result (λ fault. FailsThere self.now.codec.now body.now fault) }
-        ensures room { length output.new ≡ 131067 }
-        ensures lines_room { length lines.new ≡ 131067 }
-    {
-        let moves = self.relation.moves();
-        let laid = lay_body(self.codec, body, moves, &self.lost, number, output, lines)?;
-        write_head(self.codec.category(), laid.octets, output);
-        Ok(laid)
-    }
-
-    /// Writes the line `lost block N record M PATH` of each path that a record of a view loses, by record and, in a record, in
-    /// the order of the paths of the old edition; the block has the number N. At `SinkFailed` a prefix of the lines was added,
-    /// not all of them, and the report counted a fault.
-    pub fn write_losses<R: Sink>(
-        &self,
-        report: &mut R,
-        block: u64,
-        view: &BlockView<'_, '_>,
-    ) -> Result<(), SinkFailed>
-        requires editions { IsOfEditions self.now }
-        requires view { view.now.codec.now ≡ self.now.codec.now }
-        ensures { WritesLosses self.now view.now.body.now block (sink_change R.Sink report.old report.new) result }
-    {
-        lose_records(report, block, self.relation.paths(), &mut view.records())
-    }
+    pub(crate) lost: RelationPaths,
+    /// What is known of the relation's moves.
+    pub(crate) known: SlotMoves,
+    ghost moves: { KnowsMoves relation.now.moves known } by { KnowsMoves-prop relation.now.moves known },
 }

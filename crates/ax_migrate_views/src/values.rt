@@ -91,7 +91,7 @@ pub(crate) fn lay_whole(
 
 /// Lays the entry that a move makes, if there is one.
 #[cycle(laying)]
-fn lay_entry(
+pub(crate) fn lay_entry(
     codec: &Codec,
     whole: &PlacedSlots<'_, '_, '_>,
     one: &Move,

@@ -1,0 +1,171 @@
+//! Records laid by their marked slots, where the moves come in the order of the old slots.
+ghost use Rattle.std.specs.Prelude.{◌≡◌, ◌++◌, ◌<◌, ◌≤◌, Some, IsTrue, length};
+ghost use Rattle.ax_bits.specs.Bits.{bits};
+ghost use Rattle.ax_edition.specs.PlainMoves.{move_tree, moves_tree};
+ghost use Rattle.ax_fspec.specs.Marks.{no_marks, slots_of};
+ghost use Rattle.ax_migrate_views.specs.BySlot.{ArePlaces, IsFrom, KnowsMoves, ascends, found_marks, found_move, run_octets, slots_canon, slots_marks};
+ghost use Rattle.ax_migrate_views.specs.Laying.{Lays};
+ghost use Rattle.ax_migrate_views.specs.Octets.{entries_canon_by, field_by, move_canon};
+ghost use Rattle.ax_migrate_views.specs.Wholes.{whole_entries, whole_slots};
+ghost use Rattle.ax_model.specs.At.{slot_value};
+ghost use Rattle.ax_view.specs.Placing.{HoldsValue, IsPlaced, window_octets, window_value};
+
+use crate::by_slot::SlotMoves;
+use crate::keeping::keeps;
+use crate::laying::{lay_field, lay_octets};
+use crate::marks::add_moved;
+use crate::values::{lay_entry, lay_whole};
+use ax_edition::{Move, Moves};
+use ax_fspec::Presence;
+use ax_view::{PlacedSlots, Window};
+
+/// Adds the new slot of the entry of a slot, if it is there and moves.
+#[inline(always)]
+fn mark_moved(
+    whole: &PlacedSlots<'_, '_, '_>,
+    moves: &[Move],
+    places: &[usize],
+    slot: u32,
+    marked: &mut Presence,
+)
+    requires placed { IsPlaced whole.now }
+    requires few { length moves.now < 4294967296 }
+    requires places { ArePlaces moves.now 127 places.now }
+    requires slot { slot < 127 }
+    ensures { marked.new ≡ found_marks (found_move slot (moves_tree moves.now)) (whole_entries whole.now) marked.old }
+{
+    let place = places[slot as usize];
+    if place > 0 {
+        add_moved(whole, &moves[place - 1], marked);
+    }
+}
+
+/// The set of the new slots of the entries that move.
+fn marked_anew(whole: &PlacedSlots<'_, '_, '_>, moves: &[Move], places: &[usize]) -> Presence
+    requires placed { IsPlaced whole.now }
+    requires few { length moves.now < 4294967296 }
+    requires places { ArePlaces moves.now 127 places.now }
+    ensures { result ≡ slots_marks (slots_of whole.now.places.now.marked) (moves_tree moves.now) (whole_entries whole.now) no_marks }
+{
+    let mut marked = Presence::empty();
+    let mut left = whole.marked();
+    while let Some(slot) = left.take_first() {
+        mark_moved(whole, moves, places, slot, &mut marked);
+    }
+    marked
+}
+
+/// Whether the octets of a slot's value are what its move makes of it.
+#[inline(always)]
+fn is_copied(whole: &PlacedSlots<'_, '_, '_>, slot: u32, window: &Window, one: &Move) -> bool
+    requires placed { IsPlaced whole.now }
+    requires there { HoldsValue whole.now.codec.now.nodes whole.now.slots.now whole.now.body.now slot window.now }
+    requires value { slot_value slot (whole_entries whole.now) ≡ Some (window_value whole.now.codec.now.nodes whole.now.slots.now whole.now.body.now slot window.now) }
+    requires own { IsFrom slot (move_tree one.now) }
+    ensures { IsTrue result → move_canon (move_tree one.now) (whole_slots whole.now) (whole_entries whole.now) ≡ bits (window_octets window.now whole.now.body.now) }
+{
+    window.least
+        && keeps(
+            whole.codec.nodes.as_slice(),
+            whole.slots[slot as usize - 1],
+            &one.below,
+        )
+}
+
+/// Lays the octets of a body from `start` up to `stop`.
+#[inline(always)]
+fn lay_run(body: &[u8], start: u32, stop: u32, at: u32, output: &mut [u8]) -> u32
+    requires run { (start ≤ stop) × (stop ≤ length body.now) }
+    requires room { length output.old ≡ 131067 }
+    ensures laid { Lays (bits (run_octets start stop body.now)) at result output.old output.new }
+    ensures room { length output.new ≡ 131067 }
+{
+    lay_octets(&body[start as usize..stop as usize], at, output)
+}
+
+/// Lays the entries that move, in the order of their slots. Octets of the body that stay as they are, one entry's after
+/// another's, are laid as one piece.
+fn lay_marked(
+    whole: &PlacedSlots<'_, '_, '_>,
+    moves: &[Move],
+    places: &[usize],
+    at: u32,
+    output: &mut [u8],
+) -> u32
+    requires placed { IsPlaced whole.now }
+    requires few { length moves.now < 4294967296 }
+    requires places { ArePlaces moves.now 127 places.now }
+    requires room { length output.old ≡ 131067 }
+    ensures laid { Lays (slots_canon (slots_of whole.now.places.now.marked) (moves_tree moves.now) (whole_slots whole.now) (whole_entries whole.now)) at result output.old output.new }
+    ensures room { length output.new ≡ 131067 }
+{
+    let mut end = at;
+    let mut start = 0;
+    let mut stop = 0;
+    let mut left = whole.marked();
+    while let Some(slot) = left.take_first() {
+        let Some(window) = whole.place(slot) else {
+            continue;
+        };
+        let place = places[slot as usize];
+        if place == 0 {
+            continue;
+        }
+        let one = &moves[place - 1];
+        if !is_copied(whole, slot, &window, one) {
+            end = lay_run(whole.body, start, stop, end, output);
+            end = lay_entry(whole.codec, whole, one, end, output);
+            start = 0;
+            stop = 0;
+            continue;
+        }
+        if window.start != stop {
+            end = lay_run(whole.body, start, stop, end, output);
+            start = window.start;
+        }
+        stop = window.end;
+    }
+    lay_run(whole.body, start, stop, end, output)
+}
+
+/// Lays the entries that move, after the presence field of their new slots, where the moves are in order.
+fn lay_in_order(
+    whole: &PlacedSlots<'_, '_, '_>,
+    moves: &[Move],
+    places: &[usize],
+    at: u32,
+    output: &mut [u8],
+) -> u32
+    requires placed { IsPlaced whole.now }
+    requires ordered { IsTrue (ascends 1 (moves_tree moves.now)) }
+    requires few { length moves.now < 4294967296 }
+    requires places { ArePlaces moves.now 127 places.now }
+    requires room { length output.old ≡ 131067 }
+    ensures laid { Lays (field_by (moves_tree moves.now) (whole_entries whole.now) ++ entries_canon_by (moves_tree moves.now) (whole_slots whole.now) (whole_entries whole.now)) at result output.old output.new }
+    ensures room { length output.new ≡ 131067 }
+{
+    let marked = marked_anew(whole, moves, places);
+    let end = lay_field(&marked, at, output);
+    lay_marked(whole, moves, places, end, output)
+}
+
+/// Lays the entries that move, after the presence field of their new slots.
+pub(crate) fn lay_moved(
+    whole: &PlacedSlots<'_, '_, '_>,
+    moves: &Moves,
+    known: &SlotMoves,
+    at: u32,
+    output: &mut [u8],
+) -> u32
+    requires placed { IsPlaced whole.now }
+    requires known { KnowsMoves moves.now known.now }
+    requires room { length output.old ≡ 131067 }
+    ensures laid { Lays (field_by (moves_tree moves.now) (whole_entries whole.now) ++ entries_canon_by (moves_tree moves.now) (whole_slots whole.now) (whole_entries whole.now)) at result output.old output.new }
+    ensures room { length output.new ≡ 131067 }
+{
+    if known.ordered {
+        lay_in_order(whole, moves.as_slice(), known.places.as_slice(), at, output)
+    } else {
+        lay_whole(whole.codec, whole, moves, at, output)
+    }
+}

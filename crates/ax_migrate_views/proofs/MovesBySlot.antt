@@ -9,7 +9,7 @@ use Rattle.ax_migrate_views.proofs.Entries.{nothing_there, move_is}
 use Rattle.ax_migrate_views.specs.BySlot.{found_move, place_from, ascends, ArePlaces, IsFrom, found_canon, found_marks, slots_canon, slots_marks}
 use Rattle.ax_migrate_views.specs.Octets.{with_slot_where, marks_by, spelled_where, canon_by, entries_canon_by, move_canon, move_marks}
 use Rattle.ax_model.specs.At.{slot_value}
-use Rattle.ax_model.specs.Lengths.{kind_behind}
+use Rattle.ax_model.specs.Lengths.{kind_after}
 use Rattle.ax_model.specs.Tree.{KindTree, SlotsTree, ValueTree, EntriesTree}
 
 -- ---- places
@@ -100,7 +100,7 @@ none_canon a no_moves ss es e = refl
 none_canon a (move_and (move_from s t below) ms) ss es e = by (s == a) (λ h. eqb-true s a h) (none_canon a ms ss es e)
   where
     by : (b : Bool) → (b ≡ true → s ≡ a) → found_canon (found_move a ms) ss es ≡ [] → found_canon (if b then Some (move_from s t below) else found_move a ms) ss es ≡ []
-    by true h rest = ap (λ o. spelled_where (kind_behind (s - 1) ss) o (canon_by below)) (ap (λ u. slot_value u es) (h refl) ∙ e) ∙ nothing_there (kind_behind (s - 1) ss) (canon_by below)
+    by true h rest = ap (λ o. spelled_where (kind_after (s - 1) ss) o (canon_by below)) (ap (λ u. slot_value u es) (h refl) ∙ e) ∙ nothing_there (kind_after (s - 1) ss) (canon_by below)
     by false h rest = rest
 
 pub none_marks : (a : ℕ) (ms : MovesTree) (es : EntriesTree) (set : List ℕ) → slot_value a es ≡ None → found_marks (found_move a ms) es set ≡ set
@@ -152,7 +152,7 @@ past_canon : (a : ℕ) (ms : MovesTree) (ss : SlotsTree) (es : EntriesTree) → 
 past_canon a no_moves ss es h none = refl
 past_canon a (move_and (move_from s t below) ms) ss es h none =
     let f = first_ascends a s (ascends (s + 1) ms) (nat_lt s a) refl h in
-    ap (λ o. spelled_where (kind_behind (s - 1) ss) o (canon_by below) ++ entries_canon_by ms ss es) (none s f.0) ∙ ap (λ x. x ++ entries_canon_by ms ss es) (nothing_there (kind_behind (s - 1) ss) (canon_by below))
+    ap (λ o. spelled_where (kind_after (s - 1) ss) o (canon_by below) ++ entries_canon_by ms ss es) (none s f.0) ∙ ap (λ x. x ++ entries_canon_by ms ss es) (nothing_there (kind_after (s - 1) ss) (canon_by below))
     ∙ past_canon (s + 1) ms ss es f.1 (λ u le. none u (omega (arith, f.0)))
 
 past_marks : (a : ℕ) (ms : MovesTree) (es : EntriesTree) (set : List ℕ) → IsTrue (ascends a ms) → ((u : ℕ) → a ≤ u → slot_value u es ≡ None) → marks_by ms es set ≡ set
@@ -213,12 +213,12 @@ found_from s (move_and (move_from u t below) ms) m e = by (u == s) (λ h. eqb-tr
     by false h rest f = rest f
 
 -- what is copied is what a move makes of the value
-pub copied_by : (s : ℕ) (one : Move) (ss : SlotsTree) (es : EntriesTree) (k : KindTree) (v : ValueTree) (b : List ℕ) → IsFrom s (move_tree one) → kind_behind (s - 1) ss ≡ Some k → slot_value s es ≡ Some v → canon_by (moves_tree (out-Move one).below) k v ≡ b
+pub copied_by : (s : ℕ) (one : Move) (ss : SlotsTree) (es : EntriesTree) (k : KindTree) (v : ValueTree) (b : List ℕ) → IsFrom s (move_tree one) → kind_after (s - 1) ss ≡ Some k → slot_value s es ≡ Some v → canon_by (moves_tree (out-Move one).below) k v ≡ b
     → move_canon (move_tree one) ss es ≡ b
 copied_by s one ss es k v b own kind value is =
     let m = out-Move one in
     let old : m.old ≡ s = subst (IsFrom s) (move_is one) own in
-    ap (λ t. move_canon t ss es) (move_is one) ∙ (λ i. spelled_where (kind_behind (old i - 1) ss) (slot_value (old i) es) (canon_by (moves_tree m.below))) ∙ (λ i. spelled_where (kind i) (value i) (canon_by (moves_tree m.below))) ∙ is
+    ap (λ t. move_canon t ss es) (move_is one) ∙ (λ i. spelled_where (kind_after (old i - 1) ss) (slot_value (old i) es) (canon_by (moves_tree m.below))) ∙ (λ i. spelled_where (kind i) (value i) (canon_by (moves_tree m.below))) ∙ is
 
 -- the first of the slots that are left, and the others
 pub next_canon : (left later : List ℕ) (s : ℕ) (ms : MovesTree) (ss : SlotsTree) (es : EntriesTree) (b : List ℕ) → left ≡ s ∷ later → found_canon (found_move s ms) ss es ≡ b → slots_canon left ms ss es ≡ b ++ slots_canon later ms ss es

@@ -3,7 +3,7 @@ use Rattle.std.proofs.Common.{◌≡◌, ℕ, zero, suc, ◌-◌, ◌<◌, ◌�
 use Rattle.std.proofs.lemmas.List.{get_or_default}
 use Rattle.ax_fspec.specs.declared.mask.SlotMask.{SlotMask}
 use Rattle.ax_migrate_views.specs.Wholes.{slots_in, IsInSlot}
-use Rattle.ax_model.specs.Lengths.{kind_behind}
+use Rattle.ax_model.specs.Lengths.{kind_after}
 use Rattle.ax_model.specs.Tree.{slots_of}
 use Rattle.ax_tables.specs.Meaning.{Meaning, kind_of, linked, linked_slot, meanings}
 use Rattle.ax_tables.specs.Table.{SlotLinksWithin, kind_at, record_kind_at}
@@ -18,14 +18,14 @@ use Rattle.ax_view.specs.declared.places.PlacedSlots.{PlacedSlots}
 use Rattle.ax_view.specs.declared.places.Places.{Places}
 
 -- the kind of a slot that isn't spare is the one that its link leads to
-link_kind : (ms : List Meaning) (links : List ℕ) (i link : ℕ) → link ≡ get_or links i 0 → 0 < link → kind_behind i (slots_of (map (linked_slot ms) links)) ≡ Some (kind_of (linked ms link))
+link_kind : (ms : List Meaning) (links : List ℕ) (i link : ℕ) → link ≡ get_or links i 0 → 0 < link → kind_after i (slots_of (map (linked_slot ms) links)) ≡ Some (kind_of (linked ms link))
 link_kind ms [] i link e some = absurd (omega arith)
 link_kind ms (zero ∷ links) zero link e some = absurd (omega arith)
 link_kind ms (suc j ∷ links) zero link e some = ap (λ n. Some (kind_of (linked ms n))) (sym e)
 link_kind ms (zero ∷ links) (suc i) link e some = link_kind ms links i link e some
 link_kind ms (suc j ∷ links) (suc i) link e some = link_kind ms links i link e some
 
-pub table_kind : (nodes : List Node) (links : List ℕ) (i link : ℕ) → link ≡ get_or links i 0 → 0 < link → kind_behind i (slots_in (record_kind_at nodes links)) ≡ Some (kind_at nodes link)
+pub table_kind : (nodes : List Node) (links : List ℕ) (i link : ℕ) → link ≡ get_or links i 0 → 0 < link → kind_after i (slots_in (record_kind_at nodes links)) ≡ Some (kind_at nodes link)
 unfolding record_kind_at kind_at
 table_kind nodes links i link e some = link_kind (meanings nodes) links i link e some
 

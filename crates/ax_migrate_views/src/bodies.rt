@@ -7,6 +7,7 @@ ghost use Rattle.ax_migrate_views.specs.Bodies.{IsRecordPlaced, LaysBody, TellsB
 ghost use Rattle.ax_migrate_views.specs.BySlot.{KnowsMoves};
 ghost use Rattle.ax_migrate_views.specs.Laying.{Gathers, Lays};
 ghost use Rattle.ax_migrate_views.specs.Octets.{canon_by};
+ghost use Rattle.ax_model.specs.Sizes.{longest_body};
 ghost use Rattle.ax_model.specs.Tree.{marked};
 ghost use Rattle.ax_tables.specs.Table.{record_kind_at};
 ghost use Rattle.ax_view.specs.Placing.{entries_there};
@@ -81,7 +82,7 @@ pub struct Laid {
     pub lines: u32,
 }
 
-/// Lays the records of a body of 1 to 65,532 octets as they move, behind a block's first three octets, and the lines of what
+/// Lays the records of a body of 1 to 65,532 octets as they move, after a block's first three octets, and the lines of what
 /// they lose, in one walk over the body. Where the body fails, that is its first fault, by bits of the body from 0; some
 /// records before may have been laid.
 pub(crate) fn lay_body(
@@ -95,7 +96,7 @@ pub(crate) fn lay_body(
     lines: &mut [u8],
 ) -> Result<Laid, BodyFault>
     requires known { KnowsMoves moves.now known.now }
-    requires size { (1 ≤ length body.now) × (length body.now ≤ 65532) }
+    requires size { (1 ≤ length body.now) × (length body.now ≤ longest_body) }
     requires room { length output.old ≡ 131067 }
     requires lines_room { length lines.old ≡ 131067 }
     ensures spelled { IfOk result (λ laid. SpellsSome codec.now body.now) }

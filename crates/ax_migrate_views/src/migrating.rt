@@ -4,6 +4,7 @@ ghost use Rattle.ax_edition.specs.Relates.{Relates};
 ghost use Rattle.ax_migrate_views.specs.Blocks.{IsOfEditions, LaysMigrated, new_tree, old_tree, with_head};
 ghost use Rattle.ax_migrate_views.specs.Losses.{TellsLosses, WritesLosses};
 ghost use Rattle.ax_model.specs.Plain.{spec_tree};
+ghost use Rattle.ax_model.specs.Sizes.{longest_body};
 ghost use Rattle.ax_outside.specs.Changes.{sink_change};
 ghost use Rattle.ax_tables.specs.Standing.{IsCompiled};
 ghost use Rattle.ax_view.specs.Views.{FailsThere, SpellsSome};
@@ -77,7 +78,7 @@ impl<'c> Migrator<'c> {
         lines: &mut [u8],
     ) -> Result<Laid, BodyFault>
         requires editions { IsOfEditions self.now }
-        requires size { (1 ≤ length body.now) × (length body.now ≤ 65532) }
+        requires size { (1 ≤ length body.now) × (length body.now ≤ longest_body) }
         requires room { length output.old ≡ 131067 }
         requires lines_room { length lines.old ≡ 131067 }
         ensures spelled { IfOk result (λ laid. SpellsSome self.now.codec.now body.now) }

@@ -13,7 +13,7 @@ use ax_token_reader::{Reader, Stopped};
 
 /// The category that the text is, in three digits. None comes exactly where it is none.
 #[tactic(auto, using(crate::proofs::Digits::categories))]
-fn category_of(text: &[u8]) -> Option<u8>
+pub fn category_of(text: &[u8]) -> Option<u8>
     ensures { MatchOption result ((n : ℕ) → n < 256 → text.now ≡ three_digits n → ⊥) (λ n. (n < 256) × (text.now ≡ three_digits n)) }
 {
     let [hundreds, tens, ones] = text else {

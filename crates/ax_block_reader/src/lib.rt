@@ -18,5 +18,8 @@ mod reading;
 mod records;
 
 pub use catalogue_items::CatalogueItems;
+pub use categories::category_of;
 pub use error::TextError;
+pub use numbers::short_number;
+pub use octets::unquoted;
 pub use reading::{SizedBlock, read_block_over, read_block_text};

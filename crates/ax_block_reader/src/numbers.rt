@@ -39,7 +39,7 @@ fn number_after(digit: u8, octets: &[u8]) -> Option<u64>
 /// The number that at most 19 octets are in decimal, without leading zeros. None comes exactly where they are the text of
 /// none.
 #[tactic(auto, using(crate::proofs::ShortNumbers::short))]
-fn short_number(text: &[u8]) -> Option<u64>
+pub fn short_number(text: &[u8]) -> Option<u64>
     requires { length text.now ≤ 19 }
     ensures { MatchOption result (IsNoNumber text.now) (λ n. text.now ≡ decimal n) }
 {

@@ -20,7 +20,7 @@ use std::alloc::{AllocError, Global};
 const MOST: usize = 0x8000_0000;
 
 /// What stands between the quotes. None comes exactly where the text doesn't stand in quotes.
-fn unquoted(text: &[u8]) -> Option<&[u8]>
+pub fn unquoted(text: &[u8]) -> Option<&[u8]>
     ensures { MatchOption result ((inner : List ℕ) → text.now ≡ quote ∷ (inner ++ quote ∷ []) → ⊥) (λ inner. text.now ≡ quote ∷ (inner.now ++ quote ∷ [])) }
 {
     match text.split_first() {

@@ -97,7 +97,7 @@ has_first : (spec : SpecTree) (block : BlockTree) → 0 < length (BlockTokens sp
 has_first spec (read_block category records) = omega arith
 has_first spec (opaque_block category content) = omega arith
 
-over_known : (spec : SpecTree) (block : BlockTree) → canon_over (Some spec) block ≡ canon_block spec block
+pub over_known : (spec : SpecTree) (block : BlockTree) → canon_over (Some spec) block ≡ canon_block spec block
 over_known spec (read_block category records) = refl
 over_known spec (opaque_block category content) = refl
 

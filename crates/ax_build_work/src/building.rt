@@ -1,5 +1,5 @@
 //! From a line to the octets of its block.
-ghost use Rattle.std.specs.Prelude.{◌≡◌, ◌≤◌, length, IfOk, IfErr, MatchOption};
+ghost use Rattle.std.specs.Prelude.{◌≡◌, ◌≤◌, ◌^◌, length, IfOk, IfErr, MatchOption};
 ghost use Rattle.ax_block_reader.specs.BlockTexts.{IsBlockOf, canonical_length};
 ghost use Rattle.ax_build_work.specs.BuildCommand.{IsBuiltOf, AnswersLine};
 ghost use Rattle.ax_build_work.specs.Stops.{NotBuilt, StopsLine};
@@ -12,6 +12,7 @@ ghost use Rattle.ax_model.specs.Specification.{spec_of};
 
 use crate::fault::BuildStop;
 use crate::opaque::opaque_block;
+use crate::printed::printed_octets;
 use ax_block_reader::{CatalogueItems, read_block_over};
 use ax_model::Block;
 use ax_tokens::{Tokens, tokens};
@@ -56,17 +57,23 @@ fn built(
     Ok(octets)
 }
 
-/// The canonical octets of the block whose text the line is, or None where the line has no token.
+/// The canonical octets of the block whose text the line is, or None where the line has no token. Lines as `text` prints
+/// them are read without a list of tokens, in the room that is lent; the others, and those that are refused, token by token.
 #[tactic(auto, using(crate::proofs::Built::lines_built))]
 pub(crate) fn line_octets(
     alloc: Global,
     items: &CatalogueItems<'_>,
     line: &[u8],
+    room: &mut [u8],
 ) -> Result<Option<Vec<u8>>, BuildStop>
-    requires { length line.now ≤ longest_line }
+    requires line { length line.now ≤ longest_line }
+    requires room { length room.old ≤ 2 ^ 20 }
     ensures answer { IfOk result (λ made. MatchOption made (AnswersLine (catalogue_tree items.now) line.now nothing) (λ octets. AnswersLine (catalogue_tree items.now) line.now (gives octets.items))) }
     ensures stop { IfErr result (StopsLine (catalogue_tree items.now) line.now) }
 {
+    if let Some(printed) = printed_octets(alloc, items, line, room)? {
+        return Ok(Some(printed));
+    }
     let found = tokens(alloc, line, DEEPEST)?;
     if found.count() == 0 {
         return Ok(None);

@@ -5,6 +5,7 @@ mod building;
 mod fault;
 mod laws;
 mod opaque;
+mod printed;
 mod work;
 
 pub use fault::TextFault;

@@ -8,8 +8,8 @@ use ax_bits::Out;
 use ax_values::write_opaque;
 use std::alloc::{AllocError, Global};
 
-// The buffer stands in a function of its own, so that no proof spells out its octets.
-fn zeros(alloc: Global, count: usize) -> Result<Vec<u8>, AllocError>
+/// So many octets, each 0. They stand in a function of their own, so that no proof spells them out.
+pub(crate) fn zeros(alloc: Global, count: usize) -> Result<Vec<u8>, AllocError>
     ensures { IfOk result (λ made. length made.items ≡ count) }
 {
     vec![in alloc; 0; count]

@@ -1,4 +1,5 @@
 //! The command `build` over an input.
+ghost use Rattle.std.specs.Prelude.{◌≤◌, ◌^◌, length};
 ghost use Rattle.ax_build_work.specs.BuildCommand.{build_command};
 ghost use Rattle.ax_line_stream.specs.Completing.{Completes};
 ghost use Rattle.ax_line_stream.specs.Ending.{longest_input, longest_line};
@@ -8,11 +9,15 @@ ghost use Rattle.ax_outside.specs.Changes.{sink_change, source_change};
 
 use crate::building::line_octets;
 use crate::fault::{BuildStop, TextFault};
+use crate::opaque::zeros;
 use ax_block_reader::CatalogueItems;
 use ax_check::Catalogue;
 use ax_line_stream::{LineStop, LineWork, LinesEnd, run_lines};
 use ax_outside::{Sink, Source};
 use std::alloc::Global;
+
+/// The most octets of a block's body.
+const LONGEST_BODY: usize = 65_532;
 
 /// `build` under a catalogue.
 #[derive(Drop)]
@@ -20,6 +25,8 @@ struct BuildWork<'c> {
     alloc: Global,
     items: CatalogueItems<'c>,
     octets: Vec<u8>,
+    /// Where the body of a block is laid while its line is read.
+    room: Vec<u8>,
 }
 
 impl<'c> LineWork for BuildWork<'c> {
@@ -27,12 +34,12 @@ impl<'c> LineWork for BuildWork<'c> {
 
     ghost command = { λ s. build_command (catalogue_tree s.items) };
 
-    ghost sound = { λ s. Unit {0} };
+    ghost sound = { λ s. length s.room.items ≤ 2 ^ 20 };
 
     ghost laid = { λ s. s.octets.items };
 
     fn take(&mut self, _number: u64, line: &[u8]) -> Result<bool, LineStop<TextFault>> {
-        match line_octets(self.alloc, &self.items, line) {
+        match line_octets(self.alloc, &self.items, line, &mut self.room) {
             Ok(Some(octets)) => {
                 self.octets = octets;
                 Ok(true)
@@ -48,7 +55,7 @@ impl<'c> LineWork for BuildWork<'c> {
     }
 }
 
-/// Looks the items of the catalogue's UAPs up, once. Then it builds the block of each line of the input that has a token, and writes its canonical form as one piece, up to the first
+/// Looks the items of the catalogue's UAPs up, and takes the room for the longest body, once. Then it builds the block of each line of the input that has a token, and writes its canonical form as one piece, up to the first
 /// line that is refused. Lines are numbered from 0, empty ones and comments among them.
 pub fn build_lines<S: Source, K: Sink>(
     alloc: Global,
@@ -62,10 +69,14 @@ pub fn build_lines<S: Source, K: Sink>(
     let Ok(items) = CatalogueItems::of(alloc, catalogue) else {
         return LinesEnd::OutOfMemory;
     };
+    let Ok(room) = zeros(alloc, LONGEST_BODY) else {
+        return LinesEnd::OutOfMemory;
+    };
     let mut work = BuildWork {
         alloc,
         items,
         octets: Vec::new(alloc),
+        room,
     };
     run_lines(alloc, &mut work, source, out)
 }

@@ -13,3 +13,6 @@ returns-in_err-octets-clause-stop c =
 
 pub returns-clause-answer : goal.returns-clause-answer
 returns-clause-answer c = built_line _ _ _ _ c.in_ok-found.ensures.tokens c.count.ensures.count _ c.if-count-eq0.false c.in_ok-octets.ensures.octets
+
+pub returns-in-Some-clause-answer : goal.returns-in-Some-clause-answer
+returns-in-Some-clause-answer c = rw c.in-Some.is at c.in_ok-printed.ensures

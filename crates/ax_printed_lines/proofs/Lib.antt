@@ -1,0 +1,9 @@
+pub mod Going
+pub mod Building
+pub mod FixedBuilt
+pub mod ListsBuilt
+pub mod EntriesBuilt
+pub mod KindsBuilt
+pub mod ExplicitBuilt
+pub mod RecordsBuilt
+pub mod LinesBuilt

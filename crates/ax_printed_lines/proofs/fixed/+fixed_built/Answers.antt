@@ -1,0 +1,46 @@
+use denote.Param.Weighed.{at_most}
+use Rattle.std.proofs.Common.{◌≡◌, ◌<◌, ◌≤◌, ℕ, length, get_or, arith, ap, subst, rules}
+use Rattle.ax_model.proofs.kind.Member.TheLaws.{the_size}
+use Rattle.ax_model.specs.Plain.{members_tree}
+use Rattle.ax_printed_lines.proofs.FixedBuilt.{group_built, named_built, spare_built, members_first, member_bounds, member_next, members_done}
+use Rattle.ax_printed_lines.proofs.fixed.+fixed_built.Goals as goal
+
+pub fixed_built-returns-in_ok-members_built-in-Group : goal.fixed_built-returns-in_ok-members_built-in-Group
+fixed_built-returns-in_ok-members_built-in-Group t c = group_built c.args.fixed.now c.in-Group.members _ _ _ _ _ c.in-Group.is (search rules) c.in_ok-members_built-in-Group.ensures
+
+pub member_built-returns-in_ok-fixed_built-in-Named : goal.member_built-returns-in_ok-fixed_built-in-Named
+member_built-returns-in_ok-fixed_built-in-Named t c =
+    named_built c.args.member.now c.in-Named.name c.octets.result.now c.in-Named.fixed _ _ _ _ _ c.in-Named.is c.octets.ensures.octets c.octets.ensures.name (search rules) c.in_ok-fixed_built-in-Named.ensures
+
+pub member_built-returns-in_ok-number_built-in-Spare : goal.member_built-returns-in_ok-number_built-in-Spare
+member_built-returns-in_ok-number_built-in-Spare t c = spare_built c.args.member.now c.in-Spare.width _ _ _ _ _ c.in-Spare.is (search rules) c.in_ok-number_built-in-Spare.ensures
+
+pub members_built-loop-member-init : goal.members_built-loop-member-init
+members_built-loop-member-init t c = members_first (members_tree c.args.members.now) c.args.cursor.now c.args.out.now c.requires
+
+pub members_built-member_built-requires : goal.members_built-member_built-requires
+members_built-member_built-requires t c =
+    let all = c.args.members.now in
+    let i : ℕ = c.loop-member.member-index in
+    let m = c.member-item.result in
+    let same = c.as_slice-member-items.ensures.members in
+    let within : i < length all = subst (λ xs. i < length xs) same c.loop-member-test.true in
+    let is : m ≡ get_or all i m = subst (λ xs. m ≡ get_or xs i m) same c.member-item.is in
+    let small = at_most the_size all i m within in
+    let same_size : the_size m ≡ the_size (get_or all i m) = ap the_size is in
+    (omega (arith, small, same_size, c.decreases), member_bounds all i m within is (members_tree all) c.args.cursor.now c.loop-member.cursor c.args.out.now c.loop-member.out c.loop-member.invariant)
+
+pub members_built-loop-member-preserved : goal.members_built-loop-member-preserved
+members_built-loop-member-preserved t c =
+    let all = c.args.members.now in
+    let i : ℕ = c.loop-member.member-index in
+    let m = c.member-item.result in
+    let same = c.as_slice-member-items.ensures.members in
+    let within : i < length all = subst (λ xs. i < length xs) same c.loop-member-test.true in
+    let is : m ≡ get_or all i m = subst (λ xs. m ≡ get_or xs i m) same c.member-item.is in
+    member_next all i m within is (members_tree all) c.args.cursor.now c.loop-member.cursor _ c.args.out.now c.loop-member.out _ c.loop-member.invariant (search rules)
+
+pub members_built-returns : goal.members_built-returns
+members_built-returns t c =
+    members_done c.args.members.now c.loop-member.member-index (members_tree c.args.members.now) c.args.cursor.now c.loop-member.cursor _ c.args.out.now c.loop-member.out
+    (subst (λ xs. length xs ≤ c.loop-member.member-index) c.as_slice-member-items.ensures.members c.loop-member-test.false) c.loop-member.invariant (search rules)

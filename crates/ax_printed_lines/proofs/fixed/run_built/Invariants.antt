@@ -1,0 +1,6 @@
+use Rattle.ax_model.specs.Plain.{fixed_tree}
+use Rattle.ax_printed_lines.proofs.ListsBuilt.{RunLeft}
+use Rattle.ax_printed_lines.proofs.fixed.run_built.Given as goal
+
+abbrev pub invariant-loop : goal.invariant-loop
+invariant-loop l = RunLeft (fixed_tree l.fixed) l.fn.cursor l.cursor l.fn.out l.out

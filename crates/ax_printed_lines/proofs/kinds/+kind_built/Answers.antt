@@ -1,0 +1,114 @@
+use Rattle.std.proofs.Common.{◌≡◌, ◌<◌, ◌≤◌, ◌+◌, ◌-◌, ℕ, List, [], ◌∷◌, true, false, length, drop, get_or, set, arith, ap, sym, ◌∙◌, subst, refl, rules}
+use Rattle.ax_block_reader.proofs.EntryWays.{slots_from, slots_past}
+use Rattle.ax_model.specs.Plain.{kind_tree, slot_tree, slots_tree}
+use Rattle.ax_printed_lines.specs.Printed.{IsOneWord, Goes}
+use Rattle.ax_printed_lines.proofs.Going.{name_one, fewer_left}
+use Rattle.ax_printed_lines.proofs.EntriesBuilt.{EntriesLeft, entries_first, slot_bounds, slot_few, entry_passed, entry_taken, entry_passed_by, entry_taken_by, entries_less, entries_done}
+use Rattle.ax_printed_lines.proofs.KindsBuilt.{KindIsBuilt, CountedIsBuilt, EachLeft, extended_of_kind, counted_of_kind, by_fx_of_kind, compound_of_kind, each_first, each_next, each_less, each_done, sub_bounds, sub_built}
+use Rattle.ax_printed_lines.proofs.kinds.+kind_built.Goals.{entries_built-then-branch, entries_built-else-branch}
+use Rattle.ax_printed_lines.proofs.kinds.+kind_built.Goals as goal
+
+-- ---- kinds
+
+pub kind_built-returns-in_ok-parts_built-in-Extended : goal.kind_built-returns-in_ok-parts_built-in-Extended
+kind_built-returns-in_ok-parts_built-in-Extended t c =
+    extended_of_kind c.args.kind.now c.in-Extended.parts c.args.cursor.now c.opens.new.self c.parts_built.new.cursor c.args.out.now c.parts_built.new.out c.in-Extended.is (search rules) c.in_ok-parts_built-in-Extended.ensures
+
+pub kind_built-returns-in_ok-counted_built-in-Counted : goal.kind_built-returns-in_ok-counted_built-in-Counted
+kind_built-returns-in_ok-counted_built-in-Counted t c =
+    let inner : c.deref.result.now ≡ c.in-Counted.inner.value = search rules in
+    let built : CountedIsBuilt (kind_tree c.in-Counted.inner.value) c.opens-in-Counted.new.self c.counted_built.new.cursor c.args.out.now c.counted_built.new.out
+    = subst (λ k. CountedIsBuilt (kind_tree k) c.opens-in-Counted.new.self c.counted_built.new.cursor c.args.out.now c.counted_built.new.out) inner c.in_ok-counted_built-in-Counted.ensures in
+    counted_of_kind c.args.kind.now c.in-Counted.inner c.args.cursor.now c.opens-in-Counted.new.self c.counted_built.new.cursor c.args.out.now c.counted_built.new.out c.in-Counted.is (search rules) built
+
+pub kind_built-returns-in_ok-run_built-in-ByFx : goal.kind_built-returns-in_ok-run_built-in-ByFx
+kind_built-returns-in_ok-run_built-in-ByFx t c =
+    by_fx_of_kind c.args.kind.now c.in-ByFx.fixed c.args.cursor.now c.opens-in-ByFx.new.self c.run_built.new.cursor c.args.out.now c.run_built.new.out c.in-ByFx.is (search rules) c.in_ok-run_built-in-ByFx.ensures
+
+pub kind_built-returns-in_ok-compound_built-in-Compound : goal.kind_built-returns-in_ok-compound_built-in-Compound
+kind_built-returns-in_ok-compound_built-in-Compound t c =
+    compound_of_kind c.args.kind.now c.in-Compound.slots c.args.cursor.now c.opens-in-Compound.new.self c.compound_built.new.cursor c.args.out.now c.compound_built.new.out c.in-Compound.is (search rules) c.in_ok-compound_built-in-Compound.ensures
+
+-- ---- counted values
+
+pub each_built-loop-count-init : goal.each_built-loop-count-init
+each_built-loop-count-init t c = record { built = each_first (kind_tree c.args.kind.now) c.args.cursor.now c.args.out.now; few = omega arith; less = omega arith }
+
+pub each_built-returns-then-closes : goal.each_built-returns-then-closes
+each_built-returns-then-closes t c =
+    each_done (kind_tree c.args.kind.now) c.loop-count.count c.args.cursor.now c.loop-count.cursor c.closes.new.self c.args.out.now c.loop-count.out c.loop-count.invariant.built (search rules)
+
+pub each_built-loop-count-preserved : goal.each_built-loop-count-preserved
+each_built-loop-count-preserved t c =
+    let k = kind_tree c.args.kind.now in
+    let stays : c.closes.new.self ≡ c.loop-count.cursor = search rules in
+    let one : KindIsBuilt k c.loop-count.cursor c.kind_built.new.cursor c.loop-count.out c.kind_built.new.out = subst (λ z. KindIsBuilt k z c.kind_built.new.cursor c.loop-count.out c.kind_built.new.out) stays c.in_ok-kind_built.ensures in
+    let built : EachLeft k (c.loop-count.count + 1) c.args.cursor.now c.kind_built.new.cursor c.args.out.now c.kind_built.new.out
+    = each_next k c.loop-count.count c.args.cursor.now c.loop-count.cursor c.kind_built.new.cursor c.args.out.now c.loop-count.out c.kind_built.new.out c.loop-count.invariant.built one in
+    record { built = built; few = omega arith; less = each_less k (c.loop-count.count + 1) c.args.cursor.now c.kind_built.new.cursor c.args.out.now c.kind_built.new.out built }
+
+pub each_built-returns : goal.each_built-returns
+each_built-returns t c =
+    each_done (kind_tree c.args.kind.now) c.loop-count.count c.args.cursor.now c.loop-count.cursor c.closes-2.new.self c.args.out.now c.loop-count.out c.loop-count.invariant.built (search rules)
+
+-- ---- a subitem
+
+pub subitem_built-kind_built-requires : goal.subitem_built-kind_built-requires
+subitem_built-kind_built-requires t c =
+    let goes : IsOneWord c.octets.result.now → Goes c.args.cursor.now c.takes.new.self (c.octets.result.now ∷ []) = search rules in
+    let word : IsOneWord c.octets.result.now = subst IsOneWord (sym c.octets.ensures.octets) (name_one c.in-Sub.name c.octets.ensures.name) in
+    let less = fewer_left c.args.cursor.now c.takes.new.self c.octets.result.now [] (goes word) in
+    (omega (arith, less), sub_bounds c.args.slot.now c.in-Sub.name c.in-Sub.kind c.in-Sub.is c.requires)
+
+pub subitem_built-returns : goal.subitem_built-returns
+subitem_built-returns t c =
+    sub_built c.args.slot.now c.in-Sub.name c.octets.result.now c.in-Sub.kind c.args.cursor.now c.takes.new.self c.kind_built.new.cursor c.args.out.now c.kind_built.new.out c.in-Sub.is c.octets.ensures.octets c.octets.ensures.name (search rules) c.in_ok-kind_built.ensures
+
+-- ---- entries
+
+pub entries_built-loop-slot-init : goal.entries_built-loop-slot-init
+entries_built-loop-slot-init t c =
+    record { built = entries_first (slots_tree c.args.slots.now) c.empty-marks.result c.args.cursor.now c.args.out.now c.requires c.empty-marks.ensures; number = refl; less = omega arith }
+
+pub entries_built-loop-slot-preserved : goal.entries_built-loop-slot-preserved
+entries_built-loop-slot-preserved t c =
+    let list = c.args.slots.now in
+    let all = slots_tree list in
+    let i : ℕ = c.loop-slot.slot-index in
+    let s = c.slot-item.result in
+    let same = c.as_slice-slot-items.ensures.members in
+    let at = slots_from list i s (subst (λ xs. i < length xs) same c.loop-slot-test.true) (subst (λ xs. s ≡ get_or xs i s) same c.slot-item.is) in
+    let later = slots_tree (drop (i + 1) list) in
+    let old = c.args.cursor.now in
+    let now = c.loop-slot.cursor in
+    let next = c.subitem_built.new.cursor in
+    let before = c.args.out.now in
+    let mid = c.loop-slot.out in
+    let after = c.subitem_built.new.out in
+    let number : c.loop-slot.number + 1 ≡ i + 1 = omega (arith, c.loop-slot.invariant.number) in
+    elim c.if-branch.branch [
+      | entries_built-then-branch w ↦ (
+          let came : c.in_ok-subitem_built.field-0 ≡ true = search rules in
+          let place : c.loop-slot.number + 1 - 1 ≡ i + 1 - 1 = omega (arith, c.loop-slot.invariant.number) in
+          let marked : w.mark.new.self ≡ set c.loop-slot.marks (i + 1 - 1) 1 = w.mark.ensures ∙ ap (λ n. set c.loop-slot.marks n 1) place in
+          let built : EntriesLeft all c.if-branch.marks (i + 1) later old next before after =
+          subst (λ m. EntriesLeft all m (i + 1) later old next before after) (sym w.marks-is)
+          (entry_taken all i (slot_tree s) later (slots_tree (drop i list)) at c.loop-slot.marks w.mark.new.self old now next before mid after c.loop-slot.invariant.built marked (entry_taken_by (slot_tree s) c.in_ok-subitem_built.field-0 now next mid after came c.in_ok-subitem_built.ensures)) in
+          record { built = built; number = number; less = entries_less all c.if-branch.marks (i + 1) later old next before after built }
+          )
+      | entries_built-else-branch w ↦ (
+          let came : c.in_ok-subitem_built.field-0 ≡ false = search rules in
+          let stays = entry_passed_by (slot_tree s) c.in_ok-subitem_built.field-0 now next mid after came c.in_ok-subitem_built.ensures in
+          let passed = entry_passed all i (slot_tree s) later (slots_tree (drop i list)) at c.loop-slot.marks old now before mid c.loop-slot.invariant.built in
+          let built : EntriesLeft all c.if-branch.marks (i + 1) later old next before after =
+          subst (λ m. EntriesLeft all m (i + 1) later old next before after) (sym w.marks-is) (subst (λ z. EntriesLeft all c.loop-slot.marks (i + 1) later old z before after) (sym stays.0) (subst (λ o. EntriesLeft all c.loop-slot.marks (i + 1) later old now before o) (sym stays.1) passed)) in
+          record { built = built; number = number; less = entries_less all c.if-branch.marks (i + 1) later old next before after built }
+          )
+    ]
+
+pub entries_built-returns : goal.entries_built-returns
+entries_built-returns t c =
+    let list = c.args.slots.now in
+    let i : ℕ = c.loop-slot.slot-index in
+    entries_done (slots_tree list) c.loop-slot.marks i (slots_tree (drop i list)) c.args.cursor.now c.loop-slot.cursor c.closes.new.self c.args.out.now c.loop-slot.out
+    (slots_past list i (subst (λ xs. length xs ≤ i) c.as_slice-slot-items.ensures.members c.loop-slot-test.false)) c.loop-slot.invariant.built (search rules)

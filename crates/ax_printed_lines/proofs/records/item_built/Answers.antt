@@ -1,0 +1,14 @@
+use Rattle.std.proofs.Common.{◌≡◌, Some, rules}
+use Rattle.ax_model.specs.Lookup.{item_of_slot}
+use Rattle.ax_printed_lines.proofs.RecordsBuilt.{item_bounds, item_is_built}
+use Rattle.ax_printed_lines.proofs.records.item_built.Goals as goal
+
+pub kind_built-requires : goal.kind_built-requires
+kind_built-requires c =
+    let found : item_of_slot (Some c.args.slot.now) c.args.items.now.spec.now.items ≡ Some c.in_ok-item.item.now = search rules in
+    item_bounds c.args.items.now.spec.now.items c.args.slot.now c.in_ok-item.item.now found c.requires.bounds
+
+pub returns : goal.returns
+returns c =
+    let found : item_of_slot (Some c.args.slot.now) c.args.items.now.spec.now.items ≡ Some c.in_ok-item.item.now = search rules in
+    item_is_built c.args.items.now.spec.now.items c.args.slot.now c.in_ok-item.item.now c.in-Item.name c.octets.result.now c.args.cursor.now c.takes.new.self c.kind_built.new.cursor c.args.out.now c.kind_built.new.out c.in-Item.is c.octets.ensures.octets c.octets.ensures.name found (search rules) c.in_ok-kind_built.ensures

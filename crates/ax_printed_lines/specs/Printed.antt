@@ -1,0 +1,113 @@
+-- Lines in the form in which `text` prints them: each token but the last with one space after it.
+use Rattle.std.specs.Prelude.{◌≡◌, ℕ, ◌≤◌, ◌<◌, Bool, true, false, List, [], ◌∷◌, ◌++◌, length, slice_index, Some}
+use Rattle.std.specs.List.{AllByRecursion}
+use Rattle.hex.specs.Hex.{encode_lower, lower_digits}
+use Rattle.ax_bits.specs.Bits.{bits, AreOctets}
+use Rattle.ax_bits.specs.Out.{Appends}
+use Rattle.ax_bits.specs.declared.output.Out.{Out}
+use Rattle.ax_block_reader.specs.BlockTexts.{IsBlockOf}
+use Rattle.ax_model.specs.Blocks.{BlockTree}
+use Rattle.ax_fspec.specs.Fields.{least_field}
+use Rattle.ax_model.specs.Bodies.{RecordShape, CanonBody}
+use Rattle.ax_text.specs.BlockText.{records_onto}
+use Rattle.ax_model.specs.Canonical.{canon, fixed_canon, number_canon, marks_of}
+use Rattle.ax_model.specs.CanonicalOctets.{canon_block, category_of, framed}
+use Rattle.ax_model.specs.InBounds.{SlotsInBounds}
+use Rattle.ax_model.specs.Presence.{octets_needed, least_presence}
+use Rattle.ax_model.specs.Shape.{EntriesShape}
+use Rattle.ax_model.specs.Specification.{SpecTree, spec_of}
+use Rattle.ax_model.specs.Tree.{MemberTree, named, spare, SlotTree, spare_slot, subitem, SlotsTree, slot_count, ValueTree, EntriesTree}
+use Rattle.ax_text.specs.Slots.{SlotShape, slot_onto}
+use Rattle.ax_text.specs.Tokens.{kind_of, BlockTokens}
+use Rattle.ax_text.specs.ValueText.{Texts}
+use Rattle.ax_tokens.specs.Depth.{level_after}
+use Rattle.ax_tokens.specs.Lexing.{IsTokenText, AreTokensOf}
+use Rattle.ax_tokens.specs.declared.token.TokenKind.TheVariants.{Word}
+
+-- ---- places
+
+-- the octets of a line that are left, and the level of its braces there
+pub record Place : Type 0 where
+  pub left : List ℕ
+  pub level : ℕ
+
+-- each text with a space after it
+abbrev pub ended : Texts → List ℕ
+ended [] = []
+ended (text ∷ texts) = text ++ 0x20 ∷ ended texts
+
+-- the text is one Word
+abbrev pub IsOneWord : List ℕ → Type 0
+IsOneWord text = (kind_of text ≡ Word) × IsTokenText Word text
+
+-- texts of tokens that keep the level of their braces within 20, from a level on
+abbrev pub Keeps : ℕ → Texts → Type 0
+Keeps level [] = Unit {0}
+Keeps level (text ∷ texts) = IsTokenText (kind_of text) text × (level_after (kind_of text) level ≤ 20) × Keeps (level_after (kind_of text) level) texts
+
+-- the texts stood there, and are read
+pub record Goes (old new : Place) (texts : Texts) : Type 0 where
+  pub left : old.left ≡ ended texts ++ new.left
+  pub keeps : (rest : Texts) → Keeps new.level rest → Keeps old.level (texts ++ rest)
+
+-- ---- what is built
+
+-- the texts of something of that shape were read, and its canonical bits were written
+pub record IsBuilt {X : Type 0} (R : X → Type 0) (onto : X → Texts) (spell : X → List ℕ) (old new : Place) (before after : Out) : Type 0 where
+  pub value : X
+  pub shape : R value
+  pub goes : Goes old new (onto value)
+  pub appends : Appends before after (spell value)
+
+abbrev pub member_canon : MemberTree → ValueTree → List ℕ
+member_canon (named name f) v = fixed_canon f v
+member_canon (spare w) v = number_canon w v
+
+abbrev pub slot_canon : SlotTree → ValueTree → List ℕ
+slot_canon spare_slot v = []
+slot_canon (subitem name k) v = canon k v
+
+-- the line is the text of a block of that category under the catalogue, and the bits of the body of its canonical form were
+-- written
+pub record IsPrinted (catalogue : List SpecTree) (line : List ℕ) (category : ℕ) (before after : Out) : Type 0 where
+  pub spec : SpecTree
+  pub block : BlockTree
+  pub known : spec_of (category_of block) catalogue ≡ Some spec
+  pub of_catalogue : IsBlockOf catalogue block
+  pub lexed : AreTokensOf line 20 (BlockTokens spec block)
+  pub body : List ℕ
+  pub appends : Appends before after body
+  pub canonical : (octets : List ℕ) → AreOctets octets → bits octets ≡ body → framed category octets ≡ canon_block spec block
+
+-- ---- slots
+
+-- 1 to 126 slots, whose kinds keep their bounds
+abbrev pub AreSlots : SlotsTree → Type 0
+AreSlots ss = (0 < slot_count ss) × (slot_count ss ≤ 126) × SlotsInBounds ss
+
+-- the slot's value is built where its name comes, and nothing is done where it doesn't
+abbrev pub BuildsSlot : SlotTree → Bool → Place → Place → Out → Out → Type 0
+BuildsSlot slot true old new before after = IsBuilt (SlotShape slot) (λ v. slot_onto slot v []) (slot_canon slot) old new before after
+BuildsSlot slot false old new before after = (new ≡ old) × (after ≡ before)
+
+-- entries of these slots, of which the least presence field of the marks is theirs
+abbrev pub HasMarks : SlotsTree → List ℕ → EntriesTree → Type 0
+HasMarks ss marks es = EntriesShape 1 ss es × (least_field marks ≡ least_presence (octets_needed (slot_count ss)) (marks_of 1 ss es))
+
+-- ---- octets in hexadecimal
+
+abbrev pub digit_text : ℕ → ℕ
+digit_text n = slice_index lower_digits n
+
+-- the digits of some octets, which were written
+pub record AreDigits (digits : List ℕ) (before after : Out) : Type 0 where
+  pub octets : List ℕ
+  pub each : AreOctets octets
+  pub text : digits ≡ encode_lower octets
+  pub appends : Appends before after (bits octets)
+
+-- ---- records
+
+-- one or more records were read, and their canonical bits were written
+abbrev pub AreRecords : SpecTree → Place → Place → Out → Out → Type 0
+AreRecords spec old new before after = IsBuilt (λ rs. (0 < length rs) × AllByRecursion (RecordShape spec) rs) (λ rs. records_onto spec rs []) (CanonBody spec) old new before after

@@ -1,0 +1,127 @@
+//! Values of fixed kinds: elements, groups and their members; and lists of them, of extended items and of items that repeat
+//! by FX.
+ghost use Rattle.std.specs.Prelude.{◌≡◌, ◌<◌, ◌∷◌, [], ℕ, length, map, IfSome};
+ghost use Rattle.std.specs.List.{AllByRecursion};
+ghost use Rattle.ax_model.specs.Canonical.{fixed_canon, members_canon, parts_canon, run_canon};
+ghost use Rattle.ax_model.specs.InBounds.{FixedInBounds, MembersInBounds, PartInBounds};
+ghost use Rattle.ax_model.specs.Plain.{fixed_tree, member_tree, members_tree, part_tree};
+ghost use Rattle.ax_model.specs.Shape.{FixedShape, MembersShape, PartsShape, EachShape};
+ghost use Rattle.ax_model.specs.Tree.{member_and, no_members, value_count};
+ghost use Rattle.ax_text.specs.Slots.{MemberShape};
+ghost use Rattle.ax_text.specs.ValueText.{closing, fixed_onto, member_onto, members_onto, part_onto, parts_onto, each_onto};
+ghost use Rattle.ax_printed_lines.specs.Printed.{IsBuilt, member_canon};
+
+use crate::cursor::Cursor;
+use crate::pieces::{fx_built, number_built};
+use ax_bits::Out;
+use ax_model::{Fixed, Member, Members, Part, Parts};
+
+/// The value of a fixed kind that comes is read, and its bits are appended.
+#[cycle(fixed_built)]
+pub fn fixed_built(cursor: &mut Cursor<'_>, fixed: &Fixed, out: &mut Out<'_>) -> Option<()>
+    requires { FixedInBounds (fixed_tree fixed.now) }
+    ensures { IfSome result (λ done. IsBuilt (FixedShape (fixed_tree fixed.now)) (λ v. fixed_onto (fixed_tree fixed.now) v []) (fixed_canon (fixed_tree fixed.now)) cursor.old cursor.new out.old out.new) }
+{
+    match fixed {
+        Fixed::Element { width, .. } => {
+            number_built(cursor, *width, out)?;
+            Some(())
+        }
+        Fixed::Group(members) => {
+            if !cursor.opens() {
+                return None;
+            }
+            members_built(cursor, members, out)?;
+            Some(())
+        }
+    }
+}
+
+/// A member: its name and its value, or `spare` and its number.
+#[cycle(fixed_built)]
+fn member_built(cursor: &mut Cursor<'_>, member: &Member, out: &mut Out<'_>) -> Option<()>
+    requires { MembersInBounds (member_and (member_tree member.now) no_members) }
+    ensures { IfSome result (λ done. IsBuilt (MemberShape (member_tree member.now)) (λ v. member_onto (member_tree member.now) v []) (member_canon (member_tree member.now)) cursor.old cursor.new out.old out.new) }
+{
+    match member {
+        Member::Named { name, fixed } => {
+            if !cursor.takes(name.octets()) {
+                return None;
+            }
+            fixed_built(cursor, fixed, out)?;
+            Some(())
+        }
+        Member::Spare { width } => {
+            if !cursor.takes(b"spare") {
+                return None;
+            }
+            number_built(cursor, *width, out)?;
+            Some(())
+        }
+    }
+}
+
+/// A value for each member, in order, and the brace after them.
+#[cycle(fixed_built)]
+pub fn members_built(cursor: &mut Cursor<'_>, members: &Members, out: &mut Out<'_>) -> Option<()>
+    requires { MembersInBounds (members_tree members.now) }
+    ensures { IfSome result (λ done. IsBuilt (MembersShape (members_tree members.now)) (λ vs. members_onto (members_tree members.now) vs (closing ∷ [])) (members_canon (members_tree members.now)) cursor.old cursor.new out.old out.new) }
+{
+    for member in members.as_slice() {
+        member_built(cursor, member, out)?;
+    }
+    if !cursor.closes() {
+        return None;
+    }
+    Some(())
+}
+
+/// A part: `part` and its members in braces.
+fn part_built(cursor: &mut Cursor<'_>, part: &Part, out: &mut Out<'_>) -> Option<()>
+    requires { MembersInBounds (part_tree part.now) }
+    ensures { IfSome result (λ done. IsBuilt (MembersShape (part_tree part.now)) (λ vs. part_onto (part_tree part.now) vs []) (members_canon (part_tree part.now)) cursor.old cursor.new out.old out.new) }
+{
+    if !cursor.takes(b"part") {
+        return None;
+    }
+    if !cursor.opens() {
+        return None;
+    }
+    members_built(cursor, &part.members, out)?;
+    Some(())
+}
+
+/// The parts that are present, and the brace after them.
+pub fn parts_built(cursor: &mut Cursor<'_>, parts: &Parts, out: &mut Out<'_>) -> Option<()>
+    requires { AllByRecursion PartInBounds (map part_tree parts.now) }
+    ensures { IfSome result (λ done. IsBuilt (PartsShape (map part_tree parts.now)) (λ ls. parts_onto (map part_tree parts.now) ls (closing ∷ [])) (parts_canon (map part_tree parts.now)) cursor.old cursor.new out.old out.new) }
+{
+    for part in parts.as_slice() {
+        part_built(cursor, part, out)?;
+        if cursor.closes() {
+            fx_built(false, out)?;
+            return Some(());
+        }
+        fx_built(true, out)?;
+    }
+    None
+}
+
+// A body has room for fewer occurrences.
+const MOST: u32 = 65_536;
+
+/// One or more values of a fixed kind, and the brace after them.
+pub fn run_built(cursor: &mut Cursor<'_>, fixed: &Fixed, out: &mut Out<'_>) -> Option<()>
+    requires { FixedInBounds (fixed_tree fixed.now) }
+    ensures { IfSome result (λ done. IsBuilt (λ vs. (0 < value_count vs) × EachShape (FixedShape (fixed_tree fixed.now)) vs) (λ vs. each_onto (fixed_onto (fixed_tree fixed.now)) vs (closing ∷ [])) (run_canon (fixed_tree fixed.now)) cursor.old cursor.new out.old out.new) }
+{
+    for _ in 0..MOST {
+        fixed_built(cursor, fixed, out)?;
+        if cursor.closes() {
+            fx_built(false, out)?;
+            return Some(());
+        }
+        fx_built(true, out)?;
+    }
+    None
+}

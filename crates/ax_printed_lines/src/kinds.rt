@@ -1,0 +1,153 @@
+//! Values of kinds.
+ghost use Rattle.std.specs.Prelude.{◌≡◌, ◌<◌, ◌≤◌, ◌∷◌, [], length, MatchBool, IfSome};
+ghost use Rattle.ax_fspec.specs.Fields.{least_field};
+ghost use Rattle.ax_model.specs.Canonical.{canon, each_canon, marks_of, entries_canon};
+ghost use Rattle.ax_model.specs.InBounds.{InBounds, SlotsInBounds};
+ghost use Rattle.ax_model.specs.Plain.{kind_tree, slot_tree, slots_tree};
+ghost use Rattle.ax_model.specs.Presence.{octets_needed, least_presence};
+ghost use Rattle.ax_model.specs.Shape.{Shape, EachShape, EntriesShape};
+ghost use Rattle.ax_model.specs.Tree.{compound, counted, slot_and, no_slots, slot_count, value_count, occurrences, marked};
+ghost use Rattle.ax_text.specs.Slots.{SlotShape, slot_onto};
+ghost use Rattle.ax_text.specs.ValueText.{closing, kind_onto, each_onto, in_braces, entries_onto};
+ghost use Rattle.ax_printed_lines.specs.Printed.{IsBuilt, AreSlots, BuildsSlot, HasMarks, slot_canon};
+
+use crate::cursor::Cursor;
+use crate::explicit::explicit_built;
+use crate::fixed::{fixed_built, parts_built, run_built};
+use crate::pieces::{counted_content, marked_content};
+use ax_bits::Out;
+use ax_fspec::Presence;
+use ax_model::{Kind, Slot, Slots};
+
+// The most octets of the values of a counted item or of a compound that are built here.
+const ROOM: usize = 1024;
+
+/// The value of a kind that comes is read, and its canonical bits are appended.
+#[cycle(kind_built)]
+pub fn kind_built(cursor: &mut Cursor<'_>, kind: &Kind, out: &mut Out<'_>) -> Option<()>
+    requires { InBounds (kind_tree kind.now) }
+    ensures { IfSome result (λ done. IsBuilt (Shape (kind_tree kind.now)) (λ v. kind_onto (kind_tree kind.now) v []) (canon (kind_tree kind.now)) cursor.old cursor.new out.old out.new) }
+{
+    match kind {
+        Kind::Fixed(fixed) => {
+            fixed_built(cursor, fixed, out)?;
+            Some(())
+        }
+        Kind::Explicit => {
+            explicit_built(cursor, out)?;
+            Some(())
+        }
+        Kind::Extended(parts) => {
+            if !cursor.opens() {
+                return None;
+            }
+            parts_built(cursor, parts, out)?;
+            Some(())
+        }
+        Kind::Counted(inner) => {
+            if !cursor.opens() {
+                return None;
+            }
+            counted_built(cursor, inner, out)?;
+            Some(())
+        }
+        Kind::ByFx(fixed) => {
+            if !cursor.opens() {
+                return None;
+            }
+            run_built(cursor, fixed, out)?;
+            Some(())
+        }
+        Kind::Compound(slots) => {
+            if !cursor.opens() {
+                return None;
+            }
+            compound_built(cursor, slots, out)?;
+            Some(())
+        }
+    }
+}
+
+/// The values of a counted item, and the brace after them. They are built in a buffer of their own, since REP stands in front
+/// of them.
+#[cycle(kind_built)]
+fn counted_built(cursor: &mut Cursor<'_>, kind: &Kind, out: &mut Out<'_>) -> Option<()>
+    requires { InBounds (kind_tree kind.now) }
+    ensures { IfSome result (λ done. IsBuilt (λ vs. (value_count vs < 256) × EachShape (Shape (kind_tree kind.now)) vs) (λ vs. each_onto (kind_onto (kind_tree kind.now)) vs (closing ∷ [])) (λ vs. canon (counted (kind_tree kind.now)) (occurrences vs)) cursor.old cursor.new out.old out.new) }
+{
+    let mut own = [0u8; ROOM];
+    let mut inner = Out::over(&mut own);
+    let count = each_built(cursor, kind, &mut inner)?;
+    counted_content(count, &inner, out)?;
+    Some(())
+}
+
+/// At most 255 values of a kind, and the brace after them. It answers how many they are.
+#[cycle(kind_built)]
+fn each_built(cursor: &mut Cursor<'_>, kind: &Kind, out: &mut Out<'_>) -> Option<u8>
+    requires { InBounds (kind_tree kind.now) }
+    ensures { IfSome result (λ count. IsBuilt (λ vs. (value_count vs ≡ count) × EachShape (Shape (kind_tree kind.now)) vs) (λ vs. each_onto (kind_onto (kind_tree kind.now)) vs (closing ∷ [])) (each_canon (canon (kind_tree kind.now))) cursor.old cursor.new out.old out.new) }
+{
+    let mut count = 0;
+    while count < 255 {
+        if cursor.closes() {
+            return Some(count);
+        }
+        kind_built(cursor, kind, out)?;
+        count += 1;
+    }
+    if !cursor.closes() {
+        return None;
+    }
+    Some(count)
+}
+
+/// The entries of a compound, and the brace after them. They are built in a buffer of their own, since the presence field
+/// stands in front of them.
+#[cycle(kind_built)]
+fn compound_built(cursor: &mut Cursor<'_>, slots: &Slots, out: &mut Out<'_>) -> Option<()>
+    requires { AreSlots (slots_tree slots.now) }
+    ensures { IfSome result (λ done. IsBuilt (EntriesShape 1 (slots_tree slots.now)) (λ es. entries_onto 1 (slots_tree slots.now) es (closing ∷ [])) (λ es. canon (compound (slots_tree slots.now)) (marked es)) cursor.old cursor.new out.old out.new) }
+{
+    let mut own = [0u8; ROOM];
+    let mut inner = Out::over(&mut own);
+    let marks = entries_built(cursor, slots, &mut inner)?;
+    marked_content(&marks, &inner, out)?;
+    Some(())
+}
+
+/// The value of the slot's subitem, where the subitem's name comes. It answers whether it does.
+#[cycle(kind_built)]
+fn subitem_built(cursor: &mut Cursor<'_>, slot: &Slot, out: &mut Out<'_>) -> Option<bool>
+    requires { SlotsInBounds (slot_and (slot_tree slot.now) no_slots) }
+    ensures { IfSome result (λ came. BuildsSlot (slot_tree slot.now) came cursor.old cursor.new out.old out.new) }
+{
+    let Slot::Sub { name, kind } = slot else {
+        return Some(false);
+    };
+    if !cursor.takes(name.octets()) {
+        return Some(false);
+    }
+    kind_built(cursor, kind, out)?;
+    Some(true)
+}
+
+/// The entries of a compound, and the brace after them. It answers which slots they are of.
+#[cycle(kind_built)]
+fn entries_built(cursor: &mut Cursor<'_>, slots: &Slots, out: &mut Out<'_>) -> Option<Presence>
+    requires { AreSlots (slots_tree slots.now) }
+    ensures { IfSome result (λ marks. IsBuilt (HasMarks (slots_tree slots.now) marks) (λ es. entries_onto 1 (slots_tree slots.now) es (closing ∷ [])) (entries_canon 1 (slots_tree slots.now)) cursor.old cursor.new out.old out.new) }
+{
+    let mut marks = Presence::empty();
+    let mut number = 0;
+    for slot in slots.as_slice() {
+        number += 1;
+        if subitem_built(cursor, slot, out)? {
+            marks.mark(number);
+        }
+    }
+    if !cursor.closes() {
+        return None;
+    }
+    Some(marks)
+}

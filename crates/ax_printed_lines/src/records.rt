@@ -1,0 +1,103 @@
+//! Records and lists of them.
+ghost use Rattle.std.specs.Prelude.{◌≡◌, ◌<◌, ◌≤◌, ◌∷◌, [], length, map, Some, IfSome};
+ghost use Rattle.std.specs.List.{AllByRecursion};
+ghost use Rattle.ax_model.specs.Bodies.{RecordShape, CanonRecord};
+ghost use Rattle.ax_model.specs.Canonical.{entries_canon};
+ghost use Rattle.ax_model.specs.InBounds.{SlotsInBounds};
+ghost use Rattle.ax_model.specs.Lookup.{item_of_frn, item_of_slot};
+ghost use Rattle.ax_model.specs.Plain.{item_tree, spec_tree};
+ghost use Rattle.ax_model.specs.Specification.{uap_slot, record_slots};
+ghost use Rattle.ax_model.specs.Tree.{slot_and, no_slots};
+ghost use Rattle.ax_text.specs.BlockText.{record_onto};
+ghost use Rattle.ax_text.specs.ValueText.{closing, entries_onto};
+ghost use Rattle.ax_printed_lines.specs.Printed.{IsBuilt, AreSlots, BuildsSlot, HasMarks, AreRecords};
+
+use crate::cursor::Cursor;
+use crate::kinds::kind_built;
+use crate::pieces::marked_content;
+use ax_bits::Out;
+use ax_fspec::Presence;
+use ax_model::UapSlot;
+use ax_uap::UapItems;
+
+// The most octets of the items of a record that is built here.
+const ROOM: usize = 2048;
+
+// A body has room for fewer records.
+const MOST: u32 = 65_536;
+
+/// The value of the slot's item, where the item's name comes. It answers whether it does.
+fn item_built(
+    cursor: &mut Cursor<'_>,
+    items: &UapItems<'_>,
+    frn: u32,
+    slot: &UapSlot,
+    out: &mut Out<'_>,
+) -> Option<bool>
+    requires bounds { SlotsInBounds (slot_and (uap_slot (map item_tree items.now.spec.now.items) slot.now) no_slots) }
+    requires at { item_of_frn frn items.now.spec.now.uap items.now.spec.now.items ≡ item_of_slot (Some slot.now) items.now.spec.now.items }
+    ensures { IfSome result (λ came. BuildsSlot (uap_slot (map item_tree items.now.spec.now.items) slot.now) came cursor.old cursor.new out.old out.new) }
+{
+    let UapSlot::Item(name) = slot else {
+        return Some(false);
+    };
+    if !cursor.takes(name.octets()) {
+        return Some(false);
+    }
+    let item = items.item(frn)?;
+    kind_built(cursor, &item.kind, out)?;
+    Some(true)
+}
+
+/// The entries of a record, and the brace after them. It answers which slots they are of.
+fn items_built(cursor: &mut Cursor<'_>, items: &UapItems<'_>, out: &mut Out<'_>) -> Option<Presence>
+    requires { AreSlots (record_slots (spec_tree items.now.spec.now)) }
+    ensures { IfSome result (λ marks. IsBuilt (HasMarks (record_slots (spec_tree items.now.spec.now)) marks) (λ es. entries_onto 1 (record_slots (spec_tree items.now.spec.now)) es (closing ∷ [])) (entries_canon 1 (record_slots (spec_tree items.now.spec.now))) cursor.old cursor.new out.old out.new) }
+{
+    let spec = items.spec();
+    let mut marks = Presence::empty();
+    let mut number = 0;
+    for slot in spec.uap.as_slice() {
+        number += 1;
+        if item_built(cursor, items, number, slot, out)? {
+            marks.mark(number);
+        }
+    }
+    if !cursor.closes() {
+        return None;
+    }
+    Some(marks)
+}
+
+/// The entries of a record in braces. They are built in a buffer of their own, since the FSPEC stands in front of them.
+fn record_built(cursor: &mut Cursor<'_>, items: &UapItems<'_>, out: &mut Out<'_>) -> Option<()>
+    requires { AreSlots (record_slots (spec_tree items.now.spec.now)) }
+    ensures { IfSome result (λ done. IsBuilt (RecordShape (spec_tree items.now.spec.now)) (λ es. record_onto (spec_tree items.now.spec.now) es []) (CanonRecord (spec_tree items.now.spec.now)) cursor.old cursor.new out.old out.new) }
+{
+    if !cursor.takes(b"record") {
+        return None;
+    }
+    if !cursor.opens() {
+        return None;
+    }
+    let mut own = [0u8; ROOM];
+    let mut inner = Out::over(&mut own);
+    let marks = items_built(cursor, items, &mut inner)?;
+    marked_content(&marks, &inner, out)?;
+    Some(())
+}
+
+/// One or more records, up to a brace that ends the line.
+pub fn records_built(cursor: &mut Cursor<'_>, items: &UapItems<'_>, out: &mut Out<'_>) -> Option<()>
+    requires { AreSlots (record_slots (spec_tree items.now.spec.now)) }
+    ensures records { IfSome result (λ done. AreRecords (spec_tree items.now.spec.now) cursor.old cursor.new out.old out.new) }
+    ensures ended { IfSome result (λ done. (cursor.new.left ≡ closing) × (cursor.new.level ≤ 20)) }
+{
+    for _ in 0..MOST {
+        record_built(cursor, items, out)?;
+        if cursor.ends() {
+            return Some(());
+        }
+    }
+    None
+}

@@ -1,6 +1,7 @@
 -- Lines that lead on: what is read and shown later decides what is read and shown of the whole.
-use Rattle.std.proofs.Common.{◌≡◌, ℕ, suc, ◌+◌, ◌≤◌, List, [], ◌∷◌, ◌++◌, length, take, drop, refl, sym, ◌∙◌, ap, subst, arith, append-nil, append_assoc, length-append}
-use Rattle.std.proofs.lemmas.List.{append_cancel_left, take_at, drop_at}
+use Rattle.std.proofs.Common.{◌≡◌, ℕ, suc, ◌+◌, ◌≤◌, List, [], ◌∷◌, ◌++◌, length, take, drop, refl, sym, ◌∙◌, ap, subst, arith, append-nil, append_assoc, length-append, codes, decimal, ◌-◌}
+use Rattle.std.proofs.lemmas.Fmt.{decimal_digit}
+use Rattle.std.proofs.lemmas.List.{append_cancel_left, take_at, drop_at, drop-drop}
 use Rattle.ax_model.specs.Reader.{Read}
 use Rattle.ax_model.specs.Tree.{KindTree, ValueTree}
 use Rattle.ax_model.specs.declared.fault.BodyFault.{BodyFault}
@@ -8,7 +9,7 @@ use Rattle.ax_reader.proofs.Continuing.{gets_after, fails_after}
 use Rattle.ax_reader.specs.Reading.{Gets, FailsAt, Continues, kind_read}
 use Rattle.ax_text.specs.Printing.{as_lines, Puts}
 use Rattle.ax_text.specs.ShowText.{count_line, kind_lines}
-use Rattle.ax_text.specs.ValueText.{Texts}
+use Rattle.ax_text.specs.ValueText.{Texts, one_onto}
 use Rattle.ax_values.proofs.Continuing.{failed_by_want}
 use Rattle.ax_values.specs.SlotReading.{HasFailed}
 use Rattle.ax_values.specs.declared.error.DecodeError.{DecodeError}
@@ -53,24 +54,33 @@ counted_first k path word body at here out lines size next value le c e = record
   fails = λ fault f. fails_after (kind_read k body at) next at here value fault c f;
 }
 
--- the count line was put in front of them
-pub counted_shown : (k : KindTree) (path word body : List ℕ) (at end start : ℕ) (old mid new : List ℕ) (n : ℕ) → start ≡ length old → ShowsCounted k path word body at end old mid n → new ≡ take start mid ++ (count_line path word n ++ 0x0A ∷ drop start mid)
-    → Shows (kind_lines k path) (kind_read k body at) body at end old new
-counted_shown k path word body at end start old mid new n e h is =
-    let mid_is : mid ≡ old ++ as_lines (h.later []) = sym (append-nil mid) ∙ h.put.put [] in
-    let front : take start mid ≡ old = ap (take start) mid_is ∙ take_at old (as_lines (h.later [])) start (sym e) in
-    let back : drop start mid ≡ as_lines (h.later []) = ap (drop start) mid_is ∙ drop_at old (as_lines (h.later [])) start (sym e) in
-    let line = count_line path word n in
+-- the count stands in the line that was put in front of them
+pub counted_shown : (k : KindTree) (path word body : List ℕ) (at end line : ℕ) (old first mid new : List ℕ) (n : ℕ) → Puts as_lines (one_onto (count_line path word 0)) old first → line ≡ length first → ShowsCounted k path word body at end first mid n
+    → new ≡ take (line - 2) mid ++ (decimal n ++ drop (line - 1) mid) → Shows (kind_lines k path) (kind_read k body at) body at end old new
+counted_shown k path word body at end line old first mid new n p e h is =
+    let front = path ++ codes " " ++ word ++ codes " " in
+    let later = as_lines (h.later []) in
+    let first_is : first ≡ old ++ (front ++ 0x30 ∷ 0x0A ∷ []) = sym (append-nil first) ∙ p.put [] ∙ ap (λ t. old ++ t) (append_assoc front (decimal 0) (0x0A ∷ []) ∙ ap (λ d. front ++ (d ++ 0x0A ∷ [])) (decimal_digit 0 (omega arith))) in
+    let mid_is : mid ≡ (old ++ front) ++ (0x30 ∷ 0x0A ∷ later) =
+    sym (append-nil mid) ∙ h.put.put [] ∙ ap (λ t. t ++ later) (first_is ∙ sym (append_assoc old front (0x30 ∷ 0x0A ∷ []))) ∙ append_assoc (old ++ front) (0x30 ∷ 0x0A ∷ []) later in
+    let long : line ≡ length (old ++ front) + 2 = omega (arith, e, ap length first_is, length-append old (front ++ 0x30 ∷ 0x0A ∷ []), length-append front (0x30 ∷ 0x0A ∷ []), length-append old front) in
+    let before : take (line - 2) mid ≡ old ++ front =
+    (λ i. take (let d : line - 2 ≡ length (old ++ front) = omega (arith, long) in d i) (mid_is i)) ∙ take_at (old ++ front) (0x30 ∷ 0x0A ∷ later) (length (old ++ front)) refl in
+    let following : drop (line - 1) mid ≡ 0x0A ∷ later =
+    (λ i. drop (let d : line - 1 ≡ length (old ++ front) + 1 = omega (arith, long) in d i) (mid_is i)) ∙ sym (drop-drop 1 (length (old ++ front)) ((old ++ front) ++ (0x30 ∷ 0x0A ∷ later)))
+    ∙ ap (λ t. drop 1 t) (drop_at (old ++ front) (0x30 ∷ 0x0A ∷ later) (length (old ++ front)) refl) in
+    let whole : new ≡ old ++ (count_line path word n ++ 0x0A ∷ later) =
+    is ∙ (λ i. before i ++ (decimal n ++ following i)) ∙ append_assoc old front (decimal n ++ 0x0A ∷ later) ∙ ap (λ t. old ++ t) (sym (append_assoc front (decimal n) (0x0A ∷ later))) in
     record {
       value = h.value;
       read = h.read;
       put = record {
         put = λ t.
-            let tail : as_lines (h.later []) ++ as_lines t ≡ as_lines (h.later t) =
-            append_cancel_left old (as_lines (h.later []) ++ as_lines t) (as_lines (h.later t)) (sym (append_assoc old (as_lines (h.later [])) (as_lines t)) ∙ ap (λ m. m ++ as_lines t) (sym mid_is) ∙ h.put.put t) in
-            ap (λ m. m ++ as_lines t) (is ∙ (λ i. front i ++ (line ++ 0x0A ∷ back i)))
-            ∙ append_assoc old (line ++ 0x0A ∷ as_lines (h.later [])) (as_lines t)
-            ∙ ap (λ m. old ++ m) (append_assoc line (0x0A ∷ as_lines (h.later [])) (as_lines t) ∙ ap (λ m. line ++ 0x0A ∷ m) tail)
+            let tail : later ++ as_lines t ≡ as_lines (h.later t) =
+            append_cancel_left first (later ++ as_lines t) (as_lines (h.later t)) (sym (append_assoc first later (as_lines t)) ∙ ap (λ m. m ++ as_lines t) (sym (sym (append-nil mid) ∙ h.put.put [])) ∙ h.put.put t) in
+            ap (λ m. m ++ as_lines t) whole
+            ∙ append_assoc old (count_line path word n ++ 0x0A ∷ later) (as_lines t)
+            ∙ ap (λ m. old ++ m) (append_assoc (count_line path word n) (0x0A ∷ later) (as_lines t) ∙ ap (λ m. count_line path word n ++ 0x0A ∷ m) tail)
             ∙ ap (λ m. old ++ as_lines m) (sym (h.first t));
       };
     }
@@ -78,10 +88,15 @@ counted_shown k path word body at end start old mid new n e h is =
 pub counted_failed : {A : Type 0} (found : Read A) (at : ℕ) (e : DecodeError) → e ≡ Decoding.OutOfMemory → HasFailed found at e
 counted_failed found at e is = failed_by_want found at e is
 
--- nothing was taken away
-pub counted_longer : (k : KindTree) (path word body : List ℕ) (at end start : ℕ) (old mid : List ℕ) (n : ℕ) → start ≡ length old → ShowsCounted k path word body at end old mid n → start ≤ length mid
-counted_longer k path word body at end start old mid n e h =
-    let mid_is : mid ≡ old ++ as_lines (h.later []) = sym (append-nil mid) ∙ h.put.put [] in
-    omega (arith, e, ap length mid_is, length-append old (as_lines (h.later [])))
+-- the line stands there yet
+pub counted_longer : (k : KindTree) (path word body : List ℕ) (at end line : ℕ) (old first mid : List ℕ) (n : ℕ) → Puts as_lines (one_onto (count_line path word 0)) old first → line ≡ length first → ShowsCounted k path word body at end first mid n
+    → (2 ≤ line) × (line ≤ length mid)
+counted_longer k path word body at end line old first mid n p e h =
+    let front = path ++ codes " " ++ word ++ codes " " in
+    let first_is : first ≡ old ++ (front ++ 0x30 ∷ 0x0A ∷ []) = sym (append-nil first) ∙ p.put [] ∙ ap (λ t. old ++ t) (append_assoc front (decimal 0) (0x0A ∷ []) ∙ ap (λ d. front ++ (d ++ 0x0A ∷ [])) (decimal_digit 0 (omega arith))) in
+    let mid_is : mid ≡ first ++ as_lines (h.later []) = sym (append-nil mid) ∙ h.put.put [] in (
+      omega (arith, e, ap length first_is, length-append old (front ++ 0x30 ∷ 0x0A ∷ []), length-append front (0x30 ∷ 0x0A ∷ [])),
+      omega (arith, e, ap length mid_is, length-append first (as_lines (h.later []))),
+    )
 
-pub ruleset counts = (counted_shown, counted_failed, counted_longer)
+pub ruleset counts = counted_failed

@@ -42,10 +42,9 @@ use Rattle.ax_show_views.proofs.MarkedLines.{MarksShown, marks_clear, entries_li
 
 -- ---- one item
 
-pub item_shown : (spec : Spec) (frn : ℕ) (item : Item) (path inner body : List ℕ) (here end : ℕ) (old new : List ℕ) → Some item ≡ item_of_frn frn spec.uap spec.items → inner ≡ at path item.name
-    → Shows (kind_lines (kind_tree item.kind) inner) (kind_read (kind_tree item.kind) body here) body here end old new → IsSlotShown (slot_of_frn frn spec) path body here end old new
-item_shown spec frn item path inner body here end old new e is h =
-    subst (λ o. IsSlotShown (slot_of_item (option_map item_tree o)) path body here end old new) e (record { shows = subst (λ inner. Shows (kind_lines (kind_tree item.kind) inner) (kind_read (kind_tree item.kind) body here) body here end old new) is h })
+pub item_shown : (spec : Spec) (frn : ℕ) (item : Item) (path body : List ℕ) (here end : ℕ) (old new : List ℕ) → Some item ≡ item_of_frn frn spec.uap spec.items
+    → Shows (kind_lines (kind_tree item.kind) (at path item.name)) (kind_read (kind_tree item.kind) body here) body here end old new → IsSlotShown (slot_of_frn frn spec) path body here end old new
+item_shown spec frn item path body here end old new e h = subst (λ o. IsSlotShown (slot_of_item (option_map item_tree o)) path body here end old new) e (record { shows = h })
 
 pub no_item_shown : (spec : Spec) (frn : ℕ) (path body : List ℕ) (here : ℕ) (out : List ℕ) → None ≡ item_of_frn frn spec.uap spec.items → IsSlotShown (slot_of_frn frn spec) path body here here out out
 no_item_shown spec frn path body here out e = subst (λ o. IsSlotShown (slot_of_item (option_map item_tree o)) path body here here out out) e (record { shows = tt })

@@ -154,7 +154,9 @@ module _ (all : List Part) (i : ℕ) (p : Part) (path body : List ℕ) (at here 
 
 -- ---- one occurrence, at its path
 
-pub occurrence_shown : (f : FixedTree) (path inner b old new : List ℕ) (i : ℕ) → inner ≡ occurrence path i → Puts as_lines (fixed_lines f inner (fixed_value f b)) old new → Puts as_lines (fixed_lines f (occurrence path i) (fixed_value f b)) old new
-occurrence_shown f path inner b old new i e p = subst (λ inner. Puts as_lines (fixed_lines f inner (fixed_value f b)) old new) e p
+pub occurrence_shown : (f : FixedTree) (path inner b old made shown new : List ℕ) (i : ℕ) → inner ≡ occurrence path i → made ≡ old → Puts as_lines (fixed_lines f inner (fixed_value f b)) made shown → new ≡ shown → Puts as_lines (fixed_lines f (occurrence path i) (fixed_value f b)) old new
+occurrence_shown f path inner b old made shown new i e g p h =
+    subst (λ new. Puts as_lines (fixed_lines f (occurrence path i) (fixed_value f b)) old new) (sym h)
+    (subst (λ made. Puts as_lines (fixed_lines f (occurrence path i) (fixed_value f b)) made shown) g (subst (λ inner. Puts as_lines (fixed_lines f inner (fixed_value f b)) made shown) e p))
 
 pub ruleset occurrences_shown = occurrence_shown

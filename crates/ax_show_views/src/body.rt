@@ -15,12 +15,10 @@ use ax_model::category_digits;
 use ax_text::Lister;
 use ax_uap::UapItems;
 use ax_values::DecodeError;
-use std::alloc::Global;
 
 /// Puts the lines of the records of a body on a listing, over the items of a specification without flaw and the mask of
 /// its UAP. Fault is the first fault of the body, by its bits; what was put on the listing before is then of no use.
 pub fn show_records(
-    alloc: Global,
     lister: &mut Lister,
     items: &UapItems<'_>,
     mask: &SlotMask,
@@ -31,14 +29,14 @@ pub fn show_records(
     requires mask { IsMaskOf (record_slot_list (spec_tree items.now.spec.now)) mask.now }
     requires body { length body.now ≤ longest_body }
     requires some { 1 ≤ length body.now }
-    ensures ok { OnOk result (ShowsRecords (spec_tree items.now.spec.now) body.now lister.old.out.items lister.new.out.items) }
+    ensures ok { OnOk result (ShowsRecords (spec_tree items.now.spec.now) body.now lister.old.out lister.new.out) }
     ensures err { IfErr result (IsFaultOf (IsBodyFault (spec_tree items.now.spec.now) body.now)) }
 {
     let path = category_digits(items.spec().category);
     let mut at = 0;
     let mut number = 0;
     while (at as usize) < body.len() {
-        at = show_record(alloc, lister, items, mask, number, body, at, &path)?;
+        at = show_record(lister, items, mask, number, body, at, &path)?;
         number += 1;
     }
     Ok(())

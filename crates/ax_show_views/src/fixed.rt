@@ -1,6 +1,6 @@
 //! The lines of fixed kinds, from their bits: elements, groups and their members.
-ghost use Rattle.std.specs.Prelude.{◌≡◌, ◌+◌, ◌*◌, ◌^◌, ◌<◌, ◌≤◌, length, drop, take, OnOk};
-ghost use Rattle.ax_bits.specs.Bits.{bits, number_of};
+ghost use Rattle.std.specs.Prelude.{◌≡◌, ◌+◌, ◌*◌, ◌/◌, ◌%◌, ◌^◌, ◌<◌, ◌≤◌, length, drop, take, OnOk};
+ghost use Rattle.ax_bits.specs.Bits.{bits, number_of, word};
 ghost use Rattle.ax_model.specs.InBounds.{IsWidth, FixedInBounds, MembersInBounds};
 ghost use Rattle.ax_model.specs.Paths as Paths;
 ghost use Rattle.ax_model.specs.Plain.{fixed_tree, member_tree, members_tree};
@@ -15,7 +15,31 @@ ghost use Rattle.ax_show_views.specs.Shown.{member_width, member_value, MemberIn
 use ax_bits::bits_at;
 use ax_model::{Fixed, Member, Members, Name};
 use ax_text::Lister;
-use std::alloc::{AllocError, Global};
+use std::alloc::AllocError;
+
+/// The `count` bits of an octet above its `below` lowest.
+#[tactic(auto, using(ax_bits::proofs::Steps::mask_octet))]
+fn piece_of(octet: u8, below: u32, count: u32) -> u8
+    requires { below + count ≤ 8 }
+    ensures value { result ≡ octet / 2 ^ below % 2 ^ count }
+    ensures below { result < 2 ^ count }
+{
+    (octet as u32 >> below & ((1 << count) - 1)) as u8
+}
+
+/// The number in the `width` bits from bit `at` of the body on. Most stand in one octet.
+fn number_in(body: &[u8], at: u32, width: u32) -> u128
+    requires width { IsWidth width }
+    requires within { at + width ≤ 8 * length body.now }
+    ensures number { word width result ≡ take width (drop at (bits body.now)) }
+    ensures below { result < 2 ^ width }
+{
+    let offset = at % 8;
+    if offset + width > 8 {
+        return bits_at(body, at, width);
+    }
+    u128::from(piece_of(body[(at / 8) as usize], 8 - offset - width, width))
+}
 
 /// The number in the `width` bits from bit `at` of the body on, which is moved after them.
 fn number_at(body: &[u8], at: &mut u32, width: u32) -> u128
@@ -26,7 +50,7 @@ fn number_at(body: &[u8], at: &mut u32, width: u32) -> u128
     ensures fits { result < 2 ^ width }
     ensures at { at.new ≡ at.old + width }
 {
-    let number = bits_at(body, *at, width);
+    let number = number_in(body, *at, width);
     *at += width;
     number
 }
@@ -34,7 +58,6 @@ fn number_at(body: &[u8], at: &mut u32, width: u32) -> u128
 /// The lines of the value in the bits from bit `at` of the body on, which is moved after them.
 #[tactic(auto, using(crate::proofs::Members::elements))]
 pub(crate) fn show_fixed(
-    alloc: Global,
     lister: &mut Lister,
     fixed: &Fixed,
     body: &[u8],
@@ -45,7 +68,7 @@ pub(crate) fn show_fixed(
     requires listable { FixedListable (fixed_tree fixed.now) }
     requires within { at.old + width (fixed_tree fixed.now) ≤ 8 * length body.now }
     requires body { length body.now ≤ longest_body }
-    ensures lines { OnOk result (Puts as_lines (fixed_lines (fixed_tree fixed.now) path.now (fixed_value (fixed_tree fixed.now) (drop at.old (bits body.now)))) lister.old.out.items lister.new.out.items) }
+    ensures lines { OnOk result (Puts as_lines (fixed_lines (fixed_tree fixed.now) path.now (fixed_value (fixed_tree fixed.now) (drop at.old (bits body.now)))) lister.old.out lister.new.out) }
     ensures at { OnOk result (at.new ≡ at.old + width (fixed_tree fixed.now)) }
 {
     match fixed {
@@ -53,7 +76,7 @@ pub(crate) fn show_fixed(
             let number = number_at(body, at, *width);
             lister.element(number, *width, content, path)
         }
-        Fixed::Group(members) => show_members(alloc, lister, members, body, at, path),
+        Fixed::Group(members) => show_members(lister, members, body, at, path),
     }
 }
 
@@ -61,7 +84,6 @@ pub(crate) fn show_fixed(
 #[cycle(show_members)]
 #[tactic(auto, using(crate::proofs::Members::members))]
 pub(crate) fn show_members(
-    alloc: Global,
     lister: &mut Lister,
     members: &Members,
     body: &[u8],
@@ -72,11 +94,11 @@ pub(crate) fn show_members(
     requires listable { MembersListable (members_tree members.now) }
     requires within { at.old + members_width (members_tree members.now) ≤ 8 * length body.now }
     requires body { length body.now ≤ longest_body }
-    ensures lines { OnOk result (Puts as_lines (members_lines (members_tree members.now) path.now (members_value (members_tree members.now) (drop at.old (bits body.now)))) lister.old.out.items lister.new.out.items) }
+    ensures lines { OnOk result (Puts as_lines (members_lines (members_tree members.now) path.now (members_value (members_tree members.now) (drop at.old (bits body.now)))) lister.old.out lister.new.out) }
     ensures at { OnOk result (at.new ≡ at.old + members_width (members_tree members.now)) }
 {
     for member in members.as_slice() {
-        show_member(alloc, lister, member, body, at, path)?;
+        show_member(lister, member, body, at, path)?;
     }
     Ok(())
 }
@@ -84,7 +106,6 @@ pub(crate) fn show_members(
 #[cycle(show_members)]
 #[tactic(auto, using(crate::proofs::Members::elements))]
 fn show_member(
-    alloc: Global,
     lister: &mut Lister,
     member: &Member,
     body: &[u8],
@@ -95,11 +116,11 @@ fn show_member(
     requires listable { MemberListable (member_tree member.now) }
     requires within { at.old + member_width (member_tree member.now) ≤ 8 * length body.now }
     requires body { length body.now ≤ longest_body }
-    ensures lines { OnOk result (Puts as_lines (member_lines (member_tree member.now) path.now (member_value (member_tree member.now) (drop at.old (bits body.now)))) lister.old.out.items lister.new.out.items) }
+    ensures lines { OnOk result (Puts as_lines (member_lines (member_tree member.now) path.now (member_value (member_tree member.now) (drop at.old (bits body.now)))) lister.old.out lister.new.out) }
     ensures at { OnOk result (at.new ≡ at.old + member_width (member_tree member.now)) }
 {
     match member {
-        Member::Named { name, fixed } => show_named(alloc, lister, name, fixed, body, at, path),
+        Member::Named { name, fixed } => show_named(lister, name, fixed, body, at, path),
         Member::Spare { width } => {
             let number = number_at(body, at, *width);
             lister.spare_under(number, path)
@@ -110,8 +131,7 @@ fn show_member(
 /// The lines of a member of that name. An element's path isn't made: its line is put together on the listing.
 #[cycle(show_members)]
 #[tactic(auto, using(crate::proofs::Members::elements))]
-fn show_named(
-    alloc: Global,
+pub(crate) fn show_named(
     lister: &mut Lister,
     name: &Name,
     fixed: &Fixed,
@@ -123,7 +143,7 @@ fn show_named(
     requires listable { FixedListable (fixed_tree fixed.now) }
     requires within { at.old + width (fixed_tree fixed.now) ≤ 8 * length body.now }
     requires body { length body.now ≤ longest_body }
-    ensures lines { OnOk result (Puts as_lines (fixed_lines (fixed_tree fixed.now) (Paths.at path.now name.now) (fixed_value (fixed_tree fixed.now) (drop at.old (bits body.now)))) lister.old.out.items lister.new.out.items) }
+    ensures lines { OnOk result (Puts as_lines (fixed_lines (fixed_tree fixed.now) (Paths.at path.now name.now) (fixed_value (fixed_tree fixed.now) (drop at.old (bits body.now)))) lister.old.out lister.new.out) }
     ensures at { OnOk result (at.new ≡ at.old + width (fixed_tree fixed.now)) }
 {
     match fixed {
@@ -132,8 +152,10 @@ fn show_named(
             lister.element_under(number, *width, content, path, name.octets())
         }
         Fixed::Group(members) => {
-            let inner = ax_text::at(alloc, path, name.octets())?;
-            show_members(alloc, lister, members, body, at, inner.as_slice())
+            let inner = lister.path_at(path, name.octets())?;
+            show_members(lister, members, body, at, inner.as_slice())?;
+            lister.keep(inner);
+            Ok(())
         }
     }
 }

@@ -2,6 +2,7 @@
 ghost use Rattle.std.specs.Prelude.{◌≡◌, ◌+◌, ◌*◌, ◌<◌, ◌≤◌, length, map, codes, IfOk, IfErr};
 ghost use Rattle.ax_bits.specs.Bits.{AreBits};
 ghost use Rattle.ax_model.specs.InBounds.{InBounds, SlotsInBounds};
+ghost use Rattle.ax_model.specs.Paths as Paths;
 ghost use Rattle.ax_model.specs.Plain.{kind_tree, slot_tree, slots_tree};
 ghost use Rattle.ax_model.specs.Sizes.{longest_body};
 ghost use Rattle.ax_model.specs.Tree as Tree;
@@ -11,17 +12,15 @@ ghost use Rattle.ax_text.specs.ShowText.{kind_lines};
 ghost use Rattle.ax_values.specs.SlotReading.{HasFailed, HasSlotFailed};
 ghost use Rattle.ax_show_views.specs.Shown.{Shows, ShowsCounted, IsSlotShown};
 
-use crate::units::{show_by_fx, show_extended, show_single};
+use crate::units::{show_alone, show_by_fx, show_extended, show_single};
 use ax_fspec::{Presence, read_presence};
-use ax_model::{BodyCause, BodyFault, Kind, Slot, Slots};
-use ax_text::{Lister, occurrence};
+use ax_model::{BodyCause, BodyFault, Kind, Name, Slot, Slots};
+use ax_text::Lister;
 use ax_values::{DecodeError, octet_at, slots_mask};
-use std::alloc::Global;
 
 /// The lines of the value of a kind that begins at octet `at` of the body. Ok is the octet after it.
 #[cycle(show_kind)]
 pub(crate) fn show_value(
-    alloc: Global,
     lister: &mut Lister,
     kind: &Kind,
     body: &[u8],
@@ -32,16 +31,16 @@ pub(crate) fn show_value(
     requires listable { KindListable (kind_tree kind.now) }
     requires body { length body.now ≤ longest_body }
     requires at { at ≤ length body.now }
-    ensures ok { IfOk result (λ end. Shows (kind_lines (kind_tree kind.now) path.now) (kind_read (kind_tree kind.now) body.now at) body.now at end lister.old.out.items lister.new.out.items) }
+    ensures ok { IfOk result (λ end. Shows (kind_lines (kind_tree kind.now) path.now) (kind_read (kind_tree kind.now) body.now at) body.now at end lister.old.out lister.new.out) }
     ensures err { IfErr result (λ e. HasFailed (kind_read (kind_tree kind.now) body.now at) at e) }
 {
     match kind {
-        Kind::Fixed(fixed) => show_single(alloc, lister, fixed, body, at, path),
-        Kind::Extended(parts) => show_extended(alloc, lister, parts, body, at, path),
-        Kind::Counted(inner) => show_counted(alloc, lister, inner, body, at, path),
-        Kind::ByFx(fixed) => show_by_fx(alloc, lister, fixed, body, at, path),
+        Kind::Fixed(fixed) => show_alone(lister, fixed, body, at, path),
+        Kind::Extended(parts) => show_extended(lister, parts, body, at, path),
+        Kind::Counted(inner) => show_counted(lister, inner, body, at, path),
+        Kind::ByFx(fixed) => show_by_fx(lister, fixed, body, at, path),
         Kind::Explicit => show_explicit(lister, body, at, path),
-        Kind::Compound(slots) => show_compound(alloc, lister, slots, body, at, path),
+        Kind::Compound(slots) => show_compound(lister, slots, body, at, path),
     }
 }
 
@@ -50,7 +49,7 @@ fn show_explicit(lister: &mut Lister, body: &[u8], at: u32, path: &[u8]) -> Resu
     requires bounds { InBounds (Tree.explicit) }
     requires body { length body.now ≤ longest_body }
     requires at { at ≤ length body.now }
-    ensures ok { IfOk result (λ end. Shows (kind_lines (Tree.explicit) path.now) (kind_read (Tree.explicit) body.now at) body.now at end lister.old.out.items lister.new.out.items) }
+    ensures ok { IfOk result (λ end. Shows (kind_lines (Tree.explicit) path.now) (kind_read (Tree.explicit) body.now at) body.now at end lister.old.out lister.new.out) }
     ensures err { IfErr result (λ e. HasFailed (kind_read (Tree.explicit) body.now at) at e) }
 {
     let length = octet_at(body, at)?;
@@ -75,7 +74,6 @@ fn show_explicit(lister: &mut Lister, body: &[u8], at: u32, path: &[u8]) -> Resu
 #[cycle(show_kind)]
 #[tactic(auto, using(crate::proofs::Leading::counts))]
 fn show_counted(
-    alloc: Global,
     lister: &mut Lister,
     inner: &Kind,
     body: &[u8],
@@ -86,12 +84,13 @@ fn show_counted(
     requires listable { KindListable (kind_tree inner.now) }
     requires body { length body.now ≤ longest_body }
     requires at { at ≤ length body.now }
-    ensures ok { IfOk result (λ end. Shows (kind_lines (Tree.counted (kind_tree inner.now)) path.now) (kind_read (Tree.counted (kind_tree inner.now)) body.now at) body.now at end lister.old.out.items lister.new.out.items) }
+    ensures ok { IfOk result (λ end. Shows (kind_lines (Tree.counted (kind_tree inner.now)) path.now) (kind_read (Tree.counted (kind_tree inner.now)) body.now at) body.now at end lister.old.out lister.new.out) }
     ensures err { IfErr result (λ e. HasFailed (kind_read (Tree.counted (kind_tree inner.now)) body.now at) at e) }
 {
-    let start = lister.len();
-    let (end, count) = show_each(alloc, lister, inner, body, at, path)?;
-    lister.count_before(start, b"occurrences", count, path)?;
+    lister.count(b"occurrences", 0, path)?;
+    let line = lister.len();
+    let (end, count) = show_each(lister, inner, body, at, path)?;
+    lister.set_count(line, count)?;
     Ok(end)
 }
 
@@ -99,7 +98,6 @@ fn show_counted(
 #[cycle(show_kind)]
 #[tactic(auto, using(ax_values::proofs::Continuing::errors))]
 fn show_each(
-    alloc: Global,
     lister: &mut Lister,
     inner: &Kind,
     body: &[u8],
@@ -110,14 +108,15 @@ fn show_each(
     requires listable { KindListable (kind_tree inner.now) }
     requires body { length body.now ≤ longest_body }
     requires at { at ≤ length body.now }
-    ensures ok { IfOk result (λ r. ShowsCounted (Tree.counted (kind_tree inner.now)) path.now (codes "occurrences") body.now at r.0 lister.old.out.items lister.new.out.items r.1) }
+    ensures ok { IfOk result (λ r. ShowsCounted (Tree.counted (kind_tree inner.now)) path.now (codes "occurrences") body.now at r.0 lister.old.out lister.new.out r.1) }
     ensures err { IfErr result (λ e. HasFailed (kind_read (Tree.counted (kind_tree inner.now)) body.now at) at e) }
 {
     let count = octet_at(body, at)?;
     let mut here = at + 1;
     for number in 0..u32::from(count) {
-        let each = occurrence(alloc, path, number)?;
-        here = show_value(alloc, lister, inner, body, here, each.as_slice())?;
+        let each = lister.path_of_occurrence(path, number)?;
+        here = show_value(lister, inner, body, here, each.as_slice())?;
+        lister.keep(each);
     }
     Ok((here, u32::from(count)))
 }
@@ -126,7 +125,6 @@ fn show_each(
 #[cycle(show_kind)]
 #[tactic(auto, using(crate::proofs::Leading::counts))]
 fn show_compound(
-    alloc: Global,
     lister: &mut Lister,
     slots: &Slots,
     body: &[u8],
@@ -137,12 +135,13 @@ fn show_compound(
     requires listable { SlotsListable (slots_tree slots.now) }
     requires body { length body.now ≤ longest_body }
     requires at { at ≤ length body.now }
-    ensures ok { IfOk result (λ end. Shows (kind_lines (Tree.compound (slots_tree slots.now)) path.now) (kind_read (Tree.compound (slots_tree slots.now)) body.now at) body.now at end lister.old.out.items lister.new.out.items) }
+    ensures ok { IfOk result (λ end. Shows (kind_lines (Tree.compound (slots_tree slots.now)) path.now) (kind_read (Tree.compound (slots_tree slots.now)) body.now at) body.now at end lister.old.out lister.new.out) }
     ensures err { IfErr result (λ e. HasFailed (kind_read (Tree.compound (slots_tree slots.now)) body.now at) at e) }
 {
-    let start = lister.len();
-    let (end, count) = show_subitems(alloc, lister, slots, body, at, path)?;
-    lister.count_before(start, b"subitems", count, path)?;
+    lister.count(b"subitems", 0, path)?;
+    let line = lister.len();
+    let (end, count) = show_subitems(lister, slots, body, at, path)?;
+    lister.set_count(line, count)?;
     Ok(end)
 }
 
@@ -150,7 +149,6 @@ fn show_compound(
 #[cycle(show_kind)]
 #[tactic(auto, using(ax_values::proofs::Continuing::errors))]
 fn show_subitems(
-    alloc: Global,
     lister: &mut Lister,
     slots: &Slots,
     body: &[u8],
@@ -161,7 +159,7 @@ fn show_subitems(
     requires listable { SlotsListable (slots_tree slots.now) }
     requires body { length body.now ≤ longest_body }
     requires at { at ≤ length body.now }
-    ensures ok { IfOk result (λ r. ShowsCounted (Tree.compound (slots_tree slots.now)) path.now (codes "subitems") body.now at r.0 lister.old.out.items lister.new.out.items r.1) }
+    ensures ok { IfOk result (λ r. ShowsCounted (Tree.compound (slots_tree slots.now)) path.now (codes "subitems") body.now at r.0 lister.old.out lister.new.out r.1) }
     ensures err { IfErr result (λ e. HasFailed (kind_read (Tree.compound (slots_tree slots.now)) body.now at) at e) }
 {
     let mut left = Presence::empty();
@@ -169,7 +167,7 @@ fn show_subitems(
     let mut count = 0;
     while let Some(number) = left.take_first() {
         let slot = &slots.as_slice()[number as usize - 1];
-        here = show_slot(alloc, lister, slot, body, here, path)?;
+        here = show_slot(lister, slot, body, here, path)?;
         count += 1;
     }
     Ok((here, count))
@@ -179,7 +177,6 @@ fn show_subitems(
 #[cycle(show_kind)]
 #[tactic(auto, using(ax_values::proofs::Continuing::errors, crate::proofs::SlotLines::slot_ways))]
 fn show_slot(
-    alloc: Global,
     lister: &mut Lister,
     slot: &Slot,
     body: &[u8],
@@ -190,15 +187,42 @@ fn show_slot(
     requires listable { SlotListable (slot_tree slot.now) }
     requires body { length body.now ≤ longest_body }
     requires at { at ≤ length body.now }
-    ensures ok { IfOk result (λ end. IsSlotShown (slot_tree slot.now) path.now body.now at end lister.old.out.items lister.new.out.items) }
+    ensures ok { IfOk result (λ end. IsSlotShown (slot_tree slot.now) path.now body.now at end lister.old.out lister.new.out) }
     ensures err { IfErr result (λ e. HasSlotFailed (slot_tree slot.now) body.now at e) }
 {
     match slot {
         Slot::Spare => Ok(at),
         Slot::Sub { name, kind } => {
-            let inner = ax_text::at(alloc, path, name.octets())?;
-            let end = show_value(alloc, lister, kind, body, at, inner.as_slice())?;
+            let end = show_under(lister, name, kind, body, at, path)?;
             Ok(end)
         }
     }
+}
+
+/// The lines of the value of a kind under a path and its name. Ok is the octet after it. A fixed kind's path is made only
+/// where it has members.
+#[cycle(show_kind)]
+#[tactic(auto, using(ax_values::proofs::Continuing::errors, crate::proofs::SlotLines::under_ways))]
+pub(crate) fn show_under(
+    lister: &mut Lister,
+    name: &Name,
+    kind: &Kind,
+    body: &[u8],
+    at: u32,
+    path: &[u8],
+) -> Result<u32, DecodeError>
+    requires bounds { InBounds (kind_tree kind.now) }
+    requires listable { KindListable (kind_tree kind.now) }
+    requires body { length body.now ≤ longest_body }
+    requires at { at ≤ length body.now }
+    ensures ok { IfOk result (λ end. Shows (kind_lines (kind_tree kind.now) (Paths.at path.now name.now)) (kind_read (kind_tree kind.now) body.now at) body.now at end lister.old.out lister.new.out) }
+    ensures err { IfErr result (λ e. HasFailed (kind_read (kind_tree kind.now) body.now at) at e) }
+{
+    if let Kind::Fixed(fixed) = kind {
+        return show_single(lister, name, fixed, body, at, path);
+    }
+    let inner = lister.path_at(path, name.octets())?;
+    let end = show_value(lister, kind, body, at, inner.as_slice())?;
+    lister.keep(inner);
+    Ok(end)
 }

@@ -11,18 +11,16 @@ ghost use Rattle.ax_text.specs.ShowText.{entries_lines, record_lines};
 ghost use Rattle.ax_values.specs.SlotReading.{HasFailed, HasSlotFailed};
 ghost use Rattle.ax_show_views.specs.Shown.{ShowsEntries, IsSlotShown};
 
-use crate::kinds::show_value;
+use crate::kinds::show_under;
 use ax_fspec::{Presence, SlotMask, read_presence};
 use ax_text::Lister;
 use ax_uap::UapItems;
 use ax_values::DecodeError;
-use std::alloc::Global;
 
 /// The lines of the record of that number that begins at octet `at` of the body, under the path of its category. Ok is
 /// the octet after it.
 #[tactic(auto, using(ax_values::proofs::Continuing::errors, crate::proofs::RecordLines::record_ways))]
 pub(crate) fn show_record(
-    alloc: Global,
     lister: &mut Lister,
     items: &UapItems<'_>,
     mask: &SlotMask,
@@ -37,18 +35,17 @@ pub(crate) fn show_record(
     requires path { path.now ≡ three_digits items.now.spec.now.category }
     requires body { length body.now ≤ longest_body }
     requires at { at ≤ length body.now }
-    ensures ok { IfOk result (λ end. ShowsEntries (spec_tree items.now.spec.now) (record_lines (spec_tree items.now.spec.now) number) body.now at end lister.old.out.items lister.new.out.items) }
+    ensures ok { IfOk result (λ end. ShowsEntries (spec_tree items.now.spec.now) (record_lines (spec_tree items.now.spec.now) number) body.now at end lister.old.out lister.new.out) }
     ensures err { IfErr result (λ e. HasFailed (kind_read (record_kind (spec_tree items.now.spec.now)) body.now at) at e) }
 {
     lister.record_front(number)?;
-    let end = show_items(alloc, lister, items, mask, body, at, path)?;
+    let end = show_items(lister, items, mask, body, at, path)?;
     Ok(end)
 }
 
 /// The lines of the items of a record that begins at octet `at`, under a path. Ok is the octet after them.
 #[tactic(auto, using(ax_values::proofs::Continuing::errors))]
 fn show_items(
-    alloc: Global,
     lister: &mut Lister,
     items: &UapItems<'_>,
     mask: &SlotMask,
@@ -61,13 +58,13 @@ fn show_items(
     requires mask { IsMaskOf (record_slot_list (spec_tree items.now.spec.now)) mask.now }
     requires body { length body.now ≤ longest_body }
     requires at { at ≤ length body.now }
-    ensures ok { IfOk result (λ end. ShowsEntries (spec_tree items.now.spec.now) (entries_lines path.now 1 (record_slots (spec_tree items.now.spec.now))) body.now at end lister.old.out.items lister.new.out.items) }
+    ensures ok { IfOk result (λ end. ShowsEntries (spec_tree items.now.spec.now) (entries_lines path.now 1 (record_slots (spec_tree items.now.spec.now))) body.now at end lister.old.out lister.new.out) }
     ensures err { IfErr result (λ e. HasFailed (kind_read (record_kind (spec_tree items.now.spec.now)) body.now at) at e) }
 {
     let mut left = Presence::empty();
     let mut here = read_presence(mask, body, at, &mut left)?;
     while let Some(frn) = left.take_first() {
-        here = show_item(alloc, lister, items, frn, body, here, path)?;
+        here = show_item(lister, items, frn, body, here, path)?;
     }
     Ok(here)
 }
@@ -75,7 +72,6 @@ fn show_items(
 /// The lines of the item of a field reference number, under a path. Ok is the octet after it.
 #[tactic(auto, using(ax_values::proofs::Continuing::errors, crate::proofs::RecordLines::item_ways))]
 fn show_item(
-    alloc: Global,
     lister: &mut Lister,
     items: &UapItems<'_>,
     frn: u32,
@@ -87,13 +83,12 @@ fn show_item(
     requires listable { SlotListable (slot_of_frn frn items.now.spec.now) }
     requires body { length body.now ≤ longest_body }
     requires at { at ≤ length body.now }
-    ensures ok { IfOk result (λ end. IsSlotShown (slot_of_frn frn items.now.spec.now) path.now body.now at end lister.old.out.items lister.new.out.items) }
+    ensures ok { IfOk result (λ end. IsSlotShown (slot_of_frn frn items.now.spec.now) path.now body.now at end lister.old.out lister.new.out) }
     ensures err { IfErr result (λ e. HasSlotFailed (slot_of_frn frn items.now.spec.now) body.now at e) }
 {
     let Some(item) = items.item(frn) else {
         return Ok(at);
     };
-    let inner = ax_text::at(alloc, path, item.name.octets())?;
-    let end = show_value(alloc, lister, &item.kind, body, at, inner.as_slice())?;
+    let end = show_under(lister, &item.name, &item.kind, body, at, path)?;
     Ok(end)
 }

@@ -3,6 +3,7 @@ ghost use Rattle.std.specs.Prelude.{◌≡◌, ◌+◌, ◌*◌, ◌<◌, ◌≤
 ghost use Rattle.std.specs.List.{AllByRecursion};
 ghost use Rattle.ax_bits.specs.Bits.{bits};
 ghost use Rattle.ax_model.specs.InBounds.{InBounds, FixedInBounds};
+ghost use Rattle.ax_model.specs.Paths as Paths;
 ghost use Rattle.ax_model.specs.Plain.{fixed_tree, part_tree};
 ghost use Rattle.ax_model.specs.Reader.{fixed_value};
 ghost use Rattle.ax_model.specs.Sizes.{longest_body};
@@ -15,16 +16,15 @@ ghost use Rattle.ax_text.specs.ShowText.{fixed_lines, kind_lines, occurrence};
 ghost use Rattle.ax_values.specs.SlotReading.{HasFailed};
 ghost use Rattle.ax_show_views.specs.Shown.{Shows, ShowsCounted};
 
-use crate::fixed::{show_fixed, show_members};
-use ax_model::{BodyCause, BodyFault, Fixed, Parts};
-use ax_text::{Lister, occurrence};
+use crate::fixed::{show_fixed, show_members, show_named};
+use ax_model::{BodyCause, BodyFault, Fixed, Name, Parts};
+use ax_text::Lister;
 use ax_values::{DecodeError, has_fx, unit_end};
-use std::alloc::{AllocError, Global};
+use std::alloc::AllocError;
 
 /// The lines of a fixed kind that stands by itself. Ok is the octet after it.
 #[tactic(auto, using(ax_values::proofs::Continuing::errors, ax_reader::proofs::AtOctets::fixed_fails))]
-pub(crate) fn show_single(
-    alloc: Global,
+pub(crate) fn show_alone(
     lister: &mut Lister,
     fixed: &Fixed,
     body: &[u8],
@@ -35,19 +35,41 @@ pub(crate) fn show_single(
     requires listable { FixedListable (fixed_tree fixed.now) }
     requires body { length body.now ≤ longest_body }
     requires at { at ≤ length body.now }
-    ensures ok { IfOk result (λ end. Shows (kind_lines (Tree.fixed (fixed_tree fixed.now)) path.now) (kind_read (Tree.fixed (fixed_tree fixed.now)) body.now at) body.now at end lister.old.out.items lister.new.out.items) }
+    ensures ok { IfOk result (λ end. Shows (kind_lines (Tree.fixed (fixed_tree fixed.now)) path.now) (kind_read (Tree.fixed (fixed_tree fixed.now)) body.now at) body.now at end lister.old.out lister.new.out) }
     ensures err { IfErr result (λ e. HasFailed (kind_read (Tree.fixed (fixed_tree fixed.now)) body.now at) at e) }
 {
     let end = unit_end(body, at, fixed.width() as u32)?;
     let mut bit = 8 * at;
-    show_fixed(alloc, lister, fixed, body, &mut bit, path)?;
+    show_fixed(lister, fixed, body, &mut bit, path)?;
+    Ok(end)
+}
+
+/// The lines of a fixed kind under a path and its name. Ok is the octet after it.
+#[tactic(auto, using(ax_values::proofs::Continuing::errors, ax_reader::proofs::AtOctets::fixed_fails))]
+pub(crate) fn show_single(
+    lister: &mut Lister,
+    name: &Name,
+    fixed: &Fixed,
+    body: &[u8],
+    at: u32,
+    path: &[u8],
+) -> Result<u32, DecodeError>
+    requires bounds { InBounds (Tree.fixed (fixed_tree fixed.now)) }
+    requires listable { FixedListable (fixed_tree fixed.now) }
+    requires body { length body.now ≤ longest_body }
+    requires at { at ≤ length body.now }
+    ensures ok { IfOk result (λ end. Shows (kind_lines (Tree.fixed (fixed_tree fixed.now)) (Paths.at path.now name.now)) (kind_read (Tree.fixed (fixed_tree fixed.now)) body.now at) body.now at end lister.old.out lister.new.out) }
+    ensures err { IfErr result (λ e. HasFailed (kind_read (Tree.fixed (fixed_tree fixed.now)) body.now at) at e) }
+{
+    let end = unit_end(body, at, fixed.width() as u32)?;
+    let mut bit = 8 * at;
+    show_named(lister, name, fixed, body, &mut bit, path)?;
     Ok(end)
 }
 
 /// The lines of the parts that are present. Ok is the octet after them, and their number.
 #[tactic(auto, using(ax_values::proofs::Continuing::errors))]
 fn show_parts(
-    alloc: Global,
     lister: &mut Lister,
     parts: &Parts,
     body: &[u8],
@@ -58,7 +80,7 @@ fn show_parts(
     requires listable { AllByRecursion MembersListable (map part_tree parts.now) }
     requires body { length body.now ≤ longest_body }
     requires at { at ≤ length body.now }
-    ensures ok { IfOk result (λ r. ShowsCounted (Tree.extended (map part_tree parts.now)) path.now (codes "parts") body.now at r.0 lister.old.out.items lister.new.out.items r.1) }
+    ensures ok { IfOk result (λ r. ShowsCounted (Tree.extended (map part_tree parts.now)) path.now (codes "parts") body.now at r.0 lister.old.out lister.new.out r.1) }
     ensures err { IfErr result (λ e. HasFailed (kind_read (Tree.extended (map part_tree parts.now)) body.now at) at e) }
 {
     let mut here = at;
@@ -66,7 +88,7 @@ fn show_parts(
     for part in parts.as_slice() {
         let end = unit_end(body, here, part.width() as u32 + 1)?;
         let mut bit = 8 * here;
-        show_members(alloc, lister, &part.members, body, &mut bit, path)?;
+        show_members(lister, &part.members, body, &mut bit, path)?;
         count += 1;
         if !has_fx(body, bit) {
             return Ok((end, count));
@@ -82,7 +104,6 @@ fn show_parts(
 /// An extended item: how many parts are present, and their members. Ok is the octet after it.
 #[tactic(auto, using(crate::proofs::Leading::counts))]
 pub(crate) fn show_extended(
-    alloc: Global,
     lister: &mut Lister,
     parts: &Parts,
     body: &[u8],
@@ -93,19 +114,19 @@ pub(crate) fn show_extended(
     requires listable { AllByRecursion MembersListable (map part_tree parts.now) }
     requires body { length body.now ≤ longest_body }
     requires at { at ≤ length body.now }
-    ensures ok { IfOk result (λ end. Shows (kind_lines (Tree.extended (map part_tree parts.now)) path.now) (kind_read (Tree.extended (map part_tree parts.now)) body.now at) body.now at end lister.old.out.items lister.new.out.items) }
+    ensures ok { IfOk result (λ end. Shows (kind_lines (Tree.extended (map part_tree parts.now)) path.now) (kind_read (Tree.extended (map part_tree parts.now)) body.now at) body.now at end lister.old.out lister.new.out) }
     ensures err { IfErr result (λ e. HasFailed (kind_read (Tree.extended (map part_tree parts.now)) body.now at) at e) }
 {
-    let start = lister.len();
-    let (end, count) = show_parts(alloc, lister, parts, body, at, path)?;
-    lister.count_before(start, b"parts", count, path)?;
+    lister.count(b"parts", 0, path)?;
+    let line = lister.len();
+    let (end, count) = show_parts(lister, parts, body, at, path)?;
+    lister.set_count(line, count)?;
     Ok(end)
 }
 
 /// The lines of an occurrence of that number.
 #[tactic(auto, using(crate::proofs::UnitLines::occurrences_shown))]
 fn show_occurrence(
-    alloc: Global,
     lister: &mut Lister,
     fixed: &Fixed,
     number: u32,
@@ -117,17 +138,18 @@ fn show_occurrence(
     requires listable { FixedListable (fixed_tree fixed.now) }
     requires within { at.old + width (fixed_tree fixed.now) ≤ 8 * length body.now }
     requires body { length body.now ≤ longest_body }
-    ensures lines { OnOk result (Puts as_lines (fixed_lines (fixed_tree fixed.now) (occurrence path.now number) (fixed_value (fixed_tree fixed.now) (drop at.old (bits body.now)))) lister.old.out.items lister.new.out.items) }
+    ensures lines { OnOk result (Puts as_lines (fixed_lines (fixed_tree fixed.now) (occurrence path.now number) (fixed_value (fixed_tree fixed.now) (drop at.old (bits body.now)))) lister.old.out lister.new.out) }
     ensures at { OnOk result (at.new ≡ at.old + width (fixed_tree fixed.now)) }
 {
-    let inner = occurrence(alloc, path, number)?;
-    show_fixed(alloc, lister, fixed, body, at, inner.as_slice())
+    let inner = lister.path_of_occurrence(path, number)?;
+    show_fixed(lister, fixed, body, at, inner.as_slice())?;
+    lister.keep(inner);
+    Ok(())
 }
 
 /// The lines of the occurrences by FX. Ok is the octet after them, and their number.
 #[tactic(auto, using(ax_values::proofs::Continuing::errors))]
 fn show_run(
-    alloc: Global,
     lister: &mut Lister,
     fixed: &Fixed,
     body: &[u8],
@@ -138,7 +160,7 @@ fn show_run(
     requires listable { FixedListable (fixed_tree fixed.now) }
     requires body { length body.now ≤ longest_body }
     requires at { at ≤ length body.now }
-    ensures ok { IfOk result (λ r. ShowsCounted (Tree.by_fx (fixed_tree fixed.now)) path.now (codes "occurrences") body.now at r.0 lister.old.out.items lister.new.out.items r.1) }
+    ensures ok { IfOk result (λ r. ShowsCounted (Tree.by_fx (fixed_tree fixed.now)) path.now (codes "occurrences") body.now at r.0 lister.old.out lister.new.out r.1) }
     ensures err { IfErr result (λ e. HasFailed (kind_read (Tree.by_fx (fixed_tree fixed.now)) body.now at) at e) }
 {
     let width = fixed.width() as u32;
@@ -147,7 +169,7 @@ fn show_run(
     loop {
         let end = unit_end(body, here, width + 1)?;
         let mut bit = 8 * here;
-        show_occurrence(alloc, lister, fixed, count, body, &mut bit, path)?;
+        show_occurrence(lister, fixed, count, body, &mut bit, path)?;
         count += 1;
         if !has_fx(body, bit) {
             return Ok((end, count));
@@ -159,7 +181,6 @@ fn show_run(
 /// A by-FX item: how many occurrences there are, and each of them. Ok is the octet after it.
 #[tactic(auto, using(crate::proofs::Leading::counts))]
 pub(crate) fn show_by_fx(
-    alloc: Global,
     lister: &mut Lister,
     fixed: &Fixed,
     body: &[u8],
@@ -170,11 +191,12 @@ pub(crate) fn show_by_fx(
     requires listable { FixedListable (fixed_tree fixed.now) }
     requires body { length body.now ≤ longest_body }
     requires at { at ≤ length body.now }
-    ensures ok { IfOk result (λ end. Shows (kind_lines (Tree.by_fx (fixed_tree fixed.now)) path.now) (kind_read (Tree.by_fx (fixed_tree fixed.now)) body.now at) body.now at end lister.old.out.items lister.new.out.items) }
+    ensures ok { IfOk result (λ end. Shows (kind_lines (Tree.by_fx (fixed_tree fixed.now)) path.now) (kind_read (Tree.by_fx (fixed_tree fixed.now)) body.now at) body.now at end lister.old.out lister.new.out) }
     ensures err { IfErr result (λ e. HasFailed (kind_read (Tree.by_fx (fixed_tree fixed.now)) body.now at) at e) }
 {
-    let start = lister.len();
-    let (end, count) = show_run(alloc, lister, fixed, body, at, path)?;
-    lister.count_before(start, b"occurrences", count, path)?;
+    lister.count(b"occurrences", 0, path)?;
+    let line = lister.len();
+    let (end, count) = show_run(lister, fixed, body, at, path)?;
+    lister.set_count(line, count)?;
     Ok(end)
 }

@@ -1,70 +1,69 @@
 //! One block.
 ghost use Rattle.std.specs.Prelude.{◌≡◌, ◌<◌, ◌≤◌, [], length, IfErr, OnOk};
 ghost use Rattle.ax_blocks.specs.Reader.{raw_tree};
-ghost use Rattle.ax_model.specs.OfCode.{HasNoFlaw};
+ghost use Rattle.ax_model.specs.Flaws.{NoFlaw};
 ghost use Rattle.ax_model.specs.Plain.{spec_tree, catalogue_tree};
 ghost use Rattle.ax_model.specs.Sizes.{longest_block};
+ghost use Rattle.ax_reader.specs.Reading.{IsMaskOf, record_slot_list};
 ghost use Rattle.ax_stream.specs.Made.{IsMadeOf, IsMadeRead, NothingMade, NothingMadeRead, IsWithinBody};
 ghost use Rattle.ax_tables.specs.Standing.{StandsFor, StandForEach};
 ghost use Rattle.ax_text.specs.ShowText.{ShowText, OpaqueShown};
+ghost use Rattle.ax_text_view_work.specs.Standing.{AreTables};
 ghost use Rattle.ax_values.specs.Decoding.{IsBodyFault, IsFaultOf};
 ghost use Rattle.ax_show_work.specs.Listing.{ListsBody};
 
 use ax_check::Catalogue;
-use ax_model::{RawBlock, Spec};
+use ax_model::RawBlock;
 use ax_show_views::show_records;
 use ax_stream::BlockStop;
 use ax_tables::{Codec, Codecs};
 use ax_text::Lister;
-use ax_uap::UapItems;
-use ax_values::{DecodeError, record_mask};
+use ax_text_view_work::{Table, Tables, table_for};
+use ax_values::DecodeError;
 use ax_view::scan;
 use ax_view_work::lay_view;
-use std::alloc::Global;
 
-/// Lists a body of the specification's category on an empty listing, in a block of that number, with so many octets in its
+/// Lists a body of the table's category on an empty listing, in a block of that number, with so many octets in its
 /// canonical form and so many records.
 #[tactic(auto, using(crate::proofs::Blocks::bodies))]
 fn list_body(
-    alloc: Global,
     lister: &mut Lister,
-    spec: &Spec,
+    table: &Table<'_>,
     number: u64,
     raw: &RawBlock<'_>,
     octets: u32,
     count: u32,
 ) -> Result<(), DecodeError>
-    requires no_flaw { HasNoFlaw spec.now }
-    requires empty { lister.old.out.items ≡ [] }
-    ensures ok { OnOk result (ListsBody (spec_tree spec.now) number raw.now.category octets count raw.now.body.now lister.new.out.items) }
-    ensures err { IfErr result (IsFaultOf (IsBodyFault (spec_tree spec.now) raw.now.body.now)) }
+    requires no_flaw { NoFlaw (spec_tree table.now.items.spec.now) }
+    requires mask { IsMaskOf (record_slot_list (spec_tree table.now.items.spec.now)) table.now.mask }
+    requires empty { lister.old.out ≡ [] }
+    ensures ok { OnOk result (ListsBody (spec_tree table.now.items.spec.now) number raw.now.category octets count raw.now.body.now lister.new.out) }
+    ensures err { IfErr result (IsFaultOf (IsBodyFault (spec_tree table.now.items.spec.now) raw.now.body.now)) }
     ensures small { octets < 4294967296 }
 {
     lister.block_line(number, raw.category, u64::from(octets), count)?;
-    let items = UapItems::of(alloc, spec)?;
-    let mask = record_mask(spec);
-    show_records(alloc, lister, &items, &mask, raw.body)?;
+    show_records(lister, &table.items, &table.mask, raw.body)?;
     Ok(())
 }
 
-/// Lists a block of the specification's category, judged under its codec; or tells the first fault of its body. The canonical
+/// Lists a block of the table's category, judged under its codec; or tells the first fault of its body. The canonical
 /// form is laid in an output as long as the longest block, so that its octets are known.
 #[tactic(auto, using(crate::proofs::Blocks::reads))]
 fn list_read(
-    alloc: Global,
     lister: &mut Lister,
     output: &mut [u8],
     codec: &Codec,
-    spec: &Spec,
+    table: &Table<'_>,
     number: u64,
     raw: &RawBlock<'_>,
 ) -> Result<(), BlockStop>
-    requires no_flaw { HasNoFlaw spec.now }
-    requires stands { StandsFor codec.now (spec_tree spec.now) }
-    requires category { raw.now.category ≡ spec.now.category }
+    requires no_flaw { NoFlaw (spec_tree table.now.items.spec.now) }
+    requires mask { IsMaskOf (record_slot_list (spec_tree table.now.items.spec.now)) table.now.mask }
+    requires stands { StandsFor codec.now (spec_tree table.now.items.spec.now) }
+    requires category { raw.now.category ≡ table.now.items.spec.now.category }
     requires room { length output.old ≡ longest_block }
-    ensures octets { OnOk result (IsMadeRead (λ spec block. ShowText spec block number) (spec_tree spec.now) (raw_tree raw.now) lister.new.out.items) }
-    ensures stop { IfErr result (λ stop. NothingMadeRead (spec_tree spec.now) (raw_tree raw.now) stop) }
+    ensures octets { OnOk result (IsMadeRead (λ spec block. ShowText spec block number) (spec_tree table.now.items.spec.now) (raw_tree raw.now) lister.new.out) }
+    ensures stop { IfErr result (λ stop. NothingMadeRead (spec_tree table.now.items.spec.now) (raw_tree raw.now) stop) }
     ensures room { length output.new ≡ longest_block }
 {
     lister.clear();
@@ -73,40 +72,39 @@ fn list_read(
         Err(fault) => return Err(BlockStop::Fault(fault)),
     };
     let octets = lay_view(&view, output);
-    match list_body(alloc, lister, spec, number, raw, octets, view.count()) {
+    match list_body(lister, table, number, raw, octets, view.count()) {
         Ok(()) => Ok(()),
         Err(DecodeError::Fault(fault)) => Err(BlockStop::Fault(fault)),
         Err(DecodeError::OutOfMemory) => Err(BlockStop::OutOfMemory),
     }
 }
 
-/// Lists a block under the catalogue's specification of its category, by its codec, or as an opaque one; or tells the first
-/// fault of its body.
+/// Lists a block under the catalogue's specification of its category, by its codec and its table, or as an opaque one; or
+/// tells the first fault of its body.
 #[tactic(auto, using(crate::proofs::Blocks::blocks))]
 pub(crate) fn list_block(
-    alloc: Global,
     lister: &mut Lister,
     output: &mut [u8],
     codecs: &Codecs,
+    tables: &Tables<'_>,
     catalogue: &Catalogue,
     number: u64,
     raw: &RawBlock<'_>,
 ) -> Result<(), BlockStop>
     requires sound { StandForEach codecs.now.codecs (catalogue_tree catalogue.now) }
+    requires tables { AreTables tables.now (catalogue_tree catalogue.now) }
     requires room { length output.old ≡ longest_block }
-    ensures octets { OnOk result (IsMadeOf (λ number spec block. ShowText spec block number) (λ number category content. OpaqueShown number category content) (catalogue_tree catalogue.now) number (raw_tree raw.now) lister.new.out.items) }
+    ensures octets { OnOk result (IsMadeOf (λ number spec block. ShowText spec block number) (λ number category content. OpaqueShown number category content) (catalogue_tree catalogue.now) number (raw_tree raw.now) lister.new.out) }
     ensures stop { IfErr result (λ stop. NothingMade (catalogue_tree catalogue.now) (raw_tree raw.now) stop) }
     ensures short { IfErr result IsWithinBody }
     ensures room { length output.new ≡ longest_block }
 {
     match codecs.get(raw.category) {
-        Some(codec) => match catalogue.get(raw.category) {
-            Some(accepted) => {
-                match list_read(alloc, lister, output, codec, accepted.spec(), number, raw) {
-                    Ok(()) => Ok(()),
-                    Err(stop) => Err(stop),
-                }
-            }
+        Some(codec) => match table_for(tables, raw.category) {
+            Some(table) => match list_read(lister, output, codec, table, number, raw) {
+                Ok(()) => Ok(()),
+                Err(stop) => Err(stop),
+            },
             None => unreachable!(),
         },
         None => {

@@ -5,6 +5,7 @@ ghost use Rattle.ax_model.specs.Sizes.{longest_block};
 ghost use Rattle.ax_stream.specs.Made.{tree_command};
 ghost use Rattle.ax_tables.specs.Standing.{StandForEach};
 ghost use Rattle.ax_text.specs.ShowText.{ShowText, OpaqueShown};
+ghost use Rattle.ax_text_view_work.specs.Standing.{AreTables};
 
 use crate::block::list_block;
 use ax_check::Catalogue;
@@ -13,6 +14,7 @@ use ax_outside::Sink;
 use ax_stream::{BlockStop, BlockWork, WorkStop};
 use ax_tables::Codecs;
 use ax_text::Lister;
+use ax_text_view_work::{Tables, tables_of};
 use ax_view_work::blank_output;
 use std::alloc::{AllocError, Global};
 
@@ -20,16 +22,17 @@ use std::alloc::{AllocError, Global};
 /// listing's memory is kept from block to block.
 #[derive(Drop)]
 pub struct ShowViews<'c> {
-    alloc: Global,
+    /// What the tables and the codecs are of: contracts speak of it, the code doesn't.
     catalogue: &'c Catalogue,
     codecs: &'c Codecs,
+    tables: Tables<'c>,
     output: Vec<u8>,
     lister: Lister,
     ghost room: { length output.items ≡ longest_block },
 }
 
 impl<'c> ShowViews<'c> {
-    /// `show` under that catalogue, by its codecs. Err is want of memory.
+    /// `show` under that catalogue, by its codecs. What it needs of each category besides is found here. Err is want of memory.
     pub fn new(
         alloc: Global,
         catalogue: &'c Catalogue,
@@ -39,11 +42,12 @@ impl<'c> ShowViews<'c> {
         ensures command { IfOk result (λ work. ⟦<ShowViews<'c> as BlockWork>⟧.command work ≡ tree_command (λ number spec block. ShowText spec block number) (λ number category content. OpaqueShown number category content) (catalogue_tree catalogue.now)) }
         ensures sound { IfOk result (λ work. ⟦<ShowViews<'c> as BlockWork>⟧.sound work) }
     {
+        let tables = tables_of(alloc, catalogue)?;
         let output = blank_output(alloc)?;
         Ok(ShowViews {
-            alloc,
             catalogue,
             codecs,
+            tables,
             output,
             lister: Lister::new(alloc),
         })
@@ -55,9 +59,9 @@ impl<'c> BlockWork for ShowViews<'c> {
 
     ghost command = { λ s. tree_command (λ number spec block. ShowText spec block number) (λ number category content. OpaqueShown number category content) (catalogue_tree s.catalogue.now) };
 
-    ghost sound = { λ s. StandForEach s.codecs.now.codecs (catalogue_tree s.catalogue.now) };
+    ghost sound = { λ s. StandForEach s.codecs.now.codecs (catalogue_tree s.catalogue.now) × AreTables s.tables (catalogue_tree s.catalogue.now) };
 
-    ghost laid = { λ s. s.lister.out.items };
+    ghost laid = { λ s. s.lister.out };
 
     ghost takes_memory = { true };
 
@@ -69,10 +73,10 @@ impl<'c> BlockWork for ShowViews<'c> {
         _report: &mut R,
     ) -> Result<(), WorkStop> {
         match list_block(
-            self.alloc,
             &mut self.lister,
             &mut self.output,
             self.codecs,
+            &self.tables,
             self.catalogue,
             number,
             raw,

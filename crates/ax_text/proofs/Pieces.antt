@@ -1,8 +1,10 @@
 -- Pieces that are written one after the other.
-use Rattle.std.proofs.Common.{take, drop, append-nil, length, length-drop, arith, ◌-◌, ◌≡◌, ℕ, List, [], ◌∷◌, ◌++◌, codes, decimal, refl, sym, ◌∙◌, ap, append_assoc}
-use Rattle.std.proofs.lemmas.List.{take_all}
+use Rattle.std.proofs.Common.{take, drop, set, append-nil, length, length-drop, arith, ◌+◌, ◌-◌, ◌<◌, ◌≤◌, ◌≡◌, ℕ, List, [], ◌∷◌, ◌++◌, codes, decimal, refl, sym, ◌∙◌, ap, append_assoc}
+use Rattle.std.proofs.lemmas.Fmt.{decimal_digit}
+use Rattle.std.proofs.lemmas.List.{take_all, take-append-drop, take-set, drop-set}
+use Rattle.ax_model.specs.Paths.{at}
 use Rattle.ax_text.specs.Printing.{as_lines, Puts}
-use Rattle.ax_text.specs.ShowText.{count_line, content_line}
+use Rattle.ax_text.specs.ShowText.{number_line, count_line, content_line}
 use Rattle.ax_text.specs.ValueText.{Texts, one_onto, hex_text}
 
 pub two_pieces : (old a b x y : List ℕ) → a ≡ old ++ x → b ≡ a ++ y → b ≡ old ++ (x ++ y)
@@ -19,18 +21,40 @@ pub ruleset made = (two_pieces, three_pieces)
 pub line_put : (old mid new line : List ℕ) → mid ≡ old ++ line → new ≡ mid ++ 0x0A ∷ [] → Puts as_lines (one_onto line) old new
 line_put old mid new line e f = record { put = λ rest. ap (λ t. t ++ as_lines rest) (f ∙ ap (λ t. t ++ 0x0A ∷ []) e) ∙ append_assoc (old ++ line) (0x0A ∷ []) (as_lines rest) ∙ append_assoc old line (0x0A ∷ as_lines rest) }
 
-pub count_put : (old a b c d e f path word : List ℕ) (n : ℕ) → a ≡ old ++ path → b ≡ a ++ codes " " → c ≡ b ++ word → d ≡ c ++ codes " " → e ≡ d ++ decimal n → f ≡ e ++ 0x0A ∷ [] → Puts as_lines (one_onto (count_line path word n)) old f
-count_put old a b c d e f path word n g h k l m o =
-    line_put old e f (count_line path word n) (three_pieces old c d e (path ++ codes " " ++ word) (codes " ") (decimal n) (three_pieces old a b c path (codes " ") word g h k) l m) o
+-- four texts, bracketed from the right, and from the left
+four : (a b c d : List ℕ) → a ++ (b ++ (c ++ d)) ≡ a ++ b ++ c ++ d
+four a b c d = sym (append_assoc (a ++ b) c d ∙ append_assoc a b (c ++ d))
+
+pub count_put : (old a b c path word : List ℕ) (n : ℕ) → a ≡ old ++ (path ++ (codes " " ++ (word ++ codes " "))) → b ≡ a ++ decimal n → c ≡ b ++ 0x0A ∷ [] → Puts as_lines (one_onto (count_line path word n)) old c
+count_put old a b c path word n e f g =
+    line_put old b c (count_line path word n) (two_pieces old a b (path ++ codes " " ++ word ++ codes " ") (decimal n) (e ∙ ap (λ t. old ++ t) (four path (codes " ") word (codes " "))) f) g
 
 pub content_put : (old a b c d path octets : List ℕ) → a ≡ old ++ path → b ≡ a ++ codes " octets " → c ≡ b ++ hex_text octets → d ≡ c ++ 0x0A ∷ [] → Puts as_lines (one_onto (content_line path octets)) old d
 content_put old a b c d path octets e f g h = line_put old c d (content_line path octets) (three_pieces old a b c path (codes " octets ") (hex_text octets) e f g) h
 
--- what stood after the first octets was moved after a line
-pub moved_put : (old moved cut counted new line : List ℕ) (start : ℕ) → moved ≡ drop start old → cut ≡ take start old → Puts as_lines (one_onto line) cut counted → new ≡ counted ++ moved → new ≡ take start old ++ (line ++ 0x0A ∷ drop start old)
-moved_put old moved cut counted new line start e f p g =
-    g ∙ ap (λ t. t ++ moved) (sym (append-nil counted) ∙ p.put []) ∙ append_assoc cut (line ++ 0x0A ∷ []) moved ∙ ap (λ t. cut ++ t) (append_assoc line (0x0A ∷ []) moved) ∙ (λ i. f i ++ (line ++ 0x0A ∷ e i))
+-- ---- numbers
 
--- a slice up to the end
-pub tail_is : (d out : List ℕ) (start : ℕ) → d ≡ out → take (length d - start) (drop start d) ≡ drop start out
-tail_is d out start e = take_all (length d - start) (drop start d) (omega (arith, length-drop start d)) ∙ ap (drop start) e
+pub digit_put : (old new : List ℕ) (n : ℕ) → n < 10 → new ≡ old ++ (48 + n) ∷ [] → new ≡ old ++ decimal n
+digit_put old new n lt e = e ∙ ap (λ t. old ++ t) (sym (decimal_digit n lt))
+
+pub ruleset digits = digit_put
+
+pub under_digit : (old new path name : List ℕ) (n : ℕ) → n < 10 → new ≡ old ++ (path ++ (codes "/" ++ (name ++ 0x20 ∷ 0x3D ∷ 0x20 ∷ (48 + n) ∷ []))) → new ≡ old ++ number_line (at path name) n
+under_digit old new path name n lt e =
+    e ∙ ap (λ d. old ++ (path ++ (codes "/" ++ (name ++ (codes " = " ++ d))))) (sym (decimal_digit n lt))
+    ∙ ap (λ t. old ++ t) (four path (codes "/") name (codes " = " ++ decimal n) ∙ sym (append_assoc (path ++ codes "/" ++ name) (codes " = ") (decimal n)))
+
+pub under_more : (old mid new path name : List ℕ) (n : ℕ) → mid ≡ old ++ (path ++ (codes "/" ++ (name ++ codes " = "))) → new ≡ mid ++ decimal n → new ≡ old ++ number_line (at path name) n
+under_more old mid new path name n e f = two_pieces old mid new (at path name ++ codes " = ") (decimal n) (e ∙ ap (λ t. old ++ t) (four path (codes "/") name (codes " = "))) f
+
+pub ruleset unders = (under_digit, under_more)
+
+-- ---- a count, in place of one digit
+
+set_split : (xs : List ℕ) (i y : ℕ) → i < length xs → set xs i y ≡ take i xs ++ y ∷ drop (i + 1) xs
+set_split xs i y lt = sym (take-append-drop i (set xs i y)) ∙ (λ k. take-set xs i y k ++ drop-set xs i y lt k)
+
+pub digit_set : (old new : List ℕ) (end n : ℕ) → 2 ≤ end → end ≤ length old → n < 10 → new ≡ set old (end - 2) (48 + n) → new ≡ take (end - 2) old ++ (decimal n ++ drop (end - 1) old)
+digit_set old new end n some within lt e =
+    let next : (end - 2) + 1 ≡ end - 1 = omega arith in
+    e ∙ set_split old (end - 2) (48 + n) (omega arith) ∙ ap (λ k. take (end - 2) old ++ ((48 + n) ∷ drop k old)) next ∙ ap (λ d. take (end - 2) old ++ (d ++ drop (end - 1) old)) (sym (decimal_digit n lt))

@@ -12,11 +12,12 @@ mod list_fixed;
 mod list_kinds;
 mod list_records;
 mod lister;
+mod paths;
 mod printer;
 mod records;
 mod remarks;
 mod show;
 
 pub use blocks::{block_text, opaque_text, record_text};
-pub use lister::{Lister, at, occurrence};
+pub use lister::Lister;
 pub use show::{show_lines, show_opaque};

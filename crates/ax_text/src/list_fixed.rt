@@ -10,7 +10,8 @@ ghost use Rattle.ax_text.specs.ShowText.{number_line, fixed_lines, member_lines,
 ghost use Rattle.ax_text.specs.Slots.{MemberShape};
 ghost use Rattle.ax_text.specs.ValueText.{one_onto};
 
-use crate::lister::{Lister, at};
+use crate::lister::Lister;
+use crate::paths::at;
 use ax_model::{Content, Fixed, Member, Members, Value, Values};
 use std::alloc::AllocError;
 
@@ -27,21 +28,21 @@ impl Lister {
         requires width { IsWidth width }
         requires content { ContentListable width content.now }
         requires fits { number < 2 ^ width }
-        ensures { OnOk result (Puts as_lines (one_onto (number_line path.now number ++ remark width content.now number)) self.old.out.items self.new.out.items) }
+        ensures { OnOk result (Puts as_lines (one_onto (number_line path.now number ++ remark width content.now number)) self.old.out self.new.out) }
     {
         self.number(number, path)?;
         self.remark(number, width, content)?;
-        self.octets(b"\n")?;
+        self.octet(b'\n')?;
         Ok(())
     }
 
     /// The line of spare bits.
     #[tactic(auto, using(crate::proofs::ListedFixed::spare_ways))]
     fn spare(&mut self, number: u128, path: &[u8]) -> Result<(), AllocError>
-        ensures { OnOk result (Puts as_lines (one_onto (number_line path.now number)) self.old.out.items self.new.out.items) }
+        ensures { OnOk result (Puts as_lines (one_onto (number_line path.now number)) self.old.out self.new.out) }
     {
         self.number(number, path)?;
-        self.octets(b"\n")?;
+        self.octet(b'\n')?;
         Ok(())
     }
 
@@ -54,7 +55,7 @@ impl Lister {
     ) -> Result<(), AllocError>
         requires listable { FixedListable (fixed_tree fixed.now) }
         requires shape { FixedShape (fixed_tree fixed.now) (value_tree value.now) }
-        ensures { OnOk result (Puts as_lines (fixed_lines (fixed_tree fixed.now) path.now (value_tree value.now)) self.old.out.items self.new.out.items) }
+        ensures { OnOk result (Puts as_lines (fixed_lines (fixed_tree fixed.now) path.now (value_tree value.now)) self.old.out self.new.out) }
     {
         match (value, fixed) {
             (Value::Number(number), Fixed::Element { width, content }) => {
@@ -69,7 +70,7 @@ impl Lister {
     fn member(&mut self, value: &Value, member: &Member, path: &[u8]) -> Result<(), AllocError>
         requires listable { MemberListable (member_tree member.now) }
         requires shape { MemberShape (member_tree member.now) (value_tree value.now) }
-        ensures { OnOk result (Puts as_lines (member_lines (member_tree member.now) path.now (value_tree value.now)) self.old.out.items self.new.out.items) }
+        ensures { OnOk result (Puts as_lines (member_lines (member_tree member.now) path.now (value_tree value.now)) self.old.out self.new.out) }
     {
         match (value, member) {
             (value, Member::Named { name, fixed }) => {
@@ -97,7 +98,7 @@ impl Lister {
     ) -> Result<(), AllocError>
         requires listable { MembersListable (members_tree members.now) }
         requires shape { MembersShape (members_tree members.now) (values_tree values.now) }
-        ensures { OnOk result (Puts as_lines (members_lines (members_tree members.now) path.now (values_tree values.now)) self.old.out.items self.new.out.items) }
+        ensures { OnOk result (Puts as_lines (members_lines (members_tree members.now) path.now (values_tree values.now)) self.old.out self.new.out) }
     {
         for (member, value) in members.as_slice().iter().zip(values.as_slice()) {
             self.member(value, member, path)?;

@@ -10,7 +10,8 @@ ghost use Rattle.ax_text.specs.ShowText.{fixed_lines, parts_lines, each_lines, k
 ghost use Rattle.ax_text.specs.Slots.{slot_numbered, SlotShape, slot_lines};
 
 use crate::kinds::slot_of;
-use crate::lister::{Lister, at, occurrence};
+use crate::lister::Lister;
+use crate::paths::{at, occurrence};
 use ax_model::{Entries, Entry, Fixed, Kind, Lists, Parts, Slot, Slots, Value, Values};
 use std::alloc::AllocError;
 
@@ -20,7 +21,7 @@ impl Lister {
     fn extended(&mut self, lists: &Lists, parts: &Parts, path: &[u8]) -> Result<(), AllocError>
         requires listable { AllByRecursion MembersListable (map part_tree parts.now) }
         requires shape { PartsShape (map part_tree parts.now) (lists_tree lists.now) }
-        ensures { OnOk result (Puts as_lines (kind_lines (extended (map part_tree parts.now)) path.now (part_values (lists_tree lists.now))) self.old.out.items self.new.out.items) }
+        ensures { OnOk result (Puts as_lines (kind_lines (extended (map part_tree parts.now)) path.now (part_values (lists_tree lists.now))) self.old.out self.new.out) }
     {
         self.count(b"parts", lists.count(), path)?;
         self.parts(lists, parts, path)?;
@@ -31,7 +32,7 @@ impl Lister {
     fn parts(&mut self, lists: &Lists, parts: &Parts, path: &[u8]) -> Result<(), AllocError>
         requires listable { AllByRecursion MembersListable (map part_tree parts.now) }
         requires shape { PartsShape (map part_tree parts.now) (lists_tree lists.now) }
-        ensures { OnOk result (Puts as_lines (parts_lines (map part_tree parts.now) path.now (lists_tree lists.now)) self.old.out.items self.new.out.items) }
+        ensures { OnOk result (Puts as_lines (parts_lines (map part_tree parts.now) path.now (lists_tree lists.now)) self.old.out self.new.out) }
     {
         for (part, values) in parts.as_slice().iter().zip(lists.as_slice()) {
             self.members(values, &part.members, path)?;
@@ -44,7 +45,7 @@ impl Lister {
     fn by_fx(&mut self, values: &Values, fixed: &Fixed, path: &[u8]) -> Result<(), AllocError>
         requires listable { FixedListable (fixed_tree fixed.now) }
         requires shape { EachShape (FixedShape (fixed_tree fixed.now)) (values_tree values.now) }
-        ensures { OnOk result (Puts as_lines (kind_lines (by_fx (fixed_tree fixed.now)) path.now (occurrences (values_tree values.now))) self.old.out.items self.new.out.items) }
+        ensures { OnOk result (Puts as_lines (kind_lines (by_fx (fixed_tree fixed.now)) path.now (occurrences (values_tree values.now))) self.old.out self.new.out) }
     {
         self.count(b"occurrences", values.count(), path)?;
         self.run(values, fixed, path)?;
@@ -55,7 +56,7 @@ impl Lister {
     fn run(&mut self, values: &Values, fixed: &Fixed, path: &[u8]) -> Result<(), AllocError>
         requires listable { FixedListable (fixed_tree fixed.now) }
         requires shape { EachShape (FixedShape (fixed_tree fixed.now)) (values_tree values.now) }
-        ensures { OnOk result (Puts as_lines (each_lines (fixed_lines (fixed_tree fixed.now)) path.now 0 (values_tree values.now)) self.old.out.items self.new.out.items) }
+        ensures { OnOk result (Puts as_lines (each_lines (fixed_lines (fixed_tree fixed.now)) path.now 0 (values_tree values.now)) self.old.out self.new.out) }
     {
         let mut number: u32 = 0;
         for value in values.as_slice() {
@@ -71,7 +72,7 @@ impl Lister {
     pub(crate) fn kind(&mut self, value: &Value, kind: &Kind, path: &[u8]) -> Result<(), AllocError>
         requires listable { KindListable (kind_tree kind.now) }
         requires shape { Shape (kind_tree kind.now) (value_tree value.now) }
-        ensures { OnOk result (Puts as_lines (kind_lines (kind_tree kind.now) path.now (value_tree value.now)) self.old.out.items self.new.out.items) }
+        ensures { OnOk result (Puts as_lines (kind_lines (kind_tree kind.now) path.now (value_tree value.now)) self.old.out self.new.out) }
     {
         match (value, kind) {
             (value, Kind::Fixed(fixed)) => self.fixed(value, fixed, path),
@@ -92,7 +93,7 @@ impl Lister {
     fn counted(&mut self, values: &Values, inner: &Kind, path: &[u8]) -> Result<(), AllocError>
         requires listable { KindListable (kind_tree inner.now) }
         requires shape { Shape (counted (kind_tree inner.now)) (occurrences (values_tree values.now)) }
-        ensures { OnOk result (Puts as_lines (kind_lines (counted (kind_tree inner.now)) path.now (occurrences (values_tree values.now))) self.old.out.items self.new.out.items) }
+        ensures { OnOk result (Puts as_lines (kind_lines (counted (kind_tree inner.now)) path.now (occurrences (values_tree values.now))) self.old.out self.new.out) }
     {
         self.count(b"occurrences", values.count(), path)?;
         self.each(values, inner, path)?;
@@ -104,7 +105,7 @@ impl Lister {
     fn each(&mut self, values: &Values, kind: &Kind, path: &[u8]) -> Result<(), AllocError>
         requires listable { KindListable (kind_tree kind.now) }
         requires shape { EachShape (Shape (kind_tree kind.now)) (values_tree values.now) }
-        ensures { OnOk result (Puts as_lines (each_lines (kind_lines (kind_tree kind.now)) path.now 0 (values_tree values.now)) self.old.out.items self.new.out.items) }
+        ensures { OnOk result (Puts as_lines (each_lines (kind_lines (kind_tree kind.now)) path.now 0 (values_tree values.now)) self.old.out self.new.out) }
     {
         let mut number: u32 = 0;
         for value in values.as_slice() {
@@ -121,7 +122,7 @@ impl Lister {
     fn compound(&mut self, entries: &Entries, slots: &Slots, path: &[u8]) -> Result<(), AllocError>
         requires listable { SlotsListable (slots_tree slots.now) }
         requires shape { EntriesShape 1 (slots_tree slots.now) (entries_tree entries.now) }
-        ensures { OnOk result (Puts as_lines (kind_lines (compound (slots_tree slots.now)) path.now (marked (entries_tree entries.now))) self.old.out.items self.new.out.items) }
+        ensures { OnOk result (Puts as_lines (kind_lines (compound (slots_tree slots.now)) path.now (marked (entries_tree entries.now))) self.old.out self.new.out) }
     {
         self.count(b"subitems", entries.count(), path)?;
         self.entries(entries, slots, path)?;
@@ -133,7 +134,7 @@ impl Lister {
     fn entries(&mut self, entries: &Entries, slots: &Slots, path: &[u8]) -> Result<(), AllocError>
         requires listable { SlotsListable (slots_tree slots.now) }
         requires shape { EntriesShape 1 (slots_tree slots.now) (entries_tree entries.now) }
-        ensures { OnOk result (Puts as_lines (entries_lines path.now 1 (slots_tree slots.now) (entries_tree entries.now)) self.old.out.items self.new.out.items) }
+        ensures { OnOk result (Puts as_lines (entries_lines path.now 1 (slots_tree slots.now) (entries_tree entries.now)) self.old.out self.new.out) }
     {
         for entry in entries.as_slice() {
             self.entry(entry, slots, path)?;
@@ -146,7 +147,7 @@ impl Lister {
     fn entry(&mut self, entry: &Entry, slots: &Slots, path: &[u8]) -> Result<(), AllocError>
         requires listable { SlotListable (slot_numbered (slots_tree slots.now) entry.now.slot) }
         requires shape { SlotShape (slot_numbered (slots_tree slots.now) entry.now.slot) (value_tree entry.now.value) }
-        ensures { OnOk result (Puts as_lines (slot_lines path.now (slot_numbered (slots_tree slots.now) entry.now.slot) (value_tree entry.now.value)) self.old.out.items self.new.out.items) }
+        ensures { OnOk result (Puts as_lines (slot_lines path.now (slot_numbered (slots_tree slots.now) entry.now.slot) (value_tree entry.now.value)) self.old.out self.new.out) }
     {
         if let Some(Slot::Sub { name, kind }) = slot_of(slots, entry.slot) {
             let path = at(self.alloc, path, name.octets())?;

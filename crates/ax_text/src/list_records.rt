@@ -12,7 +12,8 @@ ghost use Rattle.ax_text.specs.ShowText.{entries_lines, record_lines, records_li
 ghost use Rattle.ax_text.specs.Slots.{slot_numbered, SlotShape, slot_lines};
 ghost use Rattle.ax_text.specs.ValueText.{one_onto};
 
-use crate::lister::{Lister, at};
+use crate::lister::Lister;
+use crate::paths::at;
 use ax_model::{Entries, Entry, Record, Records, Spec, category_digits};
 use std::alloc::AllocError;
 
@@ -22,7 +23,7 @@ impl Lister {
     pub(crate) fn records(&mut self, records: &Records, spec: &Spec) -> Result<(), AllocError>
         requires listable { SlotsListable (record_slots (spec_tree spec.now)) }
         requires shape { AllByRecursion (RecordShape (spec_tree spec.now)) (records_tree records.now) }
-        ensures { OnOk result (Puts as_lines (records_lines (spec_tree spec.now) 0 (records_tree records.now)) self.old.out.items self.new.out.items) }
+        ensures { OnOk result (Puts as_lines (records_lines (spec_tree spec.now) 0 (records_tree records.now)) self.old.out self.new.out) }
     {
         let mut number: u32 = 0;
         for one in records.as_slice() {
@@ -37,7 +38,7 @@ impl Lister {
     fn record(&mut self, one: &Record, number: u32, spec: &Spec) -> Result<(), AllocError>
         requires listable { SlotsListable (record_slots (spec_tree spec.now)) }
         requires shape { RecordShape (spec_tree spec.now) (record_tree one.now) }
-        ensures { OnOk result (Puts as_lines (record_lines (spec_tree spec.now) number (record_tree one.now)) self.old.out.items self.new.out.items) }
+        ensures { OnOk result (Puts as_lines (record_lines (spec_tree spec.now) number (record_tree one.now)) self.old.out self.new.out) }
     {
         self.record_front(number)?;
         self.items(&one.entries, spec, &category_digits(spec.category))?;
@@ -47,11 +48,11 @@ impl Lister {
     /// The line of a record of that number in its block.
     #[tactic(auto, using(crate::proofs::ListedFixed::element_ways))]
     pub fn record_front(&mut self, number: u32) -> Result<(), AllocError>
-        ensures { OnOk result (Puts as_lines (one_onto (codes "record " ++ decimal number)) self.old.out.items self.new.out.items) }
+        ensures { OnOk result (Puts as_lines (one_onto (codes "record " ++ decimal number)) self.old.out self.new.out) }
     {
         self.octets(b"record ")?;
         self.decimal(u128::from(number))?;
-        self.octets(b"\n")?;
+        self.octet(b'\n')?;
         Ok(())
     }
 
@@ -60,7 +61,7 @@ impl Lister {
     fn items(&mut self, entries: &Entries, spec: &Spec, path: &[u8]) -> Result<(), AllocError>
         requires listable { SlotsListable (record_slots (spec_tree spec.now)) }
         requires shape { EntriesShape 1 (record_slots (spec_tree spec.now)) (entries_tree entries.now) }
-        ensures { OnOk result (Puts as_lines (entries_lines path.now 1 (record_slots (spec_tree spec.now)) (entries_tree entries.now)) self.old.out.items self.new.out.items) }
+        ensures { OnOk result (Puts as_lines (entries_lines path.now 1 (record_slots (spec_tree spec.now)) (entries_tree entries.now)) self.old.out self.new.out) }
     {
         for entry in entries.as_slice() {
             self.item(entry, spec, path)?;
@@ -72,7 +73,7 @@ impl Lister {
     fn item(&mut self, entry: &Entry, spec: &Spec, path: &[u8]) -> Result<(), AllocError>
         requires listable { SlotListable (slot_numbered (record_slots (spec_tree spec.now)) entry.now.slot) }
         requires shape { SlotShape (slot_numbered (record_slots (spec_tree spec.now)) entry.now.slot) (value_tree entry.now.value) }
-        ensures { OnOk result (Puts as_lines (slot_lines path.now (slot_numbered (record_slots (spec_tree spec.now)) entry.now.slot) (value_tree entry.now.value)) self.old.out.items self.new.out.items) }
+        ensures { OnOk result (Puts as_lines (slot_lines path.now (slot_numbered (record_slots (spec_tree spec.now)) entry.now.slot) (value_tree entry.now.value)) self.old.out self.new.out) }
     {
         if let Some(item) = spec.slot(entry.slot) {
             let path = at(self.alloc, path, item.name.octets())?;

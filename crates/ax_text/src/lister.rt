@@ -1,5 +1,5 @@
 //! The listing, piece by piece.
-ghost use Rattle.std.specs.Prelude.{◌≡◌, ◌<◌, ◌≤◌, ◌^◌, [], ◌∷◌, ◌++◌, length, take, drop, decimal, codes, IfOk, OnOk};
+ghost use Rattle.std.specs.Prelude.{◌≡◌, ◌-◌, ◌<◌, ◌≤◌, ◌^◌, [], ◌∷◌, ◌++◌, length, take, drop, decimal, codes, IfOk, OnOk};
 ghost use Rattle.ax_model.specs.InBounds.{IsWidth};
 ghost use Rattle.ax_tokens.specs.Octets.{line_feed};
 ghost use Rattle.ax_text.specs.Listable.{ContentListable};
@@ -11,6 +11,7 @@ ghost use Rattle.ax_text.specs.ShowText.{number_line, count_line, content_line, 
 ghost use Rattle.ax_text.specs.ValueText.{one_onto, hex_text};
 
 use ax_model::Content;
+use ax_octets::Octets;
 use itoa::Buffer;
 use std::alloc::{AllocError, Global};
 
@@ -18,52 +19,66 @@ use std::alloc::{AllocError, Global};
 #[derive(Drop)]
 pub struct Lister {
     pub(crate) alloc: Global,
-    pub(crate) out: Vec<u8>,
+    pub(crate) out: Octets,
+    /// Paths that are done with: their memory is used for others.
+    pub(crate) kept: Vec<Octets>,
 }
 
 impl Lister {
     /// An empty listing. Takes no memory.
     pub fn new(alloc: Global) -> Lister
-        ensures { result.out.items ≡ [] }
+        ensures { result.out ≡ [] }
     {
         Lister {
             alloc,
-            out: Vec::new(alloc),
+            out: Octets::new(alloc),
+            kept: Vec::new(alloc),
         }
     }
 
     /// The listing.
     pub fn listing(&self) -> &[u8]
-        ensures { result.now ≡ self.now.out.items }
+        ensures { result.now ≡ self.now.out }
     {
-        &self.out
+        self.out.as_slice()
     }
 
     /// The octets of the listing.
     pub fn len(&self) -> usize
-        ensures { result ≡ length self.now.out.items }
+        ensures { result ≡ length self.now.out }
     {
         self.out.len()
     }
 
     /// Takes all lines away. The memory is kept.
     pub fn clear(&mut self)
-        ensures { self.new.out.items ≡ [] }
+        ensures { self.new.out ≡ [] }
     {
         self.out.clear();
     }
 
+    #[inline(always)]
     pub(crate) fn octets(&mut self, text: &[u8]) -> Result<(), AllocError>
-        ensures { OnOk result (self.new.out.items ≡ self.old.out.items ++ text.now) }
+        ensures { OnOk result (self.new.out ≡ self.old.out ++ text.now) }
     {
-        self.out.extend_from_slice(text)?;
-        Ok(())
+        self.out.text(text)
     }
 
-    /// A number in decimal. Those of 64 bits are divided by themselves, which is faster.
-    pub(crate) fn decimal(&mut self, number: u128) -> Result<(), AllocError>
-        ensures { OnOk result (self.new.out.items ≡ self.old.out.items ++ decimal number) }
+    #[inline(always)]
+    pub(crate) fn octet(&mut self, octet: u8) -> Result<(), AllocError>
+        ensures { OnOk result (self.new.out ≡ self.old.out ++ octet ∷ []) }
     {
+        self.out.octet(octet)
+    }
+
+    /// A number in decimal. Most have one digit; those of 64 bits are divided by themselves, which is faster.
+    #[tactic(auto, using(crate::proofs::Pieces::digits))]
+    pub(crate) fn decimal(&mut self, number: u128) -> Result<(), AllocError>
+        ensures { OnOk result (self.new.out ≡ self.old.out ++ decimal number) }
+    {
+        if number < 10 {
+            return self.octet(b'0' + number as u8);
+        }
         let mut buffer = Buffer::new();
         if number <= u128::from(u64::MAX) {
             self.octets(buffer.format(number as u64).as_bytes())
@@ -73,7 +88,7 @@ impl Lister {
     }
 
     pub(crate) fn signed(&mut self, number: i128) -> Result<(), AllocError>
-        ensures { OnOk result (self.new.out.items ≡ self.old.out.items ++ signed_decimal number) }
+        ensures { OnOk result (self.new.out ≡ self.old.out ++ signed_decimal number) }
     {
         let mut buffer = Buffer::new();
         if i128::from(i64::MIN) <= number && number <= i128::from(i64::MAX) {
@@ -86,30 +101,24 @@ impl Lister {
     /// A text in quotes, after a space.
     #[tactic(auto, using(crate::proofs::Pieces::pieces))]
     pub(crate) fn quoted(&mut self, text: &[u8]) -> Result<(), AllocError>
-        ensures { OnOk result (self.new.out.items ≡ self.old.out.items ++ (codes " " ++ quoted text.now)) }
+        ensures { OnOk result (self.new.out ≡ self.old.out ++ (codes " " ++ quoted text.now)) }
     {
-        self.octets(b" \"")?;
-        self.octets(text)?;
-        self.octets(b"\"")?;
-        Ok(())
+        self.out.text3(b" \"", text, b"\"")
     }
 
     /// Octets in hexadecimal digits, in quotes.
     #[tactic(auto, using(crate::proofs::Pieces::pieces))]
     pub(crate) fn hex(&mut self, octets: &[u8]) -> Result<(), AllocError>
-        ensures { OnOk result (self.new.out.items ≡ self.old.out.items ++ hex_text octets.now) }
+        ensures { OnOk result (self.new.out ≡ self.old.out ++ hex_text octets.now) }
     {
         let digits = hex::encode(self.alloc, octets)?;
-        self.octets(b"\"")?;
-        self.octets(digits.as_bytes())?;
-        self.octets(b"\"")?;
-        Ok(())
+        self.out.text3(b"\"", digits.as_bytes(), b"\"")
     }
 
     /// The front of the line of a number: its path and itself.
     #[tactic(auto, using(crate::proofs::Pieces::pieces))]
     pub(crate) fn number(&mut self, number: u128, path: &[u8]) -> Result<(), AllocError>
-        ensures { OnOk result (self.new.out.items ≡ self.old.out.items ++ number_line path.now number) }
+        ensures { OnOk result (self.new.out ≡ self.old.out ++ number_line path.now number) }
     {
         self.octets(path)?;
         self.octets(b" = ")?;
@@ -120,44 +129,40 @@ impl Lister {
     /// The line that says how many there are of something.
     #[tactic(auto, using(crate::proofs::Pieces::count_put))]
     pub fn count(&mut self, word: &[u8], count: u32, path: &[u8]) -> Result<(), AllocError>
-        ensures { OnOk result (Puts as_lines (one_onto (count_line path.now word.now count)) self.old.out.items self.new.out.items) }
+        ensures { OnOk result (Puts as_lines (one_onto (count_line path.now word.now count)) self.old.out self.new.out) }
     {
-        self.octets(path)?;
-        self.octets(b" ")?;
-        self.octets(word)?;
-        self.octets(b" ")?;
+        self.out.text4(path, b" ", word, b" ")?;
         self.decimal(u128::from(count))?;
-        self.octets(b"\n")?;
+        self.octet(b'\n')?;
         Ok(())
     }
 
-    /// The same line, in front of all that was put on the listing since it had `start` octets.
-    pub fn count_before(
-        &mut self,
-        start: usize,
-        word: &[u8],
-        count: u32,
-        path: &[u8],
-    ) -> Result<(), AllocError>
-        requires { start ≤ length self.old.out.items }
-        ensures { OnOk result (self.new.out.items ≡ take start self.old.out.items ++ (count_line path.now word.now count ++ line_feed ∷ drop start self.old.out.items)) }
+    /// Puts a count in place of the 0 of the count line that ends at `end`.
+    pub fn set_count(&mut self, end: usize, count: u32) -> Result<(), AllocError>
+        requires { (2 ≤ end) × (end ≤ length self.old.out) }
+        ensures { OnOk result (self.new.out ≡ take (end - 2) self.old.out ++ (decimal count ++ drop (end - 1) self.old.out)) }
     {
-        let moved = Vec::from_slice(self.alloc, &self.out[start..])?;
-        self.out.truncate(start);
-        self.count(word, count, path)?;
-        self.out.extend_from_slice(&moved)?;
+        if count < 10 {
+            self.out.replace(end - 2, b'0' + count as u8);
+            return Ok(());
+        }
+        let moved = Vec::from_slice(self.alloc, &self.out.as_slice()[end - 1..])?;
+        self.out.truncate(end - 2);
+        self.decimal(u128::from(count))?;
+        self.octets(&moved)?;
         Ok(())
     }
 
     /// The front of the line of a number under a path: the path, a name more, and the number.
-    #[tactic(auto, using(crate::proofs::Pieces::pieces))]
+    #[tactic(auto, using(crate::proofs::Pieces::unders))]
     fn number_under(&mut self, number: u128, path: &[u8], name: &[u8]) -> Result<(), AllocError>
-        ensures { OnOk result (self.new.out.items ≡ self.old.out.items ++ number_line (at path.now name.now) number) }
+        ensures { OnOk result (self.new.out ≡ self.old.out ++ number_line (at path.now name.now) number) }
     {
-        self.octets(path)?;
-        self.octets(b"/")?;
-        self.octets(name)?;
-        self.octets(b" = ")?;
+        if number < 10 {
+            let digit = b'0' + number as u8;
+            return self.out.text4(path, b"/", name, &[b' ', b'=', b' ', digit]);
+        }
+        self.out.text4(path, b"/", name, b" = ")?;
         self.decimal(number)?;
         Ok(())
     }
@@ -165,10 +170,10 @@ impl Lister {
     /// The line of spare bits under a path.
     #[tactic(auto, using(crate::proofs::ListedFixed::spare_ways))]
     pub fn spare_under(&mut self, number: u128, path: &[u8]) -> Result<(), AllocError>
-        ensures { OnOk result (Puts as_lines (one_onto (number_line (at path.now (codes "spare")) number)) self.old.out.items self.new.out.items) }
+        ensures { OnOk result (Puts as_lines (one_onto (number_line (at path.now (codes "spare")) number)) self.old.out self.new.out) }
     {
         self.number_under(number, path, b"spare")?;
-        self.octets(b"\n")?;
+        self.octet(b'\n')?;
         Ok(())
     }
 
@@ -185,47 +190,23 @@ impl Lister {
         requires width { IsWidth width }
         requires content { ContentListable width content.now }
         requires fits { number < 2 ^ width }
-        ensures { OnOk result (Puts as_lines (one_onto (number_line (at path.now name.now) number ++ remark width content.now number)) self.old.out.items self.new.out.items) }
+        ensures { OnOk result (Puts as_lines (one_onto (number_line (at path.now name.now) number ++ remark width content.now number)) self.old.out self.new.out) }
     {
         self.number_under(number, path, name)?;
         self.remark(number, width, content)?;
-        self.octets(b"\n")?;
+        self.octet(b'\n')?;
         Ok(())
     }
 
     /// The line of an explicit content.
     #[tactic(auto, using(crate::proofs::Pieces::content_put))]
     pub fn content(&mut self, octets: &[u8], path: &[u8]) -> Result<(), AllocError>
-        ensures { OnOk result (Puts as_lines (one_onto (content_line path.now octets.now)) self.old.out.items self.new.out.items) }
+        ensures { OnOk result (Puts as_lines (one_onto (content_line path.now octets.now)) self.old.out self.new.out) }
     {
         self.octets(path)?;
         self.octets(b" octets ")?;
         self.hex(octets)?;
-        self.octets(b"\n")?;
+        self.octet(b'\n')?;
         Ok(())
     }
-}
-
-/// A path and one name more.
-#[tactic(auto, using(crate::proofs::Pieces::made))]
-pub fn at(alloc: Global, path: &[u8], name: &[u8]) -> Result<Vec<u8>, AllocError>
-    ensures { IfOk result (λ made. made.items ≡ at path.now name.now) }
-{
-    let mut made = Vec::from_slice(alloc, path)?;
-    made.extend_from_slice(b"/")?;
-    made.extend_from_slice(name)?;
-    Ok(made)
-}
-
-/// The path of an occurrence, numbered from 0.
-#[tactic(auto, using(crate::proofs::Pieces::made))]
-pub fn occurrence(alloc: Global, path: &[u8], number: u32) -> Result<Vec<u8>, AllocError>
-    ensures { IfOk result (λ made. made.items ≡ occurrence path.now number) }
-{
-    let mut buffer = Buffer::new();
-    let mut made = Vec::from_slice(alloc, path)?;
-    made.extend_from_slice(b"[")?;
-    made.extend_from_slice(buffer.format(number).as_bytes())?;
-    made.extend_from_slice(b"]")?;
-    Ok(made)
 }

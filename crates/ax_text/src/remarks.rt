@@ -34,7 +34,7 @@ impl Lister {
         requires width { IsWidth width }
         requires content { ContentListable width content.now }
         requires fits { number < 2 ^ width }
-        ensures { OnOk result (self.new.out.items ≡ self.old.out.items ++ remark width content.now number) }
+        ensures { OnOk result (self.new.out ≡ self.old.out ++ remark width content.now number) }
     {
         match content {
             Content::Raw => Ok(()),
@@ -44,7 +44,7 @@ impl Lister {
             Content::Octal => self.characters(number, width, Alphabet::Three),
             Content::Integer(Sign::Unsigned) => Ok(()),
             Content::Integer(Sign::Signed) => {
-                self.octets(b" ")?;
+                self.octet(b' ')?;
                 self.signed(signed_of(number, width))?;
                 Ok(())
             }
@@ -53,7 +53,7 @@ impl Lister {
     }
 
     fn table_remark(&mut self, entries: &TableTexts, number: u128) -> Result<(), AllocError>
-        ensures { OnOk result (self.new.out.items ≡ self.old.out.items ++ entry_remark (find (λ entry. entry.number == number) entries.now)) }
+        ensures { OnOk result (self.new.out ≡ self.old.out ++ entry_remark (find (λ entry. entry.number == number) entries.now)) }
     {
         match entry_of(entries, number) {
             None => Ok(()),
@@ -65,11 +65,11 @@ impl Lister {
     #[tactic(auto, using(crate::proofs::Pieces::pieces))]
     fn characters(&mut self, number: u128, width: u32, alphabet: Alphabet) -> Result<(), AllocError>
         requires { width ≤ 128 }
-        ensures { OnOk result (self.new.out.items ≡ self.old.out.items ++ (codes " " ++ quoted (characters alphabet width number))) }
+        ensures { OnOk result (self.new.out ≡ self.old.out ++ (codes " " ++ quoted (characters alphabet width number))) }
     {
         self.octets(b" \"")?;
         self.each_character(number, width, alphabet)?;
-        self.octets(b"\"")?;
+        self.octet(b'"')?;
         Ok(())
     }
 
@@ -81,13 +81,13 @@ impl Lister {
         alphabet: Alphabet,
     ) -> Result<(), AllocError>
         requires { width ≤ 128 }
-        ensures { OnOk result (self.new.out.items ≡ self.old.out.items ++ characters alphabet width number) }
+        ensures { OnOk result (self.new.out ≡ self.old.out ++ characters alphabet width number) }
     {
         let size = alphabet.size();
         let mut left = width / size;
         while left > 0 {
             left -= 1;
-            self.out.push(alphabet.character(number, size * left))?;
+            self.octet(alphabet.character(number, size * left))?;
         }
         Ok(())
     }
@@ -99,9 +99,9 @@ impl Lister {
         requires narrow { width ≤ 64 }
         requires denominator { 0 < scale.now.den }
         requires fits { number < 2 ^ width }
-        ensures { OnOk result (self.new.out.items ≡ self.old.out.items ++ (codes " " ++ multiple_text (by_sign scale.now.sign width number) scale.now.num scale.now.den ++ codes " " ++ quoted scale.now.unit)) }
+        ensures { OnOk result (self.new.out ≡ self.old.out ++ (codes " " ++ multiple_text (by_sign scale.now.sign width number) scale.now.num scale.now.den ++ codes " " ++ quoted scale.now.unit)) }
     {
-        self.octets(b" ")?;
+        self.octet(b' ')?;
         self.multiple(number, width, scale)?;
         self.quoted(scale.unit.as_slice())?;
         Ok(())
@@ -113,7 +113,7 @@ impl Lister {
         requires narrow { width ≤ 64 }
         requires denominator { 0 < scale.now.den }
         requires fits { number < 2 ^ width }
-        ensures { OnOk result (self.new.out.items ≡ self.old.out.items ++ multiple_text (by_sign scale.now.sign width number) scale.now.num scale.now.den) }
+        ensures { OnOk result (self.new.out ≡ self.old.out ++ multiple_text (by_sign scale.now.sign width number) scale.now.num scale.now.den) }
     {
         let (num, den) = (scale.num, scale.den);
         match scale.sign {
@@ -121,7 +121,7 @@ impl Lister {
             Sign::Signed => {
                 let signed = signed_of(number, width);
                 if signed < 0 {
-                    self.octets(b"-")?;
+                    self.octet(b'-')?;
                 }
                 self.fraction(signed.unsigned_abs() as u64, num, den)
             }
@@ -132,12 +132,12 @@ impl Lister {
     #[tactic(auto, using(crate::proofs::RemarkWays::fraction_ways))]
     fn fraction(&mut self, times: u64, num: u64, den: u64) -> Result<(), AllocError>
         requires { 0 < den }
-        ensures { OnOk result (self.new.out.items ≡ self.old.out.items ++ reduced_text (times * num) den) }
+        ensures { OnOk result (self.new.out ≡ self.old.out ++ reduced_text (times * num) den) }
     {
         let numerator = u128::from(times) * u128::from(num);
         let divisor = common_divisor(numerator, den);
         self.decimal(quotient(numerator, divisor))?;
-        self.octets(b"/")?;
+        self.octet(b'/')?;
         self.decimal(u128::from(den / divisor))?;
         Ok(())
     }

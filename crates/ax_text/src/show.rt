@@ -58,7 +58,7 @@ fn read_lines(
     lister.block_line(number, category, octets, records.count())?;
     lister.records(records, spec)?;
     let Lister { out, .. } = lister;
-    Ok(out)
+    Ok(out.into_vec())
 }
 
 /// The listing of a block whose category has no specification: its one line, from its category and its octets after LEN.
@@ -74,7 +74,7 @@ pub fn show_opaque(
     let mut lister = Lister::new(alloc);
     lister.opaque_line(number, category, octets)?;
     let Lister { out, .. } = lister;
-    Ok(out)
+    Ok(out.into_vec())
 }
 
 impl Lister {
@@ -87,12 +87,12 @@ impl Lister {
         octets: u64,
         records: u32,
     ) -> Result<(), AllocError>
-        ensures { OnOk result (Puts as_lines (one_onto (block_front number category octets ++ codes " records " ++ decimal records)) self.old.out.items self.new.out.items) }
+        ensures { OnOk result (Puts as_lines (one_onto (block_front number category octets ++ codes " records " ++ decimal records)) self.old.out self.new.out) }
     {
         self.front(number, category, octets)?;
         self.octets(b" records ")?;
         self.decimal(u128::from(records))?;
-        self.octets(b"\n")?;
+        self.octet(b'\n')?;
         Ok(())
     }
 
@@ -104,19 +104,19 @@ impl Lister {
         category: u8,
         octets: &[u8],
     ) -> Result<(), AllocError>
-        ensures { OnOk result (self.new.out.items ≡ self.old.out.items ++ OpaqueShown number category octets.now) }
+        ensures { OnOk result (self.new.out ≡ self.old.out ++ OpaqueShown number category octets.now) }
     {
         self.front(number, category, 3 + octets.len() as u64)?;
         self.octets(b" opaque ")?;
         self.hex(octets)?;
-        self.octets(b"\n")?;
+        self.octet(b'\n')?;
         Ok(())
     }
 
     /// The front of a block's line.
     #[tactic(auto, using(crate::proofs::ShowWays::front_ways))]
     fn front(&mut self, number: u64, category: u8, octets: u64) -> Result<(), AllocError>
-        ensures { OnOk result (self.new.out.items ≡ self.old.out.items ++ block_front number category octets) }
+        ensures { OnOk result (self.new.out ≡ self.old.out ++ block_front number category octets) }
     {
         self.octets(b"block ")?;
         self.decimal(u128::from(number))?;

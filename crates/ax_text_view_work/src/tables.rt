@@ -38,10 +38,7 @@ fn table_of<'c>(alloc: Global, accepted: &'c Accepted) -> Result<Table<'c>, Allo
 }
 
 /// A table for each specification of the catalogue and for no other, in the catalogue's order.
-pub(crate) fn tables_of<'c>(
-    alloc: Global,
-    catalogue: &'c Catalogue,
-) -> Result<Tables<'c>, AllocError>
+pub fn tables_of<'c>(alloc: Global, catalogue: &'c Catalogue) -> Result<Tables<'c>, AllocError>
     ensures { IfOk result (λ made. AreTables made (catalogue_tree catalogue.now)) }
 {
     let mut tables = Tables::new(alloc);
@@ -54,7 +51,7 @@ pub(crate) fn tables_of<'c>(
 }
 
 /// The table of that category. None comes exactly where there is none.
-pub(crate) fn table_for<'t, 'c>(tables: &'t Tables<'c>, category: u8) -> Option<&'t Table<'c>>
+pub fn table_for<'t, 'c>(tables: &'t Tables<'c>, category: u8) -> Option<&'t Table<'c>>
     ensures { option_copied result ≡ table_for category tables.now }
 {
     tables

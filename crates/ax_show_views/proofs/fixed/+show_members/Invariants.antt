@@ -5,4 +5,4 @@ use Rattle.ax_show_views.proofs.Members.{MembersShown}
 use Rattle.ax_show_views.proofs.fixed.+show_members.Given as goal
 
 abbrev pub invariant-show_members-loop-member : goal.invariant-show_members-loop-member
-invariant-show_members-loop-member l = MembersShown (members_tree l.members) (members_tree (drop l.member-index l.members)) (bits l.body) l.fn.at l.at l.path l.fn.lister.out.items l.lister.out.items
+invariant-show_members-loop-member l = MembersShown (members_tree l.members) (members_tree (drop l.member-index l.members)) (bits l.body) l.fn.at l.at l.path l.fn.lister.out l.lister.out

@@ -10,23 +10,32 @@ use Rattle.ax_reader.proofs.Marking.{field_failed, slot_in_bounds}
 use Rattle.ax_reader.specs.Reading.{FailsAt, kind_read}
 use Rattle.ax_text.proofs.ListedKinds.{slot_listable}
 use Rattle.ax_text.specs.Listable.{SlotListable}
+use Rattle.ax_text.specs.ShowText.{kind_lines}
 use Rattle.ax_values.proofs.Continuing.{err_by_fault, err_is}
 use Rattle.ax_values.specs.SlotReading.{HasSlotFailed}
-use Rattle.ax_show_views.specs.Shown.{ShowsCounted, IsSlotShown}
+use Rattle.ax_show_views.specs.Shown.{Shows, ShowsCounted, IsSlotShown}
 use Rattle.ax_show_views.proofs.CountedLines.{count_first, count_next, count_last, count_failed}
-use Rattle.ax_show_views.proofs.Leading.{counted_shown}
+use Rattle.ax_show_views.proofs.Leading.{counted_shown, counted_longer}
 use Rattle.ax_show_views.proofs.MarkedLines.{compound_done, compound_first, next_slot, marks_next, marks_last, marks_failed, at_number}
 use Rattle.ax_show_views.proofs.kinds.+show_kind.Goals as goal
 
+pub show_counted-set_count-requires : goal.show_counted-set_count-requires
+show_counted-set_count-requires t c =
+    counted_longer (counted (kind_tree c.args.inner.now)) c.args.path.now (codes "occurrences") c.args.body.now c.args.at c.in_ok-end.end c.len-line.result c.args.lister.now.out c.count.new.self.out c.show_each.new.lister.out c.in_ok-end.count c.in_ok-count.ensures c.len-line.ensures c.in_ok-end.ensures.ok
+
 pub show_counted-returns-clause-ok : goal.show_counted-returns-clause-ok
 show_counted-returns-clause-ok t c =
-    counted_shown (counted (kind_tree c.args.inner.now)) c.args.path.now (codes "occurrences") c.args.body.now c.args.at c.in_ok-end.end c.len-start.result c.args.lister.now.out.items c.show_each.new.lister.out.items c.count_before.new.self.out.items c.in_ok-end.count
-    c.len-start.ensures c.in_ok-end.ensures.ok c.in_ok-count_before.ensures
+    counted_shown (counted (kind_tree c.args.inner.now)) c.args.path.now (codes "occurrences") c.args.body.now c.args.at c.in_ok-end.end c.len-line.result c.args.lister.now.out c.count.new.self.out c.show_each.new.lister.out c.set_count.new.self.out c.in_ok-end.count
+    c.in_ok-count.ensures c.len-line.ensures c.in_ok-end.ensures.ok c.in_ok-set_count.ensures
+
+pub show_compound-set_count-requires : goal.show_compound-set_count-requires
+show_compound-set_count-requires t c =
+    counted_longer (compound (slots_tree c.args.slots.now)) c.args.path.now (codes "subitems") c.args.body.now c.args.at c.in_ok-end.end c.len-line.result c.args.lister.now.out c.count.new.self.out c.show_subitems.new.lister.out c.in_ok-end.count c.in_ok-count.ensures c.len-line.ensures c.in_ok-end.ensures.ok
 
 pub show_compound-returns-clause-ok : goal.show_compound-returns-clause-ok
 show_compound-returns-clause-ok t c =
-    counted_shown (compound (slots_tree c.args.slots.now)) c.args.path.now (codes "subitems") c.args.body.now c.args.at c.in_ok-end.end c.len-start.result c.args.lister.now.out.items c.show_subitems.new.lister.out.items c.count_before.new.self.out.items c.in_ok-end.count
-    c.len-start.ensures c.in_ok-end.ensures.ok c.in_ok-count_before.ensures
+    counted_shown (compound (slots_tree c.args.slots.now)) c.args.path.now (codes "subitems") c.args.body.now c.args.at c.in_ok-end.end c.len-line.result c.args.lister.now.out c.count.new.self.out c.show_subitems.new.lister.out c.set_count.new.self.out c.in_ok-end.count
+    c.in_ok-count.ensures c.len-line.ensures c.in_ok-end.ensures.ok c.in_ok-set_count.ensures
 
 -- ---- occurrences
 
@@ -39,24 +48,26 @@ show_each-returns-in_err-count-clause-err t c =
 
 pub show_each-loop-number-init : goal.show_each-loop-number-init
 show_each-loop-number-init t c =
-    count_first (kind_tree c.args.inner.now) c.args.path.now c.args.body.now c.in_ok-count.count c.args.at c.args.lister.now.out.items c.in_ok-count.ensures.ok.0 c.in_ok-count.ensures.ok.1 (omega (arith, c.in_ok-count.ensures.ok.1, c.type_inv.body c.args.at))
+    count_first (kind_tree c.args.inner.now) c.args.path.now c.args.body.now c.in_ok-count.count c.args.at c.args.lister.now.out c.in_ok-count.ensures.ok.0 c.in_ok-count.ensures.ok.1 (omega (arith, c.in_ok-count.ensures.ok.1, c.type_inv.body c.args.at))
 
 pub show_each-returns-in_err-here-clause-err : goal.show_each-returns-in_err-here-clause-err
 show_each-returns-in_err-here-clause-err t c =
     let k = kind_tree c.args.inner.now in
     let e = c.in_err-here.field-0.0 in
     err_is (kind_read (counted k) c.args.body.now c.args.at) c.args.at c.from_residual-in_err-here.result e c.from_residual-in_err-here.ensures.1
-    (count_failed k c.args.path.now c.args.body.now c.in_ok-count.count c.loop-number.number c.args.at c.loop-number.here c.args.lister.now.out.items c.loop-number.lister.out.items e c.loop-number.invariant (omega (arith, c.loop-number-test.true, c.from-number-end.ensures)) c.in_err-here.ensures.err)
+    (count_failed k c.args.path.now c.args.body.now c.in_ok-count.count c.loop-number.number c.args.at c.loop-number.here c.args.lister.now.out c.loop-number.lister.out e c.loop-number.invariant (omega (arith, c.loop-number-test.true, c.from-number-end.ensures)) c.in_err-here.ensures.err)
 
 pub show_each-loop-number-preserved : goal.show_each-loop-number-preserved
 show_each-loop-number-preserved t c =
-    count_next (kind_tree c.args.inner.now) c.args.path.now c.args.body.now c.in_ok-count.count c.loop-number.number c.args.at c.loop-number.here c.in_ok-here.here c.as_slice.result.now c.args.lister.now.out.items c.loop-number.lister.out.items c.show_value.new.lister.out.items
-    c.loop-number.invariant (omega (arith, c.loop-number-test.true, c.from-number-end.ensures)) (c.as_slice.ensures.value ∙ c.in_ok-each.ensures) c.in_ok-here.ensures.ok
+    let k = kind_tree c.args.inner.now in
+    count_next (kind_tree c.args.inner.now) c.args.path.now c.args.body.now c.in_ok-count.count c.loop-number.number c.args.at c.loop-number.here c.in_ok-here.here c.as_slice.result.now c.args.lister.now.out c.loop-number.lister.out c.keep.new.self.out
+    c.loop-number.invariant (omega (arith, c.loop-number-test.true, c.from-number-end.ensures)) (c.as_slice.ensures ∙ c.in_ok-each.ensures.made) (subst (λ out. Shows (kind_lines k c.as_slice.result.now) (kind_read k c.args.body.now c.loop-number.here) c.args.body.now c.loop-number.here c.in_ok-here.here out c.keep.new.self.out) c.path_of_occurrence.ensures.out
+    (subst (λ out. Shows (kind_lines k c.as_slice.result.now) (kind_read k c.args.body.now c.loop-number.here) c.args.body.now c.loop-number.here c.in_ok-here.here c.path_of_occurrence.new.self.out out) (sym c.keep.ensures) c.in_ok-here.ensures.ok))
 
 pub show_each-returns-clause-ok : goal.show_each-returns-clause-ok
 show_each-returns-clause-ok t c =
-    subst (λ m. ShowsCounted (counted (kind_tree c.args.inner.now)) c.args.path.now (codes "occurrences") c.args.body.now c.args.at c.loop-number.here c.args.lister.now.out.items c.loop-number.lister.out.items m) (sym c.from.ensures)
-    (count_last (kind_tree c.args.inner.now) c.args.path.now c.args.body.now c.in_ok-count.count c.loop-number.number c.args.at c.loop-number.here c.args.lister.now.out.items c.loop-number.lister.out.items c.loop-number.invariant (omega (arith, c.loop-number-test.false, c.from-number-end.ensures)))
+    subst (λ m. ShowsCounted (counted (kind_tree c.args.inner.now)) c.args.path.now (codes "occurrences") c.args.body.now c.args.at c.loop-number.here c.args.lister.now.out c.loop-number.lister.out m) (sym c.from.ensures)
+    (count_last (kind_tree c.args.inner.now) c.args.path.now c.args.body.now c.in_ok-count.count c.loop-number.number c.args.at c.loop-number.here c.args.lister.now.out c.loop-number.lister.out c.loop-number.invariant (omega (arith, c.loop-number-test.false, c.from-number-end.ensures)))
 
 -- ---- subitems
 
@@ -74,7 +85,7 @@ show_subitems-returns-in_err-here-clause-err t c =
 
 pub show_subitems-loop-number-init : goal.show_subitems-loop-number-init
 show_subitems-loop-number-init t c =
-    compound_first (map slot_tree c.args.slots.now) c.slots_mask.result c.args.path.now c.args.body.now c.read_presence.new.into c.args.at c.in_ok-here.here c.args.lister.now.out.items c.requires.bounds c.slots_mask.ensures c.in_ok-here.ensures.ok
+    compound_first (map slot_tree c.args.slots.now) c.slots_mask.result c.args.path.now c.args.body.now c.read_presence.new.into c.args.at c.in_ok-here.here c.args.lister.now.out c.requires.bounds c.slots_mask.ensures c.in_ok-here.ensures.ok
 
 pub show_subitems-bounds-as_slice-number : goal.show_subitems-bounds-as_slice-number
 show_subitems-bounds-as_slice-number t c =
@@ -117,7 +128,7 @@ show_subitems-returns-in_err-here-2-clause-err t c =
     let e = c.in_err-here-2.field-0.0 in
     err_is (kind_read (compound (slots_of slots)) body c.args.at) c.args.at c.from_residual-in_err-here-2.result e c.from_residual-in_err-here-2.ensures.1
     (record {
-      met = marks_failed (compound_done slots path body c.args.at c.args.lister.now.out.items) (FailsAt (kind_read (compound (slots_of slots)) body c.args.at) c.args.at) slots path c.loop-number.left c.take_first.new.self body number c.loop-number.here c.loop-number.lister.out.items c.loop-number.count h n e
+      met = marks_failed (compound_done slots path body c.args.at c.args.lister.now.out) (FailsAt (kind_read (compound (slots_of slots)) body c.args.at) c.args.at) slots path c.loop-number.left c.take_first.new.self body number c.loop-number.here c.loop-number.lister.out c.loop-number.count h n e
           (subst (λ slot. HasSlotFailed slot body c.loop-number.here e) (sym (at_number all number s c.in-Some.ensures.within.0 within is)) c.in_err-here-2.ensures.err);
     })
 
@@ -133,13 +144,13 @@ show_subitems-loop-number-preserved t c =
     let s = c.index-as_slice-number.result in
     let within : number - 1 < length all = omega (arith, n.within, length-map all slot_tree) in
     let is : s ≡ get_or all (number - 1) s = subst (λ xs. s ≡ get_or xs (number - 1) s) c.as_slice.ensures.members c.index-as_slice-number.is in
-    marks_next (compound_done slots path body c.args.at c.args.lister.now.out.items) (FailsAt (kind_read (compound (slots_of slots)) body c.args.at) c.args.at) slots path c.loop-number.left c.take_first.new.self body number c.loop-number.here c.loop-number.lister.out.items c.loop-number.count h n
-    c.in_ok-here-2.here c.show_slot.new.lister.out.items c.in-Some.ensures.some
-    (subst (λ slot. IsSlotShown slot path body c.loop-number.here c.in_ok-here-2.here c.loop-number.lister.out.items c.show_slot.new.lister.out.items) (sym (at_number all number s c.in-Some.ensures.within.0 within is)) c.in_ok-here-2.ensures.ok)
+    marks_next (compound_done slots path body c.args.at c.args.lister.now.out) (FailsAt (kind_read (compound (slots_of slots)) body c.args.at) c.args.at) slots path c.loop-number.left c.take_first.new.self body number c.loop-number.here c.loop-number.lister.out c.loop-number.count h n
+    c.in_ok-here-2.here c.show_slot.new.lister.out c.in-Some.ensures.some
+    (subst (λ slot. IsSlotShown slot path body c.loop-number.here c.in_ok-here-2.here c.loop-number.lister.out c.show_slot.new.lister.out) (sym (at_number all number s c.in-Some.ensures.within.0 within is)) c.in_ok-here-2.ensures.ok)
 
 pub show_subitems-returns-clause-ok : goal.show_subitems-returns-clause-ok
 show_subitems-returns-clause-ok t c =
     let slots : List SlotTree = map slot_tree c.args.slots.now in
     let body = c.args.body.now in
-    marks_last (compound_done slots c.args.path.now body c.args.at c.args.lister.now.out.items) (FailsAt (kind_read (compound (slots_of slots)) body c.args.at) c.args.at) slots c.args.path.now c.loop-number.left body c.loop-number.here c.loop-number.lister.out.items c.loop-number.count c.loop-number.invariant
+    marks_last (compound_done slots c.args.path.now body c.args.at c.args.lister.now.out) (FailsAt (kind_read (compound (slots_of slots)) body c.args.at) c.args.at) slots c.args.path.now c.loop-number.left body c.loop-number.here c.loop-number.lister.out c.loop-number.count c.loop-number.invariant
     c.in_default.ensures.none

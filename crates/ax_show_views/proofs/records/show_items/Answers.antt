@@ -22,7 +22,7 @@ returns-in_err-here-clause-err c =
 pub loop-frn-init : goal.loop-frn-init
 loop-frn-init c =
     let spec = spec_tree c.args.items.now.spec.now in
-    (0, items_first spec c.args.mask.now c.args.path.now c.args.body.now c.read_presence.new.into c.args.at c.in_ok-here.here c.args.lister.now.out.items (record_bounds spec c.requires.spec) c.requires.mask c.in_ok-here.ensures.ok)
+    (0, items_first spec c.args.mask.now c.args.path.now c.args.body.now c.read_presence.new.into c.args.at c.in_ok-here.here c.args.lister.now.out (record_bounds spec c.requires.spec) c.requires.mask c.in_ok-here.ensures.ok)
 
 pub show_item-requires-clause-bounds : goal.show_item-requires-clause-bounds
 show_item-requires-clause-bounds c = frn_in_bounds c.args.items.now.spec.now c.in-Some.frn c.requires.spec
@@ -45,7 +45,7 @@ returns-in_err-here-2-clause-err c =
     let e = c.in_err-here-2.field-0.0 in
     err_is (kind_read (record_kind spec) body c.args.at) c.args.at c.from_residual-in_err-here-2.result e c.from_residual-in_err-here-2.ensures.1
     (record {
-      met = marks_failed (items_done spec path body c.args.at c.args.lister.now.out.items) (FailsAt (kind_read (record_kind spec) body c.args.at) c.args.at) slots path c.loop-frn.left c.take_first.new.self body frn c.loop-frn.here c.loop-frn.lister.out.items c.loop-frn.invariant.0 h n e
+      met = marks_failed (items_done spec path body c.args.at c.args.lister.now.out) (FailsAt (kind_read (record_kind spec) body c.args.at) c.args.at) slots path c.loop-frn.left c.take_first.new.self body frn c.loop-frn.here c.loop-frn.lister.out c.loop-frn.invariant.0 h n e
           (subst (λ slot. HasSlotFailed slot body c.loop-frn.here e) (sym (slot_is c.args.items.now.spec.now frn)) c.in_err-here-2.ensures.err);
     })
 
@@ -59,14 +59,14 @@ loop-frn-preserved c =
     let frn : ℕ = c.in-Some.frn in
     let n = next_slot slots c.loop-frn.left c.take_first.new.self _ frn h.clear h.are_bits c.in-Some.ensures.some c.in-Some.ensures.marks in (
       c.loop-frn.invariant.0 + 1,
-      marks_next (items_done spec path body c.args.at c.args.lister.now.out.items) (FailsAt (kind_read (record_kind spec) body c.args.at) c.args.at) slots path c.loop-frn.left c.take_first.new.self body frn c.loop-frn.here c.loop-frn.lister.out.items c.loop-frn.invariant.0 h n
-          c.in_ok-here-2.here c.show_item.new.lister.out.items c.in-Some.ensures.some
-          (subst (λ slot. IsSlotShown slot path body c.loop-frn.here c.in_ok-here-2.here c.loop-frn.lister.out.items c.show_item.new.lister.out.items) (sym (slot_is c.args.items.now.spec.now frn)) c.in_ok-here-2.ensures.ok),
+      marks_next (items_done spec path body c.args.at c.args.lister.now.out) (FailsAt (kind_read (record_kind spec) body c.args.at) c.args.at) slots path c.loop-frn.left c.take_first.new.self body frn c.loop-frn.here c.loop-frn.lister.out c.loop-frn.invariant.0 h n
+          c.in_ok-here-2.here c.show_item.new.lister.out c.in-Some.ensures.some
+          (subst (λ slot. IsSlotShown slot path body c.loop-frn.here c.in_ok-here-2.here c.loop-frn.lister.out c.show_item.new.lister.out) (sym (slot_is c.args.items.now.spec.now frn)) c.in_ok-here-2.ensures.ok),
     )
 
 pub returns-clause-ok : goal.returns-clause-ok
 returns-clause-ok c =
     let spec = spec_tree c.args.items.now.spec.now in
     let body = c.args.body.now in
-    marks_last (items_done spec c.args.path.now body c.args.at c.args.lister.now.out.items) (FailsAt (kind_read (record_kind spec) body c.args.at) c.args.at) (record_slot_list spec) c.args.path.now c.loop-frn.left body c.loop-frn.here c.loop-frn.lister.out.items c.loop-frn.invariant.0 c.loop-frn.invariant.1
+    marks_last (items_done spec c.args.path.now body c.args.at c.args.lister.now.out) (FailsAt (kind_read (record_kind spec) body c.args.at) c.args.at) (record_slot_list spec) c.args.path.now c.loop-frn.left body c.loop-frn.here c.loop-frn.lister.out c.loop-frn.invariant.0 c.loop-frn.invariant.1
     c.in_default.ensures.none

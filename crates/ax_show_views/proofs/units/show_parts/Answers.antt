@@ -9,7 +9,7 @@ use Rattle.ax_values.proofs.Repeating.{unit_is}
 use Rattle.ax_show_views.proofs.units.show_parts.Goals as goal
 
 pub loop-part-init : goal.loop-part-init
-loop-part-init c = record { counted = refl; shown = parts_first c.args.parts.now c.args.path.now c.args.body.now c.args.at c.args.lister.now.out.items c.requires.bounds.0 c.requires.bounds.1 c.requires.listable c.requires.at }
+loop-part-init c = record { counted = refl; shown = parts_first c.args.parts.now c.args.path.now c.args.body.now c.args.at c.args.lister.now.out c.requires.bounds.0 c.requires.bounds.1 c.requires.listable c.requires.at }
 
 pub returns-in_err-end-clause-err : goal.returns-in_err-end-clause-err
 returns-in_err-end-clause-err c =
@@ -20,8 +20,8 @@ returns-in_err-end-clause-err c =
     let path = c.args.path.now in
     let body = c.args.body.now in
     let here = c.loop-part.here in
-    let old = c.args.lister.now.out.items in
-    let now = c.loop-part.lister.out.items in
+    let old = c.args.lister.now.out in
+    let now = c.loop-part.lister.out in
     let h = c.loop-part.invariant.shown in
     let same = c.as_slice-part-items.ensures.members in
     let within : i < length all = subst (λ xs. i < length xs) same c.loop-part-test.true in
@@ -40,8 +40,8 @@ show_members-requires-clause-bounds c =
     let path = c.args.path.now in
     let body = c.args.body.now in
     let here = c.loop-part.here in
-    let old = c.args.lister.now.out.items in
-    let now = c.loop-part.lister.out.items in
+    let old = c.args.lister.now.out in
+    let now = c.loop-part.lister.out in
     let h = c.loop-part.invariant.shown in
     let same = c.as_slice-part-items.ensures.members in
     let within : i < length all = subst (λ xs. i < length xs) same c.loop-part-test.true in
@@ -58,8 +58,8 @@ show_members-requires-clause-listable c =
     let path = c.args.path.now in
     let body = c.args.body.now in
     let here = c.loop-part.here in
-    let old = c.args.lister.now.out.items in
-    let now = c.loop-part.lister.out.items in
+    let old = c.args.lister.now.out in
+    let now = c.loop-part.lister.out in
     let h = c.loop-part.invariant.shown in
     let same = c.as_slice-part-items.ensures.members in
     let within : i < length all = subst (λ xs. i < length xs) same c.loop-part-test.true in
@@ -76,8 +76,8 @@ returns-then-not-has_fx-clause-ok c =
     let path = c.args.path.now in
     let body = c.args.body.now in
     let here = c.loop-part.here in
-    let old = c.args.lister.now.out.items in
-    let now = c.loop-part.lister.out.items in
+    let old = c.args.lister.now.out in
+    let now = c.loop-part.lister.out in
     let h = c.loop-part.invariant.shown in
     let same = c.as_slice-part-items.ensures.members in
     let within : i < length all = subst (λ xs. i < length xs) same c.loop-part-test.true in
@@ -86,7 +86,7 @@ returns-then-not-has_fx-clause-ok c =
     let end = c.in_ok-end.end in
     let ok = c.in_ok-end.ensures.ok in
     let u = unit_is body here end w c.show_members.new.at c.has_fx.result bounds.0 ok.0 ok.1 (omega (arith, ok.2, c.width.ensures, bounds.1)) c.in_ok-show_members.ensures.at c.has_fx.ensures in
-    part_last all i p path body c.args.at here old now h within is end w c.has_fx.result c.show_members.new.lister.out.items u refl c.in_ok-show_members.ensures.lines (c.loop-part.count + 1) c.if-not-has_fx.true (ap (λ n. n + 1) c.loop-part.invariant.counted)
+    part_last all i p path body c.args.at here old now h within is end w c.has_fx.result c.show_members.new.lister.out u refl c.in_ok-show_members.ensures.lines (c.loop-part.count + 1) c.if-not-has_fx.true (ap (λ n. n + 1) c.loop-part.invariant.counted)
 
 pub loop-part-preserved : goal.loop-part-preserved
 loop-part-preserved c =
@@ -97,8 +97,8 @@ loop-part-preserved c =
     let path = c.args.path.now in
     let body = c.args.body.now in
     let here = c.loop-part.here in
-    let old = c.args.lister.now.out.items in
-    let now = c.loop-part.lister.out.items in
+    let old = c.args.lister.now.out in
+    let now = c.loop-part.lister.out in
     let h = c.loop-part.invariant.shown in
     let same = c.as_slice-part-items.ensures.members in
     let within : i < length all = subst (λ xs. i < length xs) same c.loop-part-test.true in
@@ -109,5 +109,5 @@ loop-part-preserved c =
     let u = unit_is body here end w c.show_members.new.at c.has_fx.result bounds.0 ok.0 ok.1 (omega (arith, ok.2, c.width.ensures, bounds.1)) c.in_ok-show_members.ensures.at c.has_fx.ensures in
     record {
       counted = ap (λ n. n + 1) c.loop-part.invariant.counted;
-      shown = part_more all i p path body c.args.at here old now h within is end w c.has_fx.result c.show_members.new.lister.out.items u refl c.in_ok-show_members.ensures.lines c.if-not-has_fx.false;
+      shown = part_more all i p path body c.args.at here old now h within is end w c.has_fx.result c.show_members.new.lister.out u refl c.in_ok-show_members.ensures.lines c.if-not-has_fx.false;
     }

@@ -13,5 +13,5 @@ returns-clause-ok c =
     record {
       value = v;
       read = fixed_gets f c.args.body.now c.args.at c.in_ok-end.end v (omega (arith, c.in_ok-end.ensures.ok)) (omega (arith, c.in_ok-end.ensures.ok)) (omega (arith, c.in_ok-end.ensures.ok, c.width.ensures, c.requires.bounds.1)) refl;
-      put = c.in_ok-show_fixed.ensures.lines;
+      put = c.in_ok-show_named.ensures.lines;
     }

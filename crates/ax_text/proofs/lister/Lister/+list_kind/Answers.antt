@@ -20,7 +20,7 @@ each-loop-value-preserved t c =
     let same = c.as_slice-value-items.ensures.members in
     record {
       counted = ap (λ n. n + 1) c.loop-value.invariant.counted;
-      left = each_next (Shape k) (kind_lines k) path (each_lines (kind_lines k) path 0 (values_tree all)) c.args.self.now.out.items c.loop-value.self.out.items i all v c.in_ok-inner.inner.items c.kind.new.self.out.items c.loop-value.invariant.left
+      left = each_next (Shape k) (kind_lines k) path (each_lines (kind_lines k) path 0 (values_tree all)) c.args.self.now.out c.loop-value.self.out i all v c.in_ok-inner.inner.items c.kind.new.self.out c.loop-value.invariant.left
           (subst (λ xs. i < length xs) same c.loop-value-test.true) (subst (λ xs. v ≡ get_or xs i v) same c.value-item.is) (c.in_ok-inner.ensures ∙ ap (occurrence path) c.loop-value.invariant.counted) (search rules);
     }
 
@@ -29,12 +29,12 @@ each-returns t c =
     let all = c.args.values.now in
     let k = kind_tree c.args.kind.now in
     let path = c.args.path.now in
-    each_ended (Shape k) (kind_lines k) path (each_lines (kind_lines k) path 0 (values_tree all)) c.args.self.now.out.items c.loop-value.self.out.items c.loop-value.value-index all c.loop-value.invariant.left
+    each_ended (Shape k) (kind_lines k) path (each_lines (kind_lines k) path 0 (values_tree all)) c.args.self.now.out c.loop-value.self.out c.loop-value.value-index all c.loop-value.invariant.left
     (subst (λ xs. length xs ≤ c.loop-value.value-index) c.as_slice-value-items.ensures.members c.loop-value-test.false)
 
 pub entries-loop-entry-init : goal.entries-loop-entry-init
 entries-loop-entry-init t c =
-    entries_first as_lines (entries_lines c.args.path.now) (slot_lines c.args.path.now) (lines_made c.args.path.now) (slots_tree c.args.slots.now) c.args.entries.now c.args.self.now.out.items c.requires.shape
+    entries_first as_lines (entries_lines c.args.path.now) (slot_lines c.args.path.now) (lines_made c.args.path.now) (slots_tree c.args.slots.now) c.args.entries.now c.args.self.now.out c.requires.shape
 
 pub entries-loop-entry-preserved : goal.entries-loop-entry-preserved
 entries-loop-entry-preserved t c =
@@ -44,12 +44,12 @@ entries-loop-entry-preserved t c =
     let i : ℕ = c.loop-entry.entry-index in
     let e = c.entry-item.result in
     let same = c.as_slice-entry-items.ensures.members in
-    entry_next as_lines (slot_lines path) ss (entries_lines path 1 ss (entries_tree all)) c.args.self.now.out.items c.loop-entry.self.out.items c.entry.new.self.out.items all i e c.loop-entry.invariant
+    entry_next as_lines (slot_lines path) ss (entries_lines path 1 ss (entries_tree all)) c.args.self.now.out c.loop-entry.self.out c.entry.new.self.out all i e c.loop-entry.invariant
     (subst (λ xs. i < length xs) same c.loop-entry-test.true) (subst (λ xs. e ≡ get_or xs i e) same c.entry-item.is) (search rules)
 
 pub counted-returns : goal.counted-returns
 counted-returns t c =
-    counted_lines c.args.path.now (kind_tree c.args.inner.now) c.args.values.now c.count.result c.args.self.now.out.items c.count-2.new.self.out.items c.each.new.self.out.items c.count.ensures c.in_ok-count.ensures (search rules)
+    counted_lines c.args.path.now (kind_tree c.args.inner.now) c.args.values.now c.count.result c.args.self.now.out c.count-2.new.self.out c.each.new.self.out c.count.ensures c.in_ok-count.ensures (search rules)
 
 pub entries-entry-requires : goal.entries-entry-requires
 entries-entry-requires t c =
@@ -63,4 +63,4 @@ entries-entry-requires t c =
     let is : e ≡ get_or all i e = subst (λ xs. e ≡ get_or xs i e) same c.entry-item.is in
     let small = at_most the_size all i e within in
     let same_size : the_size e ≡ the_size (get_or all i e) = ap the_size is in
-    (omega (arith, small, same_size, c.decreases), (slot_listable ss e.slot c.requires.listable, entry_shape as_lines (slot_lines path) ss (entries_lines path 1 ss (entries_tree all)) c.args.self.now.out.items c.loop-entry.self.out.items all i e c.loop-entry.invariant within is))
+    (omega (arith, small, same_size, c.decreases), (slot_listable ss e.slot c.requires.listable, entry_shape as_lines (slot_lines path) ss (entries_lines path 1 ss (entries_tree all)) c.args.self.now.out c.loop-entry.self.out all i e c.loop-entry.invariant within is))

@@ -4,4 +4,4 @@ use Rattle.ax_text.proofs.lister.Lister.by_fx.Goals as goal
 
 pub returns : goal.returns
 returns c =
-    run_lines c.args.path.now (fixed_tree c.args.fixed.now) c.args.values.now c.count.result c.args.self.now.out.items c.count-2.new.self.out.items c.run.new.self.out.items c.count.ensures c.in_ok-count.ensures c.in_ok-run.ensures
+    run_lines c.args.path.now (fixed_tree c.args.fixed.now) c.args.values.now c.count.result c.args.self.now.out c.count-2.new.self.out c.run.new.self.out c.count.ensures c.in_ok-count.ensures c.in_ok-run.ensures

@@ -5,4 +5,4 @@ use Rattle.ax_text.proofs.ListedKinds.{PartsLeft}
 use Rattle.ax_text.proofs.lister.Lister.parts.Given as goal
 
 abbrev pub invariant-loop-part : goal.invariant-loop-part
-invariant-loop-part l = PartsLeft l.path (parts_lines (map part_tree l.parts) l.path (lists_tree l.lists)) l.fn.self.out.items l.self.out.items l.part-iterator.a.rest.now l.part-iterator.b.rest.now
+invariant-loop-part l = PartsLeft l.path (parts_lines (map part_tree l.parts) l.path (lists_tree l.lists)) l.fn.self.out l.self.out l.part-iterator.a.rest.now l.part-iterator.b.rest.now

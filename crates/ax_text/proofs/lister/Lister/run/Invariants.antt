@@ -8,6 +8,6 @@ use Rattle.ax_text.proofs.lister.Lister.run.Given as goal
 abbrev pub invariant-loop-value : goal.invariant-loop-value
 invariant-loop-value l = record {
   counted : l.number ≡ l.value-index;
-  left : EachLeft (FixedShape (fixed_tree l.fixed)) (fixed_lines (fixed_tree l.fixed)) l.path (each_lines (fixed_lines (fixed_tree l.fixed)) l.path 0 (values_tree l.values)) l.fn.self.out.items l.self.out.items
+  left : EachLeft (FixedShape (fixed_tree l.fixed)) (fixed_lines (fixed_tree l.fixed)) l.path (each_lines (fixed_lines (fixed_tree l.fixed)) l.path 0 (values_tree l.values)) l.fn.self.out l.self.out
       l.value-index (drop l.value-index l.values);
 }

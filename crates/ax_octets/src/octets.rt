@@ -1,0 +1,182 @@
+//! Octets, as they are appended.
+ghost use Rattle.std.specs.Prelude.{◌≡◌, ◌+◌, ◌<◌, ◌≤◌, ◌^◌, [], ◌∷◌, ◌++◌, length, take, set, OnOk};
+
+use crate::place::{place_octet, place_text};
+use std::alloc::{AllocError, Global};
+use std::marker::Model;
+
+/// The least room that is made at once.
+const LEAST_ROOM: usize = 256;
+
+/// Octets that others are appended to. Contracts see those so far. The memory after them is set ahead, so that a piece is
+/// stored with one test; it is kept when they are taken away.
+#[derive(Drop)]
+pub struct Octets {
+    area: Vec<u8>,
+    filled: usize,
+}
+
+impl Model for Octets {
+    ghost use Rattle.std.specs.Prelude.{List, ℕ, ◌≤◌, length, take};
+
+    ghost Value = { List ℕ };
+
+    ghost view = { λ o. take o.filled o.area.items };
+
+    ghost invariant = { λ o. o.filled ≤ length o.area.items };
+}
+
+impl Octets {
+    /// No octets. Takes no memory.
+    pub fn new(alloc: Global) -> Octets
+        ensures { result ≡ [] }
+    {
+        Octets {
+            area: Vec::new(alloc),
+            filled: 0,
+        }
+    }
+
+    /// The octets.
+    pub fn as_slice(&self) -> &[u8]
+        ensures { result.now ≡ self.now }
+    {
+        &self.area[..self.filled]
+    }
+
+    /// How many octets there are.
+    pub fn len(&self) -> usize
+        ensures { result ≡ length self.now }
+    {
+        self.filled
+    }
+
+    /// The octets, in a vector.
+    pub fn into_vec(self) -> Vec<u8>
+        ensures { result.items ≡ self }
+    {
+        let Octets { mut area, filled } = self;
+        area.truncate(filled);
+        area
+    }
+
+    /// Keeps the first `count` octets.
+    pub fn truncate(&mut self, count: usize)
+        ensures { self.new ≡ take count self.old }
+    {
+        if count < self.filled {
+            self.filled = count;
+        }
+    }
+
+    /// Takes all octets away.
+    pub fn clear(&mut self)
+        ensures { self.new ≡ [] }
+    {
+        self.filled = 0;
+    }
+
+    /// Appends one octet. Err is want of memory, and then they stay.
+    #[inline(always)]
+    pub fn octet(&mut self, octet: u8) -> Result<(), AllocError>
+        ensures { OnOk result (self.new ≡ self.old ++ octet ∷ []) }
+    {
+        if self.filled >= self.area.len() {
+            return self.text_in_more(&[octet]);
+        }
+        self.filled = place_octet(self.area.as_mut_slice(), self.filled, octet);
+        Ok(())
+    }
+
+    /// Appends a text. Err is want of memory, and then they stay.
+    #[inline(always)]
+    pub fn text(&mut self, text: &[u8]) -> Result<(), AllocError>
+        ensures { OnOk result (self.new ≡ self.old ++ text.now) }
+    {
+        if text.len() > self.area.len() - self.filled {
+            return self.text_in_more(text);
+        }
+        self.filled = place_text(self.area.as_mut_slice(), self.filled, text);
+        Ok(())
+    }
+
+    /// Appends three texts, where there is room for all.
+    #[inline(always)]
+    pub fn text3(&mut self, a: &[u8], b: &[u8], c: &[u8]) -> Result<(), AllocError>
+        ensures { OnOk result (self.new ≡ self.old ++ (a.now ++ (b.now ++ c.now))) }
+    {
+        let room = self.area.len() - self.filled;
+        if a.len() > room || b.len() > room - a.len() || c.len() > room - a.len() - b.len() {
+            return self.each3(a, b, c);
+        }
+        let area = self.area.as_mut_slice();
+        let at = place_text(area, self.filled, a);
+        let at = place_text(area, at, b);
+        self.filled = place_text(area, at, c);
+        Ok(())
+    }
+
+    #[cold]
+    #[inline(never)]
+    fn each3(&mut self, a: &[u8], b: &[u8], c: &[u8]) -> Result<(), AllocError>
+        ensures { OnOk result (self.new ≡ self.old ++ (a.now ++ (b.now ++ c.now))) }
+    {
+        self.text(a)?;
+        self.text(b)?;
+        self.text(c)
+    }
+
+    /// Appends four texts, where there is room for all.
+    #[inline(always)]
+    pub fn text4(&mut self, a: &[u8], b: &[u8], c: &[u8], d: &[u8]) -> Result<(), AllocError>
+        ensures { OnOk result (self.new ≡ self.old ++ (a.now ++ (b.now ++ (c.now ++ d.now)))) }
+    {
+        let room = self.area.len() - self.filled;
+        if a.len() > room
+            || b.len() > room - a.len()
+            || c.len() > room - a.len() - b.len()
+            || d.len() > room - a.len() - b.len() - c.len()
+        {
+            return self.each4(a, b, c, d);
+        }
+        let area = self.area.as_mut_slice();
+        let at = place_text(area, self.filled, a);
+        let at = place_text(area, at, b);
+        let at = place_text(area, at, c);
+        self.filled = place_text(area, at, d);
+        Ok(())
+    }
+
+    #[cold]
+    #[inline(never)]
+    fn each4(&mut self, a: &[u8], b: &[u8], c: &[u8], d: &[u8]) -> Result<(), AllocError>
+        ensures { OnOk result (self.new ≡ self.old ++ (a.now ++ (b.now ++ (c.now ++ d.now)))) }
+    {
+        self.text(a)?;
+        self.text3(b, c, d)
+    }
+
+    /// Writes octet number `at` again, from 0.
+    pub fn replace(&mut self, at: usize, octet: u8)
+        requires { at < length self.old }
+        ensures { self.new ≡ set self.old at octet }
+    {
+        self.area[at] = octet;
+    }
+
+    /// Makes room for a text and for as many octets again as there were, and appends it.
+    #[cold]
+    #[inline(never)]
+    fn text_in_more(&mut self, text: &[u8]) -> Result<(), AllocError>
+        ensures { OnOk result (self.new ≡ self.old ++ text.now) }
+    {
+        let length = self.area.len();
+        let more = text.len().max(length).max(LEAST_ROOM);
+        if more > usize::MAX - length {
+            return Err(AllocError);
+        }
+        self.area.resize(length + more, 0)?;
+        self.filled = place_text(self.area.as_mut_slice(), self.filled, text);
+        Ok(())
+    }
+}

@@ -1,0 +1,17 @@
+use Rattle.std.proofs.Common.{arith, refl}
+use Rattle.ax_bits.specs.Bits.{bits}
+use Rattle.std.proofs.Common.{drop, ◌*◌}
+use Rattle.ax_model.specs.Plain.{fixed_tree}
+use Rattle.ax_model.specs.Reader.{fixed_value}
+use Rattle.ax_reader.proofs.AtOctets.{fixed_gets}
+use Rattle.ax_show_views.proofs.units.show_alone.Goals as goal
+
+pub returns-clause-ok : goal.returns-clause-ok
+returns-clause-ok c =
+    let f = fixed_tree c.args.fixed.now in
+    let v = fixed_value f (drop (8 * c.args.at) (bits c.args.body.now)) in
+    record {
+      value = v;
+      read = fixed_gets f c.args.body.now c.args.at c.in_ok-end.end v (omega (arith, c.in_ok-end.ensures.ok)) (omega (arith, c.in_ok-end.ensures.ok)) (omega (arith, c.in_ok-end.ensures.ok, c.width.ensures, c.requires.bounds.1)) refl;
+      put = c.in_ok-show_fixed.ensures.lines;
+    }

@@ -1,6 +1,7 @@
 -- Single texts that are read.
 use Rattle.std.proofs.Common.{◌≡◌, ℕ, ◌+◌, ◌-◌, ◌<◌, ◌≤◌, ◌^◌, List, [], ◌∷◌, ◌++◌, length, refl, sym, ◌∙◌, ap, subst, arith, append_assoc, length-append}
 use Rattle.std.specs.Prelude.{decimal}
+use Rattle.std.proofs.lemmas.Fmt.{decimal_digit}
 use Rattle.hex.specs.Hex.{encode_lower}
 use Rattle.ax_bits.specs.Bits.{AreOctets}
 use Rattle.ax_tokens.specs.Octets.{quote}
@@ -57,6 +58,14 @@ close_goes old new e l le = record { left = e; keeps = λ rest k. (refl, omega (
 
 pub number_goes : (old new : Place) (n : ℕ) (digits : List ℕ) → n < 2 ^ 64 → digits ≡ decimal n → old.left ≡ digits ++ 0x20 ∷ new.left → new.level ≡ old.level → old.level ≤ 20 → Goes old new (decimal n ∷ [])
 number_goes old new n digits small is e l le = word_goes old new (decimal n) (one_word (decimal n) (decimal_word n (omega (arith, small)))) (e ∙ ap (λ t. t ++ 0x20 ∷ new.left) is) l le
+
+pub digit_goes : (old new : Place) (x n : ℕ) → 48 ≤ x → x ≤ 57 → n ≡ x - 48 → old.left ≡ x ∷ 0x20 ∷ new.left → new.level ≡ old.level → old.level ≤ 20 → Goes old new (decimal n ∷ [])
+digit_goes old new x n low high is e l le =
+    let back : 48 + n ≡ x = omega (arith, low, is) in
+    let text : x ∷ [] ≡ decimal n = ap (λ k. k ∷ []) (sym back) ∙ sym (decimal_digit n (omega (arith, high, is))) in
+    number_goes old new n (x ∷ []) (omega (arith, high, is)) text e l le
+
+pub ruleset digits = (digit_goes)
 
 pub category_goes : (old new : Place) (n : ℕ) (digits : List ℕ) → n < 256 → digits ≡ three_digits n → old.left ≡ digits ++ 0x20 ∷ new.left → new.level ≡ old.level → old.level ≤ 20 → Goes old new (three_digits n ∷ [])
 category_goes old new n digits small is e l le = word_goes old new (three_digits n) (one_word (three_digits n) (category_word n small)) (e ∙ ap (λ t. t ++ 0x20 ∷ new.left) is) l le

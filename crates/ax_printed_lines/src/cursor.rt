@@ -1,5 +1,5 @@
 //! The place in a printed line.
-ghost use Rattle.std.specs.Prelude.{◌≡◌, ◌+◌, ◌<◌, ◌≤◌, [], ◌∷◌, ◌++◌, ℕ, List, false, length, decimal, IsTrue, IfSome};
+ghost use Rattle.std.specs.Prelude.{◌≡◌, ◌+◌, ◌<◌, ◌≤◌, [], ◌∷◌, ◌++◌, ℕ, List, false, length, decimal, IsTrue, IfSome, IfNone};
 ghost use Rattle.ax_model.specs.Paths.{three_digits};
 ghost use Rattle.ax_text.specs.ValueText.{opening, closing, hex_text};
 ghost use Rattle.ax_bits.specs.Bits.{AreOctets};
@@ -162,11 +162,35 @@ impl<'t> Cursor<'t> {
         }
     }
 
+    /// The number of one digit that comes, as most are. It is read if there is one.
+    #[inline(always)]
+    #[tactic(auto, using(crate::proofs::Going::digits))]
+    fn digit(&mut self) -> Option<u64>
+        ensures some { IfSome result (λ n. Goes self.old self.new (decimal n ∷ [])) }
+        ensures none { IfNone result (self.new ≡ self.old) }
+    {
+        let Some(first) = self.rest.first() else {
+            return None;
+        };
+        let octet = *first;
+        if octet < b'0' || octet > b'9' {
+            return None;
+        }
+        let Some(later) = self.following(octet) else {
+            return None;
+        };
+        self.rest = later;
+        Some(u64::from(octet - b'0'))
+    }
+
     /// The number of at most 19 digits that comes. It is read if there is one.
     #[tactic(auto, using(crate::proofs::Going::numbers))]
     pub fn number(&mut self) -> Option<u64>
         ensures { IfSome result (λ n. Goes self.old self.new (decimal n ∷ [])) }
     {
+        if let Some(number) = self.digit() {
+            return Some(number);
+        }
         let (digits, later) = split_spaced(self.rest, count_before_space(self.rest, MOST_DIGITS))?;
         if digits.len() > MOST_DIGITS {
             return None;

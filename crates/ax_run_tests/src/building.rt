@@ -7,13 +7,27 @@ use std::process::Abort;
 use std::test::Fail;
 
 // The words, the lines, the exit status, the output and the report. Each input is read to its end.
-const LINES: [(&str, &str, u8, &str, &str); 26] = [
+const LINES: [(&str, &str, u8, &str, &str); 28] = [
     ("build 048", "", 0, "", ""),
     (
         "build 048",
         "block 048 { record { 010 { SAC 25 SIC 12 } } }",
         0,
         "30 00 06 80 19 0C",
+        "",
+    ),
+    (
+        "build 048",
+        "block  048 { record { 010 { SAC 25 SIC 12 } } } # spaced by hand",
+        0,
+        "30 00 06 80 19 0C",
+        "",
+    ),
+    (
+        "build 048",
+        "block 048 { record { 010 { SAC 25 SIC 12 } } }\n\tblock 048{record{010{SAC 26 SIC 12}}}\n",
+        0,
+        "30 00 06 80 19 0C 30 00 06 80 1A 0C",
         "",
     ),
     (

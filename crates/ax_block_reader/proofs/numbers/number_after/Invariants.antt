@@ -2,4 +2,4 @@ use Rattle.ax_block_reader.proofs.ShortNumbers.{DigitsRead}
 use Rattle.ax_block_reader.proofs.numbers.number_after.Given as goal
 
 abbrev pub invariant-loop-octet : goal.invariant-loop-octet
-invariant-loop-octet l = Read l.digit l.octets l.octet-index l.number
+invariant-loop-octet l = DigitsRead l.digit l.octets l.octet-index l.number

@@ -33,7 +33,7 @@ use Rattle.ax_tables.specs.Bare.{bare_kind}
 use Rattle.ax_tables.specs.Standing.{StandsFor}
 use Rattle.ax_tables.specs.Table.{record_kind_at}
 use Rattle.ax_tables.specs.declared.codec.Codec.{Codec}
-use Rattle.ax_view.proofs.BodySteps.{loses_of, one_more, record_value, some_records, record_forwards}
+use Rattle.ax_view.proofs.BodySteps.{fails_of, one_more, record_value, some_records, record_forwards}
 use Rattle.ax_view.specs.Placing.{PlacesKind, entries_there}
 use Rattle.ax_view.specs.Values.{value_read, entries_in}
 use Rattle.ax_view.specs.Views.{FailsThere, SpellsSome}
@@ -104,7 +104,7 @@ module _ (codec : Codec) (moves : List Move) (lost : List RelationPath) (block :
 
   failed : (spec : SpecTree) → NoFlaw spec → StandsFor codec spec → RecordsMoved spec moves lost block body here end number told old now before lines → (fault : BodyFault) → FailsAt (kind_read (record_kind_at codec.nodes codec.slots) body here) here fault → FailsBody spec (bits body) fault.bit fault.cause
   failed spec clean stands t fault l =
-      let f = fault_at (record_kind spec) body here fault (record_bounds spec clean) (loses_of codec spec body here fault stands l) in
+      let f = fault_at (record_kind spec) body here fault (record_bounds spec clean) (fails_of codec spec body here fault stands l) in
       record {
         records = t.records;
         before = bits (take here body);

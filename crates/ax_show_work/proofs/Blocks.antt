@@ -48,18 +48,18 @@ pub ruleset bodies = (listable, body_listed)
 
 -- ---- a block that was read
 
-held_small : (n : ℕ) → n < 4294967296 → held n ≡ n
-held_small n lt = omega arith
+capped_small : (n : ℕ) → n < 4294967296 → capped n ≡ n
+capped_small n lt = omega arith
 
 pub read_listed : (codec : Codec) (spec : SpecTree) (raw : RawTree) (number octets count : ℕ) (output listing : List ℕ) → NoFlaw spec → StandsFor codec spec → raw.category ≡ spec.category → octets < 4294967296
     → LaysBits codec raw.body octets output → CountsRecords codec raw.body count → ListsBody spec number raw.category octets count raw.body listing → IsMadeRead (λ spec block. ShowText spec block number) spec raw listing
 read_listed codec spec raw number octets count output listing clean stands same less laid counts h =
     let length_is : octets ≡ canon_length spec (read_block raw.category h.records) = (laid.begins spec h.records clean stands h.spelled).counted ∙ ap (λ n. canon_length spec (read_block n h.records)) (sym same) in
-    let held_is : octets ≡ capped (canon_length spec (read_block raw.category h.records)) = sym (held_small octets less) ∙ ap held length_is in
+    let capped_is : octets ≡ capped (canon_length spec (read_block raw.category h.records)) = sym (capped_small octets less) ∙ ap capped length_is in
     let count_is : count ≡ length h.records = counts.counts spec h.records clean stands h.spelled in record {
       records = h.records;
       spelled = h.spelled;
-      is = h.is ∙ (λ i. as_lines ((block_front number raw.category (held_is i) ++ codes " records " ++ decimal (count_is i)) ∷ records_lines spec 0 h.records []));
+      is = h.is ∙ (λ i. as_lines ((block_front number raw.category (capped_is i) ++ codes " records " ++ decimal (count_is i)) ∷ records_lines spec 0 h.records []));
     }
 
 pub ruleset reads = read_listed

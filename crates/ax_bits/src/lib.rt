@@ -7,6 +7,3 @@ mod output;
 
 pub use number::{bits_at, put_bits, signed_of};
 pub use output::Out;
-
-#[cfg(test)]
-mod tests;

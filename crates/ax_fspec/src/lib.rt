@@ -15,6 +15,3 @@ pub use reading::read_presence;
 pub use set::Presence;
 pub use slots::MarkedSlots;
 pub use writing::write_presence;
-
-#[cfg(test)]
-mod tests;

@@ -14,6 +14,3 @@ mod rules;
 pub use error::SyntaxError;
 pub use printing::print_spec;
 pub use reading::read_spec;
-
-#[cfg(test)]
-mod tests;

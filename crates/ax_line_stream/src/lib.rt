@@ -7,12 +7,10 @@ mod end;
 mod examples;
 mod laws;
 mod stream;
-#[cfg(test)]
-mod tests;
 mod work;
 
 pub use end::LinesEnd;
-pub use examples::answers_of_texts;
+pub use examples::{answers_of_texts, ends_at_the_limit};
 pub use laws::one_answer;
 pub use stream::run_lines;
 pub use work::{LineStop, LineWork};

@@ -4,6 +4,3 @@
 mod sequence;
 
 pub use sequence::Sequence;
-
-#[cfg(test)]
-mod tests;

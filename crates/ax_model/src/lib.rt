@@ -49,6 +49,3 @@ pub use record::{Block, RawBlock, Record, Records};
 pub use spec::{Item, Items, Spec, UapSlot, UapSlots};
 pub use text::Text;
 pub use value::{Entries, Entry, Lists, Octets, Value, Values};
-
-#[cfg(test)]
-mod tests;

@@ -8,6 +8,3 @@ mod token;
 
 pub use lexing::tokens;
 pub use token::{LexError, Token, TokenKind, Tokens};
-
-#[cfg(test)]
-mod tests;

@@ -15,6 +15,3 @@ pub use examples::{words_with_a_shape, words_without_a_shape};
 pub use laws::line_once;
 pub use line::{Line, WordText, WordTexts};
 pub use reading::read_words;
-
-#[cfg(test)]
-mod tests;

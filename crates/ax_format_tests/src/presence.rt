@@ -1,9 +1,9 @@
+//! Presence fields that are read and written, and sets of slots.
 ghost use Rattle.std.specs.Prelude.{◌≡◌, ◌≤◌};
 
-use super::*;
 use ax_bits::Out;
+use ax_fspec::{Presence, SlotMask, read_presence, write_presence};
 use ax_model::{BodyCause, BodyFault};
-use std::process::Abort;
 
 // All slots up to the count, but for one that is spare.
 fn mask(count: u32, spare: u32) -> SlotMask
@@ -134,7 +134,7 @@ fn writes_least_fields(rt: HostRuntime) {
 }
 
 // The octets of the least field of a set.
-#[tactic(auto, using(crate::proofs::FieldLaws::least_sizes))]
+#[tactic(auto, using(ax_fspec::proofs::FieldLaws::least_sizes))]
 fn field_in<'b>(marked: &Presence, buffer: &'b mut [u8; 18]) -> &'b [u8] {
     let count = {
         let mut out = Out::over(buffer);

@@ -1,5 +1,8 @@
-use super::*;
+//! The words of a command line.
+
+use ax_words::{Line, WordTexts, WordsError, read_words};
 use std::alloc::{AllocError, Global};
+use std::process::Abort;
 use std::test::Fail;
 
 /// The words between the spaces of a text. The empty text has none.
@@ -53,68 +56,75 @@ fn read(alloc: Global, text: &str) -> Result<String, AllocError> {
     }
 }
 
+/// Asserts that the words of a text ask for that.
+fn ask_for(rt: &impl Abort, alloc: Global, text: &str, want: &str) -> Result<(), AllocError> {
+    let found = read(alloc, text)?;
+    assert_eq!(rt; found.as_str(), want, "at {text}");
+    Ok(())
+}
+
+const LINES: [(&str, &str); 15] = [
+    ("check A", "check [A]"),
+    ("check ", "check []"),
+    ("canon A", "canon [A]"),
+    ("canon A B C", "canon [A] [B] [C]"),
+    ("canon help check", "canon [help] [check]"),
+    ("show A", "show [A]"),
+    ("text A B", "text [A] [B]"),
+    ("build A", "build [A]"),
+    ("filter any{} A", "any{} [A]"),
+    ("filter any{} A B", "any{} [A] [B]"),
+    ("migrate A B", "migrate [A] to [B]"),
+    ("trial Z 0 0", "trial [Z] 0 0"),
+    (
+        "trial Z 18446744073709551615 1000000",
+        "trial [Z] 18446744073709551615 1000000",
+    ),
+    ("--help", "help"),
+    ("--version", "version"),
+];
+
 #[test]
 fn lines_of_words(rt: HostRuntime) -> Result<(), Fail> {
-    let alloc = rt.alloc();
-    for (text, want) in [
-        ("check A", "check [A]"),
-        ("check ", "check []"),
-        ("canon A", "canon [A]"),
-        ("canon A B C", "canon [A] [B] [C]"),
-        ("canon help check", "canon [help] [check]"),
-        ("show A", "show [A]"),
-        ("text A B", "text [A] [B]"),
-        ("build A", "build [A]"),
-        ("filter any{} A", "any{} [A]"),
-        ("filter any{} A B", "any{} [A] [B]"),
-        ("migrate A B", "migrate [A] to [B]"),
-        ("trial Z 0 0", "trial [Z] 0 0"),
-        (
-            "trial Z 18446744073709551615 1000000",
-            "trial [Z] 18446744073709551615 1000000",
-        ),
-        ("--help", "help"),
-        ("--version", "version"),
-    ] {
-        let found = read(alloc, text)?;
-        assert_eq!(rt; found.as_str(), want, "at {text}");
+    for &(text, want) in &LINES {
+        ask_for(&rt, rt.alloc(), text, want)?;
     }
     Ok(())
 }
 
+const REFUSED: [&str; 26] = [
+    "",
+    " ",
+    "help",
+    "Check A",
+    "check",
+    "check A E",
+    "canon",
+    "canon -x",
+    "canon A --help",
+    "-- canon A",
+    "canon -- A",
+    "filter any{}",
+    "migrate A",
+    "migrate A B C",
+    "trial Z 1",
+    "trial Z 1 1 1",
+    "trial Z 01 1",
+    "trial Z +1 1",
+    "trial Z 1 00",
+    "trial Z  1",
+    "trial Z 18446744073709551616 1",
+    "trial Z 1 1000001",
+    "--help A",
+    "--version A",
+    "-h",
+    "--version=1",
+];
+
 #[test]
 fn words_without_a_line(rt: HostRuntime) -> Result<(), Fail> {
-    let alloc = rt.alloc();
-    for text in [
-        "",
-        " ",
-        "help",
-        "Check A",
-        "check",
-        "check A E",
-        "canon",
-        "canon -x",
-        "canon A --help",
-        "-- canon A",
-        "canon -- A",
-        "filter any{}",
-        "migrate A",
-        "migrate A B C",
-        "trial Z 1",
-        "trial Z 1 1 1",
-        "trial Z 01 1",
-        "trial Z +1 1",
-        "trial Z 1 00",
-        "trial Z  1",
-        "trial Z 18446744073709551616 1",
-        "trial Z 1 1000001",
-        "--help A",
-        "--version A",
-        "-h",
-        "--version=1",
-    ] {
-        let found = read(alloc, text)?;
-        assert_eq!(rt; found.as_str(), "usage", "at {text}");
+    for text in &REFUSED {
+        ask_for(&rt, rt.alloc(), text, "usage")?;
     }
     Ok(())
 }

@@ -1,92 +1,24 @@
-use super::*;
+//! Blocks that fit a specification and those that don't, and copies of both.
+
+use ax_grammar::read_spec;
+use ax_model::{Block, Entries, Entry, Lists, Octets, Record, Records, Spec, Value, Values, fits};
+use ax_tokens::tokens;
 use std::alloc::{AllocError, Global};
-use std::process::Abort;
 use std::test::Fail;
 
-fn name(rt: &impl Abort, text: &str) -> Name {
-    Name::of(text.as_bytes()).expect(rt, "a name")
-}
-
-fn element(width: u32) -> Fixed {
-    Fixed::Element {
-        width,
-        content: Content::Raw,
-    }
-}
-
-fn named(name: Name, fixed: Fixed) -> Member {
-    Member::Named { name, fixed }
-}
-
-fn sub(name: Name, kind: Kind) -> Slot {
-    Slot::Sub { name, kind }
-}
-
-fn members(alloc: Global, one: Member, other: Member) -> Result<Members, AllocError> {
-    let mut made = Members::new(alloc);
-    made.push(one)?;
-    made.push(other)?;
-    Ok(made)
-}
-
-fn slots(alloc: Global, one: Slot, between: Slot, other: Slot) -> Result<Slots, AllocError> {
-    let mut made = Slots::new(alloc);
-    made.push(one)?;
-    made.push(between)?;
-    made.push(other)?;
-    Ok(made)
-}
-
-// Lists here are short; the test of the count stands for their bound.
-fn add_item(spec: &mut Spec, alloc: Global, name: Name, kind: Kind) -> Result<(), AllocError> {
-    let item = Item {
-        name,
-        title: Text::new(alloc),
-        kind,
-    };
-    if spec.items.count() < 1000 && spec.uap.count() < 1000 {
-        spec.items.push(item)?;
-        spec.uap.push(UapSlot::Item(name))?;
-    }
-    Ok(())
-}
-
 // An item of each kind; slot 2 of the UAP is spare.
-fn each_kind(rt: &impl Abort, alloc: Global) -> Result<Spec, AllocError> {
-    let (a, b) = (name(rt, "A"), name(rt, "B"));
-    let mut spec = Spec {
-        category: 205,
-        edition: Text::new(alloc),
-        items: Items::new(alloc),
-        uap: UapSlots::new(alloc),
-    };
-    let group = members(alloc, named(a, element(4)), named(b, element(4)))?;
-    add_item(
-        &mut spec,
-        alloc,
-        name(rt, "010"),
-        Kind::Fixed(Fixed::Group(group)),
-    )?;
-    if spec.uap.count() < 1000 {
-        spec.uap.push(UapSlot::Spare)?;
-    }
-    let mut parts = Parts::new(alloc);
-    parts.push(Part {
-        members: members(alloc, named(a, element(4)), Member::Spare { width: 3 })?,
-    })?;
-    add_item(&mut spec, alloc, name(rt, "020"), Kind::Extended(parts))?;
-    let inner = Box::new(alloc, Kind::Fixed(element(8)))?;
-    add_item(&mut spec, alloc, name(rt, "030"), Kind::Counted(inner))?;
-    add_item(&mut spec, alloc, name(rt, "040"), Kind::ByFx(element(7)))?;
-    add_item(&mut spec, alloc, name(rt, "050"), Kind::Explicit)?;
-    let subitems = slots(
-        alloc,
-        sub(a, Kind::Fixed(element(8))),
-        Slot::Spare,
-        sub(b, Kind::Fixed(element(16))),
-    )?;
-    add_item(&mut spec, alloc, name(rt, "060"), Kind::Compound(subitems))?;
-    Ok(spec)
+const EACH_KIND: &str = r#"category 205 edition "" items {
+item 010 "" group { A element 4 raw B element 4 raw }
+item 020 "" extended { part { A element 4 raw spare 3 } }
+item 030 "" counted { element 8 raw }
+item 040 "" byfx element 7 raw
+item 050 "" explicit
+item 060 "" compound { A element 8 raw - B element 16 raw }
+} uap { 010 - 020 030 040 050 060 }"#;
+
+fn each_kind(alloc: Global) -> Result<Spec, Fail> {
+    let found = tokens(alloc, EACH_KIND.as_bytes(), 16)?;
+    Ok(read_spec(alloc, &found)?)
 }
 
 fn numbers(alloc: Global, numbers: &[u128]) -> Result<Values, AllocError> {
@@ -180,7 +112,7 @@ fn value_of(alloc: Global, form: Form<'_>) -> Result<Value, AllocError> {
 #[test]
 fn values_fit_by_their_kinds(rt: HostRuntime) -> Result<(), Fail> {
     let alloc = rt.alloc();
-    let spec = each_kind(&rt, alloc)?;
+    let spec = each_kind(alloc)?;
     for (slot, form, want) in [
         (1, Form::Group(&[15, 0]), true),
         (1, Form::Group(&[15, 16]), false),
@@ -213,7 +145,7 @@ fn values_fit_by_their_kinds(rt: HostRuntime) -> Result<(), Fail> {
 #[test]
 fn blocks_fit_by_their_category(rt: HostRuntime) -> Result<(), Fail> {
     let alloc = rt.alloc();
-    let spec = each_kind(&rt, alloc)?;
+    let spec = each_kind(alloc)?;
     for (category, count, want) in [(205, 1, false), (204, 1, true), (204, 0, false)] {
         let octets = zeros(alloc, count)?;
         assert_eq!(rt; fits(&spec, &Block::Opaque { category, octets }), want);
@@ -237,7 +169,7 @@ fn blocks_fit_by_their_category(rt: HostRuntime) -> Result<(), Fail> {
 #[test]
 fn copies_stand_for_their_originals(rt: HostRuntime) -> Result<(), Fail> {
     let alloc = rt.alloc();
-    let spec = each_kind(&rt, alloc)?.copy(alloc)?;
+    let spec = each_kind(alloc)?.copy(alloc)?;
     assert_eq!(rt;
         (spec.category, spec.items.count(), spec.uap.count()),
         (205, 6, 7)
@@ -250,28 +182,5 @@ fn copies_stand_for_their_originals(rt: HostRuntime) -> Result<(), Fail> {
         octets: zeros(alloc, 3)?,
     };
     assert!(rt; fits(&spec, &opaque.copy(alloc)?));
-    Ok(())
-}
-
-#[test]
-fn paths_are_read_and_copied(rt: HostRuntime) -> Result<(), Fail> {
-    let alloc = rt.alloc();
-    for (text, count) in [
-        ("020/TST", 2),
-        ("020", 1),
-        ("020/", 0),
-        ("", 0),
-        ("/020", 0),
-        ("020//TST", 0),
-        ("020/tst", 0),
-        ("A/B/ABCDEFGHIJKLMNOP", 3),
-        ("ABCDEFGHIJKLMNOPQ", 0),
-    ] {
-        let found = match Path::of(alloc, text.as_bytes())? {
-            Some(path) => path.copy(alloc)?.count(),
-            None => 0,
-        };
-        assert_eq!(rt; found, count, "of {text}");
-    }
     Ok(())
 }

@@ -1,4 +1,6 @@
-use super::*;
+//! Lists.
+
+use ax_lists::Sequence;
 use std::test::Fail;
 
 #[test]

@@ -1,7 +1,8 @@
+//! Numbers at any bit, and outputs over lent buffers.
 ghost use Rattle.std.specs.Prelude.{◌≡◌, ◌≤◌, [], ◌∷◌, ◌++◌, length, take};
 ghost use Rattle.ax_bits.specs.Bits.{word, bits};
 
-use super::*;
+use ax_bits::{Out, bits_at, put_bits, signed_of};
 
 // What a lender knows once its output has ended.
 fn lend(buffer: &mut [u8])

@@ -4,6 +4,7 @@ use crate::texts::accepted;
 use ax_check::{AddError, Catalogue};
 use ax_samples::{CAT019_P1, CAT034_P1, CAT048_P1, FILE_A};
 use std::alloc::Global;
+use std::process::Abort;
 use std::test::Fail;
 
 /// The category that is there already, if the text's is.
@@ -33,6 +34,20 @@ fn told(alloc: Global, catalogue: &Catalogue) -> Result<String, Fail> {
     Ok(made)
 }
 
+/// Asserts that the text is added, or refused for that category, and that the catalogue is told so then.
+fn adding_leaves(
+    rt: &impl Abort,
+    alloc: Global,
+    catalogue: &mut Catalogue,
+    text: &str,
+    (twice, holds): (Option<u8>, &str),
+) -> Result<(), Fail> {
+    assert_eq!(rt; refused(alloc, catalogue, text)?, twice, "{text}");
+    let found = told(alloc, catalogue)?;
+    assert_eq!(rt; found.as_str(), holds, "{text}");
+    Ok(())
+}
+
 const ADDED: [(&str, Option<u8>, &str); 5] = [
     (FILE_A, None, "34 034-A, "),
     (CAT034_P1, Some(34), "34 034-A, "),
@@ -46,9 +61,7 @@ fn a_category_stands_once(rt: HostRuntime) -> Result<(), Fail> {
     let alloc = rt.alloc();
     let mut catalogue = Catalogue::new(alloc);
     for &(text, twice, holds) in &ADDED {
-        assert_eq!(rt; refused(alloc, &mut catalogue, text)?, twice, "{text}");
-        let found = told(alloc, &catalogue)?;
-        assert_eq!(rt; found.as_str(), holds, "{text}");
+        adding_leaves(&rt, alloc, &mut catalogue, text, (twice, holds))?;
     }
     assert!(rt; catalogue.at(3).is_none());
     assert!(rt; catalogue.get(0).is_none());

@@ -1,8 +1,9 @@
 //! Each flaw at its path, and the order of flaws.
 
-use crate::texts::{flaws_of, flaws_of_kind, flaws_over};
+use crate::texts::{has_flaws, items_have_flaws, kind_has_flaws};
 use ax_samples::FILE_F;
 use std::alloc::Global;
+use std::process::Abort;
 use std::test::Fail;
 
 const ELEMENTS: [(&str, &str); 24] = [
@@ -53,8 +54,7 @@ const ELEMENTS: [(&str, &str); 24] = [
 #[test]
 fn elements(rt: HostRuntime) -> Result<(), Fail> {
     for &(kind, wanted) in &ELEMENTS {
-        let found = flaws_of_kind(rt.alloc(), kind)?;
-        assert_eq!(rt; found.as_str(), wanted, "{kind}");
+        kind_has_flaws(&rt, rt.alloc(), kind, wanted)?;
     }
     Ok(())
 }
@@ -98,8 +98,7 @@ const GROUPS: [(&str, &str); 12] = [
 #[test]
 fn groups(rt: HostRuntime) -> Result<(), Fail> {
     for &(kind, wanted) in &GROUPS {
-        let found = flaws_of_kind(rt.alloc(), kind)?;
-        assert_eq!(rt; found.as_str(), wanted, "{kind}");
+        kind_has_flaws(&rt, rt.alloc(), kind, wanted)?;
     }
     Ok(())
 }
@@ -131,12 +130,10 @@ const PARTS_OF_CHARACTERS: [&str; 14] = [
 #[test]
 fn widths_of_characters(rt: HostRuntime) -> Result<(), Fail> {
     for &kind in &WHOLE_CHARACTERS {
-        let found = flaws_of_kind(rt.alloc(), kind)?;
-        assert_eq!(rt; found.as_str(), "", "{kind}");
+        kind_has_flaws(&rt, rt.alloc(), kind, "")?;
     }
     for &kind in &PARTS_OF_CHARACTERS {
-        let found = flaws_of_kind(rt.alloc(), kind)?;
-        assert_eq!(rt; found.as_str(), "BadStringWidth 210/010/A", "{kind}");
+        kind_has_flaws(&rt, rt.alloc(), kind, "BadStringWidth 210/010/A")?;
     }
     Ok(())
 }
@@ -193,8 +190,7 @@ const EXTENDED_ITEMS: [(&str, &str); 12] = [
 #[test]
 fn extended_items(rt: HostRuntime) -> Result<(), Fail> {
     for &(kind, wanted) in &EXTENDED_ITEMS {
-        let found = flaws_of_kind(rt.alloc(), kind)?;
-        assert_eq!(rt; found.as_str(), wanted, "{kind}");
+        kind_has_flaws(&rt, rt.alloc(), kind, wanted)?;
     }
     Ok(())
 }
@@ -250,8 +246,7 @@ const BODIES: [(&str, &str); 18] = [
 #[test]
 fn bodies(rt: HostRuntime) -> Result<(), Fail> {
     for &(kind, wanted) in &BODIES {
-        let found = flaws_of_kind(rt.alloc(), kind)?;
-        assert_eq!(rt; found.as_str(), wanted, "{kind}");
+        kind_has_flaws(&rt, rt.alloc(), kind, wanted)?;
     }
     Ok(())
 }
@@ -282,8 +277,7 @@ const COMPOUNDS: [(&str, &str); 8] = [
 #[test]
 fn compounds(rt: HostRuntime) -> Result<(), Fail> {
     for &(kind, wanted) in &COMPOUNDS {
-        let found = flaws_of_kind(rt.alloc(), kind)?;
-        assert_eq!(rt; found.as_str(), wanted, "{kind}");
+        kind_has_flaws(&rt, rt.alloc(), kind, wanted)?;
     }
     Ok(())
 }
@@ -316,8 +310,7 @@ const ITEMS_AND_SLOTS: [(&str, &str, &str); 6] = [
 #[test]
 fn items_and_slots_of_the_uap(rt: HostRuntime) -> Result<(), Fail> {
     for &(items, uap, wanted) in &ITEMS_AND_SLOTS {
-        let found = flaws_over(rt.alloc(), items, uap)?;
-        assert_eq!(rt; found.as_str(), wanted, "{items} {uap}");
+        items_have_flaws(&rt, rt.alloc(), items, uap, wanted)?;
     }
     Ok(())
 }
@@ -334,8 +327,7 @@ const WHOLE_FILES: [(&str, &str); 2] = [
 #[test]
 fn whole_files(rt: HostRuntime) -> Result<(), Fail> {
     for &(text, wanted) in &WHOLE_FILES {
-        let found = flaws_of(rt.alloc(), text)?;
-        assert_eq!(rt; found.as_str(), wanted, "{text}");
+        has_flaws(&rt, rt.alloc(), text, wanted)?;
     }
     Ok(())
 }
@@ -359,18 +351,28 @@ const MANY_SLOTS: [(usize, &str, &str, &str, &str); 4] = [
     ),
 ];
 
-/// The flaws of a compound with so many spare slots, and a subitem.
-fn flaws_of_subitems(alloc: Global, spares: usize, subitem: &str) -> Result<String, Fail> {
+/// Asserts that a compound with so many spare slots, and a subitem, has those flaws.
+fn subitems_have_flaws(
+    rt: &impl Abort,
+    alloc: Global,
+    (spares, subitem): (usize, &str),
+    wanted: &str,
+) -> Result<(), Fail> {
     let dashes = "- ".repeat(alloc, spares)?;
     let compound = format!(in alloc; "compound {{ {dashes}{subitem} }}")?;
-    flaws_of_kind(alloc, compound.as_str())
+    kind_has_flaws(rt, alloc, compound.as_str(), wanted)
 }
 
-/// The flaws of a UAP with so many spare slots, and a slot.
-fn flaws_of_slots(alloc: Global, spares: usize, slot: &str) -> Result<String, Fail> {
+/// Asserts that a UAP with so many spare slots, and a slot, has those flaws.
+fn slots_have_flaws(
+    rt: &impl Abort,
+    alloc: Global,
+    (spares, slot): (usize, &str),
+    wanted: &str,
+) -> Result<(), Fail> {
     let dashes = "- ".repeat(alloc, spares)?;
     let uap = format!(in alloc; "{dashes}{slot}")?;
-    flaws_over(alloc, "", uap.as_str())
+    items_have_flaws(rt, alloc, "", uap.as_str(), wanted)
 }
 
 // 126 slots are the most, and the flaws of the slots stand after that of their number.
@@ -378,10 +380,8 @@ fn flaws_of_slots(alloc: Global, spares: usize, slot: &str) -> Result<String, Fa
 fn more_than_126_slots(rt: HostRuntime) -> Result<(), Fail> {
     let alloc = rt.alloc();
     for &(spares, subitem, slot, wanted, wanted_of_uap) in &MANY_SLOTS {
-        let found = flaws_of_subitems(alloc, spares, subitem)?;
-        assert_eq!(rt; found.as_str(), wanted, "{spares} {subitem}");
-        let found = flaws_of_slots(alloc, spares, slot)?;
-        assert_eq!(rt; found.as_str(), wanted_of_uap, "{spares} {slot}");
+        subitems_have_flaws(&rt, alloc, (spares, subitem), wanted)?;
+        slots_have_flaws(&rt, alloc, (spares, slot), wanted_of_uap)?;
     }
     Ok(())
 }

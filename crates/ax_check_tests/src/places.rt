@@ -5,6 +5,7 @@ use ax_check::Accepted;
 use ax_model::{Path, Place};
 use ax_samples::CAT048_P1;
 use std::alloc::Global;
+use std::process::Abort;
 use std::test::Fail;
 
 fn path_of(alloc: Global, text: &str) -> Result<Option<Path>, Fail> {
@@ -64,6 +65,19 @@ fn copied_path_told(alloc: Global, text: &str) -> Result<String, Fail> {
     joined(alloc, &path.copy(alloc)?)
 }
 
+/// Asserts that a path leads to a place that is told so.
+fn leads_to(
+    rt: &impl Abort,
+    alloc: Global,
+    one: &Accepted,
+    text: &str,
+    wanted: &str,
+) -> Result<(), Fail> {
+    let found = place_told(alloc, one, text)?;
+    assert_eq!(rt; found.as_str(), wanted, "{text}");
+    Ok(())
+}
+
 const PLACES: [(&str, &str); 6] = [
     ("020/TST", "FRN 3 steps [1, 0] width 1"),
     ("130/SRL", "FRN 7 steps [1] width 8"),
@@ -77,16 +91,17 @@ const PLACES: [(&str, &str); 6] = [
 fn paths_lead_to_places(rt: HostRuntime) -> Result<(), Fail> {
     let one = accepted(rt.alloc(), CAT048_P1)?;
     for &(text, wanted) in &PLACES {
-        let found = place_told(rt.alloc(), &one, text)?;
-        assert_eq!(rt; found.as_str(), wanted, "{text}");
+        leads_to(&rt, rt.alloc(), &one, text, wanted)?;
     }
     Ok(())
 }
 
+const NO_PLACES: [&str; 5] = ["250/MB", "140/A", "010/SIC/A", "010/TST", "999"];
+
 #[test]
 fn what_is_no_place(rt: HostRuntime) -> Result<(), Fail> {
     let one = accepted(rt.alloc(), CAT048_P1)?;
-    for text in ["250/MB", "140/A", "010/SIC/A", "010/TST", "999"] {
+    for &text in &NO_PLACES {
         assert!(rt; !leads(rt.alloc(), &one, text)?, "{text}");
     }
     Ok(())

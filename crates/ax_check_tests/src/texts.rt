@@ -5,6 +5,7 @@ use ax_grammar::read_spec;
 use ax_model::Spec;
 use ax_tokens::tokens;
 use std::alloc::Global;
+use std::process::Abort;
 use std::test::Fail;
 
 /// The specification that a text spells.
@@ -39,19 +40,42 @@ fn lines(alloc: Global, found: &Flaws) -> Result<String, Fail> {
     Ok(made)
 }
 
-pub(crate) fn flaws_of(alloc: Global, text: &str) -> Result<String, Fail> {
+fn flaws_of(alloc: Global, text: &str) -> Result<String, Fail> {
     let found = flaws(alloc, &read(alloc, text)?)?;
     lines(alloc, &found)
 }
 
-/// The flaws of category 210 with these items and slots.
-pub(crate) fn flaws_over(alloc: Global, items: &str, uap: &str) -> Result<String, Fail> {
-    let text = format!(in alloc; "category 210 edition \"V\" items {{ {items} }} uap {{ {uap} }}")?;
-    flaws_of(alloc, text.as_str())
+/// Asserts that a text has those flaws.
+pub(crate) fn has_flaws(
+    rt: &impl Abort,
+    alloc: Global,
+    text: &str,
+    wanted: &str,
+) -> Result<(), Fail> {
+    let found = flaws_of(alloc, text)?;
+    assert_eq!(rt; found.as_str(), wanted, "{text}");
+    Ok(())
 }
 
-/// The flaws of category 210 with one item, 010, of this kind.
-pub(crate) fn flaws_of_kind(alloc: Global, kind: &str) -> Result<String, Fail> {
+/// Asserts that category 210 with these items and slots has those flaws.
+pub(crate) fn items_have_flaws(
+    rt: &impl Abort,
+    alloc: Global,
+    items: &str,
+    uap: &str,
+    wanted: &str,
+) -> Result<(), Fail> {
+    let text = format!(in alloc; "category 210 edition \"V\" items {{ {items} }} uap {{ {uap} }}")?;
+    has_flaws(rt, alloc, text.as_str(), wanted)
+}
+
+/// Asserts that category 210 with one item, 010, of this kind has those flaws.
+pub(crate) fn kind_has_flaws(
+    rt: &impl Abort,
+    alloc: Global,
+    kind: &str,
+    wanted: &str,
+) -> Result<(), Fail> {
     let item = format!(in alloc; "item 010 \"\" {kind}")?;
-    flaws_over(alloc, item.as_str(), "010")
+    items_have_flaws(rt, alloc, item.as_str(), "010", wanted)
 }

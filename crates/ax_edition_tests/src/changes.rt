@@ -1,7 +1,8 @@
 //! One item of two editions, with one thing changed.
 
-use crate::texts::related_told;
+use crate::texts::are_related_as;
 use std::alloc::Global;
+use std::process::Abort;
 use std::test::Fail;
 
 /// A file with one item of that kind, and an item that isn't in the UAP.
@@ -126,37 +127,38 @@ const CHANGES: [(&str, &str, &str); 25] = [
     ),
 ];
 
-/// The paths that aren't shared by editions with one item of these kinds, and how many are.
-fn change_told(alloc: Global, old: &str, new: &str) -> Result<String, Fail> {
+/// Asserts which paths of editions with one item of these kinds aren't shared, and how many are.
+fn kinds_are_related_as(
+    rt: &impl Abort,
+    alloc: Global,
+    old: &str,
+    new: &str,
+    wanted: &str,
+) -> Result<(), Fail> {
     let old = file_of(alloc, "", old)?;
     let new = file_of(alloc, "a title", new)?;
-    related_told(alloc, old.as_str(), new.as_str())
+    are_related_as(rt, alloc, old.as_str(), new.as_str(), wanted)
 }
 
 #[test]
 fn what_changes_a_kind(rt: HostRuntime) -> Result<(), Fail> {
     let alloc = rt.alloc();
     for &(old, new, wanted) in &CHANGES {
-        let told = change_told(alloc, old, new)?;
-        assert_eq!(rt; told.as_str(), wanted, "of {old} and {new}");
+        kinds_are_related_as(&rt, alloc, old, new, wanted)?;
     }
     Ok(())
 }
+
+const USED: &str =
+    "category 202 edition \"X\" items { item 010 \"\" explicit item 020 \"\" explicit } uap { 010 020 }";
+
+const UNUSED: &str =
+    "category 202 edition \"Y\" items { item 010 \"\" explicit item 020 \"\" explicit } uap { 020 }";
 
 // An item stands where the UAP has it; one that the UAP doesn't use has no path.
 #[test]
 fn items_outside_the_uap_have_no_path(rt: HostRuntime) -> Result<(), Fail> {
     let alloc = rt.alloc();
-    let used =
-        "category 202 edition \"X\" items { item 010 \"\" explicit item 020 \"\" explicit } uap { 010 020 }";
-    let unused =
-        "category 202 edition \"Y\" items { item 010 \"\" explicit item 020 \"\" explicit } uap { 020 }";
-    for &(old, new, wanted) in &[
-        (used, unused, "202/010 1 shared"),
-        (unused, used, "1 shared"),
-    ] {
-        let told = related_told(alloc, old, new)?;
-        assert_eq!(rt; told.as_str(), wanted, "of {old}");
-    }
-    Ok(())
+    are_related_as(&rt, alloc, USED, UNUSED, "202/010 1 shared")?;
+    are_related_as(&rt, alloc, UNUSED, USED, "1 shared")
 }

@@ -1,6 +1,6 @@
 //! Relations of the sample and test files.
 
-use crate::texts::{accepted, moves_told, path_told, related, related_told, shares};
+use crate::texts::{accepted, are_related_as, moves_told, path_told, related, shares};
 use ax_check::Accepted;
 use ax_edition::{Moves, RelateError, Relation, relate};
 use ax_samples::{CAT034_P1, CAT048_P1, CAT048_P2, FILE_H1, FILE_H2, FILE_H3};
@@ -22,8 +22,7 @@ const FILES: [(&str, &str, &str); 7] = [
 fn files_share_their_paths(rt: HostRuntime) -> Result<(), Fail> {
     let alloc = rt.alloc();
     for &(old, new, wanted) in &FILES {
-        let told = related_told(alloc, old, new)?;
-        assert_eq!(rt; told.as_str(), wanted, "of {old} and {new}");
+        are_related_as(&rt, alloc, old, new, wanted)?;
     }
     Ok(())
 }
@@ -34,9 +33,18 @@ const BOTH_PLACES: [(u32, &str); 3] = [
     (2, "202/010/B at 1 [2] to 1 [1]"),
 ];
 
-/// The path at a place among those of a relation.
-fn path_at(alloc: Global, relation: &Relation, index: u32) -> Result<String, Fail> {
-    path_told(alloc, relation.paths().get(index).ok_or("no path")?)
+/// Asserts how the path at a place among those of a relation is told.
+fn path_is_told_as(
+    rt: &impl Abort,
+    alloc: Global,
+    relation: &Relation,
+    index: u32,
+    wanted: &str,
+) -> Result<(), Fail> {
+    let path = relation.paths().get(index).ok_or("no path")?;
+    let told = path_told(alloc, path)?;
+    assert_eq!(rt; told.as_str(), wanted, "at {index}");
+    Ok(())
 }
 
 // In the old edition's order, a compound before its subitems, with the places in both editions.
@@ -45,8 +53,7 @@ fn paths_have_both_places(rt: HostRuntime) -> Result<(), Fail> {
     let alloc = rt.alloc();
     let relation = related(alloc, FILE_H1, FILE_H2)?;
     for &(index, wanted) in &BOTH_PLACES {
-        let told = path_at(alloc, &relation, index)?;
-        assert_eq!(rt; told.as_str(), wanted, "at {index}");
+        path_is_told_as(&rt, alloc, &relation, index, wanted)?;
     }
     assert_eq!(rt; relation.paths().count(), 3);
     Ok(())
@@ -84,12 +91,23 @@ const NAMED_PATHS: [(&str, bool); 9] = [
     ("999", false),
 ];
 
+fn is_shared(
+    rt: &impl Abort,
+    alloc: Global,
+    relation: &Relation,
+    text: &str,
+    wanted: bool,
+) -> Result<(), Fail> {
+    assert_eq!(rt; shares(alloc, relation, text)?, wanted, "of {text}");
+    Ok(())
+}
+
 #[test]
 fn only_named_paths_are_shared(rt: HostRuntime) -> Result<(), Fail> {
     let alloc = rt.alloc();
     let relation = related(alloc, CAT048_P1, CAT048_P2)?;
     for &(text, wanted) in &NAMED_PATHS {
-        assert_eq!(rt; shares(alloc, &relation, text)?, wanted, "of {text}");
+        is_shared(&rt, alloc, &relation, text, wanted)?;
     }
     Ok(())
 }

@@ -6,6 +6,7 @@ use ax_grammar::read_spec;
 use ax_model::{Path, Place, Spec};
 use ax_tokens::tokens;
 use std::alloc::Global;
+use std::process::Abort;
 use std::test::Fail;
 
 /// The specification that a text spells.
@@ -70,9 +71,22 @@ pub(crate) fn lost_told(alloc: Global, relation: &Relation) -> Result<String, Fa
 }
 
 /// The paths of two texts that aren't shared, and how many are.
-pub(crate) fn related_told(alloc: Global, old: &str, new: &str) -> Result<String, Fail> {
+fn related_told(alloc: Global, old: &str, new: &str) -> Result<String, Fail> {
     let relation = related(alloc, old, new)?;
     lost_told(alloc, &relation)
+}
+
+/// Asserts which paths of two texts aren't shared, and how many are.
+pub(crate) fn are_related_as(
+    rt: &impl Abort,
+    alloc: Global,
+    old: &str,
+    new: &str,
+    wanted: &str,
+) -> Result<(), Fail> {
+    let told = related_told(alloc, old, new)?;
+    assert_eq!(rt; told.as_str(), wanted, "of {old} and {new}");
+    Ok(())
 }
 
 /// Whether a path, without its category, is shared.

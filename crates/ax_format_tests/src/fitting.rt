@@ -4,6 +4,7 @@ use ax_grammar::read_spec;
 use ax_model::{Block, Entries, Entry, Lists, Octets, Record, Records, Spec, Value, Values, fits};
 use ax_tokens::tokens;
 use std::alloc::{AllocError, Global};
+use std::process::Abort;
 use std::test::Fail;
 
 // An item of each kind; slot 2 of the UAP is spare.
@@ -109,78 +110,140 @@ fn value_of(alloc: Global, form: Form<'_>) -> Result<Value, AllocError> {
 }
 
 // Each way not to fit, beside its nearest that fits.
-#[test]
-fn values_fit_by_their_kinds(rt: HostRuntime) -> Result<(), Fail> {
-    let alloc = rt.alloc();
-    let spec = each_kind(alloc)?;
-    for (slot, form, want) in [
-        (1, Form::Group(&[15, 0]), true),
-        (1, Form::Group(&[15, 16]), false),
-        (1, Form::Group(&[15]), false),
-        (1, Form::Group(&[15, 0, 0]), false),
-        (1, Form::Number(0), false),
-        (2, Form::Number(0), false),
-        (3, Form::Lists(&[15, 7], 1), true),
-        (3, Form::Lists(&[15, 8], 1), false),
-        (3, Form::Lists(&[15, 7], 0), false),
-        (3, Form::Lists(&[15, 7], 2), false),
-        (4, Form::Repeat(255, 255), true),
-        (4, Form::Repeat(255, 256), false),
-        (4, Form::Repeat(256, 1), false),
-        (5, Form::Repeat(127, 1), true),
-        (5, Form::Repeat(127, 0), false),
-        (6, Form::Zeros(254), true),
-        (6, Form::Zeros(255), false),
-        (7, Form::Marked(&[(1, 255), (3, 65535)]), true),
-        (7, Form::Marked(&[(3, 0), (1, 0)]), false),
-        (7, Form::Marked(&[(1, 0), (2, 0)]), false),
-        (8, Form::Number(0), false),
-    ] {
-        let block = one_item(alloc, slot, value_of(alloc, form)?)?;
-        assert_eq!(rt; fits(&spec, &block), want, "in slot {slot}");
-    }
+const FORMS: [(u32, Form<'static>, bool); 21] = [
+    (1, Form::Group(&[15, 0]), true),
+    (1, Form::Group(&[15, 16]), false),
+    (1, Form::Group(&[15]), false),
+    (1, Form::Group(&[15, 0, 0]), false),
+    (1, Form::Number(0), false),
+    (2, Form::Number(0), false),
+    (3, Form::Lists(&[15, 7], 1), true),
+    (3, Form::Lists(&[15, 8], 1), false),
+    (3, Form::Lists(&[15, 7], 0), false),
+    (3, Form::Lists(&[15, 7], 2), false),
+    (4, Form::Repeat(255, 255), true),
+    (4, Form::Repeat(255, 256), false),
+    (4, Form::Repeat(256, 1), false),
+    (5, Form::Repeat(127, 1), true),
+    (5, Form::Repeat(127, 0), false),
+    (6, Form::Zeros(254), true),
+    (6, Form::Zeros(255), false),
+    (7, Form::Marked(&[(1, 255), (3, 65535)]), true),
+    (7, Form::Marked(&[(3, 0), (1, 0)]), false),
+    (7, Form::Marked(&[(1, 0), (2, 0)]), false),
+    (8, Form::Number(0), false),
+];
+
+/// Asserts that a block of one record with that value in that slot fits, or doesn't.
+fn value_fits(
+    rt: &impl Abort,
+    alloc: Global,
+    spec: &Spec,
+    (slot, form): (u32, Form<'_>),
+    want: bool,
+) -> Result<(), AllocError> {
+    let block = one_item(alloc, slot, value_of(alloc, form)?)?;
+    assert_eq!(rt; fits(spec, &block), want, "in slot {slot}");
     Ok(())
 }
 
 #[test]
-fn blocks_fit_by_their_category(rt: HostRuntime) -> Result<(), Fail> {
+fn values_fit_by_their_kinds(rt: HostRuntime) -> Result<(), Fail> {
+    let alloc = rt.alloc();
+    let spec = each_kind(alloc)?;
+    for &(slot, form, want) in &FORMS {
+        value_fits(&rt, alloc, &spec, (slot, form), want)?;
+    }
+    Ok(())
+}
+
+fn opaque(alloc: Global, category: u8, count: u32) -> Result<Block, AllocError> {
+    let octets = zeros(alloc, count)?;
+    Ok(Block::Opaque { category, octets })
+}
+
+/// Asserts that an opaque block of that category and of so many octets fits, or doesn't.
+fn opaque_fits(
+    rt: &impl Abort,
+    alloc: Global,
+    spec: &Spec,
+    (category, count): (u8, u32),
+    want: bool,
+) -> Result<(), AllocError> {
+    let block = opaque(alloc, category, count)?;
+    assert_eq!(rt; fits(spec, &block), want, "of category {category}");
+    Ok(())
+}
+
+#[test]
+fn opaque_blocks_fit_by_their_category(rt: HostRuntime) -> Result<(), Fail> {
     let alloc = rt.alloc();
     let spec = each_kind(alloc)?;
     for (category, count, want) in [(205, 1, false), (204, 1, true), (204, 0, false)] {
-        let octets = zeros(alloc, count)?;
-        assert_eq!(rt; fits(&spec, &Block::Opaque { category, octets }), want);
+        opaque_fits(&rt, alloc, &spec, (category, count), want)?;
     }
-    assert!(rt; fits(&spec, &one_record(alloc, 205, Entries::new(alloc))?));
-    assert!(rt; !fits(&spec, &one_record(alloc, 204, Entries::new(alloc))?));
-    let records = Records::new(alloc);
-    assert!(rt;
-        !fits(
-            &spec,
-            &Block::Read {
-                category: 205,
-                records
-            }
-        )
-    );
     Ok(())
+}
+
+/// Asserts that a block of that category with one empty record fits, or doesn't.
+fn empty_record_fits(
+    rt: &impl Abort,
+    alloc: Global,
+    spec: &Spec,
+    category: u8,
+    want: bool,
+) -> Result<(), AllocError> {
+    let block = one_record(alloc, category, Entries::new(alloc))?;
+    assert_eq!(rt; fits(spec, &block), want, "of category {category}");
+    Ok(())
+}
+
+#[test]
+fn blocks_of_records_fit_by_their_category(rt: HostRuntime) -> Result<(), Fail> {
+    let alloc = rt.alloc();
+    let spec = each_kind(alloc)?;
+    empty_record_fits(&rt, alloc, &spec, 205, true)?;
+    empty_record_fits(&rt, alloc, &spec, 204, false)?;
+    let none = Block::Read {
+        category: 205,
+        records: Records::new(alloc),
+    };
+    assert!(rt; !fits(&spec, &none));
+    Ok(())
+}
+
+fn value_copied(alloc: Global) -> Result<Value, AllocError> {
+    let value = Value::Extended(lists(alloc, &[15, 7], 1)?);
+    value.copy(alloc)
+}
+
+fn block_copied(alloc: Global) -> Result<Block, AllocError> {
+    let block = one_item(alloc, 3, value_copied(alloc)?)?;
+    block.copy(alloc)
+}
+
+fn opaque_copied(alloc: Global) -> Result<Block, AllocError> {
+    let block = opaque(alloc, 7, 3)?;
+    block.copy(alloc)
+}
+
+fn spec_copied(alloc: Global) -> Result<Spec, Fail> {
+    let spec = each_kind(alloc)?;
+    Ok(spec.copy(alloc)?)
 }
 
 // The copies fit each other as the originals do.
 #[test]
 fn copies_stand_for_their_originals(rt: HostRuntime) -> Result<(), Fail> {
     let alloc = rt.alloc();
-    let spec = each_kind(alloc)?.copy(alloc)?;
+    let spec = spec_copied(alloc)?;
     assert_eq!(rt;
         (spec.category, spec.items.count(), spec.uap.count()),
         (205, 6, 7)
     );
-    let value = Value::Extended(lists(alloc, &[15, 7], 1)?).copy(alloc)?;
-    let block = one_item(alloc, 3, value)?.copy(alloc)?;
+    let block = block_copied(alloc)?;
     assert!(rt; fits(&spec, &block));
-    let opaque = Block::Opaque {
-        category: 7,
-        octets: zeros(alloc, 3)?,
-    };
-    assert!(rt; fits(&spec, &opaque.copy(alloc)?));
+    let opaque = opaque_copied(alloc)?;
+    assert!(rt; fits(&spec, &opaque));
     Ok(())
 }

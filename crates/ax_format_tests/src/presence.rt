@@ -4,6 +4,7 @@ ghost use Rattle.std.specs.Prelude.{◌≡◌, ◌≤◌};
 use ax_bits::Out;
 use ax_fspec::{Presence, SlotMask, read_presence, write_presence};
 use ax_model::{BodyCause, BodyFault};
+use std::process::Abort;
 
 // All slots up to the count, but for one that is spare.
 fn mask(count: u32, spare: u32) -> SlotMask
@@ -35,101 +36,120 @@ type Field<'a> = (u32, u32, &'a [u8], u32, &'a [u32]);
 // The same, with the fault's cause and bit.
 type Fault<'a> = (u32, u32, &'a [u8], u32, BodyCause, u32);
 
+// A field of eighteen octets that marks slot 126 alone.
+const LAST_SLOT: [u8; 18] = [1, 1, 1, 1, 1, 1, 1, 1, 1, 1, 1, 1, 1, 1, 1, 1, 1, 2];
+
+const FIELDS: [Field<'static>; 8] = [
+    (7, 0, &[0xa0], 0, &[1, 3]),
+    (7, 0, &[0xaa, 0x00], 1, &[]),
+    (1, 0, &[0x80, 0xff], 0, &[1]),
+    (14, 0, &[0x03, 0x02], 0, &[7, 14]),
+    (14, 2, &[0x01, 0x00], 0, &[]),
+    (28, 0, &[0x81, 0x01, 0x01, 0x00], 0, &[1]),
+    (126, 0, &LAST_SLOT, 0, &[126]),
+    (64, 0, &[1, 1, 1, 1, 1, 1, 1, 1, 3, 0x80], 0, &[63, 64]),
+];
+
+/// Asserts that the field marks its slots, and no slot that was in the set before.
+fn is_read(rt: &impl Abort, (count, spare, body, at, slots): Field<'_>) {
+    assert!(rt; 1 <= count && count <= 126 && body.len() <= 65532 && at as usize <= body.len());
+    let mut into = Presence::empty();
+    into.mark(5);
+    let end = read_presence(&mask(count, spare), body, at, &mut into);
+    assert!(rt; end.is_ok() && is_set(&into, slots), "{count} slots");
+}
+
 #[test]
 fn reads_fields(rt: HostRuntime) {
-    let mut long = [0x01; 18];
-    long[17] = 0x02;
-    let fields: [Field<'_>; 8] = [
-        (7, 0, &[0xa0], 0, &[1, 3]),
-        (7, 0, &[0xaa, 0x00], 1, &[]),
-        (1, 0, &[0x80, 0xff], 0, &[1]),
-        (14, 0, &[0x03, 0x02], 0, &[7, 14]),
-        (14, 2, &[0x01, 0x00], 0, &[]),
-        (28, 0, &[0x81, 0x01, 0x01, 0x00], 0, &[1]),
-        (126, 0, &long, 0, &[126]),
-        (64, 0, &[1, 1, 1, 1, 1, 1, 1, 1, 3, 0x80], 0, &[63, 64]),
-    ];
-    for (count, spare, body, at, slots) in fields {
-        assert!(rt; 1 <= count && count <= 126 && body.len() <= 65532 && at as usize <= body.len());
-        let mut into = Presence::empty();
-        into.mark(5);
-        let end = read_presence(&mask(count, spare), body, at, &mut into);
-        assert!(rt; end.is_ok() && is_set(&into, slots), "{count} slots");
+    for &field in &FIELDS {
+        is_read(&rt, field);
     }
+}
+
+const FAULTS: [Fault<'static>; 13] = [
+    (1, 0, &[0x81], 0, BodyCause::PresenceTooLong, 7),
+    (7, 0, &[0x03, 0x00], 0, BodyCause::PresenceTooLong, 7),
+    (8, 0, &[0x81, 0x81], 0, BodyCause::PresenceTooLong, 15),
+    (
+        14,
+        0,
+        &[0x01, 0x03, 0x00],
+        0,
+        BodyCause::PresenceTooLong,
+        15,
+    ),
+    (
+        28,
+        0,
+        &[0x01, 0x01, 0x01, 0x01],
+        0,
+        BodyCause::PresenceTooLong,
+        31,
+    ),
+    (126, 0, &[1; 18], 0, BodyCause::PresenceTooLong, 143),
+    (1, 0, &[0x40], 0, BodyCause::UndefinedSlot, 1),
+    (8, 0, &[0x01, 0x40], 0, BodyCause::UndefinedSlot, 9),
+    (7, 4, &[0x55, 0x10], 1, BodyCause::UndefinedSlot, 11),
+    (8, 2, &[0x41], 0, BodyCause::UndefinedSlot, 1),
+    (1, 0, &[0x41], 0, BodyCause::UndefinedSlot, 1),
+    (14, 0, &[0x81], 0, BodyCause::RunsOut, 8),
+    (7, 0, &[0xff], 1, BodyCause::RunsOut, 8),
+];
+
+/// Asserts that the field has its fault, and changes no set.
+fn is_refused(rt: &impl Abort, (count, spare, body, at, cause, bit): Fault<'_>) {
+    assert!(rt; 1 <= count && count <= 126 && body.len() <= 65532 && at as usize <= body.len());
+    let mut into = Presence::empty();
+    into.mark(5);
+    into.mark(77);
+    let end = read_presence(&mask(count, spare), body, at, &mut into);
+    assert_eq!(rt; end, Err(BodyFault { cause, bit }), "{count} slots");
+    assert!(rt; is_set(&into, &[5, 77]), "{count} slots");
 }
 
 #[test]
 fn refuses_fields_at_their_bit(rt: HostRuntime) {
-    let ones = [0x01; 18];
-    let faults: [Fault<'_>; 13] = [
-        (1, 0, &[0x81], 0, BodyCause::PresenceTooLong, 7),
-        (7, 0, &[0x03, 0x00], 0, BodyCause::PresenceTooLong, 7),
-        (8, 0, &[0x81, 0x81], 0, BodyCause::PresenceTooLong, 15),
-        (
-            14,
-            0,
-            &[0x01, 0x03, 0x00],
-            0,
-            BodyCause::PresenceTooLong,
-            15,
-        ),
-        (
-            28,
-            0,
-            &[0x01, 0x01, 0x01, 0x01],
-            0,
-            BodyCause::PresenceTooLong,
-            31,
-        ),
-        (126, 0, &ones, 0, BodyCause::PresenceTooLong, 143),
-        (1, 0, &[0x40], 0, BodyCause::UndefinedSlot, 1),
-        (8, 0, &[0x01, 0x40], 0, BodyCause::UndefinedSlot, 9),
-        (7, 4, &[0x55, 0x10], 1, BodyCause::UndefinedSlot, 11),
-        (8, 2, &[0x41], 0, BodyCause::UndefinedSlot, 1),
-        (1, 0, &[0x41], 0, BodyCause::UndefinedSlot, 1),
-        (14, 0, &[0x81], 0, BodyCause::RunsOut, 8),
-        (7, 0, &[0xff], 1, BodyCause::RunsOut, 8),
-    ];
-    for (count, spare, body, at, cause, bit) in faults {
-        assert!(rt; 1 <= count && count <= 126 && body.len() <= 65532 && at as usize <= body.len());
-        let mut into = Presence::empty();
-        into.mark(5);
-        into.mark(77);
-        let end = read_presence(&mask(count, spare), body, at, &mut into);
-        assert_eq!(rt; end, Err(BodyFault { cause, bit }), "{count} slots");
-        assert!(rt; is_set(&into, &[5, 77]), "{count} slots");
+    for &fault in &FAULTS {
+        is_refused(&rt, fault);
     }
+}
+
+// The slots of a set, and its least field.
+const LEAST: [(&[u32], &[u8]); 7] = [
+    (&[], &[0x00]),
+    (&[1], &[0x80]),
+    (&[7], &[0x02]),
+    (&[8], &[0x01, 0x80]),
+    (&[1, 14], &[0x81, 0x02]),
+    (&[63], &[1, 1, 1, 1, 1, 1, 1, 1, 0x02]),
+    (
+        &[3, 64, 126],
+        &[
+            0x21, 1, 1, 1, 1, 1, 1, 1, 1, 0x81, 1, 1, 1, 1, 1, 1, 1, 0x02,
+        ],
+    ),
+];
+
+/// Asserts that the least field of these slots has those octets.
+fn is_written(rt: &impl Abort, slots: &[u32], octets: &[u8]) {
+    let mut marked = Presence::empty();
+    for slot in slots {
+        assert!(rt; 1 <= *slot && *slot <= 126);
+        marked.mark(*slot);
+    }
+    let mut buffer = [0; 18];
+    assert_eq!(rt;
+        field_in(&marked, &mut buffer),
+        octets,
+        "{} slots",
+        slots.len()
+    );
 }
 
 #[test]
 fn writes_least_fields(rt: HostRuntime) {
-    let fields: [(&[u32], &[u8]); 7] = [
-        (&[], &[0x00]),
-        (&[1], &[0x80]),
-        (&[7], &[0x02]),
-        (&[8], &[0x01, 0x80]),
-        (&[1, 14], &[0x81, 0x02]),
-        (&[63], &[1, 1, 1, 1, 1, 1, 1, 1, 0x02]),
-        (
-            &[3, 64, 126],
-            &[
-                0x21, 1, 1, 1, 1, 1, 1, 1, 1, 0x81, 1, 1, 1, 1, 1, 1, 1, 0x02,
-            ],
-        ),
-    ];
-    for (slots, octets) in fields {
-        let mut marked = Presence::empty();
-        for slot in slots {
-            assert!(rt; 1 <= *slot && *slot <= 126);
-            marked.mark(*slot);
-        }
-        let mut buffer = [0; 18];
-        assert_eq!(rt;
-            field_in(&marked, &mut buffer),
-            octets,
-            "{} slots",
-            slots.len()
-        );
+    for &(slots, octets) in &LEAST {
+        is_written(&rt, slots, octets);
     }
 }
 

@@ -1,7 +1,7 @@
 //! The commands, over the specifications of their files.
 ghost use Rattle.std.specs.Prelude.{◌≡◌, ◌≤◌, ◌^◌, List, ℕ, [], ◌∷◌, length, IsTrue, IfOk, IfErr, OnErr};
 ghost use Rattle.ax_drive.specs.Working.{IsSoundJob, job_command};
-ghost use Rattle.ax_edition.specs.Relates.{Relates};
+ghost use Rattle.ax_relation.specs.Relates.{Relates};
 ghost use Rattle.ax_filter.specs.OfCode.{catalogue_of, expression};
 ghost use Rattle.ax_filter_work.specs.FilterCommand.{filter_command};
 ghost use Rattle.ax_grammar.specs.InRange.{AreNumbersInRange};

@@ -1,4 +1,3 @@
-pub mod Entered
 pub mod Indexing
 pub mod MoveLists
 pub mod Pairs

@@ -2,12 +2,13 @@
 use Rattle.std.proofs.Common.{◌≡◌, ℕ, ◌+◌, ◌<◌, ◌≤◌, true, false, cond, List, [], ◌∷◌, ◌++◌, length, map, drop, get_or, Option, Some, None, refl, sym, ◌∙◌, ap, append_assoc, append-nil}
 use Rattle.std.proofs.lemmas.List.{drop_all, map-append}
 use Rattle.std.specs.Borrow.{Bor}
-use Rattle.ax_edition.specs.Index.{found, slot_below, FindsBelow}
-use Rattle.ax_edition.specs.Moves.{MoveTree, move_from, moves_from, move_where, moves_below, moves_of, slot_moves}
-use Rattle.ax_edition.specs.PlainMoves.{move_tree}
+use Rattle.ax_edition.specs.Index.{found, FindsBelow}
+use Rattle.ax_relation.specs.Below.{slot_below}
+use Rattle.ax_relation.specs.Moves.{MoveTree, move_from, moves_from, move_where, moves_below, moves_of, slot_moves}
+use Rattle.ax_relation.specs.PlainMoves.{move_tree}
 use Rattle.ax_edition.specs.UapItems.{item_slot, items_tree}
 use Rattle.ax_edition.specs.declared.index.Index.{Index}
-use Rattle.ax_edition.specs.declared.moves.Move.{Move}
+use Rattle.ax_relation.specs.declared.moves.Move.{Move}
 use Rattle.ax_model.proofs.Namings.{from_place}
 use Rattle.ax_model.specs.Plain.{slot_tree, slots_tree}
 use Rattle.ax_model.specs.Shared.{is_shared_kind}

@@ -3,8 +3,9 @@ use Rattle.std.proofs.Common.{◌≡◌, ℕ, ◌+◌, Bool, false, List, [], �
 use Rattle.std.specs.List.{AllByRecursion}
 use Rattle.std.proofs.lemmas.List.{map-append}
 use Rattle.ax_edition.proofs.Said.{said_is_shared}
-use Rattle.ax_edition.specs.Known.{said_of, Knows, IsKnown, kind_below, known_kind, known_slots}
-use Rattle.ax_edition.specs.declared.known.Known.{Known}
+use Rattle.ax_edition.specs.Known.{kind_below, known_kind, known_slots}
+use Rattle.ax_relation.specs.Known.{said_of, Knows, IsKnown}
+use Rattle.ax_relation.specs.declared.known.Known.{Known}
 use Rattle.ax_edition_laws.proofs.Distinct.{Distinct}
 use Rattle.ax_edition_laws.proofs.DistinctNames.{record_distinct}
 use Rattle.ax_edition_laws.proofs.PlacedPaths.{StandsNamed, all_named, placed_slot_names}

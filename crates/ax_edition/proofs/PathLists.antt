@@ -5,7 +5,7 @@ use Rattle.std.specs.Borrow.{Bor}
 use Rattle.ax_edition.specs.Relating.{target_below, lead, LeadsBelow, shared_place, related_kind, related_slots, related_slot}
 use Rattle.ax_edition.specs.UapItems.{item_slot, items_tree}
 use Rattle.ax_edition.specs.declared.relating.Level.{Level}
-use Rattle.ax_edition.specs.declared.relation.RelationPath.{RelationPath}
+use Rattle.ax_relation.specs.declared.relation.RelationPath.{RelationPath}
 use Rattle.ax_model.proofs.Namings.{from_place}
 use Rattle.ax_model.specs.Placed.{place_from}
 use Rattle.ax_model.specs.Plain.{slot_tree, slots_tree}

@@ -8,8 +8,8 @@ use Rattle.ax_model.specs.Specification.{SpecTree, record_slots, record_kind}
 use Rattle.ax_model.specs.Tree.{KindTree, fixed, extended, counted, by_fx, explicit, compound, SlotsTree, no_slots, slot_and, spare_slot, subitem}
 use Rattle.ax_model.specs.declared.place.Place.{Place}
 use Rattle.ax_edition.specs.Relating.{target_below, shared_place, related_kind, related_slots}
-use Rattle.ax_edition.specs.Relation.{related_path, relation_paths}
-use Rattle.ax_edition.specs.declared.relation.RelationPath.{RelationPath}
+use Rattle.ax_relation.specs.Paths.{related_path, relation_paths}
+use Rattle.ax_relation.specs.declared.relation.RelationPath.{RelationPath}
 use Rattle.ax_edition_laws.proofs.PlacedPaths.{StandsNamed, all_named}
 use Rattle.ax_edition_laws.proofs.Distinct.{Distinct}
 use Rattle.ax_model.specs.Named.{kind_at}

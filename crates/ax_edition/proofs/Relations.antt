@@ -1,26 +1,24 @@
 -- What a relation holds.
-use Rattle.std.proofs.Common.{◌≡◌, ℕ, Bool, false, List, [], map, Some, option_map, option_and_then, unwrap_or, ◌∙◌, ap}
+use Rattle.std.proofs.Common.{◌≡◌, ℕ, List, [], map, Some, option_map, option_and_then, ◌∙◌, ap}
 use Rattle.ax_edition.proofs.Pairs.{whole_known}
 use Rattle.ax_edition.proofs.Readable.{walk_is_relation}
 use Rattle.ax_edition.specs.Index.{found, Finds}
-use Rattle.ax_edition.specs.Known.{said, Knows, IsKnown, kind_found, known_slots}
-use Rattle.ax_edition.specs.Moves.{moves_of, record_moves}
-use Rattle.ax_edition.specs.PlainMoves.{move_tree}
-use Rattle.ax_edition.specs.Relates.{Relates}
+use Rattle.ax_edition.specs.Known.{kind_found, known_slots}
+use Rattle.ax_relation.specs.Known.{Knows, IsKnown}
+use Rattle.ax_relation.specs.Moves.{moves_of, record_moves}
+use Rattle.ax_relation.specs.PlainMoves.{move_tree}
 use Rattle.ax_edition.specs.Relating.{target_below, lead, LeadsBelow, related_slots}
-use Rattle.ax_edition.specs.Relation.{relation_paths}
+use Rattle.ax_relation.specs.Paths.{relation_paths}
 use Rattle.ax_edition.specs.declared.index.Index.{Index}
-use Rattle.ax_edition.specs.declared.known.Known.{Known}
-use Rattle.ax_edition.specs.declared.moves.Move.{Move}
+use Rattle.ax_relation.specs.declared.known.Known.{Known}
+use Rattle.ax_relation.specs.declared.moves.Move.{Move}
 use Rattle.ax_edition.specs.declared.relating.Level.{Level}
-use Rattle.ax_edition.specs.declared.relation.Relation.{Relation}
-use Rattle.ax_edition.specs.declared.relation.RelationPath.{RelationPath}
+use Rattle.ax_relation.specs.declared.relation.RelationPath.{RelationPath}
 use Rattle.ax_edition_laws.proofs.DistinctNames.{record_distinct}
 use Rattle.ax_model.specs.OfCode.{HasNoFlaw}
 use Rattle.ax_model.specs.Naming.{slot_named}
 use Rattle.ax_model.specs.Paths.{three_digits}
 use Rattle.ax_model.specs.Plain.{spec_tree}
-use Rattle.ax_model.specs.Shared.{Shared}
 use Rattle.ax_model.specs.Specification.{record_slots}
 use Rattle.ax_model.specs.Tree.{SlotsTree, compound}
 use Rattle.ax_model.specs.declared.spec.Spec.{Spec}
@@ -41,9 +39,3 @@ module _ (old new : Spec) (os ns : SlotsTree) (o : os ≡ record_slots (spec_tre
   moves_are index moves f m =
       let rules : found index ≡ (λ name. slot_named 1 name os) = λ i name. f.finds name i in
       m ∙ (λ i. moves_of 1 (n i) (rules i)) ∙ ap (λ x. moves_of 1 (record_slots (spec_tree new)) (λ name. slot_named 1 name x)) o
-
-pub is_shared_path : (old new : Spec) (relation : Relation) (path : List (List ℕ)) (names : List (List ℕ)) (b : Bool) → b ≡ unwrap_or (said relation.known names) false → names ≡ path → Relates old new relation
-    → b ≡ Shared (spec_tree old) (spec_tree new) path
-is_shared_path old new relation path names b e n r = e ∙ ap (λ x. unwrap_or (said relation.known x) false) n ∙ r.known.shared path
-
-pub ruleset sharing = (is_shared_path)

@@ -2,7 +2,7 @@
 use Rattle.std.proofs.Common.{◌≡◌, ℕ, ◌+◌, Bool, true, false, cond, is_some, List, [], ◌∷◌, map, Option, Some, None, unwrap_or, refl, sym, ◌∙◌, ap, arith}
 use Rattle.ax_model.specs.Specification.{SpecTree, record_slots, record_kind}
 use Rattle.ax_model.specs.Tree.{KindTree}
-use Rattle.ax_edition.specs.Known.{said_of}
+use Rattle.ax_relation.specs.Known.{said_of}
 use Rattle.ax_edition_laws.proofs.Losses.{slot_once, path_is}
 use Rattle.ax_edition_laws.proofs.Distinct.{Distinct}
 use Rattle.ax_edition_laws.specs.Fates.{is_path, times}

@@ -6,11 +6,13 @@ use Rattle.ax_model.specs.Tree.{KindTree, fixed, extended, counted, by_fx, expli
 use Rattle.ax_model.specs.declared.kind.Slot.{Slot}
 use Rattle.ax_model.specs.declared.spec.Item.{Item}
 use Rattle.std.specs.Borrow.{Bor}
-use Rattle.ax_edition.specs.Index.{slot_below, FindsBelow}
-use Rattle.ax_edition.specs.Known.{said, said_of, Says, Knows, kind_found, kind_below, known_kind, known_slot, known_slots}
+use Rattle.ax_edition.specs.Index.{FindsBelow}
+use Rattle.ax_relation.specs.Below.{slot_below}
+use Rattle.ax_edition.specs.Known.{kind_found, kind_below, known_kind, known_slot, known_slots}
+use Rattle.ax_relation.specs.Known.{said, said_of, Says, Knows}
 use Rattle.ax_edition.specs.UapItems.{item_slot, items_tree}
 use Rattle.ax_edition.specs.declared.index.Index.{Index}
-use Rattle.ax_edition.specs.declared.known.Known.{Known}
+use Rattle.ax_relation.specs.declared.known.Known.{Known}
 use Rattle.ax_edition_laws.specs.Fates.{is_path}
 use Rattle.ax_model.specs.Shared.{are_shared}
 

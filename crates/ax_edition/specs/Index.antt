@@ -5,8 +5,9 @@ use Rattle.ax_edition.specs.Numbers.{numbered}
 use Rattle.ax_edition.specs.declared.index.Index.{Index}
 use Rattle.ax_model.specs.Naming.{slot_named}
 use Rattle.ax_model.specs.Plain.{kind_tree}
-use Rattle.ax_model.specs.Tree.{KindTree, compound, SlotsTree}
+use Rattle.ax_model.specs.Tree.{KindTree, SlotsTree}
 use Rattle.ax_model.specs.declared.kind.Kind.{Kind}
+use Rattle.ax_relation.specs.Below.{slot_below}
 
 abbrev pub seen_kind : Option (Bor Kind) → Option KindTree
 seen_kind kind = option_map (λ k. kind_tree k.now) kind
@@ -26,11 +27,6 @@ slot_found s = (s.0, kind_tree s.1.now)
 -- the first slot of each name, where the first of these slots has the number n
 pub record Finds (n : ℕ) (ss : SlotsTree) (index : Index) : Type 0 where
   pub finds : (name : List ℕ) → found index name ≡ slot_named n name ss
-
--- a slot of that name below a kind
-abbrev pub slot_below : List ℕ → KindTree → Option (ℕ × KindTree)
-slot_below name (compound ss) = slot_named 1 name ss
-slot_below name _ = None
 
 pub record FindsBelow (kind : Option KindTree) (index : Index) : Type 0 where
   pub finds : (name : List ℕ) → found index name ≡ option_and_then (slot_below name) kind

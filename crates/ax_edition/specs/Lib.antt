@@ -1,9 +1,6 @@
 pub mod Index
 pub mod Known
-pub mod Moves
 pub mod Numbers
-pub mod PlainMoves
-pub mod Relates
 pub mod Relating
-pub mod Relation
 pub mod UapItems
+pub mod Unrelated

@@ -1,10 +1,11 @@
 -- The relation of two editions as it is made, path by path of the old edition. What stands at a path of the new edition is
 -- the slot numbers on the way to it, and its kind.
 use Rattle.std.specs.Prelude.{◌≡◌, ℕ, ◌+◌, if◌then◌else◌, List, [], ◌∷◌, ◌++◌, Option, Some, None, option_map, option_and_then}
-use Rattle.ax_edition.specs.Index.{found, slot_below}
+use Rattle.ax_edition.specs.Index.{found}
+use Rattle.ax_relation.specs.Below.{slot_below}
 use Rattle.ax_edition.specs.declared.relating.Level.{Level}
 use Rattle.ax_edition.specs.declared.relating.Target.{Target}
-use Rattle.ax_edition.specs.declared.relation.RelationPath.{RelationPath}
+use Rattle.ax_relation.specs.declared.relation.RelationPath.{RelationPath}
 use Rattle.ax_model.specs.Paths.{at}
 use Rattle.ax_model.specs.Placed.{place_from}
 use Rattle.ax_model.specs.Plain.{kind_tree}

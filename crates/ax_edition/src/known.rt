@@ -1,53 +1,18 @@
-//! Which named paths are shared, by their names.
+//! The named paths of the old edition entered, each with whether it is shared.
 ghost use Rattle.std.specs.Prelude.{◌≡◌, ◌++◌, ℕ, List, ◌∷◌, [], None, Some, OnOk, IfOk, option_map, unwrap_or, false};
 ghost use Rattle.std.specs.Option.{option_copied};
 ghost use Rattle.ax_model.specs.Plain.{kind_tree, slot_tree, slots_tree};
 ghost use Rattle.ax_model.specs.Shared.{are_shared};
-ghost use Rattle.ax_edition.specs.Known.{said, Says, Knows, kind_found, known_kind, known_slot, known_slots};
+ghost use Rattle.ax_edition.specs.Known.{kind_found, known_kind, known_slot, known_slots};
+ghost use Rattle.ax_relation.specs.Known.{said, Says, Knows};
 ghost use Rattle.ax_edition.specs.UapItems.{item_slot, items_tree};
 
 use crate::index::{Index, index_below};
 use crate::sameness::is_shared;
 use crate::uap_items::UapItems;
 use ax_model::{Item, Kind, Name, Slot, Slots};
-use indexmap::IndexMap;
+use ax_relation::Known;
 use std::alloc::{AllocError, Global};
-
-/// The named paths of an old edition in order, each with whether it is shared.
-#[derive(Drop)]
-pub(crate) struct Known {
-    paths: IndexMap<Vec<Name>, bool>,
-}
-
-impl Known {
-    /// No path. Takes no memory.
-    fn new(alloc: Global) -> Known
-        ensures { (path : List (List ℕ)) → said result path ≡ None }
-    {
-        Known {
-            paths: IndexMap::new(alloc),
-        }
-    }
-
-    /// Takes note of a path.
-    fn enter(&mut self, alloc: Global, names: &[Name], shared: bool) -> Result<(), AllocError>
-        ensures { OnOk result (Says ((names.now, shared) ∷ []) self.old self.new) }
-    {
-        let key = Vec::from_slice(alloc, names)?;
-        self.paths.insert(key, shared)?;
-        Ok(())
-    }
-
-    /// Whether it is a path that is shared. Takes no memory.
-    pub(crate) fn shared(&self, names: &[Name]) -> bool
-        ensures { result ≡ unwrap_or (said self.now names.now) false }
-    {
-        match self.paths.get(names) {
-            Some(shared) => *shared,
-            None => false,
-        }
-    }
-}
 
 /// Whether the kind shares with the one at the same path, if there is one.
 fn shares(kind: &Kind, new: &Option<&Kind>) -> bool

@@ -11,5 +11,5 @@ mod relation;
 mod sameness;
 mod uap_items;
 
-pub use moves::{Move, Moves};
-pub use relation::{RelateError, Relation, RelationPath, RelationPaths, relate};
+pub use ax_relation::{Move, Moves, Relation, RelationPath, RelationPaths};
+pub use relation::{RelateError, relate};

@@ -1,29 +1,17 @@
-//! Which slots move where.
+//! Which slots move where, found slot by slot of the new edition.
 ghost use Rattle.std.specs.Prelude.{◌≡◌, ◌++◌, ◌∷◌, [], IfOk, OnOk, map};
 ghost use Rattle.ax_model.specs.Plain.{kind_tree, slot_tree, slots_tree};
 ghost use Rattle.ax_edition.specs.Index.{found};
-ghost use Rattle.ax_edition.specs.Moves.{move_where, moves_below, moves_of, slot_moves};
-ghost use Rattle.ax_edition.specs.PlainMoves.{move_tree};
+ghost use Rattle.ax_relation.specs.Moves.{move_where, moves_below, moves_of, slot_moves};
+ghost use Rattle.ax_relation.specs.PlainMoves.{move_tree};
 ghost use Rattle.ax_edition.specs.UapItems.{item_slot, items_tree};
 
 use crate::index::{Index, index_below};
 use crate::sameness::is_shared;
 use crate::uap_items::UapItems;
-use ax_lists::Sequence;
 use ax_model::{Item, Kind, Name, Slot, Slots};
+use ax_relation::{Move, Moves};
 use std::alloc::{AllocError, Global};
-
-/// Moves, in the order of the new slots.
-pub type Moves = Sequence<Move>;
-
-/// That the value of an old slot moves to a new one, and in a compound what moves below. Slots are numbered from 1.
-#[cycle(moves)]
-#[derive(Drop)]
-pub struct Move {
-    pub old: u32,
-    pub new: u32,
-    pub below: Moves,
-}
 
 /// Appends a move. A list of more than 2^32 - 1 moves is a want of memory.
 fn push(moves: &mut Moves, one: Move) -> Result<(), AllocError>

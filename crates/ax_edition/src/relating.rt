@@ -7,10 +7,10 @@ ghost use Rattle.ax_edition.specs.Relating.{target_tree, lead, LeadsBelow, share
 ghost use Rattle.ax_edition.specs.UapItems.{item_slot, items_tree};
 
 use crate::index::{Index, index_below, index_items};
-use crate::relation::{RelationPath, RelationPaths};
 use crate::sameness::is_shared;
 use crate::uap_items::UapItems;
 use ax_model::{Item, Kind, Name, Place, Slot, Slots, Steps, Text, at_name};
+use ax_relation::{RelationPath, RelationPaths};
 use std::alloc::{AllocError, Global};
 
 /// What stands at a path of the new edition: the slot numbers on the way to it, the first of which is an FRN, and its kind.

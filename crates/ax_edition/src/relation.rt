@@ -1,39 +1,18 @@
 ghost use Rattle.std.specs.Prelude.{◌≡◌, IfOk, OnOk, IfErr};
 ghost use Rattle.ax_model.specs.OfCode.{HasNoFlaw};
-ghost use Rattle.ax_model.specs.Plain.{spec_tree};
-ghost use Rattle.ax_model.specs.Shared.{Shared};
-ghost use Rattle.ax_model.specs.declared.spec.Spec.{Spec};
-ghost use Rattle.ax_edition.specs.Relates.{Relates, WhyUnrelated};
+ghost use Rattle.ax_edition.specs.Unrelated.{WhyUnrelated};
+ghost use Rattle.ax_relation.specs.Relates.{Relates};
 
 use crate::index::index_items;
-use crate::known::{Known, know_items};
-use crate::moves::{Moves, move_items};
+use crate::known::know_items;
+use crate::moves::move_items;
 use crate::relating::{Level, relate_items};
 use crate::uap_items::uap_items;
 use ax_check::Accepted;
-use ax_lists::Sequence;
-use ax_model::{Path, Place, Spec, Text, of_category};
+use ax_model::{Spec, of_category};
+use ax_relation::Relation;
 use std::alloc::{AllocError, Global};
 use thiserror::Error;
-
-/// A named path of the old edition: its text, its old place, and its new one where it is shared.
-#[derive(Drop)]
-pub struct RelationPath {
-    pub text: Text,
-    pub old: Place,
-    pub new: Option<Place>,
-}
-
-/// Named paths of the old edition, in order.
-pub type RelationPaths = Sequence<RelationPath>;
-
-/// The relation of two editions of one category.
-#[derive(Drop)]
-pub struct Relation {
-    paths: RelationPaths,
-    known: Known,
-    moves: Moves,
-}
 
 /// Why two specifications have no relation.
 #[derive(Debug, Drop, Error)]
@@ -61,11 +40,7 @@ fn relation_of(alloc: Global, old: &Spec, new: &Spec) -> Result<Relation, AllocE
     let known = know_items(alloc, &old_items, &new_index)?;
     let old_index = index_items(alloc, &old_items)?;
     let moves = move_items(alloc, &new_items, &old_index)?;
-    Ok(Relation {
-        paths,
-        known,
-        moves,
-    })
+    Ok(Relation::new(paths, known, moves))
 }
 
 /// The relation of two editions. OtherCategory comes exactly where the categories differ.
@@ -84,30 +59,5 @@ pub fn relate(alloc: Global, old: &Accepted, new: &Accepted) -> Result<Relation,
     match relation_of(alloc, old, new) {
         Ok(relation) => Ok(relation),
         Err(_) => Err(RelateError::OutOfMemory),
-    }
-}
-
-impl Relation {
-    /// Whether the path is a named path of the old edition that the new one shares. Takes no memory.
-    #[tactic(auto, using(crate::proofs::Relations::sharing))]
-    pub fn shared(&self, path: &Path) -> bool
-        ensures { (old new : Spec) → Relates old new self.now → result ≡ Shared (spec_tree old) (spec_tree new) path.now }
-    {
-        self.known.shared(path.as_slice())
-    }
-
-    /// The named paths of the old edition in order, each with its text, its old place, and its new one where it is
-    /// shared. Takes no memory.
-    pub fn paths(&self) -> &RelationPaths
-        ensures { result.now ≡ self.now.paths }
-    {
-        &self.paths
-    }
-
-    /// The shared slots in the order of the new edition.
-    pub fn moves(&self) -> &Moves
-        ensures { result.now ≡ self.now.moves }
-    {
-        &self.moves
     }
 }

@@ -1,7 +1,7 @@
 -- Entries by the moves of two editions are the moved ones.
 use Rattle.std.proofs.Common.{◌≡◌, ℕ, ◌+◌, Bool, true, false, cond, List, [], ◌∷◌, ◌++◌, Option, Some, None, option_map, option_and_then, refl, ap}
-use Rattle.ax_edition.specs.Index.{slot_below}
-use Rattle.ax_edition.specs.Moves.{move_from, moves_from, move_where, moves_below, moves_of}
+use Rattle.ax_relation.specs.Below.{slot_below}
+use Rattle.ax_relation.specs.Moves.{move_from, moves_from, move_where, moves_below, moves_of}
 use Rattle.ax_edition_laws.proofs.MovedNamed.{source_value, new_value}
 use Rattle.ax_edition_laws.proofs.MovedShape.{slot_shape}
 use Rattle.ax_edition_laws.specs.Moved.{entry_where, moved, moved_entries}

@@ -1,7 +1,7 @@
 -- The losses that are found are the lost paths.
 use Rattle.std.proofs.Common.{◌≡◌, ℕ, ◌+◌, Bool, option_and_then, true, false, cond, ◌&&◌, not, is_some, is_none, List, [], ◌∷◌, ◌++◌, map, filter, Option, Some, None, option_map, refl, sym, ◌∙◌, ap}
 use Rattle.std.specs.List.{AllByRecursion}
-use Rattle.ax_edition.specs.Relation.{related_path, relation_paths}
+use Rattle.ax_relation.specs.Paths.{related_path, relation_paths}
 use Rattle.ax_edition_laws.proofs.Distinct.{Distinct}
 use Rattle.ax_edition_laws.proofs.PlacedPaths.{StandsNamed, all_named, kind_has_steps, placed_slot_names}
 use Rattle.ax_migrate.specs.Finding.{value_below, is_there, record_losses, found_losses}

@@ -1,11 +1,11 @@
 -- What the code makes of a block is its migrated block, with its losses.
 use Rattle.std.proofs.Common.{◌≡◌, ℕ, ◌<◌, List, [], ◌∷◌, length, map, refl, sym, ◌∙◌, ap, subst}
 use Rattle.std.specs.List.{AllByRecursion}
-use Rattle.ax_edition.specs.Moves.{moves_from, record_moves}
-use Rattle.ax_edition.specs.PlainMoves.{move_tree, moves_tree}
-use Rattle.ax_edition.specs.Relates.{Relates}
-use Rattle.ax_edition.specs.declared.moves.Move.{Move}
-use Rattle.ax_edition.specs.declared.relation.Relation.{Relation}
+use Rattle.ax_relation.specs.Moves.{moves_from, record_moves}
+use Rattle.ax_relation.specs.PlainMoves.{move_tree, moves_tree}
+use Rattle.ax_relation.specs.Relates.{Relates}
+use Rattle.ax_relation.specs.declared.moves.Move.{Move}
+use Rattle.ax_relation.specs.declared.relation.Relation.{Relation}
 use Rattle.ax_migrate.proofs.ByMoves.{entries_moved}
 use Rattle.ax_migrate.proofs.Found.{all_found}
 use Rattle.ax_migrate.specs.Finding.{found_losses}

@@ -1,6 +1,6 @@
 -- Losses as they are found, path by path of the relation.
 use Rattle.std.specs.Prelude.{ℕ, ◌+◌, Bool, ◌&&◌, if◌then◌else◌, is_none, is_some, List, [], ◌∷◌, ◌++◌, Option, Some, None, option_and_then}
-use Rattle.ax_edition.specs.declared.relation.RelationPath.{RelationPath}
+use Rattle.ax_relation.specs.declared.relation.RelationPath.{RelationPath}
 use Rattle.ax_migrate.specs.declared.losing.LossEntry.{LossEntry}
 use Rattle.ax_model.specs.At.{slot_value}
 use Rattle.ax_model.specs.Tree.{ValueTree, marked, EntriesTree}

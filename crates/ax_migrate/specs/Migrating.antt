@@ -1,7 +1,7 @@
 -- The migrated block, as a function of the block, and over the code's types.
 use Rattle.std.specs.Prelude.{List, map}
-use Rattle.ax_edition.specs.PlainMoves.{moves_tree}
-use Rattle.ax_edition.specs.declared.moves.Move.{Move}
+use Rattle.ax_relation.specs.PlainMoves.{moves_tree}
+use Rattle.ax_relation.specs.declared.moves.Move.{Move}
 use Rattle.ax_edition_laws.specs.Moved.{moved_record}
 use Rattle.ax_migrate.specs.Losing.{block_losses}
 use Rattle.ax_migrate.specs.Moving.{entries_by}

@@ -1,6 +1,6 @@
 -- Values and entries by moves.
 use Rattle.std.specs.Prelude.{ℕ, List, [], ◌∷◌, Option, Some, None, option_map}
-use Rattle.ax_edition.specs.Moves.{MoveTree, move_from, MovesTree, no_moves, move_and}
+use Rattle.ax_relation.specs.Moves.{MoveTree, move_from, MovesTree, no_moves, move_and}
 use Rattle.ax_edition_laws.specs.Moved.{entry_where}
 use Rattle.ax_model.specs.At.{slot_value}
 use Rattle.ax_model.specs.Tree.{ValueTree, marked, EntriesTree, no_entries, entry_and}

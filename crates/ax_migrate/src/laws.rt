@@ -1,8 +1,8 @@
 //! The laws of migration. Each function stands for what its contract says.
 ghost use Rattle.std.specs.Prelude.{◌≡◌, ◌↔◌};
-ghost use Rattle.ax_edition.specs.PlainMoves.{moves_tree};
-ghost use Rattle.ax_edition.specs.Relates.{Relates};
-ghost use Rattle.ax_edition.specs.declared.relation.Relation.{Relation};
+ghost use Rattle.ax_relation.specs.PlainMoves.{moves_tree};
+ghost use Rattle.ax_relation.specs.Relates.{Relates};
+ghost use Rattle.ax_relation.specs.declared.relation.Relation.{Relation};
 ghost use Rattle.ax_migrate.specs.Migrating.{migrated_block};
 ghost use Rattle.ax_migrate.specs.Moving.{entries_by};
 ghost use Rattle.ax_model.specs.Blocks.{BlockTree, Fits};

@@ -4,9 +4,9 @@ ghost use Rattle.ax_migrate.specs.Finding.{is_there, path_loss, record_losses, v
 ghost use Rattle.ax_model.specs.Plain.{value_tree, entries_tree, record_tree};
 
 use crate::moving::value_of;
-use ax_edition::{RelationPath, RelationPaths};
 use ax_lists::Sequence;
 use ax_model::{Entries, Place, Record, Text, Value};
+use ax_relation::{RelationPath, RelationPaths};
 use std::alloc::{AllocError, Global};
 
 /// A lost entry: the number of its record in the block, from 0, and the text of its path.

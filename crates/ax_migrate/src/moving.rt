@@ -1,13 +1,13 @@
 //! Values and entries of the old edition, as they move to the new one.
 ghost use Rattle.std.specs.Prelude.{◌≡◌, ◌++◌, map, IfOk, OnOk, option_map};
 ghost use Rattle.std.specs.Option.{option_copied};
-ghost use Rattle.ax_edition.specs.PlainMoves.{move_tree, moves_tree};
+ghost use Rattle.ax_relation.specs.PlainMoves.{move_tree, moves_tree};
 ghost use Rattle.ax_migrate.specs.Moving.{entries_by, move_entries, moved_by};
 ghost use Rattle.ax_model.specs.At.{slot_value};
 ghost use Rattle.ax_model.specs.Plain.{value_tree, entry_tree, entries_tree};
 
-use ax_edition::{Move, Moves};
 use ax_model::{Entries, Entry, Value};
+use ax_relation::{Move, Moves};
 use std::alloc::{AllocError, Global};
 
 /// The value of the slot of that number, if there is an entry for it.

@@ -5,10 +5,10 @@ use Rattle.std.proofs.lemmas.List.Concat.{flat_map-append}
 use Rattle.ax_bits.proofs.Words.{bits-append, length-bits}
 use Rattle.ax_bits.specs.Bits.{bits}
 use Rattle.ax_canon.proofs.BodyWriting.{gets_of, some_bits}
-use Rattle.ax_edition.specs.Moves.{MovesTree}
-use Rattle.ax_edition.specs.PlainMoves.{moves_tree}
-use Rattle.ax_edition.specs.declared.moves.Move.{Move}
-use Rattle.ax_edition.specs.declared.relation.RelationPath.{RelationPath}
+use Rattle.ax_relation.specs.Moves.{MovesTree}
+use Rattle.ax_relation.specs.PlainMoves.{moves_tree}
+use Rattle.ax_relation.specs.declared.moves.Move.{Move}
+use Rattle.ax_relation.specs.declared.relation.RelationPath.{RelationPath}
 use Rattle.ax_migrate.specs.Finding.{record_losses, found_losses}
 use Rattle.ax_migrate.specs.Losing.{lost_line, lost_lines}
 use Rattle.ax_migrate.specs.declared.losing.LossEntry.{LossEntry}

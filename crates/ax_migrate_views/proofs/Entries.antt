@@ -1,9 +1,9 @@
 -- Moves and entries, one at a time.
 use Rattle.std.proofs.Common.{◌≡◌, ℕ, ◌+◌, ◌-◌, ◌<◌, ◌≤◌, List, [], ◌++◌, length, drop, get_or, Option, Some, None, refl, sym, ◌∙◌, ap, arith, subst, append_assoc, append-nil}
 use Rattle.std.proofs.lemmas.List.{drop_all}
-use Rattle.ax_edition.specs.Moves.{MoveTree, move_from, MovesTree, move_and}
-use Rattle.ax_edition.specs.PlainMoves.{move_step, move_tree, moves_tree}
-use Rattle.ax_edition.specs.declared.moves.Move.{Move, out-Move, fold_out-Move}
+use Rattle.ax_relation.specs.Moves.{MoveTree, move_from, MovesTree, move_and}
+use Rattle.ax_relation.specs.PlainMoves.{move_step, move_tree, moves_tree}
+use Rattle.ax_relation.specs.declared.moves.Move.{Move, out-Move, fold_out-Move}
 use Rattle.ax_migrate_views.proofs.LaidBits.{lays_none, lays_more}
 use Rattle.ax_migrate_views.specs.Laying.{Lays}
 use Rattle.ax_migrate_views.specs.Octets.{marks_by, field_by, spelled_where, canon_by, entries_canon_by, move_canon, move_marks}

@@ -1,10 +1,10 @@
 -- Paths that have no new place are all that a record can lose.
 use Rattle.std.proofs.Common.{◌≡◌, ℕ, suc, ◌+◌, ◌<◌, ◌≤◌, ◌&&◌, cond, arith, Bool, true, false, is_none, is_some, List, [], ◌∷◌, ◌++◌, length, drop, get_or, Option, Some, None, refl, sym, ◌∙◌, ap, append_assoc, append-nil}
 use Rattle.std.proofs.lemmas.List.{drop_all}
-use Rattle.ax_edition.specs.declared.relation.RelationPath.{RelationPath}
+use Rattle.ax_relation.specs.declared.relation.RelationPath.{RelationPath}
 use Rattle.ax_edition_laws.proofs.Distinct.{Distinct}
 use Rattle.ax_migrate.proofs.Found.{found_is_lost}
-use Rattle.ax_edition.specs.Relation.{relation_paths}
+use Rattle.ax_relation.specs.Paths.{relation_paths}
 use Rattle.ax_migrate.specs.Finding.{is_there, path_loss, record_losses, found_losses}
 use Rattle.ax_migrate.specs.Losing.{losses_from}
 use Rattle.ax_migrate_views.specs.Gone.{gone, gone_of}

@@ -2,9 +2,9 @@
 use Rattle.std.proofs.Common.{◌≡◌, ℕ, zero, suc, ◌+◌, ◌-◌, ◌<◌, ◌≤◌, false, List, [], ◌∷◌, length, map, drop, get_or, refl, sym, ◌∙◌, ap, arith, subst}
 use Rattle.std.proofs.lemmas.List.{drop_all, get_or_default}
 use Rattle.ax_bits.specs.Bits.{bits}
-use Rattle.ax_edition.specs.Moves.{MoveTree, MovesTree}
-use Rattle.ax_edition.specs.PlainMoves.{move_step, move_tree, moves_tree}
-use Rattle.ax_edition.specs.declared.moves.Move.{Move, out-Move, fold_out-Move}
+use Rattle.ax_relation.specs.Moves.{MoveTree, MovesTree}
+use Rattle.ax_relation.specs.PlainMoves.{move_step, move_tree, moves_tree}
+use Rattle.ax_relation.specs.declared.moves.Move.{Move, out-Move, fold_out-Move}
 use Rattle.ax_fspec.specs.declared.mask.SlotMask.{SlotMask}
 use Rattle.ax_migrate_views.proofs.KeptWhole.{whole_stays}
 use Rattle.ax_migrate_views.specs.Keeping.{IsLeaf, KeepsAll, MovesWhole, StaysIn}

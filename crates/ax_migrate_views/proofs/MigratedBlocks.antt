@@ -7,8 +7,8 @@ use Rattle.ax_bits.proofs.Words.{length-bits}
 use Rattle.ax_bits.specs.Bits.{bits, word, AreBits, AreOctets}
 use Rattle.ax_canon.proofs.Framing.{framed_bits, octets_long}
 use Rattle.ax_canon.proofs.Patching.{body_shape}
-use Rattle.ax_edition.specs.Moves.{moves_from, record_moves}
-use Rattle.ax_edition.specs.PlainMoves.{moves_tree}
+use Rattle.ax_relation.specs.Moves.{moves_from, record_moves}
+use Rattle.ax_relation.specs.PlainMoves.{moves_tree}
 use Rattle.ax_edition_laws.proofs.Once.{moved_migrated}
 use Rattle.ax_edition_laws.proofs.SmallBlocks.{migrated_is_small}
 use Rattle.ax_edition_laws.specs.Moved.{moved_record}

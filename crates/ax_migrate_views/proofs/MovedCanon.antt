@@ -1,7 +1,7 @@
 -- The octets by the moves are the canonical ones of the moved value.
 use Rattle.std.proofs.Common.{◌≡◌, ℕ, ◌+◌, ◌-◌, ◌⊎◌, inl, inr, true, cond, List, [], ◌++◌, Option, Some, None, option_map, refl, sym, ◌∙◌, ap, arith}
-use Rattle.ax_edition.specs.Index.{slot_below}
-use Rattle.ax_edition.specs.Moves.{moves_from, move_where, moves_below, moves_of, record_moves}
+use Rattle.ax_relation.specs.Below.{slot_below}
+use Rattle.ax_relation.specs.Moves.{moves_from, move_where, moves_below, moves_of, record_moves}
 use Rattle.ax_edition_laws.proofs.Lookups.{equal, less}
 use Rattle.ax_edition_laws.proofs.MovedNamed.{new_value}
 use Rattle.ax_edition_laws.proofs.MovedShape.{entries_from, entries_moved, slot_shape}

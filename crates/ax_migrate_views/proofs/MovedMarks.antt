@@ -2,8 +2,8 @@
 use Rattle.std.proofs.Common.{◌≡◌, ℕ, zero, suc, ◌+◌, ◌-◌, ◌<◌, ◌≤◌, ◌⊎◌, inl, inr, cond, nat_lt, IsTrue, List, [], ◌∷◌, ◌++◌, length, take, drop, set, Option, Some, None, option_map, refl, sym, ◌∙◌, ap, arith, subst, append_assoc, append-nil}
 use Rattle.std.proofs.lemmas.Bool.{lt-ltb}
 use Rattle.std.proofs.lemmas.List.{take_more_set, drop-set-lt, length-set, length-replicate}
-use Rattle.ax_edition.specs.Index.{slot_below}
-use Rattle.ax_edition.specs.Moves.{MoveTree, moves_from, move_where, moves_below, moves_of}
+use Rattle.ax_relation.specs.Below.{slot_below}
+use Rattle.ax_relation.specs.Moves.{MoveTree, moves_from, move_where, moves_below, moves_of}
 use Rattle.ax_edition_laws.proofs.Lookups.{equal, less}
 use Rattle.ax_edition_laws.proofs.MovedNamed.{new_value}
 use Rattle.ax_edition_laws.proofs.MovedShape.{entries_from, entries_moved}

@@ -1,6 +1,6 @@
 -- What moves to one new slot.
 use Rattle.std.proofs.Common.{◌≡◌, ℕ, suc, ◌+◌, ◌-◌, ◌⊎◌, inl, inr, Bool, true, false, cond, bytes_eq, List, [], ◌∷◌, Option, Some, None, option_map, option_and_then, refl, ◌∙◌, ap, arith}
-use Rattle.ax_edition.specs.Moves.{move_from, moves_from, move_where, moves_below}
+use Rattle.ax_relation.specs.Moves.{move_from, moves_from, move_where, moves_below}
 use Rattle.ax_edition_laws.proofs.Lookups.{found_is, named_from}
 use Rattle.ax_edition_laws.proofs.MovedNamed.{source_value, new_value}
 use Rattle.ax_edition_laws.specs.Moved.{moved}

@@ -2,8 +2,8 @@
 use Rattle.std.proofs.Common.{◌≡◌, ℕ, ◌+◌, List, [], ◌∷◌, ◌++◌, Option, length, map, refl, sym, ◌∙◌, ap, subst, append-nil, Result}
 use Rattle.std.specs.List.{AllZip}
 use Rattle.ax_bits.specs.Bits.{bits}
-use Rattle.ax_edition.specs.Relation.{relation_paths}
-use Rattle.ax_edition.specs.declared.relation.RelationPath.{RelationPath}
+use Rattle.ax_relation.specs.Paths.{relation_paths}
+use Rattle.ax_relation.specs.declared.relation.RelationPath.{RelationPath}
 use Rattle.ax_edition_laws.proofs.Distinct.{Distinct}
 use Rattle.ax_edition_laws.proofs.DistinctNames.{record_distinct}
 use Rattle.ax_migrate.proofs.Found.{found_is_lost}

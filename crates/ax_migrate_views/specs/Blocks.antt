@@ -1,7 +1,7 @@
 -- Migrated blocks at the front of an output, and what a migrator is made of.
 use Rattle.std.specs.Prelude.{◌≡◌, ℕ, ◌/◌, ◌%◌, ◌≤◌, List, set, take}
 use Rattle.ax_bits.specs.Bits.{bits}
-use Rattle.ax_edition.specs.Relates.{Relates}
+use Rattle.ax_relation.specs.Relates.{Relates}
 use Rattle.ax_migrate.specs.Migrating.{migrated_block}
 use Rattle.ax_migrate_views.specs.Gone.{gone}
 use Rattle.ax_migrate_views.specs.declared.migrator.Migrator.{Migrator}

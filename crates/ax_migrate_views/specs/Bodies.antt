@@ -1,10 +1,10 @@
 -- Bodies as they move.
 use Rattle.std.specs.Prelude.{ℕ, List, flat_map}
 use Rattle.ax_bits.specs.Bits.{bits}
-use Rattle.ax_edition.specs.Moves.{MovesTree}
-use Rattle.ax_edition.specs.PlainMoves.{moves_tree}
-use Rattle.ax_edition.specs.declared.moves.Move.{Move}
-use Rattle.ax_edition.specs.declared.relation.RelationPath.{RelationPath}
+use Rattle.ax_relation.specs.Moves.{MovesTree}
+use Rattle.ax_relation.specs.PlainMoves.{moves_tree}
+use Rattle.ax_relation.specs.declared.moves.Move.{Move}
+use Rattle.ax_relation.specs.declared.relation.RelationPath.{RelationPath}
 use Rattle.ax_migrate.specs.Finding.{found_losses}
 use Rattle.ax_migrate.specs.Losing.{lost_lines}
 use Rattle.ax_migrate_views.specs.Laying.{Gathers, Lays}

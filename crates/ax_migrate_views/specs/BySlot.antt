@@ -1,9 +1,9 @@
 -- The moves of a record by the old slot, where they come in the order of the old slots.
 use Rattle.std.specs.Prelude.{◌≡◌, ℕ, ◌+◌, ◌==◌, ◌<◌, nat_lt, Bool, true, false, IsTrue, if◌then◌else◌, List, [], ◌∷◌, ◌++◌, ◌-◌, length, take, drop, get_or, Option, Some, None}
 use Rattle.std.specs.Coded.{Coded-set, coded_ℕ, coded_bool}
-use Rattle.ax_edition.specs.Moves.{MoveTree, move_from, MovesTree, no_moves, move_and}
-use Rattle.ax_edition.specs.PlainMoves.{moves_tree}
-use Rattle.ax_edition.specs.declared.moves.Move.{Move}
+use Rattle.ax_relation.specs.Moves.{MoveTree, move_from, MovesTree, no_moves, move_and}
+use Rattle.ax_relation.specs.PlainMoves.{moves_tree}
+use Rattle.ax_relation.specs.declared.moves.Move.{Move}
 use Rattle.ax_migrate_views.specs.Octets.{move_canon, move_marks}
 use Rattle.ax_migrate_views.specs.declared.by_slot.SlotMoves.{SlotMoves}
 use Rattle.ax_model.specs.Tree.{SlotsTree, EntriesTree}

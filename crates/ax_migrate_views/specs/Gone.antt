@@ -1,6 +1,6 @@
 -- The paths that are lost wherever they are present.
 use Rattle.std.specs.Prelude.{is_none, if◌then◌else◌, List, [], ◌∷◌, ◌++◌}
-use Rattle.ax_edition.specs.declared.relation.RelationPath.{RelationPath}
+use Rattle.ax_relation.specs.declared.relation.RelationPath.{RelationPath}
 
 abbrev pub gone_of : RelationPath → List RelationPath
 gone_of p = if is_none p.new then p ∷ [] else []

@@ -1,6 +1,6 @@
 -- Compounds of which each subitem keeps its slot.
 use Rattle.std.specs.Prelude.{◌≡◌, ℕ, ◌+◌, List}
-use Rattle.ax_edition.specs.Moves.{MoveTree, move_from, MovesTree, no_moves, move_and}
+use Rattle.ax_relation.specs.Moves.{MoveTree, move_from, MovesTree, no_moves, move_and}
 use Rattle.ax_migrate_views.specs.Octets.{canon_by}
 use Rattle.ax_model.specs.Canonical.{canon}
 use Rattle.ax_model.specs.InBounds.{InBounds}

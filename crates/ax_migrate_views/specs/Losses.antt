@@ -1,7 +1,7 @@
 -- The losses of the records of a view, and that their lines are written.
 use Rattle.std.specs.Prelude.{◌≡◌, ℕ, ◌+◌, ◌≤◌, List, [], ◌∷◌, ◌++◌, take, Result}
 use Rattle.ax_bits.specs.Bits.{bits}
-use Rattle.ax_edition.specs.declared.relation.RelationPath.{RelationPath}
+use Rattle.ax_relation.specs.declared.relation.RelationPath.{RelationPath}
 use Rattle.ax_migrate.specs.Finding.{record_losses}
 use Rattle.ax_migrate.specs.Losing.{losses_from, lost_lines}
 use Rattle.ax_migrate.specs.declared.losing.LossEntry.{LossEntry}

@@ -1,7 +1,7 @@
 -- The canonical octets of a migrated value, of the old value as it stands: by the moves from the old slots to the new ones,
 -- without the migrated value itself.
 use Rattle.std.specs.Prelude.{ℕ, ◌-◌, nat_lt, if◌then◌else◌, List, [], ◌++◌, set, Option, Some, None}
-use Rattle.ax_edition.specs.Moves.{MoveTree, move_from, MovesTree, no_moves, move_and}
+use Rattle.ax_relation.specs.Moves.{MoveTree, move_from, MovesTree, no_moves, move_and}
 use Rattle.ax_fspec.specs.Fields.{least_field}
 use Rattle.ax_fspec.specs.Marks.{no_marks}
 use Rattle.ax_model.specs.At.{slot_value}

@@ -1,6 +1,6 @@
 //! Bodies, judged and laid record by record as they move.
 ghost use Rattle.std.specs.Prelude.{◌≡◌, ◌≤◌, length, IfOk, IfErr};
-ghost use Rattle.ax_edition.specs.PlainMoves.{moves_tree};
+ghost use Rattle.ax_relation.specs.PlainMoves.{moves_tree};
 ghost use Rattle.ax_migrate.specs.Finding.{record_losses};
 ghost use Rattle.ax_migrate.specs.Losing.{lost_lines};
 ghost use Rattle.ax_migrate_views.specs.Bodies.{IsRecordPlaced, LaysBody, TellsBody};
@@ -16,8 +16,8 @@ ghost use Rattle.ax_view.specs.Views.{FailsThere, SpellsSome};
 use crate::by_slot::SlotMoves;
 use crate::in_order::lay_moved;
 use crate::telling::tell_record;
-use ax_edition::{Moves, RelationPaths};
 use ax_model::BodyFault;
+use ax_relation::{Moves, RelationPaths};
 use ax_tables::Codec;
 use ax_view::{Notes, PlacedSlots, Places, place_record};
 

@@ -1,9 +1,9 @@
 //! The moves of a record by the old slot, looked up once.
 ghost use Rattle.std.specs.Prelude.{◌≡◌, IsTrue, IfOk};
-ghost use Rattle.ax_edition.specs.PlainMoves.{moves_tree};
+ghost use Rattle.ax_relation.specs.PlainMoves.{moves_tree};
 ghost use Rattle.ax_migrate_views.specs.BySlot.{ArePlaces, KnowsMoves, ascends, place_from};
 
-use ax_edition::{Move, Moves};
+use ax_relation::{Move, Moves};
 use std::alloc::{AllocError, Global};
 
 /// The numbers of the slots of a record, and 0.

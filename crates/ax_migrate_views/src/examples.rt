@@ -1,7 +1,7 @@
 //! Worked examples of migrated octets by moves. Each function stands for what its contract says.
 ghost use Rattle.std.specs.Prelude.{◌≡◌, [], ◌∷◌, ◌++◌};
 ghost use Rattle.ax_bits.specs.Bits.{word};
-ghost use Rattle.ax_edition.specs.Moves.{moves_from, no_moves, move_from, record_moves};
+ghost use Rattle.ax_relation.specs.Moves.{moves_from, no_moves, move_from, record_moves};
 ghost use Rattle.ax_migrate_views.specs.Octets.{canon_by, with_slot};
 ghost use Rattle.ax_model.specs.EditionExamples.{first_edition, second_edition, third_edition, both_subitems};
 ghost use Rattle.ax_model.specs.Specification.{record_kind};

@@ -2,8 +2,8 @@
 ghost use Rattle.std.specs.Prelude.{◌≡◌, ◌++◌, ◌∷◌, [], None, IfOk, OnOk};
 ghost use Rattle.ax_migrate_views.specs.Gone.{gone, gone_of};
 
-use ax_edition::{RelationPath, RelationPaths};
 use ax_model::{Place, Text};
+use ax_relation::{RelationPath, RelationPaths};
 use std::alloc::{AllocError, Global};
 
 /// A copy of a path that has no new place.

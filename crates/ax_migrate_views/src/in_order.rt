@@ -1,7 +1,7 @@
 //! Records laid by their marked slots, where the moves come in the order of the old slots.
 ghost use Rattle.std.specs.Prelude.{◌≡◌, ◌++◌, ◌<◌, ◌≤◌, Some, IsTrue, length};
 ghost use Rattle.ax_bits.specs.Bits.{bits};
-ghost use Rattle.ax_edition.specs.PlainMoves.{move_tree, moves_tree};
+ghost use Rattle.ax_relation.specs.PlainMoves.{move_tree, moves_tree};
 ghost use Rattle.ax_fspec.specs.Marks.{no_marks, slots_of};
 ghost use Rattle.ax_migrate_views.specs.BySlot.{ArePlaces, IsFrom, KnowsMoves, ascends, found_marks, found_move, run_octets, slots_canon, slots_marks};
 ghost use Rattle.ax_migrate_views.specs.Laying.{Lays};
@@ -15,8 +15,8 @@ use crate::keeping::keeps;
 use crate::laying::{lay_field, lay_octets};
 use crate::marks::add_moved;
 use crate::values::{lay_entry, lay_whole};
-use ax_edition::{Move, Moves};
 use ax_fspec::Presence;
+use ax_relation::{Move, Moves};
 use ax_view::{PlacedSlots, Window};
 
 /// Adds the new slot of the entry of a slot, if it is there and moves.

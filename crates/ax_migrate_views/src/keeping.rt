@@ -1,7 +1,7 @@
 //! Items whose octets stay as they are.
 ghost use Rattle.std.specs.Prelude.{◌≡◌, ◌+◌, ◌<◌, ◌≤◌, false, length, IsTrue};
 ghost use Rattle.ax_bits.specs.Bits.{bits};
-ghost use Rattle.ax_edition.specs.PlainMoves.{move_tree, moves_tree};
+ghost use Rattle.ax_relation.specs.PlainMoves.{move_tree, moves_tree};
 ghost use Rattle.ax_migrate_views.specs.Keeping.{IsLeaf, KeepsAll, MovesWhole, StaysIn};
 ghost use Rattle.ax_migrate_views.specs.Octets.{canon_by};
 ghost use Rattle.ax_model.specs.Tree.{slots_of};
@@ -9,7 +9,7 @@ ghost use Rattle.ax_tables.specs.Meaning.{linked_slots, meanings};
 ghost use Rattle.ax_tables.specs.Table.{IsTable, SlotLinksWithin, kind_at};
 ghost use Rattle.ax_view.specs.Shown.{item_kind, item_value};
 
-use ax_edition::{Move, Moves};
+use ax_relation::{Move, Moves};
 use ax_tables::{Codec, Node};
 use ax_view::FoundItem;
 

@@ -1,6 +1,6 @@
 //! The laws of migrated octets. Each function stands for what its contract says.
 ghost use Rattle.std.specs.Prelude.{◌≡◌};
-ghost use Rattle.ax_edition.specs.Moves.{moves_from, record_moves};
+ghost use Rattle.ax_relation.specs.Moves.{moves_from, record_moves};
 ghost use Rattle.ax_edition_laws.specs.Moved.{moved_record};
 ghost use Rattle.ax_migrate_views.specs.Octets.{canon_by};
 ghost use Rattle.ax_model.specs.Bodies.{RecordShape};

@@ -7,10 +7,10 @@ ghost use Rattle.ax_outside.specs.Changes.{Wrote, sink_change};
 ghost use Rattle.ax_view.specs.Left.{records_left};
 ghost use Rattle.ax_view.specs.Shown.{item_value, record_entries};
 
-use ax_edition::{RelationPath, RelationPaths};
 use ax_migrate::{Loss, loss_line};
 use ax_model::Place;
 use ax_outside::{Sink, SinkFailed};
+use ax_relation::{RelationPath, RelationPaths};
 use ax_view::{ItemView, RecordView, Records};
 
 /// Whether slot numbers lead on from an item.

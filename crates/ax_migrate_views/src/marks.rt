@@ -1,13 +1,13 @@
 //! The new slots of the entries that move.
 ghost use Rattle.std.specs.Prelude.{◌≡◌};
-ghost use Rattle.ax_edition.specs.PlainMoves.{move_tree, moves_tree};
+ghost use Rattle.ax_relation.specs.PlainMoves.{move_tree, moves_tree};
 ghost use Rattle.ax_fspec.specs.Marks.{no_marks};
 ghost use Rattle.ax_migrate_views.specs.Octets.{marks_by, move_marks, with_slot};
 ghost use Rattle.ax_migrate_views.specs.Wholes.{whole_entries};
 ghost use Rattle.ax_view.specs.Placing.{IsPlaced};
 
-use ax_edition::{Move, Moves};
 use ax_fspec::Presence;
+use ax_relation::{Move, Moves};
 use ax_view::PlacedSlots;
 
 /// Adds a slot from 1 to 126; another number changes nothing.

@@ -1,6 +1,6 @@
 //! Blocks of one edition in another.
 ghost use Rattle.std.specs.Prelude.{◌≡◌, ◌≤◌, length, IfOk, IfErr};
-ghost use Rattle.ax_edition.specs.Relates.{Relates};
+ghost use Rattle.ax_relation.specs.Relates.{Relates};
 ghost use Rattle.ax_migrate_views.specs.Blocks.{IsOfEditions, LaysMigrated, new_tree, old_tree, with_head};
 ghost use Rattle.ax_migrate_views.specs.Losses.{TellsLosses, WritesLosses};
 ghost use Rattle.ax_model.specs.Plain.{spec_tree};
@@ -14,9 +14,9 @@ use crate::by_slot::know_moves;
 use crate::gone::gone_paths;
 use crate::losses::lose_records;
 use crate::migrator::Migrator;
-use ax_edition::Relation;
 use ax_model::{BodyFault, Spec};
 use ax_outside::{Sink, SinkFailed};
+use ax_relation::Relation;
 use ax_tables::Codec;
 use ax_view::BlockView;
 use std::alloc::{AllocError, Global};

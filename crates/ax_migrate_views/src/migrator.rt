@@ -2,8 +2,8 @@
 ghost use Rattle.ax_migrate_views.specs.BySlot.{KnowsMoves, KnowsMoves-prop};
 
 use crate::by_slot::SlotMoves;
-use ax_edition::{Relation, RelationPaths};
 use ax_model::Spec;
+use ax_relation::{Relation, RelationPaths};
 use ax_tables::Codec;
 
 /// Migration from one edition to another, by the relation of the two and the codec of the old one. Memory is taken when it is

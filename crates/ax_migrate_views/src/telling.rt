@@ -9,8 +9,8 @@ ghost use Rattle.ax_view.specs.Placing.{IsPlaced};
 use crate::laying::lay_octets;
 use crate::losses::leads_on;
 use crate::whole::item_of;
-use ax_edition::{RelationPath, RelationPaths};
 use ax_model::Place;
+use ax_relation::{RelationPath, RelationPaths};
 use ax_view::PlacedSlots;
 use itoa::Buffer;
 

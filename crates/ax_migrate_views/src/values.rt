@@ -1,6 +1,6 @@
 //! Migrated values, laid from those of the old edition.
 ghost use Rattle.std.specs.Prelude.{◌≡◌, ◌++◌, false, length};
-ghost use Rattle.ax_edition.specs.PlainMoves.{move_tree, moves_tree};
+ghost use Rattle.ax_relation.specs.PlainMoves.{move_tree, moves_tree};
 ghost use Rattle.ax_migrate_views.specs.Laying.{Lays};
 ghost use Rattle.ax_migrate_views.specs.Octets.{canon_by, entries_canon_by, field_by, move_canon};
 ghost use Rattle.ax_migrate_views.specs.Wholes.{whole_codec, whole_entries, whole_slots};
@@ -8,10 +8,10 @@ ghost use Rattle.ax_view.specs.Placing.{IsPlaced};
 ghost use Rattle.ax_view.specs.Shown.{item_kind, item_value};
 
 use crate::keeping::moves_whole;
+use ax_relation::{Move, Moves};
 use crate::laying::{lay_field, lay_item, lay_octets};
 use crate::marks::moved_slots;
 use crate::whole::item_of;
-use ax_edition::{Move, Moves};
 use ax_tables::{Codec, Node};
 use ax_view::{FoundItem, ItemView, PlacedSlots, Places, place_subitems};
 

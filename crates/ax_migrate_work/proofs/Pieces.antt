@@ -1,8 +1,8 @@
 -- What is made of a block.
 use Rattle.std.proofs.Common.{◌≡◌, ℕ, ◌<◌, ◌≤◌, ◌==◌, nat_lt, Fits, w32, inl, inr, ◌⊎◌, Bool, true, false, cond, List, [], ◌∷◌, Some, None, length, refl, sym, ◌∙◌, ap, subst, arith, Result, Ok, Err, IfOk, IfErr, IsErrOf}
 use Rattle.std.proofs.lemmas.Bool.{eqb-true, ltb-true, ltb-false}
-use Rattle.ax_edition.specs.Relates.{Relates}
-use Rattle.ax_edition.specs.declared.relation.Relation.{Relation}
+use Rattle.ax_relation.specs.Relates.{Relates}
+use Rattle.ax_relation.specs.declared.relation.Relation.{Relation}
 use Rattle.ax_edition_laws.proofs.Lookups.{equal}
 use Rattle.ax_edition_laws.proofs.SmallBlocks.{migrated_is_small}
 use Rattle.ax_migrate.proofs.OneBlock.{migrated_is_block}

@@ -1,16 +1,16 @@
 //! What is made of a block: all of its memory is taken here, and nothing is written.
 ghost use Rattle.std.specs.Prelude.{◌≡◌, ◌≤◌, IfOk, IfErr};
 ghost use Rattle.ax_blocks.specs.Reader.{raw_tree};
-ghost use Rattle.ax_edition.specs.Relates.{Relates};
+ghost use Rattle.ax_relation.specs.Relates.{Relates};
 ghost use Rattle.ax_migrate_work.specs.Making.{IsRead, IsPieceOf, NoPieceOf, IsPiece, NoPiece};
 ghost use Rattle.ax_model.specs.OfCode.{BlockFits, HasNoFlaw, block_length};
 ghost use Rattle.ax_model.specs.Plain.{spec_tree, block_tree};
 ghost use Rattle.ax_model.specs.Sizes.{longest_block};
 ghost use Rattle.ax_model.specs.Specification.{SpecTree};
 
-use ax_edition::Relation;
 use ax_migrate::{LossList, migrate_tree};
 use ax_model::{Block, RawBlock, Spec};
+use ax_relation::Relation;
 use ax_stream::WorkStop;
 use ax_values::{DecodeError, EncodeError, decode_block, encode_block};
 use std::alloc::Global;

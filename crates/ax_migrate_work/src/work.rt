@@ -1,14 +1,14 @@
 //! The work of `migrate` on one block.
 ghost use Rattle.std.specs.Prelude.{◌≡◌};
-ghost use Rattle.ax_edition.specs.Relates.{Relates};
+ghost use Rattle.ax_relation.specs.Relates.{Relates};
 ghost use Rattle.ax_migrate_work.specs.Commands.{migrate_command};
 ghost use Rattle.ax_model.specs.Plain.{spec_tree};
 
 use crate::making::piece_of;
-use ax_edition::Relation;
 use ax_migrate::loss_lines;
 use ax_model::{RawBlock, Spec};
 use ax_outside::Sink;
+use ax_relation::Relation;
 use ax_stream::{BlockWork, WorkStop};
 use std::alloc::Global;
 

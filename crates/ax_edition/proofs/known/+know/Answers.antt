@@ -2,7 +2,8 @@ use Rattle.std.proofs.Common.{◌≡◌, [], ◌∷◌, Some, option_map, ap, �
 use Rattle.std.specs.Option.{option_copied}
 use Rattle.ax_edition.proofs.Saying.{compound_says}
 use Rattle.ax_edition.specs.Index.{FindsBelow}
-use Rattle.ax_edition.specs.Known.{Says, kind_found, known_slots}
+use Rattle.ax_edition.specs.Known.{kind_found, known_slots}
+use Rattle.ax_relation.specs.Known.{Says}
 use Rattle.ax_model.proofs.VariantTrees.{compound_tree}
 use Rattle.ax_model.specs.Plain.{kind_tree, slots_tree}
 use Rattle.ax_model.specs.Shared.{are_shared}

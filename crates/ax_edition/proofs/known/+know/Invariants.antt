@@ -1,5 +1,6 @@
 use Rattle.std.proofs.Common.{take}
-use Rattle.ax_edition.specs.Known.{Says, kind_found, known_slots}
+use Rattle.ax_edition.specs.Known.{kind_found, known_slots}
+use Rattle.ax_relation.specs.Known.{Says}
 use Rattle.ax_model.specs.Plain.{slots_tree}
 use Rattle.ax_edition.proofs.known.+know.Given as goal
 

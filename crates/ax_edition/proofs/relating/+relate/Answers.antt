@@ -1,7 +1,7 @@
 use Rattle.std.proofs.Common.{◌≡◌, [], ◌∷◌, ◌++◌, option_map, ap, ◌∙◌, rules}
 use Rattle.ax_edition.proofs.PathLists.{compound_paths}
 use Rattle.ax_edition.specs.Relating.{target_tree, lead, LeadsBelow, shared_place, related_slots}
-use Rattle.ax_edition.specs.declared.relation.RelationPath.{RelationPath}
+use Rattle.ax_relation.specs.declared.relation.RelationPath.{RelationPath}
 use Rattle.ax_model.proofs.VariantTrees.{compound_tree}
 use Rattle.ax_model.specs.Placed.{place_from}
 use Rattle.ax_model.specs.Plain.{kind_tree, slots_tree}

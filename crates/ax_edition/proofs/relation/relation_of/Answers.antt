@@ -1,9 +1,10 @@
-use Rattle.std.proofs.Common.{◌≡◌, [], Some, map}
+use Rattle.std.proofs.Common.{◌≡◌, [], Some, map, ◌∙◌, ap, sym, subst}
 use Rattle.ax_edition.proofs.Relations.{paths_are, known_are, moves_are}
 use Rattle.ax_edition.specs.Index.{found, Finds}
-use Rattle.ax_edition.specs.Known.{Knows, kind_found, known_slots}
-use Rattle.ax_edition.specs.Moves.{moves_of}
-use Rattle.ax_edition.specs.PlainMoves.{move_tree}
+use Rattle.ax_edition.specs.Known.{kind_found, known_slots}
+use Rattle.ax_relation.specs.Known.{Knows, IsKnown}
+use Rattle.ax_relation.specs.Moves.{moves_of}
+use Rattle.ax_relation.specs.PlainMoves.{move_tree}
 use Rattle.ax_edition.specs.Relating.{lead, LeadsBelow, related_slots}
 use Rattle.ax_edition.specs.UapItems.{items_tree}
 use Rattle.ax_model.specs.Paths.{three_digits}
@@ -29,7 +30,7 @@ returns c =
       old_no_flaw = c.requires.old_no_flaw;
       new_no_flaw = c.requires.new_no_flaw;
       category = c.requires.category;
-      paths = paths_are c.args.old.now c.args.new.now os ns o n c.in_ok-text.text c.in_ok-level.level c.in_ok-paths.paths c.requires.old_no_flaw text level paths;
-      known = known_are c.args.old.now c.args.new.now os ns o n c.in_ok-new_index.new_index c.in_ok-known.known c.requires.old_no_flaw new_index known;
-      moves = moves_are c.args.old.now c.args.new.now os ns o n c.in_ok-old_index.old_index c.in_ok-moves.moves old_index moves;
+      paths = c.new.ensures.paths ∙ paths_are c.args.old.now c.args.new.now os ns o n c.in_ok-text.text c.in_ok-level.level c.in_ok-paths.paths c.requires.old_no_flaw text level paths;
+      known = subst (IsKnown (spec_tree c.args.old.now) (spec_tree c.args.new.now)) (sym c.new.ensures.known) (known_are c.args.old.now c.args.new.now os ns o n c.in_ok-new_index.new_index c.in_ok-known.known c.requires.old_no_flaw new_index known);
+      moves = ap (map move_tree) c.new.ensures.moves ∙ moves_are c.args.old.now c.args.new.now os ns o n c.in_ok-old_index.old_index c.in_ok-moves.moves old_index moves;
     }

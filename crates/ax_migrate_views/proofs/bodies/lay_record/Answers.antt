@@ -1,5 +1,5 @@
 use Rattle.std.proofs.Common.{sym, ◌∙◌, ap, subst, refl, ◌++◌}
-use Rattle.ax_edition.specs.PlainMoves.{moves_tree}
+use Rattle.ax_relation.specs.PlainMoves.{moves_tree}
 use Rattle.ax_migrate_views.proofs.Entries.{record_canon}
 use Rattle.ax_migrate_views.proofs.Slots.{placed_by}
 use Rattle.ax_migrate_views.specs.Laying.{Lays}

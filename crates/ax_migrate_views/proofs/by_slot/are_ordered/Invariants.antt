@@ -1,5 +1,5 @@
 use Rattle.std.proofs.Common.{IsTrue, drop}
-use Rattle.ax_edition.specs.PlainMoves.{moves_tree}
+use Rattle.ax_relation.specs.PlainMoves.{moves_tree}
 use Rattle.ax_migrate_views.specs.BySlot.{ascends}
 use Rattle.ax_migrate_views.proofs.by_slot.are_ordered.Given as goal
 

@@ -1,5 +1,5 @@
 use Rattle.std.proofs.Common.{◌≡◌, ◌+◌, drop}
-use Rattle.ax_edition.specs.PlainMoves.{moves_tree}
+use Rattle.ax_relation.specs.PlainMoves.{moves_tree}
 use Rattle.ax_migrate_views.specs.BySlot.{place_from}
 use Rattle.ax_migrate_views.proofs.by_slot.place_of.Given as goal
 

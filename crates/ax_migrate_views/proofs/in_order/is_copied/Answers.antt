@@ -1,7 +1,7 @@
 use Rattle.std.proofs.Common.{List, get_or, refl, subst, ◌-◌, ◌∙◌}
 use Rattle.ax_bits.specs.Bits.{bits}
-use Rattle.ax_edition.specs.PlainMoves.{moves_tree}
-use Rattle.ax_edition.specs.declared.moves.Move.{out-Move}
+use Rattle.ax_relation.specs.PlainMoves.{moves_tree}
+use Rattle.ax_relation.specs.declared.moves.Move.{out-Move}
 use Rattle.ax_migrate_views.proofs.MovesBySlot.{copied_by}
 use Rattle.ax_migrate_views.proofs.Slots.{table_kind}
 use Rattle.ax_migrate_views.specs.Keeping.{MovesWhole}

@@ -1,6 +1,6 @@
 use Rattle.std.proofs.Common.{◌≡◌, ◌∙◌, ◌<◌, ◌-◌, ◌++◌, ap, arith, refl, sym, get_or}
 use Rattle.ax_bits.specs.Bits.{bits}
-use Rattle.ax_edition.specs.PlainMoves.{move_tree, moves_tree}
+use Rattle.ax_relation.specs.PlainMoves.{move_tree, moves_tree}
 use Rattle.ax_fspec.specs.Marks.{slots_of}
 use Rattle.ax_migrate_views.proofs.LaidRuns.{run_skips, run_extends, run_flushed, run_last, run_enters}
 use Rattle.ax_migrate_views.proofs.MovesBySlot.{no_move, move_within, move_there, none_canon, found_from, next_canon}

@@ -1,5 +1,5 @@
 use Rattle.std.proofs.Common.{length}
-use Rattle.ax_edition.specs.PlainMoves.{moves_tree}
+use Rattle.ax_relation.specs.PlainMoves.{moves_tree}
 use Rattle.ax_fspec.specs.Marks.{slots_of}
 use Rattle.ax_migrate_views.proofs.LaidRuns.{LaidRun}
 use Rattle.ax_migrate_views.specs.BySlot.{slots_canon}

@@ -1,4 +1,4 @@
-use Rattle.ax_edition.specs.PlainMoves.{moves_tree}
+use Rattle.ax_relation.specs.PlainMoves.{moves_tree}
 use Rattle.ax_migrate_views.proofs.KeepingSteps.{kind_stays}
 use Rattle.ax_view.proofs.NodeKinds.{compound_links}
 use Rattle.ax_migrate_views.proofs.keeping.keeps.Goals as goal

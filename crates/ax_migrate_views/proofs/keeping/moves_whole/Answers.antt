@@ -1,5 +1,5 @@
 use Rattle.std.proofs.Common.{◌≡◌, ◌∙◌, ap, sym, subst, length, List}
-use Rattle.ax_edition.specs.PlainMoves.{moves_tree}
+use Rattle.ax_relation.specs.PlainMoves.{moves_tree}
 use Rattle.ax_migrate_views.proofs.Entries.{leaf_canon_by}
 use Rattle.ax_migrate_views.proofs.KeepingSteps.{compound_stays}
 use Rattle.ax_migrate_views.specs.Keeping.{KeepsAll}

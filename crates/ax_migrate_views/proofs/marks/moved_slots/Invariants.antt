@@ -1,5 +1,5 @@
 use Rattle.std.proofs.Common.{◌≡◌, drop}
-use Rattle.ax_edition.specs.PlainMoves.{moves_tree}
+use Rattle.ax_relation.specs.PlainMoves.{moves_tree}
 use Rattle.ax_fspec.specs.Marks.{no_marks}
 use Rattle.ax_migrate_views.specs.Octets.{marks_by}
 use Rattle.ax_migrate_views.specs.Wholes.{whole_entries}

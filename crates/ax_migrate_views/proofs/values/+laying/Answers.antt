@@ -1,6 +1,6 @@
 use Rattle.std.proofs.Common.{rules, ◌++◌, arith, ap, sym, subst, refl, length, get_or, ◌∙◌, option_map}
 use Rattle.ax_bits.specs.Bits.{bits}
-use Rattle.ax_edition.specs.PlainMoves.{move_tree, moves_tree}
+use Rattle.ax_relation.specs.PlainMoves.{move_tree, moves_tree}
 use Rattle.ax_fspec.specs.Fields.{least_field}
 use Rattle.ax_migrate_views.proofs.Entries.{none_laid, one_laid, all_laid, nothing_moves, nothing_laid, compound_there, leaf_canon_by}
 use Rattle.ax_migrate_views.proofs.LaidBits.{lays_more}

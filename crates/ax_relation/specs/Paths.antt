@@ -1,6 +1,6 @@
 -- The relation of two editions.
 use Rattle.std.specs.Prelude.{if◌then◌else◌, List, map, None}
-use Rattle.ax_edition.specs.declared.relation.RelationPath.{RelationPath}
+use Rattle.ax_relation.specs.declared.relation.RelationPath.{RelationPath}
 use Rattle.ax_model.specs.Paths.{path_text}
 use Rattle.ax_model.specs.Placed.{Placed, place_from, named_place, placed_paths}
 use Rattle.ax_model.specs.Shared.{Shared}

@@ -1,0 +1,68 @@
+//! The relation of two editions.
+ghost use Rattle.std.specs.Prelude.{◌≡◌};
+ghost use Rattle.ax_model.specs.Plain.{spec_tree};
+ghost use Rattle.ax_model.specs.Shared.{Shared};
+ghost use Rattle.ax_model.specs.declared.spec.Spec.{Spec};
+ghost use Rattle.ax_relation.specs.Relates.{Relates};
+
+use crate::known::Known;
+use crate::moves::Moves;
+use ax_lists::Sequence;
+use ax_model::{Path, Place, Text};
+
+/// A named path of the old edition: its text, its old place, and its new one where it is shared.
+#[derive(Drop)]
+pub struct RelationPath {
+    pub text: Text,
+    pub old: Place,
+    pub new: Option<Place>,
+}
+
+/// Named paths of the old edition, in order.
+pub type RelationPaths = Sequence<RelationPath>;
+
+/// The relation of two editions of one category.
+#[derive(Drop)]
+pub struct Relation {
+    paths: RelationPaths,
+    known: Known,
+    moves: Moves,
+}
+
+impl Relation {
+    /// The relation that has these paths, of which those are known to be shared, and these moves.
+    pub fn new(paths: RelationPaths, known: Known, moves: Moves) -> Relation
+        ensures paths { result.paths ≡ paths }
+        ensures known { result.known ≡ known }
+        ensures moves { result.moves ≡ moves }
+    {
+        Relation {
+            paths,
+            known,
+            moves,
+        }
+    }
+
+    /// Whether the path is a named path of the old edition that the new one shares. Takes no memory.
+    #[tactic(auto, using(crate::proofs::Sharing::sharing))]
+    pub fn shared(&self, path: &Path) -> bool
+        ensures { (old new : Spec) → Relates old new self.now → result ≡ Shared (spec_tree old) (spec_tree new) path.now }
+    {
+        self.known.shared(path.as_slice())
+    }
+
+    /// The named paths of the old edition in order, each with its text, its old place, and its new one where it is
+    /// shared. Takes no memory.
+    pub fn paths(&self) -> &RelationPaths
+        ensures { result.now ≡ self.now.paths }
+    {
+        &self.paths
+    }
+
+    /// The shared slots in the order of the new edition.
+    pub fn moves(&self) -> &Moves
+        ensures { result.now ≡ self.now.moves }
+    {
+        &self.moves
+    }
+}

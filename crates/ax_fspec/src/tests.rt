@@ -102,6 +102,20 @@ fn refuses_fields_at_their_bit(rt: HostRuntime) {
 }
 
 #[test]
+fn keeps_the_common_slots(rt: HostRuntime) {
+    let mut set = Presence::empty();
+    set.mark(3);
+    set.mark(63);
+    set.mark(64);
+    set.mark(126);
+    let mut other = Presence::empty();
+    other.mark(2);
+    other.mark(63);
+    other.mark(126);
+    assert!(rt; is_set(&set.common(&other), &[63, 126]));
+}
+
+#[test]
 fn writes_least_fields(rt: HostRuntime) {
     let fields: [(&[u32], &[u8]); 7] = [
         (&[], &[0x00]),

@@ -1,8 +1,8 @@
 -- Writing goes on after what was written.
-use Rattle.std.proofs.Common.{◌≡◌, ℕ, suc, ◌+◌, ◌-◌, ◌*◌, ◌<◌, ◌≤◌, ◌⊎◌, inl, inr, List, [], ◌++◌, length, drop, get_or, refl, sym, ◌∙◌, ap, arith, subst, append_assoc, append-nil}
+use Rattle.std.proofs.Common.{◌≡◌, ℕ, suc, ◌+◌, ◌-◌, ◌*◌, ◌<◌, ◌≤◌, ◌⊎◌, inl, inr, List, [], ◌++◌, drop, get_or, refl, sym, ◌∙◌, ap, arith, subst, append_assoc, append-nil}
 use Rattle.ax_bits.proofs.Outputs.{appends_none, appends_more}
 use Rattle.ax_bits.specs.Bits.{bits, AreBits}
-use Rattle.ax_bits.specs.Out.{Appends, room}
+use Rattle.ax_bits.specs.Out.{Appends}
 use Rattle.ax_bits.specs.declared.output.Out.{Out}
 use Rattle.ax_canon.specs.Rewriting.{Rewrites, Fronts, Writes}
 use Rattle.ax_fspec.proofs.Walks.{no_next_slot}

@@ -1,8 +1,8 @@
 -- Kept records written one after the other.
-use Rattle.std.proofs.Common.{◌≡◌, ℕ, ◌+◌, ◌-◌, ◌*◌, ◌/◌, ◌<◌, ◌≤◌, ◌⊎◌, inl, inr, Bool, true, false, not, IsTrue, List, [], ◌∷◌, ◌++◌, length, take, drop, refl, sym, ◌∙◌, ap, arith, subst, take-append-drop, take-add, length-drop, length-append, append_assoc}
+use Rattle.std.proofs.Common.{◌≡◌, ℕ, ◌+◌, ◌-◌, ◌*◌, ◌/◌, ◌<◌, ◌≤◌, ◌⊎◌, inl, inr, Bool, true, false, not, List, [], ◌∷◌, ◌++◌, length, take, drop, refl, sym, ◌∙◌, ap, arith, subst, take-append-drop, take-add, length-drop, length-append, append_assoc}
 use Rattle.std.proofs.lemmas.List.{length-take-le, take_all}
 use Rattle.std.specs.List.{AllByRecursion}
-use Rattle.ax_bits.proofs.Outputs.{appends_none, appends_more}
+use Rattle.ax_bits.proofs.Outputs.{appends_more}
 use Rattle.ax_bits.proofs.Words.{bits-append, length-bits, length-word}
 use Rattle.ax_bits.specs.Bits.{bits, word}
 use Rattle.ax_bits.specs.Out.{Appends, room, written}
@@ -30,7 +30,7 @@ use Rattle.ax_reader.specs.Reading.{Gets, FailsAt, kind_read}
 use Rattle.ax_view.proofs.BodySteps.{fails_of, one_more, canon_more, record_value, some_records, record_forwards}
 use Rattle.ax_view.proofs.Found.{read_all}
 use Rattle.ax_view.proofs.Spelled.{value_spelled}
-use Rattle.ax_view.specs.Noted.{canon_in, IsLeastRecord}
+use Rattle.ax_view.specs.Noted.{canon_in}
 use Rattle.ax_view.specs.RecordsAt.{IsRecordAt}
 use Rattle.ax_view.specs.Values.{IsRecord, value_read, value_in}
 use Rattle.ax_view.specs.Views.{SpellsSome, FailsThere}

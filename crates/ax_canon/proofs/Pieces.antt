@@ -3,7 +3,7 @@ use Rattle.std.proofs.Common.{◌≡◌, ℕ, ◌+◌, ◌-◌, ◌*◌, ◌<◌
 use Rattle.std.proofs.lemmas.List.{append_cancel_right}
 use Rattle.ax_bits.proofs.Outputs.{appends_none, appends_more}
 use Rattle.ax_bits.proofs.Pieces.{number-word}
-use Rattle.ax_bits.proofs.Words.{length-word, length-bits}
+use Rattle.ax_bits.proofs.Words.{length-word}
 use Rattle.ax_bits.specs.Bits.{bits, word, number_of, AreBits, AreOctets}
 use Rattle.ax_bits.specs.Out.{Appends, room}
 use Rattle.ax_bits.specs.declared.output.Out.{Out}

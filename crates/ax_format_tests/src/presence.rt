@@ -147,6 +147,20 @@ fn is_written(rt: &impl Abort, slots: &[u32], octets: &[u8]) {
 }
 
 #[test]
+fn keeps_the_common_slots(rt: HostRuntime) {
+    let mut set = Presence::empty();
+    set.mark(3);
+    set.mark(63);
+    set.mark(64);
+    set.mark(126);
+    let mut other = Presence::empty();
+    other.mark(2);
+    other.mark(63);
+    other.mark(126);
+    assert!(rt; is_set(&set.common(&other), &[63, 126]));
+}
+
+#[test]
 fn writes_least_fields(rt: HostRuntime) {
     for &(slots, octets) in &LEAST {
         is_written(&rt, slots, octets);

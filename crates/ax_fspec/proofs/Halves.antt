@@ -1,7 +1,8 @@
 -- The marks of 63 slots, read and changed in the bits of a number.
 use Rattle.std.proofs.Common.{◌⊎◌, inl, inr, add-zero, ◌≡◌, ℕ, zero, suc, ◌+◌, ◌-◌, ◌*◌, ◌/◌, ◌%◌, ◌^◌, ◌<◌, ◌≤◌, ◌==◌, not, IsTrue, List, [], ◌∷◌, ◌++◌, length, take, drop, set, get_or, replicate, bit_and, bit_or, refl, sym, ◌∙◌, ap, arith, append_assoc, append-nil}
-use Rattle.std.proofs.lemmas.Nat.{shl_whole, pow_below, or_lt, one_shl, and_mask, or_block, or_shifted, shr_split, shl_below, pow_pos, mod-pow-add, mod_below, div-mul-add, mod-mul-add, leading_top, div_below}
+use Rattle.std.proofs.lemmas.Nat.{shl_whole, pow_below, or_lt, one_shl, and_mask, or_block, or_shifted, shr_split, shl_below, and_le_l, pow_pos, mod-pow-add, mod_below, div-mul-add, mod-mul-add, leading_top, div_below}
 use Rattle.std.proofs.lemmas.List.{take_at, drop_at, get_or_at, set_at}
+use Rattle.std.proofs.lemmas.Nat.Bits.{bit_at_and}
 use Rattle.std.proofs.Math.Nat.{div-div-eq-div-mul, mod-eq_of_lt, pow-suc}
 use Rattle.std.proofs.lemmas.Bool.{cases_lt, eq-eqb, ne_eqb, eqb-true}
 use Rattle.std.proofs.Math.Pow.{pow_mono}
@@ -10,7 +11,7 @@ use Rattle.ax_bits.specs.Bits.{word}
 use Rattle.ax_bits.proofs.Words.{length-word, twice}
 use Rattle.ax_bits.proofs.Pieces.{word-split, word-joined, word-low}
 use Rattle.ax_model.specs.Presence.{none_marked}
-use Rattle.ax_fspec.specs.Marks.{half, seven, marks_in, slots_from, slots_of}
+use Rattle.ax_fspec.specs.Marks.{half, seven, marks_in, common_marks, slots_from, slots_of}
 
 pub length-half : (n : ℕ) → length (half n) ≡ 63
 unfolding half
@@ -213,6 +214,21 @@ first_of_second b p h low high =
 
 pub none_of_zero : slots_of (marks_in 0 0) ≡ []
 none_of_zero = slots_of_zero 1 (half 0) ∙ ap (slots_from 64) (sym (append-nil (half 0))) ∙ slots_of_zero 64 []
+
+-- ---- the marks of two words
+
+shared_word : (w a b : ℕ) → word w (bit_and a b) ≡ common_marks (word w a) (word w b)
+shared_word zero a b = refl
+shared_word (suc w) a b = λ i. bit_at_and a b w i ∷ shared_word w a b i
+
+pub shared_half : (a b : ℕ) → half (bit_and a b) ≡ common_marks (half a) (half b)
+unfolding half
+shared_half a b = shared_word 63 a b
+
+pub shared_fits : (a b : ℕ) → a < 2 ^ 63 → bit_and a b < 2 ^ 63
+shared_fits a b h = omega (arith, and_le_l a b)
+
+pub ruleset sharing = (shared_half, shared_fits)
 
 -- ---- what the code computes
 

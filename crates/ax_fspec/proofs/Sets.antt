@@ -1,12 +1,12 @@
 -- The marks of a set, of which 63 stand in each of two numbers.
-use Rattle.std.proofs.Common.{◌≡◌, ◌≢◌, ◌⊎◌, inl, inr, lit<, ◌↔◌, ℕ, zero, suc, ◌+◌, ◌-◌, ◌*◌, ◌^◌, ◌<◌, ◌≤◌, ◌==◌, ◌&&◌, Bool, true, false, not, IsTrue, List, [], ◌∷◌, ◌++◌, length, take, drop, set, get_or, replicate, refl, sym, ◌∙◌, ap, arith, length-append}
+use Rattle.std.proofs.Common.{◌≡◌, ◌≢◌, ◌⊎◌, inl, inr, lit<, ◌↔◌, ℕ, zero, suc, ◌+◌, ◌-◌, ◌*◌, ◌^◌, ◌<◌, ◌≤◌, ◌==◌, ◌&&◌, Bool, true, false, not, IsTrue, List, [], ◌∷◌, ◌++◌, length, take, drop, set, get_or, replicate, min, refl, subst, sym, ◌∙◌, ap, arith, length-append}
 use Rattle.std.proofs.lemmas.List.{drop_all, set_at, length-replicate, get_or_append_left, get_or-append_right, get_or_past, set-append_left, set-append_right, take-append-le, drop-append-le, length-take-le, length-drop, append_assoc, replicate-append-replicate, take_at, drop_at}
 use Rattle.std.proofs.lemmas.Bool.{ne_eqb, cases_lt}
 use Rattle.std.proofs.Math.Seq.{take-append-add, drop-append-add}
-use Rattle.ax_bits.specs.Bits.{word}
-use Rattle.ax_bits.proofs.Words.{length-word}
+use Rattle.ax_bits.specs.Bits.{word, AreBits}
+use Rattle.ax_bits.proofs.Words.{append-AreBits, length-word, word-AreBits}
 use Rattle.ax_model.specs.Presence.{none_marked}
-use Rattle.ax_fspec.specs.Marks.{half, seven, marks_in, no_marks, IsMarked, slots_of}
+use Rattle.ax_fspec.specs.Marks.{half, seven, marks_in, no_marks, common_marks, AreMarks, IsMarked, slots_of}
 use Rattle.ax_fspec.proofs.Halves.{first_mark_at, first_of_first, first_of_second, none_of_zero, length-half, zeros, half-is, none_half}
 
 pub length-marks_in : (a b : ℕ) → length (marks_in a b) ≡ 126
@@ -214,3 +214,23 @@ none_taken a b marks e p q = ap slots_of (sym e) ∙ (λ i. slots_of (marks_in (
 pub none_of_no_marks : IsTrue (none_marked no_marks)
 unfolding no_marks
 none_of_no_marks = none_zeros 126
+
+-- ---- two sets
+
+common_front : (x y u v : List ℕ) → length x ≡ length u → common_marks (x ++ y) (u ++ v) ≡ common_marks x u ++ common_marks y v
+common_front [] y [] v e = refl
+common_front [] y (b ∷ u) v e = absurd (omega arith)
+common_front (a ∷ x) y [] v e = absurd (omega arith)
+common_front (a ∷ x) y (b ∷ u) v e = ap (λ k. min a b ∷ k) (common_front x y u v (omega arith))
+
+pub common_in_both : (a b c d e f : ℕ) (marks others : List ℕ) → marks_in a b ≡ marks → marks_in c d ≡ others → half e ≡ common_marks (half a) (half c) → half f ≡ common_marks (half b) (half d)
+    → marks_in e f ≡ common_marks marks others
+common_in_both a b c d e f marks others p q g h =
+    (λ i. g i ++ h i) ∙ sym (common_front (half a) (half b) (half c) (half d) (length-half a ∙ sym (length-half c))) ∙ (λ i. common_marks (p i) (q i))
+
+half_bits : (n : ℕ) → AreBits (half n)
+unfolding half
+half_bits n = word-AreBits 63 n
+
+pub are_marks : (a b : ℕ) (marks : List ℕ) → marks_in a b ≡ marks → AreMarks marks
+are_marks a b marks e = subst AreMarks e (record { size = length-marks_in a b; each = append-AreBits (half a) (half b) (half_bits a) (half_bits b) })

@@ -1,5 +1,5 @@
 -- A set of slots 1 to 126 as its marks: one for each slot in order, 1 where the slot is in the set, else 0.
-use Rattle.std.specs.Prelude.{◌≡◌, ℕ, zero, suc, ◌+◌, ◌-◌, ◌<◌, Bool, true, false, List, [], ◌∷◌, ◌++◌, length, slice_index, replicate}
+use Rattle.std.specs.Prelude.{◌≡◌, ℕ, zero, suc, ◌+◌, ◌-◌, ◌<◌, Bool, true, false, List, [], ◌∷◌, ◌++◌, length, slice_index, replicate, min}
 use Rattle.ax_bits.specs.Bits.{word, AreBits}
 
 -- the marks of 63 slots, in the bits of a number
@@ -42,3 +42,9 @@ abbrev pub are_marked : List ℕ → List Bool
 are_marked [] = []
 are_marked (zero ∷ marks) = false ∷ are_marked marks
 are_marked (suc m ∷ marks) = true ∷ are_marked marks
+
+-- the marks of the slots that are in both of two sets
+abbrev pub common_marks : List ℕ → List ℕ → List ℕ
+common_marks [] others = []
+common_marks (m ∷ marks) [] = []
+common_marks (m ∷ marks) (n ∷ others) = min m n ∷ common_marks marks others

@@ -3,7 +3,7 @@
 ghost use Rattle.std.specs.Prelude.{◌≡◌, ◌↔◌, ◌+◌, ◌-◌, ◌*◌, ◌^◌, ◌<◌, ◌≤◌, ◌++◌, IsTrue, not, take, drop, slice_index, slice_set};
 ghost use Rattle.ax_bits.specs.Bits.{word};
 ghost use Rattle.ax_model.specs.Presence.{none_marked};
-ghost use Rattle.ax_fspec.specs.Marks.{half, seven};
+ghost use Rattle.ax_fspec.specs.Marks.{half, seven, common_marks};
 
 /// Whether the mark at a place is set.
 #[inline]
@@ -83,4 +83,15 @@ pub fn without_first(marks: u64, place: u32) -> u64
     ensures { result ≡ marks - 2 ^ (62 - place) }
 {
     marks - (1 << (62 - place))
+}
+
+/// The marks that are set in both words.
+#[inline]
+#[tactic(auto, using(crate::proofs::Halves::sharing))]
+pub fn shared_marks(marks: u64, others: u64) -> u64
+    requires fits { marks < 2 ^ 63 }
+    ensures marks { half result ≡ common_marks (half marks) (half others) }
+    ensures fits { result < 2 ^ 63 }
+{
+    marks & others
 }

@@ -28,8 +28,8 @@ pub fn read_presence(
     ensures unchanged { OnErr result (into.new ≡ into.old) }
 {
     let mut marked = Presence::empty();
-    let needed = (mask.count + 6) / 7;
-    for index in 0..needed {
+    let mut index = 0;
+    while 7 * index < mask.count {
         let place = at + index;
         if place as usize >= body.len() {
             return Err(fault(BodyCause::RunsOut, place, 0));
@@ -44,8 +44,9 @@ pub fn read_presence(
             *into = marked;
             return Ok(place + 1);
         }
+        index += 1;
     }
-    Err(fault(BodyCause::PresenceTooLong, at + needed - 1, 7))
+    Err(fault(BodyCause::PresenceTooLong, at + index - 1, 7))
 }
 
 // The first mark, of the seven low bits, that is set in `marks` and not in `defined`.

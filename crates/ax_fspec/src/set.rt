@@ -2,10 +2,11 @@
 
 ghost use Rattle.std.specs.Prelude.{◌≡◌, ◌↔◌, ◌+◌, ◌-◌, ◌*◌, ◌<◌, ◌≤◌, ◌++◌, [], ◌∷◌, IsTrue, IfSome, IfNone, length, not, take, drop, slice_set};
 ghost use Rattle.ax_model.specs.Presence.{none_marked};
-ghost use Rattle.ax_fspec.specs.Marks.{seven, no_marks, IsMarked, slots_of};
+ghost use Rattle.ax_fspec.specs.Marks.{seven, no_marks, common_marks, AreMarks, IsMarked, slots_of};
 
 use crate::half::{
-    first_place, has_mark, is_marked_after, seven_marks, with_mark, with_seven, without_first,
+    first_place, has_mark, is_marked_after, seven_marks, shared_marks, with_mark, with_seven,
+    without_first,
 };
 use std::marker::Model;
 
@@ -70,6 +71,18 @@ impl Presence {
             self.first = with_mark(self.first, slot - 1);
         } else {
             self.second = with_mark(self.second, slot - 64);
+        }
+    }
+
+    /// The slots that are in both sets.
+    #[inline]
+    pub fn common(&self, other: &Presence) -> Presence
+        ensures common { result ≡ common_marks self.now other.now }
+        ensures sets { AreMarks self.now × AreMarks other.now }
+    {
+        Presence {
+            first: shared_marks(self.first, other.first),
+            second: shared_marks(self.second, other.second),
         }
     }
 

@@ -19,10 +19,9 @@ use Rattle.ax_migrate_views.specs.Bodies.{body_by, LaysBody, TellsBody}
 use Rattle.ax_migrate_views.specs.Laying.{Gathers, Lays}
 use Rattle.ax_migrate_views.specs.Octets.{canon_by}
 use Rattle.ax_model.proofs.Bounds.{record_bounds}
-use Rattle.ax_model.proofs.Once.{body_once, body_never_both}
+use Rattle.ax_model.proofs.Once.{body_once}
 use Rattle.ax_model.specs.Bodies.{RecordsSpell, SpellsBody, FailsBody}
 use Rattle.ax_model.specs.Flaws.{NoFlaw}
-use Rattle.ax_model.specs.InBounds.{InBounds}
 use Rattle.ax_model.specs.Specification.{SpecTree, record_kind, record_slots}
 use Rattle.ax_model.specs.Tree.{EntriesTree, marked}
 use Rattle.ax_model.specs.declared.fault.BodyFault.{BodyFault}

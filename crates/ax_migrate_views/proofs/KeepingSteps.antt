@@ -14,8 +14,8 @@ use Rattle.ax_model.proofs.Namings.{from_place}
 use Rattle.ax_model.specs.Canonical.{canon}
 use Rattle.ax_model.specs.InBounds.{InBounds}
 use Rattle.ax_model.specs.Shape.{Shape}
-use Rattle.ax_model.specs.Tree.{KindTree, slots_of, marked, SlotTree, spare_slot, subitem}
-use Rattle.ax_tables.specs.Meaning.{Meaning, linked, linked_slot, linked_slots, kind_of, meanings}
+use Rattle.ax_model.specs.Tree.{KindTree, slots_of}
+use Rattle.ax_tables.specs.Meaning.{Meaning, linked_slot, linked_slots, meanings}
 use Rattle.ax_tables.specs.Table.{IsTable, kind_at, record_kind_at}
 use Rattle.ax_tables.specs.declared.node.Node.{Node}
 use Rattle.ax_tables.specs.declared.node.Node.TheVariants as Of

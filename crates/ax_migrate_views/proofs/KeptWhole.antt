@@ -1,6 +1,6 @@
 -- A compound of which each subitem keeps its slot has its own canonical octets.
-use Rattle.std.proofs.Common.{◌≡◌, ℕ, zero, suc, ◌+◌, ◌-◌, ◌<◌, ◌≤◌, ◌==◌, cond, IsTrue, List, [], ◌∷◌, ◌++◌, length, take, drop, Option, Some, None, refl, sym, ◌∙◌, ap, arith, subst, append-nil}
-use Rattle.ax_relation.specs.Moves.{MoveTree, move_from, MovesTree, no_moves, move_and}
+use Rattle.std.proofs.Common.{◌≡◌, ℕ, suc, ◌+◌, ◌-◌, ◌≤◌, IsTrue, List, ◌++◌, length, take, drop, Option, Some, None, refl, sym, ◌∙◌, ap, arith, subst, append-nil}
+use Rattle.ax_relation.specs.Moves.{move_from, MovesTree, no_moves, move_and}
 use Rattle.ax_edition_laws.proofs.NamedOnce.{front_of, front_value, front_later}
 use Rattle.ax_edition_laws.specs.Moved.{entry_where}
 use Rattle.ax_fspec.proofs.FieldLaws.{least_field_of, none_further, none_after_none}

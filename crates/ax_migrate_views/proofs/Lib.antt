@@ -15,3 +15,4 @@ pub mod KeptWhole
 pub mod KeepingSteps
 pub mod MovesBySlot
 pub mod LaidRuns
+pub mod KeptSlots

@@ -30,7 +30,7 @@ pub slot_marked : (t : ℕ) (name : List ℕ) (l : KindTree) (ts : SlotsTree) (v
 slot_marked t name l ts v es = ap (λ b. cond b (1 ∷ marks_of (t + 1) ts es) (0 ∷ marks_of (t + 1) ts (entry_and t v es))) (equal t t refl)
 
 -- the set with a slot
-set_with : (t : ℕ) (marks : List ℕ) → 1 ≤ t → t ≤ 126 → with_slot t marks ≡ set marks (t - 1) 1
+pub set_with : (t : ℕ) (marks : List ℕ) → 1 ≤ t → t ≤ 126 → with_slot t marks ≡ set marks (t - 1) 1
 set_with t marks some few =
     ap (λ b. cond b (cond (nat_lt t 127) (set marks (t - 1) 1) marks) marks) (lt-ltb 0 t (omega arith)) ∙ ap (λ b. cond b (set marks (t - 1) 1) marks) (lt-ltb t 127 (omega arith))
 

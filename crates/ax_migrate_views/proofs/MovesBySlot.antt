@@ -1,13 +1,13 @@
 -- Moves in the order of their old slots, and the entries of a record in the order of its slots.
-use Rattle.std.proofs.Common.{◌≡◌, ℕ, zero, suc, ◌+◌, ◌-◌, ◌<◌, ◌≤◌, ◌==◌, ◌⊎◌, inl, inr, nat_lt, Bool, true, false, IsTrue, if◌then◌else◌, List, [], ◌∷◌, ◌++◌, length, map, get_or, Option, Some, None, refl, sym, ◌∙◌, ap, arith, subst}
-use Rattle.std.proofs.lemmas.Bool.{ltb-false, lt-ltb, le-ltb, eqb-true, eq-eqb, ne_eqb, cases_eq}
+use Rattle.std.proofs.Common.{◌≡◌, ℕ, zero, suc, ◌+◌, ◌-◌, ◌<◌, ◌≤◌, ◌==◌, ◌⊎◌, inl, inr, nat_lt, Bool, true, false, IsTrue, if◌then◌else◌, List, [], ◌∷◌, ◌++◌, length, map, get_or, Some, None, refl, sym, ◌∙◌, ap, arith, subst}
+use Rattle.std.proofs.lemmas.Bool.{ltb-false, le-ltb, eqb-true, eq-eqb, ne_eqb, cases_eq}
 use Rattle.ax_relation.specs.Moves.{MoveTree, move_from, MovesTree, no_moves, move_and, moves_from}
 use Rattle.ax_relation.specs.PlainMoves.{move_tree, moves_tree}
 use Rattle.ax_relation.specs.declared.moves.Move.{Move, out-Move}
-use Rattle.ax_fspec.specs.Marks.{IsMarked, slots_from, slots_of}
+use Rattle.ax_fspec.specs.Marks.{IsMarked, slots_from}
 use Rattle.ax_migrate_views.proofs.Entries.{nothing_there, move_is}
 use Rattle.ax_migrate_views.specs.BySlot.{found_move, place_from, ascends, ArePlaces, IsFrom, found_canon, found_marks, slots_canon, slots_marks}
-use Rattle.ax_migrate_views.specs.Octets.{with_slot_where, marks_by, spelled_where, canon_by, entries_canon_by, move_canon, move_marks}
+use Rattle.ax_migrate_views.specs.Octets.{with_slot_where, marks_by, spelled_where, canon_by, entries_canon_by, move_canon}
 use Rattle.ax_model.specs.At.{slot_value}
 use Rattle.ax_model.specs.Lengths.{kind_after}
 use Rattle.ax_model.specs.Tree.{KindTree, SlotsTree, ValueTree, EntriesTree}

@@ -1,12 +1,19 @@
 -- The moves of a record by the old slot, where they come in the order of the old slots.
-use Rattle.std.specs.Prelude.{◌≡◌, ℕ, ◌+◌, ◌==◌, ◌<◌, nat_lt, Bool, true, false, IsTrue, if◌then◌else◌, List, [], ◌∷◌, ◌++◌, ◌-◌, length, take, drop, get_or, Option, Some, None}
-use Rattle.std.specs.Coded.{Coded-set, coded_ℕ, coded_bool}
+use Rattle.std.specs.Prelude.{◌≡◌, ℕ, zero, suc, ◌+◌, ◌==◌, ◌<◌, ◌≤◌, nat_lt, Bool, true, false, IsTrue, if◌then◌else◌, List, [], ◌∷◌, ◌++◌, ◌-◌, length, take, drop, get_or, Option, Some, None, IfSome}
+use Rattle.std.specs.Coded.{Coded-set, coded_ℕ, coded_bool, coded_list}
 use Rattle.ax_relation.specs.Moves.{MoveTree, move_from, MovesTree, no_moves, move_and}
 use Rattle.ax_relation.specs.PlainMoves.{moves_tree}
 use Rattle.ax_relation.specs.declared.moves.Move.{Move}
-use Rattle.ax_migrate_views.specs.Octets.{move_canon, move_marks}
+use Rattle.ax_migrate_views.specs.Octets.{move_canon, move_marks, with_slot}
+use Rattle.ax_migrate_views.specs.Wholes.{slots_in}
 use Rattle.ax_migrate_views.specs.declared.by_slot.SlotMoves.{SlotMoves}
-use Rattle.ax_model.specs.Tree.{SlotsTree, EntriesTree}
+use Rattle.ax_model.specs.At.{slot_value}
+use Rattle.ax_model.specs.Canonical.{canon}
+use Rattle.ax_model.specs.InBounds.{InBounds}
+use Rattle.ax_model.specs.Tree.{SlotsTree, ValueTree, EntriesTree}
+use Rattle.ax_tables.specs.Table.{kind_at, record_kind_at}
+use Rattle.ax_tables.specs.declared.node.Node.{Node}
+use Rattle.ax_view.specs.Values.{IsOne, value_in}
 
 -- ---- looking up
 
@@ -33,23 +40,6 @@ pub record ArePlaces (moves : List Move) (n : ℕ) (places : List ℕ) : Type 0 
   pub size : length places ≡ n
   pub at : (s : ℕ) → s < n → get_or places s 0 ≡ place_from 1 s (moves_tree moves)
 
--- what is kept of the moves
-pub record KnowsMoves (moves : List Move) (known : SlotMoves) : Type 0 where
-  pub ordered : IsTrue known.ordered → IsTrue (ascends 1 (moves_tree moves))
-  pub places : ArePlaces moves 127 known.places.items
-
-pub ArePlaces-prop : (moves : List Move) (n : ℕ) (places : List ℕ) → IsProp (ArePlaces moves n places)
-ArePlaces-prop moves n places a b = λ i. record {
-  size = Coded-set coded_ℕ (length places) n a.size b.size i;
-  at = λ s lt. Coded-set coded_ℕ (get_or places s 0) (place_from 1 s (moves_tree moves)) (a.at s lt) (b.at s lt) i;
-}
-
-pub KnowsMoves-prop : (moves : List Move) (known : SlotMoves) → IsProp (KnowsMoves moves known)
-KnowsMoves-prop moves known a b = λ i. record {
-  ordered = λ said. Coded-set coded_bool (ascends 1 (moves_tree moves)) true (a.ordered said) (b.ordered said) i;
-  places = ArePlaces-prop moves 127 known.places.items a.places b.places i;
-}
-
 -- ---- what slots make
 
 abbrev pub found_canon : Option MoveTree → SlotsTree → EntriesTree → List ℕ
@@ -73,3 +63,64 @@ slots_marks (s ∷ slots) ms es marks = slots_marks slots ms es (found_marks (fo
 -- the octets from `start` up to `stop`
 abbrev pub run_octets : ℕ → ℕ → List ℕ → List ℕ
 run_octets start stop body = take (stop - start) (drop start body)
+
+-- ---- what is known of the moves
+
+-- the canonical octets of each value of slot s stay as it moves
+abbrev pub StaysInSlot : List Node → List ℕ → MovesTree → ℕ → Type 0
+StaysInSlot nodes links ms s = (es : EntriesTree) (octets : List ℕ) → 0 < get_or links (s - 1) 0 → InBounds (kind_at nodes (get_or links (s - 1) 0)) → IsOne (kind_at nodes (get_or links (s - 1) 0)) octets
+    → slot_value s es ≡ Some (value_in (kind_at nodes (get_or links (s - 1) 0)) octets)
+    → found_canon (found_move s ms) (slots_in (record_kind_at nodes links)) es ≡ canon (kind_at nodes (get_or links (s - 1) 0)) (value_in (kind_at nodes (get_or links (s - 1) 0)) octets)
+
+-- of slots below n, those that are said to
+pub record StayInSlots (nodes : List Node) (links : List ℕ) (moves : List Move) (n : ℕ) (stays : List Bool) : Type 0 where
+  pub size : length stays ≡ n
+  pub at : (s : ℕ) → s < n → IsTrue (get_or stays s false) → StaysInSlot nodes links (moves_tree moves) s
+
+-- the set with that slot, where its mark is set
+abbrev pub with_slot_by : ℕ → ℕ → List ℕ → List ℕ
+with_slot_by zero s set = set
+with_slot_by (suc m) s set = with_slot s set
+
+-- an entry of slot s that moves keeps its slot, and it moves where its mark is set
+abbrev pub KeepsSlot : MovesTree → ℕ → ℕ → Type 0
+KeepsSlot ms s mark = (es : EntriesTree) (v : ValueTree) (set : List ℕ) → slot_value s es ≡ Some v → found_marks (found_move s ms) es set ≡ with_slot_by mark s set
+
+-- entries that move keep their slots, and those of this set move
+abbrev pub KeepSlots : List Move → List ℕ → Type 0
+KeepSlots moves kept = (s : ℕ) → 1 ≤ s → s < 127 → KeepsSlot (moves_tree moves) s (get_or kept (s - 1) 0)
+
+-- what is kept of the moves of records of these slots
+pub record KnowsMoves (nodes : List Node) (links : List ℕ) (moves : List Move) (known : SlotMoves) : Type 0 where
+  pub ordered : IsTrue known.ordered → IsTrue (ascends 1 (moves_tree moves))
+  pub places : ArePlaces moves 127 known.places.items
+  pub stays : StayInSlots nodes links moves 127 known.stays.items
+  pub kept : IfSome known.kept (KeepSlots moves)
+
+pub ArePlaces-prop : (moves : List Move) (n : ℕ) (places : List ℕ) → IsProp (ArePlaces moves n places)
+ArePlaces-prop moves n places a b = λ i. record {
+  size = Coded-set coded_ℕ (length places) n a.size b.size i;
+  at = λ s lt. Coded-set coded_ℕ (get_or places s 0) (place_from 1 s (moves_tree moves)) (a.at s lt) (b.at s lt) i;
+}
+
+StaysInSlot-prop : (nodes : List Node) (links : List ℕ) (ms : MovesTree) (s : ℕ) → IsProp (StaysInSlot nodes links ms s)
+StaysInSlot-prop nodes links ms s a b = λ i. λ es octets some bounds one there. Coded-set (coded_list coded_ℕ) (found_canon (found_move s ms) (slots_in (record_kind_at nodes links)) es) (canon (kind_at nodes (get_or links (s - 1) 0)) (value_in (kind_at nodes (get_or links (s - 1) 0)) octets))
+    (a es octets some bounds one there) (b es octets some bounds one there) i
+
+StayInSlots-prop : (nodes : List Node) (links : List ℕ) (moves : List Move) (n : ℕ) (stays : List Bool) → IsProp (StayInSlots nodes links moves n stays)
+StayInSlots-prop nodes links moves n stays a b = λ i. record {
+  size = Coded-set coded_ℕ (length stays) n a.size b.size i;
+  at = λ s lt said. StaysInSlot-prop nodes links (moves_tree moves) s (a.at s lt said) (b.at s lt said) i;
+}
+
+KeepSlots-prop : (moves : List Move) (o : Option (List ℕ)) → IsProp (IfSome o (KeepSlots moves))
+KeepSlots-prop moves None a b = λ i. a
+KeepSlots-prop moves (Some kept) a b = λ i. λ s some few es v set there. Coded-set (coded_list coded_ℕ) (found_marks (found_move s (moves_tree moves)) es set) (with_slot_by (get_or kept (s - 1) 0) s set) (a s some few es v set there) (b s some few es v set there) i
+
+pub KnowsMoves-prop : (nodes : List Node) (links : List ℕ) (moves : List Move) (known : SlotMoves) → IsProp (KnowsMoves nodes links moves known)
+KnowsMoves-prop nodes links moves known a b = λ i. record {
+  ordered = λ said. Coded-set coded_bool (ascends 1 (moves_tree moves)) true (a.ordered said) (b.ordered said) i;
+  places = ArePlaces-prop moves 127 known.places.items a.places b.places i;
+  stays = StayInSlots-prop nodes links moves 127 known.stays.items a.stays b.stays i;
+  kept = KeepSlots-prop moves known.kept a.kept b.kept i;
+}

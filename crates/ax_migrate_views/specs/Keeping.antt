@@ -4,7 +4,7 @@ use Rattle.ax_relation.specs.Moves.{MoveTree, move_from, MovesTree, no_moves, mo
 use Rattle.ax_migrate_views.specs.Octets.{canon_by}
 use Rattle.ax_model.specs.Canonical.{canon}
 use Rattle.ax_model.specs.InBounds.{InBounds}
-use Rattle.ax_model.specs.Tree.{KindTree, fixed, extended, counted, by_fx, explicit, compound, SlotsTree, no_slots, slot_and, spare_slot, subitem}
+use Rattle.ax_model.specs.Tree.{KindTree, compound, SlotsTree, no_slots, slot_and, spare_slot, subitem}
 use Rattle.ax_tables.specs.Table.{kind_at}
 use Rattle.ax_tables.specs.declared.node.Node.{Node}
 use Rattle.ax_view.specs.Values.{IsOne, value_in}

@@ -33,7 +33,7 @@ fn lay_record(
     output: &mut [u8],
 ) -> u32
     requires placed { IsRecordPlaced codec.now body.now here places.now }
-    requires known { KnowsMoves moves.now known.now }
+    requires known { KnowsMoves codec.now.nodes codec.now.slots moves.now known.now }
     requires room { length output.old ≡ 131067 }
     ensures laid { Lays (canon_by (moves_tree moves.now) (record_kind_at codec.now.nodes codec.now.slots) (marked (entries_there codec.now.nodes codec.now.slots body.now here))) at result output.old output.new }
     ensures room { length output.new ≡ 131067 }
@@ -95,7 +95,7 @@ pub(crate) fn lay_body(
     output: &mut [u8],
     lines: &mut [u8],
 ) -> Result<Laid, BodyFault>
-    requires known { KnowsMoves moves.now known.now }
+    requires known { KnowsMoves codec.now.nodes codec.now.slots moves.now known.now }
     requires size { (1 ≤ length body.now) × (length body.now ≤ longest_body) }
     requires room { length output.old ≡ 131067 }
     requires lines_room { length lines.old ≡ 131067 }

@@ -1,9 +1,13 @@
 //! The moves of a record by the old slot, looked up once.
-ghost use Rattle.std.specs.Prelude.{◌≡◌, IsTrue, IfOk};
+ghost use Rattle.std.specs.Prelude.{◌≡◌, ◌<◌, IsTrue, IfOk, IfSome, length};
 ghost use Rattle.ax_relation.specs.PlainMoves.{moves_tree};
-ghost use Rattle.ax_migrate_views.specs.BySlot.{ArePlaces, KnowsMoves, ascends, place_from};
+ghost use Rattle.ax_migrate_views.specs.BySlot.{ArePlaces, KeepSlots, KnowsMoves, StayInSlots, StaysInSlot, ascends, place_from};
+ghost use Rattle.ax_tables.specs.Table.{IsTable, SlotLinksWithin};
 
+use crate::keeping::keeps;
 use ax_relation::{Move, Moves};
+use ax_fspec::Presence;
+use ax_tables::{Codec, Node};
 use std::alloc::{AllocError, Global};
 
 /// The numbers of the slots of a record, and 0.
@@ -16,6 +20,10 @@ pub(crate) struct SlotMoves {
     pub(crate) ordered: bool,
     /// By slot, from 0 on: 1 more than the index of its move, and 0 where it has none.
     pub(crate) places: Vec<usize>,
+    /// By slot, from 0 on: whether it has a move under which the canonical octets of each of its values stay.
+    pub(crate) stays: Vec<bool>,
+    /// The slots that have a move, where each move is to the slot of the same number.
+    pub(crate) kept: Option<Presence>,
 }
 
 /// Whether the moves come in the order of their old slots, each slot once.
@@ -56,12 +64,88 @@ fn places_of(alloc: Global, moves: &[Move]) -> Result<Vec<usize>, AllocError>
     Ok(places)
 }
 
-/// What is known of moves.
-pub(crate) fn know_moves(alloc: Global, moves: &Moves) -> Result<SlotMoves, AllocError>
-    ensures { IfOk result (KnowsMoves moves.now) }
+/// Whether a slot has a move under which the canonical octets of each of its values stay.
+fn does_stay(nodes: &[Node], links: &[u32], moves: &[Move], places: &[usize], slot: u32) -> bool
+    requires table { IsTable nodes.now }
+    requires links { SlotLinksWithin (length nodes.now) links.now }
+    requires few { length moves.now < 4294967296 }
+    requires places { ArePlaces moves.now 127 places.now }
+    requires slot { slot < 127 }
+    ensures { IsTrue result → StaysInSlot nodes.now links.now (moves_tree moves.now) slot }
+{
+    let place = places[slot as usize];
+    if place == 0 || slot == 0 || slot as usize > links.len() {
+        return false;
+    }
+    let link = links[slot as usize - 1];
+    link > 0 && keeps(nodes, link, &moves[place - 1].below)
+}
+
+/// By slot, from 0 on, whether it does.
+#[tactic(auto, using(crate::proofs::KeptSlots::staying))]
+fn staying(
+    alloc: Global,
+    nodes: &[Node],
+    links: &[u32],
+    moves: &[Move],
+    places: &[usize],
+) -> Result<Vec<bool>, AllocError>
+    requires table { IsTable nodes.now }
+    requires links { SlotLinksWithin (length nodes.now) links.now }
+    requires few { length moves.now < 4294967296 }
+    requires places { ArePlaces moves.now 127 places.now }
+    ensures { IfOk result (λ made. StayInSlots nodes.now links.now moves.now 127 made.items) }
+{
+    let mut stays = Vec::new(alloc);
+    for slot in 0..SLOTS {
+        stays.push(does_stay(nodes, links, moves, places, slot))?;
+    }
+    Ok(stays)
+}
+
+/// The slots that have a move, where each move is to the slot of the same number.
+fn kept_slots(moves: &[Move], places: &[usize]) -> Option<Presence>
+    requires few { length moves.now < 4294967296 }
+    requires places { ArePlaces moves.now 127 places.now }
+    ensures { IfSome result (KeepSlots moves.now) }
+{
+    let mut kept = Presence::empty();
+    for slot in 1..SLOTS {
+        let place = places[slot as usize];
+        if place == 0 {
+            continue;
+        }
+        if moves[place - 1].new != slot {
+            return None;
+        }
+        kept.mark(slot);
+    }
+    Some(kept)
+}
+
+/// What is known of the moves of the records of a codec.
+pub(crate) fn know_moves(
+    alloc: Global,
+    codec: &Codec,
+    moves: &Moves,
+) -> Result<SlotMoves, AllocError>
+    ensures { IfOk result (KnowsMoves codec.now.nodes codec.now.slots moves.now) }
 {
     let moves = moves.as_slice();
     let ordered = are_ordered(moves);
     let places = places_of(alloc, moves)?;
-    Ok(SlotMoves { ordered, places })
+    let stays = staying(
+        alloc,
+        codec.nodes.as_slice(),
+        codec.slots.as_slice(),
+        moves,
+        places.as_slice(),
+    )?;
+    let kept = kept_slots(moves, places.as_slice());
+    Ok(SlotMoves {
+        ordered,
+        places,
+        stays,
+        kept,
+    })
 }

@@ -1,23 +1,21 @@
 //! Records laid by their marked slots, where the moves come in the order of the old slots.
-ghost use Rattle.std.specs.Prelude.{◌≡◌, ◌++◌, ◌<◌, ◌≤◌, Some, IsTrue, length};
+ghost use Rattle.std.specs.Prelude.{◌≡◌, ◌++◌, ◌<◌, ◌≤◌, IsTrue, length};
 ghost use Rattle.ax_bits.specs.Bits.{bits};
-ghost use Rattle.ax_relation.specs.PlainMoves.{move_tree, moves_tree};
+ghost use Rattle.ax_relation.specs.PlainMoves.{moves_tree};
 ghost use Rattle.ax_fspec.specs.Marks.{no_marks, slots_of};
-ghost use Rattle.ax_migrate_views.specs.BySlot.{ArePlaces, IsFrom, KnowsMoves, ascends, found_marks, found_move, run_octets, slots_canon, slots_marks};
+ghost use Rattle.ax_migrate_views.specs.BySlot.{ArePlaces, KnowsMoves, StayInSlots, ascends, found_marks, found_move, run_octets, slots_canon, slots_marks};
 ghost use Rattle.ax_migrate_views.specs.Laying.{Lays};
-ghost use Rattle.ax_migrate_views.specs.Octets.{entries_canon_by, field_by, move_canon};
+ghost use Rattle.ax_migrate_views.specs.Octets.{entries_canon_by, field_by};
 ghost use Rattle.ax_migrate_views.specs.Wholes.{whole_entries, whole_slots};
-ghost use Rattle.ax_model.specs.At.{slot_value};
-ghost use Rattle.ax_view.specs.Placing.{HoldsValue, IsPlaced, window_octets, window_value};
+ghost use Rattle.ax_view.specs.Placing.{IsPlaced};
 
 use crate::by_slot::SlotMoves;
-use crate::keeping::keeps;
 use crate::laying::{lay_field, lay_octets};
 use crate::marks::add_moved;
 use crate::values::{lay_entry, lay_whole};
-use ax_fspec::Presence;
 use ax_relation::{Move, Moves};
-use ax_view::{PlacedSlots, Window};
+use ax_fspec::Presence;
+use ax_view::PlacedSlots;
 
 /// Adds the new slot of the entry of a slot, if it is there and moves.
 #[inline(always)]
@@ -41,35 +39,22 @@ fn mark_moved(
 }
 
 /// The set of the new slots of the entries that move.
-fn marked_anew(whole: &PlacedSlots<'_, '_, '_>, moves: &[Move], places: &[usize]) -> Presence
+fn marked_anew(whole: &PlacedSlots<'_, '_, '_>, moves: &[Move], known: &SlotMoves) -> Presence
     requires placed { IsPlaced whole.now }
     requires few { length moves.now < 4294967296 }
-    requires places { ArePlaces moves.now 127 places.now }
+    requires known { KnowsMoves whole.now.codec.now.nodes whole.now.slots.now moves.now known.now }
     ensures { result ≡ slots_marks (slots_of whole.now.places.now.marked) (moves_tree moves.now) (whole_entries whole.now) no_marks }
 {
+    if let Some(kept) = &known.kept {
+        return whole.marked().common(kept);
+    }
+    let places = known.places.as_slice();
     let mut marked = Presence::empty();
     let mut left = whole.marked();
     while let Some(slot) = left.take_first() {
         mark_moved(whole, moves, places, slot, &mut marked);
     }
     marked
-}
-
-/// Whether the octets of a slot's value are what its move makes of it.
-#[inline(always)]
-fn is_copied(whole: &PlacedSlots<'_, '_, '_>, slot: u32, window: &Window, one: &Move) -> bool
-    requires placed { IsPlaced whole.now }
-    requires there { HoldsValue whole.now.codec.now.nodes whole.now.slots.now whole.now.body.now slot window.now }
-    requires value { slot_value slot (whole_entries whole.now) ≡ Some (window_value whole.now.codec.now.nodes whole.now.slots.now whole.now.body.now slot window.now) }
-    requires own { IsFrom slot (move_tree one.now) }
-    ensures { IsTrue result → move_canon (move_tree one.now) (whole_slots whole.now) (whole_entries whole.now) ≡ bits (window_octets window.now whole.now.body.now) }
-{
-    window.least
-        && keeps(
-            whole.codec.nodes.as_slice(),
-            whole.slots[slot as usize - 1],
-            &one.below,
-        )
 }
 
 /// Lays the octets of a body from `start` up to `stop`.
@@ -80,6 +65,9 @@ fn lay_run(body: &[u8], start: u32, stop: u32, at: u32, output: &mut [u8]) -> u3
     ensures laid { Lays (bits (run_octets start stop body.now)) at result output.old output.new }
     ensures room { length output.new ≡ 131067 }
 {
+    if start == stop {
+        return at;
+    }
     lay_octets(&body[start as usize..stop as usize], at, output)
 }
 
@@ -89,12 +77,14 @@ fn lay_marked(
     whole: &PlacedSlots<'_, '_, '_>,
     moves: &[Move],
     places: &[usize],
+    stays: &[bool],
     at: u32,
     output: &mut [u8],
 ) -> u32
     requires placed { IsPlaced whole.now }
     requires few { length moves.now < 4294967296 }
     requires places { ArePlaces moves.now 127 places.now }
+    requires stays { StayInSlots whole.now.codec.now.nodes whole.now.slots.now moves.now 127 stays.now }
     requires room { length output.old ≡ 131067 }
     ensures laid { Lays (slots_canon (slots_of whole.now.places.now.marked) (moves_tree moves.now) (whole_slots whole.now) (whole_entries whole.now)) at result output.old output.new }
     ensures room { length output.new ≡ 131067 }
@@ -107,14 +97,13 @@ fn lay_marked(
         let Some(window) = whole.place(slot) else {
             continue;
         };
-        let place = places[slot as usize];
-        if place == 0 {
-            continue;
-        }
-        let one = &moves[place - 1];
-        if !is_copied(whole, slot, &window, one) {
+        if !window.least || !stays[slot as usize] {
+            let place = places[slot as usize];
+            if place == 0 {
+                continue;
+            }
             end = lay_run(whole.body, start, stop, end, output);
-            end = lay_entry(whole.codec, whole, one, end, output);
+            end = lay_entry(whole.codec, whole, &moves[place - 1], end, output);
             start = 0;
             stop = 0;
             continue;
@@ -132,21 +121,28 @@ fn lay_marked(
 fn lay_in_order(
     whole: &PlacedSlots<'_, '_, '_>,
     moves: &[Move],
-    places: &[usize],
+    known: &SlotMoves,
     at: u32,
     output: &mut [u8],
 ) -> u32
     requires placed { IsPlaced whole.now }
     requires ordered { IsTrue (ascends 1 (moves_tree moves.now)) }
     requires few { length moves.now < 4294967296 }
-    requires places { ArePlaces moves.now 127 places.now }
+    requires known { KnowsMoves whole.now.codec.now.nodes whole.now.slots.now moves.now known.now }
     requires room { length output.old ≡ 131067 }
     ensures laid { Lays (field_by (moves_tree moves.now) (whole_entries whole.now) ++ entries_canon_by (moves_tree moves.now) (whole_slots whole.now) (whole_entries whole.now)) at result output.old output.new }
     ensures room { length output.new ≡ 131067 }
 {
-    let marked = marked_anew(whole, moves, places);
+    let marked = marked_anew(whole, moves, known);
     let end = lay_field(&marked, at, output);
-    lay_marked(whole, moves, places, end, output)
+    lay_marked(
+        whole,
+        moves,
+        known.places.as_slice(),
+        known.stays.as_slice(),
+        end,
+        output,
+    )
 }
 
 /// Lays the entries that move, after the presence field of their new slots.
@@ -158,13 +154,13 @@ pub(crate) fn lay_moved(
     output: &mut [u8],
 ) -> u32
     requires placed { IsPlaced whole.now }
-    requires known { KnowsMoves moves.now known.now }
+    requires known { KnowsMoves whole.now.codec.now.nodes whole.now.slots.now moves.now known.now }
     requires room { length output.old ≡ 131067 }
     ensures laid { Lays (field_by (moves_tree moves.now) (whole_entries whole.now) ++ entries_canon_by (moves_tree moves.now) (whole_slots whole.now) (whole_entries whole.now)) at result output.old output.new }
     ensures room { length output.new ≡ 131067 }
 {
     if known.ordered {
-        lay_in_order(whole, moves.as_slice(), known.places.as_slice(), at, output)
+        lay_in_order(whole, moves.as_slice(), known, at, output)
     } else {
         lay_whole(whole.codec, whole, moves, at, output)
     }

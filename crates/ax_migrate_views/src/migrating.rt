@@ -48,7 +48,7 @@ impl<'c> Migrator<'c> {
         ensures codec { IfOk result (λ made. made.codec.now ≡ codec.now) }
     {
         let lost = gone_paths(alloc, relation.paths())?;
-        let known = know_moves(alloc, relation.moves())?;
+        let known = know_moves(alloc, codec, relation.moves())?;
         Ok(Migrator {
             old,
             new,

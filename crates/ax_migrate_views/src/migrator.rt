@@ -19,5 +19,5 @@ pub struct Migrator<'c> {
     pub(crate) lost: RelationPaths,
     /// What is known of the relation's moves.
     pub(crate) known: SlotMoves,
-    ghost moves: { KnowsMoves relation.now.moves known } by { KnowsMoves-prop relation.now.moves known },
+    ghost moves: { KnowsMoves codec.now.nodes codec.now.slots relation.now.moves known } by { KnowsMoves-prop codec.now.nodes codec.now.slots relation.now.moves known },
 }

@@ -23,7 +23,6 @@ use Rattle.ax_view.proofs.NodeKinds.{is_element, is_group, is_part, is_extended,
 use Rattle.ax_model.specs.At.{slot_value, value_at, number_of_value}
 use Rattle.ax_view.specs.Spots.{IsSpot, IsNoNumber}
 use Rattle.ax_view.specs.Values.{IsAll, IsOne, IsItem, IsItemOf, ItemInBounds, value_read, value_in, entries_in}
-use Rattle.ax_view.specs.declared.item.ItemView.{ItemView}
 use Rattle.ax_view.specs.declared.spot.Spot.{Spot}
 
 pub le_or_less : (m n : ℕ) → (m ≤ n) ⊎ (n < m)

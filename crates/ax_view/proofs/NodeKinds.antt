@@ -44,6 +44,12 @@ module _ (f : FixedTree) (body : List ℕ) (at w : ℕ) (is : w ≡ width f) whe
   run_fault fault (Some end) h g = tt
   run_fault fault None h g = fixed_fails f body at fault (omega arith) (ap (λ f. f.cause) g) (ap (λ f. f.bit) g)
 
+-- what holds whatever is said to be least
+pub each_least : (k : KindTree) (body : List ℕ) (at : ℕ) (r : Option ℕ) → ((least : Bool) → IfSome r (λ end. Walks (canon k) (kind_read k body at) body at end least))
+    → IfSome r (λ end. (least : Bool) → Walks (canon k) (kind_read k body at) body at end least)
+each_least k body at (Some end) h = h
+each_least k body at None h = tt
+
 -- ---- by the node
 
 pub links_more : (m n : ℕ) (links : List ℕ) → m ≤ n → LinksWithin m links → LinksWithin n links

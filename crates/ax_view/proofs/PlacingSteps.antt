@@ -1,5 +1,5 @@
 -- Windows of marked slots, one after the other.
-use Rattle.std.proofs.Common.{◌≡◌, ℕ, zero, suc, ◌+◌, ◌-◌, ◌*◌, ◌<◌, ◌≤◌, ◌==◌, ◌⊎◌, inl, inr, ⊎_elim, if◌then◌else◌, Bool, true, false, IsTrue, Option, Some, None, IfSome, IfNone, List, [], ◌∷◌, length, take, drop, get_or, set, refl, sym, ◌∙◌, ap, arith, subst, length-drop}
+use Rattle.std.proofs.Common.{◌≡◌, ℕ, zero, suc, ◌-◌, ◌*◌, ◌<◌, ◌≤◌, ◌⊎◌, inl, inr, ⊎_elim, if◌then◌else◌, Bool, Option, Some, None, IfSome, IfNone, List, [], ◌∷◌, length, take, drop, get_or, set, refl, sym, ◌∙◌, ap, arith, subst, length-drop}
 use Rattle.std.proofs.lemmas.Bool.{cases_eq}
 use Rattle.std.proofs.lemmas.List.{length-take-le, append_cancel_right, get_or-set_same, get_or-set_other, length-set, get_or_default}
 use Rattle.ax_bits.proofs.Words.{length-bits}
@@ -14,7 +14,7 @@ use Rattle.ax_model.proofs.Places.{none_marked_at}
 use Rattle.ax_model.specs.At.{slot_value}
 use Rattle.ax_model.specs.Canonical.{canon}
 use Rattle.ax_model.specs.Reader.{got, both, entries_read}
-use Rattle.ax_model.specs.Tree.{ValueTree, marked, EntriesTree, no_entries, entry_and, slots_of, compound}
+use Rattle.ax_model.specs.Tree.{marked, EntriesTree, no_entries, entry_and, slots_of, compound}
 use Rattle.ax_model.specs.declared.fault.BodyFault.{BodyFault}
 use Rattle.ax_reader.proofs.AtOctets.{octets_parts}
 use Rattle.ax_reader.proofs.Continuing.{gets_after}

@@ -1,5 +1,5 @@
 //! The walk over a body's octets by the nodes of a table.
-ghost use Rattle.std.specs.Prelude.{◌≡◌, ◌+◌, ◌-◌, ◌*◌, ◌%◌, ◌<◌, ◌≤◌, length, map, get_or, IfSome, IfNone, IsTrue};
+ghost use Rattle.std.specs.Prelude.{◌≡◌, ◌+◌, ◌-◌, ◌*◌, ◌%◌, ◌<◌, ◌≤◌, length, map, get_or, IfSome, IfNone, Bool, IsTrue};
 ghost use Rattle.ax_model.specs.Sizes.{longest_body};
 ghost use Rattle.ax_tables.specs.Octets.{octets_of};
 ghost use Rattle.ax_bits.specs.Bits.{AreBits};
@@ -15,7 +15,7 @@ ghost use Rattle.ax_reader.specs.Reading.{FailsAt, IsMaskOf, kind_read, entries_
 ghost use Rattle.ax_view.specs.Walking.{Walks, along, NeedsLast};
 
 use crate::notes::{Notes, fail};
-use crate::units::{run, walk_explicit, walk_parts, walk_run};
+use crate::units::{run, run_there, walk_explicit, walk_parts, walk_run};
 use ax_fspec::{Presence, SlotMask, read_presence};
 use ax_model::BodyCause;
 use ax_tables::{Codec, Node};
@@ -135,10 +135,30 @@ pub(crate) fn walk_item(
         Node::Group { width, .. } => run(body, at, *width, notes),
         Node::Part { .. } => None,
         Node::Extended { parts } => walk_parts(nodes, parts.as_slice(), body, at, notes),
-        Node::Counted { .. } => walk(nodes, link, body, at, notes),
+        Node::Counted { inner } => walk_counted(nodes, *inner, body, at, notes),
         Node::ByFx { inner } => walk_run(nodes, *inner, body, at, notes),
         Node::Explicit => walk_explicit(body, at, notes),
-        Node::Compound { .. } => walk(nodes, link, body, at, notes),
+        Node::Compound { mask, slots } => {
+            walk_compound(nodes, mask, slots.as_slice(), body, at, notes)
+        }
+    }
+}
+
+/// The octet after the value that begins at octet `at`, where the kind that a link leads to is a fixed one whose octets are all
+/// there. It spares most subitems and occurrences a call.
+#[inline(always)]
+fn fixed_end(nodes: &[Node], link: u32, body: &[u8], at: u32) -> Option<u32>
+    requires table { IsTable nodes.now }
+    requires link { (0 < link) × (link ≤ length nodes.now) }
+    requires bounds { InBounds (kind_at nodes.now link) }
+    requires body { length body.now ≤ longest_body }
+    requires at { at ≤ length body.now }
+    ensures { IfSome result (λ end. (least : Bool) → Walks (canon (kind_at nodes.now link)) (kind_read (kind_at nodes.now link) body.now at) body.now at end least) }
+{
+    match &nodes[link as usize - 1] {
+        Node::Element { width } => run_there(body, at, *width),
+        Node::Group { width, .. } => run_there(body, at, *width),
+        _ => None,
     }
 }
 
@@ -168,8 +188,9 @@ pub fn walk(nodes: &[Node], link: u32, body: &[u8], at: u32, notes: &mut Notes) 
     }
 }
 
-/// The octet after a counted item.
+/// The octet after a counted item. Inlined into the loops over records it would take their registers.
 #[cycle(walk)]
+#[inline(never)]
 fn walk_counted(nodes: &[Node], inner: u32, body: &[u8], at: u32, notes: &mut Notes) -> Option<u32>
     requires table { IsTable nodes.now }
     requires link { (0 < inner) × (inner ≤ length nodes.now) }
@@ -187,6 +208,10 @@ fn walk_counted(nodes: &[Node], inner: u32, body: &[u8], at: u32, notes: &mut No
     let count = body[at as usize];
     let mut here = at + 1;
     for _ in 0..count {
+        if let Some(end) = fixed_end(nodes, inner, body, here) {
+            here = end;
+            continue;
+        }
         here = walk(nodes, inner, body, here, notes)?;
     }
     Some(here)
@@ -261,7 +286,12 @@ fn walk_marked(
     let mut left = marked;
     let mut here = at;
     while let Some(slot) = left.take_first() {
-        here = walk(nodes, slots[slot as usize - 1], body, here, notes)?;
+        let link = slots[slot as usize - 1];
+        if let Some(end) = fixed_end(nodes, link, body, here) {
+            here = end;
+            continue;
+        }
+        here = walk(nodes, link, body, here, notes)?;
     }
     Some(here)
 }

@@ -15,7 +15,24 @@ use crate::notes::{Notes, fail};
 use ax_model::BodyCause;
 use ax_tables::Node;
 
-/// The octet after a unit of `width` bits, whole octets, that begins at octet `at`.
+/// The octet after a unit of `width` bits, whole octets, that begins at octet `at`. None comes exactly where the body ends
+/// before it.
+#[inline(always)]
+pub(crate) fn run_there(body: &[u8], at: u32, width: u32) -> Option<u32>
+    requires width { (width % 8 ≡ 0) × (width ≤ 524264) }
+    requires body { length body.now ≤ longest_body }
+    requires at { at ≤ length body.now }
+    ensures end { IfSome result (λ end. (at ≤ end) × (end ≤ length body.now) × (width ≡ 8 * (end - at))) }
+    ensures short { IfNone result (8 * (length body.now - at) < width) }
+{
+    let end = at + width / 8;
+    if end as usize > body.len() {
+        return None;
+    }
+    Some(end)
+}
+
+/// The same; where the body ends before it, that is noted.
 #[inline(always)]
 pub(crate) fn run(body: &[u8], at: u32, width: u32, notes: &mut Notes) -> Option<u32>
     requires width { (width % 8 ≡ 0) × (width ≤ 524264) }
@@ -26,12 +43,11 @@ pub(crate) fn run(body: &[u8], at: u32, width: u32, notes: &mut Notes) -> Option
     ensures fault { IfNone result (notes.new.fault ≡ record { cause = Cause.RunsOut; bit = 8 * at }) }
     ensures least { notes.new.least ≡ notes.old.least }
 {
-    let end = at + width / 8;
-    if end as usize > body.len() {
+    let end = run_there(body, at, width);
+    if end.is_none() {
         fail(notes, BodyCause::RunsOut, 8 * at);
-        return None;
     }
-    Some(end)
+    end
 }
 
 /// The width of the fixed kind that a link leads to.

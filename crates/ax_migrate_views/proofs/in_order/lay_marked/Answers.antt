@@ -1,10 +1,12 @@
-use Rattle.std.proofs.Common.{◌≡◌, ◌∙◌, ◌<◌, ◌-◌, ◌++◌, ap, arith, refl, sym, get_or}
+use Rattle.std.proofs.Common.{◌≡◌, ◌∙◌, ap, arith, refl, sym}
+use Rattle.std.proofs.lemmas.Bool.{not-false}
 use Rattle.ax_bits.specs.Bits.{bits}
 use Rattle.ax_relation.specs.PlainMoves.{move_tree, moves_tree}
 use Rattle.ax_fspec.specs.Marks.{slots_of}
 use Rattle.ax_migrate_views.proofs.LaidRuns.{run_skips, run_extends, run_flushed, run_last, run_enters}
-use Rattle.ax_migrate_views.proofs.MovesBySlot.{no_move, move_within, move_there, none_canon, found_from, next_canon}
-use Rattle.ax_migrate_views.specs.BySlot.{found_canon, found_move, run_octets, slots_canon}
+use Rattle.ax_migrate_views.proofs.KeptSlots.{stays_there}
+use Rattle.ax_migrate_views.proofs.MovesBySlot.{no_move, move_within, move_there, none_canon, next_canon}
+use Rattle.ax_migrate_views.specs.BySlot.{found_canon, run_octets, slots_canon}
 use Rattle.ax_migrate_views.specs.Octets.{move_canon}
 use Rattle.ax_migrate_views.specs.Wholes.{whole_entries, whole_slots}
 use Rattle.ax_migrate_views.proofs.in_order.lay_marked.Goals as goal
@@ -31,13 +33,8 @@ offset_bounds-moves-place c =
 pub bounds-moves-place : goal.bounds-moves-place
 bounds-moves-place c = move_within c.args.moves.now c.args.places.now c.in-Some.slot _ c.requires.places (omega (arith, c.in-Some.ensures.within.1)) refl (omega (arith, c.if-place-eq0.false))
 
-pub is_copied-requires-clause-own : goal.is_copied-requires-clause-own
-is_copied-requires-clause-own c =
-    found_from c.in-Some.slot (moves_tree c.args.moves.now) (move_tree c.index-moves-place.result)
-    (move_there c.args.moves.now c.args.places.now c.in-Some.slot _ c.requires.places (omega (arith, c.in-Some.ensures.within.1)) refl (omega (arith, c.if-place-eq0.false)) c.index-moves-place.result c.index-moves-place.is)
-
-pub loop-slot-preserved-then-not-is_copied : goal.loop-slot-preserved-then-not-is_copied
-loop-slot-preserved-then-not-is_copied c =
+pub loop-slot-preserved-then-not-window : goal.loop-slot-preserved-then-not-window
+loop-slot-preserved-then-not-window c =
     let w = c.args.whole.now in
     let ms = moves_tree c.args.moves.now in
     let one = c.index-moves-place.result in
@@ -50,11 +47,9 @@ pub loop-slot-preserved-then-window-stop : goal.loop-slot-preserved-then-window-
 loop-slot-preserved-then-window-stop c =
     let w = c.args.whole.now in
     let ms = moves_tree c.args.moves.now in
-    let one = c.index-moves-place.result in
     let there = c.in-Some-place.ensures.there in
-    let found = move_there c.args.moves.now c.args.places.now c.in-Some.slot _ c.requires.places (omega (arith, c.in-Some.ensures.within.1)) refl (omega (arith, c.if-place-eq0.false)) one c.index-moves-place.is in
-    let next = next_canon (slots_of c.loop-slot.left) (slots_of c.take_first.new.self) c.in-Some.slot ms (whole_slots w) (whole_entries w) (bits (run_octets c.in-Some-place.window.start c.in-Some-place.window.end w.body.now)) c.in-Some.ensures.some
-    (ap (λ o. found_canon o (whole_slots w) (whole_entries w)) found ∙ c.is_copied.ensures c.if-not-is_copied.false) in
+    let stays = stays_there w c.args.moves.now c.args.stays.now c.in-Some.slot c.in-Some-place.window c.requires.stays there (sym c.in-Some-place.ensures.value) (not-false _ c.if-not-window.false) c.if-not-stays-slot.false in
+    let next = next_canon (slots_of c.loop-slot.left) (slots_of c.take_first.new.self) c.in-Some.slot ms (whole_slots w) (whole_entries w) (bits (run_octets c.in-Some-place.window.start c.in-Some-place.window.end w.body.now)) c.in-Some.ensures.some stays in
     run_extends _ _ _ _ _ _ _ _ _
     (run_flushed _ _ _ _ _ _ _ _ _ c.loop-slot.invariant c.in-Some-place.window.start c.lay_run-end-then-window-stop.result c.lay_run-end-then-window-stop.new.output (omega (arith, there.forwards, there.within)) c.lay_run-end-then-window-stop.ensures.laid)
     _ c.in-Some-place.window.end there.forwards there.within next
@@ -63,12 +58,11 @@ pub loop-slot-preserved : goal.loop-slot-preserved
 loop-slot-preserved c =
     let w = c.args.whole.now in
     let ms = moves_tree c.args.moves.now in
-    let one = c.index-moves-place.result in
     let there = c.in-Some-place.ensures.there in
-    let found = move_there c.args.moves.now c.args.places.now c.in-Some.slot _ c.requires.places (omega (arith, c.in-Some.ensures.within.1)) refl (omega (arith, c.if-place-eq0.false)) one c.index-moves-place.is in
     let here : c.in-Some-place.window.start ≡ c.loop-slot.stop = omega (arith, c.if-window-stop.false) in
+    let stays = stays_there w c.args.moves.now c.args.stays.now c.in-Some.slot c.in-Some-place.window c.requires.stays there (sym c.in-Some-place.ensures.value) (not-false _ c.if-not-window.false) c.if-not-stays-slot.false in
     let next = next_canon (slots_of c.loop-slot.left) (slots_of c.take_first.new.self) c.in-Some.slot ms (whole_slots w) (whole_entries w) (bits (run_octets c.loop-slot.stop c.in-Some-place.window.end w.body.now)) c.in-Some.ensures.some
-    (ap (λ o. found_canon o (whole_slots w) (whole_entries w)) found ∙ c.is_copied.ensures c.if-not-is_copied.false ∙ ap (λ n. bits (run_octets n c.in-Some-place.window.end w.body.now)) here) in
+    (stays ∙ ap (λ n. bits (run_octets n c.in-Some-place.window.end w.body.now)) here) in
     run_extends _ _ _ _ _ _ _ _ _ c.loop-slot.invariant _ c.in-Some-place.window.end (omega (arith, here, there.forwards)) there.within next
 
 pub returns-clause-laid : goal.returns-clause-laid

@@ -1,4 +1,3 @@
-use Rattle.std.proofs.Common.{refl}
 use Rattle.ax_migrate_views.proofs.ToldLines.{gathered_bits}
 use Rattle.ax_migrate_views.proofs.in_order.lay_run.Goals as goal
 

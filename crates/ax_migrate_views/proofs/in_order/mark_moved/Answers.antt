@@ -1,5 +1,4 @@
-use Rattle.std.proofs.Common.{◌≡◌, ◌∙◌, ap, arith, refl, sym}
-use Rattle.ax_relation.specs.PlainMoves.{move_tree, moves_tree}
+use Rattle.std.proofs.Common.{◌∙◌, ap, arith, refl, sym}
 use Rattle.ax_migrate_views.proofs.MovesBySlot.{no_move, move_within, move_there}
 use Rattle.ax_migrate_views.specs.BySlot.{found_marks}
 use Rattle.ax_migrate_views.specs.Wholes.{whole_entries}

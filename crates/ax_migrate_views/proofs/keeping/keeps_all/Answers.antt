@@ -1,4 +1,4 @@
-use Rattle.std.proofs.Common.{arith, ap, ◌∙◌, get_or}
+use Rattle.std.proofs.Common.{arith}
 use Rattle.ax_migrate_views.proofs.KeepingSteps.{sub_next}
 use Rattle.ax_migrate_views.proofs.keeping.keeps_all.Goals as goal
 

@@ -1,4 +1,3 @@
-use Rattle.std.proofs.Common.{◌++◌, codes, decimal}
 use Rattle.ax_migrate_views.proofs.ToldLines.{gathers_then}
 use Rattle.ax_migrate_views.proofs.telling.tell_line.Goals as goal
 

@@ -152,6 +152,13 @@ walk_counted-loop-preserved t c =
       falls = λ t. c.loop.invariant.falls (c.walk.ensures.falls t);
     }
 
+pub walk_counted-loop-preserved-in-Some : goal.walk_counted-loop-preserved-in-Some
+walk_counted-loop-preserved-in-Some t c =
+    record {
+      counted = count_next (kind_at c.args.nodes.now c.args.inner) c.args.body.now (get_or c.args.body.now c.args.at 0) c.loop.counter c.args.at c.loop.here c.in-Some.end c.loop.notes.least c.loop.notes.least c.loop.invariant.counted c.loop-test.true (λ t. t) (c.in-Some.ensures c.loop.notes.least);
+      falls = c.loop.invariant.falls;
+    }
+
 pub walk_counted-returns-clause-end : goal.walk_counted-returns-clause-end
 walk_counted-returns-clause-end t c =
     count_last (kind_at c.args.nodes.now c.args.inner) c.args.body.now (get_or c.args.body.now c.args.at 0) c.loop.counter c.args.at c.loop.here c.loop.notes.least c.loop.invariant.counted c.loop-test.false
@@ -174,6 +181,22 @@ walk_marked-loop-slot-preserved t c =
     record {
       marked = marks_next c.args.nodes.now c.args.slots.now c.args.marked c.loop-slot.left c.take_first.new.self c.args.body.now c.in-Some.slot c.args.at c.loop-slot.here c.loop-slot.notes.least c.loop-slot.invariant.marked (next_marked c.args.nodes.now c.args.slots.now c.loop-slot.left c.take_first.new.self _ c.in-Some.slot c.requires.bounds c.loop-slot.invariant.marked.clear c.loop-slot.invariant.marked.are_bits c.in-Some.ensures.some c.in-Some.ensures.marks) c.in_ok-here.here c.walk.new.notes.least c.walk.ensures.falls c.in_ok-here.ensures.end;
       falls = λ t. c.loop-slot.invariant.falls (c.walk.ensures.falls t);
+    }
+
+pub walk_marked-fixed_end-requires-clause-link : goal.walk_marked-fixed_end-requires-clause-link
+walk_marked-fixed_end-requires-clause-link t c =
+    let n = next_marked c.args.nodes.now c.args.slots.now c.loop-slot.left c.take_first.new.self _ c.in-Some.slot c.requires.bounds c.loop-slot.invariant.marked.clear c.loop-slot.invariant.marked.are_bits c.in-Some.ensures.some c.in-Some.ensures.marks in
+    (n.some, within_at (length c.args.nodes.now) c.args.slots.now (c.in-Some.slot - 1) 0 c.requires.links n.within)
+
+pub walk_marked-fixed_end-requires-clause-bounds : goal.walk_marked-fixed_end-requires-clause-bounds
+walk_marked-fixed_end-requires-clause-bounds t c =
+    let n = next_marked c.args.nodes.now c.args.slots.now c.loop-slot.left c.take_first.new.self _ c.in-Some.slot c.requires.bounds c.loop-slot.invariant.marked.clear c.loop-slot.invariant.marked.are_bits c.in-Some.ensures.some c.in-Some.ensures.marks in n.bounds
+
+pub walk_marked-loop-slot-preserved-in-Some-fixed_end : goal.walk_marked-loop-slot-preserved-in-Some-fixed_end
+walk_marked-loop-slot-preserved-in-Some-fixed_end t c =
+    record {
+      marked = marks_next c.args.nodes.now c.args.slots.now c.args.marked c.loop-slot.left c.take_first.new.self c.args.body.now c.in-Some.slot c.args.at c.loop-slot.here c.loop-slot.notes.least c.loop-slot.invariant.marked (next_marked c.args.nodes.now c.args.slots.now c.loop-slot.left c.take_first.new.self _ c.in-Some.slot c.requires.bounds c.loop-slot.invariant.marked.clear c.loop-slot.invariant.marked.are_bits c.in-Some.ensures.some c.in-Some.ensures.marks) c.in-Some-fixed_end.end c.loop-slot.notes.least (λ t. t) (c.in-Some-fixed_end.ensures c.loop-slot.notes.least);
+      falls = c.loop-slot.invariant.falls;
     }
 
 pub walk_marked-returns-clause-end : goal.walk_marked-returns-clause-end

@@ -3,8 +3,8 @@ use Rattle.ax_model.specs.InBounds.{InBounds}
 use Rattle.ax_model.specs.Tree as Tree
 use Rattle.ax_model.specs.declared.content.Content.TheVariants.{Raw}
 use Rattle.ax_tables.specs.Meaning.{meanings, linked, fixed_of, linked_members, linked_parts}
-use Rattle.ax_tables.specs.Table.{kind_at}
-use Rattle.ax_view.proofs.NodeKinds.{octets_walk, end_as, fault_as, run_end, run_fault, is_element, is_group, group_width, is_part, is_extended, extended_links, is_by_fx, by_fx_link, is_explicit}
+use Rattle.ax_tables.specs.Table.{kind_at, record_kind_at}
+use Rattle.ax_view.proofs.NodeKinds.{octets_walk, end_as, fault_as, run_end, run_fault, is_element, is_group, group_width, is_part, is_extended, extended_links, is_counted, counted_link, is_by_fx, by_fx_link, is_explicit, is_compound, compound_links, compound_mask}
 use Rattle.ax_view.proofs.octets.walk_item.Goals as goal
 
 pub run-requires-clause-width : goal.run-requires-clause-width
@@ -86,3 +86,37 @@ pub returns-then-run_octets-body-clause-end : goal.returns-then-run_octets-body-
 returns-then-run_octets-body-clause-end c =
     octets_walk c.args.nodes.now c.args.link c.args.body.now c.args.at (get_or c.args.octets.now (c.args.link - 1) 0) c.args.notes.now.least c.requires.table c.requires.link.0 c.requires.link.1 c.requires.bounds (omega arith) (omega arith)
     c.args.octets.now c.requires.octets refl
+
+pub returns-in-Counted-clause-end : goal.returns-in-Counted-clause-end
+returns-in-Counted-clause-end c =
+    end_as c.args.body.now c.args.at (kind_at c.args.nodes.now c.args.link) (Tree.counted (kind_at c.args.nodes.now c.in-Counted.inner)) (is_counted c.args.nodes.now c.args.link c.index-nodes-link.result c.requires.table c.requires.link.0 c.requires.link.1 c.index-nodes-link.is c.in-Counted.inner c.in-Counted.is) c.walk_counted.new.notes.least c.walk_counted.result c.walk_counted.ensures.end
+
+pub returns-in-Counted-clause-fault : goal.returns-in-Counted-clause-fault
+returns-in-Counted-clause-fault c =
+    fault_as c.args.body.now c.args.at (kind_at c.args.nodes.now c.args.link) (Tree.counted (kind_at c.args.nodes.now c.in-Counted.inner)) (is_counted c.args.nodes.now c.args.link c.index-nodes-link.result c.requires.table c.requires.link.0 c.requires.link.1 c.index-nodes-link.is c.in-Counted.inner c.in-Counted.is) c.walk_counted.new.notes.fault c.walk_counted.result c.walk_counted.ensures.fault
+
+pub returns-in-Compound-clause-end : goal.returns-in-Compound-clause-end
+returns-in-Compound-clause-end c =
+    end_as c.args.body.now c.args.at (kind_at c.args.nodes.now c.args.link) (record_kind_at c.args.nodes.now c.as_slice-in-Compound.result.now) (is_compound c.args.nodes.now c.args.link c.index-nodes-link.result c.requires.table c.requires.link.0 c.requires.link.1 c.index-nodes-link.is c.in-Compound.mask c.in-Compound.slots c.as_slice-in-Compound.result.now c.in-Compound.is c.as_slice-in-Compound.ensures.members) c.walk_compound.new.notes.least c.walk_compound.result c.walk_compound.ensures.end
+
+pub returns-in-Compound-clause-fault : goal.returns-in-Compound-clause-fault
+returns-in-Compound-clause-fault c =
+    fault_as c.args.body.now c.args.at (kind_at c.args.nodes.now c.args.link) (record_kind_at c.args.nodes.now c.as_slice-in-Compound.result.now) (is_compound c.args.nodes.now c.args.link c.index-nodes-link.result c.requires.table c.requires.link.0 c.requires.link.1 c.index-nodes-link.is c.in-Compound.mask c.in-Compound.slots c.as_slice-in-Compound.result.now c.in-Compound.is c.as_slice-in-Compound.ensures.members) c.walk_compound.new.notes.fault c.walk_compound.result c.walk_compound.ensures.fault
+
+pub walk_counted-requires-clause-link : goal.walk_counted-requires-clause-link
+walk_counted-requires-clause-link c =
+    let l = counted_link c.args.nodes.now c.args.link c.index-nodes-link.result c.requires.table c.requires.link.0 c.requires.link.1 c.index-nodes-link.is c.in-Counted.inner c.in-Counted.is in (l.0, omega (arith, l.1, c.requires.link.1))
+
+pub walk_counted-requires-clause-bounds : goal.walk_counted-requires-clause-bounds
+walk_counted-requires-clause-bounds c =
+    let b : InBounds (Tree.counted (kind_at c.args.nodes.now c.in-Counted.inner)) = subst InBounds (is_counted c.args.nodes.now c.args.link c.index-nodes-link.result c.requires.table c.requires.link.0 c.requires.link.1 c.index-nodes-link.is c.in-Counted.inner c.in-Counted.is) c.requires.bounds in b
+
+pub walk_compound-requires-clause-links : goal.walk_compound-requires-clause-links
+walk_compound-requires-clause-links c = compound_links c.args.nodes.now c.args.link c.index-nodes-link.result c.requires.table c.requires.link.0 c.requires.link.1 c.index-nodes-link.is c.in-Compound.mask c.in-Compound.slots c.as_slice-in-Compound.result.now c.in-Compound.is c.as_slice-in-Compound.ensures.members
+
+pub walk_compound-requires-clause-mask : goal.walk_compound-requires-clause-mask
+walk_compound-requires-clause-mask c = compound_mask c.args.nodes.now c.args.link c.index-nodes-link.result c.requires.table c.requires.link.0 c.requires.link.1 c.index-nodes-link.is c.in-Compound.mask c.in-Compound.slots c.as_slice-in-Compound.result.now c.in-Compound.is c.as_slice-in-Compound.ensures.members
+
+pub walk_compound-requires-clause-bounds : goal.walk_compound-requires-clause-bounds
+walk_compound-requires-clause-bounds c =
+    let b : InBounds (record_kind_at c.args.nodes.now c.as_slice-in-Compound.result.now) = subst InBounds (is_compound c.args.nodes.now c.args.link c.index-nodes-link.result c.requires.table c.requires.link.0 c.requires.link.1 c.index-nodes-link.is c.in-Compound.mask c.in-Compound.slots c.as_slice-in-Compound.result.now c.in-Compound.is c.as_slice-in-Compound.ensures.members) c.requires.bounds in b

@@ -1,9 +1,6 @@
-use Rattle.std.proofs.Common.{◌-◌, length, false, arith}
-use Rattle.ax_model.specs.Canonical.{canon}
-use Rattle.ax_reader.specs.Reading.{kind_read}
+use Rattle.std.proofs.Common.{◌-◌, length, false}
 use Rattle.ax_tables.specs.Meaning.{meanings, linked_slots}
-use Rattle.ax_tables.specs.Table.{kind_at}
-use Rattle.ax_view.proofs.Leading.{if_none, walks_blind}
+use Rattle.ax_view.proofs.Leading.{if_none}
 use Rattle.ax_view.proofs.MarkedSteps.{next_marked, marks_first, marks_next, marks_failed, within_at}
 use Rattle.ax_view.proofs.PlacingSteps.{placed_first, placed_next, placed_last}
 use Rattle.ax_view.proofs.placing.place_items.Goals as goal

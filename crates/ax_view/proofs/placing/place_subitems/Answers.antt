@@ -1,4 +1,4 @@
-use Rattle.std.proofs.Common.{length, IfSome, IfNone, subst, sym, ◌∙◌, ap, List}
+use Rattle.std.proofs.Common.{length, IfSome, IfNone, subst, sym, ◌∙◌, List}
 use Rattle.ax_model.specs.InBounds.{InBounds}
 use Rattle.ax_reader.specs.Reading.{FailsAt, IsMaskOf, kind_read}
 use Rattle.ax_tables.specs.Meaning.{meanings, linked_slots}

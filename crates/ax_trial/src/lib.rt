@@ -8,6 +8,3 @@ mod trial;
 
 pub use laws::line_once;
 pub use trial::trial_text;
-
-#[cfg(test)]
-mod tests;

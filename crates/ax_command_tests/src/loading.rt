@@ -1,0 +1,121 @@
+//! Category files that are loaded by name.
+
+use ax_load::{LoadStop, SpecFault, load_catalogue};
+use ax_outside::MemLibrary;
+use ax_samples::{CAT034_P1, CAT048_P1, FILE_A, FILE_E, FILE_F, NESTED_TOO_DEEP};
+use ax_words::WordText;
+use std::alloc::{AllocError, Global};
+use std::process::Abort;
+use std::test::Fail;
+
+// The first quotation mark of a text that never ends, and a text that ends too early.
+const UNENDED: &str = "category 034 edition \"X";
+
+const CUT_SHORT: &str =
+    "category 034 edition \"X\" items { item 000 \"T\" element 8 raw } uap { 000";
+
+const FILES: [(&str, &str); 8] = [
+    ("E", FILE_E),
+    ("A", FILE_A),
+    ("F", FILE_F),
+    ("034", CAT034_P1),
+    ("048", CAT048_P1),
+    ("deep", NESTED_TOO_DEEP),
+    ("unended", UNENDED),
+    ("short", CUT_SHORT),
+];
+
+/// One octet more than a category file may have.
+const TOO_LARGE: usize = 1_048_577;
+
+fn put(
+    alloc: Global,
+    files: &mut Vec<(String, Vec<u8>)>,
+    name: &str,
+    octets: Vec<u8>,
+) -> Result<(), AllocError> {
+    files.push((String::from_str(alloc, name)?, octets))?;
+    Ok(())
+}
+
+fn library(alloc: Global) -> Result<MemLibrary, AllocError> {
+    let mut files = Vec::new(alloc);
+    for &(name, text) in &FILES {
+        put(alloc, &mut files, name, text.as_bytes().to_vec(alloc)?)?;
+    }
+    put(alloc, &mut files, "large", vec![in alloc; b' '; TOO_LARGE]?)?;
+    Ok(MemLibrary::new(files, Vec::new(alloc)))
+}
+
+fn names(alloc: Global, words: &[&str]) -> Result<Vec<WordText>, AllocError> {
+    let mut made = Vec::new(alloc);
+    for word in words {
+        made.push(WordText::of(alloc, word)?)?;
+    }
+    Ok(made)
+}
+
+// What became of loading, in one word and a number.
+fn told(outcome: &LoadStop) -> (&'static str, u32) {
+    match outcome {
+        LoadStop::LoadFault { file } => ("LoadFault", *file),
+        LoadStop::CategoryTwice { file, .. } => ("CategoryTwice", *file),
+        LoadStop::SpecRefused { fault, .. } => match fault {
+            SpecFault::TooLarge => ("TooLarge", 0),
+            SpecFault::BadByte { at } => ("BadByte", *at),
+            SpecFault::TooDeep { token } => ("TooDeep", *token),
+            SpecFault::BadToken { token } => ("BadToken", *token),
+            SpecFault::Flawed { flaws } => ("Flawed", flaws.count()),
+        },
+        _ => ("other", 0),
+    }
+}
+
+// Two files, and what becomes of loading them.
+const LOADS: [([&str; 2], (&str, u32)); 9] = [
+    (["A", "048"], ("catalogue", 2)),
+    (["E", "048"], ("catalogue", 2)),
+    (["A", "034"], ("CategoryTwice", 1)),
+    (["A", "none"], ("LoadFault", 1)),
+    (["F", "none"], ("Flawed", 2)),
+    (["large", "A"], ("TooLarge", 0)),
+    (["A", "unended"], ("BadByte", 23)),
+    (["deep", "A"], ("TooDeep", 55)),
+    (["A", "short"], ("BadToken", 16)),
+];
+
+/// What becomes of loading files of these names.
+fn loaded(
+    rt: &impl Abort,
+    alloc: Global,
+    library: &mut MemLibrary,
+    names: &[WordText],
+) -> (&'static str, u32) {
+    assert!(rt; names.len() == 2);
+    match load_catalogue(alloc, library, names) {
+        Ok(catalogue) => ("catalogue", catalogue.count()),
+        Err(stop) => told(&stop),
+    }
+}
+
+/// Asserts what becomes of loading two files.
+fn load_as(
+    rt: &impl Abort,
+    alloc: Global,
+    words: &[&str],
+    want: (&str, u32),
+) -> Result<(), AllocError> {
+    let mut library = library(alloc)?;
+    let names = names(alloc, words)?;
+    let got = loaded(rt, alloc, &mut library, names.as_slice());
+    assert_eq!(rt; got, want, "of {words:?}");
+    Ok(())
+}
+
+#[test]
+fn the_first_file_that_gives_no_specification_is_named(rt: HostRuntime) -> Result<(), Fail> {
+    for (words, want) in &LOADS {
+        load_as(&rt, rt.alloc(), words, *want)?;
+    }
+    Ok(())
+}

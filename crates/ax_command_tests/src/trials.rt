@@ -1,0 +1,106 @@
+//! The lines that `trial` writes.
+
+use crate::specs::spec_of;
+use ax_check::{Accepted, accept};
+use ax_samples::{CAT034_P1, CAT048_P1, FILE_K, FILE_N, FILE_Z};
+use ax_trial::trial_text;
+use std::alloc::{AllocError, Global};
+use std::process::Abort;
+use std::test::Fail;
+
+fn accepted(rt: &impl Abort, alloc: Global, text: &str) -> Result<Accepted, Fail> {
+    Ok(accept(alloc, spec_of(rt, alloc, text)?)?)
+}
+
+/// Three counted kinds, one within the other.
+const NESTED: &str =
+    r#"category 206 edition "C" items { item 010 "" counted { counted { counted { element 8 raw } } } } uap { 010 }"#;
+
+/// A counted group of 64,000 octets: two in one block are too many.
+fn wide(alloc: Global) -> Result<String, AllocError> {
+    let mut text = String::from_str(
+        alloc,
+        "category 207 edition \"W\" items { item 010 \"\" counted { group {",
+    )?;
+    for number in 0..4000 {
+        write!(text, " M{number} element 128 raw")?;
+    }
+    text.push_str(" } } } uap { 010 }")?;
+    Ok(text)
+}
+
+/// Asserts the line of so many blocks of a file, made from that seed.
+fn has_line(
+    rt: &impl Abort,
+    alloc: Global,
+    text: &str,
+    (seed, count): (u64, u32),
+    line: &str,
+) -> Result<(), Fail> {
+    assert!(rt; count <= 1_000_000);
+    let accepted = accepted(rt, alloc, text)?;
+    let found = trial_text(alloc, &accepted, seed, count)?;
+    assert_eq!(rt; found.as_slice(), line.as_bytes());
+    Ok(())
+}
+
+// The lines here were made by a second generator, written apart from this one after the rules alone.
+const LINES: [(&str, u64, u32, &str); 7] = [
+    (
+        FILE_Z,
+        0,
+        1,
+        "blocks 1 records 3 octets 6 canonical 6 sum 209\n",
+    ),
+    (
+        FILE_Z,
+        0,
+        0,
+        "blocks 0 records 0 octets 0 canonical 0 sum 0\n",
+    ),
+    (
+        FILE_K,
+        7,
+        20,
+        "blocks 20 records 43 octets 462 canonical 450 sum 48382\n",
+    ),
+    (
+        FILE_N,
+        3,
+        10,
+        "blocks 10 records 27 octets 172 canonical 170 sum 16079\n",
+    ),
+    (
+        CAT048_P1,
+        7,
+        10,
+        "blocks 10 records 29 octets 1451 canonical 1451 sum 177380\n",
+    ),
+    (
+        CAT034_P1,
+        u64::MAX,
+        50,
+        "blocks 50 records 127 octets 3253 canonical 3253 sum 364361\n",
+    ),
+    (
+        NESTED,
+        5,
+        20,
+        "blocks 20 records 45 octets 194 canonical 194 sum 7451\n",
+    ),
+];
+
+#[test]
+fn lines_of_generated_blocks(rt: HostRuntime) -> Result<(), Fail> {
+    for &(text, seed, count, line) in &LINES {
+        has_line(&rt, rt.alloc(), text, (seed, count), line)?;
+    }
+    Ok(())
+}
+
+#[test]
+fn the_line_of_wide_records(rt: HostRuntime) -> Result<(), Fail> {
+    let text = wide(rt.alloc())?;
+    let line = "blocks 12 records 24 octets 192067 canonical 192067 sum 24496720\n";
+    has_line(&rt, rt.alloc(), text.as_str(), (2, 12), line)
+}

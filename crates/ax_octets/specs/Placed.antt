@@ -1,8 +1,12 @@
 -- What was written at a place of a buffer.
-use Rattle.std.specs.Prelude.{◌≡◌, ℕ, ◌+◌, List, ◌++◌, length, take}
+use Rattle.std.specs.Prelude.{◌≡◌, ℕ, ◌+◌, ◌/◌, ◌%◌, List, [], ◌∷◌, ◌++◌, length, take}
 
 -- new has xs after the first `at` octets of old, up to `end`
 pub record Placed (old new : List ℕ) (at : ℕ) (xs : List ℕ) (end : ℕ) : Type 0 where
   pub bytes : take end new ≡ take at old ++ xs
   pub moved : end ≡ at + length xs
   pub len : length new ≡ length old
+
+-- the three last digits of a number below 1000
+abbrev pub three_last : ℕ → List ℕ
+three_last n = (48 + n / 100) ∷ (48 + n / 10 % 10) ∷ (48 + n % 10) ∷ []

@@ -1,7 +1,10 @@
-//! Octets that are appended one piece after another, at a store or two a piece.
+//! Octets that are appended one piece after another, at a store or two a piece; and paths, with which lines begin.
 #![tactic(auto)]
 
+mod digits;
 mod octets;
+mod path;
 mod place;
 
 pub use octets::Octets;
+pub use path::Path;

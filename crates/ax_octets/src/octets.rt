@@ -1,7 +1,9 @@
 //! Octets, as they are appended.
-ghost use Rattle.std.specs.Prelude.{◌≡◌, ◌+◌, ◌<◌, ◌≤◌, ◌^◌, [], ◌∷◌, ◌++◌, length, take, set, OnOk};
+ghost use Rattle.std.specs.Prelude.{◌≡◌, ◌+◌, ◌<◌, ◌≤◌, ◌^◌, [], ◌∷◌, ◌++◌, length, take, set, codes, decimal, OnOk};
 
-use crate::place::{place_octet, place_text};
+use crate::digits::place_decimal;
+use crate::path::Path;
+use crate::place::{place_octet, place_some, place_text};
 use std::alloc::{AllocError, Global};
 use std::marker::Model;
 
@@ -156,6 +158,98 @@ impl Octets {
         self.text3(b, c, d)
     }
 
+    /// Appends a number in decimal. Err is want of memory, and then they stay.
+    #[inline(always)]
+    pub fn decimal(&mut self, number: u64) -> Result<(), AllocError>
+        ensures { OnOk result (self.new ≡ self.old ++ decimal number) }
+    {
+        make_room(&mut self.area, self.filled, 20)?;
+        self.filled = place_decimal(self.area.as_mut_slice(), self.filled, number);
+        Ok(())
+    }
+
+    /// Appends two numbers in decimal with an octet between.
+    #[inline(always)]
+    pub fn decimals(&mut self, first: u64, between: u8, second: u64) -> Result<(), AllocError>
+        ensures { OnOk result (self.new ≡ self.old ++ (decimal first ++ between ∷ decimal second)) }
+    {
+        make_room(&mut self.area, self.filled, 41)?;
+        let area = self.area.as_mut_slice();
+        let at = place_decimal(area, self.filled, first);
+        let at = place_octet(area, at, between);
+        self.filled = place_decimal(area, at, second);
+        Ok(())
+    }
+
+    /// Appends a path.
+    #[inline(always)]
+    pub fn path(&mut self, path: &Path) -> Result<(), AllocError>
+        ensures { OnOk result (self.new ≡ self.old ++ path.now) }
+    {
+        if path.count > 32 || !path.rest.is_empty() {
+            return self.long_path(path);
+        }
+        make_room(&mut self.area, self.filled, 32)?;
+        self.filled = place_some::<32>(
+            self.area.as_mut_slice(),
+            self.filled,
+            &path.front,
+            path.count,
+        );
+        Ok(())
+    }
+
+    #[cold]
+    #[inline(never)]
+    fn long_path(&mut self, path: &Path) -> Result<(), AllocError>
+        ensures { OnOk result (self.new ≡ self.old ++ path.now) }
+    {
+        self.text(&path.front[..path.count])?;
+        self.text(&path.rest)
+    }
+
+    /// Appends a path and a name under it, which is the first `count` of 16 octets, and the number that it has.
+    #[inline(always)]
+    pub fn named_number(
+        &mut self,
+        path: &Path,
+        name: &[u8],
+        count: usize,
+        number: u64,
+    ) -> Result<(), AllocError>
+        requires name { (16 ≤ length name.now) × (count ≤ 16) }
+        ensures { OnOk result (self.new ≡ self.old ++ (path.now ++ (codes "/" ++ (take count name.now ++ (codes " = " ++ decimal number))))) }
+    {
+        if path.count > 32 || !path.rest.is_empty() {
+            return self.named_number_in_turn(path, name, count, number);
+        }
+        make_room(&mut self.area, self.filled, 72)?;
+        let area = self.area.as_mut_slice();
+        let at = place_some::<32>(area, self.filled, &path.front, path.count);
+        let at = place_octet(area, at, b'/');
+        let at = place_some::<16>(area, at, name, count);
+        let at = place_text(area, at, b" = ");
+        self.filled = place_decimal(area, at, number);
+        Ok(())
+    }
+
+    #[cold]
+    #[inline(never)]
+    fn named_number_in_turn(
+        &mut self,
+        path: &Path,
+        name: &[u8],
+        count: usize,
+        number: u64,
+    ) -> Result<(), AllocError>
+        requires name { (16 ≤ length name.now) × (count ≤ 16) }
+        ensures { OnOk result (self.new ≡ self.old ++ (path.now ++ (codes "/" ++ (take count name.now ++ (codes " = " ++ decimal number))))) }
+    {
+        self.long_path(path)?;
+        self.text3(b"/", &name[..count], b" = ")?;
+        self.decimal(number)
+    }
+
     /// Writes octet number `at` again, from 0.
     pub fn replace(&mut self, at: usize, octet: u8)
         requires { at < length self.old }
@@ -170,13 +264,38 @@ impl Octets {
     fn text_in_more(&mut self, text: &[u8]) -> Result<(), AllocError>
         ensures { OnOk result (self.new ≡ self.old ++ text.now) }
     {
-        let length = self.area.len();
-        let more = text.len().max(length).max(LEAST_ROOM);
-        if more > usize::MAX - length {
-            return Err(AllocError);
-        }
-        self.area.resize(length + more, 0)?;
+        lengthen(&mut self.area, text.len())?;
         self.filled = place_text(self.area.as_mut_slice(), self.filled, text);
         Ok(())
     }
+}
+
+/// Sees to room for `more` octets after the first `filled`, which stay.
+#[inline(always)]
+fn make_room(area: &mut Vec<u8>, filled: usize, more: usize) -> Result<(), AllocError>
+    requires { filled ≤ length area.old.items }
+    ensures enough { OnOk result (filled + more ≤ length area.new.items) }
+    ensures stays { take filled area.new.items ≡ take filled area.old.items }
+    ensures within { filled ≤ length area.new.items }
+{
+    if area.len() - filled >= more {
+        return Ok(());
+    }
+    lengthen(area, more)
+}
+
+/// Makes room for `more` octets, and for as many again as there were.
+#[cold]
+#[inline(never)]
+fn lengthen(area: &mut Vec<u8>, more: usize) -> Result<(), AllocError>
+    ensures longer { OnOk result (length area.old.items + more ≤ length area.new.items) }
+    ensures stays { take (length area.old.items) area.new.items ≡ area.old.items }
+    ensures within { length area.old.items ≤ length area.new.items }
+{
+    let length = area.len();
+    let more = more.max(length).max(LEAST_ROOM);
+    if more > usize::MAX - length {
+        return Err(AllocError);
+    }
+    area.resize(length + more, 0)
 }

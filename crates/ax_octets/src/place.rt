@@ -23,6 +23,22 @@ fn place_front<const N: usize>(buffer: &mut [u8], at: usize, text: &[u8]) -> usi
     at + N
 }
 
+/// Copies the first `count` octets of a text over what stands from octet `at` on, by one copy of N: what is copied after them
+/// is written over. The octet after them.
+#[inline(always)]
+pub(crate) fn place_some<const N: usize>(
+    buffer: &mut [u8],
+    at: usize,
+    text: &[u8],
+    count: usize,
+) -> usize
+    requires { (N ≤ length text.now) × (at + N ≤ length buffer.old) × (count ≤ N) }
+    ensures { Placed buffer.old buffer.new at (take count text.now) result }
+{
+    place_front::<N>(buffer, at, text);
+    at + count
+}
+
 // The first N octets and the last N.
 #[inline(always)]
 fn place_ends<const N: usize>(buffer: &mut [u8], at: usize, text: &[u8]) -> usize

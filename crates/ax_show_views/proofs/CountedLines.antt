@@ -1,9 +1,8 @@
 -- Counted items, one occurrence after the other.
-use Rattle.std.proofs.Common.{◌≡◌, ℕ, suc, ◌+◌, ◌-◌, ◌*◌, ◌<◌, ◌≤◌, List, ◌∷◌, length, drop, get_or, codes, refl, sym, ◌∙◌, ap, arith, subst}
+use Rattle.std.proofs.Common.{◌≡◌, ℕ, suc, ◌+◌, ◌-◌, ◌*◌, ◌<◌, ◌≤◌, List, length, drop, get_or, codes, refl, sym, ◌∙◌, ap, arith, subst}
 use Rattle.ax_bits.specs.Bits.{bits}
 use Rattle.ax_model.specs.Reader.{got, read, each_read}
-use Rattle.ax_model.specs.Tree.{KindTree, ValueTree, counted, occurrences, no_values, value_and, value_count}
-use Rattle.ax_model.specs.declared.fault.BodyFault.{BodyFault}
+use Rattle.ax_model.specs.Tree.{KindTree, counted, occurrences, no_values, value_and, value_count}
 use Rattle.ax_reader.proofs.Counting.{each_first, each_fails_at}
 use Rattle.ax_reader.specs.Reading.{FailsAt, kind_read}
 use Rattle.ax_text.specs.Printing.{as_lines, Puts}

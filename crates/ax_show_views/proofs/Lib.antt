@@ -4,4 +4,5 @@ mod UnitLines
 mod CountedLines
 mod MarkedLines
 mod SlotLines
+mod Numbering
 mod RecordLines

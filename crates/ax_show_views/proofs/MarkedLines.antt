@@ -1,6 +1,5 @@
 -- Marked slots, one after the other.
-use Rattle.std.proofs.Common.{◌≡◌, ℕ, zero, suc, ◌+◌, ◌-◌, ◌*◌, ◌<◌, ◌≤◌, IsTrue, List, [], ◌∷◌, length, take, drop, get_or, set, map, codes, refl, sym, ◌∙◌, ap, arith, subst, add-one, take-append-drop}
-use Rattle.std.proofs.lemmas.List.{length-map}
+use Rattle.std.proofs.Common.{◌≡◌, ℕ, zero, suc, ◌+◌, ◌-◌, ◌*◌, ◌<◌, ◌≤◌, IsTrue, List, [], ◌∷◌, length, take, drop, get_or, set, codes, refl, sym, ◌∙◌, ap, arith, subst, add-one, take-append-drop}
 use Rattle.ax_bits.specs.Bits.{bits, AreBits}
 use Rattle.ax_fspec.proofs.Walks.{no_next_slot}
 use Rattle.ax_fspec.specs.Fields.{MarksSlots}
@@ -16,15 +15,14 @@ use Rattle.ax_model.specs.Plain.{slot_tree, slots_tree}
 use Rattle.ax_model.specs.Presence.{none_marked, NoneUndefined, slots_past}
 use Rattle.ax_model.specs.Reader.{got, both, read, entries_read}
 use Rattle.ax_model.specs.Shape.{EntriesShape}
-use Rattle.ax_model.specs.Tree.{KindTree, ValueTree, EntriesTree, no_entries, entry_and, SlotsTree, no_slots, slot_and, SlotTree, spare_slot, subitem, slots_of, defined_slots, compound, marked}
+use Rattle.ax_model.specs.Tree.{KindTree, EntriesTree, no_entries, entry_and, SlotsTree, no_slots, slot_and, SlotTree, spare_slot, subitem, slots_of, defined_slots, compound, marked}
 use Rattle.ax_model.specs.declared.fault.BodyFault.{BodyFault}
 use Rattle.ax_model.specs.declared.kind.Slot.{Slot}
 use Rattle.ax_reader.proofs.Exact.{spelled_at}
-use Rattle.ax_reader.proofs.Marking.{field_read, field_failed, marks_bits}
-use Rattle.ax_reader.specs.Reading.{Gets, FailsAt, Continues, IsMaskOf, SlotInBounds, kind_read, entries_at}
+use Rattle.ax_reader.proofs.Marking.{field_read, marks_bits}
+use Rattle.ax_reader.specs.Reading.{Gets, FailsAt, IsMaskOf, SlotInBounds, kind_read, entries_at}
 use Rattle.ax_text.proofs.EntryWays.{by_slots, entries_same, numbered}
-use Rattle.ax_text.proofs.ListedKinds.{lines_made, slot_listable}
-use Rattle.ax_text.specs.Listable.{SlotListable, SlotsListable}
+use Rattle.ax_text.proofs.ListedKinds.{lines_made}
 use Rattle.ax_text.specs.Printing.{as_lines, Puts}
 use Rattle.ax_text.specs.ShowText.{count_line, kind_lines, entries_lines, entry_count}
 use Rattle.ax_text.specs.Slots.{slot_after, slot_numbered, slot_lines}

@@ -1,12 +1,12 @@
 -- Fixed kinds that are shown from their bits.
-use Rattle.std.proofs.Common.{◌≡◌, ℕ, ◌+◌, ◌<◌, ◌≤◌, ◌^◌, ◌*◌, List, [], ◌∷◌, ◌++◌, length, take, drop, get_or, refl, sym, ◌∙◌, ap, subst, arith}
+use Rattle.std.proofs.Common.{◌≡◌, ℕ, ◌+◌, ◌<◌, ◌≤◌, ◌^◌, List, ◌++◌, length, take, drop, get_or, refl, sym, ◌∙◌, ap, subst, arith}
 use Rattle.std.proofs.lemmas.List.{drop-drop, drop_all}
 use Rattle.ax_bits.proofs.Pieces.{number-word}
 use Rattle.ax_bits.specs.Bits.{number_of, word}
 use Rattle.ax_model.specs.InBounds.{MembersInBounds}
 use Rattle.ax_model.specs.Plain.{member_tree, members_tree}
 use Rattle.ax_model.specs.Reader.{members_value}
-use Rattle.ax_model.specs.Tree.{MembersTree, no_members, member_and, MemberTree, named, spare}
+use Rattle.ax_model.specs.Tree.{MembersTree, member_and, MemberTree, named, spare}
 use Rattle.ax_model.specs.Widths.{width, members_width}
 use Rattle.ax_model.specs.declared.content.Content.{Content}
 use Rattle.ax_model.specs.declared.kind.Member.{Member}
@@ -15,7 +15,7 @@ use Rattle.ax_text.specs.Listable.{MemberListable, MembersListable}
 use Rattle.ax_text.specs.Printing.{as_lines, Puts}
 use Rattle.ax_text.specs.Remarks.{remark}
 use Rattle.ax_text.specs.ShowText.{number_line, member_lines, members_lines}
-use Rattle.ax_text.specs.ValueText.{Texts, one_onto}
+use Rattle.ax_text.specs.ValueText.{one_onto}
 use Rattle.ax_show_views.specs.Shown.{member_width, member_value, MemberInBounds}
 use Rattle.ax_values.proofs.FixedRead.{members_from}
 

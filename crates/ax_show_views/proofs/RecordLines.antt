@@ -1,6 +1,5 @@
 -- Records, and bodies of them.
-use Rattle.std.proofs.Common.{◌≡◌, ℕ, zero, suc, ◌+◌, ◌-◌, ◌*◌, ◌<◌, ◌≤◌, List, [], ◌∷◌, ◌++◌, length, take, drop, Some, None, Result, Ok, Err, IfErr, codes, decimal, refl, sym, ◌∙◌, ap, arith, subst, add-one, length-append, append-nil, take-append-drop, length-drop, take-add}
-use Rattle.std.specs.Result.{IsErrAnd}
+use Rattle.std.proofs.Common.{◌≡◌, ℕ, suc, ◌+◌, ◌-◌, ◌<◌, ◌≤◌, List, [], ◌∷◌, ◌++◌, length, take, drop, Some, None, codes, decimal, refl, sym, ◌∙◌, ap, arith, subst, length-append, take-append-drop, length-drop, take-add}
 use Rattle.std.specs.Option.{option_map}
 use Rattle.std.proofs.lemmas.List.{length-take-le, take_all}
 use Rattle.ax_bits.proofs.Words.{bits-append, length-bits}
@@ -8,36 +7,34 @@ use Rattle.ax_bits.specs.Bits.{bits}
 use Rattle.ax_fspec.specs.Fields.{MarksSlots}
 use Rattle.ax_fspec.specs.declared.mask.SlotMask.{SlotMask}
 use Rattle.ax_model.proofs.Bounds.{record_bounds}
-use Rattle.ax_model.specs.Bodies.{RecordsSpell, SpellsBody}
+use Rattle.ax_model.specs.Bodies.{RecordsSpell}
 use Rattle.ax_model.specs.Flaws.{NoFlaw}
-use Rattle.ax_model.specs.InBounds.{InBounds, SlotsInBounds}
+use Rattle.ax_model.specs.InBounds.{InBounds}
 use Rattle.ax_model.specs.Lookup.{item_of_frn}
 use Rattle.ax_model.specs.Paths.{three_digits, at}
 use Rattle.ax_model.specs.Plain.{spec_tree, item_tree, kind_tree}
 use Rattle.ax_model.specs.Specification.{SpecTree, slot_of_item, record_kind, record_slots}
 use Rattle.ax_model.specs.Tree.{EntriesTree, marked, subitem, slots_of}
-use Rattle.ax_model.specs.declared.fault.BodyFault.{BodyFault}
 use Rattle.ax_model.specs.declared.spec.Item.{Item}
 use Rattle.ax_model.specs.declared.spec.Spec.{Spec}
 use Rattle.ax_reader.proofs.Continuing.{gets_after, fails_after}
 use Rattle.ax_reader.proofs.Exact.{spelled_at, fault_at}
 use Rattle.ax_reader.proofs.Marking.{field_read, marks_bits}
-use Rattle.ax_reader.specs.Reading.{Gets, FailsAt, IsMaskOf, SlotInBounds, record_slot_list, slot_of_frn, kind_read, entries_at}
-use Rattle.ax_text.proofs.EntryWays.{by_slots}
+use Rattle.ax_reader.specs.Reading.{FailsAt, IsMaskOf, SlotInBounds, record_slot_list, slot_of_frn, kind_read, entries_at}
 use Rattle.ax_text.proofs.ListedKinds.{slot_listable}
 use Rattle.ax_text.proofs.RecordWays as Ways
 use Rattle.ax_text.specs.Listable.{SlotListable, SlotsListable}
 use Rattle.ax_text.specs.Printing.{as_lines, Puts}
-use Rattle.ax_text.specs.ShowText.{kind_lines, entries_lines, entry_count, record_lines, records_lines}
-use Rattle.ax_text.specs.Slots.{slot_numbered, slot_lines}
+use Rattle.ax_text.specs.ShowText.{kind_lines, entries_lines, record_lines, records_lines}
+use Rattle.ax_text.specs.Slots.{slot_numbered}
 use Rattle.ax_text.specs.ValueText.{Texts, one_onto}
 use Rattle.ax_values.proofs.RecordSlots.{record_at, record_fault, one_more, forwards_record}
-use Rattle.ax_values.specs.Decoding.{IsRecordAt, IsRecordFaultAt, IsBodyFault, IsFaultOf}
+use Rattle.ax_values.specs.Decoding.{IsRecordAt, IsBodyFault, IsFaultOf}
 use Rattle.ax_values.specs.SlotReading.{HasFailed, HasSlotFailed}
 use Rattle.ax_values.specs.declared.error.DecodeError.{DecodeError}
 use Rattle.ax_values.specs.declared.error.DecodeError.TheVariants as Decoding
 use Rattle.ax_show_views.specs.Shown.{Shows, ShowsEntries, ShowsRecords, IsSlotShown}
-use Rattle.ax_show_views.proofs.Leading.{Leads, Ending}
+use Rattle.ax_show_views.proofs.Leading.{Ending}
 use Rattle.ax_show_views.proofs.MarkedLines.{MarksShown, marks_clear, entries_lines_are, numbered_bounds, few_at_first}
 
 -- ---- one item

@@ -1,10 +1,9 @@
 -- One slot, at the path of its name.
-use Rattle.std.proofs.Common.{◌≡◌, ℕ, List, Result, Ok, Err, IfErr, subst, sym}
-use Rattle.std.specs.Result.{IsErrAnd}
+use Rattle.std.proofs.Common.{◌≡◌, ℕ, List, ◌++◌, take, codes, decimal, subst, sym, ap, ◌∙◌, append_assoc}
 use Rattle.ax_model.specs.Paths.{at}
 use Rattle.ax_model.specs.Tree.{KindTree, subitem}
 use Rattle.ax_reader.specs.Reading.{kind_read}
-use Rattle.ax_text.specs.ShowText.{kind_lines}
+use Rattle.ax_text.specs.ShowText.{kind_lines, occurrence}
 use Rattle.ax_values.specs.SlotReading.{HasFailed, HasSlotFailed}
 use Rattle.ax_values.specs.declared.error.DecodeError.{DecodeError}
 use Rattle.ax_show_views.specs.Shown.{Shows, IsSlotShown}
@@ -17,11 +16,17 @@ slot_failed name k body here e h = record { failed = h }
 
 pub ruleset slot_ways = (slot_shown, slot_failed)
 
--- a value, at a path that was made and is given back
-pub under_shown : (name : List ℕ) (k : KindTree) (path inner body : List ℕ) (here end : ℕ) (old made shown new : List ℕ) → inner ≡ at path name → made ≡ old → Shows (kind_lines k inner) (kind_read k body here) body here end made shown → new ≡ shown
+-- a value, at a path that was made
+pub under_shown : (name : List ℕ) (k : KindTree) (path inner body : List ℕ) (here end : ℕ) (old new : List ℕ) → inner ≡ at path name → Shows (kind_lines k inner) (kind_read k body here) body here end old new
     → Shows (kind_lines k (at path name)) (kind_read k body here) body here end old new
-under_shown name k path inner body here end old made shown new e f h g =
-    subst (λ new. Shows (kind_lines k (at path name)) (kind_read k body here) body here end old new) (sym g)
-    (subst (λ made. Shows (kind_lines k (at path name)) (kind_read k body here) body here end made shown) f (subst (λ inner. Shows (kind_lines k inner) (kind_read k body here) body here end made shown) e h))
+under_shown name k path inner body here end old new e h = subst (λ inner. Shows (kind_lines k inner) (kind_read k body here) body here end old new) e h
 
 pub ruleset under_ways = under_shown
+
+-- ---- paths
+
+pub named : (path name padded made : List ℕ) (count : ℕ) → take count padded ≡ name → made ≡ path ++ (codes "/" ++ take count padded) → made ≡ at path name
+named path name padded made count is e = e ∙ ap (λ name. path ++ (codes "/" ++ name)) is ∙ sym (append_assoc path (codes "/") name)
+
+pub numbered : (path made : List ℕ) (n : ℕ) → made ≡ path ++ (codes "[" ++ (decimal n ++ codes "]")) → made ≡ occurrence path n
+numbered path made n e = e ∙ sym (append_assoc (path ++ codes "[") (decimal n) (codes "]") ∙ append_assoc path (codes "[") (decimal n ++ codes "]"))

@@ -1,5 +1,5 @@
 -- Parts and occurrences by FX, one after the other.
-use Rattle.std.proofs.Common.{◌≡◌, ℕ, suc, ◌+◌, ◌-◌, ◌*◌, ◌<◌, ◌≤◌, Bool, true, false, List, [], ◌∷◌, ◌++◌, length, drop, map, get_or, codes, refl, sym, ◌∙◌, ap, subst, arith, add-one, length-drop}
+use Rattle.std.proofs.Common.{◌≡◌, ℕ, ◌+◌, ◌-◌, ◌*◌, ◌<◌, ◌≤◌, Bool, true, false, List, [], ◌∷◌, ◌++◌, length, drop, map, get_or, codes, refl, sym, ◌∙◌, ap, subst, arith, add-one, length-drop}
 use Rattle.std.specs.List.{AllByRecursion}
 use Rattle.std.proofs.lemmas.List.{drop_all, length-map}
 use Rattle.ax_bits.specs.Bits.{bits}
@@ -7,7 +7,7 @@ use Rattle.ax_model.specs.Fitting.{list_count}
 use Rattle.ax_model.specs.InBounds.{PartInBounds}
 use Rattle.ax_model.specs.Plain.{part_tree}
 use Rattle.ax_model.specs.Reader.{fixed_value, members_value, after}
-use Rattle.ax_model.specs.Tree.{FixedTree, MembersTree, ListsTree, list_and, no_lists, ValuesTree, value_and, no_values, value_count, extended, by_fx, part_values, occurrences}
+use Rattle.ax_model.specs.Tree.{FixedTree, MembersTree, list_and, no_lists, value_and, no_values, value_count, extended, by_fx, part_values, occurrences}
 use Rattle.ax_model.specs.Widths.{width, members_width}
 use Rattle.ax_model.specs.declared.fault.BodyCause.TheVariants.{RunsOut, ExtensionPastEnd}
 use Rattle.ax_model.specs.declared.fault.BodyFault.{BodyFault}
@@ -154,9 +154,7 @@ module _ (all : List Part) (i : ℕ) (p : Part) (path body : List ℕ) (at here 
 
 -- ---- one occurrence, at its path
 
-pub occurrence_shown : (f : FixedTree) (path inner b old made shown new : List ℕ) (i : ℕ) → inner ≡ occurrence path i → made ≡ old → Puts as_lines (fixed_lines f inner (fixed_value f b)) made shown → new ≡ shown → Puts as_lines (fixed_lines f (occurrence path i) (fixed_value f b)) old new
-occurrence_shown f path inner b old made shown new i e g p h =
-    subst (λ new. Puts as_lines (fixed_lines f (occurrence path i) (fixed_value f b)) old new) (sym h)
-    (subst (λ made. Puts as_lines (fixed_lines f (occurrence path i) (fixed_value f b)) made shown) g (subst (λ inner. Puts as_lines (fixed_lines f inner (fixed_value f b)) made shown) e p))
+pub occurrence_shown : (f : FixedTree) (path inner b old new : List ℕ) (i : ℕ) → inner ≡ occurrence path i → Puts as_lines (fixed_lines f inner (fixed_value f b)) old new → Puts as_lines (fixed_lines f (occurrence path i) (fixed_value f b)) old new
+occurrence_shown f path inner b old new i e p = subst (λ inner. Puts as_lines (fixed_lines f inner (fixed_value f b)) old new) e p
 
 pub ruleset occurrences_shown = occurrence_shown

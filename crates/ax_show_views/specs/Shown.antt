@@ -1,5 +1,5 @@
 -- What was read of a body, and shown.
-use Rattle.std.specs.Prelude.{◌≡◌, ℕ, List, ◌∷◌, take}
+use Rattle.std.specs.Prelude.{◌≡◌, ℕ, List, ◌∷◌, ◌++◌, take}
 use Rattle.ax_bits.specs.Bits.{bits, number_of}
 use Rattle.ax_model.specs.Bodies.{SpellsBody}
 use Rattle.ax_model.specs.InBounds.{IsWidth, FixedInBounds}
@@ -8,12 +8,18 @@ use Rattle.ax_model.specs.Reader.{Read, fixed_value}
 use Rattle.ax_model.specs.Specification.{SpecTree, record_kind}
 use Rattle.ax_model.specs.Tree.{MemberTree, named, spare, KindTree, SlotTree, spare_slot, subitem, ValueTree, number, EntriesTree, marked}
 use Rattle.ax_model.specs.Widths.{width}
+use Rattle.ax_model.specs.declared.content.Content.{Content}
 use Rattle.ax_reader.specs.Reading.{Gets, kind_read}
 use Rattle.ax_text.specs.Printing.{as_lines, Puts}
-use Rattle.ax_text.specs.ShowText.{count_line, kind_lines, records_lines}
+use Rattle.ax_text.specs.Remarks.{remark}
+use Rattle.ax_text.specs.ShowText.{number_line, count_line, kind_lines, records_lines}
 use Rattle.ax_text.specs.ValueText.{Texts}
 
 -- ---- members
+
+-- the line of an element of w bits that spell n
+abbrev pub element_line : ℕ → Content → List ℕ → ℕ → List ℕ
+element_line w c path n = number_line path n ++ remark w c n
 
 abbrev pub member_width : MemberTree → ℕ
 member_width (named name f) = width f

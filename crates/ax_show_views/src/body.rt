@@ -32,7 +32,8 @@ pub fn show_records(
     ensures ok { OnOk result (ShowsRecords (spec_tree items.now.spec.now) body.now lister.old.out lister.new.out) }
     ensures err { IfErr result (IsFaultOf (IsBodyFault (spec_tree items.now.spec.now) body.now)) }
 {
-    let path = category_digits(items.spec().category);
+    let mut path = lister.blank_path();
+    path.set(&category_digits(items.spec().category));
     let mut at = 0;
     let mut number = 0;
     while (at as usize) < body.len() {

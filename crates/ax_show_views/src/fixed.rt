@@ -1,58 +1,72 @@
 //! The lines of fixed kinds, from their bits: elements, groups and their members.
 ghost use Rattle.std.specs.Prelude.{◌≡◌, ◌+◌, ◌*◌, ◌/◌, ◌%◌, ◌^◌, ◌<◌, ◌≤◌, length, drop, take, OnOk};
-ghost use Rattle.ax_bits.specs.Bits.{bits, number_of, word};
+ghost use Rattle.ax_bits.specs.Bits.{bits, number_of};
 ghost use Rattle.ax_model.specs.InBounds.{IsWidth, FixedInBounds, MembersInBounds};
 ghost use Rattle.ax_model.specs.Paths as Paths;
 ghost use Rattle.ax_model.specs.Plain.{fixed_tree, member_tree, members_tree};
 ghost use Rattle.ax_model.specs.Reader.{fixed_value, members_value};
 ghost use Rattle.ax_model.specs.Sizes.{longest_body};
 ghost use Rattle.ax_model.specs.Widths.{width, members_width};
-ghost use Rattle.ax_text.specs.Listable.{FixedListable, MemberListable, MembersListable};
+ghost use Rattle.ax_text.specs.Listable.{ContentListable, FixedListable, MemberListable, MembersListable};
 ghost use Rattle.ax_text.specs.Printing.{as_lines, Puts};
 ghost use Rattle.ax_text.specs.ShowText.{fixed_lines, member_lines, members_lines};
-ghost use Rattle.ax_show_views.specs.Shown.{member_width, member_value, MemberInBounds};
+ghost use Rattle.ax_text.specs.ValueText.{one_onto};
+ghost use Rattle.ax_show_views.specs.Shown.{element_line, member_width, member_value, MemberInBounds};
 
-use ax_bits::bits_at;
-use ax_model::{Fixed, Member, Members, Name};
+use crate::numbers::{number_at, wide_number_at};
+use crate::paths::set_named;
+use ax_model::{Content, Fixed, Member, Members, Name};
+use ax_octets::Path;
 use ax_text::Lister;
 use std::alloc::AllocError;
 
-/// The `count` bits of an octet above its `below` lowest.
-#[tactic(auto, using(ax_bits::proofs::Steps::mask_octet))]
-fn piece_of(octet: u8, below: u32, count: u32) -> u8
-    requires { below + count ≤ 8 }
-    ensures value { result ≡ octet / 2 ^ below % 2 ^ count }
-    ensures below { result < 2 ^ count }
-{
-    (octet as u32 >> below & ((1 << count) - 1)) as u8
-}
-
-/// The number in the `width` bits from bit `at` of the body on. Most stand in one octet.
-fn number_in(body: &[u8], at: u32, width: u32) -> u128
+/// The line of an element of that name and of so many bits, from bit `at` of the body on, which is moved after them.
+#[inline(always)]
+#[tactic(auto, using(crate::proofs::Members::elements))]
+fn show_element(
+    lister: &mut Lister,
+    name: &Name,
+    width: u32,
+    content: &Content,
+    body: &[u8],
+    at: &mut u32,
+    path: &Path,
+) -> Result<(), AllocError>
     requires width { IsWidth width }
-    requires within { at + width ≤ 8 * length body.now }
-    ensures number { word width result ≡ take width (drop at (bits body.now)) }
-    ensures below { result < 2 ^ width }
-{
-    let offset = at % 8;
-    if offset + width > 8 {
-        return bits_at(body, at, width);
-    }
-    u128::from(piece_of(body[(at / 8) as usize], 8 - offset - width, width))
-}
-
-/// The number in the `width` bits from bit `at` of the body on, which is moved after them.
-fn number_at(body: &[u8], at: &mut u32, width: u32) -> u128
-    requires width { IsWidth width }
+    requires content { ContentListable width content.now }
     requires within { at.old + width ≤ 8 * length body.now }
     requires body { length body.now ≤ longest_body }
-    ensures value { result ≡ number_of (take width (drop at.old (bits body.now))) }
-    ensures fits { result < 2 ^ width }
+    ensures lines { OnOk result (Puts as_lines (one_onto (element_line width content.now (Paths.at path.now name.now) (number_of (take width (drop at.old (bits body.now)))))) lister.old.out lister.new.out) }
     ensures at { at.new ≡ at.old + width }
 {
-    let number = number_in(body, *at, width);
+    let here = *at;
     *at += width;
-    number
+    if width > 56 {
+        return show_wide_element(lister, name, width, content, body, here, path);
+    }
+    lister.element_under(number_at(body, here, width), width, content, path, name)
+}
+
+/// The line of an element of that name and of more bits than are read at once.
+#[cold]
+#[inline(never)]
+fn show_wide_element(
+    lister: &mut Lister,
+    name: &Name,
+    width: u32,
+    content: &Content,
+    body: &[u8],
+    at: u32,
+    path: &Path,
+) -> Result<(), AllocError>
+    requires width { IsWidth width }
+    requires content { ContentListable width content.now }
+    requires within { at + width ≤ 8 * length body.now }
+    ensures lines { OnOk result (Puts as_lines (one_onto (element_line width content.now (Paths.at path.now name.now) (number_of (take width (drop at (bits body.now)))))) lister.old.out lister.new.out) }
+{
+    let mut inner = lister.blank_path();
+    set_named(&mut inner, path, name)?;
+    lister.element_at(wide_number_at(body, at, width), width, content, &inner)
 }
 
 /// The lines of the value in the bits from bit `at` of the body on, which is moved after them.
@@ -62,7 +76,7 @@ pub(crate) fn show_fixed(
     fixed: &Fixed,
     body: &[u8],
     at: &mut u32,
-    path: &[u8],
+    path: &Path,
 ) -> Result<(), AllocError>
     requires bounds { FixedInBounds (fixed_tree fixed.now) }
     requires listable { FixedListable (fixed_tree fixed.now) }
@@ -73,8 +87,9 @@ pub(crate) fn show_fixed(
 {
     match fixed {
         Fixed::Element { width, content } => {
-            let number = number_at(body, at, *width);
-            lister.element(number, *width, content, path)
+            let here = *at;
+            *at += *width;
+            lister.element_at(wide_number_at(body, here, *width), *width, content, path)
         }
         Fixed::Group(members) => show_members(lister, members, body, at, path),
     }
@@ -88,7 +103,7 @@ pub(crate) fn show_members(
     members: &Members,
     body: &[u8],
     at: &mut u32,
-    path: &[u8],
+    path: &Path,
 ) -> Result<(), AllocError>
     requires bounds { MembersInBounds (members_tree members.now) }
     requires listable { MembersListable (members_tree members.now) }
@@ -110,7 +125,7 @@ fn show_member(
     member: &Member,
     body: &[u8],
     at: &mut u32,
-    path: &[u8],
+    path: &Path,
 ) -> Result<(), AllocError>
     requires bounds { MemberInBounds (member_tree member.now) }
     requires listable { MemberListable (member_tree member.now) }
@@ -122,13 +137,18 @@ fn show_member(
     match member {
         Member::Named { name, fixed } => show_named(lister, name, fixed, body, at, path),
         Member::Spare { width } => {
-            let number = number_at(body, at, *width);
-            lister.spare_under(number, path)
+            let here = *at;
+            *at += *width;
+            if *width > 56 {
+                return lister.wide_spare_under(wide_number_at(body, here, *width), path);
+            }
+            lister.spare_under(number_at(body, here, *width), path)
         }
     }
 }
 
 /// The lines of a member of that name. An element's path isn't made: its line is put together on the listing.
+#[inline(always)]
 #[cycle(show_members)]
 #[tactic(auto, using(crate::proofs::Members::elements))]
 pub(crate) fn show_named(
@@ -137,7 +157,7 @@ pub(crate) fn show_named(
     fixed: &Fixed,
     body: &[u8],
     at: &mut u32,
-    path: &[u8],
+    path: &Path,
 ) -> Result<(), AllocError>
     requires bounds { FixedInBounds (fixed_tree fixed.now) }
     requires listable { FixedListable (fixed_tree fixed.now) }
@@ -148,14 +168,31 @@ pub(crate) fn show_named(
 {
     match fixed {
         Fixed::Element { width, content } => {
-            let number = number_at(body, at, *width);
-            lister.element_under(number, *width, content, path, name.octets())
+            show_element(lister, name, *width, content, body, at, path)
         }
-        Fixed::Group(members) => {
-            let inner = lister.path_at(path, name.octets())?;
-            show_members(lister, members, body, at, inner.as_slice())?;
-            lister.keep(inner);
-            Ok(())
-        }
+        Fixed::Group(members) => show_group(lister, name, members, body, at, path),
     }
+}
+
+/// The lines of the members of a group of that name.
+#[inline(never)]
+#[cycle(show_members)]
+fn show_group(
+    lister: &mut Lister,
+    name: &Name,
+    members: &Members,
+    body: &[u8],
+    at: &mut u32,
+    path: &Path,
+) -> Result<(), AllocError>
+    requires bounds { MembersInBounds (members_tree members.now) }
+    requires listable { MembersListable (members_tree members.now) }
+    requires within { at.old + members_width (members_tree members.now) ≤ 8 * length body.now }
+    requires body { length body.now ≤ longest_body }
+    ensures lines { OnOk result (Puts as_lines (members_lines (members_tree members.now) (Paths.at path.now name.now) (members_value (members_tree members.now) (drop at.old (bits body.now)))) lister.old.out lister.new.out) }
+    ensures at { OnOk result (at.new ≡ at.old + members_width (members_tree members.now)) }
+{
+    let mut inner = lister.blank_path();
+    set_named(&mut inner, path, name)?;
+    show_members(lister, members, body, at, &inner)
 }

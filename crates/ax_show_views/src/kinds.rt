@@ -12,9 +12,11 @@ ghost use Rattle.ax_text.specs.ShowText.{kind_lines};
 ghost use Rattle.ax_values.specs.SlotReading.{HasFailed, HasSlotFailed};
 ghost use Rattle.ax_show_views.specs.Shown.{Shows, ShowsCounted, IsSlotShown};
 
+use crate::paths::{set_named, set_numbered};
 use crate::units::{show_alone, show_by_fx, show_extended, show_single};
 use ax_fspec::{Presence, read_presence};
 use ax_model::{BodyCause, BodyFault, Kind, Name, Slot, Slots};
+use ax_octets::Path;
 use ax_text::Lister;
 use ax_values::{DecodeError, octet_at, slots_mask};
 
@@ -25,7 +27,7 @@ pub(crate) fn show_value(
     kind: &Kind,
     body: &[u8],
     at: u32,
-    path: &[u8],
+    path: &Path,
 ) -> Result<u32, DecodeError>
     requires bounds { InBounds (kind_tree kind.now) }
     requires listable { KindListable (kind_tree kind.now) }
@@ -45,7 +47,7 @@ pub(crate) fn show_value(
 }
 
 /// The line of an explicit item. Ok is the octet after it.
-fn show_explicit(lister: &mut Lister, body: &[u8], at: u32, path: &[u8]) -> Result<u32, DecodeError>
+fn show_explicit(lister: &mut Lister, body: &[u8], at: u32, path: &Path) -> Result<u32, DecodeError>
     requires bounds { InBounds (Tree.explicit) }
     requires body { length body.now ≤ longest_body }
     requires at { at ≤ length body.now }
@@ -66,7 +68,7 @@ fn show_explicit(lister: &mut Lister, body: &[u8], at: u32, path: &[u8]) -> Resu
             bit: 8 * at + 8,
         }));
     }
-    lister.content(&body[at as usize + 1..end as usize], path)?;
+    lister.content_at(&body[at as usize + 1..end as usize], path)?;
     Ok(end)
 }
 
@@ -78,7 +80,7 @@ fn show_counted(
     inner: &Kind,
     body: &[u8],
     at: u32,
-    path: &[u8],
+    path: &Path,
 ) -> Result<u32, DecodeError>
     requires bounds { InBounds (Tree.counted (kind_tree inner.now)) }
     requires listable { KindListable (kind_tree inner.now) }
@@ -87,7 +89,7 @@ fn show_counted(
     ensures ok { IfOk result (λ end. Shows (kind_lines (Tree.counted (kind_tree inner.now)) path.now) (kind_read (Tree.counted (kind_tree inner.now)) body.now at) body.now at end lister.old.out lister.new.out) }
     ensures err { IfErr result (λ e. HasFailed (kind_read (Tree.counted (kind_tree inner.now)) body.now at) at e) }
 {
-    lister.count(b"occurrences", 0, path)?;
+    lister.none_of(b"occurrences", path)?;
     let line = lister.len();
     let (end, count) = show_each(lister, inner, body, at, path)?;
     lister.set_count(line, count)?;
@@ -102,7 +104,7 @@ fn show_each(
     inner: &Kind,
     body: &[u8],
     at: u32,
-    path: &[u8],
+    path: &Path,
 ) -> Result<(u32, u32), DecodeError>
     requires bounds { InBounds (Tree.counted (kind_tree inner.now)) }
     requires listable { KindListable (kind_tree inner.now) }
@@ -113,10 +115,10 @@ fn show_each(
 {
     let count = octet_at(body, at)?;
     let mut here = at + 1;
+    let mut each = lister.blank_path();
     for number in 0..u32::from(count) {
-        let each = lister.path_of_occurrence(path, number)?;
-        here = show_value(lister, inner, body, here, each.as_slice())?;
-        lister.keep(each);
+        set_numbered(&mut each, path, number)?;
+        here = show_value(lister, inner, body, here, &each)?;
     }
     Ok((here, u32::from(count)))
 }
@@ -129,7 +131,7 @@ fn show_compound(
     slots: &Slots,
     body: &[u8],
     at: u32,
-    path: &[u8],
+    path: &Path,
 ) -> Result<u32, DecodeError>
     requires bounds { InBounds (Tree.compound (slots_tree slots.now)) }
     requires listable { SlotsListable (slots_tree slots.now) }
@@ -138,7 +140,7 @@ fn show_compound(
     ensures ok { IfOk result (λ end. Shows (kind_lines (Tree.compound (slots_tree slots.now)) path.now) (kind_read (Tree.compound (slots_tree slots.now)) body.now at) body.now at end lister.old.out lister.new.out) }
     ensures err { IfErr result (λ e. HasFailed (kind_read (Tree.compound (slots_tree slots.now)) body.now at) at e) }
 {
-    lister.count(b"subitems", 0, path)?;
+    lister.none_of(b"subitems", path)?;
     let line = lister.len();
     let (end, count) = show_subitems(lister, slots, body, at, path)?;
     lister.set_count(line, count)?;
@@ -153,7 +155,7 @@ fn show_subitems(
     slots: &Slots,
     body: &[u8],
     at: u32,
-    path: &[u8],
+    path: &Path,
 ) -> Result<(u32, u32), DecodeError>
     requires bounds { InBounds (Tree.compound (slots_tree slots.now)) }
     requires listable { SlotsListable (slots_tree slots.now) }
@@ -181,7 +183,7 @@ fn show_slot(
     slot: &Slot,
     body: &[u8],
     at: u32,
-    path: &[u8],
+    path: &Path,
 ) -> Result<u32, DecodeError>
     requires bounds { SlotInBounds (slot_tree slot.now) }
     requires listable { SlotListable (slot_tree slot.now) }
@@ -209,7 +211,7 @@ pub(crate) fn show_under(
     kind: &Kind,
     body: &[u8],
     at: u32,
-    path: &[u8],
+    path: &Path,
 ) -> Result<u32, DecodeError>
     requires bounds { InBounds (kind_tree kind.now) }
     requires listable { KindListable (kind_tree kind.now) }
@@ -221,8 +223,8 @@ pub(crate) fn show_under(
     if let Kind::Fixed(fixed) = kind {
         return show_single(lister, name, fixed, body, at, path);
     }
-    let inner = lister.path_at(path, name.octets())?;
-    let end = show_value(lister, kind, body, at, inner.as_slice())?;
-    lister.keep(inner);
+    let mut inner = lister.blank_path();
+    set_named(&mut inner, path, name)?;
+    let end = show_value(lister, kind, body, at, &inner)?;
     Ok(end)
 }

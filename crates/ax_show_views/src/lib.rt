@@ -4,7 +4,10 @@
 mod body;
 mod fixed;
 mod kinds;
+mod numbers;
+mod paths;
 mod records;
 mod units;
+mod widths;
 
 pub use body::show_records;

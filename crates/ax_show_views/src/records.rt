@@ -13,6 +13,7 @@ ghost use Rattle.ax_show_views.specs.Shown.{ShowsEntries, IsSlotShown};
 
 use crate::kinds::show_under;
 use ax_fspec::{Presence, SlotMask, read_presence};
+use ax_octets::Path;
 use ax_text::Lister;
 use ax_uap::UapItems;
 use ax_values::DecodeError;
@@ -27,7 +28,7 @@ pub(crate) fn show_record(
     number: u32,
     body: &[u8],
     at: u32,
-    path: &[u8],
+    path: &Path,
 ) -> Result<u32, DecodeError>
     requires spec { NoFlaw (spec_tree items.now.spec.now) }
     requires listable { SlotsListable (record_slots (spec_tree items.now.spec.now)) }
@@ -51,7 +52,7 @@ fn show_items(
     mask: &SlotMask,
     body: &[u8],
     at: u32,
-    path: &[u8],
+    path: &Path,
 ) -> Result<u32, DecodeError>
     requires spec { NoFlaw (spec_tree items.now.spec.now) }
     requires listable { SlotsListable (record_slots (spec_tree items.now.spec.now)) }
@@ -77,7 +78,7 @@ fn show_item(
     frn: u32,
     body: &[u8],
     at: u32,
-    path: &[u8],
+    path: &Path,
 ) -> Result<u32, DecodeError>
     requires bounds { SlotInBounds (slot_of_frn frn items.now.spec.now) }
     requires listable { SlotListable (slot_of_frn frn items.now.spec.now) }

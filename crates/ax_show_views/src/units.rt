@@ -17,9 +17,13 @@ ghost use Rattle.ax_values.specs.SlotReading.{HasFailed};
 ghost use Rattle.ax_show_views.specs.Shown.{Shows, ShowsCounted};
 
 use crate::fixed::{show_fixed, show_members, show_named};
+use crate::numbers::has_fx;
+use crate::paths::set_numbered;
+use crate::widths::{width_of, width_of_members};
 use ax_model::{BodyCause, BodyFault, Fixed, Name, Parts};
+use ax_octets::Path;
 use ax_text::Lister;
-use ax_values::{DecodeError, has_fx, unit_end};
+use ax_values::{DecodeError, unit_end};
 use std::alloc::AllocError;
 
 /// The lines of a fixed kind that stands by itself. Ok is the octet after it.
@@ -29,7 +33,7 @@ pub(crate) fn show_alone(
     fixed: &Fixed,
     body: &[u8],
     at: u32,
-    path: &[u8],
+    path: &Path,
 ) -> Result<u32, DecodeError>
     requires bounds { InBounds (Tree.fixed (fixed_tree fixed.now)) }
     requires listable { FixedListable (fixed_tree fixed.now) }
@@ -38,7 +42,7 @@ pub(crate) fn show_alone(
     ensures ok { IfOk result (λ end. Shows (kind_lines (Tree.fixed (fixed_tree fixed.now)) path.now) (kind_read (Tree.fixed (fixed_tree fixed.now)) body.now at) body.now at end lister.old.out lister.new.out) }
     ensures err { IfErr result (λ e. HasFailed (kind_read (Tree.fixed (fixed_tree fixed.now)) body.now at) at e) }
 {
-    let end = unit_end(body, at, fixed.width() as u32)?;
+    let end = unit_end(body, at, width_of(fixed) as u32)?;
     let mut bit = 8 * at;
     show_fixed(lister, fixed, body, &mut bit, path)?;
     Ok(end)
@@ -52,7 +56,7 @@ pub(crate) fn show_single(
     fixed: &Fixed,
     body: &[u8],
     at: u32,
-    path: &[u8],
+    path: &Path,
 ) -> Result<u32, DecodeError>
     requires bounds { InBounds (Tree.fixed (fixed_tree fixed.now)) }
     requires listable { FixedListable (fixed_tree fixed.now) }
@@ -61,7 +65,7 @@ pub(crate) fn show_single(
     ensures ok { IfOk result (λ end. Shows (kind_lines (Tree.fixed (fixed_tree fixed.now)) (Paths.at path.now name.now)) (kind_read (Tree.fixed (fixed_tree fixed.now)) body.now at) body.now at end lister.old.out lister.new.out) }
     ensures err { IfErr result (λ e. HasFailed (kind_read (Tree.fixed (fixed_tree fixed.now)) body.now at) at e) }
 {
-    let end = unit_end(body, at, fixed.width() as u32)?;
+    let end = unit_end(body, at, width_of(fixed) as u32)?;
     let mut bit = 8 * at;
     show_named(lister, name, fixed, body, &mut bit, path)?;
     Ok(end)
@@ -74,7 +78,7 @@ fn show_parts(
     parts: &Parts,
     body: &[u8],
     at: u32,
-    path: &[u8],
+    path: &Path,
 ) -> Result<(u32, u32), DecodeError>
     requires bounds { InBounds (Tree.extended (map part_tree parts.now)) }
     requires listable { AllByRecursion MembersListable (map part_tree parts.now) }
@@ -86,7 +90,7 @@ fn show_parts(
     let mut here = at;
     let mut count = 0;
     for part in parts.as_slice() {
-        let end = unit_end(body, here, part.width() as u32 + 1)?;
+        let end = unit_end(body, here, width_of_members(&part.members) as u32 + 1)?;
         let mut bit = 8 * here;
         show_members(lister, &part.members, body, &mut bit, path)?;
         count += 1;
@@ -108,7 +112,7 @@ pub(crate) fn show_extended(
     parts: &Parts,
     body: &[u8],
     at: u32,
-    path: &[u8],
+    path: &Path,
 ) -> Result<u32, DecodeError>
     requires bounds { InBounds (Tree.extended (map part_tree parts.now)) }
     requires listable { AllByRecursion MembersListable (map part_tree parts.now) }
@@ -117,7 +121,7 @@ pub(crate) fn show_extended(
     ensures ok { IfOk result (λ end. Shows (kind_lines (Tree.extended (map part_tree parts.now)) path.now) (kind_read (Tree.extended (map part_tree parts.now)) body.now at) body.now at end lister.old.out lister.new.out) }
     ensures err { IfErr result (λ e. HasFailed (kind_read (Tree.extended (map part_tree parts.now)) body.now at) at e) }
 {
-    lister.count(b"parts", 0, path)?;
+    lister.none_of(b"parts", path)?;
     let line = lister.len();
     let (end, count) = show_parts(lister, parts, body, at, path)?;
     lister.set_count(line, count)?;
@@ -132,7 +136,7 @@ fn show_occurrence(
     number: u32,
     body: &[u8],
     at: &mut u32,
-    path: &[u8],
+    path: &Path,
 ) -> Result<(), AllocError>
     requires bounds { FixedInBounds (fixed_tree fixed.now) }
     requires listable { FixedListable (fixed_tree fixed.now) }
@@ -141,9 +145,9 @@ fn show_occurrence(
     ensures lines { OnOk result (Puts as_lines (fixed_lines (fixed_tree fixed.now) (occurrence path.now number) (fixed_value (fixed_tree fixed.now) (drop at.old (bits body.now)))) lister.old.out lister.new.out) }
     ensures at { OnOk result (at.new ≡ at.old + width (fixed_tree fixed.now)) }
 {
-    let inner = lister.path_of_occurrence(path, number)?;
-    show_fixed(lister, fixed, body, at, inner.as_slice())?;
-    lister.keep(inner);
+    let mut inner = lister.blank_path();
+    set_numbered(&mut inner, path, number)?;
+    show_fixed(lister, fixed, body, at, &inner)?;
     Ok(())
 }
 
@@ -154,7 +158,7 @@ fn show_run(
     fixed: &Fixed,
     body: &[u8],
     at: u32,
-    path: &[u8],
+    path: &Path,
 ) -> Result<(u32, u32), DecodeError>
     requires bounds { InBounds (Tree.by_fx (fixed_tree fixed.now)) }
     requires listable { FixedListable (fixed_tree fixed.now) }
@@ -163,7 +167,7 @@ fn show_run(
     ensures ok { IfOk result (λ r. ShowsCounted (Tree.by_fx (fixed_tree fixed.now)) path.now (codes "occurrences") body.now at r.0 lister.old.out lister.new.out r.1) }
     ensures err { IfErr result (λ e. HasFailed (kind_read (Tree.by_fx (fixed_tree fixed.now)) body.now at) at e) }
 {
-    let width = fixed.width() as u32;
+    let width = width_of(fixed) as u32;
     let mut here = at;
     let mut count = 0;
     loop {
@@ -185,7 +189,7 @@ pub(crate) fn show_by_fx(
     fixed: &Fixed,
     body: &[u8],
     at: u32,
-    path: &[u8],
+    path: &Path,
 ) -> Result<u32, DecodeError>
     requires bounds { InBounds (Tree.by_fx (fixed_tree fixed.now)) }
     requires listable { FixedListable (fixed_tree fixed.now) }
@@ -194,7 +198,7 @@ pub(crate) fn show_by_fx(
     ensures ok { IfOk result (λ end. Shows (kind_lines (Tree.by_fx (fixed_tree fixed.now)) path.now) (kind_read (Tree.by_fx (fixed_tree fixed.now)) body.now at) body.now at end lister.old.out lister.new.out) }
     ensures err { IfErr result (λ e. HasFailed (kind_read (Tree.by_fx (fixed_tree fixed.now)) body.now at) at e) }
 {
-    lister.count(b"occurrences", 0, path)?;
+    lister.none_of(b"occurrences", path)?;
     let line = lister.len();
     let (end, count) = show_run(lister, fixed, body, at, path)?;
     lister.set_count(line, count)?;

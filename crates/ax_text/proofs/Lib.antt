@@ -12,6 +12,7 @@ pub mod WordTokens
 pub mod Nesting
 pub mod Pieces
 pub mod Divisors
+pub mod Twos
 pub mod RemarkWays
 pub mod ListedFixed
 pub mod ListedKinds

@@ -1,11 +1,11 @@
 -- Pieces that are written one after the other.
-use Rattle.std.proofs.Common.{take, drop, set, append-nil, length, length-drop, arith, ◌+◌, ◌-◌, ◌<◌, ◌≤◌, ◌≡◌, ℕ, List, [], ◌∷◌, ◌++◌, codes, decimal, refl, sym, ◌∙◌, ap, append_assoc}
+use Rattle.std.proofs.Common.{take, drop, set, length, arith, ◌+◌, ◌-◌, ◌<◌, ◌≤◌, ◌≡◌, ℕ, List, [], ◌∷◌, ◌++◌, codes, decimal, sym, ◌∙◌, ap, append_assoc}
 use Rattle.std.proofs.lemmas.Fmt.{decimal_digit}
-use Rattle.std.proofs.lemmas.List.{take_all, take-append-drop, take-set, drop-set}
+use Rattle.std.proofs.lemmas.List.{take-append-drop, take-set, drop-set}
 use Rattle.ax_model.specs.Paths.{at}
 use Rattle.ax_text.specs.Printing.{as_lines, Puts}
 use Rattle.ax_text.specs.ShowText.{number_line, count_line, content_line}
-use Rattle.ax_text.specs.ValueText.{Texts, one_onto, hex_text}
+use Rattle.ax_text.specs.ValueText.{one_onto, hex_text}
 
 pub two_pieces : (old a b x y : List ℕ) → a ≡ old ++ x → b ≡ a ++ y → b ≡ old ++ (x ++ y)
 two_pieces old a b x y e f = f ∙ ap (λ t. t ++ y) e ∙ append_assoc old x y
@@ -34,20 +34,33 @@ content_put old a b c d path octets e f g h = line_put old c d (content_line pat
 
 -- ---- numbers
 
-pub digit_put : (old new : List ℕ) (n : ℕ) → n < 10 → new ≡ old ++ (48 + n) ∷ [] → new ≡ old ++ decimal n
-digit_put old new n lt e = e ∙ ap (λ t. old ++ t) (sym (decimal_digit n lt))
+-- a path, a name under it and its number
+named : (path name digits : List ℕ) → path ++ (codes "/" ++ (name ++ (codes " = " ++ digits))) ≡ at path name ++ codes " = " ++ digits
+named path name digits = four path (codes "/") name (codes " = " ++ digits) ∙ sym (append_assoc (path ++ codes "/" ++ name) (codes " = ") digits)
 
-pub ruleset digits = digit_put
+-- the name is the first octets of others
+pub spare_put : (old mid new path padded : List ℕ) (count n : ℕ) → take count padded ≡ codes "spare" → mid ≡ old ++ (path ++ (codes "/" ++ (take count padded ++ (codes " = " ++ decimal n)))) → new ≡ mid ++ 0x0A ∷ []
+    → Puts as_lines (one_onto (number_line (at path (codes "spare")) n)) old new
+spare_put old mid new path padded count n is e f =
+    line_put old mid new (number_line (at path (codes "spare")) n) (e ∙ ap (λ name. old ++ (path ++ (codes "/" ++ (name ++ (codes " = " ++ decimal n))))) is ∙ ap (λ t. old ++ t) (named path (codes "spare") (decimal n))) f
 
-pub under_digit : (old new path name : List ℕ) (n : ℕ) → n < 10 → new ≡ old ++ (path ++ (codes "/" ++ (name ++ 0x20 ∷ 0x3D ∷ 0x20 ∷ (48 + n) ∷ []))) → new ≡ old ++ number_line (at path name) n
-under_digit old new path name n lt e =
-    e ∙ ap (λ d. old ++ (path ++ (codes "/" ++ (name ++ (codes " = " ++ d))))) (sym (decimal_digit n lt))
-    ∙ ap (λ t. old ++ t) (four path (codes "/") name (codes " = " ++ decimal n) ∙ sym (append_assoc (path ++ codes "/" ++ name) (codes " = ") (decimal n)))
+pub wide_spare_put : (old a b c new path : List ℕ) (n : ℕ) → a ≡ old ++ path → b ≡ a ++ (codes "/" ++ (codes "spare" ++ codes " = ")) → c ≡ b ++ decimal n → new ≡ c ++ 0x0A ∷ [] → Puts as_lines (one_onto (number_line (at path (codes "spare")) n)) old new
+wide_spare_put old a b c new path n e f g h =
+    line_put old c new (number_line (at path (codes "spare")) n) (three_pieces old a b c path (codes "/" ++ (codes "spare" ++ codes " = ")) (decimal n) e f g ∙ ap (λ t. old ++ t) (append_assoc path (codes "/spare = ") (decimal n) ∙ named path (codes "spare") (decimal n))) h
 
-pub under_more : (old mid new path name : List ℕ) (n : ℕ) → mid ≡ old ++ (path ++ (codes "/" ++ (name ++ codes " = "))) → new ≡ mid ++ decimal n → new ≡ old ++ number_line (at path name) n
-under_more old mid new path name n e f = two_pieces old mid new (at path name ++ codes " = ") (decimal n) (e ∙ ap (λ t. old ++ t) (four path (codes "/") name (codes " = "))) f
+pub element_put : (old mid new path name padded remark : List ℕ) (count n : ℕ) → take count padded ≡ name → mid ≡ old ++ (path ++ (codes "/" ++ (take count padded ++ (codes " = " ++ decimal n)))) → new ≡ mid ++ (remark ++ 0x0A ∷ [])
+    → Puts as_lines (one_onto (number_line (at path name) n ++ remark)) old new
+element_put old mid new path name padded remark count n is e f =
+    let front : mid ≡ old ++ number_line (at path name) n = e ∙ ap (λ name. old ++ (path ++ (codes "/" ++ (name ++ (codes " = " ++ decimal n))))) is ∙ ap (λ t. old ++ t) (named path name (decimal n)) in
+    line_put old (mid ++ remark) new (number_line (at path name) n ++ remark) (ap (λ t. t ++ remark) front ∙ append_assoc old (number_line (at path name) n) remark) (f ∙ sym (append_assoc mid remark (0x0A ∷ [])))
 
-pub ruleset unders = (under_digit, under_more)
+pub none_put : (old mid new path word : List ℕ) → mid ≡ old ++ path → new ≡ mid ++ (codes " " ++ (word ++ codes " 0\n")) → Puts as_lines (one_onto (count_line path word 0)) old new
+none_put old mid new path word e f =
+    line_put old (mid ++ (codes " " ++ (word ++ codes " 0"))) new (count_line path word 0) (ap (λ t. t ++ (codes " " ++ (word ++ codes " 0"))) e ∙ append_assoc old path (codes " " ++ (word ++ codes " 0")) ∙ ap (λ t. old ++ t) (four path (codes " ") word (codes " 0") ∙ tail))
+    (f ∙ ap (λ t. mid ++ (codes " " ++ t)) (sym (append_assoc word (codes " 0") (0x0A ∷ []))) ∙ sym (append_assoc mid (codes " " ++ (word ++ codes " 0")) (0x0A ∷ [])))
+  where
+    tail : path ++ codes " " ++ word ++ codes " 0" ≡ count_line path word 0
+    tail = sym (append_assoc (path ++ codes " " ++ word) (codes " ") (codes "0")) ∙ ap (λ d. path ++ codes " " ++ word ++ codes " " ++ d) (sym (decimal_digit 0 (omega arith)))
 
 -- ---- a count, in place of one digit
 

@@ -1,10 +1,24 @@
 -- The ways out of the functions that print remarks.
-use Rattle.std.proofs.Common.{◌≡◌, ℕ, zero, suc, ◌+◌, ◌-◌, ◌*◌, ◌/◌, ◌%◌, ◌^◌, ◌<◌, ◌≤◌, List, [], ◌∷◌, ◌++◌, map, refl, sym, ◌∙◌, ap, subst, arith, append_assoc, append-nil, codes, decimal}
-use Rattle.ax_text.specs.Remarks.{piece_size, character, pieces_of, characters, common_divisor, reduced_text}
+use Rattle.std.proofs.Common.{◌≡◌, ℕ, suc, ◌-◌, ◌*◌, ◌/◌, ◌%◌, ◌^◌, ◌<◌, ◌≤◌, List, [], ◌∷◌, ◌++◌, map, refl, sym, ◌∙◌, ap, arith, append_assoc, append-nil, codes, decimal}
+use Rattle.ax_tokens.specs.Octets.{quote}
+use Rattle.ax_text.specs.Remarks.{quoted, piece_size, character, pieces_of, common_divisor, reduced_text}
 use Rattle.ax_text.specs.declared.characters.Alphabet.{Alphabet}
 use Rattle.ax_text.proofs.Pieces.{two_pieces, three_pieces}
 
 pub ruleset remark_ways = two_pieces
+
+-- ---- the end of a line
+
+-- a text in quotes, and the line feed
+pub quoted_last : (old new text : List ℕ) → new ≡ old ++ (codes " \"" ++ (text ++ codes "\"\n")) → new ≡ old ++ (codes " " ++ quoted text ++ 0x0A ∷ [])
+quoted_last old new text e = e ∙ ap (λ t. old ++ (codes " \"" ++ t)) (sym (append_assoc text (quote ∷ []) (0x0A ∷ [])))
+
+pub quantity_last : (old a b new text unit : List ℕ) → a ≡ old ++ 0x20 ∷ [] → b ≡ a ++ text → new ≡ b ++ (codes " " ++ quoted unit ++ 0x0A ∷ []) → new ≡ old ++ (codes " " ++ text ++ codes " " ++ quoted unit ++ 0x0A ∷ [])
+quantity_last old a b new text unit e f g =
+    three_pieces old a b new (codes " ") text (codes " " ++ quoted unit ++ 0x0A ∷ []) e f g
+    ∙ ap (λ t. old ++ t) (sym (append_assoc (codes " " ++ text ++ codes " ") (quoted unit) (0x0A ∷ []) ∙ append_assoc (codes " " ++ text) (codes " ") (quoted unit ++ 0x0A ∷ [])))
+
+pub ruleset end_ways = (two_pieces, quantity_last)
 
 -- ---- characters
 
@@ -35,6 +49,10 @@ pub ruleset character_ways = (characters_first, character_next, characters_last)
 pub fraction_put : (old a b c : List ℕ) (n m d : ℕ) → d ≡ common_divisor m n m → a ≡ old ++ decimal (n / d) → b ≡ a ++ codes "/" → c ≡ b ++ decimal (m / d) → c ≡ old ++ reduced_text n m
 fraction_put old a b c n m d e f g h = three_pieces old a b c (decimal (n / d)) (codes "/") (decimal (m / d)) f g h ∙ ap (λ d. old ++ (decimal (n / d) ++ codes "/" ++ decimal (m / d))) e
 
-pub ruleset fraction_ways = fraction_put
+-- the greatest common divisor is a power of two
+pub fraction_shifted : (old new : List ℕ) (n m t : ℕ) → 2 ^ t ≡ common_divisor m n m → new ≡ old ++ (decimal (n / 2 ^ t) ++ 0x2F ∷ decimal (m / 2 ^ t)) → new ≡ old ++ reduced_text n m
+fraction_shifted old new n m t e f = f ∙ ap (λ x. old ++ x) (sym (append_assoc (decimal (n / 2 ^ t)) (codes "/") (decimal (m / 2 ^ t)))) ∙ ap (λ d. old ++ (decimal (n / d) ++ codes "/" ++ decimal (m / d))) e
+
+pub ruleset fraction_ways = (fraction_put, fraction_shifted)
 
 pub ruleset multiple_ways = two_pieces

@@ -1,5 +1,5 @@
 //! Fractions in lowest terms.
-ghost use Rattle.std.specs.Prelude.{◌≡◌, ◌/◌, ◌<◌};
+ghost use Rattle.std.specs.Prelude.{◌≡◌, ◌/◌, ◌^◌, ◌<◌, IfSome};
 ghost use Rattle.ax_text.specs.Remarks.{common_divisor};
 ghost use Rattle.std.specs.Int.{IsGcd};
 
@@ -31,6 +31,21 @@ pub(crate) fn common_divisor(numerator: u128, denominator: u64) -> u64
     } else {
         gcd(denominator, (numerator % denominator as u128) as u64)
     }
+}
+
+/// Where the denominator is a power of two, so is the greatest number that divides both: 2 to the power of the result. None
+/// says that it is no power of two.
+#[inline(always)]
+pub(crate) fn shared_twos(numerator: u64, denominator: u64) -> Option<u32>
+    requires { 0 < denominator }
+    ensures { IfSome result (λ twos. (twos < 64) × (2 ^ twos ≡ common_divisor denominator numerator denominator)) }
+{
+    let most = denominator.trailing_zeros();
+    if denominator >> most != 1 {
+        return None;
+    }
+    let twos = numerator.trailing_zeros();
+    if twos < most { Some(twos) } else { Some(most) }
 }
 
 /// The quotient, on 64 bits where the number has no more.

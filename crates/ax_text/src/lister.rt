@@ -10,8 +10,8 @@ ghost use Rattle.ax_text.specs.Remarks.{quoted, remark};
 ghost use Rattle.ax_text.specs.ShowText.{number_line, count_line, content_line, occurrence};
 ghost use Rattle.ax_text.specs.ValueText.{one_onto, hex_text};
 
-use ax_model::Content;
-use ax_octets::Octets;
+use ax_model::{Content, Name};
+use ax_octets::{Octets, Path};
 use itoa::Buffer;
 use std::alloc::{AllocError, Global};
 
@@ -20,8 +20,6 @@ use std::alloc::{AllocError, Global};
 pub struct Lister {
     pub(crate) alloc: Global,
     pub(crate) out: Octets,
-    /// Paths that are done with: their memory is used for others.
-    pub(crate) kept: Vec<Octets>,
 }
 
 impl Lister {
@@ -32,8 +30,15 @@ impl Lister {
         Lister {
             alloc,
             out: Octets::new(alloc),
-            kept: Vec::new(alloc),
         }
+    }
+
+    /// An empty path. Takes no memory.
+    #[inline(always)]
+    pub fn blank_path(&self) -> Path
+        ensures { result ≡ [] }
+    {
+        Path::new(self.alloc)
     }
 
     /// The listing.
@@ -71,20 +76,15 @@ impl Lister {
         self.out.octet(octet)
     }
 
-    /// A number in decimal. Most have one digit; those of 64 bits are divided by themselves, which is faster.
-    #[tactic(auto, using(crate::proofs::Pieces::digits))]
+    /// A number in decimal. Those of 64 bits are divided by themselves, which is faster.
     pub(crate) fn decimal(&mut self, number: u128) -> Result<(), AllocError>
         ensures { OnOk result (self.new.out ≡ self.old.out ++ decimal number) }
     {
-        if number < 10 {
-            return self.octet(b'0' + number as u8);
+        if number <= u128::from(u64::MAX) {
+            return self.out.decimal(number as u64);
         }
         let mut buffer = Buffer::new();
-        if number <= u128::from(u64::MAX) {
-            self.octets(buffer.format(number as u64).as_bytes())
-        } else {
-            self.octets(buffer.format(number).as_bytes())
-        }
+        self.octets(buffer.format(number).as_bytes())
     }
 
     pub(crate) fn signed(&mut self, number: i128) -> Result<(), AllocError>
@@ -137,6 +137,51 @@ impl Lister {
         Ok(())
     }
 
+    /// The line that says that there are none of something, at a path.
+    #[inline(always)]
+    #[tactic(auto, using(crate::proofs::Pieces::none_put))]
+    pub fn none_of(&mut self, word: &[u8], path: &Path) -> Result<(), AllocError>
+        ensures { OnOk result (Puts as_lines (one_onto (count_line path.now word.now 0)) self.old.out self.new.out) }
+    {
+        self.out.path(path)?;
+        self.out.text3(b" ", word, b" 0\n")?;
+        Ok(())
+    }
+
+    /// The line of an explicit content at a path.
+    #[tactic(auto, using(crate::proofs::Pieces::content_put))]
+    pub fn content_at(&mut self, octets: &[u8], path: &Path) -> Result<(), AllocError>
+        ensures { OnOk result (Puts as_lines (one_onto (content_line path.now octets.now)) self.old.out self.new.out) }
+    {
+        self.out.path(path)?;
+        self.octets(b" octets ")?;
+        self.hex(octets)?;
+        self.octet(b'\n')?;
+        Ok(())
+    }
+
+    /// The line of an element at a path.
+    #[tactic(auto, using(crate::proofs::Pieces::pieces, crate::proofs::Pieces::line_put, crate::proofs::ListedFixed::element_ways))]
+    pub fn element_at(
+        &mut self,
+        number: u128,
+        width: u32,
+        content: &Content,
+        path: &Path,
+    ) -> Result<(), AllocError>
+        requires width { IsWidth width }
+        requires content { ContentListable width content.now }
+        requires fits { number < 2 ^ width }
+        ensures { OnOk result (Puts as_lines (one_onto (number_line path.now number ++ remark width content.now number)) self.old.out self.new.out) }
+    {
+        self.out.path(path)?;
+        self.octets(b" = ")?;
+        self.decimal(number)?;
+        self.remark(number, width, content)?;
+        self.octet(b'\n')?;
+        Ok(())
+    }
+
     /// Puts a count in place of the 0 of the count line that ends at `end`.
     pub fn set_count(&mut self, end: usize, count: u32) -> Result<(), AllocError>
         requires { (2 ≤ end) × (end ≤ length self.old.out) }
@@ -153,47 +198,46 @@ impl Lister {
         Ok(())
     }
 
-    /// The front of the line of a number under a path: the path, a name more, and the number.
-    #[tactic(auto, using(crate::proofs::Pieces::unders))]
-    fn number_under(&mut self, number: u128, path: &[u8], name: &[u8]) -> Result<(), AllocError>
-        ensures { OnOk result (self.new.out ≡ self.old.out ++ number_line (at path.now name.now) number) }
-    {
-        if number < 10 {
-            let digit = b'0' + number as u8;
-            return self.out.text4(path, b"/", name, &[b' ', b'=', b' ', digit]);
-        }
-        self.out.text4(path, b"/", name, b" = ")?;
-        self.decimal(number)?;
-        Ok(())
-    }
-
     /// The line of spare bits under a path.
-    #[tactic(auto, using(crate::proofs::ListedFixed::spare_ways))]
-    pub fn spare_under(&mut self, number: u128, path: &[u8]) -> Result<(), AllocError>
+    #[inline(never)]
+    pub fn spare_under(&mut self, number: u64, path: &Path) -> Result<(), AllocError>
         ensures { OnOk result (Puts as_lines (one_onto (number_line (at path.now (codes "spare")) number)) self.old.out self.new.out) }
     {
-        self.number_under(number, path, b"spare")?;
+        self.out
+            .named_number(path, b"spare\0\0\0\0\0\0\0\0\0\0\0", 5, number)?;
         self.octet(b'\n')?;
         Ok(())
     }
 
     /// The line of an element of so many bits under a path and its name.
-    #[tactic(auto, using(crate::proofs::ListedFixed::element_ways))]
+    #[inline(never)]
     pub fn element_under(
         &mut self,
-        number: u128,
+        number: u64,
         width: u32,
         content: &Content,
-        path: &[u8],
-        name: &[u8],
+        path: &Path,
+        name: &Name,
     ) -> Result<(), AllocError>
         requires width { IsWidth width }
         requires content { ContentListable width content.now }
         requires fits { number < 2 ^ width }
         ensures { OnOk result (Puts as_lines (one_onto (number_line (at path.now name.now) number ++ remark width content.now number)) self.old.out self.new.out) }
     {
-        self.number_under(number, path, name)?;
-        self.remark(number, width, content)?;
+        self.out
+            .named_number(path, name.padded(), name.octets().len(), number)?;
+        self.remark_end(number, width, content)?;
+        Ok(())
+    }
+
+    /// The line of spare bits under a path, of any number.
+    #[tactic(auto, using(crate::proofs::Pieces::wide_spare_put))]
+    pub fn wide_spare_under(&mut self, number: u128, path: &Path) -> Result<(), AllocError>
+        ensures { OnOk result (Puts as_lines (one_onto (number_line (at path.now (codes "spare")) number)) self.old.out self.new.out) }
+    {
+        self.out.path(path)?;
+        self.out.text3(b"/", b"spare", b" = ")?;
+        self.decimal(number)?;
         self.octet(b'\n')?;
         Ok(())
     }

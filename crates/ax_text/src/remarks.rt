@@ -1,12 +1,13 @@
 //! What numbers mean, after them.
-ghost use Rattle.std.specs.Prelude.{◌≡◌, ◌++◌, ◌*◌, ◌<◌, ◌≤◌, ◌^◌, ◌==◌, find, codes, OnOk, IfSome};
+ghost use Rattle.std.specs.Prelude.{◌≡◌, ◌++◌, ◌*◌, ◌<◌, ◌≤◌, ◌^◌, ◌==◌, ◌∷◌, [], find, codes, OnOk, IfSome};
 ghost use Rattle.std.specs.Option.{option_copied};
 ghost use Rattle.ax_model.specs.InBounds.{IsWidth};
+ghost use Rattle.ax_tokens.specs.Octets.{line_feed};
 ghost use Rattle.ax_text.specs.Listable.{ContentListable};
 ghost use Rattle.ax_text.specs.Remarks.{quoted, characters, reduced_text, multiple_text, by_sign, entry_remark, remark};
 
 use crate::characters::Alphabet;
-use crate::fractions::{common_divisor, quotient};
+use crate::fractions::{common_divisor, quotient, shared_twos};
 use crate::lister::Lister;
 use ax_bits::signed_of;
 use ax_model::{Content, Scale, Sign, TableText, TableTexts};
@@ -22,7 +23,70 @@ fn entry_of(entries: &TableTexts, number: u128) -> Option<&TableText>
         .find(|entry| u128::from(entry.number) == number)
 }
 
+/// The first entry of that number, of at most 64 bits. Most are among the first two, of which one is chosen without a branch.
+#[inline(always)]
+fn entry_with(entries: &TableTexts, number: u64) -> Option<&TableText>
+    ensures { option_copied result ≡ find (λ entry. entry.number == number) entries.now }
+{
+    let all = entries.as_slice();
+    if all.len() >= 2 {
+        let place = (all[0].number != number) as usize;
+        if all[place].number == number {
+            return Some(&all[place]);
+        }
+    }
+    entry_of(entries, u128::from(number))
+}
+
 impl Lister {
+    /// The remark of an element whose number has at most 64 bits, and the end of its line.
+    #[inline(always)]
+    #[tactic(auto, using(crate::proofs::RemarkWays::end_ways))]
+    pub(crate) fn remark_end(
+        &mut self,
+        number: u64,
+        width: u32,
+        content: &Content,
+    ) -> Result<(), AllocError>
+        requires width { IsWidth width }
+        requires content { ContentListable width content.now }
+        requires fits { number < 2 ^ width }
+        ensures { OnOk result (self.new.out ≡ self.old.out ++ (remark width content.now number ++ line_feed ∷ [])) }
+    {
+        match content {
+            Content::Raw => self.octet(b'\n'),
+            Content::Table(entries) => self.table_end(entries, number),
+            Content::Quantity(scale) => {
+                self.octet(b' ')?;
+                self.multiple(u128::from(number), width, scale)?;
+                self.quoted_end(scale.unit.as_slice())
+            }
+            content => {
+                self.remark(u128::from(number), width, content)?;
+                self.octet(b'\n')
+            }
+        }
+    }
+
+    #[inline(always)]
+    fn table_end(&mut self, entries: &TableTexts, number: u64) -> Result<(), AllocError>
+        ensures { OnOk result (self.new.out ≡ self.old.out ++ (entry_remark (find (λ entry. entry.number == number) entries.now) ++ line_feed ∷ [])) }
+    {
+        match entry_with(entries, number) {
+            None => self.octet(b'\n'),
+            Some(entry) => self.quoted_end(entry.text.as_slice()),
+        }
+    }
+
+    /// A text in quotes, after a space, and the end of the line.
+    #[inline(always)]
+    #[tactic(auto, using(crate::proofs::RemarkWays::quoted_last))]
+    fn quoted_end(&mut self, text: &[u8]) -> Result<(), AllocError>
+        ensures { OnOk result (self.new.out ≡ self.old.out ++ (codes " " ++ quoted text.now ++ line_feed ∷ [])) }
+    {
+        self.out.text3(b" \"", text, b"\"\n")
+    }
+
     /// The remark of an element of so many bits, whose number that is. Nothing is printed where there is none.
     #[tactic(auto, using(crate::proofs::RemarkWays::remark_ways))]
     pub(crate) fn remark(
@@ -135,6 +199,13 @@ impl Lister {
         ensures { OnOk result (self.new.out ≡ self.old.out ++ reduced_text (times * num) den) }
     {
         let numerator = u128::from(times) * u128::from(num);
+        if numerator <= u128::from(u64::MAX) {
+            if let Some(twos) = shared_twos(numerator as u64, den) {
+                return self
+                    .out
+                    .decimals(numerator as u64 >> twos, b'/', den >> twos);
+            }
+        }
         let divisor = common_divisor(numerator, den);
         self.decimal(quotient(numerator, divisor))?;
         self.octet(b'/')?;

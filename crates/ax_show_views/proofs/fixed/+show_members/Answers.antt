@@ -1,4 +1,4 @@
-use Rattle.std.proofs.Common.{◌≡◌, ◌+◌, ◌<◌, length, get_or, subst}
+use Rattle.std.proofs.Common.{◌≡◌, ◌<◌, length, get_or, subst}
 use Rattle.ax_bits.specs.Bits.{bits}
 use Rattle.ax_model.specs.Plain.{members_tree}
 use Rattle.ax_show_views.proofs.Members.{member_next}

@@ -1,6 +1,6 @@
 use denote.Param.Weighed.{at_most}
 use Rattle.ax_model.proofs.kind.Slot.TheLaws.{the_size}
-use Rattle.std.proofs.Common.{◌≡◌, ◌+◌, ◌-◌, ◌<◌, ◌≤◌, ℕ, List, length, map, get_or, codes, ap, arith, refl, subst, sym, ◌∙◌}
+use Rattle.std.proofs.Common.{◌≡◌, ◌-◌, ◌<◌, ℕ, List, length, map, get_or, codes, ap, arith, subst, sym, ◌∙◌}
 use Rattle.std.proofs.lemmas.List.{length-map}
 use Rattle.ax_model.proofs.Bounds.{count_of_slots}
 use Rattle.ax_model.specs.Plain.{kind_tree, slot_tree, slots_tree}
@@ -10,10 +10,9 @@ use Rattle.ax_reader.proofs.Marking.{field_failed, slot_in_bounds}
 use Rattle.ax_reader.specs.Reading.{FailsAt, kind_read}
 use Rattle.ax_text.proofs.ListedKinds.{slot_listable}
 use Rattle.ax_text.specs.Listable.{SlotListable}
-use Rattle.ax_text.specs.ShowText.{kind_lines}
 use Rattle.ax_values.proofs.Continuing.{err_by_fault, err_is}
 use Rattle.ax_values.specs.SlotReading.{HasSlotFailed}
-use Rattle.ax_show_views.specs.Shown.{Shows, ShowsCounted, IsSlotShown}
+use Rattle.ax_show_views.specs.Shown.{ShowsCounted, IsSlotShown}
 use Rattle.ax_show_views.proofs.CountedLines.{count_first, count_next, count_last, count_failed}
 use Rattle.ax_show_views.proofs.Leading.{counted_shown, counted_longer}
 use Rattle.ax_show_views.proofs.MarkedLines.{compound_done, compound_first, next_slot, marks_next, marks_last, marks_failed, at_number}
@@ -21,21 +20,21 @@ use Rattle.ax_show_views.proofs.kinds.+show_kind.Goals as goal
 
 pub show_counted-set_count-requires : goal.show_counted-set_count-requires
 show_counted-set_count-requires t c =
-    counted_longer (counted (kind_tree c.args.inner.now)) c.args.path.now (codes "occurrences") c.args.body.now c.args.at c.in_ok-end.end c.len-line.result c.args.lister.now.out c.count.new.self.out c.show_each.new.lister.out c.in_ok-end.count c.in_ok-count.ensures c.len-line.ensures c.in_ok-end.ensures.ok
+    counted_longer (counted (kind_tree c.args.inner.now)) c.args.path.now (codes "occurrences") c.args.body.now c.args.at c.in_ok-end.end c.len-line.result c.args.lister.now.out c.none_of.new.self.out c.show_each.new.lister.out c.in_ok-end.count c.in_ok-none_of.ensures c.len-line.ensures c.in_ok-end.ensures.ok
 
 pub show_counted-returns-clause-ok : goal.show_counted-returns-clause-ok
 show_counted-returns-clause-ok t c =
-    counted_shown (counted (kind_tree c.args.inner.now)) c.args.path.now (codes "occurrences") c.args.body.now c.args.at c.in_ok-end.end c.len-line.result c.args.lister.now.out c.count.new.self.out c.show_each.new.lister.out c.set_count.new.self.out c.in_ok-end.count
-    c.in_ok-count.ensures c.len-line.ensures c.in_ok-end.ensures.ok c.in_ok-set_count.ensures
+    counted_shown (counted (kind_tree c.args.inner.now)) c.args.path.now (codes "occurrences") c.args.body.now c.args.at c.in_ok-end.end c.len-line.result c.args.lister.now.out c.none_of.new.self.out c.show_each.new.lister.out c.set_count.new.self.out c.in_ok-end.count
+    c.in_ok-none_of.ensures c.len-line.ensures c.in_ok-end.ensures.ok c.in_ok-set_count.ensures
 
 pub show_compound-set_count-requires : goal.show_compound-set_count-requires
 show_compound-set_count-requires t c =
-    counted_longer (compound (slots_tree c.args.slots.now)) c.args.path.now (codes "subitems") c.args.body.now c.args.at c.in_ok-end.end c.len-line.result c.args.lister.now.out c.count.new.self.out c.show_subitems.new.lister.out c.in_ok-end.count c.in_ok-count.ensures c.len-line.ensures c.in_ok-end.ensures.ok
+    counted_longer (compound (slots_tree c.args.slots.now)) c.args.path.now (codes "subitems") c.args.body.now c.args.at c.in_ok-end.end c.len-line.result c.args.lister.now.out c.none_of.new.self.out c.show_subitems.new.lister.out c.in_ok-end.count c.in_ok-none_of.ensures c.len-line.ensures c.in_ok-end.ensures.ok
 
 pub show_compound-returns-clause-ok : goal.show_compound-returns-clause-ok
 show_compound-returns-clause-ok t c =
-    counted_shown (compound (slots_tree c.args.slots.now)) c.args.path.now (codes "subitems") c.args.body.now c.args.at c.in_ok-end.end c.len-line.result c.args.lister.now.out c.count.new.self.out c.show_subitems.new.lister.out c.set_count.new.self.out c.in_ok-end.count
-    c.in_ok-count.ensures c.len-line.ensures c.in_ok-end.ensures.ok c.in_ok-set_count.ensures
+    counted_shown (compound (slots_tree c.args.slots.now)) c.args.path.now (codes "subitems") c.args.body.now c.args.at c.in_ok-end.end c.len-line.result c.args.lister.now.out c.none_of.new.self.out c.show_subitems.new.lister.out c.set_count.new.self.out c.in_ok-end.count
+    c.in_ok-none_of.ensures c.len-line.ensures c.in_ok-end.ensures.ok c.in_ok-set_count.ensures
 
 -- ---- occurrences
 
@@ -59,10 +58,8 @@ show_each-returns-in_err-here-clause-err t c =
 
 pub show_each-loop-number-preserved : goal.show_each-loop-number-preserved
 show_each-loop-number-preserved t c =
-    let k = kind_tree c.args.inner.now in
-    count_next (kind_tree c.args.inner.now) c.args.path.now c.args.body.now c.in_ok-count.count c.loop-number.number c.args.at c.loop-number.here c.in_ok-here.here c.as_slice.result.now c.args.lister.now.out c.loop-number.lister.out c.keep.new.self.out
-    c.loop-number.invariant (omega (arith, c.loop-number-test.true, c.from-number-end.ensures)) (c.as_slice.ensures ∙ c.in_ok-each.ensures.made) (subst (λ out. Shows (kind_lines k c.as_slice.result.now) (kind_read k c.args.body.now c.loop-number.here) c.args.body.now c.loop-number.here c.in_ok-here.here out c.keep.new.self.out) c.path_of_occurrence.ensures.out
-    (subst (λ out. Shows (kind_lines k c.as_slice.result.now) (kind_read k c.args.body.now c.loop-number.here) c.args.body.now c.loop-number.here c.in_ok-here.here c.path_of_occurrence.new.self.out out) (sym c.keep.ensures) c.in_ok-here.ensures.ok))
+    count_next (kind_tree c.args.inner.now) c.args.path.now c.args.body.now c.in_ok-count.count c.loop-number.number c.args.at c.loop-number.here c.in_ok-here.here c.set_numbered.new.inner c.args.lister.now.out c.loop-number.lister.out c.show_value.new.lister.out
+    c.loop-number.invariant (omega (arith, c.loop-number-test.true, c.from-number-end.ensures)) c.in_ok-set_numbered.ensures c.in_ok-here.ensures.ok
 
 pub show_each-returns-clause-ok : goal.show_each-returns-clause-ok
 show_each-returns-clause-ok t c =

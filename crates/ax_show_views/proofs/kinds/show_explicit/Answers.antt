@@ -1,5 +1,4 @@
-use Rattle.std.proofs.Common.{◌≡◌, ◌+◌, ◌-◌, ℕ, take, drop, ap, arith, refl, subst, sym, ◌∙◌}
-use Rattle.ax_bits.specs.Bits.{AreOctets}
+use Rattle.std.proofs.Common.{◌≡◌, ◌+◌, ◌-◌, ℕ, take, drop, ap, arith, refl, subst}
 use Rattle.ax_model.specs.Tree.{explicit, content_octets}
 use Rattle.ax_values.proofs.Continuing.{err_by_fault, failed_by_fault}
 use Rattle.ax_reader.proofs.Counting.{explicit_none, explicit_bad, explicit_short, explicit_gets, octets_part}
@@ -35,5 +34,5 @@ returns-clause-ok c =
       value = content_octets xs;
       read = explicit_gets all xs at n (at + n) c.in_ok-length.ensures.ok.0 c.in_ok-length.ensures.ok.1 (omega (arith, c.in_ok-length.ensures.ok.1, c.type_inv.body c.args.at)) (omega (arith, c.if-length-eq0.false)) refl (omega (arith, c.if-end-body.false))
           refl (octets_part (n - 1) (at + 1) all (λ i. (let fits = c.type_inv.body i in omega arith)));
-      put = subst (λ m. Puts as_lines (one_onto (content_line c.args.path.now (take m (drop (at + 1) all)))) c.args.lister.now.out c.content.new.self.out) (let e : at + n - (at + 1) ≡ n - 1 = omega arith in e) c.in_ok-content.ensures;
+      put = subst (λ m. Puts as_lines (one_onto (content_line c.args.path.now (take m (drop (at + 1) all)))) c.args.lister.now.out c.content_at.new.self.out) (let e : at + n - (at + 1) ≡ n - 1 = omega arith in e) c.in_ok-content_at.ensures;
     }

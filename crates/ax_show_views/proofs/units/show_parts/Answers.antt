@@ -1,10 +1,10 @@
-use Rattle.std.proofs.Common.{◌≡◌, ◌+◌, ◌<◌, true, false, length, map, get_or, ap, arith, refl, subst}
+use Rattle.std.proofs.Common.{◌≡◌, ◌+◌, ◌<◌, length, map, get_or, ap, arith, refl, subst}
 use Rattle.ax_model.specs.Plain.{part_tree}
 use Rattle.ax_model.specs.Widths.{members_width}
 use Rattle.ax_model.specs.Tree.{extended}
 use Rattle.ax_reader.specs.Reading.{kind_read}
-use Rattle.ax_show_views.proofs.UnitLines.{PartsShown, parts_first, part_bounds, part_listable, part_short, part_last, part_more}
-use Rattle.ax_values.proofs.Continuing.{err_by_fault, failed_by_fault}
+use Rattle.ax_show_views.proofs.UnitLines.{parts_first, part_bounds, part_listable, part_short, part_last, part_more}
+use Rattle.ax_values.proofs.Continuing.{err_by_fault}
 use Rattle.ax_values.proofs.Repeating.{unit_is}
 use Rattle.ax_show_views.proofs.units.show_parts.Goals as goal
 
@@ -29,7 +29,7 @@ returns-in_err-end-clause-err c =
     let bounds = part_bounds all i p path body c.args.at here old now h within is in
     let fault = c.in_err-end.field-0.0 in
     err_by_fault (kind_read (extended (map part_tree all)) body c.args.at) c.args.at c.from_residual.result fault c.from_residual.ensures.1
-    (part_short all i p path body c.args.at here old now h within is fault (omega (arith, c.in_err-end.ensures.short, c.width.ensures, bounds.1)) (ap (λ f. f.cause) c.in_err-end.ensures.fault) (ap (λ f. f.bit) c.in_err-end.ensures.fault))
+    (part_short all i p path body c.args.at here old now h within is fault (omega (arith, c.in_err-end.ensures.short, c.width_of_members.ensures, bounds.1)) (ap (λ f. f.cause) c.in_err-end.ensures.fault) (ap (λ f. f.bit) c.in_err-end.ensures.fault))
 
 pub show_members-requires-clause-bounds : goal.show_members-requires-clause-bounds
 show_members-requires-clause-bounds c =
@@ -85,7 +85,7 @@ returns-then-not-has_fx-clause-ok c =
     let bounds = part_bounds all i p path body c.args.at here old now h within is in
     let end = c.in_ok-end.end in
     let ok = c.in_ok-end.ensures.ok in
-    let u = unit_is body here end w c.show_members.new.at c.has_fx.result bounds.0 ok.0 ok.1 (omega (arith, ok.2, c.width.ensures, bounds.1)) c.in_ok-show_members.ensures.at c.has_fx.ensures in
+    let u = unit_is body here end w c.show_members.new.at c.has_fx.result bounds.0 ok.0 ok.1 (omega (arith, ok.2, c.width_of_members.ensures, bounds.1)) c.in_ok-show_members.ensures.at c.has_fx.ensures in
     part_last all i p path body c.args.at here old now h within is end w c.has_fx.result c.show_members.new.lister.out u refl c.in_ok-show_members.ensures.lines (c.loop-part.count + 1) c.if-not-has_fx.true (ap (λ n. n + 1) c.loop-part.invariant.counted)
 
 pub loop-part-preserved : goal.loop-part-preserved
@@ -106,7 +106,7 @@ loop-part-preserved c =
     let bounds = part_bounds all i p path body c.args.at here old now h within is in
     let end = c.in_ok-end.end in
     let ok = c.in_ok-end.ensures.ok in
-    let u = unit_is body here end w c.show_members.new.at c.has_fx.result bounds.0 ok.0 ok.1 (omega (arith, ok.2, c.width.ensures, bounds.1)) c.in_ok-show_members.ensures.at c.has_fx.ensures in
+    let u = unit_is body here end w c.show_members.new.at c.has_fx.result bounds.0 ok.0 ok.1 (omega (arith, ok.2, c.width_of_members.ensures, bounds.1)) c.in_ok-show_members.ensures.at c.has_fx.ensures in
     record {
       counted = ap (λ n. n + 1) c.loop-part.invariant.counted;
       shown = part_more all i p path body c.args.at here old now h within is end w c.has_fx.result c.show_members.new.lister.out u refl c.in_ok-show_members.ensures.lines c.if-not-has_fx.false;

@@ -1,4 +1,4 @@
-use Rattle.std.proofs.Common.{◌≡◌, ◌+◌, true, false, ap, arith, refl}
+use Rattle.std.proofs.Common.{◌+◌, ap, arith, refl}
 use Rattle.ax_model.specs.Plain.{fixed_tree}
 use Rattle.ax_model.specs.Tree.{by_fx}
 use Rattle.ax_model.specs.Widths.{width}
@@ -21,7 +21,7 @@ returns-in_err-end-clause-err c =
     let now = c.loop-end.lister.out in
     let fault = c.in_err-end.field-0.0 in
     err_by_fault (kind_read (by_fx f) body c.args.at) c.args.at c.from_residual.result fault c.from_residual.ensures.1
-    (run_failed f path body c.args.at here old now c.loop-end.count fault c.loop-end.invariant (omega (arith, c.in_err-end.ensures.short, c.width-width.ensures, c.requires.bounds.1)) (ap (λ f. f.cause) c.in_err-end.ensures.fault) (ap (λ f. f.bit) c.in_err-end.ensures.fault))
+    (run_failed f path body c.args.at here old now c.loop-end.count fault c.loop-end.invariant (omega (arith, c.in_err-end.ensures.short, c.width_of-width.ensures, c.requires.bounds.1)) (ap (λ f. f.cause) c.in_err-end.ensures.fault) (ap (λ f. f.bit) c.in_err-end.ensures.fault))
 
 pub returns-then-not-has_fx-clause-ok : goal.returns-then-not-has_fx-clause-ok
 returns-then-not-has_fx-clause-ok c =
@@ -33,7 +33,7 @@ returns-then-not-has_fx-clause-ok c =
     let now = c.loop-end.lister.out in
     let end = c.in_ok-end.end in
     let ok = c.in_ok-end.ensures.ok in
-    let u = unit_is body here end (width f) c.show_occurrence.new.at c.has_fx.result c.requires.bounds.0 ok.0 ok.1 (omega (arith, ok.2, c.width-width.ensures, c.requires.bounds.1)) c.in_ok-show_occurrence.ensures.at c.has_fx.ensures in
+    let u = unit_is body here end (width f) c.show_occurrence.new.at c.has_fx.result c.requires.bounds.0 ok.0 ok.1 (omega (arith, ok.2, c.width_of-width.ensures, c.requires.bounds.1)) c.in_ok-show_occurrence.ensures.at c.has_fx.ensures in
     run_last f path body c.args.at here end (width f) old now c.show_occurrence.new.lister.out c.loop-end.count c.has_fx.result c.loop-end.invariant u refl c.in_ok-show_occurrence.ensures.lines (c.loop-end.count + 1) c.if-not-has_fx.true refl
 
 pub loop-end-preserved : goal.loop-end-preserved
@@ -46,5 +46,5 @@ loop-end-preserved c =
     let now = c.loop-end.lister.out in
     let end = c.in_ok-end.end in
     let ok = c.in_ok-end.ensures.ok in
-    let u = unit_is body here end (width f) c.show_occurrence.new.at c.has_fx.result c.requires.bounds.0 ok.0 ok.1 (omega (arith, ok.2, c.width-width.ensures, c.requires.bounds.1)) c.in_ok-show_occurrence.ensures.at c.has_fx.ensures in
+    let u = unit_is body here end (width f) c.show_occurrence.new.at c.has_fx.result c.requires.bounds.0 ok.0 ok.1 (omega (arith, ok.2, c.width_of-width.ensures, c.requires.bounds.1)) c.in_ok-show_occurrence.ensures.at c.has_fx.ensures in
     run_next f path body c.args.at here end (width f) old now c.show_occurrence.new.lister.out c.loop-end.count c.has_fx.result c.loop-end.invariant u refl c.in_ok-show_occurrence.ensures.lines c.if-not-has_fx.false

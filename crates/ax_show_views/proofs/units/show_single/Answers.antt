@@ -12,6 +12,6 @@ returns-clause-ok c =
     let v = fixed_value f (drop (8 * c.args.at) (bits c.args.body.now)) in
     record {
       value = v;
-      read = fixed_gets f c.args.body.now c.args.at c.in_ok-end.end v (omega (arith, c.in_ok-end.ensures.ok)) (omega (arith, c.in_ok-end.ensures.ok)) (omega (arith, c.in_ok-end.ensures.ok, c.width.ensures, c.requires.bounds.1)) refl;
+      read = fixed_gets f c.args.body.now c.args.at c.in_ok-end.end v (omega (arith, c.in_ok-end.ensures.ok)) (omega (arith, c.in_ok-end.ensures.ok)) (omega (arith, c.in_ok-end.ensures.ok, c.width_of.ensures, c.requires.bounds.1)) refl;
       put = c.in_ok-show_named.ensures.lines;
     }

@@ -199,7 +199,7 @@ impl Lister {
     }
 
     /// The line of spare bits under a path.
-    #[inline]
+    #[inline(never)]
     pub fn spare_under(&mut self, number: u64, path: &Path) -> Result<(), AllocError>
         ensures { OnOk result (Puts as_lines (one_onto (number_line (at path.now (codes "spare")) number)) self.old.out self.new.out) }
     {
@@ -210,7 +210,7 @@ impl Lister {
     }
 
     /// The line of an element of so many bits under a path and its name.
-    #[inline(always)]
+    #[inline(never)]
     pub fn element_under(
         &mut self,
         number: u64,

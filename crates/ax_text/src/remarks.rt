@@ -40,6 +40,7 @@ fn entry_with(entries: &TableTexts, number: u64) -> Option<&TableText>
 
 impl Lister {
     /// The remark of an element whose number has at most 64 bits, and the end of its line.
+    #[inline(always)]
     #[tactic(auto, using(crate::proofs::RemarkWays::end_ways))]
     pub(crate) fn remark_end(
         &mut self,

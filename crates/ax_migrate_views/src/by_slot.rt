@@ -5,8 +5,8 @@ ghost use Rattle.ax_migrate_views.specs.BySlot.{ArePlaces, KeepSlots, KnowsMoves
 ghost use Rattle.ax_tables.specs.Table.{IsTable, SlotLinksWithin};
 
 use crate::keeping::keeps;
-use ax_relation::{Move, Moves};
 use ax_fspec::Presence;
+use ax_relation::{Move, Moves};
 use ax_tables::{Codec, Node};
 use std::alloc::{AllocError, Global};
 

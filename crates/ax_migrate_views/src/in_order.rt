@@ -13,8 +13,8 @@ use crate::by_slot::SlotMoves;
 use crate::laying::{lay_field, lay_octets};
 use crate::marks::add_moved;
 use crate::values::{lay_entry, lay_whole};
-use ax_relation::{Move, Moves};
 use ax_fspec::Presence;
+use ax_relation::{Move, Moves};
 use ax_view::PlacedSlots;
 
 /// Adds the new slot of the entry of a slot, if it is there and moves.

@@ -8,10 +8,10 @@ ghost use Rattle.ax_view.specs.Placing.{IsPlaced};
 ghost use Rattle.ax_view.specs.Shown.{item_kind, item_value};
 
 use crate::keeping::moves_whole;
-use ax_relation::{Move, Moves};
 use crate::laying::{lay_field, lay_item, lay_octets};
 use crate::marks::moved_slots;
 use crate::whole::item_of;
+use ax_relation::{Move, Moves};
 use ax_tables::{Codec, Node};
 use ax_view::{FoundItem, ItemView, PlacedSlots, Places, place_subitems};
 

@@ -4,5 +4,6 @@ mod UnitLines
 mod CountedLines
 mod MarkedLines
 mod SlotLines
+mod Stops
 mod Numbering
 mod RecordLines

@@ -1,5 +1,5 @@
 //! The lines of fixed kinds, from their bits: elements, groups and their members.
-ghost use Rattle.std.specs.Prelude.{◌≡◌, ◌+◌, ◌*◌, ◌/◌, ◌%◌, ◌^◌, ◌<◌, ◌≤◌, length, drop, take, OnOk};
+ghost use Rattle.std.specs.Prelude.{◌≡◌, ◌+◌, ◌*◌, ◌/◌, ◌%◌, ◌^◌, ◌<◌, ◌≤◌, length, drop, take, IfErr, OnOk};
 ghost use Rattle.ax_bits.specs.Bits.{bits, number_of};
 ghost use Rattle.ax_model.specs.InBounds.{IsWidth, FixedInBounds, MembersInBounds};
 ghost use Rattle.ax_model.specs.Paths as Paths;
@@ -12,9 +12,11 @@ ghost use Rattle.ax_text.specs.Printing.{as_lines, Puts};
 ghost use Rattle.ax_text.specs.ShowText.{fixed_lines, member_lines, members_lines};
 ghost use Rattle.ax_text.specs.ValueText.{one_onto};
 ghost use Rattle.ax_show_views.specs.Shown.{element_line, member_width, member_value, MemberInBounds};
+ghost use Rattle.ax_show_views.specs.Stopped.{IsStopped};
 
 use crate::numbers::{number_at, wide_number_at};
 use crate::paths::set_named;
+use crate::stop::{FixedStop, pass};
 use ax_model::{Content, Fixed, Member, Members, Name};
 use ax_octets::Path;
 use ax_text::Lister;
@@ -22,7 +24,7 @@ use std::alloc::AllocError;
 
 /// The line of an element of that name and of so many bits, from bit `at` of the body on, which is moved after them.
 #[inline(always)]
-#[tactic(auto, using(crate::proofs::Members::elements))]
+#[tactic(auto, using(crate::proofs::Members::elements, crate::proofs::Stops::stops))]
 fn show_element(
     lister: &mut Lister,
     name: &Name,
@@ -31,20 +33,23 @@ fn show_element(
     body: &[u8],
     at: &mut u32,
     path: &Path,
-) -> Result<(), AllocError>
+) -> Result<(), FixedStop>
     requires width { IsWidth width }
     requires content { ContentListable width content.now }
-    requires within { at.old + width ≤ 8 * length body.now }
+    requires place { at.old ≤ 8 * length body.now }
     requires body { length body.now ≤ longest_body }
     ensures lines { OnOk result (Puts as_lines (one_onto (element_line width content.now (Paths.at path.now name.now) (number_of (take width (drop at.old (bits body.now)))))) lister.old.out lister.new.out) }
-    ensures at { at.new ≡ at.old + width }
+    ensures at { OnOk result (at.new ≡ at.old + width) }
+    ensures within { OnOk result (at.new ≤ 8 * length body.now) }
+    ensures stop { IfErr result (IsStopped body.now at.old width) }
 {
-    let here = *at;
-    *at += width;
+    let here = pass(body, at, width)?;
     if width > 56 {
-        return show_wide_element(lister, name, width, content, body, here, path);
+        show_wide_element(lister, name, width, content, body, here, path)?;
+        return Ok(());
     }
-    lister.element_under(number_at(body, here, width), width, content, path, name)
+    lister.element_under(number_at(body, here, width), width, content, path, name)?;
+    Ok(())
 }
 
 /// The line of an element of that name and of more bits than are read at once.
@@ -70,26 +75,28 @@ fn show_wide_element(
 }
 
 /// The lines of the value in the bits from bit `at` of the body on, which is moved after them.
-#[tactic(auto, using(crate::proofs::Members::elements))]
+#[tactic(auto, using(crate::proofs::Members::elements, crate::proofs::Stops::stops))]
 pub(crate) fn show_fixed(
     lister: &mut Lister,
     fixed: &Fixed,
     body: &[u8],
     at: &mut u32,
     path: &Path,
-) -> Result<(), AllocError>
+) -> Result<(), FixedStop>
     requires bounds { FixedInBounds (fixed_tree fixed.now) }
     requires listable { FixedListable (fixed_tree fixed.now) }
-    requires within { at.old + width (fixed_tree fixed.now) ≤ 8 * length body.now }
+    requires place { at.old ≤ 8 * length body.now }
     requires body { length body.now ≤ longest_body }
     ensures lines { OnOk result (Puts as_lines (fixed_lines (fixed_tree fixed.now) path.now (fixed_value (fixed_tree fixed.now) (drop at.old (bits body.now)))) lister.old.out lister.new.out) }
     ensures at { OnOk result (at.new ≡ at.old + width (fixed_tree fixed.now)) }
+    ensures within { OnOk result (at.new ≤ 8 * length body.now) }
+    ensures stop { IfErr result (IsStopped body.now at.old (width (fixed_tree fixed.now))) }
 {
     match fixed {
         Fixed::Element { width, content } => {
-            let here = *at;
-            *at += *width;
-            lister.element_at(wide_number_at(body, here, *width), *width, content, path)
+            let here = pass(body, at, *width)?;
+            lister.element_at(wide_number_at(body, here, *width), *width, content, path)?;
+            Ok(())
         }
         Fixed::Group(members) => show_members(lister, members, body, at, path),
     }
@@ -97,20 +104,22 @@ pub(crate) fn show_fixed(
 
 /// The lines of members, one after the other.
 #[cycle(show_members)]
-#[tactic(auto, using(crate::proofs::Members::members))]
+#[tactic(auto, using(crate::proofs::Members::members, crate::proofs::Stops::stops))]
 pub(crate) fn show_members(
     lister: &mut Lister,
     members: &Members,
     body: &[u8],
     at: &mut u32,
     path: &Path,
-) -> Result<(), AllocError>
+) -> Result<(), FixedStop>
     requires bounds { MembersInBounds (members_tree members.now) }
     requires listable { MembersListable (members_tree members.now) }
-    requires within { at.old + members_width (members_tree members.now) ≤ 8 * length body.now }
+    requires place { at.old ≤ 8 * length body.now }
     requires body { length body.now ≤ longest_body }
     ensures lines { OnOk result (Puts as_lines (members_lines (members_tree members.now) path.now (members_value (members_tree members.now) (drop at.old (bits body.now)))) lister.old.out lister.new.out) }
     ensures at { OnOk result (at.new ≡ at.old + members_width (members_tree members.now)) }
+    ensures within { OnOk result (at.new ≤ 8 * length body.now) }
+    ensures stop { IfErr result (IsStopped body.now at.old (members_width (members_tree members.now))) }
 {
     for member in members.as_slice() {
         show_member(lister, member, body, at, path)?;
@@ -119,30 +128,33 @@ pub(crate) fn show_members(
 }
 
 #[cycle(show_members)]
-#[tactic(auto, using(crate::proofs::Members::elements))]
+#[tactic(auto, using(crate::proofs::Members::elements, crate::proofs::Stops::stops))]
 fn show_member(
     lister: &mut Lister,
     member: &Member,
     body: &[u8],
     at: &mut u32,
     path: &Path,
-) -> Result<(), AllocError>
+) -> Result<(), FixedStop>
     requires bounds { MemberInBounds (member_tree member.now) }
     requires listable { MemberListable (member_tree member.now) }
-    requires within { at.old + member_width (member_tree member.now) ≤ 8 * length body.now }
+    requires place { at.old ≤ 8 * length body.now }
     requires body { length body.now ≤ longest_body }
     ensures lines { OnOk result (Puts as_lines (member_lines (member_tree member.now) path.now (member_value (member_tree member.now) (drop at.old (bits body.now)))) lister.old.out lister.new.out) }
     ensures at { OnOk result (at.new ≡ at.old + member_width (member_tree member.now)) }
+    ensures within { OnOk result (at.new ≤ 8 * length body.now) }
+    ensures stop { IfErr result (IsStopped body.now at.old (member_width (member_tree member.now))) }
 {
     match member {
         Member::Named { name, fixed } => show_named(lister, name, fixed, body, at, path),
         Member::Spare { width } => {
-            let here = *at;
-            *at += *width;
+            let here = pass(body, at, *width)?;
             if *width > 56 {
-                return lister.wide_spare_under(wide_number_at(body, here, *width), path);
+                lister.wide_spare_under(wide_number_at(body, here, *width), path)?;
+                return Ok(());
             }
-            lister.spare_under(number_at(body, here, *width), path)
+            lister.spare_under(number_at(body, here, *width), path)?;
+            Ok(())
         }
     }
 }
@@ -150,7 +162,7 @@ fn show_member(
 /// The lines of a member of that name. An element's path isn't made: its line is put together on the listing.
 #[inline(always)]
 #[cycle(show_members)]
-#[tactic(auto, using(crate::proofs::Members::elements))]
+#[tactic(auto, using(crate::proofs::Members::elements, crate::proofs::Stops::stops))]
 pub(crate) fn show_named(
     lister: &mut Lister,
     name: &Name,
@@ -158,13 +170,15 @@ pub(crate) fn show_named(
     body: &[u8],
     at: &mut u32,
     path: &Path,
-) -> Result<(), AllocError>
+) -> Result<(), FixedStop>
     requires bounds { FixedInBounds (fixed_tree fixed.now) }
     requires listable { FixedListable (fixed_tree fixed.now) }
-    requires within { at.old + width (fixed_tree fixed.now) ≤ 8 * length body.now }
+    requires place { at.old ≤ 8 * length body.now }
     requires body { length body.now ≤ longest_body }
     ensures lines { OnOk result (Puts as_lines (fixed_lines (fixed_tree fixed.now) (Paths.at path.now name.now) (fixed_value (fixed_tree fixed.now) (drop at.old (bits body.now)))) lister.old.out lister.new.out) }
     ensures at { OnOk result (at.new ≡ at.old + width (fixed_tree fixed.now)) }
+    ensures within { OnOk result (at.new ≤ 8 * length body.now) }
+    ensures stop { IfErr result (IsStopped body.now at.old (width (fixed_tree fixed.now))) }
 {
     match fixed {
         Fixed::Element { width, content } => {
@@ -177,6 +191,7 @@ pub(crate) fn show_named(
 /// The lines of the members of a group of that name.
 #[inline(never)]
 #[cycle(show_members)]
+#[tactic(auto, using(crate::proofs::Stops::stops))]
 fn show_group(
     lister: &mut Lister,
     name: &Name,
@@ -184,13 +199,15 @@ fn show_group(
     body: &[u8],
     at: &mut u32,
     path: &Path,
-) -> Result<(), AllocError>
+) -> Result<(), FixedStop>
     requires bounds { MembersInBounds (members_tree members.now) }
     requires listable { MembersListable (members_tree members.now) }
-    requires within { at.old + members_width (members_tree members.now) ≤ 8 * length body.now }
+    requires place { at.old ≤ 8 * length body.now }
     requires body { length body.now ≤ longest_body }
     ensures lines { OnOk result (Puts as_lines (members_lines (members_tree members.now) (Paths.at path.now name.now) (members_value (members_tree members.now) (drop at.old (bits body.now)))) lister.old.out lister.new.out) }
     ensures at { OnOk result (at.new ≡ at.old + members_width (members_tree members.now)) }
+    ensures within { OnOk result (at.new ≤ 8 * length body.now) }
+    ensures stop { IfErr result (IsStopped body.now at.old (members_width (members_tree members.now))) }
 {
     let mut inner = lister.blank_path();
     set_named(&mut inner, path, name)?;

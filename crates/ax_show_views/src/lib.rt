@@ -7,7 +7,7 @@ mod kinds;
 mod numbers;
 mod paths;
 mod records;
+mod stop;
 mod units;
-mod widths;
 
 pub use body::show_records;

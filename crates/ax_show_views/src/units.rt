@@ -15,16 +15,16 @@ ghost use Rattle.ax_text.specs.Printing.{as_lines, Puts};
 ghost use Rattle.ax_text.specs.ShowText.{fixed_lines, kind_lines, occurrence};
 ghost use Rattle.ax_values.specs.SlotReading.{HasFailed};
 ghost use Rattle.ax_show_views.specs.Shown.{Shows, ShowsCounted};
+ghost use Rattle.ax_show_views.specs.Stopped.{IsStopped};
 
 use crate::fixed::{show_fixed, show_members, show_named};
 use crate::numbers::has_fx;
 use crate::paths::set_numbered;
-use crate::widths::{width_of, width_of_members};
+use crate::stop::FixedStop;
 use ax_model::{BodyCause, BodyFault, Fixed, Name, Parts};
 use ax_octets::Path;
 use ax_text::Lister;
-use ax_values::{DecodeError, unit_end};
-use std::alloc::AllocError;
+use ax_values::DecodeError;
 
 /// The lines of a fixed kind that stands by itself. Ok is the octet after it.
 #[tactic(auto, using(ax_values::proofs::Continuing::errors, ax_reader::proofs::AtOctets::fixed_fails))]
@@ -42,10 +42,11 @@ pub(crate) fn show_alone(
     ensures ok { IfOk result (λ end. Shows (kind_lines (Tree.fixed (fixed_tree fixed.now)) path.now) (kind_read (Tree.fixed (fixed_tree fixed.now)) body.now at) body.now at end lister.old.out lister.new.out) }
     ensures err { IfErr result (λ e. HasFailed (kind_read (Tree.fixed (fixed_tree fixed.now)) body.now at) at e) }
 {
-    let end = unit_end(body, at, width_of(fixed) as u32)?;
     let mut bit = 8 * at;
-    show_fixed(lister, fixed, body, &mut bit, path)?;
-    Ok(end)
+    if let Err(stop) = show_fixed(lister, fixed, body, &mut bit, path) {
+        return Err(stop.of_unit(at));
+    }
+    Ok(bit / 8)
 }
 
 /// The lines of a fixed kind under a path and its name. Ok is the octet after it.
@@ -65,10 +66,11 @@ pub(crate) fn show_single(
     ensures ok { IfOk result (λ end. Shows (kind_lines (Tree.fixed (fixed_tree fixed.now)) (Paths.at path.now name.now)) (kind_read (Tree.fixed (fixed_tree fixed.now)) body.now at) body.now at end lister.old.out lister.new.out) }
     ensures err { IfErr result (λ e. HasFailed (kind_read (Tree.fixed (fixed_tree fixed.now)) body.now at) at e) }
 {
-    let end = unit_end(body, at, width_of(fixed) as u32)?;
     let mut bit = 8 * at;
-    show_named(lister, name, fixed, body, &mut bit, path)?;
-    Ok(end)
+    if let Err(stop) = show_named(lister, name, fixed, body, &mut bit, path) {
+        return Err(stop.of_unit(at));
+    }
+    Ok(bit / 8)
 }
 
 /// The lines of the parts that are present. Ok is the octet after them, and their number.
@@ -90,10 +92,12 @@ fn show_parts(
     let mut here = at;
     let mut count = 0;
     for part in parts.as_slice() {
-        let end = unit_end(body, here, width_of_members(&part.members) as u32 + 1)?;
         let mut bit = 8 * here;
-        show_members(lister, &part.members, body, &mut bit, path)?;
+        if let Err(stop) = show_members(lister, &part.members, body, &mut bit, path) {
+            return Err(stop.of_unit(here));
+        }
         count += 1;
+        let end = bit / 8 + 1;
         if !has_fx(body, bit) {
             return Ok((end, count));
         }
@@ -129,7 +133,7 @@ pub(crate) fn show_extended(
 }
 
 /// The lines of an occurrence of that number.
-#[tactic(auto, using(crate::proofs::UnitLines::occurrences_shown))]
+#[tactic(auto, using(crate::proofs::UnitLines::occurrences_shown, crate::proofs::Stops::stops))]
 fn show_occurrence(
     lister: &mut Lister,
     fixed: &Fixed,
@@ -137,13 +141,15 @@ fn show_occurrence(
     body: &[u8],
     at: &mut u32,
     path: &Path,
-) -> Result<(), AllocError>
+) -> Result<(), FixedStop>
     requires bounds { FixedInBounds (fixed_tree fixed.now) }
     requires listable { FixedListable (fixed_tree fixed.now) }
-    requires within { at.old + width (fixed_tree fixed.now) ≤ 8 * length body.now }
+    requires place { at.old ≤ 8 * length body.now }
     requires body { length body.now ≤ longest_body }
     ensures lines { OnOk result (Puts as_lines (fixed_lines (fixed_tree fixed.now) (occurrence path.now number) (fixed_value (fixed_tree fixed.now) (drop at.old (bits body.now)))) lister.old.out lister.new.out) }
     ensures at { OnOk result (at.new ≡ at.old + width (fixed_tree fixed.now)) }
+    ensures within { OnOk result (at.new ≤ 8 * length body.now) }
+    ensures stop { IfErr result (IsStopped body.now at.old (width (fixed_tree fixed.now))) }
 {
     let mut inner = lister.blank_path();
     set_numbered(&mut inner, path, number)?;
@@ -167,14 +173,15 @@ fn show_run(
     ensures ok { IfOk result (λ r. ShowsCounted (Tree.by_fx (fixed_tree fixed.now)) path.now (codes "occurrences") body.now at r.0 lister.old.out lister.new.out r.1) }
     ensures err { IfErr result (λ e. HasFailed (kind_read (Tree.by_fx (fixed_tree fixed.now)) body.now at) at e) }
 {
-    let width = width_of(fixed) as u32;
     let mut here = at;
     let mut count = 0;
     loop {
-        let end = unit_end(body, here, width + 1)?;
         let mut bit = 8 * here;
-        show_occurrence(lister, fixed, count, body, &mut bit, path)?;
+        if let Err(stop) = show_occurrence(lister, fixed, count, body, &mut bit, path) {
+            return Err(stop.of_unit(here));
+        }
         count += 1;
+        let end = bit / 8 + 1;
         if !has_fx(body, bit) {
             return Ok((end, count));
         }

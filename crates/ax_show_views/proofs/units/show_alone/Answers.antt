@@ -1,6 +1,6 @@
 use Rattle.std.proofs.Common.{arith, refl}
 use Rattle.ax_bits.specs.Bits.{bits}
-use Rattle.std.proofs.Common.{drop, ◌*◌}
+use Rattle.std.proofs.Common.{drop, ◌*◌, ◌/◌}
 use Rattle.ax_model.specs.Plain.{fixed_tree}
 use Rattle.ax_model.specs.Reader.{fixed_value}
 use Rattle.ax_reader.proofs.AtOctets.{fixed_gets}
@@ -12,6 +12,6 @@ returns-clause-ok c =
     let v = fixed_value f (drop (8 * c.args.at) (bits c.args.body.now)) in
     record {
       value = v;
-      read = fixed_gets f c.args.body.now c.args.at c.in_ok-end.end v (omega (arith, c.in_ok-end.ensures.ok)) (omega (arith, c.in_ok-end.ensures.ok)) (omega (arith, c.in_ok-end.ensures.ok, c.width_of.ensures, c.requires.bounds.1)) refl;
-      put = c.in_ok-show_fixed.ensures.lines;
+      read = fixed_gets f c.args.body.now c.args.at (c.show_fixed.new.at / 8) v (omega (arith, c.in_default.ensures.at)) (omega (arith, c.in_default.ensures.within)) (omega (arith, c.in_default.ensures.at, c.requires.bounds.0)) refl;
+      put = c.in_default.ensures.lines;
     }

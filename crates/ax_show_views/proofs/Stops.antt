@@ -1,0 +1,23 @@
+-- Why a fixed kind isn't shown, passed on.
+use Rattle.std.proofs.Common.{◌≡◌, ℕ, ◌+◌, ◌-◌, ◌*◌, ◌/◌, ◌%◌, ◌≤◌, List, length, refl, subst, sym, arith}
+use Rattle.ax_model.specs.Reader.{Read}
+use Rattle.ax_model.specs.declared.fault.BodyCause.TheVariants.{RunsOut}
+use Rattle.ax_model.specs.declared.fault.BodyFault.{BodyFault}
+use Rattle.ax_reader.specs.Reading.{FailsAt}
+use Rattle.ax_show_views.specs.Stopped.{IsStopped, IsUnitStop}
+use Rattle.ax_show_views.specs.declared.stop.FixedStop.{FixedStop}
+use Rattle.ax_show_views.specs.declared.stop.FixedStop.TheVariants as Stop
+use Rattle.ax_values.proofs.Continuing.{failed_by_fault, failed_by_want}
+use Rattle.ax_values.specs.SlotReading.{HasFailed}
+use Rattle.ax_values.specs.declared.error.DecodeError.{DecodeError}
+
+pub stopped_by_want : (body : List ℕ) (at w : ℕ) (stop : FixedStop) → stop ≡ Stop.OutOfMemory → IsStopped body at w stop
+stopped_by_want body at w stop e = subst (IsStopped body at w) (sym e) tt
+
+pub ruleset stops = (stopped_by_want)
+
+-- what a unit's stop makes of what was to be read
+pub unit_stopped : {A : Type 0} (found : Read A) (body : List ℕ) (at here w : ℕ) (stop : FixedStop) (e : DecodeError) → IsStopped body (8 * here) w stop → IsUnitStop stop here e
+    → ((fault : BodyFault) → 8 * (length body - here) ≤ w → fault.cause ≡ RunsOut → fault.bit ≡ 8 * here → FailsAt found at fault) → HasFailed found at e
+unit_stopped found body at here w Stop.RunsOut e s u fails = failed_by_fault found at e (record { cause = RunsOut; bit = 8 * here }) u (fails (record { cause = RunsOut; bit = 8 * here }) (omega (arith, s)) refl refl)
+unit_stopped found body at here w Stop.OutOfMemory e s u fails = failed_by_want found at e u

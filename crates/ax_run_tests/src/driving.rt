@@ -45,16 +45,16 @@ fn an_input_without_end_is_too_long(rt: HostRuntime) -> Result<(), Fail> {
 }
 
 /// How the loop ends that migrates an input by a relation of two editions, and what it has written then.
-fn migrated(
+fn migrated<'x>(
     alloc: Global,
-    editions: (&Accepted, &Accepted),
-    relation: &Relation,
+    old: &'x Accepted,
+    new: &'x Accepted,
+    relation: &'x Relation,
     input: &str,
     report: &mut MemSink,
 ) -> Result<(DriveEnd, MemSink), Fail>
-    requires { Relates editions.0.now editions.1.now relation.now }
+    requires { Relates old.now new.now relation.now }
 {
-    let (old, new) = editions;
     let codec = compile(alloc, old)?;
     let migrator = Migrator::new(alloc, old.spec(), new.spec(), relation, &codec)?;
     let mut work = Work::new(alloc, Job::Migrate(&migrator), 1_000)?;
@@ -91,7 +91,7 @@ fn a_report_that_fails_ends_a_migration(rt: HostRuntime) -> Result<(), Fail> {
     let input = "30 00 08 A0 19 0C A1 00 30 00 08 A0 19 0C A1 00";
     for &(call, end, written, told) in &REPORTS {
         let mut report = MemSink::new(alloc, 1_000, 1_000, vec![in alloc; call]?)?;
-        let (ended, out) = migrated(alloc, (&old, &new), &relation, input, &mut report)?;
+        let (ended, out) = migrated(alloc, &old, &new, &relation, input, &mut report)?;
         assert_eq!(rt; ended, end);
         assert_eq!(rt; out.written(), octets(alloc, written)?.as_slice());
         assert_eq!(rt; report.written(), told.as_bytes());

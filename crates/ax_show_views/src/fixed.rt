@@ -102,7 +102,8 @@ pub(crate) fn show_fixed(
     }
 }
 
-/// The lines of members, one after the other.
+/// The lines of members, one after the other. The loop stands here alone, so that the members' lines are put within it.
+#[inline(never)]
 #[cycle(show_members)]
 #[tactic(auto, using(crate::proofs::Members::members, crate::proofs::Stops::stops))]
 pub(crate) fn show_members(

@@ -66,7 +66,9 @@ fn migrated<'x>(
 
 // The call of the report that fails, and how the loop ends, what it wrote, and what it told. Each of the two blocks loses its
 // item 020, and a block whose line isn't written isn't written either.
-const REPORTS: [(u64, DriveEnd, &str, &str); 3] = [
+type Row = (u64, DriveEnd, &'static str, &'static str);
+
+const REPORTS: [Row; 3] = [
     (0, DriveEnd::ReportFault, "", ""),
     (
         1,
@@ -82,19 +84,47 @@ const REPORTS: [(u64, DriveEnd, &str, &str); 3] = [
     ),
 ];
 
+const LOSING: &str = "30 00 08 A0 19 0C A1 00 30 00 08 A0 19 0C A1 00";
+
+fn ends_as<'x>(
+    rt: &impl Abort,
+    alloc: Global,
+    old: &'x Accepted,
+    new: &'x Accepted,
+    relation: &'x Relation,
+    row: &Row,
+) -> Result<(), Fail>
+    requires { Relates old.now new.now relation.now }
+{
+    let (call, end, written, told) = *row;
+    let mut report = MemSink::new(alloc, 1_000, 1_000, vec![in alloc; call]?)?;
+    let (ended, out) = migrated(alloc, old, new, relation, LOSING, &mut report)?;
+    assert_eq!(rt; ended, end);
+    assert_eq!(rt; out.written(), octets(alloc, written)?.as_slice());
+    assert_eq!(rt; report.written(), told.as_bytes());
+    Ok(())
+}
+
+fn each_ends_as<'x>(
+    rt: &impl Abort,
+    alloc: Global,
+    old: &'x Accepted,
+    new: &'x Accepted,
+    relation: &'x Relation,
+) -> Result<(), Fail>
+    requires { Relates old.now new.now relation.now }
+{
+    for row in &REPORTS {
+        ends_as(rt, alloc, old, new, relation, row)?;
+    }
+    Ok(())
+}
+
 #[test]
 fn a_report_that_fails_ends_a_migration(rt: HostRuntime) -> Result<(), Fail> {
     let alloc = rt.alloc();
     let old = accepted(&rt, alloc, CAT048_P1)?;
     let new = accepted(&rt, alloc, CAT048_P2)?;
     let relation = relate(alloc, &old, &new)?;
-    let input = "30 00 08 A0 19 0C A1 00 30 00 08 A0 19 0C A1 00";
-    for &(call, end, written, told) in &REPORTS {
-        let mut report = MemSink::new(alloc, 1_000, 1_000, vec![in alloc; call]?)?;
-        let (ended, out) = migrated(alloc, &old, &new, &relation, input, &mut report)?;
-        assert_eq!(rt; ended, end);
-        assert_eq!(rt; out.written(), octets(alloc, written)?.as_slice());
-        assert_eq!(rt; report.written(), told.as_bytes());
-    }
-    Ok(())
+    each_ends_as(&rt, alloc, &old, &new, &relation)
 }

@@ -40,7 +40,7 @@ impl Path {
         }
     }
 
-    /// Makes it the path of those octets, which are few.
+    /// Makes it the path of those octets, of which there are at most 64.
     pub fn set(&mut self, octets: &[u8])
         requires { length octets.now ≤ 64 }
         ensures { self.new ≡ octets.now }

@@ -34,7 +34,7 @@ pub(crate) fn common_divisor(numerator: u128, denominator: u64) -> u64
 }
 
 /// Where the denominator is a power of two, so is the greatest number that divides both: 2 to the power of the result. None
-/// says that it is no power of two.
+/// comes for any other denominator, and says nothing of what divides both.
 #[inline(always)]
 pub(crate) fn shared_twos(numerator: u64, denominator: u64) -> Option<u32>
     requires { 0 < denominator }

@@ -7,6 +7,10 @@ pub record Placed (old new : List ℕ) (at : ℕ) (xs : List ℕ) (end : ℕ) : 
   pub moved : end ≡ at + length xs
   pub len : length new ≡ length old
 
--- the three last digits of a number below 1000
+-- the two digits of a number below 100
+abbrev pub two_last : ℕ → List ℕ
+two_last n = (48 + n / 10) ∷ (48 + n % 10) ∷ []
+
+-- the three digits of a number below 1000
 abbrev pub three_last : ℕ → List ℕ
-three_last n = (48 + n / 100) ∷ (48 + n / 10 % 10) ∷ (48 + n % 10) ∷ []
+three_last n = (48 + n / 100) ∷ two_last (n % 100)

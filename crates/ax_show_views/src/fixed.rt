@@ -1,5 +1,5 @@
 //! The lines of fixed kinds, from their bits: elements, groups and their members.
-ghost use Rattle.std.specs.Prelude.{◌≡◌, ◌+◌, ◌*◌, ◌/◌, ◌%◌, ◌^◌, ◌<◌, ◌≤◌, length, drop, take, IfErr, OnOk};
+ghost use Rattle.std.specs.Prelude.{◌≡◌, ◌+◌, ◌*◌, ◌/◌, ◌%◌, ◌^◌, ◌<◌, ◌≤◌, length, drop, take, codes, IfErr, OnOk};
 ghost use Rattle.ax_bits.specs.Bits.{bits, number_of};
 ghost use Rattle.ax_model.specs.InBounds.{IsWidth, FixedInBounds, MembersInBounds};
 ghost use Rattle.ax_model.specs.Paths as Paths;
@@ -9,7 +9,7 @@ ghost use Rattle.ax_model.specs.Sizes.{longest_body};
 ghost use Rattle.ax_model.specs.Widths.{width, members_width};
 ghost use Rattle.ax_text.specs.Listable.{ContentListable, FixedListable, MemberListable, MembersListable};
 ghost use Rattle.ax_text.specs.Printing.{as_lines, Puts};
-ghost use Rattle.ax_text.specs.ShowText.{fixed_lines, member_lines, members_lines};
+ghost use Rattle.ax_text.specs.ShowText.{fixed_lines, member_lines, members_lines, number_line};
 ghost use Rattle.ax_text.specs.ValueText.{one_onto};
 ghost use Rattle.ax_show_views.specs.Shown.{element_line, member_width, member_value, MemberInBounds};
 ghost use Rattle.ax_show_views.specs.Stopped.{IsStopped};
@@ -72,6 +72,23 @@ fn show_wide_element(
     let mut inner = lister.blank_path();
     set_named(&mut inner, path, name)?;
     lister.element_at(wide_number_at(body, at, width), width, content, &inner)
+}
+
+/// The line of so many spare bits, more than are read at once.
+#[cold]
+#[inline(never)]
+fn show_wide_spare(
+    lister: &mut Lister,
+    width: u32,
+    body: &[u8],
+    at: u32,
+    path: &Path,
+) -> Result<(), AllocError>
+    requires width { IsWidth width }
+    requires within { at + width ≤ 8 * length body.now }
+    ensures lines { OnOk result (Puts as_lines (one_onto (number_line (Paths.at path.now (codes "spare")) (number_of (take width (drop at (bits body.now)))))) lister.old.out lister.new.out) }
+{
+    lister.wide_spare_under(wide_number_at(body, at, width), path)
 }
 
 /// The lines of the value in the bits from bit `at` of the body on, which is moved after them.
@@ -151,7 +168,7 @@ fn show_member(
         Member::Spare { width } => {
             let here = pass(body, at, *width)?;
             if *width > 56 {
-                lister.wide_spare_under(wide_number_at(body, here, *width), path)?;
+                show_wide_spare(lister, *width, body, here, path)?;
                 return Ok(());
             }
             lister.spare_under(number_at(body, here, *width), path)?;

@@ -13,6 +13,7 @@ pub mod Nesting
 pub mod Pieces
 pub mod Divisors
 pub mod Twos
+mod SixBits
 pub mod RemarkWays
 pub mod ListedFixed
 pub mod ListedKinds

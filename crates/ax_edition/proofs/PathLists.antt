@@ -17,14 +17,18 @@ use Rattle.ax_model.specs.declared.spec.Item.{Item}
 abbrev path_at : List ℕ → Place → Option Place → RelationPath
 path_at text old new = record { text = text; old = old; new = new }
 
-pub compound_paths : (text numbers : List ℕ) (k : KindTree) (ss : SlotsTree) (target : Option (List ℕ × KindTree)) (level : Level) (path : RelationPath) (before pushed made : List RelationPath)
-    → k ≡ compound ss → LeadsBelow target level → path.text ≡ text → path.old ≡ place_from numbers → path.new ≡ shared_place k target → pushed ≡ before ++ path ∷ [] → made ≡ pushed ++ related_slots text numbers 1 ss (lead level)
-    → made ≡ before ++ related_kind text numbers k target
-compound_paths text numbers k ss target level path before pushed made is h t o n p m =
-    let rules : lead level ≡ (λ name. option_and_then (target_below name) target) = λ i name. h.leads name i in
-    m ∙ ap (λ l. l ++ related_slots text numbers 1 ss (lead level)) p ∙ append_assoc before (path ∷ []) (related_slots text numbers 1 ss (lead level))
-    ∙ (λ i. before ++ path_at (t i) (o i) (n i) ∷ related_slots text numbers 1 ss (rules i))
-    ∙ (λ i. before ++ path_at text (place_from numbers) (shared_place (is i) target) ∷ related_slots text numbers 1 ss (λ name. option_and_then (target_below name) target))
+pub slots_below : (text numbers : List ℕ) (ss : SlotsTree) (target : Option (List ℕ × KindTree)) (level : Level) (before made : List RelationPath) → LeadsBelow target level → made ≡ before ++ related_slots text numbers 1 ss (lead level)
+    → made ≡ before ++ related_slots text numbers 1 ss (λ name. option_and_then (target_below name) target)
+slots_below text numbers ss target level before made h m =
+    let rules : lead level ≡ (λ name. option_and_then (target_below name) target) = λ i name. h.leads name i in m ∙ (λ i. before ++ related_slots text numbers 1 ss (rules i))
+
+pub compound_paths : (text numbers : List ℕ) (k : KindTree) (ss : SlotsTree) (target : Option (List ℕ × KindTree)) (path : RelationPath) (before pushed made : List RelationPath)
+    → k ≡ compound ss → path.text ≡ text → path.old ≡ place_from numbers → path.new ≡ shared_place k target → pushed ≡ before ++ path ∷ []
+    → made ≡ pushed ++ related_slots text numbers 1 ss (λ name. option_and_then (target_below name) target) → made ≡ before ++ related_kind text numbers k target
+compound_paths text numbers k ss target path before pushed made is t o n p m =
+    let later = related_slots text numbers 1 ss (λ name. option_and_then (target_below name) target) in
+    m ∙ ap (λ l. l ++ later) p ∙ append_assoc before (path ∷ []) later ∙ (λ i. before ++ path_at (t i) (o i) (n i) ∷ later)
+    ∙ (λ i. before ++ path_at text (place_from numbers) (shared_place (is i) target) ∷ later)
     ∙ ap (λ x. before ++ related_kind text numbers x target) (sym is)
 
 pub leaf_path : (text numbers : List ℕ) (k : KindTree) (target : Option (List ℕ × KindTree)) (path : RelationPath) (before made : List RelationPath)

@@ -1,9 +1,9 @@
 //! The named paths of the old edition, with their places in both.
-ghost use Rattle.std.specs.Prelude.{◌≡◌, ◌++◌, ◌∷◌, [], Some, IfOk, OnOk, option_map};
+ghost use Rattle.std.specs.Prelude.{◌≡◌, ◌++◌, ◌∷◌, [], Some, IfOk, OnOk, option_map, option_and_then};
 ghost use Rattle.ax_model.specs.Placed.{place_from};
 ghost use Rattle.ax_model.specs.Plain.{kind_tree, slot_tree, slots_tree};
 ghost use Rattle.ax_model.specs.Tree.{compound};
-ghost use Rattle.ax_edition.specs.Relating.{target_tree, lead, LeadsBelow, shared_place, related_kind, related_slot, related_slots};
+ghost use Rattle.ax_edition.specs.Relating.{target_tree, target_below, lead, LeadsBelow, shared_place, related_kind, related_slot, related_slots};
 ghost use Rattle.ax_edition.specs.UapItems.{item_slot, items_tree};
 
 use crate::index::{Index, index_below, index_items};
@@ -139,6 +139,25 @@ fn push_path(paths: &mut RelationPaths, path: RelationPath) -> Result<(), AllocE
     paths.push(path)
 }
 
+/// The path of a kind.
+fn path_for(
+    alloc: Global,
+    text: &Text,
+    numbers: &Steps,
+    kind: &Kind,
+    target: &Option<Target<'_>>,
+) -> Result<RelationPath, AllocError>
+    ensures text { IfOk result (λ path. path.text ≡ text.now) }
+    ensures old { IfOk result (λ path. path.old ≡ place_from numbers.now) }
+    ensures new { IfOk result (λ path. path.new ≡ shared_place (kind_tree kind.now) (option_map target_tree target.now)) }
+{
+    Ok(RelationPath {
+        text: text.copy(alloc)?,
+        old: place_of(alloc, numbers)?,
+        new: place_where_shared(alloc, kind, target)?,
+    })
+}
+
 /// Appends the path of a kind, and those below.
 #[cycle(relate)]
 #[tactic(auto, using(crate::proofs::PathLists::kinds))]
@@ -152,21 +171,32 @@ fn relate_kind(
 ) -> Result<(), AllocError>
     ensures { OnOk result (paths.new ≡ paths.old ++ related_kind text.now numbers.now (kind_tree kind.now) (option_map target_tree target.now)) }
 {
-    let new = place_where_shared(alloc, kind, target)?;
-    let path = RelationPath {
-        text: text.copy(alloc)?,
-        old: place_of(alloc, numbers)?,
-        new,
-    };
+    let path = path_for(alloc, text, numbers, kind, target)?;
     push_path(paths, path)?;
     match kind {
         Kind::Compound(slots) => {
-            let level = Level::below(alloc, target)?;
-            relate_slots(alloc, paths, text, numbers, slots, &level)?;
+            relate_below(alloc, paths, text, numbers, slots, target)?;
         }
         _ => {}
     }
     Ok(())
+}
+
+/// Appends the paths of the slots of a compound, below a target.
+#[cycle(relate)]
+#[tactic(auto, using(crate::proofs::PathLists::slots_below))]
+fn relate_below(
+    alloc: Global,
+    paths: &mut RelationPaths,
+    text: &Text,
+    numbers: &Steps,
+    slots: &Slots,
+    target: &Option<Target<'_>>,
+) -> Result<(), AllocError>
+    ensures { OnOk result (paths.new ≡ paths.old ++ related_slots text.now numbers.now 1 (slots_tree slots.now) (λ name. option_and_then (target_below name) (option_map target_tree target.now))) }
+{
+    let level = Level::below(alloc, target)?;
+    relate_slots(alloc, paths, text, numbers, slots, &level)
 }
 
 /// Appends the paths of a slot of that number.

@@ -1,16 +1,25 @@
-ghost use Rattle.std.specs.Prelude.{◌≡◌, IfOk, OnOk, IfErr};
+ghost use Rattle.std.specs.Prelude.{◌≡◌, [], Some, IfOk, OnOk, IfErr, map, option_map, option_and_then};
+ghost use Rattle.ax_model.specs.Naming.{slot_named};
 ghost use Rattle.ax_model.specs.OfCode.{HasNoFlaw};
+ghost use Rattle.ax_model.specs.Paths.{three_digits};
+ghost use Rattle.ax_model.specs.Tree.{compound};
+ghost use Rattle.ax_edition.specs.Known.{known_slots};
+ghost use Rattle.ax_edition.specs.Relating.{target_below, related_slots};
+ghost use Rattle.ax_edition.specs.UapItems.{items_tree};
 ghost use Rattle.ax_edition.specs.Unrelated.{WhyUnrelated};
+ghost use Rattle.ax_relation.specs.Known.{Knows};
+ghost use Rattle.ax_relation.specs.Moves.{moves_of};
+ghost use Rattle.ax_relation.specs.PlainMoves.{move_tree};
 ghost use Rattle.ax_relation.specs.Relates.{Relates};
 
 use crate::index::index_items;
 use crate::known::know_items;
 use crate::moves::move_items;
 use crate::relating::{Level, relate_items};
-use crate::uap_items::uap_items;
+use crate::uap_items::{UapItems, uap_items};
 use ax_check::Accepted;
 use ax_model::{Spec, of_category};
-use ax_relation::Relation;
+use ax_relation::{Known, Moves, Relation, RelationPaths};
 use std::alloc::{AllocError, Global};
 use thiserror::Error;
 
@@ -24,6 +33,39 @@ pub enum RelateError {
     OutOfMemory,
 }
 
+/// The paths of the old items of a category, with their places in both editions.
+#[tactic(auto, using(crate::proofs::Relations::paths_by_rule))]
+fn paths_between(
+    alloc: Global,
+    category: u8,
+    old: &UapItems<'_>,
+    new: &UapItems<'_>,
+) -> Result<RelationPaths, AllocError>
+    ensures { IfOk result (λ made. made ≡ related_slots (three_digits category) [] 1 (items_tree old.now) (λ name. option_and_then (target_below name) (Some ([], compound (items_tree new.now))))) }
+{
+    let text = of_category(alloc, category)?;
+    let level = Level::of_record(alloc, new)?;
+    relate_items(alloc, &text, old, &level)
+}
+
+/// The paths of the old items, each with whether the new ones share it.
+#[tactic(auto, using(crate::proofs::Relations::known_by_rule))]
+fn known_between(alloc: Global, old: &UapItems<'_>, new: &UapItems<'_>) -> Result<Known, AllocError>
+    ensures { IfOk result (λ known. Knows (known_slots [] (items_tree old.now) (λ name. option_map (λ s. s.1) (slot_named 1 name (items_tree new.now)))) known) }
+{
+    let index = index_items(alloc, new)?;
+    know_items(alloc, old, &index)
+}
+
+/// What moves from the old items to the new ones.
+#[tactic(auto, using(crate::proofs::Relations::moves_by_rule))]
+fn moves_between(alloc: Global, old: &UapItems<'_>, new: &UapItems<'_>) -> Result<Moves, AllocError>
+    ensures { IfOk result (λ made. map move_tree made ≡ moves_of 1 (items_tree new.now) (λ name. slot_named 1 name (items_tree old.now))) }
+{
+    let index = index_items(alloc, old)?;
+    move_items(alloc, new, &index)
+}
+
 /// The relation of two specifications without flaw of one category.
 fn relation_of(alloc: Global, old: &Spec, new: &Spec) -> Result<Relation, AllocError>
     requires old_no_flaw { HasNoFlaw old.now }
@@ -33,13 +75,9 @@ fn relation_of(alloc: Global, old: &Spec, new: &Spec) -> Result<Relation, AllocE
 {
     let old_items = uap_items(alloc, old)?;
     let new_items = uap_items(alloc, new)?;
-    let text = of_category(alloc, old.category)?;
-    let level = Level::of_record(alloc, &new_items)?;
-    let paths = relate_items(alloc, &text, &old_items, &level)?;
-    let new_index = index_items(alloc, &new_items)?;
-    let known = know_items(alloc, &old_items, &new_index)?;
-    let old_index = index_items(alloc, &old_items)?;
-    let moves = move_items(alloc, &new_items, &old_index)?;
+    let paths = paths_between(alloc, old.category, &old_items, &new_items)?;
+    let moves = moves_between(alloc, &old_items, &new_items)?;
+    let known = known_between(alloc, &old_items, &new_items)?;
     Ok(Relation::new(paths, known, moves))
 }
 

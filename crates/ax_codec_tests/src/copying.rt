@@ -1,17 +1,17 @@
 //! Specifications made of their parts, and copies of specifications and of blocks.
+ghost use Rattle.ax_model.specs.OfCode.{HasNoFlaw};
 
-use crate::fixtures::{accepted, decoded};
+use crate::fixtures::{accepted, octets_of, raw_of, same};
 use crate::shown::shown_block;
 use crate::shown_specs::shown_spec;
-use ax_check::Accepted;
 use ax_model::{
     Block, Content, Fixed, Item, Items, Kind, Member, Members, Name, Part, Parts, Slot, Slots,
     Spec, Text, UapSlot, UapSlots,
 };
 use ax_samples::{FILE_H1, FILE_K, FILE_N};
-use std::alloc::{AllocError, Global};
+use ax_values::decode_block;
+use std::alloc::Global;
 use std::process::Abort;
-use std::test::Fail;
 
 const COPIES: [(&str, &str, &str); 3] = [
     (
@@ -24,67 +24,53 @@ const COPIES: [(&str, &str, &str); 3] = [
 ];
 
 /// Asserts that a specification is shown as that text.
-fn spec_is_shown_as(rt: &impl Abort, alloc: Global, spec: &Spec, want: &str) -> Result<(), Fail> {
-    let got = shown_spec(alloc, spec)?;
-    assert_eq!(rt; got.as_str(), want);
-    Ok(())
-}
-
-fn spec_copy_is_shown_as(
-    rt: &impl Abort,
-    alloc: Global,
-    spec: &Spec,
-    want: &str,
-) -> Result<(), Fail> {
-    let copy = spec.copy(alloc)?;
-    spec_is_shown_as(rt, alloc, &copy, want)
+fn spec_is(rt: &impl Abort, alloc: Global, spec: &Spec, want: &str) {
+    let got = shown_spec(rt, alloc, spec);
+    same(rt, got.as_str(), want, "a specification");
 }
 
 /// Asserts that a block is shown as that text.
-fn block_is_shown_as(
-    rt: &impl Abort,
-    alloc: Global,
-    block: &Block,
-    want: &str,
-) -> Result<(), Fail> {
-    let got = shown_block(alloc, block)?;
-    assert_eq!(rt; got.as_str(), want);
-    Ok(())
+fn block_is(rt: &impl Abort, alloc: Global, block: &Block, want: &str) {
+    let got = shown_block(rt, alloc, block);
+    same(rt, got.as_str(), want, "a block or its copy");
 }
 
-fn block_copy_is_shown_as(
-    rt: &impl Abort,
-    alloc: Global,
-    block: &Block,
-    want: &str,
-) -> Result<(), Fail> {
-    let copy = block.copy(alloc)?;
-    block_is_shown_as(rt, alloc, &copy, want)
+/// The block that octets in hexadecimal are read as.
+fn decoded(rt: &impl Abort, alloc: Global, spec: &Spec, block: &str) -> Block
+    requires { HasNoFlaw spec.now }
+{
+    let octets = octets_of(rt, alloc, block);
+    let raw = raw_of(rt, &octets, block);
+    decode_block(alloc, spec, &raw).expect(rt, "a block")
 }
 
-/// Asserts that a specification without flaw and a block under it are shown as these texts, and so are their copies.
-fn copies_are_shown_as(
-    rt: &impl Abort,
-    alloc: Global,
-    file: &Accepted,
-    text: &str,
-    block: &str,
-    want: &str,
-) -> Result<(), Fail> {
-    spec_copy_is_shown_as(rt, alloc, file.spec(), text)?;
-    let block = decoded(rt, alloc, file.spec(), block)?;
-    block_is_shown_as(rt, alloc, &block, want)?;
-    block_copy_is_shown_as(rt, alloc, &block, want)
+/// Asserts that the copy of a specification is shown as the text of its file.
+fn spec_copy_is(rt: &impl Abort, alloc: Global, spec: &Spec, text: &str) {
+    let copy = spec.copy(alloc).expect(rt, "memory");
+    spec_is(rt, alloc, &copy, text);
+}
+
+/// Asserts that a block is shown as that text, and so is its copy.
+fn block_and_copy_are(rt: &impl Abort, alloc: Global, block: &Block, want: &str) {
+    block_is(rt, alloc, block, want);
+    let copy = block.copy(alloc).expect(rt, "memory");
+    block_is(rt, alloc, &copy, want);
+}
+
+/// Asserts that the copies of a specification without flaw and of a block under it are shown as these texts, and so is the
+/// block.
+fn copies_are(rt: &impl Abort, alloc: Global, text: &str, block: &str, want: &str) {
+    let file = accepted(rt, alloc, text);
+    spec_copy_is(rt, alloc, file.spec(), text);
+    let block = decoded(rt, alloc, file.spec(), block);
+    block_and_copy_are(rt, alloc, &block, want);
 }
 
 #[test]
-fn copies_are_shown_as_their_originals(rt: HostRuntime) -> Result<(), Fail> {
-    let alloc = rt.alloc();
+fn copies_are_shown_as_their_originals(rt: HostRuntime) {
     for &(text, block, want) in &COPIES {
-        let file = accepted(&rt, alloc, text)?;
-        copies_are_shown_as(&rt, alloc, &file, text, block, want)?;
+        copies_are(&rt, rt.alloc(), text, block, want);
     }
-    Ok(())
 }
 
 fn name(rt: &impl Abort, text: &str) -> Name {
@@ -112,82 +98,84 @@ fn sub(rt: &impl Abort, text: &str) -> Slot {
     }
 }
 
+fn first_part(rt: &impl Abort, alloc: Global) -> Part {
+    let mut members = Members::new(alloc);
+    members.push(member(rt, "A", 7)).expect(rt, "memory");
+    Part { members }
+}
+
+fn second_part(rt: &impl Abort, alloc: Global) -> Part {
+    let mut members = Members::new(alloc);
+    members.push(member(rt, "B", 4)).expect(rt, "memory");
+    let spare = Member::Spare { width: 3 };
+    members.push(spare).expect(rt, "memory");
+    Part { members }
+}
+
+fn extended(rt: &impl Abort, alloc: Global) -> Kind {
+    let mut parts = Parts::new(alloc);
+    parts.push(first_part(rt, alloc)).expect(rt, "memory");
+    parts.push(second_part(rt, alloc)).expect(rt, "memory");
+    Kind::Extended(parts)
+}
+
+fn counted(rt: &impl Abort, alloc: Global) -> Kind {
+    let inner = Box::new(alloc, Kind::Fixed(element(8)));
+    Kind::Counted(inner.expect(rt, "memory"))
+}
+
+fn compound(rt: &impl Abort, alloc: Global) -> Kind {
+    let mut slots = Slots::new(alloc);
+    slots.push(sub(rt, "A")).expect(rt, "memory");
+    slots.push(Slot::Spare).expect(rt, "memory");
+    slots.push(sub(rt, "B")).expect(rt, "memory");
+    Kind::Compound(slots)
+}
+
 // Puts an item after the others, and its slot after theirs.
-fn add(
-    rt: &impl Abort,
-    alloc: Global,
-    spec: &mut Spec,
-    text: &str,
-    kind: Kind,
-) -> Result<(), AllocError> {
+fn add(rt: &impl Abort, alloc: Global, spec: &mut Spec, text: &str, kind: Kind) {
     let name = name(rt, text);
     let title = Text::new(alloc);
     assert!(rt; spec.items.count() < 1000);
     assert!(rt; spec.uap.count() < 1000);
-    spec.items.push(Item { name, title, kind })?;
-    spec.uap.push(UapSlot::Item(name))
+    let item = Item { name, title, kind };
+    spec.items.push(item).expect(rt, "memory");
+    spec.uap.push(UapSlot::Item(name)).expect(rt, "memory");
 }
 
-fn extended(rt: &impl Abort, alloc: Global) -> Result<Kind, AllocError> {
-    let mut first = Members::new(alloc);
-    first.push(member(rt, "A", 7))?;
-    let mut second = Members::new(alloc);
-    second.push(member(rt, "B", 4))?;
-    second.push(Member::Spare { width: 3 })?;
-    let mut parts = Parts::new(alloc);
-    parts.push(Part { members: first })?;
-    parts.push(Part { members: second })?;
-    Ok(Kind::Extended(parts))
-}
-
-fn compound(rt: &impl Abort, alloc: Global) -> Result<Kind, AllocError> {
-    let mut slots = Slots::new(alloc);
-    slots.push(sub(rt, "A"))?;
-    slots.push(Slot::Spare)?;
-    slots.push(sub(rt, "B"))?;
-    Ok(Kind::Compound(slots))
-}
-
-fn edition(alloc: Global) -> Result<Text, AllocError> {
-    let mut made = Text::new(alloc);
-    made.push(b'K')?;
-    Ok(made)
-}
-
-fn add_each_kind(rt: &impl Abort, alloc: Global, spec: &mut Spec) -> Result<(), AllocError> {
-    add(rt, alloc, spec, "010", Kind::Fixed(element(16)))?;
-    add(rt, alloc, spec, "020", extended(rt, alloc)?)?;
-    add(rt, alloc, spec, "030", Kind::ByFx(element(7)))?;
-    let inner = Box::new(alloc, Kind::Fixed(element(8)))?;
-    add(rt, alloc, spec, "040", Kind::Counted(inner))?;
-    add(rt, alloc, spec, "050", Kind::Explicit)?;
-    add(rt, alloc, spec, "060", compound(rt, alloc)?)?;
-    add(rt, alloc, spec, "070", Kind::Fixed(element(8)))?;
-    add(rt, alloc, spec, "080", Kind::Fixed(element(8)))
+fn add_each_kind(rt: &impl Abort, alloc: Global, spec: &mut Spec) {
+    add(rt, alloc, spec, "010", Kind::Fixed(element(16)));
+    add(rt, alloc, spec, "020", extended(rt, alloc));
+    add(rt, alloc, spec, "030", Kind::ByFx(element(7)));
+    add(rt, alloc, spec, "040", counted(rt, alloc));
+    add(rt, alloc, spec, "050", Kind::Explicit);
+    add(rt, alloc, spec, "060", compound(rt, alloc));
+    add(rt, alloc, spec, "070", Kind::Fixed(element(8)));
+    add(rt, alloc, spec, "080", Kind::Fixed(element(8)));
 }
 
 // The specification of FILE_K.
-fn each_kind(rt: &impl Abort, alloc: Global) -> Result<Spec, AllocError> {
+fn each_kind(rt: &impl Abort, alloc: Global) -> Spec {
+    let mut edition = Text::new(alloc);
+    edition.push(b'K').expect(rt, "memory");
     let mut spec = Spec {
         category: 205,
-        edition: edition(alloc)?,
+        edition,
         items: Items::new(alloc),
         uap: UapSlots::new(alloc),
     };
-    add_each_kind(rt, alloc, &mut spec)?;
-    Ok(spec)
+    add_each_kind(rt, alloc, &mut spec);
+    spec
 }
 
 #[test]
-fn a_specification_made_of_its_parts_is_that_of_its_file(rt: HostRuntime) -> Result<(), Fail> {
-    let alloc = rt.alloc();
-    let made = each_kind(&rt, alloc)?;
-    spec_is_shown_as(&rt, alloc, &made, FILE_K)
+fn a_specification_made_of_its_parts_is_that_of_its_file(rt: HostRuntime) {
+    let made = each_kind(&rt, rt.alloc());
+    spec_is(&rt, rt.alloc(), &made, FILE_K);
 }
 
 #[test]
-fn a_specification_that_is_read_is_that_of_its_file(rt: HostRuntime) -> Result<(), Fail> {
-    let alloc = rt.alloc();
-    let file = accepted(&rt, alloc, FILE_K)?;
-    spec_is_shown_as(&rt, alloc, file.spec(), FILE_K)
+fn a_specification_that_is_read_is_that_of_its_file(rt: HostRuntime) {
+    let file = accepted(&rt, rt.alloc(), FILE_K);
+    spec_is(&rt, rt.alloc(), file.spec(), FILE_K);
 }

@@ -1,12 +1,11 @@
 //! Blocks, and what they are read as.
 
-use crate::fixtures::accepted;
-use crate::seeing::{body_read_both_ways, is_read_as, is_read_under};
+use crate::fixtures::{accepted, octets_of, raw, raw_of, same};
+use crate::seeing::{each_is_read, is_read_as, read_both_ways};
 use ax_check::Accepted;
-use ax_samples::{FILE_K, FILE_N, FILE_S, octets};
+use ax_samples::{FILE_K, FILE_N, FILE_S};
 use std::alloc::Global;
 use std::process::Abort;
-use std::test::Fail;
 
 // A group in a group in a group, with a spare after it, and an element of the greatest width.
 pub(crate) const FILE_DEEP: &str = r#"category 206 edition "D" items {
@@ -58,13 +57,11 @@ const KINDS: [(&str, &str); 18] = [
 ];
 
 #[test]
-fn each_kind_is_read(rt: HostRuntime) -> Result<(), Fail> {
-    let alloc = rt.alloc();
-    let file = accepted(&rt, alloc, FILE_K)?;
+fn each_kind_is_read(rt: HostRuntime) {
+    let file = accepted(&rt, rt.alloc(), FILE_K);
     for &(block, want) in &KINDS {
-        is_read_as(&rt, alloc, &file, block, want)?;
+        is_read_as(&rt, rt.alloc(), &file, block, want);
     }
-    Ok(())
 }
 
 const DEEP_AND_WIDE: [(&str, &str, &str); 12] = [
@@ -100,12 +97,8 @@ const DEEP_AND_WIDE: [(&str, &str, &str); 12] = [
 ];
 
 #[test]
-fn deep_and_wide_items_are_read(rt: HostRuntime) -> Result<(), Fail> {
-    let alloc = rt.alloc();
-    for &(text, block, want) in &DEEP_AND_WIDE {
-        is_read_under(&rt, alloc, text, block, want)?;
-    }
-    Ok(())
+fn deep_and_wide_items_are_read(rt: HostRuntime) {
+    each_is_read(&rt, rt.alloc(), &DEEP_AND_WIDE);
 }
 
 const CUTS: [(usize, u32); 18] = [
@@ -136,34 +129,27 @@ fn runs_out(
     file: &Accepted,
     body: &[u8],
     (cut, bit): (usize, u32),
-) -> Result<(), Fail> {
+) {
     assert!(rt; cut <= body.len());
-    let got = body_read_both_ways(rt, alloc, file, 205, &body[..cut])?;
-    let want = format!(in alloc; "RunsOut {bit}")?;
-    assert_eq!(rt; got.as_str(), want.as_str(), "cut to {cut} octets");
-    Ok(())
+    let raw = raw(rt, 205, &body[..cut]);
+    let want = format!(in alloc; "RunsOut {bit}").expect(rt, "memory");
+    let got = read_both_ways(rt, alloc, file, &raw, want.as_str());
+    same(rt, got.as_str(), want.as_str(), "a body cut there");
 }
 
-fn each_cut_runs_out(
-    rt: &impl Abort,
-    alloc: Global,
-    file: &Accepted,
-    body: &[u8],
-) -> Result<(), Fail> {
+fn each_cut_runs_out(rt: &impl Abort, alloc: Global, file: &Accepted, body: &[u8]) {
     for &cut in &CUTS {
-        runs_out(rt, alloc, file, body, cut)?;
+        runs_out(rt, alloc, file, body, cut);
     }
-    Ok(())
 }
 
 // A body cut after each of its octets, and the bit at which the unit begins that doesn't fit.
 #[test]
-fn a_cut_body_runs_out_where_its_unit_begins(rt: HostRuntime) -> Result<(), Fail> {
-    let alloc = rt.alloc();
-    let file = accepted(&rt, alloc, FILE_K)?;
+fn a_cut_body_runs_out_where_its_unit_begins(rt: HostRuntime) {
+    let file = accepted(&rt, rt.alloc(), FILE_K);
     let want = "205 {1=6412 2=<1|5 2> 3=[5 6] 4=[170 187] 5=xCC DD 6={1=7 3=8} 7=9 8=10}";
-    is_read_as(&rt, alloc, &file, RICH, want)?;
-    let whole = octets(alloc, RICH)?;
-    assert_eq!(rt; whole.len(), 22);
-    each_cut_runs_out(&rt, alloc, &file, &whole[3..])
+    is_read_as(&rt, rt.alloc(), &file, RICH, want);
+    let whole = octets_of(&rt, rt.alloc(), RICH);
+    let body = raw_of(&rt, &whole, RICH).body;
+    each_cut_runs_out(&rt, rt.alloc(), &file, body);
 }

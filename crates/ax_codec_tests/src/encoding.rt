@@ -1,14 +1,16 @@
 //! Blocks, and the octets that they are written in.
+ghost use Rattle.ax_model.specs.OfCode.{HasNoFlaw};
 
 use crate::decoding::{FILE_DEEP, FILE_WIDE, RICH, WIDE_BLOCK};
-use crate::fixtures::{accepted, canon_as, written_as};
-use crate::seeing::is_read_alike;
+use crate::fixtures::{accepted, octets_of, raw_of, same};
+use crate::seeing::read_both_ways;
+use crate::shown::{shown_error, shown_octets};
 use ax_check::Accepted;
-use ax_model::{Block, Entries, Record, Records};
+use ax_model::{Block, Entries, RawBlock, Record, Records, Spec, fits};
 use ax_samples::{FILE_K, FILE_N, FILE_S};
-use std::alloc::{AllocError, Global};
+use ax_values::{EncodeError, decode_block, encode_block};
+use std::alloc::Global;
 use std::process::Abort;
-use std::test::Fail;
 
 const LEAST_FORMS: [(&str, &str, &str); 19] = [
     (FILE_K, "CD 00 07 81 00 19 0C", "CD 00 06 80 19 0C"),
@@ -40,86 +42,84 @@ const LEAST_FORMS: [(&str, &str, &str); 19] = [
     (FILE_WIDE, WIDE_BLOCK, WIDE_BLOCK),
 ];
 
-/// Asserts that the canonical form of a block is that one, and that trees and views read the block alike.
-fn is_written_as(
-    rt: &impl Abort,
-    alloc: Global,
-    text: &str,
-    block: &str,
-    want: &str,
-) -> Result<(), Fail> {
-    let file = accepted(rt, alloc, text)?;
-    is_read_alike(rt, alloc, &file, block)?;
-    has_canon(rt, alloc, &file, block, want)
+/// What a block is written as, or how many octets it would take where they are too many.
+fn written(rt: &impl Abort, alloc: Global, spec: &Spec, block: &Block) -> String
+    requires { HasNoFlaw spec.now }
+{
+    assert!(rt; fits(spec, block));
+    match encode_block(alloc, spec, block) {
+        Ok(octets) => shown_octets(rt, alloc, &octets),
+        Err(EncodeError::TooLong { octets }) => {
+            format!(in alloc; "TooLong {octets}").expect(rt, "memory")
+        }
+        Err(EncodeError::OutOfMemory) => rt.panic("out of memory"),
+    }
 }
 
-fn has_canon(
-    rt: &impl Abort,
-    alloc: Global,
-    file: &Accepted,
-    block: &str,
-    want: &str,
-) -> Result<(), Fail> {
-    let got = canon_as(rt, alloc, file.spec(), block)?;
-    assert_eq!(rt; got.as_str(), want, "of {block}");
-    Ok(())
+/// The canonical form of a block, or its fault.
+fn canon(rt: &impl Abort, alloc: Global, spec: &Spec, raw: &RawBlock<'_>) -> String
+    requires { HasNoFlaw spec.now }
+{
+    match decode_block(alloc, spec, raw) {
+        Ok(block) => written(rt, alloc, spec, &block),
+        Err(error) => shown_error(rt, alloc, &error),
+    }
+}
+
+/// Asserts that the canonical form of a block is that one, and that trees and views read the block alike.
+fn is_written_as(rt: &impl Abort, alloc: Global, file: &Accepted, block: &str, want: &str) {
+    let octets = octets_of(rt, alloc, block);
+    let raw = raw_of(rt, &octets, block);
+    let _ = read_both_ways(rt, alloc, file, &raw, block);
+    let got = canon(rt, alloc, file.spec(), &raw);
+    same(rt, got.as_str(), want, block);
+}
+
+fn each_is_written(rt: &impl Abort, alloc: Global, rows: &[(&str, &str, &str)]) {
+    for &(text, block, want) in rows {
+        let file = accepted(rt, alloc, text);
+        is_written_as(rt, alloc, &file, block, want);
+    }
 }
 
 // An octet that a presence field doesn't need is left out, and nothing else changes.
 #[test]
-fn blocks_are_written_in_their_least_form(rt: HostRuntime) -> Result<(), Fail> {
-    let alloc = rt.alloc();
-    for &(text, block, want) in &LEAST_FORMS {
-        is_written_as(&rt, alloc, text, block, want)?;
-    }
-    Ok(())
+fn blocks_are_written_in_their_least_form(rt: HostRuntime) {
+    each_is_written(&rt, rt.alloc(), &LEAST_FORMS);
 }
 
 /// A block of that many records without items.
-fn empty_records(alloc: Global, count: u32) -> Result<Block, AllocError> {
+fn empty_records(rt: &impl Abort, alloc: Global, count: u32) -> Block {
     let mut records = Records::new(alloc);
     for _index in 0..count {
         if records.count() < 100_000 {
-            records.push(Record {
-                entries: Entries::new(alloc),
-            })?;
+            let entries = Entries::new(alloc);
+            records.push(Record { entries }).expect(rt, "memory");
         }
     }
-    Ok(Block::Read {
+    Block::Read {
         category: 205,
         records,
-    })
+    }
 }
 
-/// What a block of that many records without items is written as.
-fn empty_records_written(
-    rt: &impl Abort,
-    alloc: Global,
-    file: &Accepted,
-    count: u32,
-) -> Result<String, Fail> {
-    let block = empty_records(alloc, count)?;
-    Ok(written_as(rt, alloc, file.spec(), &block)?)
-}
-
-/// The same under file K, whose category the block has.
-fn records_written(rt: &impl Abort, alloc: Global, count: u32) -> Result<String, Fail> {
-    let file = accepted(rt, alloc, FILE_K)?;
-    empty_records_written(rt, alloc, &file, count)
+/// What a block of that many records without items is written as under file K, whose category the block has.
+fn records_written(rt: &impl Abort, alloc: Global, count: u32) -> String {
+    let file = accepted(rt, alloc, FILE_K);
+    let block = empty_records(rt, alloc, count);
+    written(rt, alloc, file.spec(), &block)
 }
 
 // Each empty record is one octet, after the three of CAT and LEN.
 #[test]
-fn the_longest_block_has_65_535_octets(rt: HostRuntime) -> Result<(), Fail> {
-    let longest = records_written(&rt, rt.alloc(), 65_532)?;
+fn the_longest_block_has_65_535_octets(rt: HostRuntime) {
+    let longest = records_written(&rt, rt.alloc(), 65_532);
     assert!(rt; longest.as_str().starts_with("CD FF FF 00 00 "));
     assert_eq!(rt; longest.len(), 65_535 * 3 - 1);
-    Ok(())
 }
 
 #[test]
-fn a_block_of_65_536_octets_is_too_long(rt: HostRuntime) -> Result<(), Fail> {
-    let more = records_written(&rt, rt.alloc(), 65_533)?;
-    assert_eq!(rt; more.as_str(), "TooLong 65536");
-    Ok(())
+fn a_block_of_65_536_octets_is_too_long(rt: HostRuntime) {
+    let more = records_written(&rt, rt.alloc(), 65_533);
+    same(&rt, more.as_str(), "TooLong 65536", "65,533 empty records");
 }

@@ -5,16 +5,15 @@ ghost use Rattle.ax_model.specs.OfCode.{HasNoFlaw};
 ghost use Rattle.ax_model.specs.Plain.{kind_tree};
 ghost use Rattle.ax_reader.specs.Reading.{SlotInBounds, slot_of_frn};
 
-use crate::fixtures::accepted;
-use crate::seeing::body_read_both_ways;
-use crate::shown::{push_record, push_value, shown_error};
+use crate::fixtures::{accepted, octets_of, raw, same};
+use crate::seeing::read_both_ways;
+use crate::shown::{push, push_number, push_record, push_value, shown_error};
 use ax_check::Accepted;
 use ax_model::{Kind, Spec};
-use ax_samples::{CAT048_P1, octets};
+use ax_samples::CAT048_P1;
 use ax_values::{decode_kind, decode_record};
-use std::alloc::{AllocError, Global};
+use std::alloc::Global;
 use std::process::Abort;
-use std::test::Fail;
 
 /// The kind of the item of a slot, where that is in bounds.
 fn kind_in(spec: &Spec, frn: u32) -> Option<&Kind>
@@ -38,8 +37,14 @@ fn kind_at(spec: &Spec, frn: u32) -> Option<&Kind>
     kind_in(spec, frn)
 }
 
+// The octet at which what was read ends.
+fn push_end(rt: &impl Abort, text: &mut String, end: u32) {
+    push(rt, text, " to ");
+    push_number(rt, text, u128::from(end));
+}
+
 /// The value of an item that begins at octet `at`, and the octet after it, or the fault.
-fn value_at(alloc: Global, kind: &Kind, body: &[u8], at: u32) -> Result<String, AllocError>
+fn value_at(rt: &impl Abort, alloc: Global, kind: &Kind, body: &[u8], at: u32) -> String
     requires kind { InBounds (kind_tree kind.now) }
     requires body { length body.now ≤ 65532 }
     requires at { at ≤ length body.now }
@@ -47,64 +52,53 @@ fn value_at(alloc: Global, kind: &Kind, body: &[u8], at: u32) -> Result<String, 
     match decode_kind(alloc, kind, body, at) {
         Ok((value, end)) => {
             let mut text = String::new(alloc);
-            push_value(alloc, &mut text, &value)?;
-            write!(text, " to {end}")?;
-            Ok(text)
+            push_value(rt, &mut text, &value);
+            push_end(rt, &mut text, end);
+            text
         }
-        Err(error) => shown_error(alloc, &error),
+        Err(error) => shown_error(rt, alloc, &error),
     }
 }
 
 /// The record of a body, and the octet after it, or the fault.
-fn record_of(alloc: Global, spec: &Spec, body: &[u8]) -> Result<String, AllocError>
+fn record_of(rt: &impl Abort, alloc: Global, spec: &Spec, body: &[u8]) -> String
     requires spec { HasNoFlaw spec.now }
     requires body { length body.now ≤ 65532 }
 {
     match decode_record(alloc, spec, body, 0) {
         Ok((one, end)) => {
             let mut text = String::new(alloc);
-            push_record(alloc, &mut text, &one)?;
-            write!(text, " to {end}")?;
-            Ok(text)
+            push_record(rt, &mut text, &one);
+            push_end(rt, &mut text, end);
+            text
         }
-        Err(error) => shown_error(alloc, &error),
+        Err(error) => shown_error(rt, alloc, &error),
     }
 }
 
-// What the item, the record and the body are read as, with a bar between.
-fn push_three_ways(
+// What the item and the record are read as, with a bar after each.
+fn item_and_record(
     rt: &impl Abort,
     alloc: Global,
-    text: &mut String,
     file: &Accepted,
     (frn, at): (u32, u32),
     body: &[u8],
-) -> Result<(), Fail> {
+) -> String {
     assert!(rt; body.len() <= 65_532);
     assert!(rt; at as usize <= body.len());
-    let kind = kind_at(file.spec(), frn).ok_or("no such item")?;
-    text.push_str(value_at(alloc, kind, body, at)?.as_str())?;
-    text.push_str(" | ")?;
-    text.push_str(record_of(alloc, file.spec(), body)?.as_str())?;
-    text.push_str(" | ")?;
-    text.push_str(body_read_both_ways(rt, alloc, file, 48, body)?.as_str())?;
-    Ok(())
+    let kind = kind_at(file.spec(), frn).expect(rt, "an item");
+    let mut text = value_at(rt, alloc, kind, body, at);
+    push(rt, &mut text, " | ");
+    push(
+        rt,
+        &mut text,
+        record_of(rt, alloc, file.spec(), body).as_str(),
+    );
+    push(rt, &mut text, " | ");
+    text
 }
 
-// The same of a body in hexadecimal.
-fn three_readings(
-    rt: &impl Abort,
-    alloc: Global,
-    file: &Accepted,
-    place: (u32, u32),
-    body: &str,
-) -> Result<String, Fail> {
-    let octets = octets(alloc, body)?;
-    let mut text = String::new(alloc);
-    push_three_ways(rt, alloc, &mut text, file, place, &octets)?;
-    Ok(text)
-}
-
+// Asserts what the item, the record and the body are read as, with a bar between.
 fn have_one_reading(
     rt: &impl Abort,
     alloc: Global,
@@ -112,10 +106,16 @@ fn have_one_reading(
     place: (u32, u32),
     body: &str,
     want: &str,
-) -> Result<(), Fail> {
-    let got = three_readings(rt, alloc, file, place, body)?;
-    assert_eq!(rt; got.as_str(), want, "of {body}");
-    Ok(())
+) {
+    let octets = octets_of(rt, alloc, body);
+    let raw = raw(rt, 48, &octets);
+    let mut text = item_and_record(rt, alloc, file, place, &octets);
+    push(
+        rt,
+        &mut text,
+        read_both_ways(rt, alloc, file, &raw, body).as_str(),
+    );
+    same(rt, text.as_str(), want, body);
 }
 
 const READINGS: [(&str, u32, u32, &str); 8] = [
@@ -155,11 +155,9 @@ const READINGS: [(&str, u32, u32, &str); 8] = [
 ];
 
 #[test]
-fn an_item_its_record_and_its_body_have_one_reading(rt: HostRuntime) -> Result<(), Fail> {
-    let alloc = rt.alloc();
-    let file = accepted(&rt, alloc, CAT048_P1)?;
+fn an_item_its_record_and_its_body_have_one_reading(rt: HostRuntime) {
+    let file = accepted(&rt, rt.alloc(), CAT048_P1);
     for &(body, frn, at, want) in &READINGS {
-        have_one_reading(&rt, alloc, &file, (frn, at), body, want)?;
+        have_one_reading(&rt, rt.alloc(), &file, (frn, at), body, want);
     }
-    Ok(())
 }

@@ -1,122 +1,86 @@
-//! Bodies seen through views: by the flat table of their file, without a tree of the block until they are shown.
+//! Bodies read by trees, and seen through views by the flat table of their file.
+ghost use Rattle.ax_model.specs.OfCode.{HasNoFlaw};
 
-use crate::fixtures::{accepted, body_of, body_read_as, category_of};
-use crate::shown::{shown_block, shown_fault};
+use crate::fixtures::{accepted, codec_of, octets_of, raw_of, same};
+use crate::shown::{push_category, push_record, shown_block, shown_error, shown_fault};
 use ax_check::Accepted;
-use ax_model::{Block, Records};
-use ax_samples::octets;
-use ax_tables::compile;
-use ax_view::{BlockView, scan};
-use std::alloc::{AllocError, Global};
+use ax_model::{RawBlock, Record, Spec};
+use ax_tables::Codec;
+use ax_values::decode_block;
+use ax_view::{BlockView, RecordView, scan};
+use std::alloc::Global;
 use std::process::Abort;
-use std::test::Fail;
 
-/// The records of a view as a block of trees.
-fn trees_of(
-    rt: &impl Abort,
-    alloc: Global,
-    category: u8,
-    view: &BlockView<'_, '_>,
-) -> Result<Block, AllocError> {
-    let mut records = Records::new(alloc);
-    for record in view.records() {
-        assert!(rt; records.count() < 100_000);
-        records.push(record.to_value(alloc)?)?;
-    }
-    assert_eq!(rt; view.count(), records.count());
-    Ok(Block::Read { category, records })
+/// The tree of a record that is seen.
+fn tree_of(rt: &impl Abort, alloc: Global, record: &RecordView<'_, '_>) -> Record {
+    record.to_value(alloc).expect(rt, "memory")
 }
 
-/// The block that a body of the file's category is seen as, or its fault, in a line.
-pub(crate) fn body_seen_as(
-    rt: &impl Abort,
-    alloc: Global,
-    file: &Accepted,
-    body: &[u8],
-) -> Result<String, Fail> {
+/// The records of a view, shown as a block of trees is.
+fn push_records(rt: &impl Abort, alloc: Global, text: &mut String, view: &BlockView<'_, '_>) {
+    let mut count: u32 = 0;
+    for record in view.records() {
+        push_record(rt, text, &tree_of(rt, alloc, &record));
+        count = count.saturating_add(1);
+    }
+    assert_eq!(rt; view.count(), count);
+}
+
+/// The block that a body of the table's category is seen as, or its fault, in a line.
+fn seen(rt: &impl Abort, alloc: Global, codec: &Codec, body: &[u8]) -> String {
     assert!(rt; !body.is_empty());
     assert!(rt; body.len() <= 65_532);
-    let codec = compile(alloc, file)?;
-    match scan(&codec, body) {
+    match scan(codec, body) {
         Ok(view) => {
-            let block = trees_of(rt, alloc, codec.category(), &view)?;
-            Ok(shown_block(alloc, &block)?)
+            let mut text = String::new(alloc);
+            push_category(rt, &mut text, codec.category());
+            push_records(rt, alloc, &mut text, &view);
+            text
         }
-        Err(fault) => Ok(shown_fault(alloc, &fault)?),
+        Err(fault) => shown_fault(rt, alloc, &fault),
     }
 }
 
-/// The block that a body of this category is read as, by trees and, where it is the file's category, by views alike; or
-/// its fault, in a line.
-pub(crate) fn body_read_both_ways(
-    rt: &impl Abort,
-    alloc: Global,
-    file: &Accepted,
-    category: u8,
-    body: &[u8],
-) -> Result<String, Fail> {
-    let read = body_read_as(rt, alloc, file.spec(), category, body)?;
-    if category == file.spec().category {
-        let seen = body_seen_as(rt, alloc, file, body)?;
-        assert_eq!(rt; seen.as_str(), read.as_str(), "by views, of {body:?}");
+/// The block that a body is read as by trees, or its fault, in a line.
+fn read(rt: &impl Abort, alloc: Global, spec: &Spec, raw: &RawBlock<'_>) -> String
+    requires { HasNoFlaw spec.now }
+{
+    match decode_block(alloc, spec, raw) {
+        Ok(block) => shown_block(rt, alloc, &block),
+        Err(error) => shown_error(rt, alloc, &error),
     }
-    Ok(read)
 }
 
-/// The block that the octets are read as, by trees and by views alike, or its fault, in a line.
-fn octets_read_both_ways(
+/// The block that a body is read as, by trees and, where it is of the file's category, by views alike; or its fault, in a
+/// line. The text tells of what.
+pub(crate) fn read_both_ways(
     rt: &impl Abort,
     alloc: Global,
     file: &Accepted,
-    octets: &[u8],
-) -> Result<String, Fail> {
-    let category = category_of(rt, octets);
-    body_read_both_ways(rt, alloc, file, category, body_of(rt, octets))
-}
-
-/// The block that octets in hexadecimal are read as, by trees and by views alike, or its fault, in a line.
-fn read_both_ways(
-    rt: &impl Abort,
-    alloc: Global,
-    file: &Accepted,
-    block: &str,
-) -> Result<String, Fail> {
-    let octets = octets(alloc, block)?;
-    octets_read_both_ways(rt, alloc, file, &octets)
-}
-
-/// Asserts that octets in hexadecimal are read alike by trees and by views.
-pub(crate) fn is_read_alike(
-    rt: &impl Abort,
-    alloc: Global,
-    file: &Accepted,
-    block: &str,
-) -> Result<(), Fail> {
-    let _ = read_both_ways(rt, alloc, file, block)?;
-    Ok(())
+    raw: &RawBlock<'_>,
+    of: &str,
+) -> String {
+    let read = read(rt, alloc, file.spec(), raw);
+    if raw.category == file.spec().category {
+        let codec = codec_of(rt, alloc, file);
+        let seen = seen(rt, alloc, &codec, raw.body);
+        same(rt, seen.as_str(), read.as_str(), of);
+    }
+    read
 }
 
 /// Asserts that octets in hexadecimal are read as that block or fault, by trees and by views alike.
-pub(crate) fn is_read_as(
-    rt: &impl Abort,
-    alloc: Global,
-    file: &Accepted,
-    block: &str,
-    want: &str,
-) -> Result<(), Fail> {
-    let got = read_both_ways(rt, alloc, file, block)?;
-    assert_eq!(rt; got.as_str(), want, "of {block}");
-    Ok(())
+pub(crate) fn is_read_as(rt: &impl Abort, alloc: Global, file: &Accepted, block: &str, want: &str) {
+    let octets = octets_of(rt, alloc, block);
+    let raw = raw_of(rt, &octets, block);
+    let got = read_both_ways(rt, alloc, file, &raw, block);
+    same(rt, got.as_str(), want, block);
 }
 
-/// Asserts that octets in hexadecimal are read as that block or fault under the file of that text.
-pub(crate) fn is_read_under(
-    rt: &impl Abort,
-    alloc: Global,
-    text: &str,
-    block: &str,
-    want: &str,
-) -> Result<(), Fail> {
-    let file = accepted(rt, alloc, text)?;
-    is_read_as(rt, alloc, &file, block, want)
+/// Asserts of each file, block and text that the block is read as that block or fault under the file.
+pub(crate) fn each_is_read(rt: &impl Abort, alloc: Global, rows: &[(&str, &str, &str)]) {
+    for &(text, block, want) in rows {
+        let file = accepted(rt, alloc, text);
+        is_read_as(rt, alloc, &file, block, want);
+    }
 }

@@ -1,156 +1,159 @@
 //! Specifications in the form of their files, where all titles are without quotation marks and all contents are raw.
 
+use crate::shown::{push, push_number};
 use ax_model::{
     Content, Fixed, Item, Kind, Member, Members, Name, Part, Slot, Spec, Text, UapSlot,
 };
-use std::alloc::{AllocError, Global};
+use std::alloc::Global;
+use std::process::Abort;
 
-fn push_octets(text: &mut String, octets: &[u8]) -> Result<(), AllocError> {
+fn push_characters(rt: &impl Abort, text: &mut String, octets: &[u8]) {
     for octet in octets {
-        text.push(char::from(*octet))?;
+        text.push(char::from(*octet)).expect(rt, "memory");
     }
-    Ok(())
 }
 
-fn push_name(text: &mut String, name: &Name) -> Result<(), AllocError> {
-    push_octets(text, name.octets())
+fn push_name(rt: &impl Abort, text: &mut String, name: &Name) {
+    push_characters(rt, text, name.octets());
 }
 
-fn push_quoted(text: &mut String, quoted: &Text) -> Result<(), AllocError> {
-    text.push_str("\"")?;
-    push_octets(text, quoted.as_slice())?;
-    text.push_str("\"")
+fn push_quoted(rt: &impl Abort, text: &mut String, quoted: &Text) {
+    push(rt, text, "\"");
+    push_characters(rt, text, quoted.as_slice());
+    push(rt, text, "\" ");
+}
+
+fn content_word(content: &Content) -> &'static str {
+    match content {
+        Content::Raw => " raw",
+        _ => " not raw",
+    }
+}
+
+fn push_element(rt: &impl Abort, text: &mut String, width: u32, content: &Content) {
+    push(rt, text, "element ");
+    push_number(rt, text, u128::from(width));
+    push(rt, text, content_word(content));
 }
 
 #[cycle(push_fixed)]
-fn push_member(text: &mut String, member: &Member) -> Result<(), AllocError> {
+fn push_member(rt: &impl Abort, text: &mut String, member: &Member) {
     match member {
         Member::Named { name, fixed } => {
-            push_name(text, name)?;
-            text.push_str(" ")?;
-            push_fixed(text, fixed)
+            push_name(rt, text, name);
+            push(rt, text, " ");
+            push_fixed(rt, text, fixed);
         }
-        Member::Spare { width } => write!(text, "spare {width}"),
+        Member::Spare { width } => {
+            push(rt, text, "spare ");
+            push_number(rt, text, u128::from(*width));
+        }
     }
 }
 
 #[cycle(push_fixed)]
-fn push_members(text: &mut String, members: &Members) -> Result<(), AllocError> {
+fn push_members(rt: &impl Abort, text: &mut String, open: &str, members: &Members) {
+    push(rt, text, open);
     for member in members.as_slice() {
-        push_member(text, member)?;
-        text.push_str(" ")?;
+        push_member(rt, text, member);
+        push(rt, text, " ");
     }
-    Ok(())
+    push(rt, text, "}");
 }
 
 #[cycle(push_fixed)]
-fn push_fixed(text: &mut String, fixed: &Fixed) -> Result<(), AllocError> {
+fn push_fixed(rt: &impl Abort, text: &mut String, fixed: &Fixed) {
     match fixed {
-        Fixed::Element { width, content } => {
-            let content = match content {
-                Content::Raw => "raw",
-                _ => "not raw",
-            };
-            write!(text, "element {width} {content}")
-        }
-        Fixed::Group(members) => {
-            text.push_str("group { ")?;
-            push_members(text, members)?;
-            text.push_str("}")
-        }
+        Fixed::Element { width, content } => push_element(rt, text, *width, content),
+        Fixed::Group(members) => push_members(rt, text, "group { ", members),
     }
 }
 
-fn push_parts(text: &mut String, parts: &[Part]) -> Result<(), AllocError> {
+fn push_parts(rt: &impl Abort, text: &mut String, parts: &[Part]) {
+    push(rt, text, "extended { ");
     for part in parts {
-        text.push_str("part { ")?;
-        push_members(text, &part.members)?;
-        text.push_str("} ")?;
+        push_members(rt, text, "part { ", &part.members);
+        push(rt, text, " ");
     }
-    Ok(())
+    push(rt, text, "}");
 }
 
 #[cycle(push_kind)]
-fn push_slots(text: &mut String, slots: &[Slot]) -> Result<(), AllocError> {
+fn push_slots(rt: &impl Abort, text: &mut String, slots: &[Slot]) {
+    push(rt, text, "compound { ");
     for slot in slots {
-        push_slot(text, slot)?;
-        text.push_str(" ")?;
+        push_slot(rt, text, slot);
+        push(rt, text, " ");
     }
-    Ok(())
+    push(rt, text, "}");
 }
 
 #[cycle(push_kind)]
-fn push_slot(text: &mut String, slot: &Slot) -> Result<(), AllocError> {
+fn push_slot(rt: &impl Abort, text: &mut String, slot: &Slot) {
     match slot {
-        Slot::Spare => text.push_str("-"),
+        Slot::Spare => push(rt, text, "-"),
         Slot::Sub { name, kind } => {
-            push_name(text, name)?;
-            text.push_str(" ")?;
-            push_kind(text, kind)
+            push_name(rt, text, name);
+            push(rt, text, " ");
+            push_kind(rt, text, kind);
         }
     }
 }
 
 #[cycle(push_kind)]
-fn push_kind(text: &mut String, kind: &Kind) -> Result<(), AllocError> {
+fn push_kind(rt: &impl Abort, text: &mut String, kind: &Kind) {
     match kind {
-        Kind::Fixed(fixed) => push_fixed(text, fixed),
-        Kind::Extended(parts) => {
-            text.push_str("extended { ")?;
-            push_parts(text, parts.as_slice())?;
-            text.push_str("}")
-        }
+        Kind::Fixed(fixed) => push_fixed(rt, text, fixed),
+        Kind::Extended(parts) => push_parts(rt, text, parts.as_slice()),
         Kind::Counted(inner) => {
-            text.push_str("counted { ")?;
-            push_kind(text, inner)?;
-            text.push_str(" }")
+            push(rt, text, "counted { ");
+            push_kind(rt, text, inner);
+            push(rt, text, " }");
         }
         Kind::ByFx(fixed) => {
-            text.push_str("byfx ")?;
-            push_fixed(text, fixed)
+            push(rt, text, "byfx ");
+            push_fixed(rt, text, fixed);
         }
-        Kind::Explicit => text.push_str("explicit"),
-        Kind::Compound(slots) => {
-            text.push_str("compound { ")?;
-            push_slots(text, slots.as_slice())?;
-            text.push_str("}")
-        }
+        Kind::Explicit => push(rt, text, "explicit"),
+        Kind::Compound(slots) => push_slots(rt, text, slots.as_slice()),
     }
 }
 
-fn push_item(text: &mut String, item: &Item) -> Result<(), AllocError> {
-    text.push_str("item ")?;
-    push_name(text, &item.name)?;
-    text.push_str(" ")?;
-    push_quoted(text, &item.title)?;
-    text.push_str(" ")?;
-    push_kind(text, &item.kind)?;
-    text.push_str(" ")
+fn push_items(rt: &impl Abort, text: &mut String, items: &[Item]) {
+    for item in items {
+        push(rt, text, "item ");
+        push_name(rt, text, &item.name);
+        push(rt, text, " ");
+        push_quoted(rt, text, &item.title);
+        push_kind(rt, text, &item.kind);
+        push(rt, text, " ");
+    }
 }
 
-fn push_uap(text: &mut String, slots: &[UapSlot]) -> Result<(), AllocError> {
+fn push_uap(rt: &impl Abort, text: &mut String, slots: &[UapSlot]) {
     for slot in slots {
         match slot {
-            UapSlot::Spare => text.push_str("-")?,
-            UapSlot::Item(name) => push_name(text, name)?,
+            UapSlot::Spare => push(rt, text, "-"),
+            UapSlot::Item(name) => push_name(rt, text, name),
         }
-        text.push_str(" ")?;
+        push(rt, text, " ");
     }
-    Ok(())
+}
+
+fn push_spec(rt: &impl Abort, text: &mut String, spec: &Spec) {
+    let category = spec.category;
+    write!(text, "category {category:03} edition ").expect(rt, "memory");
+    push_quoted(rt, text, &spec.edition);
+    push(rt, text, "items { ");
+    push_items(rt, text, spec.items.as_slice());
+    push(rt, text, "} uap { ");
+    push_uap(rt, text, spec.uap.as_slice());
+    push(rt, text, "}\n");
 }
 
 /// The specification on one line, as the one-line files of crate ax_samples are.
-pub(crate) fn shown_spec(alloc: Global, spec: &Spec) -> Result<String, AllocError> {
+pub(crate) fn shown_spec(rt: &impl Abort, alloc: Global, spec: &Spec) -> String {
     let mut text = String::new(alloc);
-    let category = spec.category;
-    write!(text, "category {category:03} edition ")?;
-    push_quoted(&mut text, &spec.edition)?;
-    text.push_str(" items { ")?;
-    for item in spec.items.as_slice() {
-        push_item(&mut text, item)?;
-    }
-    text.push_str("} uap { ")?;
-    push_uap(&mut text, spec.uap.as_slice())?;
-    text.push_str("}\n")?;
-    Ok(text)
+    push_spec(rt, &mut text, spec);
+    text
 }

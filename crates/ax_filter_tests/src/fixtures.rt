@@ -1,8 +1,9 @@
-//! Catalogues, filters and blocks, read from texts.
+//! Catalogues, filters and blocks, read from texts. What can't be read stops the test.
+
 use ax_bits::Out;
 use ax_canon::canonical_if;
 use ax_check::{Accepted, Catalogue, accept};
-use ax_filter::{Filter, FilterFault, FilterStop, read_expression};
+use ax_filter::{Filter, FilterStop, read_expression};
 use ax_grammar::read_spec;
 use ax_model::{Block, RawBlock, Spec};
 use ax_samples::octets;
@@ -12,113 +13,163 @@ use ax_values::decode_block;
 use ax_view::{BlockView, RecordView, scan};
 use std::alloc::Global;
 use std::process::Abort;
-use std::test::Fail;
+
+/// Asserts that what was found of something is what is wanted.
+pub(crate) fn same(rt: &impl Abort, found: &str, wanted: &str, of: &str) {
+    assert_eq!(rt; found, wanted, "of {of}");
+}
 
 /// The specification of a category file without flaw.
-fn accepted(rt: &impl Abort, alloc: Global, text: &str) -> Result<Accepted, Fail> {
+fn accepted(rt: &impl Abort, alloc: Global, text: &str) -> Accepted {
     let text = text.as_bytes();
     assert!(rt; text.len() < 10_000);
-    let found = tokens(alloc, text, 16)?;
-    let spec = read_spec(alloc, &found)?;
-    Ok(accept(alloc, spec)?)
+    let found = tokens(alloc, text, 16).expect(rt, "tokens");
+    let spec = read_spec(alloc, &found).expect(rt, "a specification");
+    accept(alloc, spec).expect(rt, "no flaw")
+}
+
+fn add(rt: &impl Abort, alloc: Global, made: &mut Catalogue, text: &str) {
+    let file = accepted(rt, alloc, text);
+    made.add(file).expect(rt, "another category");
 }
 
 /// The catalogue of two category files.
-pub(crate) fn catalogue(
-    rt: &impl Abort,
-    alloc: Global,
-    first: &str,
-    second: &str,
-) -> Result<Catalogue, Fail> {
+pub(crate) fn catalogue(rt: &impl Abort, alloc: Global, first: &str, second: &str) -> Catalogue {
     let mut made = Catalogue::new(alloc);
-    made.add(accepted(rt, alloc, first)?)?;
-    made.add(accepted(rt, alloc, second)?)?;
-    Ok(made)
+    add(rt, alloc, &mut made, first);
+    add(rt, alloc, &mut made, second);
+    made
 }
 
-/// The fault for which the expression is refused, if it is.
-pub(crate) fn fault_of(
+/// The filter that an expression is read as, or why it is none.
+fn read<'c>(
+    rt: &impl Abort,
+    alloc: Global,
+    catalogue: &'c Catalogue,
+    text: &str,
+) -> Result<Filter<'c>, FilterStop> {
+    let text = text.as_bytes();
+    assert!(rt; text.len() < 10_000);
+    read_expression(alloc, text, catalogue)
+}
+
+/// The filter that an expression is read as.
+pub(crate) fn filter_of<'c>(
+    rt: &impl Abort,
+    alloc: Global,
+    catalogue: &'c Catalogue,
+    text: &str,
+) -> Filter<'c> {
+    read(rt, alloc, catalogue, text).expect(rt, text)
+}
+
+/// Asserts that an expression is refused for that fault.
+pub(crate) fn is_refused(
     rt: &impl Abort,
     alloc: Global,
     catalogue: &Catalogue,
     text: &str,
-) -> Result<Option<FilterFault>, Fail> {
-    let text = text.as_bytes();
-    assert!(rt; text.len() < 10_000);
-    match read_expression(alloc, text, catalogue) {
-        Ok(_) => Ok(None),
-        Err(FilterStop::Refused(fault)) => Ok(Some(fault)),
-        Err(FilterStop::OutOfMemory) => Err(Fail::from("out of memory")),
+    want: &str,
+) {
+    match read(rt, alloc, catalogue, text) {
+        Err(FilterStop::Refused(fault)) => {
+            let got = format!(in alloc; "{fault:?}").expect(rt, "memory");
+            same(rt, got.as_str(), want, text);
+        }
+        Err(FilterStop::OutOfMemory) => rt.panic("out of memory"),
+        Ok(_) => same(rt, "a filter", want, text),
     }
 }
 
 /// How many records of the block the filter holds of, as trees.
 fn matching_trees(filter: &Filter<'_>, spec: &Spec, block: &Block) -> usize {
-    match block {
-        Block::Read { records, .. } => records
-            .as_slice()
-            .iter()
-            .filter(|one| filter.holds_tree(spec, one))
-            .count(),
-        Block::Opaque { .. } => 0,
-    }
-}
-
-/// How many records of a block of that category the filter holds of, as views.
-fn matching_views(
-    rt: &impl Abort,
-    filter: &Filter<'_>,
-    category: u8,
-    view: &BlockView<'_, '_>,
-) -> usize {
-    let mut count = 0;
-    for one in view.records() {
-        assert!(rt; count < 100_000);
-        if filter.holds(category, &one) {
-            count += 1;
+    let mut count: usize = 0;
+    if let Block::Read { records, .. } = block {
+        for one in records.as_slice() {
+            if filter.holds_tree(spec, one) {
+                count = count.saturating_add(1);
+            }
         }
     }
     count
 }
 
-/// The canonical block of the records that the filter holds of; no octets where it holds of none. Trees and views agree on
-/// how many these are.
-fn filtered(
-    rt: &impl Abort,
-    alloc: Global,
-    catalogue: &Catalogue,
-    filter: &Filter<'_>,
-    block: &[u8],
-) -> Result<Vec<u8>, Fail> {
-    assert!(rt; block.len() >= 4);
-    assert!(rt; block.len() <= 65_535);
-    let category = block[0];
-    let body = &block[3..];
-    let accepted = catalogue.get(category).ok_or("no specification")?;
-    let read = decode_block(alloc, accepted.spec(), &RawBlock { category, body })?;
-    let codec = compile(alloc, accepted)?;
-    let Ok(view) = scan(&codec, body) else {
-        return Err(Fail::from("no records"));
-    };
-    let matching = matching_views(rt, filter, category, &view);
-    assert_eq!(rt; matching, matching_trees(filter, accepted.spec(), &read));
-    kept(rt, alloc, filter, category, &view)
+/// How many records of a block of that category the filter holds of, as views.
+fn matching_views(filter: &Filter<'_>, category: u8, view: &BlockView<'_, '_>) -> usize {
+    let mut count: usize = 0;
+    for one in view.records() {
+        if filter.holds(category, &one) {
+            count = count.saturating_add(1);
+        }
+    }
+    count
 }
 
-/// The canonical block of the records of a view that the filter holds of.
+/// How many records of a block the filter holds of, as trees.
+fn matching(
+    rt: &impl Abort,
+    alloc: Global,
+    file: &Accepted,
+    filter: &Filter<'_>,
+    raw: &RawBlock<'_>,
+) -> usize {
+    let block = decode_block(alloc, file.spec(), raw).expect(rt, "records");
+    matching_trees(filter, file.spec(), &block)
+}
+
+/// Octets in hexadecimal, with a space between.
+fn shown(rt: &impl Abort, alloc: Global, octets: &[u8]) -> String {
+    let mut text = String::new(alloc);
+    let mut mark = "";
+    for octet in octets {
+        write!(text, "{mark}{octet:02X}").expect(rt, "memory");
+        mark = " ";
+    }
+    text
+}
+
+/// The canonical block of the records of a view that the filter holds of, in hexadecimal.
 fn kept(
     rt: &impl Abort,
     alloc: Global,
     filter: &Filter<'_>,
     category: u8,
     view: &BlockView<'_, '_>,
-) -> Result<Vec<u8>, Fail> {
-    let mut output = vec![in alloc; 0; view.octets().len() + 3]?;
+) -> String {
+    let mut output = vec![in alloc; 0; view.octets().len() + 3].expect(rt, "memory");
     let holds = |one: &RecordView<'_, '_>| filter.holds(category, one);
     let mut out = Out::over(&mut output);
     let count = canonical_if(view, holds, &mut out) as usize;
     assert!(rt; count <= output.len());
-    Ok(Vec::from_slice(alloc, &output[..count])?)
+    shown(rt, alloc, &output[..count])
+}
+
+/// The canonical block of the records that the filter holds of, in hexadecimal; no octets where it holds of none. Trees and
+/// views agree on how many these are.
+fn filtered(
+    rt: &impl Abort,
+    alloc: Global,
+    file: &Accepted,
+    filter: &Filter<'_>,
+    raw: &RawBlock<'_>,
+) -> String {
+    assert!(rt; !raw.body.is_empty());
+    assert!(rt; raw.body.len() <= 65_532);
+    let codec = compile(alloc, file).expect(rt, "memory");
+    let view = scan(&codec, raw.body).expect(rt, "records");
+    let as_trees = matching(rt, alloc, file, filter, raw);
+    assert_eq!(rt; matching_views(filter, raw.category, &view), as_trees);
+    kept(rt, alloc, filter, raw.category, &view)
+}
+
+/// The category and the body of a block.
+fn raw_of<'o>(rt: &impl Abort, octets: &'o [u8]) -> RawBlock<'o> {
+    assert!(rt; octets.len() >= 4);
+    assert!(rt; octets.len() <= 65_535);
+    RawBlock {
+        category: octets[0],
+        body: &octets[3..],
+    }
 }
 
 /// Asserts that of a block the records that the expression holds of make this one, in canonical form; no octets where it
@@ -130,13 +181,12 @@ pub(crate) fn keeps(
     text: &str,
     block: &str,
     want: &str,
-) -> Result<(), Fail> {
-    let expression = text.as_bytes();
-    assert!(rt; expression.len() < 10_000);
-    let filter = read_expression(alloc, expression, catalogue).map_err(|_| "no filter")?;
-    let octets_of_block = octets(alloc, block)?;
-    let got = filtered(rt, alloc, catalogue, &filter, &octets_of_block)?;
-    let want = octets(alloc, want)?;
-    assert_eq!(rt; got.as_slice(), want.as_slice(), "{text} of {block}");
-    Ok(())
+) {
+    let filter = filter_of(rt, alloc, catalogue, text);
+    let octets = octets(alloc, block).expect(rt, "octets");
+    let raw = raw_of(rt, &octets);
+    let file = catalogue.get(raw.category).expect(rt, "a specification");
+    let got = filtered(rt, alloc, file, &filter, &raw);
+    let of = format!(in alloc; "{text} of {block}").expect(rt, "memory");
+    same(rt, got.as_str(), want, of.as_str());
 }

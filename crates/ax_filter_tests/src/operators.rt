@@ -4,10 +4,19 @@ use ax_check::Catalogue;
 use ax_samples::{CAT034_P1, CAT048_P1};
 use std::alloc::Global;
 use std::process::Abort;
-use std::test::Fail;
+
+type Operator = (&'static str, bool, bool, bool);
+
+type Number = (
+    &'static str,
+    &'static str,
+    &'static str,
+    &'static str,
+    &'static str,
+);
 
 // Whether a number compares so with one that it is equal to, with one that it is below and with one that it is above.
-const OPERATORS: [(&str, bool, bool, bool); 6] = [
+const OPERATORS: [Operator; 6] = [
     ("=", true, false, false),
     ("!=", false, true, true),
     ("<", false, true, false),
@@ -18,7 +27,7 @@ const OPERATORS: [(&str, bool, bool, bool); 6] = [
 
 // An element, a block of one record in which it has a number, that number, one above it and one below it. FL has fourteen
 // bits and a sign.
-const NUMBERS: [(&str, &str, &str, &str, &str); 6] = [
+const NUMBERS: [Number; 6] = [
     ("048/010/SAC", "30 00 06 80 19 0C", "25", "26", "24"),
     ("048/010/SAC", "30 00 06 80 00 0C", "0", "1", "-1"),
     ("048/010/SAC", "30 00 06 80 FF 0C", "255", "256", "-1"),
@@ -32,47 +41,41 @@ fn compares(
     rt: &impl Abort,
     alloc: Global,
     files: &Catalogue,
-    comparison: (&str, &str, &str),
+    (element, operator, number): (&str, &str, &str),
     block: &str,
     holds: bool,
-) -> Result<(), Fail> {
-    let (element, operator, number) = comparison;
-    let text = format!(in alloc; "is {element} {operator} {number}")?;
+) {
+    let text = format!(in alloc; "is {element} {operator} {number}").expect(rt, "memory");
     let want = if holds { block } else { "" };
-    keeps(rt, alloc, files, &text, block, want)
+    keeps(rt, alloc, files, text.as_str(), block, want);
+}
+
+// Asserts that a number compares so with one that it is equal to, with one above it and with one below it.
+fn compares_with_each(
+    rt: &impl Abort,
+    alloc: Global,
+    files: &Catalogue,
+    (element, block, equal, above, below): Number,
+    (operator, at_equal, if_below, if_above): Operator,
+) {
+    let with_equal = (element, operator, equal);
+    compares(rt, alloc, files, with_equal, block, at_equal);
+    let with_above = (element, operator, above);
+    compares(rt, alloc, files, with_above, block, if_below);
+    let with_below = (element, operator, below);
+    compares(rt, alloc, files, with_below, block, if_above);
+}
+
+fn compares_by_each(rt: &impl Abort, alloc: Global, files: &Catalogue, number: Number) {
+    for &operator in &OPERATORS {
+        compares_with_each(rt, alloc, files, number, operator);
+    }
 }
 
 #[test]
-fn each_comparison(rt: HostRuntime) -> Result<(), Fail> {
-    let alloc = rt.alloc();
-    let files = catalogue(&rt, alloc, CAT034_P1, CAT048_P1)?;
-    for (element, block, equal, above, below) in NUMBERS {
-        for (operator, at_equal, if_below, if_above) in OPERATORS {
-            compares(
-                &rt,
-                alloc,
-                &files,
-                (element, operator, equal),
-                block,
-                at_equal,
-            )?;
-            compares(
-                &rt,
-                alloc,
-                &files,
-                (element, operator, above),
-                block,
-                if_below,
-            )?;
-            compares(
-                &rt,
-                alloc,
-                &files,
-                (element, operator, below),
-                block,
-                if_above,
-            )?;
-        }
+fn each_comparison(rt: HostRuntime) {
+    let files = catalogue(&rt, rt.alloc(), CAT034_P1, CAT048_P1);
+    for &number in &NUMBERS {
+        compares_by_each(&rt, rt.alloc(), &files, number);
     }
-    Ok(())
 }

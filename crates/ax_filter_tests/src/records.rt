@@ -1,7 +1,9 @@
 //! The records of a block that an expression holds of, in canonical form.
 use crate::fixtures::{catalogue, keeps};
+use ax_check::Catalogue;
 use ax_samples::{CAT034_P1, CAT048_P1};
-use std::test::Fail;
+use std::alloc::Global;
+use std::process::Abort;
 
 // A record with SAC 25, in the canonical form and with a presence octet too many.
 const SAC: &str = "30 00 06 80 19 0C";
@@ -59,14 +61,16 @@ const KEPT: [(&str, &str, &str); 24] = [
     ),
 ];
 
-#[test]
-fn records_are_kept(rt: HostRuntime) -> Result<(), Fail> {
-    let alloc = rt.alloc();
-    let files = catalogue(&rt, alloc, CAT034_P1, CAT048_P1)?;
-    for (text, block, want) in KEPT {
-        keeps(&rt, alloc, &files, text, block, want)?;
+fn each_keeps(rt: &impl Abort, alloc: Global, files: &Catalogue, rows: &[(&str, &str, &str)]) {
+    for &(text, block, want) in rows {
+        keeps(rt, alloc, files, text, block, want);
     }
-    Ok(())
+}
+
+#[test]
+fn records_are_kept(rt: HostRuntime) {
+    let files = catalogue(&rt, rt.alloc(), CAT034_P1, CAT048_P1);
+    each_keeps(&rt, rt.alloc(), &files, &KEPT);
 }
 
 // Elements of the greatest width, without a sign and with one.
@@ -103,11 +107,7 @@ const WIDE: [(&str, &str, &str); 5] = [
 ];
 
 #[test]
-fn the_greatest_width(rt: HostRuntime) -> Result<(), Fail> {
-    let alloc = rt.alloc();
-    let files = catalogue(&rt, alloc, CAT034_P1, FILE_WIDE)?;
-    for (text, block, want) in WIDE {
-        keeps(&rt, alloc, &files, text, block, want)?;
-    }
-    Ok(())
+fn the_greatest_width(rt: HostRuntime) {
+    let files = catalogue(&rt, rt.alloc(), CAT034_P1, FILE_WIDE);
+    each_keeps(&rt, rt.alloc(), &files, &WIDE);
 }

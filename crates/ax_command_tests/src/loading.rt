@@ -6,7 +6,6 @@ use ax_samples::{CAT034_P1, CAT048_P1, FILE_A, FILE_E, FILE_F, NESTED_TOO_DEEP};
 use ax_words::WordText;
 use std::alloc::{AllocError, Global};
 use std::process::Abort;
-use std::test::Fail;
 
 // The first quotation mark of a text that never ends, and a text that ends too early.
 const UNENDED: &str = "category 034 edition \"X";
@@ -47,12 +46,22 @@ fn library(alloc: Global) -> Result<MemLibrary, AllocError> {
     Ok(MemLibrary::new(files, Vec::new(alloc)))
 }
 
-fn names(alloc: Global, words: &[&str]) -> Result<Vec<WordText>, AllocError> {
+fn names(alloc: Global, first: &str, second: &str) -> Result<Vec<WordText>, AllocError> {
     let mut made = Vec::new(alloc);
-    for word in words {
-        made.push(WordText::of(alloc, word)?)?;
-    }
+    made.push(WordText::of(alloc, first)?)?;
+    made.push(WordText::of(alloc, second)?)?;
     Ok(made)
+}
+
+// Why a file gives no specification, in one word and a number.
+fn fault_told(fault: &SpecFault) -> (&'static str, u32) {
+    match fault {
+        SpecFault::TooLarge => ("TooLarge", 0),
+        SpecFault::BadByte { at } => ("BadByte", *at),
+        SpecFault::TooDeep { token } => ("TooDeep", *token),
+        SpecFault::BadToken { token } => ("BadToken", *token),
+        SpecFault::Flawed { flaws } => ("Flawed", flaws.count()),
+    }
 }
 
 // What became of loading, in one word and a number.
@@ -60,28 +69,22 @@ fn told(outcome: &LoadStop) -> (&'static str, u32) {
     match outcome {
         LoadStop::LoadFault { file } => ("LoadFault", *file),
         LoadStop::CategoryTwice { file, .. } => ("CategoryTwice", *file),
-        LoadStop::SpecRefused { fault, .. } => match fault {
-            SpecFault::TooLarge => ("TooLarge", 0),
-            SpecFault::BadByte { at } => ("BadByte", *at),
-            SpecFault::TooDeep { token } => ("TooDeep", *token),
-            SpecFault::BadToken { token } => ("BadToken", *token),
-            SpecFault::Flawed { flaws } => ("Flawed", flaws.count()),
-        },
+        LoadStop::SpecRefused { fault, .. } => fault_told(fault),
         _ => ("other", 0),
     }
 }
 
 // Two files, and what becomes of loading them.
-const LOADS: [([&str; 2], (&str, u32)); 9] = [
-    (["A", "048"], ("catalogue", 2)),
-    (["E", "048"], ("catalogue", 2)),
-    (["A", "034"], ("CategoryTwice", 1)),
-    (["A", "none"], ("LoadFault", 1)),
-    (["F", "none"], ("Flawed", 2)),
-    (["large", "A"], ("TooLarge", 0)),
-    (["A", "unended"], ("BadByte", 23)),
-    (["deep", "A"], ("TooDeep", 55)),
-    (["A", "short"], ("BadToken", 16)),
+const LOADS: [(&str, &str, &str, u32); 9] = [
+    ("A", "048", "catalogue", 2),
+    ("E", "048", "catalogue", 2),
+    ("A", "034", "CategoryTwice", 1),
+    ("A", "none", "LoadFault", 1),
+    ("F", "none", "Flawed", 2),
+    ("large", "A", "TooLarge", 0),
+    ("A", "unended", "BadByte", 23),
+    ("deep", "A", "TooDeep", 55),
+    ("A", "short", "BadToken", 16),
 ];
 
 /// What becomes of loading files of these names.
@@ -102,20 +105,21 @@ fn loaded(
 fn load_as(
     rt: &impl Abort,
     alloc: Global,
-    words: &[&str],
-    want: (&str, u32),
+    (first, second): (&str, &str),
+    want: &str,
+    number: u32,
 ) -> Result<(), AllocError> {
     let mut library = library(alloc)?;
-    let names = names(alloc, words)?;
+    let names = names(alloc, first, second)?;
     let got = loaded(rt, alloc, &mut library, names.as_slice());
-    assert_eq!(rt; got, want, "of {words:?}");
+    assert_eq!(rt; got, (want, number), "of {first} and {second}");
     Ok(())
 }
 
 #[test]
-fn the_first_file_that_gives_no_specification_is_named(rt: HostRuntime) -> Result<(), Fail> {
-    for (words, want) in &LOADS {
-        load_as(&rt, rt.alloc(), words, *want)?;
+fn the_first_file_that_gives_no_specification_is_named(rt: HostRuntime) -> Result<(), AllocError> {
+    for &(first, second, want, number) in &LOADS {
+        load_as(&rt, rt.alloc(), (first, second), want, number)?;
     }
     Ok(())
 }

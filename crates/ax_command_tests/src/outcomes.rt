@@ -1,5 +1,6 @@
 //! What a user reads of each end of a run.
 
+use crate::checks::same_octets;
 use crate::specs::spec_of;
 use ax_check::flaws;
 use ax_command::{
@@ -11,23 +12,8 @@ use std::alloc::{AllocError, Global};
 use std::process::Abort;
 use std::test::Fail;
 
-fn refused(cause: Cause, block: u64, bit: u32) -> Outcome {
-    Outcome::InputRefused {
-        fault: InputFault { cause, block, bit },
-    }
-}
-
-fn filter_refused(fault: FilterFault) -> Outcome {
-    Outcome::FilterRefused { fault }
-}
-
-fn text_refused(line: u64, fault: TextFault) -> Outcome {
-    Outcome::TextRefused { line, fault }
-}
-
-fn file_refused(fault: SpecFault) -> Outcome {
-    Outcome::SpecRefused { file: 0, fault }
-}
+/// An outcome, its exit status, and its lines.
+type Said = (Outcome, u8, &'static str);
 
 /// Asserts that the outcome has that exit status, and that these are its lines.
 fn says(
@@ -38,224 +24,239 @@ fn says(
     want: &str,
 ) -> Result<(), AllocError> {
     let mut sink = MemSink::new(alloc, 1000, 7, Vec::new(alloc))?;
-    assert!(rt; write_lines(&mut sink, outcome).is_ok());
-    assert_eq!(rt; sink.written(), want.as_bytes());
-    assert_eq!(rt; outcome.status(), status);
+    let whole = write_lines(&mut sink, outcome).is_ok();
+    same_octets(rt, sink.written(), want.as_bytes(), want);
+    assert!(rt; whole && outcome.status() == status, "of {want}");
     Ok(())
 }
 
-#[test]
-fn lines_of_refused_words_and_files(rt: HostRuntime) -> Result<(), Fail> {
-    let alloc = rt.alloc();
-    says(&rt, alloc, &Outcome::Usage, 1, "refused usage\n")?;
-    says(
-        &rt,
-        alloc,
-        &file_refused(SpecFault::TooLarge),
+fn each_says(rt: &impl Abort, alloc: Global, rows: &[Said]) -> Result<(), AllocError> {
+    for (outcome, status, want) in rows {
+        says(rt, alloc, outcome, *status, want)?;
+    }
+    Ok(())
+}
+
+const WORDS_AND_FILES: [Said; 7] = [
+    (Outcome::Usage, 1, "refused usage\n"),
+    (
+        Outcome::SpecRefused {
+            file: 0,
+            fault: SpecFault::TooLarge,
+        },
         2,
         "refused file 0 TooLarge\n",
-    )?;
-    says(
-        &rt,
-        alloc,
-        &file_refused(SpecFault::BadByte { at: 23 }),
+    ),
+    (
+        Outcome::SpecRefused {
+            file: 0,
+            fault: SpecFault::BadByte { at: 23 },
+        },
         2,
         "refused file 0 BadByte at 23\n",
-    )?;
-    says(
-        &rt,
-        alloc,
-        &file_refused(SpecFault::TooDeep { token: 55 }),
+    ),
+    (
+        Outcome::SpecRefused {
+            file: 0,
+            fault: SpecFault::TooDeep { token: 55 },
+        },
         2,
         "refused file 0 TooDeep token 55\n",
-    )?;
-    says(
-        &rt,
-        alloc,
-        &file_refused(SpecFault::BadToken { token: 16 }),
+    ),
+    (
+        Outcome::SpecRefused {
+            file: 0,
+            fault: SpecFault::BadToken { token: 16 },
+        },
         2,
         "refused file 0 BadToken token 16\n",
-    )?;
-    says(
-        &rt,
-        alloc,
-        &Outcome::CategoryTwice {
+    ),
+    (
+        Outcome::CategoryTwice {
             file: 1,
             category: 34,
         },
         2,
         "refused file 1 CategoryTwice 034\n",
-    )?;
-    says(
-        &rt,
-        alloc,
-        &Outcome::OtherCategory { old: 34, new: 48 },
+    ),
+    (
+        Outcome::OtherCategory { old: 34, new: 48 },
         2,
         "refused editions 034 048\n",
-    )?;
-    Ok(())
+    ),
+];
+
+#[test]
+fn lines_of_refused_words_and_files(rt: HostRuntime) -> Result<(), AllocError> {
+    each_says(&rt, rt.alloc(), &WORDS_AND_FILES)
 }
+
+const FLAWS_OF_F: &str =
+    "flaw file 0 NotOctets 034/010\nflaw file 0 RepeatedInUap 034/uap/010\nrefused file 0 Flawed 2\n";
 
 #[test]
 fn lines_of_a_flawed_file(rt: HostRuntime) -> Result<(), Fail> {
-    let alloc = rt.alloc();
-    let flaws = flaws(alloc, &spec_of(&rt, alloc, FILE_F)?)?;
-    let outcome = file_refused(SpecFault::Flawed { flaws });
-    says(
-        &rt,
-        alloc,
-        &outcome,
-        2,
-        "flaw file 0 NotOctets 034/010\nflaw file 0 RepeatedInUap 034/uap/010\nrefused file 0 Flawed 2\n",
-    )?;
+    let flaws = flaws(rt.alloc(), &spec_of(&rt, rt.alloc(), FILE_F)?)?;
+    let fault = SpecFault::Flawed { flaws };
+    let outcome = Outcome::SpecRefused { file: 0, fault };
+    says(&rt, rt.alloc(), &outcome, 2, FLAWS_OF_F)?;
     Ok(())
 }
 
-#[test]
-fn lines_of_refused_expressions(rt: HostRuntime) -> Result<(), Fail> {
-    let alloc = rt.alloc();
-    says(
-        &rt,
-        alloc,
-        &filter_refused(FilterFault::BadByte { at: 3 }),
+const EXPRESSIONS: [Said; 5] = [
+    (
+        Outcome::FilterRefused {
+            fault: FilterFault::BadByte { at: 3 },
+        },
         2,
         "refused filter BadByte at 3\n",
-    )?;
-    says(
-        &rt,
-        alloc,
-        &filter_refused(FilterFault::TooDeep { token: 32 }),
+    ),
+    (
+        Outcome::FilterRefused {
+            fault: FilterFault::TooDeep { token: 32 },
+        },
         2,
         "refused filter TooDeep token 32\n",
-    )?;
-    says(
-        &rt,
-        alloc,
-        &filter_refused(FilterFault::BadToken { token: 2 }),
+    ),
+    (
+        Outcome::FilterRefused {
+            fault: FilterFault::BadToken { token: 2 },
+        },
         2,
         "refused filter BadToken token 2\n",
-    )?;
-    says(
-        &rt,
-        alloc,
-        &filter_refused(FilterFault::UnknownPath { token: 1 }),
+    ),
+    (
+        Outcome::FilterRefused {
+            fault: FilterFault::UnknownPath { token: 1 },
+        },
         2,
         "refused filter UnknownPath token 1\n",
-    )?;
-    says(
-        &rt,
-        alloc,
-        &filter_refused(FilterFault::NotAnElement { token: 10 }),
+    ),
+    (
+        Outcome::FilterRefused {
+            fault: FilterFault::NotAnElement { token: 10 },
+        },
         2,
         "refused filter NotAnElement token 10\n",
-    )?;
-    Ok(())
-}
+    ),
+];
 
 #[test]
-fn lines_of_refused_blocks(rt: HostRuntime) -> Result<(), Fail> {
-    let alloc = rt.alloc();
-    says(
-        &rt,
-        alloc,
-        &refused(Cause::PresenceTooLong, 0, 31),
+fn lines_of_refused_expressions(rt: HostRuntime) -> Result<(), AllocError> {
+    each_says(&rt, rt.alloc(), &EXPRESSIONS)
+}
+
+const BLOCKS: [Said; 3] = [
+    (
+        Outcome::InputRefused {
+            fault: InputFault {
+                cause: Cause::PresenceTooLong,
+                block: 0,
+                bit: 31,
+            },
+        },
         3,
         "refused block 0 bit 31 PresenceTooLong\n",
-    )?;
-    says(
-        &rt,
-        alloc,
-        &refused(Cause::EndsInBlock, 7, 40),
+    ),
+    (
+        Outcome::InputRefused {
+            fault: InputFault {
+                cause: Cause::EndsInBlock,
+                block: 7,
+                bit: 40,
+            },
+        },
         3,
         "refused block 7 bit 40 EndsInBlock\n",
-    )?;
-    says(
-        &rt,
-        alloc,
-        &Outcome::MigratedTooLong {
+    ),
+    (
+        Outcome::MigratedTooLong {
             block: 0,
             octets: 98_301,
         },
         3,
         "refused block 0 MigratedTooLong 98301\n",
-    )?;
-    Ok(())
-}
+    ),
+];
 
 #[test]
-fn lines_of_refused_lines(rt: HostRuntime) -> Result<(), Fail> {
-    let alloc = rt.alloc();
-    says(
-        &rt,
-        alloc,
-        &text_refused(1, TextFault::LineTooLong),
+fn lines_of_refused_blocks(rt: HostRuntime) -> Result<(), AllocError> {
+    each_says(&rt, rt.alloc(), &BLOCKS)
+}
+
+const LINES: [Said; 5] = [
+    (
+        Outcome::TextRefused {
+            line: 1,
+            fault: TextFault::LineTooLong,
+        },
         3,
         "refused line 1 LineTooLong\n",
-    )?;
-    says(
-        &rt,
-        alloc,
-        &text_refused(0, TextFault::BadByte { at: 23 }),
+    ),
+    (
+        Outcome::TextRefused {
+            line: 0,
+            fault: TextFault::BadByte { at: 23 },
+        },
         3,
         "refused line 0 BadByte at 23\n",
-    )?;
-    says(
-        &rt,
-        alloc,
-        &text_refused(2, TextFault::TooDeep { token: 20 }),
+    ),
+    (
+        Outcome::TextRefused {
+            line: 2,
+            fault: TextFault::TooDeep { token: 20 },
+        },
         3,
         "refused line 2 TooDeep token 20\n",
-    )?;
-    says(
-        &rt,
-        alloc,
-        &text_refused(7, TextFault::BadToken { token: 8 }),
+    ),
+    (
+        Outcome::TextRefused {
+            line: 7,
+            fault: TextFault::BadToken { token: 8 },
+        },
         3,
         "refused line 7 BadToken token 8\n",
-    )?;
-    says(
-        &rt,
-        alloc,
-        &text_refused(0, TextFault::TooLong { octets: 65_536 }),
+    ),
+    (
+        Outcome::TextRefused {
+            line: 0,
+            fault: TextFault::TooLong { octets: 65_536 },
+        },
         3,
         "refused line 0 TooLong 65536\n",
-    )?;
-    Ok(())
-}
+    ),
+];
 
 #[test]
-fn lines_of_other_ends(rt: HostRuntime) -> Result<(), Fail> {
-    let alloc = rt.alloc();
-    says(&rt, alloc, &Outcome::Done { blocks: 2 }, 0, "")?;
-    says(
-        &rt,
-        alloc,
-        &Outcome::InputTooLong,
-        3,
-        "refused input InputTooLong\n",
-    )?;
-    says(&rt, alloc, &Outcome::ReportFault, 4, "")?;
-    says(
-        &rt,
-        alloc,
-        &Outcome::LoadFault { file: 0 },
-        4,
-        "fault file 0\n",
-    )?;
-    says(&rt, alloc, &Outcome::ReadFault, 4, "fault read\n")?;
-    says(&rt, alloc, &Outcome::WriteFault, 4, "fault write\n")?;
-    says(&rt, alloc, &Outcome::OutOfMemory, 5, "refused memory\n")?;
-    Ok(())
+fn lines_of_refused_lines(rt: HostRuntime) -> Result<(), AllocError> {
+    each_says(&rt, rt.alloc(), &LINES)
+}
+
+const OTHER_ENDS: [Said; 7] = [
+    (Outcome::Done { blocks: 2 }, 0, ""),
+    (Outcome::InputTooLong, 3, "refused input InputTooLong\n"),
+    (Outcome::ReportFault, 4, ""),
+    (Outcome::LoadFault { file: 0 }, 4, "fault file 0\n"),
+    (Outcome::ReadFault, 4, "fault read\n"),
+    (Outcome::WriteFault, 4, "fault write\n"),
+    (Outcome::OutOfMemory, 5, "refused memory\n"),
+];
+
+#[test]
+fn lines_of_other_ends(rt: HostRuntime) -> Result<(), AllocError> {
+    each_says(&rt, rt.alloc(), &OTHER_ENDS)
 }
 
 #[test]
 fn line_of_an_accepted_file(rt: HostRuntime) -> Result<(), Fail> {
-    let alloc = rt.alloc();
     let text = "category 034 edition \"034-E\" items { } uap { }";
-    let spec = spec_of(&rt, alloc, text)?;
-    assert_eq!(rt;
-        line_of(alloc, &spec)?.as_slice(),
-        b"accepted 034 \"034-E\" items 0 slots 0\n".as_slice()
+    let spec = spec_of(&rt, rt.alloc(), text)?;
+    let line = line_of(rt.alloc(), &spec)?;
+    same_octets(
+        &rt,
+        &line,
+        b"accepted 034 \"034-E\" items 0 slots 0\n",
+        text,
     );
     Ok(())
 }

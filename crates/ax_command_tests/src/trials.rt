@@ -1,5 +1,6 @@
 //! The lines that `trial` writes.
 
+use crate::checks::same_octets;
 use crate::specs::spec_of;
 use ax_check::{Accepted, accept};
 use ax_samples::{CAT034_P1, CAT048_P1, FILE_K, FILE_N, FILE_Z};
@@ -40,7 +41,7 @@ fn has_line(
     assert!(rt; count <= 1_000_000);
     let accepted = accepted(rt, alloc, text)?;
     let found = trial_text(alloc, &accepted, seed, count)?;
-    assert_eq!(rt; found.as_slice(), line.as_bytes());
+    same_octets(rt, &found, line.as_bytes(), line);
     Ok(())
 }
 

@@ -22,12 +22,17 @@ fn each_kind(alloc: Global) -> Result<Spec, Fail> {
     Ok(read_spec(alloc, &found)?)
 }
 
+fn put(made: &mut Values, number: u128) -> Result<(), AllocError> {
+    if made.count() < 1000 {
+        made.push(Value::Number(number))?;
+    }
+    Ok(())
+}
+
 fn numbers(alloc: Global, numbers: &[u128]) -> Result<Values, AllocError> {
     let mut made = Values::new(alloc);
     for number in numbers {
-        if made.count() < 1000 {
-            made.push(Value::Number(*number))?;
-        }
+        put(&mut made, *number)?;
     }
     Ok(made)
 }
@@ -45,9 +50,7 @@ fn lists(alloc: Global, one: &[u128], count: u32) -> Result<Lists, AllocError> {
 fn repeated(alloc: Global, number: u128, count: u32) -> Result<Values, AllocError> {
     let mut made = Values::new(alloc);
     for _index in 0..count {
-        if made.count() < 1000 {
-            made.push(Value::Number(number))?;
-        }
+        put(&mut made, number)?;
     }
     Ok(made)
 }
@@ -134,6 +137,11 @@ const FORMS: [(u32, Form<'static>, bool); 21] = [
     (8, Form::Number(0), false),
 ];
 
+/// Asserts that a block fits, or doesn't.
+fn block_fits(rt: &impl Abort, spec: &Spec, block: &Block, want: bool, of: u32) {
+    assert!(rt; fits(spec, block) == want, "of {of}");
+}
+
 /// Asserts that a block of one record with that value in that slot fits, or doesn't.
 fn value_fits(
     rt: &impl Abort,
@@ -143,7 +151,7 @@ fn value_fits(
     want: bool,
 ) -> Result<(), AllocError> {
     let block = one_item(alloc, slot, value_of(alloc, form)?)?;
-    assert_eq!(rt; fits(spec, &block), want, "in slot {slot}");
+    block_fits(rt, spec, &block, want, slot);
     Ok(())
 }
 
@@ -171,15 +179,17 @@ fn opaque_fits(
     want: bool,
 ) -> Result<(), AllocError> {
     let block = opaque(alloc, category, count)?;
-    assert_eq!(rt; fits(spec, &block), want, "of category {category}");
+    block_fits(rt, spec, &block, want, u32::from(category));
     Ok(())
 }
+
+const OPAQUE: [(u8, u32, bool); 3] = [(205, 1, false), (204, 1, true), (204, 0, false)];
 
 #[test]
 fn opaque_blocks_fit_by_their_category(rt: HostRuntime) -> Result<(), Fail> {
     let alloc = rt.alloc();
     let spec = each_kind(alloc)?;
-    for (category, count, want) in [(205, 1, false), (204, 1, true), (204, 0, false)] {
+    for &(category, count, want) in &OPAQUE {
         opaque_fits(&rt, alloc, &spec, (category, count), want)?;
     }
     Ok(())
@@ -194,7 +204,7 @@ fn empty_record_fits(
     want: bool,
 ) -> Result<(), AllocError> {
     let block = one_record(alloc, category, Entries::new(alloc))?;
-    assert_eq!(rt; fits(spec, &block), want, "of category {category}");
+    block_fits(rt, spec, &block, want, u32::from(category));
     Ok(())
 }
 
@@ -208,7 +218,7 @@ fn blocks_of_records_fit_by_their_category(rt: HostRuntime) -> Result<(), Fail> 
         category: 205,
         records: Records::new(alloc),
     };
-    assert!(rt; !fits(&spec, &none));
+    block_fits(&rt, &spec, &none, false, 205);
     Ok(())
 }
 
@@ -237,13 +247,10 @@ fn spec_copied(alloc: Global) -> Result<Spec, Fail> {
 fn copies_stand_for_their_originals(rt: HostRuntime) -> Result<(), Fail> {
     let alloc = rt.alloc();
     let spec = spec_copied(alloc)?;
-    assert_eq!(rt;
-        (spec.category, spec.items.count(), spec.uap.count()),
-        (205, 6, 7)
-    );
+    assert!(rt; spec.category == 205 && spec.items.count() == 6 && spec.uap.count() == 7);
     let block = block_copied(alloc)?;
-    assert!(rt; fits(&spec, &block));
+    block_fits(&rt, &spec, &block, true, 205);
     let opaque = opaque_copied(alloc)?;
-    assert!(rt; fits(&spec, &opaque));
+    block_fits(&rt, &spec, &opaque, true, 7);
     Ok(())
 }

@@ -5,6 +5,8 @@
 #[cfg(test)]
 mod bits;
 #[cfg(test)]
+mod checks;
+#[cfg(test)]
 mod fitting;
 #[cfg(test)]
 mod lists;

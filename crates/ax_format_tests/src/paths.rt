@@ -1,9 +1,9 @@
 //! Paths that are read from texts.
 
+use crate::checks::same_number;
 use ax_model::Path;
 use std::alloc::{AllocError, Global};
 use std::process::Abort;
-use std::test::Fail;
 
 // A text, and how many names the path has that it spells; none where it spells none.
 const PATHS: [(&str, u32); 9] = [
@@ -32,11 +32,10 @@ fn names_of(rt: &impl Abort, alloc: Global, text: &str) -> Result<u32, AllocErro
 }
 
 #[test]
-fn paths_are_read_and_copied(rt: HostRuntime) -> Result<(), Fail> {
-    let alloc = rt.alloc();
+fn paths_are_read_and_copied(rt: HostRuntime) -> Result<(), AllocError> {
     for &(text, count) in &PATHS {
-        let found = names_of(&rt, alloc, text)?;
-        assert_eq!(rt; found, count, "of {text}");
+        let found = names_of(&rt, rt.alloc(), text)?;
+        same_number(&rt, i128::from(found), i128::from(count), text);
     }
     Ok(())
 }

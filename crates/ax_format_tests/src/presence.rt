@@ -1,6 +1,7 @@
 //! Presence fields that are read and written, and sets of slots.
 ghost use Rattle.std.specs.Prelude.{◌≡◌, ◌≤◌};
 
+use crate::checks::same_octets;
 use ax_bits::Out;
 use ax_fspec::{Presence, SlotMask, read_presence, write_presence};
 use ax_model::{BodyCause, BodyFault};
@@ -17,6 +18,16 @@ fn mask(count: u32, spare: u32) -> SlotMask
         }
     }
     SlotMask { count, defined }
+}
+
+/// The set of these slots.
+fn set_of(rt: &impl Abort, slots: &[u32]) -> Presence {
+    let mut set = Presence::empty();
+    for slot in slots {
+        assert!(rt; 1 <= *slot && *slot <= 126);
+        set.mark(*slot);
+    }
+    set
 }
 
 // Whether a set has exactly these slots, which are ascending.
@@ -53,8 +64,7 @@ const FIELDS: [Field<'static>; 8] = [
 /// Asserts that the field marks its slots, and no slot that was in the set before.
 fn is_read(rt: &impl Abort, (count, spare, body, at, slots): Field<'_>) {
     assert!(rt; 1 <= count && count <= 126 && body.len() <= 65532 && at as usize <= body.len());
-    let mut into = Presence::empty();
-    into.mark(5);
+    let mut into = set_of(rt, &[5]);
     let end = read_presence(&mask(count, spare), body, at, &mut into);
     assert!(rt; end.is_ok() && is_set(&into, slots), "{count} slots");
 }
@@ -99,12 +109,13 @@ const FAULTS: [Fault<'static>; 13] = [
 /// Asserts that the field has its fault, and changes no set.
 fn is_refused(rt: &impl Abort, (count, spare, body, at, cause, bit): Fault<'_>) {
     assert!(rt; 1 <= count && count <= 126 && body.len() <= 65532 && at as usize <= body.len());
-    let mut into = Presence::empty();
-    into.mark(5);
-    into.mark(77);
+    let mut into = set_of(rt, &[5, 77]);
     let end = read_presence(&mask(count, spare), body, at, &mut into);
-    assert_eq!(rt; end, Err(BodyFault { cause, bit }), "{count} slots");
-    assert!(rt; is_set(&into, &[5, 77]), "{count} slots");
+    let refused = end == Err(BodyFault { cause, bit });
+    assert!(rt;
+        refused && is_set(&into, &[5, 77]),
+        "{count} slots: {end:?}"
+    );
 }
 
 #[test]
@@ -132,31 +143,15 @@ const LEAST: [(&[u32], &[u8]); 7] = [
 
 /// Asserts that the least field of these slots has those octets.
 fn is_written(rt: &impl Abort, slots: &[u32], octets: &[u8]) {
-    let mut marked = Presence::empty();
-    for slot in slots {
-        assert!(rt; 1 <= *slot && *slot <= 126);
-        marked.mark(*slot);
-    }
+    let marked = set_of(rt, slots);
     let mut buffer = [0; 18];
-    assert_eq!(rt;
-        field_in(&marked, &mut buffer),
-        octets,
-        "{} slots",
-        slots.len()
-    );
+    same_octets(rt, field_in(&marked, &mut buffer), octets, "a least field");
 }
 
 #[test]
 fn keeps_the_common_slots(rt: HostRuntime) {
-    let mut set = Presence::empty();
-    set.mark(3);
-    set.mark(63);
-    set.mark(64);
-    set.mark(126);
-    let mut other = Presence::empty();
-    other.mark(2);
-    other.mark(63);
-    other.mark(126);
+    let set = set_of(&rt, &[3, 63, 64, 126]);
+    let other = set_of(&rt, &[2, 63, 126]);
     assert!(rt; is_set(&set.common(&other), &[63, 126]));
 }
 
@@ -178,21 +173,26 @@ fn field_in<'b>(marked: &Presence, buffer: &'b mut [u8; 18]) -> &'b [u8] {
     &buffer[..count]
 }
 
-#[test]
-fn has_the_marked_slots_alone(rt: HostRuntime) {
-    let mut set = Presence::empty();
-    set.mark(1);
-    set.mark(63);
-    set.mark(64);
-    set.mark(126);
-    for slot in 0..200 {
-        let is_marked = slot == 1 || slot == 63 || slot == 64 || slot == 126;
-        assert_eq!(rt; set.has(slot), is_marked, "slot {slot}");
-    }
+/// Asserts that the set has that slot where these slots are marked.
+fn has_where_marked(rt: &impl Abort, set: &Presence, slots: &[u32], slot: u32) {
+    assert!(rt; set.has(slot) == slots.contains(&slot), "slot {slot}");
+}
+
+/// The last slot of a set.
+fn last_of(set: &Presence) -> u32 {
     let mut last = 0;
     for slot in set.slots() {
         last = slot;
     }
-    assert_eq!(rt; last, 126);
-    assert!(rt; is_set(&set, &[1, 63, 64, 126]));
+    last
+}
+
+#[test]
+fn has_the_marked_slots_alone(rt: HostRuntime) {
+    let slots = [1, 63, 64, 126];
+    let set = set_of(&rt, &slots);
+    for slot in 0..200 {
+        has_where_marked(&rt, &set, &slots, slot);
+    }
+    assert!(rt; last_of(&set) == 126 && is_set(&set, &slots));
 }

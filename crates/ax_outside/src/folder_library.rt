@@ -87,34 +87,52 @@ impl<R: Files + Drop> Library for FolderLibrary<R> {
 #[cfg(test)]
 mod tests {
     use super::*;
-    use std::test::Fail;
+    use crate::checks::{loads, tells};
+    use std::io;
+    use std::process::Abort;
 
-    // A real folder: each answer of a load, with the faults counted and the octets taken after it.
+    // A real folder, with two files and a folder in it.
+    fn put_files(rt: &impl Files) -> io::Result<()> {
+        fs::write(rt, "A", "abcde")?;
+        fs::write(rt, "empty", "")?;
+        fs::create_dir_all(rt, "folder")
+    }
+
+    // A load's name and limit, its answer, and the faults counted and the octets taken after it.
+    type Row = (
+        &'static str,
+        u32,
+        Result<&'static [u8], LoadError>,
+        u64,
+        u64,
+    );
+
+    const LOADS: [Row; 6] = [
+        ("A", 5, Ok(b"abcde"), 0, 5),
+        ("A", 4, Err(LoadError::TooLarge), 0, 10),
+        ("empty", 0, Ok(b""), 0, 10),
+        ("missing", 5, Err(LoadError::Failed), 1, 10),
+        ("folder", 5, Err(LoadError::Failed), 2, 10),
+        ("", 5, Err(LoadError::Failed), 3, 10),
+    ];
+
+    fn answers<R: Files + Drop>(
+        rt: &impl Abort,
+        alloc: Global,
+        library: &mut FolderLibrary<R>,
+        &(name, limit, wanted, faults, taken): &Row,
+    ) {
+        loads(rt, &library.load(alloc, name, limit), wanted, name);
+        tells(rt, library.faults, faults, name);
+        tells(rt, library.taken, taken, name);
+    }
+
     #[test]
-    fn files_are_loaded_by_name(rt: HostRuntime) -> Result<(), Fail> {
-        fs::write(&rt, "A", "abcde")?;
-        fs::write(&rt, "empty", "")?;
-        fs::create_dir_all(&rt, "folder")?;
-        let alloc = rt.alloc();
+    fn files_are_loaded_by_name(rt: HostRuntime) -> io::Result<()> {
+        put_files(&rt)?;
         let mut library = FolderLibrary::new(&rt);
-        for (name, limit, want, faults, taken) in [
-            ("A", 5, Ok("abcde"), 0, 5),
-            ("A", 4, Err(LoadError::TooLarge), 0, 10),
-            ("empty", 0, Ok(""), 0, 10),
-            ("missing", 5, Err(LoadError::Failed), 1, 10),
-            ("folder", 5, Err(LoadError::Failed), 2, 10),
-            ("", 5, Err(LoadError::Failed), 3, 10),
-        ] {
-            match (library.load(alloc, name, limit), want) {
-                (Ok(octets), Ok(text)) => assert_eq!(rt; octets.as_slice(), text.as_bytes()),
-                (Err(error), Err(wanted)) => assert_eq!(rt; error, wanted, "of {name}"),
-                _ => panic!(rt; "of {name}"),
-            }
-            assert_eq!(rt;
-                (library.faults, library.taken),
-                (faults, taken),
-                "of {name}"
-            );
+        for row in &LOADS {
+            answers(&rt, rt.alloc(), &mut library, row);
         }
         Ok(())
     }

@@ -131,32 +131,58 @@ impl Library for MemLibrary {
 #[cfg(test)]
 mod tests {
     use super::*;
-    use std::test::Fail;
+    use crate::checks::{loads, tells};
+    use std::alloc::AllocError;
+    use std::process::Abort;
 
-    // Two files of one name and one of another, load 1 failing: each load's answer, with the faults counted after it.
-    #[test]
-    fn the_first_file_of_a_name_counts(rt: HostRuntime) -> Result<(), Fail> {
-        let alloc = rt.alloc();
+    // Two files of one name and one of another.
+    const FILES: [(&str, &[u8]); 3] = [("A", b"abc"), ("B", b"de"), ("A", b"f")];
+
+    fn put(
+        alloc: Global,
+        files: &mut Vec<(String, Vec<u8>)>,
+        name: &str,
+        octets: &[u8],
+    ) -> Result<(), AllocError> {
+        files.push((String::from_str(alloc, name)?, octets.to_vec(alloc)?))?;
+        Ok(())
+    }
+
+    // A library of those files, whose load 1 fails.
+    fn library(alloc: Global) -> Result<MemLibrary, AllocError> {
         let mut files = Vec::new(alloc);
-        for (name, text) in [("A", "abc"), ("B", "de"), ("A", "f")] {
-            let octets = text.as_bytes().to_vec(alloc)?;
-            files.push((String::from_str(alloc, name)?, octets))?;
+        for &(name, octets) in &FILES {
+            put(alloc, &mut files, name, octets)?;
         }
-        let failing = vec![in alloc; 1]?;
-        let mut library = MemLibrary::new(files, failing);
-        for (name, limit, want, faults) in [
-            ("A", 3, Ok("abc"), 0),
-            ("A", 3, Err(LoadError::Failed), 1),
-            ("A", 2, Err(LoadError::TooLarge), 1),
-            ("B", 9, Ok("de"), 1),
-            ("C", 9, Err(LoadError::Failed), 1),
-        ] {
-            match (library.load(alloc, name, limit), want) {
-                (Ok(octets), Ok(text)) => assert_eq!(rt; octets.as_slice(), text.as_bytes()),
-                (Err(error), Err(wanted)) => assert_eq!(rt; error, wanted, "of {name}"),
-                _ => panic!(rt; "of {name}"),
-            }
-            assert_eq!(rt; library.faults, faults, "of {name}");
+        Ok(MemLibrary::new(files, vec![in alloc; 1]?))
+    }
+
+    // A load's name and limit, its answer, and the faults counted after it.
+    type Row = (&'static str, u32, Result<&'static [u8], LoadError>, u64);
+
+    const LOADS: [Row; 5] = [
+        ("A", 3, Ok(b"abc"), 0),
+        ("A", 3, Err(LoadError::Failed), 1),
+        ("A", 2, Err(LoadError::TooLarge), 1),
+        ("B", 9, Ok(b"de"), 1),
+        ("C", 9, Err(LoadError::Failed), 1),
+    ];
+
+    fn answers(
+        rt: &impl Abort,
+        alloc: Global,
+        library: &mut MemLibrary,
+        &(name, limit, wanted, faults): &Row,
+    ) {
+        loads(rt, &library.load(alloc, name, limit), wanted, name);
+        tells(rt, library.faults, faults, name);
+    }
+
+    #[test]
+    fn the_first_file_of_a_name_counts(rt: HostRuntime) -> Result<(), AllocError> {
+        let mut library = library(rt.alloc())?;
+        for row in &LOADS {
+            answers(&rt, rt.alloc(), &mut library, row);
         }
         Ok(())
     }

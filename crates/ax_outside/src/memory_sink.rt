@@ -119,26 +119,42 @@ impl Sink for MemSink {
 #[cfg(test)]
 mod tests {
     use super::*;
-    use std::test::Fail;
+    use crate::checks::{counts, holds, tells};
+    use std::process::Abort;
 
-    // A room of five octets, two a call, call 1 failing: each call's answer, and what is held after it.
+    // A room of five octets, two a call, call 1 failing.
+    fn sink(alloc: Global) -> Result<MemSink, AllocError> {
+        MemSink::new(alloc, 5, 2, vec![in alloc; 1]?)
+    }
+
+    // Each call's piece, its answer, and what is held after it.
+    const WRITES: [(&str, Option<usize>, &str); 6] = [
+        ("abc", Some(2), "ab"),
+        ("abc", None, "ab"),
+        ("c", Some(1), "abc"),
+        ("defg", Some(2), "abcde"),
+        ("f", None, "abcde"),
+        ("", Some(0), "abcde"),
+    ];
+
+    fn answers(
+        rt: &impl Abort,
+        sink: &mut MemSink,
+        piece: &str,
+        wanted: Option<usize>,
+        held: &str,
+    ) {
+        counts(rt, sink.write(piece.as_bytes()).ok(), wanted, piece);
+        holds(rt, sink.written(), held.as_bytes(), piece);
+    }
+
     #[test]
-    fn calls_are_cut_and_fail_by_number(rt: HostRuntime) -> Result<(), Fail> {
-        let alloc = rt.alloc();
-        let failing = vec![in alloc; 1]?;
-        let mut sink = MemSink::new(alloc, 5, 2, failing)?;
-        for (piece, want, held) in [
-            ("abc", Ok(2), "ab"),
-            ("abc", Err(SinkFailed), "ab"),
-            ("c", Ok(1), "abc"),
-            ("defg", Ok(2), "abcde"),
-            ("f", Err(SinkFailed), "abcde"),
-            ("", Ok(0), "abcde"),
-        ] {
-            assert_eq!(rt; sink.write(piece.as_bytes()), want);
-            assert_eq!(rt; sink.written(), held.as_bytes());
+    fn calls_are_cut_and_fail_by_number(rt: HostRuntime) -> Result<(), AllocError> {
+        let mut sink = sink(rt.alloc())?;
+        for &(piece, wanted, held) in &WRITES {
+            answers(&rt, &mut sink, piece, wanted, held);
         }
-        assert_eq!(rt; sink.faults, 2);
+        tells(&rt, sink.faults, 2, "faults");
         Ok(())
     }
 }

@@ -110,28 +110,45 @@ impl Source for MemSource {
 #[cfg(test)]
 mod tests {
     use super::*;
-    use std::test::Fail;
+    use crate::checks::{counts, holds, tells};
+    use std::alloc::{AllocError, Global};
+    use std::process::Abort;
 
-    // Six octets under the cuts 2, 9, 0, call 1 failing: each call's answer, with the front of the buffer.
-    #[test]
-    fn calls_are_cut_and_fail_by_number(rt: HostRuntime) -> Result<(), Fail> {
-        let alloc = rt.alloc();
-        let octets = vec![in alloc; 97, 98, 99, 100, 101, 102]?;
+    // Six octets under the cuts 2, 9, 0, call 1 failing.
+    fn source(alloc: Global) -> Result<MemSource, AllocError> {
+        let octets = b"abcdef".to_vec(alloc)?;
         let cuts = vec![in alloc; 2, 9, 0]?;
-        let failing = vec![in alloc; 1]?;
-        let mut source = MemSource::new(octets, cuts, failing);
+        Ok(MemSource::new(octets, cuts, vec![in alloc; 1]?))
+    }
+
+    // Each call's answer, with the front of the buffer.
+    const READS: [(Option<usize>, &str); 5] = [
+        (Some(2), "ab"),
+        (None, "ab"),
+        (Some(1), "cb"),
+        (Some(3), "de"),
+        (Some(0), "de"),
+    ];
+
+    fn answers(
+        rt: &impl Abort,
+        source: &mut MemSource,
+        part: &mut [u8; 4],
+        wanted: Option<usize>,
+        front: &str,
+    ) {
+        counts(rt, source.read(part).ok(), wanted, front);
+        holds(rt, &part[..2], front.as_bytes(), front);
+    }
+
+    #[test]
+    fn calls_are_cut_and_fail_by_number(rt: HostRuntime) -> Result<(), AllocError> {
+        let mut source = source(rt.alloc())?;
         let mut part = [0u8; 4];
-        for (want, front) in [
-            (Ok(2), [97, 98]),
-            (Err(SourceFailed), [97, 98]),
-            (Ok(1), [99, 98]),
-            (Ok(3), [100, 101]),
-            (Ok(0), [100, 101]),
-        ] {
-            assert_eq!(rt; source.read(&mut part), want);
-            assert_eq!(rt; &part[..2], front.as_slice());
+        for &(wanted, front) in &READS {
+            answers(&rt, &mut source, &mut part, wanted, front);
         }
-        assert_eq!(rt; source.faults, 1);
+        tells(&rt, source.faults, 1, "faults");
         Ok(())
     }
 }

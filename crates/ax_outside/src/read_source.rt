@@ -60,25 +60,51 @@ impl<R: Read> Source for ReadSource<R> {
 #[cfg(test)]
 mod tests {
     use super::*;
-    use std::fs;
-    use std::test::Fail;
+    use crate::checks::{counts, holds, tells};
+    use std::process::Abort;
+    use std::rt::Files;
+    use std::{fs, io};
 
-    // A real file is read to its end in pieces, and a folder in its place is a counted fault.
+    // A real file of five octets.
+    fn file<R: Files>(rt: &R) -> io::Result<R::File> {
+        fs::write(rt, "input", "abcde")?;
+        fs::open(rt, "input")
+    }
+
+    // What each read answers, and what stands in the buffer then.
+    const READS: [(usize, &str); 3] = [(3, "abc"), (2, "dec"), (0, "dec")];
+
+    fn answers<R: Read>(
+        rt: &impl Abort,
+        source: &mut ReadSource<R>,
+        part: &mut [u8; 3],
+        count: usize,
+        octets: &str,
+    ) {
+        counts(rt, source.read(part).ok(), Some(count), octets);
+        holds(rt, part, octets.as_bytes(), octets);
+    }
+
+    // A real file is read to its end in pieces.
     #[test]
-    fn a_file_is_read_to_its_end(rt: HostRuntime) -> Result<(), Fail> {
-        fs::write(&rt, "input", "abcde")?;
+    fn a_file_is_read_to_its_end(rt: HostRuntime) -> io::Result<()> {
+        let mut source = ReadSource::new(file(&rt)?);
         let mut part = [0u8; 3];
-        let mut source = ReadSource::new(fs::open(&rt, "input")?);
-        assert_eq!(rt; source.read(&mut part), Ok(3));
-        assert_eq!(rt; part, [97, 98, 99]);
-        assert_eq!(rt; source.read(&mut part), Ok(2));
-        assert_eq!(rt; part, [100, 101, 99]);
-        assert_eq!(rt; source.read(&mut part), Ok(0));
-        assert_eq!(rt; (source.taken, source.faults), (5, 0));
+        for &(count, octets) in &READS {
+            answers(&rt, &mut source, &mut part, count, octets);
+        }
+        tells(&rt, source.taken, 5, "octets taken");
+        tells(&rt, source.faults, 0, "faults");
+        Ok(())
+    }
 
+    // A folder in the place of a file is a counted fault.
+    #[test]
+    fn a_folder_is_a_fault(rt: HostRuntime) -> io::Result<()> {
         let mut folder = ReadSource::new(fs::open(&rt, ".")?);
-        assert_eq!(rt; folder.read(&mut part), Err(SourceFailed));
-        assert_eq!(rt; (folder.taken, folder.faults), (0, 1));
+        counts(&rt, folder.read(&mut [0u8; 3]).ok(), None, "a folder");
+        tells(&rt, folder.taken, 0, "octets taken");
+        tells(&rt, folder.faults, 1, "faults");
         Ok(())
     }
 }

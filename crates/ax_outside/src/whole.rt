@@ -53,26 +53,42 @@ pub fn fill<S: Source>(source: &mut S, buffer: &mut [u8]) -> Result<usize, Sourc
 #[cfg(test)]
 mod tests {
     use super::*;
+    use crate::checks::{counts, holds};
     use crate::memory_sink::MemSink;
     use crate::memory_source::MemSource;
-    use std::test::Fail;
+    use std::alloc::{AllocError, Global};
+    use std::process::Abort;
 
-    // A source in cuts of 2, 3 and 1 fills a buffer of 4 and then part of it, and a sink of one octet a call takes both.
-    #[test]
-    fn cuts_leave_no_trace(rt: HostRuntime) -> Result<(), Fail> {
-        let alloc = rt.alloc();
-        let octets = vec![in alloc; 97, 98, 99, 100, 101, 102]?;
+    // Six octets in cuts of 2, 3 and 1.
+    fn source(alloc: Global) -> Result<MemSource, AllocError> {
+        let octets = b"abcdef".to_vec(alloc)?;
         let cuts = vec![in alloc; 2, 3, 1]?;
-        let mut source = MemSource::new(octets, cuts, Vec::new(alloc));
-        let mut sink = MemSink::new(alloc, 6, 1, Vec::new(alloc))?;
+        Ok(MemSource::new(octets, cuts, Vec::new(alloc)))
+    }
+
+    // Asserts how much of the buffer is filled.
+    fn fills(rt: &impl Abort, source: &mut MemSource, buffer: &mut [u8; 4], wanted: usize) {
+        counts(rt, fill(source, buffer).ok(), Some(wanted), "the buffer");
+    }
+
+    // Asserts whether the whole piece is written.
+    fn writes(rt: &impl Abort, sink: &mut MemSink, piece: &[u8], wanted: Result<(), SinkFailed>) {
+        assert_eq!(rt; write_all_of(sink, piece), wanted);
+    }
+
+    // The source fills a buffer of 4 and then part of it, and a sink of one octet a call takes both.
+    #[test]
+    fn cuts_leave_no_trace(rt: HostRuntime) -> Result<(), AllocError> {
+        let mut source = source(rt.alloc())?;
+        let mut sink = MemSink::new(rt.alloc(), 6, 1, Vec::new(rt.alloc()))?;
         let mut buffer = [0u8; 4];
-        assert_eq!(rt; fill(&mut source, &mut buffer), Ok(4));
-        assert_eq!(rt; buffer, *b"abcd");
-        assert_eq!(rt; write_all_of(&mut sink, &buffer), Ok(()));
-        assert_eq!(rt; fill(&mut source, &mut buffer), Ok(2));
-        assert_eq!(rt; write_all_of(&mut sink, &buffer[..2]), Ok(()));
-        assert_eq!(rt; sink.written(), b"abcdef".as_slice());
-        assert_eq!(rt; write_all_of(&mut sink, &buffer), Err(SinkFailed));
+        fills(&rt, &mut source, &mut buffer, 4);
+        holds(&rt, &buffer, b"abcd", "the buffer");
+        writes(&rt, &mut sink, &buffer, Ok(()));
+        fills(&rt, &mut source, &mut buffer, 2);
+        writes(&rt, &mut sink, &buffer[..2], Ok(()));
+        holds(&rt, sink.written(), b"abcdef", "the sink");
+        writes(&rt, &mut sink, &buffer, Err(SinkFailed));
         Ok(())
     }
 }

@@ -50,22 +50,36 @@ impl<W: Write> Sink for WriteSink<W> {
 #[cfg(test)]
 mod tests {
     use super::*;
-    use std::fs;
-    use std::test::Fail;
+    use crate::checks::{counts, holds, tells};
+    use std::process::Abort;
+    use std::{fs, io};
 
-    // What is written stands in a real file, and a write to a file that was opened to be read is a counted fault.
+    // Each piece, and how many octets of it are taken.
+    const WRITES: [(&str, usize); 3] = [("abc", 3), ("", 0), ("d", 1)];
+
+    fn takes<W: Write>(rt: &impl Abort, sink: &mut WriteSink<W>, piece: &str, count: usize) {
+        counts(rt, sink.write(piece.as_bytes()).ok(), Some(count), piece);
+    }
+
+    // What is written stands in a real file.
     #[test]
-    fn a_piece_stands_in_the_file(rt: HostRuntime) -> Result<(), Fail> {
+    fn a_piece_stands_in_the_file(rt: HostRuntime) -> io::Result<()> {
         let mut sink = WriteSink::new(fs::create(&rt, "output")?);
-        assert_eq!(rt; sink.write(b"abc"), Ok(3));
-        assert_eq!(rt; sink.write(b""), Ok(0));
-        assert_eq!(rt; sink.write(b"d"), Ok(1));
-        assert_eq!(rt; sink.faults, 0);
-        assert_eq!(rt; fs::read(&rt, "output")?.as_slice(), b"abcd".as_slice());
+        for &(piece, count) in &WRITES {
+            takes(&rt, &mut sink, piece, count);
+        }
+        tells(&rt, sink.faults, 0, "faults");
+        holds(&rt, &fs::read(&rt, "output")?, b"abcd", "the file");
+        Ok(())
+    }
 
-        let mut unwritable = WriteSink::new(fs::open(&rt, "output")?);
-        assert_eq!(rt; unwritable.write(b"e"), Err(SinkFailed));
-        assert_eq!(rt; unwritable.faults, 1);
+    // A write to a file that was opened to be read is a counted fault.
+    #[test]
+    fn a_file_to_be_read_takes_nothing(rt: HostRuntime) -> io::Result<()> {
+        fs::write(&rt, "readable", "abcd")?;
+        let mut unwritable = WriteSink::new(fs::open(&rt, "readable")?);
+        counts(&rt, unwritable.write(b"e").ok(), None, "e");
+        tells(&rt, unwritable.faults, 1, "faults");
         Ok(())
     }
 }

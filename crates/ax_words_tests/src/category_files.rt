@@ -1,12 +1,13 @@
 //! Category files that are read and printed.
 
-use crate::lexing::{have_one_text, tokens_of};
+use crate::checks::same_text;
+use crate::lexing::{has_fault, have_one_spelling, tokens_of};
 use ax_grammar::{SyntaxError, print_spec, read_spec};
 use ax_samples::{
     CAT048_P1, FILE_E, FILE_G1, FILE_H1, FILE_H2, FILE_K, FILE_N, FILE_S, FILE_Z, NESTED_TOO_DEEP,
 };
 use ax_tokens::LexError;
-use std::alloc::Global;
+use std::alloc::{AllocError, Global};
 use std::process::Abort;
 use std::test::Fail;
 
@@ -80,19 +81,25 @@ const BAD_TOKENS: [(&[u8], u32); 20] = [
     ),
 ];
 
-#[test]
-fn bad_tokens_are_named(rt: HostRuntime) {
-    for &(text, wanted) in &BAD_TOKENS {
-        assert_eq!(rt; bad_token(&rt, rt.alloc(), text), Some(wanted), "{text:?}");
-    }
+/// Asserts that a text has that bad token.
+fn has_bad_token(rt: &impl Abort, alloc: Global, text: &[u8], wanted: u32) {
+    assert_eq!(rt; bad_token(rt, alloc, text), Some(wanted), "{text:?}");
 }
 
 #[test]
+fn bad_tokens_are_named(rt: HostRuntime) {
+    for &(text, wanted) in &BAD_TOKENS {
+        has_bad_token(&rt, rt.alloc(), text, wanted);
+    }
+}
+
+const CUT: &[u8] = b"category 034 edition \"X";
+
+#[test]
 fn tokens_are_refused_before_the_grammar(rt: HostRuntime) {
-    let cut = tokens_of(&rt, rt.alloc(), b"category 034 edition \"X", 16);
-    assert!(rt; matches!(cut, Err(LexError::BadByte { at: 23 })));
-    let deep = tokens_of(&rt, rt.alloc(), NESTED_TOO_DEEP.as_bytes(), 16);
-    assert!(rt; matches!(deep, Err(LexError::TooDeep { token: 55 })));
+    let deep = NESTED_TOO_DEEP.as_bytes();
+    has_fault(&rt, rt.alloc(), CUT, 16, Some(("bad byte", 23)));
+    has_fault(&rt, rt.alloc(), deep, 16, Some(("too deep", 55)));
 }
 
 /// The text that a file's specification is printed as.
@@ -124,12 +131,10 @@ fn one_line_files_are_printed_as_they_are(rt: HostRuntime) -> Result<(), Fail> {
 
 #[test]
 fn a_printed_sample_has_the_tokens_of_its_file(rt: HostRuntime) -> Result<(), Fail> {
-    let alloc = rt.alloc();
-    let printed = reprinted(&rt, alloc, CAT048_P1.as_bytes())?;
-    let wanted = tokens_of(&rt, alloc, CAT048_P1.as_bytes(), 16)?;
-    let found = tokens_of(&rt, alloc, &printed, 16)?;
-    have_one_text(&rt, &found, &wanted)?;
-    is_printed_as(&rt, alloc, &printed, &printed)
+    let text = CAT048_P1.as_bytes();
+    let printed = reprinted(&rt, rt.alloc(), text)?;
+    have_one_spelling(&rt, rt.alloc(), &printed, text)?;
+    is_printed_as(&rt, rt.alloc(), &printed, &printed)
 }
 
 // Each error, and its text.
@@ -139,10 +144,10 @@ const ERRORS: [(SyntaxError, &str); 2] = [
 ];
 
 #[test]
-fn errors_name_their_token(rt: HostRuntime) -> Result<(), Fail> {
+fn errors_name_their_token(rt: HostRuntime) -> Result<(), AllocError> {
     for (error, wanted) in &ERRORS {
         let text = error.to_string(rt.alloc())?;
-        assert_eq!(rt; text.as_str(), *wanted);
+        same_text(&rt, text.as_str(), wanted, "an error");
     }
     Ok(())
 }

@@ -1,9 +1,9 @@
 //! The words of a command line.
 
-use ax_words::{Line, WordTexts, WordsError, read_words};
+use crate::checks::same_text;
+use ax_words::{Line, WordText, WordTexts, WordsError, read_words};
 use std::alloc::{AllocError, Global};
 use std::process::Abort;
-use std::test::Fail;
 
 /// The words between the spaces of a text. The empty text has none.
 fn words_in(alloc: Global, text: &str) -> Result<Vec<String>, AllocError> {
@@ -17,30 +17,54 @@ fn words_in(alloc: Global, text: &str) -> Result<Vec<String>, AllocError> {
     Ok(words)
 }
 
+/// A verb and a word in brackets.
+fn with_word(alloc: Global, verb: &str, word: &WordText) -> Result<String, AllocError> {
+    let mut shown = String::from_str(alloc, verb)?;
+    shown.push_str(" [")?;
+    shown.push_str(word.text())?;
+    shown.push_str("]")?;
+    Ok(shown)
+}
+
 /// A verb and each of the files, in brackets.
 fn with_files(alloc: Global, verb: &str, files: &WordTexts) -> Result<String, AllocError> {
     let mut shown = String::from_str(alloc, verb)?;
     for file in files.as_slice() {
-        write!(shown, " [{}]", file.text())?;
+        shown = with_word(alloc, shown.as_str(), file)?;
     }
+    Ok(shown)
+}
+
+/// Both files of a migration, in brackets.
+fn with_editions(alloc: Global, old: &WordText, new: &WordText) -> Result<String, AllocError> {
+    let mut shown = with_word(alloc, "migrate", old)?;
+    shown.push_str(" to")?;
+    with_word(alloc, shown.as_str(), new)
+}
+
+/// The file of a trial in brackets, and its numbers.
+fn with_numbers(
+    alloc: Global,
+    file: &WordText,
+    seed: u64,
+    count: u32,
+) -> Result<String, AllocError> {
+    let mut shown = with_word(alloc, "trial", file)?;
+    write!(shown, " {seed} {count}")?;
     Ok(shown)
 }
 
 /// What a line says.
 fn shown(alloc: Global, line: &Line) -> Result<String, AllocError> {
     match line {
-        Line::Check { file } => format!(in alloc; "check [{}]", file.text()),
+        Line::Check { file } => with_word(alloc, "check", file),
         Line::Canon { files } => with_files(alloc, "canon", files),
         Line::Show { files } => with_files(alloc, "show", files),
         Line::Text { files } => with_files(alloc, "text", files),
         Line::Build { files } => with_files(alloc, "build", files),
         Line::Filter { expr, files } => with_files(alloc, expr.text(), files),
-        Line::Migrate { old, new } => {
-            format!(in alloc; "migrate [{}] to [{}]", old.text(), new.text())
-        }
-        Line::Trial { file, seed, count } => {
-            format!(in alloc; "trial [{}] {seed} {count}", file.text())
-        }
+        Line::Migrate { old, new } => with_editions(alloc, old, new),
+        Line::Trial { file, seed, count } => with_numbers(alloc, file, *seed, *count),
         Line::Help => String::from_str(alloc, "help"),
         Line::Version => String::from_str(alloc, "version"),
     }
@@ -59,7 +83,7 @@ fn read(alloc: Global, text: &str) -> Result<String, AllocError> {
 /// Asserts that the words of a text ask for that.
 fn ask_for(rt: &impl Abort, alloc: Global, text: &str, want: &str) -> Result<(), AllocError> {
     let found = read(alloc, text)?;
-    assert_eq!(rt; found.as_str(), want, "at {text}");
+    same_text(rt, found.as_str(), want, text);
     Ok(())
 }
 
@@ -85,7 +109,7 @@ const LINES: [(&str, &str); 15] = [
 ];
 
 #[test]
-fn lines_of_words(rt: HostRuntime) -> Result<(), Fail> {
+fn lines_of_words(rt: HostRuntime) -> Result<(), AllocError> {
     for &(text, want) in &LINES {
         ask_for(&rt, rt.alloc(), text, want)?;
     }
@@ -122,7 +146,7 @@ const REFUSED: [&str; 26] = [
 ];
 
 #[test]
-fn words_without_a_line(rt: HostRuntime) -> Result<(), Fail> {
+fn words_without_a_line(rt: HostRuntime) -> Result<(), AllocError> {
     for text in &REFUSED {
         ask_for(&rt, rt.alloc(), text, "usage")?;
     }

@@ -1,5 +1,6 @@
 //! Tokens of texts, and their first fault.
 
+use crate::checks::same_text;
 use ax_tokens::{LexError, Token, TokenKind, Tokens, tokens};
 use std::alloc::{AllocError, Global};
 use std::process::Abort;
@@ -34,34 +35,39 @@ fn fault_of(
     }
 }
 
-/// Asserts that a token has that kind, text and first place, and ends with its text.
-fn is_token(rt: &impl Abort, token: &Token<'_>, (kind, octets, from): Wanted<'_>) {
-    assert_eq!(rt; token.kind, kind);
-    assert_eq!(rt; token.text, octets);
-    assert_eq!(rt; token.from, from);
-    assert_eq!(rt; u64::from(token.to), u64::from(from) + octets.len() as u64);
+/// Whether a token has that kind, text and first place, and ends with its text.
+fn is_token(token: &Token<'_>, (kind, octets, from): Wanted<'_>) -> bool {
+    token.kind == kind
+        && token.text == octets
+        && token.from == from
+        && u64::from(token.to) == u64::from(from) + octets.len() as u64
 }
 
-/// Asserts that the tokens are those.
-fn are_tokens(rt: &impl Abort, found: &Tokens<'_>, wanted: &[Wanted]) -> Result<(), Fail> {
-    assert_eq!(rt; found.count() as usize, wanted.len());
-    for number in 0..found.count() {
-        let token = found.get(number).ok_or("a token is missing")?;
-        is_token(rt, token, wanted[number as usize]);
+/// Whether the tokens are those.
+fn are_tokens(found: &Tokens<'_>, wanted: &[Wanted]) -> bool {
+    if found.count() as usize != wanted.len() {
+        return false;
     }
-    assert!(rt; found.get(found.count()).is_none());
-    Ok(())
+    for number in 0..found.count() {
+        match found.get(number) {
+            Some(token) if is_token(token, wanted[number as usize]) => {}
+            _ => return false,
+        }
+    }
+    found.get(found.count()).is_none()
 }
 
+/// Asserts that a text has those tokens.
 fn has_tokens(
     rt: &impl Abort,
     alloc: Global,
     text: &[u8],
     depth: u32,
     wanted: &[Wanted],
-) -> Result<(), Fail> {
+) -> Result<(), LexError> {
     let found = tokens_of(rt, alloc, text, depth)?;
-    are_tokens(rt, &found, wanted)
+    assert!(rt; are_tokens(&found, wanted), "{text:?} has {found:?}");
+    Ok(())
 }
 
 const TOKENS: [(&[u8], u32, &[Wanted]); 9] = [
@@ -121,7 +127,7 @@ const TOKENS: [(&[u8], u32, &[Wanted]); 9] = [
 ];
 
 #[test]
-fn texts_have_their_tokens(rt: HostRuntime) -> Result<(), Fail> {
+fn texts_have_their_tokens(rt: HostRuntime) -> Result<(), LexError> {
     for &(text, depth, wanted) in &TOKENS {
         has_tokens(&rt, rt.alloc(), text, depth, wanted)?;
     }
@@ -147,10 +153,21 @@ const FAULTS: [(&[u8], u32, Option<(&str, u32)>); 16] = [
     (b"# {{ \x00\n}{", 1, None),
 ];
 
+/// Asserts that a text has that fault, or none.
+pub(crate) fn has_fault(
+    rt: &impl Abort,
+    alloc: Global,
+    text: &[u8],
+    depth: u32,
+    wanted: Option<(&str, u32)>,
+) {
+    assert_eq!(rt; fault_of(rt, alloc, text, depth), wanted, "{text:?}");
+}
+
 #[test]
 fn texts_have_their_first_fault(rt: HostRuntime) {
     for &(text, depth, wanted) in &FAULTS {
-        assert_eq!(rt; fault_of(&rt, rt.alloc(), text, depth), wanted, "{text:?}");
+        has_fault(&rt, rt.alloc(), text, depth, wanted);
     }
 }
 
@@ -171,28 +188,46 @@ fn spread(alloc: Global) -> Result<Vec<u8>, AllocError> {
     Ok(made)
 }
 
-/// Asserts that the tokens of both have the same texts in order.
-pub(crate) fn have_one_text(
-    rt: &impl Abort,
-    one: &Tokens<'_>,
-    other: &Tokens<'_>,
-) -> Result<(), Fail> {
-    assert_eq!(rt; one.count(), other.count());
+/// Whether the tokens of both have that text at that number.
+fn have_one_text_at(one: &Tokens<'_>, other: &Tokens<'_>, number: u32) -> bool {
+    let Some(found) = one.get(number) else {
+        return false;
+    };
+    let Some(wanted) = other.get(number) else {
+        return false;
+    };
+    found.text == wanted.text
+}
+
+/// Whether the tokens of both have the same texts in order.
+fn have_one_text(one: &Tokens<'_>, other: &Tokens<'_>) -> bool {
     for number in 0..one.count() {
-        let found = one.get(number).ok_or("a token is missing")?;
-        let wanted = other.get(number).ok_or("a token is missing")?;
-        assert_eq!(rt; found.text, wanted.text);
+        if !have_one_text_at(one, other, number) {
+            return false;
+        }
     }
-    Ok(())
+    one.count() == other.count()
+}
+
+/// Asserts that the tokens of both texts have the same texts in order, and answers how many they are.
+pub(crate) fn have_one_spelling(
+    rt: &impl Abort,
+    alloc: Global,
+    text: &[u8],
+    other: &[u8],
+) -> Result<u32, LexError> {
+    let found = tokens_of(rt, alloc, text, 16)?;
+    let wanted = tokens_of(rt, alloc, other, 16)?;
+    assert!(rt; have_one_text(&found, &wanted), "{found:?} and {wanted:?}");
+    Ok(wanted.count())
 }
 
 #[test]
 fn gaps_change_no_token(rt: HostRuntime) -> Result<(), Fail> {
     let octets = spread(rt.alloc())?;
-    let close = tokens_of(&rt, rt.alloc(), CATEGORY_FILE, 16)?;
-    let wide = tokens_of(&rt, rt.alloc(), &octets, 16)?;
-    assert_eq!(rt; close.count(), 31);
-    have_one_text(&rt, &wide, &close)
+    let count = have_one_spelling(&rt, rt.alloc(), &octets, CATEGORY_FILE)?;
+    assert_eq!(rt; count, 31);
+    Ok(())
 }
 
 // Each error, and its text.
@@ -206,10 +241,10 @@ const ERRORS: [(LexError, &str); 3] = [
 ];
 
 #[test]
-fn errors_name_their_place(rt: HostRuntime) -> Result<(), Fail> {
+fn errors_name_their_place(rt: HostRuntime) -> Result<(), AllocError> {
     for (error, wanted) in &ERRORS {
         let text = error.to_string(rt.alloc())?;
-        assert_eq!(rt; text.as_str(), *wanted);
+        same_text(&rt, text.as_str(), wanted, "an error");
     }
     Ok(())
 }

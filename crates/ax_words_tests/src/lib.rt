@@ -5,6 +5,8 @@
 #[cfg(test)]
 mod category_files;
 #[cfg(test)]
+mod checks;
+#[cfg(test)]
 mod command_lines;
 #[cfg(test)]
 mod lexing;

@@ -9,11 +9,17 @@ use ax_values::decode_block;
 use std::alloc::Global;
 use std::process::Abort;
 
+/// Stops at a block whose LEN is not the number of its octets.
+fn stop_at_length(rt: &impl Abort, octets: &[u8]) -> ! {
+    panic!(rt; "LEN of {octets:?}")
+}
+
 /// The category and the body of the block that these octets are, whose LEN has to be theirs.
 fn raw_of<'o>(rt: &impl Abort, octets: &'o [u8]) -> RawBlock<'o> {
     assert!(rt; octets.len() >= 4);
-    let length = octets[1] as usize * 256 + octets[2] as usize;
-    assert!(rt; octets.len() == length, "LEN of {octets:?}");
+    if octets.len() != octets[1] as usize * 256 + octets[2] as usize {
+        stop_at_length(rt, octets)
+    }
     RawBlock {
         category: octets[0],
         body: &octets[3..],

@@ -73,15 +73,15 @@ fn the_first_bad_token_is_named(rt: HostRuntime) {
 }
 
 /// Asserts the number of the first bad token of a line under a file.
-fn is_bad_under(rt: &impl Abort, alloc: Global, file: &str, line: &str, want: u32) {
+fn is_bad_under(rt: &impl Abort, alloc: Global, &(file, line, want): &(&str, &str, u32)) {
     let catalogue = catalogue_of(rt, alloc, file);
     is_bad_at(rt, alloc, &catalogue, line.as_bytes(), want, line);
 }
 
 #[test]
 fn the_first_bad_token_under_other_files(rt: HostRuntime) {
-    for &(file, line, want) in &OTHER_BAD {
-        is_bad_under(&rt, rt.alloc(), file, line, want);
+    for row in &OTHER_BAD {
+        is_bad_under(&rt, rt.alloc(), row);
     }
 }
 
@@ -97,13 +97,22 @@ const TOO_MANY: [(&str, u32, &str, &str, u32); 2] = [
     ),
 ];
 
+/// Asserts the number of the first bad token of a line with so many middles.
+fn is_bad_where_repeated(
+    rt: &impl Abort,
+    alloc: Global,
+    catalogue: &Catalogue,
+    &(front, count, middle, end, want): &(&str, u32, &str, &str, u32),
+) {
+    let line = repeated(rt, alloc, front, count, middle, end);
+    is_bad_at(rt, alloc, catalogue, &line, want, front);
+}
+
 #[test]
 fn a_list_has_at_most_so_many(rt: HostRuntime) {
-    let alloc = rt.alloc();
-    let catalogue = catalogue_of(&rt, alloc, CAT048_P1);
-    for &(front, count, middle, end, want) in &TOO_MANY {
-        let line = repeated(alloc, front, count, middle, end).expect(&rt, "memory");
-        is_bad_at(&rt, alloc, &catalogue, &line, want, front);
+    let catalogue = catalogue_of(&rt, rt.alloc(), CAT048_P1);
+    for row in &TOO_MANY {
+        is_bad_where_repeated(&rt, rt.alloc(), &catalogue, row);
     }
 }
 

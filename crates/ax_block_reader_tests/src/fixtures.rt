@@ -6,7 +6,7 @@ use ax_grammar::read_spec;
 use ax_model::{Block, Spec, fits};
 use ax_tokens::tokens;
 use ax_values::encode_block;
-use std::alloc::{AllocError, Global};
+use std::alloc::Global;
 use std::process::Abort;
 
 /// The specification that a text spells.
@@ -36,20 +36,27 @@ pub(crate) fn catalogue_of(rt: &impl Abort, alloc: Global, text: &str) -> Catalo
     catalogue
 }
 
+/// Adds octets to a line.
+fn add(rt: &impl Abort, line: &mut Vec<u8>, text: &str) {
+    line.extend_from_slice(text.as_bytes()).expect(rt, "memory");
+}
+
 /// A front, so many times the middle, and an end.
 pub(crate) fn repeated(
+    rt: &impl Abort,
     alloc: Global,
     front: &str,
     count: u32,
     middle: &str,
     end: &str,
-) -> Result<Vec<u8>, AllocError> {
-    let mut line = front.as_bytes().to_vec(alloc)?;
+) -> Vec<u8> {
+    let mut line = Vec::new(alloc);
+    add(rt, &mut line, front);
     for _ in 0..count {
-        line.extend_from_slice(middle.as_bytes())?;
+        add(rt, &mut line, middle);
     }
-    line.extend_from_slice(end.as_bytes())?;
-    Ok(line)
+    add(rt, &mut line, end);
+    line
 }
 
 /// The block of a line, by the limit of nesting that record text has.

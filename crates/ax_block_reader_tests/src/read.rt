@@ -20,12 +20,21 @@ fn line_encoded(
     encoded(rt, alloc, file, &block)
 }
 
+/// Asserts that octets are those in hexadecimal, of the line that is named.
+fn are_octets(rt: &impl Abort, alloc: Global, made: &[u8], want: &str, line: &str) {
+    let want = octets(alloc, want).expect(rt, "octets");
+    same_octets(rt, made, &want, line);
+}
+
 /// Asserts that a line under a file of a category is the text of the block with these octets.
-fn is_read_as(rt: &impl Abort, alloc: Global, file: &str, category: u8, line: &str, want: &str) {
+fn is_read_as(
+    rt: &impl Abort,
+    alloc: Global,
+    &(file, category, line, want): &(&str, u8, &str, &str),
+) {
     let catalogue = catalogue_of(rt, alloc, file);
     let made = line_encoded(rt, alloc, &catalogue, category, line);
-    let want = octets(alloc, want).expect(rt, "octets");
-    same_octets(rt, &made, &want, line);
+    are_octets(rt, alloc, &made, want, line);
 }
 
 // Category files and their categories, lines, and the octets of the blocks.
@@ -90,8 +99,8 @@ const READ: [(&str, u8, &str, &str); 11] = [
 
 #[test]
 fn blocks_are_read(rt: HostRuntime) {
-    for &(file, category, line, want) in &READ {
-        is_read_as(&rt, rt.alloc(), file, category, line, want);
+    for row in &READ {
+        is_read_as(&rt, rt.alloc(), row);
     }
 }
 
@@ -108,7 +117,7 @@ fn is_opaque(rt: &impl Abort, block: &Block, wanted: u8, wanted_octets: &[u8]) {
 
 #[test]
 fn an_opaque_block_needs_no_file(rt: HostRuntime) {
-    let alloc = rt.alloc();
-    let block = block_of(&rt, alloc, &Catalogue::new(alloc), b"opaque 048 \"80ff\"");
+    let catalogue = Catalogue::new(rt.alloc());
+    let block = block_of(&rt, rt.alloc(), &catalogue, b"opaque 048 \"80ff\"");
     is_opaque(&rt, &block, 48, &[0x80, 0xFF]);
 }

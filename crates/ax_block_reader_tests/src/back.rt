@@ -1,55 +1,37 @@
 //! What was printed for a block reads back as that block.
 
-use crate::fixtures::{block_of, catalogue_of};
+use crate::fixtures::{block_of, catalogue_of, encoded, same_octets};
 use ax_check::{Accepted, Catalogue};
-use ax_model::{Block, RawBlock, fits};
+use ax_model::{RawBlock, fits};
 use ax_samples::{CAT019_P1, CAT034_P1, CAT048_P1, FILE_A, FILE_H1, FILE_N, octets};
 use ax_text::block_text;
-use ax_values::{decode_block, encode_block};
+use ax_values::decode_block;
 use std::alloc::Global;
 use std::process::Abort;
-use std::test::Fail;
 
-/// The body of a block, after CAT and the LEN that it has.
-fn body_of<'o>(rt: &impl Abort, octets: &'o [u8]) -> &'o [u8] {
-    assert!(rt; octets.len() >= 4);
-    let length = octets[1] as usize * 256 + octets[2] as usize;
-    assert_eq!(rt; octets.len(), length, "LEN of {octets:?}");
-    &octets[3..]
+/// Stops at a block whose LEN is not the number of its octets.
+fn stop_at_length(rt: &impl Abort, octets: &[u8]) -> ! {
+    panic!(rt; "LEN of {octets:?}")
 }
 
-fn decoded(rt: &impl Abort, alloc: Global, file: &Accepted, octets: &[u8]) -> Result<Block, Fail> {
-    let body = body_of(rt, octets);
-    assert!(rt; !octets.is_empty());
-    assert!(rt; !body.is_empty());
-    assert!(rt; body.len() <= 65_532);
-    let category = octets[0];
-    Ok(decode_block(alloc, file.spec(), &RawBlock { category, body })?)
+/// The category and the body of the block that these octets are, whose LEN has to be theirs.
+fn raw_of<'o>(rt: &impl Abort, octets: &'o [u8]) -> RawBlock<'o> {
+    assert!(rt; octets.len() >= 4);
+    if octets.len() != octets[1] as usize * 256 + octets[2] as usize {
+        stop_at_length(rt, octets)
+    }
+    RawBlock {
+        category: octets[0],
+        body: &octets[3..],
+    }
 }
 
 /// The text of the block that these octets are.
-fn printed(
-    rt: &impl Abort,
-    alloc: Global,
-    file: &Accepted,
-    octets: &[u8],
-) -> Result<Vec<u8>, Fail> {
-    let block = decoded(rt, alloc, file, octets)?;
+fn printed(rt: &impl Abort, alloc: Global, file: &Accepted, octets: &[u8]) -> Vec<u8> {
+    let raw = raw_of(rt, octets);
+    let block = decode_block(alloc, file.spec(), &raw).expect(rt, "a block");
     assert!(rt; fits(file.spec(), &block));
-    Ok(block_text(alloc, file.spec(), &block)?)
-}
-
-/// The octets of the block of a line.
-fn read(
-    rt: &impl Abort,
-    alloc: Global,
-    catalogue: &Catalogue,
-    file: &Accepted,
-    line: &[u8],
-) -> Result<Vec<u8>, Fail> {
-    let block = block_of(rt, alloc, catalogue, line)?;
-    assert!(rt; fits(file.spec(), &block));
-    Ok(encode_block(alloc, file.spec(), &block)?)
+    block_text(alloc, file.spec(), &block).expect(rt, "a text")
 }
 
 /// The octets of the block that is read from the text of the block that these octets are.
@@ -58,23 +40,19 @@ fn printed_and_read(
     alloc: Global,
     catalogue: &Catalogue,
     octets: &[u8],
-) -> Result<Vec<u8>, Fail> {
-    let file = catalogue.at(0).ok_or("a file")?;
-    let line = printed(rt, alloc, file, octets)?;
-    read(rt, alloc, catalogue, file, &line)
+) -> Vec<u8> {
+    let file = catalogue.at(0).expect(rt, "a file");
+    let line = printed(rt, alloc, file, octets);
+    let block = block_of(rt, alloc, catalogue, &line);
+    encoded(rt, alloc, file, &block)
 }
 
 /// Asserts that a block in hexadecimal is printed and read back.
-fn reads_back(
-    rt: &impl Abort,
-    alloc: Global,
-    catalogue: &Catalogue,
-    block: &str,
-) -> Result<(), Fail> {
-    let octets = octets(alloc, block)?;
-    let back = printed_and_read(rt, alloc, catalogue, &octets)?;
-    assert_eq!(rt; back.as_slice(), octets.as_slice(), "{block}");
-    Ok(())
+fn reads_back(rt: &impl Abort, alloc: Global, text: &str, block: &str) {
+    let catalogue = catalogue_of(rt, alloc, text);
+    let octets = octets(alloc, block).expect(rt, "octets");
+    let back = printed_and_read(rt, alloc, &catalogue, &octets);
+    same_octets(rt, &back, &octets, block);
 }
 
 // Category files, and canonical blocks under them.
@@ -103,11 +81,8 @@ const BLOCKS: [(&str, &str); 18] = [
 ];
 
 #[test]
-fn printed_blocks_read_back(rt: HostRuntime) -> Result<(), Fail> {
-    let alloc = rt.alloc();
+fn printed_blocks_read_back(rt: HostRuntime) {
     for &(file, block) in &BLOCKS {
-        let catalogue = catalogue_of(&rt, alloc, file)?;
-        reads_back(&rt, alloc, &catalogue, block)?;
+        reads_back(&rt, rt.alloc(), file, block);
     }
-    Ok(())
 }

@@ -1,11 +1,10 @@
 //! The first bad token of texts that are no block's.
 
-use crate::fixtures::{add_file, bad_token, catalogue_of};
+use crate::fixtures::{add_file, catalogue_of, is_bad_at, repeated};
 use ax_check::Catalogue;
 use ax_samples::{CAT048_P1, FILE_A, FILE_H1, FILE_N};
-use std::alloc::{AllocError, Global};
+use std::alloc::Global;
 use std::process::Abort;
-use std::test::Fail;
 
 // Lines under category 048, and the number of the first bad token.
 const BAD: [(&str, u32); 36] = [
@@ -64,52 +63,26 @@ const OTHER_BAD: [(&str, &str, u32); 7] = [
     (FILE_H1, "block 202 { record { 010 { B 1 A 1 } } }", 9),
 ];
 
-fn is_bad_at(
-    rt: &impl Abort,
-    alloc: Global,
-    catalogue: &Catalogue,
-    line: &str,
-    want: u32,
-) -> Result<(), Fail> {
-    let token = bad_token(rt, alloc, catalogue, line.as_bytes())?;
-    assert_eq!(rt; token, want, "{line}");
-    Ok(())
-}
-
 #[test]
-fn the_first_bad_token_is_named(rt: HostRuntime) -> Result<(), Fail> {
+fn the_first_bad_token_is_named(rt: HostRuntime) {
     let alloc = rt.alloc();
-    let catalogue = catalogue_of(&rt, alloc, CAT048_P1)?;
+    let catalogue = catalogue_of(&rt, alloc, CAT048_P1);
     for &(line, want) in &BAD {
-        is_bad_at(&rt, alloc, &catalogue, line, want)?;
+        is_bad_at(&rt, alloc, &catalogue, line.as_bytes(), want, line);
     }
-    Ok(())
+}
+
+/// Asserts the number of the first bad token of a line under a file.
+fn is_bad_under(rt: &impl Abort, alloc: Global, &(file, line, want): &(&str, &str, u32)) {
+    let catalogue = catalogue_of(rt, alloc, file);
+    is_bad_at(rt, alloc, &catalogue, line.as_bytes(), want, line);
 }
 
 #[test]
-fn the_first_bad_token_under_other_files(rt: HostRuntime) -> Result<(), Fail> {
-    let alloc = rt.alloc();
-    for &(file, line, want) in &OTHER_BAD {
-        let catalogue = catalogue_of(&rt, alloc, file)?;
-        is_bad_at(&rt, alloc, &catalogue, line, want)?;
+fn the_first_bad_token_under_other_files(rt: HostRuntime) {
+    for row in &OTHER_BAD {
+        is_bad_under(&rt, rt.alloc(), row);
     }
-    Ok(())
-}
-
-/// A front, so many times the middle, and an end.
-fn repeated(
-    alloc: Global,
-    front: &[u8],
-    count: u32,
-    middle: &[u8],
-    end: &[u8],
-) -> Result<Vec<u8>, AllocError> {
-    let mut line = front.to_vec(alloc)?;
-    for _ in 0..count {
-        line.extend_from_slice(middle)?;
-    }
-    line.extend_from_slice(end)?;
-    Ok(line)
 }
 
 // An SP of 255 octets, and a 256th occurrence of item 250.
@@ -124,63 +97,50 @@ const TOO_MANY: [(&str, u32, &str, &str, u32); 2] = [
     ),
 ];
 
+/// Asserts the number of the first bad token of a line with so many middles.
 fn is_bad_where_repeated(
     rt: &impl Abort,
     alloc: Global,
     catalogue: &Catalogue,
-    (front, count, middle, end): (&str, u32, &str, &str),
-    want: u32,
-) -> Result<(), Fail> {
-    let line = repeated(
-        alloc,
-        front.as_bytes(),
-        count,
-        middle.as_bytes(),
-        end.as_bytes(),
-    )?;
-    let token = bad_token(rt, alloc, catalogue, &line)?;
-    assert_eq!(rt; token, want, "{front}");
-    Ok(())
+    &(front, count, middle, end, want): &(&str, u32, &str, &str, u32),
+) {
+    let line = repeated(rt, alloc, front, count, middle, end);
+    is_bad_at(rt, alloc, catalogue, &line, want, front);
 }
 
 #[test]
-fn a_list_has_at_most_so_many(rt: HostRuntime) -> Result<(), Fail> {
-    let alloc = rt.alloc();
-    let catalogue = catalogue_of(&rt, alloc, CAT048_P1)?;
-    for &(front, count, middle, end, want) in &TOO_MANY {
-        is_bad_where_repeated(&rt, alloc, &catalogue, (front, count, middle, end), want)?;
+fn a_list_has_at_most_so_many(rt: HostRuntime) {
+    let catalogue = catalogue_of(&rt, rt.alloc(), CAT048_P1);
+    for row in &TOO_MANY {
+        is_bad_where_repeated(&rt, rt.alloc(), &catalogue, row);
     }
-    Ok(())
 }
 
 #[test]
-fn without_a_file_no_text_begins_with_block(rt: HostRuntime) -> Result<(), Fail> {
-    let alloc = rt.alloc();
-    let catalogue = Catalogue::new(alloc);
-    let token = bad_token(&rt, alloc, &catalogue, b"block 048 { record { } }")?;
-    assert_eq!(rt; token, 0);
-    Ok(())
+fn without_a_file_no_text_begins_with_block(rt: HostRuntime) {
+    let catalogue = Catalogue::new(rt.alloc());
+    let line = "block 048 { record { } }";
+    is_bad_at(&rt, rt.alloc(), &catalogue, line.as_bytes(), 0, line);
 }
 
-/// A file of a category, with no item.
-fn file_of(alloc: Global, category: u32) -> Result<String, AllocError> {
-    format!(in alloc; "category {category:03} edition \"\" items {{ }} uap {{ - }}")
-}
-
-fn all_categories(rt: &impl Abort, alloc: Global) -> Result<Catalogue, Fail> {
+/// A catalogue with a file of each category, which has no item.
+fn all_categories(rt: &impl Abort, alloc: Global) -> Catalogue {
     let mut catalogue = Catalogue::new(alloc);
     for category in 0..256u32 {
-        let text = file_of(alloc, category)?;
-        add_file(rt, alloc, &mut catalogue, text.as_str())?;
+        let text = format!(in alloc; "category {category:03} edition \"\" items {{ }} uap {{ - }}");
+        add_file(
+            rt,
+            alloc,
+            &mut catalogue,
+            text.expect(rt, "memory").as_str(),
+        );
     }
-    Ok(catalogue)
+    catalogue
 }
 
 #[test]
-fn with_all_categories_no_text_begins_with_opaque(rt: HostRuntime) -> Result<(), Fail> {
-    let alloc = rt.alloc();
-    let catalogue = all_categories(&rt, alloc)?;
-    let token = bad_token(&rt, alloc, &catalogue, b"opaque 062 \"00\"")?;
-    assert_eq!(rt; token, 0);
-    Ok(())
+fn with_all_categories_no_text_begins_with_opaque(rt: HostRuntime) {
+    let catalogue = all_categories(&rt, rt.alloc());
+    let line = "opaque 062 \"00\"";
+    is_bad_at(&rt, rt.alloc(), &catalogue, line.as_bytes(), 0, line);
 }

@@ -3,53 +3,72 @@
 use ax_block_reader::{TextError, read_block_text};
 use ax_check::{Accepted, Catalogue, accept};
 use ax_grammar::read_spec;
-use ax_model::{Block, Spec};
+use ax_model::{Block, Spec, fits};
 use ax_tokens::tokens;
+use ax_values::encode_block;
 use std::alloc::Global;
 use std::process::Abort;
-use std::test::Fail;
 
 /// The specification that a text spells.
-fn spec_of(rt: &impl Abort, alloc: Global, text: &str) -> Result<Spec, Fail> {
+fn spec_of(rt: &impl Abort, alloc: Global, text: &str) -> Spec {
     let text = text.as_bytes();
     assert!(rt; text.len() < 10_000);
-    let found = tokens(alloc, text, 16)?;
-    Ok(read_spec(alloc, &found)?)
+    let found = tokens(alloc, text, 16).expect(rt, "tokens");
+    read_spec(alloc, &found).expect(rt, "a specification")
 }
 
 /// The specification of a category file without flaw.
-fn accepted(rt: &impl Abort, alloc: Global, text: &str) -> Result<Accepted, Fail> {
-    Ok(accept(alloc, spec_of(rt, alloc, text)?)?)
+fn accepted(rt: &impl Abort, alloc: Global, text: &str) -> Accepted {
+    let spec = spec_of(rt, alloc, text);
+    accept(alloc, spec).expect(rt, "a specification without flaw")
 }
 
 /// Adds a category file.
-pub(crate) fn add_file(
-    rt: &impl Abort,
-    alloc: Global,
-    catalogue: &mut Catalogue,
-    text: &str,
-) -> Result<(), Fail> {
-    catalogue.add(accepted(rt, alloc, text)?)?;
-    Ok(())
+pub(crate) fn add_file(rt: &impl Abort, alloc: Global, catalogue: &mut Catalogue, text: &str) {
+    let file = accepted(rt, alloc, text);
+    catalogue.add(file).expect(rt, "a category that is new");
 }
 
 /// A catalogue of one category file.
-pub(crate) fn catalogue_of(rt: &impl Abort, alloc: Global, text: &str) -> Result<Catalogue, Fail> {
+pub(crate) fn catalogue_of(rt: &impl Abort, alloc: Global, text: &str) -> Catalogue {
     let mut catalogue = Catalogue::new(alloc);
-    add_file(rt, alloc, &mut catalogue, text)?;
-    Ok(catalogue)
+    add_file(rt, alloc, &mut catalogue, text);
+    catalogue
+}
+
+/// Adds octets to a line.
+fn add(rt: &impl Abort, line: &mut Vec<u8>, text: &str) {
+    line.extend_from_slice(text.as_bytes()).expect(rt, "memory");
+}
+
+/// A front, so many times the middle, and an end.
+pub(crate) fn repeated(
+    rt: &impl Abort,
+    alloc: Global,
+    front: &str,
+    count: u32,
+    middle: &str,
+    end: &str,
+) -> Vec<u8> {
+    let mut line = Vec::new(alloc);
+    add(rt, &mut line, front);
+    for _ in 0..count {
+        add(rt, &mut line, middle);
+    }
+    add(rt, &mut line, end);
+    line
 }
 
 /// The block of a line, by the limit of nesting that record text has.
-pub(crate) fn read_line(
+fn read_line(
     rt: &impl Abort,
     alloc: Global,
     catalogue: &Catalogue,
     line: &[u8],
-) -> Result<Result<Block, TextError>, Fail> {
+) -> Result<Block, TextError> {
     assert!(rt; line.len() < 10_000_000);
-    let found = tokens(alloc, line, 20)?;
-    Ok(read_block_text(alloc, catalogue, &found))
+    let found = tokens(alloc, line, 20).expect(rt, "tokens");
+    read_block_text(alloc, catalogue, &found)
 }
 
 /// The block of a line that is the text of one.
@@ -58,32 +77,51 @@ pub(crate) fn block_of(
     alloc: Global,
     catalogue: &Catalogue,
     line: &[u8],
-) -> Result<Block, Fail> {
-    Ok(read_line(rt, alloc, catalogue, line)??)
+) -> Block {
+    read_line(rt, alloc, catalogue, line).expect(rt, "the text of a block")
 }
 
-/// The number of the first bad token of a line that is no block's.
-pub(crate) fn bad_token(
+/// The octets of a block that fits a file.
+pub(crate) fn encoded(rt: &impl Abort, alloc: Global, file: &Accepted, block: &Block) -> Vec<u8> {
+    assert!(rt; fits(file.spec(), block));
+    encode_block(alloc, file.spec(), block).expect(rt, "octets")
+}
+
+/// Asserts that octets are as wanted, of the block or line that is named.
+pub(crate) fn same_octets(rt: &impl Abort, found: &[u8], wanted: &[u8], of: &str) {
+    assert_eq!(rt; found, wanted, "{of}");
+}
+
+/// Asserts that a number is as wanted, of the line that is named.
+fn same_number(rt: &impl Abort, found: u64, wanted: u64, of: &str) {
+    assert_eq!(rt; found, wanted, "{of}");
+}
+
+/// Asserts the number of the first bad token of a line that is no block's. The line is named so.
+pub(crate) fn is_bad_at(
     rt: &impl Abort,
     alloc: Global,
     catalogue: &Catalogue,
     line: &[u8],
-) -> Result<u32, Fail> {
-    match read_line(rt, alloc, catalogue, line)? {
-        Err(TextError::BadToken { token }) => Ok(token),
-        _ => Err(Fail::new("no bad token")),
+    wanted: u32,
+    of: &str,
+) {
+    match read_line(rt, alloc, catalogue, line) {
+        Err(TextError::BadToken { token }) => same_number(rt, token as u64, wanted as u64, of),
+        _ => panic!(rt; "no bad token"),
     }
 }
 
-/// How many octets the block of a line would have, which is too long.
-pub(crate) fn too_long(
+/// Asserts how many octets the block of a line would have, which is too long.
+pub(crate) fn is_too_long(
     rt: &impl Abort,
     alloc: Global,
     catalogue: &Catalogue,
     line: &[u8],
-) -> Result<u64, Fail> {
-    match read_line(rt, alloc, catalogue, line)? {
-        Err(TextError::TooLong { octets }) => Ok(octets),
-        _ => Err(Fail::new("not too long")),
+    wanted: u64,
+) {
+    match read_line(rt, alloc, catalogue, line) {
+        Err(TextError::TooLong { octets }) => same_number(rt, octets, wanted, "octets"),
+        _ => panic!(rt; "not too long"),
     }
 }

@@ -1,65 +1,40 @@
 //! Texts, and the octets of the blocks that they are.
 
-use crate::fixtures::{block_of, catalogue_of};
+use crate::fixtures::{block_of, catalogue_of, encoded, same_octets};
 use ax_check::Catalogue;
-use ax_model::{Block, fits};
+use ax_model::Block;
 use ax_samples::{CAT048_P1, FILE_A, FILE_H1, FILE_N, octets};
-use ax_values::encode_block;
 use std::alloc::Global;
 use std::process::Abort;
-use std::test::Fail;
 
-/// The octets of a block that fits the specification of a category.
-fn encoded(
-    rt: &impl Abort,
-    alloc: Global,
-    catalogue: &Catalogue,
-    category: u8,
-    block: &Block,
-) -> Result<Vec<u8>, Fail> {
-    let Some(accepted) = catalogue.get(category) else {
-        return Err(Fail::new("a category"));
-    };
-    assert!(rt; fits(accepted.spec(), block));
-    Ok(encode_block(alloc, accepted.spec(), block)?)
-}
-
-/// The octets of the block of a line.
+/// The octets of the block of a line, under the file of a category.
 fn line_encoded(
     rt: &impl Abort,
     alloc: Global,
     catalogue: &Catalogue,
     category: u8,
     line: &str,
-) -> Result<Vec<u8>, Fail> {
-    let block = block_of(rt, alloc, catalogue, line.as_bytes())?;
-    encoded(rt, alloc, catalogue, category, &block)
+) -> Vec<u8> {
+    let block = block_of(rt, alloc, catalogue, line.as_bytes());
+    let file = catalogue.get(category).expect(rt, "a category");
+    encoded(rt, alloc, file, &block)
 }
 
+/// Asserts that octets are those in hexadecimal, of the line that is named.
+fn are_octets(rt: &impl Abort, alloc: Global, made: &[u8], want: &str, line: &str) {
+    let want = octets(alloc, want).expect(rt, "octets");
+    same_octets(rt, made, &want, line);
+}
+
+/// Asserts that a line under a file of a category is the text of the block with these octets.
 fn is_read_as(
     rt: &impl Abort,
     alloc: Global,
-    catalogue: &Catalogue,
-    category: u8,
-    line: &str,
-    want: &str,
-) -> Result<(), Fail> {
-    let made = line_encoded(rt, alloc, catalogue, category, line)?;
-    let want = octets(alloc, want)?;
-    assert_eq!(rt; made.as_slice(), want.as_slice(), "{line}");
-    Ok(())
-}
-
-fn is_read_under(
-    rt: &impl Abort,
-    alloc: Global,
-    file: &str,
-    category: u8,
-    line: &str,
-    want: &str,
-) -> Result<(), Fail> {
-    let catalogue = catalogue_of(rt, alloc, file)?;
-    is_read_as(rt, alloc, &catalogue, category, line, want)
+    &(file, category, line, want): &(&str, u8, &str, &str),
+) {
+    let catalogue = catalogue_of(rt, alloc, file);
+    let made = line_encoded(rt, alloc, &catalogue, category, line);
+    are_octets(rt, alloc, &made, want, line);
 }
 
 // Category files and their categories, lines, and the octets of the blocks.
@@ -123,23 +98,26 @@ const READ: [(&str, u8, &str, &str); 11] = [
 ];
 
 #[test]
-fn blocks_are_read(rt: HostRuntime) -> Result<(), Fail> {
-    let alloc = rt.alloc();
-    for &(file, category, line, want) in &READ {
-        is_read_under(&rt, alloc, file, category, line, want)?;
+fn blocks_are_read(rt: HostRuntime) {
+    for row in &READ {
+        is_read_as(&rt, rt.alloc(), row);
     }
-    Ok(())
+}
+
+/// Asserts that a block is opaque, of that category and with those octets.
+fn is_opaque(rt: &impl Abort, block: &Block, wanted: u8, wanted_octets: &[u8]) {
+    match block {
+        Block::Opaque { category, octets } => {
+            assert!(rt; *category == wanted);
+            same_octets(rt, octets.as_slice(), wanted_octets, "an opaque block");
+        }
+        Block::Read { .. } => panic!(rt; "no opaque block"),
+    }
 }
 
 #[test]
-fn an_opaque_block_needs_no_file(rt: HostRuntime) -> Result<(), Fail> {
-    let alloc = rt.alloc();
-    let catalogue = Catalogue::new(alloc);
-    let block = block_of(&rt, alloc, &catalogue, b"opaque 048 \"80ff\"")?;
-    let Block::Opaque { category, octets } = &block else {
-        return Err(Fail::new("an opaque block"));
-    };
-    assert_eq!(rt; *category, 48);
-    assert_eq!(rt; octets.as_slice(), [0x80, 0xFF].as_slice());
-    Ok(())
+fn an_opaque_block_needs_no_file(rt: HostRuntime) {
+    let catalogue = Catalogue::new(rt.alloc());
+    let block = block_of(&rt, rt.alloc(), &catalogue, b"opaque 048 \"80ff\"");
+    is_opaque(&rt, &block, 48, &[0x80, 0xFF]);
 }

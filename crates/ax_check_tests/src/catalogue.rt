@@ -1,37 +1,39 @@
 //! A catalogue takes a category once.
 
-use crate::texts::accepted;
+use crate::texts::{accepted, same};
 use ax_check::{AddError, Catalogue};
 use ax_samples::{CAT019_P1, CAT034_P1, CAT048_P1, FILE_A};
 use std::alloc::Global;
 use std::process::Abort;
-use std::test::Fail;
 
-/// The category that is there already, if the text's is.
-fn refused(alloc: Global, catalogue: &mut Catalogue, text: &str) -> Result<Option<u8>, Fail> {
-    match catalogue.add(accepted(alloc, text)?) {
-        Ok(()) => Ok(None),
-        Err(AddError::CategoryTwice { category }) => Ok(Some(category)),
-        Err(AddError::OutOfMemory) => Err(Fail::from("out of memory")),
-    }
-}
-
-/// The category at a place, and the edition that `get` finds.
-fn told_at(alloc: Global, catalogue: &Catalogue, index: u32) -> Result<String, Fail> {
-    let one = catalogue.at(index).ok_or("not at its place")?;
+/// The category and the edition that `get` finds of what stands at a place.
+fn told_at(rt: &impl Abort, alloc: Global, catalogue: &Catalogue, index: u32) -> String {
+    let one = catalogue.at(index).expect(rt, "not at its place");
     let category = one.spec().category;
-    let found = catalogue.get(category).ok_or("not found")?;
-    let edition = String::from_utf8_lossy(alloc, found.spec().edition.as_slice())?;
-    Ok(format!(in alloc; "{category} {edition}, ")?)
+    let found = catalogue.get(category).expect(rt, "not found");
+    let edition = String::from_utf8_lossy(alloc, found.spec().edition.as_slice());
+    let edition = edition.expect(rt, "memory");
+    format!(in alloc; "{category} {edition}, ").expect(rt, "memory")
 }
 
 /// The categories in the order of the catalogue, and after each the edition that `get` finds.
-fn told(alloc: Global, catalogue: &Catalogue) -> Result<String, Fail> {
+fn told(rt: &impl Abort, alloc: Global, catalogue: &Catalogue) -> String {
     let mut made = String::new(alloc);
     for index in 0..catalogue.count() {
-        made.push_str(told_at(alloc, catalogue, index)?.as_str())?;
+        let one = told_at(rt, alloc, catalogue, index);
+        made.push_str(one.as_str()).expect(rt, "memory");
     }
-    Ok(made)
+    made
+}
+
+/// Asserts that the text is added, or refused for that category.
+fn adds(rt: &impl Abort, alloc: Global, catalogue: &mut Catalogue, text: &str, twice: Option<u8>) {
+    let refused = match catalogue.add(accepted(rt, alloc, text)) {
+        Ok(()) => None,
+        Err(AddError::CategoryTwice { category }) => Some(category),
+        Err(AddError::OutOfMemory) => panic!(rt; "out of memory"),
+    };
+    assert!(rt; refused == twice, "{refused:?} for {text}");
 }
 
 /// Asserts that the text is added, or refused for that category, and that the catalogue is told so then.
@@ -40,12 +42,12 @@ fn adding_leaves(
     alloc: Global,
     catalogue: &mut Catalogue,
     text: &str,
-    (twice, holds): (Option<u8>, &str),
-) -> Result<(), Fail> {
-    assert_eq!(rt; refused(alloc, catalogue, text)?, twice, "{text}");
-    let found = told(alloc, catalogue)?;
-    assert_eq!(rt; found.as_str(), holds, "{text}");
-    Ok(())
+    twice: Option<u8>,
+    holds: &str,
+) {
+    adds(rt, alloc, catalogue, text, twice);
+    let found = told(rt, alloc, catalogue);
+    same(rt, found.as_str(), holds, text);
 }
 
 const ADDED: [(&str, Option<u8>, &str); 5] = [
@@ -57,13 +59,11 @@ const ADDED: [(&str, Option<u8>, &str); 5] = [
 ];
 
 #[test]
-fn a_category_stands_once(rt: HostRuntime) -> Result<(), Fail> {
-    let alloc = rt.alloc();
-    let mut catalogue = Catalogue::new(alloc);
+fn a_category_stands_once(rt: HostRuntime) {
+    let mut catalogue = Catalogue::new(rt.alloc());
     for &(text, twice, holds) in &ADDED {
-        adding_leaves(&rt, alloc, &mut catalogue, text, (twice, holds))?;
+        adding_leaves(&rt, rt.alloc(), &mut catalogue, text, twice, holds);
     }
     assert!(rt; catalogue.at(3).is_none());
     assert!(rt; catalogue.get(0).is_none());
-    Ok(())
 }

@@ -1,7 +1,6 @@
 //! What looks odd and is no flaw.
 
 use crate::texts::items_have_flaws;
-use std::test::Fail;
 
 const FLAWLESS: [(&str, &str); 6] = [
     // An item that the UAP doesn't use.
@@ -28,9 +27,8 @@ const FLAWLESS: [(&str, &str); 6] = [
 ];
 
 #[test]
-fn what_is_no_flaw(rt: HostRuntime) -> Result<(), Fail> {
+fn what_is_no_flaw(rt: HostRuntime) {
     for &(items, uap) in &FLAWLESS {
-        items_have_flaws(&rt, rt.alloc(), items, uap, "")?;
+        items_have_flaws(&rt, rt.alloc(), items, uap, "");
     }
-    Ok(())
 }

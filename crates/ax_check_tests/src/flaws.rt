@@ -1,10 +1,9 @@
 //! Each flaw at its path, and the order of flaws.
 
-use crate::texts::{has_flaws, items_have_flaws, kind_has_flaws};
+use crate::texts::{has_flaws, items_have_flaws, kind_has_flaws, kinds_have_flaws};
 use ax_samples::FILE_F;
 use std::alloc::Global;
 use std::process::Abort;
-use std::test::Fail;
 
 const ELEMENTS: [(&str, &str); 24] = [
     ("element 8 raw", ""),
@@ -52,11 +51,8 @@ const ELEMENTS: [(&str, &str); 24] = [
 ];
 
 #[test]
-fn elements(rt: HostRuntime) -> Result<(), Fail> {
-    for &(kind, wanted) in &ELEMENTS {
-        kind_has_flaws(&rt, rt.alloc(), kind, wanted)?;
-    }
-    Ok(())
+fn elements(rt: HostRuntime) {
+    kinds_have_flaws(&rt, rt.alloc(), &ELEMENTS);
 }
 
 const GROUPS: [(&str, &str); 12] = [
@@ -96,11 +92,8 @@ const GROUPS: [(&str, &str); 12] = [
 ];
 
 #[test]
-fn groups(rt: HostRuntime) -> Result<(), Fail> {
-    for &(kind, wanted) in &GROUPS {
-        kind_has_flaws(&rt, rt.alloc(), kind, wanted)?;
-    }
-    Ok(())
+fn groups(rt: HostRuntime) {
+    kinds_have_flaws(&rt, rt.alloc(), &GROUPS);
 }
 
 const WHOLE_CHARACTERS: [&str; 3] = [
@@ -126,16 +119,23 @@ const PARTS_OF_CHARACTERS: [&str; 14] = [
     "group { A element 2 octal B element 6 raw }",
 ];
 
+/// Asserts that each of the kinds has those flaws.
+fn each_has_flaws(rt: &impl Abort, alloc: Global, kinds: &[&str], wanted: &str) {
+    for &kind in kinds {
+        kind_has_flaws(rt, alloc, kind, wanted);
+    }
+}
+
 // A character is 8 bits of ascii, 6 of icao and 3 of octal, and no other width.
 #[test]
-fn widths_of_characters(rt: HostRuntime) -> Result<(), Fail> {
-    for &kind in &WHOLE_CHARACTERS {
-        kind_has_flaws(&rt, rt.alloc(), kind, "")?;
-    }
-    for &kind in &PARTS_OF_CHARACTERS {
-        kind_has_flaws(&rt, rt.alloc(), kind, "BadStringWidth 210/010/A")?;
-    }
-    Ok(())
+fn widths_of_characters(rt: HostRuntime) {
+    each_has_flaws(&rt, rt.alloc(), &WHOLE_CHARACTERS, "");
+    each_has_flaws(
+        &rt,
+        rt.alloc(),
+        &PARTS_OF_CHARACTERS,
+        "BadStringWidth 210/010/A",
+    );
 }
 
 const EXTENDED_ITEMS: [(&str, &str); 12] = [
@@ -188,11 +188,8 @@ const EXTENDED_ITEMS: [(&str, &str); 12] = [
 ];
 
 #[test]
-fn extended_items(rt: HostRuntime) -> Result<(), Fail> {
-    for &(kind, wanted) in &EXTENDED_ITEMS {
-        kind_has_flaws(&rt, rt.alloc(), kind, wanted)?;
-    }
-    Ok(())
+fn extended_items(rt: HostRuntime) {
+    kinds_have_flaws(&rt, rt.alloc(), &EXTENDED_ITEMS);
 }
 
 const BODIES: [(&str, &str); 18] = [
@@ -244,11 +241,8 @@ const BODIES: [(&str, &str); 18] = [
 ];
 
 #[test]
-fn bodies(rt: HostRuntime) -> Result<(), Fail> {
-    for &(kind, wanted) in &BODIES {
-        kind_has_flaws(&rt, rt.alloc(), kind, wanted)?;
-    }
-    Ok(())
+fn bodies(rt: HostRuntime) {
+    kinds_have_flaws(&rt, rt.alloc(), &BODIES);
 }
 
 const COMPOUNDS: [(&str, &str); 8] = [
@@ -275,11 +269,8 @@ const COMPOUNDS: [(&str, &str); 8] = [
 ];
 
 #[test]
-fn compounds(rt: HostRuntime) -> Result<(), Fail> {
-    for &(kind, wanted) in &COMPOUNDS {
-        kind_has_flaws(&rt, rt.alloc(), kind, wanted)?;
-    }
-    Ok(())
+fn compounds(rt: HostRuntime) {
+    kinds_have_flaws(&rt, rt.alloc(), &COMPOUNDS);
 }
 
 const ITEMS_AND_SLOTS: [(&str, &str, &str); 6] = [
@@ -308,11 +299,10 @@ const ITEMS_AND_SLOTS: [(&str, &str, &str); 6] = [
 ];
 
 #[test]
-fn items_and_slots_of_the_uap(rt: HostRuntime) -> Result<(), Fail> {
+fn items_and_slots_of_the_uap(rt: HostRuntime) {
     for &(items, uap, wanted) in &ITEMS_AND_SLOTS {
-        items_have_flaws(&rt, rt.alloc(), items, uap, wanted)?;
+        items_have_flaws(&rt, rt.alloc(), items, uap, wanted);
     }
-    Ok(())
 }
 
 const WHOLE_FILES: [(&str, &str); 2] = [
@@ -325,11 +315,10 @@ const WHOLE_FILES: [(&str, &str); 2] = [
 
 // A path has the category in three digits.
 #[test]
-fn whole_files(rt: HostRuntime) -> Result<(), Fail> {
+fn whole_files(rt: HostRuntime) {
     for &(text, wanted) in &WHOLE_FILES {
-        has_flaws(&rt, rt.alloc(), text, wanted)?;
+        has_flaws(&rt, rt.alloc(), text, wanted);
     }
-    Ok(())
 }
 
 const MANY_SLOTS: [(usize, &str, &str, &str, &str); 4] = [
@@ -351,37 +340,31 @@ const MANY_SLOTS: [(usize, &str, &str, &str, &str); 4] = [
     ),
 ];
 
+/// So many spare slots, and what stands after them.
+fn after_spares(rt: &impl Abort, alloc: Global, spares: usize, end: &str) -> String {
+    let mut slots = "- ".repeat(alloc, spares).expect(rt, "memory");
+    slots.push_str(end).expect(rt, "memory");
+    slots
+}
+
 /// Asserts that a compound with so many spare slots, and a subitem, has those flaws.
-fn subitems_have_flaws(
-    rt: &impl Abort,
-    alloc: Global,
-    (spares, subitem): (usize, &str),
-    wanted: &str,
-) -> Result<(), Fail> {
-    let dashes = "- ".repeat(alloc, spares)?;
-    let compound = format!(in alloc; "compound {{ {dashes}{subitem} }}")?;
-    kind_has_flaws(rt, alloc, compound.as_str(), wanted)
+fn subitems_have_flaws(rt: &impl Abort, alloc: Global, spares: usize, subitem: &str, wanted: &str) {
+    let slots = after_spares(rt, alloc, spares, subitem);
+    let compound = format!(in alloc; "compound {{ {slots} }}").expect(rt, "memory");
+    kind_has_flaws(rt, alloc, compound.as_str(), wanted);
 }
 
 /// Asserts that a UAP with so many spare slots, and a slot, has those flaws.
-fn slots_have_flaws(
-    rt: &impl Abort,
-    alloc: Global,
-    (spares, slot): (usize, &str),
-    wanted: &str,
-) -> Result<(), Fail> {
-    let dashes = "- ".repeat(alloc, spares)?;
-    let uap = format!(in alloc; "{dashes}{slot}")?;
-    items_have_flaws(rt, alloc, "", uap.as_str(), wanted)
+fn slots_have_flaws(rt: &impl Abort, alloc: Global, spares: usize, slot: &str, wanted: &str) {
+    let uap = after_spares(rt, alloc, spares, slot);
+    items_have_flaws(rt, alloc, "", uap.as_str(), wanted);
 }
 
 // 126 slots are the most, and the flaws of the slots stand after that of their number.
 #[test]
-fn more_than_126_slots(rt: HostRuntime) -> Result<(), Fail> {
-    let alloc = rt.alloc();
+fn more_than_126_slots(rt: HostRuntime) {
     for &(spares, subitem, slot, wanted, wanted_of_uap) in &MANY_SLOTS {
-        subitems_have_flaws(&rt, alloc, (spares, subitem), wanted)?;
-        slots_have_flaws(&rt, alloc, (spares, slot), wanted_of_uap)?;
+        subitems_have_flaws(&rt, rt.alloc(), spares, subitem, wanted);
+        slots_have_flaws(&rt, rt.alloc(), spares, slot, wanted_of_uap);
     }
-    Ok(())
 }

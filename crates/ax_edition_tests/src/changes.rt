@@ -3,16 +3,13 @@
 use crate::texts::are_related_as;
 use std::alloc::Global;
 use std::process::Abort;
-use std::test::Fail;
 
 /// A file with one item of that kind, and an item that isn't in the UAP.
-fn file_of(alloc: Global, title: &str, kind: &str) -> Result<String, Fail> {
-    if title.len() > 1000 || kind.len() > 1000 {
-        return Err(Fail::from("the kind is too long"));
-    }
-    Ok(format!(in alloc;
+fn file_of(rt: &impl Abort, alloc: Global, title: &str, kind: &str) -> String {
+    let file = format!(in alloc;
         "category 202 edition \"X\" items {{ item 020 \"\" element 8 raw item 010 \"{title}\" {kind} }} uap {{ - 010 }}"
-    )?)
+    );
+    file.expect(rt, "memory")
 }
 
 const CHANGES: [(&str, &str, &str); 25] = [
@@ -128,25 +125,17 @@ const CHANGES: [(&str, &str, &str); 25] = [
 ];
 
 /// Asserts which paths of editions with one item of these kinds aren't shared, and how many are.
-fn kinds_are_related_as(
-    rt: &impl Abort,
-    alloc: Global,
-    old: &str,
-    new: &str,
-    wanted: &str,
-) -> Result<(), Fail> {
-    let old = file_of(alloc, "", old)?;
-    let new = file_of(alloc, "a title", new)?;
-    are_related_as(rt, alloc, old.as_str(), new.as_str(), wanted)
+fn kinds_are_related_as(rt: &impl Abort, alloc: Global, &(old, new, wanted): &(&str, &str, &str)) {
+    let old = file_of(rt, alloc, "", old);
+    let new = file_of(rt, alloc, "a title", new);
+    are_related_as(rt, alloc, old.as_str(), new.as_str(), wanted);
 }
 
 #[test]
-fn what_changes_a_kind(rt: HostRuntime) -> Result<(), Fail> {
-    let alloc = rt.alloc();
-    for &(old, new, wanted) in &CHANGES {
-        kinds_are_related_as(&rt, alloc, old, new, wanted)?;
+fn what_changes_a_kind(rt: HostRuntime) {
+    for row in &CHANGES {
+        kinds_are_related_as(&rt, rt.alloc(), row);
     }
-    Ok(())
 }
 
 const USED: &str =
@@ -157,8 +146,7 @@ const UNUSED: &str =
 
 // An item stands where the UAP has it; one that the UAP doesn't use has no path.
 #[test]
-fn items_outside_the_uap_have_no_path(rt: HostRuntime) -> Result<(), Fail> {
-    let alloc = rt.alloc();
-    are_related_as(&rt, alloc, USED, UNUSED, "202/010 1 shared")?;
-    are_related_as(&rt, alloc, UNUSED, USED, "1 shared")
+fn items_outside_the_uap_have_no_path(rt: HostRuntime) {
+    are_related_as(&rt, rt.alloc(), USED, UNUSED, "202/010 1 shared");
+    are_related_as(&rt, rt.alloc(), UNUSED, USED, "1 shared");
 }

@@ -1,12 +1,10 @@
 //! Relations of the sample and test files.
 
-use crate::texts::{accepted, are_related_as, moves_told, path_told, related, shares};
-use ax_check::Accepted;
+use crate::texts::{accepted, are_related_as, moves_told, path_told, related, same, shares};
 use ax_edition::{Moves, RelateError, Relation, relate};
 use ax_samples::{CAT034_P1, CAT048_P1, CAT048_P2, FILE_H1, FILE_H2, FILE_H3};
 use std::alloc::Global;
 use std::process::Abort;
-use std::test::Fail;
 
 const FILES: [(&str, &str, &str); 7] = [
     (CAT048_P1, CAT048_P1, "37 shared"),
@@ -19,12 +17,10 @@ const FILES: [(&str, &str, &str); 7] = [
 ];
 
 #[test]
-fn files_share_their_paths(rt: HostRuntime) -> Result<(), Fail> {
-    let alloc = rt.alloc();
+fn files_share_their_paths(rt: HostRuntime) {
     for &(old, new, wanted) in &FILES {
-        are_related_as(&rt, alloc, old, new, wanted)?;
+        are_related_as(&rt, rt.alloc(), old, new, wanted);
     }
-    Ok(())
 }
 
 const BOTH_PLACES: [(u32, &str); 3] = [
@@ -34,49 +30,34 @@ const BOTH_PLACES: [(u32, &str); 3] = [
 ];
 
 /// Asserts how the path at a place among those of a relation is told.
-fn path_is_told_as(
-    rt: &impl Abort,
-    alloc: Global,
-    relation: &Relation,
-    index: u32,
-    wanted: &str,
-) -> Result<(), Fail> {
-    let path = relation.paths().get(index).ok_or("no path")?;
-    let told = path_told(alloc, path)?;
-    assert_eq!(rt; told.as_str(), wanted, "at {index}");
-    Ok(())
+fn path_is_told_as(rt: &impl Abort, alloc: Global, relation: &Relation, index: u32, wanted: &str) {
+    let path = relation.paths().get(index).expect(rt, wanted);
+    let told = path_told(alloc, path).expect(rt, "memory");
+    same(rt, told.as_str(), wanted, "a path");
 }
 
 // In the old edition's order, a compound before its subitems, with the places in both editions.
 #[test]
-fn paths_have_both_places(rt: HostRuntime) -> Result<(), Fail> {
-    let alloc = rt.alloc();
-    let relation = related(alloc, FILE_H1, FILE_H2)?;
+fn paths_have_both_places(rt: HostRuntime) {
+    let relation = related(&rt, rt.alloc(), FILE_H1, FILE_H2);
     for &(index, wanted) in &BOTH_PLACES {
-        path_is_told_as(&rt, alloc, &relation, index, wanted)?;
+        path_is_told_as(&rt, rt.alloc(), &relation, index, wanted);
     }
-    assert_eq!(rt; relation.paths().count(), 3);
-    Ok(())
+    assert!(rt; relation.paths().count() == 3);
 }
 
-fn are_told_as(rt: &impl Abort, alloc: Global, moves: &Moves, wanted: &str) -> Result<(), Fail> {
-    let told = moves_told(alloc, moves)?;
-    assert_eq!(rt; told.as_str(), wanted);
-    Ok(())
+fn are_told_as(rt: &impl Abort, alloc: Global, moves: &Moves, wanted: &str) {
+    let told = moves_told(alloc, moves).expect(rt, "memory");
+    same(rt, told.as_str(), wanted, "moves");
 }
 
-/// Asserts that one item moves, and that one of its subitems does.
-fn compound_moves(rt: &impl Abort, alloc: Global, moves: &Moves) -> Result<(), Fail> {
-    are_told_as(rt, alloc, moves, "1 to 1 with 1; ")?;
-    let one = moves.get(0).ok_or("no move")?;
-    are_told_as(rt, alloc, &one.below, "2 to 1 with 0; ")
-}
-
+// One item moves, and one of its subitems does.
 #[test]
-fn moves_are_in_the_new_order(rt: HostRuntime) -> Result<(), Fail> {
-    let alloc = rt.alloc();
-    let relation = related(alloc, FILE_H1, FILE_H2)?;
-    compound_moves(&rt, alloc, relation.moves())
+fn moves_are_in_the_new_order(rt: HostRuntime) {
+    let relation = related(&rt, rt.alloc(), FILE_H1, FILE_H2);
+    are_told_as(&rt, rt.alloc(), relation.moves(), "1 to 1 with 1; ");
+    let one = relation.moves().get(0).expect(&rt, "a move");
+    are_told_as(&rt, rt.alloc(), &one.below, "2 to 1 with 0; ");
 }
 
 const NAMED_PATHS: [(&str, bool); 9] = [
@@ -91,44 +72,23 @@ const NAMED_PATHS: [(&str, bool); 9] = [
     ("999", false),
 ];
 
-fn is_shared(
-    rt: &impl Abort,
-    alloc: Global,
-    relation: &Relation,
-    text: &str,
-    wanted: bool,
-) -> Result<(), Fail> {
-    assert_eq!(rt; shares(alloc, relation, text)?, wanted, "of {text}");
-    Ok(())
+fn is_shared(rt: &impl Abort, alloc: Global, relation: &Relation, text: &str, wanted: bool) {
+    let found = shares(rt, alloc, relation, text);
+    assert!(rt; found == wanted, "of {text}");
 }
 
 #[test]
-fn only_named_paths_are_shared(rt: HostRuntime) -> Result<(), Fail> {
-    let alloc = rt.alloc();
-    let relation = related(alloc, CAT048_P1, CAT048_P2)?;
+fn only_named_paths_are_shared(rt: HostRuntime) {
+    let relation = related(&rt, rt.alloc(), CAT048_P1, CAT048_P2);
     for &(text, wanted) in &NAMED_PATHS {
-        is_shared(&rt, alloc, &relation, text, wanted)?;
+        is_shared(&rt, rt.alloc(), &relation, text, wanted);
     }
-    Ok(())
-}
-
-/// The two categories for which there is no relation.
-fn refused(alloc: Global, old: &Accepted, new: &Accepted) -> Result<(u8, u8), Fail> {
-    match relate(alloc, old, new) {
-        Err(RelateError::OtherCategory { old, new }) => Ok((old, new)),
-        _ => Err(Fail::from("a relation of two categories")),
-    }
-}
-
-fn categories_refused(alloc: Global, old: &str, new: &str) -> Result<(u8, u8), Fail> {
-    let old = accepted(alloc, old)?;
-    let new = accepted(alloc, new)?;
-    refused(alloc, &old, &new)
 }
 
 #[test]
-fn other_categories_have_no_relation(rt: HostRuntime) -> Result<(), Fail> {
-    let found = categories_refused(rt.alloc(), CAT034_P1, CAT048_P1)?;
-    assert_eq!(rt; found, (34, 48));
-    Ok(())
+fn other_categories_have_no_relation(rt: HostRuntime) {
+    let old = accepted(&rt, rt.alloc(), CAT034_P1);
+    let new = accepted(&rt, rt.alloc(), CAT048_P1);
+    let found = relate(rt.alloc(), &old, &new);
+    assert!(rt; matches!(found, Err(RelateError::OtherCategory { old: 34, new: 48 })));
 }

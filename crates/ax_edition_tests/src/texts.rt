@@ -5,101 +5,99 @@ use ax_edition::{Move, Moves, Relation, RelationPath, relate};
 use ax_grammar::read_spec;
 use ax_model::{Path, Place, Spec};
 use ax_tokens::tokens;
-use std::alloc::Global;
+use std::alloc::{AllocError, Global};
 use std::process::Abort;
-use std::test::Fail;
 
 /// The specification that a text spells.
-fn read(alloc: Global, text: &str) -> Result<Spec, Fail> {
+fn read(rt: &impl Abort, alloc: Global, text: &str) -> Spec {
     let octets = text.as_bytes();
-    if octets.len() > 100_000 {
-        return Err(Fail::from("the text is too long"));
-    }
-    let found = tokens(alloc, octets, 16)?;
-    Ok(read_spec(alloc, &found)?)
+    assert!(rt; octets.len() <= 100_000);
+    let found = tokens(alloc, octets, 16).expect(rt, "tokens");
+    read_spec(alloc, &found).expect(rt, "a specification")
 }
 
-pub(crate) fn accepted(alloc: Global, text: &str) -> Result<Accepted, Fail> {
-    Ok(accept(alloc, read(alloc, text)?)?)
+pub(crate) fn accepted(rt: &impl Abort, alloc: Global, text: &str) -> Accepted {
+    let spec = read(rt, alloc, text);
+    accept(alloc, spec).expect(rt, "a specification without flaw")
 }
 
-pub(crate) fn related(alloc: Global, old: &str, new: &str) -> Result<Relation, Fail> {
-    let (old, new) = (accepted(alloc, old)?, accepted(alloc, new)?);
-    Ok(relate(alloc, &old, &new)?)
+pub(crate) fn related(rt: &impl Abort, alloc: Global, old: &str, new: &str) -> Relation {
+    let old = accepted(rt, alloc, old);
+    let new = accepted(rt, alloc, new);
+    relate(alloc, &old, &new).expect(rt, "editions of one category")
+}
+
+/// Asserts that what is told of something is as wanted.
+pub(crate) fn same(rt: &impl Abort, found: &str, wanted: &str, of: &str) {
+    assert_eq!(rt; found, wanted, "of {of}");
 }
 
 /// The field reference number, and the steps.
-fn place_told(alloc: Global, place: &Place) -> Result<String, Fail> {
-    Ok(format!(in alloc; "{} {:?}", place.frn, place.steps.as_slice())?)
+fn place_told(alloc: Global, place: &Place) -> Result<String, AllocError> {
+    format!(in alloc; "{} {:?}", place.frn, place.steps.as_slice())
 }
 
 /// The new place of a path, or that it is lost.
-fn new_place_told(alloc: Global, path: &RelationPath) -> Result<String, Fail> {
+fn new_place_told(alloc: Global, path: &RelationPath) -> Result<String, AllocError> {
     match &path.new {
-        Some(place) => Ok(format!(in alloc; "to {}", place_told(alloc, place)?)?),
-        None => Ok(String::from_str(alloc, "lost")?),
+        Some(place) => format!(in alloc; "to {} {:?}", place.frn, place.steps.as_slice()),
+        None => String::from_str(alloc, "lost"),
     }
 }
 
-/// Both places of a path.
-fn places_told(alloc: Global, path: &RelationPath) -> Result<String, Fail> {
+/// The text of a path, its old place, and its new one.
+pub(crate) fn path_told(alloc: Global, path: &RelationPath) -> Result<String, AllocError> {
+    let text = String::from_utf8_lossy(alloc, path.text.as_slice())?;
     let old = place_told(alloc, &path.old)?;
     let new = new_place_told(alloc, path)?;
-    Ok(format!(in alloc; "{old} {new}")?)
-}
-
-/// The text of a path, its old place, and its new one.
-pub(crate) fn path_told(alloc: Global, path: &RelationPath) -> Result<String, Fail> {
-    let text = String::from_utf8_lossy(alloc, path.text.as_slice())?;
-    let places = places_told(alloc, path)?;
-    Ok(format!(in alloc; "{text} at {places}")?)
+    format!(in alloc; "{text} at {old} {new}")
 }
 
 /// The paths that aren't shared, and how many are.
-pub(crate) fn lost_told(alloc: Global, relation: &Relation) -> Result<String, Fail> {
+fn lost_told(rt: &impl Abort, alloc: Global, relation: &Relation) -> String {
     let mut told = String::new(alloc);
     let mut shared: u32 = 0;
     for path in relation.paths().as_slice() {
         if path.new.is_some() {
             shared = shared.saturating_add(1);
         } else {
-            told.push_str(String::from_utf8_lossy(alloc, path.text.as_slice())?.as_str())?;
-            told.push_str(" ")?;
+            add_lost(rt, alloc, &mut told, path);
         }
     }
-    Ok(format!(in alloc; "{told}{shared} shared")?)
+    format!(in alloc; "{told}{shared} shared").expect(rt, "memory")
 }
 
-/// The paths of two texts that aren't shared, and how many are.
-fn related_told(alloc: Global, old: &str, new: &str) -> Result<String, Fail> {
-    let relation = related(alloc, old, new)?;
-    lost_told(alloc, &relation)
+/// Adds the text of a path.
+fn add_lost(rt: &impl Abort, alloc: Global, told: &mut String, path: &RelationPath) {
+    let text = String::from_utf8_lossy(alloc, path.text.as_slice()).expect(rt, "memory");
+    told.push_str(text.as_str()).expect(rt, "memory");
+    told.push_str(" ").expect(rt, "memory");
 }
 
 /// Asserts which paths of two texts aren't shared, and how many are.
-pub(crate) fn are_related_as(
-    rt: &impl Abort,
-    alloc: Global,
-    old: &str,
-    new: &str,
-    wanted: &str,
-) -> Result<(), Fail> {
-    let told = related_told(alloc, old, new)?;
-    assert_eq!(rt; told.as_str(), wanted, "of {old} and {new}");
-    Ok(())
+pub(crate) fn are_related_as(rt: &impl Abort, alloc: Global, old: &str, new: &str, wanted: &str) {
+    let relation = related(rt, alloc, old, new);
+    let told = lost_told(rt, alloc, &relation);
+    same_relation(rt, told.as_str(), wanted, old, new);
+}
+
+/// Asserts that what is told of the relation of two texts is as wanted.
+fn same_relation(rt: &impl Abort, found: &str, wanted: &str, old: &str, new: &str) {
+    assert!(rt;
+        found == wanted,
+        "{found:?} and not {wanted:?} of {old} and {new}"
+    );
 }
 
 /// Whether a path, without its category, is shared.
-pub(crate) fn shares(alloc: Global, relation: &Relation, text: &str) -> Result<bool, Fail> {
-    if text.len() > 100 {
-        return Err(Fail::from("the path is too long"));
-    }
-    let path = Path::of(alloc, text.as_bytes())?.ok_or("no path")?;
-    Ok(relation.shared(&path))
+pub(crate) fn shares(rt: &impl Abort, alloc: Global, relation: &Relation, text: &str) -> bool {
+    assert!(rt; text.len() <= 100);
+    let path = Path::of(alloc, text.as_bytes()).expect(rt, "memory");
+    relation.shared(&path.expect(rt, "a path"))
 }
 
 /// The moves of one list, as `old to new` with how many move below.
-pub(crate) fn moves_told(alloc: Global, moves: &Moves) -> Result<String, Fail> {
+pub(crate) fn moves_told(alloc: Global, moves: &Moves) -> Result<String, AllocError> {
     let mut told = String::new(alloc);
     for one in moves.as_slice() {
         let Move { old, new, below } = one;

@@ -1,15 +1,13 @@
 //! Single blocks of one edition in another.
 
-use crate::texts::{Edition, accepted, decoded, lines_of};
+use crate::texts::{Edition, accepted, decoded, lines_of, octets_of, same};
 use ax_check::Accepted;
 use ax_edition::relate;
 use ax_migrate::{LossList, Migrated, migrate_tree};
 use ax_model::{Block, fits};
-use ax_samples::octets;
 use ax_values::encode_block;
 use std::alloc::Global;
 use std::process::Abort;
-use std::test::Fail;
 
 const FULL: &str = "CA 00 08 80 C0 11 22 33";
 
@@ -161,80 +159,49 @@ fn migrated(
     old: &Accepted,
     new: &Accepted,
     input: &str,
-) -> Result<Migrated, Fail> {
-    let relation = relate(alloc, old, new)?;
-    let block = decoded(rt, alloc, old.spec(), input)?;
-    Ok(migrate_tree(alloc, &relation, old.spec(), new.spec(), &block)?)
+) -> Migrated {
+    let relation = relate(alloc, old, new).expect(rt, "editions of one category");
+    let block = decoded(rt, alloc, old.spec(), input);
+    let moved = migrate_tree(alloc, &relation, old.spec(), new.spec(), &block);
+    moved.expect(rt, "a block that is migrated")
 }
 
 /// The octets of a block that fits a specification.
-fn encoded(
-    rt: &impl Abort,
-    alloc: Global,
-    file: &Accepted,
-    block: &Block,
-) -> Result<Vec<u8>, Fail> {
+fn encoded(rt: &impl Abort, alloc: Global, file: &Accepted, block: &Block) -> Vec<u8> {
     assert!(rt; fits(file.spec(), block));
-    Ok(encode_block(alloc, file.spec(), block)?)
+    encode_block(alloc, file.spec(), block).expect(rt, "octets")
 }
 
-/// Asserts that the migrated block has these octets.
-fn is_written_as(
-    rt: &impl Abort,
-    alloc: Global,
-    file: &Accepted,
-    block: &Block,
-    want: &str,
-    input: &str,
-) -> Result<(), Fail> {
-    let made = encoded(rt, alloc, file, block)?;
-    let want = octets(alloc, want)?;
-    assert_eq!(rt; made.as_slice(), want.as_slice(), "of {input}");
-    Ok(())
-}
-
-/// Asserts that the losses of block 7 have these lines.
-fn has_lines(
-    rt: &impl Abort,
-    alloc: Global,
-    losses: &LossList,
-    want: &str,
-    input: &str,
-) -> Result<(), Fail> {
-    let made = lines_of(alloc, 7, losses)?;
-    assert_eq!(rt; made.as_slice(), want.as_bytes(), "of {input}");
-    Ok(())
-}
-
+/// Asserts that the migrated block has these octets, and that its losses as those of block 7 have these lines.
 fn migrates_as(
     rt: &impl Abort,
     alloc: Global,
     old: &Accepted,
     new: &Accepted,
     input: &str,
-    (made, lines): (&str, &str),
-) -> Result<(), Fail> {
-    let got = migrated(rt, alloc, old, new, input)?;
-    is_written_as(rt, alloc, new, &got.block, made, input)?;
-    has_lines(rt, alloc, &got.losses, lines, input)
+    made: &str,
+    lines: &str,
+) {
+    let got = migrated(rt, alloc, old, new, input);
+    let octets = encoded(rt, alloc, new, &got.block);
+    same(rt, &octets, &octets_of(rt, alloc, made), input);
+    let written = lines_of(rt, alloc, 7, &got.losses);
+    same(rt, &written, lines.as_bytes(), input);
 }
 
 fn migrates(
     rt: &impl Abort,
     alloc: Global,
-    (old, new, input): (Edition, Edition, &str),
-    want: (&str, &str),
-) -> Result<(), Fail> {
-    let old = accepted(rt, alloc, old)?;
-    let new = accepted(rt, alloc, new)?;
-    migrates_as(rt, alloc, &old, &new, input, want)
+    &(old, new, input, made, lines): &(Edition, Edition, &str, &str, &str),
+) {
+    let old = accepted(rt, alloc, old);
+    let new = accepted(rt, alloc, new);
+    migrates_as(rt, alloc, &old, &new, input, made, lines);
 }
 
 #[test]
-fn entries_pass_or_are_lost(rt: HostRuntime) -> Result<(), Fail> {
-    let alloc = rt.alloc();
-    for &(old, new, input, made, lines) in &MIGRATED {
-        migrates(&rt, alloc, (old, new, input), (made, lines))?;
+fn entries_pass_or_are_lost(rt: HostRuntime) {
+    for row in &MIGRATED {
+        migrates(&rt, rt.alloc(), row);
     }
-    Ok(())
 }

@@ -1,5 +1,4 @@
 //! Specifications from texts, blocks from octets, and lines of losses as octets.
-ghost use Rattle.std.specs.Prelude.{IfOk};
 ghost use Rattle.ax_model.specs.OfCode.{HasNoFlaw, BlockFits};
 
 use ax_check::{Accepted, accept};
@@ -12,7 +11,6 @@ use ax_tokens::tokens;
 use ax_values::decode_block;
 use std::alloc::Global;
 use std::process::Abort;
-use std::test::Fail;
 
 /// More octets than the lines of any block here have.
 const AMPLE: u32 = 10_000;
@@ -88,57 +86,62 @@ impl Edition {
 }
 
 /// The specification that a text spells.
-fn spec_of(rt: &impl Abort, alloc: Global, text: &str) -> Result<Spec, Fail> {
+fn spec_of(rt: &impl Abort, alloc: Global, text: &str) -> Spec {
     let text = text.as_bytes();
     assert!(rt; text.len() < 10_000);
-    let found = tokens(alloc, text, 16)?;
-    Ok(read_spec(alloc, &found)?)
+    let found = tokens(alloc, text, 16).expect(rt, "tokens");
+    read_spec(alloc, &found).expect(rt, "a specification")
 }
 
 /// The specification of a file.
-pub(crate) fn accepted(rt: &impl Abort, alloc: Global, edition: Edition) -> Result<Accepted, Fail> {
-    Ok(accept(alloc, spec_of(rt, alloc, edition.text())?)?)
+pub(crate) fn accepted(rt: &impl Abort, alloc: Global, edition: Edition) -> Accepted {
+    let spec = spec_of(rt, alloc, edition.text());
+    accept(alloc, spec).expect(rt, "a specification without flaw")
 }
 
-/// The body of a block, after CAT and the LEN that it has.
-fn body_of<'o>(rt: &impl Abort, octets: &'o [u8]) -> &'o [u8] {
+/// Octets in hexadecimal.
+pub(crate) fn octets_of(rt: &impl Abort, alloc: Global, text: &str) -> Vec<u8> {
+    octets(alloc, text).expect(rt, "octets")
+}
+
+/// Stops at a block whose LEN is not the number of its octets.
+fn stop_at_length(rt: &impl Abort, octets: &[u8]) -> ! {
+    panic!(rt; "LEN of {octets:?}")
+}
+
+/// The category and the body of the block that these octets are, whose LEN has to be theirs.
+fn raw_of<'o>(rt: &impl Abort, octets: &'o [u8]) -> RawBlock<'o> {
     assert!(rt; octets.len() >= 4);
-    let length = octets[1] as usize * 256 + octets[2] as usize;
-    assert_eq!(rt; octets.len(), length, "LEN of {octets:?}");
-    &octets[3..]
-}
-
-/// The block that these octets are read as.
-fn octets_decoded(rt: &impl Abort, alloc: Global, spec: &Spec, octets: &[u8]) -> Result<Block, Fail>
-    requires { HasNoFlaw spec.now }
-{
-    let body = body_of(rt, octets);
-    assert!(rt; !octets.is_empty());
-    assert!(rt; !body.is_empty());
-    assert!(rt; body.len() <= 65_532);
-    let category = octets[0];
-    Ok(decode_block(alloc, spec, &RawBlock { category, body })?)
+    if octets.len() != octets[1] as usize * 256 + octets[2] as usize {
+        stop_at_length(rt, octets)
+    }
+    RawBlock {
+        category: octets[0],
+        body: &octets[3..],
+    }
 }
 
 /// The block that octets in hexadecimal are read as.
-pub(crate) fn decoded(
-    rt: &impl Abort,
-    alloc: Global,
-    spec: &Spec,
-    block: &str,
-) -> Result<Block, Fail>
+pub(crate) fn decoded(rt: &impl Abort, alloc: Global, spec: &Spec, block: &str) -> Block
     requires { HasNoFlaw spec.now }
-    ensures { IfOk result (λ block. BlockFits spec.now block) }
+    ensures { BlockFits spec.now result }
 {
-    let octets = octets(alloc, block)?;
-    let block = octets_decoded(rt, alloc, spec, &octets)?;
+    let octets = octets_of(rt, alloc, block);
+    let raw = raw_of(rt, &octets);
+    let block = decode_block(alloc, spec, &raw).expect(rt, "a block");
     assert!(rt; fits(spec, &block));
-    Ok(block)
+    block
 }
 
 /// The lines of losses in the block of that number.
-pub(crate) fn lines_of(alloc: Global, number: u64, losses: &LossList) -> Result<Vec<u8>, Fail> {
-    let mut report = MemSink::new(alloc, AMPLE, AMPLE, Vec::new(alloc))?;
-    loss_lines(&mut report, number, losses)?;
-    Ok(report.written().to_vec(alloc)?)
+pub(crate) fn lines_of(rt: &impl Abort, alloc: Global, number: u64, losses: &LossList) -> Vec<u8> {
+    let report = MemSink::new(alloc, AMPLE, AMPLE, Vec::new(alloc));
+    let mut report = report.expect(rt, "memory");
+    loss_lines(&mut report, number, losses).expect(rt, "lines that are written");
+    report.written().to_vec(alloc).expect(rt, "memory")
+}
+
+/// Asserts that octets are as wanted, of the block that is named.
+pub(crate) fn same(rt: &impl Abort, found: &[u8], wanted: &[u8], of: &str) {
+    assert_eq!(rt; found, wanted, "of {of}");
 }

@@ -1,14 +1,13 @@
 //! Blocks and records as lines.
 ghost use Rattle.ax_model.specs.OfCode.{BlockFits};
 
-use crate::fixtures::{accepted, decoded};
+use crate::fixtures::{accepted, decoded, same};
 use ax_check::Accepted;
 use ax_model::{Block, Spec};
 use ax_samples::{CAT048_P1, FILE_A, FILE_H1, FILE_N};
 use ax_text::{block_text, opaque_text, record_text};
 use std::alloc::Global;
 use std::process::Abort;
-use std::test::Fail;
 
 // An element of the greatest width.
 const FILE_WIDE: &str =
@@ -57,43 +56,25 @@ const PRINTED: [(&str, &str); 12] = [
     ),
 ];
 
-/// The line of the block that octets in hexadecimal are.
-fn line_of(rt: &impl Abort, alloc: Global, file: &Accepted, block: &str) -> Result<Vec<u8>, Fail> {
-    let block = decoded(rt, alloc, file.spec(), block)?;
-    Ok(block_text(alloc, file.spec(), &block)?)
+/// Asserts that the line of the block that octets in hexadecimal are is as wanted.
+fn is_printed_as(rt: &impl Abort, alloc: Global, file: &Accepted, block: &str, want: &str) {
+    let found = decoded(rt, alloc, file.spec(), block);
+    let line = block_text(alloc, file.spec(), &found).expect(rt, "memory");
+    same(rt, &line, want.as_bytes(), block);
 }
 
-fn is_printed_as(
-    rt: &impl Abort,
-    alloc: Global,
-    file: &Accepted,
-    block: &str,
-    want: &str,
-) -> Result<(), Fail> {
-    let line = line_of(rt, alloc, file, block)?;
-    assert_eq!(rt; line.as_slice(), want.as_bytes(), "of {block}");
-    Ok(())
-}
-
-fn is_printed_under(
-    rt: &impl Abort,
-    alloc: Global,
-    text: &str,
-    block: &str,
-    want: &str,
-) -> Result<(), Fail> {
-    let file = accepted(rt, alloc, text)?;
-    is_printed_as(rt, alloc, &file, block, want)
+/// Asserts the same under a category file.
+fn is_printed_under(rt: &impl Abort, alloc: Global, &(text, block, want): &(&str, &str, &str)) {
+    let file = accepted(rt, alloc, text);
+    is_printed_as(rt, alloc, &file, block, want);
 }
 
 #[test]
-fn each_kind_is_printed(rt: HostRuntime) -> Result<(), Fail> {
-    let alloc = rt.alloc();
-    let file = accepted(&rt, alloc, CAT048_P1)?;
+fn each_kind_is_printed(rt: HostRuntime) {
+    let file = accepted(&rt, rt.alloc(), CAT048_P1);
     for &(block, want) in &PRINTED {
-        is_printed_as(&rt, alloc, &file, block, want)?;
+        is_printed_as(&rt, rt.alloc(), &file, block, want);
     }
-    Ok(())
 }
 
 // Category files, blocks under them, and their lines.
@@ -123,57 +104,37 @@ const OTHER_PRINTED: [(&str, &str, &str); 6] = [
 ];
 
 #[test]
-fn blocks_of_other_categories_are_printed(rt: HostRuntime) -> Result<(), Fail> {
-    let alloc = rt.alloc();
-    for &(text, block, want) in &OTHER_PRINTED {
-        is_printed_under(&rt, alloc, text, block, want)?;
+fn blocks_of_other_categories_are_printed(rt: HostRuntime) {
+    for row in &OTHER_PRINTED {
+        is_printed_under(&rt, rt.alloc(), row);
     }
-    Ok(())
 }
 
 #[test]
-fn opaque_octets_are_printed(rt: HostRuntime) -> Result<(), Fail> {
-    let line = opaque_text(rt.alloc(), 62, &[0x80, 0xFF])?;
-    assert_eq!(rt; line.as_slice(), "opaque 062 \"80ff\"\n".as_bytes());
-    Ok(())
+fn opaque_octets_are_printed(rt: HostRuntime) {
+    let line = opaque_text(rt.alloc(), 62, &[0x80, 0xFF]).expect(&rt, "memory");
+    same(&rt, &line, b"opaque 062 \"80ff\"\n", "3E 00 05 80 FF");
 }
 
 /// The text of the one record of a block.
 #[tactic(auto, using(crate::proofs::Records::first_shape))]
-fn text_of_record(
-    rt: &impl Abort,
-    alloc: Global,
-    spec: &Spec,
-    block: &Block,
-) -> Result<Vec<u8>, Fail>
+fn text_of_record(rt: &impl Abort, alloc: Global, spec: &Spec, block: &Block) -> Vec<u8>
     requires { BlockFits spec.now block.now }
 {
     let Block::Read { records, .. } = block else {
-        return Err(Fail::new("a block of records"));
+        panic!(rt; "no block of records");
     };
-    assert_eq!(rt; records.count(), 1);
-    let Some(one) = records.as_slice().get(0) else {
-        return Err(Fail::new("a record"));
-    };
-    Ok(record_text(alloc, spec, one)?)
-}
-
-/// The text of the one record of the block that octets in hexadecimal are.
-fn record_printed(
-    rt: &impl Abort,
-    alloc: Global,
-    file: &Accepted,
-    block: &str,
-) -> Result<Vec<u8>, Fail> {
-    let block = decoded(rt, alloc, file.spec(), block)?;
-    text_of_record(rt, alloc, file.spec(), &block)
+    assert!(rt; records.count() == 1);
+    let one = records.as_slice().get(0).expect(rt, "a record");
+    record_text(alloc, spec, one).expect(rt, "memory")
 }
 
 #[test]
-fn a_record_is_printed_without_its_block(rt: HostRuntime) -> Result<(), Fail> {
+fn a_record_is_printed_without_its_block(rt: HostRuntime) {
     let alloc = rt.alloc();
-    let file = accepted(&rt, alloc, CAT048_P1)?;
-    let text = record_printed(&rt, alloc, &file, "30 00 08 01 01 40 0B 0C")?;
-    assert_eq!(rt; text.as_slice(), "record { 030 { 5 6 } }".as_bytes());
-    Ok(())
+    let file = accepted(&rt, alloc, CAT048_P1);
+    let octets = "30 00 08 01 01 40 0B 0C";
+    let block = decoded(&rt, alloc, file.spec(), octets);
+    let text = text_of_record(&rt, alloc, file.spec(), &block);
+    same(&rt, &text, b"record { 030 { 5 6 } }", octets);
 }

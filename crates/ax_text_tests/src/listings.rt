@@ -1,13 +1,12 @@
 //! Blocks as listings.
 
-use crate::fixtures::{accepted, decoded, octets_decoded};
+use crate::fixtures::{accepted, decoded, octets_decoded, octets_of, same};
 use ax_check::Accepted;
-use ax_samples::{CAT048_P1, FILE_A, octets};
+use ax_samples::{CAT048_P1, FILE_A};
 use ax_text::{show_lines, show_opaque};
 use ax_values::encode_block;
-use std::alloc::{AllocError, Global};
+use std::alloc::Global;
 use std::process::Abort;
-use std::test::Fail;
 
 const TARGET_REPORT: &str =
     "30 00 1E FD D0 19 0C 35 00 00 A0 19 00 40 00 0E 00 05 78 3C 65 01 04 2C 60 82 08 20 00 2A";
@@ -110,18 +109,7 @@ const LISTED: [(&str, u64, &str, &str); 9] = [
     ),
 ];
 
-/// The listing of the block of that number that these octets are.
-fn listing_of(
-    rt: &impl Abort,
-    alloc: Global,
-    file: &Accepted,
-    number: u64,
-    octets: &[u8],
-) -> Result<Vec<u8>, Fail> {
-    let block = octets_decoded(rt, alloc, file.spec(), octets)?;
-    Ok(show_lines(alloc, file.spec(), &block, number)?)
-}
-
+/// Asserts that the block of that number that octets are has this listing. The block is named so.
 fn has_listing(
     rt: &impl Abort,
     alloc: Global,
@@ -129,42 +117,36 @@ fn has_listing(
     number: u64,
     octets: &[u8],
     want: &str,
-) -> Result<(), Fail> {
-    let lines = listing_of(rt, alloc, file, number, octets)?;
-    assert_eq!(rt; lines.as_slice(), want.as_bytes(), "of {octets:?}");
-    Ok(())
+    of: &str,
+) {
+    let block = octets_decoded(rt, alloc, file.spec(), octets);
+    let lines = show_lines(alloc, file.spec(), &block, number).expect(rt, "memory");
+    same(rt, &lines, want.as_bytes(), of);
 }
 
+/// Asserts the same of octets in hexadecimal, under a category file.
 fn is_listed_as(
     rt: &impl Abort,
     alloc: Global,
-    text: &str,
-    number: u64,
-    block: &str,
-    want: &str,
-) -> Result<(), Fail> {
-    let file = accepted(rt, alloc, text)?;
-    let octets = octets(alloc, block)?;
-    has_listing(rt, alloc, &file, number, &octets, want)
+    &(text, number, block, want): &(&str, u64, &str, &str),
+) {
+    let file = accepted(rt, alloc, text);
+    let octets = octets_of(rt, alloc, block);
+    has_listing(rt, alloc, &file, number, &octets, want, block);
 }
 
 #[test]
-fn blocks_are_listed(rt: HostRuntime) -> Result<(), Fail> {
-    let alloc = rt.alloc();
-    for &(text, number, block, want) in &LISTED {
-        is_listed_as(&rt, alloc, text, number, block, want)?;
+fn blocks_are_listed(rt: HostRuntime) {
+    for row in &LISTED {
+        is_listed_as(&rt, rt.alloc(), row);
     }
-    Ok(())
 }
 
 #[test]
-fn opaque_octets_are_listed(rt: HostRuntime) -> Result<(), Fail> {
-    let line = show_opaque(rt.alloc(), 3, 7, &[0x80, 0xFF])?;
-    assert_eq!(rt;
-        line.as_slice(),
-        "block 3 category 007 octets 5 opaque \"80ff\"\n".as_bytes()
-    );
-    Ok(())
+fn opaque_octets_are_listed(rt: HostRuntime) {
+    let line = show_opaque(rt.alloc(), 3, 7, &[0x80, 0xFF]).expect(&rt, "memory");
+    let want = b"block 3 category 007 octets 5 opaque \"80ff\"\n";
+    same(&rt, &line, want, "07 00 05 80 FF");
 }
 
 // Records of one item under `FILE_CONTENTS`, and the lines of the item.
@@ -208,62 +190,45 @@ const REMARKED: [(&str, &str); 12] = [
 ];
 
 /// The block of category 9 with the body that is in hexadecimal.
-fn block_of(rt: &impl Abort, alloc: Global, body: &str) -> Result<Vec<u8>, Fail> {
-    let body = octets(alloc, body)?;
+fn block_of(rt: &impl Abort, alloc: Global, body: &str) -> Vec<u8> {
+    let body = octets_of(rt, alloc, body);
     assert!(rt; body.len() < 256 - 3);
-    let mut block = vec![in alloc; 9, 0, 3 + body.len() as u8]?;
-    block.extend_from_slice(&body)?;
-    Ok(block)
+    let mut block = [9, 0, 3 + body.len() as u8]
+        .to_vec(alloc)
+        .expect(rt, "memory");
+    block.extend_from_slice(&body).expect(rt, "memory");
+    block
 }
 
-/// The listing of a block of category 9 with one record, whose item has these lines.
-fn whole_listing(alloc: Global, length: usize, lines: &str) -> Result<String, AllocError> {
-    format!(in alloc; "block 0 category 009 octets {length} records 1\nrecord 0\n{lines}")
-}
-
-fn is_remarked_as(
-    rt: &impl Abort,
-    alloc: Global,
-    file: &Accepted,
-    item: &str,
-    want: &str,
-) -> Result<(), Fail> {
-    let block = block_of(rt, alloc, item)?;
-    let want = whole_listing(alloc, block.len(), want)?;
-    has_listing(rt, alloc, file, 0, &block, want.as_str())
+/// Asserts that a block of category 9 with one record, whose item has these lines, is listed with them.
+fn is_remarked_as(rt: &impl Abort, alloc: Global, file: &Accepted, item: &str, want: &str) {
+    let block = block_of(rt, alloc, item);
+    let length = block.len();
+    let want = format!(in alloc;
+        "block 0 category 009 octets {length} records 1\nrecord 0\n{want}"
+    );
+    let want = want.expect(rt, "memory");
+    has_listing(rt, alloc, file, 0, &block, want.as_str(), item);
 }
 
 #[test]
-fn each_content_is_remarked(rt: HostRuntime) -> Result<(), Fail> {
-    let alloc = rt.alloc();
-    let file = accepted(&rt, alloc, FILE_CONTENTS)?;
+fn each_content_is_remarked(rt: HostRuntime) {
+    let file = accepted(&rt, rt.alloc(), FILE_CONTENTS);
     for &(item, want) in &REMARKED {
-        is_remarked_as(&rt, alloc, &file, item, want)?;
+        is_remarked_as(&rt, rt.alloc(), &file, item, want);
     }
-    Ok(())
-}
-
-/// The canonical form of the block that octets in hexadecimal are.
-fn canonical(
-    rt: &impl Abort,
-    alloc: Global,
-    file: &Accepted,
-    block: &str,
-) -> Result<Vec<u8>, Fail> {
-    let block = decoded(rt, alloc, file.spec(), block)?;
-    Ok(encode_block(alloc, file.spec(), &block)?)
-}
-
-fn is_canonical(rt: &impl Abort, alloc: Global, file: &Accepted, block: &str) -> Result<(), Fail> {
-    let canonical = canonical(rt, alloc, file, block)?;
-    let octets = octets(alloc, block)?;
-    assert_eq!(rt; canonical.as_slice(), octets.as_slice());
-    Ok(())
 }
 
 #[test]
-fn a_listed_block_is_canonical(rt: HostRuntime) -> Result<(), Fail> {
+fn a_listed_block_is_canonical(rt: HostRuntime) {
     let alloc = rt.alloc();
-    let file = accepted(&rt, alloc, CAT048_P1)?;
-    is_canonical(&rt, alloc, &file, TARGET_REPORT)
+    let file = accepted(&rt, alloc, CAT048_P1);
+    let block = decoded(&rt, alloc, file.spec(), TARGET_REPORT);
+    let canonical = encode_block(alloc, file.spec(), &block).expect(&rt, "octets");
+    same(
+        &rt,
+        &canonical,
+        &octets_of(&rt, alloc, TARGET_REPORT),
+        TARGET_REPORT,
+    );
 }

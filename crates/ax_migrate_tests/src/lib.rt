@@ -5,3 +5,5 @@
 mod blocks;
 #[cfg(test)]
 mod texts;
+#[cfg(test)]
+mod views;

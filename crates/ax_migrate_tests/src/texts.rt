@@ -13,7 +13,7 @@ use std::alloc::Global;
 use std::process::Abort;
 
 /// More octets than the lines of any block here have.
-const AMPLE: u32 = 10_000;
+pub(crate) const AMPLE: u32 = 10_000;
 
 // H1 with another scale in subitem A, twice.
 const FILE_METRES: &str =
@@ -110,7 +110,7 @@ fn stop_at_length(rt: &impl Abort, octets: &[u8]) -> ! {
 }
 
 /// The category and the body of the block that these octets are, whose LEN has to be theirs.
-fn raw_of<'o>(rt: &impl Abort, octets: &'o [u8]) -> RawBlock<'o> {
+pub(crate) fn raw_of<'o>(rt: &impl Abort, octets: &'o [u8]) -> RawBlock<'o> {
     assert!(rt; octets.len() >= 4);
     if octets.len() != octets[1] as usize * 256 + octets[2] as usize {
         stop_at_length(rt, octets)

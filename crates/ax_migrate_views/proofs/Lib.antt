@@ -16,3 +16,4 @@ pub mod KeepingSteps
 pub mod MovesBySlot
 pub mod LaidRuns
 pub mod KeptSlots
+pub mod ViewBlocks

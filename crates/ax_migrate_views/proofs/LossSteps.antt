@@ -8,14 +8,15 @@ use Rattle.ax_relation.specs.declared.relation.RelationPath.{RelationPath}
 use Rattle.ax_migrate.specs.Finding.{value_below, is_there, path_loss, record_losses}
 use Rattle.ax_migrate.specs.Losing.{lost_line, lost_lines}
 use Rattle.ax_migrate.specs.declared.losing.LossEntry.{LossEntry}
-use Rattle.ax_migrate_views.specs.Losses.{shown_entries, shown_losses}
+use Rattle.ax_migrate_views.specs.Losses.{shown_losses, losses_here}
+use Rattle.ax_migrate_views.specs.declared.losses.RecordLosses.{RecordLosses}
 use Rattle.ax_model.proofs.BodyReader.{compound_some}
 use Rattle.ax_model.proofs.Namings.{from_place}
 use Rattle.ax_model.specs.At.{slot_value}
 use Rattle.ax_model.specs.InBounds.{InBounds}
 use Rattle.ax_model.specs.Spelling.{Spells}
 use Rattle.ax_model.specs.Tree.{slots_of, KindTree, ValueTree, marked, EntriesTree}
-use Rattle.ax_outside.proofs.Pieces.{change, written_then, failed_before, same_text, nothing_written}
+use Rattle.ax_outside.proofs.Pieces.{change, written_then, failed_before, same_text}
 use Rattle.ax_outside.specs.Changes.{Wrote}
 use Rattle.ax_outside.specs.declared.sinks.SinkFailed.{SinkFailed}
 use Rattle.ax_tables.specs.declared.codec.Codec.{Codec}
@@ -42,18 +43,12 @@ pub record Front (h h' : Option (List ℕ)) (f f' : ℕ) (whole rest : List ℕ)
   pub split : whole ≡ front ++ rest
   pub wrote : Wrote (change h h' f f') (Ok tt) front
 
-pub front_none : (h : Option (List ℕ)) (f : ℕ) (whole : List ℕ) → Front h h f f whole whole
-front_none h f whole = record { front = []; split = refl; wrote = nothing_written h f tt }
-
 pub front_more : (h h' h'' : Option (List ℕ)) (f f' f'' : ℕ) (u : Unit) (whole rest piece later : List ℕ) → rest ≡ piece ++ later → Front h h' f f' whole rest → Wrote (change h' h'' f' f'') (Ok u) piece → Front h h'' f f'' whole later
 front_more h h' h'' f f' f'' u whole rest piece later e w v = record {
   front = w.front ++ piece;
   split = w.split ∙ ap (λ t. w.front ++ t) e ∙ sym (append_assoc w.front piece later);
   wrote = written_then h h' h'' f f' f'' tt (Ok tt) w.front piece w.wrote v;
 }
-
-pub front_all : (h h' : Option (List ℕ)) (f f' : ℕ) (u : Unit) (whole rest : List ℕ) → rest ≡ [] → Front h h' f f' whole rest → Wrote (change h h' f f') (Ok u) whole
-front_all h h' f f' u whole rest e w = same_text h h' f f' (Ok u) w.front whole (sym (append-nil w.front) ∙ ap (λ t. w.front ++ t) (sym e) ∙ sym w.split) w.wrote
 
 pub front_failed : (h h' h'' : Option (List ℕ)) (f f' f'' : ℕ) (x : SinkFailed) (r : Result Unit SinkFailed) (whole rest piece later : List ℕ) → IsErr r → rest ≡ piece ++ later → Front h h' f f' whole rest → Wrote (change h' h'' f' f'') (Err x) piece
     → Wrote (change h h'' f f'') r whole
@@ -71,24 +66,16 @@ path_lines block n es paths i p within is =
 pub no_path_left : (block n : ℕ) (es : EntriesTree) (paths : List RelationPath) (i : ℕ) → length paths ≤ i → lost_lines block (record_losses n es (drop i paths)) ≡ []
 no_path_left block n es paths i past = ap (λ ps. lost_lines block (record_losses n es ps)) (drop_all i paths past)
 
--- ---- the lines of records
-
-pub record_lines : (block n : ℕ) (paths : List RelationPath) (s : Codec × List ℕ) (left later : List (Codec × List ℕ)) → left ≡ s ∷ later
-    → lost_lines block (shown_losses paths n left) ≡ lost_lines block (record_losses n (shown_entries s) paths) ++ lost_lines block (shown_losses paths (n + 1) later)
-record_lines block n paths s left later e =
-    ap (λ l. lost_lines block (shown_losses paths n l)) e ∙ flat_map-append (λ (l : LossEntry). lost_line block l.record_at l.path) (record_losses n (shown_entries s) paths) (shown_losses paths (n + 1) later)
-
-pub no_record_left : (block n : ℕ) (paths : List RelationPath) (left : List (Codec × List ℕ)) → left ≡ [] → lost_lines block (shown_losses paths n left) ≡ []
-no_record_left block n paths left e = ap (λ l. lost_lines block (shown_losses paths n l)) e
-
 -- the lines of a lost path
 pub lost_path : (block n : ℕ) (es : EntriesTree) (p : RelationPath) → is_none p.new ≡ true → is_there p.old es ≡ true → lost_lines block (path_loss n es p) ≡ lost_line block n p.text
 lost_path block n es p e f = (λ i. lost_lines block (cond (e i && f i) (record { record_at = n; path = p.text } ∷ []) [])) ∙ append-nil (lost_line block n p.text)
 
--- of the records left
-pub record RecordsLeft (h h' : Option (List ℕ)) (f f' block : ℕ) (paths : List RelationPath) (number : ℕ) (all left : List (Codec × List ℕ)) : Type 0 where
-  pub front : Front h h' f f' (lost_lines block (shown_losses paths 0 all)) (lost_lines block (shown_losses paths number left))
-  pub count : number + length left ≡ length all
+-- ---- no record is left
+
+pub none_left : (paths : List RelationPath) (n : ℕ) (here : Option RecordLosses) (left : List (Codec × List ℕ)) → losses_here here ≡ [] → left ≡ [] → losses_here here ++ shown_losses paths n left ≡ []
+none_left paths n here left e f = λ i. e i ++ shown_losses paths n (f i)
+
+-- ---- how many records are left
 
 pub records_count : (it : Records) → length (records_left it) ≡ it.count
 records_count it = length-map (pieces false (record_kind_at it.codec.now.nodes it.codec.now.slots) it.count it.left.now) (λ octets. shown it octets) ∙ pieces_count false (record_kind_at it.codec.now.nodes it.codec.now.slots) it.count it.left.now
@@ -99,8 +86,6 @@ records_count it = length-map (pieces false (record_kind_at it.codec.now.nodes i
     pieces_count : (fx : Bool) (k : KindTree) (n : ℕ) (xs : List ℕ) → length (pieces fx k n xs) ≡ n
     pieces_count fx k zero xs = refl
     pieces_count fx k (suc n) xs = ap suc (pieces_count fx k n (drop (first_size fx k xs) xs))
-
--- ---- how many they are
 
 one_some : (nodes : List Node) (links octets : List ℕ) → InBounds (record_kind_at nodes links) → IsOne (record_kind_at nodes links) octets → 0 < length octets
 unfolding record_kind_at

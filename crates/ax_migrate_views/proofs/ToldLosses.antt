@@ -9,10 +9,11 @@ use Rattle.ax_edition_laws.proofs.DistinctNames.{record_distinct}
 use Rattle.ax_migrate.proofs.Found.{found_is_lost}
 use Rattle.ax_migrate.specs.Finding.{found_losses}
 use Rattle.ax_migrate.specs.Losing.{loss, losses_from, lost_lines}
+use Rattle.ax_migrate.specs.declared.losing.LossEntry.{LossEntry}
 use Rattle.ax_migrate_views.proofs.GonePaths.{found_gone, found_told}
 use Rattle.ax_migrate_views.specs.Blocks.{old_tree, new_tree, IsOfEditions}
 use Rattle.ax_migrate_views.specs.Bodies.{TellsBody}
-use Rattle.ax_migrate_views.specs.Losses.{shown_entries, shown_losses, TellsLosses, WritesLosses}
+use Rattle.ax_migrate_views.specs.Losses.{shown_entries, shown_losses, LosesEach, TellsLosses, WritesLosses}
 use Rattle.ax_migrate_views.specs.declared.migrator.Migrator.{Migrator}
 use Rattle.ax_model.proofs.Spelled.{read_spelled}
 use Rattle.ax_model.specs.Migrated.{Lost}
@@ -48,13 +49,16 @@ shown_told codec old new n (r ∷ records) (s ∷ shown) stands d h =
     let is = shown_is codec old r s stands h.0 in
     (λ i. first i ++ shown_told codec old new (n + 1) records shown stands d h.1 i) ∙ ap (λ es. map (loss old.category n) (Lost old new es) ++ losses_from old new (n + 1) records) is
 
-pub losses_written : (m : Migrator) (body : List ℕ) (block : ℕ) (paths : List RelationPath) (shown : List (Codec × List ℕ)) (h h' : Option (List ℕ)) (f f' : ℕ) (r : Result Unit SinkFailed) → IsOfEditions m → paths ≡ m.relation.now.paths → SpellEach m.codec.now body shown
-    → Wrote (change h h' f f') r (lost_lines block (shown_losses paths 0 shown)) → WritesLosses m body block (change h h' f f') r
-losses_written m body block paths shown h h' f f' r of are each w = record {
-  lines = λ records spells. (
-      let told = ap (λ ps. shown_losses ps 0 shown) (are ∙ of.related.paths)
-      ∙ shown_told m.codec.now (old_tree m) (new_tree m) 0 records shown of.compiled.stands (record_distinct (old_tree m) of.related.old_no_flaw) (each.spells (old_tree m) records of.compiled.clean of.compiled.stands spells) in
-      same_text h h' f f' r (lost_lines block (shown_losses paths 0 shown)) (lost_lines block (losses_from (old_tree m) (new_tree m) 0 records)) (ap (lost_lines block) told) w);
+pub losses_each : (m : Migrator) (body : List ℕ) (paths : List RelationPath) (shown : List (Codec × List ℕ)) → IsOfEditions m → paths ≡ m.relation.now.paths → SpellEach m.codec.now body shown → LosesEach m body (shown_losses paths 0 shown)
+losses_each m body paths shown of are each = record {
+  each = λ records spells. ap (λ ps. shown_losses ps 0 shown) (are ∙ of.related.paths)
+      ∙ shown_told m.codec.now (old_tree m) (new_tree m) 0 records shown of.compiled.stands (record_distinct (old_tree m) of.related.old_no_flaw) (each.spells (old_tree m) records of.compiled.clean of.compiled.stands spells);
+}
+
+-- those that were written
+pub losses_written : (m : Migrator) (body : List ℕ) (block : ℕ) (losses : List LossEntry) (h h' : Option (List ℕ)) (f f' : ℕ) (r : Result Unit SinkFailed) → LosesEach m body losses → Wrote (change h h' f f') r (lost_lines block losses) → WritesLosses m body block (change h h' f f') r
+losses_written m body block losses h h' f f' r are w = record {
+  lines = λ records spells. same_text h h' f f' r (lost_lines block losses) (lost_lines block (losses_from (old_tree m) (new_tree m) 0 records)) (ap (lost_lines block) (are.each records spells)) w;
 }
 
 -- those that were laid

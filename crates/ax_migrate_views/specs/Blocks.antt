@@ -1,11 +1,13 @@
 -- Migrated blocks at the front of an output, and what a migrator is made of.
-use Rattle.std.specs.Prelude.{◌≡◌, ℕ, ◌/◌, ◌%◌, ◌≤◌, List, set, take}
+use Rattle.std.specs.Prelude.{◌≡◌, ℕ, ◌*◌, ◌/◌, ◌%◌, ◌≤◌, List, set, take}
 use Rattle.ax_bits.specs.Bits.{bits}
+use Rattle.ax_bits.specs.Out.{Appends}
+use Rattle.ax_bits.specs.declared.output.Out.{Out}
 use Rattle.ax_relation.specs.Relates.{Relates}
 use Rattle.ax_migrate.specs.Migrating.{migrated_block}
 use Rattle.ax_migrate_views.specs.Gone.{gone}
 use Rattle.ax_migrate_views.specs.declared.migrator.Migrator.{Migrator}
-use Rattle.ax_model.specs.Blocks.{read_block}
+use Rattle.ax_model.specs.Blocks.{BlockTree, read_block}
 use Rattle.ax_model.specs.Bodies.{SpellsBody}
 use Rattle.ax_model.specs.CanonicalOctets.{canon_block, canon_length}
 use Rattle.ax_model.specs.Plain.{spec_tree}
@@ -39,3 +41,22 @@ pub record IsMigratedBlock (old new : SpecTree) (records : List EntriesTree) (co
 -- that of the records that the body spells
 pub record LaysMigrated (m : Migrator) (body : List ℕ) (count : ℕ) (output : List ℕ) : Type 0 where
   pub block : (records : List EntriesTree) → SpellsBody (old_tree m) records (bits body) → IsMigratedBlock (old_tree m) (new_tree m) records count output
+
+-- ---- of a view
+
+-- the migrated block of records of the old edition
+abbrev pub migrated_of : Migrator → List EntriesTree → BlockTree
+migrated_of m records = migrated_block (old_tree m) (new_tree m) (read_block (old_tree m).category records)
+
+-- that of the records that the body spells has so many octets in its canonical form
+pub record CountsMigrated (m : Migrator) (body : List ℕ) (count : ℕ) : Type 0 where
+  pub counted : (records : List EntriesTree) → SpellsBody (old_tree m) records (bits body) → count ≡ canon_length (new_tree m) (migrated_of m records)
+
+-- it is a data block, and so many bits are room for it
+pub record HasRoom (m : Migrator) (body : List ℕ) (free : ℕ) : Type 0 where
+  pub block : (records : List EntriesTree) → SpellsBody (old_tree m) records (bits body) → canon_length (new_tree m) (migrated_of m records) ≤ longest_block
+  pub room : (records : List EntriesTree) → SpellsBody (old_tree m) records (bits body) → 8 * canon_length (new_tree m) (migrated_of m records) ≤ free
+
+-- its canonical form is appended
+pub record AppendsMigrated (m : Migrator) (body : List ℕ) (old new : Out) : Type 0 where
+  pub appended : (records : List EntriesTree) → SpellsBody (old_tree m) records (bits body) → Appends old new (bits (canon_block (new_tree m) (migrated_of m records)))

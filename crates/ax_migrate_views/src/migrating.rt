@@ -2,23 +2,19 @@
 ghost use Rattle.std.specs.Prelude.{◌≡◌, ◌≤◌, length, IfOk, IfErr};
 ghost use Rattle.ax_relation.specs.Relates.{Relates};
 ghost use Rattle.ax_migrate_views.specs.Blocks.{IsOfEditions, LaysMigrated, new_tree, old_tree, with_head};
-ghost use Rattle.ax_migrate_views.specs.Losses.{TellsLosses, WritesLosses};
+ghost use Rattle.ax_migrate_views.specs.Losses.{TellsLosses};
 ghost use Rattle.ax_model.specs.Plain.{spec_tree};
 ghost use Rattle.ax_model.specs.Sizes.{longest_body};
-ghost use Rattle.ax_outside.specs.Changes.{sink_change};
 ghost use Rattle.ax_tables.specs.Standing.{IsCompiled};
 ghost use Rattle.ax_view.specs.Views.{FailsThere, SpellsSome};
 
 use crate::bodies::{Laid, lay_body};
 use crate::by_slot::know_moves;
 use crate::gone::gone_paths;
-use crate::losses::lose_records;
 use crate::migrator::Migrator;
 use ax_model::{BodyFault, Spec};
-use ax_outside::{Sink, SinkFailed};
 use ax_relation::Relation;
 use ax_tables::Codec;
-use ax_view::BlockView;
 use std::alloc::{AllocError, Global};
 
 /// Writes CAT and LEN over the first three octets.
@@ -101,21 +97,5 @@ impl<'c> Migrator<'c> {
         )?;
         write_head(self.codec.category(), laid.octets, output);
         Ok(laid)
-    }
-
-    /// Writes the line `lost block N record M PATH` of each path that a record of a view loses, by record and, in a record, in
-    /// the order of the paths of the old edition; the block has the number N. At `SinkFailed` a prefix of the lines was added,
-    /// not all of them, and the report counted a fault.
-    pub fn write_losses<R: Sink>(
-        &self,
-        report: &mut R,
-        block: u64,
-        view: &BlockView<'_, '_>,
-    ) -> Result<(), SinkFailed>
-        requires editions { IsOfEditions self.now }
-        requires view { view.now.codec.now ≡ self.now.codec.now }
-        ensures { WritesLosses self.now view.now.body.now block (sink_change R.Sink report.old report.new) result }
-    {
-        lose_records(report, block, self.relation.paths(), &mut view.records())
     }
 }

@@ -7,7 +7,7 @@ ghost use Rattle.ax_migrate_views.specs.Wholes.{whole_entries};
 ghost use Rattle.ax_view.specs.Placing.{IsPlaced};
 
 use crate::laying::lay_octets;
-use crate::losses::leads_on;
+use crate::leading::leads_on;
 use crate::whole::item_of;
 use ax_model::Place;
 use ax_relation::{RelationPath, RelationPaths};

@@ -1,5 +1,5 @@
 use Rattle.std.proofs.Common.{length}
-use Rattle.ax_migrate_views.proofs.losses.+leads_on.Given as goal
+use Rattle.ax_migrate_views.proofs.leading.+leads_on.Given as goal
 
 -- proposed from what the function passes where it calls itself
 abbrev pub decreases-leads_on : goal.decreases-leads_on

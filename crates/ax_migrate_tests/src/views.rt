@@ -5,6 +5,7 @@ ghost use Rattle.ax_migrate_views.specs.Blocks.{IsOfEditions};
 use crate::blocks::MIGRATED;
 use crate::texts::{AMPLE, Edition, accepted, octets_of, raw_of, same};
 use ax_bits::Out;
+use ax_check::Accepted;
 use ax_edition::relate;
 use ax_migrate::loss_line;
 use ax_migrate_views::Migrator;
@@ -58,6 +59,29 @@ fn is_migrated(
     same(rt, &written, lines.as_bytes(), of);
 }
 
+/// Asserts that of the view of a block, of the old edition in the new one.
+fn migrates_as(
+    rt: &impl Abort,
+    alloc: Global,
+    old: &Accepted,
+    new: &Accepted,
+    input: &str,
+    made: &str,
+    lines: &str,
+) {
+    let relation = relate(alloc, old, new).expect(rt, "editions of one category");
+    let Ok(codec) = compile(alloc, old) else {
+        panic!(rt; "memory");
+    };
+    let migrator = Migrator::new(alloc, old.spec(), new.spec(), &relation, &codec);
+    let migrator = migrator.expect(rt, "memory");
+    let octets = octets_of(rt, alloc, input);
+    let raw = raw_of(rt, &octets);
+    let view = scan(&codec, raw.body).expect(rt, "records");
+    let made = octets_of(rt, alloc, made);
+    is_migrated(rt, alloc, &migrator, &view, &made, lines, input);
+}
+
 fn migrates(
     rt: &impl Abort,
     alloc: Global,
@@ -65,15 +89,7 @@ fn migrates(
 ) {
     let old = accepted(rt, alloc, old);
     let new = accepted(rt, alloc, new);
-    let relation = relate(alloc, &old, &new).expect(rt, "editions of one category");
-    let codec = compile(alloc, &old).expect(rt, "a codec");
-    let migrator = Migrator::new(alloc, old.spec(), new.spec(), &relation, &codec);
-    let migrator = migrator.expect(rt, "a migrator");
-    let octets = octets_of(rt, alloc, input);
-    let raw = raw_of(rt, &octets);
-    let view = scan(&codec, raw.body).expect(rt, "records");
-    let made = octets_of(rt, alloc, made);
-    is_migrated(rt, alloc, &migrator, &view, &made, lines, input);
+    migrates_as(rt, alloc, &old, &new, input, made, lines);
 }
 
 #[test]

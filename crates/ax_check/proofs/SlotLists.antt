@@ -3,7 +3,7 @@ use Rattle.std.proofs.Common.{◌≡◌, ℕ, suc, ◌+◌, ◌<◌, ◌≤◌, 
 use Rattle.std.proofs.lemmas.List.{drop_all}
 use Rattle.ax_check.proofs.FlawLists.{same_more}
 use Rattle.ax_model.proofs.Namings.{from_place}
-use Rattle.ax_check.specs.Members.{slot_flaws, with_slot}
+use Rattle.ax_check.specs.Members.{count_flaws, slot_flaws, with_slot}
 use Rattle.ax_check.specs.Names.{AreSame}
 use Rattle.ax_model.specs.Flaws.{flaw_where, slots_flaws, kind_flaws}
 use Rattle.ax_model.specs.Paths.{at}
@@ -28,15 +28,10 @@ counted : (ss : List Slot) → slot_count (slots_tree ss) ≡ length ss
 counted [] = refl
 counted (s ∷ ss) = ap suc (counted ss)
 
-abbrev counts : List ℕ → ℕ → List Flaw
-counts path n = flaw_where (n == 0) Empty path ++ flaw_where (nat_lt 126 n) TooManySlots path
-
-pub slot_start : (path : List ℕ) (ss : List Slot) (names : List (List ℕ)) (found noted again : List Flaw) → names ≡ [] → noted ≡ found ++ flaw_where (length ss == 0) Empty path
-    → again ≡ noted ++ flaw_where (nat_lt 126 (length ss)) TooManySlots path
-    → again ++ slots_flaws path names (slots_tree ss) ≡ found ++ (flaw_where (length ss == 0) Empty path ++ flaw_where (nat_lt 126 (length ss)) TooManySlots path ++ slots_flaws path [] (slots_tree ss))
-slot_start path ss names found noted again none n m =
-    (λ i. (m ∙ ap (λ l. l ++ flaw_where (nat_lt 126 (length ss)) TooManySlots path) n ∙ append_assoc found (flaw_where (length ss == 0) Empty path) (flaw_where (nat_lt 126 (length ss)) TooManySlots path)) i ++ slots_flaws path (none i) (slots_tree ss))
-    ∙ append_assoc found (counts path (length ss)) (slots_flaws path [] (slots_tree ss))
+pub slot_start : (path : List ℕ) (ss : List Slot) (names : List (List ℕ)) (found noted : List Flaw) → names ≡ [] → noted ≡ found ++ count_flaws path (length ss)
+    → noted ++ slots_flaws path names (slots_tree ss) ≡ found ++ (flaw_where (length ss == 0) Empty path ++ flaw_where (nat_lt 126 (length ss)) TooManySlots path ++ slots_flaws path [] (slots_tree ss))
+slot_start path ss names found noted none n =
+    (λ i. n i ++ slots_flaws path (none i) (slots_tree ss)) ∙ append_assoc found (count_flaws path (length ss)) (slots_flaws path [] (slots_tree ss))
 
 pub slot_step : (path : List ℕ) (i : ℕ) (a b : List (List ℕ)) (ss : List Slot) (s : Slot) (found new all : List Flaw) → i < length ss → s ≡ get_or ss i s
     → new ≡ found ++ slot_flaws path a (slot_tree s) → AreSame b (with_slot a (slot_tree s)) → found ++ slots_flaws path a (slots_tree (drop i ss)) ≡ all
@@ -52,6 +47,6 @@ pub slot_end : (broken : FlawKind) (path : List ℕ) (i : ℕ) (a : List (List �
     → found ≡ start ++ kind_flaws broken path (compound (slots_tree ss))
 slot_end broken path i a ss start found past h =
     sym (append-nil found) ∙ ap (λ l. found ++ l) (sym (ap (λ x. slots_flaws path a (slots_tree x)) (drop_all i ss past))) ∙ h
-    ∙ ap (λ n. start ++ (counts path n ++ slots_flaws path [] (slots_tree ss))) (sym (counted ss))
+    ∙ ap (λ n. start ++ (count_flaws path n ++ slots_flaws path [] (slots_tree ss))) (sym (counted ss))
 
 pub ruleset slots = (slot_start, slot_step, slot_end)

@@ -4,7 +4,7 @@ use Rattle.std.proofs.lemmas.List.{drop_all}
 use Rattle.std.proofs.lemmas.Slice.Eq.{bytes_eq-Decides}
 use Rattle.ax_check.proofs.FlawLists.{same_more}
 use Rattle.ax_model.proofs.Namings.{from_place}
-use Rattle.ax_check.specs.Members.{uap_slot_flaws, with_uap_slot, item_names, uap_part_flaws}
+use Rattle.ax_check.specs.Members.{count_flaws, uap_slot_flaws, with_uap_slot, item_names, uap_part_flaws}
 use Rattle.ax_check.specs.Names.{AreSame}
 use Rattle.ax_model.specs.Flaws.{flaw_where, is_among, items_flaws, uap_flaws}
 use Rattle.ax_model.specs.Paths.{at, three_digits}
@@ -51,14 +51,10 @@ first_uap path items known a (Uap.Item name) ss h =
     ap (λ b. (if b then flaw_where (is_among name a) RepeatedInUap (at path name) else flaw_where true UnknownInUap (at path name)) ++ uap_flaws path (map item_tree items) (name ∷ a) ss)
     (known_item name items ∙ sym (h.same name))
 
-pub uap_start : (path : List ℕ) (spec : Spec) (names : List (List ℕ)) (found noted again : List Flaw) → names ≡ []
-    → noted ≡ found ++ flaw_where (length spec.uap == 0) Empty path → again ≡ noted ++ flaw_where (nat_lt 126 (length spec.uap)) TooManySlots path
-    → again ++ uap_flaws path (map item_tree spec.items) names spec.uap ≡ found ++ uap_part_flaws path spec
-uap_start path spec names found noted again none n m =
-    let empty = flaw_where (length spec.uap == 0) Empty path in
-    let many = flaw_where (nat_lt 126 (length spec.uap)) TooManySlots path in
-    (λ i. (m ∙ ap (λ l. l ++ many) n ∙ append_assoc found empty many) i ++ uap_flaws path (map item_tree spec.items) (none i) spec.uap)
-    ∙ append_assoc found (empty ++ many) (uap_flaws path (map item_tree spec.items) [] spec.uap)
+pub uap_start : (path : List ℕ) (spec : Spec) (names : List (List ℕ)) (found noted : List Flaw) → names ≡ [] → noted ≡ found ++ count_flaws path (length spec.uap)
+    → noted ++ uap_flaws path (map item_tree spec.items) names spec.uap ≡ found ++ uap_part_flaws path spec
+uap_start path spec names found noted none n =
+    (λ i. n i ++ uap_flaws path (map item_tree spec.items) (none i) spec.uap) ∙ append_assoc found (count_flaws path (length spec.uap)) (uap_flaws path (map item_tree spec.items) [] spec.uap)
 
 pub uap_step : (path : List ℕ) (items : List Item) (known : List (List ℕ)) (i : ℕ) (a b : List (List ℕ)) (ss : List UapSlot) (s : UapSlot) (found new all : List Flaw) → i < length ss → s ≡ get_or ss i s
     → AreSame known (item_names items) → new ≡ found ++ uap_slot_flaws path known a s → AreSame b (with_uap_slot a s) → found ++ uap_flaws path (map item_tree items) a (drop i ss) ≡ all
@@ -80,11 +76,12 @@ four : (a b c d : List Flaw) → a ++ (b ++ c ++ d) ≡ a ++ b ++ c ++ d
 four a b c d = sym (append_assoc a (b ++ c) d) ∙ ap (λ l. l ++ d) (sym (append_assoc a b c))
 
 -- the flaws of the items, then those at the UAP's path
-pub both_parts : (path place : List ℕ) (spec : Spec) (of_items of_all : List Flaw) → path ≡ three_digits spec.category → place ≡ at path (codes "uap")
-    → of_items ≡ [] ++ items_flaws path [] (map item_tree spec.items) → of_all ≡ of_items ++ uap_part_flaws place spec → of_all ≡ spec_flaws spec
-both_parts path place spec of_items of_all p u e f =
+pub both_parts : (path : List ℕ) (spec : Spec) (start of_items of_all : List Flaw) → path ≡ three_digits spec.category → of_items ≡ start ++ items_flaws path [] (map item_tree spec.items)
+    → of_all ≡ of_items ++ uap_part_flaws (at path (codes "uap")) spec → of_all ≡ start ++ spec_flaws spec
+both_parts path spec start of_items of_all p e f =
     let digits = three_digits spec.category in
     let uap = at digits (codes "uap") in
-    f ∙ (λ i. (e ∙ ap (λ t. items_flaws t [] (map item_tree spec.items)) p) i ++ uap_part_flaws ((u ∙ ap (λ t. at t (codes "uap")) p) i) spec)
-    ∙ four (items_flaws digits [] (map item_tree spec.items)) (flaw_where (length spec.uap == 0) Empty uap) (flaw_where (nat_lt 126 (length spec.uap)) TooManySlots uap)
-    (uap_flaws uap (map item_tree spec.items) [] spec.uap)
+    f ∙ (λ i. (e ∙ ap (λ t. start ++ items_flaws t [] (map item_tree spec.items)) p) i ++ uap_part_flaws (at (p i) (codes "uap")) spec)
+    ∙ append_assoc start (items_flaws digits [] (map item_tree spec.items)) (uap_part_flaws uap spec)
+    ∙ ap (λ l. start ++ l) (four (items_flaws digits [] (map item_tree spec.items)) (flaw_where (length spec.uap == 0) Empty uap) (flaw_where (nat_lt 126 (length spec.uap)) TooManySlots uap)
+    (uap_flaws uap (map item_tree spec.items) [] spec.uap))

@@ -18,12 +18,11 @@ broken_unit w over e = ap not (same (over == 7) ((w + 1) % 8 == 0) refl refl)
 pub passes : (w held_width : ℕ) → held_width ≡ capped w → nat_lt 524256 held_width ≡ is_too_wide w
 passes w held_width e = grind (arith, nat_tests)
 
--- ---- three lists joined
+-- ---- the flaws of a width, then those inside
 
-pub three : {A : Type 0} (start a b c one two all : List A) → one ≡ start ++ a → two ≡ one ++ b → all ≡ two ++ c → all ≡ start ++ (a ++ b ++ c)
-three start a b c one two all p q r =
-    r ∙ ap (λ l. l ++ c) (q ∙ ap (λ l. l ++ b) p) ∙ ap (λ l. l ++ c) (append_assoc start a b) ∙ append_assoc start (a ++ b) c
+pub joined : {A : Type 0} (start a b c one all : List A) → one ≡ start ++ (a ++ b) → all ≡ one ++ c → all ≡ start ++ (a ++ b ++ c)
+joined start a b c one all p q = q ∙ ap (λ l. l ++ c) p ∙ append_assoc start (a ++ b) c
 
-pub ruleset wholes = (broken, passes, three)
+pub ruleset wholes = (broken, passes, joined)
 
-pub ruleset units = (broken_unit, passes, three)
+pub ruleset units = (broken_unit, passes, joined)

@@ -30,6 +30,12 @@ part_flaws path i earlier p =
     flaw_where (is_no_multiple 8 (members_width p + 1)) PartNotOctets (at path (codes "part" ++ decimal i))
     ++ flaw_where (is_too_wide (members_width p)) TooWide (at path (codes "part" ++ decimal i)) ++ members_flaws path earlier p
 
+-- ---- how many slots a compound or the UAP has
+
+-- where there are none, or more than there may be
+abbrev pub count_flaws : List ℕ → ℕ → List Flaw
+count_flaws path n = flaw_where (n == 0) Empty path ++ flaw_where (nat_lt 126 n) TooManySlots path
+
 -- ---- slots of a compound
 
 abbrev pub slot_flaws : List ℕ → List (List ℕ) → SlotTree → List Flaw

@@ -1,6 +1,7 @@
 //! The flaws of fixed kinds, of groups and of parts.
-ghost use Rattle.std.specs.Prelude.{◌≡◌, ◌++◌, ◌+◌, ◌%◌, [], map, not, OnOk};
-ghost use Rattle.ax_model.specs.Flaws.{flaw_where, is_bad_width, is_bad_element_width, is_bad_scale, is_bad_string_width, is_no_multiple, is_too_wide, fixed_flaws, members_flaws, whole_flaws, parts_flaws, names_with};
+ghost use Rattle.std.specs.Prelude.{◌≡◌, ◌∷◌, ◌++◌, ◌+◌, ◌%◌, [], map, not, IfOk, OnOk};
+ghost use Rattle.ax_model.specs.Flaws.{flaw_where, is_among, is_bad_width, is_bad_element_width, is_bad_scale, is_bad_string_width, is_no_multiple, is_too_wide, fixed_flaws, members_flaws, whole_flaws, parts_flaws, names_with};
+ghost use Rattle.ax_model.specs.Paths.{at};
 ghost use Rattle.ax_model.specs.Plain.{fixed_tree, member_tree, members_tree, part_tree};
 ghost use Rattle.ax_model.specs.Tree.{group};
 ghost use Rattle.ax_model.specs.Widths.{members_width};
@@ -10,7 +11,7 @@ ghost use Rattle.ax_check.specs.Names.{listed, AreSame};
 
 use crate::names::enter;
 use crate::texts::at_spare;
-use ax_model::{Content, Fixed, Flaw, FlawKind, Flaws, Member, Members, Text, at_name};
+use ax_model::{Content, Fixed, Flaw, FlawKind, Flaws, Member, Members, Name, Text, at_name};
 use indexmap::IndexSet;
 use std::alloc::{AllocError, Global};
 
@@ -32,6 +33,25 @@ pub(crate) fn note(
     }
     let path = path.copy(alloc)?;
     found.push(Flaw { kind, path })
+}
+
+/// The path of a name after others, which gain it. Where it is one of them, it has the flaw named.
+pub(crate) fn enter_at<'s>(
+    alloc: Global,
+    found: &mut Flaws,
+    path: &Text,
+    names: &mut IndexSet<&'s [u8]>,
+    name: &'s Name,
+    twice: FlawKind,
+) -> Result<Text, AllocError>
+    ensures path { IfOk result (λ made. made ≡ at path.now name.now) }
+    ensures flaws { OnOk result (found.new ≡ found.old ++ flaw_where (is_among name.now (listed names.old)) twice (at path.now name.now)) }
+    ensures names { OnOk result (AreSame (listed names.new) (name.now ∷ listed names.old)) }
+{
+    let path = at_name(alloc, path, name)?;
+    let known = enter(names, name)?;
+    note(alloc, found, known, twice, &path)?;
+    Ok(path)
 }
 
 fn has_bad_width(width: u32) -> bool
@@ -116,8 +136,7 @@ fn find_in_group(
 {
     note(alloc, found, members.count() == 0, FlawKind::Empty, path)?;
     let mut names = IndexSet::new(alloc);
-    find_in_members(alloc, found, path, &mut names, members)?;
-    Ok(())
+    find_in_members(alloc, found, path, &mut names, members)
 }
 
 /// The flaws of one member after others of these names, which gain its own.
@@ -144,9 +163,7 @@ fn find_in_member<'s>(
             )
         }
         Member::Named { name, fixed } => {
-            let path = at_name(alloc, path, name)?;
-            let known = enter(names, name)?;
-            note(alloc, found, known, FlawKind::DuplicateName, &path)?;
+            let path = enter_at(alloc, found, path, names, name, FlawKind::DuplicateName)?;
             find_in_fixed(alloc, found, &path, fixed)
         }
     }

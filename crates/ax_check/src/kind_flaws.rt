@@ -1,17 +1,16 @@
 //! The flaws of kinds.
-ghost use Rattle.std.specs.Prelude.{◌≡◌, ◌++◌, [], map, OnOk};
-ghost use Rattle.ax_model.specs.Flaws.{whole_flaws, parts_flaws, kind_flaws, slots_flaws, names_with, is_too_wide};
+ghost use Rattle.std.specs.Prelude.{◌≡◌, ◌++◌, [], map, nat_lt, OnOk};
+ghost use Rattle.ax_model.specs.Flaws.{flaw_where, whole_flaws, parts_flaws, kind_flaws, slots_flaws, names_with, is_too_wide};
 ghost use Rattle.ax_model.specs.Plain.{fixed_tree, members_tree, part_tree, kind_tree, slot_tree, slots_tree};
 ghost use Rattle.ax_model.specs.Tree.{by_fx, extended, compound};
-ghost use Rattle.ax_model.specs.declared.flaw.FlawKind.TheVariants.{BodyNotOctets};
-ghost use Rattle.ax_check.specs.Members.{part_flaws, slot_flaws, with_slot};
+ghost use Rattle.ax_model.specs.declared.flaw.FlawKind.TheVariants.{BodyNotOctets, TooWide};
+ghost use Rattle.ax_check.specs.Members.{count_flaws, part_flaws, slot_flaws, with_slot};
 ghost use Rattle.ax_check.specs.Names.{listed, AreSame};
 
-use crate::fixed_flaws::{find_in_fixed, find_in_members, note};
-use crate::names::enter;
+use crate::fixed_flaws::{enter_at, find_in_fixed, find_in_members, note};
 use crate::texts::{at_body, at_part};
 use crate::widths::{bits_over, bits_over_members};
-use ax_model::{Fixed, FlawKind, Flaws, Kind, Part, Parts, Slot, Slots, Text, at_name};
+use ax_model::{Fixed, FlawKind, Flaws, Kind, Part, Parts, Slot, Slots, Text};
 use indexmap::IndexSet;
 use std::alloc::{AllocError, Global};
 
@@ -19,7 +18,41 @@ use std::alloc::{AllocError, Global};
 const WIDEST: u64 = 524_256;
 
 /// The most slots of a compound or a UAP.
-pub(crate) const MOST_SLOTS: u32 = 126;
+const MOST_SLOTS: u32 = 126;
+
+/// The flaws of a width: the one named, where the test holds, and that of one past the longest body.
+fn note_width(
+    alloc: Global,
+    found: &mut Flaws,
+    holds: bool,
+    broken: FlawKind,
+    width: u64,
+    path: &Text,
+) -> Result<(), AllocError>
+    ensures { OnOk result (found.new ≡ found.old ++ (flaw_where holds broken path.now ++ flaw_where (nat_lt 524256 width) TooWide path.now)) }
+{
+    note(alloc, found, holds, broken, path)?;
+    note(alloc, found, width > WIDEST, FlawKind::TooWide, path)
+}
+
+/// The flaws of a number of slots: there are none, or more than there may be.
+pub(crate) fn note_count(
+    alloc: Global,
+    found: &mut Flaws,
+    slots: u32,
+    path: &Text,
+) -> Result<(), AllocError>
+    ensures { OnOk result (found.new ≡ found.old ++ count_flaws path.now slots) }
+{
+    note(alloc, found, slots == 0, FlawKind::Empty, path)?;
+    note(
+        alloc,
+        found,
+        slots > MOST_SLOTS,
+        FlawKind::TooManySlots,
+        path,
+    )
+}
 
 /// The flaws of a fixed kind that is to be whole octets, or else has the flaw named.
 #[tactic(auto, using(crate::proofs::WholeFlaws::wholes))]
@@ -32,16 +65,9 @@ fn find_in_whole(
 ) -> Result<(), AllocError>
     ensures { OnOk result (found.new ≡ found.old ++ whole_flaws broken path.now (fixed_tree fixed.now)) }
 {
-    note(alloc, found, bits_over(fixed) != 0, broken, path)?;
-    note(
-        alloc,
-        found,
-        fixed.width() > WIDEST,
-        FlawKind::TooWide,
-        path,
-    )?;
-    find_in_fixed(alloc, found, path, fixed)?;
-    Ok(())
+    let over = bits_over(fixed);
+    note_width(alloc, found, over != 0, broken, fixed.width(), path)?;
+    find_in_fixed(alloc, found, path, fixed)
 }
 
 /// The flaws of a by-FX kind, whose body has an FX bit in each occurrence.
@@ -56,22 +82,16 @@ fn find_in_by_fx(
     ensures { OnOk result (found.new ≡ found.old ++ kind_flaws broken path.now (by_fx (fixed_tree fixed.now))) }
 {
     let body = at_body(alloc, path)?;
-    note(
+    let (over, width) = (bits_over(fixed), fixed.width());
+    note_width(
         alloc,
         found,
-        bits_over(fixed) != 7,
+        over != 7,
         FlawKind::BodyNotOctets,
+        width,
         &body,
     )?;
-    note(
-        alloc,
-        found,
-        fixed.width() > WIDEST,
-        FlawKind::TooWide,
-        &body,
-    )?;
-    find_in_fixed(alloc, found, &body, fixed)?;
-    Ok(())
+    find_in_fixed(alloc, found, &body, fixed)
 }
 
 /// The flaws of a part of that number after parts whose members have these names, which gain its own.
@@ -88,17 +108,16 @@ fn find_in_part<'s>(
     ensures names { OnOk result (AreSame (listed names.new) (names_with (listed names.old) (part_tree part.now))) }
 {
     let place = at_part(alloc, path, number)?;
-    let over = bits_over_members(&part.members);
-    note(alloc, found, over != 7, FlawKind::PartNotOctets, &place)?;
-    note(
+    let (over, width) = (bits_over_members(&part.members), part.width());
+    note_width(
         alloc,
         found,
-        part.width() > WIDEST,
-        FlawKind::TooWide,
+        over != 7,
+        FlawKind::PartNotOctets,
+        width,
         &place,
     )?;
-    find_in_members(alloc, found, path, names, &part.members)?;
-    Ok(())
+    find_in_members(alloc, found, path, names, &part.members)
 }
 
 /// The flaws of an extended kind.
@@ -161,9 +180,7 @@ fn find_in_slot<'s>(
     match slot {
         Slot::Spare => Ok(()),
         Slot::Sub { name, kind } => {
-            let path = at_name(alloc, path, name)?;
-            let known = enter(names, name)?;
-            note(alloc, found, known, FlawKind::DuplicateName, &path)?;
+            let path = enter_at(alloc, found, path, names, name, FlawKind::DuplicateName)?;
             find_in_kind(alloc, found, FlawKind::NotOctets, &path, kind)
         }
     }
@@ -181,14 +198,7 @@ fn find_in_slots(
 ) -> Result<(), AllocError>
     ensures { OnOk result (found.new ≡ found.old ++ kind_flaws broken path.now (compound (slots_tree slots.now))) }
 {
-    note(alloc, found, slots.count() == 0, FlawKind::Empty, path)?;
-    note(
-        alloc,
-        found,
-        slots.count() > MOST_SLOTS,
-        FlawKind::TooManySlots,
-        path,
-    )?;
+    note_count(alloc, found, slots.count(), path)?;
     let mut names = IndexSet::new(alloc);
     for slot in slots.as_slice() {
         find_in_slot(alloc, found, path, &mut names, slot)?;

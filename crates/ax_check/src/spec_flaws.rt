@@ -1,13 +1,14 @@
 //! The flaws of a specification, in their order.
-ghost use Rattle.std.specs.Prelude.{◌≡◌, ◌∷◌, ◌++◌, [], map, IfOk, OnOk};
+ghost use Rattle.std.specs.Prelude.{◌≡◌, ◌∷◌, ◌++◌, [], codes, map, IfOk, OnOk};
 ghost use Rattle.ax_model.specs.Flaws.{items_flaws};
 ghost use Rattle.ax_model.specs.OfCode.{spec_flaws};
+ghost use Rattle.ax_model.specs.Paths.{at};
 ghost use Rattle.ax_model.specs.Plain.{item_tree};
 ghost use Rattle.ax_check.specs.Members.{item_flaws, uap_slot_flaws, with_uap_slot, item_names, uap_part_flaws};
 ghost use Rattle.ax_check.specs.Names.{listed, AreSame};
 
-use crate::fixed_flaws::note;
-use crate::kind_flaws::{MOST_SLOTS, find_in_kind};
+use crate::fixed_flaws::{enter_at, note};
+use crate::kind_flaws::{find_in_kind, note_count};
 use crate::names::{enter, has};
 use crate::texts::at_uap;
 use ax_model::{FlawKind, Flaws, Item, Items, Spec, Text, UapSlot, at_name, of_category};
@@ -25,11 +26,9 @@ fn find_in_item<'s>(
     ensures flaws { OnOk result (found.new ≡ found.old ++ item_flaws path.now (listed names.old) (item_tree item.now)) }
     ensures names { OnOk result (AreSame (listed names.new) (item.now.name ∷ listed names.old)) }
 {
-    let path = at_name(alloc, path, &item.name)?;
-    let known = enter(names, &item.name)?;
-    note(alloc, found, known, FlawKind::DuplicateItem, &path)?;
-    find_in_kind(alloc, found, FlawKind::NotOctets, &path, &item.kind)?;
-    Ok(())
+    let name = &item.name;
+    let path = enter_at(alloc, found, path, names, name, FlawKind::DuplicateItem)?;
+    find_in_kind(alloc, found, FlawKind::NotOctets, &path, &item.kind)
 }
 
 /// The flaws of the items. The names gain theirs.
@@ -89,9 +88,7 @@ fn find_in_uap<'s>(
     requires { AreSame (listed items.now) (item_names spec.now.items) }
     ensures { OnOk result (found.new ≡ found.old ++ uap_part_flaws path.now spec.now) }
 {
-    note(alloc, found, spec.uap.count() == 0, FlawKind::Empty, path)?;
-    let many = spec.uap.count() > MOST_SLOTS;
-    note(alloc, found, many, FlawKind::TooManySlots, path)?;
+    note_count(alloc, found, spec.uap.count(), path)?;
     let mut names = IndexSet::new(alloc);
     for slot in spec.uap.as_slice() {
         find_in_uap_slot(alloc, found, path, items, &mut names, slot)?;
@@ -99,17 +96,38 @@ fn find_in_uap<'s>(
     Ok(())
 }
 
+/// The flaws of the UAP of a category at that path, over the names of the items.
+fn find_at_uap<'s>(
+    alloc: Global,
+    found: &mut Flaws,
+    path: &Text,
+    spec: &'s Spec,
+    items: &IndexSet<&'s [u8]>,
+) -> Result<(), AllocError>
+    requires { AreSame (listed items.now) (item_names spec.now.items) }
+    ensures { OnOk result (found.new ≡ found.old ++ uap_part_flaws (at path.now (codes "uap")) spec.now) }
+{
+    let path = at_uap(alloc, path)?;
+    find_in_uap(alloc, found, &path, spec, items)
+}
+
+/// The flaws of each item, then those of the UAP.
+#[tactic(auto, using(crate::proofs::UapLists::both_parts))]
+fn find_in_spec(alloc: Global, found: &mut Flaws, spec: &Spec) -> Result<(), AllocError>
+    ensures { OnOk result (found.new ≡ found.old ++ spec_flaws spec.now) }
+{
+    let path = of_category(alloc, spec.category)?;
+    let mut items = IndexSet::new(alloc);
+    find_in_items(alloc, found, &path, &mut items, &spec.items)?;
+    find_at_uap(alloc, found, &path, spec, &items)
+}
+
 /// The flaws of a specification, in their order: those of each item, then those of the UAP. Want of memory, also
 /// for more than 2^32 - 1 flaws, is the one refusal.
-#[tactic(auto, using(crate::proofs::UapLists::both_parts))]
 pub fn flaws(alloc: Global, spec: &Spec) -> Result<Flaws, AllocError>
     ensures { IfOk result (λ made. made ≡ spec_flaws spec.now) }
 {
     let mut found = Flaws::new(alloc);
-    let path = of_category(alloc, spec.category)?;
-    let mut items = IndexSet::new(alloc);
-    find_in_items(alloc, &mut found, &path, &mut items, &spec.items)?;
-    let path = at_uap(alloc, &path)?;
-    find_in_uap(alloc, &mut found, &path, spec, &items)?;
+    find_in_spec(alloc, &mut found, spec)?;
     Ok(found)
 }

@@ -47,9 +47,6 @@ no_name_left names k steps e = subst (λ n. Leads (kind_steps n k) steps steps t
 pub nowhere : (names later : List (List ℕ)) (name : List ℕ) (k : KindTree) (old new : List ℕ) → names ≡ name ∷ later → kind_steps (name ∷ later) k ≡ None → Leads (kind_steps names k) old new false
 nowhere names later name k old new e none = subst (λ o. Leads o old new false) (sym (ap (λ n. kind_steps n k) e ∙ none)) refl
 
-pub no_part : (later : List (List ℕ)) (name : List ℕ) (k : KindTree) (ps : List MembersTree) → k ≡ extended ps → part_named 0 name ps ≡ None → kind_steps (name ∷ later) k ≡ None
-no_part later name k ps e none = ap (kind_steps (name ∷ later)) e ∙ ap (option_and_then (λ p. option_map (λ steps. p.0 ∷ p.1.0 ∷ steps) (fixed_steps later p.1.1))) none
-
 pub no_slot : (later : List (List ℕ)) (name : List ℕ) (k : KindTree) (ss : SlotsTree) → k ≡ compound ss → slot_named 1 name ss ≡ None → kind_steps (name ∷ later) k ≡ None
 no_slot later name k ss e none = ap (kind_steps (name ∷ later)) e ∙ ap (option_and_then (λ s. option_map (λ steps. s.0 ∷ steps) (kind_steps later s.1))) none
 
@@ -68,15 +65,25 @@ two_longer : (o : Option (List ℕ)) (p m : ℕ) → option_map (λ steps. p ∷
 two_longer None p m = refl
 two_longer (Some steps) p m = refl
 
-pub to_part : (names later : List (List ℕ)) (name : List ℕ) (k : KindTree) (inner : FixedTree) (ps : List MembersTree) (p m : ℕ) (old first between new : List ℕ) (leads : Bool)
-    → names ≡ name ∷ later → k ≡ extended ps → part_named 0 name ps ≡ Some (p, (m, inner)) → first ≡ old ++ p ∷ [] → between ≡ first ++ m ∷ [] → Leads (fixed_steps later inner) between new leads
-    → Leads (kind_steps names k) old new leads
-to_part names later name k inner ps p m old first between new leads e g found f b h =
+pub no_part : (later : List (List ℕ)) (name : List ℕ) (ps : List MembersTree) (old new : List ℕ) → part_named 0 name ps ≡ None → Leads (kind_steps (name ∷ later) (extended ps)) old new false
+no_part later name ps old new none =
+    subst (λ o. Leads o old new false) (sym (ap (option_and_then (λ p. option_map (λ steps. p.0 ∷ p.1.0 ∷ steps) (fixed_steps later p.1.1))) none)) refl
+
+pub to_part : (later : List (List ℕ)) (name : List ℕ) (inner : FixedTree) (ps : List MembersTree) (p m : ℕ) (old first between new : List ℕ) (leads : Bool)
+    → part_named 0 name ps ≡ Some (p, (m, inner)) → first ≡ old ++ p ∷ [] → between ≡ first ++ m ∷ [] → Leads (fixed_steps later inner) between new leads
+    → Leads (kind_steps (name ∷ later) (extended ps)) old new leads
+to_part later name inner ps p m old first between new leads found f b h =
     subst (λ o. Leads o old new leads)
-    (sym (ap (λ l. kind_steps l k) e ∙ ap (kind_steps (name ∷ later)) g ∙ ap (option_and_then (λ q. option_map (λ steps. q.0 ∷ q.1.0 ∷ steps) (fixed_steps later q.1.1))) found ∙ sym (two_longer (fixed_steps later inner) p m)))
+    (sym (ap (option_and_then (λ q. option_map (λ steps. q.0 ∷ q.1.0 ∷ steps) (fixed_steps later q.1.1))) found ∙ sym (two_longer (fixed_steps later inner) p m)))
     (longer (option_map (λ steps. m ∷ steps) (fixed_steps later inner)) p old first new leads f (longer (fixed_steps later inner) m first between new leads b h))
 
-pub ruleset kind_walks = (no_name_left, nowhere, no_part, no_slot, as_fixed, to_slot, to_part)
+pub ruleset part_walks = (no_part, to_part)
+
+pub as_parts : (names later : List (List ℕ)) (name : List ℕ) (k : KindTree) (ps : List MembersTree) (old new : List ℕ) (leads : Bool) → names ≡ name ∷ later → k ≡ extended ps
+    → Leads (kind_steps (name ∷ later) (extended ps)) old new leads → Leads (kind_steps names k) old new leads
+as_parts names later name k ps old new leads e g h = subst (λ o. Leads o old new leads) (sym (ap (λ n. kind_steps n k) e ∙ ap (kind_steps (name ∷ later)) g)) h
+
+pub ruleset kind_walks = (no_name_left, nowhere, no_slot, as_fixed, as_parts, to_slot)
 
 -- ---- whole paths
 

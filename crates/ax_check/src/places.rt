@@ -1,12 +1,13 @@
 //! Where a path leads.
-ghost use Rattle.std.specs.Prelude.{◌≡◌, ◌∷◌, ◌++◌, [], IfOk, OnOk};
-ghost use Rattle.ax_model.specs.Plain.{fixed_tree, kind_tree, spec_tree};
+ghost use Rattle.std.specs.Prelude.{◌≡◌, ◌∷◌, ◌++◌, [], map, IfOk, OnOk};
+ghost use Rattle.ax_model.specs.Plain.{fixed_tree, kind_tree, part_tree, spec_tree};
+ghost use Rattle.ax_model.specs.Tree.{extended};
 ghost use Rattle.ax_check.specs.Places.{fixed_steps, kind_steps, place_of};
 ghost use Rattle.ax_check.specs.Walking.{Leads};
 
 use crate::accepted::Accepted;
 use ax_model::{
-    Fixed, Kind, Name, Path, Place, Steps, find_frn, find_in_parts, find_member, find_slot,
+    Fixed, Kind, Name, Parts, Path, Place, Steps, find_frn, find_in_parts, find_member, find_slot,
 };
 use std::alloc::{AllocError, Global};
 
@@ -38,6 +39,25 @@ fn walk_fixed(steps: &mut Steps, fixed: &Fixed, names: &[Name]) -> Result<bool, 
     walk_fixed(steps, inner, later)
 }
 
+/// Whether a name and those after it lead down from an extended kind. If so, the steps to the part, to its member and
+/// down from there are appended.
+#[tactic(auto, using(crate::proofs::Walks::part_walks))]
+fn walk_parts(
+    steps: &mut Steps,
+    parts: &Parts,
+    name: &Name,
+    later: &[Name],
+) -> Result<bool, AllocError>
+    ensures { IfOk result (Leads (kind_steps (name.now ∷ later.now) (extended (map part_tree parts.now))) steps.old steps.new) }
+{
+    let Some((part, member, inner)) = find_in_parts(parts, name) else {
+        return Ok(false);
+    };
+    go_down(steps, part)?;
+    go_down(steps, member)?;
+    walk_fixed(steps, inner, later)
+}
+
 /// Whether the names lead down from the kind. If so, their steps are appended.
 #[tactic(auto, using(crate::proofs::Walks::kind_walks))]
 fn walk_kind(steps: &mut Steps, kind: &Kind, names: &[Name]) -> Result<bool, AllocError>
@@ -48,14 +68,7 @@ fn walk_kind(steps: &mut Steps, kind: &Kind, names: &[Name]) -> Result<bool, All
     };
     match kind {
         Kind::Fixed(fixed) => walk_fixed(steps, fixed, names),
-        Kind::Extended(parts) => {
-            let Some((part, member, inner)) = find_in_parts(parts, name) else {
-                return Ok(false);
-            };
-            go_down(steps, part)?;
-            go_down(steps, member)?;
-            walk_fixed(steps, inner, later)
-        }
+        Kind::Extended(parts) => walk_parts(steps, parts, name, later),
         Kind::Compound(slots) => {
             let Some((number, inner)) = find_slot(slots, name) else {
                 return Ok(false);

@@ -1,5 +1,5 @@
-use Rattle.std.proofs.Common.{◌≡◌, ◌++◌, rules}
-use Rattle.ax_check.proofs.FlawLists.{member_found, member_named}
+use Rattle.std.proofs.Common.{◌≡◌, ◌++◌, arith, rules}
+use Rattle.ax_check.proofs.FlawLists.{group_found, member_found, member_named, members_found, members_named}
 use Rattle.ax_check.specs.Members.{member_flaws, with_member}
 use Rattle.ax_check.specs.Names.{listed, AreSame}
 use Rattle.ax_model.specs.Plain.{member_tree}
@@ -12,3 +12,12 @@ find_in_members-loop-member-preserved t c =
       member_found c.args.path.now (listed c.loop-member.names) (listed c.find_in_member.new.names) c.args.members.now c.loop-member.member-index c.member-item.result c.loop-member.found c.find_in_member.new.found _ (search rules) (search rules) flaws names c.loop-member.invariant.0,
       member_named (listed c.loop-member.names) (listed c.find_in_member.new.names) _ c.args.members.now c.loop-member.member-index c.member-item.result (search rules) (search rules) names c.loop-member.invariant.1,
     )
+
+pub find_in_group-returns : goal.find_in_group-returns
+find_in_group-returns t c = grind (arith, group_found)
+
+pub find_in_members-returns-clause-flaws : goal.find_in_members-returns-clause-flaws
+find_in_members-returns-clause-flaws t c = members_found c.args.path.now (listed c.loop-member.names) c.args.members.now c.loop-member.member-index c.loop-member.found _ (search rules) c.loop-member.invariant.0
+
+pub find_in_members-returns-clause-names : goal.find_in_members-returns-clause-names
+find_in_members-returns-clause-names t c = members_named (listed c.loop-member.names) _ c.args.members.now c.loop-member.member-index (search rules) c.loop-member.invariant.1

@@ -1,5 +1,5 @@
-use Rattle.std.proofs.Common.{◌≡◌, ◌++◌, rules}
-use Rattle.ax_check.proofs.SlotLists.{slot_step, slot_end}
+use Rattle.std.proofs.Common.{◌≡◌, ◌++◌, arith, rules}
+use Rattle.ax_check.proofs.SlotLists.{slot_start, slot_step, slot_end}
 use Rattle.ax_check.specs.Members.{slot_flaws, with_slot}
 use Rattle.ax_check.specs.Names.{listed, AreSame}
 use Rattle.ax_model.specs.Plain.{slot_tree}
@@ -14,3 +14,6 @@ find_in_slots-loop-slot-preserved t c =
 
 pub find_in_slots-returns : goal.find_in_slots-returns
 find_in_slots-returns t c = slot_end c.args.broken c.args.path.now c.loop-slot.slot-index (listed c.loop-slot.names) c.args.slots.now c.args.found.now c.loop-slot.found (search rules) c.loop-slot.invariant
+
+pub find_in_slots-loop-slot-init : goal.find_in_slots-loop-slot-init
+find_in_slots-loop-slot-init t c = grind (arith, slot_start)

@@ -1,9 +1,7 @@
 //! Whether a block fits a specification. Nothing here takes memory.
-ghost use Rattle.std.specs.Prelude.{◌≡◌, ◌+◌, ◌↔◌, MatchOption, Some, IsTrue, false, map};
-ghost use Rattle.std.specs.Option.{option_copied};
+ghost use Rattle.std.specs.Prelude.{◌≡◌, ◌+◌, ◌↔◌, MatchOption, IsTrue, false, map};
 ghost use Rattle.std.specs.List.{list_all};
 ghost use Rattle.ax_model.specs.Fitting.{entries_fit};
-ghost use Rattle.ax_model.specs.Lookup.{item_of_slot};
 ghost use Rattle.ax_model.specs.OfCode.{BlockFits, record_fits};
 ghost use Rattle.ax_model.specs.Plain.{entries_tree, item_tree};
 ghost use Rattle.ax_model.specs.Specification.{uap_slot};
@@ -11,18 +9,8 @@ ghost use Rattle.ax_model.specs.Tree.{SlotsTree, slot_and};
 
 use crate::fitting::fits_kind;
 use crate::record::{Block, Record};
-use crate::spec::{Item, Spec, UapSlot};
+use crate::spec::{Spec, UapSlot};
 use crate::value::Entry;
-
-/// The item of a slot of the UAP. None comes exactly where the slot is spare or no item has its name.
-fn item_of<'s>(spec: &'s Spec, slot: &UapSlot) -> Option<&'s Item>
-    ensures { option_copied result ≡ item_of_slot (Some slot.now) spec.now.items }
-{
-    match slot {
-        UapSlot::Spare => None,
-        UapSlot::Item(name) => spec.item(name),
-    }
-}
 
 /// The entries after the one of this slot of the UAP, if there is one. None comes where that doesn't fit.
 #[tactic(auto, using(crate::proofs::RecordFitting::slot_steps))]
@@ -42,7 +30,7 @@ fn after_slot<'e>(
     if u64::from(entry.slot) != number {
         return Some(entries);
     }
-    match item_of(spec, slot) {
+    match spec.item_of(slot) {
         None => Some(entries),
         Some(item) => {
             if fits_kind(&item.kind, &entry.value) {

@@ -1,5 +1,6 @@
 ghost use Rattle.std.specs.Prelude.{◌≡◌, IfOk};
 
+use super::push_copy;
 use crate::content::{Content, Scale, TableText, TableTexts};
 use std::alloc::{AllocError, Global};
 
@@ -34,7 +35,7 @@ fn copy_table(alloc: Global, table: &TableTexts) -> Result<TableTexts, AllocErro
 {
     let mut made = TableTexts::new(alloc);
     for entry in table.as_slice() {
-        made.push(entry.copy(alloc)?)?;
+        push_copy(&mut made, entry.copy(alloc))?;
     }
     Ok(made)
 }
@@ -46,12 +47,12 @@ impl Content {
     {
         match self {
             Content::Raw => Ok(Content::Raw),
-            Content::Table(table) => Ok(Content::Table(copy_table(alloc, table)?)),
+            Content::Table(table) => copy_table(alloc, table).map(Content::Table),
             Content::Ascii => Ok(Content::Ascii),
             Content::Icao => Ok(Content::Icao),
             Content::Octal => Ok(Content::Octal),
             Content::Integer(sign) => Ok(Content::Integer(*sign)),
-            Content::Quantity(scale) => Ok(Content::Quantity(scale.copy(alloc)?)),
+            Content::Quantity(scale) => scale.copy(alloc).map(Content::Quantity),
         }
     }
 }

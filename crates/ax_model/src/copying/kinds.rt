@@ -2,6 +2,7 @@
 ghost use Rattle.std.specs.Prelude.{◌≡◌, IfOk, map};
 ghost use Rattle.ax_model.specs.Plain.{kind_tree, slot_tree, fixed_tree, member_tree, part_tree};
 
+use super::push_copy;
 use crate::kind::{Fixed, Kind, Member, Members, Part, Parts, Slot, Slots};
 use std::alloc::{AllocError, Global};
 
@@ -46,7 +47,7 @@ fn copy_members(alloc: Global, members: &Members) -> Result<Members, AllocError>
 {
     let mut made = Members::new(alloc);
     for member in members.as_slice() {
-        made.push(copy_member(alloc, member)?)?;
+        push_copy(&mut made, copy_member(alloc, member))?;
     }
     Ok(made)
 }
@@ -96,7 +97,7 @@ fn copy_slots(alloc: Global, slots: &Slots) -> Result<Slots, AllocError>
 {
     let mut made = Slots::new(alloc);
     for slot in slots.as_slice() {
-        made.push(copy_slot(alloc, slot)?)?;
+        push_copy(&mut made, copy_slot(alloc, slot))?;
     }
     Ok(made)
 }

@@ -1,6 +1,7 @@
 ghost use Rattle.std.specs.Prelude.{◌≡◌, IfOk, map};
 ghost use Rattle.ax_model.specs.Plain.{item_tree, spec_tree};
 
+use super::push_copy;
 use crate::place::Place;
 use crate::spec::{Item, Items, Spec, UapSlot, UapSlots};
 use std::alloc::{AllocError, Global};
@@ -23,7 +24,7 @@ fn copy_items(alloc: Global, items: &Items) -> Result<Items, AllocError>
 {
     let mut made = Items::new(alloc);
     for item in items.as_slice() {
-        made.push(item.copy(alloc)?)?;
+        push_copy(&mut made, item.copy(alloc))?;
     }
     Ok(made)
 }

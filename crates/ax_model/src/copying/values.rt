@@ -1,5 +1,6 @@
 ghost use Rattle.std.specs.Prelude.{◌≡◌, IfOk};
 
+use super::push_copy;
 use crate::record::{Block, Record, Records};
 use crate::value::{Entries, Entry, Lists, Value, Values};
 use std::alloc::{AllocError, Global};
@@ -19,11 +20,11 @@ fn copy_value(alloc: Global, value: &Value) -> Result<Value, AllocError>
 {
     match value {
         Value::Number(number) => Ok(Value::Number(*number)),
-        Value::Group(values) => Ok(Value::Group(copy_values(alloc, values)?)),
-        Value::Extended(lists) => Ok(Value::Extended(copy_lists(alloc, lists)?)),
-        Value::Repeat(values) => Ok(Value::Repeat(copy_values(alloc, values)?)),
-        Value::Octets(octets) => Ok(Value::Octets(octets.copy(alloc)?)),
-        Value::Compound(entries) => Ok(Value::Compound(copy_entries(alloc, entries)?)),
+        Value::Group(values) => copy_values(alloc, values).map(Value::Group),
+        Value::Extended(lists) => copy_lists(alloc, lists).map(Value::Extended),
+        Value::Repeat(values) => copy_values(alloc, values).map(Value::Repeat),
+        Value::Octets(octets) => octets.copy(alloc).map(Value::Octets),
+        Value::Compound(entries) => copy_entries(alloc, entries).map(Value::Compound),
     }
 }
 
@@ -33,7 +34,7 @@ fn copy_values(alloc: Global, values: &Values) -> Result<Values, AllocError>
 {
     let mut made = Values::new(alloc);
     for value in values.as_slice() {
-        made.push(copy_value(alloc, value)?)?;
+        push_copy(&mut made, copy_value(alloc, value))?;
     }
     Ok(made)
 }
@@ -44,7 +45,7 @@ fn copy_lists(alloc: Global, lists: &Lists) -> Result<Lists, AllocError>
 {
     let mut made = Lists::new(alloc);
     for values in lists.as_slice() {
-        made.push(copy_values(alloc, values)?)?;
+        push_copy(&mut made, copy_values(alloc, values))?;
     }
     Ok(made)
 }
@@ -79,7 +80,7 @@ fn copy_records(alloc: Global, records: &Records) -> Result<Records, AllocError>
 {
     let mut made = Records::new(alloc);
     for one in records.as_slice() {
-        made.push(one.copy(alloc)?)?;
+        push_copy(&mut made, one.copy(alloc))?;
     }
     Ok(made)
 }

@@ -75,25 +75,24 @@ into_slot steps later n k inner ss e g found = ap (λ s. kind_element s k) e ∙
 pub no_slot : (steps later : List ℕ) (n : ℕ) (k : KindTree) (ss : SlotsTree) → steps ≡ n ∷ later → k ≡ compound ss → slot_kind ss n ≡ None → kind_element steps k ≡ None
 no_slot steps later n k ss e g none = ap (λ s. kind_element s k) e ∙ ap (kind_element (n ∷ later)) g ∙ ap (option_and_then (kind_element later)) none
 
-pub into_part : (steps below later : List ℕ) (p i : ℕ) (inner : FixedTree) (ps : List MembersTree) → steps ≡ p ∷ below → below ≡ i ∷ later → part_fixed p i ps ≡ Some inner
-    → kind_element steps (extended ps) ≡ fixed_element later inner
-into_part steps below later p i inner ps e f found = ap (λ s. kind_element s (extended ps)) (e ∙ ap (λ b. p ∷ b) f) ∙ ap (option_and_then (fixed_element later)) found
+pub into_part : (steps below later : List ℕ) (p i : ℕ) (k : KindTree) (inner : FixedTree) (ps : List MembersTree) → steps ≡ p ∷ below → below ≡ i ∷ later → k ≡ extended ps → part_fixed p i ps ≡ Some inner
+    → kind_element steps k ≡ fixed_element later inner
+into_part steps below later p i k inner ps e f g found =
+    ap (λ s. kind_element s k) (e ∙ ap (λ b. p ∷ b) f) ∙ ap (kind_element (p ∷ i ∷ later)) g ∙ ap (option_and_then (fixed_element later)) found
 
-pub no_part : (steps below later : List ℕ) (p i : ℕ) (ps : List MembersTree) → steps ≡ p ∷ below → below ≡ i ∷ later → part_fixed p i ps ≡ None → kind_element steps (extended ps) ≡ None
-no_part steps below later p i ps e f none = ap (λ s. kind_element s (extended ps)) (e ∙ ap (λ b. p ∷ b) f) ∙ ap (option_and_then (fixed_element later)) none
+pub no_part : (steps below later : List ℕ) (p i : ℕ) (k : KindTree) (ps : List MembersTree) → steps ≡ p ∷ below → below ≡ i ∷ later → k ≡ extended ps → part_fixed p i ps ≡ None → kind_element steps k ≡ None
+no_part steps below later p i k ps e f g none = ap (λ s. kind_element s k) (e ∙ ap (λ b. p ∷ b) f) ∙ ap (kind_element (p ∷ i ∷ later)) g ∙ ap (option_and_then (fixed_element later)) none
 
-pub no_step : (steps : List ℕ) (ps : List MembersTree) → steps ≡ [] → kind_element steps (extended ps) ≡ None
-no_step steps ps e = ap (λ s. kind_element s (extended ps)) e
+pub no_step : (steps : List ℕ) (k : KindTree) (ps : List MembersTree) → steps ≡ [] → k ≡ extended ps → kind_element steps k ≡ None
+no_step steps k ps e g = ap (λ s. kind_element s k) e ∙ ap (kind_element []) g
 
-pub one_step : (steps below : List ℕ) (p : ℕ) (ps : List MembersTree) → steps ≡ p ∷ below → below ≡ [] → kind_element steps (extended ps) ≡ None
-one_step steps below p ps e f = ap (λ s. kind_element s (extended ps)) (e ∙ ap (λ b. p ∷ b) f)
-
-pub ruleset part_walks = (into_part, no_part, no_step, one_step)
+pub one_step : (steps below : List ℕ) (p : ℕ) (k : KindTree) (ps : List MembersTree) → steps ≡ p ∷ below → below ≡ [] → k ≡ extended ps → kind_element steps k ≡ None
+one_step steps below p k ps e f g = ap (λ s. kind_element s k) (e ∙ ap (λ b. p ∷ b) f) ∙ ap (kind_element (p ∷ [])) g
 
 pub no_slot_step : (steps : List ℕ) (k : KindTree) (ss : SlotsTree) → steps ≡ [] → k ≡ compound ss → kind_element steps k ≡ None
 no_slot_step steps k ss e g = ap (λ s. kind_element s k) e ∙ ap (kind_element []) g
 
-pub ruleset kind_walks = (into_slot, no_slot, no_slot_step)
+pub ruleset kind_walks = (into_slot, no_slot, into_part, no_part, no_step, one_step, no_slot_step)
 
 -- ---- items
 

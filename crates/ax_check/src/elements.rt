@@ -2,7 +2,6 @@
 ghost use Rattle.std.specs.Prelude.{◌≡◌, map, option_map};
 ghost use Rattle.std.specs.Option.{option_copied};
 ghost use Rattle.ax_model.specs.Plain.{fixed_tree, member_tree, members_tree, part_tree, kind_tree, spec_tree};
-ghost use Rattle.ax_model.specs.Tree.{extended};
 ghost use Rattle.ax_check.specs.Places.{fixed_of_member, member_fixed, part_fixed, fixed_element, kind_element, element_at};
 
 use crate::accepted::Accepted;
@@ -46,16 +45,6 @@ fn element_in_fixed<'k>(fixed: &'k Fixed, steps: &[u32]) -> Option<&'k Fixed>
     }
 }
 
-/// The element that the steps lead to from an extended kind: to a part, to one of its members and down from there.
-#[tactic(auto, using(crate::proofs::Stepping::part_walks))]
-fn element_in_parts<'k>(parts: &'k Parts, steps: &[u32]) -> Option<&'k Fixed>
-    ensures { option_map fixed_tree (option_copied result) ≡ kind_element steps.now (extended (map part_tree parts.now)) }
-{
-    let (part, below) = steps.split_first()?;
-    let (member, later) = below.split_first()?;
-    element_in_fixed(fixed_in_part(parts, *part, *member)?, later)
-}
-
 /// The element that the steps lead to from the kind.
 #[tactic(auto, using(crate::proofs::Stepping::kind_walks))]
 fn element_in<'k>(kind: &'k Kind, steps: &[u32]) -> Option<&'k Fixed>
@@ -63,7 +52,11 @@ fn element_in<'k>(kind: &'k Kind, steps: &[u32]) -> Option<&'k Fixed>
 {
     match kind {
         Kind::Fixed(fixed) => element_in_fixed(fixed, steps),
-        Kind::Extended(parts) => element_in_parts(parts, steps),
+        Kind::Extended(parts) => {
+            let (part, below) = steps.split_first()?;
+            let (member, later) = below.split_first()?;
+            element_in_fixed(fixed_in_part(parts, *part, *member)?, later)
+        }
         Kind::Compound(slots) => {
             let (number, later) = steps.split_first()?;
             element_in(subitem_kind(slots, *number)?, later)

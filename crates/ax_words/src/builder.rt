@@ -1,6 +1,6 @@
 //! The command that clap parses: one level of subcommands, each with its words.
 ghost use Rattle.std.specs.Prelude.{◌≡◌, IfOk, false, [], ◌∷◌};
-ghost use Rattle.clap.specs.Words.{app_of, rule_of, shape_of, with_subcommand};
+ghost use Rattle.clap.specs.Words.{app_of, rule_of, shape_of};
 ghost use Rattle.clap.specs.declared.builder.command.Command.TheViews.{out-Command as fields_of};
 ghost use Rattle.ax_words.specs.Commands.{one_word, some_words, leaf, shape_of_verb, bare, with_verb, program};
 
@@ -24,47 +24,63 @@ fn words<'a>(alloc: Global, id: &'a str) -> Arg<'a>
     Arg::new(alloc, id).required(true).num_args(1..)
 }
 
-/// A subcommand with one argument.
-fn with_one<'a>(alloc: Global, name: &'a str, arg: Arg<'a>) -> Result<Command<'a>, AllocError>
-    requires { arg.global ≡ false }
-    ensures app { IfOk result (λ c. app_of c ≡ leaf name.entry.now (rule_of arg.entry ∷ [])) }
+/// A subcommand with one word.
+fn with_word<'a>(alloc: Global, name: &'a str, id: &'a str) -> Result<Command<'a>, AllocError>
+    ensures app { IfOk result (λ c. app_of c ≡ leaf name.entry.now (one_word id.entry.now ∷ [])) }
     ensures local { IfOk result (λ c. (fields_of c).has_globals ≡ false) }
 {
-    Command::new(alloc, name).arg(arg)
+    Command::new(alloc, name).arg(word(alloc, id))
 }
 
-/// A subcommand with two arguments.
-fn with_two<'a>(
-    alloc: Global,
-    name: &'a str,
-    first: Arg<'a>,
-    second: Arg<'a>,
-) -> Result<Command<'a>, AllocError>
-    requires first { first.global ≡ false }
-    requires second { second.global ≡ false }
-    ensures app { IfOk result (λ c. app_of c ≡ leaf name.entry.now (rule_of first.entry ∷ rule_of second.entry ∷ [])) }
+/// A subcommand with one or more words.
+fn with_words<'a>(alloc: Global, name: &'a str, id: &'a str) -> Result<Command<'a>, AllocError>
+    ensures app { IfOk result (λ c. app_of c ≡ leaf name.entry.now (some_words id.entry.now ∷ [])) }
     ensures local { IfOk result (λ c. (fields_of c).has_globals ≡ false) }
 {
-    let command = Command::new(alloc, name).arg(first)?;
-    command.arg(second)
+    Command::new(alloc, name).arg(words(alloc, id))
 }
 
-/// A subcommand with three arguments.
-fn with_three<'a>(
+/// A subcommand with one word, and one or more after it.
+fn with_word_and_words<'a>(
     alloc: Global,
     name: &'a str,
-    first: Arg<'a>,
-    second: Arg<'a>,
-    third: Arg<'a>,
+    first: &'a str,
+    rest: &'a str,
 ) -> Result<Command<'a>, AllocError>
-    requires first { first.global ≡ false }
-    requires second { second.global ≡ false }
-    requires third { third.global ≡ false }
-    ensures app { IfOk result (λ c. app_of c ≡ leaf name.entry.now (rule_of first.entry ∷ rule_of second.entry ∷ rule_of third.entry ∷ [])) }
+    ensures app { IfOk result (λ c. app_of c ≡ leaf name.entry.now (one_word first.entry.now ∷ some_words rest.entry.now ∷ [])) }
     ensures local { IfOk result (λ c. (fields_of c).has_globals ≡ false) }
 {
-    let command = with_two(alloc, name, first, second)?;
-    command.arg(third)
+    let command = with_word(alloc, name, first)?;
+    command.arg(words(alloc, rest))
+}
+
+/// A subcommand with two words.
+fn with_two_words<'a>(
+    alloc: Global,
+    name: &'a str,
+    first: &'a str,
+    second: &'a str,
+) -> Result<Command<'a>, AllocError>
+    ensures app { IfOk result (λ c. app_of c ≡ leaf name.entry.now (one_word first.entry.now ∷ one_word second.entry.now ∷ [])) }
+    ensures local { IfOk result (λ c. (fields_of c).has_globals ≡ false) }
+{
+    let command = with_word(alloc, name, first)?;
+    command.arg(word(alloc, second))
+}
+
+/// A subcommand with three words.
+fn with_three_words<'a>(
+    alloc: Global,
+    name: &'a str,
+    first: &'a str,
+    second: &'a str,
+    third: &'a str,
+) -> Result<Command<'a>, AllocError>
+    ensures app { IfOk result (λ c. app_of c ≡ leaf name.entry.now (one_word first.entry.now ∷ one_word second.entry.now ∷ one_word third.entry.now ∷ [])) }
+    ensures local { IfOk result (λ c. (fields_of c).has_globals ≡ false) }
+{
+    let command = with_two_words(alloc, name, first, second)?;
+    command.arg(word(alloc, third))
 }
 
 /// The subcommand of a verb.
@@ -72,22 +88,13 @@ fn leaf<'a>(alloc: Global, verb: Verb) -> Result<Command<'a>, AllocError>
     ensures shape { IfOk result (λ c. shape_of c ≡ shape_of_verb verb) }
     ensures local { IfOk result (λ c. (fields_of c).has_globals ≡ false) }
 {
-    let name = verb.name();
+    let name: &'a str = verb.name();
     match verb {
-        Verb::Check => with_one(alloc, name, word(alloc, "SPEC")),
-        Verb::Canon => with_one(alloc, name, words(alloc, "SPEC")),
-        Verb::Show => with_one(alloc, name, words(alloc, "SPEC")),
-        Verb::Text => with_one(alloc, name, words(alloc, "SPEC")),
-        Verb::Build => with_one(alloc, name, words(alloc, "SPEC")),
-        Verb::Filter => with_two(alloc, name, word(alloc, "EXPR"), words(alloc, "SPEC")),
-        Verb::Migrate => with_two(alloc, name, word(alloc, "OLD"), word(alloc, "NEW")),
-        Verb::Trial => with_three(
-            alloc,
-            name,
-            word(alloc, "SPEC"),
-            word(alloc, "SEED"),
-            word(alloc, "COUNT"),
-        ),
+        Verb::Check => with_word(alloc, name, "SPEC"),
+        Verb::Canon | Verb::Show | Verb::Text | Verb::Build => with_words(alloc, name, "SPEC"),
+        Verb::Filter => with_word_and_words(alloc, name, "EXPR", "SPEC"),
+        Verb::Migrate => with_two_words(alloc, name, "OLD", "NEW"),
+        Verb::Trial => with_three_words(alloc, name, "SPEC", "SEED", "COUNT"),
     }
 }
 
@@ -103,19 +110,12 @@ fn bare_command<'a>(alloc: Global) -> Command<'a>
         .subcommand_required(true)
 }
 
-/// The command with one more subcommand.
-fn with<'a>(command: Command<'a>, sub: Command<'a>) -> Result<Command<'a>, AllocError>
-    requires { (fields_of sub).has_globals ≡ false }
-    ensures { IfOk result (λ c. app_of c ≡ with_subcommand (app_of command.entry) (shape_of sub.entry)) }
-{
-    command.subcommand(sub)
-}
-
 /// The command with the subcommand of a verb.
 fn with_verb<'a>(alloc: Global, command: Command<'a>, verb: Verb) -> Result<Command<'a>, AllocError>
     ensures { IfOk result (λ c. app_of c ≡ with_verb (app_of command.entry) verb) }
 {
-    with(command, leaf(alloc, verb)?)
+    let sub = leaf(alloc, verb)?;
+    command.subcommand(sub)
 }
 
 /// The whole command.

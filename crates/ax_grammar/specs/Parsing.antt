@@ -1,6 +1,6 @@
 -- How texts are read from left to right. A reader answers what it read and the texts after it, or the texts from the
 -- bad one on. Only private calls are seen as readers; what they read is said by the spelling.
-use Rattle.std.specs.Prelude.{ℕ, zero, suc, Bool, true, false, if◌then◌else◌, bytes_eq, List, [], ◌∷◌, length, Option, Some, None, Result, Ok, Err}
+use Rattle.std.specs.Prelude.{◌≡◌, ◌<◌, ℕ, zero, suc, Bool, true, false, if◌then◌else◌, bytes_eq, List, [], ◌∷◌, length, Option, Some, None, Result, Ok, Err}
 use Rattle.ax_grammar.specs.Keywords.{keyword_text}
 use Rattle.ax_grammar.specs.declared.keyword.Keyword.{Keyword}
 use Rattle.ax_grammar.specs.declared.keyword.Keyword.TheVariants as Word
@@ -18,6 +18,10 @@ infixl 10 ◌>>=◌
 abbrev pub ◌>>=◌ : {A B : Type 0} → Result A Texts → (A → Result B Texts) → Result B Texts
 (Ok x) >>= f = f x
 (Err rest) >>= f = Err rest
+
+-- where it reads something, fewer texts are left
+abbrev pub LeavesLess : {A : Type 0} → (Texts → Parsed A) → Type 0
+LeavesLess {A} read = (texts : Texts) (a : A) (rest : Texts) → read texts ≡ Ok (a, rest) → length rest < length texts
 
 -- ---- one text
 

@@ -181,6 +181,14 @@ kind_step kinds texts = do
 unfoldable pub kind_at : Texts → Parsed KindTree
 kind_at = recursive kind_step
 
+-- what follows the keyword of a counted kind
+abbrev pub counted_at : Texts → Parsed KindTree
+counted_at texts = do
+  opens ← expect_at Word.Open texts
+  kind ← kind_at opens.1
+  closes ← expect_at Word.Close kind.1
+  Ok (counted kind.0, closes.1)
+
 -- a slot of a compound
 unfoldable pub slot_at : Texts → Parsed SlotTree
 slot_at = slot_step kind_at

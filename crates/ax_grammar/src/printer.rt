@@ -1,17 +1,18 @@
 //! The text of a specification, token by token.
 
-ghost use Rattle.std.specs.Prelude.{◌≡◌, [], ◌∷◌, ◌++◌, map, decimal, OnOk};
+ghost use Rattle.std.specs.Prelude.{◌≡◌, [], ◌∷◌, ◌++◌, drop, map, decimal, OnOk};
 ghost use Rattle.std.specs.List.{flat_map};
-ghost use Rattle.ax_model.specs.Plain.{fixed_tree, member_tree, members_tree, part_tree, kind_tree, slot_tree, slots_tree, item_tree};
+ghost use Rattle.ax_model.specs.Plain.{fixed_tree, member_tree, members_tree, part_tree, kind_tree, slot_tree, slots_tree, item_tree, spec_tree};
 ghost use Rattle.ax_grammar.specs.Keywords.{keyword_text};
 ghost use Rattle.ax_grammar.specs.Printing.{after_spaces};
-ghost use Rattle.ax_grammar.specs.Spelling.{quoted, sign_text, entry_texts, content_texts, fixed_texts, member_texts, members_texts, part_texts, kind_texts, slot_texts, slots_texts, item_texts, uap_slot_texts};
+ghost use Rattle.ax_grammar.specs.Spelling.{quoted, sign_text, entry_texts, content_texts, fixed_texts, member_texts, members_texts, part_texts, kind_texts, slot_texts, slots_texts, item_texts, uap_slot_texts, spelled};
 ghost use Rattle.ax_model.specs.Paths.{three_digits};
+ghost use Rattle.ax_grammar.specs.declared.keyword.Keyword.TheVariants as Word;
 
 use crate::keyword::Keyword;
 use ax_model::{
     Content, Fixed, Item, Items, Kind, Member, Members, Name, Part, Parts, Scale, Sign, Slot,
-    Slots, TableText, TableTexts, Text, UapSlot, UapSlots, category_digits,
+    Slots, Spec, TableText, TableTexts, Text, UapSlot, UapSlots, category_digits,
 };
 use itoa::Buffer;
 use std::alloc::AllocError;
@@ -31,10 +32,18 @@ impl Printer {
         Ok(())
     }
 
-    pub fn word(&mut self, word: Keyword) -> Result<(), AllocError>
+    fn word(&mut self, word: Keyword) -> Result<(), AllocError>
         ensures { OnOk result (self.new.out.items ≡ self.old.out.items ++ 0x20 ∷ keyword_text word) }
     {
         self.octets(word.text())
+    }
+
+    /// A keyword, and the brace after it.
+    fn open(&mut self, word: Keyword) -> Result<(), AllocError>
+        ensures { OnOk result (self.new.out.items ≡ (self.old.out.items ++ 0x20 ∷ keyword_text word) ++ 0x20 ∷ keyword_text Word.Open) }
+    {
+        self.word(word)?;
+        self.word(Keyword::Open)
     }
 
     fn name(&mut self, name: &Name) -> Result<(), AllocError>
@@ -44,7 +53,7 @@ impl Printer {
     }
 
     /// Three digits.
-    pub fn category(&mut self, category: u8) -> Result<(), AllocError>
+    fn category(&mut self, category: u8) -> Result<(), AllocError>
         ensures { OnOk result (self.new.out.items ≡ self.old.out.items ++ 0x20 ∷ three_digits category) }
     {
         self.octets(&category_digits(category))
@@ -58,7 +67,7 @@ impl Printer {
     }
 
     /// A text in quotes.
-    pub fn text(&mut self, text: &Text) -> Result<(), AllocError>
+    fn text(&mut self, text: &Text) -> Result<(), AllocError>
         ensures { OnOk result (self.new.out.items ≡ self.old.out.items ++ 0x20 ∷ quoted text.now) }
     {
         self.out.extend_from_slice(b" \"")?;
@@ -107,8 +116,7 @@ impl Printer {
         match content {
             Content::Raw => self.word(Keyword::Raw),
             Content::Table(entries) => {
-                self.word(Keyword::Table)?;
-                self.word(Keyword::Open)?;
+                self.open(Keyword::Table)?;
                 self.entries(entries)?;
                 self.word(Keyword::Close)
             }
@@ -137,8 +145,7 @@ impl Printer {
                 self.content(content)
             }
             Fixed::Group(members) => {
-                self.word(Keyword::Group)?;
-                self.word(Keyword::Open)?;
+                self.open(Keyword::Group)?;
                 self.members(members)?;
                 self.word(Keyword::Close)
             }
@@ -174,8 +181,7 @@ impl Printer {
     fn part(&mut self, part: &Part) -> Result<(), AllocError>
         ensures { OnOk result (self.new.out.items ≡ self.old.out.items ++ after_spaces (part_texts (part_tree part.now))) }
     {
-        self.word(Keyword::Part)?;
-        self.word(Keyword::Open)?;
+        self.open(Keyword::Part)?;
         self.members(&part.members)?;
         self.word(Keyword::Close)
     }
@@ -196,14 +202,12 @@ impl Printer {
         match kind {
             Kind::Fixed(fixed) => self.fixed(fixed),
             Kind::Extended(parts) => {
-                self.word(Keyword::Extended)?;
-                self.word(Keyword::Open)?;
+                self.open(Keyword::Extended)?;
                 self.parts(parts)?;
                 self.word(Keyword::Close)
             }
             Kind::Counted(inner) => {
-                self.word(Keyword::Counted)?;
-                self.word(Keyword::Open)?;
+                self.open(Keyword::Counted)?;
                 self.kind(inner)?;
                 self.word(Keyword::Close)
             }
@@ -213,8 +217,7 @@ impl Printer {
             }
             Kind::Explicit => self.word(Keyword::Explicit),
             Kind::Compound(slots) => {
-                self.word(Keyword::Compound)?;
-                self.word(Keyword::Open)?;
+                self.open(Keyword::Compound)?;
                 self.slots(slots)?;
                 self.word(Keyword::Close)
             }
@@ -253,7 +256,7 @@ impl Printer {
         self.kind(&item.kind)
     }
 
-    pub fn items(&mut self, items: &Items) -> Result<(), AllocError>
+    fn items(&mut self, items: &Items) -> Result<(), AllocError>
         ensures { OnOk result (self.new.out.items ≡ self.old.out.items ++ after_spaces (flat_map item_texts (map item_tree items.now))) }
     {
         for item in items.as_slice() {
@@ -271,12 +274,27 @@ impl Printer {
         }
     }
 
-    pub fn uap(&mut self, slots: &UapSlots) -> Result<(), AllocError>
+    fn uap(&mut self, slots: &UapSlots) -> Result<(), AllocError>
         ensures { OnOk result (self.new.out.items ≡ self.old.out.items ++ after_spaces (flat_map uap_slot_texts slots.now)) }
     {
         for slot in slots.as_slice() {
             self.uap_slot(slot)?;
         }
         Ok(())
+    }
+
+    /// What follows the first keyword of a specification.
+    pub fn spec(&mut self, spec: &Spec) -> Result<(), AllocError>
+        ensures { OnOk result (self.new.out.items ≡ self.old.out.items ++ after_spaces (drop 1 (spelled (spec_tree spec.now)))) }
+    {
+        self.category(spec.category)?;
+        self.word(Keyword::Edition)?;
+        self.text(&spec.edition)?;
+        self.open(Keyword::Items)?;
+        self.items(&spec.items)?;
+        self.word(Keyword::Close)?;
+        self.open(Keyword::Uap)?;
+        self.uap(&spec.uap)?;
+        self.word(Keyword::Close)
     }
 }

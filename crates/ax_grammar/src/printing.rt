@@ -21,17 +21,7 @@ pub fn print_spec(alloc: Global, spec: &Spec) -> Result<Vec<u8>, AllocError>
     let mut printer = Printer {
         out: Vec::from_slice(alloc, Keyword::Category.text())?,
     };
-    printer.category(spec.category)?;
-    printer.word(Keyword::Edition)?;
-    printer.text(&spec.edition)?;
-    printer.word(Keyword::Items)?;
-    printer.word(Keyword::Open)?;
-    printer.items(&spec.items)?;
-    printer.word(Keyword::Close)?;
-    printer.word(Keyword::Uap)?;
-    printer.word(Keyword::Open)?;
-    printer.uap(&spec.uap)?;
-    printer.word(Keyword::Close)?;
+    printer.spec(spec)?;
     let Printer { mut out } = printer;
     out.push(b'\n')?;
     Ok(out)

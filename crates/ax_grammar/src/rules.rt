@@ -4,17 +4,37 @@
 ghost use Rattle.std.specs.Prelude.{◌≡◌, ◌<◌, length, map, OnOk};
 ghost use Rattle.ax_model.specs.Plain.{fixed_tree, member_tree, part_tree, kind_tree, slot_tree, item_tree, spec_tree};
 ghost use Rattle.ax_grammar.specs.Gives.{Gives};
-ghost use Rattle.ax_grammar.specs.Parsing.{braced_at};
-ghost use Rattle.ax_grammar.specs.Rules.{sign_at, entry_at, scale_at, content_at, member_at, fixed_at, part_at, kind_at, slot_at, item_at, uap_slot_at, spec_at};
+ghost use Rattle.ax_model.specs.Specification.{ItemTree};
+ghost use Rattle.ax_model.specs.Tree.{MembersTree};
+ghost use Rattle.ax_model.specs.declared.content.TableText as Table;
+ghost use Rattle.ax_model.specs.declared.spec.UapSlot as Uap;
+ghost use Rattle.ax_grammar.specs.Parsing.{Texts, Parsed, LeavesLess, braced_at};
+ghost use Rattle.ax_grammar.specs.Rules.{sign_at, entry_at, scale_at, content_at, member_at, fixed_at, part_at, counted_at, kind_at, slot_at, item_at, uap_slot_at, spec_at};
 
 use crate::keyword::Keyword;
 use crate::reader::SpecReader;
 use ax_model::{
-    Content, Fixed, Item, Items, Kind, Member, Members, Part, Parts, Scale, Sign, Slot, Slots,
-    Spec, TableText, TableTexts, UapSlot, UapSlots,
+    Content, Fixed, Item, Kind, Member, Members, Part, Scale, Sequence, Sign, Slot, Slots, Spec,
+    TableText, UapSlot,
 };
 use ax_token_reader::Stopped;
 use std::alloc::Global;
+
+/// What a rule reads several times in braces.
+trait Element: Sized + Drop {
+    /// What contracts see of it.
+    ghost Tree: { Type 0 };
+
+    ghost tree: { Self → Tree };
+
+    /// The rule that reads it.
+    ghost rule: { Texts → Parsed Tree };
+
+    /// Reads the next one.
+    fn read(reader: &mut SpecReader<'_, '_>, alloc: Global) -> Result<Self, Stopped>
+        ensures reads { Gives tree result reader.new (rule reader.old) }
+        ensures moves { OnOk result (length reader.new < length reader.old) };
+}
 
 impl<'r, 't> SpecReader<'r, 't> {
     #[tactic(auto, unfolding(crate::specs::Rules::sign_at))]
@@ -35,16 +55,6 @@ impl<'r, 't> SpecReader<'r, 't> {
         }
     }
 
-    #[tactic(auto, unfolding(crate::specs::Rules::entry_at))]
-    fn entry(&mut self, alloc: Global) -> Result<TableText, Stopped>
-        ensures reads { Gives (λ entry. entry) result self.new (entry_at self.old) }
-        ensures moves { OnOk result (length self.new < length self.old) }
-    {
-        let number = self.number()?;
-        let text = self.text(alloc)?;
-        Ok(TableText { number, text })
-    }
-
     #[tactic(auto, unfolding(crate::specs::Rules::scale_at))]
     fn scale(&mut self, alloc: Global) -> Result<Scale, Stopped>
         ensures reads { Gives (λ scale. scale) result self.new (scale_at self.old) }
@@ -62,18 +72,19 @@ impl<'r, 't> SpecReader<'r, 't> {
         })
     }
 
-    /// Entries in braces.
-    fn entries(&mut self, alloc: Global) -> Result<TableTexts, Stopped>
-        ensures reads { Gives (λ entries. entries) result self.new (braced_at entry_at self.old) }
+    /// Elements in braces.
+    fn braced<E: Element>(&mut self, alloc: Global) -> Result<Sequence<E>, Stopped>
+        requires { LeavesLess E.rule }
+        ensures reads { Gives (λ elements. map E.tree elements) result self.new (braced_at E.rule self.old) }
         ensures moves { OnOk result (length self.new < length self.old) }
     {
         self.expect(Keyword::Open)?;
-        let mut entries = TableTexts::new(alloc);
+        let mut elements = Sequence::new(alloc);
         while !self.takes(Keyword::Close)? {
-            let entry = self.entry(alloc)?;
-            entries.push(entry)?;
+            let element = E::read(self, alloc)?;
+            elements.push(element)?;
         }
-        Ok(entries)
+        Ok(elements)
     }
 
     #[tactic(auto, unfolding(crate::specs::Rules::content_at))]
@@ -88,8 +99,7 @@ impl<'r, 't> SpecReader<'r, 't> {
             }
             Keyword::Table => {
                 self.skip();
-                let entries = self.entries(alloc)?;
-                Ok(Content::Table(entries))
+                self.braced(alloc).map(Content::Table)
             }
             Keyword::Ascii => {
                 self.skip();
@@ -105,13 +115,11 @@ impl<'r, 't> SpecReader<'r, 't> {
             }
             Keyword::Integer => {
                 self.skip();
-                let sign = self.sign()?;
-                Ok(Content::Integer(sign))
+                self.sign().map(Content::Integer)
             }
             Keyword::Quantity => {
                 self.skip();
-                let scale = self.scale(alloc)?;
-                Ok(Content::Quantity(scale))
+                self.scale(alloc).map(Content::Quantity)
             }
             _ => Err(Stopped::Bad),
         }
@@ -132,8 +140,7 @@ impl<'r, 't> SpecReader<'r, 't> {
             }
             Keyword::Group => {
                 self.skip();
-                let members = self.members(alloc)?;
-                Ok(Fixed::Group(members))
+                self.members(alloc).map(Fixed::Group)
             }
             _ => Err(Stopped::Bad),
         }
@@ -169,30 +176,6 @@ impl<'r, 't> SpecReader<'r, 't> {
         Ok(Member::Named { name, fixed })
     }
 
-    #[tactic(auto, unfolding(crate::specs::Rules::part_at))]
-    fn part(&mut self, alloc: Global) -> Result<Part, Stopped>
-        ensures reads { Gives part_tree result self.new (part_at self.old) }
-        ensures moves { OnOk result (length self.new < length self.old) }
-    {
-        self.expect(Keyword::Part)?;
-        let members = self.members(alloc)?;
-        Ok(Part { members })
-    }
-
-    /// Parts in braces.
-    fn parts(&mut self, alloc: Global) -> Result<Parts, Stopped>
-        ensures reads { Gives (λ parts. map part_tree parts) result self.new (braced_at part_at self.old) }
-        ensures moves { OnOk result (length self.new < length self.old) }
-    {
-        self.expect(Keyword::Open)?;
-        let mut parts = Parts::new(alloc);
-        while !self.takes(Keyword::Close)? {
-            let part = self.part(alloc)?;
-            parts.push(part)?;
-        }
-        Ok(parts)
-    }
-
     #[cycle(read_kind)]
     #[tactic(auto, using(crate::proofs::Recursive::kind_is), unfolding(crate::specs::Rules::kind_step))]
     fn kind(&mut self, alloc: Global) -> Result<Kind, Stopped>
@@ -202,21 +185,15 @@ impl<'r, 't> SpecReader<'r, 't> {
         match self.keyword()? {
             Keyword::Extended => {
                 self.skip();
-                let parts = self.parts(alloc)?;
-                Ok(Kind::Extended(parts))
+                self.braced(alloc).map(Kind::Extended)
             }
             Keyword::Counted => {
                 self.skip();
-                self.expect(Keyword::Open)?;
-                let inner = self.kind(alloc)?;
-                self.expect(Keyword::Close)?;
-                let inner = Box::new(alloc, inner)?;
-                Ok(Kind::Counted(inner))
+                self.counted(alloc)
             }
             Keyword::ByFx => {
                 self.skip();
-                let fixed = self.fixed(alloc)?;
-                Ok(Kind::ByFx(fixed))
+                self.fixed(alloc).map(Kind::ByFx)
             }
             Keyword::Explicit => {
                 self.skip();
@@ -224,14 +201,23 @@ impl<'r, 't> SpecReader<'r, 't> {
             }
             Keyword::Compound => {
                 self.skip();
-                let slots = self.slots(alloc)?;
-                Ok(Kind::Compound(slots))
+                self.slots(alloc).map(Kind::Compound)
             }
-            _ => {
-                let fixed = self.fixed(alloc)?;
-                Ok(Kind::Fixed(fixed))
-            }
+            _ => self.fixed(alloc).map(Kind::Fixed),
         }
+    }
+
+    /// What follows `counted`: a kind in braces.
+    #[cycle(read_kind)]
+    fn counted(&mut self, alloc: Global) -> Result<Kind, Stopped>
+        ensures reads { Gives kind_tree result self.new (counted_at self.old) }
+        ensures moves { OnOk result (length self.new < length self.old) }
+    {
+        self.expect(Keyword::Open)?;
+        let inner = self.kind(alloc)?;
+        self.expect(Keyword::Close)?;
+        let inner = Box::new(alloc, inner)?;
+        Ok(Kind::Counted(inner))
     }
 
     /// Slots in braces.
@@ -263,58 +249,6 @@ impl<'r, 't> SpecReader<'r, 't> {
         Ok(Slot::Sub { name, kind })
     }
 
-    #[tactic(auto, unfolding(crate::specs::Rules::item_at))]
-    fn item(&mut self, alloc: Global) -> Result<Item, Stopped>
-        ensures reads { Gives item_tree result self.new (item_at self.old) }
-        ensures moves { OnOk result (length self.new < length self.old) }
-    {
-        self.expect(Keyword::Item)?;
-        let name = self.name()?;
-        let title = self.text(alloc)?;
-        let kind = self.kind(alloc)?;
-        Ok(Item { name, title, kind })
-    }
-
-    /// Items in braces.
-    fn items(&mut self, alloc: Global) -> Result<Items, Stopped>
-        ensures reads { Gives (λ items. map item_tree items) result self.new (braced_at item_at self.old) }
-        ensures moves { OnOk result (length self.new < length self.old) }
-    {
-        self.expect(Keyword::Open)?;
-        let mut items = Items::new(alloc);
-        while !self.takes(Keyword::Close)? {
-            let item = self.item(alloc)?;
-            items.push(item)?;
-        }
-        Ok(items)
-    }
-
-    #[tactic(auto, unfolding(crate::specs::Rules::uap_slot_at))]
-    fn uap_slot(&mut self) -> Result<UapSlot, Stopped>
-        ensures reads { Gives (λ slot. slot) result self.new (uap_slot_at self.old) }
-        ensures moves { OnOk result (length self.new < length self.old) }
-    {
-        if self.takes(Keyword::Dash)? {
-            return Ok(UapSlot::Spare);
-        }
-        let name = self.name()?;
-        Ok(UapSlot::Item(name))
-    }
-
-    /// Slots of the UAP in braces.
-    fn uap(&mut self, alloc: Global) -> Result<UapSlots, Stopped>
-        ensures reads { Gives (λ slots. slots) result self.new (braced_at uap_slot_at self.old) }
-        ensures moves { OnOk result (length self.new < length self.old) }
-    {
-        self.expect(Keyword::Open)?;
-        let mut slots = UapSlots::new(alloc);
-        while !self.takes(Keyword::Close)? {
-            let slot = self.uap_slot()?;
-            slots.push(slot)?;
-        }
-        Ok(slots)
-    }
-
     /// A specification. Tokens may follow it.
     #[tactic(auto, unfolding(crate::specs::Rules::spec_at))]
     pub fn spec(&mut self, alloc: Global) -> Result<Spec, Stopped>
@@ -326,14 +260,78 @@ impl<'r, 't> SpecReader<'r, 't> {
         self.expect(Keyword::Edition)?;
         let edition = self.text(alloc)?;
         self.expect(Keyword::Items)?;
-        let items = self.items(alloc)?;
+        let items = self.braced(alloc)?;
         self.expect(Keyword::Uap)?;
-        let uap = self.uap(alloc)?;
+        let uap = self.braced(alloc)?;
         Ok(Spec {
             category,
             edition,
             items,
             uap,
         })
+    }
+}
+
+impl Element for TableText {
+    ghost Tree = { Table.TableText };
+
+    ghost tree = { λ entry. entry };
+
+    ghost rule = { entry_at };
+
+    #[tactic(auto, unfolding(crate::specs::Rules::entry_at))]
+    fn read(reader: &mut SpecReader<'_, '_>, alloc: Global) -> Result<Self, Stopped> {
+        let number = reader.number()?;
+        let text = reader.text(alloc)?;
+        Ok(TableText { number, text })
+    }
+}
+
+impl Element for Part {
+    ghost Tree = { MembersTree };
+
+    ghost tree = { part_tree };
+
+    ghost rule = { part_at };
+
+    #[tactic(auto, unfolding(crate::specs::Rules::part_at))]
+    fn read(reader: &mut SpecReader<'_, '_>, alloc: Global) -> Result<Self, Stopped> {
+        reader.expect(Keyword::Part)?;
+        let members = reader.members(alloc)?;
+        Ok(Part { members })
+    }
+}
+
+impl Element for Item {
+    ghost Tree = { ItemTree };
+
+    ghost tree = { item_tree };
+
+    ghost rule = { item_at };
+
+    #[tactic(auto, unfolding(crate::specs::Rules::item_at))]
+    fn read(reader: &mut SpecReader<'_, '_>, alloc: Global) -> Result<Self, Stopped> {
+        reader.expect(Keyword::Item)?;
+        let name = reader.name()?;
+        let title = reader.text(alloc)?;
+        let kind = reader.kind(alloc)?;
+        Ok(Item { name, title, kind })
+    }
+}
+
+impl Element for UapSlot {
+    ghost Tree = { Uap.UapSlot };
+
+    ghost tree = { λ slot. slot };
+
+    ghost rule = { uap_slot_at };
+
+    #[tactic(auto, unfolding(crate::specs::Rules::uap_slot_at))]
+    fn read(reader: &mut SpecReader<'_, '_>, alloc: Global) -> Result<Self, Stopped> {
+        if reader.takes(Keyword::Dash)? {
+            return Ok(UapSlot::Spare);
+        }
+        let name = reader.name()?;
+        Ok(UapSlot::Item(name))
     }
 }

@@ -8,8 +8,8 @@ use Rattle.ax_grammar.proofs.printer.Printer.+print_fixed.Goals as goal
 
 pub fixed-returns-in_ok-members-in-Group : goal.fixed-returns-in_ok-members-in-Group
 fixed-returns-in_ok-members-in-Group t c =
-    block_printed c.word-in-Group-3.result Word.Group (fixed_texts (fixed_tree c.args.fixed.now)) (members_texts (members_tree c.in-Group.members)) c.args.self.now.out.items c.word-in-Group.new.self.out.items c.word-in-Group-2.new.self.out.items c.members.new.self.out.items c.word-in-Group-3.new.self.out.items
-    (ap fixed_texts (ap fixed_tree c.in-Group.is ∙ group_tree c.in-Group.members)) c.in_ok-word-in-Group.ensures c.in_ok-word-in-Group-2.ensures c.in_ok-members-in-Group.ensures c.word-in-Group-3.ensures
+    block_printed c.word-in-Group.result Word.Group (fixed_texts (fixed_tree c.args.fixed.now)) (members_texts (members_tree c.in-Group.members)) c.args.self.now.out.items c.open.new.self.out.items c.members.new.self.out.items c.word-in-Group.new.self.out.items
+    (ap fixed_texts (ap fixed_tree c.in-Group.is ∙ group_tree c.in-Group.members)) c.in_ok-open-in-Group.ensures c.in_ok-members-in-Group.ensures c.word-in-Group.ensures
 
 pub members-loop-member-preserved : goal.members-loop-member-preserved
 members-loop-member-preserved t c =

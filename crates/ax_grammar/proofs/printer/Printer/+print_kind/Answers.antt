@@ -9,13 +9,13 @@ use Rattle.ax_grammar.proofs.printer.Printer.+print_kind.Goals as goal
 
 pub kind-returns-in_ok-parts-in-Extended : goal.kind-returns-in_ok-parts-in-Extended
 kind-returns-in_ok-parts-in-Extended t c =
-    block_printed c.word-in-Extended-2.result Word.Extended (kind_texts (kind_tree c.args.kind.now)) (parts_texts c.in-Extended.parts) c.args.self.now.out.items c.word.new.self.out.items c.word-in-Extended.new.self.out.items c.parts.new.self.out.items c.word-in-Extended-2.new.self.out.items
-    (ap kind_texts (ap kind_tree c.in-Extended.is ∙ extended_tree c.in-Extended.parts)) c.in_ok-word-in-Extended.ensures c.in_ok-word-in-Extended-2.ensures c.in_ok-parts-in-Extended.ensures c.word-in-Extended-2.ensures
+    block_printed c.word.result Word.Extended (kind_texts (kind_tree c.args.kind.now)) (parts_texts c.in-Extended.parts) c.args.self.now.out.items c.open.new.self.out.items c.parts.new.self.out.items c.word.new.self.out.items
+    (ap kind_texts (ap kind_tree c.in-Extended.is ∙ extended_tree c.in-Extended.parts)) c.in_ok-open-in-Extended.ensures c.in_ok-parts-in-Extended.ensures c.word.ensures
 
 pub kind-returns-in_ok-kind-in-Counted : goal.kind-returns-in_ok-kind-in-Counted
 kind-returns-in_ok-kind-in-Counted t c =
-    block_printed c.word-in-Counted-3.result Word.Counted (kind_texts (kind_tree c.args.kind.now)) (kind_texts (kind_tree c.in-Counted.inner.value)) c.args.self.now.out.items c.word-in-Counted.new.self.out.items c.word-in-Counted-2.new.self.out.items c.kind.new.self.out.items c.word-in-Counted-3.new.self.out.items
-    (ap kind_texts (ap kind_tree c.in-Counted.is ∙ counted_tree c.in-Counted.inner)) c.in_ok-word-in-Counted.ensures c.in_ok-word-in-Counted-2.ensures (search rules) c.word-in-Counted-3.ensures
+    block_printed c.word-in-Counted.result Word.Counted (kind_texts (kind_tree c.args.kind.now)) (kind_texts (kind_tree c.in-Counted.inner.value)) c.args.self.now.out.items c.open-in-Counted.new.self.out.items c.kind.new.self.out.items c.word-in-Counted.new.self.out.items
+    (ap kind_texts (ap kind_tree c.in-Counted.is ∙ counted_tree c.in-Counted.inner)) c.in_ok-open-in-Counted.ensures (search rules) c.word-in-Counted.ensures
 
 pub kind-returns-in_ok-word-in-ByFx : goal.kind-returns-in_ok-word-in-ByFx
 kind-returns-in_ok-word-in-ByFx t c =
@@ -24,8 +24,8 @@ kind-returns-in_ok-word-in-ByFx t c =
 
 pub kind-returns-in_ok-slots-in-Compound : goal.kind-returns-in_ok-slots-in-Compound
 kind-returns-in_ok-slots-in-Compound t c =
-    block_printed c.word-in-Compound-3.result Word.Compound (kind_texts (kind_tree c.args.kind.now)) (slots_texts (slots_tree c.in-Compound.slots)) c.args.self.now.out.items c.word-in-Compound.new.self.out.items c.word-in-Compound-2.new.self.out.items c.slots.new.self.out.items c.word-in-Compound-3.new.self.out.items
-    (ap kind_texts (ap kind_tree c.in-Compound.is ∙ compound_tree c.in-Compound.slots)) c.in_ok-word-in-Compound.ensures c.in_ok-word-in-Compound-2.ensures c.in_ok-slots-in-Compound.ensures c.word-in-Compound-3.ensures
+    block_printed c.word-in-Compound.result Word.Compound (kind_texts (kind_tree c.args.kind.now)) (slots_texts (slots_tree c.in-Compound.slots)) c.args.self.now.out.items c.open-in-Compound.new.self.out.items c.slots.new.self.out.items c.word-in-Compound.new.self.out.items
+    (ap kind_texts (ap kind_tree c.in-Compound.is ∙ compound_tree c.in-Compound.slots)) c.in_ok-open-in-Compound.ensures c.in_ok-slots-in-Compound.ensures c.word-in-Compound.ensures
 
 pub slots-loop-slot-preserved : goal.slots-loop-slot-preserved
 slots-loop-slot-preserved t c =

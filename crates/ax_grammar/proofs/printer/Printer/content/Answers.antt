@@ -7,5 +7,5 @@ use Rattle.ax_grammar.proofs.printer.Printer.content.Goals as goal
 
 pub returns-in_ok-entries-in-Table : goal.returns-in_ok-entries-in-Table
 returns-in_ok-entries-in-Table c =
-    block_printed c.word-in-Table-3.result Word.Table (content_texts c.args.content.now) (flat_map entry_texts c.in-Table.entries) c.args.self.now.out.items c.word-in-Table.new.self.out.items c.word-in-Table-2.new.self.out.items c.entries.new.self.out.items c.word-in-Table-3.new.self.out.items
-    (ap content_texts c.in-Table.is) c.in_ok-word-in-Table.ensures c.in_ok-word-in-Table-2.ensures c.in_ok-entries-in-Table.ensures c.word-in-Table-3.ensures
+    block_printed c.word-in-Table.result Word.Table (content_texts c.args.content.now) (flat_map entry_texts c.in-Table.entries) c.args.self.now.out.items c.open.new.self.out.items c.entries.new.self.out.items c.word-in-Table.new.self.out.items
+    (ap content_texts c.in-Table.is) c.in_ok-open-in-Table.ensures c.in_ok-entries-in-Table.ensures c.word-in-Table.ensures

@@ -7,5 +7,5 @@ use Rattle.ax_grammar.proofs.printer.Printer.part.Goals as goal
 
 pub returns : goal.returns
 returns c =
-    block_printed c.word-3.result Word.Part (part_texts (part_tree c.args.part.now)) (members_texts (members_tree c.args.part.now.members)) c.args.self.now.out.items c.word.new.self.out.items c.word-2.new.self.out.items c.members.new.self.out.items c.word-3.new.self.out.items
-    refl c.in_ok-word.ensures c.in_ok-word-2.ensures c.in_ok-members.ensures c.word-3.ensures
+    block_printed c.word.result Word.Part (part_texts (part_tree c.args.part.now)) (members_texts (members_tree c.args.part.now.members)) c.args.self.now.out.items c.open.new.self.out.items c.members.new.self.out.items c.word.new.self.out.items
+    refl c.in_ok-open.ensures c.in_ok-members.ensures c.word.ensures

@@ -4,8 +4,8 @@ use Rattle.std.proofs.lemmas.Result.{err_from_is_err_and}
 use Rattle.ax_model.specs.Plain.{member_tree}
 use Rattle.ax_grammar.specs.Parsing.{list_at}
 use Rattle.ax_grammar.specs.Rules.{member_at}
-use Rattle.ax_model.proofs.VariantTrees.{element_tree, group_tree}
-use Rattle.ax_grammar.proofs.Cases.{element_read, group_read, group_stops}
+use Rattle.ax_model.proofs.VariantTrees.{element_tree}
+use Rattle.ax_grammar.proofs.Cases.{element_read, group_gives}
 use Rattle.ax_grammar.proofs.Lists.{list_goes_on, braced_stops_before, braced_stops_within, braced_ends}
 use Rattle.ax_grammar.proofs.Recursive.{member_shrinks}
 use Rattle.ax_grammar.proofs.reader.SpecReader.+read_fixed.Goals as goal
@@ -41,11 +41,5 @@ pub fixed-returns-in_ok-content-in-Element-clause-reads : goal.fixed-returns-in_
 fixed-returns-in_ok-content-in-Element-clause-reads t c =
     element_read c.args.self.now c.skip.new.self c.width.new.self c.content.new.self c.in_ok-width-in-Element.width c.in_ok-content-in-Element.content _ (element_tree c.in_ok-width-in-Element.width c.in_ok-content-in-Element.content) (search rules) c.in_ok-width-in-Element.ensures.reads c.in_ok-content-in-Element.ensures.reads
 
-pub fixed-returns-in_ok-members-in-Group-clause-reads : goal.fixed-returns-in_ok-members-in-Group-clause-reads
-fixed-returns-in_ok-members-in-Group-clause-reads t c =
-    group_read c.args.self.now c.skip-in-Group.new.self c.members.new.self (map member_tree c.in_ok-members-in-Group.members) _ (group_tree c.in_ok-members-in-Group.members) (search rules) c.in_ok-members-in-Group.ensures.reads
-
-pub fixed-returns-in_err-members-in-Group-clause-reads : goal.fixed-returns-in_err-members-in-Group-clause-reads
-fixed-returns-in_err-members-in-Group-clause-reads t c =
-    let p = err_from_is_err_and c.from_residual-in_err-members-in-Group.result c.from_residual-in_err-members-in-Group.ensures.1 in
-    rw (p.1, p.2) (group_stops c.args.self.now c.skip-in-Group.new.self c.members.new.self c.in_err-members-in-Group.field-0.0 (search rules) c.in_err-members-in-Group.ensures.reads)
+pub fixed-returns-in-Group-clause-reads : goal.fixed-returns-in-Group-clause-reads
+fixed-returns-in-Group-clause-reads t c = group_gives c.args.self.now c.skip-in-Group.new.self c.members.new.self c.members.result c.map.result (search rules) c.members.ensures.reads c.map.ensures.cases

@@ -1,15 +1,13 @@
-use Rattle.std.proofs.Common.{◌≡◌, ◌++◌, ◌∷◌, [], length, map, ap, ◌∙◌, arith, rules}
+use Rattle.std.proofs.Common.{◌≡◌, ◌++◌, ◌∷◌, [], length, map, ap, arith, rules}
 use Rattle.std.proofs.lemmas.List.{length_push, map_push}
 use Rattle.std.proofs.lemmas.Result.{err_from_is_err_and}
-use Rattle.ax_model.specs.Plain.{slot_tree, part_tree, kind_tree, fixed_tree}
-use Rattle.ax_model.specs.Tree.{counted}
-use Rattle.ax_model.specs.declared.kind.Kind.TheVariants.{Counted}
+use Rattle.ax_model.specs.Plain.{slot_tree}
 use Rattle.ax_grammar.specs.Parsing.{list_at}
 use Rattle.ax_grammar.specs.Rules.{slot_at}
-use Rattle.ax_grammar.proofs.Cases.{extended_read, counted_read, by_fx_read, explicit_read, compound_read, compound_stops, fixed_read}
-use Rattle.ax_model.proofs.VariantTrees.{extended_tree, counted_tree, by_fx_tree, explicit_tree, compound_tree, fixed_kind_tree}
+use Rattle.ax_grammar.proofs.Cases.{extended_gives, by_fx_gives, explicit_read, compound_gives, fixed_gives}
+use Rattle.ax_model.proofs.VariantTrees.{explicit_tree}
 use Rattle.ax_grammar.proofs.Lists.{list_goes_on, braced_stops_before, braced_stops_within, braced_ends}
-use Rattle.ax_grammar.proofs.Recursive.{slot_shrinks}
+use Rattle.ax_grammar.proofs.Recursive.{part_shrinks, slot_shrinks}
 use Rattle.ax_grammar.proofs.reader.SpecReader.+read_kind.Goals as goal
 
 pub slots-returns-in_err-takes-clause-reads : goal.slots-returns-in_err-takes-clause-reads
@@ -39,34 +37,22 @@ pub slots-returns-clause-reads : goal.slots-returns-clause-reads
 slots-returns-clause-reads t c =
     braced_ends slot_at slot_shrinks c.args.self.now c.expect.new.self c.loop-slots.self c.takes.new.self (map slot_tree c.loop-slots.slots) c.in_ok-expect.ensures.reads c.loop-slots.invariant.read (search rules)
 
-pub kind-returns-in_ok-parts-in-Extended-clause-reads : goal.kind-returns-in_ok-parts-in-Extended-clause-reads
-kind-returns-in_ok-parts-in-Extended-clause-reads t c =
-    extended_read c.args.self.now c.skip.new.self c.parts.new.self (map part_tree c.in_ok-parts-in-Extended.parts) _ (extended_tree c.in_ok-parts-in-Extended.parts) (search rules) c.in_ok-parts-in-Extended.ensures.reads
+pub kind-returns-in-Extended-clause-reads : goal.kind-returns-in-Extended-clause-reads
+kind-returns-in-Extended-clause-reads t c = extended_gives c.args.self.now c.skip.new.self c.braced.new.self c.braced.result c.map.result (search rules) c.braced.ensures.reads c.map.ensures.cases
 
-pub kind-returns-in_ok-inner-in-Counted-2-clause-reads : goal.kind-returns-in_ok-inner-in-Counted-2-clause-reads
-kind-returns-in_ok-inner-in-Counted-2-clause-reads t c =
-    let inner = c.in_ok-inner-in-Counted-2.inner in
-    let same : kind_tree (Counted inner) ≡ counted (kind_tree c.in_ok-inner-in-Counted.inner) = counted_tree inner ∙ ap (λ k. counted (kind_tree k)) c.in_ok-inner-in-Counted-2.ensures.ok in
-    counted_read c.args.self.now c.skip-in-Counted.new.self c.expect.new.self c.kind.new.self c.expect-in-Counted.new.self (kind_tree c.in_ok-inner-in-Counted.inner) _ same (search rules)
-    c.in_ok-expect-in-Counted.ensures.reads c.in_ok-inner-in-Counted.ensures.reads c.in_ok-expect-in-Counted-2.ensures.reads
-
-pub kind-returns-in_ok-fixed-in-ByFx-clause-reads : goal.kind-returns-in_ok-fixed-in-ByFx-clause-reads
-kind-returns-in_ok-fixed-in-ByFx-clause-reads t c =
-    by_fx_read c.args.self.now c.skip-in-ByFx.new.self c.fixed.new.self (fixed_tree c.in_ok-fixed-in-ByFx.fixed) _ (by_fx_tree c.in_ok-fixed-in-ByFx.fixed) (search rules) c.in_ok-fixed-in-ByFx.ensures.reads
+pub kind-returns-in-ByFx-clause-reads : goal.kind-returns-in-ByFx-clause-reads
+kind-returns-in-ByFx-clause-reads t c = by_fx_gives c.args.self.now c.skip-in-ByFx.new.self c.fixed.new.self c.fixed.result c.map-in-ByFx.result (search rules) c.fixed.ensures.reads c.map-in-ByFx.ensures.cases
 
 pub kind-returns-in-Explicit-clause-reads : goal.kind-returns-in-Explicit-clause-reads
 kind-returns-in-Explicit-clause-reads t c = explicit_read c.args.self.now c.skip-in-Explicit.new.self _ explicit_tree (search rules)
 
-pub kind-returns-in_ok-slots-in-Compound-clause-reads : goal.kind-returns-in_ok-slots-in-Compound-clause-reads
-kind-returns-in_ok-slots-in-Compound-clause-reads t c =
-    compound_read c.args.self.now c.skip-in-Compound.new.self c.slots.new.self (map slot_tree c.in_ok-slots-in-Compound.slots) _ (compound_tree c.in_ok-slots-in-Compound.slots) (search rules) c.in_ok-slots-in-Compound.ensures.reads
+pub kind-returns-in-Compound-clause-reads : goal.kind-returns-in-Compound-clause-reads
+kind-returns-in-Compound-clause-reads t c = compound_gives c.args.self.now c.skip-in-Compound.new.self c.slots.new.self c.slots.result c.map-in-Compound.result (search rules) c.slots.ensures.reads c.map-in-Compound.ensures.cases
 
-pub kind-returns-in_err-slots-in-Compound-clause-reads : goal.kind-returns-in_err-slots-in-Compound-clause-reads
-kind-returns-in_err-slots-in-Compound-clause-reads t c =
-    let p = err_from_is_err_and c.from_residual-in_err-slots-in-Compound.result c.from_residual-in_err-slots-in-Compound.ensures.1 in
-    rw (p.1, p.2) (compound_stops c.args.self.now c.skip-in-Compound.new.self c.slots.new.self c.in_err-slots-in-Compound.field-0.0 (search rules) c.in_err-slots-in-Compound.ensures.reads)
+pub kind-returns-in_default-clause-reads : goal.kind-returns-in_default-clause-reads
+kind-returns-in_default-clause-reads t c =
+    fixed_gives c.args.self.now _ c.fixed-in_default.new.self c.in_ok-keyword.field-0 c.fixed-in_default.result c.map-in_default.result c.in_default.not-Extended c.in_default.not-Counted c.in_default.not-ByFx c.in_default.not-Explicit c.in_default.not-Compound
+    c.in_ok-keyword.ensures.reads c.fixed-in_default.ensures.reads c.map-in_default.ensures.cases
 
-pub kind-returns-in_ok-fixed-in_default-clause-reads : goal.kind-returns-in_ok-fixed-in_default-clause-reads
-kind-returns-in_ok-fixed-in_default-clause-reads t c =
-    fixed_read c.args.self.now _ c.fixed-in_default.new.self c.in_ok-keyword.field-0 (fixed_tree c.in_ok-fixed-in_default.fixed) _ (fixed_kind_tree c.in_ok-fixed-in_default.fixed)
-    (search rules) (search rules) (search rules) (search rules) (search rules) c.in_ok-keyword.ensures.reads c.in_ok-fixed-in_default.ensures.reads
+pub kind-braced-requires : goal.kind-braced-requires
+kind-braced-requires t c = part_shrinks

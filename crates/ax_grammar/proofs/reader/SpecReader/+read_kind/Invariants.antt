@@ -22,3 +22,6 @@ decreases-slot l = length l.self.now
 
 abbrev pub decreases-slots : goal.decreases-slots
 decreases-slots l = length l.self.now
+
+abbrev pub decreases-counted : goal.decreases-counted
+decreases-counted l = length l.self.now

@@ -2,18 +2,62 @@ use Rattle.std.proofs.Common.{◌≡◌, ℕ, ◌++◌, ◌∷◌, [], List, len
 use Rattle.std.proofs.lemmas.List.{length_push}
 use Rattle.std.proofs.lemmas.Result.{err_from_is_err_and}
 use Rattle.ax_model.specs.declared.kind.Member.{Member}
-use Rattle.ax_block_reader.proofs.FixedWays.{element_read, group_read, named_read, spare_read}
+use Rattle.ax_block_reader.proofs.FixedWays.{element_way, element_read, open_way, inside_way, group_read, readable_element, readable_group, name_way, value_way, named_read, readable_named, spare_way, bits_way, spare_read, readable_spare}
 use Rattle.ax_block_reader.proofs.MemberWays.{no_member_read, member_readable, member_lacks, member_more_read, close_lacks, members_read}
 use Rattle.ax_block_reader.proofs.fixed.+fixed_value.Goals as goal
 
+pub fixed_value-number-requires : goal.fixed_value-number-requires
+fixed_value-number-requires t c = readable_element c.args.fixed.now _ _ c.in-Element.is c.requires
+
+pub fixed_value-returns-in_err-number-in-Element-clause-gives : goal.fixed_value-returns-in_err-number-in-Element-clause-gives
+fixed_value-returns-in_err-number-in-Element-clause-gives t c =
+    let p = err_from_is_err_and c.from_residual.result c.from_residual.ensures.1 in
+    rw (p.1, p.2) (element_way c.args.fixed.now _ _ _ _ _ c.in-Element.is c.in_err-number-in-Element.ensures.reads)
+
 pub fixed_value-returns-in_ok-number-in-Element-clause-gives : goal.fixed_value-returns-in_ok-number-in-Element-clause-gives
-fixed_value-returns-in_ok-number-in-Element-clause-gives t c = element_read c.args.fixed.now _ _ _ _ _ c.in-Element.is (search rules) (search rules)
+fixed_value-returns-in_ok-number-in-Element-clause-gives t c = element_read c.args.fixed.now _ _ _ _ _ c.in-Element.is c.in_ok-number-in-Element.ensures.below c.in_ok-number-in-Element.ensures.reads.1
+
+pub fixed_value-returns-in_err-expect-in-Group-clause-gives : goal.fixed_value-returns-in_err-expect-in-Group-clause-gives
+fixed_value-returns-in_err-expect-in-Group-clause-gives t c =
+    let p = err_from_is_err_and c.from_residual-in_err-expect-in-Group.result c.from_residual-in_err-expect-in-Group.ensures.1 in
+    rw (p.1, p.2) (open_way c.args.fixed.now _ _ _ _ c.in-Group.is c.in_err-expect-in-Group.ensures.reads)
+
+pub fixed_value-member_values-requires : goal.fixed_value-member_values-requires
+fixed_value-member_values-requires t c = (omega (arith, c.in_ok-expect-in-Group.ensures.moves), readable_group c.args.fixed.now _ c.in-Group.is c.requires)
+
+pub fixed_value-returns-in_err-values-in-Group-clause-gives : goal.fixed_value-returns-in_err-values-in-Group-clause-gives
+fixed_value-returns-in_err-values-in-Group-clause-gives t c =
+    let p = err_from_is_err_and c.from_residual-in_err-values-in-Group.result c.from_residual-in_err-values-in-Group.ensures.1 in
+    rw (p.1, p.2) (inside_way c.args.fixed.now _ _ _ _ _ c.in-Group.is c.in_ok-expect-in-Group.ensures.reads.1 c.in_err-values-in-Group.ensures.gives)
 
 pub fixed_value-returns-in_ok-values-in-Group-clause-gives : goal.fixed_value-returns-in_ok-values-in-Group-clause-gives
-fixed_value-returns-in_ok-values-in-Group-clause-gives t c = group_read c.args.fixed.now _ _ _ _ _ c.in-Group.is (search rules) c.in_ok-values-in-Group.ensures.gives
+fixed_value-returns-in_ok-values-in-Group-clause-gives t c = group_read c.args.fixed.now _ _ _ _ _ c.in-Group.is c.in_ok-expect-in-Group.ensures.reads.1 c.in_ok-values-in-Group.ensures.gives
+
+pub member_value-returns-in_err-expect-in-Named-clause-gives : goal.member_value-returns-in_err-expect-in-Named-clause-gives
+member_value-returns-in_err-expect-in-Named-clause-gives t c =
+    let p = err_from_is_err_and c.from_residual.result c.from_residual.ensures.1 in
+    rw (p.1, p.2) (name_way c.args.member.now _ _ _ _ _ _ c.in-Named.is c.octets.ensures.octets c.in_err-expect-in-Named.ensures.reads)
+
+pub member_value-fixed_value-requires : goal.member_value-fixed_value-requires
+member_value-fixed_value-requires t c = (omega (arith, c.in_ok-expect-in-Named.ensures.moves), readable_named c.args.member.now _ _ c.in-Named.is c.requires)
+
+pub member_value-returns-in_err-value-in-Named-clause-gives : goal.member_value-returns-in_err-value-in-Named-clause-gives
+member_value-returns-in_err-value-in-Named-clause-gives t c =
+    let p = err_from_is_err_and c.from_residual-in_err-value-in-Named.result c.from_residual-in_err-value-in-Named.ensures.1 in
+    rw (p.1, p.2) (value_way c.args.member.now _ _ _ _ _ _ _ c.in-Named.is c.octets.ensures.octets c.in_ok-expect-in-Named.ensures.reads.1 c.in_err-value-in-Named.ensures.gives)
 
 pub member_value-returns-in_ok-value-in-Named-clause-gives : goal.member_value-returns-in_ok-value-in-Named-clause-gives
 member_value-returns-in_ok-value-in-Named-clause-gives t c = named_read c.args.member.now _ _ _ _ _ _ _ c.in-Named.is c.octets.ensures.octets c.in_ok-expect-in-Named.ensures.reads.1 c.in_ok-value-in-Named.ensures.gives
+
+pub member_value-returns-in_err-expect-in-Spare-clause-gives : goal.member_value-returns-in_err-expect-in-Spare-clause-gives
+member_value-returns-in_err-expect-in-Spare-clause-gives t c =
+    let p = err_from_is_err_and c.from_residual-in_err-expect-in-Spare.result c.from_residual-in_err-expect-in-Spare.ensures.1 in
+    rw (p.1, p.2) (spare_way c.args.member.now _ _ _ _ c.in-Spare.is c.in_err-expect-in-Spare.ensures.reads)
+
+pub member_value-returns-in_err-number-in-Spare-clause-gives : goal.member_value-returns-in_err-number-in-Spare-clause-gives
+member_value-returns-in_err-number-in-Spare-clause-gives t c =
+    let p = err_from_is_err_and c.from_residual-in_err-number-in-Spare.result c.from_residual-in_err-number-in-Spare.ensures.1 in
+    rw (p.1, p.2) (bits_way c.args.member.now _ _ _ _ _ c.in-Spare.is c.in_ok-expect-in-Spare.ensures.reads.1 c.in_err-number-in-Spare.ensures.reads)
 
 pub member_value-returns-in_ok-number-in-Spare-clause-gives : goal.member_value-returns-in_ok-number-in-Spare-clause-gives
 member_value-returns-in_ok-number-in-Spare-clause-gives t c =
@@ -50,4 +94,4 @@ member_values-returns-in_err-expect-clause-gives t c =
     rw (p.1, p.2) (close_lacks c.args.members.now c.loop-member.member-index (omega (arith, ap length c.as_slice-member-items.ensures.members)) _ _ _ _ _ c.loop-member.invariant.read c.in_err-expect.ensures.reads)
 
 pub member_values-returns-clause-gives : goal.member_values-returns-clause-gives
-member_values-returns-clause-gives t c = members_read c.args.members.now c.loop-member.member-index (omega (arith, ap length c.as_slice-member-items.ensures.members)) c.loop-member.values _ _ _ c.loop-member.invariant.read (search rules)
+member_values-returns-clause-gives t c = members_read c.args.members.now c.loop-member.member-index (omega (arith, ap length c.as_slice-member-items.ensures.members)) c.loop-member.values _ _ _ c.loop-member.invariant.read c.in_ok-expect.ensures.reads.1

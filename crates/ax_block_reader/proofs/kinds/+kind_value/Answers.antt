@@ -4,25 +4,93 @@ use Rattle.std.proofs.lemmas.Result.{err_from_is_err_and}
 use Rattle.ax_model.specs.Plain.{kind_tree}
 use Rattle.ax_model.specs.declared.kind.Slot.{Slot}
 use Rattle.ax_model.specs.declared.value.Entry.{roll-Entry}
-use Rattle.ax_block_reader.proofs.KindWays.{fixed_is_read, extended_is_read, counted_is_read, run_is_read, compound_is_read, sub_way, sub_is_read}
+use Rattle.ax_block_reader.proofs.KindWays.{fixed_way, fixed_is_read, explicit_way, explicit_is_read, readable_fixed, readable_parts, parts_there, extended_open, extended_inside, extended_is_read, counted_open, counted_inside, counted_is_read, readable_counted, run_open, run_inside, run_is_read, readable_run, compound_open, compound_inside, compound_is_read, readable_compound, sub_way, sub_is_read}
 use Rattle.ax_block_reader.proofs.CountedWays.{value_lacks, value_read, counted_cut, counted_ends, counted_lacks}
 use Rattle.ax_block_reader.proofs.EntryWays.{no_entry_read, entry_lacks, entry_read, entry_skipped, close_lacks, entries_read, slots_from, slots_past, entry_is}
 use Rattle.ax_block_reader.proofs.kinds.+kind_value.Goals as goal
 
+pub kind_value-fixed_value-requires : goal.kind_value-fixed_value-requires
+kind_value-fixed_value-requires t c = readable_fixed c.args.kind.now _ c.in-Fixed.is c.requires
+
+pub kind_value-returns-in_err-value-in-Fixed-clause-gives : goal.kind_value-returns-in_err-value-in-Fixed-clause-gives
+kind_value-returns-in_err-value-in-Fixed-clause-gives t c =
+    let p = err_from_is_err_and c.from_residual.result c.from_residual.ensures.1 in
+    rw (p.1, p.2) (fixed_way c.args.kind.now _ _ _ _ c.in-Fixed.is c.in_err-value-in-Fixed.ensures.gives)
+
 pub kind_value-returns-in_ok-value-in-Fixed-clause-gives : goal.kind_value-returns-in_ok-value-in-Fixed-clause-gives
 kind_value-returns-in_ok-value-in-Fixed-clause-gives t c = fixed_is_read c.args.kind.now _ _ _ _ c.in-Fixed.is c.in_ok-value-in-Fixed.ensures.gives
 
+pub kind_value-returns-in_err-value-in-Explicit-clause-gives : goal.kind_value-returns-in_err-value-in-Explicit-clause-gives
+kind_value-returns-in_err-value-in-Explicit-clause-gives t c =
+    let p = err_from_is_err_and c.from_residual-in_err-value-in-Explicit.result c.from_residual-in_err-value-in-Explicit.ensures.1 in
+    rw (p.1, p.2) (explicit_way c.args.kind.now _ _ _ c.in-Explicit.is c.in_err-value-in-Explicit.ensures.gives)
+
+pub kind_value-returns-in_ok-value-in-Explicit-clause-gives : goal.kind_value-returns-in_ok-value-in-Explicit-clause-gives
+kind_value-returns-in_ok-value-in-Explicit-clause-gives t c = explicit_is_read c.args.kind.now _ _ _ c.in-Explicit.is c.in_ok-value-in-Explicit.ensures.gives
+
+pub kind_value-returns-in_err-expect-in-Extended-clause-gives : goal.kind_value-returns-in_err-expect-in-Extended-clause-gives
+kind_value-returns-in_err-expect-in-Extended-clause-gives t c =
+    let p = err_from_is_err_and c.from_residual-in_err-expect-in-Extended.result c.from_residual-in_err-expect-in-Extended.ensures.1 in
+    rw (p.1, p.2) (extended_open c.args.kind.now _ _ _ _ c.in-Extended.is c.requires c.in_err-expect-in-Extended.ensures.reads)
+
+pub kind_value-parts_present-requires-clause-some : goal.kind_value-parts_present-requires-clause-some
+kind_value-parts_present-requires-clause-some t c = parts_there c.args.kind.now _ c.in-Extended.is c.requires
+
+pub kind_value-parts_present-requires-clause-readable : goal.kind_value-parts_present-requires-clause-readable
+kind_value-parts_present-requires-clause-readable t c = readable_parts c.args.kind.now _ c.in-Extended.is c.requires
+
+pub kind_value-returns-in_err-lists-in-Extended-clause-gives : goal.kind_value-returns-in_err-lists-in-Extended-clause-gives
+kind_value-returns-in_err-lists-in-Extended-clause-gives t c =
+    let p = err_from_is_err_and c.from_residual-in_err-lists-in-Extended.result c.from_residual-in_err-lists-in-Extended.ensures.1 in
+    rw (p.1, p.2) (extended_inside c.args.kind.now _ _ _ _ _ c.in-Extended.is c.in_ok-expect-in-Extended.ensures.reads.1 c.in_err-lists-in-Extended.ensures.gives)
+
 pub kind_value-returns-in_ok-lists-in-Extended-clause-gives : goal.kind_value-returns-in_ok-lists-in-Extended-clause-gives
-kind_value-returns-in_ok-lists-in-Extended-clause-gives t c = extended_is_read c.args.kind.now _ _ _ _ _ c.in-Extended.is (search rules) c.in_ok-lists-in-Extended.ensures.gives
+kind_value-returns-in_ok-lists-in-Extended-clause-gives t c = extended_is_read c.args.kind.now _ _ _ _ _ c.in-Extended.is c.in_ok-expect-in-Extended.ensures.reads.1 c.in_ok-lists-in-Extended.ensures.gives
+
+pub kind_value-returns-in_err-expect-in-Counted-clause-gives : goal.kind_value-returns-in_err-expect-in-Counted-clause-gives
+kind_value-returns-in_err-expect-in-Counted-clause-gives t c =
+    let p = err_from_is_err_and c.from_residual-in_err-expect-in-Counted.result c.from_residual-in_err-expect-in-Counted.ensures.1 in
+    rw (p.1, p.2) (counted_open c.args.kind.now _ _ _ _ c.in-Counted.is c.in_err-expect-in-Counted.ensures.reads)
+
+pub kind_value-counted_values-requires : goal.kind_value-counted_values-requires
+kind_value-counted_values-requires t c = (omega (arith, c.in_ok-expect-in-Counted.ensures.moves), readable_counted c.args.kind.now _ _ c.in-Counted.is (search rules) c.requires)
+
+pub kind_value-returns-in_err-values-in-Counted-clause-gives : goal.kind_value-returns-in_err-values-in-Counted-clause-gives
+kind_value-returns-in_err-values-in-Counted-clause-gives t c =
+    let p = err_from_is_err_and c.from_residual-in_err-values-in-Counted.result c.from_residual-in_err-values-in-Counted.ensures.1 in
+    rw (p.1, p.2) (counted_inside c.args.kind.now _ _ _ _ _ _ c.in-Counted.is (search rules) c.in_ok-expect-in-Counted.ensures.reads.1 c.in_err-values-in-Counted.ensures.gives)
 
 pub kind_value-returns-in_ok-values-in-Counted-clause-gives : goal.kind_value-returns-in_ok-values-in-Counted-clause-gives
-kind_value-returns-in_ok-values-in-Counted-clause-gives t c = counted_is_read c.args.kind.now _ _ _ _ _ _ c.in-Counted.is (search rules) (search rules) c.in_ok-values-in-Counted.ensures.gives
+kind_value-returns-in_ok-values-in-Counted-clause-gives t c = counted_is_read c.args.kind.now _ _ _ _ _ _ c.in-Counted.is (search rules) c.in_ok-expect-in-Counted.ensures.reads.1 c.in_ok-values-in-Counted.ensures.gives
+
+pub kind_value-returns-in_err-expect-in-ByFx-clause-gives : goal.kind_value-returns-in_err-expect-in-ByFx-clause-gives
+kind_value-returns-in_err-expect-in-ByFx-clause-gives t c =
+    let p = err_from_is_err_and c.from_residual-in_err-expect-in-ByFx.result c.from_residual-in_err-expect-in-ByFx.ensures.1 in
+    rw (p.1, p.2) (run_open c.args.kind.now _ _ _ _ c.in-ByFx.is c.in_err-expect-in-ByFx.ensures.reads)
+
+pub kind_value-run_values-requires-clause-readable : goal.kind_value-run_values-requires-clause-readable
+kind_value-run_values-requires-clause-readable t c = readable_run c.args.kind.now _ c.in-ByFx.is c.requires
+
+pub kind_value-returns-in_err-values-in-ByFx-clause-gives : goal.kind_value-returns-in_err-values-in-ByFx-clause-gives
+kind_value-returns-in_err-values-in-ByFx-clause-gives t c =
+    let p = err_from_is_err_and c.from_residual-in_err-values-in-ByFx.result c.from_residual-in_err-values-in-ByFx.ensures.1 in
+    rw (p.1, p.2) (run_inside c.args.kind.now _ _ _ _ _ c.in-ByFx.is c.in_ok-expect-in-ByFx.ensures.reads.1 c.in_err-values-in-ByFx.ensures.gives)
 
 pub kind_value-returns-in_ok-values-in-ByFx-clause-gives : goal.kind_value-returns-in_ok-values-in-ByFx-clause-gives
-kind_value-returns-in_ok-values-in-ByFx-clause-gives t c = run_is_read c.args.kind.now _ _ _ _ _ c.in-ByFx.is (search rules) c.in_ok-values-in-ByFx.ensures.gives
+kind_value-returns-in_ok-values-in-ByFx-clause-gives t c = run_is_read c.args.kind.now _ _ _ _ _ c.in-ByFx.is c.in_ok-expect-in-ByFx.ensures.reads.1 c.in_ok-values-in-ByFx.ensures.gives
+
+pub kind_value-returns-in_err-expect-in-Compound-clause-gives : goal.kind_value-returns-in_err-expect-in-Compound-clause-gives
+kind_value-returns-in_err-expect-in-Compound-clause-gives t c =
+    let p = err_from_is_err_and c.from_residual-in_err-expect-in-Compound.result c.from_residual-in_err-expect-in-Compound.ensures.1 in
+    rw (p.1, p.2) (compound_open c.args.kind.now _ _ _ _ c.in-Compound.is c.in_err-expect-in-Compound.ensures.reads)
+
+pub kind_value-returns-in_err-entries-in-Compound-clause-gives : goal.kind_value-returns-in_err-entries-in-Compound-clause-gives
+kind_value-returns-in_err-entries-in-Compound-clause-gives t c =
+    let p = err_from_is_err_and c.from_residual-in_err-entries-in-Compound.result c.from_residual-in_err-entries-in-Compound.ensures.1 in
+    rw (p.1, p.2) (compound_inside c.args.kind.now _ _ _ _ _ c.in-Compound.is c.in_ok-expect-in-Compound.ensures.reads.1 c.in_err-entries-in-Compound.ensures.gives)
 
 pub kind_value-returns-in_ok-entries-in-Compound-clause-gives : goal.kind_value-returns-in_ok-entries-in-Compound-clause-gives
-kind_value-returns-in_ok-entries-in-Compound-clause-gives t c = compound_is_read c.args.kind.now _ _ _ _ _ c.in-Compound.is (search rules) c.in_ok-entries-in-Compound.ensures.gives
+kind_value-returns-in_ok-entries-in-Compound-clause-gives t c = compound_is_read c.args.kind.now _ _ _ _ _ c.in-Compound.is c.in_ok-expect-in-Compound.ensures.reads.1 c.in_ok-entries-in-Compound.ensures.gives
 
 pub subitem-returns-in_err-value-clause-gives : goal.subitem-returns-in_err-value-clause-gives
 subitem-returns-in_err-value-clause-gives t c =

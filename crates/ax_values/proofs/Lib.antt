@@ -3,6 +3,7 @@ pub mod Counting
 pub mod Exact
 pub mod FixedRead
 pub mod Honest
+pub mod KindWays
 pub mod Marking
 pub mod NextEntry
 pub mod Onto

@@ -1,11 +1,13 @@
 use denote.Param.Weighed.{at_most}
 use Rattle.ax_model.proofs.kind.Slot.TheLaws.{the_size}
-use Rattle.std.proofs.Common.{◌≡◌, ◌+◌, ◌<◌, ◌≤◌, ℕ, List, true, false, length, map, get_or, ap, arith, refl, subst, sym, ◌∙◌}
+use Rattle.std.proofs.Common.{rules, ◌≡◌, ◌+◌, ◌<◌, ◌≤◌, ℕ, List, true, false, length, map, get_or, ap, arith, refl, subst, sym, ◌∙◌}
 use Rattle.std.proofs.lemmas.List.{length-map}
+use Rattle.std.proofs.lemmas.Result.{err_from_is_err_and}
 use Rattle.ax_model.proofs.Bounds.{count_of_slots}
 use Rattle.ax_model.specs.Plain.{kind_tree, slot_tree}
 use Rattle.ax_model.specs.Tree.{SlotTree, counted, compound, slots_of, slot_count}
 use Rattle.ax_values.proofs.Continuing.{err_by_fault, err_is}
+use Rattle.ax_values.proofs.KindWays.{failed_at, extended_is, counted_is, by_fx_is, explicit_is, compound_is, lists_got, values_got, octets_got, entries_got, sub_is, slot_failed, slot_wants, slot_read}
 use Rattle.ax_reader.proofs.Counting.{counted_none}
 use Rattle.ax_values.proofs.Counting.{CountedSoFar, counted_more, counted_failed}
 use Rattle.ax_reader.proofs.Marking.{field_failed, map_at, marks_bits, slot_in_bounds}
@@ -138,3 +140,65 @@ decode_marked-decode_slot-requires t c =
     let small = at_most the_size all i s within in
     let same_size : the_size s ≡ the_size (get_or all i s) = ap the_size is in
     (omega (arith, small, same_size, c.decreases), (slot_in_bounds all i s c.requires.bounds within is, (c.requires.body, (entries.within, entries_few all c.args.marked.now c.args.body.now i c.args.at c.loop-slot.here c.loop-slot.made entries within c.requires.few))))
+
+-- ---- the arms of a kind
+
+pub decode_value-returns-in_err-lists-in-Extended-clause-err : goal.decode_value-returns-in_err-lists-in-Extended-clause-err
+decode_value-returns-in_err-lists-in-Extended-clause-err t c =
+    let e = c.in_err-lists-in-Extended.field-0.0 in
+    err_is (kind_read (kind_tree c.args.kind.now) c.args.body.now c.args.at) c.args.at c.from_residual.result e c.from_residual.ensures.1
+    (failed_at _ _ c.args.body.now c.args.at e (extended_is c.args.kind.now _ c.in-Extended.is) c.in_err-lists-in-Extended.ensures.err)
+
+pub decode_value-returns-in_ok-lists-in-Extended-clause-ok : goal.decode_value-returns-in_ok-lists-in-Extended-clause-ok
+decode_value-returns-in_ok-lists-in-Extended-clause-ok t c = lists_got _ _ c.in_ok-lists-in-Extended.lists c.args.body.now c.args.at _ (extended_is c.args.kind.now _ c.in-Extended.is) c.in_ok-lists-in-Extended.ensures.ok
+
+pub decode_value-returns-in_err-values-in-Counted-clause-err : goal.decode_value-returns-in_err-values-in-Counted-clause-err
+decode_value-returns-in_err-values-in-Counted-clause-err t c =
+    let e = c.in_err-values-in-Counted.field-0.0 in
+    err_is (kind_read (kind_tree c.args.kind.now) c.args.body.now c.args.at) c.args.at c.from_residual-in_err-values-in-Counted.result e c.from_residual-in_err-values-in-Counted.ensures.1
+    (failed_at _ _ c.args.body.now c.args.at e (counted_is c.args.kind.now _ _ c.in-Counted.is (search rules)) c.in_err-values-in-Counted.ensures.err)
+
+pub decode_value-returns-in_ok-values-in-Counted-clause-ok : goal.decode_value-returns-in_ok-values-in-Counted-clause-ok
+decode_value-returns-in_ok-values-in-Counted-clause-ok t c = values_got _ _ c.in_ok-values-in-Counted.values c.args.body.now c.args.at _ (counted_is c.args.kind.now _ _ c.in-Counted.is (search rules)) c.in_ok-values-in-Counted.ensures.ok
+
+pub decode_value-returns-in_err-values-in-ByFx-clause-err : goal.decode_value-returns-in_err-values-in-ByFx-clause-err
+decode_value-returns-in_err-values-in-ByFx-clause-err t c =
+    let e = c.in_err-values-in-ByFx.field-0.0 in
+    err_is (kind_read (kind_tree c.args.kind.now) c.args.body.now c.args.at) c.args.at c.from_residual-in_err-values-in-ByFx.result e c.from_residual-in_err-values-in-ByFx.ensures.1
+    (failed_at _ _ c.args.body.now c.args.at e (by_fx_is c.args.kind.now _ c.in-ByFx.is) c.in_err-values-in-ByFx.ensures.err)
+
+pub decode_value-returns-in_ok-values-in-ByFx-clause-ok : goal.decode_value-returns-in_ok-values-in-ByFx-clause-ok
+decode_value-returns-in_ok-values-in-ByFx-clause-ok t c = values_got _ _ c.in_ok-values-in-ByFx.values c.args.body.now c.args.at _ (by_fx_is c.args.kind.now _ c.in-ByFx.is) c.in_ok-values-in-ByFx.ensures.ok
+
+pub decode_value-returns-in_err-octets-in-Explicit-clause-err : goal.decode_value-returns-in_err-octets-in-Explicit-clause-err
+decode_value-returns-in_err-octets-in-Explicit-clause-err t c =
+    let e = c.in_err-octets-in-Explicit.field-0.0 in
+    err_is (kind_read (kind_tree c.args.kind.now) c.args.body.now c.args.at) c.args.at c.from_residual-in_err-octets-in-Explicit.result e c.from_residual-in_err-octets-in-Explicit.ensures.1
+    (failed_at _ _ c.args.body.now c.args.at e (explicit_is c.args.kind.now c.in-Explicit.is) c.in_err-octets-in-Explicit.ensures.err)
+
+pub decode_value-returns-in_ok-octets-in-Explicit-clause-ok : goal.decode_value-returns-in_ok-octets-in-Explicit-clause-ok
+decode_value-returns-in_ok-octets-in-Explicit-clause-ok t c = octets_got _ _ c.in_ok-octets-in-Explicit.octets c.args.body.now c.args.at _ (explicit_is c.args.kind.now c.in-Explicit.is) c.in_ok-octets-in-Explicit.ensures.ok
+
+pub decode_value-returns-in_err-entries-in-Compound-clause-err : goal.decode_value-returns-in_err-entries-in-Compound-clause-err
+decode_value-returns-in_err-entries-in-Compound-clause-err t c =
+    let e = c.in_err-entries-in-Compound.field-0.0 in
+    err_is (kind_read (kind_tree c.args.kind.now) c.args.body.now c.args.at) c.args.at c.from_residual-in_err-entries-in-Compound.result e c.from_residual-in_err-entries-in-Compound.ensures.1
+    (failed_at _ _ c.args.body.now c.args.at e (compound_is c.args.kind.now _ c.in-Compound.is) c.in_err-entries-in-Compound.ensures.err)
+
+pub decode_value-returns-in_ok-entries-in-Compound-clause-ok : goal.decode_value-returns-in_ok-entries-in-Compound-clause-ok
+decode_value-returns-in_ok-entries-in-Compound-clause-ok t c = entries_got _ _ c.in_ok-entries-in-Compound.entries c.args.body.now c.args.at _ (compound_is c.args.kind.now _ c.in-Compound.is) c.in_ok-entries-in-Compound.ensures.ok
+
+-- ---- the entry of a slot
+
+pub decode_slot-returns-in_err-value-in-Sub-clause-err : goal.decode_slot-returns-in_err-value-in-Sub-clause-err
+decode_slot-returns-in_err-value-in-Sub-clause-err t c =
+    let p = err_from_is_err_and c.from_residual.result c.from_residual.ensures.1 in
+    rw (p.1, p.2) (slot_failed (slot_tree c.args.slot.now) _ _ c.args.body.now c.args.at _ (sub_is c.args.slot.now _ _ c.in-Sub.is) c.in_err-value-in-Sub.ensures.err)
+
+pub decode_slot-returns-in_err-push-in-Sub-clause-err : goal.decode_slot-returns-in_err-push-in-Sub-clause-err
+decode_slot-returns-in_err-push-in-Sub-clause-err t c =
+    let p = err_from_is_err_and c.from_residual-in_err-push-in-Sub.result c.from_residual-in_err-push-in-Sub.ensures.1 in
+    rw p.1 (slot_wants (slot_tree c.args.slot.now) _ _ c.args.body.now c.args.at _ (sub_is c.args.slot.now _ _ c.in-Sub.is) p.2)
+
+pub decode_slot-returns-in_ok-push-in-Sub-clause-ok : goal.decode_slot-returns-in_ok-push-in-Sub-clause-ok
+decode_slot-returns-in_ok-push-in-Sub-clause-ok t c = slot_read (slot_tree c.args.slot.now) _ _ c.args.number c.in_ok-value-in-Sub.value c.args.body.now c.args.at _ _ _ (sub_is c.args.slot.now _ _ c.in-Sub.is) c.in_ok-value-in-Sub.ensures.ok c.in_ok-push-in-Sub.ensures.ok

@@ -1,12 +1,12 @@
 -- Lists that are read member by member.
-use Rattle.std.proofs.Common.{◌≡◌, ℕ, List, [], ◌∷◌, ◌++◌, sym, ◌∙◌, ap, subst, append_assoc, ◌⊎◌}
+use Rattle.std.proofs.Common.{◌≡◌, ℕ, List, [], ◌∷◌, ◌++◌, sym, ◌∙◌, ap, subst, append_assoc, ◌⊎◌, Result, Ok, Err}
 use Rattle.std.proofs.lemmas.List.{append_cancel_right}
 use Rattle.ax_token_reader.specs.Stopping.{Texts, Stops, IsNotFirst, Word, Then}
 use Rattle.ax_token_reader.specs.declared.stopped.Stopped.{Stopped}
 use Rattle.ax_token_reader.specs.declared.stopped.Stopped.TheVariants.{Bad, OutOfMemory}
 use Rattle.ax_token_reader.proofs.Stops.{BeginsWith, same_lacks, first_lacks}
 use Rattle.ax_text.specs.ValueText.{closing}
-use Rattle.ax_block_reader.specs.Continuing.{Done, Continues, Spelled, IsRead}
+use Rattle.ax_block_reader.specs.Continuing.{Done, Continues, Spelled, IsRead, Gives}
 use Rattle.ax_block_reader.proofs.Continuations.{none_read, none_front, both_read, both_front, lacks_there, then_read, then_front, word_read, skip_read, skip_front, cut_stops, Prefixed, prefix_read}
 
 -- ---- what was read
@@ -27,6 +27,12 @@ prefix_is_read word R spell Q inner x y old mid new p h t e r = record {
   split = e ∙ ap (λ z. word ∷ z) r.split ∙ ap (λ z. z ++ new) (sym t);
   whole = both_read (Spelled R spell) (Spelled Q inner) Done old mid new (prefix_read word (Spelled Q inner) (Spelled R spell) old mid p e) r.whole;
 }
+
+-- what a call after a word gives
+pub prefix_gives : {T X : Type 0} (tree : T → X) (word : List ℕ) (R : X → Type 0) (spell : X → Texts) (Q : X → Type 0) (inner : X → Texts) (r : Result T Stopped) (old mid new : Texts) → Prefixed word (Spelled Q inner) (Spelled R spell) → ((x : X) → Q x → R x) → ((x : X) → spell x ≡ word ∷ inner x)
+    → old ≡ word ∷ mid → Gives tree Q inner r mid new → Gives tree R spell r old new
+prefix_gives tree word R spell Q inner (Ok t) old mid new p h s e g = prefix_is_read word R spell Q inner (tree t) (tree t) old mid new p (h (tree t) g.shape) (s (tree t)) e g
+prefix_gives tree word R spell Q inner (Err stopped) old mid new p h s e g = lacks_there (Spelled R spell) (Spelled Q inner) stopped old mid new (prefix_read word (Spelled Q inner) (Spelled R spell) old mid p e) g
 
 -- ---- members of a list
 

@@ -1,5 +1,5 @@
 -- Each way through the readers of extended items.
-use Rattle.std.proofs.Common.{◌≡◌, ℕ, ◌+◌, ◌<◌, ◌≤◌, ◌⊎◌, inl, inr, List, [], ◌∷◌, ◌++◌, refl, sym, ◌∙◌, ap, subst, length, drop, get_or, map, arith}
+use Rattle.std.proofs.Common.{◌≡◌, ℕ, ◌+◌, ◌<◌, ◌≤◌, ◌⊎◌, inl, inr, List, [], ◌∷◌, ◌++◌, refl, sym, ◌∙◌, ap, subst, length, drop, get_or, map, arith, Result}
 use Rattle.std.specs.List.{AllByRecursion}
 use Rattle.std.proofs.lemmas.List.{drop_all}
 use Rattle.ax_token_reader.specs.Stopping.{Texts, Stops, IsNotFirst, Word, Then}
@@ -13,11 +13,11 @@ use Rattle.ax_model.specs.declared.value.Value.{Value}
 use Rattle.ax_text.proofs.Printed.{from_place}
 use Rattle.ax_text.proofs.Unique.{different}
 use Rattle.ax_text.specs.ValueText.{opening, closing, part_word, members_onto, part_onto}
-use Rattle.ax_block_reader.specs.Continuing.{Continues, Spelled, IsRead}
+use Rattle.ax_block_reader.specs.Continuing.{Continues, Spelled, IsRead, Gives}
 use Rattle.ax_block_reader.specs.Languages.{members_texts, braced_texts, part_texts, parts_texts, LaterParts}
 use Rattle.ax_block_reader.specs.Readable.{MembersReadable}
-use Rattle.ax_block_reader.proofs.Continuations.{heads, tails, no_text, lacks_there, same_read, same_front, Prefixed, prefix_lacks, prefix_read}
-use Rattle.ax_block_reader.proofs.Collecting.{prefix_is_read, Collects, more_collected, all_collected, same_put, left_lacks, one_collected, one_lacks, skip_collected, Closes, closing_read, closing_lacks, closing_cut}
+use Rattle.ax_block_reader.proofs.Continuations.{heads, tails, no_text, same_read, same_front, Prefixed, prefix_lacks}
+use Rattle.ax_block_reader.proofs.Collecting.{prefix_gives, Collects, more_collected, all_collected, same_put, left_lacks, one_collected, one_lacks, skip_collected, Closes, closing_read, closing_lacks, closing_cut}
 use Rattle.ax_block_reader.proofs.FixedWays.{members_due_texts}
 use Rattle.ax_block_reader.proofs.Onto.{part_more}
 
@@ -38,13 +38,8 @@ braced_prefixed p = record { put = λ t m. (m.0, m.1, ap (λ x. opening ∷ x) m
 pub open_way : (p : MembersTree) (stopped : Stopped) (old new : Texts) → Stops stopped (Word opening) old new → Stops stopped (AreBraced p) old new
 open_way p stopped old new s = let d = members_due_texts p in prefix_lacks opening (AreMembers p) (AreBraced p) d.0 stopped old new (braced_prefixed p) d.1 s
 
-pub inside_way : (p : MembersTree) (stopped : Stopped) (old mid new : Texts) → old ≡ (opening ∷ []) ++ mid → Stops stopped (AreMembers p) mid new → Stops stopped (AreBraced p) old new
-inside_way p stopped old mid new e s = lacks_there (AreBraced p) (AreMembers p) stopped old mid new (prefix_read opening (AreMembers p) (AreBraced p) old mid (braced_prefixed p) e) s
-
-pub braced_read : (p : MembersTree) (vs : ValuesTree) (old mid new : Texts) → old ≡ (opening ∷ []) ++ mid → IsRead (MembersShape p) (members_texts p) vs mid new → IsRead (MembersShape p) (braced_texts p) vs old new
-braced_read p vs old mid new e r = prefix_is_read opening (MembersShape p) (braced_texts p) (MembersShape p) (members_texts p) vs vs old mid new (braced_prefixed p) r.shape refl e r
-
-pub ruleset braced_ways = (open_way, inside_way, braced_read)
+pub braced_gives : (p : MembersTree) (r : Result (List Value) Stopped) (old mid new : Texts) → old ≡ (opening ∷ []) ++ mid → Gives values_tree (MembersShape p) (members_texts p) r mid new → Gives values_tree (MembersShape p) (braced_texts p) r old new
+braced_gives p r old mid new e g = prefix_gives values_tree opening (MembersShape p) (braced_texts p) (MembersShape p) (members_texts p) r old mid new (braced_prefixed p) (λ vs h. h) (λ vs. refl) e g
 
 part_prefixed : (p : MembersTree) → Prefixed part_word (AreBraced p) (ArePart p)
 part_prefixed p = record { put = λ t m. (m.0, m.1, ap (λ x. part_word ∷ x) m.2); taken = λ t m. (braced_texts p m.0, m.2, (m.0, m.1, refl)) }
@@ -54,13 +49,8 @@ word_way p stopped old new s =
     let d = members_due_texts p in
     prefix_lacks part_word (AreBraced p) (ArePart p) (opening ∷ d.0) stopped old new (part_prefixed p) (d.1.0, d.1.1, ap (λ x. opening ∷ x) d.1.2) s
 
-pub after_way : (p : MembersTree) (stopped : Stopped) (old mid new : Texts) → old ≡ (part_word ∷ []) ++ mid → Stops stopped (AreBraced p) mid new → Stops stopped (ArePart p) old new
-after_way p stopped old mid new e s = lacks_there (ArePart p) (AreBraced p) stopped old mid new (prefix_read part_word (AreBraced p) (ArePart p) old mid (part_prefixed p) e) s
-
-pub part_read : (p : MembersTree) (vs : ValuesTree) (old mid new : Texts) → old ≡ (part_word ∷ []) ++ mid → IsRead (MembersShape p) (braced_texts p) vs mid new → IsRead (MembersShape p) (part_texts p) vs old new
-part_read p vs old mid new e r = prefix_is_read part_word (MembersShape p) (part_texts p) (MembersShape p) (braced_texts p) vs vs old mid new (part_prefixed p) r.shape refl e r
-
-pub ruleset part_ways = (word_way, after_way, part_read)
+pub part_gives : (p : MembersTree) (r : Result (List Value) Stopped) (old mid new : Texts) → old ≡ (part_word ∷ []) ++ mid → Gives values_tree (MembersShape p) (braced_texts p) r mid new → Gives values_tree (MembersShape p) (part_texts p) r old new
+part_gives p r old mid new e g = prefix_gives values_tree part_word (MembersShape p) (part_texts p) (MembersShape p) (braced_texts p) r old mid new (part_prefixed p) (λ vs h. h) (λ vs. refl) e g
 
 -- ---- lists in front of others
 

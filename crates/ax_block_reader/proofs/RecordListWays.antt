@@ -1,5 +1,5 @@
 -- Each way through the readers of lists of records.
-use Rattle.std.proofs.Common.{◌≡◌, ◌⊎◌, inl, inr, List, [], ◌∷◌, ◌++◌, refl, sym, ◌∙◌, ap, subst, arith, codes}
+use Rattle.std.proofs.Common.{◌≡◌, ◌⊎◌, inl, inr, List, [], ◌∷◌, ◌++◌, refl, sym, ◌∙◌, ap, subst, arith, codes, Result}
 use Rattle.std.specs.List.{AllByRecursion}
 use Rattle.ax_token_reader.specs.Stopping.{Texts, Stops, IsNotFirst, Word, Then}
 use Rattle.ax_token_reader.specs.declared.stopped.Stopped.{Stopped}
@@ -12,10 +12,10 @@ use Rattle.ax_model.specs.declared.record.Record.{Record}
 use Rattle.ax_text.proofs.Unique.{different}
 use Rattle.ax_text.specs.BlockText.{record_onto}
 use Rattle.ax_text.specs.ValueText.{opening, closing}
-use Rattle.ax_block_reader.specs.Continuing.{Continues, Spelled, IsRead}
+use Rattle.ax_block_reader.specs.Continuing.{Continues, Spelled, IsRead, Gives}
 use Rattle.ax_block_reader.specs.Records.{record_texts, SomeRecords, records_texts, braced_records_texts}
-use Rattle.ax_block_reader.proofs.Continuations.{heads, tails, no_text, lacks_there, same_read, same_front, Prefixed, prefix_lacks, prefix_read}
-use Rattle.ax_block_reader.proofs.Collecting.{prefix_is_read, Collects, none_collected, more_collected, all_collected, same_put, left_lacks, one_collected, one_lacks, skip_collected, Closes, closing_read, closing_cut}
+use Rattle.ax_block_reader.proofs.Continuations.{heads, tails, no_text, same_read, same_front, Prefixed, prefix_lacks}
+use Rattle.ax_block_reader.proofs.Collecting.{prefix_gives, Collects, none_collected, more_collected, all_collected, same_put, left_lacks, one_collected, one_lacks, skip_collected, Closes, closing_read, closing_cut}
 use Rattle.ax_block_reader.proofs.EntryWays.{no_entries_fit}
 use Rattle.ax_block_reader.proofs.Onto.{entries_more}
 
@@ -139,10 +139,5 @@ records_due spec = (omega arith, (record { shape = no_entries_fit 1 (record_slot
 pub open_way : (spec : SpecTree) (stopped : Stopped) (old new : Texts) → Stops stopped (Word opening) old new → Stops stopped (AreBraced spec) old new
 open_way spec stopped old new s = prefix_lacks opening (AreRecords spec) (AreBraced spec) (records_texts spec (no_entries ∷ [])) stopped old new (braced_prefixed spec) (no_entries ∷ [], records_due spec, refl) s
 
-pub inside_way : (spec : SpecTree) (stopped : Stopped) (old mid new : Texts) → old ≡ (opening ∷ []) ++ mid → Stops stopped (AreRecords spec) mid new → Stops stopped (AreBraced spec) old new
-inside_way spec stopped old mid new e s = lacks_there (AreBraced spec) (AreRecords spec) stopped old mid new (prefix_read opening (AreRecords spec) (AreBraced spec) old mid (braced_prefixed spec) e) s
-
-pub braced_read : (spec : SpecTree) (rs : List EntriesTree) (old mid new : Texts) → old ≡ (opening ∷ []) ++ mid → IsRead (SomeRecords spec) (records_texts spec) rs mid new → IsRead (SomeRecords spec) (braced_records_texts spec) rs old new
-braced_read spec rs old mid new e r = prefix_is_read opening (SomeRecords spec) (braced_records_texts spec) (SomeRecords spec) (records_texts spec) rs rs old mid new (braced_prefixed spec) r.shape refl e r
-
-pub ruleset braced_ways = (open_way, inside_way, braced_read)
+pub braced_gives : (spec : SpecTree) (r : Result (List Record) Stopped) (old mid new : Texts) → old ≡ (opening ∷ []) ++ mid → Gives records_tree (SomeRecords spec) (records_texts spec) r mid new → Gives records_tree (SomeRecords spec) (braced_records_texts spec) r old new
+braced_gives spec r old mid new e g = prefix_gives records_tree opening (SomeRecords spec) (braced_records_texts spec) (SomeRecords spec) (records_texts spec) r old mid new (braced_prefixed spec) (λ rs h. h) (λ rs. refl) e g

@@ -1,6 +1,6 @@
 -- Each way through the readers of a record.
 use Rattle.std.proofs.Common.{◌≡◌, ℕ, ◌+◌, ◌<◌, ◌≤◌, Bool, true, false, cond, List, [], ◌∷◌, ◌++◌, refl, sym, ◌∙◌, ap, subst, length, drop, get_or, map, codes, Some, None}
-use Rattle.std.specs.Prelude.{bytes_eq, Option}
+use Rattle.std.specs.Prelude.{bytes_eq, Option, Result}
 use Rattle.std.proofs.lemmas.List.{drop_all}
 use Rattle.std.proofs.lemmas.Slice.Eq.{bytes_eq-Decides}
 use Rattle.ax_token_reader.specs.Stopping.{Texts, Stops, IsNotFirst, Word}
@@ -10,23 +10,24 @@ use Rattle.ax_model.proofs.RecordFitting.{spare_is, item_is}
 use Rattle.ax_model.specs.Bodies.{RecordShape}
 use Rattle.ax_model.specs.Characters.{IsName}
 use Rattle.ax_model.specs.Lookup.{item_of_slot}
-use Rattle.ax_model.specs.Plain.{item_tree, kind_tree}
+use Rattle.ax_model.specs.Plain.{item_tree, kind_tree, entries_tree}
 use Rattle.ax_model.specs.Shape.{Shape, EntriesShape}
 use Rattle.ax_model.specs.Specification.{ItemTree, SpecTree, first_named, slot_of_item, uap_slot, record_slots}
 use Rattle.ax_model.specs.Tree.{SlotTree, SlotsTree, no_slots, slot_and, spare_slot, subitem, slots_of, ValueTree, EntriesTree}
 use Rattle.ax_model.specs.declared.spec.Item.{Item}
 use Rattle.ax_model.specs.declared.spec.UapSlot.{UapSlot}
 use Rattle.ax_model.specs.declared.spec.UapSlot.TheVariants as Uap
+use Rattle.ax_model.specs.declared.value.Entry.{Entry}
 use Rattle.ax_text.proofs.Printed.{from_place}
 use Rattle.ax_text.specs.Slots.{SlotShape}
 use Rattle.ax_text.specs.ValueText.{opening, closing}
-use Rattle.ax_block_reader.specs.Continuing.{Spelled, IsRead}
+use Rattle.ax_block_reader.specs.Continuing.{Spelled, IsRead, Gives}
 use Rattle.ax_block_reader.specs.Entries.{slot_texts, SlotNamed, IsNotNamed, IsNamedAt}
 use Rattle.ax_block_reader.specs.Languages.{kind_texts, entries_texts}
 use Rattle.ax_block_reader.specs.Readable.{Readable, SlotReadable}
 use Rattle.ax_block_reader.specs.Records.{braced_entries_texts, record_texts}
 use Rattle.ax_block_reader.proofs.Continuations.{lacks_there, Prefixed, prefix_lacks, prefix_read}
-use Rattle.ax_block_reader.proofs.Collecting.{prefix_is_read}
+use Rattle.ax_block_reader.proofs.Collecting.{prefix_is_read, prefix_gives}
 use Rattle.ax_block_reader.proofs.EntryWays.{entries_due}
 use Rattle.ax_block_reader.proofs.KindWays.{slot_way, slot_is_read}
 
@@ -127,14 +128,8 @@ braced_prefixed spec = record { put = λ t m. (m.0, m.1, ap (λ x. opening ∷ x
 pub open_way : (spec : SpecTree) (stopped : Stopped) (old new : Texts) → Stops stopped (Word opening) old new → Stops stopped (AreBraced spec) old new
 open_way spec stopped old new s = prefix_lacks opening (AreEntries spec) (AreBraced spec) (closing ∷ []) stopped old new (braced_prefixed spec) (entries_due 1 (record_slots spec)) s
 
-pub inside_way : (spec : SpecTree) (stopped : Stopped) (old mid new : Texts) → old ≡ (opening ∷ []) ++ mid → Stops stopped (AreEntries spec) mid new → Stops stopped (AreBraced spec) old new
-inside_way spec stopped old mid new e s = lacks_there (AreBraced spec) (AreEntries spec) stopped old mid new (prefix_read opening (AreEntries spec) (AreBraced spec) old mid (braced_prefixed spec) e) s
-
-pub braced_read : (spec : SpecTree) (es : EntriesTree) (old mid new : Texts) → old ≡ (opening ∷ []) ++ mid → IsRead (EntriesShape 1 (record_slots spec)) (entries_texts 1 (record_slots spec)) es mid new → IsRead (EntriesShape 1 (record_slots spec)) (braced_entries_texts spec) es old new
-braced_read spec es old mid new e r =
-    prefix_is_read opening (EntriesShape 1 (record_slots spec)) (braced_entries_texts spec) (EntriesShape 1 (record_slots spec)) (entries_texts 1 (record_slots spec)) es es old mid new (braced_prefixed spec) r.shape refl e r
-
-pub ruleset braced_ways = (open_way, inside_way, braced_read)
+pub braced_gives : (spec : SpecTree) (r : Result (List Entry) Stopped) (old mid new : Texts) → old ≡ (opening ∷ []) ++ mid → Gives entries_tree (EntriesShape 1 (record_slots spec)) (entries_texts 1 (record_slots spec)) r mid new → Gives entries_tree (EntriesShape 1 (record_slots spec)) (braced_entries_texts spec) r old new
+braced_gives spec r old mid new e g = prefix_gives entries_tree opening (EntriesShape 1 (record_slots spec)) (braced_entries_texts spec) (EntriesShape 1 (record_slots spec)) (entries_texts 1 (record_slots spec)) r old mid new (braced_prefixed spec) (λ es h. h) (λ es. refl) e g
 
 record_prefixed : (spec : SpecTree) → Prefixed (codes "record") (AreBraced spec) (AreRecord spec)
 record_prefixed spec = record {

@@ -14,7 +14,6 @@ use ax_token_reader::{Reader, Stopped};
 use std::alloc::Global;
 
 /// Members in braces.
-#[tactic(auto, using(crate::proofs::PartWays::braced_ways))]
 fn braced_members(
     alloc: Global,
     reader: &mut Reader<'_, '_>,
@@ -25,20 +24,17 @@ fn braced_members(
     ensures moves { OnOk result (length reader.new < length reader.old) }
 {
     reader.expect(b"{")?;
-    let values = member_values(alloc, reader, members)?;
-    Ok(values)
+    member_values(alloc, reader, members)
 }
 
 /// A part: `part` and its members in braces.
-#[tactic(auto, using(crate::proofs::PartWays::part_ways))]
 fn part_values(alloc: Global, reader: &mut Reader<'_, '_>, part: &Part) -> Result<Values, Stopped>
     requires { MembersReadable (part_tree part.now) }
     ensures gives { Gives values_tree (MembersShape (part_tree part.now)) (part_texts (part_tree part.now)) result reader.old reader.new }
     ensures moves { OnOk result (length reader.new < length reader.old) }
 {
     reader.expect(b"part")?;
-    let values = braced_members(alloc, reader, &part.members)?;
-    Ok(values)
+    braced_members(alloc, reader, &part.members)
 }
 
 /// The values of the parts that are present, the first and maybe later ones, and the brace after them.

@@ -100,7 +100,6 @@ fn record_entries(
 }
 
 /// The entries of a record in braces.
-#[tactic(auto, using(crate::proofs::RecordWays::braced_ways))]
 fn braced_entries(
     alloc: Global,
     reader: &mut Reader<'_, '_>,
@@ -111,8 +110,7 @@ fn braced_entries(
     ensures moves { OnOk result (length reader.new < length reader.old) }
 {
     reader.expect(b"{")?;
-    let entries = record_entries(alloc, reader, items)?;
-    Ok(entries)
+    record_entries(alloc, reader, items)
 }
 
 /// A record: `record` and its entries in braces.
@@ -154,7 +152,6 @@ fn records(
 }
 
 /// One or more records in braces.
-#[tactic(auto, using(crate::proofs::RecordListWays::braced_ways))]
 pub(crate) fn braced_records(
     alloc: Global,
     reader: &mut Reader<'_, '_>,
@@ -165,6 +162,5 @@ pub(crate) fn braced_records(
     ensures moves { OnOk result (length reader.new < length reader.old) }
 {
     reader.expect(b"{")?;
-    let made = records(alloc, reader, items)?;
-    Ok(made)
+    records(alloc, reader, items)
 }

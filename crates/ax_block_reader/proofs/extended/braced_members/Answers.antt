@@ -1,6 +1,7 @@
-use Rattle.std.proofs.lemmas.Result.{err_from_is_err_and}
+use Rattle.std.proofs.Common.{arith}
+use Rattle.std.proofs.lemmas.Result.{err_from_is_err_and, on_ok_weaker}
 use Rattle.ax_model.specs.Plain.{members_tree}
-use Rattle.ax_block_reader.proofs.PartWays.{open_way, inside_way, braced_read}
+use Rattle.ax_block_reader.proofs.PartWays.{open_way, braced_gives}
 use Rattle.ax_block_reader.proofs.extended.braced_members.Goals as goal
 
 pub returns-in_err-expect-clause-gives : goal.returns-in_err-expect-clause-gives
@@ -8,10 +9,8 @@ returns-in_err-expect-clause-gives c =
     let p = err_from_is_err_and c.from_residual.result c.from_residual.ensures.1 in
     rw (p.1, p.2) (open_way (members_tree c.args.members.now) _ _ _ c.in_err-expect.ensures.reads)
 
-pub returns-in_err-values-clause-gives : goal.returns-in_err-values-clause-gives
-returns-in_err-values-clause-gives c =
-    let p = err_from_is_err_and c.from_residual-in_err-values.result c.from_residual-in_err-values.ensures.1 in
-    rw (p.1, p.2) (inside_way (members_tree c.args.members.now) _ _ _ _ c.in_ok-expect.ensures.reads.1 c.in_err-values.ensures.gives)
-
 pub returns-clause-gives : goal.returns-clause-gives
-returns-clause-gives c = braced_read (members_tree c.args.members.now) _ _ _ _ c.in_ok-expect.ensures.reads.1 c.in_ok-values.ensures.gives
+returns-clause-gives c = braced_gives (members_tree c.args.members.now) c.member_values.result _ _ _ c.in_ok-expect.ensures.reads.1 c.member_values.ensures.gives
+
+pub returns-clause-moves : goal.returns-clause-moves
+returns-clause-moves c = on_ok_weaker c.member_values.result (λ lt. omega (arith, lt, c.in_ok-expect.ensures.moves)) c.member_values.ensures.moves

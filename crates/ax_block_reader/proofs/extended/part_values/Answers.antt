@@ -1,6 +1,7 @@
-use Rattle.std.proofs.lemmas.Result.{err_from_is_err_and}
+use Rattle.std.proofs.Common.{arith}
+use Rattle.std.proofs.lemmas.Result.{err_from_is_err_and, on_ok_weaker}
 use Rattle.ax_model.specs.Plain.{part_tree}
-use Rattle.ax_block_reader.proofs.PartWays.{word_way, after_way, part_read}
+use Rattle.ax_block_reader.proofs.PartWays.{word_way, part_gives}
 use Rattle.ax_block_reader.proofs.extended.part_values.Goals as goal
 
 pub returns-in_err-expect-clause-gives : goal.returns-in_err-expect-clause-gives
@@ -8,10 +9,8 @@ returns-in_err-expect-clause-gives c =
     let p = err_from_is_err_and c.from_residual.result c.from_residual.ensures.1 in
     rw (p.1, p.2) (word_way (part_tree c.args.part.now) _ _ _ c.in_err-expect.ensures.reads)
 
-pub returns-in_err-values-clause-gives : goal.returns-in_err-values-clause-gives
-returns-in_err-values-clause-gives c =
-    let p = err_from_is_err_and c.from_residual-in_err-values.result c.from_residual-in_err-values.ensures.1 in
-    rw (p.1, p.2) (after_way (part_tree c.args.part.now) _ _ _ _ c.in_ok-expect.ensures.reads.1 c.in_err-values.ensures.gives)
-
 pub returns-clause-gives : goal.returns-clause-gives
-returns-clause-gives c = part_read (part_tree c.args.part.now) _ _ _ _ c.in_ok-expect.ensures.reads.1 c.in_ok-values.ensures.gives
+returns-clause-gives c = part_gives (part_tree c.args.part.now) c.braced_members.result _ _ _ c.in_ok-expect.ensures.reads.1 c.braced_members.ensures.gives
+
+pub returns-clause-moves : goal.returns-clause-moves
+returns-clause-moves c = on_ok_weaker c.braced_members.result (λ lt. omega (arith, lt, c.in_ok-expect.ensures.moves)) c.braced_members.ensures.moves

@@ -2,14 +2,24 @@ use Rattle.std.proofs.Common.{rules, Ok, map, ◌≡◌, ◌∷◌, ◌++◌, []
 use Rattle.std.proofs.lemmas.List.{length_push}
 use Rattle.std.proofs.lemmas.Result.{err_from_is_err_and}
 use Rattle.ax_model.specs.Plain.{part_tree}
-use Rattle.ax_block_reader.proofs.PartWays.{first_lacks, first_part_read, parts_cut, parts_end, parts_lack, part_lacks, part_more_read}
+use Rattle.ax_block_reader.proofs.PartWays.{first_readable, first_lacks, first_part_read, parts_cut, parts_end, parts_lack, part_readable, part_lacks, part_more_read}
 use Rattle.ax_block_reader.proofs.extended.parts_present.Goals as goal
+
+pub part_values-requires : goal.part_values-requires
+part_values-requires c =
+    let split : c.args.parts.now ≡ c.in-Some.first.now ∷ c.in-Some.later.now = search rules in
+    first_readable _ _ _ split c.requires.readable
 
 pub returns-in_err-values-clause-gives : goal.returns-in_err-values-clause-gives
 returns-in_err-values-clause-gives c =
     let p = err_from_is_err_and c.from_residual.result c.from_residual.ensures.1 in
     let split : c.args.parts.now ≡ c.in-Some.first.now ∷ c.in-Some.later.now = search rules in
     rw (p.1, p.2) (first_lacks _ _ _ split _ _ _ c.in_err-values.ensures.gives)
+
+pub returns-in_err-push-clause-gives : goal.returns-in_err-push-clause-gives
+returns-in_err-push-clause-gives c =
+    let p = err_from_is_err_and c.from_residual-in_err-push.result c.from_residual-in_err-push.ensures.1 in
+    rw (p.1, p.2) tt
 
 pub loop-part-init : goal.loop-part-init
 loop-part-init c =
@@ -20,6 +30,14 @@ loop-part-init c =
       count = ap length pushed;
       less = c.in_ok-values.ensures.moves;
     }
+
+pub part_values-requires-in-loop-part : goal.part_values-requires-in-loop-part
+part_values-requires-in-loop-part c = part_readable (map part_tree c.args.parts.now) c.in-Some.later.now c.loop-part.part-index c.part-item.result (omega arith) c.part-item.is _ _ _ c.loop-part.invariant.read
+
+pub returns-in_err-push-2-clause-gives : goal.returns-in_err-push-2-clause-gives
+returns-in_err-push-2-clause-gives c =
+    let p = err_from_is_err_and c.from_residual-in_err-push-2.result c.from_residual-in_err-push-2.ensures.1 in
+    rw (p.1, p.2) tt
 
 pub loop-part-preserved : goal.loop-part-preserved
 loop-part-preserved c =

@@ -2,6 +2,7 @@ pub mod Continuing
 pub mod Counting
 pub mod Exact
 pub mod FixedRead
+pub mod FixedWays
 pub mod Honest
 pub mod KindWays
 pub mod Marking

@@ -3,7 +3,8 @@ use Rattle.ax_model.specs.Plain.{part_tree, lists_tree}
 use Rattle.ax_model.specs.Widths.{members_width}
 use Rattle.ax_model.specs.Tree.{extended, part_values}
 use Rattle.ax_reader.proofs.AtOctets.{extended_gets, extended_fails}
-use Rattle.ax_values.proofs.Continuing.{err_by_fault}
+use Rattle.std.proofs.lemmas.Result.{err_from_is_err_and}
+use Rattle.ax_values.proofs.Continuing.{err_by_fault, failed_by_want}
 use Rattle.ax_values.proofs.Repeating.{PartsSoFar, unit_is, part_bounds, part_more, part_last, part_short}
 use Rattle.ax_reader.specs.Reading.{Gets, kind_read}
 use Rattle.ax_values.proofs.units.decode_parts.Goals as goal
@@ -58,3 +59,23 @@ loop-part-preserved c =
     let one : c.has_fx.result ≡ true = c.if-not-has_fx.false in
     subst (λ made. PartsSoFar all (i + 1) body c.args.at end made) (sym c.in_ok-push.ensures.ok)
     (part_more all i p body c.args.at here end w c.loop-part.made c.in_ok-values.values c.has_fx.result c.loop-part.invariant within is u refl one c.in_ok-values.ensures.values)
+
+pub decode_members-requires-clause-bounds : goal.decode_members-requires-clause-bounds
+decode_members-requires-clause-bounds c =
+    let all = c.args.parts.now in
+    let i = c.loop-part.part-index in
+    let p = c.part-item.result in
+    let same = c.as_slice-part-items.ensures.members in
+    let within : i < length all = subst (λ xs. i < length xs) same c.loop-part-test.true in
+    let is : p ≡ get_or all i p = subst (λ xs. p ≡ get_or xs i p) same c.part-item.is in
+    (part_bounds all i p c.args.body.now c.args.at c.loop-part.here c.loop-part.made c.loop-part.invariant within is).2
+
+pub returns-in_err-values-clause-err : goal.returns-in_err-values-clause-err
+returns-in_err-values-clause-err c =
+    let p = err_from_is_err_and c.from_residual-in_err-values.result c.from_residual-in_err-values.ensures.1 in
+    rw p.1 (failed_by_want (kind_read (extended (map part_tree c.args.parts.now)) c.args.body.now c.args.at) c.args.at _ p.2)
+
+pub returns-in_err-push-clause-err : goal.returns-in_err-push-clause-err
+returns-in_err-push-clause-err c =
+    let p = err_from_is_err_and c.from_residual-in_err-push.result c.from_residual-in_err-push.ensures.1 in
+    rw p.1 (failed_by_want (kind_read (extended (map part_tree c.args.parts.now)) c.args.body.now c.args.at) c.args.at _ p.2)

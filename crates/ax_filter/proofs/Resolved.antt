@@ -1,5 +1,6 @@
 -- Paths of an expression, resolved.
-use Rattle.std.proofs.Common.{◌≡◌, ℕ, List, [], ◌∷◌, map, Option, Some, None, option_and_then, refl, sym, ◌∙◌, ap}
+use Rattle.std.proofs.Common.{◌≡◌, ℕ, ◌+◌, ◌<◌, List, [], ◌∷◌, ◌++◌, length, map, take, get_or, Option, Some, None, option_and_then, refl, sym, ◌∙◌, ap}
+use Rattle.std.proofs.lemmas.List.{map-append, take_more}
 use Rattle.ax_check.specs.Places.{place_of, element_at}
 use Rattle.ax_model.specs.Specification.{SpecTree, spec_of}
 use Rattle.ax_model.specs.Tree.{element, group, MembersTree}
@@ -7,10 +8,11 @@ use Rattle.ax_model.specs.declared.content.Content.{Content}
 use Rattle.ax_model.specs.declared.place.Place.{Place}
 use Rattle.ax_filter.specs.Faults.{place_in, element_in}
 use Rattle.ax_filter.specs.Meaning.{is_signed}
-use Rattle.ax_filter.specs.Tests.{test_and, tests_of, element_for, element_at_path, resolved, all_resolved}
+use Rattle.ax_filter.specs.Tests.{TestTree, test_and, tests_of, test_tree, element_for, element_at_path, resolved, all_resolved}
 use Rattle.ax_filter.specs.Tree.{exprs_of, expr_tree}
 use Rattle.ax_filter.specs.declared.expr.Expr.{Expr}
 use Rattle.ax_filter.specs.declared.expr.FullPath.{FullPath}
+use Rattle.ax_filter.specs.declared.test.Test.{Test}
 use Rattle.ax_filter.proofs.Leads.{place_is, element_is, no_file}
 
 pub there : (catalogue : List SpecTree) (path : FullPath) (spec : SpecTree) (place : Option Place) → spec_of path.category catalogue ≡ Some spec → place ≡ place_of spec path.names → place ≡ place_in catalogue path
@@ -52,3 +54,9 @@ pub ruleset elements = (no_spec, no_place, no_element, a_group, an_element)
 pub each_resolved : (catalogue : List SpecTree) (es : List Expr) → tests_of (map (λ e. resolved catalogue (expr_tree e)) es) ≡ all_resolved catalogue (exprs_of (map expr_tree es))
 each_resolved catalogue [] = refl
 each_resolved catalogue (e ∷ es) = ap (test_and (resolved catalogue (expr_tree e))) (each_resolved catalogue es)
+
+pub one_more : (rule : Expr → TestTree) (i : ℕ) (es : List Expr) (e : Expr) (t : Test) (made new : List Test) → i < length es → e ≡ get_or es i e → new ≡ made ++ t ∷ [] → test_tree t ≡ rule e
+    → map test_tree made ≡ map rule (take i es) → map test_tree new ≡ map rule (take (i + 1) es)
+one_more rule i es e t made new within is n one h =
+    ap (map test_tree) n ∙ map-append test_tree made (t ∷ []) ∙ (λ j. h j ++ one j ∷ []) ∙ sym (map-append rule (take i es) (e ∷ []))
+    ∙ ap (map rule) (sym (take_more es i e within ∙ ap (λ x. take i es ++ x ∷ []) (sym is)))

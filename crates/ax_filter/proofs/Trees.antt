@@ -28,7 +28,7 @@ any_tree es = ap expr_tree (sym (rolls-Any es)) ∙ fold-roll-Expr ExprTree expr
 pub not_tree : (box : Box Expr Global) (e : Expr) → box.value ≡ e → expr_tree (Not box) ≡ not_of (expr_tree e)
 not_tree box e same = ap expr_tree (sym (rolls-Not box)) ∙ fold-roll-Expr ExprTree expr_step (Expr-F.Not box) ∙ ap (λ x. not_of (expr_tree x)) same
 
-present_tree : (path : FullPath) → expr_tree (Present path) ≡ present path
+pub present_tree : (path : FullPath) → expr_tree (Present path) ≡ present path
 present_tree path = ap expr_tree (sym (rolls-Present path)) ∙ fold-roll-Expr ExprTree expr_step (Expr-F.Present path)
 
 is_tree : (path : FullPath) (op : Op) (number : ℤ) → expr_tree (Is path op number) ≡ compared path op number

@@ -1,6 +1,6 @@
 -- Each way through the rules.
 use Rattle.std.proofs.Common.{◌≡◌, ℕ, List, [], ◌∷◌, ◌++◌, map, refl, sym, ◌∙◌, ap, subst, codes, append_assoc, append-nil, lit<, pos}
-use Rattle.std.specs.Prelude.{decimal}
+use Rattle.std.specs.Prelude.{decimal, Result, Ok, Err}
 use Rattle.ax_token_reader.specs.Stopping.{Texts, StopsAt, Stops, IsNotFirst, Word, One, joined, Closed}
 use Rattle.ax_token_reader.specs.declared.stopped.Stopped.{Stopped}
 use Rattle.ax_token_reader.specs.declared.stopped.Stopped.TheVariants.{Bad, OutOfMemory}
@@ -8,14 +8,14 @@ use Rattle.ax_token_reader.proofs.Stops.{PrefixFree, first_lacks, second_lacks, 
 use Rattle.ax_filter.specs.Words.{op_text, keyword_text, path_word, IsPath, IsPathText, IsIntText, IsOpText, IsKeyword}
 use Rattle.ax_filter.specs.Tree.{ExprTree, all_of, ExprsTree, no_exprs, exprs_of, expr_tree}
 use Rattle.ax_filter.specs.Spelling.{opening, closing, expr_texts, exprs_texts, InForm, AllInForm, IsExpr}
-use Rattle.ax_filter.specs.Parts.{IsOpAndInt, IsComparison, IsBraced, IsClosed, IsNegated}
+use Rattle.ax_filter.specs.Parts.{IsOpAndInt, IsComparison, IsBraced, IsClosed, IsNegated, Gives}
 use Rattle.ax_filter.specs.declared.expr.Expr.{Expr}
 use Rattle.ax_filter.specs.declared.expr.FullPath.{FullPath}
 use Rattle.ax_filter.specs.declared.expr.Op.{Op}
 use Rattle.ax_filter.specs.declared.expr.Op.TheVariants.{Equal}
 use Rattle.ax_filter.specs.declared.words.Keyword.TheVariants as Word
 use Rattle.ax_filter.proofs.Unique.{expr_free, expr_never}
-use Rattle.ax_filter.proofs.Arms.{scatter, all_stops, any_stops, not_stops, present_stops, is_stops, word_stops}
+use Rattle.ax_filter.proofs.Arms.{scatter, word_stops}
 
 first_same : (a b : List ℕ) (x y : Texts) → a ∷ x ≡ b ∷ y → a ≡ b
 first_same a b x y e = cc
@@ -96,6 +96,10 @@ list_ends old now new made r e = (r.form, r.split ∙ ap (λ t. exprs_texts (tre
 
 pub ruleset exprs_ways = (none_so_far, one_more, list_cut, list_stops, list_ends)
 
+-- the tokens end before the brace that closes the list
+pub list_cut_short : (stopped : Stopped) (old now new : Texts) (made : List Expr) → ReadSoFar old now made → (stopped ≡ Bad) × (now ≡ []) × (new ≡ []) → Stops stopped (Closed IsExpr closing) old new
+list_cut_short stopped old now new made r e = subst (λ s. Stops s (Closed IsExpr closing) old new) (sym e.0) (list_cut old now new made r e.1 e.2)
+
 -- ---- braces
 
 pub open_lacks : (stopped : Stopped) (old new : Texts) → Stops stopped (Word opening) old new → Stops stopped IsBraced old new
@@ -105,6 +109,12 @@ pub list_lacks : (stopped : Stopped) (old mid new : Texts) → old ≡ (opening 
 list_lacks stopped old mid new e s = second_lacks (Word opening) (Closed IsExpr closing) (word_free opening) stopped old (opening ∷ []) mid new refl e s
 
 pub ruleset braced_ways = (open_lacks, list_lacks)
+
+-- what the list gives, with the brace before it
+pub braced_gives : (result : Result (List Expr) Stopped) (old mid new : Texts) → old ≡ (opening ∷ []) ++ mid → Gives (λ es. AllInForm (tree_of es)) (λ es. exprs_texts (tree_of es) ++ closing ∷ []) (Closed IsExpr closing) result mid new
+    → Gives (λ es. AllInForm (tree_of es)) (λ es. opening ∷ (exprs_texts (tree_of es) ++ closing ∷ [])) IsBraced result old new
+braced_gives (Ok es) old mid new e h = (h.0, e ∙ ap (λ t. opening ∷ t) h.1)
+braced_gives (Err stopped) old mid new e h = list_lacks stopped old mid new e h
 
 pub inner_lacks : (stopped : Stopped) (old new : Texts) → Stops stopped IsExpr old new → Stops stopped IsClosed old new
 inner_lacks = first_lacks IsExpr (Word closing) (closing ∷ []) refl
@@ -128,12 +138,16 @@ closed_lacks stopped old mid new e s = second_lacks (Word opening) IsClosed (wor
 
 pub ruleset negated_ways = (brace_lacks, closed_lacks)
 
+-- what the expression and the brace after it give, with the brace before them
+pub negated_gives : (result : Result Expr Stopped) (old mid new : Texts) → old ≡ (opening ∷ []) ++ mid → Gives (λ e. InForm (expr_tree e)) (λ e. expr_texts (expr_tree e) ++ closing ∷ []) IsClosed result mid new
+    → Gives (λ e. InForm (expr_tree e)) (λ e. opening ∷ (expr_texts (expr_tree e) ++ closing ∷ [])) IsNegated result old new
+negated_gives (Ok x) old mid new e h = (h.0, e ∙ ap (λ t. opening ∷ t) h.1)
+negated_gives (Err stopped) old mid new e h = closed_lacks stopped old mid new e h
+
 -- ---- expressions
 
-pub word_lacks : (old : Texts) → IsNotFirst IsKeyword old → StopsAt IsExpr old old
-word_lacks old n = word_stops old n
-
-pub ruleset expr_ways = (word_lacks, all_stops, any_stops, not_stops, present_stops, is_stops)
+pub no_word : (stopped : Stopped) (old : Texts) → (stopped ≡ Bad) × IsNotFirst IsKeyword old → Stops stopped IsExpr old old
+no_word stopped old n = subst (λ s. Stops s IsExpr old old) (sym n.0) (word_stops old n.1)
 
 -- the texts of a variant are its first word and what stood after it
 pub arm_read : (e f : ExprTree) (word : List ℕ) (t old rest new : Texts) → e ≡ f → InForm f → expr_texts f ≡ word ∷ t → old ≡ word ∷ rest → rest ≡ t ++ new → InForm e × (old ≡ expr_texts e ++ new)

@@ -3,7 +3,7 @@ use ax_lists::Sequence;
 use ax_model::Path;
 
 /// How two numbers compare.
-#[derive(Clone, Copy, Debug, PartialEq, Eq)]
+#[derive(Clone, Copy)]
 pub enum Op {
     Equal,
     Unequal,

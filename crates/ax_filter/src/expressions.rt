@@ -94,7 +94,6 @@ fn comparison(alloc: Global, reader: &mut Reader<'_, '_>) -> Result<(FullPath, O
 
 /// Expressions up to the brace that closes them.
 #[cycle(read_expr)]
-#[tactic(auto, using(crate::proofs::Ways::exprs_ways))]
 fn exprs(alloc: Global, reader: &mut Reader<'_, '_>) -> Result<Exprs, Stopped>
     requires { length reader.old < 4294967296 }
     ensures gives { Gives (λ es. AllInForm (exprs_of (map expr_tree es))) (λ es. exprs_texts (exprs_of (map expr_tree es)) ++ closing ∷ []) (Closed IsExpr closing) result reader.old reader.new }
@@ -110,7 +109,6 @@ fn exprs(alloc: Global, reader: &mut Reader<'_, '_>) -> Result<Exprs, Stopped>
 
 /// Expressions in braces.
 #[cycle(read_expr)]
-#[tactic(auto, using(crate::proofs::Ways::braced_ways))]
 fn braced(alloc: Global, reader: &mut Reader<'_, '_>) -> Result<Exprs, Stopped>
     ensures gives { Gives (λ es. AllInForm (exprs_of (map expr_tree es))) (λ es. opening ∷ (exprs_texts (exprs_of (map expr_tree es)) ++ closing ∷ [])) IsBraced result reader.old reader.new }
     ensures moves { OnOk result (length reader.new < length reader.old) }
@@ -121,7 +119,6 @@ fn braced(alloc: Global, reader: &mut Reader<'_, '_>) -> Result<Exprs, Stopped>
 
 /// An expression and the brace after it.
 #[cycle(read_expr)]
-#[tactic(auto, using(crate::proofs::Ways::closed_ways))]
 fn closed(alloc: Global, reader: &mut Reader<'_, '_>) -> Result<Expr, Stopped>
     ensures gives { Gives (λ e. InForm (expr_tree e)) (λ e. expr_texts (expr_tree e) ++ closing ∷ []) IsClosed result reader.old reader.new }
     ensures moves { OnOk result (length reader.new < length reader.old) }
@@ -133,7 +130,6 @@ fn closed(alloc: Global, reader: &mut Reader<'_, '_>) -> Result<Expr, Stopped>
 
 /// An expression in braces.
 #[cycle(read_expr)]
-#[tactic(auto, using(crate::proofs::Ways::negated_ways))]
 fn negated(alloc: Global, reader: &mut Reader<'_, '_>) -> Result<Expr, Stopped>
     ensures gives { Gives (λ e. InForm (expr_tree e)) (λ e. opening ∷ (expr_texts (expr_tree e) ++ closing ∷ [])) IsNegated result reader.old reader.new }
     ensures moves { OnOk result (length reader.new < length reader.old) }
@@ -144,7 +140,6 @@ fn negated(alloc: Global, reader: &mut Reader<'_, '_>) -> Result<Expr, Stopped>
 
 /// An expression. Tokens may follow it.
 #[cycle(read_expr)]
-#[tactic(auto, using(crate::proofs::Ways::expr_ways))]
 pub fn expr(alloc: Global, reader: &mut Reader<'_, '_>) -> Result<Expr, Stopped>
     ensures gives { Gives (λ e. InForm (expr_tree e)) (λ e. expr_texts (expr_tree e)) IsExpr result reader.old reader.new }
     ensures moves { OnOk result (length reader.new < length reader.old) }

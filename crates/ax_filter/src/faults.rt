@@ -11,7 +11,7 @@ use ax_tokens::Tokens;
 use std::alloc::{AllocError, Global};
 
 /// Where a text leads as a path.
-#[derive(Clone, Copy, Debug, PartialEq, Eq)]
+#[derive(Clone, Copy)]
 pub enum Lead {
     /// It is no path.
     NoPath,
@@ -43,7 +43,7 @@ fn lead_of(alloc: Global, text: &[u8], catalogue: &Catalogue) -> Result<Lead, Al
 }
 
 /// A token that is a path and leads nowhere, or after `is` to no element.
-#[derive(Clone, Copy, Debug, PartialEq, Eq)]
+#[derive(Clone, Copy)]
 pub enum PathFault {
     Unknown { token: u32 },
     NoElement { token: u32 },

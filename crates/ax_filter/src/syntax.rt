@@ -10,7 +10,7 @@ use ax_tokens::Tokens;
 use std::alloc::Global;
 
 /// Why tokens spell no expression.
-#[derive(Debug, Drop)]
+#[derive(Drop)]
 pub enum SyntaxError {
     /// The first token through which no expression begins, from 0, or the count of the tokens.
     BadToken { token: u32 },

@@ -44,7 +44,7 @@ pub fn op_in(text: &[u8]) -> Option<Op>
 }
 
 /// The first word of an expression.
-#[derive(Clone, Copy, Debug, PartialEq, Eq)]
+#[derive(Clone, Copy)]
 pub enum Keyword {
     All,
     Any,

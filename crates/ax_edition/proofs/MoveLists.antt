@@ -58,32 +58,32 @@ first_moves t spare_slot ts rule = refl
 first_moves t (subitem name l) ts rule = refl
 
 module _ {A : Type 0} (tree : A → SlotTree) (i n : ℕ) (ts : List A) (rule : List ℕ → Option (ℕ × KindTree)) where
-  step : (s : A) (made new all : List MoveTree) → i < length ts → s ≡ get_or ts i s → new ≡ made ++ slot_moves (n + 1) (tree s) rule
-      → made ++ moves_of (n + 1) (slots_of (map tree (drop i ts))) rule ≡ all → new ++ moves_of (n + 1 + 1) (slots_of (map tree (drop (i + 1) ts))) rule ≡ all
-  step s made new all within is e h =
+  step : (s : A) (made new all : List MoveTree) → new ≡ made ++ slot_moves (n + 1) (tree s) rule → made ++ moves_of (n + 1) (slots_of (map tree (drop i ts))) rule ≡ all
+      → i < length ts → s ≡ get_or ts i s → new ++ moves_of (n + 1 + 1) (slots_of (map tree (drop (i + 1) ts))) rule ≡ all
+  step s made new all e h within is =
       let later = moves_of (n + 1 + 1) (slots_of (map tree (drop (i + 1) ts))) rule in
       ap (λ l. l ++ later) e ∙ append_assoc made (slot_moves (n + 1) (tree s) rule) later
       ∙ ap (λ l. made ++ l) (sym (ap (λ x. moves_of (n + 1) (slots_of (map tree x)) rule) (from_place ts i s within is) ∙ first_moves (n + 1) (tree s) (slots_of (map tree (drop (i + 1) ts))) rule)) ∙ h
 
-  end : (made all : List MoveTree) → length ts ≤ i → made ++ moves_of (n + 1) (slots_of (map tree (drop i ts))) rule ≡ all → made ≡ all
-  end made all past h = sym (append-nil made) ∙ ap (λ l. made ++ l) (sym (ap (λ x. moves_of (n + 1) (slots_of (map tree x)) rule) (drop_all i ts past))) ∙ h
+  end : (made all : List MoveTree) → made ++ moves_of (n + 1) (slots_of (map tree (drop i ts))) rule ≡ all → length ts ≤ i → made ≡ all
+  end made all h past = sym (append-nil made) ∙ ap (λ l. made ++ l) (sym (ap (λ x. moves_of (n + 1) (slots_of (map tree x)) rule) (drop_all i ts past))) ∙ h
 
-pub slots_step : (i n : ℕ) (ts : List Slot) (rule : List ℕ → Option (ℕ × KindTree)) (s : Slot) (made new all : List MoveTree) → i < length ts → s ≡ get_or ts i s
-    → new ≡ made ++ slot_moves (n + 1) (slot_tree s) rule → made ++ moves_of (n + 1) (slots_tree (drop i ts)) rule ≡ all
+pub slots_step : (i n : ℕ) (ts : List Slot) (rule : List ℕ → Option (ℕ × KindTree)) (s : Slot) (made new all : List MoveTree) → new ≡ made ++ slot_moves (n + 1) (slot_tree s) rule
+    → made ++ moves_of (n + 1) (slots_tree (drop i ts)) rule ≡ all → i < length ts → s ≡ get_or ts i s
     → new ++ moves_of (n + 1 + 1) (slots_tree (drop (i + 1) ts)) rule ≡ all
 slots_step i n ts rule = step slot_tree i n ts rule
 
-pub slots_end : (i n : ℕ) (ts : List Slot) (rule : List ℕ → Option (ℕ × KindTree)) (made all : List MoveTree) → length ts ≤ i → made ++ moves_of (n + 1) (slots_tree (drop i ts)) rule ≡ all → made ≡ all
+pub slots_end : (i n : ℕ) (ts : List Slot) (rule : List ℕ → Option (ℕ × KindTree)) (made all : List MoveTree) → made ++ moves_of (n + 1) (slots_tree (drop i ts)) rule ≡ all → length ts ≤ i → made ≡ all
 slots_end i n ts rule = end slot_tree i n ts rule
 
 pub ruleset slots = (slots_step, slots_end)
 
-pub items_step : (i n : ℕ) (ts : List (Option (Bor Item))) (rule : List ℕ → Option (ℕ × KindTree)) (s : Option (Bor Item)) (made new all : List MoveTree) → i < length ts → s ≡ get_or ts i s
-    → new ≡ made ++ slot_moves (n + 1) (item_slot s) rule → made ++ moves_of (n + 1) (items_tree (drop i ts)) rule ≡ all
+pub items_step : (i n : ℕ) (ts : List (Option (Bor Item))) (rule : List ℕ → Option (ℕ × KindTree)) (s : Option (Bor Item)) (made new all : List MoveTree) → new ≡ made ++ slot_moves (n + 1) (item_slot s) rule
+    → made ++ moves_of (n + 1) (items_tree (drop i ts)) rule ≡ all → i < length ts → s ≡ get_or ts i s
     → new ++ moves_of (n + 1 + 1) (items_tree (drop (i + 1) ts)) rule ≡ all
 items_step i n ts rule = step item_slot i n ts rule
 
-pub items_end : (i n : ℕ) (ts : List (Option (Bor Item))) (rule : List ℕ → Option (ℕ × KindTree)) (made all : List MoveTree) → length ts ≤ i → made ++ moves_of (n + 1) (items_tree (drop i ts)) rule ≡ all → made ≡ all
+pub items_end : (i n : ℕ) (ts : List (Option (Bor Item))) (rule : List ℕ → Option (ℕ × KindTree)) (made all : List MoveTree) → made ++ moves_of (n + 1) (items_tree (drop i ts)) rule ≡ all → length ts ≤ i → made ≡ all
 items_end i n ts rule = end item_slot i n ts rule
 
 pub ruleset items = (items_step, items_end)

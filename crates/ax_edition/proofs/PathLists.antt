@@ -54,34 +54,34 @@ first_paths text numbers n spare_slot ss rule = refl
 first_paths text numbers n (subitem name k) ss rule = refl
 
 module _ {A : Type 0} (tree : A → SlotTree) (text numbers : List ℕ) (rule : List ℕ → Option (List ℕ × KindTree)) (i n : ℕ) (ss : List A) where
-  step : (s : A) (paths new all : List RelationPath) → i < length ss → s ≡ get_or ss i s → new ≡ paths ++ related_slot text numbers (n + 1) (tree s) rule
-      → paths ++ related_slots text numbers (n + 1) (slots_of (map tree (drop i ss))) rule ≡ all → new ++ related_slots text numbers (n + 1 + 1) (slots_of (map tree (drop (i + 1) ss))) rule ≡ all
-  step s paths new all within is e h =
+  step : (s : A) (paths new all : List RelationPath) → new ≡ paths ++ related_slot text numbers (n + 1) (tree s) rule
+      → paths ++ related_slots text numbers (n + 1) (slots_of (map tree (drop i ss))) rule ≡ all → i < length ss → s ≡ get_or ss i s → new ++ related_slots text numbers (n + 1 + 1) (slots_of (map tree (drop (i + 1) ss))) rule ≡ all
+  step s paths new all e h within is =
       let later = related_slots text numbers (n + 1 + 1) (slots_of (map tree (drop (i + 1) ss))) rule in
       ap (λ l. l ++ later) e ∙ append_assoc paths (related_slot text numbers (n + 1) (tree s) rule) later
       ∙ ap (λ l. paths ++ l) (sym (ap (λ x. related_slots text numbers (n + 1) (slots_of (map tree x)) rule) (from_place ss i s within is) ∙ first_paths text numbers (n + 1) (tree s) (slots_of (map tree (drop (i + 1) ss))) rule)) ∙ h
 
-  end : (paths all : List RelationPath) → length ss ≤ i → paths ++ related_slots text numbers (n + 1) (slots_of (map tree (drop i ss))) rule ≡ all → paths ≡ all
-  end paths all past h = sym (append-nil paths) ∙ ap (λ l. paths ++ l) (sym (ap (λ x. related_slots text numbers (n + 1) (slots_of (map tree x)) rule) (drop_all i ss past))) ∙ h
+  end : (paths all : List RelationPath) → paths ++ related_slots text numbers (n + 1) (slots_of (map tree (drop i ss))) rule ≡ all → length ss ≤ i → paths ≡ all
+  end paths all h past = sym (append-nil paths) ∙ ap (λ l. paths ++ l) (sym (ap (λ x. related_slots text numbers (n + 1) (slots_of (map tree x)) rule) (drop_all i ss past))) ∙ h
 
-pub slots_step : (text numbers : List ℕ) (rule : List ℕ → Option (List ℕ × KindTree)) (i n : ℕ) (ss : List Slot) (s : Slot) (paths new all : List RelationPath) → i < length ss → s ≡ get_or ss i s
-    → new ≡ paths ++ related_slot text numbers (n + 1) (slot_tree s) rule → paths ++ related_slots text numbers (n + 1) (slots_tree (drop i ss)) rule ≡ all
+pub slots_step : (text numbers : List ℕ) (rule : List ℕ → Option (List ℕ × KindTree)) (i n : ℕ) (ss : List Slot) (s : Slot) (paths new all : List RelationPath) → new ≡ paths ++ related_slot text numbers (n + 1) (slot_tree s) rule
+    → paths ++ related_slots text numbers (n + 1) (slots_tree (drop i ss)) rule ≡ all → i < length ss → s ≡ get_or ss i s
     → new ++ related_slots text numbers (n + 1 + 1) (slots_tree (drop (i + 1) ss)) rule ≡ all
 slots_step text numbers rule i n ss = step slot_tree text numbers rule i n ss
 
-pub slots_end : (text numbers : List ℕ) (rule : List ℕ → Option (List ℕ × KindTree)) (i n : ℕ) (ss : List Slot) (paths all : List RelationPath) → length ss ≤ i
-    → paths ++ related_slots text numbers (n + 1) (slots_tree (drop i ss)) rule ≡ all → paths ≡ all
+pub slots_end : (text numbers : List ℕ) (rule : List ℕ → Option (List ℕ × KindTree)) (i n : ℕ) (ss : List Slot) (paths all : List RelationPath) → paths ++ related_slots text numbers (n + 1) (slots_tree (drop i ss)) rule ≡ all
+    → length ss ≤ i → paths ≡ all
 slots_end text numbers rule i n ss = end slot_tree text numbers rule i n ss
 
 pub ruleset slots = (slots_step, slots_end)
 
-pub items_step : (text : List ℕ) (rule : List ℕ → Option (List ℕ × KindTree)) (i n : ℕ) (ss : List (Option (Bor Item))) (s : Option (Bor Item)) (paths new all : List RelationPath) → i < length ss → s ≡ get_or ss i s
-    → new ≡ paths ++ related_slot text [] (n + 1) (item_slot s) rule → paths ++ related_slots text [] (n + 1) (items_tree (drop i ss)) rule ≡ all
+pub items_step : (text : List ℕ) (rule : List ℕ → Option (List ℕ × KindTree)) (i n : ℕ) (ss : List (Option (Bor Item))) (s : Option (Bor Item)) (paths new all : List RelationPath) → new ≡ paths ++ related_slot text [] (n + 1) (item_slot s) rule
+    → paths ++ related_slots text [] (n + 1) (items_tree (drop i ss)) rule ≡ all → i < length ss → s ≡ get_or ss i s
     → new ++ related_slots text [] (n + 1 + 1) (items_tree (drop (i + 1) ss)) rule ≡ all
 items_step text rule i n ss = step item_slot text [] rule i n ss
 
-pub items_end : (text : List ℕ) (rule : List ℕ → Option (List ℕ × KindTree)) (i n : ℕ) (ss : List (Option (Bor Item))) (paths all : List RelationPath) → length ss ≤ i
-    → paths ++ related_slots text [] (n + 1) (items_tree (drop i ss)) rule ≡ all → paths ≡ all
+pub items_end : (text : List ℕ) (rule : List ℕ → Option (List ℕ × KindTree)) (i n : ℕ) (ss : List (Option (Bor Item))) (paths all : List RelationPath) → paths ++ related_slots text [] (n + 1) (items_tree (drop i ss)) rule ≡ all
+    → length ss ≤ i → paths ≡ all
 items_end text rule i n ss = end item_slot text [] rule i n ss
 
 pub ruleset items = (items_step, items_end)

@@ -59,16 +59,20 @@ pub ruleset kinds = (compound_says, leaf_says)
 
 -- ---- one slot
 
+pub named_says : (names below : List (List ℕ)) (name : List ℕ) (k : KindTree) (inner new : Option KindTree) (a b : Known) → below ≡ names ++ name ∷ [] → inner ≡ new → Says (known_kind below k inner) a b
+    → Says (known_kind (names ++ name ∷ []) k new) a b
+named_says names below name k inner new a b l i h =
+    let P : List (List ℕ) → Type 0 = λ x. Says (known_kind x k new) a b in
+    let Q : Option KindTree → Type 0 = λ x. Says (known_kind below k x) a b in subst P l (subst Q i h)
+
 pub spare_says : (names : List (List ℕ)) (s : SlotTree) (rule : List ℕ → Option KindTree) (a : Known) → s ≡ spare_slot → Says (known_slot names s rule) a a
 spare_says names s rule a is =
     let P : SlotTree → Type 0 = λ x. Says (known_slot names x rule) a a in subst P (sym is) (says_none a)
 
-pub sub_says : (names below : List (List ℕ)) (name : List ℕ) (k : KindTree) (s : SlotTree) (rule : List ℕ → Option KindTree) (inner : Option KindTree) (a b : Known) → s ≡ subitem name k → below ≡ names ++ name ∷ []
-    → inner ≡ rule name → Says (known_kind below k inner) a b → Says (known_slot names s rule) a b
-sub_says names below name k s rule inner a b is l i h =
-    let P : SlotTree → Type 0 = λ x. Says (known_slot names x rule) a b in
-    let Q : List (List ℕ) → Type 0 = λ x. Says (known_kind x k (rule name)) a b in
-    let R : Option KindTree → Type 0 = λ x. Says (known_kind below k x) a b in subst P (sym is) (subst Q l (subst R i h))
+pub sub_says : (names : List (List ℕ)) (name : List ℕ) (k : KindTree) (s : SlotTree) (rule : List ℕ → Option KindTree) (a b : Known) → s ≡ subitem name k → Says (known_kind (names ++ name ∷ []) k (rule name)) a b
+    → Says (known_slot names s rule) a b
+sub_says names name k s rule a b is h =
+    let P : SlotTree → Type 0 = λ x. Says (known_slot names x rule) a b in subst P (sym is) h
 
 pub ruleset one_slot = (spare_says, sub_says)
 

@@ -1,5 +1,6 @@
 //! The named paths of the old edition, with their places in both.
 ghost use Rattle.std.specs.Prelude.{◌≡◌, ◌++◌, ◌∷◌, [], Some, IfOk, OnOk, option_map, option_and_then};
+ghost use Rattle.ax_model.specs.Paths.{at};
 ghost use Rattle.ax_model.specs.Placed.{place_from};
 ghost use Rattle.ax_model.specs.Plain.{kind_tree, slot_tree, slots_tree};
 ghost use Rattle.ax_model.specs.Tree.{compound};
@@ -199,6 +200,26 @@ fn relate_below(
     relate_slots(alloc, paths, text, numbers, slots, &level)
 }
 
+/// Appends the paths of a slot with that name, number and kind.
+#[cycle(relate)]
+fn relate_named(
+    alloc: Global,
+    paths: &mut RelationPaths,
+    text: &Text,
+    numbers: &Steps,
+    number: u32,
+    name: &Name,
+    kind: &Kind,
+    level: &Level<'_>,
+) -> Result<(), AllocError>
+    ensures { OnOk result (paths.new ≡ paths.old ++ related_kind (at text.now name.now) (numbers.now ++ number ∷ []) (kind_tree kind.now) (lead level.now name.now)) }
+{
+    let text = at_name(alloc, text, name)?;
+    let numbers = with_number(alloc, numbers, number)?;
+    let target = level.find(alloc, name)?;
+    relate_kind(alloc, paths, &text, &numbers, kind, &target)
+}
+
 /// Appends the paths of a slot of that number.
 #[cycle(relate)]
 fn relate_slot(
@@ -215,10 +236,7 @@ fn relate_slot(
     match slot {
         Slot::Spare => Ok(()),
         Slot::Sub { name, kind } => {
-            let text = at_name(alloc, text, name)?;
-            let numbers = with_number(alloc, numbers, number)?;
-            let target = level.find(alloc, name)?;
-            relate_kind(alloc, paths, &text, &numbers, kind, &target)
+            relate_named(alloc, paths, text, numbers, number, name, kind, level)
         }
     }
 }
@@ -258,10 +276,10 @@ fn relate_item(
     match item {
         None => Ok(()),
         Some(item) => {
-            let text = at_name(alloc, text, &item.name)?;
-            let numbers = with_number(alloc, &Steps::new(alloc), number)?;
-            let target = level.find(alloc, &item.name)?;
-            relate_kind(alloc, paths, &text, &numbers, &item.kind, &target)
+            let none = Steps::new(alloc);
+            relate_named(
+                alloc, paths, text, &none, number, &item.name, &item.kind, level,
+            )
         }
     }
 }

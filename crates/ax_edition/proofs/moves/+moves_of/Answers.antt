@@ -1,6 +1,5 @@
 use Rattle.std.proofs.Common.{arith, rules}
-use Rattle.std.proofs.lemmas.Result.{IfOk-weaker, on_ok_weaker}
-use Rattle.ax_edition.proofs.MoveLists.{move_put, compound_moves, slots_step, slots_end}
+use Rattle.ax_edition.proofs.MoveLists.{slots_step, slots_end}
 use Rattle.ax_edition.specs.Index.{found}
 use Rattle.ax_edition.proofs.moves.+moves_of.Goals as goal
 

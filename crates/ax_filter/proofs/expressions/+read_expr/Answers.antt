@@ -2,7 +2,7 @@ use Rattle.std.proofs.Common.{◌≡◌, ◌++◌, ◌∷◌, [], length, ap, ar
 use Rattle.std.proofs.lemmas.List.{length_push}
 use Rattle.std.proofs.lemmas.Result.{err_from_is_err_and}
 use Rattle.ax_filter.proofs.Arms.{all_stops, any_stops, not_stops, present_stops, is_stops}
-use Rattle.ax_filter.proofs.Ways.{none_so_far, one_more, list_cut_short, list_stops, list_ends, open_lacks, braced_gives, inner_lacks, close_lacks, closed_split, brace_lacks, negated_gives, no_word, arm_read}
+use Rattle.ax_filter.proofs.Ways.{one_more, list_cut_short, list_stops, list_ends, open_lacks, braced_gives, inner_lacks, close_lacks, closed_split, brace_lacks, negated_gives, no_word, arm_read}
 use Rattle.ax_filter.proofs.Trees.{all_tree, any_tree, not_tree, present_tree}
 use Rattle.ax_filter.proofs.expressions.+read_expr.Goals as goal
 

@@ -1,4 +1,4 @@
-use Rattle.std.proofs.Common.{◌-◌, ◌%◌, length, get_or, ap, arith, refl, subst, ◌∙◌}
+use Rattle.std.proofs.Common.{◌-◌, ◌%◌, length, get_or, ap, arith, refl, subst, sym, ◌∙◌}
 use Rattle.ax_bits.proofs.Pieces.{AreOctets-items}
 use Rattle.ax_model.specs.InBounds.{InBounds}
 use Rattle.ax_model.specs.Tree as Tree
@@ -202,3 +202,18 @@ walk_marked-loop-slot-preserved-in-Some-fixed_end t c =
 pub walk_marked-returns-clause-end : goal.walk_marked-returns-clause-end
 walk_marked-returns-clause-end t c =
     marks_last (linked_slots (meanings c.args.nodes.now) c.args.slots.now) c.args.marked c.loop-slot.left c.args.body.now c.args.at c.loop-slot.here c.loop-slot.notes.least c.loop-slot.invariant.marked c.in_default.ensures.none
+
+pub walk-returns-in-Element-clause-falls : goal.walk-returns-in-Element-clause-falls
+walk-returns-in-Element-clause-falls t c = λ h. sym c.run.ensures.least ∙ h
+
+pub walk-returns-in-Group-clause-falls : goal.walk-returns-in-Group-clause-falls
+walk-returns-in-Group-clause-falls t c = λ h. sym c.run-in-Group.ensures.least ∙ h
+
+pub walk-returns-in-Extended-clause-falls : goal.walk-returns-in-Extended-clause-falls
+walk-returns-in-Extended-clause-falls t c = λ h. sym c.walk_parts.ensures.least ∙ h
+
+pub walk-returns-in-ByFx-clause-falls : goal.walk-returns-in-ByFx-clause-falls
+walk-returns-in-ByFx-clause-falls t c = λ h. sym c.walk_run.ensures.least ∙ h
+
+pub walk-returns-in-Explicit-clause-falls : goal.walk-returns-in-Explicit-clause-falls
+walk-returns-in-Explicit-clause-falls t c = λ h. sym c.walk_explicit.ensures.least ∙ h

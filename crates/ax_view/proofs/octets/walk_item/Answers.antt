@@ -1,4 +1,4 @@
-use Rattle.std.proofs.Common.{◌-◌, ◌%◌, get_or, ap, arith, refl, subst, ◌∙◌}
+use Rattle.std.proofs.Common.{◌-◌, ◌%◌, get_or, ap, arith, refl, subst, sym, ◌∙◌}
 use Rattle.ax_model.specs.InBounds.{InBounds}
 use Rattle.ax_model.specs.Tree as Tree
 use Rattle.ax_model.specs.declared.content.Content.TheVariants.{Raw}
@@ -120,3 +120,18 @@ walk_compound-requires-clause-mask c = compound_mask c.args.nodes.now c.args.lin
 pub walk_compound-requires-clause-bounds : goal.walk_compound-requires-clause-bounds
 walk_compound-requires-clause-bounds c =
     let b : InBounds (record_kind_at c.args.nodes.now c.as_slice-in-Compound.result.now) = subst InBounds (is_compound c.args.nodes.now c.args.link c.index-nodes-link.result c.requires.table c.requires.link.0 c.requires.link.1 c.index-nodes-link.is c.in-Compound.mask c.in-Compound.slots c.as_slice-in-Compound.result.now c.in-Compound.is c.as_slice-in-Compound.ensures.members) c.requires.bounds in b
+
+pub returns-in-Element-clause-falls : goal.returns-in-Element-clause-falls
+returns-in-Element-clause-falls c = λ h. sym c.run.ensures.least ∙ h
+
+pub returns-in-Group-clause-falls : goal.returns-in-Group-clause-falls
+returns-in-Group-clause-falls c = λ h. sym c.run-in-Group.ensures.least ∙ h
+
+pub returns-in-Extended-clause-falls : goal.returns-in-Extended-clause-falls
+returns-in-Extended-clause-falls c = λ h. sym c.walk_parts.ensures.least ∙ h
+
+pub returns-in-ByFx-clause-falls : goal.returns-in-ByFx-clause-falls
+returns-in-ByFx-clause-falls c = λ h. sym c.walk_run.ensures.least ∙ h
+
+pub returns-in-Explicit-clause-falls : goal.returns-in-Explicit-clause-falls
+returns-in-Explicit-clause-falls c = λ h. sym c.walk_explicit.ensures.least ∙ h

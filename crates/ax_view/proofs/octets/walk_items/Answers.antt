@@ -31,3 +31,6 @@ loop-slot-preserved c =
 pub returns-clause-end : goal.returns-clause-end
 returns-clause-end c =
     marks_last (linked_slots (meanings c.args.nodes.now) c.args.slots.now) c.args.marked c.loop-slot.left c.args.body.now c.args.at c.loop-slot.here c.loop-slot.notes.least c.loop-slot.invariant.marked c.in_default.ensures.none
+
+pub returns-in_err-here-clause-falls : goal.returns-in_err-here-clause-falls
+returns-in_err-here-clause-falls c = λ h. c.loop-slot.invariant.falls (c.walk_item.ensures.falls h)

@@ -25,3 +25,6 @@ walk_items-requires-clause-marks c = marks_bits c.args.mask.now c.args.body.now 
 
 pub walk_items-requires-clause-clear : goal.walk_items-requires-clause-clear
 walk_items-requires-clause-clear c = marks_clear (linked_slots (meanings c.args.nodes.now) c.args.slots.now) c.args.mask.now c.args.body.now c.read_presence.new.into c.args.at c.in-Ok.here c.requires.mask c.in-Ok.ensures.ok
+
+pub returns-in-Ok-clause-falls : goal.returns-in-Ok-clause-falls
+returns-in-Ok-clause-falls c = λ h. c.note_field.ensures.falls (c.walk_items.ensures.falls h)

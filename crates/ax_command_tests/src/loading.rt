@@ -4,7 +4,7 @@ use ax_load::{LoadStop, SpecFault, load_catalogue};
 use ax_outside::MemLibrary;
 use ax_samples::{CAT034_P1, CAT048_P1, FILE_A, FILE_E, FILE_F, NESTED_TOO_DEEP};
 use ax_words::WordText;
-use std::alloc::{AllocError, Global};
+use std::alloc::Global;
 use std::process::Abort;
 
 // The first quotation mark of a text that never ends, and a text that ends too early.
@@ -28,29 +28,34 @@ const FILES: [(&str, &str); 8] = [
 const TOO_LARGE: usize = 1_048_577;
 
 fn put(
+    rt: &impl Abort,
     alloc: Global,
     files: &mut Vec<(String, Vec<u8>)>,
     name: &str,
     octets: Vec<u8>,
-) -> Result<(), AllocError> {
-    files.push((String::from_str(alloc, name)?, octets))?;
-    Ok(())
+) {
+    let name = String::from_str(alloc, name).expect(rt, "memory");
+    files.push((name, octets)).expect(rt, "memory");
 }
 
-fn library(alloc: Global) -> Result<MemLibrary, AllocError> {
+fn library(rt: &impl Abort, alloc: Global) -> MemLibrary {
     let mut files = Vec::new(alloc);
     for &(name, text) in &FILES {
-        put(alloc, &mut files, name, text.as_bytes().to_vec(alloc)?)?;
+        let octets = text.as_bytes().to_vec(alloc).expect(rt, "memory");
+        put(rt, alloc, &mut files, name, octets);
     }
-    put(alloc, &mut files, "large", vec![in alloc; b' '; TOO_LARGE]?)?;
-    Ok(MemLibrary::new(files, Vec::new(alloc)))
+    let large = vec![in alloc; b' '; TOO_LARGE].expect(rt, "memory");
+    put(rt, alloc, &mut files, "large", large);
+    MemLibrary::new(files, Vec::new(alloc))
 }
 
-fn names(alloc: Global, first: &str, second: &str) -> Result<Vec<WordText>, AllocError> {
+fn names(rt: &impl Abort, alloc: Global, each: [&str; 2]) -> Vec<WordText> {
     let mut made = Vec::new(alloc);
-    made.push(WordText::of(alloc, first)?)?;
-    made.push(WordText::of(alloc, second)?)?;
-    Ok(made)
+    for name in each {
+        let name = WordText::of(alloc, name).expect(rt, "memory");
+        made.push(name).expect(rt, "memory");
+    }
+    made
 }
 
 // Why a file gives no specification, in one word and a number.
@@ -102,24 +107,16 @@ fn loaded(
 }
 
 /// Asserts what becomes of loading two files.
-fn load_as(
-    rt: &impl Abort,
-    alloc: Global,
-    (first, second): (&str, &str),
-    want: &str,
-    number: u32,
-) -> Result<(), AllocError> {
-    let mut library = library(alloc)?;
-    let names = names(alloc, first, second)?;
+fn load_as(rt: &impl Abort, alloc: Global, (first, second): (&str, &str), want: &str, number: u32) {
+    let mut library = library(rt, alloc);
+    let names = names(rt, alloc, [first, second]);
     let got = loaded(rt, alloc, &mut library, names.as_slice());
     assert_eq!(rt; got, (want, number), "of {first} and {second}");
-    Ok(())
 }
 
 #[test]
-fn the_first_file_that_gives_no_specification_is_named(rt: HostRuntime) -> Result<(), AllocError> {
+fn the_first_file_that_gives_no_specification_is_named(rt: HostRuntime) {
     for &(first, second, want, number) in &LOADS {
-        load_as(&rt, rt.alloc(), (first, second), want, number)?;
+        load_as(&rt, rt.alloc(), (first, second), want, number);
     }
-    Ok(())
 }

@@ -8,33 +8,24 @@ use ax_command::{
 };
 use ax_outside::MemSink;
 use ax_samples::FILE_F;
-use std::alloc::{AllocError, Global};
+use std::alloc::Global;
 use std::process::Abort;
-use std::test::Fail;
 
 /// An outcome, its exit status, and its lines.
 type Said = (Outcome, u8, &'static str);
 
 /// Asserts that the outcome has that exit status, and that these are its lines.
-fn says(
-    rt: &impl Abort,
-    alloc: Global,
-    outcome: &Outcome,
-    status: u8,
-    want: &str,
-) -> Result<(), AllocError> {
-    let mut sink = MemSink::new(alloc, 1000, 7, Vec::new(alloc))?;
+fn says(rt: &impl Abort, alloc: Global, outcome: &Outcome, status: u8, want: &str) {
+    let mut sink = MemSink::new(alloc, 1000, 7, Vec::new(alloc)).expect(rt, "memory");
     let whole = write_lines(&mut sink, outcome).is_ok();
     same_octets(rt, sink.written(), want.as_bytes(), want);
     assert!(rt; whole && outcome.status() == status, "of {want}");
-    Ok(())
 }
 
-fn each_says(rt: &impl Abort, alloc: Global, rows: &[Said]) -> Result<(), AllocError> {
+fn each_says(rt: &impl Abort, alloc: Global, rows: &[Said]) {
     for (outcome, status, want) in rows {
-        says(rt, alloc, outcome, *status, want)?;
+        says(rt, alloc, outcome, *status, want);
     }
-    Ok(())
 }
 
 const WORDS_AND_FILES: [Said; 7] = [
@@ -87,20 +78,20 @@ const WORDS_AND_FILES: [Said; 7] = [
 ];
 
 #[test]
-fn lines_of_refused_words_and_files(rt: HostRuntime) -> Result<(), AllocError> {
-    each_says(&rt, rt.alloc(), &WORDS_AND_FILES)
+fn lines_of_refused_words_and_files(rt: HostRuntime) {
+    each_says(&rt, rt.alloc(), &WORDS_AND_FILES);
 }
 
 const FLAWS_OF_F: &str =
     "flaw file 0 NotOctets 034/010\nflaw file 0 RepeatedInUap 034/uap/010\nrefused file 0 Flawed 2\n";
 
 #[test]
-fn lines_of_a_flawed_file(rt: HostRuntime) -> Result<(), Fail> {
-    let flaws = flaws(rt.alloc(), &spec_of(&rt, rt.alloc(), FILE_F)?)?;
+fn lines_of_a_flawed_file(rt: HostRuntime) {
+    let spec = spec_of(&rt, rt.alloc(), FILE_F);
+    let flaws = flaws(rt.alloc(), &spec).expect(&rt, "memory");
     let fault = SpecFault::Flawed { flaws };
     let outcome = Outcome::SpecRefused { file: 0, fault };
-    says(&rt, rt.alloc(), &outcome, 2, FLAWS_OF_F)?;
-    Ok(())
+    says(&rt, rt.alloc(), &outcome, 2, FLAWS_OF_F);
 }
 
 const EXPRESSIONS: [Said; 5] = [
@@ -142,8 +133,8 @@ const EXPRESSIONS: [Said; 5] = [
 ];
 
 #[test]
-fn lines_of_refused_expressions(rt: HostRuntime) -> Result<(), AllocError> {
-    each_says(&rt, rt.alloc(), &EXPRESSIONS)
+fn lines_of_refused_expressions(rt: HostRuntime) {
+    each_says(&rt, rt.alloc(), &EXPRESSIONS);
 }
 
 const BLOCKS: [Said; 3] = [
@@ -180,8 +171,8 @@ const BLOCKS: [Said; 3] = [
 ];
 
 #[test]
-fn lines_of_refused_blocks(rt: HostRuntime) -> Result<(), AllocError> {
-    each_says(&rt, rt.alloc(), &BLOCKS)
+fn lines_of_refused_blocks(rt: HostRuntime) {
+    each_says(&rt, rt.alloc(), &BLOCKS);
 }
 
 const LINES: [Said; 5] = [
@@ -228,8 +219,8 @@ const LINES: [Said; 5] = [
 ];
 
 #[test]
-fn lines_of_refused_lines(rt: HostRuntime) -> Result<(), AllocError> {
-    each_says(&rt, rt.alloc(), &LINES)
+fn lines_of_refused_lines(rt: HostRuntime) {
+    each_says(&rt, rt.alloc(), &LINES);
 }
 
 const OTHER_ENDS: [Said; 7] = [
@@ -243,20 +234,19 @@ const OTHER_ENDS: [Said; 7] = [
 ];
 
 #[test]
-fn lines_of_other_ends(rt: HostRuntime) -> Result<(), AllocError> {
-    each_says(&rt, rt.alloc(), &OTHER_ENDS)
+fn lines_of_other_ends(rt: HostRuntime) {
+    each_says(&rt, rt.alloc(), &OTHER_ENDS);
 }
 
 #[test]
-fn line_of_an_accepted_file(rt: HostRuntime) -> Result<(), Fail> {
+fn line_of_an_accepted_file(rt: HostRuntime) {
     let text = "category 034 edition \"034-E\" items { } uap { }";
-    let spec = spec_of(&rt, rt.alloc(), text)?;
-    let line = line_of(rt.alloc(), &spec)?;
+    let spec = spec_of(&rt, rt.alloc(), text);
+    let line = line_of(rt.alloc(), &spec).expect(&rt, "memory");
     same_octets(
         &rt,
         &line,
         b"accepted 034 \"034-E\" items 0 slots 0\n",
         text,
     );
-    Ok(())
 }

@@ -5,12 +5,12 @@ use crate::specs::spec_of;
 use ax_check::{Accepted, accept};
 use ax_samples::{CAT034_P1, CAT048_P1, FILE_K, FILE_N, FILE_Z};
 use ax_trial::trial_text;
-use std::alloc::{AllocError, Global};
+use std::alloc::Global;
 use std::process::Abort;
-use std::test::Fail;
 
-fn accepted(rt: &impl Abort, alloc: Global, text: &str) -> Result<Accepted, Fail> {
-    Ok(accept(alloc, spec_of(rt, alloc, text)?)?)
+fn accepted(rt: &impl Abort, alloc: Global, text: &str) -> Accepted {
+    let spec = spec_of(rt, alloc, text);
+    accept(alloc, spec).expect(rt, "a specification without flaw")
 }
 
 /// Three counted kinds, one within the other.
@@ -18,31 +18,22 @@ const NESTED: &str =
     r#"category 206 edition "C" items { item 010 "" counted { counted { counted { element 8 raw } } } } uap { 010 }"#;
 
 /// A counted group of 64,000 octets: two in one block are too many.
-fn wide(alloc: Global) -> Result<String, AllocError> {
-    let mut text = String::from_str(
-        alloc,
-        "category 207 edition \"W\" items { item 010 \"\" counted { group {",
-    )?;
+fn wide(rt: &impl Abort, alloc: Global) -> String {
+    let front = "category 207 edition \"W\" items { item 010 \"\" counted { group {";
+    let mut text = String::from_str(alloc, front).expect(rt, "memory");
     for number in 0..4000 {
-        write!(text, " M{number} element 128 raw")?;
+        write!(text, " M{number} element 128 raw").expect(rt, "memory");
     }
-    text.push_str(" } } } uap { 010 }")?;
-    Ok(text)
+    text.push_str(" } } } uap { 010 }").expect(rt, "memory");
+    text
 }
 
 /// Asserts the line of so many blocks of a file, made from that seed.
-fn has_line(
-    rt: &impl Abort,
-    alloc: Global,
-    text: &str,
-    (seed, count): (u64, u32),
-    line: &str,
-) -> Result<(), Fail> {
+fn has_line(rt: &impl Abort, alloc: Global, text: &str, (seed, count): (u64, u32), line: &str) {
     assert!(rt; count <= 1_000_000);
-    let accepted = accepted(rt, alloc, text)?;
-    let found = trial_text(alloc, &accepted, seed, count)?;
+    let accepted = accepted(rt, alloc, text);
+    let found = trial_text(alloc, &accepted, seed, count).expect(rt, "memory");
     same_octets(rt, &found, line.as_bytes(), line);
-    Ok(())
 }
 
 // The lines here were made by a second generator, written apart from this one after the rules alone.
@@ -92,16 +83,15 @@ const LINES: [(&str, u64, u32, &str); 7] = [
 ];
 
 #[test]
-fn lines_of_generated_blocks(rt: HostRuntime) -> Result<(), Fail> {
+fn lines_of_generated_blocks(rt: HostRuntime) {
     for &(text, seed, count, line) in &LINES {
-        has_line(&rt, rt.alloc(), text, (seed, count), line)?;
+        has_line(&rt, rt.alloc(), text, (seed, count), line);
     }
-    Ok(())
 }
 
 #[test]
-fn the_line_of_wide_records(rt: HostRuntime) -> Result<(), Fail> {
-    let text = wide(rt.alloc())?;
+fn the_line_of_wide_records(rt: HostRuntime) {
+    let text = wide(&rt, rt.alloc());
     let line = "blocks 12 records 24 octets 192067 canonical 192067 sum 24496720\n";
-    has_line(&rt, rt.alloc(), text.as_str(), (2, 12), line)
+    has_line(&rt, rt.alloc(), text.as_str(), (2, 12), line);
 }

@@ -1,11 +1,9 @@
 //! Blocks that fit a specification and those that don't, and copies of both.
 
-use ax_grammar::read_spec;
+use crate::texts::read;
 use ax_model::{Block, Entries, Entry, Lists, Octets, Record, Records, Spec, Value, Values, fits};
-use ax_tokens::tokens;
-use std::alloc::{AllocError, Global};
+use std::alloc::Global;
 use std::process::Abort;
-use std::test::Fail;
 
 // An item of each kind; slot 2 of the UAP is spare.
 const EACH_KIND: &str = r#"category 205 edition "" items {
@@ -17,77 +15,77 @@ item 050 "" explicit
 item 060 "" compound { A element 8 raw - B element 16 raw }
 } uap { 010 - 020 030 040 050 060 }"#;
 
-fn each_kind(alloc: Global) -> Result<Spec, Fail> {
-    let found = tokens(alloc, EACH_KIND.as_bytes(), 16)?;
-    Ok(read_spec(alloc, &found)?)
+fn each_kind(rt: &impl Abort, alloc: Global) -> Spec {
+    read(rt, alloc, EACH_KIND)
 }
 
-fn put(made: &mut Values, number: u128) -> Result<(), AllocError> {
+fn put(rt: &impl Abort, made: &mut Values, number: u128) {
     if made.count() < 1000 {
-        made.push(Value::Number(number))?;
+        made.push(Value::Number(number)).expect(rt, "memory");
     }
-    Ok(())
 }
 
-fn numbers(alloc: Global, numbers: &[u128]) -> Result<Values, AllocError> {
+fn numbers(rt: &impl Abort, alloc: Global, numbers: &[u128]) -> Values {
     let mut made = Values::new(alloc);
     for number in numbers {
-        put(&mut made, *number)?;
+        put(rt, &mut made, *number);
     }
-    Ok(made)
+    made
 }
 
-fn lists(alloc: Global, one: &[u128], count: u32) -> Result<Lists, AllocError> {
+fn lists(rt: &impl Abort, alloc: Global, one: &[u128], count: u32) -> Lists {
     let mut made = Lists::new(alloc);
     for _index in 0..count {
         if made.count() < 1000 {
-            made.push(numbers(alloc, one)?)?;
+            let one = numbers(rt, alloc, one);
+            made.push(one).expect(rt, "memory");
         }
     }
-    Ok(made)
+    made
 }
 
-fn repeated(alloc: Global, number: u128, count: u32) -> Result<Values, AllocError> {
+fn repeated(rt: &impl Abort, alloc: Global, number: u128, count: u32) -> Values {
     let mut made = Values::new(alloc);
     for _index in 0..count {
-        put(&mut made, number)?;
+        put(rt, &mut made, number);
     }
-    Ok(made)
+    made
 }
 
-fn zeros(alloc: Global, count: u32) -> Result<Octets, AllocError> {
+fn zeros(rt: &impl Abort, alloc: Global, count: u32) -> Octets {
     let mut made = Octets::new(alloc);
     for _index in 0..count {
         if made.count() < 1000 {
-            made.push(0)?;
+            made.push(0).expect(rt, "memory");
         }
     }
-    Ok(made)
+    made
 }
 
-fn entries(alloc: Global, marked: &[(u32, u128)]) -> Result<Entries, AllocError> {
+fn entries(rt: &impl Abort, alloc: Global, marked: &[(u32, u128)]) -> Entries {
     let mut made = Entries::new(alloc);
     for (slot, number) in marked {
         if made.count() < 1000 {
             made.push(Entry {
                 slot: *slot,
                 value: Value::Number(*number),
-            })?;
+            })
+            .expect(rt, "memory");
         }
     }
-    Ok(made)
+    made
 }
 
-fn one_record(alloc: Global, category: u8, entries: Entries) -> Result<Block, AllocError> {
+fn one_record(rt: &impl Abort, alloc: Global, category: u8, entries: Entries) -> Block {
     let mut records = Records::new(alloc);
-    records.push(Record { entries })?;
-    Ok(Block::Read { category, records })
+    records.push(Record { entries }).expect(rt, "memory");
+    Block::Read { category, records }
 }
 
-fn one_item(alloc: Global, slot: u32, value: Value) -> Result<Block, AllocError> {
+fn one_item(rt: &impl Abort, alloc: Global, slot: u32, value: Value) -> Block {
     let mut entries = Entries::new(alloc);
-    entries.push(Entry { slot, value })?;
-    one_record(alloc, 205, entries)
+    entries.push(Entry { slot, value }).expect(rt, "memory");
+    one_record(rt, alloc, 205, entries)
 }
 
 // A value in few words: the numbers of a group, of each list, of each occurrence, of each slot.
@@ -101,14 +99,14 @@ enum Form<'v> {
     Marked(&'v [(u32, u128)]),
 }
 
-fn value_of(alloc: Global, form: Form<'_>) -> Result<Value, AllocError> {
+fn value_of(rt: &impl Abort, alloc: Global, form: Form<'_>) -> Value {
     match form {
-        Form::Number(number) => Ok(Value::Number(number)),
-        Form::Group(values) => Ok(Value::Group(numbers(alloc, values)?)),
-        Form::Lists(one, count) => Ok(Value::Extended(lists(alloc, one, count)?)),
-        Form::Repeat(number, count) => Ok(Value::Repeat(repeated(alloc, number, count)?)),
-        Form::Zeros(count) => Ok(Value::Octets(zeros(alloc, count)?)),
-        Form::Marked(marked) => Ok(Value::Compound(entries(alloc, marked)?)),
+        Form::Number(number) => Value::Number(number),
+        Form::Group(values) => Value::Group(numbers(rt, alloc, values)),
+        Form::Lists(one, count) => Value::Extended(lists(rt, alloc, one, count)),
+        Form::Repeat(number, count) => Value::Repeat(repeated(rt, alloc, number, count)),
+        Form::Zeros(count) => Value::Octets(zeros(rt, alloc, count)),
+        Form::Marked(marked) => Value::Compound(entries(rt, alloc, marked)),
     }
 }
 
@@ -149,25 +147,24 @@ fn value_fits(
     spec: &Spec,
     (slot, form): (u32, Form<'_>),
     want: bool,
-) -> Result<(), AllocError> {
-    let block = one_item(alloc, slot, value_of(alloc, form)?)?;
+) {
+    let value = value_of(rt, alloc, form);
+    let block = one_item(rt, alloc, slot, value);
     block_fits(rt, spec, &block, want, slot);
-    Ok(())
 }
 
 #[test]
-fn values_fit_by_their_kinds(rt: HostRuntime) -> Result<(), Fail> {
+fn values_fit_by_their_kinds(rt: HostRuntime) {
     let alloc = rt.alloc();
-    let spec = each_kind(alloc)?;
+    let spec = each_kind(&rt, alloc);
     for &(slot, form, want) in &FORMS {
-        value_fits(&rt, alloc, &spec, (slot, form), want)?;
+        value_fits(&rt, alloc, &spec, (slot, form), want);
     }
-    Ok(())
 }
 
-fn opaque(alloc: Global, category: u8, count: u32) -> Result<Block, AllocError> {
-    let octets = zeros(alloc, count)?;
-    Ok(Block::Opaque { category, octets })
+fn opaque(rt: &impl Abort, alloc: Global, category: u8, count: u32) -> Block {
+    let octets = zeros(rt, alloc, count);
+    Block::Opaque { category, octets }
 }
 
 /// Asserts that an opaque block of that category and of so many octets fits, or doesn't.
@@ -177,80 +174,70 @@ fn opaque_fits(
     spec: &Spec,
     (category, count): (u8, u32),
     want: bool,
-) -> Result<(), AllocError> {
-    let block = opaque(alloc, category, count)?;
+) {
+    let block = opaque(rt, alloc, category, count);
     block_fits(rt, spec, &block, want, u32::from(category));
-    Ok(())
 }
 
 const OPAQUE: [(u8, u32, bool); 3] = [(205, 1, false), (204, 1, true), (204, 0, false)];
 
 #[test]
-fn opaque_blocks_fit_by_their_category(rt: HostRuntime) -> Result<(), Fail> {
+fn opaque_blocks_fit_by_their_category(rt: HostRuntime) {
     let alloc = rt.alloc();
-    let spec = each_kind(alloc)?;
+    let spec = each_kind(&rt, alloc);
     for &(category, count, want) in &OPAQUE {
-        opaque_fits(&rt, alloc, &spec, (category, count), want)?;
+        opaque_fits(&rt, alloc, &spec, (category, count), want);
     }
-    Ok(())
 }
 
 /// Asserts that a block of that category with one empty record fits, or doesn't.
-fn empty_record_fits(
-    rt: &impl Abort,
-    alloc: Global,
-    spec: &Spec,
-    category: u8,
-    want: bool,
-) -> Result<(), AllocError> {
-    let block = one_record(alloc, category, Entries::new(alloc))?;
+fn empty_record_fits(rt: &impl Abort, alloc: Global, spec: &Spec, category: u8, want: bool) {
+    let block = one_record(rt, alloc, category, Entries::new(alloc));
     block_fits(rt, spec, &block, want, u32::from(category));
-    Ok(())
 }
 
 #[test]
-fn blocks_of_records_fit_by_their_category(rt: HostRuntime) -> Result<(), Fail> {
+fn blocks_of_records_fit_by_their_category(rt: HostRuntime) {
     let alloc = rt.alloc();
-    let spec = each_kind(alloc)?;
-    empty_record_fits(&rt, alloc, &spec, 205, true)?;
-    empty_record_fits(&rt, alloc, &spec, 204, false)?;
+    let spec = each_kind(&rt, alloc);
+    empty_record_fits(&rt, alloc, &spec, 205, true);
+    empty_record_fits(&rt, alloc, &spec, 204, false);
     let none = Block::Read {
         category: 205,
         records: Records::new(alloc),
     };
     block_fits(&rt, &spec, &none, false, 205);
-    Ok(())
 }
 
-fn value_copied(alloc: Global) -> Result<Value, AllocError> {
-    let value = Value::Extended(lists(alloc, &[15, 7], 1)?);
-    value.copy(alloc)
+fn value_copied(rt: &impl Abort, alloc: Global) -> Value {
+    let value = Value::Extended(lists(rt, alloc, &[15, 7], 1));
+    value.copy(alloc).expect(rt, "memory")
 }
 
-fn block_copied(alloc: Global) -> Result<Block, AllocError> {
-    let block = one_item(alloc, 3, value_copied(alloc)?)?;
-    block.copy(alloc)
+fn block_copied(rt: &impl Abort, alloc: Global) -> Block {
+    let value = value_copied(rt, alloc);
+    let block = one_item(rt, alloc, 3, value);
+    block.copy(alloc).expect(rt, "memory")
 }
 
-fn opaque_copied(alloc: Global) -> Result<Block, AllocError> {
-    let block = opaque(alloc, 7, 3)?;
-    block.copy(alloc)
+fn opaque_copied(rt: &impl Abort, alloc: Global) -> Block {
+    let block = opaque(rt, alloc, 7, 3);
+    block.copy(alloc).expect(rt, "memory")
 }
 
-fn spec_copied(alloc: Global) -> Result<Spec, Fail> {
-    let spec = each_kind(alloc)?;
-    Ok(spec.copy(alloc)?)
+fn spec_copied(rt: &impl Abort, alloc: Global) -> Spec {
+    let spec = each_kind(rt, alloc);
+    spec.copy(alloc).expect(rt, "memory")
 }
 
 // The copies fit each other as the originals do.
 #[test]
-fn copies_stand_for_their_originals(rt: HostRuntime) -> Result<(), Fail> {
+fn copies_stand_for_their_originals(rt: HostRuntime) {
     let alloc = rt.alloc();
-    let spec = spec_copied(alloc)?;
+    let spec = spec_copied(&rt, alloc);
     assert!(rt; spec.category == 205 && spec.items.count() == 6 && spec.uap.count() == 7);
-    let block = block_copied(alloc)?;
+    let block = block_copied(&rt, alloc);
     block_fits(&rt, &spec, &block, true, 205);
-    let opaque = opaque_copied(alloc)?;
+    let opaque = opaque_copied(&rt, alloc);
     block_fits(&rt, &spec, &opaque, true, 7);
-    Ok(())
 }

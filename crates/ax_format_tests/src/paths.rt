@@ -2,7 +2,7 @@
 
 use crate::checks::same_number;
 use ax_model::Path;
-use std::alloc::{AllocError, Global};
+use std::alloc::Global;
 use std::process::Abort;
 
 // A text, and how many names the path has that it spells; none where it spells none.
@@ -18,24 +18,23 @@ const PATHS: [(&str, u32); 9] = [
     ("ABCDEFGHIJKLMNOPQ", 0),
 ];
 
-fn names_of_copy(alloc: Global, path: &Path) -> Result<u32, AllocError> {
-    let copy = path.copy(alloc)?;
-    Ok(copy.count())
+fn names_of_copy(rt: &impl Abort, alloc: Global, path: &Path) -> u32 {
+    let copy = path.copy(alloc).expect(rt, "memory");
+    copy.count()
 }
 
-fn names_of(rt: &impl Abort, alloc: Global, text: &str) -> Result<u32, AllocError> {
+fn names_of(rt: &impl Abort, alloc: Global, text: &str) -> u32 {
     assert!(rt; text.len() < 100);
-    match Path::of(alloc, text.as_bytes())? {
-        Some(path) => names_of_copy(alloc, &path),
-        None => Ok(0),
+    match Path::of(alloc, text.as_bytes()).expect(rt, "memory") {
+        Some(path) => names_of_copy(rt, alloc, &path),
+        None => 0,
     }
 }
 
 #[test]
-fn paths_are_read_and_copied(rt: HostRuntime) -> Result<(), AllocError> {
+fn paths_are_read_and_copied(rt: HostRuntime) {
     for &(text, count) in &PATHS {
-        let found = names_of(&rt, rt.alloc(), text)?;
+        let found = names_of(&rt, rt.alloc(), text);
         same_number(&rt, i128::from(found), i128::from(count), text);
     }
-    Ok(())
 }

@@ -3,9 +3,8 @@
 use crate::outside::{Input, source};
 use ax_blocks::{BlockReader, NextError};
 use ax_outside::MemSource;
-use std::alloc::{AllocError, Global};
+use std::alloc::Global;
 use std::process::Abort;
-use std::test::Fail;
 
 // Two blocks of ten octets.
 const BLOCKS: [u8; 20] = [
@@ -45,14 +44,13 @@ fn gives(
     input: Input<'_>,
     limit: u64,
     (blocks, end): (u64, Option<NextError>),
-) -> Result<(), AllocError> {
-    let mut reader = BlockReader::new(alloc, limit)?;
-    let mut source = source(alloc, input)?;
+) {
+    let mut reader = BlockReader::new(alloc, limit).expect(rt, "memory");
+    let mut source = source(rt, alloc, input);
     for _ in 0..blocks {
         assert!(rt; gives_block(&mut reader, &mut source));
     }
     assert!(rt; ends(&mut reader, &mut source, end));
-    Ok(())
 }
 
 const CUTS: [&[u32]; 3] = [&[], &[1; 20], &[2, 3, 5, 2, 3, 5]];
@@ -67,24 +65,22 @@ const LIMITS: [(u64, u64, Option<NextError>); 5] = [
 ];
 
 #[test]
-fn each_cut_gives_the_same(rt: HostRuntime) -> Result<(), Fail> {
+fn each_cut_gives_the_same(rt: HostRuntime) {
     for &cuts in &CUTS {
         for &(limit, blocks, end) in &LIMITS {
-            gives(&rt, rt.alloc(), (&BLOCKS, cuts, &[]), limit, (blocks, end))?;
+            gives(&rt, rt.alloc(), (&BLOCKS, cuts, &[]), limit, (blocks, end));
         }
     }
-    Ok(())
 }
 
 // Octet by octet, the failing call being each in turn: the blocks before it are given.
 #[test]
-fn a_failing_read_ends_the_input(rt: HostRuntime) -> Result<(), Fail> {
+fn a_failing_read_ends_the_input(rt: HostRuntime) {
     let end = Some(NextError::ReadFault);
     for call in 0..21u64 {
         let input: Input<'_> = (&BLOCKS, &[1; 21], &[call]);
-        gives(&rt, rt.alloc(), input, 20, (call / 10, end))?;
+        gives(&rt, rt.alloc(), input, 20, (call / 10, end));
     }
-    Ok(())
 }
 
 // The octets, the limit on them, and the end, before which there is no block.
@@ -115,17 +111,16 @@ const FRAMING: [(&[u8], u64, Option<NextError>); 11] = [
 ];
 
 #[test]
-fn faults_of_framing(rt: HostRuntime) -> Result<(), Fail> {
+fn faults_of_framing(rt: HostRuntime) {
     for &(octets, limit, end) in &FRAMING {
-        gives(&rt, rt.alloc(), (octets, &[2], &[]), limit, (0, end))?;
+        gives(&rt, rt.alloc(), (octets, &[2], &[]), limit, (0, end));
     }
-    Ok(())
 }
 
-fn longest(alloc: Global) -> Result<Vec<u8>, AllocError> {
-    let mut octets = vec![in alloc; 0x30, 0xFF, 0xFF]?;
-    octets.resize(65_535, 0x80)?;
-    Ok(octets)
+fn longest(rt: &impl Abort, alloc: Global) -> Vec<u8> {
+    let mut octets = vec![in alloc; 0x30, 0xFF, 0xFF].expect(rt, "memory");
+    octets.resize(65_535, 0x80).expect(rt, "memory");
+    octets
 }
 
 /// Asserts that the reader gives that block next.
@@ -141,11 +136,11 @@ fn gives_longest(rt: &impl Abort, reader: &mut BlockReader, source: &mut MemSour
 }
 
 #[test]
-fn the_longest_block(rt: HostRuntime) -> Result<(), Fail> {
-    let octets = longest(rt.alloc())?;
-    let mut source = source(rt.alloc(), (&octets, &[1000, 1], &[]))?;
-    let mut reader = BlockReader::new(rt.alloc(), 65_535)?;
+fn the_longest_block(rt: HostRuntime) {
+    let alloc = rt.alloc();
+    let octets = longest(&rt, alloc);
+    let mut source = source(&rt, alloc, (&octets, &[1000, 1], &[]));
+    let mut reader = BlockReader::new(alloc, 65_535).expect(&rt, "memory");
     gives_longest(&rt, &mut reader, &mut source);
     assert!(rt; ends(&mut reader, &mut source, None));
-    Ok(())
 }

@@ -1,9 +1,17 @@
-//! Tests of inputs that are read block by block or line by line, however their sources cut them and fail, and of a line
-//! command over them. The crate has nothing else.
+//! Tests of what is read: inputs block by block or line by line, however their sources cut them and fail, and a line command over
+//! them; texts as tokens and as category files; and the words of a command line. The crate has nothing else.
 #![tactic(auto)]
 
 #[cfg(test)]
 mod blocks;
+#[cfg(test)]
+mod category_files;
+#[cfg(test)]
+mod checks;
+#[cfg(test)]
+mod command_lines;
+#[cfg(test)]
+mod lexing;
 #[cfg(test)]
 mod line_runs;
 #[cfg(test)]

@@ -4,9 +4,8 @@ ghost use Rattle.ax_line_stream.specs.Examples.{echo_command};
 use crate::outside::{Input, source};
 use ax_line_stream::{LineStop, LineWork, LinesEnd, run_lines};
 use ax_outside::MemSink;
-use std::alloc::{AllocError, Global};
+use std::alloc::Global;
 use std::process::Abort;
-use std::test::Fail;
 
 // An empty line asks for nothing, a line that begins with `x` is refused, and another one gives its octets.
 #[derive(Drop)]
@@ -48,8 +47,9 @@ type Output<'a> = (u32, &'a [u64]);
 
 const SOUND: Output<'static> = (100, &[]);
 
-fn sink(alloc: Global, (largest, failing): Output<'_>) -> Result<MemSink, AllocError> {
-    MemSink::new(alloc, 100, largest, Vec::from_slice(alloc, failing)?)
+fn sink(rt: &impl Abort, alloc: Global, (largest, failing): Output<'_>) -> MemSink {
+    let failing = Vec::from_slice(alloc, failing).expect(rt, "memory");
+    MemSink::new(alloc, 100, largest, failing).expect(rt, "memory")
 }
 
 fn echo_work(alloc: Global) -> Echo {
@@ -67,29 +67,29 @@ fn leaves(
     output: Output<'_>,
     written: &str,
     end: LinesEnd<u64>,
-) -> Result<(), AllocError> {
-    let mut source = source(alloc, input)?;
-    let mut out = sink(alloc, output)?;
+) {
+    let mut source = source(rt, alloc, input);
+    let mut out = sink(rt, alloc, output);
     let ended = run_lines(alloc, &mut echo_work(alloc), &mut source, &mut out);
     assert!(rt; ended == end, "where {written} is written");
     assert_eq!(rt; out.written(), written.as_bytes());
-    Ok(())
 }
 
 // One octet more than a line may have.
 const TOO_MANY: usize = 16_777_217;
 
 // The octets of a text, in which `~` stands for a line that is too long.
-fn octets_of(alloc: Global, text: &str) -> Result<Vec<u8>, AllocError> {
+fn octets_of(rt: &impl Abort, alloc: Global, text: &str) -> Vec<u8> {
     let mut made = Vec::new(alloc);
     for octet in text.as_bytes() {
         if *octet == b'~' {
-            made.resize(made.len() + TOO_MANY, b'~')?;
+            made.resize(made.len() + TOO_MANY, b'~')
+                .expect(rt, "memory");
         } else {
-            made.push(*octet)?;
+            made.push(*octet).expect(rt, "memory");
         }
     }
-    Ok(made)
+    made
 }
 
 // An input, what is written, and the end.
@@ -114,19 +114,18 @@ fn text_leaves(
     cuts: &[u32],
     written: &str,
     end: LinesEnd<u64>,
-) -> Result<(), AllocError> {
-    let octets = octets_of(alloc, text)?;
-    leaves(rt, alloc, (&octets, cuts, &[]), SOUND, written, end)
+) {
+    let octets = octets_of(rt, alloc, text);
+    leaves(rt, alloc, (&octets, cuts, &[]), SOUND, written, end);
 }
 
 #[test]
-fn each_cut_gives_the_same(rt: HostRuntime) -> Result<(), Fail> {
+fn each_cut_gives_the_same(rt: HostRuntime) {
     for &cuts in &CUTS {
         for &(text, written, end) in &CASES {
-            text_leaves(&rt, rt.alloc(), text, cuts, written, end)?;
+            text_leaves(&rt, rt.alloc(), text, cuts, written, end);
         }
     }
-    Ok(())
 }
 
 const LINES: &[u8] = b"12\n\n3\n";
@@ -144,12 +143,11 @@ const READS: [(u64, &str); 7] = [
 ];
 
 #[test]
-fn a_failing_read_ends_the_run(rt: HostRuntime) -> Result<(), Fail> {
+fn a_failing_read_ends_the_run(rt: HostRuntime) {
     for &(call, written) in &READS {
         let input: Input<'_> = (LINES, &[1; 6], &[call]);
-        leaves(&rt, rt.alloc(), input, SOUND, written, LinesEnd::ReadFault)?;
+        leaves(&rt, rt.alloc(), input, SOUND, written, LinesEnd::ReadFault);
     }
-    Ok(())
 }
 
 const UNENDED: &[u8] = b"12\n3";
@@ -158,12 +156,11 @@ const UNENDED: &[u8] = b"12\n3";
 const LAST_READS: [(u64, &str); 3] = [(3, "12"), (4, "12"), (5, "123")];
 
 #[test]
-fn a_last_line_is_given_where_the_input_ended(rt: HostRuntime) -> Result<(), Fail> {
+fn a_last_line_is_given_where_the_input_ended(rt: HostRuntime) {
     for &(call, written) in &LAST_READS {
         let input: Input<'_> = (UNENDED, &[1; 6], &[call]);
-        leaves(&rt, rt.alloc(), input, SOUND, written, LinesEnd::ReadFault)?;
+        leaves(&rt, rt.alloc(), input, SOUND, written, LinesEnd::ReadFault);
     }
-    Ok(())
 }
 
 // How many octets a call writes at most, the failing call, what is written, and the end: each result is one piece.
@@ -178,10 +175,9 @@ const WRITES: [(u32, u64, &str, LinesEnd<u64>); 7] = [
 ];
 
 #[test]
-fn a_failing_write_ends_the_run(rt: HostRuntime) -> Result<(), Fail> {
+fn a_failing_write_ends_the_run(rt: HostRuntime) {
     for &(largest, call, written, end) in &WRITES {
         let input: Input<'_> = (LINES, &[], &[]);
-        leaves(&rt, rt.alloc(), input, (largest, &[call]), written, end)?;
+        leaves(&rt, rt.alloc(), input, (largest, &[call]), written, end);
     }
-    Ok(())
 }

@@ -3,9 +3,8 @@
 use crate::outside::{Input, source};
 use ax_lines::{LineError, LineReader};
 use ax_outside::MemSource;
-use std::alloc::{AllocError, Global};
+use std::alloc::Global;
 use std::process::Abort;
-use std::test::Fail;
 
 // Whether the reader gives those lines next.
 fn gives(reader: &mut LineReader, source: &mut MemSource, lines: &[&str]) -> bool {
@@ -44,13 +43,12 @@ fn reads(
     (line_limit, limit): (u32, u64),
     lines: &[&str],
     end: Option<LineError>,
-) -> Result<(), AllocError> {
+) {
     assert!(rt; line_limit < 100);
-    let mut reader = LineReader::new(alloc, line_limit, limit)?;
-    let mut source = source(alloc, input)?;
+    let mut reader = LineReader::new(alloc, line_limit, limit).expect(rt, "memory");
+    let mut source = source(rt, alloc, input);
     assert!(rt; gives(&mut reader, &mut source, lines), "of {input:?}");
     assert!(rt; ends(&mut reader, &mut source, end), "of {input:?}");
-    Ok(())
 }
 
 // An input, the limits on a line and on the input, the lines that are given, and the end.
@@ -76,14 +74,13 @@ const CASES: [(&str, u32, u64, &[&str], Option<LineError>); 16] = [
 const CUTS: [&[u32]; 3] = [&[], &[1; 8], &[2, 3, 1, 2]];
 
 #[test]
-fn each_cut_gives_the_same(rt: HostRuntime) -> Result<(), Fail> {
+fn each_cut_gives_the_same(rt: HostRuntime) {
     for &cuts in &CUTS {
         for &(text, line_limit, limit, lines, end) in &CASES {
             let input: Input<'_> = (text.as_bytes(), cuts, &[]);
-            reads(&rt, rt.alloc(), input, (line_limit, limit), lines, end)?;
+            reads(&rt, rt.alloc(), input, (line_limit, limit), lines, end);
         }
     }
-    Ok(())
 }
 
 // Each call of an input octet by octet, and the lines that are given where that call fails.
@@ -98,20 +95,18 @@ const FAILING: [(u64, &[&str]); 7] = [
 ];
 
 #[test]
-fn a_failing_read_ends_the_lines(rt: HostRuntime) -> Result<(), Fail> {
+fn a_failing_read_ends_the_lines(rt: HostRuntime) {
     let end = Some(LineError::ReadFault);
     for &(call, lines) in &FAILING {
         let input: Input<'_> = (b"ab\n\nc\n", &[1; 6], &[call]);
-        reads(&rt, rt.alloc(), input, (4, 100), lines, end)?;
+        reads(&rt, rt.alloc(), input, (4, 100), lines, end);
     }
-    Ok(())
 }
 
 // Lines that came in one call are given before the source is asked again.
 #[test]
-fn lines_buffered_come_first(rt: HostRuntime) -> Result<(), Fail> {
+fn lines_buffered_come_first(rt: HostRuntime) {
     let input: Input<'_> = (b"ab\n\nc\nd", &[], &[1]);
     let end = Some(LineError::ReadFault);
-    reads(&rt, rt.alloc(), input, (4, 100), &["ab", "", "c"], end)?;
-    Ok(())
+    reads(&rt, rt.alloc(), input, (4, 100), &["ab", "", "c"], end);
 }

@@ -1,17 +1,19 @@
 //! Inputs in memory, whose reads are cut and fail by their numbers.
 
 use ax_outside::MemSource;
-use std::alloc::{AllocError, Global};
+use std::alloc::Global;
+use std::process::Abort;
 
 /// The octets of an input, the most octets that each read gives, in turn, and the numbers of the reads that fail.
 pub(crate) type Input<'a> = (&'a [u8], &'a [u32], &'a [u64]);
 
 pub(crate) fn source(
+    rt: &impl Abort,
     alloc: Global,
     (octets, cuts, failing): Input<'_>,
-) -> Result<MemSource, AllocError> {
-    let octets = Vec::from_slice(alloc, octets)?;
-    let cuts = Vec::from_slice(alloc, cuts)?;
-    let failing = Vec::from_slice(alloc, failing)?;
-    Ok(MemSource::new(octets, cuts, failing))
+) -> MemSource {
+    let octets = Vec::from_slice(alloc, octets).expect(rt, "memory");
+    let cuts = Vec::from_slice(alloc, cuts).expect(rt, "memory");
+    let failing = Vec::from_slice(alloc, failing).expect(rt, "memory");
+    MemSource::new(octets, cuts, failing)
 }

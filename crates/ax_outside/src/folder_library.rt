@@ -88,14 +88,13 @@ impl<R: Files + Drop> Library for FolderLibrary<R> {
 mod tests {
     use super::*;
     use crate::checks::{loads, tells};
-    use std::io;
     use std::process::Abort;
 
     // A real folder, with two files and a folder in it.
-    fn put_files(rt: &impl Files) -> io::Result<()> {
-        fs::write(rt, "A", "abcde")?;
-        fs::write(rt, "empty", "")?;
-        fs::create_dir_all(rt, "folder")
+    fn put_files<R: Files + Abort>(rt: &R) {
+        fs::write(rt, "A", "abcde").expect(rt, "a file");
+        fs::write(rt, "empty", "").expect(rt, "a file");
+        fs::create_dir_all(rt, "folder").expect(rt, "a folder");
     }
 
     // A load's name and limit, its answer, and the faults counted and the octets taken after it.
@@ -128,12 +127,11 @@ mod tests {
     }
 
     #[test]
-    fn files_are_loaded_by_name(rt: HostRuntime) -> io::Result<()> {
-        put_files(&rt)?;
+    fn files_are_loaded_by_name(rt: HostRuntime) {
+        put_files(&rt);
         let mut library = FolderLibrary::new(&rt);
         for row in &LOADS {
             answers(&rt, rt.alloc(), &mut library, row);
         }
-        Ok(())
     }
 }

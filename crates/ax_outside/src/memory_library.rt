@@ -132,29 +132,26 @@ impl Library for MemLibrary {
 mod tests {
     use super::*;
     use crate::checks::{loads, tells};
-    use std::alloc::AllocError;
     use std::process::Abort;
 
     // Two files of one name and one of another.
     const FILES: [(&str, &[u8]); 3] = [("A", b"abc"), ("B", b"de"), ("A", b"f")];
 
-    fn put(
-        alloc: Global,
-        files: &mut Vec<(String, Vec<u8>)>,
-        name: &str,
-        octets: &[u8],
-    ) -> Result<(), AllocError> {
-        files.push((String::from_str(alloc, name)?, octets.to_vec(alloc)?))?;
-        Ok(())
+    fn file(rt: &impl Abort, alloc: Global, name: &str, octets: &[u8]) -> (String, Vec<u8>) {
+        let octets = octets.to_vec(alloc).expect(rt, "memory");
+        let name = String::from_str(alloc, name).expect(rt, "memory");
+        (name, octets)
     }
 
     // A library of those files, whose load 1 fails.
-    fn library(alloc: Global) -> Result<MemLibrary, AllocError> {
+    fn library(rt: &impl Abort, alloc: Global) -> MemLibrary {
         let mut files = Vec::new(alloc);
         for &(name, octets) in &FILES {
-            put(alloc, &mut files, name, octets)?;
+            let one = file(rt, alloc, name, octets);
+            files.push(one).expect(rt, "memory");
         }
-        Ok(MemLibrary::new(files, vec![in alloc; 1]?))
+        let failing = vec![in alloc; 1].expect(rt, "memory");
+        MemLibrary::new(files, failing)
     }
 
     // A load's name and limit, its answer, and the faults counted after it.
@@ -179,11 +176,10 @@ mod tests {
     }
 
     #[test]
-    fn the_first_file_of_a_name_counts(rt: HostRuntime) -> Result<(), AllocError> {
-        let mut library = library(rt.alloc())?;
+    fn the_first_file_of_a_name_counts(rt: HostRuntime) {
+        let mut library = library(&rt, rt.alloc());
         for row in &LOADS {
             answers(&rt, rt.alloc(), &mut library, row);
         }
-        Ok(())
     }
 }

@@ -123,8 +123,9 @@ mod tests {
     use std::process::Abort;
 
     // A room of five octets, two a call, call 1 failing.
-    fn sink(alloc: Global) -> Result<MemSink, AllocError> {
-        MemSink::new(alloc, 5, 2, vec![in alloc; 1]?)
+    fn sink(rt: &impl Abort, alloc: Global) -> MemSink {
+        let failing = vec![in alloc; 1].expect(rt, "memory");
+        MemSink::new(alloc, 5, 2, failing).expect(rt, "memory")
     }
 
     // Each call's piece, its answer, and what is held after it.
@@ -149,12 +150,11 @@ mod tests {
     }
 
     #[test]
-    fn calls_are_cut_and_fail_by_number(rt: HostRuntime) -> Result<(), AllocError> {
-        let mut sink = sink(rt.alloc())?;
+    fn calls_are_cut_and_fail_by_number(rt: HostRuntime) {
+        let mut sink = sink(&rt, rt.alloc());
         for &(piece, wanted, held) in &WRITES {
             answers(&rt, &mut sink, piece, wanted, held);
         }
         tells(&rt, sink.faults, 2, "faults");
-        Ok(())
     }
 }

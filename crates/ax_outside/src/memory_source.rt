@@ -111,14 +111,15 @@ impl Source for MemSource {
 mod tests {
     use super::*;
     use crate::checks::{counts, holds, tells};
-    use std::alloc::{AllocError, Global};
+    use std::alloc::Global;
     use std::process::Abort;
 
     // Six octets under the cuts 2, 9, 0, call 1 failing.
-    fn source(alloc: Global) -> Result<MemSource, AllocError> {
-        let octets = b"abcdef".to_vec(alloc)?;
-        let cuts = vec![in alloc; 2, 9, 0]?;
-        Ok(MemSource::new(octets, cuts, vec![in alloc; 1]?))
+    fn source(rt: &impl Abort, alloc: Global) -> MemSource {
+        let octets = b"abcdef".to_vec(alloc).expect(rt, "memory");
+        let cuts = vec![in alloc; 2, 9, 0].expect(rt, "memory");
+        let failing = vec![in alloc; 1].expect(rt, "memory");
+        MemSource::new(octets, cuts, failing)
     }
 
     // Each call's answer, with the front of the buffer.
@@ -142,13 +143,12 @@ mod tests {
     }
 
     #[test]
-    fn calls_are_cut_and_fail_by_number(rt: HostRuntime) -> Result<(), AllocError> {
-        let mut source = source(rt.alloc())?;
+    fn calls_are_cut_and_fail_by_number(rt: HostRuntime) {
+        let mut source = source(&rt, rt.alloc());
         let mut part = [0u8; 4];
         for &(wanted, front) in &READS {
             answers(&rt, &mut source, &mut part, wanted, front);
         }
         tells(&rt, source.faults, 1, "faults");
-        Ok(())
     }
 }

@@ -61,14 +61,14 @@ impl<R: Read> Source for ReadSource<R> {
 mod tests {
     use super::*;
     use crate::checks::{counts, holds, tells};
+    use std::fs;
     use std::process::Abort;
     use std::rt::Files;
-    use std::{fs, io};
 
     // A real file of five octets.
-    fn file<R: Files>(rt: &R) -> io::Result<R::File> {
-        fs::write(rt, "input", "abcde")?;
-        fs::open(rt, "input")
+    fn file<R: Files + Abort>(rt: &R) -> R::File {
+        fs::write(rt, "input", "abcde").expect(rt, "a file");
+        fs::open(rt, "input").expect(rt, "a file")
     }
 
     // What each read answers, and what stands in the buffer then.
@@ -87,24 +87,23 @@ mod tests {
 
     // A real file is read to its end in pieces.
     #[test]
-    fn a_file_is_read_to_its_end(rt: HostRuntime) -> io::Result<()> {
-        let mut source = ReadSource::new(file(&rt)?);
+    fn a_file_is_read_to_its_end(rt: HostRuntime) {
+        let mut source = ReadSource::new(file(&rt));
         let mut part = [0u8; 3];
         for &(count, octets) in &READS {
             answers(&rt, &mut source, &mut part, count, octets);
         }
         tells(&rt, source.taken, 5, "octets taken");
         tells(&rt, source.faults, 0, "faults");
-        Ok(())
     }
 
     // A folder in the place of a file is a counted fault.
     #[test]
-    fn a_folder_is_a_fault(rt: HostRuntime) -> io::Result<()> {
-        let mut folder = ReadSource::new(fs::open(&rt, ".")?);
+    fn a_folder_is_a_fault(rt: HostRuntime) {
+        let opened = fs::open(&rt, ".").expect(&rt, "a folder");
+        let mut folder = ReadSource::new(opened);
         counts(&rt, folder.read(&mut [0u8; 3]).ok(), None, "a folder");
         tells(&rt, folder.taken, 0, "octets taken");
         tells(&rt, folder.faults, 1, "faults");
-        Ok(())
     }
 }

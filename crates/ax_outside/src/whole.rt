@@ -56,14 +56,14 @@ mod tests {
     use crate::checks::{counts, holds};
     use crate::memory_sink::MemSink;
     use crate::memory_source::MemSource;
-    use std::alloc::{AllocError, Global};
+    use std::alloc::Global;
     use std::process::Abort;
 
     // Six octets in cuts of 2, 3 and 1.
-    fn source(alloc: Global) -> Result<MemSource, AllocError> {
-        let octets = b"abcdef".to_vec(alloc)?;
-        let cuts = vec![in alloc; 2, 3, 1]?;
-        Ok(MemSource::new(octets, cuts, Vec::new(alloc)))
+    fn source(rt: &impl Abort, alloc: Global) -> MemSource {
+        let octets = b"abcdef".to_vec(alloc).expect(rt, "memory");
+        let cuts = vec![in alloc; 2, 3, 1].expect(rt, "memory");
+        MemSource::new(octets, cuts, Vec::new(alloc))
     }
 
     // Asserts how much of the buffer is filled.
@@ -78,9 +78,10 @@ mod tests {
 
     // The source fills a buffer of 4 and then part of it, and a sink of one octet a call takes both.
     #[test]
-    fn cuts_leave_no_trace(rt: HostRuntime) -> Result<(), AllocError> {
-        let mut source = source(rt.alloc())?;
-        let mut sink = MemSink::new(rt.alloc(), 6, 1, Vec::new(rt.alloc()))?;
+    fn cuts_leave_no_trace(rt: HostRuntime) {
+        let alloc = rt.alloc();
+        let mut source = source(&rt, alloc);
+        let mut sink = MemSink::new(alloc, 6, 1, Vec::new(alloc)).expect(&rt, "memory");
         let mut buffer = [0u8; 4];
         fills(&rt, &mut source, &mut buffer, 4);
         holds(&rt, &buffer, b"abcd", "the buffer");
@@ -89,6 +90,5 @@ mod tests {
         writes(&rt, &mut sink, &buffer[..2], Ok(()));
         holds(&rt, sink.written(), b"abcdef", "the sink");
         writes(&rt, &mut sink, &buffer, Err(SinkFailed));
-        Ok(())
     }
 }

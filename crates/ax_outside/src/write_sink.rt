@@ -51,8 +51,8 @@ impl<W: Write> Sink for WriteSink<W> {
 mod tests {
     use super::*;
     use crate::checks::{counts, holds, tells};
+    use std::fs;
     use std::process::Abort;
-    use std::{fs, io};
 
     // Each piece, and how many octets of it are taken.
     const WRITES: [(&str, usize); 3] = [("abc", 3), ("", 0), ("d", 1)];
@@ -63,23 +63,24 @@ mod tests {
 
     // What is written stands in a real file.
     #[test]
-    fn a_piece_stands_in_the_file(rt: HostRuntime) -> io::Result<()> {
-        let mut sink = WriteSink::new(fs::create(&rt, "output")?);
+    fn a_piece_stands_in_the_file(rt: HostRuntime) {
+        let created = fs::create(&rt, "output").expect(&rt, "a file");
+        let mut sink = WriteSink::new(created);
         for &(piece, count) in &WRITES {
             takes(&rt, &mut sink, piece, count);
         }
         tells(&rt, sink.faults, 0, "faults");
-        holds(&rt, &fs::read(&rt, "output")?, b"abcd", "the file");
-        Ok(())
+        let file = fs::read(&rt, "output").expect(&rt, "the file");
+        holds(&rt, &file, b"abcd", "the file");
     }
 
     // A write to a file that was opened to be read is a counted fault.
     #[test]
-    fn a_file_to_be_read_takes_nothing(rt: HostRuntime) -> io::Result<()> {
-        fs::write(&rt, "readable", "abcd")?;
-        let mut unwritable = WriteSink::new(fs::open(&rt, "readable")?);
+    fn a_file_to_be_read_takes_nothing(rt: HostRuntime) {
+        fs::write(&rt, "readable", "abcd").expect(&rt, "a file");
+        let opened = fs::open(&rt, "readable").expect(&rt, "a file");
+        let mut unwritable = WriteSink::new(opened);
         counts(&rt, unwritable.write(b"e").ok(), None, "e");
         tells(&rt, unwritable.faults, 1, "faults");
-        Ok(())
     }
 }

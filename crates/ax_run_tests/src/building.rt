@@ -1,10 +1,8 @@
 //! `build` over lines that are blocks' texts, and over lines that are not.
 
-use crate::world::{Left, Outside, leaves};
-use ax_samples::octets;
-use std::alloc::{AllocError, Global};
+use crate::world::{Left, Outside, bytes, leaves};
+use std::alloc::Global;
 use std::process::Abort;
-use std::test::Fail;
 
 // The words, the lines, the exit status, the output and the report. Each input is read to its end.
 const LINES: [(&str, &str, u8, &str, &str); 28] = [
@@ -206,42 +204,42 @@ fn builds(
     lines: &[u8],
     outside: Outside,
     want: (u8, &str, &str, usize),
-) -> Result<(), Fail> {
+) {
     let (status, out, report, left) = want;
-    let out = octets(alloc, out)?;
+    let out = bytes(rt, alloc, out);
     let want = Left {
         status,
         out: &out,
         report: report.as_bytes(),
         left,
     };
-    leaves(rt, alloc, words, lines, outside, want)
+    leaves(rt, alloc, words, lines, outside, want);
 }
 
 #[test]
-fn blocks_of_lines(rt: HostRuntime) -> Result<(), Fail> {
+fn blocks_of_lines(rt: HostRuntime) {
     let alloc = rt.alloc();
     for &(words, lines, status, out, report) in &LINES {
         let want = (status, out, report, 0);
-        builds(&rt, alloc, words, lines.as_bytes(), Outside::Sound, want)?;
+        builds(&rt, alloc, words, lines.as_bytes(), Outside::Sound, want);
     }
-    Ok(())
 }
 
 // A front, so many times a piece, and an end.
 fn repeated(
+    rt: &impl Abort,
     alloc: Global,
     front: &[u8],
     count: u32,
     piece: &[u8],
     end: &[u8],
-) -> Result<Vec<u8>, AllocError> {
-    let mut made = front.to_vec(alloc)?;
+) -> Vec<u8> {
+    let mut made = front.to_vec(alloc).expect(rt, "memory");
     for _ in 0..count {
-        made.extend_from_slice(piece)?;
+        made.extend_from_slice(piece).expect(rt, "memory");
     }
-    made.extend_from_slice(end)?;
-    Ok(made)
+    made.extend_from_slice(end).expect(rt, "memory");
+    made
 }
 
 // A front, the count of a piece, the piece, an end, the output in hexadecimal and the report.
@@ -281,14 +279,13 @@ const LONG: [(&[u8], u32, &[u8], &[u8], &str, &str); 4] = [
 ];
 
 #[test]
-fn blocks_and_lines_that_are_too_long(rt: HostRuntime) -> Result<(), Fail> {
+fn blocks_and_lines_that_are_too_long(rt: HostRuntime) {
     let alloc = rt.alloc();
     for &(front, count, piece, end, out, report) in &LONG {
-        let input = repeated(alloc, front, count, piece, end)?;
+        let input = repeated(&rt, alloc, front, count, piece, end);
         let want = (3, out, report, 0);
-        builds(&rt, alloc, "build 048", &input, Outside::Sound, want)?;
+        builds(&rt, alloc, "build 048", &input, Outside::Sound, want);
     }
-    Ok(())
 }
 
 const THREE_LINES: &str = "opaque 062 \"80ff\"\n\nopaque 063 \"00\"\n";
@@ -302,7 +299,7 @@ const WRITTEN: [(usize, usize, &str); 3] = [
 ];
 
 #[test]
-fn a_failing_read_keeps_the_lines_before_it(rt: HostRuntime) -> Result<(), Fail> {
+fn a_failing_read_keeps_the_lines_before_it(rt: HostRuntime) {
     let alloc = rt.alloc();
     let lines = THREE_LINES.as_bytes();
     for &(from, to, out) in &WRITTEN {
@@ -315,15 +312,14 @@ fn a_failing_read_keeps_the_lines_before_it(rt: HostRuntime) -> Result<(), Fail>
                 lines,
                 Outside::OctetRead(call as u64),
                 want,
-            )?;
+            );
         }
     }
-    Ok(())
 }
 
 // Each block is one piece: of two blocks a second failing write leaves the first.
 #[test]
-fn a_block_is_one_piece(rt: HostRuntime) -> Result<(), Fail> {
+fn a_block_is_one_piece(rt: HostRuntime) {
     let want = (4, "3E 00 05 80 FF", "fault write\n", 0);
     builds(
         &rt,
@@ -332,5 +328,5 @@ fn a_block_is_one_piece(rt: HostRuntime) -> Result<(), Fail> {
         THREE_LINES.as_bytes(),
         Outside::Write(1),
         want,
-    )
+    );
 }

@@ -4,14 +4,12 @@ ghost use Rattle.std.specs.Prelude.{◌≡◌};
 ghost use Rattle.ax_outside.specs.Changes.{Wrote, sink_change};
 ghost use Rattle.ax_run_tests.specs.Categories.{category_command, category_line};
 
-use crate::world::left_of;
+use crate::world::{bytes, failing, left_of};
 use ax_model::{RawBlock, category_digits};
 use ax_outside::{MemSink, MemSource, Sink, SinkFailed, write_text};
-use ax_samples::octets;
 use ax_stream::{BlockWork, StreamEnd, WorkStop, run_blocks};
 use std::alloc::Global;
 use std::process::Abort;
-use std::test::Fail;
 
 /// The octets that the result of a refused block would have.
 const TOO_MANY: u32 = 70_000;
@@ -111,12 +109,9 @@ const LONG: StreamEnd = StreamEnd::TooLong {
     octets: TOO_MANY,
 };
 
-fn sink(alloc: Global, failing: Option<u64>) -> Result<MemSink, Fail> {
-    let mut calls = Vec::new(alloc);
-    if let Some(call) = failing {
-        calls.push(call)?;
-    }
-    Ok(MemSink::new(alloc, 100, 2, calls)?)
+fn sink(rt: &impl Abort, alloc: Global, call: Option<u64>) -> MemSink {
+    let failing = failing(rt, alloc, call);
+    MemSink::new(alloc, 100, 2, failing).expect(rt, "memory")
 }
 
 /// The outside of a run.
@@ -128,15 +123,17 @@ struct World {
 }
 
 fn world_of(
+    rt: &impl Abort,
     alloc: Global,
     out_fails: Option<u64>,
     report_fails: Option<u64>,
-) -> Result<World, Fail> {
-    Ok(World {
-        source: MemSource::new(octets(alloc, INPUT)?, Vec::new(alloc), Vec::new(alloc)),
-        out: sink(alloc, out_fails)?,
-        report: sink(alloc, report_fails)?,
-    })
+) -> World {
+    let input = bytes(rt, alloc, INPUT);
+    World {
+        source: MemSource::new(input, Vec::new(alloc), Vec::new(alloc)),
+        out: sink(rt, alloc, out_fails),
+        report: sink(rt, alloc, report_fails),
+    }
 }
 
 fn ends_as(
@@ -145,7 +142,7 @@ fn ends_as(
     world: &mut World,
     end: StreamEnd,
     (written, reported, left): (&[u8], &[u8], usize),
-) -> Result<(), Fail> {
+) {
     let mut work = CategoryWork { mark: b"+++." };
     let got = run_blocks(
         alloc,
@@ -157,16 +154,14 @@ fn ends_as(
     assert_eq!(rt; got, end);
     assert_eq!(rt; world.out.written(), written);
     assert_eq!(rt; world.report.written(), reported);
-    assert_eq!(rt; left_of(alloc, &mut world.source)?, left);
-    Ok(())
+    assert_eq!(rt; left_of(rt, alloc, &mut world.source), left);
 }
 
 #[test]
-fn what_stands_where_a_line_or_a_piece_fails(rt: HostRuntime) -> Result<(), Fail> {
+fn what_stands_where_a_line_or_a_piece_fails(rt: HostRuntime) {
     let alloc = rt.alloc();
     for &(out_fails, report_fails, end, written, reported, left) in &ROWS {
-        let mut world = world_of(alloc, out_fails, report_fails)?;
-        ends_as(&rt, alloc, &mut world, end, (written, reported, left))?;
+        let mut world = world_of(&rt, alloc, out_fails, report_fails);
+        ends_as(&rt, alloc, &mut world, end, (written, reported, left));
     }
-    Ok(())
 }

@@ -1,10 +1,9 @@
 //! `check`, refused files and refused words. None of these reads the input.
 
-use crate::world::{Left, Outside, leaves, leaves_octets};
-use ax_samples::{CAT019_P1, FILE_E, octets};
-use std::alloc::{AllocError, Global};
+use crate::world::{Left, Outside, bytes, leaves, leaves_octets};
+use ax_samples::{CAT019_P1, FILE_E};
+use std::alloc::Global;
 use std::process::Abort;
-use std::test::Fail;
 
 const INPUT: &str = "22 00 0A E0 19 0C 01 00 00 80";
 
@@ -48,45 +47,37 @@ const REFUSED: [(&str, u8, &str); 25] = [
 ];
 
 #[test]
-fn refused_words_and_files(rt: HostRuntime) -> Result<(), Fail> {
+fn refused_words_and_files(rt: HostRuntime) {
     let alloc = rt.alloc();
     for &(words, status, report) in &REFUSED {
         let want = (status, "", report, 10);
-        leaves_octets(&rt, alloc, words, INPUT, Outside::Sound, want)?;
+        leaves_octets(&rt, alloc, words, INPUT, Outside::Sound, want);
     }
-    Ok(())
 }
 
 // The line, and after it the words of the text with one blank between them, as a specification is printed.
-fn accepted(alloc: Global, line: &str, text: &str) -> Result<Vec<u8>, AllocError> {
-    let mut made = line.as_bytes().to_vec(alloc)?;
+fn accepted(rt: &impl Abort, alloc: Global, line: &str, text: &str) -> Vec<u8> {
+    let mut made = line.as_bytes().to_vec(alloc).expect(rt, "memory");
     for word in text.split_whitespace() {
-        made.extend_from_slice(word.as_bytes())?;
-        made.push(b' ')?;
+        made.extend_from_slice(word.as_bytes()).expect(rt, "memory");
+        made.push(b' ').expect(rt, "memory");
     }
     let _blank = made.pop();
-    made.push(b'\n')?;
-    Ok(made)
+    made.push(b'\n').expect(rt, "memory");
+    made
 }
 
 /// Asserts that the words write the line and the text, and read no input.
-fn writes(
-    rt: &impl Abort,
-    alloc: Global,
-    words: &str,
-    outside: Outside,
-    line: &str,
-    text: &str,
-) -> Result<(), Fail> {
-    let out = accepted(alloc, line, text)?;
-    let input = octets(alloc, INPUT)?;
+fn writes(rt: &impl Abort, alloc: Global, words: &str, outside: Outside, line: &str, text: &str) {
+    let out = accepted(rt, alloc, line, text);
+    let input = bytes(rt, alloc, INPUT);
     let want = Left {
         status: 0,
         out: &out,
         report: b"",
         left: 10,
     };
-    leaves(rt, alloc, words, &input, outside, want)
+    leaves(rt, alloc, words, &input, outside, want);
 }
 
 // The words, and the line and the text that are written.
@@ -98,27 +89,24 @@ const ACCEPTED: [(&str, &str, &str); 4] = [
 ];
 
 #[test]
-fn an_accepted_file_is_written_in_one_line(rt: HostRuntime) -> Result<(), Fail> {
+fn an_accepted_file_is_written_in_one_line(rt: HostRuntime) {
     let alloc = rt.alloc();
     for &(words, line, text) in &ACCEPTED {
-        writes(&rt, alloc, words, Outside::Sound, line, text)?;
+        writes(&rt, alloc, words, Outside::Sound, line, text);
     }
-    Ok(())
 }
 
 #[test]
-fn the_text_of_file_e_is_in_its_words(rt: HostRuntime) -> Result<(), Fail> {
-    let text = accepted(rt.alloc(), "", FILE_E)?;
+fn the_text_of_file_e_is_in_its_words(rt: HostRuntime) {
+    let text = accepted(&rt, rt.alloc(), "", FILE_E);
     assert_eq!(rt; text.as_slice(), FILE_E.as_bytes());
-    Ok(())
 }
 
 // The file is loaded once, and its text is one write: a second call of either would fail.
 #[test]
-fn check_loads_once_and_writes_once(rt: HostRuntime) -> Result<(), Fail> {
+fn check_loads_once_and_writes_once(rt: HostRuntime) {
     let alloc = rt.alloc();
     for outside in [Outside::Load(1), Outside::Write(1)] {
-        writes(&rt, alloc, "check E", outside, LINE_OF_E, FILE_E)?;
+        writes(&rt, alloc, "check E", outside, LINE_OF_E, FILE_E);
     }
-    Ok(())
 }

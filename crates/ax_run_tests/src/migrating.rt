@@ -1,10 +1,8 @@
 //! `migrate`: blocks of one edition in another, the lines of their losses, and what stands where a call fails.
 
-use crate::world::{Left, Outside, leaves, leaves_octets};
-use ax_samples::octets;
-use std::alloc::{AllocError, Global};
+use crate::world::{Left, Outside, bytes, leaves, leaves_octets};
+use std::alloc::Global;
 use std::process::Abort;
-use std::test::Fail;
 
 const PLOT: &str = "30 00 08 A0 19 0C A1 00";
 
@@ -202,13 +200,12 @@ const RUNS: [(Outside, &str, &str, u8, &str, &str, usize); 21] = [
 ];
 
 #[test]
-fn editions_of_one_category(rt: HostRuntime) -> Result<(), Fail> {
+fn editions_of_one_category(rt: HostRuntime) {
     let alloc = rt.alloc();
     for &(outside, words, input, status, out, report, left) in &RUNS {
         let want = (status, out, report, left);
-        leaves_octets(&rt, alloc, words, input, outside, want)?;
+        leaves_octets(&rt, alloc, words, input, outside, want);
     }
-    Ok(())
 }
 
 // The call of the report that fails, each taking one octet; and the status, the output, the report, and how many octets
@@ -234,45 +231,43 @@ const CUT_LINES: [(u64, u8, &str, &str, usize); 5] = [
 ];
 
 #[test]
-fn lines_that_are_cut(rt: HostRuntime) -> Result<(), Fail> {
+fn lines_that_are_cut(rt: HostRuntime) {
     let alloc = rt.alloc();
     for &(call, status, out, report, left) in &CUT_LINES {
         let outside = Outside::OctetReport(call);
         let want = (status, out, report, left);
-        leaves_octets(&rt, alloc, "migrate H1 H2", FULL_TWICE, outside, want)?;
+        leaves_octets(&rt, alloc, "migrate H1 H2", FULL_TWICE, outside, want);
     }
-    Ok(())
 }
 
 /// The largest block of G1, whose records have one item of one octet, and these octets after it.
-fn largest(alloc: Global, after: &[u8]) -> Result<Vec<u8>, AllocError> {
-    let mut made = vec![in alloc; 0xC9, 0xFF, 0xFF]?;
+fn largest(rt: &impl Abort, alloc: Global, after: &[u8]) -> Vec<u8> {
+    let mut made = vec![in alloc; 0xC9, 0xFF, 0xFF].expect(rt, "memory");
     for _ in 0..32_766 {
-        made.extend_from_slice(&[0x80, 0x01])?;
+        made.extend_from_slice(&[0x80, 0x01]).expect(rt, "memory");
     }
-    made.extend_from_slice(after)?;
-    Ok(made)
+    made.extend_from_slice(after).expect(rt, "memory");
+    made
 }
 
 // Asserts that the octets after the largest block, in hexadecimal, aren't read: there are so many.
-fn is_too_long(rt: &impl Abort, alloc: Global, after: &str, left: usize) -> Result<(), Fail> {
-    let after = octets(alloc, after)?;
-    let input = largest(alloc, &after)?;
+fn is_too_long(rt: &impl Abort, alloc: Global, after: &str, left: usize) {
+    let after = bytes(rt, alloc, after);
+    let input = largest(rt, alloc, &after);
     let want = Left {
         status: 3,
         out: b"",
         report: b"refused block 0 MigratedTooLong 98301\n",
         left,
     };
-    leaves(rt, alloc, "migrate G1 G2", &input, Outside::Sound, want)
+    leaves(rt, alloc, "migrate G1 G2", &input, Outside::Sound, want);
 }
 
 // A migrated block that is too long is refused before any fault after it.
 #[test]
-fn a_migrated_block_is_too_long(rt: HostRuntime) -> Result<(), Fail> {
+fn a_migrated_block_is_too_long(rt: HostRuntime) {
     let alloc = rt.alloc();
     for (after, left) in [("", 0), ("C9 00 03", 3)] {
-        is_too_long(&rt, alloc, after, left)?;
+        is_too_long(&rt, alloc, after, left);
     }
-    Ok(())
 }

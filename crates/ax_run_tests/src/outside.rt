@@ -1,7 +1,6 @@
 //! Faults of the outside: each call that fails, and outputs that are too small.
 
 use crate::world::{Outside, leaves_octets};
-use std::test::Fail;
 
 const NORTH: &str = "22 00 0A E0 19 0C 01 00 00 80";
 
@@ -115,11 +114,10 @@ const FAILING: [(Outside, &str, &str, u8, &str, &str, usize); 19] = [
 ];
 
 #[test]
-fn failing_calls_and_outputs_that_are_too_small(rt: HostRuntime) -> Result<(), Fail> {
+fn failing_calls_and_outputs_that_are_too_small(rt: HostRuntime) {
     let alloc = rt.alloc();
     for &(outside, words, input, status, out, report, left) in &FAILING {
         let want = (status, out, report, left);
-        leaves_octets(&rt, alloc, words, input, outside, want)?;
+        leaves_octets(&rt, alloc, words, input, outside, want);
     }
-    Ok(())
 }

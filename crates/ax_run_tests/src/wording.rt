@@ -3,7 +3,6 @@
 use crate::world::{Left, Outside, leaves};
 use std::alloc::Global;
 use std::process::Abort;
-use std::test::Fail;
 
 const HELP: &str =
     "asterix check SPEC\nasterix canon SPEC...\nasterix show SPEC...\nasterix text SPEC...\nasterix build SPEC...\nasterix filter EXPR SPEC...\nasterix migrate OLD NEW\nasterix trial SPEC SEED COUNT\n";
@@ -41,28 +40,20 @@ const WORDS: [(&str, u8, &str, &str); 21] = [
 
 const INPUT: &[u8] = b"\x3e\x00\x05\x80\xff";
 
-fn ends(
-    rt: &impl Abort,
-    alloc: Global,
-    words: &str,
-    status: u8,
-    out: &str,
-    report: &str,
-) -> Result<(), Fail> {
+fn ends(rt: &impl Abort, alloc: Global, words: &str, status: u8, out: &str, report: &str) {
     let want = Left {
         status,
         out: out.as_bytes(),
         report: report.as_bytes(),
         left: 5,
     };
-    leaves(rt, alloc, words, INPUT, Outside::Sound, want)
+    leaves(rt, alloc, words, INPUT, Outside::Sound, want);
 }
 
 #[test]
-fn words_alone(rt: HostRuntime) -> Result<(), Fail> {
+fn words_alone(rt: HostRuntime) {
     let alloc = rt.alloc();
     for &(words, status, out, report) in &WORDS {
-        ends(&rt, alloc, words, status, out, report)?;
+        ends(&rt, alloc, words, status, out, report);
     }
-    Ok(())
 }

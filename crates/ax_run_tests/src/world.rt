@@ -6,9 +6,8 @@ use ax_samples::{
     CAT019_P1, CAT034_P1, CAT048_P1, CAT048_P2, FILE_A, FILE_E, FILE_F, FILE_G1, FILE_G2, FILE_H1,
     FILE_H2, FILE_H3, FILE_N, FILE_S, FILE_Z, NESTED_TOO_DEEP, octets,
 };
-use std::alloc::{AllocError, Global};
+use std::alloc::Global;
 use std::process::Abort;
-use std::test::Fail;
 
 // A file with four flaws, one that ends too early, and one with a quotation mark that is never closed.
 const FILE_V: &str =
@@ -67,29 +66,45 @@ pub enum Outside {
 // More octets than any output here has.
 const AMPLE: u32 = 70_000;
 
-fn library_of(alloc: Global, outside: Outside) -> Result<MemLibrary, AllocError> {
-    let failing = match outside {
-        Outside::Load(call) => vec![in alloc; call]?,
-        _ => Vec::new(alloc),
-    };
-    Ok(MemLibrary::new(files(alloc)?, failing))
+/// The number of the call that fails, if any.
+pub fn failing(rt: &impl Abort, alloc: Global, call: Option<u64>) -> Vec<u64> {
+    match call {
+        Some(call) => vec![in alloc; call].expect(rt, "memory"),
+        None => Vec::new(alloc),
+    }
 }
 
-fn source_of(alloc: Global, outside: Outside, input: &[u8]) -> Result<MemSource, AllocError> {
-    let cuts = match outside {
+fn library_of(rt: &impl Abort, alloc: Global, outside: Outside) -> MemLibrary {
+    let call = match outside {
+        Outside::Load(call) => Some(call),
+        _ => None,
+    };
+    MemLibrary::new(files(rt, alloc), failing(rt, alloc, call))
+}
+
+/// The most octets that each read gives, in turn.
+fn cuts_of(rt: &impl Abort, alloc: Global, outside: Outside, count: usize) -> Vec<u32> {
+    match outside {
         // Each octet, and the end after them.
-        Outside::OctetReads | Outside::OctetRead(_) => vec![in alloc; 1; input.len() + 1]?,
-        Outside::CutReads => vec![in alloc; 2, 3, 5]?,
+        Outside::OctetReads | Outside::OctetRead(_) => {
+            vec![in alloc; 1; count.saturating_add(1)].expect(rt, "memory")
+        }
+        Outside::CutReads => vec![in alloc; 2, 3, 5].expect(rt, "memory"),
         _ => Vec::new(alloc),
-    };
-    let failing = match outside {
-        Outside::OctetRead(call) => vec![in alloc; call]?,
-        _ => Vec::new(alloc),
-    };
-    Ok(MemSource::new(input.to_vec(alloc)?, cuts, failing))
+    }
 }
 
-fn out_of(alloc: Global, outside: Outside) -> Result<MemSink, AllocError> {
+fn source_of(rt: &impl Abort, alloc: Global, outside: Outside, input: &[u8]) -> MemSource {
+    let call = match outside {
+        Outside::OctetRead(call) => Some(call),
+        _ => None,
+    };
+    let cuts = cuts_of(rt, alloc, outside, input.len());
+    let octets = input.to_vec(alloc).expect(rt, "memory");
+    MemSource::new(octets, cuts, failing(rt, alloc, call))
+}
+
+fn out_of(rt: &impl Abort, alloc: Global, outside: Outside) -> MemSink {
     let room = match outside {
         Outside::Room(room) => room,
         _ => AMPLE,
@@ -98,27 +113,29 @@ fn out_of(alloc: Global, outside: Outside) -> Result<MemSink, AllocError> {
         Outside::OctetWrites | Outside::OctetWrite(_) => 1,
         _ => AMPLE,
     };
-    let failing = match outside {
-        Outside::Write(call) | Outside::OctetWrite(call) => vec![in alloc; call]?,
-        _ => Vec::new(alloc),
+    let call = match outside {
+        Outside::Write(call) | Outside::OctetWrite(call) => Some(call),
+        _ => None,
     };
-    MemSink::new(alloc, room, largest, failing)
+    let failing = failing(rt, alloc, call);
+    MemSink::new(alloc, room, largest, failing).expect(rt, "memory")
 }
 
-fn report_of(alloc: Global, outside: Outside) -> Result<MemSink, AllocError> {
+fn report_of(rt: &impl Abort, alloc: Global, outside: Outside) -> MemSink {
     let room = match outside {
         Outside::ReportRoom(room) => room,
         _ => AMPLE,
     };
-    let failing = match outside {
-        Outside::Report(call) | Outside::OctetReport(call) => vec![in alloc; call]?,
-        _ => Vec::new(alloc),
+    let call = match outside {
+        Outside::Report(call) | Outside::OctetReport(call) => Some(call),
+        _ => None,
     };
     let largest = match outside {
         Outside::OctetReport(_) => 1,
         _ => AMPLE,
     };
-    MemSink::new(alloc, room, largest, failing)
+    let failing = failing(rt, alloc, call);
+    MemSink::new(alloc, room, largest, failing).expect(rt, "memory")
 }
 
 /// What a run leaves: its exit status, what stands on both outputs, and how many octets of the input were not
@@ -132,36 +149,34 @@ pub struct Left<'t> {
 }
 
 // File E after a comment, with two line feeds for each blank.
-fn commented(alloc: Global) -> Result<Vec<u8>, AllocError> {
-    let mut made = b"# a comment\n".to_vec(alloc)?;
+fn commented(rt: &impl Abort, alloc: Global) -> Vec<u8> {
+    let mut made = b"# a comment\n".to_vec(alloc).expect(rt, "memory");
     for octet in FILE_E.as_bytes() {
         if *octet == b' ' {
-            made.extend_from_slice(b"\n\n")?;
+            made.extend_from_slice(b"\n\n").expect(rt, "memory");
         } else {
-            made.push(*octet)?;
+            made.push(*octet).expect(rt, "memory");
         }
     }
-    Ok(made)
+    made
 }
 
 // File E, with blanks at its end.
-fn largest(alloc: Global) -> Result<Vec<u8>, AllocError> {
-    let text = FILE_E.as_bytes();
-    let mut made = text.to_vec(alloc)?;
-    for _ in text.len()..LARGEST {
-        made.push(b' ')?;
-    }
-    Ok(made)
+fn largest(rt: &impl Abort, alloc: Global) -> Vec<u8> {
+    let mut made = FILE_E.as_bytes().to_vec(alloc).expect(rt, "memory");
+    made.resize(LARGEST, b' ').expect(rt, "memory");
+    made
 }
 
 fn put(
+    rt: &impl Abort,
     alloc: Global,
     files: &mut Vec<(String, Vec<u8>)>,
     name: &str,
     octets: Vec<u8>,
-) -> Result<(), AllocError> {
-    files.push((String::from_str(alloc, name)?, octets))?;
-    Ok(())
+) {
+    let name = String::from_str(alloc, name).expect(rt, "memory");
+    files.push((name, octets)).expect(rt, "memory");
 }
 
 const TEXTS: [(&str, &str); 22] = [
@@ -189,33 +204,36 @@ const TEXTS: [(&str, &str); 22] = [
     ("deep", NESTED_TOO_DEEP),
 ];
 
-fn put_files(alloc: Global, made: &mut Vec<(String, Vec<u8>)>) -> Result<(), AllocError> {
+fn files(rt: &impl Abort, alloc: Global) -> Vec<(String, Vec<u8>)> {
+    let mut made = Vec::new(alloc);
     for &(name, text) in &TEXTS {
-        put(alloc, made, name, text.as_bytes().to_vec(alloc)?)?;
+        let octets = text.as_bytes().to_vec(alloc).expect(rt, "memory");
+        put(rt, alloc, &mut made, name, octets);
     }
-    put(alloc, made, "commented", commented(alloc)?)?;
-    put(alloc, made, "largest", largest(alloc)?)?;
-    put(alloc, made, "large", vec![in alloc; b' '; TOO_LARGE]?)
+    put(rt, alloc, &mut made, "commented", commented(rt, alloc));
+    put(rt, alloc, &mut made, "largest", largest(rt, alloc));
+    let large = vec![in alloc; b' '; TOO_LARGE].expect(rt, "memory");
+    put(rt, alloc, &mut made, "large", large);
+    made
 }
 
-fn files(alloc: Global) -> Result<Vec<(String, Vec<u8>)>, AllocError> {
-    let mut made = Vec::new(alloc);
-    put_files(alloc, &mut made)?;
-    Ok(made)
-}
-
-fn words_of(alloc: Global, text: &str) -> Result<Vec<String>, AllocError> {
-    let mut made = Vec::new(alloc);
+/// Appends the words of a text, which has blanks between them.
+fn push_words(rt: &impl Abort, alloc: Global, made: &mut Vec<String>, text: &str) {
     for word in text.split_whitespace() {
-        made.push(String::from_str(alloc, word)?)?;
+        let word = String::from_str(alloc, word).expect(rt, "memory");
+        made.push(word).expect(rt, "memory");
     }
-    Ok(made)
+}
+
+/// The octets that hexadecimal digits spell.
+pub fn bytes(rt: &impl Abort, alloc: Global, digits: &str) -> Vec<u8> {
+    octets(alloc, digits).expect(rt, "octets")
 }
 
 /// How many octets the source has left, which it then gives.
-pub fn left_of(alloc: Global, source: &mut MemSource) -> Result<usize, Fail> {
-    let mut buffer = vec![in alloc; 0; 70_000]?;
-    Ok(fill(source, &mut buffer)?)
+pub fn left_of(rt: &impl Abort, alloc: Global, source: &mut MemSource) -> usize {
+    let mut buffer = vec![in alloc; 0; 70_000].expect(rt, "memory");
+    fill(source, &mut buffer).expect(rt, "the rest of the input")
 }
 
 /// The outside of a run.
@@ -227,13 +245,13 @@ struct World {
     report: MemSink,
 }
 
-fn world_of(alloc: Global, outside: Outside, input: &[u8]) -> Result<World, AllocError> {
-    Ok(World {
-        library: library_of(alloc, outside)?,
-        source: source_of(alloc, outside, input)?,
-        out: out_of(alloc, outside)?,
-        report: report_of(alloc, outside)?,
-    })
+fn world_of(rt: &impl Abort, alloc: Global, outside: Outside, input: &[u8]) -> World {
+    World {
+        library: library_of(rt, alloc, outside),
+        source: source_of(rt, alloc, outside, input),
+        out: out_of(rt, alloc, outside),
+        report: report_of(rt, alloc, outside),
+    }
 }
 
 /// Runs the words in a world with this input, and asserts that the run leaves what is wanted.
@@ -245,7 +263,7 @@ fn world_leaves(
     outside: Outside,
     world: &mut World,
     want: Left<'_>,
-) -> Result<(), Fail> {
+) {
     let outcome = run(
         alloc,
         words,
@@ -258,10 +276,9 @@ fn world_leaves(
         status: outcome.status(),
         out: world.out.written(),
         report: world.report.written(),
-        left: left_of(alloc, &mut world.source)?,
+        left: left_of(rt, alloc, &mut world.source),
     };
     assert_eq!(rt; got, want, "of {words:?} over {input:?} where {outside:?}");
-    Ok(())
 }
 
 /// Runs the words over this input, and asserts that the run leaves what is wanted.
@@ -272,9 +289,9 @@ fn words_leave(
     input: &[u8],
     outside: Outside,
     want: Left<'_>,
-) -> Result<(), Fail> {
-    let mut world = world_of(alloc, outside, input)?;
-    world_leaves(rt, alloc, words, input, outside, &mut world, want)
+) {
+    let mut world = world_of(rt, alloc, outside, input);
+    world_leaves(rt, alloc, words, input, outside, &mut world, want);
 }
 
 /// Runs the words, which have blanks between them, over this input, and asserts that the run leaves what is wanted.
@@ -285,9 +302,10 @@ pub fn leaves(
     input: &[u8],
     outside: Outside,
     want: Left<'_>,
-) -> Result<(), Fail> {
-    let words = words_of(alloc, words)?;
-    words_leave(rt, alloc, &words, input, outside, want)
+) {
+    let mut each = Vec::new(alloc);
+    push_words(rt, alloc, &mut each, words);
+    words_leave(rt, alloc, &each, input, outside, want);
 }
 
 /// The same where the input and the output are in hexadecimal: what is left is a status, the output, the report, and how
@@ -299,16 +317,16 @@ pub fn leaves_octets(
     input: &str,
     outside: Outside,
     (status, out, report, left): (u8, &str, &str, usize),
-) -> Result<(), Fail> {
-    let input = octets(alloc, input)?;
-    let out = octets(alloc, out)?;
+) {
+    let input = bytes(rt, alloc, input);
+    let out = bytes(rt, alloc, out);
     let want = Left {
         status,
         out: &out,
         report: report.as_bytes(),
         left,
     };
-    leaves(rt, alloc, words, &input, outside, want)
+    leaves(rt, alloc, words, &input, outside, want);
 }
 
 /// The same where the input is in hexadecimal, and the output is a text.
@@ -319,26 +337,24 @@ pub fn leaves_text(
     input: &str,
     outside: Outside,
     (status, out, report, left): (u8, &str, &str, usize),
-) -> Result<(), Fail> {
-    let input = octets(alloc, input)?;
+) {
+    let input = bytes(rt, alloc, input);
     let want = Left {
         status,
         out: out.as_bytes(),
         report: report.as_bytes(),
         left,
     };
-    leaves(rt, alloc, words, &input, outside, want)
+    leaves(rt, alloc, words, &input, outside, want);
 }
 
-fn filter_words(alloc: Global, expression: &str, files: &str) -> Result<Vec<String>, AllocError> {
-    let mut words = vec![in alloc;
-        String::from_str(alloc, "filter")?,
-        String::from_str(alloc, expression)?,
-    ]?;
-    for file in files.split_whitespace() {
-        words.push(String::from_str(alloc, file)?)?;
-    }
-    Ok(words)
+fn filter_words(rt: &impl Abort, alloc: Global, expression: &str, files: &str) -> Vec<String> {
+    let mut words = Vec::new(alloc);
+    push_words(rt, alloc, &mut words, "filter");
+    let expression = String::from_str(alloc, expression).expect(rt, "memory");
+    words.push(expression).expect(rt, "memory");
+    push_words(rt, alloc, &mut words, files);
+    words
 }
 
 /// Runs `filter` with that expression, which is one word, and with files, which have blanks between them, over an input in
@@ -350,15 +366,15 @@ pub fn filter_leaves(
     input: &str,
     outside: Outside,
     (status, out, report, left): (u8, &str, &str, usize),
-) -> Result<(), Fail> {
-    let words = filter_words(alloc, expression, files)?;
-    let input = octets(alloc, input)?;
-    let out = octets(alloc, out)?;
+) {
+    let words = filter_words(rt, alloc, expression, files);
+    let input = bytes(rt, alloc, input);
+    let out = bytes(rt, alloc, out);
     let want = Left {
         status,
         out: &out,
         report: report.as_bytes(),
         left,
     };
-    words_leave(rt, alloc, &words, &input, outside, want)
+    words_leave(rt, alloc, &words, &input, outside, want);
 }

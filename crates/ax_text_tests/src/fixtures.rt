@@ -66,7 +66,7 @@ pub(crate) fn decoded(rt: &impl Abort, alloc: Global, spec: &Spec, block: &str) 
     octets_decoded(rt, alloc, spec, &octets)
 }
 
-/// Asserts that octets are as wanted, of the block that is named.
+/// Asserts that octets are as wanted, of the block or line that is named.
 pub(crate) fn same(rt: &impl Abort, found: &[u8], wanted: &[u8], of: &str) {
     assert_eq!(rt; found, wanted, "of {of}");
 }

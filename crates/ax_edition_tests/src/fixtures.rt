@@ -1,0 +1,137 @@
+//! Editions of categories, blocks from octets, and lines of losses as octets.
+ghost use Rattle.ax_model.specs.OfCode.{HasNoFlaw, BlockFits};
+
+use crate::texts;
+use ax_check::Accepted;
+use ax_migrate::{LossList, loss_lines};
+use ax_model::{Block, RawBlock, Spec, fits};
+use ax_outside::MemSink;
+use ax_samples::{CAT048_P1, CAT048_P2, FILE_G1, FILE_G2, FILE_H1, FILE_H2, FILE_H3, octets};
+use ax_values::decode_block;
+use std::alloc::Global;
+use std::process::Abort;
+
+/// More octets than the lines of any block here have.
+pub(crate) const AMPLE: u32 = 10_000;
+
+// H1 with another scale in subitem A, twice.
+const FILE_METRES: &str =
+    r#"category 202 edition "H1" items { item 010 "" compound { A element 8 quantity unsigned 1 2 "m" B element 16 raw } } uap { 010 }"#;
+
+const FILE_QUARTERS: &str =
+    r#"category 202 edition "H1" items { item 010 "" compound { A element 8 quantity unsigned 2 4 "m" B element 16 raw } } uap { 010 }"#;
+
+// Two items; the same in another order after a spare slot; and the first alone, after seven spare slots.
+const FILE_TWO: &str =
+    r#"category 203 edition "1" items { item 010 "" element 8 raw item 020 "" extended { part { A element 7 raw } part { B element 7 raw } } } uap { 010 020 }"#;
+
+const FILE_SWAPPED: &str =
+    r#"category 203 edition "2" items { item 010 "another title" element 8 raw item 020 "" extended { part { A element 7 raw } part { B element 7 raw } } } uap { - 020 010 }"#;
+
+const FILE_FIRST: &str =
+    r#"category 203 edition "3" items { item 010 "" element 8 raw } uap { - - - - - - - 010 }"#;
+
+// Compounds in compounds; the same where slots changed places and two subitems are gone; and where the inner one is an element.
+const FILE_DEEP: &str =
+    r#"category 204 edition "1" items { item 010 "" compound { A compound { P element 8 raw Q element 8 raw } B explicit C compound { R element 8 raw } } item 020 "" counted { element 8 raw } } uap { 010 020 }"#;
+
+const FILE_DEEP_CHANGED: &str =
+    r#"category 204 edition "2" items { item 010 "" compound { B explicit - C compound { S element 8 raw R element 8 raw } A compound { Q element 8 raw } } item 020 "" counted { element 8 raw } } uap { 020 010 }"#;
+
+const FILE_DEEP_FLAT: &str =
+    r#"category 204 edition "3" items { item 010 "" compound { A element 8 raw B explicit } item 020 "" counted { element 16 raw } } uap { 010 020 }"#;
+
+/// The files of these tests.
+#[derive(Clone, Copy)]
+pub(crate) enum Edition {
+    /// Category 048, its first and its second edition.
+    P1,
+    P2,
+    G1,
+    G2,
+    H1,
+    H2,
+    H3,
+    Metres,
+    Quarters,
+    Two,
+    Swapped,
+    First,
+    Deep,
+    DeepChanged,
+    DeepFlat,
+}
+
+impl Edition {
+    fn text(self) -> &'static str {
+        match self {
+            Edition::P1 => CAT048_P1,
+            Edition::P2 => CAT048_P2,
+            Edition::G1 => FILE_G1,
+            Edition::G2 => FILE_G2,
+            Edition::H1 => FILE_H1,
+            Edition::H2 => FILE_H2,
+            Edition::H3 => FILE_H3,
+            Edition::Metres => FILE_METRES,
+            Edition::Quarters => FILE_QUARTERS,
+            Edition::Two => FILE_TWO,
+            Edition::Swapped => FILE_SWAPPED,
+            Edition::First => FILE_FIRST,
+            Edition::Deep => FILE_DEEP,
+            Edition::DeepChanged => FILE_DEEP_CHANGED,
+            Edition::DeepFlat => FILE_DEEP_FLAT,
+        }
+    }
+}
+
+/// The specification of a file.
+pub(crate) fn accepted(rt: &impl Abort, alloc: Global, edition: Edition) -> Accepted {
+    texts::accepted(rt, alloc, edition.text())
+}
+
+/// Octets in hexadecimal.
+pub(crate) fn octets_of(rt: &impl Abort, alloc: Global, text: &str) -> Vec<u8> {
+    octets(alloc, text).expect(rt, "octets")
+}
+
+/// Stops at a block whose LEN is not the number of its octets.
+fn stop_at_length(rt: &impl Abort, octets: &[u8]) -> ! {
+    panic!(rt; "LEN of {octets:?}")
+}
+
+/// The category and the body of the block that these octets are, whose LEN has to be theirs.
+pub(crate) fn raw_of<'o>(rt: &impl Abort, octets: &'o [u8]) -> RawBlock<'o> {
+    assert!(rt; octets.len() >= 4);
+    if octets.len() != octets[1] as usize * 256 + octets[2] as usize {
+        stop_at_length(rt, octets)
+    }
+    RawBlock {
+        category: octets[0],
+        body: &octets[3..],
+    }
+}
+
+/// The block that octets in hexadecimal are read as.
+pub(crate) fn decoded(rt: &impl Abort, alloc: Global, spec: &Spec, block: &str) -> Block
+    requires { HasNoFlaw spec.now }
+    ensures { BlockFits spec.now result }
+{
+    let octets = octets_of(rt, alloc, block);
+    let raw = raw_of(rt, &octets);
+    let block = decode_block(alloc, spec, &raw).expect(rt, "a block");
+    assert!(rt; fits(spec, &block));
+    block
+}
+
+/// The lines of losses in the block of that number.
+pub(crate) fn lines_of(rt: &impl Abort, alloc: Global, number: u64, losses: &LossList) -> Vec<u8> {
+    let report = MemSink::new(alloc, AMPLE, AMPLE, Vec::new(alloc));
+    let mut report = report.expect(rt, "memory");
+    loss_lines(&mut report, number, losses).expect(rt, "lines that are written");
+    report.written().to_vec(alloc).expect(rt, "memory")
+}
+
+/// Asserts that octets are as wanted, of the block that is named.
+pub(crate) fn same(rt: &impl Abort, found: &[u8], wanted: &[u8], of: &str) {
+    assert_eq!(rt; found, wanted, "of {of}");
+}

@@ -1,0 +1,100 @@
+//! The same blocks as views: their length, their octets and their losses, one after the other.
+ghost use Rattle.std.specs.Prelude.{◌≡◌};
+ghost use Rattle.ax_migrate_views.specs.Blocks.{IsOfEditions};
+
+use crate::blocks::MIGRATED;
+use crate::fixtures::{AMPLE, Edition, accepted, octets_of, raw_of, same};
+use ax_bits::Out;
+use ax_check::Accepted;
+use ax_edition::relate;
+use ax_migrate::loss_line;
+use ax_migrate_views::Migrator;
+use ax_outside::MemSink;
+use ax_tables::compile;
+use ax_view::{BlockView, scan};
+use std::alloc::Global;
+use std::process::Abort;
+
+/// Octets of the longest data block.
+const LONGEST: usize = 65_535;
+
+/// The lines of the losses of a view, as those of block 7.
+fn lines_of(
+    rt: &impl Abort,
+    alloc: Global,
+    migrator: &Migrator<'_>,
+    view: &BlockView<'_, '_>,
+) -> Vec<u8>
+    requires editions { IsOfEditions migrator.now }
+    requires view { view.now.codec.now ≡ migrator.now.codec.now }
+{
+    let report = MemSink::new(alloc, AMPLE, AMPLE, Vec::new(alloc));
+    let mut report = report.expect(rt, "memory");
+    for loss in migrator.losses(view) {
+        loss_line(&mut report, 7, &loss).expect(rt, "a line that is written");
+    }
+    report.written().to_vec(alloc).expect(rt, "memory")
+}
+
+/// Asserts that the migrated block of a view has these octets and as many, and that its losses have these lines.
+fn is_migrated(
+    rt: &impl Abort,
+    alloc: Global,
+    migrator: &Migrator<'_>,
+    view: &BlockView<'_, '_>,
+    made: &[u8],
+    lines: &str,
+    of: &str,
+)
+    requires editions { IsOfEditions migrator.now }
+    requires view { view.now.codec.now ≡ migrator.now.codec.now }
+{
+    let octets = migrator.length(view) as usize;
+    assert!(rt; octets <= LONGEST);
+    let mut buffer = [0; LONGEST];
+    let mut out = Out::over(&mut buffer);
+    migrator.migrate(view, &mut out);
+    same(rt, &buffer[..octets], made, of);
+    let written = lines_of(rt, alloc, migrator, view);
+    same(rt, &written, lines.as_bytes(), of);
+}
+
+/// Asserts that of the view of a block, of the old edition in the new one.
+fn migrates_as(
+    rt: &impl Abort,
+    alloc: Global,
+    old: &Accepted,
+    new: &Accepted,
+    input: &str,
+    made: &str,
+    lines: &str,
+) {
+    let relation = relate(alloc, old, new).expect(rt, "editions of one category");
+    let Ok(codec) = compile(alloc, old) else {
+        panic!(rt; "memory");
+    };
+    let migrator = Migrator::new(alloc, old.spec(), new.spec(), &relation, &codec);
+    let migrator = migrator.expect(rt, "memory");
+    let octets = octets_of(rt, alloc, input);
+    let raw = raw_of(rt, &octets);
+    let view = scan(&codec, raw.body).expect(rt, "records");
+    let made = octets_of(rt, alloc, made);
+    is_migrated(rt, alloc, &migrator, &view, &made, lines, input);
+}
+
+fn migrates(
+    rt: &impl Abort,
+    alloc: Global,
+    &(old, new, input, made, lines): &(Edition, Edition, &str, &str, &str),
+) {
+    let old = accepted(rt, alloc, old);
+    let new = accepted(rt, alloc, new);
+    migrates_as(rt, alloc, &old, &new, input, made, lines);
+}
+
+#[test]
+fn views_pass_or_are_lost(rt: HostRuntime) {
+    for row in &MIGRATED {
+        migrates(&rt, rt.alloc(), row);
+    }
+}

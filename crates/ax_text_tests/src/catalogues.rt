@@ -1,0 +1,108 @@
+//! Catalogues, and blocks that are read under them.
+
+use crate::fixtures::accepted;
+use ax_block_reader::{TextError, read_block_text};
+use ax_check::{Accepted, Catalogue};
+use ax_model::{Block, fits};
+use ax_tokens::tokens;
+use ax_values::encode_block;
+use std::alloc::Global;
+use std::process::Abort;
+
+/// Adds a category file.
+pub(crate) fn add_file(rt: &impl Abort, alloc: Global, catalogue: &mut Catalogue, text: &str) {
+    let file = accepted(rt, alloc, text);
+    catalogue.add(file).expect(rt, "a category that is new");
+}
+
+/// A catalogue of one category file.
+pub(crate) fn catalogue_of(rt: &impl Abort, alloc: Global, text: &str) -> Catalogue {
+    let mut catalogue = Catalogue::new(alloc);
+    add_file(rt, alloc, &mut catalogue, text);
+    catalogue
+}
+
+/// Adds octets to a line.
+fn add(rt: &impl Abort, line: &mut Vec<u8>, text: &str) {
+    line.extend_from_slice(text.as_bytes()).expect(rt, "memory");
+}
+
+/// A front, so many times the middle, and an end.
+pub(crate) fn repeated(
+    rt: &impl Abort,
+    alloc: Global,
+    front: &str,
+    count: u32,
+    middle: &str,
+    end: &str,
+) -> Vec<u8> {
+    let mut line = Vec::new(alloc);
+    add(rt, &mut line, front);
+    for _ in 0..count {
+        add(rt, &mut line, middle);
+    }
+    add(rt, &mut line, end);
+    line
+}
+
+/// The block of a line, by the limit of nesting that record text has.
+fn read_line(
+    rt: &impl Abort,
+    alloc: Global,
+    catalogue: &Catalogue,
+    line: &[u8],
+) -> Result<Block, TextError> {
+    assert!(rt; line.len() < 10_000_000);
+    let found = tokens(alloc, line, 20).expect(rt, "tokens");
+    read_block_text(alloc, catalogue, &found)
+}
+
+/// The block of a line that is the text of one.
+pub(crate) fn block_of(
+    rt: &impl Abort,
+    alloc: Global,
+    catalogue: &Catalogue,
+    line: &[u8],
+) -> Block {
+    read_line(rt, alloc, catalogue, line).expect(rt, "the text of a block")
+}
+
+/// The octets of a block that fits a file.
+pub(crate) fn encoded(rt: &impl Abort, alloc: Global, file: &Accepted, block: &Block) -> Vec<u8> {
+    assert!(rt; fits(file.spec(), block));
+    encode_block(alloc, file.spec(), block).expect(rt, "octets")
+}
+
+/// Asserts that a number is as wanted, of the line that is named.
+fn same_number(rt: &impl Abort, found: u64, wanted: u64, of: &str) {
+    assert_eq!(rt; found, wanted, "{of}");
+}
+
+/// Asserts the number of the first bad token of a line that is no block's. The line is named so.
+pub(crate) fn is_bad_at(
+    rt: &impl Abort,
+    alloc: Global,
+    catalogue: &Catalogue,
+    line: &[u8],
+    wanted: u32,
+    of: &str,
+) {
+    match read_line(rt, alloc, catalogue, line) {
+        Err(TextError::BadToken { token }) => same_number(rt, token as u64, wanted as u64, of),
+        _ => panic!(rt; "no bad token"),
+    }
+}
+
+/// Asserts how many octets the block of a line would have, which is too long.
+pub(crate) fn is_too_long(
+    rt: &impl Abort,
+    alloc: Global,
+    catalogue: &Catalogue,
+    line: &[u8],
+    wanted: u64,
+) {
+    match read_line(rt, alloc, catalogue, line) {
+        Err(TextError::TooLong { octets }) => same_number(rt, octets, wanted, "octets"),
+        _ => panic!(rt; "not too long"),
+    }
+}

@@ -1,5 +1,5 @@
 -- Writes at places of one buffer, one after another.
-use Rattle.std.proofs.Common.{◌≡◌, ℕ, ◌+◌, ◌-◌, ◌≤◌, List, ◌++◌, length, take, drop, ap, sym, ◌∙◌, arith, append_assoc, length-append, length-take-le, length-drop, take-add, take-take, take_at, drop_at, take_all, take-append-drop}
+use Rattle.std.proofs.Common.{◌≡◌, ℕ, ◌+◌, ◌-◌, ◌≤◌, List, [], ◌++◌, length, take, drop, ap, sym, subst, append-nil, ◌∙◌, arith, append_assoc, length-append, length-take-le, length-drop, take-add, take-take, take_at, drop_at, take_all, take-append-drop}
 use Rattle.std.proofs.lemmas.Slice.{take-put_mid}
 use borrow.Rule.Slice.PartMut.{put_mid, same_len_mid}
 use Rattle.ax_octets.specs.Placed.{Placed}
@@ -41,3 +41,15 @@ Placed-ends {a} {b} {c} {i} {j} {k} src half within fits covers p q =
     let whole : take last (take half src) ++ take half (drop last src) ≡ src =
     (λ x. take-take last half src (omega arith) x ++ take_all half (drop last src) (omega (arith, length-drop last src)) x) ∙ take-append-drop last src in
     record { bytes = both.bytes ∙ ap (λ l. take i a ++ l) whole; moved = both.moved ∙ ap (λ l. i + length l) whole; len = both.len }
+
+-- the view of all of an area was written after what the area holds, and the area is what the view became
+pub Placed-view : {old view new xs : List ℕ} {i j : ℕ} (items : List ℕ) (n : ℕ) → take i items ≡ old → view ≡ items → length view ≡ n → Placed view new i xs j
+    → take j (take n (new ++ drop (length new) items)) ≡ old ++ xs
+Placed-view {old} {view} {new} {xs} {i} {j} items n held all long p =
+    let back : take n (new ++ drop (length new) items) ≡ new = take_at new (drop (length new) items) n (p.len ∙ long) in
+    ap (take j) back ∙ p.bytes ∙ ap (λ l. l ++ xs) (ap (take i) all ∙ held)
+
+-- a path that stands in its array was written by what the array holds of it
+pub Placed-short : {a b path rest : List ℕ} {i j : ℕ} (front : List ℕ) (count : ℕ) → take count front ++ rest ≡ path → rest ≡ [] → Placed a b i (take count front) j → Placed a b i path j
+Placed-short {a} {b} {path} {rest} {i} {j} front count is none p =
+    subst (λ xs. Placed a b i xs j) (sym (append-nil (take count front)) ∙ ap (λ r. take count front ++ r) (sym none) ∙ is) p

@@ -1,5 +1,5 @@
 //! Octets, as they are appended.
-ghost use Rattle.std.specs.Prelude.{◌≡◌, ◌+◌, ◌<◌, ◌≤◌, ◌^◌, [], ◌∷◌, ◌++◌, length, take, set, codes, decimal, OnOk};
+ghost use Rattle.std.specs.Prelude.{◌≡◌, ◌+◌, ◌<◌, ◌≤◌, ◌^◌, [], ◌∷◌, ◌++◌, length, take, set, codes, decimal, OnOk, IsTrue, ◌↔◌};
 
 use crate::digits::place_decimal;
 use crate::path::Path;
@@ -108,7 +108,7 @@ impl Octets {
         ensures { OnOk result (self.new ≡ self.old ++ (a.now ++ (b.now ++ c.now))) }
     {
         let room = self.area.len() - self.filled;
-        if a.len() > room || b.len() > room - a.len() || c.len() > room - a.len() - b.len() {
+        if !three_fit(room, a.len(), b.len(), c.len()) {
             return self.each3(a, b, c);
         }
         let area = self.area.as_mut_slice();
@@ -134,11 +134,7 @@ impl Octets {
         ensures { OnOk result (self.new ≡ self.old ++ (a.now ++ (b.now ++ (c.now ++ d.now)))) }
     {
         let room = self.area.len() - self.filled;
-        if a.len() > room
-            || b.len() > room - a.len()
-            || c.len() > room - a.len() - b.len()
-            || d.len() > room - a.len() - b.len() - c.len()
-        {
+        if !four_fit(room, a.len(), b.len(), c.len(), d.len()) {
             return self.each4(a, b, c, d);
         }
         let area = self.area.as_mut_slice();
@@ -268,6 +264,22 @@ impl Octets {
         self.filled = place_text(self.area.as_mut_slice(), self.filled, text);
         Ok(())
     }
+}
+
+/// Whether there is room for three texts of these lengths.
+#[inline(always)]
+fn three_fit(room: usize, a: usize, b: usize, c: usize) -> bool
+    ensures { IsTrue result ↔ a + b + c ≤ room }
+{
+    a <= room && b <= room - a && c <= room - a - b
+}
+
+/// Whether there is room for four texts of these lengths.
+#[inline(always)]
+fn four_fit(room: usize, a: usize, b: usize, c: usize, d: usize) -> bool
+    ensures { IsTrue result ↔ a + b + c + d ≤ room }
+{
+    a <= room && three_fit(room - a, b, c, d)
 }
 
 /// Sees to room for `more` octets after the first `filled`, which stay.

@@ -3,7 +3,6 @@ ghost use Rattle.std.specs.Prelude.{◌≡◌, ◌≤◌, [], ◌++◌, length, 
 
 use crate::digits::place_decimal;
 use crate::place::{place_octet, place_some, place_text};
-use itoa::Buffer;
 use std::alloc::{AllocError, Global};
 use std::marker::Model;
 
@@ -59,9 +58,10 @@ impl Path {
             return self.set_longer(above, b"/", &name[..count]);
         }
         self.rest.clear();
-        let at = place_some::<32>(&mut self.front, 0, &above.front, above.count);
-        let at = place_octet(&mut self.front, at, b'/');
-        self.count = place_some::<16>(&mut self.front, at, name, count);
+        let front: &mut [u8] = &mut self.front;
+        let at = place_some::<32>(front, 0, &above.front, above.count);
+        let at = place_octet(front, at, b'/');
+        self.count = place_some::<16>(front, at, name, count);
         Ok(())
     }
 
@@ -73,10 +73,11 @@ impl Path {
             return self.set_longer_by_number(above, number);
         }
         self.rest.clear();
-        let at = place_some::<32>(&mut self.front, 0, &above.front, above.count);
-        let at = place_octet(&mut self.front, at, b'[');
-        let at = place_decimal(&mut self.front, at, u64::from(number));
-        self.count = place_octet(&mut self.front, at, b']');
+        let front: &mut [u8] = &mut self.front;
+        let at = place_some::<32>(front, 0, &above.front, above.count);
+        let at = place_octet(front, at, b'[');
+        let at = place_decimal(front, at, u64::from(number));
+        self.count = place_octet(front, at, b']');
         Ok(())
     }
 
@@ -85,9 +86,11 @@ impl Path {
     fn set_longer_by_number(&mut self, above: &Path, number: u32) -> Result<(), AllocError>
         ensures { OnOk result (self.new ≡ above.now ++ (codes "[" ++ (decimal number ++ codes "]"))) }
     {
-        let mut digits = Buffer::new();
-        self.set_longer(above, b"[", digits.format(number).as_bytes())?;
-        self.rest.extend_from_slice(b"]")
+        let mut room = [0; 24];
+        let digits: &mut [u8] = &mut room;
+        let at = place_decimal(digits, 0, u64::from(number));
+        let at = place_octet(digits, at, b']');
+        self.set_longer(above, b"[", &digits[..at])
     }
 
     /// Makes it another path with two texts after it, which stand where no array's room is asked for.
@@ -96,12 +99,12 @@ impl Path {
     fn set_longer(&mut self, above: &Path, first: &[u8], second: &[u8]) -> Result<(), AllocError>
         ensures { OnOk result (self.new ≡ above.now ++ (first.now ++ second.now)) }
     {
-        self.rest.clear();
-        self.rest.extend_from_slice(&above.front[..above.count])?;
-        self.rest.extend_from_slice(&above.rest)?;
-        self.rest.extend_from_slice(first)?;
-        self.rest.extend_from_slice(second)?;
         self.count = 0;
-        Ok(())
+        let rest = &mut self.rest;
+        rest.clear();
+        rest.extend_from_slice(&above.front[..above.count])?;
+        rest.extend_from_slice(&above.rest)?;
+        rest.extend_from_slice(first)?;
+        rest.extend_from_slice(second)
     }
 }

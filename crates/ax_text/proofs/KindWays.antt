@@ -14,8 +14,6 @@ use Rattle.ax_text.proofs.Printed.{none_put, both_put, braces_put, Leaves, leave
 pub part_put : (p : MembersTree) (vs : ValuesTree) (a b c d e : List ℕ) → Puts after_spaces (one_onto part_word) a b → Puts after_spaces (one_onto opening) b c → Puts after_spaces (members_onto p vs) c d → Puts after_spaces (one_onto closing) d e → Puts after_spaces (part_onto p vs) a e
 part_put p vs a b c d e f g h k = both_put (one_onto part_word) (in_braces (members_onto p vs)) a b e f (braces_put (members_onto p vs) b c d e g h k)
 
-pub ruleset part_ways = part_put
-
 pub ruleset kind_ways = (none_put, braces_put)
 
 -- ---- parts

@@ -17,10 +17,6 @@ use Rattle.ax_text.proofs.Printed.{Leaves, leaves_all, leaves_fewer, leaves_none
 pub element_put : (old a b c x y : List ℕ) → a ≡ old ++ x → b ≡ a ++ y → c ≡ b ++ 0x0A ∷ [] → Puts as_lines (one_onto (x ++ y)) old c
 element_put old a b c x y e f g = line_put old b c (x ++ y) (two_pieces old a b x y e f) g
 
-pub ruleset element_ways = element_put
-
-pub ruleset spare_ways = line_put
-
 -- ---- members
 
 first_shape : (m : MemberTree) (ms : MembersTree) (v : ValueTree) (vs : ValuesTree) → MembersShape (member_and m ms) (value_and v vs) → MemberShape m v × MembersShape ms vs

@@ -51,11 +51,7 @@ pub compound_put : (path : List ℕ) (ss : SlotsTree) (es : List Entry) (n : ℕ
     → Puts as_lines (kind_lines (compound ss) path (marked (entries_tree es))) a c
 compound_put path ss es n a b c e p q = counted_put path (codes "subitems") n (entry_count (entries_tree es)) (entries_lines path 1 ss (entries_tree es)) a b c (e ∙ sym (entry_count_is es)) p q
 
-pub ruleset extended_ways = extended_put
-
 pub ruleset counted_ways = counted_lines
-
-pub ruleset run_ways = run_lines
 
 pub ruleset compound_ways = compound_put
 

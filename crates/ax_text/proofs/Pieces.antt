@@ -1,11 +1,17 @@
 -- Pieces that are written one after the other.
-use Rattle.std.proofs.Common.{take, drop, set, length, arith, ◌+◌, ◌-◌, ◌<◌, ◌≤◌, ◌≡◌, ℕ, List, [], ◌∷◌, ◌++◌, codes, decimal, sym, ◌∙◌, ap, append_assoc}
+use Rattle.std.proofs.Common.{Result, take, drop, set, length, arith, ◌+◌, ◌-◌, ◌<◌, ◌≤◌, ◌≡◌, ℕ, List, [], ◌∷◌, ◌++◌, codes, decimal, sym, ◌∙◌, ap, append_assoc}
+use Rattle.std.specs.Result.{OnOk}
 use Rattle.std.proofs.lemmas.Fmt.{decimal_digit}
 use Rattle.std.proofs.lemmas.List.{take-append-drop, take-set, drop-set}
+use Rattle.std.proofs.lemmas.Result.{on_ok_weaker}
 use Rattle.ax_model.specs.Paths.{at}
 use Rattle.ax_text.specs.Printing.{as_lines, Puts}
 use Rattle.ax_text.specs.ShowText.{number_line, count_line, content_line}
 use Rattle.ax_text.specs.ValueText.{one_onto, hex_text}
+
+-- what follows from what a last call did
+pub last_put : {T E P Q : Type 0} (r : Result T E) → OnOk r P → (P → Q) → OnOk r Q
+last_put r p f = on_ok_weaker r f p
 
 pub two_pieces : (old a b x y : List ℕ) → a ≡ old ++ x → b ≡ a ++ y → b ≡ old ++ (x ++ y)
 two_pieces old a b x y e f = f ∙ ap (λ t. t ++ y) e ∙ append_assoc old x y

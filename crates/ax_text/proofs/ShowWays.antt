@@ -22,12 +22,8 @@ front_put old a b c d e f n category octets g h k l m o =
     three_pieces old d e f (codes "block " ++ decimal n ++ codes " category " ++ three_digits category) (codes " octets ") (decimal octets)
     (three_pieces old b c d (codes "block " ++ decimal n) (codes " category ") (three_digits category) (three_pieces old old a b [] (codes "block ") (decimal n) (sym (append-nil old)) g h) k l) m o
 
-pub ruleset front_ways = front_put
-
 pub block_put : (old a b c d : List ℕ) (n category octets records : ℕ) → a ≡ old ++ block_front n category octets → b ≡ a ++ codes " records " → c ≡ b ++ decimal records → d ≡ c ++ 0x0A ∷ [] → Puts as_lines (one_onto (block_front n category octets ++ codes " records " ++ decimal records)) old d
 block_put old a b c d n category octets records e f g h = line_put old c d (block_front n category octets ++ codes " records " ++ decimal records) (three_pieces old a b c (block_front n category octets) (codes " records ") (decimal records) e f g) h
-
-pub ruleset block_ways = block_put
 
 record_count : (rs : List Record) → length (records_tree rs) ≡ length rs
 record_count [] = refl

@@ -24,15 +24,13 @@ impl Printer {
         Ok(())
     }
 
-    #[tactic(auto, using(crate::proofs::KindWays::part_ways))]
     fn part(&mut self, values: &Values, part: &Part) -> Result<(), AllocError>
         ensures { OnOk result (Puts after_spaces (part_onto (part_tree part.now) (values_tree values.now)) self.old.out.items self.new.out.items) }
     {
         self.text(b"part")?;
         self.text(b"{")?;
         self.members(values, &part.members)?;
-        self.text(b"}")?;
-        Ok(())
+        self.text(b"}")
     }
 
     /// The occurrences by FX.
@@ -88,8 +86,7 @@ impl Printer {
     {
         self.text(b"{")?;
         self.each(values, inner)?;
-        self.text(b"}")?;
-        Ok(())
+        self.text(b"}")
     }
 
     /// Values of one kind.

@@ -17,7 +17,6 @@ use std::alloc::AllocError;
 
 impl Lister {
     /// The line of an element.
-    #[tactic(auto, using(crate::proofs::ListedFixed::element_ways))]
     pub fn element(
         &mut self,
         number: u128,
@@ -32,18 +31,15 @@ impl Lister {
     {
         self.number(number, path)?;
         self.remark(number, width, content)?;
-        self.octet(b'\n')?;
-        Ok(())
+        self.octet(b'\n')
     }
 
     /// The line of spare bits.
-    #[tactic(auto, using(crate::proofs::ListedFixed::spare_ways))]
     fn spare(&mut self, number: u128, path: &[u8]) -> Result<(), AllocError>
         ensures { OnOk result (Puts as_lines (one_onto (number_line path.now number)) self.old.out self.new.out) }
     {
         self.number(number, path)?;
-        self.octet(b'\n')?;
-        Ok(())
+        self.octet(b'\n')
     }
 
     #[cycle(list_fixed)]
@@ -75,13 +71,11 @@ impl Lister {
         match (value, member) {
             (value, Member::Named { name, fixed }) => {
                 let path = at(self.alloc, path, name.octets())?;
-                self.fixed(value, fixed, path.as_slice())?;
-                Ok(())
+                self.fixed(value, fixed, path.as_slice())
             }
             (Value::Number(number), Member::Spare { .. }) => {
                 let path = at(self.alloc, path, b"spare")?;
-                self.spare(*number, path.as_slice())?;
-                Ok(())
+                self.spare(*number, path.as_slice())
             }
             _ => Ok(()),
         }

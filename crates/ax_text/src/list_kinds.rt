@@ -17,15 +17,13 @@ use std::alloc::AllocError;
 
 impl Lister {
     /// An extended item: how many parts are present, and their members.
-    #[tactic(auto, using(crate::proofs::ListedKinds::extended_ways))]
     fn extended(&mut self, lists: &Lists, parts: &Parts, path: &[u8]) -> Result<(), AllocError>
         requires listable { AllByRecursion MembersListable (map part_tree parts.now) }
         requires shape { PartsShape (map part_tree parts.now) (lists_tree lists.now) }
         ensures { OnOk result (Puts as_lines (kind_lines (extended (map part_tree parts.now)) path.now (part_values (lists_tree lists.now))) self.old.out self.new.out) }
     {
         self.count(b"parts", lists.count(), path)?;
-        self.parts(lists, parts, path)?;
-        Ok(())
+        self.parts(lists, parts, path)
     }
 
     #[tactic(auto, using(crate::proofs::ListedKinds::parts_ways))]
@@ -41,15 +39,13 @@ impl Lister {
     }
 
     /// A by-FX item: how many occurrences there are, and each of them.
-    #[tactic(auto, using(crate::proofs::ListedKinds::run_ways))]
     fn by_fx(&mut self, values: &Values, fixed: &Fixed, path: &[u8]) -> Result<(), AllocError>
         requires listable { FixedListable (fixed_tree fixed.now) }
         requires shape { EachShape (FixedShape (fixed_tree fixed.now)) (values_tree values.now) }
         ensures { OnOk result (Puts as_lines (kind_lines (by_fx (fixed_tree fixed.now)) path.now (occurrences (values_tree values.now))) self.old.out self.new.out) }
     {
         self.count(b"occurrences", values.count(), path)?;
-        self.run(values, fixed, path)?;
-        Ok(())
+        self.run(values, fixed, path)
     }
 
     #[tactic(auto, using(crate::proofs::ListedKinds::each_ways))]
@@ -96,8 +92,7 @@ impl Lister {
         ensures { OnOk result (Puts as_lines (kind_lines (counted (kind_tree inner.now)) path.now (occurrences (values_tree values.now))) self.old.out self.new.out) }
     {
         self.count(b"occurrences", values.count(), path)?;
-        self.each(values, inner, path)?;
-        Ok(())
+        self.each(values, inner, path)
     }
 
     #[cycle(list_kind)]
@@ -125,8 +120,7 @@ impl Lister {
         ensures { OnOk result (Puts as_lines (kind_lines (compound (slots_tree slots.now)) path.now (marked (entries_tree entries.now))) self.old.out self.new.out) }
     {
         self.count(b"subitems", entries.count(), path)?;
-        self.entries(entries, slots, path)?;
-        Ok(())
+        self.entries(entries, slots, path)
     }
 
     #[cycle(list_kind)]

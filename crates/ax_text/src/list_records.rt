@@ -41,19 +41,16 @@ impl Lister {
         ensures { OnOk result (Puts as_lines (record_lines (spec_tree spec.now) number (record_tree one.now)) self.old.out self.new.out) }
     {
         self.record_front(number)?;
-        self.items(&one.entries, spec, &category_digits(spec.category))?;
-        Ok(())
+        self.items(&one.entries, spec, &category_digits(spec.category))
     }
 
     /// The line of a record of that number in its block.
-    #[tactic(auto, using(crate::proofs::ListedFixed::element_ways))]
     pub fn record_front(&mut self, number: u32) -> Result<(), AllocError>
         ensures { OnOk result (Puts as_lines (one_onto (codes "record " ++ decimal number)) self.old.out self.new.out) }
     {
         self.octets(b"record ")?;
         self.decimal(u128::from(number))?;
-        self.octet(b'\n')?;
-        Ok(())
+        self.octet(b'\n')
     }
 
     /// The entries of a record, under the path of its category.

@@ -116,52 +116,43 @@ impl Lister {
     }
 
     /// The front of the line of a number: its path and itself.
-    #[tactic(auto, using(crate::proofs::Pieces::pieces))]
     pub(crate) fn number(&mut self, number: u128, path: &[u8]) -> Result<(), AllocError>
         ensures { OnOk result (self.new.out ≡ self.old.out ++ number_line path.now number) }
     {
         self.octets(path)?;
         self.octets(b" = ")?;
-        self.decimal(number)?;
-        Ok(())
+        self.decimal(number)
     }
 
     /// The line that says how many there are of something.
-    #[tactic(auto, using(crate::proofs::Pieces::count_put))]
     pub fn count(&mut self, word: &[u8], count: u32, path: &[u8]) -> Result<(), AllocError>
         ensures { OnOk result (Puts as_lines (one_onto (count_line path.now word.now count)) self.old.out self.new.out) }
     {
         self.out.text4(path, b" ", word, b" ")?;
         self.decimal(u128::from(count))?;
-        self.octet(b'\n')?;
-        Ok(())
+        self.octet(b'\n')
     }
 
     /// The line that says that there are none of something, at a path.
     #[inline(always)]
-    #[tactic(auto, using(crate::proofs::Pieces::none_put))]
     pub fn none_of(&mut self, word: &[u8], path: &Path) -> Result<(), AllocError>
         ensures { OnOk result (Puts as_lines (one_onto (count_line path.now word.now 0)) self.old.out self.new.out) }
     {
         self.out.path(path)?;
-        self.out.text3(b" ", word, b" 0\n")?;
-        Ok(())
+        self.out.text3(b" ", word, b" 0\n")
     }
 
     /// The line of an explicit content at a path.
-    #[tactic(auto, using(crate::proofs::Pieces::content_put))]
     pub fn content_at(&mut self, octets: &[u8], path: &Path) -> Result<(), AllocError>
         ensures { OnOk result (Puts as_lines (one_onto (content_line path.now octets.now)) self.old.out self.new.out) }
     {
         self.out.path(path)?;
         self.octets(b" octets ")?;
         self.hex(octets)?;
-        self.octet(b'\n')?;
-        Ok(())
+        self.octet(b'\n')
     }
 
     /// The line of an element at a path.
-    #[tactic(auto, using(crate::proofs::Pieces::pieces, crate::proofs::Pieces::line_put, crate::proofs::ListedFixed::element_ways))]
     pub fn element_at(
         &mut self,
         number: u128,
@@ -178,8 +169,7 @@ impl Lister {
         self.octets(b" = ")?;
         self.decimal(number)?;
         self.remark(number, width, content)?;
-        self.octet(b'\n')?;
-        Ok(())
+        self.octet(b'\n')
     }
 
     /// Puts a count in place of the 0 of the count line that ends at `end`.
@@ -194,8 +184,7 @@ impl Lister {
         let moved = Vec::from_slice(self.alloc, &self.out.as_slice()[end - 1..])?;
         self.out.truncate(end - 2);
         self.decimal(u128::from(count))?;
-        self.octets(&moved)?;
-        Ok(())
+        self.octets(&moved)
     }
 
     /// The line of spare bits under a path.
@@ -205,8 +194,7 @@ impl Lister {
     {
         self.out
             .named_number(path, b"spare\0\0\0\0\0\0\0\0\0\0\0", 5, number)?;
-        self.octet(b'\n')?;
-        Ok(())
+        self.octet(b'\n')
     }
 
     /// The line of an element of so many bits under a path and its name.
@@ -226,31 +214,26 @@ impl Lister {
     {
         self.out
             .named_number(path, name.padded(), name.octets().len(), number)?;
-        self.remark_end(number, width, content)?;
-        Ok(())
+        self.remark_end(number, width, content)
     }
 
     /// The line of spare bits under a path, of any number.
-    #[tactic(auto, using(crate::proofs::Pieces::wide_spare_put))]
     pub fn wide_spare_under(&mut self, number: u128, path: &Path) -> Result<(), AllocError>
         ensures { OnOk result (Puts as_lines (one_onto (number_line (at path.now (codes "spare")) number)) self.old.out self.new.out) }
     {
         self.out.path(path)?;
         self.out.text3(b"/", b"spare", b" = ")?;
         self.decimal(number)?;
-        self.octet(b'\n')?;
-        Ok(())
+        self.octet(b'\n')
     }
 
     /// The line of an explicit content.
-    #[tactic(auto, using(crate::proofs::Pieces::content_put))]
     pub fn content(&mut self, octets: &[u8], path: &[u8]) -> Result<(), AllocError>
         ensures { OnOk result (Puts as_lines (one_onto (content_line path.now octets.now)) self.old.out self.new.out) }
     {
         self.octets(path)?;
         self.octets(b" octets ")?;
         self.hex(octets)?;
-        self.octet(b'\n')?;
-        Ok(())
+        self.octet(b'\n')
     }
 }

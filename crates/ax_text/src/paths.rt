@@ -3,6 +3,7 @@ ghost use Rattle.std.specs.Prelude.{◌≡◌, [], IfOk};
 ghost use Rattle.ax_model.specs.Paths.{at};
 ghost use Rattle.ax_text.specs.ShowText.{occurrence};
 
+use ax_octets::Octets;
 use itoa::Buffer;
 use std::alloc::{AllocError, Global};
 
@@ -11,10 +12,9 @@ use std::alloc::{AllocError, Global};
 pub fn at(alloc: Global, path: &[u8], name: &[u8]) -> Result<Vec<u8>, AllocError>
     ensures { IfOk result (λ made. made.items ≡ at path.now name.now) }
 {
-    let mut made = Vec::from_slice(alloc, path)?;
-    made.extend_from_slice(b"/")?;
-    made.extend_from_slice(name)?;
-    Ok(made)
+    let mut made = Octets::new(alloc);
+    made.text3(path, b"/", name)?;
+    Ok(made.into_vec())
 }
 
 /// The path of an occurrence, numbered from 0.
@@ -22,10 +22,8 @@ pub fn at(alloc: Global, path: &[u8], name: &[u8]) -> Result<Vec<u8>, AllocError
 pub fn occurrence(alloc: Global, path: &[u8], number: u32) -> Result<Vec<u8>, AllocError>
     ensures { IfOk result (λ made. made.items ≡ occurrence path.now number) }
 {
-    let mut buffer = Buffer::new();
-    let mut made = Vec::from_slice(alloc, path)?;
-    made.extend_from_slice(b"[")?;
-    made.extend_from_slice(buffer.format(number).as_bytes())?;
-    made.extend_from_slice(b"]")?;
-    Ok(made)
+    let mut digits = Buffer::new();
+    let mut made = Octets::new(alloc);
+    made.text4(path, b"[", digits.format(number).as_bytes(), b"]")?;
+    Ok(made.into_vec())
 }

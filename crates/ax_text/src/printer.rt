@@ -51,8 +51,8 @@ impl Printer {
     pub(crate) fn hex(&mut self, octets: &[u8]) -> Result<(), AllocError>
         ensures { OnOk result (Puts after_spaces (one_onto (hex_text octets.now)) self.old.out.items self.new.out.items) }
     {
-        let digits = hex::encode(self.alloc, octets)?;
         self.out.extend_from_slice(b" \"")?;
+        let digits = hex::encode(self.alloc, octets)?;
         self.out.extend_from_slice(digits.as_bytes())?;
         self.out.push(b'"')?;
         Ok(())

@@ -34,8 +34,7 @@ impl Printer {
         self.text(b"record")?;
         self.text(b"{")?;
         self.items(&one.entries, spec)?;
-        self.text(b"}")?;
-        Ok(())
+        self.text(b"}")
     }
 
     /// The entries of a record.

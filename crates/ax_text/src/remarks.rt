@@ -109,8 +109,7 @@ impl Lister {
             Content::Integer(Sign::Unsigned) => Ok(()),
             Content::Integer(Sign::Signed) => {
                 self.octet(b' ')?;
-                self.signed(signed_of(number, width))?;
-                Ok(())
+                self.signed(signed_of(number, width))
             }
             Content::Quantity(scale) => self.quantity(number, width, scale),
         }
@@ -126,15 +125,13 @@ impl Lister {
     }
 
     /// The characters of an element of so many bits.
-    #[tactic(auto, using(crate::proofs::Pieces::pieces))]
     fn characters(&mut self, number: u128, width: u32, alphabet: Alphabet) -> Result<(), AllocError>
         requires { width ≤ 128 }
         ensures { OnOk result (self.new.out ≡ self.old.out ++ (codes " " ++ quoted (characters alphabet width number))) }
     {
         self.octets(b" \"")?;
         self.each_character(number, width, alphabet)?;
-        self.octet(b'"')?;
-        Ok(())
+        self.octet(b'"')
     }
 
     #[tactic(auto, using(crate::proofs::RemarkWays::character_ways))]
@@ -209,7 +206,6 @@ impl Lister {
         let divisor = common_divisor(numerator, den);
         self.decimal(quotient(numerator, divisor))?;
         self.octet(b'/')?;
-        self.decimal(u128::from(den / divisor))?;
-        Ok(())
+        self.decimal(u128::from(den / divisor))
     }
 }

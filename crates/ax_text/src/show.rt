@@ -79,7 +79,6 @@ pub fn show_opaque(
 
 impl Lister {
     /// The line of a block of records.
-    #[tactic(auto, using(crate::proofs::ShowWays::block_ways))]
     pub fn block_line(
         &mut self,
         number: u64,
@@ -92,8 +91,7 @@ impl Lister {
         self.front(number, category, octets)?;
         self.octets(b" records ")?;
         self.decimal(u128::from(records))?;
-        self.octet(b'\n')?;
-        Ok(())
+        self.octet(b'\n')
     }
 
     /// The line of an opaque block, from its octets after LEN.
@@ -114,7 +112,6 @@ impl Lister {
     }
 
     /// The front of a block's line.
-    #[tactic(auto, using(crate::proofs::ShowWays::front_ways))]
     fn front(&mut self, number: u64, category: u8, octets: u64) -> Result<(), AllocError>
         ensures { OnOk result (self.new.out ≡ self.old.out ++ block_front number category octets) }
     {
@@ -123,7 +120,6 @@ impl Lister {
         self.octets(b" category ")?;
         self.octets(&category_digits(category))?;
         self.octets(b" octets ")?;
-        self.decimal(u128::from(octets))?;
-        Ok(())
+        self.decimal(u128::from(octets))
     }
 }

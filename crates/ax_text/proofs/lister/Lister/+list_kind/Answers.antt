@@ -1,13 +1,15 @@
 use denote.Param.Weighed.{at_most}
 use Rattle.ax_model.proofs.value.Entry.TheLaws.{the_size}
+use Rattle.ax_model.proofs.value.Value.TheLaws as values
 use Rattle.std.proofs.Common.{◌≡◌, ◌+◌, ◌<◌, ◌≤◌, ℕ, length, get_or, rules, subst, ap, ◌∙◌, arith}
 use Rattle.ax_model.specs.Plain.{kind_tree, values_tree, slots_tree, entries_tree}
 use Rattle.ax_model.specs.Shape.{Shape}
 use Rattle.ax_text.specs.Printing.{as_lines}
 use Rattle.ax_text.specs.ShowText.{kind_lines, each_lines, entries_lines, occurrence}
 use Rattle.ax_text.specs.Slots.{slot_lines}
-use Rattle.ax_text.proofs.EntryWays.{entries_first, entry_shape, entry_next}
-use Rattle.ax_text.proofs.ListedKinds.{each_next, each_ended, lines_made, counted_lines, slot_listable}
+use Rattle.ax_text.proofs.EntryWays.{entries_first, entry_shape, entry_next, entries_ended}
+use Rattle.ax_text.proofs.ListedKinds.{each_first, each_shape, each_next, each_ended, lines_made, counted_lines, compound_put, slot_listable}
+use Rattle.ax_text.proofs.Pieces.{last_put}
 use Rattle.ax_text.proofs.lister.Lister.+list_kind.Goals as goal
 
 pub each-loop-value-preserved : goal.each-loop-value-preserved
@@ -49,7 +51,7 @@ entries-loop-entry-preserved t c =
 
 pub counted-returns : goal.counted-returns
 counted-returns t c =
-    counted_lines c.args.path.now (kind_tree c.args.inner.now) c.args.values.now c.count.result c.args.self.now.out c.count-2.new.self.out c.each.new.self.out c.count.ensures c.in_ok-count.ensures (search rules)
+    last_put c.each.result c.each.ensures (λ h. counted_lines c.args.path.now (kind_tree c.args.inner.now) c.args.values.now c.count.result c.args.self.now.out c.count-2.new.self.out c.each.new.self.out c.count.ensures c.in_ok-count.ensures h)
 
 pub entries-entry-requires : goal.entries-entry-requires
 entries-entry-requires t c =
@@ -64,3 +66,29 @@ entries-entry-requires t c =
     let small = at_most the_size all i e within in
     let same_size : the_size e ≡ the_size (get_or all i e) = ap the_size is in
     (omega (arith, small, same_size, c.decreases), (slot_listable ss e.slot c.requires.listable, entry_shape as_lines (slot_lines path) ss (entries_lines path 1 ss (entries_tree all)) c.args.self.now.out c.loop-entry.self.out all i e c.loop-entry.invariant within is))
+
+pub compound-returns : goal.compound-returns
+compound-returns t c =
+    last_put c.entries.result c.entries.ensures (λ h. compound_put c.args.path.now (slots_tree c.args.slots.now) c.args.entries.now c.count.result _ _ _ c.count.ensures c.in_ok-count.ensures h)
+
+pub entries-returns : goal.entries-returns
+entries-returns t c =
+    let all = c.args.entries.now in
+    let ss = slots_tree c.args.slots.now in
+    let path = c.args.path.now in
+    entries_ended as_lines (slot_lines path) ss (entries_lines path 1 ss (entries_tree all)) c.args.self.now.out c.loop-entry.self.out all c.loop-entry.entry-index c.loop-entry.invariant
+    (subst (λ xs. length xs ≤ c.loop-entry.entry-index) c.as_slice-entry-items.ensures.members c.loop-entry-test.false)
+
+pub each-kind-requires : goal.each-kind-requires
+each-kind-requires t c =
+    let all = c.args.values.now in
+    let k = kind_tree c.args.kind.now in
+    let path = c.args.path.now in
+    let i : ℕ = c.loop-value.value-index in
+    let v = c.value-item.result in
+    let same = c.as_slice-value-items.ensures.members in
+    let within : i < length all = subst (λ xs. i < length xs) same c.loop-value-test.true in
+    let is : v ≡ get_or all i v = subst (λ xs. v ≡ get_or xs i v) same c.value-item.is in
+    let small = at_most values.the_size all i v within in
+    let same_size : values.the_size v ≡ values.the_size (get_or all i v) = ap values.the_size is in
+    (omega (arith, small, same_size, c.decreases), (c.requires.listable, each_shape (Shape k) (kind_lines k) path (each_lines (kind_lines k) path 0 (values_tree all)) c.args.self.now.out c.loop-value.self.out i all v c.loop-value.invariant.left within is))

@@ -1,21 +1,19 @@
 -- Sums that are capped at 2^64 - 1, over lists from a place on.
 use Rattle.std.proofs.Common.{◌≡◌, ℕ, zero, suc, ◌+◌, ◌*◌, ◌/◌, ◌<◌, ◌≤◌, ◌-◌, min, List, [], ◌∷◌, length, map, drop, get_or, Option, Some, None, slice_get, refl, sym, ◌∙◌, ap, arith, add-one, drop-cons}
 use Rattle.std.proofs.lemmas.List.{drop_all}
-use Rattle.std.specs.Option.{option_map}
 use Rattle.ax_model.proofs.RecordFitting.{entries_split}
-use Rattle.ax_model.proofs.Lookups.{uap_slot_tree}
-use Rattle.ax_model.specs.Lookup.{item_of_slot, item_of_frn}
-use Rattle.ax_model.specs.Specification.{record_slots, uap_slot, slot_of_item}
+use Rattle.ax_model.specs.Lookup.{item_of_frn}
+use Rattle.ax_model.specs.Specification.{record_slots}
 use Rattle.ax_model.specs.Lengths.{record_octets, records_octets, capped, octets, each_octets, entries_octets, octets_where, last_slot, presence_octets, unit_octets, parts_octets, slot_kind, kind_after, kind_of_slot}
-use Rattle.ax_model.specs.Plain.{entries_tree, item_tree, kind_tree, spec_tree, member_tree, members_tree, slot_tree, slots_tree, value_tree, values_tree}
-use Rattle.ax_model.specs.Tree.{MembersTree, member_and, MemberTree, named, spare, KindTree, slots_of, ValueTree, ValuesTree, value_count, ListsTree, no_lists, list_and, entry_and}
+use Rattle.ax_model.specs.Plain.{entries_tree, kind_tree, spec_tree, member_tree, members_tree, part_tree, slot_tree, slots_tree, value_tree, values_tree, lists_tree}
+use Rattle.ax_model.specs.Tree.{MembersTree, member_and, MemberTree, named, spare, KindTree, ValueTree, ValuesTree, value_count, ListsTree, no_lists, list_and, entry_and}
 use Rattle.ax_model.specs.Widths.{member_width, members_width}
 use Rattle.ax_model.specs.declared.kind.Member.{Member}
+use Rattle.ax_model.specs.declared.kind.Part.{Part}
 use Rattle.ax_model.specs.declared.kind.Slot.{Slot}
 use Rattle.ax_model.specs.declared.record.Record.{Record}
 use Rattle.ax_model.specs.declared.spec.Item.{Item}
 use Rattle.ax_model.specs.declared.spec.Spec.{Spec}
-use Rattle.ax_model.specs.declared.spec.UapSlot.{UapSlot}
 use Rattle.ax_model.specs.declared.value.Entry.{Entry}
 use Rattle.ax_model.specs.declared.value.Value.{Value}
 use Rattle.ax_model.proofs.ItemKinds.{kind_of_item, kind_of_frn}
@@ -72,7 +70,22 @@ without_lists (p ∷ ps) = refl
 pub no_lists_left : (ps : List MembersTree) (ls : ListsTree) (total all : ℕ) → ls ≡ no_lists → total ≤ 18446744073709551615 → capped (total + parts_octets ps ls) ≡ capped all → total ≡ capped all
 no_lists_left ps ls total all e small h = let none : parts_octets ps ls ≡ 0 = ap (parts_octets ps) e ∙ without_lists ps in omega (arith, none, h)
 
-pub ruleset parts = (part_taken, no_parts, no_lists_left)
+-- the same from a place on
+pub part_there : (ps : List Part) (i : ℕ) (p : Part) (ls later : List (List Value)) (vs : List Value) (total new all : ℕ) → i < length ps → p ≡ get_or ps i p → ls ≡ vs ∷ later
+    → capped (total + parts_octets (map part_tree (drop i ps)) (lists_tree ls)) ≡ capped all → new ≡ capped (total + capped (capped (members_width (part_tree p)) + 1) / 8)
+    → capped (new + parts_octets (map part_tree (drop (i + 1) ps)) (lists_tree later)) ≡ capped all
+part_there ps i p ls later vs total new all within e is h n =
+    part_taken (part_tree p) (map part_tree (drop (i + 1) ps)) (values_tree vs) (lists_tree later) total new all
+    (sym (ap (λ x. capped (total + parts_octets (map part_tree x) (lists_tree ls))) (from_place ps i p within e) ∙ ap (λ x. capped (total + parts_octets (map part_tree (p ∷ drop (i + 1) ps)) (lists_tree x))) is) ∙ h) n
+
+pub parts_done : (ps : List Part) (i : ℕ) (ls : List (List Value)) (total all : ℕ) → length ps ≤ i → total ≤ 18446744073709551615
+    → capped (total + parts_octets (map part_tree (drop i ps)) (lists_tree ls)) ≡ capped all → total ≡ capped all
+parts_done ps i ls total all past small h = no_parts (map part_tree (drop i ps)) (lists_tree ls) total all (ap (map part_tree) (drop_all i ps past)) small h
+
+pub lists_done : (ps : List Part) (i : ℕ) (ls : List (List Value)) (total all : ℕ) → length ls ≡ 0 → total ≤ 18446744073709551615
+    → capped (total + parts_octets (map part_tree (drop i ps)) (lists_tree ls)) ≡ capped all → total ≡ capped all
+lists_done ps i [] total all none small h = no_lists_left (map part_tree (drop i ps)) no_lists total all refl small h
+lists_done ps i (vs ∷ ls) total all none small h = absurd (cc)
 
 -- ---- values
 

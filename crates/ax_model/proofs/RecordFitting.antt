@@ -1,5 +1,5 @@
 -- Records over the UAP and blocks: the tests say what the definitions do.
-use Rattle.std.proofs.Common.{◌≡◌, ℕ, suc, ◌+◌, ◌<◌, ◌≤◌, ◌==◌, List, [], ◌∷◌, length, map, drop, get_or, true, false, ◌&&◌, Some, None, refl, sym, ◌∙◌, ap, arith, add-one, drop-cons}
+use Rattle.std.proofs.Common.{◌≡◌, ℕ, suc, ◌+◌, ◌<◌, ◌≤◌, ◌==◌, List, [], ◌∷◌, length, map, drop, get_or, Bool, true, false, ◌&&◌, Some, None, refl, sym, ◌∙◌, ap, arith, add-one, drop-cons}
 use Rattle.std.specs.List.{AllByRecursion, list_all}
 use Rattle.std.specs.Option.{option_map}
 use Rattle.std.proofs.lemmas.List.{drop_all, length-map}
@@ -70,7 +70,20 @@ here_refused items slot item n e es later ss is found at fit =
     ∙ ap (λ s. entries_fit n (slot_and s ss) (entry_and e.slot (value_tree e.value) t)) (item_is items slot item found)
     ∙ here n e.slot (value_tree e.value) t item.name (kind_tree item.kind) ss at ∙ ap (λ b. b && entries_fit (n + 1) ss t) fit
 
-pub ruleset slot_steps = (nothing, other, spare_is, here_found, here_refused)
+-- no entry is left, the first one is of another slot, or the slot has no item
+pub no_entry : (n : ℕ) (slot : SlotTree) (es : List Entry) (ss : SlotsTree) → length es ≡ 0 → entries_fit n (slot_and slot ss) (entries_tree es) ≡ entries_fit (n + 1) ss (entries_tree es)
+no_entry n slot [] ss e = nothing n slot ss
+no_entry n slot (x ∷ es) ss e = absurd (cc)
+
+pub other_entry : (n : ℕ) (slot : SlotTree) (e : Entry) (es later : List Entry) (ss : SlotsTree) → es ≡ e ∷ later → (e.slot ≡ n → ⊥)
+    → entries_fit n (slot_and slot ss) (entries_tree es) ≡ entries_fit (n + 1) ss (entries_tree es)
+other_entry n slot e es later ss is ne =
+    let i = entries_split e es later is in
+    ap (entries_fit n (slot_and slot ss)) i ∙ other n e.slot (value_tree e.value) (entries_tree later) slot ss ne ∙ sym (ap (entries_fit (n + 1) ss) i)
+
+pub no_item : (items : List Item) (slot : UapSlot) (n : ℕ) (es : List Entry) (ss : SlotsTree) → item_of_slot (Some slot) items ≡ None
+    → entries_fit n (slot_and (uap_slot (map item_tree items) slot) ss) (entries_tree es) ≡ entries_fit (n + 1) ss (entries_tree es)
+no_item items slot n es ss none = ap (λ s. entries_fit n (slot_and s ss) (entries_tree es)) (spare_is items slot none)
 
 -- ---- all slots
 
@@ -90,7 +103,17 @@ pub slots_end : (items : List Item) (ss : List UapSlot) (i n : ℕ) (es : List E
     → entries_fit n (slots_of (map (uap_slot (map item_tree items)) (drop i ss))) (entries_tree es) ≡ (length es == 0)
 slots_end items ss i n es past = rw (drop_all i ss past) (no_slots_from n es)
 
-pub ruleset slots = (slots_from, slots_end)
+-- the slot at place i refuses the entries, or takes those that it has
+pub slot_refuses : (items : List Item) (ss : List UapSlot) (i n : ℕ) (s : UapSlot) (es : List Entry) (b : Bool) → i < length ss → s ≡ get_or ss i s
+    → ((t : SlotsTree) → entries_fit n (slot_and (uap_slot (map item_tree items) s) t) (entries_tree es) ≡ false)
+    → b ≡ entries_fit n (slots_of (map (uap_slot (map item_tree items)) (drop i ss))) (entries_tree es) → false ≡ b
+slot_refuses items ss i n s es b within e refused is = sym (is ∙ ap (λ x. entries_fit n x (entries_tree es)) (slots_from items ss i s within e) ∙ refused _)
+
+pub slot_takes : (items : List Item) (ss : List UapSlot) (i n : ℕ) (s : UapSlot) (es later : List Entry) (b : Bool) → i < length ss → s ≡ get_or ss i s
+    → ((t : SlotsTree) → entries_fit n (slot_and (uap_slot (map item_tree items) s) t) (entries_tree es) ≡ entries_fit (n + 1) t (entries_tree later))
+    → b ≡ entries_fit n (slots_of (map (uap_slot (map item_tree items)) (drop i ss))) (entries_tree es)
+    → b ≡ entries_fit (n + 1) (slots_of (map (uap_slot (map item_tree items)) (drop (i + 1) ss))) (entries_tree later)
+slot_takes items ss i n s es later b within e taken is = is ∙ ap (λ x. entries_fit n x (entries_tree es)) (slots_from items ss i s within e) ∙ taken _
 
 -- ---- blocks
 

@@ -13,7 +13,6 @@ use crate::spec::{Spec, UapSlot};
 use crate::value::Entry;
 
 /// The entries after the one of this slot of the UAP, if there is one. None comes where that doesn't fit.
-#[tactic(auto, using(crate::proofs::RecordFitting::slot_steps))]
 fn after_slot<'e>(
     spec: &Spec,
     number: u64,
@@ -43,7 +42,6 @@ fn after_slot<'e>(
 }
 
 /// Whether each entry is of a defined slot of the UAP, in ascending order, and fits its item's kind.
-#[tactic(auto, using(crate::proofs::RecordFitting::slots))]
 fn fits_record(spec: &Spec, one: &Record) -> bool
     ensures { result ≡ record_fits spec.now one.now }
 {

@@ -30,20 +30,17 @@ fn presence_octets_of(last: u32) -> u64
 }
 
 /// The octets of the parts that are present.
-#[tactic(auto, using(crate::proofs::Counting::parts))]
 fn octets_of_parts(parts: &[Part], lists: &[Values]) -> u64
     ensures { result ≡ capped (parts_octets (map part_tree parts.now) (lists_tree lists.now)) }
 {
     let mut total: u64 = 0;
-    let mut parts = parts;
-    let mut lists = lists;
-    while let (Some((part, later)), Some((_values, rest))) = (
-        parts.split_first(),
-        lists.split_first(),
-    ) {
+    let mut rest = lists;
+    for part in parts {
+        let Some((_values, later)) = rest.split_first() else {
+            return total;
+        };
         total = total.saturating_add(unit_octets_of(part.width()));
-        parts = later;
-        lists = rest;
+        rest = later;
     }
     total
 }
@@ -77,7 +74,6 @@ pub fn octets_of(value: &Value, kind: &Kind) -> u64
 }
 
 #[cycle(octets)]
-#[tactic(auto, using(crate::proofs::Counting::each))]
 fn octets_of_each(values: &Values, kind: &Kind) -> u64
     ensures { result ≡ capped (each_octets (values_tree values.now) (kind_tree kind.now)) }
 {
@@ -100,7 +96,6 @@ fn octets_of_entry(entry: &Entry, slots: &Slots) -> u64
 
 /// The octets of a compound: of its presence field, then of its entries.
 #[cycle(octets)]
-#[tactic(auto, using(crate::proofs::Counting::entries))]
 fn octets_of_entries(entries: &Entries, slots: &Slots) -> u64
     ensures { result ≡ capped (octets (marked (entries_tree entries.now)) (compound (slots_tree slots.now))) }
 {
@@ -124,7 +119,6 @@ fn octets_of_item(spec: &Spec, entry: &Entry) -> u64
 }
 
 /// The octets of a record: of its FSPEC, then of its items.
-#[tactic(auto, using(crate::proofs::Counting::entries))]
 fn octets_of_record(spec: &Spec, one: &Record) -> u64
     ensures { result ≡ capped (record_octets spec.now one.now) }
 {

@@ -53,36 +53,35 @@ fn fits_member(member: &Member, value: &Value) -> bool
 
 /// Whether there is one value for each member, of its shape.
 #[cycle(fixed_fits)]
-#[tactic(auto, using(crate::proofs::FittingLists::mismatch))]
 fn fits_members(members: &Members, values: &Values) -> bool
     ensures { result ≡ members_fit (members_tree members.now) (values_tree values.now) }
 {
-    if members.count() != values.count() {
-        return false;
-    }
-    for (member, value) in members.as_slice().iter().zip(values.as_slice()) {
+    let mut rest = values.as_slice();
+    for member in members.as_slice() {
+        let Some((value, later)) = rest.split_first() else {
+            return false;
+        };
         if !fits_member(member, value) {
             return false;
         }
+        rest = later;
     }
-    true
+    rest.is_empty()
 }
 
 /// Whether each list fits its part, as far as there are both.
 fn fits_lists(parts: &[Part], lists: &[Values]) -> bool
     ensures { result ≡ lists_fit (map part_tree parts.now) (lists_tree lists.now) }
 {
-    let mut parts = parts;
-    let mut lists = lists;
-    while let (Some((part, later)), Some((values, rest))) = (
-        parts.split_first(),
-        lists.split_first(),
-    ) {
+    let mut rest = lists;
+    for part in parts {
+        let Some((values, later)) = rest.split_first() else {
+            return true;
+        };
         if !fits_members(&part.members, values) {
             return false;
         }
-        parts = later;
-        lists = rest;
+        rest = later;
     }
     true
 }
@@ -105,12 +104,10 @@ fn fits_parts(parts: &Parts, lists: &Lists) -> bool
 fn fits_run(fixed: &Fixed, values: &[Value]) -> bool
     ensures { result ≡ each_fits (fixed_fits (fixed_tree fixed.now)) (values_tree values.now) }
 {
-    let mut rest = values;
-    while let Some((value, later)) = rest.split_first() {
+    for value in values {
         if !fits_fixed(fixed, value) {
             return false;
         }
-        rest = later;
     }
     true
 }
@@ -152,7 +149,6 @@ pub(crate) fn fits_kind(kind: &Kind, value: &Value) -> bool
 
 /// Whether there are at most 255 values, and each fits the inner kind.
 #[cycle(kind_fits)]
-#[tactic(auto, using(crate::proofs::FittingLists::counts))]
 fn fits_counted(inner: &Kind, values: &Values) -> bool
     ensures { result ≡ (nat_lt (value_count (values_tree values.now)) 256 && each_fits (kind_fits (kind_tree inner.now)) (values_tree values.now)) }
 {
@@ -166,19 +162,16 @@ fn fits_counted(inner: &Kind, values: &Values) -> bool
 fn fits_each(kind: &Kind, values: &[Value]) -> bool
     ensures { result ≡ each_fits (kind_fits (kind_tree kind.now)) (values_tree values.now) }
 {
-    let mut rest = values;
-    while let Some((value, later)) = rest.split_first() {
+    for value in values {
         if !fits_kind(kind, value) {
             return false;
         }
-        rest = later;
     }
     true
 }
 
 /// Whether each entry is of one of the slots, of which the first is slot 1, in ascending order, and fits its kind.
 #[cycle(kind_fits)]
-#[tactic(auto, using(crate::proofs::FittingLists::slots))]
 fn fits_slots(slots: &Slots, entries: &Entries) -> bool
     ensures { result ≡ entries_fit 1 (slots_tree slots.now) (entries_tree entries.now) }
 {

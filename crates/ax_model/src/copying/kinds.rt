@@ -69,10 +69,10 @@ fn copy_kind(alloc: Global, kind: &Kind) -> Result<Kind, AllocError>
     ensures { IfOk result (λ made. kind_tree made ≡ kind_tree kind.now) }
 {
     match kind {
-        Kind::Fixed(fixed) => Ok(Kind::Fixed(copy_fixed(alloc, fixed)?)),
-        Kind::Extended(parts) => Ok(Kind::Extended(copy_parts(alloc, parts)?)),
+        Kind::Fixed(fixed) => copy_fixed(alloc, fixed).map(Kind::Fixed),
+        Kind::Extended(parts) => copy_parts(alloc, parts).map(Kind::Extended),
         Kind::Counted(inner) => Ok(Kind::Counted(Box::new(alloc, copy_kind(alloc, inner)?)?)),
-        Kind::ByFx(fixed) => Ok(Kind::ByFx(copy_fixed(alloc, fixed)?)),
+        Kind::ByFx(fixed) => copy_fixed(alloc, fixed).map(Kind::ByFx),
         Kind::Explicit => Ok(Kind::Explicit),
         Kind::Compound(slots) => Ok(Kind::Compound(copy_slots(alloc, slots)?)),
     }

@@ -9,4 +9,4 @@ use Rattle.ax_model.proofs.block_fitting.fits_record.Given as goal
 abbrev pub invariant-loop-slot : goal.invariant-loop-slot
 invariant-loop-slot l =
     (l.number ≡ l.slot-index + 1)
-    × (record_fits l.spec l.one ≡ entries_fit l.number (slots_of (map (uap_slot (map item_tree l.spec.items)) (drop l.slot-index l.spec.uap))) (entries_tree l.rest))
+    × (record_fits l.spec l.one ≡ entries_fit l.number (slots_of (map (uap_slot (map item_tree l.spec.items)) (drop l.slot-index l.slot-items))) (entries_tree l.rest))

@@ -1,11 +1,8 @@
-use Rattle.std.proofs.Common.{◌≡◌, ◌≤◌, ◌+◌, length, map}
+use Rattle.std.proofs.Common.{◌≡◌, ◌≤◌, ◌+◌, drop, map}
 use Rattle.ax_model.specs.Lengths.{capped, parts_octets}
 use Rattle.ax_model.specs.Plain.{part_tree, lists_tree}
 use Rattle.ax_model.proofs.canonical_length.octets_of_parts.Given as goal
 
 abbrev pub invariant-loop-part : goal.invariant-loop-part
 invariant-loop-part l =
-    (capped (l.total + parts_octets (map part_tree l.parts) (lists_tree l.lists)) ≡ capped (parts_octets (map part_tree l.fn.parts) (lists_tree l.fn.lists))) × (l.total ≤ 18446744073709551615)
-
-abbrev pub decreases-loop-part : goal.decreases-loop-part
-decreases-loop-part l = length l.parts
+    (capped (l.total + parts_octets (map part_tree (drop l.part-index l.parts)) (lists_tree l.rest)) ≡ capped (parts_octets (map part_tree l.parts) (lists_tree l.lists))) × (l.total ≤ 18446744073709551615)

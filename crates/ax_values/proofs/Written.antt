@@ -100,9 +100,6 @@ values_ended old now whole [] [] h e = written_all old now whole [] h.written re
 values_ended old now whole (m ∷ ms) [] h e = absurd h.shape
 values_ended old now whole ms (v ∷ vs) h e = absurd (omega arith)
 
-pub member_next : (old now new : Out) (whole : List ℕ) (m : Member) (left ms : List Member) (v : Value) (right vs : List Value) → MembersLeft old now whole left right → left ≡ m ∷ ms → right ≡ v ∷ vs
-    → Appends now new (members_canon (member_and (member_tree m) no_members) (value_and (value_tree v) no_values)) → MembersLeft old new whole ms vs
-member_next old now new whole m left ms v right vs h e f a =
-    member_more old now new whole m ms v vs (subst (λ right. MembersLeft old now whole (m ∷ ms) right) f (subst (λ left. MembersLeft old now whole left right) e h)) a
-
-pub ruleset members = (members_first, member_bounds, member_shape, member_room, member_next, members_ended, values_ended)
+-- the first member and its value
+pub member_at : (old now : Out) (whole : List ℕ) (m : Member) (left ms : List Member) (v : Value) (right vs : List Value) → MembersLeft old now whole left right → left ≡ m ∷ ms → right ≡ v ∷ vs → MembersLeft old now whole (m ∷ ms) (v ∷ vs)
+member_at old now whole m left ms v right vs h e f = subst (λ right. MembersLeft old now whole (m ∷ ms) right) f (subst (λ left. MembersLeft old now whole left right) e h)

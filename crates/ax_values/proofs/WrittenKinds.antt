@@ -1,5 +1,5 @@
 -- Occurrences, contents and entries that are written one after the other.
-use Rattle.std.proofs.Common.{◌≡◌, ℕ, suc, ◌+◌, ◌-◌, ◌<◌, ◌≤◌, List, [], ◌∷◌, ◌++◌, length, drop, get_or, set, Option, Some, None, refl, sym, ◌∙◌, ap, arith, subst, length-append, add-one, drop-cons}
+use Rattle.std.proofs.Common.{◌≡◌, ℕ, suc, ◌+◌, ◌-◌, ◌<◌, ◌≤◌, List, [], ◌∷◌, ◌++◌, length, drop, get_or, set, refl, sym, ◌∙◌, ap, arith, subst, length-append, add-one, drop-cons}
 use Rattle.std.proofs.lemmas.List.{drop_all}
 use Rattle.ax_bits.proofs.Outputs.{appends_more}
 use Rattle.ax_bits.proofs.Words.{length-word}
@@ -9,12 +9,11 @@ use Rattle.ax_bits.specs.declared.output.Out.{Out}
 use Rattle.ax_fspec.specs.Fields.{least_field}
 use Rattle.ax_fspec.specs.Marks.{no_marks}
 use Rattle.ax_model.specs.Canonical.{canon, each_canon, marks_of, entries_canon}
-use Rattle.ax_model.specs.InBounds.{InBounds}
 use Rattle.ax_model.specs.Lengths.{slot_kind}
 use Rattle.ax_model.specs.Plain.{value_tree, values_tree, entries_tree}
 use Rattle.ax_model.specs.Presence.{octets_needed, least_presence}
 use Rattle.ax_model.specs.Shape.{Shape, EachShape}
-use Rattle.ax_model.specs.Tree.{KindTree, ValueTree, value_count, SlotsTree, slot_count}
+use Rattle.ax_model.specs.Tree.{KindTree, value_count, SlotsTree, slot_count}
 use Rattle.ax_model.specs.declared.value.Entry.{Entry}
 use Rattle.ax_model.specs.declared.value.Value.{Value}
 use Rattle.ax_values.proofs.NextEntry.{EntriesLeft, entries_first, entry_shape, entry_room, entries_next, entries_ended, MarksLeft, marks_first, mark_within, marks_next, marks_ended}

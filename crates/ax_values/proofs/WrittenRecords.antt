@@ -1,5 +1,5 @@
 -- Records that are written one after the other, and the octets of a block.
-use Rattle.std.proofs.Common.{◌≡◌, ℕ, zero, suc, ◌+◌, ◌*◌, ◌/◌, ◌%◌, ◌<◌, ◌≤◌, List, [], ◌∷◌, ◌++◌, length, drop, map, get_or, slice_get, Option, Some, None, refl, sym, ◌∙◌, ap, arith, subst, append_assoc}
+use Rattle.std.proofs.Common.{◌≡◌, ℕ, zero, suc, ◌+◌, ◌*◌, ◌/◌, ◌%◌, ◌<◌, ◌≤◌, List, [], ◌∷◌, ◌++◌, length, drop, get_or, Option, Some, None, refl, sym, ◌∙◌, ap, arith, subst, append_assoc}
 use Rattle.std.specs.List.{AllByRecursion}
 use Rattle.std.specs.Option.{option_map}
 use Rattle.std.proofs.lemmas.List.{drop_all}
@@ -10,7 +10,6 @@ use Rattle.ax_bits.specs.Out.{Appends, room}
 use Rattle.ax_bits.specs.declared.output.Out.{Out}
 use Rattle.ax_model.proofs.Bounds.{record_bounds, bounds_whole}
 use Rattle.ax_model.proofs.CanonFramed.{bits-octets_of, length-framed}
-use Rattle.ax_model.proofs.Lookups.{uap_slot_tree}
 use Rattle.ax_model.proofs.RecordLaws.{flawless_body_canon_spells}
 use Rattle.ax_model.proofs.SpelledBits.{records_bits}
 use Rattle.ax_model.proofs.WholeOctets.{two_whole, spells_whole}
@@ -19,20 +18,18 @@ use Rattle.ax_model.specs.Canonical.{canon}
 use Rattle.ax_model.specs.CanonicalOctets.{octets_of, framed}
 use Rattle.ax_model.specs.Flaws.{NoFlaw}
 use Rattle.ax_model.specs.InBounds.{InBounds}
-use Rattle.ax_model.specs.Lengths.{kind_of_slot, kind_after, slot_kind}
-use Rattle.ax_model.specs.Lookup.{item_of_frn, item_of_slot}
+use Rattle.ax_model.specs.Lengths.{kind_of_slot, slot_kind}
+use Rattle.ax_model.specs.Lookup.{item_of_frn}
 use Rattle.ax_model.specs.Plain.{kind_tree, item_tree, spec_tree, record_tree, records_tree}
 use Rattle.ax_model.specs.Shape.{Shape}
-use Rattle.ax_model.specs.Specification.{SpecTree, record_kind, record_slots, slot_of_item, uap_slot}
-use Rattle.ax_model.specs.Tree.{ValueTree, EntriesTree, marked, slots_of}
+use Rattle.ax_model.specs.Specification.{SpecTree, record_kind, record_slots, slot_of_item}
+use Rattle.ax_model.specs.Tree.{ValueTree, EntriesTree, marked}
 use Rattle.ax_model.specs.Whole.{Whole}
 use Rattle.ax_model.specs.declared.record.Record.{Record}
 use Rattle.ax_model.specs.declared.spec.Item.{Item}
 use Rattle.ax_model.specs.declared.spec.Spec.{Spec}
-use Rattle.ax_model.specs.declared.spec.UapSlot.{UapSlot}
 use Rattle.ax_values.proofs.Written.{written_none, written_more, written_all, written_room, first_room}
 use Rattle.ax_values.proofs.WrittenKinds.{from_place}
-use Rattle.ax_reader.specs.Reading.{slot_of_frn}
 use Rattle.ax_values.specs.Writing.{IsWrittenTo, EntryShape, entry_canon, AreEntriesOf}
 use Rattle.ax_model.proofs.ItemKinds.{kind_in_slot, kind_of_item, kind_of_frn}
 

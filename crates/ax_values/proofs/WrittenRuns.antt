@@ -66,8 +66,6 @@ run_next f old now mid new whole left v vs more h e a is b = record {
 pub run_ended : (f : FixedTree) (old now : Out) (whole : List ℕ) (vs : List Value) → RunLeft f old now whole vs → vs ≡ [] → Appends old now whole
 run_ended f old now whole vs h e = written_all old now whole (run_canon f (values_tree vs)) h.written (ap (λ vs. run_canon f (values_tree vs)) e)
 
-pub ruleset run = (run_first, value_shape, value_room, fx_room, run_ended)
-
 -- ---- parts
 
 first_of_parts : (p : MembersTree) (ps : List MembersTree) (vs : List Value) (ls : List (List Value)) → PartsShape (p ∷ ps) (lists_tree (vs ∷ ls))
@@ -147,4 +145,6 @@ lists_ended old now whole ps ls h e = written_all old now whole (parts_canon (ma
 pub parts_ended : (old now : Out) (whole : List ℕ) (ps : List Part) (ls : List (List Value)) → PartsLeft old now whole ps ls → ps ≡ [] → Appends old now whole
 parts_ended old now whole ps ls h e = written_all old now whole (parts_canon (map part_tree ps) (lists_tree ls)) h.written (ap (λ ps. parts_canon (map part_tree ps) (lists_tree ls)) e)
 
-pub ruleset parts = (parts_first, part_bounds, part_shape, part_room, part_fx_room, lists_ended, parts_ended)
+pub none_left : {A : Type 0} (xs : List A) → length xs ≡ 0 → xs ≡ []
+none_left [] e = refl
+none_left (x ∷ xs) e = absurd (cc)

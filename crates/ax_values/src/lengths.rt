@@ -26,7 +26,6 @@ fn octets_of_item(items: &UapItems<'_>, entry: &Entry) -> u64
 }
 
 /// The octets of a record: of its FSPEC, then of its items.
-#[tactic(auto, using(ax_model::proofs::Counting::entries))]
 fn octets_of_record(items: &UapItems<'_>, one: &Record) -> u64
     ensures { result ≡ capped (record_octets items.now.spec.now one.now) }
 {

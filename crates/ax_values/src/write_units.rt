@@ -45,15 +45,19 @@ pub(crate) fn write_fixed(value: &Value, fixed: &Fixed, out: &mut Out<'_>)
 
 /// Appends the values of members, one for each.
 #[cycle(write_fixed)]
-#[tactic(auto, using(crate::proofs::Written::members))]
 pub(crate) fn write_members(values: &Values, members: &Members, out: &mut Out<'_>)
     requires bounds { MembersInBounds (members_tree members.now) }
     requires shape { MembersShape (members_tree members.now) (values_tree values.now) }
     requires room { length (members_canon (members_tree members.now) (values_tree values.now)) ≤ room out.old }
     ensures { Appends out.old out.new (members_canon (members_tree members.now) (values_tree values.now)) }
 {
-    for (member, value) in members.as_slice().iter().zip(values.as_slice()) {
+    let mut rest = members.as_slice();
+    for value in values.as_slice() {
+        let Some((member, later)) = rest.split_first() else {
+            return;
+        };
         write_member(value, member, out);
+        rest = later;
     }
 }
 
@@ -80,28 +84,24 @@ fn write_fx(more: bool, out: &mut Out<'_>)
 }
 
 /// Appends the parts that are present.
-#[tactic(auto, using(crate::proofs::WrittenRuns::parts))]
 pub(crate) fn write_parts(lists: &Lists, parts: &Parts, out: &mut Out<'_>)
     requires bounds { AllByRecursion PartInBounds (map part_tree parts.now) }
     requires shape { PartsShape (map part_tree parts.now) (lists_tree lists.now) }
     requires room { length (parts_canon (map part_tree parts.now) (lists_tree lists.now)) ≤ room out.old }
     ensures { Appends out.old out.new (parts_canon (map part_tree parts.now) (lists_tree lists.now)) }
 {
-    let mut parts = parts.as_slice();
-    let mut lists = lists.as_slice();
-    while let (Some((part, later)), Some((values, rest))) = (
-        parts.split_first(),
-        lists.split_first(),
-    ) {
+    let mut rest = lists.as_slice();
+    for part in parts.as_slice() {
+        let Some((values, later)) = rest.split_first() else {
+            return;
+        };
         write_members(values, &part.members, out);
-        write_fx(!rest.is_empty(), out);
-        parts = later;
-        lists = rest;
+        write_fx(!later.is_empty(), out);
+        rest = later;
     }
 }
 
 /// Appends the occurrences by FX.
-#[tactic(auto, using(crate::proofs::WrittenRuns::run))]
 pub(crate) fn write_run(values: &Values, fixed: &Fixed, out: &mut Out<'_>)
     requires bounds { FixedInBounds (fixed_tree fixed.now) }
     requires shape { EachShape (FixedShape (fixed_tree fixed.now)) (values_tree values.now) }

@@ -6,5 +6,5 @@ use Rattle.ax_values.proofs.lengths.octets_of_record.Given as goal
 
 abbrev pub invariant-loop-entry : goal.invariant-loop-entry
 invariant-loop-entry l =
-    (capped (l.total + entries_octets (entries_tree (drop l.entry-index l.one.entries)) (slot_kind (record_slots (spec_tree l.items.spec.now)))) ≡ capped (entries_octets (entries_tree l.one.entries) (slot_kind (record_slots (spec_tree l.items.spec.now)))))
-    × (last_slot l.last (entries_tree (drop l.entry-index l.one.entries)) ≡ last_slot 1 (entries_tree l.one.entries))
+    (capped (l.total + entries_octets (entries_tree (drop l.entry-index l.entry-items)) (slot_kind (record_slots (spec_tree l.items.spec.now)))) ≡ capped (entries_octets (entries_tree l.one.entries) (slot_kind (record_slots (spec_tree l.items.spec.now)))))
+    × (last_slot l.last (entries_tree (drop l.entry-index l.entry-items)) ≡ last_slot 1 (entries_tree l.one.entries))

@@ -76,12 +76,14 @@ four : (a b c d : List Flaw) → a ++ (b ++ c ++ d) ≡ a ++ b ++ c ++ d
 four a b c d = sym (append_assoc a (b ++ c) d) ∙ ap (λ l. l ++ d) (sym (append_assoc a b c))
 
 -- the flaws of the items, then those at the UAP's path
-pub both_parts : (path : List ℕ) (spec : Spec) (start of_items of_all : List Flaw) → path ≡ three_digits spec.category → of_items ≡ start ++ items_flaws path [] (map item_tree spec.items)
-    → of_all ≡ of_items ++ uap_part_flaws (at path (codes "uap")) spec → of_all ≡ start ++ spec_flaws spec
-both_parts path spec start of_items of_all p e f =
+pub both_parts : (start of_items of_uap between all : List Flaw) → between ≡ start ++ of_items → all ≡ between ++ of_uap → all ≡ start ++ (of_items ++ of_uap)
+both_parts start of_items of_uap between all e f = f ∙ ap (λ l. l ++ of_uap) e ∙ append_assoc start of_items of_uap
+
+pub at_category : (path : List ℕ) (spec : Spec) (start all : List Flaw) → path ≡ three_digits spec.category
+    → all ≡ start ++ (items_flaws path [] (map item_tree spec.items) ++ uap_part_flaws (at path (codes "uap")) spec) → all ≡ start ++ spec_flaws spec
+at_category path spec start all p e =
     let digits = three_digits spec.category in
     let uap = at digits (codes "uap") in
-    f ∙ (λ i. (e ∙ ap (λ t. start ++ items_flaws t [] (map item_tree spec.items)) p) i ++ uap_part_flaws (at (p i) (codes "uap")) spec)
-    ∙ append_assoc start (items_flaws digits [] (map item_tree spec.items)) (uap_part_flaws uap spec)
+    e ∙ (λ i. start ++ (items_flaws (p i) [] (map item_tree spec.items) ++ uap_part_flaws (at (p i) (codes "uap")) spec))
     ∙ ap (λ l. start ++ l) (four (items_flaws digits [] (map item_tree spec.items)) (flaw_where (length spec.uap == 0) Empty uap) (flaw_where (nat_lt 126 (length spec.uap)) TooManySlots uap)
     (uap_flaws uap (map item_tree spec.items) [] spec.uap))

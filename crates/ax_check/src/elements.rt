@@ -50,15 +50,13 @@ fn element_in_fixed<'k>(fixed: &'k Fixed, steps: &[u32]) -> Option<&'k Fixed>
 fn element_in<'k>(kind: &'k Kind, steps: &[u32]) -> Option<&'k Fixed>
     ensures { option_map fixed_tree (option_copied result) ≡ kind_element steps.now (kind_tree kind.now) }
 {
-    match kind {
-        Kind::Fixed(fixed) => element_in_fixed(fixed, steps),
-        Kind::Extended(parts) => {
-            let (part, below) = steps.split_first()?;
+    match (kind, steps.split_first()) {
+        (Kind::Fixed(fixed), _) => element_in_fixed(fixed, steps),
+        (Kind::Extended(parts), Some((part, below))) => {
             let (member, later) = below.split_first()?;
             element_in_fixed(fixed_in_part(parts, *part, *member)?, later)
         }
-        Kind::Compound(slots) => {
-            let (number, later) = steps.split_first()?;
+        (Kind::Compound(slots), Some((number, later))) => {
             element_in(subitem_kind(slots, *number)?, later)
         }
         _ => None,

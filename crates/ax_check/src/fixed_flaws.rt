@@ -9,10 +9,9 @@ ghost use Rattle.ax_model.specs.declared.flaw.FlawKind.TheVariants.{BadWidth, Ba
 ghost use Rattle.ax_check.specs.Members.{member_flaws, with_member};
 ghost use Rattle.ax_check.specs.Names.{listed, AreSame};
 
-use crate::names::enter;
+use crate::names::{Names, enter};
 use crate::texts::at_spare;
 use ax_model::{Content, Fixed, Flaw, FlawKind, Flaws, Member, Members, Name, Text, at_name};
-use indexmap::IndexSet;
 use std::alloc::{AllocError, Global};
 
 /// Notes a flaw where the test holds. A list of more than 2^32 - 1 flaws is a want of memory.
@@ -40,16 +39,16 @@ pub(crate) fn enter_at<'s>(
     alloc: Global,
     found: &mut Flaws,
     path: &Text,
-    names: &mut IndexSet<&'s [u8]>,
+    names: &mut Names<'s>,
     name: &'s Name,
     twice: FlawKind,
 ) -> Result<Text, AllocError>
     ensures path { IfOk result (λ made. made ≡ at path.now name.now) }
-    ensures flaws { OnOk result (found.new ≡ found.old ++ flaw_where (is_among name.now (listed names.old)) twice (at path.now name.now)) }
-    ensures names { OnOk result (AreSame (listed names.new) (name.now ∷ listed names.old)) }
+    ensures flaws { OnOk result (found.new ≡ found.old ++ flaw_where (is_among name.now (listed names.old.set)) twice (at path.now name.now)) }
+    ensures names { OnOk result (AreSame (listed names.new.set) (name.now ∷ listed names.old.set)) }
 {
-    let path = at_name(alloc, path, name)?;
     let known = enter(names, name)?;
+    let path = at_name(alloc, path, name)?;
     note(alloc, found, known, twice, &path)?;
     Ok(path)
 }
@@ -135,7 +134,7 @@ fn find_in_group(
     ensures { OnOk result (found.new ≡ found.old ++ fixed_flaws path.now (group (members_tree members.now))) }
 {
     note(alloc, found, members.count() == 0, FlawKind::Empty, path)?;
-    let mut names = IndexSet::new(alloc);
+    let mut names = Names::new(alloc);
     find_in_members(alloc, found, path, &mut names, members)
 }
 
@@ -145,11 +144,11 @@ fn find_in_member<'s>(
     alloc: Global,
     found: &mut Flaws,
     path: &Text,
-    names: &mut IndexSet<&'s [u8]>,
+    names: &mut Names<'s>,
     member: &'s Member,
 ) -> Result<(), AllocError>
-    ensures flaws { OnOk result (found.new ≡ found.old ++ member_flaws path.now (listed names.old) (member_tree member.now)) }
-    ensures names { OnOk result (AreSame (listed names.new) (with_member (listed names.old) (member_tree member.now))) }
+    ensures flaws { OnOk result (found.new ≡ found.old ++ member_flaws path.now (listed names.old.set) (member_tree member.now)) }
+    ensures names { OnOk result (AreSame (listed names.new.set) (with_member (listed names.old.set) (member_tree member.now))) }
 {
     match member {
         Member::Spare { width } => {
@@ -176,11 +175,11 @@ pub(crate) fn find_in_members<'s>(
     alloc: Global,
     found: &mut Flaws,
     path: &Text,
-    names: &mut IndexSet<&'s [u8]>,
+    names: &mut Names<'s>,
     members: &'s Members,
 ) -> Result<(), AllocError>
-    ensures flaws { OnOk result (found.new ≡ found.old ++ members_flaws path.now (listed names.old) (members_tree members.now)) }
-    ensures names { OnOk result (AreSame (listed names.new) (names_with (listed names.old) (members_tree members.now))) }
+    ensures flaws { OnOk result (found.new ≡ found.old ++ members_flaws path.now (listed names.old.set) (members_tree members.now)) }
+    ensures names { OnOk result (AreSame (listed names.new.set) (names_with (listed names.old.set) (members_tree members.now))) }
 {
     for member in members.as_slice() {
         find_in_member(alloc, found, path, names, member)?;

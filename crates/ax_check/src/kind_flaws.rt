@@ -8,10 +8,10 @@ ghost use Rattle.ax_check.specs.Members.{count_flaws, part_flaws, slot_flaws, wi
 ghost use Rattle.ax_check.specs.Names.{listed, AreSame};
 
 use crate::fixed_flaws::{enter_at, find_in_fixed, find_in_members, note};
+use crate::names::Names;
 use crate::texts::{at_body, at_part};
 use crate::widths::{bits_over, bits_over_members};
 use ax_model::{Fixed, FlawKind, Flaws, Kind, Part, Parts, Slot, Slots, Text};
-use indexmap::IndexSet;
 use std::alloc::{AllocError, Global};
 
 /// The widest fixed kind or part, in bits: the longest body.
@@ -101,11 +101,11 @@ fn find_in_part<'s>(
     found: &mut Flaws,
     path: &Text,
     number: u32,
-    names: &mut IndexSet<&'s [u8]>,
+    names: &mut Names<'s>,
     part: &'s Part,
 ) -> Result<(), AllocError>
-    ensures flaws { OnOk result (found.new ≡ found.old ++ part_flaws path.now number (listed names.old) (part_tree part.now)) }
-    ensures names { OnOk result (AreSame (listed names.new) (names_with (listed names.old) (part_tree part.now))) }
+    ensures flaws { OnOk result (found.new ≡ found.old ++ part_flaws path.now number (listed names.old.set) (part_tree part.now)) }
+    ensures names { OnOk result (AreSame (listed names.new.set) (names_with (listed names.old.set) (part_tree part.now))) }
 {
     let place = at_part(alloc, path, number)?;
     let (over, width) = (bits_over_members(&part.members), part.width());
@@ -132,7 +132,7 @@ fn find_in_parts(
     ensures { OnOk result (found.new ≡ found.old ++ kind_flaws broken path.now (extended (map part_tree parts.now))) }
 {
     note(alloc, found, parts.count() == 0, FlawKind::Empty, path)?;
-    let mut names = IndexSet::new(alloc);
+    let mut names = Names::new(alloc);
     let mut number: u32 = 0;
     for part in parts.as_slice() {
         find_in_part(alloc, found, path, number, &mut names, part)?;
@@ -171,11 +171,11 @@ fn find_in_slot<'s>(
     alloc: Global,
     found: &mut Flaws,
     path: &Text,
-    names: &mut IndexSet<&'s [u8]>,
+    names: &mut Names<'s>,
     slot: &'s Slot,
 ) -> Result<(), AllocError>
-    ensures flaws { OnOk result (found.new ≡ found.old ++ slot_flaws path.now (listed names.old) (slot_tree slot.now)) }
-    ensures names { OnOk result (AreSame (listed names.new) (with_slot (listed names.old) (slot_tree slot.now))) }
+    ensures flaws { OnOk result (found.new ≡ found.old ++ slot_flaws path.now (listed names.old.set) (slot_tree slot.now)) }
+    ensures names { OnOk result (AreSame (listed names.new.set) (with_slot (listed names.old.set) (slot_tree slot.now))) }
 {
     match slot {
         Slot::Spare => Ok(()),
@@ -199,7 +199,7 @@ fn find_in_slots(
     ensures { OnOk result (found.new ≡ found.old ++ kind_flaws broken path.now (compound (slots_tree slots.now))) }
 {
     note_count(alloc, found, slots.count(), path)?;
-    let mut names = IndexSet::new(alloc);
+    let mut names = Names::new(alloc);
     for slot in slots.as_slice() {
         find_in_slot(alloc, found, path, &mut names, slot)?;
     }

@@ -1,26 +1,43 @@
 //! Sets of names.
-ghost use Rattle.std.specs.Prelude.{◌≡◌, ◌∷◌, ℕ, List, IfOk, OnOk};
+ghost use Rattle.std.specs.Prelude.{◌≡◌, ◌∷◌, [], IfOk, OnOk};
 ghost use Rattle.ax_model.specs.Flaws.{is_among};
 ghost use Rattle.ax_check.specs.Names.{listed, AreSame};
 
 use ax_model::Name;
 use indexmap::IndexSet;
-use std::alloc::AllocError;
+use std::alloc::{AllocError, Global};
 
+/// Names, each once.
+#[derive(Drop)]
+pub(crate) struct Names<'s> {
+    set: IndexSet<&'s [u8]>,
+}
+
+impl<'s> Names<'s> {
+    /// No name. Takes no memory.
+    pub(crate) fn new(alloc: Global) -> Names<'s>
+        ensures { listed result.set ≡ [] }
+    {
+        Names {
+            set: IndexSet::new(alloc),
+        }
+    }
+}
+
+/// Adds a name. Ok says whether it was there.
 #[tactic(auto, using(crate::proofs::NameSets::sets))]
-/// Adds a name. Ok says whether the set had it.
-pub(crate) fn enter<'s>(names: &mut IndexSet<&'s [u8]>, name: &'s Name) -> Result<bool, AllocError>
-    ensures known { IfOk result (λ known. known ≡ is_among name.now (listed names.old)) }
-    ensures added { OnOk result (AreSame (listed names.new) (name.now ∷ listed names.old)) }
+pub(crate) fn enter<'s>(names: &mut Names<'s>, name: &'s Name) -> Result<bool, AllocError>
+    ensures known { IfOk result (λ known. known ≡ is_among name.now (listed names.old.set)) }
+    ensures added { OnOk result (AreSame (listed names.new.set) (name.now ∷ listed names.old.set)) }
 {
-    let (_, new) = names.insert_full(name.octets())?;
+    let (_, new) = names.set.insert_full(name.octets())?;
     Ok(!new)
 }
 
-/// Whether the set has the name.
+/// Whether the name is there.
 #[tactic(auto, using(crate::proofs::NameSets::has_name))]
-pub(crate) fn has<'s>(names: &IndexSet<&'s [u8]>, name: &Name) -> bool
-    ensures { result ≡ is_among name.now (listed names.now) }
+pub(crate) fn has<'s>(names: &Names<'s>, name: &Name) -> bool
+    ensures { result ≡ is_among name.now (listed names.now.set) }
 {
-    names.contains(name.octets())
+    names.set.contains(name.octets())
 }

@@ -9,10 +9,9 @@ ghost use Rattle.ax_check.specs.Names.{listed, AreSame};
 
 use crate::fixed_flaws::{enter_at, note};
 use crate::kind_flaws::{find_in_kind, note_count};
-use crate::names::{enter, has};
+use crate::names::{Names, enter, has};
 use crate::texts::at_uap;
 use ax_model::{FlawKind, Flaws, Item, Items, Spec, Text, UapSlot, at_name, of_category};
-use indexmap::IndexSet;
 use std::alloc::{AllocError, Global};
 
 /// The flaws of one item after others of these names, which gain its own.
@@ -20,11 +19,11 @@ fn find_in_item<'s>(
     alloc: Global,
     found: &mut Flaws,
     path: &Text,
-    names: &mut IndexSet<&'s [u8]>,
+    names: &mut Names<'s>,
     item: &'s Item,
 ) -> Result<(), AllocError>
-    ensures flaws { OnOk result (found.new ≡ found.old ++ item_flaws path.now (listed names.old) (item_tree item.now)) }
-    ensures names { OnOk result (AreSame (listed names.new) (item.now.name ∷ listed names.old)) }
+    ensures flaws { OnOk result (found.new ≡ found.old ++ item_flaws path.now (listed names.old.set) (item_tree item.now)) }
+    ensures names { OnOk result (AreSame (listed names.new.set) (item.now.name ∷ listed names.old.set)) }
 {
     let name = &item.name;
     let path = enter_at(alloc, found, path, names, name, FlawKind::DuplicateItem)?;
@@ -37,12 +36,12 @@ fn find_in_items<'s>(
     alloc: Global,
     found: &mut Flaws,
     path: &Text,
-    names: &mut IndexSet<&'s [u8]>,
+    names: &mut Names<'s>,
     items: &'s Items,
 ) -> Result<(), AllocError>
-    requires { listed names.old ≡ [] }
+    requires { listed names.old.set ≡ [] }
     ensures flaws { OnOk result (found.new ≡ found.old ++ items_flaws path.now [] (map item_tree items.now)) }
-    ensures names { OnOk result (AreSame (listed names.new) (item_names items.now)) }
+    ensures names { OnOk result (AreSame (listed names.new.set) (item_names items.now)) }
 {
     for item in items.as_slice() {
         find_in_item(alloc, found, path, names, item)?;
@@ -55,18 +54,18 @@ fn find_in_uap_slot<'s>(
     alloc: Global,
     found: &mut Flaws,
     path: &Text,
-    items: &IndexSet<&'s [u8]>,
-    names: &mut IndexSet<&'s [u8]>,
+    items: &Names<'s>,
+    names: &mut Names<'s>,
     slot: &'s UapSlot,
 ) -> Result<(), AllocError>
-    ensures flaws { OnOk result (found.new ≡ found.old ++ uap_slot_flaws path.now (listed items.now) (listed names.old) slot.now) }
-    ensures names { OnOk result (AreSame (listed names.new) (with_uap_slot (listed names.old) slot.now)) }
+    ensures flaws { OnOk result (found.new ≡ found.old ++ uap_slot_flaws path.now (listed items.now.set) (listed names.old.set) slot.now) }
+    ensures names { OnOk result (AreSame (listed names.new.set) (with_uap_slot (listed names.old.set) slot.now)) }
 {
     match slot {
         UapSlot::Spare => Ok(()),
         UapSlot::Item(name) => {
-            let path = at_name(alloc, path, name)?;
             let known = enter(names, name)?;
+            let path = at_name(alloc, path, name)?;
             if has(items, name) {
                 note(alloc, found, known, FlawKind::RepeatedInUap, &path)
             } else {
@@ -83,43 +82,44 @@ fn find_in_uap<'s>(
     found: &mut Flaws,
     path: &Text,
     spec: &'s Spec,
-    items: &IndexSet<&'s [u8]>,
+    items: &Names<'s>,
 ) -> Result<(), AllocError>
-    requires { AreSame (listed items.now) (item_names spec.now.items) }
+    requires { AreSame (listed items.now.set) (item_names spec.now.items) }
     ensures { OnOk result (found.new ≡ found.old ++ uap_part_flaws path.now spec.now) }
 {
     note_count(alloc, found, spec.uap.count(), path)?;
-    let mut names = IndexSet::new(alloc);
+    let mut names = Names::new(alloc);
     for slot in spec.uap.as_slice() {
         find_in_uap_slot(alloc, found, path, items, &mut names, slot)?;
     }
     Ok(())
 }
 
-/// The flaws of the UAP of a category at that path, over the names of the items.
-fn find_at_uap<'s>(
+/// The flaws of each item, then those of the UAP, below the path of a category. The names gain those of the items.
+#[tactic(auto, using(crate::proofs::UapLists::both_parts))]
+fn find_in_lists<'s>(
     alloc: Global,
     found: &mut Flaws,
     path: &Text,
+    names: &mut Names<'s>,
     spec: &'s Spec,
-    items: &IndexSet<&'s [u8]>,
 ) -> Result<(), AllocError>
-    requires { AreSame (listed items.now) (item_names spec.now.items) }
-    ensures { OnOk result (found.new ≡ found.old ++ uap_part_flaws (at path.now (codes "uap")) spec.now) }
+    requires { listed names.old.set ≡ [] }
+    ensures { OnOk result (found.new ≡ found.old ++ (items_flaws path.now [] (map item_tree spec.now.items) ++ uap_part_flaws (at path.now (codes "uap")) spec.now)) }
 {
+    find_in_items(alloc, found, path, names, &spec.items)?;
     let path = at_uap(alloc, path)?;
-    find_in_uap(alloc, found, &path, spec, items)
+    find_in_uap(alloc, found, &path, spec, names)
 }
 
 /// The flaws of each item, then those of the UAP.
-#[tactic(auto, using(crate::proofs::UapLists::both_parts))]
+#[tactic(auto, using(crate::proofs::UapLists::at_category))]
 fn find_in_spec(alloc: Global, found: &mut Flaws, spec: &Spec) -> Result<(), AllocError>
     ensures { OnOk result (found.new ≡ found.old ++ spec_flaws spec.now) }
 {
     let path = of_category(alloc, spec.category)?;
-    let mut items = IndexSet::new(alloc);
-    find_in_items(alloc, found, &path, &mut items, &spec.items)?;
-    find_at_uap(alloc, found, &path, spec, &items)
+    let mut names = Names::new(alloc);
+    find_in_lists(alloc, found, &path, &mut names, spec)
 }
 
 /// The flaws of a specification, in their order: those of each item, then those of the UAP. Want of memory, also

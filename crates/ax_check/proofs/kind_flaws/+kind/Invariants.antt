@@ -7,5 +7,5 @@ use Rattle.ax_check.proofs.kind_flaws.+kind.Given as goal
 
 abbrev pub invariant-find_in_slots-loop-slot : goal.invariant-find_in_slots-loop-slot
 invariant-find_in_slots-loop-slot l =
-    l.found ++ slots_flaws l.path (listed l.names) (slots_tree (drop l.slot-index l.slots))
+    l.found ++ slots_flaws l.path (listed l.names.set) (slots_tree (drop l.slot-index l.slots))
     ≡ l.fn.found ++ (flaw_where (length l.slots == 0) Empty l.path ++ flaw_where (nat_lt 126 (length l.slots)) TooManySlots l.path ++ slots_flaws l.path [] (slots_tree l.slots))

@@ -5,4 +5,4 @@ use Rattle.ax_model.specs.Flaws.{is_among}
 use Rattle.ax_check.proofs.names.has.Goals as goal
 
 pub returns : goal.returns
-returns c = c.contains.ensures ∙ has_name c.octets.result.now c.args.names.now.keys ∙ ap (λ n. is_among n (listed c.args.names.now)) c.octets.ensures.octets
+returns c = c.contains.ensures ∙ has_name c.octets.result.now c.args.names.now.set.keys ∙ ap (λ n. is_among n (listed c.args.names.now.set)) c.octets.ensures.octets

@@ -7,8 +7,8 @@ use Rattle.ax_check.proofs.spec_flaws.find_in_items.Goals as goal
 
 pub loop-item-preserved : goal.loop-item-preserved
 loop-item-preserved c =
-    let flaws : c.find_in_item.new.found ≡ c.loop-item.found ++ item_flaws c.args.path.now (listed c.loop-item.names) (item_tree c.item-item.result) = search rules in
-    let names : AreSame (listed c.find_in_item.new.names) (c.item-item.result.name ∷ listed c.loop-item.names) = search rules in (
-      item_step c.args.path.now c.loop-item.item-index (listed c.loop-item.names) (listed c.find_in_item.new.names) c.args.items.now c.item-item.result c.loop-item.found c.find_in_item.new.found _ (search rules) (search rules) flaws names c.loop-item.invariant.0,
-      name_step c.loop-item.item-index (listed c.loop-item.names) (listed c.find_in_item.new.names) _ c.args.items.now c.item-item.result (search rules) (search rules) names c.loop-item.invariant.1,
+    let flaws : c.find_in_item.new.found ≡ c.loop-item.found ++ item_flaws c.args.path.now (listed c.loop-item.names.set) (item_tree c.item-item.result) = search rules in
+    let names : AreSame (listed c.find_in_item.new.names.set) (c.item-item.result.name ∷ listed c.loop-item.names.set) = search rules in (
+      item_step c.args.path.now c.loop-item.item-index (listed c.loop-item.names.set) (listed c.find_in_item.new.names.set) c.args.items.now c.item-item.result c.loop-item.found c.find_in_item.new.found _ (search rules) (search rules) flaws names c.loop-item.invariant.0,
+      name_step c.loop-item.item-index (listed c.loop-item.names.set) (listed c.find_in_item.new.names.set) _ c.args.items.now c.item-item.result (search rules) (search rules) names c.loop-item.invariant.1,
     )

@@ -8,5 +8,5 @@ use Rattle.ax_check.proofs.spec_flaws.find_in_items.Given as goal
 
 abbrev pub invariant-loop-item : goal.invariant-loop-item
 invariant-loop-item l =
-    (l.found ++ items_flaws l.path (listed l.names) (map item_tree (drop l.item-index l.items)) ≡ l.fn.found ++ items_flaws l.path [] (map item_tree l.items))
-    × AreSame (names_after (listed l.names) (drop l.item-index l.items)) (item_names l.items)
+    (l.found ++ items_flaws l.path (listed l.names.set) (map item_tree (drop l.item-index l.items)) ≡ l.fn.found ++ items_flaws l.path [] (map item_tree l.items))
+    × AreSame (names_after (listed l.names.set) (drop l.item-index l.items)) (item_names l.items)

@@ -7,4 +7,4 @@ use Rattle.ax_check.proofs.spec_flaws.find_in_uap.Given as goal
 
 abbrev pub invariant-loop-slot : goal.invariant-loop-slot
 invariant-loop-slot l =
-    l.found ++ uap_flaws l.path (map item_tree l.spec.items) (listed l.names) (drop l.slot-index l.spec.uap) ≡ l.fn.found ++ uap_part_flaws l.path l.spec
+    l.found ++ uap_flaws l.path (map item_tree l.spec.items) (listed l.names.set) (drop l.slot-index l.spec.uap) ≡ l.fn.found ++ uap_part_flaws l.path l.spec

@@ -74,6 +74,13 @@ lacked category es h e = none_of (spec_of category (catalogue_tree (specs_in es)
     none_of None e = refl
     none_of (Some t) e = absurd (cc)
 
+pub lacks : (category : ℕ) (es : List (ℕ × Spec)) → Keyed es → spec_of category (catalogue_tree (specs_in es)) ≡ None → is_some (lookup (nat_eq category) es) ≡ false
+lacks category es h e = some_tree (lookup (nat_eq category) es) _ (looked_up category es h) ∙ ap is_some e
+
+-- the map has as many entries as the list has specifications
+pub as_many : (es : List (ℕ × Spec)) (specs : List Spec) → specs_in es ≡ specs → length es ≡ length specs
+as_many es specs e = sym (length-map es (λ x. x.1)) ∙ ap length e
+
 pub had : (category : ℕ) (es : List (ℕ × Spec)) → Keyed es → is_some (lookup (nat_eq category) es) ≡ true → is_some (spec_of category (catalogue_tree (specs_in es))) ≡ true
 had category es h e = sym (some_tree (lookup (nat_eq category) es) _ (looked_up category es h)) ∙ e
 
@@ -89,5 +96,3 @@ apart es h d = subst (IsDistinct nat_eq) (same es h) d
     same : (es : List (ℕ × Spec)) → Keyed es → map (λ e. e.0) es ≡ map (λ spec. spec.category) (specs_in es)
     same [] h = refl
     same (e ∷ es) h = λ i. h.0 i ∷ same es h.1 i
-
-pub ruleset adding = (added, stays_keyed, stays_small, lacked, had)

@@ -5,6 +5,7 @@ ghost use Rattle.ax_lists.specs.Sizes.{list_bound};
 ghost use Rattle.ax_model.specs.Plain.{spec_tree, catalogue_tree};
 ghost use Rattle.ax_model.specs.Specification.{spec_of};
 ghost use Rattle.ax_check.specs.Adding.{WhyRefused};
+ghost use Rattle.indexmap.specs.IndexMap.{insert_entry};
 
 use crate::accepted::Accepted;
 use indexmap::IndexMap;
@@ -39,6 +40,16 @@ impl Model for Catalogue {
     ghost invariant = { λ c. AllByRecursion (λ e. e.0 ≡ e.1.category) c.specs.entries × (length c.specs.entries < list_bound) };
 }
 
+/// Enters a specification under its category.
+fn enter(specs: &mut IndexMap<u8, Accepted>, one: Accepted) -> Result<(), AllocError>
+    ensures ok { OnOk result (specs.new.entries ≡ insert_entry nat_eq specs.old.entries one.category one) }
+    ensures err { OnErr result (specs.new.entries ≡ specs.old.entries) }
+{
+    let category = one.spec().category;
+    specs.insert(category, one)?;
+    Ok(())
+}
+
 impl Catalogue {
     /// The empty catalogue. Takes no memory.
     pub fn new(alloc: Global) -> Catalogue
@@ -49,14 +60,11 @@ impl Catalogue {
         }
     }
 
-    /// Adds a specification after the others. CategoryTwice comes exactly where its category is there. A refusal
-    /// leaves the catalogue as it was.
-    #[tactic(auto, using(crate::proofs::Catalogues::adding))]
-    pub fn add(&mut self, one: Accepted) -> Result<(), AddError>
-        ensures ok { OnOk result (self.new ≡ self.old ++ one ∷ []) }
-        ensures new_category { OnOk result (spec_of one.category (catalogue_tree self.old) ≡ None) }
-        ensures err { OnErr result (self.new ≡ self.old) }
-        ensures twice { IfErr result (WhyRefused self.old one) }
+    /// Refuses a specification that isn't to be added. CategoryTwice comes exactly where its category is there.
+    fn admit(&self, one: &Accepted) -> Result<(), AddError>
+        ensures new_category { OnOk result (spec_of one.now.category (catalogue_tree self.now) ≡ None) }
+        ensures room { OnOk result (length self.now < 4294967295) }
+        ensures twice { IfErr result (WhyRefused self.now one.now) }
     {
         let category = one.spec().category;
         if self.specs.contains_key(&category) {
@@ -65,10 +73,22 @@ impl Catalogue {
         if self.specs.len() >= MOST {
             return Err(AddError::OutOfMemory);
         }
-        match self.specs.insert(category, one) {
-            Ok(_) => Ok(()),
-            Err(_) => Err(AddError::OutOfMemory),
-        }
+        Ok(())
+    }
+
+    /// Adds a specification after the others. CategoryTwice comes exactly where its category is there. A refusal
+    /// leaves the catalogue as it was.
+    pub fn add(&mut self, one: Accepted) -> Result<(), AddError>
+        ensures ok { OnOk result (self.new ≡ self.old ++ one ∷ []) }
+        ensures new_category { OnOk result (spec_of one.category (catalogue_tree self.old) ≡ None) }
+        ensures err { OnErr result (self.new ≡ self.old) }
+        ensures twice { IfErr result (WhyRefused self.old one) }
+    {
+        self.admit(&one)?;
+        let Ok(()) = enter(&mut self.specs, one) else {
+            return Err(AddError::OutOfMemory);
+        };
+        Ok(())
     }
 
     /// The specification of that category. None comes exactly where there is none.

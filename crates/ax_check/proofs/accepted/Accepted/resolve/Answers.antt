@@ -9,3 +9,6 @@ returns-in_default-item c =
     let none : item_named c.in-Some.name.now c.spec-spec.result.now.items ≡ None = search rules in
     let same = ap (λ s. item_named c.in-Some.name.now s.items) c.spec-spec.ensures.spec in
     no_item c.args.self.now c.args.path.now c.in-Some.names.now c.in-Some.name.now path (sym same ∙ none)
+
+pub returns-in_err-walk_kind : goal.returns-in_err-walk_kind
+returns-in_err-walk_kind c = search rules

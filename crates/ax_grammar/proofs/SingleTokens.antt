@@ -14,7 +14,7 @@ use Rattle.ax_tokens.specs.declared.token.TokenKind.{TokenKind}
 use Rattle.ax_tokens.specs.declared.token.TokenKind.TheVariants.{Word, Str, Open, Close}
 use Rattle.ax_grammar.specs.InRange.{IsText}
 use Rattle.ax_grammar.specs.Spelling.{quoted}
-use Rattle.ax_grammar.specs.Tests.{is_digit, number_after_digits, name_of, unquoted, content_in_quotes, if_short, text_of}
+use Rattle.ax_grammar.specs.Tests.{is_digit, name_of, unquoted, content_in_quotes, if_short, text_of}
 
 -- ---- names
 

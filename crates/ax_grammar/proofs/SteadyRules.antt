@@ -1,13 +1,12 @@
 -- Where each rule's reader stops, what it read can be completed, and no text after changes its answer.
 use Rattle.std.proofs.Common.{◌≡◌, ℕ, zero, suc, ◌<◌, Bool, true, false, cond, List, [], ◌∷◌, ◌++◌, length, Option, Some, None, Ok, Err, refl, ◌∙◌, ap, append_assoc, lit<, lit≤, arith}
 use Rattle.std.specs.Prelude.{bytes_eq, decimal}
-use Rattle.ax_model.specs.Specification.{ItemTree, SpecTree}
+use Rattle.ax_model.specs.Specification.{ItemTree}
 use Rattle.ax_model.specs.Tree.{element, group, MemberTree, named, spare, members_of, KindTree, fixed, extended, counted, by_fx, explicit, compound, SlotTree, spare_slot, subitem, slots_of}
 use Rattle.ax_model.specs.declared.content.Content.TheVariants as Meaning
 use Rattle.ax_model.specs.declared.content.Scale.{Scale}
 use Rattle.ax_model.specs.declared.content.Sign.{Sign}
 use Rattle.ax_model.specs.declared.content.Sign.TheVariants as Signs
-use Rattle.ax_model.specs.declared.spec.UapSlot.{UapSlot}
 use Rattle.ax_model.specs.declared.spec.UapSlot.TheVariants as Uap
 use Rattle.ax_grammar.specs.Keywords.{keyword_text, keyword_of}
 use Rattle.ax_grammar.specs.Spelling.{quoted}

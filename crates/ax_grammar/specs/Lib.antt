@@ -7,3 +7,4 @@ pub mod Parsing
 pub mod Rules
 pub mod Gives
 pub mod Printing
+pub mod Prints

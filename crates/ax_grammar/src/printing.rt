@@ -19,10 +19,15 @@ pub fn print_spec(alloc: Global, spec: &Spec) -> Result<Vec<u8>, AllocError>
     ensures { IfOk result (λ text. text.items ≡ printed (spec_tree spec.now)) }
 {
     let mut printer = Printer {
-        out: Vec::from_slice(alloc, Keyword::Category.text())?,
+        out: Vec::new(alloc),
+        failed: false,
     };
-    printer.spec(spec)?;
-    let Printer { mut out } = printer;
-    out.push(b'\n')?;
+    printer.add(Keyword::Category.text());
+    printer.spec(spec);
+    printer.add(b"\n");
+    let Printer { out, failed } = printer;
+    if failed {
+        return Err(AllocError);
+    }
     Ok(out)
 }

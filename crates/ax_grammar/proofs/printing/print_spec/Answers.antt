@@ -1,9 +1,8 @@
-use Rattle.std.proofs.Common.{◌∙◌}
 use Rattle.ax_model.specs.Plain.{spec_tree}
-use Rattle.ax_grammar.proofs.Printed.{whole_printed}
+use Rattle.ax_grammar.proofs.Printed.{spec_printed}
 use Rattle.ax_grammar.proofs.printing.print_spec.Goals as goal
 
 pub returns : goal.returns
 returns c =
-    whole_printed (spec_tree c.args.spec.now) c.in_ok-from_slice.field-0.items c.spec.new.self.out.items c.push.new.self.items
-    (c.in_ok-from_slice.ensures.items ∙ c.text.ensures) c.in_ok-spec.ensures c.in_ok-push.ensures.items
+    spec_printed (spec_tree c.args.spec.now) c.new.result.items c.text.result.now c.add.new.self c.spec.new.self c.add-2.new.self
+    c.new.ensures.items c.text.ensures c.add.ensures c.spec.ensures c.add-2.ensures c.if-failed.false

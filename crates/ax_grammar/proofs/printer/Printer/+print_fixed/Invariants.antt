@@ -1,8 +1,8 @@
-use Rattle.std.proofs.Common.{◌≡◌, ◌++◌, drop}
+use Rattle.std.proofs.Common.{drop}
 use Rattle.ax_grammar.proofs.Printed.{members_texts_of}
-use Rattle.ax_grammar.specs.Printing.{after_spaces}
+use Rattle.ax_grammar.proofs.Printed.{Owes}
 use Rattle.ax_grammar.proofs.printer.Printer.+print_fixed.Given as goal
 
 abbrev pub invariant-members-loop-member : goal.invariant-members-loop-member
 invariant-members-loop-member l =
-    l.self.out.items ++ after_spaces (members_texts_of (drop l.member-index l.members)) ≡ l.initial.self.out.items ++ after_spaces (members_texts_of l.members)
+    Owes (members_texts_of l.members) (members_texts_of (drop l.member-index l.members)) l.initial.self l.self

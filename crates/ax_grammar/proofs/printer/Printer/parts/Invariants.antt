@@ -1,8 +1,8 @@
-use Rattle.std.proofs.Common.{◌≡◌, ◌++◌, drop}
+use Rattle.std.proofs.Common.{drop}
 use Rattle.ax_grammar.proofs.Printed.{parts_texts}
-use Rattle.ax_grammar.specs.Printing.{after_spaces}
+use Rattle.ax_grammar.proofs.Printed.{Owes}
 use Rattle.ax_grammar.proofs.printer.Printer.parts.Given as goal
 
 abbrev pub invariant-loop-part : goal.invariant-loop-part
 invariant-loop-part l =
-    l.self.out.items ++ after_spaces (parts_texts (drop l.part-index l.parts)) ≡ l.initial.self.out.items ++ after_spaces (parts_texts l.parts)
+    Owes (parts_texts l.parts) (parts_texts (drop l.part-index l.parts)) l.initial.self l.self

@@ -3,7 +3,6 @@ use Rattle.std.proofs.Common.{◌≡◌, ℕ, zero, suc, ◌+◌, ◌-◌, ◌<�
 use Rattle.std.specs.Prelude.{◌==◌, MatchBool}
 use Rattle.std.proofs.lemmas.Bool.{eq-eqb, eqb-true, ne_eqb}
 use Rattle.std.proofs.lemmas.List.{take_more_set, drop-set-lt, length-set, length-replicate}
-use Rattle.ax_bits.specs.Out.{Appends}
 use Rattle.ax_bits.specs.declared.output.Out.{Out}
 use Rattle.ax_block_reader.proofs.Onto.{kind_more}
 use Rattle.ax_fspec.proofs.FieldLaws.{least_field_of, none_further}
@@ -11,12 +10,12 @@ use Rattle.ax_fspec.specs.Fields.{least_field}
 use Rattle.ax_fspec.specs.Marks.{no_marks}
 use Rattle.ax_fspec.proofs.Sets.{none_of_no_marks}
 use Rattle.ax_model.specs.Canonical.{canon, marks_of, entries_canon}
-use Rattle.ax_model.specs.InBounds.{InBounds, SlotsInBounds}
+use Rattle.ax_model.specs.InBounds.{SlotsInBounds}
 use Rattle.ax_model.specs.Presence.{octets_needed, none_marked, least_presence}
 use Rattle.ax_model.specs.Shape.{Shape, EntriesShape}
-use Rattle.ax_model.specs.Tree.{KindTree, SlotTree, spare_slot, subitem, SlotsTree, no_slots, slot_and, slot_count, ValueTree, EntriesTree, no_entries, entry_and}
+use Rattle.ax_model.specs.Tree.{SlotTree, spare_slot, subitem, SlotsTree, no_slots, slot_and, slot_count, ValueTree, EntriesTree, no_entries, entry_and}
 use Rattle.ax_text.specs.Slots.{SlotShape, slot_onto}
-use Rattle.ax_text.specs.ValueText.{Texts, closing, kind_onto, entries_onto}
+use Rattle.ax_text.specs.ValueText.{closing, kind_onto, entries_onto}
 use Rattle.ax_printed_lines.specs.Printed.{Place, Goes, IsBuilt, AreSlots, BuildsSlot, HasMarks, slot_canon}
 use Rattle.ax_printed_lines.proofs.Building.{Partly, partly_first, partly_more, partly_as, partly_done, built_bare, built_as}
 use Rattle.ax_printed_lines.proofs.Going.{less_left}

@@ -1,6 +1,6 @@
 -- Explicit items that are built.
-use Rattle.std.proofs.Common.{◌≡◌, ℕ, zero, suc, ◌+◌, ◌-◌, ◌*◌, ◌/◌, ◌%◌, ◌<◌, ◌≤◌, List, [], ◌∷◌, ◌++◌, length, slice_index, refl, sym, ◌∙◌, ap, subst, arith, append_assoc}
-use Rattle.hex.specs.Hex.{encode_lower, encode_with, lower_digits}
+use Rattle.std.proofs.Common.{◌≡◌, ℕ, zero, suc, ◌+◌, ◌-◌, ◌*◌, ◌/◌, ◌%◌, ◌<◌, ◌≤◌, List, [], ◌∷◌, ◌++◌, length, refl, sym, ◌∙◌, ap, arith, append_assoc}
+use Rattle.hex.specs.Hex.{encode_lower, encode_with}
 use Rattle.ax_bits.proofs.Outputs.{appends_none, appends_more}
 use Rattle.ax_bits.proofs.Words.{bits-append}
 use Rattle.ax_bits.specs.Bits.{word, bits, AreOctets}

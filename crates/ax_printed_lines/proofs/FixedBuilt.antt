@@ -1,7 +1,6 @@
 -- Values of fixed kinds that are built.
-use Rattle.std.proofs.Common.{◌≡◌, ℕ, ◌+◌, ◌<◌, ◌≤◌, ◌^◌, Bool, true, false, List, [], ◌∷◌, ◌++◌, length, drop, get_or, map, refl, sym, ◌∙◌, ap, subst, append-nil}
+use Rattle.std.proofs.Common.{◌≡◌, ℕ, ◌+◌, ◌<◌, ◌≤◌, ◌^◌, List, [], ◌∷◌, ◌++◌, length, drop, get_or, refl, sym, ap, subst}
 use Rattle.std.specs.Prelude.{decimal}
-use Rattle.std.specs.List.{AllByRecursion}
 use Rattle.std.proofs.lemmas.List.{drop_all}
 use Rattle.ax_bits.specs.Bits.{word}
 use Rattle.ax_bits.specs.Out.{Appends}
@@ -13,7 +12,7 @@ use Rattle.ax_model.specs.Characters.{IsName}
 use Rattle.ax_model.specs.InBounds.{IsWidth, FixedInBounds, MembersInBounds}
 use Rattle.ax_model.specs.Plain.{fixed_tree, member_tree, members_tree}
 use Rattle.ax_model.specs.Shape.{NumberShape, FixedShape, MembersShape}
-use Rattle.ax_model.specs.Tree.{FixedTree, element, group, MemberTree, named, spare, MembersTree, no_members, member_and, ValueTree, number, member_values, ValuesTree, no_values, value_and}
+use Rattle.ax_model.specs.Tree.{FixedTree, group, MemberTree, named, spare, MembersTree, no_members, member_and, ValueTree, number, member_values, ValuesTree, no_values, value_and}
 use Rattle.ax_model.specs.declared.content.Content.{Content}
 use Rattle.ax_model.specs.declared.kind.Fixed.{Fixed}
 use Rattle.ax_model.specs.declared.kind.Fixed.TheVariants.{Element, Group}
@@ -22,9 +21,9 @@ use Rattle.ax_model.specs.declared.kind.Member.TheVariants.{Named, Spare}
 use Rattle.ax_text.proofs.Printed.{from_place}
 use Rattle.ax_text.proofs.WordTokens.{spare_is_word}
 use Rattle.ax_text.specs.Slots.{MemberShape}
-use Rattle.ax_text.specs.ValueText.{Texts, opening, closing, spare_word, number_onto, fixed_onto, member_onto, members_onto}
+use Rattle.ax_text.specs.ValueText.{opening, closing, spare_word, number_onto, fixed_onto, member_onto, members_onto}
 use Rattle.ax_printed_lines.specs.Printed.{Place, Goes, IsBuilt, IsOneWord, member_canon}
-use Rattle.ax_printed_lines.proofs.Building.{built_after, built_as, Partly, partly_first, partly_more, partly_as, partly_done, built_bare}
+use Rattle.ax_printed_lines.proofs.Building.{built_after, Partly, partly_first, partly_more, partly_done, built_bare}
 use Rattle.ax_printed_lines.proofs.Going.{one_word, name_one}
 
 -- ---- numbers

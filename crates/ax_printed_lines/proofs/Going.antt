@@ -7,12 +7,10 @@ use Rattle.ax_bits.specs.Bits.{AreOctets}
 use Rattle.ax_tokens.specs.Octets.{quote}
 use Rattle.ax_model.specs.Characters.{IsName}
 use Rattle.ax_model.specs.Paths.{three_digits}
-use Rattle.ax_text.proofs.WordTokens.{IsWord, decimal_word, name_word, category_word, spare_is_word, part_is_word, record_is_word, block_is_word, hex_token}
-use Rattle.ax_text.specs.Tokens.{kind_of}
+use Rattle.ax_text.proofs.WordTokens.{IsWord, decimal_word, name_word, category_word, hex_token}
 use Rattle.ax_text.specs.ValueText.{Texts, opening, closing, hex_text}
 use Rattle.ax_tokens.specs.Depth.{level_after}
 use Rattle.ax_tokens.specs.Lexing.{IsTokenText}
-use Rattle.ax_tokens.specs.declared.token.TokenKind.TheVariants.{Word}
 use Rattle.ax_printed_lines.specs.Printed.{Place, ended, IsOneWord, Keeps, Goes}
 
 -- ---- texts after others

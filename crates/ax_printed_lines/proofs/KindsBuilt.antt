@@ -1,5 +1,5 @@
 -- Values of kinds that are built.
-use Rattle.std.proofs.Common.{◌≡◌, ℕ, suc, ◌+◌, ◌-◌, ◌<◌, ◌≤◌, Bool, true, false, List, [], ◌∷◌, ◌++◌, length, drop, get_or, map, refl, sym, ◌∙◌, ap, subst, arith, append_assoc, Box, Global}
+use Rattle.std.proofs.Common.{◌≡◌, ℕ, suc, ◌+◌, ◌<◌, ◌≤◌, true, List, [], ◌∷◌, ◌++◌, length, map, refl, sym, ◌∙◌, ap, subst, arith, Box, Global}
 use Rattle.std.specs.List.{AllByRecursion}
 use Rattle.ax_bits.specs.Bits.{word}
 use Rattle.ax_bits.specs.Out.{Appends, written}
@@ -11,7 +11,7 @@ use Rattle.ax_model.specs.Characters.{IsName}
 use Rattle.ax_model.specs.InBounds.{FixedInBounds, PartInBounds, InBounds, SlotsInBounds}
 use Rattle.ax_model.specs.Plain.{fixed_tree, part_tree, kind_tree, slot_tree, slots_tree, kind_step, slot_step}
 use Rattle.ax_model.specs.Shape.{FixedShape, PartsShape, Shape, EachShape, EntriesShape}
-use Rattle.ax_model.specs.Tree.{MembersTree, KindTree, fixed, extended, counted, by_fx, explicit, compound, SlotTree, SlotsTree, no_slots, slot_and, spare_slot, subitem, ValueTree, part_values, occurrences, marked, ValuesTree, no_values, value_and, value_count, EntriesTree}
+use Rattle.ax_model.specs.Tree.{KindTree, fixed, extended, counted, by_fx, explicit, compound, SlotTree, SlotsTree, no_slots, slot_and, subitem, part_values, occurrences, marked, ValuesTree, no_values, value_and, value_count}
 use Rattle.ax_model.specs.declared.kind.Fixed.{Fixed}
 use Rattle.ax_model.specs.declared.kind.Kind.{Kind, fold-roll-Kind}
 use Rattle.ax_model.specs.declared.kind.Kind.TheOpen.{Kind-F, Slot-F}
@@ -21,7 +21,7 @@ use Rattle.ax_model.specs.declared.kind.Part.{Part}
 use Rattle.ax_model.specs.declared.kind.Slot.{Slot, fold-roll-Slot}
 use Rattle.ax_model.specs.declared.kind.Slot.TheVariants.{Sub, rolls-Sub}
 use Rattle.ax_text.specs.Slots.{SlotShape, slot_onto}
-use Rattle.ax_text.specs.ValueText.{Texts, opening, closing, fixed_onto, parts_onto, each_onto, kind_onto, entries_onto}
+use Rattle.ax_text.specs.ValueText.{opening, closing, fixed_onto, parts_onto, each_onto, kind_onto, entries_onto}
 use Rattle.ax_printed_lines.specs.Printed.{Place, Goes, IsBuilt, IsOneWord, AreSlots, BuildsSlot, HasMarks, slot_canon}
 use Rattle.ax_printed_lines.proofs.Building.{built_after, built_as, Partly, partly_first, partly_more, partly_done, built_bare}
 use Rattle.ax_printed_lines.proofs.FixedBuilt.{FixedIsBuilt}

@@ -2,14 +2,12 @@
 use Rattle.std.proofs.Common.{◌≡◌, ℕ, ◌+◌, ◌<◌, ◌≤◌, Bool, true, false, cond, List, [], ◌∷◌, ◌++◌, length, map, Option, Some, refl, sym, ◌∙◌, ap, subst, arith, append_assoc}
 use Rattle.std.specs.Prelude.{codes, ◌==◌}
 use Rattle.std.proofs.lemmas.Bool.{eqb-true}
-use Rattle.std.specs.List.{AllByRecursion, join_with_byte}
+use Rattle.std.specs.List.{join_with_byte}
 use Rattle.ax_bits.proofs.Pieces.{bits-injective}
-use Rattle.ax_bits.specs.Bits.{bits, AreOctets}
 use Rattle.ax_bits.specs.declared.output.Out.{Out}
 use Rattle.ax_block_reader.proofs.Onto.{entries_more}
-use Rattle.ax_block_reader.specs.BlockTexts.{IsBlockOf}
-use Rattle.ax_model.specs.Blocks.{BlockTree, read_block, Fits}
-use Rattle.ax_model.specs.Bodies.{RecordShape, CanonBody}
+use Rattle.ax_model.specs.Blocks.{read_block}
+use Rattle.ax_model.specs.Bodies.{CanonBody}
 use Rattle.ax_model.specs.CanonicalOctets.{octets_of, framed}
 use Rattle.ax_model.specs.Flaws.{NoFlaw}
 use Rattle.ax_model.specs.Paths.{three_digits}

@@ -1,5 +1,5 @@
 -- Records that are built.
-use Rattle.std.proofs.Common.{◌≡◌, ℕ, suc, ◌+◌, ◌<◌, ◌≤◌, Bool, true, false, List, [], ◌∷◌, ◌++◌, length, map, drop, get_or, Some, refl, sym, ◌∙◌, ap, subst, arith, append_assoc}
+use Rattle.std.proofs.Common.{◌≡◌, ℕ, suc, ◌+◌, ◌<◌, true, List, [], ◌∷◌, ◌++◌, length, map, get_or, Some, refl, sym, ◌∙◌, ap, subst, arith}
 use Rattle.std.specs.List.{AllByRecursion}
 use Rattle.ax_bits.specs.Out.{Appends, written}
 use Rattle.ax_bits.specs.declared.output.Out.{Out}
@@ -17,7 +17,7 @@ use Rattle.std.proofs.lemmas.Option.{slice_get_read}
 use Rattle.ax_model.specs.Plain.{item_tree, kind_tree}
 use Rattle.ax_model.specs.Shape.{EntriesShape}
 use Rattle.ax_model.specs.Specification.{SpecTree, uap_slot, record_slots}
-use Rattle.ax_model.specs.Tree.{SlotTree, no_slots, slot_and, subitem, EntriesTree}
+use Rattle.ax_model.specs.Tree.{no_slots, slot_and, EntriesTree}
 use Rattle.ax_model.specs.declared.spec.Item.{Item}
 use Rattle.ax_model.specs.declared.spec.UapSlot.{UapSlot}
 use Rattle.ax_model.specs.declared.spec.UapSlot.TheVariants as Uap
@@ -28,7 +28,7 @@ use Rattle.std.specs.Prelude.{codes}
 use Rattle.ax_printed_lines.specs.Printed.{Place, Goes, IsBuilt, IsOneWord, AreSlots, BuildsSlot, HasMarks, AreRecords}
 use Rattle.ax_printed_lines.proofs.Building.{built_after, Partly, partly_first, partly_more, partly_done}
 use Rattle.ax_printed_lines.proofs.Going.{goes_both, goes_same, one_word, name_one}
-use Rattle.ax_printed_lines.proofs.KindsBuilt.{KindIsBuilt, CompoundIsBuilt, compound_whole, named_slot}
+use Rattle.ax_printed_lines.proofs.KindsBuilt.{KindIsBuilt, compound_whole, named_slot}
 
 -- ---- an item
 

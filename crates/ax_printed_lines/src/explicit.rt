@@ -61,6 +61,5 @@ pub fn explicit_built(cursor: &mut Cursor<'_>, out: &mut Out<'_>) -> Option<()>
         return None;
     }
     out.push_octet(count as u8 + 1);
-    octets_built(digits, out)?;
-    Some(())
+    octets_built(digits, out)
 }

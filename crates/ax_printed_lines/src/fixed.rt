@@ -23,16 +23,12 @@ pub fn fixed_built(cursor: &mut Cursor<'_>, fixed: &Fixed, out: &mut Out<'_>) ->
     ensures { IfSome result (λ done. IsBuilt (FixedShape (fixed_tree fixed.now)) (λ v. fixed_onto (fixed_tree fixed.now) v []) (fixed_canon (fixed_tree fixed.now)) cursor.old cursor.new out.old out.new) }
 {
     match fixed {
-        Fixed::Element { width, .. } => {
-            number_built(cursor, *width, out)?;
-            Some(())
-        }
+        Fixed::Element { width, .. } => number_built(cursor, *width, out),
         Fixed::Group(members) => {
             if !cursor.opens() {
                 return None;
             }
-            members_built(cursor, members, out)?;
-            Some(())
+            members_built(cursor, members, out)
         }
     }
 }
@@ -48,15 +44,13 @@ fn member_built(cursor: &mut Cursor<'_>, member: &Member, out: &mut Out<'_>) -> 
             if !cursor.takes(name.octets()) {
                 return None;
             }
-            fixed_built(cursor, fixed, out)?;
-            Some(())
+            fixed_built(cursor, fixed, out)
         }
         Member::Spare { width } => {
             if !cursor.takes(b"spare") {
                 return None;
             }
-            number_built(cursor, *width, out)?;
-            Some(())
+            number_built(cursor, *width, out)
         }
     }
 }
@@ -81,14 +75,10 @@ fn part_built(cursor: &mut Cursor<'_>, part: &Part, out: &mut Out<'_>) -> Option
     requires { MembersInBounds (part_tree part.now) }
     ensures { IfSome result (λ done. IsBuilt (MembersShape (part_tree part.now)) (λ vs. part_onto (part_tree part.now) vs []) (members_canon (part_tree part.now)) cursor.old cursor.new out.old out.new) }
 {
-    if !cursor.takes(b"part") {
+    if !cursor.takes(b"part") || !cursor.opens() {
         return None;
     }
-    if !cursor.opens() {
-        return None;
-    }
-    members_built(cursor, &part.members, out)?;
-    Some(())
+    members_built(cursor, &part.members, out)
 }
 
 /// The parts that are present, and the brace after them.
@@ -99,8 +89,7 @@ pub fn parts_built(cursor: &mut Cursor<'_>, parts: &Parts, out: &mut Out<'_>) ->
     for part in parts.as_slice() {
         part_built(cursor, part, out)?;
         if cursor.closes() {
-            fx_built(false, out)?;
-            return Some(());
+            return fx_built(false, out);
         }
         fx_built(true, out)?;
     }
@@ -118,8 +107,7 @@ pub fn run_built(cursor: &mut Cursor<'_>, fixed: &Fixed, out: &mut Out<'_>) -> O
     for _ in 0..MOST {
         fixed_built(cursor, fixed, out)?;
         if cursor.closes() {
-            fx_built(false, out)?;
-            return Some(());
+            return fx_built(false, out);
         }
         fx_built(true, out)?;
     }

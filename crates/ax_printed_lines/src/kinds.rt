@@ -29,41 +29,31 @@ pub fn kind_built(cursor: &mut Cursor<'_>, kind: &Kind, out: &mut Out<'_>) -> Op
     ensures { IfSome result (λ done. IsBuilt (Shape (kind_tree kind.now)) (λ v. kind_onto (kind_tree kind.now) v []) (canon (kind_tree kind.now)) cursor.old cursor.new out.old out.new) }
 {
     match kind {
-        Kind::Fixed(fixed) => {
-            fixed_built(cursor, fixed, out)?;
-            Some(())
-        }
-        Kind::Explicit => {
-            explicit_built(cursor, out)?;
-            Some(())
-        }
+        Kind::Fixed(fixed) => fixed_built(cursor, fixed, out),
+        Kind::Explicit => explicit_built(cursor, out),
         Kind::Extended(parts) => {
             if !cursor.opens() {
                 return None;
             }
-            parts_built(cursor, parts, out)?;
-            Some(())
+            parts_built(cursor, parts, out)
         }
         Kind::Counted(inner) => {
             if !cursor.opens() {
                 return None;
             }
-            counted_built(cursor, inner, out)?;
-            Some(())
+            counted_built(cursor, inner, out)
         }
         Kind::ByFx(fixed) => {
             if !cursor.opens() {
                 return None;
             }
-            run_built(cursor, fixed, out)?;
-            Some(())
+            run_built(cursor, fixed, out)
         }
         Kind::Compound(slots) => {
             if !cursor.opens() {
                 return None;
             }
-            compound_built(cursor, slots, out)?;
-            Some(())
+            compound_built(cursor, slots, out)
         }
     }
 }
@@ -78,8 +68,7 @@ fn counted_built(cursor: &mut Cursor<'_>, kind: &Kind, out: &mut Out<'_>) -> Opt
     let mut own = [0u8; ROOM];
     let mut inner = Out::over(&mut own);
     let count = each_built(cursor, kind, &mut inner)?;
-    counted_content(count, &inner, out)?;
-    Some(())
+    counted_content(count, &inner, out)
 }
 
 /// At most 255 values of a kind, and the brace after them. It answers how many they are.
@@ -112,8 +101,7 @@ fn compound_built(cursor: &mut Cursor<'_>, slots: &Slots, out: &mut Out<'_>) -> 
     let mut own = [0u8; ROOM];
     let mut inner = Out::over(&mut own);
     let marks = entries_built(cursor, slots, &mut inner)?;
-    marked_content(&marks, &inner, out)?;
-    Some(())
+    marked_content(&marks, &inner, out)
 }
 
 /// The value of the slot's subitem, where the subitem's name comes. It answers whether it does.

@@ -74,17 +74,13 @@ fn record_built(cursor: &mut Cursor<'_>, items: &UapItems<'_>, out: &mut Out<'_>
     requires { AreSlots (record_slots (spec_tree items.now.spec.now)) }
     ensures { IfSome result (λ done. IsBuilt (RecordShape (spec_tree items.now.spec.now)) (λ es. record_onto (spec_tree items.now.spec.now) es []) (CanonRecord (spec_tree items.now.spec.now)) cursor.old cursor.new out.old out.new) }
 {
-    if !cursor.takes(b"record") {
-        return None;
-    }
-    if !cursor.opens() {
+    if !cursor.takes(b"record") || !cursor.opens() {
         return None;
     }
     let mut own = [0u8; ROOM];
     let mut inner = Out::over(&mut own);
     let marks = items_built(cursor, items, &mut inner)?;
-    marked_content(&marks, &inner, out)?;
-    Some(())
+    marked_content(&marks, &inner, out)
 }
 
 /// One or more records, up to a brace that ends the line.

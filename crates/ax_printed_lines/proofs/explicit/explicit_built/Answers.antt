@@ -1,8 +1,9 @@
-use Rattle.std.proofs.Common.{◌≡◌, ◌≤◌, ◌+◌, ◌/◌, length, arith, rules, refl}
+use Rattle.std.proofs.Common.{◌≤◌, ◌/◌, length, arith, refl}
+use Rattle.std.proofs.lemmas.Option.{IfSome_then}
 use Rattle.ax_printed_lines.proofs.ExplicitBuilt.{explicit_is_built}
 use Rattle.ax_printed_lines.proofs.explicit.explicit_built.Goals as goal
 
 pub returns : goal.returns
 returns c =
     let few : length c.in_ok-digits.digits.now / 2 ≤ 254 = omega arith in
-    explicit_is_built c.in_ok-digits.digits.now (length c.in_ok-digits.digits.now / 2) c.args.cursor.now c.quoted.new.self c.args.out.now c.push_octet.new.self c.octets_built.new.out c.in_ok-digits.ensures refl few c.push_octet.ensures c.in_ok-octets_built.ensures
+    IfSome_then c.octets_built.result c.octets_built.ensures (λ done. explicit_is_built c.in_ok-digits.digits.now (length c.in_ok-digits.digits.now / 2) c.args.cursor.now c.quoted.new.self c.args.out.now c.push_octet.new.self c.octets_built.new.out c.in_ok-digits.ensures refl few c.push_octet.ensures)

@@ -1,19 +1,26 @@
 use denote.Param.Weighed.{at_most}
 use Rattle.std.proofs.Common.{◌≡◌, ◌<◌, ◌≤◌, ℕ, length, get_or, arith, ap, subst, rules}
+use Rattle.std.proofs.lemmas.Option.{IfSome_then}
 use Rattle.ax_model.proofs.kind.Member.TheLaws.{the_size}
 use Rattle.ax_model.specs.Plain.{members_tree}
-use Rattle.ax_printed_lines.proofs.FixedBuilt.{group_built, named_built, spare_built, members_first, member_bounds, member_next, members_done}
+use Rattle.ax_printed_lines.proofs.FixedBuilt.{element_built, group_built, named_built, spare_built, members_first, member_bounds, member_next, members_done}
 use Rattle.ax_printed_lines.proofs.fixed.+fixed_built.Goals as goal
 
-pub fixed_built-returns-in_ok-members_built-in-Group : goal.fixed_built-returns-in_ok-members_built-in-Group
-fixed_built-returns-in_ok-members_built-in-Group t c = group_built c.args.fixed.now c.in-Group.members _ _ _ _ _ c.in-Group.is (search rules) c.in_ok-members_built-in-Group.ensures
+pub fixed_built-returns-in-Element : goal.fixed_built-returns-in-Element
+fixed_built-returns-in-Element t c =
+    IfSome_then c.number_built.result c.number_built.ensures (λ done. element_built c.args.fixed.now c.in-Element.width c.in-Element.content c.args.cursor.now c.number_built.new.cursor c.args.out.now c.number_built.new.out c.in-Element.is)
 
-pub member_built-returns-in_ok-fixed_built-in-Named : goal.member_built-returns-in_ok-fixed_built-in-Named
-member_built-returns-in_ok-fixed_built-in-Named t c =
-    named_built c.args.member.now c.in-Named.name c.octets.result.now c.in-Named.fixed _ _ _ _ _ c.in-Named.is c.octets.ensures.octets c.octets.ensures.name (search rules) c.in_ok-fixed_built-in-Named.ensures
+pub fixed_built-returns-else-not-opens : goal.fixed_built-returns-else-not-opens
+fixed_built-returns-else-not-opens t c =
+    IfSome_then c.members_built.result c.members_built.ensures (λ done. group_built c.args.fixed.now c.in-Group.members c.args.cursor.now c.opens.new.self c.members_built.new.cursor c.args.out.now c.members_built.new.out c.in-Group.is (search rules))
 
-pub member_built-returns-in_ok-number_built-in-Spare : goal.member_built-returns-in_ok-number_built-in-Spare
-member_built-returns-in_ok-number_built-in-Spare t c = spare_built c.args.member.now c.in-Spare.width _ _ _ _ _ c.in-Spare.is (search rules) c.in_ok-number_built-in-Spare.ensures
+pub member_built-returns-else-not-takes : goal.member_built-returns-else-not-takes
+member_built-returns-else-not-takes t c =
+    IfSome_then c.fixed_built.result c.fixed_built.ensures (λ done. named_built c.args.member.now c.in-Named.name c.octets.result.now c.in-Named.fixed c.args.cursor.now c.takes.new.self c.fixed_built.new.cursor c.args.out.now c.fixed_built.new.out c.in-Named.is c.octets.ensures.octets c.octets.ensures.name (search rules))
+
+pub member_built-returns-else-not-takes-2 : goal.member_built-returns-else-not-takes-2
+member_built-returns-else-not-takes-2 t c =
+    IfSome_then c.number_built.result c.number_built.ensures (λ done. spare_built c.args.member.now c.in-Spare.width c.args.cursor.now c.takes-in-Spare.new.self c.number_built.new.cursor c.args.out.now c.number_built.new.out c.in-Spare.is (search rules))
 
 pub members_built-loop-member-init : goal.members_built-loop-member-init
 members_built-loop-member-init t c = members_first (members_tree c.args.members.now) c.args.cursor.now c.args.out.now c.requires

@@ -1,4 +1,5 @@
 use Rattle.std.proofs.Common.{◌≡◌, rules, subst, sym}
+use Rattle.std.proofs.lemmas.Option.{IfSome_then}
 use Rattle.ax_model.specs.Plain.{fixed_tree}
 use Rattle.ax_printed_lines.proofs.FixedBuilt.{FixedIsBuilt}
 use Rattle.ax_printed_lines.proofs.ListsBuilt.{run_first, run_next, run_last}
@@ -9,7 +10,7 @@ loop-init c = run_first (fixed_tree c.args.fixed.now) c.args.cursor.now c.args.o
 
 pub returns-then-closes : goal.returns-then-closes
 returns-then-closes c =
-    run_last (fixed_tree c.args.fixed.now) c.args.cursor.now c.loop.cursor c.fixed_built.new.cursor c.closes.new.self c.args.out.now c.loop.out c.fixed_built.new.out c.fx_built.new.out c.loop.invariant c.in_ok-fixed_built.ensures (search rules) (search rules)
+    IfSome_then c.fx_built.result c.fx_built.ensures (λ done. run_last (fixed_tree c.args.fixed.now) c.args.cursor.now c.loop.cursor c.fixed_built.new.cursor c.closes.new.self c.args.out.now c.loop.out c.fixed_built.new.out c.fx_built.new.out c.loop.invariant c.in_ok-fixed_built.ensures (search rules))
 
 pub loop-preserved : goal.loop-preserved
 loop-preserved c =

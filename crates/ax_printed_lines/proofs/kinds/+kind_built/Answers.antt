@@ -1,33 +1,42 @@
-use Rattle.std.proofs.Common.{◌≡◌, ◌<◌, ◌≤◌, ◌+◌, ◌-◌, ℕ, List, [], ◌∷◌, true, false, length, drop, get_or, set, arith, ap, sym, ◌∙◌, subst, refl, rules}
+use Rattle.std.proofs.Common.{◌≡◌, ◌<◌, ◌≤◌, ◌+◌, ◌-◌, ℕ, [], ◌∷◌, true, false, length, drop, get_or, set, arith, ap, sym, ◌∙◌, subst, refl, rules}
+use Rattle.std.proofs.lemmas.Option.{IfSome_then}
 use Rattle.ax_block_reader.proofs.EntryWays.{slots_from, slots_past}
 use Rattle.ax_model.specs.Plain.{kind_tree, slot_tree, slots_tree}
 use Rattle.ax_printed_lines.specs.Printed.{IsOneWord, Goes}
 use Rattle.ax_printed_lines.proofs.Going.{name_one, fewer_left}
-use Rattle.ax_printed_lines.proofs.EntriesBuilt.{EntriesLeft, entries_first, slot_bounds, slot_few, entry_passed, entry_taken, entry_passed_by, entry_taken_by, entries_less, entries_done}
-use Rattle.ax_printed_lines.proofs.KindsBuilt.{KindIsBuilt, CountedIsBuilt, EachLeft, extended_of_kind, counted_of_kind, by_fx_of_kind, compound_of_kind, each_first, each_next, each_less, each_done, sub_bounds, sub_built}
+use Rattle.ax_printed_lines.proofs.EntriesBuilt.{EntriesLeft, entries_first, entry_passed, entry_taken, entry_passed_by, entry_taken_by, entries_less, entries_done}
+use Rattle.ax_printed_lines.proofs.KindsBuilt.{KindIsBuilt, CountedIsBuilt, EachLeft, fixed_of_kind, explicit_of_kind, extended_of_kind, counted_of_kind, by_fx_of_kind, compound_of_kind, each_first, each_next, each_less, each_done, counted_whole, compound_whole, sub_bounds, sub_built}
 use Rattle.ax_printed_lines.proofs.kinds.+kind_built.Goals.{entries_built-then-branch, entries_built-else-branch}
 use Rattle.ax_printed_lines.proofs.kinds.+kind_built.Goals as goal
 
 -- ---- kinds
 
-pub kind_built-returns-in_ok-parts_built-in-Extended : goal.kind_built-returns-in_ok-parts_built-in-Extended
-kind_built-returns-in_ok-parts_built-in-Extended t c =
-    extended_of_kind c.args.kind.now c.in-Extended.parts c.args.cursor.now c.opens.new.self c.parts_built.new.cursor c.args.out.now c.parts_built.new.out c.in-Extended.is (search rules) c.in_ok-parts_built-in-Extended.ensures
+pub kind_built-returns-in-Fixed : goal.kind_built-returns-in-Fixed
+kind_built-returns-in-Fixed t c =
+    IfSome_then c.fixed_built.result c.fixed_built.ensures (λ done. fixed_of_kind c.args.kind.now c.in-Fixed.fixed c.args.cursor.now c.fixed_built.new.cursor c.args.out.now c.fixed_built.new.out c.in-Fixed.is)
 
-pub kind_built-returns-in_ok-counted_built-in-Counted : goal.kind_built-returns-in_ok-counted_built-in-Counted
-kind_built-returns-in_ok-counted_built-in-Counted t c =
+pub kind_built-returns-in-Explicit : goal.kind_built-returns-in-Explicit
+kind_built-returns-in-Explicit t c =
+    IfSome_then c.explicit_built.result c.explicit_built.ensures (λ done. explicit_of_kind c.args.kind.now c.args.cursor.now c.explicit_built.new.cursor c.args.out.now c.explicit_built.new.out c.in-Explicit.is)
+
+pub kind_built-returns-else-not-opens : goal.kind_built-returns-else-not-opens
+kind_built-returns-else-not-opens t c =
+    IfSome_then c.parts_built.result c.parts_built.ensures (λ done. extended_of_kind c.args.kind.now c.in-Extended.parts c.args.cursor.now c.opens.new.self c.parts_built.new.cursor c.args.out.now c.parts_built.new.out c.in-Extended.is (search rules))
+
+pub kind_built-returns-else-not-opens-2 : goal.kind_built-returns-else-not-opens-2
+kind_built-returns-else-not-opens-2 t c =
     let inner : c.deref.result.now ≡ c.in-Counted.inner.value = search rules in
-    let built : CountedIsBuilt (kind_tree c.in-Counted.inner.value) c.opens-in-Counted.new.self c.counted_built.new.cursor c.args.out.now c.counted_built.new.out
-    = subst (λ k. CountedIsBuilt (kind_tree k) c.opens-in-Counted.new.self c.counted_built.new.cursor c.args.out.now c.counted_built.new.out) inner c.in_ok-counted_built-in-Counted.ensures in
-    counted_of_kind c.args.kind.now c.in-Counted.inner c.args.cursor.now c.opens-in-Counted.new.self c.counted_built.new.cursor c.args.out.now c.counted_built.new.out c.in-Counted.is (search rules) built
+    IfSome_then c.counted_built.result c.counted_built.ensures (λ done b.
+    counted_of_kind c.args.kind.now c.in-Counted.inner c.args.cursor.now c.opens-in-Counted.new.self c.counted_built.new.cursor c.args.out.now c.counted_built.new.out c.in-Counted.is (search rules)
+    (subst (λ k. CountedIsBuilt (kind_tree k) c.opens-in-Counted.new.self c.counted_built.new.cursor c.args.out.now c.counted_built.new.out) inner b))
 
-pub kind_built-returns-in_ok-run_built-in-ByFx : goal.kind_built-returns-in_ok-run_built-in-ByFx
-kind_built-returns-in_ok-run_built-in-ByFx t c =
-    by_fx_of_kind c.args.kind.now c.in-ByFx.fixed c.args.cursor.now c.opens-in-ByFx.new.self c.run_built.new.cursor c.args.out.now c.run_built.new.out c.in-ByFx.is (search rules) c.in_ok-run_built-in-ByFx.ensures
+pub kind_built-returns-else-not-opens-3 : goal.kind_built-returns-else-not-opens-3
+kind_built-returns-else-not-opens-3 t c =
+    IfSome_then c.run_built.result c.run_built.ensures (λ done. by_fx_of_kind c.args.kind.now c.in-ByFx.fixed c.args.cursor.now c.opens-in-ByFx.new.self c.run_built.new.cursor c.args.out.now c.run_built.new.out c.in-ByFx.is (search rules))
 
-pub kind_built-returns-in_ok-compound_built-in-Compound : goal.kind_built-returns-in_ok-compound_built-in-Compound
-kind_built-returns-in_ok-compound_built-in-Compound t c =
-    compound_of_kind c.args.kind.now c.in-Compound.slots c.args.cursor.now c.opens-in-Compound.new.self c.compound_built.new.cursor c.args.out.now c.compound_built.new.out c.in-Compound.is (search rules) c.in_ok-compound_built-in-Compound.ensures
+pub kind_built-returns-else-not-opens-4 : goal.kind_built-returns-else-not-opens-4
+kind_built-returns-else-not-opens-4 t c =
+    IfSome_then c.compound_built.result c.compound_built.ensures (λ done. compound_of_kind c.args.kind.now c.in-Compound.slots c.args.cursor.now c.opens-in-Compound.new.self c.compound_built.new.cursor c.args.out.now c.compound_built.new.out c.in-Compound.is (search rules))
 
 -- ---- counted values
 
@@ -50,6 +59,11 @@ each_built-loop-count-preserved t c =
 pub each_built-returns : goal.each_built-returns
 each_built-returns t c =
     each_done (kind_tree c.args.kind.now) c.loop-count.count c.args.cursor.now c.loop-count.cursor c.closes-2.new.self c.args.out.now c.loop-count.out c.loop-count.invariant.built (search rules)
+
+pub counted_built-returns : goal.counted_built-returns
+counted_built-returns t c =
+    let few : c.in_ok-count.count < 256 = omega arith in
+    IfSome_then c.counted_content.result c.counted_content.ensures (λ done. counted_whole (kind_tree c.args.kind.now) c.in_ok-count.count c.args.cursor.now c.each_built.new.cursor c.over-inner.result c.each_built.new.out c.args.out.now c.counted_content.new.out few c.over-inner.ensures.written c.in_ok-count.ensures)
 
 -- ---- a subitem
 
@@ -112,3 +126,7 @@ entries_built-returns t c =
     let i : ℕ = c.loop-slot.slot-index in
     entries_done (slots_tree list) c.loop-slot.marks i (slots_tree (drop i list)) c.args.cursor.now c.loop-slot.cursor c.closes.new.self c.args.out.now c.loop-slot.out
     (slots_past list i (subst (λ xs. length xs ≤ i) c.as_slice-slot-items.ensures.members c.loop-slot-test.false)) c.loop-slot.invariant.built (search rules)
+
+pub compound_built-returns : goal.compound_built-returns
+compound_built-returns t c =
+    IfSome_then c.marked_content.result c.marked_content.ensures (λ done. compound_whole (slots_tree c.args.slots.now) c.in_ok-marks.marks c.args.cursor.now c.entries_built.new.cursor c.over-inner.result c.entries_built.new.out c.args.out.now c.marked_content.new.out c.over-inner.ensures.written c.in_ok-marks.ensures)

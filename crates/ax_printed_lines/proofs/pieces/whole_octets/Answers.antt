@@ -1,4 +1,4 @@
-use Rattle.std.proofs.Common.{◌≡◌, ℕ, ◌%◌, length, arith}
+use Rattle.std.proofs.Common.{◌≡◌, ◌%◌, length, arith}
 use Rattle.ax_bits.proofs.Outputs.{length-written}
 use Rattle.ax_bits.specs.Out.{written, room}
 use Rattle.ax_bits.specs.declared.output.Out.{Out}

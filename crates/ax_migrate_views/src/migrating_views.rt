@@ -30,7 +30,8 @@ impl<'c> Migrator<'c> {
         }
     }
 
-    /// The octets of the canonical form of the migrated block of a view. More than 65,535 are those of no data block.
+    /// The octets of the canonical form of the migrated block of a view, CAT and LEN among them. More than 65,535 are those of no
+    /// data block.
     pub fn length(&self, view: &BlockView<'_, '_>) -> u32
         requires editions { IsOfEditions self.now }
         requires view { view.now.codec.now ≡ self.now.codec.now }

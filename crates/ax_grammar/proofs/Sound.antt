@@ -5,7 +5,7 @@ use Rattle.std.specs.List.{AllByRecursion, flat_map}
 use Rattle.std.proofs.lemmas.List.Concat.{flat_map-cons}
 use Rattle.std.proofs.lemmas.Slice.Eq.{bytes_eq-Decides}
 use Rattle.ax_model.specs.Characters.{IsName}
-use Rattle.ax_model.specs.Specification.{SpecTree}
+use Rattle.ax_model.specs.Specification.{ItemTree, SpecTree}
 use Rattle.ax_model.specs.Tree.{FixedTree, element, group, MemberTree, named, spare, members_of, KindTree, fixed, extended, counted, by_fx, explicit, compound, SlotTree, spare_slot, subitem, slots_of}
 use Rattle.ax_model.specs.declared.content.Content.{Content}
 use Rattle.ax_model.specs.declared.content.Content.TheVariants as Meaning
@@ -24,7 +24,7 @@ use Rattle.ax_grammar.specs.declared.keyword.Keyword.{Keyword}
 use Rattle.ax_grammar.specs.declared.keyword.Keyword.TheVariants as Word
 use Rattle.ax_grammar.proofs.Recursion.{Shrinks, bind_ok, reads, rest_is, value_is}
 use Rattle.ax_grammar.proofs.Lists.{list_is, taking, expect_shrinks, takes_keeps, braced_shrinks}
-use Rattle.ax_grammar.proofs.Recursive.{one_shrinks, sign_shrinks, entry_shrinks, member_shrinks, part_shrinks, slot_shrinks, item_shrinks, uap_slot_shrinks, fixed_is, kind_is}
+use Rattle.ax_grammar.proofs.Recursive.{one_shrinks, sign_shrinks, entry_shrinks, member_shrinks, part_shrinks, slot_shrinks, kind_shrinks, item_shrinks, uap_slot_shrinks, fixed_is, kind_is}
 use Rattle.ax_grammar.proofs.SingleTokens.{name_found, text_found}
 use Rattle.ax_grammar.proofs.Numbers.{number_found, category_found}
 use Rattle.ax_grammar.proofs.SpecParts.{made, uap_part, items_part, edition_part, category_part}
@@ -37,6 +37,22 @@ Finds {A} k p Fits spell = (texts rest : Texts) (a : A) → length texts < k →
 mapped : {A B : Type 0} (g : A → B) (r : Parsed A) (b : B) (rest : Texts) → (r >>= λ x. Ok (g x.0, x.1)) ≡ reads b rest → (a : A) × (r ≡ reads a rest) × (g a ≡ b)
 mapped g (Ok x) b rest e = (x.0, ap (λ t. reads x.0 t) (rest_is (g x.0) b x.1 rest e), value_is (g x.0) b x.1 rest e)
 mapped g (Err d) b rest e = absurd cc
+
+-- what follows a reader: its value fits, and is spelled by the texts in front of what is left
+reading : {A B : Type 0} (k : ℕ) (p : Texts → Parsed A) (Fits : A → Type 0) (spell : A → Texts) → Finds k p Fits spell → Shrinks p → (texts rest : Texts) (b : B) (q : A × Texts → Parsed B) → length texts < k → (p texts >>= q) ≡ reads b rest
+    → (C : Type 0) → ((a : A) (after : Texts) → Fits a → texts ≡ spell a ++ after → length after < length texts → q (a, after) ≡ reads b rest → C) → C
+reading k p Fits spell finds shrinks texts rest b q lt e C next =
+    let f = bind_ok (p texts) q (b, rest) e in
+    let found = finds texts f.0.1 f.0.0 lt f.1 in
+    next f.0.0 f.0.1 found.0 found.1 (shrinks texts f.0.0 f.0.1 f.1) f.2
+
+-- the same of the last reader
+making : {A B : Type 0} (k : ℕ) (p : Texts → Parsed A) (Fits : A → Type 0) (spell : A → Texts) → Finds k p Fits spell → (texts rest : Texts) (b : B) (g : A → B) → length texts < k → (p texts >>= λ x. Ok (g x.0, x.1)) ≡ reads b rest
+    → (C : B → Type 0) → ((a : A) → Fits a → texts ≡ spell a ++ rest → C (g a)) → C b
+making k p Fits spell finds texts rest b g lt e C next =
+    let m = mapped g (p texts) b rest e in
+    let found = finds texts rest m.0 lt m.1 in
+    subst C m.2 (next m.0 found.0 found.1)
 
 -- ---- single tokens
 
@@ -86,6 +102,13 @@ expecting_found false word text after rest u h e = absurd cc
 expect_found : (word : Keyword) (texts rest : Texts) (u : Unit {0}) → expect_at word texts ≡ reads u rest → texts ≡ keyword_text word ∷ rest
 expect_found word [] rest u e = absurd cc
 expect_found word (text ∷ after) rest u e = expecting_found (bytes_eq (keyword_text word) text) word text after rest u refl e
+
+-- a keyword, and then a reader
+expecting : {B : Type 0} (word : Keyword) (texts rest : Texts) (b : B) (q : Texts → Parsed B) → (expect_at word texts >>= λ u. q u.1) ≡ reads b rest → (C : Type 0)
+    → ((after : Texts) → texts ≡ keyword_text word ∷ after → length after < length texts → q after ≡ reads b rest → C) → C
+expecting word texts rest b q e C next =
+    let f = bind_ok (expect_at word texts) (λ u. q u.1) (b, rest) e in
+    next f.0.1 (expect_found word texts f.0.1 f.0.0 f.1) (expect_shrinks word texts f.0.0 f.0.1 f.1) f.2
 
 taking_found : (b : Bool) (word : Keyword) (text : List ℕ) (after rest : Texts) (c : Bool) → bytes_eq (keyword_text word) text ≡ b → cond b (taking true after) (taking false (text ∷ after)) ≡ reads c rest → text ∷ after ≡ cond c (keyword_text word ∷ rest) rest
 taking_found true word text after rest c h e =
@@ -146,11 +169,9 @@ sign_found k texts rest sign lt e =
 entry_found : (k : ℕ) → Finds k entry_at EntryInRange entry_texts
 unfolding entry_at
 entry_found k texts rest entry lt e =
-    let f = bind_ok (number_at texts) (λ n. text_at n.1 >>= λ t. reads (record { number = n.0; text = t.0 }) t.1) (entry, rest) e in
-    let n = numbers_found k texts f.0.1 f.0.0 lt f.1 in
-    let m = mapped (λ t. record { number = f.0.0; text = t }) (text_at f.0.1) entry rest f.2 in
-    let t = texts_found k f.0.1 rest m.0 (omega (arith, one_shrinks (number_of 18) texts f.0.0 f.0.1 f.1)) m.1 in
-    subst (λ x. EntryInRange x × (texts ≡ entry_texts x ++ rest)) m.2 ((n.0, t.0), n.1 ∙ ap (λ x. decimal f.0.0 ∷ x) t.1)
+    reading k number_at IsNumber (λ n. decimal n ∷ []) (numbers_found k) (one_shrinks (number_of 18)) texts rest entry (λ n. text_at n.1 >>= λ t. reads (record { number = n.0; text = t.0 }) t.1) lt e (EntryInRange entry × (texts ≡ entry_texts entry ++ rest)) (λ n after fits is less e'.
+    making k text_at IsText (λ t. quoted t ∷ []) (texts_found k) after rest entry (λ t. record { number = n; text = t }) (omega (arith, lt, less)) e' (λ x. EntryInRange x × (texts ≡ entry_texts x ++ rest)) (λ t fits' is'.
+    ((fits, fits'), is ∙ ap (λ x. decimal n ∷ x) is')))
 
 scale_texts : Scale → Texts
 scale_texts scale = sign_text scale.sign ∷ decimal scale.num ∷ decimal scale.den ∷ quoted scale.unit ∷ []
@@ -158,19 +179,12 @@ scale_texts scale = sign_text scale.sign ∷ decimal scale.num ∷ decimal scale
 scale_found : (k : ℕ) → Finds k scale_at (λ scale. IsNumber scale.num × IsNumber scale.den × IsText scale.unit) scale_texts
 unfolding scale_at scale_texts
 scale_found k texts rest scale lt e =
-    let f = bind_ok (sign_at texts) (λ s. number_at s.1 >>= λ n. number_at n.1 >>= λ d. text_at d.1 >>= λ u. reads (record { sign = s.0; num = n.0; den = d.0; unit = u.0 }) u.1) (scale, rest) e in
-    let g = bind_ok (number_at f.0.1) (λ n. number_at n.1 >>= λ d. text_at d.1 >>= λ u. reads (record { sign = f.0.0; num = n.0; den = d.0; unit = u.0 }) u.1) (scale, rest) f.2 in
-    let h = bind_ok (number_at g.0.1) (λ d. text_at d.1 >>= λ u. reads (record { sign = f.0.0; num = g.0.0; den = d.0; unit = u.0 }) u.1) (scale, rest) g.2 in
-    let m = mapped (λ u. record { sign = f.0.0; num = g.0.0; den = h.0.0; unit = u }) (text_at h.0.1) scale rest h.2 in
-    let s = sign_found k texts f.0.1 f.0.0 lt f.1 in
-    let le1 = sign_shrinks texts f.0.0 f.0.1 f.1 in
-    let n = numbers_found k f.0.1 g.0.1 g.0.0 (omega (arith, le1)) g.1 in
-    let le2 = one_shrinks (number_of 18) f.0.1 g.0.0 g.0.1 g.1 in
-    let d = numbers_found k g.0.1 h.0.1 h.0.0 (omega (arith, le1, le2)) h.1 in
-    let le3 = one_shrinks (number_of 18) g.0.1 h.0.0 h.0.1 h.1 in
-    let u = texts_found k h.0.1 rest m.0 (omega (arith, le1, le2, le3)) m.1 in
-    subst (λ x. (IsNumber x.num × IsNumber x.den × IsText x.unit) × (texts ≡ (sign_text x.sign ∷ decimal x.num ∷ decimal x.den ∷ quoted x.unit ∷ rest))) m.2
-    ((n.0, d.0, u.0), s.1 ∙ ap (λ t. sign_text f.0.0 ∷ t) (n.1 ∙ ap (λ t. decimal g.0.0 ∷ t) (d.1 ∙ ap (λ t. decimal h.0.0 ∷ t) u.1)))
+    let Found : Scale → Type 0 = λ x. (IsNumber x.num × IsNumber x.den × IsText x.unit) × (texts ≡ (sign_text x.sign ∷ decimal x.num ∷ decimal x.den ∷ quoted x.unit ∷ rest)) in
+    reading k sign_at (λ sign. Unit {0}) (λ sign. sign_text sign ∷ []) (sign_found k) sign_shrinks texts rest scale (λ s. number_at s.1 >>= λ n. number_at n.1 >>= λ d. text_at d.1 >>= λ u. reads (record { sign = s.0; num = n.0; den = d.0; unit = u.0 }) u.1) lt e (Found scale) (λ sign t1 fits1 is1 less1 e1.
+    reading k number_at IsNumber (λ n. decimal n ∷ []) (numbers_found k) (one_shrinks (number_of 18)) t1 rest scale (λ n. number_at n.1 >>= λ d. text_at d.1 >>= λ u. reads (record { sign = sign; num = n.0; den = d.0; unit = u.0 }) u.1) (omega (arith, lt, less1)) e1 (Found scale) (λ num t2 fits2 is2 less2 e2.
+    reading k number_at IsNumber (λ n. decimal n ∷ []) (numbers_found k) (one_shrinks (number_of 18)) t2 rest scale (λ d. text_at d.1 >>= λ u. reads (record { sign = sign; num = num; den = d.0; unit = u.0 }) u.1) (omega (arith, lt, less1, less2)) e2 (Found scale) (λ den t3 fits3 is3 less3 e3.
+    making k text_at IsText (λ t. quoted t ∷ []) (texts_found k) t3 rest scale (λ u. record { sign = sign; num = num; den = den; unit = u }) (omega (arith, lt, less1, less2, less3)) e3 Found (λ unit fits4 is4.
+    ((fits2, fits3, fits4), is1 ∙ ap (λ t. sign_text sign ∷ t) (is2 ∙ ap (λ t. decimal num ∷ t) (is3 ∙ ap (λ t. decimal den ∷ t) is4)))))))
 
 abbrev Spells : {A : Type 0} → (A → Type 0) → (A → Texts) → Texts → Texts → A → Type 0
 Spells Fits spell texts rest a = Fits a × (texts ≡ spell a ++ rest)
@@ -216,11 +230,8 @@ spare_case k texts rest m lt e =
 
 named_case : (k : ℕ) → Finds k fixed_at FixedInRange fixed_texts → (texts rest : Texts) (m : MemberTree) → length texts < suc k → (name_at texts >>= λ n. fixed_at n.1 >>= λ f. reads (named n.0 f.0) f.1) ≡ reads m rest → MemberInRange m × (texts ≡ member_texts m ++ rest)
 named_case k h texts rest m lt e =
-    let f = bind_ok (name_at texts) (λ n. fixed_at n.1 >>= λ f. reads (named n.0 f.0) f.1) (m, rest) e in
-    let g = mapped (named f.0.0) (fixed_at f.0.1) m rest f.2 in
-    let n = names_found (suc k) texts f.0.1 f.0.0 lt f.1 in
-    let x = h f.0.1 rest g.0 (omega (arith, one_shrinks name_of texts f.0.0 f.0.1 f.1)) g.1 in
-    subst (λ x. MemberInRange x × (texts ≡ member_texts x ++ rest)) g.2 ((n.0, x.0), n.1 ∙ ap (λ t. f.0.0 ∷ t) x.1)
+    reading (suc k) name_at IsName (λ name. name ∷ []) (names_found (suc k)) (one_shrinks name_of) texts rest m (λ n. fixed_at n.1 >>= λ f. reads (named n.0 f.0) f.1) lt e (MemberInRange m × (texts ≡ member_texts m ++ rest)) (λ name after fits is less e'.
+    making k fixed_at FixedInRange fixed_texts h after rest m (named name) (omega (arith, lt, less)) e' (λ x. MemberInRange x × (texts ≡ member_texts x ++ rest)) (λ f fits' is'. ((fits, fits'), is ∙ ap (λ t. name ∷ t) is')))
 
 member_case : (k : ℕ) → Finds k fixed_at FixedInRange fixed_texts → (c : Bool) (texts after rest : Texts) (m : MemberTree) → length after < suc k → texts ≡ cond c (keyword_text Word.Spare ∷ after) after
     → cond c (width_at after >>= λ w. reads (spare w.0) w.1) (name_at after >>= λ n. fixed_at n.1 >>= λ f. reads (named n.0 f.0) f.1) ≡ reads m rest → MemberInRange m × (texts ≡ member_texts m ++ rest)
@@ -252,11 +263,9 @@ fixed_case : (k : ℕ) → Finds k fixed_at FixedInRange fixed_texts → (word :
     → FixedInRange f × (texts ≡ fixed_texts f ++ rest)
 unfolding member_at
 fixed_case k h Word.Element texts after rest f lt front e =
-    let g = bind_ok (width_at after) (λ w. content_at w.1 >>= λ c. reads (element w.0 c.0) c.1) (f, rest) e in
-    let m = mapped (element g.0.0) (content_at g.0.1) f rest g.2 in
-    let w = widths_found (suc k) after g.0.1 g.0.0 lt g.1 in
-    let c = content_found (suc k) g.0.1 rest m.0 (omega (arith, lt, one_shrinks (number_of 9) after g.0.0 g.0.1 g.1)) m.1 in
-    subst (λ x. FixedInRange x × (texts ≡ fixed_texts x ++ rest)) m.2 ((w.0, c.0), front ∙ ap (λ t. keyword_text Word.Element ∷ t) (w.1 ∙ ap (λ t. decimal g.0.0 ∷ t) c.1))
+    reading (suc k) width_at IsWidth (λ width. decimal width ∷ []) (widths_found (suc k)) (one_shrinks (number_of 9)) after rest f (λ w. content_at w.1 >>= λ c. reads (element w.0 c.0) c.1) lt e (FixedInRange f × (texts ≡ fixed_texts f ++ rest)) (λ width last fits is less e'.
+    making (suc k) content_at ContentInRange content_texts (content_found (suc k)) last rest f (element width) (omega (arith, lt, less)) e' (λ x. FixedInRange x × (texts ≡ fixed_texts x ++ rest)) (λ c fits' is'.
+    ((fits, fits'), front ∙ ap (λ t. keyword_text Word.Element ∷ t) (is ∙ ap (λ t. decimal width ∷ t) is'))))
 fixed_case k h Word.Group texts after rest f lt front e =
     let m = mapped (λ ms. group (members_of ms)) (braced_at member_at after) f rest e in
     let ms = members_found k h after rest m.0 (omega (arith, lt)) m.1 in
@@ -275,18 +284,15 @@ fixed_found (suc k) texts rest f lt e =
 part_found : (k : ℕ) → Finds k part_at MembersInRange part_texts
 unfolding part_at
 part_found k texts rest ms lt e =
-    let f = bind_ok (expect_at Word.Part texts) (λ u. braced_at member_at u.1 >>= λ m. reads (members_of m.0) m.1) (ms, rest) e in
-    let m = mapped members_of (braced_at member_at f.0.1) ms rest f.2 in
-    let g = members_found k (fixed_found k) f.0.1 rest m.0 (omega (arith, lt, expect_shrinks Word.Part texts f.0.0 f.0.1 f.1)) m.1 in
-    subst (λ x. MembersInRange x × (texts ≡ part_texts x ++ rest)) m.2 (g.0, expect_found Word.Part texts f.0.1 f.0.0 f.1 ∙ ap (λ t. keyword_text Word.Part ∷ t) g.1)
+    expecting Word.Part texts rest ms (λ t. braced_at member_at t >>= λ m. reads (members_of m.0) m.1) e (MembersInRange ms × (texts ≡ part_texts ms ++ rest)) (λ after is less e'.
+    let m = mapped members_of (braced_at member_at after) ms rest e' in
+    let g = members_found k (fixed_found k) after rest m.0 (omega (arith, lt, less)) m.1 in
+    subst (λ x. MembersInRange x × (texts ≡ part_texts x ++ rest)) m.2 (g.0, is ∙ ap (λ t. keyword_text Word.Part ∷ t) g.1))
 
 subitem_case : (k : ℕ) → Finds k kind_at KindInRange kind_texts → (texts rest : Texts) (s : SlotTree) → length texts < suc k → (name_at texts >>= λ n. kind_at n.1 >>= λ f. reads (subitem n.0 f.0) f.1) ≡ reads s rest → SlotInRange s × (texts ≡ slot_texts s ++ rest)
 subitem_case k h texts rest s lt e =
-    let f = bind_ok (name_at texts) (λ n. kind_at n.1 >>= λ f. reads (subitem n.0 f.0) f.1) (s, rest) e in
-    let g = mapped (subitem f.0.0) (kind_at f.0.1) s rest f.2 in
-    let n = names_found (suc k) texts f.0.1 f.0.0 lt f.1 in
-    let x = h f.0.1 rest g.0 (omega (arith, lt, one_shrinks name_of texts f.0.0 f.0.1 f.1)) g.1 in
-    subst (λ x. SlotInRange x × (texts ≡ slot_texts x ++ rest)) g.2 ((n.0, x.0), n.1 ∙ ap (λ t. f.0.0 ∷ t) x.1)
+    reading (suc k) name_at IsName (λ name. name ∷ []) (names_found (suc k)) (one_shrinks name_of) texts rest s (λ n. kind_at n.1 >>= λ f. reads (subitem n.0 f.0) f.1) lt e (SlotInRange s × (texts ≡ slot_texts s ++ rest)) (λ name after fits is less e'.
+    making k kind_at KindInRange kind_texts h after rest s (subitem name) (omega (arith, lt, less)) e' (λ x. SlotInRange x × (texts ≡ slot_texts x ++ rest)) (λ f fits' is'. ((fits, fits'), is ∙ ap (λ t. name ∷ t) is')))
 
 slot_case : (k : ℕ) → Finds k kind_at KindInRange kind_texts → (c : Bool) (texts after rest : Texts) (s : SlotTree) → length after < suc k → texts ≡ cond c (keyword_text Word.Dash ∷ after) after
     → cond c (reads spare_slot after) (name_at after >>= λ n. kind_at n.1 >>= λ f. reads (subitem n.0 f.0) f.1) ≡ reads s rest → SlotInRange s × (texts ≡ slot_texts s ++ rest)
@@ -316,14 +322,12 @@ kind_case k h Word.Extended texts after rest f lt le front e =
     let ps = braced_found part_at part_shrinks MembersInRange part_texts k (part_found k) after rest m.0 (omega (arith, lt, le)) m.1 in
     subst (λ x. KindInRange x × (texts ≡ kind_texts x ++ rest)) m.2 (ps.0, front ∙ ap (λ t. keyword_text Word.Extended ∷ t) ps.1)
 kind_case k h Word.Counted texts after rest f lt le front e =
-    let o = bind_ok (expect_at Word.Open after) (λ o. kind_at o.1 >>= λ i. expect_at Word.Close i.1 >>= λ c. reads (counted i.0) c.1) (f, rest) e in
-    let i = bind_ok (kind_at o.0.1) (λ i. expect_at Word.Close i.1 >>= λ c. reads (counted i.0) c.1) (f, rest) o.2 in
-    let c = bind_ok (expect_at Word.Close i.0.1) (λ c. reads (counted i.0.0) c.1) (f, rest) i.2 in
-    let r = rest_is (counted i.0.0) f c.0.1 rest c.2 in
-    let x = h o.0.1 i.0.1 i.0.0 (omega (arith, lt, le, expect_shrinks Word.Open after o.0.0 o.0.1 o.1)) i.1 in
-    let last : i.0.1 ≡ keyword_text Word.Close ∷ rest = expect_found Word.Close i.0.1 c.0.1 c.0.0 c.1 ∙ ap (λ t. keyword_text Word.Close ∷ t) r in
-    subst (λ x. KindInRange x × (texts ≡ kind_texts x ++ rest)) (value_is (counted i.0.0) f c.0.1 rest c.2)
-    (x.0, front ∙ ap (λ t. keyword_text Word.Counted ∷ t) (expect_found Word.Open after o.0.1 o.0.0 o.1 ∙ ap (λ t. keyword_text Word.Open ∷ t) (x.1 ∙ ap (λ t. kind_texts i.0.0 ++ t) last ∙ sym (append_assoc (kind_texts i.0.0) (keyword_text Word.Close ∷ []) rest))))
+    expecting Word.Open after rest f (λ t. kind_at t >>= λ i. expect_at Word.Close i.1 >>= λ c. reads (counted i.0) c.1) e (KindInRange f × (texts ≡ kind_texts f ++ rest)) (λ t1 is1 less1 e1.
+    reading k kind_at KindInRange kind_texts h kind_shrinks t1 rest f (λ i. expect_at Word.Close i.1 >>= λ c. reads (counted i.0) c.1) (omega (arith, lt, le, less1)) e1 (KindInRange f × (texts ≡ kind_texts f ++ rest)) (λ inner t2 fits2 is2 less2 e2.
+    expecting Word.Close t2 rest f (λ t. reads (counted inner) t) e2 (KindInRange f × (texts ≡ kind_texts f ++ rest)) (λ t3 is3 less3 e3.
+    let last : t2 ≡ keyword_text Word.Close ∷ rest = is3 ∙ ap (λ t. keyword_text Word.Close ∷ t) (rest_is (counted inner) f t3 rest e3) in
+    subst (λ x. KindInRange x × (texts ≡ kind_texts x ++ rest)) (value_is (counted inner) f t3 rest e3)
+    (fits2, front ∙ ap (λ t. keyword_text Word.Counted ∷ t) (is1 ∙ ap (λ t. keyword_text Word.Open ∷ t) (is2 ∙ ap (λ t. kind_texts inner ++ t) last ∙ sym (append_assoc (kind_texts inner) (keyword_text Word.Close ∷ []) rest)))))))
 kind_case k h Word.ByFx texts after rest f lt le front e =
     let m = mapped by_fx (fixed_at after) f rest e in
     let x = fixed_found k after rest m.0 (omega (arith, lt, le)) m.1 in
@@ -352,18 +356,12 @@ kind_found (suc k) texts rest f lt e =
 item_found : (k : ℕ) → Finds k item_at ItemInRange item_texts
 unfolding item_at
 item_found k texts rest item lt e =
-    let u = bind_ok (expect_at Word.Item texts) (λ u. name_at u.1 >>= λ n. text_at n.1 >>= λ t. kind_at t.1 >>= λ x. reads (record { name = n.0; title = t.0; kind = x.0 }) x.1) (item, rest) e in
-    let n = bind_ok (name_at u.0.1) (λ n. text_at n.1 >>= λ t. kind_at t.1 >>= λ x. reads (record { name = n.0; title = t.0; kind = x.0 }) x.1) (item, rest) u.2 in
-    let t = bind_ok (text_at n.0.1) (λ t. kind_at t.1 >>= λ x. reads (record { name = n.0.0; title = t.0; kind = x.0 }) x.1) (item, rest) n.2 in
-    let m = mapped (λ x. record { name = n.0.0; title = t.0.0; kind = x }) (kind_at t.0.1) item rest t.2 in
-    let le1 = expect_shrinks Word.Item texts u.0.0 u.0.1 u.1 in
-    let le2 = one_shrinks name_of u.0.1 n.0.0 n.0.1 n.1 in
-    let le3 = one_shrinks text_of n.0.1 t.0.0 t.0.1 t.1 in
-    let a = names_found k u.0.1 n.0.1 n.0.0 (omega (arith, lt, le1)) n.1 in
-    let b = texts_found k n.0.1 t.0.1 t.0.0 (omega (arith, lt, le1, le2)) t.1 in
-    let c = kind_found k t.0.1 rest m.0 (omega (arith, lt, le1, le2, le3)) m.1 in
-    subst (λ x. ItemInRange x × (texts ≡ item_texts x ++ rest)) m.2
-    ((a.0, b.0, c.0), expect_found Word.Item texts u.0.1 u.0.0 u.1 ∙ ap (λ x. keyword_text Word.Item ∷ x) (a.1 ∙ ap (λ x. n.0.0 ∷ x) (b.1 ∙ ap (λ x. quoted t.0.0 ∷ x) c.1)))
+    let Found : ItemTree → Type 0 = λ x. ItemInRange x × (texts ≡ item_texts x ++ rest) in
+    expecting Word.Item texts rest item (λ t. name_at t >>= λ n. text_at n.1 >>= λ t. kind_at t.1 >>= λ x. reads (record { name = n.0; title = t.0; kind = x.0 }) x.1) e (Found item) (λ t1 is1 less1 e1.
+    reading k name_at IsName (λ name. name ∷ []) (names_found k) (one_shrinks name_of) t1 rest item (λ n. text_at n.1 >>= λ t. kind_at t.1 >>= λ x. reads (record { name = n.0; title = t.0; kind = x.0 }) x.1) (omega (arith, lt, less1)) e1 (Found item) (λ name t2 fits2 is2 less2 e2.
+    reading k text_at IsText (λ t. quoted t ∷ []) (texts_found k) (one_shrinks text_of) t2 rest item (λ t. kind_at t.1 >>= λ x. reads (record { name = name; title = t.0; kind = x.0 }) x.1) (omega (arith, lt, less1, less2)) e2 (Found item) (λ title t3 fits3 is3 less3 e3.
+    making k kind_at KindInRange kind_texts (kind_found k) t3 rest item (λ x. record { name = name; title = title; kind = x }) (omega (arith, lt, less1, less2, less3)) e3 Found (λ kind fits4 is4.
+    ((fits2, fits3, fits4), is1 ∙ ap (λ x. keyword_text Word.Item ∷ x) (is2 ∙ ap (λ x. name ∷ x) (is3 ∙ ap (λ x. quoted title ∷ x) is4)))))))
 
 uap_item_case : (k : ℕ) (texts rest : Texts) (s : UapSlot) → length texts < k → (name_at texts >>= λ n. reads (Uap.Item n.0) n.1) ≡ reads s rest → UapSlotInRange s × (texts ≡ uap_slot_texts s ++ rest)
 uap_item_case k texts rest s lt e =
@@ -386,39 +384,29 @@ uap_slot_found k texts rest s lt e =
 categories_found : (k : ℕ) → Finds k category_at (λ n. n < 256) (λ n. three_digits n ∷ [])
 categories_found = one_found category_of (λ n. n < 256) three_digits (λ text n e. category_found n text e)
 
--- a keyword, and then a reader
-expect_then : {B : Type 0} (word : Keyword) (q : Texts → Parsed B) (texts rest : Texts) (b : B) → (expect_at word texts >>= λ u. q u.1) ≡ reads b rest
-    → (after : Texts) × (texts ≡ keyword_text word ∷ after) × (length after < length texts) × (q after ≡ reads b rest)
-expect_then word q texts rest b e =
-    let f = bind_ok (expect_at word texts) (λ u. q u.1) (b, rest) e in (f.0.1, expect_found word texts f.0.1 f.0.0 f.1, expect_shrinks word texts f.0.0 f.0.1 f.1, f.2)
-
 pub spec_found : (texts rest : Texts) (spec : SpecTree) → spec_at texts ≡ reads spec rest → InRange spec × (texts ≡ spelled spec ++ rest)
 unfolding spec_at
 spec_found texts rest spec e =
     let k = suc (length texts) in
-    let a = expect_then Word.Category category_part texts rest spec e in
-    let b = bind_ok (category_at a.0) (λ c. expect_at Word.Edition c.1 >>= λ u. edition_part c.0 u.1) (spec, rest) a.3 in
-    let c = expect_then Word.Edition (edition_part b.0.0) b.0.1 rest spec b.2 in
-    let d = bind_ok (text_at c.0) (λ t. expect_at Word.Items t.1 >>= λ u. items_part b.0.0 t.0 u.1) (spec, rest) c.3 in
-    let f = expect_then Word.Items (items_part b.0.0 d.0.0) d.0.1 rest spec d.2 in
-    let g = bind_ok (braced_at item_at f.0) (λ i. expect_at Word.Uap i.1 >>= λ u. uap_part b.0.0 d.0.0 i.0 u.1) (spec, rest) f.3 in
-    let h = expect_then Word.Uap (uap_part b.0.0 d.0.0 g.0.0) g.0.1 rest spec g.2 in
-    let m = mapped (made b.0.0 d.0.0 g.0.0) (braced_at uap_slot_at h.0) spec rest h.3 in
-    let le1 = one_shrinks category_of a.0 b.0.0 b.0.1 b.1 in
-    let le2 = one_shrinks text_of c.0 d.0.0 d.0.1 d.1 in
-    let le3 = braced_shrinks item_at item_shrinks f.0 g.0.0 g.0.1 g.1 in
-    let category = categories_found k a.0 b.0.1 b.0.0 (omega (arith, a.2)) b.1 in
-    let edition = texts_found k c.0 d.0.1 d.0.0 (omega (arith, a.2, le1, c.2)) d.1 in
-    let items = braced_found item_at item_shrinks ItemInRange item_texts k (item_found k) f.0 g.0.1 g.0.0 (omega (arith, a.2, le1, c.2, le2, f.2)) g.1 in
-    let uap = braced_found uap_slot_at uap_slot_shrinks UapSlotInRange uap_slot_texts k (uap_slot_found k) h.0 rest m.0 (omega (arith, a.2, le1, c.2, le2, f.2, le3, h.2)) m.1 in
-    let last : g.0.1 ≡ block Word.Uap (flat_map uap_slot_texts m.0) ++ rest = h.1 ∙ ap (λ t. keyword_text Word.Uap ∷ t) uap.1 in
-    let middle : d.0.1 ≡ (block Word.Items (flat_map item_texts g.0.0) ++ block Word.Uap (flat_map uap_slot_texts m.0)) ++ rest
-    = f.1 ∙ ap (λ t. keyword_text Word.Items ∷ t) items.1 ∙ ap (λ t. block Word.Items (flat_map item_texts g.0.0) ++ t) last
-    ∙ sym (append_assoc (block Word.Items (flat_map item_texts g.0.0)) (block Word.Uap (flat_map uap_slot_texts m.0)) rest) in
-    let front : texts ≡ spelled (made b.0.0 d.0.0 g.0.0 m.0) ++ rest
-    = a.1 ∙ ap (λ t. keyword_text Word.Category ∷ t) (category.1 ∙ ap (λ t. three_digits b.0.0 ∷ t) (c.1 ∙ ap (λ t. keyword_text Word.Edition ∷ t) (edition.1 ∙ ap (λ t. quoted d.0.0 ∷ t) middle))) in
-    let fits : InRange (made b.0.0 d.0.0 g.0.0 m.0) = record { category = category.0; edition = edition.0; items = items.0; uap = uap.0 } in
-    subst (λ x. InRange x × (texts ≡ spelled x ++ rest)) m.2 (fits, front)
+    let Found : SpecTree → Type 0 = λ x. InRange x × (texts ≡ spelled x ++ rest) in
+    let C = Found spec in
+    expecting Word.Category texts rest spec category_part e C (λ t1 is1 less1 e1.
+    reading k category_at (λ n. n < 256) (λ n. three_digits n ∷ []) (categories_found k) (one_shrinks category_of) t1 rest spec (λ c. expect_at Word.Edition c.1 >>= λ u. edition_part c.0 u.1) (omega (arith, less1)) e1 C (λ category t2 fits2 is2 less2 e2.
+    expecting Word.Edition t2 rest spec (edition_part category) e2 C (λ t3 is3 less3 e3.
+    reading k text_at IsText (λ t. quoted t ∷ []) (texts_found k) (one_shrinks text_of) t3 rest spec (λ t. expect_at Word.Items t.1 >>= λ u. items_part category t.0 u.1) (omega (arith, less1, less2, less3)) e3 C (λ edition t4 fits4 is4 less4 e4.
+    expecting Word.Items t4 rest spec (items_part category edition) e4 C (λ t5 is5 less5 e5.
+    reading (suc k) (braced_at item_at) (AllByRecursion ItemInRange) (λ xs. keyword_text Word.Open ∷ closed (flat_map item_texts xs)) (braced_found item_at item_shrinks ItemInRange item_texts k (item_found k)) (braced_shrinks item_at item_shrinks) t5 rest spec (λ i. expect_at Word.Uap i.1 >>= λ u. uap_part category edition i.0 u.1)
+    (omega (arith, less1, less2, less3, less4, less5)) e5 C (λ items t6 fits6 is6 less6 e6.
+    expecting Word.Uap t6 rest spec (uap_part category edition items) e6 C (λ t7 is7 less7 e7.
+    making (suc k) (braced_at uap_slot_at) (AllByRecursion UapSlotInRange) (λ xs. keyword_text Word.Open ∷ closed (flat_map uap_slot_texts xs)) (braced_found uap_slot_at uap_slot_shrinks UapSlotInRange uap_slot_texts k (uap_slot_found k)) t7 rest spec (made category edition items)
+    (omega (arith, less1, less2, less3, less4, less5, less6, less7)) e7 Found (λ uap fits8 is8.
+    let slots = block Word.Uap (flat_map uap_slot_texts uap) in
+    let list = block Word.Items (flat_map item_texts items) in
+    let last : t6 ≡ slots ++ rest = is7 ∙ ap (λ t. keyword_text Word.Uap ∷ t) is8 in
+    let middle : t4 ≡ (list ++ slots) ++ rest = is5 ∙ ap (λ t. keyword_text Word.Items ∷ t) is6 ∙ ap (λ t. list ++ t) last ∙ sym (append_assoc list slots rest) in (
+      record { category = fits2; edition = fits4; items = fits6; uap = fits8 },
+      is1 ∙ ap (λ t. keyword_text Word.Category ∷ t) (is2 ∙ ap (λ t. three_digits category ∷ t) (is3 ∙ ap (λ t. keyword_text Word.Edition ∷ t) (is4 ∙ ap (λ t. quoted edition ∷ t) middle))),
+    )))))))))
 
 end_found : (texts rest : Texts) (u : Unit {0}) → end_at texts ≡ reads u rest → (texts ≡ []) × (rest ≡ [])
 end_found [] rest u e = (refl, sym (rest_is tt u [] rest e))

@@ -138,8 +138,7 @@ impl<'r, 't> SpecReader<'r, 't> {
 
     /// Reads a category.
     pub fn category(&mut self) -> Result<u8, Stopped>
-        ensures reads { Gives (λ category. category) result self.new (category_at self.old) }
-        ensures moves { OnOk result (length self.new < length self.old) }
+        ensures { Gives (λ category. category) result self.new (category_at self.old) }
     {
         let token = self.peek()?;
         let Some(category) = octets::category(token.text) else {
@@ -151,8 +150,7 @@ impl<'r, 't> SpecReader<'r, 't> {
 
     /// Reads a width.
     pub fn width(&mut self) -> Result<u32, Stopped>
-        ensures reads { Gives (λ width. width) result self.new (width_at self.old) }
-        ensures moves { OnOk result (length self.new < length self.old) }
+        ensures { Gives (λ width. width) result self.new (width_at self.old) }
     {
         let token = self.peek()?;
         let Some(width) = octets::width(token.text) else {
@@ -164,8 +162,7 @@ impl<'r, 't> SpecReader<'r, 't> {
 
     /// Reads a number of a scale or of a table.
     pub fn number(&mut self) -> Result<u64, Stopped>
-        ensures reads { Gives (λ number. number) result self.new (number_at self.old) }
-        ensures moves { OnOk result (length self.new < length self.old) }
+        ensures { Gives (λ number. number) result self.new (number_at self.old) }
     {
         let token = self.peek()?;
         let Some(number) = octets::number(token.text, 18) else {
@@ -177,8 +174,7 @@ impl<'r, 't> SpecReader<'r, 't> {
 
     /// Reads a text in quotes.
     pub fn text(&mut self, alloc: Global) -> Result<Text, Stopped>
-        ensures reads { Gives (λ text. text) result self.new (text_at self.old) }
-        ensures moves { OnOk result (length self.new < length self.old) }
+        ensures { Gives (λ text. text) result self.new (text_at self.old) }
     {
         let token = self.peek()?;
         let Some(content) = octets::content(token) else {

@@ -1,7 +1,7 @@
 //! A method for each rule of the grammar. Each reads from the next token on, and stops in front of the first token that
 //! doesn't fit.
 
-ghost use Rattle.std.specs.Prelude.{◌≡◌, ◌<◌, length, map, OnOk};
+ghost use Rattle.std.specs.Prelude.{◌≡◌, map};
 ghost use Rattle.ax_model.specs.Plain.{fixed_tree, member_tree, part_tree, kind_tree, slot_tree, item_tree, spec_tree};
 ghost use Rattle.ax_grammar.specs.Gives.{Gives};
 ghost use Rattle.ax_model.specs.Specification.{ItemTree};
@@ -32,15 +32,13 @@ trait Element: Sized + Drop {
 
     /// Reads the next one.
     fn read(reader: &mut SpecReader<'_, '_>, alloc: Global) -> Result<Self, Stopped>
-        ensures reads { Gives tree result reader.new (rule reader.old) }
-        ensures moves { OnOk result (length reader.new < length reader.old) };
+        ensures { Gives tree result reader.new (rule reader.old) };
 }
 
 impl<'r, 't> SpecReader<'r, 't> {
     #[tactic(auto, unfolding(crate::specs::Rules::sign_at))]
     fn sign(&mut self) -> Result<Sign, Stopped>
-        ensures reads { Gives (λ sign. sign) result self.new (sign_at self.old) }
-        ensures moves { OnOk result (length self.new < length self.old) }
+        ensures { Gives (λ sign. sign) result self.new (sign_at self.old) }
     {
         match self.keyword()? {
             Keyword::Unsigned => {
@@ -57,8 +55,7 @@ impl<'r, 't> SpecReader<'r, 't> {
 
     #[tactic(auto, unfolding(crate::specs::Rules::scale_at))]
     fn scale(&mut self, alloc: Global) -> Result<Scale, Stopped>
-        ensures reads { Gives (λ scale. scale) result self.new (scale_at self.old) }
-        ensures moves { OnOk result (length self.new < length self.old) }
+        ensures { Gives (λ scale. scale) result self.new (scale_at self.old) }
     {
         let sign = self.sign()?;
         let num = self.number()?;
@@ -75,8 +72,7 @@ impl<'r, 't> SpecReader<'r, 't> {
     /// Elements in braces.
     fn braced<E: Element>(&mut self, alloc: Global) -> Result<Sequence<E>, Stopped>
         requires { LeavesLess E.rule }
-        ensures reads { Gives (λ elements. map E.tree elements) result self.new (braced_at E.rule self.old) }
-        ensures moves { OnOk result (length self.new < length self.old) }
+        ensures { Gives (λ elements. map E.tree elements) result self.new (braced_at E.rule self.old) }
     {
         self.expect(Keyword::Open)?;
         let mut elements = Sequence::new(alloc);
@@ -89,8 +85,7 @@ impl<'r, 't> SpecReader<'r, 't> {
 
     #[tactic(auto, unfolding(crate::specs::Rules::content_at))]
     fn content(&mut self, alloc: Global) -> Result<Content, Stopped>
-        ensures reads { Gives (λ content. content) result self.new (content_at self.old) }
-        ensures moves { OnOk result (length self.new < length self.old) }
+        ensures { Gives (λ content. content) result self.new (content_at self.old) }
     {
         match self.keyword()? {
             Keyword::Raw => {
@@ -128,8 +123,7 @@ impl<'r, 't> SpecReader<'r, 't> {
     #[cycle(read_fixed)]
     #[tactic(auto, using(crate::proofs::Recursive::fixed_is), unfolding(crate::specs::Rules::fixed_step))]
     fn fixed(&mut self, alloc: Global) -> Result<Fixed, Stopped>
-        ensures reads { Gives fixed_tree result self.new (fixed_at self.old) }
-        ensures moves { OnOk result (length self.new < length self.old) }
+        ensures { Gives fixed_tree result self.new (fixed_at self.old) }
     {
         match self.keyword()? {
             Keyword::Element => {
@@ -149,8 +143,7 @@ impl<'r, 't> SpecReader<'r, 't> {
     /// Members in braces.
     #[cycle(read_fixed)]
     fn members(&mut self, alloc: Global) -> Result<Members, Stopped>
-        ensures reads { Gives (λ members. map member_tree members) result self.new (braced_at member_at self.old) }
-        ensures moves { OnOk result (length self.new < length self.old) }
+        ensures { Gives (λ members. map member_tree members) result self.new (braced_at member_at self.old) }
     {
         self.expect(Keyword::Open)?;
         let mut members = Members::new(alloc);
@@ -164,8 +157,7 @@ impl<'r, 't> SpecReader<'r, 't> {
     #[cycle(read_fixed)]
     #[tactic(auto, unfolding(crate::specs::Rules::member_at, crate::specs::Rules::member_step))]
     fn member(&mut self, alloc: Global) -> Result<Member, Stopped>
-        ensures reads { Gives member_tree result self.new (member_at self.old) }
-        ensures moves { OnOk result (length self.new < length self.old) }
+        ensures { Gives member_tree result self.new (member_at self.old) }
     {
         if self.takes(Keyword::Spare)? {
             let width = self.width()?;
@@ -179,8 +171,7 @@ impl<'r, 't> SpecReader<'r, 't> {
     #[cycle(read_kind)]
     #[tactic(auto, using(crate::proofs::Recursive::kind_is), unfolding(crate::specs::Rules::kind_step))]
     fn kind(&mut self, alloc: Global) -> Result<Kind, Stopped>
-        ensures reads { Gives kind_tree result self.new (kind_at self.old) }
-        ensures moves { OnOk result (length self.new < length self.old) }
+        ensures { Gives kind_tree result self.new (kind_at self.old) }
     {
         match self.keyword()? {
             Keyword::Extended => {
@@ -210,8 +201,7 @@ impl<'r, 't> SpecReader<'r, 't> {
     /// What follows `counted`: a kind in braces.
     #[cycle(read_kind)]
     fn counted(&mut self, alloc: Global) -> Result<Kind, Stopped>
-        ensures reads { Gives kind_tree result self.new (counted_at self.old) }
-        ensures moves { OnOk result (length self.new < length self.old) }
+        ensures { Gives kind_tree result self.new (counted_at self.old) }
     {
         self.expect(Keyword::Open)?;
         let inner = self.kind(alloc)?;
@@ -223,8 +213,7 @@ impl<'r, 't> SpecReader<'r, 't> {
     /// Slots in braces.
     #[cycle(read_kind)]
     fn slots(&mut self, alloc: Global) -> Result<Slots, Stopped>
-        ensures reads { Gives (λ slots. map slot_tree slots) result self.new (braced_at slot_at self.old) }
-        ensures moves { OnOk result (length self.new < length self.old) }
+        ensures { Gives (λ slots. map slot_tree slots) result self.new (braced_at slot_at self.old) }
     {
         self.expect(Keyword::Open)?;
         let mut slots = Slots::new(alloc);
@@ -238,8 +227,7 @@ impl<'r, 't> SpecReader<'r, 't> {
     #[cycle(read_kind)]
     #[tactic(auto, unfolding(crate::specs::Rules::slot_at, crate::specs::Rules::slot_step))]
     fn slot(&mut self, alloc: Global) -> Result<Slot, Stopped>
-        ensures reads { Gives slot_tree result self.new (slot_at self.old) }
-        ensures moves { OnOk result (length self.new < length self.old) }
+        ensures { Gives slot_tree result self.new (slot_at self.old) }
     {
         if self.takes(Keyword::Dash)? {
             return Ok(Slot::Spare);
@@ -252,8 +240,7 @@ impl<'r, 't> SpecReader<'r, 't> {
     /// A specification. Tokens may follow it.
     #[tactic(auto, unfolding(crate::specs::Rules::spec_at))]
     pub fn spec(&mut self, alloc: Global) -> Result<Spec, Stopped>
-        ensures reads { Gives spec_tree result self.new (spec_at self.old) }
-        ensures moves { OnOk result (length self.new < length self.old) }
+        ensures { Gives spec_tree result self.new (spec_at self.old) }
     {
         self.expect(Keyword::Category)?;
         let category = self.category()?;

@@ -10,15 +10,15 @@ use Rattle.ax_grammar.proofs.Lists.{list_goes_on, braced_stops_before, braced_st
 use Rattle.ax_grammar.proofs.Recursive.{member_shrinks}
 use Rattle.ax_grammar.proofs.reader.SpecReader.+read_fixed.Goals as goal
 
-pub members-returns-in_err-takes-clause-reads : goal.members-returns-in_err-takes-clause-reads
-members-returns-in_err-takes-clause-reads t c =
+pub members-returns-in_err-takes : goal.members-returns-in_err-takes
+members-returns-in_err-takes t c =
     let p = err_from_is_err_and c.from_residual-in_err-takes.result c.from_residual-in_err-takes.ensures.1 in
     rw (p.1, p.2) (braced_stops_before member_at member_shrinks c.args.self.now c.expect.new.self c.loop-members.self c.takes.new.self (map member_tree c.loop-members.members) c.in_err-takes.field-0.0 c.in_ok-expect.ensures.reads c.loop-members.invariant.read c.in_err-takes.ensures.reads)
 
-pub members-returns-in_err-member-clause-reads : goal.members-returns-in_err-member-clause-reads
-members-returns-in_err-member-clause-reads t c =
+pub members-returns-in_err-member : goal.members-returns-in_err-member
+members-returns-in_err-member t c =
     let p = err_from_is_err_and c.from_residual-in_err-member.result c.from_residual-in_err-member.ensures.1 in
-    rw (p.1, p.2) (braced_stops_within member_at member_shrinks c.args.self.now c.expect.new.self c.loop-members.self c.takes.new.self c.member.new.self (map member_tree c.loop-members.members) c.in_err-member.field-0.0 c.in_ok-expect.ensures.reads c.loop-members.invariant.read (search rules) c.in_err-member.ensures.reads)
+    rw (p.1, p.2) (braced_stops_within member_at member_shrinks c.args.self.now c.expect.new.self c.loop-members.self c.takes.new.self c.member.new.self (map member_tree c.loop-members.members) c.in_err-member.field-0.0 c.in_ok-expect.ensures.reads c.loop-members.invariant.read (search rules) c.in_err-member.ensures)
 
 pub members-push-requires : goal.members-push-requires
 members-push-requires t c = record { room = omega (arith, c.loop-members.invariant.few, c.in_ok-expect.ensures.moves, c.in_ok-expect.ensures.bound) }
@@ -29,17 +29,20 @@ members-loop-members-preserved t c =
     let count = length_push c.loop-members.members c.in_ok-member.member in
     let views : map member_tree c.push.new.self ≡ map member_tree c.loop-members.members ++ member_tree c.in_ok-member.member ∷ [] = rw pushed (map_push _ c.loop-members.members c.in_ok-member.member) in
     record {
-      read = rw views (list_goes_on member_at (map member_tree c.loop-members.members) c.loop-members.self c.takes.new.self c.member.new.self (member_tree c.in_ok-member.member) (list_at member_at c.expect.new.self) member_shrinks (search rules) c.in_ok-member.ensures.reads c.loop-members.invariant.read);
-      few = omega (arith, ap length pushed, count, c.loop-members.invariant.few, c.in_ok-member.ensures.moves, c.in_ok-takes.ensures.moves);
+      read = rw views (list_goes_on member_at (map member_tree c.loop-members.members) c.loop-members.self c.takes.new.self c.member.new.self (member_tree c.in_ok-member.member) (list_at member_at c.expect.new.self) member_shrinks (search rules) c.in_ok-member.ensures c.loop-members.invariant.read);
+      few = omega (arith, ap length pushed, count, c.loop-members.invariant.few, member_shrinks c.takes.new.self (member_tree c.in_ok-member.member) c.member.new.self c.in_ok-member.ensures, c.in_ok-takes.ensures.moves);
     }
 
-pub members-returns-clause-reads : goal.members-returns-clause-reads
-members-returns-clause-reads t c =
+pub members-loop-members-smaller : goal.members-loop-members-smaller
+members-loop-members-smaller t c = omega (arith, member_shrinks c.takes.new.self (member_tree c.in_ok-member.member) c.member.new.self c.in_ok-member.ensures, c.in_ok-takes.ensures.moves)
+
+pub members-returns : goal.members-returns
+members-returns t c =
     braced_ends member_at member_shrinks c.args.self.now c.expect.new.self c.loop-members.self c.takes.new.self (map member_tree c.loop-members.members) c.in_ok-expect.ensures.reads c.loop-members.invariant.read (search rules)
 
-pub fixed-returns-in_ok-content-in-Element-clause-reads : goal.fixed-returns-in_ok-content-in-Element-clause-reads
-fixed-returns-in_ok-content-in-Element-clause-reads t c =
-    element_read c.args.self.now c.skip.new.self c.width.new.self c.content.new.self c.in_ok-width-in-Element.width c.in_ok-content-in-Element.content _ (element_tree c.in_ok-width-in-Element.width c.in_ok-content-in-Element.content) (search rules) c.in_ok-width-in-Element.ensures.reads c.in_ok-content-in-Element.ensures.reads
+pub fixed-returns-in_ok-content-in-Element : goal.fixed-returns-in_ok-content-in-Element
+fixed-returns-in_ok-content-in-Element t c =
+    element_read c.args.self.now c.skip.new.self c.width.new.self c.content.new.self c.in_ok-width-in-Element.width c.in_ok-content-in-Element.content _ (element_tree c.in_ok-width-in-Element.width c.in_ok-content-in-Element.content) (search rules) c.in_ok-width-in-Element.ensures c.in_ok-content-in-Element.ensures
 
-pub fixed-returns-in-Group-clause-reads : goal.fixed-returns-in-Group-clause-reads
-fixed-returns-in-Group-clause-reads t c = group_gives c.args.self.now c.skip-in-Group.new.self c.members.new.self c.members.result c.map.result (search rules) c.members.ensures.reads c.map.ensures.cases
+pub fixed-returns-in-Group : goal.fixed-returns-in-Group
+fixed-returns-in-Group t c = group_gives c.args.self.now c.skip-in-Group.new.self c.members.new.self c.members.result c.map.result (search rules) c.members.ensures c.map.ensures.cases

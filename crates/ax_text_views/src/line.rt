@@ -76,8 +76,7 @@ impl Line {
         ensures { OnOk result (Puts after_spaces (one_onto text.now) self.old self.new) }
     {
         self.more(b" ")?;
-        self.more(text)?;
-        Ok(())
+        self.more(text)
     }
 
     /// A token of one octet.
@@ -145,8 +144,8 @@ impl Line {
     pub(crate) fn hex(&mut self, octets: &[u8]) -> Result<(), AllocError>
         ensures { OnOk result (Puts after_spaces (one_onto (hex_text octets.now)) self.old self.new) }
     {
-        let digits = hex::encode(self.alloc, octets)?;
         self.more(b" \"")?;
+        let digits = hex::encode(self.alloc, octets)?;
         self.more(digits.as_bytes())?;
         self.more(b"\"")?;
         Ok(())

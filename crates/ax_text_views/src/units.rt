@@ -51,8 +51,7 @@ fn print_part(line: &mut Line, part: &Part, body: &[u8], at: &mut u32) -> Result
     line.text(b"part")?;
     line.open()?;
     print_members(line, &part.members, body, at)?;
-    line.close()?;
-    Ok(())
+    line.close()
 }
 
 /// Prints the parts that are present, in braces. Ok is the octet after them.

@@ -52,8 +52,6 @@ each_next k old now new whole all i v h lt e a =
 pub each_ended : (k : KindTree) (old now : Out) (whole : List ℕ) (all : List Value) (i : ℕ) → EachLeft k old now whole (drop i all) → length all ≤ i → Appends old now whole
 each_ended k old now whole all i h past = written_all old now whole (each_canon (canon k) (values_tree (drop i all))) h.written (ap (λ vs. each_canon (canon k) (values_tree vs)) (drop_all i all past))
 
-pub ruleset each = (each_first, each_shape, each_room, each_next, each_ended)
-
 -- ---- counts and contents
 
 pub count_of : (vs : List Value) → value_count (values_tree vs) ≡ length vs
@@ -86,8 +84,6 @@ left_next ss old now new whole all i e h lt is a = entries_next ss old now new w
 
 pub left_ended : (ss : SlotsTree) (old now : Out) (whole : List ℕ) (all : List Entry) (i : ℕ) → EntriesLeft ss old now whole (drop i all) → length all ≤ i → Appends old now whole
 left_ended ss old now whole all i h past = entries_ended ss old now whole (drop i all) h (drop_all i all past)
-
-pub ruleset entries = (left_first, left_shape, left_room, left_next, left_ended)
 
 -- ---- their marks, under whatever slots they are entries of
 

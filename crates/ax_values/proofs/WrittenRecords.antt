@@ -85,8 +85,6 @@ records_next spec old now new whole all i r h lt e a =
 pub records_ended : (spec : SpecTree) (old now : Out) (whole : List ℕ) (all : List Record) (i : ℕ) → RecordsLeft spec old now whole (drop i all) → length all ≤ i → Appends old now whole
 records_ended spec old now whole all i h past = written_all old now whole (CanonBody spec (records_tree (drop i all))) h.written (ap (λ rs. CanonBody spec (records_tree rs)) (drop_all i all past))
 
-pub ruleset records = (records_first, record_shape, record_room, records_next, records_ended, record_entries)
-
 -- ---- the bits of a block
 
 records_whole : (spec : SpecTree) (rs : List EntriesTree) (b : List ℕ) → Whole (record_kind spec) → RecordsSpell spec rs b → length b % 8 ≡ 0

@@ -49,7 +49,6 @@ fn write_counted(values: &Values, inner: &Kind, out: &mut Out<'_>)
 
 /// Appends values of one kind, in order.
 #[cycle(write_value)]
-#[tactic(auto, using(crate::proofs::WrittenKinds::each))]
 fn write_each(values: &Values, kind: &Kind, out: &mut Out<'_>)
     requires bounds { InBounds (kind_tree kind.now) }
     requires shape { EachShape (Shape (kind_tree kind.now)) (values_tree values.now) }
@@ -83,7 +82,6 @@ fn write_compound(entries: &Entries, slots: &Slots, out: &mut Out<'_>)
 }
 
 #[cycle(write_value)]
-#[tactic(auto, using(crate::proofs::WrittenKinds::entries))]
 fn write_entries(entries: &Entries, slots: &Slots, out: &mut Out<'_>)
     requires entries { AreEntriesOf (slots_tree slots.now) (entries_tree entries.now) }
     requires room { length (entries_canon 1 (slots_tree slots.now) (entries_tree entries.now)) ≤ room out.old }

@@ -18,7 +18,6 @@ use ax_model::{Entries, Entry, Record, Records};
 use ax_uap::UapItems;
 
 /// Appends the canonical spellings of records, in order.
-#[tactic(auto, using(crate::proofs::WrittenRecords::records))]
 pub(crate) fn write_body(records: &Records, items: &UapItems<'_>, out: &mut Out<'_>)
     requires spec { NoFlaw (spec_tree items.now.spec.now) }
     requires shape { AllByRecursion (RecordShape (spec_tree items.now.spec.now)) (records_tree records.now) }
@@ -40,7 +39,6 @@ fn write_record(one: &Record, items: &UapItems<'_>, out: &mut Out<'_>)
     write_items(&one.entries, items, out);
 }
 
-#[tactic(auto, using(crate::proofs::WrittenKinds::entries))]
 fn write_items(entries: &Entries, items: &UapItems<'_>, out: &mut Out<'_>)
     requires entries { AreEntriesOf (record_slots (spec_tree items.now.spec.now)) (entries_tree entries.now) }
     requires room { length (entries_canon 1 (record_slots (spec_tree items.now.spec.now)) (entries_tree entries.now)) ≤ room out.old }

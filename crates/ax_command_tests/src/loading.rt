@@ -49,12 +49,12 @@ fn library(rt: &impl Abort, alloc: Global) -> MemLibrary {
     MemLibrary::new(files, Vec::new(alloc))
 }
 
-fn names(rt: &impl Abort, alloc: Global, each: [&str; 2]) -> Vec<WordText> {
+fn names(rt: &impl Abort, alloc: Global, first: &str, second: &str) -> Vec<WordText> {
+    let first = WordText::of(alloc, first).expect(rt, "memory");
+    let second = WordText::of(alloc, second).expect(rt, "memory");
     let mut made = Vec::new(alloc);
-    for name in each {
-        let name = WordText::of(alloc, name).expect(rt, "memory");
-        made.push(name).expect(rt, "memory");
-    }
+    made.push(first).expect(rt, "memory");
+    made.push(second).expect(rt, "memory");
     made
 }
 
@@ -109,7 +109,7 @@ fn loaded(
 /// Asserts what becomes of loading two files.
 fn load_as(rt: &impl Abort, alloc: Global, (first, second): (&str, &str), want: &str, number: u32) {
     let mut library = library(rt, alloc);
-    let names = names(rt, alloc, [first, second]);
+    let names = names(rt, alloc, first, second);
     let got = loaded(rt, alloc, &mut library, names.as_slice());
     assert_eq!(rt; got, (want, number), "of {first} and {second}");
 }

@@ -1,5 +1,6 @@
-//! Tests of what is read: inputs block by block or line by line, however their sources cut them and fail, and a line command over
-//! them; texts as tokens and as category files; and the words of a command line. The crate has nothing else.
+//! Tests of what is read: sources, sinks and libraries of files, in memory and over real files; inputs block by block or line by
+//! line, however their sources cut them and fail, and a line command over them; texts as tokens and as category files; and the
+//! words of a command line. The crate has nothing else.
 #![tactic(auto)]
 
 #[cfg(test)]
@@ -11,10 +12,24 @@ mod checks;
 #[cfg(test)]
 mod command_lines;
 #[cfg(test)]
+mod folder_library;
+#[cfg(test)]
 mod lexing;
 #[cfg(test)]
 mod line_runs;
 #[cfg(test)]
 mod lines;
 #[cfg(test)]
+mod memory_library;
+#[cfg(test)]
+mod memory_sink;
+#[cfg(test)]
+mod memory_source;
+#[cfg(test)]
 mod outside;
+#[cfg(test)]
+mod read_source;
+#[cfg(test)]
+mod whole;
+#[cfg(test)]
+mod write_sink;

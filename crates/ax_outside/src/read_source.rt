@@ -26,6 +26,20 @@ impl<R: Read> ReadSource<R> {
             taken: 0,
         }
     }
+
+    /// How many reads failed; 2^64 - 1 where more did.
+    pub fn faults(&self) -> u64
+        ensures { result ≡ self.now.faults }
+    {
+        self.faults
+    }
+
+    /// How many octets were taken.
+    pub fn taken(&self) -> u64
+        ensures { result ≡ self.now.taken }
+    {
+        self.taken
+    }
 }
 
 impl<R: Read> Source for ReadSource<R> {
@@ -54,56 +68,5 @@ impl<R: Read> Source for ReadSource<R> {
         }
         self.faults = self.faults.saturating_add(1);
         Err(SourceFailed)
-    }
-}
-
-#[cfg(test)]
-mod tests {
-    use super::*;
-    use crate::checks::{counts, holds, tells};
-    use std::fs;
-    use std::process::Abort;
-    use std::rt::Files;
-
-    // A real file of five octets.
-    fn file<R: Files + Abort>(rt: &R) -> R::File {
-        fs::write(rt, "input", "abcde").expect(rt, "a file");
-        fs::open(rt, "input").expect(rt, "a file")
-    }
-
-    // What each read answers, and what stands in the buffer then.
-    const READS: [(usize, &str); 3] = [(3, "abc"), (2, "dec"), (0, "dec")];
-
-    fn answers<R: Read>(
-        rt: &impl Abort,
-        source: &mut ReadSource<R>,
-        part: &mut [u8; 3],
-        count: usize,
-        octets: &str,
-    ) {
-        counts(rt, source.read(part).ok(), Some(count), octets);
-        holds(rt, part, octets.as_bytes(), octets);
-    }
-
-    // A real file is read to its end in pieces.
-    #[test]
-    fn a_file_is_read_to_its_end(rt: HostRuntime) {
-        let mut source = ReadSource::new(file(&rt));
-        let mut part = [0u8; 3];
-        for &(count, octets) in &READS {
-            answers(&rt, &mut source, &mut part, count, octets);
-        }
-        tells(&rt, source.taken, 5, "octets taken");
-        tells(&rt, source.faults, 0, "faults");
-    }
-
-    // A folder in the place of a file is a counted fault.
-    #[test]
-    fn a_folder_is_a_fault(rt: HostRuntime) {
-        let opened = fs::open(&rt, ".").expect(&rt, "a folder");
-        let mut folder = ReadSource::new(opened);
-        counts(&rt, folder.read(&mut [0u8; 3]).ok(), None, "a folder");
-        tells(&rt, folder.taken, 0, "octets taken");
-        tells(&rt, folder.faults, 1, "faults");
     }
 }

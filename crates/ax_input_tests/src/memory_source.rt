@@ -1,0 +1,44 @@
+//! A source in memory, whose reads are cut and fail by their numbers.
+
+use crate::checks::{counts, holds, tells};
+use ax_outside::{MemSource, Source};
+use std::alloc::Global;
+use std::process::Abort;
+
+// Six octets under the cuts 2, 9, 0, call 1 failing.
+fn source(rt: &impl Abort, alloc: Global) -> MemSource {
+    let octets = b"abcdef".to_vec(alloc).expect(rt, "memory");
+    let cuts = vec![in alloc; 2, 9, 0].expect(rt, "memory");
+    let failing = vec![in alloc; 1].expect(rt, "memory");
+    MemSource::new(octets, cuts, failing)
+}
+
+// Each call's answer, with the front of the buffer.
+const READS: [(Option<usize>, &str); 5] = [
+    (Some(2), "ab"),
+    (None, "ab"),
+    (Some(1), "cb"),
+    (Some(3), "de"),
+    (Some(0), "de"),
+];
+
+fn answers(
+    rt: &impl Abort,
+    source: &mut MemSource,
+    part: &mut [u8; 4],
+    wanted: Option<usize>,
+    front: &str,
+) {
+    counts(rt, source.read(part).ok(), wanted, front);
+    holds(rt, &part[..2], front.as_bytes(), front);
+}
+
+#[test]
+fn calls_are_cut_and_fail_by_number(rt: HostRuntime) {
+    let mut source = source(&rt, rt.alloc());
+    let mut part = [0u8; 4];
+    for &(wanted, front) in &READS {
+        answers(&rt, &mut source, &mut part, wanted, front);
+    }
+    tells(&rt, source.faults(), 1, "faults");
+}

@@ -2,6 +2,7 @@ pub mod Causing
 pub mod Checks
 pub mod Editions
 pub mod Ends
+pub mod Falling
 pub mod Filters
 pub mod Memory
 pub mod Once

@@ -13,8 +13,13 @@ pub some_file : (count : ℕ) (catalogue : List Spec) → IsReadyToTry count (ca
 some_file count [] ready = let e : [] ≡ ready.spec ∷ [] = ready.one in absurd (cc)
 some_file count (s ∷ more) ready = omega arith
 
-pub trial_ends : (catalogue : List Spec) (one : Spec) (seed count : ℕ) (o : SinkChange) (outcome : Outcome) (line : List ℕ) → slice_get catalogue 0 ≡ Some one → IsTrial (spec_tree one) seed count line → TextEnds count line o outcome
-    → (spec : SpecTree) → catalogue_tree catalogue ≡ spec ∷ [] → EndsTrial spec seed count o outcome
-trial_ends catalogue one seed count o outcome line f is ends spec e = record { line = line; trial = subst (λ s. IsTrial s seed count line) (at_first catalogue one spec e f) is; ends = ends }
+-- what was written of the one specification
+pub trial_ends : (catalogue : List Spec) (one : Spec) (seed count blocks : ℕ) (o : SinkChange) (outcome : Outcome) (line text : List ℕ) → slice_get catalogue 0 ≡ Some one → IsTrial (spec_tree one) seed count line → text ≡ line → blocks ≡ count
+    → TextEnds blocks text o outcome → (spec : SpecTree) → catalogue_tree catalogue ≡ spec ∷ [] → EndsTrial spec seed count o outcome
+trial_ends catalogue one seed count blocks o outcome line text f is same all ends spec e = record {
+  line = line;
+  trial = subst (λ s. IsTrial s seed count line) (at_first catalogue one spec e f) is;
+  ends = subst (λ n. TextEnds n line o outcome) all (subst (λ t. TextEnds blocks t o outcome) same ends);
+}
 
-pub ruleset trials = (some_file, trial_ends)
+pub ruleset trials = (some_file)

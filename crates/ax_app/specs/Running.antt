@@ -67,6 +67,12 @@ pub record Causes (i : SourceChange) (o r : SinkChange) (outcome : Outcome) : Ty
   pub report : outcome ≡ ReportFault → Rose r.faults r.faults'
   pub too_long : outcome ≡ InputTooLong → i.taken + longest_input < i.taken'
 
+-- no count of faults of the source or of a sink fell
+pub record NoFaultFell (i : SourceChange) (o r : SinkChange) : Type 0 where
+  pub source : i.faults ≤ i.faults'
+  pub out : o.faults ≤ o.faults'
+  pub report : r.faults ≤ r.faults'
+
 -- no count of faults fell, and no number of octets loaded
 pub record NoCountFell (c : LibraryCounts) (i : SourceChange) (o r : SinkChange) : Type 0 where
   pub library : c.faults ≤ c.faults'

@@ -1,22 +1,46 @@
 //! The top call.
-ghost use Rattle.std.specs.Prelude.{◌≡◌, ℕ, ◌≤◌, ◌⊎◌, List, [], Some, map};
+ghost use Rattle.std.specs.Prelude.{◌≡◌, ℕ, ◌≤◌, ◌⊎◌, List, [], Option, Some, map};
 ghost use Rattle.std.specs.String.{string_bytes};
 ghost use Rattle.ax_bits.specs.Bits.{AreOctets};
 ghost use Rattle.ax_command.specs.Lines.{lines_of};
-ghost use Rattle.ax_outside.specs.Changes.{library_counts, source_change, sink_change, IsUntouched, GainsNothing};
+ghost use Rattle.ax_outside.specs.Changes.{LibraryCounts, library_counts, source_change, sink_change, IsUntouched, GainsNothing};
+ghost use Rattle.ax_load.specs.Loading.{FilesGive};
 ghost use Rattle.ax_outside.specs.Files.{File};
 ghost use Rattle.ax_words.specs.Words.{IsInBounds, HasShape, HasNoShape};
 ghost use Rattle.ax_app.specs.Completing.{NoFaultCounted, HasWhole, IsDoneWith};
 ghost use Rattle.ax_app.specs.Headline.{Headline};
-ghost use Rattle.ax_app.specs.Jobs.{Job, ReadsInput};
-ghost use Rattle.ax_app.specs.Running.{Runs, Does, Causes, Ended, NoCountFell, WantsFirst, AsksForMemory, IsOfItsCommand};
+ghost use Rattle.ax_app.specs.Jobs.{Job, IsReady, ReadsInput, files_of, takes_distinct};
+ghost use Rattle.ax_app.specs.Loaded.{specs_of, IsLoadedFor};
+ghost use Rattle.ax_app.specs.Running.{Runs, Does, Causes, Ended, NoCountFell, NoFaultFell, WantsFirst, AsksForMemory, IsOfItsCommand};
 
 use crate::jobs::do_job;
-use crate::loading::load;
+use crate::loading::{Loaded, load};
 use ax_command::{Outcome, write_lines};
 use ax_outside::{Library, Sink, Source};
 use ax_words::{Line, WordsError, read_words};
 use std::alloc::Global;
+
+/// Does what a line says over what its files were loaded into.
+fn obey_loaded<S: Source, K: Sink, R: Sink>(
+    alloc: Global,
+    line: &Line,
+    loaded: &Loaded,
+    source: &mut S,
+    out: &mut K,
+    report: &mut R,
+) -> Outcome
+    requires ready { IsReady line.now (specs_of loaded.now) }
+    requires loaded { IsLoadedFor (takes_distinct line.now) loaded.now }
+    ensures runs { (words : List (List ℕ)) (files : Option (List File)) (c : LibraryCounts) → HasShape words line.now → FilesGive (takes_distinct line.now) files (files_of line.now) (specs_of loaded.now)
+        → Runs words files c (source_change S.Source source.old source.new) (sink_change K.Sink out.old out.new) (sink_change R.Sink report.old report.new) result }
+    ensures first { WantsFirst line.now (source_change S.Source source.old source.new) (sink_change K.Sink out.old out.new) result }
+    ensures later { NoFaultFell (source_change S.Source source.old source.new) (sink_change K.Sink out.old out.new) (sink_change R.Sink report.old report.new) }
+{
+    match do_job(alloc, line, loaded, source, out, report) {
+        Ok(outcome) => outcome,
+        Err(stop) => Outcome::from(stop),
+    }
+}
 
 /// Does what a line says: first its files, then its job.
 fn obey_line<L: Library, S: Source, K: Sink, R: Sink>(
@@ -35,10 +59,7 @@ fn obey_line<L: Library, S: Source, K: Sink, R: Sink>(
     ensures later { NoCountFell (library_counts L.Library library.old library.new) (source_change S.Source source.old source.new) (sink_change K.Sink out.old out.new) (sink_change R.Sink report.old report.new) }
 {
     match load(alloc, library, line) {
-        Ok(loaded) => match do_job(alloc, line, &loaded, source, out, report) {
-            Ok(outcome) => outcome,
-            Err(stop) => Outcome::from(stop),
-        },
+        Ok(loaded) => obey_loaded(alloc, line, &loaded, source, out, report),
         Err(stop) => Outcome::from(stop),
     }
 }

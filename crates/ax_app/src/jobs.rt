@@ -15,7 +15,7 @@ ghost use Rattle.ax_stream.specs.Streams.{IsIdle};
 ghost use Rattle.ax_words.specs.declared.line.Line.TheVariants.{Canon, Show, Text, Filter, Migrate};
 ghost use Rattle.ax_app.specs.Jobs.{BlocksRun, IsReady, IsReadyToCheck, IsReadyToTry, EndsTrial, IsStopped, RunsJob, TextEnds, check_text, takes_distinct};
 ghost use Rattle.ax_app.specs.Loaded.{specs_of, IsLoadedFor};
-ghost use Rattle.ax_app.specs.Running.{WasIdle, WantsFirst};
+ghost use Rattle.ax_app.specs.Running.{NoFaultFell, WasIdle, WantsFirst};
 
 use crate::loading::Loaded;
 use ax_build_work::build_lines;
@@ -113,7 +113,7 @@ fn trial<K: Sink>(
 const LONGEST_INPUT: u64 = 1 << 40;
 
 /// Does a job on each block of the input. All memory is taken before the input is read.
-#[tactic(auto, using(crate::proofs::Memory::firsts))]
+#[tactic(auto, using(crate::proofs::Memory::firsts, crate::proofs::Falling::falls))]
 fn drive_job<S: Source, K: Sink, R: Sink>(
     alloc: Global,
     job: Job<'_, '_>,
@@ -126,9 +126,7 @@ fn drive_job<S: Source, K: Sink, R: Sink>(
     ensures memory { IfErr result (λ stop. stop ≡ OutOfMemory) }
     ensures first { IfOk result (WasIdle (source_change S.Source source.old source.new) (sink_change K.Sink out.old out.new)) }
     ensures idle { OnErr result (IsIdle (source_change S.Source source.old source.new) (sink_change K.Sink out.old out.new) (sink_change R.Sink report.old report.new)) }
-    ensures source_later { S.faults source.old ≤ S.faults source.new }
-    ensures out_later { K.faults out.old ≤ K.faults out.new }
-    ensures report_later { R.faults report.old ≤ R.faults report.new }
+    ensures later { NoFaultFell (source_change S.Source source.old source.new) (sink_change K.Sink out.old out.new) (sink_change R.Sink report.old report.new) }
 {
     let Ok(mut work) = Work::new(alloc, job, LONGEST_INPUT) else {
         return Err(JobStop::OutOfMemory);
@@ -138,6 +136,7 @@ fn drive_job<S: Source, K: Sink, R: Sink>(
 }
 
 /// `canon`: the canonical form of each block. All memory is taken before the input is read.
+#[tactic(auto, using(crate::proofs::Falling::falls))]
 fn canon<S: Source, K: Sink, R: Sink>(
     alloc: Global,
     catalogue: &Catalogue,
@@ -149,9 +148,7 @@ fn canon<S: Source, K: Sink, R: Sink>(
     ensures memory { IfErr result (λ stop. stop ≡ OutOfMemory) }
     ensures first { IfOk result (WasIdle (source_change S.Source source.old source.new) (sink_change K.Sink out.old out.new)) }
     ensures idle { OnErr result (IsIdle (source_change S.Source source.old source.new) (sink_change K.Sink out.old out.new) (sink_change R.Sink report.old report.new)) }
-    ensures source_later { S.faults source.old ≤ S.faults source.new }
-    ensures out_later { K.faults out.old ≤ K.faults out.new }
-    ensures report_later { R.faults report.old ≤ R.faults report.new }
+    ensures later { NoFaultFell (source_change S.Source source.old source.new) (sink_change K.Sink out.old out.new) (sink_change R.Sink report.old report.new) }
 {
     let Ok(codecs) = Codecs::compile(alloc, catalogue) else {
         return Err(JobStop::OutOfMemory);
@@ -160,6 +157,7 @@ fn canon<S: Source, K: Sink, R: Sink>(
 }
 
 /// `show`: the listing of each block.
+#[tactic(auto, using(crate::proofs::Falling::falls))]
 fn show<S: Source, K: Sink, R: Sink>(
     alloc: Global,
     catalogue: &Catalogue,
@@ -170,9 +168,7 @@ fn show<S: Source, K: Sink, R: Sink>(
     ensures runs { (files : List (List ℕ)) → IfOk result (RunsJob (Show files) (catalogue_tree catalogue.now) (source_change S.Source source.old source.new) (sink_change K.Sink out.old out.new) (sink_change R.Sink report.old report.new)) }
     ensures memory { IfErr result (λ stop. stop ≡ OutOfMemory) }
     ensures idle { OnErr result (IsIdle (source_change S.Source source.old source.new) (sink_change K.Sink out.old out.new) (sink_change R.Sink report.old report.new)) }
-    ensures source_later { S.faults source.old ≤ S.faults source.new }
-    ensures out_later { K.faults out.old ≤ K.faults out.new }
-    ensures report_later { R.faults report.old ≤ R.faults report.new }
+    ensures later { NoFaultFell (source_change S.Source source.old source.new) (sink_change K.Sink out.old out.new) (sink_change R.Sink report.old report.new) }
 {
     let Ok(codecs) = Codecs::compile(alloc, catalogue) else {
         return Err(JobStop::OutOfMemory);
@@ -184,6 +180,7 @@ fn show<S: Source, K: Sink, R: Sink>(
 }
 
 /// `text`: the line of each block.
+#[tactic(auto, using(crate::proofs::Falling::falls))]
 fn text_blocks<S: Source, K: Sink, R: Sink>(
     alloc: Global,
     catalogue: &Catalogue,
@@ -194,9 +191,7 @@ fn text_blocks<S: Source, K: Sink, R: Sink>(
     ensures runs { (files : List (List ℕ)) → IfOk result (RunsJob (Text files) (catalogue_tree catalogue.now) (source_change S.Source source.old source.new) (sink_change K.Sink out.old out.new) (sink_change R.Sink report.old report.new)) }
     ensures memory { IfErr result (λ stop. stop ≡ OutOfMemory) }
     ensures idle { OnErr result (IsIdle (source_change S.Source source.old source.new) (sink_change K.Sink out.old out.new) (sink_change R.Sink report.old report.new)) }
-    ensures source_later { S.faults source.old ≤ S.faults source.new }
-    ensures out_later { K.faults out.old ≤ K.faults out.new }
-    ensures report_later { R.faults report.old ≤ R.faults report.new }
+    ensures later { NoFaultFell (source_change S.Source source.old source.new) (sink_change K.Sink out.old out.new) (sink_change R.Sink report.old report.new) }
 {
     let Ok(mut work) = TextViews::new(alloc, catalogue) else {
         return Err(JobStop::OutOfMemory);
@@ -205,6 +200,7 @@ fn text_blocks<S: Source, K: Sink, R: Sink>(
 }
 
 /// The records of each block that a filter over the catalogue holds of. All memory is taken before the input is read.
+#[tactic(auto, using(crate::proofs::Falling::falls))]
 fn filter_blocks<S: Source, K: Sink, R: Sink>(
     alloc: Global,
     filter: &ax_filter::Filter<'_>,
@@ -218,9 +214,7 @@ fn filter_blocks<S: Source, K: Sink, R: Sink>(
     ensures memory { IfErr result (λ stop. stop ≡ OutOfMemory) }
     ensures first { IfOk result (WasIdle (source_change S.Source source.old source.new) (sink_change K.Sink out.old out.new)) }
     ensures idle { OnErr result (IsIdle (source_change S.Source source.old source.new) (sink_change K.Sink out.old out.new) (sink_change R.Sink report.old report.new)) }
-    ensures source_later { S.faults source.old ≤ S.faults source.new }
-    ensures out_later { K.faults out.old ≤ K.faults out.new }
-    ensures report_later { R.faults report.old ≤ R.faults report.new }
+    ensures later { NoFaultFell (source_change S.Source source.old source.new) (sink_change K.Sink out.old out.new) (sink_change R.Sink report.old report.new) }
 {
     let Ok(codecs) = Codecs::compile(alloc, catalogue) else {
         return Err(JobStop::OutOfMemory);
@@ -229,7 +223,7 @@ fn filter_blocks<S: Source, K: Sink, R: Sink>(
 }
 
 /// `filter`: the records of each block that the expression holds of, or the refusal of the expression.
-#[tactic(auto, using(crate::proofs::Filters::filter_jobs))]
+#[tactic(auto, using(crate::proofs::Filters::filter_jobs, crate::proofs::Falling::falls))]
 fn filter<S: Source, K: Sink, R: Sink>(
     alloc: Global,
     text: &str,
@@ -243,9 +237,7 @@ fn filter<S: Source, K: Sink, R: Sink>(
     ensures stopped { (files : List (List ℕ)) → IfErr result (IsStopped (Filter text.now files) (catalogue_tree catalogue.now)) }
     ensures first { IfOk result (WasIdle (source_change S.Source source.old source.new) (sink_change K.Sink out.old out.new)) }
     ensures idle { OnErr result (IsIdle (source_change S.Source source.old source.new) (sink_change K.Sink out.old out.new) (sink_change R.Sink report.old report.new)) }
-    ensures source_later { S.faults source.old ≤ S.faults source.new }
-    ensures out_later { K.faults out.old ≤ K.faults out.new }
-    ensures report_later { R.faults report.old ≤ R.faults report.new }
+    ensures later { NoFaultFell (source_change S.Source source.old source.new) (sink_change K.Sink out.old out.new) (sink_change R.Sink report.old report.new) }
 {
     match read_expression(alloc, text.as_bytes(), catalogue) {
         Ok(filter) => filter_blocks(alloc, &filter, catalogue, source, out, report),
@@ -255,6 +247,7 @@ fn filter<S: Source, K: Sink, R: Sink>(
 }
 
 /// Each block of the old edition in the new one, by the relation of the two. All memory is taken before the input is read.
+#[tactic(auto, using(crate::proofs::Falling::falls))]
 fn migrate_blocks<'x, S: Source, K: Sink, R: Sink>(
     alloc: Global,
     relation: &'x Relation,
@@ -269,9 +262,7 @@ fn migrate_blocks<'x, S: Source, K: Sink, R: Sink>(
     ensures memory { IfErr result (λ stop. stop ≡ OutOfMemory) }
     ensures first { IfOk result (WasIdle (source_change S.Source source.old source.new) (sink_change K.Sink out.old out.new)) }
     ensures idle { OnErr result (IsIdle (source_change S.Source source.old source.new) (sink_change K.Sink out.old out.new) (sink_change R.Sink report.old report.new)) }
-    ensures source_later { S.faults source.old ≤ S.faults source.new }
-    ensures out_later { K.faults out.old ≤ K.faults out.new }
-    ensures report_later { R.faults report.old ≤ R.faults report.new }
+    ensures later { NoFaultFell (source_change S.Source source.old source.new) (sink_change K.Sink out.old out.new) (sink_change R.Sink report.old report.new) }
 {
     let Ok(codec) = compile(alloc, old) else {
         return Err(JobStop::OutOfMemory);
@@ -283,7 +274,7 @@ fn migrate_blocks<'x, S: Source, K: Sink, R: Sink>(
 }
 
 /// `migrate`: each block of the old edition in the new one, or the refusal of two categories.
-#[tactic(auto, using(crate::proofs::Editions::migrate_jobs))]
+#[tactic(auto, using(crate::proofs::Editions::migrate_jobs, crate::proofs::Falling::falls))]
 fn migrate<S: Source, K: Sink, R: Sink>(
     alloc: Global,
     old: &Accepted,
@@ -296,9 +287,7 @@ fn migrate<S: Source, K: Sink, R: Sink>(
     ensures stopped { (names : List ℕ × List ℕ) → IfErr result (IsStopped (Migrate names.0 names.1) (spec_tree old.now ∷ spec_tree new.now ∷ [])) }
     ensures first { IfOk result (WasIdle (source_change S.Source source.old source.new) (sink_change K.Sink out.old out.new)) }
     ensures idle { OnErr result (IsIdle (source_change S.Source source.old source.new) (sink_change K.Sink out.old out.new) (sink_change R.Sink report.old report.new)) }
-    ensures source_later { S.faults source.old ≤ S.faults source.new }
-    ensures out_later { K.faults out.old ≤ K.faults out.new }
-    ensures report_later { R.faults report.old ≤ R.faults report.new }
+    ensures later { NoFaultFell (source_change S.Source source.old source.new) (sink_change K.Sink out.old out.new) (sink_change R.Sink report.old report.new) }
 {
     match relate(alloc, old, new) {
         Ok(relation) => migrate_blocks(alloc, &relation, old, new, source, out, report),
@@ -310,6 +299,7 @@ fn migrate<S: Source, K: Sink, R: Sink>(
 }
 
 /// Does what a command over a catalogue says.
+#[tactic(auto, using(crate::proofs::Falling::falls))]
 fn over_catalogue<S: Source, K: Sink, R: Sink>(
     alloc: Global,
     line: &Line,
@@ -324,9 +314,7 @@ fn over_catalogue<S: Source, K: Sink, R: Sink>(
     ensures stopped { IfErr result (IsStopped line.now (catalogue_tree catalogue.now)) }
     ensures first { IfOk result (WantsFirst line.now (source_change S.Source source.old source.new) (sink_change K.Sink out.old out.new)) }
     ensures idle { OnErr result (IsIdle (source_change S.Source source.old source.new) (sink_change K.Sink out.old out.new) (sink_change R.Sink report.old report.new)) }
-    ensures source_later { S.faults source.old ≤ S.faults source.new }
-    ensures out_later { K.faults out.old ≤ K.faults out.new }
-    ensures report_later { R.faults report.old ≤ R.faults report.new }
+    ensures later { NoFaultFell (source_change S.Source source.old source.new) (sink_change K.Sink out.old out.new) (sink_change R.Sink report.old report.new) }
 {
     match line {
         Line::Check { .. } => Ok(check(alloc, catalogue, out)),
@@ -357,9 +345,7 @@ pub fn do_job<S: Source, K: Sink, R: Sink>(
     ensures stopped { IfErr result (IsStopped line.now (specs_of loaded.now)) }
     ensures first { IfOk result (WantsFirst line.now (source_change S.Source source.old source.new) (sink_change K.Sink out.old out.new)) }
     ensures idle { OnErr result (IsIdle (source_change S.Source source.old source.new) (sink_change K.Sink out.old out.new) (sink_change R.Sink report.old report.new)) }
-    ensures source_later { S.faults source.old ≤ S.faults source.new }
-    ensures out_later { K.faults out.old ≤ K.faults out.new }
-    ensures report_later { R.faults report.old ≤ R.faults report.new }
+    ensures later { NoFaultFell (source_change S.Source source.old source.new) (sink_change K.Sink out.old out.new) (sink_change R.Sink report.old report.new) }
 {
     match loaded {
         Loaded::Catalogue(catalogue) => {

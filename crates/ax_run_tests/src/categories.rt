@@ -70,7 +70,7 @@ const INPUT: &str = "30 00 04 00 22 00 04 00 FF 00 04 00 30 00 04 00";
 
 // Which write of the output and of the report fails, if any, a call taking two octets; and how the run ends, what stands on both,
 // and how many octets aren't read.
-const ROWS: [(Option<u64>, Option<u64>, StreamEnd, &[u8], &[u8], usize); 10] = [
+static ROWS: [(Option<u64>, Option<u64>, StreamEnd, &[u8], &[u8], usize); 10] = [
     (None, None, LONG, b"+++.+++.", b"048\n034\n", 4),
     (Some(0), None, StreamEnd::WriteFault, b"", b"048\n", 12),
     (Some(1), None, StreamEnd::WriteFault, b"++", b"048\n", 12),

@@ -275,6 +275,31 @@ fn world_of(rt: &impl Abort, alloc: Global, outside: Outside, input: &[u8]) -> W
     }
 }
 
+/// The exit status of the words, run in a world.
+fn status_of(alloc: Global, words: &Vec<String>, world: &mut World) -> u8 {
+    let outcome = run(
+        alloc,
+        words,
+        &mut world.library,
+        &mut world.source,
+        &mut world.out,
+        &mut world.report,
+    );
+    outcome.status()
+}
+
+/// Asserts that a run of the words over this input left what is wanted.
+fn is_left(
+    rt: &impl Abort,
+    words: &Vec<String>,
+    input: &[u8],
+    outside: Outside,
+    got: Left<'_>,
+    want: Left<'_>,
+) {
+    assert_eq!(rt; got, want, "of {words:?} over {input:?} where {outside:?}");
+}
+
 /// Runs the words in a world with this input, and asserts that the run leaves what is wanted.
 fn world_leaves(
     rt: &impl Abort,
@@ -285,21 +310,15 @@ fn world_leaves(
     world: &mut World,
     want: Left<'_>,
 ) {
-    let outcome = run(
-        alloc,
-        words,
-        &mut world.library,
-        &mut world.source,
-        &mut world.out,
-        &mut world.report,
-    );
+    let status = status_of(alloc, words, world);
+    let left = left_of(rt, alloc, &mut world.source);
     let got = Left {
-        status: outcome.status(),
+        status,
         out: world.out.written(),
         report: world.report.written(),
-        left: left_of(rt, alloc, &mut world.source),
+        left,
     };
-    assert_eq!(rt; got, want, "of {words:?} over {input:?} where {outside:?}");
+    is_left(rt, words, input, outside, got, want);
 }
 
 /// Runs the words over this input, and asserts that the run leaves what is wanted.

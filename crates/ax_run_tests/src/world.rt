@@ -161,13 +161,6 @@ fn commented(rt: &impl Abort, alloc: Global) -> Vec<u8> {
     made
 }
 
-// A text, with blanks at its end up to that count of octets.
-fn padded(rt: &impl Abort, alloc: Global, text: &str, count: usize) -> Vec<u8> {
-    let mut made = text.as_bytes().to_vec(alloc).expect(rt, "memory");
-    made.resize(count, b' ').expect(rt, "memory");
-    made
-}
-
 fn put(
     rt: &impl Abort,
     alloc: Global,
@@ -177,6 +170,20 @@ fn put(
 ) {
     let name = String::from_str(alloc, name).expect(rt, "memory");
     files.push((name, octets)).expect(rt, "memory");
+}
+
+/// A text, with blanks at its end up to that count of octets.
+fn put_padded(
+    rt: &impl Abort,
+    alloc: Global,
+    files: &mut Vec<(String, Vec<u8>)>,
+    name: &str,
+    text: &str,
+    count: usize,
+) {
+    let mut octets = text.as_bytes().to_vec(alloc).expect(rt, "memory");
+    octets.resize(count, b' ').expect(rt, "memory");
+    put(rt, alloc, files, name, octets);
 }
 
 static TEXTS: [(&str, &str); 22] = [
@@ -231,10 +238,8 @@ fn texts(rt: &impl Abort, alloc: Global) -> Vec<(String, Vec<u8>)> {
 fn files(rt: &impl Abort, alloc: Global) -> Vec<(String, Vec<u8>)> {
     let mut made = texts(rt, alloc);
     put(rt, alloc, &mut made, "commented", commented(rt, alloc));
-    let largest = padded(rt, alloc, FILE_E, LARGEST);
-    put(rt, alloc, &mut made, "largest", largest);
-    let large = padded(rt, alloc, "", TOO_LARGE);
-    put(rt, alloc, &mut made, "large", large);
+    put_padded(rt, alloc, &mut made, "largest", FILE_E, LARGEST);
+    put_padded(rt, alloc, &mut made, "large", "", TOO_LARGE);
     made
 }
 
@@ -275,31 +280,6 @@ fn world_of(rt: &impl Abort, alloc: Global, outside: Outside, input: &[u8]) -> W
     }
 }
 
-/// The exit status of the words, run in a world.
-fn status_of(alloc: Global, words: &Vec<String>, world: &mut World) -> u8 {
-    let outcome = run(
-        alloc,
-        words,
-        &mut world.library,
-        &mut world.source,
-        &mut world.out,
-        &mut world.report,
-    );
-    outcome.status()
-}
-
-/// Asserts that a run of the words over this input left what is wanted.
-fn is_left(
-    rt: &impl Abort,
-    words: &Vec<String>,
-    input: &[u8],
-    outside: Outside,
-    got: Left<'_>,
-    want: Left<'_>,
-) {
-    assert_eq!(rt; got, want, "of {words:?} over {input:?} where {outside:?}");
-}
-
 /// Runs the words in a world with this input, and asserts that the run leaves what is wanted.
 fn world_leaves(
     rt: &impl Abort,
@@ -310,15 +290,21 @@ fn world_leaves(
     world: &mut World,
     want: Left<'_>,
 ) {
-    let status = status_of(alloc, words, world);
-    let left = left_of(rt, alloc, &mut world.source);
+    let outcome = run(
+        alloc,
+        words,
+        &mut world.library,
+        &mut world.source,
+        &mut world.out,
+        &mut world.report,
+    );
     let got = Left {
-        status,
+        status: outcome.status(),
         out: world.out.written(),
         report: world.report.written(),
-        left,
+        left: left_of(rt, alloc, &mut world.source),
     };
-    is_left(rt, words, input, outside, got, want);
+    assert_eq!(rt; got, want, "of {words:?} over {input:?} where {outside:?}");
 }
 
 /// Runs the words over this input, and asserts that the run leaves what is wanted.

@@ -5,7 +5,7 @@ use std::alloc::Global;
 use std::process::Abort;
 
 // The words, the lines, the exit status, the output and the report. Each input is read to its end.
-const LINES: [(&str, &str, u8, &str, &str); 28] = [
+static LINES: [(&str, &str, u8, &str, &str); 28] = [
     ("build 048", "", 0, "", ""),
     (
         "build 048",
@@ -243,7 +243,7 @@ fn repeated(
 }
 
 // A front, the count of a piece, the piece, an end, the output in hexadecimal and the report.
-const LONG: [(&[u8], u32, &[u8], &[u8], &str, &str); 4] = [
+static LONG: [(&[u8], u32, &[u8], &[u8], &str, &str); 4] = [
     (
         b"block 048 {",
         65_533,
@@ -292,7 +292,7 @@ const THREE_LINES: &str = "opaque 062 \"80ff\"\n\nopaque 063 \"00\"\n";
 
 // What is written where so many octets of these lines came, one a call, and the next read failed: the blocks of the lines
 // whose line feed came.
-const WRITTEN: [(usize, usize, &str); 3] = [
+static WRITTEN: [(usize, usize, &str); 3] = [
     (0, 18, ""),
     (18, 35, "3E 00 05 80 FF"),
     (35, 36, "3E 00 05 80 FF 3F 00 04 00"),

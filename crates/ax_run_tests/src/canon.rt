@@ -19,7 +19,7 @@ const MIDDLE_REDUNDANT: &str = "30 00 0D 80 19 0C 81 00 1A 0C 80 1B 0C";
 const LAST_REDUNDANT: &str = "30 00 0D 80 19 0C 80 1A 0C 81 00 1B 0C";
 
 // The words, the input and the output, and how the calls are cut.
-const DONE: [(&str, &str, &str, Outside); 32] = [
+static DONE: [(&str, &str, &str, Outside); 32] = [
     ("canon A", "", "", Outside::Sound),
     ("canon A", NORTH, NORTH, Outside::Sound),
     ("canon E", NORTH, NORTH, Outside::Sound),
@@ -148,7 +148,7 @@ fn the_largest_block_is_unchanged(rt: HostRuntime) {
 }
 
 // The words, the input, the output before the fault, the report, and how many octets aren't read.
-const REFUSED: [(&str, &str, &str, &str, usize); 23] = [
+static REFUSED: [(&str, &str, &str, &str, usize); 23] = [
     (
         "canon A",
         "22 00 04 01",

@@ -70,7 +70,7 @@ const INPUT: &str = "30 00 04 00 22 00 04 00 FF 00 04 00 30 00 04 00";
 
 // Which write of the output and of the report fails, if any, a call taking two octets; and how the run ends, what stands on both,
 // and how many octets aren't read.
-const ROWS: [(Option<u64>, Option<u64>, StreamEnd, &[u8], &[u8], usize); 10] = [
+static ROWS: [(Option<u64>, Option<u64>, StreamEnd, &[u8], &[u8], usize); 10] = [
     (None, None, LONG, b"+++.+++.", b"048\n034\n", 4),
     (Some(0), None, StreamEnd::WriteFault, b"", b"048\n", 12),
     (Some(1), None, StreamEnd::WriteFault, b"++", b"048\n", 12),
@@ -136,25 +136,28 @@ fn world_of(
     }
 }
 
-fn ends_as(
-    rt: &impl Abort,
-    alloc: Global,
-    world: &mut World,
-    end: StreamEnd,
-    (written, reported, left): (&[u8], &[u8], usize),
-) {
+/// How the blocks of that world end.
+fn ended(alloc: Global, world: &mut World) -> StreamEnd {
     let mut work = CategoryWork { mark: b"+++." };
-    let got = run_blocks(
+    run_blocks(
         alloc,
         &mut work,
         &mut world.source,
         &mut world.out,
         &mut world.report,
-    );
-    assert_eq!(rt; got, end);
-    assert_eq!(rt; world.out.written(), written);
-    assert_eq!(rt; world.report.written(), reported);
-    assert_eq!(rt; left_of(rt, alloc, &mut world.source), left);
+    )
+}
+
+fn ends_as(
+    rt: &impl Abort,
+    alloc: Global,
+    world: &mut World,
+    want: (StreamEnd, &[u8], &[u8], usize),
+) {
+    let end = ended(alloc, world);
+    let left = left_of(rt, alloc, &mut world.source);
+    let got = (end, world.out.written(), world.report.written(), left);
+    assert_eq!(rt; got, want);
 }
 
 #[test]
@@ -162,6 +165,6 @@ fn what_stands_where_a_line_or_a_piece_fails(rt: HostRuntime) {
     let alloc = rt.alloc();
     for &(out_fails, report_fails, end, written, reported, left) in &ROWS {
         let mut world = world_of(&rt, alloc, out_fails, report_fails);
-        ends_as(&rt, alloc, &mut world, end, (written, reported, left));
+        ends_as(&rt, alloc, &mut world, (end, written, reported, left));
     }
 }

@@ -18,7 +18,7 @@ const FLAWS_OF_V: &str =
     "flaw file 0 BadScale 210/010\nflaw file 0 DuplicateItem 210/010\nflaw file 0 Empty 210/010\nflaw file 0 UnknownInUap 210/uap/020\nrefused file 0 Flawed 4\n";
 
 // The words, the exit status and the report.
-const REFUSED: [(&str, u8, &str); 25] = [
+static REFUSED: [(&str, u8, &str); 25] = [
     ("", 1, "refused usage\n"),
     ("canon", 1, "refused usage\n"),
     ("canon -x", 1, "refused usage\n"),
@@ -81,7 +81,7 @@ fn writes(rt: &impl Abort, alloc: Global, words: &str, outside: Outside, line: &
 }
 
 // The words, and the line and the text that are written.
-const ACCEPTED: [(&str, &str, &str); 4] = [
+static ACCEPTED: [(&str, &str, &str); 4] = [
     ("check E", LINE_OF_E, FILE_E),
     ("check commented", LINE_OF_E, FILE_E),
     ("check largest", LINE_OF_E, FILE_E),

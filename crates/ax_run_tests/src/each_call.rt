@@ -81,7 +81,7 @@ const NORTH_READS: [Step; 3] = [(0, 0, 20), (10, 10, 20), (20, 20, 20)];
 
 const NORTH_WRITES: [Step; 3] = [(0, 0, 10), (10, 0, 0), NONE];
 
-const ROWS: [Row; 14] = [
+static ROWS: [Row; 14] = [
     Row {
         words: "canon A",
         input: NORTH_TWICE,

@@ -10,7 +10,7 @@ const SAC_REDUNDANT: &str = "30 00 07 81 00 19 0C";
 const MIXED: &str = "30 00 0C 80 19 0C 80 1A 0C 80 19 0D 3E 00 05 80 FF 22 00 06 80 19 0C";
 
 // The expression, the files, the input and the output. Each input is read to its end.
-const DONE: [(&str, &str, &str, &str); 14] = [
+static DONE: [(&str, &str, &str, &str); 14] = [
     (
         "is 048/010/SAC = 25",
         "048",
@@ -62,7 +62,7 @@ fn the_records_that_match(rt: HostRuntime) {
 }
 
 // The expression, the files, the exit status and the report. Nothing is read or written.
-const REFUSED: [(&str, &str, u8, &str); 13] = [
+static REFUSED: [(&str, &str, u8, &str); 13] = [
     (
         "is 048/010/SAX = 25",
         "048",
@@ -131,7 +131,7 @@ fn refused_expressions(rt: HostRuntime) {
 
 // How the outside fails, the expression and the input; and the status, the output and the report. No piece is written for a
 // block without a record that matches, so the first write is that of the first block that has one.
-const FAILING: [(Outside, &str, &str, u8, &str, &str); 6] = [
+static FAILING: [(Outside, &str, &str, u8, &str, &str); 6] = [
     (Outside::Write(0), "any { }", SAC_REDUNDANT, 0, "", ""),
     (Outside::Room(0), "any { }", SAC_REDUNDANT, 0, "", ""),
     (Outside::Write(0), "all { }", SAC, 4, "", "fault write\n"),

@@ -20,7 +20,7 @@ const FULL_MIGRATED: &str = "CA 00 07 80 80 22 33";
 const FULL_TWICE: &str = "CA 00 08 80 C0 11 22 33 CA 00 08 80 C0 11 22 33";
 
 // How the outside fails, the words and the input; and the status, the output, the report, and how many octets aren't read.
-const RUNS: [(Outside, &str, &str, u8, &str, &str, usize); 21] = [
+static RUNS: [(Outside, &str, &str, u8, &str, &str, usize); 21] = [
     (
         Outside::Sound,
         "migrate 048 048-P2",
@@ -210,7 +210,7 @@ fn editions_of_one_category(rt: HostRuntime) {
 
 // The call of the report that fails, each taking one octet; and the status, the output, the report, and how many octets
 // aren't read. The block whose line is cut isn't written, and no line comes after it.
-const CUT_LINES: [(u64, u8, &str, &str, usize); 5] = [
+static CUT_LINES: [(u64, u8, &str, &str, usize); 5] = [
     (0, 4, "", "", 8),
     (31, 4, "", "lost block 0 record 0 202/010/A", 8),
     (32, 4, FULL_MIGRATED, "lost block 0 record 0 202/010/A\n", 0),

@@ -11,7 +11,7 @@ const FRONT_OF_E: &str = "61 63 63 65 70 74 65 64 20 30 33 34 20 22 30 33 34 2D 
 
 // How the outside fails, the words and the input; and the status, the output, the report, and how many octets aren't read.
 // A file is loaded once, and none where the words have no shape.
-const FAILING: [(Outside, &str, &str, u8, &str, &str, usize); 19] = [
+static FAILING: [(Outside, &str, &str, u8, &str, &str, usize); 19] = [
     (
         Outside::Load(0),
         "canon A",

@@ -3,7 +3,7 @@
 use crate::world::{Outside, leaves_text};
 
 // The words, the input, the exit status, the output and the report. Each input is read to its end.
-const LINES: [(&str, &str, u8, &str, &str); 10] = [
+static LINES: [(&str, &str, u8, &str, &str); 10] = [
     ("text A", "", 0, "", ""),
     (
         "text 048",

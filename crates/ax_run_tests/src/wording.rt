@@ -14,7 +14,7 @@ const NO_BLOCK: &str = "blocks 0 records 0 octets 0 canonical 0 sum 0\n";
 const USAGE: &str = "refused usage\n";
 
 // The words, the exit status, the output and the report. The input isn't read.
-const WORDS: [(&str, u8, &str, &str); 21] = [
+static WORDS: [(&str, u8, &str, &str); 21] = [
     ("--help", 0, HELP, ""),
     ("--version", 0, "asterix 1\n", ""),
     ("trial Z 0 1", 0, ONE_BLOCK, ""),

@@ -161,13 +161,6 @@ fn commented(rt: &impl Abort, alloc: Global) -> Vec<u8> {
     made
 }
 
-// File E, with blanks at its end.
-fn largest(rt: &impl Abort, alloc: Global) -> Vec<u8> {
-    let mut made = FILE_E.as_bytes().to_vec(alloc).expect(rt, "memory");
-    made.resize(LARGEST, b' ').expect(rt, "memory");
-    made
-}
-
 fn put(
     rt: &impl Abort,
     alloc: Global,
@@ -179,7 +172,21 @@ fn put(
     files.push((name, octets)).expect(rt, "memory");
 }
 
-const TEXTS: [(&str, &str); 22] = [
+/// A text, with blanks at its end up to that count of octets.
+fn put_padded(
+    rt: &impl Abort,
+    alloc: Global,
+    files: &mut Vec<(String, Vec<u8>)>,
+    name: &str,
+    text: &str,
+    count: usize,
+) {
+    let mut octets = text.as_bytes().to_vec(alloc).expect(rt, "memory");
+    octets.resize(count, b' ').expect(rt, "memory");
+    put(rt, alloc, files, name, octets);
+}
+
+static TEXTS: [(&str, &str); 22] = [
     ("A", FILE_A),
     ("E", FILE_E),
     ("F", FILE_F),
@@ -204,16 +211,35 @@ const TEXTS: [(&str, &str); 22] = [
     ("deep", NESTED_TOO_DEEP),
 ];
 
-fn files(rt: &impl Abort, alloc: Global) -> Vec<(String, Vec<u8>)> {
+// The one function that has the texts in it: each such function's proof goes through them.
+fn named_texts() -> &'static [(&'static str, &'static str)] {
+    &TEXTS
+}
+
+/// The text of the file of that name.
+pub fn text_of(rt: &impl Abort, name: &str) -> &'static str {
+    for &(other, text) in named_texts() {
+        if other == name {
+            return text;
+        }
+    }
+    panic!(rt; "no file {name}")
+}
+
+fn texts(rt: &impl Abort, alloc: Global) -> Vec<(String, Vec<u8>)> {
     let mut made = Vec::new(alloc);
-    for &(name, text) in &TEXTS {
+    for &(name, text) in named_texts() {
         let octets = text.as_bytes().to_vec(alloc).expect(rt, "memory");
         put(rt, alloc, &mut made, name, octets);
     }
+    made
+}
+
+fn files(rt: &impl Abort, alloc: Global) -> Vec<(String, Vec<u8>)> {
+    let mut made = texts(rt, alloc);
     put(rt, alloc, &mut made, "commented", commented(rt, alloc));
-    put(rt, alloc, &mut made, "largest", largest(rt, alloc));
-    let large = vec![in alloc; b' '; TOO_LARGE].expect(rt, "memory");
-    put(rt, alloc, &mut made, "large", large);
+    put_padded(rt, alloc, &mut made, "largest", FILE_E, LARGEST);
+    put_padded(rt, alloc, &mut made, "large", "", TOO_LARGE);
     made
 }
 

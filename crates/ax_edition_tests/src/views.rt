@@ -3,13 +3,12 @@ ghost use Rattle.std.specs.Prelude.{◌≡◌};
 ghost use Rattle.ax_migrate_views.specs.Blocks.{IsOfEditions};
 
 use crate::blocks::MIGRATED;
-use crate::fixtures::{AMPLE, Edition, accepted, octets_of, raw_of, same};
+use crate::fixtures::{Edition, accepted, octets_of, raw_of, report_of, same};
 use ax_bits::Out;
 use ax_check::Accepted;
 use ax_edition::relate;
 use ax_migrate::loss_line;
 use ax_migrate_views::Migrator;
-use ax_outside::MemSink;
 use ax_tables::compile;
 use ax_view::{BlockView, scan};
 use std::alloc::Global;
@@ -18,32 +17,31 @@ use std::process::Abort;
 /// Octets of the longest data block.
 const LONGEST: usize = 65_535;
 
-/// The lines of the losses of a view, as those of block 7.
-fn lines_of(
+/// Asserts that the losses of a view have these lines, as those of block 7.
+fn loses(
     rt: &impl Abort,
     alloc: Global,
     migrator: &Migrator<'_>,
     view: &BlockView<'_, '_>,
-) -> Vec<u8>
+    lines: &str,
+    of: &str,
+)
     requires editions { IsOfEditions migrator.now }
     requires view { view.now.codec.now ≡ migrator.now.codec.now }
 {
-    let report = MemSink::new(alloc, AMPLE, AMPLE, Vec::new(alloc));
-    let mut report = report.expect(rt, "memory");
+    let mut report = report_of(rt, alloc);
     for loss in migrator.losses(view) {
         loss_line(&mut report, 7, &loss).expect(rt, "a line that is written");
     }
-    report.written().to_vec(alloc).expect(rt, "memory")
+    same(rt, report.written(), lines.as_bytes(), of);
 }
 
-/// Asserts that the migrated block of a view has these octets and as many, and that its losses have these lines.
-fn is_migrated(
+/// Asserts that the migrated block of a view has these octets and as many.
+fn becomes(
     rt: &impl Abort,
-    alloc: Global,
     migrator: &Migrator<'_>,
     view: &BlockView<'_, '_>,
     made: &[u8],
-    lines: &str,
     of: &str,
 )
     requires editions { IsOfEditions migrator.now }
@@ -55,8 +53,25 @@ fn is_migrated(
     let mut out = Out::over(&mut buffer);
     migrator.migrate(view, &mut out);
     same(rt, &buffer[..octets], made, of);
-    let written = lines_of(rt, alloc, migrator, view);
-    same(rt, &written, lines.as_bytes(), of);
+}
+
+/// Asserts both of the view of a block.
+fn is_migrated(
+    rt: &impl Abort,
+    alloc: Global,
+    migrator: &Migrator<'_>,
+    input: &str,
+    made: &str,
+    lines: &str,
+)
+    requires editions { IsOfEditions migrator.now }
+{
+    let octets = octets_of(rt, alloc, input);
+    let raw = raw_of(rt, &octets);
+    let view = scan(migrator.old(), raw.body).expect(rt, "records");
+    let made = octets_of(rt, alloc, made);
+    becomes(rt, migrator, &view, &made, input);
+    loses(rt, alloc, migrator, &view, lines, input);
 }
 
 /// Asserts that of the view of a block, of the old edition in the new one.
@@ -75,11 +90,7 @@ fn migrates_as(
     };
     let migrator = Migrator::new(alloc, old.spec(), new.spec(), &relation, &codec);
     let migrator = migrator.expect(rt, "memory");
-    let octets = octets_of(rt, alloc, input);
-    let raw = raw_of(rt, &octets);
-    let view = scan(&codec, raw.body).expect(rt, "records");
-    let made = octets_of(rt, alloc, made);
-    is_migrated(rt, alloc, &migrator, &view, &made, lines, input);
+    is_migrated(rt, alloc, &migrator, input, made, lines);
 }
 
 fn migrates(

@@ -1,12 +1,13 @@
 //! The same blocks as views: their length, their octets and their losses, one after the other.
 ghost use Rattle.std.specs.Prelude.{◌≡◌};
 ghost use Rattle.ax_migrate_views.specs.Blocks.{IsOfEditions};
+ghost use Rattle.ax_relation.specs.Relates.{Relates};
 
 use crate::blocks::MIGRATED;
 use crate::fixtures::{Edition, accepted, octets_of, raw_of, report_of, same};
 use ax_bits::Out;
 use ax_check::Accepted;
-use ax_edition::relate;
+use ax_edition::{Relation, relate};
 use ax_migrate::loss_line;
 use ax_migrate_views::Migrator;
 use ax_tables::compile;
@@ -56,16 +57,10 @@ fn becomes(
 }
 
 /// Asserts both of the view of a block.
-fn is_migrated(
-    rt: &impl Abort,
-    alloc: Global,
-    migrator: &Migrator<'_>,
-    input: &str,
-    made: &str,
-    lines: &str,
-)
+fn is_migrated(rt: &impl Abort, alloc: Global, migrator: &Migrator<'_>, row: (&str, &str, &str))
     requires editions { IsOfEditions migrator.now }
 {
+    let (input, made, lines) = row;
     let octets = octets_of(rt, alloc, input);
     let raw = raw_of(rt, &octets);
     let view = scan(migrator.old(), raw.body).expect(rt, "records");
@@ -74,23 +69,32 @@ fn is_migrated(
     loses(rt, alloc, migrator, &view, lines, input);
 }
 
-/// Asserts that of the view of a block, of the old edition in the new one.
+/// Asserts that of the view of a block, of the old edition in the new one, by their relation.
+fn is_migrated_by(
+    rt: &impl Abort,
+    alloc: Global,
+    old: &Accepted,
+    new: &Accepted,
+    relation: &Relation,
+    row: (&str, &str, &str),
+)
+    requires { Relates old.now new.now relation.now }
+{
+    let codec = compile(alloc, old).expect(rt, "memory");
+    let migrator = Migrator::new(alloc, old.spec(), new.spec(), relation, &codec);
+    let migrator = migrator.expect(rt, "memory");
+    is_migrated(rt, alloc, &migrator, row);
+}
+
 fn migrates_as(
     rt: &impl Abort,
     alloc: Global,
     old: &Accepted,
     new: &Accepted,
-    input: &str,
-    made: &str,
-    lines: &str,
+    row: (&str, &str, &str),
 ) {
     let relation = relate(alloc, old, new).expect(rt, "editions of one category");
-    let Ok(codec) = compile(alloc, old) else {
-        panic!(rt; "memory");
-    };
-    let migrator = Migrator::new(alloc, old.spec(), new.spec(), &relation, &codec);
-    let migrator = migrator.expect(rt, "memory");
-    is_migrated(rt, alloc, &migrator, input, made, lines);
+    is_migrated_by(rt, alloc, old, new, &relation, row);
 }
 
 fn migrates(
@@ -100,7 +104,7 @@ fn migrates(
 ) {
     let old = accepted(rt, alloc, old);
     let new = accepted(rt, alloc, new);
-    migrates_as(rt, alloc, &old, &new, input, made, lines);
+    migrates_as(rt, alloc, &old, &new, (input, made, lines));
 }
 
 #[test]

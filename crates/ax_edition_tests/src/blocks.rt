@@ -1,6 +1,6 @@
 //! Single blocks of one edition in another.
 
-use crate::fixtures::{Edition, accepted, decoded, lines_of, octets_of, same};
+use crate::fixtures::{Edition, accepted, decoded, have_lines, octets_of, same};
 use ax_check::Accepted;
 use ax_edition::relate;
 use ax_migrate::{LossList, Migrated, migrate_tree};
@@ -14,7 +14,7 @@ const FULL: &str = "CA 00 08 80 C0 11 22 33";
 const DEEP: &str = "CC 00 0E C0 E0 C0 11 22 02 AA 80 33 01 44";
 
 // The old edition, the new one, a block of the old one; the octets of the block in the new one, and the lines of its losses.
-pub(crate) const MIGRATED: [(Edition, Edition, &str, &str, &str); 20] = [
+pub(crate) static MIGRATED: [(Edition, Edition, &str, &str, &str); 20] = [
     (
         Edition::P1,
         Edition::P2,
@@ -186,8 +186,7 @@ fn migrates_as(
     let got = migrated(rt, alloc, old, new, input);
     let octets = encoded(rt, alloc, new, &got.block);
     same(rt, &octets, &octets_of(rt, alloc, made), input);
-    let written = lines_of(rt, alloc, 7, &got.losses);
-    same(rt, &written, lines.as_bytes(), input);
+    have_lines(rt, alloc, &got.losses, lines, input);
 }
 
 fn migrates(

@@ -12,7 +12,7 @@ fn file_of(rt: &impl Abort, alloc: Global, title: &str, kind: &str) -> String {
     file.expect(rt, "memory")
 }
 
-const CHANGES: [(&str, &str, &str); 25] = [
+static CHANGES: [(&str, &str, &str); 25] = [
     ("element 8 raw", "element 16 raw", "202/010 0 shared"),
     ("element 8 raw", "element 8 ascii", "202/010 0 shared"),
     ("element 8 raw", "element 8 table { }", "202/010 0 shared"),

@@ -12,7 +12,7 @@ use std::alloc::Global;
 use std::process::Abort;
 
 /// More octets than the lines of any block here have.
-pub(crate) const AMPLE: u32 = 10_000;
+const AMPLE: u32 = 10_000;
 
 // H1 with another scale in subitem A, twice.
 const FILE_METRES: &str =
@@ -123,12 +123,16 @@ pub(crate) fn decoded(rt: &impl Abort, alloc: Global, spec: &Spec, block: &str) 
     block
 }
 
-/// The lines of losses in the block of that number.
-pub(crate) fn lines_of(rt: &impl Abort, alloc: Global, number: u64, losses: &LossList) -> Vec<u8> {
-    let report = MemSink::new(alloc, AMPLE, AMPLE, Vec::new(alloc));
-    let mut report = report.expect(rt, "memory");
-    loss_lines(&mut report, number, losses).expect(rt, "lines that are written");
-    report.written().to_vec(alloc).expect(rt, "memory")
+/// A report in memory.
+pub(crate) fn report_of(rt: &impl Abort, alloc: Global) -> MemSink {
+    MemSink::new(alloc, AMPLE, AMPLE, Vec::new(alloc)).expect(rt, "memory")
+}
+
+/// Asserts that losses have these lines, as those of block 7.
+pub(crate) fn have_lines(rt: &impl Abort, alloc: Global, losses: &LossList, lines: &str, of: &str) {
+    let mut report = report_of(rt, alloc);
+    loss_lines(&mut report, 7, losses).expect(rt, "lines that are written");
+    same(rt, report.written(), lines.as_bytes(), of);
 }
 
 /// Asserts that octets are as wanted, of the block that is named.

@@ -1,12 +1,12 @@
 //! Relations of the sample and test files.
 
-use crate::texts::{accepted, are_related_as, moves_told, path_told, related, same, shares};
-use ax_edition::{Moves, RelateError, Relation, relate};
+use crate::texts::{are_related_as, moves_told, path_told, related, relation_of, same, shares};
+use ax_edition::{Moves, RelateError, Relation};
 use ax_samples::{CAT034_P1, CAT048_P1, CAT048_P2, FILE_H1, FILE_H2, FILE_H3};
 use std::alloc::Global;
 use std::process::Abort;
 
-const FILES: [(&str, &str, &str); 7] = [
+static FILES: [(&str, &str, &str); 7] = [
     (CAT048_P1, CAT048_P1, "37 shared"),
     (CAT048_P1, CAT048_P2, "048/020 36 shared"),
     (CAT048_P2, CAT048_P1, "048/020 36 shared"),
@@ -23,7 +23,7 @@ fn files_share_their_paths(rt: HostRuntime) {
     }
 }
 
-const BOTH_PLACES: [(u32, &str); 3] = [
+static BOTH_PLACES: [(u32, &str); 3] = [
     (0, "202/010 at 1 [] to 1 []"),
     (1, "202/010/A at 1 [1] lost"),
     (2, "202/010/B at 1 [2] to 1 [1]"),
@@ -60,7 +60,7 @@ fn moves_are_in_the_new_order(rt: HostRuntime) {
     are_told_as(&rt, rt.alloc(), &one.below, "2 to 1 with 0; ");
 }
 
-const NAMED_PATHS: [(&str, bool); 9] = [
+static NAMED_PATHS: [(&str, bool); 9] = [
     ("010", true),
     ("130", true),
     ("130/SRL", true),
@@ -87,8 +87,6 @@ fn only_named_paths_are_shared(rt: HostRuntime) {
 
 #[test]
 fn other_categories_have_no_relation(rt: HostRuntime) {
-    let old = accepted(&rt, rt.alloc(), CAT034_P1);
-    let new = accepted(&rt, rt.alloc(), CAT048_P1);
-    let found = relate(rt.alloc(), &old, &new);
-    assert!(rt; matches!(found, Err(RelateError::OtherCategory { old: 34, new: 48 })));
+    let found = relation_of(&rt, rt.alloc(), CAT034_P1, CAT048_P1).err();
+    assert!(rt; matches!(found, Some(RelateError::OtherCategory { old: 34, new: 48 })));
 }

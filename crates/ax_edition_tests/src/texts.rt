@@ -1,7 +1,7 @@
 //! Relations of specifications from texts, and what they tell as texts.
 
 use ax_check::{Accepted, accept};
-use ax_edition::{Move, Moves, Relation, RelationPath, relate};
+use ax_edition::{Move, Moves, RelateError, Relation, RelationPath, relate};
 use ax_grammar::read_spec;
 use ax_model::{Path, Place, Spec};
 use ax_tokens::tokens;
@@ -21,10 +21,20 @@ pub(crate) fn accepted(rt: &impl Abort, alloc: Global, text: &str) -> Accepted {
     accept(alloc, spec).expect(rt, "a specification without flaw")
 }
 
-pub(crate) fn related(rt: &impl Abort, alloc: Global, old: &str, new: &str) -> Relation {
+/// The relation of the specifications that two texts spell, or why they have none.
+pub(crate) fn relation_of(
+    rt: &impl Abort,
+    alloc: Global,
+    old: &str,
+    new: &str,
+) -> Result<Relation, RelateError> {
     let old = accepted(rt, alloc, old);
     let new = accepted(rt, alloc, new);
-    relate(alloc, &old, &new).expect(rt, "editions of one category")
+    relate(alloc, &old, &new)
+}
+
+pub(crate) fn related(rt: &impl Abort, alloc: Global, old: &str, new: &str) -> Relation {
+    relation_of(rt, alloc, old, new).expect(rt, "editions of one category")
 }
 
 /// Asserts that what is told of something is as wanted.

@@ -1,15 +1,15 @@
 //! The same blocks as views: their length, their octets and their losses, one after the other.
 ghost use Rattle.std.specs.Prelude.{◌≡◌};
 ghost use Rattle.ax_migrate_views.specs.Blocks.{IsOfEditions};
+ghost use Rattle.ax_relation.specs.Relates.{Relates};
 
 use crate::blocks::MIGRATED;
-use crate::fixtures::{AMPLE, Edition, accepted, octets_of, raw_of, same};
+use crate::fixtures::{Edition, accepted, octets_of, raw_of, report_of, same};
 use ax_bits::Out;
 use ax_check::Accepted;
-use ax_edition::relate;
+use ax_edition::{Relation, relate};
 use ax_migrate::loss_line;
 use ax_migrate_views::Migrator;
-use ax_outside::MemSink;
 use ax_tables::compile;
 use ax_view::{BlockView, scan};
 use std::alloc::Global;
@@ -18,32 +18,31 @@ use std::process::Abort;
 /// Octets of the longest data block.
 const LONGEST: usize = 65_535;
 
-/// The lines of the losses of a view, as those of block 7.
-fn lines_of(
+/// Asserts that the losses of a view have these lines, as those of block 7.
+fn loses(
     rt: &impl Abort,
     alloc: Global,
     migrator: &Migrator<'_>,
     view: &BlockView<'_, '_>,
-) -> Vec<u8>
+    lines: &str,
+    of: &str,
+)
     requires editions { IsOfEditions migrator.now }
     requires view { view.now.codec.now ≡ migrator.now.codec.now }
 {
-    let report = MemSink::new(alloc, AMPLE, AMPLE, Vec::new(alloc));
-    let mut report = report.expect(rt, "memory");
+    let mut report = report_of(rt, alloc);
     for loss in migrator.losses(view) {
         loss_line(&mut report, 7, &loss).expect(rt, "a line that is written");
     }
-    report.written().to_vec(alloc).expect(rt, "memory")
+    same(rt, report.written(), lines.as_bytes(), of);
 }
 
-/// Asserts that the migrated block of a view has these octets and as many, and that its losses have these lines.
-fn is_migrated(
+/// Asserts that the migrated block of a view has these octets and as many.
+fn becomes(
     rt: &impl Abort,
-    alloc: Global,
     migrator: &Migrator<'_>,
     view: &BlockView<'_, '_>,
     made: &[u8],
-    lines: &str,
     of: &str,
 )
     requires editions { IsOfEditions migrator.now }
@@ -55,31 +54,47 @@ fn is_migrated(
     let mut out = Out::over(&mut buffer);
     migrator.migrate(view, &mut out);
     same(rt, &buffer[..octets], made, of);
-    let written = lines_of(rt, alloc, migrator, view);
-    same(rt, &written, lines.as_bytes(), of);
 }
 
-/// Asserts that of the view of a block, of the old edition in the new one.
+/// Asserts both of the view of a block.
+fn is_migrated(rt: &impl Abort, alloc: Global, migrator: &Migrator<'_>, row: (&str, &str, &str))
+    requires editions { IsOfEditions migrator.now }
+{
+    let (input, made, lines) = row;
+    let octets = octets_of(rt, alloc, input);
+    let raw = raw_of(rt, &octets);
+    let view = scan(migrator.old(), raw.body).expect(rt, "records");
+    let made = octets_of(rt, alloc, made);
+    becomes(rt, migrator, &view, &made, input);
+    loses(rt, alloc, migrator, &view, lines, input);
+}
+
+/// Asserts that of the view of a block, of the old edition in the new one, by their relation.
+fn is_migrated_by(
+    rt: &impl Abort,
+    alloc: Global,
+    old: &Accepted,
+    new: &Accepted,
+    relation: &Relation,
+    row: (&str, &str, &str),
+)
+    requires { Relates old.now new.now relation.now }
+{
+    let codec = compile(alloc, old).expect(rt, "memory");
+    let migrator = Migrator::new(alloc, old.spec(), new.spec(), relation, &codec);
+    let migrator = migrator.expect(rt, "memory");
+    is_migrated(rt, alloc, &migrator, row);
+}
+
 fn migrates_as(
     rt: &impl Abort,
     alloc: Global,
     old: &Accepted,
     new: &Accepted,
-    input: &str,
-    made: &str,
-    lines: &str,
+    row: (&str, &str, &str),
 ) {
     let relation = relate(alloc, old, new).expect(rt, "editions of one category");
-    let Ok(codec) = compile(alloc, old) else {
-        panic!(rt; "memory");
-    };
-    let migrator = Migrator::new(alloc, old.spec(), new.spec(), &relation, &codec);
-    let migrator = migrator.expect(rt, "memory");
-    let octets = octets_of(rt, alloc, input);
-    let raw = raw_of(rt, &octets);
-    let view = scan(&codec, raw.body).expect(rt, "records");
-    let made = octets_of(rt, alloc, made);
-    is_migrated(rt, alloc, &migrator, &view, &made, lines, input);
+    is_migrated_by(rt, alloc, old, new, &relation, row);
 }
 
 fn migrates(
@@ -89,7 +104,7 @@ fn migrates(
 ) {
     let old = accepted(rt, alloc, old);
     let new = accepted(rt, alloc, new);
-    migrates_as(rt, alloc, &old, &new, input, made, lines);
+    migrates_as(rt, alloc, &old, &new, (input, made, lines));
 }
 
 #[test]

@@ -13,7 +13,7 @@ use ax_values::decode_block;
 use std::alloc::Global;
 use std::process::Abort;
 
-const COPIES: [(&str, &str, &str); 3] = [
+static COPIES: [(&str, &str, &str); 3] = [
     (
         FILE_N,
         "C8 00 0B 80 02 81 00 11 01 80 22",

@@ -1,7 +1,7 @@
 //! Blocks, and what they are read as.
 
 use crate::fixtures::{accepted, octets_of, raw, raw_of, same};
-use crate::seeing::{each_is_read, is_read_as, read_both_ways};
+use crate::seeing::{each_is_read, each_of_file_is_read, is_read_as, read_both_ways};
 use ax_check::Accepted;
 use ax_samples::{FILE_K, FILE_N, FILE_S};
 use std::alloc::Global;
@@ -35,7 +35,7 @@ pub(crate) const WIDE_BLOCK: &str =
 // A record with an item of each kind, each repeated or extended where its kind can be.
 pub(crate) const RICH: &str = "CD 00 16 FF 80 19 0C 03 54 0B 0C 02 AA BB 03 CC DD A0 07 08 09 0A";
 
-const KINDS: [(&str, &str); 18] = [
+static KINDS: [(&str, &str); 18] = [
     ("CD 00 07 81 00 19 0C", "205 {1=6412}"),
     ("CD 00 06 40 03 54", "205 {2=<1|5 2>}"),
     ("CD 00 06 20 0B 0C", "205 {3=[5 6]}"),
@@ -58,13 +58,10 @@ const KINDS: [(&str, &str); 18] = [
 
 #[test]
 fn each_kind_is_read(rt: HostRuntime) {
-    let file = accepted(&rt, rt.alloc(), FILE_K);
-    for &(block, want) in &KINDS {
-        is_read_as(&rt, rt.alloc(), &file, block, want);
-    }
+    each_of_file_is_read(&rt, rt.alloc(), FILE_K, &KINDS);
 }
 
-const DEEP_AND_WIDE: [(&str, &str, &str); 12] = [
+static DEEP_AND_WIDE: [(&str, &str, &str); 12] = [
     (
         FILE_N,
         "C8 00 0B 80 02 81 00 11 01 80 22",
@@ -101,7 +98,7 @@ fn deep_and_wide_items_are_read(rt: HostRuntime) {
     each_is_read(&rt, rt.alloc(), &DEEP_AND_WIDE);
 }
 
-const CUTS: [(usize, u32); 18] = [
+static CUTS: [(usize, u32); 18] = [
     (1, 8),
     (2, 16),
     (3, 16),
@@ -137,7 +134,9 @@ fn runs_out(
     same(rt, got.as_str(), want.as_str(), "a body cut there");
 }
 
-fn each_cut_runs_out(rt: &impl Abort, alloc: Global, file: &Accepted, body: &[u8]) {
+fn each_cut_runs_out(rt: &impl Abort, alloc: Global, file: &Accepted, block: &str) {
+    let octets = octets_of(rt, alloc, block);
+    let body = raw_of(rt, &octets, block).body;
     for &cut in &CUTS {
         runs_out(rt, alloc, file, body, cut);
     }
@@ -149,7 +148,5 @@ fn a_cut_body_runs_out_where_its_unit_begins(rt: HostRuntime) {
     let file = accepted(&rt, rt.alloc(), FILE_K);
     let want = "205 {1=6412 2=<1|5 2> 3=[5 6] 4=[170 187] 5=xCC DD 6={1=7 3=8} 7=9 8=10}";
     is_read_as(&rt, rt.alloc(), &file, RICH, want);
-    let whole = octets_of(&rt, rt.alloc(), RICH);
-    let body = raw_of(&rt, &whole, RICH).body;
-    each_cut_runs_out(&rt, rt.alloc(), &file, body);
+    each_cut_runs_out(&rt, rt.alloc(), &file, RICH);
 }

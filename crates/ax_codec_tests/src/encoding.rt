@@ -12,7 +12,7 @@ use ax_values::{EncodeError, decode_block, encode_block};
 use std::alloc::Global;
 use std::process::Abort;
 
-const LEAST_FORMS: [(&str, &str, &str); 19] = [
+static LEAST_FORMS: [(&str, &str, &str); 19] = [
     (FILE_K, "CD 00 07 81 00 19 0C", "CD 00 06 80 19 0C"),
     (FILE_K, "CD 00 06 40 03 54", "CD 00 06 40 03 54"),
     (FILE_K, "CD 00 06 20 0B 0C", "CD 00 06 20 0B 0C"),

@@ -118,7 +118,7 @@ fn have_one_reading(
     same(rt, text.as_str(), want, body);
 }
 
-const READINGS: [(&str, u32, u32, &str); 8] = [
+static READINGS: [(&str, u32, u32, &str); 8] = [
     ("80 19", 1, 1, "RunsOut 8 | RunsOut 8 | RunsOut 8"),
     (
         "20 A1 00",
@@ -154,10 +154,14 @@ const READINGS: [(&str, u32, u32, &str); 8] = [
     ),
 ];
 
+fn each_has_one_reading(rt: &impl Abort, alloc: Global, text: &str) {
+    let file = accepted(rt, alloc, text);
+    for &(body, frn, at, want) in &READINGS {
+        have_one_reading(rt, alloc, &file, (frn, at), body, want);
+    }
+}
+
 #[test]
 fn an_item_its_record_and_its_body_have_one_reading(rt: HostRuntime) {
-    let file = accepted(&rt, rt.alloc(), CAT048_P1);
-    for &(body, frn, at, want) in &READINGS {
-        have_one_reading(&rt, rt.alloc(), &file, (frn, at), body, want);
-    }
+    each_has_one_reading(&rt, rt.alloc(), CAT048_P1);
 }

@@ -84,3 +84,16 @@ pub(crate) fn each_is_read(rt: &impl Abort, alloc: Global, rows: &[(&str, &str, 
         is_read_as(rt, alloc, &file, block, want);
     }
 }
+
+/// The same of blocks and texts under one file.
+pub(crate) fn each_of_file_is_read(
+    rt: &impl Abort,
+    alloc: Global,
+    text: &str,
+    rows: &[(&str, &str)],
+) {
+    let file = accepted(rt, alloc, text);
+    for &(block, want) in rows {
+        is_read_as(rt, alloc, &file, block, want);
+    }
+}

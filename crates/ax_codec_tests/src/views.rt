@@ -17,7 +17,7 @@ const FILE_DEEPEST: &str =
 group { A group { A group { A group { A group { A group { A group { A group { A group { A element 8 raw
 } } } } } } } } } } } } } } } } uap { 010 }"#;
 
-const BODIES: [(&str, &str, &str); 8] = [
+static BODIES: [(&str, &str, &str); 8] = [
     (CAT048_P1, "30 00 07 81 00 19 0C", "48 {1=(25 12)}"),
     (CAT048_P1, "30 00 04 00", "48 {}"),
     (CAT048_P1, "30 00 04 81", "RunsOut 8"),
@@ -72,7 +72,7 @@ fn first_record<'c, 'a>(rt: &impl Abort, codec: &'c Codec, body: &'a [u8]) -> Re
 }
 
 // A number where one stands, and whether it is present; a part that isn't there has none.
-const NUMBERS: [(&str, &str, &str); 7] = [
+static NUMBERS: [(&str, &str, &str); 7] = [
     ("30 00 06 20 A1 00", "020/TYP", "Some(5) true"),
     ("30 00 06 20 A1 00", "020/TST", "Some(0) true"),
     ("30 00 06 20 A1 80", "020/TST", "Some(1) true"),
@@ -111,13 +111,17 @@ fn has_number(
     same(rt, got.as_str(), want, of.as_str());
 }
 
+fn each_has_its_number(rt: &impl Abort, alloc: Global, text: &str) {
+    let file = accepted(rt, alloc, text);
+    let codec = codec_of(rt, alloc, &file);
+    for &(block, path, want) in &NUMBERS {
+        has_number(rt, alloc, (&file, &codec), block, path, want);
+    }
+}
+
 #[test]
 fn numbers_stand_where_their_places_are_present(rt: HostRuntime) {
-    let file = accepted(&rt, rt.alloc(), CAT048_P1);
-    let codec = codec_of(&rt, rt.alloc(), &file);
-    for &(block, path, want) in &NUMBERS {
-        has_number(&rt, rt.alloc(), (&file, &codec), block, path, want);
-    }
+    each_has_its_number(&rt, rt.alloc(), CAT048_P1);
 }
 
 /// The octets of an item's parts, a bar after each.
@@ -170,17 +174,20 @@ fn item_told(rt: &impl Abort, alloc: Global, codec: &Codec, body: &[u8], frn: u3
 }
 
 /// Asserts what stands in an item of the first record of a block.
-fn item_is_told(rt: &impl Abort, alloc: Global, text: &str, (block, frn): (&str, u32), want: &str) {
-    let file = accepted(rt, alloc, text);
-    let codec = codec_of(rt, alloc, &file);
+fn item_is(rt: &impl Abort, alloc: Global, codec: &Codec, (block, frn): (&str, u32), want: &str) {
     let octets = octets_of(rt, alloc, block);
-    let body = raw_of(rt, &octets, block).body;
-    let got = item_told(rt, alloc, &codec, body, frn);
+    let got = item_told(rt, alloc, codec, raw_of(rt, &octets, block).body, frn);
     same(rt, got.as_str(), want, block);
 }
 
+/// The same under the file of that text.
+fn item_is_told(rt: &impl Abort, alloc: Global, text: &str, item: (&str, u32), want: &str) {
+    let file = accepted(rt, alloc, text);
+    item_is(rt, alloc, &codec_of(rt, alloc, &file), item, want);
+}
+
 // A file, a block, an item by its field reference number, and what stands in it.
-const ITEMS: [(&str, &str, u32, &str); 4] = [
+static ITEMS: [(&str, &str, u32, &str); 4] = [
     // Two occurrences, each with its subitem.
     (
         FILE_N,

@@ -172,7 +172,7 @@ fn put(
     files.push((name, octets)).expect(rt, "memory");
 }
 
-/// A text, with blanks at its end up to that count of octets.
+/// Puts a text, with blanks at its end up to that count of octets.
 fn put_padded(
     rt: &impl Abort,
     alloc: Global,

@@ -1,6 +1,6 @@
 //! Catalogues, and blocks that are read under them.
 
-use crate::texts::accepted;
+use crate::fixtures::accepted;
 use ax_block_reader::{TextError, read_block_text};
 use ax_check::{Accepted, Catalogue};
 use ax_model::{Block, fits};

@@ -1,17 +1,12 @@
 //! A source in memory, whose reads are cut and fail by their numbers.
 
 use crate::checks::{counts, holds, tells};
+use crate::outside::{Input, source};
 use ax_outside::{MemSource, Source};
-use std::alloc::Global;
 use std::process::Abort;
 
-// Six octets under the cuts 2, 9, 0, call 1 failing.
-fn source(rt: &impl Abort, alloc: Global) -> MemSource {
-    let octets = b"abcdef".to_vec(alloc).expect(rt, "memory");
-    let cuts = vec![in alloc; 2, 9, 0].expect(rt, "memory");
-    let failing = vec![in alloc; 1].expect(rt, "memory");
-    MemSource::new(octets, cuts, failing)
-}
+// Six octets, the cuts of their reads, and the read that fails.
+const INPUT: Input<'static> = (b"abcdef", &[2, 9, 0], &[1]);
 
 // Each call's answer, with the front of the buffer.
 const READS: [(Option<usize>, &str); 5] = [
@@ -35,7 +30,7 @@ fn answers(
 
 #[test]
 fn calls_are_cut_and_fail_by_number(rt: HostRuntime) {
-    let mut source = source(&rt, rt.alloc());
+    let mut source = source(&rt, rt.alloc(), INPUT);
     let mut part = [0u8; 4];
     for &(wanted, front) in &READS {
         answers(&rt, &mut source, &mut part, wanted, front);

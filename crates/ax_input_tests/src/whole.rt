@@ -1,16 +1,12 @@
 //! Buffers filled and pieces written whole, however their calls are cut.
 
 use crate::checks::{counts, holds};
+use crate::outside::{Input, source};
 use ax_outside::{MemSink, MemSource, SinkFailed, fill, write_all_of};
-use std::alloc::Global;
 use std::process::Abort;
 
-// Six octets in cuts of 2, 3 and 1.
-fn source(rt: &impl Abort, alloc: Global) -> MemSource {
-    let octets = b"abcdef".to_vec(alloc).expect(rt, "memory");
-    let cuts = vec![in alloc; 2, 3, 1].expect(rt, "memory");
-    MemSource::new(octets, cuts, Vec::new(alloc))
-}
+// Six octets, and the cuts of their reads.
+const INPUT: Input<'static> = (b"abcdef", &[2, 3, 1], &[]);
 
 // Asserts how much of the buffer is filled.
 fn fills(rt: &impl Abort, source: &mut MemSource, buffer: &mut [u8; 4], wanted: usize) {
@@ -26,7 +22,7 @@ fn writes(rt: &impl Abort, sink: &mut MemSink, piece: &[u8], wanted: Result<(), 
 #[test]
 fn cuts_leave_no_trace(rt: HostRuntime) {
     let alloc = rt.alloc();
-    let mut source = source(&rt, alloc);
+    let mut source = source(&rt, alloc, INPUT);
     let mut sink = MemSink::new(alloc, 6, 1, Vec::new(alloc)).expect(&rt, "memory");
     let mut buffer = [0u8; 4];
     fills(&rt, &mut source, &mut buffer, 4);

@@ -3,7 +3,7 @@ use Rattle.std.proofs.Common.{◌≡◌, ℕ, zero, suc, ◌+◌, ◌<◌, ◌�
 use Rattle.ax_bits.specs.Bits.{AreBits}
 use Rattle.ax_model.proofs.Failed.{read_failed}
 use Rattle.ax_model.proofs.Meets.{Meets, bits_of, read_meets}
-use Rattle.ax_model.specs.Reader.{Read, got, failed, read}
+use Rattle.ax_model.specs.Reader.{Read, got, failed, read, Body, whole_body, fault_at, body_after, body_more, body_read}
 use Rattle.ax_model.proofs.Spelled.{read_spelled}
 use Rattle.ax_model.specs.Bodies.{SpellsRecord, RecordsSpell, FailsRecord, FailsBody}
 use Rattle.ax_model.specs.Failing.{Fails}
@@ -13,25 +13,6 @@ use Rattle.ax_model.specs.Specification.{SpecTree, record_kind, record_slots}
 use Rattle.ax_model.specs.Spelling.{Spells}
 use Rattle.ax_model.specs.Tree.{EntriesTree, ValueTree, marked, SlotsTree, compound, slot_count}
 use Rattle.ax_model.specs.declared.fault.BodyCause.{BodyCause}
-
-pub data Body : Type 0 where
-  whole_body : List EntriesTree → Body
-  fault_at : ℕ → BodyCause → Body
-
-abbrev pub body_after : EntriesTree → ℕ → Body → Body
-body_after v n (whole_body vs) = whole_body (v ∷ vs)
-body_after v n (fault_at p c) = fault_at (n + p) c
-
--- a record is read as its entries
-abbrev pub body_more : Read ValueTree → (List ℕ → Body) → Body
-body_more (got (marked es) n y) go = body_after es n (go y)
-body_more (got _ n y) go = whole_body []
-body_more (failed p c) go = fault_at p c
-
-abbrev pub body_read : ℕ → SpecTree → List ℕ → Body
-body_read zero spec b = whole_body []
-body_read (suc n) spec [] = whole_body []
-body_read (suc n) spec (a ∷ b) = body_more (read (record_kind spec) (a ∷ b)) (body_read n spec)
 
 -- a record has some bits
 presence_some : (k : ℕ) (ms b : List ℕ) → Presence k ms b → 0 < length b

@@ -2,11 +2,11 @@
 use Rattle.std.proofs.Common.{◌≡◌, ℕ, List, [], ◌++◌, length, sym, ◌∙◌, subst, append-nil, arith, ◌<◌}
 use Rattle.ax_bits.proofs.Words.{bits-AreBits}
 use Rattle.ax_bits.specs.Bits.{AreBits, bits}
-use Rattle.ax_model.proofs.BodyReader.{body_read, whole_body, BodyMeets, body_meets, fault_at}
+use Rattle.ax_model.proofs.BodyReader.{BodyMeets, body_meets}
 use Rattle.ax_model.proofs.Failed.{read_failed}
 use Rattle.ax_model.proofs.Meets.{Meets, read_meets}
 use Rattle.ax_model.proofs.Once.{read_fault}
-use Rattle.ax_model.specs.Reader.{read, failed, got, Read}
+use Rattle.ax_model.specs.Reader.{read, failed, got, Read, body_read, whole_body, fault_at}
 use Rattle.ax_model.specs.Bodies.{SpellsRecord, SpellsBody, FailsBody}
 use Rattle.ax_model.specs.Failing.{Fails, IsFault}
 use Rattle.ax_model.specs.Sound.{Sound}

@@ -2,10 +2,10 @@
 use Rattle.std.proofs.Common.{◌≡◌, ℕ, ◌<◌, ◌⊎◌, inl, inr, List, [], ◌∷◌, ◌++◌, length, sym, ◌∙◌, ap, arith}
 use Rattle.ax_bits.proofs.Words.{length-bits, bits-AreBits}
 use Rattle.ax_bits.specs.Bits.{AreBits, bits}
-use Rattle.ax_model.proofs.BodyReader.{whole_body, fault_at, body_read, body_failed, body_spelled, Body, BodyMeets, body_meets}
+use Rattle.ax_model.proofs.BodyReader.{body_failed, body_spelled, BodyMeets, body_meets}
 use Rattle.ax_model.proofs.Failed.{read_failed}
 use Rattle.ax_model.proofs.Meets.{Meets, read_meets}
-use Rattle.ax_model.specs.Reader.{got, failed, Read, read}
+use Rattle.ax_model.specs.Reader.{got, failed, Read, read, whole_body, fault_at, body_read, Body}
 use Rattle.ax_model.proofs.Spelled.{read_spelled}
 use Rattle.ax_model.specs.Bodies.{FailsBody, SpellsBody, RecordsSpell}
 use Rattle.ax_model.specs.Failing.{Fails}

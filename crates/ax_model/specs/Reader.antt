@@ -2,6 +2,7 @@
 use Rattle.std.specs.Prelude.{ℕ, zero, suc, ◌+◌, ◌*◌, List, [], ◌∷◌, ◌++◌, length, take, drop, Option, Some, None, Bool, true, false}
 use Rattle.ax_bits.specs.Bits.{number_of}
 use Rattle.ax_model.specs.Presence.{later_slots, slots_past, octets_needed, later_marks, first_mark}
+use Rattle.ax_model.specs.Specification.{SpecTree, record_kind}
 use Rattle.ax_model.specs.Tree.{FixedTree, ValueTree, element, number, group, member_values, MembersTree, ValuesTree, no_members, no_values, member_and, named, value_and, spare, ListsTree, list_and, no_lists, occurrences, content_octets, EntriesTree, entry_and, marked, KindTree, fixed, extended, part_values, counted, by_fx, explicit, compound, slot_count, defined_slots, SlotsTree, no_slots, no_entries, slot_and, spare_slot, subitem}
 use Rattle.ax_model.specs.Widths.{width, members_width}
 use Rattle.ax_model.specs.declared.fault.BodyCause.{BodyCause}
@@ -153,3 +154,26 @@ abbrev mutual
   entries_read s no_slots ms b = got no_entries 0 b
   entries_read s (slot_and spare_slot ss) ms b = entries_read (s + 1) ss (later_marks ms) b
   entries_read s (slot_and (subitem name k) ss) ms b = mark_read (first_mark ms) s (read k) (entries_read (s + 1) ss (later_marks ms)) b
+
+-- ---- bodies
+
+-- the records of a whole body, or the place and cause of its first fault
+pub data Body : Type 0 where
+  whole_body : List EntriesTree → Body
+  fault_at : ℕ → BodyCause → Body
+
+abbrev pub body_after : EntriesTree → ℕ → Body → Body
+body_after v n (whole_body vs) = whole_body (v ∷ vs)
+body_after v n (fault_at p c) = fault_at (n + p) c
+
+-- a record is read as its entries
+abbrev pub body_more : Read ValueTree → (List ℕ → Body) → Body
+body_more (got (marked es) n y) go = body_after es n (go y)
+body_more (got _ n y) go = whole_body []
+body_more (failed p c) go = fault_at p c
+
+-- with that many bits at most
+abbrev pub body_read : ℕ → SpecTree → List ℕ → Body
+body_read zero spec b = whole_body []
+body_read (suc n) spec [] = whole_body []
+body_read (suc n) spec (a ∷ b) = body_more (read (record_kind spec) (a ∷ b)) (body_read n spec)

@@ -57,6 +57,8 @@ impl<'f, 'c> BlockWork for FilterViews<'f, 'c> {
 
     ghost laid = { λ s. take s.filled s.output.items };
 
+    ghost remembers = { λ first s raws. Unit {0} };
+
     ghost takes_memory = { false };
 
     fn take<R: Sink>(

@@ -55,6 +55,8 @@ impl<'m, 'c> BlockWork for MigrateViews<'m, 'c> {
 
     ghost laid = { λ s. take s.filled s.output.items };
 
+    ghost remembers = { λ first s raws. Unit {0} };
+
     ghost takes_memory = { false };
 
     fn take<R: Sink>(

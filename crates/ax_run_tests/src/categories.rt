@@ -42,6 +42,8 @@ impl<'m> BlockWork for CategoryWork<'m> {
 
     ghost laid = { λ s. s.mark.now };
 
+    ghost remembers = { λ first s raws. Unit {0} };
+
     ghost takes_memory = { false };
 
     #[tactic(auto, using(crate::proofs::CategoryBlocks::category_takes))]

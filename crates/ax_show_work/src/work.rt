@@ -63,6 +63,8 @@ impl<'c> BlockWork for ShowViews<'c> {
 
     ghost laid = { λ s. s.lister.out };
 
+    ghost remembers = { λ first s raws. Unit {0} };
+
     ghost takes_memory = { true };
 
     #[tactic(auto, using(ax_stream::proofs::MadeBlocks::tree_takes, crate::proofs::Blocks::takes))]

@@ -8,3 +8,4 @@ pub mod Prefixes
 pub mod Results
 pub mod Runs
 pub mod Streams
+pub mod Remembered

@@ -10,6 +10,7 @@ use Rattle.ax_model.proofs.InputSteps.{ends_by_framing, ends_by_body}
 use Rattle.ax_model.specs.Ends.{RawSpells, RawsSpell, RawFails, Ends, by_framing, by_body}
 use Rattle.ax_model.specs.Framing.{RawTree, AreRaws, FramingEnd, FramingEnds, whole, bad_len, ends_in_header, ends_in_block, input_too_long, IsJustNext, block, end}
 use Rattle.ax_model.specs.declared.fault.BodyCause.{BodyCause}
+use Rattle.ax_model.specs.declared.fault.BodyCause.TheVariants as Body
 use Rattle.ax_model.specs.declared.record.RawBlock.{RawBlock}
 use Rattle.ax_outside.proofs.Ends.{Rose-later}
 use Rattle.ax_outside.specs.Changes.{SourceChange, SinkChange, Gains, GainsNothing, GainsPart}
@@ -18,7 +19,7 @@ use Rattle.ax_stream.proofs.Results.{output_snoc, report_snoc, given_snoc, both,
 use Rattle.ax_stream.proofs.Streams.{raws_snoc, spell_snoc, spell_count, stream_snoc, length_snoc, framed_count, raw_spells_block, octets_after}
 use Rattle.ax_stream.specs.Commands.{BlockCommand, gives, lines_in, octets_in, report_of, output_of, IsGiven}
 use Rattle.ax_stream.specs.Ending.{cause_of, refused_at, framing_end, error_end, stop_end}
-use Rattle.ax_stream.specs.Streams.{BeginsWith, ThenBlock, EndsWithInput, AtBlock, IsLeft, RefusesBlock, in_body, by_length, ToldRun, reading, writing, reporting, for_memory, StreamRuns, IsCaused, IsLicensed, Reports}
+use Rattle.ax_stream.specs.Streams.{BeginsWith, ThenBlock, EndsWithInput, AtBlock, IsLeft, RefusesBlock, in_body, by_length, ToldRun, reading, writing, reporting, for_memory, StreamRuns, IsCaused, IsLicensed, Reports, HasCause}
 use Rattle.ax_stream.specs.Taking.{GivesFor, IsTooLongFor, IsCutFor, StopsFor, Takes}
 use Rattle.ax_stream.specs.declared.end.StreamEnd.{StreamEnd}
 use Rattle.ax_stream.specs.declared.end.StreamEnd.TheVariants as EndOf
@@ -46,7 +47,7 @@ pub record Split (rest octets : List ℕ) (left' : Option (List ℕ)) : Type 0 w
   pub left : left' ≡ Some after
   pub split : rest ≡ octets ++ after
 
-left_splits : (rest octets : List ℕ) (left left' : Option (List ℕ)) → left ≡ Some rest → left ≡ with_front octets left' → Split rest octets left'
+pub left_splits : (rest octets : List ℕ) (left left' : Option (List ℕ)) → left ≡ Some rest → left ≡ with_front octets left' → Split rest octets left'
 left_splits rest octets left None e f = let g : ◌≡◌ {A = Option (List ℕ)} (Some rest) None = sym e ∙ f in absurd (cc)
 left_splits rest octets left (Some after) e f = let g : ◌≡◌ {A = Option (List ℕ)} (Some rest) (Some (octets ++ after)) = sym e ∙ f in record { after = after; left = refl; split = cc }
 
@@ -352,8 +353,15 @@ reports c number raw q h =
     let within : h.part.count < length h.lines = h.part.within in
     record { number = number; block = h.is.block; lines = h.lines; octets = h.octets; answer = h.is.answer; some = omega arith }
 
+has_cause : (c : BlockCommand) (raw : RawTree) (p : ℕ) (cause : BodyCause) → RawFails c.catalogue raw p cause → HasCause c (cause_of cause)
+has_cause c raw p Body.RunsOut h = record { raw = raw; place = p; fails = h }
+has_cause c raw p Body.UndefinedSlot h = record { raw = raw; place = p; fails = h }
+has_cause c raw p Body.PresenceTooLong h = record { raw = raw; place = p; fails = h }
+has_cause c raw p Body.ExtensionPastEnd h = record { raw = raw; place = p; fails = h }
+has_cause c raw p Body.BadExplicitLength h = record { raw = raw; place = p; fails = h }
+
 stop_licensed : (c : BlockCommand) (number : ℕ) (raw : RawTree) (q : SinkChange) (stop : WorkStop) → StopsFor c number raw q stop → IsLicensed c (stop_end number stop)
-stop_licensed c number raw q (Fault f) h = tt
+stop_licensed c number raw q (Fault f) h = has_cause c raw f.bit f.cause h.fails
 stop_licensed c number raw q (TooLong n) h = record { block = h.block; answer = h.answer }
 stop_licensed c number raw q ReportFault h = reports c number raw q h
 stop_licensed c number raw q OutOfMemory h = tt

@@ -4,3 +4,4 @@ pub mod Ending
 pub mod Made
 pub mod Streams
 pub mod Taking
+pub mod Remembering

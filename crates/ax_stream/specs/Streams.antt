@@ -5,12 +5,15 @@ use Rattle.ax_bits.specs.Bits.{AreOctets}
 use Rattle.ax_blocks.specs.Reader.{octets_to_end, RanOut}
 use Rattle.ax_blocks.specs.Taking.{IsUnfinished}
 use Rattle.ax_model.specs.Blocks.{BlockTree, IsFramed, SpellsBlock, SpellsStream}
-use Rattle.ax_model.specs.Ends.{Ends, InputEnd}
+use Rattle.ax_model.specs.Ends.{Ends, InputEnd, RawFails}
 use Rattle.ax_model.specs.Framing.{RawTree, FramingEnd}
 use Rattle.ax_outside.specs.Changes.{SourceChange, SinkChange, IsUntouched, Gains, GainsNothing, GainsWithPart}
 use Rattle.ax_outside.specs.Told.{Rose}
 use Rattle.ax_stream.specs.Commands.{BlockCommand, gives, too_long, report_of, output_of, AreGiven}
 use Rattle.ax_model.specs.declared.fault.BodyCause.{BodyCause}
+use Rattle.ax_model.specs.declared.fault.BodyCause.TheVariants as Body
+use Rattle.ax_stream.specs.declared.end.Cause.{Cause}
+use Rattle.ax_stream.specs.declared.end.Cause.TheVariants.{EndsInHeader, BadLen, EndsInBlock, RunsOut, UndefinedSlot, PresenceTooLong, ExtensionPastEnd, BadExplicitLength}
 use Rattle.ax_stream.specs.Ending.{stream_end, framing_end, refused_at, cause_of}
 use Rattle.ax_stream.specs.declared.end.StreamEnd.{StreamEnd}
 use Rattle.ax_stream.specs.declared.end.StreamEnd.TheVariants.{Done, Refused, InputTooLong, TooLong, ReadFault, WriteFault, ReportFault, OutOfMemory}
@@ -188,12 +191,29 @@ pub record RefusesLength (c : BlockCommand) (number count : ℕ) : Type 0 where
   pub block : BlockTree
   pub answer : c.answer number block ≡ too_long count
 
--- a failed line and a refused length come only of a command that has such
+-- some body fails so under the command's catalogue
+pub record FailsSome (c : BlockCommand) (cause : BodyCause) : Type 0 where
+  pub raw : RawTree
+  pub place : ℕ
+  pub fails : RawFails c.catalogue raw place cause
+
+abbrev pub HasCause : BlockCommand → Cause → Type 0
+HasCause c RunsOut = FailsSome c Body.RunsOut
+HasCause c UndefinedSlot = FailsSome c Body.UndefinedSlot
+HasCause c PresenceTooLong = FailsSome c Body.PresenceTooLong
+HasCause c ExtensionPastEnd = FailsSome c Body.ExtensionPastEnd
+HasCause c BadExplicitLength = FailsSome c Body.BadExplicitLength
+HasCause c EndsInHeader = Unit {0}
+HasCause c BadLen = Unit {0}
+HasCause c EndsInBlock = Unit {0}
+
+-- a failed line and a refused length come only of a command that has such, and a body's fault of a catalogue under which a
+-- body can have it
 abbrev pub IsLicensed : BlockCommand → StreamEnd → Type 0
 IsLicensed c ReportFault = Reports c
 IsLicensed c (TooLong number count) = RefusesLength c number count
 IsLicensed c (Done blocks) = Unit {0}
-IsLicensed c (Refused fault) = Unit {0}
+IsLicensed c (Refused fault) = HasCause c fault.cause
 IsLicensed c InputTooLong = Unit {0}
 IsLicensed c ReadFault = Unit {0}
 IsLicensed c WriteFault = Unit {0}

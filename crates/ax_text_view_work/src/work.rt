@@ -47,6 +47,8 @@ impl<'c> BlockWork for TextViews<'c> {
 
     ghost laid = { λ s. s.line };
 
+    ghost remembers = { λ first s raws. Unit {0} };
+
     ghost takes_memory = { true };
 
     #[tactic(auto, using(crate::proofs::TextBlocks::text_takes))]

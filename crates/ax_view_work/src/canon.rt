@@ -56,6 +56,8 @@ impl<'c> BlockWork for CanonViews<'c> {
 
     ghost laid = { λ s. take s.filled s.output.items };
 
+    ghost remembers = { λ first s raws. Unit {0} };
+
     ghost takes_memory = { false };
 
     #[tactic(auto, using(crate::proofs::CanonBlocks::canon_takes))]

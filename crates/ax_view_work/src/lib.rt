@@ -5,4 +5,4 @@ mod canon;
 mod output;
 
 pub use canon::CanonViews;
-pub use output::{blank_output, lay_block, lay_view};
+pub use output::{blank_output, lay_block, lay_opaque, lay_view};

@@ -68,7 +68,7 @@ pub(crate) fn lay_canonical(codec: &Codec, body: &[u8], output: &mut [u8]) -> Re
 }
 
 /// Lays a block of a category without a file at the front of the output, and answers its octets.
-pub(crate) fn lay_opaque(raw: &RawBlock<'_>, output: &mut [u8]) -> u32
+pub fn lay_opaque(raw: &RawBlock<'_>, output: &mut [u8]) -> u32
     requires room { length output.old ≡ longest_block }
     ensures laid { take result output.new ≡ framed raw.now.category raw.now.body.now }
     ensures within { result ≤ longest_block }

@@ -7,11 +7,23 @@ mod copying;
 #[cfg(test)]
 mod decoding;
 #[cfg(test)]
+mod edition_changes;
+#[cfg(test)]
+mod edition_fixtures;
+#[cfg(test)]
+mod edition_texts;
+#[cfg(test)]
 mod encoding;
 #[cfg(test)]
 mod fixtures;
 #[cfg(test)]
+mod migrated_blocks;
+#[cfg(test)]
+mod migrated_views;
+#[cfg(test)]
 mod records;
+#[cfg(test)]
+mod relations;
 #[cfg(test)]
 mod seeing;
 #[cfg(test)]

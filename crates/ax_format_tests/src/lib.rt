@@ -3,6 +3,8 @@
 #![tactic(auto)]
 
 #[cfg(test)]
+mod bad_tokens;
+#[cfg(test)]
 mod bits;
 #[cfg(test)]
 mod catalogue;
@@ -15,7 +17,11 @@ mod flawless;
 #[cfg(test)]
 mod flaws;
 #[cfg(test)]
+mod listings;
+#[cfg(test)]
 mod lists;
+#[cfg(test)]
+mod long_texts;
 #[cfg(test)]
 mod paths;
 #[cfg(test)]
@@ -25,4 +31,14 @@ mod presence;
 #[cfg(test)]
 mod samples;
 #[cfg(test)]
+mod text_catalogues;
+#[cfg(test)]
+mod text_fixtures;
+#[cfg(test)]
+mod text_lines;
+#[cfg(test)]
 mod texts;
+#[cfg(test)]
+mod texts_back;
+#[cfg(test)]
+mod texts_read;

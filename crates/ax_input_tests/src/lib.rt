@@ -12,6 +12,12 @@ mod checks;
 #[cfg(test)]
 mod command_lines;
 #[cfg(test)]
+mod expressions;
+#[cfg(test)]
+mod filter_fixtures;
+#[cfg(test)]
+mod filtered_records;
+#[cfg(test)]
 mod folder_library;
 #[cfg(test)]
 mod lexing;
@@ -25,6 +31,8 @@ mod memory_library;
 mod memory_sink;
 #[cfg(test)]
 mod memory_source;
+#[cfg(test)]
+mod operators;
 #[cfg(test)]
 mod outside;
 #[cfg(test)]

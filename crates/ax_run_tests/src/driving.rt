@@ -3,25 +3,20 @@ ghost use Rattle.ax_drive.specs.Working.{IsSoundJob};
 ghost use Rattle.ax_migrate_views.specs.Blocks.{IsOfEditions};
 ghost use Rattle.ax_relation.specs.Relates.{Relates};
 
+use crate::specs::accepted;
 use crate::world::{bytes, failing, text_of};
-use ax_check::{Accepted, Catalogue, accept};
+use ax_check::{Accepted, Catalogue};
 use ax_drive::{DriveEnd, Job, Work, drive};
 use ax_edition::{Relation, relate};
-use ax_grammar::read_spec;
 use ax_migrate_views::Migrator;
 use ax_outside::{EndlessSource, MemSink, MemSource, Source};
 use ax_tables::{Codecs, compile};
-use ax_tokens::tokens;
 use std::alloc::Global;
 use std::process::Abort;
 
 /// The specification in the file of that name, accepted.
-fn accepted(rt: &impl Abort, alloc: Global, name: &str) -> Accepted {
-    let text = text_of(rt, name).as_bytes();
-    assert!(rt; text.len() < 1_000_000);
-    let found = tokens(alloc, text, 16).expect(rt, "tokens");
-    let spec = read_spec(alloc, &found).expect(rt, "a specification");
-    accept(alloc, spec).expect(rt, "a specification without flaw")
+fn file_of(rt: &impl Abort, alloc: Global, name: &str) -> Accepted {
+    accepted(rt, alloc, text_of(rt, name))
 }
 
 /// The sinks of a loop, in memory: the output, and the report, of which that call fails.
@@ -76,7 +71,7 @@ fn endless_is_too_long(rt: &impl Abort, alloc: Global, job: Job<'_, '_>)
 fn an_input_without_end_is_too_long(rt: HostRuntime) {
     let alloc = rt.alloc();
     let mut catalogue = Catalogue::new(alloc);
-    let one = accepted(&rt, alloc, "A");
+    let one = file_of(&rt, alloc, "A");
     catalogue.add(one).expect(&rt, "a category");
     let codecs = Codecs::compile(alloc, &catalogue).expect(&rt, "memory");
     endless_is_too_long(&rt, alloc, Job::Canon(&catalogue, &codecs));
@@ -144,7 +139,7 @@ fn related_end_as(rt: &impl Abort, alloc: Global, old: &Accepted, new: &Accepted
 #[test]
 fn a_report_that_fails_ends_a_migration(rt: HostRuntime) {
     let alloc = rt.alloc();
-    let old = accepted(&rt, alloc, "048");
-    let new = accepted(&rt, alloc, "048-P2");
+    let old = file_of(&rt, alloc, "048");
+    let new = file_of(&rt, alloc, "048-P2");
     related_end_as(&rt, alloc, &old, &new);
 }

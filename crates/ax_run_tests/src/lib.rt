@@ -11,17 +11,27 @@ mod categories;
 #[cfg(test)]
 mod checking;
 #[cfg(test)]
+mod checks;
+#[cfg(test)]
 mod driving;
 #[cfg(test)]
 mod each_call;
 #[cfg(test)]
 mod filtering;
 #[cfg(test)]
+mod loading;
+#[cfg(test)]
 mod migrating;
+#[cfg(test)]
+mod outcomes;
 #[cfg(test)]
 mod outside;
 #[cfg(test)]
+mod specs;
+#[cfg(test)]
 mod texts;
+#[cfg(test)]
+mod trials;
 #[cfg(test)]
 mod wording;
 #[cfg(test)]

@@ -1,5 +1,6 @@
 //! Catalogues, filters and blocks, read from texts. What can't be read stops the test.
 
+use crate::checks::same_text;
 use ax_bits::Out;
 use ax_canon::canonical_if;
 use ax_check::{Accepted, Catalogue, accept};
@@ -13,11 +14,6 @@ use ax_values::decode_block;
 use ax_view::{BlockView, RecordView, scan};
 use std::alloc::Global;
 use std::process::Abort;
-
-/// Asserts that what was found of something is what is wanted.
-pub(crate) fn same(rt: &impl Abort, found: &str, wanted: &str, of: &str) {
-    assert_eq!(rt; found, wanted, "of {of}");
-}
 
 /// The specification of a category file without flaw.
 fn accepted(rt: &impl Abort, alloc: Global, text: &str) -> Accepted {
@@ -74,10 +70,10 @@ pub(crate) fn is_refused(
     match read(rt, alloc, catalogue, text) {
         Err(FilterStop::Refused(fault)) => {
             let got = format!(in alloc; "{fault:?}").expect(rt, "memory");
-            same(rt, got.as_str(), want, text);
+            same_text(rt, got.as_str(), want, text);
         }
         Err(FilterStop::OutOfMemory) => rt.panic("out of memory"),
-        Ok(_) => same(rt, "a filter", want, text),
+        Ok(_) => same_text(rt, "a filter", want, text),
     }
 }
 
@@ -188,5 +184,5 @@ pub(crate) fn keeps(
     let file = catalogue.get(raw.category).expect(rt, "a specification");
     let got = filtered(rt, alloc, file, &filter, &raw);
     let of = format!(in alloc; "{text} of {block}").expect(rt, "memory");
-    same(rt, got.as_str(), want, of.as_str());
+    same_text(rt, got.as_str(), want, of.as_str());
 }

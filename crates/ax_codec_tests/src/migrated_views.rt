@@ -3,8 +3,9 @@ ghost use Rattle.std.specs.Prelude.{◌≡◌};
 ghost use Rattle.ax_migrate_views.specs.Blocks.{IsOfEditions};
 ghost use Rattle.ax_relation.specs.Relates.{Relates};
 
-use crate::blocks::MIGRATED;
-use crate::fixtures::{Edition, accepted, octets_of, raw_of, report_of, same};
+use crate::edition_fixtures::{Edition, accepted, report_of, same};
+use crate::fixtures::{octets_of, raw_of};
+use crate::migrated_blocks::MIGRATED;
 use ax_bits::Out;
 use ax_check::Accepted;
 use ax_edition::{Relation, relate};
@@ -62,7 +63,7 @@ fn is_migrated(rt: &impl Abort, alloc: Global, migrator: &Migrator<'_>, row: (&s
 {
     let (input, made, lines) = row;
     let octets = octets_of(rt, alloc, input);
-    let raw = raw_of(rt, &octets);
+    let raw = raw_of(rt, &octets, input);
     let view = scan(migrator.old(), raw.body).expect(rt, "records");
     let made = octets_of(rt, alloc, made);
     becomes(rt, migrator, &view, &made, input);

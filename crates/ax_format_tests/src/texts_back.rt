@@ -1,7 +1,8 @@
 //! What was printed for a block reads back as that block.
 
-use crate::catalogues::{block_of, catalogue_of, encoded};
-use crate::fixtures::{octets_decoded, octets_of, same};
+use crate::checks::same_octets;
+use crate::text_catalogues::{block_of, catalogue_of, encoded};
+use crate::text_fixtures::{octets_decoded, octets_of};
 use ax_check::{Accepted, Catalogue};
 use ax_samples::{CAT019_P1, CAT034_P1, CAT048_P1, FILE_A, FILE_H1, FILE_N};
 use ax_text::block_text;
@@ -32,7 +33,7 @@ fn reads_back(rt: &impl Abort, alloc: Global, text: &str, block: &str) {
     let catalogue = catalogue_of(rt, alloc, text);
     let octets = octets_of(rt, alloc, block);
     let back = printed_and_read(rt, alloc, &catalogue, &octets);
-    same(rt, &back, &octets, block);
+    same_octets(rt, &back, &octets, block);
 }
 
 // Category files, and canonical blocks under them.

@@ -1,5 +1,5 @@
 //! Each comparison at a number that is equal, at one that is below and at one that is above.
-use crate::fixtures::{catalogue, keeps};
+use crate::filter_fixtures::{catalogue, keeps};
 use ax_check::Catalogue;
 use ax_samples::{CAT034_P1, CAT048_P1};
 use std::alloc::Global;

@@ -1,6 +1,7 @@
 //! Single blocks of one edition in another.
 
-use crate::fixtures::{Edition, accepted, decoded, have_lines, octets_of, same};
+use crate::edition_fixtures::{Edition, accepted, decoded, have_lines, same};
+use crate::fixtures::octets_of;
 use ax_check::Accepted;
 use ax_edition::relate;
 use ax_migrate::{LossList, Migrated, migrate_tree};

@@ -1,6 +1,6 @@
 //! The first bad token of texts that are no block's.
 
-use crate::catalogues::{add_file, catalogue_of, is_bad_at, repeated};
+use crate::text_catalogues::{add_file, catalogue_of, is_bad_at, repeated};
 use ax_check::Catalogue;
 use ax_samples::{CAT048_P1, FILE_A, FILE_H1, FILE_N};
 use std::alloc::Global;

@@ -1,6 +1,8 @@
 //! Blocks as listings.
 
-use crate::fixtures::{accepted, decoded, octets_decoded, octets_of, same};
+use crate::checks::same_octets;
+use crate::text_fixtures::{decoded, octets_decoded, octets_of};
+use crate::texts::accepted;
 use ax_check::Accepted;
 use ax_samples::{CAT048_P1, FILE_A};
 use ax_text::{show_lines, show_opaque};
@@ -121,7 +123,7 @@ fn has_listing(
 ) {
     let block = octets_decoded(rt, alloc, file.spec(), octets);
     let lines = show_lines(alloc, file.spec(), &block, number).expect(rt, "memory");
-    same(rt, &lines, want.as_bytes(), of);
+    same_octets(rt, &lines, want.as_bytes(), of);
 }
 
 /// Asserts the same of octets in hexadecimal, under a category file.
@@ -146,7 +148,7 @@ fn blocks_are_listed(rt: HostRuntime) {
 fn opaque_octets_are_listed(rt: HostRuntime) {
     let line = show_opaque(rt.alloc(), 3, 7, &[0x80, 0xFF]).expect(&rt, "memory");
     let want = b"block 3 category 007 octets 5 opaque \"80ff\"\n";
-    same(&rt, &line, want, "07 00 05 80 FF");
+    same_octets(&rt, &line, want, "07 00 05 80 FF");
 }
 
 // Records of one item under `FILE_CONTENTS`, and the lines of the item.
@@ -225,7 +227,7 @@ fn a_listed_block_is_canonical(rt: HostRuntime) {
     let file = accepted(&rt, alloc, CAT048_P1);
     let block = decoded(&rt, alloc, file.spec(), TARGET_REPORT);
     let canonical = encode_block(alloc, file.spec(), &block).expect(&rt, "octets");
-    same(
+    same_octets(
         &rt,
         &canonical,
         &octets_of(&rt, alloc, TARGET_REPORT),

@@ -1,25 +1,10 @@
 //! Relations of specifications from texts, and what they tell as texts.
 
-use ax_check::{Accepted, accept};
+use crate::fixtures::accepted;
 use ax_edition::{Move, Moves, RelateError, Relation, RelationPath, relate};
-use ax_grammar::read_spec;
-use ax_model::{Path, Place, Spec};
-use ax_tokens::tokens;
+use ax_model::{Path, Place};
 use std::alloc::{AllocError, Global};
 use std::process::Abort;
-
-/// The specification that a text spells.
-fn read(rt: &impl Abort, alloc: Global, text: &str) -> Spec {
-    let octets = text.as_bytes();
-    assert!(rt; octets.len() <= 100_000);
-    let found = tokens(alloc, octets, 16).expect(rt, "tokens");
-    read_spec(alloc, &found).expect(rt, "a specification")
-}
-
-pub(crate) fn accepted(rt: &impl Abort, alloc: Global, text: &str) -> Accepted {
-    let spec = read(rt, alloc, text);
-    accept(alloc, spec).expect(rt, "a specification without flaw")
-}
 
 /// The relation of the specifications that two texts spell, or why they have none.
 pub(crate) fn relation_of(
@@ -35,11 +20,6 @@ pub(crate) fn relation_of(
 
 pub(crate) fn related(rt: &impl Abort, alloc: Global, old: &str, new: &str) -> Relation {
     relation_of(rt, alloc, old, new).expect(rt, "editions of one category")
-}
-
-/// Asserts that what is told of something is as wanted.
-pub(crate) fn same(rt: &impl Abort, found: &str, wanted: &str, of: &str) {
-    assert_eq!(rt; found, wanted, "of {of}");
 }
 
 /// The field reference number, and the steps.

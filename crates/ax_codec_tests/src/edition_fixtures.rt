@@ -1,12 +1,12 @@
 //! Editions of categories, blocks from octets, and lines of losses as octets.
 ghost use Rattle.ax_model.specs.OfCode.{HasNoFlaw, BlockFits};
 
-use crate::texts;
+use crate::fixtures::{self, octets_of, raw_of};
 use ax_check::Accepted;
 use ax_migrate::{LossList, loss_lines};
-use ax_model::{Block, RawBlock, Spec, fits};
+use ax_model::{Block, Spec, fits};
 use ax_outside::MemSink;
-use ax_samples::{CAT048_P1, CAT048_P2, FILE_G1, FILE_G2, FILE_H1, FILE_H2, FILE_H3, octets};
+use ax_samples::{CAT048_P1, CAT048_P2, FILE_G1, FILE_G2, FILE_H1, FILE_H2, FILE_H3};
 use ax_values::decode_block;
 use std::alloc::Global;
 use std::process::Abort;
@@ -86,29 +86,7 @@ impl Edition {
 
 /// The specification of a file.
 pub(crate) fn accepted(rt: &impl Abort, alloc: Global, edition: Edition) -> Accepted {
-    texts::accepted(rt, alloc, edition.text())
-}
-
-/// Octets in hexadecimal.
-pub(crate) fn octets_of(rt: &impl Abort, alloc: Global, text: &str) -> Vec<u8> {
-    octets(alloc, text).expect(rt, "octets")
-}
-
-/// Stops at a block whose LEN is not the number of its octets.
-fn stop_at_length(rt: &impl Abort, octets: &[u8]) -> ! {
-    panic!(rt; "LEN of {octets:?}")
-}
-
-/// The category and the body of the block that these octets are, whose LEN has to be theirs.
-pub(crate) fn raw_of<'o>(rt: &impl Abort, octets: &'o [u8]) -> RawBlock<'o> {
-    assert!(rt; octets.len() >= 4);
-    if octets.len() != octets[1] as usize * 256 + octets[2] as usize {
-        stop_at_length(rt, octets)
-    }
-    RawBlock {
-        category: octets[0],
-        body: &octets[3..],
-    }
+    fixtures::accepted(rt, alloc, edition.text())
 }
 
 /// The block that octets in hexadecimal are read as.
@@ -117,7 +95,7 @@ pub(crate) fn decoded(rt: &impl Abort, alloc: Global, spec: &Spec, block: &str) 
     ensures { BlockFits spec.now result }
 {
     let octets = octets_of(rt, alloc, block);
-    let raw = raw_of(rt, &octets);
+    let raw = raw_of(rt, &octets, block);
     let block = decode_block(alloc, spec, &raw).expect(rt, "a block");
     assert!(rt; fits(spec, &block));
     block

@@ -1,28 +1,11 @@
-//! Specifications and blocks, read from texts.
+//! Blocks, read from octets in hexadecimal.
 ghost use Rattle.ax_model.specs.OfCode.{HasNoFlaw, BlockFits};
 
-use ax_check::{Accepted, accept};
-use ax_grammar::read_spec;
 use ax_model::{Block, RawBlock, Spec, fits};
 use ax_samples::octets;
-use ax_tokens::tokens;
 use ax_values::decode_block;
 use std::alloc::Global;
 use std::process::Abort;
-
-/// The specification that a text spells.
-fn spec_of(rt: &impl Abort, alloc: Global, text: &str) -> Spec {
-    let text = text.as_bytes();
-    assert!(rt; text.len() < 10_000);
-    let found = tokens(alloc, text, 16).expect(rt, "tokens");
-    read_spec(alloc, &found).expect(rt, "a specification")
-}
-
-/// The specification of a category file without flaw.
-pub(crate) fn accepted(rt: &impl Abort, alloc: Global, text: &str) -> Accepted {
-    let spec = spec_of(rt, alloc, text);
-    accept(alloc, spec).expect(rt, "a specification without flaw")
-}
 
 /// Octets in hexadecimal.
 pub(crate) fn octets_of(rt: &impl Abort, alloc: Global, text: &str) -> Vec<u8> {
@@ -64,9 +47,4 @@ pub(crate) fn decoded(rt: &impl Abort, alloc: Global, spec: &Spec, block: &str) 
 {
     let octets = octets_of(rt, alloc, block);
     octets_decoded(rt, alloc, spec, &octets)
-}
-
-/// Asserts that octets are as wanted, of the block or line that is named.
-pub(crate) fn same(rt: &impl Abort, found: &[u8], wanted: &[u8], of: &str) {
-    assert_eq!(rt; found, wanted, "of {of}");
 }

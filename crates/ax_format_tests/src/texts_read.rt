@@ -1,7 +1,8 @@
 //! Texts, and the octets of the blocks that they are.
 
-use crate::catalogues::{block_of, catalogue_of, encoded};
-use crate::fixtures::{octets_of, same};
+use crate::checks::same_octets;
+use crate::text_catalogues::{block_of, catalogue_of, encoded};
+use crate::text_fixtures::octets_of;
 use ax_check::Catalogue;
 use ax_model::Block;
 use ax_samples::{CAT048_P1, FILE_A, FILE_H1, FILE_N};
@@ -24,7 +25,7 @@ fn line_encoded(
 /// Asserts that octets are those in hexadecimal, of the line that is named.
 fn are_octets(rt: &impl Abort, alloc: Global, made: &[u8], want: &str, line: &str) {
     let want = octets_of(rt, alloc, want);
-    same(rt, made, &want, line);
+    same_octets(rt, made, &want, line);
 }
 
 /// Asserts that a line under a file of a category is the text of the block with these octets.
@@ -110,7 +111,7 @@ fn is_opaque(rt: &impl Abort, block: &Block, wanted: u8, wanted_octets: &[u8]) {
     match block {
         Block::Opaque { category, octets } => {
             assert!(rt; *category == wanted);
-            same(rt, octets.as_slice(), wanted_octets, "an opaque block");
+            same_octets(rt, octets.as_slice(), wanted_octets, "an opaque block");
         }
         Block::Read { .. } => panic!(rt; "no opaque block"),
     }

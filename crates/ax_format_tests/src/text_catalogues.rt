@@ -1,6 +1,7 @@
 //! Catalogues, and blocks that are read under them.
 
-use crate::fixtures::accepted;
+use crate::checks::same_number;
+use crate::texts::accepted;
 use ax_block_reader::{TextError, read_block_text};
 use ax_check::{Accepted, Catalogue};
 use ax_model::{Block, fits};
@@ -73,11 +74,6 @@ pub(crate) fn encoded(rt: &impl Abort, alloc: Global, file: &Accepted, block: &B
     encode_block(alloc, file.spec(), block).expect(rt, "octets")
 }
 
-/// Asserts that a number is as wanted, of the line that is named.
-fn same_number(rt: &impl Abort, found: u64, wanted: u64, of: &str) {
-    assert_eq!(rt; found, wanted, "{of}");
-}
-
 /// Asserts the number of the first bad token of a line that is no block's. The line is named so.
 pub(crate) fn is_bad_at(
     rt: &impl Abort,
@@ -88,7 +84,7 @@ pub(crate) fn is_bad_at(
     of: &str,
 ) {
     match read_line(rt, alloc, catalogue, line) {
-        Err(TextError::BadToken { token }) => same_number(rt, token as u64, wanted as u64, of),
+        Err(TextError::BadToken { token }) => same_number(rt, token as i128, wanted as i128, of),
         _ => panic!(rt; "no bad token"),
     }
 }
@@ -102,7 +98,12 @@ pub(crate) fn is_too_long(
     wanted: u64,
 ) {
     match read_line(rt, alloc, catalogue, line) {
-        Err(TextError::TooLong { octets }) => same_number(rt, octets, wanted, "octets"),
+        Err(TextError::TooLong { octets }) => same_number(
+            rt,
+            octets as i128,
+            wanted as i128,
+            "octets",
+        ),
         _ => panic!(rt; "not too long"),
     }
 }

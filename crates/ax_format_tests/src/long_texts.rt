@@ -1,6 +1,6 @@
 //! Texts of blocks whose canonical form is too long.
 
-use crate::catalogues::{block_of, catalogue_of, is_bad_at, is_too_long, repeated};
+use crate::text_catalogues::{block_of, catalogue_of, is_bad_at, is_too_long, repeated};
 use ax_check::Catalogue;
 use ax_samples::{CAT048_P1, FILE_A};
 use std::alloc::Global;

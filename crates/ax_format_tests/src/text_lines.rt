@@ -1,7 +1,9 @@
 //! Blocks and records as lines.
 ghost use Rattle.ax_model.specs.OfCode.{BlockFits};
 
-use crate::fixtures::{accepted, decoded, same};
+use crate::checks::same_octets;
+use crate::text_fixtures::decoded;
+use crate::texts::accepted;
 use ax_check::Accepted;
 use ax_model::{Block, Spec};
 use ax_samples::{CAT048_P1, FILE_A, FILE_H1, FILE_N};
@@ -60,7 +62,7 @@ const PRINTED: [(&str, &str); 12] = [
 fn is_printed_as(rt: &impl Abort, alloc: Global, file: &Accepted, block: &str, want: &str) {
     let found = decoded(rt, alloc, file.spec(), block);
     let line = block_text(alloc, file.spec(), &found).expect(rt, "memory");
-    same(rt, &line, want.as_bytes(), block);
+    same_octets(rt, &line, want.as_bytes(), block);
 }
 
 /// Asserts the same under a category file.
@@ -113,7 +115,7 @@ fn blocks_of_other_categories_are_printed(rt: HostRuntime) {
 #[test]
 fn opaque_octets_are_printed(rt: HostRuntime) {
     let line = opaque_text(rt.alloc(), 62, &[0x80, 0xFF]).expect(&rt, "memory");
-    same(&rt, &line, b"opaque 062 \"80ff\"\n", "3E 00 05 80 FF");
+    same_octets(&rt, &line, b"opaque 062 \"80ff\"\n", "3E 00 05 80 FF");
 }
 
 /// The text of the one record of a block.
@@ -136,5 +138,5 @@ fn a_record_is_printed_without_its_block(rt: HostRuntime) {
     let octets = "30 00 08 01 01 40 0B 0C";
     let block = decoded(&rt, alloc, file.spec(), octets);
     let text = text_of_record(&rt, alloc, file.spec(), &block);
-    same(&rt, &text, b"record { 030 { 5 6 } }", octets);
+    same_octets(&rt, &text, b"record { 030 { 5 6 } }", octets);
 }

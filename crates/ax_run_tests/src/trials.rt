@@ -1,17 +1,11 @@
 //! The lines that `trial` writes.
 
 use crate::checks::same_octets;
-use crate::specs::spec_of;
-use ax_check::{Accepted, accept};
+use crate::specs::accepted;
 use ax_samples::{CAT034_P1, CAT048_P1, FILE_K, FILE_N, FILE_Z};
 use ax_trial::trial_text;
 use std::alloc::Global;
 use std::process::Abort;
-
-fn accepted(rt: &impl Abort, alloc: Global, text: &str) -> Accepted {
-    let spec = spec_of(rt, alloc, text);
-    accept(alloc, spec).expect(rt, "a specification without flaw")
-}
 
 /// Three counted kinds, one within the other.
 const NESTED: &str =

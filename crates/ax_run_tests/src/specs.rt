@@ -1,5 +1,6 @@
 //! Specifications, read from texts.
 
+use ax_check::{Accepted, accept};
 use ax_grammar::read_spec;
 use ax_model::Spec;
 use ax_tokens::tokens;
@@ -12,4 +13,10 @@ pub(crate) fn spec_of(rt: &impl Abort, alloc: Global, text: &str) -> Spec {
     assert!(rt; text.len() < 1_000_000);
     let found = tokens(alloc, text, 16).expect(rt, "tokens");
     read_spec(alloc, &found).expect(rt, "a specification")
+}
+
+/// The specification that a text spells, accepted.
+pub(crate) fn accepted(rt: &impl Abort, alloc: Global, text: &str) -> Accepted {
+    let spec = spec_of(rt, alloc, text);
+    accept(alloc, spec).expect(rt, "a specification without flaw")
 }

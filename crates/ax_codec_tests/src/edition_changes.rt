@@ -1,6 +1,6 @@
 //! One item of two editions, with one thing changed.
 
-use crate::texts::are_related_as;
+use crate::edition_texts::are_related_as;
 use std::alloc::Global;
 use std::process::Abort;
 

@@ -1,6 +1,7 @@
 pub mod BlockCommands
 pub mod Commands
 pub mod Ending
+pub mod Lines
 pub mod Made
 pub mod Streams
 pub mod Taking

@@ -1,0 +1,5 @@
+use Rattle.ax_outside.proofs.Pieces.{written_then}
+use Rattle.ax_report.proofs.pieces.write_three.Goals as goal
+
+pub returns : goal.returns
+returns g c = written_then _ _ _ _ _ _ _ _ _ _ c.in_ok-write_text.ensures c.write_two.ensures

@@ -1,5 +1,6 @@
 //! The tests of the codec across crates: category files are read and accepted, and their blocks decoded, encoded and
-//! copied, each body read by trees and by views alike. It holds nothing public.
+//! copied, each body read by trees and by views alike; and of relations of editions, and of blocks that are migrated by them,
+//! as trees and as views. It holds nothing public.
 #![tactic(auto)]
 
 #[cfg(test)]

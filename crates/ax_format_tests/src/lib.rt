@@ -1,5 +1,6 @@
 //! Tests of the crates that the format is written in: bits and outputs, lists, presence fields, the values, copies and paths of
-//! a specification, its flaws and its places, and the catalogue. The crate has nothing else.
+//! a specification, its flaws and its places, and the catalogue; and of blocks as text: printed, listed, and read again under a
+//! catalogue. The crate has nothing else.
 #![tactic(auto)]
 
 #[cfg(test)]

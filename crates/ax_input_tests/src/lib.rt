@@ -1,6 +1,6 @@
 //! Tests of what is read: sources, sinks and libraries of files, in memory and over real files; inputs block by block or line by
-//! line, however their sources cut them and fail, and a line command over them; texts as tokens and as category files; and the
-//! words of a command line. The crate has nothing else.
+//! line, however their sources cut them and fail, and a line command over them; texts as tokens and as category files; filter
+//! expressions over a catalogue, and the records that they hold of; and the words of a command line. The crate has nothing else.
 #![tactic(auto)]
 
 #[cfg(test)]

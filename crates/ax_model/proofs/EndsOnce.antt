@@ -85,10 +85,10 @@ is_no_fault catalogue raw (read_block of records) p c h g =
     body_never_both h.spec (bits raw.body) records p c h.spelled (subst (λ s. FailsBody s (bits raw.body) p c) spec g.fails)
 is_no_fault catalogue raw (opaque_block of content) p c h g = let e : Some g.spec ≡ None = sym g.known ∙ h.unknown in cc
 
-raw_no_fault : (catalogue : List SpecTree) (raw : RawTree) (block : BlockTree) (p : ℕ) (c : BodyCause) → RawSpells catalogue raw block → RawFails catalogue raw p c → ⊥
+pub raw_no_fault : (catalogue : List SpecTree) (raw : RawTree) (block : BlockTree) (p : ℕ) (c : BodyCause) → RawSpells catalogue raw block → RawFails catalogue raw p c → ⊥
 raw_no_fault catalogue raw block p c h g = is_no_fault catalogue raw block p c (spelled_is catalogue raw.category raw.body h.octets block h.framed h.spelled) g
 
-one_fault : (catalogue : List SpecTree) (raw : RawTree) (p q : ℕ) (c d : BodyCause) → RawFails catalogue raw p c → RawFails catalogue raw q d → (p ≡ q) × (c ≡ d)
+pub one_fault : (catalogue : List SpecTree) (raw : RawTree) (p q : ℕ) (c d : BodyCause) → RawFails catalogue raw p c → RawFails catalogue raw q d → (p ≡ q) × (c ≡ d)
 one_fault catalogue raw p q c d h g =
     let spec : g.spec ≡ h.spec = one_spec (spec_of raw.category catalogue) h.spec g.spec h.known g.known in
     body_fails_once h.spec (bits raw.body) p q c d h.fails (subst (λ s. FailsBody s (bits raw.body) q d) spec g.fails)

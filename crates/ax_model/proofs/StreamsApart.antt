@@ -75,7 +75,7 @@ found P category true one rest spec test h more e =
     let same : one ≡ spec = cc in (subst P same h, ap (λ s. s.category) (sym same) ∙ eqb-true one.category category test)
 found P category false one rest spec test h more e = more e
 
-found_in : (category : ℕ) (catalogue : List SpecTree) (spec : SpecTree) → AllByRecursion NoFlaw catalogue → spec_of category catalogue ≡ Some spec → NoFlaw spec × (spec.category ≡ category)
+pub found_in : (category : ℕ) (catalogue : List SpecTree) (spec : SpecTree) → AllByRecursion NoFlaw catalogue → spec_of category catalogue ≡ Some spec → NoFlaw spec × (spec.category ≡ category)
 found_in category [] spec h e = absurd (let none : None ≡ Some spec = e in cc)
 found_in category (s ∷ catalogue) spec h e = found NoFlaw category (s.category == category) s (spec_of category catalogue) spec refl h.0 (found_in category catalogue spec h.1) e
 

@@ -1,5 +1,6 @@
-//! Tests of the call `run` over files, an input and outputs in memory, and of the block loop below it. The crate has nothing
-//! else.
+//! Tests of the call `run` over files, an input and outputs in memory, and of the block loop below it; of category files that
+//! are loaded by name, of what a user reads of each outcome, of what `trial` writes, and of the tallies of `salvage`. The crate
+//! has nothing else.
 #![tactic(auto)]
 
 #[cfg(test)]
@@ -26,6 +27,8 @@ mod migrating;
 mod outcomes;
 #[cfg(test)]
 mod outside;
+#[cfg(test)]
+mod salvaging;
 #[cfg(test)]
 mod specs;
 #[cfg(test)]

@@ -8,6 +8,7 @@ use Rattle.ax_stream.specs.declared.end.Cause.{Cause}
 use Rattle.ax_stream.specs.declared.end.Cause.TheVariants.{EndsInHeader, BadLen, EndsInBlock, RunsOut, UndefinedSlot, PresenceTooLong, ExtensionPastEnd, BadExplicitLength}
 use Rattle.ax_blocks.specs.declared.next_error.NextError.{NextError}
 use Rattle.ax_blocks.specs.declared.next_error.NextError.TheVariants as NextErrorOf
+use Rattle.ax_stream.specs.declared.end.InputFault.{InputFault}
 use Rattle.ax_stream.specs.declared.end.StreamEnd.{StreamEnd}
 use Rattle.ax_stream.specs.declared.end.StreamEnd.TheVariants.{Done, Refused, InputTooLong, TooLong, ReadFault, ReportFault, OutOfMemory}
 use Rattle.ax_stream.specs.declared.work.WorkStop.{WorkStop}
@@ -23,6 +24,10 @@ cause_of Body.UndefinedSlot = UndefinedSlot
 cause_of Body.PresenceTooLong = PresenceTooLong
 cause_of Body.ExtensionPastEnd = ExtensionPastEnd
 cause_of Body.BadExplicitLength = BadExplicitLength
+
+-- of the body of the block of that number, whose bits follow those of CAT and LEN
+abbrev pub body_fault : ℕ → ℕ → BodyCause → InputFault
+body_fault block bit cause = record { cause = cause_of cause; block = block; bit = 24 + bit }
 
 abbrev pub refused_at : Cause → ℕ → ℕ → StreamEnd
 refused_at cause block bit = Refused (record { cause = cause; block = block; bit = bit })
@@ -49,7 +54,7 @@ error_end blocks NextErrorOf.ReadFault = ReadFault
 
 -- for a block that isn't written
 abbrev pub stop_end : ℕ → WorkStop → StreamEnd
-stop_end blocks (WorkStopOf.Fault f) = refused_at (cause_of f.cause) blocks (24 + f.bit)
+stop_end blocks (WorkStopOf.Fault f) = Refused (body_fault blocks f.bit f.cause)
 stop_end blocks (WorkStopOf.TooLong octets) = TooLong blocks octets
 stop_end blocks WorkStopOf.ReportFault = ReportFault
 stop_end blocks WorkStopOf.OutOfMemory = OutOfMemory

@@ -1,10 +1,10 @@
 //! How a run over a stream of blocks ends.
-ghost use Rattle.std.specs.Prelude.{◌≡◌};
-ghost use Rattle.ax_stream.specs.Ending.{cause_of, refused_at, error_end, IsShort, stop_end};
+ghost use Rattle.std.specs.Prelude.{◌≡◌, ◌≤◌};
+ghost use Rattle.ax_stream.specs.Ending.{body_fault, cause_of, refused_at, error_end, IsShort, stop_end};
 
 use crate::work::WorkStop;
 use ax_blocks::NextError;
-use ax_model::BodyCause;
+use ax_model::{BodyCause, BodyFault};
 
 /// The cause of a fault of the input.
 #[derive(Clone, Copy, Debug, PartialEq, Eq)]
@@ -35,6 +35,20 @@ pub struct InputFault {
     pub cause: Cause,
     pub block: u64,
     pub bit: u32,
+}
+
+impl InputFault {
+    /// The fault of the body of the block of that number, whose bits follow those of CAT and LEN.
+    pub fn of_body(block: u64, fault: BodyFault) -> InputFault
+        requires { fault.bit ≤ 524256 }
+        ensures { result ≡ body_fault block fault.bit fault.cause }
+    {
+        InputFault {
+            cause: input_cause(fault.cause),
+            block,
+            bit: HEADER_BITS + fault.bit,
+        }
+    }
 }
 
 /// How a run over a stream of blocks ends.
@@ -100,11 +114,9 @@ pub fn work_end(stop: WorkStop, blocks: u64) -> StreamEnd
     ensures { result ≡ stop_end blocks stop }
 {
     match stop {
-        WorkStop::Fault(fault) => refused(
-            input_cause(fault.cause),
-            blocks,
-            HEADER_BITS + fault.bit,
-        ),
+        WorkStop::Fault(fault) => StreamEnd::Refused {
+            fault: InputFault::of_body(blocks, fault),
+        },
         WorkStop::TooLong { octets } => StreamEnd::TooLong {
             block: blocks,
             octets,

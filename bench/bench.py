@@ -78,6 +78,7 @@ def commands(room, binary, stream, targets, only):
     octets = stream.stat().st_size
     rows = [
         Row("canon", [binary, "canon", *SAMPLES], stream, "decoder", octets),
+        Row("salvage", [binary, "salvage", *SAMPLES], stream, "decoder", octets),
         Row("filter SAC = 25", [binary, "filter", "is 048/010/SAC = 25", *SAMPLES], stream, "decoder", octets),
         Row("filter all { }", [binary, "filter", "all { }", *SAMPLES], stream, "decoder", octets),
         Row("migrate", [binary, "migrate", *EDITIONS], targets, "decoder 048", targets.stat().st_size),

@@ -3,7 +3,7 @@ ghost use Rattle.ax_model.specs.OfCode.{HasNoFlaw, BlockFits};
 
 use crate::fixtures::{self, octets_of, raw_of};
 use ax_check::Accepted;
-use ax_migrate::{LossList, loss_lines};
+use ax_migrate::{LossList, loss_line};
 use ax_model::{Block, Spec, fits};
 use ax_outside::MemSink;
 use ax_samples::{CAT048_P1, CAT048_P2, FILE_G1, FILE_G2, FILE_H1, FILE_H2, FILE_H3};
@@ -109,7 +109,9 @@ pub(crate) fn report_of(rt: &impl Abort, alloc: Global) -> MemSink {
 /// Asserts that losses have these lines, as those of block 7.
 pub(crate) fn have_lines(rt: &impl Abort, alloc: Global, losses: &LossList, lines: &str, of: &str) {
     let mut report = report_of(rt, alloc);
-    loss_lines(&mut report, 7, losses).expect(rt, "lines that are written");
+    for loss in losses.as_slice() {
+        loss_line(&mut report, 7, &loss.loss()).expect(rt, "a line that is written");
+    }
     same(rt, report.written(), lines.as_bytes(), of);
 }
 

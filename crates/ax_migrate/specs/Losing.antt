@@ -1,11 +1,12 @@
 -- What a block loses: the lost paths of its records, which are numbered from 0.
-use Rattle.std.specs.Prelude.{ℕ, ◌+◌, List, [], ◌∷◌, ◌++◌, map, flat_map, codes, decimal}
+use Rattle.std.specs.Prelude.{ℕ, ◌+◌, List, [], ◌∷◌, ◌++◌, map, flat_map, codes}
 use Rattle.ax_migrate.specs.declared.losing.LossEntry.{LossEntry}
 use Rattle.ax_model.specs.Blocks.{BlockTree, read_block, opaque_block}
 use Rattle.ax_model.specs.Migrated.{Lost}
 use Rattle.ax_model.specs.Paths.{path_text}
 use Rattle.ax_model.specs.Specification.{SpecTree}
 use Rattle.ax_model.specs.Tree.{EntriesTree}
+use Rattle.ax_report.specs.Lines.{entry_line}
 
 abbrev pub loss : ℕ → ℕ → List (List ℕ) → LossEntry
 loss category n path = record { record_at = n; path = path_text category path }
@@ -22,7 +23,7 @@ block_losses old new (opaque_block category octets) = []
 -- ---- lines (this project's own rule): the number of the block, the number of the record in it, and the path
 
 abbrev pub lost_line : ℕ → ℕ → List ℕ → List ℕ
-lost_line block n path = (codes "lost block " ++ decimal block) ++ ((codes " record " ++ decimal n) ++ (codes " " ++ (path ++ codes "\n")))
+lost_line block n path = entry_line (codes "lost") block n path
 
 abbrev pub lost_lines : ℕ → List LossEntry → List ℕ
 lost_lines block losses = flat_map (λ l. lost_line block l.record_at l.path) losses

@@ -1,3 +1,4 @@
+pub mod EightOctets
 pub mod Outputs
 pub mod Pieces
 pub mod Steps

@@ -1,6 +1,6 @@
 -- Parts of words, and of the bits of octets.
 use Rattle.std.proofs.Common.{◌≡◌, ℕ, zero, suc, ◌+◌, ◌*◌, ◌/◌, ◌%◌, ◌^◌, ◌<◌, ◌≤◌, List, [], ◌∷◌, ◌++◌, length, take, drop, set, get_or, refl, sym, ◌∙◌, ap, arith, append_assoc, length-append, zero-add, add-one}
-use Rattle.std.proofs.lemmas.Nat.{div-mul-add, shr-shr, shr_split, pow_pos, pow-add, div_below, mod_below}
+use Rattle.std.proofs.lemmas.Nat.{div-mul-add, shr-shr, shr_split, pow_pos, div_below, mod_below}
 use Rattle.std.proofs.lemmas.List.{take_at, drop_at, drop-drop, take-append-drop, take_all, drop_all, length-take-le, set_split, drop_more, take_more}
 use Rattle.std.proofs.Math.Seq.{take-append-add, drop-append-add}
 use Rattle.std.proofs.Math.Nat.{mod-eq_of_lt, add_comm}

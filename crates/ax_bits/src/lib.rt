@@ -4,6 +4,8 @@
 
 mod number;
 mod output;
+mod short;
 
 pub use number::{bits_at, put_bits, signed_of};
 pub use output::Out;
+pub use short::short_bits_at;

@@ -1,7 +1,9 @@
 -- Units of a body that begin at an octet: fixed runs, parts and occurrences with their FX bit.
-use Rattle.std.proofs.Common.{◌≡◌, ℕ, zero, suc, ◌+◌, ◌-◌, ◌*◌, ◌^◌, ◌<◌, ◌≤◌, ◌==◌, List, [], ◌∷◌, ◌++◌, length, take, drop, refl, sym, ◌∙◌, ap, arith, length-append, length-drop, append_assoc, take-append-drop}
+use Rattle.std.proofs.Common.{◌≡◌, ℕ, zero, suc, ◌+◌, ◌-◌, ◌*◌, ◌/◌, ◌%◌, ◌^◌, ◌<◌, ◌≤◌, ◌==◌, List, [], ◌∷◌, ◌++◌, length, take, drop, get_or, refl, sym, ◌∙◌, ap, arith, subst, bit_and, length-append, length-drop, append_assoc, take-append-drop}
 use Rattle.std.proofs.lemmas.List.{drop-drop, length-take-le, take_at, drop_at}
+use Rattle.std.proofs.lemmas.Nat.{and_mask}
 use Rattle.ax_bits.proofs.Pieces.{drop-bits}
+use Rattle.ax_bits.proofs.Steps.{next_piece}
 use Rattle.ax_bits.proofs.Words.{bits-append, bits-AreBits, length-bits}
 use Rattle.ax_bits.specs.Bits.{bits, word, AreBits}
 use Rattle.ax_model.proofs.FixedKinds.{split_at, split_short, fixed_back, members_back, split_is, SplitIs}
@@ -90,6 +92,13 @@ fx_is (suc (suc r)) xs lt e = absurd (omega arith)
 
 pub fx_read : (b : List ℕ) (at r : ℕ) → r < 2 ^ 1 → word 1 r ≡ take 1 (drop at b) → take 1 (drop at b) ≡ fx_bit (r == 1) ∷ []
 fx_read b at r lt e = fx_is r (take 1 (drop at b)) (omega arith) e
+
+pub fx_here : (body : List ℕ) (at : ℕ) → at < 8 * length body → take 1 (drop at (bits body)) ≡ fx_bit (bit_and (get_or body (at / 8) 0 / 2 ^ (7 - at % 8)) 1 == 1) ∷ []
+fx_here body at lt =
+    let r = get_or body (at / 8) 0 / 2 ^ (7 - at % 8) in
+    let low : bit_and r 1 ≡ r % 2 = and_mask r 1 in
+    subst (λ n. take 1 (drop at (bits body)) ≡ fx_bit (n == 1) ∷ []) (sym low)
+    (fx_read (bits body) at (r % 2) (omega arith) (next_piece body at 1 (7 - at % 8) (omega arith) (omega arith)))
 
 -- w bits and their FX bit are the octets from `at` up to `end`
 pub record IsUnit (body : List ℕ) (at end w fx : ℕ) : Type 0 where

@@ -5,5 +5,4 @@ mod CountedLines
 mod MarkedLines
 mod SlotLines
 mod Stops
-mod Numbering
 mod RecordLines

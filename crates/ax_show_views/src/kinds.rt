@@ -1,5 +1,5 @@
 //! The kinds of items and subitems, shown by one function each.
-ghost use Rattle.std.specs.Prelude.{◌≡◌, ◌+◌, ◌*◌, ◌<◌, ◌≤◌, length, map, codes, IfOk, IfErr};
+ghost use Rattle.std.specs.Prelude.{◌≡◌, ◌+◌, ◌<◌, ◌≤◌, length, map, codes, IfOk, IfErr};
 ghost use Rattle.ax_bits.specs.Bits.{AreBits};
 ghost use Rattle.ax_model.specs.InBounds.{InBounds, SlotsInBounds};
 ghost use Rattle.ax_model.specs.Paths as Paths;
@@ -15,10 +15,10 @@ ghost use Rattle.ax_show_views.specs.Shown.{Shows, ShowsCounted, IsSlotShown};
 use crate::paths::{set_named, set_numbered};
 use crate::units::{show_alone, show_by_fx, show_extended, show_single};
 use ax_fspec::{Presence, read_presence};
-use ax_model::{BodyCause, BodyFault, Kind, Name, Slot, Slots};
+use ax_model::{Kind, Name, Slot, Slots};
 use ax_octets::Path;
 use ax_text::Lister;
-use ax_values::{DecodeError, octet_at, slots_mask};
+use ax_values::{DecodeError, explicit_content, octet_at, slots_mask};
 
 /// The lines of the value of a kind that begins at octet `at` of the body. Ok is the octet after it.
 #[cycle(show_kind)]
@@ -47,6 +47,7 @@ pub(crate) fn show_value(
 }
 
 /// The line of an explicit item. Ok is the octet after it.
+#[tactic(auto, using(ax_values::proofs::Continuing::errors))]
 fn show_explicit(lister: &mut Lister, body: &[u8], at: u32, path: &Path) -> Result<u32, DecodeError>
     requires bounds { InBounds (Tree.explicit) }
     requires body { length body.now ≤ longest_body }
@@ -54,22 +55,9 @@ fn show_explicit(lister: &mut Lister, body: &[u8], at: u32, path: &Path) -> Resu
     ensures ok { IfOk result (λ end. Shows (kind_lines (Tree.explicit) path.now) (kind_read (Tree.explicit) body.now at) body.now at end lister.old.out lister.new.out) }
     ensures err { IfErr result (λ e. HasFailed (kind_read (Tree.explicit) body.now at) at e) }
 {
-    let length = octet_at(body, at)?;
-    if length == 0 {
-        return Err(DecodeError::Fault(BodyFault {
-            cause: BodyCause::BadExplicitLength,
-            bit: 8 * at,
-        }));
-    }
-    let end = at + length as u32;
-    if end as usize > body.len() {
-        return Err(DecodeError::Fault(BodyFault {
-            cause: BodyCause::RunsOut,
-            bit: 8 * at + 8,
-        }));
-    }
-    lister.content_at(&body[at as usize + 1..end as usize], path)?;
-    Ok(end)
+    let content = explicit_content(body, at)?;
+    lister.content_at(content, path)?;
+    Ok(at + 1 + content.len() as u32)
 }
 
 /// A counted item: how many occurrences there are, and each of them. Ok is the octet after it.

@@ -5,5 +5,4 @@ pub mod Counted
 pub mod Marked
 pub mod RecordsPrinted
 pub mod Octets
-pub mod Joining
 pub mod Digits

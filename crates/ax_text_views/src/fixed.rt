@@ -1,6 +1,6 @@
 //! Runs of bits of a known length, printed: elements, spares and groups.
-ghost use Rattle.std.specs.Prelude.{◌≡◌, ◌+◌, ◌*◌, ◌/◌, ◌%◌, ◌^◌, ◌<◌, ◌≤◌, length, drop, take, decimal, OnOk};
-ghost use Rattle.ax_bits.specs.Bits.{bits, number_of, word};
+ghost use Rattle.std.specs.Prelude.{◌≡◌, ◌+◌, ◌*◌, ◌≤◌, length, drop, take, decimal, OnOk};
+ghost use Rattle.ax_bits.specs.Bits.{bits, number_of};
 ghost use Rattle.ax_model.specs.Reader.{fixed_value};
 ghost use Rattle.ax_model.specs.InBounds.{IsWidth, FixedInBounds, MembersInBounds};
 ghost use Rattle.ax_model.specs.Plain.{fixed_tree, member_tree, members_tree};
@@ -12,61 +12,9 @@ ghost use Rattle.ax_text.specs.ValueText.{one_onto, fixed_onto};
 ghost use Rattle.ax_text_views.specs.Prints.{members_read_onto};
 
 use crate::line::Line;
-use ax_bits::bits_at;
+use ax_bits::{bits_at, short_bits_at};
 use ax_model::{Fixed, Member, Members};
 use std::alloc::AllocError;
-
-/// The `count` bits of an octet above its `below` lowest.
-#[tactic(auto, using(ax_bits::proofs::Steps::mask_octet))]
-fn piece_of(octet: u8, below: u32, count: u32) -> u8
-    requires { below + count ≤ 8 }
-    ensures value { result ≡ octet / 2 ^ below % 2 ^ count }
-    ensures below { result < 2 ^ count }
-{
-    (octet as u32 >> below & ((1 << count) - 1)) as u8
-}
-
-/// The number that octets spell.
-#[tactic(auto, using(crate::proofs::Joining::joins))]
-fn joined(octets: &[u8]) -> u64
-    requires { length octets.now ≤ 8 }
-    ensures number { word (8 * length octets.now) result ≡ bits octets.now }
-    ensures below { result < 2 ^ (8 * length octets.now) }
-{
-    let mut number: u64 = 0;
-    for octet in octets {
-        number = number << 8 | u64::from(*octet);
-    }
-    number
-}
-
-/// The number in the `width` bits from bit `at` of the body on, which stand in several octets.
-fn number_across(body: &[u8], at: u32, width: u32) -> u64
-    requires width { (1 ≤ width) × (width ≤ 56) }
-    requires within { at + width ≤ 8 * length body.now }
-    requires body { length body.now ≤ longest_body }
-    ensures number { word width result ≡ take width (drop at (bits body.now)) }
-    ensures below { result < 2 ^ width }
-{
-    let end = (at + width + 7) / 8;
-    let number = joined(&body[(at / 8) as usize..end as usize]);
-    number >> (8 * end - at - width) & ((1 << width) - 1)
-}
-
-/// The number in the `width` bits from bit `at` of the body on. Most stand in one octet.
-fn number_at(body: &[u8], at: u32, width: u32) -> u64
-    requires width { (1 ≤ width) × (width ≤ 56) }
-    requires within { at + width ≤ 8 * length body.now }
-    requires body { length body.now ≤ longest_body }
-    ensures number { word width result ≡ take width (drop at (bits body.now)) }
-    ensures below { result < 2 ^ width }
-{
-    let offset = at % 8;
-    if offset + width > 8 {
-        return number_across(body, at, width);
-    }
-    u64::from(piece_of(body[(at / 8) as usize], 8 - offset - width, width))
-}
 
 /// Prints the number in the `width` bits from bit `at` of the body on, of any width.
 #[cold]
@@ -94,7 +42,7 @@ fn print_number(line: &mut Line, width: u32, body: &[u8], at: &mut u32) -> Resul
     if width > 56 {
         return print_wide(line, width, body, here);
     }
-    line.number(number_at(body, here, width))
+    line.number(short_bits_at(body, here, width))
 }
 
 /// Prints the value in the bits from bit `at` of the body on, which is moved after them.

@@ -30,4 +30,8 @@ pub err_is : {A C : Type 0} (found : Read A) (at : ℕ) (r : Result C DecodeErro
 err_is found at (Ok b) e h t = absurd h
 err_is found at (Err d) e h t = subst (λ d. HasFailed found at d) (sym h) t
 
+pub fault_passed : {A B : Type 0} (found : Read A) (at : ℕ) (r : Result B BodyFault) (fault : BodyFault) → IsErrAnd r (λ e. e ≡ fault) → FailsAt found at fault → IfErr r (λ fault. FailsAt found at fault)
+fault_passed found at (Ok b) fault h t = absurd h
+fault_passed found at (Err e) fault h t = subst (λ f. FailsAt found at f) (sym h) t
+
 pub ruleset errors = (failed_by_fault, failed_by_want)

@@ -1,3 +1,4 @@
 pub mod SlotReading
 pub mod Decoding
 pub mod Writing
+pub mod Parts

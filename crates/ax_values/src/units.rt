@@ -1,18 +1,19 @@
 //! Kinds whose units are runs of a known length: fixed kinds, the parts of extended items, occurrences by FX.
-ghost use Rattle.std.specs.Prelude.{◌≡◌, ◌+◌, ◌-◌, ◌*◌, ◌%◌, ◌<◌, ◌≤◌, length, drop, take, map, [], ◌∷◌, IfOk, IfErr};
+ghost use Rattle.std.specs.Prelude.{◌≡◌, ◌+◌, ◌-◌, ◌*◌, ◌%◌, ◌<◌, ◌≤◌, length, map, IfOk, IfErr};
 ghost use Rattle.ax_bits.specs.Bits.{bits};
 ghost use Rattle.ax_model.specs.InBounds.{InBounds};
 ghost use Rattle.ax_model.specs.Plain.{fixed_tree, part_tree, value_tree, values_tree, lists_tree};
 ghost use Rattle.ax_model.specs.Sizes.{longest_body};
 ghost use Rattle.ax_model.specs.Tree as Tree;
 ghost use Rattle.ax_model.specs.declared.fault.BodyCause.TheVariants as Cause;
-ghost use Rattle.ax_reader.specs.Reading.{Gets, kind_read, fx_bit};
+ghost use Rattle.ax_reader.specs.Reading.{Gets, kind_read};
 ghost use Rattle.ax_values.specs.SlotReading.{HasFailed};
 
 use crate::error::DecodeError;
 use crate::fixed::{decode_fixed, decode_members};
-use ax_bits::bits_at;
+use crate::parts_left::PartsLeft;
 use ax_model::{BodyCause, BodyFault, Fixed, Lists, Parts, Value, Values};
+use ax_reader::{has_fx, run_end};
 use std::alloc::Global;
 
 /// The octet after a unit of `width` bits, whole octets, that begins at octet `at`. RunsOut at its first bit where it
@@ -25,23 +26,13 @@ pub fn unit_end(body: &[u8], at: u32, width: u32) -> Result<u32, BodyFault>
     ensures short { IfErr result (λ fault. 8 * (length body.now - at) < width) }
     ensures fault { IfErr result (λ fault. fault ≡ record { cause = Cause.RunsOut; bit = 8 * at }) }
 {
-    let end = at + width / 8;
-    if end as usize > body.len() {
-        return Err(BodyFault {
+    match run_end(body, at, width) {
+        Some(end) => Ok(end),
+        None => Err(BodyFault {
             cause: BodyCause::RunsOut,
             bit: 8 * at,
-        });
+        }),
     }
-    Ok(end)
-}
-
-/// Whether the FX bit at bit `at` of the body is set.
-#[tactic(auto, using(ax_reader::proofs::AtOctets::fx_read))]
-pub fn has_fx(body: &[u8], at: u32) -> bool
-    requires { at < 8 * length body.now }
-    ensures { take 1 (drop at (bits body.now)) ≡ fx_bit result ∷ [] }
-{
-    bits_at(body, at, 1) == 1
 }
 
 /// The value of a fixed kind that stands by itself, and the octet after it.
@@ -65,7 +56,7 @@ pub(crate) fn decode_single(
 }
 
 /// The values of the parts that are present, and the octet after them.
-#[tactic(auto, using(crate::proofs::Continuing::errors, crate::proofs::Repeating::parts_none, ax_reader::proofs::AtOctets::extended_fails))]
+#[tactic(auto, using(crate::proofs::Continuing::errors, ax_reader::proofs::AtOctets::extended_fails))]
 pub(crate) fn decode_parts(
     alloc: Global,
     parts: &Parts,
@@ -78,22 +69,14 @@ pub(crate) fn decode_parts(
     ensures ok { IfOk result (λ r. Gets (kind_read (Tree.extended (map part_tree parts.now)) body.now at) body.now at r.1 (Tree.part_values (lists_tree r.0))) }
     ensures err { IfErr result (λ e. HasFailed (kind_read (Tree.extended (map part_tree parts.now)) body.now at) at e) }
 {
+    let mut left = PartsLeft::of(parts.as_slice(), body, at);
     let mut made = Lists::new(alloc);
-    let mut here = at;
-    for part in parts.as_slice() {
-        let end = unit_end(body, here, part.width() as u32 + 1)?;
-        let mut bit = 8 * here;
+    while let Some((part, first)) = left.next()? {
+        let mut bit = first;
         let values = decode_members(alloc, &part.members, body, &mut bit)?;
         made.push(values)?;
-        if !has_fx(body, bit) {
-            return Ok((made, end));
-        }
-        here = end;
     }
-    Err(DecodeError::Fault(BodyFault {
-        cause: BodyCause::ExtensionPastEnd,
-        bit: 8 * here - 1,
-    }))
+    Ok((made, left.at))
 }
 
 /// The values of occurrences by FX, and the octet after them.

@@ -12,9 +12,10 @@ ghost use Rattle.ax_tables.specs.Meaning.{meanings, linked, fixed_of, part_of, l
 ghost use Rattle.ax_tables.specs.Table.{IsTable, LinksWithin};
 ghost use Rattle.ax_view.specs.Values.{IsOne, value_in};
 
-use crate::units::{fixed_width, has_fx, part_width};
+use crate::units::{fixed_width, part_width};
 use ax_bits::bits_at;
 use ax_model::{Lists, Value, Values};
+use ax_reader::ends_with_fx;
 use ax_tables::Node;
 use std::alloc::{AllocError, Global};
 
@@ -116,7 +117,7 @@ pub(crate) fn parts_to_lists(
         let end = here + (part_width(nodes, *part) + 1) / 8;
         let values = part_to_values(alloc, nodes, *part, 8 * here, body)?;
         made.push(values)?;
-        if !has_fx(body, end - 1) {
+        if !ends_with_fx(body, end - 1) {
             return Ok(made);
         }
         left = later;

@@ -12,7 +12,8 @@ ghost use Rattle.ax_view.specs.Spots.{FindsMember, FindsNone, FindsPart, FindsNo
 ghost use Rattle.ax_view.specs.Values.{IsOne};
 
 use crate::notes::Notes;
-use crate::units::{fixed_width, has_fx, part_width, run};
+use crate::units::{fixed_width, part_width, run};
+use ax_reader::ends_with_fx;
 use ax_tables::Node;
 
 /// The link of a member, and the bit at which it begins. None comes exactly where there is no such member.
@@ -83,7 +84,7 @@ pub(crate) fn find_part(
         if number == 0 {
             return Some((*part, 8 * here));
         }
-        if !has_fx(body, end - 1) {
+        if !ends_with_fx(body, end - 1) {
             return None;
         }
         number -= 1;

@@ -15,9 +15,10 @@ ghost use Rattle.ax_reader.specs.Reading.{FailsAt, IsMaskOf, kind_read, entries_
 ghost use Rattle.ax_view.specs.Walking.{Walks, along, NeedsLast};
 
 use crate::notes::{Notes, fail};
-use crate::units::{run, run_there, walk_explicit, walk_parts, walk_run};
+use crate::units::{run, walk_explicit, walk_parts, walk_run};
 use ax_fspec::{Presence, SlotMask, read_presence};
 use ax_model::BodyCause;
+use ax_reader::run_end;
 use ax_tables::{Codec, Node};
 
 /// The octet after the record that begins at octet `at`.
@@ -156,8 +157,8 @@ fn fixed_end(nodes: &[Node], link: u32, body: &[u8], at: u32) -> Option<u32>
     ensures { IfSome result (λ end. (least : Bool) → Walks (canon (kind_at nodes.now link)) (kind_read (kind_at nodes.now link) body.now at) body.now at end least) }
 {
     match &nodes[link as usize - 1] {
-        Node::Element { width } => run_there(body, at, *width),
-        Node::Group { width, .. } => run_there(body, at, *width),
+        Node::Element { width } => run_end(body, at, *width),
+        Node::Group { width, .. } => run_end(body, at, *width),
         _ => None,
     }
 }

@@ -1,5 +1,5 @@
 //! Units of a known length: fixed kinds, parts, occurrences by FX, explicit contents.
-ghost use Rattle.std.specs.Prelude.{◌≡◌, ◌+◌, ◌-◌, ◌*◌, ◌%◌, ◌<◌, ◌≤◌, ◌↔◌, length, get_or, IfSome, IfNone, IsTrue};
+ghost use Rattle.std.specs.Prelude.{◌≡◌, ◌+◌, ◌-◌, ◌*◌, ◌%◌, ◌<◌, ◌≤◌, length, IfSome, IfNone};
 ghost use Rattle.ax_model.specs.Canonical.{canon};
 ghost use Rattle.ax_model.specs.InBounds.{InBounds};
 ghost use Rattle.ax_model.specs.Sizes.{longest_body};
@@ -13,26 +13,11 @@ ghost use Rattle.ax_view.specs.Walking.{Walks};
 
 use crate::notes::{Notes, fail};
 use ax_model::BodyCause;
+use ax_reader::{ends_with_fx, run_end};
 use ax_tables::Node;
 
 /// The octet after a unit of `width` bits, whole octets, that begins at octet `at`. None comes exactly where the body ends
-/// before it.
-#[inline(always)]
-pub(crate) fn run_there(body: &[u8], at: u32, width: u32) -> Option<u32>
-    requires width { (width % 8 ≡ 0) × (width ≤ 524264) }
-    requires body { length body.now ≤ longest_body }
-    requires at { at ≤ length body.now }
-    ensures end { IfSome result (λ end. (at ≤ end) × (end ≤ length body.now) × (width ≡ 8 * (end - at))) }
-    ensures short { IfNone result (8 * (length body.now - at) < width) }
-{
-    let end = at + width / 8;
-    if end as usize > body.len() {
-        return None;
-    }
-    Some(end)
-}
-
-/// The same; where the body ends before it, that is noted.
+/// before it, and that is noted.
 #[inline(always)]
 pub(crate) fn run(body: &[u8], at: u32, width: u32, notes: &mut Notes) -> Option<u32>
     requires width { (width % 8 ≡ 0) × (width ≤ 524264) }
@@ -43,7 +28,7 @@ pub(crate) fn run(body: &[u8], at: u32, width: u32, notes: &mut Notes) -> Option
     ensures fault { IfNone result (notes.new.fault ≡ record { cause = Cause.RunsOut; bit = 8 * at }) }
     ensures least { notes.new.least ≡ notes.old.least }
 {
-    let end = run_there(body, at, width);
+    let end = run_end(body, at, width);
     if end.is_none() {
         fail(notes, BodyCause::RunsOut, 8 * at);
     }
@@ -72,15 +57,6 @@ pub(crate) fn part_width(nodes: &[Node], link: u32) -> u32
     nodes[link as usize - 1].part_width()
 }
 
-/// Whether FX is set in the last bit of an octet of the body.
-#[inline]
-pub(crate) fn has_fx(body: &[u8], octet: u32) -> bool
-    requires { octet < length body.now }
-    ensures { IsTrue result ↔ (get_or body.now octet 0 % 2 ≡ 1) }
-{
-    body[octet as usize] % 2 == 1
-}
-
 /// The octet after the parts that are present.
 pub(crate) fn walk_parts(
     nodes: &[Node],
@@ -102,7 +78,7 @@ pub(crate) fn walk_parts(
     let mut here = at;
     while let Some((part, later)) = left.split_first() {
         let end = run(body, here, part_width(nodes, *part) + 1, notes)?;
-        if !has_fx(body, end - 1) {
+        if !ends_with_fx(body, end - 1) {
             return Some(end);
         }
         if later.is_empty() {
@@ -136,7 +112,7 @@ pub(crate) fn walk_run(
     let mut here = at;
     loop {
         let end = run(body, here, width + 1, notes)?;
-        if !has_fx(body, end - 1) {
+        if !ends_with_fx(body, end - 1) {
             return Some(end);
         }
         here = end;

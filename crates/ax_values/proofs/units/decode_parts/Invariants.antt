@@ -1,5 +1,14 @@
-use Rattle.ax_values.proofs.Repeating.{PartsSoFar}
+use Rattle.std.proofs.Common.{◌≡◌, ◌-◌, length, map}
+use Rattle.ax_model.specs.Plain.{part_tree}
+use Rattle.ax_reader.proofs.AtOctets.{parts_at}
+use Rattle.ax_values.proofs.PartsRead.{PartsSoFar}
 use Rattle.ax_values.proofs.units.decode_parts.Given as goal
 
-abbrev pub invariant-loop-part : goal.invariant-loop-part
-invariant-loop-part l = PartsSoFar l.parts l.part-index l.body l.at l.here l.made
+abbrev pub invariant-loop-made : goal.invariant-loop-made
+invariant-loop-made l = record {
+  body : l.left.body.now ≡ l.body;
+  parts : PartsSoFar (parts_at (map part_tree l.parts) l.body l.at) l.left.more (map part_tree l.left.parts.now) l.left.body.now l.at l.left.at l.made;
+}
+
+abbrev pub decreases-loop-made : goal.decreases-loop-made
+decreases-loop-made l = length l.left.body.now - l.left.at

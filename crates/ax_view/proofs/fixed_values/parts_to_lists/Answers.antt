@@ -11,16 +11,16 @@ loop-part-init c = record { made = subst (PartsMade c.args.nodes.now c.args.part
 pub part_to_values-requires-clause-room : goal.part_to_values-requires-clause-room
 part_to_values-requires-clause-room c = part_room c.args.nodes.now c.args.parts.now c.loop-part.left.now c.in-Some.later.now c.args.body.now c.in-Some.part.now c.loop-part.here c.loop-part.made c.loop-part.invariant.made c.in-Some.ensures.cases.0 c.part_width.result c.part_width.ensures
 
-pub has_fx-requires : goal.has_fx-requires
-has_fx-requires c = let e = part_end c.args.nodes.now c.args.parts.now c.loop-part.left.now c.in-Some.later.now c.args.body.now c.in-Some.part.now c.loop-part.here c.loop-part.made c.loop-part.invariant.made c.in-Some.ensures.cases.0 c.part_width.result c.part_width.ensures in let le = e.0 in let pos = e.1 in omega arith
+pub ends_with_fx-requires : goal.ends_with_fx-requires
+ends_with_fx-requires c = let e = part_end c.args.nodes.now c.args.parts.now c.loop-part.left.now c.in-Some.later.now c.args.body.now c.in-Some.part.now c.loop-part.here c.loop-part.made c.loop-part.invariant.made c.in-Some.ensures.cases.0 c.part_width.result c.part_width.ensures in let le = e.0 in let pos = e.1 in omega arith
 
-pub returns-then-not-has_fx : goal.returns-then-not-has_fx
-returns-then-not-has_fx c =
+pub returns-then-not-ends_with_fx : goal.returns-then-not-ends_with_fx
+returns-then-not-ends_with_fx c =
     parts_whole (linked_parts (meanings c.args.nodes.now) c.args.parts.now) c.args.body.now _ c.requires.one
-    (parts_end c.args.nodes.now c.args.parts.now c.loop-part.left.now c.in-Some.later.now c.args.body.now c.in-Some.part.now c.loop-part.here c.loop-part.made c.loop-part.invariant.made c.in-Some.ensures.cases.0 c.part_width.result c.part_width.ensures c.in_ok-values.values c.push.new.self c.in_ok-push.ensures.ok c.in_ok-values.ensures (fx_clear c.has_fx.result _ c.has_fx.ensures (cc)))
+    (parts_end c.args.nodes.now c.args.parts.now c.loop-part.left.now c.in-Some.later.now c.args.body.now c.in-Some.part.now c.loop-part.here c.loop-part.made c.loop-part.invariant.made c.in-Some.ensures.cases.0 c.part_width.result c.part_width.ensures c.in_ok-values.values c.push.new.self c.in_ok-push.ensures.ok c.in_ok-values.ensures (fx_clear c.ends_with_fx.result _ c.ends_with_fx.ensures (cc)))
 
 pub loop-part-preserved : goal.loop-part-preserved
-loop-part-preserved c = record { made = parts_next c.args.nodes.now c.args.parts.now c.loop-part.left.now c.in-Some.later.now c.args.body.now c.in-Some.part.now c.loop-part.here c.loop-part.made c.loop-part.invariant.made c.in-Some.ensures.cases.0 c.part_width.result c.part_width.ensures c.in_ok-values.values c.push.new.self c.in_ok-push.ensures.ok c.in_ok-values.ensures (fx_set c.has_fx.result _ c.has_fx.ensures (cc)) }
+loop-part-preserved c = record { made = parts_next c.args.nodes.now c.args.parts.now c.loop-part.left.now c.in-Some.later.now c.args.body.now c.in-Some.part.now c.loop-part.here c.loop-part.made c.loop-part.invariant.made c.in-Some.ensures.cases.0 c.part_width.result c.part_width.ensures c.in_ok-values.values c.push.new.self c.in_ok-push.ensures.ok c.in_ok-values.ensures (fx_set c.ends_with_fx.result _ c.ends_with_fx.ensures (cc)) }
 
 pub returns : goal.returns
 returns c = absurd (parts_never c.args.nodes.now c.args.parts.now c.loop-part.left.now c.args.body.now c.loop-part.here c.loop-part.made c.loop-part.invariant.made (none_left c.loop-part.left.now c.in_default.ensures.cases))

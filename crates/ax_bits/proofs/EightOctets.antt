@@ -1,4 +1,4 @@
--- Numbers in some of the bits of eight octets.
+-- Numbers of some of the bits of eight octets.
 use Rattle.std.proofs.Common.{◌≡◌, ℕ, ◌+◌, ◌-◌, ◌*◌, ◌/◌, ◌%◌, ◌^◌, ◌<◌, ◌≤◌, List, [], ◌∷◌, ◌++◌, length-drop, length, take, drop, get_or, refl, sym, ◌∙◌, ap, arith, subst, bit_and}
 use Rattle.std.proofs.lemmas.List.{get_or-drop, drop-drop, take-take, take_at, drop_at, drop-take}
 use Rattle.std.proofs.lemmas.Nat.{one_shl, and_mask}
@@ -10,7 +10,7 @@ use Rattle.std.specs.Int.{w64, from_be_bytes}
 abbrev AreBytes : List ℕ → Type 0
 AreBytes octets = (i : ℕ) → get_or octets i 0 < 256
 
-pub mask_wide : (n k : ℕ) → k ≤ 56 → bit_and n (1 * 2 ^ k % 2 ^ 64 - 1) ≡ n % 2 ^ k
+mask_wide : (n k : ℕ) → k ≤ 56 → bit_and n (1 * 2 ^ k % 2 ^ 64 - 1) ≡ n % 2 ^ k
 mask_wide n k h =
     let lt : k < 64 = omega arith in
     ap (λ m. bit_and n (m - 1)) (one_shl k 64 lt) ∙ and_mask n k

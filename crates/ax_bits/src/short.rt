@@ -1,0 +1,44 @@
+//! Numbers of at most 56 bits that stand at any bit of an octet string.
+
+ghost use Rattle.std.specs.Prelude.{◌≡◌, ◌+◌, ◌*◌, ◌^◌, ◌<◌, ◌≤◌, length, take, drop};
+ghost use Rattle.ax_bits.specs.Bits.{word, bits};
+
+use crate::bits_at;
+
+/// The number that `width` bits of `octets`, at most 56, spell from bit `at` on. Bit 0 is the most significant bit of the
+/// first octet. Where eight octets are there, they are taken at once.
+#[inline(always)]
+pub fn short_bits_at(octets: &[u8], at: u32, width: u32) -> u64
+    requires width { (1 ≤ width) × (width ≤ 56) }
+    requires within { at + width ≤ 8 * length octets.now }
+    ensures number { word width result ≡ take width (drop at (bits octets.now)) }
+    ensures below { result < 2 ^ width }
+{
+    let first = (at / 8) as usize;
+    if octets.len() < first + 8 {
+        return short_bits_near_end(octets, at, width);
+    }
+    let number = u64::from_be_bytes([
+        octets[first],
+        octets[first + 1],
+        octets[first + 2],
+        octets[first + 3],
+        octets[first + 4],
+        octets[first + 5],
+        octets[first + 6],
+        octets[first + 7],
+    ]);
+    number >> (64 - at % 8 - width) & ((1 << width) - 1)
+}
+
+// The same where fewer than eight octets are there.
+#[cold]
+#[inline(never)]
+fn short_bits_near_end(octets: &[u8], at: u32, width: u32) -> u64
+    requires width { (1 ≤ width) × (width ≤ 56) }
+    requires within { at + width ≤ 8 * length octets.now }
+    ensures number { word width result ≡ take width (drop at (bits octets.now)) }
+    ensures below { result < 2 ^ width }
+{
+    bits_at(octets, at, width) as u64
+}

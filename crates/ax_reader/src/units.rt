@@ -1,0 +1,41 @@
+//! Units of a body: where a run of whole octets ends, and whether an FX bit is set.
+ghost use Rattle.std.specs.Prelude.{◌≡◌, ◌↔◌, ◌-◌, ◌*◌, ◌%◌, ◌<◌, ◌≤◌, [], ◌∷◌, length, get_or, take, drop, IfSome, IfNone, IsTrue};
+ghost use Rattle.ax_bits.specs.Bits.{bits};
+ghost use Rattle.ax_model.specs.Sizes.{longest_body};
+ghost use Rattle.ax_reader.specs.Reading.{fx_bit};
+
+/// The octet after a unit of `width` bits, whole octets, that begins at octet `at`. None comes exactly where the body ends
+/// before it.
+#[inline(always)]
+pub fn run_end(body: &[u8], at: u32, width: u32) -> Option<u32>
+    requires width { (width % 8 ≡ 0) × (width ≤ 524264) }
+    requires body { length body.now ≤ longest_body }
+    requires at { at ≤ length body.now }
+    ensures end { IfSome result (λ end. (at ≤ end) × (end ≤ length body.now) × (width ≡ 8 * (end - at))) }
+    ensures short { IfNone result (8 * (length body.now - at) < width) }
+{
+    let end = at + width / 8;
+    if end as usize > body.len() {
+        return None;
+    }
+    Some(end)
+}
+
+/// Whether the FX bit is set that stands at bit `at` of the body.
+#[inline(always)]
+#[tactic(auto, using(crate::proofs::AtOctets::fx_here))]
+pub fn has_fx(body: &[u8], at: u32) -> bool
+    requires { at < 8 * length body.now }
+    ensures { take 1 (drop at (bits body.now)) ≡ fx_bit result ∷ [] }
+{
+    body[(at / 8) as usize] >> (7 - at % 8) & 1 == 1
+}
+
+/// Whether the FX bit is set that is the last bit of an octet of the body.
+#[inline(always)]
+pub fn ends_with_fx(body: &[u8], octet: u32) -> bool
+    requires { octet < length body.now }
+    ensures { IsTrue result ↔ (get_or body.now octet 0 % 2 ≡ 1) }
+{
+    body[octet as usize] % 2 == 1
+}

@@ -1,11 +1,11 @@
 -- The lines of the report for each outcome (this project's own rules).
-use Rattle.std.specs.Prelude.{ℕ, List, [], ◌++◌, length, flat_map, codes, decimal}
+use Rattle.std.specs.Prelude.{ℕ, List, [], ◌++◌, length, flat_map, codes}
 use Rattle.ax_model.specs.Paths.{three_digits}
 use Rattle.ax_model.specs.declared.flaw.Flaw.{Flaw}
 use Rattle.ax_model.specs.declared.flaw.FlawKind.{FlawKind}
 use Rattle.ax_model.specs.declared.flaw.FlawKind.TheVariants.{DuplicateItem, DuplicateName, UnknownInUap, RepeatedInUap, Empty, TooManySlots, BadWidth, NotOctets, PartNotOctets, BodyNotOctets, BadScale, BadStringWidth, TooWide}
-use Rattle.ax_stream.specs.declared.end.Cause.{Cause}
-use Rattle.ax_stream.specs.declared.end.Cause.TheVariants.{EndsInHeader, BadLen, EndsInBlock, RunsOut, UndefinedSlot, PresenceTooLong, ExtensionPastEnd, BadExplicitLength}
+use Rattle.ax_report.specs.Lines.{numbered}
+use Rattle.ax_stream.specs.Lines.{fault_line}
 use Rattle.ax_command.specs.declared.outcome.Outcome.{Outcome}
 use Rattle.ax_command.specs.declared.outcome.Outcome.TheVariants.{Done, Usage, SpecRefused, CategoryTwice, InputRefused, TextRefused, MigratedTooLong, InputTooLong, LoadFault, ReadFault, WriteFault, ReportFault, OutOfMemory, OtherCategory, FilterRefused}
 use Rattle.ax_build_work.specs.declared.fault.TextFault.{TextFault}
@@ -14,10 +14,6 @@ use Rattle.ax_filter.specs.declared.text.FilterFault.{FilterFault}
 use Rattle.ax_filter.specs.declared.text.FilterFault.TheVariants as FilterFaultOf
 use Rattle.ax_load.specs.declared.fault.SpecFault.{SpecFault}
 use Rattle.ax_load.specs.declared.fault.SpecFault.TheVariants.{TooLarge, BadByte, TooDeep, BadToken, Flawed}
-
--- a text and a number after it
-abbrev pub numbered : List ℕ → ℕ → List ℕ
-numbered front n = front ++ decimal n
 
 abbrev pub kind_name : FlawKind → List ℕ
 kind_name DuplicateItem = codes "DuplicateItem"
@@ -33,16 +29,6 @@ kind_name BodyNotOctets = codes "BodyNotOctets"
 kind_name BadScale = codes "BadScale"
 kind_name BadStringWidth = codes "BadStringWidth"
 kind_name TooWide = codes "TooWide"
-
-abbrev pub cause_name : Cause → List ℕ
-cause_name EndsInHeader = codes "EndsInHeader"
-cause_name BadLen = codes "BadLen"
-cause_name EndsInBlock = codes "EndsInBlock"
-cause_name RunsOut = codes "RunsOut"
-cause_name UndefinedSlot = codes "UndefinedSlot"
-cause_name PresenceTooLong = codes "PresenceTooLong"
-cause_name ExtensionPastEnd = codes "ExtensionPastEnd"
-cause_name BadExplicitLength = codes "BadExplicitLength"
 
 abbrev pub flaw_line : ℕ → Flaw → List ℕ
 flaw_line file flaw = numbered (codes "flaw file ") file ++ ((codes " " ++ kind_name flaw.kind) ++ (codes " " ++ (flaw.path ++ codes "\n")))
@@ -79,7 +65,7 @@ lines_of (Done blocks) = []
 lines_of Usage = codes "refused usage\n"
 lines_of (SpecRefused file fault) = fault_lines file fault
 lines_of (CategoryTwice file category) = numbered (codes "refused file ") file ++ (codes " CategoryTwice " ++ (three_digits category ++ codes "\n"))
-lines_of (InputRefused fault) = numbered (codes "refused block ") fault.block ++ (numbered (codes " bit ") fault.bit ++ (codes " " ++ (cause_name fault.cause ++ codes "\n")))
+lines_of (InputRefused fault) = fault_line fault
 lines_of (TextRefused line fault) = text_line line fault
 lines_of (MigratedTooLong block octets) = numbered (codes "refused block ") block ++ (numbered (codes " MigratedTooLong ") octets ++ codes "\n")
 lines_of InputTooLong = codes "refused input InputTooLong\n"

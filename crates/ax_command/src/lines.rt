@@ -1,8 +1,8 @@
 //! The lines of the report for an outcome. They are written in pieces and take no memory.
-ghost use Rattle.std.specs.Prelude.{◌≡◌, ◌++◌, codes, decimal};
+ghost use Rattle.std.specs.Prelude.{◌≡◌, ◌++◌, codes};
 ghost use Rattle.ax_outside.specs.Changes.{Wrote, sink_change};
 ghost use Rattle.ax_model.specs.Paths.{three_digits};
-ghost use Rattle.ax_command.specs.Lines.{numbered, cause_name, kind_name, flaw_line, flaw_lines, fault_lines, filter_line, text_line, lines_of};
+ghost use Rattle.ax_command.specs.Lines.{kind_name, flaw_line, flaw_lines, fault_lines, filter_line, text_line, lines_of};
 
 use crate::outcome::Outcome;
 use ax_build_work::TextFault;
@@ -10,77 +10,8 @@ use ax_filter::FilterFault;
 use ax_load::SpecFault;
 use ax_model::{Flaw, FlawKind, Flaws, Text, category_digits};
 use ax_outside::{Sink, SinkFailed, write_text};
-use ax_stream::{Cause, InputFault};
-use itoa::Buffer;
-
-/// Writes a number in decimal.
-fn write_number<K: Sink>(sink: &mut K, number: u64) -> Result<(), SinkFailed>
-    ensures { Wrote (sink_change K.Sink sink.old sink.new) result (decimal number) }
-{
-    let mut buffer = Buffer::new();
-    write_text(sink, buffer.format(number).as_bytes())
-}
-
-/// Writes a text and a number after it.
-#[tactic(auto, using(ax_outside::proofs::Pieces::pieces))]
-fn write_numbered<K: Sink>(sink: &mut K, front: &[u8], number: u64) -> Result<(), SinkFailed>
-    ensures { Wrote (sink_change K.Sink sink.old sink.new) result (numbered front.now number) }
-{
-    write_text(sink, front)?;
-    write_number(sink, number)
-}
-
-/// Writes two texts.
-#[tactic(auto, using(ax_outside::proofs::Pieces::pieces))]
-fn write_two<K: Sink>(sink: &mut K, first: &[u8], second: &[u8]) -> Result<(), SinkFailed>
-    ensures { Wrote (sink_change K.Sink sink.old sink.new) result (first.now ++ second.now) }
-{
-    write_text(sink, first)?;
-    write_text(sink, second)
-}
-
-/// Writes three texts.
-#[tactic(auto, using(ax_outside::proofs::Pieces::pieces))]
-fn write_three<K: Sink>(
-    sink: &mut K,
-    first: &[u8],
-    second: &[u8],
-    third: &[u8],
-) -> Result<(), SinkFailed>
-    ensures { Wrote (sink_change K.Sink sink.old sink.new) result (first.now ++ (second.now ++ third.now)) }
-{
-    write_text(sink, first)?;
-    write_two(sink, second, third)
-}
-
-/// Writes a text and a number after it, and then a text.
-#[tactic(auto, using(ax_outside::proofs::Pieces::pieces))]
-fn write_numbered_text<K: Sink>(
-    sink: &mut K,
-    front: &[u8],
-    number: u64,
-    end: &[u8],
-) -> Result<(), SinkFailed>
-    ensures { Wrote (sink_change K.Sink sink.old sink.new) result (numbered front.now number ++ end.now) }
-{
-    write_numbered(sink, front, number)?;
-    write_text(sink, end)
-}
-
-fn cause_text(cause: Cause) -> &'static [u8]
-    ensures { result.now ≡ cause_name cause }
-{
-    match cause {
-        Cause::EndsInHeader => b"EndsInHeader",
-        Cause::BadLen => b"BadLen",
-        Cause::EndsInBlock => b"EndsInBlock",
-        Cause::RunsOut => b"RunsOut",
-        Cause::UndefinedSlot => b"UndefinedSlot",
-        Cause::PresenceTooLong => b"PresenceTooLong",
-        Cause::ExtensionPastEnd => b"ExtensionPastEnd",
-        Cause::BadExplicitLength => b"BadExplicitLength",
-    }
-}
+use ax_report::{write_numbered, write_numbered_text, write_three, write_two, write_two_numbers};
+use ax_stream::write_fault_line;
 
 fn kind_text(kind: FlawKind) -> &'static [u8]
     ensures { result.now ≡ kind_name kind }
@@ -100,21 +31,6 @@ fn kind_text(kind: FlawKind) -> &'static [u8]
         FlawKind::BadStringWidth => b"BadStringWidth",
         FlawKind::TooWide => b"TooWide",
     }
-}
-
-/// Writes a line that ends in a number: a text and a number, and again a text and a number.
-#[tactic(auto, using(ax_outside::proofs::Pieces::pieces))]
-fn write_two_numbers<K: Sink>(
-    sink: &mut K,
-    front: &[u8],
-    number: u64,
-    middle: &[u8],
-    last: u64,
-) -> Result<(), SinkFailed>
-    ensures { Wrote (sink_change K.Sink sink.old sink.new) result (numbered front.now number ++ (numbered middle.now last ++ codes "\n")) }
-{
-    write_numbered(sink, front, number)?;
-    write_numbered_text(sink, middle, last, b"\n")
 }
 
 /// Writes a space and the kind of a flaw.
@@ -147,31 +63,6 @@ fn write_flaw<K: Sink>(sink: &mut K, file: u32, flaw: &Flaw) -> Result<(), SinkF
 {
     write_numbered(sink, b"flaw file ", file as u64)?;
     write_flaw_end(sink, flaw)
-}
-
-/// Writes a space and the cause of a fault of the input, up to the end of its line.
-fn write_cause<K: Sink>(sink: &mut K, cause: Cause) -> Result<(), SinkFailed>
-    ensures { Wrote (sink_change K.Sink sink.old sink.new) result (codes " " ++ (cause_name cause ++ codes "\n")) }
-{
-    write_three(sink, b" ", cause_text(cause), b"\n")
-}
-
-/// Writes the bit and the cause of a fault of the input, up to the end of its line.
-#[tactic(auto, using(ax_outside::proofs::Pieces::pieces))]
-fn write_fault_end<K: Sink>(sink: &mut K, fault: InputFault) -> Result<(), SinkFailed>
-    ensures { Wrote (sink_change K.Sink sink.old sink.new) result (numbered (codes " bit ") fault.bit ++ (codes " " ++ (cause_name fault.cause ++ codes "\n"))) }
-{
-    write_numbered(sink, b" bit ", fault.bit as u64)?;
-    write_cause(sink, fault.cause)
-}
-
-/// Writes the line of a fault of the input.
-#[tactic(auto, using(ax_outside::proofs::Pieces::pieces))]
-fn write_fault<K: Sink>(sink: &mut K, fault: InputFault) -> Result<(), SinkFailed>
-    ensures { Wrote (sink_change K.Sink sink.old sink.new) result (lines_of (Outcome.InputRefused fault)) }
-{
-    write_numbered(sink, b"refused block ", fault.block)?;
-    write_fault_end(sink, fault)
 }
 
 /// Writes the category of a file, up to the end of its line.
@@ -359,7 +250,7 @@ pub fn write_lines<K: Sink>(sink: &mut K, outcome: &Outcome) -> Result<(), SinkF
         Outcome::Usage => write_text(sink, b"refused usage\n"),
         Outcome::SpecRefused { file, fault } => write_refused_file(sink, *file, fault),
         Outcome::CategoryTwice { file, category } => write_category_twice(sink, *file, *category),
-        Outcome::InputRefused { fault } => write_fault(sink, *fault),
+        Outcome::InputRefused { fault } => write_fault_line(sink, *fault),
         Outcome::TextRefused { line, fault } => write_text_fault(sink, *line, *fault),
         Outcome::MigratedTooLong { block, octets } => write_two_numbers(
             sink,

@@ -1,5 +1,5 @@
-pub mod EightOctets
 pub mod Outputs
 pub mod Pieces
+pub mod ShortNumbers
 pub mod Steps
 pub mod Words

@@ -1,23 +1,23 @@
 -- Parts and occurrences by FX, one after the other.
-use Rattle.std.proofs.Common.{◌≡◌, ℕ, ◌+◌, ◌-◌, ◌*◌, ◌≤◌, Bool, true, false, List, [], ◌∷◌, ◌++◌, length, drop, map, codes, refl, sym, ◌∙◌, ap, subst, arith, add-one}
+use Rattle.std.proofs.Common.{◌≡◌, ℕ, suc, ◌+◌, ◌-◌, ◌*◌, ◌<◌, ◌≤◌, Bool, true, false, List, [], ◌∷◌, ◌++◌, length, drop, map, get_or, codes, refl, sym, ◌∙◌, ap, subst, arith, add-one, length-drop, drop-cons}
 use Rattle.std.specs.List.{AllByRecursion}
+use Rattle.std.proofs.lemmas.List.{drop_all, length-map}
 use Rattle.ax_bits.specs.Bits.{bits}
 use Rattle.ax_model.specs.Fitting.{list_count}
+use Rattle.ax_model.specs.InBounds.{PartInBounds}
 use Rattle.ax_model.specs.Plain.{part_tree}
 use Rattle.ax_model.specs.Reader.{fixed_value, members_value, after}
 use Rattle.ax_model.specs.Tree.{FixedTree, MembersTree, list_and, no_lists, value_and, no_values, value_count, extended, by_fx, part_values, occurrences}
-use Rattle.ax_model.specs.Widths.{width}
-use Rattle.ax_model.specs.declared.fault.BodyCause.TheVariants.{RunsOut}
+use Rattle.ax_model.specs.Widths.{width, members_width}
+use Rattle.ax_model.specs.declared.fault.BodyCause.TheVariants.{RunsOut, ExtensionPastEnd}
 use Rattle.ax_model.specs.declared.fault.BodyFault.{BodyFault}
 use Rattle.ax_model.specs.declared.kind.Part.{Part}
-use Rattle.ax_reader.proofs.AtOctets.{IsUnit, run_at, parts_at, run_ends, run_goes_on, run_fails, parts_at}
+use Rattle.ax_reader.proofs.AtOctets.{IsUnit, run_at, parts_at, run_ends, run_goes_on, run_fails, parts_fail, parts_end, parts_go_on, parts_past_end}
 use Rattle.ax_reader.specs.Reading.{FailsAt, Continues, fx_bit, kind_read}
 use Rattle.ax_text.specs.Listable.{MembersListable}
 use Rattle.ax_text.specs.Printing.{as_lines, Puts}
 use Rattle.ax_text.specs.ShowText.{fixed_lines, members_lines, parts_lines, each_lines, occurrence}
 use Rattle.ax_text.specs.ValueText.{Texts}
-use Rattle.ax_values.proofs.PartsRead.{left_is, none_left}
-use Rattle.ax_values.specs.Parts.{parts_left, PartsReady, IsPartMet}
 use Rattle.ax_show_views.specs.Shown.{ShowsCounted}
 use Rattle.ax_show_views.proofs.Leading.{Leads, Ending, leads_next, counted_first}
 
@@ -70,62 +70,90 @@ run_failed f path body at here old now i fault h less c b = h.leads.fails fault 
 
 -- ---- parts
 
+parts_from : (all : List Part) (i : ℕ) (p : Part) → i < length all → p ≡ get_or all i p → map part_tree (drop i all) ≡ part_tree p ∷ map part_tree (drop (i + 1) all)
+parts_from all i p within e =
+    ap (map part_tree) (drop-cons all i p within ∙ ap (λ x. x ∷ drop (suc i) all) (sym e)) ∙ ap (λ n. part_tree p ∷ map part_tree (drop n all)) (sym (add-one i))
+
 abbrev pub parts_done : List MembersTree → List ℕ → List ℕ → ℕ → List ℕ → Ending
 parts_done ps path body at old end new n = ShowsCounted (extended ps) path (codes "parts") body at end old new n
+
+pub record PartsShown (all : List Part) (i : ℕ) (path body : List ℕ) (at here : ℕ) (old now : List ℕ) : Type 0 where
+  pub within : here ≤ length body
+  pub few : i ≤ here
+  pub bounds : AllByRecursion PartInBounds (map part_tree (drop i all))
+  pub listable : AllByRecursion MembersListable (map part_tree (drop i all))
+  pub leads : i < length all → Leads (parts_done (map part_tree all) path body at old) (FailsAt (kind_read (extended (map part_tree all)) body at) at) (parts_lines (map part_tree (drop i all)) path) list_count (parts_at (map part_tree (drop i all)) body here) body here now i
+  pub past : length all ≤ i → (0 < here) × ((fault : BodyFault) → fault.cause ≡ ExtensionPastEnd → fault.bit + 1 ≡ 8 * here → FailsAt (kind_read (extended (map part_tree all)) body at) at fault)
+
+pub parts_first : (all : List Part) (path body : List ℕ) (at : ℕ) (out : List ℕ) → 0 < length (map part_tree all) → AllByRecursion PartInBounds (map part_tree all) → AllByRecursion MembersListable (map part_tree all) → at ≤ length body → PartsShown all 0 path body at at out out
+parts_first all path body at out some bounds l le = record {
+  within = le;
+  few = omega arith;
+  bounds = bounds;
+  listable = l;
+  leads = λ lt. counted_first (extended (map part_tree all)) path (codes "parts") body at at out (parts_lines (map part_tree all) path) list_count (parts_at (map part_tree all) body at) (λ ls. part_values ls) le (parts_same (map part_tree all) body at) (λ ls end g t. refl);
+  past = λ none. absurd (omega (arith, length-map all part_tree));
+}
 
 no_list_left : (ps : List MembersTree) (path : List ℕ) (t : Texts) → parts_lines ps path no_lists t ≡ t
 no_list_left [] path t = refl
 no_list_left (p ∷ ps) path t = refl
 
--- the parts before octet `here` are shown, and those that are left lead to all of them
-pub record PartsShown (all : List MembersTree) (more : Bool) (ps : List MembersTree) (path body : List ℕ) (at here : ℕ) (old now : List ℕ) (i : ℕ) : Type 0 where
-  pub ready : PartsReady more ps body here
-  pub few : i ≤ here
-  pub listable : AllByRecursion MembersListable ps
-  pub leads : Leads (parts_done all path body at old) (FailsAt (kind_read (extended all) body at) at) (parts_lines ps path) list_count (parts_left more ps body here) body here now i
+-- after a part with FX 1
+after_part : (left : List Part) (ps : List MembersTree) → map part_tree left ≡ ps → 0 < length left → (q : MembersTree) × (qs : List MembersTree) × (ps ≡ q ∷ qs)
+after_part [] ps e lt = absurd (omega arith)
+after_part (q ∷ left) ps e lt = (part_tree q, map part_tree left, sym e)
 
-pub parts_first : (ps : List MembersTree) (path body : List ℕ) (at : ℕ) (out : List ℕ) → PartsReady true ps body at → AllByRecursion MembersListable ps → PartsShown ps true ps path body at at out out 0
-parts_first ps path body at out h l = record {
-  ready = h;
-  few = omega arith;
-  listable = l;
-  leads = counted_first (extended ps) path (codes "parts") body at at out (parts_lines ps path) list_count (parts_left true ps body at) (λ ls. part_values ls) h.within
-      (subst (λ r. Continues (kind_read (extended ps) body at) at at (λ ls. part_values ls) r) (sym (left_is ps body at)) (parts_same ps body at)) (λ ls end g t. refl);
-}
+module _ (all : List Part) (i : ℕ) (p : Part) (path body : List ℕ) (at here : ℕ) (old now : List ℕ) (h : PartsShown all i path body at here old now) (within : i < length all) (e : p ≡ get_or all i p) where
+  from : map part_tree (drop i all) ≡ part_tree p ∷ map part_tree (drop (i + 1) all)
+  from = parts_from all i p within e
 
-pub parts_start : (all ps : List Part) (path body own : List ℕ) (at here : ℕ) (more : Bool) (out : List ℕ) → ps ≡ all → own ≡ body → here ≡ at → more ≡ true → PartsReady more (map part_tree ps) own here → AllByRecursion MembersListable (map part_tree all)
-    → PartsShown (map part_tree all) more (map part_tree ps) path body at here out out 0
-parts_start all ps path body own at here more out p b h m ready l =
-    subst (λ all. PartsShown (map part_tree all) more (map part_tree ps) path body at here out out 0) p
-    (subst (λ here. PartsShown (map part_tree ps) more (map part_tree ps) path body at here out out 0) (sym h)
-    (subst (λ more. PartsShown (map part_tree ps) more (map part_tree ps) path body at at out out 0) (sym m)
-    (parts_first (map part_tree ps) path body at out (subst (λ more. PartsReady more (map part_tree ps) body at) m (subst (λ here. PartsReady more (map part_tree ps) body here) h (subst (λ own. PartsReady more (map part_tree ps) own here) b ready)))
-    (subst (λ all. AllByRecursion MembersListable (map part_tree all)) (sym p) l))))
+  pub part_bounds : PartInBounds (part_tree p)
+  part_bounds = (subst (AllByRecursion PartInBounds) from h.bounds).0
 
-module _ (all : List MembersTree) (more : Bool) (ps : List MembersTree) (path body own : List ℕ) (at here : ℕ) (old now : List ℕ) (i : ℕ) (h : PartsShown all more ps path body at here old now i) (b : own ≡ body) where
-  pub part_listable : (p : MembersTree) (again : Bool) (qs : List MembersTree) (end : ℕ) → IsPartMet more ps own here p again qs end → MembersListable p
-  part_listable p again qs end m = (subst (AllByRecursion MembersListable) m.first h.listable).0
+  pub part_listable : MembersListable (part_tree p)
+  part_listable = (subst (AllByRecursion MembersListable) from h.listable).0
 
-  pub parts_next : (new mid : List ℕ) (first : ℕ) (p : MembersTree) (again : Bool) (qs : List MembersTree) (end : ℕ) → new ≡ own → IsPartMet more ps own here p again qs end → PartsReady again qs new end → first ≡ 8 * here
-      → Puts as_lines (members_lines p path (members_value p (drop first (bits body)))) now mid → PartsShown all again qs path body at end old mid (i + 1)
-  parts_next new mid first p again qs end n met ready f q =
-      let m : IsPartMet more ps body here p again qs end = subst (λ own. IsPartMet more ps own here p again qs end) b met in
-      let vs = members_value p (drop (8 * here) (bits body)) in
-      let put : Puts as_lines (members_lines p path vs) now mid = subst (λ first. Puts as_lines (members_lines p path (members_value p (drop first (bits body)))) now mid) f q in record {
-        ready = subst (λ new. PartsReady again qs new end) (n ∙ b) ready;
-        few = omega (arith, h.few, m.forwards);
-        listable = (subst (AllByRecursion MembersListable) m.first h.listable).1;
-        leads = leads_next (parts_done all path body at old) (FailsAt (kind_read (extended all) body at) at) (parts_lines ps path) (parts_lines qs path) (members_lines p path vs) list_count list_count
-            (parts_left more ps body here) (parts_left again qs body end) body here end now mid i (λ ls. list_and vs ls) h.leads m.within m.read put (λ ls t. ap (λ ps. parts_lines ps path (list_and vs ls) t) m.first) (λ ls. add-one (list_count ls));
-      }
+  at_part : Leads (parts_done (map part_tree all) path body at old) (FailsAt (kind_read (extended (map part_tree all)) body at) at) (parts_lines (part_tree p ∷ map part_tree (drop (i + 1) all)) path) list_count (parts_at (part_tree p ∷ map part_tree (drop (i + 1) all)) body here) body here now i
+  at_part = subst (λ ps. Leads (parts_done (map part_tree all) path body at old) (FailsAt (kind_read (extended (map part_tree all)) body at) at) (parts_lines ps path) list_count (parts_at ps body here) body here now i) from (h.leads within)
 
-  pub parts_over : (end n : ℕ) → more ≡ false → end ≡ here → n ≡ i → ShowsCounted (extended all) path (codes "parts") body at end old now n
-  parts_over end n is e m =
-      subst (λ end. ShowsCounted (extended all) path (codes "parts") body at end old now n) (sym e)
-      (h.leads.ends here no_lists now n (none_left more ps body here is h.ready.within) (record { put = λ t. ap (λ u. now ++ as_lines u) (sym (no_list_left ps path t)) }) (omega (arith, m)))
+  pub part_short : (fault : BodyFault) → 8 * (length body - here) ≤ members_width (part_tree p) → fault.cause ≡ RunsOut → fault.bit ≡ 8 * here → FailsAt (kind_read (extended (map part_tree all)) body at) at fault
+  part_short fault less c b = at_part.fails fault (parts_fail (part_tree p) (map part_tree (drop (i + 1) all)) body here fault less c b)
 
-  pub parts_fault : (fault : BodyFault) → FailsAt (parts_left more ps own here) here fault → FailsAt (kind_read (extended all) body at) at fault
-  parts_fault fault f = h.leads.fails fault (subst (λ own. FailsAt (parts_left more ps own here) here fault) b f)
+module _ (all : List Part) (i : ℕ) (p : Part) (path body : List ℕ) (at here : ℕ) (old now : List ℕ) (h : PartsShown all i path body at here old now) (within : i < length all) (e : p ≡ get_or all i p) (end w : ℕ) (fx : Bool) (new : List ℕ)
+    (u : IsUnit body here end w (fx_bit fx)) (l : members_width (part_tree p) ≡ w) (put : Puts as_lines (members_lines (part_tree p) path (members_value (part_tree p) (drop (8 * here) (bits body)))) now new) where
+  pub part_last : (n : ℕ) → fx ≡ false → n ≡ i + 1 → ShowsCounted (extended (map part_tree all)) path (codes "parts") body at end old new n
+  part_last n none m =
+      let ps = map part_tree (drop (i + 1) all) in
+      let vs = members_value (part_tree p) (drop (8 * here) (bits body)) in
+      (at_part all i p path body at here old now h within e).ends end (list_and vs no_lists) new n (parts_end (part_tree p) ps body here end w (fx_bit fx) u l vs (ap fx_bit none) refl)
+      (record { put = λ t. put.put t ∙ ap (λ u. now ++ as_lines (members_lines (part_tree p) path vs u)) (sym (no_list_left ps path t)) }) m
+
+  part_leads : fx ≡ true → i + 1 < length all
+      → Leads (parts_done (map part_tree all) path body at old) (FailsAt (kind_read (extended (map part_tree all)) body at) at) (parts_lines (map part_tree (drop (i + 1) all)) path) list_count (parts_at (map part_tree (drop (i + 1) all)) body end) body end new (i + 1)
+  part_leads one lt =
+      let ps = map part_tree (drop (i + 1) all) in
+      let vs = members_value (part_tree p) (drop (8 * here) (bits body)) in
+      let t = after_part (drop (i + 1) all) ps refl (omega (arith, length-drop (i + 1) all)) in
+      let on : Continues (parts_at (part_tree p ∷ ps) body here) here end (λ ls. list_and vs ls) (parts_at ps body end) =
+      subst (λ ps. Continues (parts_at (part_tree p ∷ ps) body here) here end (λ ls. list_and vs ls) (parts_at ps body end)) (sym t.2) (parts_go_on (part_tree p) t.0 t.1 body here end w (fx_bit fx) vs u l (ap fx_bit one) refl) in
+      leads_next (parts_done (map part_tree all) path body at old) (FailsAt (kind_read (extended (map part_tree all)) body at) at) (parts_lines (part_tree p ∷ ps) path) (parts_lines ps path) (members_lines (part_tree p) path vs) list_count list_count
+      (parts_at (part_tree p ∷ ps) body here) (parts_at ps body end) body here end now new i (λ ls. list_and vs ls) (at_part all i p path body at here old now h within e) u.within on put (λ ls t. refl) (λ ls. add-one (list_count ls))
+
+  pub part_more : fx ≡ true → PartsShown all (i + 1) path body at end old new
+  part_more one = record {
+    within = u.within;
+    few = omega (arith, h.few, u.forwards);
+    bounds = (subst (AllByRecursion PartInBounds) (parts_from all i p within e) h.bounds).1;
+    listable = (subst (AllByRecursion MembersListable) (parts_from all i p within e) h.listable).1;
+    leads = part_leads one;
+    past = λ none. (
+      omega (arith, u.forwards),
+      λ fault c b.
+          (at_part all i p path body at here old now h within e).fails fault
+          (subst (λ ps. FailsAt (parts_at (part_tree p ∷ ps) body here) here fault) (sym (ap (map part_tree) (drop_all (i + 1) all none))) (parts_past_end (part_tree p) body here end w (fx_bit fx) fault u l (ap fx_bit one) c b)),
+    );
+  }
 
 -- ---- one occurrence, at its path
 

@@ -20,10 +20,10 @@ ghost use Rattle.ax_show_views.specs.Stopped.{IsStopped};
 use crate::fixed::{show_fixed, show_members, show_named};
 use crate::paths::set_numbered;
 use crate::stop::FixedStop;
-use ax_model::{Fixed, Name, Parts};
+use ax_model::{BodyCause, BodyFault, Fixed, Name, Parts};
 use ax_octets::Path;
 use ax_text::Lister;
-use ax_values::{DecodeError, PartsLeft, has_fx};
+use ax_values::{DecodeError, has_fx};
 
 /// The lines of a fixed kind that stands by itself. Ok is the octet after it.
 #[tactic(auto, using(ax_values::proofs::Continuing::errors, ax_reader::proofs::AtOctets::fixed_fails))]
@@ -88,16 +88,24 @@ fn show_parts(
     ensures ok { IfOk result (λ r. ShowsCounted (Tree.extended (map part_tree parts.now)) path.now (codes "parts") body.now at r.0 lister.old.out lister.new.out r.1) }
     ensures err { IfErr result (λ e. HasFailed (kind_read (Tree.extended (map part_tree parts.now)) body.now at) at e) }
 {
-    let mut left = PartsLeft::of(parts.as_slice(), body, at);
+    let mut here = at;
     let mut count = 0;
-    while let Some((part, first)) = left.next()? {
-        let mut bit = first;
+    for part in parts.as_slice() {
+        let mut bit = 8 * here;
         if let Err(stop) = show_members(lister, &part.members, body, &mut bit, path) {
-            return Err(stop.of_unit(first / 8));
+            return Err(stop.of_unit(here));
         }
         count += 1;
+        let end = bit / 8 + 1;
+        if !has_fx(body, bit) {
+            return Ok((end, count));
+        }
+        here = end;
     }
-    Ok((left.at, count))
+    Err(DecodeError::Fault(BodyFault {
+        cause: BodyCause::ExtensionPastEnd,
+        bit: 8 * here - 1,
+    }))
 }
 
 /// An extended item: how many parts are present, and their members. Ok is the octet after it.

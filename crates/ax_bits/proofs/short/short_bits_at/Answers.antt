@@ -1,5 +1,5 @@
 use Rattle.std.proofs.Common.{arith}
-use Rattle.ax_bits.proofs.EightOctets.{taken}
+use Rattle.ax_bits.proofs.ShortNumbers.{taken}
 use Rattle.ax_bits.proofs.short.short_bits_at.Goals as goal
 
 pub returns-clause-number : goal.returns-clause-number

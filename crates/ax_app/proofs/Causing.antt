@@ -15,12 +15,16 @@ use Rattle.ax_load.specs.declared.fault.LoadStop.TheVariants as LoadStopOf
 use Rattle.ax_outside.specs.Changes.{LibraryCounts, SourceChange, SinkChange}
 use Rattle.ax_outside.specs.Files.{File}
 use Rattle.ax_outside.specs.Told.{Rose}
+use Rattle.ax_salvage.specs.Runs as OfSalvage
+use Rattle.ax_salvage.specs.declared.salvaging.SalvageEnd.{SalvageEnd}
+use Rattle.ax_salvage.specs.declared.salvaging.SalvageEnd.TheVariants as SalvageEndOf
 use Rattle.ax_stream.specs.Ending.{longest_input}
 use Rattle.ax_stream.specs.Streams.{IsCaused}
 use Rattle.ax_stream.specs.declared.end.StreamEnd.{StreamEnd}
 use Rattle.ax_stream.specs.declared.end.StreamEnd.TheVariants as EndOf
-use Rattle.ax_app.specs.Jobs.{Job, writes, each_block, builds, refuses, TextEnds, written, cut, no_memory, JobRuns}
+use Rattle.ax_app.specs.Jobs.{Job, writes, each_block, builds, salvages, refuses, TextEnds, written, cut, no_memory, JobRuns}
 use Rattle.ax_app.specs.Running.{Runs, at_words, no_words, at_files, before_input, in_job, Causes}
+use Rattle.ax_app.specs.Salvages.{outcome_of_salvage}
 
 -- a fault of the outside comes only where its count rose, and a limit only where more octets were taken
 abbrev IsCausedBy : SourceChange → SinkChange → SinkChange → Outcome → Type 0
@@ -76,10 +80,21 @@ module _ (i : SourceChange) (o r : SinkChange) where
   caused_by_lines LinesEndOf.WriteFault h = h
   caused_by_lines LinesEndOf.OutOfMemory h = tt
 
+  caused_by_salvage : (end : SalvageEnd) → OfSalvage.IsCaused longest_input i o r end → IsCausedBy i o r (outcome_of_salvage end)
+  caused_by_salvage (SalvageEndOf.Done blocks) h = tt
+  caused_by_salvage (SalvageEndOf.EndsInHeader block bit) h = tt
+  caused_by_salvage (SalvageEndOf.BadLen block) h = tt
+  caused_by_salvage (SalvageEndOf.EndsInBlock block bit) h = tt
+  caused_by_salvage SalvageEndOf.InputTooLong h = h
+  caused_by_salvage SalvageEndOf.ReadFault h = h
+  caused_by_salvage SalvageEndOf.WriteFault h = h
+  caused_by_salvage SalvageEndOf.ReportFault h = h
+
   caused_in_job : (job : Job) (outcome : Outcome) → JobRuns job i o r outcome → IsCausedBy i o r outcome
   caused_in_job (writes count text) outcome h = caused_by_text count text outcome h.ends
   caused_in_job (each_block c) outcome h = subst (IsCausedBy i o r) (sym h.is) (caused_by_blocks h.end h.runs.caused)
   caused_in_job (builds catalogue) outcome h = subst (IsCausedBy i o r) (sym h.is) (caused_by_lines h.end h.runs.caused)
+  caused_in_job (salvages catalogue) outcome h = subst (IsCausedBy i o r) (sym h.is) (caused_by_salvage h.end h.runs.caused)
   caused_in_job (refuses refusal) outcome h = absurd h
 
   caused : (words : List (List ℕ)) (files : Option (List File)) (c : LibraryCounts) (outcome : Outcome) → Runs words files c i o r outcome → IsCausedBy i o r outcome

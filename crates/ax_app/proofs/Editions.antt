@@ -9,7 +9,7 @@ use Rattle.ax_model.specs.Specification.{SpecTree}
 use Rattle.ax_model.specs.declared.spec.Spec.{Spec}
 use Rattle.ax_outside.specs.Changes.{SourceChange, SinkChange}
 use Rattle.ax_words.specs.declared.line.Line.{Line}
-use Rattle.ax_words.specs.declared.line.Line.TheVariants.{Check, Canon, Show, Text, Build, Filter, Migrate, Trial, Help, Version}
+use Rattle.ax_words.specs.declared.line.Line.TheVariants.{Check, Canon, Show, Text, Build, Filter, Migrate, Trial, Salvage, Help, Version}
 use Rattle.ax_app.specs.Jobs.{Job, each_block, refuses, IsJob, MigratesBetween, IsMigrateJob, migrates, other_category, IsStopped, BlocksRun, RunsJob, takes_distinct}
 use Rattle.ax_app.specs.Loaded.{specs_of, IsLoadedFor}
 use Rattle.ax_app.specs.declared.loading.Loaded.{Loaded}
@@ -32,6 +32,7 @@ is_migrate (Build files) h = never (Build files) h
 is_migrate (Filter expression files) h = never (Filter expression files) h
 is_migrate (Migrate old new) h = record { names = (old, new); is = refl }
 is_migrate (Trial file seed count) h = never (Trial file seed count) h
+is_migrate (Salvage files) h = never (Salvage files) h
 is_migrate Help h = never Help h
 is_migrate Version h = never Version h
 

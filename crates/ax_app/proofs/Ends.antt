@@ -11,8 +11,11 @@ use Rattle.ax_line_stream.specs.declared.end.LinesEnd.{LinesEnd}
 use Rattle.ax_line_stream.specs.declared.end.LinesEnd.TheVariants as LinesEndOf
 use Rattle.ax_load.specs.declared.fault.LoadStop.{LoadStop}
 use Rattle.ax_load.specs.declared.fault.LoadStop.TheVariants as LoadStopOf
+use Rattle.ax_salvage.specs.declared.salvaging.SalvageEnd.{SalvageEnd}
+use Rattle.ax_salvage.specs.declared.salvaging.SalvageEnd.TheVariants as SalvageEndOf
 use Rattle.ax_stream.specs.declared.end.StreamEnd.{StreamEnd}
 use Rattle.ax_stream.specs.declared.end.StreamEnd.TheVariants as EndOf
+use Rattle.ax_app.specs.Salvages.{outcome_of_salvage}
 
 -- an outcome that a run may have before it comes to its job
 abbrev pub IsEarly : Outcome → Type 0
@@ -80,3 +83,23 @@ done_of_lines LinesEndOf.InputTooLong count e = absurd (cc)
 done_of_lines LinesEndOf.ReadFault count e = absurd (cc)
 done_of_lines LinesEndOf.WriteFault count e = absurd (cc)
 done_of_lines LinesEndOf.OutOfMemory count e = absurd (cc)
+
+pub no_usage_of_salvage : (end : SalvageEnd) → outcome_of_salvage end ≡ Usage → ⊥
+no_usage_of_salvage (SalvageEndOf.Done blocks) e = absurd (cc)
+no_usage_of_salvage (SalvageEndOf.EndsInHeader block bit) e = absurd (cc)
+no_usage_of_salvage (SalvageEndOf.BadLen block) e = absurd (cc)
+no_usage_of_salvage (SalvageEndOf.EndsInBlock block bit) e = absurd (cc)
+no_usage_of_salvage SalvageEndOf.InputTooLong e = absurd (cc)
+no_usage_of_salvage SalvageEndOf.ReadFault e = absurd (cc)
+no_usage_of_salvage SalvageEndOf.WriteFault e = absurd (cc)
+no_usage_of_salvage SalvageEndOf.ReportFault e = absurd (cc)
+
+pub done_of_salvage : (end : SalvageEnd) (count : ℕ) → outcome_of_salvage end ≡ Done count → end ≡ SalvageEndOf.Done count
+done_of_salvage (SalvageEndOf.Done blocks) count e = cc
+done_of_salvage (SalvageEndOf.EndsInHeader block bit) count e = absurd (cc)
+done_of_salvage (SalvageEndOf.BadLen block) count e = absurd (cc)
+done_of_salvage (SalvageEndOf.EndsInBlock block bit) count e = absurd (cc)
+done_of_salvage SalvageEndOf.InputTooLong count e = absurd (cc)
+done_of_salvage SalvageEndOf.ReadFault count e = absurd (cc)
+done_of_salvage SalvageEndOf.WriteFault count e = absurd (cc)
+done_of_salvage SalvageEndOf.ReportFault count e = absurd (cc)

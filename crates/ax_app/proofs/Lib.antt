@@ -8,5 +8,6 @@ pub mod Memory
 pub mod Once
 pub mod OneAnswer
 pub mod OwnOutcomes
+pub mod SalvagedWhole
 pub mod Stages
 pub mod Trials

@@ -1,5 +1,5 @@
 -- Want of memory: before the input of a command that takes none once it reads.
-use Rattle.std.proofs.Common.{◌≡◌, ℕ, ◌⊎◌, inl, inr, List, sym, ◌∙◌, ap}
+use Rattle.std.proofs.Common.{◌≡◌, ℕ, ◌⊎◌, inl, inr, List, sym, ◌∙◌}
 use Rattle.ax_command.specs.Outcomes.{outcome_of_end}
 use Rattle.ax_command.specs.declared.outcome.Outcome.{Outcome}
 use Rattle.ax_command.specs.declared.outcome.Outcome.TheVariants.{OutOfMemory}
@@ -7,10 +7,12 @@ use Rattle.ax_drive.specs.Ends.{as_stream}
 use Rattle.ax_drive.specs.declared.end.DriveEnd.{DriveEnd}
 use Rattle.ax_drive.specs.declared.end.DriveEnd.TheVariants as EndOf
 use Rattle.ax_outside.specs.Changes.{SourceChange, SinkChange, IsUntouched, GainsNothing}
-use Rattle.ax_stream.specs.declared.end.StreamEnd.{StreamEnd}
+use Rattle.ax_salvage.specs.declared.salvaging.SalvageEnd.{SalvageEnd}
+use Rattle.ax_salvage.specs.declared.salvaging.SalvageEnd.TheVariants as SalvageEndOf
 use Rattle.ax_words.specs.Words.{HasShape}
 use Rattle.ax_words.specs.declared.line.Line.{Line}
 use Rattle.ax_app.specs.Running.{TakesMemory, WasIdle, WantsFirst, AsksForMemory}
+use Rattle.ax_app.specs.Salvages.{outcome_of_salvage}
 
 never_wants : (end : DriveEnd) → outcome_of_end (as_stream end) ≡ OutOfMemory → ⊥
 never_wants (EndOf.Done blocks) e = absurd (cc)
@@ -22,8 +24,21 @@ never_wants EndOf.WriteFault e = absurd (cc)
 never_wants EndOf.ReportFault e = absurd (cc)
 
 -- of a work that takes no memory
-pub was_idle : (i : SourceChange) (o : SinkChange) (end : DriveEnd) (stream : StreamEnd) (outcome : Outcome) → stream ≡ as_stream end → outcome ≡ outcome_of_end stream → WasIdle i o outcome
-was_idle i o end stream outcome same is e = absurd (never_wants end (ap outcome_of_end (sym same) ∙ (sym is ∙ e)))
+pub was_idle : (i : SourceChange) (o : SinkChange) (end : DriveEnd) (outcome : Outcome) → outcome ≡ outcome_of_end (as_stream end) → WasIdle i o outcome
+was_idle i o end outcome is e = absurd (never_wants end (sym is ∙ e))
+
+salvage_never_wants : (end : SalvageEnd) → outcome_of_salvage end ≡ OutOfMemory → ⊥
+salvage_never_wants (SalvageEndOf.Done blocks) e = absurd (cc)
+salvage_never_wants (SalvageEndOf.EndsInHeader block bit) e = absurd (cc)
+salvage_never_wants (SalvageEndOf.BadLen block) e = absurd (cc)
+salvage_never_wants (SalvageEndOf.EndsInBlock block bit) e = absurd (cc)
+salvage_never_wants SalvageEndOf.InputTooLong e = absurd (cc)
+salvage_never_wants SalvageEndOf.ReadFault e = absurd (cc)
+salvage_never_wants SalvageEndOf.WriteFault e = absurd (cc)
+salvage_never_wants SalvageEndOf.ReportFault e = absurd (cc)
+
+pub salvage_was_idle : (i : SourceChange) (o : SinkChange) (end : SalvageEnd) (outcome : Outcome) → outcome ≡ outcome_of_salvage end → WasIdle i o outcome
+salvage_was_idle i o end outcome is e = absurd (salvage_never_wants end (sym is ∙ e))
 
 pub asks : (words : List (List ℕ)) (line : Line) (i : SourceChange) (o : SinkChange) (outcome : Outcome) → HasShape words line → WantsFirst line i o outcome → outcome ≡ OutOfMemory → AsksForMemory words ⊎ (IsUntouched i × GainsNothing o)
 asks words line i o outcome shape h e = by (h e)
@@ -32,4 +47,4 @@ asks words line i o outcome shape h e = by (h e)
     by (inl t) = inl (record { what = line; shape = shape; takes = t })
     by (inr p) = inr p
 
-pub ruleset firsts = (was_idle)
+pub ruleset firsts = (was_idle, salvage_was_idle)

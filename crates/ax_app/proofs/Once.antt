@@ -18,9 +18,9 @@ use Rattle.ax_trial.specs.Trial.{IsTrial}
 use Rattle.ax_words.proofs.Once.{once as shape_once}
 use Rattle.ax_words.specs.Words.{IsInBounds}
 use Rattle.ax_words.specs.declared.line.Line.{Line}
-use Rattle.ax_words.specs.declared.line.Line.TheVariants.{Check, Canon, Show, Text, Build, Filter, Migrate, Trial, Help, Version}
+use Rattle.ax_words.specs.declared.line.Line.TheVariants.{Check, Canon, Show, Text, Build, Filter, Migrate, Trial, Salvage, Help, Version}
 use Rattle.ax_app.proofs.Editions.{migrate_job_once}
-use Rattle.ax_app.specs.Jobs.{Job, writes, each_block, builds, refuses, IsJob, IsCheckJob, IsTrialJob, IsFilterJob, filters, refused, IsMigrateJob, migrates, other_category, IsReady, check_text, files_of, takes_distinct}
+use Rattle.ax_app.specs.Jobs.{Job, writes, each_block, builds, salvages, refuses, IsJob, IsCheckJob, IsTrialJob, IsFilterJob, filters, refused, IsMigrateJob, migrates, other_category, IsReady, check_text, files_of, takes_distinct}
 use Rattle.ax_app.specs.Running.{Does}
 
 -- ---- one job
@@ -50,6 +50,7 @@ job_once (Build files) specs job other h k = h ∙ sym k
 job_once (Filter expression files) specs job other h k = filter_job_once expression specs job other h k
 job_once (Migrate old new) specs job other h k = migrate_job_once specs job other h k
 job_once (Trial file seed count) specs job other h k = trial_job_once seed count specs job other h k
+job_once (Salvage files) specs job other h k = h ∙ sym k
 job_once Help specs job other h k = h ∙ sym k
 job_once Version specs job other h k = h ∙ sym k
 
@@ -59,7 +60,7 @@ does_once words files job other h k =
     let specs : k.specs ≡ h.specs = given_once (takes_distinct h.what) files (files_of h.what) k.specs h.specs (subst (λ w. FilesGive (takes_distinct w) (Some files) (files_of w) k.specs) (sym same) k.give) h.give in
     job_once h.what h.specs job other h.is (subst (λ s. IsJob h.what s other) specs (subst (λ w. IsJob w k.specs other) (sym same) k.is))
 
--- ---- the specifications under which blocks are built
+-- ---- the specifications under which blocks are built or judged
 
 good_specs : (files : Option (List File)) (names : List (List ℕ)) (specs : List SpecTree) → EachGives files names specs → AllByRecursion (λ spec. NoFlaw spec × IsNamed spec) specs
 good_specs files [] [] gives = tt
@@ -72,6 +73,7 @@ abbrev pub IsGood : Job → Type 0
 IsGood (writes count text) = Unit {0}
 IsGood (each_block c) = Unit {0}
 IsGood (builds catalogue) = AllByRecursion (λ spec. NoFlaw spec × IsNamed spec) catalogue
+IsGood (salvages catalogue) = AllByRecursion (λ spec. NoFlaw spec × IsNamed spec) catalogue
 IsGood (refuses refusal) = Unit {0}
 
 good_filter : (expression : List ℕ) (specs : List SpecTree) (job : Job) → IsFilterJob expression specs job → IsGood job
@@ -92,6 +94,7 @@ good_of (Build files) specs job good h = subst IsGood (sym h) good
 good_of (Filter expression files) specs job good h = good_filter expression specs job h
 good_of (Migrate old new) specs job good h = good_migrate h.old h.new job h.is
 good_of (Trial file seed count) specs job good h = subst IsGood (sym h.is) tt
+good_of (Salvage files) specs job good h = subst IsGood (sym h) good
 good_of Help specs job good h = subst IsGood (sym h) tt
 good_of Version specs job good h = subst IsGood (sym h) tt
 
@@ -121,5 +124,6 @@ ready files (Build names) specs bounds gives = tt
 ready files (Filter expression names) specs bounds gives = bounds.0
 ready files (Migrate old new) specs bounds gives = tt
 ready files (Trial file seed count) specs bounds gives = let s = one_spec files file specs gives in record { spec = s.spec; one = s.one; few = bounds.1 }
+ready files (Salvage names) specs bounds gives = tt
 ready files Help specs bounds gives = tt
 ready files Version specs bounds gives = tt

@@ -17,14 +17,16 @@ use Rattle.ax_load.specs.declared.fault.LoadStop.TheVariants as LoadStopOf
 use Rattle.ax_outside.specs.Changes.{none_counted}
 use Rattle.ax_outside.specs.Files.{File}
 use Rattle.ax_outside.specs.Told.{Rose}
+use Rattle.ax_salvage.proofs.OneSalvage.{salvaged_once}
 use Rattle.ax_stream.proofs.AnswersOnce.{answers_once}
 use Rattle.ax_stream.specs.Commands.{output_of, report_of}
 use Rattle.ax_stream.specs.Ending.{longest_input}
 use Rattle.ax_words.proofs.Once.{once as shape_once}
 use Rattle.ax_app.proofs.Once.{does_once, IsGood, good_job}
 use Rattle.ax_app.specs.Answer.{Answer, by_words, by_files, by_refusal, by_job}
-use Rattle.ax_app.specs.Jobs.{Job, writes, each_block, builds, refuses, JobAnswers, files_of, takes_distinct}
+use Rattle.ax_app.specs.Jobs.{Job, writes, each_block, builds, salvages, refuses, JobAnswers, files_of, takes_distinct}
 use Rattle.ax_app.specs.Running.{Does, StopsAtFiles}
+use Rattle.ax_app.specs.Salvages.{outcome_of_salvage}
 
 none_rose : Rose 0 0 → ⊥
 none_rose (inl r) = omega arith
@@ -44,6 +46,9 @@ same_job (builds catalogue) input outcome next written others reported more good
     let same : (h.lines ≡ k.lines) × (h.answers ≡ k.answers) × (h.end ≡ k.end)
     = OfLines.answers_once (build_command catalogue) (build_once catalogue good) longest_line Lines.longest_input input h.lines k.lines h.answers k.answers h.end k.end h.ends k.ends in
     (h.is ∙ ap outcome_of_lines same.2 ∙ sym k.is, h.written_is ∙ ap LineAnswers.output_of same.1 ∙ sym k.written_is, h.reported_is ∙ sym k.reported_is)
+same_job (salvages catalogue) input outcome next written others reported more good h k =
+    let same : (h.end ≡ k.end) × (written ≡ others) × (reported ≡ more) = salvaged_once catalogue input longest_input h.end k.end written others reported more h.salvaged k.salvaged in
+    (h.is ∙ ap outcome_of_salvage same.0 ∙ sym k.is, same.1)
 same_job (refuses refusal) input outcome next written others reported more good h k = absurd h
 
 refusal_once : (refusal next : Refusal) → refuses refusal ≡ refuses next → refusal ≡ next

@@ -33,6 +33,8 @@ use Rattle.ax_outside.specs.Files.{File}
 use Rattle.ax_outside.specs.Told.{Rose, with_end}
 use Rattle.ax_outside.specs.declared.sinks.SinkFailed.{SinkFailed}
 use Rattle.ax_model.specs.Blocks.{BlockTree}
+use Rattle.ax_salvage.specs.Runs.{SalvageAnswers, SalvageStops}
+use Rattle.ax_salvage.specs.declared.salvaging.SalvageEnd.{SalvageEnd}
 use Rattle.ax_stream.proofs.Completes.{IsDoneWithBlocks, stream_completes}
 use Rattle.ax_stream.specs.Commands.{BlockCommand, output_of, report_of}
 use Rattle.ax_stream.specs.Ending.{longest_input}
@@ -44,13 +46,15 @@ use Rattle.ax_words.specs.declared.error.WordsError.{WordsError}
 use Rattle.ax_words.specs.declared.error.WordsError.TheVariants as WordsErrorOf
 use Rattle.ax_words.specs.declared.line.Line.{Line}
 use Rattle.ax_words.specs.declared.line.Line.TheVariants.{Check, Build, Trial}
-use Rattle.ax_app.proofs.Ends.{IsEarly, stop_is_early, job_stop_is_early, no_usage_of_blocks, no_usage_of_lines, done_of_blocks, done_of_lines}
+use Rattle.ax_app.proofs.Ends.{IsEarly, stop_is_early, job_stop_is_early, no_usage_of_blocks, no_usage_of_lines, no_usage_of_salvage, done_of_blocks, done_of_lines, done_of_salvage}
 use Rattle.ax_words.proofs.Once.{once as shape_once}
 use Rattle.ax_app.proofs.Once.{does_once, IsGood, good_job}
+use Rattle.ax_app.proofs.SalvagedWhole.{salvage_completes, salvage_reads}
 use Rattle.ax_app.specs.Answer.{by_words, by_files, by_refusal, by_job}
 use Rattle.ax_app.specs.Completing.{NoFaultCounted, HasWhole, IsDoneWith}
 use Rattle.ax_app.specs.Headline.{Headline, answered, stopped_at_words, stopped_at_files, stopped_before_input, stopped_in_job, IsHindrance, of_library, of_memory}
-use Rattle.ax_app.specs.Jobs.{Job, writes, each_block, builds, refuses, check_text, IsJob, ReadsInput, TextEnds, written, cut, no_memory, JobRuns, RunsJob, EndsTrial, IsReadyToCheck, IsReadyToTry, files_of, takes_distinct}
+use Rattle.ax_app.specs.Jobs.{Job, writes, each_block, builds, salvages, refuses, check_text, IsJob, ReadsInput, TextEnds, written, cut, no_memory, JobRuns, RunsJob, EndsTrial, IsReadyToCheck, IsReadyToTry, files_of, takes_distinct}
+use Rattle.ax_app.specs.Salvages.{outcome_of_salvage}
 use Rattle.ax_app.specs.Running.{Does, StopsAtFiles, StopsBeforeInput, Runs, at_words, no_words, at_files, before_input, in_job, Ended, Causes}
 
 -- ---- the jobs of the commands
@@ -96,6 +100,7 @@ no_usage_in_job : (job : Job) (i : SourceChange) (o r : SinkChange) (outcome : O
 no_usage_in_job (writes count text) i o r outcome h e = no_usage_of_text count text o outcome h.ends e
 no_usage_in_job (each_block c) i o r outcome h e = no_usage_of_blocks h.end (sym h.is ∙ e)
 no_usage_in_job (builds catalogue) i o r outcome h e = no_usage_of_lines h.end (sym h.is ∙ e)
+no_usage_in_job (salvages catalogue) i o r outcome h e = no_usage_of_salvage h.end (sym h.is ∙ e)
 no_usage_in_job (refuses refusal) i o r outcome h e = h
 
 pub usage_only : (words : List (List ℕ)) (files : Option (List File)) (c : LibraryCounts) (i : SourceChange) (o r : SinkChange) (outcome : Outcome) → Runs words files c i o r outcome → outcome ≡ Usage → HasNoShape words
@@ -170,11 +175,17 @@ lines_headline words files c input i o r outcome catalogue end d is none (inl a)
     answered _ [] (by_job (builds catalogue) d (record { lines = a.lines; answers = a.answers; end = end; ends = a.ends; is = is; written_is = refl; reported_is = refl })) a.out (none ∙ sym (with_end-nil r.held))
 lines_headline words files c input i o r outcome catalogue end d is none (inr stops) = stopped_in_job (builds catalogue) d (record { end = end; stops = stops; is = is; report = none })
 
+salvage_headline : (words : List (List ℕ)) (files : List File) (c : LibraryCounts) (input : List ℕ) (i : SourceChange) (o r : SinkChange) (outcome : Outcome) (catalogue : List SpecTree) (end : SalvageEnd) → Does words (Some files) (salvages catalogue)
+    → outcome ≡ outcome_of_salvage end → SalvageAnswers catalogue longest_input input i.left' o r end ⊎ SalvageStops catalogue longest_input input i.left' o r end → Headline words files c input i o r outcome
+salvage_headline words files c input i o r outcome catalogue end d is (inl a) = answered a.out a.report (by_job (salvages catalogue) d (record { end = end; salvaged = a.salvaged; is = is })) a.wrote a.reported
+salvage_headline words files c input i o r outcome catalogue end d is (inr stops) = stopped_in_job (salvages catalogue) d (record { end = end; stops = stops; is = is })
+
 job_headline : (words : List (List ℕ)) (files : List File) (c : LibraryCounts) (input : List ℕ) (i : SourceChange) (o r : SinkChange) (outcome : Outcome) (job : Job) → AreOctets input → i.left ≡ Some input
     → Does words (Some files) job → JobRuns job i o r outcome → Headline words files c input i o r outcome
 job_headline words files c input i o r outcome (writes count text) octets left d h = text_headline words files c input i o r outcome count text d h.untouched h.report h.ends
 job_headline words files c input i o r outcome (each_block k) octets left d h = blocks_headline words files c input i o r outcome k h.end d h.is (h.runs.told input octets left)
 job_headline words files c input i o r outcome (builds catalogue) octets left d h = lines_headline words files c input i o r outcome catalogue h.end d h.is h.report (h.runs.told input left)
+job_headline words files c input i o r outcome (salvages catalogue) octets left d h = salvage_headline words files c input i o r outcome catalogue h.end d h.is (h.runs.told input octets left)
 job_headline words files c input i o r outcome (refuses refusal) octets left d h = absurd h
 
 before_headline : (words : List (List ℕ)) (files : List File) (c : LibraryCounts) (input : List ℕ) (i : SourceChange) (o r : SinkChange) (outcome : Outcome) (stop : JobStop) → StopsBeforeInput words (Some files) stop → outcome ≡ outcome_of_job_stop stop → IsIdle i o r
@@ -228,6 +239,7 @@ module _ (input : List ℕ) (i : SourceChange) (o r : SinkChange) (outcome : Out
       same_whole outcome (Lines.results_of can.answers) count o r (Lines.output_of can.answers) all [] said can.count_is can.written_is can.reported_is
       (lines_done can.answers o r h.end outcome h.is h.report
       (lines_complete (build_command catalogue) longest_line longest_input longest_line longest_input i o h.end refl refl h.runs (build_once catalogue good) input can.lines can.answers left can.lined can.answered source out))
+  job_completes (salvages catalogue) good can h = salvage_completes catalogue input i o r h.end outcome count all said good octets left source out report h.runs h.is can
   job_completes (refuses refusal) good can h = absurd can
 
 -- a job with a whole result isn't refused
@@ -271,6 +283,7 @@ job_reads : (job : Job) (input : List ℕ) (i : SourceChange) (o r : SinkChange)
 job_reads (writes blocks text) input i o r outcome count octets left reads done h = absurd reads
 job_reads (each_block k) input i o r outcome count octets left reads done h = blocks_read k input i o r h.end count (done_of_blocks h.end count (sym h.is ∙ done)) (h.runs.told input octets left)
 job_reads (builds catalogue) input i o r outcome count octets left reads done h = lines_read catalogue input i o h.end count (done_of_lines h.end count (sym h.is ∙ done)) (h.runs.told input left)
+job_reads (salvages catalogue) input i o r outcome count octets left reads done h = salvage_reads catalogue input i o r h.end count (done_of_salvage h.end count (sym h.is ∙ done)) (h.runs.told input octets left)
 job_reads (refuses refusal) input i o r outcome count octets left reads done h = absurd reads
 
 done_reads : (words : List (List ℕ)) (files : List File) (c : LibraryCounts) (input : List ℕ) (i : SourceChange) (o r : SinkChange) (outcome : Outcome) (job : Job) (count : ℕ) → AreOctets input → i.left ≡ Some input

@@ -25,6 +25,9 @@ use Rattle.ax_migrate_work.specs.Commands.{migrate_command}
 use Rattle.ax_model.specs.Blocks.{BlockTree}
 use Rattle.ax_model.specs.Specification.{SpecTree}
 use Rattle.ax_outside.specs.Changes.{SourceChange, SinkChange, IsUntouched, Gains, GainsNothing, GainsPart}
+use Rattle.ax_salvage.specs.Runs.{SalvageRuns}
+use Rattle.ax_salvage.specs.Salvaged.{Salvaged}
+use Rattle.ax_salvage.specs.declared.salvaging.SalvageEnd.{SalvageEnd}
 use Rattle.ax_stream.specs.BlockCommands.{canon_command}
 use Rattle.ax_stream.specs.Commands.{BlockCommand, output_of, report_of}
 use Rattle.ax_stream.specs.Ending.{longest_input}
@@ -34,16 +37,18 @@ use Rattle.ax_stream.specs.declared.end.StreamEnd.{StreamEnd}
 use Rattle.ax_text.specs.BlockText.{BlockLine, OpaqueLine}
 use Rattle.ax_text.specs.ShowText.{ShowText, OpaqueShown}
 use Rattle.ax_trial.specs.Trial.{IsTrial}
+use Rattle.ax_app.specs.Salvages.{outcome_of_salvage}
 use Rattle.ax_words.specs.declared.line.Line.{Line}
-use Rattle.ax_words.specs.declared.line.Line.TheVariants.{Check, Canon, Show, Text, Build, Filter, Migrate, Trial, Help, Version}
+use Rattle.ax_words.specs.declared.line.Line.TheVariants.{Check, Canon, Show, Text, Build, Filter, Migrate, Trial, Salvage, Help, Version}
 
 -- it writes a text, which counts so many blocks, and reads no input, or it answers each block of the input, or it builds a
--- block of each line of the input that has a token, under this catalogue; or it refuses what else the words say, or what its
--- files have in common
+-- block of each line of the input that has a token, under this catalogue; or it salvages the blocks of the input, under this
+-- catalogue; or it refuses what else the words say, or what its files have in common
 pub data Job : Type 0 where
   writes : ℕ → List ℕ → Job
   each_block : BlockCommand → Job
   builds : List SpecTree → Job
+  salvages : List SpecTree → Job
   refuses : Refusal → Job
 
 -- what `check` writes: the line of the accepted file, and the specification printed
@@ -89,7 +94,7 @@ pub record IsTrialJob (seed count : ℕ) (specs : List SpecTree) (job : Job) : T
 
 -- `--help`: the shapes of the commands
 abbrev pub help_text : List ℕ
-help_text = codes "asterix check SPEC\nasterix canon SPEC...\nasterix show SPEC...\nasterix text SPEC...\nasterix build SPEC...\nasterix filter EXPR SPEC...\nasterix migrate OLD NEW\nasterix trial SPEC SEED COUNT\n"
+help_text = codes "asterix check SPEC\nasterix canon SPEC...\nasterix show SPEC...\nasterix text SPEC...\nasterix build SPEC...\nasterix filter EXPR SPEC...\nasterix migrate OLD NEW\nasterix trial SPEC SEED COUNT\nasterix salvage SPEC...\n"
 
 abbrev pub version_text : List ℕ
 version_text = codes "asterix 1\n"
@@ -104,6 +109,7 @@ files_of (Build files) = files
 files_of (Filter expression files) = files
 files_of (Migrate old new) = old ∷ new ∷ []
 files_of (Trial file seed count) = file ∷ []
+files_of (Salvage files) = files
 files_of Help = []
 files_of Version = []
 
@@ -117,6 +123,7 @@ takes_distinct (Build files) = true
 takes_distinct (Filter expression files) = true
 takes_distinct (Migrate old new) = false
 takes_distinct (Trial file seed count) = true
+takes_distinct (Salvage files) = true
 takes_distinct Help = true
 takes_distinct Version = true
 
@@ -130,6 +137,7 @@ IsJob (Build files) specs job = job ≡ builds specs
 IsJob (Filter expression files) specs job = IsFilterJob expression specs job
 IsJob (Migrate old new) specs job = MigratesBetween specs job
 IsJob (Trial file seed count) specs job = IsTrialJob seed count specs job
+IsJob (Salvage files) specs job = job ≡ salvages specs
 IsJob Help specs job = job ≡ writes 0 help_text
 IsJob Version specs job = job ≡ writes 0 version_text
 
@@ -142,6 +150,7 @@ abbrev pub ReadsInput : Job → Type 0
 ReadsInput (writes count text) = ⊥
 ReadsInput (each_block c) = Unit {0}
 ReadsInput (builds catalogue) = Unit {0}
+ReadsInput (salvages catalogue) = Unit {0}
 ReadsInput (refuses refusal) = ⊥
 
 -- ---- its answer: how the run ends, what it writes and what it reports
@@ -168,10 +177,16 @@ pub record BuildAnswers (catalogue : List SpecTree) (input : List ℕ) (outcome 
   pub written_is : written ≡ Lines.output_of answers
   pub reported_is : reported ≡ []
 
+pub record SalvageGives (catalogue : List SpecTree) (input : List ℕ) (outcome : Outcome) (written reported : List ℕ) : Type 0 where
+  pub end : SalvageEnd
+  pub salvaged : Salvaged catalogue input longest_input end written reported
+  pub is : outcome ≡ outcome_of_salvage end
+
 abbrev pub JobAnswers : Job → List ℕ → Outcome → List ℕ → List ℕ → Type 0
 JobAnswers (writes count text) input outcome written reported = TextAnswers count text outcome written reported
 JobAnswers (each_block c) input outcome written reported = BlocksAnswer c input outcome written reported
 JobAnswers (builds catalogue) input outcome written reported = BuildAnswers catalogue input outcome written reported
+JobAnswers (salvages catalogue) input outcome written reported = SalvageGives catalogue input outcome written reported
 JobAnswers (refuses refusal) input outcome written reported = ⊥
 
 -- ---- its run, whatever is told
@@ -197,10 +212,16 @@ pub record BuildRuns (catalogue : List SpecTree) (i : SourceChange) (o r : SinkC
   pub is : outcome ≡ outcome_of_lines end
   pub report : GainsNothing r
 
+pub record SalvageRun (catalogue : List SpecTree) (i : SourceChange) (o r : SinkChange) (outcome : Outcome) : Type 0 where
+  pub end : SalvageEnd
+  pub runs : SalvageRuns catalogue longest_input i o r end
+  pub is : outcome ≡ outcome_of_salvage end
+
 abbrev pub JobRuns : Job → SourceChange → SinkChange → SinkChange → Outcome → Type 0
 JobRuns (writes count text) i o r outcome = TextRuns count text i o r outcome
 JobRuns (each_block c) i o r outcome = BlocksRun c i o r outcome
 JobRuns (builds catalogue) i o r outcome = BuildRuns catalogue i o r outcome
+JobRuns (salvages catalogue) i o r outcome = SalvageRun catalogue i o r outcome
 JobRuns (refuses refusal) i o r outcome = ⊥
 
 -- ---- what a command's code may rely on
@@ -224,6 +245,7 @@ IsReady (Build files) specs = Unit {0}
 IsReady (Filter expression files) specs = length expression ≤ 2 ^ 31
 IsReady (Migrate old new) specs = Unit {0}
 IsReady (Trial file seed count) specs = IsReadyToTry count specs
+IsReady (Salvage files) specs = Unit {0}
 IsReady Help specs = Unit {0}
 IsReady Version specs = Unit {0}
 

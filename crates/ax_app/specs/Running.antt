@@ -1,9 +1,9 @@
 -- What a run does, stage by stage, whatever the library, the source and the sinks tell.
-use Rattle.std.specs.Prelude.{◌≡◌, ℕ, ◌+◌, ◌<◌, ◌≤◌, ◌⊎◌, List, Option, Some, None}
+use Rattle.std.specs.Prelude.{◌≡◌, ℕ, ◌+◌, ◌<◌, ◌≤◌, ◌⊎◌, List, Option}
 use Rattle.ax_command.specs.Outcomes.{outcome_of_stop, outcome_of_job_stop}
 use Rattle.ax_command.specs.declared.outcome.JobStop.{JobStop}
 use Rattle.ax_command.specs.declared.outcome.Outcome.{Outcome}
-use Rattle.ax_command.specs.declared.outcome.Outcome.TheVariants.{Done, Usage, SpecRefused, CategoryTwice, OtherCategory, FilterRefused, InputRefused, TextRefused, MigratedTooLong, LoadFault, ReadFault, WriteFault, ReportFault, InputTooLong, OutOfMemory}
+use Rattle.ax_command.specs.declared.outcome.Outcome.TheVariants.{Usage, OtherCategory, FilterRefused, TextRefused, MigratedTooLong, ReadFault, WriteFault, ReportFault, InputTooLong, OutOfMemory}
 use Rattle.ax_load.specs.Loading.{FilesGive, FilesEnd}
 use Rattle.ax_load.specs.declared.fault.LoadStop.{LoadStop}
 use Rattle.ax_model.specs.Specification.{SpecTree}
@@ -93,6 +93,7 @@ TakesMemory (LineOf.Canon files) = ⊥
 TakesMemory (LineOf.Filter expression files) = ⊥
 TakesMemory (LineOf.Migrate old new) = ⊥
 TakesMemory (LineOf.Trial file seed count) = ⊥
+TakesMemory (LineOf.Salvage files) = ⊥
 TakesMemory LineOf.Help = ⊥
 TakesMemory LineOf.Version = ⊥
 
@@ -110,51 +111,50 @@ pub record AsksForMemory (words : List (List ℕ)) : Type 0 where
   pub shape : HasShape words what
   pub takes : TakesMemory what
 
--- ---- outcomes of one command alone
+-- ---- outcomes that don't come of every command
 
--- the commands that give outcomes which no other gives
-pub data Owner : Type 0 where
-  of_build : Owner
-  of_filter : Owner
-  of_migrate : Owner
+-- the commands that report lines of blocks
+abbrev pub ReportsBlocks : Line → Type 0
+ReportsBlocks (LineOf.Migrate old new) = Unit {0}
+ReportsBlocks (LineOf.Salvage files) = Unit {0}
+ReportsBlocks _ = ⊥
 
-abbrev pub owner_of : Line → Option Owner
-owner_of (LineOf.Build files) = Some of_build
-owner_of (LineOf.Filter expression files) = Some of_filter
-owner_of (LineOf.Migrate old new) = Some of_migrate
-owner_of (LineOf.Check file) = None
-owner_of (LineOf.Canon files) = None
-owner_of (LineOf.Show files) = None
-owner_of (LineOf.Text files) = None
-owner_of (LineOf.Trial file seed count) = None
-owner_of LineOf.Help = None
-owner_of LineOf.Version = None
+-- those that refuse a block for the length of its migrated form
+abbrev pub RefusesLengths : Line → Type 0
+RefusesLengths (LineOf.Migrate old new) = Unit {0}
+RefusesLengths _ = ⊥
 
--- only `migrate` reports lines of blocks, refuses a block for its length and compares two editions; only `filter` reads an
--- expression, and only `build` reads lines
-abbrev pub only_command : Outcome → Option Owner
-only_command ReportFault = Some of_migrate
-only_command (MigratedTooLong block octets) = Some of_migrate
-only_command (OtherCategory old new) = Some of_migrate
-only_command (FilterRefused fault) = Some of_filter
-only_command (TextRefused line fault) = Some of_build
-only_command (Done blocks) = None
-only_command Usage = None
-only_command (SpecRefused file fault) = None
-only_command (CategoryTwice file category) = None
-only_command (InputRefused fault) = None
-only_command InputTooLong = None
-only_command (LoadFault file) = None
-only_command ReadFault = None
-only_command WriteFault = None
-only_command OutOfMemory = None
+-- those that compare two editions
+abbrev pub ComparesEditions : Line → Type 0
+ComparesEditions (LineOf.Migrate old new) = Unit {0}
+ComparesEditions _ = ⊥
 
--- the words ask for a line of that command
-pub record Asks (words : List (List ℕ)) (owner : Owner) : Type 0 where
+-- those that read an expression
+abbrev pub ReadsExpression : Line → Type 0
+ReadsExpression (LineOf.Filter expression files) = Unit {0}
+ReadsExpression _ = ⊥
+
+-- those that read lines
+abbrev pub ReadsLines : Line → Type 0
+ReadsLines (LineOf.Build files) = Unit {0}
+ReadsLines _ = ⊥
+
+-- the outcome may come of the line
+abbrev pub MayCome : Outcome → Line → Type 0
+MayCome ReportFault what = ReportsBlocks what
+MayCome (MigratedTooLong block octets) what = RefusesLengths what
+MayCome (OtherCategory old new) what = ComparesEditions what
+MayCome (FilterRefused fault) what = ReadsExpression what
+MayCome (TextRefused line fault) what = ReadsLines what
+MayCome _ what = Unit {0}
+
+-- the words ask for a line of which the outcome may come
+pub record ComesOfLine (words : List (List ℕ)) (outcome : Outcome) : Type 0 where
   pub what : Line
   pub shape : HasShape words what
-  pub is : owner_of what ≡ Some owner
+  pub may : MayCome outcome what
 
--- the words ask for the command that alone gives the outcome
+-- words that ask for no line end in Usage, and memory may be wanting while words are read; every other outcome comes of a
+-- line that the words ask for
 abbrev pub IsOfItsCommand : List (List ℕ) → Outcome → Type 0
-IsOfItsCommand words outcome = (owner : Owner) → only_command outcome ≡ Some owner → Asks words owner
+IsOfItsCommand words outcome = (outcome ≡ Usage) ⊎ (outcome ≡ OutOfMemory) ⊎ ComesOfLine words outcome

@@ -12,11 +12,12 @@ ghost use Rattle.ax_outside.specs.Changes.{source_change, sink_change, GainsNoth
 ghost use Rattle.ax_command.specs.declared.outcome.JobStop.{JobStop};
 ghost use Rattle.ax_command.specs.declared.outcome.JobStop.TheVariants.{OutOfMemory};
 ghost use Rattle.ax_stream.specs.Streams.{IsIdle};
-ghost use Rattle.ax_words.specs.declared.line.Line.TheVariants.{Canon, Show, Text, Filter, Migrate};
+ghost use Rattle.ax_words.specs.declared.line.Line.TheVariants.{Canon, Show, Text, Filter, Migrate, Salvage};
 ghost use Rattle.ax_app.specs.Jobs.{BlocksRun, IsReady, IsReadyToCheck, IsReadyToTry, EndsTrial, IsStopped, RunsJob, TextEnds, check_text, takes_distinct};
 ghost use Rattle.ax_app.specs.Loaded.{specs_of, IsLoadedFor};
 ghost use Rattle.ax_app.specs.Running.{NoFaultFell, WasIdle, WantsFirst};
 
+use crate::ends::{outcome_of, outcome_of_salvage};
 use crate::loading::Loaded;
 use ax_build_work::build_lines;
 use ax_check::{Accepted, Catalogue};
@@ -28,8 +29,9 @@ use ax_grammar::print_spec;
 use ax_migrate_views::Migrator;
 use ax_model::Spec;
 use ax_outside::{Sink, Source, write_text};
+use ax_salvage::{Salvage, salvage};
 use ax_show_work::ShowViews;
-use ax_stream::{StreamEnd, run_blocks};
+use ax_stream::run_blocks;
 use ax_tables::{Codecs, compile};
 use ax_text_view_work::TextViews;
 use ax_trial::trial_text;
@@ -38,7 +40,7 @@ use std::alloc::{AllocError, Global};
 
 /// What `--help` writes.
 const HELP: &[u8] =
-    b"asterix check SPEC\nasterix canon SPEC...\nasterix show SPEC...\nasterix text SPEC...\nasterix build SPEC...\nasterix filter EXPR SPEC...\nasterix migrate OLD NEW\nasterix trial SPEC SEED COUNT\n";
+    b"asterix check SPEC\nasterix canon SPEC...\nasterix show SPEC...\nasterix text SPEC...\nasterix build SPEC...\nasterix filter EXPR SPEC...\nasterix migrate OLD NEW\nasterix trial SPEC SEED COUNT\nasterix salvage SPEC...\n";
 
 /// What `--version` writes.
 const VERSION: &[u8] = b"asterix 1\n";
@@ -131,8 +133,7 @@ fn drive_job<S: Source, K: Sink, R: Sink>(
     let Ok(mut work) = Work::new(alloc, job, LONGEST_INPUT) else {
         return Err(JobStop::OutOfMemory);
     };
-    let end = StreamEnd::from(drive(&mut work, source, out, report));
-    Ok(Outcome::from(end))
+    Ok(outcome_of(drive(&mut work, source, out, report)))
 }
 
 /// `canon`: the canonical form of each block. All memory is taken before the input is read.
@@ -298,6 +299,31 @@ fn migrate<S: Source, K: Sink, R: Sink>(
     }
 }
 
+/// `salvage`: each sound block as it came, and a line on the report for each damaged one. All memory is taken before the input
+/// is read.
+#[tactic(auto, using(crate::proofs::Memory::firsts, crate::proofs::Falling::falls))]
+fn salvage_blocks<S: Source, K: Sink, R: Sink>(
+    alloc: Global,
+    catalogue: &Catalogue,
+    source: &mut S,
+    out: &mut K,
+    report: &mut R,
+) -> Result<Outcome, JobStop>
+    ensures runs { (files : List (List ℕ)) → IfOk result (RunsJob (Salvage files) (catalogue_tree catalogue.now) (source_change S.Source source.old source.new) (sink_change K.Sink out.old out.new) (sink_change R.Sink report.old report.new)) }
+    ensures memory { IfErr result (λ stop. stop ≡ OutOfMemory) }
+    ensures first { IfOk result (WasIdle (source_change S.Source source.old source.new) (sink_change K.Sink out.old out.new)) }
+    ensures idle { OnErr result (IsIdle (source_change S.Source source.old source.new) (sink_change K.Sink out.old out.new) (sink_change R.Sink report.old report.new)) }
+    ensures later { NoFaultFell (source_change S.Source source.old source.new) (sink_change K.Sink out.old out.new) (sink_change R.Sink report.old report.new) }
+{
+    let Ok(codecs) = Codecs::compile(alloc, catalogue) else {
+        return Err(JobStop::OutOfMemory);
+    };
+    let Ok(mut work) = Salvage::new(alloc, catalogue, &codecs, LONGEST_INPUT) else {
+        return Err(JobStop::OutOfMemory);
+    };
+    Ok(outcome_of_salvage(salvage(&mut work, source, out, report)))
+}
+
 /// Does what a command over a catalogue says.
 #[tactic(auto, using(crate::proofs::Falling::falls))]
 fn over_catalogue<S: Source, K: Sink, R: Sink>(
@@ -324,6 +350,7 @@ fn over_catalogue<S: Source, K: Sink, R: Sink>(
         Line::Build { .. } => Ok(Outcome::from(build_lines(alloc, catalogue, source, out))),
         Line::Filter { expr, .. } => filter(alloc, expr.text(), catalogue, source, out, report),
         Line::Trial { seed, count, .. } => trial(alloc, catalogue, *seed, *count, out),
+        Line::Salvage { .. } => salvage_blocks(alloc, catalogue, source, out, report),
         Line::Help => Ok(write_out(out, HELP, 0)),
         Line::Version => Ok(write_out(out, VERSION, 0)),
         Line::Migrate { .. } => unreachable!(),

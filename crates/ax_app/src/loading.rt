@@ -35,6 +35,7 @@ fn names_of(line: &Line) -> &[WordText]
         Line::Build { files } => files.as_slice(),
         Line::Filter { files, .. } => files.as_slice(),
         Line::Trial { file, .. } => slice::from_ref(file),
+        Line::Salvage { files } => files.as_slice(),
         Line::Help => &[],
         Line::Version => &[],
         Line::Migrate { .. } => unreachable!(),

@@ -40,19 +40,3 @@ pub(crate) fn end_of(end: StreamEnd) -> DriveEnd
         StreamEnd::OutOfMemory => unreachable!(),
     }
 }
-
-impl From<DriveEnd> for StreamEnd {
-    ghost from_gives = { λ end stream. stream ≡ as_stream end };
-
-    fn from(end: DriveEnd) -> Self {
-        match end {
-            DriveEnd::Done { blocks } => StreamEnd::Done { blocks },
-            DriveEnd::InputRefused { fault } => StreamEnd::Refused { fault },
-            DriveEnd::MigratedTooLong { block, octets } => StreamEnd::TooLong { block, octets },
-            DriveEnd::InputTooLong => StreamEnd::InputTooLong,
-            DriveEnd::ReadFault => StreamEnd::ReadFault,
-            DriveEnd::WriteFault => StreamEnd::WriteFault,
-            DriveEnd::ReportFault => StreamEnd::ReportFault,
-        }
-    }
-}

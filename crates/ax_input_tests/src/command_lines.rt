@@ -59,6 +59,7 @@ fn shown(rt: &impl Abort, alloc: Global, line: &Line) -> String {
         Line::Filter { expr, files } => with_files(rt, alloc, expr.text(), files),
         Line::Migrate { old, new } => with_editions(rt, alloc, old, new),
         Line::Trial { file, seed, count } => with_numbers(rt, alloc, file, *seed, *count),
+        Line::Salvage { files } => with_files(rt, alloc, "salvage", files),
         Line::Help => String::from_str(alloc, "help").expect(rt, "memory"),
         Line::Version => String::from_str(alloc, "version").expect(rt, "memory"),
     }
@@ -80,7 +81,7 @@ fn ask_for(rt: &impl Abort, alloc: Global, text: &str, want: &str) {
     same_text(rt, found.as_str(), want, text);
 }
 
-const LINES: [(&str, &str); 15] = [
+const LINES: [(&str, &str); 16] = [
     ("check A", "check [A]"),
     ("check ", "check []"),
     ("canon A", "canon [A]"),
@@ -97,6 +98,7 @@ const LINES: [(&str, &str); 15] = [
         "trial Z 18446744073709551615 1000000",
         "trial [Z] 18446744073709551615 1000000",
     ),
+    ("salvage A B", "salvage [A] [B]"),
     ("--help", "help"),
     ("--version", "version"),
 ];
@@ -108,7 +110,7 @@ fn lines_of_words(rt: HostRuntime) {
     }
 }
 
-const REFUSED: [&str; 26] = [
+const REFUSED: [&str; 27] = [
     "",
     " ",
     "help",
@@ -131,6 +133,7 @@ const REFUSED: [&str; 26] = [
     "trial Z  1",
     "trial Z 18446744073709551616 1",
     "trial Z 1 1000001",
+    "salvage",
     "--help A",
     "--version A",
     "-h",

@@ -34,7 +34,7 @@ same_blocks catalogue (one ∷ blocks) (other ∷ others) e h g =
     let more : blocks ≡ others = same_blocks catalogue blocks others raws h.1 g.1 in
     λ i. record { raw = raw i; verdict = v i } ∷ more i
 
-salvaged_once : (catalogue : List SpecTree) (octets : List ℕ) (limit : ℕ) (end other : SalvageEnd) (out others report lines : List ℕ) → Salvaged catalogue octets limit end out report → Salvaged catalogue octets limit other others lines
+pub salvaged_once : (catalogue : List SpecTree) (octets : List ℕ) (limit : ℕ) (end other : SalvageEnd) (out others report lines : List ℕ) → Salvaged catalogue octets limit end out report → Salvaged catalogue octets limit other others lines
     → (end ≡ other) × (out ≡ others) × (report ≡ lines)
 salvaged_once catalogue octets limit end other out others report lines h g =
     let t = framed_once octets limit (map (λ one. one.raw) h.blocks) (map (λ one. one.raw) g.blocks) h.framing g.framing h.framed g.framed in

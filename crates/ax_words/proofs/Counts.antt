@@ -9,7 +9,7 @@ use Rattle.ax_words.specs.Found.{found}
 use Rattle.ax_words.specs.Verbs.{TakesWords}
 use Rattle.ax_words.specs.Words.{IsPlain}
 use Rattle.ax_words.specs.declared.verb.Verb.{Verb}
-use Rattle.ax_words.specs.declared.verb.Verb.TheVariants.{Check, Canon, Show, Text as Texts, Build, Filter, Migrate, Trial}
+use Rattle.ax_words.specs.declared.verb.Verb.TheVariants.{Check, Canon, Show, Text as Texts, Build, Filter, Migrate, Trial, Salvage}
 use Rattle.ax_words.proofs.Leaves.{fault, rows, one_none, one_one, one_rows, one_two, many, many_none, many_some, many_rows, filter_none, filter_one, filter_some, filter_rows, two_none, two_one, two_two, two_rows, two_three, three_none, three_one, three_two, three_three, three_rows, three_four}
 
 -- the words are taken, and these rows found, or they are refused
@@ -53,3 +53,4 @@ leaf Build ws all few = many_leaf (codes "build") ws all few
 leaf Filter ws all few = filter_leaf ws all few
 leaf Migrate ws all few = two_leaf ws all
 leaf Trial ws all few = three_leaf ws all
+leaf Salvage ws all few = many_leaf (codes "salvage") ws all few

@@ -11,7 +11,7 @@ use Rattle.ax_words.specs.declared.error.WordsError.TheVariants as ErrorOf
 use Rattle.ax_words.specs.declared.line.Line.{Line}
 use Rattle.ax_words.specs.declared.line.Line.TheVariants as LineOf
 use Rattle.ax_words.specs.declared.verb.Verb.{Verb}
-use Rattle.ax_words.specs.declared.verb.Verb.TheVariants.{Check, Canon, Show, Text as Texts, Build, Filter, Migrate, Trial}
+use Rattle.ax_words.specs.declared.verb.Verb.TheVariants.{Check, Canon, Show, Text as Texts, Build, Filter, Migrate, Trial, Salvage}
 use Rattle.ax_words.proofs.Shapes.{verb_of, verb_is}
 
 abbrev some : {A : Type 0} → A → Option A
@@ -83,6 +83,14 @@ build_lacks rows error e ws t h = absurd (all_there rows ws e h)
 
 pub ruleset build_lines = (no_memory, build_there, build_lacks)
 
+pub salvage_there : (rows : List Row) (files : List Text) → all_of (codes "SPEC") rows ≡ Some files → AnswersRows Salvage rows (Ok (LineOf.Salvage files))
+salvage_there rows files e ws t h = let equal = all_same rows ws files e h in shaped Salvage ws (LineOf.Salvage files) t (ap (λ x. codes "salvage" ∷ x) equal) (some_file ws files equal t.counted)
+
+pub salvage_lacks : (rows : List Row) (e : WordsError) → all_of (codes "SPEC") rows ≡ None → AnswersRows Salvage rows (Err e)
+salvage_lacks rows error e ws t h = absurd (all_there rows ws e h)
+
+pub ruleset salvage_lines = (no_memory, salvage_there, salvage_lacks)
+
 -- ---- an expression, and one or more files
 
 abbrev tail : List Text → List Text
@@ -122,6 +130,7 @@ short_expr f ws (LineOf.Text files) v e b = absurd cc
 short_expr f ws (LineOf.Build files) v e b = absurd cc
 short_expr f ws (LineOf.Migrate old new) v e b = absurd cc
 short_expr f ws (LineOf.Trial file seed count) v e b = absurd cc
+short_expr f ws (LineOf.Salvage files) v e b = absurd cc
 short_expr f ws LineOf.Help v e b = absurd cc
 short_expr f ws LineOf.Version v e b = absurd cc
 
@@ -219,6 +228,7 @@ numbers_of f g k (LineOf.Text files) v e b = absurd cc
 numbers_of f g k (LineOf.Build files) v e b = absurd cc
 numbers_of f g k (LineOf.Filter expr files) v e b = absurd cc
 numbers_of f g k (LineOf.Migrate old new) v e b = absurd cc
+numbers_of f g k (LineOf.Salvage files) v e b = absurd cc
 numbers_of f g k LineOf.Help v e b = absurd cc
 numbers_of f g k LineOf.Version v e b = absurd cc
 

@@ -37,6 +37,7 @@ same_line (LineOf.Trial f n m) (LineOf.Trial g k l) v e p q =
     let count : m ≡ l = decimal_injective m l (omega (arith, p.1)) (omega (arith, q.1)) (fourth _ _ e) in
     let file : f ≡ g = second _ _ e in
     ap₂ (λ x y. LineOf.Trial x y m) file seed ∙ ap (LineOf.Trial g k) count
+same_line (LineOf.Salvage f) (LineOf.Salvage g) v e p q = ap LineOf.Salvage (ap tail e)
 same_line LineOf.Help LineOf.Help v e p q = refl
 same_line LineOf.Version LineOf.Version v e p q = refl
 same_line LineOf.Help LineOf.Version v e p q = absurd (never (ap (λ x. bytes_eq (first (words_of LineOf.Help)) (first x)) e))

@@ -2,10 +2,10 @@
 use Rattle.std.specs.Prelude.{◌≡◌, ℕ, ◌<◌, List, [], ◌∷◌, codes, find, Option}
 use Rattle.std.specs.Str.{bytes_eq}
 use Rattle.ax_words.specs.declared.verb.Verb.{Verb}
-use Rattle.ax_words.specs.declared.verb.Verb.TheVariants.{Check, Canon, Show, Text, Build, Filter, Migrate, Trial}
+use Rattle.ax_words.specs.declared.verb.Verb.TheVariants.{Check, Canon, Show, Text, Build, Filter, Migrate, Trial, Salvage}
 
 abbrev pub verbs : List Verb
-verbs = Check ∷ Canon ∷ Show ∷ Text ∷ Build ∷ Filter ∷ Migrate ∷ Trial ∷ []
+verbs = Check ∷ Canon ∷ Show ∷ Text ∷ Build ∷ Filter ∷ Migrate ∷ Trial ∷ Salvage ∷ []
 
 abbrev pub name_of : Verb → List ℕ
 name_of Check = codes "check"
@@ -16,6 +16,7 @@ name_of Build = codes "build"
 name_of Filter = codes "filter"
 name_of Migrate = codes "migrate"
 name_of Trial = codes "trial"
+name_of Salvage = codes "salvage"
 
 -- the first verb that the word names
 unfoldable pub verb_named : List ℕ → Option Verb
@@ -31,3 +32,4 @@ TakesWords Build count = 0 < count
 TakesWords Filter count = 1 < count
 TakesWords Migrate count = count ≡ 2
 TakesWords Trial count = count ≡ 3
+TakesWords Salvage count = 0 < count

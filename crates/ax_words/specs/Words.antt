@@ -16,6 +16,7 @@ words_of (LineOf.Build files) = codes "build" ∷ files
 words_of (LineOf.Filter expr files) = codes "filter" ∷ expr ∷ files
 words_of (LineOf.Migrate old new) = codes "migrate" ∷ old ∷ new ∷ []
 words_of (LineOf.Trial file seed count) = codes "trial" ∷ file ∷ decimal seed ∷ decimal count ∷ []
+words_of (LineOf.Salvage files) = codes "salvage" ∷ files
 words_of LineOf.Help = codes "--help" ∷ []
 words_of LineOf.Version = codes "--version" ∷ []
 
@@ -29,6 +30,7 @@ IsInBounds (LineOf.Build files) = 0 < length files
 IsInBounds (LineOf.Filter expr files) = (length expr ≤ 2 ^ 31) × (0 < length files)
 IsInBounds (LineOf.Migrate old new) = Unit {0}
 IsInBounds (LineOf.Trial file seed count) = (seed < 2 ^ 64) × (count ≤ 1000000)
+IsInBounds (LineOf.Salvage files) = 0 < length files
 IsInBounds LineOf.Help = Unit {0}
 IsInBounds LineOf.Version = Unit {0}
 

@@ -91,7 +91,9 @@ fn leaf<'a>(alloc: Global, verb: Verb) -> Result<Command<'a>, AllocError>
     let name: &'a str = verb.name();
     match verb {
         Verb::Check => with_word(alloc, name, "SPEC"),
-        Verb::Canon | Verb::Show | Verb::Text | Verb::Build => with_words(alloc, name, "SPEC"),
+        Verb::Canon | Verb::Show | Verb::Text | Verb::Build | Verb::Salvage => {
+            with_words(alloc, name, "SPEC")
+        }
         Verb::Filter => with_word_and_words(alloc, name, "EXPR", "SPEC"),
         Verb::Migrate => with_two_words(alloc, name, "OLD", "NEW"),
         Verb::Trial => with_three_words(alloc, name, "SPEC", "SEED", "COUNT"),

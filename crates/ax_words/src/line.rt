@@ -79,6 +79,10 @@ pub enum Line {
         seed: u64,
         count: u32,
     },
+    /// `salvage` and one or more SPEC.
+    Salvage {
+        files: WordTexts,
+    },
     /// `--help` alone.
     Help,
     /// `--version` alone.

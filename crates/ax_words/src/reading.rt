@@ -178,6 +178,16 @@ fn trial_line(alloc: Global, matches: &ArgMatches<'_>) -> Result<Line, WordsErro
     Ok(Line::Trial { file, seed, count })
 }
 
+/// The line of `salvage`.
+#[tactic(auto, using(crate::proofs::Lines::salvage_lines))]
+fn salvage_line(alloc: Global, matches: &ArgMatches<'_>) -> Result<Line, WordsError>
+    requires { HasFewFiles (rows_of (found_of matches.now)) }
+    ensures { AnswersRows Verb.Salvage (rows_of (found_of matches.now)) result }
+{
+    let files = files_of(alloc, matches)?;
+    Ok(Line::Salvage { files })
+}
+
 /// The line of a verb and its matches.
 fn line_of(alloc: Global, verb: Verb, matches: &ArgMatches<'_>) -> Result<Line, WordsError>
     requires { HasFewFiles (rows_of (found_of matches.now)) }
@@ -192,6 +202,7 @@ fn line_of(alloc: Global, verb: Verb, matches: &ArgMatches<'_>) -> Result<Line, 
         Verb::Filter => filter_line(alloc, matches),
         Verb::Migrate => migrate_line(alloc, matches),
         Verb::Trial => trial_line(alloc, matches),
+        Verb::Salvage => salvage_line(alloc, matches),
     }
 }
 

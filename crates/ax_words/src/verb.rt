@@ -15,10 +15,11 @@ pub(crate) enum Verb {
     Filter,
     Migrate,
     Trial,
+    Salvage,
 }
 
 /// Every verb, once.
-pub(crate) const VERBS: [Verb; 8] = [
+pub(crate) const VERBS: [Verb; 9] = [
     Verb::Check,
     Verb::Canon,
     Verb::Show,
@@ -27,6 +28,7 @@ pub(crate) const VERBS: [Verb; 8] = [
     Verb::Filter,
     Verb::Migrate,
     Verb::Trial,
+    Verb::Salvage,
 ];
 
 impl Verb {
@@ -43,6 +45,7 @@ impl Verb {
             Verb::Filter => "filter",
             Verb::Migrate => "migrate",
             Verb::Trial => "trial",
+            Verb::Salvage => "salvage",
         }
     }
 

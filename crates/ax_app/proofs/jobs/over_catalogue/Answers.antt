@@ -27,6 +27,9 @@ returns-in-Filter-clause-stopped g c =
 pub returns-in-Trial-clause-runs : goal.returns-in-Trial-clause-runs
 returns-in-Trial-clause-runs g c = rw c.in-Trial.is (trial_job _ _ _ _ _ _ _ _ _ _ _ (subst (λ l. IsReady l (catalogue_tree c.args.catalogue.now)) c.in-Trial.is c.requires.ready) c.trial.ensures.ends)
 
+pub returns-in-Salvage-clause-runs : goal.returns-in-Salvage-clause-runs
+returns-in-Salvage-clause-runs g c = rw c.in-Salvage.is (c.salvage_blocks.ensures.runs _)
+
 pub returns-in-Help-clause-runs : goal.returns-in-Help-clause-runs
 returns-in-Help-clause-runs g c = rw c.in-Help.is (text_job Help _ _ _ _ _ _ _ 0 help_text _ refl c.write_out.ensures.ends)
 

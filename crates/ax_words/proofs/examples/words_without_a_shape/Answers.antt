@@ -9,7 +9,7 @@ never e = cc
 pub returns : goal.returns
 returns c = record {
   none = no_words;
-  verb = no_verb (codes "help") [] refl (refl, (refl, (refl, (refl, (refl, (refl, (refl, (refl, tt))))))));
+  verb = no_verb (codes "help") [] refl (refl, (refl, (refl, (refl, (refl, (refl, (refl, (refl, (refl, tt)))))))));
   few = other_count Canon [] (λ e. omega (arith, e));
   many = other_count Check (codes "A" ∷ codes "E" ∷ []) (λ e. omega (arith, e));
   dash = dashed (codes "canon" ∷ codes "A" ∷ codes "--help" ∷ []) (λ e. omega (arith, ap length e)) (λ e. omega (arith, ap length e)) (λ all. never all.1.1.0);

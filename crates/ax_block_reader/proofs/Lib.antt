@@ -19,4 +19,3 @@ pub mod Digits
 pub mod BlockWays
 pub mod Whole
 pub mod Once
-pub mod CatalogueLists

@@ -6,12 +6,12 @@ ghost use Rattle.ax_block_reader.specs.BlockForms.{HasKnown, HasLacked, ReadShap
 ghost use Rattle.ax_block_reader.specs.BlockTexts.{IsBlockOf, block_texts, IsBlockText};
 ghost use Rattle.ax_block_reader.specs.Continuing.{Gives};
 
-use crate::catalogue_items::CatalogueItems;
 use crate::categories::{known_category, lacked_category, next_category};
 use crate::octets::opaque_content;
 use crate::records::braced_records;
 use ax_model::Block;
 use ax_token_reader::{Reader, Stopped};
+use ax_uap::CatalogueItems;
 use std::alloc::Global;
 
 /// The form of a block's text, by its first word.

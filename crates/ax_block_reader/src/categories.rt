@@ -7,9 +7,9 @@ ghost use Rattle.ax_token_reader.specs.Stopping.{IsNotFirst};
 ghost use Rattle.ax_token_reader.specs.declared.stopped.Stopped.TheVariants.{Bad};
 ghost use Rattle.ax_block_reader.specs.BlockForms.{IsCategoryText};
 
-use crate::catalogue_items::CatalogueItems;
 use ax_model::{Spec, category_of_digits};
 use ax_token_reader::{Reader, Stopped};
+use ax_uap::CatalogueItems;
 
 /// The category that the text is, in three digits. None comes exactly where it is none.
 #[tactic(auto, using(crate::proofs::Digits::categories))]

@@ -17,7 +17,8 @@ mod octets;
 mod reading;
 mod records;
 
-pub use catalogue_items::CatalogueItems;
+pub use ax_uap::CatalogueItems;
+pub use catalogue_items::items_of;
 pub use categories::category_of;
 pub use error::TextError;
 pub use numbers::short_number;

@@ -5,12 +5,13 @@ ghost use Rattle.ax_model.specs.Plain.{catalogue_tree, block_tree};
 ghost use Rattle.ax_block_reader.specs.BlockTexts.{IsBlockOf, canonical_length, Spells, IsTextOf, IsFault, IsBad};
 
 use crate::blocks::block;
-use crate::catalogue_items::CatalogueItems;
+use crate::catalogue_items::items_of;
 use crate::error::TextError;
 use ax_check::Catalogue;
 use ax_model::Block;
 use ax_token_reader::{Reader, Stopped};
 use ax_tokens::Tokens;
+use ax_uap::CatalogueItems;
 use ax_values::length_over;
 use std::alloc::Global;
 
@@ -107,7 +108,7 @@ pub fn read_block_text(
     ensures text { IfOk result (λ found. IsTextOf (catalogue_tree catalogue.now) tokens.now (block_tree found)) }
     ensures fault { IfErr result (IsFault (catalogue_tree catalogue.now) tokens.now) }
 {
-    let items = CatalogueItems::of(alloc, catalogue)?;
+    let items = items_of(alloc, catalogue)?;
     match read_block_over(alloc, &items, tokens) {
         Ok(found) => Ok(found.block),
         Err(error) => Err(error),

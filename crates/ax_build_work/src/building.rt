@@ -13,9 +13,10 @@ ghost use Rattle.ax_model.specs.Specification.{spec_of};
 use crate::fault::BuildStop;
 use crate::opaque::opaque_block;
 use crate::printed::printed_octets;
-use ax_block_reader::{CatalogueItems, read_block_over};
+use ax_block_reader::read_block_over;
 use ax_model::Block;
 use ax_tokens::{Tokens, tokens};
+use ax_uap::CatalogueItems;
 use ax_values::encode_of_length;
 use std::alloc::{AllocError, Global};
 

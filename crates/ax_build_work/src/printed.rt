@@ -6,8 +6,8 @@ ghost use Rattle.ax_model.specs.Plain.{catalogue_tree};
 
 use crate::opaque::opaque_block;
 use ax_bits::Out;
-use ax_block_reader::CatalogueItems;
 use ax_printed_lines::{printed_body, whole_octets};
+use ax_uap::CatalogueItems;
 use std::alloc::{AllocError, Global};
 
 /// The canonical octets of the block whose text the line is, where it is that of a block with a specification, spaced as `text`

@@ -10,10 +10,11 @@ ghost use Rattle.ax_outside.specs.Changes.{sink_change, source_change};
 use crate::building::line_octets;
 use crate::fault::{BuildStop, TextFault};
 use crate::opaque::zeros;
-use ax_block_reader::CatalogueItems;
+use ax_block_reader::items_of;
 use ax_check::Catalogue;
 use ax_line_stream::{LineStop, LineWork, LinesEnd, run_lines};
 use ax_outside::{Sink, Source};
+use ax_uap::CatalogueItems;
 use std::alloc::Global;
 
 /// The most octets of a block's body.
@@ -66,7 +67,7 @@ pub fn build_lines<S: Source, K: Sink>(
     ensures completes { Completes (build_command (catalogue_tree catalogue.now)) longest_line longest_input (source_change S.Source source.old source.new) (sink_change K.Sink out.old out.new) result }
     ensures runs { LinesRun (build_command (catalogue_tree catalogue.now)) longest_line longest_input (source_change S.Source source.old source.new) (sink_change K.Sink out.old out.new) result }
 {
-    let Ok(items) = CatalogueItems::of(alloc, catalogue) else {
+    let Ok(items) = items_of(alloc, catalogue) else {
         return LinesEnd::OutOfMemory;
     };
     let Ok(room) = zeros(alloc, LONGEST_BODY) else {

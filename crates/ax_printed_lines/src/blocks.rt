@@ -6,7 +6,7 @@ ghost use Rattle.ax_printed_lines.specs.Printed.{IsPrinted};
 use crate::cursor::Cursor;
 use crate::records::records_built;
 use ax_bits::Out;
-use ax_block_reader::CatalogueItems;
+use ax_uap::CatalogueItems;
 
 /// Where the line is the text of a block of a category that the catalogue has, in the form in which `text` prints it, the body of
 /// its canonical form is appended, and this is its category. None says nothing of the line: it comes for any other text,

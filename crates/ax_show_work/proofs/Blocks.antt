@@ -1,13 +1,13 @@
 -- What `show` over views makes of one block.
-use Rattle.std.proofs.Common.{◌≡◌, ℕ, ◌+◌, ◌*◌, ◌<◌, ◌≤◌, List, [], ◌∷◌, ◌++◌, Option, Some, None, Ok, length, map, codes, decimal, refl, sym, ◌∙◌, ap, subst, arith, append-nil}
-use Rattle.std.specs.Option.{option_map}
+use Rattle.std.proofs.Common.{◌≡◌, ℕ, ◌+◌, ◌*◌, ◌<◌, ◌≤◌, List, [], ◌∷◌, ◌++◌, Option, Some, None, Ok, Bor, length, map, codes, decimal, refl, sym, ◌∙◌, ap, subst, arith, append-nil}
+use Rattle.std.specs.Option.{option_map, option_copied}
 use Rattle.ax_bits.specs.Bits.{bits}
 use Rattle.ax_model.specs.Blocks.{read_block}
 use Rattle.ax_model.specs.CanonicalOctets.{canon_block, canon_length}
 use Rattle.ax_model.specs.Flaws.{NoFlaw}
 use Rattle.ax_model.specs.Framing.{RawTree}
 use Rattle.ax_model.specs.Lengths.{capped}
-use Rattle.ax_model.specs.Plain.{spec_tree}
+use Rattle.ax_model.specs.Plain.{spec_tree, catalogue_tree}
 use Rattle.ax_model.specs.Specification.{SpecTree, spec_of, record_slots}
 use Rattle.ax_model.specs.declared.fault.BodyFault.{BodyFault}
 use Rattle.ax_model.specs.declared.spec.Spec.{Spec}
@@ -27,9 +27,7 @@ use Rattle.ax_text.specs.ValueText.{one_onto}
 use Rattle.ax_view.specs.Views.{CountsRecords, FailsThere}
 use Rattle.ax_view_work.proofs.CodecsOf.{stands_there, none_there}
 use Rattle.ax_view_work.specs.Laid.{LaysBits}
-use Rattle.ax_reader.specs.Reading.{IsMaskOf, record_slot_list}
 use Rattle.ax_text_view_work.proofs.TablesOf as TablesOf
-use Rattle.ax_text_view_work.specs.Standing.{AreTables, table_for}
 use Rattle.ax_text_view_work.specs.declared.tables.Table.{Table}
 
 pub listable : (spec : SpecTree) → NoFlaw spec → SlotsListable (record_slots spec)
@@ -69,29 +67,19 @@ pub ruleset reads = read_listed
 some_same : {A : Type 0} {s t : A} → Some s ≡ Some t → s ≡ t
 some_same e = cc
 
--- the table and the codec of a category are of one specification
-pub known : (tables : List Table) (catalogue : List SpecTree) (category : ℕ) (table : Table) → AreTables tables catalogue → table_for category tables ≡ Some table → spec_of category catalogue ≡ Some (spec_tree table.items.spec.now)
-known tables catalogue category table h found = let s = TablesOf.stands_there tables catalogue category table h found in s.known ∙ ap (λ spec. Some spec) (sym s.is.items)
-
-pub clean : (tables : List Table) (catalogue : List SpecTree) (category : ℕ) (table : Table) → AreTables tables catalogue → table_for category tables ≡ Some table → NoFlaw (spec_tree table.items.spec.now)
-clean tables catalogue category table h found = let s = TablesOf.stands_there tables catalogue category table h found in subst NoFlaw (sym s.is.items) s.is.clean
-
-pub masked : (tables : List Table) (catalogue : List SpecTree) (category : ℕ) (table : Table) → AreTables tables catalogue → table_for category tables ≡ Some table → IsMaskOf (record_slot_list (spec_tree table.items.spec.now)) table.mask
-masked tables catalogue category table h found = let s = TablesOf.stands_there tables catalogue category table h found in subst (λ spec. IsMaskOf (record_slot_list spec) table.mask) (sym s.is.items) s.is.mask
-
-pub stands : (codecs : List Codec) (tables : List Table) (catalogue : List SpecTree) (category : ℕ) (codec : Codec) (table : Table) → StandForEach codecs catalogue → codec_of category codecs ≡ Some codec → AreTables tables catalogue → table_for category tables ≡ Some table
-    → StandsFor codec (spec_tree table.items.spec.now)
-stands codecs tables catalogue category codec table h found t there =
-    let s = stands_there codecs catalogue category codec h found in subst (StandsFor codec) (some_same (sym s.known ∙ known tables catalogue category table t there)) s.compiled.stands
-
-pub same_category : (tables : List Table) (catalogue : List SpecTree) (category : ℕ) (table : Table) → AreTables tables catalogue → table_for category tables ≡ Some table → category ≡ table.items.spec.now.category
-same_category tables catalogue category table h found = asked_category category catalogue table.items.spec.now (known tables catalogue category table h found)
-
 none_some : {s : SpecTree} → None ≡ Some s → ⊥
 none_some e = cc
 
-pub never : (codecs : List Codec) (tables : List Table) (catalogue : List SpecTree) (category : ℕ) (codec : Codec) → StandForEach codecs catalogue → codec_of category codecs ≡ Some codec → AreTables tables catalogue → table_for category tables ≡ None → ⊥
-never codecs tables catalogue category codec h found t none = let s = stands_there codecs catalogue category codec h found in none_some (sym (TablesOf.none_there tables catalogue category t none) ∙ s.known)
+-- the codec and the table of a category are of one specification
+module _ (codecs : List Codec) (tables catalogue : List Spec) (category : ℕ) (same : tables ≡ catalogue) (found : Option (Bor Table)) (looked : option_map (λ table. spec_tree table.items.spec.now) (option_copied found) ≡ spec_of category (catalogue_tree tables)) where
+  pub stands : (codec : Codec) (table : Bor Table) → StandForEach codecs (catalogue_tree catalogue) → codec_of category codecs ≡ Some codec → found ≡ Some table → StandsFor codec (spec_tree table.now.items.spec.now)
+  stands codec table h f is = let s = stands_there codecs (catalogue_tree catalogue) category codec h f in subst (StandsFor codec) (some_same (sym s.known ∙ TablesOf.known tables catalogue category same found table looked is)) s.compiled.stands
+
+  pub same_category : (table : Bor Table) → found ≡ Some table → category ≡ table.now.items.spec.now.category
+  same_category table is = asked_category category (catalogue_tree catalogue) table.now.items.spec.now (TablesOf.known tables catalogue category same found table looked is)
+
+  pub never : (codec : Codec) → StandForEach codecs (catalogue_tree catalogue) → codec_of category codecs ≡ Some codec → found ≡ None → ⊥
+  never codec h f is = let s = stands_there codecs (catalogue_tree catalogue) category codec h f in none_some (sym (TablesOf.unknown tables catalogue category same found looked is) ∙ s.known)
 
 abbrev pub IsListed : List SpecTree → ℕ → RawTree → List ℕ → Type 0
 IsListed catalogue number raw listing = IsMadeOf (λ number spec block. ShowText spec block number) (λ number category content. OpaqueShown number category content) catalogue number raw listing
@@ -105,7 +93,7 @@ opaque_listed codecs catalogue number raw old listing h none few some e is =
 pub read_block_listed : (catalogue : List SpecTree) (number : ℕ) (raw : RawTree) (spec : SpecTree) (listing : List ℕ) → length raw.body ≤ 65532 → spec_of raw.category catalogue ≡ Some spec → IsMadeRead (λ spec block. ShowText spec block number) spec raw listing → IsListed catalogue number raw listing
 read_block_listed catalogue number raw spec listing few known h = read_made (λ number spec block. ShowText spec block number) (λ number category content. OpaqueShown number category content) catalogue number raw spec listing few known h
 
-pub ruleset blocks = (read_block_listed, opaque_listed, read_stop, short_stop, known, clean, masked, stands, same_category, never)
+pub ruleset blocks = (read_block_listed, opaque_listed, read_stop, short_stop, TablesOf.masked, TablesOf.known, stands, same_category, never)
 
 pub listed_taken : (catalogue : List SpecTree) (number : ℕ) (raw : RawTree) (held : Option (List ℕ)) (faults : ℕ) (u : Unit) (listing : List ℕ) → IsListed catalogue number raw listing
     → Takes (tree_command (λ number spec block. ShowText spec block number) (λ number category content. OpaqueShown number category content) catalogue) number raw (record { held = held; held' = held; faults = faults; faults' = faults }) listing (Ok u)

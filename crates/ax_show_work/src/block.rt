@@ -8,7 +8,6 @@ ghost use Rattle.ax_reader.specs.Reading.{IsMaskOf, record_slot_list};
 ghost use Rattle.ax_stream.specs.Made.{IsMadeOf, IsMadeRead, NothingMade, NothingMadeRead, IsWithinBody};
 ghost use Rattle.ax_tables.specs.Standing.{StandsFor, StandForEach};
 ghost use Rattle.ax_text.specs.ShowText.{ShowText, OpaqueShown};
-ghost use Rattle.ax_text_view_work.specs.Standing.{AreTables};
 ghost use Rattle.ax_values.specs.Decoding.{IsBodyFault, IsFaultOf};
 ghost use Rattle.ax_show_work.specs.Listing.{ListsBody};
 
@@ -18,7 +17,7 @@ use ax_show_views::show_records;
 use ax_stream::BlockStop;
 use ax_tables::{Codec, Codecs};
 use ax_text::Lister;
-use ax_text_view_work::{Table, Tables, table_for};
+use ax_text_view_work::{Table, Tables};
 use ax_values::DecodeError;
 use ax_view::scan;
 use ax_view_work::lay_view;
@@ -92,7 +91,7 @@ pub(crate) fn list_block(
     raw: &RawBlock<'_>,
 ) -> Result<(), BlockStop>
     requires sound { StandForEach codecs.now.codecs (catalogue_tree catalogue.now) }
-    requires tables { AreTables tables.now (catalogue_tree catalogue.now) }
+    requires tables { tables.now ≡ catalogue.now }
     requires room { length output.old ≡ longest_block }
     ensures octets { OnOk result (IsMadeOf (λ number spec block. ShowText spec block number) (λ number category content. OpaqueShown number category content) (catalogue_tree catalogue.now) number (raw_tree raw.now) lister.new.out) }
     ensures stop { IfErr result (λ stop. NothingMade (catalogue_tree catalogue.now) (raw_tree raw.now) stop) }
@@ -100,7 +99,7 @@ pub(crate) fn list_block(
     ensures room { length output.new ≡ longest_block }
 {
     match codecs.get(raw.category) {
-        Some(codec) => match table_for(tables, raw.category) {
+        Some(codec) => match tables.get(raw.category) {
             Some(table) => match list_read(lister, output, codec, table, number, raw) {
                 Ok(()) => Ok(()),
                 Err(stop) => Err(stop),

@@ -5,7 +5,6 @@ ghost use Rattle.ax_model.specs.Sizes.{longest_block};
 ghost use Rattle.ax_stream.specs.Made.{tree_command};
 ghost use Rattle.ax_tables.specs.Standing.{StandForEach};
 ghost use Rattle.ax_text.specs.ShowText.{ShowText, OpaqueShown};
-ghost use Rattle.ax_text_view_work.specs.Standing.{AreTables};
 
 use crate::block::list_block;
 use ax_check::Catalogue;
@@ -55,11 +54,11 @@ impl<'c> ShowViews<'c> {
 }
 
 impl<'c> BlockWork for ShowViews<'c> {
-    ghost use Rattle.std.specs.Prelude.{true};
+    ghost use Rattle.std.specs.Prelude.{◌≡◌, true};
 
     ghost command = { λ s. tree_command (λ number spec block. ShowText spec block number) (λ number category content. OpaqueShown number category content) (catalogue_tree s.catalogue.now) };
 
-    ghost sound = { λ s. StandForEach s.codecs.now.codecs (catalogue_tree s.catalogue.now) × AreTables s.tables (catalogue_tree s.catalogue.now) };
+    ghost sound = { λ s. StandForEach s.codecs.now.codecs (catalogue_tree s.catalogue.now) × (s.tables ≡ s.catalogue.now) };
 
     ghost laid = { λ s. s.lister.out };
 

@@ -4,5 +4,5 @@
 mod tables;
 mod work;
 
-pub use tables::{Table, Tables, table_for, tables_of};
+pub use tables::{Table, Tables, tables_of};
 pub use work::TextViews;

@@ -1,10 +1,9 @@
 //! `text` as a block command.
 ghost use Rattle.std.specs.Prelude.{◌≡◌, IfOk};
 ghost use Rattle.ax_model.specs.Plain.{catalogue_tree};
-ghost use Rattle.ax_text_view_work.specs.Standing.{AreTables};
 ghost use Rattle.ax_text_view_work.specs.TextCommand.{text_command};
 
-use crate::tables::{Tables, table_for, tables_of};
+use crate::tables::{Tables, tables_of};
 use ax_check::Catalogue;
 use ax_model::RawBlock;
 use ax_outside::Sink;
@@ -39,11 +38,11 @@ impl<'c> TextViews<'c> {
 }
 
 impl<'c> BlockWork for TextViews<'c> {
-    ghost use Rattle.std.specs.Prelude.{true};
+    ghost use Rattle.std.specs.Prelude.{◌≡◌, true};
 
     ghost command = { λ s. text_command (catalogue_tree s.catalogue.now) };
 
-    ghost sound = { λ s. AreTables s.tables (catalogue_tree s.catalogue.now) };
+    ghost sound = { λ s. s.tables ≡ s.catalogue.now };
 
     ghost laid = { λ s. s.line };
 
@@ -58,7 +57,7 @@ impl<'c> BlockWork for TextViews<'c> {
         raw: &RawBlock<'_>,
         _report: &mut R,
     ) -> Result<(), WorkStop> {
-        match table_for(&self.tables, raw.category) {
+        match self.tables.get(raw.category) {
             Some(table) => match print_block(&mut self.line, &table.items, &table.mask, raw) {
                 Ok(()) => Ok(()),
                 Err(DecodeError::Fault(fault)) => Err(WorkStop::Fault(fault)),

@@ -1,6 +1,6 @@
 //! Runs of bits of a known length, printed: elements, spares and groups.
-ghost use Rattle.std.specs.Prelude.{◌≡◌, ◌+◌, ◌*◌, ◌≤◌, length, drop, take, decimal, OnOk};
-ghost use Rattle.ax_bits.specs.Bits.{bits, number_of};
+ghost use Rattle.std.specs.Prelude.{◌≡◌, ◌+◌, ◌*◌, ◌/◌, ◌%◌, ◌^◌, ◌<◌, ◌≤◌, length, drop, take, decimal, OnOk};
+ghost use Rattle.ax_bits.specs.Bits.{bits, number_of, word};
 ghost use Rattle.ax_model.specs.Reader.{fixed_value};
 ghost use Rattle.ax_model.specs.InBounds.{IsWidth, FixedInBounds, MembersInBounds};
 ghost use Rattle.ax_model.specs.Plain.{fixed_tree, member_tree, members_tree};

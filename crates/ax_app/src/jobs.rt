@@ -17,8 +17,8 @@ ghost use Rattle.ax_app.specs.Jobs.{BlocksRun, IsReady, IsReadyToCheck, IsReadyT
 ghost use Rattle.ax_app.specs.Loaded.{specs_of, IsLoadedFor};
 ghost use Rattle.ax_app.specs.Running.{NoFaultFell, WasIdle, WantsFirst};
 
-use crate::ends::{outcome_of, outcome_of_salvage};
 use crate::loading::Loaded;
+use crate::outcomes::{outcome_of, outcome_of_salvage};
 use ax_build_work::build_lines;
 use ax_check::{Accepted, Catalogue};
 use ax_command::{JobStop, Outcome, Refusal, line_of};

@@ -2,11 +2,11 @@
 //! `asterix` does.
 #![tactic(auto)]
 
-mod ends;
 mod gateway;
 mod jobs;
 mod laws;
 mod loading;
+mod outcomes;
 
 pub use ax_command::{Cause, FilterFault, InputFault, Outcome, SpecFault, TextFault};
 pub use gateway::run;

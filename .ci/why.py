@@ -268,7 +268,12 @@ CASES = [
             "most likely the file is of another edition, or has another UAP, than the sender",
         ],
     ),
-    ("text 048 < turns > /dev/full", []),
+    (
+        "text 048 < turns > /dev/full",
+        [
+            "standard output can't be written: what reads it went away (as `| head` does), or the disk is full",
+        ],
+    ),
     ("show 048 034 < turns", []),
 ]
 

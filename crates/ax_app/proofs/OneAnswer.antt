@@ -48,7 +48,7 @@ same_job (builds catalogue) input outcome next written others reported more good
     (h.is ∙ ap outcome_of_lines same.2 ∙ sym k.is, h.written_is ∙ ap LineAnswers.output_of same.1 ∙ sym k.written_is, h.reported_is ∙ sym k.reported_is)
 same_job (salvages catalogue) input outcome next written others reported more good h k =
     let same : (h.end ≡ k.end) × (written ≡ others) × (reported ≡ more) = salvaged_once catalogue input longest_input h.end k.end written others reported more h.salvaged k.salvaged in
-    (h.is ∙ ap outcome_of_salvage same.0 ∙ sym k.is, same.1)
+    (h.is ∙ ap outcome_of_salvage same.0 ∙ sym k.is, same.1, same.2)
 same_job (refuses refusal) input outcome next written others reported more good h k = absurd h
 
 refusal_once : (refusal next : Refusal) → refuses refusal ≡ refuses next → refusal ≡ next

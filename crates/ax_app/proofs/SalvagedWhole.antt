@@ -61,7 +61,7 @@ salvage_completes catalogue input i o r end outcome count written reported good 
     by (inl a) =
         let whole_is = salvaged_whole catalogue input can.raws (clean catalogue good) can.framed in
         let same = salvaged_once catalogue input longest_input end (EndOf.Done (length can.raws)) a.out _ a.report _ a.salvaged whole_is in
-        inr (is ∙ ap outcome_of_salvage (same.0 ∙ ap EndOf.Done (sym can.count_is)), a.wrote ∙ ap (with_end o.held) (same.1.0 ∙ sym can.written_is), a.reported ∙ ap (with_end r.held) (same.1.1 ∙ sym can.reported_is))
+        inr (is ∙ ap outcome_of_salvage (same.0 ∙ ap EndOf.Done (sym can.count_is)), a.wrote ∙ ap (with_end o.held) (same.1 ∙ sym can.written_is), a.reported ∙ ap (with_end r.held) (same.2 ∙ sym can.reported_is))
     by (inr stops) = absurd (never_stops catalogue input i o r end source out report runs.caused stops)
 
 -- Done has read all

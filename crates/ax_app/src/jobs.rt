@@ -12,7 +12,7 @@ ghost use Rattle.ax_outside.specs.Changes.{source_change, sink_change, GainsNoth
 ghost use Rattle.ax_command.specs.declared.outcome.JobStop.{JobStop};
 ghost use Rattle.ax_command.specs.declared.outcome.JobStop.TheVariants.{OutOfMemory};
 ghost use Rattle.ax_stream.specs.Streams.{IsIdle};
-ghost use Rattle.ax_words.specs.declared.line.Line.TheVariants.{Canon, Show, Text, Filter, Migrate, Salvage};
+ghost use Rattle.ax_words.specs.declared.line.Line.TheVariants.{Canon, Show, Text, Filter, Migrate};
 ghost use Rattle.ax_app.specs.Jobs.{BlocksRun, IsReady, IsReadyToCheck, IsReadyToTry, EndsTrial, IsStopped, RunsJob, TextEnds, check_text, takes_distinct};
 ghost use Rattle.ax_app.specs.Loaded.{specs_of, IsLoadedFor};
 ghost use Rattle.ax_app.specs.Running.{NoFaultFell, WasIdle, WantsFirst};
@@ -309,7 +309,7 @@ fn salvage_blocks<S: Source, K: Sink, R: Sink>(
     out: &mut K,
     report: &mut R,
 ) -> Result<Outcome, JobStop>
-    ensures runs { (files : List (List ℕ)) → IfOk result (RunsJob (Salvage files) (catalogue_tree catalogue.now) (source_change S.Source source.old source.new) (sink_change K.Sink out.old out.new) (sink_change R.Sink report.old report.new)) }
+    ensures runs { (files : List (List ℕ)) → IfOk result (RunsJob (Line.Salvage files) (catalogue_tree catalogue.now) (source_change S.Source source.old source.new) (sink_change K.Sink out.old out.new) (sink_change R.Sink report.old report.new)) }
     ensures memory { IfErr result (λ stop. stop ≡ OutOfMemory) }
     ensures first { IfOk result (WasIdle (source_change S.Source source.old source.new) (sink_change K.Sink out.old out.new)) }
     ensures idle { OnErr result (IsIdle (source_change S.Source source.old source.new) (sink_change K.Sink out.old out.new) (sink_change R.Sink report.old report.new)) }

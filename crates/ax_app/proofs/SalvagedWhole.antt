@@ -1,9 +1,8 @@
 -- What `salvage` is done with, where the frames of the input are whole and no count of faults rose.
-use Rattle.std.proofs.Common.{◌≡◌, ℕ, ◌⊎◌, inl, inr, suc, List, [], ◌∷◌, ◌++◌, Some, length, map, refl, sym, ◌∙◌, ap, subst}
+use Rattle.std.proofs.Common.{◌≡◌, ℕ, ◌⊎◌, inl, inr, suc, List, [], ◌∷◌, ◌++◌, Some, length, refl, sym, ◌∙◌, ap, subst}
 use Rattle.std.specs.List.{AllByRecursion}
 use Rattle.ax_bits.specs.Bits.{AreOctets}
 use Rattle.ax_command.specs.declared.outcome.Outcome.{Outcome}
-use Rattle.ax_command.specs.declared.outcome.Outcome.TheVariants.{Done}
 use Rattle.ax_model.proofs.StreamsApart.{found_in}
 use Rattle.ax_model.specs.Flaws.{NoFlaw}
 use Rattle.ax_model.specs.Framing.{RawTree, Framed, whole}
@@ -15,7 +14,7 @@ use Rattle.ax_salvage.proofs.OneSalvage.{salvaged_once}
 use Rattle.ax_salvage.specs.Runs.{IsCaused, SalvageAnswers, SalvageRuns, SalvageStops, reading, writing, reporting, tallying}
 use Rattle.ax_salvage.specs.Salvaged.{Salvaged, all_saved, refused_lines}
 use Rattle.ax_salvage.specs.Tallying.{tally_lines}
-use Rattle.ax_salvage.specs.Verdicts.{Judged, judge_all}
+use Rattle.ax_salvage.specs.Verdicts.{judge_all}
 use Rattle.ax_salvage.specs.declared.salvaging.SalvageEnd.{SalvageEnd}
 use Rattle.ax_salvage.specs.declared.salvaging.SalvageEnd.TheVariants as EndOf
 use Rattle.ax_stream.specs.Ending.{longest_input}

@@ -38,7 +38,7 @@ use Rattle.ax_salvage.specs.declared.salvaging.SalvageEnd.{SalvageEnd}
 use Rattle.ax_stream.proofs.Completes.{IsDoneWithBlocks, stream_completes}
 use Rattle.ax_stream.specs.Commands.{BlockCommand, output_of, report_of}
 use Rattle.ax_stream.specs.Ending.{longest_input}
-use Rattle.ax_stream.specs.Streams.{IsIdle, StreamRuns, ToldRun, reading, writing, reporting, for_memory}
+use Rattle.ax_stream.specs.Streams.{IsIdle, ToldRun, reading, writing, reporting, for_memory}
 use Rattle.ax_stream.specs.declared.end.StreamEnd.{StreamEnd}
 use Rattle.ax_stream.specs.declared.end.StreamEnd.TheVariants as EndOf
 use Rattle.ax_words.specs.Words.{HasNoShape, JudgesWords}

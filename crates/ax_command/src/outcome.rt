@@ -39,7 +39,7 @@ pub enum Outcome {
     ReadFault,
     /// The output could not be written.
     WriteFault,
-    /// The line of a loss could not be written.
+    /// A line of a block, or a count of `salvage`, could not be written to the report.
     ReportFault,
     /// Want of memory.
     OutOfMemory,

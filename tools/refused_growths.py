@@ -63,6 +63,7 @@ RUNS = [
     (['build', '048-P1'], LINE),
     (['check', 'F'], b''),
     (['show', '048-P1'], TARGET),
+    (['salvage', '048-P1'], LOSING + b'\x30\x00\x05\x80\x19'),
 ]
 
 

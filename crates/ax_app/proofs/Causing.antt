@@ -57,9 +57,9 @@ module _ (i : SourceChange) (o r : SinkChange) where
   caused_before JobStopOf.OutOfMemory = tt
 
   caused_by_text : (count : ℕ) (text : List ℕ) (outcome : Outcome) → TextEnds count text o outcome → IsCausedBy i o r outcome
-  caused_by_text count text outcome (written is h) = subst (IsCausedBy i o r) (sym is) tt
-  caused_by_text count text outcome (cut is h) = subst (IsCausedBy i o r) (sym is) h.rose
-  caused_by_text count text outcome (no_memory is h) = subst (IsCausedBy i o r) (sym is) tt
+  caused_by_text count text outcome (written is h still) = subst (IsCausedBy i o r) (sym is) tt
+  caused_by_text count text outcome (cut is h once) = subst (IsCausedBy i o r) (sym is) h.rose
+  caused_by_text count text outcome (no_memory is h still) = subst (IsCausedBy i o r) (sym is) tt
 
   caused_by_blocks : (end : StreamEnd) → IsCaused longest_input i o r end → IsCausedBy i o r (outcome_of_end end)
   caused_by_blocks (EndOf.Done blocks) h = tt
@@ -100,9 +100,9 @@ module _ (i : SourceChange) (o r : SinkChange) where
   caused : (words : List (List ℕ)) (files : Option (List File)) (c : LibraryCounts) (outcome : Outcome) → Runs words files c i o r outcome → IsCausedBy i o r outcome
   caused words files c outcome (at_words none is unasked idle) = subst (IsCausedBy i o r) (sym is) tt
   caused words files c outcome (no_words is unasked idle) = subst (IsCausedBy i o r) (sym is) tt
-  caused words files c outcome (at_files stop h is idle) = subst (IsCausedBy i o r) (sym is) (caused_at_files stop)
-  caused words files c outcome (before_input stop h is idle) = subst (IsCausedBy i o r) (sym is) (caused_before stop)
-  caused words files c outcome (in_job job d h) = caused_in_job job outcome h
+  caused words files c outcome (at_files stop h loads is idle) = subst (IsCausedBy i o r) (sym is) (caused_at_files stop)
+  caused words files c outcome (before_input stop h loads is idle) = subst (IsCausedBy i o r) (sym is) (caused_before stop)
+  caused words files c outcome (in_job job d loads h) = caused_in_job job outcome h
 
 pub causes : (words : List (List ℕ)) (files : Option (List File)) (c : LibraryCounts) (i : SourceChange) (o r : SinkChange) (outcome : Outcome) → Runs words files c i o r outcome → Causes i o r outcome
 causes words files c i o r outcome runs =

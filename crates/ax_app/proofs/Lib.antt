@@ -4,6 +4,7 @@ pub mod Editions
 pub mod Ends
 pub mod Falling
 pub mod Filters
+pub mod Loads
 pub mod Memory
 pub mod Once
 pub mod OneAnswer

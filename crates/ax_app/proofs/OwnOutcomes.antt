@@ -89,9 +89,9 @@ may_too : (what : Line) (outcome other : Outcome) → outcome ≡ other → MayC
 may_too what outcome other is may = subst (λ x. MayCome x what) (sym is) may
 
 of_text : (what : Line) (count : ℕ) (text : List ℕ) (o : SinkChange) (outcome : Outcome) → TextEnds count text o outcome → MayCome outcome what
-of_text what count text o outcome (written is h) = may_too what outcome _ is tt
-of_text what count text o outcome (cut is h) = may_too what outcome _ is tt
-of_text what count text o outcome (no_memory is h) = may_too what outcome _ is tt
+of_text what count text o outcome (written is h still) = may_too what outcome _ is tt
+of_text what count text o outcome (cut is h once) = may_too what outcome _ is tt
+of_text what count text o outcome (no_memory is h still) = may_too what outcome _ is tt
 
 module _ (i : SourceChange) (o r : SinkChange) (outcome : Outcome) where
   -- the run of that job
@@ -181,9 +181,9 @@ own_before what specs JobStopOf.OutOfMemory h = tt
 pub of_its_command : (words : List (List ℕ)) (files : Option (List File)) (c : LibraryCounts) (i : SourceChange) (o r : SinkChange) (outcome : Outcome) → Runs words files c i o r outcome → IsOfItsCommand words outcome
 of_its_command words files c i o r outcome (at_words none is unasked idle) = inl is
 of_its_command words files c i o r outcome (no_words is unasked idle) = inr (inl is)
-of_its_command words files c i o r outcome (at_files stop h is idle) = inr (inr (record { what = h.what; shape = h.shape; may = may_too h.what outcome _ is (at_each_file h.what stop) }))
-of_its_command words files c i o r outcome (before_input stop h is idle) = inr (inr (record { what = h.what; shape = h.shape; may = may_too h.what outcome _ is (own_before h.what h.specs stop h.stopped) }))
-of_its_command words files c i o r outcome (in_job job d h) = inr (inr (record { what = d.what; shape = d.shape; may = own_in_job i o r outcome d.what d.specs job d.is h }))
+of_its_command words files c i o r outcome (at_files stop h loads is idle) = inr (inr (record { what = h.what; shape = h.shape; may = may_too h.what outcome _ is (at_each_file h.what stop) }))
+of_its_command words files c i o r outcome (before_input stop h loads is idle) = inr (inr (record { what = h.what; shape = h.shape; may = may_too h.what outcome _ is (own_before h.what h.specs stop h.stopped) }))
+of_its_command words files c i o r outcome (in_job job d loads h) = inr (inr (record { what = d.what; shape = d.shape; may = own_in_job i o r outcome d.what d.specs job d.is h }))
 
 -- ---- counts
 

@@ -65,7 +65,7 @@ pub text_job : (line : Line) (specs : List SpecTree) (left held' : Option (List 
 text_job line specs left held' taken faults faults' o count text outcome is ends = record {
   job = writes count text;
   is = is;
-  runs = record { ends = ends; untouched = record { left = refl; taken = refl }; report = refl };
+  runs = record { ends = ends; untouched = record { left = refl; taken = refl }; report = refl; source_quiet = refl; report_quiet = refl };
 }
 
 pub check_job : (file : List ℕ) (specs : List SpecTree) (left held' : Option (List ℕ)) (taken faults faults' : ℕ) (o : SinkChange) (outcome : Outcome) → IsReadyToCheck specs → ((spec : SpecTree) → specs ≡ spec ∷ [] → TextEnds 0 (check_text spec) o outcome)
@@ -84,7 +84,7 @@ trial_job file seed count specs left held' taken faults faults' o (Err stop) rea
 -- `build` reports nothing
 pub build_job : (files : List (List ℕ)) (specs : List SpecTree) (i : SourceChange) (o : SinkChange) (held : Option (List ℕ)) (faults : ℕ) (end : LinesEnd TextFault) (outcome : Outcome) → LinesRun (build_command specs) longest_line longest_input i o end → outcome ≡ outcome_of_lines end
     → RunsJob (Build files) specs i o (record { held = held; held' = held; faults = faults; faults' = faults }) outcome
-build_job files specs i o held faults end outcome runs is = record { job = builds specs; is = refl; runs = record { end = end; runs = runs; is = is; report = refl } }
+build_job files specs i o held faults end outcome runs is = record { job = builds specs; is = refl; runs = record { end = end; runs = runs; is = is; report = refl; report_quiet = refl } }
 
 -- ---- usage
 
@@ -92,9 +92,9 @@ pub no_shape : (words : List (List ℕ)) (error : WordsError) → error ≡ Word
 no_shape words error is h = subst (λ e. JudgesWords words (Err e)) is h
 
 no_usage_of_text : (count : ℕ) (text : List ℕ) (o : SinkChange) (outcome : Outcome) → TextEnds count text o outcome → outcome ≡ Usage → ⊥
-no_usage_of_text count text o outcome (written is h) e = absurd (let x : Done count ≡ Usage = sym is ∙ e in cc)
-no_usage_of_text count text o outcome (cut is h) e = absurd (let x : WriteFault ≡ Usage = sym is ∙ e in cc)
-no_usage_of_text count text o outcome (no_memory is h) e = absurd (let x : OutOfMemory ≡ Usage = sym is ∙ e in cc)
+no_usage_of_text count text o outcome (written is h still) e = absurd (let x : Done count ≡ Usage = sym is ∙ e in cc)
+no_usage_of_text count text o outcome (cut is h once) e = absurd (let x : WriteFault ≡ Usage = sym is ∙ e in cc)
+no_usage_of_text count text o outcome (no_memory is h still) e = absurd (let x : OutOfMemory ≡ Usage = sym is ∙ e in cc)
 
 no_usage_in_job : (job : Job) (i : SourceChange) (o r : SinkChange) (outcome : Outcome) → JobRuns job i o r outcome → outcome ≡ Usage → ⊥
 no_usage_in_job (writes count text) i o r outcome h e = no_usage_of_text count text o outcome h.ends e
@@ -106,16 +106,16 @@ no_usage_in_job (refuses refusal) i o r outcome h e = h
 pub usage_only : (words : List (List ℕ)) (files : Option (List File)) (c : LibraryCounts) (i : SourceChange) (o r : SinkChange) (outcome : Outcome) → Runs words files c i o r outcome → outcome ≡ Usage → HasNoShape words
 usage_only words files c i o r outcome (at_words none is unasked idle) e = none
 usage_only words files c i o r outcome (no_words is unasked idle) e = absurd (let x : OutOfMemory ≡ Usage = sym is ∙ e in cc)
-usage_only words files c i o r outcome (at_files stop h is idle) e = absurd (subst IsEarly (sym is ∙ e) (stop_is_early stop))
-usage_only words files c i o r outcome (before_input stop h is idle) e = absurd (subst IsEarly (sym is ∙ e) (job_stop_is_early stop))
-usage_only words files c i o r outcome (in_job job d h) e = absurd (no_usage_in_job job i o r outcome h e)
+usage_only words files c i o r outcome (at_files stop h loads is idle) e = absurd (subst IsEarly (sym is ∙ e) (stop_is_early stop))
+usage_only words files c i o r outcome (before_input stop h loads is idle) e = absurd (subst IsEarly (sym is ∙ e) (job_stop_is_early stop))
+usage_only words files c i o r outcome (in_job job d loads h) e = absurd (no_usage_in_job job i o r outcome h e)
 
 pub usage_there : (words : List (List ℕ)) (files : Option (List File)) (c : LibraryCounts) (i : SourceChange) (o r : SinkChange) (outcome : Outcome) → Runs words files c i o r outcome → HasNoShape words → (outcome ≡ Usage) ⊎ (outcome ≡ OutOfMemory)
 usage_there words files c i o r outcome (at_words none is unasked idle) e = inl is
 usage_there words files c i o r outcome (no_words is unasked idle) e = inr is
-usage_there words files c i o r outcome (at_files stop h is idle) e = absurd (e h.what h.shape)
-usage_there words files c i o r outcome (before_input stop h is idle) e = absurd (e h.what h.shape)
-usage_there words files c i o r outcome (in_job job d h) e = absurd (e d.what d.shape)
+usage_there words files c i o r outcome (at_files stop h loads is idle) e = absurd (e h.what h.shape)
+usage_there words files c i o r outcome (before_input stop h loads is idle) e = absurd (e h.what h.shape)
+usage_there words files c i o r outcome (in_job job d loads h) e = absurd (e d.what d.shape)
 
 -- ---- the told headline: files
 
@@ -158,10 +158,10 @@ files_headline words files c input i o r outcome stop h is idle (inr b) =
 
 text_headline : (words : List (List ℕ)) (files : List File) (c : LibraryCounts) (input : List ℕ) (i : SourceChange) (o r : SinkChange) (outcome : Outcome) (count : ℕ) (text : List ℕ) → Does words (Some files) (writes count text)
     → IsUntouched i → GainsNothing r → TextEnds count text o outcome → Headline words files c input i o r outcome
-text_headline words files c input i o r outcome count text d idle none (written done h) =
+text_headline words files c input i o r outcome count text d idle none (written done h quiet) =
     answered text [] (by_job (writes count text) d (record { done = done; written_is = refl; reported_is = refl })) h (none ∙ sym (with_end-nil r.held))
-text_headline words files c input i o r outcome count text d idle none (cut e h) = stopped_in_job (writes count text) d (record { ends = inl (e, h); untouched = idle; report = none })
-text_headline words files c input i o r outcome count text d idle none (no_memory e h) = stopped_in_job (writes count text) d (record { ends = inr (e, h); untouched = idle; report = none })
+text_headline words files c input i o r outcome count text d idle none (cut e h once) = stopped_in_job (writes count text) d (record { ends = inl (e, h); untouched = idle; report = none })
+text_headline words files c input i o r outcome count text d idle none (no_memory e h still) = stopped_in_job (writes count text) d (record { ends = inr (e, h); untouched = idle; report = none })
 
 blocks_headline : (words : List (List ℕ)) (files : List File) (c : LibraryCounts) (input : List ℕ) (i : SourceChange) (o r : SinkChange) (outcome : Outcome) (k : BlockCommand) (end : StreamEnd) → Does words (Some files) (each_block k)
     → outcome ≡ outcome_of_end end → ToldRun k longest_input input i.left' o r end → Headline words files c input i o r outcome
@@ -198,10 +198,10 @@ told_headline : (words : List (List ℕ)) (files : List File) (c : LibraryCounts
     → Runs words (Some files) c i o r outcome → Headline words files c input i o r outcome
 told_headline words files c input i o r outcome octets left (at_words none is unasked idle) = answered [] [] (by_words none is refl refl) (idle.out ∙ sym (with_end-nil o.held)) (idle.report ∙ sym (with_end-nil r.held))
 told_headline words files c input i o r outcome octets left (no_words is unasked idle) = stopped_at_words is idle
-told_headline words files c input i o r outcome octets left (at_files stop h is idle) =
+told_headline words files c input i o r outcome octets left (at_files stop h loads is idle) =
     files_headline words files c input i o r outcome stop h is idle (at_file (takes_distinct h.what) files c h.ends.before h.ends.name (length h.ends.earlier) stop h.ends.ends)
-told_headline words files c input i o r outcome octets left (before_input stop h is idle) = before_headline words files c input i o r outcome stop h is idle
-told_headline words files c input i o r outcome octets left (in_job job d h) = job_headline words files c input i o r outcome job octets left d h
+told_headline words files c input i o r outcome octets left (before_input stop h loads is idle) = before_headline words files c input i o r outcome stop h is idle
+told_headline words files c input i o r outcome octets left (in_job job d loads h) = job_headline words files c input i o r outcome job octets left d h
 
 pub headline : (words : List (List ℕ)) (told : Option (List File)) (files : List File) (c : LibraryCounts) (input : List ℕ) (i : SourceChange) (o r : SinkChange) (outcome : Outcome) → told ≡ Some files → AreOctets input → i.left ≡ Some input
     → Runs words told c i o r outcome → Headline words files c input i o r outcome
@@ -210,9 +210,9 @@ headline words told files c input i o r outcome is octets left runs = told_headl
 -- ---- completeness
 
 text_completes : (count : ℕ) (text : List ℕ) (o r : SinkChange) (outcome : Outcome) → GainsNothing r → (Rose o.faults o.faults' → ⊥) → TextEnds count text o outcome → IsDoneWith outcome count o r text []
-text_completes count text o r outcome none quiet (written is h) = inr (is, h, none ∙ sym (with_end-nil r.held))
-text_completes count text o r outcome none quiet (cut is h) = absurd (quiet h.rose)
-text_completes count text o r outcome none quiet (no_memory is h) = inl is
+text_completes count text o r outcome none quiet (written is h still) = inr (is, h, none ∙ sym (with_end-nil r.held))
+text_completes count text o r outcome none quiet (cut is h once) = absurd (quiet h.rose)
+text_completes count text o r outcome none quiet (no_memory is h still) = inl is
 
 blocks_complete : (k : BlockCommand) (blocks : List BlockTree) (o r : SinkChange) (end : StreamEnd) (outcome : Outcome) → outcome ≡ outcome_of_end end → (end ≡ EndOf.OutOfMemory) ⊎ IsDoneWithBlocks k blocks o r end
     → IsDoneWith outcome (length blocks) o r (output_of k 0 blocks) (report_of k 0 blocks)
@@ -254,13 +254,13 @@ run_completes : (words : List (List ℕ)) (files : List File) (c : LibraryCounts
     → IsDoneWith outcome count o r all said
 run_completes words files c input i o r outcome job count all said octets left library source out report d can (at_words none is unasked idle) = absurd (none d.what d.shape)
 run_completes words files c input i o r outcome job count all said octets left library source out report d can (no_words is unasked idle) = inl is
-run_completes words files c input i o r outcome job count all said octets left library source out report d can (at_files stop h is idle) =
+run_completes words files c input i o r outcome job count all said octets left library source out report d can (at_files stop h loads is idle) =
     let same : d.what ≡ h.what = shape_once words d.what h.what d.shape h.shape in
     let memory : stop ≡ LoadStopOf.OutOfMemory = given_ends_for_memory (takes_distinct h.what) files c (files_of h.what) d.specs stop library (subst (λ w. FilesGive (takes_distinct w) (Some files) (files_of w) d.specs) same d.give) h.ends in
     inl (is ∙ ap outcome_of_stop memory)
-run_completes words files c input i o r outcome job count all said octets left library source out report d can (before_input stop h is idle) =
+run_completes words files c input i o r outcome job count all said octets left library source out report d can (before_input stop h loads is idle) =
     inl (is ∙ ap outcome_of_job_stop (not_refused words files input job count all said stop d can h))
-run_completes words files c input i o r outcome job count all said octets left library source out report d can (in_job other k h) =
+run_completes words files c input i o r outcome job count all said octets left library source out report d can (in_job other k loads h) =
     let same : other ≡ job = does_once words files other job k d in
     job_completes input i o r outcome count all said octets left source out report job (good_job words (Some files) job d) can (subst (λ j. JobRuns j i o r outcome) same h)
 
@@ -290,9 +290,9 @@ done_reads : (words : List (List ℕ)) (files : List File) (c : LibraryCounts) (
     → Does words (Some files) job → ReadsInput job → outcome ≡ Done count → Runs words (Some files) c i o r outcome → i.left' ≡ Some []
 done_reads words files c input i o r outcome job count octets left d reads done (at_words none is unasked idle) = absurd (let x : Usage ≡ Done count = sym is ∙ done in cc)
 done_reads words files c input i o r outcome job count octets left d reads done (no_words is unasked idle) = absurd (let x : OutOfMemory ≡ Done count = sym is ∙ done in cc)
-done_reads words files c input i o r outcome job count octets left d reads done (at_files stop h is idle) = absurd (subst IsEarly (sym is ∙ done) (stop_is_early stop))
-done_reads words files c input i o r outcome job count octets left d reads done (before_input stop h is idle) = absurd (subst IsEarly (sym is ∙ done) (job_stop_is_early stop))
-done_reads words files c input i o r outcome job count octets left d reads done (in_job other h runs) =
+done_reads words files c input i o r outcome job count octets left d reads done (at_files stop h loads is idle) = absurd (subst IsEarly (sym is ∙ done) (stop_is_early stop))
+done_reads words files c input i o r outcome job count octets left d reads done (before_input stop h loads is idle) = absurd (subst IsEarly (sym is ∙ done) (job_stop_is_early stop))
+done_reads words files c input i o r outcome job count octets left d reads done (in_job other h loads runs) =
     let same : other ≡ job = does_once words files other job h d in
     job_reads job input i o r outcome count octets left reads done (subst (λ j. JobRuns j i o r outcome) same runs)
 
@@ -300,8 +300,8 @@ done_reads words files c input i o r outcome job count octets left d reads done 
 
 pub ended : (P : SinkChange → Type 0) (held between held' : Option (List ℕ)) (faults counted faults' : ℕ) (result : Result Unit SinkFailed) (lines : List ℕ) → faults ≤ counted → counted ≤ faults' → P (record { held = held; held' = between; faults = faults; faults' = counted })
     → Wrote (record { held = between; held' = held'; faults = counted; faults' = faults' }) result lines → Ended P (record { held = held; held' = held'; faults = faults; faults' = faults' }) lines
-ended P held between held' faults counted faults' (Ok u) lines a b before w = record { between = between; counted = counted; from_start = a; to_end = b; before = before; lines_after = inl w.whole }
-ended P held between held' faults counted faults' (Err e) lines a b before w = record { between = between; counted = counted; from_start = a; to_end = b; before = before; lines_after = inr w.part }
+ended P held between held' faults counted faults' (Ok u) lines a b before w = record { between = between; counted = counted; from_start = a; to_end = b; before = before; lines_after = inl (w.whole, w.quiet); once = w.once }
+ended P held between held' faults counted faults' (Err e) lines a b before w = record { between = between; counted = counted; from_start = a; to_end = b; before = before; lines_after = inr w.part; once = w.once }
 
 -- ---- the whole report
 

@@ -1,5 +1,5 @@
 -- The commands: what each does once its files are accepted. A command is one row of `IsJob`.
-use Rattle.std.specs.Prelude.{◌≡◌, ℕ, ◌≤◌, ◌^◌, Bool, true, false, List, [], ◌∷◌, ◌++◌, length, codes}
+use Rattle.std.specs.Prelude.{◌≡◌, ℕ, ◌+◌, ◌≤◌, ◌^◌, Bool, true, false, List, [], ◌∷◌, ◌++◌, length, codes}
 use Rattle.ax_build_work.specs.BuildCommand.{build_command}
 use Rattle.ax_build_work.specs.declared.fault.TextFault.{TextFault}
 use Rattle.ax_command.specs.Accepted.{accepted_line}
@@ -192,14 +192,16 @@ JobAnswers (refuses refusal) input outcome written reported = ⊥
 -- ---- its run, whatever is told
 
 pub data TextEnds (count : ℕ) (text : List ℕ) (o : SinkChange) (outcome : Outcome) : Type 0 where
-  written : outcome ≡ Done count → Gains o text → TextEnds count text o outcome
-  cut : outcome ≡ WriteFault → GainsPart o text → TextEnds count text o outcome
-  no_memory : outcome ≡ OutOfMemory → GainsNothing o → TextEnds count text o outcome
+  written : outcome ≡ Done count → Gains o text → o.faults' ≡ o.faults → TextEnds count text o outcome
+  cut : outcome ≡ WriteFault → GainsPart o text → o.faults' ≤ o.faults + 1 → TextEnds count text o outcome
+  no_memory : outcome ≡ OutOfMemory → GainsNothing o → o.faults' ≡ o.faults → TextEnds count text o outcome
 
 pub record TextRuns (count : ℕ) (text : List ℕ) (i : SourceChange) (o r : SinkChange) (outcome : Outcome) : Type 0 where
   pub ends : TextEnds count text o outcome
   pub untouched : IsUntouched i
   pub report : GainsNothing r
+  pub source_quiet : i.faults' ≡ i.faults
+  pub report_quiet : r.faults' ≡ r.faults
 
 pub record BlocksRun (c : BlockCommand) (i : SourceChange) (o r : SinkChange) (outcome : Outcome) : Type 0 where
   pub end : StreamEnd
@@ -211,6 +213,7 @@ pub record BuildRuns (catalogue : List SpecTree) (i : SourceChange) (o r : SinkC
   pub runs : LinesRun (build_command catalogue) longest_line longest_input i o end
   pub is : outcome ≡ outcome_of_lines end
   pub report : GainsNothing r
+  pub report_quiet : r.faults' ≡ r.faults
 
 pub record SalvageRun (catalogue : List SpecTree) (i : SourceChange) (o r : SinkChange) (outcome : Outcome) : Type 0 where
   pub end : SalvageEnd

@@ -15,6 +15,7 @@ use Rattle.ax_stream.specs.Streams.{IsIdle}
 use Rattle.ax_words.specs.Words.{HasShape, HasNoShape}
 use Rattle.ax_words.specs.declared.line.Line.{Line}
 use Rattle.ax_words.specs.declared.line.Line.TheVariants as LineOf
+use Rattle.ax_app.specs.Counting.{LoadsAll, LoadsThrough}
 use Rattle.ax_app.specs.Jobs.{Job, IsJob, IsStopped, JobRuns, files_of, takes_distinct}
 
 -- the words ask for this, its files give these specifications, and over them it is this job
@@ -43,21 +44,22 @@ pub record StopsBeforeInput (words : List (List ℕ)) (files : Option (List File
 pub data Runs (words : List (List ℕ)) (files : Option (List File)) (c : LibraryCounts) (i : SourceChange) (o r : SinkChange) (outcome : Outcome) : Type 0 where
   at_words : HasNoShape words → outcome ≡ Usage → IsUnasked c → IsIdle i o r → Runs words files c i o r outcome
   no_words : outcome ≡ OutOfMemory → IsUnasked c → IsIdle i o r → Runs words files c i o r outcome
-  at_files : (stop : LoadStop) → StopsAtFiles words files c stop → outcome ≡ outcome_of_stop stop → IsIdle i o r → Runs words files c i o r outcome
-  before_input : (stop : JobStop) → StopsBeforeInput words files stop → outcome ≡ outcome_of_job_stop stop → IsIdle i o r → Runs words files c i o r outcome
-  in_job : (job : Job) → Does words files job → JobRuns job i o r outcome → Runs words files c i o r outcome
+  at_files : (stop : LoadStop) (h : StopsAtFiles words files c stop) → LoadsThrough h.what files c stop → outcome ≡ outcome_of_stop stop → IsIdle i o r → Runs words files c i o r outcome
+  before_input : (stop : JobStop) (h : StopsBeforeInput words files stop) → LoadsAll h.what files c → outcome ≡ outcome_of_job_stop stop → IsIdle i o r → Runs words files c i o r outcome
+  in_job : (job : Job) (d : Does words files job) → LoadsAll d.what files c → JobRuns job i o r outcome → Runs words files c i o r outcome
 
 -- ---- the report, to which the lines of the outcome come last
 
--- what the report gained before, up to this count of its faults, and these lines after it, or a prefix of them where the
--- count rose from there
+-- what the report gained before, up to this count of its faults, and these lines after it, with no fault more, or a prefix of
+-- them where the count rose from there, by one fault
 pub record Ended (Before : SinkChange → Type 0) (r : SinkChange) (lines : List ℕ) : Type 0 where
   pub between : Option (List ℕ)
   pub counted : ℕ
   pub from_start : r.faults ≤ counted
   pub to_end : counted ≤ r.faults'
   pub before : Before (first_step r between counted)
-  pub lines_after : Gains (second_step r between counted) lines ⊎ GainsPart (second_step r between counted) lines
+  pub lines_after : (Gains (second_step r between counted) lines × (r.faults' ≡ counted)) ⊎ GainsPart (second_step r between counted) lines
+  pub once : r.faults' ≤ counted + 1
 
 -- ---- causes
 

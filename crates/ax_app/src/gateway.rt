@@ -8,6 +8,7 @@ ghost use Rattle.ax_load.specs.Loading.{FilesGive};
 ghost use Rattle.ax_outside.specs.Files.{File};
 ghost use Rattle.ax_words.specs.Words.{IsInBounds, HasShape, HasNoShape};
 ghost use Rattle.ax_app.specs.Completing.{NoFaultCounted, HasWhole, IsDoneWith};
+ghost use Rattle.ax_app.specs.Counting.{LoadsAll, CountsOnly};
 ghost use Rattle.ax_app.specs.Headline.{Headline};
 ghost use Rattle.ax_app.specs.Jobs.{Job, IsReady, ReadsInput, files_of, takes_distinct};
 ghost use Rattle.ax_app.specs.Loaded.{specs_of, IsLoadedFor};
@@ -31,7 +32,7 @@ fn obey_loaded<S: Source, K: Sink, R: Sink>(
 ) -> Outcome
     requires ready { IsReady line.now (specs_of loaded.now) }
     requires loaded { IsLoadedFor (takes_distinct line.now) loaded.now }
-    ensures runs { (words : List (List ℕ)) (files : Option (List File)) (c : LibraryCounts) → HasShape words line.now → FilesGive (takes_distinct line.now) files (files_of line.now) (specs_of loaded.now)
+    ensures runs { (words : List (List ℕ)) (files : Option (List File)) (c : LibraryCounts) → HasShape words line.now → FilesGive (takes_distinct line.now) files (files_of line.now) (specs_of loaded.now) → LoadsAll line.now files c
         → Runs words files c (source_change S.Source source.old source.new) (sink_change K.Sink out.old out.new) (sink_change R.Sink report.old report.new) result }
     ensures first { WantsFirst line.now (source_change S.Source source.old source.new) (sink_change K.Sink out.old out.new) result }
     ensures later { NoFaultFell (source_change S.Source source.old source.new) (sink_change K.Sink out.old out.new) (sink_change R.Sink report.old report.new) }
@@ -88,7 +89,8 @@ fn obey<L: Library, S: Source, K: Sink, R: Sink>(
 
 /// Does what the words say, and answers how that ended. Usage comes exactly where the words have no shape, but that want of
 /// memory may stand in its place, since reading the words takes memory. Where memory is wanting, the source is untouched and
-/// nothing was written, but of the commands that take memory once they read: `show`, `text` and `build`.
+/// nothing was written, but of the commands that take memory once they read: `show`, `text` and `build`. Before the lines of
+/// the outcome one fault at most is counted, of the object that the outcome names.
 pub fn run<L: Library, S: Source, K: Sink, R: Sink>(
     alloc: Global,
     words: &Vec<String>,
@@ -102,6 +104,8 @@ pub fn run<L: Library, S: Source, K: Sink, R: Sink>(
         (source_change S.Source source.old source.new) (sink_change K.Sink out.old out.new) before result) (sink_change R.Sink report.old report.new) (lines_of result) }
     ensures runs { Ended (λ before. Runs (map string_bytes words.now.items) (L.files library.old) (library_counts L.Library library.old library.new)
         (source_change S.Source source.old source.new) (sink_change K.Sink out.old out.new) before result) (sink_change R.Sink report.old report.new) (lines_of result) }
+    ensures counts { Ended (λ before. CountsOnly (library_counts L.Library library.old library.new) (source_change S.Source source.old source.new) (sink_change K.Sink out.old out.new) before result)
+        (sink_change R.Sink report.old report.new) (lines_of result) }
     ensures usage { result ≡ Outcome.Usage → HasNoShape (map string_bytes words.now.items) }
     ensures no_shape { HasNoShape (map string_bytes words.now.items) → (result ≡ Outcome.Usage) ⊎ (result ≡ Outcome.OutOfMemory) }
     ensures causes { Causes (source_change S.Source source.old source.new) (sink_change K.Sink out.old out.new) (sink_change R.Sink report.old report.new) result }

@@ -100,6 +100,7 @@ fn trial<K: Sink>(
     ensures first { IfOk result (λ outcome. outcome ≡ Outcome.OutOfMemory → ⊥) }
     ensures memory { IfErr result (λ stop. stop ≡ OutOfMemory) }
     ensures nothing { OnErr result (GainsNothing (sink_change K.Sink out.old out.new)) }
+    ensures quiet { OnErr result (K.faults out.new ≡ K.faults out.old) }
     ensures never_falls { K.faults out.old ≤ K.faults out.new }
 {
     let Some(accepted) = catalogue.at(0) else {

@@ -1,5 +1,6 @@
 //! The files of a command.
 ghost use Rattle.std.specs.Prelude.{◌≡◌, ◌≤◌, ◌<◌, IsTrue, length, IfOk, IfErr};
+ghost use Rattle.ax_app.specs.Counting.{LoadsAll, LoadsThrough};
 ghost use Rattle.ax_app.specs.Jobs.{files_of, takes_distinct};
 ghost use Rattle.ax_app.specs.Loaded.{specs_of, IsLoadedFor};
 ghost use Rattle.ax_load.specs.Loading.{FilesGive, FilesEnd};
@@ -42,11 +43,15 @@ fn names_of(line: &Line) -> &[WordText]
     }
 }
 
-/// The specifications of the files of a command, or how the run ends at the first file that gives none.
+/// The specifications of the files of a command, or how the run ends at the first file that gives none. Each file is loaded
+/// once, in order, and none after the first one that ends the run.
+#[tactic(auto, using(crate::proofs::Loads::loads))]
 pub fn load<L: Library>(alloc: Global, library: &mut L, line: &Line) -> Result<Loaded, LoadStop>
     ensures gives { IfOk result (λ loaded. FilesGive (takes_distinct line.now) (L.files library.old) (files_of line.now) (specs_of loaded)) }
     ensures loaded { IfOk result (IsLoadedFor (takes_distinct line.now)) }
     ensures ends { IfErr result (λ stop. FilesEnd (takes_distinct line.now) (L.files library.old) (library_counts L.Library library.old library.new) (files_of line.now) stop) }
+    ensures loads_all { IfOk result (λ _. LoadsAll line.now (L.files library.old) (library_counts L.Library library.old library.new)) }
+    ensures loads_through { IfErr result (λ stop. LoadsThrough line.now (L.files library.old) (library_counts L.Library library.old library.new) stop) }
     ensures keeps { L.files library.new ≡ L.files library.old }
     ensures number_never_falls { L.taken library.old ≤ L.taken library.new }
     ensures never_falls { L.faults library.old ≤ L.faults library.new }

@@ -9,12 +9,11 @@ use Rattle.ax_bits.specs.Bits.{AreOctets}
 use Rattle.ax_token_reader.specs.Stopping.{Texts, StopsAt, IsNotFirst}
 use Rattle.ax_token_reader.proofs.Words.{not_first, none_first}
 use Rattle.ax_tokens.specs.Octets.{quote}
-use Rattle.ax_model.specs.Plain.{value_tree, value_step, entry_step}
+use Rattle.ax_model.proofs.VariantTrees.{octets_value}
+use Rattle.ax_model.specs.Plain.{value_tree}
 use Rattle.ax_model.specs.Shape.{Shape}
 use Rattle.ax_model.specs.Tree.{explicit, ValueTree, content_octets}
-use Rattle.ax_model.specs.declared.value.Value.{fold-roll-Value}
-use Rattle.ax_model.specs.declared.value.Value.TheOpen.{Value-F}
-use Rattle.ax_model.specs.declared.value.Value.TheVariants.{Octets, rolls-Octets}
+use Rattle.ax_model.specs.declared.value.Value.TheVariants.{Octets}
 use Rattle.ax_text.proofs.Unique.{same_hex}
 use Rattle.ax_text.specs.ValueText.{hex_text}
 use Rattle.ax_block_reader.specs.Continuing.{Done, Spelled, IsRead}
@@ -108,13 +107,10 @@ pub long_explicit : (texts : Texts) (octets : List ℕ) → AreOctets octets →
 long_explicit texts octets a e gt =
     explicit_stops texts (not_first IsShortHex texts (hex_text octets) e (λ h. let same : octets ≡ h.0 = same_hex octets h.0 a h.2 h.3 in omega (arith, gt, h.1, ap length same)))
 
-octets_tree : (octets : List ℕ) → value_tree (Octets octets) ≡ content_octets octets
-octets_tree octets = ap value_tree (sym (rolls-Octets octets)) ∙ fold-roll-Value ValueTree (ℕ × ValueTree) value_step entry_step (Value-F.Octets octets)
-
 pub explicit_read : (texts : Texts) (octets : List ℕ) → AreOctets octets → texts ≡ hex_text octets ∷ drop 1 texts → length octets ≤ 254 → IsRead (Shape explicit) (kind_texts explicit) (value_tree (Octets octets)) texts (drop 1 texts)
 explicit_read texts octets a e le =
     let few : length octets < 255 = omega (arith, le) in
-    subst (λ v. IsRead (Shape explicit) (kind_texts explicit) v texts (drop 1 texts)) (sym (octets_tree octets)) (record {
+    subst (λ v. IsRead (Shape explicit) (kind_texts explicit) v texts (drop 1 texts)) (sym (octets_value octets)) (record {
       shape = (few, a);
       split = e;
       whole = word_read AreExplicit Done (hex_text octets) texts (drop 1 texts) (λ t d. (content_octets octets, (few, a), ap (λ z. hex_text octets ∷ z) d))

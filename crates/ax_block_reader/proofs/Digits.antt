@@ -1,5 +1,5 @@
 -- Categories in three digits, and the first token.
-use Rattle.std.proofs.Common.{◌≡◌, ℕ, ◌+◌, ◌*◌, ◌/◌, ◌%◌, ◌<◌, ◌⊎◌, inl, inr, cond, List, [], ◌∷◌, length, drop, slice_get, Some, None, sym, ◌∙◌, ap, arith, refl}
+use Rattle.std.proofs.Common.{◌≡◌, ℕ, ◌<◌, cond, List, [], ◌∷◌, length, drop, slice_get, Some, None, sym, ◌∙◌, ap, refl}
 use Rattle.std.specs.Prelude.{Option}
 use Rattle.std.proofs.lemmas.Bool.{eq-eqb}
 use Rattle.ax_token_reader.specs.Stopping.{Texts, IsNotFirst}

@@ -15,13 +15,14 @@ use Rattle.ax_model.specs.declared.kind.Slot.{Slot}
 use Rattle.ax_model.specs.declared.value.Entry.{Entry, roll-Entry, fold-roll-Entry}
 use Rattle.ax_model.specs.declared.value.Value.{Value}
 use Rattle.ax_text.proofs.Printed.{from_place}
+use Rattle.ax_text.proofs.Unique.{entries_never}
+use Rattle.ax_text.specs.Readable.{Lacks, SlotLacks, SlotReadable, SlotsReadable}
 use Rattle.ax_text.specs.Slots.{SlotShape}
 use Rattle.ax_text.specs.ValueText.{closing, kind_onto, entries_onto}
 use Rattle.ax_block_reader.specs.Continuing.{Continues, Spelled, IsRead}
 use Rattle.ax_block_reader.specs.Entries.{slot_texts, SlotNamed, IsNotNamed, IsNamedAt}
 use Rattle.ax_block_reader.specs.Languages.{entries_texts}
-use Rattle.ax_block_reader.specs.Readable.{Lacks, SlotLacks, SlotReadable, SlotsReadable}
-use Rattle.ax_block_reader.proofs.Continuations.{heads, tails, no_text, first_read, first_front, cut_stops}
+use Rattle.ax_block_reader.proofs.Continuations.{tails, no_text, first_read, first_front, cut_stops}
 use Rattle.ax_block_reader.proofs.Collecting.{Collects, none_collected, more_collected, all_collected, same_put, left_lacks, one_collected, one_lacks, skip_collected, Closes, closing_read, closing_lacks}
 use Rattle.ax_block_reader.proofs.Onto.{kind_more}
 
@@ -42,30 +43,6 @@ no_entries_texts s (slot_and (subitem name k) ss) x = no_entries_texts (s + 1) s
 
 pub entries_due : (s : ℕ) (ss : SlotsTree) → AreEntries s ss (closing ∷ [])
 entries_due s ss = (no_entries, no_entries_fit s ss, sym (no_entries_texts s ss (closing ∷ [])))
-
--- ---- a name that no slot has
-
--- a name doesn't close
-pub name_never : (name : List ℕ) → IsName name → name ≡ closing → ⊥
-name_never name h e = let bad : IsName closing = subst IsName e h in no bad.2
-  where
-    no : false ≡ true → ⊥
-    no e = cc
-
-abbrev Never : List ℕ → Texts → Type 0
-Never name t = (y : Texts) → t ≡ name ∷ y → ⊥
-
-never_choice : (b : Bool) (S T : Type 0) (p q : Texts) (name : List ℕ) → MatchBool b S T → (S → Never name p) → (T → Never name q) → Never name (cond b p q)
-never_choice true S T p q name h f g = f h
-never_choice false S T p q name h f g = g h
-
-entries_never : (s : ℕ) (ss : SlotsTree) (es : EntriesTree) (name : List ℕ) → IsName name → Lacks name ss → EntriesShape s ss es → Never name (entries_texts s ss es)
-entries_never s no_slots no_entries name i l a y e = name_never name i (sym (heads _ _ _ _ e))
-entries_never s no_slots (entry_and t v es) name i l a y e = a
-entries_never s (slot_and spare_slot ss) es name i l a y e = entries_never (s + 1) ss es name i l a y e
-entries_never s (slot_and (subitem other k) ss) no_entries name i l a y e = entries_never (s + 1) ss no_entries name i l.1 a y e
-entries_never s (slot_and (subitem other k) ss) (entry_and t v es) name i l a y e =
-    never_choice (t == s) _ _ _ _ name a (λ h z f. l.0 (heads _ _ _ _ f)) (λ h z f. entries_never (s + 1) ss (entry_and t v es) name i l.1 h z f) y e
 
 -- ---- an entry of the first slot
 
@@ -122,10 +99,10 @@ entry_case : (b : Bool) (s : ℕ) (name : List ℕ) (k : KindTree) (ss : SlotsTr
     → name ∷ t ≡ cond b (name ∷ kind_onto k v (entries_texts (s + 1) ss es)) (entries_texts (s + 1) ss (entry_and u v es)) → EntryParts s name k ss (name ∷ t)
 entry_case true s name k ss u v es t i l h e =
     (slot_texts (subitem name k) v, entries_texts (s + 1) ss es, e ∙ ap (λ x. name ∷ x) (sym (kind_more k v [] (entries_texts (s + 1) ss es))), (v, h.0, refl), (es, h.1, refl))
-entry_case false s name k ss u v es t i l h e = absurd (entries_never (s + 1) ss (entry_and u v es) name i l h t (sym e))
+entry_case false s name k ss u v es t i l h e = absurd (entries_never (s + 1) ss (entry_and u v es) [] name i l h t (sym e))
 
 entry_back : (s : ℕ) (name : List ℕ) (k : KindTree) (ss : SlotsTree) → IsName name → Lacks name ss → (t : Texts) (es : EntriesTree) → EntriesShape s (slot_and (subitem name k) ss) es → name ∷ t ≡ entries_texts s (slot_and (subitem name k) ss) es → EntryParts s name k ss (name ∷ t)
-entry_back s name k ss i l t no_entries h e = absurd (entries_never (s + 1) ss no_entries name i l h t (sym e))
+entry_back s name k ss i l t no_entries h e = absurd (entries_never (s + 1) ss no_entries [] name i l h t (sym e))
 entry_back s name k ss i l t (entry_and u v es) h e = entry_case (u == s) s name k ss u v es t i l h e
 
 -- entries up to their brace have a text

@@ -1,13 +1,13 @@
 -- The first text of a value: there is one, and it is no brace that closes.
-use Rattle.std.proofs.Common.{◌≡◌, ℕ, ◌≤◌, List, [], ◌∷◌, refl, sym, ◌∙◌, arith}
+use Rattle.std.proofs.Common.{◌≡◌, ℕ, suc, ◌≤◌, List, [], ◌∷◌, refl, sym, ◌∙◌, arith}
 use Rattle.std.specs.Prelude.{decimal}
 use Rattle.ax_token_reader.specs.Stopping.{Texts}
 use Rattle.ax_model.specs.Shape.{NumberShape, FixedShape, Shape, EachShape}
 use Rattle.ax_model.specs.Tree.{FixedTree, element, group, KindTree, fixed, extended, counted, by_fx, explicit, compound, ValueTree, number, member_values, part_values, occurrences, content_octets, marked, ValuesTree, no_values, value_and}
 use Rattle.ax_text.proofs.Unique.{different, never_closes, small}
+use Rattle.ax_text.specs.Readable.{FixedReadable, Readable}
 use Rattle.ax_text.specs.ValueText.{opening, closing, hex_text, number_onto, fixed_onto, members_onto, parts_onto, each_onto, kind_onto, entries_onto}
-use Rattle.ax_block_reader.specs.Languages.{each_texts, AtMost}
-use Rattle.ax_block_reader.specs.Readable.{FixedReadable, Readable}
+use Rattle.ax_block_reader.specs.Languages.{each_texts, FewerThan}
 use Rattle.ax_block_reader.proofs.Continuations.{heads, tails, no_text}
 use Rattle.ax_block_reader.proofs.Collecting.{Closes}
 
@@ -37,10 +37,10 @@ quote_first octets e = let bad : 34 ≡ 125 = first_is 34 125 _ _ e in omega (ar
 
 pub kind_first : (k : KindTree) (v : ValueTree) (x : Texts) → Readable k → Shape k v → HasFirst (kind_onto k v x)
 kind_first (fixed f) v x r h = fixed_first f v x r h
-kind_first (extended ps) (part_values ls) x r h = opening_first (parts_onto ps ls (closing ∷ x))
-kind_first (extended ps) v x r h = absurd h
-kind_first (counted k) (occurrences vs) x r h = opening_first (each_onto (kind_onto k) vs (closing ∷ x))
-kind_first (counted k) v x r h = absurd h
+kind_first (extended last ps) (part_values ls) x r h = opening_first (parts_onto ps ls (closing ∷ x))
+kind_first (extended last ps) v x r h = absurd h
+kind_first (counted size k) (occurrences vs) x r h = opening_first (each_onto (kind_onto k) vs (closing ∷ x))
+kind_first (counted size k) v x r h = absurd h
 kind_first (by_fx f) (occurrences vs) x r h = opening_first (each_onto (fixed_onto f) vs (closing ∷ x))
 kind_first (by_fx f) v x r h = absurd h
 kind_first explicit (content_octets xs) x r h = record { text = hex_text xs; rest = x; is = refl; other = quote_first xs }
@@ -70,8 +70,5 @@ each_only R onto f t (value_and v vs) h e = absurd (first_other (onto v (each_te
 pub each_closes : (R : ValueTree → Type 0) (onto : ValueTree → Texts → Texts) → AllFirst R onto → Closes (EachShape R) (each_texts onto) no_values
 each_closes R onto f = record { shape = tt; texts = refl; some = λ m. each_some R onto f m.0 m.1 m.2; only = λ t m. each_only R onto f t m.0 m.1 m.2 }
 
-pub most_closes : (n : ℕ) (R : ValueTree → Type 0) (onto : ValueTree → Texts → Texts) → AllFirst R onto → Closes (AtMost n R) (each_texts onto) no_values
-most_closes n R onto f = record { shape = (zero_most n, tt); texts = refl; some = λ m. each_some R onto f m.0 m.1.1 m.2; only = λ t m. each_only R onto f t m.0 m.1.1 m.2 }
-  where
-    zero_most : (n : ℕ) → 0 ≤ n
-    zero_most n = omega arith
+pub fewer_closes : (n : ℕ) (R : ValueTree → Type 0) (onto : ValueTree → Texts → Texts) → AllFirst R onto → Closes (FewerThan (suc n) R) (each_texts onto) no_values
+fewer_closes n R onto f = record { shape = (omega arith, tt); texts = refl; some = λ m. each_some R onto f m.0 m.1.1 m.2; only = λ t m. each_only R onto f t m.0 m.1.1 m.2 }

@@ -5,23 +5,23 @@ use Rattle.std.proofs.lemmas.Nat.{pow_pos}
 use Rattle.ax_token_reader.specs.Stopping.{Texts, Stops, Word, One}
 use Rattle.ax_token_reader.specs.declared.stopped.Stopped.{Stopped}
 use Rattle.ax_token_reader.proofs.Stops.{same_lacks}
-use Rattle.ax_model.specs.Plain.{fixed_tree, member_tree, members_tree, value_tree, values_tree, fixed_step, member_step, value_step, entry_step}
+use Rattle.ax_model.proofs.VariantTrees.{element_tree as of_element, group_tree as of_group, number_value, group_value}
+use Rattle.ax_model.specs.Plain.{fixed_tree, member_tree, members_tree, value_tree, values_tree, fixed_step, member_step}
 use Rattle.ax_model.specs.Shape.{NumberShape, FixedShape, MembersShape}
 use Rattle.ax_model.specs.Tree.{FixedTree, element, group, MemberTree, named, spare, MembersTree, no_members, member_and, ValueTree, number, member_values, ValuesTree, no_values, value_and}
 use Rattle.ax_model.specs.declared.content.Content.{Content}
-use Rattle.ax_model.specs.declared.kind.Fixed.{Fixed, fold-roll-Fixed}
-use Rattle.ax_model.specs.declared.kind.Fixed.TheOpen.{Fixed-F, Member-F}
-use Rattle.ax_model.specs.declared.kind.Fixed.TheVariants.{Element, Group, rolls-Element, rolls-Group}
+use Rattle.ax_model.specs.declared.kind.Fixed.{Fixed}
+use Rattle.ax_model.specs.declared.kind.Fixed.TheOpen.{Member-F}
+use Rattle.ax_model.specs.declared.kind.Fixed.TheVariants.{Element, Group}
 use Rattle.ax_model.specs.declared.kind.Member.{Member, fold-roll-Member}
 use Rattle.ax_model.specs.declared.kind.Member.TheVariants.{Named, Spare, rolls-Named, rolls-Spare}
-use Rattle.ax_model.specs.declared.value.Value.{Value, fold-roll-Value}
-use Rattle.ax_model.specs.declared.value.Value.TheOpen.{Value-F}
-use Rattle.ax_model.specs.declared.value.Value.TheVariants.{Number, rolls-Number, Group as GroupOf, rolls-Group as rolls-GroupOf}
+use Rattle.ax_model.specs.declared.value.Value.{Value}
+use Rattle.ax_model.specs.declared.value.Value.TheVariants.{Number, Group as GroupOf}
+use Rattle.ax_text.specs.Readable.{FixedReadable, MemberReadable, MembersReadable}
 use Rattle.ax_text.specs.Slots.{MemberShape}
 use Rattle.ax_text.specs.ValueText.{opening, spare_word, number_onto, fixed_onto}
 use Rattle.ax_block_reader.specs.Continuing.{Done, Spelled, IsRead}
 use Rattle.ax_block_reader.specs.Languages.{IsNumberText, fixed_texts, member_texts, members_texts}
-use Rattle.ax_block_reader.specs.Readable.{FixedReadable, MemberReadable, MembersReadable}
 use Rattle.ax_block_reader.proofs.Continuations.{tails, no_text, word_read, lacks_there, Prefixed, prefix_lacks, prefix_read}
 use Rattle.ax_block_reader.proofs.Collecting.{prefix_is_read}
 
@@ -90,22 +90,16 @@ number_is_read w n old new lt e = record {
 -- ---- the trees of the code's variants
 
 pub element_tree : (fixed : Fixed) (w : ℕ) (c : Content) → fixed ≡ Element w c → fixed_tree fixed ≡ element w c
-element_tree fixed w c e = ap fixed_tree e ∙ ap fixed_tree (sym (rolls-Element w c)) ∙ fold-roll-Fixed FixedTree MemberTree fixed_step member_step (Fixed-F.Element w c)
+element_tree fixed w c e = ap fixed_tree e ∙ of_element w c
 
 pub group_tree : (fixed : Fixed) (ms : List Member) → fixed ≡ Group ms → fixed_tree fixed ≡ group (members_tree ms)
-group_tree fixed ms e = ap fixed_tree e ∙ ap fixed_tree (sym (rolls-Group ms)) ∙ fold-roll-Fixed FixedTree MemberTree fixed_step member_step (Fixed-F.Group ms)
+group_tree fixed ms e = ap fixed_tree e ∙ of_group ms
 
 pub named_tree : (member : Member) (name : List ℕ) (f : Fixed) → member ≡ Named name f → member_tree member ≡ named name (fixed_tree f)
 named_tree member name f e = ap member_tree e ∙ ap member_tree (sym (rolls-Named name f)) ∙ fold-roll-Member FixedTree MemberTree fixed_step member_step (Member-F.Named name f)
 
 pub spare_tree : (member : Member) (w : ℕ) → member ≡ Spare w → member_tree member ≡ spare w
 spare_tree member w e = ap member_tree e ∙ ap member_tree (sym (rolls-Spare w)) ∙ fold-roll-Member FixedTree MemberTree fixed_step member_step (Member-F.Spare w)
-
-pub number_tree : (n : ℕ) → value_tree (Number n) ≡ number n
-number_tree n = ap value_tree (sym (rolls-Number n)) ∙ fold-roll-Value ValueTree (ℕ × ValueTree) value_step entry_step (Value-F.Number n)
-
-pub values_group : (made : List Value) → value_tree (GroupOf made) ≡ member_values (values_tree made)
-values_group made = ap value_tree (sym (rolls-GroupOf made)) ∙ fold-roll-Value ValueTree (ℕ × ValueTree) value_step entry_step (Value-F.Group made)
 
 -- ---- a value of a fixed kind
 
@@ -114,7 +108,7 @@ element_way fixed w c stopped old new e s = subst (λ f. Stops stopped (AreFixed
 
 pub element_read : (fixed : Fixed) (w n : ℕ) (c : Content) (old new : Texts) → fixed ≡ Element w c → n < 2 ^ w → old ≡ (decimal n ∷ []) ++ new → IsRead (FixedShape (fixed_tree fixed)) (fixed_texts (fixed_tree fixed)) (value_tree (Number n)) old new
 element_read fixed w n c old new e lt s =
-    subst (λ v. IsRead (FixedShape (fixed_tree fixed)) (fixed_texts (fixed_tree fixed)) v old new) (sym (number_tree n))
+    subst (λ v. IsRead (FixedShape (fixed_tree fixed)) (fixed_texts (fixed_tree fixed)) v old new) (sym (number_value n))
     (subst (λ f. IsRead (FixedShape f) (fixed_texts f) (number n) old new) (sym (element_tree fixed w c e)) (number_is_read w n old new lt s))
 
 group_back : (ms : MembersTree) (t : Texts) (v : ValueTree) → FixedShape (group ms) v → t ≡ fixed_texts (group ms) v → (rest : Texts) × (t ≡ opening ∷ rest) × AreMembers ms rest
@@ -137,7 +131,7 @@ inside_way fixed ms stopped old mid new e h s =
 pub group_read : (fixed : Fixed) (ms : List Member) (made : List Value) (old mid new : Texts) → fixed ≡ Group ms → old ≡ (opening ∷ []) ++ mid → IsRead (MembersShape (members_tree ms)) (members_texts (members_tree ms)) (values_tree made) mid new
     → IsRead (FixedShape (fixed_tree fixed)) (fixed_texts (fixed_tree fixed)) (value_tree (GroupOf made)) old new
 group_read fixed ms made old mid new e h r =
-    subst (λ v. IsRead (FixedShape (fixed_tree fixed)) (fixed_texts (fixed_tree fixed)) v old new) (sym (values_group made))
+    subst (λ v. IsRead (FixedShape (fixed_tree fixed)) (fixed_texts (fixed_tree fixed)) v old new) (sym (group_value made))
     (subst (λ f. IsRead (FixedShape f) (fixed_texts f) (member_values (values_tree made)) old new) (sym (group_tree fixed ms e))
     (prefix_is_read opening (FixedShape (group (members_tree ms))) (fixed_texts (group (members_tree ms))) (MembersShape (members_tree ms)) (members_texts (members_tree ms)) (member_values (values_tree made)) (values_tree made) old mid new (group_prefixed (members_tree ms)) r.shape refl h r))
 
@@ -186,7 +180,7 @@ named_read member name word f v old mid new e same h r =
 
 pub spare_read : (member : Member) (w n : ℕ) (old mid new : Texts) → member ≡ Spare w → n < 2 ^ w → old ≡ (spare_word ∷ []) ++ mid → mid ≡ (decimal n ∷ []) ++ new → IsRead (MemberShape (member_tree member)) (member_texts (member_tree member)) (value_tree (Number n)) old new
 spare_read member w n old mid new e lt h s =
-    subst (λ v. IsRead (MemberShape (member_tree member)) (member_texts (member_tree member)) v old new) (sym (number_tree n))
+    subst (λ v. IsRead (MemberShape (member_tree member)) (member_texts (member_tree member)) v old new) (sym (number_value n))
     (subst (λ m. IsRead (MemberShape m) (member_texts m) (number n) old new) (sym (spare_tree member w e))
     (prefix_is_read spare_word (MemberShape (spare w)) (member_texts (spare w)) (NumberShape w) (λ v. number_onto v []) (number n) (number n) old mid new (spare_prefixed w) lt refl h (number_is_read w n mid new lt s)))
 

@@ -1,31 +1,33 @@
 -- Each way through the reader of a kind.
-use Rattle.std.proofs.Common.{◌≡◌, ℕ, suc, ◌<◌, List, [], ◌∷◌, ◌++◌, refl, sym, ◌∙◌, ap, subst, length, map, arith, Box, Global}
+use Rattle.std.proofs.Common.{◌≡◌, ℕ, suc, ◌^◌, ◌<◌, List, [], ◌∷◌, ◌++◌, refl, sym, ◌∙◌, ap, subst, length, map, arith, lit<, Box, Global}
 use Rattle.std.specs.List.{AllByRecursion}
 use Rattle.ax_token_reader.specs.Stopping.{Texts, Stops, IsNotFirst, Word}
 use Rattle.ax_token_reader.specs.declared.stopped.Stopped.{Stopped}
+use Rattle.ax_model.proofs.VariantTrees.{fixed_kind_tree, extended_tree, counted_tree, by_fx_tree, explicit_tree, compound_tree, lists_value, repeat_value, marked_value}
 use Rattle.ax_model.specs.Characters.{IsName}
-use Rattle.ax_model.specs.Plain.{fixed_tree, part_tree, kind_tree, slot_tree, slots_tree, kind_step, slot_step, value_tree, values_tree, lists_tree, entries_tree, value_step, entry_step}
+use Rattle.ax_model.specs.Plain.{fixed_tree, part_tree, kind_tree, slot_tree, slots_tree, kind_step, slot_step, value_tree, values_tree, lists_tree, entries_tree}
 use Rattle.ax_model.specs.Shape.{FixedShape, PartsShape, Shape, EntriesShape}
 use Rattle.ax_model.specs.Tree.{MembersTree, KindTree, fixed, extended, counted, by_fx, explicit, compound, SlotTree, SlotsTree, spare_slot, subitem, ValueTree, part_values, occurrences, marked, no_values, value_and, no_lists, list_and}
 use Rattle.ax_model.specs.declared.kind.Fixed.{Fixed}
-use Rattle.ax_model.specs.declared.kind.Kind.{Kind, fold-roll-Kind}
-use Rattle.ax_model.specs.declared.kind.Kind.TheOpen.{Kind-F, Slot-F}
+use Rattle.ax_model.specs.Widths.{counter_width}
+use Rattle.ax_model.specs.declared.kind.Counter.{Counter}
+use Rattle.ax_model.specs.declared.kind.Counter.TheVariants.{One, Two}
+use Rattle.ax_model.specs.declared.kind.Kind.{Kind}
+use Rattle.ax_model.specs.declared.kind.Kind.TheOpen.{Slot-F}
 use Rattle.ax_model.specs.declared.kind.Kind.TheVariants as KindOf
-use Rattle.ax_model.specs.declared.kind.Kind.TheVariants.{rolls-Fixed, rolls-Extended, rolls-Counted, rolls-ByFx, rolls-Explicit, rolls-Compound}
+use Rattle.ax_model.specs.declared.kind.LastPart.{LastPart}
 use Rattle.ax_model.specs.declared.kind.Part.{Part}
 use Rattle.ax_model.specs.declared.kind.Slot.{Slot, fold-roll-Slot}
 use Rattle.ax_model.specs.declared.kind.Slot.TheVariants.{Spare, Sub, rolls-Spare, rolls-Sub}
 use Rattle.ax_model.specs.declared.value.Entry.{Entry}
-use Rattle.ax_model.specs.declared.value.Value.{Value, fold-roll-Value}
-use Rattle.ax_model.specs.declared.value.Value.TheOpen.{Value-F}
+use Rattle.ax_model.specs.declared.value.Value.{Value}
 use Rattle.ax_model.specs.declared.value.Value.TheVariants as ValueOf
-use Rattle.ax_model.specs.declared.value.Value.TheVariants.{rolls-Extended as rolls-ExtendedOf, rolls-Repeat, rolls-Compound as rolls-CompoundOf}
+use Rattle.ax_text.specs.Readable.{FixedReadable, MembersReadable, Readable, SlotReadable, SlotsReadable}
 use Rattle.ax_text.specs.Slots.{SlotShape}
 use Rattle.ax_text.specs.ValueText.{opening, closing, fixed_onto, kind_onto}
 use Rattle.ax_block_reader.specs.Continuing.{Spelled, IsRead}
 use Rattle.ax_block_reader.specs.Entries.{slot_texts, SlotNamed, IsNotNamed, IsNamedAt}
-use Rattle.ax_block_reader.specs.Languages.{fixed_texts, kind_texts, parts_texts, each_texts, AtMost, SomeOf, entries_texts}
-use Rattle.ax_block_reader.specs.Readable.{FixedReadable, MembersReadable, Readable, SlotReadable, SlotsReadable}
+use Rattle.ax_block_reader.specs.Languages.{fixed_texts, kind_texts, parts_texts, each_texts, FewerThan, SomeOf, entries_texts}
 use Rattle.ax_block_reader.proofs.Continuations.{lacks_there, Prefixed, prefix_lacks, prefix_read}
 use Rattle.ax_block_reader.proofs.Collecting.{prefix_is_read}
 use Rattle.ax_block_reader.proofs.EntryWays.{entries_due}
@@ -37,31 +39,22 @@ AreKind k = Spelled (Shape k) (kind_texts k)
 -- ---- the trees of the code's variants
 
 fixed_kind : (kind : Kind) (f : Fixed) → kind ≡ KindOf.Fixed f → kind_tree kind ≡ fixed (fixed_tree f)
-fixed_kind kind f e = ap kind_tree e ∙ ap kind_tree (sym (rolls-Fixed f)) ∙ fold-roll-Kind KindTree SlotTree kind_step slot_step (Kind-F.Fixed f)
+fixed_kind kind f e = ap kind_tree e ∙ fixed_kind_tree f
 
-extended_kind : (kind : Kind) (ps : List Part) → kind ≡ KindOf.Extended ps → kind_tree kind ≡ extended (map part_tree ps)
-extended_kind kind ps e = ap kind_tree e ∙ ap kind_tree (sym (rolls-Extended ps)) ∙ fold-roll-Kind KindTree SlotTree kind_step slot_step (Kind-F.Extended ps)
+extended_kind : (kind : Kind) (last : LastPart) (ps : List Part) → kind ≡ KindOf.Extended last ps → kind_tree kind ≡ extended last (map part_tree ps)
+extended_kind kind last ps e = ap kind_tree e ∙ extended_tree last ps
 
-counted_kind : (kind : Kind) (inner : Box Kind Global) → kind ≡ KindOf.Counted inner → kind_tree kind ≡ counted (kind_tree inner.value)
-counted_kind kind inner e = ap kind_tree e ∙ ap kind_tree (sym (rolls-Counted inner)) ∙ fold-roll-Kind KindTree SlotTree kind_step slot_step (Kind-F.Counted inner)
+counted_kind : (kind : Kind) (size : Counter) (inner : Box Kind Global) → kind ≡ KindOf.Counted size inner → kind_tree kind ≡ counted size (kind_tree inner.value)
+counted_kind kind size inner e = ap kind_tree e ∙ counted_tree size inner
 
 by_fx_kind : (kind : Kind) (f : Fixed) → kind ≡ KindOf.ByFx f → kind_tree kind ≡ by_fx (fixed_tree f)
-by_fx_kind kind f e = ap kind_tree e ∙ ap kind_tree (sym (rolls-ByFx f)) ∙ fold-roll-Kind KindTree SlotTree kind_step slot_step (Kind-F.ByFx f)
+by_fx_kind kind f e = ap kind_tree e ∙ by_fx_tree f
 
 explicit_kind : (kind : Kind) → kind ≡ KindOf.Explicit → kind_tree kind ≡ explicit
-explicit_kind kind e = ap kind_tree e ∙ ap kind_tree (sym rolls-Explicit) ∙ fold-roll-Kind KindTree SlotTree kind_step slot_step Kind-F.Explicit
+explicit_kind kind e = ap kind_tree e ∙ explicit_tree
 
 compound_kind : (kind : Kind) (slots : List Slot) → kind ≡ KindOf.Compound slots → kind_tree kind ≡ compound (slots_tree slots)
-compound_kind kind slots e = ap kind_tree e ∙ ap kind_tree (sym (rolls-Compound slots)) ∙ fold-roll-Kind KindTree SlotTree kind_step slot_step (Kind-F.Compound slots)
-
-lists_value : (ls : List (List Value)) → value_tree (ValueOf.Extended ls) ≡ part_values (lists_tree ls)
-lists_value ls = ap value_tree (sym (rolls-ExtendedOf ls)) ∙ fold-roll-Value ValueTree (ℕ × ValueTree) value_step entry_step (Value-F.Extended ls)
-
-repeat_value : (vs : List Value) → value_tree (ValueOf.Repeat vs) ≡ occurrences (values_tree vs)
-repeat_value vs = ap value_tree (sym (rolls-Repeat vs)) ∙ fold-roll-Value ValueTree (ℕ × ValueTree) value_step entry_step (Value-F.Repeat vs)
-
-marked_value : (es : List Entry) → value_tree (ValueOf.Compound es) ≡ marked (entries_tree es)
-marked_value es = ap value_tree (sym (rolls-CompoundOf es)) ∙ fold-roll-Value ValueTree (ℕ × ValueTree) value_step entry_step (Value-F.Compound es)
+compound_kind kind slots e = ap kind_tree e ∙ compound_tree slots
 
 -- under the names of the code
 at_kind : (k j : KindTree) (v u : ValueTree) (old new : Texts) → k ≡ j → u ≡ v → IsRead (Shape j) (kind_texts j) v old new → IsRead (Shape k) (kind_texts k) u old new
@@ -84,86 +77,94 @@ explicit_way kind stopped old new e s = lacks_at (kind_tree kind) explicit stopp
 pub explicit_is_read : (kind : Kind) (v : ValueTree) (old new : Texts) → kind ≡ KindOf.Explicit → IsRead (Shape explicit) (kind_texts explicit) v old new → IsRead (Shape (kind_tree kind)) (kind_texts (kind_tree kind)) v old new
 explicit_is_read kind v old new e r = at_kind (kind_tree kind) explicit v v old new (explicit_kind kind e) refl r
 
--- ---- extended kinds
+-- ---- extended and closed kinds
 
 abbrev AreParts : List MembersTree → Texts → Type 0
 AreParts ps = Spelled (PartsShape ps) (parts_texts ps)
 
-extended_back : (ps : List MembersTree) (t : Texts) (v : ValueTree) → Shape (extended ps) v → t ≡ kind_texts (extended ps) v → (rest : Texts) × (t ≡ opening ∷ rest) × AreParts ps rest
-extended_back ps t (part_values ls) h e = (parts_texts ps ls, e, (ls, h, refl))
-extended_back ps t v h e = absurd h
+extended_back : (last : LastPart) (ps : List MembersTree) (t : Texts) (v : ValueTree) → Shape (extended last ps) v → t ≡ kind_texts (extended last ps) v → (rest : Texts) × (t ≡ opening ∷ rest) × AreParts ps rest
+extended_back last ps t (part_values ls) h e = (parts_texts ps ls, e, (ls, h, refl))
+extended_back last ps t v h e = absurd h
 
-extended_prefixed : (ps : List MembersTree) → Prefixed opening (AreParts ps) (AreKind (extended ps))
-extended_prefixed ps = record { put = λ t m. (part_values m.0, m.1, ap (λ x. opening ∷ x) m.2); taken = λ t m. extended_back ps t m.0 m.1 m.2 }
+extended_prefixed : (last : LastPart) (ps : List MembersTree) → Prefixed opening (AreParts ps) (AreKind (extended last ps))
+extended_prefixed last ps = record { put = λ t m. (part_values m.0, m.1, ap (λ x. opening ∷ x) m.2); taken = λ t m. extended_back last ps t m.0 m.1 m.2 }
 
 -- the first part, with numbers that are 0
 parts_due : (ps : List MembersTree) → 0 < length ps → (t : Texts) × AreParts ps t
 parts_due [] lt = absurd (omega (arith, lt))
 parts_due (p ∷ ps) lt = let d = members_due p in (parts_texts (p ∷ ps) (list_and d.0 no_lists), (list_and d.0 no_lists, d.1, refl))
 
-pub readable_parts : (kind : Kind) (ps : List Part) → kind ≡ KindOf.Extended ps → Readable (kind_tree kind) → AllByRecursion MembersReadable (map part_tree ps)
-readable_parts kind ps e r = let x : Readable (extended (map part_tree ps)) = subst Readable (extended_kind kind ps e) r in x.0
+pub readable_parts : (kind : Kind) (last : LastPart) (ps : List Part) → kind ≡ KindOf.Extended last ps → Readable (kind_tree kind) → AllByRecursion MembersReadable (map part_tree ps)
+readable_parts kind last ps e r = let x : Readable (extended last (map part_tree ps)) = subst Readable (extended_kind kind last ps e) r in x.0
 
 counted_parts : (ps : List Part) → length (map part_tree ps) ≡ length ps
 counted_parts [] = refl
 counted_parts (p ∷ ps) = ap suc (counted_parts ps)
 
-some_parts : (kind : Kind) (ps : List Part) → kind ≡ KindOf.Extended ps → Readable (kind_tree kind) → 0 < length (map part_tree ps)
-some_parts kind ps e r = let x : Readable (extended (map part_tree ps)) = subst Readable (extended_kind kind ps e) r in x.1
+some_parts : (kind : Kind) (last : LastPart) (ps : List Part) → kind ≡ KindOf.Extended last ps → Readable (kind_tree kind) → 0 < length (map part_tree ps)
+some_parts kind last ps e r = let x : Readable (extended last (map part_tree ps)) = subst Readable (extended_kind kind last ps e) r in x.1
 
-pub parts_there : (kind : Kind) (ps : List Part) → kind ≡ KindOf.Extended ps → Readable (kind_tree kind) → 0 < length ps
-parts_there kind ps e r = omega (arith, some_parts kind ps e r, counted_parts ps)
+pub parts_there : (kind : Kind) (last : LastPart) (ps : List Part) → kind ≡ KindOf.Extended last ps → Readable (kind_tree kind) → 0 < length ps
+parts_there kind last ps e r = omega (arith, some_parts kind last ps e r, counted_parts ps)
 
-pub extended_open : (kind : Kind) (ps : List Part) (stopped : Stopped) (old new : Texts) → kind ≡ KindOf.Extended ps → Readable (kind_tree kind) → Stops stopped (Word opening) old new → Stops stopped (AreKind (kind_tree kind)) old new
-extended_open kind ps stopped old new e r s =
-    let d = parts_due (map part_tree ps) (some_parts kind ps e r) in
-    lacks_at (kind_tree kind) (extended (map part_tree ps)) stopped old new (extended_kind kind ps e) (prefix_lacks opening (AreParts (map part_tree ps)) (AreKind (extended (map part_tree ps))) d.0 stopped old new (extended_prefixed (map part_tree ps)) d.1 s)
+pub extended_open : (kind : Kind) (last : LastPart) (ps : List Part) (stopped : Stopped) (old new : Texts) → kind ≡ KindOf.Extended last ps → Readable (kind_tree kind) → Stops stopped (Word opening) old new → Stops stopped (AreKind (kind_tree kind)) old new
+extended_open kind last ps stopped old new e r s =
+    let k = extended last (map part_tree ps) in
+    let d = parts_due (map part_tree ps) (some_parts kind last ps e r) in
+    lacks_at (kind_tree kind) k stopped old new (extended_kind kind last ps e) (prefix_lacks opening (AreParts (map part_tree ps)) (AreKind k) d.0 stopped old new (extended_prefixed last (map part_tree ps)) d.1 s)
 
-pub extended_inside : (kind : Kind) (ps : List Part) (stopped : Stopped) (old mid new : Texts) → kind ≡ KindOf.Extended ps → old ≡ (opening ∷ []) ++ mid → Stops stopped (AreParts (map part_tree ps)) mid new → Stops stopped (AreKind (kind_tree kind)) old new
-extended_inside kind ps stopped old mid new e h s =
-    lacks_at (kind_tree kind) (extended (map part_tree ps)) stopped old new (extended_kind kind ps e)
-    (lacks_there (AreKind (extended (map part_tree ps))) (AreParts (map part_tree ps)) stopped old mid new (prefix_read opening (AreParts (map part_tree ps)) (AreKind (extended (map part_tree ps))) old mid (extended_prefixed (map part_tree ps)) h) s)
+pub extended_inside : (kind : Kind) (last : LastPart) (ps : List Part) (stopped : Stopped) (old mid new : Texts) → kind ≡ KindOf.Extended last ps → old ≡ (opening ∷ []) ++ mid → Stops stopped (AreParts (map part_tree ps)) mid new → Stops stopped (AreKind (kind_tree kind)) old new
+extended_inside kind last ps stopped old mid new e h s =
+    let k = extended last (map part_tree ps) in
+    lacks_at (kind_tree kind) k stopped old new (extended_kind kind last ps e)
+    (lacks_there (AreKind k) (AreParts (map part_tree ps)) stopped old mid new (prefix_read opening (AreParts (map part_tree ps)) (AreKind k) old mid (extended_prefixed last (map part_tree ps)) h) s)
 
-pub extended_is_read : (kind : Kind) (ps : List Part) (ls : List (List Value)) (old mid new : Texts) → kind ≡ KindOf.Extended ps → old ≡ (opening ∷ []) ++ mid → IsRead (PartsShape (map part_tree ps)) (parts_texts (map part_tree ps)) (lists_tree ls) mid new
+pub extended_is_read : (kind : Kind) (last : LastPart) (ps : List Part) (ls : List (List Value)) (old mid new : Texts) → kind ≡ KindOf.Extended last ps → old ≡ (opening ∷ []) ++ mid → IsRead (PartsShape (map part_tree ps)) (parts_texts (map part_tree ps)) (lists_tree ls) mid new
     → IsRead (Shape (kind_tree kind)) (kind_texts (kind_tree kind)) (value_tree (ValueOf.Extended ls)) old new
-extended_is_read kind ps ls old mid new e h r =
-    let k = extended (map part_tree ps) in
-    at_kind (kind_tree kind) k (part_values (lists_tree ls)) (value_tree (ValueOf.Extended ls)) old new (extended_kind kind ps e) (lists_value ls)
-    (prefix_is_read opening (Shape k) (kind_texts k) (PartsShape (map part_tree ps)) (parts_texts (map part_tree ps)) (part_values (lists_tree ls)) (lists_tree ls) old mid new (extended_prefixed (map part_tree ps)) r.shape refl h r)
+extended_is_read kind last ps ls old mid new e h r =
+    let k = extended last (map part_tree ps) in
+    at_kind (kind_tree kind) k (part_values (lists_tree ls)) (value_tree (ValueOf.Extended ls)) old new (extended_kind kind last ps e) (lists_value ls)
+    (prefix_is_read opening (Shape k) (kind_texts k) (PartsShape (map part_tree ps)) (parts_texts (map part_tree ps)) (part_values (lists_tree ls)) (lists_tree ls) old mid new (extended_prefixed last (map part_tree ps)) r.shape refl h r)
 
--- ---- counted kinds
+-- ---- counted and wide kinds
 
-abbrev AreCounted : KindTree → Texts → Type 0
-AreCounted k = Spelled (AtMost 255 (Shape k)) (each_texts (kind_onto k))
+abbrev AreCounted : Counter → KindTree → Texts → Type 0
+AreCounted size k = Spelled (FewerThan (2 ^ counter_width size) (Shape k)) (each_texts (kind_onto k))
 
-counted_back : (k : KindTree) (t : Texts) (v : ValueTree) → Shape (counted k) v → t ≡ kind_texts (counted k) v → (rest : Texts) × (t ≡ opening ∷ rest) × AreCounted k rest
-counted_back k t (occurrences vs) h e = (each_texts (kind_onto k) vs, e, (vs, (omega (arith, h.0), h.1), refl))
-counted_back k t v h e = absurd h
+counted_back : (size : Counter) (k : KindTree) (t : Texts) (v : ValueTree) → Shape (counted size k) v → t ≡ kind_texts (counted size k) v → (rest : Texts) × (t ≡ opening ∷ rest) × AreCounted size k rest
+counted_back size k t (occurrences vs) h e = (each_texts (kind_onto k) vs, e, (vs, h, refl))
+counted_back size k t v h e = absurd h
 
-counted_prefixed : (k : KindTree) → Prefixed opening (AreCounted k) (AreKind (counted k))
-counted_prefixed k = record { put = λ t m. (occurrences m.0, (omega (arith, m.1.0), m.1.1), ap (λ x. opening ∷ x) m.2); taken = λ t m. counted_back k t m.0 m.1 m.2 }
+counted_prefixed : (size : Counter) (k : KindTree) → Prefixed opening (AreCounted size k) (AreKind (counted size k))
+counted_prefixed size k = record { put = λ t m. (occurrences m.0, m.1, ap (λ x. opening ∷ x) m.2); taken = λ t m. counted_back size k t m.0 m.1 m.2 }
 
-pub counted_open : (kind : Kind) (inner : Box Kind Global) (stopped : Stopped) (old new : Texts) → kind ≡ KindOf.Counted inner → Stops stopped (Word opening) old new → Stops stopped (AreKind (kind_tree kind)) old new
-counted_open kind inner stopped old new e s =
+none_counted : (size : Counter) (k : KindTree) → AreCounted size k (closing ∷ [])
+none_counted One k = (no_values, (lit< tt, tt), refl)
+none_counted Two k = (no_values, (lit< tt, tt), refl)
+
+pub counted_open : (kind : Kind) (size : Counter) (inner : Box Kind Global) (stopped : Stopped) (old new : Texts) → kind ≡ KindOf.Counted size inner → Stops stopped (Word opening) old new → Stops stopped (AreKind (kind_tree kind)) old new
+counted_open kind size inner stopped old new e s =
     let k = kind_tree inner.value in
-    lacks_at (kind_tree kind) (counted k) stopped old new (counted_kind kind inner e) (prefix_lacks opening (AreCounted k) (AreKind (counted k)) (closing ∷ []) stopped old new (counted_prefixed k) (no_values, (omega arith, tt), refl) s)
+    lacks_at (kind_tree kind) (counted size k) stopped old new (counted_kind kind size inner e) (prefix_lacks opening (AreCounted size k) (AreKind (counted size k)) (closing ∷ []) stopped old new (counted_prefixed size k) (none_counted size k) s)
 
-pub counted_inside : (kind held : Kind) (inner : Box Kind Global) (stopped : Stopped) (old mid new : Texts) → kind ≡ KindOf.Counted inner → held ≡ inner.value → old ≡ (opening ∷ []) ++ mid → Stops stopped (AreCounted (kind_tree held)) mid new → Stops stopped (AreKind (kind_tree kind)) old new
-counted_inside kind held inner stopped old mid new e same h s =
+pub counted_inside : (kind held : Kind) (size : Counter) (inner : Box Kind Global) (stopped : Stopped) (old mid new : Texts) → kind ≡ KindOf.Counted size inner → held ≡ inner.value → old ≡ (opening ∷ []) ++ mid → Stops stopped (AreCounted size (kind_tree held)) mid new
+    → Stops stopped (AreKind (kind_tree kind)) old new
+counted_inside kind held size inner stopped old mid new e same h s =
     let k = kind_tree inner.value in
-    lacks_at (kind_tree kind) (counted k) stopped old new (counted_kind kind inner e)
-    (lacks_there (AreKind (counted k)) (AreCounted k) stopped old mid new (prefix_read opening (AreCounted k) (AreKind (counted k)) old mid (counted_prefixed k) h) (subst (λ z. Stops stopped (AreCounted (kind_tree z)) mid new) same s))
+    lacks_at (kind_tree kind) (counted size k) stopped old new (counted_kind kind size inner e)
+    (lacks_there (AreKind (counted size k)) (AreCounted size k) stopped old mid new (prefix_read opening (AreCounted size k) (AreKind (counted size k)) old mid (counted_prefixed size k) h) (subst (λ z. Stops stopped (AreCounted size (kind_tree z)) mid new) same s))
 
-pub counted_is_read : (kind held : Kind) (inner : Box Kind Global) (vs : List Value) (old mid new : Texts) → kind ≡ KindOf.Counted inner → held ≡ inner.value → old ≡ (opening ∷ []) ++ mid
-    → IsRead (AtMost 255 (Shape (kind_tree held))) (each_texts (kind_onto (kind_tree held))) (values_tree vs) mid new → IsRead (Shape (kind_tree kind)) (kind_texts (kind_tree kind)) (value_tree (ValueOf.Repeat vs)) old new
-counted_is_read kind held inner vs old mid new e same h r =
+pub counted_is_read : (kind held : Kind) (size : Counter) (inner : Box Kind Global) (vs : List Value) (old mid new : Texts) → kind ≡ KindOf.Counted size inner → held ≡ inner.value → old ≡ (opening ∷ []) ++ mid
+    → IsRead (FewerThan (2 ^ counter_width size) (Shape (kind_tree held))) (each_texts (kind_onto (kind_tree held))) (values_tree vs) mid new → IsRead (Shape (kind_tree kind)) (kind_texts (kind_tree kind)) (value_tree (ValueOf.Repeat vs)) old new
+counted_is_read kind held size inner vs old mid new e same h r =
     let k = kind_tree inner.value in
-    let one : IsRead (AtMost 255 (Shape k)) (each_texts (kind_onto k)) (values_tree vs) mid new = subst (λ z. IsRead (AtMost 255 (Shape (kind_tree z))) (each_texts (kind_onto (kind_tree z))) (values_tree vs) mid new) same r in
-    at_kind (kind_tree kind) (counted k) (occurrences (values_tree vs)) (value_tree (ValueOf.Repeat vs)) old new (counted_kind kind inner e) (repeat_value vs)
-    (prefix_is_read opening (Shape (counted k)) (kind_texts (counted k)) (AtMost 255 (Shape k)) (each_texts (kind_onto k)) (occurrences (values_tree vs)) (values_tree vs) old mid new (counted_prefixed k) (omega (arith, one.shape.0), one.shape.1) refl h one)
+    let Few = FewerThan (2 ^ counter_width size) in
+    let one : IsRead (Few (Shape k)) (each_texts (kind_onto k)) (values_tree vs) mid new = subst (λ z. IsRead (Few (Shape (kind_tree z))) (each_texts (kind_onto (kind_tree z))) (values_tree vs) mid new) same r in
+    at_kind (kind_tree kind) (counted size k) (occurrences (values_tree vs)) (value_tree (ValueOf.Repeat vs)) old new (counted_kind kind size inner e) (repeat_value vs)
+    (prefix_is_read opening (Shape (counted size k)) (kind_texts (counted size k)) (Few (Shape k)) (each_texts (kind_onto k)) (occurrences (values_tree vs)) (values_tree vs) old mid new (counted_prefixed size k) one.shape refl h one)
 
-pub readable_counted : (kind held : Kind) (inner : Box Kind Global) → kind ≡ KindOf.Counted inner → held ≡ inner.value → Readable (kind_tree kind) → Readable (kind_tree held)
-readable_counted kind held inner e same r = subst (λ z. Readable (kind_tree z)) (sym same) (let x : Readable (counted (kind_tree inner.value)) = subst Readable (counted_kind kind inner e) r in x)
+pub readable_counted : (kind held : Kind) (size : Counter) (inner : Box Kind Global) → kind ≡ KindOf.Counted size inner → held ≡ inner.value → Readable (kind_tree kind) → Readable (kind_tree held)
+readable_counted kind held size inner e same r = subst (λ z. Readable (kind_tree z)) (sym same) (let x : Readable (counted size (kind_tree inner.value)) = subst Readable (counted_kind kind size inner e) r in x)
 
 -- ---- kinds that repeat by FX
 

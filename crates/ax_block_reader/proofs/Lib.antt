@@ -14,7 +14,6 @@ pub mod EntryWays
 pub mod KindWays
 pub mod RecordWays
 pub mod RecordListWays
-pub mod Readables
 pub mod Digits
 pub mod BlockWays
 pub mod Whole

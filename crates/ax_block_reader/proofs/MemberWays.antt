@@ -10,11 +10,11 @@ use Rattle.ax_model.specs.Tree.{MemberTree, named, spare, MembersTree, no_member
 use Rattle.ax_model.specs.declared.kind.Member.{Member}
 use Rattle.ax_model.specs.declared.value.Value.{Value}
 use Rattle.ax_text.proofs.Printed.{from_place}
+use Rattle.ax_text.specs.Readable.{MemberReadable, MembersReadable}
 use Rattle.ax_text.specs.Slots.{MemberShape}
 use Rattle.ax_text.specs.ValueText.{closing, member_onto}
 use Rattle.ax_block_reader.specs.Continuing.{Continues, Spelled, IsRead}
 use Rattle.ax_block_reader.specs.Languages.{member_texts, members_texts}
-use Rattle.ax_block_reader.specs.Readable.{MemberReadable, MembersReadable}
 use Rattle.ax_block_reader.proofs.Continuations.{no_text, tails, same_read, same_front}
 use Rattle.ax_block_reader.proofs.Collecting.{Collects, none_collected, more_collected, all_collected, same_put, left_lacks, one_collected, one_lacks, Closes, closing_read}
 use Rattle.ax_block_reader.proofs.FixedWays.{members_due_texts}

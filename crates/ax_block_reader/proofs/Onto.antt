@@ -42,10 +42,10 @@ choice_more false p q r s y e f = f
 mutual
   pub kind_more : (k : KindTree) (v : ValueTree) (x y : Texts) → kind_onto k v x ++ y ≡ kind_onto k v (x ++ y)
   kind_more (fixed f) v x y = fixed_more f v x y
-  kind_more (extended ps) (part_values ls) x y = ap (λ t. opening ∷ t) (parts_more ps ls (closing ∷ x) y)
-  kind_more (extended ps) v x y = refl
-  kind_more (counted k) (occurrences vs) x y = ap (λ t. opening ∷ t) (each_more (kind_onto k) (kind_more k) vs (closing ∷ x) y)
-  kind_more (counted k) v x y = refl
+  kind_more (extended last ps) (part_values ls) x y = ap (λ t. opening ∷ t) (parts_more ps ls (closing ∷ x) y)
+  kind_more (extended last ps) v x y = refl
+  kind_more (counted size k) (occurrences vs) x y = ap (λ t. opening ∷ t) (each_more (kind_onto k) (kind_more k) vs (closing ∷ x) y)
+  kind_more (counted size k) v x y = refl
   kind_more (by_fx f) (occurrences vs) x y = ap (λ t. opening ∷ t) (each_more (fixed_onto f) (fixed_more f) vs (closing ∷ x) y)
   kind_more (by_fx f) v x y = refl
   kind_more explicit (content_octets xs) x y = refl

@@ -1,8 +1,7 @@
 -- Each way through the readers of a record.
-use Rattle.std.proofs.Common.{◌≡◌, ℕ, ◌+◌, ◌<◌, ◌≤◌, Bool, true, false, cond, List, [], ◌∷◌, ◌++◌, refl, sym, ◌∙◌, ap, subst, length, drop, get_or, map, codes, Some, None}
-use Rattle.std.specs.Prelude.{bytes_eq, Option, Result}
+use Rattle.std.proofs.Common.{◌≡◌, ℕ, ◌+◌, ◌<◌, ◌≤◌, List, [], ◌∷◌, ◌++◌, refl, sym, ◌∙◌, ap, subst, length, drop, get_or, map, codes, Some, None}
+use Rattle.std.specs.Prelude.{Result}
 use Rattle.std.proofs.lemmas.List.{drop_all}
-use Rattle.std.proofs.lemmas.Slice.Eq.{bytes_eq-Decides}
 use Rattle.ax_token_reader.specs.Stopping.{Texts, Stops, IsNotFirst, Word}
 use Rattle.ax_token_reader.specs.declared.stopped.Stopped.{Stopped}
 use Rattle.ax_token_reader.proofs.Words.{not_first}
@@ -12,19 +11,20 @@ use Rattle.ax_model.specs.Characters.{IsName}
 use Rattle.ax_model.specs.Lookup.{item_of_slot}
 use Rattle.ax_model.specs.Plain.{item_tree, kind_tree, entries_tree}
 use Rattle.ax_model.specs.Shape.{Shape, EntriesShape}
-use Rattle.ax_model.specs.Specification.{ItemTree, SpecTree, first_named, slot_of_item, uap_slot, record_slots}
+use Rattle.ax_model.specs.Specification.{SpecTree, uap_slot, record_slots}
 use Rattle.ax_model.specs.Tree.{SlotTree, SlotsTree, no_slots, slot_and, spare_slot, subitem, slots_of, ValueTree, EntriesTree}
 use Rattle.ax_model.specs.declared.spec.Item.{Item}
 use Rattle.ax_model.specs.declared.spec.UapSlot.{UapSlot}
 use Rattle.ax_model.specs.declared.spec.UapSlot.TheVariants as Uap
 use Rattle.ax_model.specs.declared.value.Entry.{Entry}
 use Rattle.ax_text.proofs.Printed.{from_place}
+use Rattle.ax_text.proofs.Readables.{HasName, found_named}
+use Rattle.ax_text.specs.Readable.{Readable, SlotReadable}
 use Rattle.ax_text.specs.Slots.{SlotShape}
 use Rattle.ax_text.specs.ValueText.{opening, closing}
 use Rattle.ax_block_reader.specs.Continuing.{Spelled, IsRead, Gives}
 use Rattle.ax_block_reader.specs.Entries.{slot_texts, SlotNamed, IsNotNamed, IsNamedAt}
 use Rattle.ax_block_reader.specs.Languages.{kind_texts, entries_texts}
-use Rattle.ax_block_reader.specs.Readable.{Readable, SlotReadable}
 use Rattle.ax_block_reader.specs.Records.{braced_entries_texts, record_texts}
 use Rattle.ax_block_reader.proofs.Continuations.{lacks_there, Prefixed, prefix_lacks, prefix_read}
 use Rattle.ax_block_reader.proofs.Collecting.{prefix_is_read, prefix_gives}
@@ -32,19 +32,6 @@ use Rattle.ax_block_reader.proofs.EntryWays.{entries_due}
 use Rattle.ax_block_reader.proofs.KindWays.{slot_way, slot_is_read}
 
 -- ---- the slot of an item by its name
-
--- the slot is undefined, or has the name
-abbrev HasName : List ℕ → SlotTree → Type 0
-HasName name spare_slot = Unit {0}
-HasName name (subitem other k) = other ≡ name
-
-found_case : (b : Bool) (name : List ℕ) (item : ItemTree) (o : Option ItemTree) → bytes_eq item.name name ≡ b → HasName name (slot_of_item o) → HasName name (slot_of_item (cond b (Some item) o))
-found_case true name item o e h = (bytes_eq-Decides item.name name).0 e
-found_case false name item o e h = h
-
-found_named : (name : List ℕ) (items : List ItemTree) → HasName name (slot_of_item (first_named name items))
-found_named name [] = tt
-found_named name (item ∷ items) = found_case (bytes_eq item.name name) name item (first_named name items) refl (found_named name items)
 
 is_named : (name : List ℕ) (slot : SlotTree) → HasName name slot → IsName name → SlotNamed slot
 is_named name spare_slot h n = tt

@@ -1,6 +1,6 @@
 -- The texts of values, of their parts and of lists of them up to the brace that closes them. As languages they are what
 -- the definition of block texts gives for the shapes.
-use Rattle.std.specs.Prelude.{◌≡◌, ℕ, ◌^◌, ◌<◌, ◌≤◌, List, [], ◌∷◌, length, drop, decimal, Result, Ok, Err}
+use Rattle.std.specs.Prelude.{◌≡◌, ℕ, ◌^◌, ◌<◌, List, [], ◌∷◌, length, drop, decimal, Result, Ok, Err}
 use Rattle.hex.specs.Hex.{encode_lower}
 use Rattle.ax_bits.specs.Bits.{AreOctets}
 use Rattle.ax_token_reader.specs.Stopping.{Texts, IsNotFirst}
@@ -67,9 +67,9 @@ part_texts p vs = part_onto p vs []
 abbrev pub each_texts : (ValueTree → Texts → Texts) → ValuesTree → Texts
 each_texts onto vs = each_onto onto vs (closing ∷ [])
 
--- at most so many of them
-abbrev pub AtMost : ℕ → (ValueTree → Type 0) → ValuesTree → Type 0
-AtMost most R vs = (value_count vs ≤ most) × EachShape R vs
+-- fewer than so many of them
+abbrev pub FewerThan : ℕ → (ValueTree → Type 0) → ValuesTree → Type 0
+FewerThan bound R vs = (value_count vs < bound) × EachShape R vs
 
 -- one or more of them
 abbrev pub SomeOf : (ValueTree → Type 0) → ValuesTree → Type 0

@@ -1,7 +1,6 @@
 pub mod Continuing
 pub mod Languages
 pub mod Entries
-pub mod Readable
 pub mod Records
 pub mod BlockTexts
 pub mod BlockForms

@@ -2,10 +2,10 @@
 ghost use Rattle.std.specs.Prelude.{◌≡◌, ◌<◌, length, OnOk};
 ghost use Rattle.ax_model.specs.Plain.{fixed_tree, member_tree, members_tree, value_tree, values_tree};
 ghost use Rattle.ax_model.specs.Shape.{FixedShape, MembersShape};
+ghost use Rattle.ax_text.specs.Readable.{FixedReadable, MemberReadable, MembersReadable};
 ghost use Rattle.ax_text.specs.Slots.{MemberShape};
 ghost use Rattle.ax_block_reader.specs.Continuing.{Gives};
 ghost use Rattle.ax_block_reader.specs.Languages.{fixed_texts, member_texts, members_texts};
-ghost use Rattle.ax_block_reader.specs.Readable.{FixedReadable, MemberReadable, MembersReadable};
 
 use crate::numbers::number;
 use ax_model::{Fixed, Member, Members, Value, Values};

@@ -1,17 +1,18 @@
 //! Values of kinds.
-ghost use Rattle.std.specs.Prelude.{◌≡◌, ◌<◌, ◌≤◌, length, OnOk};
+ghost use Rattle.std.specs.Prelude.{◌≡◌, ◌^◌, ◌<◌, ◌≤◌, length, OnOk};
 ghost use Rattle.ax_model.specs.Plain.{kind_tree, slot_tree, slots_tree, value_tree, values_tree, entries_tree};
 ghost use Rattle.ax_model.specs.Shape.{Shape, EntriesShape};
+ghost use Rattle.ax_model.specs.Widths.{counter_width};
+ghost use Rattle.ax_text.specs.Readable.{Readable, SlotReadable, SlotsReadable};
 ghost use Rattle.ax_text.specs.ValueText.{kind_onto};
 ghost use Rattle.ax_block_reader.specs.Continuing.{Gives};
-ghost use Rattle.ax_block_reader.specs.Languages.{kind_texts, each_texts, AtMost, entries_texts};
+ghost use Rattle.ax_block_reader.specs.Languages.{kind_texts, each_texts, FewerThan, entries_texts};
 ghost use Rattle.ax_block_reader.specs.Entries.{SlotNamed, GivesSlot};
-ghost use Rattle.ax_block_reader.specs.Readable.{Readable, SlotReadable, SlotsReadable};
 
 use crate::extended::{parts_present, run_values};
 use crate::fixed::fixed_value;
 use crate::octets::explicit_value;
-use ax_model::{Entries, Entry, Kind, Slot, Slots, Value, Values};
+use ax_model::{Counter, Entries, Entry, Kind, Slot, Slots, Value, Values};
 use ax_token_reader::{Reader, Stopped};
 use std::alloc::Global;
 
@@ -36,14 +37,17 @@ pub(crate) fn kind_value(
             let value = explicit_value(alloc, reader)?;
             Ok(value)
         }
-        Kind::Extended(parts) => {
+        Kind::Extended { parts, .. } => {
             reader.expect(b"{")?;
             let lists = parts_present(alloc, reader, parts)?;
             Ok(Value::Extended(lists))
         }
-        Kind::Counted(inner) => {
+        Kind::Counted {
+            counter: size,
+            inner,
+        } => {
             reader.expect(b"{")?;
-            let values = counted_values(alloc, reader, inner)?;
+            let values = counted_values(alloc, reader, *size, inner)?;
             Ok(Value::Repeat(values))
         }
         Kind::ByFx(fixed) => {
@@ -59,20 +63,21 @@ pub(crate) fn kind_value(
     }
 }
 
-/// At most 255 values of a kind, and the brace after them.
+/// As many values of a kind as the counter can hold, or fewer, and the brace after them.
 #[cycle(kind_value)]
-#[tactic(auto, using(crate::proofs::CountedWays::counted_ways))]
 fn counted_values(
     alloc: Global,
     reader: &mut Reader<'_, '_>,
+    size: Counter,
     kind: &Kind,
 ) -> Result<Values, Stopped>
     requires { Readable (kind_tree kind.now) }
-    ensures gives { Gives values_tree (AtMost 255 (Shape (kind_tree kind.now))) (each_texts (kind_onto (kind_tree kind.now))) result reader.old reader.new }
+    ensures gives { Gives values_tree (FewerThan (2 ^ counter_width size) (Shape (kind_tree kind.now))) (each_texts (kind_onto (kind_tree kind.now))) result reader.old reader.new }
     ensures moves { OnOk result (length reader.new < length reader.old) }
 {
+    let most = size.greatest();
     let mut values = Values::new(alloc);
-    while values.count() < 255 {
+    while values.count() < most {
         if reader.takes(b"}")? {
             return Ok(values);
         }

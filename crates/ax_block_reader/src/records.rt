@@ -7,11 +7,11 @@ ghost use Rattle.ax_model.specs.Shape.{EntriesShape};
 ghost use Rattle.ax_model.specs.Specification.{uap_slot, record_slots};
 ghost use Rattle.ax_model.specs.Tree.{subitem};
 ghost use Rattle.ax_token_reader.specs.declared.stopped.Stopped.TheVariants.{Bad};
+ghost use Rattle.ax_text.specs.Readable.{SlotReadable, SlotsReadable};
 ghost use Rattle.ax_block_reader.specs.Continuing.{Gives};
 ghost use Rattle.ax_block_reader.specs.Entries.{SlotNamed, IsNotNamed, GivesSlot};
 ghost use Rattle.ax_block_reader.specs.Languages.{entries_texts};
 ghost use Rattle.ax_block_reader.specs.Records.{braced_entries_texts, record_texts, SomeRecords, records_texts, braced_records_texts};
-ghost use Rattle.ax_block_reader.specs.Readable.{SlotReadable, SlotsReadable};
 
 use crate::kinds::kind_value;
 use ax_model::{Entries, Entry, Item, Record, Records, UapSlot, Value};

@@ -57,3 +57,7 @@ PartMeans left left' taken taken' buffer buffer' buffered needed room (Err _) = 
 abbrev pub OnPartFault : Result ℕ NextError → Type 0 → Type 0
 OnPartFault (Err ReadFault) P = P
 OnPartFault _ P = Unit {0}
+
+abbrev pub UnlessReadFault : {A : Type 0} → Result A NextError → Type 0 → Type 0
+UnlessReadFault (Err ReadFault) P = Unit {0}
+UnlessReadFault _ P = P

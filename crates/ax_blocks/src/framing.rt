@@ -1,7 +1,7 @@
 //! The next block, taken into a buffer.
 ghost use Rattle.std.specs.Prelude.{◌≡◌, ◌+◌, ◌≤◌, ◌<◌, length, take, IfOk, OnErr};
 ghost use Rattle.ax_blocks.specs.Reader.{OnBlock, OnEnd, OnReadFault, FindsEnd, StopsUnfinished, HoldsBlock};
-ghost use Rattle.ax_blocks.specs.Taking.{PartMeans, OnPartFault};
+ghost use Rattle.ax_blocks.specs.Taking.{PartMeans, OnPartFault, UnlessReadFault};
 ghost use Rattle.ax_model.specs.Blocks.{IsFramed};
 ghost use Rattle.ax_model.specs.Framing.{len_of};
 ghost use Rattle.ax_model.specs.Sizes.{longest_block};
@@ -29,6 +29,8 @@ fn take_part<S: Source>(
     ensures means { PartMeans (S.left source.old) (S.left source.new) (S.taken source.old) (S.taken source.new) buffer.old buffer.new buffered needed room result }
     ensures rose { OnPartFault result (Rose (S.faults source.old) (S.faults source.new)) }
     ensures never_falls { S.faults source.old ≤ S.faults source.new }
+    ensures once { S.faults source.new ≤ S.faults source.old + 1 }
+    ensures quiet { UnlessReadFault result (S.faults source.new ≡ S.faults source.old) }
 {
     let wanted = if room < needed as u64 {
         room as usize + 1
@@ -61,6 +63,8 @@ pub fn next_length<S: Source>(
     ensures fault { OnReadFault result (StopsUnfinished limit given (S.left source.old) (S.left source.new) (S.taken source.old) (S.taken source.new)) }
     ensures rose { OnReadFault result (Rose (S.faults source.old) (S.faults source.new)) }
     ensures never_falls { S.faults source.old ≤ S.faults source.new }
+    ensures once { S.faults source.new ≤ S.faults source.old + 1 }
+    ensures quiet { UnlessReadFault result (S.faults source.new ≡ S.faults source.old) }
 {
     let room = limit - given;
     let buffered = take_part(source, buffer, 0, HEADER, room)?;

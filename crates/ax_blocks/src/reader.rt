@@ -4,6 +4,7 @@ ghost use Rattle.ax_model.specs.Sizes.{longest_block};
 
 use crate::framing::{next_length, raw_block};
 use crate::next_error::NextError;
+use ax_lists::zeros;
 use ax_model::RawBlock;
 use ax_outside::Source;
 use std::alloc::{AllocError, Global};
@@ -42,6 +43,7 @@ impl BlockReader {
     ghost use Rattle.std.specs.Borrow.{sem};
     ghost use Rattle.std.specs.Io.BufRead.{Rests};
     ghost use Rattle.ax_blocks.specs.Reader.{IsAfter, IsOpen, raw_tree, ended_by, OnBlock, OnEnd, OnTooLong, OnReadFault, GivesBlock, FindsEnd, StopsUnfinished};
+    ghost use Rattle.ax_blocks.specs.Taking.{UnlessReadFault};
     ghost use Rattle.ax_outside.specs.Told.{Rose};
     ghost use Rattle.ax_blocks.specs.contracts.reader.BlockReader.{the_row};
 
@@ -73,7 +75,8 @@ impl BlockReader {
     ///   source that doesn't tell its octets, only where the number of those taken passes the limit.
     /// - `EndsInHeader`, `BadLen` and `EndsInBlock` exactly where one or two octets are left, where LEN is below 4, and
     ///   where fewer octets than LEN are left.
-    /// - `ReadFault` only where the source counted a fault in this call; some octets of a block were taken then.
+    /// - `ReadFault` only where the source counted a fault in this call; some octets of a block were taken then. One fault
+    ///   at most is counted, and none at another answer: after a read that failed the source isn't asked again.
     ///
     /// After None or a refusal it gives the same answer again, and takes nothing.
     pub fn next<'b, S: Source>(
@@ -88,6 +91,8 @@ impl BlockReader {
         ensures fault { IsOpen self.old → OnReadFault result (StopsUnfinished self.old.limit self.old.given (S.left source.old) (S.left source.new) (S.taken source.old) (S.taken source.new)) }
         ensures rose { IsOpen self.old → OnReadFault result (Rose (S.faults source.old) (S.faults source.new)) }
         ensures never_falls { S.faults source.old ≤ S.faults source.new }
+        ensures once { S.faults source.new ≤ S.faults source.old + 1 }
+        ensures quiet { UnlessReadFault result (S.faults source.new ≡ S.faults source.old) }
     {
         match self.ended {
             Some(Ended::EndOfInput) => return Ok(None),
@@ -113,10 +118,3 @@ impl BlockReader {
 
 /// The most octets of a block.
 const LONGEST: usize = 65_535;
-
-// The buffer stands in a function of its own, so that no proof spells out its octets.
-fn zeros(alloc: Global, count: usize) -> Result<Vec<u8>, AllocError>
-    ensures { IfOk result (λ made. length made.items ≡ count) }
-{
-    vec![in alloc; 0; count]
-}

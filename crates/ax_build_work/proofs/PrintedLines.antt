@@ -1,5 +1,5 @@
 -- Lines in the form in which `text` prints them are answered with their blocks' octets.
-use Rattle.std.proofs.Common.{◌≡◌, ℕ, ◌+◌, ◌≤◌, List, [], ◌++◌, length, Some, sym, ◌∙◌, ap, subst, arith}
+use Rattle.std.proofs.Common.{◌≡◌, ℕ, ◌≤◌, List, [], ◌++◌, length, sym, ◌∙◌, ap, subst, arith}
 use Rattle.ax_bits.specs.Bits.{bits, AreOctets}
 use Rattle.ax_bits.specs.Out.{written}
 use Rattle.ax_bits.specs.declared.output.Out.{Out}

@@ -5,15 +5,9 @@ ghost use Rattle.ax_model.specs.CanonicalOctets.{framed};
 ghost use Rattle.ax_model.specs.Sizes.{longest_body};
 
 use ax_bits::Out;
+use ax_lists::zeros;
 use ax_values::write_opaque;
 use std::alloc::{AllocError, Global};
-
-/// So many octets, each 0. They stand in a function of their own, so that no proof spells them out.
-pub(crate) fn zeros(alloc: Global, count: usize) -> Result<Vec<u8>, AllocError>
-    ensures { IfOk result (λ made. length made.items ≡ count) }
-{
-    vec![in alloc; 0; count]
-}
 
 /// Fills a buffer of just its length with an opaque block.
 fn fill(category: u8, octets: &[u8], buffer: &mut [u8])

@@ -9,10 +9,10 @@ ghost use Rattle.ax_outside.specs.Changes.{sink_change, source_change};
 
 use crate::building::line_octets;
 use crate::fault::{BuildStop, TextFault};
-use crate::opaque::zeros;
 use ax_block_reader::items_of;
 use ax_check::Catalogue;
 use ax_line_stream::{LineStop, LineWork, LinesEnd, run_lines};
+use ax_lists::zeros;
 use ax_outside::{Sink, Source};
 use ax_uap::CatalogueItems;
 use std::alloc::Global;

@@ -12,6 +12,7 @@ use Rattle.ax_model.specs.Canonical.{canon, each_canon}
 use Rattle.ax_model.specs.Presence.{NoneUndefined}
 use Rattle.ax_model.specs.Tree.{KindTree, ValueTree, counted, no_values, value_and, no_entries, entry_and, SlotTree, slots_of, defined_slots}
 use Rattle.ax_model.specs.declared.fault.BodyFault.{BodyFault}
+use Rattle.ax_model.specs.declared.kind.Counter.{Counter}
 use Rattle.ax_tables.specs.Meaning.{meanings, linked_slots}
 use Rattle.ax_tables.specs.Table.{kind_at}
 use Rattle.ax_tables.specs.declared.node.Node.{Node}
@@ -60,38 +61,38 @@ each_off : (k : KindTree) (body : List ℕ) (m here : ℕ) (fault : BodyFault) �
 unfolding kind_read
 each_off k body m here fault l = record { place = l.place; failed = ap (λ r. both (λ v vs. value_and v vs) r (each_read (read k) m)) l.failed; bit = l.bit }
 
-pub record CountWrites (k : KindTree) (body : List ℕ) (n i at here : ℕ) (old now : Out) : Type 0 where
-  pub writes : Writes (each_canon (canon k)) (each_read (read k) (n - i) (bits (drop here body))) (canon (counted k)) (kind_read (counted k) body at) body at here old now
+pub record CountWrites (size : Counter) (k : KindTree) (body : List ℕ) (n i at here : ℕ) (old now : Out) : Type 0 where
+  pub writes : Writes (each_canon (canon k)) (each_read (read k) (n - i) (bits (drop here body))) (canon (counted size k)) (kind_read (counted size k) body at) body at here old now
 
-module _ (k : KindTree) (body : List ℕ) (m at here end : ℕ) (old now new : Out) (r : Rewrites (canon k) (kind_read k body here) body here end now new) where
-  one_more : Fronts (each_canon (canon k)) (each_read (read k) (suc m) (bits (drop here body))) (canon (counted k)) (kind_read (counted k) body at) body at here old now ⊎ ((fault : BodyFault) × FailsAt (kind_read (counted k) body at) at fault)
-      → Fronts (each_canon (canon k)) (each_read (read k) m (bits (drop end body))) (canon (counted k)) (kind_read (counted k) body at) body at end old new ⊎ ((fault : BodyFault) × FailsAt (kind_read (counted k) body at) at fault)
+module _ (size : Counter) (k : KindTree) (body : List ℕ) (m at here end : ℕ) (old now new : Out) (r : Rewrites (canon k) (kind_read k body here) body here end now new) where
+  one_more : Fronts (each_canon (canon k)) (each_read (read k) (suc m) (bits (drop here body))) (canon (counted size k)) (kind_read (counted size k) body at) body at here old now ⊎ ((fault : BodyFault) × FailsAt (kind_read (counted size k) body at) at fault)
+      → Fronts (each_canon (canon k)) (each_read (read k) m (bits (drop end body))) (canon (counted size k)) (kind_read (counted size k) body at) body at end old new ⊎ ((fault : BodyFault) × FailsAt (kind_read (counted size k) body at) at fault)
   one_more (inr l) = inr l
   one_more (inl f) = by r.state
     where
       by : ((v : _) × Gets (kind_read k body here) body here end v × Appends now new (canon k v)) ⊎ ((fault : BodyFault) × FailsAt (kind_read k body here) here fault)
-          → Fronts (each_canon (canon k)) (each_read (read k) m (bits (drop end body))) (canon (counted k)) (kind_read (counted k) body at) body at end old new ⊎ ((fault : BodyFault) × FailsAt (kind_read (counted k) body at) at fault)
-      by (inl (v, g, a)) = inl (fronts_by (each_canon (canon k)) (each_read (read k) m (bits (drop end body))) (each_canon (canon k)) (each_read (read k) (suc m) (bits (drop here body))) (canon (counted k)) (kind_read (counted k) body at) body at here end old now new (λ vs. value_and v vs) (canon k v) f
+          → Fronts (each_canon (canon k)) (each_read (read k) m (bits (drop end body))) (canon (counted size k)) (kind_read (counted size k) body at) body at end old new ⊎ ((fault : BodyFault) × FailsAt (kind_read (counted size k) body at) at fault)
+      by (inl (v, g, a)) = inl (fronts_by (each_canon (canon k)) (each_read (read k) m (bits (drop end body))) (each_canon (canon k)) (each_read (read k) (suc m) (bits (drop here body))) (canon (counted size k)) (kind_read (counted size k) body at) body at here end old now new (λ vs. value_and v vs) (canon k v) f
           (each_on k body m here end v g) a (λ vs last t. refl))
       by (inr (fault, l)) = inr (fault, f.fails fault (each_off k body m here fault l))
 
-pub count_next : (k : KindTree) (body : List ℕ) (n i at here end : ℕ) (old now new : Out) → CountWrites k body n i at here old now → i < n → Rewrites (canon k) (kind_read k body here) body here end now new → CountWrites k body n (i + 1) at end old new
-count_next k body n i at here end old now new h lt r = record {
+pub count_next : (size : Counter) (k : KindTree) (body : List ℕ) (n i at here end : ℕ) (old now new : Out) → CountWrites size k body n i at here old now → i < n → Rewrites (canon k) (kind_read k body here) body here end now new → CountWrites size k body n (i + 1) at end old new
+count_next size k body n i at here end old now new h lt r = record {
   writes = record {
     forwards = omega (arith, h.writes.forwards, r.forwards);
     within = r.within;
     room = r.room;
     some = some_more old now new h.writes.some r.some;
-    state = one_more k body (n - (i + 1)) at here end old now new r
-        (subst (λ m. Fronts (each_canon (canon k)) (each_read (read k) m (bits (drop here body))) (canon (counted k)) (kind_read (counted k) body at) body at here old now ⊎ ((fault : BodyFault) × FailsAt (kind_read (counted k) body at) at fault))
+    state = one_more size k body (n - (i + 1)) at here end old now new r
+        (subst (λ m. Fronts (each_canon (canon k)) (each_read (read k) m (bits (drop here body))) (canon (counted size k)) (kind_read (counted size k) body at) body at here old now ⊎ ((fault : BodyFault) × FailsAt (kind_read (counted size k) body at) at fault))
         (let e : n - i ≡ suc (n - (i + 1)) = omega arith in e) h.writes.state);
   };
 }
 
-pub count_last : (k : KindTree) (body : List ℕ) (n i at here : ℕ) (old now : Out) → CountWrites k body n i at here old now → n ≤ i → Rewrites (canon (counted k)) (kind_read (counted k) body at) body at here old now
-count_last k body n i at here old now h past =
+pub count_last : (size : Counter) (k : KindTree) (body : List ℕ) (n i at here : ℕ) (old now : Out) → CountWrites size k body n i at here old now → n ≤ i → Rewrites (canon (counted size k)) (kind_read (counted size k) body at) body at here old now
+count_last size k body n i at here old now h past =
     let none : each_read (read k) (n - i) (bits (drop here body)) ≡ got no_values 0 (bits (drop here body)) = ap (λ m. each_read (read k) m (bits (drop here body))) (let e : n - i ≡ 0 = omega arith in e) in
-    writes_end (each_canon (canon k)) (each_read (read k) (n - i) (bits (drop here body))) (canon (counted k)) (kind_read (counted k) body at) body at here old now no_values h.writes
+    writes_end (each_canon (canon k)) (each_read (read k) (n - i) (bits (drop here body))) (canon (counted size k)) (kind_read (counted size k) body at) body at here old now no_values h.writes
     (record { forwards = omega arith; within = h.writes.within; got = none ∙ ap (λ m. got no_values m (bits (drop here body))) (let e : 0 ≡ 8 * (here - here) = omega arith in e) }) refl
 
 -- ---- marked slots

@@ -8,6 +8,7 @@ use Rattle.ax_fspec.specs.declared.mask.SlotMask.{SlotMask}
 use Rattle.ax_model.specs.Canonical.{canon}
 use Rattle.ax_model.specs.InBounds.{InBounds}
 use Rattle.ax_model.specs.Reader.{read}
+use Rattle.ax_model.specs.declared.kind.Counter.{Counter}
 use Rattle.ax_model.specs.Tree.{KindTree, counted, ValueTree}
 use Rattle.ax_model.specs.declared.fault.BodyFault.{BodyFault}
 use Rattle.ax_reader.specs.Reading.{Gets, FailsAt, IsMaskOf, kind_read}
@@ -46,20 +47,20 @@ module _ (item : ItemView) (whole : item.by_fx ≡ false) (one : Node) (at : one
   module _ (ns : List Node) (same : ns ≡ item.codec.now.nodes) where
     -- ---- counted
 
-    module _ (inner : ℕ) (is : one ≡ Of.Counted inner) where
-      counted_is : item_kind item ≡ counted (kind_at item.codec.now.nodes inner)
-      counted_is = is_counted item.codec.now.nodes item.link one item.codec.now.table item.item.some item.item.within at inner is
+    module _ (size : Counter) (inner : ℕ) (is : one ≡ Of.Counted size inner) where
+      counted_is : item_kind item ≡ counted size (kind_at item.codec.now.nodes inner)
+      counted_is = is_counted item.codec.now.nodes item.link one item.codec.now.table item.item.some item.item.within at size inner is
 
       pub inner_link : (0 < inner) × (inner ≤ length ns)
       inner_link =
-          let l = counted_link item.codec.now.nodes item.link one item.codec.now.table item.item.some item.item.within at inner is in
+          let l = counted_link item.codec.now.nodes item.link one item.codec.now.table item.item.some item.item.within at size inner is in
           (l.0, omega (arith, l.1, item.item.within, ap length same))
 
       pub inner_bounds : InBounds (kind_at ns inner)
-      inner_bounds = let b : InBounds (counted (kind_at item.codec.now.nodes inner)) = subst InBounds counted_is item_bounds in subst (λ ns. InBounds (kind_at ns inner)) (sym same) b
+      inner_bounds = let b : InBounds (counted size (kind_at item.codec.now.nodes inner)) = subst InBounds counted_is item_bounds in subst (λ ns. InBounds (kind_at ns inner)) (sym same) b
 
-      pub counted_item : (octets : List ℕ) (end : ℕ) (old new : Out) → octets ≡ item.body.now → Rewrites (canon (counted (kind_at ns inner))) (kind_read (counted (kind_at ns inner)) octets 0) octets 0 end old new → Appends old new (canon (item_kind item) (item_value item))
-      counted_item octets end old new f r = written_as (counted (kind_at ns inner)) octets end old new (counted_is ∙ ap (λ ns. counted (kind_at ns inner)) (sym same)) f r
+      pub counted_item : (octets : List ℕ) (end : ℕ) (old new : Out) → octets ≡ item.body.now → Rewrites (canon (counted size (kind_at ns inner))) (kind_read (counted size (kind_at ns inner)) octets 0) octets 0 end old new → Appends old new (canon (item_kind item) (item_value item))
+      counted_item octets end old new f r = written_as (counted size (kind_at ns inner)) octets end old new (counted_is ∙ ap (λ ns. counted size (kind_at ns inner)) (sym same)) f r
 
     -- ---- compounds
 
@@ -81,16 +82,16 @@ module _ (item : ItemView) (whole : item.by_fx ≡ false) (one : Node) (at : one
 
   -- ---- any other kind
 
-  plain_node : (n : Node) → one ≡ n → ((inner : ℕ) → one ≡ Of.Counted inner → ⊥) → ((mask : SlotMask) (links : List ℕ) → one ≡ Of.Compound mask links → ⊥) → IsPlain (item_kind item)
+  plain_node : (n : Node) → one ≡ n → ((size : Counter) (inner : ℕ) → one ≡ Of.Counted size inner → ⊥) → ((mask : SlotMask) (links : List ℕ) → one ≡ Of.Compound mask links → ⊥) → IsPlain (item_kind item)
   plain_node (Of.Element w) e c d = subst IsPlain (sym (is_element item.codec.now.nodes item.link one item.codec.now.table item.item.some item.item.within at w e)) tt
   plain_node (Of.Group w links) e c d = subst IsPlain (sym (is_group item.codec.now.nodes item.link one item.codec.now.table item.item.some item.item.within at w links e)) tt
   plain_node (Of.Part w links) e c d = absurd (is_part item.codec.now.nodes item.link one item.codec.now.table item.item.some item.item.within at w links e item_bounds)
-  plain_node (Of.Extended links) e c d = subst IsPlain (sym (is_extended item.codec.now.nodes item.link one item.codec.now.table item.item.some item.item.within at links links e refl)) tt
-  plain_node (Of.Counted inner) e c d = absurd (c inner e)
+  plain_node (Of.Extended last links) e c d = subst IsPlain (sym (is_extended item.codec.now.nodes item.link one item.codec.now.table item.item.some item.item.within at last links links e refl)) tt
+  plain_node (Of.Counted size inner) e c d = absurd (c size inner e)
   plain_node (Of.ByFx inner) e c d = subst IsPlain (sym (is_by_fx item.codec.now.nodes item.link one item.codec.now.table item.item.some item.item.within at inner e)) tt
   plain_node Of.Explicit e c d = subst IsPlain (sym (is_explicit item.codec.now.nodes item.link one item.codec.now.table item.item.some item.item.within at e)) tt
   plain_node (Of.Compound mask links) e c d = absurd (d mask links e)
 
-  pub plain_item : (octets : List ℕ) (old new : Out) → ((inner : ℕ) → one ≡ Of.Counted inner → ⊥) → ((mask : SlotMask) (links : List ℕ) → one ≡ Of.Compound mask links → ⊥) → octets ≡ item.body.now → Appends old new (bits octets)
+  pub plain_item : (octets : List ℕ) (old new : Out) → ((size : Counter) (inner : ℕ) → one ≡ Of.Counted size inner → ⊥) → ((mask : SlotMask) (links : List ℕ) → one ≡ Of.Compound mask links → ⊥) → octets ≡ item.body.now → Appends old new (bits octets)
       → Appends old new (canon (item_kind item) (item_value item))
   plain_item octets old new c d f a = subst (Appends old new) (ap bits f ∙ sym (leaf_canonical (item_kind item) item.body.now (plain_node one refl c d) item_bounds item_one)) a

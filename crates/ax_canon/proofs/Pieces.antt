@@ -1,5 +1,5 @@
 -- What is copied and what is written anew.
-use Rattle.std.proofs.Common.{◌≡◌, ℕ, ◌+◌, ◌-◌, ◌*◌, ◌<◌, ◌≤◌, ◌⊎◌, inl, inr, Bool, true, IsTrue, List, [], ◌∷◌, ◌++◌, length, take, drop, get_or, refl, sym, ◌∙◌, ap, arith, subst}
+use Rattle.std.proofs.Common.{◌≡◌, ℕ, ◌+◌, ◌-◌, ◌*◌, ◌<◌, ◌≤◌, ◌⊎◌, inl, inr, Bool, true, IsTrue, List, [], ◌∷◌, ◌++◌, length, take, drop, refl, sym, ◌∙◌, ap, arith, subst}
 use Rattle.std.proofs.lemmas.List.{append_cancel_right}
 use Rattle.ax_bits.proofs.Outputs.{appends_none, appends_more}
 use Rattle.ax_bits.proofs.Pieces.{number-word}
@@ -15,21 +15,24 @@ use Rattle.ax_fspec.specs.declared.mask.SlotMask.{SlotMask}
 use Rattle.ax_model.proofs.Bounds.{count_of_slots}
 use Rattle.ax_model.proofs.Least.{marks_of_spelled}
 use Rattle.ax_model.proofs.Meets.{none_marked_left}
+use Rattle.ax_model.proofs.WholeOctets.{counter_in_octets}
 use Rattle.ax_model.specs.Reader.{Read, after, read, each_read, count_read}
 use Rattle.ax_model.specs.Canonical.{canon, each_canon, marks_of}
 use Rattle.ax_model.specs.InBounds.{InBounds}
 use Rattle.ax_model.specs.Presence.{octets_needed, none_marked, least_presence, NoneUndefined}
 use Rattle.ax_model.specs.Tree.{KindTree, ValueTree, EntriesTree, counted, occurrences, value_count, compound, marked, SlotTree, spare_slot, subitem, slots_of, slot_count, defined_slots}
+use Rattle.ax_model.specs.Widths.{counter_octets, counter_width}
 use Rattle.ax_model.specs.declared.fault.BodyCause.TheVariants.{RunsOut}
 use Rattle.ax_model.specs.declared.fault.BodyFault.{BodyFault}
 use Rattle.ax_tables.specs.Meaning.{meanings, linked_slots}
 use Rattle.ax_tables.specs.Table.{record_kind_at}
 use Rattle.ax_tables.specs.declared.node.Node.{Node}
+use Rattle.ax_model.specs.declared.kind.Counter.{Counter}
 use Rattle.ax_reader.proofs.AtOctets.{octets_parts, length-octets}
 use Rattle.ax_reader.proofs.Continuing.{gets_after, fails_after}
-use Rattle.ax_reader.proofs.Counting.{front_octet, counted_none}
+use Rattle.ax_reader.proofs.Counting.{front_count, counted_none}
 use Rattle.ax_reader.proofs.Marking.{field_read, marks_bits}
-use Rattle.ax_reader.specs.Reading.{Gets, FailsAt, IsMaskOf, kind_read, entries_at}
+use Rattle.ax_reader.specs.Reading.{Gets, FailsAt, Continues, IsCount, IsMaskOf, kind_read, entries_at}
 use Rattle.ax_view.proofs.Compounds.{marks_clear}
 use Rattle.ax_view.proofs.FieldSteps.{along_is, spelled}
 use Rattle.ax_view.proofs.CountedSteps.{each_count}
@@ -64,35 +67,49 @@ as_kind j k body at end old new e r = subst (λ k. Rewrites (canon k) (kind_read
 
 -- ---- counted
 
-pub no_count : (k : KindTree) (body : List ℕ) (at : ℕ) (out : Out) → length body ≤ at → at ≤ length body → 8 * (length body - at) ≤ room out → Rewrites (canon (counted k)) (kind_read (counted k) body at) body at at out out
-no_count k body at out past le free = let f : BodyFault = record { cause = RunsOut; bit = 8 * at } in not_copied (canon (counted k)) (kind_read (counted k) body at) body at out f le free (counted_none k body at f past refl refl)
+pub no_count : (size : Counter) (k : KindTree) (body : List ℕ) (at : ℕ) (out : Out) → length body < at + counter_octets size → at ≤ length body → 8 * (length body - at) ≤ room out
+    → Rewrites (canon (counted size k)) (kind_read (counted size k) body at) body at at out out
+no_count size k body at out short le free =
+    let f : BodyFault = record { cause = RunsOut; bit = 8 * at } in not_copied (canon (counted size k)) (kind_read (counted size k) body at) body at out f le free (counted_none size k body at f short refl refl)
 
-pub count_first : (k : KindTree) (body : List ℕ) (n at : ℕ) (old now : Out) → at < length body → n ≡ get_or body at 0 → n < 256 → 8 * (length body - at) ≤ room old → Appends old now (word 8 n) → CountWrites k body n 0 at (at + 1) old now
-unfolding kind_read
-count_first k body n at old now lt e small free a = record {
-  writes = record {
+module _ (size : Counter) (k : KindTree) (body : List ℕ) (n at : ℕ) (old now : Out) (h : IsCount size body at n) (free : 8 * (length body - at) ≤ room old) where
+  abbrev after_counter : ℕ
+  after_counter = at + counter_octets size
+
+  counter_read : Continues (kind_read (counted size k) body at) at after_counter (λ vs. occurrences vs) (each_read (read k) (n - 0) (bits (drop after_counter body)))
+  unfolding kind_read
+  counter_read = record {
     forwards = omega arith;
-    within = omega arith;
-    room = omega (arith, a.room, length-word 8 n);
-    some = (word 8 n, a);
-    state = inl (fronts_by (each_canon (canon k)) (each_read (read k) (n - 0) (bits (drop (at + 1) body))) (canon (counted k)) (kind_read (counted k) body at) (canon (counted k)) (kind_read (counted k) body at) body at at (at + 1) old old now (λ vs. occurrences vs) (word 8 n)
-        (fronts_none (canon (counted k)) (kind_read (counted k) body at) body at old)
-        (record {
-          forwards = omega arith;
-          same = ap (count_read (read k)) (front_octet body at n lt e) ∙ (λ i. after (eight i) (λ vs. occurrences vs) (each_read (read k) (times i) (bits (drop (at + 1) body))));
-        })
-        a
-        (λ vs last g. (
-        let count : value_count vs ≡ n - 0 = each_count (read k) (n - 0) (8 * (last - (at + 1))) (bits (drop (at + 1) body)) (bits (drop last body)) vs g.got in
-        ap (λ m. word 8 m ++ each_canon (canon k) vs) (let e : value_count vs ≡ n = omega arith in e))));
-  };
-}
-  where
-    eight : 8 ≡ 8 * (at + 1 - at)
-    eight = omega arith
+    same = ap (count_read (counter_width size) (read k)) (front_count size body at n h) ∙ (λ i. after (width i) (λ vs. occurrences vs) (each_read (read k) (times i) (bits (drop after_counter body))));
+  }
+    where
+      width : counter_width size ≡ 8 * (after_counter - at)
+      width = omega (arith, counter_in_octets size)
 
-    times : number_of (word 8 n) ≡ n - 0
-    times = number-word 8 n small ∙ omega arith
+      times : number_of (word (counter_width size) n) ≡ n - 0
+      times = number-word (counter_width size) n h.below ∙ omega arith
+
+  first_written : Appends old now (bits (take (after_counter - at) (drop at body))) → CountWrites size k body n 0 at after_counter old now
+  first_written a = record {
+    writes = record {
+      forwards = omega arith;
+      within = h.within;
+      room = omega (arith, own.room, length-word (counter_width size) n, counter_in_octets size, h.within);
+      some = (word (counter_width size) n, own);
+      state = inl (fronts_by (each_canon (canon k)) (each_read (read k) (n - 0) (bits (drop after_counter body))) (canon (counted size k)) (kind_read (counted size k) body at) (canon (counted size k)) (kind_read (counted size k) body at) body at at after_counter old old now
+          (λ vs. occurrences vs) (word (counter_width size) n) (fronts_none (canon (counted size k)) (kind_read (counted size k) body at) body at old) counter_read own
+          (λ vs last g. (
+          let count : value_count vs ≡ n - 0 = each_count (read k) (n - 0) (8 * (last - after_counter)) (bits (drop after_counter body)) (bits (drop last body)) vs g.got in
+          ap (λ m. word (counter_width size) m ++ each_canon (canon k) vs) (let e : value_count vs ≡ n = omega arith in e))));
+    };
+  }
+    where
+      own : Appends old now (word (counter_width size) n)
+      own = subst (Appends old now) (ap (λ m. bits (take m (drop at body))) (let e : after_counter - at ≡ counter_octets size = omega arith in e) ∙ sym h.spells) a
+
+  -- the counter's octets are copied
+  pub count_first : (octets : ℕ) → octets ≡ counter_octets size → Appends old now (bits (take (at + octets - at) (drop at body))) → CountWrites size k body n 0 at (at + octets) old now
+  count_first octets e a = subst (λ m. CountWrites size k body n 0 at (at + m) old now) (sym e) (first_written (subst (λ m. Appends old now (bits (take (at + m - at) (drop at body)))) e a))
 
 -- ---- a compound or a record
 

@@ -19,8 +19,8 @@ pub fn canonical_item(codec: &Codec, item: &ItemView<'_, '_>, out: &mut Out<'_>)
 {
     let nodes = codec.nodes.as_slice();
     match item.node() {
-        Node::Counted { inner } => {
-            rewrite_counted(nodes, *inner, item.octets(), 0, out);
+        Node::Counted { counter, inner } => {
+            rewrite_counted(nodes, *counter, *inner, item.octets(), 0, out);
         }
         Node::Compound { mask, slots } => {
             rewrite_compound(nodes, mask, slots.as_slice(), item.octets(), 0, out);

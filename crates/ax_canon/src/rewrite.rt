@@ -17,6 +17,8 @@ ghost use Rattle.ax_view.specs.Walking.{along};
 
 use ax_bits::Out;
 use ax_fspec::{Presence, SlotMask, read_presence, write_presence};
+use ax_model::Counter;
+use ax_reader::count_at;
 use ax_tables::{Codec, Node};
 use ax_view::{Notes, walk, walk_record};
 
@@ -56,7 +58,9 @@ fn rewrite(nodes: &[Node], link: u32, body: &[u8], at: u32, out: &mut Out<'_>) -
     ensures { Rewrites (canon (kind_at nodes.now link)) (kind_read (kind_at nodes.now link) body.now at) body.now at result out.old out.new }
 {
     match &nodes[link as usize - 1] {
-        Node::Counted { inner } => rewrite_counted(nodes, *inner, body, at, out),
+        Node::Counted { counter, inner } => {
+            rewrite_counted(nodes, *counter, *inner, body, at, out)
+        }
         Node::Compound { mask, slots } => {
             rewrite_compound(nodes, mask, slots.as_slice(), body, at, out)
         }
@@ -90,10 +94,11 @@ fn copy(nodes: &[Node], link: u32, body: &[u8], at: u32, out: &mut Out<'_>) -> u
     }
 }
 
-/// Appends the canonical spelling of a counted item.
+/// Appends the canonical spelling of a counted or wide item.
 #[cycle(rewrite)]
 pub(crate) fn rewrite_counted(
     nodes: &[Node],
+    size: Counter,
     inner: u32,
     body: &[u8],
     at: u32,
@@ -105,14 +110,13 @@ pub(crate) fn rewrite_counted(
     requires body { length body.now ≤ longest_body }
     requires at { at ≤ length body.now }
     requires room { 8 * (length body.now - at) ≤ room out.old }
-    ensures { Rewrites (canon (Tree.counted (kind_at nodes.now inner))) (kind_read (Tree.counted (kind_at nodes.now inner)) body.now at) body.now at result out.old out.new }
+    ensures { Rewrites (canon (Tree.counted size (kind_at nodes.now inner))) (kind_read (Tree.counted size (kind_at nodes.now inner)) body.now at) body.now at result out.old out.new }
 {
-    if at as usize >= body.len() {
+    let Some(count) = count_at(body, at, size) else {
         return at;
-    }
-    let count = body[at as usize];
-    out.push_octet(count);
-    let mut here = at + 1;
+    };
+    let mut here = at + size.octets();
+    out.push_octets(&body[at as usize..here as usize]);
     for _ in 0..count {
         here = rewrite(nodes, inner, body, here, out);
     }

@@ -5,6 +5,7 @@ use Rattle.ax_model.specs.Lengths.{slot_kind}
 use Rattle.ax_model.specs.Lookup.{item_of_frn}
 use Rattle.ax_model.specs.Plain.{kind_tree, member_tree, members_tree, part_tree, spec_tree}
 use Rattle.ax_model.specs.Tree.{FixedTree, element, group, MembersTree, KindTree, extended, compound, SlotsTree}
+use Rattle.ax_model.specs.declared.kind.LastPart.{LastPart}
 use Rattle.ax_model.specs.declared.content.Content.{Content}
 use Rattle.ax_model.specs.declared.kind.Member.{Member}
 use Rattle.ax_model.specs.declared.kind.Part.{Part}
@@ -72,19 +73,19 @@ into_slot steps later n k inner ss e g found = ap (λ s. kind_element s k) e ∙
 pub no_slot : (steps later : List ℕ) (n : ℕ) (k : KindTree) (ss : SlotsTree) → steps ≡ n ∷ later → k ≡ compound ss → slot_kind ss n ≡ None → kind_element steps k ≡ None
 no_slot steps later n k ss e g none = ap (λ s. kind_element s k) e ∙ ap (kind_element (n ∷ later)) g ∙ ap (option_and_then (kind_element later)) none
 
-pub into_part : (steps below later : List ℕ) (p i : ℕ) (k : KindTree) (inner : FixedTree) (ps : List MembersTree) → steps ≡ p ∷ below → below ≡ i ∷ later → k ≡ extended ps → part_fixed p i ps ≡ Some inner
+pub into_part : (last : LastPart) (steps below later : List ℕ) (p i : ℕ) (k : KindTree) (inner : FixedTree) (ps : List MembersTree) → steps ≡ p ∷ below → below ≡ i ∷ later → k ≡ extended last ps → part_fixed p i ps ≡ Some inner
     → kind_element steps k ≡ fixed_element later inner
-into_part steps below later p i k inner ps e f g found =
+into_part last steps below later p i k inner ps e f g found =
     ap (λ s. kind_element s k) (e ∙ ap (λ b. p ∷ b) f) ∙ ap (kind_element (p ∷ i ∷ later)) g ∙ ap (option_and_then (fixed_element later)) found
 
-pub no_part : (steps below later : List ℕ) (p i : ℕ) (k : KindTree) (ps : List MembersTree) → steps ≡ p ∷ below → below ≡ i ∷ later → k ≡ extended ps → part_fixed p i ps ≡ None → kind_element steps k ≡ None
-no_part steps below later p i k ps e f g none = ap (λ s. kind_element s k) (e ∙ ap (λ b. p ∷ b) f) ∙ ap (kind_element (p ∷ i ∷ later)) g ∙ ap (option_and_then (fixed_element later)) none
+pub no_part : (last : LastPart) (steps below later : List ℕ) (p i : ℕ) (k : KindTree) (ps : List MembersTree) → steps ≡ p ∷ below → below ≡ i ∷ later → k ≡ extended last ps → part_fixed p i ps ≡ None → kind_element steps k ≡ None
+no_part last steps below later p i k ps e f g none = ap (λ s. kind_element s k) (e ∙ ap (λ b. p ∷ b) f) ∙ ap (kind_element (p ∷ i ∷ later)) g ∙ ap (option_and_then (fixed_element later)) none
 
-pub no_step : (steps : List ℕ) (k : KindTree) (ps : List MembersTree) → steps ≡ [] → k ≡ extended ps → kind_element steps k ≡ None
-no_step steps k ps e g = ap (λ s. kind_element s k) e ∙ ap (kind_element []) g
+pub no_step : (last : LastPart) (steps : List ℕ) (k : KindTree) (ps : List MembersTree) → steps ≡ [] → k ≡ extended last ps → kind_element steps k ≡ None
+no_step last steps k ps e g = ap (λ s. kind_element s k) e ∙ ap (kind_element []) g
 
-pub one_step : (steps below : List ℕ) (p : ℕ) (k : KindTree) (ps : List MembersTree) → steps ≡ p ∷ below → below ≡ [] → k ≡ extended ps → kind_element steps k ≡ None
-one_step steps below p k ps e f g = ap (λ s. kind_element s k) (e ∙ ap (λ b. p ∷ b) f) ∙ ap (kind_element (p ∷ [])) g
+pub one_step : (last : LastPart) (steps below : List ℕ) (p : ℕ) (k : KindTree) (ps : List MembersTree) → steps ≡ p ∷ below → below ≡ [] → k ≡ extended last ps → kind_element steps k ≡ None
+one_step last steps below p k ps e f g = ap (λ s. kind_element s k) (e ∙ ap (λ b. p ∷ b) f) ∙ ap (kind_element (p ∷ [])) g
 
 pub no_slot_step : (steps : List ℕ) (k : KindTree) (ss : SlotsTree) → steps ≡ [] → k ≡ compound ss → kind_element steps k ≡ None
 no_slot_step steps k ss e g = ap (λ s. kind_element s k) e ∙ ap (kind_element []) g

@@ -8,6 +8,7 @@ use Rattle.ax_model.specs.Lookup.{item_named}
 use Rattle.ax_model.specs.Plain.{item_tree, kind_tree, spec_tree}
 use Rattle.ax_model.specs.Specification.{ItemTree, first_named}
 use Rattle.ax_model.specs.Tree.{FixedTree, group, element, MembersTree, KindTree, fixed, extended, compound, SlotsTree}
+use Rattle.ax_model.specs.declared.kind.LastPart.{LastPart}
 use Rattle.ax_model.specs.declared.place.Place.{Place}
 use Rattle.ax_model.specs.declared.spec.Item.{Item}
 use Rattle.ax_model.specs.declared.spec.Spec.{Spec}
@@ -65,23 +66,23 @@ two_longer : (o : Option (List ℕ)) (p m : ℕ) → option_map (λ steps. p ∷
 two_longer None p m = refl
 two_longer (Some steps) p m = refl
 
-pub no_part : (later : List (List ℕ)) (name : List ℕ) (ps : List MembersTree) (old new : List ℕ) → part_named 0 name ps ≡ None → Leads (kind_steps (name ∷ later) (extended ps)) old new false
-no_part later name ps old new none =
+pub no_part : (last : LastPart) (later : List (List ℕ)) (name : List ℕ) (ps : List MembersTree) (old new : List ℕ) → part_named 0 name ps ≡ None → Leads (kind_steps (name ∷ later) (extended last ps)) old new false
+no_part last later name ps old new none =
     subst (λ o. Leads o old new false) (sym (ap (option_and_then (λ p. option_map (λ steps. p.0 ∷ p.1.0 ∷ steps) (fixed_steps later p.1.1))) none)) refl
 
-pub to_part : (later : List (List ℕ)) (name : List ℕ) (inner : FixedTree) (ps : List MembersTree) (p m : ℕ) (old first between new : List ℕ) (leads : Bool)
+pub to_part : (last : LastPart) (later : List (List ℕ)) (name : List ℕ) (inner : FixedTree) (ps : List MembersTree) (p m : ℕ) (old first between new : List ℕ) (leads : Bool)
     → part_named 0 name ps ≡ Some (p, (m, inner)) → first ≡ old ++ p ∷ [] → between ≡ first ++ m ∷ [] → Leads (fixed_steps later inner) between new leads
-    → Leads (kind_steps (name ∷ later) (extended ps)) old new leads
-to_part later name inner ps p m old first between new leads found f b h =
+    → Leads (kind_steps (name ∷ later) (extended last ps)) old new leads
+to_part last later name inner ps p m old first between new leads found f b h =
     subst (λ o. Leads o old new leads)
     (sym (ap (option_and_then (λ q. option_map (λ steps. q.0 ∷ q.1.0 ∷ steps) (fixed_steps later q.1.1))) found ∙ sym (two_longer (fixed_steps later inner) p m)))
     (longer (option_map (λ steps. m ∷ steps) (fixed_steps later inner)) p old first new leads f (longer (fixed_steps later inner) m first between new leads b h))
 
 pub ruleset part_walks = (no_part, to_part)
 
-pub as_parts : (names later : List (List ℕ)) (name : List ℕ) (k : KindTree) (ps : List MembersTree) (old new : List ℕ) (leads : Bool) → names ≡ name ∷ later → k ≡ extended ps
-    → Leads (kind_steps (name ∷ later) (extended ps)) old new leads → Leads (kind_steps names k) old new leads
-as_parts names later name k ps old new leads e g h = subst (λ o. Leads o old new leads) (sym (ap (λ n. kind_steps n k) e ∙ ap (kind_steps (name ∷ later)) g)) h
+pub as_parts : (last : LastPart) (names later : List (List ℕ)) (name : List ℕ) (k : KindTree) (ps : List MembersTree) (old new : List ℕ) (leads : Bool) → names ≡ name ∷ later → k ≡ extended last ps
+    → Leads (kind_steps (name ∷ later) (extended last ps)) old new leads → Leads (kind_steps names k) old new leads
+as_parts last names later name k ps old new leads e g h = subst (λ o. Leads o old new leads) (sym (ap (λ n. kind_steps n k) e ∙ ap (kind_steps (name ∷ later)) g)) h
 
 pub ruleset kind_walks = (no_name_left, nowhere, no_slot, as_fixed, as_parts, to_slot)
 

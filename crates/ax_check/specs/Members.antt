@@ -1,6 +1,6 @@
 -- The flaws of one member, slot or item after others, and the names that those after it see.
 use Rattle.std.specs.Prelude.{ℕ, ◌+◌, ◌==◌, nat_lt, length, map, decimal, List, [], ◌∷◌, ◌++◌, codes, true, if◌then◌else◌}
-use Rattle.ax_model.specs.Flaws.{flaw_where, is_among, is_bad_width, is_no_multiple, is_too_wide, fixed_flaws, members_flaws, kind_flaws, uap_flaws}
+use Rattle.ax_model.specs.Flaws.{flaw_where, is_among, is_bad_width, is_no_multiple, is_too_wide, is_nothing, fixed_flaws, members_flaws, kind_flaws, uap_flaws}
 use Rattle.ax_model.specs.Paths.{at}
 use Rattle.ax_model.specs.Plain.{item_tree}
 use Rattle.ax_model.specs.Specification.{ItemTree}
@@ -23,12 +23,14 @@ abbrev pub with_member : List (List ℕ) → MemberTree → List (List ℕ)
 with_member earlier (spare w) = earlier
 with_member earlier (named name f) = name ∷ earlier
 
--- ---- parts of an extended kind
+-- ---- parts of an extended or closed kind
 
-abbrev pub part_flaws : List ℕ → ℕ → List (List ℕ) → MembersTree → List Flaw
-part_flaws path i earlier p =
-    flaw_where (is_no_multiple 8 (members_width p + 1)) PartNotOctets (at path (codes "part" ++ decimal i))
-    ++ flaw_where (is_too_wide (members_width p)) TooWide (at path (codes "part" ++ decimal i)) ++ members_flaws path earlier p
+-- of a part with so many FX bits
+abbrev pub part_flaws : ℕ → List ℕ → ℕ → List (List ℕ) → MembersTree → List Flaw
+part_flaws fx path i earlier p =
+    flaw_where (is_no_multiple 8 (members_width p + fx)) PartNotOctets (at path (codes "part" ++ decimal i))
+    ++ flaw_where (is_too_wide (members_width p)) TooWide (at path (codes "part" ++ decimal i))
+    ++ flaw_where (is_nothing fx p) Empty (at path (codes "part" ++ decimal i)) ++ members_flaws path earlier p
 
 -- ---- how many slots a compound or the UAP has
 

@@ -1,5 +1,5 @@
 -- Where a path leads in a specification (this project's own paths): to an item of the UAP, a subitem of a compound, a
--- member of a group or of a part. Nothing inside a counted or a by-FX item is a place.
+-- member of a group or of a part. Nothing inside a counted, wide or by-FX item is a place.
 use Rattle.std.specs.Prelude.{ℕ, zero, suc, List, [], ◌∷◌, Option, Some, None, option_map, option_and_then}
 use Rattle.ax_model.specs.Lengths.{slot_kind}
 use Rattle.ax_model.specs.Naming.{member_named, part_named, slot_named, frn_of}
@@ -17,7 +17,7 @@ fixed_steps (name ∷ names) (element w c) = None
 abbrev pub kind_steps : List (List ℕ) → KindTree → Option (List ℕ)
 kind_steps [] k = Some []
 kind_steps (name ∷ names) (fixed f) = fixed_steps (name ∷ names) f
-kind_steps (name ∷ names) (extended ps) =
+kind_steps (name ∷ names) (extended last ps) =
     option_and_then (λ p. option_map (λ steps. p.0 ∷ p.1.0 ∷ steps) (fixed_steps names p.1.1)) (part_named 0 name ps)
 kind_steps (name ∷ names) (compound ss) = option_and_then (λ s. option_map (λ steps. s.0 ∷ steps) (kind_steps names s.1)) (slot_named 1 name ss)
 kind_steps (name ∷ names) _ = None
@@ -56,7 +56,7 @@ fixed_element (i ∷ steps) (group ms) = option_and_then (fixed_element steps) (
 
 abbrev pub kind_element : List ℕ → KindTree → Option FixedTree
 kind_element steps (fixed f) = fixed_element steps f
-kind_element (p ∷ i ∷ steps) (extended ps) = option_and_then (fixed_element steps) (part_fixed p i ps)
+kind_element (p ∷ i ∷ steps) (extended last ps) = option_and_then (fixed_element steps) (part_fixed p i ps)
 kind_element (s ∷ steps) (compound ss) = option_and_then (kind_element steps) (slot_kind ss s)
 kind_element _ _ = None
 

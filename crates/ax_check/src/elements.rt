@@ -52,7 +52,7 @@ fn element_in<'k>(kind: &'k Kind, steps: &[u32]) -> Option<&'k Fixed>
 {
     match (kind, steps.split_first()) {
         (Kind::Fixed(fixed), _) => element_in_fixed(fixed, steps),
-        (Kind::Extended(parts), Some((part, below))) => {
+        (Kind::Extended { parts, .. }, Some((part, below))) => {
             let (member, later) = below.split_first()?;
             element_in_fixed(fixed_in_part(parts, *part, *member)?, later)
         }

@@ -1,6 +1,6 @@
 //! The flaws of kinds.
-ghost use Rattle.std.specs.Prelude.{◌≡◌, ◌++◌, [], map, nat_lt, OnOk};
-ghost use Rattle.ax_model.specs.Flaws.{flaw_where, whole_flaws, parts_flaws, kind_flaws, slots_flaws, names_with, is_too_wide};
+ghost use Rattle.std.specs.Prelude.{◌≡◌, ◌≤◌, ◌++◌, [], map, nat_lt, OnOk};
+ghost use Rattle.ax_model.specs.Flaws.{flaw_where, whole_flaws, parts_flaws, kind_flaws, slots_flaws, names_with, is_too_wide, is_nothing};
 ghost use Rattle.ax_model.specs.Plain.{fixed_tree, members_tree, part_tree, kind_tree, slot_tree, slots_tree};
 ghost use Rattle.ax_model.specs.Tree.{by_fx, extended, compound};
 ghost use Rattle.ax_model.specs.declared.flaw.FlawKind.TheVariants.{BodyNotOctets, TooWide};
@@ -11,7 +11,7 @@ use crate::fixed_flaws::{enter_at, find_in_fixed, find_in_members, note};
 use crate::names::Names;
 use crate::texts::{at_body, at_part};
 use crate::widths::{bits_over, bits_over_members};
-use ax_model::{Fixed, FlawKind, Flaws, Kind, Part, Parts, Slot, Slots, Text};
+use ax_model::{Fixed, FlawKind, Flaws, Kind, LastPart, Part, Parts, Slot, Slots, Text};
 use std::alloc::{AllocError, Global};
 
 /// The widest fixed kind or part, in bits: the longest body.
@@ -94,8 +94,17 @@ fn find_in_by_fx(
     find_in_fixed(alloc, found, &body, fixed)
 }
 
-/// The flaws of a part of that number after parts whose members have these names, which gain its own.
-#[tactic(auto, using(crate::proofs::WholeFlaws::units))]
+/// Whether a part with so many FX bits has no bit at all.
+#[tactic(auto, using(crate::proofs::FlawLists::no_member))]
+fn has_no_bit(part: &Part, fx: u32) -> bool
+    ensures { result ≡ is_nothing fx (part_tree part.now) }
+{
+    let bare = part.members.count() == 0;
+    fx == 0 && bare
+}
+
+/// The flaws of a part of that number with so many FX bits after parts whose members have these names, which gain its own.
+#[tactic(auto, using(crate::proofs::WholeFlaws::parts))]
 fn find_in_part<'s>(
     alloc: Global,
     found: &mut Flaws,
@@ -103,8 +112,10 @@ fn find_in_part<'s>(
     number: u32,
     names: &mut Names<'s>,
     part: &'s Part,
+    fx: u32,
 ) -> Result<(), AllocError>
-    ensures flaws { OnOk result (found.new ≡ found.old ++ part_flaws path.now number (listed names.old.set) (part_tree part.now)) }
+    requires { fx ≤ 1 }
+    ensures flaws { OnOk result (found.new ≡ found.old ++ part_flaws fx path.now number (listed names.old.set) (part_tree part.now)) }
     ensures names { OnOk result (AreSame (listed names.new.set) (names_with (listed names.old.set) (part_tree part.now))) }
 {
     let place = at_part(alloc, path, number)?;
@@ -112,30 +123,34 @@ fn find_in_part<'s>(
     note_width(
         alloc,
         found,
-        over != 7,
+        (over + fx) % 8 != 0,
         FlawKind::PartNotOctets,
         width,
         &place,
     )?;
+    note(alloc, found, has_no_bit(part, fx), FlawKind::Empty, &place)?;
     find_in_members(alloc, found, path, names, &part.members)
 }
 
-/// The flaws of an extended kind.
+/// The flaws of an extended or closed kind.
 #[tactic(auto, using(crate::proofs::PartLists::parts))]
 fn find_in_parts(
     alloc: Global,
     found: &mut Flaws,
     broken: FlawKind,
     path: &Text,
+    last: LastPart,
     parts: &Parts,
 ) -> Result<(), AllocError>
-    ensures { OnOk result (found.new ≡ found.old ++ kind_flaws broken path.now (extended (map part_tree parts.now))) }
+    ensures { OnOk result (found.new ≡ found.old ++ kind_flaws broken path.now (extended last (map part_tree parts.now))) }
 {
     note(alloc, found, parts.count() == 0, FlawKind::Empty, path)?;
     let mut names = Names::new(alloc);
     let mut number: u32 = 0;
     for part in parts.as_slice() {
-        find_in_part(alloc, found, path, number, &mut names, part)?;
+        let others = parts.count() - number - 1;
+        let fx = last.fx_width(others as usize);
+        find_in_part(alloc, found, path, number, &mut names, part, fx)?;
         number += 1;
     }
     Ok(())
@@ -154,8 +169,10 @@ pub(crate) fn find_in_kind(
 {
     match kind {
         Kind::Fixed(fixed) => find_in_whole(alloc, found, broken, path, fixed),
-        Kind::Extended(parts) => find_in_parts(alloc, found, broken, path, parts),
-        Kind::Counted(inner) => {
+        Kind::Extended { last, parts } => {
+            find_in_parts(alloc, found, broken, path, *last, parts)
+        }
+        Kind::Counted { inner, .. } => {
             let body = at_body(alloc, path)?;
             find_in_kind(alloc, found, FlawKind::BodyNotOctets, &body, inner)
         }

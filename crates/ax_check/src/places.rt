@@ -7,7 +7,8 @@ ghost use Rattle.ax_check.specs.Walking.{Leads};
 
 use crate::accepted::Accepted;
 use ax_model::{
-    Fixed, Kind, Name, Parts, Path, Place, Steps, find_frn, find_in_parts, find_member, find_slot,
+    Fixed, Kind, LastPart, Name, Parts, Path, Place, Steps, find_frn, find_in_parts, find_member,
+    find_slot,
 };
 use std::alloc::{AllocError, Global};
 
@@ -39,16 +40,17 @@ fn walk_fixed(steps: &mut Steps, fixed: &Fixed, names: &[Name]) -> Result<bool, 
     walk_fixed(steps, inner, later)
 }
 
-/// Whether a name and those after it lead down from an extended kind. If so, the steps to the part, to its member and
+/// Whether a name and those after it lead down from an extended or closed kind. If so, the steps to the part, to its member and
 /// down from there are appended.
 #[tactic(auto, using(crate::proofs::Walks::part_walks))]
 fn walk_parts(
     steps: &mut Steps,
+    last: LastPart,
     parts: &Parts,
     name: &Name,
     later: &[Name],
 ) -> Result<bool, AllocError>
-    ensures { IfOk result (Leads (kind_steps (name.now ∷ later.now) (extended (map part_tree parts.now))) steps.old steps.new) }
+    ensures { IfOk result (Leads (kind_steps (name.now ∷ later.now) (extended last (map part_tree parts.now))) steps.old steps.new) }
 {
     let Some((part, member, inner)) = find_in_parts(parts, name) else {
         return Ok(false);
@@ -68,7 +70,7 @@ fn walk_kind(steps: &mut Steps, kind: &Kind, names: &[Name]) -> Result<bool, All
     };
     match kind {
         Kind::Fixed(fixed) => walk_fixed(steps, fixed, names),
-        Kind::Extended(parts) => walk_parts(steps, parts, name, later),
+        Kind::Extended { last, parts } => walk_parts(steps, *last, parts, name, later),
         Kind::Compound(slots) => {
             let Some((number, inner)) = find_slot(slots, name) else {
                 return Ok(false);
@@ -82,7 +84,8 @@ fn walk_kind(steps: &mut Steps, kind: &Kind, names: &[Name]) -> Result<bool, All
 
 impl Accepted {
     /// The place of a path. None comes exactly where the path is no place: where its first name is no item that stands
-    /// in the UAP, or a later one is no subitem of a compound and no member of a group or of an extended item's parts.
+    /// in the UAP, or a later one is no subitem of a compound and no member of a group or of the parts of an extended or
+    /// closed item.
     #[tactic(auto, using(crate::proofs::Walks::resolved))]
     pub fn resolve(&self, alloc: Global, path: &Path) -> Result<Option<Place>, AllocError>
         ensures { IfOk result (λ made. made ≡ place_of (spec_tree self.now) path.now) }

@@ -5,15 +5,15 @@ use crate::fixtures::{accepted, octets_of, raw_of, same};
 use crate::shown::shown_block;
 use crate::shown_specs::shown_spec;
 use ax_model::{
-    Block, Content, Fixed, Item, Items, Kind, Member, Members, Name, Part, Parts, Slot, Slots,
-    Spec, Text, UapSlot, UapSlots,
+    Block, Content, Counter, Fixed, Item, Items, Kind, LastPart, Member, Members, Name, Part,
+    Parts, Slot, Slots, Spec, Text, UapSlot, UapSlots,
 };
-use ax_samples::{FILE_H1, FILE_K, FILE_N};
+use ax_samples::{FILE_H1, FILE_K, FILE_N, FILE_W};
 use ax_values::decode_block;
 use std::alloc::Global;
 use std::process::Abort;
 
-static COPIES: [(&str, &str, &str); 3] = [
+static COPIES: [(&str, &str, &str); 4] = [
     (
         FILE_N,
         "C8 00 0B 80 02 81 00 11 01 80 22",
@@ -21,6 +21,11 @@ static COPIES: [(&str, &str, &str); 3] = [
     ),
     (FILE_H1, "CA 00 08 80 C0 11 22 33", "202 {1={1=17 2=8755}}"),
     (FILE_H1, "CB 00 05 80 C0", "203 x80 C0"),
+    (
+        FILE_W,
+        "CE 00 0A C0 00 02 AA BB 0B FF",
+        "206 {1=[170 187] 2=<5|255>}",
+    ),
 ];
 
 /// Asserts that a specification is shown as that text.
@@ -116,12 +121,18 @@ fn extended(rt: &impl Abort, alloc: Global) -> Kind {
     let mut parts = Parts::new(alloc);
     parts.push(first_part(rt, alloc)).expect(rt, "memory");
     parts.push(second_part(rt, alloc)).expect(rt, "memory");
-    Kind::Extended(parts)
+    Kind::Extended {
+        last: LastPart::WithFx,
+        parts,
+    }
 }
 
 fn counted(rt: &impl Abort, alloc: Global) -> Kind {
     let inner = Box::new(alloc, Kind::Fixed(element(8)));
-    Kind::Counted(inner.expect(rt, "memory"))
+    Kind::Counted {
+        counter: Counter::One,
+        inner: inner.expect(rt, "memory"),
+    }
 }
 
 fn compound(rt: &impl Abort, alloc: Global) -> Kind {

@@ -3,7 +3,7 @@
 use crate::fixtures::{accepted, octets_of, raw, raw_of, same};
 use crate::seeing::{each_is_read, each_of_file_is_read, is_read_as, read_both_ways};
 use ax_check::Accepted;
-use ax_samples::{FILE_K, FILE_N, FILE_S};
+use ax_samples::{FILE_K, FILE_N, FILE_S, FILE_W};
 use std::alloc::Global;
 use std::process::Abort;
 
@@ -96,6 +96,47 @@ static DEEP_AND_WIDE: [(&str, &str, &str); 12] = [
 #[test]
 fn deep_and_wide_items_are_read(rt: HostRuntime) {
     each_is_read(&rt, rt.alloc(), &DEEP_AND_WIDE);
+}
+
+// Closed parts inside a wide item, a wide item in a wide one, and a closed item of one part, which has no FX bit at all.
+const FILE_W_NESTED: &str = r#"category 207 edition "N" items {
+item 010 "" wide { closed { part { A element 7 raw } part { B element 8 raw } } }
+item 020 "" wide { wide { element 8 raw } }
+item 030 "" closed { part { B element 8 raw } }
+} uap { 010 020 030 }"#;
+
+static WIDE_AND_CLOSED: [(&str, &str, &str); 16] = [
+    (FILE_W, "CE 00 08 80 00 02 AA BB", "206 {1=[170 187]}"),
+    (FILE_W, "CE 00 06 80 00 00", "206 {1=[]}"),
+    // A counter cut within its octets runs out at its first bit.
+    (FILE_W, "CE 00 05 80 00", "RunsOut 8"),
+    (FILE_W, "CE 00 04 80", "RunsOut 8"),
+    // 256 occurrences, of which one is there.
+    (FILE_W, "CE 00 07 80 01 00 AA", "RunsOut 32"),
+    (FILE_W, "CE 00 06 40 0B FF", "206 {2=<5|255>}"),
+    (FILE_W, "CE 00 06 40 0B FE", "206 {2=<5|254>}"),
+    (FILE_W, "CE 00 05 40 0A", "206 {2=<5>}"),
+    (FILE_W, "CE 00 05 40 0B", "RunsOut 16"),
+    (FILE_W, "CE 00 07 40 0B FF 00", "206 {2=<5|255>}{}"),
+    (
+        FILE_W_NESTED,
+        "CF 00 09 80 00 02 0A 0B FF",
+        "207 {1=[<5> <5|255>]}",
+    ),
+    (
+        FILE_W_NESTED,
+        "CF 00 0A 40 00 01 00 02 AA BB",
+        "207 {2=[[170 187]]}",
+    ),
+    (FILE_W_NESTED, "CF 00 07 40 00 01 00", "RunsOut 24"),
+    (FILE_W_NESTED, "CF 00 08 80 00 02 0A 0B", "RunsOut 40"),
+    (FILE_W_NESTED, "CF 00 05 20 0B", "207 {3=<11>}"),
+    (FILE_W_NESTED, "CF 00 04 20", "RunsOut 8"),
+];
+
+#[test]
+fn wide_and_closed_items_are_read(rt: HostRuntime) {
+    each_is_read(&rt, rt.alloc(), &WIDE_AND_CLOSED);
 }
 
 static CUTS: [(usize, u32); 18] = [

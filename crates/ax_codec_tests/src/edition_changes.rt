@@ -12,7 +12,7 @@ fn file_of(rt: &impl Abort, alloc: Global, title: &str, kind: &str) -> String {
     file.expect(rt, "memory")
 }
 
-static CHANGES: [(&str, &str, &str); 25] = [
+static CHANGES: [(&str, &str, &str); 30] = [
     ("element 8 raw", "element 16 raw", "202/010 0 shared"),
     ("element 8 raw", "element 8 ascii", "202/010 0 shared"),
     ("element 8 raw", "element 8 table { }", "202/010 0 shared"),
@@ -110,6 +110,31 @@ static CHANGES: [(&str, &str, &str); 25] = [
         "counted { compound { A element 8 raw } }",
         "counted { compound { B element 8 raw } }",
         "202/010 0 shared",
+    ),
+    (
+        "counted { element 8 raw }",
+        "wide { element 8 raw }",
+        "202/010 0 shared",
+    ),
+    (
+        "wide { element 8 raw }",
+        "counted { element 8 raw }",
+        "202/010 0 shared",
+    ),
+    (
+        "wide { element 8 raw }",
+        "wide { element 8 raw }",
+        "1 shared",
+    ),
+    (
+        "extended { part { A element 7 raw } part { B element 7 raw } }",
+        "closed { part { A element 7 raw } part { B element 8 raw } }",
+        "202/010 0 shared",
+    ),
+    (
+        "closed { part { A element 7 raw } part { B element 8 raw } }",
+        "closed { part { A element 7 raw } part { B element 8 raw } }",
+        "1 shared",
     ),
     ("explicit", "explicit", "1 shared"),
     (

@@ -6,7 +6,7 @@ use ax_check::Accepted;
 use ax_migrate::{LossList, loss_line};
 use ax_model::{Block, Spec, fits};
 use ax_outside::MemSink;
-use ax_samples::{CAT048_P1, CAT048_P2, FILE_G1, FILE_G2, FILE_H1, FILE_H2, FILE_H3};
+use ax_samples::{CAT048_P1, CAT048_P2, FILE_G1, FILE_G2, FILE_H1, FILE_H2, FILE_H3, FILE_W};
 use ax_values::decode_block;
 use std::alloc::Global;
 use std::process::Abort;
@@ -41,6 +41,10 @@ const FILE_DEEP_CHANGED: &str =
 const FILE_DEEP_FLAT: &str =
     r#"category 204 edition "3" items { item 010 "" compound { A element 8 raw B explicit } item 020 "" counted { element 16 raw } } uap { 010 020 }"#;
 
+// W with its items in the other order.
+const FILE_W_SWAPPED: &str =
+    r#"category 206 edition "X" items { item 010 "" wide { element 8 raw } item 020 "" closed { part { A element 7 raw } part { B element 8 raw } } } uap { 020 010 }"#;
+
 /// The files of these tests.
 #[derive(Clone, Copy)]
 pub(crate) enum Edition {
@@ -60,6 +64,8 @@ pub(crate) enum Edition {
     Deep,
     DeepChanged,
     DeepFlat,
+    W,
+    WSwapped,
 }
 
 impl Edition {
@@ -80,6 +86,8 @@ impl Edition {
             Edition::Deep => FILE_DEEP,
             Edition::DeepChanged => FILE_DEEP_CHANGED,
             Edition::DeepFlat => FILE_DEEP_FLAT,
+            Edition::W => FILE_W,
+            Edition::WSwapped => FILE_W_SWAPPED,
         }
     }
 }

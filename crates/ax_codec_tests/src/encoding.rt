@@ -7,12 +7,16 @@ use crate::seeing::read_both_ways;
 use crate::shown::{shown_error, shown_octets};
 use ax_check::Accepted;
 use ax_model::{Block, Entries, RawBlock, Record, Records, Spec, fits};
-use ax_samples::{FILE_K, FILE_N, FILE_S};
+use ax_samples::{FILE_K, FILE_N, FILE_S, FILE_W};
 use ax_values::{EncodeError, decode_block, encode_block};
 use std::alloc::Global;
 use std::process::Abort;
 
-static LEAST_FORMS: [(&str, &str, &str); 19] = [
+// A compound in a wide item.
+const FILE_WIDE_COMPOUND: &str =
+    r#"category 206 edition "C" items { item 010 "" wide { compound { A element 8 raw - - - - - - B element 8 raw } } } uap { 010 }"#;
+
+static LEAST_FORMS: [(&str, &str, &str); 24] = [
     (FILE_K, "CD 00 07 81 00 19 0C", "CD 00 06 80 19 0C"),
     (FILE_K, "CD 00 06 40 03 54", "CD 00 06 40 03 54"),
     (FILE_K, "CD 00 06 20 0B 0C", "CD 00 06 20 0B 0C"),
@@ -40,6 +44,19 @@ static LEAST_FORMS: [(&str, &str, &str); 19] = [
         "CE 00 14 40 80 00 00 00 00 00 00 00 00 00 00 00 00 00 00 01",
     ),
     (FILE_WIDE, WIDE_BLOCK, WIDE_BLOCK),
+    (
+        FILE_W,
+        "CE 00 0A C0 00 02 AA BB 0B FF",
+        "CE 00 0A C0 00 02 AA BB 0B FF",
+    ),
+    (FILE_W, "CE 00 08 C0 00 00 0B FE", "CE 00 08 C0 00 00 0B FE"),
+    (FILE_W, "CE 00 05 40 0A", "CE 00 05 40 0A"),
+    (FILE_W, "CE 00 06 80 00 00", "CE 00 06 80 00 00"),
+    (
+        FILE_WIDE_COMPOUND,
+        "CE 00 09 80 00 01 81 00 05",
+        "CE 00 08 80 00 01 80 05",
+    ),
 ];
 
 /// What a block is written as, or how many octets it would take where they are too many.

@@ -15,7 +15,7 @@ const FULL: &str = "CA 00 08 80 C0 11 22 33";
 const DEEP: &str = "CC 00 0E C0 E0 C0 11 22 02 AA 80 33 01 44";
 
 // The old edition, the new one, a block of the old one; the octets of the block in the new one, and the lines of its losses.
-pub(crate) static MIGRATED: [(Edition, Edition, &str, &str, &str); 20] = [
+pub(crate) static MIGRATED: [(Edition, Edition, &str, &str, &str); 22] = [
     (
         Edition::P1,
         Edition::P2,
@@ -143,6 +143,21 @@ pub(crate) static MIGRATED: [(Edition, Edition, &str, &str, &str); 20] = [
         "",
     ),
     (Edition::Deep, Edition::Deep, DEEP, DEEP, ""),
+    // A wide item keeps both octets of its counter, and a closed one has no FX in its last part.
+    (
+        Edition::W,
+        Edition::WSwapped,
+        "CE 00 0A C0 00 02 AA BB 0B FF",
+        "CE 00 0A C0 0B FF 00 02 AA BB",
+        "",
+    ),
+    (
+        Edition::W,
+        Edition::WSwapped,
+        "CE 00 07 80 00 01 AA",
+        "CE 00 07 40 00 01 AA",
+        "",
+    ),
 ];
 
 // A block of another category is opaque.

@@ -2,7 +2,8 @@
 
 use crate::shown::{push, push_number};
 use ax_model::{
-    Content, Fixed, Item, Kind, Member, Members, Name, Part, Slot, Spec, Text, UapSlot,
+    Content, Counter, Fixed, Item, Kind, LastPart, Member, Members, Name, Part, Slot, Spec, Text,
+    UapSlot,
 };
 use std::alloc::Global;
 use std::process::Abort;
@@ -69,8 +70,22 @@ fn push_fixed(rt: &impl Abort, text: &mut String, fixed: &Fixed) {
     }
 }
 
-fn push_parts(rt: &impl Abort, text: &mut String, parts: &[Part]) {
-    push(rt, text, "extended { ");
+fn last_word(last: LastPart) -> &'static str {
+    match last {
+        LastPart::WithFx => "extended { ",
+        LastPart::WithoutFx => "closed { ",
+    }
+}
+
+fn counter_word(counter: Counter) -> &'static str {
+    match counter {
+        Counter::One => "counted { ",
+        Counter::Two => "wide { ",
+    }
+}
+
+fn push_parts(rt: &impl Abort, text: &mut String, last: LastPart, parts: &[Part]) {
+    push(rt, text, last_word(last));
     for part in parts {
         push_members(rt, text, "part { ", &part.members);
         push(rt, text, " ");
@@ -104,9 +119,9 @@ fn push_slot(rt: &impl Abort, text: &mut String, slot: &Slot) {
 fn push_kind(rt: &impl Abort, text: &mut String, kind: &Kind) {
     match kind {
         Kind::Fixed(fixed) => push_fixed(rt, text, fixed),
-        Kind::Extended(parts) => push_parts(rt, text, parts.as_slice()),
-        Kind::Counted(inner) => {
-            push(rt, text, "counted { ");
+        Kind::Extended { last, parts } => push_parts(rt, text, *last, parts.as_slice()),
+        Kind::Counted { counter, inner } => {
+            push(rt, text, counter_word(*counter));
             push_kind(rt, text, inner);
             push(rt, text, " }");
         }

@@ -5,7 +5,7 @@ use crate::seeing::{each_is_read, is_read_as};
 use crate::shown::{push, push_octets};
 use ax_check::Accepted;
 use ax_model::{Path, Place};
-use ax_samples::{CAT048_P1, FILE_A, FILE_N, FILE_S};
+use ax_samples::{CAT048_P1, FILE_A, FILE_N, FILE_S, FILE_W};
 use ax_tables::Codec;
 use ax_view::{ItemView, RecordView, scan};
 use std::alloc::Global;
@@ -187,7 +187,7 @@ fn item_is_told(rt: &impl Abort, alloc: Global, text: &str, item: (&str, u32), w
 }
 
 // A file, a block, an item by its field reference number, and what stands in it.
-static ITEMS: [(&str, &str, u32, &str); 4] = [
+static ITEMS: [(&str, &str, u32, &str); 7] = [
     // Two occurrences, each with its subitem.
     (
         FILE_N,
@@ -209,6 +209,26 @@ static ITEMS: [(&str, &str, u32, &str); 4] = [
         "30 00 0A 01 01 01 04 03 AA BB",
         27,
         "03 AA BB, parts , subitems 1 , subitems 8 , content AA BB",
+    ),
+    // Two occurrences after a counter of two octets.
+    (
+        FILE_W,
+        "CE 00 08 80 00 02 AA BB",
+        1,
+        "00 02 AA BB, parts , subitems 1 ||, subitems 8 ||, content none",
+    ),
+    // The last part has no FX bit, also where it isn't there.
+    (
+        FILE_W,
+        "CE 00 06 40 0B FF",
+        2,
+        "0B FF, parts 0B|FF|, subitems 1 , subitems 8 , content none",
+    ),
+    (
+        FILE_W,
+        "CE 00 05 40 0A",
+        2,
+        "0A, parts 0A|, subitems 1 , subitems 8 , content none",
     ),
 ];
 

@@ -3,7 +3,7 @@ use Rattle.std.proofs.Common.{◌≡◌, ℕ, zero, suc, ◌+◌, Bool, true, fa
 use Rattle.std.specs.Borrow.{Bor}
 use Rattle.ax_edition.specs.Index.{seen_kind, kind_numbered, Finds}
 use Rattle.ax_edition.specs.Numbers.{Counts}
-use Rattle.ax_edition.specs.UapItems.{item_slot, items_tree}
+use Rattle.ax_edition.specs.SlotItems.{item_slot, items_tree}
 use Rattle.ax_edition.specs.declared.index.Index.{Index}
 use Rattle.ax_edition_laws.proofs.Lookups.{found_is}
 use Rattle.ax_model.specs.Lengths.{kind_of_slot, kind_after}

@@ -6,7 +6,7 @@ use Rattle.ax_edition.specs.Index.{found, FindsBelow}
 use Rattle.ax_relation.specs.Below.{slot_below}
 use Rattle.ax_relation.specs.Moves.{MoveTree, move_from, moves_from, move_where, moves_below, moves_of, slot_moves}
 use Rattle.ax_relation.specs.PlainMoves.{move_tree}
-use Rattle.ax_edition.specs.UapItems.{item_slot, items_tree}
+use Rattle.ax_edition.specs.SlotItems.{item_slot, items_tree}
 use Rattle.ax_edition.specs.declared.index.Index.{Index}
 use Rattle.ax_relation.specs.declared.moves.Move.{Move}
 use Rattle.ax_model.proofs.Namings.{from_place}
@@ -44,8 +44,8 @@ compound_moves l k ts index made is h m =
 pub leaf_moves : (l k : KindTree) → ((ts : SlotsTree) → l ≡ compound ts → ⊥) → [] ≡ moves_below l k
 leaf_moves (compound ts) k not = absurd (not ts refl)
 leaf_moves (fixed f) k not = refl
-leaf_moves (extended ps) k not = refl
-leaf_moves (counted l) k not = refl
+leaf_moves (extended last ps) k not = refl
+leaf_moves (counted size l) k not = refl
 leaf_moves (by_fx f) k not = refl
 leaf_moves explicit k not = refl
 

@@ -32,8 +32,8 @@ below_is name names (Some (compound ts)) = by (slot_named 1 name ts)
     by None = refl
     by (Some s) = refl
 below_is name names (Some (fixed f)) = refl
-below_is name names (Some (extended ps)) = refl
-below_is name names (Some (counted k)) = refl
+below_is name names (Some (extended last ps)) = refl
+below_is name names (Some (counted size k)) = refl
 below_is name names (Some (by_fx f)) = refl
 below_is name names (Some explicit) = refl
 
@@ -58,8 +58,8 @@ mutual
   kind_pairs : (names : List (List ℕ)) (k : KindTree) (new : Option KindTree) → known_kind names k new ≡ map (pair_for names new) (placed_of k)
   kind_pairs names (compound ss) new = λ i. own_pair names (compound ss) new i ∷ slot_pairs names 1 ss new i
   kind_pairs names (fixed f) new = λ i. own_pair names (fixed f) new i ∷ []
-  kind_pairs names (extended ps) new = λ i. own_pair names (extended ps) new i ∷ []
-  kind_pairs names (counted k) new = λ i. own_pair names (counted k) new i ∷ []
+  kind_pairs names (extended last ps) new = λ i. own_pair names (extended last ps) new i ∷ []
+  kind_pairs names (counted size k) new = λ i. own_pair names (counted size k) new i ∷ []
   kind_pairs names (by_fx f) new = λ i. own_pair names (by_fx f) new i ∷ []
   kind_pairs names explicit new = λ i. own_pair names explicit new i ∷ []
 

@@ -3,7 +3,7 @@ use Rattle.std.proofs.Common.{◌≡◌, ℕ, ◌+◌, ◌<◌, ◌≤◌, List,
 use Rattle.std.proofs.lemmas.List.{drop_all}
 use Rattle.std.specs.Borrow.{Bor}
 use Rattle.ax_edition.specs.Relating.{target_below, lead, LeadsBelow, shared_place, related_kind, related_slots, related_slot}
-use Rattle.ax_edition.specs.UapItems.{item_slot, items_tree}
+use Rattle.ax_edition.specs.SlotItems.{item_slot, items_tree}
 use Rattle.ax_edition.specs.declared.relating.Level.{Level}
 use Rattle.ax_relation.specs.declared.relation.RelationPath.{RelationPath}
 use Rattle.ax_model.proofs.Namings.{from_place}
@@ -39,8 +39,8 @@ leaf_path text numbers k target path before made not t o n m = m ∙ (λ i. befo
     single : (k : KindTree) → ((ss : SlotsTree) → k ≡ compound ss → ⊥) → path_at text (place_from numbers) (shared_place k target) ∷ [] ≡ related_kind text numbers k target
     single (compound ss) not = absurd (not ss refl)
     single (fixed f) not = refl
-    single (extended ps) not = refl
-    single (counted k) not = refl
+    single (extended last ps) not = refl
+    single (counted size k) not = refl
     single (by_fx f) not = refl
     single explicit not = refl
 

@@ -79,8 +79,8 @@ mutual
   kind_paths : (text numbers : List ℕ) (k : KindTree) (target : Option (List ℕ × KindTree)) → related_kind text numbers k target ≡ map (path_for text numbers target) (placed_of k)
   kind_paths text numbers (compound ss) target = λ i. own_path text numbers (compound ss) target i ∷ slots_paths text numbers 1 ss target i
   kind_paths text numbers (fixed f) target = λ i. own_path text numbers (fixed f) target i ∷ []
-  kind_paths text numbers (extended ps) target = λ i. own_path text numbers (extended ps) target i ∷ []
-  kind_paths text numbers (counted k) target = λ i. own_path text numbers (counted k) target i ∷ []
+  kind_paths text numbers (extended last ps) target = λ i. own_path text numbers (extended last ps) target i ∷ []
+  kind_paths text numbers (counted size k) target = λ i. own_path text numbers (counted size k) target i ∷ []
   kind_paths text numbers (by_fx f) target = λ i. own_path text numbers (by_fx f) target i ∷ []
   kind_paths text numbers explicit target = λ i. own_path text numbers explicit target i ∷ []
 
@@ -116,8 +116,8 @@ leads (name ∷ names) numbers (compound ts) = by (λ ns l. leads names ns l) (s
     by below None = refl
     by below (Some t) = below (numbers ++ t.0 ∷ []) t.1 ∙ one_step numbers t.0 (steps_at names t.1) (kind_at names t.1)
 leads (name ∷ names) numbers (fixed f) = refl
-leads (name ∷ names) numbers (extended ps) = refl
-leads (name ∷ names) numbers (counted k) = refl
+leads (name ∷ names) numbers (extended last ps) = refl
+leads (name ∷ names) numbers (counted size k) = refl
 leads (name ∷ names) numbers (by_fx f) = refl
 leads (name ∷ names) numbers explicit = refl
 

@@ -10,7 +10,7 @@ use Rattle.ax_edition.specs.Index.{FindsBelow}
 use Rattle.ax_relation.specs.Below.{slot_below}
 use Rattle.ax_edition.specs.Known.{kind_found, kind_below, known_kind, known_slot, known_slots}
 use Rattle.ax_relation.specs.Known.{said, said_of, Says, Knows}
-use Rattle.ax_edition.specs.UapItems.{item_slot, items_tree}
+use Rattle.ax_edition.specs.SlotItems.{item_slot, items_tree}
 use Rattle.ax_edition.specs.declared.index.Index.{Index}
 use Rattle.ax_relation.specs.declared.known.Known.{Known}
 use Rattle.ax_edition_laws.specs.Fates.{is_path}
@@ -50,8 +50,8 @@ leaf_says names k new shared a b not s f =
     single : (k : KindTree) → ((ss : SlotsTree) → k ≡ compound ss → ⊥) → Says ((names, are_shared (Some k) new) ∷ []) a b → Says (known_kind names k new) a b
     single (compound ss) not h = absurd (not ss refl)
     single (fixed f) not h = h
-    single (extended ps) not h = h
-    single (counted k) not h = h
+    single (extended last ps) not h = h
+    single (counted size k) not h = h
     single (by_fx f) not h = h
     single explicit not h = h
 

@@ -4,7 +4,7 @@ use Rattle.std.proofs.lemmas.List.{map-append, take_more, take_all}
 use Rattle.std.specs.Borrow.{Bor}
 use Rattle.std.specs.Option.{option_copied}
 use Rattle.ax_edition.specs.Numbers.{numbered, item_number, CountsItems}
-use Rattle.ax_edition.specs.UapItems.{item_slot, items_tree}
+use Rattle.ax_edition.specs.SlotItems.{item_slot, items_tree}
 use Rattle.ax_edition.specs.declared.numbers.Numbers.{Numbers}
 use Rattle.ax_model.proofs.Lookups.{uap_slot_tree}
 use Rattle.ax_model.specs.Lookup.{item_named, item_of_slot}

@@ -2,5 +2,5 @@ pub mod Index
 pub mod Known
 pub mod Numbers
 pub mod Relating
-pub mod UapItems
+pub mod SlotItems
 pub mod Unrelated

@@ -4,10 +4,10 @@ ghost use Rattle.std.specs.Option.{option_copied};
 ghost use Rattle.ax_model.specs.Lengths.{kind_of_slot};
 ghost use Rattle.ax_model.specs.Plain.{kind_tree, slot_tree, slots_tree};
 ghost use Rattle.ax_edition.specs.Index.{slot_found, found, seen_kind, Finds, FindsBelow};
-ghost use Rattle.ax_edition.specs.UapItems.{item_slot, items_tree};
+ghost use Rattle.ax_edition.specs.SlotItems.{item_slot, items_tree};
 
-use crate::numbers::{Numbers, number_slots, number_uap_items};
-use crate::uap_items::UapItems;
+use crate::numbers::{Numbers, number_slot_items, number_slots};
+use crate::slot_items::SlotItems;
 use ax_lists::Sequence;
 use ax_model::{Item, Kind, Name, Slot, Slots};
 use std::alloc::{AllocError, Global};
@@ -88,7 +88,7 @@ fn kind_of_item<'k>(item: &Option<&'k Item>) -> Option<&'k Kind>
 }
 
 /// The kinds of the slots of the UAP.
-fn kinds_of_items<'k>(alloc: Global, items: &UapItems<'k>) -> Result<Kinds<'k>, AllocError>
+fn kinds_of_items<'k>(alloc: Global, items: &SlotItems<'k>) -> Result<Kinds<'k>, AllocError>
     ensures { IfOk result (λ kinds. map seen_kind kinds ≡ map (λ s. kind_of_slot (item_slot s)) items.now) }
 {
     let mut kinds = Kinds::new(alloc);
@@ -100,11 +100,11 @@ fn kinds_of_items<'k>(alloc: Global, items: &UapItems<'k>) -> Result<Kinds<'k>, 
 
 /// The slots of the UAP, by the names of their items.
 #[tactic(auto, using(crate::proofs::Indexing::whole))]
-pub(crate) fn index_items<'k>(alloc: Global, items: &UapItems<'k>) -> Result<Index<'k>, AllocError>
+pub(crate) fn index_items<'k>(alloc: Global, items: &SlotItems<'k>) -> Result<Index<'k>, AllocError>
     ensures { IfOk result (λ index. Finds 1 (items_tree items.now) index) }
 {
     Ok(Index {
-        numbers: number_uap_items(alloc, items)?,
+        numbers: number_slot_items(alloc, items)?,
         kinds: kinds_of_items(alloc, items)?,
     })
 }

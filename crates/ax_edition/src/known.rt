@@ -5,11 +5,11 @@ ghost use Rattle.ax_model.specs.Plain.{kind_tree, slot_tree, slots_tree};
 ghost use Rattle.ax_model.specs.Shared.{are_shared};
 ghost use Rattle.ax_edition.specs.Known.{kind_found, known_kind, known_slot, known_slots};
 ghost use Rattle.ax_relation.specs.Known.{said, Says, Knows};
-ghost use Rattle.ax_edition.specs.UapItems.{item_slot, items_tree};
+ghost use Rattle.ax_edition.specs.SlotItems.{item_slot, items_tree};
 
 use crate::index::{Index, index_below};
 use crate::sameness::is_shared;
-use crate::uap_items::UapItems;
+use crate::slot_items::SlotItems;
 use ax_model::{Item, Kind, Name, Slot, Slots};
 use ax_relation::Known;
 use std::alloc::{AllocError, Global};
@@ -139,7 +139,7 @@ fn know_item(
 #[tactic(auto, using(crate::proofs::Saying::items))]
 pub(crate) fn know_items(
     alloc: Global,
-    items: &UapItems<'_>,
+    items: &SlotItems<'_>,
     index: &Index<'_>,
 ) -> Result<Known, AllocError>
     ensures { IfOk result (λ known. Knows (known_slots [] (items_tree items.now) (kind_found index.now)) known) }

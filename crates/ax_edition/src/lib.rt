@@ -9,7 +9,7 @@ mod numbers;
 mod relating;
 mod relation;
 mod sameness;
-mod uap_items;
+mod slot_items;
 
 pub use ax_relation::{Move, Moves, Relation, RelationPath, RelationPaths};
 pub use relation::{RelateError, relate};

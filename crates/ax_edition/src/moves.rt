@@ -4,11 +4,11 @@ ghost use Rattle.ax_model.specs.Plain.{kind_tree, slot_tree, slots_tree};
 ghost use Rattle.ax_edition.specs.Index.{found};
 ghost use Rattle.ax_relation.specs.Moves.{move_where, moves_below, moves_of, slot_moves};
 ghost use Rattle.ax_relation.specs.PlainMoves.{move_tree};
-ghost use Rattle.ax_edition.specs.UapItems.{item_slot, items_tree};
+ghost use Rattle.ax_edition.specs.SlotItems.{item_slot, items_tree};
 
 use crate::index::{Index, index_below};
 use crate::sameness::is_shared;
-use crate::uap_items::UapItems;
+use crate::slot_items::SlotItems;
 use ax_model::{Item, Kind, Name, Slot, Slots};
 use ax_relation::{Move, Moves};
 use std::alloc::{AllocError, Global};
@@ -119,7 +119,7 @@ fn move_item(
 #[tactic(auto, using(crate::proofs::MoveLists::items))]
 pub(crate) fn move_items(
     alloc: Global,
-    new: &UapItems<'_>,
+    new: &SlotItems<'_>,
     old: &Index<'_>,
 ) -> Result<Moves, AllocError>
     ensures { IfOk result (λ made. map move_tree made ≡ moves_of 1 (items_tree new.now) (found old.now)) }

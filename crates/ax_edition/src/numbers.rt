@@ -2,9 +2,9 @@
 ghost use Rattle.std.specs.Prelude.{◌≡◌, ℕ, List, None, OnOk, IfOk};
 ghost use Rattle.ax_model.specs.Plain.{slots_tree};
 ghost use Rattle.ax_edition.specs.Numbers.{numbered, Enters, Counts, CountsItems};
-ghost use Rattle.ax_edition.specs.UapItems.{items_tree};
+ghost use Rattle.ax_edition.specs.SlotItems.{items_tree};
 
-use crate::uap_items::UapItems;
+use crate::slot_items::SlotItems;
 use ax_model::{Items, Name, Slot, Slots};
 use indexmap::IndexMap;
 use std::alloc::{AllocError, Global};
@@ -56,7 +56,7 @@ pub(crate) fn number_slots(alloc: Global, slots: &Slots) -> Result<Numbers, Allo
 }
 
 /// The number of the first slot of the UAP whose item has a name, from 1.
-pub(crate) fn number_uap_items(alloc: Global, items: &UapItems<'_>) -> Result<Numbers, AllocError>
+pub(crate) fn number_slot_items(alloc: Global, items: &SlotItems<'_>) -> Result<Numbers, AllocError>
     ensures { IfOk result (λ numbers. Counts 1 (items_tree items.now) numbers) }
 {
     let mut numbers = Numbers::new(alloc);

@@ -5,11 +5,11 @@ ghost use Rattle.ax_model.specs.Placed.{place_from};
 ghost use Rattle.ax_model.specs.Plain.{kind_tree, slot_tree, slots_tree};
 ghost use Rattle.ax_model.specs.Tree.{compound};
 ghost use Rattle.ax_edition.specs.Relating.{target_tree, target_below, lead, LeadsBelow, shared_place, related_kind, related_slot, related_slots};
-ghost use Rattle.ax_edition.specs.UapItems.{item_slot, items_tree};
+ghost use Rattle.ax_edition.specs.SlotItems.{item_slot, items_tree};
 
 use crate::index::{Index, index_below, index_items};
 use crate::sameness::is_shared;
-use crate::uap_items::UapItems;
+use crate::slot_items::SlotItems;
 use ax_model::{Item, Kind, Name, Place, Slot, Slots, Steps, Text, at_name};
 use ax_relation::{RelationPath, RelationPaths};
 use std::alloc::{AllocError, Global};
@@ -91,7 +91,7 @@ impl<'k> Level<'k> {
     }
 
     /// The items of a record.
-    pub(crate) fn of_record(alloc: Global, items: &UapItems<'k>) -> Result<Level<'k>, AllocError>
+    pub(crate) fn of_record(alloc: Global, items: &SlotItems<'k>) -> Result<Level<'k>, AllocError>
         ensures { IfOk result (λ level. LeadsBelow (Some ([], compound (items_tree items.now))) level) }
     {
         Ok(Level {
@@ -289,7 +289,7 @@ fn relate_item(
 pub(crate) fn relate_items(
     alloc: Global,
     text: &Text,
-    items: &UapItems<'_>,
+    items: &SlotItems<'_>,
     level: &Level<'_>,
 ) -> Result<RelationPaths, AllocError>
     ensures { IfOk result (λ made. made ≡ related_slots text.now [] 1 (items_tree items.now) (lead level.now)) }

@@ -5,7 +5,7 @@ ghost use Rattle.ax_model.specs.Paths.{three_digits};
 ghost use Rattle.ax_model.specs.Tree.{compound};
 ghost use Rattle.ax_edition.specs.Known.{known_slots};
 ghost use Rattle.ax_edition.specs.Relating.{target_below, related_slots};
-ghost use Rattle.ax_edition.specs.UapItems.{items_tree};
+ghost use Rattle.ax_edition.specs.SlotItems.{items_tree};
 ghost use Rattle.ax_edition.specs.Unrelated.{WhyUnrelated};
 ghost use Rattle.ax_relation.specs.Known.{Knows};
 ghost use Rattle.ax_relation.specs.Moves.{moves_of};
@@ -16,7 +16,7 @@ use crate::index::index_items;
 use crate::known::know_items;
 use crate::moves::move_items;
 use crate::relating::{Level, relate_items};
-use crate::uap_items::{UapItems, uap_items};
+use crate::slot_items::{SlotItems, slot_items};
 use ax_check::Accepted;
 use ax_model::{Spec, of_category};
 use ax_relation::{Known, Moves, Relation, RelationPaths};
@@ -38,8 +38,8 @@ pub enum RelateError {
 fn paths_between(
     alloc: Global,
     category: u8,
-    old: &UapItems<'_>,
-    new: &UapItems<'_>,
+    old: &SlotItems<'_>,
+    new: &SlotItems<'_>,
 ) -> Result<RelationPaths, AllocError>
     ensures { IfOk result (λ made. made ≡ related_slots (three_digits category) [] 1 (items_tree old.now) (λ name. option_and_then (target_below name) (Some ([], compound (items_tree new.now))))) }
 {
@@ -50,7 +50,11 @@ fn paths_between(
 
 /// The paths of the old items, each with whether the new ones share it.
 #[tactic(auto, using(crate::proofs::Relations::known_by_rule))]
-fn known_between(alloc: Global, old: &UapItems<'_>, new: &UapItems<'_>) -> Result<Known, AllocError>
+fn known_between(
+    alloc: Global,
+    old: &SlotItems<'_>,
+    new: &SlotItems<'_>,
+) -> Result<Known, AllocError>
     ensures { IfOk result (λ known. Knows (known_slots [] (items_tree old.now) (λ name. option_map (λ s. s.1) (slot_named 1 name (items_tree new.now)))) known) }
 {
     let index = index_items(alloc, new)?;
@@ -59,7 +63,11 @@ fn known_between(alloc: Global, old: &UapItems<'_>, new: &UapItems<'_>) -> Resul
 
 /// What moves from the old items to the new ones.
 #[tactic(auto, using(crate::proofs::Relations::moves_by_rule))]
-fn moves_between(alloc: Global, old: &UapItems<'_>, new: &UapItems<'_>) -> Result<Moves, AllocError>
+fn moves_between(
+    alloc: Global,
+    old: &SlotItems<'_>,
+    new: &SlotItems<'_>,
+) -> Result<Moves, AllocError>
     ensures { IfOk result (λ made. map move_tree made ≡ moves_of 1 (items_tree new.now) (λ name. slot_named 1 name (items_tree old.now))) }
 {
     let index = index_items(alloc, old)?;
@@ -73,8 +81,8 @@ fn relation_of(alloc: Global, old: &Spec, new: &Spec) -> Result<Relation, AllocE
     requires category { old.now.category ≡ new.now.category }
     ensures { IfOk result (λ relation. Relates old.now new.now relation) }
 {
-    let old_items = uap_items(alloc, old)?;
-    let new_items = uap_items(alloc, new)?;
+    let old_items = slot_items(alloc, old)?;
+    let new_items = slot_items(alloc, new)?;
     let paths = paths_between(alloc, old.category, &old_items, &new_items)?;
     let moves = moves_between(alloc, &old_items, &new_items)?;
     let known = known_between(alloc, &old_items, &new_items)?;

@@ -1,10 +1,12 @@
 //! Whether kinds of two editions are the same, tables' entries aside. Nothing here takes memory.
 ghost use Rattle.std.specs.Prelude.{◌≡◌, map};
 ghost use Rattle.ax_model.specs.Plain.{fixed_tree, member_tree, members_tree, part_tree, kind_tree, slot_tree, slots_tree};
-ghost use Rattle.ax_model.specs.Same.{is_same_sign, is_same_content, is_same_fixed, is_same_member, are_same_members, are_same_parts, is_same, is_same_slot, are_same_slots};
+ghost use Rattle.ax_model.specs.Same.{is_same_sign, is_same_content, is_same_fixed, is_same_member, are_same_members, are_same_parts, is_same_last, is_same_counter, is_same, is_same_slot, are_same_slots};
 ghost use Rattle.ax_model.specs.Shared.{is_shared_kind};
 
-use ax_model::{Content, Fixed, Kind, Member, Members, Parts, Scale, Sign, Slot, Slots};
+use ax_model::{
+    Content, Counter, Fixed, Kind, LastPart, Member, Members, Parts, Scale, Sign, Slot, Slots,
+};
 
 fn same_sign(one: &Sign, other: &Sign) -> bool
     ensures { result ≡ is_same_sign one.now other.now }
@@ -100,14 +102,44 @@ fn same_parts(one: &Parts, other: &Parts) -> bool
     true
 }
 
+fn same_last(one: LastPart, other: LastPart) -> bool
+    ensures { result ≡ is_same_last one other }
+{
+    match (one, other) {
+        (LastPart::WithFx, LastPart::WithFx) | (LastPart::WithoutFx, LastPart::WithoutFx) => true,
+        _ => false,
+    }
+}
+
+fn same_counter(one: Counter, other: Counter) -> bool
+    ensures { result ≡ is_same_counter one other }
+{
+    match (one, other) {
+        (Counter::One, Counter::One) | (Counter::Two, Counter::Two) => true,
+        _ => false,
+    }
+}
+
 #[cycle(same_kind)]
 fn same_kind(one: &Kind, other: &Kind) -> bool
     ensures { result ≡ is_same (kind_tree one.now) (kind_tree other.now) }
 {
     match (one, other) {
         (Kind::Fixed(fixed), Kind::Fixed(own)) => same_fixed(fixed, own),
-        (Kind::Extended(parts), Kind::Extended(own)) => same_parts(parts, own),
-        (Kind::Counted(inner), Kind::Counted(own)) => same_kind(inner, own),
+        (
+            Kind::Extended { last, parts },
+            Kind::Extended {
+                last: own_last,
+                parts: own,
+            },
+        ) => same_last(*last, *own_last) && same_parts(parts, own),
+        (
+            Kind::Counted { counter, inner },
+            Kind::Counted {
+                counter: own_counter,
+                inner: own,
+            },
+        ) => same_counter(*counter, *own_counter) && same_kind(inner, own),
         (Kind::ByFx(fixed), Kind::ByFx(own)) => same_fixed(fixed, own),
         (Kind::Explicit, Kind::Explicit) => true,
         (Kind::Compound(slots), Kind::Compound(own)) => same_slots(slots, own),

@@ -1,6 +1,7 @@
 -- The migrated value's canonical spelling has at most eighteen times as many bits as the old value's: a kept leaf doesn't
 -- grow, and a presence field of one octet or more becomes at most eighteen, for 126 slots.
 use Rattle.std.proofs.Common.{◌≡◌, ℕ, zero, suc, ◌+◌, ◌*◌, ◌<◌, ◌≤◌, ◌==◌, Bool, true, false, cond, ◌||◌, bytes_eq, List, [], ◌∷◌, ◌++◌, length, map, Option, Some, None, option_map, option_and_then, refl, sym, ◌∙◌, ap, arith, subst, length-append}
+use Rattle.std.proofs.lemmas.List.{length-map}
 use Rattle.ax_bits.specs.Bits.{word}
 use Rattle.ax_edition_laws.proofs.Lookups.{equal, less, named_from}
 use Rattle.ax_edition_laws.proofs.MovedNamed.{source_value, new_value}
@@ -19,6 +20,8 @@ use Rattle.ax_model.specs.Same.{emptied_fixed, emptied_members, emptied, emptied
 use Rattle.ax_model.specs.Shape.{Shape, EntriesShape}
 use Rattle.ax_model.specs.Shared.{is_shared_kind}
 use Rattle.ax_model.specs.Tree.{FixedTree, element, group, MembersTree, no_members, member_and, named, spare, KindTree, fixed, extended, counted, by_fx, explicit, compound, SlotsTree, no_slots, slot_and, spare_slot, subitem, slot_count, ValueTree, member_values, part_values, occurrences, marked, ValuesTree, no_values, value_and, value_count, ListsTree, no_lists, list_and, EntriesTree, no_entries, entry_and}
+use Rattle.ax_model.specs.Widths.{counter_width, fx_width}
+use Rattle.ax_model.specs.declared.kind.LastPart.{LastPart}
 
 -- ---- presence fields
 
@@ -53,11 +56,11 @@ mutual
   members_spelling (member_and (named name f) ms) (value_and v vs) = λ i. fixed_spelling f v i ++ members_spelling ms vs i
   members_spelling (member_and (spare w) ms) (value_and v vs) = λ i. number_canon w v ++ members_spelling ms vs i
 
-parts_spelling : (ps : List MembersTree) (ls : ListsTree) → parts_canon (map emptied_members ps) ls ≡ parts_canon ps ls
-parts_spelling [] ls = refl
-parts_spelling (p ∷ ps) no_lists = refl
-parts_spelling (p ∷ ps) (list_and vs no_lists) = λ i. members_spelling p vs i ++ 0 ∷ []
-parts_spelling (p ∷ ps) (list_and vs (list_and ws ls)) = λ i. members_spelling p vs i ++ 1 ∷ parts_spelling ps (list_and ws ls) i
+parts_spelling : (last : LastPart) (ps : List MembersTree) (ls : ListsTree) → parts_canon last (map emptied_members ps) ls ≡ parts_canon last ps ls
+parts_spelling last [] ls = refl
+parts_spelling last (p ∷ ps) no_lists = refl
+parts_spelling last (p ∷ ps) (list_and vs no_lists) = λ i. members_spelling p vs i ++ word (fx_width last (length-map ps emptied_members i)) 0
+parts_spelling last (p ∷ ps) (list_and vs (list_and ws ls)) = λ i. members_spelling p vs i ++ 1 ∷ parts_spelling last ps (list_and ws ls) i
 
 run_spelling : (f : FixedTree) (vs : ValuesTree) → run_canon (emptied_fixed f) vs ≡ run_canon f vs
 run_spelling f no_values = refl
@@ -78,10 +81,10 @@ same_marks s (slot_and (subitem name k) ss) (entry_and t v es) = λ i. cond (t =
 mutual
   kind_spelling : (k : KindTree) (v : ValueTree) → canon (emptied k) v ≡ canon k v
   kind_spelling (fixed f) v = fixed_spelling f v
-  kind_spelling (extended ps) (part_values ls) = parts_spelling ps ls
-  kind_spelling (extended ps) _ = refl
-  kind_spelling (counted k) (occurrences vs) = λ i. word 8 (value_count vs) ++ each_canon (λ v. kind_spelling k v i) vs
-  kind_spelling (counted k) _ = refl
+  kind_spelling (extended last ps) (part_values ls) = parts_spelling last ps ls
+  kind_spelling (extended last ps) _ = refl
+  kind_spelling (counted size k) (occurrences vs) = λ i. word (counter_width size) (value_count vs) ++ each_canon (λ v. kind_spelling k v i) vs
+  kind_spelling (counted size k) _ = refl
   kind_spelling (by_fx f) (occurrences vs) = run_spelling f vs
   kind_spelling (by_fx f) _ = refl
   kind_spelling explicit v = refl
@@ -219,8 +222,8 @@ mutual
       )
   grows (compound ss) b (compound ts) _ e d w h = absurd h
   grows (fixed f) b (fixed g) v e d w h = leaf_grows (fixed f) (fixed g) v (same_kinds (fixed f) (fixed g) e)
-  grows (extended ps) b (extended qs) v e d w h = leaf_grows (extended ps) (extended qs) v (same_kinds (extended ps) (extended qs) e)
-  grows (counted k) b (counted l) v e d w h = leaf_grows (counted k) (counted l) v (same_kinds (counted k) (counted l) e)
+  grows (extended last ps) b (extended other qs) v e d w h = leaf_grows (extended last ps) (extended other qs) v (same_kinds (extended last ps) (extended other qs) e)
+  grows (counted size k) b (counted other l) v e d w h = leaf_grows (counted size k) (counted other l) v (same_kinds (counted size k) (counted other l) e)
   grows (by_fx f) b (by_fx g) v e d w h = leaf_grows (by_fx f) (by_fx g) v (same_kinds (by_fx f) (by_fx g) e)
   grows explicit b explicit v e d w h = leaf_grows explicit explicit v refl
   grows _ b _ v e d w h = cc

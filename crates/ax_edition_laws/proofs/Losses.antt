@@ -92,8 +92,8 @@ mutual
   path_once [] (compound ss) d e = ap (λ n. n + 1) (none_empty ss)
   path_once (name ∷ names) (compound ss) d e = slot_once 1 [] name names ss d e
   path_once [] (fixed f) d e = refl
-  path_once [] (extended ps) d e = refl
-  path_once [] (counted k) d e = refl
+  path_once [] (extended last ps) d e = refl
+  path_once [] (counted size k) d e = refl
   path_once [] (by_fx f) d e = refl
   path_once [] explicit d e = refl
   path_once (name ∷ names) _ d e = cc

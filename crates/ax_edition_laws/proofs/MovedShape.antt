@@ -1,5 +1,5 @@
 -- The moved value has the new kind's shape.
-use Rattle.std.proofs.Common.{◌≡◌, ℕ, ◌+◌, ◌<◌, ◌≤◌, ◌==◌, MatchBool, Bool, true, false, cond, bytes_eq, List, [], ◌∷◌, map, Option, Some, None, option_map, option_and_then, refl, sym, ◌∙◌, ap, arith, subst}
+use Rattle.std.proofs.Common.{◌≡◌, ℕ, ◌+◌, ◌^◌, ◌<◌, ◌≤◌, ◌==◌, MatchBool, Bool, true, false, cond, bytes_eq, List, [], ◌∷◌, map, Option, Some, None, option_map, option_and_then, refl, sym, ◌∙◌, ap, arith, subst}
 use Rattle.std.proofs.lemmas.Bool.{eqb-true}
 use Rattle.ax_edition_laws.proofs.Lookups.{equal, less, more, found_is, named_from}
 use Rattle.ax_edition_laws.proofs.MovedNamed.{source_value, new_value}
@@ -11,6 +11,7 @@ use Rattle.ax_model.specs.Same.{emptied_fixed, emptied_members, emptied, emptied
 use Rattle.ax_model.specs.Shape.{NumberShape, FixedShape, MembersShape, PartsShape, EachShape, Shape, EntriesShape}
 use Rattle.ax_model.specs.Shared.{is_shared_kind}
 use Rattle.ax_model.specs.Tree.{FixedTree, element, group, MembersTree, no_members, member_and, named, spare, KindTree, fixed, extended, counted, by_fx, explicit, compound, SlotsTree, no_slots, slot_and, spare_slot, subitem, ValueTree, member_values, part_values, occurrences, marked, ValuesTree, no_values, value_and, value_count, ListsTree, no_lists, list_and, EntriesTree, no_entries, entry_and}
+use Rattle.ax_model.specs.Widths.{counter_width}
 
 -- ---- the shape doesn't depend on tables
 
@@ -38,10 +39,10 @@ parts_shape (p ∷ ps) (list_and vs (list_and ws ls)) = λ i. members_shape p vs
 mutual
   emptied_shape : (k : KindTree) (v : ValueTree) → Shape (emptied k) v ≡ Shape k v
   emptied_shape (fixed f) v = fixed_shape f v
-  emptied_shape (extended ps) (part_values ls) = parts_shape ps ls
-  emptied_shape (extended ps) _ = refl
-  emptied_shape (counted k) (occurrences vs) = λ i. (value_count vs < 256) × EachShape (λ v. emptied_shape k v i) vs
-  emptied_shape (counted k) _ = refl
+  emptied_shape (extended last ps) (part_values ls) = parts_shape ps ls
+  emptied_shape (extended last ps) _ = refl
+  emptied_shape (counted size k) (occurrences vs) = λ i. (value_count vs < 2 ^ counter_width size) × EachShape (λ v. emptied_shape k v i) vs
+  emptied_shape (counted size k) _ = refl
   emptied_shape (by_fx f) (occurrences vs) = λ i. (0 < value_count vs) × EachShape (λ v. fixed_shape f v i) vs
   emptied_shape (by_fx f) _ = refl
   emptied_shape explicit v = refl
@@ -151,8 +152,8 @@ mutual
   moved_shape (compound ts) (compound ss) (marked es) e h = entries_moved 1 ts ss es h
   moved_shape (compound ts) (compound ss) _ e h = absurd h
   moved_shape (fixed g) (fixed f) v e h = same_shape (fixed f) (fixed g) v (same_kinds (fixed f) (fixed g) e) h
-  moved_shape (extended qs) (extended ps) v e h = same_shape (extended ps) (extended qs) v (same_kinds (extended ps) (extended qs) e) h
-  moved_shape (counted l) (counted k) v e h = same_shape (counted k) (counted l) v (same_kinds (counted k) (counted l) e) h
+  moved_shape (extended last qs) (extended other ps) v e h = same_shape (extended other ps) (extended last qs) v (same_kinds (extended other ps) (extended last qs) e) h
+  moved_shape (counted size l) (counted other k) v e h = same_shape (counted other k) (counted size l) v (same_kinds (counted other k) (counted size l) e) h
   moved_shape (by_fx g) (by_fx f) v e h = same_shape (by_fx f) (by_fx g) v (same_kinds (by_fx f) (by_fx g) e) h
   moved_shape explicit explicit v e h = h
   moved_shape _ _ v e h = cc

@@ -111,8 +111,8 @@ mutual
   named_once (compound ss) (marked es) _ d p q h = absurd q
   named_once (compound ss) _ w d p q h = absurd p
   named_once (fixed f) v w d p q h = let e = h [] in cc
-  named_once (extended ps) v w d p q h = let e = h [] in cc
-  named_once (counted k) v w d p q h = let e = h [] in cc
+  named_once (extended last ps) v w d p q h = let e = h [] in cc
+  named_once (counted size k) v w d p q h = let e = h [] in cc
   named_once (by_fx f) v w d p q h = let e = h [] in cc
   named_once explicit v w d p q h = let e = h [] in cc
 

@@ -1,5 +1,5 @@
 -- The placed paths are the named paths, each with its place.
-use Rattle.std.proofs.Common.{◌≡◌, ℕ, List, [], ◌∷◌, Some, option_map, ap}
+use Rattle.std.proofs.Common.{◌≡◌, List, [], ◌∷◌, Some, option_map, ap}
 use Rattle.std.specs.List.{AllByRecursion}
 use Rattle.ax_edition_laws.proofs.DistinctNames.{record_distinct}
 use Rattle.ax_edition_laws.proofs.PlacedPaths.{StandsNamed, all_named}

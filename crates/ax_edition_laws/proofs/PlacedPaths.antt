@@ -22,8 +22,8 @@ mutual
   pub placed_names : (k : KindTree) → map (λ p. p.names) (placed_of k) ≡ paths_of k
   placed_names (compound ss) = ap (λ l. [] ∷ l) (placed_slot_names 1 ss)
   placed_names (fixed f) = refl
-  placed_names (extended ps) = refl
-  placed_names (counted k) = refl
+  placed_names (extended last ps) = refl
+  placed_names (counted size k) = refl
   placed_names (by_fx f) = refl
   placed_names explicit = refl
 
@@ -109,8 +109,8 @@ mutual
   pub all_stand : (k : KindTree) → Distinct k → AllByRecursion (Stands k) (placed_of k)
   all_stand (compound ss) d = (record { kind = refl; steps = refl }, all_same (StandsUnder 1 ss) (Stands (compound ss)) (under_compound ss) (placed_slots 1 ss) (all_under 1 [] ss d))
   all_stand (fixed f) d = (record { kind = refl; steps = refl }, tt)
-  all_stand (extended ps) d = (record { kind = refl; steps = refl }, tt)
-  all_stand (counted k) d = (record { kind = refl; steps = refl }, tt)
+  all_stand (extended last ps) d = (record { kind = refl; steps = refl }, tt)
+  all_stand (counted size k) d = (record { kind = refl; steps = refl }, tt)
   all_stand (by_fx f) d = (record { kind = refl; steps = refl }, tt)
   all_stand explicit d = (record { kind = refl; steps = refl }, tt)
 
@@ -154,7 +154,7 @@ kind_has_steps (name ∷ names) (compound ss) = by_found (kind_has_steps names) 
     by_found below None = refl
     by_found below (Some s) = mapped s.0 (steps_at names s.1) ∙ below s.1
 kind_has_steps (name ∷ names) (fixed f) = refl
-kind_has_steps (name ∷ names) (extended ps) = refl
-kind_has_steps (name ∷ names) (counted k) = refl
+kind_has_steps (name ∷ names) (extended last ps) = refl
+kind_has_steps (name ∷ names) (counted size k) = refl
 kind_has_steps (name ∷ names) (by_fx f) = refl
 kind_has_steps (name ∷ names) explicit = refl

@@ -2,13 +2,17 @@
 use Rattle.std.proofs.Common.{◌≡◌, ℕ, ◌==◌, Bool, true, false, ◌&&◌, bytes_eq, List, [], ◌∷◌, map, refl, sym, ◌∙◌, ap}
 use Rattle.std.proofs.lemmas.Bool.{eqb-true, eq-eqb}
 use Rattle.std.proofs.lemmas.Slice.Eq.{bytes_eq-Decides}
-use Rattle.ax_model.specs.Same.{emptied_content, emptied_fixed, emptied_members, emptied, emptied_slots, is_same_sign, is_same_content, is_same_fixed, are_same_members, are_same_parts, is_same, are_same_slots}
+use Rattle.ax_model.specs.Same.{emptied_content, emptied_fixed, emptied_members, emptied, emptied_slots, is_same_sign, is_same_content, is_same_fixed, are_same_members, are_same_parts, is_same_last, is_same_counter, is_same, are_same_slots}
 use Rattle.ax_model.specs.Tree.{FixedTree, element, group, MembersTree, no_members, member_and, named, spare, KindTree, fixed, extended, counted, by_fx, explicit, compound, SlotsTree, no_slots, slot_and, spare_slot, subitem}
 use Rattle.ax_model.specs.declared.content.Content.TheVariants.{Raw, Table, Ascii, Icao, Octal, Integer, Quantity}
 use Rattle.ax_model.specs.declared.content.Content.{Content}
 use Rattle.ax_model.specs.declared.content.Scale.{Scale}
 use Rattle.ax_model.specs.declared.content.Sign.TheVariants.{Unsigned, Signed}
 use Rattle.ax_model.specs.declared.content.Sign.{Sign}
+use Rattle.ax_model.specs.declared.kind.Counter.TheVariants.{One, Two}
+use Rattle.ax_model.specs.declared.kind.Counter.{Counter}
+use Rattle.ax_model.specs.declared.kind.LastPart.TheVariants.{WithFx, WithoutFx}
+use Rattle.ax_model.specs.declared.kind.LastPart.{LastPart}
 
 pub both : (a b : Bool) → (a && b) ≡ true → (a ≡ true) × (b ≡ true)
 both true b e = (refl, e)
@@ -72,11 +76,29 @@ parts_are (p ∷ ps) (q ∷ qs) e =
     let b = parts_are ps qs h.1 in λ i. a i ∷ b i
 parts_are _ _ e = cc
 
+last_is : (l m : LastPart) → is_same_last l m ≡ true → l ≡ m
+last_is WithFx WithFx e = refl
+last_is WithoutFx WithoutFx e = refl
+last_is WithFx WithoutFx e = cc
+last_is WithoutFx WithFx e = cc
+
+counter_is : (c d : Counter) → is_same_counter c d ≡ true → c ≡ d
+counter_is One One e = refl
+counter_is Two Two e = refl
+counter_is One Two e = cc
+counter_is Two One e = cc
+
 mutual
   pub same_kinds : (k l : KindTree) → is_same k l ≡ true → emptied k ≡ emptied l
   same_kinds (fixed f) (fixed g) e = ap fixed (fixed_is f g e)
-  same_kinds (extended ps) (extended qs) e = ap extended (parts_are ps qs e)
-  same_kinds (counted k) (counted l) e = ap counted (same_kinds k l e)
+  same_kinds (extended last ps) (extended other qs) e =
+      let p = both (is_same_last last other) (are_same_parts ps qs) e in
+      let a = last_is last other p.0 in
+      let b = parts_are ps qs p.1 in λ i. extended (a i) (b i)
+  same_kinds (counted size k) (counted other l) e =
+      let p = both (is_same_counter size other) (is_same k l) e in
+      let a = counter_is size other p.0 in
+      let b = same_kinds k l p.1 in λ i. counted (a i) (b i)
   same_kinds (by_fx f) (by_fx g) e = ap by_fx (fixed_is f g e)
   same_kinds explicit explicit e = refl
   same_kinds (compound ss) (compound ts) e = ap compound (same_slots ss ts e)
@@ -136,8 +158,8 @@ parts_test (p ∷ ps) [] = refl
 mutual
   kind_test : (k l : KindTree) → is_same k l ≡ is_same (emptied k) (emptied l)
   kind_test (fixed f) (fixed g) = fixed_test f g
-  kind_test (extended ps) (extended qs) = parts_test ps qs
-  kind_test (counted k) (counted l) = kind_test k l
+  kind_test (extended last ps) (extended other qs) = ap (λ b. is_same_last last other && b) (parts_test ps qs)
+  kind_test (counted size k) (counted other l) = ap (λ b. is_same_counter size other && b) (kind_test k l)
   kind_test (by_fx f) (by_fx g) = fixed_test f g
   kind_test explicit explicit = refl
   kind_test (compound ss) (compound ts) = slots_test ss ts
@@ -185,11 +207,19 @@ own_parts : (ps : List MembersTree) → are_same_parts ps ps ≡ true
 own_parts [] = refl
 own_parts (p ∷ ps) = λ i. own_members p i && own_parts ps i
 
+own_last : (last : LastPart) → is_same_last last last ≡ true
+own_last WithFx = refl
+own_last WithoutFx = refl
+
+own_counter : (size : Counter) → is_same_counter size size ≡ true
+own_counter One = refl
+own_counter Two = refl
+
 mutual
   own_kind : (k : KindTree) → is_same k k ≡ true
   own_kind (fixed f) = own_fixed f
-  own_kind (extended ps) = own_parts ps
-  own_kind (counted k) = own_kind k
+  own_kind (extended last ps) = λ i. own_last last i && own_parts ps i
+  own_kind (counted size k) = λ i. own_counter size i && own_kind k i
   own_kind (by_fx f) = own_fixed f
   own_kind explicit = refl
   own_kind (compound ss) = own_slots ss

@@ -192,7 +192,48 @@ fn extended_items(rt: HostRuntime) {
     kinds_have_flaws(&rt, rt.alloc(), &EXTENDED_ITEMS);
 }
 
-const BODIES: [(&str, &str); 18] = [
+// The last part has no FX bit.
+const CLOSED_ITEMS: [(&str, &str); 10] = [
+    (
+        "closed { part { A element 7 raw } part { B element 8 raw } }",
+        "",
+    ),
+    ("closed { part { A element 8 raw } }", ""),
+    ("closed { }", "Empty 210/010"),
+    ("closed { part { } }", "Empty 210/010/part0"),
+    (
+        "closed { part { A element 8 raw } part { B element 8 raw } }",
+        "PartNotOctets 210/010/part0",
+    ),
+    (
+        "closed { part { A element 7 raw } part { B element 7 raw } }",
+        "PartNotOctets 210/010/part1",
+    ),
+    (
+        "closed { part { } part { } }",
+        "PartNotOctets 210/010/part0, Empty 210/010/part1",
+    ),
+    ("extended { part { } }", "PartNotOctets 210/010/part0"),
+    (
+        "closed { part { A element 7 raw } part { A element 8 raw } }",
+        "DuplicateName 210/010/A",
+    ),
+    ("closed { part { spare 524256 } }", "BadWidth 210/010/spare"),
+];
+
+#[test]
+fn closed_items(rt: HostRuntime) {
+    kinds_have_flaws(&rt, rt.alloc(), &CLOSED_ITEMS);
+}
+
+const BODIES: [(&str, &str); 22] = [
+    ("wide { element 8 raw }", ""),
+    ("wide { element 7 raw }", "BodyNotOctets 210/010/body"),
+    ("wide { closed { part { } } }", "Empty 210/010/body/part0"),
+    (
+        "counted { wide { element 7 raw } }",
+        "BodyNotOctets 210/010/body/body",
+    ),
     ("explicit", ""),
     ("counted { explicit }", ""),
     ("counted { element 8 raw }", ""),

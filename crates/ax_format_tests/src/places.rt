@@ -3,7 +3,7 @@
 use crate::texts::{accepted, same};
 use ax_check::Accepted;
 use ax_model::{Path, Place};
-use ax_samples::CAT048_P1;
+use ax_samples::{CAT048_P1, FILE_W};
 use std::alloc::{AllocError, Global};
 use std::process::Abort;
 
@@ -62,6 +62,20 @@ const PLACES: [(&str, &str); 6] = [
 fn paths_lead_to_places(rt: HostRuntime) {
     let one = accepted(&rt, rt.alloc(), CAT048_P1);
     for &(text, wanted) in &PLACES {
+        leads_to(&rt, rt.alloc(), &one, text, wanted);
+    }
+}
+
+const CLOSED_PLACES: [(&str, &str); 3] = [
+    ("020/A", "FRN 2 steps [0, 0] width 7"),
+    ("020/B", "FRN 2 steps [1, 0] width 8"),
+    ("010", "FRN 1 steps []"),
+];
+
+#[test]
+fn paths_lead_into_parts_of_a_closed_item(rt: HostRuntime) {
+    let one = accepted(&rt, rt.alloc(), FILE_W);
+    for &(text, wanted) in &CLOSED_PLACES {
         leads_to(&rt, rt.alloc(), &one, text, wanted);
     }
 }

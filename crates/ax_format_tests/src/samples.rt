@@ -5,7 +5,7 @@ use ax_check::{CheckError, accept};
 use ax_model::Spec;
 use ax_samples::{
     CAT019_P1, CAT034_P1, CAT048_P1, CAT048_P2, FILE_A, FILE_E, FILE_F, FILE_G1, FILE_G2, FILE_H1,
-    FILE_H2, FILE_H3, FILE_K, FILE_N, FILE_S, FILE_Z, NESTED_TOO_DEEP,
+    FILE_H2, FILE_H3, FILE_K, FILE_N, FILE_S, FILE_W, FILE_Z, NESTED_TOO_DEEP,
 };
 use ax_tokens::{LexError, tokens};
 use std::alloc::Global;
@@ -26,9 +26,9 @@ fn has_so_many_flaws(rt: &impl Abort, alloc: Global, text: &str, wanted: u32) {
     assert!(rt; found == Some(wanted), "{found:?} flaws in {text}");
 }
 
-const ACCEPTED: [&str; 15] = [
+const ACCEPTED: [&str; 16] = [
     CAT019_P1, CAT034_P1, CAT048_P1, CAT048_P2, FILE_A, FILE_E, FILE_G1, FILE_G2, FILE_H1, FILE_H2,
-    FILE_H3, FILE_K, FILE_N, FILE_S, FILE_Z,
+    FILE_H3, FILE_K, FILE_N, FILE_S, FILE_W, FILE_Z,
 ];
 
 #[test]

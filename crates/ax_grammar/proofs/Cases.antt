@@ -1,20 +1,19 @@
 -- Each way through the rules of fixed kinds and of kinds.
 use Rattle.std.proofs.Common.{◌≡◌, ℕ, List, map, Result, Ok, Err, refl, sym, subst, ap, ◌∙◌}
 use Rattle.std.specs.Prelude.{IsOkAnd, MatchResult}
-use Rattle.ax_model.proofs.VariantTrees.{extended_tree, by_fx_tree, compound_tree, fixed_kind_tree, group_tree}
-use Rattle.ax_model.specs.Plain.{fixed_tree, member_tree, part_tree, kind_tree, slot_tree}
-use Rattle.ax_model.specs.Tree.{FixedTree, element, group, members_of, KindTree, fixed, extended, by_fx, explicit, compound, slots_of}
+use Rattle.ax_model.proofs.VariantTrees.{by_fx_tree, compound_tree, fixed_kind_tree, group_tree}
+use Rattle.ax_model.specs.Plain.{fixed_tree, member_tree, kind_tree, slot_tree}
+use Rattle.ax_model.specs.Tree.{FixedTree, element, group, members_of, KindTree, fixed, by_fx, explicit, compound, slots_of}
 use Rattle.ax_model.specs.declared.content.Content.{Content}
 use Rattle.ax_model.specs.declared.kind.Fixed.{Fixed}
 use Rattle.ax_model.specs.declared.kind.Fixed.TheVariants as FixedOf
 use Rattle.ax_model.specs.declared.kind.Kind.{Kind}
 use Rattle.ax_model.specs.declared.kind.Kind.TheVariants as KindOf
 use Rattle.ax_model.specs.declared.kind.Member.{Member}
-use Rattle.ax_model.specs.declared.kind.Part.{Part}
 use Rattle.ax_model.specs.declared.kind.Slot.{Slot}
 use Rattle.ax_grammar.specs.Gives.{Gives}
 use Rattle.ax_grammar.specs.Parsing.{Texts, Parsed, ◌>>=◌, braced_at}
-use Rattle.ax_grammar.specs.Rules.{keyword_at, width_at, content_at, fixed_by_word, fixed_step, fixed_at, member_at, part_at, kind_by_word, kind_step, kind_at, slot_at}
+use Rattle.ax_grammar.specs.Rules.{keyword_at, width_at, content_at, fixed_by_word, fixed_step, fixed_at, member_at, kind_by_word, kind_step, kind_at, slot_at}
 use Rattle.ax_token_reader.specs.declared.stopped.Stopped.{Stopped}
 use Rattle.ax_token_reader.specs.declared.stopped.Stopped.TheVariants.{Bad, OutOfMemory}
 use Rattle.ax_grammar.specs.declared.keyword.Keyword.{Keyword}
@@ -55,11 +54,6 @@ kind_after : (old a : Texts) (word : Keyword) → keyword_at old ≡ Ok (word, a
 unfolding kind_step
 kind_after old a word e = kind_is old ∙ ap (λ r. r >>= λ w. kind_by_word kind_at w.0 old w.1) e
 
-pub extended_gives : (old a after : Texts) (r : Result (List Part) Stopped) (m : Result Kind Stopped) → keyword_at old ≡ Ok (Word.Extended, a)
-    → Gives (λ parts. map part_tree parts) r after (braced_at part_at a) → Maps KindOf.Extended r m → Gives kind_tree m after (kind_at old)
-extended_gives old a after r m e g h =
-    subst (Gives kind_tree m after) (sym (kind_after old a Word.Extended e)) (mapped_gives (λ parts. map part_tree parts) kind_tree KindOf.Extended extended extended_tree r m after (braced_at part_at a) g h)
-
 pub by_fx_gives : (old a after : Texts) (r : Result Fixed Stopped) (m : Result Kind Stopped) → keyword_at old ≡ Ok (Word.ByFx, a)
     → Gives fixed_tree r after (fixed_at a) → Maps KindOf.ByFx r m → Gives kind_tree m after (kind_at old)
 by_fx_gives old a after r m e g h =
@@ -75,17 +69,19 @@ compound_gives old a after r m e g h =
     subst (Gives kind_tree m after) (sym (kind_after old a Word.Compound e)) (mapped_gives (λ slots. map slot_tree slots) kind_tree KindOf.Compound (λ slots. compound (slots_of slots)) compound_tree r m after (braced_at slot_at a) g h)
 
 -- a kind that is none of the others is a fixed one
-default_case : (word : Keyword) (old a : Texts) → (word ≡ Word.Extended → ⊥) → (word ≡ Word.Counted → ⊥) → (word ≡ Word.ByFx → ⊥) → (word ≡ Word.Explicit → ⊥) → (word ≡ Word.Compound → ⊥)
+default_case : (word : Keyword) (old a : Texts) → (word ≡ Word.Extended → ⊥) → (word ≡ Word.Closed → ⊥) → (word ≡ Word.Counted → ⊥) → (word ≡ Word.Wide → ⊥) → (word ≡ Word.ByFx → ⊥) → (word ≡ Word.Explicit → ⊥) → (word ≡ Word.Compound → ⊥)
     → kind_by_word kind_at word old a ≡ (fixed_at old >>= λ f. Ok (fixed f.0, f.1))
-default_case Word.Extended old a h1 h2 h3 h4 h5 = absurd (h1 refl)
-default_case Word.Counted old a h1 h2 h3 h4 h5 = absurd (h2 refl)
-default_case Word.ByFx old a h1 h2 h3 h4 h5 = absurd (h3 refl)
-default_case Word.Explicit old a h1 h2 h3 h4 h5 = absurd (h4 refl)
-default_case Word.Compound old a h1 h2 h3 h4 h5 = absurd (h5 refl)
-default_case word old a h1 h2 h3 h4 h5 = refl
+default_case Word.Extended old a h1 h2 h3 h4 h5 h6 h7 = absurd (h1 refl)
+default_case Word.Closed old a h1 h2 h3 h4 h5 h6 h7 = absurd (h2 refl)
+default_case Word.Counted old a h1 h2 h3 h4 h5 h6 h7 = absurd (h3 refl)
+default_case Word.Wide old a h1 h2 h3 h4 h5 h6 h7 = absurd (h4 refl)
+default_case Word.ByFx old a h1 h2 h3 h4 h5 h6 h7 = absurd (h5 refl)
+default_case Word.Explicit old a h1 h2 h3 h4 h5 h6 h7 = absurd (h6 refl)
+default_case Word.Compound old a h1 h2 h3 h4 h5 h6 h7 = absurd (h7 refl)
+default_case word old a h1 h2 h3 h4 h5 h6 h7 = refl
 
 pub fixed_gives : (old a after : Texts) (word : Keyword) (r : Result Fixed Stopped) (m : Result Kind Stopped)
-    → (word ≡ Word.Extended → ⊥) → (word ≡ Word.Counted → ⊥) → (word ≡ Word.ByFx → ⊥) → (word ≡ Word.Explicit → ⊥) → (word ≡ Word.Compound → ⊥)
+    → (word ≡ Word.Extended → ⊥) → (word ≡ Word.Closed → ⊥) → (word ≡ Word.Counted → ⊥) → (word ≡ Word.Wide → ⊥) → (word ≡ Word.ByFx → ⊥) → (word ≡ Word.Explicit → ⊥) → (word ≡ Word.Compound → ⊥)
     → keyword_at old ≡ Ok (word, a) → Gives fixed_tree r after (fixed_at old) → Maps KindOf.Fixed r m → Gives kind_tree m after (kind_at old)
-fixed_gives old a after word r m h1 h2 h3 h4 h5 e g h =
-    subst (Gives kind_tree m after) (sym (kind_after old a word e ∙ default_case word old a h1 h2 h3 h4 h5)) (mapped_gives fixed_tree kind_tree KindOf.Fixed fixed fixed_kind_tree r m after (fixed_at old) g h)
+fixed_gives old a after word r m h1 h2 h3 h4 h5 h6 h7 e g h =
+    subst (Gives kind_tree m after) (sym (kind_after old a word e ∙ default_case word old a h1 h2 h3 h4 h5 h6 h7)) (mapped_gives fixed_tree kind_tree KindOf.Fixed fixed fixed_kind_tree r m after (fixed_at old) g h)

@@ -10,15 +10,19 @@ use Rattle.ax_model.specs.declared.content.Content.{Content}
 use Rattle.ax_model.specs.declared.content.Content.TheVariants as Meaning
 use Rattle.ax_model.specs.declared.content.Sign.{Sign}
 use Rattle.ax_model.specs.declared.content.TableText.{TableText}
+use Rattle.ax_model.specs.declared.kind.Counter.{Counter}
+use Rattle.ax_model.specs.declared.kind.Counter.TheVariants.{One, Two}
+use Rattle.ax_model.specs.declared.kind.LastPart.{LastPart}
+use Rattle.ax_model.specs.declared.kind.LastPart.TheVariants.{WithFx, WithoutFx}
 use Rattle.ax_model.specs.declared.spec.UapSlot.{UapSlot}
 use Rattle.ax_model.specs.declared.spec.UapSlot.TheVariants as Uap
 use Rattle.ax_grammar.specs.Keywords.{keyword_text, keyword_of}
 use Rattle.ax_grammar.specs.InRange.{IsText, IsWidth, IsNumber, EntryInRange, ContentInRange, FixedInRange, MemberInRange, MembersInRange, KindInRange, SlotInRange, SlotsInRange, ItemInRange, UapSlotInRange, InRange}
-use Rattle.ax_grammar.specs.Spelling.{quoted, sign_text, closed, block, entry_texts, content_texts, fixed_texts, member_texts, members_texts, part_texts, kind_texts, slot_texts, slots_texts, item_texts, uap_slot_texts, spelled}
+use Rattle.ax_grammar.specs.Spelling.{quoted, sign_text, closed, block, extended_word, counted_word, entry_texts, content_texts, fixed_texts, member_texts, members_texts, part_texts, kind_texts, slot_texts, slots_texts, item_texts, uap_slot_texts, spelled}
 use Rattle.ax_model.specs.Paths.{three_digits}
 use Rattle.ax_grammar.specs.Tests.{name_of, number_of, category_of, text_of}
 use Rattle.ax_grammar.specs.Parsing.{Texts, Parsed, ◌>>=◌, one_of, one_at, expect_at, takes_at, list_at}
-use Rattle.ax_grammar.specs.Rules.{keyword_at, name_at, width_at, number_at, text_at, sign_by_word, sign_at, entry_at, scale_at, content_by_word, content_at, fixed_by_word, member_step, fixed_step, fixed_at, member_at, part_at, kind_by_word, kind_step, kind_at, slot_step, slot_at, item_at, uap_slot_at, spec_at, end_at, whole_at}
+use Rattle.ax_grammar.specs.Rules.{keyword_at, name_at, width_at, number_at, text_at, sign_by_word, sign_at, entry_at, scale_at, content_by_word, content_at, fixed_by_word, member_step, fixed_step, fixed_at, member_at, part_at, extended_at, counted_at, kind_by_word, kind_step, kind_at, slot_step, slot_at, item_at, uap_slot_at, spec_at, end_at, whole_at}
 use Rattle.ax_grammar.specs.declared.keyword.Keyword.{Keyword}
 use Rattle.ax_grammar.specs.declared.keyword.Keyword.TheVariants as Word
 use Rattle.ax_grammar.proofs.Recursion.{Shrinks, reads}
@@ -39,7 +43,9 @@ keyword_found Word.Item = refl
 keyword_found Word.Element = refl
 keyword_found Word.Group = refl
 keyword_found Word.Extended = refl
+keyword_found Word.Closed = refl
 keyword_found Word.Counted = refl
+keyword_found Word.Wide = refl
 keyword_found Word.ByFx = refl
 keyword_found Word.Explicit = refl
 keyword_found Word.Compound = refl
@@ -203,6 +209,14 @@ kind_by_word_read : (word : Keyword) (rest : Texts) → kind_at (keyword_text wo
 unfolding kind_step
 kind_by_word_read word rest = kind_is (keyword_text word ∷ rest) ∙ ap (λ r. r >>= λ w. kind_by_word kind_at w.0 (keyword_text word ∷ rest) w.1) (keyword_read word rest)
 
+extended_word_read : (last : LastPart) (rest : Texts) → kind_at (keyword_text (extended_word last) ∷ rest) ≡ extended_at last rest
+extended_word_read WithFx rest = kind_by_word_read Word.Extended rest
+extended_word_read WithoutFx rest = kind_by_word_read Word.Closed rest
+
+counted_word_read : (size : Counter) (rest : Texts) → kind_at (keyword_text (counted_word size) ∷ rest) ≡ counted_at size rest
+counted_word_read One rest = kind_by_word_read Word.Counted rest
+counted_word_read Two rest = kind_by_word_read Word.Wide rest
+
 abbrev slots_list : SlotsTree → List SlotTree
 slots_list no_slots = []
 slots_list (slot_and s ss) = s ∷ slots_list ss
@@ -231,15 +245,15 @@ mutual
 
   pub kind_read : (k : KindTree) (rest : Texts) → KindInRange k → kind_at (kind_texts k ++ rest) ≡ Ok (k, rest)
   kind_read (fixed f) rest h = fixed_kind_read f rest h
-  kind_read (extended ps) rest h =
-      kind_by_word_read Word.Extended (keyword_text Word.Open ∷ (closed (flat_map part_texts ps) ++ rest))
-      ∙ ap (λ r. r >>= λ p. Ok (extended p.0, p.1)) (list_read part_at part_shrinks part_texts MembersInRange part_read part_goes ps rest h)
-  kind_read (counted k) rest h =
+  kind_read (extended last ps) rest h =
+      extended_word_read last (keyword_text Word.Open ∷ (closed (flat_map part_texts ps) ++ rest))
+      ∙ ap (λ r. r >>= λ p. Ok (extended last p.0, p.1)) (list_read part_at part_shrinks part_texts MembersInRange part_read part_goes ps rest h)
+  kind_read (counted size k) rest h =
       let close = keyword_text Word.Close ∷ rest in
       let front : closed (kind_texts k) ++ rest ≡ kind_texts k ++ close = append_assoc (kind_texts k) (keyword_text Word.Close ∷ []) rest in
-      kind_by_word_read Word.Counted (keyword_text Word.Open ∷ (closed (kind_texts k) ++ rest))
-      ∙ ap (λ t. kind_at t >>= λ i. expect_at Word.Close i.1 >>= λ c. Ok (counted i.0, c.1)) front
-      ∙ ap (λ r. r >>= λ i. expect_at Word.Close i.1 >>= λ c. Ok (counted i.0, c.1)) (kind_read k close h)
+      counted_word_read size (keyword_text Word.Open ∷ (closed (kind_texts k) ++ rest))
+      ∙ ap (λ t. kind_at t >>= λ i. expect_at Word.Close i.1 >>= λ c. Ok (counted size i.0, c.1)) front
+      ∙ ap (λ r. r >>= λ i. expect_at Word.Close i.1 >>= λ c. Ok (counted size i.0, c.1)) (kind_read k close h)
   kind_read (by_fx f) rest h = kind_by_word_read Word.ByFx (fixed_texts f ++ rest) ∙ ap (λ r. r >>= λ i. Ok (by_fx i.0, i.1)) (fixed_read f rest h)
   kind_read explicit rest h = kind_by_word_read Word.Explicit rest
   kind_read (compound ss) rest h =

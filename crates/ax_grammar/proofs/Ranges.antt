@@ -41,8 +41,8 @@ parts_fit (p ∷ ps) h = (members_fit p h.0, parts_fit ps h.1)
 mutual
   pub kind_fits : (k : KindTree) → KindInRange k → KindNumbersFit k
   kind_fits (fixed f) h = fixed_fits f h
-  kind_fits (extended ps) h = parts_fit ps h
-  kind_fits (counted k) h = kind_fits k h
+  kind_fits (extended last ps) h = parts_fit ps h
+  kind_fits (counted size k) h = kind_fits k h
   kind_fits (by_fx f) h = fixed_fits f h
   kind_fits explicit h = tt
   kind_fits (compound ss) h = slots_fit ss h

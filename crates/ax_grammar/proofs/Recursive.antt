@@ -3,11 +3,15 @@ use Rattle.std.proofs.Common.{◌≡◌, ℕ, ◌<◌, ◌≤◌, Bool, true, fa
 use Rattle.ax_model.specs.Tree.{FixedTree, group, named, spare, members_of, KindTree, fixed, extended, counted, by_fx, explicit, compound, spare_slot, subitem, slots_of}
 use Rattle.ax_model.specs.declared.content.Content.{Content}
 use Rattle.ax_model.specs.declared.content.Sign.{Sign}
+use Rattle.ax_model.specs.declared.kind.Counter.{Counter}
+use Rattle.ax_model.specs.declared.kind.Counter.TheVariants.{One, Two}
+use Rattle.ax_model.specs.declared.kind.LastPart.{LastPart}
+use Rattle.ax_model.specs.declared.kind.LastPart.TheVariants.{WithFx, WithoutFx}
 use Rattle.ax_model.specs.declared.spec.UapSlot.TheVariants as Uap
 use Rattle.ax_grammar.specs.Keywords.{keyword_of}
 use Rattle.ax_grammar.specs.Tests.{name_of, number_of, text_of}
 use Rattle.ax_grammar.specs.Parsing.{Texts, Parsed, ◌>>=◌, one_of, one_at, takes_at, expect_at, braced_at}
-use Rattle.ax_grammar.specs.Rules.{keyword_at, name_at, width_at, number_at, text_at, sign_by_word, sign_at, entry_at, scale_at, content_by_word, content_at, fixed_by_word, member_step, fixed_step, fixed_at, member_at, part_at, slot_step, kind_by_word, kind_step, kind_at, slot_at, item_at, uap_slot_at}
+use Rattle.ax_grammar.specs.Rules.{keyword_at, name_at, width_at, number_at, text_at, sign_by_word, sign_at, entry_at, scale_at, content_by_word, content_at, fixed_by_word, member_step, fixed_step, fixed_at, member_at, part_at, slot_step, kind_by_word, extended_at, counted_step, kind_step, kind_at, slot_at, item_at, uap_slot_at}
 use Rattle.ax_grammar.specs.declared.keyword.Keyword.{Keyword}
 use Rattle.ax_grammar.specs.declared.keyword.Keyword.TheVariants as Word
 use Rattle.ax_grammar.proofs.Recursion.{Agree, Shrinks, IsGuarded, bind_ok, same_following, same_choice, reads, rest_is, recursive_shrinks, recursive_is}
@@ -173,18 +177,25 @@ slot_agrees k p q h texts lt =
     same_following (name_at c.1) _ _ (λ n e'. ap (λ r. r >>= λ f. Ok (subitem n.0 f.0, f.1))
     (h n.1 (omega (arith, (takes_keeps Word.Dash texts c.0 c.1 e).0, one_shrinks name_of c.1 n.0 n.1 e'))))))
 
+extended_shrinks : (last : LastPart) → Shrinks (extended_at last)
+extended_shrinks last = then_shrinks (braced_at part_at) (braced_shrinks part_at part_shrinks) (λ ps. Ok (extended last ps.0, ps.1)) (λ ps after. done_leaves (extended last ps) after)
+
+counted_shrinks : (size : Counter) (p : Texts → Parsed KindTree) → Shrinks p → Shrinks (counted_step size p)
+counted_shrinks size p s =
+    then_shrinks (expect_at Word.Open) (expect_shrinks Word.Open) (λ o. p o.1 >>= λ k. expect_at Word.Close k.1 >>= λ c. Ok (counted size k.0, c.1))
+    (λ o x. then_leaves p s (λ k. expect_at Word.Close k.1 >>= λ c. Ok (counted size k.0, c.1)) (λ k y. then_leaves (expect_at Word.Close) (expect_shrinks Word.Close) (λ c. Ok (counted size k, c.1)) (λ c z. done_leaves (counted size k) z) y) x)
+
+counted_agrees : (size : Counter) (k : ℕ) (p q : Texts → Parsed KindTree) → Agree k p q → (texts : Texts) → length texts < k → counted_step size p texts ≡ counted_step size q texts
+counted_agrees size k p q h texts lt =
+    same_following (expect_at Word.Open texts) _ _ (λ o e. ap (λ r. r >>= λ k. expect_at Word.Close k.1 >>= λ c. Ok (counted size k.0, c.1)) (h o.1 (omega (arith, lt, expect_shrinks Word.Open texts o.0 o.1 e))))
+
 -- the kinds that begin with a fixed kind are read from their first text on
 kind_less : (p : Texts → Parsed KindTree) → Shrinks p → (word : Keyword) (texts rest : Texts) → length rest < length texts → (a : KindTree) (after : Texts) → kind_by_word p word texts rest ≡ reads a after → length after < length texts
 unfolding Leaves
-kind_less p s Word.Extended texts rest lt a after e =
-    omega (arith, lt, then_leaves (braced_at part_at) (braced_shrinks part_at part_shrinks) (λ ps. Ok (extended ps.0, ps.1)) (λ ps last. done_leaves (extended ps) last) rest a after e)
-kind_less p s Word.Counted texts rest lt a after e =
-    omega (
-      arith,
-      lt,
-      then_leaves (expect_at Word.Open) (expect_shrinks Word.Open) (λ o. p o.1 >>= λ k. expect_at Word.Close k.1 >>= λ c. Ok (counted k.0, c.1))
-          (λ o x. then_leaves p s (λ k. expect_at Word.Close k.1 >>= λ c. Ok (counted k.0, c.1)) (λ k y. then_leaves (expect_at Word.Close) (expect_shrinks Word.Close) (λ c. Ok (counted k, c.1)) (λ c z. done_leaves (counted k) z) y) x) rest a after e,
-    )
+kind_less p s Word.Extended texts rest lt a after e = omega (arith, lt, extended_shrinks WithFx rest a after e)
+kind_less p s Word.Closed texts rest lt a after e = omega (arith, lt, extended_shrinks WithoutFx rest a after e)
+kind_less p s Word.Counted texts rest lt a after e = omega (arith, lt, counted_shrinks One p s rest a after e)
+kind_less p s Word.Wide texts rest lt a after e = omega (arith, lt, counted_shrinks Two p s rest a after e)
 kind_less p s Word.ByFx texts rest lt a after e =
     omega (arith, lt, then_leaves fixed_at fixed_shrinks (λ f. Ok (by_fx f.0, f.1)) (λ f last. done_leaves (by_fx f) last) rest a after e)
 kind_less p s Word.Explicit texts rest lt a after e = let r = rest_is explicit a rest after e in omega (arith, lt, ap length r)
@@ -193,8 +204,8 @@ kind_less p s Word.Compound texts rest lt a after e =
 kind_less p s word texts rest lt a after e = then_shrinks fixed_at fixed_shrinks (λ f. Ok (fixed f.0, f.1)) (λ f last. done_leaves (fixed f) last) texts a after e
 
 kind_agrees : (k : ℕ) (p q : Texts → Parsed KindTree) → Shrinks p → Shrinks q → Agree k p q → (word : Keyword) (texts rest : Texts) → length rest < k → kind_by_word p word texts rest ≡ kind_by_word q word texts rest
-kind_agrees k p q s t h Word.Counted texts rest lt =
-    same_following (expect_at Word.Open rest) _ _ (λ o e. ap (λ r. r >>= λ k. expect_at Word.Close k.1 >>= λ c. Ok (counted k.0, c.1)) (h o.1 (omega (arith, expect_shrinks Word.Open rest o.0 o.1 e))))
+kind_agrees k p q s t h Word.Counted texts rest lt = counted_agrees One k p q h rest lt
+kind_agrees k p q s t h Word.Wide texts rest lt = counted_agrees Two k p q h rest lt
 kind_agrees k p q s t h Word.Compound texts rest lt =
     ap (λ r. r >>= λ ss. Ok (compound (slots_of ss.0), ss.1))
     (braced_agrees k (slot_step p) (slot_step q) (slot_shrinks_of p s) (slot_shrinks_of q t) (slot_agrees k p q h) rest lt)

@@ -11,15 +11,19 @@ use Rattle.ax_model.specs.declared.content.Content.{Content}
 use Rattle.ax_model.specs.declared.content.Content.TheVariants as Meaning
 use Rattle.ax_model.specs.declared.content.Scale.{Scale}
 use Rattle.ax_model.specs.declared.content.Sign.{Sign}
+use Rattle.ax_model.specs.declared.kind.Counter.{Counter}
+use Rattle.ax_model.specs.declared.kind.Counter.TheVariants.{One, Two}
+use Rattle.ax_model.specs.declared.kind.LastPart.{LastPart}
+use Rattle.ax_model.specs.declared.kind.LastPart.TheVariants.{WithFx, WithoutFx}
 use Rattle.ax_model.specs.declared.spec.UapSlot.{UapSlot}
 use Rattle.ax_model.specs.declared.spec.UapSlot.TheVariants as Uap
 use Rattle.ax_grammar.specs.Keywords.{keyword_text, keyword_of, keywords}
 use Rattle.ax_grammar.specs.InRange.{IsText, IsWidth, IsNumber, EntryInRange, ContentInRange, FixedInRange, MemberInRange, MembersInRange, KindInRange, SlotInRange, SlotsInRange, ItemInRange, UapSlotInRange, InRange}
-use Rattle.ax_grammar.specs.Spelling.{quoted, sign_text, closed, block, entry_texts, content_texts, fixed_texts, member_texts, members_texts, part_texts, kind_texts, slot_texts, slots_texts, item_texts, uap_slot_texts, spelled}
+use Rattle.ax_grammar.specs.Spelling.{quoted, sign_text, closed, block, extended_word, counted_word, entry_texts, content_texts, fixed_texts, member_texts, members_texts, part_texts, kind_texts, slot_texts, slots_texts, item_texts, uap_slot_texts, spelled}
 use Rattle.ax_model.specs.Paths.{three_digits}
 use Rattle.ax_grammar.specs.Tests.{name_of, number_of, category_of, text_of}
 use Rattle.ax_grammar.specs.Parsing.{Texts, Parsed, ◌>>=◌, one_of, one_at, expect_at, takes_at, list_at, braced_at}
-use Rattle.ax_grammar.specs.Rules.{keyword_at, name_at, category_at, width_at, number_at, text_at, sign_by_word, sign_at, entry_at, scale_at, content_by_word, content_at, fixed_by_word, member_step, fixed_step, fixed_at, member_at, part_at, kind_by_word, kind_step, kind_at, slot_step, slot_at, item_at, uap_slot_at, spec_at, end_at, whole_at}
+use Rattle.ax_grammar.specs.Rules.{keyword_at, name_at, category_at, width_at, number_at, text_at, sign_by_word, sign_at, entry_at, scale_at, content_by_word, content_at, fixed_by_word, member_step, fixed_step, fixed_at, member_at, part_at, extended_at, counted_at, kind_by_word, kind_step, kind_at, slot_step, slot_at, item_at, uap_slot_at, spec_at, end_at, whole_at}
 use Rattle.ax_grammar.specs.declared.keyword.Keyword.{Keyword}
 use Rattle.ax_grammar.specs.declared.keyword.Keyword.TheVariants as Word
 use Rattle.ax_grammar.proofs.Recursion.{Shrinks, bind_ok, reads, rest_is, value_is}
@@ -314,20 +318,28 @@ slots_fit : (ss : List SlotTree) → AllByRecursion SlotInRange ss → SlotsInRa
 slots_fit [] h = tt
 slots_fit (s ∷ ss) h = (h.0, slots_fit ss h.1)
 
+extended_case : (last : LastPart) (k : ℕ) (texts after rest : Texts) (f : KindTree) → length after < suc k → texts ≡ keyword_text (extended_word last) ∷ after → extended_at last after ≡ reads f rest → KindInRange f × (texts ≡ kind_texts f ++ rest)
+extended_case last k texts after rest f lt front e =
+    let m = mapped (extended last) (braced_at part_at after) f rest e in
+    let ps = braced_found part_at part_shrinks MembersInRange part_texts k (part_found k) after rest m.0 lt m.1 in
+    subst (λ x. KindInRange x × (texts ≡ kind_texts x ++ rest)) m.2 (ps.0, front ∙ ap (λ t. keyword_text (extended_word last) ∷ t) ps.1)
+
+counted_case : (size : Counter) (k : ℕ) → Finds k kind_at KindInRange kind_texts → (texts after rest : Texts) (f : KindTree) → length after < suc k → texts ≡ keyword_text (counted_word size) ∷ after → counted_at size after ≡ reads f rest → KindInRange f × (texts ≡ kind_texts f ++ rest)
+counted_case size k h texts after rest f lt front e =
+    expecting Word.Open after rest f (λ t. kind_at t >>= λ i. expect_at Word.Close i.1 >>= λ c. reads (counted size i.0) c.1) e (KindInRange f × (texts ≡ kind_texts f ++ rest)) (λ t1 is1 less1 e1.
+    reading k kind_at KindInRange kind_texts h kind_shrinks t1 rest f (λ i. expect_at Word.Close i.1 >>= λ c. reads (counted size i.0) c.1) (omega (arith, lt, less1)) e1 (KindInRange f × (texts ≡ kind_texts f ++ rest)) (λ inner t2 fits2 is2 less2 e2.
+    expecting Word.Close t2 rest f (λ t. reads (counted size inner) t) e2 (KindInRange f × (texts ≡ kind_texts f ++ rest)) (λ t3 is3 less3 e3.
+    let last : t2 ≡ keyword_text Word.Close ∷ rest = is3 ∙ ap (λ t. keyword_text Word.Close ∷ t) (rest_is (counted size inner) f t3 rest e3) in
+    subst (λ x. KindInRange x × (texts ≡ kind_texts x ++ rest)) (value_is (counted size inner) f t3 rest e3)
+    (fits2, front ∙ ap (λ t. keyword_text (counted_word size) ∷ t) (is1 ∙ ap (λ t. keyword_text Word.Open ∷ t) (is2 ∙ ap (λ t. kind_texts inner ++ t) last ∙ sym (append_assoc (kind_texts inner) (keyword_text Word.Close ∷ []) rest)))))))
+
 kind_case : (k : ℕ) → Finds k kind_at KindInRange kind_texts → (word : Keyword) (texts after rest : Texts) (f : KindTree) → length texts < suc k → length after < length texts → texts ≡ keyword_text word ∷ after → kind_by_word kind_at word texts after ≡ reads f rest
     → KindInRange f × (texts ≡ kind_texts f ++ rest)
 unfolding slot_at
-kind_case k h Word.Extended texts after rest f lt le front e =
-    let m = mapped extended (braced_at part_at after) f rest e in
-    let ps = braced_found part_at part_shrinks MembersInRange part_texts k (part_found k) after rest m.0 (omega (arith, lt, le)) m.1 in
-    subst (λ x. KindInRange x × (texts ≡ kind_texts x ++ rest)) m.2 (ps.0, front ∙ ap (λ t. keyword_text Word.Extended ∷ t) ps.1)
-kind_case k h Word.Counted texts after rest f lt le front e =
-    expecting Word.Open after rest f (λ t. kind_at t >>= λ i. expect_at Word.Close i.1 >>= λ c. reads (counted i.0) c.1) e (KindInRange f × (texts ≡ kind_texts f ++ rest)) (λ t1 is1 less1 e1.
-    reading k kind_at KindInRange kind_texts h kind_shrinks t1 rest f (λ i. expect_at Word.Close i.1 >>= λ c. reads (counted i.0) c.1) (omega (arith, lt, le, less1)) e1 (KindInRange f × (texts ≡ kind_texts f ++ rest)) (λ inner t2 fits2 is2 less2 e2.
-    expecting Word.Close t2 rest f (λ t. reads (counted inner) t) e2 (KindInRange f × (texts ≡ kind_texts f ++ rest)) (λ t3 is3 less3 e3.
-    let last : t2 ≡ keyword_text Word.Close ∷ rest = is3 ∙ ap (λ t. keyword_text Word.Close ∷ t) (rest_is (counted inner) f t3 rest e3) in
-    subst (λ x. KindInRange x × (texts ≡ kind_texts x ++ rest)) (value_is (counted inner) f t3 rest e3)
-    (fits2, front ∙ ap (λ t. keyword_text Word.Counted ∷ t) (is1 ∙ ap (λ t. keyword_text Word.Open ∷ t) (is2 ∙ ap (λ t. kind_texts inner ++ t) last ∙ sym (append_assoc (kind_texts inner) (keyword_text Word.Close ∷ []) rest)))))))
+kind_case k h Word.Extended texts after rest f lt le front e = extended_case WithFx k texts after rest f (omega (arith, lt, le)) front e
+kind_case k h Word.Closed texts after rest f lt le front e = extended_case WithoutFx k texts after rest f (omega (arith, lt, le)) front e
+kind_case k h Word.Counted texts after rest f lt le front e = counted_case One k h texts after rest f (omega (arith, lt, le)) front e
+kind_case k h Word.Wide texts after rest f lt le front e = counted_case Two k h texts after rest f (omega (arith, lt, le)) front e
 kind_case k h Word.ByFx texts after rest f lt le front e =
     let m = mapped by_fx (fixed_at after) f rest e in
     let x = fixed_found k after rest m.0 (omega (arith, lt, le)) m.1 in

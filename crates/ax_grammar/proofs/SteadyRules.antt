@@ -7,13 +7,17 @@ use Rattle.ax_model.specs.declared.content.Content.TheVariants as Meaning
 use Rattle.ax_model.specs.declared.content.Scale.{Scale}
 use Rattle.ax_model.specs.declared.content.Sign.{Sign}
 use Rattle.ax_model.specs.declared.content.Sign.TheVariants as Signs
+use Rattle.ax_model.specs.declared.kind.Counter.{Counter}
+use Rattle.ax_model.specs.declared.kind.Counter.TheVariants.{One, Two}
+use Rattle.ax_model.specs.declared.kind.LastPart.{LastPart}
+use Rattle.ax_model.specs.declared.kind.LastPart.TheVariants.{WithFx, WithoutFx}
 use Rattle.ax_model.specs.declared.spec.UapSlot.TheVariants as Uap
 use Rattle.ax_grammar.specs.Keywords.{keyword_text, keyword_of}
 use Rattle.ax_grammar.specs.Spelling.{quoted}
 use Rattle.ax_model.specs.Paths.{three_digits}
 use Rattle.ax_grammar.specs.Tests.{name_of, number_of, category_of, text_of}
 use Rattle.ax_grammar.specs.Parsing.{Texts, Parsed, ◌>>=◌, one_of, expect_at, braced_at}
-use Rattle.ax_grammar.specs.Rules.{name_at, category_at, width_at, number_at, text_at, sign_by_word, sign_at, entry_at, scale_at, content_by_word, content_at, fixed_by_word, member_step, fixed_step, fixed_at, member_at, part_at, kind_by_word, kind_step, kind_at, slot_step, slot_at, item_at, uap_slot_at, spec_at}
+use Rattle.ax_grammar.specs.Rules.{name_at, category_at, width_at, number_at, text_at, sign_by_word, sign_at, entry_at, scale_at, content_by_word, content_at, fixed_by_word, member_step, fixed_step, fixed_at, member_at, part_at, extended_at, counted_at, kind_by_word, kind_step, kind_at, slot_step, slot_at, item_at, uap_slot_at, spec_at}
 use Rattle.ax_grammar.specs.declared.keyword.Keyword.{Keyword}
 use Rattle.ax_grammar.specs.declared.keyword.Keyword.TheVariants as Word
 use Rattle.ax_grammar.proofs.Recursion.{Shrinks, reads}
@@ -238,23 +242,28 @@ abbrev fixed_kind_at : Texts → Parsed KindTree
 fixed_kind_at texts = fixed_at texts >>= λ f. reads (fixed f.0) f.1
 
 -- a kind, and the brace that closes it
-closes_due : (i : KindTree) → Due (mapping (λ u. counted i) (expect_at Word.Close))
-closes_due i = record { texts = keyword_text Word.Close ∷ []; value = counted i; due = λ more. refl }
+closes_due : (size : Counter) (i : KindTree) → Due (mapping (λ u. counted size i) (expect_at Word.Close))
+closes_due size i = record { texts = keyword_text Word.Close ∷ []; value = counted size i; due = λ more. refl }
 
-inner_due : Due (λ texts. kind_at texts >>= λ i. expect_at Word.Close i.1 >>= λ c. reads (counted i.0) c.1)
-inner_due = record { texts = keyword_text Word.Explicit ∷ keyword_text Word.Close ∷ []; value = counted explicit; due = λ more. ap (λ r. r >>= λ i. expect_at Word.Close i.1 >>= λ c. reads (counted i.0) c.1) (kind_read explicit (keyword_text Word.Close ∷ more) tt) }
+inner_due : (size : Counter) → Due (λ texts. kind_at texts >>= λ i. expect_at Word.Close i.1 >>= λ c. reads (counted size i.0) c.1)
+inner_due size = record { texts = keyword_text Word.Explicit ∷ keyword_text Word.Close ∷ []; value = counted size explicit; due = λ more. ap (λ r. r >>= λ i. expect_at Word.Close i.1 >>= λ c. reads (counted size i.0) c.1) (kind_read explicit (keyword_text Word.Close ∷ more) tt) }
 
-counted_steady : (k : ℕ) → IsSteady k kind_at → IsSteady k (λ texts. expect_at Word.Open texts >>= λ o. kind_at o.1 >>= λ i. expect_at Word.Close i.1 >>= λ c. reads (counted i.0) c.1)
-counted_steady k l =
-    then_steady k (expect_at Word.Open) (λ o texts. kind_at texts >>= λ i. expect_at Word.Close i.1 >>= λ c. reads (counted i.0) c.1) (expect_steady k Word.Open)
-    (λ o. then_steady k kind_at (λ i texts. expect_at Word.Close texts >>= λ c. reads (counted i) c.1) l (λ i. map_steady k (λ u. counted i) (expect_at Word.Close) (expect_steady k Word.Close)) closes_due)
-    (λ o. inner_due)
+counted_steady : (size : Counter) (k : ℕ) → IsSteady k kind_at → IsSteady k (counted_at size)
+counted_steady size k l =
+    then_steady k (expect_at Word.Open) (λ o texts. kind_at texts >>= λ i. expect_at Word.Close i.1 >>= λ c. reads (counted size i.0) c.1) (expect_steady k Word.Open)
+    (λ o. then_steady k kind_at (λ i texts. expect_at Word.Close texts >>= λ c. reads (counted size i) c.1) l (λ i. map_steady k (λ u. counted size i) (expect_at Word.Close) (expect_steady k Word.Close)) (closes_due size))
+    (λ o. inner_due size)
+
+extended_steady : (last : LastPart) (k : ℕ) → IsSteady k (extended_at last)
+extended_steady last k = map_steady k (extended last) (braced_at part_at) (braced_steady part_at part_shrinks k (part_steady k))
 
 kind_case : (k : ℕ) → IsSteady k kind_at → (o : Option Keyword) (text : List ℕ) (rest : Texts) → length rest < k → ((more : Texts) → kind_at (text ∷ more) ≡ on_keyword o (kind_by_word kind_at) text more) → At kind_at (text ∷ rest) (kind_at (text ∷ rest))
 unfolding slot_at
 kind_case k l None text rest lt e = refused kind_at (text ∷ rest) kind_due e
-kind_case k l (Some Word.Extended) text rest lt e = after kind_at _ text rest e (map_steady k extended (braced_at part_at) (braced_steady part_at part_shrinks k (part_steady k)) rest lt)
-kind_case k l (Some Word.Counted) text rest lt e = after kind_at _ text rest e (counted_steady k l rest lt)
+kind_case k l (Some Word.Extended) text rest lt e = after kind_at _ text rest e (extended_steady WithFx k rest lt)
+kind_case k l (Some Word.Closed) text rest lt e = after kind_at _ text rest e (extended_steady WithoutFx k rest lt)
+kind_case k l (Some Word.Counted) text rest lt e = after kind_at _ text rest e (counted_steady One k l rest lt)
+kind_case k l (Some Word.Wide) text rest lt e = after kind_at _ text rest e (counted_steady Two k l rest lt)
 kind_case k l (Some Word.ByFx) text rest lt e = after kind_at _ text rest e (map_steady k by_fx fixed_at (fixed_steady k) rest lt)
 kind_case k l (Some Word.Explicit) text rest lt e = done kind_at explicit text rest e
 kind_case k l (Some Word.Compound) text rest lt e =

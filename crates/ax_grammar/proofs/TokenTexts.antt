@@ -24,7 +24,7 @@ use Rattle.ax_grammar.specs.Answers.{texts_of, SpellsSpec}
 use Rattle.ax_grammar.specs.InRange.{IsText, IsWidth, EntryInRange, ContentInRange, FixedInRange, MemberInRange, MembersInRange, KindInRange, SlotInRange, SlotsInRange, ItemInRange, UapSlotInRange, InRange}
 use Rattle.ax_grammar.specs.Keywords.{keyword_text}
 use Rattle.ax_grammar.specs.Printing.{kind_of, spelled_tokens}
-use Rattle.ax_grammar.specs.Spelling.{quoted, sign_text, closed, block, entry_texts, content_texts, fixed_texts, member_texts, members_texts, part_texts, kind_texts, slot_texts, slots_texts, item_texts, uap_slot_texts, spelled, printed}
+use Rattle.ax_grammar.specs.Spelling.{quoted, sign_text, closed, block, extended_word, counted_word, entry_texts, content_texts, fixed_texts, member_texts, members_texts, part_texts, kind_texts, slot_texts, slots_texts, item_texts, uap_slot_texts, spelled, printed}
 use Rattle.ax_model.specs.Paths.{three_digits}
 use Rattle.ax_grammar.specs.Rules.{whole_at}
 use Rattle.ax_grammar.specs.Tests.{is_digit}
@@ -63,7 +63,9 @@ keyword_token Word.Item = (lit< tt, refl)
 keyword_token Word.Element = (lit< tt, refl)
 keyword_token Word.Group = (lit< tt, refl)
 keyword_token Word.Extended = (lit< tt, refl)
+keyword_token Word.Closed = (lit< tt, refl)
 keyword_token Word.Counted = (lit< tt, refl)
+keyword_token Word.Wide = (lit< tt, refl)
 keyword_token Word.ByFx = (lit< tt, refl)
 keyword_token Word.Explicit = (lit< tt, refl)
 keyword_token Word.Compound = (lit< tt, refl)
@@ -182,8 +184,8 @@ part_tokens ms h = block_tokens Word.Part (members_texts ms) (members_tokens ms 
 mutual
   pub kind_tokens : (k : KindTree) → KindInRange k → AreTokens (kind_texts k)
   kind_tokens (fixed f) h = fixed_tokens f h
-  kind_tokens (extended ps) h = block_tokens Word.Extended (flat_map part_texts ps) (each part_texts MembersInRange part_tokens ps h)
-  kind_tokens (counted k) h = block_tokens Word.Counted (kind_texts k) (kind_tokens k h)
+  kind_tokens (extended last ps) h = block_tokens (extended_word last) (flat_map part_texts ps) (each part_texts MembersInRange part_tokens ps h)
+  kind_tokens (counted size k) h = block_tokens (counted_word size) (kind_texts k) (kind_tokens k h)
   kind_tokens (by_fx f) h = (keyword_token Word.ByFx, fixed_tokens f h)
   kind_tokens explicit h = (keyword_token Word.Explicit, tt)
   kind_tokens (compound ss) h = block_tokens Word.Compound (slots_texts ss) (slots_tokens ss h)

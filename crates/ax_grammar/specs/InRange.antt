@@ -56,8 +56,8 @@ abbrev mutual
   -- a kind
   pub KindInRange : KindTree → Type 0
   KindInRange (fixed kind) = FixedInRange kind
-  KindInRange (extended parts) = AllByRecursion MembersInRange parts
-  KindInRange (counted kind) = KindInRange kind
+  KindInRange (extended last parts) = AllByRecursion MembersInRange parts
+  KindInRange (counted size kind) = KindInRange kind
   KindInRange (by_fx kind) = FixedInRange kind
   KindInRange explicit = Unit {0}
   KindInRange (compound slots) = SlotsInRange slots
@@ -120,8 +120,8 @@ abbrev mutual
   -- those of a kind
   pub KindNumbersFit : KindTree → Type 0
   KindNumbersFit (fixed kind) = FixedNumbersFit kind
-  KindNumbersFit (extended parts) = AllByRecursion MembersNumbersFit parts
-  KindNumbersFit (counted kind) = KindNumbersFit kind
+  KindNumbersFit (extended last parts) = AllByRecursion MembersNumbersFit parts
+  KindNumbersFit (counted size kind) = KindNumbersFit kind
   KindNumbersFit (by_fx kind) = FixedNumbersFit kind
   KindNumbersFit explicit = Unit {0}
   KindNumbersFit (compound slots) = SlotsNumbersFit slots

@@ -13,7 +13,9 @@ keyword_text Word.Item = codes "item"
 keyword_text Word.Element = codes "element"
 keyword_text Word.Group = codes "group"
 keyword_text Word.Extended = codes "extended"
+keyword_text Word.Closed = codes "closed"
 keyword_text Word.Counted = codes "counted"
+keyword_text Word.Wide = codes "wide"
 keyword_text Word.ByFx = codes "byfx"
 keyword_text Word.Explicit = codes "explicit"
 keyword_text Word.Compound = codes "compound"
@@ -35,7 +37,7 @@ keyword_text Word.Close = codes "}"
 -- each of them
 abbrev pub keywords : List Keyword
 keywords = Word.Category ∷ Word.Edition ∷ Word.Items ∷ Word.Uap ∷ Word.Item ∷ Word.Element ∷ Word.Group ∷ Word.Extended
-    ∷ Word.Counted ∷ Word.ByFx ∷ Word.Explicit ∷ Word.Compound ∷ Word.Part ∷ Word.Spare ∷ Word.Dash ∷ Word.Raw ∷ Word.Table
+    ∷ Word.Closed ∷ Word.Counted ∷ Word.Wide ∷ Word.ByFx ∷ Word.Explicit ∷ Word.Compound ∷ Word.Part ∷ Word.Spare ∷ Word.Dash ∷ Word.Raw ∷ Word.Table
     ∷ Word.Ascii ∷ Word.Icao ∷ Word.Octal ∷ Word.Integer ∷ Word.Quantity ∷ Word.Unsigned ∷ Word.Signed ∷ Word.Open ∷ Word.Close ∷ []
 
 -- the one of these octets

@@ -7,6 +7,10 @@ use Rattle.ax_model.specs.declared.content.Content.TheVariants as Meaning
 use Rattle.ax_model.specs.declared.content.Scale.{Scale}
 use Rattle.ax_model.specs.declared.content.Sign.{Sign}
 use Rattle.ax_model.specs.declared.content.TableText.{TableText}
+use Rattle.ax_model.specs.declared.kind.Counter.{Counter}
+use Rattle.ax_model.specs.declared.kind.Counter.TheVariants.{One, Two}
+use Rattle.ax_model.specs.declared.kind.LastPart.{LastPart}
+use Rattle.ax_model.specs.declared.kind.LastPart.TheVariants.{WithFx, WithoutFx}
 use Rattle.ax_model.specs.declared.spec.UapSlot.{UapSlot}
 use Rattle.ax_model.specs.declared.spec.UapSlot.TheVariants as Uap
 use Rattle.ax_grammar.specs.Keywords.{keyword_of}
@@ -134,12 +138,26 @@ member_at = member_step fixed_at
 
 -- ---- kinds
 
--- a part of an extended kind
+-- a part of an extended or closed kind
 unfoldable pub part_at : Texts → Parsed MembersTree
 part_at texts = do
   word ← expect_at Word.Part texts
   members ← braced_at member_at word.1
   Ok (members_of members.0, members.1)
+
+-- what follows the keyword of an extended or closed kind
+abbrev pub extended_at : LastPart → Texts → Parsed KindTree
+extended_at last texts = do
+  parts ← braced_at part_at texts
+  Ok (extended last parts.0, parts.1)
+
+-- what follows the keyword of a counted or wide kind, where kinds reads kinds
+abbrev pub counted_step : Counter → (Texts → Parsed KindTree) → Texts → Parsed KindTree
+counted_step size kinds texts = do
+  opens ← expect_at Word.Open texts
+  kind ← kinds opens.1
+  closes ← expect_at Word.Close kind.1
+  Ok (counted size kind.0, closes.1)
 
 -- a slot of a compound, where kinds reads kinds
 unfoldable pub slot_step : (Texts → Parsed KindTree) → Texts → Parsed SlotTree
@@ -152,14 +170,10 @@ slot_step kinds texts = do
 
 -- what follows a kind's keyword; texts begin with it
 abbrev pub kind_by_word : (Texts → Parsed KindTree) → Keyword → Texts → Texts → Parsed KindTree
-kind_by_word kinds Word.Extended texts rest = do
-  parts ← braced_at part_at rest
-  Ok (extended parts.0, parts.1)
-kind_by_word kinds Word.Counted texts rest = do
-  opens ← expect_at Word.Open rest
-  kind ← kinds opens.1
-  closes ← expect_at Word.Close kind.1
-  Ok (counted kind.0, closes.1)
+kind_by_word kinds Word.Extended texts rest = extended_at WithFx rest
+kind_by_word kinds Word.Closed texts rest = extended_at WithoutFx rest
+kind_by_word kinds Word.Counted texts rest = counted_step One kinds rest
+kind_by_word kinds Word.Wide texts rest = counted_step Two kinds rest
 kind_by_word kinds Word.ByFx texts rest = do
   kind ← fixed_at rest
   Ok (by_fx kind.0, kind.1)
@@ -181,13 +195,9 @@ kind_step kinds texts = do
 unfoldable pub kind_at : Texts → Parsed KindTree
 kind_at = recursive kind_step
 
--- what follows the keyword of a counted kind
-abbrev pub counted_at : Texts → Parsed KindTree
-counted_at texts = do
-  opens ← expect_at Word.Open texts
-  kind ← kind_at opens.1
-  closes ← expect_at Word.Close kind.1
-  Ok (counted kind.0, closes.1)
+-- what follows the keyword of a counted or wide kind
+abbrev pub counted_at : Counter → Texts → Parsed KindTree
+counted_at size = counted_step size kind_at
 
 -- a slot of a compound
 unfoldable pub slot_at : Texts → Parsed SlotTree

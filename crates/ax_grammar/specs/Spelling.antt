@@ -9,6 +9,10 @@ use Rattle.ax_model.specs.declared.content.Content.TheVariants as Meaning
 use Rattle.ax_model.specs.declared.content.Sign.{Sign}
 use Rattle.ax_model.specs.declared.content.Sign.TheVariants.{Unsigned, Signed}
 use Rattle.ax_model.specs.declared.content.TableText.{TableText}
+use Rattle.ax_model.specs.declared.kind.Counter.{Counter}
+use Rattle.ax_model.specs.declared.kind.Counter.TheVariants.{One, Two}
+use Rattle.ax_model.specs.declared.kind.LastPart.{LastPart}
+use Rattle.ax_model.specs.declared.kind.LastPart.TheVariants.{WithFx, WithoutFx}
 use Rattle.ax_model.specs.declared.spec.UapSlot.{UapSlot}
 use Rattle.ax_model.specs.declared.spec.UapSlot.TheVariants as Uap
 use Rattle.ax_tokens.specs.Octets.{line_feed, quote}
@@ -70,18 +74,28 @@ abbrev mutual
   members_texts no_members = []
   members_texts (member_and member members) = member_texts member ++ members_texts members
 
--- a part of an extended kind
+-- a part of an extended or closed kind
 abbrev pub part_texts : MembersTree → List (List ℕ)
 part_texts members = block Word.Part (members_texts members)
 
 -- ---- kinds
 
+-- a closed kind is an extended one whose last part has no FX bit
+abbrev pub extended_word : LastPart → Keyword
+extended_word WithFx = Word.Extended
+extended_word WithoutFx = Word.Closed
+
+-- a wide kind is a counted one whose counter has two octets
+abbrev pub counted_word : Counter → Keyword
+counted_word One = Word.Counted
+counted_word Two = Word.Wide
+
 abbrev mutual
   -- a kind; a fixed one stands for itself
   pub kind_texts : KindTree → List (List ℕ)
   kind_texts (fixed kind) = fixed_texts kind
-  kind_texts (extended parts) = block Word.Extended (flat_map part_texts parts)
-  kind_texts (counted kind) = block Word.Counted (kind_texts kind)
+  kind_texts (extended last parts) = block (extended_word last) (flat_map part_texts parts)
+  kind_texts (counted size kind) = block (counted_word size) (kind_texts kind)
   kind_texts (by_fx kind) = keyword_text Word.ByFx ∷ fixed_texts kind
   kind_texts explicit = keyword_text Word.Explicit ∷ []
   kind_texts (compound slots) = block Word.Compound (slots_texts slots)

@@ -15,7 +15,9 @@ pub enum Keyword {
     Element,
     Group,
     Extended,
+    Closed,
     Counted,
+    Wide,
     ByFx,
     Explicit,
     Compound,
@@ -37,7 +39,7 @@ pub enum Keyword {
 }
 
 /// Each of them.
-const KEYWORDS: [Keyword; 26] = [
+const KEYWORDS: [Keyword; 28] = [
     Keyword::Category,
     Keyword::Edition,
     Keyword::Items,
@@ -46,7 +48,9 @@ const KEYWORDS: [Keyword; 26] = [
     Keyword::Element,
     Keyword::Group,
     Keyword::Extended,
+    Keyword::Closed,
     Keyword::Counted,
+    Keyword::Wide,
     Keyword::ByFx,
     Keyword::Explicit,
     Keyword::Compound,
@@ -80,7 +84,9 @@ impl Keyword {
             Keyword::Element => b"element",
             Keyword::Group => b"group",
             Keyword::Extended => b"extended",
+            Keyword::Closed => b"closed",
             Keyword::Counted => b"counted",
+            Keyword::Wide => b"wide",
             Keyword::ByFx => b"byfx",
             Keyword::Explicit => b"explicit",
             Keyword::Compound => b"compound",

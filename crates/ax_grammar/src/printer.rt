@@ -1,20 +1,41 @@
 //! The text of a specification, token by token.
 
-ghost use Rattle.std.specs.Prelude.{[], ◌∷◌, drop, map, decimal};
+ghost use Rattle.std.specs.Prelude.{◌≡◌, [], ◌∷◌, drop, map, decimal};
 ghost use Rattle.std.specs.List.{flat_map};
 ghost use Rattle.ax_model.specs.Plain.{fixed_tree, member_tree, members_tree, part_tree, kind_tree, slot_tree, slots_tree, item_tree, spec_tree};
 ghost use Rattle.ax_grammar.specs.Keywords.{keyword_text};
 ghost use Rattle.ax_grammar.specs.Prints.{Adds, Prints};
-ghost use Rattle.ax_grammar.specs.Spelling.{quoted, sign_text, entry_texts, content_texts, fixed_texts, member_texts, members_texts, part_texts, kind_texts, slot_texts, slots_texts, item_texts, uap_slot_texts, spelled};
+ghost use Rattle.ax_grammar.specs.Spelling.{quoted, sign_text, extended_word, counted_word, entry_texts, content_texts, fixed_texts, member_texts, members_texts, part_texts, kind_texts, slot_texts, slots_texts, item_texts, uap_slot_texts, spelled};
 ghost use Rattle.ax_model.specs.Paths.{three_digits};
 ghost use Rattle.ax_grammar.specs.declared.keyword.Keyword.TheVariants as Word;
 
 use crate::keyword::Keyword;
 use ax_model::{
-    Content, Fixed, Item, Items, Kind, Member, Members, Name, Part, Parts, Scale, Sign, Slot,
-    Slots, Spec, TableText, TableTexts, Text, UapSlot, UapSlots, category_digits,
+    Content, Counter, Fixed, Item, Items, Kind, LastPart, Member, Members, Name, Part, Parts,
+    Scale, Sign, Slot, Slots, Spec, TableText, TableTexts, Text, UapSlot, UapSlots,
+    category_digits,
 };
 use itoa::Buffer;
+
+/// The keyword of a kind of parts.
+fn extended_word(last: LastPart) -> Keyword
+    ensures { result ≡ extended_word last }
+{
+    match last {
+        LastPart::WithFx => Keyword::Extended,
+        LastPart::WithoutFx => Keyword::Closed,
+    }
+}
+
+/// The keyword of a kind with a counter.
+fn counted_word(size: Counter) -> Keyword
+    ensures { result ≡ counted_word size }
+{
+    match size {
+        Counter::One => Keyword::Counted,
+        Counter::Two => Keyword::Wide,
+    }
+}
 
 /// Prints tokens, each after a space. Where memory runs out, it keeps that, and adds nothing more.
 #[derive(Drop)]
@@ -204,13 +225,16 @@ impl Printer {
     {
         match kind {
             Kind::Fixed(fixed) => self.fixed(fixed),
-            Kind::Extended(parts) => {
-                self.open(Keyword::Extended);
+            Kind::Extended { last, parts } => {
+                self.open(extended_word(*last));
                 self.parts(parts);
                 self.word(Keyword::Close);
             }
-            Kind::Counted(inner) => {
-                self.open(Keyword::Counted);
+            Kind::Counted {
+                counter: size,
+                inner,
+            } => {
+                self.open(counted_word(*size));
                 self.kind(inner);
                 self.word(Keyword::Close);
             }

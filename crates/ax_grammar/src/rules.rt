@@ -9,13 +9,13 @@ ghost use Rattle.ax_model.specs.Tree.{MembersTree};
 ghost use Rattle.ax_model.specs.declared.content.TableText as Table;
 ghost use Rattle.ax_model.specs.declared.spec.UapSlot as Uap;
 ghost use Rattle.ax_grammar.specs.Parsing.{Texts, Parsed, LeavesLess, braced_at};
-ghost use Rattle.ax_grammar.specs.Rules.{sign_at, entry_at, scale_at, content_at, member_at, fixed_at, part_at, counted_at, kind_at, slot_at, item_at, uap_slot_at, spec_at};
+ghost use Rattle.ax_grammar.specs.Rules.{sign_at, entry_at, scale_at, content_at, member_at, fixed_at, part_at, extended_at, counted_at, kind_at, slot_at, item_at, uap_slot_at, spec_at};
 
 use crate::keyword::Keyword;
 use crate::reader::SpecReader;
 use ax_model::{
-    Content, Fixed, Item, Kind, Member, Members, Part, Scale, Sequence, Sign, Slot, Slots, Spec,
-    TableText, UapSlot,
+    Content, Counter, Fixed, Item, Kind, LastPart, Member, Members, Part, Scale, Sequence, Sign,
+    Slot, Slots, Spec, TableText, UapSlot,
 };
 use ax_token_reader::Stopped;
 use std::alloc::Global;
@@ -168,6 +168,14 @@ impl<'r, 't> SpecReader<'r, 't> {
         Ok(Member::Named { name, fixed })
     }
 
+    /// What follows `extended` or `closed`: parts in braces.
+    fn extended(&mut self, alloc: Global, last: LastPart) -> Result<Kind, Stopped>
+        ensures { Gives kind_tree result self.new (extended_at last self.old) }
+    {
+        let parts = self.braced(alloc)?;
+        Ok(Kind::Extended { last, parts })
+    }
+
     #[cycle(read_kind)]
     #[tactic(auto, using(crate::proofs::Recursive::kind_is), unfolding(crate::specs::Rules::kind_step))]
     fn kind(&mut self, alloc: Global) -> Result<Kind, Stopped>
@@ -176,11 +184,19 @@ impl<'r, 't> SpecReader<'r, 't> {
         match self.keyword()? {
             Keyword::Extended => {
                 self.skip();
-                self.braced(alloc).map(Kind::Extended)
+                self.extended(alloc, LastPart::WithFx)
+            }
+            Keyword::Closed => {
+                self.skip();
+                self.extended(alloc, LastPart::WithoutFx)
             }
             Keyword::Counted => {
                 self.skip();
-                self.counted(alloc)
+                self.counted(alloc, Counter::One)
+            }
+            Keyword::Wide => {
+                self.skip();
+                self.counted(alloc, Counter::Two)
             }
             Keyword::ByFx => {
                 self.skip();
@@ -198,16 +214,19 @@ impl<'r, 't> SpecReader<'r, 't> {
         }
     }
 
-    /// What follows `counted`: a kind in braces.
+    /// What follows `counted` or `wide`: a kind in braces.
     #[cycle(read_kind)]
-    fn counted(&mut self, alloc: Global) -> Result<Kind, Stopped>
-        ensures { Gives kind_tree result self.new (counted_at self.old) }
+    fn counted(&mut self, alloc: Global, size: Counter) -> Result<Kind, Stopped>
+        ensures { Gives kind_tree result self.new (counted_at size self.old) }
     {
         self.expect(Keyword::Open)?;
         let inner = self.kind(alloc)?;
         self.expect(Keyword::Close)?;
         let inner = Box::new(alloc, inner)?;
-        Ok(Kind::Counted(inner))
+        Ok(Kind::Counted {
+            counter: size,
+            inner,
+        })
     }
 
     /// Slots in braces.

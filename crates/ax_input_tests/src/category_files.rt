@@ -4,7 +4,8 @@ use crate::checks::same_text;
 use crate::lexing::{has_fault, have_one_spelling, tokens_of};
 use ax_grammar::{SyntaxError, print_spec, read_spec};
 use ax_samples::{
-    CAT048_P1, FILE_E, FILE_G1, FILE_H1, FILE_H2, FILE_K, FILE_N, FILE_S, FILE_Z, NESTED_TOO_DEEP,
+    CAT048_P1, FILE_E, FILE_G1, FILE_H1, FILE_H2, FILE_K, FILE_N, FILE_S, FILE_W, FILE_Z,
+    NESTED_TOO_DEEP,
 };
 use ax_tokens::LexError;
 use std::alloc::Global;
@@ -22,7 +23,23 @@ fn bad_token(rt: &impl Abort, alloc: Global, text: &[u8]) -> Option<u32> {
     }
 }
 
-const BAD_TOKENS: [(&[u8], u32); 20] = [
+const BAD_TOKENS: [(&[u8], u32); 24] = [
+    (
+        b"category 034 edition \"X\" items { item 000 \"T\" closed { element 7 raw } } uap { }",
+        11,
+    ),
+    (
+        b"category 034 edition \"X\" items { item 000 \"T\" wide { element 8 raw element 8 raw } } uap { }",
+        14,
+    ),
+    (
+        b"category 034 edition \"X\" items { item 000 \"T\" wide {",
+        11,
+    ),
+    (
+        b"category 034 edition \"X\" items { item 000 \"T\" wide { } } uap { }",
+        11,
+    ),
     (b"", 0),
     (b"# nothing but a comment", 0),
     (
@@ -117,8 +134,8 @@ fn is_printed_as(rt: &impl Abort, alloc: Global, text: &[u8], want: &[u8]) -> Re
 }
 
 // Files on one line.
-const FILES: [&str; 8] = [
-    FILE_E, FILE_K, FILE_N, FILE_S, FILE_G1, FILE_H1, FILE_H2, FILE_Z,
+const FILES: [&str; 9] = [
+    FILE_E, FILE_K, FILE_N, FILE_S, FILE_W, FILE_G1, FILE_H1, FILE_H2, FILE_Z,
 ];
 
 #[test]

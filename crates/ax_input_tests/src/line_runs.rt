@@ -3,7 +3,7 @@ ghost use Rattle.ax_line_stream.specs.Examples.{echo_command};
 
 use crate::outside::{Input, source};
 use ax_line_stream::{LineStop, LineWork, LinesEnd, run_lines};
-use ax_outside::MemSink;
+use ax_outside::{MemSink, fill};
 use std::alloc::Global;
 use std::process::Abort;
 
@@ -152,15 +152,35 @@ fn a_failing_read_ends_the_run(rt: HostRuntime) {
 
 const UNENDED: &[u8] = b"12\n3";
 
-// The same of an input whose last line has no line feed: it is a line once the input has ended, though a later read fails.
-const LAST_READS: [(u64, &str); 3] = [(3, "12"), (4, "12"), (5, "123")];
+// The same of an input whose last line has no line feed: it isn't written where a read fails, and once the input has ended
+// there is no later read.
+const LAST_READS: [(u64, &str, LinesEnd<u64>); 3] = [
+    (3, "12", LinesEnd::ReadFault),
+    (4, "12", LinesEnd::ReadFault),
+    (5, "123", LinesEnd::Done { results: 2 }),
+];
 
 #[test]
-fn a_last_line_is_given_where_the_input_ended(rt: HostRuntime) {
-    for &(call, written) in &LAST_READS {
+fn nothing_is_read_once_the_input_has_ended(rt: HostRuntime) {
+    for &(call, written, end) in &LAST_READS {
         let input: Input<'_> = (UNENDED, &[1; 6], &[call]);
-        leaves(&rt, rt.alloc(), input, SOUND, written, LinesEnd::ReadFault);
+        leaves(&rt, rt.alloc(), input, SOUND, written, end);
     }
+}
+
+const REFUSED: &[u8] = b"x\n1\n";
+
+// The line after it is left, octet by octet.
+#[test]
+fn nothing_is_read_after_a_refused_line(rt: HostRuntime) {
+    let alloc = rt.alloc();
+    let mut source = source(&rt, alloc, (REFUSED, &[1; 4], &[]));
+    let mut out = sink(&rt, alloc, SOUND);
+    let ended = run_lines(alloc, &mut echo_work(alloc), &mut source, &mut out);
+    assert!(rt; ended == LinesEnd::Refused { line: 0, fault: 0 });
+    let mut rest = [0; 4];
+    let count = fill(&mut source, &mut rest).expect(&rt, "a read");
+    assert_eq!(rt; &rest[..count], "1\n".as_bytes());
 }
 
 // How many octets a call writes at most, the failing call, what is written, and the end: each result is one piece.

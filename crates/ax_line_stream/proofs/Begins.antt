@@ -1,5 +1,5 @@
 -- Lines at the front of an input, one line after another.
-use Rattle.std.proofs.Common.{◌≡◌, ℕ, ◌+◌, List, [], ◌∷◌, ◌++◌, Option, Some, None, length, refl, sym, ◌∙◌, ap, subst, append_assoc, append-nil, inl, inr}
+use Rattle.std.proofs.Common.{◌≡◌, ℕ, ◌+◌, ◌≤◌, List, [], ◌∷◌, ◌++◌, Option, Some, None, length, refl, sym, ◌∙◌, ap, subst, append_assoc}
 use Rattle.ax_lines.specs.Lined.{LinedEnd, line, end, IsNextLine, Lined}
 use Rattle.ax_line_stream.specs.Runs.{BeginsWith, IsLeftOf}
 use Rattle.ax_outside.specs.Told.{with_front, IsAtEnd}
@@ -34,27 +34,10 @@ lined_begins line_limit limit before octets (one ∷ lines) e (after, taken, nex
 
 -- ---- what is left is the last of the octets
 
-pub left_on : (octets front mid : List ℕ) (left : Option (List ℕ)) → octets ≡ front ++ mid → IsLeftOf mid left → IsLeftOf octets left
-left_on octets front mid left split l = record {
-  front = front ++ l.front;
-  rest = l.rest;
-  split = split ∙ ap (λ x. front ++ x) l.split ∙ sym (append_assoc front l.front l.rest);
-  left = l.left;
-}
-
-pub left_after_line : (line_limit limit before : ℕ) (octets one after : List ℕ) (left : Option (List ℕ)) → IsNextLine line_limit limit before octets (line one after) → IsLeftOf after left → IsLeftOf octets left
-left_after_line line_limit limit before octets one after left (inl h) l = left_on octets (one ++ (10 ∷ [])) after left (h.split ∙ sym (append_assoc one (10 ∷ []) after)) l
-left_after_line line_limit limit before octets one after left (inr h) l = left_on octets one after left (h.split ∙ sym (append-nil one) ∙ ap (λ x. one ++ x) (sym h.none_following)) l
-
-pub left_after_lines : (line_limit limit before : ℕ) (octets : List ℕ) (lines : List (List ℕ)) (past : ℕ) (rest : List ℕ) (left : Option (List ℕ)) → BeginsWith line_limit limit before octets lines past rest → IsLeftOf rest left → IsLeftOf octets left
-left_after_lines line_limit limit before octets [] past rest left (at, same) l = subst (λ x. IsLeftOf x left) (sym same) l
-left_after_lines line_limit limit before octets (one ∷ lines) past rest left (after, taken, next, count, more) l =
-    left_after_line line_limit limit before octets one after left next (left_after_lines line_limit limit (before + taken) after lines past rest left more l)
-
 -- the octets held are in front of those that are left
-pub left_of_ahead : (held rest : List ℕ) (left : Option (List ℕ)) → with_front held left ≡ Some rest → IsLeftOf rest left
-left_of_ahead held rest None is = absurd (let e : ◌≡◌ {A = Option (List ℕ)} None (Some rest) = is in cc)
-left_of_ahead held rest (Some x) is = record { front = held; rest = x; split = (let e : ◌≡◌ {A = Option (List ℕ)} (Some (held ++ x)) (Some rest) = is in cc); left = refl }
+pub left_of_ahead : (most : ℕ) (held rest : List ℕ) (left : Option (List ℕ)) → length held ≤ most → with_front held left ≡ Some rest → IsLeftOf most rest left
+left_of_ahead most held rest None near is = absurd (let e : ◌≡◌ {A = Option (List ℕ)} None (Some rest) = is in cc)
+left_of_ahead most held rest (Some x) near is = record { front = held; rest = x; near = near; split = (let e : ◌≡◌ {A = Option (List ℕ)} (Some (held ++ x)) (Some rest) = is in cc); left = refl }
 
 -- these are in front of those that are left
 pub record IsPartOf (octets front : List ℕ) (left : Option (List ℕ)) : Type 0 where
@@ -69,8 +52,8 @@ part_of_taken held taken rest left (Some x) is gives =
     let f : rest ≡ held ++ (taken ++ x) = cc in
     record { after = x; split = f ∙ sym (append_assoc held taken x); left_is = refl }
 
-pub left_of_part : (octets front : List ℕ) (left : Option (List ℕ)) → IsPartOf octets front left → IsLeftOf octets left
-left_of_part octets front left p = record { front = front; rest = p.after; split = p.split; left = p.left_is }
+pub left_of_part : (most : ℕ) (octets front : List ℕ) (left : Option (List ℕ)) → length front ≤ most → IsPartOf octets front left → IsLeftOf most octets left
+left_of_part most octets front left near p = record { front = front; rest = p.after; near = near; split = p.split; left = p.left_is }
 
-pub none_left : (octets : List ℕ) (left : Option (List ℕ)) → IsLeftOf octets left → IsAtEnd left → left ≡ Some []
-none_left octets left l at_end = let e : l.rest ≡ [] = subst IsAtEnd l.left at_end in l.left ∙ ap Some e
+pub none_left : (most : ℕ) (octets : List ℕ) (left : Option (List ℕ)) → IsLeftOf most octets left → IsAtEnd left → left ≡ Some []
+none_left most octets left l at_end = let e : l.rest ≡ [] = subst IsAtEnd l.left at_end in l.left ∙ ap Some e

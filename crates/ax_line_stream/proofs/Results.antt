@@ -1,9 +1,10 @@
 -- The answers to lines, one line after another, and what a sink gains by them.
-use Rattle.std.proofs.Common.{◌≡◌, ℕ, suc, ◌+◌, List, [], ◌∷◌, ◌++◌, Option, length, take, sum_by, sym, ◌∙◌, ap, subst, arith, append-nil}
+use Rattle.std.proofs.Common.{◌≡◌, ℕ, suc, ◌+◌, List, [], ◌∷◌, ◌++◌, Option, length, take, sum_by, sym, ◌∙◌, ap, subst, arith, append_assoc, append-nil}
 use Rattle.std.proofs.lemmas.List.Concat.{flat_map-append}
 use Rattle.std.proofs.lemmas.List.Sums.{sum_by-append, sum_by-cons}
 use Rattle.std.specs.List.{AllByRecursion}
 use Rattle.ax_line_stream.specs.Commands.{LineCommand, LineAnswer, octets_in, results_in, IsAnswered, output_of, results_of, AreAnswersFrom, AreAnswered}
+use Rattle.ax_line_stream.specs.Runs.{with_feeds}
 use Rattle.ax_outside.proofs.Ends.{with_end-nil, with_end-append}
 use Rattle.ax_outside.specs.Changes.{SinkChange, Gains, GainsNothing, GainsPart, GainsWithPart}
 use Rattle.ax_outside.specs.Told.{with_end}
@@ -43,6 +44,12 @@ module _ {F : Type 0} (c : LineCommand F) where
 pub length_snoc : (lines : List (List ℕ)) (l : List ℕ) → length (lines ++ l ∷ []) ≡ length lines + 1
 length_snoc [] l = omega arith
 length_snoc (x ∷ lines) l = let e = length_snoc lines l in omega arith
+
+pub feeds_snoc : (input : List ℕ) (lines : List (List ℕ)) (one rest after : List ℕ) → input ≡ with_feeds lines ++ rest → rest ≡ one ++ (10 ∷ after) → input ≡ with_feeds (lines ++ one ∷ []) ++ after
+feeds_snoc input lines one rest after is split =
+    let fed : List ℕ → List ℕ = λ l. l ++ 10 ∷ [] in
+    let more : with_feeds (lines ++ one ∷ []) ≡ with_feeds lines ++ (one ++ 10 ∷ []) = flat_map-append fed lines (one ∷ []) ∙ ap (λ x. with_feeds lines ++ x) (append-nil (one ++ 10 ∷ [])) in
+    is ∙ ap (λ x. with_feeds lines ++ x) (split ∙ sym (append_assoc one (10 ∷ []) after)) ∙ sym (append_assoc (with_feeds lines) (one ++ 10 ∷ []) after) ∙ ap (λ x. x ++ after) (sym more)
 
 -- ---- sinks
 

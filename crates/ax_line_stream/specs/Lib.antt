@@ -3,4 +3,5 @@ pub mod Completing
 pub mod Ending
 pub mod Examples
 pub mod Runs
+pub mod Standing
 pub mod Taking

@@ -1,11 +1,12 @@
 -- What the octets buffered show, and what comes next in the input.
 use Rattle.std.proofs.Common.{◌≡◌, ℕ, zero, suc, ◌+◌, ◌-◌, ◌<◌, ◌≤◌, inl, inr, List, [], ◌∷◌, ◌++◌, Option, Some, None, length, take, drop, slice_range, min, refl, sym, ◌∙◌, ap, subst, arith, append_assoc, append-nil, length-append, length-take-le, length-drop, Result, Ok, Err, IfSome}
+use Rattle.std.proofs.lemmas.Bool.{eq-eqb, ne_eqb}
 use Rattle.std.proofs.lemmas.List.{drop-take}
 use Rattle.ax_lines.specs.Feeds.{IsFirstFeed}
 use Rattle.ax_lines.specs.Holding.{HoldsLine, HoldsPart}
 use Rattle.ax_lines.specs.Judging.{CutsLine, Judges}
 use Rattle.ax_lines.specs.Lined.{LinedEnd, all_lines, input_too_long, line_too_long, NextLine, line, end, IsNextLine, IsJustNextLine, PassesLimit}
-use Rattle.ax_lines.specs.Reader.{OnTold, OnEnd, OnReadFault, OnTooLong, Shows, ahead, IsToldLine, FindsEnd, StopsInLine}
+use Rattle.ax_lines.specs.Reader.{OnTold, OnEnd, OnReadFault, OnTooLong, Shows, ShowsLine, ended_if, ended_after, read_ahead, ahead, IsToldLine, FindsEnd, StopsInLine}
 use Rattle.ax_lines.specs.Window.{HoldsNext}
 use Rattle.ax_lines.specs.declared.judging.Cut.{Cut}
 use Rattle.ax_lines.specs.declared.line_error.LineError.{LineError}
@@ -102,6 +103,21 @@ back_of_range buffer start stop n le =
     ap (λ k. drop n (take k (drop start buffer))) (let e : stop - start ≡ n + (stop - (start + n)) = omega arith in e) ∙ drop-take n (stop - (start + n)) (drop start buffer)
     ∙ ap (take (stop - (start + n))) (drop_more buffer start n (start + n) refl)
 
+-- ---- a line and its line feed, or the last one
+
+-- the line feed is an octet of what is before the octets after it
+shows_line : (line_limit limit given : ℕ) (octets one after : List ℕ) (left : Option (List ℕ)) (start size whole : ℕ) → length one ≡ size → length octets ≡ whole + length after → Shows line_limit limit given octets left (line one after)
+    → ShowsLine line_limit limit given octets left one after (ended_after (start + size) (start + whole))
+shows_line line_limit limit given octets one after left start size whole is count (inl h) =
+    let all : length octets ≡ length one + suc (length after) = ap length h.split ∙ length-append one (10 ∷ after) in
+    let other : start + whole ≡ start + size → ⊥ = λ e. absurd (let f : start + whole ≡ start + size = e in omega arith) in
+    inl (h, ap ended_if (ne_eqb (start + whole) (start + size) other))
+shows_line line_limit limit given octets one after left start size whole is count (inr (h, at_end)) =
+    let all : length octets ≡ length one = ap length h.split in
+    let none : length after ≡ 0 = ap length h.none_following in
+    let same : start + whole ≡ start + size = omega arith in
+    inr (h, at_end, ap ended_if (eq-eqb (start + whole) (start + size) same))
+
 -- ---- what is buffered for a line is judged
 
 -- a line and its line feed are within the limit of the input
@@ -115,9 +131,12 @@ line_within line_limit limit given octets one after left n size (inr (h, at_end)
     let within : given + length one ≤ limit = h.within in
     omega arith
 
-module _ (line_limit limit given : ℕ) (le : given ≤ limit) (i : SourceChange) (before buffer : List ℕ) (most : ℕ) (buffered : Buffered) (enough : most ≡ min (limit - given) line_limit + 1) (h : HoldsLine i before buffer most buffered) where
+module _ (line_limit limit given : ℕ) (le : given ≤ limit) (i : SourceChange) (before buffer : List ℕ) (most : ℕ) (buffered : Buffered) (enough : most ≡ min (limit - given) line_limit + 1) (capacity : length buffer ≡ line_limit + read_ahead) (h : HoldsLine i before buffer most buffered) where
   size : length (before ++ h.octets) ≡ buffered.end - buffered.start
   size = ap length (sym h.stands) ∙ size_of_range buffer buffered.start buffered.end h.window h.within
+
+  room : length (before ++ h.octets) ≤ line_limit + read_ahead
+  room = let s = size in let w : buffered.end ≤ length buffer = h.within in omega arith
 
   abbrev pub JudgesBuffered : Result (Option Cut) LineError → Type 0
   JudgesBuffered result = JudgesAll line_limit (limit - given) buffered.feed (buffered.end - buffered.start) result
@@ -129,6 +148,7 @@ module _ (line_limit limit given : ℕ) (le : given ≤ limit) (i : SourceChange
   finds e s = record {
     taken = h.octets;
     took = h.took;
+    room = room;
     shows = s;
     told = on_told (λ rest. IsJustNextLine line_limit limit given rest (end e)) before h.octets i.left i.left' h.took.gives (λ rest is. just_next line_limit limit given (before ++ h.octets) rest i.left' (end e) le is s);
   }
@@ -158,7 +178,9 @@ module _ (line_limit limit given : ℕ) (le : given ≤ limit) (i : SourceChange
         gives = record {
           taken = h.octets;
           took = h.took;
-          shows = shows;
+          room = room;
+          shows = shows_line line_limit limit given (before ++ h.octets) (slice_range buffer buffered.start (buffered.start + cut.line)) (slice_range buffer (buffered.start + cut.whole) buffered.end) i.left' buffered.start cut.line cut.whole
+              (let e : length (slice_range buffer buffered.start (buffered.start + cut.line)) ≡ buffered.start + cut.line - buffered.start = size_of_range buffer buffered.start (buffered.start + cut.line) (omega arith) (omega arith) in omega arith) (omega arith) shows;
           counts = omega arith;
           told = on_told (λ rest. IsToldLine line_limit limit given rest (ahead (slice_range buffer (buffered.start + cut.whole) buffered.end) i.left') (slice_range buffer buffered.start (buffered.start + cut.line))) before h.octets i.left i.left' h.took.gives (λ rest is. record {
             after = slice_range buffer (buffered.start + cut.whole) buffered.end ++ rest;

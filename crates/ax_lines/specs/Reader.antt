@@ -1,5 +1,5 @@
 -- What contracts see of a line reader and of its answers.
-use Rattle.std.specs.Prelude.{◌≡◌, ℕ, ◌+◌, ◌≤◌, ◌⊎◌, List, [], ◌++◌, length, Option, Some, None, Result, Ok, Err}
+use Rattle.std.specs.Prelude.{◌≡◌, ◌==◌, ℕ, ◌+◌, ◌≤◌, ◌⊎◌, Bool, true, false, List, [], ◌++◌, length, Option, Some, None, Result, Ok, Err}
 use Rattle.std.specs.Borrow.{Bor}
 use Rattle.ax_lines.specs.Feeds.{IsPlain}
 use Rattle.ax_lines.specs.Holding.{Took}
@@ -47,6 +47,16 @@ abbrev pub OnReadFault : {A : Type 0} → Result (Option A) LineError → Type 0
 OnReadFault (Err ReadFault) P = P
 OnReadFault _ P = Unit {0}
 
+abbrev pub UnlessReadFault : {A : Type 0} → Result A LineError → Type 0 → Type 0
+UnlessReadFault (Err ReadFault) P = Unit {0}
+UnlessReadFault _ P = P
+
+-- at another answer than a line
+abbrev pub IfNoLine : {A : Type 0} → Result (Option A) LineError → Type 0 → Type 0
+IfNoLine (Ok (Some octets)) P = Unit {0}
+IfNoLine (Ok None) P = P
+IfNoLine (Err e) P = P
+
 abbrev pub OnTooLong : {A : Type 0} → Result (Option A) LineError → Type 0 → Type 0
 OnTooLong (Err InputTooLong) P = P
 OnTooLong _ P = Unit {0}
@@ -57,11 +67,20 @@ line_read (Ok (Some octets)) = Ok (Some octets.now)
 line_read (Ok None) = Ok None
 line_read (Err e) = Err e
 
--- what the reader answers from now on
+-- what the reader answers from now on, after another answer than a line
 abbrev pub ended_by : {A : Type 0} → Result (Option A) LineError → Option Ended
 ended_by (Ok (Some octets)) = None
 ended_by (Ok None) = Some EndOfInput
 ended_by (Err e) = Some (Refused e)
+
+-- and after a line, of which the octets of the buffer end at `stop` and those after it and its line feed begin at `next`: the
+-- last one has no line feed, and None comes after it
+abbrev pub ended_if : Bool → Option Ended
+ended_if true = Some EndOfInput
+ended_if false = None
+
+abbrev pub ended_after : ℕ → ℕ → Option Ended
+ended_after stop next = ended_if (next == stop)
 
 -- ---- what octets show that are known so far
 
@@ -71,6 +90,15 @@ Shows line_limit limit given octets left (line one after) = IsFedLine line_limit
 Shows line_limit limit given octets left (end all_lines) = (octets ≡ []) × IsAtEnd left
 Shows line_limit limit given octets left (end input_too_long) = PassesLimit line_limit limit given octets
 Shows line_limit limit given octets left (end line_too_long) = PassesLine line_limit limit given octets
+
+-- a line and its line feed, after which the reader goes on; or the last one, with which the source has ended, and the reader
+abbrev pub ShowsLine : ℕ → ℕ → ℕ → List ℕ → Option (List ℕ) → List ℕ → List ℕ → Option Ended → Type 0
+ShowsLine line_limit limit given octets left one after ended =
+    (IsFedLine line_limit limit given octets one after × (ended ≡ None)) ⊎ (IsLastLine line_limit limit given octets one after × IsAtEnd left × (ended ≡ Some EndOfInput))
+
+-- how many octets the reader holds besides those of the longest line
+abbrev pub read_ahead : ℕ
+read_ahead = 65536
 
 -- ---- what an answer says. `buffered` are the octets that the reader had taken before the call
 
@@ -85,10 +113,11 @@ pub record IsToldLine (line_limit limit given : ℕ) (before : List ℕ) (follow
   pub just : IsJustNextLine line_limit limit given before (line octets after)
 
 -- a line is given: the octets buffered and those taken begin with it, and the reader holds what is after it and its line feed
-pub record GivesLine (line_limit limit given : ℕ) (buffered : List ℕ) (i : SourceChange) (given' : ℕ) (buffered' octets : List ℕ) : Type 0 where
+pub record GivesLine (line_limit limit given : ℕ) (buffered : List ℕ) (i : SourceChange) (given' : ℕ) (buffered' : List ℕ) (ended' : Option Ended) (octets : List ℕ) : Type 0 where
   pub taken : List ℕ
   pub took : Took i taken
-  pub shows : Shows line_limit limit given (buffered ++ taken) i.left' (line octets buffered')
+  pub room : length (buffered ++ taken) ≤ line_limit + read_ahead
+  pub shows : ShowsLine line_limit limit given (buffered ++ taken) i.left' octets buffered' ended'
   pub counts : given' + length buffered' ≡ given + length (buffered ++ taken)
   pub told : OnTold (ahead buffered i.left) (λ before. IsToldLine line_limit limit given before (ahead buffered' i.left') octets)
 
@@ -96,6 +125,7 @@ pub record GivesLine (line_limit limit given : ℕ) (buffered : List ℕ) (i : S
 pub record FindsEnd (line_limit limit given : ℕ) (buffered : List ℕ) (i : SourceChange) (e : LinedEnd) : Type 0 where
   pub taken : List ℕ
   pub took : Took i taken
+  pub room : length (buffered ++ taken) ≤ line_limit + read_ahead
   pub shows : Shows line_limit limit given (buffered ++ taken) i.left' (end e)
   pub told : OnTold (ahead buffered i.left) (λ before. IsJustNextLine line_limit limit given before (end e))
 
@@ -112,5 +142,5 @@ pub record IsAfter (old : ReaderState) (i : SourceChange) (result : Result (Opti
   pub same_line_limit : new.line_limit ≡ old.line_limit
   pub same_limit : new.limit ≡ old.limit
   pub within : new.given ≤ new.limit
-  pub keeps : new.ended ≡ ended_by result
-  pub gives : OnLine result (GivesLine old.line_limit old.limit old.given old.buffered i new.given new.buffered)
+  pub keeps : IfNoLine result (new.ended ≡ ended_by result)
+  pub gives : OnLine result (GivesLine old.line_limit old.limit old.given old.buffered i new.given new.buffered new.ended)

@@ -1,6 +1,6 @@
 -- The next line in a buffer.
 use Rattle.std.specs.Prelude.{ℕ, ◌+◌, ◌-◌, ◌≤◌, List, length, slice_range}
-use Rattle.ax_lines.specs.Reader.{GivesLine}
+use Rattle.ax_lines.specs.Reader.{ended_after, GivesLine}
 use Rattle.ax_lines.specs.declared.next_line.BufferedLine.{BufferedLine}
 use Rattle.ax_outside.specs.Changes.{SourceChange}
 
@@ -11,4 +11,4 @@ pub record HoldsNext (line_limit limit given : ℕ) (buffered : List ℕ) (i : S
   pub order : line.next ≤ line.end
   pub inside : line.end ≤ length buffer
   pub within : given + (line.next - line.start) ≤ limit
-  pub gives : GivesLine line_limit limit given buffered i (given + (line.next - line.start)) (slice_range buffer line.next line.end) (slice_range buffer line.start line.stop)
+  pub gives : GivesLine line_limit limit given buffered i (given + (line.next - line.start)) (slice_range buffer line.next line.end) (ended_after line.stop line.next) (slice_range buffer line.start line.stop)

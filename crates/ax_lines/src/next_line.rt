@@ -1,7 +1,7 @@
 //! The next line, buffered in a buffer.
 ghost use Rattle.std.specs.Prelude.{◌≡◌, ◌+◌, ◌≤◌, ◌<◌, ◌⊎◌, length, slice_range};
 ghost use Rattle.ax_lines.specs.Feeds.{IsPlain};
-ghost use Rattle.ax_lines.specs.Reader.{OnLine, OnEnd, OnReadFault, OnTooLong, FindsEnd, StopsInLine};
+ghost use Rattle.ax_lines.specs.Reader.{read_ahead, OnLine, OnEnd, OnReadFault, UnlessReadFault, OnTooLong, FindsEnd, StopsInLine};
 ghost use Rattle.ax_lines.specs.Window.{HoldsNext};
 ghost use Rattle.ax_outside.specs.Changes.{source_change};
 ghost use Rattle.ax_outside.specs.Told.{Rose};
@@ -35,7 +35,7 @@ pub fn next_line<S: Source>(
 ) -> Result<Option<BufferedLine>, LineError>
     requires window { start ≤ end }
     requires within { end ≤ length buffer.old }
-    requires fits { line_limit < length buffer.old }
+    requires room { length buffer.old ≡ line_limit + read_ahead }
     requires in_limit { given ≤ limit }
     ensures line { OnLine result (HoldsNext line_limit limit given (slice_range buffer.old start end) (source_change S.Source source.old source.new) buffer.new) }
     ensures end { OnEnd result (FindsEnd line_limit limit given (slice_range buffer.old start end) (source_change S.Source source.old source.new)) }
@@ -44,6 +44,8 @@ pub fn next_line<S: Source>(
     ensures asks { IsPlain (slice_range buffer.old start end) ⊎ (source.new ≡ source.old) }
     ensures rose { OnReadFault result (Rose (S.faults source.old) (S.faults source.new)) }
     ensures never_falls { S.faults source.old ≤ S.faults source.new }
+    ensures once { S.faults source.new ≤ S.faults source.old + 1 }
+    ensures quiet { UnlessReadFault result (S.faults source.new ≡ S.faults source.old) }
 {
     let room = limit - given;
     let most = room.min(line_limit as u64) as usize + 1;

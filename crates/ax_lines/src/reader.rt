@@ -2,7 +2,8 @@
 ghost use Rattle.std.specs.Prelude.{◌≡◌, IfOk, length};
 
 use crate::line_error::LineError;
-use crate::next_line::next_line;
+use crate::next_line::{BufferedLine, next_line};
+use ax_lists::zeros;
 use ax_outside::Source;
 use std::alloc::{AllocError, Global};
 use std::marker::Model;
@@ -28,7 +29,7 @@ pub struct LineReader {
 
 impl Model for LineReader {
     ghost use Rattle.std.specs.Prelude.{◌≡◌, ◌+◌, ◌≤◌, length, slice_range};
-    ghost use Rattle.ax_lines.specs.Reader.{ReaderState};
+    ghost use Rattle.ax_lines.specs.Reader.{ReaderState, read_ahead};
 
     ghost Value = { ReaderState };
 
@@ -40,7 +41,7 @@ impl Model for LineReader {
       ended = r.ended;
     } };
 
-    ghost invariant = { λ r. (length r.buffer.items ≡ r.line_limit + 65536) × (r.start ≤ r.end) × (r.end ≤ length r.buffer.items) × (r.given ≤ r.limit) };
+    ghost invariant = { λ r. (length r.buffer.items ≡ r.line_limit + read_ahead) × (r.start ≤ r.end) × (r.end ≤ length r.buffer.items) × (r.given ≤ r.limit) };
 }
 
 impl LineReader {
@@ -48,7 +49,7 @@ impl LineReader {
     ghost use Rattle.std.specs.Borrow.{sem};
     ghost use Rattle.std.specs.Io.BufRead.{Rests};
     ghost use Rattle.ax_lines.specs.Feeds.{IsPlain};
-    ghost use Rattle.ax_lines.specs.Reader.{IsAfter, IsOpen, line_read, ended_by, OnEnd, OnTooLong, OnReadFault, FindsEnd, StopsInLine};
+    ghost use Rattle.ax_lines.specs.Reader.{IsAfter, IsOpen, line_read, ended_by, ended_after, OnEnd, OnTooLong, OnReadFault, UnlessReadFault, FindsEnd, StopsInLine};
     ghost use Rattle.ax_lines.specs.contracts.reader.LineReader.{the_row};
     ghost use Rattle.ax_outside.specs.Changes.{source_change};
     ghost use Rattle.ax_outside.specs.Told.{Rose};
@@ -72,16 +73,30 @@ impl LineReader {
         })
     }
 
+    /// How the reader has ended once it has given the line: a line without its line feed is the last one.
+    fn ended_after(line: BufferedLine) -> Option<Ended>
+        ensures { result ≡ ended_after line.stop line.next }
+    {
+        if line.next == line.stop {
+            Some(Ended::EndOfInput)
+        } else {
+            None
+        }
+    }
+
     /// The next line of the input, without its line feed, which the last line needn't have; None exactly where no octet is
     /// left. It takes no memory, and asks the source only while the octets that it holds have no line feed; it may take
-    /// octets of later lines, and holds them.
+    /// octets of later lines, and holds them: with those of the line it holds at most the longest line and 65,536 octets.
     ///
     /// - `InputTooLong` exactly at octet number `limit` + 1 of the input; of a source that doesn't tell its octets, only
     ///   where the number of those taken passes the limit.
     /// - `LineTooLong` exactly at octet number `line_limit` + 1 of a line, where that isn't the other octet too.
-    /// - `ReadFault` only where the source counted a fault in this call; every line was given then whose line feed was taken.
+    /// - `ReadFault` only where the source counted a fault in this call; every line was given then whose line feed was taken,
+    ///   and no other. One fault at most is counted, and none at another answer: after a read that failed the source isn't
+    ///   asked again.
     ///
-    /// After None or a refusal it gives the same answer again, and takes nothing.
+    /// After None or a refusal it gives the same answer again, and takes nothing. After a line without a line feed, which is
+    /// the last one, it gives None: the source has ended, and isn't asked again.
     pub fn next<'b, S: Source>(&'b mut self, source: &mut S) -> Result<Option<&'b [u8]>, LineError>
         ensures* after { sem 𝓛 (Rests the_row self.entry (λ new. IsAfter self.old (source_change S.Source source.old source.new) (line_read result) new)) }
         ensures again { IfSome self.old.ended (λ ended. (ended_by result ≡ Some ended) × (source.new ≡ source.old)) }
@@ -91,6 +106,8 @@ impl LineReader {
         ensures asks { IsPlain self.old.buffered ⊎ (source.new ≡ source.old) }
         ensures rose { IsOpen self.old → OnReadFault result (Rose (S.faults source.old) (S.faults source.new)) }
         ensures never_falls { S.faults source.old ≤ S.faults source.new }
+        ensures once { S.faults source.new ≤ S.faults source.old + 1 }
+        ensures quiet { UnlessReadFault result (S.faults source.new ≡ S.faults source.old) }
     {
         match self.ended {
             Some(Ended::EndOfInput) => return Ok(None),
@@ -110,6 +127,7 @@ impl LineReader {
                 self.start = line.next;
                 self.end = line.end;
                 self.given += (line.next - line.start) as u64;
+                self.ended = LineReader::ended_after(line);
                 Ok(Some(&self.buffer[line.start..line.stop]))
             }
             Ok(None) => {
@@ -126,10 +144,3 @@ impl LineReader {
 
 /// The octets that the buffer takes besides those of the longest line.
 const READ_AHEAD: usize = 65_536;
-
-// The buffer stands in a function of its own, so that no proof spells out its octets.
-fn zeros(alloc: Global, count: usize) -> Result<Vec<u8>, AllocError>
-    ensures { IfOk result (λ made. length made.items ≡ count) }
-{
-    vec![in alloc; 0; count]
-}

@@ -1,5 +1,5 @@
 //! Octets taken until a line ends.
-ghost use Rattle.std.specs.Prelude.{◌≡◌, ◌≤◌, ◌<◌, ◌⊎◌, length, take, slice_range, IfOk, OnErr};
+ghost use Rattle.std.specs.Prelude.{◌≡◌, ◌+◌, ◌≤◌, ◌<◌, ◌⊎◌, length, take, slice_range, IfOk, OnErr};
 ghost use Rattle.ax_lines.specs.Feeds.{IsPlain};
 ghost use Rattle.ax_lines.specs.Holding.{HoldsLine, HoldsPart};
 ghost use Rattle.ax_outside.specs.Changes.{source_change};
@@ -32,6 +32,8 @@ fn read_line<S: Source>(
     ensures part { OnErr result (HoldsPart (source_change S.Source source.old source.new) (take buffered buffer.old) most) }
     ensures rose { OnErr result (Rose (S.faults source.old) (S.faults source.new)) }
     ensures never_falls { S.faults source.old ≤ S.faults source.new }
+    ensures once { S.faults source.new ≤ S.faults source.old + 1 }
+    ensures quiet { IfOk result (λ _. S.faults source.new ≡ S.faults source.old) }
 {
     let mut filled = buffered;
     while filled < most {
@@ -78,6 +80,8 @@ pub fn hold_line<S: Source>(
     ensures asks { IsPlain (slice_range buffer.old start end) ⊎ (source.new ≡ source.old) }
     ensures rose { OnErr result (Rose (S.faults source.old) (S.faults source.new)) }
     ensures never_falls { S.faults source.old ≤ S.faults source.new }
+    ensures once { S.faults source.new ≤ S.faults source.old + 1 }
+    ensures quiet { IfOk result (λ _. S.faults source.new ≡ S.faults source.old) }
 {
     if let Some(at) = first_feed(&buffer[start..end]) {
         return Ok(Buffered {

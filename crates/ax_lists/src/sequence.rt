@@ -72,12 +72,20 @@ impl<T> Sequence<T> {
 }
 
 impl<T: Copy> Sequence<T> {
+    /// A list of these members. Takes their room once.
+    pub fn of(alloc: Global, members: &[T]) -> Result<Self, AllocError>
+        requires { length members.now < list_bound }
+        ensures { IfOk result (λ made. made ≡ members.now) }
+    {
+        let members = Vec::from_slice(alloc, members)?;
+        Ok(Sequence { members })
+    }
+
     /// A list of the same members. Takes their room once.
     pub fn copy(&self, alloc: Global) -> Result<Self, AllocError>
         ensures { IfOk result (λ made. made ≡ self.now) }
     {
-        let members = Vec::from_slice(alloc, self.members.as_slice())?;
-        Ok(Sequence { members })
+        Sequence::of(alloc, self.as_slice())
     }
 }
 

@@ -4,3 +4,4 @@ pub mod FilesLoaded
 pub mod FilesOnce
 pub mod EndsOnce
 pub mod TwoFiles
+pub mod TakenFiles

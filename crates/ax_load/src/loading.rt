@@ -1,8 +1,9 @@
 //! The category files of a command line, loaded one after another into a catalogue.
-ghost use Rattle.std.specs.Prelude.{◌≡◌, ◌≤◌, ◌<◌, true, false, [], ◌∷◌, length, IfOk, IfErr};
+ghost use Rattle.std.specs.Prelude.{◌≡◌, ◌+◌, ◌≤◌, ◌<◌, true, false, [], ◌∷◌, length, IfOk, IfErr};
 ghost use Rattle.ax_model.specs.Plain.{spec_tree, catalogue_tree};
 ghost use Rattle.ax_load.specs.Adding.{stop_of_adding};
-ghost use Rattle.ax_outside.specs.Changes.{library_counts};
+ghost use Rattle.ax_load.specs.Counting.{TookFiles, TookAt, TookThrough, UnlessLoadFault};
+ghost use Rattle.ax_outside.specs.Changes.{IsUnasked, library_counts};
 ghost use Rattle.ax_load.specs.Loading.{GivesSpec, StopsAtFile, FilesGive, FilesEnd};
 
 use crate::fault::{LoadStop, SpecFault};
@@ -12,7 +13,8 @@ use ax_outside::{Library, LoadError};
 use ax_words::WordText;
 use std::alloc::Global;
 
-/// The specification of the file of that name, or how the run ends. The file has that number in the order of the words.
+/// The specification of the file of that name, or how the run ends. The file has that number in the order of the words. It is
+/// loaded once: one fault at most is counted, and none but at `LoadFault`.
 #[tactic(auto, using(crate::proofs::FileLemmas::file_ends))]
 pub fn load_file<L: Library>(
     alloc: Global,
@@ -24,7 +26,11 @@ pub fn load_file<L: Library>(
     ensures stops { IfErr result (λ outcome. StopsAtFile (L.files library.old) (library_counts L.Library library.old library.new) name.now file outcome) }
     ensures keeps { L.files library.new ≡ L.files library.old }
     ensures number_never_falls { L.taken library.old ≤ L.taken library.new }
+    ensures took { IfOk result (λ _. TookFiles (L.files library.old) (L.taken library.old) (L.taken library.new) (name.now ∷ [])) }
+    ensures took_at_stop { IfErr result (λ stop. TookAt (L.files library.old) (L.taken library.old) (L.taken library.new) name.now stop) }
     ensures never_falls { L.faults library.old ≤ L.faults library.new }
+    ensures once { L.faults library.new ≤ L.faults library.old + 1 }
+    ensures quiet { UnlessLoadFault result (L.faults library.new ≡ L.faults library.old) }
 {
     let octets = match library.load(alloc, name, LARGEST_FILE) {
         Ok(octets) => octets,
@@ -54,7 +60,8 @@ fn adding_stop(error: AddError, file: u32) -> LoadStop
     }
 }
 
-/// The catalogue of the files of these names, or how the run ends at the first one that gives no specification.
+/// The catalogue of the files of these names, or how the run ends at the first one that gives no specification. Each is loaded
+/// once, in this order, and none after the first one that ends the run.
 pub fn load_catalogue<L: Library>(
     alloc: Global,
     library: &mut L,
@@ -65,7 +72,12 @@ pub fn load_catalogue<L: Library>(
     ensures ends { IfErr result (λ outcome. FilesEnd true (L.files library.old) (library_counts L.Library library.old library.new) names.now outcome) }
     ensures keeps { L.files library.new ≡ L.files library.old }
     ensures number_never_falls { L.taken library.old ≤ L.taken library.new }
+    ensures took { IfOk result (λ _. TookFiles (L.files library.old) (L.taken library.old) (L.taken library.new) names.now) }
+    ensures unasked { IfOk result (λ _. names.now ≡ [] → IsUnasked (library_counts L.Library library.old library.new)) }
+    ensures took_through { IfErr result (λ stop. TookThrough (L.files library.old) (L.taken library.old) (L.taken library.new) names.now stop) }
     ensures never_falls { L.faults library.old ≤ L.faults library.new }
+    ensures once { L.faults library.new ≤ L.faults library.old + 1 }
+    ensures quiet { UnlessLoadFault result (L.faults library.new ≡ L.faults library.old) }
 {
     let mut catalogue = Catalogue::new(alloc);
     let mut file: u32 = 0;
@@ -91,7 +103,11 @@ pub fn load_two<L: Library>(
     ensures ends { IfErr result (λ outcome. FilesEnd false (L.files library.old) (library_counts L.Library library.old library.new) (first.now ∷ second.now ∷ []) outcome) }
     ensures keeps { L.files library.new ≡ L.files library.old }
     ensures number_never_falls { L.taken library.old ≤ L.taken library.new }
+    ensures took { IfOk result (λ _. TookFiles (L.files library.old) (L.taken library.old) (L.taken library.new) (first.now ∷ second.now ∷ [])) }
+    ensures took_through { IfErr result (λ stop. TookThrough (L.files library.old) (L.taken library.old) (L.taken library.new) (first.now ∷ second.now ∷ []) stop) }
     ensures never_falls { L.faults library.old ≤ L.faults library.new }
+    ensures once { L.faults library.new ≤ L.faults library.old + 1 }
+    ensures quiet { UnlessLoadFault result (L.faults library.new ≡ L.faults library.old) }
 {
     let one = load_file(alloc, library, first, 0)?;
     let other = load_file(alloc, library, second, 1)?;

@@ -43,8 +43,8 @@ mutual
   value_moved (compound ts) (compound ss) (marked es) e h = ap marked (entries_moved 1 ts ss es h)
   value_moved (fixed g) (fixed (element w c)) (marked es) e h = absurd h
   value_moved (fixed g) (fixed (group ms)) (marked es) e h = absurd h
-  value_moved (extended qs) (extended ps) (marked es) e h = absurd h
-  value_moved (counted l) (counted k) (marked es) e h = absurd h
+  value_moved (extended last qs) (extended other ps) (marked es) e h = absurd h
+  value_moved (counted size l) (counted other k) (marked es) e h = absurd h
   value_moved (by_fx g) (by_fx f) (marked es) e h = absurd h
   value_moved explicit explicit (marked es) e h = absurd h
   value_moved _ _ (marked es) e h = cc

@@ -85,7 +85,7 @@ module _ (m : Migrator) (number : ℕ) (raw : RawTree) (of : IsOfEditions m) (sa
         let records = found.0 in
         let wrote = w.lines records found.1 in record {
           within = short;
-          takes = record { means = record { lines = lines records; is = gives_for records count output found.1 (l.block records found.1) short; wrote = wrote.whole }; later = wrote.later };
+          takes = record { means = record { lines = lines records; is = gives_for records count output found.1 (l.block records found.1) short; wrote = wrote.whole }; later = wrote.later; once = wrote.once; quiet = wrote.quiet };
         }
 
     pub block_cut : (h h' : Option (List ℕ)) (f f' : ℕ) (e : SinkFailed) → count ≤ 65535 → WritesLosses m raw.body number (change h h' f f') (Err e) → StopsAt m number raw (change h h' f f') ReportFault
@@ -93,7 +93,7 @@ module _ (m : Migrator) (number : ℕ) (raw : RawTree) (of : IsOfEditions m) (sa
     block_cut h h' f f' e short w =
         let records = found.0 in
         let wrote = w.lines records found.1 in record {
-          takes = λ laid. record { means = record { lines = lines records; octets = take count output; is = gives_for records count output found.1 (l.block records found.1) short; part = wrote.part }; later = wrote.later };
+          takes = λ laid. record { means = record { lines = lines records; octets = take count output; is = gives_for records count output found.1 (l.block records found.1) short; part = wrote.part }; later = wrote.later; once = wrote.once; quiet = tt };
           memory = λ x. cc;
         }
 
@@ -112,6 +112,8 @@ module _ (m : Migrator) (number : ℕ) (raw : RawTree) (of : IsOfEditions m) (sa
               nothing = refl;
             };
             later = omega arith;
+            once = omega arith;
+            quiet = refl;
           };
           memory = λ x. cc;
         }
@@ -126,6 +128,8 @@ module _ (m : Migrator) (number : ℕ) (raw : RawTree) (of : IsOfEditions m) (sa
             nothing = refl;
           };
           later = omega arith;
+          once = omega arith;
+          quiet = refl;
         };
         memory = λ x. cc;
       }
@@ -149,6 +153,8 @@ opaque_taken m number raw h f count u output laid other few some block is = reco
     wrote = sym (with_end-nil h);
   };
   later = omega arith;
+  once = omega arith;
+  quiet = refl;
 }
 
 -- ---- the front of the output, as it stands in the vector again

@@ -1,5 +1,5 @@
 //! The output, and opaque blocks laid at its front.
-ghost use Rattle.std.specs.Prelude.{◌≡◌, ◌+◌, ◌*◌, ◌≤◌, length, take, IfOk};
+ghost use Rattle.std.specs.Prelude.{◌≡◌, ◌+◌, ◌*◌, ◌≤◌, length, take};
 ghost use Rattle.ax_bits.specs.Bits.{bits, AreOctets};
 ghost use Rattle.ax_model.specs.CanonicalOctets.{framed};
 ghost use Rattle.ax_model.specs.Sizes.{longest_block};
@@ -7,17 +7,9 @@ ghost use Rattle.ax_model.specs.Sizes.{longest_block};
 use ax_bits::Out;
 use ax_model::RawBlock;
 use ax_values::write_opaque;
-use std::alloc::{AllocError, Global};
 
 /// The octets of an output: 65,535 that are kept, and after them room for the longest item.
 pub(crate) const ROOM: usize = 131_067;
-
-/// So many zeros. They stand in a function of their own, so that no proof spells them out.
-pub(crate) fn zeros(alloc: Global, count: usize) -> Result<Vec<u8>, AllocError>
-    ensures { IfOk result (λ made. length made.items ≡ count) }
-{
-    vec![in alloc; 0; count]
-}
 
 /// Lays a block of another category at the front of an output, and answers its octets.
 pub(crate) fn lay_opaque(raw: &RawBlock<'_>, output: &mut [u8]) -> u32

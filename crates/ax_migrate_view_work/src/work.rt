@@ -5,7 +5,8 @@ ghost use Rattle.ax_migrate_work.specs.Commands.{migrate_command};
 ghost use Rattle.ax_model.specs.Sizes.{longest_block};
 
 use crate::block::migrate_block;
-use crate::output::{ROOM, lay_opaque, zeros};
+use crate::output::{ROOM, lay_opaque};
+use ax_lists::zeros;
 use ax_migrate_views::Migrator;
 use ax_model::RawBlock;
 use ax_outside::Sink;

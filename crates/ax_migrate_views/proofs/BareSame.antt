@@ -26,8 +26,8 @@ parts_emptied (p ∷ ps) = λ i. members_emptied p i ∷ parts_emptied ps i
 mutual
   kind_emptied : (k : KindTree) → bare_kind (emptied k) ≡ bare_kind k
   kind_emptied (fixed f) = ap fixed (fixed_emptied f)
-  kind_emptied (extended ps) = ap extended (parts_emptied ps)
-  kind_emptied (counted k) = ap counted (kind_emptied k)
+  kind_emptied (extended last ps) = ap (extended last) (parts_emptied ps)
+  kind_emptied (counted size k) = ap (counted size) (kind_emptied k)
   kind_emptied (by_fx f) = ap by_fx (fixed_emptied f)
   kind_emptied explicit = refl
   kind_emptied (compound ss) = ap compound (slots_emptied ss)

@@ -117,8 +117,8 @@ module _ (item : ItemView) (one : Node) (at : one ≡ get_or item.codec.now.node
   leaf_node ms v (Of.Element w) e d = subst (λ k. canon_by ms k v ≡ canon k v) (sym (is_element item.codec.now.nodes item.link one item.codec.now.table item.item.some item.item.within at w e)) refl
   leaf_node ms v (Of.Group w links) e d = subst (λ k. canon_by ms k v ≡ canon k v) (sym (is_group item.codec.now.nodes item.link one item.codec.now.table item.item.some item.item.within at w links e)) refl
   leaf_node ms v (Of.Part w links) e d = absurd (no_part item.by_fx item.codec.now.nodes item.link one item.codec.now.table item.item.some item.item.within at w links e item.item.bounds)
-  leaf_node ms v (Of.Extended links) e d = subst (λ k. canon_by ms k v ≡ canon k v) (sym (is_extended item.codec.now.nodes item.link one item.codec.now.table item.item.some item.item.within at links links e refl)) refl
-  leaf_node ms v (Of.Counted inner) e d = subst (λ k. canon_by ms k v ≡ canon k v) (sym (is_counted item.codec.now.nodes item.link one item.codec.now.table item.item.some item.item.within at inner e)) refl
+  leaf_node ms v (Of.Extended last links) e d = subst (λ k. canon_by ms k v ≡ canon k v) (sym (is_extended item.codec.now.nodes item.link one item.codec.now.table item.item.some item.item.within at last links links e refl)) refl
+  leaf_node ms v (Of.Counted size inner) e d = subst (λ k. canon_by ms k v ≡ canon k v) (sym (is_counted item.codec.now.nodes item.link one item.codec.now.table item.item.some item.item.within at size inner e)) refl
   leaf_node ms v (Of.ByFx inner) e d = subst (λ k. canon_by ms k v ≡ canon k v) (sym (is_by_fx item.codec.now.nodes item.link one item.codec.now.table item.item.some item.item.within at inner e)) refl
   leaf_node ms v Of.Explicit e d = subst (λ k. canon_by ms k v ≡ canon k v) (sym (is_explicit item.codec.now.nodes item.link one item.codec.now.table item.item.some item.item.within at e)) refl
   leaf_node ms v (Of.Compound mask links) e d = absurd (d mask links e)

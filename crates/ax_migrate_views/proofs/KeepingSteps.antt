@@ -33,8 +33,8 @@ pub leaf_kind : (ns : List Node) (link : ℕ) (one : Node) → IsTable ns → 0 
 leaf_kind ns link one table some within at (Of.Element w) e p d = subst IsLeaf (sym (is_element ns link one table some within at w e)) tt
 leaf_kind ns link one table some within at (Of.Group w links) e p d = subst IsLeaf (sym (is_group ns link one table some within at w links e)) tt
 leaf_kind ns link one table some within at (Of.Part w links) e p d = absurd (p w links e)
-leaf_kind ns link one table some within at (Of.Extended links) e p d = subst IsLeaf (sym (is_extended ns link one table some within at links links e refl)) tt
-leaf_kind ns link one table some within at (Of.Counted inner) e p d = subst IsLeaf (sym (is_counted ns link one table some within at inner e)) tt
+leaf_kind ns link one table some within at (Of.Extended last links) e p d = subst IsLeaf (sym (is_extended ns link one table some within at last links links e refl)) tt
+leaf_kind ns link one table some within at (Of.Counted size inner) e p d = subst IsLeaf (sym (is_counted ns link one table some within at size inner e)) tt
 leaf_kind ns link one table some within at (Of.ByFx inner) e p d = subst IsLeaf (sym (is_by_fx ns link one table some within at inner e)) tt
 leaf_kind ns link one table some within at Of.Explicit e p d = subst IsLeaf (sym (is_explicit ns link one table some within at e)) tt
 leaf_kind ns link one table some within at (Of.Compound mask links) e p d = absurd (d mask links e)

@@ -19,8 +19,8 @@ use Rattle.ax_model.specs.Tree.{KindTree, fixed, extended, counted, by_fx, expli
 
 leaf_canon : (below : MovesTree) (k : KindTree) (v : ValueTree) → IsLeaf k → canon_by below k v ≡ canon k v
 leaf_canon below (fixed f) v h = refl
-leaf_canon below (extended ps) v h = refl
-leaf_canon below (counted k) v h = refl
+leaf_canon below (extended last ps) v h = refl
+leaf_canon below (counted size k) v h = refl
 leaf_canon below (by_fx f) v h = refl
 leaf_canon below explicit v h = refl
 leaf_canon below (compound ss) v h = absurd h

@@ -42,8 +42,8 @@ mutual
   canon_moved (compound ts) (compound ss) (marked es) e b h = λ i. moved_field ts ss es h b.0 b.1 i ++ entries_canon_moved 1 ts ss es h b.2 i
   canon_moved (compound ts) (compound ss) _ e b h = absurd h
   canon_moved (fixed g) (fixed f) v e b h = same_canon (fixed f) (fixed g) v e
-  canon_moved (extended qs) (extended ps) v e b h = same_canon (extended ps) (extended qs) v e
-  canon_moved (counted l) (counted k) v e b h = same_canon (counted k) (counted l) v e
+  canon_moved (extended last qs) (extended other ps) v e b h = same_canon (extended other ps) (extended last qs) v e
+  canon_moved (counted size l) (counted other k) v e b h = same_canon (counted other k) (counted size l) v e
   canon_moved (by_fx g) (by_fx f) v e b h = same_canon (by_fx f) (by_fx g) v e
   canon_moved explicit explicit v e b h = refl
   canon_moved _ _ v e b h = cc

@@ -1,23 +1,24 @@
 -- The kinds of a specification without flaw are in bounds, and so they are sound and whole octets.
-use Rattle.std.proofs.Common.{◌≡◌, ℕ, suc, ◌+◌, ◌%◌, ◌<◌, ◌≤◌, ◌==◌, nat_lt, Bool, true, false, ◌||◌, not, List, [], ◌∷◌, ◌++◌, length, map, codes, decimal, bytes_eq, cond, Option, Some, inl, inr, refl, sym, ◌∙◌, ap, arith, subst}
+use Rattle.std.proofs.Common.{◌≡◌, ℕ, zero, suc, ◌+◌, ◌%◌, ◌<◌, ◌≤◌, ◌==◌, nat_lt, Bool, true, false, ◌||◌, not, List, [], ◌∷◌, ◌++◌, length, map, codes, decimal, bytes_eq, cond, Option, Some, inl, inr, refl, sym, ◌∙◌, ap, arith, subst}
 use Rattle.std.specs.List.{AllByRecursion, find}
 use Rattle.std.proofs.lemmas.List.{length-map}
 use Rattle.std.proofs.lemmas.Bool.{eqb-true, eqb-false, ltb-false}
 use Rattle.ax_model.specs.declared.spec.UapSlot.TheVariants as Uap
-use Rattle.ax_model.specs.Flaws.{flaw_where, is_no_multiple, is_bad_width, is_bad_element_width, fixed_flaws, is_bad_scale, is_bad_string_width, has_no_member, members_flaws, is_among, parts_flaws, is_too_wide, names_with, kind_flaws, slots_flaws, items_flaws, NoFlaw, uap_flaws}
+use Rattle.ax_model.specs.Flaws.{is_nothing, flaw_where, is_no_multiple, is_bad_width, is_bad_element_width, fixed_flaws, is_bad_scale, is_bad_string_width, has_no_member, members_flaws, is_among, parts_flaws, is_too_wide, names_with, kind_flaws, slots_flaws, items_flaws, NoFlaw, uap_flaws}
 use Rattle.ax_model.specs.Paths.{at, three_digits}
-use Rattle.ax_model.specs.InBounds.{IsWidth, FixedInBounds, MembersInBounds, PartInBounds, InBounds, SlotsInBounds}
+use Rattle.ax_model.specs.InBounds.{IsWidth, FixedInBounds, MembersInBounds, PartsInBounds, InBounds, SlotsInBounds}
 use Rattle.ax_model.specs.Sound.{Sound, SlotsSound}
 use Rattle.ax_model.specs.Specification.{ItemTree, slot_of_item, uap_slot, SpecTree, record_slots, record_kind}
 use Rattle.ax_model.specs.Standing.{Within, SlotsWithin, ItemsHold, StandsIn}
 use Rattle.ax_model.specs.Tree.{FixedTree, element, group, MembersTree, no_members, member_and, spare, named, KindTree, fixed, extended, counted, by_fx, explicit, compound, slot_count, SlotsTree, no_slots, slot_and, spare_slot, subitem, SlotTree, slots_of}
-use Rattle.ax_model.specs.Whole.{Whole, SlotsWhole}
-use Rattle.ax_model.specs.Widths.{members_width, width}
+use Rattle.ax_model.specs.Whole.{PartsWhole, Whole, SlotsWhole}
+use Rattle.ax_model.specs.Widths.{fx_width, members_width, width}
 use Rattle.ax_model.specs.declared.content.Content.{Content}
 use Rattle.ax_model.specs.declared.content.Content.TheVariants.{Quantity}
 use Rattle.ax_model.specs.declared.flaw.FlawKind.{FlawKind}
 use Rattle.ax_model.specs.declared.flaw.FlawKind.TheVariants.{BadWidth, BadScale, BadStringWidth, Empty, DuplicateName, PartNotOctets, TooWide, BodyNotOctets, TooManySlots, NotOctets, DuplicateItem}
 use Rattle.ax_model.specs.declared.spec.UapSlot.{UapSlot}
+use Rattle.ax_model.specs.declared.kind.LastPart.{LastPart}
 
 -- ---- empty lists of flaws
 
@@ -87,18 +88,41 @@ mutual
 
 -- ---- kinds
 
-parts_bounds : (path : List ℕ) (i : ℕ) (earlier : List (List ℕ)) (ps : List MembersTree) → parts_flaws path i earlier ps ≡ [] → AllByRecursion PartInBounds ps
-parts_bounds path i earlier [] e = tt
-parts_bounds path i earlier (p ∷ ps) e =
+-- what has no flaw has a bit
+mutual
+  fixed_bits : (path : List ℕ) (f : FixedTree) → fixed_flaws path f ≡ [] → 0 < width f
+  fixed_bits path (element w c) e = (fixed_bounds path (element w c) e).0
+  fixed_bits path (group ms) e =
+      let t = both_empty (flaw_where (has_no_member ms) Empty path) (members_flaws path [] ms) e in members_bits path [] ms (holds_not (has_no_member ms) Empty path t.0) t.1
+
+  members_bits : (path : List ℕ) (earlier : List (List ℕ)) (ms : MembersTree) → has_no_member ms ≡ false → members_flaws path earlier ms ≡ [] → 0 < members_width ms
+  members_bits path earlier no_members n e = cc
+  members_bits path earlier (member_and (spare w) ms) n e = let b = (members_bounds path earlier (member_and (spare w) ms) e).0 in omega (arith, b.0)
+  members_bits path earlier (member_and (named name f) ms) n e =
+      let t = three_empty (flaw_where (is_among name earlier) DuplicateName (at path name)) (fixed_flaws (at path name) f) (members_flaws path (name ∷ earlier) ms) e in
+      let some : 0 < width f = fixed_bits (at path name) f t.1 in omega arith
+
+part_bits : (fx : ℕ) (path : List ℕ) (earlier : List (List ℕ)) (p : MembersTree) → is_nothing fx p ≡ false → members_flaws path earlier p ≡ [] → 0 < members_width p + fx
+part_bits zero path earlier p n e = let some : 0 < members_width p = members_bits path earlier p n e in omega arith
+part_bits (suc fx) path earlier p n e = omega arith
+
+parts_bounds : (last : LastPart) (path : List ℕ) (i : ℕ) (earlier : List (List ℕ)) (ps : List MembersTree) → parts_flaws last path i earlier ps ≡ [] → PartsInBounds last ps
+parts_bounds last path i earlier [] e = tt
+parts_bounds last path i earlier (p ∷ ps) e =
     let here = at path (codes "part" ++ decimal i) in
-    let t = four_empty (flaw_where (is_no_multiple 8 (members_width p + 1)) PartNotOctets here) (flaw_where (is_too_wide (members_width p)) TooWide here) (members_flaws path earlier p)
-    (parts_flaws path (i + 1) (names_with earlier p) ps) e in (
+    let fx = fx_width last (length ps) in
+    let a = flaw_where (is_no_multiple 8 (members_width p + fx)) PartNotOctets here in
+    let b = flaw_where (is_too_wide (members_width p)) TooWide here in
+    let c = flaw_where (is_nothing fx p) Empty here in
+    let t = both_empty (a ++ b ++ c ++ members_flaws path earlier p) (parts_flaws last path (i + 1) (names_with earlier p) ps) e in
+    let u = four_empty a b c (members_flaws path earlier p) t.0 in (
       (
-        multiple 8 (members_width p + 1) (holds_not (is_no_multiple 8 (members_width p + 1)) PartNotOctets here t.0),
-        at_most 524256 (members_width p) (holds_not (is_too_wide (members_width p)) TooWide here t.1),
-        members_bounds path earlier p t.2,
+        multiple 8 (members_width p + fx) (holds_not (is_no_multiple 8 (members_width p + fx)) PartNotOctets here u.0),
+        at_most 524256 (members_width p) (holds_not (is_too_wide (members_width p)) TooWide here u.1),
+        members_bounds path earlier p u.3,
+        part_bits fx path earlier p (holds_not (is_nothing fx p) Empty here u.2) u.3,
       ),
-      parts_bounds path (i + 1) (names_with earlier p) ps t.3,
+      parts_bounds last path (i + 1) (names_with earlier p) ps t.1,
     )
 
 mutual
@@ -109,10 +133,10 @@ mutual
         at_most 524256 (width f) (holds_not (is_too_wide (width f)) TooWide path t.1),
         fixed_bounds path f t.2,
       )
-  kind_bounds broken path (extended ps) e =
-      let t = both_empty (flaw_where (length ps == 0) Empty path) (parts_flaws path 0 [] ps) e in
-      (some_of (length ps) (holds_not (length ps == 0) Empty path t.0), parts_bounds path 0 [] ps t.1)
-  kind_bounds broken path (counted k) e = kind_bounds BodyNotOctets (at path (codes "body")) k e
+  kind_bounds broken path (extended last ps) e =
+      let t = both_empty (flaw_where (length ps == 0) Empty path) (parts_flaws last path 0 [] ps) e in
+      (some_of (length ps) (holds_not (length ps == 0) Empty path t.0), parts_bounds last path 0 [] ps t.1)
+  kind_bounds broken path (counted size k) e = kind_bounds BodyNotOctets (at path (codes "body")) k e
   kind_bounds broken path (by_fx f) e =
       let body = at path (codes "body") in
       let t = three_empty (flaw_where (is_no_multiple 8 (width f + 1)) BodyNotOctets body) (flaw_where (is_too_wide (width f)) TooWide body) (fixed_flaws body f) e in (
@@ -137,15 +161,15 @@ mutual
 
 -- ---- what is in bounds is sound and whole octets
 
-parts_in_octets : (ps : List MembersTree) → AllByRecursion PartInBounds ps → AllByRecursion (λ p. (members_width p + 1) % 8 ≡ 0) ps
-parts_in_octets [] h = tt
-parts_in_octets (p ∷ ps) h = (h.0.0, parts_in_octets ps h.1)
+parts_in_octets : (last : LastPart) (ps : List MembersTree) → PartsInBounds last ps → PartsWhole last ps
+parts_in_octets last [] h = tt
+parts_in_octets last (p ∷ ps) h = (h.0.0, parts_in_octets last ps h.1)
 
 mutual
   pub bounds_sound : (k : KindTree) → InBounds k → Sound k
   bounds_sound (fixed f) h = tt
-  bounds_sound (extended ps) h = h.0
-  bounds_sound (counted k) h = bounds_sound k h
+  bounds_sound (extended last ps) h = h.0
+  bounds_sound (counted size k) h = bounds_sound k h
   bounds_sound (by_fx f) h = tt
   bounds_sound explicit h = tt
   bounds_sound (compound ss) h = (h.0, slots_sound ss h.2)
@@ -158,8 +182,8 @@ mutual
 mutual
   pub bounds_whole : (k : KindTree) → InBounds k → Whole k
   bounds_whole (fixed f) h = h.0
-  bounds_whole (extended ps) h = parts_in_octets ps h.1
-  bounds_whole (counted k) h = bounds_whole k h
+  bounds_whole (extended last ps) h = parts_in_octets last ps h.1
+  bounds_whole (counted size k) h = bounds_whole k h
   bounds_whole (by_fx f) h = h.0
   bounds_whole explicit h = tt
   bounds_whole (compound ss) h = slots_in_octets ss h.2
@@ -234,9 +258,9 @@ record_bounds spec h =
 mutual
   pub within_bounds : (k inner : KindTree) → Within k inner → InBounds k → InBounds inner
   within_bounds (fixed f) inner e h = subst InBounds (sym e) h
-  within_bounds (extended ps) inner e h = subst InBounds (sym e) h
-  within_bounds (counted k) inner (inl e) h = subst InBounds (sym e) h
-  within_bounds (counted k) inner (inr w) h = within_bounds k inner w h
+  within_bounds (extended last ps) inner e h = subst InBounds (sym e) h
+  within_bounds (counted size k) inner (inl e) h = subst InBounds (sym e) h
+  within_bounds (counted size k) inner (inr w) h = within_bounds k inner w h
   within_bounds (by_fx f) inner e h = subst InBounds (sym e) h
   within_bounds explicit inner e h = subst InBounds (sym e) h
   within_bounds (compound ss) inner (inl e) h = subst InBounds (sym e) h

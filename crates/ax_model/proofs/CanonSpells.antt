@@ -9,6 +9,8 @@ use Rattle.ax_model.specs.Shape.{NumberShape, FixedShape, MembersShape, PartsSha
 use Rattle.ax_model.specs.Sound.{Sound, SlotsSound}
 use Rattle.ax_model.specs.Spelling.{NumberSpells, FixedSpells, MembersSpell, PartsSpell, RunSpells, EachSpells, Spells, EntriesSpell}
 use Rattle.ax_model.specs.Tree.{ValueTree, number, FixedTree, element, group, member_values, MembersTree, ValuesTree, no_members, no_values, value_and, member_and, named, spare, ListsTree, no_lists, list_and, KindTree, SlotsTree, EntriesTree, entry_and, slot_and, subitem, slot_count, compound, marked, fixed, extended, part_values, counted, occurrences, by_fx, explicit, content_octets, no_slots, no_entries, spare_slot, value_count}
+use Rattle.ax_model.specs.Widths.{counter_width, fx_width}
+use Rattle.ax_model.specs.declared.kind.LastPart.{LastPart}
 
 element_spells : (w : ℕ) (v : ValueTree) → NumberShape w v → NumberSpells w v (number_canon w v)
 element_spells w (number n) h = (h, refl)
@@ -28,12 +30,12 @@ mutual
   members_spell (member_and (named name f) ms) (value_and v vs) h = (fixed_canon f v, members_canon ms vs, refl, fixed_spells f v h.0, members_spell ms vs h.1)
   members_spell (member_and (spare w) ms) (value_and v vs) h = (number_canon w v, members_canon ms vs, refl, element_spells w v h.0, members_spell ms vs h.1)
 
-parts_spell : (ps : List MembersTree) (ls : ListsTree) → PartsShape ps ls → PartsSpell ps ls (parts_canon ps ls)
-parts_spell [] no_lists h = h
-parts_spell (p ∷ ps) no_lists h = h
-parts_spell [] (list_and vs ls) h = h
-parts_spell (p ∷ ps) (list_and vs no_lists) h = (members_canon p vs, refl, members_spell p vs h)
-parts_spell (p ∷ ps) (list_and vs (list_and ws ls)) h = (members_canon p vs, parts_canon ps (list_and ws ls), refl, members_spell p vs h.0, parts_spell ps (list_and ws ls) h.1)
+parts_spell : (last : LastPart) (ps : List MembersTree) (ls : ListsTree) → PartsShape ps ls → PartsSpell last ps ls (parts_canon last ps ls)
+parts_spell last [] no_lists h = h
+parts_spell last (p ∷ ps) no_lists h = h
+parts_spell last [] (list_and vs ls) h = h
+parts_spell last (p ∷ ps) (list_and vs no_lists) h = (members_canon p vs, refl, members_spell p vs h)
+parts_spell last (p ∷ ps) (list_and vs (list_and ws ls)) h = (members_canon p vs, parts_canon last ps (list_and ws ls), refl, members_spell p vs h.0, parts_spell last ps (list_and ws ls) h.1)
 
 run_spells : (f : FixedTree) (v : ValueTree) (vs : ValuesTree) → EachShape (FixedShape f) (value_and v vs) → RunSpells f (value_and v vs) (run_canon f (value_and v vs))
 run_spells f v no_values h = (fixed_canon f v, refl, fixed_spells f v h.0)
@@ -71,10 +73,10 @@ compound_spells ss es some h =
 mutual
   pub canon_spells : (k : KindTree) (v : ValueTree) → Sound k → Shape k v → Spells k v (canon k v)
   canon_spells (fixed f) v sound h = fixed_spells f v h
-  canon_spells (extended ps) (part_values ls) sound h = parts_spell ps ls h
-  canon_spells (extended ps) _ sound h = absurd h
-  canon_spells (counted k) (occurrences vs) sound h = (h.0, each_canon (canon k) vs, refl, each_spells (Shape k) (Spells k) (canon k) (λ v t. canon_spells k v sound t) vs h.1)
-  canon_spells (counted k) _ sound h = absurd h
+  canon_spells (extended last ps) (part_values ls) sound h = parts_spell last ps ls h
+  canon_spells (extended last ps) _ sound h = absurd h
+  canon_spells (counted size k) (occurrences vs) sound h = (h.0, each_canon (canon k) vs, refl, each_spells (Shape k) (Spells k) (canon k) (λ v t. canon_spells k v sound t) vs h.1)
+  canon_spells (counted size k) _ sound h = absurd h
   canon_spells (by_fx f) (occurrences (value_and v vs)) sound h = run_spells f v vs h.1
   canon_spells (by_fx f) (occurrences no_values) sound h = absurd (omega (arith, h.0))
   canon_spells (by_fx f) _ sound h = absurd h
@@ -111,12 +113,12 @@ mutual
   members_is (member_and (named name f) ms) (value_and v vs) b (x, y, e, p, q) = (λ i. fixed_is f v x p i ++ members_is ms vs y q i) ∙ sym e
   members_is (member_and (spare w) ms) (value_and v vs) b (x, y, e, p, q) = (λ i. element_is w v x p i ++ members_is ms vs y q i) ∙ sym e
 
-parts_is : (ps : List MembersTree) (ls : ListsTree) (b : List ℕ) → PartsSpell ps ls b → parts_canon ps ls ≡ b
-parts_is [] no_lists b h = absurd h
-parts_is (p ∷ ps) no_lists b h = absurd h
-parts_is [] (list_and vs ls) b h = absurd h
-parts_is (p ∷ ps) (list_and vs no_lists) b (x, e, h) = ap (λ x. x ++ 0 ∷ []) (members_is p vs x h) ∙ sym e
-parts_is (p ∷ ps) (list_and vs (list_and ws ls)) b (x, y, e, h, t) = (λ i. members_is p vs x h i ++ 1 ∷ parts_is ps (list_and ws ls) y t i) ∙ sym e
+parts_is : (last : LastPart) (ps : List MembersTree) (ls : ListsTree) (b : List ℕ) → PartsSpell last ps ls b → parts_canon last ps ls ≡ b
+parts_is last [] no_lists b h = absurd h
+parts_is last (p ∷ ps) no_lists b h = absurd h
+parts_is last [] (list_and vs ls) b h = absurd h
+parts_is last (p ∷ ps) (list_and vs no_lists) b (x, e, h) = ap (λ x. x ++ word (fx_width last (length ps)) 0) (members_is p vs x h) ∙ sym e
+parts_is last (p ∷ ps) (list_and vs (list_and ws ls)) b (x, y, e, h, t) = (λ i. members_is p vs x h i ++ 1 ∷ parts_is last ps (list_and ws ls) y t i) ∙ sym e
 
 run_is : (f : FixedTree) (vs : ValuesTree) (b : List ℕ) → RunSpells f vs b → run_canon f vs ≡ b
 run_is f no_values b h = absurd h
@@ -138,11 +140,11 @@ two_shortest a c b x y e p q = omega (arith, ap length e, length-append x y, len
 mutual
   pub canon_shortest : (k : KindTree) (v : ValueTree) (b : List ℕ) → Spells k v b → length (canon k v) ≤ length b
   canon_shortest (fixed f) v b h = omega (arith, ap length (fixed_is f v b h))
-  canon_shortest (extended ps) (part_values ls) b h = omega (arith, ap length (parts_is ps ls b h))
-  canon_shortest (extended ps) _ b h = absurd h
-  canon_shortest (counted k) (occurrences vs) b (le, y, e, h) =
-      two_shortest (word 8 (value_count vs)) (each_canon (canon k) vs) b (word 8 (value_count vs)) y e (omega arith) (each_shortest (Spells k) (canon k) (canon_shortest k) vs y h)
-  canon_shortest (counted k) _ b h = absurd h
+  canon_shortest (extended last ps) (part_values ls) b h = omega (arith, ap length (parts_is last ps ls b h))
+  canon_shortest (extended last ps) _ b h = absurd h
+  canon_shortest (counted size k) (occurrences vs) b (le, y, e, h) =
+      two_shortest (word (counter_width size) (value_count vs)) (each_canon (canon k) vs) b (word (counter_width size) (value_count vs)) y e (omega arith) (each_shortest (Spells k) (canon k) (canon_shortest k) vs y h)
+  canon_shortest (counted size k) _ b h = absurd h
   canon_shortest (by_fx f) (occurrences vs) b h = omega (arith, ap length (run_is f vs b h))
   canon_shortest (by_fx f) _ b h = absurd h
   canon_shortest explicit (content_octets xs) b (le, all, e) = omega (arith, ap length e)
@@ -181,12 +183,12 @@ mutual
   members_shape (member_and (named name f) ms) (value_and v vs) b (x, y, e, p, q) = (fixed_shape f v x p, members_shape ms vs y q)
   members_shape (member_and (spare w) ms) (value_and v vs) b (x, y, e, p, q) = (element_shape w v x p, members_shape ms vs y q)
 
-parts_shape : (ps : List MembersTree) (ls : ListsTree) (b : List ℕ) → PartsSpell ps ls b → PartsShape ps ls
-parts_shape [] no_lists b h = absurd h
-parts_shape (p ∷ ps) no_lists b h = absurd h
-parts_shape [] (list_and vs ls) b h = absurd h
-parts_shape (p ∷ ps) (list_and vs no_lists) b (x, e, h) = members_shape p vs x h
-parts_shape (p ∷ ps) (list_and vs (list_and ws ls)) b (x, y, e, h, t) = (members_shape p vs x h, parts_shape ps (list_and ws ls) y t)
+parts_shape : (last : LastPart) (ps : List MembersTree) (ls : ListsTree) (b : List ℕ) → PartsSpell last ps ls b → PartsShape ps ls
+parts_shape last [] no_lists b h = absurd h
+parts_shape last (p ∷ ps) no_lists b h = absurd h
+parts_shape last [] (list_and vs ls) b h = absurd h
+parts_shape last (p ∷ ps) (list_and vs no_lists) b (x, e, h) = members_shape p vs x h
+parts_shape last (p ∷ ps) (list_and vs (list_and ws ls)) b (x, y, e, h, t) = (members_shape p vs x h, parts_shape last ps (list_and ws ls) y t)
 
 run_shape : (f : FixedTree) (v : ValueTree) (vs : ValuesTree) (b : List ℕ) → RunSpells f (value_and v vs) b → EachShape (FixedShape f) (value_and v vs)
 run_shape f v no_values b (x, e, h) = (fixed_shape f v x h, tt)
@@ -199,10 +201,10 @@ each_shape S R one (value_and v vs) b (x, y, e, h, t) = (one v x h, each_shape S
 mutual
   pub spells_shape : (k : KindTree) (v : ValueTree) (b : List ℕ) → Spells k v b → Shape k v
   spells_shape (fixed f) v b h = fixed_shape f v b h
-  spells_shape (extended ps) (part_values ls) b h = parts_shape ps ls b h
-  spells_shape (extended ps) _ b h = absurd h
-  spells_shape (counted k) (occurrences vs) b (le, y, e, h) = (le, each_shape (Spells k) (Shape k) (spells_shape k) vs y h)
-  spells_shape (counted k) _ b h = absurd h
+  spells_shape (extended last ps) (part_values ls) b h = parts_shape last ps ls b h
+  spells_shape (extended last ps) _ b h = absurd h
+  spells_shape (counted size k) (occurrences vs) b (le, y, e, h) = (le, each_shape (Spells k) (Shape k) (spells_shape k) vs y h)
+  spells_shape (counted size k) _ b h = absurd h
   spells_shape (by_fx f) (occurrences no_values) b h = absurd h
   spells_shape (by_fx f) (occurrences (value_and v vs)) b h = (omega arith, run_shape f v vs b h)
   spells_shape (by_fx f) _ b h = absurd h

@@ -1,12 +1,12 @@
 -- The bits before a fault begin some spelling, and where they run out all of them do.
-use Rattle.std.proofs.Common.{◌≡◌, ℕ, zero, suc, ◌+◌, ◌-◌, ◌*◌, ◌%◌, ◌<◌, ◌≤◌, inl, inr, IsTrue, List, [], ◌∷◌, ◌++◌, length, take, drop, Bool, true, false, refl, sym, ◌∙◌, ap, arith, length-append, append_assoc, append-nil, take-append-drop, length-take-le, subst}
+use Rattle.std.proofs.Common.{◌≡◌, ℕ, zero, suc, ◌+◌, ◌-◌, ◌*◌, ◌%◌, ◌^◌, ◌<◌, ◌≤◌, inl, inr, IsTrue, List, [], ◌∷◌, ◌++◌, length, take, drop, Bool, true, false, refl, sym, ◌∙◌, ap, arith, length-append, append_assoc, append-nil, take-append-drop, length-take-le, subst}
 use Rattle.std.proofs.lemmas.List.{nil_from_length}
 use Rattle.ax_bits.proofs.Words.{append-AreBits, length-word, bits-AreBits, length-bits}
-use Rattle.ax_bits.specs.Bits.{AreBits, word, bits}
-use Rattle.ax_model.proofs.Meets.{members_all, bits_of, fixed_all, NoneUndefined-append, skip, none_marked_left, rest_defined, rest_bits, spare_first, first_bit, octets_some, presence_bits}
+use Rattle.ax_bits.specs.Bits.{AreBits, word, bits, number_of}
+use Rattle.ax_model.proofs.Meets.{number_is_word, number_fits, members_all, bits_of, fixed_all, NoneUndefined-append, skip, none_marked_left, rest_defined, rest_bits, spare_first, first_bit, octets_some, presence_bits}
 use Rattle.ax_model.specs.Reader.{members_value, fixed_value, octets_in}
 use Rattle.ax_model.proofs.Spelled.{unmarked}
-use Rattle.ax_model.proofs.WholeOctets.{each_whole, spells_whole, presence_whole}
+use Rattle.ax_model.proofs.WholeOctets.{counter_whole, each_whole, spells_whole, presence_whole}
 use Rattle.ax_model.specs.Completing.{Completes}
 use Rattle.ax_model.specs.Failing.{PartsFail, RunFails, PresenceFails, Fails, EntriesFail}
 use Rattle.ax_model.specs.Presence.{none_marked, Presence, NoneUndefined, FirstUndefined, later_slots, slots_past, first_mark, later_marks, octets_needed}
@@ -14,10 +14,14 @@ use Rattle.ax_model.specs.Sound.{Sound, SlotsSound}
 use Rattle.ax_model.specs.Spelling.{PartsSpell, RunSpells, Spells, EntriesSpell, EachSpells}
 use Rattle.ax_model.specs.Tree.{MembersTree, ListsTree, list_and, no_lists, FixedTree, ValuesTree, value_and, no_values, KindTree, ValueTree, SlotsTree, no_entries, no_slots, slot_and, spare_slot, subitem, fixed, extended, part_values, counted, occurrences, by_fx, explicit, content_octets, compound, slot_count, marked, EntriesTree, entry_and, defined_slots, value_count}
 use Rattle.ax_model.specs.Whole.{Whole, SlotsWhole}
-use Rattle.ax_model.specs.Widths.{members_width, width}
+use Rattle.ax_model.specs.Widths.{members_width, width, counter_width, fx_width}
 use Rattle.ax_model.specs.declared.fault.BodyCause.{BodyCause}
 use Rattle.ax_model.specs.declared.fault.BodyCause.TheVariants.{RunsOut}
 use Rattle.ax_model.proofs.Unmarked.{none_first, none_later}
+use Rattle.ax_model.specs.declared.kind.Counter.{Counter}
+use Rattle.ax_model.specs.declared.kind.Counter.TheVariants.{One, Two}
+use Rattle.ax_model.specs.declared.kind.LastPart.{LastPart}
+use Rattle.ax_model.specs.declared.kind.LastPart.TheVariants.{WithFx, WithoutFx}
 
 -- ---- zeros
 
@@ -73,30 +77,40 @@ after_kept S T b x y p q c e f good t =
 
 -- ---- parts and occurrences
 
-part_end : (p : MembersTree) (ps : List MembersTree) (b : List ℕ) → AreBits b → length b ≤ members_width p → (ls : ListsTree) × PartsSpell (p ∷ ps) ls (b ++ (zeros (members_width p - length b) ++ 0 ∷ []))
-part_end p ps b bit le =
+-- the bits 0 that end a part
+abbrev fx_end : LastPart → List MembersTree → List ℕ
+fx_end last ps = word (fx_width last (length ps)) 0
+
+pub fx_few : (last : LastPart) (n : ℕ) → fx_width last n ≤ 1
+fx_few last (suc n) = omega arith
+fx_few WithFx zero = omega arith
+fx_few WithoutFx zero = omega arith
+
+part_end : (last : LastPart) (p : MembersTree) (ps : List MembersTree) (b : List ℕ) → AreBits b → length b ≤ members_width p → (ls : ListsTree) × PartsSpell last (p ∷ ps) ls (b ++ (zeros (members_width p - length b) ++ fx_end last ps))
+part_end last p ps b bit le =
     let z = zeros (members_width p - length b) in
     let t = padded b (members_width p) bit le in
-    (list_and (members_value p (b ++ z)) no_lists, (b ++ z, sym (append_assoc b z (0 ∷ [])), members_all p (b ++ z) t.0 t.1))
+    (list_and (members_value p (b ++ z)) no_lists, (b ++ z, sym (append_assoc b z (fx_end last ps)), members_all p (b ++ z) t.0 t.1))
 
-pub more_parts : (p q : MembersTree) (ps : List MembersTree) (x : List ℕ) → AreBits x → length x ≡ members_width p → (w : List ℕ) → (ls : ListsTree) × PartsSpell (q ∷ ps) ls w
-    → (d : List ℕ) × ((ls : ListsTree) × PartsSpell (p ∷ q ∷ ps) ls ((x ++ 1 ∷ []) ++ (w ++ d)))
-more_parts p q ps x bit l w (no_lists, h) = absurd h
-more_parts p q ps x bit l w (list_and vs ls, h) =
+pub more_parts : (last : LastPart) (p q : MembersTree) (ps : List MembersTree) (x : List ℕ) → AreBits x → length x ≡ members_width p → (w : List ℕ) → (ls : ListsTree) × PartsSpell last (q ∷ ps) ls w
+    → (d : List ℕ) × ((ls : ListsTree) × PartsSpell last (p ∷ q ∷ ps) ls ((x ++ 1 ∷ []) ++ (w ++ d)))
+more_parts last p q ps x bit l w (no_lists, h) = absurd h
+more_parts last p q ps x bit l w (list_and vs ls, h) =
     ([], (list_and (members_value p x) (list_and vs ls), (x, w, append_assoc x (1 ∷ []) (w ++ []) ∙ ap (λ w. x ++ 1 ∷ w) (append-nil w), members_all p x bit l, h)))
 
-parts_complete : (ps : List MembersTree) (b : List ℕ) (p : ℕ) (c : BodyCause) → AreBits b → PartsFail ps b p c → Completes (λ w. (ls : ListsTree) × PartsSpell ps ls w) b p c
-parts_complete [] b p c bit h = absurd h
-parts_complete (m ∷ ps) b p c bit (inl (le, e, f)) =
-    all_kept (λ w. (ls : ListsTree) × PartsSpell (m ∷ ps) ls w) b (zeros (members_width m - length b) ++ 0 ∷ []) p c (omega arith) (part_end m ps b bit le)
-parts_complete (m ∷ ps) b p c bit (inr (x, y, l, e, inl (f, g, h))) =
+parts_complete : (last : LastPart) (ps : List MembersTree) (b : List ℕ) (p : ℕ) (c : BodyCause) → AreBits b → PartsFail last ps b p c → Completes (λ w. (ls : ListsTree) × PartsSpell last ps ls w) b p c
+parts_complete last [] b p c bit h = absurd h
+parts_complete last (m ∷ ps) b p c bit (inl (lt, e, f)) =
+    let le : length b ≤ members_width m = omega (arith, fx_few last (length ps)) in
+    all_kept (λ w. (ls : ListsTree) × PartsSpell last (m ∷ ps) ls w) b (zeros (members_width m - length b) ++ fx_end last ps) p c (omega arith) (part_end last m ps b bit le)
+parts_complete last (m ∷ ps) b p c bit (inr (x, y, l, e, inl (f, o, g, h))) =
     let t = bits_of b x (1 ∷ y) e bit in
-    front_kept (λ w. (ls : ListsTree) × PartsSpell (m ∷ ps) ls w) b x (1 ∷ y) (0 ∷ []) p c e (omega arith) (λ k. cc) (list_and (members_value m x) no_lists, (x, refl, members_all m x t.0 l))
-parts_complete (m ∷ []) b p c bit (inr (x, y, l, e, inr (q, f, h))) = absurd h
-parts_complete (m ∷ n ∷ ps) b p c bit (inr (x, y, l, e, inr (q, f, h))) =
+    front_kept (λ w. (ls : ListsTree) × PartsSpell last (m ∷ ps) ls w) b x (1 ∷ y) (fx_end last ps) p c e (omega arith) (λ k. cc) (list_and (members_value m x) no_lists, (x, refl, members_all m x t.0 l))
+parts_complete last (m ∷ []) b p c bit (inr (x, y, l, e, inr (q, f, h))) = absurd h
+parts_complete last (m ∷ n ∷ ps) b p c bit (inr (x, y, l, e, inr (q, f, h))) =
     let t = bits_of b x (1 ∷ y) e bit in
-    after_kept (λ w. (ls : ListsTree) × PartsSpell (m ∷ n ∷ ps) ls w) (λ w. (ls : ListsTree) × PartsSpell (n ∷ ps) ls w) b (x ++ 1 ∷ []) y p q c (e ∙ sym (append_assoc x (1 ∷ []) y)) (omega (arith, length-append x (1 ∷ [])))
-    (more_parts m n ps x t.0 l) (parts_complete (n ∷ ps) y q c t.1.1 h)
+    after_kept (λ w. (ls : ListsTree) × PartsSpell last (m ∷ n ∷ ps) ls w) (λ w. (ls : ListsTree) × PartsSpell last (n ∷ ps) ls w) b (x ++ 1 ∷ []) y p q c (e ∙ sym (append_assoc x (1 ∷ []) y)) (omega (arith, length-append x (1 ∷ [])))
+    (more_parts last m n ps x t.0 l) (parts_complete last (n ∷ ps) y q c t.1.1 h)
 
 run_end : (f : FixedTree) (b : List ℕ) → AreBits b → length b ≤ width f → (vs : ValuesTree) × RunSpells f vs (b ++ (zeros (width f - length b) ++ 0 ∷ []))
 run_end f b bit le =
@@ -178,9 +192,10 @@ room_for (suc n) h = (n, refl)
 
 some_value : (k : KindTree) → Sound k → (w : List ℕ) × Some_of k w
 some_value (fixed f) h = (zeros (width f), (fixed_value f (zeros (width f)), fixed_all f (zeros (width f)) (zeros-AreBits (width f)) (length-zeros (width f))))
-some_value (extended []) h = absurd (omega arith)
-some_value (extended (p ∷ ps)) h = let t = part_end p ps [] tt (omega arith) in (zeros (members_width p - 0) ++ 0 ∷ [], (part_values t.0, t.1))
-some_value (counted k) h = (word 8 0, (occurrences no_values, (omega arith, [], refl, refl)))
+some_value (extended last []) h = absurd (omega arith)
+some_value (extended last (p ∷ ps)) h = let t = part_end last p ps [] tt (omega arith) in (zeros (members_width p - 0) ++ fx_end last ps, (part_values t.0, t.1))
+some_value (counted One k) h = (word 8 0, (occurrences no_values, (omega arith, [], refl, refl)))
+some_value (counted Two k) h = (word 16 0, (occurrences no_values, (omega arith, [], refl, refl)))
 some_value (by_fx f) h = let t = run_end f [] tt (omega arith) in (zeros (width f - 0) ++ 0 ∷ [], (occurrences t.0, t.1))
 some_value explicit h = (word 8 1, (content_octets [], (omega arith, tt, refl)))
 some_value (compound ss) h =
@@ -222,14 +237,25 @@ extend k n no_values x d h (us, e, t) = (us, (let z : value_count us ≡ 0 + n =
 extend k n (value_and v vs) x d (y, z, e, h, t) r =
     let u = extend k n vs z d t r in (value_and v u.0, (let c : value_count u.0 ≡ value_count vs + n = u.1 in omega arith), (y, z ++ d, ap (λ x. x ++ d) e ∙ append_assoc y z d, h, u.2))
 
-more_values : (k : KindTree) → Sound k → (r : ℕ) → r < 256 → (vs : ValuesTree) → value_count vs < r → (x : List ℕ) → EachSpells (Spells k) vs x → (w : List ℕ) → Some_of k w → (d : List ℕ) × Some_of (counted k) ((word 8 r ++ x) ++ (w ++ d))
-more_values k sound r le vs lt x h w (v, t) =
+more_values : (size : Counter) (k : KindTree) → Sound k → (r : ℕ) → r < 2 ^ counter_width size → (vs : ValuesTree) → value_count vs < r → (x : List ℕ) → EachSpells (Spells k) vs x → (w : List ℕ) → Some_of k w → (d : List ℕ) × Some_of (counted size k) ((word (counter_width size) r ++ x) ++ (w ++ d))
+more_values size k sound r le vs lt x h w (v, t) =
     let n = r - (value_count vs + 1) in
     let others = some_repeats k sound n in
     let one : Repeats k (suc n) (w ++ others.0) = (value_and v others.1.0, ap suc others.1.1, (w, others.0, refl, t, others.1.2)) in
     let all = extend k (suc n) vs x (w ++ others.0) h one in
     let count : value_count all.0 ≡ r = all.1 ∙ omega arith in
-    (others.0, (occurrences all.0, ((let small : value_count all.0 < 256 = omega arith in small), x ++ (w ++ others.0), append_assoc (word 8 r) x (w ++ others.0) ∙ ap (λ r. word 8 r ++ (x ++ (w ++ others.0))) (sym count), all.2)))
+    (others.0, (occurrences all.0, (subst (λ m. m < 2 ^ counter_width size) (sym count) le, x ++ (w ++ others.0), append_assoc (word (counter_width size) r) x (w ++ others.0) ∙ ap (λ r. word (counter_width size) r ++ (x ++ (w ++ others.0))) (sym count), all.2)))
+
+-- a counter that is cut is filled up, and then has as many values as it says
+counter_ends : (size : Counter) (k : KindTree) → Sound k → (b : List ℕ) → AreBits b → length b < counter_width size → (z : List ℕ) × Some_of (counted size k) (b ++ z)
+counter_ends size k sound b bit lt =
+    let n = counter_width size in
+    let z = zeros (n - length b) in
+    let u = padded b n bit (omega arith) in
+    let r = number_of (b ++ z) in
+    let t = some_repeats k sound r in
+    let front : b ++ z ≡ word n (value_count t.1.0) = number_is_word n (b ++ z) u.0 u.1 ∙ ap (word n) (sym t.1.1) in
+    (z ++ t.0, (occurrences t.1.0, (subst (λ m. m < 2 ^ n) (sym t.1.1) (number_fits n (b ++ z) u.0 u.1), t.0, sym (append_assoc b z t.0) ∙ ap (λ x. x ++ t.0) front, t.1.2)))
 
 contents_end : (m : ℕ) (b y : List ℕ) → m < 255 → AreBits y → b ≡ word 8 (1 + m) ++ y → length y < 8 * m → Some_of explicit (b ++ zeros (8 * m - length y))
 contents_end m b y lt bit e less =
@@ -257,16 +283,16 @@ mutual
   completes (fixed f) b p c sound w bit all (lt, e, g) =
       let u = padded b (width f) bit (omega arith) in
       let z = zeros (width f - length b) in all_kept (Some_of (fixed f)) b z p c (omega arith) (fixed_value f (b ++ z), fixed_all f (b ++ z) u.0 u.1)
-  completes (extended ps) b p c sound w bit all h =
-      after_kept (Some_of (extended ps)) (λ w. (ls : ListsTree) × PartsSpell ps ls w) b [] b p p c refl (omega arith) (λ w t. ([], (part_values t.0, subst (PartsSpell ps t.0) (sym (append-nil w)) t.1))) (parts_complete ps b p c bit h)
-  completes (counted k) b p c sound w bit all (inl (lt, e, f)) =
-      none_kept (Some_of (counted k)) b (word 8 0) p c e (λ r. nil_from_length b (omega arith)) (occurrences no_values, (omega arith, [], refl, refl))
-  completes (counted k) b p c sound w bit all (inr (r, le, vs, lt, x, y, e, h, q, f, g)) =
-      let front : b ≡ (word 8 r ++ x) ++ y = e ∙ sym (append_assoc (word 8 r) x y) in
-      let l : length (word 8 r ++ x) ≡ 8 + length x = length-append (word 8 r) x ∙ ap (λ n. n + length x) (length-word 8 r) in
+  completes (extended last ps) b p c sound w bit all h =
+      after_kept (Some_of (extended last ps)) (λ w. (ls : ListsTree) × PartsSpell last ps ls w) b [] b p p c refl (omega arith) (λ w t. ([], (part_values t.0, subst (PartsSpell last ps t.0) (sym (append-nil w)) t.1))) (parts_complete last ps b p c bit h)
+  completes (counted size k) b p c sound w bit all (inl (lt, e, f)) = let t = counter_ends size k sound b bit lt in all_kept (Some_of (counted size k)) b t.0 p c (omega arith) t.1
+  completes (counted size k) b p c sound w bit all (inr (r, le, vs, lt, x, y, e, h, q, f, g)) =
+      let n = counter_width size in
+      let front : b ≡ (word n r ++ x) ++ y = e ∙ sym (append_assoc (word n r) x y) in
+      let l : length (word n r ++ x) ≡ n + length x = length-append (word n r) x ∙ ap (λ n. n + length x) (length-word n r) in
       let xw : length x % 8 ≡ 0 = each_whole (Spells k) (λ v b t. spells_whole k v b w t) vs x h in
-      let yw : length y % 8 ≡ 0 = omega (arith, ap length front, length-append (word 8 r ++ x) y) in
-      after_kept (Some_of (counted k)) (Some_of k) b (word 8 r ++ x) y p q c front (omega arith) (more_values k sound r le vs lt x h) (completes k y q c sound w (bits_of b (word 8 r ++ x) y front bit).1 yw g)
+      let yw : length y % 8 ≡ 0 = omega (arith, ap length front, length-append (word n r ++ x) y, counter_whole size) in
+      after_kept (Some_of (counted size k)) (Some_of k) b (word n r ++ x) y p q c front (omega arith) (more_values size k sound r le vs lt x h) (completes k y q c sound w (bits_of b (word n r ++ x) y front bit).1 yw g)
   completes (by_fx f) b p c sound w bit all (n, h) =
       after_kept (Some_of (by_fx f)) (λ w. (vs : ValuesTree) × RunSpells f vs w) b [] b p p c refl (omega arith) (λ w t. ([], (occurrences t.0, subst (RunSpells f t.0) (sym (append-nil w)) t.1))) (run_complete n f b p c bit h)
   completes explicit b p c sound w bit all (inl (lt, e, f)) = none_kept (Some_of explicit) b (word 8 1) p c e (λ r. nil_from_length b (omega arith)) (content_octets [], (omega arith, tt, refl))

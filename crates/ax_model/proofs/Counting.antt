@@ -1,13 +1,13 @@
 -- Sums that are capped at 2^64 - 1, over lists from a place on.
-use Rattle.std.proofs.Common.{◌≡◌, ℕ, zero, suc, ◌+◌, ◌*◌, ◌/◌, ◌<◌, ◌≤◌, ◌-◌, min, List, [], ◌∷◌, length, map, drop, get_or, Option, Some, None, slice_get, refl, sym, ◌∙◌, ap, arith, add-one, drop-cons}
-use Rattle.std.proofs.lemmas.List.{drop_all}
+use Rattle.std.proofs.Common.{◌≡◌, ℕ, zero, suc, ◌+◌, ◌*◌, ◌/◌, ◌<◌, ◌≤◌, ◌-◌, min, List, [], ◌∷◌, length, map, drop, get_or, Option, Some, None, slice_get, refl, sym, ◌∙◌, ap, arith, add-one, drop-cons, length-drop}
+use Rattle.std.proofs.lemmas.List.{drop_all, length-map}
 use Rattle.ax_model.proofs.RecordFitting.{entries_split}
 use Rattle.ax_model.specs.Lookup.{item_of_frn}
 use Rattle.ax_model.specs.Specification.{record_slots}
 use Rattle.ax_model.specs.Lengths.{record_octets, records_octets, capped, octets, each_octets, entries_octets, octets_where, last_slot, presence_octets, unit_octets, parts_octets, slot_kind, kind_after, kind_of_slot}
 use Rattle.ax_model.specs.Plain.{entries_tree, kind_tree, spec_tree, member_tree, members_tree, part_tree, slot_tree, slots_tree, value_tree, values_tree, lists_tree}
 use Rattle.ax_model.specs.Tree.{MembersTree, member_and, MemberTree, named, spare, KindTree, ValueTree, ValuesTree, value_count, ListsTree, no_lists, list_and, entry_and}
-use Rattle.ax_model.specs.Widths.{member_width, members_width}
+use Rattle.ax_model.specs.Widths.{member_width, members_width, fx_width}
 use Rattle.ax_model.specs.declared.kind.Member.{Member}
 use Rattle.ax_model.specs.declared.kind.Part.{Part}
 use Rattle.ax_model.specs.declared.kind.Slot.{Slot}
@@ -17,6 +17,7 @@ use Rattle.ax_model.specs.declared.spec.Spec.{Spec}
 use Rattle.ax_model.specs.declared.value.Entry.{Entry}
 use Rattle.ax_model.specs.declared.value.Value.{Value}
 use Rattle.ax_model.proofs.ItemKinds.{kind_of_item, kind_of_frn}
+use Rattle.ax_model.specs.declared.kind.LastPart.{LastPart}
 
 -- ---- sums
 
@@ -52,40 +53,47 @@ pub ruleset widths = (member_taken, members_done)
 
 -- ---- parts
 
-pub part_taken : (p : MembersTree) (ps : List MembersTree) (vs : ValuesTree) (ls : ListsTree) (total new all : ℕ)
-    → capped (total + parts_octets (p ∷ ps) (list_and vs ls)) ≡ capped all → new ≡ capped (total + capped (capped (members_width p) + 1) / 8)
-    → capped (new + parts_octets ps ls) ≡ capped all
-part_taken p ps vs ls total new all h n = taken total new (unit_octets (members_width p)) (parts_octets (p ∷ ps) (list_and vs ls)) (parts_octets ps ls) all refl h (n ∙ small (capped (members_width p)))
+pub part_taken : (last : LastPart) (p : MembersTree) (ps : List MembersTree) (vs : ValuesTree) (ls : ListsTree) (total new all : ℕ)
+    → capped (total + parts_octets last (p ∷ ps) (list_and vs ls)) ≡ capped all → new ≡ capped (total + capped (capped (members_width p) + fx_width last (length ps)) / 8)
+    → capped (new + parts_octets last ps ls) ≡ capped all
+part_taken last p ps vs ls total new all h n =
+    let fx = fx_width last (length ps) in
+    taken total new (unit_octets fx (members_width p)) (parts_octets last (p ∷ ps) (list_and vs ls)) (parts_octets last ps ls) all refl h (n ∙ small (capped (members_width p) + fx))
   where
-    small : (w : ℕ) → capped (total + capped (w + 1) / 8) ≡ capped (total + capped (capped (w + 1) / 8))
+    small : (w : ℕ) → capped (total + capped w / 8) ≡ capped (total + capped (capped w / 8))
     small w = omega arith
 
-pub no_parts : (ps : List MembersTree) (ls : ListsTree) (total all : ℕ) → ps ≡ [] → total ≤ 18446744073709551615 → capped (total + parts_octets ps ls) ≡ capped all → total ≡ capped all
-no_parts ps ls total all e small h = let none : parts_octets ps ls ≡ 0 = ap (λ x. parts_octets x ls) e in omega (arith, none, h)
+pub no_parts : (last : LastPart) (ps : List MembersTree) (ls : ListsTree) (total all : ℕ) → ps ≡ [] → total ≤ 18446744073709551615 → capped (total + parts_octets last ps ls) ≡ capped all → total ≡ capped all
+no_parts last ps ls total all e small h = let none : parts_octets last ps ls ≡ 0 = ap (λ x. parts_octets last x ls) e in omega (arith, none, h)
 
-without_lists : (ps : List MembersTree) → parts_octets ps no_lists ≡ 0
-without_lists [] = refl
-without_lists (p ∷ ps) = refl
+without_lists : (last : LastPart) (ps : List MembersTree) → parts_octets last ps no_lists ≡ 0
+without_lists last [] = refl
+without_lists last (p ∷ ps) = refl
 
-pub no_lists_left : (ps : List MembersTree) (ls : ListsTree) (total all : ℕ) → ls ≡ no_lists → total ≤ 18446744073709551615 → capped (total + parts_octets ps ls) ≡ capped all → total ≡ capped all
-no_lists_left ps ls total all e small h = let none : parts_octets ps ls ≡ 0 = ap (parts_octets ps) e ∙ without_lists ps in omega (arith, none, h)
+pub no_lists_left : (last : LastPart) (ps : List MembersTree) (ls : ListsTree) (total all : ℕ) → ls ≡ no_lists → total ≤ 18446744073709551615 → capped (total + parts_octets last ps ls) ≡ capped all → total ≡ capped all
+no_lists_left last ps ls total all e small h = let none : parts_octets last ps ls ≡ 0 = ap (parts_octets last ps) e ∙ without_lists last ps in omega (arith, none, h)
 
 -- the same from a place on
-pub part_there : (ps : List Part) (i : ℕ) (p : Part) (ls later : List (List Value)) (vs : List Value) (total new all : ℕ) → i < length ps → p ≡ get_or ps i p → ls ≡ vs ∷ later
-    → capped (total + parts_octets (map part_tree (drop i ps)) (lists_tree ls)) ≡ capped all → new ≡ capped (total + capped (capped (members_width (part_tree p)) + 1) / 8)
-    → capped (new + parts_octets (map part_tree (drop (i + 1) ps)) (lists_tree later)) ≡ capped all
-part_there ps i p ls later vs total new all within e is h n =
-    part_taken (part_tree p) (map part_tree (drop (i + 1) ps)) (values_tree vs) (lists_tree later) total new all
-    (sym (ap (λ x. capped (total + parts_octets (map part_tree x) (lists_tree ls))) (from_place ps i p within e) ∙ ap (λ x. capped (total + parts_octets (map part_tree (p ∷ drop (i + 1) ps)) (lists_tree x))) is) ∙ h) n
+-- how many parts stand after part i
+parts_after : (ps : List Part) (i others : ℕ) → i < length ps → others + (i + 1) ≡ length ps → others ≡ length (map part_tree (drop (i + 1) ps))
+parts_after ps i others within count = omega (arith, length-map (drop (i + 1) ps) part_tree, length-drop (i + 1) ps, count)
 
-pub parts_done : (ps : List Part) (i : ℕ) (ls : List (List Value)) (total all : ℕ) → length ps ≤ i → total ≤ 18446744073709551615
-    → capped (total + parts_octets (map part_tree (drop i ps)) (lists_tree ls)) ≡ capped all → total ≡ capped all
-parts_done ps i ls total all past small h = no_parts (map part_tree (drop i ps)) (lists_tree ls) total all (ap (map part_tree) (drop_all i ps past)) small h
+pub part_there : (last : LastPart) (ps : List Part) (i others : ℕ) (p : Part) (ls later : List (List Value)) (vs : List Value) (total new all : ℕ) → i < length ps → others + (i + 1) ≡ length ps → p ≡ get_or ps i p → ls ≡ vs ∷ later
+    → capped (total + parts_octets last (map part_tree (drop i ps)) (lists_tree ls)) ≡ capped all → new ≡ capped (total + capped (capped (members_width (part_tree p)) + fx_width last others) / 8)
+    → capped (new + parts_octets last (map part_tree (drop (i + 1) ps)) (lists_tree later)) ≡ capped all
+part_there last ps i others p ls later vs total new all within count e is h n =
+    part_taken last (part_tree p) (map part_tree (drop (i + 1) ps)) (values_tree vs) (lists_tree later) total new all
+    (sym (ap (λ x. capped (total + parts_octets last (map part_tree x) (lists_tree ls))) (from_place ps i p within e) ∙ ap (λ x. capped (total + parts_octets last (map part_tree (p ∷ drop (i + 1) ps)) (lists_tree x))) is) ∙ h)
+    (n ∙ ap (λ m. capped (total + capped (capped (members_width (part_tree p)) + fx_width last m) / 8)) (parts_after ps i others within count))
 
-pub lists_done : (ps : List Part) (i : ℕ) (ls : List (List Value)) (total all : ℕ) → length ls ≡ 0 → total ≤ 18446744073709551615
-    → capped (total + parts_octets (map part_tree (drop i ps)) (lists_tree ls)) ≡ capped all → total ≡ capped all
-lists_done ps i [] total all none small h = no_lists_left (map part_tree (drop i ps)) no_lists total all refl small h
-lists_done ps i (vs ∷ ls) total all none small h = absurd (cc)
+pub parts_done : (last : LastPart) (ps : List Part) (i : ℕ) (ls : List (List Value)) (total all : ℕ) → length ps ≤ i → total ≤ 18446744073709551615
+    → capped (total + parts_octets last (map part_tree (drop i ps)) (lists_tree ls)) ≡ capped all → total ≡ capped all
+parts_done last ps i ls total all past small h = no_parts last (map part_tree (drop i ps)) (lists_tree ls) total all (ap (map part_tree) (drop_all i ps past)) small h
+
+pub lists_done : (last : LastPart) (ps : List Part) (i : ℕ) (ls : List (List Value)) (total all : ℕ) → length ls ≡ 0 → total ≤ 18446744073709551615
+    → capped (total + parts_octets last (map part_tree (drop i ps)) (lists_tree ls)) ≡ capped all → total ≡ capped all
+lists_done last ps i [] total all none small h = no_lists_left last (map part_tree (drop i ps)) no_lists total all refl small h
+lists_done last ps i (vs ∷ ls) total all none small h = absurd (cc)
 
 -- ---- values
 
@@ -93,7 +101,7 @@ value_count-is : (vs : List Value) → value_count (values_tree vs) ≡ length v
 value_count-is [] = refl
 value_count-is (v ∷ vs) = ap suc (value_count-is vs)
 
-pub run_counted : (vs : List Value) (w n u r : ℕ) → n ≡ length vs → u ≡ unit_octets w → r ≡ min (n * u) 18446744073709551615 → r ≡ capped (value_count (values_tree vs) * unit_octets w)
+pub run_counted : (vs : List Value) (w n u r : ℕ) → n ≡ length vs → u ≡ unit_octets 1 w → r ≡ min (n * u) 18446744073709551615 → r ≡ capped (value_count (values_tree vs) * unit_octets 1 w)
 run_counted vs w n u r count unit e = e ∙ (λ i. capped ((count ∙ sym (value_count-is vs)) i * unit i))
 
 pub value_taken : (vs : List Value) (k : KindTree) (i : ℕ) (v : Value) (total new all : ℕ) → i < length vs → v ≡ get_or vs i v

@@ -1,9 +1,9 @@
 -- What fails is read as that fault.
-use Rattle.std.proofs.Common.{◌≡◌, ℕ, zero, suc, ◌+◌, ◌*◌, ◌<◌, ◌≤◌, inl, inr, List, [], ◌∷◌, ◌++◌, length, Some, Bool, true, false, refl, sym, ◌∙◌, ap, arith, length-append, append_assoc}
+use Rattle.std.proofs.Common.{◌≡◌, ℕ, zero, suc, ◌+◌, ◌*◌, ◌^◌, ◌<◌, ◌≤◌, inl, inr, List, [], ◌∷◌, ◌++◌, length, Some, Bool, true, false, refl, sym, ◌∙◌, ap, arith, length-append, append_assoc}
 use Rattle.ax_bits.proofs.Words.{length-word}
 use Rattle.ax_bits.specs.Bits.{word, number_of}
 use Rattle.ax_model.proofs.FixedKinds.{split_at, split_short, number_word}
-use Rattle.ax_model.specs.Reader.{Read, failed, split, short, cut, cut_more, part_read, parts_read, one_read, run_read, got, each_read, count_read, after, explicit_read, contents_read, octets_read, undefined, up, octet_read, presence_read, read, fixed_read, entries_read}
+use Rattle.ax_model.specs.Reader.{last_read, Read, failed, split, short, cut, cut_more, part_read, parts_read, one_read, run_read, got, each_read, count_read, after, explicit_read, contents_read, octets_read, undefined, up, octet_read, presence_read, read, fixed_read, entries_read}
 use Rattle.ax_model.proofs.Spelled.{length_unit, undefined_none, read_spelled, presence_spelled}
 use Rattle.ax_model.specs.Failing.{PartsFail, RunFails, Fails, PresenceFails, EntriesFail}
 use Rattle.ax_model.specs.Presence.{FirstUndefined, later_slots, slots_past, octets_needed, later_marks}
@@ -12,6 +12,9 @@ use Rattle.ax_model.specs.Tree.{MembersTree, ListsTree, FixedTree, ValuesTree, V
 use Rattle.ax_model.specs.Widths.{members_width, width}
 use Rattle.ax_model.specs.declared.fault.BodyCause.{BodyCause}
 use Rattle.ax_model.specs.declared.fault.BodyCause.TheVariants.{RunsOut}
+use Rattle.ax_model.specs.Widths.{counter_width}
+use Rattle.ax_model.specs.declared.kind.LastPart.{LastPart}
+use Rattle.ax_model.specs.declared.kind.LastPart.TheVariants.{WithFx, WithoutFx}
 
 pub failed_is : {A : Type 0} {m n : ℕ} {c d : BodyCause} → m ≡ n → c ≡ d → ◌≡◌ {A = Read A} (failed m c) (failed n d)
 failed_is p q = λ i. failed (p i) (q i)
@@ -38,14 +41,17 @@ part_misfit : (p : MembersTree) (ps : List MembersTree) (b : List ℕ) (go : Lis
 part_misfit p ps b go (misfit_short e) = ap (λ s. part_read p ps s go) e
 part_misfit p ps b go (misfit_end e) = ap (λ s. part_read p ps s go) e
 
-pub parts_failed : (ps : List MembersTree) (b : List ℕ) (p : ℕ) (c : BodyCause) → PartsFail ps b p c → parts_read ps b ≡ failed p c
-parts_failed [] b p c h = absurd h
-parts_failed (ms ∷ ps) b p c (inl (le, e, f)) = part_misfit ms ps b (parts_read ps) (misfit (members_width ms) b le) ∙ failed_is (sym e) (sym f)
-parts_failed (ms ∷ []) b p c (inr (x, y, l, e, inl (f, g, h))) = rw (e, split_at x (1 ∷ y) (members_width ms) l) (failed_is (sym g) (sym h))
-parts_failed (ms ∷ m ∷ ps) b p c (inr (x, y, l, e, inl (f, g, h))) = cc
-parts_failed (ms ∷ []) b p c (inr (x, y, l, e, inr (q, f, h))) = absurd h
-parts_failed (ms ∷ m ∷ ps) b p c (inr (x, y, l, e, inr (q, f, h))) =
-    rw (e, split_at x (1 ∷ y) (members_width ms) l, parts_failed (m ∷ ps) y q c h) (failed_is (sym f) refl)
+pub parts_failed : (last : LastPart) (ps : List MembersTree) (b : List ℕ) (p : ℕ) (c : BodyCause) → PartsFail last ps b p c → parts_read last ps b ≡ failed p c
+parts_failed last [] b p c h = absurd h
+parts_failed last (ms ∷ m ∷ ps) b p c (inl (lt, e, f)) = part_misfit ms (m ∷ ps) b (parts_read last (m ∷ ps)) (misfit (members_width ms) b (omega arith)) ∙ failed_is (sym e) (sym f)
+parts_failed WithFx (ms ∷ []) b p c (inl (lt, e, f)) = part_misfit ms [] b (parts_read WithFx []) (misfit (members_width ms) b (omega arith)) ∙ failed_is (sym e) (sym f)
+parts_failed WithoutFx (ms ∷ []) b p c (inl (lt, e, f)) = ap (last_read ms) (split_short b (members_width ms) (omega arith)) ∙ failed_is (sym e) (sym f)
+parts_failed WithFx (ms ∷ []) b p c (inr (x, y, l, e, inl (f, o, g, h))) = rw (e, split_at x (1 ∷ y) (members_width ms) l) (failed_is (sym g) (sym h))
+parts_failed WithoutFx (ms ∷ []) b p c (inr (x, y, l, e, inl (f, o, g, h))) = cc
+parts_failed last (ms ∷ m ∷ ps) b p c (inr (x, y, l, e, inl (f, o, g, h))) = cc
+parts_failed last (ms ∷ []) b p c (inr (x, y, l, e, inr (q, f, h))) = absurd h
+parts_failed last (ms ∷ m ∷ ps) b p c (inr (x, y, l, e, inr (q, f, h))) =
+    rw (e, split_at x (1 ∷ y) (members_width ms) l, parts_failed last (m ∷ ps) y q c h) (failed_is (sym f) refl)
 
 one_misfit : (f : FixedTree) (b : List ℕ) (go : List ℕ → Read ValuesTree) → Misfit (width f) b → one_read f (split (width f) b) go ≡ failed 0 RunsOut
 one_misfit f b go (misfit_short e) = ap (λ s. one_read f s go) e
@@ -68,32 +74,32 @@ each_failed R rule one (suc n) (value_and v vs) x y q c lt (a, b, f, h, t) e =
     let l : length x ≡ length a + length b = ap length f ∙ length-append a b in
     rw (l, f, append_assoc, one v a (b ++ y) h, each_failed R rule one n vs b y q c (omega arith) t e) (failed_is (omega arith) refl)
 
-counted_short : (rule : List ℕ → Read ValueTree) (b : List ℕ) (p : ℕ) (c : BodyCause) → length b < 8 → p ≡ 0 → c ≡ RunsOut → count_read rule (split 8 b) ≡ failed p c
-counted_short rule b p c lt e f = ap (count_read rule) (split_short b 8 lt) ∙ failed_is (sym e) (sym f)
+counted_short : (w : ℕ) (rule : List ℕ → Read ValueTree) (b : List ℕ) (p : ℕ) (c : BodyCause) → length b < w → p ≡ 0 → c ≡ RunsOut → count_read w rule (split w b) ≡ failed p c
+counted_short w rule b p c lt e f = ap (count_read w rule) (split_short b w lt) ∙ failed_is (sym e) (sym f)
 
--- a length octet in front
-lead : (n : ℕ) (b y : List ℕ) → b ≡ word 8 n ++ y → split 8 b ≡ cut (word 8 n) y
-lead n b y e = ap (split 8) e ∙ split_at (word 8 n) y 8 (length-word 8 n)
+-- a counter or a length octet in front
+lead : (w n : ℕ) (b y : List ℕ) → b ≡ word w n ++ y → split w b ≡ cut (word w n) y
+lead w n b y e = ap (split w) e ∙ split_at (word w n) y w (length-word w n)
 
-counted_failed : (R : ValueTree → List ℕ → Type 0) (rule : List ℕ → Read ValueTree) → ((v : ValueTree) (b r : List ℕ) → R v b → rule (b ++ r) ≡ got v (length b) r)
-    → (n : ℕ) (vs : ValuesTree) (b x y : List ℕ) (p q : ℕ) (c : BodyCause) → n < 256 → value_count vs < n → b ≡ word 8 n ++ (x ++ y) → EachSpells R vs x → p ≡ 8 + (length x + q) → rule y ≡ failed q c
-    → count_read rule (split 8 b) ≡ failed p c
-counted_failed R rule one n vs b x y p q c le lt e h f g =
-    ap (count_read rule) (lead n b (x ++ y) e) ∙ ap (λ n. after 8 (λ vs. occurrences vs) (each_read rule n (x ++ y))) (number_word 8 n le)
-    ∙ ap (after 8 (λ vs. occurrences vs)) (each_failed R rule one n vs x y q c lt h g) ∙ failed_is (sym f) refl
+counted_failed : (w : ℕ) (R : ValueTree → List ℕ → Type 0) (rule : List ℕ → Read ValueTree) → ((v : ValueTree) (b r : List ℕ) → R v b → rule (b ++ r) ≡ got v (length b) r)
+    → (n : ℕ) (vs : ValuesTree) (b x y : List ℕ) (p q : ℕ) (c : BodyCause) → n < 2 ^ w → value_count vs < n → b ≡ word w n ++ (x ++ y) → EachSpells R vs x → p ≡ w + (length x + q) → rule y ≡ failed q c
+    → count_read w rule (split w b) ≡ failed p c
+counted_failed w R rule one n vs b x y p q c le lt e h f g =
+    ap (count_read w rule) (lead w n b (x ++ y) e) ∙ ap (λ n. after w (λ vs. occurrences vs) (each_read rule n (x ++ y))) (number_word w n le)
+    ∙ ap (after w (λ vs. occurrences vs)) (each_failed R rule one n vs x y q c lt h g) ∙ failed_is (sym f) refl
 
 explicit_failed : (b : List ℕ) (p : ℕ) (c : BodyCause) → Fails explicit b p c → explicit_read (split 8 b) ≡ failed p c
 explicit_failed b p c (inl (lt, e, f)) = ap explicit_read (split_short b 8 lt) ∙ failed_is (sym e) (sym f)
 explicit_failed b p c (inr (inl (y, e, f, g))) =
-    ap explicit_read (lead 0 b y e) ∙ ap (λ n. contents_read n y) (number_word 8 0 (omega arith)) ∙ failed_is (sym f) (sym g)
+    ap explicit_read (lead 8 0 b y e) ∙ ap (λ n. contents_read n y) (number_word 8 0 (omega arith)) ∙ failed_is (sym f) (sym g)
 explicit_failed b p c (inr (inr (m, le, y, e, lt, f, g))) =
     let n : number_of (word 8 (1 + m)) ≡ 1 + m = number_word 8 (1 + m) (omega arith) in
     let n2 : number_of (word 8 (1 + m)) ≡ suc m = omega arith in
-    ap explicit_read (lead (1 + m) b y e) ∙ ap (λ n. contents_read n y) n2 ∙ ap (octets_read m) (split_short y (8 * m) lt) ∙ failed_is (sym f) (sym g)
+    ap explicit_read (lead 8 (1 + m) b y e) ∙ ap (λ n. contents_read n y) n2 ∙ ap (octets_read m) (split_short y (8 * m) lt) ∙ failed_is (sym f) (sym g)
 
 -- ---- presence fields
 
-undefined_first : (ds : List Bool) (ms : List ℕ) (j : ℕ) → FirstUndefined ds ms j → undefined ds ms ≡ Some j
+pub undefined_first : (ds : List Bool) (ms : List ℕ) (j : ℕ) → FirstUndefined ds ms j → undefined ds ms ≡ Some j
 undefined_first ds [] j h = absurd h
 undefined_first ds (zero ∷ ms) zero h = cc
 undefined_first ds (zero ∷ ms) (suc j) h = ap up (undefined_first (later_slots ds) ms j h.1)
@@ -127,10 +133,10 @@ presence_failed (suc (suc k)) ds b p c (inr (seven, fx, y, l, e, inr (clear, f, 
 mutual
   pub read_failed : (k : KindTree) (b : List ℕ) (p : ℕ) (c : BodyCause) → Fails k b p c → read k b ≡ failed p c
   read_failed (fixed f) b p c (lt, e, g) = ap (fixed_read f) (split_short b (width f) lt) ∙ failed_is (sym e) (sym g)
-  read_failed (extended ps) b p c h = rw (parts_failed ps b p c h) (failed_is (omega arith) refl)
-  read_failed (counted k) b p c (inl (lt, e, f)) = counted_short (read k) b p c lt e f
-  read_failed (counted k) b p c (inr (r, le, vs, lt, x, y, e, h, q, f, g)) =
-      counted_failed (Spells k) (read k) (read_spelled k) r vs b x y p q c le lt e h f (read_failed k y q c g)
+  read_failed (extended last ps) b p c h = rw (parts_failed last ps b p c h) (failed_is (omega arith) refl)
+  read_failed (counted size k) b p c (inl (lt, e, f)) = counted_short (counter_width size) (read k) b p c lt e f
+  read_failed (counted size k) b p c (inr (r, le, vs, lt, x, y, e, h, q, f, g)) =
+      counted_failed (counter_width size) (Spells k) (read k) (read_spelled k) r vs b x y p q c le lt e h f (read_failed k y q c g)
   read_failed (by_fx f) b p c (n, h) = rw (run_failed (suc (length b)) n f b p c (omega arith) h) (failed_is (omega arith) refl)
   read_failed explicit b p c h = explicit_failed b p c h
   read_failed (compound ss) b p c (inl h) = rw (presence_failed (octets_needed (slot_count ss)) (defined_slots ss) b p c h) refl

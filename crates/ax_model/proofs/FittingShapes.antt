@@ -5,6 +5,7 @@ use Rattle.std.proofs.lemmas.Bool.Decides.{nat_tests}
 use Rattle.ax_model.specs.Fitting.{number_fits, fixed_fits, members_fit, list_count, lists_fit, parts_fit, each_fits, kind_fits, entries_fit}
 use Rattle.ax_model.specs.Shape.{NumberShape, FixedShape, MembersShape, PartsShape, EachShape, Shape, EntriesShape}
 use Rattle.ax_model.specs.Tree.{FixedTree, element, group, MembersTree, no_members, member_and, named, spare, KindTree, fixed, extended, counted, by_fx, explicit, compound, SlotsTree, no_slots, slot_and, spare_slot, subitem, ValueTree, number, member_values, part_values, occurrences, content_octets, marked, ValuesTree, no_values, value_and, value_count, ListsTree, no_lists, list_and, EntriesTree, no_entries, entry_and}
+use Rattle.ax_model.specs.Widths.{counter_width}
 
 pub both : (a b : Bool) → a && b ≡ true → (a ≡ true) × (b ≡ true)
 both true b e = (refl, e)
@@ -128,11 +129,11 @@ chosen_from false p q r P Q R f g h m = h m
 mutual
   pub fits_shape : (k : KindTree) (v : ValueTree) → kind_fits k v ≡ true → Shape k v
   fits_shape (fixed f) v e = fixed_to f v e
-  fits_shape (extended ps) (part_values ls) e = parts_to ps ls e
-  fits_shape (extended ps) _ e = absurd (cc)
-  fits_shape (counted k) (occurrences vs) e =
-      let s = both (nat_lt (value_count vs) 256) (each_fits (kind_fits k) vs) e in (below (value_count vs) 256 s.0, each_to (Shape k) (kind_fits k) (fits_shape k) vs s.1)
-  fits_shape (counted k) _ e = absurd (cc)
+  fits_shape (extended last ps) (part_values ls) e = parts_to ps ls e
+  fits_shape (extended last ps) _ e = absurd (cc)
+  fits_shape (counted size k) (occurrences vs) e =
+      let s = both (nat_lt (value_count vs) (2 ^ counter_width size)) (each_fits (kind_fits k) vs) e in (below (value_count vs) (2 ^ counter_width size) s.0, each_to (Shape k) (kind_fits k) (fits_shape k) vs s.1)
+  fits_shape (counted size k) _ e = absurd (cc)
   fits_shape (by_fx f) (occurrences vs) e =
       let s = both (nat_lt 0 (value_count vs)) (each_fits (fixed_fits f) vs) e in (below 0 (value_count vs) s.0, each_to (FixedShape f) (fixed_fits f) (fixed_to f) vs s.1)
   fits_shape (by_fx f) _ e = absurd (cc)
@@ -154,11 +155,11 @@ mutual
 mutual
   pub shape_fits : (k : KindTree) (v : ValueTree) → Shape k v → kind_fits k v ≡ true
   shape_fits (fixed f) v h = fixed_from f v h
-  shape_fits (extended ps) (part_values ls) h = parts_from ps ls h
-  shape_fits (extended ps) _ h = absurd h
-  shape_fits (counted k) (occurrences vs) h =
-      join (nat_lt (value_count vs) 256) (each_fits (kind_fits k) vs) (tested_below (value_count vs) 256 h.0) (each_from (Shape k) (kind_fits k) (shape_fits k) vs h.1)
-  shape_fits (counted k) _ h = absurd h
+  shape_fits (extended last ps) (part_values ls) h = parts_from ps ls h
+  shape_fits (extended last ps) _ h = absurd h
+  shape_fits (counted size k) (occurrences vs) h =
+      join (nat_lt (value_count vs) (2 ^ counter_width size)) (each_fits (kind_fits k) vs) (tested_below (value_count vs) (2 ^ counter_width size) h.0) (each_from (Shape k) (kind_fits k) (shape_fits k) vs h.1)
+  shape_fits (counted size k) _ h = absurd h
   shape_fits (by_fx f) (occurrences vs) h =
       join (nat_lt 0 (value_count vs)) (each_fits (fixed_fits f) vs) (tested_below 0 (value_count vs) h.0) (each_from (FixedShape f) (fixed_fits f) (fixed_from f) vs h.1)
   shape_fits (by_fx f) _ h = absurd h

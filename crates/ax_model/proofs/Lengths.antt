@@ -1,19 +1,21 @@
 -- The count along a value is that of its canonical spelling's octets.
 use Rattle.std.proofs.Common.{◌≡◌, ℕ, zero, suc, ◌+◌, ◌*◌, ◌%◌, ◌<◌, ◌≤◌, ◌==◌, ◌-◌, max, Bool, true, false, cond, MatchBool, List, [], ◌∷◌, ◌++◌, length, Option, Some, refl, sym, ◌∙◌, ap, subst, arith, length-append}
-use Rattle.std.specs.List.{AllByRecursion}
 use Rattle.std.proofs.lemmas.Bool.{eqb-true}
-use Rattle.ax_bits.proofs.Words.{length-bits}
+use Rattle.ax_bits.proofs.Words.{length-bits, length-word}
 use Rattle.ax_bits.specs.Bits.{word, bits}
 use Rattle.ax_model.proofs.CanonSpells.{fixed_spells, members_spell}
 use Rattle.ax_model.proofs.FixedKinds.{fixed_length, members_length}
 use Rattle.ax_model.proofs.Least.{marks_length, enough}
 use Rattle.ax_model.specs.Canonical.{fixed_canon, members_canon, parts_canon, run_canon, each_canon, canon, marks_of, entries_canon}
-use Rattle.ax_model.specs.InBounds.{PartInBounds, InBounds, SlotsInBounds}
+use Rattle.ax_model.specs.InBounds.{PartsInBounds, InBounds, SlotsInBounds}
 use Rattle.ax_model.specs.Lengths.{run_octets, unit_octets, kind_after, slot_kind, last_slot, presence_octets, parts_octets, octets_where, octets, each_octets, entries_octets}
 use Rattle.ax_model.specs.Presence.{octets_needed, least_presence, later_marks, marks_after, marks_upto, none_marked}
 use Rattle.ax_model.specs.Shape.{FixedShape, MembersShape, PartsShape, EachShape, Shape, EntriesShape}
 use Rattle.ax_model.specs.Tree.{FixedTree, MembersTree, KindTree, fixed, extended, counted, by_fx, explicit, compound, SlotTree, SlotsTree, no_slots, slot_and, spare_slot, subitem, slot_count, ValueTree, part_values, occurrences, content_octets, marked, ValuesTree, no_values, value_and, value_count, ListsTree, no_lists, list_and, EntriesTree, no_entries, entry_and}
-use Rattle.ax_model.specs.Widths.{width, members_width}
+use Rattle.ax_model.specs.Widths.{width, members_width, counter_width, fx_width}
+use Rattle.ax_model.specs.declared.kind.LastPart.{LastPart}
+use Rattle.ax_model.proofs.Completions.{fx_few}
+use Rattle.ax_model.proofs.WholeOctets.{counter_in_octets}
 
 -- ---- presence fields
 
@@ -138,8 +140,8 @@ presence_length ss es some h =
 run_whole : (w : ℕ) → w % 8 ≡ 0 → w ≤ 524256 → w ≡ 8 * run_octets w
 run_whole w e le = omega arith
 
-unit_whole : (w : ℕ) → (w + 1) % 8 ≡ 0 → w ≤ 524256 → w + 1 ≡ 8 * unit_octets w
-unit_whole w e le = omega arith
+unit_whole : (fx w : ℕ) → fx ≤ 1 → (w + fx) % 8 ≡ 0 → w ≤ 524256 → w + fx ≡ 8 * unit_octets fx w
+unit_whole fx w few e le = omega arith
 
 fixed_canon_length : (f : FixedTree) (v : ValueTree) → FixedShape f v → length (fixed_canon f v) ≡ width f
 fixed_canon_length f v h = fixed_length f v (fixed_canon f v) (fixed_spells f v h)
@@ -147,41 +149,43 @@ fixed_canon_length f v h = fixed_length f v (fixed_canon f v) (fixed_spells f v 
 members_canon_length : (ms : MembersTree) (vs : ValuesTree) → MembersShape ms vs → length (members_canon ms vs) ≡ members_width ms
 members_canon_length ms vs h = members_length ms vs (members_canon ms vs) (members_spell ms vs h)
 
-parts_length : (ps : List MembersTree) (ls : ListsTree) → AllByRecursion PartInBounds ps → PartsShape ps ls → length (parts_canon ps ls) ≡ 8 * parts_octets ps ls
-parts_length [] no_lists w h = absurd h
-parts_length (p ∷ ps) no_lists w h = absurd h
-parts_length [] (list_and vs ls) w h = absurd h
-parts_length (p ∷ ps) (list_and vs no_lists) w h =
-    omega (arith, length-append (members_canon p vs) (0 ∷ []), members_canon_length p vs h, unit_whole (members_width p) w.0.0 w.0.1, no_parts ps)
+parts_length : (last : LastPart) (ps : List MembersTree) (ls : ListsTree) → PartsInBounds last ps → PartsShape ps ls → length (parts_canon last ps ls) ≡ 8 * parts_octets last ps ls
+parts_length last [] no_lists w h = absurd h
+parts_length last (p ∷ ps) no_lists w h = absurd h
+parts_length last [] (list_and vs ls) w h = absurd h
+parts_length last (p ∷ ps) (list_and vs no_lists) w h =
+    let fx = fx_width last (length ps) in
+    omega (arith, length-append (members_canon p vs) (word fx 0), length-word fx 0, members_canon_length p vs h, unit_whole fx (members_width p) (fx_few last (length ps)) w.0.0 w.0.1, no_parts ps)
   where
-    no_parts : (ps : List MembersTree) → parts_octets ps no_lists ≡ 0
+    no_parts : (ps : List MembersTree) → parts_octets last ps no_lists ≡ 0
     no_parts [] = refl
     no_parts (q ∷ qs) = refl
-parts_length (p ∷ ps) (list_and vs (list_and ws ls)) w h =
-    omega (arith, length-append (members_canon p vs) (1 ∷ parts_canon ps (list_and ws ls)), members_canon_length p vs h.0, unit_whole (members_width p) w.0.0 w.0.1, parts_length ps (list_and ws ls) w.1 h.1)
+parts_length last (p ∷ []) (list_and vs (list_and ws ls)) w h = absurd h.1
+parts_length last (p ∷ q ∷ ps) (list_and vs (list_and ws ls)) w h =
+    omega (arith, length-append (members_canon p vs) (1 ∷ parts_canon last (q ∷ ps) (list_and ws ls)), members_canon_length p vs h.0, unit_whole 1 (members_width p) (omega arith) w.0.0 w.0.1, parts_length last (q ∷ ps) (list_and ws ls) w.1 h.1)
 
 counted_more : (n u : ℕ) → suc n * u ≡ u + n * u
 counted_more n u = grind arith
 
 run_length : (f : FixedTree) (v : ValueTree) (vs : ValuesTree) → (width f + 1) % 8 ≡ 0 → width f ≤ 524256 → EachShape (FixedShape f) (value_and v vs)
-    → length (run_canon f (value_and v vs)) ≡ 8 * (value_count (value_and v vs) * unit_octets (width f))
+    → length (run_canon f (value_and v vs)) ≡ 8 * (value_count (value_and v vs) * unit_octets 1 (width f))
 run_length f v no_values e le h =
-    omega (arith, length-append (fixed_canon f v) (0 ∷ []), fixed_canon_length f v h.0, unit_whole (width f) e le, counted_more 0 (unit_octets (width f)))
+    omega (arith, length-append (fixed_canon f v) (0 ∷ []), fixed_canon_length f v h.0, unit_whole 1 (width f) (omega arith) e le, counted_more 0 (unit_octets 1 (width f)))
 run_length f v (value_and w vs) e le h =
-    omega (arith, length-append (fixed_canon f v) (1 ∷ run_canon f (value_and w vs)), fixed_canon_length f v h.0, unit_whole (width f) e le, run_length f w vs e le h.1, counted_more (value_count (value_and w vs)) (unit_octets (width f)))
+    omega (arith, length-append (fixed_canon f v) (1 ∷ run_canon f (value_and w vs)), fixed_canon_length f v h.0, unit_whole 1 (width f) (omega arith) e le, run_length f w vs e le h.1, counted_more (value_count (value_and w vs)) (unit_octets 1 (width f)))
 
 each_length : (k : KindTree) → ((v : ValueTree) → Shape k v → length (canon k v) ≡ 8 * octets v k) → (vs : ValuesTree) → EachShape (Shape k) vs → length (each_canon (canon k) vs) ≡ 8 * each_octets vs k
 each_length k one no_values h = refl
 each_length k one (value_and v vs) h = omega (arith, length-append (canon k v) (each_canon (canon k) vs), one v h.0, each_length k one vs h.1)
 
 -- the kinds of slots by number are those of the slots from s on
-abbrev AreKinds : (ℕ → Option KindTree) → ℕ → SlotsTree → Type 0
+abbrev pub AreKinds : (ℕ → Option KindTree) → ℕ → SlotsTree → Type 0
 AreKinds kinds s ss = (i n : ℕ) → n ≡ s + i → kinds n ≡ kind_after i ss
 
 later_kinds : (kinds : ℕ → Option KindTree) (s : ℕ) (slot : SlotTree) (ss : SlotsTree) → AreKinds kinds s (slot_and slot ss) → AreKinds kinds (s + 1) ss
 later_kinds kinds s slot ss h = λ i n e. h (suc i) n (omega arith)
 
-own_kinds : (ss : SlotsTree) → AreKinds (slot_kind ss) 1 ss
+pub own_kinds : (ss : SlotsTree) → AreKinds (slot_kind ss) 1 ss
 own_kinds ss i zero e = absurd (omega arith)
 own_kinds ss i (suc n) e = let same : n ≡ i = omega arith in ap (λ j. kind_after j ss) same
 
@@ -198,10 +202,13 @@ entry_length s k ss t v es kinds false e is one rest all h = all h
 mutual
   pub kind_length : (k : KindTree) (v : ValueTree) → InBounds k → Shape k v → length (canon k v) ≡ 8 * octets v k
   kind_length (fixed f) v w h = fixed_canon_length f v h ∙ run_whole (width f) w.0 w.1
-  kind_length (extended ps) (part_values ls) w h = parts_length ps ls w.1 h
-  kind_length (extended ps) _ w h = absurd h
-  kind_length (counted k) (occurrences vs) w h = let t = each_length k (λ v u. kind_length k v w u) vs h.1 in omega (arith, t)
-  kind_length (counted k) _ w h = absurd h
+  kind_length (extended last ps) (part_values ls) w h = parts_length last ps ls w.1 h
+  kind_length (extended last ps) _ w h = absurd h
+  kind_length (counted size k) (occurrences vs) w h =
+      let t = each_length k (λ v u. kind_length k v w u) vs h.1 in
+      let n = counter_width size in
+      omega (arith, t, counter_in_octets size, length-word n (value_count vs), length-append (word n (value_count vs)) (each_canon (canon k) vs))
+  kind_length (counted size k) _ w h = absurd h
   kind_length (by_fx f) (occurrences (value_and v vs)) w h = run_length f v vs w.0 w.1 h.1
   kind_length (by_fx f) (occurrences no_values) w h = absurd (omega (arith, h.0))
   kind_length (by_fx f) _ w h = absurd h
@@ -213,7 +220,7 @@ mutual
       omega (arith, length-append f (entries_canon 1 ss es), presence_length ss es w.0 h, t)
   kind_length (compound ss) _ w h = absurd h
 
-  entries_length : (s : ℕ) (ss : SlotsTree) (es : EntriesTree) (kinds : ℕ → Option KindTree) → AreKinds kinds s ss → SlotsInBounds ss → EntriesShape s ss es
+  pub entries_length : (s : ℕ) (ss : SlotsTree) (es : EntriesTree) (kinds : ℕ → Option KindTree) → AreKinds kinds s ss → SlotsInBounds ss → EntriesShape s ss es
       → length (entries_canon s ss es) ≡ 8 * entries_octets es kinds
   entries_length s no_slots no_entries kinds are w h = refl
   entries_length s no_slots (entry_and t v es) kinds are w h = absurd h

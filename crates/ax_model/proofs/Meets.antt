@@ -1,19 +1,22 @@
 -- What the reader finds: a value that a front of the bits spells, or a fault that they have.
-use Rattle.std.proofs.Common.{length-drop, ◌≡◌, ℕ, zero, suc, ◌+◌, ◌*◌, ◌^◌, ◌<◌, inl, inr, List, [], ◌∷◌, ◌++◌, length, take, drop, Option, Some, None, Bool, true, false, refl, sym, ◌∙◌, ap, arith, length-append, append_assoc, subst, IsTrue, take-append-drop}
+use Rattle.std.proofs.Common.{length-drop, ◌≡◌, ℕ, zero, suc, ◌+◌, ◌*◌, ◌^◌, ◌<◌, inl, inr, List, [], ◌∷◌, ◌++◌, length, take, drop, Option, Some, None, Bool, true, false, refl, sym, ◌∙◌, ap, arith, length-append, append_assoc, append-nil, subst, IsTrue, take-append-drop}
 use Rattle.std.specs.List.{AllByRecursion}
 use Rattle.std.proofs.lemmas.List.{take_all, length-take-le, nil_from_length}
 use Rattle.ax_bits.proofs.Words.{word-number, number_below, append-AreBits}
 use Rattle.ax_bits.specs.Bits.{AreBits, word, number_of, bits}
 use Rattle.ax_model.proofs.FixedKinds.{fixed_some, members_some, SplitIs, split_is}
 use Rattle.ax_model.proofs.Least.{here}
-use Rattle.ax_model.specs.Reader.{Read, got, failed, after, both, fixed_value, members_value, Split, fixed_read, short, cut, part_read, parts_read, split, one_read, run_read, each_read, read, count_read, octets_in, octets_read, contents_read, explicit_read, up, undefined, fx_read, octet_read, presence_read, mark_read, marked_read, entries_read}
+use Rattle.ax_model.specs.Reader.{last_read, Read, got, failed, after, both, fixed_value, members_value, Split, fixed_read, short, cut, part_read, parts_read, split, one_read, run_read, each_read, read, count_read, octets_in, octets_read, contents_read, explicit_read, up, undefined, fx_read, octet_read, presence_read, mark_read, marked_read, entries_read}
 use Rattle.ax_model.specs.Failing.{Fails, PartsFail, RunFails, PresenceFails, EntriesFail}
 use Rattle.ax_model.specs.Presence.{later_slots, FirstUndefined, NoneUndefined, IsDefined, slots_past, Presence, none_marked, first_mark, later_marks, octets_needed}
 use Rattle.ax_model.specs.Sound.{Sound, SlotsSound}
 use Rattle.ax_model.specs.Spelling.{FixedSpells, MembersSpell, Spells, PartsSpell, RunSpells, EachSpells, EntriesSpell}
 use Rattle.ax_model.specs.Tree.{FixedTree, MembersTree, fixed, ListsTree, list_and, no_lists, ValuesTree, value_and, no_values, ValueTree, value_count, KindTree, counted, occurrences, explicit, SlotsTree, EntriesTree, slot_and, subitem, no_entries, entry_and, defined_slots, slot_count, compound, marked, extended, part_values, by_fx, no_slots, spare_slot}
-use Rattle.ax_model.specs.Widths.{width, members_width}
+use Rattle.ax_model.specs.Widths.{width, members_width, counter_width, fx_width}
 use Rattle.ax_model.specs.declared.fault.BodyCause.{BodyCause}
+use Rattle.ax_model.specs.declared.kind.Counter.{Counter}
+use Rattle.ax_model.specs.declared.kind.LastPart.{LastPart}
+use Rattle.ax_model.specs.declared.kind.LastPart.TheVariants.{WithFx, WithoutFx}
 
 abbrev pub Meets : {A : Type 0} → (A → List ℕ → Type 0) → (ℕ → BodyCause → Type 0) → List ℕ → Read A → Type 0
 Meets S F b (got a n y) = (x : List ℕ) × (b ≡ x ++ y) × (length x ≡ n) × S a x
@@ -69,28 +72,42 @@ unit b x y fx e = e ∙ sym (append_assoc x (fx ∷ []) y)
 pub unit_length : (x : List ℕ) (fx w : ℕ) → length x ≡ w → length (x ++ fx ∷ []) ≡ w + 1
 unit_length x fx w l = length-append x (fx ∷ []) ∙ omega arith
 
-part_good : (p q : MembersTree) (ps : List MembersTree) (x : List ℕ) → MembersSpell p (members_value p x) x → (ls : ListsTree) (z : List ℕ) → PartsSpell (q ∷ ps) ls z
-    → PartsSpell (p ∷ q ∷ ps) (list_and (members_value p x) ls) ((x ++ 1 ∷ []) ++ z)
-part_good p q ps x h no_lists z t = absurd t
-part_good p q ps x h (list_and ws ls) z t = (x, z, append_assoc x (1 ∷ []) z, h, t)
+part_good : (last : LastPart) (p q : MembersTree) (ps : List MembersTree) (x : List ℕ) → MembersSpell p (members_value p x) x → (ls : ListsTree) (z : List ℕ) → PartsSpell last (q ∷ ps) ls z
+    → PartsSpell last (p ∷ q ∷ ps) (list_and (members_value p x) ls) ((x ++ 1 ∷ []) ++ z)
+part_good last p q ps x h no_lists z t = absurd t
+part_good last p q ps x h (list_and ws ls) z t = (x, z, append_assoc x (1 ∷ []) z, h, t)
 
-part_meets : (p : MembersTree) (ps : List MembersTree) (b : List ℕ) → AreBits b → (go : List ℕ → Read ListsTree) → ((y : List ℕ) → AreBits y → 0 < length ps → Meets (PartsSpell ps) (PartsFail ps y) y (go y))
-    → (s : Split) → SplitIs (members_width p) b s → Meets (PartsSpell (p ∷ ps)) (PartsFail (p ∷ ps) b) b (part_read p ps s go)
-part_meets p ps b bit go ih short h = inl (omega arith, refl, refl)
-part_meets p ps b bit go ih (cut x []) (e, l) = inl (omega (arith, ap length e, length-append x []), refl, refl)
-part_meets p ps b bit go ih (cut x (zero ∷ y)) (e, l) =
-    (x ++ 0 ∷ [], unit b x y 0 e, unit_length x 0 (members_width p) l, (x, refl, members_all p x (bits_of b x (0 ∷ y) e bit).0 l))
-part_meets p [] b bit go ih (cut x (suc zero ∷ y)) (e, l) = inr (x, y, l, e, inl (refl, refl, refl))
-part_meets p [] b bit go ih (cut x (suc (suc fx) ∷ y)) (e, l) = absurd (omega (arith, (bits_of b x (suc (suc fx) ∷ y) e bit).1.0))
-part_meets p (q ∷ ps) b bit go ih (cut x (suc (suc fx) ∷ y)) (e, l) = absurd (omega (arith, (bits_of b x (suc (suc fx) ∷ y) e bit).1.0))
-part_meets p (q ∷ ps) b bit go ih (cut x (suc zero ∷ y)) (e, l) =
+with_fx : (last : LastPart) → fx_width last 0 ≡ 1 → last ≡ WithFx
+with_fx WithFx e = refl
+with_fx WithoutFx e = absurd (omega arith)
+
+-- a part with FX
+part_meets : (last : LastPart) (p : MembersTree) (ps : List MembersTree) → fx_width last (length ps) ≡ 1 → (b : List ℕ) → AreBits b → (go : List ℕ → Read ListsTree)
+    → ((y : List ℕ) → AreBits y → 0 < length ps → Meets (PartsSpell last ps) (PartsFail last ps y) y (go y))
+    → (s : Split) → SplitIs (members_width p) b s → Meets (PartsSpell last (p ∷ ps)) (PartsFail last (p ∷ ps) b) b (part_read p ps s go)
+part_meets last p ps has b bit go ih short h = inl (omega arith, refl, refl)
+part_meets last p ps has b bit go ih (cut x []) (e, l) = inl (omega (arith, ap length e, length-append x []), refl, refl)
+part_meets last p ps has b bit go ih (cut x (zero ∷ y)) (e, l) =
+    (x ++ 0 ∷ [], unit b x y 0 e, unit_length x 0 (members_width p) l, (x, ap (λ n. x ++ word n 0) (sym has), members_all p x (bits_of b x (0 ∷ y) e bit).0 l))
+part_meets last p [] has b bit go ih (cut x (suc zero ∷ y)) (e, l) = inr (x, y, l, e, inl (refl, with_fx last has, refl, refl))
+part_meets last p [] has b bit go ih (cut x (suc (suc fx) ∷ y)) (e, l) = absurd (omega (arith, (bits_of b x (suc (suc fx) ∷ y) e bit).1.0))
+part_meets last p (q ∷ ps) has b bit go ih (cut x (suc (suc fx) ∷ y)) (e, l) = absurd (omega (arith, (bits_of b x (suc (suc fx) ∷ y) e bit).1.0))
+part_meets last p (q ∷ ps) has b bit go ih (cut x (suc zero ∷ y)) (e, l) =
     let t = bits_of b x (1 ∷ y) e bit in
-    after_meets (λ ls. list_and (members_value p x) ls) (members_width p + 1) (PartsSpell (q ∷ ps)) (PartsFail (q ∷ ps) y) (PartsSpell (p ∷ q ∷ ps)) (PartsFail (p ∷ q ∷ ps) b) b (x ++ 1 ∷ []) y
-    (unit b x y 1 e) (unit_length x 1 (members_width p) l) (part_good p q ps x (members_all p x t.0 l)) (λ k c h. inr (x, y, l, e, inr (k, refl, h))) (go y) (ih y t.1.1 (omega arith))
+    after_meets (λ ls. list_and (members_value p x) ls) (members_width p + 1) (PartsSpell last (q ∷ ps)) (PartsFail last (q ∷ ps) y) (PartsSpell last (p ∷ q ∷ ps)) (PartsFail last (p ∷ q ∷ ps) b) b (x ++ 1 ∷ []) y
+    (unit b x y 1 e) (unit_length x 1 (members_width p) l) (part_good last p q ps x (members_all p x t.0 l)) (λ k c h. inr (x, y, l, e, inr (k, refl, h))) (go y) (ih y t.1.1 (omega arith))
 
-pub parts_meets : (ps : List MembersTree) (b : List ℕ) → AreBits b → 0 < length ps → Meets (PartsSpell ps) (PartsFail ps b) b (parts_read ps b)
-parts_meets [] b bit some = absurd (omega arith)
-parts_meets (p ∷ ps) b bit some = part_meets p ps b bit (parts_read ps) (parts_meets ps) (split (members_width p) b) (split_is b (members_width p))
+-- a last part without FX
+last_meets : (p : MembersTree) (b : List ℕ) → AreBits b → (s : Split) → SplitIs (members_width p) b s → Meets (PartsSpell WithoutFx (p ∷ [])) (PartsFail WithoutFx (p ∷ []) b) b (last_read p s)
+last_meets p b bit short h = inl (omega arith, refl, refl)
+last_meets p b bit (cut x y) (e, l) = (x, e, l, (x, sym (append-nil x), members_all p x (bits_of b x y e bit).0 l))
+
+pub parts_meets : (last : LastPart) (ps : List MembersTree) (b : List ℕ) → AreBits b → 0 < length ps → Meets (PartsSpell last ps) (PartsFail last ps b) b (parts_read last ps b)
+parts_meets last [] b bit some = absurd (omega arith)
+parts_meets last (p ∷ q ∷ ps) b bit some =
+    part_meets last p (q ∷ ps) refl b bit (parts_read last (q ∷ ps)) (parts_meets last (q ∷ ps)) (split (members_width p) b) (split_is b (members_width p))
+parts_meets WithFx (p ∷ []) b bit some = part_meets WithFx p [] refl b bit (parts_read WithFx []) (parts_meets WithFx []) (split (members_width p) b) (split_is b (members_width p))
+parts_meets WithoutFx (p ∷ []) b bit some = last_meets p b bit (split (members_width p) b) (split_is b (members_width p))
 
 abbrev pub FailsRun : FixedTree → List ℕ → ℕ → BodyCause → Type 0
 FailsRun f b p c = (n : ℕ) × RunFails n f b p c
@@ -136,6 +153,13 @@ module _ (R : ValueTree → List ℕ → Type 0) (F : List ℕ → ℕ → BodyC
       (λ v vs x z h t. (omega arith, (x, z, refl, h, t.1))) (λ p c h. (no_values, omega arith, [], b, refl, refl, p, omega arith, h)) (each_later n b)
       (each_read rule n) (each_meets rule one n) (rule b) (one b bit)
 
+-- w bits are a word
+pub number_is_word : (w : ℕ) (x : List ℕ) → AreBits x → length x ≡ w → x ≡ word w (number_of x)
+number_is_word w x bit l = sym (subst (λ k. word k (number_of x) ≡ x) l (word-number x bit))
+
+pub number_fits : (w : ℕ) (x : List ℕ) → AreBits x → length x ≡ w → number_of x < 2 ^ w
+number_fits w x bit l = subst (λ k. number_of x < 2 ^ k) l (number_below x bit)
+
 -- eight bits are a word
 pub octet_word : (x : List ℕ) → AreBits x → length x ≡ 8 → x ≡ word 8 (number_of x)
 octet_word x bit l = sym (subst (λ k. word k (number_of x) ≡ x) l (word-number x bit))
@@ -143,15 +167,17 @@ octet_word x bit l = sym (subst (λ k. word k (number_of x) ≡ x) l (word-numbe
 octet_below : (x : List ℕ) → AreBits x → length x ≡ 8 → number_of x < 256
 octet_below x bit l = subst (λ k. number_of x < 2 ^ k) l (number_below x bit)
 
-counted_meets : (k : KindTree) → ((b : List ℕ) → AreBits b → Meets (Spells k) (Fails k b) b (read k b)) → (b : List ℕ) → AreBits b → (s : Split) → SplitIs 8 b s → Meets (Spells (counted k)) (Fails (counted k) b) b (count_read (read k) s)
-counted_meets k one b bit short h = inl (h, refl, refl)
-counted_meets k one b bit (cut x y) (e, l) =
+counted_meets : (size : Counter) (k : KindTree) → ((b : List ℕ) → AreBits b → Meets (Spells k) (Fails k b) b (read k b)) → (b : List ℕ) → AreBits b → (s : Split) → SplitIs (counter_width size) b s
+    → Meets (Spells (counted size k)) (Fails (counted size k) b) b (count_read (counter_width size) (read k) s)
+counted_meets size k one b bit short h = inl (h, refl, refl)
+counted_meets size k one b bit (cut x y) (e, l) =
     let t = bits_of b x y e bit in
-    let w = octet_word x t.0 l in
-    let lt = octet_below x t.0 l in
-    after_meets (λ vs. occurrences vs) 8 (EachIs (Spells k) (Fails k) (number_of x)) (EachFails (Spells k) (Fails k) (number_of x) y) (Spells (counted k)) (Fails (counted k) b) b x y e l
-    (λ vs z h. (let a : value_count vs < 256 = omega (arith, h.0) in a, z, ap (λ x. x ++ z) (w ∙ ap (word 8) (sym h.0)), h.1))
-    (λ q c h. inr (number_of x, lt, h.0, h.1, h.2, h.3, e ∙ ap (λ x. x ++ y) w ∙ ap (λ y. word 8 (number_of x) ++ y) h.4, h.5, h.6, ap (λ q. 8 + q) h.7, h.8))
+    let n = counter_width size in
+    let w = number_is_word n x t.0 l in
+    let lt = number_fits n x t.0 l in
+    after_meets (λ vs. occurrences vs) n (EachIs (Spells k) (Fails k) (number_of x)) (EachFails (Spells k) (Fails k) (number_of x) y) (Spells (counted size k)) (Fails (counted size k) b) b x y e l
+    (λ vs z h. (subst (λ m. m < 2 ^ n) (sym h.0) lt, z, ap (λ x. x ++ z) (w ∙ ap (word n) (sym h.0)), h.1))
+    (λ q c h. inr (number_of x, lt, h.0, h.1, h.2, h.3, e ∙ ap (λ x. x ++ y) w ∙ ap (λ y. word n (number_of x) ++ y) h.4, h.5, h.6, ap (λ q. n + q) h.7, h.8))
     (each_read (read k) (number_of x) y) (each_meets (Spells k) (Fails k) (read k) one (number_of x) y t.1)
 
 -- ---- explicit
@@ -186,7 +212,7 @@ explicit_meets b bit (cut x y) (e, l) = let t = bits_of b x y e bit in contents_
 
 -- ---- presence fields
 
-abbrev UndefinedIs : List Bool → List ℕ → Option ℕ → Type 0
+abbrev pub UndefinedIs : List Bool → List ℕ → Option ℕ → Type 0
 UndefinedIs ds ms (Some j) = FirstUndefined ds ms j
 UndefinedIs ds ms None = NoneUndefined ds ms
 
@@ -194,7 +220,7 @@ up_is : (ds : List Bool) (m : ℕ) (ms : List ℕ) → (m ≡ 1 → IsDefined ds
 up_is ds m ms here (Some j) h = (here, h)
 up_is ds m ms here None h = (here, h)
 
-undefined_is : (ds : List Bool) (ms : List ℕ) → UndefinedIs ds ms (undefined ds ms)
+pub undefined_is : (ds : List Bool) (ms : List ℕ) → UndefinedIs ds ms (undefined ds ms)
 undefined_is ds [] = tt
 undefined_is ds (zero ∷ ms) = up_is ds 0 ms (λ e. absurd (omega arith)) (undefined (later_slots ds) ms) (undefined_is (later_slots ds) ms)
 undefined_is [] (suc zero ∷ ms) = (refl, (λ h. h))
@@ -289,10 +315,10 @@ marked_meets ss b bit go ih (got ms n y) (x, e, l, (h, clear)) =
 mutual
   pub read_meets : (k : KindTree) (b : List ℕ) → Sound k → AreBits b → Meets (Spells k) (Fails k b) b (read k b)
   read_meets (fixed f) b sound bit = fixed_meets f b bit (split (width f) b) (split_is b (width f))
-  read_meets (extended ps) b sound bit =
-      after_meets (λ ls. part_values ls) 0 (PartsSpell ps) (PartsFail ps b) (Spells (extended ps)) (Fails (extended ps) b) b [] b refl refl (λ ls z h. h) (λ q c h. subst (λ n. PartsFail ps b n c) (let e : q ≡ 0 + q = omega arith in e) h)
-      (parts_read ps b) (parts_meets ps b bit sound)
-  read_meets (counted k) b sound bit = counted_meets k (λ b t. read_meets k b sound t) b bit (split 8 b) (split_is b 8)
+  read_meets (extended last ps) b sound bit =
+      after_meets (λ ls. part_values ls) 0 (PartsSpell last ps) (PartsFail last ps b) (Spells (extended last ps)) (Fails (extended last ps) b) b [] b refl refl (λ ls z h. h) (λ q c h. subst (λ n. PartsFail last ps b n c) (let e : q ≡ 0 + q = omega arith in e) h)
+      (parts_read last ps b) (parts_meets last ps b bit sound)
+  read_meets (counted size k) b sound bit = counted_meets size k (λ b t. read_meets k b sound t) b bit (split (counter_width size) b) (split_is b (counter_width size))
   read_meets (by_fx f) b sound bit =
       after_meets (λ vs. occurrences vs) 0 (RunSpells f) (FailsRun f b) (Spells (by_fx f)) (Fails (by_fx f) b) b [] b refl refl (λ vs z h. h) (λ q c h. subst (λ n. FailsRun f b n c) (let e : q ≡ 0 + q = omega arith in e) h)
       (run_read (suc (length b)) f b) (run_meets (suc (length b)) f b bit (omega arith))

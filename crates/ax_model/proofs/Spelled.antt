@@ -1,5 +1,5 @@
 -- What spells a value is read as that value.
-use Rattle.std.proofs.Common.{◌≡◌, ℕ, zero, suc, ◌+◌, ◌*◌, ◌<◌, ◌≤◌, inl, inr, List, [], ◌∷◌, ◌++◌, length, None, Bool, true, false, refl, sym, ◌∙◌, ap, arith, length-append, append_assoc, subst, IsTrue}
+use Rattle.std.proofs.Common.{◌≡◌, ℕ, zero, suc, ◌+◌, ◌*◌, ◌^◌, ◌<◌, ◌≤◌, inl, inr, List, [], ◌∷◌, ◌++◌, length, None, Bool, true, false, refl, sym, ◌∙◌, ap, arith, length-append, append_assoc, append-nil, subst, IsTrue}
 use Rattle.std.specs.List.{AllByRecursion}
 use Rattle.ax_bits.proofs.Words.{length-word, length-bits}
 use Rattle.ax_bits.specs.Bits.{bits, number_of, word}
@@ -9,6 +9,9 @@ use Rattle.ax_model.specs.Presence.{NoneUndefined, later_slots, slots_past, Pres
 use Rattle.ax_model.specs.Spelling.{FixedSpells, PartsSpell, RunSpells, EachSpells, EntriesSpell, Spells}
 use Rattle.ax_model.specs.Tree.{FixedTree, ValueTree, MembersTree, ListsTree, no_lists, list_and, ValuesTree, no_values, value_and, value_count, content_octets, occurrences, SlotsTree, EntriesTree, defined_slots, no_slots, no_entries, entry_and, slot_and, spare_slot, subitem, KindTree, fixed, extended, part_values, counted, by_fx, explicit, compound, marked, slot_count}
 use Rattle.ax_model.specs.Widths.{width, members_width}
+use Rattle.ax_model.specs.Widths.{counter_width}
+use Rattle.ax_model.specs.declared.kind.LastPart.{LastPart}
+use Rattle.ax_model.specs.declared.kind.LastPart.TheVariants.{WithFx, WithoutFx}
 
 -- ---- what is got, by parts
 
@@ -28,17 +31,24 @@ length_unit x y fx w e = let l : length (x ++ fx ∷ y) ≡ length x + suc (leng
 length_end : (x : List ℕ) (fx w : ℕ) → length x ≡ w → w + 1 ≡ length (x ++ fx ∷ [])
 length_end x fx w e = let l : length (x ++ fx ∷ []) ≡ length x + 1 = length-append x (fx ∷ []) in omega arith
 
-pub parts_spelled : (ps : List MembersTree) (ls : ListsTree) (b r : List ℕ) → PartsSpell ps ls b → parts_read ps (b ++ r) ≡ got ls (length b) r
-parts_spelled [] no_lists b r h = absurd h
-parts_spelled (p ∷ ps) no_lists b r h = absurd h
-parts_spelled [] (list_and vs ls) b r h = absurd h
-parts_spelled (p ∷ ps) (list_and vs no_lists) b r (x, e, h) =
+pub parts_spelled : (last : LastPart) (ps : List MembersTree) (ls : ListsTree) (b r : List ℕ) → PartsSpell last ps ls b → parts_read last ps (b ++ r) ≡ got ls (length b) r
+parts_spelled last [] no_lists b r h = absurd h
+parts_spelled last (p ∷ ps) no_lists b r h = absurd h
+parts_spelled last [] (list_and vs ls) b r h = absurd h
+parts_spelled last (p ∷ q ∷ ps) (list_and vs no_lists) b r (x, e, h) =
     let l = members_length p vs x h in
     rw (e, append_assoc, split_at x (0 ∷ r) (members_width p) l) (got_is r (ap (λ vs. list_and vs no_lists) (members_back_all p vs x h)) (length_end x 0 (members_width p) l))
-parts_spelled (p ∷ []) (list_and vs (list_and ws ls)) b r (x, y, e, h, t) = absurd t
-parts_spelled (p ∷ q ∷ ps) (list_and vs (list_and ws ls)) b r (x, y, e, h, t) =
+parts_spelled WithFx (p ∷ []) (list_and vs no_lists) b r (x, e, h) =
     let l = members_length p vs x h in
-    rw (e, append_assoc, split_at x (1 ∷ y ++ r) (members_width p) l, parts_spelled (q ∷ ps) (list_and ws ls) y r t)
+    rw (e, append_assoc, split_at x (0 ∷ r) (members_width p) l) (got_is r (ap (λ vs. list_and vs no_lists) (members_back_all p vs x h)) (length_end x 0 (members_width p) l))
+parts_spelled WithoutFx (p ∷ []) (list_and vs no_lists) b r (x, e, h) =
+    let l = members_length p vs x h in
+    let same : b ≡ x = e ∙ append-nil x in
+    rw (same, split_at x r (members_width p) l) (got_is r (ap (λ vs. list_and vs no_lists) (members_back_all p vs x h)) (sym l))
+parts_spelled last (p ∷ []) (list_and vs (list_and ws ls)) b r (x, y, e, h, t) = absurd t
+parts_spelled last (p ∷ q ∷ ps) (list_and vs (list_and ws ls)) b r (x, y, e, h, t) =
+    let l = members_length p vs x h in
+    rw (e, append_assoc, split_at x (1 ∷ y ++ r) (members_width p) l, parts_spelled last (q ∷ ps) (list_and ws ls) y r t)
     (got_is r (ap (λ vs. list_and vs (list_and ws ls)) (members_back_all p vs x h)) (length_unit x y 1 (members_width p) l))
 
 pub run_spelled : (n : ℕ) (f : FixedTree) (vs : ValuesTree) (b r : List ℕ) → length b ≤ n → RunSpells f vs b → run_read n f (b ++ r) ≡ got vs (length b) r
@@ -79,16 +89,16 @@ explicit_spelled xs b r le h e =
     ap explicit_read front ∙ ap (λ n. contents_read n (bits xs ++ r)) n2 ∙ ap (octets_read (length xs)) (split_at (bits xs) r (8 * length xs) m)
     ∙ got_is r (ap (λ xs. content_octets xs) (octets_back xs h)) (let e : 8 + 8 * length xs ≡ length b = omega arith in e)
 
--- a length octet in front
-pub front : (n : ℕ) (b y r : List ℕ) → b ≡ word 8 n ++ y → split 8 (b ++ r) ≡ cut (word 8 n) (y ++ r)
-front n b y r e = ap (λ b. split 8 (b ++ r)) e ∙ ap (split 8) (append_assoc (word 8 n) y r) ∙ split_at (word 8 n) (y ++ r) 8 (length-word 8 n)
+-- a counter or a length octet in front
+pub front : (w n : ℕ) (b y r : List ℕ) → b ≡ word w n ++ y → split w (b ++ r) ≡ cut (word w n) (y ++ r)
+front w n b y r e = ap (λ b. split w (b ++ r)) e ∙ ap (split w) (append_assoc (word w n) y r) ∙ split_at (word w n) (y ++ r) w (length-word w n)
 
-pub counted_spelled : (R : ValueTree → List ℕ → Type 0) (rule : List ℕ → Read ValueTree) → ((v : ValueTree) (b r : List ℕ) → R v b → rule (b ++ r) ≡ got v (length b) r)
-    → (vs : ValuesTree) (b y r : List ℕ) → value_count vs < 256 → b ≡ word 8 (value_count vs) ++ y → EachSpells R vs y → count_read rule (split 8 (b ++ r)) ≡ got (occurrences vs) (length b) r
-counted_spelled R rule one vs b y r le e h =
-    let long : 8 + length y ≡ length b = omega (arith, ap length e, length-append (word 8 (value_count vs)) y, length-word 8 (value_count vs)) in
-    ap (count_read rule) (front (value_count vs) b y r e) ∙ ap (λ n. after 8 (λ vs. occurrences vs) (each_read rule n (y ++ r))) (number_word 8 (value_count vs) le)
-    ∙ ap (after 8 (λ vs. occurrences vs)) (each_spelled R rule one vs y r h) ∙ got_is r refl long
+pub counted_spelled : (w : ℕ) (R : ValueTree → List ℕ → Type 0) (rule : List ℕ → Read ValueTree) → ((v : ValueTree) (b r : List ℕ) → R v b → rule (b ++ r) ≡ got v (length b) r)
+    → (vs : ValuesTree) (b y r : List ℕ) → value_count vs < 2 ^ w → b ≡ word w (value_count vs) ++ y → EachSpells R vs y → count_read w rule (split w (b ++ r)) ≡ got (occurrences vs) (length b) r
+counted_spelled w R rule one vs b y r le e h =
+    let long : w + length y ≡ length b = omega (arith, ap length e, length-append (word w (value_count vs)) y, length-word w (value_count vs)) in
+    ap (count_read w rule) (front w (value_count vs) b y r e) ∙ ap (λ n. after w (λ vs. occurrences vs) (each_read rule n (y ++ r))) (number_word w (value_count vs) le)
+    ∙ ap (after w (λ vs. occurrences vs)) (each_spelled R rule one vs y r h) ∙ got_is r refl long
 
 -- ---- presence fields
 
@@ -139,11 +149,11 @@ entries_defined s (slot_and (subitem name k) ss) ms (entry_and t v es) b (inr (m
 mutual
   pub read_spelled : (k : KindTree) (v : ValueTree) (b r : List ℕ) → Spells k v b → read k (b ++ r) ≡ got v (length b) r
   read_spelled (fixed f) v b r h = fixed_spelled f v b r h
-  read_spelled (extended ps) (part_values ls) b r h = rw (parts_spelled ps ls b r h) (got_is r refl (omega arith))
-  read_spelled (extended ps) _ b r h = absurd h
-  read_spelled (counted k) (occurrences vs) b r (le, y, e, h) =
-      counted_spelled (Spells k) (read k) (read_spelled k) vs b y r le e h
-  read_spelled (counted k) _ b r h = absurd h
+  read_spelled (extended last ps) (part_values ls) b r h = rw (parts_spelled last ps ls b r h) (got_is r refl (omega arith))
+  read_spelled (extended last ps) _ b r h = absurd h
+  read_spelled (counted size k) (occurrences vs) b r (le, y, e, h) =
+      counted_spelled (counter_width size) (Spells k) (read k) (read_spelled k) vs b y r le e h
+  read_spelled (counted size k) _ b r h = absurd h
   read_spelled (by_fx f) (occurrences vs) b r h =
       rw (run_spelled (suc (length (b ++ r))) f vs b r (omega (arith, length-append b r)) h) (got_is r refl (omega arith))
   read_spelled (by_fx f) _ b r h = absurd h

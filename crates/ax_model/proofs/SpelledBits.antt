@@ -7,6 +7,8 @@ use Rattle.ax_model.specs.Presence.{Presence, octets_needed, later_marks}
 use Rattle.ax_model.specs.Specification.{SpecTree, record_kind}
 use Rattle.ax_model.specs.Spelling.{NumberSpells, FixedSpells, MembersSpell, PartsSpell, RunSpells, EachSpells, Spells, EntriesSpell}
 use Rattle.ax_model.specs.Tree.{FixedTree, element, group, member_values, number, MembersTree, no_members, member_and, named, spare, ListsTree, no_lists, list_and, ValuesTree, no_values, value_and, ValueTree, KindTree, fixed, extended, part_values, counted, occurrences, value_count, by_fx, explicit, content_octets, compound, marked, slot_count, SlotsTree, EntriesTree, no_slots, no_entries, entry_and, slot_and, spare_slot, subitem}
+use Rattle.ax_model.specs.Widths.{counter_width, fx_width}
+use Rattle.ax_model.specs.declared.kind.LastPart.{LastPart}
 
 both_bits : (b x y : List ℕ) → b ≡ x ++ y → AreBits x → AreBits y → AreBits b
 both_bits b x y e p q = subst AreBits (sym e) (append-AreBits x y p q)
@@ -29,12 +31,12 @@ mutual
   members_bits (member_and (named name f) ms) (value_and v vs) b (x, y, e, p, q) = both_bits b x y e (fixed_bits f v x p) (members_bits ms vs y q)
   members_bits (member_and (spare w) ms) (value_and v vs) b (x, y, e, p, q) = both_bits b x y e (number_bits w v x p) (members_bits ms vs y q)
 
-parts_bits : (ps : List MembersTree) (ls : ListsTree) (b : List ℕ) → PartsSpell ps ls b → AreBits b
-parts_bits [] no_lists b h = absurd h
-parts_bits (p ∷ ps) no_lists b h = absurd h
-parts_bits [] (list_and vs ls) b h = absurd h
-parts_bits (p ∷ ps) (list_and vs no_lists) b (x, e, h) = both_bits b x (0 ∷ []) e (members_bits p vs x h) (omega arith, tt)
-parts_bits (p ∷ ps) (list_and vs (list_and ws ls)) b (x, y, e, h, t) = both_bits b x (1 ∷ y) e (members_bits p vs x h) (omega arith, parts_bits ps (list_and ws ls) y t)
+parts_bits : (last : LastPart) (ps : List MembersTree) (ls : ListsTree) (b : List ℕ) → PartsSpell last ps ls b → AreBits b
+parts_bits last [] no_lists b h = absurd h
+parts_bits last (p ∷ ps) no_lists b h = absurd h
+parts_bits last [] (list_and vs ls) b h = absurd h
+parts_bits last (p ∷ ps) (list_and vs no_lists) b (x, e, h) = both_bits b x (word (fx_width last (length ps)) 0) e (members_bits p vs x h) (word-AreBits (fx_width last (length ps)) 0)
+parts_bits last (p ∷ ps) (list_and vs (list_and ws ls)) b (x, y, e, h, t) = both_bits b x (1 ∷ y) e (members_bits p vs x h) (omega arith, parts_bits last ps (list_and ws ls) y t)
 
 run_bits : (f : FixedTree) (vs : ValuesTree) (b : List ℕ) → RunSpells f vs b → AreBits b
 run_bits f no_values b h = absurd h
@@ -53,10 +55,10 @@ presence_bits (suc k) ms f (seven, l, bit, inr (more, y, e, g, t)) = both_bits f
 mutual
   pub spells_bits : (k : KindTree) (v : ValueTree) (b : List ℕ) → Spells k v b → AreBits b
   spells_bits (fixed f) v b h = fixed_bits f v b h
-  spells_bits (extended ps) (part_values ls) b h = parts_bits ps ls b h
-  spells_bits (extended ps) _ b h = absurd h
-  spells_bits (counted k) (occurrences vs) b (le, y, e, h) = both_bits b (word 8 (value_count vs)) y e (word-AreBits 8 (value_count vs)) (each_bits (Spells k) (λ v b t. spells_bits k v b t) vs y h)
-  spells_bits (counted k) _ b h = absurd h
+  spells_bits (extended last ps) (part_values ls) b h = parts_bits last ps ls b h
+  spells_bits (extended last ps) _ b h = absurd h
+  spells_bits (counted size k) (occurrences vs) b (le, y, e, h) = both_bits b (word (counter_width size) (value_count vs)) y e (word-AreBits (counter_width size) (value_count vs)) (each_bits (Spells k) (λ v b t. spells_bits k v b t) vs y h)
+  spells_bits (counted size k) _ b h = absurd h
   spells_bits (by_fx f) (occurrences vs) b h = run_bits f vs b h
   spells_bits (by_fx f) _ b h = absurd h
   spells_bits explicit (content_octets xs) b (le, all, e) = both_bits b (word 8 (1 + length xs)) (bits xs) e (word-AreBits 8 (1 + length xs)) (bits-AreBits xs)

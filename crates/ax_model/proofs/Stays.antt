@@ -10,6 +10,8 @@ use Rattle.ax_model.specs.Telling.{BeginAlike, fault_bits}
 use Rattle.ax_model.specs.Tree.{MembersTree, FixedTree, KindTree, fixed, extended, counted, by_fx, explicit, compound, slot_count, defined_slots, SlotsTree, no_slots, slot_and, spare_slot, subitem, ValueTree}
 use Rattle.ax_model.specs.declared.fault.BodyCause.{BodyCause}
 use Rattle.ax_model.specs.declared.fault.BodyCause.TheVariants.{RunsOut, UndefinedSlot, BadExplicitLength}
+use Rattle.ax_model.specs.Widths.{counter_width}
+use Rattle.ax_model.specs.declared.kind.LastPart.{LastPart}
 
 front_of : (h r x y : List ℕ) → h ++ r ≡ x ++ y → length x ≤ length h → (g : List ℕ) × (h ≡ x ++ g) × (y ≡ g ++ r)
 front_of h r [] y e le = (h, refl, sym e)
@@ -38,14 +40,14 @@ weaker : (n m : ℕ) (b d : List ℕ) → BeginAlike n b d → m ≤ n → Begin
 weaker n m b d s le = record { common = s.common; left = s.left; right = s.right; long = (let l = s.long in omega arith); first = s.first; second = s.second }
 
 -- the parts still fail, with the same place and cause
-parts_stay : (ps : List MembersTree) (b d : List ℕ) (p : ℕ) (c : BodyCause) → (c ≡ RunsOut → ⊥) → BeginAlike (p + fault_bits c) b d → PartsFail ps b p c → PartsFail ps d p c
-parts_stay [] b d p c more s h = h
-parts_stay (ms ∷ ps) b d p c more s (inl h) = absurd (more h.2)
-parts_stay (ms ∷ ps) b d p c more s (inr (x, y, l, e, inl (f, g, h))) =
+parts_stay : (last : LastPart) (ps : List MembersTree) (b d : List ℕ) (p : ℕ) (c : BodyCause) → (c ≡ RunsOut → ⊥) → BeginAlike (p + fault_bits c) b d → PartsFail last ps b p c → PartsFail last ps d p c
+parts_stay last [] b d p c more s h = h
+parts_stay last (ms ∷ ps) b d p c more s (inl h) = absurd (more h.2)
+parts_stay last (ms ∷ ps) b d p c more s (inr (x, y, l, e, inl (f, o, g, h))) =
     let one : fault_bits c ≡ 1 = ap fault_bits h in
-    let t = after_unit (p + fault_bits c) 0 b d x y 1 s e (omega arith) in inr (x, t.0, l, t.1, inl (f, g, h))
-parts_stay (ms ∷ ps) b d p c more s (inr (x, y, l, e, inr (q, f, h))) =
-    let t = after_unit (p + fault_bits c) (q + fault_bits c) b d x y 1 s e (omega arith) in inr (x, t.0, l, t.1, inr (q, f, parts_stay ps y t.0 q c more t.2 h))
+    let t = after_unit (p + fault_bits c) 0 b d x y 1 s e (omega arith) in inr (x, t.0, l, t.1, inl (f, o, g, h))
+parts_stay last (ms ∷ ps) b d p c more s (inr (x, y, l, e, inr (q, f, h))) =
+    let t = after_unit (p + fault_bits c) (q + fault_bits c) b d x y 1 s e (omega arith) in inr (x, t.0, l, t.1, inr (q, f, parts_stay last ps y t.0 q c more t.2 h))
 
 run_ends : (n : ℕ) (f : FixedTree) (b : List ℕ) (p : ℕ) (c : BodyCause) → RunFails n f b p c → c ≡ RunsOut
 run_ends zero f b p c h = h.2
@@ -120,12 +122,12 @@ mutual
   -- whatever follows the bits that tell the fault, the kind fails
   pub fails_stays : (k : KindTree) (b d : List ℕ) (p : ℕ) (c : BodyCause) → (c ≡ RunsOut → ⊥) → BeginAlike (p + fault_bits c) b d → Fails k b p c → Stops k d
   fails_stays (fixed f) b d p c more s h = absurd (more h.2)
-  fails_stays (extended ps) b d p c more s h = (p, c, parts_stay ps b d p c more s h)
-  fails_stays (counted k) b d p c more s (inl h) = absurd (more h.2)
-  fails_stays (counted k) b d p c more s (inr (r, le, vs, lt, x, y, e, h, q, f, g)) =
-      let t = following (p + fault_bits c) (q + fault_bits c) b d (word 8 r ++ x) y s (e ∙ sym (append_assoc (word 8 r) x y)) (omega (arith, length-append (word 8 r) x, length-word 8 r)) in
+  fails_stays (extended last ps) b d p c more s h = (p, c, parts_stay last ps b d p c more s h)
+  fails_stays (counted size k) b d p c more s (inl h) = absurd (more h.2)
+  fails_stays (counted size k) b d p c more s (inr (r, le, vs, lt, x, y, e, h, q, f, g)) =
+      let t = following (p + fault_bits c) (q + fault_bits c) b d (word (counter_width size) r ++ x) y s (e ∙ sym (append_assoc (word (counter_width size) r) x y)) (omega (arith, length-append (word (counter_width size) r) x, length-word (counter_width size) r)) in
       let u = fails_stays k y t.0 q c more t.2 g in
-      (8 + (length x + u.0), u.1, inr (r, le, vs, lt, x, t.0, t.1 ∙ append_assoc (word 8 r) x t.0, h, u.0, refl, u.2))
+      (counter_width size + (length x + u.0), u.1, inr (r, le, vs, lt, x, t.0, t.1 ∙ append_assoc (word (counter_width size) r) x t.0, h, u.0, refl, u.2))
   fails_stays (by_fx f) b d p c more s (n, h) = absurd (more (run_ends n f b p c h))
   fails_stays explicit b d p c more s (inl h) = absurd (more h.2)
   fails_stays explicit b d p c more s (inr (inl (y, e, f, g))) =

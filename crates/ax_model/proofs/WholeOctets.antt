@@ -1,16 +1,26 @@
 -- Spellings of whole kinds are whole octets, and a fault stands within the bits or at their end.
-use Rattle.std.proofs.Common.{◌≡◌, ℕ, zero, suc, ◌+◌, ◌%◌, ◌<◌, ◌≤◌, inl, inr, List, [], ◌∷◌, ◌++◌, length, Bool, refl, ap, arith, length-append}
-use Rattle.std.specs.List.{AllByRecursion}
-use Rattle.ax_bits.proofs.Words.{length-bits}
+use Rattle.std.proofs.Common.{◌≡◌, ℕ, zero, suc, ◌+◌, ◌*◌, ◌%◌, ◌<◌, ◌≤◌, inl, inr, List, [], ◌∷◌, ◌++◌, length, Bool, refl, ◌∙◌, ap, arith, length-append}
+use Rattle.ax_bits.proofs.Words.{length-bits, length-word}
 use Rattle.ax_bits.specs.Bits.{word, bits}
 use Rattle.ax_model.proofs.FixedKinds.{members_length, fixed_length}
 use Rattle.ax_model.specs.Failing.{PartsFail, RunFails, PresenceFails, Fails, EntriesFail}
 use Rattle.ax_model.specs.Presence.{Presence, octets_needed, later_marks, FirstUndefined, later_slots, slots_past}
 use Rattle.ax_model.specs.Spelling.{PartsSpell, RunSpells, EachSpells, Spells, EntriesSpell}
 use Rattle.ax_model.specs.Tree.{MembersTree, ListsTree, no_lists, list_and, FixedTree, ValuesTree, no_values, value_and, ValueTree, KindTree, fixed, extended, part_values, counted, occurrences, value_count, by_fx, explicit, content_octets, compound, marked, slot_count, SlotsTree, EntriesTree, no_slots, no_entries, entry_and, slot_and, spare_slot, subitem, defined_slots}
-use Rattle.ax_model.specs.Whole.{Whole, SlotsWhole}
-use Rattle.ax_model.specs.Widths.{members_width, width}
+use Rattle.ax_model.specs.Whole.{PartsWhole, Whole, SlotsWhole}
+use Rattle.ax_model.specs.Widths.{members_width, width, counter_width, counter_octets, fx_width}
 use Rattle.ax_model.specs.declared.fault.BodyCause.{BodyCause}
+use Rattle.ax_model.specs.declared.kind.Counter.{Counter}
+use Rattle.ax_model.specs.declared.kind.Counter.TheVariants.{One, Two}
+use Rattle.ax_model.specs.declared.kind.LastPart.{LastPart}
+
+pub counter_in_octets : (size : Counter) → counter_width size ≡ 8 * counter_octets size
+counter_in_octets One = refl
+counter_in_octets Two = refl
+
+pub counter_whole : (size : Counter) → counter_width size % 8 ≡ 0
+counter_whole One = refl
+counter_whole Two = refl
 
 pub two_whole : (b x y : List ℕ) → b ≡ x ++ y → length x % 8 ≡ 0 → length y % 8 ≡ 0 → length b % 8 ≡ 0
 two_whole b x y e p q = omega (arith, ap length e, length-append x y)
@@ -18,12 +28,16 @@ two_whole b x y e p q = omega (arith, ap length e, length-append x y)
 unit_whole : (b x y : List ℕ) (fx w : ℕ) → b ≡ x ++ fx ∷ y → length x ≡ w → (w + 1) % 8 ≡ 0 → length y % 8 ≡ 0 → length b % 8 ≡ 0
 unit_whole b x y fx w e l p q = omega (arith, ap length e, length-append x (fx ∷ y))
 
-pub parts_whole : (ps : List MembersTree) (ls : ListsTree) (b : List ℕ) → AllByRecursion (λ p. (members_width p + 1) % 8 ≡ 0) ps → PartsSpell ps ls b → length b % 8 ≡ 0
-parts_whole [] no_lists b w h = absurd h
-parts_whole (p ∷ ps) no_lists b w h = absurd h
-parts_whole [] (list_and vs ls) b w h = absurd h
-parts_whole (p ∷ ps) (list_and vs no_lists) b w (x, e, h) = unit_whole b x [] 0 (members_width p) e (members_length p vs x h) w.0 refl
-parts_whole (p ∷ ps) (list_and vs (list_and ws ls)) b w (x, y, e, h, t) = unit_whole b x y 1 (members_width p) e (members_length p vs x h) w.0 (parts_whole ps (list_and ws ls) y w.1 t)
+end_whole : (b x : List ℕ) (fx w : ℕ) → b ≡ x ++ word fx 0 → length x ≡ w → (w + fx) % 8 ≡ 0 → length b % 8 ≡ 0
+end_whole b x fx w e l p = omega (arith, ap length e, length-append x (word fx 0), length-word fx 0)
+
+pub parts_whole : (last : LastPart) (ps : List MembersTree) (ls : ListsTree) (b : List ℕ) → PartsWhole last ps → PartsSpell last ps ls b → length b % 8 ≡ 0
+parts_whole last [] no_lists b w h = absurd h
+parts_whole last (p ∷ ps) no_lists b w h = absurd h
+parts_whole last [] (list_and vs ls) b w h = absurd h
+parts_whole last (p ∷ ps) (list_and vs no_lists) b w (x, e, h) = end_whole b x (fx_width last (length ps)) (members_width p) e (members_length p vs x h) w.0
+parts_whole last (p ∷ []) (list_and vs (list_and ws ls)) b w (x, y, e, h, t) = absurd t
+parts_whole last (p ∷ q ∷ ps) (list_and vs (list_and ws ls)) b w (x, y, e, h, t) = unit_whole b x y 1 (members_width p) e (members_length p vs x h) w.0 (parts_whole last (q ∷ ps) (list_and ws ls) y w.1 t)
 
 pub run_whole : (f : FixedTree) (vs : ValuesTree) (b : List ℕ) → (width f + 1) % 8 ≡ 0 → RunSpells f vs b → length b % 8 ≡ 0
 run_whole f no_values b w h = absurd h
@@ -42,10 +56,11 @@ presence_whole (suc k) ms f (seven, l, bit, inr (more, y, e, g, t)) = unit_whole
 mutual
   pub spells_whole : (k : KindTree) (v : ValueTree) (b : List ℕ) → Whole k → Spells k v b → length b % 8 ≡ 0
   spells_whole (fixed f) v b w h = let l : length b ≡ width f = fixed_length f v b h in omega arith
-  spells_whole (extended ps) (part_values ls) b w h = parts_whole ps ls b w h
-  spells_whole (extended ps) _ b w h = absurd h
-  spells_whole (counted k) (occurrences vs) b w (le, y, e, h) = two_whole b (word 8 (value_count vs)) y e refl (each_whole (Spells k) (λ v b t. spells_whole k v b w t) vs y h)
-  spells_whole (counted k) _ b w h = absurd h
+  spells_whole (extended last ps) (part_values ls) b w h = parts_whole last ps ls b w h
+  spells_whole (extended last ps) _ b w h = absurd h
+  spells_whole (counted size k) (occurrences vs) b w (le, y, e, h) =
+      two_whole b (word (counter_width size) (value_count vs)) y e (ap (λ n. n % 8) (length-word (counter_width size) (value_count vs)) ∙ counter_whole size) (each_whole (Spells k) (λ v b t. spells_whole k v b w t) vs y h)
+  spells_whole (counted size k) _ b w h = absurd h
   spells_whole (by_fx f) (occurrences vs) b w h = run_whole f vs b w h
   spells_whole (by_fx f) _ b w h = absurd h
   spells_whole explicit (content_octets xs) b w (le, all, e) = two_whole b (word 8 (1 + length xs)) (bits xs) e refl (omega (arith, length-bits xs))
@@ -63,11 +78,11 @@ mutual
 
 -- ---- places
 
-parts_within : (ps : List MembersTree) (b : List ℕ) (p : ℕ) (c : BodyCause) → PartsFail ps b p c → p ≤ length b
-parts_within [] b p c h = absurd h
-parts_within (ms ∷ ps) b p c (inl h) = omega arith
-parts_within (ms ∷ ps) b p c (inr (x, y, l, e, inl (f, g, h))) = omega (arith, ap length e, length-append x (1 ∷ y))
-parts_within (ms ∷ ps) b p c (inr (x, y, l, e, inr (q, f, h))) = let le : q ≤ length y = parts_within ps y q c h in omega (arith, ap length e, length-append x (1 ∷ y))
+parts_within : (last : LastPart) (ps : List MembersTree) (b : List ℕ) (p : ℕ) (c : BodyCause) → PartsFail last ps b p c → p ≤ length b
+parts_within last [] b p c h = absurd h
+parts_within last (ms ∷ ps) b p c (inl h) = omega arith
+parts_within last (ms ∷ ps) b p c (inr (x, y, l, e, inl (f, o, g, h))) = omega (arith, ap length e, length-append x (1 ∷ y))
+parts_within last (ms ∷ ps) b p c (inr (x, y, l, e, inr (q, f, h))) = let le : q ≤ length y = parts_within last ps y q c h in omega (arith, ap length e, length-append x (1 ∷ y))
 
 run_within : (n : ℕ) (f : FixedTree) (b : List ℕ) (p : ℕ) (c : BodyCause) → RunFails n f b p c → p ≤ length b
 run_within zero f b p c h = omega arith
@@ -92,10 +107,10 @@ later_within b x y p q e f le = omega (arith, ap length e, length-append x y)
 mutual
   pub fails_within : (k : KindTree) (b : List ℕ) (p : ℕ) (c : BodyCause) → Fails k b p c → p ≤ length b
   fails_within (fixed f) b p c h = omega arith
-  fails_within (extended ps) b p c h = parts_within ps b p c h
-  fails_within (counted k) b p c (inl h) = omega arith
-  fails_within (counted k) b p c (inr (r, le, vs, lt, x, y, e, h, q, f, g)) =
-      let in_rest : q ≤ length y = fails_within k y q c g in omega (arith, ap length e, length-append (word 8 r) (x ++ y), length-append x y)
+  fails_within (extended last ps) b p c h = parts_within last ps b p c h
+  fails_within (counted size k) b p c (inl h) = omega arith
+  fails_within (counted size k) b p c (inr (r, le, vs, lt, x, y, e, h, q, f, g)) =
+      let in_rest : q ≤ length y = fails_within k y q c g in omega (arith, ap length e, length-append (word (counter_width size) r) (x ++ y), length-append x y, length-word (counter_width size) r)
   fails_within (by_fx f) b p c (n, h) = run_within n f b p c h
   fails_within explicit b p c (inl h) = omega arith
   fails_within explicit b p c (inr (inl (y, e, f, g))) = omega arith

@@ -3,6 +3,8 @@ use Rattle.std.specs.Prelude.{ℕ, ◌+◌, ◌==◌, if◌then◌else◌, List,
 use Rattle.ax_bits.specs.Bits.{word, bits}
 use Rattle.ax_model.specs.Presence.{octets_needed, least_presence}
 use Rattle.ax_model.specs.Tree.{FixedTree, element, group, MembersTree, no_members, member_and, named, spare, KindTree, fixed, extended, counted, by_fx, explicit, compound, SlotsTree, no_slots, slot_and, spare_slot, subitem, slot_count, ValueTree, number, member_values, part_values, occurrences, content_octets, marked, ValuesTree, no_values, value_and, value_count, ListsTree, no_lists, list_and, EntriesTree, no_entries, entry_and}
+use Rattle.ax_model.specs.Widths.{counter_width, fx_width}
+use Rattle.ax_model.specs.declared.kind.LastPart.{LastPart}
 
 -- ---- fixed kinds
 
@@ -24,11 +26,11 @@ abbrev mutual
 
 -- ---- extended, by FX, counted
 
-abbrev pub parts_canon : List MembersTree → ListsTree → List ℕ
-parts_canon [] ls = []
-parts_canon (p ∷ ps) no_lists = []
-parts_canon (p ∷ ps) (list_and vs no_lists) = members_canon p vs ++ 0 ∷ []
-parts_canon (p ∷ ps) (list_and vs ls) = members_canon p vs ++ 1 ∷ parts_canon ps ls
+abbrev pub parts_canon : LastPart → List MembersTree → ListsTree → List ℕ
+parts_canon last [] ls = []
+parts_canon last (p ∷ ps) no_lists = []
+parts_canon last (p ∷ ps) (list_and vs no_lists) = members_canon p vs ++ word (fx_width last (length ps)) 0
+parts_canon last (p ∷ ps) (list_and vs ls) = members_canon p vs ++ 1 ∷ parts_canon last ps ls
 
 abbrev pub run_canon : FixedTree → ValuesTree → List ℕ
 run_canon f no_values = []
@@ -51,10 +53,10 @@ marks_of s (slot_and (subitem name k) ss) (entry_and t v es) = if t == s then 1 
 abbrev mutual
   pub canon : KindTree → ValueTree → List ℕ
   canon (fixed f) v = fixed_canon f v
-  canon (extended ps) (part_values ls) = parts_canon ps ls
-  canon (extended ps) _ = []
-  canon (counted k) (occurrences vs) = word 8 (value_count vs) ++ each_canon (canon k) vs
-  canon (counted k) _ = []
+  canon (extended last ps) (part_values ls) = parts_canon last ps ls
+  canon (extended last ps) _ = []
+  canon (counted size k) (occurrences vs) = word (counter_width size) (value_count vs) ++ each_canon (canon k) vs
+  canon (counted size k) _ = []
   canon (by_fx f) (occurrences vs) = run_canon f vs
   canon (by_fx f) _ = []
   canon explicit (content_octets xs) = word 8 (1 + length xs) ++ bits xs

@@ -7,6 +7,8 @@ use Rattle.ax_model.specs.declared.content.Content.{Content}
 use Rattle.ax_model.specs.declared.content.Content.TheVariants.{Raw, Integer, Quantity}
 use Rattle.ax_model.specs.declared.content.Sign.TheVariants.{Unsigned}
 use Rattle.ax_model.specs.declared.spec.UapSlot.TheVariants as Uap
+use Rattle.ax_model.specs.declared.kind.Counter.TheVariants.{One}
+use Rattle.ax_model.specs.declared.kind.LastPart.TheVariants.{WithFx}
 
 abbrev pub octet_of : Content → KindTree
 octet_of content = fixed (element 8 content)
@@ -45,14 +47,14 @@ second_made = entry_and 1 (marked (entry_and 1 (number 0x2233) no_entries)) no_e
 
 -- a part of three bits, a spare bit and three bits; the same with a name for the spare bit
 abbrev pub part_with_spare : KindTree
-part_with_spare = extended (members_of (named (codes "TYP") (element 3 Raw) ∷ spare 1 ∷ named (codes "ME") (element 3 Raw) ∷ []) ∷ [])
+part_with_spare = extended WithFx (members_of (named (codes "TYP") (element 3 Raw) ∷ spare 1 ∷ named (codes "ME") (element 3 Raw) ∷ []) ∷ [])
 
 abbrev pub part_with_name : KindTree
-part_with_name = extended (members_of (named (codes "TYP") (element 3 Raw) ∷ named (codes "ERR") (element 1 Raw) ∷ named (codes "ME") (element 3 Raw) ∷ []) ∷ [])
+part_with_name = extended WithFx (members_of (named (codes "TYP") (element 3 Raw) ∷ named (codes "ERR") (element 1 Raw) ∷ named (codes "ME") (element 3 Raw) ∷ []) ∷ [])
 
 -- a counted compound, which is a leaf
 abbrev pub counted_pair : List ℕ → List ℕ → KindTree
-counted_pair a b = counted (compound (slots_of (subitem a (octet_of Raw) ∷ subitem b (octet_of Raw) ∷ [])))
+counted_pair a b = counted One (compound (slots_of (subitem a (octet_of Raw) ∷ subitem b (octet_of Raw) ∷ [])))
 
 -- slot 1 a group of two members, slot 2 an extended value of one part, slot 3 two occurrences
 abbrev pub each_value : EntriesTree

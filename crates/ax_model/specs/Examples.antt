@@ -8,6 +8,8 @@ use Rattle.ax_model.specs.declared.flaw.Flaw.{Flaw}
 use Rattle.ax_model.specs.declared.flaw.FlawKind.{FlawKind}
 use Rattle.ax_model.specs.declared.flaw.FlawKind.TheVariants.{DuplicateItem, DuplicateName, UnknownInUap, RepeatedInUap, Empty, BadWidth, NotOctets, PartNotOctets, BodyNotOctets, BadScale, BadStringWidth}
 use Rattle.ax_model.specs.declared.spec.UapSlot.TheVariants as Uap
+use Rattle.ax_model.specs.declared.kind.Counter.TheVariants.{One}
+use Rattle.ax_model.specs.declared.kind.LastPart.TheVariants.{WithFx, WithoutFx}
 
 abbrev pub octet : KindTree
 octet = fixed (element 8 Raw)
@@ -20,11 +22,15 @@ seven_bits = element 7 Raw
 
 -- a part of seven bits, and one of four and three
 abbrev pub two_parts : KindTree
-two_parts = extended (members_of (named (codes "A") seven_bits ∷ []) ∷ members_of (named (codes "B") (element 4 Raw) ∷ named (codes "C") (element 3 Raw) ∷ []) ∷ [])
+two_parts = extended WithFx (members_of (named (codes "A") seven_bits ∷ []) ∷ members_of (named (codes "B") (element 4 Raw) ∷ named (codes "C") (element 3 Raw) ∷ []) ∷ [])
 
 -- a part of seven bits, and one of fifteen
 abbrev pub long_part : KindTree
-long_part = extended (members_of (named (codes "A") seven_bits ∷ []) ∷ members_of (named (codes "B") (element 15 Raw) ∷ []) ∷ [])
+long_part = extended WithFx (members_of (named (codes "A") seven_bits ∷ []) ∷ members_of (named (codes "B") (element 15 Raw) ∷ []) ∷ [])
+
+-- a part of seven bits with FX, and one of eight without
+abbrev pub closed_parts : KindTree
+closed_parts = extended WithoutFx (members_of (named (codes "A") seven_bits ∷ []) ∷ members_of (named (codes "B") (element 8 Raw) ∷ []) ∷ [])
 
 -- three bits, a spare bit, and a group of two and two bits
 abbrev pub nested_group : KindTree
@@ -60,8 +66,8 @@ flawed = record {
   category = 34;
   edition = codes "1.0";
   items = record { name = codes "010"; title = []; kind = fixed seven_bits } ∷ record { name = codes "010"; title = []; kind = by_fx (element 8 Raw) }
-      ∷ record { name = codes "030"; title = []; kind = extended (members_of [] ∷ members_of (spare 0 ∷ named (codes "A") seven_bits ∷ named (codes "A") (element 8 Raw) ∷ []) ∷ []) }
-      ∷ record { name = codes "040"; title = []; kind = counted (compound (slots_of [])) }
+      ∷ record { name = codes "030"; title = []; kind = extended WithFx (members_of [] ∷ members_of (spare 0 ∷ named (codes "A") seven_bits ∷ named (codes "A") (element 8 Raw) ∷ []) ∷ []) }
+      ∷ record { name = codes "040"; title = []; kind = counted One (compound (slots_of [])) }
       ∷ record {
         name = codes "050";
         title = [];

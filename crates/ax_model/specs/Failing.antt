@@ -1,13 +1,15 @@
 -- Where bits fail to spell a value of a kind, and why (this project's own rules). b is all that is left of the body from
 -- the kind's first bit on, and the place p is counted from there.
-use Rattle.std.specs.Prelude.{◌≡◌, ℕ, zero, suc, ◌+◌, ◌*◌, ◌<◌, ◌≤◌, ◌⊎◌, Bool, List, [], ◌∷◌, ◌++◌, length}
+use Rattle.std.specs.Prelude.{◌≡◌, ℕ, zero, suc, ◌+◌, ◌*◌, ◌^◌, ◌<◌, ◌≤◌, ◌⊎◌, Bool, List, [], ◌∷◌, ◌++◌, length}
 use Rattle.ax_bits.specs.Bits.{word}
 use Rattle.ax_model.specs.Presence.{octets_needed, Presence, first_mark, later_marks, slots_past, NoneUndefined, FirstUndefined}
 use Rattle.ax_model.specs.Spelling.{Spells, EachSpells}
 use Rattle.ax_model.specs.Tree.{FixedTree, MembersTree, KindTree, fixed, extended, counted, by_fx, explicit, compound, SlotsTree, no_slots, slot_and, spare_slot, subitem, slot_count, defined_slots, ValueTree, ValuesTree, value_count}
-use Rattle.ax_model.specs.Widths.{width, members_width}
+use Rattle.ax_model.specs.Widths.{width, members_width, counter_width, fx_width}
 use Rattle.ax_model.specs.declared.fault.BodyCause.{BodyCause}
 use Rattle.ax_model.specs.declared.fault.BodyCause.TheVariants.{RunsOut, UndefinedSlot, PresenceTooLong, ExtensionPastEnd, BadExplicitLength}
+use Rattle.ax_model.specs.declared.kind.LastPart.{LastPart}
+use Rattle.ax_model.specs.declared.kind.LastPart.TheVariants.{WithFx}
 
 -- ---- presence fields
 
@@ -24,13 +26,13 @@ PresenceFails (suc k) ds b p c =
 
 -- ---- parts and occurrences
 
--- after parts with FX 1, a part with its FX doesn't fit, or the last part has FX 1
-abbrev pub PartsFail : List MembersTree → List ℕ → ℕ → BodyCause → Type 0
-PartsFail [] b p c = ⊥
-PartsFail (ms ∷ ps) b p c =
-    ((length b ≤ members_width ms) × (p ≡ 0) × (c ≡ RunsOut))
+-- after parts with FX 1, a part with its FX, where it has one, doesn't fit, or the last part has FX 1
+abbrev pub PartsFail : LastPart → List MembersTree → List ℕ → ℕ → BodyCause → Type 0
+PartsFail last [] b p c = ⊥
+PartsFail last (ms ∷ ps) b p c =
+    ((length b < members_width ms + fx_width last (length ps)) × (p ≡ 0) × (c ≡ RunsOut))
     ⊎ ((x : List ℕ) × (y : List ℕ) × (length x ≡ members_width ms) × (b ≡ x ++ 1 ∷ y)
-    × (((ps ≡ []) × (p ≡ members_width ms) × (c ≡ ExtensionPastEnd)) ⊎ ((q : ℕ) × (p ≡ members_width ms + 1 + q) × PartsFail ps y q c)))
+    × (((ps ≡ []) × (last ≡ WithFx) × (p ≡ members_width ms) × (c ≡ ExtensionPastEnd)) ⊎ ((q : ℕ) × (p ≡ members_width ms + 1 + q) × PartsFail last ps y q c)))
 
 -- after n occurrences with FX 1 the next with its FX doesn't fit
 abbrev pub RunFails : ℕ → FixedTree → List ℕ → ℕ → BodyCause → Type 0
@@ -40,15 +42,15 @@ RunFails (suc n) f b p c = (x : List ℕ) × (y : List ℕ) × (length x ≡ wid
 -- ---- kinds
 
 abbrev mutual
-  -- fixed: too few bits; counted: no REP, or after fewer than REP values the inner kind fails; explicit: no length octet, or
+  -- fixed: too few bits; counted: no REP as a whole, or after fewer than REP values the inner kind fails; explicit: no length octet, or
   -- it is 0, or too few octets follow; compound: the presence field fails, or a marked subitem does
   pub Fails : KindTree → List ℕ → ℕ → BodyCause → Type 0
   Fails (fixed f) b p c = (length b < width f) × (p ≡ 0) × (c ≡ RunsOut)
-  Fails (extended ps) b p c = PartsFail ps b p c
-  Fails (counted k) b p c =
-      ((length b < 8) × (p ≡ 0) × (c ≡ RunsOut))
-      ⊎ ((r : ℕ) × (r < 256) × (vs : ValuesTree) × (value_count vs < r) × (x : List ℕ) × (y : List ℕ)
-      × (b ≡ word 8 r ++ (x ++ y)) × EachSpells (Spells k) vs x × (q : ℕ) × (p ≡ 8 + (length x + q)) × Fails k y q c)
+  Fails (extended last ps) b p c = PartsFail last ps b p c
+  Fails (counted size k) b p c =
+      ((length b < counter_width size) × (p ≡ 0) × (c ≡ RunsOut))
+      ⊎ ((r : ℕ) × (r < 2 ^ counter_width size) × (vs : ValuesTree) × (value_count vs < r) × (x : List ℕ) × (y : List ℕ)
+      × (b ≡ word (counter_width size) r ++ (x ++ y)) × EachSpells (Spells k) vs x × (q : ℕ) × (p ≡ counter_width size + (length x + q)) × Fails k y q c)
   Fails (by_fx f) b p c = (n : ℕ) × RunFails n f b p c
   Fails explicit b p c =
       ((length b < 8) × (p ≡ 0) × (c ≡ RunsOut))

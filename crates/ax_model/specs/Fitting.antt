@@ -2,6 +2,7 @@
 use Rattle.std.specs.Prelude.{ℕ, ◌+◌, ◌^◌, ◌==◌, nat_lt, nat_le, Bool, true, false, ◌&&◌, if◌then◌else◌, List, [], ◌∷◌, length}
 use Rattle.std.specs.List.{list_all}
 use Rattle.ax_model.specs.Tree.{FixedTree, element, group, MembersTree, no_members, member_and, MemberTree, named, spare, KindTree, fixed, extended, counted, by_fx, explicit, compound, SlotsTree, no_slots, slot_and, spare_slot, subitem, ValueTree, number, member_values, part_values, occurrences, content_octets, marked, ValuesTree, no_values, value_and, value_count, ListsTree, no_lists, list_and, EntriesTree, no_entries, entry_and}
+use Rattle.ax_model.specs.Widths.{counter_width}
 
 -- ---- fixed kinds
 
@@ -47,10 +48,10 @@ each_fits rule (value_and v vs) = rule v && each_fits rule vs
 abbrev mutual
   pub kind_fits : KindTree → ValueTree → Bool
   kind_fits (fixed f) v = fixed_fits f v
-  kind_fits (extended ps) (part_values ls) = parts_fit ps ls
-  kind_fits (extended ps) _ = false
-  kind_fits (counted k) (occurrences vs) = nat_lt (value_count vs) 256 && each_fits (kind_fits k) vs
-  kind_fits (counted k) _ = false
+  kind_fits (extended last ps) (part_values ls) = parts_fit ps ls
+  kind_fits (extended last ps) _ = false
+  kind_fits (counted size k) (occurrences vs) = nat_lt (value_count vs) (2 ^ counter_width size) && each_fits (kind_fits k) vs
+  kind_fits (counted size k) _ = false
   kind_fits (by_fx f) (occurrences vs) = nat_lt 0 (value_count vs) && each_fits (fixed_fits f) vs
   kind_fits (by_fx f) _ = false
   kind_fits explicit (content_octets xs) = nat_lt (length xs) 255 && list_all (λ x. nat_lt x 256) xs

@@ -1,10 +1,10 @@
 -- The flaws of a specification, in their order (this project's own rules).
-use Rattle.std.specs.Prelude.{◌≡◌, ℕ, ◌+◌, ◌%◌, ◌==◌, nat_lt, Bool, true, false, ◌||◌, not, if◌then◌else◌, is_some, List, [], ◌∷◌, ◌++◌, length, codes, decimal, bytes_eq}
+use Rattle.std.specs.Prelude.{◌≡◌, ℕ, ◌+◌, ◌%◌, ◌==◌, nat_lt, Bool, true, false, ◌||◌, ◌&&◌, not, if◌then◌else◌, is_some, List, [], ◌∷◌, ◌++◌, length, codes, decimal, bytes_eq}
 use Rattle.std.specs.List.{list_any}
 use Rattle.ax_model.specs.Paths.{at, three_digits}
 use Rattle.ax_model.specs.Specification.{ItemTree, SpecTree, first_named}
 use Rattle.ax_model.specs.Tree.{FixedTree, element, group, MembersTree, no_members, member_and, named, spare, KindTree, fixed, extended, counted, by_fx, explicit, compound, SlotsTree, no_slots, slot_and, spare_slot, subitem, slot_count}
-use Rattle.ax_model.specs.Widths.{width, members_width}
+use Rattle.ax_model.specs.Widths.{width, members_width, fx_width}
 use Rattle.ax_model.specs.declared.content.Content.{Content}
 use Rattle.ax_model.specs.declared.content.Content.TheVariants.{Ascii, Icao, Octal, Quantity}
 use Rattle.ax_model.specs.declared.flaw.Flaw.{Flaw}
@@ -12,6 +12,7 @@ use Rattle.ax_model.specs.declared.flaw.FlawKind.{FlawKind}
 use Rattle.ax_model.specs.declared.flaw.FlawKind.TheVariants.{DuplicateItem, DuplicateName, UnknownInUap, RepeatedInUap, Empty, TooManySlots, BadWidth, NotOctets, PartNotOctets, BodyNotOctets, BadScale, BadStringWidth, TooWide}
 use Rattle.ax_model.specs.declared.spec.UapSlot.{UapSlot}
 use Rattle.ax_model.specs.declared.spec.UapSlot.TheVariants as Uap
+use Rattle.ax_model.specs.declared.kind.LastPart.{LastPart}
 
 -- ---- words of the definition
 
@@ -79,20 +80,25 @@ names_with earlier no_members = earlier
 names_with earlier (member_and (spare w) ms) = names_with earlier ms
 names_with earlier (member_and (named name f) ms) = names_with (name ∷ earlier) ms
 
+-- no member and no FX bit
+abbrev pub is_nothing : ℕ → MembersTree → Bool
+is_nothing fx p = (fx == 0) && has_no_member p
+
 -- part i and those after it, after parts whose members have these names; a member's path doesn't name its part
-abbrev pub parts_flaws : List ℕ → ℕ → List (List ℕ) → List MembersTree → List Flaw
-parts_flaws path i earlier [] = []
-parts_flaws path i earlier (p ∷ ps) =
-    flaw_where (is_no_multiple 8 (members_width p + 1)) PartNotOctets (at path (codes "part" ++ decimal i))
+abbrev pub parts_flaws : LastPart → List ℕ → ℕ → List (List ℕ) → List MembersTree → List Flaw
+parts_flaws last path i earlier [] = []
+parts_flaws last path i earlier (p ∷ ps) =
+    flaw_where (is_no_multiple 8 (members_width p + fx_width last (length ps))) PartNotOctets (at path (codes "part" ++ decimal i))
     ++ flaw_where (is_too_wide (members_width p)) TooWide (at path (codes "part" ++ decimal i))
-    ++ members_flaws path earlier p ++ parts_flaws path (i + 1) (names_with earlier p) ps
+    ++ flaw_where (is_nothing (fx_width last (length ps)) p) Empty (at path (codes "part" ++ decimal i))
+    ++ members_flaws path earlier p ++ parts_flaws last path (i + 1) (names_with earlier p) ps
 
 abbrev mutual
   -- a fixed kind that isn't whole octets has the flaw named
   pub kind_flaws : FlawKind → List ℕ → KindTree → List Flaw
   kind_flaws broken path (fixed f) = whole_flaws broken path f
-  kind_flaws broken path (extended ps) = flaw_where (length ps == 0) Empty path ++ parts_flaws path 0 [] ps
-  kind_flaws broken path (counted k) = kind_flaws BodyNotOctets (at path (codes "body")) k
+  kind_flaws broken path (extended last ps) = flaw_where (length ps == 0) Empty path ++ parts_flaws last path 0 [] ps
+  kind_flaws broken path (counted size k) = kind_flaws BodyNotOctets (at path (codes "body")) k
   kind_flaws broken path (by_fx f) =
       flaw_where (is_no_multiple 8 (width f + 1)) BodyNotOctets (at path (codes "body")) ++ flaw_where (is_too_wide (width f)) TooWide (at path (codes "body"))
       ++ fixed_flaws (at path (codes "body")) f

@@ -3,20 +3,21 @@ use Rattle.std.specs.Prelude.{ℕ, zero, suc, ◌+◌, ◌*◌, ◌/◌, min, Li
 use Rattle.ax_model.specs.Plain.{spec_tree, record_tree}
 use Rattle.ax_model.specs.Specification.{record_kind}
 use Rattle.ax_model.specs.Tree.{MembersTree, KindTree, fixed, extended, counted, by_fx, explicit, compound, SlotTree, SlotsTree, no_slots, slot_and, spare_slot, subitem, ValueTree, part_values, occurrences, content_octets, marked, ValuesTree, no_values, value_and, value_count, ListsTree, no_lists, list_and, EntriesTree, no_entries, entry_and}
-use Rattle.ax_model.specs.Widths.{width, members_width}
+use Rattle.ax_model.specs.Widths.{width, members_width, counter_octets, fx_width}
 use Rattle.ax_model.specs.declared.record.Record.{Record}
 use Rattle.ax_model.specs.declared.spec.Spec.{Spec}
+use Rattle.ax_model.specs.declared.kind.LastPart.{LastPart}
 
 -- the greatest count that 64 bits hold stands for every greater one
 abbrev pub capped : ℕ → ℕ
 capped n = min n 18446744073709551615
 
--- whole octets of w bits, and of w bits and an FX bit
+-- whole octets of w bits, and of w bits and so many FX bits
 abbrev pub run_octets : ℕ → ℕ
 run_octets w = capped w / 8
 
-abbrev pub unit_octets : ℕ → ℕ
-unit_octets w = capped (capped w + 1) / 8
+abbrev pub unit_octets : ℕ → ℕ → ℕ
+unit_octets fx w = capped (capped w + fx) / 8
 
 -- ---- slots by number
 
@@ -46,10 +47,10 @@ presence_octets t = (t + 6) / 7
 
 -- ---- values
 
-abbrev pub parts_octets : List MembersTree → ListsTree → ℕ
-parts_octets [] ls = 0
-parts_octets (p ∷ ps) no_lists = 0
-parts_octets (p ∷ ps) (list_and vs ls) = unit_octets (members_width p) + parts_octets ps ls
+abbrev pub parts_octets : LastPart → List MembersTree → ListsTree → ℕ
+parts_octets last [] ls = 0
+parts_octets last (p ∷ ps) no_lists = 0
+parts_octets last (p ∷ ps) (list_and vs ls) = unit_octets (fx_width last (length ps)) (members_width p) + parts_octets last ps ls
 
 abbrev pub octets_where : Option KindTree → (KindTree → ℕ) → ℕ
 octets_where None rule = 0
@@ -58,9 +59,9 @@ octets_where (Some k) rule = rule k
 abbrev mutual
   pub octets : ValueTree → KindTree → ℕ
   octets v (fixed f) = run_octets (width f)
-  octets (part_values ls) (extended ps) = parts_octets ps ls
-  octets (occurrences vs) (counted k) = each_octets vs k + 1
-  octets (occurrences vs) (by_fx f) = value_count vs * unit_octets (width f)
+  octets (part_values ls) (extended last ps) = parts_octets last ps ls
+  octets (occurrences vs) (counted size k) = each_octets vs k + counter_octets size
+  octets (occurrences vs) (by_fx f) = value_count vs * unit_octets 1 (width f)
   octets (content_octets xs) explicit = length xs + 1
   octets (marked es) (compound ss) = entries_octets es (slot_kind ss) + presence_octets (last_slot 1 es)
   octets _ _ = 0

@@ -30,6 +30,7 @@ pub mod Reader
 pub mod Same
 pub mod Shape
 pub mod Shared
+pub mod Signs
 pub mod Sizes
 pub mod Sound
 pub mod Specification

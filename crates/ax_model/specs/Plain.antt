@@ -45,8 +45,8 @@ part_tree p = members_tree p.members
 
 abbrev pub kind_step : Kind-F KindTree SlotTree → KindTree
 kind_step (Kind-F.Fixed f) = fixed (fixed_tree f)
-kind_step (Kind-F.Extended ps) = extended (map part_tree ps)
-kind_step (Kind-F.Counted k) = counted k.value
+kind_step (Kind-F.Extended last ps) = extended last (map part_tree ps)
+kind_step (Kind-F.Counted size k) = counted size k.value
 kind_step (Kind-F.ByFx f) = by_fx (fixed_tree f)
 kind_step Kind-F.Explicit = explicit
 kind_step (Kind-F.Compound ss) = compound (slots_of ss)

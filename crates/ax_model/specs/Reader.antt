@@ -4,9 +4,11 @@ use Rattle.ax_bits.specs.Bits.{number_of}
 use Rattle.ax_model.specs.Presence.{later_slots, slots_past, octets_needed, later_marks, first_mark}
 use Rattle.ax_model.specs.Specification.{SpecTree, record_kind}
 use Rattle.ax_model.specs.Tree.{FixedTree, ValueTree, element, number, group, member_values, MembersTree, ValuesTree, no_members, no_values, member_and, named, value_and, spare, ListsTree, list_and, no_lists, occurrences, content_octets, EntriesTree, entry_and, marked, KindTree, fixed, extended, part_values, counted, by_fx, explicit, compound, slot_count, defined_slots, SlotsTree, no_slots, no_entries, slot_and, spare_slot, subitem}
-use Rattle.ax_model.specs.Widths.{width, members_width}
+use Rattle.ax_model.specs.Widths.{width, members_width, counter_width}
 use Rattle.ax_model.specs.declared.fault.BodyCause.{BodyCause}
 use Rattle.ax_model.specs.declared.fault.BodyCause.TheVariants.{RunsOut, ExtensionPastEnd, BadExplicitLength, UndefinedSlot, PresenceTooLong}
+use Rattle.ax_model.specs.declared.kind.LastPart.{LastPart}
+use Rattle.ax_model.specs.declared.kind.LastPart.TheVariants.{WithFx, WithoutFx}
 
 -- the first w bits and the rest, where there are so many
 pub data Split : Type 0 where
@@ -54,6 +56,7 @@ fixed_read f (cut x y) = got (fixed_value f x) (width f) y
 
 -- ---- parts and occurrences
 
+-- a part with FX
 abbrev pub part_read : MembersTree → List MembersTree → Split → (List ℕ → Read ListsTree) → Read ListsTree
 part_read p ps short go = failed 0 RunsOut
 part_read p ps (cut x []) go = failed 0 RunsOut
@@ -61,9 +64,16 @@ part_read p ps (cut x (zero ∷ y)) go = got (list_and (members_value p x) no_li
 part_read p [] (cut x (suc fx ∷ y)) go = failed (members_width p) ExtensionPastEnd
 part_read p (q ∷ ps) (cut x (suc fx ∷ y)) go = after (members_width p + 1) (λ ls. list_and (members_value p x) ls) (go y)
 
-abbrev pub parts_read : List MembersTree → List ℕ → Read ListsTree
-parts_read [] b = failed 0 RunsOut
-parts_read (p ∷ ps) b = part_read p ps (split (members_width p) b) (parts_read ps)
+-- a last part without FX
+abbrev pub last_read : MembersTree → Split → Read ListsTree
+last_read p short = failed 0 RunsOut
+last_read p (cut x y) = got (list_and (members_value p x) no_lists) (members_width p) y
+
+abbrev pub parts_read : LastPart → List MembersTree → List ℕ → Read ListsTree
+parts_read last [] b = failed 0 RunsOut
+parts_read last (p ∷ q ∷ ps) b = part_read p (q ∷ ps) (split (members_width p) b) (parts_read last (q ∷ ps))
+parts_read WithFx (p ∷ []) b = part_read p [] (split (members_width p) b) (parts_read WithFx [])
+parts_read WithoutFx (p ∷ []) b = last_read p (split (members_width p) b)
 
 abbrev pub one_read : FixedTree → Split → (List ℕ → Read ValuesTree) → Read ValuesTree
 one_read f short go = failed 0 RunsOut
@@ -82,9 +92,10 @@ abbrev pub each_read : (List ℕ → Read ValueTree) → ℕ → List ℕ → Re
 each_read rule zero b = got no_values 0 b
 each_read rule (suc n) b = both (λ v vs. value_and v vs) (rule b) (each_read rule n)
 
-abbrev pub count_read : (List ℕ → Read ValueTree) → Split → Read ValueTree
-count_read rule short = failed 0 RunsOut
-count_read rule (cut x y) = after 8 (λ vs. occurrences vs) (each_read rule (number_of x) y)
+-- after a counter of w bits
+abbrev pub count_read : ℕ → (List ℕ → Read ValueTree) → Split → Read ValueTree
+count_read w rule short = failed 0 RunsOut
+count_read w rule (cut x y) = after w (λ vs. occurrences vs) (each_read rule (number_of x) y)
 
 abbrev pub octets_in : ℕ → List ℕ → List ℕ
 octets_in zero x = []
@@ -144,8 +155,8 @@ marked_read (failed p c) go = failed p c
 abbrev mutual
   pub read : KindTree → List ℕ → Read ValueTree
   read (fixed f) b = fixed_read f (split (width f) b)
-  read (extended ps) b = after 0 (λ ls. part_values ls) (parts_read ps b)
-  read (counted k) b = count_read (read k) (split 8 b)
+  read (extended last ps) b = after 0 (λ ls. part_values ls) (parts_read last ps b)
+  read (counted size k) b = count_read (counter_width size) (read k) (split (counter_width size) b)
   read (by_fx f) b = after 0 (λ vs. occurrences vs) (run_read (suc (length b)) f b)
   read explicit b = explicit_read (split 8 b)
   read (compound ss) b = marked_read (presence_read (octets_needed (slot_count ss)) (defined_slots ss) b) (entries_read 1 ss)

@@ -6,6 +6,10 @@ use Rattle.ax_model.specs.declared.content.Content.{Content}
 use Rattle.ax_model.specs.declared.content.Content.TheVariants.{Raw, Table, Ascii, Icao, Octal, Integer, Quantity}
 use Rattle.ax_model.specs.declared.content.Sign.{Sign}
 use Rattle.ax_model.specs.declared.content.Sign.TheVariants.{Unsigned, Signed}
+use Rattle.ax_model.specs.declared.kind.Counter.{Counter}
+use Rattle.ax_model.specs.declared.kind.Counter.TheVariants.{One, Two}
+use Rattle.ax_model.specs.declared.kind.LastPart.{LastPart}
+use Rattle.ax_model.specs.declared.kind.LastPart.TheVariants.{WithFx, WithoutFx}
 
 abbrev pub emptied_content : Content → Content
 emptied_content (Table entries) = Table []
@@ -25,8 +29,8 @@ abbrev mutual
   -- the kind with each table emptied
   pub emptied : KindTree → KindTree
   emptied (fixed f) = fixed (emptied_fixed f)
-  emptied (extended ps) = extended (map emptied_members ps)
-  emptied (counted k) = counted (emptied k)
+  emptied (extended last ps) = extended last (map emptied_members ps)
+  emptied (counted size k) = counted size (emptied k)
   emptied (by_fx f) = by_fx (emptied_fixed f)
   emptied explicit = explicit
   emptied (compound ss) = compound (emptied_slots ss)
@@ -78,11 +82,21 @@ are_same_parts [] [] = true
 are_same_parts (p ∷ ps) (q ∷ qs) = are_same_members p q && are_same_parts ps qs
 are_same_parts _ _ = false
 
+abbrev pub is_same_last : LastPart → LastPart → Bool
+is_same_last WithFx WithFx = true
+is_same_last WithoutFx WithoutFx = true
+is_same_last _ _ = false
+
+abbrev pub is_same_counter : Counter → Counter → Bool
+is_same_counter One One = true
+is_same_counter Two Two = true
+is_same_counter _ _ = false
+
 abbrev mutual
   pub is_same : KindTree → KindTree → Bool
   is_same (fixed f) (fixed g) = is_same_fixed f g
-  is_same (extended ps) (extended qs) = are_same_parts ps qs
-  is_same (counted k) (counted l) = is_same k l
+  is_same (extended last ps) (extended other qs) = is_same_last last other && are_same_parts ps qs
+  is_same (counted size k) (counted other l) = is_same_counter size other && is_same k l
   is_same (by_fx f) (by_fx g) = is_same_fixed f g
   is_same explicit explicit = true
   is_same (compound ss) (compound ts) = are_same_slots ss ts

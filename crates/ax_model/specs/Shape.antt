@@ -2,6 +2,7 @@
 use Rattle.std.specs.Prelude.{ℕ, ◌+◌, ◌^◌, ◌<◌, ◌==◌, MatchBool, List, [], ◌∷◌, length}
 use Rattle.ax_bits.specs.Bits.{AreOctets}
 use Rattle.ax_model.specs.Tree.{FixedTree, element, group, MembersTree, no_members, member_and, named, spare, KindTree, fixed, extended, counted, by_fx, explicit, compound, SlotsTree, no_slots, slot_and, spare_slot, subitem, ValueTree, number, member_values, part_values, occurrences, content_octets, marked, ValuesTree, no_values, value_and, value_count, ListsTree, no_lists, list_and, EntriesTree, no_entries, entry_and}
+use Rattle.ax_model.specs.Widths.{counter_width}
 
 -- a number of w bits
 abbrev pub NumberShape : ℕ → ValueTree → Type 0
@@ -34,13 +35,13 @@ EachShape R no_values = Unit {0}
 EachShape R (value_and v vs) = R v × EachShape R vs
 
 abbrev mutual
-  -- counted: at most 255 values; by FX: at least one; explicit: at most 254 octets
+  -- counted: as many values as the counter holds, so 255 by one octet and 65,535 by two; by FX: at least one; explicit: at most 254 octets
   pub Shape : KindTree → ValueTree → Type 0
   Shape (fixed f) v = FixedShape f v
-  Shape (extended ps) (part_values ls) = PartsShape ps ls
-  Shape (extended ps) _ = ⊥
-  Shape (counted k) (occurrences vs) = (value_count vs < 256) × EachShape (Shape k) vs
-  Shape (counted k) _ = ⊥
+  Shape (extended last ps) (part_values ls) = PartsShape ps ls
+  Shape (extended last ps) _ = ⊥
+  Shape (counted size k) (occurrences vs) = (value_count vs < 2 ^ counter_width size) × EachShape (Shape k) vs
+  Shape (counted size k) _ = ⊥
   Shape (by_fx f) (occurrences vs) = (0 < value_count vs) × EachShape (FixedShape f) vs
   Shape (by_fx f) _ = ⊥
   Shape explicit (content_octets xs) = (length xs < 255) × AreOctets xs

@@ -5,8 +5,8 @@ use Rattle.ax_model.specs.Tree.{KindTree, fixed, extended, counted, by_fx, expli
 abbrev mutual
   pub Sound : KindTree → Type 0
   Sound (fixed f) = Unit {0}
-  Sound (extended ps) = 0 < length ps
-  Sound (counted k) = Sound k
+  Sound (extended last ps) = 0 < length ps
+  Sound (counted size k) = Sound k
   Sound (by_fx f) = Unit {0}
   Sound explicit = Unit {0}
   Sound (compound ss) = (0 < slot_count ss) × SlotsSound ss

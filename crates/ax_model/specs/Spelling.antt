@@ -3,6 +3,8 @@ use Rattle.std.specs.Prelude.{◌≡◌, ℕ, ◌+◌, ◌^◌, ◌<◌, ◌⊎�
 use Rattle.ax_bits.specs.Bits.{word, bits, AreOctets}
 use Rattle.ax_model.specs.Presence.{Presence, octets_needed, first_mark, later_marks, none_marked}
 use Rattle.ax_model.specs.Tree.{FixedTree, element, group, MembersTree, no_members, member_and, named, spare, KindTree, fixed, extended, counted, by_fx, explicit, compound, SlotsTree, no_slots, slot_and, spare_slot, subitem, slot_count, ValueTree, number, member_values, part_values, occurrences, content_octets, marked, ValuesTree, no_values, value_and, value_count, ListsTree, no_lists, list_and, EntriesTree, no_entries, entry_and}
+use Rattle.ax_model.specs.Widths.{counter_width, fx_width}
+use Rattle.ax_model.specs.declared.kind.LastPart.{LastPart}
 
 -- ---- fixed kinds
 
@@ -28,12 +30,13 @@ abbrev mutual
 
 -- ---- extended, by FX, counted
 
--- the first parts, one list for each; after each the FX bit, 1 where another list follows and 0 where none does
-abbrev pub PartsSpell : List MembersTree → ListsTree → List ℕ → Type 0
-PartsSpell ps no_lists b = ⊥
-PartsSpell [] (list_and vs ls) b = ⊥
-PartsSpell (p ∷ ps) (list_and vs no_lists) b = (x : List ℕ) × (b ≡ x ++ 0 ∷ []) × MembersSpell p vs x
-PartsSpell (p ∷ ps) (list_and vs ls) b = (x : List ℕ) × (y : List ℕ) × (b ≡ x ++ 1 ∷ y) × MembersSpell p vs x × PartsSpell ps ls y
+-- the first parts, one list for each; after each the FX bit, 1 where another list follows and 0 where none does, and
+-- nothing after the members of the last part where that has no FX
+abbrev pub PartsSpell : LastPart → List MembersTree → ListsTree → List ℕ → Type 0
+PartsSpell last ps no_lists b = ⊥
+PartsSpell last [] (list_and vs ls) b = ⊥
+PartsSpell last (p ∷ ps) (list_and vs no_lists) b = (x : List ℕ) × (b ≡ x ++ word (fx_width last (length ps)) 0) × MembersSpell p vs x
+PartsSpell last (p ∷ ps) (list_and vs ls) b = (x : List ℕ) × (y : List ℕ) × (b ≡ x ++ 1 ∷ y) × MembersSpell p vs x × PartsSpell last ps ls y
 
 -- one or more values; after each the FX bit, 1 where another follows and 0 where none does
 abbrev pub RunSpells : FixedTree → ValuesTree → List ℕ → Type 0
@@ -49,13 +52,13 @@ EachSpells R (value_and v vs) b = (x : List ℕ) × (y : List ℕ) × (b ≡ x +
 -- ---- kinds
 
 abbrev mutual
-  -- counted: the octet REP in front; explicit: an octet with the length, itself included; compound: a presence field in front
+  -- counted: the counter REP in front; explicit: an octet with the length, itself included; compound: a presence field in front
   pub Spells : KindTree → ValueTree → List ℕ → Type 0
   Spells (fixed f) v b = FixedSpells f v b
-  Spells (extended ps) (part_values ls) b = PartsSpell ps ls b
-  Spells (extended ps) _ b = ⊥
-  Spells (counted k) (occurrences vs) b = (value_count vs < 256) × (y : List ℕ) × (b ≡ word 8 (value_count vs) ++ y) × EachSpells (Spells k) vs y
-  Spells (counted k) _ b = ⊥
+  Spells (extended last ps) (part_values ls) b = PartsSpell last ps ls b
+  Spells (extended last ps) _ b = ⊥
+  Spells (counted size k) (occurrences vs) b = (value_count vs < 2 ^ counter_width size) × (y : List ℕ) × (b ≡ word (counter_width size) (value_count vs) ++ y) × EachSpells (Spells k) vs y
+  Spells (counted size k) _ b = ⊥
   Spells (by_fx f) (occurrences vs) b = RunSpells f vs b
   Spells (by_fx f) _ b = ⊥
   Spells explicit (content_octets xs) b = (length xs < 255) × AreOctets xs × (b ≡ word 8 (1 + length xs) ++ bits xs)

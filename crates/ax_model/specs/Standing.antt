@@ -6,10 +6,10 @@ use Rattle.ax_model.specs.Tree.{KindTree, fixed, extended, counted, by_fx, expli
 abbrev mutual
   -- the second kind is the first, or stands within it
   pub Within : KindTree → KindTree → Type 0
-  Within (counted k) inner = (inner ≡ counted k) ⊎ Within k inner
+  Within (counted size k) inner = (inner ≡ counted size k) ⊎ Within k inner
   Within (compound ss) inner = (inner ≡ compound ss) ⊎ SlotsWithin ss inner
   Within (fixed f) inner = inner ≡ fixed f
-  Within (extended ps) inner = inner ≡ extended ps
+  Within (extended last ps) inner = inner ≡ extended last ps
   Within (by_fx f) inner = inner ≡ by_fx f
   Within explicit inner = inner ≡ explicit
 

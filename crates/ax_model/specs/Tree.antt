@@ -1,6 +1,8 @@
 -- The plain trees of specifications and of values: what they say, without where they lie in memory.
 use Rattle.std.specs.Prelude.{ℕ, suc, Bool, true, false, List, [], ◌∷◌}
 use Rattle.ax_model.specs.declared.content.Content.{Content}
+use Rattle.ax_model.specs.declared.kind.Counter.{Counter}
+use Rattle.ax_model.specs.declared.kind.LastPart.{LastPart}
 
 -- ---- fixed kinds
 
@@ -22,11 +24,11 @@ mutual
 -- ---- kinds
 
 mutual
-  -- an extended item has the members of each part
+  -- an extended item has the FX of its last part and the members of each, a counted one the octets of its counter
   pub data KindTree : Type 0 where
     fixed : FixedTree → KindTree
-    extended : List MembersTree → KindTree
-    counted : KindTree → KindTree
+    extended : LastPart → List MembersTree → KindTree
+    counted : Counter → KindTree → KindTree
     by_fx : FixedTree → KindTree
     explicit : KindTree
     compound : SlotsTree → KindTree

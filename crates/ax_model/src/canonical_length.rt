@@ -9,17 +9,17 @@ ghost use Rattle.ax_model.specs.Specification.{record_slots};
 ghost use Rattle.ax_model.specs.Tree.{marked, compound, value_count};
 ghost use Rattle.ax_model.specs.Widths.{width};
 
-use crate::kind::{Fixed, Kind, Part, Slots};
+use crate::kind::{Fixed, Kind, LastPart, Part, Slots};
 use crate::lookup::subitem_kind;
 use crate::record::{Block, Record};
 use crate::spec::Spec;
 use crate::value::{Entries, Entry, Value, Values};
 
-/// Whole octets of so many bits and an FX bit.
-fn unit_octets_of(width: u64) -> u64
-    ensures { result ≡ capped (width + 1) / 8 }
+/// Whole octets of so many bits and so many FX bits.
+fn unit_octets_of(width: u64, fx: u32) -> u64
+    ensures { result ≡ capped (width + fx) / 8 }
 {
-    width.saturating_add(1) / 8
+    width.saturating_add(u64::from(fx)) / 8
 }
 
 /// The octets of the least presence field whose last marked slot has that number.
@@ -30,16 +30,18 @@ fn presence_octets_of(last: u32) -> u64
 }
 
 /// The octets of the parts that are present.
-fn octets_of_parts(parts: &[Part], lists: &[Values]) -> u64
-    ensures { result ≡ capped (parts_octets (map part_tree parts.now) (lists_tree lists.now)) }
+fn octets_of_parts(last: LastPart, parts: &[Part], lists: &[Values]) -> u64
+    ensures { result ≡ capped (parts_octets last (map part_tree parts.now) (lists_tree lists.now)) }
 {
     let mut total: u64 = 0;
     let mut rest = lists;
+    let mut others = parts.len();
     for part in parts {
+        others -= 1;
         let Some((_values, later)) = rest.split_first() else {
             return total;
         };
-        total = total.saturating_add(unit_octets_of(part.width()));
+        total = total.saturating_add(unit_octets_of(part.width(), last.fx_width(others)));
         rest = later;
     }
     total
@@ -48,9 +50,9 @@ fn octets_of_parts(parts: &[Part], lists: &[Values]) -> u64
 /// The octets of occurrences of a fixed kind, each with its FX bit.
 #[tactic(auto, using(crate::proofs::Counting::run_counted))]
 fn octets_of_run(values: &Values, fixed: &Fixed) -> u64
-    ensures { result ≡ capped (value_count (values_tree values.now) * unit_octets (width (fixed_tree fixed.now))) }
+    ensures { result ≡ capped (value_count (values_tree values.now) * unit_octets 1 (width (fixed_tree fixed.now))) }
 {
-    u64::from(values.count()).saturating_mul(unit_octets_of(fixed.width()))
+    u64::from(values.count()).saturating_mul(unit_octets_of(fixed.width(), 1))
 }
 
 /// The octets of a value's canonical spelling under its kind, capped at 2^64 - 1. Takes no memory.
@@ -60,11 +62,11 @@ pub fn octets_of(value: &Value, kind: &Kind) -> u64
 {
     match (value, kind) {
         (_, Kind::Fixed(fixed)) => fixed.width() / 8,
-        (Value::Extended(lists), Kind::Extended(parts)) => {
-            octets_of_parts(parts.as_slice(), lists.as_slice())
+        (Value::Extended(lists), Kind::Extended { last, parts }) => {
+            octets_of_parts(*last, parts.as_slice(), lists.as_slice())
         }
-        (Value::Repeat(values), Kind::Counted(inner)) => {
-            octets_of_each(values, inner).saturating_add(1)
+        (Value::Repeat(values), Kind::Counted { counter, inner }) => {
+            octets_of_each(values, inner).saturating_add(u64::from(counter.octets()))
         }
         (Value::Repeat(values), Kind::ByFx(fixed)) => { octets_of_run(values, fixed) }
         (Value::Octets(content), Kind::Explicit) => u64::from(content.count()) + 1,

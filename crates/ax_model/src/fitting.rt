@@ -3,9 +3,10 @@ ghost use Rattle.std.specs.Prelude.{◌≡◌, ◌+◌, ◌^◌, ◌&&◌, nat_l
 ghost use Rattle.ax_model.specs.Fitting.{number_fits, fixed_fits, member_fits, members_fit, lists_fit, parts_fit, each_fits, kind_fits, entries_fit};
 ghost use Rattle.ax_model.specs.Plain.{fixed_tree, member_tree, members_tree, part_tree, kind_tree, slot_tree, slots_tree, value_tree, values_tree, lists_tree, entries_tree};
 ghost use Rattle.ax_model.specs.Tree.{SlotsTree, slot_and, value_count};
+ghost use Rattle.ax_model.specs.Widths.{counter_width};
 ghost use Rattle.std.specs.List.{list_all};
 
-use crate::kind::{Fixed, Kind, Member, Members, Part, Parts, Slot, Slots};
+use crate::kind::{Counter, Fixed, Kind, Member, Members, Part, Parts, Slot, Slots};
 use crate::value::{Entries, Entry, Lists, Value, Values};
 
 /// Whether the number has at most that many bits.
@@ -133,13 +134,15 @@ fn fits_by_fx(fixed: &Fixed, values: &Values) -> bool
 
 /// Whether the value has the kind's shape.
 #[cycle(kind_fits)]
-pub(crate) fn fits_kind(kind: &Kind, value: &Value) -> bool
+pub fn fits_kind(kind: &Kind, value: &Value) -> bool
     ensures { result ≡ kind_fits (kind_tree kind.now) (value_tree value.now) }
 {
     match (kind, value) {
         (Kind::Fixed(fixed), value) => fits_fixed(fixed, value),
-        (Kind::Extended(parts), Value::Extended(lists)) => fits_parts(parts, lists),
-        (Kind::Counted(inner), Value::Repeat(values)) => fits_counted(inner, values),
+        (Kind::Extended { parts, .. }, Value::Extended(lists)) => fits_parts(parts, lists),
+        (Kind::Counted { counter, inner }, Value::Repeat(values)) => {
+            fits_counted(*counter, inner, values)
+        }
         (Kind::ByFx(fixed), Value::Repeat(values)) => fits_by_fx(fixed, values),
         (Kind::Explicit, Value::Octets(octets)) => fits_content(octets.as_slice()),
         (Kind::Compound(slots), Value::Compound(entries)) => fits_slots(slots, entries),
@@ -147,12 +150,12 @@ pub(crate) fn fits_kind(kind: &Kind, value: &Value) -> bool
     }
 }
 
-/// Whether there are at most 255 values, and each fits the inner kind.
+/// Whether there are no more values than the counter holds, and each fits the inner kind.
 #[cycle(kind_fits)]
-fn fits_counted(inner: &Kind, values: &Values) -> bool
-    ensures { result ≡ (nat_lt (value_count (values_tree values.now)) 256 && each_fits (kind_fits (kind_tree inner.now)) (values_tree values.now)) }
+fn fits_counted(counter: Counter, inner: &Kind, values: &Values) -> bool
+    ensures { result ≡ (nat_lt (value_count (values_tree values.now)) (2 ^ counter_width counter) && each_fits (kind_fits (kind_tree inner.now)) (values_tree values.now)) }
 {
-    if values.count() > 255 {
+    if values.count() > counter.greatest() {
         return false;
     }
     fits_each(inner, values.as_slice())

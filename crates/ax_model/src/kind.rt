@@ -22,7 +22,7 @@ pub enum Member {
     Spare { width: u32 },
 }
 
-/// A part of an extended item: its members, after which the field has one FX bit.
+/// A part of an extended item: its members, after which the field has one FX bit where the part has one.
 #[derive(Drop)]
 pub struct Part {
     pub members: Members,
@@ -34,16 +34,31 @@ pub type Parts = Sequence<Part>;
 /// The slots of a compound, in order; the first is slot 1.
 pub type Slots = Sequence<Slot>;
 
+/// How many octets the counter of a counted item has.
+#[derive(Clone, Copy, Debug, PartialEq, Eq)]
+pub enum Counter {
+    One,
+    Two,
+}
+
+/// Whether the last part of an extended item has an FX bit. Each other part has one.
+#[derive(Clone, Copy, Debug, PartialEq, Eq)]
+pub enum LastPart {
+    WithFx,
+    WithoutFx,
+}
+
 /// The kind of an item, a subitem or a counted body.
 #[cycle(kind)]
 #[derive(Drop)]
 pub enum Kind {
     /// A fixed run of whole octets.
     Fixed(Fixed),
-    /// One or more parts, each followed by FX: 1 exactly where another part follows.
-    Extended(Parts),
-    /// One octet REP, then that many occurrences of the inner kind, 0 to 255.
-    Counted(Box<Kind>),
+    /// One or more parts, each followed by FX: 1 exactly where another part follows. The last part may have no FX.
+    Extended { last: LastPart, parts: Parts },
+    /// A counter REP, in two octets the most significant first, then that many occurrences of the inner kind: 0 to 255
+    /// by one octet, 0 to 65,535 by two.
+    Counted { counter: Counter, inner: Box<Kind> },
     /// One or more occurrences, each followed by FX: 1 exactly where another occurrence follows.
     ByFx(Fixed),
     /// One octet with the field's total length, itself included, then the content of 0 to 254 octets.

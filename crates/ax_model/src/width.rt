@@ -1,10 +1,50 @@
 //! Widths in bits. A width is capped at 2^64 - 1 where it is more.
-ghost use Rattle.std.specs.Prelude.{◌≡◌};
+ghost use Rattle.std.specs.Prelude.{◌≡◌, ◌+◌, ◌^◌};
 ghost use Rattle.ax_model.specs.Lengths.{capped};
 ghost use Rattle.ax_model.specs.Plain.{fixed_tree, member_tree, members_tree, part_tree};
-ghost use Rattle.ax_model.specs.Widths.{width, member_width, members_width};
+ghost use Rattle.ax_model.specs.Widths.{width, member_width, members_width, counter_width, counter_octets, fx_width};
 
-use crate::kind::{Fixed, Member, Members, Part};
+use crate::kind::{Counter, Fixed, LastPart, Member, Members, Part};
+
+impl LastPart {
+    /// How many FX bits a part has, after which the kind has so many others: one, or none.
+    #[inline(always)]
+    pub fn fx_width(self, others: usize) -> u32
+        ensures { result ≡ fx_width self others }
+    {
+        if others > 0 {
+            return 1;
+        }
+        match self {
+            LastPart::WithFx => 1,
+            LastPart::WithoutFx => 0,
+        }
+    }
+}
+
+impl Counter {
+    /// How many octets it has.
+    #[inline(always)]
+    pub fn octets(self) -> u32
+        ensures { result ≡ counter_octets self }
+    {
+        match self {
+            Counter::One => 1,
+            Counter::Two => 2,
+        }
+    }
+
+    /// The greatest count that it holds.
+    #[inline(always)]
+    pub fn greatest(self) -> u32
+        ensures { result + 1 ≡ 2 ^ counter_width self }
+    {
+        match self {
+            Counter::One => 255,
+            Counter::Two => 65_535,
+        }
+    }
+}
 
 impl Fixed {
     /// The width in bits, capped at 2^64 - 1 where it is more. Takes no memory.

@@ -1,5 +1,5 @@
 -- What is told and counted of an object of the outside, before and after.
-use Rattle.std.specs.Prelude.{◌≡◌, ℕ, ◌<◌, ◌≤◌, List, ◌++◌, length, take, Option, Result, OnOk, OnErr}
+use Rattle.std.specs.Prelude.{◌≡◌, ℕ, ◌+◌, ◌<◌, ◌≤◌, List, ◌++◌, length, take, Option, Result, OnOk, OnErr}
 use Rattle.ax_outside.specs.Told.{with_end, Rose}
 use Rattle.ax_outside.specs.declared.libraries.Library as LibraryOf
 use Rattle.ax_outside.specs.declared.sinks.Sink as SinkOf
@@ -100,8 +100,10 @@ pub record GainsWithPart (o : SinkChange) (text end : List ℕ) : Type 0 where
   pub within : count < length end
   pub gained : o.held' ≡ with_end o.held (text ++ take count end)
 
--- a call that writes the text: all of it was added, or a prefix at a failure
+-- a call that writes the text: all of it was added, and no fault was counted, or a prefix at a failure, and one fault at most
 pub record Wrote (o : SinkChange) (result : Result Unit SinkFailed) (text : List ℕ) : Type 0 where
   pub whole : OnOk result (Gains o text)
   pub part : OnErr result (GainsPart o text)
   pub later : o.faults ≤ o.faults'
+  pub once : o.faults' ≤ o.faults + 1
+  pub quiet : OnOk result (o.faults' ≡ o.faults)

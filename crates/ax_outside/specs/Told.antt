@@ -23,3 +23,7 @@ Rose before after = (before < after) ⊎ (after ≡ 2 ^ 64 - 1)
 -- the count after one more fault, in a u64
 abbrev pub one_more : ℕ → ℕ
 one_more count = min (count + 1) (2 ^ 64 - 1)
+
+-- the number of octets taken after so many more, in a u64
+abbrev pub number_after : ℕ → ℕ → ℕ
+number_after taken count = min (taken + count) (2 ^ 64 - 1)

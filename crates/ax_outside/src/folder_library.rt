@@ -1,6 +1,6 @@
 //! A library over the files of a folder.
-ghost use Rattle.std.specs.Prelude.{◌≡◌, ◌≢◌, ◌+◌, ◌<◌, ◌≤◌, length, IfOk, IsErrOf};
-ghost use Rattle.ax_outside.specs.Told.{Rose, one_more};
+ghost use Rattle.std.specs.Prelude.{◌≡◌, ◌≢◌, ◌+◌, ◌<◌, ◌≤◌, ◌⊎◌, length, IfOk, IsErrOf};
+ghost use Rattle.ax_outside.specs.Told.{Rose, one_more, number_after};
 ghost use Rattle.ax_outside.specs.declared.libraries.LoadError.TheVariants.{Failed, TooLarge};
 
 use crate::libraries::{Library, LoadError};
@@ -50,6 +50,7 @@ impl<R: Files + Drop> FolderLibrary<R> {
         ensures counts { self.new.faults ≡ one_more self.old.faults }
         ensures rose { Rose self.old.faults self.new.faults }
         ensures never_falls { self.old.faults ≤ self.new.faults }
+        ensures once { self.new.faults ≤ self.old.faults + 1 }
         ensures number { self.new.taken ≡ self.old.taken }
     {
         self.faults = self.faults.saturating_add(1);
@@ -69,12 +70,15 @@ impl<R: Files + Drop> Library for FolderLibrary<R> {
     fn load(&mut self, alloc: Global, name: &str, limit: u32) -> Result<Vec<u8>, LoadError>
         ensures limited { IfOk result (λ v. length v.items ≤ limit) }
         ensures number { IfOk result (λ v. self.new.taken ≡ self.old.taken + length v.items) }
+        ensures number_in_range { IfOk result (λ v. self.new.taken ≡ number_after self.old.taken (length v.items)) }
         ensures number_never_falls { self.old.taken ≤ self.new.taken }
         ensures too_large { IsErrOf result TooLarge → self.old.taken + limit < self.new.taken }
         ensures counts { IsErrOf result Failed → self.new.faults ≡ one_more self.old.faults }
         ensures counts_nothing_else { self.new.faults ≢ self.old.faults → IsErrOf result Failed }
         ensures rose { IsErrOf result Failed → Rose self.old.faults self.new.faults }
         ensures never_falls { self.old.faults ≤ self.new.faults }
+        ensures once { self.new.faults ≤ self.old.faults + 1 }
+        ensures quiet { IsErrOf result Failed ⊎ (self.new.faults ≡ self.old.faults) }
     {
         let Ok(mut file) = fs::open(&self.rt, name) else {
             return Err(self.fault());
@@ -86,6 +90,8 @@ impl<R: Files + Drop> Library for FolderLibrary<R> {
                 return Err(self.fault());
             };
             if count == 0 {
+                // Read for its range: the number of octets taken is a u64.
+                let _taken = self.taken;
                 return Ok(octets);
             }
             let Some(taken) = self.taken.checked_add(count as u64) else {

@@ -1,6 +1,6 @@
 //! What files are loaded from.
-ghost use Rattle.std.specs.Prelude.{◌≡◌, ℕ, ◌≤◌, ◌⊎◌, List, Option, length, IfOk, IsErrOf, IsSome};
-ghost use Rattle.ax_outside.specs.Told.{Rose};
+ghost use Rattle.std.specs.Prelude.{◌≡◌, ℕ, ◌+◌, ◌≤◌, ◌⊎◌, List, Option, length, IfOk, OnErr, IsErrOf, IsSome};
+ghost use Rattle.ax_outside.specs.Told.{Rose, number_after};
 ghost use Rattle.ax_outside.specs.Files.{File, HoldsFile, Lacks, IsLonger, TooMany};
 ghost use Rattle.ax_outside.specs.declared.libraries.LoadError.TheVariants.{Failed, TooLarge, OutOfMemory};
 
@@ -39,7 +39,8 @@ pub trait Library {
     /// The octets of the file of that name, at most `limit` of them.
     ///
     /// `Failed` is counted as a fault, unless a library that tells its files lacks the name. `TooLarge` is no fault.
-    /// A load leaves the files as they were.
+    /// A load leaves the files as they were. It counts one fault at most, and none but at `Failed`; the number of octets taken
+    /// rises by those that it gives, up to 2^64 - 1, and of a library that tells its files by no others.
     fn load(&mut self, alloc: Global, name: &str, limit: u32) -> Result<Vec<u8>, LoadError>
         ensures limited { IfOk result (λ v. length v.items ≤ limit) }
         ensures loaded { IfOk result (λ v. HoldsFile (files self.old) name.now v.items) }
@@ -50,5 +51,9 @@ pub trait Library {
             → IsErrOf result TooLarge ⊎ IsErrOf result OutOfMemory }
         ensures keeps { files self.new ≡ files self.old }
         ensures number_never_falls { taken self.old ≤ taken self.new }
-        ensures never_falls { faults self.old ≤ faults self.new };
+        ensures number { IfOk result (λ v. taken self.new ≡ number_after (taken self.old) (length v.items)) }
+        ensures number_kept { IsSome (files self.old) → OnErr result (taken self.new ≡ taken self.old) }
+        ensures never_falls { faults self.old ≤ faults self.new }
+        ensures once { faults self.new ≤ faults self.old + 1 }
+        ensures quiet { IsErrOf result Failed ⊎ (faults self.new ≡ faults self.old) };
 }

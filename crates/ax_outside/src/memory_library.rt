@@ -1,6 +1,6 @@
 //! A library in memory, for tests and proofs: it tells its files.
 ghost use Rattle.std.specs.Prelude.{◌≡◌, ◌+◌, ◌-◌, ◌^◌, ◌<◌, ◌≤◌, ◌↔◌, ◌⊎◌, length, min, Some, None, IsTrue, IsFalse, IfOk, IsErrOf, MatchOption, MatchResult, if◌then◌else◌};
-ghost use Rattle.ax_outside.specs.Told.{Rose, one_more};
+ghost use Rattle.ax_outside.specs.Told.{Rose, one_more, number_after};
 ghost use Rattle.ax_outside.specs.Files.{octets_of, Exceeds};
 ghost use Rattle.ax_outside.specs.Memory.{LibraryState, files_of, is_listed};
 ghost use Rattle.ax_outside.specs.declared.libraries.LoadError.TheVariants.{Failed, TooLarge};
@@ -115,12 +115,14 @@ impl Library for MemLibrary {
         ensures failed { IsErrOf result Failed ↔ (IsTrue (is_listed self.old.failing self.old.call) ⊎ (octets_of name.now self.old.files ≡ None)) }
         ensures too_large { IsErrOf result TooLarge ↔ (IsFalse (is_listed self.old.failing self.old.call) × Exceeds (octets_of name.now self.old.files) limit) }
         ensures counts { self.new.faults ≡ (if is_listed self.old.failing self.old.call then one_more self.old.faults else self.old.faults) }
-        ensures number { MatchResult result (λ v. self.new.taken ≡ min (self.old.taken + length v.items) (2 ^ 64 - 1)) (λ _. self.new.taken ≡ self.old.taken) }
+        ensures number { MatchResult result (λ v. self.new.taken ≡ number_after self.old.taken (length v.items)) (λ _. self.new.taken ≡ self.old.taken) }
         ensures next_call { self.new.call ≡ one_more self.old.call }
         ensures same_files { self.new.files ≡ self.old.files }
         ensures same_failing { self.new.failing ≡ self.old.failing }
         ensures rose { IsTrue (is_listed self.old.failing self.old.call) → Rose self.old.faults self.new.faults }
         ensures never_falls { self.old.faults ≤ self.new.faults }
+        ensures once { self.new.faults ≤ self.old.faults + 1 }
+        ensures quiet { IsErrOf result Failed ⊎ (self.new.faults ≡ self.old.faults) }
         ensures number_never_falls { self.old.taken ≤ self.new.taken }
     {
         let call = self.call;

@@ -1,5 +1,5 @@
 //! A sink in memory, for tests and proofs: it tells what it holds.
-ghost use Rattle.std.specs.Prelude.{◌≡◌, ◌-◌, ◌<◌, ◌≤◌, ◌↔◌, ◌⊎◌, ◌++◌, [], length, take, min, IsTrue, IfOk, IsErr, OnErr, MatchResult};
+ghost use Rattle.std.specs.Prelude.{◌≡◌, ◌+◌, ◌-◌, ◌<◌, ◌≤◌, ◌↔◌, ◌⊎◌, ◌++◌, [], length, take, min, IsTrue, IfOk, IsErr, OnErr, MatchResult};
 ghost use Rattle.ax_outside.specs.Told.{Rose, one_more};
 ghost use Rattle.ax_outside.specs.Memory.{SinkState, is_listed, at_least_one};
 
@@ -108,6 +108,8 @@ impl Sink for MemSink {
         ensures same_failing { self.new.failing ≡ self.old.failing }
         ensures rose { OnErr result (Rose self.old.faults self.new.faults) }
         ensures never_falls { self.old.faults ≤ self.new.faults }
+        ensures once { self.new.faults ≤ self.old.faults + 1 }
+        ensures quiet { IfOk result (λ _. self.new.faults ≡ self.old.faults) }
     {
         let call = self.call;
         self.call = call.saturating_add(1);

@@ -98,6 +98,8 @@ impl Source for MemSource {
         ensures same_failing { self.new.failing ≡ self.old.failing }
         ensures rose { OnErr result (Rose self.old.faults self.new.faults) }
         ensures never_falls { self.old.faults ≤ self.new.faults }
+        ensures once { self.new.faults ≤ self.old.faults + 1 }
+        ensures quiet { IfOk result (λ _. self.new.faults ≡ self.old.faults) }
     {
         let call = self.call;
         self.call = call.saturating_add(1);

@@ -59,6 +59,8 @@ impl<R: Read> Source for ReadSource<R> {
         ensures counts { MatchResult result (λ _. self.new.faults ≡ self.old.faults) (λ _. self.new.faults ≡ one_more self.old.faults) }
         ensures rose { OnErr result (Rose self.old.faults self.new.faults) }
         ensures never_falls { self.old.faults ≤ self.new.faults }
+        ensures once { self.new.faults ≤ self.old.faults + 1 }
+        ensures quiet { IfOk result (λ _. self.new.faults ≡ self.old.faults) }
     {
         if let Ok(count) = self.inner.read(into) {
             if let Some(taken) = self.taken.checked_add(count as u64) {

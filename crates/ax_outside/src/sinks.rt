@@ -1,5 +1,5 @@
 //! What octets are written to.
-ghost use Rattle.std.specs.Prelude.{◌≡◌, ℕ, ◌<◌, ◌≤◌, List, Option, length, take, IfOk, OnErr};
+ghost use Rattle.std.specs.Prelude.{◌≡◌, ℕ, ◌+◌, ◌<◌, ◌≤◌, List, Option, length, take, IfOk, OnErr};
 ghost use Rattle.ax_outside.specs.Told.{with_end, Rose};
 
 /// A write failed, and nothing was added.
@@ -16,7 +16,7 @@ pub trait Sink {
 
     /// Adds octets from the front of `piece`, and answers how many: at least one of a nonempty piece.
     ///
-    /// A `SinkFailed` is counted as a fault, and adds nothing.
+    /// A `SinkFailed` is counted as a fault, and adds nothing. A call counts one fault at most, and none where it succeeds.
     fn write(&mut self, piece: &[u8]) -> Result<usize, SinkFailed>
         ensures within { IfOk result (λ n. n ≤ length piece.now) }
         ensures some { IfOk result (λ n. 0 < length piece.now → 0 < n) }
@@ -24,5 +24,7 @@ pub trait Sink {
         ensures adds { IfOk result (λ n. held self.new ≡ with_end (held self.old) (take n piece.now)) }
         ensures keeps { OnErr result (held self.new ≡ held self.old) }
         ensures rose { OnErr result (Rose (faults self.old) (faults self.new)) }
-        ensures never_falls { faults self.old ≤ faults self.new };
+        ensures never_falls { faults self.old ≤ faults self.new }
+        ensures once { faults self.new ≤ faults self.old + 1 }
+        ensures quiet { IfOk result (λ _. faults self.new ≡ faults self.old) };
 }

@@ -20,7 +20,8 @@ pub trait Source {
     /// Reads the next octets into the front of `into`, and answers how many they are: none, for a nonempty `into`,
     /// at the end of the input. What stands in `into` past them isn't said.
     ///
-    /// A `SourceFailed` is counted as a fault, and takes nothing.
+    /// A `SourceFailed` is counted as a fault, and takes nothing. A call counts one fault at most, and none where it
+    /// succeeds.
     fn read(&mut self, into: &mut [u8]) -> Result<usize, SourceFailed>
         ensures room { IfOk result (λ n. n ≤ length into.new) }
         ensures gives { IfOk result (λ n. left self.old ≡ with_front (take n into.new) (left self.new)) }
@@ -30,5 +31,7 @@ pub trait Source {
         ensures number_never_falls { taken self.old ≤ taken self.new }
         ensures keeps { OnErr result (left self.new ≡ left self.old) }
         ensures rose { OnErr result (Rose (faults self.old) (faults self.new)) }
-        ensures never_falls { faults self.old ≤ faults self.new };
+        ensures never_falls { faults self.old ≤ faults self.new }
+        ensures once { faults self.new ≤ faults self.old + 1 }
+        ensures quiet { IfOk result (λ _. faults self.new ≡ faults self.old) };
 }

@@ -7,13 +7,16 @@ use crate::sources::{Source, SourceFailed};
 
 /// Writes the whole piece, in as many calls as the sink needs.
 ///
-/// At `SinkFailed` a prefix of the piece was added, not all of it, and the sink counted a fault.
+/// At `SinkFailed` a prefix of the piece was added, not all of it, and the sink counted a fault. No call is made after one
+/// that failed: one fault at most is counted, and none where the piece was written.
 #[tactic(auto, using(crate::proofs::Ends::steps))]
 pub fn write_all_of<K: Sink>(sink: &mut K, piece: &[u8]) -> Result<(), SinkFailed>
     ensures whole { OnOk result (K.held sink.new ≡ with_end (K.held sink.old) piece.now) }
     ensures prefix { OnErr result ((n : ℕ) × (n < length piece.now) × (K.held sink.new ≡ with_end (K.held sink.old) (take n piece.now))) }
     ensures rose { OnErr result (Rose (K.faults sink.old) (K.faults sink.new)) }
     ensures never_falls { K.faults sink.old ≤ K.faults sink.new }
+    ensures once { K.faults sink.new ≤ K.faults sink.old + 1 }
+    ensures quiet { OnOk result (K.faults sink.new ≡ K.faults sink.old) }
 {
     let mut at = 0;
     while at < piece.len() {
@@ -26,7 +29,7 @@ pub fn write_all_of<K: Sink>(sink: &mut K, piece: &[u8]) -> Result<(), SinkFaile
 /// and answers how many octets it read.
 ///
 /// At `SourceFailed` the octets read so far stand at the front of the buffer, which they don't fill, and the source
-/// counted a fault.
+/// counted a fault. No call is made after one that failed: one fault at most is counted, and none where it succeeds.
 #[tactic(auto, using(crate::proofs::Ends::steps))]
 pub fn fill<S: Source>(source: &mut S, buffer: &mut [u8]) -> Result<usize, SourceFailed>
     ensures room { IfOk result (λ n. n ≤ length buffer.new) }
@@ -38,6 +41,8 @@ pub fn fill<S: Source>(source: &mut S, buffer: &mut [u8]) -> Result<usize, Sourc
         × (S.taken source.new ≡ S.taken source.old + n)) }
     ensures rose { OnErr result (Rose (S.faults source.old) (S.faults source.new)) }
     ensures never_falls { S.faults source.old ≤ S.faults source.new }
+    ensures once { S.faults source.new ≤ S.faults source.old + 1 }
+    ensures quiet { IfOk result (λ _. S.faults source.new ≡ S.faults source.old) }
 {
     let mut filled = 0;
     while filled < buffer.len() {

@@ -1,5 +1,5 @@
 //! A sink over a writer.
-ghost use Rattle.std.specs.Prelude.{◌≡◌, ◌<◌, ◌≤◌, length, take, IfOk, OnErr, MatchResult};
+ghost use Rattle.std.specs.Prelude.{◌≡◌, ◌+◌, ◌<◌, ◌≤◌, length, take, IfOk, OnErr, MatchResult};
 ghost use Rattle.std.specs.Io.KnownBytes.{Appends};
 ghost use Rattle.ax_outside.specs.Told.{Rose, one_more};
 
@@ -43,6 +43,8 @@ impl<W: Write> Sink for WriteSink<W> {
         ensures counts { MatchResult result (λ _. self.new.faults ≡ self.old.faults) (λ _. self.new.faults ≡ one_more self.old.faults) }
         ensures rose { OnErr result (Rose self.old.faults self.new.faults) }
         ensures never_falls { self.old.faults ≤ self.new.faults }
+        ensures once { self.new.faults ≤ self.old.faults + 1 }
+        ensures quiet { IfOk result (λ _. self.new.faults ≡ self.old.faults) }
     {
         if let Ok(count) = self.inner.write(piece) {
             if count > 0 || piece.is_empty() {

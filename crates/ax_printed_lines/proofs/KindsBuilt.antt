@@ -1,22 +1,24 @@
 -- Values of kinds that are built.
-use Rattle.std.proofs.Common.{◌≡◌, ℕ, suc, ◌+◌, ◌<◌, ◌≤◌, true, List, [], ◌∷◌, ◌++◌, length, map, refl, sym, ◌∙◌, ap, subst, arith, Box, Global}
-use Rattle.std.specs.List.{AllByRecursion}
+use Rattle.std.proofs.Common.{◌≡◌, ℕ, suc, ◌+◌, ◌^◌, ◌<◌, ◌≤◌, true, List, [], ◌∷◌, ◌++◌, length, map, refl, sym, ◌∙◌, ap, subst, arith, Box, Global}
 use Rattle.ax_bits.specs.Bits.{word}
 use Rattle.ax_bits.specs.Out.{Appends, written}
 use Rattle.ax_bits.specs.declared.output.Out.{Out}
 use Rattle.ax_block_reader.proofs.Onto.{kind_more}
 use Rattle.ax_fspec.specs.Fields.{least_field}
+use Rattle.ax_model.proofs.VariantTrees.{fixed_kind_tree, extended_tree, counted_tree, by_fx_tree, explicit_tree, compound_tree}
 use Rattle.ax_model.specs.Canonical.{canon, fixed_canon, parts_canon, run_canon, each_canon, entries_canon}
 use Rattle.ax_model.specs.Characters.{IsName}
-use Rattle.ax_model.specs.InBounds.{FixedInBounds, PartInBounds, InBounds, SlotsInBounds}
+use Rattle.ax_model.specs.InBounds.{FixedInBounds, PartsInBounds, InBounds, SlotsInBounds}
 use Rattle.ax_model.specs.Plain.{fixed_tree, part_tree, kind_tree, slot_tree, slots_tree, kind_step, slot_step}
 use Rattle.ax_model.specs.Shape.{FixedShape, PartsShape, Shape, EachShape, EntriesShape}
 use Rattle.ax_model.specs.Tree.{KindTree, fixed, extended, counted, by_fx, explicit, compound, SlotTree, SlotsTree, no_slots, slot_and, subitem, part_values, occurrences, marked, ValuesTree, no_values, value_and, value_count}
 use Rattle.ax_model.specs.declared.kind.Fixed.{Fixed}
-use Rattle.ax_model.specs.declared.kind.Kind.{Kind, fold-roll-Kind}
-use Rattle.ax_model.specs.declared.kind.Kind.TheOpen.{Kind-F, Slot-F}
+use Rattle.ax_model.specs.Widths.{counter_width}
+use Rattle.ax_model.specs.declared.kind.Counter.{Counter}
+use Rattle.ax_model.specs.declared.kind.Kind.{Kind}
+use Rattle.ax_model.specs.declared.kind.Kind.TheOpen.{Slot-F}
 use Rattle.ax_model.specs.declared.kind.Kind.TheVariants as KindOf
-use Rattle.ax_model.specs.declared.kind.Kind.TheVariants.{rolls-Fixed, rolls-Extended, rolls-Counted, rolls-ByFx, rolls-Explicit, rolls-Compound}
+use Rattle.ax_model.specs.declared.kind.LastPart.{LastPart}
 use Rattle.ax_model.specs.declared.kind.Part.{Part}
 use Rattle.ax_model.specs.declared.kind.Slot.{Slot, fold-roll-Slot}
 use Rattle.ax_model.specs.declared.kind.Slot.TheVariants.{Sub, rolls-Sub}
@@ -31,22 +33,22 @@ use Rattle.ax_printed_lines.proofs.ListsBuilt.{SomeFixed, PartsAreBuilt, RunIsBu
 -- ---- the trees of the code's variants
 
 fixed_kind : (kind : Kind) (f : Fixed) → kind ≡ KindOf.Fixed f → kind_tree kind ≡ fixed (fixed_tree f)
-fixed_kind kind f e = ap kind_tree e ∙ ap kind_tree (sym (rolls-Fixed f)) ∙ fold-roll-Kind KindTree SlotTree kind_step slot_step (Kind-F.Fixed f)
+fixed_kind kind f e = ap kind_tree e ∙ fixed_kind_tree f
 
-extended_kind : (kind : Kind) (ps : List Part) → kind ≡ KindOf.Extended ps → kind_tree kind ≡ extended (map part_tree ps)
-extended_kind kind ps e = ap kind_tree e ∙ ap kind_tree (sym (rolls-Extended ps)) ∙ fold-roll-Kind KindTree SlotTree kind_step slot_step (Kind-F.Extended ps)
+extended_kind : (kind : Kind) (last : LastPart) (ps : List Part) → kind ≡ KindOf.Extended last ps → kind_tree kind ≡ extended last (map part_tree ps)
+extended_kind kind last ps e = ap kind_tree e ∙ extended_tree last ps
 
-counted_kind : (kind : Kind) (inner : Box Kind Global) → kind ≡ KindOf.Counted inner → kind_tree kind ≡ counted (kind_tree inner.value)
-counted_kind kind inner e = ap kind_tree e ∙ ap kind_tree (sym (rolls-Counted inner)) ∙ fold-roll-Kind KindTree SlotTree kind_step slot_step (Kind-F.Counted inner)
+counted_kind : (kind : Kind) (size : Counter) (inner : Box Kind Global) → kind ≡ KindOf.Counted size inner → kind_tree kind ≡ counted size (kind_tree inner.value)
+counted_kind kind size inner e = ap kind_tree e ∙ counted_tree size inner
 
 by_fx_kind : (kind : Kind) (f : Fixed) → kind ≡ KindOf.ByFx f → kind_tree kind ≡ by_fx (fixed_tree f)
-by_fx_kind kind f e = ap kind_tree e ∙ ap kind_tree (sym (rolls-ByFx f)) ∙ fold-roll-Kind KindTree SlotTree kind_step slot_step (Kind-F.ByFx f)
+by_fx_kind kind f e = ap kind_tree e ∙ by_fx_tree f
 
 explicit_kind : (kind : Kind) → kind ≡ KindOf.Explicit → kind_tree kind ≡ explicit
-explicit_kind kind e = ap kind_tree e ∙ ap kind_tree (sym rolls-Explicit) ∙ fold-roll-Kind KindTree SlotTree kind_step slot_step Kind-F.Explicit
+explicit_kind kind e = ap kind_tree e ∙ explicit_tree
 
 compound_kind : (kind : Kind) (slots : List Slot) → kind ≡ KindOf.Compound slots → kind_tree kind ≡ compound (slots_tree slots)
-compound_kind kind slots e = ap kind_tree e ∙ ap kind_tree (sym (rolls-Compound slots)) ∙ fold-roll-Kind KindTree SlotTree kind_step slot_step (Kind-F.Compound slots)
+compound_kind kind slots e = ap kind_tree e ∙ compound_tree slots
 
 sub_slot : (slot : Slot) (name : List ℕ) (k : Kind) → slot ≡ Sub name k → slot_tree slot ≡ subitem name (kind_tree k)
 sub_slot slot name k e = ap slot_tree e ∙ ap slot_tree (sym (rolls-Sub name k)) ∙ fold-roll-Slot KindTree SlotTree kind_step slot_step (Slot-F.Sub name k)
@@ -67,28 +69,32 @@ fixed_of_kind kind f old new before after e b =
 pub explicit_of_kind : (kind : Kind) (old new : Place) (before after : Out) → kind ≡ KindOf.Explicit → KindIsBuilt explicit old new before after → KindIsBuilt (kind_tree kind) old new before after
 explicit_of_kind kind old new before after e b = subst (λ k. KindIsBuilt k old new before after) (sym (explicit_kind kind e)) b
 
-pub parts_bounds : (kind : Kind) (ps : List Part) → kind ≡ KindOf.Extended ps → InBounds (kind_tree kind) → AllByRecursion PartInBounds (map part_tree ps)
-parts_bounds kind ps e h = let x : InBounds (extended (map part_tree ps)) = subst InBounds (extended_kind kind ps e) h in x.1
+pub parts_bounds : (kind : Kind) (last : LastPart) (ps : List Part) → kind ≡ KindOf.Extended last ps → InBounds (kind_tree kind) → PartsInBounds last (map part_tree ps)
+parts_bounds kind last ps e h = let x : InBounds (extended last (map part_tree ps)) = subst InBounds (extended_kind kind last ps e) h in x.1
 
-pub extended_of_kind : (kind : Kind) (ps : List Part) (old mid new : Place) (before after : Out) → kind ≡ KindOf.Extended ps → Goes old mid (opening ∷ []) → PartsAreBuilt (map part_tree ps) mid new before after → KindIsBuilt (kind_tree kind) old new before after
-extended_of_kind kind list old mid new before after e g b =
+pub extended_of_kind : (kind : Kind) (last : LastPart) (ps : List Part) (old mid new : Place) (before after : Out) → kind ≡ KindOf.Extended last ps → Goes old mid (opening ∷ []) → PartsAreBuilt last (map part_tree ps) mid new before after → KindIsBuilt (kind_tree kind) old new before after
+extended_of_kind kind last list old mid new before after e g b =
     let ps = map part_tree list in
-    subst (λ k. KindIsBuilt k old new before after) (sym (extended_kind kind list e))
-    (built_after (PartsShape ps) (λ ls. parts_onto ps ls (closing ∷ [])) (parts_canon ps) (Shape (extended ps)) (λ v. kind_onto (extended ps) v []) (canon (extended ps)) (opening ∷ []) old mid new before after g b (λ ls h. (part_values ls, h, refl, refl)))
+    let k = extended last ps in
+    subst (λ k. KindIsBuilt k old new before after) (sym (extended_kind kind last list e))
+    (built_after (PartsShape ps) (λ ls. parts_onto ps ls (closing ∷ [])) (parts_canon last ps) (Shape k) (λ v. kind_onto k v []) (canon k) (opening ∷ []) old mid new before after g b (λ ls h. (part_values ls, h, refl, refl)))
 
--- the values of a counted item
-abbrev pub CountedIsBuilt : KindTree → Place → Place → Out → Out → Type 0
-CountedIsBuilt k old new before after = IsBuilt (λ vs. (value_count vs < 256) × EachShape (Shape k) vs) (λ vs. each_onto (kind_onto k) vs (closing ∷ [])) (λ vs. canon (counted k) (occurrences vs)) old new before after
+-- the values of a counted or wide item
+abbrev pub FewValues : Counter → KindTree → ValuesTree → Type 0
+FewValues size k vs = (value_count vs < 2 ^ counter_width size) × EachShape (Shape k) vs
 
-pub counted_bounds : (kind : Kind) (inner : Box Kind Global) → kind ≡ KindOf.Counted inner → InBounds (kind_tree kind) → InBounds (kind_tree inner.value)
-counted_bounds kind inner e h = subst InBounds (counted_kind kind inner e) h
+abbrev pub CountedIsBuilt : Counter → KindTree → Place → Place → Out → Out → Type 0
+CountedIsBuilt size k old new before after = IsBuilt (FewValues size k) (λ vs. each_onto (kind_onto k) vs (closing ∷ [])) (λ vs. canon (counted size k) (occurrences vs)) old new before after
 
-pub counted_of_kind : (kind : Kind) (inner : Box Kind Global) (old mid new : Place) (before after : Out) → kind ≡ KindOf.Counted inner → Goes old mid (opening ∷ []) → CountedIsBuilt (kind_tree inner.value) mid new before after → KindIsBuilt (kind_tree kind) old new before after
-counted_of_kind kind inner old mid new before after e g b =
+pub counted_bounds : (kind : Kind) (size : Counter) (inner : Box Kind Global) → kind ≡ KindOf.Counted size inner → InBounds (kind_tree kind) → InBounds (kind_tree inner.value)
+counted_bounds kind size inner e h = subst InBounds (counted_kind kind size inner e) h
+
+pub counted_of_kind : (kind : Kind) (size : Counter) (inner : Box Kind Global) (old mid new : Place) (before after : Out) → kind ≡ KindOf.Counted size inner → Goes old mid (opening ∷ []) → CountedIsBuilt size (kind_tree inner.value) mid new before after → KindIsBuilt (kind_tree kind) old new before after
+counted_of_kind kind size inner old mid new before after e g b =
     let k = kind_tree inner.value in
-    subst (λ k. KindIsBuilt k old new before after) (sym (counted_kind kind inner e))
-    (built_after (λ vs. (value_count vs < 256) × EachShape (Shape k) vs) (λ vs. each_onto (kind_onto k) vs (closing ∷ [])) (λ vs. canon (counted k) (occurrences vs)) (Shape (counted k)) (λ v. kind_onto (counted k) v []) (canon (counted k)) (opening ∷ []) old mid new before after g b
-    (λ vs h. (occurrences vs, h, refl, refl)))
+    let whole = counted size k in
+    subst (λ k. KindIsBuilt k old new before after) (sym (counted_kind kind size inner e))
+    (built_after (FewValues size k) (λ vs. each_onto (kind_onto k) vs (closing ∷ [])) (λ vs. canon whole (occurrences vs)) (Shape whole) (λ v. kind_onto whole v []) (canon whole) (opening ∷ []) old mid new before after g b (λ vs h. (occurrences vs, h, refl, refl)))
 
 pub by_fx_bounds : (kind : Kind) (f : Fixed) → kind ≡ KindOf.ByFx f → InBounds (kind_tree kind) → FixedInBounds (fixed_tree f)
 by_fx_bounds kind f e h = let x : InBounds (by_fx (fixed_tree f)) = subst InBounds (by_fx_kind kind f e) h in x.2
@@ -152,12 +158,13 @@ each_done k count old now new before after l g =
 pub fresh_bits : (before after : Out) (b : List ℕ) → written before ≡ [] → Appends before after b → written after ≡ b
 fresh_bits before after b none a = a.written ∙ ap (λ w. w ++ b) none
 
-pub counted_whole : (k : KindTree) (count : ℕ) (old new : Place) (first last before after : Out) → count < 256 → written first ≡ [] → EachIsBuilt k count old new first last → Appends before after (word 8 count ++ written last) → CountedIsBuilt k old new before after
-counted_whole k count old new first last before after few none b a = record {
+pub counted_whole : (size : Counter) (k : KindTree) (count : ℕ) (old new : Place) (first last before after : Out) → count < 2 ^ counter_width size → written first ≡ [] → EachIsBuilt k count old new first last → Appends before after (word (counter_width size) count ++ written last)
+    → CountedIsBuilt size k old new before after
+counted_whole size k count old new first last before after few none b a = record {
   value = b.value;
-  shape = (subst (λ n. n < 256) (sym b.shape.0) few, b.shape.1);
+  shape = (subst (λ n. n < 2 ^ counter_width size) (sym b.shape.0) few, b.shape.1);
   goes = b.goes;
-  appends = subst (λ w. Appends before after w) (λ i. word 8 (sym b.shape.0 i) ++ fresh_bits first last (each_canon (canon k) b.value) none b.appends i) a;
+  appends = subst (λ w. Appends before after w) (λ i. word (counter_width size) (sym b.shape.0 i) ++ fresh_bits first last (each_canon (canon k) b.value) none b.appends i) a;
 }
 
 pub compound_whole : (ss : SlotsTree) (marks : List ℕ) (old new : Place) (first last before after : Out) → written first ≡ [] → IsBuilt (HasMarks ss marks) (λ es. entries_onto 1 ss es (closing ∷ [])) (entries_canon 1 ss) old new first last

@@ -1,16 +1,18 @@
--- Lists of values of fixed kinds that are built: parts of extended items, and occurrences by FX.
-use Rattle.std.proofs.Common.{◌≡◌, ℕ, ◌+◌, ◌<◌, List, [], ◌∷◌, ◌++◌, length, drop, get_or, map, refl, sym, ◌∙◌, ap, subst, arith, append_assoc}
-use Rattle.std.specs.List.{AllByRecursion}
+-- Lists of values of fixed kinds that are built: parts of extended and closed items, and occurrences by FX.
+use Rattle.std.proofs.Common.{◌≡◌, ℕ, ◌<◌, List, [], ◌∷◌, ◌++◌, length, map, refl, sym, ◌∙◌, ap, subst, arith, append_assoc}
+use Rattle.std.proofs.lemmas.List.{length-map}
+use Rattle.ax_bits.specs.Bits.{word}
 use Rattle.ax_bits.specs.Out.{Appends}
 use Rattle.ax_bits.specs.declared.output.Out.{Out}
 use Rattle.ax_block_reader.proofs.Onto.{fixed_more, part_more}
 use Rattle.ax_model.specs.Canonical.{fixed_canon, members_canon, parts_canon, run_canon}
-use Rattle.ax_model.specs.InBounds.{MembersInBounds, PartInBounds}
+use Rattle.ax_model.specs.InBounds.{MembersInBounds, PartsInBounds}
 use Rattle.ax_model.specs.Plain.{part_tree}
 use Rattle.ax_model.specs.Shape.{FixedShape, MembersShape, PartsShape, EachShape}
 use Rattle.ax_model.specs.Tree.{FixedTree, MembersTree, ValueTree, ValuesTree, no_values, value_and, value_count, ListsTree, no_lists, list_and}
+use Rattle.ax_model.specs.Widths.{fx_width}
+use Rattle.ax_model.specs.declared.kind.LastPart.{LastPart}
 use Rattle.ax_model.specs.declared.kind.Part.{Part}
-use Rattle.ax_text.proofs.Printed.{from_place}
 use Rattle.ax_text.proofs.WordTokens.{part_is_word}
 use Rattle.ax_text.specs.ValueText.{Texts, opening, closing, part_word, fixed_onto, members_onto, part_onto, parts_onto, each_onto}
 use Rattle.ax_printed_lines.specs.Printed.{Place, Goes, IsBuilt, IsOneWord}
@@ -23,8 +25,8 @@ use Rattle.ax_printed_lines.proofs.Going.{goes_both, one_word}
 abbrev pub PartIsBuilt : MembersTree → Place → Place → Out → Out → Type 0
 PartIsBuilt p old new before after = IsBuilt (MembersShape p) (λ vs. part_onto p vs []) (members_canon p) old new before after
 
-abbrev pub PartsAreBuilt : List MembersTree → Place → Place → Out → Out → Type 0
-PartsAreBuilt ps old new before after = IsBuilt (PartsShape ps) (λ ls. parts_onto ps ls (closing ∷ [])) (parts_canon ps) old new before after
+abbrev pub PartsAreBuilt : LastPart → List MembersTree → Place → Place → Out → Out → Type 0
+PartsAreBuilt last ps old new before after = IsBuilt (PartsShape ps) (λ ls. parts_onto ps ls (closing ∷ [])) (parts_canon last ps) old new before after
 
 pub part_built : (p : MembersTree) (old mid inner new : Place) (before after : Out) → (IsOneWord part_word → Goes old mid (part_word ∷ [])) → Goes mid inner (opening ∷ []) → MembersAreBuilt p inner new before after → PartIsBuilt p old new before after
 part_built p old mid inner new before after g o b =
@@ -33,29 +35,29 @@ part_built p old mid inner new before after g o b =
 
 -- ---- parts
 
-pub record PartsLeft (ps all : List MembersTree) (old now : Place) (before after : Out) : Type 0 where
-  pub built : Partly (PartsShape all) (λ ls. parts_onto all ls (closing ∷ [])) (parts_canon all) (PartsShape ps) (λ ls. parts_onto ps ls (closing ∷ [])) (parts_canon ps) old now before after
-  pub bounds : AllByRecursion PartInBounds ps
+pub record PartsLeft (last : LastPart) (ps all : List MembersTree) (old now : Place) (before after : Out) : Type 0 where
+  pub built : Partly (PartsShape all) (λ ls. parts_onto all ls (closing ∷ [])) (parts_canon last all) (PartsShape ps) (λ ls. parts_onto ps ls (closing ∷ [])) (parts_canon last ps) old now before after
+  pub bounds : PartsInBounds last ps
 
-pub parts_first : (ps : List MembersTree) (old : Place) (out : Out) → AllByRecursion PartInBounds ps → PartsLeft ps ps old old out out
-parts_first ps old out h = record { built = partly_first (PartsShape ps) (λ ls. parts_onto ps ls (closing ∷ [])) (parts_canon ps) old out; bounds = h }
+pub parts_first : (last : LastPart) (ps : List MembersTree) (old : Place) (out : Out) → PartsInBounds last ps → PartsLeft last ps ps old old out out
+parts_first last ps old out h = record { built = partly_first (PartsShape ps) (λ ls. parts_onto ps ls (closing ∷ [])) (parts_canon last ps) old out; bounds = h }
 
 -- a part, and later ones
-parts_and : (p : MembersTree) (ps : List MembersTree) (vs : ValuesTree) (ls : ListsTree) → MembersShape p vs → PartsShape ps ls
-    → (y : ListsTree) × PartsShape (p ∷ ps) y × (parts_onto (p ∷ ps) y (closing ∷ []) ≡ part_onto p vs [] ++ parts_onto ps ls (closing ∷ [])) × (parts_canon (p ∷ ps) y ≡ (members_canon p vs ++ 1 ∷ []) ++ parts_canon ps ls)
-parts_and p ps vs no_lists h k = absurd k
-parts_and p ps vs (list_and ws ls) h k =
-    (list_and vs (list_and ws ls), (h, k), sym (part_more p vs [] (parts_onto ps (list_and ws ls) (closing ∷ []))), sym (append_assoc (members_canon p vs) (1 ∷ []) (parts_canon ps (list_and ws ls))))
+parts_and : (last : LastPart) (p : MembersTree) (ps : List MembersTree) (vs : ValuesTree) (ls : ListsTree) → MembersShape p vs → PartsShape ps ls
+    → (y : ListsTree) × PartsShape (p ∷ ps) y × (parts_onto (p ∷ ps) y (closing ∷ []) ≡ part_onto p vs [] ++ parts_onto ps ls (closing ∷ [])) × (parts_canon last (p ∷ ps) y ≡ (members_canon p vs ++ 1 ∷ []) ++ parts_canon last ps ls)
+parts_and last p ps vs no_lists h k = absurd k
+parts_and last p ps vs (list_and ws ls) h k =
+    (list_and vs (list_and ws ls), (h, k), sym (part_more p vs [] (parts_onto ps (list_and ws ls) (closing ∷ []))), sym (append_assoc (members_canon p vs) (1 ∷ []) (parts_canon last ps (list_and ws ls))))
 
 with_bit : (p : MembersTree) (old new : Place) (before mid after : Out) (bit : ℕ) → PartIsBuilt p old new before mid → Appends mid after (bit ∷ []) → IsBuilt (MembersShape p) (λ vs. part_onto p vs []) (λ vs. members_canon p vs ++ bit ∷ []) old new before after
 with_bit p old new before mid after bit b a =
     built_and (MembersShape p) (λ vs. part_onto p vs []) (members_canon p) (MembersShape p) (λ vs. part_onto p vs []) (λ vs. members_canon p vs ++ bit ∷ []) [] (bit ∷ []) old new new before mid after b (record { left = refl; keeps = λ rest k. k }) a
     (λ vs h. (vs, h, sym (part_more p vs [] []), refl))
 
-one_part : (p : MembersTree) (ps all : List MembersTree) (old now new : Place) (before mid inner after : Out) → PartsLeft (p ∷ ps) all old now before mid → PartIsBuilt p now new mid inner → Appends inner after (1 ∷ []) → PartsLeft ps all old new before after
-one_part p ps all old now new before mid inner after l b a = record {
-  built = partly_more (PartsShape all) (λ ls. parts_onto all ls (closing ∷ [])) (parts_canon all) (PartsShape (p ∷ ps)) (λ ls. parts_onto (p ∷ ps) ls (closing ∷ [])) (parts_canon (p ∷ ps)) (MembersShape p) (λ vs. part_onto p vs []) (λ vs. members_canon p vs ++ 1 ∷ [])
-      (PartsShape ps) (λ ls. parts_onto ps ls (closing ∷ [])) (parts_canon ps) old now new before mid after l.built (with_bit p now new mid inner after 1 b a) (λ vs ls h k. parts_and p ps vs ls h k);
+one_part : (last : LastPart) (p : MembersTree) (ps all : List MembersTree) (old now new : Place) (before mid inner after : Out) → PartsLeft last (p ∷ ps) all old now before mid → PartIsBuilt p now new mid inner → Appends inner after (1 ∷ []) → PartsLeft last ps all old new before after
+one_part last p ps all old now new before mid inner after l b a = record {
+  built = partly_more (PartsShape all) (λ ls. parts_onto all ls (closing ∷ [])) (parts_canon last all) (PartsShape (p ∷ ps)) (λ ls. parts_onto (p ∷ ps) ls (closing ∷ [])) (parts_canon last (p ∷ ps)) (MembersShape p) (λ vs. part_onto p vs []) (λ vs. members_canon p vs ++ 1 ∷ [])
+      (PartsShape ps) (λ ls. parts_onto ps ls (closing ∷ [])) (parts_canon last ps) old now new before mid after l.built (with_bit p now new mid inner after 1 b a) (λ vs ls h k. parts_and last p ps vs ls h k);
   bounds = l.bounds.1;
 }
 
@@ -63,25 +65,28 @@ no_part : (ps : List MembersTree) (x : Texts) → parts_onto ps no_lists x ≡ x
 no_part [] x = refl
 no_part (p ∷ ps) x = refl
 
-last_part : (p : MembersTree) (ps all : List MembersTree) (old now mid new : Place) (before middle inner after : Out) → PartsLeft (p ∷ ps) all old now before middle → PartIsBuilt p now mid middle inner → Goes mid new (closing ∷ []) → Appends inner after (0 ∷ []) → PartsAreBuilt all old new before after
-last_part p ps all old now mid new before middle inner after l b g a =
-    partly_done (PartsShape all) (λ ls. parts_onto all ls (closing ∷ [])) (parts_canon all) (PartsShape (p ∷ ps)) (λ ls. parts_onto (p ∷ ps) ls (closing ∷ [])) (parts_canon (p ∷ ps)) old now new before middle after l.built
-    (built_and (MembersShape p) (λ vs. part_onto p vs []) (members_canon p) (PartsShape (p ∷ ps)) (λ ls. parts_onto (p ∷ ps) ls (closing ∷ [])) (parts_canon (p ∷ ps)) (closing ∷ []) (0 ∷ []) now mid new middle inner after b g a
+last_part : (last : LastPart) (p : MembersTree) (ps all : List MembersTree) (old now mid new : Place) (before middle inner after : Out) → PartsLeft last (p ∷ ps) all old now before middle → PartIsBuilt p now mid middle inner → Goes mid new (closing ∷ []) → Appends inner after (word (fx_width last (length ps)) 0)
+    → PartsAreBuilt last all old new before after
+last_part last p ps all old now mid new before middle inner after l b g a =
+    let fx = word (fx_width last (length ps)) 0 in
+    partly_done (PartsShape all) (λ ls. parts_onto all ls (closing ∷ [])) (parts_canon last all) (PartsShape (p ∷ ps)) (λ ls. parts_onto (p ∷ ps) ls (closing ∷ [])) (parts_canon last (p ∷ ps)) old now new before middle after l.built
+    (built_and (MembersShape p) (λ vs. part_onto p vs []) (members_canon p) (PartsShape (p ∷ ps)) (λ ls. parts_onto (p ∷ ps) ls (closing ∷ [])) (parts_canon last (p ∷ ps)) (closing ∷ []) fx now mid new middle inner after b g a
     (λ vs h. (list_and vs no_lists, h, ap (part_onto p vs) (no_part ps (closing ∷ [])) ∙ sym (part_more p vs [] (closing ∷ [])), refl)))
 
-map_drop : (ps : List Part) (i : ℕ) (p : Part) → i < length ps → p ≡ get_or ps i p → map part_tree (drop i ps) ≡ part_tree p ∷ map part_tree (drop (i + 1) ps)
-map_drop ps i p lt at = ap (map part_tree) (from_place ps i p lt at)
+-- the first of the parts that are left
+module _ (last : LastPart) (p : Part) (left later : List Part) (at : left ≡ p ∷ later) where
+  pub part_bounds : (all : List MembersTree) (old now : Place) (before after : Out) → PartsLeft last (map part_tree left) all old now before after → MembersInBounds (part_tree p)
+  part_bounds all old now before after l = (subst (PartsInBounds last) (ap (map part_tree) at) l.bounds).0.2
 
-module _ (list : List Part) (i : ℕ) (p : Part) (lt : i < length list) (at : p ≡ get_or list i p) where
-  pub part_bounds : (all : List MembersTree) (old now : Place) (before after : Out) → PartsLeft (map part_tree (drop i list)) all old now before after → MembersInBounds (part_tree p)
-  part_bounds all old now before after l = (subst (AllByRecursion PartInBounds) (map_drop list i p lt at) l.bounds).0.2
+  pub part_next : (all : List MembersTree) (old now new : Place) (before mid inner after : Out) → PartsLeft last (map part_tree left) all old now before mid → PartIsBuilt (part_tree p) now new mid inner → Appends inner after (1 ∷ []) → PartsLeft last (map part_tree later) all old new before after
+  part_next all old now new before mid inner after l b a =
+      one_part last (part_tree p) (map part_tree later) all old now new before mid inner after (subst (λ ps. PartsLeft last ps all old now before mid) (ap (map part_tree) at) l) b a
 
-  pub part_next : (all : List MembersTree) (old now new : Place) (before mid inner after : Out) → PartsLeft (map part_tree (drop i list)) all old now before mid → PartIsBuilt (part_tree p) now new mid inner → Appends inner after (1 ∷ []) → PartsLeft (map part_tree (drop (i + 1) list)) all old new before after
-  part_next all old now new before mid inner after l b a = one_part (part_tree p) (map part_tree (drop (i + 1) list)) all old now new before mid inner after (subst (λ ps. PartsLeft ps all old now before mid) (map_drop list i p lt at) l) b a
-
-  pub part_last : (all : List MembersTree) (old now mid new : Place) (before middle inner after : Out) → PartsLeft (map part_tree (drop i list)) all old now before middle → PartIsBuilt (part_tree p) now mid middle inner → Goes mid new (closing ∷ []) → Appends inner after (0 ∷ []) → PartsAreBuilt all old new before after
+  pub part_last : (all : List MembersTree) (old now mid new : Place) (before middle inner after : Out) → PartsLeft last (map part_tree left) all old now before middle → PartIsBuilt (part_tree p) now mid middle inner → Goes mid new (closing ∷ []) → Appends inner after (word (fx_width last (length later)) 0)
+      → PartsAreBuilt last all old new before after
   part_last all old now mid new before middle inner after l b g a =
-      last_part (part_tree p) (map part_tree (drop (i + 1) list)) all old now mid new before middle inner after (subst (λ ps. PartsLeft ps all old now before middle) (map_drop list i p lt at) l) b g a
+      last_part last (part_tree p) (map part_tree later) all old now mid new before middle inner after (subst (λ ps. PartsLeft last ps all old now before middle) (ap (map part_tree) at) l) b g
+      (subst (λ n. Appends inner after (word (fx_width last n) 0)) (sym (length-map later part_tree)) a)
 
 -- ---- occurrences by FX
 

@@ -10,7 +10,7 @@ use ax_uap::CatalogueItems;
 
 /// Where the line is the text of a block of a category that the catalogue has, in the form in which `text` prints it, the body of
 /// its canonical form is appended, and this is its category. None says nothing of the line: it comes for any other text,
-/// and where the octets of a record, of a counted item or of a compound, or the body, need more room than is kept here.
+/// and where the octets of a record, of a counted or wide item or of a compound, or the body, need more room than is kept here.
 /// Takes no memory.
 pub fn printed_body(items: &CatalogueItems<'_>, line: &[u8], out: &mut Out<'_>) -> Option<u8>
     ensures { IfSome result (λ category. IsPrinted (catalogue_tree items.now) line.now category out.old out.new) }

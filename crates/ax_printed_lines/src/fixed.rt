@@ -1,9 +1,8 @@
-//! Values of fixed kinds: elements, groups and their members; and lists of them, of extended items and of items that repeat
-//! by FX.
+//! Values of fixed kinds: elements, groups and their members; and lists of them, of extended and closed items and of items
+//! that repeat by FX.
 ghost use Rattle.std.specs.Prelude.{◌≡◌, ◌<◌, ◌∷◌, [], ℕ, length, map, IfSome};
-ghost use Rattle.std.specs.List.{AllByRecursion};
 ghost use Rattle.ax_model.specs.Canonical.{fixed_canon, members_canon, parts_canon, run_canon};
-ghost use Rattle.ax_model.specs.InBounds.{FixedInBounds, MembersInBounds, PartInBounds};
+ghost use Rattle.ax_model.specs.InBounds.{FixedInBounds, MembersInBounds, PartsInBounds};
 ghost use Rattle.ax_model.specs.Plain.{fixed_tree, member_tree, members_tree, part_tree};
 ghost use Rattle.ax_model.specs.Shape.{FixedShape, MembersShape, PartsShape, EachShape};
 ghost use Rattle.ax_model.specs.Tree.{member_and, no_members, value_count};
@@ -12,9 +11,9 @@ ghost use Rattle.ax_text.specs.ValueText.{closing, fixed_onto, member_onto, memb
 ghost use Rattle.ax_printed_lines.specs.Printed.{IsBuilt, member_canon};
 
 use crate::cursor::Cursor;
-use crate::pieces::{fx_built, number_built};
+use crate::pieces::{fx_built, last_fx_built, number_built};
 use ax_bits::Out;
-use ax_model::{Fixed, Member, Members, Part, Parts};
+use ax_model::{Fixed, LastPart, Member, Members, Part, Parts};
 
 /// The value of a fixed kind that comes is read, and its bits are appended.
 #[cycle(fixed_built)]
@@ -82,16 +81,23 @@ fn part_built(cursor: &mut Cursor<'_>, part: &Part, out: &mut Out<'_>) -> Option
 }
 
 /// The parts that are present, and the brace after them.
-pub fn parts_built(cursor: &mut Cursor<'_>, parts: &Parts, out: &mut Out<'_>) -> Option<()>
-    requires { AllByRecursion PartInBounds (map part_tree parts.now) }
-    ensures { IfSome result (λ done. IsBuilt (PartsShape (map part_tree parts.now)) (λ ls. parts_onto (map part_tree parts.now) ls (closing ∷ [])) (parts_canon (map part_tree parts.now)) cursor.old cursor.new out.old out.new) }
+pub fn parts_built(
+    cursor: &mut Cursor<'_>,
+    last: LastPart,
+    parts: &Parts,
+    out: &mut Out<'_>,
+) -> Option<()>
+    requires { PartsInBounds last (map part_tree parts.now) }
+    ensures { IfSome result (λ done. IsBuilt (PartsShape (map part_tree parts.now)) (λ ls. parts_onto (map part_tree parts.now) ls (closing ∷ [])) (parts_canon last (map part_tree parts.now)) cursor.old cursor.new out.old out.new) }
 {
-    for part in parts.as_slice() {
+    let mut left = parts.as_slice();
+    while let Some((part, later)) = left.split_first() {
         part_built(cursor, part, out)?;
         if cursor.closes() {
-            return fx_built(false, out);
+            return last_fx_built(last, later.len(), out);
         }
         fx_built(true, out)?;
+        left = later;
     }
     None
 }

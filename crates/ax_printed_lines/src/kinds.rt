@@ -1,5 +1,5 @@
 //! Values of kinds.
-ghost use Rattle.std.specs.Prelude.{◌≡◌, ◌<◌, ◌≤◌, ◌∷◌, [], length, MatchBool, IfSome};
+ghost use Rattle.std.specs.Prelude.{◌≡◌, ◌^◌, ◌<◌, ◌≤◌, ◌∷◌, [], length, MatchBool, IfSome};
 ghost use Rattle.ax_fspec.specs.Fields.{least_field};
 ghost use Rattle.ax_model.specs.Canonical.{canon, each_canon, marks_of, entries_canon};
 ghost use Rattle.ax_model.specs.InBounds.{InBounds, SlotsInBounds};
@@ -7,6 +7,7 @@ ghost use Rattle.ax_model.specs.Plain.{kind_tree, slot_tree, slots_tree};
 ghost use Rattle.ax_model.specs.Presence.{octets_needed, least_presence};
 ghost use Rattle.ax_model.specs.Shape.{Shape, EachShape, EntriesShape};
 ghost use Rattle.ax_model.specs.Tree.{compound, counted, slot_and, no_slots, slot_count, value_count, occurrences, marked};
+ghost use Rattle.ax_model.specs.Widths.{counter_width};
 ghost use Rattle.ax_text.specs.Slots.{SlotShape, slot_onto};
 ghost use Rattle.ax_text.specs.ValueText.{closing, kind_onto, each_onto, in_braces, entries_onto};
 ghost use Rattle.ax_printed_lines.specs.Printed.{IsBuilt, AreSlots, BuildsSlot, HasMarks, slot_canon};
@@ -17,9 +18,9 @@ use crate::fixed::{fixed_built, parts_built, run_built};
 use crate::pieces::{counted_content, marked_content};
 use ax_bits::Out;
 use ax_fspec::Presence;
-use ax_model::{Kind, Slot, Slots};
+use ax_model::{Counter, Kind, Slot, Slots};
 
-// The most octets of the values of a counted item or of a compound that are built here.
+// The most octets of the values of a counted or wide item or of a compound that are built here.
 const ROOM: usize = 1024;
 
 /// The value of a kind that comes is read, and its canonical bits are appended.
@@ -31,17 +32,20 @@ pub fn kind_built(cursor: &mut Cursor<'_>, kind: &Kind, out: &mut Out<'_>) -> Op
     match kind {
         Kind::Fixed(fixed) => fixed_built(cursor, fixed, out),
         Kind::Explicit => explicit_built(cursor, out),
-        Kind::Extended(parts) => {
+        Kind::Extended { last, parts } => {
             if !cursor.opens() {
                 return None;
             }
-            parts_built(cursor, parts, out)
+            parts_built(cursor, *last, parts, out)
         }
-        Kind::Counted(inner) => {
+        Kind::Counted {
+            counter: size,
+            inner,
+        } => {
             if !cursor.opens() {
                 return None;
             }
-            counted_built(cursor, inner, out)
+            counted_built(cursor, *size, inner, out)
         }
         Kind::ByFx(fixed) => {
             if !cursor.opens() {
@@ -58,27 +62,34 @@ pub fn kind_built(cursor: &mut Cursor<'_>, kind: &Kind, out: &mut Out<'_>) -> Op
     }
 }
 
-/// The values of a counted item, and the brace after them. They are built in a buffer of their own, since REP stands in front
-/// of them.
+/// The values of a counted or wide item, and the brace after them. They are built in a buffer of their own, since REP stands
+/// in front of them.
 #[cycle(kind_built)]
-fn counted_built(cursor: &mut Cursor<'_>, kind: &Kind, out: &mut Out<'_>) -> Option<()>
+fn counted_built(
+    cursor: &mut Cursor<'_>,
+    size: Counter,
+    kind: &Kind,
+    out: &mut Out<'_>,
+) -> Option<()>
     requires { InBounds (kind_tree kind.now) }
-    ensures { IfSome result (λ done. IsBuilt (λ vs. (value_count vs < 256) × EachShape (Shape (kind_tree kind.now)) vs) (λ vs. each_onto (kind_onto (kind_tree kind.now)) vs (closing ∷ [])) (λ vs. canon (counted (kind_tree kind.now)) (occurrences vs)) cursor.old cursor.new out.old out.new) }
+    ensures { IfSome result (λ done. IsBuilt (λ vs. (value_count vs < 2 ^ counter_width size) × EachShape (Shape (kind_tree kind.now)) vs) (λ vs. each_onto (kind_onto (kind_tree kind.now)) vs (closing ∷ [])) (λ vs. canon (counted size (kind_tree kind.now)) (occurrences vs)) cursor.old cursor.new out.old out.new) }
 {
     let mut own = [0u8; ROOM];
     let mut inner = Out::over(&mut own);
-    let count = each_built(cursor, kind, &mut inner)?;
-    counted_content(count, &inner, out)
+    let count = each_built(cursor, size, kind, &mut inner)?;
+    counted_content(size, count, &inner, out)
 }
 
-/// At most 255 values of a kind, and the brace after them. It answers how many they are.
+/// As many values of a kind as the counter can hold, or fewer, and the brace after them. It answers how many they are.
 #[cycle(kind_built)]
-fn each_built(cursor: &mut Cursor<'_>, kind: &Kind, out: &mut Out<'_>) -> Option<u8>
+fn each_built(cursor: &mut Cursor<'_>, size: Counter, kind: &Kind, out: &mut Out<'_>) -> Option<u32>
     requires { InBounds (kind_tree kind.now) }
-    ensures { IfSome result (λ count. IsBuilt (λ vs. (value_count vs ≡ count) × EachShape (Shape (kind_tree kind.now)) vs) (λ vs. each_onto (kind_onto (kind_tree kind.now)) vs (closing ∷ [])) (each_canon (canon (kind_tree kind.now))) cursor.old cursor.new out.old out.new) }
+    ensures few { IfSome result (λ count. count < 2 ^ counter_width size) }
+    ensures built { IfSome result (λ count. IsBuilt (λ vs. (value_count vs ≡ count) × EachShape (Shape (kind_tree kind.now)) vs) (λ vs. each_onto (kind_onto (kind_tree kind.now)) vs (closing ∷ [])) (each_canon (canon (kind_tree kind.now))) cursor.old cursor.new out.old out.new) }
 {
+    let most = size.greatest();
     let mut count = 0;
-    while count < 255 {
+    while count < most {
         if cursor.closes() {
             return Some(count);
         }

@@ -7,6 +7,7 @@ ghost use Rattle.ax_model.specs.Canonical.{number_canon};
 ghost use Rattle.ax_model.specs.InBounds.{IsWidth};
 ghost use Rattle.ax_model.specs.Shape.{NumberShape};
 ghost use Rattle.ax_model.specs.Sizes.{longest_body};
+ghost use Rattle.ax_model.specs.Widths.{counter_width, fx_width};
 ghost use Rattle.ax_reader.specs.Reading.{fx_bit};
 ghost use Rattle.ax_text.specs.ValueText.{number_onto};
 ghost use Rattle.ax_printed_lines.specs.Printed.{IsBuilt};
@@ -14,6 +15,7 @@ ghost use Rattle.ax_printed_lines.specs.Printed.{IsBuilt};
 use crate::cursor::Cursor;
 use ax_bits::Out;
 use ax_fspec::{Presence, write_presence};
+use ax_model::{Counter, LastPart};
 
 /// Whether the number has at most that many bits. One of 64 bits or fewer has at most 64.
 #[inline(always)]
@@ -51,6 +53,17 @@ pub fn fx_built(more: bool, out: &mut Out<'_>) -> Option<()>
     Some(())
 }
 
+/// The FX bit of the last part that is present, after which the kind has so many others. It is not set. Nothing is appended
+/// where the part has none.
+pub fn last_fx_built(last: LastPart, others: usize, out: &mut Out<'_>) -> Option<()>
+    ensures { IfSome result (λ done. Appends out.old out.new (word (fx_width last others) 0)) }
+{
+    if last.fx_width(others) == 0 {
+        return Some(());
+    }
+    fx_built(false, out)
+}
+
 /// The octets that were written to an output. None comes where bits are left over, or where they are more than a body may have.
 pub fn whole_octets<'b>(inner: &'b Out<'_>) -> Option<&'b [u8]>
     ensures bits { IfSome result (λ octets. bits octets.now ≡ written inner.now) }
@@ -67,15 +80,18 @@ pub fn whole_octets<'b>(inner: &'b Out<'_>) -> Option<&'b [u8]>
     Some(octets)
 }
 
-/// Appends a count, and then what was written to another output. None comes where that isn't whole octets or there is no room.
-pub fn counted_content(count: u8, inner: &Out<'_>, out: &mut Out<'_>) -> Option<()>
-    ensures { IfSome result (λ done. Appends out.old out.new (word 8 count ++ written inner.now)) }
+/// Appends a count, in the octets of its counter, and then what was written to another output. None comes where that isn't
+/// whole octets or there is no room.
+pub fn counted_content(size: Counter, count: u32, inner: &Out<'_>, out: &mut Out<'_>) -> Option<()>
+    requires { count < 2 ^ counter_width size }
+    ensures { IfSome result (λ done. Appends out.old out.new (word (counter_width size) count ++ written inner.now)) }
 {
     let octets = whole_octets(inner)?;
-    if out.room() < 8 + 8 * octets.len() as u32 {
+    let width = 8 * size.octets();
+    if out.room() < width + 8 * octets.len() as u32 {
         return None;
     }
-    out.push_octet(count);
+    out.push_bits(u128::from(count), width);
     out.push_octets(octets);
     Some(())
 }

@@ -1,5 +1,5 @@
 -- Units of a body that begin at an octet: fixed runs, parts and occurrences with their FX bit.
-use Rattle.std.proofs.Common.{◌≡◌, ℕ, zero, suc, ◌+◌, ◌-◌, ◌*◌, ◌/◌, ◌%◌, ◌^◌, ◌<◌, ◌≤◌, ◌==◌, List, [], ◌∷◌, ◌++◌, length, take, drop, get_or, refl, sym, ◌∙◌, ap, arith, subst, bit_and, length-append, length-drop, append_assoc, take-append-drop}
+use Rattle.std.proofs.Common.{◌≡◌, ℕ, zero, suc, ◌+◌, ◌-◌, ◌*◌, ◌/◌, ◌%◌, ◌^◌, ◌<◌, ◌≤◌, ◌==◌, ◌⊎◌, inl, inr, List, [], ◌∷◌, ◌++◌, length, take, drop, get_or, refl, sym, ◌∙◌, ap, arith, subst, bit_and, length-append, length-drop, append_assoc, take-append-drop}
 use Rattle.std.proofs.lemmas.List.{drop-drop, length-take-le, take_at, drop_at}
 use Rattle.std.proofs.lemmas.Nat.{and_mask}
 use Rattle.ax_bits.proofs.Pieces.{drop-bits}
@@ -8,14 +8,16 @@ use Rattle.ax_bits.proofs.Words.{bits-append, bits-AreBits, length-bits}
 use Rattle.ax_bits.specs.Bits.{bits, word, AreBits}
 use Rattle.ax_model.proofs.FixedKinds.{split_at, split_short, fixed_back, members_back, split_is, SplitIs}
 use Rattle.ax_model.proofs.Meets.{fixed_all, members_all, bits_of}
-use Rattle.ax_model.specs.Reader.{Read, failed, after, fixed_value, members_value, fixed_read, Split, split, cut, short, part_read, parts_read, one_read, run_read}
+use Rattle.ax_model.specs.Reader.{last_read, Read, failed, after, fixed_value, members_value, fixed_read, Split, split, cut, short, part_read, parts_read, one_read, run_read}
 use Rattle.ax_model.proofs.Spelled.{got_is}
 use Rattle.ax_model.specs.Tree.{FixedTree, MembersTree, ValueTree, ValuesTree, ListsTree, fixed, by_fx, extended, occurrences, part_values, value_and, no_values, list_and, no_lists}
-use Rattle.ax_model.specs.Widths.{width, members_width}
+use Rattle.ax_model.specs.Widths.{width, members_width, fx_width}
 use Rattle.ax_model.specs.declared.fault.BodyCause.TheVariants.{RunsOut, ExtensionPastEnd}
 use Rattle.ax_model.specs.declared.fault.BodyFault.{BodyFault}
 use Rattle.ax_reader.proofs.Continuing.{gets_after, fails_after}
 use Rattle.ax_reader.specs.Reading.{Gets, FailsAt, Continues, kind_read, fx_bit}
+use Rattle.ax_model.specs.declared.kind.LastPart.{LastPart}
+use Rattle.ax_model.specs.declared.kind.LastPart.TheVariants.{WithFx, WithoutFx}
 
 -- ---- what is read from an octet on
 
@@ -26,8 +28,8 @@ run_of f b = run_read (suc (length b)) f b
 unfoldable pub run_at : FixedTree → List ℕ → ℕ → Read ValuesTree
 run_at f body at = run_of f (bits (drop at body))
 
-unfoldable pub parts_at : List MembersTree → List ℕ → ℕ → Read ListsTree
-parts_at ps body at = parts_read ps (bits (drop at body))
+unfoldable pub parts_at : LastPart → List MembersTree → List ℕ → ℕ → Read ListsTree
+parts_at last ps body at = parts_read last ps (bits (drop at body))
 
 -- ---- octets of a body
 
@@ -214,33 +216,53 @@ run_goes_on f body at end w fx v u e one h = record {
 
 -- ---- parts
 
-pub parts_fail : (p : MembersTree) (ps : List MembersTree) (body : List ℕ) (at : ℕ) (fault : BodyFault) → 8 * (length body - at) ≤ members_width p → fault.cause ≡ RunsOut → fault.bit ≡ 8 * at
-    → FailsAt (parts_at (p ∷ ps) body at) at fault
+pub fx_or_none : (last : LastPart) (n : ℕ) → (fx_width last n ≡ 1) ⊎ (fx_width last n ≡ 0)
+fx_or_none last (suc n) = inl refl
+fx_or_none WithFx zero = inl refl
+fx_or_none WithoutFx zero = inr refl
+
+with_fx_read : (last : LastPart) (p : MembersTree) (ps : List MembersTree) (b : List ℕ) → fx_width last (length ps) ≡ 1 → parts_read last (p ∷ ps) b ≡ part_read p ps (split (members_width p) b) (parts_read last ps)
+with_fx_read last p (q ∷ ps) b e = refl
+with_fx_read WithFx p [] b e = refl
+with_fx_read WithoutFx p [] b e = absurd (omega arith)
+
+without_fx_read : (last : LastPart) (p : MembersTree) (ps : List MembersTree) (b : List ℕ) → fx_width last (length ps) ≡ 0 → parts_read last (p ∷ ps) b ≡ last_read p (split (members_width p) b)
+without_fx_read last p (q ∷ ps) b e = absurd (omega arith)
+without_fx_read WithFx p [] b e = absurd (omega arith)
+without_fx_read WithoutFx p [] b e = refl
+
+pub parts_fail : (last : LastPart) (p : MembersTree) (ps : List MembersTree) (body : List ℕ) (at : ℕ) (fault : BodyFault) → 8 * (length body - at) < members_width p + fx_width last (length ps) → fault.cause ≡ RunsOut → fault.bit ≡ 8 * at
+    → FailsAt (parts_at last (p ∷ ps) body at) at fault
 unfolding parts_at
-parts_fail p ps body at fault less c b = record {
+parts_fail last p ps body at fault less c b = record {
   place = 0;
-  failed = too_few (split (members_width p) (bits (drop at body))) (split_is (bits (drop at body)) (members_width p)) ∙ ap (λ c. failed 0 c) (sym c);
+  failed = by (fx_or_none last (length ps)) ∙ ap (λ c. failed 0 c) (sym c);
   bit = omega arith;
 }
   where
-    few : length (bits (drop at body)) ≤ members_width p
+    few : length (bits (drop at body)) < members_width p + fx_width last (length ps)
     few = omega (arith, length-rest body at)
 
-    too_few : (s : Split) → SplitIs (members_width p) (bits (drop at body)) s → part_read p ps s (parts_read ps) ≡ failed 0 RunsOut
-    too_few short h = refl
-    too_few (cut x []) h = refl
-    too_few (cut x (fx ∷ y)) (e, l) = absurd (omega (arith, few, ap length e, length-append x (fx ∷ y)))
+    too_few : fx_width last (length ps) ≡ 1 → (s : Split) → SplitIs (members_width p) (bits (drop at body)) s → part_read p ps s (parts_read last ps) ≡ failed 0 RunsOut
+    too_few e short h = refl
+    too_few e (cut x []) h = refl
+    too_few e (cut x (fx ∷ y)) (f, l) = absurd (omega (arith, few, e, ap length f, length-append x (fx ∷ y)))
 
-module _ (p : MembersTree) (ps : List MembersTree) (body : List ℕ) (at end w fx : ℕ) (u : IsUnit body at end w fx) (e : members_width p ≡ w) where
-  part_first : (bit : ℕ) → fx ≡ bit → parts_at (p ∷ ps) body at ≡ part_read p ps (cut (front_of body at end w) (bit ∷ bits (drop end body))) (parts_read ps)
+    by : (fx_width last (length ps) ≡ 1) ⊎ (fx_width last (length ps) ≡ 0) → parts_read last (p ∷ ps) (bits (drop at body)) ≡ failed 0 RunsOut
+    by (inl e) = with_fx_read last p ps (bits (drop at body)) e ∙ too_few e (split (members_width p) (bits (drop at body))) (split_is (bits (drop at body)) (members_width p))
+    by (inr e) = without_fx_read last p ps (bits (drop at body)) e ∙ ap (last_read p) (split_short (bits (drop at body)) (members_width p) (omega (arith, few, e)))
+
+-- a part with FX
+module _ (last : LastPart) (p : MembersTree) (ps : List MembersTree) (body : List ℕ) (at end w fx : ℕ) (has : fx_width last (length ps) ≡ 1) (u : IsUnit body at end w fx) (e : members_width p ≡ w) where
+  part_first : (bit : ℕ) → fx ≡ bit → parts_at last (p ∷ ps) body at ≡ part_read p ps (cut (front_of body at end w) (bit ∷ bits (drop end body))) (parts_read last ps)
   unfolding parts_at
-  part_first bit is = ap (λ k. part_read p ps (split k (bits (drop at body))) (parts_read ps)) e ∙ ap (λ s. part_read p ps s (parts_read ps)) (unit_split body at end w fx u)
-      ∙ ap (λ fx. part_read p ps (cut (front_of body at end w) (fx ∷ bits (drop end body))) (parts_read ps)) is
+  part_first bit is = with_fx_read last p ps (bits (drop at body)) has ∙ ap (λ k. part_read p ps (split k (bits (drop at body))) (parts_read last ps)) e ∙ ap (λ s. part_read p ps s (parts_read last ps)) (unit_split body at end w fx u)
+      ∙ ap (λ fx. part_read p ps (cut (front_of body at end w) (fx ∷ bits (drop end body))) (parts_read last ps)) is
 
   part_bits : members_width p + 1 ≡ 8 * (end - at)
   part_bits = omega (arith, u.width, e)
 
-  pub parts_end : (vs : ValuesTree) → fx ≡ 0 → vs ≡ members_value p (drop (8 * at) (bits body)) → Gets (parts_at (p ∷ ps) body at) body at end (list_and vs no_lists)
+  pub parts_end : (vs : ValuesTree) → fx ≡ 0 → vs ≡ members_value p (drop (8 * at) (bits body)) → Gets (parts_at last (p ∷ ps) body at) body at end (list_and vs no_lists)
   unfolding parts_at
   parts_end vs z h = record {
     forwards = omega (arith, u.forwards);
@@ -248,12 +270,12 @@ module _ (p : MembersTree) (ps : List MembersTree) (body : List ℕ) (at end w f
     got = part_first 0 z ∙ got_is (bits (drop end body)) (ap (λ v. list_and v no_lists) (members_front body at end w fx u p e ∙ sym h)) part_bits;
   }
 
-pub parts_go_on : (p q : MembersTree) (ps : List MembersTree) (body : List ℕ) (at end w fx : ℕ) (vs : ValuesTree) → IsUnit body at end w fx → members_width p ≡ w → fx ≡ 1 → vs ≡ members_value p (drop (8 * at) (bits body))
-    → Continues (parts_at (p ∷ q ∷ ps) body at) at end (λ ls. list_and vs ls) (parts_at (q ∷ ps) body end)
+pub parts_go_on : (last : LastPart) (p q : MembersTree) (ps : List MembersTree) (body : List ℕ) (at end w fx : ℕ) (vs : ValuesTree) → IsUnit body at end w fx → members_width p ≡ w → fx ≡ 1 → vs ≡ members_value p (drop (8 * at) (bits body))
+    → Continues (parts_at last (p ∷ q ∷ ps) body at) at end (λ ls. list_and vs ls) (parts_at last (q ∷ ps) body end)
 unfolding parts_at
-parts_go_on p q ps body at end w fx vs u e one h = record {
+parts_go_on last p q ps body at end w fx vs u e one h = record {
   forwards = omega (arith, u.forwards);
-  same = part_first p (q ∷ ps) body at end w fx u e 1 one ∙ (λ i. after (bits_are i) (λ ls. list_and (value i) ls) (parts_at (q ∷ ps) body end));
+  same = part_first last p (q ∷ ps) body at end w fx refl u e 1 one ∙ (λ i. after (bits_are i) (λ ls. list_and (value i) ls) (parts_at last (q ∷ ps) body end));
 }
   where
     value : members_value p (front_of body at end w) ≡ vs
@@ -262,14 +284,30 @@ parts_go_on p q ps body at end w fx vs u e one h = record {
     bits_are : members_width p + 1 ≡ 8 * (end - at)
     bits_are = omega (arith, u.width, e)
 
-pub parts_past_end : (p : MembersTree) (body : List ℕ) (at end w fx : ℕ) (fault : BodyFault) → IsUnit body at end w fx → members_width p ≡ w → fx ≡ 1 → fault.cause ≡ ExtensionPastEnd → fault.bit + 1 ≡ 8 * end
-    → FailsAt (parts_at (p ∷ []) body at) at fault
+pub parts_past_end : (last : LastPart) (p : MembersTree) (body : List ℕ) (at end w fx : ℕ) (fault : BodyFault) → fx_width last 0 ≡ 1 → IsUnit body at end w fx → members_width p ≡ w → fx ≡ 1 → fault.cause ≡ ExtensionPastEnd → fault.bit + 1 ≡ 8 * end
+    → FailsAt (parts_at last (p ∷ []) body at) at fault
 unfolding parts_at
-parts_past_end p body at end w fx fault u e one c b = record {
+parts_past_end last p body at end w fx fault has u e one c b = record {
   place = members_width p;
-  failed = part_first p [] body at end w fx u e 1 one ∙ ap (λ c. failed (members_width p) c) (sym c);
+  failed = part_first last p [] body at end w fx has u e 1 one ∙ ap (λ c. failed (members_width p) c) (sym c);
   bit = omega (arith, u.width, u.forwards, e);
 }
+
+-- a last part without FX
+pub parts_end_bare : (last : LastPart) (p : MembersTree) (ps : List MembersTree) (body : List ℕ) (at end : ℕ) (vs : ValuesTree) → fx_width last (length ps) ≡ 0 → at ≤ end → end ≤ length body → members_width p ≡ 8 * (end - at)
+    → vs ≡ members_value p (drop (8 * at) (bits body)) → Gets (parts_at last (p ∷ ps) body at) body at end (list_and vs no_lists)
+unfolding parts_at
+parts_end_bare last p ps body at end vs none le within w h =
+    let x = bits (window body at end) in
+    let y = bits (drop end body) in
+    let l : length x ≡ members_width p = length-window body at end le within ∙ sym w in
+    let split_up : bits (drop at body) ≡ x ++ y = body_parts body at end le in
+    let back : members_value p (x ++ y) ≡ members_value p x = members_back p (members_value p x) x y (members_all p x (bits-AreBits (window body at end)) l) in
+    let value : members_value p x ≡ vs = sym back ∙ ap (members_value p) (sym split_up ∙ sym (drop-bits at body)) ∙ sym h in record {
+      forwards = le;
+      within = within;
+      got = without_fx_read last p ps (bits (drop at body)) none ∙ ap (λ b. last_read p (split (members_width p) b)) split_up ∙ ap (last_read p) (split_at x y (members_width p) l) ∙ got_is y (ap (λ v. list_and v no_lists) value) w;
+    }
 
 -- ---- the kinds of both
 
@@ -283,12 +321,12 @@ by_fx_gets f body at end vs h = gets_after (kind_read (by_fx f) body at) (run_at
 pub by_fx_fails : (f : FixedTree) (body : List ℕ) (at : ℕ) (fault : BodyFault) → FailsAt (run_at f body at) at fault → FailsAt (kind_read (by_fx f) body at) at fault
 by_fx_fails f body at fault h = fails_after (kind_read (by_fx f) body at) (run_at f body at) at at (λ vs. occurrences vs) fault (by_fx_same f body at) h
 
-extended_same : (ps : List MembersTree) (body : List ℕ) (at : ℕ) → Continues (kind_read (extended ps) body at) at at (λ ls. part_values ls) (parts_at ps body at)
+extended_same : (last : LastPart) (ps : List MembersTree) (body : List ℕ) (at : ℕ) → Continues (kind_read (extended last ps) body at) at at (λ ls. part_values ls) (parts_at last ps body at)
 unfolding kind_read parts_at
-extended_same ps body at = record { forwards = omega arith; same = ap (λ n. after n (λ ls. part_values ls) (parts_read ps (bits (drop at body)))) (let e : 0 ≡ 8 * (at - at) = omega arith in e) }
+extended_same last ps body at = record { forwards = omega arith; same = ap (λ n. after n (λ ls. part_values ls) (parts_read last ps (bits (drop at body)))) (let e : 0 ≡ 8 * (at - at) = omega arith in e) }
 
-pub extended_gets : (ps : List MembersTree) (body : List ℕ) (at end : ℕ) (ls : ListsTree) → Gets (parts_at ps body at) body at end ls → Gets (kind_read (extended ps) body at) body at end (part_values ls)
-extended_gets ps body at end ls h = gets_after (kind_read (extended ps) body at) (parts_at ps body at) body at at end (λ ls. part_values ls) ls (extended_same ps body at) h
+pub extended_gets : (last : LastPart) (ps : List MembersTree) (body : List ℕ) (at end : ℕ) (ls : ListsTree) → Gets (parts_at last ps body at) body at end ls → Gets (kind_read (extended last ps) body at) body at end (part_values ls)
+extended_gets last ps body at end ls h = gets_after (kind_read (extended last ps) body at) (parts_at last ps body at) body at at end (λ ls. part_values ls) ls (extended_same last ps body at) h
 
-pub extended_fails : (ps : List MembersTree) (body : List ℕ) (at : ℕ) (fault : BodyFault) → FailsAt (parts_at ps body at) at fault → FailsAt (kind_read (extended ps) body at) at fault
-extended_fails ps body at fault h = fails_after (kind_read (extended ps) body at) (parts_at ps body at) at at (λ ls. part_values ls) fault (extended_same ps body at) h
+pub extended_fails : (last : LastPart) (ps : List MembersTree) (body : List ℕ) (at : ℕ) (fault : BodyFault) → FailsAt (parts_at last ps body at) at fault → FailsAt (kind_read (extended last ps) body at) at fault
+extended_fails last ps body at fault h = fails_after (kind_read (extended last ps) body at) (parts_at last ps body at) at at (λ ls. part_values ls) fault (extended_same last ps body at) h

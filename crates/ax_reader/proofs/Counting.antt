@@ -1,7 +1,7 @@
 -- Counted and explicit items, and the octet in front of them.
 use Rattle.std.proofs.Common.{◌≡◌, ℕ, zero, suc, ◌+◌, ◌-◌, ◌*◌, ◌<◌, ◌≤◌, List, [], ◌∷◌, ◌++◌, length, take, drop, get_or, refl, sym, ◌∙◌, ap, arith, length-append, add-one, drop-cons, length-drop}
 use Rattle.std.proofs.lemmas.List.{drop-drop, length-take-le, take-append-drop, get_or_default}
-use Rattle.ax_bits.proofs.Pieces.{number-word, AreOctets-items}
+use Rattle.ax_bits.proofs.Pieces.{number-word, word-joined, AreOctets-items}
 use Rattle.ax_bits.proofs.Words.{length-word, length-bits, bits-append}
 use Rattle.ax_bits.specs.Bits.{bits, word, AreOctets}
 use Rattle.ax_model.proofs.FixedKinds.{split_at, split_short}
@@ -11,26 +11,61 @@ use Rattle.ax_model.specs.Tree.{KindTree, ValueTree, counted, explicit, content_
 use Rattle.ax_model.specs.declared.fault.BodyCause.TheVariants.{RunsOut, BadExplicitLength}
 use Rattle.ax_model.specs.declared.fault.BodyFault.{BodyFault}
 use Rattle.ax_reader.proofs.AtOctets.{length-rest}
-use Rattle.ax_reader.specs.Reading.{Gets, FailsAt, kind_read}
+use Rattle.ax_reader.specs.Reading.{Gets, FailsAt, kind_read, IsCount}
+use Rattle.ax_model.specs.declared.kind.Counter.{Counter}
+use Rattle.ax_model.specs.declared.kind.Counter.TheVariants.{One, Two}
+use Rattle.ax_model.specs.Widths.{counter_octets, counter_width}
+use Rattle.ax_model.proofs.WholeOctets.{counter_in_octets}
 
 -- ---- the octet in front
 
+octet_first : (body : List ℕ) (at n : ℕ) → at < length body → n ≡ get_or body at 0 → drop at body ≡ n ∷ drop (at + 1) body
+octet_first body at n lt e =
+    let is : n ≡ get_or body at n = e ∙ get_or_default body at 0 n lt in drop-cons body at n lt ∙ (λ i. sym is i ∷ drop (sym (add-one at) i) body)
+
 pub front_octet : (body : List ℕ) (at n : ℕ) → at < length body → n ≡ get_or body at 0 → split 8 (bits (drop at body)) ≡ cut (word 8 n) (bits (drop (at + 1) body))
 front_octet body at n lt e =
-    let is : n ≡ get_or body at n = e ∙ get_or_default body at 0 n lt in
-    let shape : drop at body ≡ n ∷ drop (at + 1) body = drop-cons body at n lt ∙ (λ i. sym is i ∷ drop (sym (add-one at) i) body) in
-    ap (λ b. split 8 (bits b)) shape ∙ split_at (word 8 n) (bits (drop (at + 1) body)) 8 (length-word 8 n)
+    ap (λ b. split 8 (bits b)) (octet_first body at n lt e) ∙ split_at (word 8 n) (bits (drop (at + 1) body)) 8 (length-word 8 n)
 
 none_left : (body : List ℕ) (at : ℕ) → length body ≤ at → split 8 (bits (drop at body)) ≡ short
 none_left body at le = split_short (bits (drop at body)) 8 (omega (arith, length-rest body at))
 
+-- ---- counters
+
+pub counter_some : (size : Counter) → 0 < counter_octets size
+counter_some One = omega arith
+counter_some Two = omega arith
+
+pub one_is_count : (body : List ℕ) (at n : ℕ) → at < length body → n ≡ get_or body at 0 → n < 256 → IsCount One body at n
+one_is_count body at n lt e less = record { within = omega arith; below = less; spells = ap (λ xs. bits (take 1 xs)) (sym (octet_first body at n lt e)) }
+
+-- the first octet is the most significant
+pub two_is_count : (body : List ℕ) (at a b n : ℕ) → at + 1 < length body → a ≡ get_or body at 0 → b ≡ get_or body (at + 1) 0 → a < 256 → b < 256 → n ≡ a * 256 + b → IsCount Two body at n
+two_is_count body at a b n lt e f less small is = record {
+  within = omega arith;
+  below = (let le : n < 65536 = omega arith in le);
+  spells = ap (word 16) is ∙ word-joined 8 8 a b small ∙ ap (λ xs. bits (take 2 xs)) (sym shape);
+}
+  where
+    shape : drop at body ≡ a ∷ b ∷ drop (at + 1 + 1) body
+    shape = octet_first body at a (omega arith) e ∙ ap (λ xs. a ∷ xs) (octet_first body (at + 1) b lt f)
+
+pub front_count : (size : Counter) (body : List ℕ) (at n : ℕ) → IsCount size body at n → split (counter_width size) (bits (drop at body)) ≡ cut (word (counter_width size) n) (bits (drop (at + counter_octets size) body))
+front_count size body at n h =
+    let m = counter_octets size in
+    let w = word (counter_width size) n in
+    let rest : drop m (drop at body) ≡ drop (at + m) body = drop-drop m at body in
+    let shape : bits (drop at body) ≡ w ++ bits (drop (at + m) body) =
+    ap bits (sym (take-append-drop m (drop at body))) ∙ bits-append (take m (drop at body)) (drop m (drop at body)) ∙ (λ i. sym h.spells i ++ bits (rest i)) in
+    ap (split (counter_width size)) shape ∙ split_at w (bits (drop (at + m) body)) (counter_width size) (length-word (counter_width size) n)
+
 -- ---- counted
 
-pub counted_none : (k : KindTree) (body : List ℕ) (at : ℕ) (fault : BodyFault) → length body ≤ at → fault.cause ≡ RunsOut → fault.bit ≡ 8 * at → FailsAt (kind_read (counted k) body at) at fault
+pub counted_none : (size : Counter) (k : KindTree) (body : List ℕ) (at : ℕ) (fault : BodyFault) → length body < at + counter_octets size → fault.cause ≡ RunsOut → fault.bit ≡ 8 * at → FailsAt (kind_read (counted size k) body at) at fault
 unfolding kind_read
-counted_none k body at fault le c b = record {
+counted_none size k body at fault lt c b = record {
   place = 0;
-  failed = ap (count_read (read k)) (none_left body at le) ∙ ap (λ c. failed 0 c) (sym c);
+  failed = ap (count_read (counter_width size) (read k)) (split_short (bits (drop at body)) (counter_width size) (omega (arith, length-rest body at, counter_in_octets size, counter_some size))) ∙ ap (λ c. failed 0 c) (sym c);
   bit = omega arith;
 }
 

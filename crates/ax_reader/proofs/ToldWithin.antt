@@ -9,14 +9,17 @@ use Rattle.ax_model.specs.Telling.{fault_bits}
 use Rattle.ax_model.specs.Tree.{MembersTree, FixedTree, KindTree, fixed, extended, counted, by_fx, explicit, compound, slot_count, SlotsTree, no_slots, slot_and, spare_slot, subitem, defined_slots}
 use Rattle.ax_model.specs.declared.fault.BodyCause.{BodyCause}
 use Rattle.ax_model.specs.declared.fault.BodyCause.TheVariants.{RunsOut}
+use Rattle.ax_model.specs.Widths.{counter_width}
+use Rattle.ax_bits.proofs.Words.{length-word}
+use Rattle.ax_model.specs.declared.kind.LastPart.{LastPart}
 
-parts_told : (ps : List MembersTree) (b : List ℕ) (p : ℕ) (c : BodyCause) → c ≢ RunsOut → PartsFail ps b p c → p + fault_bits c ≤ length b
-parts_told [] b p c not h = absurd h
-parts_told (ms ∷ ps) b p c not (inl h) = absurd (not h.2)
-parts_told (ms ∷ ps) b p c not (inr (x, y, l, e, inl (f, g, h))) =
+parts_told : (last : LastPart) (ps : List MembersTree) (b : List ℕ) (p : ℕ) (c : BodyCause) → c ≢ RunsOut → PartsFail last ps b p c → p + fault_bits c ≤ length b
+parts_told last [] b p c not h = absurd h
+parts_told last (ms ∷ ps) b p c not (inl h) = absurd (not h.2)
+parts_told last (ms ∷ ps) b p c not (inr (x, y, l, e, inl (f, o, g, h))) =
     let one : fault_bits c ≡ 1 = ap fault_bits h in omega (arith, ap length e, length-append x (1 ∷ y))
-parts_told (ms ∷ ps) b p c not (inr (x, y, l, e, inr (q, f, h))) =
-    let le : q + fault_bits c ≤ length y = parts_told ps y q c not h in omega (arith, ap length e, length-append x (1 ∷ y))
+parts_told last (ms ∷ ps) b p c not (inr (x, y, l, e, inr (q, f, h))) =
+    let le : q + fault_bits c ≤ length y = parts_told last ps y q c not h in omega (arith, ap length e, length-append x (1 ∷ y))
 
 run_runs_out : (n : ℕ) (f : FixedTree) (b : List ℕ) (p : ℕ) (c : BodyCause) → RunFails n f b p c → c ≡ RunsOut
 run_runs_out zero f b p c h = h.2
@@ -43,10 +46,10 @@ later_told b x y p q n e f le = omega (arith, ap length e, length-append x y)
 mutual
   pub fails_told : (k : KindTree) (b : List ℕ) (p : ℕ) (c : BodyCause) → c ≢ RunsOut → Fails k b p c → p + fault_bits c ≤ length b
   fails_told (fixed f) b p c not h = absurd (not h.2)
-  fails_told (extended ps) b p c not h = parts_told ps b p c not h
-  fails_told (counted k) b p c not (inl h) = absurd (not h.2)
-  fails_told (counted k) b p c not (inr (r, le, vs, lt, x, y, e, h, q, f, g)) =
-      let in_rest : q + fault_bits c ≤ length y = fails_told k y q c not g in omega (arith, ap length e, length-append (word 8 r) (x ++ y), length-append x y)
+  fails_told (extended last ps) b p c not h = parts_told last ps b p c not h
+  fails_told (counted size k) b p c not (inl h) = absurd (not h.2)
+  fails_told (counted size k) b p c not (inr (r, le, vs, lt, x, y, e, h, q, f, g)) =
+      let in_rest : q + fault_bits c ≤ length y = fails_told k y q c not g in omega (arith, ap length e, length-append (word (counter_width size) r) (x ++ y), length-word (counter_width size) r, length-append x y)
   fails_told (by_fx f) b p c not (n, h) = absurd (not (run_runs_out n f b p c h))
   fails_told explicit b p c not (inl h) = absurd (not h.2)
   fails_told explicit b p c not (inr (inl (y, e, f, g))) = let eight : fault_bits c ≡ 8 = ap fault_bits g in omega (arith, ap length e)

@@ -1,6 +1,6 @@
 -- What is read from an octet of a body on.
-use Rattle.std.specs.Prelude.{◌≡◌, ℕ, ◌+◌, ◌-◌, ◌*◌, ◌≤◌, List, Bool, true, false, length, drop, map, take}
-use Rattle.ax_bits.specs.Bits.{bits}
+use Rattle.std.specs.Prelude.{◌≡◌, ℕ, ◌+◌, ◌-◌, ◌*◌, ◌≤◌, List, Bool, true, false, length, drop, map, take, ◌<◌, ◌^◌}
+use Rattle.ax_bits.specs.Bits.{bits, word}
 use Rattle.ax_model.specs.Reader.{Read, got, failed, after, read, entries_read}
 use Rattle.ax_model.specs.Tree.{KindTree, ValueTree, EntriesTree, SlotTree, SlotsTree, spare_slot, subitem, slots_of, defined_slots}
 use Rattle.ax_fspec.specs.Fields.{mask_slots}
@@ -14,6 +14,8 @@ use Rattle.ax_model.specs.declared.spec.Spec.{Spec}
 use Rattle.ax_model.specs.declared.fault.BodyFault.{BodyFault}
 use Rattle.ax_model.specs.Failing.{IsFault}
 use Rattle.ax_model.specs.Spelling.{IsSpelling}
+use Rattle.ax_model.specs.declared.kind.Counter.{Counter}
+use Rattle.ax_model.specs.Widths.{counter_octets, counter_width}
 
 -- a was read, from octet `at` of the body up to octet `end`
 pub record Gets {A : Type 0} (found : Read A) (body : List ℕ) (at end : ℕ) (a : A) : Type 0 where
@@ -85,3 +87,11 @@ pub record IsFaultAt (k : KindTree) (body : List ℕ) (at : ℕ) (fault : BodyFa
   pub place : ℕ
   pub fails : IsFault k (bits (drop at body)) place fault.cause
   pub bit : fault.bit ≡ 8 * at + place
+
+-- ---- counters
+
+-- the counter at octet `at` is there whole, and spells n
+pub record IsCount (size : Counter) (body : List ℕ) (at n : ℕ) : Type 0 where
+  pub within : at + counter_octets size ≤ length body
+  pub below : n < 2 ^ counter_width size
+  pub spells : word (counter_width size) n ≡ bits (take (counter_octets size) (drop at body))

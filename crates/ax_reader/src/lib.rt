@@ -5,4 +5,4 @@
 pub mod laws;
 mod units;
 
-pub use units::{ends_with_fx, has_fx, run_end};
+pub use units::{count_at, ends_with_fx, has_fx, run_end};

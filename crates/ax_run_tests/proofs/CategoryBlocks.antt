@@ -32,6 +32,8 @@ pub category_written : (mark : List ℕ) (raw : RawTree) (number : ℕ) (r : Sin
 category_written mark raw number r u few some other w = record {
   means = record { lines = category_line raw.category; is = record { block = opaque_block raw.category raw.body; spells = opaque_spells raw few some; answer = answers mark raw.category other }; wrote = w.whole };
   later = w.later;
+  once = w.once;
+  quiet = w.quiet;
 }
 
 pub category_cut : (mark : List ℕ) (raw : RawTree) (number : ℕ) (r : SinkChange) (e : SinkFailed) → length raw.body ≤ 65532 → 1 ≤ length raw.body → (raw.category ≡ 255 → ⊥) → Wrote r (Err e) (category_line raw.category)
@@ -39,6 +41,8 @@ pub category_cut : (mark : List ℕ) (raw : RawTree) (number : ℕ) (r : SinkCha
 category_cut mark raw number r e few some other w = record {
   means = record { lines = category_line raw.category; octets = mark; is = record { block = opaque_block raw.category raw.body; spells = opaque_spells raw few some; answer = answers mark raw.category other }; part = w.part };
   later = w.later;
+  once = w.once;
+  quiet = tt;
 }
 
 pub category_too_long : (mark : List ℕ) (raw : RawTree) (number : ℕ) (held : Option (List ℕ)) (faults : ℕ) → length raw.body ≤ 65532 → 1 ≤ length raw.body → raw.category ≡ 255
@@ -46,6 +50,8 @@ pub category_too_long : (mark : List ℕ) (raw : RawTree) (number : ℕ) (held :
 category_too_long mark raw number held faults few some is = record {
   means = record { block = opaque_block raw.category raw.body; spells = opaque_spells raw few some; answer = ap (answer_to mark) is; nothing = refl };
   later = omega arith;
+  once = omega arith;
+  quiet = refl;
 }
 
 pub ruleset category_takes = (category_written, category_cut, category_too_long)

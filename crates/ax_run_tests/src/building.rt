@@ -288,6 +288,18 @@ fn blocks_and_lines_that_are_too_long(rt: HostRuntime) {
     }
 }
 
+// The most octets of a line, its line feed aside.
+const LONGEST_LINE: u32 = 16_777_216;
+
+#[test]
+fn a_line_of_the_most_octets_is_built(rt: HostRuntime) {
+    let front = b"block 048 { record { } }";
+    let blanks = LONGEST_LINE - front.len() as u32;
+    let input = repeated(&rt, rt.alloc(), front, blanks, b" ", b"\n");
+    let want = (0, "30 00 04 00", "", 0);
+    builds(&rt, rt.alloc(), "build 048", &input, Outside::Sound, want);
+}
+
 const THREE_LINES: &str = "opaque 062 \"80ff\"\n\nopaque 063 \"00\"\n";
 
 // What is written where so many octets of these lines came, one a call, and the next read failed: the blocks of the lines

@@ -1,7 +1,7 @@
 //! `check`, refused files and refused words. None of these reads the input.
 
 use crate::world::{Left, Outside, bytes, leaves, leaves_octets};
-use ax_samples::{CAT019_P1, FILE_E};
+use ax_samples::{CAT019_P1, FILE_E, FILE_W};
 use std::alloc::Global;
 use std::process::Abort;
 
@@ -10,6 +10,8 @@ const INPUT: &str = "22 00 0A E0 19 0C 01 00 00 80";
 const LINE_OF_E: &str = "accepted 034 \"034-E\" items 3 slots 3\n";
 
 const LINE_OF_019: &str = "accepted 019 \"019-P1\" items 7 slots 14\n";
+
+const LINE_OF_W: &str = "accepted 206 \"W\" items 2 slots 2\n";
 
 const FLAWS_OF_F: &str =
     "flaw file 0 NotOctets 034/010\nflaw file 0 RepeatedInUap 034/uap/010\nrefused file 0 Flawed 2\n";
@@ -81,11 +83,12 @@ fn writes(rt: &impl Abort, alloc: Global, words: &str, outside: Outside, line: &
 }
 
 // The words, and the line and the text that are written.
-static ACCEPTED: [(&str, &str, &str); 4] = [
+static ACCEPTED: [(&str, &str, &str); 5] = [
     ("check E", LINE_OF_E, FILE_E),
     ("check commented", LINE_OF_E, FILE_E),
     ("check largest", LINE_OF_E, FILE_E),
     ("check 019", LINE_OF_019, CAT019_P1),
+    ("check W", LINE_OF_W, FILE_W),
 ];
 
 #[test]

@@ -20,6 +20,8 @@ mod each_call;
 #[cfg(test)]
 mod filtering;
 #[cfg(test)]
+mod kinds;
+#[cfg(test)]
 mod loading;
 #[cfg(test)]
 mod migrating;

@@ -2,7 +2,7 @@
 
 use crate::checks::same_octets;
 use crate::specs::accepted;
-use ax_samples::{CAT034_P1, CAT048_P1, FILE_K, FILE_N, FILE_Z};
+use ax_samples::{CAT034_P1, CAT048_P1, FILE_K, FILE_N, FILE_W, FILE_Z};
 use ax_trial::trial_text;
 use std::alloc::Global;
 use std::process::Abort;
@@ -30,8 +30,24 @@ fn has_line(rt: &impl Abort, alloc: Global, text: &str, (seed, count): (u64, u32
     same_octets(rt, &found, line.as_bytes(), line);
 }
 
+// Of three repetitions in one another the innermost has no occurrence.
+const THREE_DEEP: &str =
+    r#"category 207 edition "D" items { item 010 "" wide { counted { wide { element 8 raw } } } item 020 "" wide { closed { part { A element 7 raw } part { B element 8 raw } } } item 030 "" element 8 raw } uap { 010 020 030 }"#;
+
 // The lines here were made by a second generator, written apart from this one after the rules alone.
-const LINES: [(&str, u64, u32, &str); 7] = [
+const LINES: [(&str, u64, u32, &str); 9] = [
+    (
+        FILE_W,
+        3,
+        20,
+        "blocks 20 records 45 octets 212 canonical 212 sum 16746\n",
+    ),
+    (
+        THREE_DEEP,
+        5,
+        20,
+        "blocks 20 records 50 octets 355 canonical 355 sum 18023\n",
+    ),
     (
         FILE_Z,
         0,

@@ -4,7 +4,7 @@ use ax_app::run;
 use ax_outside::{MemLibrary, MemSink, MemSource, fill};
 use ax_samples::{
     CAT019_P1, CAT034_P1, CAT048_P1, CAT048_P2, FILE_A, FILE_E, FILE_F, FILE_G1, FILE_G2, FILE_H1,
-    FILE_H2, FILE_H3, FILE_N, FILE_S, FILE_Z, NESTED_TOO_DEEP, octets,
+    FILE_H2, FILE_H3, FILE_N, FILE_S, FILE_W, FILE_Z, NESTED_TOO_DEEP, octets,
 };
 use std::alloc::Global;
 use std::process::Abort;
@@ -16,6 +16,17 @@ const FILE_V: &str =
 // File H1 with another scale in its subitem A.
 const METRES: &str =
     r#"category 202 edition "H1" items { item 010 "" compound { A element 8 quantity unsigned 1 2 "m" B element 16 raw } } uap { 010 }"#;
+
+// Wide and closed items within others.
+const NESTED_KINDS: &str =
+    r#"category 207 edition "X" items { item 010 "" wide { compound { A element 8 raw - - - - - - B element 8 raw } } item 020 "" closed { part { B element 8 raw } } item 030 "" wide { closed { part { A element 7 raw } part { B element 8 raw } } } item 040 "" wide { wide { element 8 raw } } item 050 "" counted { element 8 raw } item 060 "" wide { counted { wide { element 8 raw } } } } uap { 010 020 030 040 050 060 }"#;
+
+// File W with a counter of one octet, and FX in the last part.
+const COUNTED_AND_EXTENDED: &str =
+    r#"category 206 edition "W" items { item 010 "" counted { element 8 raw } item 020 "" extended { part { A element 7 raw } part { B element 7 raw } } } uap { 010 020 }"#;
+
+const EMPTY_LAST_PART: &str =
+    r#"category 206 edition "W" items { item 010 "" wide { element 8 raw } item 020 "" closed { part { } } } uap { 010 020 }"#;
 
 const CUT_SHORT: &str =
     r#"category 034 edition "X" items { item 000 "T" element 8 raw } uap { 000"#;
@@ -186,7 +197,7 @@ fn put_padded(
     put(rt, alloc, files, name, octets);
 }
 
-static TEXTS: [(&str, &str); 22] = [
+static TEXTS: [(&str, &str); 26] = [
     ("A", FILE_A),
     ("E", FILE_E),
     ("F", FILE_F),
@@ -198,6 +209,10 @@ static TEXTS: [(&str, &str); 22] = [
     ("N", FILE_N),
     ("S", FILE_S),
     ("V", FILE_V),
+    ("W", FILE_W),
+    ("X", NESTED_KINDS),
+    ("W-counted", COUNTED_AND_EXTENDED),
+    ("W-empty", EMPTY_LAST_PART),
     ("Z", FILE_Z),
     ("019", CAT019_P1),
     ("034", CAT034_P1),

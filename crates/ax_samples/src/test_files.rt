@@ -60,6 +60,11 @@ pub const FILE_F: &str =
     r#"category 034 edition "F" items { item 010 "" element 7 raw } uap { 010 010 }
 "#;
 
+/// A counter of two octets, and a last part without FX.
+pub const FILE_W: &str =
+    r#"category 206 edition "W" items { item 010 "" wide { element 8 raw } item 020 "" closed { part { A element 7 raw } part { B element 8 raw } } } uap { 010 020 }
+"#;
+
 /// No item, and a spare slot.
 pub const FILE_Z: &str = r#"category 203 edition "Z" items { } uap { - }
 "#;

@@ -1,5 +1,5 @@
 -- Why a fixed kind isn't shown, passed on.
-use Rattle.std.proofs.Common.{◌≡◌, ℕ, ◌+◌, ◌-◌, ◌*◌, ◌/◌, ◌%◌, ◌≤◌, List, length, refl, subst, sym, arith}
+use Rattle.std.proofs.Common.{◌≡◌, ℕ, ◌+◌, ◌*◌, ◌<◌, List, length, refl, subst, sym}
 use Rattle.ax_model.specs.Reader.{Read}
 use Rattle.ax_model.specs.declared.fault.BodyCause.TheVariants.{RunsOut}
 use Rattle.ax_model.specs.declared.fault.BodyFault.{BodyFault}
@@ -18,6 +18,6 @@ pub ruleset stops = (stopped_by_want)
 
 -- what a unit's stop makes of what was to be read
 pub unit_stopped : {A : Type 0} (found : Read A) (body : List ℕ) (at here w : ℕ) (stop : FixedStop) (e : DecodeError) → IsStopped body (8 * here) w stop → IsUnitStop stop here e
-    → ((fault : BodyFault) → 8 * (length body - here) ≤ w → fault.cause ≡ RunsOut → fault.bit ≡ 8 * here → FailsAt found at fault) → HasFailed found at e
-unit_stopped found body at here w Stop.RunsOut e s u fails = failed_by_fault found at e (record { cause = RunsOut; bit = 8 * here }) u (fails (record { cause = RunsOut; bit = 8 * here }) (omega (arith, s)) refl refl)
+    → ((fault : BodyFault) → 8 * length body < 8 * here + w → fault.cause ≡ RunsOut → fault.bit ≡ 8 * here → FailsAt found at fault) → HasFailed found at e
+unit_stopped found body at here w Stop.RunsOut e s u fails = failed_by_fault found at e (record { cause = RunsOut; bit = 8 * here }) u (fails (record { cause = RunsOut; bit = 8 * here }) s refl refl)
 unit_stopped found body at here w Stop.OutOfMemory e s u fails = failed_by_want found at e u

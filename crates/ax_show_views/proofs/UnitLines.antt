@@ -1,19 +1,21 @@
 -- Parts and occurrences by FX, one after the other.
-use Rattle.std.proofs.Common.{◌≡◌, ℕ, suc, ◌+◌, ◌-◌, ◌*◌, ◌<◌, ◌≤◌, Bool, true, false, List, [], ◌∷◌, ◌++◌, length, drop, map, get_or, codes, refl, sym, ◌∙◌, ap, subst, arith, add-one, length-drop, drop-cons}
+use Rattle.std.proofs.Common.{◌≡◌, ℕ, ◌+◌, ◌-◌, ◌*◌, ◌<◌, ◌≤◌, Bool, true, false, List, [], ◌∷◌, ◌++◌, length, drop, map, codes, refl, sym, ◌∙◌, ap, subst, arith, add-one}
 use Rattle.std.specs.List.{AllByRecursion}
-use Rattle.std.proofs.lemmas.List.{drop_all, length-map}
+use Rattle.std.proofs.lemmas.List.{length-map}
 use Rattle.ax_bits.specs.Bits.{bits}
 use Rattle.ax_model.specs.Fitting.{list_count}
-use Rattle.ax_model.specs.InBounds.{PartInBounds}
+use Rattle.ax_model.specs.InBounds.{PartInBounds, PartsInBounds}
 use Rattle.ax_model.specs.Plain.{part_tree}
 use Rattle.ax_model.specs.Reader.{fixed_value, members_value, after}
 use Rattle.ax_model.specs.Tree.{FixedTree, MembersTree, list_and, no_lists, value_and, no_values, value_count, extended, by_fx, part_values, occurrences}
-use Rattle.ax_model.specs.Widths.{width, members_width}
+use Rattle.ax_model.specs.Widths.{width, members_width, fx_width}
 use Rattle.ax_model.specs.declared.fault.BodyCause.TheVariants.{RunsOut, ExtensionPastEnd}
 use Rattle.ax_model.specs.declared.fault.BodyFault.{BodyFault}
+use Rattle.ax_model.specs.declared.kind.LastPart.{LastPart}
 use Rattle.ax_model.specs.declared.kind.Part.{Part}
-use Rattle.ax_reader.proofs.AtOctets.{IsUnit, run_at, parts_at, run_ends, run_goes_on, run_fails, parts_fail, parts_end, parts_go_on, parts_past_end}
+use Rattle.ax_reader.proofs.AtOctets.{IsUnit, run_at, parts_at, run_ends, run_goes_on, run_fails, parts_fail}
 use Rattle.ax_reader.specs.Reading.{FailsAt, Continues, fx_bit, kind_read}
+use Rattle.ax_values.proofs.PartUnits.{IsPartUnit, part_unit_ends, part_unit_goes_on, part_unit_past}
 use Rattle.ax_text.specs.Listable.{MembersListable}
 use Rattle.ax_text.specs.Printing.{as_lines, Puts}
 use Rattle.ax_text.specs.ShowText.{fixed_lines, members_lines, parts_lines, each_lines, occurrence}
@@ -27,9 +29,9 @@ run_same : (f : FixedTree) (body : List ℕ) (at : ℕ) → Continues (kind_read
 unfolding kind_read run_at
 run_same f body at = record { forwards = omega arith; same = ap (λ n. after n (λ vs. occurrences vs) (run_at f body at)) (let e : 0 ≡ 8 * (at - at) = omega arith in e) }
 
-parts_same : (ps : List MembersTree) (body : List ℕ) (at : ℕ) → Continues (kind_read (extended ps) body at) at at (λ ls. part_values ls) (parts_at ps body at)
+parts_same : (last : LastPart) (ps : List MembersTree) (body : List ℕ) (at : ℕ) → Continues (kind_read (extended last ps) body at) at at (λ ls. part_values ls) (parts_at last ps body at)
 unfolding kind_read parts_at
-parts_same ps body at = record { forwards = omega arith; same = ap (λ n. after n (λ ls. part_values ls) (parts_at ps body at)) (let e : 0 ≡ 8 * (at - at) = omega arith in e) }
+parts_same last ps body at = record { forwards = omega arith; same = ap (λ n. after n (λ ls. part_values ls) (parts_at last ps body at)) (let e : 0 ≡ 8 * (at - at) = omega arith in e) }
 
 -- ---- occurrences by FX
 
@@ -64,36 +66,36 @@ module _ (f : FixedTree) (path body : List ℕ) (at here end w : ℕ) (old now n
       let v = fixed_value f (drop (8 * here) (bits body)) in
       h.leads.ends end (value_and v no_values) new n (run_ends f body here end w (fx_bit fx) v u l (ap fx_bit none) refl) (record { put = λ t. p.put t }) e
 
-pub run_failed : (f : FixedTree) (path body : List ℕ) (at here : ℕ) (old now : List ℕ) (i : ℕ) (fault : BodyFault) → RunShown f path body at here old now i → 8 * (length body - here) ≤ width f → fault.cause ≡ RunsOut → fault.bit ≡ 8 * here
+pub run_failed : (f : FixedTree) (path body : List ℕ) (at here : ℕ) (old now : List ℕ) (i : ℕ) (fault : BodyFault) → RunShown f path body at here old now i → 8 * length body < 8 * here + width f → fault.cause ≡ RunsOut → fault.bit ≡ 8 * here
     → FailsAt (kind_read (by_fx f) body at) at fault
-run_failed f path body at here old now i fault h less c b = h.leads.fails fault (run_fails f body here fault less c b)
+run_failed f path body at here old now i fault h less c b = h.leads.fails fault (run_fails f body here fault (omega (arith, less)) c b)
 
 -- ---- parts
 
-parts_from : (all : List Part) (i : ℕ) (p : Part) → i < length all → p ≡ get_or all i p → map part_tree (drop i all) ≡ part_tree p ∷ map part_tree (drop (i + 1) all)
-parts_from all i p within e =
-    ap (map part_tree) (drop-cons all i p within ∙ ap (λ x. x ∷ drop (suc i) all) (sym e)) ∙ ap (λ n. part_tree p ∷ map part_tree (drop n all)) (sym (add-one i))
+abbrev pub parts_done : LastPart → List MembersTree → List ℕ → List ℕ → ℕ → List ℕ → Ending
+parts_done last ps path body at old end new n = ShowsCounted (extended last ps) path (codes "parts") body at end old new n
 
-abbrev pub parts_done : List MembersTree → List ℕ → List ℕ → ℕ → List ℕ → Ending
-parts_done ps path body at old end new n = ShowsCounted (extended ps) path (codes "parts") body at end old new n
-
-pub record PartsShown (all : List Part) (i : ℕ) (path body : List ℕ) (at here : ℕ) (old now : List ℕ) : Type 0 where
+-- i parts are shown, up to octet here, and these are left
+pub record PartsShown (last : LastPart) (all left : List Part) (path body : List ℕ) (at here : ℕ) (old now : List ℕ) (i : ℕ) : Type 0 where
   pub within : here ≤ length body
   pub few : i ≤ here
-  pub bounds : AllByRecursion PartInBounds (map part_tree (drop i all))
-  pub listable : AllByRecursion MembersListable (map part_tree (drop i all))
-  pub leads : i < length all → Leads (parts_done (map part_tree all) path body at old) (FailsAt (kind_read (extended (map part_tree all)) body at) at) (parts_lines (map part_tree (drop i all)) path) list_count (parts_at (map part_tree (drop i all)) body here) body here now i
-  pub past : length all ≤ i → (0 < here) × ((fault : BodyFault) → fault.cause ≡ ExtensionPastEnd → fault.bit + 1 ≡ 8 * here → FailsAt (kind_read (extended (map part_tree all)) body at) at fault)
+  pub bounds : PartsInBounds last (map part_tree left)
+  pub listable : AllByRecursion MembersListable (map part_tree left)
+  pub leads : 0 < length left → Leads (parts_done last (map part_tree all) path body at old) (FailsAt (kind_read (extended last (map part_tree all)) body at) at) (parts_lines (map part_tree left) path) list_count (parts_at last (map part_tree left) body here) body here now i
+  pub past : length left ≡ 0 → (0 < here) × ((fault : BodyFault) → fault.cause ≡ ExtensionPastEnd → fault.bit + 1 ≡ 8 * here → FailsAt (kind_read (extended last (map part_tree all)) body at) at fault)
 
-pub parts_first : (all : List Part) (path body : List ℕ) (at : ℕ) (out : List ℕ) → 0 < length (map part_tree all) → AllByRecursion PartInBounds (map part_tree all) → AllByRecursion MembersListable (map part_tree all) → at ≤ length body → PartsShown all 0 path body at at out out
-parts_first all path body at out some bounds l le = record {
-  within = le;
-  few = omega arith;
-  bounds = bounds;
-  listable = l;
-  leads = λ lt. counted_first (extended (map part_tree all)) path (codes "parts") body at at out (parts_lines (map part_tree all) path) list_count (parts_at (map part_tree all) body at) (λ ls. part_values ls) le (parts_same (map part_tree all) body at) (λ ls end g t. refl);
-  past = λ none. absurd (omega (arith, length-map all part_tree));
-}
+pub parts_first : (last : LastPart) (all left : List Part) (path body : List ℕ) (at : ℕ) (out : List ℕ) → left ≡ all → 0 < length (map part_tree all) → PartsInBounds last (map part_tree all) → AllByRecursion MembersListable (map part_tree all) → at ≤ length body
+    → PartsShown last all left path body at at out out 0
+parts_first last all left path body at out e some bounds l le =
+    subst (λ left. PartsShown last all left path body at at out out 0) (sym e)
+    (record {
+      within = le;
+      few = omega arith;
+      bounds = bounds;
+      listable = l;
+      leads = λ lt. counted_first (extended last (map part_tree all)) path (codes "parts") body at at out (parts_lines (map part_tree all) path) list_count (parts_at last (map part_tree all) body at) (λ ls. part_values ls) le (parts_same last (map part_tree all) body at) (λ ls end g t. refl);
+      past = λ none. absurd (omega (arith, length-map all part_tree));
+    })
 
 no_list_left : (ps : List MembersTree) (path : List ℕ) (t : Texts) → parts_lines ps path no_lists t ≡ t
 no_list_left [] path t = refl
@@ -104,56 +106,70 @@ after_part : (left : List Part) (ps : List MembersTree) → map part_tree left �
 after_part [] ps e lt = absurd (omega arith)
 after_part (q ∷ left) ps e lt = (part_tree q, map part_tree left, sym e)
 
-module _ (all : List Part) (i : ℕ) (p : Part) (path body : List ℕ) (at here : ℕ) (old now : List ℕ) (h : PartsShown all i path body at here old now) (within : i < length all) (e : p ≡ get_or all i p) where
-  from : map part_tree (drop i all) ≡ part_tree p ∷ map part_tree (drop (i + 1) all)
-  from = parts_from all i p within e
+after_all : (left : List Part) → length left ≡ 0 → map part_tree left ≡ []
+after_all [] e = refl
+after_all (q ∷ left) e = absurd (omega arith)
 
-  pub part_bounds : PartInBounds (part_tree p)
-  part_bounds = (subst (AllByRecursion PartInBounds) from h.bounds).0
+module _ (last : LastPart) (all left ps : List Part) (p : Part) (path body : List ℕ) (at here : ℕ) (old now : List ℕ) (i : ℕ) (h : PartsShown last all left path body at here old now i) (e : left ≡ p ∷ ps) where
+  at_first : PartsShown last all (p ∷ ps) path body at here old now i
+  at_first = subst (λ left. PartsShown last all left path body at here old now i) e h
+
+  same_fx : fx_width last (length (map part_tree ps)) ≡ fx_width last (length ps)
+  same_fx = ap (fx_width last) (length-map ps part_tree)
+
+  pub part_bounds : PartInBounds (fx_width last (length ps)) (part_tree p)
+  part_bounds = subst (λ fx. PartInBounds fx (part_tree p)) same_fx at_first.bounds.0
 
   pub part_listable : MembersListable (part_tree p)
-  part_listable = (subst (AllByRecursion MembersListable) from h.listable).0
+  part_listable = at_first.listable.0
 
-  at_part : Leads (parts_done (map part_tree all) path body at old) (FailsAt (kind_read (extended (map part_tree all)) body at) at) (parts_lines (part_tree p ∷ map part_tree (drop (i + 1) all)) path) list_count (parts_at (part_tree p ∷ map part_tree (drop (i + 1) all)) body here) body here now i
-  at_part = subst (λ ps. Leads (parts_done (map part_tree all) path body at old) (FailsAt (kind_read (extended (map part_tree all)) body at) at) (parts_lines ps path) list_count (parts_at ps body here) body here now i) from (h.leads within)
+  at_part : Leads (parts_done last (map part_tree all) path body at old) (FailsAt (kind_read (extended last (map part_tree all)) body at) at) (parts_lines (part_tree p ∷ map part_tree ps) path) list_count (parts_at last (part_tree p ∷ map part_tree ps) body here) body here now i
+  at_part = at_first.leads (omega arith)
 
-  pub part_short : (fault : BodyFault) → 8 * (length body - here) ≤ members_width (part_tree p) → fault.cause ≡ RunsOut → fault.bit ≡ 8 * here → FailsAt (kind_read (extended (map part_tree all)) body at) at fault
-  part_short fault less c b = at_part.fails fault (parts_fail (part_tree p) (map part_tree (drop (i + 1) all)) body here fault less c b)
+  pub part_short : (fault : BodyFault) → 8 * length body < 8 * here + members_width (part_tree p) → fault.cause ≡ RunsOut → fault.bit ≡ 8 * here → FailsAt (kind_read (extended last (map part_tree all)) body at) at fault
+  part_short fault less c b = at_part.fails fault (parts_fail last (part_tree p) (map part_tree ps) body here fault (omega (arith, less, h.within)) c b)
 
-module _ (all : List Part) (i : ℕ) (p : Part) (path body : List ℕ) (at here : ℕ) (old now : List ℕ) (h : PartsShown all i path body at here old now) (within : i < length all) (e : p ≡ get_or all i p) (end w : ℕ) (fx : Bool) (new : List ℕ)
-    (u : IsUnit body here end w (fx_bit fx)) (l : members_width (part_tree p) ≡ w) (put : Puts as_lines (members_lines (part_tree p) path (members_value (part_tree p) (drop (8 * here) (bits body)))) now new) where
-  pub part_last : (n : ℕ) → fx ≡ false → n ≡ i + 1 → ShowsCounted (extended (map part_tree all)) path (codes "parts") body at end old new n
-  part_last n none m =
-      let ps = map part_tree (drop (i + 1) all) in
-      let vs = members_value (part_tree p) (drop (8 * here) (bits body)) in
-      (at_part all i p path body at here old now h within e).ends end (list_and vs no_lists) new n (parts_end (part_tree p) ps body here end w (fx_bit fx) u l vs (ap fx_bit none) refl)
-      (record { put = λ t. put.put t ∙ ap (λ u. now ++ as_lines (members_lines (part_tree p) path vs u)) (sym (no_list_left ps path t)) }) m
+  module _ (end : ℕ) (more : Bool) (new : List ℕ) (met : IsPartUnit body here end (members_width (part_tree p)) (fx_width last (length ps)) more)
+      (put : Puts as_lines (members_lines (part_tree p) path (members_value (part_tree p) (drop (8 * here) (bits body)))) now new) where
+    unit : IsPartUnit body here end (members_width (part_tree p)) (fx_width last (length (map part_tree ps))) more
+    unit = subst (λ fx. IsPartUnit body here end (members_width (part_tree p)) fx more) (sym same_fx) met
 
-  part_leads : fx ≡ true → i + 1 < length all
-      → Leads (parts_done (map part_tree all) path body at old) (FailsAt (kind_read (extended (map part_tree all)) body at) at) (parts_lines (map part_tree (drop (i + 1) all)) path) list_count (parts_at (map part_tree (drop (i + 1) all)) body end) body end new (i + 1)
-  part_leads one lt =
-      let ps = map part_tree (drop (i + 1) all) in
-      let vs = members_value (part_tree p) (drop (8 * here) (bits body)) in
-      let t = after_part (drop (i + 1) all) ps refl (omega (arith, length-drop (i + 1) all)) in
-      let on : Continues (parts_at (part_tree p ∷ ps) body here) here end (λ ls. list_and vs ls) (parts_at ps body end) =
-      subst (λ ps. Continues (parts_at (part_tree p ∷ ps) body here) here end (λ ls. list_and vs ls) (parts_at ps body end)) (sym t.2) (parts_go_on (part_tree p) t.0 t.1 body here end w (fx_bit fx) vs u l (ap fx_bit one) refl) in
-      leads_next (parts_done (map part_tree all) path body at old) (FailsAt (kind_read (extended (map part_tree all)) body at) at) (parts_lines (part_tree p ∷ ps) path) (parts_lines ps path) (members_lines (part_tree p) path vs) list_count list_count
-      (parts_at (part_tree p ∷ ps) body here) (parts_at ps body end) body here end now new i (λ ls. list_and vs ls) (at_part all i p path body at here old now h within e) u.within on put (λ ls t. refl) (λ ls. add-one (list_count ls))
+    pub part_last : (n : ℕ) → more ≡ false → n ≡ i + 1 → ShowsCounted (extended last (map part_tree all)) path (codes "parts") body at end old new n
+    part_last n none m =
+        let vs = members_value (part_tree p) (drop (8 * here) (bits body)) in
+        at_part.ends end (list_and vs no_lists) new n (part_unit_ends last (part_tree p) body here end more (map part_tree ps) vs unit none refl)
+        (record { put = λ t. put.put t ∙ ap (λ u. now ++ as_lines (members_lines (part_tree p) path vs u)) (sym (no_list_left (map part_tree ps) path t)) }) m
 
-  pub part_more : fx ≡ true → PartsShown all (i + 1) path body at end old new
-  part_more one = record {
-    within = u.within;
-    few = omega (arith, h.few, u.forwards);
-    bounds = (subst (AllByRecursion PartInBounds) (parts_from all i p within e) h.bounds).1;
-    listable = (subst (AllByRecursion MembersListable) (parts_from all i p within e) h.listable).1;
-    leads = part_leads one;
-    past = λ none. (
-      omega (arith, u.forwards),
-      λ fault c b.
-          (at_part all i p path body at here old now h within e).fails fault
-          (subst (λ ps. FailsAt (parts_at (part_tree p ∷ ps) body here) here fault) (sym (ap (map part_tree) (drop_all (i + 1) all none))) (parts_past_end (part_tree p) body here end w (fx_bit fx) fault u l (ap fx_bit one) c b)),
-    );
-  }
+    part_leads : more ≡ true → 0 < length ps
+        → Leads (parts_done last (map part_tree all) path body at old) (FailsAt (kind_read (extended last (map part_tree all)) body at) at) (parts_lines (map part_tree ps) path) list_count (parts_at last (map part_tree ps) body end) body end new (i + 1)
+    part_leads one lt =
+        let qs = map part_tree ps in
+        let vs = members_value (part_tree p) (drop (8 * here) (bits body)) in
+        let t = after_part ps qs refl lt in
+        let w = members_width (part_tree p) in
+        let on : Continues (parts_at last (part_tree p ∷ qs) body here) here end (λ ls. list_and vs ls) (parts_at last qs body end) =
+        subst (λ qs. Continues (parts_at last (part_tree p ∷ qs) body here) here end (λ ls. list_and vs ls) (parts_at last qs body end)) (sym t.2)
+        (part_unit_goes_on last (part_tree p) body here end more t.0 t.1 vs (subst (λ qs. IsPartUnit body here end w (fx_width last (length qs)) more) t.2 unit) one refl) in
+        leads_next (parts_done last (map part_tree all) path body at old) (FailsAt (kind_read (extended last (map part_tree all)) body at) at) (parts_lines (part_tree p ∷ qs) path) (parts_lines qs path) (members_lines (part_tree p) path vs) list_count list_count
+        (parts_at last (part_tree p ∷ qs) body here) (parts_at last qs body end) body here end now new i (λ ls. list_and vs ls) at_part met.within on put (λ ls t. refl) (λ ls. add-one (list_count ls))
+
+    pub part_more : more ≡ true → PartsShown last all ps path body at end old new (i + 1)
+    part_more one = record {
+      within = met.within;
+      few = omega (arith, h.few, met.forwards);
+      bounds = at_first.bounds.1;
+      listable = at_first.listable.1;
+      leads = part_leads one;
+      past = λ none. (
+        omega (arith, met.forwards),
+        λ fault c b.
+            let w = members_width (part_tree p) in
+            let empty : map part_tree ps ≡ [] = after_all ps none in
+            at_part.fails fault
+            (subst (λ qs. FailsAt (parts_at last (part_tree p ∷ qs) body here) here fault) (sym empty)
+            (part_unit_past last (part_tree p) body here end more fault (subst (λ qs. IsPartUnit body here end w (fx_width last (length qs)) more) empty unit) one c b)),
+      );
+    }
 
 -- ---- one occurrence, at its path
 

@@ -15,10 +15,10 @@ ghost use Rattle.ax_show_views.specs.Shown.{Shows, ShowsCounted, IsSlotShown};
 use crate::paths::{set_named, set_numbered};
 use crate::units::{show_alone, show_by_fx, show_extended, show_single};
 use ax_fspec::{Presence, read_presence};
-use ax_model::{Kind, Name, Slot, Slots};
+use ax_model::{Counter, Kind, Name, Slot, Slots};
 use ax_octets::Path;
 use ax_text::Lister;
-use ax_values::{DecodeError, explicit_content, octet_at, slots_mask};
+use ax_values::{DecodeError, counter_at, explicit_content, slots_mask};
 
 /// The lines of the value of a kind that begins at octet `at` of the body. Ok is the octet after it.
 #[cycle(show_kind)]
@@ -38,8 +38,10 @@ pub(crate) fn show_value(
 {
     match kind {
         Kind::Fixed(fixed) => show_alone(lister, fixed, body, at, path),
-        Kind::Extended(parts) => show_extended(lister, parts, body, at, path),
-        Kind::Counted(inner) => show_counted(lister, inner, body, at, path),
+        Kind::Extended { last, parts } => show_extended(lister, *last, parts, body, at, path),
+        Kind::Counted { counter, inner } => {
+            show_counted(lister, *counter, inner, body, at, path)
+        }
         Kind::ByFx(fixed) => show_by_fx(lister, fixed, body, at, path),
         Kind::Explicit => show_explicit(lister, body, at, path),
         Kind::Compound(slots) => show_compound(lister, slots, body, at, path),
@@ -60,55 +62,57 @@ fn show_explicit(lister: &mut Lister, body: &[u8], at: u32, path: &Path) -> Resu
     Ok(at + 1 + content.len() as u32)
 }
 
-/// A counted item: how many occurrences there are, and each of them. Ok is the octet after it.
+/// A counted or wide item: how many occurrences there are, and each of them. Ok is the octet after it.
 #[cycle(show_kind)]
 #[tactic(auto, using(crate::proofs::Leading::counts))]
 fn show_counted(
     lister: &mut Lister,
+    size: Counter,
     inner: &Kind,
     body: &[u8],
     at: u32,
     path: &Path,
 ) -> Result<u32, DecodeError>
-    requires bounds { InBounds (Tree.counted (kind_tree inner.now)) }
+    requires bounds { InBounds (Tree.counted size (kind_tree inner.now)) }
     requires listable { KindListable (kind_tree inner.now) }
     requires body { length body.now ≤ longest_body }
     requires at { at ≤ length body.now }
-    ensures ok { IfOk result (λ end. Shows (kind_lines (Tree.counted (kind_tree inner.now)) path.now) (kind_read (Tree.counted (kind_tree inner.now)) body.now at) body.now at end lister.old.out lister.new.out) }
-    ensures err { IfErr result (λ e. HasFailed (kind_read (Tree.counted (kind_tree inner.now)) body.now at) at e) }
+    ensures ok { IfOk result (λ end. Shows (kind_lines (Tree.counted size (kind_tree inner.now)) path.now) (kind_read (Tree.counted size (kind_tree inner.now)) body.now at) body.now at end lister.old.out lister.new.out) }
+    ensures err { IfErr result (λ e. HasFailed (kind_read (Tree.counted size (kind_tree inner.now)) body.now at) at e) }
 {
     lister.none_of(b"occurrences", path)?;
     let line = lister.len();
-    let (end, count) = show_each(lister, inner, body, at, path)?;
+    let (end, count) = show_each(lister, size, inner, body, at, path)?;
     lister.set_count(line, count)?;
     Ok(end)
 }
 
-/// The lines of the occurrences of a counted item. Ok is the octet after them, and their number.
+/// The lines of the occurrences of a counted or wide item. Ok is the octet after them, and their number.
 #[cycle(show_kind)]
 #[tactic(auto, using(ax_values::proofs::Continuing::errors))]
 fn show_each(
     lister: &mut Lister,
+    size: Counter,
     inner: &Kind,
     body: &[u8],
     at: u32,
     path: &Path,
 ) -> Result<(u32, u32), DecodeError>
-    requires bounds { InBounds (Tree.counted (kind_tree inner.now)) }
+    requires bounds { InBounds (Tree.counted size (kind_tree inner.now)) }
     requires listable { KindListable (kind_tree inner.now) }
     requires body { length body.now ≤ longest_body }
     requires at { at ≤ length body.now }
-    ensures ok { IfOk result (λ r. ShowsCounted (Tree.counted (kind_tree inner.now)) path.now (codes "occurrences") body.now at r.0 lister.old.out lister.new.out r.1) }
-    ensures err { IfErr result (λ e. HasFailed (kind_read (Tree.counted (kind_tree inner.now)) body.now at) at e) }
+    ensures ok { IfOk result (λ r. ShowsCounted (Tree.counted size (kind_tree inner.now)) path.now (codes "occurrences") body.now at r.0 lister.old.out lister.new.out r.1) }
+    ensures err { IfErr result (λ e. HasFailed (kind_read (Tree.counted size (kind_tree inner.now)) body.now at) at e) }
 {
-    let count = octet_at(body, at)?;
-    let mut here = at + 1;
+    let count = counter_at(body, at, size)?;
+    let mut here = at + size.octets();
     let mut each = lister.blank_path();
-    for number in 0..u32::from(count) {
+    for number in 0..count {
         set_numbered(&mut each, path, number)?;
         here = show_value(lister, inner, body, here, &each)?;
     }
-    Ok((here, u32::from(count)))
+    Ok((here, count))
 }
 
 /// A compound: how many subitems are present, and each of them. Ok is the octet after it.

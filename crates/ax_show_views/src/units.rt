@@ -1,4 +1,4 @@
-//! Kinds whose units are runs of a known length: fixed kinds, the parts of extended items, occurrences by FX.
+//! Kinds whose units are runs of a known length: fixed kinds, the parts of extended and closed items, occurrences by FX.
 ghost use Rattle.std.specs.Prelude.{◌≡◌, ◌+◌, ◌*◌, ◌<◌, ◌≤◌, length, drop, map, codes, IfOk, IfErr, OnOk};
 ghost use Rattle.std.specs.List.{AllByRecursion};
 ghost use Rattle.ax_bits.specs.Bits.{bits};
@@ -20,10 +20,10 @@ ghost use Rattle.ax_show_views.specs.Stopped.{IsStopped};
 use crate::fixed::{show_fixed, show_members, show_named};
 use crate::paths::set_numbered;
 use crate::stop::FixedStop;
-use ax_model::{BodyCause, BodyFault, Fixed, Name, Parts};
+use ax_model::{BodyCause, BodyFault, Fixed, LastPart, Name, Parts};
 use ax_octets::Path;
 use ax_text::Lister;
-use ax_values::{DecodeError, has_fx};
+use ax_values::{DecodeError, has_fx, is_continued};
 
 /// The lines of a fixed kind that stands by itself. Ok is the octet after it.
 #[tactic(auto, using(ax_values::proofs::Continuing::errors, ax_reader::proofs::AtOctets::fixed_fails))]
@@ -72,35 +72,40 @@ pub(crate) fn show_single(
     Ok(bit / 8)
 }
 
-/// The lines of the parts that are present. Ok is the octet after them, and their number.
+/// The lines of the parts that are present, the last of which may have no FX bit. Ok is the octet after them, and their
+/// number.
 #[tactic(auto, using(ax_values::proofs::Continuing::errors))]
 fn show_parts(
     lister: &mut Lister,
+    last: LastPart,
     parts: &Parts,
     body: &[u8],
     at: u32,
     path: &Path,
 ) -> Result<(u32, u32), DecodeError>
-    requires bounds { InBounds (Tree.extended (map part_tree parts.now)) }
+    requires bounds { InBounds (Tree.extended last (map part_tree parts.now)) }
     requires listable { AllByRecursion MembersListable (map part_tree parts.now) }
     requires body { length body.now ≤ longest_body }
     requires at { at ≤ length body.now }
-    ensures ok { IfOk result (λ r. ShowsCounted (Tree.extended (map part_tree parts.now)) path.now (codes "parts") body.now at r.0 lister.old.out lister.new.out r.1) }
-    ensures err { IfErr result (λ e. HasFailed (kind_read (Tree.extended (map part_tree parts.now)) body.now at) at e) }
+    ensures ok { IfOk result (λ r. ShowsCounted (Tree.extended last (map part_tree parts.now)) path.now (codes "parts") body.now at r.0 lister.old.out lister.new.out r.1) }
+    ensures err { IfErr result (λ e. HasFailed (kind_read (Tree.extended last (map part_tree parts.now)) body.now at) at e) }
 {
     let mut here = at;
     let mut count = 0;
-    for part in parts.as_slice() {
+    let mut left = parts.as_slice();
+    while let Some((part, later)) = left.split_first() {
         let mut bit = 8 * here;
         if let Err(stop) = show_members(lister, &part.members, body, &mut bit, path) {
             return Err(stop.of_unit(here));
         }
         count += 1;
-        let end = bit / 8 + 1;
-        if !has_fx(body, bit) {
+        let fx = last.fx_width(later.len());
+        let end = (bit + fx) / 8;
+        if !is_continued(body, bit, fx) {
             return Ok((end, count));
         }
         here = end;
+        left = later;
     }
     Err(DecodeError::Fault(BodyFault {
         cause: BodyCause::ExtensionPastEnd,
@@ -108,25 +113,26 @@ fn show_parts(
     }))
 }
 
-/// An extended item: how many parts are present, and their members. Ok is the octet after it.
+/// An extended or closed item: how many parts are present, and their members. Ok is the octet after it.
 #[tactic(auto, using(crate::proofs::Leading::counts))]
 pub(crate) fn show_extended(
     lister: &mut Lister,
+    last: LastPart,
     parts: &Parts,
     body: &[u8],
     at: u32,
     path: &Path,
 ) -> Result<u32, DecodeError>
-    requires bounds { InBounds (Tree.extended (map part_tree parts.now)) }
+    requires bounds { InBounds (Tree.extended last (map part_tree parts.now)) }
     requires listable { AllByRecursion MembersListable (map part_tree parts.now) }
     requires body { length body.now ≤ longest_body }
     requires at { at ≤ length body.now }
-    ensures ok { IfOk result (λ end. Shows (kind_lines (Tree.extended (map part_tree parts.now)) path.now) (kind_read (Tree.extended (map part_tree parts.now)) body.now at) body.now at end lister.old.out lister.new.out) }
-    ensures err { IfErr result (λ e. HasFailed (kind_read (Tree.extended (map part_tree parts.now)) body.now at) at e) }
+    ensures ok { IfOk result (λ end. Shows (kind_lines (Tree.extended last (map part_tree parts.now)) path.now) (kind_read (Tree.extended last (map part_tree parts.now)) body.now at) body.now at end lister.old.out lister.new.out) }
+    ensures err { IfErr result (λ e. HasFailed (kind_read (Tree.extended last (map part_tree parts.now)) body.now at) at e) }
 {
     lister.none_of(b"parts", path)?;
     let line = lister.len();
-    let (end, count) = show_parts(lister, parts, body, at, path)?;
+    let (end, count) = show_parts(lister, last, parts, body, at, path)?;
     lister.set_count(line, count)?;
     Ok(end)
 }

@@ -1,15 +1,13 @@
 -- What `show` over views makes of one block.
-use Rattle.std.proofs.Common.{◌≡◌, ℕ, ◌+◌, ◌*◌, ◌<◌, ◌≤◌, List, [], ◌∷◌, ◌++◌, Option, Some, None, Ok, Bor, length, map, codes, decimal, refl, sym, ◌∙◌, ap, subst, arith, append-nil}
+use Rattle.std.proofs.Common.{◌≡◌, ℕ, ◌<◌, ◌≤◌, List, [], ◌∷◌, ◌++◌, Option, Some, None, Ok, Bor, length, codes, decimal, refl, sym, ◌∙◌, ap, subst, arith, append-nil}
 use Rattle.std.specs.Option.{option_map, option_copied}
-use Rattle.ax_bits.specs.Bits.{bits}
 use Rattle.ax_model.specs.Blocks.{read_block}
-use Rattle.ax_model.specs.CanonicalOctets.{canon_block, canon_length}
+use Rattle.ax_model.specs.CanonicalOctets.{canon_length}
 use Rattle.ax_model.specs.Flaws.{NoFlaw}
 use Rattle.ax_model.specs.Framing.{RawTree}
 use Rattle.ax_model.specs.Lengths.{capped}
 use Rattle.ax_model.specs.Plain.{spec_tree, catalogue_tree}
 use Rattle.ax_model.specs.Specification.{SpecTree, spec_of, record_slots}
-use Rattle.ax_model.specs.declared.fault.BodyFault.{BodyFault}
 use Rattle.ax_model.specs.declared.spec.Spec.{Spec}
 use Rattle.ax_show_views.specs.Shown.{ShowsRecords}
 use Rattle.ax_show_work.specs.Listing.{ListsBody}
@@ -24,7 +22,7 @@ use Rattle.ax_text.specs.Listable.{SlotsListable}
 use Rattle.ax_text.specs.Printing.{as_lines, Puts}
 use Rattle.ax_text.specs.ShowText.{block_front, records_lines, ShowText, OpaqueShown}
 use Rattle.ax_text.specs.ValueText.{one_onto}
-use Rattle.ax_view.specs.Views.{CountsRecords, FailsThere}
+use Rattle.ax_view.specs.Views.{CountsRecords}
 use Rattle.ax_view_work.proofs.CodecsOf.{stands_there, none_there}
 use Rattle.ax_view_work.specs.Laid.{LaysBits}
 use Rattle.ax_text_view_work.proofs.TablesOf as TablesOf

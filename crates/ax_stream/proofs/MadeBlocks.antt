@@ -51,13 +51,15 @@ module _ (of_read : ℕ → SpecTree → BlockTree → List ℕ) (of_opaque : �
   tree_taken raw held faults u octets laid h is = record {
     means = record { lines = []; is = record { block = h.block; spells = h.spells; answer = ap (gives []) (sym (is ∙ h.is)) }; wrote = sym (with_end-nil held) };
     later = omega arith;
+    once = omega arith;
+    quiet = refl;
   }
 
   pub tree_fails : (raw : RawTree) (held : Option (List ℕ)) (faults : ℕ) (f : BodyFault) (laid : List ℕ) → NothingMade catalogue raw (BlockStopOf.Fault f) → IsWithinBody (BlockStopOf.Fault f)
       → Takes (tree_command of_read of_opaque catalogue) number raw (record { held = held; held' = held; faults = faults; faults' = faults }) laid (Err (Fault f))
-  tree_fails raw held faults f laid h short = record { means = record { fails = h; short = short; nothing = refl }; later = omega arith }
+  tree_fails raw held faults f laid h short = record { means = record { fails = h; short = short; nothing = refl }; later = omega arith; once = omega arith; quiet = refl }
 
   pub tree_memory : (raw : RawTree) (held : Option (List ℕ)) (faults : ℕ) (laid : List ℕ) → Takes (tree_command of_read of_opaque catalogue) number raw (record { held = held; held' = held; faults = faults; faults' = faults }) laid (Err OutOfMemory)
-  tree_memory raw held faults laid = record { means = refl; later = omega arith }
+  tree_memory raw held faults laid = record { means = refl; later = omega arith; once = omega arith; quiet = refl }
 
 pub ruleset tree_takes = (tree_taken, tree_fails, tree_memory)

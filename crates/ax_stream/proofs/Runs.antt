@@ -2,7 +2,7 @@
 use Rattle.std.proofs.Common.{◌≡◌, ℕ, ◌+◌, ◌*◌, ◌<◌, ◌≤◌, List, [], ◌∷◌, ◌++◌, Option, Some, None, length, take, refl, sym, ◌∙◌, ap, subst, arith, append_assoc, length-append, inl, inr, Result, Ok, Err}
 use Rattle.ax_bits.specs.Bits.{AreOctets}
 use Rattle.ax_blocks.specs.Reader.{ReaderState, IsOpen, GivesBlock, FindsEnd, StopsUnfinished, OnBlock, OnEnd, OnReadFault, OnTooLong, IsAfter, block_octets, ended_by, octets_to_end}
-use Rattle.ax_blocks.specs.Taking.{IsUnfinished, OnTold}
+use Rattle.ax_blocks.specs.Taking.{IsUnfinished, OnTold, UnlessReadFault}
 use Rattle.ax_blocks.specs.declared.next_error.NextError.{NextError}
 use Rattle.ax_blocks.specs.declared.next_error.NextError.TheVariants.{BadLen, EndsInHeader, EndsInBlock, InputTooLong, ReadFault}
 use Rattle.ax_model.specs.Blocks.{BlockTree}
@@ -19,8 +19,8 @@ use Rattle.ax_stream.proofs.Results.{output_snoc, report_snoc, given_snoc, both,
 use Rattle.ax_stream.proofs.Streams.{raws_snoc, spell_snoc, spell_count, stream_snoc, length_snoc, framed_count, raw_spells_block, octets_after}
 use Rattle.ax_stream.specs.Commands.{BlockCommand, gives, lines_in, octets_in, report_of, output_of, IsGiven}
 use Rattle.ax_stream.specs.Ending.{cause_of, refused_at, framing_end, error_end, stop_end}
-use Rattle.ax_stream.specs.Streams.{BeginsWith, ThenBlock, EndsWithInput, AtBlock, IsLeft, RefusesBlock, in_body, by_length, ToldRun, reading, writing, reporting, for_memory, StreamRuns, IsCaused, IsLicensed, Reports, HasCause}
-use Rattle.ax_stream.specs.Taking.{GivesFor, IsTooLongFor, IsCutFor, StopsFor, Takes}
+use Rattle.ax_stream.specs.Streams.{BeginsWith, ThenBlock, EndsWithInput, AtBlock, IsLeft, RefusesBlock, in_body, by_length, ToldRun, reading, writing, reporting, for_memory, StreamRuns, IsCaused, IsLicensed, CountsOnly, Reports, HasCause}
+use Rattle.ax_stream.specs.Taking.{GivesFor, IsTooLongFor, IsCutFor, StopsFor, UnlessReportFault, Takes}
 use Rattle.ax_stream.specs.declared.end.StreamEnd.{StreamEnd}
 use Rattle.ax_stream.specs.declared.end.StreamEnd.TheVariants as EndOf
 use Rattle.ax_stream.specs.declared.work.WorkStop.{WorkStop}
@@ -64,6 +64,9 @@ pub record Running (c : BlockCommand) (limit : ℕ) (i : SourceChange) (o r : Si
   pub source_later : i.faults ≤ i.faults'
   pub out_later : o.faults ≤ o.faults'
   pub report_later : r.faults ≤ r.faults'
+  pub source_quiet : i.faults' ≡ i.faults
+  pub out_quiet : o.faults' ≡ o.faults
+  pub report_quiet : r.faults' ≡ r.faults
   pub told : (input : List ℕ) → AreOctets input → i.left ≡ Some input → SoFar c limit input i.left' o r reader.given count
 
 pub running_begins : (c : BlockCommand) (left held shown : Option (List ℕ)) (taken faults fails flaws : ℕ) (reader : ReaderState) (Sound : Type 0) → Sound → reader ≡ record { limit = reader.limit; given = 0; ended = None }
@@ -82,6 +85,9 @@ running_begins c left held shown taken faults fails flaws reader Sound sound e =
       source_later = omega arith;
       out_later = omega arith;
       report_later = omega arith;
+      source_quiet = refl;
+      out_quiet = refl;
+      report_quiet = refl;
       told = λ input are l. record {
         octets = [];
         rest = input;
@@ -366,6 +372,22 @@ stop_licensed c number raw q (TooLong n) h = record { block = h.block; answer = 
 stop_licensed c number raw q ReportFault h = reports c number raw q h
 stop_licensed c number raw q OutOfMemory h = tt
 
+-- what was counted where the reader stops, and where the work stops
+counts_error : (count mid : ℕ) (i : SourceChange) (o r : SinkChange) (e : NextError) → mid ≡ i.faults → i.faults' ≤ mid + 1 → UnlessReadFault {A = Option RawBlock} (Err e) (i.faults' ≡ mid)
+    → o.faults' ≡ o.faults → r.faults' ≡ r.faults → CountsOnly i o r (error_end count e)
+counts_error count mid i o r BadLen same once quiet out report = (quiet ∙ same, out, report)
+counts_error count mid i o r (EndsInHeader bit) same once quiet out report = (quiet ∙ same, out, report)
+counts_error count mid i o r (EndsInBlock bit) same once quiet out report = (quiet ∙ same, out, report)
+counts_error count mid i o r InputTooLong same once quiet out report = (quiet ∙ same, out, report)
+counts_error count mid i o r ReadFault same once quiet out report = (omega (arith, same, once), out, report)
+
+counts_stop : (count : ℕ) (i : SourceChange) (o r q : SinkChange) (stop : WorkStop) → i.faults' ≡ i.faults → o.faults' ≡ o.faults → q.faults ≡ r.faults → q.faults' ≤ q.faults + 1
+    → UnlessReportFault (Err stop) (q.faults' ≡ q.faults) → CountsOnly i o (both r q) (stop_end count stop)
+counts_stop count i o r q (Fault f) source out same once quiet = (source, out, quiet ∙ same)
+counts_stop count i o r q (TooLong n) source out same once quiet = (source, out, quiet ∙ same)
+counts_stop count i o r q ReportFault source out same once quiet = (source, out, omega (arith, same, once))
+counts_stop count i o r q OutOfMemory source out same once quiet = (source, out, quiet ∙ same)
+
 -- a sink, one call further
 abbrev pub step : SinkChange → Option (List ℕ) → ℕ → SinkChange
 step o held faults = record { held = o.held'; held' = held; faults = o.faults'; faults' = faults }
@@ -382,24 +404,27 @@ module _ (c : BlockCommand) (limit : ℕ) (i : SourceChange) (o r : SinkChange) 
   gives_block raw g = subst (λ n. GivesBlock n reader.given i.left' next i.taken' t' raw) run.limit_is g
 
   -- the reader ends
-  pub run_done : FindsEnd reader.limit reader.given i.left' next i.taken' t' whole → StreamRuns c limit further o r (EndOf.Done count)
-  run_done f = record {
+  pub run_done : f' ≡ i.faults' → FindsEnd reader.limit reader.given i.left' next i.taken' t' whole → StreamRuns c limit further o r (EndOf.Done count)
+  run_done still f = record {
     told = λ input are l. reads_all c limit input i.left' next o r reader.given count i.taken' t' (run.told input are l) (subst (λ n. FindsEnd n reader.given i.left' next i.taken' t' whole) run.limit_is f);
     caused = tt;
     licensed = tt;
+    counts = (still ∙ run.source_quiet, run.out_quiet, run.report_quiet);
     source_later = still_later;
     out_later = run.out_later;
     report_later = run.report_later;
   }
 
   pub run_refused : (e : NextError) → OnEnd {A = RawBlock} (Err e) (FindsEnd reader.limit reader.given i.left' next i.taken' t') → OnReadFault {A = RawBlock} (Err e) (StopsUnfinished reader.limit reader.given i.left' next i.taken' t')
-      → OnTooLong {A = RawBlock} (Err e) (reader.limit + i.taken' < reader.given + t') → OnReadFault {A = RawBlock} (Err e) (Rose i.faults' f') → StreamRuns c limit further o r (error_end count e)
-  run_refused e f u past rose = record {
+      → OnTooLong {A = RawBlock} (Err e) (reader.limit + i.taken' < reader.given + t') → OnReadFault {A = RawBlock} (Err e) (Rose i.faults' f') → f' ≤ i.faults' + 1 → UnlessReadFault {A = Option RawBlock} (Err e) (f' ≡ i.faults')
+      → StreamRuns c limit further o r (error_end count e)
+  run_refused e f u past rose once quiet = record {
     told = λ input are l. reader_stops c limit input i.left' next o r reader.given count i.taken' t' (run.told input are l) e
         (subst (λ n. OnEnd {A = RawBlock} (Err e) (FindsEnd n reader.given i.left' next i.taken' t')) run.limit_is f)
         (subst (λ n. OnReadFault {A = RawBlock} (Err e) (StopsUnfinished n reader.given i.left' next i.taken' t')) run.limit_is u);
     caused = error_caused limit count i.taken' reader.given t' further o r e refl run.took (subst (λ n. OnTooLong {A = RawBlock} (Err e) (n + i.taken' < reader.given + t')) run.limit_is past) (fault_rose e rose);
     licensed = error_licensed c count e;
+    counts = counts_error count i.faults' further o r e run.source_quiet once quiet run.out_quiet run.report_quiet;
     source_later = still_later;
     out_later = run.out_later;
     report_later = run.report_later;
@@ -412,9 +437,9 @@ module _ (c : BlockCommand) (limit : ℕ) (i : SourceChange) (o r : SinkChange) 
     fault_rose ReadFault h = Rose-later run.source_later h
 
   -- the work stops
-  pub run_stopped : (raw : RawTree) (stop : WorkStop) (laid : List ℕ) (held : Option (List ℕ)) (faults : ℕ) → GivesBlock reader.limit reader.given i.left' next i.taken' t' raw
+  pub run_stopped : (raw : RawTree) (stop : WorkStop) (laid : List ℕ) (held : Option (List ℕ)) (faults : ℕ) → f' ≡ i.faults' → GivesBlock reader.limit reader.given i.left' next i.taken' t' raw
       → Takes now count raw (step r held faults) laid (Err stop) → StreamRuns c limit further o (both r (step r held faults)) (stop_end count stop)
-  run_stopped raw stop laid held faults g t =
+  run_stopped raw stop laid held faults still g t =
       let s : Takes c count raw (step r held faults) laid (Err stop) = subst (λ n. Takes n count raw (step r held faults) laid (Err stop)) run.same t in
       let a : r.faults ≤ r.faults' = run.report_later in
       let b : r.faults' ≤ faults = s.later in
@@ -422,6 +447,7 @@ module _ (c : BlockCommand) (limit : ℕ) (i : SourceChange) (o r : SinkChange) 
         told = λ input are l. takes_no_more c limit input i.left' next o r reader.given count i.taken' t' raw (run.told input are l) (gives_block raw g) (step r held faults) stop are refl s.means;
         caused = stop_caused limit count count c raw further o r (step r held faults) stop run.report_later s.means;
         licensed = stop_licensed c count raw (step r held faults) stop s.means;
+        counts = counts_stop count further o r (step r held faults) stop (still ∙ run.source_quiet) run.out_quiet run.report_quiet s.once s.quiet;
         source_later = still_later;
         out_later = run.out_later;
         report_later = omega arith;
@@ -429,7 +455,7 @@ module _ (c : BlockCommand) (limit : ℕ) (i : SourceChange) (o r : SinkChange) 
 
   -- the block is taken, and its octets are written or not
   module _ (raw : RawTree) (u : Unit) (laid piece : List ℕ) (shown held : Option (List ℕ)) (flaws fails : ℕ) (g : GivesBlock reader.limit reader.given i.left' next i.taken' t' raw)
-      (t : Takes now count raw (step r shown flaws) laid (Ok u)) (is : piece ≡ laid) (wrote : o.faults' ≤ fails) where
+      (t : Takes now count raw (step r shown flaws) laid (Ok u)) (is : piece ≡ laid) (wrote : o.faults' ≤ fails) (still : f' ≡ i.faults') where
     taken : Takes c count raw (step r shown flaws) laid (Ok u)
     taken = subst (λ n. Takes n count raw (step r shown flaws) laid (Ok u)) run.same t
 
@@ -439,22 +465,23 @@ module _ (c : BlockCommand) (limit : ℕ) (i : SourceChange) (o r : SinkChange) 
     out_still_later : o.faults ≤ fails
     out_still_later = let a : o.faults ≤ o.faults' = run.out_later in omega arith
 
-    pub run_cut : (n : ℕ) × (n < length piece) × (held ≡ with_end o.held' (take n piece)) → Rose o.faults' fails → StreamRuns c limit further (both o (step o held fails)) (both r (step r shown flaws)) EndOf.WriteFault
-    run_cut (n, less, added) rose =
+    pub run_cut : (n : ℕ) × (n < length piece) × (held ≡ with_end o.held' (take n piece)) → Rose o.faults' fails → fails ≤ o.faults' + 1 → StreamRuns c limit further (both o (step o held fails)) (both r (step r shown flaws)) EndOf.WriteFault
+    run_cut (n, less, added) rose once =
         let size : length piece ≡ length laid = ap length is in
         record {
           told = λ input are l. stops_writing c limit input i.left' next o r reader.given count i.taken' t' raw (run.told input are l) (gives_block raw g) taken.means.lines laid (step o held fails) (step r shown flaws)
               taken.means.is refl (record { count = n; within = omega arith; gained = added ∙ ap (λ x. with_end o.held' (take n x)) is; rose = rose }) refl taken.means.wrote;
           caused = Rose-later run.out_later rose;
           licensed = tt;
+          counts = (still ∙ run.source_quiet, omega (arith, run.out_quiet, once), taken.quiet ∙ run.report_quiet);
           source_later = still_later;
           out_later = out_still_later;
           report_later = report_still_later;
         }
 
-    pub run_on : (now' : BlockCommand) (reader' : ReaderState) (Still : Type 0) → Still → held ≡ with_end o.held' piece → now' ≡ now → reader'.limit ≡ reader.limit → reader'.given ≡ reader.given + (3 + length raw.body) → reader'.given ≤ reader'.limit → IsOpen reader'
+    pub run_on : (now' : BlockCommand) (reader' : ReaderState) (Still : Type 0) → Still → fails ≡ o.faults' → held ≡ with_end o.held' piece → now' ≡ now → reader'.limit ≡ reader.limit → reader'.given ≡ reader.given + (3 + length raw.body) → reader'.given ≤ reader'.limit → IsOpen reader'
         → Running c limit further (both o (step o held fails)) (both r (step r shown flaws)) now' reader' (count + 1) Still
-    run_on now' reader' Still still added kept same counts fits opened =
+    run_on now' reader' Still sound' unfailed added kept same counts fits opened =
         let size : length g.octets ≡ 3 + length raw.body = framed_count raw.category raw.body g.octets g.framed in
         let q : t' ≡ i.taken' + length g.octets = g.took.counted in
         let k : i.taken' ≡ i.taken + reader.given = run.took in
@@ -462,7 +489,7 @@ module _ (c : BlockCommand) (limit : ℕ) (i : SourceChange) (o r : SinkChange) 
         let few : 3 * count ≤ reader.given = run.few in
         record {
           same = kept ∙ run.same;
-          sound = still;
+          sound = sound';
           limit_is = same ∙ run.limit_is;
           open_ = opened;
           within = omega arith;
@@ -471,12 +498,18 @@ module _ (c : BlockCommand) (limit : ℕ) (i : SourceChange) (o r : SinkChange) 
           source_later = still_later;
           out_later = out_still_later;
           report_later = report_still_later;
+          source_quiet = still ∙ run.source_quiet;
+          out_quiet = unfailed ∙ run.out_quiet;
+          report_quiet = taken.quiet ∙ run.report_quiet;
           told = λ input are l. (let P : ℕ → Type 0 = λ n. SoFar c limit input next (both o (step o held fails)) (both r (step r shown flaws)) n (count + 1) in
               subst P (sym counts) (one_block_more c limit input i.left' next o r reader.given count i.taken' t' raw (run.told input are l) (gives_block raw g) taken.means.lines laid (step o held fails) (step r shown flaws)
               taken.means.is refl (added ∙ ap (with_end o.held') is) refl taken.means.wrote));
         }
 
 -- ---- answers of the reader
+
+pub unfailed : (result : Result (Option RawBlock) NextError) (answer : Option RawBlock) (P : Type 0) → result ≡ Ok answer → UnlessReadFault result P → P
+unfailed result answer P e h = subst (λ r. UnlessReadFault r P) e h
 
 pub gives_raw : (result : Result (Option RawBlock) NextError) (raw : RawBlock) (P : RawBlock → Type 0) → result ≡ Ok (Some raw) → OnBlock result P → P raw
 gives_raw result raw P e h = subst (λ r. OnBlock r P) e h
@@ -505,6 +538,7 @@ memory_first c limit left held shown taken faults fails flaws = record {
   }));
   caused = tt;
   licensed = tt;
+  counts = (refl, refl, refl);
   source_later = omega arith;
   out_later = omega arith;
   report_later = omega arith;

@@ -230,16 +230,27 @@ IsCaused limit i o r (Refused fault) = Unit {0}
 IsCaused limit i o r (TooLong number count) = Unit {0}
 IsCaused limit i o r OutOfMemory = Unit {0}
 
+-- one fault at most was counted, of the object that the end names; where it names none no count rose
+abbrev pub CountsOnly : SourceChange → SinkChange → SinkChange → StreamEnd → Type 0
+CountsOnly i o r ReadFault = (i.faults' ≤ i.faults + 1) × (o.faults' ≡ o.faults) × (r.faults' ≡ r.faults)
+CountsOnly i o r WriteFault = (i.faults' ≡ i.faults) × (o.faults' ≤ o.faults + 1) × (r.faults' ≡ r.faults)
+CountsOnly i o r ReportFault = (i.faults' ≡ i.faults) × (o.faults' ≡ o.faults) × (r.faults' ≤ r.faults + 1)
+CountsOnly i o r _ = (i.faults' ≡ i.faults) × (o.faults' ≡ o.faults) × (r.faults' ≡ r.faults)
+
 pub record StreamRuns (c : BlockCommand) (limit : ℕ) (i : SourceChange) (o r : SinkChange) (e : StreamEnd) : Type 0 where
   pub told : (input : List ℕ) → AreOctets input → i.left ≡ Some input → ToldRun c limit input i.left' o r e
   pub caused : IsCaused limit i o r e
   pub licensed : IsLicensed c e
+  pub counts : CountsOnly i o r e
   pub source_later : i.faults ≤ i.faults'
   pub out_later : o.faults ≤ o.faults'
   pub report_later : r.faults ≤ r.faults'
 
--- nothing was taken and nothing added
+-- nothing was taken and nothing added, and no fault was counted
 pub record IsIdle (i : SourceChange) (o r : SinkChange) : Type 0 where
   pub untouched : IsUntouched i
   pub out : GainsNothing o
   pub report : GainsNothing r
+  pub source_quiet : i.faults' ≡ i.faults
+  pub out_quiet : o.faults' ≡ o.faults
+  pub report_quiet : r.faults' ≡ r.faults

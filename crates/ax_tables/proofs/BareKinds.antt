@@ -1,17 +1,18 @@
 -- Names and contents don't matter to what is read, nor to what is spelled.
 use Rattle.std.proofs.Common.{◌≡◌, ℕ, zero, suc, ◌+◌, ◌%◌, ◌==◌, cond, true, false, List, [], ◌∷◌, ◌++◌, length, take, drop, map, refl, ◌∙◌, ap, arith}
-use Rattle.std.specs.List.{AllByRecursion}
 use Rattle.std.proofs.lemmas.List.{length-map}
 use Rattle.ax_bits.specs.Bits.{word, number_of}
-use Rattle.ax_model.specs.Reader.{Read, got, failed, after, both, fixed_value, members_value, fixed_read, Split, split, short, cut, part_read, parts_read, one_read, run_read, each_read, count_read, presence_read, mark_read, marked_read, read, entries_read}
+use Rattle.ax_model.specs.Reader.{Read, got, failed, after, both, fixed_value, members_value, fixed_read, Split, split, short, cut, part_read, last_read, parts_read, one_read, run_read, each_read, count_read, presence_read, mark_read, marked_read, read, entries_read}
 use Rattle.ax_model.specs.Canonical.{number_canon, fixed_canon, members_canon, parts_canon, run_canon, each_canon, marks_of, canon, entries_canon}
-use Rattle.ax_model.specs.InBounds.{FixedInBounds, MembersInBounds, PartInBounds, InBounds, SlotsInBounds}
+use Rattle.ax_model.specs.InBounds.{FixedInBounds, MembersInBounds, PartsInBounds, InBounds, SlotsInBounds}
 use Rattle.ax_model.specs.Presence.{octets_needed, later_marks, first_mark, least_presence}
 use Rattle.ax_model.specs.Specification.{SpecTree, record_kind}
 use Rattle.ax_model.specs.Tree.{FixedTree, element, group, MembersTree, no_members, member_and, MemberTree, named, spare, members_of, KindTree, fixed, extended, counted, by_fx, explicit, compound, SlotsTree, no_slots, slot_and, SlotTree, spare_slot, subitem, slots_of, slot_count, defined_slots, ValueTree, number, member_values, part_values, occurrences, marked, ValuesTree, no_values, value_and, value_count, ListsTree, no_lists, list_and, EntriesTree, no_entries, entry_and}
-use Rattle.ax_model.specs.Widths.{width, members_width}
+use Rattle.ax_model.specs.Widths.{width, members_width, counter_width, fx_width}
 use Rattle.ax_model.specs.declared.content.Content.TheVariants.{Raw}
 use Rattle.ax_model.specs.declared.fault.BodyCause.TheVariants.{ExtensionPastEnd}
+use Rattle.ax_model.specs.declared.kind.LastPart.{LastPart}
+use Rattle.ax_model.specs.declared.kind.LastPart.TheVariants.{WithFx, WithoutFx}
 use Rattle.ax_tables.specs.Bare.{bare_fixed, bare_members, bare_member, bare_kind, bare_slots, bare_slot}
 use Rattle.ax_tables.specs.Standing.{StandsFor}
 use Rattle.ax_tables.specs.Table.{record_kind_at}
@@ -52,11 +53,15 @@ mutual
   members_bounds (member_and (named name f) ms) h = (fixed_bounds f h.0, members_bounds ms h.1)
   members_bounds (member_and (spare w) ms) h = (h.0, members_bounds ms h.1)
 
-parts_bounds : (ps : List MembersTree) → AllByRecursion PartInBounds ps → AllByRecursion PartInBounds (map bare_members ps)
-parts_bounds [] h = tt
-parts_bounds (p ∷ ps) h =
+bare_fx : (last : LastPart) (ps : List MembersTree) → fx_width last (length (map bare_members ps)) ≡ fx_width last (length ps)
+bare_fx last ps = ap (fx_width last) (length-map ps bare_members)
+
+parts_bounds : (last : LastPart) (ps : List MembersTree) → PartsInBounds last ps → PartsInBounds last (map bare_members ps)
+parts_bounds last [] h = tt
+parts_bounds last (p ∷ ps) h =
     let e = bare_members_width p in
-    ((ap (λ w. (w + 1) % 8) e ∙ h.0.0, omega (arith, h.0.1), members_bounds p h.0.2), parts_bounds ps h.1)
+    let fx = bare_fx last ps in
+    (((λ i. (e i + fx i) % 8) ∙ h.0.0, omega (arith, e, h.0.1), members_bounds p h.0.2, omega (arith, e, fx, h.0.3)), parts_bounds last ps h.1)
 
 bare_count : (ss : SlotsTree) → slot_count (bare_slots ss) ≡ slot_count ss
 bare_count no_slots = refl
@@ -66,8 +71,8 @@ bare_count (slot_and (subitem name k) ss) = ap suc (bare_count ss)
 mutual
   pub bare_bounds : (k : KindTree) → InBounds k → InBounds (bare_kind k)
   bare_bounds (fixed f) h = let e = bare_width f in (ap (λ w. w % 8) e ∙ h.0, omega (arith, h.1), fixed_bounds f h.2)
-  bare_bounds (extended ps) h = (omega (arith, h.0, length-map ps bare_members), parts_bounds ps h.1)
-  bare_bounds (counted k) h = bare_bounds k h
+  bare_bounds (extended last ps) h = (omega (arith, h.0, length-map ps bare_members), parts_bounds last ps h.1)
+  bare_bounds (counted size k) h = bare_bounds k h
   bare_bounds (by_fx f) h = let e = bare_width f in (ap (λ w. (w + 1) % 8) e ∙ h.0, omega (arith, h.1), fixed_bounds f h.2)
   bare_bounds explicit h = tt
   bare_bounds (compound ss) h = let e = bare_count ss in (omega (arith, h.0), omega (arith, h.1), slots_bounds ss h.2)
@@ -93,16 +98,25 @@ fixed_same : (f : FixedTree) (s : Split) → fixed_read (bare_fixed f) s ≡ fix
 fixed_same f short = refl
 fixed_same f (cut x y) = λ i. got (bare_value f x i) (bare_width f i) y
 
-part_same : (p : MembersTree) (ps : List MembersTree) (s : Split) → ((y : List ℕ) → parts_read (map bare_members ps) y ≡ parts_read ps y) → part_read (bare_members p) (map bare_members ps) s (parts_read (map bare_members ps)) ≡ part_read p ps s (parts_read ps)
-part_same p ps short h = refl
-part_same p ps (cut x []) h = refl
-part_same p ps (cut x (zero ∷ y)) h = λ i. got (list_and (bare_values p x i) no_lists) (bare_members_width p i + 1) y
-part_same p [] (cut x (suc fx ∷ y)) h = ap (λ w. failed w ExtensionPastEnd) (bare_members_width p)
-part_same p (q ∷ ps) (cut x (suc fx ∷ y)) h = λ i. after (bare_members_width p i + 1) (λ ls. list_and (bare_values p x i) ls) (h y i)
+part_same : (p : MembersTree) (ps : List MembersTree) (s : Split) (go goes : List ℕ → Read ListsTree) → ((y : List ℕ) → go y ≡ goes y) → part_read (bare_members p) (map bare_members ps) s go ≡ part_read p ps s goes
+part_same p ps short go goes h = refl
+part_same p ps (cut x []) go goes h = refl
+part_same p ps (cut x (zero ∷ y)) go goes h = λ i. got (list_and (bare_values p x i) no_lists) (bare_members_width p i + 1) y
+part_same p [] (cut x (suc fx ∷ y)) go goes h = ap (λ w. failed w ExtensionPastEnd) (bare_members_width p)
+part_same p (q ∷ ps) (cut x (suc fx ∷ y)) go goes h = λ i. after (bare_members_width p i + 1) (λ ls. list_and (bare_values p x i) ls) (h y i)
 
-parts_same : (ps : List MembersTree) (b : List ℕ) → parts_read (map bare_members ps) b ≡ parts_read ps b
-parts_same [] b = refl
-parts_same (p ∷ ps) b = ap (λ w. part_read (bare_members p) (map bare_members ps) (split w b) (parts_read (map bare_members ps))) (bare_members_width p) ∙ part_same p ps (split (members_width p) b) (parts_same ps)
+last_same : (p : MembersTree) (s : Split) → last_read (bare_members p) s ≡ last_read p s
+last_same p short = refl
+last_same p (cut x y) = λ i. got (list_and (bare_values p x i) no_lists) (bare_members_width p i) y
+
+parts_same : (last : LastPart) (ps : List MembersTree) (b : List ℕ) → parts_read last (map bare_members ps) b ≡ parts_read last ps b
+parts_same last [] b = refl
+parts_same last (p ∷ q ∷ ps) b =
+    let go = parts_read last (map bare_members (q ∷ ps)) in
+    ap (λ w. part_read (bare_members p) (map bare_members (q ∷ ps)) (split w b) go) (bare_members_width p) ∙ part_same p (q ∷ ps) (split (members_width p) b) go (parts_read last (q ∷ ps)) (parts_same last (q ∷ ps))
+parts_same WithFx (p ∷ []) b =
+    ap (λ w. part_read (bare_members p) [] (split w b) (parts_read WithFx [])) (bare_members_width p) ∙ part_same p [] (split (members_width p) b) (parts_read WithFx []) (parts_read WithFx []) (λ y. refl)
+parts_same WithoutFx (p ∷ []) b = ap (λ w. last_read (bare_members p) (split w b)) (bare_members_width p) ∙ last_same p (split (members_width p) b)
 
 one_same : (f : FixedTree) (s : Split) (go goes : List ℕ → Read ValuesTree) → ((y : List ℕ) → go y ≡ goes y) → one_read (bare_fixed f) s go ≡ one_read f s goes
 one_same f short go goes h = refl
@@ -125,9 +139,9 @@ each_same : (rule rules : List ℕ → Read ValueTree) (n : ℕ) (b : List ℕ) 
 each_same rule rules zero b h = refl
 each_same rule rules (suc n) b h = both_same (λ v vs. value_and v vs) (rule b) (rules b) (each_read rule n) (each_read rules n) (h b) (λ y. each_same rule rules n y h)
 
-count_same : (rule rules : List ℕ → Read ValueTree) (s : Split) → ((y : List ℕ) → rule y ≡ rules y) → count_read rule s ≡ count_read rules s
-count_same rule rules short h = refl
-count_same rule rules (cut x y) h = ap (after 8 (λ vs. occurrences vs)) (each_same rule rules (number_of x) y h)
+count_same : (w : ℕ) (rule rules : List ℕ → Read ValueTree) (s : Split) → ((y : List ℕ) → rule y ≡ rules y) → count_read w rule s ≡ count_read w rules s
+count_same w rule rules short h = refl
+count_same w rule rules (cut x y) h = ap (after w (λ vs. occurrences vs)) (each_same rule rules (number_of x) y h)
 
 bare_defined : (ss : SlotsTree) → defined_slots (bare_slots ss) ≡ defined_slots ss
 bare_defined no_slots = refl
@@ -145,8 +159,8 @@ mark_same (suc m) s one ones go goes b h g = both_same (λ v es. entry_and s v e
 mutual
   pub bare_read : (k : KindTree) (b : List ℕ) → read (bare_kind k) b ≡ read k b
   bare_read (fixed f) b = ap (λ w. fixed_read (bare_fixed f) (split w b)) (bare_width f) ∙ fixed_same f (split (width f) b)
-  bare_read (extended ps) b = ap (after 0 (λ ls. part_values ls)) (parts_same ps b)
-  bare_read (counted k) b = count_same (read (bare_kind k)) (read k) (split 8 b) (bare_read k)
+  bare_read (extended last ps) b = ap (after 0 (λ ls. part_values ls)) (parts_same last ps b)
+  bare_read (counted size k) b = count_same (counter_width size) (read (bare_kind k)) (read k) (split (counter_width size) b) (bare_read k)
   bare_read (by_fx f) b = ap (after 0 (λ vs. occurrences vs)) (run_same (suc (length b)) f b)
   bare_read explicit b = refl
   bare_read (compound ss) b =
@@ -174,11 +188,11 @@ mutual
   bare_members_canon (member_and (named name f) ms) (value_and v vs) = λ i. bare_fixed_canon f v i ++ bare_members_canon ms vs i
   bare_members_canon (member_and (spare w) ms) (value_and v vs) = λ i. number_canon w v ++ bare_members_canon ms vs i
 
-bare_parts_canon : (ps : List MembersTree) (ls : ListsTree) → parts_canon (map bare_members ps) ls ≡ parts_canon ps ls
-bare_parts_canon [] ls = refl
-bare_parts_canon (p ∷ ps) no_lists = refl
-bare_parts_canon (p ∷ ps) (list_and vs no_lists) = ap (λ x. x ++ 0 ∷ []) (bare_members_canon p vs)
-bare_parts_canon (p ∷ ps) (list_and vs (list_and ws ls)) = λ i. bare_members_canon p vs i ++ 1 ∷ bare_parts_canon ps (list_and ws ls) i
+bare_parts_canon : (last : LastPart) (ps : List MembersTree) (ls : ListsTree) → parts_canon last (map bare_members ps) ls ≡ parts_canon last ps ls
+bare_parts_canon last [] ls = refl
+bare_parts_canon last (p ∷ ps) no_lists = refl
+bare_parts_canon last (p ∷ ps) (list_and vs no_lists) = λ i. bare_members_canon p vs i ++ word (bare_fx last ps i) 0
+bare_parts_canon last (p ∷ ps) (list_and vs (list_and ws ls)) = λ i. bare_members_canon p vs i ++ 1 ∷ bare_parts_canon last ps (list_and ws ls) i
 
 bare_run_canon : (f : FixedTree) (vs : ValuesTree) → run_canon (bare_fixed f) vs ≡ run_canon f vs
 bare_run_canon f no_values = refl
@@ -198,10 +212,10 @@ bare_marks s (slot_and (subitem name k) ss) (entry_and t v es) = λ i. cond (t =
 mutual
   pub bare_canon : (k : KindTree) (v : ValueTree) → canon (bare_kind k) v ≡ canon k v
   bare_canon (fixed f) v = bare_fixed_canon f v
-  bare_canon (extended ps) (part_values ls) = bare_parts_canon ps ls
-  bare_canon (extended ps) _ = refl
-  bare_canon (counted k) (occurrences vs) = ap (λ x. word 8 (value_count vs) ++ x) (each_canon_same (canon (bare_kind k)) (canon k) vs (bare_canon k))
-  bare_canon (counted k) _ = refl
+  bare_canon (extended last ps) (part_values ls) = bare_parts_canon last ps ls
+  bare_canon (extended last ps) _ = refl
+  bare_canon (counted size k) (occurrences vs) = ap (λ x. word (counter_width size) (value_count vs) ++ x) (each_canon_same (canon (bare_kind k)) (canon k) vs (bare_canon k))
+  bare_canon (counted size k) _ = refl
   bare_canon (by_fx f) (occurrences vs) = bare_run_canon f vs
   bare_canon (by_fx f) _ = refl
   bare_canon explicit v = refl

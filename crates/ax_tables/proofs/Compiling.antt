@@ -6,20 +6,21 @@ use Rattle.ax_fspec.specs.Marks.{no_marks, are_marked}
 use Rattle.ax_fspec.specs.declared.mask.SlotMask.{SlotMask}
 use Rattle.ax_model.proofs.Bounds.{record_bounds}
 use Rattle.ax_model.specs.Flaws.{NoFlaw}
-use Rattle.ax_model.specs.InBounds.{PartInBounds, InBounds}
+use Rattle.ax_model.specs.InBounds.{PartsInBounds, InBounds}
 use Rattle.ax_model.specs.Plain.{member_tree, part_tree}
 use Rattle.ax_model.specs.Presence.{none_marked}
 use Rattle.ax_model.specs.Specification.{SpecTree, record_kind}
-use Rattle.ax_model.specs.Tree.{MemberTree, MembersTree, members_of, group, named, spare, SlotTree, spare_slot, slots_of, compound}
+use Rattle.ax_model.specs.Tree.{MemberTree, MembersTree, members_of, group, named, spare, SlotTree, slots_of, compound}
 use Rattle.ax_model.specs.Widths.{member_width, members_width}
+use Rattle.ax_model.specs.declared.kind.LastPart.{LastPart}
 use Rattle.ax_model.specs.declared.kind.Member.{Member}
 use Rattle.ax_model.specs.declared.kind.Part.{Part}
 use Rattle.ax_tables.proofs.BareKinds.{bare_members_of, bare_members_width, bare_slots_of, bare_bounds}
-use Rattle.ax_tables.proofs.Growing.{made_far, are_more, member_shows, part_shows, slots_more, goes_nowhere}
+use Rattle.ax_tables.proofs.Growing.{made_far, are_more, member_shows, part_shows, slots_more}
 use Rattle.ax_tables.specs.Bare.{bare_fixed, bare_of_member, bare_member, bare_members, bare_slot}
 use Rattle.ax_tables.specs.Making.{IsMade, AreMade, SlotIsMade, SlotsAreMade}
 use Rattle.ax_tables.specs.Meaning.{Meaning, a_fixed, a_part, fixed_of, part_of, meaning, meanings, linked_member, linked_part, linked_slot, linked_members, linked_slots}
-use Rattle.ax_tables.specs.Table.{IsTable, IsNode, record_kind_at}
+use Rattle.ax_tables.specs.Table.{IsNode, record_kind_at}
 use Rattle.ax_tables.specs.declared.node.Node.{Node}
 use Rattle.ax_tables.specs.declared.node.Node.TheVariants as Of
 use Rattle.ax_reader.proofs.Marking.{MaskSoFar, mask_none, mask_more, mask_same, mask_all, mask_rest}
@@ -62,10 +63,18 @@ member_wide [] i m lt e = absurd (omega arith)
 member_wide (n ∷ ms) zero m lt e = omega (arith, wide_split n ms, ap member_width e)
 member_wide (n ∷ ms) (suc i) m lt e = omega (arith, wide_split n ms, member_wide ms i m (omega arith) e)
 
-pub part_bounds : (ps : List MembersTree) (i : ℕ) (p : MembersTree) → AllByRecursion PartInBounds ps → i < length ps → p ≡ get_or ps i p → PartInBounds p
-part_bounds [] i p h lt e = absurd (omega arith)
-part_bounds (q ∷ ps) zero p h lt e = subst PartInBounds (sym e) h.0
-part_bounds (q ∷ ps) (suc i) p h lt e = part_bounds ps i p h.1 (omega arith) e
+-- no part is wider than the longest body
+abbrev pub AreNarrow : List MembersTree → Type 0
+AreNarrow ps = AllByRecursion (λ p. members_width p ≤ 524256) ps
+
+pub narrow_parts : (last : LastPart) (ps : List MembersTree) → PartsInBounds last ps → AreNarrow ps
+narrow_parts last [] h = tt
+narrow_parts last (p ∷ ps) h = (h.0.1, narrow_parts last ps h.1)
+
+pub narrow_part : (ps : List MembersTree) (i : ℕ) (p : MembersTree) → AreNarrow ps → i < length ps → p ≡ get_or ps i p → members_width p ≤ 524256
+narrow_part [] i p h lt e = absurd (omega arith)
+narrow_part (q ∷ ps) zero p h lt e = omega (arith, h.0, ap members_width e)
+narrow_part (q ∷ ps) (suc i) p h lt e = narrow_part ps i p h.1 (omega arith) e
 
 -- ---- what a call made
 

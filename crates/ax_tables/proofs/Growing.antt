@@ -1,6 +1,6 @@
 -- Tables that go on.
-use Rattle.std.proofs.Common.{◌≡◌, ℕ, zero, suc, ◌+◌, ◌<◌, ◌≤◌, List, [], ◌∷◌, ◌++◌, length, map, get_or, refl, sym, ◌∙◌, ap, arith, subst, length-append, append_assoc, append-nil}
-use Rattle.ax_model.specs.Tree.{KindTree, fixed, extended, counted, by_fx, explicit, compound, SlotTree, subitem, named}
+use Rattle.std.proofs.Common.{◌≡◌, ℕ, suc, ◌+◌, ◌<◌, ◌≤◌, List, [], ◌∷◌, ◌++◌, length, map, get_or, refl, sym, ◌∙◌, ap, arith, subst, length-append, append_assoc, append-nil}
+use Rattle.ax_model.specs.Tree.{KindTree, fixed, extended, counted, by_fx, explicit, compound, SlotTree, named}
 use Rattle.ax_tables.proofs.Tables.{linked_front, slot_front, maps_same, after_is, newer, meanings_count, get_after}
 use Rattle.ax_tables.specs.Making.{GoesOn, IsMade, AreMade, SlotIsMade, SlotsAreMade, of_kind}
 use Rattle.ax_tables.specs.Meaning.{Meaning, nothing, fixed_of, part_of, kind_of, meaning, meanings, meanings_after, linked, linked_member, linked_part, linked_slot}
@@ -119,8 +119,8 @@ slots_more old mid new links made link slot h g = record {
 
 pub kind_back : (k : KindTree) → kind_of (of_kind k) ≡ k
 kind_back (fixed f) = refl
-kind_back (extended ps) = refl
-kind_back (counted k) = refl
+kind_back (extended last ps) = refl
+kind_back (counted size k) = refl
 kind_back (by_fx f) = refl
 kind_back explicit = refl
 kind_back (compound ss) = refl

@@ -46,8 +46,8 @@ module _ (ms more : List Meaning) (n : ℕ) (few : n ≤ length ms) where
   meaning_front (Of.Element w) h = refl
   meaning_front (Of.Group w links) h = ap (λ x. a_fixed (group (members_of x))) (members_front links h.0)
   meaning_front (Of.Part w links) h = ap (λ x. a_part (members_of x)) (members_front links h.0)
-  meaning_front (Of.Extended links) h = ap (λ x. a_kind (extended x)) (parts_front links h)
-  meaning_front (Of.Counted link) h = ap (λ m. a_kind (counted (kind_of m))) (linked_front ms more link (omega (arith, h.1)))
+  meaning_front (Of.Extended last links) h = ap (λ x. a_kind (extended last x)) (parts_front links h)
+  meaning_front (Of.Counted size link) h = ap (λ m. a_kind (counted size (kind_of m))) (linked_front ms more link (omega (arith, h.1)))
   meaning_front (Of.ByFx link) h = ap (λ m. a_kind (by_fx (fixed_of m))) (linked_front ms more link (omega (arith, h.1)))
   meaning_front Of.Explicit h = refl
   meaning_front (Of.Compound mask links) h = ap (λ x. a_kind (compound (slots_of x))) (slots_front links h.0)
@@ -56,8 +56,8 @@ module _ (ms more : List Meaning) (n : ℕ) (few : n ≤ length ms) where
   node_front (Of.Element w) h = tt
   node_front (Of.Group w links) h = (h.0, ap (λ x. members_width (members_of x)) (members_front links h.0) ∙ h.1)
   node_front (Of.Part w links) h = (h.0, ap (λ x. members_width (members_of x)) (members_front links h.0) ∙ h.1)
-  node_front (Of.Extended links) h = h
-  node_front (Of.Counted link) h = h
+  node_front (Of.Extended last links) h = h
+  node_front (Of.Counted size link) h = h
   node_front (Of.ByFx link) h = h
   node_front Of.Explicit h = tt
   node_front (Of.Compound mask links) h = (h.0, subst (λ slots. IsMaskOf slots mask) (sym (slots_front links h.0)) h.1)
@@ -130,8 +130,8 @@ fixed_bits_of : (n : ℕ) (ms : List Meaning) (one : Node) → IsNode n ms one �
 fixed_bits_of n ms (Of.Element w) h = refl
 fixed_bits_of n ms (Of.Group w links) h = sym h.1
 fixed_bits_of n ms (Of.Part w links) h = refl
-fixed_bits_of n ms (Of.Extended links) h = refl
-fixed_bits_of n ms (Of.Counted link) h = refl
+fixed_bits_of n ms (Of.Extended last links) h = refl
+fixed_bits_of n ms (Of.Counted size link) h = refl
 fixed_bits_of n ms (Of.ByFx link) h = refl
 fixed_bits_of n ms Of.Explicit h = refl
 fixed_bits_of n ms (Of.Compound mask links) h = refl
@@ -140,8 +140,8 @@ part_bits_of : (n : ℕ) (ms : List Meaning) (one : Node) → IsNode n ms one �
 part_bits_of n ms (Of.Element w) h = refl
 part_bits_of n ms (Of.Group w links) h = refl
 part_bits_of n ms (Of.Part w links) h = sym h.1
-part_bits_of n ms (Of.Extended links) h = refl
-part_bits_of n ms (Of.Counted link) h = refl
+part_bits_of n ms (Of.Extended last links) h = refl
+part_bits_of n ms (Of.Counted size link) h = refl
 part_bits_of n ms (Of.ByFx link) h = refl
 part_bits_of n ms Of.Explicit h = refl
 part_bits_of n ms (Of.Compound mask links) h = refl

@@ -29,8 +29,8 @@ bare_member m = named [] (bare_of_member m)
 abbrev mutual
   pub bare_kind : KindTree → KindTree
   bare_kind (fixed f) = fixed (bare_fixed f)
-  bare_kind (extended ps) = extended (map bare_members ps)
-  bare_kind (counted k) = counted (bare_kind k)
+  bare_kind (extended last ps) = extended last (map bare_members ps)
+  bare_kind (counted size k) = counted size (bare_kind k)
   bare_kind (by_fx f) = by_fx (bare_fixed f)
   bare_kind explicit = explicit
   bare_kind (compound ss) = compound (bare_slots ss)

@@ -2,9 +2,10 @@
 use Rattle.std.specs.Prelude.{◌≡◌, ℕ, ◌+◌, ◌%◌, ◌<◌, ◌≤◌, List, [], ◌∷◌, ◌++◌, length}
 use Rattle.std.specs.Coded.{×_prop, Unit-prop, le_prop, Coded-set, coded_ℕ, coded_bool, coded_list}
 use Rattle.std.specs.List.{AllByRecursion-prop}
-use Rattle.ax_model.specs.InBounds.{FixedInBounds, MembersInBounds, PartInBounds, InBounds, SlotsInBounds}
+use Rattle.ax_model.specs.InBounds.{FixedInBounds, MembersInBounds, PartInBounds, PartsInBounds, InBounds, SlotsInBounds}
 use Rattle.ax_model.specs.Tree.{FixedTree, element, group, MembersTree, no_members, member_and, named, spare, KindTree, fixed, extended, counted, by_fx, explicit, compound, SlotsTree, no_slots, slot_and, spare_slot, subitem, SlotTree}
-use Rattle.ax_model.specs.Widths.{width, members_width}
+use Rattle.ax_model.specs.Widths.{width, members_width, fx_width}
+use Rattle.ax_model.specs.declared.kind.LastPart.{LastPart}
 use Rattle.ax_fspec.specs.declared.mask.SlotMask.{SlotMask}
 use Rattle.ax_tables.specs.Meaning.{Meaning, meaning, meanings, linked_slots}
 use Rattle.ax_tables.specs.Table.{LinksWithin, SlotLinksWithin, IsNode, AreNodes, IsTable, record_kind_at, IsRecordTable}
@@ -31,8 +32,8 @@ node_prop : (n : ℕ) (ms : List Meaning) (one : Node) → IsProp (IsNode n ms o
 node_prop n ms (Of.Element w) = Unit-prop
 node_prop n ms (Of.Group w links) = ×_prop (links_prop n links) (width_prop _ _)
 node_prop n ms (Of.Part w links) = ×_prop (links_prop n links) (width_prop _ _)
-node_prop n ms (Of.Extended links) = links_prop n links
-node_prop n ms (Of.Counted link) = ×_prop le_prop le_prop
+node_prop n ms (Of.Extended last links) = links_prop n links
+node_prop n ms (Of.Counted size link) = ×_prop le_prop le_prop
 node_prop n ms (Of.ByFx link) = ×_prop le_prop le_prop
 node_prop n ms Of.Explicit = Unit-prop
 node_prop n ms (Of.Compound mask links) = ×_prop (slot_links_prop n links) (mask_prop _ _)
@@ -62,14 +63,18 @@ mutual
   members_bounds_prop (member_and (named name f) ms) = ×_prop (fixed_bounds_prop f) (members_bounds_prop ms)
   members_bounds_prop (member_and (spare w) ms) = ×_prop (×_prop le_prop le_prop) (members_bounds_prop ms)
 
-pub part_bounds_prop : (p : MembersTree) → IsProp (PartInBounds p)
-part_bounds_prop p = three_prop (width_prop ((members_width p + 1) % 8) 0) le_prop (members_bounds_prop p)
+part_bounds_prop : (fx : ℕ) (p : MembersTree) → IsProp (PartInBounds fx p)
+part_bounds_prop fx p a b = λ i. (width_prop ((members_width p + fx) % 8) 0 a.0 b.0 i, le_prop a.1 b.1 i, members_bounds_prop p a.2 b.2 i, le_prop a.3 b.3 i)
+
+pub parts_bounds_prop : (last : LastPart) (ps : List MembersTree) → IsProp (PartsInBounds last ps)
+parts_bounds_prop last [] = Unit-prop
+parts_bounds_prop last (p ∷ ps) = ×_prop (part_bounds_prop (fx_width last (length ps)) p) (parts_bounds_prop last ps)
 
 mutual
   pub bounds_prop : (k : KindTree) → IsProp (InBounds k)
   bounds_prop (fixed f) = three_prop (width_prop (width f % 8) 0) le_prop (fixed_bounds_prop f)
-  bounds_prop (extended ps) = ×_prop le_prop (AllByRecursion-prop PartInBounds part_bounds_prop ps)
-  bounds_prop (counted k) = bounds_prop k
+  bounds_prop (extended last ps) = ×_prop le_prop (parts_bounds_prop last ps)
+  bounds_prop (counted size k) = bounds_prop k
   bounds_prop (by_fx f) = three_prop (width_prop ((width f + 1) % 8) 0) le_prop (fixed_bounds_prop f)
   bounds_prop explicit = Unit-prop
   bounds_prop (compound ss) = three_prop le_prop le_prop (slots_bounds_prop ss)

@@ -60,8 +60,8 @@ abbrev pub meaning : List Meaning → Node → Meaning
 meaning ms (Of.Element w) = a_fixed (element w Raw)
 meaning ms (Of.Group w links) = a_fixed (group (linked_members ms links))
 meaning ms (Of.Part w links) = a_part (linked_members ms links)
-meaning ms (Of.Extended links) = a_kind (extended (linked_parts ms links))
-meaning ms (Of.Counted link) = a_kind (counted (kind_of (linked ms link)))
+meaning ms (Of.Extended last links) = a_kind (extended last (linked_parts ms links))
+meaning ms (Of.Counted size link) = a_kind (counted size (kind_of (linked ms link)))
 meaning ms (Of.ByFx link) = a_kind (by_fx (fixed_of (linked ms link)))
 meaning ms Of.Explicit = a_kind explicit
 meaning ms (Of.Compound mask links) = a_kind (compound (slots_of (linked_slots ms links)))

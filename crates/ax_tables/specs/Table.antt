@@ -23,8 +23,8 @@ abbrev pub IsNode : ℕ → List Meaning → Node → Type 0
 IsNode n ms (Of.Element w) = Unit {0}
 IsNode n ms (Of.Group w links) = LinksWithin n links × (members_width (linked_members ms links) ≡ w)
 IsNode n ms (Of.Part w links) = LinksWithin n links × (members_width (linked_members ms links) ≡ w)
-IsNode n ms (Of.Extended links) = LinksWithin n links
-IsNode n ms (Of.Counted link) = (0 < link) × (link ≤ n)
+IsNode n ms (Of.Extended last links) = LinksWithin n links
+IsNode n ms (Of.Counted size link) = (0 < link) × (link ≤ n)
 IsNode n ms (Of.ByFx link) = (0 < link) × (link ≤ n)
 IsNode n ms Of.Explicit = Unit {0}
 IsNode n ms (Of.Compound mask links) = SlotLinksWithin n links × IsMaskOf (linked_slots ms links) mask

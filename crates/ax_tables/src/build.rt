@@ -1,7 +1,7 @@
 //! Tables made of accepted specifications.
 ghost use Rattle.std.specs.Prelude.{◌≡◌, ◌≤◌, ◌<◌, length, map, IfOk, OnOk};
 ghost use Rattle.ax_model.specs.Flaws.{NoFlaw};
-ghost use Rattle.ax_model.specs.InBounds.{FixedInBounds, InBounds, SlotsInBounds, MembersInBounds, PartInBounds};
+ghost use Rattle.ax_model.specs.InBounds.{FixedInBounds, InBounds, SlotsInBounds, MembersInBounds};
 ghost use Rattle.ax_model.specs.Plain.{fixed_tree, member_tree, members_tree, part_tree, kind_tree, slot_tree, slots_tree, spec_tree};
 ghost use Rattle.ax_model.specs.Tree as Tree;
 ghost use Rattle.ax_model.specs.Widths.{width, member_width, members_width};
@@ -121,7 +121,7 @@ fn add_part(alloc: Global, part: &Part, nodes: &mut Nodes) -> Result<u32, AllocE
 /// Adds the nodes of parts. Ok is a link for each.
 fn add_parts(alloc: Global, parts: &Parts, nodes: &mut Nodes) -> Result<Links, AllocError>
     requires table { IsTable nodes.old }
-    requires bounds { AllByRecursion PartInBounds (map part_tree parts.now) }
+    requires widths { AllByRecursion (λ p. members_width p ≤ 524256) (map part_tree parts.now) }
     ensures { IfOk result (λ links. AreMade linked_part nodes.old nodes.new links (map bare_members (map part_tree parts.now))) }
 {
     let mut links = Links::new(alloc);
@@ -141,13 +141,25 @@ fn add_kind(alloc: Global, kind: &Kind, nodes: &mut Nodes) -> Result<u32, AllocE
 {
     match kind {
         Kind::Fixed(fixed) => add_fixed(alloc, fixed, nodes),
-        Kind::Extended(parts) => {
+        Kind::Extended { last, parts } => {
             let links = add_parts(alloc, parts, nodes)?;
-            add(nodes, Node::Extended { parts: links })
+            add(
+                nodes,
+                Node::Extended {
+                    last: *last,
+                    parts: links,
+                },
+            )
         }
-        Kind::Counted(inner) => {
+        Kind::Counted { counter, inner } => {
             let link = add_kind(alloc, inner, nodes)?;
-            add(nodes, Node::Counted { inner: link })
+            add(
+                nodes,
+                Node::Counted {
+                    counter: *counter,
+                    inner: link,
+                },
+            )
         }
         Kind::ByFx(fixed) => {
             let link = add_fixed(alloc, fixed, nodes)?;

@@ -7,6 +7,7 @@ ghost use Rattle.ax_tables.specs.Meaning.{fixed_bits, part_bits};
 
 use ax_fspec::SlotMask;
 use ax_lists::Sequence;
+use ax_model::{Counter, LastPart};
 use std::alloc::{AllocError, Global};
 use std::marker::Model;
 
@@ -97,12 +98,12 @@ pub enum Node {
     Element { width: u32 },
     /// Members one after another, each an element or a group.
     Group { width: u32, members: Links },
-    /// A part of an extended item: members one after another, as in a group.
+    /// A part of an extended or closed item: members one after another, as in a group.
     Part { width: u32, members: Links },
-    /// The parts of an extended item, each a part's node.
-    Extended { parts: Links },
-    /// Occurrences of any kind, after their number.
-    Counted { inner: u32 },
+    /// The parts of an extended or closed item, each a part's node, and whether the last has an FX bit.
+    Extended { last: LastPart, parts: Links },
+    /// Occurrences of any kind, after their number in a counter of one octet or two.
+    Counted { counter: Counter, inner: u32 },
     /// Occurrences of a fixed kind, each with its FX bit.
     ByFx { inner: u32 },
     /// Octets after their length.

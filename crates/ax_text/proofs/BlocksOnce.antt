@@ -11,11 +11,11 @@ use Rattle.ax_model.specs.Specification.{SpecTree, record_slots, spec_of}
 use Rattle.ax_model.specs.Streams.{FitsOver}
 use Rattle.ax_model.specs.Tree.{EntriesTree}
 use Rattle.ax_text.specs.BlockText.{records_onto}
-use Rattle.ax_text.specs.Names.{IsNamed}
+use Rattle.ax_text.specs.Names.{SlotsNamed, IsNamed}
+use Rattle.ax_text.specs.Readable.{SlotsReadable}
 use Rattle.ax_text.specs.Tokens.{TextOver, IsOfCatalogue}
 use Rattle.ax_text.specs.ValueText.{Texts, closing, hex_text}
-use Rattle.ax_text.proofs.Readable.{SlotsReadable}
-use Rattle.ax_text.proofs.Readables.{record_readable}
+use Rattle.ax_text.proofs.Readables.{record_readable, record_named}
 use Rattle.ax_text.proofs.Unique.{heads, tails, different, same_hex, same_entries}
 
 -- ---- categories
@@ -32,14 +32,14 @@ same_category n m e =
 
 -- ---- records
 
-same_records : (spec : SpecTree) (rs us : List EntriesTree) (x y : Texts) → SlotsReadable (record_slots spec) → AllByRecursion (RecordShape spec) rs → AllByRecursion (RecordShape spec) us
+same_records : (spec : SpecTree) (rs us : List EntriesTree) (x y : Texts) → SlotsReadable (record_slots spec) → SlotsNamed (record_slots spec) → AllByRecursion (RecordShape spec) rs → AllByRecursion (RecordShape spec) us
     → records_onto spec rs (closing ∷ x) ≡ records_onto spec us (closing ∷ y) → (rs ≡ us) × (x ≡ y)
-same_records spec [] [] x y r a b e = (refl, tails _ _ _ _ e)
-same_records spec [] (u ∷ us) x y r a b e = absurd (different (codes "record") closing refl (heads _ _ _ _ (sym e)))
-same_records spec (v ∷ rs) [] x y r a b e = absurd (different (codes "record") closing refl (heads _ _ _ _ e))
-same_records spec (v ∷ rs) (u ∷ us) x y r a b e =
-    let s = same_entries 1 (record_slots spec) v u (records_onto spec rs (closing ∷ x)) (records_onto spec us (closing ∷ y)) r a.0.shape b.0.shape (tails _ _ _ _ (tails _ _ _ _ e)) in
-    let t = same_records spec rs us x y r a.1 b.1 s.1 in
+same_records spec [] [] x y r n a b e = (refl, tails _ _ _ _ e)
+same_records spec [] (u ∷ us) x y r n a b e = absurd (different (codes "record") closing refl (heads _ _ _ _ (sym e)))
+same_records spec (v ∷ rs) [] x y r n a b e = absurd (different (codes "record") closing refl (heads _ _ _ _ e))
+same_records spec (v ∷ rs) (u ∷ us) x y r n a b e =
+    let s = same_entries 1 (record_slots spec) v u (records_onto spec rs (closing ∷ x)) (records_onto spec us (closing ∷ y)) r n a.0.shape b.0.shape (tails _ _ _ _ (tails _ _ _ _ e)) in
+    let t = same_records spec rs us x y r n a.1 b.1 s.1 in
     (rw (s.0, t.0) refl, t.1)
 
 -- ---- blocks
@@ -68,7 +68,7 @@ module _ (catalogue : List SpecTree) where
   read_same None category rs us g a b e = absurd a
   read_same (Some spec) category rs us g a b e =
       let h = g spec refl in
-      (same_records spec rs us [] [] (record_readable spec h.0 h.1) a.2 b.2 (tails _ _ _ _ (tails _ _ _ _ (tails _ _ _ _ e)))).0
+      (same_records spec rs us [] [] (record_readable spec h.0) (record_named spec h.1) a.2 b.2 (tails _ _ _ _ (tails _ _ _ _ (tails _ _ _ _ e)))).0
 
   -- the second text is the category
   read_category : (o p : Option SpecTree) (category other : ℕ) (rs us : List EntriesTree) → FitsOver o (read_block category rs) → FitsOver p (read_block other us) → TextOver o (read_block category rs) ≡ TextOver p (read_block other us) → category ≡ other

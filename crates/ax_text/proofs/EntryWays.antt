@@ -9,9 +9,9 @@ use Rattle.ax_model.specs.Shape.{EntriesShape}
 use Rattle.ax_model.specs.Tree.{KindTree, SlotTree, SlotsTree, no_slots, slot_and, spare_slot, subitem, ValueTree, EntriesTree, no_entries, entry_and}
 use Rattle.ax_model.specs.declared.kind.Slot.{Slot}
 use Rattle.ax_model.specs.declared.value.Entry.{Entry}
-use Rattle.ax_text.specs.Printing.{after_spaces, Puts}
+use Rattle.ax_text.specs.Printing.{Puts}
 use Rattle.ax_text.specs.Slots.{slot_after, slot_numbered, or_spare, SlotShape, slot_onto}
-use Rattle.ax_text.specs.ValueText.{Texts, one_onto, kind_onto, entries_onto}
+use Rattle.ax_text.specs.ValueText.{Texts, entries_onto}
 use Rattle.ax_text.proofs.Printed.{none_put, both_put, Leaves, leaves_all, leaves_fewer, leaves_none, from_place}
 
 -- ---- entries by the slots of their numbers

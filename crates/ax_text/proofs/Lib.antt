@@ -1,5 +1,4 @@
 pub mod Printed
-pub mod Readable
 pub mod Readables
 pub mod Unique
 pub mod FixedWays

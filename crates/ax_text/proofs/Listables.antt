@@ -1,22 +1,23 @@
 -- The records of a specification without flaw can be listed.
-use Rattle.std.proofs.Common.{◌≡◌, ℕ, ◌+◌, ◌<◌, ◌≤◌, ◌==◌, nat_lt, Bool, true, false, ◌||◌, List, [], ◌∷◌, ◌++◌, length, map, bytes_eq, cond, codes, decimal, Option, Some, None, refl, sym, ◌∙◌, ap, arith, subst}
-use Rattle.std.specs.List.{AllByRecursion, find}
+use Rattle.std.proofs.Common.{◌≡◌, ℕ, ◌+◌, ◌<◌, ◌==◌, nat_lt, Bool, true, false, ◌||◌, List, [], ◌∷◌, ◌++◌, length, map, bytes_eq, codes, decimal, refl, arith}
+use Rattle.std.specs.List.{AllByRecursion}
 use Rattle.std.proofs.lemmas.Bool.{eqb-false, ltb-false}
 use Rattle.ax_model.proofs.Bounds.{kind_bounds}
-use Rattle.ax_model.specs.Flaws.{flaw_where, is_among, is_no_multiple, is_too_wide, is_bad_width, is_bad_element_width, is_bad_scale, is_bad_string_width, has_no_member, fixed_flaws, members_flaws, parts_flaws, names_with, kind_flaws, slots_flaws, items_flaws, NoFlaw}
-use Rattle.ax_model.specs.InBounds.{IsWidth, FixedInBounds, MembersInBounds, PartInBounds, InBounds, SlotsInBounds}
+use Rattle.ax_model.specs.Flaws.{flaw_where, is_among, is_no_multiple, is_too_wide, is_bad_width, is_bad_element_width, is_bad_scale, is_bad_string_width, is_nothing, has_no_member, fixed_flaws, members_flaws, parts_flaws, names_with, kind_flaws, slots_flaws, items_flaws, NoFlaw}
+use Rattle.ax_model.specs.InBounds.{FixedInBounds, MembersInBounds, PartsInBounds, InBounds, SlotsInBounds}
 use Rattle.ax_model.specs.Paths.{at, three_digits}
-use Rattle.ax_model.specs.Specification.{ItemTree, SpecTree, first_named, slot_of_item, uap_slot, record_slots}
-use Rattle.ax_model.specs.Tree.{FixedTree, element, group, MembersTree, no_members, member_and, named, spare, KindTree, fixed, extended, counted, by_fx, explicit, compound, SlotTree, SlotsTree, no_slots, slot_and, spare_slot, subitem, slot_count, slots_of}
-use Rattle.ax_model.specs.Widths.{width, members_width}
+use Rattle.ax_model.specs.Specification.{ItemTree, SpecTree, uap_slot, record_slots}
+use Rattle.ax_model.specs.Tree.{FixedTree, element, group, MembersTree, no_members, member_and, named, spare, KindTree, fixed, extended, counted, by_fx, explicit, compound, SlotsTree, no_slots, slot_and, spare_slot, subitem, slot_count, slots_of}
+use Rattle.ax_model.specs.Widths.{width, members_width, fx_width}
 use Rattle.ax_model.specs.declared.content.Content.{Content}
 use Rattle.ax_model.specs.declared.content.Content.TheVariants.{Quantity}
 use Rattle.ax_model.specs.declared.flaw.FlawKind.{FlawKind}
 use Rattle.ax_model.specs.declared.flaw.FlawKind.TheVariants.{BadWidth, BadScale, BadStringWidth, Empty, DuplicateName, PartNotOctets, TooWide, BodyNotOctets, TooManySlots, NotOctets, DuplicateItem}
+use Rattle.ax_model.specs.declared.kind.LastPart.{LastPart}
 use Rattle.ax_model.specs.declared.spec.UapSlot.{UapSlot}
 use Rattle.ax_model.specs.declared.spec.UapSlot.TheVariants as Uap
 use Rattle.ax_text.specs.Listable.{ContentListable, FixedListable, MembersListable, KindListable, SlotListable, SlotsListable}
-use Rattle.ax_text.proofs.Readables.{both_empty, three_empty, four_empty, holds_not, flaws_parts}
+use Rattle.ax_text.proofs.Readables.{both_empty, three_empty, holds_not, found_slot, flaws_parts}
 
 -- ---- contents
 
@@ -57,19 +58,21 @@ mutual
 
 -- ---- kinds
 
-parts_listable : (path : List ℕ) (i : ℕ) (earlier : List (List ℕ)) (ps : List MembersTree) → parts_flaws path i earlier ps ≡ [] → AllByRecursion PartInBounds ps → AllByRecursion MembersListable ps
-parts_listable path i earlier [] e b = tt
-parts_listable path i earlier (p ∷ ps) e b =
+parts_listable : (last : LastPart) (path : List ℕ) (i : ℕ) (earlier : List (List ℕ)) (ps : List MembersTree) → parts_flaws last path i earlier ps ≡ [] → PartsInBounds last ps → AllByRecursion MembersListable ps
+parts_listable last path i earlier [] e b = tt
+parts_listable last path i earlier (p ∷ ps) e b =
     let here = at path (codes "part" ++ decimal i) in
-    let t = four_empty (flaw_where (is_no_multiple 8 (members_width p + 1)) PartNotOctets here) (flaw_where (is_too_wide (members_width p)) TooWide here) (members_flaws path earlier p) (parts_flaws path (i + 1) (names_with earlier p) ps) e in
-    (members_listable path earlier p t.2 b.0.2, parts_listable path (i + 1) (names_with earlier p) ps t.3 b.1)
+    let fx = fx_width last (length ps) in
+    let own = flaw_where (is_no_multiple 8 (members_width p + fx)) PartNotOctets here ++ flaw_where (is_too_wide (members_width p)) TooWide here ++ flaw_where (is_nothing fx p) Empty here in
+    let t = three_empty own (members_flaws path earlier p) (parts_flaws last path (i + 1) (names_with earlier p) ps) e in
+    (members_listable path earlier p t.1 b.0.2, parts_listable last path (i + 1) (names_with earlier p) ps t.2 b.1)
 
 mutual
   kind_listable : (broken : FlawKind) (path : List ℕ) (k : KindTree) → kind_flaws broken path k ≡ [] → InBounds k → KindListable k
   kind_listable broken path (fixed f) e b =
       let t = three_empty (flaw_where (is_no_multiple 8 (width f)) broken path) (flaw_where (is_too_wide (width f)) TooWide path) (fixed_flaws path f) e in fixed_listable path f t.2 b.2
-  kind_listable broken path (extended ps) e b = let t = both_empty (flaw_where (length ps == 0) Empty path) (parts_flaws path 0 [] ps) e in parts_listable path 0 [] ps t.1 b.1
-  kind_listable broken path (counted k) e b = kind_listable BodyNotOctets (at path (codes "body")) k e b
+  kind_listable broken path (extended last ps) e b = let t = both_empty (flaw_where (length ps == 0) Empty path) (parts_flaws last path 0 [] ps) e in parts_listable last path 0 [] ps t.1 b.1
+  kind_listable broken path (counted size k) e b = kind_listable BodyNotOctets (at path (codes "body")) k e b
   kind_listable broken path (by_fx f) e b =
       let body = at path (codes "body") in
       let t = three_empty (flaw_where (is_no_multiple 8 (width f + 1)) BodyNotOctets body) (flaw_where (is_too_wide (width f)) TooWide body) (fixed_flaws body f) e in fixed_listable body f t.2 b.2
@@ -95,18 +98,10 @@ items_listable path earlier (item ∷ items) e =
     let t = three_empty (flaw_where (is_among item.name earlier) DuplicateItem (at path item.name)) (kind_flaws NotOctets (at path item.name) item.kind) (items_flaws path (item.name ∷ earlier) items) e in
     (kind_listable NotOctets (at path item.name) item.kind t.1 (kind_bounds NotOctets (at path item.name) item.kind t.1), items_listable path (item.name ∷ earlier) items t.2)
 
-found_here : (b : Bool) (item : ItemTree) (o : Option ItemTree) → ItemListable item → SlotListable (slot_of_item o) → SlotListable (slot_of_item (cond b (Some item) o))
-found_here true item o h t = h
-found_here false item o h t = t
-
-found_listable : (test : ItemTree → Bool) (items : List ItemTree) → AllByRecursion ItemListable items → SlotListable (slot_of_item (find test items))
-found_listable test [] h = tt
-found_listable test (item ∷ items) h = found_here (test item) item (find test items) h.0 (found_listable test items h.1)
-
 uap_listable : (items : List ItemTree) (uap : List UapSlot) → AllByRecursion ItemListable items → SlotsListable (slots_of (map (uap_slot items) uap))
 uap_listable items [] h = tt
 uap_listable items (Uap.Spare ∷ uap) h = (tt, uap_listable items uap h)
-uap_listable items (Uap.Item name ∷ uap) h = (found_listable (λ item. bytes_eq item.name name) items h, uap_listable items uap h)
+uap_listable items (Uap.Item name ∷ uap) h = (found_slot SlotListable (λ item. bytes_eq item.name name) items tt h, uap_listable items uap h)
 
 pub record_listable : (spec : SpecTree) → NoFlaw spec → SlotsListable (record_slots spec)
 record_listable spec h = uap_listable spec.items spec.uap (items_listable (three_digits spec.category) [] spec.items (flaws_parts spec h).0)

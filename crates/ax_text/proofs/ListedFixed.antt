@@ -1,5 +1,5 @@
 -- The ways out of the functions that list fixed kinds.
-use Rattle.std.proofs.Common.{◌≡◌, ℕ, List, [], ◌∷◌, ◌++◌, length, refl, sym, ◌∙◌, ap, subst}
+use Rattle.std.proofs.Common.{◌≡◌, ℕ, List, [], ◌∷◌, ◌++◌, length, refl, ◌∙◌, ap, subst}
 use Rattle.ax_model.specs.Plain.{member_tree, members_tree, value_tree, values_tree}
 use Rattle.ax_model.specs.Shape.{MembersShape}
 use Rattle.ax_model.specs.Tree.{MembersTree, no_members, member_and, MemberTree, named, spare, ValueTree, ValuesTree, no_values, value_and}
@@ -7,7 +7,7 @@ use Rattle.ax_model.specs.declared.kind.Member.{Member}
 use Rattle.ax_model.specs.declared.value.Value.{Value}
 use Rattle.ax_text.specs.Listable.{MemberListable, MembersListable}
 use Rattle.ax_text.specs.Printing.{as_lines, Puts}
-use Rattle.ax_text.specs.ShowText.{number_line, member_lines, members_lines}
+use Rattle.ax_text.specs.ShowText.{member_lines, members_lines}
 use Rattle.ax_text.specs.Slots.{MemberShape}
 use Rattle.ax_text.specs.ValueText.{Texts, one_onto}
 use Rattle.ax_text.proofs.FixedWays.{empty}

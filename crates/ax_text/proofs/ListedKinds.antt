@@ -1,11 +1,11 @@
 -- The ways out of the functions that list kinds.
-use Rattle.std.proofs.Common.{◌≡◌, ℕ, zero, suc, ◌+◌, ◌<◌, ◌≤◌, List, [], ◌∷◌, length, drop, get_or, map, codes, refl, sym, ◌∙◌, ap, subst, arith, add-one}
+use Rattle.std.proofs.Common.{◌≡◌, ℕ, zero, suc, ◌+◌, ◌<◌, ◌≤◌, List, [], ◌∷◌, length, drop, get_or, map, codes, refl, sym, ◌∙◌, ap, subst, add-one}
 use Rattle.std.specs.List.{AllByRecursion}
 use Rattle.std.proofs.lemmas.List.{drop_all}
 use Rattle.ax_model.specs.Fitting.{list_count}
-use Rattle.ax_model.specs.Plain.{part_tree, slot_tree, value_tree, values_tree, lists_tree, entries_tree}
-use Rattle.ax_model.specs.Shape.{FixedShape, MembersShape, PartsShape, EachShape, Shape}
-use Rattle.ax_model.specs.Tree.{FixedTree, MembersTree, KindTree, SlotTree, SlotsTree, no_slots, slot_and, spare_slot, subitem, extended, counted, by_fx, compound, ListsTree, no_lists, list_and, EntriesTree, ValueTree, ValuesTree, value_count, part_values, occurrences, marked}
+use Rattle.ax_model.specs.Plain.{part_tree, value_tree, values_tree, lists_tree, entries_tree}
+use Rattle.ax_model.specs.Shape.{MembersShape, PartsShape, EachShape}
+use Rattle.ax_model.specs.Tree.{FixedTree, MembersTree, KindTree, SlotsTree, no_slots, slot_and, by_fx, compound, ListsTree, no_lists, list_and, ValueTree, value_count, occurrences, marked}
 use Rattle.ax_model.specs.declared.kind.Part.{Part}
 use Rattle.ax_model.specs.declared.value.Entry.{Entry}
 use Rattle.ax_model.specs.declared.value.Value.{Value}
@@ -36,11 +36,11 @@ counted_put : (path word : List ℕ) (n m : ℕ) (onto : Texts → Texts) (a b c
 counted_put path word n m onto a b c e p q = subst (λ n. Puts as_lines (λ rest. count_line path word n ∷ onto rest) a c) e (both_put (one_onto (count_line path word n)) onto a b c p q)
 
 pub extended_put : (path : List ℕ) (ps : List Part) (ls : List (List Value)) (n : ℕ) (a b c : List ℕ) → n ≡ length ls → Puts as_lines (one_onto (count_line path (codes "parts") n)) a b → Puts as_lines (parts_lines (map part_tree ps) path (lists_tree ls)) b c
-    → Puts as_lines (kind_lines (extended (map part_tree ps)) path (part_values (lists_tree ls))) a c
+    → Puts as_lines (λ rest. count_line path (codes "parts") (list_count (lists_tree ls)) ∷ parts_lines (map part_tree ps) path (lists_tree ls) rest) a c
 extended_put path ps ls n a b c e p q = counted_put path (codes "parts") n (list_count (lists_tree ls)) (parts_lines (map part_tree ps) path (lists_tree ls)) a b c (e ∙ sym (list_count_is ls)) p q
 
 pub counted_lines : (path : List ℕ) (k : KindTree) (vs : List Value) (n : ℕ) (a b c : List ℕ) → n ≡ length vs → Puts as_lines (one_onto (count_line path (codes "occurrences") n)) a b → Puts as_lines (each_lines (kind_lines k) path 0 (values_tree vs)) b c
-    → Puts as_lines (kind_lines (counted k) path (occurrences (values_tree vs))) a c
+    → Puts as_lines (λ rest. count_line path (codes "occurrences") (value_count (values_tree vs)) ∷ each_lines (kind_lines k) path 0 (values_tree vs) rest) a c
 counted_lines path k vs n a b c e p q = counted_put path (codes "occurrences") n (value_count (values_tree vs)) (each_lines (kind_lines k) path 0 (values_tree vs)) a b c (e ∙ sym (value_count_is vs)) p q
 
 pub run_lines : (path : List ℕ) (f : FixedTree) (vs : List Value) (n : ℕ) (a b c : List ℕ) → n ≡ length vs → Puts as_lines (one_onto (count_line path (codes "occurrences") n)) a b → Puts as_lines (each_lines (fixed_lines f) path 0 (values_tree vs)) b c

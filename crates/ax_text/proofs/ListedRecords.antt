@@ -1,15 +1,15 @@
 -- The ways out of the functions that list records.
-use Rattle.std.proofs.Common.{◌≡◌, ℕ, ◌+◌, ◌<◌, ◌≤◌, List, [], ◌∷◌, ◌++◌, length, drop, get_or, codes, decimal, Some, None, refl, sym, ◌∙◌, ap, subst}
+use Rattle.std.proofs.Common.{◌≡◌, ℕ, ◌+◌, ◌<◌, ◌≤◌, List, ◌∷◌, ◌++◌, length, drop, get_or, codes, decimal, Some, None, refl, sym, ◌∙◌, ap, subst}
 use Rattle.std.proofs.lemmas.List.{drop_all}
 use Rattle.std.specs.List.{AllByRecursion}
 use Rattle.std.specs.Option.{option_map}
 use Rattle.ax_model.specs.Bodies.{RecordShape}
 use Rattle.ax_model.specs.Lookup.{item_of_frn}
 use Rattle.ax_model.specs.Paths.{three_digits, at}
-use Rattle.ax_model.specs.Plain.{item_tree, kind_tree, spec_tree, value_tree, record_tree, records_tree}
-use Rattle.ax_model.specs.Shape.{Shape, EntriesShape}
+use Rattle.ax_model.specs.Plain.{item_tree, kind_tree, spec_tree, record_tree, records_tree}
+use Rattle.ax_model.specs.Shape.{Shape}
 use Rattle.ax_model.specs.Specification.{SpecTree, slot_of_item, record_slots}
-use Rattle.ax_model.specs.Tree.{subitem, ValueTree, EntriesTree}
+use Rattle.ax_model.specs.Tree.{ValueTree, EntriesTree}
 use Rattle.ax_model.specs.declared.record.Record.{Record}
 use Rattle.ax_model.specs.declared.spec.Item.{Item}
 use Rattle.ax_model.specs.declared.spec.Spec.{Spec}

@@ -19,9 +19,9 @@ use Rattle.ax_tokens.proofs.Levels.{keeps_within}
 use Rattle.ax_tokens.proofs.Printed.{printed_line}
 use Rattle.ax_text.specs.BlockText.{records_onto, BlockText, BlockLine}
 use Rattle.ax_text.specs.Names.{FixedNamed, MembersNamed, KindNamed, SlotsNamed, IsNamed}
+use Rattle.ax_text.specs.Readable.{FixedReadable, MembersReadable, Readable, SlotsReadable}
 use Rattle.ax_text.specs.Tokens.{kind_of, BlockTokens, fixed_nesting, members_nesting, parts_nesting, kind_nesting, slots_nesting, block_nesting, HoldsBlock}
 use Rattle.ax_text.specs.ValueText.{Texts, closing, spare_word, part_word, hex_text, in_braces, number_onto, fixed_onto, members_onto, parts_onto, each_onto, kind_onto, entries_onto}
-use Rattle.ax_text.proofs.Readable.{FixedReadable, MembersReadable, Readable, SlotsReadable}
 use Rattle.ax_text.proofs.Readables.{record_readable, record_named}
 use Rattle.ax_text.proofs.Unique.{small}
 use Rattle.ax_text.proofs.WordTokens.{IsWord, decimal_word, name_word, category_word, spare_is_word, part_is_word, record_is_word, block_is_word, opaque_is_word, hex_token}
@@ -97,13 +97,13 @@ choice_keeps limit level false S T p q h f g = g h
 mutual
   kind_keeps : (limit level : ℕ) (k : KindTree) (v : ValueTree) (rest : Texts) → Readable k → KindNamed k → Shape k v → level + kind_nesting k ≤ limit → Keep limit level rest → Keep limit level (kind_onto k v rest)
   kind_keeps limit level (fixed f) v rest r n h le k = fixed_keeps limit level f v rest r n h le k
-  kind_keeps limit level (extended ps) (part_values ls) rest r n h le k =
+  kind_keeps limit level (extended last ps) (part_values ls) rest r n h le k =
       braces_keep limit level (parts_onto ps ls) rest (omega (arith, le)) (λ inner. parts_keep limit (level + 1) ps ls (closing ∷ rest) r.0 n h (omega (arith, le)) inner) k
-  kind_keeps limit level (extended ps) v rest r n h le k = absurd h
-  kind_keeps limit level (counted inside) (occurrences vs) rest r n h le k =
+  kind_keeps limit level (extended last ps) v rest r n h le k = absurd h
+  kind_keeps limit level (counted size inside) (occurrences vs) rest r n h le k =
       braces_keep limit level (each_onto (kind_onto inside) vs) rest (omega (arith, le))
       (λ inner. each_keep limit (level + 1) (Shape inside) (kind_onto inside) (λ v rest h k. kind_keeps limit (level + 1) inside v rest r n h (omega (arith, le)) k) vs (closing ∷ rest) h.1 inner) k
-  kind_keeps limit level (counted inside) v rest r n h le k = absurd h
+  kind_keeps limit level (counted size inside) v rest r n h le k = absurd h
   kind_keeps limit level (by_fx f) (occurrences vs) rest r n h le k =
       braces_keep limit level (each_onto (fixed_onto f) vs) rest (omega (arith, le))
       (λ inner. each_keep limit (level + 1) (FixedShape f) (fixed_onto f) (λ v rest h k. fixed_keeps limit (level + 1) f v rest r n h (omega (arith, le)) k) vs (closing ∷ rest) h.1 inner) k
@@ -116,13 +116,13 @@ mutual
 
   entries_keep : (limit level s : ℕ) (ss : SlotsTree) (es : EntriesTree) (rest : Texts) → SlotsReadable ss → SlotsNamed ss → EntriesShape s ss es → level + slots_nesting ss ≤ limit → Keep limit level rest → Keep limit level (entries_onto s ss es rest)
   entries_keep limit level s no_slots es rest r n h le k = k
-  entries_keep limit level s (slot_and spare_slot ss) es rest r n h le k = entries_keep limit level (s + 1) ss es rest r n h le k
-  entries_keep limit level s (slot_and (subitem name kind) ss) no_entries rest r n h le k = entries_keep limit level (s + 1) ss no_entries rest r.3 n.2 h (omega (arith, le)) k
+  entries_keep limit level s (slot_and spare_slot ss) es rest r n h le k = entries_keep limit level (s + 1) ss es rest r.2 n h le k
+  entries_keep limit level s (slot_and (subitem name kind) ss) no_entries rest r n h le k = entries_keep limit level (s + 1) ss no_entries rest r.2 n.2 h (omega (arith, le)) k
   entries_keep limit level s (slot_and (subitem name kind) ss) (entry_and t v es) rest r n h le k =
       choice_keeps limit level (t == s) _ _ _ _ h
       (λ g. word_keeps limit level name (kind_onto kind v (entries_onto (s + 1) ss es rest)) (name_word name n.0) (omega (arith, le))
-      (kind_keeps limit level kind v (entries_onto (s + 1) ss es rest) r.2 n.1 g.0 (omega (arith, le)) (entries_keep limit level (s + 1) ss es rest r.3 n.2 g.1 (omega (arith, le)) k)))
-      (λ g. entries_keep limit level (s + 1) ss (entry_and t v es) rest r.3 n.2 g (omega (arith, le)) k)
+      (kind_keeps limit level kind v (entries_onto (s + 1) ss es rest) r.1 n.1 g.0 (omega (arith, le)) (entries_keep limit level (s + 1) ss es rest r.2 n.2 g.1 (omega (arith, le)) k)))
+      (λ g. entries_keep limit level (s + 1) ss (entry_and t v es) rest r.2 n.2 g (omega (arith, le)) k)
 
 -- ---- records and blocks
 
@@ -138,7 +138,7 @@ pub block_keeps : (limit : ℕ) (spec : SpecTree) (block : BlockTree) → NoFlaw
 block_keeps limit spec (read_block category rs) f n h le =
     word_keeps limit 0 (codes "block") (three_digits category ∷ in_braces (records_onto spec rs) []) block_is_word (omega arith)
     (word_keeps limit 0 (three_digits category) (in_braces (records_onto spec rs) []) (category_word category h.category) (omega arith)
-    (braces_keep limit 0 (records_onto spec rs) [] (omega (arith, le)) (λ inner. records_keep limit 1 spec rs (closing ∷ []) (record_readable spec f n) (record_named spec f n) h.fits.2 (omega (arith, le)) inner) tt))
+    (braces_keep limit 0 (records_onto spec rs) [] (omega (arith, le)) (λ inner. records_keep limit 1 spec rs (closing ∷ []) (record_readable spec f) (record_named spec n) h.fits.2 (omega (arith, le)) inner) tt))
 block_keeps limit spec (opaque_block category xs) f n h le =
     word_keeps limit 0 (codes "opaque") (three_digits category ∷ hex_text xs ∷ []) opaque_is_word (omega arith)
     (word_keeps limit 0 (three_digits category) (hex_text xs ∷ []) (category_word category h.category) (omega arith) (hex_keeps limit 0 xs [] h.octets (omega arith) tt))

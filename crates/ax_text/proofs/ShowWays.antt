@@ -1,5 +1,5 @@
 -- The ways out of the functions that list blocks.
-use Rattle.std.proofs.Common.{◌≡◌, ℕ, ◌+◌, List, [], ◌∷◌, ◌++◌, length, codes, decimal, refl, sym, ◌∙◌, ap, subst, append-nil}
+use Rattle.std.proofs.Common.{◌≡◌, ℕ, ◌+◌, List, [], ◌∷◌, ◌++◌, length, codes, decimal, refl, sym, ◌∙◌, ap, append-nil}
 use Rattle.ax_model.specs.Blocks.{read_block}
 use Rattle.ax_model.specs.CanonicalOctets.{canon_length}
 use Rattle.ax_model.specs.Lengths.{capped}

@@ -16,7 +16,8 @@ use Rattle.ax_tokens.specs.Octets.{quote}
 use Rattle.ax_model.specs.Characters.{IsName}
 use Rattle.ax_model.specs.Shape.{NumberShape, FixedShape, MembersShape, PartsShape, EachShape, Shape, EntriesShape}
 use Rattle.ax_model.specs.Tree.{FixedTree, element, group, MembersTree, no_members, member_and, named, spare, KindTree, fixed, extended, counted, by_fx, explicit, compound, SlotsTree, no_slots, slot_and, spare_slot, subitem, ValueTree, number, member_values, part_values, occurrences, content_octets, marked, ValuesTree, no_values, value_and, ListsTree, no_lists, list_and, EntriesTree, no_entries, entry_and}
-use Rattle.ax_text.proofs.Readable.{FixedReadable, MembersReadable, Lacks, Readable, SlotsReadable}
+use Rattle.ax_text.specs.Names.{KindNamed, SlotsNamed}
+use Rattle.ax_text.specs.Readable.{FixedReadable, MembersReadable, Lacks, Readable, SlotsReadable}
 use Rattle.ax_text.specs.ValueText.{Texts, opening, closing, part_word, hex_text, number_onto, fixed_onto, members_onto, parts_onto, each_onto, kind_onto, entries_onto}
 
 pub tails : (a b : List ℕ) (x y : Texts) → a ∷ x ≡ b ∷ y → x ≡ y
@@ -198,34 +199,34 @@ one_choice true S T p q z E h e f g = f h e
 one_choice false S T p q z E h e f g = g h e
 
 mutual
-  pub same_kind : (k : KindTree) (v u : ValueTree) (x y : Texts) → Readable k → Shape k v → Shape k u → kind_onto k v x ≡ kind_onto k u y → (v ≡ u) × (x ≡ y)
-  same_kind (fixed f) v u x y r a b e = same_fixed f v u x y r a b e
-  same_kind (extended ps) (part_values ls) (part_values ks) x y r a b e = let s = same_parts ps ls ks x y r.0 a b (tails _ _ _ _ e) in (ap part_values s.0, s.1)
-  same_kind (extended ps) (part_values ls) u x y r a b e = absurd b
-  same_kind (extended ps) v u x y r a b e = absurd a
-  same_kind (counted k) (occurrences vs) (occurrences us) x y r a b e =
-      let s = same_each (Shape k) (kind_onto k) (λ v u x y a b e. same_kind k v u x y r a b e) (λ v x y a e. kind_never k v x y r a e) vs us x y a.1 b.1 (tails _ _ _ _ e) in
+  pub same_kind : (k : KindTree) (v u : ValueTree) (x y : Texts) → Readable k → KindNamed k → Shape k v → Shape k u → kind_onto k v x ≡ kind_onto k u y → (v ≡ u) × (x ≡ y)
+  same_kind (fixed f) v u x y r n a b e = same_fixed f v u x y r a b e
+  same_kind (extended last ps) (part_values ls) (part_values ks) x y r n a b e = let s = same_parts ps ls ks x y r.0 a b (tails _ _ _ _ e) in (ap part_values s.0, s.1)
+  same_kind (extended last ps) (part_values ls) u x y r n a b e = absurd b
+  same_kind (extended last ps) v u x y r n a b e = absurd a
+  same_kind (counted size k) (occurrences vs) (occurrences us) x y r n a b e =
+      let s = same_each (Shape k) (kind_onto k) (λ v u x y a b e. same_kind k v u x y r n a b e) (λ v x y a e. kind_never k v x y r a e) vs us x y a.1 b.1 (tails _ _ _ _ e) in
       (ap occurrences s.0, s.1)
-  same_kind (counted k) (occurrences vs) u x y r a b e = absurd b
-  same_kind (counted k) v u x y r a b e = absurd a
-  same_kind (by_fx f) (occurrences vs) (occurrences us) x y r a b e =
+  same_kind (counted size k) (occurrences vs) u x y r n a b e = absurd b
+  same_kind (counted size k) v u x y r n a b e = absurd a
+  same_kind (by_fx f) (occurrences vs) (occurrences us) x y r n a b e =
       let s = same_each (FixedShape f) (fixed_onto f) (λ v u x y a b e. same_fixed f v u x y r a b e) (λ v x y a e. fixed_never f v x y r a e) vs us x y a.1 b.1 (tails _ _ _ _ e) in
       (ap occurrences s.0, s.1)
-  same_kind (by_fx f) (occurrences vs) u x y r a b e = absurd b
-  same_kind (by_fx f) v u x y r a b e = absurd a
-  same_kind explicit (content_octets xs) (content_octets ys) x y r a b e = (ap content_octets (same_hex xs ys a.1 b.1 (heads _ _ _ _ e)), tails _ _ _ _ e)
-  same_kind explicit (content_octets xs) u x y r a b e = absurd b
-  same_kind explicit v u x y r a b e = absurd a
-  same_kind (compound ss) (marked es) (marked fs) x y r a b e = let s = same_entries 1 ss es fs x y r.1 a b (tails _ _ _ _ e) in (ap marked s.0, s.1)
-  same_kind (compound ss) (marked es) u x y r a b e = absurd b
-  same_kind (compound ss) v u x y r a b e = absurd a
+  same_kind (by_fx f) (occurrences vs) u x y r n a b e = absurd b
+  same_kind (by_fx f) v u x y r n a b e = absurd a
+  same_kind explicit (content_octets xs) (content_octets ys) x y r n a b e = (ap content_octets (same_hex xs ys a.1 b.1 (heads _ _ _ _ e)), tails _ _ _ _ e)
+  same_kind explicit (content_octets xs) u x y r n a b e = absurd b
+  same_kind explicit v u x y r n a b e = absurd a
+  same_kind (compound ss) (marked es) (marked fs) x y r n a b e = let s = same_entries 1 ss es fs x y r.1 n a b (tails _ _ _ _ e) in (ap marked s.0, s.1)
+  same_kind (compound ss) (marked es) u x y r n a b e = absurd b
+  same_kind (compound ss) v u x y r n a b e = absurd a
 
   pub kind_never : (k : KindTree) (v : ValueTree) (x y : Texts) → Readable k → Shape k v → kind_onto k v x ≡ closing ∷ y → ⊥
   kind_never (fixed f) v x y r a e = fixed_never f v x y r a e
-  kind_never (extended ps) (part_values ls) x y r a e = different opening closing refl (heads _ _ _ _ e)
-  kind_never (extended ps) v x y r a e = absurd a
-  kind_never (counted k) (occurrences vs) x y r a e = different opening closing refl (heads _ _ _ _ e)
-  kind_never (counted k) v x y r a e = absurd a
+  kind_never (extended last ps) (part_values ls) x y r a e = different opening closing refl (heads _ _ _ _ e)
+  kind_never (extended last ps) v x y r a e = absurd a
+  kind_never (counted size k) (occurrences vs) x y r a e = different opening closing refl (heads _ _ _ _ e)
+  kind_never (counted size k) v x y r a e = absurd a
   kind_never (by_fx f) (occurrences vs) x y r a e = different opening closing refl (heads _ _ _ _ e)
   kind_never (by_fx f) v x y r a e = absurd a
   kind_never explicit (content_octets xs) x y r a e = hex_never xs (heads _ _ _ _ e)
@@ -233,22 +234,22 @@ mutual
   kind_never (compound ss) (marked es) x y r a e = different opening closing refl (heads _ _ _ _ e)
   kind_never (compound ss) v x y r a e = absurd a
 
-  pub same_entries : (s : ℕ) (ss : SlotsTree) (es fs : EntriesTree) (x y : Texts) → SlotsReadable ss → EntriesShape s ss es → EntriesShape s ss fs → entries_onto s ss es (closing ∷ x) ≡ entries_onto s ss fs (closing ∷ y) → (es ≡ fs) × (x ≡ y)
-  same_entries s no_slots no_entries no_entries x y r a b e = (refl, tails _ _ _ _ e)
-  same_entries s no_slots no_entries (entry_and u w fs) x y r a b e = absurd b
-  same_entries s no_slots (entry_and t v es) fs x y r a b e = absurd a
-  same_entries s (slot_and spare_slot ss) es fs x y r a b e = same_entries (s + 1) ss es fs x y r a b e
-  same_entries s (slot_and (subitem name k) ss) no_entries no_entries x y r a b e = same_entries (s + 1) ss no_entries no_entries x y r.3 a b e
-  same_entries s (slot_and (subitem name k) ss) no_entries (entry_and u w fs) x y r a b e =
-      one_choice (u == s) _ _ _ _ _ _ b (sym e) (λ h g. absurd (entries_never (s + 1) ss no_entries x name r.0 r.1 a _ (sym g))) (λ h g. same_entries (s + 1) ss no_entries (entry_and u w fs) x y r.3 a h (sym g))
-  same_entries s (slot_and (subitem name k) ss) (entry_and t v es) no_entries x y r a b e =
-      one_choice (t == s) _ _ _ _ _ _ a e (λ h g. absurd (entries_never (s + 1) ss no_entries y name r.0 r.1 b _ (sym g))) (λ h g. same_entries (s + 1) ss (entry_and t v es) no_entries x y r.3 h b g)
-  same_entries s (slot_and (subitem name k) ss) (entry_and t v es) (entry_and u w fs) x y r a b e =
+  pub same_entries : (s : ℕ) (ss : SlotsTree) (es fs : EntriesTree) (x y : Texts) → SlotsReadable ss → SlotsNamed ss → EntriesShape s ss es → EntriesShape s ss fs → entries_onto s ss es (closing ∷ x) ≡ entries_onto s ss fs (closing ∷ y) → (es ≡ fs) × (x ≡ y)
+  same_entries s no_slots no_entries no_entries x y r n a b e = (refl, tails _ _ _ _ e)
+  same_entries s no_slots no_entries (entry_and u w fs) x y r n a b e = absurd b
+  same_entries s no_slots (entry_and t v es) fs x y r n a b e = absurd a
+  same_entries s (slot_and spare_slot ss) es fs x y r n a b e = same_entries (s + 1) ss es fs x y r.2 n a b e
+  same_entries s (slot_and (subitem name k) ss) no_entries no_entries x y r n a b e = same_entries (s + 1) ss no_entries no_entries x y r.2 n.2 a b e
+  same_entries s (slot_and (subitem name k) ss) no_entries (entry_and u w fs) x y r n a b e =
+      one_choice (u == s) _ _ _ _ _ _ b (sym e) (λ h g. absurd (entries_never (s + 1) ss no_entries x name n.0 r.0 a _ (sym g))) (λ h g. same_entries (s + 1) ss no_entries (entry_and u w fs) x y r.2 n.2 a h (sym g))
+  same_entries s (slot_and (subitem name k) ss) (entry_and t v es) no_entries x y r n a b e =
+      one_choice (t == s) _ _ _ _ _ _ a e (λ h g. absurd (entries_never (s + 1) ss no_entries y name n.0 r.0 b _ (sym g))) (λ h g. same_entries (s + 1) ss (entry_and t v es) no_entries x y r.2 n.2 h b g)
+  same_entries s (slot_and (subitem name k) ss) (entry_and t v es) (entry_and u w fs) x y r n a b e =
       both_choice (t == s) (u == s) t u s _ _ _ _ _ _ _ _ _ refl refl a b e
       (λ same h g d.
-      let one = same_kind k v w (entries_onto (s + 1) ss es (closing ∷ x)) (entries_onto (s + 1) ss fs (closing ∷ y)) r.2 h.0 g.0 (tails _ _ _ _ d) in
-      let rest = same_entries (s + 1) ss es fs x y r.3 h.1 g.1 one.1 in
+      let one = same_kind k v w (entries_onto (s + 1) ss es (closing ∷ x)) (entries_onto (s + 1) ss fs (closing ∷ y)) r.1 n.1 h.0 g.0 (tails _ _ _ _ d) in
+      let rest = same_entries (s + 1) ss es fs x y r.2 n.2 h.1 g.1 one.1 in
       (rw (same, one.0, rest.0) refl, rest.1))
-      (λ h g d. absurd (entries_never (s + 1) ss (entry_and u w fs) y name r.0 r.1 g _ (sym d)))
-      (λ h g d. absurd (entries_never (s + 1) ss (entry_and t v es) x name r.0 r.1 h _ d))
-      (λ h g d. same_entries (s + 1) ss (entry_and t v es) (entry_and u w fs) x y r.3 h g d)
+      (λ h g d. absurd (entries_never (s + 1) ss (entry_and u w fs) y name n.0 r.0 g _ (sym d)))
+      (λ h g d. absurd (entries_never (s + 1) ss (entry_and t v es) x name n.0 r.0 h _ d))
+      (λ h g d. same_entries (s + 1) ss (entry_and t v es) (entry_and u w fs) x y r.2 n.2 h g d)

@@ -6,6 +6,8 @@ use Rattle.ax_model.specs.Tree.{element, group, members_of, named, spare, fixed,
 use Rattle.ax_model.specs.declared.content.Content.{Content}
 use Rattle.ax_model.specs.declared.content.Content.TheVariants.{Raw, Integer, Quantity}
 use Rattle.ax_model.specs.declared.content.Sign.TheVariants.{Signed}
+use Rattle.ax_model.specs.declared.kind.Counter.TheVariants.{One}
+use Rattle.ax_model.specs.declared.kind.LastPart.TheVariants.{WithFx}
 use Rattle.ax_model.specs.declared.spec.UapSlot.TheVariants as Uap
 
 abbrev pub quarters : Content
@@ -17,9 +19,9 @@ small = record {
   category = 7;
   edition = [];
   items = record { name = codes "010"; title = []; kind = fixed (group (members_of (named (codes "A") (element 6 quarters) ∷ spare 2 ∷ []))) }
-      ∷ record { name = codes "020"; title = []; kind = extended (members_of (named (codes "B") (element 7 Raw) ∷ []) ∷ members_of (named (codes "C") (element 7 (Integer Signed)) ∷ []) ∷ []) }
+      ∷ record { name = codes "020"; title = []; kind = extended WithFx (members_of (named (codes "B") (element 7 Raw) ∷ []) ∷ members_of (named (codes "C") (element 7 (Integer Signed)) ∷ []) ∷ []) }
       ∷ record { name = codes "030"; title = []; kind = by_fx (element 7 Raw) }
-      ∷ record { name = codes "040"; title = []; kind = compound (slots_of (spare_slot ∷ subitem (codes "D") (counted (fixed (element 8 Raw))) ∷ [])) } ∷ [];
+      ∷ record { name = codes "040"; title = []; kind = compound (slots_of (spare_slot ∷ subitem (codes "D") (counted One (fixed (element 8 Raw))) ∷ [])) } ∷ [];
   uap = Uap.Item (codes "010") ∷ Uap.Item (codes "020") ∷ Uap.Spare ∷ Uap.Item (codes "030") ∷ Uap.Item (codes "040") ∷ [];
 }
 

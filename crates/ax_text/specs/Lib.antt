@@ -3,6 +3,7 @@ pub mod BlockText
 pub mod Printing
 pub mod Slots
 pub mod Names
+pub mod Readable
 pub mod Tokens
 pub mod Remarks
 pub mod ShowText

@@ -27,8 +27,8 @@ abbrev mutual
 abbrev mutual
   pub KindListable : KindTree → Type 0
   KindListable (fixed f) = FixedListable f
-  KindListable (extended ps) = AllByRecursion MembersListable ps
-  KindListable (counted k) = KindListable k
+  KindListable (extended last ps) = AllByRecursion MembersListable ps
+  KindListable (counted size k) = KindListable k
   KindListable (by_fx f) = FixedListable f
   KindListable explicit = Unit {0}
   KindListable (compound ss) = SlotsListable ss

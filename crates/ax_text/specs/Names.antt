@@ -17,8 +17,8 @@ abbrev mutual
 abbrev mutual
   pub KindNamed : KindTree → Type 0
   KindNamed (fixed f) = FixedNamed f
-  KindNamed (extended ps) = AllByRecursion MembersNamed ps
-  KindNamed (counted k) = KindNamed k
+  KindNamed (extended last ps) = AllByRecursion MembersNamed ps
+  KindNamed (counted size k) = KindNamed k
   KindNamed (by_fx f) = FixedNamed f
   KindNamed explicit = Unit {0}
   KindNamed (compound ss) = SlotsNamed ss

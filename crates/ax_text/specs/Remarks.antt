@@ -1,10 +1,10 @@
 -- What the number of an element means, as a listing shows it after the number.
-use Rattle.std.specs.Prelude.{ℕ, zero, suc, ◌+◌, ◌*◌, ◌/◌, ◌%◌, ◌^◌, ◌==◌, nat_le, Bool, ◌&&◌, ◌||◌, not, if◌then◌else◌, ℤ, pos, negsuc, List, [], ◌∷◌, ◌++◌, map, find, Option, Some, None, codes, decimal}
+use Rattle.std.specs.Prelude.{ℕ, zero, suc, ◌+◌, ◌*◌, ◌/◌, ◌%◌, ◌^◌, ◌==◌, nat_le, ◌&&◌, ◌||◌, not, if◌then◌else◌, ℤ, pos, negsuc, List, [], ◌∷◌, ◌++◌, map, find, Option, Some, None, codes, decimal}
 use Rattle.std.specs.Fmt.{signed_decimal}
 use Rattle.ax_bits.specs.Bits.{signed}
+use Rattle.ax_model.specs.Signs.{by_sign}
 use Rattle.ax_model.specs.declared.content.Content.{Content}
 use Rattle.ax_model.specs.declared.content.Content.TheVariants.{Raw, Table, Ascii, Icao, Octal, Integer, Quantity}
-use Rattle.ax_model.specs.declared.content.Sign.{Sign}
 use Rattle.ax_model.specs.declared.content.Sign.TheVariants.{Unsigned, Signed}
 use Rattle.ax_model.specs.declared.content.TableText.{TableText}
 use Rattle.ax_tokens.specs.Octets.{quote}
@@ -47,11 +47,6 @@ reduced_text a b = decimal (a / common_divisor b a b) ++ codes "/" ++ decimal (b
 abbrev pub multiple_text : ℤ → ℕ → ℕ → List ℕ
 multiple_text (pos n) num den = reduced_text (n * num) den
 multiple_text (negsuc n) num den = codes "-" ++ reduced_text (suc n * num) den
-
--- what w bits that spell n mean by their sign
-abbrev pub by_sign : Sign → ℕ → ℕ → ℤ
-by_sign Unsigned w n = pos n
-by_sign Signed w n = signed w n
 
 -- ---- contents
 

@@ -6,7 +6,7 @@ use Rattle.ax_model.specs.Fitting.{list_count}
 use Rattle.ax_model.specs.Lengths.{capped}
 use Rattle.ax_model.specs.Paths.{three_digits, at}
 use Rattle.ax_model.specs.Specification.{SpecTree, record_slots}
-use Rattle.ax_model.specs.Tree.{FixedTree, element, group, MembersTree, no_members, member_and, MemberTree, named, spare, KindTree, fixed, extended, counted, by_fx, explicit, compound, SlotTree, SlotsTree, no_slots, slot_and, spare_slot, subitem, ValueTree, number, member_values, part_values, occurrences, content_octets, marked, ValuesTree, no_values, value_and, value_count, ListsTree, no_lists, list_and, EntriesTree, no_entries, entry_and}
+use Rattle.ax_model.specs.Tree.{FixedTree, element, group, MembersTree, member_and, MemberTree, named, spare, KindTree, fixed, extended, counted, by_fx, explicit, compound, SlotsTree, no_slots, slot_and, spare_slot, subitem, ValueTree, number, member_values, part_values, occurrences, content_octets, marked, ValuesTree, no_values, value_and, value_count, ListsTree, list_and, EntriesTree, no_entries, entry_and}
 use Rattle.ax_text.specs.Printing.{as_lines}
 use Rattle.ax_text.specs.Remarks.{remark}
 use Rattle.ax_text.specs.ValueText.{Texts, hex_text}
@@ -64,8 +64,8 @@ entry_count (entry_and t v es) = entry_count es + 1
 abbrev mutual
   pub kind_lines : KindTree → List ℕ → ValueTree → Texts → Texts
   kind_lines (fixed f) path v rest = fixed_lines f path v rest
-  kind_lines (extended ps) path (part_values ls) rest = count_line path (codes "parts") (list_count ls) ∷ parts_lines ps path ls rest
-  kind_lines (counted k) path (occurrences vs) rest = count_line path (codes "occurrences") (value_count vs) ∷ each_lines (kind_lines k) path 0 vs rest
+  kind_lines (extended last ps) path (part_values ls) rest = count_line path (codes "parts") (list_count ls) ∷ parts_lines ps path ls rest
+  kind_lines (counted size k) path (occurrences vs) rest = count_line path (codes "occurrences") (value_count vs) ∷ each_lines (kind_lines k) path 0 vs rest
   kind_lines (by_fx f) path (occurrences vs) rest = count_line path (codes "occurrences") (value_count vs) ∷ each_lines (fixed_lines f) path 0 vs rest
   kind_lines explicit path (content_octets xs) rest = content_line path xs ∷ rest
   kind_lines (compound ss) path (marked es) rest = count_line path (codes "subitems") (entry_count es) ∷ entries_lines path 1 ss es rest

@@ -47,8 +47,8 @@ parts_nesting (p ∷ ps) = max (1 + members_nesting p) (parts_nesting ps)
 abbrev mutual
   pub kind_nesting : KindTree → ℕ
   kind_nesting (fixed f) = fixed_nesting f
-  kind_nesting (extended ps) = 1 + parts_nesting ps
-  kind_nesting (counted k) = 1 + kind_nesting k
+  kind_nesting (extended last ps) = 1 + parts_nesting ps
+  kind_nesting (counted size k) = 1 + kind_nesting k
   kind_nesting (by_fx f) = 1 + fixed_nesting f
   kind_nesting explicit = 0
   kind_nesting (compound ss) = 1 + slots_nesting ss

@@ -74,8 +74,8 @@ each_onto onto (value_and v vs) rest = onto v (each_onto onto vs rest)
 abbrev mutual
   pub kind_onto : KindTree → ValueTree → Texts → Texts
   kind_onto (fixed f) v rest = fixed_onto f v rest
-  kind_onto (extended ps) (part_values ls) rest = in_braces (parts_onto ps ls) rest
-  kind_onto (counted k) (occurrences vs) rest = in_braces (each_onto (kind_onto k) vs) rest
+  kind_onto (extended last ps) (part_values ls) rest = in_braces (parts_onto ps ls) rest
+  kind_onto (counted size k) (occurrences vs) rest = in_braces (each_onto (kind_onto k) vs) rest
   kind_onto (by_fx f) (occurrences vs) rest = in_braces (each_onto (fixed_onto f) vs) rest
   kind_onto explicit (content_octets xs) rest = hex_text xs ∷ rest
   kind_onto (compound ss) (marked es) rest = in_braces (entries_onto 1 ss es) rest

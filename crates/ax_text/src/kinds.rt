@@ -4,9 +4,10 @@ ghost use Rattle.std.specs.Option.{option_copied, option_map};
 ghost use Rattle.ax_model.specs.Plain.{fixed_tree, part_tree, kind_tree, slot_tree, slots_tree, value_tree, values_tree, lists_tree, entries_tree};
 ghost use Rattle.ax_model.specs.Shape.{Shape, EachShape, EntriesShape};
 ghost use Rattle.ax_model.specs.Tree.{counted, occurrences};
+ghost use Rattle.ax_model.specs.declared.kind.Counter.{Counter};
 ghost use Rattle.ax_text.specs.Printing.{after_spaces, Puts};
 ghost use Rattle.ax_text.specs.Slots.{slot_numbered, or_spare, SlotShape, slot_onto};
-ghost use Rattle.ax_text.specs.ValueText.{fixed_onto, part_onto, parts_onto, each_onto, kind_onto, entries_onto};
+ghost use Rattle.ax_text.specs.ValueText.{in_braces, fixed_onto, part_onto, parts_onto, each_onto, kind_onto, entries_onto};
 
 use crate::printer::Printer;
 use ax_model::{Entries, Entry, Fixed, Kind, Lists, Part, Parts, Slot, Slots, Value, Values};
@@ -53,13 +54,13 @@ impl Printer {
     {
         match (value, kind) {
             (value, Kind::Fixed(fixed)) => self.fixed(value, fixed),
-            (Value::Extended(lists), Kind::Extended(parts)) => {
+            (Value::Extended(lists), Kind::Extended { parts, .. }) => {
                 self.text(b"{")?;
                 self.parts(lists, parts)?;
                 self.text(b"}")?;
                 Ok(())
             }
-            (Value::Repeat(values), Kind::Counted(inner)) => self.counted(values, inner),
+            (Value::Repeat(values), Kind::Counted { inner, .. }) => self.counted(values, inner),
             (Value::Repeat(values), Kind::ByFx(fixed)) => {
                 self.text(b"{")?;
                 self.run(values, fixed)?;
@@ -77,12 +78,12 @@ impl Printer {
         }
     }
 
-    /// A counted item.
+    /// The occurrences of a counted or wide item.
     #[cycle(print_kind)]
     #[tactic(auto, using(crate::proofs::KindWays::kind_ways))]
     fn counted(&mut self, values: &Values, inner: &Kind) -> Result<(), AllocError>
-        requires { Shape (counted (kind_tree inner.now)) (occurrences (values_tree values.now)) }
-        ensures { OnOk result (Puts after_spaces (kind_onto (counted (kind_tree inner.now)) (occurrences (values_tree values.now))) self.old.out.items self.new.out.items) }
+        requires { (size : Counter) × Shape (counted size (kind_tree inner.now)) (occurrences (values_tree values.now)) }
+        ensures { OnOk result (Puts after_spaces (in_braces (each_onto (kind_onto (kind_tree inner.now)) (values_tree values.now))) self.old.out.items self.new.out.items) }
     {
         self.text(b"{")?;
         self.each(values, inner)?;

@@ -1,12 +1,14 @@
 //! The lines of kinds.
-ghost use Rattle.std.specs.Prelude.{◌≡◌, map, OnOk};
+ghost use Rattle.std.specs.Prelude.{◌≡◌, ◌∷◌, map, codes, OnOk};
 ghost use Rattle.std.specs.List.{AllByRecursion};
+ghost use Rattle.ax_model.specs.Fitting.{list_count};
 ghost use Rattle.ax_model.specs.Plain.{fixed_tree, part_tree, kind_tree, slots_tree, value_tree, values_tree, lists_tree, entries_tree};
 ghost use Rattle.ax_model.specs.Shape.{FixedShape, PartsShape, EachShape, Shape, EntriesShape};
-ghost use Rattle.ax_model.specs.Tree.{counted, by_fx, extended, compound, occurrences, part_values, marked};
+ghost use Rattle.ax_model.specs.Tree.{counted, by_fx, compound, occurrences, marked, value_count};
+ghost use Rattle.ax_model.specs.declared.kind.Counter.{Counter};
 ghost use Rattle.ax_text.specs.Listable.{FixedListable, MembersListable, KindListable, SlotListable, SlotsListable};
 ghost use Rattle.ax_text.specs.Printing.{as_lines, Puts};
-ghost use Rattle.ax_text.specs.ShowText.{fixed_lines, parts_lines, each_lines, kind_lines, entries_lines};
+ghost use Rattle.ax_text.specs.ShowText.{count_line, fixed_lines, parts_lines, each_lines, kind_lines, entries_lines};
 ghost use Rattle.ax_text.specs.Slots.{slot_numbered, SlotShape, slot_lines};
 
 use crate::kinds::slot_of;
@@ -16,11 +18,11 @@ use ax_model::{Entries, Entry, Fixed, Kind, Lists, Parts, Slot, Slots, Value, Va
 use std::alloc::AllocError;
 
 impl Lister {
-    /// An extended item: how many parts are present, and their members.
+    /// An extended or closed item: how many parts are present, and their members.
     fn extended(&mut self, lists: &Lists, parts: &Parts, path: &[u8]) -> Result<(), AllocError>
         requires listable { AllByRecursion MembersListable (map part_tree parts.now) }
         requires shape { PartsShape (map part_tree parts.now) (lists_tree lists.now) }
-        ensures { OnOk result (Puts as_lines (kind_lines (extended (map part_tree parts.now)) path.now (part_values (lists_tree lists.now))) self.old.out self.new.out) }
+        ensures { OnOk result (Puts as_lines (λ rest. count_line path.now (codes "parts") (list_count (lists_tree lists.now)) ∷ parts_lines (map part_tree parts.now) path.now (lists_tree lists.now) rest) self.old.out self.new.out) }
     {
         self.count(b"parts", lists.count(), path)?;
         self.parts(lists, parts, path)
@@ -72,8 +74,12 @@ impl Lister {
     {
         match (value, kind) {
             (value, Kind::Fixed(fixed)) => self.fixed(value, fixed, path),
-            (Value::Extended(lists), Kind::Extended(parts)) => self.extended(lists, parts, path),
-            (Value::Repeat(values), Kind::Counted(inner)) => self.counted(values, inner, path),
+            (Value::Extended(lists), Kind::Extended { parts, .. }) => {
+                self.extended(lists, parts, path)
+            }
+            (Value::Repeat(values), Kind::Counted { inner, .. }) => {
+                self.counted(values, inner, path)
+            }
             (Value::Repeat(values), Kind::ByFx(fixed)) => self.by_fx(values, fixed, path),
             (Value::Octets(octets), Kind::Explicit) => self.content(octets.as_slice(), path),
             (Value::Compound(entries), Kind::Compound(slots)) => {
@@ -83,13 +89,13 @@ impl Lister {
         }
     }
 
-    /// A counted item: how many occurrences there are, and each of them.
+    /// A counted or wide item: how many occurrences there are, and each of them.
     #[cycle(list_kind)]
     #[tactic(auto, using(crate::proofs::ListedKinds::counted_ways))]
     fn counted(&mut self, values: &Values, inner: &Kind, path: &[u8]) -> Result<(), AllocError>
         requires listable { KindListable (kind_tree inner.now) }
-        requires shape { Shape (counted (kind_tree inner.now)) (occurrences (values_tree values.now)) }
-        ensures { OnOk result (Puts as_lines (kind_lines (counted (kind_tree inner.now)) path.now (occurrences (values_tree values.now))) self.old.out self.new.out) }
+        requires shape { (size : Counter) × Shape (counted size (kind_tree inner.now)) (occurrences (values_tree values.now)) }
+        ensures { OnOk result (Puts as_lines (λ rest. count_line path.now (codes "occurrences") (value_count (values_tree values.now)) ∷ each_lines (kind_lines (kind_tree inner.now)) path.now 0 (values_tree values.now) rest) self.old.out self.new.out) }
     {
         self.count(b"occurrences", values.count(), path)?;
         self.each(values, inner, path)

@@ -4,7 +4,8 @@ ghost use Rattle.std.specs.Option.{option_copied};
 ghost use Rattle.ax_model.specs.InBounds.{IsWidth};
 ghost use Rattle.ax_tokens.specs.Octets.{line_feed};
 ghost use Rattle.ax_text.specs.Listable.{ContentListable};
-ghost use Rattle.ax_text.specs.Remarks.{quoted, characters, reduced_text, multiple_text, by_sign, entry_remark, remark};
+ghost use Rattle.ax_model.specs.Signs.{by_sign};
+ghost use Rattle.ax_text.specs.Remarks.{quoted, characters, reduced_text, multiple_text, entry_remark, remark};
 
 use crate::characters::Alphabet;
 use crate::fractions::{common_divisor, quotient, shared_twos};

@@ -1,22 +1,26 @@
 -- How deep the braces of a file nest, and those of its blocks.
-use Rattle.std.proofs.Common.{◌≡◌, ℕ, ◌+◌, ◌^◌, ◌<◌, ◌≤◌, max, Bool, true, false, cond, List, [], ◌∷◌, ◌++◌, map, bytes_eq, decimal, Option, Some, None, refl, sym, ◌∙◌, ap, subst, arith, append-nil}
+use Rattle.std.proofs.Common.{◌≡◌, ℕ, ◌+◌, ◌^◌, ◌<◌, ◌≤◌, max, Bool, true, false, cond, List, [], ◌∷◌, map, bytes_eq, decimal, Option, Some, refl, sym, subst, arith, append-nil}
 use Rattle.std.specs.List.{AllByRecursion, flat_map, find}
 use Rattle.std.proofs.lemmas.List.Concat.{flat_map-cons}
-use Rattle.ax_grammar.specs.InRange.{EntryInRange, ContentInRange, FixedInRange, MemberInRange, MembersInRange, KindInRange, SlotInRange, SlotsInRange, ItemInRange, UapSlotInRange, InRange}
+use Rattle.ax_grammar.specs.InRange.{EntryInRange, ContentInRange, FixedInRange, MembersInRange, KindInRange, SlotsInRange, ItemInRange, UapSlotInRange, InRange}
 use Rattle.ax_grammar.specs.Keywords.{keyword_text}
 use Rattle.ax_grammar.specs.Printing.{spelled_tokens}
-use Rattle.ax_grammar.specs.Spelling.{quoted, sign_text, block, entry_texts, content_texts, fixed_texts, member_texts, members_texts, part_texts, kind_texts, slot_texts, slots_texts, item_texts, uap_slot_texts, spelled}
+use Rattle.ax_grammar.specs.Spelling.{quoted, sign_text, block, extended_word, counted_word, entry_texts, content_texts, fixed_texts, members_texts, part_texts, kind_texts, slots_texts, item_texts, uap_slot_texts, spelled}
 use Rattle.ax_grammar.specs.declared.keyword.Keyword.TheVariants as Word
 use Rattle.ax_model.specs.Blocks.{BlockTree}
 use Rattle.ax_model.specs.Flaws.{NoFlaw}
 use Rattle.ax_model.specs.Paths.{three_digits}
-use Rattle.ax_model.specs.Specification.{ItemTree, SpecTree, first_named, slot_of_item, uap_slot, record_slots}
-use Rattle.ax_model.specs.Tree.{FixedTree, element, group, MemberTree, named, spare, MembersTree, no_members, member_and, KindTree, fixed, extended, counted, by_fx, explicit, compound, SlotTree, spare_slot, subitem, SlotsTree, no_slots, slot_and, slots_of}
+use Rattle.ax_model.specs.Specification.{ItemTree, SpecTree, first_named, slot_of_item, uap_slot}
+use Rattle.ax_model.specs.Tree.{FixedTree, element, group, named, spare, MembersTree, no_members, member_and, KindTree, fixed, extended, counted, by_fx, explicit, compound, SlotTree, spare_slot, subitem, SlotsTree, no_slots, slot_and, slots_of}
 use Rattle.ax_model.specs.declared.content.Content.{Content}
 use Rattle.ax_model.specs.declared.content.Content.TheVariants as Meaning
 use Rattle.ax_model.specs.declared.content.Sign.{Sign}
 use Rattle.ax_model.specs.declared.content.Sign.TheVariants.{Unsigned, Signed}
 use Rattle.ax_model.specs.declared.content.TableText.{TableText}
+use Rattle.ax_model.specs.declared.kind.Counter.{Counter}
+use Rattle.ax_model.specs.declared.kind.Counter.TheVariants.{One, Two}
+use Rattle.ax_model.specs.declared.kind.LastPart.{LastPart}
+use Rattle.ax_model.specs.declared.kind.LastPart.TheVariants.{WithFx, WithoutFx}
 use Rattle.ax_model.specs.declared.spec.UapSlot.{UapSlot}
 use Rattle.ax_model.specs.declared.spec.UapSlot.TheVariants as Uap
 use Rattle.ax_tokens.proofs.Levels.{within_keeps}
@@ -100,8 +104,8 @@ part_passes ms h = block_passes Word.Part (members_texts ms) (members_nesting ms
 abbrev mutual
   text_nesting : KindTree → ℕ
   text_nesting (fixed f) = fixed_nesting f
-  text_nesting (extended ps) = 1 + parts_nesting ps
-  text_nesting (counted k) = 1 + text_nesting k
+  text_nesting (extended last ps) = 1 + parts_nesting ps
+  text_nesting (counted size k) = 1 + text_nesting k
   text_nesting (by_fx f) = fixed_nesting f
   text_nesting explicit = 0
   text_nesting (compound ss) = 1 + slots_text_nesting ss
@@ -114,8 +118,8 @@ abbrev mutual
 mutual
   one_deeper : (k : KindTree) → kind_nesting k ≤ text_nesting k + 1
   one_deeper (fixed f) = omega arith
-  one_deeper (extended ps) = omega arith
-  one_deeper (counted k) = omega (arith, one_deeper k)
+  one_deeper (extended last ps) = omega arith
+  one_deeper (counted size k) = omega (arith, one_deeper k)
   one_deeper (by_fx f) = omega arith
   one_deeper explicit = omega arith
   one_deeper (compound ss) = omega (arith, slots_one_deeper ss)
@@ -125,12 +129,20 @@ mutual
   slots_one_deeper (slot_and spare_slot ss) = slots_one_deeper ss
   slots_one_deeper (slot_and (subitem name k) ss) = omega (arith, one_deeper k, slots_one_deeper ss)
 
+extended_flat : (last : LastPart) → IsFlat (keyword_text (extended_word last))
+extended_flat WithFx = record { flat = λ level. refl }
+extended_flat WithoutFx = record { flat = λ level. refl }
+
+counted_flat : (size : Counter) → IsFlat (keyword_text (counted_word size))
+counted_flat One = record { flat = λ level. refl }
+counted_flat Two = record { flat = λ level. refl }
+
 mutual
   kind_passes : (k : KindTree) → KindInRange k → Passes (kind_texts k) (text_nesting k)
   kind_passes (fixed f) h = fixed_passes f h
-  kind_passes (extended ps) h =
-      block_passes Word.Extended (flat_map part_texts ps) (parts_nesting ps) (record { flat = λ level. refl }) (each_passes part_texts (λ p. 1 + members_nesting p) parts_nesting MembersInRange part_passes refl (λ p ps. refl) ps h)
-  kind_passes (counted k) h = block_passes Word.Counted (kind_texts k) (text_nesting k) (record { flat = λ level. refl }) (kind_passes k h)
+  kind_passes (extended last ps) h =
+      block_passes (extended_word last) (flat_map part_texts ps) (parts_nesting ps) (extended_flat last) (each_passes part_texts (λ p. 1 + members_nesting p) parts_nesting MembersInRange part_passes refl (λ p ps. refl) ps h)
+  kind_passes (counted size k) h = block_passes (counted_word size) (kind_texts k) (text_nesting k) (counted_flat size) (kind_passes k h)
   kind_passes (by_fx f) h = flat_then (keyword_text Word.ByFx) (fixed_texts f) (fixed_nesting f) (record { flat = λ level. refl }) (fixed_passes f h)
   kind_passes explicit h = flat_one (keyword_text Word.Explicit) (record { flat = λ level. refl })
   kind_passes (compound ss) h = block_passes Word.Compound (slots_texts ss) (slots_text_nesting ss) (record { flat = λ level. refl }) (slots_pass ss h)
@@ -216,8 +228,8 @@ parts_named (p ∷ ps) h = (members_named p h.0, parts_named ps h.1)
 mutual
   kind_named : (k : KindTree) → KindInRange k → KindNamed k
   kind_named (fixed f) h = fixed_named f h
-  kind_named (extended ps) h = parts_named ps h
-  kind_named (counted k) h = kind_named k h
+  kind_named (extended last ps) h = parts_named ps h
+  kind_named (counted size k) h = kind_named k h
   kind_named (by_fx f) h = fixed_named f h
   kind_named explicit h = tt
   kind_named (compound ss) h = slots_named ss h

@@ -1,9 +1,7 @@
 -- Texts through which the level of braces passes, and how deep it is inside.
-use Rattle.std.proofs.Common.{◌≡◌, ℕ, ◌+◌, ◌-◌, ◌≤◌, max, List, [], ◌∷◌, ◌++◌, length, map, refl, sym, ◌∙◌, ap, subst, arith, append_assoc}
+use Rattle.std.proofs.Common.{◌≡◌, ℕ, ◌+◌, ◌-◌, ◌≤◌, max, List, [], ◌∷◌, ◌++◌, length, map, ap, subst, arith, append_assoc}
 use Rattle.ax_tokens.specs.Depth.{level_after, KeepsWithin}
-use Rattle.ax_tokens.specs.Octets.{quote}
 use Rattle.ax_tokens.specs.Printing.{placed}
-use Rattle.ax_tokens.specs.declared.token.TokenKind.{TokenKind}
 use Rattle.ax_grammar.specs.Keywords.{keyword_text}
 use Rattle.ax_grammar.specs.Printing.{kind_of}
 use Rattle.ax_grammar.specs.Spelling.{block, closed}

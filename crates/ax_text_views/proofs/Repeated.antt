@@ -7,6 +7,7 @@ use Rattle.ax_model.specs.Tree.{FixedTree, MembersTree, by_fx, extended, part_va
 use Rattle.ax_model.specs.Widths.{width}
 use Rattle.ax_model.specs.declared.fault.BodyCause.TheVariants.{RunsOut}
 use Rattle.ax_model.specs.declared.fault.BodyFault.{BodyFault}
+use Rattle.ax_model.specs.declared.kind.LastPart.{LastPart}
 use Rattle.ax_model.specs.declared.kind.Part.{Part}
 use Rattle.ax_reader.proofs.AtOctets.{IsUnit, run_at, parts_at, run_ends, run_goes_on, run_fails, by_fx_gets, by_fx_fails, extended_gets, extended_fails}
 use Rattle.ax_reader.specs.Reading.{FailsAt, kind_read, fx_bit}
@@ -60,45 +61,48 @@ no_list_left [] rest = refl
 no_list_left (p ∷ ps) rest = refl
 
 -- the parts before octet `here` are printed, and those that are left lead to all of them
-pub record PartsLead (all : List MembersTree) (more : Bool) (ps : List MembersTree) (body : List ℕ) (at here : ℕ) (old now : List ℕ) : Type 0 where
-  pub ready : PartsReady more ps body here
-  pub leads : Leads (closed (parts_onto ps)) (parts_left more ps body here) (kind_onto (extended all)) (kind_read (extended all) body at) body at here old now
+pub record PartsLead (whole_last : LastPart) (all : List MembersTree) (last : LastPart) (more : Bool) (ps : List MembersTree) (body : List ℕ) (at here : ℕ) (old now : List ℕ) : Type 0 where
+  pub ready : PartsReady last more ps body here
+  pub leads : Leads (closed (parts_onto ps)) (parts_left last more ps body here) (kind_onto (extended whole_last all)) (kind_read (extended whole_last all) body at) body at here old now
 
-pub parts_begin : (ps : List MembersTree) (body : List ℕ) (at : ℕ) (old now : List ℕ) → PartsReady true ps body at → Puts after_spaces (one_onto opening) old now → PartsLead ps true ps body at at old now
-parts_begin ps body at old now h p = record {
+pub parts_begin : (last : LastPart) (ps : List MembersTree) (body : List ℕ) (at : ℕ) (old now : List ℕ) → PartsReady last true ps body at → Puts after_spaces (one_onto opening) old now → PartsLead last ps last true ps body at at old now
+parts_begin last ps body at old now h p = record {
   ready = h;
-  leads = subst (λ r. Leads (closed (parts_onto ps)) r (kind_onto (extended ps)) (kind_read (extended ps) body at) body at at old now) (sym (left_is ps body at))
-      (opened (parts_onto ps) (parts_at ps body at) (kind_onto (extended ps)) (kind_read (extended ps) body at) body at old now (λ ls. part_values ls) (λ end ls h. extended_gets ps body at end ls h) (λ fault h. extended_fails ps body at fault h) (λ ls rest. refl) p);
+  leads = subst (λ r. Leads (closed (parts_onto ps)) r (kind_onto (extended last ps)) (kind_read (extended last ps) body at) body at at old now) (sym (left_is last ps body at))
+      (opened (parts_onto ps) (parts_at last ps body at) (kind_onto (extended last ps)) (kind_read (extended last ps) body at) body at old now (λ ls. part_values ls) (λ end ls h. extended_gets last ps body at end ls h) (λ fault h. extended_fails last ps body at fault h) (λ ls rest. refl) p);
 }
 
-pub parts_start : (all ps : List Part) (body own : List ℕ) (at here : ℕ) (more : Bool) (old now : List ℕ) → ps ≡ all → own ≡ body → here ≡ at → more ≡ true → PartsReady more (map part_tree ps) own here → Puts after_spaces (one_onto opening) old now
-    → PartsLead (map part_tree all) more (map part_tree ps) body at here old now
-parts_start all ps body own at here more old now p b h m ready put =
-    subst (λ all. PartsLead (map part_tree all) more (map part_tree ps) body at here old now) p
-    (subst (λ here. PartsLead (map part_tree ps) more (map part_tree ps) body at here old now) (sym h)
-    (subst (λ more. PartsLead (map part_tree ps) more (map part_tree ps) body at at old now) (sym m)
-    (parts_begin (map part_tree ps) body at old now (subst (λ more. PartsReady more (map part_tree ps) body at) m (subst (λ here. PartsReady more (map part_tree ps) body here) h (subst (λ own. PartsReady more (map part_tree ps) own here) b ready))) put)))
+pub parts_start : (whole_last last : LastPart) (all ps : List Part) (body own : List ℕ) (at here : ℕ) (more : Bool) (old now : List ℕ) → last ≡ whole_last → ps ≡ all → own ≡ body → here ≡ at → more ≡ true → PartsReady last more (map part_tree ps) own here
+    → Puts after_spaces (one_onto opening) old now → PartsLead whole_last (map part_tree all) last more (map part_tree ps) body at here old now
+parts_start whole_last last all ps body own at here more old now l p b h m ready put =
+    subst (λ whole_last. PartsLead whole_last (map part_tree all) last more (map part_tree ps) body at here old now) l
+    (subst (λ all. PartsLead last (map part_tree all) last more (map part_tree ps) body at here old now) p
+    (subst (λ here. PartsLead last (map part_tree ps) last more (map part_tree ps) body at here old now) (sym h)
+    (subst (λ more. PartsLead last (map part_tree ps) last more (map part_tree ps) body at at old now) (sym m)
+    (parts_begin last (map part_tree ps) body at old now
+    (subst (λ more. PartsReady last more (map part_tree ps) body at) m (subst (λ here. PartsReady last more (map part_tree ps) body here) h (subst (λ own. PartsReady last more (map part_tree ps) own here) b ready))) put))))
 
-module _ (all : List MembersTree) (more : Bool) (ps : List MembersTree) (body own : List ℕ) (at here : ℕ) (old now : List ℕ) (h : PartsLead all more ps body at here old now) (b : own ≡ body) where
-  pub parts_next : (new mid : List ℕ) (first : ℕ) (p : MembersTree) (again : Bool) (qs : List MembersTree) (end : ℕ) → new ≡ own → IsPartMet more ps own here p again qs end → PartsReady again qs new end → first ≡ 8 * here
-      → Puts after_spaces (part_onto p (members_value p (drop first (bits body)))) now mid → PartsLead all again qs body at end old mid
-  parts_next new mid first p again qs end n met ready f q =
-      let m : IsPartMet more ps body here p again qs end = subst (λ own. IsPartMet more ps own here p again qs end) b met in
+module _ (whole_last : LastPart) (all : List MembersTree) (last : LastPart) (more : Bool) (ps : List MembersTree) (body own : List ℕ) (at here : ℕ) (old now : List ℕ) (h : PartsLead whole_last all last more ps body at here old now) (b : own ≡ body) where
+  pub parts_next : (new_last : LastPart) (new mid : List ℕ) (first : ℕ) (p : MembersTree) (again : Bool) (qs : List MembersTree) (end : ℕ) → new_last ≡ last → new ≡ own → IsPartMet last more ps own here p again qs end → PartsReady new_last again qs new end → first ≡ 8 * here
+      → Puts after_spaces (part_onto p (members_value p (drop first (bits body)))) now mid → PartsLead whole_last all new_last again qs body at end old mid
+  parts_next new_last new mid first p again qs end l n met ready f q =
+      let m : IsPartMet last more ps body here p again qs end = subst (λ own. IsPartMet last more ps own here p again qs end) b met in
       let vs = members_value p (drop (8 * here) (bits body)) in
       let put : Puts after_spaces (part_onto p vs) now mid = subst (λ first. Puts after_spaces (part_onto p (members_value p (drop first (bits body)))) now mid) f q in record {
-        ready = subst (λ new. PartsReady again qs new end) (n ∙ b) ready;
-        leads = leads_on h.leads (leads_by (closed (parts_onto qs)) (parts_left again qs body end) (closed (parts_onto ps)) (parts_left more ps body here) body here end now mid (λ ls. list_and vs ls) (part_onto p vs)
-            m.read (λ ls rest. ap (λ ps. parts_onto ps (list_and vs ls) (closing ∷ rest)) m.first) put);
+        ready = subst (λ new. PartsReady new_last again qs new end) (n ∙ b) ready;
+        leads = subst (λ last. Leads (closed (parts_onto qs)) (parts_left last again qs body end) (kind_onto (extended whole_last all)) (kind_read (extended whole_last all) body at) body at end old mid) (sym l)
+            (leads_on h.leads (leads_by (closed (parts_onto qs)) (parts_left last again qs body end) (closed (parts_onto ps)) (parts_left last more ps body here) body here end now mid (λ ls. list_and vs ls) (part_onto p vs)
+            m.read (λ ls rest. ap (λ ps. parts_onto ps (list_and vs ls) (closing ∷ rest)) m.first) put));
       }
 
-  pub parts_over : (new : List ℕ) (end : ℕ) → more ≡ false → end ≡ here → Puts after_spaces (one_onto closing) now new → Prints (kind_onto (extended all)) (kind_read (extended all) body at) body at end old new
+  pub parts_over : (new : List ℕ) (end : ℕ) → more ≡ false → end ≡ here → Puts after_spaces (one_onto closing) now new → Prints (kind_onto (extended whole_last all)) (kind_read (extended whole_last all) body at) body at end old new
   parts_over new end is e q =
-      subst (λ end. Prints (kind_onto (extended all)) (kind_read (extended all) body at) body at end old new) (sym e)
+      subst (λ end. Prints (kind_onto (extended whole_last all)) (kind_read (extended whole_last all) body at) body at end old new) (sym e)
       (h.leads.prints here new (record {
         value = no_lists;
-        read = none_left more ps body here is h.ready.within;
+        read = none_left last more ps body here is h.ready.within;
         put = record { put = λ rest. q.put rest ∙ ap (λ t. now ++ after_spaces t) (sym (no_list_left ps (closing ∷ rest))) };
       }))
 
-  pub parts_fault : (fault : BodyFault) → FailsAt (parts_left more ps own here) here fault → FailsAt (kind_read (extended all) body at) at fault
-  parts_fault fault f = fails_too h.leads fault (subst (λ own. FailsAt (parts_left more ps own here) here fault) b f)
+  pub parts_fault : (fault : BodyFault) → FailsAt (parts_left last more ps own here) here fault → FailsAt (kind_read (extended whole_last all) body at) at fault
+  parts_fault fault f = fails_too h.leads fault (subst (λ own. FailsAt (parts_left last more ps own here) here fault) b f)

@@ -50,6 +50,18 @@ impl<'r, 't> Reader<'r, 't> {
         }
     }
 
+    /// In front of the token of that number, or at the end where there are fewer.
+    pub fn from(tokens: &'r Tokens<'t>, at: u32) -> Self
+        ensures { result ≡ drop at (texts_of tokens.now) }
+    {
+        let end = tokens.count();
+        Reader {
+            tokens,
+            end,
+            at: at.min(end),
+        }
+    }
+
     /// How many tokens are left.
     pub fn count(&self) -> u32
         ensures { result ≡ length self.now }

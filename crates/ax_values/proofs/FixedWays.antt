@@ -2,11 +2,11 @@
 use Rattle.std.proofs.Common.{◌≡◌, ℕ, ◌+◌, ◌≤◌, List, take, sym, ◌∙◌, ap, subst, IfOk, Result}
 use Rattle.std.proofs.lemmas.Result.{IfOk-weaker}
 use Rattle.ax_bits.specs.Bits.{number_of}
-use Rattle.ax_model.proofs.VariantTrees.{element_tree, group_tree}
+use Rattle.ax_model.proofs.VariantTrees.{element_tree, group_tree, number_value, group_value}
 use Rattle.ax_model.specs.InBounds.{IsWidth, FixedInBounds}
-use Rattle.ax_model.specs.Plain.{fixed_tree, member_tree, members_tree, fixed_step, member_step, value_tree, values_tree, value_step, entry_step}
+use Rattle.ax_model.specs.Plain.{fixed_tree, member_tree, members_tree, fixed_step, member_step, value_tree, values_tree}
 use Rattle.ax_model.specs.Reader.{fixed_value, members_value}
-use Rattle.ax_model.specs.Tree.{FixedTree, element, group, MemberTree, named, spare, no_members, member_and, ValueTree, number, member_values, no_values, value_and}
+use Rattle.ax_model.specs.Tree.{FixedTree, element, group, MemberTree, named, spare, no_members, member_and, number, member_values, no_values, value_and}
 use Rattle.ax_model.specs.Widths.{width, members_width}
 use Rattle.ax_model.specs.declared.content.Content.{Content}
 use Rattle.ax_model.specs.declared.kind.Fixed.{Fixed}
@@ -14,10 +14,8 @@ use Rattle.ax_model.specs.declared.kind.Fixed.TheOpen.{Member-F}
 use Rattle.ax_model.specs.declared.kind.Fixed.TheVariants.{Element, Group}
 use Rattle.ax_model.specs.declared.kind.Member.{Member, fold-roll-Member}
 use Rattle.ax_model.specs.declared.kind.Member.TheVariants.{Named, Spare, rolls-Named, rolls-Spare}
-use Rattle.ax_model.specs.declared.value.Value.{Value, fold-roll-Value}
-use Rattle.ax_model.specs.declared.value.Value.TheOpen.{Value-F}
+use Rattle.ax_model.specs.declared.value.Value.{Value}
 use Rattle.ax_model.specs.declared.value.Value.TheVariants as ValueOf
-use Rattle.ax_model.specs.declared.value.Value.TheVariants.{rolls-Number, rolls-Group}
 
 -- ---- the trees of the code's variants
 
@@ -32,12 +30,6 @@ named_is member name f e = ap member_tree e ∙ ap member_tree (sym (rolls-Named
 
 spare_is : (member : Member) (w : ℕ) → member ≡ Spare w → member_tree member ≡ spare w
 spare_is member w e = ap member_tree e ∙ ap member_tree (sym (rolls-Spare w)) ∙ fold-roll-Member FixedTree MemberTree fixed_step member_step (Member-F.Spare w)
-
-number_value : (n : ℕ) → value_tree (ValueOf.Number n) ≡ number n
-number_value n = ap value_tree (sym (rolls-Number n)) ∙ fold-roll-Value ValueTree (ℕ × ValueTree) value_step entry_step (Value-F.Number n)
-
-group_value : (made : List Value) → value_tree (ValueOf.Group made) ≡ member_values (values_tree made)
-group_value made = ap value_tree (sym (rolls-Group made)) ∙ fold-roll-Value ValueTree (ℕ × ValueTree) value_step entry_step (Value-F.Group made)
 
 -- ---- elements and groups
 

@@ -2,45 +2,31 @@
 use Rattle.std.proofs.Common.{◌≡◌, ℕ, List, [], ◌∷◌, ◌++◌, map, ap, sym, ◌∙◌, subst, Box, Global, Some}
 use Rattle.std.specs.Option.{option_map}
 use Rattle.std.proofs.lemmas.List.{map-append}
-use Rattle.ax_model.proofs.VariantTrees.{extended_tree, counted_tree, by_fx_tree, explicit_tree, compound_tree}
+use Rattle.ax_model.proofs.VariantTrees.{extended_tree, counted_tree, by_fx_tree, explicit_tree, compound_tree, lists_value, repeat_value, octets_value, marked_value}
 use Rattle.ax_model.specs.InBounds.{InBounds}
 use Rattle.ax_model.specs.Lookup.{item_of_frn}
 use Rattle.ax_model.specs.Plain.{fixed_tree, part_tree, kind_tree, slot_tree, kind_step, slot_step, item_tree, slots_tree, value_tree, values_tree, lists_tree, entries_tree, entry_tree, value_step, entry_step}
 use Rattle.ax_model.specs.Specification.{slot_of_item}
 use Rattle.ax_model.specs.Tree.{KindTree, extended, counted, by_fx, explicit, compound, ValueTree, part_values, occurrences, content_octets, marked, SlotTree, subitem}
+use Rattle.ax_model.specs.declared.kind.Counter.{Counter}
 use Rattle.ax_model.specs.declared.kind.Fixed.{Fixed}
 use Rattle.ax_model.specs.declared.kind.Kind.{Kind}
 use Rattle.ax_model.specs.declared.kind.Kind.TheOpen.{Slot-F}
 use Rattle.ax_model.specs.declared.kind.Kind.TheVariants as KindOf
+use Rattle.ax_model.specs.declared.kind.LastPart.{LastPart}
 use Rattle.ax_model.specs.declared.kind.Part.{Part}
 use Rattle.ax_model.specs.declared.kind.Slot.{Slot, fold-roll-Slot}
 use Rattle.ax_model.specs.declared.kind.Slot.TheVariants.{Sub, rolls-Sub}
 use Rattle.ax_model.specs.declared.spec.Item.{Item}
 use Rattle.ax_model.specs.declared.spec.Spec.{Spec}
 use Rattle.ax_model.specs.declared.value.Entry.{Entry, roll-Entry, fold-roll-Entry}
-use Rattle.ax_model.specs.declared.value.Value.{Value, fold-roll-Value}
-use Rattle.ax_model.specs.declared.value.Value.TheOpen.{Value-F}
+use Rattle.ax_model.specs.declared.value.Value.{Value}
 use Rattle.ax_model.specs.declared.value.Value.TheVariants as ValueOf
-use Rattle.ax_model.specs.declared.value.Value.TheVariants.{rolls-Extended, rolls-Repeat, rolls-Octets, rolls-Compound}
 use Rattle.ax_reader.specs.Reading.{Gets, kind_read, SlotInBounds, slot_of_frn}
 use Rattle.ax_values.specs.SlotReading.{HasFailed, Adds, SlotAdds, SlotFails, IsSlotRead, HasSlotFailed}
 use Rattle.ax_values.specs.declared.error.DecodeError.{DecodeError}
 use Rattle.ax_values.specs.declared.error.DecodeError.TheVariants as Decoding
 use Rattle.ax_values.proofs.Continuing.{failed_by_want}
-
--- ---- the trees of the code's variants
-
-lists_value : (lists : List (List Value)) → value_tree (ValueOf.Extended lists) ≡ part_values (lists_tree lists)
-lists_value lists = ap value_tree (sym (rolls-Extended lists)) ∙ fold-roll-Value ValueTree (ℕ × ValueTree) value_step entry_step (Value-F.Extended lists)
-
-repeat_value : (values : List Value) → value_tree (ValueOf.Repeat values) ≡ occurrences (values_tree values)
-repeat_value values = ap value_tree (sym (rolls-Repeat values)) ∙ fold-roll-Value ValueTree (ℕ × ValueTree) value_step entry_step (Value-F.Repeat values)
-
-octets_value : (octets : List ℕ) → value_tree (ValueOf.Octets octets) ≡ content_octets octets
-octets_value octets = ap value_tree (sym (rolls-Octets octets)) ∙ fold-roll-Value ValueTree (ℕ × ValueTree) value_step entry_step (Value-F.Octets octets)
-
-marked_value : (entries : List Entry) → value_tree (ValueOf.Compound entries) ≡ marked (entries_tree entries)
-marked_value entries = ap value_tree (sym (rolls-Compound entries)) ∙ fold-roll-Value ValueTree (ℕ × ValueTree) value_step entry_step (Value-F.Compound entries)
 
 -- ---- a value under its kind's own name
 
@@ -50,11 +36,11 @@ gets_at kind k u v body at end e f g = subst (λ z. Gets (kind_read kind body at
 pub failed_at : (kind k : KindTree) (body : List ℕ) (at : ℕ) (e : DecodeError) → kind ≡ k → HasFailed (kind_read k body at) at e → HasFailed (kind_read kind body at) at e
 failed_at kind k body at e is h = subst (λ z. HasFailed (kind_read z body at) at e) (sym is) h
 
-pub extended_is : (kind : Kind) (parts : List Part) → kind ≡ KindOf.Extended parts → kind_tree kind ≡ extended (map part_tree parts)
-extended_is kind parts e = ap kind_tree e ∙ extended_tree parts
+pub extended_is : (kind : Kind) (last : LastPart) (parts : List Part) → kind ≡ KindOf.Extended last parts → kind_tree kind ≡ extended last (map part_tree parts)
+extended_is kind last parts e = ap kind_tree e ∙ extended_tree last parts
 
-pub counted_is : (kind held : Kind) (inner : Box Kind Global) → kind ≡ KindOf.Counted inner → held ≡ inner.value → kind_tree kind ≡ counted (kind_tree held)
-counted_is kind held inner e same = ap kind_tree e ∙ counted_tree inner ∙ ap (λ k. counted (kind_tree k)) (sym same)
+pub counted_is : (kind held : Kind) (size : Counter) (inner : Box Kind Global) → kind ≡ KindOf.Counted size inner → held ≡ inner.value → kind_tree kind ≡ counted size (kind_tree held)
+counted_is kind held size inner e same = ap kind_tree e ∙ counted_tree size inner ∙ ap (λ k. counted size (kind_tree k)) (sym same)
 
 pub by_fx_is : (kind : Kind) (fixed : Fixed) → kind ≡ KindOf.ByFx fixed → kind_tree kind ≡ by_fx (fixed_tree fixed)
 by_fx_is kind fixed e = ap kind_tree e ∙ by_fx_tree fixed

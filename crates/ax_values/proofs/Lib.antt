@@ -8,6 +8,7 @@ pub mod KindWays
 pub mod Marking
 pub mod NextEntry
 pub mod Onto
+pub mod PartUnits
 pub mod PartsRead
 pub mod RecordSlots
 pub mod Repeating

@@ -1,5 +1,5 @@
 -- Occurrences, contents and entries that are written one after the other.
-use Rattle.std.proofs.Common.{◌≡◌, ℕ, suc, ◌+◌, ◌-◌, ◌<◌, ◌≤◌, List, [], ◌∷◌, ◌++◌, length, drop, get_or, set, refl, sym, ◌∙◌, ap, arith, subst, length-append, add-one, drop-cons}
+use Rattle.std.proofs.Common.{◌≡◌, ℕ, suc, ◌+◌, ◌-◌, ◌*◌, ◌<◌, ◌≤◌, List, [], ◌∷◌, ◌++◌, length, drop, get_or, set, refl, sym, ◌∙◌, ap, arith, subst, length-append, add-one, drop-cons}
 use Rattle.std.proofs.lemmas.List.{drop_all}
 use Rattle.ax_bits.proofs.Outputs.{appends_more}
 use Rattle.ax_bits.proofs.Words.{length-word}
@@ -19,6 +19,9 @@ use Rattle.ax_model.specs.declared.value.Value.{Value}
 use Rattle.ax_values.proofs.NextEntry.{EntriesLeft, entries_first, entry_shape, entry_room, entries_next, entries_ended, MarksLeft, marks_first, mark_within, marks_next, marks_ended}
 use Rattle.ax_values.proofs.Written.{written_none, written_more, written_all, written_room, first_room}
 use Rattle.ax_values.specs.Writing.{IsWrittenTo, EntryShape, entry_canon, AreEntriesOf}
+use Rattle.ax_model.specs.Widths.{counter_octets, counter_width}
+use Rattle.ax_model.specs.declared.kind.Counter.{Counter}
+use Rattle.ax_model.proofs.WholeOctets.{counter_in_octets}
 
 pub from_place : {X : Type 0} (xs : List X) (i : ℕ) (x : X) → i < length xs → x ≡ get_or xs i x → drop i xs ≡ x ∷ drop (i + 1) xs
 from_place xs i x lt e = drop-cons xs i x lt ∙ (λ k. sym e k ∷ drop (sym (add-one i) k) xs)
@@ -61,6 +64,11 @@ count_of (v ∷ vs) = ap suc (count_of vs)
 -- an octet, and what is after it
 pub octet_and : (old mid new : Out) (n m : ℕ) (rest : List ℕ) → n ≡ m → Appends old mid (word 8 n) → Appends mid new rest → Appends old new (word 8 m ++ rest)
 octet_and old mid new n m rest e a b = subst (λ n. Appends old new (word 8 n ++ rest)) e (appends_more old mid new (word 8 n) rest (word 8 n ++ rest) refl a b)
+
+-- a counter, and what is after it
+pub count_and : (size : Counter) (old mid new : Out) (n : ℕ) (rest : List ℕ) → Appends old mid (word (8 * counter_octets size) n) → Appends mid new rest → Appends old new (word (counter_width size) n ++ rest)
+count_and size old mid new n rest a b =
+    appends_more old mid new (word (counter_width size) n) rest (word (counter_width size) n ++ rest) refl (subst (λ w. Appends old mid (word w n)) (sym (counter_in_octets size)) a) b
 
 pub rest_room : (old new : Out) (n m : ℕ) (rest : List ℕ) → length (word 8 n ++ rest) ≤ room old → Appends old new (word 8 m) → length rest ≤ room new
 rest_room old new n m rest le a = omega (arith, length-append (word 8 n) rest, length-word 8 n, length-word 8 m, a.room)

@@ -15,15 +15,15 @@ ghost use Rattle.ax_values.specs.Decoding.{IsRecordAt, IsRecordFaultAt, IsReadOf
 ghost use Rattle.ax_reader.specs.Reading.{IsMaskOf, record_slot_list};
 
 use crate::error::DecodeError;
-use crate::kinds::{copy_octets, decode_value};
+use crate::kinds::decode_value;
 use crate::records::{decode_entries, record_mask};
 use ax_fspec::SlotMask;
-use ax_model::{Block, Kind, RawBlock, Record, Records, Spec, Value};
+use ax_model::{Block, Kind, Octets, RawBlock, Record, Records, Spec, Value};
 use std::alloc::Global;
 
 /// Reads the value of a kind that begins at octet `at` of a body. The kind is one of a specification without flaw: an
-/// item's, a subitem's or a counted body's. Ok is the value and the octet after it; the octets between are exactly a
-/// spelling of it. Fault is the first fault of what is left of the body, and its bit is one of the body. There is one
+/// item's, a subitem's or a counted or wide body's. Ok is the value and the octet after it; the octets between are
+/// exactly a spelling of it. Fault is the first fault of what is left of the body, and its bit is one of the body. There is one
 /// answer: where such octets stand there, it is that value, and where what is left fails, it is that fault.
 ///
 /// The fault can be trusted. It is RunsOut exactly where more octets, put after the body, can make what is left begin with
@@ -87,7 +87,7 @@ pub fn decode_block(alloc: Global, spec: &Spec, raw: &RawBlock<'_>) -> Result<Bl
     ensures where_faulty { (fault : BodyFault) → raw.now.category ≡ spec.now.category → IsBodyFault (spec_tree spec.now) raw.now.body.now fault → AnswersFault fault result }
 {
     if raw.category != spec.category {
-        let octets = copy_octets(alloc, raw.body)?;
+        let octets = Octets::of(alloc, raw.body)?;
         return Ok(Block::Opaque {
             category: raw.category,
             octets,

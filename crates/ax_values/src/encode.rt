@@ -12,6 +12,7 @@ ghost use Rattle.ax_values.specs.declared.error.EncodeError.TheVariants as Encod
 use crate::error::EncodeError;
 use crate::write_records::write_body;
 use ax_bits::Out;
+use ax_lists::zeros;
 use ax_model::{Block, Spec, canon_length};
 use ax_uap::UapItems;
 use std::alloc::{AllocError, Global};
@@ -53,13 +54,6 @@ pub fn encode_of_length(
     let mut buffer = zeros(alloc, length)?;
     fill(block, items, &mut buffer);
     Ok(buffer)
-}
-
-// The buffer stands in a function of its own, so that no proof spells out its octets.
-fn zeros(alloc: Global, count: usize) -> Result<Vec<u8>, AllocError>
-    ensures { IfOk result (λ made. length made.items ≡ count) }
-{
-    vec![in alloc; 0; count]
 }
 
 /// Fills a buffer of just its length with the canonical form of a block.
@@ -119,14 +113,16 @@ pub fn write_opaque(category: u8, octets: &[u8], out: &mut Out<'_>)
     write_octets(octets, out);
 }
 
-/// Appends CAT and LEN.
-fn write_front(category: u8, length: u16, out: &mut Out<'_>)
+/// Appends CAT and LEN, which is the block's octets with these three.
+#[inline]
+pub fn write_front(category: u8, length: u16, out: &mut Out<'_>)
     requires { 24 ≤ room out.old }
     ensures written { Appends out.old out.new (word 8 category ++ word 16 length) }
     ensures octet { category < 256 }
 {
     out.push_octet(category);
-    out.push_bits(length as u128, 16);
+    out.push_octet((length / 256) as u8);
+    out.push_octet((length % 256) as u8);
 }
 
 fn write_octets(octets: &[u8], out: &mut Out<'_>)

@@ -1,6 +1,7 @@
 //! The plain codec: octets to records and back, over the trees of a specification.
 #![tactic(auto)]
 
+mod counter;
 mod decode;
 mod encode;
 mod error;
@@ -19,13 +20,16 @@ mod write_records;
 mod write_units;
 
 pub use ax_reader::has_fx;
+pub use counter::counter_at;
 pub use decode::{decode_block, decode_kind, decode_record};
-pub use encode::{encode_block, encode_of_length, write_opaque};
+pub use encode::{encode_block, encode_of_length, write_front, write_opaque};
 pub use error::{DecodeError, EncodeError};
 pub use explicit::explicit_content;
-pub use kinds::octet_at;
+pub use kinds::{decode_marked, octet_at};
 pub use lengths::length_over;
-pub use parts_left::PartsLeft;
+pub use marks::entry_marks;
+pub use parts_left::{PartsLeft, is_continued};
 pub use records::record_mask;
 pub use slots::slots_mask;
 pub use units::unit_end;
+pub use write_kinds::write_entries;

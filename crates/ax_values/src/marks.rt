@@ -11,7 +11,7 @@ use ax_fspec::Presence;
 use ax_model::Entries;
 
 /// The set of the slots that have entries.
-pub(crate) fn entry_marks(entries: &Entries) -> Presence
+pub fn entry_marks(entries: &Entries) -> Presence
     requires { (ss : SlotsTree) × AreEntriesOf ss (entries_tree entries.now) }
     ensures { (ss : SlotsTree) → AreEntriesOf ss (entries_tree entries.now) → least_field result ≡ least_presence (octets_needed (slot_count ss)) (marks_of 1 ss (entries_tree entries.now)) }
 {

@@ -1,4 +1,4 @@
-//! Kinds whose units are runs of a known length: fixed kinds, the parts of extended items, occurrences by FX.
+//! Kinds whose units are runs of a known length: fixed kinds, the parts of extended and closed items, occurrences by FX.
 ghost use Rattle.std.specs.Prelude.{◌≡◌, ◌+◌, ◌-◌, ◌*◌, ◌%◌, ◌<◌, ◌≤◌, length, map, IfOk, IfErr};
 ghost use Rattle.ax_bits.specs.Bits.{bits};
 ghost use Rattle.ax_model.specs.InBounds.{InBounds};
@@ -12,7 +12,7 @@ ghost use Rattle.ax_values.specs.SlotReading.{HasFailed};
 use crate::error::DecodeError;
 use crate::fixed::{decode_fixed, decode_members};
 use crate::parts_left::PartsLeft;
-use ax_model::{BodyCause, BodyFault, Fixed, Lists, Parts, Value, Values};
+use ax_model::{BodyCause, BodyFault, Fixed, LastPart, Lists, Parts, Value, Values};
 use ax_reader::{has_fx, run_end};
 use std::alloc::Global;
 
@@ -59,17 +59,18 @@ pub(crate) fn decode_single(
 #[tactic(auto, using(crate::proofs::Continuing::errors, ax_reader::proofs::AtOctets::extended_fails))]
 pub(crate) fn decode_parts(
     alloc: Global,
+    last: LastPart,
     parts: &Parts,
     body: &[u8],
     at: u32,
 ) -> Result<(Lists, u32), DecodeError>
-    requires bounds { InBounds (Tree.extended (map part_tree parts.now)) }
+    requires bounds { InBounds (Tree.extended last (map part_tree parts.now)) }
     requires body { length body.now ≤ longest_body }
     requires at { at ≤ length body.now }
-    ensures ok { IfOk result (λ r. Gets (kind_read (Tree.extended (map part_tree parts.now)) body.now at) body.now at r.1 (Tree.part_values (lists_tree r.0))) }
-    ensures err { IfErr result (λ e. HasFailed (kind_read (Tree.extended (map part_tree parts.now)) body.now at) at e) }
+    ensures ok { IfOk result (λ r. Gets (kind_read (Tree.extended last (map part_tree parts.now)) body.now at) body.now at r.1 (Tree.part_values (lists_tree r.0))) }
+    ensures err { IfErr result (λ e. HasFailed (kind_read (Tree.extended last (map part_tree parts.now)) body.now at) at e) }
 {
-    let mut left = PartsLeft::of(parts.as_slice(), body, at);
+    let mut left = PartsLeft::of(last, parts.as_slice(), body, at);
     let mut made = Lists::new(alloc);
     while let Some((part, first)) = left.next()? {
         let mut bit = first;

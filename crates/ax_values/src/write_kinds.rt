@@ -13,7 +13,7 @@ use crate::marks::entry_marks;
 use crate::write_units::{write_fixed, write_parts, write_run};
 use ax_bits::Out;
 use ax_fspec::write_presence;
-use ax_model::{Entries, Entry, Kind, Octets, Slots, Value, Values, subitem_kind};
+use ax_model::{Counter, Entries, Entry, Kind, Octets, Slots, Value, Values, subitem_kind};
 
 /// Appends the canonical spelling of a value of a kind.
 #[cycle(write_value)]
@@ -26,8 +26,12 @@ pub(crate) fn write_value(value: &Value, kind: &Kind, out: &mut Out<'_>)
 {
     match (value, kind) {
         (value, Kind::Fixed(fixed)) => write_fixed(value, fixed, out),
-        (Value::Extended(lists), Kind::Extended(parts)) => write_parts(lists, parts, out),
-        (Value::Repeat(values), Kind::Counted(inner)) => write_counted(values, inner, out),
+        (Value::Extended(lists), Kind::Extended { last, parts }) => {
+            write_parts(lists, *last, parts, out)
+        }
+        (Value::Repeat(values), Kind::Counted { counter, inner }) => {
+            write_counted(values, *counter, inner, out)
+        }
         (Value::Repeat(values), Kind::ByFx(fixed)) => write_run(values, fixed, out),
         (Value::Octets(content), Kind::Explicit) => write_content(content, out),
         (Value::Compound(entries), Kind::Compound(slots)) => write_compound(entries, slots, out),
@@ -35,15 +39,15 @@ pub(crate) fn write_value(value: &Value, kind: &Kind, out: &mut Out<'_>)
     }
 }
 
-/// Appends the occurrences of a counted item, with REP in front.
+/// Appends the occurrences of a counted or wide item, with REP in front, in one octet or in two.
 #[cycle(write_value)]
-fn write_counted(values: &Values, inner: &Kind, out: &mut Out<'_>)
+fn write_counted(values: &Values, size: Counter, inner: &Kind, out: &mut Out<'_>)
     requires bounds { InBounds (kind_tree inner.now) }
-    requires shape { Shape (counted (kind_tree inner.now)) (occurrences (values_tree values.now)) }
-    requires room { length (canon (counted (kind_tree inner.now)) (occurrences (values_tree values.now))) ≤ room out.old }
-    ensures { Appends out.old out.new (canon (counted (kind_tree inner.now)) (occurrences (values_tree values.now))) }
+    requires shape { Shape (counted size (kind_tree inner.now)) (occurrences (values_tree values.now)) }
+    requires room { length (canon (counted size (kind_tree inner.now)) (occurrences (values_tree values.now))) ≤ room out.old }
+    ensures { Appends out.old out.new (canon (counted size (kind_tree inner.now)) (occurrences (values_tree values.now))) }
 {
-    out.push_octet(values.count() as u8);
+    out.push_bits(u128::from(values.count()), 8 * size.octets());
     write_each(values, inner, out);
 }
 
@@ -81,8 +85,9 @@ fn write_compound(entries: &Entries, slots: &Slots, out: &mut Out<'_>)
     write_entries(entries, slots, out);
 }
 
+/// Appends the entries of a compound, in order, without their presence field.
 #[cycle(write_value)]
-fn write_entries(entries: &Entries, slots: &Slots, out: &mut Out<'_>)
+pub fn write_entries(entries: &Entries, slots: &Slots, out: &mut Out<'_>)
     requires entries { AreEntriesOf (slots_tree slots.now) (entries_tree entries.now) }
     requires room { length (entries_canon 1 (slots_tree slots.now) (entries_tree entries.now)) ≤ room out.old }
     ensures { Appends out.old out.new (entries_canon 1 (slots_tree slots.now) (entries_tree entries.now)) }

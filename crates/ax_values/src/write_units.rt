@@ -1,17 +1,17 @@
-//! Runs of bits of a known length, written: elements, spares and groups, the parts of extended items, occurrences by FX.
+//! Runs of bits of a known length, written: elements, spares and groups, the parts of extended and closed items,
+//! occurrences by FX.
 ghost use Rattle.std.specs.Prelude.{◌≡◌, ◌^◌, ◌<◌, ◌≤◌, length, map, [], ◌∷◌};
-ghost use Rattle.std.specs.List.{AllByRecursion};
 ghost use Rattle.ax_bits.specs.Bits.{word};
 ghost use Rattle.ax_bits.specs.Out.{Appends, room};
 ghost use Rattle.ax_model.specs.Canonical.{number_canon, fixed_canon, members_canon, parts_canon, run_canon};
-ghost use Rattle.ax_model.specs.InBounds.{IsWidth, FixedInBounds, MembersInBounds, PartInBounds};
+ghost use Rattle.ax_model.specs.InBounds.{IsWidth, FixedInBounds, MembersInBounds, PartsInBounds};
 ghost use Rattle.ax_model.specs.Plain.{fixed_tree, member_tree, members_tree, part_tree, value_tree, values_tree, lists_tree};
 ghost use Rattle.ax_model.specs.Shape.{NumberShape, FixedShape, MembersShape, PartsShape, EachShape};
 ghost use Rattle.ax_model.specs.Tree.{member_and, no_members, value_and, no_values};
 ghost use Rattle.ax_reader.specs.Reading.{fx_bit};
 
 use ax_bits::Out;
-use ax_model::{Fixed, Lists, Member, Members, Parts, Value, Values};
+use ax_model::{Fixed, LastPart, Lists, Member, Members, Parts, Value, Values};
 
 /// Appends the number of an element or a spare.
 #[tactic(auto, using(crate::proofs::Written::numbers))]
@@ -83,21 +83,25 @@ fn write_fx(more: bool, out: &mut Out<'_>)
     out.push_bits(if more { 1 } else { 0 }, 1);
 }
 
-/// Appends the parts that are present.
-pub(crate) fn write_parts(lists: &Lists, parts: &Parts, out: &mut Out<'_>)
-    requires bounds { AllByRecursion PartInBounds (map part_tree parts.now) }
+/// Appends the parts that are present, each with its FX bit where it has one.
+pub(crate) fn write_parts(lists: &Lists, last: LastPart, parts: &Parts, out: &mut Out<'_>)
+    requires bounds { PartsInBounds last (map part_tree parts.now) }
     requires shape { PartsShape (map part_tree parts.now) (lists_tree lists.now) }
-    requires room { length (parts_canon (map part_tree parts.now) (lists_tree lists.now)) ≤ room out.old }
-    ensures { Appends out.old out.new (parts_canon (map part_tree parts.now) (lists_tree lists.now)) }
+    requires room { length (parts_canon last (map part_tree parts.now) (lists_tree lists.now)) ≤ room out.old }
+    ensures { Appends out.old out.new (parts_canon last (map part_tree parts.now) (lists_tree lists.now)) }
 {
     let mut rest = lists.as_slice();
-    for part in parts.as_slice() {
+    let mut left = parts.as_slice();
+    while let Some((part, others)) = left.split_first() {
         let Some((values, later)) = rest.split_first() else {
             return;
         };
         write_members(values, &part.members, out);
-        write_fx(!later.is_empty(), out);
+        if last.fx_width(others.len()) == 1 {
+            write_fx(!later.is_empty(), out);
+        }
         rest = later;
+        left = others;
     }
 }
 

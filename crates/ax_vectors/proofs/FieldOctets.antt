@@ -1,9 +1,9 @@
 -- Presence fields, octet by octet.
-use Rattle.std.proofs.Common.{nat_lt, ◌≡◌, ℕ, zero, suc, ◌+◌, ◌-◌, ◌*◌, ◌/◌, ◌%◌, ◌^◌, ◌<◌, ◌≤◌, Bool, true, false, not, List, [], ◌∷◌, ◌++◌, length, drop, min, get_or, refl, sym, ◌∙◌, ap, subst, arith, add-one, append_assoc, append-nil, length-drop, drop-cons, cond, ◌⊎◌, inl, inr}
+use Rattle.std.proofs.Common.{nat_lt, ◌≡◌, ℕ, zero, suc, ◌+◌, ◌-◌, ◌*◌, ◌%◌, ◌<◌, ◌≤◌, Bool, true, false, not, List, [], ◌∷◌, ◌++◌, length, drop, min, get_or, refl, sym, ◌∙◌, ap, subst, arith, add-one, append_assoc, append-nil, length-drop, drop-cons, cond, ◌⊎◌, inl, inr}
 use Rattle.std.proofs.lemmas.List.{drop_all}
 use Rattle.std.proofs.lemmas.Bool.{cases_lt}
 use Rattle.std.proofs.lemmas.Bool.Decides.{nat_tests}
-use Rattle.ax_bits.specs.Bits.{word, AreBits}
+use Rattle.ax_bits.specs.Bits.{AreBits}
 use Rattle.ax_fspec.proofs.FieldsWritten.{marks_after_is}
 use Rattle.ax_model.proofs.Least.{rests-AreBits}
 use Rattle.ax_model.specs.Presence.{octets_needed, first_mark, later_marks, none_marked, marks_after, marks_upto, least_presence}
@@ -159,17 +159,18 @@ pub record FieldLeft (count : ℕ) (marks : List ℕ) (left : ℕ) (rest old now
 pub field_first : (count : ℕ) (marks old : List ℕ) → AreBits marks → FieldLeft count marks count marks old old
 field_first count marks old h = record { each = h; list = refl }
 
-pub field_next : (count : ℕ) (marks : List ℕ) (left : ℕ) (rest old now mid new following : List ℕ) → FieldLeft count marks left rest old now → 0 < left → mid ≡ now ++ marks_upto 7 rest → new ≡ mid ++ fx_before (left - 1) ∷ []
+pub field_next : (count : ℕ) (marks : List ℕ) (left : ℕ) (rest old now mid new following : List ℕ) → FieldLeft count marks left rest old now → 0 < left → mid ≡ now ++ marks_upto 7 rest → new ≡ mid ++ fx_before 1 (left - 1)
     → following ≡ marks_after 7 rest → FieldLeft count marks (left - 1) following old new
 field_next count marks left rest old now mid new following h some a b e =
     let less = left - 1 in
     let one : left ≡ suc less = omega arith in
     let seven = marks_upto 7 rest in
-    let fx = fx_before less in
+    let fx = fx_before 1 less in
+    let later = field_of less (marks_after 7 rest) in
     record {
       each = subst AreBits (sym e) (rests-AreBits 7 rest h.each);
-      list = h.list ∙ ap (λ n. now ++ field_of n rest) one ∙ sym (append_assoc now seven (fx ∷ field_of less (marks_after 7 rest))) ∙ ap (λ x. x ++ fx ∷ field_of less (marks_after 7 rest)) (sym a)
-          ∙ sym (append_assoc mid (fx ∷ []) (field_of less (marks_after 7 rest))) ∙ ap (λ x. x ++ field_of less (marks_after 7 rest)) (sym b) ∙ ap (λ r. new ++ field_of less r) (sym e);
+      list = h.list ∙ ap (λ n. now ++ field_of n rest) one ∙ sym (append_assoc now seven (fx ++ later)) ∙ ap (λ x. x ++ (fx ++ later)) (sym a)
+          ∙ sym (append_assoc mid fx later) ∙ ap (λ x. x ++ later) (sym b) ∙ ap (λ r. new ++ field_of less r) (sym e);
     }
 
 pub field_over : (count : ℕ) (marks : List ℕ) (left : ℕ) (rest old now : List ℕ) → FieldLeft count marks left rest old now → left ≤ 0 → now ≡ old ++ field_of count marks

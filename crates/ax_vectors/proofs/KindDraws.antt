@@ -1,9 +1,14 @@
 -- What is made by a draw, under one kind.
-use Rattle.std.proofs.Common.{◌≡◌, ℕ, suc, ◌+◌, ◌-◌, ◌%◌, ◌<◌, ◌≤◌, cond, List, ◌++◌, length, map, sym, ◌∙◌, ap, subst, arith}
+use Rattle.std.proofs.Common.{◌≡◌, ℕ, suc, ◌+◌, ◌-◌, ◌%◌, ◌^◌, ◌<◌, ◌≤◌, cond, List, ◌++◌, length, map, sym, ◌∙◌, ap, subst, arith}
 use Rattle.std.proofs.lemmas.List.{length-map}
+use Rattle.std.proofs.lemmas.Nat.{mod_below}
 use Rattle.ax_bits.specs.Bits.{word}
 use Rattle.ax_model.specs.Plain.{part_tree}
 use Rattle.ax_model.specs.Tree.{FixedTree, MembersTree, KindTree, extended, counted, by_fx, explicit}
+use Rattle.ax_model.specs.Widths.{counter_width}
+use Rattle.ax_model.specs.declared.kind.Counter.{Counter}
+use Rattle.ax_model.specs.declared.kind.Counter.TheVariants.{One, Two}
+use Rattle.ax_model.specs.declared.kind.LastPart.{LastPart}
 use Rattle.ax_model.specs.declared.kind.Part.{Part}
 use Rattle.ax_vectors.proofs.FieldOctets.{is_below, is_not_below}
 use Rattle.ax_vectors.proofs.Left.{Left, left_whole, left_step, left_none, adds_just, adds_both}
@@ -18,11 +23,11 @@ drawn_first rule d old new first mid after is left a = record {
   left = a.left ∙ ap (λ p. p.1) ((λ k. rule (is k) (left k)));
 }
 
-pub extended_adds : (parts : List Part) (d count : ℕ) (old new : List ℕ) (first mid after : ℕ) → d ≡ drawn first → mid ≡ next_state first → count ≡ length parts → Adds (parts_made (1 + d % count) (map part_tree parts)) old new mid after
-    → Adds (kind_made 0 (extended (map part_tree parts))) old new first after
-extended_adds parts d count old new first mid after is left size a =
+pub extended_adds : (last : LastPart) (parts : List Part) (d count : ℕ) (old new : List ℕ) (first mid after : ℕ) → d ≡ drawn first → mid ≡ next_state first → count ≡ length parts
+    → Adds (parts_made last (1 + d % count) (map part_tree parts)) old new mid after → Adds (kind_made 0 (extended last (map part_tree parts))) old new first after
+extended_adds last parts d count old new first mid after is left size a =
     let ps : List MembersTree = map part_tree parts in
-    drawn_first (λ d. parts_made (1 + d % length ps) ps) d old new first mid after is left (subst (λ n. Adds (parts_made (1 + d % n) ps) old new mid after) (size ∙ sym (length-map parts part_tree)) a)
+    drawn_first (λ d. parts_made last (1 + d % length ps) ps) d old new first mid after is left (subst (λ n. Adds (parts_made last (1 + d % n) ps) old new mid after) (size ∙ sym (length-map parts part_tree)) a)
 
 pub by_fx_adds : (f : FixedTree) (d : ℕ) (old new : List ℕ) (first mid after : ℕ) → d ≡ drawn first → mid ≡ next_state first → Adds (run_made (1 + d % 3) f) old new mid after → Adds (kind_made 0 (by_fx f)) old new first after
 by_fx_adds f d old new first mid after is left a = drawn_first (λ d. run_made (1 + d % 3) f) d old new first mid after is left a
@@ -55,17 +60,29 @@ pub ruleset each = (each_begun, each_next, each_over)
 
 -- ---- counted kinds
 
-pub counted_some : (k : KindTree) (around d : ℕ) (old mid_list new : List ℕ) (first mid after : ℕ) → around < 2 → d ≡ drawn first → mid ≡ next_state first → mid_list ≡ old ++ word 8 (d % 3)
-    → Adds (times (d % 3) (kind_made (around + 1) k)) mid_list new mid after → Adds (kind_made around (counted k)) old new first after
-counted_some k around d old mid_list new first mid after few is left e a =
-    let some : Maker = by_draw (λ d. counted_made (d % 3) (kind_made (around + 1) k)) in
-    subst (λ b. Adds (cond b some (just (word 8 0))) old new first after) (sym (is_below around 2 few))
-    (drawn_first (λ d. counted_made (d % 3) (kind_made (around + 1) k)) d old new first mid after is left
-    (adds_both (just (word 8 (d % 3))) (times (d % 3) (kind_made (around + 1) k)) old mid_list new mid mid after (adds_just (word 8 (d % 3)) old mid_list mid e) a))
+pub few_fit : (size : Counter) (n : ℕ) → n < 256 → n < 2 ^ counter_width size
+few_fit One n h = h
+few_fit Two n h = let le : n < 65536 = omega arith in le
 
-pub counted_none : (k : KindTree) (around : ℕ) (old new : List ℕ) (first : ℕ) → 2 ≤ around → new ≡ old ++ word 8 0 → Adds (kind_made around (counted k)) old new first first
-counted_none k around old new first many e =
-    let some : Maker = by_draw (λ d. counted_made (d % 3) (kind_made (around + 1) k)) in
-    subst (λ b. Adds (cond b some (just (word 8 0))) old new first first) (sym (is_not_below around 2 many)) (adds_just (word 8 0) old new first e)
+pub no_count_fits : (size : Counter) → 0 < 2 ^ counter_width size
+no_count_fits size = few_fit size 0 (omega arith)
 
-pub ruleset counted_adds = (counted_some, counted_none)
+pub drawn_count_fits : (size : Counter) (d : ℕ) → d % 3 < 2 ^ counter_width size
+drawn_count_fits size d = let low : d % 3 < 3 = mod_below d 3 (omega arith) in few_fit size (d % 3) (omega arith)
+
+pub counted_some : (size : Counter) (k : KindTree) (around d : ℕ) (old mid_list new : List ℕ) (first mid after : ℕ) → around < 2 → d ≡ drawn first → mid ≡ next_state first → mid_list ≡ old ++ word (counter_width size) (d % 3)
+    → Adds (times (d % 3) (kind_made (around + 1) k)) mid_list new mid after → Adds (kind_made around (counted size k)) old new first after
+counted_some size k around d old mid_list new first mid after few is left e a =
+    let w = counter_width size in
+    let some : Maker = by_draw (λ d. counted_made size (d % 3) (kind_made (around + 1) k)) in
+    subst (λ b. Adds (cond b some (just (word w 0))) old new first after) (sym (is_below around 2 few))
+    (drawn_first (λ d. counted_made size (d % 3) (kind_made (around + 1) k)) d old new first mid after is left
+    (adds_both (just (word w (d % 3))) (times (d % 3) (kind_made (around + 1) k)) old mid_list new mid mid after (adds_just (word w (d % 3)) old mid_list mid e) a))
+
+pub counted_none : (size : Counter) (k : KindTree) (around : ℕ) (old new : List ℕ) (first : ℕ) → 2 ≤ around → new ≡ old ++ word (counter_width size) 0 → Adds (kind_made around (counted size k)) old new first first
+counted_none size k around old new first many e =
+    let w = counter_width size in
+    let some : Maker = by_draw (λ d. counted_made size (d % 3) (kind_made (around + 1) k)) in
+    subst (λ b. Adds (cond b some (just (word w 0))) old new first first) (sym (is_not_below around 2 many)) (adds_just (word w 0) old new first e)
+
+pub ruleset counted_adds = (no_count_fits, drawn_count_fits, counted_some, counted_none)

@@ -1,16 +1,18 @@
 -- What is left of a making, in a loop.
 use Rattle.std.proofs.Common.{◌≡◌, ℕ, zero, suc, ◌+◌, ◌-◌, ◌*◌, ◌%◌, ◌^◌, ◌<◌, ◌≤◌, List, [], ◌∷◌, ◌++◌, length, drop, map, get_or, refl, sym, ◌∙◌, ap, subst, arith, add-one, append_assoc, append-nil, drop-cons, lit<}
-use Rattle.std.specs.List.{AllByRecursion}
-use Rattle.std.proofs.lemmas.List.{drop_all}
+use Rattle.std.proofs.lemmas.List.{drop_all, length-map}
 use Rattle.std.proofs.lemmas.Nat.{mul-add-lt, pow-add, pow_pos}
 use Rattle.std.proofs.Math.Nat.{pow-le-pow_right}
 use Rattle.ax_bits.specs.Bits.{word}
-use Rattle.ax_model.specs.InBounds.{MembersInBounds, PartInBounds}
+use Rattle.ax_model.specs.InBounds.{MembersInBounds, PartsInBounds}
 use Rattle.ax_model.specs.Plain.{member_tree, members_tree, part_tree}
 use Rattle.ax_model.specs.Tree.{FixedTree, MemberTree, named, spare, MembersTree, member_and, no_members}
+use Rattle.ax_model.proofs.Completions.{fx_few}
+use Rattle.ax_model.specs.Widths.{fx_width}
+use Rattle.ax_model.specs.declared.kind.LastPart.{LastPart}
 use Rattle.ax_model.specs.declared.kind.Member.{Member}
 use Rattle.ax_model.specs.declared.kind.Part.{Part}
-use Rattle.ax_vectors.specs.Made.{member_made, members_made, fixed_made, joined, draws_needed, number_made, fx_before, parts_made, run_made}
+use Rattle.ax_vectors.specs.Made.{members_made, fixed_made, joined, draws_needed, number_made, fx_before, parts_made, run_made}
 use Rattle.ax_vectors.specs.Draws.{drawn, next_state}
 use Rattle.ax_vectors.specs.Making.{Maker, just, both, Adds}
 
@@ -110,59 +112,78 @@ members_ended all i old now first state h past = left_none (members_made (member
 
 pub ruleset members = (members_first, members_bounds, members_ended)
 
--- ---- units with an FX bit
+-- ---- units, and the FX bits after them
 
-pub fx_pushed : (left bit : ℕ) (old new : List ℕ) → (0 < left → bit ≡ 1) → (left ≤ 0 → bit ≡ 0) → new ≡ old ++ word 1 bit → new ≡ old ++ fx_before left ∷ []
-fx_pushed zero bit old new p q e = e ∙ ap (λ b. old ++ word 1 b) (q (omega arith))
-fx_pushed (suc left) bit old new p q e = e ∙ ap (λ b. old ++ word 1 b) (p (omega arith))
+pub fx_more : (fx left : ℕ) (old new : List ℕ) → 0 < left → new ≡ old ++ word 1 1 → new ≡ old ++ fx_before fx left
+fx_more fx zero old new some e = absurd (omega arith)
+fx_more fx (suc left) old new some e = e
 
--- what is left of n units, where one was made with its FX bit
-unit_step : (whole one rest : Maker) (bit : List ℕ) (old now mid new : List ℕ) (first state after : ℕ) → Left whole (both one (both (just bit) rest)) old now first state
-    → Adds one now mid state after → new ≡ mid ++ bit → Left whole rest old new first after
-unit_step whole one rest bit old now mid new first state after h a e =
-    left_step whole (just bit) rest old mid new first after after (left_step whole one (both (just bit) rest) old now mid first state after h a) (adds_just bit mid new after e)
+pub fx_none : (fx left : ℕ) (old : List ℕ) → left ≤ 0 → fx ≡ 0 → old ≡ old ++ fx_before fx left
+fx_none fx zero old none e = sym (ap (λ n. old ++ word n 0) e ∙ append-nil old)
+fx_none fx (suc left) old none e = absurd (omega arith)
 
-pub record PartsLeft (all : List Part) (i n count : ℕ) (old now : List ℕ) (first state : ℕ) : Type 0 where
-  pub bounds : AllByRecursion PartInBounds (map part_tree (drop i all))
-  pub left : Left (parts_made count (map part_tree all)) (parts_made n (map part_tree (drop i all))) old now first state
+pub fx_last : (fx left : ℕ) (old new : List ℕ) → left ≤ 0 → fx ≤ 1 → (fx ≡ 0 → ⊥) → new ≡ old ++ word 1 0 → new ≡ old ++ fx_before fx left
+fx_last zero left old new none few some e = absurd (some refl)
+fx_last (suc zero) zero old new none few some e = e
+fx_last (suc zero) (suc left) old new none few some e = absurd (omega arith)
+fx_last (suc (suc fx)) left old new none few some e = absurd (omega arith)
 
-pub parts_first : (all : List Part) (count : ℕ) (old : List ℕ) (first : ℕ) → AllByRecursion PartInBounds (map part_tree all) → PartsLeft all 0 count count old old first first
-parts_first all count old first b = record { bounds = b; left = left_whole (parts_made count (map part_tree all)) old first }
+pub ruleset unit_ends = (fx_more, fx_none, fx_last)
 
-part_here : (all : List Part) (i : ℕ) (p : Part) → i < length all → p ≡ get_or all i p → AllByRecursion PartInBounds (map part_tree (drop i all)) → AllByRecursion PartInBounds (map part_tree (p ∷ drop (i + 1) all))
-part_here all i p lt e h = subst (λ ps. AllByRecursion PartInBounds (map part_tree ps)) (from_place all i p lt e) h
+-- what is left of n units, where one was made with what ends it
+unit_step : (whole one rest : Maker) (end : List ℕ) (old now mid new : List ℕ) (first state after : ℕ) → Left whole (both one (both (just end) rest)) old now first state
+    → Adds one now mid state after → new ≡ mid ++ end → Left whole rest old new first after
+unit_step whole one rest end old now mid new first state after h a e =
+    left_step whole (just end) rest old mid new first after after (left_step whole one (both (just end) rest) old now mid first state after h a) (adds_just end mid new after e)
 
-pub parts_bounds : (all : List Part) (i n count : ℕ) (p : Part) (old now : List ℕ) (first state : ℕ) → PartsLeft all i n count old now first state → i < length all → p ≡ get_or all i p → MembersInBounds (part_tree p)
-parts_bounds all i n count p old now first state h lt e = (part_here all i p lt e h.bounds).0.2
+pub record PartsLeft (last : LastPart) (all rest : List Part) (n count : ℕ) (old now : List ℕ) (first state : ℕ) : Type 0 where
+  pub bounds : PartsInBounds last (map part_tree rest)
+  pub left : Left (parts_made last count (map part_tree all)) (parts_made last n (map part_tree rest)) old now first state
 
-pub parts_next : (all : List Part) (i n less count : ℕ) (p : Part) (old now mid new : List ℕ) (first state after : ℕ) → PartsLeft all i n count old now first state → i < length all → p ≡ get_or all i p → n ≡ suc less
-    → Adds (members_made (part_tree p)) now mid state after → new ≡ mid ++ fx_before less ∷ [] → PartsLeft all (i + 1) less count old new first after
-parts_next all i n less count p old now mid new first state after h lt e more a fx = record {
-  bounds = (part_here all i p lt e h.bounds).1;
-  left = unit_step (parts_made count (map part_tree all)) (members_made (part_tree p)) (parts_made less (map part_tree (drop (i + 1) all))) (fx_before less ∷ []) old now mid new first state after
-      (subst (λ n. Left (parts_made count (map part_tree all)) (parts_made n (map part_tree (p ∷ drop (i + 1) all))) old now first state) more
-      (subst (λ ps. Left (parts_made count (map part_tree all)) (parts_made n (map part_tree ps)) old now first state) (from_place all i p lt e) h.left)) a fx;
-}
+pub parts_first : (last : LastPart) (all rest : List Part) (count : ℕ) (old : List ℕ) (first : ℕ) → rest ≡ all → PartsInBounds last (map part_tree all) → PartsLeft last all rest count count old old first first
+parts_first last all rest count old first e b =
+    subst (λ ps. PartsLeft last all ps count count old old first first) (sym e) (record { bounds = b; left = left_whole (parts_made last count (map part_tree all)) old first })
 
-pub parts_over : (all : List Part) (i n count : ℕ) (old now : List ℕ) (first state : ℕ) → PartsLeft all i n count old now first state → n ≡ 0 → Adds (parts_made count (map part_tree all)) old now first state
-parts_over all i n count old now first state h none = left_none (parts_made count (map part_tree all)) old now first state
-    (subst (λ n. Left (parts_made count (map part_tree all)) (parts_made n (map part_tree (drop i all))) old now first state) none h.left)
+parts_here : (last : LastPart) (all rest later : List Part) (n count : ℕ) (p : Part) (old now : List ℕ) (first state : ℕ) → PartsLeft last all rest n count old now first state → rest ≡ p ∷ later → PartsLeft last all (p ∷ later) n count old now first state
+parts_here last all rest later n count p old now first state h e = subst (λ ps. PartsLeft last all ps n count old now first state) e h
 
-no_parts : (n : ℕ) → parts_made n [] ≡ just []
-no_parts zero = refl
-no_parts (suc n) = refl
+pub parts_bounds : (last : LastPart) (all rest later : List Part) (n count : ℕ) (p : Part) (old now : List ℕ) (first state : ℕ) → PartsLeft last all rest n count old now first state → rest ≡ p ∷ later → MembersInBounds (part_tree p)
+parts_bounds last all rest later n count p old now first state h e = (parts_here last all rest later n count p old now first state h e).bounds.0.2
 
-pub parts_ended : (all : List Part) (i n count : ℕ) (old now : List ℕ) (first state : ℕ) → PartsLeft all i n count old now first state → length all ≤ i → Adds (parts_made count (map part_tree all)) old now first state
-parts_ended all i n count old now first state h past = left_none (parts_made count (map part_tree all)) old now first state
-    (subst (λ rest. Left (parts_made count (map part_tree all)) rest old now first state) (no_parts n)
-    (subst (λ ps. Left (parts_made count (map part_tree all)) (parts_made n (map part_tree ps)) old now first state) (drop_all i all past) h.left))
+pub part_fx : (last : LastPart) (fx n : ℕ) → fx ≡ fx_width last n → fx ≤ 1
+part_fx last fx n e = omega (arith, fx_few last n)
 
-pub ruleset parts = (parts_first, parts_bounds, parts_over, parts_ended)
+pub parts_next : (last : LastPart) (all rest later : List Part) (n less count fx : ℕ) (p : Part) (old now mid new : List ℕ) (first state after : ℕ) → PartsLeft last all rest n count old now first state → rest ≡ p ∷ later
+    → n ≡ suc less → fx ≡ fx_width last (length later) → Adds (members_made (part_tree p)) now mid state after → new ≡ mid ++ fx_before fx less → PartsLeft last all later less count old new first after
+parts_next last all rest later n less count fx p old now mid new first state after h e more is a ends =
+    let here = parts_here last all rest later n count p old now first state h e in
+    let w = fx_width last (length (map part_tree later)) in
+    let width : fx ≡ w = is ∙ ap (λ n. fx_width last n) (sym (length-map later part_tree)) in
+    record {
+      bounds = here.bounds.1;
+      left = unit_step (parts_made last count (map part_tree all)) (members_made (part_tree p)) (parts_made last less (map part_tree later)) (fx_before w less) old now mid new first state after
+          (subst (λ n. Left (parts_made last count (map part_tree all)) (parts_made last n (map part_tree (p ∷ later))) old now first state) more here.left) a (ends ∙ ap (λ fx. mid ++ fx_before fx less) width);
+    }
+
+pub parts_over : (last : LastPart) (all rest : List Part) (n count : ℕ) (old now : List ℕ) (first state : ℕ) → PartsLeft last all rest n count old now first state → n ≡ 0 → Adds (parts_made last count (map part_tree all)) old now first state
+parts_over last all rest n count old now first state h none = left_none (parts_made last count (map part_tree all)) old now first state
+    (subst (λ n. Left (parts_made last count (map part_tree all)) (parts_made last n (map part_tree rest)) old now first state) none h.left)
+
+no_parts : (last : LastPart) (n : ℕ) → parts_made last n [] ≡ just []
+no_parts last zero = refl
+no_parts last (suc n) = refl
+
+pub parts_ended : (last : LastPart) (all rest : List Part) (n count : ℕ) (old now : List ℕ) (first state : ℕ) → PartsLeft last all rest n count old now first state → length rest ≡ 0 → Adds (parts_made last count (map part_tree all)) old now first state
+parts_ended last all [] n count old now first state h none = left_none (parts_made last count (map part_tree all)) old now first state
+    (subst (λ left. Left (parts_made last count (map part_tree all)) left old now first state) (no_parts last n) h.left)
+parts_ended last all (p ∷ rest) n count old now first state h none = absurd (omega (arith, none))
+
+pub ruleset parts = (parts_first, parts_bounds, part_fx, parts_over, parts_ended)
 
 pub run_next : (f : FixedTree) (n less count : ℕ) (old now mid new : List ℕ) (first state after : ℕ) → Left (run_made count f) (run_made n f) old now first state → n ≡ suc less
-    → Adds (fixed_made f) now mid state after → new ≡ mid ++ fx_before less ∷ [] → Left (run_made count f) (run_made less f) old new first after
+    → Adds (fixed_made f) now mid state after → new ≡ mid ++ fx_before 1 less → Left (run_made count f) (run_made less f) old new first after
 run_next f n less count old now mid new first state after h more a fx =
-    unit_step (run_made count f) (fixed_made f) (run_made less f) (fx_before less ∷ []) old now mid new first state after (subst (λ n. Left (run_made count f) (run_made n f) old now first state) more h) a fx
+    unit_step (run_made count f) (fixed_made f) (run_made less f) (fx_before 1 less) old now mid new first state after (subst (λ n. Left (run_made count f) (run_made n f) old now first state) more h) a fx
 
 pub run_over : (f : FixedTree) (n count : ℕ) (old now : List ℕ) (first state : ℕ) → Left (run_made count f) (run_made n f) old now first state → n ≤ 0 → Adds (run_made count f) old now first state
 run_over f n count old now first state h none =

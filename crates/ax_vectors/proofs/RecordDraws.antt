@@ -18,7 +18,7 @@ use Rattle.ax_model.specs.InBounds.{InBounds, SlotsInBounds}
 use Rattle.ax_model.specs.Lengths.{kind_of_slot}
 use Rattle.ax_model.specs.Lookup.{item_of_slot}
 use Rattle.ax_model.specs.Plain.{item_tree, kind_tree, spec_tree}
-use Rattle.ax_model.specs.Presence.{Presence, octets_needed, none_marked, first_mark, later_marks}
+use Rattle.ax_model.specs.Presence.{Presence, octets_needed, none_marked, later_marks}
 use Rattle.ax_model.specs.Specification.{SpecTree, slot_of_item, uap_slot, record_slots, record_kind}
 use Rattle.ax_model.specs.Spelling.{Spells, EntriesSpell}
 use Rattle.ax_model.specs.Tree.{KindTree, SlotTree, spare_slot, subitem, SlotsTree, slot_and, no_slots, defined_slots, slot_count, ValueTree, marked, EntriesTree, no_entries}

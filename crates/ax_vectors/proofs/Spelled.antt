@@ -1,5 +1,5 @@
 -- What is made under a kind spells a value of it.
-use Rattle.std.proofs.Common.{◌≡◌, ℕ, zero, suc, ◌+◌, ◌*◌, ◌%◌, ◌^◌, ◌<◌, ◌≤◌, ◌==◌, nat_lt, inl, inr, Bool, true, false, cond, IsTrue, List, [], ◌∷◌, ◌++◌, length, Some, None, refl, sym, ◌∙◌, ap, subst, arith}
+use Rattle.std.proofs.Common.{◌≡◌, ℕ, zero, suc, ◌+◌, ◌*◌, ◌%◌, ◌^◌, ◌<◌, ◌≤◌, ◌==◌, nat_lt, inl, inr, Bool, true, false, cond, IsTrue, List, [], ◌∷◌, ◌++◌, length, Some, None, refl, sym, ◌∙◌, ap, subst, arith, append-nil}
 use Rattle.std.proofs.lemmas.Nat.{mod_below, pow_pos}
 use Rattle.ax_bits.specs.Bits.{word, bits, AreBits, AreOctets}
 use Rattle.ax_model.proofs.Least.{Alike, entries_alike, length-rests-le, length-marked, rests-AreBits}
@@ -7,6 +7,10 @@ use Rattle.ax_model.specs.InBounds.{InBounds, SlotsInBounds}
 use Rattle.ax_model.specs.Presence.{Presence, octets_needed, later_marks, none_marked, marks_upto, marks_after, least_presence}
 use Rattle.ax_model.specs.Spelling.{NumberSpells, FixedSpells, MembersSpell, PartsSpell, RunSpells, EachSpells, Spells, EntriesSpell}
 use Rattle.ax_model.specs.Tree.{FixedTree, element, group, MembersTree, no_members, member_and, named, spare, KindTree, fixed, extended, counted, by_fx, explicit, compound, SlotsTree, no_slots, slot_and, spare_slot, subitem, slot_count, defined_slots, ValueTree, number, member_values, part_values, occurrences, content_octets, marked, ValuesTree, no_values, value_and, value_count, ListsTree, no_lists, list_and, EntriesTree, no_entries, entry_and}
+use Rattle.ax_model.specs.Widths.{counter_width, fx_width}
+use Rattle.ax_model.specs.declared.kind.Counter.{Counter}
+use Rattle.ax_model.specs.declared.kind.LastPart.{LastPart}
+use Rattle.ax_vectors.proofs.KindDraws.{no_count_fits, drawn_count_fits}
 use Rattle.ax_vectors.specs.Draws.{drawn, next_state}
 use Rattle.ax_vectors.specs.Made.{joined, draws_needed, number_made, fixed_made, members_made, parts_made, run_made, octet_made, marks_made, least_octets, octets_spare, field_of, field_made, value_where, values_made, counted_made, kind_made, makers}
 use Rattle.ax_vectors.specs.Making.{Maker, just, both, times, by_draw}
@@ -36,20 +40,23 @@ mutual
 -- ---- parts and occurrences
 
 -- some parts more, of which the first is there
-more_parts : (p : MembersTree) (ps : List MembersTree) (vs : ValuesTree) (ls : ListsTree) (x y : List ℕ) → MembersSpell p vs x → PartsSpell ps ls y → PartsSpell (p ∷ ps) (list_and vs ls) (x ++ 1 ∷ y)
-more_parts p ps vs no_lists x y h r = absurd (none ps r) where
-  none : (ps : List MembersTree) → PartsSpell ps no_lists y → ⊥
+more_parts : (last : LastPart) (p : MembersTree) (ps : List MembersTree) (vs : ValuesTree) (ls : ListsTree) (x y : List ℕ) → MembersSpell p vs x → PartsSpell last ps ls y → PartsSpell last (p ∷ ps) (list_and vs ls) (x ++ 1 ∷ y)
+more_parts last p ps vs no_lists x y h r = absurd (none ps r) where
+  none : (ps : List MembersTree) → PartsSpell last ps no_lists y → ⊥
   none [] r = r
   none (p ∷ ps) r = r
-more_parts p ps vs (list_and ws ls) x y h r = (x, y, refl, h, r)
+more_parts last p ps vs (list_and ws ls) x y h r = (x, y, refl, h, r)
 
-parts_spelled : (n : ℕ) (ps : List MembersTree) (state : ℕ) → n < length ps → (ls : ListsTree) × PartsSpell ps ls (parts_made (suc n) ps state).0
-parts_spelled n [] state le = absurd (omega arith)
-parts_spelled zero (p ∷ ps) state le = let one = members_spelled p state in (list_and one.0 no_lists, ((members_made p state).0, refl, one.1))
-parts_spelled (suc n) (p ∷ ps) state le =
+parts_spelled : (last : LastPart) (n : ℕ) (ps : List MembersTree) (state : ℕ) → n < length ps → (ls : ListsTree) × PartsSpell last ps ls (parts_made last (suc n) ps state).0
+parts_spelled last n [] state le = absurd (omega arith)
+parts_spelled last zero (p ∷ ps) state le =
     let one = members_spelled p state in
-    let rest = parts_spelled n ps (members_made p state).1 (omega arith) in
-    (list_and one.0 rest.0, more_parts p ps one.0 rest.0 (members_made p state).0 (parts_made (suc n) ps (members_made p state).1).0 one.1 rest.1)
+    let x = (members_made p state).0 in
+    (list_and one.0 no_lists, (x, ap (λ y. x ++ y) (append-nil (word (fx_width last (length ps)) 0)), one.1))
+parts_spelled last (suc n) (p ∷ ps) state le =
+    let one = members_spelled p state in
+    let rest = parts_spelled last n ps (members_made p state).1 (omega arith) in
+    (list_and one.0 rest.0, more_parts last p ps one.0 rest.0 (members_made p state).0 (parts_made last (suc n) ps (members_made p state).1).0 one.1 rest.1)
 
 more_run : (f : FixedTree) (v : ValueTree) (vs : ValuesTree) (x y : List ℕ) → FixedSpells f v x → RunSpells f vs y → RunSpells f (value_and v vs) (x ++ 1 ∷ y)
 more_run f v no_values x y h r = absurd r
@@ -213,24 +220,24 @@ compound_of : (ss : SlotsTree) (es : EntriesTree) (ms f y : List ℕ) → slot_c
 compound_of ss es ms f y count field h =
     (f, y, field.marks, refl, subst (λ n. Presence (octets_needed n) field.marks f) (sym count) field.presence, entries_alike 1 ss field.marks ms es y field.alike h)
 
-counted_spelled : (around : ℕ) (k : KindTree) → ((state : ℕ) → (v : ValueTree) × Spells k v (kind_made (around + 1) k state).0) → (state : ℕ) (few : Bool)
-    → (v : ValueTree) × Spells (counted k) v (cond {A = Maker} few (by_draw (λ d. counted_made (d % 3) (kind_made (around + 1) k))) (just (word 8 0)) state).0
-counted_spelled around k spelled state true =
-    let low : drawn state % 3 < 3 = mod_below (drawn state) 3 (omega arith) in
+counted_spelled : (size : Counter) (around : ℕ) (k : KindTree) → ((state : ℕ) → (v : ValueTree) × Spells k v (kind_made (around + 1) k state).0) → (state : ℕ) (few : Bool)
+    → (v : ValueTree) × Spells (counted size k) v (cond {A = Maker} few (by_draw (λ d. counted_made size (d % 3) (kind_made (around + 1) k))) (just (word (counter_width size) 0)) state).0
+counted_spelled size around k spelled state true =
+    let w = counter_width size in
     let r = each_spelled (Spells k) (kind_made (around + 1) k) (drawn state % 3) spelled (next_state state) in
     let y = (times (drawn state % 3) (kind_made (around + 1) k) (next_state state)).0 in
-    (occurrences r.0, (omega (arith, r.1, low), y, ap (λ n. word 8 n ++ y) (sym r.1), r.2))
-counted_spelled around k spelled state false = (occurrences no_values, (omega arith, [], refl, refl))
+    (occurrences r.0, (subst (λ n. n < 2 ^ w) (sym r.1) (drawn_count_fits size (drawn state)), y, ap (λ n. word w n ++ y) (sym r.1), r.2))
+counted_spelled size around k spelled state false = (occurrences no_values, (no_count_fits size, [], sym (append-nil (word (counter_width size) 0)), refl))
 
 mutual
   pub kind_spelled : (around : ℕ) (k : KindTree) → InBounds k → (state : ℕ) → (v : ValueTree) × Spells k v (kind_made around k state).0
   kind_spelled around (fixed f) b state = fixed_spelled f state
-  kind_spelled around (extended ps) b state =
+  kind_spelled around (extended last ps) b state =
       let low : drawn state % length ps < length ps = mod_below (drawn state) (length ps) b.0 in
-      let r = parts_spelled (drawn state % length ps) ps (next_state state) low in
+      let r = parts_spelled last (drawn state % length ps) ps (next_state state) low in
       let e : suc (drawn state % length ps) ≡ 1 + drawn state % length ps = omega arith in
-      (part_values r.0, subst (λ n. PartsSpell ps r.0 (parts_made n ps (next_state state)).0) e r.1)
-  kind_spelled around (counted k) b state = counted_spelled around k (kind_spelled (around + 1) k b) state (nat_lt around 2)
+      (part_values r.0, subst (λ n. PartsSpell last ps r.0 (parts_made last n ps (next_state state)).0) e r.1)
+  kind_spelled around (counted size k) b state = counted_spelled size around k (kind_spelled (around + 1) k b) state (nat_lt around 2)
   kind_spelled around (by_fx f) b state =
       let r = run_spelled (drawn state % 3) f (next_state state) in
       let e : suc (drawn state % 3) ≡ 1 + drawn state % 3 = omega arith in

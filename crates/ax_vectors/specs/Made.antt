@@ -6,6 +6,9 @@ use Rattle.ax_model.specs.CanonicalOctets.{octets_of, framed}
 use Rattle.ax_model.specs.Presence.{octets_needed, first_mark, later_marks, marks_upto, marks_after, least_presence}
 use Rattle.ax_model.specs.Sizes.{longest_block}
 use Rattle.ax_model.specs.Specification.{SpecTree, record_kind}
+use Rattle.ax_model.specs.Widths.{counter_width, fx_width}
+use Rattle.ax_model.specs.declared.kind.Counter.{Counter}
+use Rattle.ax_model.specs.declared.kind.LastPart.{LastPart}
 use Rattle.ax_model.specs.Tree.{FixedTree, element, group, MemberTree, MembersTree, no_members, member_and, named, spare, KindTree, fixed, extended, counted, by_fx, explicit, compound, SlotsTree, no_slots, slot_and, spare_slot, subitem, defined_slots, EntriesTree}
 use Rattle.ax_vectors.specs.Draws.{drawn, next_state}
 use Rattle.ax_vectors.specs.Making.{Maker, just, both, times, by_draw}
@@ -41,21 +44,21 @@ abbrev mutual
 
 -- ---- extended, by FX, explicit
 
--- the FX bit where so many follow
-abbrev pub fx_before : ℕ → ℕ
-fx_before zero = 0
-fx_before (suc n) = 1
+-- the end of a unit, where so many follow it: 1 before another one, and 0 in the FX bits that the last one has
+abbrev pub fx_before : ℕ → ℕ → List ℕ
+fx_before fx zero = word fx 0
+fx_before fx (suc n) = 1 ∷ []
 
--- so many of the parts, each with its FX bit
-abbrev pub parts_made : ℕ → List MembersTree → Maker
-parts_made zero ps = just []
-parts_made (suc n) [] = just []
-parts_made (suc n) (p ∷ ps) = both (members_made p) (both (just (fx_before n ∷ [])) (parts_made n ps))
+-- so many of the parts, each with its FX bit, but for the last of all where that has none
+abbrev pub parts_made : LastPart → ℕ → List MembersTree → Maker
+parts_made last zero ps = just []
+parts_made last (suc n) [] = just []
+parts_made last (suc n) (p ∷ ps) = both (members_made p) (both (just (fx_before (fx_width last (length ps)) n)) (parts_made last n ps))
 
 -- so many occurrences, each with its FX bit
 abbrev pub run_made : ℕ → FixedTree → Maker
 run_made zero f = just []
-run_made (suc n) f = both (fixed_made f) (both (just (fx_before n ∷ [])) (run_made n f))
+run_made (suc n) f = both (fixed_made f) (both (just (fx_before 1 n)) (run_made n f))
 
 abbrev pub octet_made : Maker
 octet_made = by_draw (λ d. just (word 8 (d % 256)))
@@ -83,7 +86,7 @@ least_octets marks = length (least_presence (octets_needed (length marks)) marks
 -- the presence field of so many octets with these marks, and zeros after them
 abbrev pub field_of : ℕ → List ℕ → List ℕ
 field_of zero marks = []
-field_of (suc n) marks = marks_upto 7 marks ++ fx_before n ∷ field_of n (marks_after 7 marks)
+field_of (suc n) marks = marks_upto 7 marks ++ (fx_before 1 n ++ field_of n (marks_after 7 marks))
 
 -- how many octets a field may have beyond the least one
 abbrev pub octets_spare : List ℕ → ℕ
@@ -114,17 +117,17 @@ marked_made slots marks = both (field_made marks) (values_made slots marks)
 abbrev pub slots_made : List Bool → List (Option Maker) → Maker
 slots_made defined slots state = marked_made slots (marks_made defined state).0 (marks_made defined state).1
 
--- ---- kinds, where so many counted kinds enclose them
+-- ---- kinds, where so many counted or wide kinds enclose them
 
 -- so many occurrences, with their count in front
-abbrev pub counted_made : ℕ → Maker → Maker
-counted_made n one = both (just (word 8 n)) (times n one)
+abbrev pub counted_made : Counter → ℕ → Maker → Maker
+counted_made size n one = both (just (word (counter_width size) n)) (times n one)
 
 abbrev mutual
   pub kind_made : ℕ → KindTree → Maker
   kind_made around (fixed f) = fixed_made f
-  kind_made around (extended ps) = by_draw (λ d. parts_made (1 + d % length ps) ps)
-  kind_made around (counted k) = if nat_lt around 2 then by_draw (λ d. counted_made (d % 3) (kind_made (around + 1) k)) else just (word 8 0)
+  kind_made around (extended last ps) = by_draw (λ d. parts_made last (1 + d % length ps) ps)
+  kind_made around (counted size k) = if nat_lt around 2 then by_draw (λ d. counted_made size (d % 3) (kind_made (around + 1) k)) else just (word (counter_width size) 0)
   kind_made around (by_fx f) = by_draw (λ d. run_made (1 + d % 3) f)
   kind_made around explicit = by_draw (λ d. content_made (d % 5))
   kind_made around (compound ss) = slots_made (defined_slots ss) (makers around ss)

@@ -95,7 +95,7 @@ fn push_field(count: u32, marks: &[u8], into: &mut BitString) -> Result<(), Allo
     while left > 0 {
         left -= 1;
         push_seven(rest, into)?;
-        push_fx(left, into)?;
+        push_fx(1, left, into)?;
         rest = after_seven(rest);
     }
     Ok(())

@@ -1,7 +1,6 @@
 //! Fixed kinds drawn: elements, spares and groups, the parts of extended items, occurrences by FX.
 ghost use Rattle.std.specs.Prelude.{◌≡◌, ◌+◌, ◌*◌, ◌%◌, ◌^◌, ◌<◌, ◌≤◌, ◌++◌, [], ◌∷◌, length, map, OnOk};
-ghost use Rattle.std.specs.List.{AllByRecursion};
-ghost use Rattle.ax_model.specs.InBounds.{IsWidth, FixedInBounds, MembersInBounds, PartInBounds};
+ghost use Rattle.ax_model.specs.InBounds.{IsWidth, FixedInBounds, MembersInBounds, PartsInBounds};
 ghost use Rattle.ax_model.specs.Plain.{fixed_tree, member_tree, members_tree, part_tree};
 ghost use Rattle.ax_model.specs.Tree.{member_and, no_members};
 ghost use Rattle.ax_vectors.specs.Made.{joined, draws_needed, number_made, fixed_made, member_made, members_made, fx_before, parts_made, run_made};
@@ -9,7 +8,7 @@ ghost use Rattle.ax_vectors.specs.Making.{Adds};
 
 use crate::bit_string::BitString;
 use crate::draws::Draws;
-use ax_model::{Fixed, Member, Members, Parts};
+use ax_model::{Fixed, LastPart, Member, Members, Parts};
 use std::alloc::AllocError;
 
 // How many numbers a draw may answer.
@@ -96,33 +95,44 @@ fn make_member(member: &Member, draws: &mut Draws, into: &mut BitString) -> Resu
     }
 }
 
-/// Puts the FX bit after the bits, where so many units follow.
-#[tactic(auto, using(crate::proofs::Left::fx_pushed))]
-pub(crate) fn push_fx(left: u32, into: &mut BitString) -> Result<(), AllocError>
-    ensures { OnOk result (into.new ≡ into.old ++ fx_before left ∷ []) }
+/// Puts the end of a unit after the bits, where so many units follow it: 1 before another one, else 0 in the FX bit
+/// of a last one, which has `fx` of them, one or none.
+#[tactic(auto, using(crate::proofs::Left::unit_ends))]
+pub(crate) fn push_fx(fx: u32, left: u32, into: &mut BitString) -> Result<(), AllocError>
+    requires { fx ≤ 1 }
+    ensures { OnOk result (into.new ≡ into.old ++ fx_before fx left) }
 {
-    into.push(if left > 0 { 1 } else { 0 }, 1)
+    if left > 0 {
+        return into.push(1, 1);
+    }
+    if fx == 0 {
+        return Ok(());
+    }
+    into.push(0, 1)
 }
 
 /// Puts what is drawn for the first `count` parts after the bits.
 #[tactic(auto, using(crate::proofs::Left::parts))]
 pub(crate) fn make_parts(
+    last: LastPart,
     count: u32,
     parts: &Parts,
     draws: &mut Draws,
     into: &mut BitString,
 ) -> Result<(), AllocError>
-    requires { AllByRecursion PartInBounds (map part_tree parts.now) }
-    ensures { OnOk result (Adds (parts_made count (map part_tree parts.now)) into.old into.new draws.old draws.new) }
+    requires { PartsInBounds last (map part_tree parts.now) }
+    ensures { OnOk result (Adds (parts_made last count (map part_tree parts.now)) into.old into.new draws.old draws.new) }
 {
     let mut left = count;
-    for part in parts.as_slice() {
+    let mut rest = parts.as_slice();
+    while let Some((part, later)) = rest.split_first() {
         if left == 0 {
             return Ok(());
         }
         left -= 1;
         make_members(&part.members, draws, into)?;
-        push_fx(left, into)?;
+        push_fx(last.fx_width(later.len()), left, into)?;
+        rest = later;
     }
     Ok(())
 }
@@ -142,7 +152,7 @@ pub(crate) fn make_run(
     while left > 0 {
         left -= 1;
         make_fixed(fixed, draws, into)?;
-        push_fx(left, into)?;
+        push_fx(1, left, into)?;
     }
     Ok(())
 }

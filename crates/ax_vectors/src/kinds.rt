@@ -1,11 +1,12 @@
 //! Values drawn under kinds, at every depth.
-ghost use Rattle.std.specs.Prelude.{◌≡◌, ◌+◌, ◌<◌, ◌≤◌, ◌==◌, [], ◌∷◌, length, map, IfOk, OnOk};
+ghost use Rattle.std.specs.Prelude.{◌≡◌, ◌+◌, ◌^◌, ◌<◌, ◌≤◌, ◌==◌, [], ◌∷◌, ◌++◌, length, map, IfOk, OnOk};
 ghost use Rattle.std.specs.Option.{option_map};
-ghost use Rattle.ax_bits.specs.Bits.{AreBits};
+ghost use Rattle.ax_bits.specs.Bits.{AreBits, word};
 ghost use Rattle.ax_model.specs.InBounds.{InBounds, SlotsInBounds};
 ghost use Rattle.ax_model.specs.Lengths.{kind_of_slot};
 ghost use Rattle.ax_model.specs.Plain.{kind_tree, part_tree, fixed_tree, slot_tree, slots_tree};
 ghost use Rattle.ax_model.specs.Tree.{slot_and, no_slots, defined_slots, extended, counted, by_fx, explicit, compound};
+ghost use Rattle.ax_model.specs.Widths.{counter_width};
 ghost use Rattle.ax_vectors.specs.Made.{marks_made, octet_made, content_made, value_where, values_made, kind_made, makers};
 ghost use Rattle.ax_vectors.specs.Making.{Adds, times};
 
@@ -13,10 +14,10 @@ use crate::bit_string::BitString;
 use crate::draws::Draws;
 use crate::field::{draw_mark, make_field};
 use crate::fixed::{make_fixed, make_parts, make_run};
-use ax_model::{Fixed, Kind, Parts, Slot, Slots};
+use ax_model::{Counter, Fixed, Kind, LastPart, Parts, Slot, Slots};
 use std::alloc::{AllocError, Global};
 
-/// Puts what is drawn under a kind after the bits, where so many counted kinds enclose it.
+/// Puts what is drawn under a kind after the bits, where so many counted or wide kinds enclose it.
 #[cycle(make_value)]
 pub(crate) fn make_value(
     alloc: Global,
@@ -30,8 +31,10 @@ pub(crate) fn make_value(
 {
     match kind {
         Kind::Fixed(fixed) => make_fixed(fixed, draws, into),
-        Kind::Extended(parts) => make_extended(parts, draws, into),
-        Kind::Counted(inner) => make_counted(alloc, inner, around, draws, into),
+        Kind::Extended { last, parts } => make_extended(*last, parts, draws, into),
+        Kind::Counted { counter, inner } => {
+            make_counted(alloc, *counter, inner, around, draws, into)
+        }
         Kind::ByFx(fixed) => make_occurrences(fixed, draws, into),
         Kind::Explicit => make_explicit(draws, into),
         Kind::Compound(slots) => make_compound(alloc, slots, around, draws, into),
@@ -40,12 +43,17 @@ pub(crate) fn make_value(
 
 /// One part or more.
 #[tactic(auto, using(crate::proofs::KindDraws::extended_adds))]
-fn make_extended(parts: &Parts, draws: &mut Draws, into: &mut BitString) -> Result<(), AllocError>
-    requires { InBounds (extended (map part_tree parts.now)) }
-    ensures { OnOk result (Adds (kind_made 0 (extended (map part_tree parts.now))) into.old into.new draws.old draws.new) }
+fn make_extended(
+    last: LastPart,
+    parts: &Parts,
+    draws: &mut Draws,
+    into: &mut BitString,
+) -> Result<(), AllocError>
+    requires { InBounds (extended last (map part_tree parts.now)) }
+    ensures { OnOk result (Adds (kind_made 0 (extended last (map part_tree parts.now))) into.old into.new draws.old draws.new) }
 {
     let count = 1 + draws.draw() % parts.count();
-    make_parts(count, parts, draws, into)
+    make_parts(last, count, parts, draws, into)
 }
 
 /// One to three occurrences by FX.
@@ -93,24 +101,33 @@ fn make_octet(draws: &mut Draws, into: &mut BitString) -> Result<(), AllocError>
     into.push(octet as u128, 8)
 }
 
-/// Up to two occurrences, with REP before them; none where two counted kinds enclose this one.
+/// Puts a counter REP with that count after the bits.
+fn push_count(size: Counter, count: u32, into: &mut BitString) -> Result<(), AllocError>
+    requires { count < 2 ^ counter_width size }
+    ensures { OnOk result (into.new ≡ into.old ++ word (counter_width size) count) }
+{
+    into.push(count as u128, 8 * size.octets())
+}
+
+/// Up to two occurrences, with REP before them; none where two counted or wide kinds enclose this one.
 #[cycle(make_value)]
 #[tactic(auto, using(crate::proofs::KindDraws::counted_adds))]
 fn make_counted(
     alloc: Global,
+    size: Counter,
     inner: &Kind,
     around: u32,
     draws: &mut Draws,
     into: &mut BitString,
 ) -> Result<(), AllocError>
     requires { InBounds (kind_tree inner.now) }
-    ensures { OnOk result (Adds (kind_made around (counted (kind_tree inner.now))) into.old into.new draws.old draws.new) }
+    ensures { OnOk result (Adds (kind_made around (counted size (kind_tree inner.now))) into.old into.new draws.old draws.new) }
 {
     if around >= 2 {
-        return into.push(0, 8);
+        return push_count(size, 0, into);
     }
     let count = draws.draw() % 3;
-    into.push(count as u128, 8)?;
+    push_count(size, count, into)?;
     make_each(alloc, inner, count, around + 1, draws, into)
 }
 

@@ -4,7 +4,7 @@ use Rattle.ax_bits.specs.Bits.{bits, number_of, AreOctets}
 use Rattle.ax_model.specs.Presence.{octets_needed}
 use Rattle.ax_model.specs.Reader.{Read, got, failed, after, read, entries_read, marked_read, presence_read, Split, short, cut, split, fixed_value, fixed_read, parts_read, each_read, count_read, run_read}
 use Rattle.ax_model.specs.Tree.{FixedTree, element, group, KindTree, fixed, extended, counted, by_fx, explicit, compound, ValueTree, part_values, occurrences, content_octets, marked, EntriesTree, slots_of, slot_count, defined_slots}
-use Rattle.ax_model.specs.Widths.{width}
+use Rattle.ax_model.specs.Widths.{width, counter_width}
 use Rattle.ax_model.specs.declared.content.Content.TheVariants.{Raw}
 use Rattle.ax_model.specs.declared.fault.BodyCause.TheVariants.{RunsOut, BadExplicitLength}
 use Rattle.ax_model.specs.declared.fault.BodyFault.{BodyFault}
@@ -80,9 +80,9 @@ fixed_read_content : (f : FixedTree) (s : Split) → content_in (value_read (fix
 fixed_read_content f short = refl
 fixed_read_content f (cut x y) = fixed_content f x
 
-count_content : (rule : List ℕ → Read ValueTree) (s : Split) → content_in (value_read (count_read rule s)) ≡ None
-count_content rule short = refl
-count_content rule (cut x y) = content_after 8 (λ vs. occurrences vs) (each_read rule (number_of x) y) (λ vs. refl)
+count_content : (w : ℕ) (rule : List ℕ → Read ValueTree) (s : Split) → content_in (value_read (count_read w rule s)) ≡ None
+count_content w rule short = refl
+count_content w rule (cut x y) = content_after w (λ vs. occurrences vs) (each_read rule (number_of x) y) (λ vs. refl)
 
 marked_content : (r : Read (List ℕ)) (go : List ℕ → List ℕ → Read EntriesTree) → content_in (value_read (marked_read r go)) ≡ None
 marked_content (got ms m y) go = content_after m (λ es. marked es) (go ms y) (λ es. refl)
@@ -107,8 +107,8 @@ module _ (codec : Codec) (link : ℕ) (fx : Bool) (body : List ℕ) (one : Node)
   no_content (Of.Element w) e h = of_kind (fixed (element w Raw)) (is_element codec.nodes link one codec.table item.some item.within at w e) (fixed_read_content (element w Raw) (split w (bits body)))
   no_content (Of.Group w links) e h = let f = group (linked_members (meanings codec.nodes) links) in of_kind (fixed f) (is_group codec.nodes link one codec.table item.some item.within at w links e) (fixed_read_content f (split (width f) (bits body)))
   no_content (Of.Part w links) e h = absurd (no_part fx codec.nodes link one codec.table item.some item.within at w links e item.bounds)
-  no_content (Of.Extended links) e h = let ps = linked_parts (meanings codec.nodes) links in of_kind (extended ps) (is_extended codec.nodes link one codec.table item.some item.within at links links e refl) (content_after 0 (λ ls. part_values ls) (parts_read ps (bits body)) (λ ls. refl))
-  no_content (Of.Counted inner) e h = of_kind (counted (kind_at codec.nodes inner)) (is_counted codec.nodes link one codec.table item.some item.within at inner e) (count_content (read (kind_at codec.nodes inner)) (split 8 (bits body)))
+  no_content (Of.Extended last links) e h = let ps = linked_parts (meanings codec.nodes) links in of_kind (extended last ps) (is_extended codec.nodes link one codec.table item.some item.within at last links links e refl) (content_after 0 (λ ls. part_values ls) (parts_read last ps (bits body)) (λ ls. refl))
+  no_content (Of.Counted size inner) e h = of_kind (counted size (kind_at codec.nodes inner)) (is_counted codec.nodes link one codec.table item.some item.within at size inner e) (count_content (counter_width size) (read (kind_at codec.nodes inner)) (split (counter_width size) (bits body)))
   no_content (Of.ByFx inner) e h = let f = fixed_of (linked (meanings codec.nodes) inner) in of_kind (by_fx f) (is_by_fx codec.nodes link one codec.table item.some item.within at inner e) (content_after 0 (λ vs. occurrences vs) (run_read (suc (length (bits body))) f (bits body)) (λ vs. refl))
   no_content Of.Explicit e h = absurd (h e)
   no_content (Of.Compound mask links) e h =

@@ -1,14 +1,17 @@
--- Counted items, one occurrence after the other.
-use Rattle.std.proofs.Common.{◌≡◌, ℕ, zero, suc, ◌+◌, ◌-◌, ◌*◌, ◌<◌, ◌≤◌, Bool, IsTrue, List, ◌∷◌, ◌++◌, length, drop, get_or, refl, sym, ◌∙◌, ap, arith, subst, append_assoc, add-one, drop-cons}
-use Rattle.std.proofs.lemmas.List.{get_or_default}
+-- Counted and wide items, one occurrence after the other.
+use Rattle.std.proofs.Common.{◌≡◌, ℕ, zero, suc, ◌+◌, ◌-◌, ◌*◌, ◌<◌, ◌≤◌, Bool, IsTrue, List, ◌++◌, length, drop, refl, sym, ◌∙◌, ap, arith, subst, append_assoc}
 use Rattle.ax_bits.proofs.Pieces.{number-word}
 use Rattle.ax_bits.specs.Bits.{bits, word, number_of}
-use Rattle.ax_model.specs.Reader.{Read, got, failed, after, both, read, each_read, count_read}
+use Rattle.ax_model.proofs.FixedKinds.{SplitIs, split_is}
+use Rattle.ax_model.proofs.WholeOctets.{counter_in_octets}
+use Rattle.ax_model.specs.Reader.{Read, got, failed, after, both, read, each_read, count_read, split}
 use Rattle.ax_model.specs.Canonical.{canon, each_canon}
 use Rattle.ax_model.specs.Tree.{KindTree, ValueTree, ValuesTree, counted, occurrences, no_values, value_and, value_count}
+use Rattle.ax_model.specs.Widths.{counter_octets, counter_width}
 use Rattle.ax_model.specs.declared.fault.BodyFault.{BodyFault}
-use Rattle.ax_reader.proofs.Counting.{front_octet}
-use Rattle.ax_reader.specs.Reading.{FailsAt, kind_read}
+use Rattle.ax_model.specs.declared.kind.Counter.{Counter}
+use Rattle.ax_reader.proofs.Counting.{front_count}
+use Rattle.ax_reader.specs.Reading.{FailsAt, IsCount, kind_read}
 use Rattle.ax_view.proofs.Leading.{leads_on, leads_by}
 use Rattle.ax_view.specs.Walking.{Walks, Leads}
 
@@ -29,35 +32,37 @@ each_count rule (suc n) m b y vs e =
     both_is (λ v vs. value_and v vs) (each_read rule n) m vs y (λ vs. value_count vs ≡ suc n) (rule b) e (λ v ws x k t. ap suc (each_count rule n k x y ws t))
 
 -- i of n occurrences are passed, up to octet here
-pub record CountLeads (k : KindTree) (body : List ℕ) (n i at here : ℕ) (least : Bool) : Type 0 where
+pub record CountLeads (size : Counter) (k : KindTree) (body : List ℕ) (n i at here : ℕ) (least : Bool) : Type 0 where
   pub within : here ≤ length body
-  pub leads : Leads (each_canon (canon k)) (each_read (read k) (n - i) (bits (drop here body))) (canon (counted k)) (kind_read (counted k) body at) body at here least
+  pub leads : Leads (each_canon (canon k)) (each_read (read k) (n - i) (bits (drop here body))) (canon (counted size k)) (kind_read (counted size k) body at) body at here least
 
-octet_front : (body : List ℕ) (at n : ℕ) → at < length body → n ≡ get_or body at 0 → bits (drop at body) ≡ word 8 n ++ bits (drop (at + 1) body)
-octet_front body at n lt e =
-    let is : n ≡ get_or body at n = e ∙ get_or_default body at 0 n lt in
-    ap bits (drop-cons body at n lt ∙ (λ i. sym is i ∷ drop (sym (add-one at) i) body))
+pub counter_front : (size : Counter) (body : List ℕ) (at n : ℕ) → IsCount size body at n → bits (drop at body) ≡ word (counter_width size) n ++ bits (drop (at + counter_octets size) body)
+counter_front size body at n h =
+    let b = bits (drop at body) in
+    let w = counter_width size in
+    let is : SplitIs w b (split w b) = split_is b w in (subst (SplitIs w b) (front_count size body at n h) is).0
 
-pub count_first : (k : KindTree) (body : List ℕ) (n at : ℕ) (least : Bool) → at < length body → n ≡ get_or body at 0 → n < 256 → CountLeads k body n 0 at (at + 1) least
+pub count_first : (size : Counter) (k : KindTree) (body : List ℕ) (n at m : ℕ) (least : Bool) → IsCount size body at n → m ≡ counter_octets size → CountLeads size k body n 0 at (at + m) least
 unfolding kind_read
-count_first k body n at least lt e small = record {
-  within = omega arith;
-  leads = leads_by (each_canon (canon k)) (each_read (read k) (n - 0) (bits (drop (at + 1) body))) (canon (counted k)) (kind_read (counted k) body at) body at (at + 1) (λ vs. occurrences vs) least (omega arith)
-      (record {
-        forwards = omega arith;
-        same = ap (count_read (read k)) (front_octet body at n lt e) ∙ (λ i. after (eight i) (λ vs. occurrences vs) (each_read (read k) (times i) (bits (drop (at + 1) body))));
-      })
-      (λ vs end f g c. (
-      let count : value_count vs ≡ n - 0 = each_count (read k) (n - 0) (8 * (end - (at + 1))) (bits (drop (at + 1) body)) (bits (drop end body)) vs g.got in
-      let is_n : value_count vs ≡ n = omega arith in
-      append_assoc (word 8 (value_count vs)) (each_canon (canon k) vs) (bits (drop end body)) ∙ ap (λ t. word 8 (value_count vs) ++ t) c ∙ ap (λ m. word 8 m ++ bits (drop (at + 1) body)) is_n ∙ sym (octet_front body at n lt e)));
-}
+count_first size k body n at m least h e = subst (λ m. CountLeads size k body n 0 at (at + m) least) (sym e) (after_counter size k body n at least h)
   where
-    eight : 8 ≡ 8 * (at + 1 - at)
-    eight = omega arith
-
-    times : number_of (word 8 n) ≡ n - 0
-    times = number-word 8 n small ∙ omega arith
+    after_counter : (size : Counter) (k : KindTree) (body : List ℕ) (n at : ℕ) (least : Bool) → IsCount size body at n → CountLeads size k body n 0 at (at + counter_octets size) least
+    after_counter size k body n at least h =
+        let w = counter_width size in
+        let here = at + counter_octets size in
+        let long : w ≡ 8 * (here - at) = omega (arith, counter_in_octets size) in
+        let times : number_of (word w n) ≡ n - 0 = number-word w n h.below ∙ omega arith in
+        let after_is : kind_read (counted size k) body at ≡ after (8 * (here - at)) (λ vs. occurrences vs) (each_read (read k) (n - 0) (bits (drop here body))) =
+        ap (count_read w (read k)) (front_count size body at n h) ∙ (λ i. after (long i) (λ vs. occurrences vs) (each_read (read k) (times i) (bits (drop here body)))) in
+        record {
+          within = h.within;
+          leads = leads_by (each_canon (canon k)) (each_read (read k) (n - 0) (bits (drop here body))) (canon (counted size k)) (kind_read (counted size k) body at) body at here (λ vs. occurrences vs) least h.within
+              (record { forwards = omega arith; same = after_is })
+              (λ vs end f g c. (
+              let count : value_count vs ≡ n - 0 = each_count (read k) (n - 0) (8 * (end - here)) (bits (drop here body)) (bits (drop end body)) vs g.got in
+              let is_n : value_count vs ≡ n = omega arith in
+              append_assoc (word w (value_count vs)) (each_canon (canon k) vs) (bits (drop end body)) ∙ ap (λ t. word w (value_count vs) ++ t) c ∙ ap (λ m. word w m ++ bits (drop here body)) is_n ∙ sym (counter_front size body at n h)));
+        }
 
 -- one occurrence, after which others follow
 module _ (k : KindTree) (body : List ℕ) (m here end : ℕ) (before least : Bool) (falls : IsTrue least → IsTrue before) (w : Walks (canon k) (kind_read k body here) body here end least) where
@@ -70,24 +75,24 @@ module _ (k : KindTree) (body : List ℕ) (m here end : ℕ) (before least : Boo
       (record { forwards = w.read.forwards; same = one_first })
       (λ vs last f g c. append_assoc (canon k w.value) (each_canon (canon k) vs) (bits (drop last body)) ∙ ap (λ t. canon k w.value ++ t) c ∙ w.canonical f)
 
-pub count_next : (k : KindTree) (body : List ℕ) (n i at here end : ℕ) (before least : Bool) → CountLeads k body n i at here before → i < n → (IsTrue least → IsTrue before) → Walks (canon k) (kind_read k body here) body here end least → CountLeads k body n (i + 1) at end least
-count_next k body n i at here end before least h lt falls w =
+pub count_next : (size : Counter) (k : KindTree) (body : List ℕ) (n i at here end : ℕ) (before least : Bool) → CountLeads size k body n i at here before → i < n → (IsTrue least → IsTrue before) → Walks (canon k) (kind_read k body here) body here end least → CountLeads size k body n (i + 1) at end least
+count_next size k body n i at here end before least h lt falls w =
     let left : n - i ≡ suc (n - (i + 1)) = omega arith in
     let one = one_leads k body (n - (i + 1)) here end before least falls w in record {
       within = w.read.within;
-      leads = leads_on (each_canon (canon k)) (each_read (read k) (n - (i + 1)) (bits (drop end body))) (each_canon (canon k)) (each_read (read k) (n - i) (bits (drop here body))) (canon (counted k)) (kind_read (counted k) body at) body at here end before least falls h.leads
+      leads = leads_on (each_canon (canon k)) (each_read (read k) (n - (i + 1)) (bits (drop end body))) (each_canon (canon k)) (each_read (read k) (n - i) (bits (drop here body))) (canon (counted size k)) (kind_read (counted size k) body at) body at here end before least falls h.leads
           (subst (λ m. Leads (each_canon (canon k)) (each_read (read k) (n - (i + 1)) (bits (drop end body))) (each_canon (canon k)) (each_read (read k) m (bits (drop here body))) body here end least) (sym left) one);
     }
 
-pub count_failed : (k : KindTree) (body : List ℕ) (n i at here : ℕ) (before : Bool) (fault : BodyFault) → CountLeads k body n i at here before → i < n → FailsAt (kind_read k body here) here fault → FailsAt (kind_read (counted k) body at) at fault
+pub count_failed : (size : Counter) (k : KindTree) (body : List ℕ) (n i at here : ℕ) (before : Bool) (fault : BodyFault) → CountLeads size k body n i at here before → i < n → FailsAt (kind_read k body here) here fault → FailsAt (kind_read (counted size k) body at) at fault
 unfolding kind_read
-count_failed k body n i at here before fault h lt t =
+count_failed size k body n i at here before fault h lt t =
     let left : n - i ≡ suc (n - (i + 1)) = omega arith in
     let one : FailsAt (each_read (read k) (suc (n - (i + 1))) (bits (drop here body))) here fault = record { place = t.place; failed = ap (λ r. both (λ v vs. value_and v vs) r (each_read (read k) (n - (i + 1)))) t.failed; bit = t.bit } in
     h.leads.fails fault (subst (λ m. FailsAt (each_read (read k) m (bits (drop here body))) here fault) (sym left) one)
 
-pub count_last : (k : KindTree) (body : List ℕ) (n i at here : ℕ) (least : Bool) → CountLeads k body n i at here least → n ≤ i → Walks (canon (counted k)) (kind_read (counted k) body at) body at here least
-count_last k body n i at here least h past =
+pub count_last : (size : Counter) (k : KindTree) (body : List ℕ) (n i at here : ℕ) (least : Bool) → CountLeads size k body n i at here least → n ≤ i → Walks (canon (counted size k)) (kind_read (counted size k) body at) body at here least
+count_last size k body n i at here least h past =
     let none : each_read (read k) (n - i) (bits (drop here body)) ≡ got no_values 0 (bits (drop here body)) = ap (λ m. each_read (read k) m (bits (drop here body))) (let e : n - i ≡ 0 = omega arith in e) in
     h.leads.gets here least (λ t. t) (record {
       value = no_values;

@@ -1,21 +1,21 @@
 -- Spellings of parts and of occurrences, cut into the octets of each.
 use Rattle.std.proofs.Common.{◌≡◌, ℕ, suc, ◌+◌, ◌-◌, ◌*◌, ◌/◌, ◌%◌, ◌<◌, ◌≤◌, Bool, true, false, List, [], ◌∷◌, ◌++◌, length, take, drop, map, flat_map, refl, sym, ◌∙◌, ap, arith, subst, length-append, append-nil, append_assoc, take-append-drop, length-drop}
-use Rattle.std.specs.List.{AllByRecursion}
 use Rattle.std.proofs.Math.Nat.{suc-mul, zero-mul}
 use Rattle.std.proofs.lemmas.List.{take_at, drop_at, drop_all, length-take-le, nil_from_length}
 use Rattle.ax_bits.proofs.Pieces.{take-bits, drop-bits}
-use Rattle.ax_bits.proofs.Words.{length-bits}
-use Rattle.ax_bits.specs.Bits.{bits}
+use Rattle.ax_bits.proofs.Words.{length-bits, length-word}
+use Rattle.ax_bits.specs.Bits.{bits, word}
 use Rattle.ax_model.proofs.Bounds.{bounds_whole}
 use Rattle.ax_model.proofs.FixedKinds.{members_length, fixed_length}
 use Rattle.ax_model.proofs.Spelled.{read_spelled}
 use Rattle.ax_model.proofs.WholeOctets.{spells_whole}
-use Rattle.ax_model.specs.InBounds.{InBounds, PartInBounds}
+use Rattle.ax_model.specs.InBounds.{InBounds, PartInBounds, PartsInBounds}
 use Rattle.ax_model.specs.Reader.{got, read}
 use Rattle.ax_model.specs.Spelling.{MembersSpell, FixedSpells, PartsSpell, RunSpells, EachSpells, Spells}
 use Rattle.ax_model.specs.Tree.{FixedTree, MembersTree, KindTree, fixed, ValueTree, ValuesTree, no_values, value_and, value_count, ListsTree, no_lists, list_and}
-use Rattle.ax_model.specs.Widths.{width}
-use Rattle.ax_view.specs.Pieces.{octets_taken, first_size, pieces, ArePieces, part_pieces, ArePartPieces, part_size}
+use Rattle.ax_model.specs.Widths.{width, members_width, fx_width}
+use Rattle.ax_model.specs.declared.kind.LastPart.{LastPart}
+use Rattle.ax_view.specs.Pieces.{octets_taken, first_size, pieces, ArePieces, part_pieces, ArePartPieces, part_size, part_sizes}
 use Rattle.ax_view.specs.Shown.{PartsAre, fx_before, values_list}
 use Rattle.ax_view.specs.Values.{IsAll, IsOne, IsWithFx, IsItemOf, value_read, value_in}
 
@@ -33,52 +33,63 @@ module _ (xs x y : List ℕ) (m : ℕ) (e : bits xs ≡ x ++ y) (l : length x �
 
 -- ---- parts
 
-pub record PartsCut (ps : List MembersTree) (ls : ListsTree) (xs : List ℕ) : Type 0 where
-  pub are_pieces : ArePartPieces (map part_size ps) xs
-  pub spelled : PartsAre ps ls (part_pieces (map part_size ps) xs)
-  pub joined : flat_map (λ x. x) (part_pieces (map part_size ps) xs) ≡ xs
+pub record PartsCut (last : LastPart) (ps : List MembersTree) (ls : ListsTree) (xs : List ℕ) : Type 0 where
+  pub are_pieces : ArePartPieces (part_sizes last ps) xs
+  pub spelled : PartsAre last ps ls (part_pieces (part_sizes last ps) xs)
+  pub joined : flat_map (λ x. x) (part_pieces (part_sizes last ps) xs) ≡ xs
 
 -- no octets are left after the last part
-none_cut : (ps : List MembersTree) (xs : List ℕ) → xs ≡ [] → PartsCut ps no_lists xs
-none_cut ps xs e = subst (PartsCut ps no_lists) (sym e) (by ps)
+none_cut : (last : LastPart) (ps : List MembersTree) (xs : List ℕ) → xs ≡ [] → PartsCut last ps no_lists xs
+none_cut last ps xs e = subst (PartsCut last ps no_lists) (sym e) (by ps)
   where
-    by : (ps : List MembersTree) → PartsCut ps no_lists []
+    by : (ps : List MembersTree) → PartsCut last ps no_lists []
     by [] = record { are_pieces = refl; spelled = tt; joined = refl }
     by (p ∷ ps) = record { are_pieces = tt; spelled = tt; joined = refl }
 
-one_cut : (p : MembersTree) (ps : List MembersTree) (vs : ValuesTree) (ls : ListsTree) (xs x y : List ℕ) → PartInBounds p → MembersSpell p vs x → bits xs ≡ (x ++ fx_before ls ∷ []) ++ y → PartsCut ps ls (drop (part_size p) xs) → PartsCut (p ∷ ps) (list_and vs ls) xs
-one_cut p ps vs ls xs x y bounds s e h = by xs e h
+one_cut : (last : LastPart) (p : MembersTree) (ps : List MembersTree) (vs : ValuesTree) (ls : ListsTree) (xs x y : List ℕ) → length (fx_before (fx_width last (length ps)) ls) ≡ fx_width last (length ps) → PartInBounds (fx_width last (length ps)) p → MembersSpell p vs x
+    → bits xs ≡ (x ++ fx_before (fx_width last (length ps)) ls) ++ y → PartsCut last ps ls (drop (part_size (fx_width last (length ps)) p) xs) → PartsCut last (p ∷ ps) (list_and vs ls) xs
+one_cut last p ps vs ls xs x y l bounds s e h = by xs e h
   where
-    long : length (x ++ fx_before ls ∷ []) ≡ 8 * part_size p
-    long = let w = members_length p vs x s in let whole = bounds.0 in omega (arith, length-append x (fx_before ls ∷ []))
+    fx : List ℕ
+    fx = fx_before (fx_width last (length ps)) ls
 
-    by : (xs : List ℕ) → bits xs ≡ (x ++ fx_before ls ∷ []) ++ y → PartsCut ps ls (drop (part_size p) xs) → PartsCut (p ∷ ps) (list_and vs ls) xs
-    by [] e h = absurd (let n = front_within [] (x ++ fx_before ls ∷ []) y (part_size p) e long in let whole = bounds.0 in omega arith)
+    n : ℕ
+    n = part_size (fx_width last (length ps)) p
+
+    long : length (x ++ fx) ≡ 8 * n
+    long = let w = members_length p vs x s in let whole = bounds.0 in omega (arith, length-append x fx, l)
+
+    some : 0 < n
+    some = let whole = bounds.0 in let bit = bounds.3 in omega arith
+
+    by : (xs : List ℕ) → bits xs ≡ (x ++ fx) ++ y → PartsCut last ps ls (drop n xs) → PartsCut last (p ∷ ps) (list_and vs ls) xs
+    by [] e h = absurd (let le = front_within [] (x ++ fx) y n e long in let pos = some in omega arith)
     by (a ∷ xs) e h =
-        let n = part_size p in
-        let some : 0 < n = (let whole = bounds.0 in omega arith) in
         record {
-          are_pieces = (some, front_within (a ∷ xs) (x ++ fx_before ls ∷ []) y n e long, h.are_pieces);
-          spelled = ((x, s, front_is (a ∷ xs) (x ++ fx_before ls ∷ []) y n e long), h.spelled);
+          are_pieces = (some, front_within (a ∷ xs) (x ++ fx) y n e long, h.are_pieces);
+          spelled = ((x, s, front_is (a ∷ xs) (x ++ fx) y n e long), h.spelled);
           joined = ap (λ z. take n (a ∷ xs) ++ z) h.joined ∙ take-append-drop n (a ∷ xs);
         }
 
-pub parts_cut : (ps : List MembersTree) (ls : ListsTree) (xs : List ℕ) → AllByRecursion PartInBounds ps → PartsSpell ps ls (bits xs) → PartsCut ps ls xs
-parts_cut [] no_lists xs bounds h = absurd h
-parts_cut (p ∷ ps) no_lists xs bounds h = absurd h
-parts_cut [] (list_and vs ls) xs bounds h = absurd h
-parts_cut (p ∷ ps) (list_and vs no_lists) xs bounds (x, e, s) =
+pub parts_cut : (last : LastPart) (ps : List MembersTree) (ls : ListsTree) (xs : List ℕ) → PartsInBounds last ps → PartsSpell last ps ls (bits xs) → PartsCut last ps ls xs
+parts_cut last [] no_lists xs bounds h = absurd h
+parts_cut last (p ∷ ps) no_lists xs bounds h = absurd h
+parts_cut last [] (list_and vs ls) xs bounds h = absurd h
+parts_cut last (p ∷ ps) (list_and vs no_lists) xs bounds (x, e, s) =
+    let fx = fx_width last (length ps) in
     let w = members_length p vs x s in
     let whole = bounds.0.0 in
-    let end : part_size p ≡ length xs = omega (arith, ap length e, length-append x (0 ∷ []), length-bits xs) in
-    one_cut p ps vs no_lists xs x [] bounds.0 s (e ∙ sym (append-nil (x ++ 0 ∷ []))) (none_cut ps (drop (part_size p) xs) (drop_all (part_size p) xs (omega arith)))
-parts_cut (p ∷ ps) (list_and vs (list_and ws ls)) xs bounds (x, y, e, s, t) =
+    let l : length (word fx 0) ≡ fx = length-word fx 0 in
+    let end : part_size fx p ≡ length xs = omega (arith, ap length e, length-append x (word fx 0), l, length-bits xs) in
+    one_cut last p ps vs no_lists xs x [] l bounds.0 s (e ∙ sym (append-nil (x ++ word fx 0))) (none_cut last ps (drop (part_size fx p) xs) (drop_all (part_size fx p) xs (omega arith)))
+parts_cut last (p ∷ []) (list_and vs (list_and ws ls)) xs bounds (x, y, e, s, t) = absurd t
+parts_cut last (p ∷ q ∷ ps) (list_and vs (list_and ws ls)) xs bounds (x, y, e, s, t) =
     let w = members_length p vs x s in
-    let whole = bounds.0.0 in
+    let whole : (members_width p + 1) % 8 ≡ 0 = bounds.0.0 in
     let split : bits xs ≡ (x ++ 1 ∷ []) ++ y = e ∙ sym (append_assoc x (1 ∷ []) y) in
-    let long : length (x ++ 1 ∷ []) ≡ 8 * part_size p = omega (arith, length-append x (1 ∷ [])) in
-    let rest : bits (drop (part_size p) xs) ≡ y = rest_is xs (x ++ 1 ∷ []) y (part_size p) split long in
-    one_cut p ps vs (list_and ws ls) xs x y bounds.0 s split (parts_cut ps (list_and ws ls) (drop (part_size p) xs) bounds.1 (subst (PartsSpell ps (list_and ws ls)) (sym rest) t))
+    let long : length (x ++ 1 ∷ []) ≡ 8 * part_size 1 p = omega (arith, length-append x (1 ∷ [])) in
+    let rest : bits (drop (part_size 1 p) xs) ≡ y = rest_is xs (x ++ 1 ∷ []) y (part_size 1 p) split long in
+    one_cut last p (q ∷ ps) vs (list_and ws ls) xs x y refl bounds.0 s split (parts_cut last (q ∷ ps) (list_and ws ls) (drop (part_size 1 p) xs) bounds.1 (subst (PartsSpell last (q ∷ ps) (list_and ws ls)) (sym rest) t))
 
 -- ---- occurrences
 

@@ -105,7 +105,7 @@ pieces_count : (fx : Bool) (k : KindTree) (n : ℕ) (xs : List ℕ) → length (
 pieces_count fx k zero xs = refl
 pieces_count fx k (suc n) xs = ap suc (pieces_count fx k n (drop (first_size fx k xs) xs))
 
-pub occurrences_number : (it : Occurrences) → length (occurrences_left it) ≤ 65532
+pub occurrences_number : (it : Occurrences) → length (occurrences_left it) < 65536
 occurrences_number it = omega (arith, length-map (pieces it.by_fx (kind_at it.codec.now.nodes it.link) it.count it.left.now) (λ xs. (shown it xs)), pieces_count it.by_fx (kind_at it.codec.now.nodes it.link) it.count it.left.now, it.occurrences.count_few)
   where
     shown : Occurrences → List ℕ → Occurrence

@@ -94,8 +94,8 @@ module _ (nodes : List Node) (link at : ℕ) (body : List ℕ) (one : Node) (tab
       none (Of.Element w) e = absurd (a w e)
       none (Of.Group w links) e = absurd (b w links e)
       none (Of.Part w links) e = by (Of.Part w links) e refl
-      none (Of.Extended links) e = by (Of.Extended links) e refl
-      none (Of.Counted inner) e = by (Of.Counted inner) e refl
+      none (Of.Extended last links) e = by (Of.Extended last links) e refl
+      none (Of.Counted size inner) e = by (Of.Counted size inner) e refl
       none (Of.ByFx inner) e = by (Of.ByFx inner) e refl
       none Of.Explicit e = by Of.Explicit e refl
       none (Of.Compound mask links) e = by (Of.Compound mask links) e refl
@@ -171,8 +171,8 @@ module _ (nodes : List Node) (link : ℕ) (one : Node) (table : IsTable nodes) (
       none (Of.Element w) e = by (Of.Element w) e refl
       none (Of.Group w links) e = by (Of.Group w links) e refl
       none (Of.Part w links) e = absurd (other w links e)
-      none (Of.Extended links) e = by (Of.Extended links) e refl
-      none (Of.Counted inner) e = by (Of.Counted inner) e refl
+      none (Of.Extended last links) e = by (Of.Extended last links) e refl
+      none (Of.Counted size inner) e = by (Of.Counted size inner) e refl
       none (Of.ByFx inner) e = by (Of.ByFx inner) e refl
       none Of.Explicit e = by Of.Explicit e refl
       none (Of.Compound mask links) e = by (Of.Compound mask links) e refl

@@ -3,7 +3,7 @@ use Rattle.std.proofs.Common.{◌≡◌, ℕ, zero, suc, ◌-◌, ◌*◌, ◌<�
 use Rattle.std.proofs.lemmas.List.{length-take-le, get_or_default}
 use Rattle.std.proofs.lemmas.Bool.{eqb-true}
 use Rattle.ax_bits.specs.Bits.{bits, number_of, AreBits}
-use Rattle.ax_model.specs.Widths.{width}
+use Rattle.ax_model.specs.Widths.{width, counter_width}
 use Rattle.ax_model.specs.declared.content.Content.TheVariants.{Raw}
 use Rattle.ax_fspec.proofs.Walks.{no_next_slot}
 use Rattle.ax_fspec.specs.Fields.{MarksSlots, FailsToMark}
@@ -181,9 +181,9 @@ fixed_read_none : (f : FixedTree) (s : Split) → entries_in (value_read (fixed_
 fixed_read_none f short = refl
 fixed_read_none f (cut x y) = fixed_none f x
 
-count_none : (rule : List ℕ → Read ValueTree) (s : Split) → entries_in (value_read (count_read rule s)) ≡ no_entries
-count_none rule short = refl
-count_none rule (cut x y) = entries_after_none 8 (λ vs. occurrences vs) (each_read rule (number_of x) y) (λ vs. refl)
+count_none : (w : ℕ) (rule : List ℕ → Read ValueTree) (s : Split) → entries_in (value_read (count_read w rule s)) ≡ no_entries
+count_none w rule short = refl
+count_none w rule (cut x y) = entries_after_none w (λ vs. occurrences vs) (each_read rule (number_of x) y) (λ vs. refl)
 
 octets_none : (m : ℕ) (s : Split) → entries_in (value_read (octets_read m s)) ≡ no_entries
 octets_none m short = refl
@@ -219,8 +219,8 @@ module _ (codec : Codec) (link : ℕ) (fx : Bool) (body : List ℕ) (one : Node)
   no_compound (Of.Element w) e h = of_kind (fixed (element w Raw)) (is_element codec.nodes link one codec.table item.some item.within at w e) (fixed_read_none (element w Raw) (split w (bits body)))
   no_compound (Of.Group w links) e h = let f = group (linked_members (meanings codec.nodes) links) in of_kind (fixed f) (is_group codec.nodes link one codec.table item.some item.within at w links e) (fixed_read_none f (split (width f) (bits body)))
   no_compound (Of.Part w links) e h = absurd (no_part fx codec.nodes link one codec.table item.some item.within at w links e item.bounds)
-  no_compound (Of.Extended links) e h = let ps = linked_parts (meanings codec.nodes) links in of_kind (extended ps) (is_extended codec.nodes link one codec.table item.some item.within at links links e refl) (entries_after_none 0 (λ ls. part_values ls) (parts_read ps (bits body)) (λ ls. refl))
-  no_compound (Of.Counted inner) e h = of_kind (counted (kind_at codec.nodes inner)) (is_counted codec.nodes link one codec.table item.some item.within at inner e) (count_none (read (kind_at codec.nodes inner)) (split 8 (bits body)))
+  no_compound (Of.Extended last links) e h = let ps = linked_parts (meanings codec.nodes) links in of_kind (extended last ps) (is_extended codec.nodes link one codec.table item.some item.within at last links links e refl) (entries_after_none 0 (λ ls. part_values ls) (parts_read last ps (bits body)) (λ ls. refl))
+  no_compound (Of.Counted size inner) e h = of_kind (counted size (kind_at codec.nodes inner)) (is_counted codec.nodes link one codec.table item.some item.within at size inner e) (count_none (counter_width size) (read (kind_at codec.nodes inner)) (split (counter_width size) (bits body)))
   no_compound (Of.ByFx inner) e h = let f = fixed_of (linked (meanings codec.nodes) inner) in of_kind (by_fx f) (is_by_fx codec.nodes link one codec.table item.some item.within at inner e) (entries_after_none 0 (λ vs. occurrences vs) (run_read (suc (length (bits body))) f (bits body)) (λ vs. refl))
   no_compound Of.Explicit e h = of_kind explicit (is_explicit codec.nodes link one codec.table item.some item.within at e) (explicit_none (split 8 (bits body)))
   no_compound (Of.Compound mask links) e h = absurd (h mask links e)

@@ -1,36 +1,39 @@
 -- The parts and the occurrences of an item, of what its octets spell.
-use Rattle.std.proofs.Common.{◌≡◌, ◌≢◌, ℕ, ◌+◌, ◌-◌, ◌*◌, ◌/◌, ◌%◌, ◌<◌, ◌≤◌, ◌⊎◌, inl, inr, Bool, true, false, Option, Some, None, IfSome, IfNone, List, [], ◌∷◌, ◌++◌, length, take, drop, map, flat_map, get_or, refl, sym, ◌∙◌, ap, arith, subst, length-drop}
+use Rattle.std.proofs.Common.{◌≡◌, ◌≢◌, ℕ, ◌+◌, ◌-◌, ◌*◌, ◌/◌, ◌%◌, ◌^◌, ◌<◌, ◌≤◌, Bool, true, false, Option, Some, None, IfSome, IfNone, List, [], ◌∷◌, ◌++◌, length, take, drop, map, flat_map, get_or, refl, sym, ◌∙◌, ap, arith, subst, length-drop}
 use Rattle.std.proofs.lemmas.List.{take_at, drop_at, get_or_default}
 use Rattle.std.proofs.Math.Nat.{div-le_self}
 use Rattle.std.proofs.lemmas.Nat.{div-mul-add}
 use Rattle.ax_bits.proofs.Pieces.{number-word}
 use Rattle.ax_bits.proofs.Words.{length-word}
-use Rattle.ax_bits.specs.Bits.{bits, word, number_of, AreOctets}
+use Rattle.ax_bits.specs.Bits.{bits, word, number_of}
 use Rattle.ax_model.specs.Canonical.{canon}
 use Rattle.ax_model.specs.InBounds.{InBounds}
 use Rattle.ax_model.specs.Spelling.{PartsSpell, RunSpells, EachSpells, Spells}
 use Rattle.ax_model.specs.Tree.{FixedTree, KindTree, fixed, extended, counted, by_fx, ValueTree, occurrences, ValuesTree, value_count, part_values}
-use Rattle.ax_model.specs.Widths.{width, members_width}
+use Rattle.ax_model.specs.Widths.{width, members_width, counter_octets, counter_width, fx_width}
 use Rattle.ax_model.specs.declared.fault.BodyCause.TheVariants.{RunsOut}
 use Rattle.ax_model.specs.declared.fault.BodyFault.{BodyFault}
+use Rattle.ax_model.specs.declared.kind.Counter.{Counter}
+use Rattle.ax_model.specs.declared.kind.Counter.TheVariants.{One, Two}
+use Rattle.ax_model.specs.declared.kind.LastPart.{LastPart}
 use Rattle.ax_reader.proofs.Counting.{counted_none}
-use Rattle.ax_reader.specs.Reading.{FailsAt, kind_read}
+use Rattle.ax_reader.specs.Reading.{FailsAt, IsCount, kind_read}
 use Rattle.ax_tables.proofs.Tables.{link_means}
 use Rattle.ax_tables.specs.Meaning.{Meaning, a_fixed, a_part, a_kind, meaning, meanings, linked, fixed_of, kind_of, linked_part, linked_parts}
 use Rattle.ax_tables.specs.Table.{IsTable, kind_at, record_kind_at}
 use Rattle.ax_tables.specs.declared.codec.Codec.{Codec}
 use Rattle.ax_tables.specs.declared.node.Node.{Node}
 use Rattle.ax_tables.specs.declared.node.Node.TheVariants as Of
+use Rattle.ax_view.proofs.CountedSteps.{counter_front}
 use Rattle.ax_view.proofs.CutSteps.{parts_cut, Cut, each_cut, run_cut}
 use Rattle.ax_view.proofs.Found.{read_all}
-use Rattle.ax_view.proofs.ItemSteps.{le_or_less}
 use Rattle.ax_view.proofs.NodeKinds.{is_element, is_group, no_part, is_extended, extended_links, is_counted, counted_link, is_by_fx, by_fx_link, is_explicit, is_compound}
 use Rattle.ax_view.proofs.PartSteps.{is_parts}
 use Rattle.ax_view.proofs.PieceSteps.{never_fails, size_is, opened, listed, joined}
 use Rattle.ax_view.proofs.Spelled.{value_spelled}
-use Rattle.ax_view.proofs.UnitSteps.{small}
+use Rattle.ax_view.proofs.UnitSteps.{fx_few}
 use Rattle.ax_view.specs.Left.{Occurrence, occurrences_shown}
-use Rattle.ax_view.specs.Pieces.{first_size, pieces, ArePieces, part_pieces, ArePartPieces, part_size, ArePartsLeft, AreOccurrencesLeft}
+use Rattle.ax_view.specs.Pieces.{first_size, pieces, ArePieces, part_pieces, ArePartPieces, part_size, part_sizes, ArePartsLeft, AreOccurrencesLeft}
 use Rattle.ax_view.specs.Shown.{ArePartsOf, AreOccurrences, OccurrencesBy, IsOccurrences, occurrences_in}
 use Rattle.ax_view.specs.Spots.{lists_in}
 use Rattle.ax_view.specs.Values.{IsOne, IsItem, IsItemOf, ItemInBounds, value_in}
@@ -39,140 +42,141 @@ use Rattle.ax_view.specs.declared.item.ItemView.{ItemView}
 
 -- ---- parts
 
-pub extended_bounds : (fx : Bool) (ps : _) → ItemInBounds fx (extended ps) → InBounds (extended ps)
-extended_bounds false ps h = h
-extended_bounds true ps h = absurd h
+pub extended_bounds : (fx : Bool) (last : LastPart) (ps : _) → ItemInBounds fx (extended last ps) → InBounds (extended last ps)
+extended_bounds false last ps h = h
+extended_bounds true last ps h = absurd h
 
-pub extended_one : (fx : Bool) (ps : _) (body : List ℕ) → IsItemOf fx (extended ps) body → IsOne (extended ps) body
-extended_one false ps body h = h
-extended_one true ps body h = absurd h.fits
+pub extended_one : (fx : Bool) (last : LastPart) (ps : _) (body : List ℕ) → IsItemOf fx (extended last ps) body → IsOne (extended last ps) body
+extended_one false last ps body h = h
+extended_one true last ps body h = absurd h.fits
 
-spelled_parts : (ps : _) (body : List ℕ) → InBounds (extended ps) → IsOne (extended ps) body → PartsSpell ps (lists_in (value_in (extended ps) body)) (bits body)
-spelled_parts ps body bounds one =
-    let t : Spells (extended ps) (part_values (lists_in (value_in (extended ps) body))) (bits body) = subst (λ v. Spells (extended ps) v (bits body)) (is_parts ps body one) (value_spelled (extended ps) body bounds one) in t
+spelled_parts : (last : LastPart) (ps : _) (body : List ℕ) → InBounds (extended last ps) → IsOne (extended last ps) body → PartsSpell last ps (lists_in (value_in (extended last ps) body)) (bits body)
+spelled_parts last ps body bounds one =
+    let t : Spells (extended last ps) (part_values (lists_in (value_in (extended last ps) body))) (bits body) = subst (λ v. Spells (extended last ps) v (bits body)) (is_parts last ps body one) (value_spelled (extended last ps) body bounds one) in t
 
 compound_none : (ns : List Node) (links : List ℕ) (v : ValueTree) (xs : List ℕ) → ArePartsOf (record_kind_at ns links) v xs []
 unfolding record_kind_at
 compound_none ns links v xs = refl
 
 module _ (codec : Codec) (link : ℕ) (fx : Bool) (body : List ℕ) (one : Node) (item : IsItem codec link fx body) (at : one ≡ get_or codec.nodes (link - 1) one) where
-  module _ (links found : List ℕ) (e : one ≡ Of.Extended links) (f : found ≡ links) where
-    kind_is : kind_at codec.nodes link ≡ extended (linked_parts (meanings codec.nodes) found)
-    kind_is = is_extended codec.nodes link one codec.table item.some item.within at links found e f
+  module _ (last : LastPart) (links found : List ℕ) (e : one ≡ Of.Extended last links) (f : found ≡ links) where
+    kind_is : kind_at codec.nodes link ≡ extended last (linked_parts (meanings codec.nodes) found)
+    kind_is = is_extended codec.nodes link one codec.table item.some item.within at last links found e f
 
-    bounds : InBounds (extended (linked_parts (meanings codec.nodes) found))
-    bounds = extended_bounds fx (linked_parts (meanings codec.nodes) found) (subst (ItemInBounds fx) kind_is item.bounds)
+    bounds : InBounds (extended last (linked_parts (meanings codec.nodes) found))
+    bounds = extended_bounds fx last (linked_parts (meanings codec.nodes) found) (subst (ItemInBounds fx) kind_is item.bounds)
 
-    is_one : IsOne (extended (linked_parts (meanings codec.nodes) found)) body
-    is_one = extended_one fx (linked_parts (meanings codec.nodes) found) body (subst (λ k. IsItemOf fx k body) kind_is item.one)
+    is_one : IsOne (extended last (linked_parts (meanings codec.nodes) found)) body
+    is_one = extended_one fx last (linked_parts (meanings codec.nodes) found) body (subst (λ k. IsItemOf fx k body) kind_is item.one)
 
-    spelled : PartsSpell (linked_parts (meanings codec.nodes) found) (lists_in (value_in (extended (linked_parts (meanings codec.nodes) found)) body)) (bits body)
-    spelled = spelled_parts (linked_parts (meanings codec.nodes) found) body bounds is_one
+    spelled : PartsSpell last (linked_parts (meanings codec.nodes) found) (lists_in (value_in (extended last (linked_parts (meanings codec.nodes) found)) body)) (bits body)
+    spelled = spelled_parts last (linked_parts (meanings codec.nodes) found) body bounds is_one
 
-    pub parts_made : ArePartsLeft codec.nodes found body
+    pub parts_made : ArePartsLeft codec.nodes last found body
     parts_made =
-        let c = parts_cut (linked_parts (meanings codec.nodes) found) (lists_in (value_in (extended (linked_parts (meanings codec.nodes) found)) body)) body bounds.1 spelled in record {
-          links_within = extended_links codec.nodes link one codec.table item.some item.within at links found e f;
+        let c = parts_cut last (linked_parts (meanings codec.nodes) found) (lists_in (value_in (extended last (linked_parts (meanings codec.nodes) found)) body)) body bounds.1 spelled in record {
+          links_within = extended_links codec.nodes link one codec.table item.some item.within at last links found e f;
           bounds = bounds.1;
           pieces_are = c.are_pieces;
           few = is_one.few;
         }
 
-    pub parts_shown : (slices : List (List ℕ)) → slices ≡ part_pieces (map part_size (linked_parts (meanings codec.nodes) found)) body → ArePartsOf (kind_at codec.nodes link) (value_in (kind_at codec.nodes link) body) body slices
+    pub parts_shown : (slices : List (List ℕ)) → slices ≡ part_pieces (part_sizes last (linked_parts (meanings codec.nodes) found)) body → ArePartsOf (kind_at codec.nodes link) (value_in (kind_at codec.nodes link) body) body slices
     parts_shown slices s =
         let ps = linked_parts (meanings codec.nodes) found in
-        let c = parts_cut ps (lists_in (value_in (extended ps) body)) body bounds.1 spelled in
+        let c = parts_cut last ps (lists_in (value_in (extended last ps) body)) body bounds.1 spelled in
         subst (ArePartsOf (kind_at codec.nodes link) (value_in (kind_at codec.nodes link) body) body) (sym s)
-        (subst (λ k. ArePartsOf k (value_in k body) body (part_pieces (map part_size ps) body)) (sym kind_is) (c.spelled, c.joined))
+        (subst (λ k. ArePartsOf k (value_in k body) body (part_pieces (part_sizes last ps) body)) (sym kind_is) (c.spelled, c.joined))
 
   none_of : (k : KindTree) → kind_at codec.nodes link ≡ k → ArePartsOf k (value_in k body) body [] → ArePartsOf (kind_at codec.nodes link) (value_in (kind_at codec.nodes link) body) body []
   none_of k e h = subst (λ k. ArePartsOf k (value_in k body) body []) (sym e) h
 
-  pub no_parts : (is : Node) → one ≡ is → ((links : List ℕ) → one ≡ Of.Extended links → ⊥) → ArePartsOf (kind_at codec.nodes link) (value_in (kind_at codec.nodes link) body) body []
+  pub no_parts : (is : Node) → one ≡ is → ((last : LastPart) (links : List ℕ) → one ≡ Of.Extended last links → ⊥) → ArePartsOf (kind_at codec.nodes link) (value_in (kind_at codec.nodes link) body) body []
   no_parts (Of.Element w) e h = none_of _ (is_element codec.nodes link one codec.table item.some item.within at w e) refl
   no_parts (Of.Group w links) e h = none_of _ (is_group codec.nodes link one codec.table item.some item.within at w links e) refl
   no_parts (Of.Part w links) e h = absurd (no_part fx codec.nodes link one codec.table item.some item.within at w links e item.bounds)
-  no_parts (Of.Extended links) e h = absurd (h links e)
-  no_parts (Of.Counted inner) e h = none_of _ (is_counted codec.nodes link one codec.table item.some item.within at inner e) refl
+  no_parts (Of.Extended last links) e h = absurd (h last links e)
+  no_parts (Of.Counted size inner) e h = none_of _ (is_counted codec.nodes link one codec.table item.some item.within at size inner e) refl
   no_parts (Of.ByFx inner) e h = none_of _ (is_by_fx codec.nodes link one codec.table item.some item.within at inner e) refl
   no_parts Of.Explicit e h = none_of _ (is_explicit codec.nodes link one codec.table item.some item.within at e) refl
   no_parts (Of.Compound mask links) e h = none_of (record_kind_at codec.nodes links) (is_compound codec.nodes link one codec.table item.some item.within at mask links links e refl) (compound_none codec.nodes links (value_in (record_kind_at codec.nodes links) body) body)
 
 -- ---- counted
 
-pub record IsCountedValue (k : KindTree) (v : ValueTree) (b : List ℕ) : Type 0 where
+pub record IsCountedValue (size : Counter) (k : KindTree) (v : ValueTree) (b : List ℕ) : Type 0 where
   pub values : ValuesTree
   pub is : v ≡ occurrences values
-  pub few : value_count values < 256
+  pub few : value_count values < 2 ^ counter_width size
   pub rest : List ℕ
-  pub split : b ≡ word 8 (value_count values) ++ rest
+  pub split : b ≡ word (counter_width size) (value_count values) ++ rest
   pub each : EachSpells (Spells k) values rest
 
-pub counted_value : (k : KindTree) (v : ValueTree) (b : List ℕ) → Spells (counted k) v b → IsCountedValue k v b
-counted_value k (occurrences vs) b (few, y, e, h) = record { values = vs; is = refl; few = few; rest = y; split = e; each = h }
-counted_value k _ b h = absurd h
+pub counted_value : (size : Counter) (k : KindTree) (v : ValueTree) (b : List ℕ) → Spells (counted size k) v b → IsCountedValue size k v b
+counted_value size k (occurrences vs) b (few, y, e, h) = record { values = vs; is = refl; few = few; rest = y; split = e; each = h }
+counted_value size k _ b h = absurd h
 
-record CountedCut (k : KindTree) (body : List ℕ) (v : ValueTree) : Type 0 where
-  values : ValuesTree
-  is : v ≡ occurrences values
-  count : get_or body 0 0 ≡ value_count values
-  cut : Cut false k values (drop 1 body)
+-- an item's counter is there
+pub counter_there : (size : Counter) (k : KindTree) (body : List ℕ) → IsOne (counted size k) body → length body < 0 + counter_octets size → ⊥
+unfolding kind_read
+counter_there size k body one short =
+    let fault : BodyFault = record { cause = RunsOut; bit = 0 } in read_all (counted size k) body 0 fault (counted_none size k body 0 fault short refl refl) one.all
 
-module _ (k : KindTree) (body : List ℕ) (octets : AreOctets body) (bounds : InBounds k) (one : IsOne (counted k) body) where
-  all : Spells (counted k) (value_in (counted k) body) (bits body)
-  all = value_spelled (counted k) body bounds one
+few_counted : (size : Counter) (n : ℕ) → n < 2 ^ counter_width size → n < 65536
+few_counted One n lt = let less : n < 256 = lt in omega arith
+few_counted Two n lt = lt
 
-  pub counter_there : 0 < length body
-  unfolding kind_read
-  counter_there = by (le_or_less (length body) 0)
-    where
-      by : (length body ≤ 0) ⊎ (0 < length body) → 0 < length body
-      by (inl le) = let fault : BodyFault = record { cause = RunsOut; bit = 0 } in absurd (read_all (counted k) body 0 fault (counted_none k body 0 fault le refl refl) one.all)
-      by (inr lt) = lt
+module _ (size : Counter) (k : KindTree) (body : List ℕ) (n : ℕ) (bounds : InBounds k) (one : IsOne (counted size k) body) (count : IsCount size body 0 n) where
+  of_value : IsCountedValue size k (value_in (counted size k) body) (bits body)
+  of_value = counted_value size k (value_in (counted size k) body) (bits body) (value_spelled (counted size k) body bounds one)
 
-  counted_cut : (xs : List ℕ) (v : ValueTree) → 0 < length xs → AreOctets xs → length xs ≤ 65532 → Spells (counted k) v (bits xs) → CountedCut k xs v
-  counted_cut [] v some os few h = absurd (omega arith)
-  counted_cut (n ∷ xs) v some os few h =
-      let c = counted_value k v (bits (n ∷ xs)) h in
-      let w = word 8 (value_count c.values) in
-      let front : word 8 n ≡ w = sym (take_at (word 8 n) (bits xs) 8 (length-word 8 n)) ∙ ap (take 8) c.split ∙ take_at w c.rest 8 (length-word 8 (value_count c.values)) in
-      let rest : bits xs ≡ c.rest = sym (drop_at (word 8 n) (bits xs) 8 (length-word 8 n)) ∙ ap (drop 8) c.split ∙ drop_at w c.rest 8 (length-word 8 (value_count c.values)) in
-      record {
-        values = c.values;
-        is = c.is;
-        count = sym (number-word 8 n os.0) ∙ ap number_of front ∙ number-word 8 (value_count c.values) c.few;
-        cut = each_cut k c.values xs bounds (omega arith) (subst (EachSpells (Spells k) c.values) (sym rest) c.each);
-      }
+  abbrev width_of : ℕ
+  width_of = counter_width size
 
-  made : CountedCut k body (value_in (counted k) body)
-  made = counted_cut body (value_in (counted k) body) counter_there octets one.few all
+  front : word width_of n ++ bits (drop (counter_octets size) body) ≡ word width_of (value_count of_value.values) ++ of_value.rest
+  front = ap (λ m. word width_of n ++ bits (drop m body)) (let e : counter_octets size ≡ 0 + counter_octets size = omega arith in e) ∙ sym (counter_front size body 0 n count) ∙ of_value.split
 
-  pub counted_pieces : ArePieces false k (get_or body 0 0) (drop 1 body)
-  counted_pieces = subst (λ n. ArePieces false k n (drop 1 body)) (sym made.count) made.cut.are_pieces
+  words : word width_of n ≡ word width_of (value_count of_value.values)
+  words = sym (take_at (word width_of n) (bits (drop (counter_octets size) body)) width_of (length-word width_of n)) ∙ ap (take width_of) front ∙ take_at (word width_of (value_count of_value.values)) of_value.rest width_of (length-word width_of (value_count of_value.values))
 
-  pub counted_values : map (value_in k) (pieces false k (get_or body 0 0) (drop 1 body)) ≡ occurrences_in (value_in (counted k) body)
-  counted_values = ap (λ n. map (value_in k) (pieces false k n (drop 1 body))) made.count ∙ made.cut.values ∙ sym (ap occurrences_in made.is)
+  rest_is : bits (drop (counter_octets size) body) ≡ of_value.rest
+  rest_is = sym (drop_at (word width_of n) (bits (drop (counter_octets size) body)) width_of (length-word width_of n)) ∙ ap (drop width_of) front ∙ drop_at (word width_of (value_count of_value.values)) of_value.rest width_of (length-word width_of (value_count of_value.values))
 
-pub counted_made : (codec : Codec) (inner : ℕ) (body : List ℕ) → AreOctets body → (0 < inner) × (inner ≤ length codec.nodes) → InBounds (kind_at codec.nodes inner) → IsOne (counted (kind_at codec.nodes inner)) body
-    → (left : List ℕ) → left ≡ drop 1 body → AreOccurrencesLeft codec inner false (get_or body 0 0) left
-counted_made codec inner body octets link bounds one left e = record {
-  some = link.0;
-  within = link.1;
-  bounds = bounds;
-  pieces_are = subst (ArePieces false (kind_at codec.nodes inner) (get_or body 0 0)) (sym e) (counted_pieces (kind_at codec.nodes inner) body octets bounds one);
-  count_few = omega (arith, small body 0 (get_or body 0 0) octets refl);
-  few = omega (arith, one.few, ap length e, length-drop 1 body);
-}
+  counter_is : n ≡ value_count of_value.values
+  counter_is = sym (number-word width_of n count.below) ∙ ap number_of words ∙ number-word width_of (value_count of_value.values) of_value.few
 
-pub counted_shown : (codec : Codec) (inner : ℕ) (body : List ℕ) → AreOctets body → InBounds (kind_at codec.nodes inner) → IsOne (counted (kind_at codec.nodes inner)) body
-    → (left : List ℕ) → left ≡ drop 1 body
-    → AreOccurrences codec inner false (drop 1 body) (occurrences_in (value_in (counted (kind_at codec.nodes inner)) body)) (occurrences_shown codec inner false (pieces false (kind_at codec.nodes inner) (get_or body 0 0) left))
-counted_shown codec inner body octets bounds one left e = record {
-  slices = pieces false (kind_at codec.nodes inner) (get_or body 0 0) left;
-  are_shown = refl;
-  have = ap (λ xs. map (value_in (kind_at codec.nodes inner)) (pieces false (kind_at codec.nodes inner) (get_or body 0 0) xs)) e ∙ counted_values (kind_at codec.nodes inner) body octets bounds one;
-  joined = ap (λ xs. flat_map (λ x. x) (pieces false (kind_at codec.nodes inner) (get_or body 0 0) xs)) e ∙ joined false (kind_at codec.nodes inner) (get_or body 0 0) (drop 1 body) (counted_pieces (kind_at codec.nodes inner) body octets bounds one);
-}
+  made : Cut false k of_value.values (drop (counter_octets size) body)
+  made = each_cut k of_value.values (drop (counter_octets size) body) bounds (omega (arith, one.few, length-drop (counter_octets size) body)) (subst (EachSpells (Spells k) of_value.values) (sym rest_is) of_value.each)
+
+  pub counted_pieces : ArePieces false k n (drop (counter_octets size) body)
+  counted_pieces = subst (λ n. ArePieces false k n (drop (counter_octets size) body)) (sym counter_is) made.are_pieces
+
+  pub counted_values : map (value_in k) (pieces false k n (drop (counter_octets size) body)) ≡ occurrences_in (value_in (counted size k) body)
+  counted_values = ap (λ n. map (value_in k) (pieces false k n (drop (counter_octets size) body))) counter_is ∙ made.values ∙ sym (ap occurrences_in of_value.is)
+
+module _ (codec : Codec) (size : Counter) (inner : ℕ) (body : List ℕ) (n m : ℕ) (left : List ℕ) (bounds : InBounds (kind_at codec.nodes inner)) (one : IsOne (counted size (kind_at codec.nodes inner)) body) (count : IsCount size body 0 n) (s : m ≡ counter_octets size) (e : left ≡ drop m body) where
+  abbrev k : KindTree
+  k = kind_at codec.nodes inner
+
+  left_is : left ≡ drop (counter_octets size) body
+  left_is = e ∙ ap (λ m. drop m body) s
+
+  pub counted_made : (0 < inner) × (inner ≤ length codec.nodes) → AreOccurrencesLeft codec inner false n left
+  counted_made link = record {
+    some = link.0;
+    within = link.1;
+    bounds = bounds;
+    pieces_are = subst (ArePieces false k n) (sym left_is) (counted_pieces size k body n bounds one count);
+    count_few = few_counted size n count.below;
+    few = omega (arith, one.few, ap length left_is, length-drop (counter_octets size) body);
+  }
+
+  pub counted_shown : AreOccurrences codec inner false (drop (counter_octets size) body) (occurrences_in (value_in (counted size k) body)) (occurrences_shown codec inner false (pieces false k n left))
+  counted_shown = record {
+    slices = pieces false k n left;
+    are_shown = refl;
+    have = ap (λ xs. map (value_in k) (pieces false k n xs)) left_is ∙ counted_values size k body n bounds one count;
+    joined = ap (λ xs. flat_map (λ x. x) (pieces false k n xs)) left_is ∙ joined false k n (drop (counter_octets size) body) (counted_pieces size k body n bounds one count);
+  }
 
 -- ---- by FX
 
@@ -250,13 +254,13 @@ module _ (codec : Codec) (inner : ℕ) (body : List ℕ) (link : (0 < inner) × 
 -- ---- an item's occurrences
 
 module _ (codec : Codec) (link : ℕ) (fx : Bool) (body : List ℕ) (one : Node) (item : IsItem codec link fx body) (at : one ≡ get_or codec.nodes (link - 1) one) where
-  pub counted_by : (fx : Bool) (k : KindTree) → ItemInBounds fx (counted k) → InBounds (counted k)
-  counted_by false k h = h
-  counted_by true k h = absurd h
+  pub counted_by : (fx : Bool) (size : Counter) (k : KindTree) → ItemInBounds fx (counted size k) → InBounds (counted size k)
+  counted_by false size k h = h
+  counted_by true size k h = absurd h
 
-  pub counted_one_by : (fx : Bool) (k : KindTree) → IsItemOf fx (counted k) body → IsOne (counted k) body
-  counted_one_by false k h = h
-  counted_one_by true k h = absurd h.fits
+  pub counted_one_by : (fx : Bool) (size : Counter) (k : KindTree) → IsItemOf fx (counted size k) body → IsOne (counted size k) body
+  counted_one_by false size k h = h
+  counted_one_by true size k h = absurd h.fits
 
   pub fx_by : (fx : Bool) (f : FixedTree) → ItemInBounds fx (by_fx f) → InBounds (by_fx f)
   fx_by false f h = h
@@ -266,20 +270,20 @@ module _ (codec : Codec) (link : ℕ) (fx : Bool) (body : List ℕ) (one : Node)
   fx_one_by false f h = h
   fx_one_by true f h = absurd h.fits
 
-  module _ (inner : ℕ) (e : one ≡ Of.Counted inner) where
-    counted_is : kind_at codec.nodes link ≡ counted (kind_at codec.nodes inner)
-    counted_is = is_counted codec.nodes link one codec.table item.some item.within at inner e
+  module _ (size : Counter) (inner : ℕ) (e : one ≡ Of.Counted size inner) where
+    counted_is : kind_at codec.nodes link ≡ counted size (kind_at codec.nodes inner)
+    counted_is = is_counted codec.nodes link one codec.table item.some item.within at size inner e
 
     pub inner_link : (0 < inner) × (inner ≤ length codec.nodes)
-    inner_link = let l = counted_link codec.nodes link one codec.table item.some item.within at inner e in let le = item.within in (l.0, (let lt = l.1 in omega arith))
+    inner_link = let l = counted_link codec.nodes link one codec.table item.some item.within at size inner e in let le = item.within in (l.0, (let lt = l.1 in omega arith))
 
     pub inner_bounds : InBounds (kind_at codec.nodes inner)
-    inner_bounds = counted_by fx (kind_at codec.nodes inner) (subst (ItemInBounds fx) counted_is item.bounds)
+    inner_bounds = counted_by fx size (kind_at codec.nodes inner) (subst (ItemInBounds fx) counted_is item.bounds)
 
-    pub inner_one : IsOne (counted (kind_at codec.nodes inner)) body
-    inner_one = counted_one_by fx (kind_at codec.nodes inner) (subst (λ k. IsItemOf fx k body) counted_is item.one)
+    pub inner_one : IsOne (counted size (kind_at codec.nodes inner)) body
+    inner_one = counted_one_by fx size (kind_at codec.nodes inner) (subst (λ k. IsItemOf fx k body) counted_is item.one)
 
-    pub inner_values : occurrences_in (value_in (counted (kind_at codec.nodes inner)) body) ≡ occurrences_in (value_in (kind_at codec.nodes link) body)
+    pub inner_values : occurrences_in (value_in (counted size (kind_at codec.nodes inner)) body) ≡ occurrences_in (value_in (kind_at codec.nodes link) body)
     inner_values = ap (λ k. occurrences_in (value_in k body)) (sym counted_is)
 
   module _ (inner : ℕ) (e : one ≡ Of.ByFx inner) where
@@ -305,12 +309,12 @@ module _ (outer : ItemView) (one : Node) (some : 0 < outer.link) (within : outer
   pub occurrences_by : (is : Node) → one ≡ is → OccurrencesBy is outer shown → IsOccurrences outer shown
   occurrences_by is e h = record { occurrences_are = subst (λ n. OccurrencesBy n outer shown) (sym (node_is is e)) h }
 
-  pub no_occurrences : (is : Node) → one ≡ is → ((inner : ℕ) → one ≡ Of.Counted inner → ⊥) → ((inner : ℕ) → one ≡ Of.ByFx inner → ⊥) → shown ≡ [] → IsOccurrences outer shown
+  pub no_occurrences : (is : Node) → one ≡ is → ((size : Counter) (inner : ℕ) → one ≡ Of.Counted size inner → ⊥) → ((inner : ℕ) → one ≡ Of.ByFx inner → ⊥) → shown ≡ [] → IsOccurrences outer shown
   no_occurrences (Of.Element w) e a b h = occurrences_by (Of.Element w) e h
   no_occurrences (Of.Group w links) e a b h = occurrences_by (Of.Group w links) e h
   no_occurrences (Of.Part w links) e a b h = occurrences_by (Of.Part w links) e h
-  no_occurrences (Of.Extended links) e a b h = occurrences_by (Of.Extended links) e h
-  no_occurrences (Of.Counted inner) e a b h = absurd (a inner e)
+  no_occurrences (Of.Extended last links) e a b h = occurrences_by (Of.Extended last links) e h
+  no_occurrences (Of.Counted size inner) e a b h = absurd (a size inner e)
   no_occurrences (Of.ByFx inner) e a b h = absurd (b inner e)
   no_occurrences Of.Explicit e a b h = occurrences_by Of.Explicit e h
   no_occurrences (Of.Compound mask links) e a b h = occurrences_by (Of.Compound mask links) e h
@@ -328,37 +332,44 @@ piece_first : (n : ℕ) (sizes left : List ℕ) → (left ≡ [] → ⊥) → Ar
 piece_first n sizes [] some h = absurd (some refl)
 piece_first n sizes (x ∷ xs) some h = (h.1, h.2, refl, h.0)
 
-module _ (nodes : List Node) (links later left : List ℕ) (part size : ℕ) (h : ArePartsLeft nodes links left) (some : left ≡ [] → ⊥) (e : links ≡ part ∷ later) where
-  open_parts : ArePartsLeft nodes (part ∷ later) left
-  open_parts = subst (λ links. ArePartsLeft nodes links left) e h
+module _ (nodes : List Node) (last : LastPart) (links later left : List ℕ) (part fx : ℕ) (h : ArePartsLeft nodes last links left) (some : left ≡ [] → ⊥) (e : links ≡ part ∷ later) (f : fx ≡ fx_width last (length (linked_parts (meanings nodes) later))) where
+  open_parts : ArePartsLeft nodes last (part ∷ later) left
+  open_parts = subst (λ links. ArePartsLeft nodes last links left) e h
+
+  abbrev sizes : List ℕ
+  sizes = part_sizes last (linked_parts (meanings nodes) later)
+
+  abbrev front_size : ℕ
+  front_size = part_size (fx_width last (length (linked_parts (meanings nodes) later))) (linked_part (meanings nodes) part)
 
   pub next_link : (0 < part) × (part ≤ length nodes)
   next_link = open_parts.links_within.0
 
-  pub next_wide : members_width (linked_part (meanings nodes) part) ≤ 524256
-  next_wide = open_parts.bounds.0.1
+  pub next_wide : (w : ℕ) → w ≡ members_width (linked_part (meanings nodes) part) → w + fx ≤ 524264
+  next_wide w is = let le = open_parts.bounds.0.1 in omega (arith, is, f, le, fx_few last (length (linked_parts (meanings nodes) later)))
 
-  module _ (s : size ≡ part_size (linked_part (meanings nodes) part)) where
-    first : (part_size (linked_part (meanings nodes) part) ≤ length left) × ArePartPieces (map part_size (linked_parts (meanings nodes) later)) (drop (part_size (linked_part (meanings nodes) part)) left)
-        × (part_pieces (part_size (linked_part (meanings nodes) part) ∷ map part_size (linked_parts (meanings nodes) later)) left ≡ take (part_size (linked_part (meanings nodes) part)) left ∷ part_pieces (map part_size (linked_parts (meanings nodes) later)) (drop (part_size (linked_part (meanings nodes) part)) left))
-        × (0 < part_size (linked_part (meanings nodes) part))
-    first = piece_first (part_size (linked_part (meanings nodes) part)) (map part_size (linked_parts (meanings nodes) later)) left some open_parts.pieces_are
+  module _ (w size : ℕ) (is : w ≡ members_width (linked_part (meanings nodes) part)) (z : size ≡ (w + fx) / 8) where
+    s : size ≡ front_size
+    s = z ∙ ap (λ n. n / 8) (λ i. is i + f i)
+
+    first : (front_size ≤ length left) × ArePartPieces sizes (drop front_size left) × (part_pieces (front_size ∷ sizes) left ≡ take front_size left ∷ part_pieces sizes (drop front_size left)) × (0 < front_size)
+    first = piece_first front_size sizes left some open_parts.pieces_are
 
     pub next_within : size ≤ length left
     next_within = subst (λ n. n ≤ length left) (sym s) first.0
 
-    pub next_parts : (rest : List ℕ) → rest ≡ drop size left → ArePartsLeft nodes later rest
+    pub next_parts : (rest : List ℕ) → rest ≡ drop size left → ArePartsLeft nodes last later rest
     next_parts rest r = record {
       links_within = open_parts.links_within.1;
       bounds = open_parts.bounds.1;
-      pieces_are = subst (ArePartPieces (map part_size (linked_parts (meanings nodes) later))) (sym (r ∙ ap (λ n. drop n left) s)) first.1;
+      pieces_are = subst (ArePartPieces sizes) (sym (r ∙ ap (λ n. drop n left) s)) first.1;
       few = omega (arith, h.few, ap length r, length-drop size left);
     }
 
-    pub next_slice : (slice rest : List ℕ) → slice ≡ take size left → rest ≡ drop size left → part_pieces (map part_size (linked_parts (meanings nodes) links)) left ≡ slice ∷ part_pieces (map part_size (linked_parts (meanings nodes) later)) rest
+    pub next_slice : (slice rest : List ℕ) → slice ≡ take size left → rest ≡ drop size left → part_pieces (part_sizes last (linked_parts (meanings nodes) links)) left ≡ slice ∷ part_pieces (part_sizes last (linked_parts (meanings nodes) later)) rest
     next_slice slice rest t r =
-        ap (λ links. part_pieces (map part_size (linked_parts (meanings nodes) links)) left) e ∙ first.2
-        ∙ (λ i. (ap (λ n. take n left) (sym s) ∙ sym t) i ∷ part_pieces (map part_size (linked_parts (meanings nodes) later)) ((ap (λ n. drop n left) (sym s) ∙ sym r) i))
+        ap (λ links. part_pieces (part_sizes last (linked_parts (meanings nodes) links)) left) e ∙ first.2
+        ∙ (λ i. (ap (λ n. take n left) (sym s) ∙ sym t) i ∷ part_pieces sizes ((ap (λ n. drop n left) (sym s) ∙ sym r) i))
 
 -- ---- the next occurrence
 
@@ -383,8 +394,8 @@ fx_next ns link one table some within at bounds = by one refl
     by (Of.Element w) e = same (Of.Element w) e refl
     by (Of.Group w links) e = same (Of.Group w links) e refl
     by (Of.Part w links) e = absurd (none (Of.Part w links) e)
-    by (Of.Extended links) e = absurd (none (Of.Extended links) e)
-    by (Of.Counted inner) e = absurd (none (Of.Counted inner) e)
+    by (Of.Extended last links) e = absurd (none (Of.Extended last links) e)
+    by (Of.Counted size inner) e = absurd (none (Of.Counted size inner) e)
     by (Of.ByFx inner) e = absurd (none (Of.ByFx inner) e)
     by Of.Explicit e = absurd (none Of.Explicit e)
     by (Of.Compound mask links) e = absurd (none (Of.Compound mask links) e)

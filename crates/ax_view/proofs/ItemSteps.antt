@@ -7,7 +7,8 @@ use Rattle.ax_model.specs.Reader.{Read, got, failed, after, read, entries_read, 
 use Rattle.ax_model.specs.InBounds.{InBounds}
 use Rattle.ax_model.specs.Presence.{octets_needed}
 use Rattle.ax_model.specs.Tree.{FixedTree, KindTree, fixed, extended, counted, by_fx, explicit, ValueTree, occurrences, content_octets, marked, EntriesTree, no_entries, slots_of, slot_count, defined_slots}
-use Rattle.ax_model.specs.Widths.{width}
+use Rattle.ax_model.specs.Widths.{width, counter_width}
+use Rattle.ax_model.specs.declared.kind.LastPart.{LastPart}
 use Rattle.ax_model.specs.declared.fault.BodyCause.TheVariants.{RunsOut}
 use Rattle.ax_model.specs.declared.fault.BodyFault.{BodyFault}
 use Rattle.ax_tables.proofs.Tables.{link_means}
@@ -101,9 +102,9 @@ closed_run : (n : ℕ) (r : Read _) → IsClosed (value_read (after n (λ vs. oc
 closed_run n (got vs m y) = tt
 closed_run n (failed p c) = tt
 
-closed_count : (rule : List ℕ → Read ValueTree) (s : Split) → IsClosed (value_read (count_read rule s))
-closed_count rule short = tt
-closed_count rule (cut x y) = closed_run 8 (each_read rule (number_of x) y)
+closed_count : (w : ℕ) (rule : List ℕ → Read ValueTree) (s : Split) → IsClosed (value_read (count_read w rule s))
+closed_count w rule short = tt
+closed_count w rule (cut x y) = closed_run w (each_read rule (number_of x) y)
 
 closed_octets : (m : ℕ) (s : Split) → IsClosed (value_read (octets_read m s))
 closed_octets m short = tt
@@ -165,17 +166,17 @@ module _ (ns : List Node) (link : ℕ) (body : List ℕ) (one : Node) (h : ItemI
     pub in_fixed : fixed_value (fixed_of (linked (meanings ns) link)) (bits body) ≡ value_in (kind_at ns link) body
     in_fixed = sym (ap (λ k. value_in k body) e ∙ fixed_whole (fixed_of (linked (meanings ns) link)) body in_bounds (subst (λ k. IsOne k body) e h.one))
 
-  module _ (links found : List ℕ) (e : one ≡ Of.Extended links) (f : found ≡ links) where
-    pub extended_kind : kind_at ns link ≡ extended (linked_parts (meanings ns) found)
-    extended_kind = is_extended ns link one h.table h.some h.within at links found e f
+  module _ (last : LastPart) (links found : List ℕ) (e : one ≡ Of.Extended last links) (f : found ≡ links) where
+    pub extended_kind : kind_at ns link ≡ extended last (linked_parts (meanings ns) found)
+    extended_kind = is_extended ns link one h.table h.some h.within at last links found e f
 
-    pub extended_bounds : InBounds (extended (linked_parts (meanings ns) found))
+    pub extended_bounds : InBounds (extended last (linked_parts (meanings ns) found))
     extended_bounds = subst InBounds extended_kind h.bounds
 
-    pub extended_one : IsOne (extended (linked_parts (meanings ns) found)) body
+    pub extended_one : IsOne (extended last (linked_parts (meanings ns) found)) body
     extended_one = subst (λ k. IsOne k body) extended_kind h.one
 
-    pub in_extended : value_in (extended (linked_parts (meanings ns) found)) body ≡ value_in (kind_at ns link) body
+    pub in_extended : value_in (extended last (linked_parts (meanings ns) found)) body ≡ value_in (kind_at ns link) body
     in_extended = ap (λ k. value_in k body) (sym extended_kind)
 
   module _ (mask : SlotMask) (links : List ℕ) (e : one ≡ Of.Compound mask links) where
@@ -191,19 +192,19 @@ module _ (ns : List Node) (link : ℕ) (body : List ℕ) (one : Node) (h : ItemI
   of_kind : (k : KindTree) → kind_at ns link ≡ k → IsClosed (value_in k body) → IsClosed (value_in (kind_at ns link) body)
   of_kind k e c = subst (λ k. IsClosed (value_in k body)) (sym e) c
 
-  closed : (is : Node) → one ≡ is → ((w : ℕ) → one ≡ Of.Element w → ⊥) → ((w : ℕ) (links : List ℕ) → one ≡ Of.Group w links → ⊥) → ((links : List ℕ) → one ≡ Of.Extended links → ⊥)
+  closed : (is : Node) → one ≡ is → ((w : ℕ) → one ≡ Of.Element w → ⊥) → ((w : ℕ) (links : List ℕ) → one ≡ Of.Group w links → ⊥) → ((last : LastPart) (links : List ℕ) → one ≡ Of.Extended last links → ⊥)
       → ((mask : SlotMask) (links : List ℕ) → one ≡ Of.Compound mask links → ⊥) → IsClosed (value_in (kind_at ns link) body)
   unfolding value_in
   closed (Of.Element w) e a b c d = absurd (a w e)
   closed (Of.Group w links) e a b c d = absurd (b w links e)
   closed (Of.Part w links) e a b c d = absurd (is_part ns link one h.table h.some h.within at w links e h.bounds)
-  closed (Of.Extended links) e a b c d = absurd (c links e)
-  closed (Of.Counted inner) e a b c d = of_kind (counted (kind_at ns inner)) (is_counted ns link one h.table h.some h.within at inner e) (closed_count (read (kind_at ns inner)) (split 8 (bits body)))
+  closed (Of.Extended last links) e a b c d = absurd (c last links e)
+  closed (Of.Counted size inner) e a b c d = of_kind (counted size (kind_at ns inner)) (is_counted ns link one h.table h.some h.within at size inner e) (closed_count (counter_width size) (read (kind_at ns inner)) (split (counter_width size) (bits body)))
   closed (Of.ByFx inner) e a b c d = let f = fixed_of (linked (meanings ns) inner) in of_kind (by_fx f) (is_by_fx ns link one h.table h.some h.within at inner e) (closed_run 0 (run_read (suc (length (bits body))) f (bits body)))
   closed Of.Explicit e a b c d = of_kind explicit (is_explicit ns link one h.table h.some h.within at e) (closed_explicit (split 8 (bits body)))
   closed (Of.Compound mask links) e a b c d = absurd (d mask links e)
 
-  module _ (a : (w : ℕ) → one ≡ Of.Element w → ⊥) (b : (w : ℕ) (links : List ℕ) → one ≡ Of.Group w links → ⊥) (c : (links : List ℕ) → one ≡ Of.Extended links → ⊥) (d : (mask : SlotMask) (links : List ℕ) → one ≡ Of.Compound mask links → ⊥) where
+  module _ (a : (w : ℕ) → one ≡ Of.Element w → ⊥) (b : (w : ℕ) (links : List ℕ) → one ≡ Of.Group w links → ⊥) (c : (last : LastPart) (links : List ℕ) → one ≡ Of.Extended last links → ⊥) (d : (mask : SlotMask) (links : List ℕ) → one ≡ Of.Compound mask links → ⊥) where
     pub closed_whole : (steps : List ℕ) → steps ≡ [] → IsNoNumber (value_at steps (value_in (kind_at ns link) body))
     closed_whole steps s = record { value = value_in (kind_at ns link) body; is = ap (λ s. value_at s (value_in (kind_at ns link) body)) s; none = closed_number (value_in (kind_at ns link) body) (closed one refl a b c d) }
 

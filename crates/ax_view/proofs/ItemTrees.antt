@@ -12,6 +12,8 @@ use Rattle.ax_model.specs.Plain.{value_tree}
 use Rattle.ax_model.specs.Reader.{fixed_value, fixed_read, split, cut}
 use Rattle.ax_model.specs.Tree.{FixedTree, KindTree, fixed, extended, counted, by_fx, explicit, ValueTree, occurrences, content_octets, marked, values_of}
 use Rattle.ax_model.specs.Widths.{width}
+use Rattle.ax_model.specs.declared.kind.Counter.{Counter}
+use Rattle.ax_model.specs.declared.kind.LastPart.{LastPart}
 use Rattle.ax_model.specs.declared.value.Value.{Value}
 use Rattle.ax_tables.proofs.Tables.{link_means, kind_right}
 use Rattle.ax_tables.specs.Meaning.{meaning, meanings, linked, fixed_of, linked_parts}
@@ -80,20 +82,20 @@ module _ (codec : Codec) (link : ℕ) (fx : Bool) (body : List ℕ) (one : Node)
     item_fixed (Ok v) h = h ∙ fixed_in (fixed_of (linked (meanings codec.nodes) link)) body item_room ∙ ap (λ k. value_in k body) (sym k)
     item_fixed (Err e) h = tt
 
-  module _ (links found : List ℕ) (e : one ≡ Of.Extended links) (f : found ≡ links) where
-    ext_is : kind_at codec.nodes link ≡ extended (linked_parts (meanings codec.nodes) found)
-    ext_is = is_extended codec.nodes link one codec.table item.some item.within at links found e f
+  module _ (last : LastPart) (links found : List ℕ) (e : one ≡ Of.Extended last links) (f : found ≡ links) where
+    ext_is : kind_at codec.nodes link ≡ extended last (linked_parts (meanings codec.nodes) found)
+    ext_is = is_extended codec.nodes link one codec.table item.some item.within at last links found e f
 
     pub ext_links : LinksWithin (length codec.nodes) found
-    ext_links = extended_links codec.nodes link one codec.table item.some item.within at links found e f
+    ext_links = extended_links codec.nodes link one codec.table item.some item.within at last links found e f
 
-    pub ext_bounds : InBounds (extended (linked_parts (meanings codec.nodes) found))
-    ext_bounds = extended_bounds fx (linked_parts (meanings codec.nodes) found) (subst (ItemInBounds fx) ext_is item.bounds)
+    pub ext_bounds : InBounds (extended last (linked_parts (meanings codec.nodes) found))
+    ext_bounds = extended_bounds fx last (linked_parts (meanings codec.nodes) found) (subst (ItemInBounds fx) ext_is item.bounds)
 
-    pub ext_one : IsOne (extended (linked_parts (meanings codec.nodes) found)) body
-    ext_one = extended_one fx (linked_parts (meanings codec.nodes) found) body (subst (λ k. IsItemOf fx k body) ext_is item.one)
+    pub ext_one : IsOne (extended last (linked_parts (meanings codec.nodes) found)) body
+    ext_one = extended_one fx last (linked_parts (meanings codec.nodes) found) body (subst (λ k. IsItemOf fx k body) ext_is item.one)
 
-    pub ext_value : {E : Type 0} (r : Result Value E) → IfOk r (λ value. value_tree value ≡ value_in (extended (linked_parts (meanings codec.nodes) found)) body) → IfOk r (λ value. value_tree value ≡ value_in (kind_at codec.nodes link) body)
+    pub ext_value : {E : Type 0} (r : Result Value E) → IfOk r (λ value. value_tree value ≡ value_in (extended last (linked_parts (meanings codec.nodes) found)) body) → IfOk r (λ value. value_tree value ≡ value_in (kind_at codec.nodes link) body)
     ext_value (Ok v) h = h ∙ ap (λ k. value_in k body) (sym ext_is)
     ext_value (Err e) h = tt
 
@@ -108,13 +110,13 @@ module _ (codec : Codec) (link : ℕ) (fx : Bool) (body : List ℕ) (one : Node)
   explicit_made e v xs ys t s h = t ∙ ap (λ xs. content_octets xs) s ∙ content_back (value_in explicit body) ys h ∙ ap (λ k. value_in k body) (sym (is_explicit codec.nodes link one codec.table item.some item.within at e))
 
   -- occurrences
-  counted_back : (inner : ℕ) → one ≡ Of.Counted inner → occurrences (values_of (occurrences_in (value_in (kind_at codec.nodes link) body))) ≡ value_in (kind_at codec.nodes link) body
-  counted_back inner e =
+  counted_back : (size : Counter) (inner : ℕ) → one ≡ Of.Counted size inner → occurrences (values_of (occurrences_in (value_in (kind_at codec.nodes link) body))) ≡ value_in (kind_at codec.nodes link) body
+  counted_back size inner e =
       let k = kind_at codec.nodes inner in
-      let is = is_counted codec.nodes link one codec.table item.some item.within at inner e in
-      let bounds : InBounds (counted k) = counted_by codec link fx body one item at fx k (subst (ItemInBounds fx) is item.bounds) in
-      let o : IsOne (counted k) body = counted_one_by codec link fx body one item at fx k (subst (λ k. IsItemOf fx k body) is item.one) in
-      let c = counted_value k (value_in (counted k) body) (bits body) (value_spelled (counted k) body bounds o) in
+      let is = is_counted codec.nodes link one codec.table item.some item.within at size inner e in
+      let bounds : InBounds (counted size k) = counted_by codec link fx body one item at fx size k (subst (ItemInBounds fx) is item.bounds) in
+      let o : IsOne (counted size k) body = counted_one_by codec link fx body one item at fx size k (subst (λ k. IsItemOf fx k body) is item.one) in
+      let c = counted_value size k (value_in (counted size k) body) (bits body) (value_spelled (counted size k) body bounds o) in
       subst (λ k. occurrences (values_of (occurrences_in (value_in k body))) ≡ value_in k body) (sym is)
       (ap (λ v. occurrences (values_of (occurrences_in v))) c.is ∙ ap (λ vs. occurrences vs) (values_back c.values) ∙ sym c.is)
 
@@ -128,8 +130,8 @@ module _ (codec : Codec) (link : ℕ) (fx : Bool) (body : List ℕ) (one : Node)
       subst (λ k. occurrences (values_of (occurrences_in (value_in k body))) ≡ value_in k body) (sym is)
       (ap (λ v. occurrences (values_of (occurrences_in v))) c.is ∙ ap (λ vs. occurrences vs) (values_back c.values) ∙ sym c.is)
 
-  pub inner_falls : (inner : ℕ) → one ≡ Of.Counted inner → inner < link
-  inner_falls inner e = (counted_link codec.nodes link one codec.table item.some item.within at inner e).1
+  pub inner_falls : (size : Counter) (inner : ℕ) → one ≡ Of.Counted size inner → inner < link
+  inner_falls size inner e = (counted_link codec.nodes link one codec.table item.some item.within at size inner e).1
 
 -- ---- what is shown of occurrences
 
@@ -165,10 +167,10 @@ module _ (outer : ItemView) (one : Node) (at : one ≡ get_or outer.codec.now.no
       by (Of.Element w) e = no_links (by_node (Of.Element w) e)
       by (Of.Group w links) e = no_links (by_node (Of.Group w links) e)
       by (Of.Part w links) e = no_links (by_node (Of.Part w links) e)
-      by (Of.Extended links) e = no_links (by_node (Of.Extended links) e)
-      by (Of.Counted inner) e =
-          let r : IsNode (outer.link - 1) (meanings outer.codec.now.nodes) (Of.Counted inner) = kind_right outer.codec.now.nodes outer.link one (Of.Counted inner) outer.codec.now.table outer.item.some outer.item.within at e in
-          few_links inner false _ _ (let lt = outer.item.some in let le = r.1 in omega arith) (by_node (Of.Counted inner) e)
+      by (Of.Extended last links) e = no_links (by_node (Of.Extended last links) e)
+      by (Of.Counted size inner) e =
+          let r : IsNode (outer.link - 1) (meanings outer.codec.now.nodes) (Of.Counted size inner) = kind_right outer.codec.now.nodes outer.link one (Of.Counted size inner) outer.codec.now.table outer.item.some outer.item.within at e in
+          few_links inner false _ _ (let lt = outer.item.some in let le = r.1 in omega arith) (by_node (Of.Counted size inner) e)
       by (Of.ByFx inner) e =
           let r : IsNode (outer.link - 1) (meanings outer.codec.now.nodes) (Of.ByFx inner) = kind_right outer.codec.now.nodes outer.link one (Of.ByFx inner) outer.codec.now.table outer.item.some outer.item.within at e in
           few_links inner true _ _ (let lt = outer.item.some in let le = r.1 in omega arith) (by_node (Of.ByFx inner) e)
@@ -182,15 +184,15 @@ module _ (outer : ItemView) (one : Node) (at : one ≡ get_or outer.codec.now.no
     repeat_of : map occurrence_value shown ≡ occurrences_in (item_value outer) → occurrences (values_of (occurrences_in (item_value outer))) ≡ item_value outer → v ≡ item_value outer
     repeat_of values back = t ∙ ap (λ vs. occurrences (values_of vs)) (same ∙ values) ∙ back
 
-    pub repeat_made : ((w : ℕ) → one ≡ Of.Element w → ⊥) → ((w : ℕ) (links : List ℕ) → one ≡ Of.Group w links → ⊥) → ((links : List ℕ) → one ≡ Of.Extended links → ⊥) → (one ≡ Of.Explicit → ⊥) → ((mask : SlotMask) (links : List ℕ) → one ≡ Of.Compound mask links → ⊥) → v ≡ item_value outer
+    pub repeat_made : ((w : ℕ) → one ≡ Of.Element w → ⊥) → ((w : ℕ) (links : List ℕ) → one ≡ Of.Group w links → ⊥) → ((last : LastPart) (links : List ℕ) → one ≡ Of.Extended last links → ⊥) → (one ≡ Of.Explicit → ⊥) → ((mask : SlotMask) (links : List ℕ) → one ≡ Of.Compound mask links → ⊥) → v ≡ item_value outer
     repeat_made a b c d f = by one refl
       where
         by : (is : Node) → one ≡ is → v ≡ item_value outer
         by (Of.Element w) e = absurd (a w e)
         by (Of.Group w links) e = absurd (b w links e)
         by (Of.Part w links) e = absurd (no_part outer.by_fx outer.codec.now.nodes outer.link one outer.codec.now.table outer.item.some outer.item.within at w links e outer.item.bounds)
-        by (Of.Extended links) e = absurd (c links e)
-        by (Of.Counted inner) e = repeat_of (values_are inner false _ (by_node (Of.Counted inner) e)) (counted_back outer.codec.now outer.link outer.by_fx outer.body.now one outer.item at inner e)
+        by (Of.Extended last links) e = absurd (c last links e)
+        by (Of.Counted size inner) e = repeat_of (values_are inner false _ (by_node (Of.Counted size inner) e)) (counted_back outer.codec.now outer.link outer.by_fx outer.body.now one outer.item at size inner e)
         by (Of.ByFx inner) e = repeat_of (values_are inner true _ (by_node (Of.ByFx inner) e)) (run_back outer.codec.now outer.link outer.by_fx outer.body.now one outer.item at inner e)
         by Of.Explicit e = absurd (d e)
         by (Of.Compound mask links) e = absurd (f mask links e)

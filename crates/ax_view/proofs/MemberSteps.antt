@@ -130,8 +130,8 @@ module _ (nodes : List Node) (f : FixedTree) (link at here : ℕ) (steps left : 
           in_number (i ∷ later) = refl
       none b (Of.Group w links) e = absurd (other w links e)
       none b (Of.Part w links) e = by b (Of.Part w links) e refl
-      none b (Of.Extended links) e = by b (Of.Extended links) e refl
-      none b (Of.Counted inner) e = by b (Of.Counted inner) e refl
+      none b (Of.Extended last links) e = by b (Of.Extended last links) e refl
+      none b (Of.Counted size inner) e = by b (Of.Counted size inner) e refl
       none b (Of.ByFx inner) e = by b (Of.ByFx inner) e refl
       none b Of.Explicit e = by b Of.Explicit e refl
       none b (Of.Compound mask links) e = by b (Of.Compound mask links) e refl
@@ -153,8 +153,8 @@ module _ (nodes : List Node) (link at : ℕ) (body : List ℕ) (one : Node) (tab
       none (Of.Element w) e = absurd (other w e)
       none (Of.Group w links) e = by (Of.Group w links) e refl
       none (Of.Part w links) e = by (Of.Part w links) e refl
-      none (Of.Extended links) e = by (Of.Extended links) e refl
-      none (Of.Counted inner) e = by (Of.Counted inner) e refl
+      none (Of.Extended last links) e = by (Of.Extended last links) e refl
+      none (Of.Counted size inner) e = by (Of.Counted size inner) e refl
       none (Of.ByFx inner) e = by (Of.ByFx inner) e refl
       none Of.Explicit e = by Of.Explicit e refl
       none (Of.Compound mask links) e = by (Of.Compound mask links) e refl
@@ -210,8 +210,8 @@ module _ (nodes : List Node) (link : ℕ) (one : Node) (table : IsTable nodes) (
       none (Of.Element w) e = by (Of.Element w) e (record { none = λ b. refl })
       none (Of.Group w links) e = by (Of.Group w links) e (record { none = λ b. refl })
       none (Of.Part w links) e = absurd (other w links e)
-      none (Of.Extended links) e = by (Of.Extended links) e (record { none = λ b. refl })
-      none (Of.Counted inner) e = by (Of.Counted inner) e (record { none = λ b. refl })
+      none (Of.Extended last links) e = by (Of.Extended last links) e (record { none = λ b. refl })
+      none (Of.Counted size inner) e = by (Of.Counted size inner) e (record { none = λ b. refl })
       none (Of.ByFx inner) e = by (Of.ByFx inner) e (record { none = λ b. refl })
       none Of.Explicit e = by Of.Explicit e (record { none = λ b. refl })
       none (Of.Compound mask links) e = by (Of.Compound mask links) e (record { none = λ b. refl })

@@ -11,6 +11,8 @@ use Rattle.ax_model.specs.declared.content.Content.TheVariants.{Raw}
 use Rattle.ax_model.specs.declared.fault.BodyCause.TheVariants.{RunsOut}
 use Rattle.ax_model.specs.declared.fault.BodyFault.{BodyFault}
 use Rattle.ax_fspec.specs.declared.mask.SlotMask.{SlotMask}
+use Rattle.ax_model.specs.declared.kind.Counter.{Counter}
+use Rattle.ax_model.specs.declared.kind.LastPart.{LastPart}
 use Rattle.ax_tables.proofs.Tables.{kind_means, kind_right}
 use Rattle.ax_tables.specs.Octets.{octets_of}
 use Rattle.ax_tables.specs.Meaning.{meanings, linked, fixed_of, linked_members, linked_parts, linked_slots}
@@ -73,18 +75,18 @@ module _ (ns : List Node) (link : ℕ) (one : Node) (table : IsTable ns) (some :
   pub is_part : (w : ℕ) (links : List ℕ) → one ≡ Of.Part w links → InBounds (kind_at ns link) → ⊥
   is_part w links e bounds = let b : InBounds (compound no_slots) = subst InBounds (kind_means ns link one (Of.Part w links) table some within at e) bounds in absurd (let lt : 0 < 0 = b.0 in omega arith)
 
-  pub is_extended : (links found : List ℕ) → one ≡ Of.Extended links → found ≡ links → kind_at ns link ≡ extended (linked_parts (meanings ns) found)
-  is_extended links found e f = kind_means ns link one (Of.Extended links) table some within at e ∙ ap (λ links. extended (linked_parts (meanings ns) links)) (sym f)
+  pub is_extended : (last : LastPart) (links found : List ℕ) → one ≡ Of.Extended last links → found ≡ links → kind_at ns link ≡ extended last (linked_parts (meanings ns) found)
+  is_extended last links found e f = kind_means ns link one (Of.Extended last links) table some within at e ∙ ap (λ links. extended last (linked_parts (meanings ns) links)) (sym f)
 
-  pub extended_links : (links found : List ℕ) → one ≡ Of.Extended links → found ≡ links → LinksWithin (length ns) found
-  extended_links links found e f = subst (LinksWithin (length ns)) (sym f) (links_more (link - 1) (length ns) links (omega arith) (kind_right ns link one (Of.Extended links) table some within at e))
+  pub extended_links : (last : LastPart) (links found : List ℕ) → one ≡ Of.Extended last links → found ≡ links → LinksWithin (length ns) found
+  extended_links last links found e f = subst (LinksWithin (length ns)) (sym f) (links_more (link - 1) (length ns) links (omega arith) (kind_right ns link one (Of.Extended last links) table some within at e))
 
-  pub is_counted : (inner : ℕ) → one ≡ Of.Counted inner → kind_at ns link ≡ counted (kind_at ns inner)
+  pub is_counted : (size : Counter) (inner : ℕ) → one ≡ Of.Counted size inner → kind_at ns link ≡ counted size (kind_at ns inner)
   unfolding kind_at
-  is_counted inner e = kind_means ns link one (Of.Counted inner) table some within at e
+  is_counted size inner e = kind_means ns link one (Of.Counted size inner) table some within at e
 
-  pub counted_link : (inner : ℕ) → one ≡ Of.Counted inner → (0 < inner) × (inner < link)
-  counted_link inner e = let r : IsNode (link - 1) (meanings ns) (Of.Counted inner) = kind_right ns link one (Of.Counted inner) table some within at e in (r.0, omega (arith, r.1))
+  pub counted_link : (size : Counter) (inner : ℕ) → one ≡ Of.Counted size inner → (0 < inner) × (inner < link)
+  counted_link size inner e = let r : IsNode (link - 1) (meanings ns) (Of.Counted size inner) = kind_right ns link one (Of.Counted size inner) table some within at e in (r.0, omega (arith, r.1))
 
   pub is_by_fx : (inner : ℕ) → one ≡ Of.ByFx inner → kind_at ns link ≡ by_fx (fixed_of (linked (meanings ns) inner))
   is_by_fx inner e = kind_means ns link one (Of.ByFx inner) table some within at e
@@ -142,8 +144,8 @@ module _ (ns : List Node) (link : ℕ) (body : List ℕ) (at n : ℕ) (least : B
       fixed_walks (group (linked_members (meanings ns) links)) (is_group ns link (Of.Group w links) table some within there w links refl)
       (sym (whole_of w n (w % 8 == 0) refl e pos) ∙ group_width ns link (Of.Group w links) table some within there w links refl)
   by_node (Of.Part w links) there e = absurd (let z : 0 ≡ n = e in omega arith)
-  by_node (Of.Extended links) there e = absurd (let z : 0 ≡ n = e in omega arith)
-  by_node (Of.Counted inner) there e = absurd (let z : 0 ≡ n = e in omega arith)
+  by_node (Of.Extended last links) there e = absurd (let z : 0 ≡ n = e in omega arith)
+  by_node (Of.Counted size inner) there e = absurd (let z : 0 ≡ n = e in omega arith)
   by_node (Of.ByFx inner) there e = absurd (let z : 0 ≡ n = e in omega arith)
   by_node Of.Explicit there e = absurd (let z : 0 ≡ n = e in omega arith)
   by_node (Of.Compound mask links) there e = absurd (let z : 0 ≡ n = e in omega arith)

@@ -1,19 +1,19 @@
--- Parts that are looked for along an extended item.
-use Rattle.std.proofs.Common.{◌≡◌, ℕ, zero, suc, ◌+◌, ◌-◌, ◌*◌, ◌%◌, ◌<◌, ◌≤◌, None, List, [], ◌∷◌, length, drop, get_or, refl, sym, ◌∙◌, ap, arith, subst, option_and_then}
-use Rattle.std.specs.List.{AllByRecursion}
+-- Parts that are looked for along an extended or closed item.
+use Rattle.std.proofs.Common.{◌≡◌, ℕ, zero, suc, ◌+◌, ◌-◌, ◌*◌, ◌%◌, ◌<◌, ◌≤◌, ◌⊎◌, inl, inr, None, List, [], ◌∷◌, length, drop, get_or, refl, sym, ◌∙◌, ap, arith, subst, option_and_then}
 use Rattle.ax_bits.specs.Bits.{bits}
 use Rattle.ax_model.specs.Reader.{Read, got, failed, after, fixed_value, members_value, parts_read}
-use Rattle.ax_model.specs.InBounds.{InBounds, PartInBounds}
+use Rattle.ax_model.specs.InBounds.{InBounds, PartsInBounds}
 use Rattle.ax_model.specs.Tree.{MembersTree, ValuesTree, ListsTree, no_lists, list_and, part_values, extended}
-use Rattle.ax_model.specs.Widths.{width, members_width}
+use Rattle.ax_model.specs.Widths.{width, members_width, fx_width}
 use Rattle.ax_model.specs.declared.fault.BodyCause.TheVariants.{RunsOut, ExtensionPastEnd}
 use Rattle.ax_model.specs.declared.fault.BodyFault.{BodyFault}
+use Rattle.ax_model.specs.declared.kind.LastPart.{LastPart}
 use Rattle.ax_tables.specs.Meaning.{meanings, linked, fixed_of, part_of, linked_part, linked_parts}
 use Rattle.ax_tables.specs.Table.{LinksWithin}
 use Rattle.ax_tables.specs.declared.node.Node.{Node}
-use Rattle.ax_reader.proofs.AtOctets.{parts_at, parts_fail, parts_end, parts_go_on, parts_past_end}
+use Rattle.ax_reader.proofs.AtOctets.{parts_at, fx_or_none, parts_fail, parts_go_on, parts_past_end}
 use Rattle.ax_view.proofs.Found.{all_after, not_failed}
-use Rattle.ax_view.proofs.UnitSteps.{unit_at}
+use Rattle.ax_view.proofs.UnitSteps.{EndsParts, GoesOn, last_read_at, unit_at, part_wide as wide_part, part_some as some_octet}
 use Rattle.ax_model.specs.At.{nth_list, nth_value, value_at}
 use Rattle.ax_view.specs.Spots.{lists_in, FindsPart, FindsNoPart, FindsMember, FindsNone, FindsFixed, FindsNothing, IsFixedAt, IsNoNumber}
 use Rattle.ax_view.specs.Values.{IsAll, IsOne, value_read, value_in}
@@ -32,57 +32,60 @@ parts_after n (failed p c) h = absurd h
 
 -- ---- one part
 
-pub parts_left_none : (body : List ℕ) (here : ℕ) → IsAll (parts_at [] body here) → ⊥
+pub parts_left_none : (last : LastPart) (body : List ℕ) (here : ℕ) → IsAll (parts_at last [] body here) → ⊥
 unfolding parts_at
-parts_left_none body here h = h
+parts_left_none last body here h = h
 
-module _ (p : MembersTree) (left : List MembersTree) (body : List ℕ) (here end w : ℕ) (le : here ≤ end) (within : end ≤ length body) (is : w ≡ members_width p) (long : w + 1 ≡ 8 * (end - here)) (all : IsAll (parts_at (p ∷ left) body here)) where
-  pub last_part : get_or body (end - 1) 0 % 2 ≡ 0 → lists_found (parts_at (p ∷ left) body here) ≡ list_and (members_value p (drop (8 * here) (bits body))) no_lists
-  last_part fx = ap lists_found (parts_end p left body here end w 0 (unit_at body here end w 0 le within long fx) (sym is) (members_value p (drop (8 * here) (bits body))) refl refl).got
+pub record MoreParts (last : LastPart) (p : MembersTree) (left : List MembersTree) (body : List ℕ) (here end : ℕ) : Type 0 where
+  pub all : IsAll (parts_at last left body end)
+  pub found : lists_found (parts_at last (p ∷ left) body here) ≡ list_and (members_value p (drop (8 * here) (bits body))) (lists_found (parts_at last left body end))
 
-pub record MoreParts (p : MembersTree) (left : List MembersTree) (body : List ℕ) (here end : ℕ) : Type 0 where
-  pub all : IsAll (parts_at left body end)
-  pub found : lists_found (parts_at (p ∷ left) body here) ≡ list_and (members_value p (drop (8 * here) (bits body))) (lists_found (parts_at left body end))
-
-pub more_parts : (p : MembersTree) (left : List MembersTree) (body : List ℕ) (here end w : ℕ) → here ≤ end → end ≤ length body → w ≡ members_width p → w + 1 ≡ 8 * (end - here) → IsAll (parts_at (p ∷ left) body here)
-    → get_or body (end - 1) 0 % 2 ≡ 1 → MoreParts p left body here end
-more_parts p [] body here end w le within is long all fx =
+more_with_fx : (last : LastPart) (p : MembersTree) (left : List MembersTree) (body : List ℕ) (here end w : ℕ) → here ≤ end → end ≤ length body → w ≡ members_width p → fx_width last (length left) ≡ 1 → w + 1 ≡ 8 * (end - here)
+    → IsAll (parts_at last (p ∷ left) body here) → get_or body (end - 1) 0 % 2 ≡ 1 → MoreParts last p left body here end
+more_with_fx last p [] body here end w le within is has long all fx =
     let fault : BodyFault = record { cause = ExtensionPastEnd; bit = 8 * end - 1 } in
-    let l = parts_past_end p body here end w 1 fault (unit_at body here end w 1 le within long fx) (sym is) refl refl (omega arith) in
-    absurd (not_failed l.place fault.cause (parts_at (p ∷ []) body here) l.failed all)
-more_parts p (q ∷ left) body here end w le within is long all fx =
+    let l = parts_past_end last p body here end w 1 fault has (unit_at body here end w 1 le within long fx) (sym is) refl refl (omega arith) in
+    absurd (not_failed l.place fault.cause (parts_at last (p ∷ []) body here) l.failed all)
+more_with_fx last p (q ∷ left) body here end w le within is has long all fx =
     let vs = members_value p (drop (8 * here) (bits body)) in
-    let c = parts_go_on p q left body here end w 1 vs (unit_at body here end w 1 le within long fx) (sym is) refl refl in
-    let rest = all_after (8 * (end - here)) (λ ls. list_and vs ls) (parts_at (q ∷ left) body end) (subst IsAll c.same all) in
-    record { all = rest; found = ap lists_found c.same ∙ list_after (8 * (end - here)) vs (parts_at (q ∷ left) body end) rest }
+    let c = parts_go_on last p q left body here end w 1 vs (unit_at body here end w 1 le within long fx) (sym is) refl refl in
+    let rest = all_after (8 * (end - here)) (λ ls. list_and vs ls) (parts_at last (q ∷ left) body end) (subst IsAll c.same all) in
+    record { all = rest; found = ap lists_found c.same ∙ list_after (8 * (end - here)) vs (parts_at last (q ∷ left) body end) rest }
 
-pub this_part : (p : MembersTree) (left : List MembersTree) (body : List ℕ) (here end w : ℕ) → here ≤ end → end ≤ length body → w ≡ members_width p → w + 1 ≡ 8 * (end - here) → IsAll (parts_at (p ∷ left) body here)
-    → nth_list 0 (lists_found (parts_at (p ∷ left) body here)) ≡ members_value p (drop (8 * here) (bits body))
-this_part p left body here end w le within is long all = by (get_or body (end - 1) 0 % 2) refl
-  where
-    by : (fx : ℕ) → get_or body (end - 1) 0 % 2 ≡ fx → nth_list 0 (lists_found (parts_at (p ∷ left) body here)) ≡ members_value p (drop (8 * here) (bits body))
-    by zero e = ap (nth_list 0) (last_part p left body here end w le within is long all e)
-    by (suc zero) e = ap (nth_list 0) (more_parts p left body here end w le within is long all e).found
-    by (suc (suc n)) e = absurd (omega arith)
+module _ (last : LastPart) (p : MembersTree) (left : List MembersTree) (body : List ℕ) (here end w fx : ℕ) (le : here ≤ end) (within : end ≤ length body) (is : w ≡ members_width p) (s : fx ≡ fx_width last (length left)) (long : w + fx ≡ 8 * (end - here)) (all : IsAll (parts_at last (p ∷ left) body here)) where
+  pub last_part : EndsParts body end fx → lists_found (parts_at last (p ∷ left) body here) ≡ list_and (members_value p (drop (8 * here) (bits body))) no_lists
+  last_part ends = ap lists_found (last_read_at last p left body here end w fx le within is s long ends).got
 
-pub part_fits : (p : MembersTree) (left : List MembersTree) (body : List ℕ) (here : ℕ) (short : 8 * (length body - here) < members_width p + 1) → IsAll (parts_at (p ∷ left) body here) → ⊥
-part_fits p left body here short all =
+  pub more_parts : GoesOn body end fx → MoreParts last p left body here end
+  more_parts on = more_with_fx last p left body here end w le within is (sym s ∙ on.0) (omega (arith, long, on.0)) all on.1
+
+  pub this_part : nth_list 0 (lists_found (parts_at last (p ∷ left) body here)) ≡ members_value p (drop (8 * here) (bits body))
+  this_part = by (fx_or_none last (length left)) (get_or body (end - 1) 0 % 2) refl
+    where
+      by : (fx_width last (length left) ≡ 1) ⊎ (fx_width last (length left) ≡ 0) → (bit : ℕ) → get_or body (end - 1) 0 % 2 ≡ bit → nth_list 0 (lists_found (parts_at last (p ∷ left) body here)) ≡ members_value p (drop (8 * here) (bits body))
+      by (inr none) bit e = ap (nth_list 0) (last_part (inl (s ∙ none)))
+      by (inl one) zero e = ap (nth_list 0) (last_part (inr e))
+      by (inl one) (suc zero) e = ap (nth_list 0) (more_parts (s ∙ one, e)).found
+      by (inl one) (suc (suc n)) e = absurd (omega arith)
+
+pub part_fits : (last : LastPart) (p : MembersTree) (left : List MembersTree) (body : List ℕ) (here : ℕ) (short : 8 * (length body - here) < members_width p + fx_width last (length left)) → IsAll (parts_at last (p ∷ left) body here) → ⊥
+part_fits last p left body here short all =
     let fault : BodyFault = record { cause = RunsOut; bit = 8 * here } in
-    let l = parts_fail p left body here fault (omega arith) refl refl in not_failed l.place fault.cause (parts_at (p ∷ left) body here) l.failed all
+    let l = parts_fail last p left body here fault short refl refl in not_failed l.place fault.cause (parts_at last (p ∷ left) body here) l.failed all
 
 -- ---- along the parts
 
-pub record PartsFound (nodes : List Node) (whole left body : List ℕ) (here i n : ℕ) : Type 0 where
+pub record PartsFound (nodes : List Node) (last : LastPart) (whole left body : List ℕ) (here i n : ℕ) : Type 0 where
   pub within : here ≤ length body
   pub links : LinksWithin (length nodes) left
-  pub bounds : AllByRecursion PartInBounds (linked_parts (meanings nodes) left)
-  pub all : IsAll (parts_at (linked_parts (meanings nodes) left) body here)
-  pub same : nth_list i (lists_in (value_in (extended (linked_parts (meanings nodes) whole)) body)) ≡ nth_list n (lists_found (parts_at (linked_parts (meanings nodes) left) body here))
+  pub bounds : PartsInBounds last (linked_parts (meanings nodes) left)
+  pub all : IsAll (parts_at last (linked_parts (meanings nodes) left) body here)
+  pub same : nth_list i (lists_in (value_in (extended last (linked_parts (meanings nodes) whole)) body)) ≡ nth_list n (lists_found (parts_at last (linked_parts (meanings nodes) left) body here))
 
-pub parts_looked : (nodes : List Node) (links body : List ℕ) (i : ℕ) → LinksWithin (length nodes) links → InBounds (extended (linked_parts (meanings nodes) links)) → IsOne (extended (linked_parts (meanings nodes) links)) body → PartsFound nodes links links body 0 i i
+pub parts_looked : (nodes : List Node) (last : LastPart) (links body : List ℕ) (i : ℕ) → LinksWithin (length nodes) links → InBounds (extended last (linked_parts (meanings nodes) links)) → IsOne (extended last (linked_parts (meanings nodes) links)) body → PartsFound nodes last links links body 0 i i
 unfolding parts_at value_in
-parts_looked nodes links body i within bounds one =
-    let r = parts_read (linked_parts (meanings nodes) links) (bits body) in
+parts_looked nodes last links body i within bounds one =
+    let r = parts_read last (linked_parts (meanings nodes) links) (bits body) in
     let all = all_after 0 (λ ls. part_values ls) r one.all in record {
       within = omega arith;
       links = within;
@@ -95,88 +98,92 @@ pred : (n : ℕ) → (n ≡ 0 → ⊥) → n ≡ suc (n - 1)
 pred zero some = absurd (some refl)
 pred (suc n) some = omega arith
 
-module _ (nodes : List Node) (all left later body : List ℕ) (p here i n : ℕ) (h : PartsFound nodes all left body here i n) (e : left ≡ p ∷ later) where
-  split : PartsFound nodes all (p ∷ later) body here i n
-  split = subst (λ left. PartsFound nodes all left body here i n) e h
+module _ (nodes : List Node) (last : LastPart) (all left later body : List ℕ) (p here i n : ℕ) (h : PartsFound nodes last all left body here i n) (e : left ≡ p ∷ later) where
+  split : PartsFound nodes last all (p ∷ later) body here i n
+  split = subst (λ left. PartsFound nodes last all left body here i n) e h
 
   pub part_link : (0 < p) × (p ≤ length nodes)
   part_link = split.links.0
 
-  pub part_wide : ((members_width (linked_part (meanings nodes) p) + 1) % 8 ≡ 0) × (members_width (linked_part (meanings nodes) p) + 1 ≤ 524264)
-  part_wide = let b = split.bounds.0 in (b.0, (let le = b.1 in omega arith))
+  module _ (w fx : ℕ) (is : w ≡ members_width (linked_part (meanings nodes) p)) (s : fx ≡ fx_width last (length (linked_parts (meanings nodes) later))) where
+    pub part_wide : ((w + fx) % 8 ≡ 0) × (w + fx ≤ 524264)
+    part_wide = wide_part last (linked_part (meanings nodes) p) (linked_parts (meanings nodes) later) w fx split.bounds.0 is s
 
-  pub part_failed : 8 * (length body - here) < members_width (linked_part (meanings nodes) p) + 1 → ⊥
-  part_failed short = part_fits (linked_part (meanings nodes) p) (linked_parts (meanings nodes) later) body here short split.all
+    pub part_failed : 8 * (length body - here) < w + fx → ⊥
+    part_failed short = part_fits last (linked_part (meanings nodes) p) (linked_parts (meanings nodes) later) body here (omega (arith, short, is, s)) split.all
 
-  module _ (end w : ℕ) (le : here ≤ end) (within : end ≤ length body) (is : w ≡ members_width (linked_part (meanings nodes) p)) (long : w + 1 ≡ 8 * (end - here)) where
-    pub part_found_here : n ≡ 0 → FindsPart nodes (linked_parts (meanings nodes) all) body i p (8 * here)
-    part_found_here z = record {
-      some = split.links.0.0;
-      within = split.links.0.1;
-      bounds = split.bounds.0.2;
-      room = omega arith;
-      value = split.same ∙ ap (λ n. nth_list n (lists_found (parts_at (linked_parts (meanings nodes) (p ∷ later)) body here))) z ∙ this_part (linked_part (meanings nodes) p) (linked_parts (meanings nodes) later) body here end w le within is long split.all;
-    }
+    module _ (end : ℕ) (le : here ≤ end) (within : end ≤ length body) (long : w + fx ≡ 8 * (end - here)) where
+      pub part_some : 0 < end
+      part_some = some_octet last (linked_part (meanings nodes) p) (linked_parts (meanings nodes) later) w fx split.bounds.0 is s here end long
 
-    pub part_ends : (n ≡ 0 → ⊥) → get_or body (end - 1) 0 % 2 ≡ 0 → FindsNoPart (linked_parts (meanings nodes) all) body i
-    part_ends some fx = record {
-      none = split.same ∙ ap (λ n. nth_list n (lists_found (parts_at (linked_parts (meanings nodes) (p ∷ later)) body here))) (pred n some)
-          ∙ ap (nth_list (suc (n - 1))) (last_part (linked_part (meanings nodes) p) (linked_parts (meanings nodes) later) body here end w le within is long split.all fx);
-    }
+      pub part_found_here : n ≡ 0 → FindsPart nodes last (linked_parts (meanings nodes) all) body i p (8 * here)
+      part_found_here z = record {
+        some = split.links.0.0;
+        within = split.links.0.1;
+        bounds = split.bounds.0.2;
+        room = omega (arith, is, long, within, le);
+        value = split.same ∙ ap (λ n. nth_list n (lists_found (parts_at last (linked_parts (meanings nodes) (p ∷ later)) body here))) z ∙ this_part last (linked_part (meanings nodes) p) (linked_parts (meanings nodes) later) body here end w fx le within is s long split.all;
+      }
 
-    pub part_next : (n ≡ 0 → ⊥) → get_or body (end - 1) 0 % 2 ≡ 1 → PartsFound nodes all later body end i (n - 1)
-    part_next some fx =
-        let m = more_parts (linked_part (meanings nodes) p) (linked_parts (meanings nodes) later) body here end w le within is long split.all fx in record {
-          within = within;
-          links = split.links.1;
-          bounds = split.bounds.1;
-          all = m.all;
-          same = split.same ∙ ap (λ n. nth_list n (lists_found (parts_at (linked_parts (meanings nodes) (p ∷ later)) body here))) (pred n some) ∙ ap (nth_list (suc (n - 1))) m.found;
-        }
+      pub part_ends : (n ≡ 0 → ⊥) → EndsParts body end fx → FindsNoPart last (linked_parts (meanings nodes) all) body i
+      part_ends some ends = record {
+        none = split.same ∙ ap (λ n. nth_list n (lists_found (parts_at last (linked_parts (meanings nodes) (p ∷ later)) body here))) (pred n some)
+            ∙ ap (nth_list (suc (n - 1))) (last_part last (linked_part (meanings nodes) p) (linked_parts (meanings nodes) later) body here end w fx le within is s long split.all ends);
+      }
 
-pub parts_past_all : (nodes : List Node) (all left body : List ℕ) (here i n : ℕ) → PartsFound nodes all left body here i n → left ≡ [] → ⊥
-parts_past_all nodes all left body here i n h e = parts_left_none body here (subst (λ left. IsAll (parts_at (linked_parts (meanings nodes) left) body here)) e h.all)
+      pub part_next : (n ≡ 0 → ⊥) → GoesOn body end fx → PartsFound nodes last all later body end i (n - 1)
+      part_next some on =
+          let m = more_parts last (linked_part (meanings nodes) p) (linked_parts (meanings nodes) later) body here end w fx le within is s long split.all on in record {
+            within = within;
+            links = split.links.1;
+            bounds = split.bounds.1;
+            all = m.all;
+            same = split.same ∙ ap (λ n. nth_list n (lists_found (parts_at last (linked_parts (meanings nodes) (p ∷ later)) body here))) (pred n some) ∙ ap (nth_list (suc (n - 1))) m.found;
+          }
+
+pub parts_past_all : (nodes : List Node) (last : LastPart) (all left body : List ℕ) (here i n : ℕ) → PartsFound nodes last all left body here i n → left ≡ [] → ⊥
+parts_past_all nodes last all left body here i n h e = parts_left_none last body here (subst (λ left. IsAll (parts_at last (linked_parts (meanings nodes) left) body here)) e h.all)
 
 -- ---- what stands in a part
 
-module _ (ps : List MembersTree) (body : List ℕ) (one : IsOne (extended ps) body) where
-  pub is_parts : value_in (extended ps) body ≡ part_values (lists_in (value_in (extended ps) body))
+module _ (last : LastPart) (ps : List MembersTree) (body : List ℕ) (one : IsOne (extended last ps) body) where
+  pub is_parts : value_in (extended last ps) body ≡ part_values (lists_in (value_in (extended last ps) body))
   unfolding value_in
-  is_parts = by (parts_read ps (bits body)) (all_after 0 (λ ls. part_values ls) (parts_read ps (bits body)) one.all)
+  is_parts = by (parts_read last ps (bits body)) (all_after 0 (λ ls. part_values ls) (parts_read last ps (bits body)) one.all)
     where
       by : (r : Read ListsTree) → IsAll r → value_read (after 0 (λ ls. part_values ls) r) ≡ part_values (lists_in (value_read (after 0 (λ ls. part_values ls) r)))
       by (got ls m y) h = refl
       by (failed p c) h = absurd h
 
-  as_parts : (steps whole : List ℕ) → whole ≡ steps → value_at whole (value_in (extended ps) body) ≡ value_at steps (part_values (lists_in (value_in (extended ps) body)))
-  as_parts steps whole e = ap (λ s. value_at s (value_in (extended ps) body)) e ∙ ap (value_at steps) is_parts
+  as_parts : (steps whole : List ℕ) → whole ≡ steps → value_at whole (value_in (extended last ps) body) ≡ value_at steps (part_values (lists_in (value_in (extended last ps) body)))
+  as_parts steps whole e = ap (λ s. value_at s (value_in (extended last ps) body)) e ∙ ap (value_at steps) is_parts
 
-  pub no_part_step : (steps : List ℕ) → steps ≡ [] → IsNoNumber (value_at steps (value_in (extended ps) body))
-  no_part_step steps e = record { value = part_values (lists_in (value_in (extended ps) body)); is = as_parts [] steps e; none = refl }
+  pub no_part_step : (steps : List ℕ) → steps ≡ [] → IsNoNumber (value_at steps (value_in (extended last ps) body))
+  no_part_step steps e = record { value = part_values (lists_in (value_in (extended last ps) body)); is = as_parts [] steps e; none = refl }
 
-  pub no_member_step : (steps inside : List ℕ) (p : ℕ) → steps ≡ p ∷ inside → inside ≡ [] → value_at steps (value_in (extended ps) body) ≡ None
+  pub no_member_step : (steps inside : List ℕ) (p : ℕ) → steps ≡ p ∷ inside → inside ≡ [] → value_at steps (value_in (extended last ps) body) ≡ None
   no_member_step steps inside p e f = as_parts (p ∷ []) steps (e ∙ ap (λ xs. p ∷ xs) f)
 
   module _ (steps inside later : List ℕ) (p i : ℕ) (e : steps ≡ p ∷ inside) (f : inside ≡ i ∷ later) where
-    at_parts : value_at steps (value_in (extended ps) body) ≡ option_and_then (value_at later) (nth_value i (nth_list p (lists_in (value_in (extended ps) body))))
+    at_parts : value_at steps (value_in (extended last ps) body) ≡ option_and_then (value_at later) (nth_value i (nth_list p (lists_in (value_in (extended last ps) body))))
     at_parts = as_parts (p ∷ i ∷ later) steps (e ∙ ap (λ xs. p ∷ xs) f)
 
-    pub not_present : FindsNoPart ps body p → value_at steps (value_in (extended ps) body) ≡ None
+    pub not_present : FindsNoPart last ps body p → value_at steps (value_in (extended last ps) body) ≡ None
     not_present h = at_parts ∙ ap (λ vs. option_and_then (value_at later) (nth_value i vs)) h.none
 
-    module _ (nodes : List Node) (link bit : ℕ) (h : FindsPart nodes ps body p link bit) where
-      pub no_such_member : FindsNone (part_of (linked (meanings nodes) link)) bit i → value_at steps (value_in (extended ps) body) ≡ None
+    module _ (nodes : List Node) (link bit : ℕ) (h : FindsPart nodes last ps body p link bit) where
+      pub no_such_member : FindsNone (part_of (linked (meanings nodes) link)) bit i → value_at steps (value_in (extended last ps) body) ≡ None
       no_such_member m = at_parts ∙ ap (λ vs. option_and_then (value_at later) (nth_value i vs)) h.value ∙ ap (option_and_then (value_at later)) (m.none (bits body))
 
       module _ (member at : ℕ) (m : FindsMember nodes (part_of (linked (meanings nodes) link)) bit i member at) where
-        in_member : value_at steps (value_in (extended ps) body) ≡ value_at later (fixed_value (fixed_of (linked (meanings nodes) member)) (drop at (bits body)))
+        in_member : value_at steps (value_in (extended last ps) body) ≡ value_at later (fixed_value (fixed_of (linked (meanings nodes) member)) (drop at (bits body)))
         in_member = at_parts ∙ ap (λ vs. option_and_then (value_at later) (nth_value i vs)) h.value ∙ ap (option_and_then (value_at later)) (m.value (bits body))
 
         pub member_fits : at + width (fixed_of (linked (meanings nodes) member)) ≤ 524256
         member_fits = let r = m.room in let s = h.room in let few = one.few in omega arith
 
-        pub in_part : (last from : ℕ) → FindsFixed nodes (fixed_of (linked (meanings nodes) member)) at later last from → IsFixedAt nodes body (value_at steps (value_in (extended ps) body)) last from
-        in_part last from g = record {
+        pub in_part : (to from : ℕ) → FindsFixed nodes (fixed_of (linked (meanings nodes) member)) at later to from → IsFixedAt nodes body (value_at steps (value_in (extended last ps) body)) to from
+        in_part to from g = record {
           some = g.some;
           within = g.within;
           bounds = g.bounds;
@@ -185,5 +192,5 @@ module _ (ps : List MembersTree) (body : List ℕ) (one : IsOne (extended ps) bo
           value = in_member ∙ g.value (bits body);
         }
 
-        pub not_in_part : FindsNothing (fixed_of (linked (meanings nodes) member)) at later → value_at steps (value_in (extended ps) body) ≡ None
+        pub not_in_part : FindsNothing (fixed_of (linked (meanings nodes) member)) at later → value_at steps (value_in (extended last ps) body) ≡ None
         not_in_part g = in_member ∙ g.none (bits body)

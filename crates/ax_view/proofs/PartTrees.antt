@@ -1,12 +1,12 @@
 -- The lists of parts, made one after the other.
-use Rattle.std.proofs.Common.{◌≡◌, ℕ, ◌+◌, ◌-◌, ◌*◌, ◌/◌, ◌%◌, ◌<◌, ◌≤◌, ◌⊎◌, inl, inr, List, [], ◌∷◌, ◌++◌, length, drop, map, get_or, refl, sym, ◌∙◌, ap, arith, subst, append-nil, length-append}
-use Rattle.std.specs.List.{AllByRecursion}
+use Rattle.std.proofs.Common.{◌≡◌, ℕ, ◌+◌, ◌-◌, ◌*◌, ◌/◌, ◌%◌, ◌<◌, ◌≤◌, ◌⊎◌, inl, inr, List, [], ◌∷◌, ◌++◌, length, drop, map, refl, sym, ◌∙◌, ap, arith, subst, append-nil, length-append}
 use Rattle.ax_bits.specs.Bits.{bits}
-use Rattle.ax_model.specs.InBounds.{InBounds, MembersInBounds, PartInBounds}
+use Rattle.ax_model.specs.InBounds.{InBounds, MembersInBounds, PartsInBounds}
 use Rattle.ax_model.specs.Plain.{value_tree, values_tree, value_list, lists_tree}
 use Rattle.ax_model.specs.Reader.{members_value, parts_read}
 use Rattle.ax_model.specs.Tree.{MembersTree, ValueTree, part_values, ValuesTree, no_values, value_and, values_of, ListsTree, no_lists, list_and, lists_of, extended}
-use Rattle.ax_model.specs.Widths.{members_width}
+use Rattle.ax_model.specs.Widths.{members_width, fx_width}
+use Rattle.ax_model.specs.declared.kind.LastPart.{LastPart}
 use Rattle.ax_model.specs.declared.value.Value.{Value}
 use Rattle.ax_reader.proofs.AtOctets.{parts_at}
 use Rattle.ax_tables.specs.Meaning.{meanings, linked_part, linked_parts}
@@ -16,6 +16,7 @@ use Rattle.ax_view.proofs.FixedTrees.{maps_end, list_back}
 use Rattle.ax_view.proofs.Found.{all_after}
 use Rattle.ax_view.proofs.ItemSteps.{le_or_less}
 use Rattle.ax_view.proofs.PartSteps.{lists_found, parts_after, parts_left_none, last_part, more_parts, part_fits, is_parts}
+use Rattle.ax_view.proofs.UnitSteps.{EndsParts, GoesOn, fx_few}
 use Rattle.ax_view.specs.Shown.{values_list}
 use Rattle.ax_view.specs.Spots.{lists_in}
 use Rattle.ax_view.specs.Values.{IsAll, IsOne, value_in}
@@ -32,18 +33,18 @@ lists_back (list_and vs ls) = λ i. list_and (values_same vs i) (lists_back ls i
     values_same no_values = refl
     values_same (value_and v vs) = ap (λ vs. value_and v vs) (values_same vs)
 
-pub record PartsMade (nodes : List Node) (all left : List ℕ) (body : List ℕ) (here : ℕ) (made : List (List Value)) : Type 0 where
+pub record PartsMade (nodes : List Node) (last : LastPart) (all left : List ℕ) (body : List ℕ) (here : ℕ) (made : List (List Value)) : Type 0 where
   pub within : here ≤ length body
   pub links : LinksWithin (length nodes) left
-  pub bounds : AllByRecursion PartInBounds (linked_parts (meanings nodes) left)
-  pub some : IsAll (parts_at (linked_parts (meanings nodes) left) body here)
+  pub bounds : PartsInBounds last (linked_parts (meanings nodes) left)
+  pub some : IsAll (parts_at last (linked_parts (meanings nodes) left) body here)
   pub few : length made ≤ here
-  pub same : map value_list made ++ lists_list (lists_found (parts_at (linked_parts (meanings nodes) left) body here)) ≡ lists_list (lists_in (value_in (extended (linked_parts (meanings nodes) all)) body))
+  pub same : map value_list made ++ lists_list (lists_found (parts_at last (linked_parts (meanings nodes) left) body here)) ≡ lists_list (lists_in (value_in (extended last (linked_parts (meanings nodes) all)) body))
 
-pub parts_begin : (nodes : List Node) (all body : List ℕ) → LinksWithin (length nodes) all → InBounds (extended (linked_parts (meanings nodes) all)) → IsOne (extended (linked_parts (meanings nodes) all)) body → PartsMade nodes all all body 0 []
+pub parts_begin : (nodes : List Node) (last : LastPart) (all body : List ℕ) → LinksWithin (length nodes) all → InBounds (extended last (linked_parts (meanings nodes) all)) → IsOne (extended last (linked_parts (meanings nodes) all)) body → PartsMade nodes last all all body 0 []
 unfolding parts_at value_in
-parts_begin nodes all body links bounds one =
-    let r = parts_read (linked_parts (meanings nodes) all) (bits body) in
+parts_begin nodes last all body links bounds one =
+    let r = parts_read last (linked_parts (meanings nodes) all) (bits body) in
     let read = all_after 0 (λ ls. part_values ls) r one.all in record {
       within = omega arith;
       links = links;
@@ -53,9 +54,9 @@ parts_begin nodes all body links bounds one =
       same = ap lists_list (sym (parts_after 0 r read));
     }
 
-module _ (nodes : List Node) (all left later body : List ℕ) (p here : ℕ) (made : List (List Value)) (h : PartsMade nodes all left body here made) (e : left ≡ p ∷ later) where
-  opened : PartsMade nodes all (p ∷ later) body here made
-  opened = subst (λ left. PartsMade nodes all left body here made) e h
+module _ (nodes : List Node) (last : LastPart) (all left later body : List ℕ) (p here : ℕ) (made : List (List Value)) (h : PartsMade nodes last all left body here made) (e : left ≡ p ∷ later) where
+  opened : PartsMade nodes last all (p ∷ later) body here made
+  opened = subst (λ left. PartsMade nodes last all left body here made) e h
 
   pub part_link : (0 < p) × (p ≤ length nodes)
   part_link = opened.links.0
@@ -63,58 +64,59 @@ module _ (nodes : List Node) (all left later body : List ℕ) (p here : ℕ) (ma
   pub part_bounds : MembersInBounds (linked_part (meanings nodes) p)
   part_bounds = opened.bounds.0.2
 
-  pub part_wide : ((members_width (linked_part (meanings nodes) p) + 1) % 8 ≡ 0) × (members_width (linked_part (meanings nodes) p) ≤ 524256)
-  part_wide = (opened.bounds.0.0, opened.bounds.0.1)
+  module _ (w fx : ℕ) (is : w ≡ members_width (linked_part (meanings nodes) p)) (s : fx ≡ fx_width last (length (linked_parts (meanings nodes) later))) where
+    pub part_wide : w + fx ≤ 524264
+    part_wide = let le = opened.bounds.0.1 in omega (arith, is, s, le, fx_few last (length (linked_parts (meanings nodes) later)))
 
-  part_there : members_width (linked_part (meanings nodes) p) + 1 ≤ 8 * (length body - here)
-  part_there = by (le_or_less (members_width (linked_part (meanings nodes) p) + 1) (8 * (length body - here)))
-    where
-      by : (members_width (linked_part (meanings nodes) p) + 1 ≤ 8 * (length body - here)) ⊎ (8 * (length body - here) < members_width (linked_part (meanings nodes) p) + 1) → members_width (linked_part (meanings nodes) p) + 1 ≤ 8 * (length body - here)
-      by (inl le) = le
-      by (inr lt) = absurd (part_fits (linked_part (meanings nodes) p) (linked_parts (meanings nodes) later) body here lt opened.some)
+    part_there : w + fx ≤ 8 * (length body - here)
+    part_there = by (le_or_less (w + fx) (8 * (length body - here)))
+      where
+        by : (w + fx ≤ 8 * (length body - here)) ⊎ (8 * (length body - here) < w + fx) → w + fx ≤ 8 * (length body - here)
+        by (inl le) = le
+        by (inr lt) = absurd (part_fits last (linked_part (meanings nodes) p) (linked_parts (meanings nodes) later) body here (omega (arith, lt, is, s)) opened.some)
 
-  module _ (w : ℕ) (is : w ≡ members_width (linked_part (meanings nodes) p)) where
-    pub part_end : (here + (w + 1) / 8 ≤ length body) × (0 < (w + 1) / 8) × (w + 1 ≡ 8 * (here + (w + 1) / 8 - here))
+    pub part_end : (here + (w + fx) / 8 ≤ length body) × (0 < (w + fx) / 8) × (w + fx ≡ 8 * (here + (w + fx) / 8 - here))
     part_end =
-        let t : w + 1 ≤ 8 * (length body - here) = subst (λ w. w + 1 ≤ 8 * (length body - here)) (sym is) part_there in
-        let whole : (w + 1) % 8 ≡ 0 = subst (λ w. (w + 1) % 8 ≡ 0) (sym is) part_wide.0 in
+        let t = part_there in
+        let whole : (w + fx) % 8 ≡ 0 = ap (λ n. n % 8) (λ j. is j + s j) ∙ opened.bounds.0.0 in
+        let bit : 0 < w + fx = (let some = opened.bounds.0.3 in omega (arith, some, is, s)) in
         let le = h.within in
         (omega arith, omega arith, omega arith)
 
     pub part_room : 8 * here + members_width (linked_part (meanings nodes) p) ≤ 8 * length body
-    part_room = let t = part_there in let le = h.within in omega arith
+    part_room = let t = part_there in let le = h.within in omega (arith, t, le, is)
 
     module _ (vs : List Value) (new : List (List Value)) (n : new ≡ made ++ vs ∷ []) (value : values_tree vs ≡ members_value (linked_part (meanings nodes) p) (drop (8 * here) (bits body))) where
       values_are : value_list vs ≡ values_list (members_value (linked_part (meanings nodes) p) (drop (8 * here) (bits body)))
       values_are = sym (list_back (map value_tree vs)) ∙ ap values_list value
 
-      pub parts_end : get_or body (here + (w + 1) / 8 - 1) 0 % 2 ≡ 0 → part_values (lists_tree new) ≡ part_values (lists_in (value_in (extended (linked_parts (meanings nodes) all)) body))
-      parts_end fx =
+      pub parts_end : EndsParts body (here + (w + fx) / 8) fx → part_values (lists_tree new) ≡ part_values (lists_in (value_in (extended last (linked_parts (meanings nodes) all)) body))
+      parts_end ends =
           let t = part_end in
-          let last = last_part (linked_part (meanings nodes) p) (linked_parts (meanings nodes) later) body here (here + (w + 1) / 8) w (omega arith) t.0 is t.2 opened.some fx in
-          let done : map value_list new ≡ lists_list (lists_in (value_in (extended (linked_parts (meanings nodes) all)) body)) =
+          let final = last_part last (linked_part (meanings nodes) p) (linked_parts (meanings nodes) later) body here (here + (w + fx) / 8) w fx (omega arith) t.0 is s t.2 opened.some ends in
+          let done : map value_list new ≡ lists_list (lists_in (value_in (extended last (linked_parts (meanings nodes) all)) body)) =
           sym (append-nil (map value_list new)) ∙ ap (λ new. map value_list new ++ []) n ∙ maps_end value_list made vs []
-          ∙ (λ i. map value_list made ++ values_are i ∷ []) ∙ ap (λ ls. map value_list made ++ lists_list ls) (sym last) ∙ opened.same in
-          ap (λ ls. part_values ls) (ap lists_of done ∙ lists_back (lists_in (value_in (extended (linked_parts (meanings nodes) all)) body)))
+          ∙ (λ i. map value_list made ++ values_are i ∷ []) ∙ ap (λ ls. map value_list made ++ lists_list ls) (sym final) ∙ opened.same in
+          ap (λ ls. part_values ls) (ap lists_of done ∙ lists_back (lists_in (value_in (extended last (linked_parts (meanings nodes) all)) body)))
 
-      pub parts_next : get_or body (here + (w + 1) / 8 - 1) 0 % 2 ≡ 1 → PartsMade nodes all later body (here + (w + 1) / 8) new
-      parts_next fx =
+      pub parts_next : GoesOn body (here + (w + fx) / 8) fx → PartsMade nodes last all later body (here + (w + fx) / 8) new
+      parts_next on =
           let t = part_end in
-          let m = more_parts (linked_part (meanings nodes) p) (linked_parts (meanings nodes) later) body here (here + (w + 1) / 8) w (omega arith) t.0 is t.2 opened.some fx in record {
+          let end = here + (w + fx) / 8 in
+          let rest = lists_list (lists_found (parts_at last (linked_parts (meanings nodes) later) body end)) in
+          let m = more_parts last (linked_part (meanings nodes) p) (linked_parts (meanings nodes) later) body here end w fx (omega arith) t.0 is s t.2 opened.some on in record {
             within = t.0;
             links = opened.links.1;
             bounds = opened.bounds.1;
             some = m.all;
             few = let f = opened.few in let pos = t.1 in omega (arith, ap length n, length-append made (vs ∷ []));
-            same = ap (λ new. map value_list new ++ lists_list (lists_found (parts_at (linked_parts (meanings nodes) later) body (here + (w + 1) / 8)))) n
-                ∙ maps_end value_list made vs (lists_list (lists_found (parts_at (linked_parts (meanings nodes) later) body (here + (w + 1) / 8))))
-                ∙ (λ i. map value_list made ++ values_are i ∷ lists_list (lists_found (parts_at (linked_parts (meanings nodes) later) body (here + (w + 1) / 8))))
+            same = ap (λ new. map value_list new ++ rest) n ∙ maps_end value_list made vs rest ∙ (λ i. map value_list made ++ values_are i ∷ rest)
                 ∙ ap (λ ls. map value_list made ++ lists_list ls) (sym m.found) ∙ opened.same;
           }
 
-pub parts_never : (nodes : List Node) (all left body : List ℕ) (here : ℕ) (made : List (List Value)) → PartsMade nodes all left body here made → left ≡ [] → ⊥
-parts_never nodes all left body here made h e = parts_left_none body here (subst (λ left. IsAll (parts_at (linked_parts (meanings nodes) left) body here)) e h.some)
+pub parts_never : (nodes : List Node) (last : LastPart) (all left body : List ℕ) (here : ℕ) (made : List (List Value)) → PartsMade nodes last all left body here made → left ≡ [] → ⊥
+parts_never nodes last all left body here made h e = parts_left_none last body here (subst (λ left. IsAll (parts_at last (linked_parts (meanings nodes) left) body here)) e h.some)
 
 -- as the value
-pub parts_whole : (ps : List MembersTree) (body : List ℕ) (v : ValueTree) → IsOne (extended ps) body → v ≡ part_values (lists_in (value_in (extended ps) body)) → v ≡ value_in (extended ps) body
-parts_whole ps body v one e = e ∙ sym (is_parts ps body one)
+pub parts_whole : (last : LastPart) (ps : List MembersTree) (body : List ℕ) (v : ValueTree) → IsOne (extended last ps) body → v ≡ part_values (lists_in (value_in (extended last ps) body)) → v ≡ value_in (extended last ps) body
+parts_whole last ps body v one e = e ∙ sym (is_parts last ps body one)

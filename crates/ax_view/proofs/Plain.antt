@@ -1,10 +1,12 @@
 -- Kinds without a presence field have one spelling.
-use Rattle.std.proofs.Common.{◌≡◌, ℕ, ◌-◌, Bool, List, [], ◌∷◌, ◌++◌, take, drop, sym, ◌∙◌, ap}
-use Rattle.ax_bits.specs.Bits.{bits}
+use Rattle.std.proofs.Common.{◌≡◌, ℕ, ◌-◌, Bool, List, [], ◌∷◌, ◌++◌, length, take, drop, sym, ◌∙◌, ap}
+use Rattle.ax_bits.specs.Bits.{bits, word}
 use Rattle.ax_model.specs.Canonical.{number_canon, fixed_canon, members_canon, parts_canon, run_canon, canon}
 use Rattle.ax_model.specs.InBounds.{InBounds}
 use Rattle.ax_model.specs.Spelling.{NumberSpells, FixedSpells, MembersSpell, PartsSpell, RunSpells, Spells}
 use Rattle.ax_model.specs.Tree.{FixedTree, element, group, MembersTree, no_members, member_and, named, spare, KindTree, fixed, extended, counted, by_fx, explicit, compound, ValueTree, number, member_values, part_values, occurrences, content_octets, ValuesTree, no_values, value_and, ListsTree, no_lists, list_and}
+use Rattle.ax_model.specs.Widths.{fx_width}
+use Rattle.ax_model.specs.declared.kind.LastPart.{LastPart}
 use Rattle.ax_reader.proofs.AtOctets.{octets_parts}
 use Rattle.ax_reader.proofs.Exact.{spelled_at}
 use Rattle.ax_reader.specs.Reading.{Gets, kind_read}
@@ -29,11 +31,11 @@ mutual
   members_is (member_and (spare w) ms) no_values b h = absurd h
   members_is (member_and (spare w) ms) (value_and v vs) b (x, y, e, h, t) = (λ i. number_is w v x h i ++ members_is ms vs y t i) ∙ sym e
 
-parts_are : (ps : List MembersTree) (ls : ListsTree) (b : List ℕ) → PartsSpell ps ls b → parts_canon ps ls ≡ b
-parts_are ps no_lists b h = absurd h
-parts_are [] (list_and vs ls) b h = absurd h
-parts_are (p ∷ ps) (list_and vs no_lists) b (x, e, h) = ap (λ x. x ++ 0 ∷ []) (members_is p vs x h) ∙ sym e
-parts_are (p ∷ ps) (list_and vs (list_and ws ls)) b (x, y, e, h, t) = (λ i. members_is p vs x h i ++ 1 ∷ parts_are ps (list_and ws ls) y t i) ∙ sym e
+parts_are : (last : LastPart) (ps : List MembersTree) (ls : ListsTree) (b : List ℕ) → PartsSpell last ps ls b → parts_canon last ps ls ≡ b
+parts_are last ps no_lists b h = absurd h
+parts_are last [] (list_and vs ls) b h = absurd h
+parts_are last (p ∷ ps) (list_and vs no_lists) b (x, e, h) = ap (λ x. x ++ word (fx_width last (length ps)) 0) (members_is p vs x h) ∙ sym e
+parts_are last (p ∷ ps) (list_and vs (list_and ws ls)) b (x, y, e, h, t) = (λ i. members_is p vs x h i ++ 1 ∷ parts_are last ps (list_and ws ls) y t i) ∙ sym e
 
 run_is : (f : FixedTree) (vs : ValuesTree) (b : List ℕ) → RunSpells f vs b → run_canon f vs ≡ b
 run_is f no_values b h = absurd h
@@ -42,9 +44,9 @@ run_is f (value_and v (value_and w vs)) b (x, y, e, h, t) = (λ i. fixed_is f v 
 
 pub plain_is : (k : KindTree) (v : ValueTree) (b : List ℕ) → IsPlain k → Spells k v b → canon k v ≡ b
 plain_is (fixed f) v b plain h = fixed_is f v b h
-plain_is (extended ps) (part_values ls) b plain h = parts_are ps ls b h
-plain_is (extended ps) _ b plain h = absurd h
-plain_is (counted k) v b plain h = absurd plain
+plain_is (extended last ps) (part_values ls) b plain h = parts_are last ps ls b h
+plain_is (extended last ps) _ b plain h = absurd h
+plain_is (counted size k) v b plain h = absurd plain
 plain_is (by_fx f) (occurrences vs) b plain h = run_is f vs b h
 plain_is (by_fx f) _ b plain h = absurd h
 plain_is explicit (content_octets xs) b plain (few, octets, e) = sym e

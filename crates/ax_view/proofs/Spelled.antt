@@ -88,8 +88,8 @@ pub item_spells : (fx : Bool) (k : KindTree) (xs : List ℕ) → ItemInBounds fx
 unfolding value_in
 item_spells false k xs bounds one = record { spells = all_spelled k xs bounds (read k (bits xs)) refl one.all }
 item_spells true (fixed f) xs bounds one = with_fx f xs one.fits
-item_spells true (extended ps) xs bounds one = absurd bounds
-item_spells true (counted k) xs bounds one = absurd bounds
+item_spells true (extended last ps) xs bounds one = absurd bounds
+item_spells true (counted size k) xs bounds one = absurd bounds
 item_spells true (by_fx f) xs bounds one = absurd bounds
 item_spells true explicit xs bounds one = absurd bounds
 item_spells true (compound ss) xs bounds one = absurd bounds

@@ -3,7 +3,7 @@ use Rattle.std.specs.Prelude.{ℕ, Bool, false, List, map}
 use Rattle.ax_tables.specs.Meaning.{meanings, linked_parts}
 use Rattle.ax_tables.specs.Table.{kind_at, record_kind_at}
 use Rattle.ax_tables.specs.declared.codec.Codec.{Codec}
-use Rattle.ax_view.specs.Pieces.{pieces, part_pieces, part_size}
+use Rattle.ax_view.specs.Pieces.{pieces, part_pieces, part_sizes}
 use Rattle.ax_view.specs.declared.item.ItemView.{ItemView}
 use Rattle.ax_view.specs.declared.occurrences.Occurrences.{Occurrences}
 use Rattle.ax_view.specs.declared.parts.PartSlices.{PartSlices}
@@ -19,7 +19,7 @@ records_left it = map (λ octets. (it.codec.now, octets)) (pieces false (record_
 
 -- the octets of the parts of an item
 abbrev pub parts_left : PartSlices → List (List ℕ)
-parts_left it = part_pieces (map part_size (linked_parts (meanings it.codec.now.nodes) it.links.now)) it.left.now
+parts_left it = part_pieces (part_sizes it.last (linked_parts (meanings it.codec.now.nodes) it.links.now)) it.left.now
 
 -- an occurrence's codec, the link of its node, whether it is one by FX, and its octets
 abbrev pub Occurrence : Type 0

@@ -1,14 +1,14 @@
 -- Octets of values that stand one after the other.
-use Rattle.std.specs.Prelude.{◌≡◌, ℕ, zero, suc, ◌+◌, ◌/◌, ◌<◌, ◌≤◌, Bool, true, false, List, [], ◌∷◌, length, map, take, drop}
-use Rattle.std.specs.List.{AllByRecursion, AllByRecursion-prop}
+use Rattle.std.specs.Prelude.{◌≡◌, ℕ, zero, suc, ◌+◌, ◌/◌, ◌<◌, ◌≤◌, Bool, true, false, List, [], ◌∷◌, length, take, drop}
 use Rattle.std.specs.Coded.{Coded-set, coded_ℕ, coded_list, le_prop, Unit-prop}
 use Rattle.ax_bits.specs.Bits.{bits}
-use Rattle.ax_model.specs.InBounds.{PartInBounds}
+use Rattle.ax_model.specs.InBounds.{PartsInBounds}
 use Rattle.ax_model.specs.Reader.{Read, got, failed, read}
 use Rattle.ax_model.specs.Sizes.{longest_body}
 use Rattle.ax_model.specs.Tree.{MembersTree, KindTree, fixed, extended, counted, by_fx, explicit, compound, ValueTree}
-use Rattle.ax_model.specs.Widths.{width, members_width}
-use Rattle.ax_tables.specs.Facts.{links_prop, part_bounds_prop}
+use Rattle.ax_model.specs.Widths.{width, members_width, fx_width}
+use Rattle.ax_model.specs.declared.kind.LastPart.{LastPart}
+use Rattle.ax_tables.specs.Facts.{links_prop, parts_bounds_prop}
 use Rattle.ax_tables.specs.Meaning.{meanings, linked_parts}
 use Rattle.ax_tables.specs.Table.{LinksWithin, kind_at}
 use Rattle.ax_tables.specs.declared.codec.Codec.{Codec}
@@ -23,8 +23,8 @@ octets_taken (failed p c) = 0
 abbrev pub first_size : Bool → KindTree → List ℕ → ℕ
 first_size false k xs = octets_taken (read k (bits xs))
 first_size true (fixed f) xs = (width f + 1) / 8
-first_size true (extended ps) xs = 0
-first_size true (counted k) xs = 0
+first_size true (extended last ps) xs = 0
+first_size true (counted size k) xs = 0
 first_size true (by_fx f) xs = 0
 first_size true explicit xs = 0
 first_size true (compound ss) xs = 0
@@ -62,22 +62,26 @@ ArePartPieces-prop [] xs = Coded-set (coded_list coded_ℕ) xs []
 ArePartPieces-prop (n ∷ sizes) [] = Unit-prop
 ArePartPieces-prop (n ∷ sizes) (x ∷ xs) = λ a b. λ i. (le_prop a.0 b.0 i, le_prop a.1 b.1 i, ArePartPieces-prop sizes (drop n (x ∷ xs)) a.2 b.2 i)
 
--- a part's octets, with its FX bit
-abbrev pub part_size : MembersTree → ℕ
-part_size p = (members_width p + 1) / 8
+-- a part's octets, with its FX bits
+abbrev pub part_size : ℕ → MembersTree → ℕ
+part_size fx p = (members_width p + fx) / 8
+
+abbrev pub part_sizes : LastPart → List MembersTree → List ℕ
+part_sizes last [] = []
+part_sizes last (p ∷ ps) = part_size (fx_width last (length ps)) p ∷ part_sizes last ps
 
 -- octets of the parts that these links lead to, from one of them on
-pub record ArePartsLeft (nodes : List Node) (links octets : List ℕ) : Type 0 where
+pub record ArePartsLeft (nodes : List Node) (last : LastPart) (links octets : List ℕ) : Type 0 where
   pub links_within : LinksWithin (length nodes) links
-  pub bounds : AllByRecursion PartInBounds (linked_parts (meanings nodes) links)
-  pub pieces_are : ArePartPieces (map part_size (linked_parts (meanings nodes) links)) octets
+  pub bounds : PartsInBounds last (linked_parts (meanings nodes) links)
+  pub pieces_are : ArePartPieces (part_sizes last (linked_parts (meanings nodes) links)) octets
   pub few : length octets ≤ longest_body
 
-pub ArePartsLeft-prop : (nodes : List Node) (links octets : List ℕ) → IsProp (ArePartsLeft nodes links octets)
-ArePartsLeft-prop nodes links octets a b = λ i. record {
+pub ArePartsLeft-prop : (nodes : List Node) (last : LastPart) (links octets : List ℕ) → IsProp (ArePartsLeft nodes last links octets)
+ArePartsLeft-prop nodes last links octets a b = λ i. record {
   links_within = links_prop (length nodes) links a.links_within b.links_within i;
-  bounds = AllByRecursion-prop PartInBounds part_bounds_prop (linked_parts (meanings nodes) links) a.bounds b.bounds i;
-  pieces_are = ArePartPieces-prop (map part_size (linked_parts (meanings nodes) links)) octets a.pieces_are b.pieces_are i;
+  bounds = parts_bounds_prop last (linked_parts (meanings nodes) links) a.bounds b.bounds i;
+  pieces_are = ArePartPieces-prop (part_sizes last (linked_parts (meanings nodes) links)) octets a.pieces_are b.pieces_are i;
   few = le_prop a.few b.few i;
 }
 
@@ -89,7 +93,7 @@ pub record AreOccurrencesLeft (codec : Codec) (link : ℕ) (fx : Bool) (count : 
   pub within : link ≤ length codec.nodes
   pub bounds : ItemInBounds fx (kind_at codec.nodes link)
   pub pieces_are : ArePieces fx (kind_at codec.nodes link) count octets
-  pub count_few : count ≤ longest_body
+  pub count_few : count < 65536
   pub few : length octets ≤ longest_body
 
 pub AreOccurrencesLeft-prop : (codec : Codec) (link : ℕ) (fx : Bool) (count : ℕ) (octets : List ℕ) → IsProp (AreOccurrencesLeft codec link fx count octets)

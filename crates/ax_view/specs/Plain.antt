@@ -4,8 +4,8 @@ use Rattle.ax_model.specs.Tree.{KindTree, fixed, extended, counted, by_fx, expli
 -- a kind without a presence field at any depth
 abbrev pub IsPlain : KindTree → Type 0
 IsPlain (fixed f) = Unit {0}
-IsPlain (extended ps) = Unit {0}
-IsPlain (counted k) = ⊥
+IsPlain (extended last ps) = Unit {0}
+IsPlain (counted size k) = ⊥
 IsPlain (by_fx f) = Unit {0}
 IsPlain explicit = Unit {0}
 IsPlain (compound ss) = ⊥

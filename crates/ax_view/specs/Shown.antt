@@ -1,9 +1,11 @@
 -- What the views of records and items stand for.
-use Rattle.std.specs.Prelude.{◌≡◌, ℕ, ◌-◌, Bool, true, false, List, [], ◌∷◌, ◌++◌, drop, map, flat_map, get_or, Option, Some, None}
-use Rattle.ax_bits.specs.Bits.{bits}
+use Rattle.std.specs.Prelude.{◌≡◌, ℕ, ◌-◌, Bool, true, false, List, [], ◌∷◌, ◌++◌, length, drop, map, flat_map, get_or, Option, Some, None}
+use Rattle.ax_bits.specs.Bits.{bits, word}
 use Rattle.ax_fspec.specs.declared.mask.SlotMask.{SlotMask}
 use Rattle.ax_model.specs.Spelling.{MembersSpell, Spells, IsSpelling}
 use Rattle.ax_model.specs.Tree.{MembersTree, KindTree, fixed, extended, counted, by_fx, explicit, compound, ValueTree, occurrences, content_octets, ValuesTree, no_values, value_and, ListsTree, no_lists, list_and, EntriesTree}
+use Rattle.ax_model.specs.Widths.{counter_octets, fx_width}
+use Rattle.ax_model.specs.declared.kind.LastPart.{LastPart}
 use Rattle.ax_tables.specs.Table.{kind_at, record_kind_at}
 use Rattle.ax_tables.specs.declared.codec.Codec.{Codec}
 use Rattle.ax_tables.specs.declared.node.Node.{Node}
@@ -66,24 +68,24 @@ pub record IsSubitem (outer : ItemView) (slot : ℕ) (item : ItemView) : Type 0 
 
 -- ---- parts
 
--- the FX bit of a part before these
-abbrev pub fx_before : ListsTree → ℕ
-fx_before no_lists = 0
-fx_before (list_and vs ls) = 1
+-- the FX of a part before these: 1 where another is present, and else so many bits 0
+abbrev pub fx_before : ℕ → ListsTree → List ℕ
+fx_before fx no_lists = word fx 0
+fx_before fx (list_and vs ls) = 1 ∷ []
 
--- the octets of each part present spell its members and then its FX bit
-abbrev pub PartsAre : List MembersTree → ListsTree → List (List ℕ) → Type 0
-PartsAre ps no_lists [] = Unit {0}
-PartsAre ps no_lists (octets ∷ slices) = ⊥
-PartsAre [] (list_and vs ls) slices = ⊥
-PartsAre (p ∷ ps) (list_and vs ls) [] = ⊥
-PartsAre (p ∷ ps) (list_and vs ls) (octets ∷ slices) = ((x : List ℕ) × MembersSpell p vs x × (bits octets ≡ x ++ fx_before ls ∷ [])) × PartsAre ps ls slices
+-- the octets of each part present spell its members and then its FX bit, where the part has one
+abbrev pub PartsAre : LastPart → List MembersTree → ListsTree → List (List ℕ) → Type 0
+PartsAre last ps no_lists [] = Unit {0}
+PartsAre last ps no_lists (octets ∷ slices) = ⊥
+PartsAre last [] (list_and vs ls) slices = ⊥
+PartsAre last (p ∷ ps) (list_and vs ls) [] = ⊥
+PartsAre last (p ∷ ps) (list_and vs ls) (octets ∷ slices) = ((x : List ℕ) × MembersSpell p vs x × (bits octets ≡ x ++ fx_before (fx_width last (length ps)) ls)) × PartsAre last ps ls slices
 
 -- a slice for each part that is present, in order, which join to the item's octets; no slice for another kind
 abbrev pub ArePartsOf : KindTree → ValueTree → List ℕ → List (List ℕ) → Type 0
-ArePartsOf (extended ps) v octets slices = PartsAre ps (lists_in v) slices × (flat_map (λ x. x) slices ≡ octets)
+ArePartsOf (extended last ps) v octets slices = PartsAre last ps (lists_in v) slices × (flat_map (λ x. x) slices ≡ octets)
 ArePartsOf (fixed f) v octets slices = slices ≡ []
-ArePartsOf (counted k) v octets slices = slices ≡ []
+ArePartsOf (counted size k) v octets slices = slices ≡ []
 ArePartsOf (by_fx f) v octets slices = slices ≡ []
 ArePartsOf explicit v octets slices = slices ≡ []
 ArePartsOf (compound ss) v octets slices = slices ≡ []
@@ -108,14 +110,14 @@ pub record AreOccurrences (codec : Codec) (inner : ℕ) (fx : Bool) (octets : Li
   pub have : map (value_in (kind_at codec.nodes inner)) slices ≡ values
   pub joined : flat_map (λ x. x) slices ≡ octets
 
--- of a counted item after its counter, of an item by FX from its first octet on; of another kind none
+-- of a counted or wide item after its counter, of an item by FX from its first octet on; of another kind none
 abbrev pub OccurrencesBy : Node → ItemView → List Occurrence → Type 0
-OccurrencesBy (Of.Counted inner) outer shown = AreOccurrences outer.codec.now inner false (drop 1 outer.body.now) (occurrences_in (item_value outer)) shown
+OccurrencesBy (Of.Counted size inner) outer shown = AreOccurrences outer.codec.now inner false (drop (counter_octets size) outer.body.now) (occurrences_in (item_value outer)) shown
 OccurrencesBy (Of.ByFx inner) outer shown = AreOccurrences outer.codec.now inner true outer.body.now (occurrences_in (item_value outer)) shown
 OccurrencesBy (Of.Element w) outer shown = shown ≡ []
 OccurrencesBy (Of.Group w links) outer shown = shown ≡ []
 OccurrencesBy (Of.Part w links) outer shown = shown ≡ []
-OccurrencesBy (Of.Extended links) outer shown = shown ≡ []
+OccurrencesBy (Of.Extended last links) outer shown = shown ≡ []
 OccurrencesBy Of.Explicit outer shown = shown ≡ []
 OccurrencesBy (Of.Compound mask links) outer shown = shown ≡ []
 

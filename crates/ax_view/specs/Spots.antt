@@ -7,6 +7,7 @@ use Rattle.ax_model.specs.Reader.{fixed_value, members_value}
 use Rattle.ax_model.specs.Sizes.{longest_body}
 use Rattle.ax_model.specs.Tree.{FixedTree, MembersTree, extended, ValueTree, no_values, part_values, ListsTree, no_lists}
 use Rattle.ax_model.specs.Widths.{width, members_width}
+use Rattle.ax_model.specs.declared.kind.LastPart.{LastPart}
 use Rattle.ax_tables.specs.Meaning.{meanings, linked, fixed_of, part_of}
 use Rattle.ax_tables.specs.declared.node.Node.{Node}
 use Rattle.ax_view.specs.Values.{value_in}
@@ -34,16 +35,16 @@ lists_in (part_values ls) = ls
 lists_in _ = no_lists
 
 -- the part was found: the link of its node, and the bit at which its members begin
-pub record FindsPart (nodes : List Node) (parts : List MembersTree) (body : List ℕ) (i link bit : ℕ) : Type 0 where
+pub record FindsPart (nodes : List Node) (last : LastPart) (parts : List MembersTree) (body : List ℕ) (i link bit : ℕ) : Type 0 where
   pub some : 0 < link
   pub within : link ≤ length nodes
   pub bounds : MembersInBounds (part_of (linked (meanings nodes) link))
   pub room : bit + members_width (part_of (linked (meanings nodes) link)) ≤ 8 * length body
-  pub value : nth_list i (lists_in (value_in (extended parts) body)) ≡ members_value (part_of (linked (meanings nodes) link)) (drop bit (bits body))
+  pub value : nth_list i (lists_in (value_in (extended last parts) body)) ≡ members_value (part_of (linked (meanings nodes) link)) (drop bit (bits body))
 
 -- the part isn't present
-pub record FindsNoPart (parts : List MembersTree) (body : List ℕ) (i : ℕ) : Type 0 where
-  pub none : nth_list i (lists_in (value_in (extended parts) body)) ≡ no_values
+pub record FindsNoPart (last : LastPart) (parts : List MembersTree) (body : List ℕ) (i : ℕ) : Type 0 where
+  pub none : nth_list i (lists_in (value_in (extended last parts) body)) ≡ no_values
 
 -- ---- fixed kinds, by steps
 

@@ -44,16 +44,16 @@ pub record IsOne (k : KindTree) (octets : List ℕ) : Type 0 where
 -- the octets are those of a value of a fixed kind and its FX bit
 abbrev pub FitsWithFx : KindTree → List ℕ → Type 0
 FitsWithFx (fixed f) octets = width f + 1 ≡ 8 * length octets
-FitsWithFx (extended ps) octets = ⊥
-FitsWithFx (counted k) octets = ⊥
+FitsWithFx (extended last ps) octets = ⊥
+FitsWithFx (counted size k) octets = ⊥
 FitsWithFx (by_fx f) octets = ⊥
 FitsWithFx explicit octets = ⊥
 FitsWithFx (compound ss) octets = ⊥
 
 FitsWithFx-prop : (k : KindTree) (octets : List ℕ) → IsProp (FitsWithFx k octets)
 FitsWithFx-prop (fixed f) octets = Coded-set coded_ℕ (width f + 1) (8 * length octets)
-FitsWithFx-prop (extended ps) octets = λ a b. absurd a
-FitsWithFx-prop (counted k) octets = λ a b. absurd a
+FitsWithFx-prop (extended last ps) octets = λ a b. absurd a
+FitsWithFx-prop (counted size k) octets = λ a b. absurd a
 FitsWithFx-prop (by_fx f) octets = λ a b. absurd a
 FitsWithFx-prop explicit octets = λ a b. absurd a
 FitsWithFx-prop (compound ss) octets = λ a b. absurd a
@@ -81,8 +81,8 @@ IsRecord-prop codec octets = IsOne-prop (record_kind_at codec.nodes codec.slots)
 abbrev pub ItemInBounds : Bool → KindTree → Type 0
 ItemInBounds false k = InBounds k
 ItemInBounds true (fixed f) = InBounds (by_fx f)
-ItemInBounds true (extended ps) = ⊥
-ItemInBounds true (counted k) = ⊥
+ItemInBounds true (extended last ps) = ⊥
+ItemInBounds true (counted size k) = ⊥
 ItemInBounds true (by_fx f) = ⊥
 ItemInBounds true explicit = ⊥
 ItemInBounds true (compound ss) = ⊥
@@ -90,8 +90,8 @@ ItemInBounds true (compound ss) = ⊥
 pub ItemInBounds-prop : (fx : Bool) (k : KindTree) → IsProp (ItemInBounds fx k)
 ItemInBounds-prop false k = bounds_prop k
 ItemInBounds-prop true (fixed f) = bounds_prop (by_fx f)
-ItemInBounds-prop true (extended ps) = λ a b. absurd a
-ItemInBounds-prop true (counted k) = λ a b. absurd a
+ItemInBounds-prop true (extended last ps) = λ a b. absurd a
+ItemInBounds-prop true (counted size k) = λ a b. absurd a
 ItemInBounds-prop true (by_fx f) = λ a b. absurd a
 ItemInBounds-prop true explicit = λ a b. absurd a
 ItemInBounds-prop true (compound ss) = λ a b. absurd a

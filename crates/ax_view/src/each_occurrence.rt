@@ -1,8 +1,9 @@
-//! The next occurrence of a counted or by-FX item.
+//! The next occurrence of a counted, wide or by-FX item.
 ghost use Rattle.std.specs.Prelude.{◌≡◌, ◌≢◌, ◌<◌, ◌≤◌, true, false, [], length, drop, Some};
 ghost use Rattle.std.specs.Iterator.{YieldsFirstBy, item_count};
 ghost use Rattle.ax_model.specs.InBounds.{InBounds};
 ghost use Rattle.ax_model.specs.Tree.{counted, by_fx};
+ghost use Rattle.ax_model.specs.Widths.{counter_octets};
 ghost use Rattle.ax_tables.specs.Meaning.{meanings, linked, fixed_of};
 ghost use Rattle.ax_tables.specs.Table.{kind_at};
 ghost use Rattle.ax_view.specs.Left.{occurrence_shown, occurrences_left};
@@ -16,22 +17,32 @@ use crate::notes::Notes;
 use crate::occurrences::Occurrences;
 use crate::units::fixed_width;
 use crate::windows::{first_octets, octets_from};
+use ax_model::Counter;
+use ax_reader::count_at;
 use ax_tables::Codec;
 
 impl<'c, 'a> Occurrences<'c, 'a> {
-    /// The occurrences of a counted item, after the octet with their number.
-    pub(crate) fn counted(codec: &'c Codec, inner: u32, body: &'a [u8]) -> Occurrences<'c, 'a>
+    /// The occurrences of a counted or wide item, after the counter.
+    pub(crate) fn counted(
+        codec: &'c Codec,
+        size: Counter,
+        inner: u32,
+        body: &'a [u8],
+    ) -> Occurrences<'c, 'a>
         requires link { (0 < inner) × (inner ≤ length codec.now.nodes) }
         requires bounds { InBounds (kind_at codec.now.nodes inner) }
-        requires one { IsOne (counted (kind_at codec.now.nodes inner)) body.now }
-        ensures { AreOccurrences codec.now inner false (drop 1 body.now) (occurrences_in (value_in (counted (kind_at codec.now.nodes inner)) body.now)) (occurrences_left result) }
+        requires one { IsOne (counted size (kind_at codec.now.nodes inner)) body.now }
+        ensures { AreOccurrences codec.now inner false (drop (counter_octets size) body.now) (occurrences_in (value_in (counted size (kind_at codec.now.nodes inner)) body.now)) (occurrences_left result) }
     {
+        let Some(count) = count_at(body, 0, size) else {
+            return Occurrences::none(codec, inner, false);
+        };
         Occurrences {
             codec,
             link: inner,
             by_fx: false,
-            count: body[0] as u32,
-            left: octets_from(body, 1),
+            count,
+            left: octets_from(body, size.octets()),
         }
     }
 

@@ -1,24 +1,31 @@
-//! The next part of an extended item.
-ghost use Rattle.std.specs.Prelude.{◌≡◌, map};
+//! The next part of an extended or closed item.
+ghost use Rattle.std.specs.Prelude.{◌≡◌};
 ghost use Rattle.std.specs.Iterator.{YieldsFirstRef, item_count};
 ghost use Rattle.ax_tables.specs.Meaning.{meanings, linked_parts};
 ghost use Rattle.ax_view.specs.Left.{parts_left};
-ghost use Rattle.ax_view.specs.Pieces.{ArePartsLeft, part_pieces, part_size};
+ghost use Rattle.ax_view.specs.Pieces.{ArePartsLeft, part_pieces, part_sizes};
 
 use crate::parts::PartSlices;
 use crate::units::part_width;
 use crate::windows::{first_octets, octets_from};
+use ax_model::LastPart;
 use ax_tables::Codec;
 
 impl<'c, 'a> PartSlices<'c, 'a> {
     /// The parts that these links lead to, as far as the octets go.
     #[inline]
-    pub(crate) fn of(codec: &'c Codec, links: &'c [u32], octets: &'a [u8]) -> PartSlices<'c, 'a>
-        requires { ArePartsLeft codec.now.nodes links.now octets.now }
-        ensures { parts_left result ≡ part_pieces (map part_size (linked_parts (meanings codec.now.nodes) links.now)) octets.now }
+    pub(crate) fn of(
+        codec: &'c Codec,
+        last: LastPart,
+        links: &'c [u32],
+        octets: &'a [u8],
+    ) -> PartSlices<'c, 'a>
+        requires { ArePartsLeft codec.now.nodes last links.now octets.now }
+        ensures { parts_left result ≡ part_pieces (part_sizes last (linked_parts (meanings codec.now.nodes) links.now)) octets.now }
     {
         PartSlices {
             codec,
+            last,
             links,
             left: octets,
         }
@@ -40,10 +47,12 @@ impl<'c, 'a> Iterator for PartSlices<'c, 'a> {
         let Some((part, later)) = self.links.split_first() else {
             return None;
         };
-        let size = (part_width(self.codec.nodes.as_slice(), *part) + 1) / 8;
+        let fx = self.last.fx_width(later.len());
+        let size = (part_width(self.codec.nodes.as_slice(), *part) + fx) / 8;
         let slice = first_octets(self.left, size);
         *self = PartSlices {
             codec: self.codec,
+            last: self.last,
             links: later,
             left: octets_from(self.left, size),
         };

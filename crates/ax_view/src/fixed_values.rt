@@ -12,10 +12,9 @@ ghost use Rattle.ax_tables.specs.Meaning.{meanings, linked, fixed_of, part_of, l
 ghost use Rattle.ax_tables.specs.Table.{IsTable, LinksWithin};
 ghost use Rattle.ax_view.specs.Values.{IsOne, value_in};
 
-use crate::units::{fixed_width, part_width};
+use crate::units::{fixed_width, is_last_part, part_width};
 use ax_bits::bits_at;
-use ax_model::{Lists, Value, Values};
-use ax_reader::ends_with_fx;
+use ax_model::{LastPart, Lists, Value, Values};
 use ax_tables::Node;
 use std::alloc::{AllocError, Global};
 
@@ -97,27 +96,29 @@ fn part_to_values(
     }
 }
 
-/// The lists of the parts of an extended item that are present.
+/// The lists of the parts of an extended or closed item that are present.
 pub(crate) fn parts_to_lists(
     alloc: Global,
     nodes: &[Node],
+    last: LastPart,
     parts: &[u32],
     body: &[u8],
 ) -> Result<Lists, AllocError>
     requires table { IsTable nodes.now }
     requires links { LinksWithin (length nodes.now) parts.now }
-    requires bounds { InBounds (Tree.extended (linked_parts (meanings nodes.now) parts.now)) }
-    requires one { IsOne (Tree.extended (linked_parts (meanings nodes.now) parts.now)) body.now }
-    ensures { IfOk result (λ lists. Tree.part_values (lists_tree lists) ≡ value_in (Tree.extended (linked_parts (meanings nodes.now) parts.now)) body.now) }
+    requires bounds { InBounds (Tree.extended last (linked_parts (meanings nodes.now) parts.now)) }
+    requires one { IsOne (Tree.extended last (linked_parts (meanings nodes.now) parts.now)) body.now }
+    ensures { IfOk result (λ lists. Tree.part_values (lists_tree lists) ≡ value_in (Tree.extended last (linked_parts (meanings nodes.now) parts.now)) body.now) }
 {
     let mut made = Lists::new(alloc);
     let mut left = parts;
     let mut here = 0;
     while let Some((part, later)) = left.split_first() {
-        let end = here + (part_width(nodes, *part) + 1) / 8;
+        let fx = last.fx_width(later.len());
+        let end = here + (part_width(nodes, *part) + fx) / 8;
         let values = part_to_values(alloc, nodes, *part, 8 * here, body)?;
         made.push(values)?;
-        if !ends_with_fx(body, end - 1) {
+        if is_last_part(body, end, fx) {
             return Ok(made);
         }
         left = later;

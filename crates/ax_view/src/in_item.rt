@@ -11,6 +11,7 @@ use crate::finding::find;
 use crate::item::ItemView;
 use crate::occurrences::Occurrences;
 use crate::parts::PartSlices;
+use ax_model::LastPart;
 use ax_tables::Node;
 
 impl<'c, 'a> ItemView<'c, 'a> {
@@ -45,24 +46,28 @@ impl<'c, 'a> ItemView<'c, 'a> {
         }
     }
 
-    /// The parts of an extended item that are present, in order: the octets of each, with its FX bit. None for another
-    /// kind.
+    /// The parts of an extended or closed item that are present, in order: the octets of each, with its FX bit where the
+    /// part has one. None for another kind.
     pub fn parts(&self) -> PartSlices<'c, 'a>
         ensures { IsParts self.now (parts_left result) }
     {
         match self.node() {
-            Node::Extended { parts } => { PartSlices::of(self.codec, parts.as_slice(), self.body) }
-            _ => PartSlices::of(self.codec, &[], &[]),
+            Node::Extended { last, parts } => {
+                PartSlices::of(self.codec, *last, parts.as_slice(), self.body)
+            }
+            _ => PartSlices::of(self.codec, LastPart::WithFx, &[], &[]),
         }
     }
 
-    /// The occurrences of a counted or by-FX item, in order, each of its octets alone; one by FX has its FX bit too. None
-    /// for another kind.
+    /// The occurrences of a counted, wide or by-FX item, in order, each of its octets alone; one by FX has its FX bit too.
+    /// None for another kind.
     pub fn occurrences(&self) -> Occurrences<'c, 'a>
         ensures { IsOccurrences self.now (occurrences_left result) }
     {
         match self.node() {
-            Node::Counted { inner } => Occurrences::counted(self.codec, *inner, self.body),
+            Node::Counted { counter, inner } => {
+                Occurrences::counted(self.codec, *counter, *inner, self.body)
+            }
             Node::ByFx { inner } => Occurrences::by_fx(self.codec, *inner, self.body),
             _ => Occurrences::none(self.codec, self.link, self.by_fx),
         }

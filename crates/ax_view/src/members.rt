@@ -1,4 +1,4 @@
-//! Members of groups and parts, and parts of extended items, by their numbers.
+//! Members of groups and parts, and parts of extended and closed items, by their numbers.
 ghost use Rattle.std.specs.Prelude.{◌≡◌, ◌+◌, ◌-◌, ◌*◌, ◌<◌, ◌≤◌, length, drop, IfSome, IfNone};
 ghost use Rattle.ax_bits.specs.Bits.{bits};
 ghost use Rattle.ax_model.specs.Reader.{fixed_value};
@@ -12,8 +12,8 @@ ghost use Rattle.ax_view.specs.Spots.{FindsMember, FindsNone, FindsPart, FindsNo
 ghost use Rattle.ax_view.specs.Values.{IsOne};
 
 use crate::notes::Notes;
-use crate::units::{fixed_width, part_width, run};
-use ax_reader::ends_with_fx;
+use crate::units::{fixed_width, is_last_part, part_width, run};
+use ax_model::LastPart;
 use ax_tables::Node;
 
 /// The link of a member, and the bit at which it begins. None comes exactly where there is no such member.
@@ -62,29 +62,31 @@ pub(crate) fn part_member(nodes: &[Node], link: u32, at: u32, index: u32) -> Opt
 /// The link of a part, and the bit at which it begins. None comes exactly where it isn't present.
 pub(crate) fn find_part(
     nodes: &[Node],
+    last: LastPart,
     parts: &[u32],
     body: &[u8],
     index: u32,
 ) -> Option<(u32, u32)>
     requires table { IsTable nodes.now }
     requires links { LinksWithin (length nodes.now) parts.now }
-    requires bounds { InBounds (Tree.extended (linked_parts (meanings nodes.now) parts.now)) }
-    requires one { IsOne (Tree.extended (linked_parts (meanings nodes.now) parts.now)) body.now }
-    ensures found { IfSome result (λ r. FindsPart nodes.now (linked_parts (meanings nodes.now) parts.now) body.now index r.0 r.1) }
-    ensures none { IfNone result (FindsNoPart (linked_parts (meanings nodes.now) parts.now) body.now index) }
+    requires bounds { InBounds (Tree.extended last (linked_parts (meanings nodes.now) parts.now)) }
+    requires one { IsOne (Tree.extended last (linked_parts (meanings nodes.now) parts.now)) body.now }
+    ensures found { IfSome result (λ r. FindsPart nodes.now last (linked_parts (meanings nodes.now) parts.now) body.now index r.0 r.1) }
+    ensures none { IfNone result (FindsNoPart last (linked_parts (meanings nodes.now) parts.now) body.now index) }
 {
     let mut notes = Notes::new();
     let mut left = parts;
     let mut here = 0;
     let mut number = index;
     while let Some((part, later)) = left.split_first() {
-        let Some(end) = run(body, here, part_width(nodes, *part) + 1, &mut notes) else {
+        let fx = last.fx_width(later.len());
+        let Some(end) = run(body, here, part_width(nodes, *part) + fx, &mut notes) else {
             return None;
         };
         if number == 0 {
             return Some((*part, 8 * here));
         }
-        if !ends_with_fx(body, end - 1) {
+        if is_last_part(body, end, fx) {
             return None;
         }
         number -= 1;

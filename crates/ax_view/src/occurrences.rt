@@ -1,4 +1,4 @@
-//! The occurrences of a counted or by-FX item.
+//! The occurrences of a counted, wide or by-FX item.
 ghost use Rattle.ax_view.specs.Pieces.{AreOccurrencesLeft, AreOccurrencesLeft-prop};
 
 use ax_tables::Codec;

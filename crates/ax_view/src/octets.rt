@@ -17,8 +17,8 @@ ghost use Rattle.ax_view.specs.Walking.{Walks, along, NeedsLast};
 use crate::notes::{Notes, fail};
 use crate::units::{run, walk_explicit, walk_parts, walk_run};
 use ax_fspec::{Presence, SlotMask, read_presence};
-use ax_model::BodyCause;
-use ax_reader::run_end;
+use ax_model::{BodyCause, Counter};
+use ax_reader::{count_at, run_end};
 use ax_tables::{Codec, Node};
 
 /// The octet after the record that begins at octet `at`.
@@ -107,7 +107,7 @@ fn walk_items(
     Some(here)
 }
 
-/// The same for an item of a record: only counted items and compounds are left to a call.
+/// The same for an item of a record: only counted items, wide ones and compounds are left to a call.
 #[inline(always)]
 pub(crate) fn walk_item(
     nodes: &[Node],
@@ -135,8 +135,12 @@ pub(crate) fn walk_item(
         Node::Element { width } => run(body, at, *width, notes),
         Node::Group { width, .. } => run(body, at, *width, notes),
         Node::Part { .. } => None,
-        Node::Extended { parts } => walk_parts(nodes, parts.as_slice(), body, at, notes),
-        Node::Counted { inner } => walk_counted(nodes, *inner, body, at, notes),
+        Node::Extended { last, parts } => {
+            walk_parts(nodes, *last, parts.as_slice(), body, at, notes)
+        }
+        Node::Counted { counter, inner } => {
+            walk_counted(nodes, *counter, *inner, body, at, notes)
+        }
         Node::ByFx { inner } => walk_run(nodes, *inner, body, at, notes),
         Node::Explicit => walk_explicit(body, at, notes),
         Node::Compound { mask, slots } => {
@@ -179,8 +183,12 @@ pub fn walk(nodes: &[Node], link: u32, body: &[u8], at: u32, notes: &mut Notes) 
         Node::Element { width } => run(body, at, *width, notes),
         Node::Group { width, .. } => run(body, at, *width, notes),
         Node::Part { .. } => None,
-        Node::Extended { parts } => walk_parts(nodes, parts.as_slice(), body, at, notes),
-        Node::Counted { inner } => walk_counted(nodes, *inner, body, at, notes),
+        Node::Extended { last, parts } => {
+            walk_parts(nodes, *last, parts.as_slice(), body, at, notes)
+        }
+        Node::Counted { counter, inner } => {
+            walk_counted(nodes, *counter, *inner, body, at, notes)
+        }
         Node::ByFx { inner } => walk_run(nodes, *inner, body, at, notes),
         Node::Explicit => walk_explicit(body, at, notes),
         Node::Compound { mask, slots } => {
@@ -189,25 +197,31 @@ pub fn walk(nodes: &[Node], link: u32, body: &[u8], at: u32, notes: &mut Notes) 
     }
 }
 
-/// The octet after a counted item. Inlined into the loops over records it would take their registers.
+/// The octet after a counted or wide item. Inlined into the loops over records it would take their registers.
 #[cycle(walk)]
 #[inline(never)]
-fn walk_counted(nodes: &[Node], inner: u32, body: &[u8], at: u32, notes: &mut Notes) -> Option<u32>
+fn walk_counted(
+    nodes: &[Node],
+    size: Counter,
+    inner: u32,
+    body: &[u8],
+    at: u32,
+    notes: &mut Notes,
+) -> Option<u32>
     requires table { IsTable nodes.now }
     requires link { (0 < inner) × (inner ≤ length nodes.now) }
     requires bounds { InBounds (kind_at nodes.now inner) }
     requires body { length body.now ≤ longest_body }
     requires at { at ≤ length body.now }
-    ensures end { IfSome result (λ end. Walks (canon (Tree.counted (kind_at nodes.now inner))) (kind_read (Tree.counted (kind_at nodes.now inner)) body.now at) body.now at end notes.new.least) }
-    ensures fault { IfNone result (FailsAt (kind_read (Tree.counted (kind_at nodes.now inner)) body.now at) at notes.new.fault) }
+    ensures end { IfSome result (λ end. Walks (canon (Tree.counted size (kind_at nodes.now inner))) (kind_read (Tree.counted size (kind_at nodes.now inner)) body.now at) body.now at end notes.new.least) }
+    ensures fault { IfNone result (FailsAt (kind_read (Tree.counted size (kind_at nodes.now inner)) body.now at) at notes.new.fault) }
     ensures falls { IsTrue notes.new.least → IsTrue notes.old.least }
 {
-    if at as usize >= body.len() {
+    let Some(count) = count_at(body, at, size) else {
         fail(notes, BodyCause::RunsOut, 8 * at);
         return None;
-    }
-    let count = body[at as usize];
-    let mut here = at + 1;
+    };
+    let mut here = at + size.octets();
     for _ in 0..count {
         if let Some(end) = fixed_end(nodes, inner, body, here) {
             here = end;

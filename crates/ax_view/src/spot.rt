@@ -16,6 +16,7 @@ ghost use Rattle.ax_view.specs.Values.{IsOne, value_in};
 use crate::item::ItemView;
 use crate::members::{find_member, find_part, part_member};
 use ax_bits::bits_at;
+use ax_model::LastPart;
 use ax_tables::Node;
 
 /// What stands at a place.
@@ -75,13 +76,19 @@ fn fixed_spot<'a>(nodes: &[Node], link: u32, octets: &'a [u8], steps: &[u32]) ->
     }
 }
 
-/// What stands at the end of these steps in an extended item.
-fn part_spot<'a>(nodes: &[Node], parts: &[u32], octets: &'a [u8], steps: &[u32]) -> Spot<'a>
+/// What stands at the end of these steps in an extended or closed item.
+fn part_spot<'a>(
+    nodes: &[Node],
+    last: LastPart,
+    parts: &[u32],
+    octets: &'a [u8],
+    steps: &[u32],
+) -> Spot<'a>
     requires table { IsTable nodes.now }
     requires links { LinksWithin (length nodes.now) parts.now }
-    requires bounds { InBounds (Tree.extended (linked_parts (meanings nodes.now) parts.now)) }
-    requires one { IsOne (Tree.extended (linked_parts (meanings nodes.now) parts.now)) octets.now }
-    ensures { IsSpot nodes.now result (value_at steps.now (value_in (Tree.extended (linked_parts (meanings nodes.now) parts.now)) octets.now)) }
+    requires bounds { InBounds (Tree.extended last (linked_parts (meanings nodes.now) parts.now)) }
+    requires one { IsOne (Tree.extended last (linked_parts (meanings nodes.now) parts.now)) octets.now }
+    ensures { IsSpot nodes.now result (value_at steps.now (value_in (Tree.extended last (linked_parts (meanings nodes.now) parts.now)) octets.now)) }
 {
     let Some((part, inside)) = steps.split_first() else {
         return Spot::Whole;
@@ -89,7 +96,7 @@ fn part_spot<'a>(nodes: &[Node], parts: &[u32], octets: &'a [u8], steps: &[u32])
     let Some((index, later)) = inside.split_first() else {
         return Spot::Missing;
     };
-    let Some((link, bit)) = find_part(nodes, parts, octets, *part) else {
+    let Some((link, bit)) = find_part(nodes, last, parts, octets, *part) else {
         return Spot::Missing;
     };
     let Some((member, at)) = part_member(nodes, link, bit, *index) else {
@@ -111,7 +118,9 @@ pub(crate) fn spot_of<'a>(item: &ItemView<'_, 'a>, steps: &[u32]) -> Spot<'a>
     match &nodes[item.link as usize - 1] {
         Node::Element { .. } => fixed_spot(nodes, item.link, item.body, steps),
         Node::Group { .. } => fixed_spot(nodes, item.link, item.body, steps),
-        Node::Extended { parts } => part_spot(nodes, parts.as_slice(), item.body, steps),
+        Node::Extended { last, parts } => {
+            part_spot(nodes, *last, parts.as_slice(), item.body, steps)
+        }
         Node::Compound { .. } => {
             let Some((slot, later)) = steps.split_first() else {
                 return Spot::Whole;

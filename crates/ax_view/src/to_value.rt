@@ -23,7 +23,7 @@ use crate::notes::Notes;
 use crate::occurrences::Occurrences;
 use crate::record::RecordView;
 use ax_fspec::{Presence, SlotMask, read_presence};
-use ax_model::{Entries, Entry, Octets, Record, Value, Values};
+use ax_model::{Entries, Entry, LastPart, Octets, Record, Value, Values};
 use ax_tables::{Codec, Node};
 use std::alloc::{AllocError, Global};
 
@@ -52,15 +52,15 @@ fn item_to_value(alloc: Global, item: &ItemView<'_, '_>) -> Result<Value, AllocE
     match item.node() {
         Node::Element { .. } => fixed_item(alloc, item.codec, item.link, item.body),
         Node::Group { .. } => fixed_item(alloc, item.codec, item.link, item.body),
-        Node::Extended { parts } => {
-            extended_item(alloc, item.codec, parts.as_slice(), item.body)
+        Node::Extended { last, parts } => {
+            extended_item(alloc, item.codec, *last, parts.as_slice(), item.body)
         }
         Node::Compound { mask, slots } => {
             let entries = entries_to_value(alloc, item.codec, mask, slots.as_slice(), item.body)?;
             Ok(Value::Compound(entries))
         }
         Node::Explicit => {
-            let octets = copy_octets(alloc, content(item.body))?;
+            let octets = Octets::of(alloc, content(item.body))?;
             Ok(Value::Octets(octets))
         }
         _ => {
@@ -81,32 +81,21 @@ fn fixed_item(alloc: Global, codec: &Codec, link: u32, body: &[u8]) -> Result<Va
     fixed_to_value(alloc, codec.nodes.as_slice(), link, 0, body)
 }
 
-/// The value of an extended item of these parts.
+/// The value of an extended or closed item of these parts.
 fn extended_item(
     alloc: Global,
     codec: &Codec,
+    last: LastPart,
     parts: &[u32],
     body: &[u8],
 ) -> Result<Value, AllocError>
     requires links { LinksWithin (length codec.now.nodes) parts.now }
-    requires bounds { InBounds (extended (linked_parts (meanings codec.now.nodes) parts.now)) }
-    requires one { IsOne (extended (linked_parts (meanings codec.now.nodes) parts.now)) body.now }
-    ensures { IfOk result (λ value. value_tree value ≡ value_in (extended (linked_parts (meanings codec.now.nodes) parts.now)) body.now) }
+    requires bounds { InBounds (extended last (linked_parts (meanings codec.now.nodes) parts.now)) }
+    requires one { IsOne (extended last (linked_parts (meanings codec.now.nodes) parts.now)) body.now }
+    ensures { IfOk result (λ value. value_tree value ≡ value_in (extended last (linked_parts (meanings codec.now.nodes) parts.now)) body.now) }
 {
-    let lists = parts_to_lists(alloc, codec.nodes.as_slice(), parts, body)?;
+    let lists = parts_to_lists(alloc, codec.nodes.as_slice(), last, parts, body)?;
     Ok(Value::Extended(lists))
-}
-
-/// A list of the octets.
-fn copy_octets(alloc: Global, octets: &[u8]) -> Result<Octets, AllocError>
-    requires { length octets.now ≤ longest_body }
-    ensures { IfOk result (λ made. made ≡ octets.now) }
-{
-    let mut made = Octets::new(alloc);
-    for octet in octets {
-        made.push(*octet)?;
-    }
-    Ok(made)
 }
 
 /// The values of the occurrences that are left, in order.

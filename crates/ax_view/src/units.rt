@@ -1,5 +1,5 @@
 //! Units of a known length: fixed kinds, parts, occurrences by FX, explicit contents.
-ghost use Rattle.std.specs.Prelude.{◌≡◌, ◌+◌, ◌-◌, ◌*◌, ◌%◌, ◌<◌, ◌≤◌, length, IfSome, IfNone};
+ghost use Rattle.std.specs.Prelude.{◌≡◌, ◌⊎◌, ◌↔◌, ◌+◌, ◌-◌, ◌*◌, ◌%◌, ◌<◌, ◌≤◌, length, get_or, IfSome, IfNone, IsTrue};
 ghost use Rattle.ax_model.specs.Canonical.{canon};
 ghost use Rattle.ax_model.specs.InBounds.{InBounds};
 ghost use Rattle.ax_model.specs.Sizes.{longest_body};
@@ -12,9 +12,10 @@ ghost use Rattle.ax_reader.specs.Reading.{FailsAt, kind_read};
 ghost use Rattle.ax_view.specs.Walking.{Walks};
 
 use crate::notes::{Notes, fail};
-use ax_model::BodyCause;
+use ax_model::{BodyCause, LastPart};
 use ax_reader::{ends_with_fx, run_end};
 use ax_tables::Node;
+use ax_values::explicit_content;
 
 /// The octet after a unit of `width` bits, whole octets, that begins at octet `at`. None comes exactly where the body ends
 /// before it, and that is noted.
@@ -57,9 +58,19 @@ pub(crate) fn part_width(nodes: &[Node], link: u32) -> u32
     nodes[link as usize - 1].part_width()
 }
 
+/// Whether no other part follows one that has `fx` FX bits and ends before octet `end`: it has none, or a clear one.
+#[inline(always)]
+pub(crate) fn is_last_part(body: &[u8], end: u32, fx: u32) -> bool
+    requires { (0 < end) × (end ≤ length body.now) }
+    ensures { IsTrue result ↔ ((fx ≡ 0) ⊎ (get_or body.now (end - 1) 0 % 2 ≡ 0)) }
+{
+    fx == 0 || !ends_with_fx(body, end - 1)
+}
+
 /// The octet after the parts that are present.
 pub(crate) fn walk_parts(
     nodes: &[Node],
+    last: LastPart,
     parts: &[u32],
     body: &[u8],
     at: u32,
@@ -67,18 +78,19 @@ pub(crate) fn walk_parts(
 ) -> Option<u32>
     requires table { IsTable nodes.now }
     requires links { LinksWithin (length nodes.now) parts.now }
-    requires bounds { InBounds (Tree.extended (linked_parts (meanings nodes.now) parts.now)) }
+    requires bounds { InBounds (Tree.extended last (linked_parts (meanings nodes.now) parts.now)) }
     requires body { length body.now ≤ longest_body }
     requires at { at ≤ length body.now }
-    ensures end { IfSome result (λ end. Walks (canon (Tree.extended (linked_parts (meanings nodes.now) parts.now))) (kind_read (Tree.extended (linked_parts (meanings nodes.now) parts.now)) body.now at) body.now at end notes.new.least) }
-    ensures fault { IfNone result (FailsAt (kind_read (Tree.extended (linked_parts (meanings nodes.now) parts.now)) body.now at) at notes.new.fault) }
+    ensures end { IfSome result (λ end. Walks (canon (Tree.extended last (linked_parts (meanings nodes.now) parts.now))) (kind_read (Tree.extended last (linked_parts (meanings nodes.now) parts.now)) body.now at) body.now at end notes.new.least) }
+    ensures fault { IfNone result (FailsAt (kind_read (Tree.extended last (linked_parts (meanings nodes.now) parts.now)) body.now at) at notes.new.fault) }
     ensures least { notes.new.least ≡ notes.old.least }
 {
     let mut left = parts;
     let mut here = at;
     while let Some((part, later)) = left.split_first() {
-        let end = run(body, here, part_width(nodes, *part) + 1, notes)?;
-        if !ends_with_fx(body, end - 1) {
+        let fx = last.fx_width(later.len());
+        let end = run(body, here, part_width(nodes, *part) + fx, notes)?;
+        if is_last_part(body, end, fx) {
             return Some(end);
         }
         if later.is_empty() {
@@ -127,19 +139,11 @@ pub(crate) fn walk_explicit(body: &[u8], at: u32, notes: &mut Notes) -> Option<u
     ensures fault { IfNone result (FailsAt (kind_read Tree.explicit body.now at) at notes.new.fault) }
     ensures least { notes.new.least ≡ notes.old.least }
 {
-    if at as usize >= body.len() {
-        fail(notes, BodyCause::RunsOut, 8 * at);
-        return None;
+    match explicit_content(body, at) {
+        Ok(content) => Some(at + 1 + content.len() as u32),
+        Err(fault) => {
+            fail(notes, fault.cause, fault.bit);
+            None
+        }
     }
-    let length = body[at as usize];
-    if length == 0 {
-        fail(notes, BodyCause::BadExplicitLength, 8 * at);
-        return None;
-    }
-    let end = at + length as u32;
-    if end as usize > body.len() {
-        fail(notes, BodyCause::RunsOut, 8 * at + 8);
-        return None;
-    }
-    Some(end)
 }

@@ -8,6 +8,7 @@ ghost use Rattle.ax_view_work.specs.Laid.{LaysBits, LaysCanonical};
 
 use ax_bits::Out;
 use ax_canon::canonical;
+use ax_lists::zeros;
 use ax_model::{BodyFault, RawBlock};
 use ax_tables::Codec;
 use ax_values::write_opaque;
@@ -22,13 +23,6 @@ pub fn blank_output(alloc: Global) -> Result<Vec<u8>, AllocError>
     ensures { IfOk result (λ made. length made.items ≡ longest_block) }
 {
     zeros(alloc, LONGEST)
-}
-
-/// So many zeros. They stand in a function of their own, so that no proof spells them out.
-fn zeros(alloc: Global, count: usize) -> Result<Vec<u8>, AllocError>
-    ensures { IfOk result (λ made. length made.items ≡ count) }
-{
-    vec![in alloc; 0; count]
 }
 
 /// Lays the canonical block of a view at the front of the output, and answers its octets.

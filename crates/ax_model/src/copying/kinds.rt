@@ -70,8 +70,14 @@ fn copy_kind(alloc: Global, kind: &Kind) -> Result<Kind, AllocError>
 {
     match kind {
         Kind::Fixed(fixed) => copy_fixed(alloc, fixed).map(Kind::Fixed),
-        Kind::Extended(parts) => copy_parts(alloc, parts).map(Kind::Extended),
-        Kind::Counted(inner) => Ok(Kind::Counted(Box::new(alloc, copy_kind(alloc, inner)?)?)),
+        Kind::Extended { last, parts } => Ok(Kind::Extended {
+            last: *last,
+            parts: copy_parts(alloc, parts)?,
+        }),
+        Kind::Counted { counter, inner } => Ok(Kind::Counted {
+            counter: *counter,
+            inner: Box::new(alloc, copy_kind(alloc, inner)?)?,
+        }),
         Kind::ByFx(fixed) => copy_fixed(alloc, fixed).map(Kind::ByFx),
         Kind::Explicit => Ok(Kind::Explicit),
         Kind::Compound(slots) => Ok(Kind::Compound(copy_slots(alloc, slots)?)),

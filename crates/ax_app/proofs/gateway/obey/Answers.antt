@@ -19,7 +19,7 @@ returns-in-Ok-clause-first g c = asks _ c.in-Ok.line _ (sink_change g.K.Sink c.a
 pub returns-in-Err-Usage-clause-runs : goal.returns-in-Err-Usage-clause-runs
 returns-in-Err-Usage-clause-runs g c =
     at_words (subst (λ words. HasNoShape (map string_bytes words)) c.deref.ensures.value (no_shape _ _ c.in-Err-Usage.field-0-is c.in-Err-Usage.ensures)) refl (record { faults = refl; taken = refl })
-    (record { untouched = record { left = refl; taken = refl }; out = refl; report = refl })
+    (record { untouched = record { left = refl; taken = refl }; out = refl; report = refl; source_quiet = refl; out_quiet = refl; report_quiet = refl })
 
 pub returns-in-Err-OutOfMemory-clause-runs : goal.returns-in-Err-OutOfMemory-clause-runs
-returns-in-Err-OutOfMemory-clause-runs g c = no_words refl (record { faults = refl; taken = refl }) (record { untouched = record { left = refl; taken = refl }; out = refl; report = refl })
+returns-in-Err-OutOfMemory-clause-runs g c = no_words refl (record { faults = refl; taken = refl }) (record { untouched = record { left = refl; taken = refl }; out = refl; report = refl; source_quiet = refl; out_quiet = refl; report_quiet = refl })

@@ -1,4 +1,5 @@
 use Rattle.ax_app.proofs.Causing.{causes}
+use Rattle.ax_app.proofs.Loads.{counted}
 use Rattle.ax_app.proofs.Stages.{headline, usage_only, usage_there, causes_on, completes, reads_all, ended}
 use Rattle.ax_app.proofs.OwnOutcomes.{of_its_command, later_on}
 use Rattle.ax_app.proofs.gateway.run.Goals as goal
@@ -8,6 +9,9 @@ returns-clause-headline g c = λ files input octets is left. ended _ _ _ _ _ _ _
 
 pub returns-clause-runs : goal.returns-clause-runs
 returns-clause-runs g c = ended _ _ _ _ _ _ _ _ _ c.obey-outcome.ensures.later.report c.write_lines.ensures.later c.obey-outcome.ensures.runs c.write_lines.ensures
+
+pub returns-clause-counts : goal.returns-clause-counts
+returns-clause-counts g c = ended _ _ _ _ _ _ _ _ _ c.obey-outcome.ensures.later.report c.write_lines.ensures.later (counted _ _ _ _ _ _ _ c.obey-outcome.ensures.runs) c.write_lines.ensures
 
 pub returns-clause-usage : goal.returns-clause-usage
 returns-clause-usage g c = usage_only _ _ _ _ _ _ _ c.obey-outcome.ensures.runs

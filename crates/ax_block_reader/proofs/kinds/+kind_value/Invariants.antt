@@ -1,5 +1,6 @@
-use Rattle.std.proofs.Common.{◌≡◌, ◌≤◌, ◌+◌, ◌-◌, ◌*◌, length, drop}
+use Rattle.std.proofs.Common.{◌≡◌, ◌≤◌, ◌+◌, ◌-◌, ◌*◌, ◌^◌, length, drop}
 use Rattle.ax_model.specs.Plain.{kind_tree, slots_tree}
+use Rattle.ax_model.specs.Widths.{counter_width}
 use Rattle.ax_block_reader.proofs.CountedWays.{CountedRead}
 use Rattle.ax_block_reader.proofs.EntryWays.{EntriesRead}
 use Rattle.ax_block_reader.proofs.kinds.+kind_value.Given as goal
@@ -18,13 +19,13 @@ decreases-subitems l = 3 * length l.reader.now + 2
 
 abbrev pub invariant-counted_values-loop-alloc : goal.invariant-counted_values-loop-alloc
 invariant-counted_values-loop-alloc l = record {
-  read : CountedRead (kind_tree l.kind) l.values (255 - length l.values) l.initial.reader l.reader;
-  few : length l.values ≤ 255;
+  read : CountedRead (2 ^ counter_width l.fn.size) (kind_tree l.kind) l.values (2 ^ counter_width l.fn.size - length l.values) l.initial.reader l.reader;
+  few : length l.values ≤ l.most;
   less : length l.reader ≤ length l.initial.reader;
 }
 
 abbrev pub decreases-counted_values-loop-alloc : goal.decreases-counted_values-loop-alloc
-decreases-counted_values-loop-alloc l = 255 - length l.values
+decreases-counted_values-loop-alloc l = l.most - length l.values
 
 abbrev pub invariant-subitems-loop-slot : goal.invariant-subitems-loop-slot
 invariant-subitems-loop-slot l = record {

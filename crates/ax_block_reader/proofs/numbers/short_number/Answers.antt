@@ -1,4 +1,4 @@
-use Rattle.std.proofs.Common.{refl, rules}
+use Rattle.std.proofs.Common.{rules}
 use Rattle.ax_block_reader.proofs.ShortNumbers.{zero_and_more, zero_only}
 use Rattle.ax_block_reader.proofs.numbers.short_number.Goals as goal
 

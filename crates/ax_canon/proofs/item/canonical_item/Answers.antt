@@ -4,11 +4,11 @@ use Rattle.ax_canon.proofs.item.canonical_item.Goals as goal
 
 pub rewrite_counted-requires-clause-link : goal.rewrite_counted-requires-clause-link
 rewrite_counted-requires-clause-link c =
-    inner_link c.args.item.now c.requires.whole c.node.result.now c.node.ensures c.as_slice-nodes.result.now (c.as_slice-nodes.ensures.members ∙ ap (λ x. x.nodes) (sym c.requires.codec)) c.in-Counted.inner c.in-Counted.is
+    inner_link c.args.item.now c.requires.whole c.node.result.now c.node.ensures c.as_slice-nodes.result.now (c.as_slice-nodes.ensures.members ∙ ap (λ x. x.nodes) (sym c.requires.codec)) c.in-Counted.counter c.in-Counted.inner c.in-Counted.is
 
 pub rewrite_counted-requires-clause-bounds : goal.rewrite_counted-requires-clause-bounds
 rewrite_counted-requires-clause-bounds c =
-    inner_bounds c.args.item.now c.requires.whole c.node.result.now c.node.ensures c.as_slice-nodes.result.now (c.as_slice-nodes.ensures.members ∙ ap (λ x. x.nodes) (sym c.requires.codec)) c.in-Counted.inner c.in-Counted.is
+    inner_bounds c.args.item.now c.requires.whole c.node.result.now c.node.ensures c.as_slice-nodes.result.now (c.as_slice-nodes.ensures.members ∙ ap (λ x. x.nodes) (sym c.requires.codec)) c.in-Counted.counter c.in-Counted.inner c.in-Counted.is
 
 pub rewrite_compound-requires-clause-links : goal.rewrite_compound-requires-clause-links
 rewrite_compound-requires-clause-links c =
@@ -24,7 +24,7 @@ rewrite_compound-requires-clause-bounds c =
 
 pub returns-in-Counted : goal.returns-in-Counted
 returns-in-Counted c =
-    counted_item c.args.item.now c.requires.whole c.node.result.now c.node.ensures c.as_slice-nodes.result.now (c.as_slice-nodes.ensures.members ∙ ap (λ x. x.nodes) (sym c.requires.codec)) c.in-Counted.inner c.in-Counted.is
+    counted_item c.args.item.now c.requires.whole c.node.result.now c.node.ensures c.as_slice-nodes.result.now (c.as_slice-nodes.ensures.members ∙ ap (λ x. x.nodes) (sym c.requires.codec)) c.in-Counted.counter c.in-Counted.inner c.in-Counted.is
     c.octets.result.now c.rewrite_counted.result c.args.out.now c.rewrite_counted.new.out c.octets.ensures.body c.rewrite_counted.ensures
 
 pub returns-in-Compound : goal.returns-in-Compound

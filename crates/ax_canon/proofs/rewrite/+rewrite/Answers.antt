@@ -1,4 +1,4 @@
-use Rattle.std.proofs.Common.{◌-◌, length, get_or, arith, refl, sym, subst}
+use Rattle.std.proofs.Common.{◌-◌, length, arith, refl, sym, subst}
 use Rattle.ax_bits.proofs.Pieces.{AreOctets-items}
 use Rattle.ax_canon.proofs.Fronting.{count_next, count_last, marks_next, marks_last}
 use Rattle.ax_canon.proofs.Pieces.{not_copied, as_kind, no_count, count_first, field_room, room_following, compound_written}
@@ -17,8 +17,8 @@ use Rattle.ax_canon.proofs.rewrite.+rewrite.Goals as goal
 
 pub rewrite-rewrite_counted-requires : goal.rewrite-rewrite_counted-requires
 rewrite-rewrite_counted-requires t c =
-    let l = counted_link c.args.nodes.now c.args.link c.index-nodes-link.result c.requires.table c.requires.link.0 c.requires.link.1 c.index-nodes-link.is c.in-Counted.inner c.in-Counted.is in
-    let b : InBounds (Tree.counted (kind_at c.args.nodes.now c.in-Counted.inner)) = subst InBounds (is_counted c.args.nodes.now c.args.link c.index-nodes-link.result c.requires.table c.requires.link.0 c.requires.link.1 c.index-nodes-link.is c.in-Counted.inner c.in-Counted.is) c.requires.bounds in
+    let l = counted_link c.args.nodes.now c.args.link c.index-nodes-link.result c.requires.table c.requires.link.0 c.requires.link.1 c.index-nodes-link.is c.in-Counted.counter c.in-Counted.inner c.in-Counted.is in
+    let b : InBounds (Tree.counted c.in-Counted.counter (kind_at c.args.nodes.now c.in-Counted.inner)) = subst InBounds (is_counted c.args.nodes.now c.args.link c.index-nodes-link.result c.requires.table c.requires.link.0 c.requires.link.1 c.index-nodes-link.is c.in-Counted.counter c.in-Counted.inner c.in-Counted.is) c.requires.bounds in
     (omega (arith, l.1, c.decreases), (c.requires.table, ((l.0, omega (arith, l.1, c.requires.link.1)), (b, (c.requires.body, (c.requires.at, c.requires.room))))))
 
 pub rewrite-rewrite_compound-requires : goal.rewrite-rewrite_compound-requires
@@ -37,7 +37,7 @@ rewrite-copy-requires-in-Group-clause-plain t c =
 
 pub rewrite-copy-requires-in-Extended-clause-plain : goal.rewrite-copy-requires-in-Extended-clause-plain
 rewrite-copy-requires-in-Extended-clause-plain t c =
-    subst IsPlain (sym (is_extended c.args.nodes.now c.args.link c.index-nodes-link.result c.requires.table c.requires.link.0 c.requires.link.1 c.index-nodes-link.is c.in-Extended.parts c.in-Extended.parts c.in-Extended.is refl)) tt
+    subst IsPlain (sym (is_extended c.args.nodes.now c.args.link c.index-nodes-link.result c.requires.table c.requires.link.0 c.requires.link.1 c.index-nodes-link.is c.in-Extended.last c.in-Extended.parts c.in-Extended.parts c.in-Extended.is refl)) tt
 
 pub rewrite-copy-requires-in-ByFx-clause-plain : goal.rewrite-copy-requires-in-ByFx-clause-plain
 rewrite-copy-requires-in-ByFx-clause-plain t c =
@@ -49,7 +49,7 @@ rewrite-copy-requires-in-Explicit-clause-plain t c =
 
 pub rewrite-returns-in-Counted : goal.rewrite-returns-in-Counted
 rewrite-returns-in-Counted t c =
-    as_kind (kind_at c.args.nodes.now c.args.link) (Tree.counted (kind_at c.args.nodes.now c.in-Counted.inner)) c.args.body.now c.args.at c.rewrite_counted.result c.args.out.now c.rewrite_counted.new.out (is_counted c.args.nodes.now c.args.link c.index-nodes-link.result c.requires.table c.requires.link.0 c.requires.link.1 c.index-nodes-link.is c.in-Counted.inner c.in-Counted.is) c.rewrite_counted.ensures
+    as_kind (kind_at c.args.nodes.now c.args.link) (Tree.counted c.in-Counted.counter (kind_at c.args.nodes.now c.in-Counted.inner)) c.args.body.now c.args.at c.rewrite_counted.result c.args.out.now c.rewrite_counted.new.out (is_counted c.args.nodes.now c.args.link c.index-nodes-link.result c.requires.table c.requires.link.0 c.requires.link.1 c.index-nodes-link.is c.in-Counted.counter c.in-Counted.inner c.in-Counted.is) c.rewrite_counted.ensures
 
 pub rewrite-returns-in-Compound : goal.rewrite-returns-in-Compound
 rewrite-returns-in-Compound t c =
@@ -75,13 +75,13 @@ pub rewrite_compound-returns-in-Ok : goal.rewrite_compound-returns-in-Ok
 rewrite_compound-returns-in-Ok t c =
     compound_written c.args.nodes.now c.args.slots.now c.args.mask.now c.args.body.now c.read_presence.new.into c.args.at c.in-Ok.here (AreOctets-items c.args.body.now (λ i. (let fits = c.type_inv.body i in omega arith))) c.requires.bounds c.requires.mask c.in-Ok.ensures.ok c.rewrite_marked.result c.args.out.now c.write_presence.new.out c.rewrite_marked.new.out c.write_presence.ensures c.rewrite_marked.ensures
 
-pub rewrite_counted-returns-then-at-body : goal.rewrite_counted-returns-then-at-body
-rewrite_counted-returns-then-at-body t c =
-    no_count (kind_at c.args.nodes.now c.args.inner) c.args.body.now c.args.at c.args.out.now c.if-at-body.true c.requires.at c.requires.room
+pub rewrite_counted-returns-in_default : goal.rewrite_counted-returns-in_default
+rewrite_counted-returns-in_default t c =
+    no_count c.args.size (kind_at c.args.nodes.now c.args.inner) c.args.body.now c.args.at c.args.out.now c.in_default.ensures.short c.requires.at c.requires.room
 
 pub rewrite_counted-loop-init : goal.rewrite_counted-loop-init
 rewrite_counted-loop-init t c =
-    let fits = c.type_inv.body c.args.at in count_first (kind_at c.args.nodes.now c.args.inner) c.args.body.now (get_or c.args.body.now c.args.at 0) c.args.at c.args.out.now c.push_octet.new.self (omega (arith, c.if-at-body.false)) refl (omega arith) c.requires.room c.push_octet.ensures
+    count_first c.args.size (kind_at c.args.nodes.now c.args.inner) c.args.body.now c.in-Some.count c.args.at c.args.out.now c.push_octets.new.self c.in-Some.ensures.count c.requires.room c.octets.result c.octets.ensures c.push_octets.ensures
 
 pub rewrite_counted-rewrite-here-requires : goal.rewrite_counted-rewrite-here-requires
 rewrite_counted-rewrite-here-requires t c =
@@ -89,11 +89,11 @@ rewrite_counted-rewrite-here-requires t c =
 
 pub rewrite_counted-loop-preserved : goal.rewrite_counted-loop-preserved
 rewrite_counted-loop-preserved t c =
-    count_next (kind_at c.args.nodes.now c.args.inner) c.args.body.now (get_or c.args.body.now c.args.at 0) c.loop.counter c.args.at c.loop.here c.rewrite-here.result c.args.out.now c.loop.out c.rewrite-here.new.out c.loop.invariant c.loop-test.true c.rewrite-here.ensures
+    count_next c.args.size (kind_at c.args.nodes.now c.args.inner) c.args.body.now c.in-Some.count c.loop.counter c.args.at c.loop.here c.rewrite-here.result c.args.out.now c.loop.out c.rewrite-here.new.out c.loop.invariant c.loop-test.true c.rewrite-here.ensures
 
 pub rewrite_counted-returns : goal.rewrite_counted-returns
 rewrite_counted-returns t c =
-    count_last (kind_at c.args.nodes.now c.args.inner) c.args.body.now (get_or c.args.body.now c.args.at 0) c.loop.counter c.args.at c.loop.here c.args.out.now c.loop.out c.loop.invariant c.loop-test.false
+    count_last c.args.size (kind_at c.args.nodes.now c.args.inner) c.args.body.now c.in-Some.count c.loop.counter c.args.at c.loop.here c.args.out.now c.loop.out c.loop.invariant c.loop-test.false
 
 pub rewrite_marked-bounds-slots-slot : goal.rewrite_marked-bounds-slots-slot
 rewrite_marked-bounds-slots-slot t c =

@@ -1,6 +1,6 @@
 use Rattle.std.proofs.Common.{◌≡◌, map, take}
 use Rattle.ax_edition.specs.Index.{seen_kind}
-use Rattle.ax_edition.specs.UapItems.{item_slot}
+use Rattle.ax_edition.specs.SlotItems.{item_slot}
 use Rattle.ax_model.specs.Lengths.{kind_of_slot}
 use Rattle.ax_edition.proofs.index.kinds_of_items.Given as goal
 

@@ -1,7 +1,7 @@
 use Rattle.std.proofs.Common.{[], take}
 use Rattle.ax_edition.specs.Known.{kind_found, known_slots}
 use Rattle.ax_relation.specs.Known.{Knows}
-use Rattle.ax_edition.specs.UapItems.{items_tree}
+use Rattle.ax_edition.specs.SlotItems.{items_tree}
 use Rattle.ax_edition.proofs.known.know_items.Given as goal
 
 abbrev pub invariant-loop-item : goal.invariant-loop-item

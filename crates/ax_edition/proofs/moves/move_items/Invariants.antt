@@ -2,7 +2,7 @@ use Rattle.std.proofs.Common.{◌≡◌, ◌+◌, ◌++◌, map, drop}
 use Rattle.ax_edition.specs.Index.{found}
 use Rattle.ax_relation.specs.Moves.{moves_of}
 use Rattle.ax_relation.specs.PlainMoves.{move_tree}
-use Rattle.ax_edition.specs.UapItems.{items_tree}
+use Rattle.ax_edition.specs.SlotItems.{items_tree}
 use Rattle.ax_edition.proofs.moves.move_items.Given as goal
 
 abbrev pub invariant-loop-item : goal.invariant-loop-item

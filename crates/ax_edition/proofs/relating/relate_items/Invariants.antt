@@ -1,6 +1,6 @@
 use Rattle.std.proofs.Common.{◌≡◌, ◌+◌, ◌++◌, [], drop}
 use Rattle.ax_edition.specs.Relating.{lead, related_slots}
-use Rattle.ax_edition.specs.UapItems.{items_tree}
+use Rattle.ax_edition.specs.SlotItems.{items_tree}
 use Rattle.ax_edition.proofs.relating.relate_items.Given as goal
 
 abbrev pub invariant-loop-item : goal.invariant-loop-item

@@ -2,7 +2,7 @@ use Rattle.std.proofs.Common.{◌≡◌, map, ◌∙◌, ap, sym, subst}
 use Rattle.ax_edition.proofs.Relations.{paths_are, known_are, moves_are}
 use Rattle.ax_relation.specs.Known.{IsKnown}
 use Rattle.ax_relation.specs.PlainMoves.{move_tree}
-use Rattle.ax_edition.specs.UapItems.{items_tree}
+use Rattle.ax_edition.specs.SlotItems.{items_tree}
 use Rattle.ax_model.specs.Plain.{spec_tree}
 use Rattle.ax_model.specs.Specification.{record_slots}
 use Rattle.ax_edition.proofs.relation.relation_of.Goals as goal

@@ -4,12 +4,12 @@ use Rattle.ax_model.specs.Fitting.{each_fits, kind_fits}
 use Rattle.ax_model.specs.Plain.{kind_tree, values_tree}
 use Rattle.ax_model.proofs.fitting.+kind_fits.Goals as goal
 
-pub fits_counted-returns-then-count-gt255 : goal.fits_counted-returns-then-count-gt255
-fits_counted-returns-then-count-gt255 t c = many_values c.args.values.now _ (omega arith)
+pub fits_counted-returns-then-count-greatest : goal.fits_counted-returns-then-count-greatest
+fits_counted-returns-then-count-greatest t c = many_values c.args.values.now _ _ (omega (arith, c.greatest.ensures))
 
 pub fits_counted-returns : goal.fits_counted-returns
 fits_counted-returns t c =
-    few_values c.args.values.now _ _ (omega arith) (c.fits_each.ensures ∙ ap (λ x. each_fits (kind_fits (kind_tree c.args.inner.now)) (values_tree x)) c.as_slice.ensures.members)
+    few_values c.args.values.now _ _ _ (omega (arith, c.greatest.ensures)) (c.fits_each.ensures ∙ ap (λ x. each_fits (kind_fits (kind_tree c.args.inner.now)) (values_tree x)) c.as_slice.ensures.members)
 
 pub fits_slots-returns-in_default : goal.fits_slots-returns-in_default
 fits_slots-returns-in_default t c =

@@ -1,4 +1,4 @@
-use Rattle.std.proofs.Common.{arith}
+use Rattle.std.proofs.Common.{◌∙◌, arith}
 use Rattle.ax_outside.proofs.Ends.{more_taken, still_within}
 use Rattle.ax_outside.proofs.whole.fill.Goals as goal
 
@@ -7,5 +7,5 @@ loop-filled-preserved g c = (
   still_within _ _ _ _ _ c.loop-filled.invariant.0 c.in_ok-count.ensures.room,
   more_taken _ _ _ _ _ _ _ _ c.loop-filled.invariant.0 c.in_ok-count.ensures.room c.loop-filled.invariant.1 c.in_ok-count.ensures.gives,
   omega (arith, c.loop-filled.invariant.2, c.in_ok-count.ensures.number),
-  omega arith,
+  c.in_ok-count.ensures.quiet ∙ c.loop-filled.invariant.3,
 )

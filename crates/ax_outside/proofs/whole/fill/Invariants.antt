@@ -7,7 +7,7 @@ invariant-loop-filled g l =
     (l.filled ≤ length l.buffer)
     × (g.S.Source.left l.fn.source ≡ with_front (take l.filled l.buffer) (g.S.Source.left l.source))
     × (g.S.Source.taken l.source ≡ g.S.Source.taken l.fn.source + l.filled)
-    × (g.S.Source.faults l.fn.source ≤ g.S.Source.faults l.source)
+    × (g.S.Source.faults l.source ≡ g.S.Source.faults l.fn.source)
 
 abbrev pub decreases-loop-filled : goal.decreases-loop-filled
 decreases-loop-filled g l = length l.initial.buffer - l.filled

@@ -1,4 +1,4 @@
-use Rattle.std.proofs.Common.{arith, length-drop}
+use Rattle.std.proofs.Common.{◌∙◌, arith, length-drop}
 use Rattle.ax_outside.proofs.Ends.{more_added}
 use Rattle.ax_outside.proofs.whole.write_all_of.Goals as goal
 
@@ -6,5 +6,5 @@ pub loop-at-preserved : goal.loop-at-preserved
 loop-at-preserved g c = (
   omega (arith, c.in_ok-at.ensures.within, length-drop c.loop-at.at c.args.piece.now),
   more_added _ _ _ _ _ _ c.loop-at.invariant.0 c.loop-at.invariant.1 c.in_ok-at.ensures.adds,
-  omega arith,
+  c.in_ok-at.ensures.quiet ∙ c.loop-at.invariant.2,
 )

@@ -21,14 +21,14 @@ kind_built-returns-in-Explicit t c =
 
 pub kind_built-returns-else-not-opens : goal.kind_built-returns-else-not-opens
 kind_built-returns-else-not-opens t c =
-    IfSome_then c.parts_built.result c.parts_built.ensures (λ done. extended_of_kind c.args.kind.now c.in-Extended.parts c.args.cursor.now c.opens.new.self c.parts_built.new.cursor c.args.out.now c.parts_built.new.out c.in-Extended.is (search rules))
+    IfSome_then c.parts_built.result c.parts_built.ensures (λ done. extended_of_kind c.args.kind.now c.in-Extended.last c.in-Extended.parts c.args.cursor.now c.opens.new.self c.parts_built.new.cursor c.args.out.now c.parts_built.new.out c.in-Extended.is (search rules))
 
 pub kind_built-returns-else-not-opens-2 : goal.kind_built-returns-else-not-opens-2
 kind_built-returns-else-not-opens-2 t c =
     let inner : c.deref.result.now ≡ c.in-Counted.inner.value = search rules in
     IfSome_then c.counted_built.result c.counted_built.ensures (λ done b.
-    counted_of_kind c.args.kind.now c.in-Counted.inner c.args.cursor.now c.opens-in-Counted.new.self c.counted_built.new.cursor c.args.out.now c.counted_built.new.out c.in-Counted.is (search rules)
-    (subst (λ k. CountedIsBuilt (kind_tree k) c.opens-in-Counted.new.self c.counted_built.new.cursor c.args.out.now c.counted_built.new.out) inner b))
+    counted_of_kind c.args.kind.now c.in-Counted.size c.in-Counted.inner c.args.cursor.now c.opens-in-Counted.new.self c.counted_built.new.cursor c.args.out.now c.counted_built.new.out c.in-Counted.is (search rules)
+    (subst (λ k. CountedIsBuilt c.in-Counted.size (kind_tree k) c.opens-in-Counted.new.self c.counted_built.new.cursor c.args.out.now c.counted_built.new.out) inner b))
 
 pub kind_built-returns-else-not-opens-3 : goal.kind_built-returns-else-not-opens-3
 kind_built-returns-else-not-opens-3 t c =
@@ -43,8 +43,8 @@ kind_built-returns-else-not-opens-4 t c =
 pub each_built-loop-count-init : goal.each_built-loop-count-init
 each_built-loop-count-init t c = record { built = each_first (kind_tree c.args.kind.now) c.args.cursor.now c.args.out.now; few = omega arith; less = omega arith }
 
-pub each_built-returns-then-closes : goal.each_built-returns-then-closes
-each_built-returns-then-closes t c =
+pub each_built-returns-then-closes-clause-built : goal.each_built-returns-then-closes-clause-built
+each_built-returns-then-closes-clause-built t c =
     each_done (kind_tree c.args.kind.now) c.loop-count.count c.args.cursor.now c.loop-count.cursor c.closes.new.self c.args.out.now c.loop-count.out c.loop-count.invariant.built (search rules)
 
 pub each_built-loop-count-preserved : goal.each_built-loop-count-preserved
@@ -54,16 +54,15 @@ each_built-loop-count-preserved t c =
     let one : KindIsBuilt k c.loop-count.cursor c.kind_built.new.cursor c.loop-count.out c.kind_built.new.out = subst (λ z. KindIsBuilt k z c.kind_built.new.cursor c.loop-count.out c.kind_built.new.out) stays c.in_ok-kind_built.ensures in
     let built : EachLeft k (c.loop-count.count + 1) c.args.cursor.now c.kind_built.new.cursor c.args.out.now c.kind_built.new.out
     = each_next k c.loop-count.count c.args.cursor.now c.loop-count.cursor c.kind_built.new.cursor c.args.out.now c.loop-count.out c.kind_built.new.out c.loop-count.invariant.built one in
-    record { built = built; few = omega arith; less = each_less k (c.loop-count.count + 1) c.args.cursor.now c.kind_built.new.cursor c.args.out.now c.kind_built.new.out built }
+    record { built = built; few = omega (arith, c.loop-count-test.true); less = each_less k (c.loop-count.count + 1) c.args.cursor.now c.kind_built.new.cursor c.args.out.now c.kind_built.new.out built }
 
-pub each_built-returns : goal.each_built-returns
-each_built-returns t c =
+pub each_built-returns-clause-built : goal.each_built-returns-clause-built
+each_built-returns-clause-built t c =
     each_done (kind_tree c.args.kind.now) c.loop-count.count c.args.cursor.now c.loop-count.cursor c.closes-2.new.self c.args.out.now c.loop-count.out c.loop-count.invariant.built (search rules)
 
 pub counted_built-returns : goal.counted_built-returns
 counted_built-returns t c =
-    let few : c.in_ok-count.count < 256 = omega arith in
-    IfSome_then c.counted_content.result c.counted_content.ensures (λ done. counted_whole (kind_tree c.args.kind.now) c.in_ok-count.count c.args.cursor.now c.each_built.new.cursor c.over-inner.result c.each_built.new.out c.args.out.now c.counted_content.new.out few c.over-inner.ensures.written c.in_ok-count.ensures)
+    IfSome_then c.counted_content.result c.counted_content.ensures (λ done. counted_whole c.args.size (kind_tree c.args.kind.now) c.in_ok-count.count c.args.cursor.now c.each_built.new.cursor c.over-inner.result c.each_built.new.out c.args.out.now c.counted_content.new.out c.in_ok-count.ensures.few c.over-inner.ensures.written c.in_ok-count.ensures.built)
 
 -- ---- a subitem
 

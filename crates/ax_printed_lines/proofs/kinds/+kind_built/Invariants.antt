@@ -25,12 +25,12 @@ decreases-subitem_built l = 3 * length l.cursor.now.left
 abbrev pub invariant-each_built-loop-count : goal.invariant-each_built-loop-count
 invariant-each_built-loop-count l = record {
   built : EachLeft (kind_tree l.kind) l.count l.fn.cursor l.cursor l.fn.out l.out;
-  few : l.count ≤ 255;
+  few : l.count ≤ l.most;
   less : length l.cursor.left ≤ length l.fn.cursor.left;
 }
 
 abbrev pub decreases-each_built-loop-count : goal.decreases-each_built-loop-count
-decreases-each_built-loop-count l = 255 - l.count
+decreases-each_built-loop-count l = l.most - l.count
 
 abbrev pub invariant-entries_built-loop-slot : goal.invariant-entries_built-loop-slot
 invariant-entries_built-loop-slot l = record {

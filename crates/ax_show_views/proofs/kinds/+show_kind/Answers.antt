@@ -1,6 +1,6 @@
 use denote.Param.Weighed.{at_most}
 use Rattle.ax_model.proofs.kind.Slot.TheLaws.{the_size}
-use Rattle.std.proofs.Common.{◌≡◌, ◌-◌, ◌<◌, ℕ, List, length, map, get_or, codes, ap, arith, subst, sym, ◌∙◌}
+use Rattle.std.proofs.Common.{◌≡◌, ◌+◌, ◌-◌, ◌<◌, ℕ, List, length, map, get_or, codes, ap, arith, subst, sym, ◌∙◌}
 use Rattle.std.proofs.lemmas.List.{length-map}
 use Rattle.ax_model.proofs.Bounds.{count_of_slots}
 use Rattle.ax_model.specs.Plain.{kind_tree, slot_tree, slots_tree}
@@ -12,19 +12,19 @@ use Rattle.ax_text.proofs.ListedKinds.{slot_listable}
 use Rattle.ax_text.specs.Listable.{SlotListable}
 use Rattle.ax_values.proofs.Continuing.{err_by_fault, err_is}
 use Rattle.ax_values.specs.SlotReading.{HasSlotFailed}
-use Rattle.ax_show_views.specs.Shown.{ShowsCounted, IsSlotShown}
-use Rattle.ax_show_views.proofs.CountedLines.{count_first, count_next, count_last, count_failed}
+use Rattle.ax_show_views.specs.Shown.{IsSlotShown}
+use Rattle.ax_show_views.proofs.CountedLines.{CountShown, count_first, count_next, count_last, count_failed}
 use Rattle.ax_show_views.proofs.Leading.{counted_shown, counted_longer}
 use Rattle.ax_show_views.proofs.MarkedLines.{compound_done, compound_first, next_slot, marks_next, marks_last, marks_failed, at_number}
 use Rattle.ax_show_views.proofs.kinds.+show_kind.Goals as goal
 
 pub show_counted-set_count-requires : goal.show_counted-set_count-requires
 show_counted-set_count-requires t c =
-    counted_longer (counted (kind_tree c.args.inner.now)) c.args.path.now (codes "occurrences") c.args.body.now c.args.at c.in_ok-end.end c.len-line.result c.args.lister.now.out c.none_of.new.self.out c.show_each.new.lister.out c.in_ok-end.count c.in_ok-none_of.ensures c.len-line.ensures c.in_ok-end.ensures.ok
+    counted_longer (counted c.args.size (kind_tree c.args.inner.now)) c.args.path.now (codes "occurrences") c.args.body.now c.args.at c.in_ok-end.end c.len-line.result c.args.lister.now.out c.none_of.new.self.out c.show_each.new.lister.out c.in_ok-end.count c.in_ok-none_of.ensures c.len-line.ensures c.in_ok-end.ensures.ok
 
 pub show_counted-returns-clause-ok : goal.show_counted-returns-clause-ok
 show_counted-returns-clause-ok t c =
-    counted_shown (counted (kind_tree c.args.inner.now)) c.args.path.now (codes "occurrences") c.args.body.now c.args.at c.in_ok-end.end c.len-line.result c.args.lister.now.out c.none_of.new.self.out c.show_each.new.lister.out c.set_count.new.self.out c.in_ok-end.count
+    counted_shown (counted c.args.size (kind_tree c.args.inner.now)) c.args.path.now (codes "occurrences") c.args.body.now c.args.at c.in_ok-end.end c.len-line.result c.args.lister.now.out c.none_of.new.self.out c.show_each.new.lister.out c.set_count.new.self.out c.in_ok-end.count
     c.in_ok-none_of.ensures c.len-line.ensures c.in_ok-end.ensures.ok c.in_ok-set_count.ensures
 
 pub show_compound-set_count-requires : goal.show_compound-set_count-requires
@@ -42,29 +42,31 @@ pub show_each-returns-in_err-count-clause-err : goal.show_each-returns-in_err-co
 show_each-returns-in_err-count-clause-err t c =
     let k = kind_tree c.args.inner.now in
     let fault = c.in_err-count.field-0.0 in
-    err_by_fault (kind_read (counted k) c.args.body.now c.args.at) c.args.at c.from_residual.result fault c.from_residual.ensures.1
-    (counted_none k c.args.body.now c.args.at fault c.in_err-count.ensures.short (ap (λ f. f.cause) c.in_err-count.ensures.fault) (ap (λ f. f.bit) c.in_err-count.ensures.fault))
+    err_by_fault (kind_read (counted c.args.size k) c.args.body.now c.args.at) c.args.at c.from_residual.result fault c.from_residual.ensures.1
+    (counted_none c.args.size k c.args.body.now c.args.at fault c.in_err-count.ensures.short (ap (λ f. f.cause) c.in_err-count.ensures.fault) (ap (λ f. f.bit) c.in_err-count.ensures.fault))
 
 pub show_each-loop-number-init : goal.show_each-loop-number-init
 show_each-loop-number-init t c =
-    count_first (kind_tree c.args.inner.now) c.args.path.now c.args.body.now c.in_ok-count.count c.args.at c.args.lister.now.out c.in_ok-count.ensures.ok.0 c.in_ok-count.ensures.ok.1 (omega (arith, c.in_ok-count.ensures.ok.1, c.type_inv.body c.args.at))
+    let k = kind_tree c.args.inner.now in
+    let out = c.args.lister.now.out in
+    subst (λ m. CountShown c.args.size k c.args.path.now c.args.body.now c.in_ok-count.count 0 c.args.at (c.args.at + m) out out) (sym c.octets.ensures)
+    (count_first c.args.size k c.args.path.now c.args.body.now c.in_ok-count.count c.args.at out c.in_ok-count.ensures.count)
 
 pub show_each-returns-in_err-here-clause-err : goal.show_each-returns-in_err-here-clause-err
 show_each-returns-in_err-here-clause-err t c =
     let k = kind_tree c.args.inner.now in
     let e = c.in_err-here.field-0.0 in
-    err_is (kind_read (counted k) c.args.body.now c.args.at) c.args.at c.from_residual-in_err-here.result e c.from_residual-in_err-here.ensures.1
-    (count_failed k c.args.path.now c.args.body.now c.in_ok-count.count c.loop-number.number c.args.at c.loop-number.here c.args.lister.now.out c.loop-number.lister.out e c.loop-number.invariant (omega (arith, c.loop-number-test.true, c.from-number-end.ensures)) c.in_err-here.ensures.err)
+    err_is (kind_read (counted c.args.size k) c.args.body.now c.args.at) c.args.at c.from_residual-in_err-here.result e c.from_residual-in_err-here.ensures.1
+    (count_failed c.args.size k c.args.path.now c.args.body.now c.in_ok-count.count c.loop-number.number c.args.at c.loop-number.here c.args.lister.now.out c.loop-number.lister.out e c.loop-number.invariant c.loop-number-test.true c.in_err-here.ensures.err)
 
 pub show_each-loop-number-preserved : goal.show_each-loop-number-preserved
 show_each-loop-number-preserved t c =
-    count_next (kind_tree c.args.inner.now) c.args.path.now c.args.body.now c.in_ok-count.count c.loop-number.number c.args.at c.loop-number.here c.in_ok-here.here c.set_numbered.new.inner c.args.lister.now.out c.loop-number.lister.out c.show_value.new.lister.out
-    c.loop-number.invariant (omega (arith, c.loop-number-test.true, c.from-number-end.ensures)) c.in_ok-set_numbered.ensures c.in_ok-here.ensures.ok
+    count_next c.args.size (kind_tree c.args.inner.now) c.args.path.now c.args.body.now c.in_ok-count.count c.loop-number.number c.args.at c.loop-number.here c.in_ok-here.here c.set_numbered.new.inner c.args.lister.now.out c.loop-number.lister.out c.show_value.new.lister.out
+    c.loop-number.invariant c.loop-number-test.true c.in_ok-set_numbered.ensures c.in_ok-here.ensures.ok
 
 pub show_each-returns-clause-ok : goal.show_each-returns-clause-ok
 show_each-returns-clause-ok t c =
-    subst (λ m. ShowsCounted (counted (kind_tree c.args.inner.now)) c.args.path.now (codes "occurrences") c.args.body.now c.args.at c.loop-number.here c.args.lister.now.out c.loop-number.lister.out m) (sym c.from.ensures)
-    (count_last (kind_tree c.args.inner.now) c.args.path.now c.args.body.now c.in_ok-count.count c.loop-number.number c.args.at c.loop-number.here c.args.lister.now.out c.loop-number.lister.out c.loop-number.invariant (omega (arith, c.loop-number-test.false, c.from-number-end.ensures)))
+    count_last c.args.size (kind_tree c.args.inner.now) c.args.path.now c.args.body.now c.in_ok-count.count c.loop-number.number c.args.at c.loop-number.here c.args.lister.now.out c.loop-number.lister.out c.loop-number.invariant c.loop-number-test.false
 
 -- ---- subitems
 

@@ -8,7 +8,7 @@ use Rattle.ax_show_views.proofs.MarkedLines.{MarksShown, compound_done}
 use Rattle.ax_show_views.proofs.kinds.+show_kind.Given as goal
 
 abbrev pub invariant-show_each-loop-number : goal.invariant-show_each-loop-number
-invariant-show_each-loop-number l = CountShown (kind_tree l.inner) l.path l.body l.count l.number l.at l.here l.fn.lister.out l.lister.out
+invariant-show_each-loop-number l = CountShown l.fn.size (kind_tree l.inner) l.path l.body l.count l.number l.at l.here l.fn.lister.out l.lister.out
 
 abbrev pub invariant-show_subitems-loop-number : goal.invariant-show_subitems-loop-number
 invariant-show_subitems-loop-number l =

@@ -1,4 +1,4 @@
-use Rattle.std.proofs.Common.{◌≡◌, ◌+◌, ◌*◌, ◌/◌, ◌≤◌, length, ap, arith, refl}
+use Rattle.std.proofs.Common.{◌≡◌, ◌+◌, ◌*◌, ◌/◌, ◌≤◌, length, arith, refl}
 use Rattle.ax_model.specs.Plain.{fixed_tree}
 use Rattle.ax_model.specs.Tree.{by_fx}
 use Rattle.ax_model.specs.Widths.{width}

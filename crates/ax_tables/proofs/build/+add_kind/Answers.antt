@@ -4,10 +4,10 @@ use Rattle.std.proofs.Common.{◌≡◌, ◌+◌, ◌<◌, ℕ, ◌∷◌, [], l
 use Rattle.std.proofs.lemmas.List.{length-map}
 use Rattle.ax_model.proofs.Bounds.{count_of_slots}
 use Rattle.ax_model.specs.InBounds.{InBounds}
-use Rattle.ax_model.specs.Plain.{kind_tree, slot_tree}
+use Rattle.ax_model.specs.Plain.{kind_tree, part_tree, slot_tree}
 use Rattle.ax_model.specs.Tree.{extended, counted, by_fx, compound, slots_of, slot_count}
 use Rattle.ax_tables.proofs.BareKinds.{bare_slots_of}
-use Rattle.ax_tables.proofs.Compiling.{ok_map, slots_next, slots_count}
+use Rattle.ax_tables.proofs.Compiling.{narrow_parts, ok_map, slots_next, slots_count}
 use Rattle.ax_tables.proofs.Growing.{made_far, kind_back}
 use Rattle.ax_tables.specs.Bare.{bare_kind, bare_slot}
 use Rattle.ax_tables.specs.Making.{SlotsAreMade, of_kind}
@@ -27,13 +27,18 @@ add_kind-mask_of-mask-requires t c =
 pub add_kind-add-requires-in-Compound-clause-node : goal.add_kind-add-requires-in-Compound-clause-node
 add_kind-add-requires-in-Compound-clause-node t c = (c.in_ok-links-in-Compound.ensures.within, c.mask_of-mask.ensures (meanings c.add_slots.new.nodes))
 
+pub add_kind-add_parts-requires-clause-widths : goal.add_kind-add_parts-requires-clause-widths
+add_kind-add_parts-requires-clause-widths t c =
+    let b : InBounds (extended c.in-Extended.last (map part_tree c.in-Extended.parts)) = subst InBounds (ap kind_tree c.in-Extended.is ∙ extended_tree c.in-Extended.last c.in-Extended.parts) c.requires.bounds in
+    narrow_parts c.in-Extended.last (map part_tree c.in-Extended.parts) b.1
+
 pub add_kind-returns-in_ok-links-in-Extended : goal.add_kind-returns-in_ok-links-in-Extended
 add_kind-returns-in_ok-links-in-Extended t c =
     let made = c.in_ok-links-in-Extended.ensures in
     let ms = meanings c.add_parts.new.nodes in
     ok_map c.add.result c.add.ensures (λ link g.
     made_far c.args.nodes.now c.add_parts.new.nodes c.add.new.nodes link _ (of_kind (bare_kind (kind_tree c.args.kind.now))) made.grows g
-    (ap (λ ps. a_kind (extended ps)) made.means ∙ ap (λ k. of_kind (bare_kind k)) (sym (ap kind_tree c.in-Extended.is ∙ extended_tree c.in-Extended.parts))))
+    (ap (λ ps. a_kind (extended c.in-Extended.last ps)) made.means ∙ ap (λ k. of_kind (bare_kind k)) (sym (ap kind_tree c.in-Extended.is ∙ extended_tree c.in-Extended.last c.in-Extended.parts))))
 
 pub add_kind-returns-in_ok-link-in-Counted : goal.add_kind-returns-in_ok-link-in-Counted
 add_kind-returns-in_ok-link-in-Counted t c =
@@ -41,7 +46,7 @@ add_kind-returns-in_ok-link-in-Counted t c =
     let ms = meanings c.add_kind.new.nodes in
     ok_map c.add-in-Counted.result c.add-in-Counted.ensures (λ link g.
     made_far c.args.nodes.now c.add_kind.new.nodes c.add-in-Counted.new.nodes link _ (of_kind (bare_kind (kind_tree c.args.kind.now))) made.grows g
-    (ap (λ m. a_kind (counted (kind_of m))) made.means ∙ ap (λ k. a_kind (counted k)) (kind_back (bare_kind (kind_tree c.deref.result.now))) ∙ ap (λ k. a_kind (counted (bare_kind (kind_tree k)))) c.deref.ensures ∙ ap (λ k. of_kind (bare_kind k)) (sym (ap kind_tree c.in-Counted.is ∙ counted_tree c.in-Counted.inner))))
+    (ap (λ m. a_kind (counted c.in-Counted.counter (kind_of m))) made.means ∙ ap (λ k. a_kind (counted c.in-Counted.counter k)) (kind_back (bare_kind (kind_tree c.deref.result.now))) ∙ ap (λ k. a_kind (counted c.in-Counted.counter (bare_kind (kind_tree k)))) c.deref.ensures ∙ ap (λ k. of_kind (bare_kind k)) (sym (ap kind_tree c.in-Counted.is ∙ counted_tree c.in-Counted.counter c.in-Counted.inner))))
 
 pub add_kind-returns-in_ok-link-in-ByFx : goal.add_kind-returns-in_ok-link-in-ByFx
 add_kind-returns-in_ok-link-in-ByFx t c =

@@ -1,7 +1,7 @@
 use Rattle.std.proofs.Common.{◌≡◌, ◌+◌, ◌<◌, ℕ, ◌∷◌, [], length, map, get_or, take, arith, subst, sym, ap, ◌∙◌, length-append}
 use Rattle.std.proofs.lemmas.List.{length-map}
 use Rattle.ax_model.specs.Plain.{part_tree}
-use Rattle.ax_tables.proofs.Compiling.{part_bounds, parts_next}
+use Rattle.ax_tables.proofs.Compiling.{narrow_part, parts_next}
 use Rattle.ax_tables.specs.Bare.{bare_members}
 use Rattle.ax_tables.specs.Making.{AreMade}
 use Rattle.ax_tables.specs.Meaning.{linked_part}
@@ -17,7 +17,7 @@ add_part-requires-clause-width c =
     let within : i < length all = subst (λ xs. i < length xs) same c.loop-part-test.true in
     let is : s ≡ get_or all i s = subst (λ xs. s ≡ get_or xs i s) same c.part-item.is in
     let size : length (map part_tree all) ≡ length all = length-map all part_tree in
-    (part_bounds (map part_tree all) i (part_tree s) c.requires.bounds (omega arith) (map_at part_tree all i s is)).1
+    narrow_part (map part_tree all) i (part_tree s) c.requires.widths (omega arith) (map_at part_tree all i s is)
 
 pub loop-part-preserved : goal.loop-part-preserved
 loop-part-preserved c =

@@ -19,8 +19,8 @@ pub print_counted-returns-in_err-count-clause-err : goal.print_counted-returns-i
 print_counted-returns-in_err-count-clause-err t c =
     let k = kind_tree c.args.inner.now in
     let fault = c.in_err-count.field-0.0 in
-    err_by_fault (kind_read (counted k) c.args.body.now c.args.at) c.args.at c.from_residual.result fault c.from_residual.ensures.1
-    (counted_none k c.args.body.now c.args.at fault c.in_err-count.ensures.short (ap (λ f. f.cause) c.in_err-count.ensures.fault) (ap (λ f. f.bit) c.in_err-count.ensures.fault))
+    err_by_fault (kind_read (counted c.args.size k) c.args.body.now c.args.at) c.args.at c.from_residual.result fault c.from_residual.ensures.1
+    (counted_none c.args.size k c.args.body.now c.args.at fault c.in_err-count.ensures.short (ap (λ f. f.cause) c.in_err-count.ensures.fault) (ap (λ f. f.bit) c.in_err-count.ensures.fault))
 
 pub print_compound-slots_mask-requires : goal.print_compound-slots_mask-requires
 print_compound-slots_mask-requires t c =
@@ -100,12 +100,12 @@ pub print_counted-returns-in_err-here-clause-err : goal.print_counted-returns-in
 print_counted-returns-in_err-here-clause-err t c =
     let k = kind_tree c.args.inner.now in
     let e = c.in_err-here.field-0.0 in
-    err_is (kind_read (counted k) c.args.body.now c.args.at) c.args.at c.from_residual-in_err-here.result e c.from_residual-in_err-here.ensures.1
-    (counted_failed k c.args.body.now c.in_ok-count.count c.loop.counter c.args.at c.loop.here c.args.line.now c.loop.line e c.loop.invariant c.loop-test.true c.in_err-here.ensures.err)
+    err_is (kind_read (counted c.args.size k) c.args.body.now c.args.at) c.args.at c.from_residual-in_err-here.result e c.from_residual-in_err-here.ensures.1
+    (counted_failed c.args.size k c.args.body.now c.in_ok-count.count c.loop.counter c.args.at c.loop.here c.args.line.now c.loop.line e c.loop.invariant c.loop-test.true c.in_err-here.ensures.err)
 
 pub print_counted-loop-preserved : goal.print_counted-loop-preserved
 print_counted-loop-preserved t c =
-    counted_goes_on (kind_tree c.args.inner.now) c.args.body.now c.in_ok-count.count c.loop.counter c.args.at c.loop.here c.in_ok-here.here c.args.line.now c.loop.line c.print_value.new.line c.loop.invariant c.loop-test.true c.in_ok-here.ensures.ok
+    counted_goes_on c.args.size (kind_tree c.args.inner.now) c.args.body.now c.in_ok-count.count c.loop.counter c.args.at c.loop.here c.in_ok-here.here c.args.line.now c.loop.line c.print_value.new.line c.loop.invariant c.loop-test.true c.in_ok-here.ensures.ok
 
 pub print_compound-returns-in_err-end-clause-err : goal.print_compound-returns-in_err-end-clause-err
 print_compound-returns-in_err-end-clause-err t c =

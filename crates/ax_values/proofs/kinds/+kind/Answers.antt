@@ -20,8 +20,8 @@ pub decode_counted-returns-in_err-count-clause-err : goal.decode_counted-returns
 decode_counted-returns-in_err-count-clause-err t c =
     let k = kind_tree c.args.inner.now in
     let fault = c.in_err-count.field-0.0 in
-    err_by_fault (kind_read (counted k) c.args.body.now c.args.at) c.args.at c.from_residual.result fault c.from_residual.ensures.1
-    (counted_none k c.args.body.now c.args.at fault c.in_err-count.ensures.short (ap (λ f. f.cause) c.in_err-count.ensures.fault) (ap (λ f. f.bit) c.in_err-count.ensures.fault))
+    err_by_fault (kind_read (counted c.args.size k) c.args.body.now c.args.at) c.args.at c.from_residual.result fault c.from_residual.ensures.1
+    (counted_none c.args.size k c.args.body.now c.args.at fault c.in_err-count.ensures.short (ap (λ f. f.cause) c.in_err-count.ensures.fault) (ap (λ f. f.bit) c.in_err-count.ensures.fault))
 
 pub decode_compound-slots_mask-requires : goal.decode_compound-slots_mask-requires
 decode_compound-slots_mask-requires t c =
@@ -101,8 +101,8 @@ pub decode_counted-returns-in_err-value-clause-err : goal.decode_counted-returns
 decode_counted-returns-in_err-value-clause-err t c =
     let k = kind_tree c.args.inner.now in
     let e = c.in_err-value.field-0.0 in
-    err_is (kind_read (counted k) c.args.body.now c.args.at) c.args.at c.from_residual-in_err-value.result e c.from_residual-in_err-value.ensures.1
-    (counted_failed k c.args.body.now c.in_ok-count.count c.loop.counter c.args.at c.loop.here c.loop.made e c.loop.invariant c.loop-test.true c.in_err-value.ensures.err)
+    err_is (kind_read (counted c.args.size k) c.args.body.now c.args.at) c.args.at c.from_residual-in_err-value.result e c.from_residual-in_err-value.ensures.1
+    (counted_failed c.args.size k c.args.body.now c.in_ok-count.count c.loop.counter c.args.at c.loop.here c.loop.made e c.loop.invariant c.loop-test.true c.in_err-value.ensures.err)
 
 pub decode_counted-loop-preserved : goal.decode_counted-loop-preserved
 decode_counted-loop-preserved t c =
@@ -110,8 +110,8 @@ decode_counted-loop-preserved t c =
     let body = c.args.body.now in
     let n : ℕ = c.in_ok-count.count in
     let i : ℕ = c.loop.counter in
-    subst (λ made. CountedSoFar k body n (i + 1) c.args.at c.in_ok-value.end made) (sym c.in_ok-push.ensures.ok)
-    (counted_more k body n i c.args.at c.loop.here c.in_ok-value.end c.loop.made c.in_ok-value.value c.loop.invariant c.loop-test.true c.in_ok-value.ensures.ok)
+    subst (λ made. CountedSoFar c.args.size k body n (i + 1) c.args.at c.in_ok-value.end made) (sym c.in_ok-push.ensures.ok)
+    (counted_more c.args.size k body n i c.args.at c.loop.here c.in_ok-value.end c.loop.made c.in_ok-value.value c.loop.invariant c.loop-test.true c.in_ok-value.ensures.ok)
 
 pub decode_compound-returns-clause-ok : goal.decode_compound-returns-clause-ok
 decode_compound-returns-clause-ok t c =
@@ -147,19 +147,19 @@ pub decode_value-returns-in_err-lists-in-Extended-clause-err : goal.decode_value
 decode_value-returns-in_err-lists-in-Extended-clause-err t c =
     let e = c.in_err-lists-in-Extended.field-0.0 in
     err_is (kind_read (kind_tree c.args.kind.now) c.args.body.now c.args.at) c.args.at c.from_residual.result e c.from_residual.ensures.1
-    (failed_at _ _ c.args.body.now c.args.at e (extended_is c.args.kind.now _ c.in-Extended.is) c.in_err-lists-in-Extended.ensures.err)
+    (failed_at _ _ c.args.body.now c.args.at e (extended_is c.args.kind.now _ _ c.in-Extended.is) c.in_err-lists-in-Extended.ensures.err)
 
 pub decode_value-returns-in_ok-lists-in-Extended-clause-ok : goal.decode_value-returns-in_ok-lists-in-Extended-clause-ok
-decode_value-returns-in_ok-lists-in-Extended-clause-ok t c = lists_got _ _ c.in_ok-lists-in-Extended.lists c.args.body.now c.args.at _ (extended_is c.args.kind.now _ c.in-Extended.is) c.in_ok-lists-in-Extended.ensures.ok
+decode_value-returns-in_ok-lists-in-Extended-clause-ok t c = lists_got _ _ c.in_ok-lists-in-Extended.lists c.args.body.now c.args.at _ (extended_is c.args.kind.now _ _ c.in-Extended.is) c.in_ok-lists-in-Extended.ensures.ok
 
 pub decode_value-returns-in_err-values-in-Counted-clause-err : goal.decode_value-returns-in_err-values-in-Counted-clause-err
 decode_value-returns-in_err-values-in-Counted-clause-err t c =
     let e = c.in_err-values-in-Counted.field-0.0 in
     err_is (kind_read (kind_tree c.args.kind.now) c.args.body.now c.args.at) c.args.at c.from_residual-in_err-values-in-Counted.result e c.from_residual-in_err-values-in-Counted.ensures.1
-    (failed_at _ _ c.args.body.now c.args.at e (counted_is c.args.kind.now _ _ c.in-Counted.is (search rules)) c.in_err-values-in-Counted.ensures.err)
+    (failed_at _ _ c.args.body.now c.args.at e (counted_is c.args.kind.now _ _ _ c.in-Counted.is (search rules)) c.in_err-values-in-Counted.ensures.err)
 
 pub decode_value-returns-in_ok-values-in-Counted-clause-ok : goal.decode_value-returns-in_ok-values-in-Counted-clause-ok
-decode_value-returns-in_ok-values-in-Counted-clause-ok t c = values_got _ _ c.in_ok-values-in-Counted.values c.args.body.now c.args.at _ (counted_is c.args.kind.now _ _ c.in-Counted.is (search rules)) c.in_ok-values-in-Counted.ensures.ok
+decode_value-returns-in_ok-values-in-Counted-clause-ok t c = values_got _ _ c.in_ok-values-in-Counted.values c.args.body.now c.args.at _ (counted_is c.args.kind.now _ _ _ c.in-Counted.is (search rules)) c.in_ok-values-in-Counted.ensures.ok
 
 pub decode_value-returns-in_err-values-in-ByFx-clause-err : goal.decode_value-returns-in_err-values-in-ByFx-clause-err
 decode_value-returns-in_err-values-in-ByFx-clause-err t c =

@@ -1,20 +1,27 @@
 use denote.Param.Weighed.{at_most}
-use Rattle.std.proofs.Common.{◌≡◌, ◌<◌, ◌≤◌, ℕ, length, get_or, arith, ap, subst, sym, ◌∙◌}
+use Rattle.std.proofs.Common.{◌≡◌, ◌*◌, ◌^◌, ◌<◌, ◌≤◌, ℕ, length, get_or, arith, ap, subst, sym, ◌∙◌}
 use Rattle.ax_model.proofs.value.Entry.TheLaws.{the_size}
 use Rattle.ax_model.proofs.value.Value.TheLaws as OfValue
 use Rattle.ax_model.specs.Canonical.{canon, each_canon, entries_canon}
 use Rattle.ax_model.specs.Plain.{kind_tree, values_tree, slots_tree, entries_tree}
 use Rattle.ax_model.specs.Tree.{value_count}
-use Rattle.ax_values.proofs.WrittenKinds.{each_first, each_shape, each_room, each_next, each_ended, octet_and, count_of, left_first, left_shape, left_room, left_next, left_ended}
+use Rattle.ax_values.proofs.WrittenKinds.{each_first, each_shape, each_room, each_next, each_ended, count_and, count_of, left_first, left_shape, left_room, left_next, left_ended}
+use Rattle.ax_bits.specs.Bits.{word}
+use Rattle.ax_bits.specs.Out.{Appends}
+use Rattle.ax_model.specs.Widths.{counter_width}
+use Rattle.ax_model.proofs.WholeOctets.{counter_in_octets}
 use Rattle.ax_values.proofs.write_kinds.+write_value.Goals as goal
 
-pub write_counted-overflow_cast-count : goal.write_counted-overflow_cast-count
-write_counted-overflow_cast-count t c = omega (arith, c.requires.shape.0, count_of c.args.values.now, c.count.ensures)
+pub write_counted-push_bits-requires-clause-fits : goal.write_counted-push_bits-requires-clause-fits
+write_counted-push_bits-requires-clause-fits t c =
+    subst (λ n. c.from.result < 2 ^ n) (counter_in_octets c.args.size ∙ sym (ap (λ n. 8 * n) c.octets.ensures))
+    (subst (λ m. m < 2 ^ counter_width c.args.size) (count_of c.args.values.now ∙ sym c.count.ensures ∙ sym c.from.ensures) c.requires.shape.0)
 
 pub write_counted-returns : goal.write_counted-returns
 write_counted-returns t c =
     let vs = c.args.values.now in
-    octet_and c.args.out.now c.push_octet.new.self c.write_each.new.out c.count.result (value_count (values_tree vs)) (each_canon (canon (kind_tree c.args.inner.now)) (values_tree vs)) (c.count.ensures ∙ sym (count_of vs)) c.push_octet.ensures c.write_each.ensures
+    count_and c.args.size c.args.out.now c.push_bits.new.self c.write_each.new.out (value_count (values_tree vs)) (each_canon (canon (kind_tree c.args.inner.now)) (values_tree vs))
+    (subst (λ w. Appends c.args.out.now c.push_bits.new.self w) (λ i. word (ap (λ n. 8 * n) c.octets.ensures i) ((c.from.ensures ∙ c.count.ensures ∙ sym (count_of vs)) i)) c.push_bits.ensures) c.write_each.ensures
 
 pub write_each-loop-value-init : goal.write_each-loop-value-init
 write_each-loop-value-init t c = each_first (kind_tree c.args.kind.now) c.args.out.now c.args.values.now c.requires.shape

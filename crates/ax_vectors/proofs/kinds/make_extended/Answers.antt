@@ -9,5 +9,5 @@ on_ok (Err e) P Q f p = tt
 pub returns : goal.returns
 returns c =
     on_ok c.make_parts.result _ _
-    (extended_adds c.args.parts.now c.draw.result c.count.result c.args.into.now c.make_parts.new.into c.args.draws.now c.draw.new.self c.make_parts.new.draws c.draw.ensures.drawn c.draw.ensures.state c.count.ensures)
+    (extended_adds c.args.last c.args.parts.now c.draw.result c.count.result c.args.into.now c.make_parts.new.into c.args.draws.now c.draw.new.self c.make_parts.new.draws c.draw.ensures.drawn c.draw.ensures.state c.count.ensures)
     c.make_parts.ensures

@@ -1,4 +1,4 @@
-use Rattle.std.proofs.Common.{◌-◌, ◌%◌, length, get_or, ap, arith, refl, subst, sym, ◌∙◌}
+use Rattle.std.proofs.Common.{◌-◌, ◌%◌, length, ap, arith, refl, subst, sym, ◌∙◌}
 use Rattle.ax_bits.proofs.Pieces.{AreOctets-items}
 use Rattle.ax_model.specs.InBounds.{InBounds}
 use Rattle.ax_model.specs.Tree as Tree
@@ -25,16 +25,16 @@ walk-run-requires-in-Group-clause-width t c =
 
 pub walk-walk_parts-requires-clause-links : goal.walk-walk_parts-requires-clause-links
 walk-walk_parts-requires-clause-links t c =
-    extended_links c.args.nodes.now c.args.link c.index-nodes-link.result c.requires.table c.requires.link.0 c.requires.link.1 c.index-nodes-link.is c.in-Extended.parts c.as_slice.result.now c.in-Extended.is c.as_slice.ensures.members
+    extended_links c.args.nodes.now c.args.link c.index-nodes-link.result c.requires.table c.requires.link.0 c.requires.link.1 c.index-nodes-link.is c.in-Extended.last c.in-Extended.parts c.as_slice.result.now c.in-Extended.is c.as_slice.ensures.members
 
 pub walk-walk_parts-requires-clause-bounds : goal.walk-walk_parts-requires-clause-bounds
 walk-walk_parts-requires-clause-bounds t c =
-    let b : InBounds (Tree.extended (linked_parts (meanings c.args.nodes.now) c.as_slice.result.now)) = subst InBounds (is_extended c.args.nodes.now c.args.link c.index-nodes-link.result c.requires.table c.requires.link.0 c.requires.link.1 c.index-nodes-link.is c.in-Extended.parts c.as_slice.result.now c.in-Extended.is c.as_slice.ensures.members) c.requires.bounds in b
+    let b : InBounds (Tree.extended c.in-Extended.last (linked_parts (meanings c.args.nodes.now) c.as_slice.result.now)) = subst InBounds (is_extended c.args.nodes.now c.args.link c.index-nodes-link.result c.requires.table c.requires.link.0 c.requires.link.1 c.index-nodes-link.is c.in-Extended.last c.in-Extended.parts c.as_slice.result.now c.in-Extended.is c.as_slice.ensures.members) c.requires.bounds in b
 
 pub walk-walk_counted-requires : goal.walk-walk_counted-requires
 walk-walk_counted-requires t c =
-    let l = counted_link c.args.nodes.now c.args.link c.index-nodes-link.result c.requires.table c.requires.link.0 c.requires.link.1 c.index-nodes-link.is c.in-Counted.inner c.in-Counted.is in
-    let b : InBounds (Tree.counted (kind_at c.args.nodes.now c.in-Counted.inner)) = subst InBounds (is_counted c.args.nodes.now c.args.link c.index-nodes-link.result c.requires.table c.requires.link.0 c.requires.link.1 c.index-nodes-link.is c.in-Counted.inner c.in-Counted.is) c.requires.bounds in
+    let l = counted_link c.args.nodes.now c.args.link c.index-nodes-link.result c.requires.table c.requires.link.0 c.requires.link.1 c.index-nodes-link.is c.in-Counted.counter c.in-Counted.inner c.in-Counted.is in
+    let b : InBounds (Tree.counted c.in-Counted.counter (kind_at c.args.nodes.now c.in-Counted.inner)) = subst InBounds (is_counted c.args.nodes.now c.args.link c.index-nodes-link.result c.requires.table c.requires.link.0 c.requires.link.1 c.index-nodes-link.is c.in-Counted.counter c.in-Counted.inner c.in-Counted.is) c.requires.bounds in
     (omega (arith, l.1, c.decreases), (c.requires.table, ((l.0, omega (arith, l.1, c.requires.link.1)), (b, (c.requires.body, c.requires.at)))))
 
 pub walk-walk_run-requires-clause-link : goal.walk-walk_run-requires-clause-link
@@ -79,19 +79,19 @@ walk-returns-in-Part-clause-fault t c =
 
 pub walk-returns-in-Extended-clause-end : goal.walk-returns-in-Extended-clause-end
 walk-returns-in-Extended-clause-end t c =
-    end_as c.args.body.now c.args.at (kind_at c.args.nodes.now c.args.link) (Tree.extended (linked_parts (meanings c.args.nodes.now) c.as_slice.result.now)) (is_extended c.args.nodes.now c.args.link c.index-nodes-link.result c.requires.table c.requires.link.0 c.requires.link.1 c.index-nodes-link.is c.in-Extended.parts c.as_slice.result.now c.in-Extended.is c.as_slice.ensures.members) c.walk_parts.new.notes.least c.walk_parts.result c.walk_parts.ensures.end
+    end_as c.args.body.now c.args.at (kind_at c.args.nodes.now c.args.link) (Tree.extended c.in-Extended.last (linked_parts (meanings c.args.nodes.now) c.as_slice.result.now)) (is_extended c.args.nodes.now c.args.link c.index-nodes-link.result c.requires.table c.requires.link.0 c.requires.link.1 c.index-nodes-link.is c.in-Extended.last c.in-Extended.parts c.as_slice.result.now c.in-Extended.is c.as_slice.ensures.members) c.walk_parts.new.notes.least c.walk_parts.result c.walk_parts.ensures.end
 
 pub walk-returns-in-Extended-clause-fault : goal.walk-returns-in-Extended-clause-fault
 walk-returns-in-Extended-clause-fault t c =
-    fault_as c.args.body.now c.args.at (kind_at c.args.nodes.now c.args.link) (Tree.extended (linked_parts (meanings c.args.nodes.now) c.as_slice.result.now)) (is_extended c.args.nodes.now c.args.link c.index-nodes-link.result c.requires.table c.requires.link.0 c.requires.link.1 c.index-nodes-link.is c.in-Extended.parts c.as_slice.result.now c.in-Extended.is c.as_slice.ensures.members) c.walk_parts.new.notes.fault c.walk_parts.result c.walk_parts.ensures.fault
+    fault_as c.args.body.now c.args.at (kind_at c.args.nodes.now c.args.link) (Tree.extended c.in-Extended.last (linked_parts (meanings c.args.nodes.now) c.as_slice.result.now)) (is_extended c.args.nodes.now c.args.link c.index-nodes-link.result c.requires.table c.requires.link.0 c.requires.link.1 c.index-nodes-link.is c.in-Extended.last c.in-Extended.parts c.as_slice.result.now c.in-Extended.is c.as_slice.ensures.members) c.walk_parts.new.notes.fault c.walk_parts.result c.walk_parts.ensures.fault
 
 pub walk-returns-in-Counted-clause-end : goal.walk-returns-in-Counted-clause-end
 walk-returns-in-Counted-clause-end t c =
-    end_as c.args.body.now c.args.at (kind_at c.args.nodes.now c.args.link) (Tree.counted (kind_at c.args.nodes.now c.in-Counted.inner)) (is_counted c.args.nodes.now c.args.link c.index-nodes-link.result c.requires.table c.requires.link.0 c.requires.link.1 c.index-nodes-link.is c.in-Counted.inner c.in-Counted.is) c.walk_counted.new.notes.least c.walk_counted.result c.walk_counted.ensures.end
+    end_as c.args.body.now c.args.at (kind_at c.args.nodes.now c.args.link) (Tree.counted c.in-Counted.counter (kind_at c.args.nodes.now c.in-Counted.inner)) (is_counted c.args.nodes.now c.args.link c.index-nodes-link.result c.requires.table c.requires.link.0 c.requires.link.1 c.index-nodes-link.is c.in-Counted.counter c.in-Counted.inner c.in-Counted.is) c.walk_counted.new.notes.least c.walk_counted.result c.walk_counted.ensures.end
 
 pub walk-returns-in-Counted-clause-fault : goal.walk-returns-in-Counted-clause-fault
 walk-returns-in-Counted-clause-fault t c =
-    fault_as c.args.body.now c.args.at (kind_at c.args.nodes.now c.args.link) (Tree.counted (kind_at c.args.nodes.now c.in-Counted.inner)) (is_counted c.args.nodes.now c.args.link c.index-nodes-link.result c.requires.table c.requires.link.0 c.requires.link.1 c.index-nodes-link.is c.in-Counted.inner c.in-Counted.is) c.walk_counted.new.notes.fault c.walk_counted.result c.walk_counted.ensures.fault
+    fault_as c.args.body.now c.args.at (kind_at c.args.nodes.now c.args.link) (Tree.counted c.in-Counted.counter (kind_at c.args.nodes.now c.in-Counted.inner)) (is_counted c.args.nodes.now c.args.link c.index-nodes-link.result c.requires.table c.requires.link.0 c.requires.link.1 c.index-nodes-link.is c.in-Counted.counter c.in-Counted.inner c.in-Counted.is) c.walk_counted.new.notes.fault c.walk_counted.result c.walk_counted.ensures.fault
 
 pub walk-returns-in-ByFx-clause-end : goal.walk-returns-in-ByFx-clause-end
 walk-returns-in-ByFx-clause-end t c =
@@ -133,35 +133,35 @@ pub walk_compound-returns-in-Err-clause-fault : goal.walk_compound-returns-in-Er
 walk_compound-returns-in-Err-clause-fault t c =
     record_failed c.args.nodes.now c.args.slots.now c.args.mask.now c.args.body.now c.args.at c.in-Err.fault c.requires.mask c.in-Err.ensures.err
 
-pub walk_counted-returns-then-at-body-clause-fault : goal.walk_counted-returns-then-at-body-clause-fault
-walk_counted-returns-then-at-body-clause-fault t c =
-    counted_none (kind_at c.args.nodes.now c.args.inner) c.args.body.now c.args.at c.fail.new.notes.fault c.if-at-body.true (ap (λ f. f.cause) c.fail.ensures.fault) (ap (λ f. f.bit) c.fail.ensures.fault)
+pub walk_counted-returns-in_default-clause-fault : goal.walk_counted-returns-in_default-clause-fault
+walk_counted-returns-in_default-clause-fault t c =
+    counted_none c.args.size (kind_at c.args.nodes.now c.args.inner) c.args.body.now c.args.at c.fail.new.notes.fault c.in_default.ensures.short (ap (λ f. f.cause) c.fail.ensures.fault) (ap (λ f. f.bit) c.fail.ensures.fault)
 
 pub walk_counted-loop-init : goal.walk_counted-loop-init
 walk_counted-loop-init t c =
-    let fits = c.type_inv.body c.args.at in record { counted = count_first (kind_at c.args.nodes.now c.args.inner) c.args.body.now (get_or c.args.body.now c.args.at 0) c.args.at c.args.notes.now.least (omega (arith, c.if-at-body.false)) refl (omega arith); falls = λ t. t }
+    record { counted = count_first c.args.size (kind_at c.args.nodes.now c.args.inner) c.args.body.now c.in-Some.count c.args.at c.octets.result c.args.notes.now.least c.in-Some.ensures.count c.octets.ensures; falls = λ t. t }
 
 pub walk_counted-returns-in_err-here-clause-fault : goal.walk_counted-returns-in_err-here-clause-fault
 walk_counted-returns-in_err-here-clause-fault t c =
-    if_none c.from_residual.result (count_failed (kind_at c.args.nodes.now c.args.inner) c.args.body.now (get_or c.args.body.now c.args.at 0) c.loop.counter c.args.at c.loop.here c.loop.notes.least c.walk.new.notes.fault c.loop.invariant.counted c.loop-test.true c.in_err-here.ensures.fault)
+    if_none c.from_residual.result (count_failed c.args.size (kind_at c.args.nodes.now c.args.inner) c.args.body.now c.in-Some.count c.loop.counter c.args.at c.loop.here c.loop.notes.least c.walk.new.notes.fault c.loop.invariant.counted c.loop-test.true c.in_err-here.ensures.fault)
 
 pub walk_counted-loop-preserved : goal.walk_counted-loop-preserved
 walk_counted-loop-preserved t c =
     record {
-      counted = count_next (kind_at c.args.nodes.now c.args.inner) c.args.body.now (get_or c.args.body.now c.args.at 0) c.loop.counter c.args.at c.loop.here c.in_ok-here.here c.loop.notes.least c.walk.new.notes.least c.loop.invariant.counted c.loop-test.true c.walk.ensures.falls c.in_ok-here.ensures.end;
+      counted = count_next c.args.size (kind_at c.args.nodes.now c.args.inner) c.args.body.now c.in-Some.count c.loop.counter c.args.at c.loop.here c.in_ok-here.here c.loop.notes.least c.walk.new.notes.least c.loop.invariant.counted c.loop-test.true c.walk.ensures.falls c.in_ok-here.ensures.end;
       falls = λ t. c.loop.invariant.falls (c.walk.ensures.falls t);
     }
 
-pub walk_counted-loop-preserved-in-Some : goal.walk_counted-loop-preserved-in-Some
-walk_counted-loop-preserved-in-Some t c =
+pub walk_counted-loop-preserved-in-Some-fixed_end : goal.walk_counted-loop-preserved-in-Some-fixed_end
+walk_counted-loop-preserved-in-Some-fixed_end t c =
     record {
-      counted = count_next (kind_at c.args.nodes.now c.args.inner) c.args.body.now (get_or c.args.body.now c.args.at 0) c.loop.counter c.args.at c.loop.here c.in-Some.end c.loop.notes.least c.loop.notes.least c.loop.invariant.counted c.loop-test.true (λ t. t) (c.in-Some.ensures c.loop.notes.least);
+      counted = count_next c.args.size (kind_at c.args.nodes.now c.args.inner) c.args.body.now c.in-Some.count c.loop.counter c.args.at c.loop.here c.in-Some-fixed_end.end c.loop.notes.least c.loop.notes.least c.loop.invariant.counted c.loop-test.true (λ t. t) (c.in-Some-fixed_end.ensures c.loop.notes.least);
       falls = c.loop.invariant.falls;
     }
 
 pub walk_counted-returns-clause-end : goal.walk_counted-returns-clause-end
 walk_counted-returns-clause-end t c =
-    count_last (kind_at c.args.nodes.now c.args.inner) c.args.body.now (get_or c.args.body.now c.args.at 0) c.loop.counter c.args.at c.loop.here c.loop.notes.least c.loop.invariant.counted c.loop-test.false
+    count_last c.args.size (kind_at c.args.nodes.now c.args.inner) c.args.body.now c.in-Some.count c.loop.counter c.args.at c.loop.here c.loop.notes.least c.loop.invariant.counted c.loop-test.false
 
 pub walk_marked-bounds-slots-slot : goal.walk_marked-bounds-slots-slot
 walk_marked-bounds-slots-slot t c =

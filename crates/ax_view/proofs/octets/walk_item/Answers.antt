@@ -18,11 +18,11 @@ run-requires-in-Group-clause-width c =
 
 pub walk_parts-requires-clause-links : goal.walk_parts-requires-clause-links
 walk_parts-requires-clause-links c =
-    extended_links c.args.nodes.now c.args.link c.index-nodes-link.result c.requires.table c.requires.link.0 c.requires.link.1 c.index-nodes-link.is c.in-Extended.parts c.as_slice.result.now c.in-Extended.is c.as_slice.ensures.members
+    extended_links c.args.nodes.now c.args.link c.index-nodes-link.result c.requires.table c.requires.link.0 c.requires.link.1 c.index-nodes-link.is c.in-Extended.last c.in-Extended.parts c.as_slice.result.now c.in-Extended.is c.as_slice.ensures.members
 
 pub walk_parts-requires-clause-bounds : goal.walk_parts-requires-clause-bounds
 walk_parts-requires-clause-bounds c =
-    let b : InBounds (Tree.extended (linked_parts (meanings c.args.nodes.now) c.as_slice.result.now)) = subst InBounds (is_extended c.args.nodes.now c.args.link c.index-nodes-link.result c.requires.table c.requires.link.0 c.requires.link.1 c.index-nodes-link.is c.in-Extended.parts c.as_slice.result.now c.in-Extended.is c.as_slice.ensures.members) c.requires.bounds in b
+    let b : InBounds (Tree.extended c.in-Extended.last (linked_parts (meanings c.args.nodes.now) c.as_slice.result.now)) = subst InBounds (is_extended c.args.nodes.now c.args.link c.index-nodes-link.result c.requires.table c.requires.link.0 c.requires.link.1 c.index-nodes-link.is c.in-Extended.last c.in-Extended.parts c.as_slice.result.now c.in-Extended.is c.as_slice.ensures.members) c.requires.bounds in b
 
 pub walk_run-requires-clause-link : goal.walk_run-requires-clause-link
 walk_run-requires-clause-link c =
@@ -60,11 +60,11 @@ returns-in-Part-clause-fault c =
 
 pub returns-in-Extended-clause-end : goal.returns-in-Extended-clause-end
 returns-in-Extended-clause-end c =
-    end_as c.args.body.now c.args.at (kind_at c.args.nodes.now c.args.link) (Tree.extended (linked_parts (meanings c.args.nodes.now) c.as_slice.result.now)) (is_extended c.args.nodes.now c.args.link c.index-nodes-link.result c.requires.table c.requires.link.0 c.requires.link.1 c.index-nodes-link.is c.in-Extended.parts c.as_slice.result.now c.in-Extended.is c.as_slice.ensures.members) c.walk_parts.new.notes.least c.walk_parts.result c.walk_parts.ensures.end
+    end_as c.args.body.now c.args.at (kind_at c.args.nodes.now c.args.link) (Tree.extended c.in-Extended.last (linked_parts (meanings c.args.nodes.now) c.as_slice.result.now)) (is_extended c.args.nodes.now c.args.link c.index-nodes-link.result c.requires.table c.requires.link.0 c.requires.link.1 c.index-nodes-link.is c.in-Extended.last c.in-Extended.parts c.as_slice.result.now c.in-Extended.is c.as_slice.ensures.members) c.walk_parts.new.notes.least c.walk_parts.result c.walk_parts.ensures.end
 
 pub returns-in-Extended-clause-fault : goal.returns-in-Extended-clause-fault
 returns-in-Extended-clause-fault c =
-    fault_as c.args.body.now c.args.at (kind_at c.args.nodes.now c.args.link) (Tree.extended (linked_parts (meanings c.args.nodes.now) c.as_slice.result.now)) (is_extended c.args.nodes.now c.args.link c.index-nodes-link.result c.requires.table c.requires.link.0 c.requires.link.1 c.index-nodes-link.is c.in-Extended.parts c.as_slice.result.now c.in-Extended.is c.as_slice.ensures.members) c.walk_parts.new.notes.fault c.walk_parts.result c.walk_parts.ensures.fault
+    fault_as c.args.body.now c.args.at (kind_at c.args.nodes.now c.args.link) (Tree.extended c.in-Extended.last (linked_parts (meanings c.args.nodes.now) c.as_slice.result.now)) (is_extended c.args.nodes.now c.args.link c.index-nodes-link.result c.requires.table c.requires.link.0 c.requires.link.1 c.index-nodes-link.is c.in-Extended.last c.in-Extended.parts c.as_slice.result.now c.in-Extended.is c.as_slice.ensures.members) c.walk_parts.new.notes.fault c.walk_parts.result c.walk_parts.ensures.fault
 
 pub returns-in-ByFx-clause-end : goal.returns-in-ByFx-clause-end
 returns-in-ByFx-clause-end c =
@@ -89,11 +89,11 @@ returns-then-run_octets-body-clause-end c =
 
 pub returns-in-Counted-clause-end : goal.returns-in-Counted-clause-end
 returns-in-Counted-clause-end c =
-    end_as c.args.body.now c.args.at (kind_at c.args.nodes.now c.args.link) (Tree.counted (kind_at c.args.nodes.now c.in-Counted.inner)) (is_counted c.args.nodes.now c.args.link c.index-nodes-link.result c.requires.table c.requires.link.0 c.requires.link.1 c.index-nodes-link.is c.in-Counted.inner c.in-Counted.is) c.walk_counted.new.notes.least c.walk_counted.result c.walk_counted.ensures.end
+    end_as c.args.body.now c.args.at (kind_at c.args.nodes.now c.args.link) (Tree.counted c.in-Counted.counter (kind_at c.args.nodes.now c.in-Counted.inner)) (is_counted c.args.nodes.now c.args.link c.index-nodes-link.result c.requires.table c.requires.link.0 c.requires.link.1 c.index-nodes-link.is c.in-Counted.counter c.in-Counted.inner c.in-Counted.is) c.walk_counted.new.notes.least c.walk_counted.result c.walk_counted.ensures.end
 
 pub returns-in-Counted-clause-fault : goal.returns-in-Counted-clause-fault
 returns-in-Counted-clause-fault c =
-    fault_as c.args.body.now c.args.at (kind_at c.args.nodes.now c.args.link) (Tree.counted (kind_at c.args.nodes.now c.in-Counted.inner)) (is_counted c.args.nodes.now c.args.link c.index-nodes-link.result c.requires.table c.requires.link.0 c.requires.link.1 c.index-nodes-link.is c.in-Counted.inner c.in-Counted.is) c.walk_counted.new.notes.fault c.walk_counted.result c.walk_counted.ensures.fault
+    fault_as c.args.body.now c.args.at (kind_at c.args.nodes.now c.args.link) (Tree.counted c.in-Counted.counter (kind_at c.args.nodes.now c.in-Counted.inner)) (is_counted c.args.nodes.now c.args.link c.index-nodes-link.result c.requires.table c.requires.link.0 c.requires.link.1 c.index-nodes-link.is c.in-Counted.counter c.in-Counted.inner c.in-Counted.is) c.walk_counted.new.notes.fault c.walk_counted.result c.walk_counted.ensures.fault
 
 pub returns-in-Compound-clause-end : goal.returns-in-Compound-clause-end
 returns-in-Compound-clause-end c =
@@ -105,11 +105,11 @@ returns-in-Compound-clause-fault c =
 
 pub walk_counted-requires-clause-link : goal.walk_counted-requires-clause-link
 walk_counted-requires-clause-link c =
-    let l = counted_link c.args.nodes.now c.args.link c.index-nodes-link.result c.requires.table c.requires.link.0 c.requires.link.1 c.index-nodes-link.is c.in-Counted.inner c.in-Counted.is in (l.0, omega (arith, l.1, c.requires.link.1))
+    let l = counted_link c.args.nodes.now c.args.link c.index-nodes-link.result c.requires.table c.requires.link.0 c.requires.link.1 c.index-nodes-link.is c.in-Counted.counter c.in-Counted.inner c.in-Counted.is in (l.0, omega (arith, l.1, c.requires.link.1))
 
 pub walk_counted-requires-clause-bounds : goal.walk_counted-requires-clause-bounds
 walk_counted-requires-clause-bounds c =
-    let b : InBounds (Tree.counted (kind_at c.args.nodes.now c.in-Counted.inner)) = subst InBounds (is_counted c.args.nodes.now c.args.link c.index-nodes-link.result c.requires.table c.requires.link.0 c.requires.link.1 c.index-nodes-link.is c.in-Counted.inner c.in-Counted.is) c.requires.bounds in b
+    let b : InBounds (Tree.counted c.in-Counted.counter (kind_at c.args.nodes.now c.in-Counted.inner)) = subst InBounds (is_counted c.args.nodes.now c.args.link c.index-nodes-link.result c.requires.table c.requires.link.0 c.requires.link.1 c.index-nodes-link.is c.in-Counted.counter c.in-Counted.inner c.in-Counted.is) c.requires.bounds in b
 
 pub walk_compound-requires-clause-links : goal.walk_compound-requires-clause-links
 walk_compound-requires-clause-links c = compound_links c.args.nodes.now c.args.link c.index-nodes-link.result c.requires.table c.requires.link.0 c.requires.link.1 c.index-nodes-link.is c.in-Compound.mask c.in-Compound.slots c.as_slice-in-Compound.result.now c.in-Compound.is c.as_slice-in-Compound.ensures.members

@@ -26,13 +26,13 @@ pub fixed_spot-requires-in-Group-clause-room : goal.fixed_spot-requires-in-Group
 fixed_spot-requires-in-Group-clause-room t c = let h = item_in c.args.item.now.codec.now c.as_slice-nodes.result.now c.args.item.now.link c.args.item.now.by_fx c.args.item.now.body.now c.as_slice-nodes.ensures.members c.requires.whole c.args.item.now.item in in_room c.as_slice-nodes.result.now c.args.item.now.link c.args.item.now.body.now c.index-nodes-item.result h c.index-nodes-item.is (group_kind c.as_slice-nodes.result.now c.args.item.now.link c.args.item.now.body.now c.index-nodes-item.result h c.index-nodes-item.is c.in-Group.width c.in-Group.members c.in-Group.is)
 
 pub part_spot-requires-clause-links : goal.part_spot-requires-clause-links
-part_spot-requires-clause-links t c = let h = item_in c.args.item.now.codec.now c.as_slice-nodes.result.now c.args.item.now.link c.args.item.now.by_fx c.args.item.now.body.now c.as_slice-nodes.ensures.members c.requires.whole c.args.item.now.item in extended_links c.as_slice-nodes.result.now c.args.item.now.link c.index-nodes-item.result h.table h.some h.within c.index-nodes-item.is c.in-Extended.parts c.as_slice.result.now c.in-Extended.is c.as_slice.ensures.members
+part_spot-requires-clause-links t c = let h = item_in c.args.item.now.codec.now c.as_slice-nodes.result.now c.args.item.now.link c.args.item.now.by_fx c.args.item.now.body.now c.as_slice-nodes.ensures.members c.requires.whole c.args.item.now.item in extended_links c.as_slice-nodes.result.now c.args.item.now.link c.index-nodes-item.result h.table h.some h.within c.index-nodes-item.is c.in-Extended.last c.in-Extended.parts c.as_slice.result.now c.in-Extended.is c.as_slice.ensures.members
 
 pub part_spot-requires-clause-bounds : goal.part_spot-requires-clause-bounds
-part_spot-requires-clause-bounds t c = let h = item_in c.args.item.now.codec.now c.as_slice-nodes.result.now c.args.item.now.link c.args.item.now.by_fx c.args.item.now.body.now c.as_slice-nodes.ensures.members c.requires.whole c.args.item.now.item in extended_bounds c.as_slice-nodes.result.now c.args.item.now.link c.args.item.now.body.now c.index-nodes-item.result h c.index-nodes-item.is c.in-Extended.parts c.as_slice.result.now c.in-Extended.is c.as_slice.ensures.members
+part_spot-requires-clause-bounds t c = let h = item_in c.args.item.now.codec.now c.as_slice-nodes.result.now c.args.item.now.link c.args.item.now.by_fx c.args.item.now.body.now c.as_slice-nodes.ensures.members c.requires.whole c.args.item.now.item in extended_bounds c.as_slice-nodes.result.now c.args.item.now.link c.args.item.now.body.now c.index-nodes-item.result h c.index-nodes-item.is c.in-Extended.last c.in-Extended.parts c.as_slice.result.now c.in-Extended.is c.as_slice.ensures.members
 
 pub part_spot-requires-clause-one : goal.part_spot-requires-clause-one
-part_spot-requires-clause-one t c = let h = item_in c.args.item.now.codec.now c.as_slice-nodes.result.now c.args.item.now.link c.args.item.now.by_fx c.args.item.now.body.now c.as_slice-nodes.ensures.members c.requires.whole c.args.item.now.item in extended_one c.as_slice-nodes.result.now c.args.item.now.link c.args.item.now.body.now c.index-nodes-item.result h c.index-nodes-item.is c.in-Extended.parts c.as_slice.result.now c.in-Extended.is c.as_slice.ensures.members
+part_spot-requires-clause-one t c = let h = item_in c.args.item.now.codec.now c.as_slice-nodes.result.now c.args.item.now.link c.args.item.now.by_fx c.args.item.now.body.now c.as_slice-nodes.ensures.members c.requires.whole c.args.item.now.item in extended_one c.as_slice-nodes.result.now c.args.item.now.link c.args.item.now.body.now c.index-nodes-item.result h c.index-nodes-item.is c.in-Extended.last c.in-Extended.parts c.as_slice.result.now c.in-Extended.is c.as_slice.ensures.members
 
 pub returns-in-Element : goal.returns-in-Element
 returns-in-Element t c = let h = item_in c.args.item.now.codec.now c.as_slice-nodes.result.now c.args.item.now.link c.args.item.now.by_fx c.args.item.now.body.now c.as_slice-nodes.ensures.members c.requires.whole c.args.item.now.item in back c.args.item.now.codec.now c.as_slice-nodes.result.now c.args.item.now.link c.args.item.now.body.now c.args.steps.now c.fixed_spot.result c.as_slice-nodes.ensures.members (spot_at c.as_slice-nodes.result.now c.fixed_spot.result c.args.steps.now (fixed_value (fixed_of (linked (meanings c.as_slice-nodes.result.now) c.args.item.now.link)) (bits c.args.item.now.body.now)) (value_in (kind_at c.as_slice-nodes.result.now c.args.item.now.link) c.args.item.now.body.now) (in_fixed c.as_slice-nodes.result.now c.args.item.now.link c.args.item.now.body.now c.index-nodes-item.result h c.index-nodes-item.is (element_kind c.as_slice-nodes.result.now c.args.item.now.link c.args.item.now.body.now c.index-nodes-item.result h c.index-nodes-item.is c.in-Element.width c.in-Element.is)) c.fixed_spot.ensures)
@@ -41,7 +41,7 @@ pub returns-in-Group : goal.returns-in-Group
 returns-in-Group t c = let h = item_in c.args.item.now.codec.now c.as_slice-nodes.result.now c.args.item.now.link c.args.item.now.by_fx c.args.item.now.body.now c.as_slice-nodes.ensures.members c.requires.whole c.args.item.now.item in back c.args.item.now.codec.now c.as_slice-nodes.result.now c.args.item.now.link c.args.item.now.body.now c.args.steps.now c.fixed_spot-in-Group.result c.as_slice-nodes.ensures.members (spot_at c.as_slice-nodes.result.now c.fixed_spot-in-Group.result c.args.steps.now (fixed_value (fixed_of (linked (meanings c.as_slice-nodes.result.now) c.args.item.now.link)) (bits c.args.item.now.body.now)) (value_in (kind_at c.as_slice-nodes.result.now c.args.item.now.link) c.args.item.now.body.now) (in_fixed c.as_slice-nodes.result.now c.args.item.now.link c.args.item.now.body.now c.index-nodes-item.result h c.index-nodes-item.is (group_kind c.as_slice-nodes.result.now c.args.item.now.link c.args.item.now.body.now c.index-nodes-item.result h c.index-nodes-item.is c.in-Group.width c.in-Group.members c.in-Group.is)) c.fixed_spot-in-Group.ensures)
 
 pub returns-in-Extended : goal.returns-in-Extended
-returns-in-Extended t c = let h = item_in c.args.item.now.codec.now c.as_slice-nodes.result.now c.args.item.now.link c.args.item.now.by_fx c.args.item.now.body.now c.as_slice-nodes.ensures.members c.requires.whole c.args.item.now.item in back c.args.item.now.codec.now c.as_slice-nodes.result.now c.args.item.now.link c.args.item.now.body.now c.args.steps.now c.part_spot.result c.as_slice-nodes.ensures.members (spot_at c.as_slice-nodes.result.now c.part_spot.result c.args.steps.now (value_in (extended (linked_parts (meanings c.as_slice-nodes.result.now) c.as_slice.result.now)) c.args.item.now.body.now) (value_in (kind_at c.as_slice-nodes.result.now c.args.item.now.link) c.args.item.now.body.now) (in_extended c.as_slice-nodes.result.now c.args.item.now.link c.args.item.now.body.now c.index-nodes-item.result h c.index-nodes-item.is c.in-Extended.parts c.as_slice.result.now c.in-Extended.is c.as_slice.ensures.members) c.part_spot.ensures)
+returns-in-Extended t c = let h = item_in c.args.item.now.codec.now c.as_slice-nodes.result.now c.args.item.now.link c.args.item.now.by_fx c.args.item.now.body.now c.as_slice-nodes.ensures.members c.requires.whole c.args.item.now.item in back c.args.item.now.codec.now c.as_slice-nodes.result.now c.args.item.now.link c.args.item.now.body.now c.args.steps.now c.part_spot.result c.as_slice-nodes.ensures.members (spot_at c.as_slice-nodes.result.now c.part_spot.result c.args.steps.now (value_in (extended c.in-Extended.last (linked_parts (meanings c.as_slice-nodes.result.now) c.as_slice.result.now)) c.args.item.now.body.now) (value_in (kind_at c.as_slice-nodes.result.now c.args.item.now.link) c.args.item.now.body.now) (in_extended c.as_slice-nodes.result.now c.args.item.now.link c.args.item.now.body.now c.index-nodes-item.result h c.index-nodes-item.is c.in-Extended.last c.in-Extended.parts c.as_slice.result.now c.in-Extended.is c.as_slice.ensures.members) c.part_spot.ensures)
 
 pub returns-in_default-split_first : goal.returns-in_default-split_first
 returns-in_default-split_first t c = let h = item_in c.args.item.now.codec.now c.as_slice-nodes.result.now c.args.item.now.link c.args.item.now.by_fx c.args.item.now.body.now c.as_slice-nodes.ensures.members c.requires.whole c.args.item.now.item in back c.args.item.now.codec.now c.as_slice-nodes.result.now c.args.item.now.link c.args.item.now.body.now c.args.steps.now Spot.Whole c.as_slice-nodes.ensures.members (no_slot_step c.as_slice-nodes.result.now c.args.item.now.link c.args.item.now.body.now c.index-nodes-item.result h c.index-nodes-item.is c.in-Compound.mask c.in-Compound.slots c.in-Compound.is c.args.steps.now (none_left c.args.steps.now c.in_default-split_first.ensures.cases))

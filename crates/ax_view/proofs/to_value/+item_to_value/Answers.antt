@@ -54,13 +54,13 @@ pub item_to_value-fixed_item-requires-in-Group-clause-room : goal.item_to_value-
 item_to_value-fixed_item-requires-in-Group-clause-room t c = item_room c.args.item.now.codec.now c.args.item.now.link c.args.item.now.by_fx c.args.item.now.body.now c.node.result.now c.args.item.now.item c.node.ensures (group_is c.args.item.now.codec.now c.args.item.now.link c.args.item.now.by_fx c.args.item.now.body.now c.node.result.now c.args.item.now.item c.node.ensures c.in-Group.width c.in-Group.members c.in-Group.is)
 
 pub item_to_value-extended_item-requires-clause-links : goal.item_to_value-extended_item-requires-clause-links
-item_to_value-extended_item-requires-clause-links t c = ext_links c.args.item.now.codec.now c.args.item.now.link c.args.item.now.by_fx c.args.item.now.body.now c.node.result.now c.args.item.now.item c.node.ensures c.in-Extended.parts c.as_slice.result.now c.in-Extended.is c.as_slice.ensures.members
+item_to_value-extended_item-requires-clause-links t c = ext_links c.args.item.now.codec.now c.args.item.now.link c.args.item.now.by_fx c.args.item.now.body.now c.node.result.now c.args.item.now.item c.node.ensures c.in-Extended.last c.in-Extended.parts c.as_slice.result.now c.in-Extended.is c.as_slice.ensures.members
 
 pub item_to_value-extended_item-requires-clause-bounds : goal.item_to_value-extended_item-requires-clause-bounds
-item_to_value-extended_item-requires-clause-bounds t c = ext_bounds c.args.item.now.codec.now c.args.item.now.link c.args.item.now.by_fx c.args.item.now.body.now c.node.result.now c.args.item.now.item c.node.ensures c.in-Extended.parts c.as_slice.result.now c.in-Extended.is c.as_slice.ensures.members
+item_to_value-extended_item-requires-clause-bounds t c = ext_bounds c.args.item.now.codec.now c.args.item.now.link c.args.item.now.by_fx c.args.item.now.body.now c.node.result.now c.args.item.now.item c.node.ensures c.in-Extended.last c.in-Extended.parts c.as_slice.result.now c.in-Extended.is c.as_slice.ensures.members
 
 pub item_to_value-extended_item-requires-clause-one : goal.item_to_value-extended_item-requires-clause-one
-item_to_value-extended_item-requires-clause-one t c = ext_one c.args.item.now.codec.now c.args.item.now.link c.args.item.now.by_fx c.args.item.now.body.now c.node.result.now c.args.item.now.item c.node.ensures c.in-Extended.parts c.as_slice.result.now c.in-Extended.is c.as_slice.ensures.members
+item_to_value-extended_item-requires-clause-one t c = ext_one c.args.item.now.codec.now c.args.item.now.link c.args.item.now.by_fx c.args.item.now.body.now c.node.result.now c.args.item.now.item c.node.ensures c.in-Extended.last c.in-Extended.parts c.as_slice.result.now c.in-Extended.is c.as_slice.ensures.members
 
 pub item_to_value-entries_to_value-requires : goal.item_to_value-entries_to_value-requires
 item_to_value-entries_to_value-requires t c =
@@ -80,7 +80,7 @@ pub item_to_value-returns-in-Group : goal.item_to_value-returns-in-Group
 item_to_value-returns-in-Group t c = item_fixed c.args.item.now.codec.now c.args.item.now.link c.args.item.now.by_fx c.args.item.now.body.now c.node.result.now c.args.item.now.item c.node.ensures (group_is c.args.item.now.codec.now c.args.item.now.link c.args.item.now.by_fx c.args.item.now.body.now c.node.result.now c.args.item.now.item c.node.ensures c.in-Group.width c.in-Group.members c.in-Group.is) c.fixed_item-in-Group.result c.fixed_item-in-Group.ensures
 
 pub item_to_value-returns-in-Extended : goal.item_to_value-returns-in-Extended
-item_to_value-returns-in-Extended t c = ext_value c.args.item.now.codec.now c.args.item.now.link c.args.item.now.by_fx c.args.item.now.body.now c.node.result.now c.args.item.now.item c.node.ensures c.in-Extended.parts c.as_slice.result.now c.in-Extended.is c.as_slice.ensures.members c.extended_item.result c.extended_item.ensures
+item_to_value-returns-in-Extended t c = ext_value c.args.item.now.codec.now c.args.item.now.link c.args.item.now.by_fx c.args.item.now.body.now c.node.result.now c.args.item.now.item c.node.ensures c.in-Extended.last c.in-Extended.parts c.as_slice.result.now c.in-Extended.is c.as_slice.ensures.members c.extended_item.result c.extended_item.ensures
 
 pub item_to_value-returns-in_ok-entries-in-Compound : goal.item_to_value-returns-in_ok-entries-in-Compound
 item_to_value-returns-in_ok-entries-in-Compound t c = compound_value c.args.item.now.codec.now c.args.item.now.link c.args.item.now.by_fx c.args.item.now.body.now c.node.result.now c.args.item.now.item c.node.ensures c.in-Compound.mask c.in-Compound.slots c.as_slice-in-Compound.result.now c.in-Compound.is c.as_slice-in-Compound.ensures.members _ (entries_tree c.in_ok-entries-in-Compound.entries) (compound_value_tree c.in_ok-entries-in-Compound.entries) c.in_ok-entries-in-Compound.ensures

@@ -25,5 +25,7 @@ returns-in-Ok-Some g c =
         fault = λ _. tt;
         rose = λ _. tt;
         never_falls = c.in-Ok-Some.ensures.never_falls;
+        once = c.in-Ok-Some.ensures.once;
+        quiet = c.in-Ok-Some.ensures.quiet;
       },
     )

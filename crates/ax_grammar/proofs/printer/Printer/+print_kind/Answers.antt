@@ -2,7 +2,7 @@ use Rattle.std.proofs.Common.{◌≡◌, sym, subst, ◌+◌, drop, refl, ap, �
 use Rattle.ax_grammar.specs.Keywords.{keyword_text}
 use Rattle.ax_model.specs.Plain.{fixed_tree, kind_tree, slot_tree, slots_tree}
 use Rattle.ax_grammar.specs.Prints.{Prints}
-use Rattle.ax_grammar.specs.Spelling.{fixed_texts, kind_texts, slot_texts, slots_texts}
+use Rattle.ax_grammar.specs.Spelling.{extended_word, counted_word, fixed_texts, kind_texts, slot_texts, slots_texts}
 use Rattle.ax_grammar.specs.declared.keyword.Keyword.TheVariants as Word
 use Rattle.ax_grammar.proofs.Printed.{print_block, print_first, owes_less, next_item, parts_texts, slots_texts_of}
 use Rattle.ax_model.proofs.VariantTrees.{extended_tree, counted_tree, by_fx_tree, compound_tree, fixed_kind_tree}
@@ -15,13 +15,13 @@ kind-returns-in-Fixed t c =
 
 pub kind-returns-in-Extended : goal.kind-returns-in-Extended
 kind-returns-in-Extended t c =
-    print_block Word.Extended (parts_texts c.in-Extended.parts) (kind_texts (kind_tree c.args.kind.now)) c.args.self.now c.open.new.self c.parts.new.self c.word.new.self
-    (ap kind_texts (ap kind_tree c.in-Extended.is ∙ extended_tree c.in-Extended.parts)) c.open.ensures c.parts.ensures c.word.ensures
+    print_block (extended_word c.in-Extended.last) (parts_texts c.in-Extended.parts) (kind_texts (kind_tree c.args.kind.now)) c.args.self.now c.open.new.self c.parts.new.self c.word.new.self
+    (ap kind_texts (ap kind_tree c.in-Extended.is ∙ extended_tree c.in-Extended.last c.in-Extended.parts)) (search rules) c.parts.ensures c.word.ensures
 
 pub kind-returns-in-Counted : goal.kind-returns-in-Counted
 kind-returns-in-Counted t c =
-    print_block Word.Counted (kind_texts (kind_tree c.in-Counted.inner.value)) (kind_texts (kind_tree c.args.kind.now)) c.args.self.now c.open-in-Counted.new.self c.kind.new.self c.word-in-Counted.new.self
-    (ap kind_texts (ap kind_tree c.in-Counted.is ∙ counted_tree c.in-Counted.inner)) c.open-in-Counted.ensures (search rules) c.word-in-Counted.ensures
+    print_block (counted_word c.in-Counted.size) (kind_texts (kind_tree c.in-Counted.inner.value)) (kind_texts (kind_tree c.args.kind.now)) c.args.self.now c.open-in-Counted.new.self c.kind.new.self c.word-in-Counted.new.self
+    (ap kind_texts (ap kind_tree c.in-Counted.is ∙ counted_tree c.in-Counted.size c.in-Counted.inner)) (search rules) (search rules) c.word-in-Counted.ensures
 
 pub kind-returns-in-ByFx : goal.kind-returns-in-ByFx
 kind-returns-in-ByFx t c =

@@ -4,10 +4,10 @@ use Rattle.std.proofs.lemmas.Result.{err_from_is_err_and}
 use Rattle.ax_model.specs.Plain.{slot_tree}
 use Rattle.ax_grammar.specs.Parsing.{list_at}
 use Rattle.ax_grammar.specs.Rules.{slot_at}
-use Rattle.ax_grammar.proofs.Cases.{extended_gives, by_fx_gives, explicit_read, compound_gives, fixed_gives}
+use Rattle.ax_grammar.proofs.Cases.{by_fx_gives, explicit_read, compound_gives, fixed_gives}
 use Rattle.ax_model.proofs.VariantTrees.{explicit_tree}
 use Rattle.ax_grammar.proofs.Lists.{list_goes_on, braced_stops_before, braced_stops_within, braced_ends}
-use Rattle.ax_grammar.proofs.Recursive.{part_shrinks, slot_shrinks}
+use Rattle.ax_grammar.proofs.Recursive.{slot_shrinks}
 use Rattle.ax_grammar.proofs.reader.SpecReader.+read_kind.Goals as goal
 
 pub slots-returns-in_err-takes : goal.slots-returns-in_err-takes
@@ -40,11 +40,8 @@ pub slots-returns : goal.slots-returns
 slots-returns t c =
     braced_ends slot_at slot_shrinks c.args.self.now c.expect.new.self c.loop-slots.self c.takes.new.self (map slot_tree c.loop-slots.slots) c.in_ok-expect.ensures.reads c.loop-slots.invariant.read (search rules)
 
-pub kind-returns-in-Extended : goal.kind-returns-in-Extended
-kind-returns-in-Extended t c = extended_gives c.args.self.now c.skip.new.self c.braced.new.self c.braced.result c.map.result (search rules) c.braced.ensures c.map.ensures.cases
-
 pub kind-returns-in-ByFx : goal.kind-returns-in-ByFx
-kind-returns-in-ByFx t c = by_fx_gives c.args.self.now c.skip-in-ByFx.new.self c.fixed.new.self c.fixed.result c.map-in-ByFx.result (search rules) c.fixed.ensures c.map-in-ByFx.ensures.cases
+kind-returns-in-ByFx t c = by_fx_gives c.args.self.now c.skip-in-ByFx.new.self c.fixed.new.self c.fixed.result c.map.result (search rules) c.fixed.ensures c.map.ensures.cases
 
 pub kind-returns-in-Explicit : goal.kind-returns-in-Explicit
 kind-returns-in-Explicit t c = explicit_read c.args.self.now c.skip-in-Explicit.new.self _ explicit_tree (search rules)
@@ -54,8 +51,5 @@ kind-returns-in-Compound t c = compound_gives c.args.self.now c.skip-in-Compound
 
 pub kind-returns-in_default : goal.kind-returns-in_default
 kind-returns-in_default t c =
-    fixed_gives c.args.self.now _ c.fixed-in_default.new.self c.in_ok-keyword.field-0 c.fixed-in_default.result c.map-in_default.result c.in_default.not-Extended c.in_default.not-Counted c.in_default.not-ByFx c.in_default.not-Explicit c.in_default.not-Compound
+    fixed_gives c.args.self.now _ c.fixed-in_default.new.self c.in_ok-keyword.field-0 c.fixed-in_default.result c.map-in_default.result c.in_default.not-Extended c.in_default.not-Closed c.in_default.not-Counted c.in_default.not-Wide c.in_default.not-ByFx c.in_default.not-Explicit c.in_default.not-Compound
     c.in_ok-keyword.ensures.reads c.fixed-in_default.ensures c.map-in_default.ensures.cases
-
-pub kind-braced-requires : goal.kind-braced-requires
-kind-braced-requires t c = part_shrinks

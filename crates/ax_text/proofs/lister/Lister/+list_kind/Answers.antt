@@ -8,7 +8,7 @@ use Rattle.ax_text.specs.Printing.{as_lines}
 use Rattle.ax_text.specs.ShowText.{kind_lines, each_lines, entries_lines, occurrence}
 use Rattle.ax_text.specs.Slots.{slot_lines}
 use Rattle.ax_text.proofs.EntryWays.{entries_first, entry_shape, entry_next, entries_ended}
-use Rattle.ax_text.proofs.ListedKinds.{each_first, each_shape, each_next, each_ended, lines_made, counted_lines, compound_put, slot_listable}
+use Rattle.ax_text.proofs.ListedKinds.{each_shape, each_next, each_ended, lines_made, counted_lines, compound_put, slot_listable}
 use Rattle.ax_text.proofs.Pieces.{last_put}
 use Rattle.ax_text.proofs.lister.Lister.+list_kind.Goals as goal
 

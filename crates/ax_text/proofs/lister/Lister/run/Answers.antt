@@ -1,4 +1,4 @@
-use Rattle.std.proofs.Common.{◌≡◌, ◌+◌, ◌<◌, ◌≤◌, ℕ, rules, length, get_or, subst, arith, ap, sym, ◌∙◌}
+use Rattle.std.proofs.Common.{◌≡◌, ◌+◌, ◌<◌, ◌≤◌, ℕ, rules, length, get_or, subst, ap, ◌∙◌}
 use Rattle.ax_model.specs.Plain.{fixed_tree, values_tree}
 use Rattle.ax_model.specs.Shape.{FixedShape}
 use Rattle.ax_text.specs.ShowText.{fixed_lines, each_lines, occurrence}

@@ -1,4 +1,4 @@
-use Rattle.std.proofs.Common.{sym, ◌∙◌, ap, Some, rules}
+use Rattle.std.proofs.Common.{sym, ◌∙◌, ap, Some}
 use Rattle.ax_uap.proofs.Categories.{no_spec, first_spec}
 use Rattle.ax_uap.proofs.by_category.ByCategory.first.Goals as goal
 

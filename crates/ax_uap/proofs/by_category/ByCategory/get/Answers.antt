@@ -1,7 +1,5 @@
-use Rattle.std.proofs.Common.{◌∙◌, sym, ap, subst}
-use Rattle.std.specs.List.{AllByRecursion}
+use Rattle.std.proofs.Common.{◌∙◌, ap}
 use Rattle.std.specs.Option.{option_copied}
-use Rattle.ax_model.specs.OfCode.{HasNoFlaw}
 use Rattle.ax_model.specs.Plain.{catalogue_tree}
 use Rattle.ax_model.specs.Specification.{spec_of}
 use Rattle.ax_uap.proofs.Categories.{spec_is, clean_is}

@@ -1,0 +1,124 @@
+-- What is taken from the library and counted, stage by stage.
+use Rattle.std.proofs.Common.{◌≡◌, ℕ, ◌+◌, ◌≤◌, List, [], ◌∷◌, Option, Result, Err, sym, ◌∙◌, subst}
+use Rattle.ax_app.specs.Counting.{CountsAt, LoadsAll, LoadsThrough, NoneCounted, CountsOnly}
+use Rattle.ax_app.specs.Jobs.{Job, writes, each_block, builds, salvages, refuses, JobRuns, TextEnds, TextRuns, written, cut, no_memory, files_of}
+use Rattle.ax_app.specs.Running.{Runs, at_words, no_words, at_files, before_input, in_job}
+use Rattle.ax_app.specs.Salvages.{outcome_of_salvage}
+use Rattle.ax_check.specs.declared.accepted.Accepted.{Accepted}
+use Rattle.ax_check.specs.declared.catalogue.Catalogue.{Catalogue}
+use Rattle.ax_build_work.specs.declared.fault.TextFault.{TextFault}
+use Rattle.ax_command.specs.Outcomes.{outcome_of_stop, outcome_of_end, outcome_of_lines, outcome_of_job_stop}
+use Rattle.ax_command.specs.declared.outcome.JobStop.{JobStop}
+use Rattle.ax_command.specs.declared.outcome.JobStop.TheVariants as JobStopOf
+use Rattle.ax_command.specs.declared.outcome.Outcome.{Outcome}
+use Rattle.ax_command.specs.declared.outcome.Refusal.TheVariants as RefusalOf
+use Rattle.ax_line_stream.specs.Runs as Lines
+use Rattle.ax_line_stream.specs.declared.end.LinesEnd.{LinesEnd}
+use Rattle.ax_line_stream.specs.declared.end.LinesEnd.TheVariants as LinesEndOf
+use Rattle.ax_load.specs.Counting.{TookFiles, TookThrough, UnlessLoadFault}
+use Rattle.ax_load.specs.declared.fault.LoadStop.{LoadStop}
+use Rattle.ax_load.specs.declared.fault.LoadStop.TheVariants as LoadStopOf
+use Rattle.ax_outside.specs.Changes.{LibraryCounts, SourceChange, SinkChange, IsUnasked}
+use Rattle.ax_outside.specs.Files.{File}
+use Rattle.ax_salvage.specs.Runs as Salvages
+use Rattle.ax_salvage.specs.declared.salvaging.SalvageEnd.{SalvageEnd}
+use Rattle.ax_salvage.specs.declared.salvaging.SalvageEnd.TheVariants as SalvageEndOf
+use Rattle.ax_stream.specs.Streams as Streams
+use Rattle.ax_stream.specs.Streams.{IsIdle}
+use Rattle.ax_stream.specs.declared.end.StreamEnd.{StreamEnd}
+use Rattle.ax_stream.specs.declared.end.StreamEnd.TheVariants as EndOf
+use Rattle.ax_words.specs.declared.line.Line.{Line}
+use Rattle.ax_words.specs.declared.line.Line.TheVariants.{Migrate}
+
+-- ---- the files
+
+pub all_of_catalogue : (what : Line) (names : List (List ℕ)) (files : Option (List File)) (c : LibraryCounts) → names ≡ files_of what → c.faults' ≡ c.faults → TookFiles files c.taken c.taken' names → (names ≡ [] → IsUnasked c) → LoadsAll what files c
+all_of_catalogue what names files c is quiet took unasked = record { quiet = quiet; took = subst (TookFiles files c.taken c.taken') is took; unasked = λ none. unasked (is ∙ none) }
+
+pub all_of_two : (first second : List ℕ) (files : Option (List File)) (c : LibraryCounts) → c.faults' ≡ c.faults → TookFiles files c.taken c.taken' (first ∷ second ∷ []) → LoadsAll (Migrate first second) files c
+all_of_two first second files c quiet took = record { quiet = quiet; took = took; unasked = λ none. absurd (cc) }
+
+counts_at : (A : Type 0) (stop : LoadStop) (c : LibraryCounts) → c.faults' ≤ c.faults + 1 → UnlessLoadFault {A = A} (Err stop) (c.faults' ≡ c.faults) → CountsAt stop c
+counts_at A (LoadStopOf.LoadFault file) c once quiet = once
+counts_at A (LoadStopOf.SpecRefused file fault) c once quiet = quiet
+counts_at A (LoadStopOf.CategoryTwice file category) c once quiet = quiet
+counts_at A LoadStopOf.OutOfMemory c once quiet = quiet
+
+pub through_of : (A : Type 0) (what : Line) (names : List (List ℕ)) (files : Option (List File)) (c : LibraryCounts) (stop : LoadStop) → names ≡ files_of what → c.faults' ≤ c.faults + 1 → UnlessLoadFault {A = A} (Err stop) (c.faults' ≡ c.faults)
+    → TookThrough files c.taken c.taken' names stop → LoadsThrough what files c stop
+through_of A what names files c stop is once quiet took = record { counts = counts_at A stop c once quiet; took = subst (λ n. TookThrough files c.taken c.taken' n stop) is took }
+
+pub through_catalogue : (what : Line) (names : List (List ℕ)) (files : Option (List File)) (c : LibraryCounts) (stop : LoadStop) → names ≡ files_of what → c.faults' ≤ c.faults + 1 → UnlessLoadFault {A = Catalogue} (Err stop) (c.faults' ≡ c.faults)
+    → TookThrough files c.taken c.taken' names stop → LoadsThrough what files c stop
+through_catalogue what names files c stop is once quiet took = through_of Catalogue what names files c stop is once quiet took
+
+pub through_two : (first second : List ℕ) (files : Option (List File)) (c : LibraryCounts) (stop : LoadStop) → c.faults' ≤ c.faults + 1 → UnlessLoadFault {A = Accepted × Accepted} (Err stop) (c.faults' ≡ c.faults)
+    → TookThrough files c.taken c.taken' (first ∷ second ∷ []) stop → LoadsThrough (Migrate first second) files c stop
+through_two first second files c stop once quiet took = record { counts = counts_at (Accepted × Accepted) stop c once quiet; took = took }
+
+-- ---- faults
+
+module _ (c : LibraryCounts) (i : SourceChange) (o r : SinkChange) where
+  at_stop : (stop : LoadStop) → CountsAt stop c → IsIdle i o r → CountsOnly c i o r (outcome_of_stop stop)
+  at_stop (LoadStopOf.LoadFault file) h idle = (h, idle.source_quiet, idle.out_quiet, idle.report_quiet)
+  at_stop (LoadStopOf.SpecRefused file fault) h idle = record { library = h; source = idle.source_quiet; out = idle.out_quiet; report = idle.report_quiet }
+  at_stop (LoadStopOf.CategoryTwice file category) h idle = record { library = h; source = idle.source_quiet; out = idle.out_quiet; report = idle.report_quiet }
+  at_stop LoadStopOf.OutOfMemory h idle = record { library = h; source = idle.source_quiet; out = idle.out_quiet; report = idle.report_quiet }
+
+  none_counted : c.faults' ≡ c.faults → IsIdle i o r → NoneCounted c i o r
+  none_counted quiet idle = record { library = quiet; source = idle.source_quiet; out = idle.out_quiet; report = idle.report_quiet }
+
+  before : (stop : JobStop) → NoneCounted c i o r → CountsOnly c i o r (outcome_of_job_stop stop)
+  before (JobStopOf.Refused (RefusalOf.OtherCategory old new)) h = h
+  before (JobStopOf.Refused (RefusalOf.FilterRefused fault)) h = h
+  before JobStopOf.OutOfMemory h = h
+
+  of_text : (count : ℕ) (text : List ℕ) (outcome : Outcome) → c.faults' ≡ c.faults → i.faults' ≡ i.faults → r.faults' ≡ r.faults → TextEnds count text o outcome → CountsOnly c i o r outcome
+  of_text count text outcome library source report (written is h still) = subst (CountsOnly c i o r) (sym is) (record { library = library; source = source; out = still; report = report })
+  of_text count text outcome library source report (cut is h once) = subst (CountsOnly c i o r) (sym is) (library, source, once, report)
+  of_text count text outcome library source report (no_memory is h still) = subst (CountsOnly c i o r) (sym is) (record { library = library; source = source; out = still; report = report })
+
+  of_blocks : (end : StreamEnd) → c.faults' ≡ c.faults → Streams.CountsOnly i o r end → CountsOnly c i o r (outcome_of_end end)
+  of_blocks (EndOf.Done n) library h = record { library = library; source = h.0; out = h.1; report = h.2 }
+  of_blocks (EndOf.Refused fault) library h = record { library = library; source = h.0; out = h.1; report = h.2 }
+  of_blocks EndOf.InputTooLong library h = record { library = library; source = h.0; out = h.1; report = h.2 }
+  of_blocks (EndOf.TooLong block octets) library h = record { library = library; source = h.0; out = h.1; report = h.2 }
+  of_blocks EndOf.ReadFault library h = (library, h.0, h.1, h.2)
+  of_blocks EndOf.WriteFault library h = (library, h.0, h.1, h.2)
+  of_blocks EndOf.ReportFault library h = (library, h.0, h.1, h.2)
+  of_blocks EndOf.OutOfMemory library h = record { library = library; source = h.0; out = h.1; report = h.2 }
+
+  of_lines : (end : LinesEnd TextFault) → c.faults' ≡ c.faults → r.faults' ≡ r.faults → Lines.CountsOnly i o end → CountsOnly c i o r (outcome_of_lines end)
+  of_lines (LinesEndOf.Done n) library report h = record { library = library; source = h.0; out = h.1; report = report }
+  of_lines (LinesEndOf.Refused line fault) library report h = record { library = library; source = h.0; out = h.1; report = report }
+  of_lines (LinesEndOf.LineTooLong line) library report h = record { library = library; source = h.0; out = h.1; report = report }
+  of_lines LinesEndOf.InputTooLong library report h = record { library = library; source = h.0; out = h.1; report = report }
+  of_lines LinesEndOf.ReadFault library report h = (library, h.0, h.1, report)
+  of_lines LinesEndOf.WriteFault library report h = (library, h.0, h.1, report)
+  of_lines LinesEndOf.OutOfMemory library report h = record { library = library; source = h.0; out = h.1; report = report }
+
+  of_salvage : (end : SalvageEnd) → c.faults' ≡ c.faults → Salvages.CountsOnly i o r end → CountsOnly c i o r (outcome_of_salvage end)
+  of_salvage (SalvageEndOf.Done n) library h = record { library = library; source = h.0; out = h.1; report = h.2 }
+  of_salvage (SalvageEndOf.EndsInHeader block bit) library h = record { library = library; source = h.0; out = h.1; report = h.2 }
+  of_salvage (SalvageEndOf.BadLen block) library h = record { library = library; source = h.0; out = h.1; report = h.2 }
+  of_salvage (SalvageEndOf.EndsInBlock block bit) library h = record { library = library; source = h.0; out = h.1; report = h.2 }
+  of_salvage SalvageEndOf.InputTooLong library h = record { library = library; source = h.0; out = h.1; report = h.2 }
+  of_salvage SalvageEndOf.ReadFault library h = (library, h.0, h.1, h.2)
+  of_salvage SalvageEndOf.WriteFault library h = (library, h.0, h.1, h.2)
+  of_salvage SalvageEndOf.ReportFault library h = (library, h.0, h.1, h.2)
+
+  in_a_job : (job : Job) (outcome : Outcome) → c.faults' ≡ c.faults → JobRuns job i o r outcome → CountsOnly c i o r outcome
+  in_a_job (writes count text) outcome library h = of_text count text outcome library h.source_quiet h.report_quiet h.ends
+  in_a_job (each_block k) outcome library h = subst (CountsOnly c i o r) (sym h.is) (of_blocks h.end library h.runs.counts)
+  in_a_job (builds catalogue) outcome library h = subst (CountsOnly c i o r) (sym h.is) (of_lines h.end library h.report_quiet h.runs.counts)
+  in_a_job (salvages catalogue) outcome library h = subst (CountsOnly c i o r) (sym h.is) (of_salvage h.end library h.runs.counts)
+  in_a_job (refuses refusal) outcome library h = absurd h
+
+  pub counted : (words : List (List ℕ)) (files : Option (List File)) (outcome : Outcome) → Runs words files c i o r outcome → CountsOnly c i o r outcome
+  counted words files outcome (at_words none is unasked idle) = subst (CountsOnly c i o r) (sym is) (none_counted unasked.faults idle)
+  counted words files outcome (no_words is unasked idle) = subst (CountsOnly c i o r) (sym is) (none_counted unasked.faults idle)
+  counted words files outcome (at_files stop h loads is idle) = subst (CountsOnly c i o r) (sym is) (at_stop stop loads.counts idle)
+  counted words files outcome (before_input stop h loads is idle) = subst (CountsOnly c i o r) (sym is) (before stop (none_counted loads.quiet idle))
+  counted words files outcome (in_job job d loads h) = in_a_job job outcome loads.quiet h
+
+pub ruleset loads = (all_of_catalogue, all_of_two, through_catalogue, through_two)

@@ -17,10 +17,12 @@ def place(text, at):
 
 
 class Node:
-    """What stands at a path of a category file: the tokens of its name and of its kind, and its bits where they are fixed."""
+    """What stands at a path of a category file: the tokens of its name and of its kind, its bits where they are fixed, and
+    whether an FX bit is one of them."""
 
-    def __init__(self, path, name, begin, end, bits, is_place):
+    def __init__(self, path, name, begin, end, bits, is_place, has_fx=False):
         self.path, self.name, self.begin, self.end, self.bits, self.is_place = path, name, begin, end, bits, is_place
+        self.has_fx = has_fx
 
 
 class Spec:
@@ -63,16 +65,16 @@ class Spec:
 
     def kind(self, path, is_place):
         word = self.word()
-        if word == "extended":
-            return self.parts(path, is_place)
-        if word == "counted":
+        if word in ("extended", "closed"):
+            return self.parts(path, is_place, word == "extended")
+        if word in ("counted", "wide"):
             self.at += 1
             self.node(f"{path}/body", self.at, False)
             self.at += 1
         elif word == "byfx":
             begin = self.at
             bits = self.fixed(self.word(), f"{path}/body", False)
-            self.nodes.append(Node(f"{path}/body", begin, begin, self.at, bits + 1, False))
+            self.nodes.append(Node(f"{path}/body", begin, begin, self.at, bits + 1, False, True))
         elif word == "compound":
             self.at += 1
             while self.peek() != "}":
@@ -84,14 +86,15 @@ class Spec:
             return self.fixed(word, path, is_place)
         return None
 
-    def parts(self, path, is_place):
+    def parts(self, path, is_place, last_has_fx):
         self.at += 1
         number = 0
         while self.peek() != "}":
             begin = self.at
             self.at += 2
             bits = self.members(path, is_place)
-            self.nodes.append(Node(f"{path}/part{number}", begin, begin, self.at, bits + 1, False))
+            has_fx = last_has_fx or self.peek() != "}"
+            self.nodes.append(Node(f"{path}/part{number}", begin, begin, self.at, bits + has_fx, False, has_fx))
             number += 1
         self.at += 1
 

@@ -357,7 +357,21 @@ fn leave(
     leaves(rt, alloc, words, input, Outside::Sound, want);
 }
 
-// One more than a counter of one octet tells: in octets, as text, and back.
+/// The listing of a block of category 206 with so many occurrences of 7, of that many octets.
+fn listing_of(rt: &impl Abort, alloc: Global, octets: u32, count: u32) -> Vec<u8> {
+    let front = format!(in alloc;
+        "block 0 category 206 octets {octets} records 1\nrecord 0\n206/010 occurrences {count}\n"
+    );
+    let front = front.expect(rt, "memory");
+    let mut made = front.as_bytes().to_vec(alloc).expect(rt, "memory");
+    for number in 0..count {
+        let line = format!(in alloc; "206/010[{number}] = 7\n").expect(rt, "memory");
+        made.extend_from_slice(line.as_bytes()).expect(rt, "memory");
+    }
+    made
+}
+
+// One more than a counter of one octet tells: in octets, as text, and back; and as a listing.
 #[test]
 fn occurrences_past_one_octet(rt: HostRuntime) {
     let alloc = rt.alloc();
@@ -366,6 +380,8 @@ fn occurrences_past_one_octet(rt: HostRuntime) {
     leave(&rt, alloc, "canon W", &block, (0, &block, ""));
     leave(&rt, alloc, "text W", &block, (0, &line, ""));
     leave(&rt, alloc, "build W", &line, (0, &block, ""));
+    let listing = listing_of(&rt, alloc, 262, 256);
+    leave(&rt, alloc, "show W", &block, (0, &listing, ""));
     let counted = line_of(&rt, alloc, FRONT_OF_COUNTED, 256);
     let report = "refused line 0 BadToken token 262\n";
     leave(&rt, alloc, "build X", &counted, (3, b"", report));

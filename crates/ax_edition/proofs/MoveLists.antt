@@ -11,6 +11,7 @@ use Rattle.ax_edition.specs.declared.index.Index.{Index}
 use Rattle.ax_relation.specs.declared.moves.Move.{Move}
 use Rattle.ax_model.proofs.Namings.{from_place}
 use Rattle.ax_model.specs.Plain.{slot_tree, slots_tree}
+use Rattle.ax_model.specs.Same.{common_parts}
 use Rattle.ax_model.specs.Shared.{is_shared_kind}
 use Rattle.ax_model.specs.Tree.{KindTree, fixed, extended, counted, by_fx, explicit, compound, SlotTree, SlotsTree, slots_of, slot_and, spare_slot, subitem}
 use Rattle.ax_model.specs.declared.kind.Slot.{Slot}
@@ -19,18 +20,18 @@ use Rattle.ax_model.specs.declared.spec.Item.{Item}
 -- ---- one move
 
 module _ (t : ℕ) (l : KindTree) (o : Option (ℕ × KindTree)) (moves : List Move) where
-  pub move_put : (s : ℕ) (k : KindTree) (made below : List Move) (m : Move) → o ≡ Some (s, k) → is_shared_kind k l ≡ true → map move_tree below ≡ moves_below l k
-      → move_tree m ≡ move_from s t (moves_from (map move_tree below)) → made ≡ moves ++ m ∷ [] → map move_tree made ≡ map move_tree moves ++ move_where t l o (moves_below l)
-  move_put s k made below m found shared b whole e =
-      ap (map move_tree) e ∙ map-append move_tree moves (m ∷ []) ∙ ap (λ x. map move_tree moves ++ x ∷ []) (whole ∙ ap (λ x. move_from s t (moves_from x)) b)
-      ∙ ap (λ x. map move_tree moves ++ cond x (move_from s t (moves_from (moves_below l k)) ∷ []) []) (sym shared) ∙ ap (λ q. map move_tree moves ++ move_where t l q (moves_below l)) (sym found)
+  pub move_put : (s c : ℕ) (k : KindTree) (made below : List Move) (m : Move) → o ≡ Some (s, k) → is_shared_kind k l ≡ true → c ≡ common_parts k l → map move_tree below ≡ moves_below l k
+      → move_tree m ≡ move_from s t c (moves_from (map move_tree below)) → made ≡ moves ++ m ∷ [] → map move_tree made ≡ map move_tree moves ++ move_where t l o (moves_below l)
+  move_put s c k made below m found shared parts b whole e =
+      ap (map move_tree) e ∙ map-append move_tree moves (m ∷ []) ∙ ap (λ x. map move_tree moves ++ x ∷ []) (whole ∙ (λ i. move_from s t (parts i) (moves_from (b i))))
+      ∙ ap (λ x. map move_tree moves ++ cond x (move_from s t (common_parts k l) (moves_from (moves_below l k)) ∷ []) []) (sym shared) ∙ ap (λ q. map move_tree moves ++ move_where t l q (moves_below l)) (sym found)
 
   pub none_found : o ≡ None → map move_tree moves ≡ map move_tree moves ++ move_where t l o (moves_below l)
   none_found found = sym (append-nil (map move_tree moves)) ∙ ap (λ q. map move_tree moves ++ move_where t l q (moves_below l)) (sym found)
 
   pub none_shared : (s : ℕ) (k : KindTree) → o ≡ Some (s, k) → is_shared_kind k l ≡ false → map move_tree moves ≡ map move_tree moves ++ move_where t l o (moves_below l)
   none_shared s k found shared =
-      sym (append-nil (map move_tree moves)) ∙ ap (λ x. map move_tree moves ++ cond x (move_from s t (moves_from (moves_below l k)) ∷ []) []) (sym shared)
+      sym (append-nil (map move_tree moves)) ∙ ap (λ x. map move_tree moves ++ cond x (move_from s t (common_parts k l) (moves_from (moves_below l k)) ∷ []) []) (sym shared)
       ∙ ap (λ q. map move_tree moves ++ move_where t l q (moves_below l)) (sym found)
 
 pub ruleset puts = (move_put, none_found, none_shared)

@@ -1,5 +1,5 @@
 -- What a map says, after more paths.
-use Rattle.std.proofs.Common.{◌≡◌, ℕ, ◌+◌, ◌<◌, ◌≤◌, Bool, cond, List, [], ◌∷◌, ◌++◌, length, map, take, get_or, Option, Some, None, option_map, option_and_then, refl, sym, ◌∙◌, ap, subst, append_assoc, append-nil}
+use Rattle.std.proofs.Common.{◌≡◌, ℕ, ◌+◌, ◌<◌, ◌≤◌, cond, List, [], ◌∷◌, ◌++◌, length, map, take, get_or, Option, Some, None, option_map, option_and_then, refl, sym, ◌∙◌, ap, subst, append_assoc, append-nil}
 use Rattle.std.proofs.lemmas.List.{map-append, take_more, take_all}
 use Rattle.ax_model.specs.Plain.{slot_tree, slots_tree}
 use Rattle.ax_model.specs.Tree.{KindTree, fixed, extended, counted, by_fx, explicit, compound, SlotTree, SlotsTree, spare_slot, subitem, slots_of}
@@ -9,21 +9,21 @@ use Rattle.std.specs.Borrow.{Bor}
 use Rattle.ax_edition.specs.Index.{FindsBelow}
 use Rattle.ax_relation.specs.Below.{slot_below}
 use Rattle.ax_edition.specs.Known.{kind_found, kind_below, known_kind, known_slot, known_slots}
-use Rattle.ax_relation.specs.Known.{said, said_of, Says, Knows}
+use Rattle.ax_relation.specs.Known.{said, said_of, sharing_of, Says, Knows}
+use Rattle.ax_relation.specs.declared.known.Sharing.{Sharing}
 use Rattle.ax_edition.specs.SlotItems.{item_slot, items_tree}
 use Rattle.ax_edition.specs.declared.index.Index.{Index}
 use Rattle.ax_relation.specs.declared.known.Known.{Known}
 use Rattle.ax_edition_laws.specs.Fates.{is_path}
-use Rattle.ax_model.specs.Shared.{are_shared}
 
-said_append : (path : List (List ℕ)) (xs ys : List (List (List ℕ) × Bool)) (o : Option Bool) → said_of path (xs ++ ys) o ≡ said_of path ys (said_of path xs o)
+said_append : (path : List (List ℕ)) (xs ys : List (List (List ℕ) × Sharing)) (o : Option Sharing) → said_of path (xs ++ ys) o ≡ said_of path ys (said_of path xs o)
 said_append path [] ys o = refl
 said_append path (x ∷ xs) ys o = said_append path xs ys (cond (is_path path x.0) (Some x.1) o)
 
 pub says_none : (a : Known) → Says [] a a
 says_none a = record { says = λ path. refl }
 
-pub says_more : (xs ys : List (List (List ℕ) × Bool)) (a b c : Known) → Says xs a b → Says ys b c → Says (xs ++ ys) a c
+pub says_more : (xs ys : List (List (List ℕ) × Sharing)) (a b c : Known) → Says xs a b → Says ys b c → Says (xs ++ ys) a c
 says_more xs ys a b c f g = record { says = λ path. g.says path ∙ ap (said_of path ys) (f.says path) ∙ sym (said_append path xs ys (said a path)) }
 
 -- ---- kinds
@@ -32,22 +32,22 @@ kinds_below : (name : List ℕ) (new : Option KindTree) → option_map (λ s. s.
 kinds_below name None = refl
 kinds_below name (Some k) = refl
 
-pub compound_says : (names : List (List ℕ)) (k : KindTree) (ss : SlotsTree) (new : Option KindTree) (index : Index) (shared : Bool) (a b c : Known) → k ≡ compound ss → FindsBelow new index → shared ≡ are_shared (Some k) new
+pub compound_says : (names : List (List ℕ)) (k : KindTree) (ss : SlotsTree) (new : Option KindTree) (index : Index) (shared : Sharing) (a b c : Known) → k ≡ compound ss → FindsBelow new index → shared ≡ sharing_of (Some k) new
     → Says ((names, shared) ∷ []) a b → Says (known_slots names ss (kind_found index)) b c → Says (known_kind names k new) a c
 compound_says names k ss new index shared a b c is l s f g =
     let P : KindTree → Type 0 = λ x. Says (known_kind names x new) a c in
-    let Q : Bool → Type 0 = λ x. Says ((names, x) ∷ known_slots names ss (λ name. option_and_then (kind_below name) new)) a c in
+    let Q : Sharing → Type 0 = λ x. Says ((names, x) ∷ known_slots names ss (λ name. option_and_then (kind_below name) new)) a c in
     let R : (List ℕ → Option KindTree) → Type 0 = λ rule. Says (known_slots names ss rule) b c in
     let rules : kind_found index ≡ (λ name. option_and_then (kind_below name) new) = λ i name. (ap (option_map (λ s. s.1)) (l.finds name) ∙ kinds_below name new) i in
-    let e = s ∙ ap (λ x. are_shared (Some x) new) is in
+    let e = s ∙ ap (λ x. sharing_of (Some x) new) is in
     subst P (sym is) (subst Q e (says_more ((names, shared) ∷ []) (known_slots names ss (λ name. option_and_then (kind_below name) new)) a b c f (subst R rules g)))
 
-pub leaf_says : (names : List (List ℕ)) (k : KindTree) (new : Option KindTree) (shared : Bool) (a b : Known) → ((ss : SlotsTree) → k ≡ compound ss → ⊥) → shared ≡ are_shared (Some k) new
+pub leaf_says : (names : List (List ℕ)) (k : KindTree) (new : Option KindTree) (shared : Sharing) (a b : Known) → ((ss : SlotsTree) → k ≡ compound ss → ⊥) → shared ≡ sharing_of (Some k) new
     → Says ((names, shared) ∷ []) a b → Says (known_kind names k new) a b
 leaf_says names k new shared a b not s f =
-    let Q : Bool → Type 0 = λ x. Says ((names, x) ∷ []) a b in single k not (subst Q s f)
+    let Q : Sharing → Type 0 = λ x. Says ((names, x) ∷ []) a b in single k not (subst Q s f)
   where
-    single : (k : KindTree) → ((ss : SlotsTree) → k ≡ compound ss → ⊥) → Says ((names, are_shared (Some k) new) ∷ []) a b → Says (known_kind names k new) a b
+    single : (k : KindTree) → ((ss : SlotsTree) → k ≡ compound ss → ⊥) → Says ((names, sharing_of (Some k) new) ∷ []) a b → Says (known_kind names k new) a b
     single (compound ss) not h = absurd (not ss refl)
     single (fixed f) not h = h
     single (extended last ps) not h = h
@@ -106,7 +106,7 @@ slots_begin names ss rule a = says_none a
 pub slots_step : (names : List (List ℕ)) (i : ℕ) (ss : List Slot) (s : Slot) (rule : List ℕ → Option KindTree) (a b c : Known) → i < length ss → s ≡ get_or ss i s
     → Says (known_slots names (slots_tree (take i ss)) rule) a b → Says (known_slot names (slot_tree s) rule) b c → Says (known_slots names (slots_tree (take (i + 1) ss)) rule) a c
 slots_step names i ss s rule a b c within is f g =
-    let P : List (List (List ℕ) × Bool) → Type 0 = λ x. Says x a c in
+    let P : List (List (List ℕ) × Sharing) → Type 0 = λ x. Says x a c in
     subst P (one_more slot_tree names i ss s rule within is) (says_more (known_slots names (slots_tree (take i ss)) rule) (known_slot names (slot_tree s) rule) a b c f g)
 
 pub slots_end : (names : List (List ℕ)) (i : ℕ) (ss : List Slot) (rule : List ℕ → Option KindTree) (a b : Known) → length ss ≤ i → Says (known_slots names (slots_tree (take i ss)) rule) a b
@@ -124,7 +124,7 @@ items_begin items rule a none = record { knows = none }
 pub items_step : (i : ℕ) (items : List (Option (Bor Item))) (item : Option (Bor Item)) (rule : List ℕ → Option KindTree) (b c : Known) → i < length items → item ≡ get_or items i item
     → Knows (known_slots [] (items_tree (take i items)) rule) b → Says (known_slot [] (item_slot item) rule) b c → Knows (known_slots [] (items_tree (take (i + 1) items)) rule) c
 items_step i items item rule b c within is f g =
-    let P : List (List (List ℕ) × Bool) → Type 0 = λ x. Knows x c in
+    let P : List (List (List ℕ) × Sharing) → Type 0 = λ x. Knows x c in
     let xs = known_slots [] (items_tree (take i items)) rule in
     let ys = known_slot [] (item_slot item) rule in
     subst P (one_more item_slot [] i items item rule within is) (record { knows = λ path. g.says path ∙ ap (said_of path ys) (f.knows path) ∙ sym (said_append path xs ys None) })

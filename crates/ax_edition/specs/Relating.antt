@@ -1,16 +1,18 @@
 -- The relation of two editions as it is made, path by path of the old edition. What stands at a path of the new edition is
 -- the slot numbers on the way to it, and its kind.
-use Rattle.std.specs.Prelude.{◌≡◌, ℕ, ◌+◌, if◌then◌else◌, List, [], ◌∷◌, ◌++◌, Option, Some, None, option_map, option_and_then}
+use Rattle.std.specs.Prelude.{◌≡◌, ℕ, ◌+◌, nat_lt, if◌then◌else◌, List, [], ◌∷◌, ◌++◌, Option, Some, None, option_map, option_and_then}
 use Rattle.ax_edition.specs.Index.{found}
 use Rattle.ax_relation.specs.Below.{slot_below}
 use Rattle.ax_edition.specs.declared.relating.Level.{Level}
 use Rattle.ax_edition.specs.declared.relating.Target.{Target}
 use Rattle.ax_relation.specs.declared.relation.RelationPath.{RelationPath}
 use Rattle.ax_model.specs.Paths.{at}
+use Rattle.ax_model.specs.Named.{with_part}
 use Rattle.ax_model.specs.Placed.{place_from}
 use Rattle.ax_model.specs.Plain.{kind_tree}
-use Rattle.ax_model.specs.Shared.{is_shared_kind}
-use Rattle.ax_model.specs.Tree.{KindTree, compound, SlotTree, SlotsTree, no_slots, slot_and, spare_slot, subitem}
+use Rattle.ax_model.specs.Same.{common_parts}
+use Rattle.ax_model.specs.Shared.{is_shared_at}
+use Rattle.ax_model.specs.Tree.{MembersTree, KindTree, extended, compound, SlotTree, SlotsTree, no_slots, slot_and, spare_slot, subitem}
 use Rattle.ax_model.specs.declared.place.Place.{Place}
 
 -- ---- the new edition
@@ -34,15 +36,37 @@ pub record LeadsBelow (target : Option (List ℕ × KindTree)) (level : Level) :
 
 -- ---- the old edition
 
-abbrev pub shared_place : KindTree → Option (List ℕ × KindTree) → Option Place
-shared_place k None = None
-shared_place k (Some t) = if is_shared_kind k t.1 then Some (place_from t.0) else None
+-- of a kind itself, or of the part of that number
+abbrev pub shared_place : Option ℕ → KindTree → Option (List ℕ × KindTree) → Option Place
+shared_place part k None = None
+shared_place part k (Some t) = if is_shared_at part k t.1 then Some (place_from t.0) else None
+
+abbrev pub related_here : List ℕ → List ℕ → Option ℕ → KindTree → Option (List ℕ × KindTree) → RelationPath
+related_here text numbers part k new = record { text = with_part text part; part = part; old = place_from numbers; new = shared_place part k new }
+
+-- how many first parts a kind has in common with what stands there
+abbrev pub parts_with : KindTree → Option (List ℕ × KindTree) → ℕ
+parts_with k None = 0
+parts_with k (Some t) = common_parts k t.1
+
+-- of the part of that number, where so many first ones are shared
+abbrev pub part_place : ℕ → ℕ → Option (List ℕ × KindTree) → Option Place
+part_place shared i None = None
+part_place shared i (Some t) = if nat_lt i shared then Some (place_from t.0) else None
+
+abbrev pub related_part : List ℕ → List ℕ → ℕ → ℕ → Option (List ℕ × KindTree) → RelationPath
+related_part text numbers i shared new = record { text = with_part text (Some i); part = Some i; old = place_from numbers; new = part_place shared i new }
+
+-- of parts of which the first has the number n
+abbrev pub related_parts : List ℕ → List ℕ → ℕ → List MembersTree → ℕ → Option (List ℕ × KindTree) → List RelationPath
+related_parts text numbers n [] shared new = []
+related_parts text numbers n (p ∷ ps) shared new = related_part text numbers n shared new ∷ related_parts text numbers (n + 1) ps shared new
 
 abbrev mutual
   pub related_kind : List ℕ → List ℕ → KindTree → Option (List ℕ × KindTree) → List RelationPath
-  related_kind text numbers (compound ss) new = record { text = text; old = place_from numbers; new = shared_place (compound ss) new }
-      ∷ related_slots text numbers 1 ss (λ name. option_and_then (target_below name) new)
-  related_kind text numbers k new = record { text = text; old = place_from numbers; new = shared_place k new } ∷ []
+  related_kind text numbers (extended last ps) new = related_here text numbers None (extended last ps) new ∷ related_parts text numbers 0 ps (parts_with (extended last ps) new) new
+  related_kind text numbers (compound ss) new = related_here text numbers None (compound ss) new ∷ related_slots text numbers 1 ss (λ name. option_and_then (target_below name) new)
+  related_kind text numbers k new = related_here text numbers None k new ∷ []
 
   -- the first of these slots has the number s; the rule says what the new edition has at a name
   pub related_slots : List ℕ → List ℕ → ℕ → SlotsTree → (List ℕ → Option (List ℕ × KindTree)) → List RelationPath

@@ -1,26 +1,31 @@
-//! The named paths of the old edition entered, each with whether it is shared.
+//! The named paths of the old edition entered, each with what is shared at it.
 ghost use Rattle.std.specs.Prelude.{◌≡◌, ◌++◌, ℕ, List, ◌∷◌, [], None, Some, OnOk, IfOk, option_map, unwrap_or, false};
 ghost use Rattle.std.specs.Option.{option_copied};
 ghost use Rattle.ax_model.specs.Plain.{kind_tree, slot_tree, slots_tree};
-ghost use Rattle.ax_model.specs.Shared.{are_shared};
 ghost use Rattle.ax_edition.specs.Known.{kind_found, known_kind, known_slot, known_slots};
-ghost use Rattle.ax_relation.specs.Known.{said, Says, Knows};
+ghost use Rattle.ax_relation.specs.Known.{said, sharing_of, Says, Knows};
 ghost use Rattle.ax_edition.specs.SlotItems.{item_slot, items_tree};
 
 use crate::index::{Index, index_below};
-use crate::sameness::is_shared;
+use crate::sameness::{is_shared, shared_parts};
 use crate::slot_items::SlotItems;
 use ax_model::{Item, Kind, Name, Slot, Slots};
-use ax_relation::Known;
+use ax_relation::{Known, Sharing};
 use std::alloc::{AllocError, Global};
 
-/// Whether the kind shares with the one at the same path, if there is one.
-fn shares(kind: &Kind, new: &Option<&Kind>) -> bool
-    ensures { result ≡ are_shared (Some (kind_tree kind.now)) (option_map kind_tree (option_copied new.now)) }
+/// What the kind shares with the one at the same path, if there is one.
+fn sharing(kind: &Kind, new: &Option<&Kind>) -> Sharing
+    ensures { result ≡ sharing_of (Some (kind_tree kind.now)) (option_map kind_tree (option_copied new.now)) }
 {
     match new {
-        Some(other) => is_shared(kind, *other),
-        None => false,
+        Some(other) => Sharing {
+            path: is_shared(kind, *other),
+            parts: shared_parts(kind, *other),
+        },
+        None => Sharing {
+            path: false,
+            parts: 0,
+        },
     }
 }
 
@@ -55,7 +60,7 @@ fn know_kind(
 ) -> Result<(), AllocError>
     ensures { OnOk result (Says (known_kind names.now (kind_tree kind.now) (option_map kind_tree (option_copied new.now))) known.old known.new) }
 {
-    known.enter(alloc, names, shares(kind, new))?;
+    known.enter(alloc, names, sharing(kind, new))?;
     match kind {
         Kind::Compound(slots) => {
             let index = index_below(alloc, new)?;

@@ -1,4 +1,4 @@
-//! The relation of two editions of one category: which named paths both have, with the same meaning, and where these stand
+//! The relation of two editions of one category: which named paths and parts both have, with the same meaning, and where these stand
 //! in each.
 #![tactic(auto)]
 

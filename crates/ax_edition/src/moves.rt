@@ -7,7 +7,7 @@ ghost use Rattle.ax_relation.specs.PlainMoves.{move_tree};
 ghost use Rattle.ax_edition.specs.SlotItems.{item_slot, items_tree};
 
 use crate::index::{Index, index_below};
-use crate::sameness::is_shared;
+use crate::sameness::{is_shared, shared_parts};
 use crate::slot_items::SlotItems;
 use ax_model::{Item, Kind, Name, Slot, Slots};
 use ax_relation::{Move, Moves};
@@ -42,12 +42,14 @@ fn move_to(
     if !is_shared(own, kind) {
         return Ok(());
     }
+    let parts = shared_parts(own, kind);
     let below = moves_of_kinds(alloc, kind, own)?;
     push(
         moves,
         Move {
             old: from,
             new: number,
+            parts,
             below,
         },
     )

@@ -1,16 +1,16 @@
-//! The named paths of the old edition, with their places in both.
-ghost use Rattle.std.specs.Prelude.{◌≡◌, ◌++◌, ◌∷◌, [], Some, IfOk, OnOk, option_map, option_and_then};
+//! The keys of the old edition, with their places in both.
+ghost use Rattle.std.specs.Prelude.{◌≡◌, ◌++◌, ◌∷◌, [], None, Some, IfOk, OnOk, map, option_map, option_and_then};
 ghost use Rattle.ax_model.specs.Paths.{at};
 ghost use Rattle.ax_model.specs.Placed.{place_from};
-ghost use Rattle.ax_model.specs.Plain.{kind_tree, slot_tree, slots_tree};
+ghost use Rattle.ax_model.specs.Plain.{kind_tree, part_tree, slot_tree, slots_tree};
 ghost use Rattle.ax_model.specs.Tree.{compound};
-ghost use Rattle.ax_edition.specs.Relating.{target_tree, target_below, lead, LeadsBelow, shared_place, related_kind, related_slot, related_slots};
+ghost use Rattle.ax_edition.specs.Relating.{target_tree, target_below, lead, LeadsBelow, shared_place, parts_with, part_place, related_here, related_part, related_parts, related_kind, related_slot, related_slots};
 ghost use Rattle.ax_edition.specs.SlotItems.{item_slot, items_tree};
 
 use crate::index::{Index, index_below, index_items};
-use crate::sameness::is_shared;
+use crate::sameness::{is_shared, shared_parts};
 use crate::slot_items::SlotItems;
-use ax_model::{Item, Kind, Name, Place, Slot, Slots, Steps, Text, at_name};
+use ax_model::{Item, Kind, Name, Parts, Place, Slot, Slots, Steps, Text, at_name, at_part};
 use ax_relation::{RelationPath, RelationPaths};
 use std::alloc::{AllocError, Global};
 
@@ -120,7 +120,7 @@ fn place_where_shared(
     kind: &Kind,
     target: &Option<Target<'_>>,
 ) -> Result<Option<Place>, AllocError>
-    ensures { IfOk result (λ made. made ≡ shared_place (kind_tree kind.now) (option_map target_tree target.now)) }
+    ensures { IfOk result (λ made. made ≡ shared_place None (kind_tree kind.now) (option_map target_tree target.now)) }
 {
     match target {
         Some(target) if is_shared(kind, target.kind) => {
@@ -130,7 +130,32 @@ fn place_where_shared(
     }
 }
 
-/// Appends a path. A list of more than 2^32 - 1 paths is a want of memory.
+/// How many first parts the kind has in common with the target.
+fn parts_in_common(kind: &Kind, target: &Option<Target<'_>>) -> u32
+    ensures { result ≡ parts_with (kind_tree kind.now) (option_map target_tree target.now) }
+{
+    match target {
+        Some(target) => shared_parts(kind, target.kind),
+        None => 0,
+    }
+}
+
+/// The place of the target, if the part of that number is one of so many first ones.
+fn place_of_part(
+    alloc: Global,
+    number: u32,
+    shared: u32,
+    target: &Option<Target<'_>>,
+) -> Result<Option<Place>, AllocError>
+    ensures { IfOk result (λ made. made ≡ part_place shared number (option_map target_tree target.now)) }
+{
+    match target {
+        Some(target) if number < shared => Ok(Some(place_of(alloc, &target.numbers)?)),
+        _ => Ok(None),
+    }
+}
+
+/// Appends a key. A list of more than 2^32 - 1 keys is a want of memory.
 fn push_path(paths: &mut RelationPaths, path: RelationPath) -> Result<(), AllocError>
     ensures { OnOk result (paths.new ≡ paths.old ++ path ∷ []) }
 {
@@ -140,7 +165,7 @@ fn push_path(paths: &mut RelationPaths, path: RelationPath) -> Result<(), AllocE
     paths.push(path)
 }
 
-/// The path of a kind.
+/// The key of a kind itself.
 fn path_for(
     alloc: Global,
     text: &Text,
@@ -148,18 +173,58 @@ fn path_for(
     kind: &Kind,
     target: &Option<Target<'_>>,
 ) -> Result<RelationPath, AllocError>
-    ensures text { IfOk result (λ path. path.text ≡ text.now) }
-    ensures old { IfOk result (λ path. path.old ≡ place_from numbers.now) }
-    ensures new { IfOk result (λ path. path.new ≡ shared_place (kind_tree kind.now) (option_map target_tree target.now)) }
+    ensures { IfOk result (λ path. path ≡ related_here text.now numbers.now None (kind_tree kind.now) (option_map target_tree target.now)) }
 {
     Ok(RelationPath {
         text: text.copy(alloc)?,
+        part: None,
         old: place_of(alloc, numbers)?,
         new: place_where_shared(alloc, kind, target)?,
     })
 }
 
-/// Appends the path of a kind, and those below.
+/// The key of the part of that number, of which so many first ones are shared.
+fn part_for(
+    alloc: Global,
+    text: &Text,
+    numbers: &Steps,
+    number: u32,
+    shared: u32,
+    target: &Option<Target<'_>>,
+) -> Result<RelationPath, AllocError>
+    ensures { IfOk result (λ path. path ≡ related_part text.now numbers.now number shared (option_map target_tree target.now)) }
+{
+    Ok(RelationPath {
+        text: at_part(alloc, text, number)?,
+        part: Some(number),
+        old: place_of(alloc, numbers)?,
+        new: place_of_part(alloc, number, shared, target)?,
+    })
+}
+
+/// Appends the keys of parts, of which so many first ones are shared.
+#[tactic(auto, using(crate::proofs::PathLists::parts))]
+fn relate_parts(
+    alloc: Global,
+    paths: &mut RelationPaths,
+    text: &Text,
+    numbers: &Steps,
+    parts: &Parts,
+    shared: u32,
+    target: &Option<Target<'_>>,
+) -> Result<(), AllocError>
+    ensures { OnOk result (paths.new ≡ paths.old ++ related_parts text.now numbers.now 0 (map part_tree parts.now) shared (option_map target_tree target.now)) }
+{
+    let mut number: u32 = 0;
+    for _part in parts.as_slice() {
+        let path = part_for(alloc, text, numbers, number, shared, target)?;
+        push_path(paths, path)?;
+        number += 1;
+    }
+    Ok(())
+}
+
+/// Appends the key of a kind, and those of its parts or below.
 #[cycle(relate)]
 #[tactic(auto, using(crate::proofs::PathLists::kinds))]
 fn relate_kind(
@@ -178,12 +243,16 @@ fn relate_kind(
         Kind::Compound(slots) => {
             relate_below(alloc, paths, text, numbers, slots, target)?;
         }
+        Kind::Extended { parts, .. } => {
+            let shared = parts_in_common(kind, target);
+            relate_parts(alloc, paths, text, numbers, parts, shared, target)?;
+        }
         _ => {}
     }
     Ok(())
 }
 
-/// Appends the paths of the slots of a compound, below a target.
+/// Appends the keys of the slots of a compound, below a target.
 #[cycle(relate)]
 #[tactic(auto, using(crate::proofs::PathLists::slots_below))]
 fn relate_below(
@@ -200,7 +269,7 @@ fn relate_below(
     relate_slots(alloc, paths, text, numbers, slots, &level)
 }
 
-/// Appends the paths of a slot with that name, number and kind.
+/// Appends the keys of a slot with that name, number and kind.
 #[cycle(relate)]
 fn relate_named(
     alloc: Global,
@@ -220,7 +289,7 @@ fn relate_named(
     relate_kind(alloc, paths, &text, &numbers, kind, &target)
 }
 
-/// Appends the paths of a slot of that number.
+/// Appends the keys of a slot of that number.
 #[cycle(relate)]
 fn relate_slot(
     alloc: Global,
@@ -241,7 +310,7 @@ fn relate_slot(
     }
 }
 
-/// Appends the paths of the slots of a compound.
+/// Appends the keys of the slots of a compound.
 #[cycle(relate)]
 #[tactic(auto, using(crate::proofs::PathLists::slots))]
 fn relate_slots(
@@ -262,7 +331,7 @@ fn relate_slots(
     Ok(())
 }
 
-/// Appends the paths of a slot of the UAP of that number.
+/// Appends the keys of a slot of the UAP of that number.
 fn relate_item(
     alloc: Global,
     paths: &mut RelationPaths,
@@ -284,7 +353,7 @@ fn relate_item(
     }
 }
 
-/// The paths of the slots of the UAP, below a text.
+/// The keys of the slots of the UAP, below a text.
 #[tactic(auto, using(crate::proofs::PathLists::items))]
 pub(crate) fn relate_items(
     alloc: Global,

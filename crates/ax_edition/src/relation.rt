@@ -33,7 +33,7 @@ pub enum RelateError {
     OutOfMemory,
 }
 
-/// The paths of the old items of a category, with their places in both editions.
+/// The keys of the old items of a category, with their places in both editions.
 #[tactic(auto, using(crate::proofs::Relations::paths_by_rule))]
 fn paths_between(
     alloc: Global,
@@ -48,7 +48,7 @@ fn paths_between(
     relate_items(alloc, &text, old, &level)
 }
 
-/// The paths of the old items, each with whether the new ones share it.
+/// The paths of the old items, each with what the new ones share at it.
 #[tactic(auto, using(crate::proofs::Relations::known_by_rule))]
 fn known_between(
     alloc: Global,

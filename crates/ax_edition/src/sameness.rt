@@ -1,7 +1,7 @@
 //! Whether kinds of two editions are the same, tables' entries aside. Nothing here takes memory.
 ghost use Rattle.std.specs.Prelude.{◌≡◌, map};
 ghost use Rattle.ax_model.specs.Plain.{fixed_tree, member_tree, members_tree, part_tree, kind_tree, slot_tree, slots_tree};
-ghost use Rattle.ax_model.specs.Same.{is_same_sign, is_same_content, is_same_fixed, is_same_member, are_same_members, are_same_parts, is_same_last, is_same_counter, is_same, is_same_slot, are_same_slots};
+ghost use Rattle.ax_model.specs.Same.{is_same_sign, is_same_content, is_same_fixed, is_same_member, are_same_members, are_same_parts, is_same_last, is_same_counter, is_same, is_same_slot, are_same_slots, common, common_parts};
 ghost use Rattle.ax_model.specs.Shared.{is_shared_kind};
 
 use ax_model::{
@@ -180,13 +180,45 @@ fn same_slots(one: &Slots, other: &Slots) -> bool
     true
 }
 
-/// Whether a value of the old kind, or part of it, passes to the new one at the same path: both are compounds, or
-/// they are the same.
+/// How many first parts have the same members.
+#[tactic(auto, using(crate::proofs::CommonLists::commons))]
+fn common_of(old: &Parts, new: &Parts) -> u32
+    ensures { result ≡ common (map part_tree old.now) (map part_tree new.now) }
+{
+    let mut count: u32 = 0;
+    let mut rest = new.as_slice();
+    for part in old.as_slice() {
+        let Some((own, later)) = rest.split_first() else {
+            return count;
+        };
+        if !same_members(&part.members, &own.members) {
+            return count;
+        }
+        count += 1;
+        rest = later;
+    }
+    count
+}
+
+/// How many first parts two kinds have in common; none where they aren't both extended.
+pub(crate) fn shared_parts(old: &Kind, new: &Kind) -> u32
+    ensures { result ≡ common_parts (kind_tree old.now) (kind_tree new.now) }
+{
+    match (old, new) {
+        (Kind::Extended { parts, .. }, Kind::Extended { parts: own, .. }) => common_of(parts, own),
+        _ => 0,
+    }
+}
+
+/// Whether a value of the old kind, or part of it, passes to the new one at the same path: both are compounds, or extended
+/// with a part in common, or they are the same.
 pub(crate) fn is_shared(old: &Kind, new: &Kind) -> bool
     ensures { result ≡ is_shared_kind (kind_tree old.now) (kind_tree new.now) }
 {
     match (old, new) {
         (Kind::Compound(_), Kind::Compound(_)) => true,
+        (Kind::Extended { parts, .. }, Kind::Extended { parts: own, .. }) => common_of(parts, own)
+            > 0,
         _ => same_kind(old, new),
     }
 }

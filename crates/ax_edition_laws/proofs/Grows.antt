@@ -1,27 +1,26 @@
 -- The migrated value's canonical spelling has at most eighteen times as many bits as the old value's: a kept leaf doesn't
 -- grow, and a presence field of one octet or more becomes at most eighteen, for 126 slots.
-use Rattle.std.proofs.Common.{◌≡◌, ℕ, zero, suc, ◌+◌, ◌*◌, ◌<◌, ◌≤◌, ◌==◌, Bool, true, false, cond, ◌||◌, bytes_eq, List, [], ◌∷◌, ◌++◌, length, map, Option, Some, None, option_map, option_and_then, refl, sym, ◌∙◌, ap, arith, subst, length-append}
-use Rattle.std.proofs.lemmas.List.{length-map}
-use Rattle.ax_bits.specs.Bits.{word}
+use Rattle.std.proofs.Common.{◌≡◌, ℕ, zero, suc, ◌+◌, ◌*◌, ◌<◌, ◌≤◌, ◌==◌, Bool, true, false, cond, ◌||◌, bytes_eq, List, [], ◌∷◌, ◌++◌, length, Option, Some, None, option_map, option_and_then, refl, ◌∙◌, ap, arith, subst, length-append}
 use Rattle.ax_edition_laws.proofs.Lookups.{equal, less, named_from}
 use Rattle.ax_edition_laws.proofs.MovedNamed.{source_value, new_value}
 use Rattle.ax_edition_laws.proofs.MovedShape.{entries_from, entries_moved}
 use Rattle.ax_edition_laws.proofs.NamedOnce.{own_name, Front, front_of, front_value, front_later}
+use Rattle.ax_edition_laws.proofs.CommonParts.{first_shorter}
 use Rattle.ax_edition_laws.proofs.SameKinds.{bytes_same, same_kinds}
+use Rattle.ax_edition_laws.proofs.SameShape.{same_spelling}
 use Rattle.ax_edition_laws.proofs.Distinct.{Distinct, SlotsDistinct}
 use Rattle.ax_edition_laws.specs.Moved.{entry_where, moved, moved_entries}
+use Rattle.ax_model.proofs.Bounds.{bounds_whole}
 use Rattle.ax_model.proofs.Least.{enough}
-use Rattle.ax_model.specs.Canonical.{number_canon, fixed_canon, members_canon, parts_canon, run_canon, each_canon, canon, marks_of, entries_canon}
+use Rattle.ax_model.specs.Canonical.{canon, marks_of, entries_canon}
 use Rattle.ax_model.specs.Flaws.{is_among}
 use Rattle.ax_model.specs.InBounds.{InBounds, SlotsInBounds}
 use Rattle.ax_model.specs.Naming.{found_or, slot_named}
 use Rattle.ax_model.specs.Presence.{octets_needed, least_presence, none_marked, marks_after, marks_upto}
-use Rattle.ax_model.specs.Same.{emptied_fixed, emptied_members, emptied, emptied_slots}
+use Rattle.ax_model.specs.Same.{emptied}
 use Rattle.ax_model.specs.Shape.{Shape, EntriesShape}
 use Rattle.ax_model.specs.Shared.{is_shared_kind}
-use Rattle.ax_model.specs.Tree.{FixedTree, element, group, MembersTree, no_members, member_and, named, spare, KindTree, fixed, extended, counted, by_fx, explicit, compound, SlotsTree, no_slots, slot_and, spare_slot, subitem, slot_count, ValueTree, member_values, part_values, occurrences, marked, ValuesTree, no_values, value_and, value_count, ListsTree, no_lists, list_and, EntriesTree, no_entries, entry_and}
-use Rattle.ax_model.specs.Widths.{counter_width, fx_width}
-use Rattle.ax_model.specs.declared.kind.LastPart.{LastPart}
+use Rattle.ax_model.specs.Tree.{KindTree, fixed, extended, counted, by_fx, explicit, compound, SlotsTree, no_slots, slot_and, spare_slot, subitem, slot_count, ValueTree, part_values, marked, EntriesTree, no_entries, entry_and}
 
 -- ---- presence fields
 
@@ -40,66 +39,6 @@ at_least (suc k) ms some = by (none_marked (marks_after 7 ms))
     by : (b : Bool) → 8 ≤ length (cond b (marks_upto 7 ms ++ 0 ∷ []) (marks_upto 7 ms ++ 1 ∷ least_presence k (marks_after 7 ms)))
     by true = omega arith
     by false = omega arith
-
--- ---- the spelling doesn't depend on tables
-
-mutual
-  fixed_spelling : (f : FixedTree) (v : ValueTree) → fixed_canon (emptied_fixed f) v ≡ fixed_canon f v
-  fixed_spelling (element w c) v = refl
-  fixed_spelling (group ms) (member_values vs) = members_spelling ms vs
-  fixed_spelling (group ms) _ = refl
-
-  members_spelling : (ms : MembersTree) (vs : ValuesTree) → members_canon (emptied_members ms) vs ≡ members_canon ms vs
-  members_spelling no_members vs = refl
-  members_spelling (member_and (named name f) ms) no_values = refl
-  members_spelling (member_and (spare w) ms) no_values = refl
-  members_spelling (member_and (named name f) ms) (value_and v vs) = λ i. fixed_spelling f v i ++ members_spelling ms vs i
-  members_spelling (member_and (spare w) ms) (value_and v vs) = λ i. number_canon w v ++ members_spelling ms vs i
-
-parts_spelling : (last : LastPart) (ps : List MembersTree) (ls : ListsTree) → parts_canon last (map emptied_members ps) ls ≡ parts_canon last ps ls
-parts_spelling last [] ls = refl
-parts_spelling last (p ∷ ps) no_lists = refl
-parts_spelling last (p ∷ ps) (list_and vs no_lists) = λ i. members_spelling p vs i ++ word (fx_width last (length-map ps emptied_members i)) 0
-parts_spelling last (p ∷ ps) (list_and vs (list_and ws ls)) = λ i. members_spelling p vs i ++ 1 ∷ parts_spelling last ps (list_and ws ls) i
-
-run_spelling : (f : FixedTree) (vs : ValuesTree) → run_canon (emptied_fixed f) vs ≡ run_canon f vs
-run_spelling f no_values = refl
-run_spelling f (value_and v no_values) = λ i. fixed_spelling f v i ++ 0 ∷ []
-run_spelling f (value_and v (value_and w vs)) = λ i. fixed_spelling f v i ++ 1 ∷ run_spelling f (value_and w vs) i
-
-same_count : (ss : SlotsTree) → slot_count (emptied_slots ss) ≡ slot_count ss
-same_count no_slots = refl
-same_count (slot_and spare_slot ss) = ap suc (same_count ss)
-same_count (slot_and (subitem name k) ss) = ap suc (same_count ss)
-
-same_marks : (s : ℕ) (ss : SlotsTree) (es : EntriesTree) → marks_of s (emptied_slots ss) es ≡ marks_of s ss es
-same_marks s no_slots es = refl
-same_marks s (slot_and spare_slot ss) es = ap (λ l. 0 ∷ l) (same_marks (s + 1) ss es)
-same_marks s (slot_and (subitem name k) ss) no_entries = ap (λ l. 0 ∷ l) (same_marks (s + 1) ss no_entries)
-same_marks s (slot_and (subitem name k) ss) (entry_and t v es) = λ i. cond (t == s) (1 ∷ same_marks (s + 1) ss es i) (0 ∷ same_marks (s + 1) ss (entry_and t v es) i)
-
-mutual
-  kind_spelling : (k : KindTree) (v : ValueTree) → canon (emptied k) v ≡ canon k v
-  kind_spelling (fixed f) v = fixed_spelling f v
-  kind_spelling (extended last ps) (part_values ls) = parts_spelling last ps ls
-  kind_spelling (extended last ps) _ = refl
-  kind_spelling (counted size k) (occurrences vs) = λ i. word (counter_width size) (value_count vs) ++ each_canon (λ v. kind_spelling k v i) vs
-  kind_spelling (counted size k) _ = refl
-  kind_spelling (by_fx f) (occurrences vs) = run_spelling f vs
-  kind_spelling (by_fx f) _ = refl
-  kind_spelling explicit v = refl
-  kind_spelling (compound ss) (marked es) = λ i. least_presence (octets_needed (same_count ss i)) (same_marks 1 ss es i) ++ entries_spelling 1 ss es i
-  kind_spelling (compound ss) _ = refl
-
-  entries_spelling : (s : ℕ) (ss : SlotsTree) (es : EntriesTree) → entries_canon s (emptied_slots ss) es ≡ entries_canon s ss es
-  entries_spelling s no_slots es = refl
-  entries_spelling s (slot_and spare_slot ss) es = entries_spelling (s + 1) ss es
-  entries_spelling s (slot_and (subitem name k) ss) no_entries = entries_spelling (s + 1) ss no_entries
-  entries_spelling s (slot_and (subitem name k) ss) (entry_and t v es) =
-      λ i. cond (t == s) (kind_spelling k v i ++ entries_spelling (s + 1) ss es i) (entries_spelling (s + 1) ss (entry_and t v es) i)
-
-same_spelling : (k l : KindTree) (v : ValueTree) → emptied k ≡ emptied l → canon l v ≡ canon k v
-same_spelling k l v e = sym (kind_spelling l v) ∙ ap (λ x. canon x v) (sym e) ∙ kind_spelling k v
 
 -- ---- sums over slots
 
@@ -222,7 +161,8 @@ mutual
       )
   grows (compound ss) b (compound ts) _ e d w h = absurd h
   grows (fixed f) b (fixed g) v e d w h = leaf_grows (fixed f) (fixed g) v (same_kinds (fixed f) (fixed g) e)
-  grows (extended last ps) b (extended other qs) v e d w h = leaf_grows (extended last ps) (extended other qs) v (same_kinds (extended last ps) (extended other qs) e)
+  grows (extended last ps) b (extended other qs) (part_values ls) e d w h = let shorter = first_shorter last other ps qs ls (bounds_whole (extended last ps) b) (bounds_whole (extended other qs) w) in omega arith
+  grows (extended last ps) b (extended other qs) _ e d w h = absurd h
   grows (counted size k) b (counted other l) v e d w h = leaf_grows (counted size k) (counted other l) v (same_kinds (counted size k) (counted other l) e)
   grows (by_fx f) b (by_fx g) v e d w h = leaf_grows (by_fx f) (by_fx g) v (same_kinds (by_fx f) (by_fx g) e)
   grows explicit b explicit v e d w h = leaf_grows explicit explicit v refl

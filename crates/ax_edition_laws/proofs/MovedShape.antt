@@ -1,66 +1,17 @@
 -- The moved value has the new kind's shape.
-use Rattle.std.proofs.Common.{◌≡◌, ℕ, ◌+◌, ◌^◌, ◌<◌, ◌≤◌, ◌==◌, MatchBool, Bool, true, false, cond, bytes_eq, List, [], ◌∷◌, map, Option, Some, None, option_map, option_and_then, refl, sym, ◌∙◌, ap, arith, subst}
+use Rattle.std.proofs.Common.{◌≡◌, ℕ, ◌+◌, ◌<◌, ◌≤◌, ◌==◌, MatchBool, Bool, true, false, cond, bytes_eq, List, Option, Some, None, option_map, option_and_then, refl, sym, ◌∙◌, ap, arith, subst}
 use Rattle.std.proofs.lemmas.Bool.{eqb-true}
 use Rattle.ax_edition_laws.proofs.Lookups.{equal, less, more, found_is, named_from}
 use Rattle.ax_edition_laws.proofs.MovedNamed.{source_value, new_value}
+use Rattle.ax_edition_laws.proofs.CommonParts.{first_shape}
 use Rattle.ax_edition_laws.proofs.SameKinds.{same_kinds}
+use Rattle.ax_edition_laws.proofs.SameShape.{same_shape}
 use Rattle.ax_edition_laws.specs.Moved.{entry_where, moved, moved_entries}
 use Rattle.ax_model.specs.At.{slot_value}
 use Rattle.ax_model.specs.Naming.{found_or, slot_named}
-use Rattle.ax_model.specs.Same.{emptied_fixed, emptied_members, emptied, emptied_slots}
-use Rattle.ax_model.specs.Shape.{NumberShape, FixedShape, MembersShape, PartsShape, EachShape, Shape, EntriesShape}
+use Rattle.ax_model.specs.Shape.{Shape, EntriesShape}
 use Rattle.ax_model.specs.Shared.{is_shared_kind}
-use Rattle.ax_model.specs.Tree.{FixedTree, element, group, MembersTree, no_members, member_and, named, spare, KindTree, fixed, extended, counted, by_fx, explicit, compound, SlotsTree, no_slots, slot_and, spare_slot, subitem, ValueTree, member_values, part_values, occurrences, marked, ValuesTree, no_values, value_and, value_count, ListsTree, no_lists, list_and, EntriesTree, no_entries, entry_and}
-use Rattle.ax_model.specs.Widths.{counter_width}
-
--- ---- the shape doesn't depend on tables
-
-mutual
-  fixed_shape : (f : FixedTree) (v : ValueTree) → FixedShape (emptied_fixed f) v ≡ FixedShape f v
-  fixed_shape (element w c) v = refl
-  fixed_shape (group ms) (member_values vs) = members_shape ms vs
-  fixed_shape (group ms) _ = refl
-
-  members_shape : (ms : MembersTree) (vs : ValuesTree) → MembersShape (emptied_members ms) vs ≡ MembersShape ms vs
-  members_shape no_members no_values = refl
-  members_shape no_members (value_and v vs) = refl
-  members_shape (member_and (named name f) ms) no_values = refl
-  members_shape (member_and (spare w) ms) no_values = refl
-  members_shape (member_and (named name f) ms) (value_and v vs) = λ i. fixed_shape f v i × members_shape ms vs i
-  members_shape (member_and (spare w) ms) (value_and v vs) = λ i. NumberShape w v × members_shape ms vs i
-
-parts_shape : (ps : List MembersTree) (ls : ListsTree) → PartsShape (map emptied_members ps) ls ≡ PartsShape ps ls
-parts_shape [] no_lists = refl
-parts_shape (p ∷ ps) no_lists = refl
-parts_shape [] (list_and vs ls) = refl
-parts_shape (p ∷ ps) (list_and vs no_lists) = members_shape p vs
-parts_shape (p ∷ ps) (list_and vs (list_and ws ls)) = λ i. members_shape p vs i × parts_shape ps (list_and ws ls) i
-
-mutual
-  emptied_shape : (k : KindTree) (v : ValueTree) → Shape (emptied k) v ≡ Shape k v
-  emptied_shape (fixed f) v = fixed_shape f v
-  emptied_shape (extended last ps) (part_values ls) = parts_shape ps ls
-  emptied_shape (extended last ps) _ = refl
-  emptied_shape (counted size k) (occurrences vs) = λ i. (value_count vs < 2 ^ counter_width size) × EachShape (λ v. emptied_shape k v i) vs
-  emptied_shape (counted size k) _ = refl
-  emptied_shape (by_fx f) (occurrences vs) = λ i. (0 < value_count vs) × EachShape (λ v. fixed_shape f v i) vs
-  emptied_shape (by_fx f) _ = refl
-  emptied_shape explicit v = refl
-  emptied_shape (compound ss) (marked es) = entries_shape 1 ss es
-  emptied_shape (compound ss) _ = refl
-
-  entries_shape : (s : ℕ) (ss : SlotsTree) (es : EntriesTree) → EntriesShape s (emptied_slots ss) es ≡ EntriesShape s ss es
-  entries_shape s no_slots no_entries = refl
-  entries_shape s no_slots (entry_and t v es) = refl
-  entries_shape s (slot_and spare_slot ss) es = entries_shape (s + 1) ss es
-  entries_shape s (slot_and (subitem name k) ss) no_entries = entries_shape (s + 1) ss no_entries
-  entries_shape s (slot_and (subitem name k) ss) (entry_and t v es) =
-      λ i. MatchBool (t == s) (emptied_shape k v i × entries_shape (s + 1) ss es i) (entries_shape (s + 1) ss (entry_and t v es) i)
-
-pub same_shape : (k l : KindTree) (v : ValueTree) → emptied k ≡ emptied l → Shape k v → Shape l v
-same_shape k l v e h =
-    let Q : Type 0 → Type 0 = λ t. t in
-    let R : KindTree → Type 0 = λ x. Shape x v in subst Q (emptied_shape l v) (subst R e (subst Q (sym (emptied_shape k v)) h))
+use Rattle.ax_model.specs.Tree.{KindTree, fixed, extended, counted, by_fx, explicit, compound, SlotsTree, no_slots, slot_and, spare_slot, subitem, ValueTree, part_values, marked, EntriesTree, no_entries, entry_and}
 
 -- ---- entries
 
@@ -152,7 +103,8 @@ mutual
   moved_shape (compound ts) (compound ss) (marked es) e h = entries_moved 1 ts ss es h
   moved_shape (compound ts) (compound ss) _ e h = absurd h
   moved_shape (fixed g) (fixed f) v e h = same_shape (fixed f) (fixed g) v (same_kinds (fixed f) (fixed g) e) h
-  moved_shape (extended last qs) (extended other ps) v e h = same_shape (extended other ps) (extended last qs) v (same_kinds (extended other ps) (extended last qs) e) h
+  moved_shape (extended last qs) (extended other ps) (part_values ls) e h = first_shape ps qs ls e h
+  moved_shape (extended last qs) (extended other ps) _ e h = absurd h
   moved_shape (counted size l) (counted other k) v e h = same_shape (counted other k) (counted size l) v (same_kinds (counted other k) (counted size l) e) h
   moved_shape (by_fx g) (by_fx f) v e h = same_shape (by_fx f) (by_fx g) v (same_kinds (by_fx f) (by_fx g) e) h
   moved_shape explicit explicit v e h = h

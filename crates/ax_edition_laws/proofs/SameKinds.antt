@@ -54,7 +54,7 @@ mutual
   fixed_is (element w c) (group ns) e = cc
   fixed_is (group ms) (element u d) e = cc
 
-  members_are : (ms ns : MembersTree) → are_same_members ms ns ≡ true → emptied_members ms ≡ emptied_members ns
+  pub members_are : (ms ns : MembersTree) → are_same_members ms ns ≡ true → emptied_members ms ≡ emptied_members ns
   members_are no_members no_members e = refl
   members_are (member_and (named name f) ms) (member_and (named other g) ns) e =
       let p = both (bytes_eq name other && is_same_fixed f g) (are_same_members ms ns) e in
@@ -228,6 +228,9 @@ mutual
   own_slots no_slots = refl
   own_slots (slot_and spare_slot ss) = own_slots ss
   own_slots (slot_and (subitem name k) ss) = λ i. (own_bytes name i && own_kind k i) && own_slots ss i
+
+pub members_same : (ms ns : MembersTree) → emptied_members ms ≡ emptied_members ns → are_same_members ms ns ≡ true
+members_same ms ns e = members_test ms ns ∙ ap (λ x. are_same_members (emptied_members ms) x) (sym e) ∙ own_members (emptied_members ms)
 
 pub kinds_same : (k l : KindTree) → emptied k ≡ emptied l → is_same k l ≡ true
 kinds_same k l e = kind_test k l ∙ ap (λ x. is_same (emptied k) x) (sym e) ∙ own_kind (emptied k)

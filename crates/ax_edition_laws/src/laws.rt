@@ -1,25 +1,31 @@
 //! The laws of migration. Each function stands for what its contract says.
-ghost use Rattle.std.specs.Prelude.{◌≡◌, ℕ, ◌<◌, ◌≤◌, ◌↔◌, List, ◌∷◌, map, Some, None, true, is_some};
+ghost use Rattle.std.specs.Prelude.{◌≡◌, ℕ, ◌<◌, ◌≤◌, ◌↔◌, List, ◌∷◌, length, map, take, Option, Some, None, true, is_some};
 ghost use Rattle.std.specs.List.{AllByRecursion};
 ghost use Rattle.ax_check.specs.Places.{place_of};
+ghost use Rattle.ax_edition_laws.specs.CutParts.{cut_after, first_bits};
 ghost use Rattle.ax_edition_laws.specs.Fates.{KeptOrLost, times};
-ghost use Rattle.ax_model.specs.At.{is_present};
 ghost use Rattle.ax_model.specs.Blocks.{BlockTree, Fits};
 ghost use Rattle.ax_model.specs.Bodies.{RecordShape};
+ghost use Rattle.ax_model.specs.Canonical.{parts_canon};
 ghost use Rattle.ax_model.specs.CanonicalOctets.{canon_length};
+ghost use Rattle.ax_model.specs.Fitting.{list_count};
 ghost use Rattle.ax_model.specs.Flaws.{NoFlaw};
 ghost use Rattle.ax_model.specs.Migrated.{MigratedBlock, Migrated, Lost};
-ghost use Rattle.ax_model.specs.Named.{NamedEntry, Named, named_paths};
-ghost use Rattle.ax_model.specs.Placed.{place_from, named_place, placed_paths};
-ghost use Rattle.ax_model.specs.Same.{Same, is_same};
+ghost use Rattle.ax_edition_laws.specs.Moved.{first_lists};
+ghost use Rattle.ax_model.specs.Named.{Key, NamedEntry, Named, named_paths};
+ghost use Rattle.ax_model.specs.Placed.{is_present_part, place_from, named_place, placed_paths};
+ghost use Rattle.ax_model.specs.Same.{Same, common, emptied_members, is_same};
+ghost use Rattle.ax_model.specs.Shape.{PartsShape};
 ghost use Rattle.ax_model.specs.Sizes.{longest_block};
 ghost use Rattle.ax_model.specs.Specification.{SpecTree};
-ghost use Rattle.ax_model.specs.Tree.{KindTree, EntriesTree};
+ghost use Rattle.ax_model.specs.Tree.{MembersTree, KindTree, ListsTree, EntriesTree};
+ghost use Rattle.ax_model.specs.Whole.{PartsWhole};
+ghost use Rattle.ax_model.specs.declared.kind.LastPart.{LastPart};
 ghost use Rattle.ax_model.specs.declared.place.Place.{Place};
 
 /// A record is determined by its entries.
 pub fn entries_determine_the_record()
-    ensures { (spec : SpecTree) (one other : EntriesTree) → NoFlaw spec → RecordShape spec one → RecordShape spec other → ((path : List (List ℕ)) → Named spec one path ≡ Named spec other path) → one ≡ other }
+    ensures { (spec : SpecTree) (one other : EntriesTree) → NoFlaw spec → RecordShape spec one → RecordShape spec other → ((key : Key) → Named spec one key ≡ Named spec other key) → one ≡ other }
 {}
 
 /// Each record has exactly one migrated record.
@@ -28,11 +34,36 @@ pub fn migrates_once()
     ensures one { (old new : SpecTree) (entries made other : EntriesTree) → NoFlaw new → Migrated old new entries made → Migrated old new entries other → made ≡ other }
 {}
 
-/// Each path that is present is kept with its entry, or lost once, and never both. No other is lost.
+/// Each key that is present is kept with its entry, or lost once, and never both. No other is lost.
 pub fn kept_or_lost()
-    ensures present { (old new : SpecTree) (entries made : EntriesTree) (path : List (List ℕ)) (entry : NamedEntry) →
-        NoFlaw old → Migrated old new entries made → Named old entries path ≡ Some entry → KeptOrLost old new entries made path entry }
-    ensures absent { (old new : SpecTree) (entries : EntriesTree) (path : List (List ℕ)) → Named old entries path ≡ None → times path (Lost old new entries) ≡ 0 }
+    ensures present { (old new : SpecTree) (entries made : EntriesTree) (key : Key) (entry : NamedEntry) →
+        NoFlaw old → Migrated old new entries made → Named old entries key ≡ Some entry → KeptOrLost old new entries made key entry }
+    ensures absent { (old new : SpecTree) (entries : EntriesTree) (key : Key) → Named old entries key ≡ None → times key (Lost old new entries) ≡ 0 }
+{}
+
+/// The parts that two extended items have in common are the most first parts whose members are equal once tables are emptied.
+#[tactic(auto, using(crate::proofs::CommonParts::common_first, crate::proofs::CommonParts::common_within, crate::proofs::CommonParts::common_most))]
+pub fn parts_in_common_are_the_most()
+    ensures first { (one other : List MembersTree) → take (common one other) (map emptied_members one) ≡ take (common one other) (map emptied_members other) }
+    ensures within { (one other : List MembersTree) → (common one other ≤ length one) × (common one other ≤ length other) }
+    ensures most { (one other : List MembersTree) (count : ℕ) → count ≤ length one → count ≤ length other → take count (map emptied_members one) ≡ take count (map emptied_members other) → count ≤ common one other }
+{}
+
+/// The first parts of a value are spelled by the front of the whole spelling with its last bit 0, where more parts are
+/// present: each of them has an FX bit then, whatever the last part of the kind ends with. Else they are the whole value.
+#[tactic(auto, using(crate::proofs::CutParts::parts_cut, crate::proofs::CutParts::parts_whole))]
+pub fn first_parts_are_the_front()
+    ensures cut { (last : LastPart) (count : ℕ) (parts : List MembersTree) (lists : ListsTree) → PartsShape parts lists → 0 < count → count < list_count lists →
+        parts_canon last parts (first_lists count lists) ≡ cut_after (first_bits count parts) (parts_canon last parts lists) }
+    ensures whole { (count : ℕ) (lists : ListsTree) → list_count lists ≤ count → first_lists count lists ≡ lists }
+{}
+
+/// The parts that two extended items have in common are spelled alike in both, where the parts of both are whole octets: a part
+/// in common has an FX bit in both then, or in neither.
+#[tactic(auto, using(crate::proofs::CommonParts::parts_alike))]
+pub fn parts_in_common_are_spelled_alike()
+    ensures { (last_one last_other : LastPart) (one other : List MembersTree) (lists : ListsTree) → PartsWhole last_one one → PartsWhole last_other other →
+        parts_canon last_other other (first_lists (common one other) lists) ≡ parts_canon last_one one (first_lists (common one other) lists) }
 {}
 
 /// The test of sameness holds exactly for the same kinds.
@@ -58,8 +89,8 @@ pub fn migrated_block_is_small()
         NoFlaw old → NoFlaw new → Fits old block → MigratedBlock old new block made → canon_length old block ≤ longest_block → canon_length new made < 4294967296 }
 {}
 
-/// A named path is present in a record exactly where its place is.
-pub fn named_paths_are_present_at_their_places()
-    ensures { (spec : SpecTree) (entries : EntriesTree) (name : List ℕ) (names : List (List ℕ)) (place : Place) → RecordShape spec entries → named_place spec (name ∷ names) ≡ Some place →
-        is_present entries place ≡ is_some (Named spec entries (name ∷ names)) }
+/// A key is present in a record exactly where something stands at the place of its path and, for a part, has that part.
+pub fn keys_are_present_at_their_places()
+    ensures { (spec : SpecTree) (entries : EntriesTree) (part : Option ℕ) (name : List ℕ) (names : List (List ℕ)) (place : Place) → RecordShape spec entries → named_place spec (name ∷ names) ≡ Some place →
+        is_present_part entries place part ≡ is_some (Named spec entries (record { names = name ∷ names; part = part })) }
 {}

@@ -1,54 +1,52 @@
--- The losses that are found are the lost paths.
-use Rattle.std.proofs.Common.{◌≡◌, ℕ, ◌+◌, Bool, option_and_then, true, false, cond, ◌&&◌, not, is_some, is_none, List, [], ◌∷◌, ◌++◌, map, filter, Option, Some, None, option_map, refl, sym, ◌∙◌, ap}
+-- The losses that are found are the lost keys.
+use Rattle.std.proofs.Common.{◌≡◌, ℕ, ◌+◌, Bool, option_and_then, true, false, cond, ◌&&◌, not, is_some, is_none, List, [], ◌∷◌, ◌++◌, map, filter, flat_map, Option, Some, None, option_map, refl, sym, ◌∙◌, ap, append_assoc}
 use Rattle.std.specs.List.{AllByRecursion}
-use Rattle.ax_relation.specs.Paths.{related_path, relation_paths}
+use Rattle.ax_relation.specs.Paths.{related_key, related_keys, relation_paths}
+use Rattle.ax_relation.specs.declared.relation.RelationPath.{RelationPath}
 use Rattle.ax_edition_laws.proofs.Distinct.{Distinct}
+use Rattle.ax_edition_laws.proofs.MovedShape.{slot_shape}
+use Rattle.ax_edition_laws.proofs.PresentPaths.{own_there}
 use Rattle.ax_edition_laws.proofs.PlacedPaths.{StandsNamed, all_named, kind_has_steps, placed_slot_names}
-use Rattle.ax_migrate.specs.Finding.{value_below, is_there, record_losses, found_losses}
+use Rattle.ax_migrate.specs.Finding.{value_below, is_there, path_loss, record_losses, found_losses}
 use Rattle.ax_migrate.specs.Losing.{loss, losses_from}
+use Rattle.ax_migrate.specs.declared.losing.LossEntry.{LossEntry}
 use Rattle.ax_model.specs.At.{slot_value}
 use Rattle.ax_model.specs.Migrated.{is_lost, Lost}
-use Rattle.ax_model.specs.Named.{NamedEntry, kind_at, entry_at, Named}
+use Rattle.ax_model.specs.Named.{Key, part_keys, keys_at, kind_at, entry_at, Named}
+use Rattle.ax_model.specs.Bodies.{RecordShape}
 use Rattle.ax_model.specs.Naming.{slot_named}
-use Rattle.ax_model.specs.Placed.{Placed, steps_at, place_from, named_place, placed_paths}
-use Rattle.ax_model.specs.Shared.{are_shared, Shared}
+use Rattle.ax_model.specs.Shape.{Shape, EntriesShape}
+use Rattle.ax_model.specs.Placed.{Placed, steps_at, place_from, named_place, placed_paths, has_part_where}
+use Rattle.ax_model.specs.Shared.{are_shared, shared_names, Shared}
 use Rattle.ax_model.specs.Specification.{SpecTree, record_kind, record_slots}
-use Rattle.ax_model.specs.Tree.{KindTree, compound, SlotsTree, ValueTree, marked, EntriesTree}
+use Rattle.ax_model.specs.Tree.{MembersTree, KindTree, fixed, extended, counted, by_fx, explicit, compound, SlotsTree, ValueTree, marked, EntriesTree}
 
 -- ---- slot numbers lead to an entry exactly where the names do
 
--- below a slot that was found, or none
-abbrev entry_under : List (List ℕ) → Option (ℕ × KindTree) → ValueTree → Option NamedEntry
-entry_under names o (marked es) = option_and_then (λ s. option_and_then (entry_at names s.1) (slot_value s.0 es)) o
-entry_under names o _ = None
+module _ (part : Option ℕ) (names : List (List ℕ)) (below : (k : KindTree) (ms : List ℕ) (v : ValueTree) → Shape k v → steps_at names k ≡ Some ms → is_some (entry_at part names k v) ≡ has_part_where part (value_below ms v)) where
+  by_value : (s : ℕ × KindTree) (ms : List ℕ) (o : Option ValueTree) → ((w : ValueTree) → o ≡ Some w → Shape s.1 w) → steps_at names s.1 ≡ Some ms
+      → is_some (option_and_then (entry_at part names s.1) o) ≡ has_part_where part (option_and_then (value_below ms) o)
+  by_value s ms None has e = refl
+  by_value s ms (Some w) has e = below s.1 ms w (has w refl) e
 
-module _ (names : List (List ℕ)) (below : (k : KindTree) (ms : List ℕ) (v : ValueTree) → steps_at names k ≡ Some ms → is_some (entry_at names k v) ≡ is_some (value_below ms v)) where
-  by_value : (s : ℕ × KindTree) (ms : List ℕ) (o : Option ValueTree) → steps_at names s.1 ≡ Some ms → is_some (option_and_then (entry_at names s.1) o) ≡ is_some (option_and_then (value_below ms) o)
-  by_value s ms None e = refl
-  by_value s ms (Some w) e = below s.1 ms w e
+  by_steps : (s : ℕ × KindTree) (es : EntriesTree) (steps : List ℕ) (o : Option (List ℕ)) → ((w : ValueTree) → slot_value s.0 es ≡ Some w → Shape s.1 w) → steps_at names s.1 ≡ o
+      → option_map (λ ms. s.0 ∷ ms) o ≡ Some steps → is_some (option_and_then (entry_at part names s.1) (slot_value s.0 es)) ≡ has_part_where part (value_below steps (marked es))
+  by_steps s es steps None has e f = cc
+  by_steps s es steps (Some ms) has e f =
+      let g : s.0 ∷ ms ≡ steps = cc in by_value s ms (slot_value s.0 es) has e ∙ ap (λ l. has_part_where part (value_below l (marked es))) g
 
-  by_entry : (s : ℕ × KindTree) (ms : List ℕ) (v : ValueTree) → steps_at names s.1 ≡ Some ms → is_some (entry_under names (Some s) v) ≡ is_some (value_below (s.0 ∷ ms) v)
-  by_entry s ms (marked es) e = by_value s ms (slot_value s.0 es) e
-  by_entry s ms _ e = refl
+  by_slot : (name : List ℕ) (ss : SlotsTree) (es : EntriesTree) (steps : List ℕ) (o : Option (ℕ × KindTree)) → EntriesShape 1 ss es → slot_named 1 name ss ≡ o
+      → option_and_then (λ s. option_map (λ ms. s.0 ∷ ms) (steps_at names s.1)) o ≡ Some steps
+      → is_some (option_and_then (λ s. option_and_then (entry_at part names s.1) (slot_value s.0 es)) o) ≡ has_part_where part (value_below steps (marked es))
+  by_slot name ss es steps None h found e = cc
+  by_slot name ss es steps (Some s) h found e = by_steps s es steps (steps_at names s.1) (λ w at. slot_shape 1 name ss es s.0 s.1 w found h at) refl e
 
-  by_steps : (s : ℕ × KindTree) (steps : List ℕ) (v : ValueTree) (o : Option (List ℕ)) → steps_at names s.1 ≡ o → option_map (λ ms. s.0 ∷ ms) o ≡ Some steps → is_some (entry_under names (Some s) v) ≡ is_some (value_below steps v)
-  by_steps s steps v None e f = cc
-  by_steps s steps v (Some ms) e f =
-      let g : s.0 ∷ ms ≡ steps = cc in by_entry s ms v e ∙ ap (λ l. is_some (value_below l v)) g
-
-  by_slot : (o : Option (ℕ × KindTree)) (steps : List ℕ) (v : ValueTree) → option_and_then (λ s. option_map (λ ms. s.0 ∷ ms) (steps_at names s.1)) o ≡ Some steps → is_some (entry_under names o v) ≡ is_some (value_below steps v)
-  by_slot None steps v e = cc
-  by_slot (Some s) steps v e = by_steps s steps v (steps_at names s.1) refl e
-
-as_under : (name : List ℕ) (names : List (List ℕ)) (ss : SlotsTree) (v : ValueTree) → entry_at (name ∷ names) (compound ss) v ≡ entry_under names (slot_named 1 name ss) v
-as_under name names ss (marked es) = refl
-as_under name names ss _ = refl
-
-present_at : (names : List (List ℕ)) (k : KindTree) (steps : List ℕ) (v : ValueTree) → steps_at names k ≡ Some steps → is_some (entry_at names k v) ≡ is_some (value_below steps v)
-present_at [] k [] v e = refl
-present_at [] k (s ∷ steps) v e = cc
-present_at (name ∷ names) (compound ss) steps v e = ap is_some (as_under name names ss v) ∙ by_slot names (present_at names) (slot_named 1 name ss) steps v e
-present_at (name ∷ names) _ steps v e = cc
+present_at : (part : Option ℕ) (names : List (List ℕ)) (k : KindTree) (steps : List ℕ) (v : ValueTree) → Shape k v → steps_at names k ≡ Some steps → is_some (entry_at part names k v) ≡ has_part_where part (value_below steps v)
+present_at part [] k [] v h e = own_there part k v h
+present_at part [] k (s ∷ steps) v h e = cc
+present_at part (name ∷ names) (compound ss) steps (marked es) h e = by_slot part names (present_at part names) name ss es steps (slot_named 1 name ss) h refl e
+present_at part (name ∷ names) (compound ss) steps _ h e = absurd h
+present_at part (name ∷ names) _ steps v h e = cc
 
 -- ---- one path
 
@@ -65,36 +63,37 @@ some_step first others (compound ss) e = by (slot_named 1 first ss) e
     by (Some s) e = longer s.0 (steps_at others s.1) e
 some_step first others _ e = cc
 
-placed_present : (numbers : List ℕ) (es : EntriesTree) (k : KindTree) (first : List ℕ) (others : List (List ℕ)) → steps_at (first ∷ others) k ≡ Some numbers
-    → is_there (place_from numbers) es ≡ is_some (value_below numbers (marked es))
-placed_present (frn ∷ steps) es k first others e = refl
-placed_present [] es k first others e = absurd (some_step first others k e)
+placed_present : (numbers : List ℕ) (part : Option ℕ) (es : EntriesTree) (k : KindTree) (first : List ℕ) (others : List (List ℕ)) → steps_at (first ∷ others) k ≡ Some numbers
+    → is_there (place_from numbers) part es ≡ has_part_where part (value_below numbers (marked es))
+placed_present (frn ∷ steps) part es k first others e = refl
+placed_present [] part es k first others e = absurd (some_step first others k e)
 
-present_named : (spec : SpecTree) (p : Placed) (es : EntriesTree) → StandsNamed (record_kind spec) p → is_there (place_from p.numbers) es ≡ is_some (Named spec es p.names)
-present_named spec p es h =
+present_named : (spec : SpecTree) (p : Placed) (part : Option ℕ) (es : EntriesTree) → RecordShape spec es → StandsNamed (record_kind spec) p → is_there (place_from p.numbers) part es ≡ is_some (Named spec es (record { names = p.names; part = part }))
+present_named spec p part es shape h =
     let steps : steps_at (h.first ∷ h.others) (record_kind spec) ≡ Some p.numbers = ap (λ n. steps_at n (record_kind spec)) (sym h.names) ∙ h.stands.steps in
-    placed_present p.numbers es (record_kind spec) h.first h.others steps ∙ sym (present_at (h.first ∷ h.others) (record_kind spec) p.numbers (marked es) steps) ∙ ap (λ n. is_some (Named spec es n)) (sym h.names)
+    placed_present p.numbers part es (record_kind spec) h.first h.others steps ∙ sym (present_at part (h.first ∷ h.others) (record_kind spec) p.numbers (marked es) shape.shape steps)
+    ∙ ap (λ n. is_some (Named spec es (record { names = n; part = part }))) (sym h.names)
 
 mapped_some : (o : Option (List ℕ)) → is_some (option_map place_from o) ≡ is_some o
 mapped_some None = refl
 mapped_some (Some n) = refl
 
-shared_there : (k l : Option KindTree) → are_shared k l ≡ true → is_some l ≡ true
-shared_there None None e = cc
-shared_there None (Some l) e = cc
-shared_there (Some k) None e = cc
-shared_there (Some k) (Some l) e = refl
+shared_there : (part : Option ℕ) (k l : Option KindTree) → are_shared part k l ≡ true → is_some l ≡ true
+shared_there part None None e = cc
+shared_there part None (Some l) e = cc
+shared_there part (Some k) None e = cc
+shared_there part (Some k) (Some l) e = refl
 
-shared_place_there : (old new : SpecTree) (path : List (List ℕ)) → Shared old new path ≡ true → is_some (named_place new path) ≡ true
-shared_place_there old new [] e = cc
-shared_place_there old new (name ∷ names) e =
-    mapped_some (steps_at (name ∷ names) (record_kind new)) ∙ kind_has_steps (name ∷ names) (record_kind new) ∙ shared_there (kind_at (name ∷ names) (record_kind old)) (kind_at (name ∷ names) (record_kind new)) e
+shared_place_there : (old new : SpecTree) (part : Option ℕ) (path : List (List ℕ)) → shared_names old new part path ≡ true → is_some (named_place new path) ≡ true
+shared_place_there old new part [] e = cc
+shared_place_there old new part (name ∷ names) e =
+    mapped_some (steps_at (name ∷ names) (record_kind new)) ∙ kind_has_steps (name ∷ names) (record_kind new) ∙ shared_there part (kind_at (name ∷ names) (record_kind old)) (kind_at (name ∷ names) (record_kind new)) e
 
-no_new_place : (old new : SpecTree) (path : List (List ℕ)) → is_none (cond (Shared old new path) (named_place new path) None) ≡ not (Shared old new path)
-no_new_place old new path = by (Shared old new path) refl
+no_new_place : (old new : SpecTree) (key : Key) → is_none (cond (Shared old new key) (named_place new key.names) None) ≡ not (Shared old new key)
+no_new_place old new key = by (Shared old new key) refl
   where
-    by : (b : Bool) → Shared old new path ≡ b → is_none (cond b (named_place new path) None) ≡ not b
-    by true e = ap not (shared_place_there old new path e)
+    by : (b : Bool) → Shared old new key ≡ b → is_none (cond b (named_place new key.names) None) ≡ not b
+    by true e = ap not (shared_place_there old new key.part key.names e)
     by false e = refl
 
 swapped : (a b : Bool) → (a && b) ≡ (b && a)
@@ -103,26 +102,63 @@ swapped true false = refl
 swapped false true = refl
 swapped false false = refl
 
-test_is : (old new : SpecTree) (p : Placed) (es : EntriesTree) → StandsNamed (record_kind old) p
-    → (is_none (cond (Shared old new p.names) (named_place new p.names) None) && is_there (place_from p.numbers) es) ≡ is_lost old new es p.names
-test_is old new p es h =
-    (λ i. no_new_place old new p.names i && present_named old p es h i) ∙ swapped (not (Shared old new p.names)) (is_some (Named old es p.names))
+-- ---- the keys of a path
+
+module _ (old new : SpecTree) (n : ℕ) (es : EntriesTree) (shape : RecordShape old es) (p : Placed) (h : StandsNamed (record_kind old) p) where
+  key_loss : (part : Option ℕ) → path_loss n es (related_key old new p (record { names = p.names; part = part })) ≡ cond (is_lost old new es (record { names = p.names; part = part })) (loss old.category n (record { names = p.names; part = part }) ∷ []) []
+  key_loss part =
+      ap (λ b. cond b (loss old.category n (record { names = p.names; part = part }) ∷ []) [])
+      ((λ i. no_new_place old new (record { names = p.names; part = part }) i && present_named old p part es shape h i)
+      ∙ swapped (not (Shared old new (record { names = p.names; part = part }))) (is_some (Named old es (record { names = p.names; part = part }))))
+
+  -- one key more in front of others
+  one_more : (part : Option ℕ) (found : List LossEntry) (rest : List Key) → found ≡ map (loss old.category n) (filter (is_lost old new es) rest)
+      → path_loss n es (related_key old new p (record { names = p.names; part = part })) ++ found ≡ map (loss old.category n) (filter (is_lost old new es) (record { names = p.names; part = part } ∷ rest))
+  one_more part found rest e = (λ i. key_loss part i ++ e i) ∙ by (is_lost old new es (record { names = p.names; part = part })) (filter (is_lost old new es) rest)
+    where
+      by : (b : Bool) (rest : List Key) → cond b (loss old.category n (record { names = p.names; part = part }) ∷ []) [] ++ map (loss old.category n) rest ≡ map (loss old.category n) (cond b (record { names = p.names; part = part } ∷ rest) rest)
+      by true rest = refl
+      by false rest = refl
+
+  parts_found : (m : ℕ) (ps : List MembersTree) → record_losses n es (map (related_key old new p) (part_keys p.names m ps)) ≡ map (loss old.category n) (filter (is_lost old new es) (part_keys p.names m ps))
+  parts_found m [] = refl
+  parts_found m (q ∷ ps) = one_more (Some m) (record_losses n es (map (related_key old new p) (part_keys p.names (m + 1) ps))) (part_keys p.names (m + 1) ps) (parts_found (m + 1) ps)
+
+  keys_found : (k : KindTree) → record_losses n es (map (related_key old new p) (keys_at p.names (Some k))) ≡ map (loss old.category n) (filter (is_lost old new es) (keys_at p.names (Some k)))
+  keys_found (extended last ps) = one_more None (record_losses n es (map (related_key old new p) (part_keys p.names 0 ps))) (part_keys p.names 0 ps) (parts_found 0 ps)
+  keys_found (fixed f) = one_more None [] [] refl
+  keys_found (counted size k) = one_more None [] [] refl
+  keys_found (by_fx f) = one_more None [] [] refl
+  keys_found explicit = one_more None [] [] refl
+  keys_found (compound ss) = one_more None [] [] refl
 
 -- ---- all paths
 
-found_paths : (old new : SpecTree) (n : ℕ) (es : EntriesTree) (ps : List Placed) → AllByRecursion (StandsNamed (record_kind old)) ps
-    → record_losses n es (map (related_path old new) ps) ≡ map (loss old.category n) (filter (is_lost old new es) (map (λ p. p.names) ps))
-found_paths old new n es [] h = refl
-found_paths old new n es (p ∷ ps) h =
-    (λ i. cond (test_is old new p es h.0 i) (loss old.category n p.names ∷ []) [] ++ found_paths old new n es ps h.1 i) ∙ by (is_lost old new es p.names) (filter (is_lost old new es) (map (λ q. q.names) ps))
+losses_append : (n : ℕ) (es : EntriesTree) (xs ys : List RelationPath) → record_losses n es (xs ++ ys) ≡ record_losses n es xs ++ record_losses n es ys
+losses_append n es [] ys = refl
+losses_append n es (x ∷ xs) ys = ap (λ l. path_loss n es x ++ l) (losses_append n es xs ys) ∙ sym (append_assoc (path_loss n es x) (record_losses n es xs) (record_losses n es ys))
+
+filter_append : (test : Key → Bool) (f : Key → LossEntry) (xs ys : List Key) → map f (filter test (xs ++ ys)) ≡ map f (filter test xs) ++ map f (filter test ys)
+filter_append test f [] ys = refl
+filter_append test f (x ∷ xs) ys = by (test x) (filter_append test f xs ys)
   where
-    by : (b : Bool) (rest : List (List (List ℕ))) → cond b (loss old.category n p.names ∷ []) [] ++ map (loss old.category n) rest ≡ map (loss old.category n) (cond b (p.names ∷ rest) rest)
-    by true rest = refl
-    by false rest = refl
+    by : (b : Bool) → map f (filter test (xs ++ ys)) ≡ map f (filter test xs) ++ map f (filter test ys) → map f (cond b (x ∷ filter test (xs ++ ys)) (filter test (xs ++ ys))) ≡ map f (cond b (x ∷ filter test xs) (filter test xs)) ++ map f (filter test ys)
+    by true h = ap (λ l. f x ∷ l) h
+    by false h = h
 
-pub found_is_lost : (old new : SpecTree) (n : ℕ) (es : EntriesTree) → Distinct (record_kind old) → record_losses n es (relation_paths old new) ≡ map (loss old.category n) (Lost old new es)
-found_is_lost old new n es d = found_paths old new n es (placed_paths old) (all_named old d) ∙ ap (λ l. map (loss old.category n) (filter (is_lost old new es) l)) (placed_slot_names 1 (record_slots old))
+found_paths : (old new : SpecTree) (n : ℕ) (es : EntriesTree) (ps : List Placed) → RecordShape old es → AllByRecursion (StandsNamed (record_kind old)) ps
+    → record_losses n es (flat_map (related_keys old new) ps) ≡ map (loss old.category n) (filter (is_lost old new es) (flat_map (λ names. keys_at names (kind_at names (record_kind old))) (map (λ p. p.names) ps)))
+found_paths old new n es [] shape h = refl
+found_paths old new n es (p ∷ ps) shape h =
+    losses_append n es (related_keys old new p) (flat_map (related_keys old new) ps)
+    ∙ (λ i. (keys_found old new n es shape p h.0 p.kind ∙ ap (λ o. map (loss old.category n) (filter (is_lost old new es) (keys_at p.names o))) (sym h.0.stands.kind)) i ++ found_paths old new n es ps shape h.1 i)
+    ∙ sym (filter_append (is_lost old new es) (loss old.category n) (keys_at p.names (kind_at p.names (record_kind old))) (flat_map (λ names. keys_at names (kind_at names (record_kind old))) (map (λ p. p.names) ps)))
 
-pub all_found : (old new : SpecTree) (n : ℕ) (rs : List EntriesTree) → Distinct (record_kind old) → found_losses (relation_paths old new) n rs ≡ losses_from old new n rs
-all_found old new n [] d = refl
-all_found old new n (r ∷ rs) d = λ i. found_is_lost old new n r d i ++ all_found old new (n + 1) rs d i
+pub found_is_lost : (old new : SpecTree) (n : ℕ) (es : EntriesTree) → Distinct (record_kind old) → RecordShape old es → record_losses n es (relation_paths old new) ≡ map (loss old.category n) (Lost old new es)
+found_is_lost old new n es d shape =
+    found_paths old new n es (placed_paths old) shape (all_named old d)
+    ∙ ap (λ l. map (loss old.category n) (filter (is_lost old new es) (flat_map (λ names. keys_at names (kind_at names (record_kind old))) l))) (placed_slot_names 1 (record_slots old))
+
+pub all_found : (old new : SpecTree) (n : ℕ) (rs : List EntriesTree) → Distinct (record_kind old) → AllByRecursion (RecordShape old) rs → found_losses (relation_paths old new) n rs ≡ losses_from old new n rs
+all_found old new n [] d shapes = refl
+all_found old new n (r ∷ rs) d shapes = λ i. found_is_lost old new n r d shapes.0 i ++ all_found old new (n + 1) rs d shapes.1 i

@@ -56,9 +56,10 @@ module _ (old new : Spec) (relation : Relation) (related : Relates old new relat
       let Q : Block → Type 0 = λ b. BlockMigrated old new b (BlockOf.Read category made) in
       subst Q (sym is) (subst P (sym m) (refl, each_moved (spec_tree old) (spec_tree new) relation.moves (records_tree records) related.moves fit.2))
 
-  pub read_losses : (block : Block) (category : ℕ) (records : List Record) (losses : List LossEntry) → block ≡ BlockOf.Read category records → losses ≡ found_losses relation.paths 0 (records_tree records) → losses ≡ losses_of old new block
-  read_losses block category records losses is l =
-      l ∙ ap (λ ps. found_losses ps 0 (records_tree records)) related.paths ∙ all_found (spec_tree old) (spec_tree new) 0 (records_tree records) (record_distinct (spec_tree old) related.old_no_flaw) ∙ ap (losses_of old new) (sym is)
+  pub read_losses : (block : Block) (category : ℕ) (records : List Record) (losses : List LossEntry) → block ≡ BlockOf.Read category records → BlockFits old block → losses ≡ found_losses relation.paths 0 (records_tree records) → losses ≡ losses_of old new block
+  read_losses block category records losses is fits l =
+      let fit = subst (BlockFits old) is fits in
+      l ∙ ap (λ ps. found_losses ps 0 (records_tree records)) related.paths ∙ all_found (spec_tree old) (spec_tree new) 0 (records_tree records) (record_distinct (spec_tree old) related.old_no_flaw) fit.2 ∙ ap (losses_of old new) (sym is)
 
   pub opaque_migrated : (block made : Block) (category : ℕ) (octets : List ℕ) → block ≡ BlockOf.Opaque category octets → made ≡ block → BlockMigrated old new block made
   opaque_migrated block made category octets is same =

@@ -1,15 +1,15 @@
--- What a block loses: the lost paths of its records, which are numbered from 0.
+-- What a block loses: the lost keys of its records, which are numbered from 0.
 use Rattle.std.specs.Prelude.{ℕ, ◌+◌, List, [], ◌∷◌, ◌++◌, map, flat_map, codes}
 use Rattle.ax_migrate.specs.declared.losing.LossEntry.{LossEntry}
 use Rattle.ax_model.specs.Blocks.{BlockTree, read_block, opaque_block}
 use Rattle.ax_model.specs.Migrated.{Lost}
-use Rattle.ax_model.specs.Paths.{path_text}
+use Rattle.ax_model.specs.Named.{Key, key_text}
 use Rattle.ax_model.specs.Specification.{SpecTree}
 use Rattle.ax_model.specs.Tree.{EntriesTree}
 use Rattle.ax_report.specs.Lines.{entry_line}
 
-abbrev pub loss : ℕ → ℕ → List (List ℕ) → LossEntry
-loss category n path = record { record_at = n; path = path_text category path }
+abbrev pub loss : ℕ → ℕ → Key → LossEntry
+loss category n key = record { record_at = n; path = key_text category key }
 
 -- the first of these records has the number n
 abbrev pub losses_from : SpecTree → SpecTree → ℕ → List EntriesTree → List LossEntry

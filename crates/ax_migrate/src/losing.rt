@@ -1,5 +1,6 @@
 //! What a record loses.
-ghost use Rattle.std.specs.Prelude.{◌≡◌, ◌++◌, is_some, OnOk};
+ghost use Rattle.std.specs.Prelude.{◌≡◌, ◌++◌, OnOk};
+ghost use Rattle.ax_model.specs.Placed.{has_part, has_part_where};
 ghost use Rattle.ax_migrate.specs.Finding.{is_there, path_loss, record_losses, value_below};
 ghost use Rattle.ax_model.specs.Plain.{value_tree, entries_tree, record_tree};
 
@@ -16,31 +17,42 @@ pub struct LossEntry {
     pub path: Text,
 }
 
-/// Losses, by record and, in a record, by ascending field reference number, a compound before its subitems.
+/// Losses, by record and, in a record, by ascending field reference number, a compound before its subitems, an extended item before its parts.
 pub type LossList = Sequence<LossEntry>;
 
-/// Whether slot numbers lead on from the value.
-fn leads_on(value: &Value, steps: &[u32]) -> bool
-    ensures { result ≡ is_some (value_below steps.now (value_tree value.now)) }
+/// Whether the value has the part of that number, or there is no question of a part.
+fn has_part(value: &Value, part: Option<u32>) -> bool
+    ensures { result ≡ has_part part (value_tree value.now) }
+{
+    match (part, value) {
+        (None, _) => true,
+        (Some(number), Value::Extended(lists)) => number < lists.count(),
+        _ => false,
+    }
+}
+
+/// Whether slot numbers lead on from the value, to one that has the part.
+fn leads_on(value: &Value, steps: &[u32], part: Option<u32>) -> bool
+    ensures { result ≡ has_part_where part (value_below steps.now (value_tree value.now)) }
 {
     let Some((step, later)) = steps.split_first() else {
-        return true;
+        return has_part(value, part);
     };
     let Value::Compound(entries) = value else {
         return false;
     };
     match value_of(entries, *step) {
-        Some(inner) => leads_on(inner, later),
+        Some(inner) => leads_on(inner, later, part),
         None => false,
     }
 }
 
-/// Whether there is an entry where slot numbers lead.
-fn is_there(entries: &Entries, place: &Place) -> bool
-    ensures { result ≡ is_there place.now (entries_tree entries.now) }
+/// Whether there is an entry where slot numbers lead, with the part.
+fn is_there(entries: &Entries, place: &Place, part: Option<u32>) -> bool
+    ensures { result ≡ is_there place.now part (entries_tree entries.now) }
 {
     match value_of(entries, place.frn) {
-        Some(value) => leads_on(value, place.steps.as_slice()),
+        Some(value) => leads_on(value, place.steps.as_slice(), part),
         None => false,
     }
 }
@@ -55,7 +67,7 @@ fn lose_path(
 ) -> Result<(), AllocError>
     ensures { OnOk result (losses.new ≡ losses.old ++ path_loss number (entries_tree entries.now) path.now) }
 {
-    let lost = path.new.is_none() && is_there(entries, &path.old);
+    let lost = path.new.is_none() && is_there(entries, &path.old, path.part);
     if !lost {
         return Ok(());
     }

@@ -2,11 +2,12 @@
 ghost use Rattle.std.specs.Prelude.{◌≡◌, ◌++◌, map, IfOk, OnOk, option_map};
 ghost use Rattle.std.specs.Option.{option_copied};
 ghost use Rattle.ax_relation.specs.PlainMoves.{move_tree, moves_tree};
+ghost use Rattle.ax_edition_laws.specs.Moved.{first_lists};
 ghost use Rattle.ax_migrate.specs.Moving.{entries_by, move_entries, moved_by};
 ghost use Rattle.ax_model.specs.At.{slot_value};
-ghost use Rattle.ax_model.specs.Plain.{value_tree, entry_tree, entries_tree};
+ghost use Rattle.ax_model.specs.Plain.{value_tree, lists_tree, entry_tree, entries_tree};
 
-use ax_model::{Entries, Entry, Value};
+use ax_model::{Entries, Entry, Lists, Value, Values};
 use ax_relation::{Move, Moves};
 use std::alloc::{AllocError, Global};
 
@@ -22,13 +23,39 @@ pub(crate) fn value_of(entries: &Entries, slot: u32) -> Option<&Value>
     None
 }
 
-/// The value as it moves: in a compound what moves below, and else all of it.
+/// Copies of values.
+fn copies(alloc: Global, values: &Values) -> Result<Values, AllocError>
+    ensures { IfOk result (λ made. made ≡ values.now) }
+{
+    let mut made = Values::new(alloc);
+    for value in values.as_slice() {
+        made.push(value.copy(alloc)?)?;
+    }
+    Ok(made)
+}
+
+/// Copies of the first lists, so many at most.
+fn first_copies(alloc: Global, count: u32, lists: &Lists) -> Result<Lists, AllocError>
+    ensures { IfOk result (λ made. lists_tree made ≡ first_lists count (lists_tree lists.now)) }
+{
+    let mut made = Lists::new(alloc);
+    for values in lists.as_slice() {
+        if made.count() == count {
+            return Ok(made);
+        }
+        made.push(copies(alloc, values)?)?;
+    }
+    Ok(made)
+}
+
+/// The value as it moves: of an extended item so many first parts, in a compound what moves below, and else all of it.
 #[cycle(moving)]
-fn moved_value(alloc: Global, moves: &Moves, value: &Value) -> Result<Value, AllocError>
-    ensures { IfOk result (λ made. value_tree made ≡ moved_by (moves_tree moves.now) (value_tree value.now)) }
+fn moved_value(alloc: Global, parts: u32, moves: &Moves, value: &Value) -> Result<Value, AllocError>
+    ensures { IfOk result (λ made. value_tree made ≡ moved_by parts (moves_tree moves.now) (value_tree value.now)) }
 {
     match value {
         Value::Compound(entries) => Ok(Value::Compound(moved_entries(alloc, moves, entries)?)),
+        Value::Extended(lists) => Ok(Value::Extended(first_copies(alloc, parts, lists)?)),
         _ => value.copy(alloc),
     }
 }
@@ -46,7 +73,7 @@ fn move_entry(
     let Some(value) = value_of(entries, one.old) else {
         return Ok(());
     };
-    let value = moved_value(alloc, &one.below, value)?;
+    let value = moved_value(alloc, one.parts, &one.below, value)?;
     if made.count() == u32::MAX {
         return Err(AllocError);
     }

@@ -36,6 +36,8 @@ pub mod RecordFitting
 pub mod RecordLaws
 pub mod Spelled
 pub mod SpelledBits
+pub mod SplitFronts
+pub mod SplitLists
 pub mod Stays
 pub mod StreamsApart
 pub mod Unmarked

@@ -15,12 +15,14 @@ pub mod Framing
 pub mod InBounds
 pub mod Judging
 pub mod Lengths
+pub mod LongestFronts
 pub mod Lookup
 pub mod Migrated
 pub mod Named
 pub mod Names
 pub mod Naming
 pub mod OfCode
+pub mod PartExamples
 pub mod Paths
 pub mod Placed
 pub mod Places
@@ -35,6 +37,7 @@ pub mod Sizes
 pub mod Sound
 pub mod Specification
 pub mod Spelling
+pub mod Split
 pub mod Standing
 pub mod Streams
 pub mod Telling

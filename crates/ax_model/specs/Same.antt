@@ -1,6 +1,6 @@
 -- Which kinds of two editions are the same (this project's own rule): those that are equal once each table is emptied of
 -- its entries. Titles stand outside of kinds.
-use Rattle.std.specs.Prelude.{◌≡◌, ◌==◌, Bool, true, false, ◌&&◌, bytes_eq, List, [], ◌∷◌, map}
+use Rattle.std.specs.Prelude.{◌≡◌, ℕ, suc, ◌==◌, Bool, true, false, ◌&&◌, if◌then◌else◌, bytes_eq, List, [], ◌∷◌, map}
 use Rattle.ax_model.specs.Tree.{FixedTree, element, group, MembersTree, no_members, member_and, MemberTree, named, spare, KindTree, fixed, extended, counted, by_fx, explicit, compound, SlotsTree, no_slots, slot_and, SlotTree, spare_slot, subitem}
 use Rattle.ax_model.specs.declared.content.Content.{Content}
 use Rattle.ax_model.specs.declared.content.Content.TheVariants.{Raw, Table, Ascii, Icao, Octal, Integer, Quantity}
@@ -111,3 +111,15 @@ abbrev mutual
   are_same_slots no_slots no_slots = true
   are_same_slots (slot_and s ss) (slot_and t ts) = is_same_slot s t && are_same_slots ss ts
   are_same_slots _ _ = false
+
+-- ---- extended items
+
+-- how many first parts of the one have the same members as those of the other
+abbrev pub common : List MembersTree → List MembersTree → ℕ
+common (p ∷ ps) (q ∷ qs) = if are_same_members p q then suc (common ps qs) else 0
+common _ _ = 0
+
+-- the number of first parts that two kinds have in common
+abbrev pub common_parts : KindTree → KindTree → ℕ
+common_parts (extended last ps) (extended other qs) = common ps qs
+common_parts _ _ = 0

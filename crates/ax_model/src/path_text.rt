@@ -1,5 +1,5 @@
 //! Texts of paths: the category in three digits and the names downwards, joined by `/`.
-ghost use Rattle.std.specs.Prelude.{◌≡◌, ◌++◌, IfOk, OnOk};
+ghost use Rattle.std.specs.Prelude.{◌≡◌, ◌++◌, codes, decimal, IfOk, OnOk};
 ghost use Rattle.std.specs.List.{AllByRecursion};
 ghost use Rattle.ax_model.specs.Characters.{IsTextOctet};
 ghost use Rattle.ax_model.specs.Paths.{at, three_digits};
@@ -40,6 +40,15 @@ pub fn at_name(alloc: Global, path: &Text, name: &Name) -> Result<Text, AllocErr
     ensures { IfOk result (λ made. made ≡ at path.now name.now) }
 {
     at_word(alloc, path, name.octets())
+}
+
+/// The path of a part of an extended item, by its number from 0.
+#[tactic(auto, using(crate::proofs::PathOctets::part_printable))]
+pub fn at_part(alloc: Global, path: &Text, number: u32) -> Result<Text, AllocError>
+    ensures { IfOk result (λ made. made ≡ at path.now (codes "part" ++ decimal number)) }
+{
+    let word = format!(in alloc; "part{number}")?;
+    at_word(alloc, path, word.as_bytes())
 }
 
 /// The path of a category: its three digits.

@@ -1,14 +1,15 @@
 -- The shared slots of two editions, in the new one's order.
 use Rattle.std.specs.Prelude.{ℕ, ◌+◌, if◌then◌else◌, List, [], ◌∷◌, ◌++◌, Option, Some, None}
 use Rattle.ax_relation.specs.Below.{slot_below}
+use Rattle.ax_model.specs.Same.{common_parts}
 use Rattle.ax_model.specs.Shared.{is_shared_kind}
 use Rattle.ax_model.specs.Specification.{SpecTree, record_kind}
 use Rattle.ax_model.specs.Tree.{KindTree, compound, SlotTree, SlotsTree, no_slots, slot_and, spare_slot, subitem}
 
 mutual
-  -- the old slot, the new one, and what moves below, in a compound
+  -- the old slot, the new one, how many first parts move of an extended item, and what moves below in a compound
   pub data MoveTree : Type 0 where
-    move_from : ℕ → ℕ → MovesTree → MoveTree
+    move_from : ℕ → ℕ → ℕ → MovesTree → MoveTree
 
   pub data MovesTree : Type 0 where
     no_moves : MovesTree
@@ -21,7 +22,7 @@ moves_from (m ∷ ms) = move_and m (moves_from ms)
 -- the move to the new slot t of a kind, from the old slot found for it, if they share
 abbrev pub move_where : ℕ → KindTree → Option (ℕ × KindTree) → (KindTree → List MoveTree) → List MoveTree
 move_where t l None below = []
-move_where t l (Some s) below = if is_shared_kind s.1 l then move_from s.0 t (moves_from (below s.1)) ∷ [] else []
+move_where t l (Some s) below = if is_shared_kind s.1 l then move_from s.0 t (common_parts s.1 l) (moves_from (below s.1)) ∷ [] else []
 
 abbrev mutual
   -- from an old kind, the second one, to a new one

@@ -1,7 +1,7 @@
 //! The relation of two editions.
-ghost use Rattle.std.specs.Prelude.{◌≡◌};
+ghost use Rattle.std.specs.Prelude.{◌≡◌, None};
 ghost use Rattle.ax_model.specs.Plain.{spec_tree};
-ghost use Rattle.ax_model.specs.Shared.{Shared};
+ghost use Rattle.ax_model.specs.Shared.{Shared, Common};
 ghost use Rattle.ax_model.specs.declared.spec.Spec.{Spec};
 ghost use Rattle.ax_relation.specs.Relates.{Relates};
 
@@ -10,15 +10,17 @@ use crate::moves::Moves;
 use ax_lists::Sequence;
 use ax_model::{Path, Place, Text};
 
-/// A named path of the old edition: its text, its old place, and its new one where it is shared.
+/// A key of the old edition: its text, the number of its part, its old place, and its new one where it is shared. A part's
+/// places are its item's.
 #[derive(Drop)]
 pub struct RelationPath {
     pub text: Text,
+    pub part: Option<u32>,
     pub old: Place,
     pub new: Option<Place>,
 }
 
-/// Named paths of the old edition, in order.
+/// Keys of the old edition, in order.
 pub type RelationPaths = Sequence<RelationPath>;
 
 /// The relation of two editions of one category.
@@ -44,15 +46,23 @@ impl Relation {
     }
 
     /// Whether the path is a named path of the old edition that the new one shares. Takes no memory.
-    #[tactic(auto, using(crate::proofs::Sharing::sharing))]
+    #[tactic(auto, using(crate::proofs::SharedPaths::sharing))]
     pub fn shared(&self, path: &Path) -> bool
-        ensures { (old new : Spec) → Relates old new self.now → result ≡ Shared (spec_tree old) (spec_tree new) path.now }
+        ensures { (old new : Spec) → Relates old new self.now → result ≡ Shared (spec_tree old) (spec_tree new) (record { names = path.now; part = None }) }
     {
-        self.known.shared(path.as_slice())
+        self.known.get(path.as_slice()).path
     }
 
-    /// The named paths of the old edition in order, each with its text, its old place, and its new one where it is
-    /// shared. Takes no memory.
+    /// How many first parts the extended items of both editions at the path have in common; 0 of another path. Takes no memory.
+    #[tactic(auto, using(crate::proofs::SharedPaths::sharing))]
+    pub fn shared_parts(&self, path: &Path) -> u32
+        ensures { (old new : Spec) → Relates old new self.now → result ≡ Common (spec_tree old) (spec_tree new) path.now }
+    {
+        self.known.get(path.as_slice()).parts
+    }
+
+    /// The keys of the old edition in order, an extended item before its parts, each with its text, its old place, and its new
+    /// one where it is shared. Takes no memory.
     pub fn paths(&self) -> &RelationPaths
         ensures { result.now ≡ self.now.paths }
     {

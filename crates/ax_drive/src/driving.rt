@@ -49,15 +49,17 @@ fn drive_job<S: Source, K: Sink, R: Sink>(
 }
 
 /// Does a new work on each block of the source, up to the first refusal: each block is judged as a whole, then its lines are
-/// written on the report, then its result on the output as one piece. It takes no memory.
+/// written on the report, then its result on the output, one piece for each data block. It takes no memory.
 ///
 /// - `Done` comes where the input was read to its end, with the number of its blocks.
 /// - `InputRefused` names the input's first fault, `InputTooLong` an input past the work's limit, and `MigratedTooLong` the
-///   first block whose migrated form has more than 65,535 octets, with their number.
+///   first block with a record whose migrated form alone gives a data block of more than 65,535 octets, with the number of the
+///   octets of the first such record's block. Where the migrated records are too many for one data block, several are written.
 /// - `ReadFault`, `WriteFault` and `ReportFault` come only where the source, the output or the report counted a fault.
 ///
 /// `MigratedTooLong` and `ReportFault` come only of a job of two editions. After every end the results of the blocks before
-/// stand on the output.
+/// stand on the output; after `WriteFault` the report has all lines of the block whose octets failed, and the output a prefix of
+/// its octets.
 pub fn drive<S: Source, K: Sink, R: Sink>(
     work: &mut Work<'_, '_>,
     source: &mut S,

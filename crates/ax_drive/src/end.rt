@@ -12,7 +12,7 @@ pub enum DriveEnd {
     Done { blocks: u64 },
     /// The input has a fault.
     InputRefused { fault: InputFault },
-    /// The migrated form of that block has more octets than a block can have, so many.
+    /// A record of that block, migrated, gives alone a data block of so many octets, more than one can have.
     MigratedTooLong { block: u64, octets: u32 },
     /// The input has more octets than the limit.
     InputTooLong,

@@ -1,5 +1,5 @@
 //! `filter` over views.
-ghost use Rattle.std.specs.Prelude.{◌≡◌, ◌≤◌, length, IfOk};
+ghost use Rattle.std.specs.Prelude.{◌≡◌, length, IfOk};
 ghost use Rattle.ax_filter.specs.OfCode.{expression, catalogue_of};
 ghost use Rattle.ax_filter_work.specs.FilterCommand.{filter_command};
 ghost use Rattle.ax_model.specs.Sizes.{longest_block};
@@ -9,7 +9,7 @@ use crate::output::lay_matching;
 use ax_filter::Filter;
 use ax_model::RawBlock;
 use ax_outside::Sink;
-use ax_stream::{BlockWork, WorkStop};
+use ax_stream::{BlockWork, WorkStop, write_piece};
 use ax_tables::Codecs;
 use ax_view_work::blank_output;
 use std::alloc::{AllocError, Global};
@@ -22,9 +22,7 @@ pub struct FilterViews<'f, 'c> {
     filter: &'f Filter<'c>,
     codecs: &'f Codecs,
     output: Vec<u8>,
-    filled: u32,
     ghost room: { length output.items ≡ longest_block },
-    ghost within: { filled ≤ longest_block },
 }
 
 impl<'f, 'c> FilterViews<'f, 'c> {
@@ -43,48 +41,36 @@ impl<'f, 'c> FilterViews<'f, 'c> {
             filter,
             codecs,
             output,
-            filled: 0,
         })
     }
 }
 
 impl<'f, 'c> BlockWork for FilterViews<'f, 'c> {
-    ghost use Rattle.std.specs.Prelude.{take, false};
+    ghost use Rattle.std.specs.Prelude.{false};
 
     ghost command = { λ s. filter_command (expression s.filter.now) (catalogue_of s.filter.now) };
 
     ghost sound = { λ s. StandForEach s.codecs.now.codecs (catalogue_of s.filter.now) };
 
-    ghost laid = { λ s. take s.filled s.output.items };
-
     ghost remembers = { λ first s raws. Unit {0} };
 
     ghost takes_memory = { false };
 
-    fn take<R: Sink>(
+    fn take<R: Sink, K: Sink>(
         &mut self,
         _number: u64,
         raw: &RawBlock<'_>,
         _report: &mut R,
+        out: &mut K,
     ) -> Result<(), WorkStop> {
         match self.codecs.get(raw.category) {
             Some(codec) => {
                 match lay_matching(self.filter, codec, raw.category, raw.body, &mut self.output) {
-                    Ok(count) => {
-                        self.filled = count;
-                        Ok(())
-                    }
+                    Ok(count) => write_piece(out, &self.output[..count as usize]),
                     Err(fault) => Err(WorkStop::Fault(fault)),
                 }
             }
-            None => {
-                self.filled = 0;
-                Ok(())
-            }
+            None => Ok(()),
         }
-    }
-
-    fn octets(&self) -> &[u8] {
-        &self.output[..self.filled as usize]
     }
 }

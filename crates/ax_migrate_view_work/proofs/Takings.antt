@@ -6,13 +6,13 @@ use Rattle.ax_bits.specs.Bits.{bits}
 use Rattle.ax_edition_laws.proofs.Lookups.{equal}
 use Rattle.ax_migrate.specs.Losing.{losses_from, lost_lines}
 use Rattle.ax_migrate.specs.Migrating.{migrated_block}
-use Rattle.ax_migrate_view_work.specs.Ending.{LaysTaken, StopsAt}
+use Rattle.ax_migrate_view_work.specs.Pieces.{FindsTooLong, WritesBlocks}
 use Rattle.ax_migrate_views.specs.Blocks.{old_tree, new_tree, IsOfEditions, IsMigratedBlock, LaysMigrated}
 use Rattle.ax_migrate_views.specs.Losses.{TellsLosses, WritesLosses}
 use Rattle.ax_migrate_views.specs.declared.migrator.Migrator.{Migrator}
-use Rattle.ax_migrate_work.proofs.Answering.{given, refused}
-use Rattle.ax_migrate_work.specs.Commands.{migrate_command}
-use Rattle.ax_model.proofs.CanonFramed.{length-framed}
+use Rattle.ax_migrate_views.specs.Ranges.{made_of}
+use Rattle.ax_migrate_work.proofs.Answering.{answers_one}
+use Rattle.ax_migrate_work.specs.Commands.{migrate_command, unless_too_long}
 use Rattle.ax_model.proofs.Once.{body_never_both}
 use Rattle.ax_model.specs.Blocks.{BlockTree, read_block, opaque_block}
 use Rattle.ax_model.specs.Bodies.{SpellsBody}
@@ -20,16 +20,18 @@ use Rattle.ax_model.specs.CanonicalOctets.{canon_block, canon_length, framed}
 use Rattle.ax_model.specs.Ends.{RawSpells}
 use Rattle.ax_model.specs.Framing.{RawTree}
 use Rattle.ax_model.specs.Specification.{SpecTree, spec_of}
+use Rattle.ax_model.specs.Split.{split_octets}
 use Rattle.ax_model.specs.Tree.{EntriesTree}
 use Rattle.ax_model.specs.declared.fault.BodyFault.{BodyFault}
-use Rattle.ax_outside.proofs.Ends.{with_end-nil}
 use Rattle.ax_outside.proofs.Pieces.{change, same_text}
-use Rattle.ax_outside.specs.Changes.{Wrote}
+use Rattle.ax_outside.specs.Changes.{SinkChange, Wrote}
 use Rattle.ax_outside.specs.declared.sinks.SinkFailed.{SinkFailed}
 use Rattle.ax_stream.proofs.BlockSteps.{short_fault}
 use Rattle.ax_stream.proofs.OpaqueBlocks.{raw_framed}
+use Rattle.ax_stream.proofs.Taken.{Answers, all, failed, octets_written, takes_after_lines, takes_cut_line, takes_silently, takes_fault, takes_too_long}
 use Rattle.ax_stream.specs.Commands.{gives, too_long}
-use Rattle.ax_stream.specs.Taking.{Takes, GivesFor}
+use Rattle.ax_stream.specs.Taking.{Takes, GivesFor, WritesOctets}
+use Rattle.ax_stream.specs.declared.work.WorkStop.{WorkStop}
 use Rattle.ax_stream.specs.declared.work.WorkStop.TheVariants.{Fault, TooLong, ReportFault}
 use Rattle.ax_view.specs.Views.{SpellsSome, FailsThere}
 
@@ -63,99 +65,81 @@ module _ (m : Migrator) (number : ℕ) (raw : RawTree) (of : IsOfEditions m) (sa
   lines : List EntriesTree → List ℕ
   lines records = lost_lines number (losses_from (old_tree m) (new_tree m) 0 records)
 
-  answers : (records : List EntriesTree) (count : ℕ) (output : List ℕ) → IsMigratedBlock (old_tree m) (new_tree m) records count output → count ≤ 65535
+  answers : (records : List EntriesTree) (count : ℕ) (output : List ℕ) → SpellsBody (old_tree m) records (bits raw.body) → IsMigratedBlock (old_tree m) (new_tree m) records count output → count ≤ 65535
       → (migrate_command (old_tree m) (new_tree m)).answer number (block records) ≡ gives (lines records) (take count output)
   unfolding block lines
-  answers records count output h short =
-      let made = migrated_block (old_tree m) (new_tree m) (read_block (old_tree m).category records) in
-      given (canon_length (new_tree m) made) (lost_lines number (losses_from (old_tree m) (new_tree m) 0 records)) (canon_block (new_tree m) made) (omega (arith, h.counted))
+  answers records count output spells h short =
+      answers_one (old_tree m) (new_tree m) number (old_tree m).category records of.related.category spells.some (subst (λ n. n ≤ 65535) h.counted short)
       ∙ ap (gives (lost_lines number (losses_from (old_tree m) (new_tree m) 0 records))) (sym (h.laid short))
 
-  gives_for : (records : List EntriesTree) (count : ℕ) (output : List ℕ) → SpellsBody (old_tree m) records (bits raw.body) → IsMigratedBlock (old_tree m) (new_tree m) records count output → count ≤ 65535
-      → GivesFor (migrate_command (old_tree m) (new_tree m)) number raw (lines records) (take count output)
-  gives_for records count output spells h short = record { block = block records; spells = raw_spells records spells; answer = answers records count output h short }
-
-  module _ (some : SpellsSome m.codec.now raw.body) (count : ℕ) (output : List ℕ) (l : LaysMigrated m raw.body count output) where
+  module _ (some : SpellsSome m.codec.now raw.body) where
     found : (records : List EntriesTree) × SpellsBody (old_tree m) records (bits raw.body)
     found = some.spells (old_tree m) of.compiled.clean of.compiled.stands
 
-    pub block_taken : (h h' : Option (List ℕ)) (f f' : ℕ) (u : Unit) → count ≤ 65535 → WritesLosses m raw.body number (change h h' f f') (Ok u) → LaysTaken m number raw (change h h' f f') output count
+    pub block_taken : (count : ℕ) (output laid : List ℕ) (o : SinkChange) (h h' : Option (List ℕ)) (f f' : ℕ) (u : Unit) (result : Result Unit WorkStop) → LaysMigrated m raw.body count output → count ≤ 65535 → laid ≡ take count output → WritesLosses m raw.body number (change h h' f f') (Ok u) → WritesOctets o laid result
+        → Takes (migrate_command (old_tree m) (new_tree m)) number raw o (change h h' f f') result
     unfolding lines
-    block_taken h h' f f' u short w =
+    block_taken count output laid o h h' f f' u result l short is w wrote =
         let records = found.0 in
-        let wrote = w.lines records found.1 in record {
-          within = short;
-          takes = record { means = record { lines = lines records; is = gives_for records count output found.1 (l.block records found.1) short; wrote = wrote.whole }; later = wrote.later; once = wrote.once; quiet = wrote.quiet };
-        }
+        takes_after_lines (migrate_command (old_tree m) (new_tree m)) number raw o (change h h' f f') (lines records) laid u result
+        (record { block = block records; spells = raw_spells records found.1; answer = answers records count output found.1 (l.block records found.1) short ∙ ap (gives (lines records)) (sym is) }) (w.lines records found.1) wrote
 
-    pub block_cut : (h h' : Option (List ℕ)) (f f' : ℕ) (e : SinkFailed) → count ≤ 65535 → WritesLosses m raw.body number (change h h' f f') (Err e) → StopsAt m number raw (change h h' f f') ReportFault
+    pub block_cut : (count : ℕ) (output : List ℕ) (held : Option (List ℕ)) (fails : ℕ) (h h' : Option (List ℕ)) (f f' : ℕ) (e : SinkFailed) → LaysMigrated m raw.body count output → count ≤ 65535 → WritesLosses m raw.body number (change h h' f f') (Err e)
+        → Takes (migrate_command (old_tree m) (new_tree m)) number raw (change held held fails fails) (change h h' f f') (Err ReportFault)
     unfolding lines
-    block_cut h h' f f' e short w =
+    block_cut count output held fails h h' f f' e l short w =
         let records = found.0 in
-        let wrote = w.lines records found.1 in record {
-          takes = λ laid. record { means = record { lines = lines records; octets = take count output; is = gives_for records count output found.1 (l.block records found.1) short; part = wrote.part }; later = wrote.later; once = wrote.once; quiet = tt };
-          memory = λ x. cc;
-        }
+        takes_cut_line (migrate_command (old_tree m) (new_tree m)) number raw (change h h' f f') held fails (lines records) (take count output) e
+        (record { block = block records; spells = raw_spells records found.1; answer = answers records count output found.1 (l.block records found.1) short }) (w.lines records found.1)
 
-    pub block_long : (h : Option (List ℕ)) (f : ℕ) → 65535 < count → StopsAt m number raw (change h h f f) (TooLong count)
-    unfolding block
-    block_long h f long =
-        let records = found.0 in
-        let made = migrated_block (old_tree m) (new_tree m) (read_block (old_tree m).category records) in
-        let b = l.block records found.1 in record {
-          takes = λ laid. record {
-            means = record {
-              block = read_block (old_tree m).category records;
-              spells = raw_spells records found.1;
-              answer =
-                  refused (canon_length (new_tree m) made) (lost_lines number (losses_from (old_tree m) (new_tree m) 0 records)) (canon_block (new_tree m) made) (omega (arith, b.counted)) ∙ ap too_long (sym b.counted);
-              nothing = refl;
-            };
-            later = omega arith;
-            once = omega arith;
-            quiet = refl;
-          };
-          memory = λ x. cc;
-        }
+    -- ---- several blocks, or a record that is too long
 
-  pub block_fails : (h : Option (List ℕ)) (f : ℕ) (fault : BodyFault) → FailsThere m.codec.now raw.body fault → StopsAt m number raw (change h h f f) (Fault fault)
-  block_fails h f fault fails =
-      let e = fails.fails (old_tree m) of.compiled.clean of.compiled.stands in record {
-        takes = λ laid. record {
-          means = record {
-            fails = record { spec = old_tree m; known = own_category (old_tree m) raw.category same; fails = e };
-            short = short_fault (old_tree m) raw.body fault.bit fault.cause few e;
-            nothing = refl;
-          };
-          later = omega arith;
-          once = omega arith;
-          quiet = refl;
-        };
-        memory = λ x. cc;
-      }
+    answers_some : (found_long : Option ℕ) → FindsTooLong m raw.body found_long
+        → (migrate_command (old_tree m) (new_tree m)).answer number (block found.0) ≡ unless_too_long found_long (lines found.0) (split_octets (new_tree m) (made_of m found.0))
+    unfolding block lines
+    answers_some found_long h = ap (λ o. unless_too_long o (lost_lines number (losses_from (old_tree m) (new_tree m) 0 found.0)) (split_octets (new_tree m) (made_of m found.0))) (h.found_is found.0 found.1)
+
+    gives_split : FindsTooLong m raw.body None → GivesFor (migrate_command (old_tree m) (new_tree m)) number raw (lines found.0) (split_octets (new_tree m) (made_of m found.0))
+    gives_split h = record { block = block found.0; spells = raw_spells found.0 found.1; answer = answers_some None h }
+
+    pub long_taken : (k k' : Option (List ℕ)) (b b' : ℕ) (h h' : Option (List ℕ)) (f f' : ℕ) (u : Unit) (w : Result Unit SinkFailed) (result : Result Unit WorkStop) → FindsTooLong m raw.body None → WritesLosses m raw.body number (change h h' f f') (Ok u)
+        → Answers w result → WritesBlocks m raw.body (change k k' b b') w → Takes (migrate_command (old_tree m) (new_tree m)) number raw (change k k' b b') (change h h' f f') result
+    unfolding lines
+    long_taken k k' b b' h h' f f' u w result none said is wrote =
+        takes_after_lines (migrate_command (old_tree m) (new_tree m)) number raw (change k k' b b') (change h h' f f') (lines found.0) (split_octets (new_tree m) (made_of m found.0)) u result
+        (gives_split none) (said.lines found.0 found.1) (octets_written (change k k' b b') (split_octets (new_tree m) (made_of m found.0)) w result is (wrote.wrote found.0 found.1))
+
+    pub long_cut : (held : Option (List ℕ)) (fails : ℕ) (h h' : Option (List ℕ)) (f f' : ℕ) (e : SinkFailed) → FindsTooLong m raw.body None → WritesLosses m raw.body number (change h h' f f') (Err e)
+        → Takes (migrate_command (old_tree m) (new_tree m)) number raw (change held held fails fails) (change h h' f f') (Err ReportFault)
+    unfolding lines
+    long_cut held fails h h' f f' e none said =
+        takes_cut_line (migrate_command (old_tree m) (new_tree m)) number raw (change h h' f f') held fails (lines found.0) (split_octets (new_tree m) (made_of m found.0)) e (gives_split none) (said.lines found.0 found.1)
+
+    pub record_long : (held shown : Option (List ℕ)) (fails flaws count : ℕ) → FindsTooLong m raw.body (Some count)
+        → Takes (migrate_command (old_tree m) (new_tree m)) number raw (change held held fails fails) (change shown shown flaws flaws) (Err (TooLong count))
+    record_long held shown fails flaws count h = takes_too_long (migrate_command (old_tree m) (new_tree m)) number raw held shown fails flaws (block found.0) count (raw_spells found.0 found.1) (answers_some (Some count) h)
+
+  pub block_fails : (held shown : Option (List ℕ)) (fails flaws : ℕ) (fault : BodyFault) → FailsThere m.codec.now raw.body fault
+      → Takes (migrate_command (old_tree m) (new_tree m)) number raw (change held held fails fails) (change shown shown flaws flaws) (Err (Fault fault))
+  block_fails held shown fails flaws fault there =
+      let e = there.fails (old_tree m) of.compiled.clean of.compiled.stands in
+      takes_fault (migrate_command (old_tree m) (new_tree m)) number raw held shown fails flaws fault (record { spec = old_tree m; known = own_category (old_tree m) raw.category same; fails = e }) (short_fault (old_tree m) raw.body fault.bit fault.cause few e)
 
 -- ---- a block of another category
 
-pub opaque_taken : (m : Migrator) (number : ℕ) (raw : RawTree) (h : Option (List ℕ)) (f count : ℕ) (u : Unit) (output laid : List ℕ) → (raw.category ≡ (old_tree m).category → ⊥) → length raw.body ≤ 65532 → 1 ≤ length raw.body
-    → take count output ≡ framed raw.category raw.body → laid ≡ take count output → Takes (migrate_command (old_tree m) (new_tree m)) number raw (change h h f f) laid (Ok u)
-opaque_taken m number raw h f count u output laid other few some block is = record {
-  means = record {
-    lines = [];
-    is = record {
+pub opaque_taken : (m : Migrator) (number : ℕ) (raw : RawTree) (o : SinkChange) (h : Option (List ℕ)) (f count : ℕ) (output laid : List ℕ) (result : Result Unit WorkStop) → (raw.category ≡ (old_tree m).category → ⊥) → length raw.body ≤ 65532 → 1 ≤ length raw.body
+    → take count output ≡ framed raw.category raw.body → laid ≡ take count output → WritesOctets o laid result → Takes (migrate_command (old_tree m) (new_tree m)) number raw o (change h h f f) result
+opaque_taken m number raw o h f count output laid result other few some block is w =
+    takes_silently (migrate_command (old_tree m) (new_tree m)) number raw o h f laid result
+    (record {
       block = opaque_block raw.category raw.body;
       spells = record {
         octets = framed raw.category raw.body;
         framed = raw_framed raw.category raw.body few;
         spelled = record { unknown = other_category (old_tree m) raw.category other; framed = raw_framed raw.category raw.body few; some = some };
       };
-      answer = given (length (framed raw.category raw.body)) [] (framed raw.category raw.body) (omega (arith, length-framed raw.category raw.body)) ∙ ap (gives []) (sym (is ∙ block));
-    };
-    wrote = sym (with_end-nil h);
-  };
-  later = omega arith;
-  once = omega arith;
-  quiet = refl;
-}
+      answer = ap (gives []) (sym (is ∙ block));
+    }) w
 
 -- ---- the front of the output, as it stands in the vector again
 

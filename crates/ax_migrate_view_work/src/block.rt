@@ -1,39 +1,43 @@
 //! What is made of one block.
-ghost use Rattle.std.specs.Prelude.{◌≡◌, ◌≤◌, length, IfOk, IfErr};
+ghost use Rattle.std.specs.Prelude.{◌≡◌, ◌≤◌, length, IsErrOf};
 ghost use Rattle.ax_blocks.specs.Reader.{raw_tree};
-ghost use Rattle.ax_migrate_view_work.specs.Ending.{LaysTaken, StopsAt};
-ghost use Rattle.ax_migrate_views.specs.Blocks.{IsOfEditions, old_tree};
+ghost use Rattle.ax_migrate_views.specs.Blocks.{IsOfEditions, new_tree, old_tree};
 ghost use Rattle.ax_migrate_views.specs.Losses.{TellsLosses, WritesLosses};
+ghost use Rattle.ax_migrate_work.specs.Commands.{migrate_command};
 ghost use Rattle.ax_model.specs.Sizes.{longest_body};
 ghost use Rattle.ax_outside.specs.Changes.{sink_change};
+ghost use Rattle.ax_stream.specs.Taking.{Takes};
+ghost use Rattle.ax_stream.specs.declared.work.WorkStop.TheVariants.{OutOfMemory};
 ghost use Rattle.ax_view.specs.Views.{SpellsSome};
 
+use crate::pieces::{first_too_long, write_blocks};
 use ax_migrate_views::Migrator;
 use ax_model::RawBlock;
 use ax_outside::{Sink, SinkFailed, write_text};
-use ax_stream::WorkStop;
+use ax_stream::{WorkStop, write_piece};
 use ax_view::scan;
 
 /// The most octets of a data block, and of lines that are kept.
 const LONGEST: u32 = 65_535;
 
-/// Lays the canonical form of the migrated block of one of the old edition's category, and answers its octets. The block is
-/// judged as a whole before the first line of its losses: Fault is the first fault of its body, and TooLong comes exactly
-/// where the migrated block has more than 65,535 octets, with their number.
-pub(crate) fn migrate_block<R: Sink>(
+/// Migrates a block of the old edition's category. It is judged as a whole before the first line of its losses: Fault is the
+/// first fault of its body, and TooLong comes exactly where one migrated record alone has too many octets for a data block, with
+/// those of the first such record's. After all lines its blocks are written, each as one piece.
+pub(crate) fn migrate_block<R: Sink, K: Sink>(
     migrator: &Migrator<'_>,
     number: u64,
     raw: &RawBlock<'_>,
     report: &mut R,
+    out: &mut K,
     output: &mut [u8],
     lines: &mut [u8],
-) -> Result<u32, WorkStop>
+) -> Result<(), WorkStop>
     requires editions { IsOfEditions migrator.now }
     requires category { raw.now.category ≡ (old_tree migrator.now).category }
     requires room { length output.old ≡ 131067 }
     requires lines_room { length lines.old ≡ 131067 }
-    ensures taken { IfOk result (LaysTaken migrator.now number (raw_tree raw.now) (sink_change R.Sink report.old report.new) output.new) }
-    ensures stop { IfErr result (StopsAt migrator.now number (raw_tree raw.now) (sink_change R.Sink report.old report.new)) }
+    ensures takes { Takes (migrate_command (old_tree migrator.now) (new_tree migrator.now)) number (raw_tree raw.now) (sink_change K.Sink out.old out.new) (sink_change R.Sink report.old report.new) result }
+    ensures memory { IsErrOf result OutOfMemory → ⊥ }
     ensures room { length output.new ≡ 131067 }
     ensures lines_room { length lines.new ≡ 131067 }
 {
@@ -42,12 +46,50 @@ pub(crate) fn migrate_block<R: Sink>(
         Err(fault) => return Err(WorkStop::Fault(fault)),
     };
     if laid.octets > LONGEST {
-        return Err(WorkStop::TooLong {
-            octets: laid.octets,
-        });
+        return migrate_long(
+            migrator, number, raw, laid.lines, report, out, output, lines,
+        );
     }
     match report_losses(migrator, number, raw.body, laid.lines, lines, report) {
-        Ok(()) => Ok(laid.octets),
+        Ok(()) => write_piece(out, &output[..laid.octets as usize]),
+        Err(_) => Err(WorkStop::ReportFault),
+    }
+}
+
+/// Migrates a block whose migrated records don't come into one data block. So many octets of lines were laid for it.
+fn migrate_long<R: Sink, K: Sink>(
+    migrator: &Migrator<'_>,
+    number: u64,
+    raw: &RawBlock<'_>,
+    told: u32,
+    report: &mut R,
+    out: &mut K,
+    output: &mut [u8],
+    lines: &[u8],
+) -> Result<(), WorkStop>
+    requires editions { IsOfEditions migrator.now }
+    requires category { raw.now.category ≡ (old_tree migrator.now).category }
+    requires spelled { SpellsSome migrator.now.codec.now raw.now.body.now }
+    requires told { TellsLosses migrator.now raw.now.body.now number told lines.now }
+    requires room { length output.old ≡ 131067 }
+    requires lines_room { length lines.now ≡ 131067 }
+    ensures takes { Takes (migrate_command (old_tree migrator.now) (new_tree migrator.now)) number (raw_tree raw.now) (sink_change K.Sink out.old out.new) (sink_change R.Sink report.old report.new) result }
+    ensures memory { IsErrOf result OutOfMemory → ⊥ }
+    ensures room { length output.new ≡ 131067 }
+{
+    let view = match scan(migrator.old(), raw.body) {
+        Ok(view) => view,
+        Err(fault) => return Err(WorkStop::Fault(fault)),
+    };
+    match first_too_long(migrator, &view) {
+        Some(octets) => return Err(WorkStop::TooLong { octets }),
+        None => {}
+    }
+    match report_losses(migrator, number, raw.body, told, lines, report) {
+        Ok(()) => match write_blocks(migrator, &view, out, output) {
+            Ok(()) => Ok(()),
+            Err(_) => Err(WorkStop::WriteFault),
+        },
         Err(_) => Err(WorkStop::ReportFault),
     }
 }

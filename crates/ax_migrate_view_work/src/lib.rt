@@ -3,6 +3,7 @@
 
 mod block;
 mod output;
+mod pieces;
 mod work;
 
 pub use work::MigrateViews;

@@ -1,8 +1,7 @@
 //! The work of `migrate` on one block.
-ghost use Rattle.std.specs.Prelude.{◌≡◌, ◌≤◌, length, IfOk};
+ghost use Rattle.std.specs.Prelude.{◌≡◌, length, IfOk};
 ghost use Rattle.ax_migrate_views.specs.Blocks.{IsOfEditions, new_tree, old_tree};
 ghost use Rattle.ax_migrate_work.specs.Commands.{migrate_command};
-ghost use Rattle.ax_model.specs.Sizes.{longest_block};
 
 use crate::block::migrate_block;
 use crate::output::{ROOM, lay_opaque};
@@ -10,7 +9,7 @@ use ax_lists::zeros;
 use ax_migrate_views::Migrator;
 use ax_model::RawBlock;
 use ax_outside::Sink;
-use ax_stream::{BlockWork, WorkStop};
+use ax_stream::{BlockWork, WorkStop, write_piece};
 use std::alloc::{AllocError, Global};
 
 /// `migrate` over views, by a migrator between the two editions. What is written of a block stands in one output, and the
@@ -20,10 +19,8 @@ pub struct MigrateViews<'m, 'c> {
     migrator: &'m Migrator<'c>,
     output: Vec<u8>,
     lines: Vec<u8>,
-    filled: u32,
     ghost room: { length output.items ≡ 131067 },
     ghost lines_room: { length lines.items ≡ 131067 },
-    ghost within: { filled ≤ longest_block },
 }
 
 impl<'m, 'c> MigrateViews<'m, 'c> {
@@ -42,51 +39,40 @@ impl<'m, 'c> MigrateViews<'m, 'c> {
             migrator,
             output,
             lines,
-            filled: 0,
         })
     }
 }
 
 impl<'m, 'c> BlockWork for MigrateViews<'m, 'c> {
-    ghost use Rattle.std.specs.Prelude.{take, false};
+    ghost use Rattle.std.specs.Prelude.{false};
 
     ghost command = { λ s. migrate_command (old_tree s.migrator.now) (new_tree s.migrator.now) };
 
     ghost sound = { λ s. IsOfEditions s.migrator.now };
 
-    ghost laid = { λ s. take s.filled s.output.items };
-
     ghost remembers = { λ first s raws. Unit {0} };
 
     ghost takes_memory = { false };
 
-    fn take<R: Sink>(
+    fn take<R: Sink, K: Sink>(
         &mut self,
         number: u64,
         raw: &RawBlock<'_>,
         report: &mut R,
+        out: &mut K,
     ) -> Result<(), WorkStop> {
         if raw.category != self.migrator.old().category() {
-            self.filled = lay_opaque(raw, &mut self.output);
-            return Ok(());
+            let count = lay_opaque(raw, &mut self.output);
+            return write_piece(out, &self.output[..count as usize]);
         }
-        match migrate_block(
+        migrate_block(
             self.migrator,
             number,
             raw,
             report,
+            out,
             &mut self.output,
             &mut self.lines,
-        ) {
-            Ok(count) => {
-                self.filled = count;
-                Ok(())
-            }
-            Err(stop) => Err(stop),
-        }
-    }
-
-    fn octets(&self) -> &[u8] {
-        &self.output[..self.filled as usize]
+        )
     }
 }

@@ -6,11 +6,10 @@ use Rattle.ax_relation.specs.PlainMoves.{move_step, move_tree, moves_tree}
 use Rattle.ax_relation.specs.declared.moves.Move.{Move, out-Move, fold_out-Move}
 use Rattle.ax_migrate_views.proofs.LaidBits.{lays_none, lays_more}
 use Rattle.ax_migrate_views.specs.Laying.{Lays}
-use Rattle.ax_migrate_views.specs.Octets.{marks_by, field_by, spelled_where, canon_by, entries_canon_by, move_canon, move_marks}
+use Rattle.ax_migrate_views.specs.Octets.{marks_by, field_by, spelled_where, canon_by, value_canon_by, entries_canon_by, move_canon, move_marks}
 use Rattle.ax_migrate_views.specs.Wholes.{slots_in}
 use Rattle.ax_model.proofs.Namings.{from_place}
 use Rattle.ax_model.specs.At.{slot_value}
-use Rattle.ax_model.specs.Canonical.{canon}
 use Rattle.ax_model.specs.Lengths.{kind_after}
 use Rattle.ax_model.specs.Tree.{KindTree, SlotsTree, ValueTree, marked, EntriesTree}
 use Rattle.ax_fspec.specs.declared.mask.SlotMask.{SlotMask}
@@ -20,7 +19,7 @@ use Rattle.ax_tables.specs.declared.codec.Codec.{Codec}
 use Rattle.ax_tables.specs.declared.node.Node.{Node}
 use Rattle.ax_tables.specs.declared.node.Node.TheVariants as Of
 use Rattle.ax_view.proofs.ItemSteps.{is_marked}
-use Rattle.ax_view.proofs.NodeKinds.{is_element, is_group, no_part, is_extended, is_counted, is_by_fx, is_explicit, is_compound}
+use Rattle.ax_view.proofs.NodeKinds.{is_compound}
 use Rattle.ax_view.specs.Placing.{entries_there}
 use Rattle.ax_view.specs.Shown.{item_kind, item_value}
 use Rattle.ax_view.specs.Values.{value_in, entries_in}
@@ -29,7 +28,7 @@ use Rattle.ax_view.specs.declared.item.ItemView.{ItemView}
 -- ---- marks
 
 one_mark : (m : MoveTree) (ms : MovesTree) (es : EntriesTree) (marks : List ℕ) → marks_by (move_and m ms) es marks ≡ marks_by ms es (move_marks m es marks)
-one_mark (move_from s t below) ms es marks = refl
+one_mark (move_from s t c below) ms es marks = refl
 
 pub mark_next : (moves : List Move) (i : ℕ) (one : Move) (es : EntriesTree) (set new all : List ℕ) → i < length moves → one ≡ get_or moves i one → new ≡ move_marks (move_tree one) es set
     → marks_by (moves_tree (drop i moves)) es set ≡ all → marks_by (moves_tree (drop (i + 1) moves)) es new ≡ all
@@ -53,7 +52,7 @@ pub none_laid : (moves : List Move) (ss : SlotsTree) (es : EntriesTree) (at : �
 none_laid moves ss es at output few = record { front = []; laid = lays_none at output (omega arith); whole = refl }
 
 one_entry : (m : MoveTree) (ms : MovesTree) (ss : SlotsTree) (es : EntriesTree) → entries_canon_by (move_and m ms) ss es ≡ move_canon m ss es ++ entries_canon_by ms ss es
-one_entry (move_from s t below) ms ss es = refl
+one_entry (move_from s t c below) ms ss es = refl
 
 pub one_laid : (moves : List Move) (i : ℕ) (one : Move) (ss : SlotsTree) (es : EntriesTree) (at end n : ℕ) (old now new : List ℕ) → i < length moves → one ≡ get_or moves i one → LaidSoFar moves i ss es at end old now → Lays (move_canon (move_tree one) ss es) end n now new
     → LaidSoFar moves (i + 1) ss es at n old new
@@ -76,26 +75,26 @@ nothing_there None rule = refl
 nothing_there (Some k) rule = refl
 
 -- a move by its fields
-pub move_is : (m : Move) → move_tree m ≡ move_from (out-Move m).old (out-Move m).new (moves_tree (out-Move m).below)
+pub move_is : (m : Move) → move_tree m ≡ move_from (out-Move m).old (out-Move m).new (out-Move m).parts (moves_tree (out-Move m).below)
 move_is m = fold_out-Move MoveTree move_step m
 
 pub nothing_moves : (m : Move) (ss : SlotsTree) (es : EntriesTree) → slot_value (out-Move m).old es ≡ None → move_canon (move_tree m) ss es ≡ []
 nothing_moves m ss es e =
-    ap (λ t. move_canon t ss es) (move_is m) ∙ ap (λ o. spelled_where (kind_after ((out-Move m).old - 1) ss) o (canon_by (moves_tree (out-Move m).below))) e
-    ∙ nothing_there (kind_after ((out-Move m).old - 1) ss) (canon_by (moves_tree (out-Move m).below))
+    ap (λ t. move_canon t ss es) (move_is m) ∙ ap (λ o. spelled_where (kind_after ((out-Move m).old - 1) ss) o (value_canon_by (out-Move m).parts (moves_tree (out-Move m).below))) e
+    ∙ nothing_there (kind_after ((out-Move m).old - 1) ss) (value_canon_by (out-Move m).parts (moves_tree (out-Move m).below))
 
 pub nothing_laid : (b : List ℕ) (at : ℕ) (output : List ℕ) → b ≡ [] → at < 4294967296 → Lays b at at output output
 nothing_laid b at output e few = subst (λ b. Lays b at at output output) (sym e) (lays_none at output (omega arith))
 
 -- a record's or a compound's value as it moves
-pub whole_canon : (ms : MovesTree) (nodes : List Node) (links octets : List ℕ) (k : KindTree) → k ≡ record_kind_at nodes links
-    → canon_by ms k (value_in k octets) ≡ field_by ms (entries_in (value_in k octets)) ++ entries_canon_by ms (slots_in k) (entries_in (value_in k octets))
+pub whole_canon : (c : ℕ) (ms : MovesTree) (nodes : List Node) (links octets : List ℕ) (k : KindTree) → k ≡ record_kind_at nodes links
+    → value_canon_by c ms k (value_in k octets) ≡ field_by ms (entries_in (value_in k octets)) ++ entries_canon_by ms (slots_in k) (entries_in (value_in k octets))
 unfolding record_kind_at
-whole_canon ms nodes links octets k e =
-    subst (λ k. canon_by ms k (value_in k octets) ≡ field_by ms (entries_in (value_in k octets)) ++ entries_canon_by ms (slots_in k) (entries_in (value_in k octets))) (sym e)
-    (ap (canon_by ms (record_kind_at nodes links)) (is_marked nodes links octets) ∙ own (entries_in (value_in (record_kind_at nodes links) octets)))
+whole_canon c ms nodes links octets k e =
+    subst (λ k. value_canon_by c ms k (value_in k octets) ≡ field_by ms (entries_in (value_in k octets)) ++ entries_canon_by ms (slots_in k) (entries_in (value_in k octets))) (sym e)
+    (ap (value_canon_by c ms (record_kind_at nodes links)) (is_marked nodes links octets) ∙ own (entries_in (value_in (record_kind_at nodes links) octets)))
   where
-    own : (es : EntriesTree) → canon_by ms (record_kind_at nodes links) (marked es) ≡ field_by ms es ++ entries_canon_by ms (slots_in (record_kind_at nodes links)) es
+    own : (es : EntriesTree) → value_canon_by c ms (record_kind_at nodes links) (marked es) ≡ field_by ms es ++ entries_canon_by ms (slots_in (record_kind_at nodes links)) es
     own es = refl
 
 -- that of a record by its entries
@@ -105,23 +104,10 @@ record_canon ms nodes links es = refl
 
 module _ (item : ItemView) (one : Node) (at : one ≡ get_or item.codec.now.nodes (item.link - 1) one) where
   -- what its places show is its value as it moves
-  pub compound_there : (ms : MovesTree) (mask : SlotMask) (links found body : List ℕ) (codec : Codec) → one ≡ Of.Compound mask links → links ≡ found → item.body.now ≡ body → item.codec.now ≡ codec
-      → field_by ms (entries_there codec.nodes found body 0) ++ entries_canon_by ms (slots_in (record_kind_at codec.nodes found)) (entries_there codec.nodes found body 0) ≡ canon_by ms (item_kind item) (item_value item)
+  pub compound_there : (c : ℕ) (ms : MovesTree) (mask : SlotMask) (links found body : List ℕ) (codec : Codec) → one ≡ Of.Compound mask links → links ≡ found → item.body.now ≡ body → item.codec.now ≡ codec
+      → field_by ms (entries_there codec.nodes found body 0) ++ entries_canon_by ms (slots_in (record_kind_at codec.nodes found)) (entries_there codec.nodes found body 0) ≡ value_canon_by c ms (item_kind item) (item_value item)
   unfolding value_in kind_read
-  compound_there ms mask links found body codec e f g h =
+  compound_there c ms mask links found body codec e f g h =
       let kind = is_compound item.codec.now.nodes item.link one item.codec.now.table item.item.some item.item.within at mask links links e refl in
-      sym (ap (λ k. canon_by ms k (value_in k item.body.now)) kind ∙ whole_canon ms item.codec.now.nodes links item.body.now (record_kind_at item.codec.now.nodes links) refl
+      sym (ap (λ k. value_canon_by c ms k (value_in k item.body.now)) kind ∙ whole_canon c ms item.codec.now.nodes links item.body.now (record_kind_at item.codec.now.nodes links) refl
       ∙ (λ i. field_by ms (entries_there (h i).nodes (f i) (g i) 0) ++ entries_canon_by ms (slots_in (record_kind_at (h i).nodes (f i))) (entries_there (h i).nodes (f i) (g i) 0)))
-
-  leaf_node : (ms : MovesTree) (v : ValueTree) (n : Node) → one ≡ n → ((mask : SlotMask) (links : List ℕ) → one ≡ Of.Compound mask links → ⊥) → canon_by ms (item_kind item) v ≡ canon (item_kind item) v
-  leaf_node ms v (Of.Element w) e d = subst (λ k. canon_by ms k v ≡ canon k v) (sym (is_element item.codec.now.nodes item.link one item.codec.now.table item.item.some item.item.within at w e)) refl
-  leaf_node ms v (Of.Group w links) e d = subst (λ k. canon_by ms k v ≡ canon k v) (sym (is_group item.codec.now.nodes item.link one item.codec.now.table item.item.some item.item.within at w links e)) refl
-  leaf_node ms v (Of.Part w links) e d = absurd (no_part item.by_fx item.codec.now.nodes item.link one item.codec.now.table item.item.some item.item.within at w links e item.item.bounds)
-  leaf_node ms v (Of.Extended last links) e d = subst (λ k. canon_by ms k v ≡ canon k v) (sym (is_extended item.codec.now.nodes item.link one item.codec.now.table item.item.some item.item.within at last links links e refl)) refl
-  leaf_node ms v (Of.Counted size inner) e d = subst (λ k. canon_by ms k v ≡ canon k v) (sym (is_counted item.codec.now.nodes item.link one item.codec.now.table item.item.some item.item.within at size inner e)) refl
-  leaf_node ms v (Of.ByFx inner) e d = subst (λ k. canon_by ms k v ≡ canon k v) (sym (is_by_fx item.codec.now.nodes item.link one item.codec.now.table item.item.some item.item.within at inner e)) refl
-  leaf_node ms v Of.Explicit e d = subst (λ k. canon_by ms k v ≡ canon k v) (sym (is_explicit item.codec.now.nodes item.link one item.codec.now.table item.item.some item.item.within at e)) refl
-  leaf_node ms v (Of.Compound mask links) e d = absurd (d mask links e)
-
-  pub leaf_canon_by : (ms : MovesTree) → ((mask : SlotMask) (links : List ℕ) → one ≡ Of.Compound mask links → ⊥) → canon_by ms (item_kind item) (item_value item) ≡ canon (item_kind item) (item_value item)
-  leaf_canon_by ms d = leaf_node ms (item_value item) one refl d

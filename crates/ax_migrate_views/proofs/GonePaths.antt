@@ -1,15 +1,10 @@
--- Paths that have no new place are all that a record can lose.
+-- Keys that have no new place are all that a record can lose.
 use Rattle.std.proofs.Common.{◌≡◌, ℕ, suc, ◌+◌, ◌<◌, ◌≤◌, ◌&&◌, cond, arith, Bool, true, false, is_none, is_some, List, [], ◌∷◌, ◌++◌, length, drop, get_or, Option, Some, None, refl, sym, ◌∙◌, ap, append_assoc, append-nil}
 use Rattle.std.proofs.lemmas.List.{drop_all}
 use Rattle.ax_relation.specs.declared.relation.RelationPath.{RelationPath}
-use Rattle.ax_edition_laws.proofs.Distinct.{Distinct}
-use Rattle.ax_migrate.proofs.Found.{found_is_lost}
-use Rattle.ax_relation.specs.Paths.{relation_paths}
 use Rattle.ax_migrate.specs.Finding.{is_there, path_loss, record_losses, found_losses}
-use Rattle.ax_migrate.specs.Losing.{losses_from}
 use Rattle.ax_migrate_views.specs.Gone.{gone, gone_of}
 use Rattle.ax_model.proofs.Namings.{from_place}
-use Rattle.ax_model.specs.Specification.{SpecTree, record_kind}
 use Rattle.ax_model.specs.Tree.{EntriesTree}
 use Rattle.ax_model.specs.declared.place.Place.{Place}
 
@@ -22,11 +17,11 @@ none_gone made p e = by p.new e
     by (Some q) f = sym (append-nil made)
     by None f = cc
 
-same_path : (p : RelationPath) (o : Option Place) → p.new ≡ o → is_some o ≡ false → record { text = p.text; old = p.old; new = None } ≡ p
-same_path p None e f = ap (λ o. record { text = p.text; old = p.old; new = o }) (sym e)
+same_path : (p : RelationPath) (o : Option Place) → p.new ≡ o → is_some o ≡ false → record { text = p.text; part = p.part; old = p.old; new = None } ≡ p
+same_path p None e f = ap (λ o. record { text = p.text; part = p.part; old = p.old; new = o }) (sym e)
 same_path p (Some q) e f = cc
 
-pub one_gone : (made new : List RelationPath) (p q : RelationPath) → is_some p.new ≡ false → q ≡ record { text = p.text; old = p.old; new = None } → new ≡ made ++ q ∷ [] → new ≡ made ++ gone_of p
+pub one_gone : (made new : List RelationPath) (p q : RelationPath) → is_some p.new ≡ false → q ≡ record { text = p.text; part = p.part; old = p.old; new = None } → new ≡ made ++ q ∷ [] → new ≡ made ++ gone_of p
 one_gone made new p q e is put = put ∙ ap (λ x. made ++ x ∷ []) (is ∙ same_path p p.new refl e) ∙ by p.new e
   where
     by : (o : Option Place) → is_some o ≡ false → made ++ p ∷ [] ≡ made ++ cond (is_none o) (p ∷ []) []
@@ -47,7 +42,7 @@ pub ruleset lists = (gone_next, gone_last)
 -- ---- losses
 
 none_lost : (n : ℕ) (es : EntriesTree) (p : RelationPath) → is_none p.new ≡ false → path_loss n es p ≡ []
-none_lost n es p e = ap (λ b. cond (b && is_there p.old es) (record { record_at = n; path = p.text } ∷ []) []) e
+none_lost n es p e = ap (λ b. cond (b && is_there p.old p.part es) (record { record_at = n; path = p.text } ∷ []) []) e
 
 pub losses_gone : (n : ℕ) (es : EntriesTree) (paths : List RelationPath) → record_losses n es (gone paths) ≡ record_losses n es paths
 losses_gone n es [] = refl
@@ -67,8 +62,3 @@ found_more paths n [] r = append-nil (record_losses n r paths) ∙ ap (λ k. rec
 found_more paths n (q ∷ rs) r =
     ap (λ x. record_losses n q paths ++ x) (found_more paths (n + 1) rs r ∙ ap (λ k. found_losses paths (n + 1) rs ++ record_losses k r paths) (let e : n + 1 + length rs ≡ n + suc (length rs) = omega arith in e))
     ∙ sym (append_assoc (record_losses n q paths) (found_losses paths (n + 1) rs) (record_losses (n + suc (length rs)) r paths))
-
--- those of the relation are what the two editions say
-pub found_told : (old new : SpecTree) (n : ℕ) (rs : List EntriesTree) → Distinct (record_kind old) → found_losses (relation_paths old new) n rs ≡ losses_from old new n rs
-found_told old new n [] d = refl
-found_told old new n (r ∷ rs) d = let first = found_is_lost old new n r d in λ i. first i ++ found_told old new (n + 1) rs d i

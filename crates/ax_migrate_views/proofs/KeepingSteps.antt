@@ -1,26 +1,27 @@
 -- Slots that stay, one after the other.
 use Rattle.std.proofs.Common.{◌≡◌, ℕ, zero, suc, ◌+◌, ◌-◌, ◌<◌, ◌≤◌, false, List, [], ◌∷◌, length, map, drop, get_or, refl, sym, ◌∙◌, ap, arith, subst}
-use Rattle.std.proofs.lemmas.List.{drop_all, get_or_default}
+use Rattle.std.proofs.lemmas.List.{drop_all, get_or_default, length-map}
 use Rattle.ax_bits.specs.Bits.{bits}
 use Rattle.ax_relation.specs.Moves.{MoveTree, MovesTree}
 use Rattle.ax_relation.specs.PlainMoves.{move_step, move_tree, moves_tree}
 use Rattle.ax_relation.specs.declared.moves.Move.{Move, out-Move, fold_out-Move}
 use Rattle.ax_fspec.specs.declared.mask.SlotMask.{SlotMask}
-use Rattle.ax_migrate_views.proofs.KeptWhole.{whole_stays}
+use Rattle.ax_migrate_views.proofs.KeptWhole.{leaf_canon, whole_stays}
 use Rattle.ax_migrate_views.specs.Keeping.{IsLeaf, KeepsAll, MovesWhole, StaysIn}
-use Rattle.ax_migrate_views.specs.Octets.{canon_by}
+use Rattle.ax_migrate_views.specs.Octets.{value_canon_by}
 use Rattle.ax_model.proofs.CanonSpells.{spells_shape}
 use Rattle.ax_model.proofs.Namings.{from_place}
 use Rattle.ax_model.specs.Canonical.{canon}
 use Rattle.ax_model.specs.InBounds.{InBounds}
 use Rattle.ax_model.specs.Shape.{Shape}
 use Rattle.ax_model.specs.Tree.{KindTree, slots_of}
-use Rattle.ax_tables.specs.Meaning.{Meaning, linked_slot, linked_slots, meanings}
+use Rattle.ax_model.specs.declared.kind.LastPart.{LastPart}
+use Rattle.ax_tables.specs.Meaning.{Meaning, linked_part, linked_slot, linked_slots, meanings}
 use Rattle.ax_tables.specs.Table.{IsTable, kind_at, record_kind_at}
 use Rattle.ax_tables.specs.declared.node.Node.{Node}
 use Rattle.ax_tables.specs.declared.node.Node.TheVariants as Of
 use Rattle.ax_view.proofs.ItemSteps.{is_marked}
-use Rattle.ax_view.proofs.NodeKinds.{is_element, is_group, is_extended, is_counted, is_by_fx, is_explicit, is_compound}
+use Rattle.ax_view.proofs.NodeKinds.{is_element, is_group, no_part, is_extended, is_counted, is_by_fx, is_explicit, is_compound}
 use Rattle.ax_view.proofs.Spelled.{value_spelled}
 use Rattle.ax_view.specs.Shown.{item_kind, item_value}
 use Rattle.ax_view.specs.Values.{ItemInBounds, IsItemOf, IsOne, value_in, entries_in}
@@ -28,18 +29,25 @@ use Rattle.ax_view.specs.declared.item.ItemView.{ItemView}
 
 -- ---- leaves
 
-pub leaf_kind : (ns : List Node) (link : ℕ) (one : Node) → IsTable ns → 0 < link → link ≤ length ns → one ≡ get_or ns (link - 1) one → (n : Node) → one ≡ n
-    → ((w : ℕ) (links : List ℕ) → one ≡ Of.Part w links → ⊥) → ((mask : SlotMask) (links : List ℕ) → one ≡ Of.Compound mask links → ⊥) → IsLeaf (kind_at ns link)
-leaf_kind ns link one table some within at (Of.Element w) e p d = subst IsLeaf (sym (is_element ns link one table some within at w e)) tt
-leaf_kind ns link one table some within at (Of.Group w links) e p d = subst IsLeaf (sym (is_group ns link one table some within at w links e)) tt
-leaf_kind ns link one table some within at (Of.Part w links) e p d = absurd (p w links e)
-leaf_kind ns link one table some within at (Of.Extended last links) e p d = subst IsLeaf (sym (is_extended ns link one table some within at last links links e refl)) tt
-leaf_kind ns link one table some within at (Of.Counted size inner) e p d = subst IsLeaf (sym (is_counted ns link one table some within at size inner e)) tt
-leaf_kind ns link one table some within at (Of.ByFx inner) e p d = subst IsLeaf (sym (is_by_fx ns link one table some within at inner e)) tt
-leaf_kind ns link one table some within at Of.Explicit e p d = subst IsLeaf (sym (is_explicit ns link one table some within at e)) tt
-leaf_kind ns link one table some within at (Of.Compound mask links) e p d = absurd (d mask links e)
+pub leaf_kind : (c : ℕ) (ns : List Node) (link : ℕ) (one : Node) → IsTable ns → 0 < link → link ≤ length ns → one ≡ get_or ns (link - 1) one → (n : Node) → one ≡ n
+    → ((w : ℕ) (links : List ℕ) → one ≡ Of.Part w links → ⊥) → ((mask : SlotMask) (links : List ℕ) → one ≡ Of.Compound mask links → ⊥) → ((last : LastPart) (links : List ℕ) → one ≡ Of.Extended last links → ⊥) → IsLeaf c (kind_at ns link)
+leaf_kind c ns link one table some within at (Of.Element w) e p d x = subst (IsLeaf c) (sym (is_element ns link one table some within at w e)) tt
+leaf_kind c ns link one table some within at (Of.Group w links) e p d x = subst (IsLeaf c) (sym (is_group ns link one table some within at w links e)) tt
+leaf_kind c ns link one table some within at (Of.Part w links) e p d x = absurd (p w links e)
+leaf_kind c ns link one table some within at (Of.Extended last links) e p d x = absurd (x last links e)
+leaf_kind c ns link one table some within at (Of.Counted size inner) e p d x = subst (IsLeaf c) (sym (is_counted ns link one table some within at size inner e)) tt
+leaf_kind c ns link one table some within at (Of.ByFx inner) e p d x = subst (IsLeaf c) (sym (is_by_fx ns link one table some within at inner e)) tt
+leaf_kind c ns link one table some within at Of.Explicit e p d x = subst (IsLeaf c) (sym (is_explicit ns link one table some within at e)) tt
+leaf_kind c ns link one table some within at (Of.Compound mask links) e p d x = absurd (d mask links e)
 
-pub move_stays : (slot : ℕ) (k : KindTree) (m : Move) → (out-Move m).old ≡ slot → (out-Move m).new ≡ slot → IsLeaf k → StaysIn slot k (move_tree m)
+pub extended_leaf : (c : ℕ) (ns : List Node) (link : ℕ) (one : Node) → IsTable ns → 0 < link → link ≤ length ns → one ≡ get_or ns (link - 1) one → (last : LastPart) (links : List ℕ) → one ≡ Of.Extended last links → length links ≤ c → IsLeaf c (kind_at ns link)
+extended_leaf c ns link one table some within at last links e few = subst (IsLeaf c) (sym (is_extended ns link one table some within at last links links e refl)) (omega (arith, few, length-map links (linked_part (meanings ns))))
+
+-- each value of such a kind stays
+pub leaf_stays : (c : ℕ) (ns : List Node) (link : ℕ) (ms : MovesTree) → IsLeaf c (kind_at ns link) → MovesWhole ns link c ms
+leaf_stays c ns link ms h octets bounds one = let k = kind_at ns link in leaf_canon c ms k (value_in k octets) h (spells_shape k (value_in k octets) (bits octets) (value_spelled k octets bounds one))
+
+pub move_stays : (slot : ℕ) (k : KindTree) (m : Move) → (out-Move m).old ≡ slot → (out-Move m).new ≡ slot → IsLeaf (out-Move m).parts k → StaysIn slot k (move_tree m)
 move_stays slot k m e f h = subst (StaysIn slot k) (sym (fold_out-Move MoveTree move_step m)) (e, f, h)
 
 -- ---- slots
@@ -81,9 +89,9 @@ keeps_last nodes links moves index next past end h =
 -- ---- a compound
 
 pub kind_stays : (ns : List Node) (link : ℕ) (one : Node) → IsTable ns → 0 < link → link ≤ length ns → one ≡ get_or ns (link - 1) one → (ms : MovesTree) (mask : SlotMask) (links found : List ℕ) → one ≡ Of.Compound mask links → found ≡ links
-    → KeepsAll 1 (slots_of (linked_slots (meanings ns) found)) ms → MovesWhole ns link ms
+    → KeepsAll 1 (slots_of (linked_slots (meanings ns) found)) ms → (c : ℕ) → MovesWhole ns link c ms
 unfolding record_kind_at
-kind_stays ns link one table some within at ms mask links found e f keeps octets bounded whole =
+kind_stays ns link one table some within at ms mask links found e f keeps c octets bounded whole =
     let k = record_kind_at ns found in
     let kind : kind_at ns link ≡ record_kind_at ns found = is_compound ns link one table some within at mask links found e f in
     let bounds = subst InBounds kind bounded in
@@ -92,13 +100,13 @@ kind_stays ns link one table some within at ms mask links found e f keeps octets
     let is = is_marked ns found octets in
     let shape = subst (Shape k) is (spells_shape k (value_in k octets) (bits octets) (value_spelled k octets bounds own)) in
     let stays = whole_stays (slots_of (linked_slots (meanings ns) found)) ms es keeps shape bounds.0 bounds.1 in
-    subst (λ x. canon_by ms x (value_in x octets) ≡ canon x (value_in x octets)) (sym kind) (ap (canon_by ms k) is ∙ stays ∙ sym (ap (canon k) is))
+    subst (λ x. value_canon_by c ms x (value_in x octets) ≡ canon x (value_in x octets)) (sym kind) (ap (value_canon_by c ms k) is ∙ stays ∙ sym (ap (canon k) is))
 
 module _ (item : ItemView) (one : Node) (at : one ≡ get_or item.codec.now.nodes (item.link - 1) one) where
   pub compound_stays : (ms : MovesTree) (mask : SlotMask) (links found : List ℕ) → one ≡ Of.Compound mask links → found ≡ links → item.by_fx ≡ false → KeepsAll 1 (slots_of (linked_slots (meanings item.codec.now.nodes) found)) ms
-      → canon_by ms (item_kind item) (item_value item) ≡ canon (item_kind item) (item_value item)
+      → (c : ℕ) → value_canon_by c ms (item_kind item) (item_value item) ≡ canon (item_kind item) (item_value item)
   unfolding record_kind_at
-  compound_stays ms mask links found e f whole keeps =
+  compound_stays ms mask links found e f whole keeps c =
       let ns = item.codec.now.nodes in
       let body = item.body.now in
       let k = record_kind_at ns found in
@@ -109,4 +117,13 @@ module _ (item : ItemView) (one : Node) (at : one ≡ get_or item.codec.now.node
       let is = is_marked ns found body in
       let shape = subst (Shape k) is (spells_shape k (value_in k body) (bits body) (value_spelled k body bounds own)) in
       let stays = whole_stays (slots_of (linked_slots (meanings ns) found)) ms es keeps shape bounds.0 bounds.1 in
-      subst (λ x. canon_by ms x (value_in x body) ≡ canon x (value_in x body)) (sym kind) (ap (canon_by ms k) is ∙ stays ∙ sym (ap (canon k) is))
+      subst (λ x. value_canon_by c ms x (value_in x body) ≡ canon x (value_in x body)) (sym kind) (ap (value_canon_by c ms k) is ∙ stays ∙ sym (ap (canon k) is))
+
+  -- a value that is neither a compound nor extended
+  pub leaf_canon_by : (c : ℕ) (ms : MovesTree) → item.by_fx ≡ false → ((mask : SlotMask) (links : List ℕ) → one ≡ Of.Compound mask links → ⊥) → ((last : LastPart) (links : List ℕ) → one ≡ Of.Extended last links → ⊥)
+      → value_canon_by c ms (item_kind item) (item_value item) ≡ canon (item_kind item) (item_value item)
+  leaf_canon_by c ms whole d x =
+      let ns = item.codec.now.nodes in
+      let table = item.codec.now.table in
+      let leaf = leaf_kind c ns item.link one table item.item.some item.item.within at one refl (λ w links e. no_part item.by_fx ns item.link one table item.item.some item.item.within at w links e item.item.bounds) d x in
+      leaf_stays c ns item.link ms leaf item.body.now (subst (λ fx. ItemInBounds fx (item_kind item)) whole item.item.bounds) (subst (λ fx. IsItemOf fx (item_kind item) item.body.now) whole item.item.one)

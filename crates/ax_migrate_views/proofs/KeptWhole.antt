@@ -1,33 +1,39 @@
 -- A compound of which each subitem keeps its slot has its own canonical octets.
 use Rattle.std.proofs.Common.{◌≡◌, ℕ, suc, ◌+◌, ◌-◌, ◌≤◌, IsTrue, List, ◌++◌, length, take, drop, Option, Some, None, refl, sym, ◌∙◌, ap, arith, subst, append-nil}
 use Rattle.ax_relation.specs.Moves.{move_from, MovesTree, no_moves, move_and}
+use Rattle.ax_edition_laws.proofs.CutParts.{parts_whole}
 use Rattle.ax_edition_laws.proofs.NamedOnce.{front_of, front_value, front_later}
 use Rattle.ax_edition_laws.specs.Moved.{entry_where}
 use Rattle.ax_fspec.proofs.FieldLaws.{least_field_of, none_further, none_after_none}
 use Rattle.ax_fspec.specs.Fields.{least_field}
 use Rattle.ax_fspec.specs.Marks.{no_marks}
+use Rattle.ax_migrate_views.proofs.FrontParts.{fixed_whole, list_few}
 use Rattle.ax_migrate_views.proofs.MovedCanon.{canon_where, front_canon}
 use Rattle.ax_migrate_views.proofs.MovedMarks.{Marked, skips, marks, with_size, with_following, unmarked, slot_marked, size_none}
 use Rattle.ax_migrate_views.specs.Keeping.{IsLeaf, KeepsAll}
-use Rattle.ax_migrate_views.specs.Octets.{with_slot, with_slot_where, marks_by, spelled_where, canon_by, entries_canon_by}
+use Rattle.ax_migrate_views.specs.Octets.{with_slot, with_slot_where, marks_by, spelled_where, canon_by, value_canon_by, entries_canon_by}
 use Rattle.ax_model.specs.At.{slot_value}
-use Rattle.ax_model.specs.Canonical.{canon, marks_of, entries_canon}
+use Rattle.ax_model.specs.Canonical.{parts_canon, canon, marks_of, entries_canon}
 use Rattle.ax_model.specs.Lengths.{kind_after}
 use Rattle.ax_model.specs.Presence.{octets_needed, none_marked, least_presence}
-use Rattle.ax_model.specs.Shape.{EntriesShape}
-use Rattle.ax_model.specs.Tree.{KindTree, fixed, extended, counted, by_fx, explicit, compound, SlotsTree, no_slots, slot_and, spare_slot, subitem, slot_count, ValueTree, marked, EntriesTree}
+use Rattle.ax_model.specs.Shape.{Shape, EntriesShape}
+use Rattle.ax_model.specs.Tree.{KindTree, fixed, extended, counted, by_fx, explicit, compound, SlotsTree, no_slots, slot_and, spare_slot, subitem, slot_count, ValueTree, part_values, occurrences, content_octets, marked, EntriesTree}
 
-leaf_canon : (below : MovesTree) (k : KindTree) (v : ValueTree) → IsLeaf k → canon_by below k v ≡ canon k v
-leaf_canon below (fixed f) v h = refl
-leaf_canon below (extended last ps) v h = refl
-leaf_canon below (counted size k) v h = refl
-leaf_canon below (by_fx f) v h = refl
-leaf_canon below explicit v h = refl
-leaf_canon below (compound ss) v h = absurd h
+pub leaf_canon : (c : ℕ) (below : MovesTree) (k : KindTree) (v : ValueTree) → IsLeaf c k → Shape k v → value_canon_by c below k v ≡ canon k v
+leaf_canon c below (fixed f) v h s = fixed_whole c below f v s
+leaf_canon c below (extended last ps) (part_values ls) h s = ap (parts_canon last ps) (parts_whole c ls (omega (arith, list_few ps ls s, h)))
+leaf_canon c below (extended last ps) _ h s = absurd s
+leaf_canon c below (counted size k) (occurrences vs) h s = refl
+leaf_canon c below (counted size k) _ h s = absurd s
+leaf_canon c below (by_fx f) (occurrences vs) h s = refl
+leaf_canon c below (by_fx f) _ h s = absurd s
+leaf_canon c below explicit (content_octets xs) h s = refl
+leaf_canon c below explicit _ h s = absurd s
+leaf_canon c below (compound ss) v h s = absurd h
 
-one_canon : (below : MovesTree) (k : KindTree) (o : Option ValueTree) → IsLeaf k → spelled_where (Some k) o (canon_by below) ≡ canon_where k o
-one_canon below k None h = refl
-one_canon below k (Some v) h = leaf_canon below k v h
+one_canon : (c : ℕ) (below : MovesTree) (k : KindTree) (o : Option ValueTree) → IsLeaf c k → ((v : ValueTree) → o ≡ Some v → Shape k v) → spelled_where (Some k) o (value_canon_by c below) ≡ canon_where k o
+one_canon c below k None h s = refl
+one_canon c below k (Some v) h s = leaf_canon c below k v h (s v refl)
 
 -- the entries from slot t on
 pub entries_stay : (t : ℕ) (ss all : SlotsTree) (ms : MovesTree) (whole es : EntriesTree) → KeepsAll t ss ms → EntriesShape t ss es → ((u : ℕ) → t ≤ u → slot_value u whole ≡ slot_value u es) → 1 ≤ t
@@ -37,13 +43,13 @@ entries_stay t no_slots all (move_and m ms) whole es h shape values some kinds =
 entries_stay t (slot_and spare_slot ss) all ms whole es h shape values some kinds =
     entries_stay (t + 1) ss all ms whole es h shape (λ u le. values u (omega arith)) (omega arith) (λ i. ap (λ k. kind_after k all) (let e : t + 1 - 1 + i ≡ t - 1 + suc i = omega arith in e) ∙ kinds (suc i))
 entries_stay t (slot_and (subitem name k) ss) all no_moves whole es h shape values some kinds = absurd h
-entries_stay t (slot_and (subitem name k) ss) all (move_and (move_from s u below) ms) whole es h shape values some kinds =
+entries_stay t (slot_and (subitem name k) ss) all (move_and (move_from s u c below) ms) whole es h shape values some kinds =
     let f = front_of t name k ss es shape in
     let kind : kind_after (s - 1) all ≡ Some k = ap (λ x. kind_after x all) (let e : s - 1 ≡ t - 1 + 0 = (let g = h.0.0 in omega arith) in e) ∙ kinds 0 in
     let value : slot_value s whole ≡ f.here = ap (λ x. slot_value x whole) h.0.0 ∙ values t (omega arith) ∙ front_value t k ss es f in
     let later = entries_stay (t + 1) ss all ms whole f.rest h.1 f.later (λ u le. values u (omega arith) ∙ front_later t k ss es f u (omega arith)) (omega arith)
     (λ i. ap (λ x. kind_after x all) (let e : t + 1 - 1 + i ≡ t - 1 + suc i = omega arith in e) ∙ kinds (suc i)) in
-    (λ i. spelled_where (kind i) (value i) (canon_by below) ++ later i) ∙ ap (λ x. x ++ entries_canon (t + 1) ss f.rest) (one_canon below k f.here h.0.2)
+    (λ i. spelled_where (kind i) (value i) (value_canon_by c below) ++ later i) ∙ ap (λ x. x ++ entries_canon (t + 1) ss f.rest) (one_canon c below k f.here h.0.2 f.shape)
     ∙ sym (front_canon t name k ss f.here f.rest f.later) ∙ ap (entries_canon t (slot_and (subitem name k) ss)) (sym f.is)
 
 pub marks_stay : (t : ℕ) (ss : SlotsTree) (ms : MovesTree) (whole es : EntriesTree) (before : List ℕ) → KeepsAll t ss ms → EntriesShape t ss es → ((u : ℕ) → t ≤ u → slot_value u whole ≡ slot_value u es) → 1 ≤ t → t - 1 + slot_count ss ≤ 126
@@ -58,7 +64,7 @@ marks_stay t (slot_and spare_slot ss) ms whole es before h shape values some few
     skips t (slot_count ss) before (marks_of (t + 1) ss es) (marks_by ms whole before) some (omega arith) size none
     (marks_stay (t + 1) ss ms whole es before h shape (λ u le. values u (omega arith)) (omega arith) (omega arith) size (none_further (t - 1) (t + 1 - 1) before (omega arith) none))
 marks_stay t (slot_and (subitem name k) ss) no_moves whole es before h shape values some few size none = absurd h
-marks_stay t (slot_and (subitem name k) ss) (move_and (move_from s u below) ms) whole es before h shape values some few size none =
+marks_stay t (slot_and (subitem name k) ss) (move_and (move_from s u c below) ms) whole es before h shape values some few size none =
     let f = front_of t name k ss es shape in
     let value : slot_value s whole ≡ f.here = ap (λ x. slot_value x whole) h.0.0 ∙ values t (omega arith) ∙ front_value t k ss es f in
     let P : EntriesTree → Type 0 = λ x. Marked t (suc (slot_count ss)) before (marks_of t (slot_and (subitem name k) ss) x) (marks_by ms whole (with_slot_where (slot_value s whole) u before)) in

@@ -17,3 +17,9 @@ pub mod MovesBySlot
 pub mod LaidRuns
 pub mod KeptSlots
 pub mod ViewBlocks
+pub mod FrontParts
+pub mod ItemParts
+pub mod RangeLengths
+pub mod RangeRecords
+pub mod Fits
+pub mod ViewRanges

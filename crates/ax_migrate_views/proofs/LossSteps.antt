@@ -67,7 +67,7 @@ pub no_path_left : (block n : ℕ) (es : EntriesTree) (paths : List RelationPath
 no_path_left block n es paths i past = ap (λ ps. lost_lines block (record_losses n es ps)) (drop_all i paths past)
 
 -- the lines of a lost path
-pub lost_path : (block n : ℕ) (es : EntriesTree) (p : RelationPath) → is_none p.new ≡ true → is_there p.old es ≡ true → lost_lines block (path_loss n es p) ≡ lost_line block n p.text
+pub lost_path : (block n : ℕ) (es : EntriesTree) (p : RelationPath) → is_none p.new ≡ true → is_there p.old p.part es ≡ true → lost_lines block (path_loss n es p) ≡ lost_line block n p.text
 lost_path block n es p e f = (λ i. lost_lines block (cond (e i && f i) (record { record_at = n; path = p.text } ∷ []) [])) ∙ append-nil (lost_line block n p.text)
 
 -- ---- no record is left

@@ -63,15 +63,15 @@ headed category n m b (x ∷ y ∷ z ∷ rest) e long h =
 
 -- ---- the records
 
-moved_shapes : (old new : SpecTree) (rs : List EntriesTree) → AllByRecursion (RecordShape old) rs → AllByRecursion (RecordShape new) (map (moved_record old new) rs)
+pub moved_shapes : (old new : SpecTree) (rs : List EntriesTree) → AllByRecursion (RecordShape old) rs → AllByRecursion (RecordShape new) (map (moved_record old new) rs)
 moved_shapes old new [] h = tt
 moved_shapes old new (r ∷ rs) h = ((moved_migrated old new r h.0).shape, moved_shapes old new rs h.1)
 
-body_canon : (old new : SpecTree) (rs : List EntriesTree) → NoFlaw new → AllByRecursion (RecordShape old) rs → body_by (moves_from (record_moves old new)) old rs ≡ CanonBody new (map (moved_record old new) rs)
-body_canon old new [] clean h = refl
-body_canon old new (r ∷ rs) clean h = λ i. record_canon_moved old new r clean h.0 i ++ body_canon old new rs clean h.1 i
+body_canon : (old new : SpecTree) (rs : List EntriesTree) → NoFlaw old → NoFlaw new → AllByRecursion (RecordShape old) rs → body_by (moves_from (record_moves old new)) old rs ≡ CanonBody new (map (moved_record old new) rs)
+body_canon old new [] old_clean clean h = refl
+body_canon old new (r ∷ rs) old_clean clean h = λ i. record_canon_moved old new r old_clean clean h.0 i ++ body_canon old new rs old_clean clean h.1 i
 
-length-moved : (old new : SpecTree) (rs : List EntriesTree) → length (map (moved_record old new) rs) ≡ length rs
+pub length-moved : (old new : SpecTree) (rs : List EntriesTree) → length (map (moved_record old new) rs) ≡ length rs
 length-moved old new [] = refl
 length-moved old new (r ∷ rs) = ap suc (length-moved old new rs)
 
@@ -132,7 +132,7 @@ migrated_laid m body n before now final of few l long long_now is items cat = re
       let stands = of.compiled.stands in
       let shapes = body_shape (old_tree m) records (bits body) spells.spelled in
       let bits_are : body_by (moves_tree m.relation.now.moves) (old_tree m) records ≡ CanonBody (new_tree m) (map (moved_record (old_tree m) (new_tree m)) records) =
-      ap (λ ms. body_by (moves_from ms) (old_tree m) records) of.related.moves ∙ body_canon (old_tree m) (new_tree m) records of.related.new_no_flaw shapes in
+      ap (λ ms. body_by (moves_from ms) (old_tree m) records) of.related.moves ∙ body_canon (old_tree m) (new_tree m) records of.compiled.clean of.related.new_no_flaw shapes in
       let laid = subst (λ b. Lays b 3 n before now) bits_are (l.laid (old_tree m) records of.compiled.clean stands spells) in
       block_laid (old_tree m) (new_tree m) records body of.compiled.clean of.related.new_no_flaw of.related.category few spells n before now final laid (omega arith) (omega arith)
       (is ∙ ap (λ c. with_head c n now) stands.category) (AreOctets-items final items) (omega (arith, stands.category)));

@@ -7,7 +7,7 @@ use Rattle.ax_relation.specs.declared.moves.Move.{Move, out-Move}
 use Rattle.ax_fspec.specs.Marks.{IsMarked, slots_from}
 use Rattle.ax_migrate_views.proofs.Entries.{nothing_there, move_is}
 use Rattle.ax_migrate_views.specs.BySlot.{found_move, place_from, ascends, ArePlaces, IsFrom, found_canon, found_marks, slots_canon, slots_marks}
-use Rattle.ax_migrate_views.specs.Octets.{with_slot_where, marks_by, spelled_where, canon_by, entries_canon_by, move_canon}
+use Rattle.ax_migrate_views.specs.Octets.{with_slot_where, marks_by, spelled_where, value_canon_by, entries_canon_by, move_canon}
 use Rattle.ax_model.specs.At.{slot_value}
 use Rattle.ax_model.specs.Lengths.{kind_after}
 use Rattle.ax_model.specs.Tree.{KindTree, SlotsTree, ValueTree, EntriesTree}
@@ -17,7 +17,7 @@ use Rattle.ax_model.specs.Tree.{KindTree, SlotsTree, ValueTree, EntriesTree}
 -- a place that isn't 0 is not before the first
 not_before : (n s : ℕ) (ms : List MoveTree) → 1 ≤ n → (0 < place_from n s (moves_from ms)) × (place_from n s (moves_from ms) < n) → ⊥
 not_before n s [] some h = omega (arith, h.0)
-not_before n s (move_from u t below ∷ ms) some h = by (u == s) (λ g. not_before (n + 1) s ms (omega arith) g) h
+not_before n s (move_from u t c below ∷ ms) some h = by (u == s) (λ g. not_before (n + 1) s ms (omega arith) g) h
   where
     by : (b : Bool) → ((0 < place_from (n + 1) s (moves_from ms)) × (place_from (n + 1) s (moves_from ms) < n + 1) → ⊥) → (0 < (if b then n else place_from (n + 1) s (moves_from ms))) × ((if b then n else place_from (n + 1) s (moves_from ms)) < n) → ⊥
     by true rest g = omega (arith, g.1)
@@ -26,10 +26,10 @@ not_before n s (move_from u t below ∷ ms) some h = by (u == s) (λ g. not_befo
 -- it is that of the move that is found
 pub place_found : (n s : ℕ) (ms : List MoveTree) (k : ℕ) → 1 ≤ n → place_from n s (moves_from ms) ≡ n + k → (k < length ms) × ((m : MoveTree) → m ≡ get_or ms k m → found_move s (moves_from ms) ≡ Some m)
 place_found n s [] k some e = absurd (omega arith)
-place_found n s (move_from u t below ∷ ms) k some e = by (u == s) (λ j f. place_found (n + 1) s ms j (omega arith) f) e
+place_found n s (move_from u t c below ∷ ms) k some e = by (u == s) (λ j f. place_found (n + 1) s ms j (omega arith) f) e
   where
     here : MoveTree
-    here = move_from u t below
+    here = move_from u t c below
 
     Later : Type 0
     Later = (j : ℕ) → place_from (n + 1) s (moves_from ms) ≡ n + 1 + j → (j < length ms) × ((m : MoveTree) → m ≡ get_or ms j m → found_move s (moves_from ms) ≡ Some m)
@@ -46,9 +46,9 @@ place_found n s (move_from u t below ∷ ms) k some e = by (u == s) (λ j f. pla
 
 pub place_none : (n s : ℕ) (ms : List MoveTree) → 1 ≤ n → place_from n s (moves_from ms) ≡ 0 → found_move s (moves_from ms) ≡ None
 place_none n s [] some e = refl
-place_none n s (move_from u t below ∷ ms) some e = by (u == s) (λ f. place_none (n + 1) s ms (omega arith) f) e
+place_none n s (move_from u t c below ∷ ms) some e = by (u == s) (λ f. place_none (n + 1) s ms (omega arith) f) e
   where
-    by : (b : Bool) → (place_from (n + 1) s (moves_from ms) ≡ 0 → found_move s (moves_from ms) ≡ None) → (if b then n else place_from (n + 1) s (moves_from ms)) ≡ 0 → (if b then Some (move_from u t below) else found_move s (moves_from ms)) ≡ None
+    by : (b : Bool) → (place_from (n + 1) s (moves_from ms) ≡ 0 → found_move s (moves_from ms) ≡ None) → (if b then n else place_from (n + 1) s (moves_from ms)) ≡ 0 → (if b then Some (move_from u t c below) else found_move s (moves_from ms)) ≡ None
     by true rest f = absurd (omega (arith, f))
     by false rest f = rest f
 
@@ -82,9 +82,9 @@ first_ascends a s x false e h = (ltb-false s a e, h)
 
 not_found : (a b : ℕ) (ms : MovesTree) → IsTrue (ascends b ms) → a < b → found_move a ms ≡ None
 not_found a b no_moves h lt = refl
-not_found a b (move_and (move_from s t below) ms) h lt =
+not_found a b (move_and (move_from s t c below) ms) h lt =
     let f = first_ascends b s (ascends (s + 1) ms) (nat_lt s b) refl h in
-    ap (λ x. if x then Some (move_from s t below) else found_move a ms) (ne_eqb s a (λ e. absurd (omega (arith, f.0, e)))) ∙ not_found a (s + 1) ms f.1 (omega (arith, f.0))
+    ap (λ x. if x then Some (move_from s t c below) else found_move a ms) (ne_eqb s a (λ e. absurd (omega (arith, f.0, e)))) ∙ not_found a (s + 1) ms f.1 (omega (arith, f.0))
 
 -- of the moves from slot a on: the move from slot a, and those after it
 record Step (a : ℕ) (ms : MovesTree) (ss : SlotsTree) (es : EntriesTree) : Type 0 where
@@ -97,31 +97,31 @@ record Step (a : ℕ) (ms : MovesTree) (ss : SlotsTree) (es : EntriesTree) : Typ
 -- where there is no entry, nothing is made of it
 pub none_canon : (a : ℕ) (ms : MovesTree) (ss : SlotsTree) (es : EntriesTree) → slot_value a es ≡ None → found_canon (found_move a ms) ss es ≡ []
 none_canon a no_moves ss es e = refl
-none_canon a (move_and (move_from s t below) ms) ss es e = by (s == a) (λ h. eqb-true s a h) (none_canon a ms ss es e)
+none_canon a (move_and (move_from s t c below) ms) ss es e = by (s == a) (λ h. eqb-true s a h) (none_canon a ms ss es e)
   where
-    by : (b : Bool) → (b ≡ true → s ≡ a) → found_canon (found_move a ms) ss es ≡ [] → found_canon (if b then Some (move_from s t below) else found_move a ms) ss es ≡ []
-    by true h rest = ap (λ o. spelled_where (kind_after (s - 1) ss) o (canon_by below)) (ap (λ u. slot_value u es) (h refl) ∙ e) ∙ nothing_there (kind_after (s - 1) ss) (canon_by below)
+    by : (b : Bool) → (b ≡ true → s ≡ a) → found_canon (found_move a ms) ss es ≡ [] → found_canon (if b then Some (move_from s t c below) else found_move a ms) ss es ≡ []
+    by true h rest = ap (λ o. spelled_where (kind_after (s - 1) ss) o (value_canon_by c below)) (ap (λ u. slot_value u es) (h refl) ∙ e) ∙ nothing_there (kind_after (s - 1) ss) (value_canon_by c below)
     by false h rest = rest
 
 pub none_marks : (a : ℕ) (ms : MovesTree) (es : EntriesTree) (set : List ℕ) → slot_value a es ≡ None → found_marks (found_move a ms) es set ≡ set
 none_marks a no_moves es set e = refl
-none_marks a (move_and (move_from s t below) ms) es set e = by (s == a) (λ h. eqb-true s a h) (none_marks a ms es set e)
+none_marks a (move_and (move_from s t c below) ms) es set e = by (s == a) (λ h. eqb-true s a h) (none_marks a ms es set e)
   where
-    by : (b : Bool) → (b ≡ true → s ≡ a) → found_marks (found_move a ms) es set ≡ set → found_marks (if b then Some (move_from s t below) else found_move a ms) es set ≡ set
+    by : (b : Bool) → (b ≡ true → s ≡ a) → found_marks (found_move a ms) es set ≡ set → found_marks (if b then Some (move_from s t c below) else found_move a ms) es set ≡ set
     by true h rest = ap (λ o. with_slot_where o t set) (ap (λ u. slot_value u es) (h refl) ∙ e)
     by false h rest = rest
 
 step : (a : ℕ) (ms : MovesTree) (ss : SlotsTree) (es : EntriesTree) → IsTrue (ascends a ms) → Step a ms ss es
 step a no_moves ss es h = record { later = no_moves; ascending = refl; found = λ u lt. refl; canon = refl; marks = λ set. refl }
-step a (move_and (move_from s t below) ms) ss es h = by (cases_eq s a)
+step a (move_and (move_from s t c below) ms) ss es h = by (cases_eq s a)
   where
     one : MoveTree
-    one = move_from s t below
+    one = move_from s t c below
 
     f : (a ≤ s) × IsTrue (ascends (s + 1) ms)
     f = first_ascends a s (ascends (s + 1) ms) (nat_lt s a) refl h
 
-    by : (s ≡ a) ⊎ (s ≡ a → ⊥) → Step a (move_and (move_from s t below) ms) ss es
+    by : (s ≡ a) ⊎ (s ≡ a → ⊥) → Step a (move_and (move_from s t c below) ms) ss es
     by (inl e) =
         let is : found_move a (move_and one ms) ≡ Some one = ap (λ b. if b then Some one else found_move a ms) (eq-eqb s a e) in record {
           later = ms;
@@ -150,14 +150,14 @@ step a (move_and (move_from s t below) ms) ss es h = by (cases_eq s a)
 -- past the last slot nothing moves
 past_canon : (a : ℕ) (ms : MovesTree) (ss : SlotsTree) (es : EntriesTree) → IsTrue (ascends a ms) → ((u : ℕ) → a ≤ u → slot_value u es ≡ None) → entries_canon_by ms ss es ≡ []
 past_canon a no_moves ss es h none = refl
-past_canon a (move_and (move_from s t below) ms) ss es h none =
+past_canon a (move_and (move_from s t c below) ms) ss es h none =
     let f = first_ascends a s (ascends (s + 1) ms) (nat_lt s a) refl h in
-    ap (λ o. spelled_where (kind_after (s - 1) ss) o (canon_by below) ++ entries_canon_by ms ss es) (none s f.0) ∙ ap (λ x. x ++ entries_canon_by ms ss es) (nothing_there (kind_after (s - 1) ss) (canon_by below))
+    ap (λ o. spelled_where (kind_after (s - 1) ss) o (value_canon_by c below) ++ entries_canon_by ms ss es) (none s f.0) ∙ ap (λ x. x ++ entries_canon_by ms ss es) (nothing_there (kind_after (s - 1) ss) (value_canon_by c below))
     ∙ past_canon (s + 1) ms ss es f.1 (λ u le. none u (omega (arith, f.0)))
 
 past_marks : (a : ℕ) (ms : MovesTree) (es : EntriesTree) (set : List ℕ) → IsTrue (ascends a ms) → ((u : ℕ) → a ≤ u → slot_value u es ≡ None) → marks_by ms es set ≡ set
 past_marks a no_moves es set h none = refl
-past_marks a (move_and (move_from s t below) ms) es set h none =
+past_marks a (move_and (move_from s t c below) ms) es set h none =
     let f = first_ascends a s (ascends (s + 1) ms) (nat_lt s a) refl h in
     ap (λ o. marks_by ms es (with_slot_where o t set)) (none s f.0) ∙ past_marks (s + 1) ms es set f.1 (λ u le. none u (omega (arith, f.0)))
 
@@ -206,19 +206,19 @@ absent_slots marks es others i e = others (1 + i) (λ m. absurd (let k : 1 + i -
 -- the move that is found is from its slot
 pub found_from : (s : ℕ) (ms : MovesTree) (m : MoveTree) → found_move s ms ≡ Some m → IsFrom s m
 found_from s no_moves m e = absurd (let no : None ≡ Some m = e in cc)
-found_from s (move_and (move_from u t below) ms) m e = by (u == s) (λ h. eqb-true u s h) (found_from s ms m) e
+found_from s (move_and (move_from u t c below) ms) m e = by (u == s) (λ h. eqb-true u s h) (found_from s ms m) e
   where
-    by : (b : Bool) → (b ≡ true → u ≡ s) → (found_move s ms ≡ Some m → IsFrom s m) → (if b then Some (move_from u t below) else found_move s ms) ≡ Some m → IsFrom s m
-    by true h rest f = subst (IsFrom s) (let same : move_from u t below ≡ m = cc in same) (h refl)
+    by : (b : Bool) → (b ≡ true → u ≡ s) → (found_move s ms ≡ Some m → IsFrom s m) → (if b then Some (move_from u t c below) else found_move s ms) ≡ Some m → IsFrom s m
+    by true h rest f = subst (IsFrom s) (let same : move_from u t c below ≡ m = cc in same) (h refl)
     by false h rest f = rest f
 
 -- what is copied is what a move makes of the value
-pub copied_by : (s : ℕ) (one : Move) (ss : SlotsTree) (es : EntriesTree) (k : KindTree) (v : ValueTree) (b : List ℕ) → IsFrom s (move_tree one) → kind_after (s - 1) ss ≡ Some k → slot_value s es ≡ Some v → canon_by (moves_tree (out-Move one).below) k v ≡ b
+pub copied_by : (s : ℕ) (one : Move) (ss : SlotsTree) (es : EntriesTree) (k : KindTree) (v : ValueTree) (b : List ℕ) → IsFrom s (move_tree one) → kind_after (s - 1) ss ≡ Some k → slot_value s es ≡ Some v → value_canon_by (out-Move one).parts (moves_tree (out-Move one).below) k v ≡ b
     → move_canon (move_tree one) ss es ≡ b
 copied_by s one ss es k v b own kind value is =
     let m = out-Move one in
     let old : m.old ≡ s = subst (IsFrom s) (move_is one) own in
-    ap (λ t. move_canon t ss es) (move_is one) ∙ (λ i. spelled_where (kind_after (old i - 1) ss) (slot_value (old i) es) (canon_by (moves_tree m.below))) ∙ (λ i. spelled_where (kind i) (value i) (canon_by (moves_tree m.below))) ∙ is
+    ap (λ t. move_canon t ss es) (move_is one) ∙ (λ i. spelled_where (kind_after (old i - 1) ss) (slot_value (old i) es) (value_canon_by m.parts (moves_tree m.below))) ∙ (λ i. spelled_where (kind i) (value i) (value_canon_by m.parts (moves_tree m.below))) ∙ is
 
 -- the first of the slots that are left, and the others
 pub next_canon : (left later : List ℕ) (s : ℕ) (ms : MovesTree) (ss : SlotsTree) (es : EntriesTree) (b : List ℕ) → left ≡ s ∷ later → found_canon (found_move s ms) ss es ≡ b → slots_canon left ms ss es ≡ b ++ slots_canon later ms ss es

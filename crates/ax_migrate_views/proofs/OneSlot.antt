@@ -1,12 +1,14 @@
 -- What moves to one new slot.
-use Rattle.std.proofs.Common.{◌≡◌, ℕ, suc, ◌+◌, ◌-◌, ◌⊎◌, inl, inr, Bool, true, false, cond, bytes_eq, List, [], ◌∷◌, Option, Some, None, option_map, option_and_then, refl, ◌∙◌, ap, arith}
+use Rattle.std.proofs.Common.{◌≡◌, ℕ, suc, ◌+◌, ◌-◌, ◌⊎◌, inl, inr, Bool, true, false, cond, bytes_eq, List, [], ◌∷◌, Option, Some, None, option_map, option_and_then, refl, ◌∙◌, ap, arith, subst}
 use Rattle.ax_relation.specs.Moves.{move_from, moves_from, move_where, moves_below}
 use Rattle.ax_edition_laws.proofs.Lookups.{found_is, named_from}
 use Rattle.ax_edition_laws.proofs.MovedNamed.{source_value, new_value}
 use Rattle.ax_edition_laws.specs.Moved.{moved}
 use Rattle.ax_model.specs.At.{slot_value}
+use Rattle.ax_model.specs.InBounds.{InBounds, SlotsInBounds}
 use Rattle.ax_model.specs.Lengths.{kind_after}
 use Rattle.ax_model.specs.Naming.{found_or, slot_named}
+use Rattle.ax_model.specs.Same.{common_parts}
 use Rattle.ax_model.specs.Shared.{is_shared_kind}
 use Rattle.ax_model.specs.Tree.{KindTree, SlotsTree, no_slots, slot_and, spare_slot, subitem, EntriesTree}
 
@@ -16,7 +18,7 @@ pub record Moves (t : ℕ) (name : List ℕ) (l : KindTree) (ss : SlotsTree) (es
   pub kind : KindTree
   pub found : slot_named 1 name ss ≡ Some (old, kind)
   pub shared : is_shared_kind kind l ≡ true
-  pub move : move_where t l (slot_named 1 name ss) (moves_below l) ≡ move_from old t (moves_from (moves_below l kind)) ∷ []
+  pub move : move_where t l (slot_named 1 name ss) (moves_below l) ≡ move_from old t (common_parts kind l) (moves_from (moves_below l kind)) ∷ []
   pub value : new_value name l ss es ≡ option_map (moved l kind) (slot_value old es)
 
 abbrev pub Stays : ℕ → List ℕ → KindTree → SlotsTree → EntriesTree → Type 0
@@ -32,11 +34,11 @@ slot_cases t name l ss es = by_found (slot_named 1 name ss) refl
       kind = s.1;
       found = found;
       shared = shared;
-      move = ap (λ o. move_where t l o (moves_below l)) found ∙ ap (λ b. cond b (move_from s.0 t (moves_from (moves_below l s.1)) ∷ []) []) shared;
+      move = ap (λ o. move_where t l o (moves_below l)) found ∙ ap (λ b. cond b (move_from s.0 t (common_parts s.1 l) (moves_from (moves_below l s.1)) ∷ []) []) shared;
       value = ap (option_and_then (source_value l es)) found ∙ ap (λ b. cond b (option_map (moved l s.1) (slot_value s.0 es)) None) shared;
     })
     by_shared s false found shared = inr (
-      ap (λ o. move_where t l o (moves_below l)) found ∙ ap (λ b. cond b (move_from s.0 t (moves_from (moves_below l s.1)) ∷ []) []) shared,
+      ap (λ o. move_where t l o (moves_below l)) found ∙ ap (λ b. cond b (move_from s.0 t (common_parts s.1 l) (moves_from (moves_below l s.1)) ∷ []) []) shared,
       ap (option_and_then (source_value l es)) found ∙ ap (λ b. cond b (option_map (moved l s.1) (slot_value s.0 es)) None) shared,
     )
 
@@ -60,3 +62,13 @@ named_kind n name (slot_and (subitem own l) ss) s k e = by (bytes_eq own name) e
     by false e later =
         let le = named_from (n + 1) name ss s k e in
         let i : s - n ≡ suc (s - (n + 1)) = omega arith in ap (λ i. kind_after i (slot_and (subitem own l) ss)) i ∙ later e
+
+-- and keeps its bounds
+pub named_bounds : (n : ℕ) (name : List ℕ) (ss : SlotsTree) (s : ℕ) (k : KindTree) → slot_named n name ss ≡ Some (s, k) → SlotsInBounds ss → InBounds k
+named_bounds n name no_slots s k e b = cc
+named_bounds n name (slot_and spare_slot ss) s k e b = named_bounds (n + 1) name ss s k e b
+named_bounds n name (slot_and (subitem own l) ss) s k e b = by (bytes_eq own name) e (λ f. named_bounds (n + 1) name ss s k f b.1)
+  where
+    by : (t : Bool) → found_or (cond t (Some l) None) n (slot_named (n + 1) name ss) ≡ Some (s, k) → (slot_named (n + 1) name ss ≡ Some (s, k) → InBounds k) → InBounds k
+    by true e later = subst InBounds (found_is (n, l) (s, k) e).1 b.0
+    by false e later = later e

@@ -1,22 +1,23 @@
 -- What the records of a view lose is what the records of its body lose.
-use Rattle.std.proofs.Common.{◌≡◌, ℕ, ◌+◌, List, [], ◌∷◌, ◌++◌, Option, length, map, refl, sym, ◌∙◌, ap, subst, append-nil, Result}
-use Rattle.std.specs.List.{AllZip}
+use Rattle.std.proofs.Common.{◌≡◌, ℕ, ◌+◌, List, [], ◌∷◌, ◌++◌, Option, length, refl, sym, ◌∙◌, ap, subst, append-nil, Result}
+use Rattle.std.specs.List.{AllByRecursion, AllZip}
 use Rattle.ax_bits.specs.Bits.{bits}
 use Rattle.ax_relation.specs.Paths.{relation_paths}
 use Rattle.ax_relation.specs.declared.relation.RelationPath.{RelationPath}
+use Rattle.ax_canon.proofs.Patching.{body_shape}
 use Rattle.ax_edition_laws.proofs.Distinct.{Distinct}
 use Rattle.ax_edition_laws.proofs.DistinctNames.{record_distinct}
-use Rattle.ax_migrate.proofs.Found.{found_is_lost}
-use Rattle.ax_migrate.specs.Finding.{found_losses}
-use Rattle.ax_migrate.specs.Losing.{loss, losses_from, lost_lines}
+use Rattle.ax_migrate.proofs.Found.{all_found, found_is_lost}
+use Rattle.ax_migrate.specs.Finding.{found_losses, record_losses}
+use Rattle.ax_migrate.specs.Losing.{losses_from, lost_lines}
 use Rattle.ax_migrate.specs.declared.losing.LossEntry.{LossEntry}
-use Rattle.ax_migrate_views.proofs.GonePaths.{found_gone, found_told}
+use Rattle.ax_migrate_views.proofs.GonePaths.{found_gone}
 use Rattle.ax_migrate_views.specs.Blocks.{old_tree, new_tree, IsOfEditions}
 use Rattle.ax_migrate_views.specs.Bodies.{TellsBody}
 use Rattle.ax_migrate_views.specs.Losses.{shown_entries, shown_losses, LosesEach, TellsLosses, WritesLosses}
 use Rattle.ax_migrate_views.specs.declared.migrator.Migrator.{Migrator}
 use Rattle.ax_model.proofs.Spelled.{read_spelled}
-use Rattle.ax_model.specs.Migrated.{Lost}
+use Rattle.ax_model.specs.Bodies.{RecordShape}
 use Rattle.ax_model.specs.Reader.{read, got}
 use Rattle.ax_model.specs.Specification.{SpecTree, record_kind}
 use Rattle.ax_model.specs.Tree.{marked, EntriesTree}
@@ -39,20 +40,19 @@ shown_is codec spec entries s stands h =
     let whole : read (record_kind spec) (bits s.1) ≡ got (marked entries) (length (bits s.1)) [] = ap (read (record_kind spec)) (sym (append-nil (bits s.1))) ∙ read_spelled (record_kind spec) (marked entries) (bits s.1) [] h.1.spells in
     ap (λ r. entries_in (value_read r)) (same ∙ whole)
 
-shown_told : (codec : Codec) (old new : SpecTree) (n : ℕ) (records : List EntriesTree) (shown : List (Codec × List ℕ)) → StandsFor codec old → Distinct (record_kind old) → AllZip (IsRecordOf codec old) records shown
+shown_told : (codec : Codec) (old new : SpecTree) (n : ℕ) (records : List EntriesTree) (shown : List (Codec × List ℕ)) → StandsFor codec old → Distinct (record_kind old) → AllByRecursion (RecordShape old) records → AllZip (IsRecordOf codec old) records shown
     → shown_losses (relation_paths old new) n shown ≡ losses_from old new n records
-shown_told codec old new n [] [] stands d h = refl
-shown_told codec old new n [] (s ∷ shown) stands d h = absurd h
-shown_told codec old new n (r ∷ records) [] stands d h = absurd h
-shown_told codec old new n (r ∷ records) (s ∷ shown) stands d h =
-    let first = found_is_lost old new n (shown_entries s) d in
-    let is = shown_is codec old r s stands h.0 in
-    (λ i. first i ++ shown_told codec old new (n + 1) records shown stands d h.1 i) ∙ ap (λ es. map (loss old.category n) (Lost old new es) ++ losses_from old new (n + 1) records) is
+shown_told codec old new n [] [] stands d shapes h = refl
+shown_told codec old new n [] (s ∷ shown) stands d shapes h = absurd h
+shown_told codec old new n (r ∷ records) [] stands d shapes h = absurd h
+shown_told codec old new n (r ∷ records) (s ∷ shown) stands d shapes h =
+    let first = ap (λ es. record_losses n es (relation_paths old new)) (shown_is codec old r s stands h.0) ∙ found_is_lost old new n r d shapes.0 in
+    λ i. first i ++ shown_told codec old new (n + 1) records shown stands d shapes.1 h.1 i
 
 pub losses_each : (m : Migrator) (body : List ℕ) (paths : List RelationPath) (shown : List (Codec × List ℕ)) → IsOfEditions m → paths ≡ m.relation.now.paths → SpellEach m.codec.now body shown → LosesEach m body (shown_losses paths 0 shown)
 losses_each m body paths shown of are each = record {
   each = λ records spells. ap (λ ps. shown_losses ps 0 shown) (are ∙ of.related.paths)
-      ∙ shown_told m.codec.now (old_tree m) (new_tree m) 0 records shown of.compiled.stands (record_distinct (old_tree m) of.related.old_no_flaw) (each.spells (old_tree m) records of.compiled.clean of.compiled.stands spells);
+      ∙ shown_told m.codec.now (old_tree m) (new_tree m) 0 records shown of.compiled.stands (record_distinct (old_tree m) of.related.old_no_flaw) (body_shape (old_tree m) records (bits body) spells.spelled) (each.spells (old_tree m) records of.compiled.clean of.compiled.stands spells);
 }
 
 -- those that were written
@@ -66,5 +66,5 @@ pub losses_told : (m : Migrator) (body : List ℕ) (block n : ℕ) (before lines
 losses_told m body block n before lines of t = record {
   told = λ records spells short. (
       (t.told (old_tree m) records of.compiled.clean of.compiled.stands spells).laid short ∙ ap (λ ps. lost_lines block (found_losses ps 0 records)) of.lost
-      ∙ ap (lost_lines block) (found_gone 0 m.relation.now.paths records ∙ ap (λ ps. found_losses ps 0 records) of.related.paths ∙ found_told (old_tree m) (new_tree m) 0 records (record_distinct (old_tree m) of.related.old_no_flaw)));
+      ∙ ap (lost_lines block) (found_gone 0 m.relation.now.paths records ∙ ap (λ ps. found_losses ps 0 records) of.related.paths ∙ all_found (old_tree m) (new_tree m) 0 records (record_distinct (old_tree m) of.related.old_no_flaw) (body_shape (old_tree m) records (bits body) spells.spelled)));
 }

@@ -20,20 +20,20 @@ use Rattle.ax_view.specs.Values.{IsOne, value_in}
 -- the first move from slot s
 abbrev pub found_move : ℕ → MovesTree → Option MoveTree
 found_move s no_moves = None
-found_move s (move_and (move_from u t below) ms) = if u == s then Some (move_from u t below) else found_move s ms
+found_move s (move_and (move_from u t c below) ms) = if u == s then Some (move_from u t c below) else found_move s ms
 
 -- its place, where the first move has the place n; 0 where there is none
 abbrev pub place_from : ℕ → ℕ → MovesTree → ℕ
 place_from n s no_moves = 0
-place_from n s (move_and (move_from u t below) ms) = if u == s then n else place_from (n + 1) s ms
+place_from n s (move_and (move_from u t c below) ms) = if u == s then n else place_from (n + 1) s ms
 
 abbrev pub IsFrom : ℕ → MoveTree → Type 0
-IsFrom s (move_from u t below) = u ≡ s
+IsFrom s (move_from u t c below) = u ≡ s
 
 -- the moves come in the order of their old slots, each slot once, and the first is a or later
 abbrev pub ascends : ℕ → MovesTree → Bool
 ascends a no_moves = true
-ascends a (move_and (move_from s t below) ms) = if nat_lt s a then false else ascends (s + 1) ms
+ascends a (move_and (move_from s t c below) ms) = if nat_lt s a then false else ascends (s + 1) ms
 
 -- the places of the moves from slots below n
 pub record ArePlaces (moves : List Move) (n : ℕ) (places : List ℕ) : Type 0 where

@@ -1,4 +1,4 @@
--- The paths that are lost wherever they are present.
+-- The keys that are lost wherever they are present.
 use Rattle.std.specs.Prelude.{is_none, if◌then◌else◌, List, [], ◌∷◌, ◌++◌}
 use Rattle.ax_relation.specs.declared.relation.RelationPath.{RelationPath}
 

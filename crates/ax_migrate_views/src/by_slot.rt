@@ -78,7 +78,8 @@ fn does_stay(nodes: &[Node], links: &[u32], moves: &[Move], places: &[usize], sl
         return false;
     }
     let link = links[slot as usize - 1];
-    link > 0 && keeps(nodes, link, &moves[place - 1].below)
+    let one = &moves[place - 1];
+    link > 0 && keeps(nodes, link, one.parts, &one.below)
 }
 
 /// By slot, from 0 on, whether it does.

@@ -17,7 +17,7 @@ impl<'m> Iterator for RecordLosses<'m> {
     fn next(&mut self) -> Option<Loss<'m>> {
         while let Some((path, later)) = self.left.split_first() {
             self.left = later;
-            if path.new.is_none() && is_there(&self.record, &path.old) {
+            if path.new.is_none() && is_there(&self.record, &path.old, path.part) {
                 return Some(Loss {
                     record_at: self.number,
                     path: &path.text,

@@ -3,7 +3,7 @@ ghost use Rattle.std.specs.Prelude.{◌≡◌, ◌+◌, ◌<◌, ◌≤◌, fals
 ghost use Rattle.ax_bits.specs.Bits.{bits};
 ghost use Rattle.ax_relation.specs.PlainMoves.{move_tree, moves_tree};
 ghost use Rattle.ax_migrate_views.specs.Keeping.{IsLeaf, KeepsAll, MovesWhole, StaysIn};
-ghost use Rattle.ax_migrate_views.specs.Octets.{canon_by};
+ghost use Rattle.ax_migrate_views.specs.Octets.{value_canon_by};
 ghost use Rattle.ax_model.specs.Tree.{slots_of};
 ghost use Rattle.ax_tables.specs.Meaning.{linked_slots, meanings};
 ghost use Rattle.ax_tables.specs.Table.{IsTable, SlotLinksWithin, kind_at};
@@ -13,28 +13,30 @@ use ax_relation::{Move, Moves};
 use ax_tables::{Codec, Node};
 use ax_view::FoundItem;
 
-/// Whether the kind of a link is sure to be no compound.
+/// Whether the kind of a link is sure to be no compound and, if it is extended, to have no more than so many parts.
 #[inline]
-fn is_leaf(nodes: &[Node], link: u32) -> bool
+fn is_leaf(nodes: &[Node], link: u32, count: u32) -> bool
     requires table { IsTable nodes.now }
     requires link { (0 < link) × (link ≤ length nodes.now) }
-    ensures { IsTrue result → IsLeaf (kind_at nodes.now link) }
+    ensures { IsTrue result → IsLeaf count (kind_at nodes.now link) }
 {
     match &nodes[link as usize - 1] {
         Node::Part { .. } => false,
         Node::Compound { .. } => false,
+        Node::Extended { parts, .. } => parts.count() <= count,
         _ => true,
     }
 }
 
-/// Whether a move leaves the value of the slot of that number, which has the kind of the link and isn't a compound, in its slot.
+/// Whether a move leaves the whole value of the slot of that number, which has the kind of the link and isn't a compound, in
+/// its slot.
 #[inline]
 fn stays(nodes: &[Node], link: u32, slot: usize, one: &Move) -> bool
     requires table { IsTable nodes.now }
     requires link { (0 < link) × (link ≤ length nodes.now) }
     ensures { IsTrue result → StaysIn slot (kind_at nodes.now link) (move_tree one.now) }
 {
-    one.old as usize == slot && one.new as usize == slot && is_leaf(nodes, link)
+    one.old as usize == slot && one.new as usize == slot && is_leaf(nodes, link, one.parts)
 }
 
 /// Whether each slot of a compound stays, none is a compound itself, and nothing else moves.
@@ -58,15 +60,15 @@ fn keeps_all(nodes: &[Node], slots: &[u32], moves: &Moves) -> bool
     next == moves.len()
 }
 
-/// Whether the canonical octets of each value of a link's kind stay as it moves: it is no compound, or each of its slots
-/// stays.
+/// Whether the canonical octets of each value of a link's kind stay as it moves, of an extended one so many first parts: it is
+/// no compound and has no more parts than those, or it is one and each of its slots stays.
 #[inline]
-pub(crate) fn keeps(nodes: &[Node], link: u32, moves: &Moves) -> bool
+pub(crate) fn keeps(nodes: &[Node], link: u32, count: u32, moves: &Moves) -> bool
     requires table { IsTable nodes.now }
     requires link { (0 < link) × (link ≤ length nodes.now) }
-    ensures { IsTrue result → MovesWhole nodes.now link (moves_tree moves.now) }
+    ensures { IsTrue result → MovesWhole nodes.now link count (moves_tree moves.now) }
 {
-    if is_leaf(nodes, link) {
+    if is_leaf(nodes, link, count) {
         return true;
     }
     match &nodes[link as usize - 1] {
@@ -75,12 +77,18 @@ pub(crate) fn keeps(nodes: &[Node], link: u32, moves: &Moves) -> bool
     }
 }
 
-/// Whether an item's octets are the canonical ones of its value as it moves, so that they can be copied: they are those of the
-/// value, and where it is a compound, each of its slots stays.
-pub(crate) fn moves_whole(codec: &Codec, found: &FoundItem<'_, '_>, moves: &Moves) -> bool
+/// Whether an item's octets are sure to be the canonical ones of its value as it moves, so that they can be copied: they are
+/// those of the value, and where it is a compound, each of its slots stays; where it is extended, its kind has no more parts
+/// than so many, or it has no more octets, each part having one at least.
+pub(crate) fn moves_whole(
+    codec: &Codec,
+    found: &FoundItem<'_, '_>,
+    count: u32,
+    moves: &Moves,
+) -> bool
     requires codec { found.now.item.codec.now ≡ codec.now }
     requires whole { found.now.item.by_fx ≡ false }
-    ensures { IsTrue result → canon_by (moves_tree moves.now) (item_kind found.now.item) (item_value found.now.item) ≡ bits found.now.item.body.now }
+    ensures { IsTrue result → value_canon_by count (moves_tree moves.now) (item_kind found.now.item) (item_value found.now.item) ≡ bits found.now.item.body.now }
 {
     if !found.least {
         return false;
@@ -88,6 +96,9 @@ pub(crate) fn moves_whole(codec: &Codec, found: &FoundItem<'_, '_>, moves: &Move
     match found.item.node() {
         Node::Compound { slots, .. } => {
             keeps_all(codec.nodes.as_slice(), slots.as_slice(), moves)
+        }
+        Node::Extended { parts, .. } => {
+            parts.count() <= count || found.item.octets().len() <= count as usize
         }
         _ => true,
     }

@@ -13,6 +13,6 @@ ghost use Rattle.ax_tables.specs.Bare.{bare_kind};
 /// The octets that the moves of two editions make of a record of the old one, without names and contents, are the canonical
 /// octets of its migrated record.
 pub fn moves_spell_the_migrated_record()
-    ensures { (old new : SpecTree) (entries : EntriesTree) → NoFlaw new → RecordShape old entries →
+    ensures { (old new : SpecTree) (entries : EntriesTree) → NoFlaw old → NoFlaw new → RecordShape old entries →
         canon_by (moves_from (record_moves old new)) (bare_kind (record_kind old)) (marked entries) ≡ canon (record_kind new) (marked (moved_record old new entries)) }
 {}

@@ -1,6 +1,8 @@
 //! Octets laid one after another at the front of an output.
-ghost use Rattle.std.specs.Prelude.{◌≡◌, ◌^◌, ◌≤◌, false, length};
+ghost use Rattle.std.specs.Prelude.{◌≡◌, ◌^◌, ◌≤◌, false, length, IfSome};
+ghost use Rattle.ax_bits.specs.Bits.{bits};
 ghost use Rattle.ax_fspec.specs.Fields.{least_field};
+ghost use Rattle.ax_migrate_views.specs.Fronts.{cleared, kept_bits};
 ghost use Rattle.ax_migrate_views.specs.Laying.{Begins, Gathers, Lays};
 ghost use Rattle.ax_model.specs.Canonical.{canon};
 ghost use Rattle.ax_model.specs.Sizes.{longest_body};
@@ -64,6 +66,33 @@ pub(crate) fn lay_octets(octets: &[u8], at: u32, output: &mut [u8]) -> u32
         output[at as usize..end as usize].copy_from_slice(octets);
     }
     end
+}
+
+/// Lays octets, of the last one the lowest bit cleared.
+fn lay_cleared(octets: &[u8], at: u32, output: &mut [u8]) -> u32
+    requires room { length output.old ≡ 131067 }
+    ensures laid { Lays (cleared (bits octets.now)) at result output.old output.new }
+    ensures room { length output.new ≡ 131067 }
+{
+    let Some((last, before)) = octets.split_last() else {
+        return at;
+    };
+    let end = lay_octets(before, at, output);
+    lay_octets(&[*last / 2 * 2], end, output)
+}
+
+/// Lays the first octets of those of an extended item, with the FX bit of the last part cleared; where no number of them is
+/// given, all octets as they are.
+pub(crate) fn lay_front(octets: &[u8], front: Option<usize>, at: u32, output: &mut [u8]) -> u32
+    requires front { IfSome front (λ n. n ≤ length octets.now) }
+    requires room { length output.old ≡ 131067 }
+    ensures laid { Lays (kept_bits front octets.now) at result output.old output.new }
+    ensures room { length output.new ≡ 131067 }
+{
+    match front {
+        Some(front) => lay_cleared(&octets[..front], at, output),
+        None => lay_octets(octets, at, output),
+    }
 }
 
 /// Lays the canonical spelling of an item's value after `at` octets, and answers how many octets were laid.

@@ -1,31 +1,54 @@
 //! Whether something stands where slot numbers lead.
-ghost use Rattle.std.specs.Prelude.{◌≡◌, is_some};
+ghost use Rattle.std.specs.Prelude.{◌≡◌};
 ghost use Rattle.ax_migrate.specs.Finding.{is_there, value_below};
+ghost use Rattle.ax_model.specs.Placed.{has_part, has_part_where};
 ghost use Rattle.ax_view.specs.Shown.{item_value, record_entries};
 
 use ax_model::Place;
 use ax_view::{ItemView, RecordView};
 
-/// Whether slot numbers lead on from an item.
-#[cycle(leads_on)]
-pub(crate) fn leads_on(item: &ItemView<'_, '_>, steps: &[u32]) -> bool
-    ensures { result ≡ is_some (value_below steps.now (item_value item.now)) }
+/// Whether an item has the part of that number, or there is no question of a part.
+pub(crate) fn has_part(item: &ItemView<'_, '_>, part: Option<u32>) -> bool
+    ensures { result ≡ has_part part (item_value item.now) }
 {
-    let Some((step, later)) = steps.split_first() else {
+    let Some(number) = part else {
         return true;
     };
+    // Each part has an octet at least.
+    if item.octets().len() <= number as usize {
+        return false;
+    }
+    let mut later = item.parts();
+    let mut before = number;
+    while later.next().is_some() {
+        if before == 0 {
+            return true;
+        }
+        before -= 1;
+    }
+    false
+}
+
+/// Whether slot numbers lead on from an item, to one that has the part.
+#[cycle(leads_on)]
+pub(crate) fn leads_on(item: &ItemView<'_, '_>, steps: &[u32], part: Option<u32>) -> bool
+    ensures { result ≡ has_part_where part (value_below steps.now (item_value item.now)) }
+{
+    let Some((step, later)) = steps.split_first() else {
+        return has_part(item, part);
+    };
     match item.subitem(*step) {
-        Some(inner) => leads_on(&inner, later),
+        Some(inner) => leads_on(&inner, later, part),
         None => false,
     }
 }
 
-/// Whether there is an entry where slot numbers lead.
-pub(crate) fn is_there(one: &RecordView<'_, '_>, place: &Place) -> bool
-    ensures { result ≡ is_there place.now (record_entries one.now) }
+/// Whether there is an entry where slot numbers lead, with the part.
+pub(crate) fn is_there(one: &RecordView<'_, '_>, place: &Place, part: Option<u32>) -> bool
+    ensures { result ≡ is_there place.now part (record_entries one.now) }
 {
     match one.item(place.frn) {
-        Some(item) => leads_on(&item, place.steps.as_slice()),
+        Some(item) => leads_on(&item, place.steps.as_slice(), part),
         None => false,
     }
 }

@@ -5,6 +5,7 @@ mod bodies;
 mod by_slot;
 mod each_loss;
 mod examples;
+mod fronts;
 mod gone;
 mod in_order;
 mod keeping;
@@ -16,12 +17,16 @@ mod marks;
 mod migrating;
 mod migrating_views;
 mod migrator;
+mod ranges;
 mod telling;
 mod values;
 mod whole;
 
 pub use bodies::Laid;
-pub use examples::{octets_by_moves, slots_of_a_set};
+pub use examples::{
+    bits_with_the_last_cleared, octets_by_moves, octets_of_first_parts, slots_of_a_set,
+};
 pub use laws::moves_spell_the_migrated_record;
 pub use losses::Losses;
 pub use migrator::Migrator;
+pub use ranges::Fit;

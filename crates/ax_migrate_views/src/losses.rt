@@ -6,20 +6,20 @@ ghost use Rattle.ax_view.specs.Left.{records_left};
 use ax_relation::{RelationPath, RelationPaths};
 use ax_view::{RecordView, Records};
 
-/// What one record loses, an iterator, in the order of the paths of the old edition.
+/// What one record loses, an iterator, in the order of the keys of the old edition.
 #[derive(Drop)]
 pub(crate) struct RecordLosses<'m> {
     pub(crate) record: RecordView<'m, 'm>,
     /// The number of the record in its block, from 0.
     pub(crate) number: u32,
-    /// The paths that are still to be looked at.
+    /// The keys that are still to be looked at.
     pub(crate) left: &'m [RelationPath],
 }
 
-/// What the records of a view lose, an iterator: by record and, in a record, in the order of the paths of the old edition.
+/// What the records of a view lose, an iterator: by record and, in a record, in the order of the keys of the old edition.
 #[derive(Drop)]
 pub struct Losses<'m> {
-    /// The paths of the old edition.
+    /// The keys of the old edition.
     pub(crate) paths: &'m RelationPaths,
     /// The record that is looked at.
     pub(crate) here: Option<RecordLosses<'m>>,

@@ -54,7 +54,7 @@ impl<'c> Migrator<'c> {
         out.push_octets(&output[..octets as usize]);
     }
 
-    /// What the records of a view lose, by record and, in a record, in the order of the paths of the old edition.
+    /// What the records of a view lose, by record and, in a record, in the order of the keys of the old edition.
     pub fn losses<'m>(&'m self, view: &'m BlockView<'m, 'm>) -> Losses<'m>
         requires editions { IsOfEditions self.now }
         requires view { view.now.codec.now ≡ self.now.codec.now }
@@ -68,8 +68,8 @@ impl<'c> Migrator<'c> {
         }
     }
 
-    /// Writes the line `lost block N record M PATH` of each path that a record of a view loses, by record and, in a record, in
-    /// the order of the paths of the old edition; the block has the number N. At `SinkFailed` a prefix of the lines was added,
+    /// Writes the line `lost block N record M KEY` of each key that a record of a view loses, by record and, in a record, in
+    /// the order of the keys of the old edition; the block has the number N. At `SinkFailed` a prefix of the lines was added,
     /// not all of them, and the report counted a fault.
     pub fn write_losses<R: Sink>(
         &self,

@@ -15,7 +15,7 @@ pub struct Migrator<'c> {
     pub(crate) new: &'c Spec,
     pub(crate) relation: &'c Relation,
     pub(crate) codec: &'c Codec,
-    /// The paths that have no new place.
+    /// The keys that have no new place.
     pub(crate) lost: RelationPaths,
     /// What is known of the relation's moves.
     pub(crate) known: SlotMoves,

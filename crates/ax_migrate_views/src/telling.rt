@@ -39,22 +39,22 @@ fn tell_line(block: u64, number: u32, path: &[u8], at: u32, lines: &mut [u8]) ->
     lay_octets(b"\n", path_end, lines)
 }
 
-/// Whether there is an entry where slot numbers lead.
+/// Whether there is an entry where slot numbers lead, with the part.
 #[inline]
-fn is_there(whole: &PlacedSlots<'_, '_, '_>, place: &Place) -> bool
+fn is_there(whole: &PlacedSlots<'_, '_, '_>, place: &Place, part: Option<u32>) -> bool
     requires placed { IsPlaced whole.now }
-    ensures { result ≡ is_there place.now (whole_entries whole.now) }
+    ensures { result ≡ is_there place.now part (whole_entries whole.now) }
 {
-    if place.steps.count() == 0 {
+    if place.steps.count() == 0 && part.is_none() {
         return whole.has(place.frn);
     }
     match item_of(whole, place.frn) {
-        Some(found) => leads_on(&found.item, place.steps.as_slice()),
+        Some(found) => leads_on(&found.item, place.steps.as_slice(), part),
         None => false,
     }
 }
 
-/// Lays the line of a path that the record of that number loses, if it does.
+/// Lays the line of a key that the record of that number loses, if it does.
 fn tell_path(
     block: u64,
     number: u32,
@@ -68,7 +68,7 @@ fn tell_path(
     ensures told { Gathers (lost_lines block (path_loss number (whole_entries whole.now) path.now)) at result lines.old lines.new }
     ensures room { length lines.new ≡ 131067 }
 {
-    if path.new.is_none() && is_there(whole, &path.old) {
+    if path.new.is_none() && is_there(whole, &path.old, path.part) {
         tell_line(block, number, path.text.as_slice(), at, lines)
     } else {
         at

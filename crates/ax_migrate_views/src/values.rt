@@ -2,24 +2,27 @@
 ghost use Rattle.std.specs.Prelude.{◌≡◌, ◌++◌, false, length};
 ghost use Rattle.ax_relation.specs.PlainMoves.{move_tree, moves_tree};
 ghost use Rattle.ax_migrate_views.specs.Laying.{Lays};
-ghost use Rattle.ax_migrate_views.specs.Octets.{canon_by, entries_canon_by, field_by, move_canon};
+ghost use Rattle.ax_migrate_views.specs.Octets.{entries_canon_by, field_by, move_canon, value_canon_by};
 ghost use Rattle.ax_migrate_views.specs.Wholes.{whole_codec, whole_entries, whole_slots};
 ghost use Rattle.ax_view.specs.Placing.{IsPlaced};
 ghost use Rattle.ax_view.specs.Shown.{item_kind, item_value};
 
+use crate::fronts::front;
 use crate::keeping::moves_whole;
-use crate::laying::{lay_field, lay_item, lay_octets};
+use crate::laying::{lay_field, lay_front, lay_item, lay_octets};
 use crate::marks::moved_slots;
 use crate::whole::item_of;
 use ax_relation::{Move, Moves};
 use ax_tables::{Codec, Node};
 use ax_view::{FoundItem, ItemView, PlacedSlots, Places, place_subitems};
 
-/// Lays the value of an item as it moves, and answers how many octets were laid: the item's own octets, where they are that.
+/// Lays the value of an item as it moves, of an extended one so many first parts, and answers how many octets were laid: the
+/// item's own octets, where they are that.
 #[cycle(laying)]
 fn lay_value(
     codec: &Codec,
     found: &FoundItem<'_, '_>,
+    count: u32,
     moves: &Moves,
     at: u32,
     output: &mut [u8],
@@ -27,21 +30,22 @@ fn lay_value(
     requires codec { found.now.item.codec.now ≡ codec.now }
     requires whole { found.now.item.by_fx ≡ false }
     requires room { length output.old ≡ 131067 }
-    ensures laid { Lays (canon_by (moves_tree moves.now) (item_kind found.now.item) (item_value found.now.item)) at result output.old output.new }
+    ensures laid { Lays (value_canon_by count (moves_tree moves.now) (item_kind found.now.item) (item_value found.now.item)) at result output.old output.new }
     ensures room { length output.new ≡ 131067 }
 {
-    if moves_whole(codec, found, moves) {
+    if moves_whole(codec, found, count, moves) {
         return lay_octets(found.item.octets(), at, output);
     }
-    lay_anew(codec, &found.item, moves, at, output)
+    lay_anew(codec, &found.item, count, moves, at, output)
 }
 
-/// The same, slot by slot in a compound. It has a table of places on its stack, and so stands apart.
+/// The same, slot by slot in a compound and part by part in an extended item. It has a table of places on its stack, and so stands apart.
 #[cycle(laying)]
 #[inline(never)]
 fn lay_anew(
     codec: &Codec,
     item: &ItemView<'_, '_>,
+    count: u32,
     moves: &Moves,
     at: u32,
     output: &mut [u8],
@@ -49,7 +53,7 @@ fn lay_anew(
     requires codec { item.now.codec.now ≡ codec.now }
     requires whole { item.now.by_fx ≡ false }
     requires room { length output.old ≡ 131067 }
-    ensures laid { Lays (canon_by (moves_tree moves.now) (item_kind item.now) (item_value item.now)) at result output.old output.new }
+    ensures laid { Lays (value_canon_by count (moves_tree moves.now) (item_kind item.now) (item_value item.now)) at result output.old output.new }
     ensures room { length output.new ≡ 131067 }
 {
     match item.node() {
@@ -64,6 +68,16 @@ fn lay_anew(
                 places: &places,
             };
             lay_whole(codec, &whole, moves, at, output)
+        }
+        Node::Extended { parts, .. } => {
+            let octets = item.octets();
+            let front = front(
+                codec.nodes.as_slice(),
+                parts.as_slice(),
+                count,
+                octets.len(),
+            );
+            lay_front(octets, front, at, output)
         }
         _ => lay_item(codec, item, at, output),
     }
@@ -105,7 +119,7 @@ pub(crate) fn lay_entry(
     ensures room { length output.new ≡ 131067 }
 {
     match item_of(whole, one.old) {
-        Some(found) => lay_value(codec, &found, &one.below, at, output),
+        Some(found) => lay_value(codec, &found, one.parts, &one.below, at, output),
         None => at,
     }
 }

@@ -1,21 +1,28 @@
 //! The laws of `migrate`. Each function stands for what its contract says.
-ghost use Rattle.std.specs.Prelude.{◌≡◌, ℕ, ◌<◌, ◌≤◌};
+ghost use Rattle.std.specs.Prelude.{◌≡◌, ℕ, ◌≤◌, List, [], None, Some};
 ghost use Rattle.ax_migrate.specs.Losing.{block_losses, lost_lines};
 ghost use Rattle.ax_migrate_work.specs.Commands.{migrate_command};
-ghost use Rattle.ax_model.specs.Blocks.{BlockTree, Fits};
-ghost use Rattle.ax_model.specs.CanonicalOctets.{canon_block, canon_length};
+ghost use Rattle.ax_model.specs.Blocks.{BlockTree, Fits, read_block, opaque_block};
+ghost use Rattle.ax_model.specs.CanonicalOctets.{canon_block, canon_length, framed};
 ghost use Rattle.ax_model.specs.Flaws.{NoFlaw};
 ghost use Rattle.ax_model.specs.Migrated.{MigratedBlock};
 ghost use Rattle.ax_model.specs.Sizes.{longest_block};
 ghost use Rattle.ax_model.specs.Specification.{SpecTree};
+ghost use Rattle.ax_model.specs.Split.{first_too_long, split_octets};
+ghost use Rattle.ax_model.specs.Tree.{EntriesTree};
 ghost use Rattle.ax_stream.specs.Commands.{gives, too_long};
 
-/// A block that fits the old edition is answered by its migrated block and the lost paths of its records: these lines and
-/// octets, or the number of the octets where a block can't have as many.
-#[tactic(auto, using(crate::proofs::Answering::answers_short, crate::proofs::Answering::answers_long))]
+/// A block that fits the old edition is answered by its migrated records and the lost paths of its records: these lines, and
+/// the octets of the blocks that the migrated records are split into; or the octets of the first migrated record that has too
+/// many for a block of its own. A migrated block of at most 65,535 octets is the one block. An opaque block is answered as it
+/// is.
+#[tactic(auto, using(crate::proofs::Answering::answers))]
 pub fn migrate_answers_by_the_migrated_block()
-    ensures short { (old new : SpecTree) (number : ℕ) (block made : BlockTree) → NoFlaw new → Fits old block → MigratedBlock old new block made → canon_length new made ≤ longest_block
+    ensures split { (old new : SpecTree) (number category : ℕ) (records made : List EntriesTree) → NoFlaw new → Fits old (read_block category records) → MigratedBlock old new (read_block category records) (read_block category made) → first_too_long new made ≡ None
+        → (migrate_command old new).answer number (read_block category records) ≡ gives (lost_lines number (block_losses old new (read_block category records))) (split_octets new made) }
+    ensures long { (old new : SpecTree) (number category count : ℕ) (records made : List EntriesTree) → NoFlaw new → Fits old (read_block category records) → MigratedBlock old new (read_block category records) (read_block category made) → first_too_long new made ≡ Some count
+        → (migrate_command old new).answer number (read_block category records) ≡ too_long count }
+    ensures short { (old new : SpecTree) (number : ℕ) (block made : BlockTree) → old.category ≡ new.category → NoFlaw new → Fits old block → MigratedBlock old new block made → canon_length new made ≤ longest_block
         → (migrate_command old new).answer number block ≡ gives (lost_lines number (block_losses old new block)) (canon_block new made) }
-    ensures long { (old new : SpecTree) (number : ℕ) (block made : BlockTree) → NoFlaw new → Fits old block → MigratedBlock old new block made → longest_block < canon_length new made
-        → (migrate_command old new).answer number block ≡ too_long (canon_length new made) }
+    ensures opaque { (old new : SpecTree) (number category : ℕ) (content : List ℕ) → (migrate_command old new).answer number (opaque_block category content) ≡ gives [] (framed category content) }
 {}

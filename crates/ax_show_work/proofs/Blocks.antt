@@ -1,5 +1,5 @@
 -- What `show` over views makes of one block.
-use Rattle.std.proofs.Common.{◌≡◌, ℕ, ◌<◌, ◌≤◌, List, [], ◌∷◌, ◌++◌, Option, Some, None, Ok, Bor, length, codes, decimal, refl, sym, ◌∙◌, ap, subst, arith, append-nil}
+use Rattle.std.proofs.Common.{◌≡◌, ℕ, ◌<◌, ◌≤◌, List, [], ◌∷◌, ◌++◌, Option, Some, None, Result, Bor, length, codes, decimal, sym, ◌∙◌, ap, subst, arith, append-nil}
 use Rattle.std.specs.Option.{option_map, option_copied}
 use Rattle.ax_model.specs.Blocks.{read_block}
 use Rattle.ax_model.specs.CanonicalOctets.{canon_length}
@@ -11,10 +11,12 @@ use Rattle.ax_model.specs.Specification.{SpecTree, spec_of, record_slots}
 use Rattle.ax_model.specs.declared.spec.Spec.{Spec}
 use Rattle.ax_show_views.specs.Shown.{ShowsRecords}
 use Rattle.ax_show_work.specs.Listing.{ListsBody}
+use Rattle.ax_outside.specs.Changes.{SinkChange}
 use Rattle.ax_stream.proofs.BlockSteps.{asked_category}
 use Rattle.ax_stream.proofs.MadeBlocks.{read_made, opaque_made, read_stop, short_stop, tree_taken}
 use Rattle.ax_stream.specs.Made.{IsMadeOf, IsMadeRead, tree_command}
-use Rattle.ax_stream.specs.Taking.{Takes}
+use Rattle.ax_stream.specs.Taking.{Takes, WritesOctets}
+use Rattle.ax_stream.specs.declared.work.WorkStop.{WorkStop}
 use Rattle.ax_tables.specs.Standing.{StandsFor, StandForEach, codec_of}
 use Rattle.ax_tables.specs.declared.codec.Codec.{Codec}
 use Rattle.ax_text.proofs.Listables.{record_listable}
@@ -93,8 +95,8 @@ read_block_listed catalogue number raw spec listing few known h = read_made (λ 
 
 pub ruleset blocks = (read_block_listed, opaque_listed, read_stop, short_stop, TablesOf.masked, TablesOf.known, stands, same_category, never)
 
-pub listed_taken : (catalogue : List SpecTree) (number : ℕ) (raw : RawTree) (held : Option (List ℕ)) (faults : ℕ) (u : Unit) (listing : List ℕ) → IsListed catalogue number raw listing
-    → Takes (tree_command (λ number spec block. ShowText spec block number) (λ number category content. OpaqueShown number category content) catalogue) number raw (record { held = held; held' = held; faults = faults; faults' = faults }) listing (Ok u)
-listed_taken catalogue number raw held faults u listing h = tree_taken (λ number spec block. ShowText spec block number) (λ number category content. OpaqueShown number category content) catalogue number raw held faults u listing listing h refl
+pub listed_taken : (catalogue : List SpecTree) (number : ℕ) (raw : RawTree) (o : SinkChange) (held : Option (List ℕ)) (faults : ℕ) (listing laid : List ℕ) (result : Result Unit WorkStop) → IsListed catalogue number raw listing → laid ≡ listing → WritesOctets o laid result
+    → Takes (tree_command (λ number spec block. ShowText spec block number) (λ number category content. OpaqueShown number category content) catalogue) number raw o (record { held = held; held' = held; faults = faults; faults' = faults }) result
+listed_taken catalogue number raw o held faults listing laid result h is w = tree_taken (λ number spec block. ShowText spec block number) (λ number category content. OpaqueShown number category content) catalogue number raw o held faults listing laid result h is w
 
 pub ruleset takes = listed_taken

@@ -10,7 +10,7 @@ use crate::block::list_block;
 use ax_check::Catalogue;
 use ax_model::RawBlock;
 use ax_outside::Sink;
-use ax_stream::{BlockStop, BlockWork, WorkStop};
+use ax_stream::{BlockStop, BlockWork, WorkStop, write_piece};
 use ax_tables::Codecs;
 use ax_text::Lister;
 use ax_text_view_work::{Tables, tables_of};
@@ -60,18 +60,17 @@ impl<'c> BlockWork for ShowViews<'c> {
 
     ghost sound = { λ s. StandForEach s.codecs.now.codecs (catalogue_tree s.catalogue.now) × (s.tables ≡ s.catalogue.now) };
 
-    ghost laid = { λ s. s.lister.out };
-
     ghost remembers = { λ first s raws. Unit {0} };
 
     ghost takes_memory = { true };
 
     #[tactic(auto, using(ax_stream::proofs::MadeBlocks::tree_takes, crate::proofs::Blocks::takes))]
-    fn take<R: Sink>(
+    fn take<R: Sink, K: Sink>(
         &mut self,
         number: u64,
         raw: &RawBlock<'_>,
         _report: &mut R,
+        out: &mut K,
     ) -> Result<(), WorkStop> {
         match list_block(
             &mut self.lister,
@@ -82,13 +81,9 @@ impl<'c> BlockWork for ShowViews<'c> {
             number,
             raw,
         ) {
-            Ok(()) => Ok(()),
+            Ok(()) => write_piece(out, self.lister.listing()),
             Err(BlockStop::Fault(fault)) => Err(WorkStop::Fault(fault)),
             Err(BlockStop::OutOfMemory) => Err(WorkStop::OutOfMemory),
         }
-    }
-
-    fn octets(&self) -> &[u8] {
-        self.lister.listing()
     }
 }

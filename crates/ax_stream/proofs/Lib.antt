@@ -8,4 +8,5 @@ pub mod Prefixes
 pub mod Results
 pub mod Runs
 pub mod Streams
+pub mod Taken
 pub mod Remembered

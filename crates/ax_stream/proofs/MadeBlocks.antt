@@ -1,18 +1,20 @@
 -- What is made of one block.
-use Rattle.std.proofs.Common.{◌≡◌, ℕ, ◌<◌, ◌≤◌, List, [], Option, Some, None, Ok, Err, length, refl, sym, ◌∙◌, ap, arith}
+use Rattle.std.proofs.Common.{◌≡◌, ℕ, ◌<◌, ◌≤◌, List, [], Option, Some, None, Result, Err, length, sym, ◌∙◌, ap}
 use Rattle.ax_model.specs.Blocks.{BlockTree, read_block, opaque_block}
 use Rattle.ax_model.specs.CanonicalOctets.{framed}
 use Rattle.ax_model.specs.Framing.{RawTree}
 use Rattle.ax_model.specs.Specification.{SpecTree, spec_of}
 use Rattle.ax_model.specs.declared.fault.BodyFault.{BodyFault}
-use Rattle.ax_outside.proofs.Ends.{with_end-nil}
+use Rattle.ax_outside.specs.Changes.{SinkChange}
 use Rattle.ax_stream.proofs.BlockSteps.{short_fault}
 use Rattle.ax_stream.proofs.OpaqueBlocks.{raw_framed}
+use Rattle.ax_stream.proofs.Taken.{takes_silently, takes_fault, takes_nothing}
 use Rattle.ax_stream.specs.Commands.{gives}
 use Rattle.ax_stream.specs.Made.{IsMadeOf, IsMadeRead, NothingMade, NothingMadeRead, IsWithinBody, over, tree_command}
-use Rattle.ax_stream.specs.Taking.{Takes}
+use Rattle.ax_stream.specs.Taking.{Takes, WritesOctets}
 use Rattle.ax_stream.specs.declared.making.BlockStop.{BlockStop}
 use Rattle.ax_stream.specs.declared.making.BlockStop.TheVariants as BlockStopOf
+use Rattle.ax_stream.specs.declared.work.WorkStop.{WorkStop}
 use Rattle.ax_stream.specs.declared.work.WorkStop.TheVariants.{Fault, OutOfMemory}
 
 pub read_stop : (catalogue : List SpecTree) (raw : RawTree) (spec : SpecTree) (stop : BlockStop) → spec_of raw.category catalogue ≡ Some spec → NothingMadeRead spec raw stop → NothingMade catalogue raw stop
@@ -46,20 +48,17 @@ module _ (of_read : ℕ → SpecTree → BlockTree → List ℕ) (of_opaque : �
     is = is;
   }
 
-  pub tree_taken : (raw : RawTree) (held : Option (List ℕ)) (faults : ℕ) (u : Unit) (octets laid : List ℕ) → IsMadeOf of_read of_opaque catalogue number raw octets → laid ≡ octets
-      → Takes (tree_command of_read of_opaque catalogue) number raw (record { held = held; held' = held; faults = faults; faults' = faults }) laid (Ok u)
-  tree_taken raw held faults u octets laid h is = record {
-    means = record { lines = []; is = record { block = h.block; spells = h.spells; answer = ap (gives []) (sym (is ∙ h.is)) }; wrote = sym (with_end-nil held) };
-    later = omega arith;
-    once = omega arith;
-    quiet = refl;
-  }
+  pub tree_taken : (raw : RawTree) (o : SinkChange) (held : Option (List ℕ)) (faults : ℕ) (octets laid : List ℕ) (result : Result Unit WorkStop) → IsMadeOf of_read of_opaque catalogue number raw octets → laid ≡ octets → WritesOctets o laid result
+      → Takes (tree_command of_read of_opaque catalogue) number raw o (record { held = held; held' = held; faults = faults; faults' = faults }) result
+  tree_taken raw o held faults octets laid result h is w =
+      takes_silently (tree_command of_read of_opaque catalogue) number raw o held faults laid result (record { block = h.block; spells = h.spells; answer = ap (gives []) (sym (is ∙ h.is)) }) w
 
-  pub tree_fails : (raw : RawTree) (held : Option (List ℕ)) (faults : ℕ) (f : BodyFault) (laid : List ℕ) → NothingMade catalogue raw (BlockStopOf.Fault f) → IsWithinBody (BlockStopOf.Fault f)
-      → Takes (tree_command of_read of_opaque catalogue) number raw (record { held = held; held' = held; faults = faults; faults' = faults }) laid (Err (Fault f))
-  tree_fails raw held faults f laid h short = record { means = record { fails = h; short = short; nothing = refl }; later = omega arith; once = omega arith; quiet = refl }
+  pub tree_fails : (raw : RawTree) (held shown : Option (List ℕ)) (fails flaws : ℕ) (f : BodyFault) → NothingMade catalogue raw (BlockStopOf.Fault f) → IsWithinBody (BlockStopOf.Fault f)
+      → Takes (tree_command of_read of_opaque catalogue) number raw (record { held = held; held' = held; faults = fails; faults' = fails }) (record { held = shown; held' = shown; faults = flaws; faults' = flaws }) (Err (Fault f))
+  tree_fails raw held shown fails flaws f h short = takes_fault (tree_command of_read of_opaque catalogue) number raw held shown fails flaws f h short
 
-  pub tree_memory : (raw : RawTree) (held : Option (List ℕ)) (faults : ℕ) (laid : List ℕ) → Takes (tree_command of_read of_opaque catalogue) number raw (record { held = held; held' = held; faults = faults; faults' = faults }) laid (Err OutOfMemory)
-  tree_memory raw held faults laid = record { means = refl; later = omega arith; once = omega arith; quiet = refl }
+  pub tree_memory : (raw : RawTree) (held shown : Option (List ℕ)) (fails flaws : ℕ)
+      → Takes (tree_command of_read of_opaque catalogue) number raw (record { held = held; held' = held; faults = fails; faults' = fails }) (record { held = shown; held' = shown; faults = flaws; faults' = flaws }) (Err OutOfMemory)
+  tree_memory raw held shown fails flaws = takes_nothing (tree_command of_read of_opaque catalogue) number raw held shown fails flaws
 
 pub ruleset tree_takes = (tree_taken, tree_fails, tree_memory)

@@ -1,5 +1,5 @@
 -- What holds after each block of an input, and where the run over it stops.
-use Rattle.std.proofs.Common.{◌≡◌, ℕ, ◌+◌, ◌*◌, ◌<◌, ◌≤◌, List, [], ◌∷◌, ◌++◌, Option, Some, None, length, take, refl, sym, ◌∙◌, ap, subst, arith, append_assoc, length-append, inl, inr, Result, Ok, Err}
+use Rattle.std.proofs.Common.{◌≡◌, ℕ, ◌+◌, ◌*◌, ◌<◌, ◌≤◌, List, [], ◌∷◌, ◌++◌, Option, Some, None, length, refl, sym, ◌∙◌, ap, subst, arith, append_assoc, length-append, inl, inr, Result, Ok, Err}
 use Rattle.ax_bits.specs.Bits.{AreOctets}
 use Rattle.ax_blocks.specs.Reader.{ReaderState, IsOpen, GivesBlock, FindsEnd, StopsUnfinished, OnBlock, OnEnd, OnReadFault, OnTooLong, IsAfter, block_octets, ended_by, octets_to_end}
 use Rattle.ax_blocks.specs.Taking.{IsUnfinished, OnTold, UnlessReadFault}
@@ -13,18 +13,18 @@ use Rattle.ax_model.specs.declared.fault.BodyCause.{BodyCause}
 use Rattle.ax_model.specs.declared.fault.BodyCause.TheVariants as Body
 use Rattle.ax_model.specs.declared.record.RawBlock.{RawBlock}
 use Rattle.ax_outside.proofs.Ends.{Rose-later}
-use Rattle.ax_outside.specs.Changes.{SourceChange, SinkChange, Gains, GainsNothing, GainsPart}
+use Rattle.ax_outside.specs.Changes.{SourceChange, SinkChange, Gains}
 use Rattle.ax_outside.specs.Told.{with_front, with_end, IsAtEnd, Rose}
 use Rattle.ax_stream.proofs.Results.{output_snoc, report_snoc, given_snoc, both, gains_both, gains_on, gains_part, gains_none}
 use Rattle.ax_stream.proofs.Streams.{raws_snoc, spell_snoc, spell_count, stream_snoc, length_snoc, framed_count, raw_spells_block, octets_after}
 use Rattle.ax_stream.specs.Commands.{BlockCommand, gives, lines_in, octets_in, report_of, output_of, IsGiven}
 use Rattle.ax_stream.specs.Ending.{cause_of, refused_at, framing_end, error_end, stop_end}
 use Rattle.ax_stream.specs.Streams.{BeginsWith, ThenBlock, EndsWithInput, AtBlock, IsLeft, RefusesBlock, in_body, by_length, ToldRun, reading, writing, reporting, for_memory, StreamRuns, IsCaused, IsLicensed, CountsOnly, Reports, HasCause}
-use Rattle.ax_stream.specs.Taking.{GivesFor, IsTooLongFor, IsCutFor, StopsFor, UnlessReportFault, Takes}
+use Rattle.ax_stream.specs.Taking.{GivesFor, IsTooLongFor, IsCutFor, IsCutAfterLines, GainNothing, StopsFor, UnlessReportFault, UnlessWriteFault, Takes}
 use Rattle.ax_stream.specs.declared.end.StreamEnd.{StreamEnd}
 use Rattle.ax_stream.specs.declared.end.StreamEnd.TheVariants as EndOf
 use Rattle.ax_stream.specs.declared.work.WorkStop.{WorkStop}
-use Rattle.ax_stream.specs.declared.work.WorkStop.TheVariants.{Fault, TooLong, ReportFault, OutOfMemory}
+use Rattle.ax_stream.specs.declared.work.WorkStop.TheVariants.{Fault, TooLong, WriteFault, ReportFault, OutOfMemory}
 
 -- the input began with whole blocks, `given` octets of them, whose results were written
 pub record SoFar (c : BlockCommand) (limit : ℕ) (input : List ℕ) (left : Option (List ℕ)) (o r : SinkChange) (given count : ℕ) : Type 0 where
@@ -170,39 +170,38 @@ module _ (c : BlockCommand) (limit : ℕ) (input : List ℕ) (left left' : Optio
 
   -- ---- and no more
 
-  pub stops_for_memory : (q : SinkChange) → q.held ≡ r.held' → GainsNothing q → ToldRun c limit input left' o (both r q) EndOf.OutOfMemory
-  stops_for_memory q shows nothing = inr (for_memory refl (record {
+  pub stops_for_memory : (p q : SinkChange) → p.held ≡ o.held' → q.held ≡ r.held' → GainNothing p q → ToldRun c limit input left' (both o p) (both r q) EndOf.OutOfMemory
+  stops_for_memory p q joins shows nothing = inr (for_memory refl (record {
     blocks = s.blocks;
     octets = s.octets;
     front = g.octets;
     rest = after_block.after;
     stands = record {
       begins = record { split = s.begins.split ∙ ap (λ x. s.octets ++ x) after_block.split; within = s.begins.within; spelled = s.begins.spelled; given = s.begins.given };
-      out = s.out;
-      report = gains_on r q (report_of c 0 s.blocks) shows s.report nothing;
+      out = gains_on o p (output_of c 0 s.blocks) joins s.out nothing.out;
+      report = gains_on r q (report_of c 0 s.blocks) shows s.report nothing.report;
     };
     next = inr (record { raw = raw; framed = g.framed; some = is_some; within = fits });
     left = after_block.left;
   }))
 
-  pub stops_writing : (lines laid : List ℕ) (p q : SinkChange) → GivesFor c count raw lines laid → p.held ≡ o.held' → GainsPart p laid → q.held ≡ r.held' → Gains q lines
-      → ToldRun c limit input left' (both o p) (both r q) EndOf.WriteFault
-  stops_writing lines laid p q f joins part shows said = inr (writing refl (record {
-    blocks = s.blocks;
-    lines = lines;
-    laid = laid;
-    at = at_block f.block lines laid f.spells f.answer;
-    out = gains_part o p (output_of c 0 s.blocks) laid joins s.out part;
-    report = gains_both r q (report_of c 0 s.blocks) lines shows s.report said;
-  }))
-
-  pub stops_reporting : (q : SinkChange) → q.held ≡ r.held' → IsCutFor c count raw q → ToldRun c limit input left' o (both r q) EndOf.ReportFault
-  stops_reporting q shows f = inr (reporting refl (record {
+  pub stops_writing : (p q : SinkChange) → p.held ≡ o.held' → q.held ≡ r.held' → IsCutAfterLines c count raw p q → ToldRun c limit input left' (both o p) (both r q) EndOf.WriteFault
+  stops_writing p q joins shows f = inr (writing refl (record {
     blocks = s.blocks;
     lines = f.lines;
     laid = f.octets;
     at = at_block f.is.block f.lines f.octets f.is.spells f.is.answer;
-    out = s.out;
+    out = gains_part o p (output_of c 0 s.blocks) f.octets joins s.out f.part;
+    report = gains_both r q (report_of c 0 s.blocks) f.lines shows s.report f.said;
+  }))
+
+  pub stops_reporting : (p q : SinkChange) → p.held ≡ o.held' → q.held ≡ r.held' → IsCutFor c count raw p q → ToldRun c limit input left' (both o p) (both r q) EndOf.ReportFault
+  stops_reporting p q joins shows f = inr (reporting refl (record {
+    blocks = s.blocks;
+    lines = f.lines;
+    laid = f.octets;
+    at = at_block f.is.block f.lines f.octets f.is.spells f.is.answer;
+    out = gains_on o p (output_of c 0 s.blocks) joins s.out f.nothing;
     report = gains_part r q (report_of c 0 s.blocks) f.lines shows s.report f.part;
   }))
 
@@ -219,8 +218,8 @@ module _ (c : BlockCommand) (limit : ℕ) (input : List ℕ) (left left' : Optio
     is = is;
   })
 
-  pub answers_too_long : (n : ℕ) (q : SinkChange) → q.held ≡ r.held' → IsTooLongFor c count raw q n → ToldRun c limit input left' o (both r q) (EndOf.TooLong count n)
-  answers_too_long n q shows f = inl (record {
+  pub answers_too_long : (n : ℕ) (p q : SinkChange) → p.held ≡ o.held' → q.held ≡ r.held' → IsTooLongFor c count raw p q n → ToldRun c limit input left' (both o p) (both r q) (EndOf.TooLong count n)
+  answers_too_long n p q joins shows f = inl (record {
     blocks = s.blocks;
     answers = inr (record {
       octets = s.octets;
@@ -234,36 +233,37 @@ module _ (c : BlockCommand) (limit : ℕ) (input : List ℕ) (left left' : Optio
       answer = ap (λ m. c.answer m f.block) (sym s.counted) ∙ f.answer;
       is = ap (λ m. EndOf.TooLong m n) s.counted;
     });
-    out = s.out;
-    report = gains_on r q (report_of c 0 s.blocks) shows s.report f.nothing;
+    out = gains_on o p (output_of c 0 s.blocks) joins s.out f.nothing.out;
+    report = gains_on r q (report_of c 0 s.blocks) shows s.report f.nothing.report;
     read = λ m e. absurd (cc);
     left = left_by_block (EndOf.TooLong count n) (by_length n (ap (λ m. EndOf.TooLong m n) s.counted));
   })
 
-  pub answers_fault : (p : ℕ) (cause : BodyCause) (q : SinkChange) → AreOctets input → q.held ≡ r.held' → GainsNothing q → RawFails c.catalogue raw p cause
-      → ToldRun c limit input left' o (both r q) (refused_at (cause_of cause) count (24 + p))
-  answers_fault p cause q are shows nothing f =
+  pub answers_fault : (bit : ℕ) (cause : BodyCause) (p q : SinkChange) → AreOctets input → p.held ≡ o.held' → q.held ≡ r.held' → GainNothing p q → RawFails c.catalogue raw bit cause
+      → ToldRun c limit input left' (both o p) (both r q) (refused_at (cause_of cause) count (24 + bit))
+  answers_fault bit cause p q are joins shows nothing f =
       let whole_split : input ≡ (s.octets ++ g.octets) ++ after_block.after = s.begins.split ∙ ap (λ x. s.octets ++ x) after_block.split ∙ sym (append_assoc s.octets g.octets after_block.after) in
       inl (record {
         blocks = s.blocks;
         answers = inl (record {
-          end = by_body (length s.raws) (24 + p) cause;
-          ends = subst (λ x. Ends c.catalogue x limit s.blocks (by_body (length s.raws) (24 + p) cause)) (sym whole_split)
-              (ends_by_body c.catalogue limit s.raws raw s.blocks s.octets g.octets after_block.after p cause s.framed s.spelled g.framed is_some fits (octets_after (s.octets ++ g.octets) after_block.after (subst AreOctets whole_split are)) f);
+          end = by_body (length s.raws) (24 + bit) cause;
+          ends = subst (λ x. Ends c.catalogue x limit s.blocks (by_body (length s.raws) (24 + bit) cause)) (sym whole_split)
+              (ends_by_body c.catalogue limit s.raws raw s.blocks s.octets g.octets after_block.after bit cause s.framed s.spelled g.framed is_some fits (octets_after (s.octets ++ g.octets) after_block.after (subst AreOctets whole_split are)) f);
           given = s.begins.given;
-          is = ap (λ n. refused_at (cause_of cause) n (24 + p)) (s.counted ∙ sym (spell_count c.catalogue s.raws s.blocks s.spelled));
+          is = ap (λ n. refused_at (cause_of cause) n (24 + bit)) (s.counted ∙ sym (spell_count c.catalogue s.raws s.blocks s.spelled));
         });
-        out = s.out;
-        report = gains_on r q (report_of c 0 s.blocks) shows s.report nothing;
+        out = gains_on o p (output_of c 0 s.blocks) joins s.out nothing.out;
+        report = gains_on r q (report_of c 0 s.blocks) shows s.report nothing.report;
         read = λ m e. absurd (cc);
-        left = left_by_block (refused_at (cause_of cause) count (24 + p)) (in_body p cause (ap (λ m. refused_at (cause_of cause) m (24 + p)) s.counted));
+        left = left_by_block (refused_at (cause_of cause) count (24 + bit)) (in_body bit cause (ap (λ m. refused_at (cause_of cause) m (24 + bit)) s.counted));
       })
 
-  pub takes_no_more : (q : SinkChange) (stop : WorkStop) → AreOctets input → q.held ≡ r.held' → StopsFor c count raw q stop → ToldRun c limit input left' o (both r q) (stop_end count stop)
-  takes_no_more q (Fault f) are shows h = answers_fault f.bit f.cause q are shows h.nothing h.fails
-  takes_no_more q (TooLong n) are shows h = answers_too_long n q shows h
-  takes_no_more q ReportFault are shows h = stops_reporting q shows h
-  takes_no_more q OutOfMemory are shows h = stops_for_memory q shows h
+  pub takes_no_more : (p q : SinkChange) (stop : WorkStop) → AreOctets input → p.held ≡ o.held' → q.held ≡ r.held' → StopsFor c count raw p q stop → ToldRun c limit input left' (both o p) (both r q) (stop_end count stop)
+  takes_no_more p q (Fault f) are joins shows h = answers_fault f.bit f.cause p q are joins shows h.nothing h.fails
+  takes_no_more p q (TooLong n) are joins shows h = answers_too_long n p q joins shows h
+  takes_no_more p q WriteFault are joins shows h = stops_writing p q joins shows h
+  takes_no_more p q ReportFault are joins shows h = stops_reporting p q joins shows h
+  takes_no_more p q OutOfMemory are joins shows h = stops_for_memory p q joins shows h
 
 -- ---- no block more
 
@@ -347,15 +347,17 @@ error_licensed c count (EndsInBlock bit) = tt
 error_licensed c count InputTooLong = tt
 error_licensed c count ReadFault = tt
 
-stop_caused : (limit number count : ℕ) (c : BlockCommand) (raw : RawTree) (i : SourceChange) (o r q : SinkChange) (stop : WorkStop) → r.faults ≤ q.faults → StopsFor c number raw q stop → IsCaused limit i o (both r q) (stop_end count stop)
-stop_caused limit number count c raw i o r q (Fault f) le h = tt
-stop_caused limit number count c raw i o r q (TooLong n) le h = tt
-stop_caused limit number count c raw i o r q ReportFault le h = Rose-later le h.part.rose
-stop_caused limit number count c raw i o r q OutOfMemory le h = tt
+stop_caused : (limit number count : ℕ) (c : BlockCommand) (raw : RawTree) (i : SourceChange) (o r p q : SinkChange) (stop : WorkStop) → o.faults ≤ p.faults → r.faults ≤ q.faults → StopsFor c number raw p q stop
+    → IsCaused limit i (both o p) (both r q) (stop_end count stop)
+stop_caused limit number count c raw i o r p q (Fault f) l m h = tt
+stop_caused limit number count c raw i o r p q (TooLong n) l m h = tt
+stop_caused limit number count c raw i o r p q WriteFault l m h = Rose-later l h.part.rose
+stop_caused limit number count c raw i o r p q ReportFault l m h = Rose-later m h.part.rose
+stop_caused limit number count c raw i o r p q OutOfMemory l m h = tt
 
 -- a line that failed has an octet
-reports : (c : BlockCommand) (number : ℕ) (raw : RawTree) (q : SinkChange) → IsCutFor c number raw q → Reports c
-reports c number raw q h =
+reports : (c : BlockCommand) (number : ℕ) (raw : RawTree) (p q : SinkChange) → IsCutFor c number raw p q → Reports c
+reports c number raw p q h =
     let within : h.part.count < length h.lines = h.part.within in
     record { number = number; block = h.is.block; lines = h.lines; octets = h.octets; answer = h.is.answer; some = omega arith }
 
@@ -366,11 +368,12 @@ has_cause c raw p Body.PresenceTooLong h = record { raw = raw; place = p; fails 
 has_cause c raw p Body.ExtensionPastEnd h = record { raw = raw; place = p; fails = h }
 has_cause c raw p Body.BadExplicitLength h = record { raw = raw; place = p; fails = h }
 
-stop_licensed : (c : BlockCommand) (number : ℕ) (raw : RawTree) (q : SinkChange) (stop : WorkStop) → StopsFor c number raw q stop → IsLicensed c (stop_end number stop)
-stop_licensed c number raw q (Fault f) h = has_cause c raw f.bit f.cause h.fails
-stop_licensed c number raw q (TooLong n) h = record { block = h.block; answer = h.answer }
-stop_licensed c number raw q ReportFault h = reports c number raw q h
-stop_licensed c number raw q OutOfMemory h = tt
+stop_licensed : (c : BlockCommand) (number : ℕ) (raw : RawTree) (p q : SinkChange) (stop : WorkStop) → StopsFor c number raw p q stop → IsLicensed c (stop_end number stop)
+stop_licensed c number raw p q (Fault f) h = has_cause c raw f.bit f.cause h.fails
+stop_licensed c number raw p q (TooLong n) h = record { block = h.block; answer = h.answer }
+stop_licensed c number raw p q WriteFault h = tt
+stop_licensed c number raw p q ReportFault h = reports c number raw p q h
+stop_licensed c number raw p q OutOfMemory h = tt
 
 -- what was counted where the reader stops, and where the work stops
 counts_error : (count mid : ℕ) (i : SourceChange) (o r : SinkChange) (e : NextError) → mid ≡ i.faults → i.faults' ≤ mid + 1 → UnlessReadFault {A = Option RawBlock} (Err e) (i.faults' ≡ mid)
@@ -381,12 +384,13 @@ counts_error count mid i o r (EndsInBlock bit) same once quiet out report = (qui
 counts_error count mid i o r InputTooLong same once quiet out report = (quiet ∙ same, out, report)
 counts_error count mid i o r ReadFault same once quiet out report = (omega (arith, same, once), out, report)
 
-counts_stop : (count : ℕ) (i : SourceChange) (o r q : SinkChange) (stop : WorkStop) → i.faults' ≡ i.faults → o.faults' ≡ o.faults → q.faults ≡ r.faults → q.faults' ≤ q.faults + 1
-    → UnlessReportFault (Err stop) (q.faults' ≡ q.faults) → CountsOnly i o (both r q) (stop_end count stop)
-counts_stop count i o r q (Fault f) source out same once quiet = (source, out, quiet ∙ same)
-counts_stop count i o r q (TooLong n) source out same once quiet = (source, out, quiet ∙ same)
-counts_stop count i o r q ReportFault source out same once quiet = (source, out, omega (arith, same, once))
-counts_stop count i o r q OutOfMemory source out same once quiet = (source, out, quiet ∙ same)
+counts_stop : (count : ℕ) (i : SourceChange) (o r p q : SinkChange) (stop : WorkStop) → i.faults' ≡ i.faults → p.faults ≡ o.faults → q.faults ≡ r.faults → p.faults' ≤ p.faults + 1 → q.faults' ≤ q.faults + 1
+    → UnlessWriteFault (Err stop) (p.faults' ≡ p.faults) → UnlessReportFault (Err stop) (q.faults' ≡ q.faults) → CountsOnly i (both o p) (both r q) (stop_end count stop)
+counts_stop count i o r p q (Fault f) source out report wrote said unwritten unsaid = (source, unwritten ∙ out, unsaid ∙ report)
+counts_stop count i o r p q (TooLong n) source out report wrote said unwritten unsaid = (source, unwritten ∙ out, unsaid ∙ report)
+counts_stop count i o r p q WriteFault source out report wrote said unwritten unsaid = (source, omega (arith, out, wrote), unsaid ∙ report)
+counts_stop count i o r p q ReportFault source out report wrote said unwritten unsaid = (source, unwritten ∙ out, omega (arith, report, said))
+counts_stop count i o r p q OutOfMemory source out report wrote said unwritten unsaid = (source, unwritten ∙ out, unsaid ∙ report)
 
 -- a sink, one call further
 abbrev pub step : SinkChange → Option (List ℕ) → ℕ → SinkChange
@@ -436,57 +440,39 @@ module _ (c : BlockCommand) (limit : ℕ) (i : SourceChange) (o r : SinkChange) 
     fault_rose InputTooLong h = h
     fault_rose ReadFault h = Rose-later run.source_later h
 
-  -- the work stops
-  pub run_stopped : (raw : RawTree) (stop : WorkStop) (laid : List ℕ) (held : Option (List ℕ)) (faults : ℕ) → f' ≡ i.faults' → GivesBlock reader.limit reader.given i.left' next i.taken' t' raw
-      → Takes now count raw (step r held faults) laid (Err stop) → StreamRuns c limit further o (both r (step r held faults)) (stop_end count stop)
-  run_stopped raw stop laid held faults still g t =
-      let s : Takes c count raw (step r held faults) laid (Err stop) = subst (λ n. Takes n count raw (step r held faults) laid (Err stop)) run.same t in
-      let a : r.faults ≤ r.faults' = run.report_later in
-      let b : r.faults' ≤ faults = s.later in
-      record {
-        told = λ input are l. takes_no_more c limit input i.left' next o r reader.given count i.taken' t' raw (run.told input are l) (gives_block raw g) (step r held faults) stop are refl s.means;
-        caused = stop_caused limit count count c raw further o r (step r held faults) stop run.report_later s.means;
-        licensed = stop_licensed c count raw (step r held faults) stop s.means;
-        counts = counts_stop count further o r (step r held faults) stop (still ∙ run.source_quiet) run.out_quiet run.report_quiet s.once s.quiet;
-        source_later = still_later;
-        out_later = run.out_later;
-        report_later = omega arith;
-      }
-
-  -- the block is taken, and its octets are written or not
-  module _ (raw : RawTree) (u : Unit) (laid piece : List ℕ) (shown held : Option (List ℕ)) (flaws fails : ℕ) (g : GivesBlock reader.limit reader.given i.left' next i.taken' t' raw)
-      (t : Takes now count raw (step r shown flaws) laid (Ok u)) (is : piece ≡ laid) (wrote : o.faults' ≤ fails) (still : f' ≡ i.faults') where
-    taken : Takes c count raw (step r shown flaws) laid (Ok u)
-    taken = subst (λ n. Takes n count raw (step r shown flaws) laid (Ok u)) run.same t
-
-    report_still_later : r.faults ≤ flaws
-    report_still_later = let a : r.faults ≤ r.faults' = run.report_later in let b : r.faults' ≤ flaws = taken.later in omega arith
-
-    out_still_later : o.faults ≤ fails
-    out_still_later = let a : o.faults ≤ o.faults' = run.out_later in omega arith
-
-    pub run_cut : (n : ℕ) × (n < length piece) × (held ≡ with_end o.held' (take n piece)) → Rose o.faults' fails → fails ≤ o.faults' + 1 → StreamRuns c limit further (both o (step o held fails)) (both r (step r shown flaws)) EndOf.WriteFault
-    run_cut (n, less, added) rose once =
-        let size : length piece ≡ length laid = ap length is in
+  module _ (raw : RawTree) (held shown : Option (List ℕ)) (fails flaws : ℕ) (still : f' ≡ i.faults') (g : GivesBlock reader.limit reader.given i.left' next i.taken' t' raw) where
+    -- the work stops
+    pub run_stopped : (stop : WorkStop) → Takes now count raw (step o held fails) (step r shown flaws) (Err stop) → StreamRuns c limit further (both o (step o held fails)) (both r (step r shown flaws)) (stop_end count stop)
+    run_stopped stop t =
+        let s : Takes c count raw (step o held fails) (step r shown flaws) (Err stop) = subst (λ n. Takes n count raw (step o held fails) (step r shown flaws) (Err stop)) run.same t in
+        let a : o.faults ≤ o.faults' = run.out_later in
+        let b : o.faults' ≤ fails = s.out_later in
+        let d : r.faults ≤ r.faults' = run.report_later in
+        let e : r.faults' ≤ flaws = s.report_later in
         record {
-          told = λ input are l. stops_writing c limit input i.left' next o r reader.given count i.taken' t' raw (run.told input are l) (gives_block raw g) taken.means.lines laid (step o held fails) (step r shown flaws)
-              taken.means.is refl (record { count = n; within = omega arith; gained = added ∙ ap (λ x. with_end o.held' (take n x)) is; rose = rose }) refl taken.means.wrote;
-          caused = Rose-later run.out_later rose;
-          licensed = tt;
-          counts = (still ∙ run.source_quiet, omega (arith, run.out_quiet, once), taken.quiet ∙ run.report_quiet);
+          told = λ input are l. takes_no_more c limit input i.left' next o r reader.given count i.taken' t' raw (run.told input are l) (gives_block raw g) (step o held fails) (step r shown flaws) stop are refl refl s.means;
+          caused = stop_caused limit count count c raw further o r (step o held fails) (step r shown flaws) stop run.out_later run.report_later s.means;
+          licensed = stop_licensed c count raw (step o held fails) (step r shown flaws) stop s.means;
+          counts = counts_stop count further o r (step o held fails) (step r shown flaws) stop (still ∙ run.source_quiet) run.out_quiet run.report_quiet s.out_once s.report_once s.out_quiet s.report_quiet;
           source_later = still_later;
-          out_later = out_still_later;
-          report_later = report_still_later;
+          out_later = omega arith;
+          report_later = omega arith;
         }
 
-    pub run_on : (now' : BlockCommand) (reader' : ReaderState) (Still : Type 0) → Still → fails ≡ o.faults' → held ≡ with_end o.held' piece → now' ≡ now → reader'.limit ≡ reader.limit → reader'.given ≡ reader.given + (3 + length raw.body) → reader'.given ≤ reader'.limit → IsOpen reader'
-        → Running c limit further (both o (step o held fails)) (both r (step r shown flaws)) now' reader' (count + 1) Still
-    run_on now' reader' Still sound' unfailed added kept same counts fits opened =
+    -- the block is taken
+    pub run_on : (u : Unit) (now' : BlockCommand) (reader' : ReaderState) (Still : Type 0) → Takes now count raw (step o held fails) (step r shown flaws) (Ok u) → Still → now' ≡ now → reader'.limit ≡ reader.limit → reader'.given ≡ reader.given + (3 + length raw.body)
+        → reader'.given ≤ reader'.limit → IsOpen reader' → Running c limit further (both o (step o held fails)) (both r (step r shown flaws)) now' reader' (count + 1) Still
+    run_on u now' reader' Still t sound' kept same counts fits opened =
+        let s : Takes c count raw (step o held fails) (step r shown flaws) (Ok u) = subst (λ n. Takes n count raw (step o held fails) (step r shown flaws) (Ok u)) run.same t in
         let size : length g.octets ≡ 3 + length raw.body = framed_count raw.category raw.body g.octets g.framed in
         let q : t' ≡ i.taken' + length g.octets = g.took.counted in
         let k : i.taken' ≡ i.taken + reader.given = run.took in
         let lim : reader.limit ≡ limit = run.limit_is in
         let few : 3 * count ≤ reader.given = run.few in
+        let a : o.faults ≤ o.faults' = run.out_later in
+        let b : o.faults' ≤ fails = s.out_later in
+        let d : r.faults ≤ r.faults' = run.report_later in
+        let e : r.faults' ≤ flaws = s.report_later in
         record {
           same = kept ∙ run.same;
           sound = sound';
@@ -496,14 +482,14 @@ module _ (c : BlockCommand) (limit : ℕ) (i : SourceChange) (o r : SinkChange) 
           few = omega arith;
           took = omega arith;
           source_later = still_later;
-          out_later = out_still_later;
-          report_later = report_still_later;
+          out_later = omega arith;
+          report_later = omega arith;
           source_quiet = still ∙ run.source_quiet;
-          out_quiet = unfailed ∙ run.out_quiet;
-          report_quiet = taken.quiet ∙ run.report_quiet;
+          out_quiet = s.out_quiet ∙ run.out_quiet;
+          report_quiet = s.report_quiet ∙ run.report_quiet;
           told = λ input are l. (let P : ℕ → Type 0 = λ n. SoFar c limit input next (both o (step o held fails)) (both r (step r shown flaws)) n (count + 1) in
-              subst P (sym counts) (one_block_more c limit input i.left' next o r reader.given count i.taken' t' raw (run.told input are l) (gives_block raw g) taken.means.lines laid (step o held fails) (step r shown flaws)
-              taken.means.is refl (added ∙ ap (with_end o.held') is) refl taken.means.wrote));
+              subst P (sym counts) (one_block_more c limit input i.left' next o r reader.given count i.taken' t' raw (run.told input are l) (gives_block raw g) s.means.lines s.means.octets (step o held fails) (step r shown flaws)
+              s.means.is refl s.means.wrote refl s.means.said));
         }
 
 -- ---- answers of the reader

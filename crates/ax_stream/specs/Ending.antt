@@ -10,7 +10,7 @@ use Rattle.ax_blocks.specs.declared.next_error.NextError.{NextError}
 use Rattle.ax_blocks.specs.declared.next_error.NextError.TheVariants as NextErrorOf
 use Rattle.ax_stream.specs.declared.end.InputFault.{InputFault}
 use Rattle.ax_stream.specs.declared.end.StreamEnd.{StreamEnd}
-use Rattle.ax_stream.specs.declared.end.StreamEnd.TheVariants.{Done, Refused, InputTooLong, TooLong, ReadFault, ReportFault, OutOfMemory}
+use Rattle.ax_stream.specs.declared.end.StreamEnd.TheVariants.{Done, Refused, InputTooLong, TooLong, ReadFault, WriteFault, ReportFault, OutOfMemory}
 use Rattle.ax_stream.specs.declared.work.WorkStop.{WorkStop}
 use Rattle.ax_stream.specs.declared.work.WorkStop.TheVariants as WorkStopOf
 
@@ -56,6 +56,7 @@ error_end blocks NextErrorOf.ReadFault = ReadFault
 abbrev pub stop_end : ℕ → WorkStop → StreamEnd
 stop_end blocks (WorkStopOf.Fault f) = Refused (body_fault blocks f.bit f.cause)
 stop_end blocks (WorkStopOf.TooLong octets) = TooLong blocks octets
+stop_end blocks WorkStopOf.WriteFault = WriteFault
 stop_end blocks WorkStopOf.ReportFault = ReportFault
 stop_end blocks WorkStopOf.OutOfMemory = OutOfMemory
 
@@ -63,5 +64,6 @@ stop_end blocks WorkStopOf.OutOfMemory = OutOfMemory
 abbrev pub IsShort : WorkStop → Type 0
 IsShort (WorkStopOf.Fault f) = f.bit ≤ 524256
 IsShort (WorkStopOf.TooLong octets) = Unit {0}
+IsShort WorkStopOf.WriteFault = Unit {0}
 IsShort WorkStopOf.ReportFault = Unit {0}
 IsShort WorkStopOf.OutOfMemory = Unit {0}

@@ -60,7 +60,7 @@ pub enum StreamEnd {
     Refused { fault: InputFault },
     /// The input has more octets than the limit.
     InputTooLong,
-    /// The result of that block has more octets than a block can have.
+    /// A record of that block makes a data block of so many octets, more than one can have.
     TooLong { block: u64, octets: u32 },
     /// The input could not be read.
     ReadFault,
@@ -108,7 +108,7 @@ fn input_cause(cause: BodyCause) -> Cause
     }
 }
 
-/// The end for a block that isn't written, after this many.
+/// The end for a block that isn't written whole, after this many.
 pub fn work_end(stop: WorkStop, blocks: u64) -> StreamEnd
     requires { IsShort stop }
     ensures { result ≡ stop_end blocks stop }
@@ -121,6 +121,7 @@ pub fn work_end(stop: WorkStop, blocks: u64) -> StreamEnd
             block: blocks,
             octets,
         },
+        WorkStop::WriteFault => StreamEnd::WriteFault,
         WorkStop::ReportFault => StreamEnd::ReportFault,
         WorkStop::OutOfMemory => StreamEnd::OutOfMemory,
     }

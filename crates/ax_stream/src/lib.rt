@@ -15,4 +15,4 @@ pub use laws::canon_writes_canonical_octets;
 pub use line::write_fault_line;
 pub use making::BlockStop;
 pub use stream::run_blocks;
-pub use work::{BlockWork, WorkStop};
+pub use work::{BlockWork, WorkStop, write_piece};

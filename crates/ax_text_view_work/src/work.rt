@@ -7,7 +7,7 @@ use crate::tables::{Tables, tables_of};
 use ax_check::Catalogue;
 use ax_model::RawBlock;
 use ax_outside::Sink;
-use ax_stream::{BlockWork, WorkStop};
+use ax_stream::{BlockWork, WorkStop, write_piece};
 use ax_text_views::{Line, print_block, print_opaque};
 use ax_values::DecodeError;
 use std::alloc::{AllocError, Global};
@@ -44,33 +44,28 @@ impl<'c> BlockWork for TextViews<'c> {
 
     ghost sound = { λ s. s.tables ≡ s.catalogue.now };
 
-    ghost laid = { λ s. s.line };
-
     ghost remembers = { λ first s raws. Unit {0} };
 
     ghost takes_memory = { true };
 
     #[tactic(auto, using(crate::proofs::TextBlocks::text_takes))]
-    fn take<R: Sink>(
+    fn take<R: Sink, K: Sink>(
         &mut self,
         _number: u64,
         raw: &RawBlock<'_>,
         _report: &mut R,
+        out: &mut K,
     ) -> Result<(), WorkStop> {
         match self.tables.get(raw.category) {
             Some(table) => match print_block(&mut self.line, &table.items, &table.mask, raw) {
-                Ok(()) => Ok(()),
+                Ok(()) => write_piece(out, self.line.octets()),
                 Err(DecodeError::Fault(fault)) => Err(WorkStop::Fault(fault)),
                 Err(DecodeError::OutOfMemory) => Err(WorkStop::OutOfMemory),
             },
             None => match print_opaque(&mut self.line, raw) {
-                Ok(()) => Ok(()),
+                Ok(()) => write_piece(out, self.line.octets()),
                 Err(_) => Err(WorkStop::OutOfMemory),
             },
         }
-    }
-
-    fn octets(&self) -> &[u8] {
-        self.line.octets()
     }
 }

@@ -1,5 +1,5 @@
 //! `canon` over views.
-ghost use Rattle.std.specs.Prelude.{◌≡◌, ◌≤◌, length, IfOk};
+ghost use Rattle.std.specs.Prelude.{◌≡◌, length, IfOk};
 ghost use Rattle.ax_model.specs.Plain.{catalogue_tree};
 ghost use Rattle.ax_model.specs.Sizes.{longest_block};
 ghost use Rattle.ax_stream.specs.BlockCommands.{canon_command};
@@ -9,7 +9,7 @@ use crate::output::{blank_output, lay_canonical, lay_opaque};
 use ax_check::Catalogue;
 use ax_model::RawBlock;
 use ax_outside::Sink;
-use ax_stream::{BlockWork, WorkStop};
+use ax_stream::{BlockWork, WorkStop, write_piece};
 use ax_tables::Codecs;
 use std::alloc::{AllocError, Global};
 
@@ -21,9 +21,7 @@ pub struct CanonViews<'c> {
     catalogue: &'c Catalogue,
     codecs: &'c Codecs,
     output: Vec<u8>,
-    filled: u32,
     ghost room: { length output.items ≡ longest_block },
-    ghost within: { filled ≤ longest_block },
 }
 
 impl<'c> CanonViews<'c> {
@@ -42,47 +40,38 @@ impl<'c> CanonViews<'c> {
             catalogue,
             codecs,
             output,
-            filled: 0,
         })
     }
 }
 
 impl<'c> BlockWork for CanonViews<'c> {
-    ghost use Rattle.std.specs.Prelude.{take, false};
+    ghost use Rattle.std.specs.Prelude.{false};
 
     ghost command = { λ s. canon_command (catalogue_tree s.catalogue.now) };
 
     ghost sound = { λ s. StandForEach s.codecs.now.codecs (catalogue_tree s.catalogue.now) };
-
-    ghost laid = { λ s. take s.filled s.output.items };
 
     ghost remembers = { λ first s raws. Unit {0} };
 
     ghost takes_memory = { false };
 
     #[tactic(auto, using(crate::proofs::CanonBlocks::canon_takes))]
-    fn take<R: Sink>(
+    fn take<R: Sink, K: Sink>(
         &mut self,
         _number: u64,
         raw: &RawBlock<'_>,
         _report: &mut R,
+        out: &mut K,
     ) -> Result<(), WorkStop> {
         match self.codecs.get(raw.category) {
             Some(codec) => match lay_canonical(codec, raw.body, &mut self.output) {
-                Ok(count) => {
-                    self.filled = count;
-                    Ok(())
-                }
+                Ok(count) => write_piece(out, &self.output[..count as usize]),
                 Err(fault) => Err(WorkStop::Fault(fault)),
             },
             None => {
-                self.filled = lay_opaque(raw, &mut self.output);
-                Ok(())
+                let count = lay_opaque(raw, &mut self.output);
+                write_piece(out, &self.output[..count as usize])
             }
         }
-    }
-
-    fn octets(&self) -> &[u8] {
-        &self.output[..self.filled as usize]
     }
 }

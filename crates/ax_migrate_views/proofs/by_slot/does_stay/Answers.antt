@@ -1,10 +1,8 @@
-use Rattle.std.proofs.Common.{◌-◌, get_or, ap, arith, refl, subst, sym, ◌∙◌}
+use Rattle.std.proofs.Common.{◌-◌, get_or, ap, arith, refl, ◌∙◌}
 use Rattle.ax_relation.specs.PlainMoves.{move_tree, moves_tree}
-use Rattle.ax_relation.specs.declared.moves.Move.{Move, out-Move}
 use Rattle.ax_migrate_views.proofs.MovesBySlot.{copied_by, found_from, move_there, move_within}
 use Rattle.ax_migrate_views.proofs.Slots.{table_kind}
 use Rattle.ax_migrate_views.specs.BySlot.{found_canon}
-use Rattle.ax_migrate_views.specs.Keeping.{MovesWhole}
 use Rattle.ax_migrate_views.specs.Wholes.{slots_in}
 use Rattle.ax_model.specs.Canonical.{canon}
 use Rattle.ax_tables.specs.Table.{kind_at, record_kind_at}
@@ -27,6 +25,6 @@ returns-then-link-gt0 c sure es octets some bounds one there =
     let move = c.index-moves-place.result in
     let ss = slots_in (record_kind_at ns links) in
     let found = move_there c.args.moves.now c.args.places.now slot _ c.requires.places c.requires.slot refl (omega (arith, c.if-place-eq0.false)) move c.index-moves-place.is in
-    let keeps = subst (λ (m : Move). MovesWhole ns link (moves_tree (out-Move m).below)) (sym c.index-moves-place.is) (c.keeps.ensures sure) in
+    let keeps = c.keeps.ensures sure in
     ap (λ o. found_canon o ss es) found
     ∙ copied_by slot move ss es k (value_in k octets) (canon k (value_in k octets)) (found_from slot (moves_tree c.args.moves.now) (move_tree move) found) (table_kind ns links (slot - 1) link refl some) there (keeps octets bounds one)

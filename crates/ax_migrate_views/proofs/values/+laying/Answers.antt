@@ -1,15 +1,20 @@
-use Rattle.std.proofs.Common.{rules, ◌++◌, arith, ap, sym, subst, refl, length, get_or, ◌∙◌, option_map}
+use Rattle.std.proofs.Common.{rules, ◌≡◌, List, ◌++◌, arith, ap, sym, subst, refl, length, get_or, ◌∙◌, option_map}
 use Rattle.ax_bits.specs.Bits.{bits}
 use Rattle.ax_relation.specs.PlainMoves.{move_tree, moves_tree}
 use Rattle.ax_fspec.specs.Fields.{least_field}
-use Rattle.ax_migrate_views.proofs.Entries.{none_laid, one_laid, all_laid, nothing_moves, nothing_laid, compound_there, leaf_canon_by}
+use Rattle.ax_migrate_views.proofs.Entries.{none_laid, one_laid, all_laid, nothing_moves, nothing_laid, compound_there}
+use Rattle.ax_migrate_views.proofs.ItemParts.{front_stays, octets_some}
+use Rattle.ax_migrate_views.proofs.KeepingSteps.{leaf_canon_by}
 use Rattle.ax_migrate_views.proofs.LaidBits.{lays_more}
 use Rattle.ax_migrate_views.proofs.Slots.{placed_by, compound_node}
 use Rattle.ax_migrate_views.proofs.ToldLines.{gathered_bits}
 use Rattle.ax_migrate_views.specs.Laying.{Lays}
 use Rattle.ax_migrate_views.specs.Octets.{field_by, entries_canon_by, move_canon}
 use Rattle.ax_migrate_views.specs.Wholes.{whole_slots, whole_entries}
-use Rattle.ax_view.proofs.NodeKinds.{compound_links}
+use Rattle.ax_tables.specs.Table.{LinksWithin}
+use Rattle.ax_tables.specs.declared.codec.Codec.{Codec}
+use Rattle.ax_tables.specs.declared.node.Node.{Node}
+use Rattle.ax_view.proofs.NodeKinds.{compound_links, extended_links}
 use Rattle.ax_view.specs.Shown.{item_value}
 use Rattle.ax_view.specs.declared.places.FoundItem.{FoundItem}
 use Rattle.ax_migrate_views.proofs.values.+laying.Goals as goal
@@ -44,12 +49,12 @@ lay_anew-lay_whole-requires t c =
 pub lay_anew-returns-in-Compound-clause-laid : goal.lay_anew-returns-in-Compound-clause-laid
 lay_anew-returns-in-Compound-clause-laid t c =
     subst (λ b. Lays b c.args.at c.lay_whole.result c.args.output.now c.lay_whole.new.output)
-    (compound_there c.args.item.now c.node.result.now c.node.ensures (moves_tree c.args.moves.now) c.in-Compound.mask c.in-Compound.slots c.as_slice.result.now c.octets.result.now c.args.codec.now c.in-Compound.is (sym c.as_slice.ensures.members) (sym c.octets.ensures.body) c.requires.codec)
+    (compound_there c.args.item.now c.node.result.now c.node.ensures c.args.count (moves_tree c.args.moves.now) c.in-Compound.mask c.in-Compound.slots c.as_slice.result.now c.octets.result.now c.args.codec.now c.in-Compound.is (sym c.as_slice.ensures.members) (sym c.octets.ensures.body) c.requires.codec)
     c.lay_whole.ensures.laid
 
 pub lay_anew-returns-in_default : goal.lay_anew-returns-in_default
 lay_anew-returns-in_default t c = record {
-  laid = subst (λ b. Lays b c.args.at c.lay_item.result c.args.output.now c.lay_item.new.output) (sym (leaf_canon_by c.args.item.now c.node.result.now c.node.ensures (moves_tree c.args.moves.now) c.in_default.not-Compound)) c.lay_item.ensures.laid;
+  laid = subst (λ b. Lays b c.args.at c.lay_item.result c.args.output.now c.lay_item.new.output) (sym (leaf_canon_by c.args.item.now c.node.result.now c.node.ensures c.args.count (moves_tree c.args.moves.now) c.requires.whole c.in_default.not-Compound c.in_default.not-Extended)) c.lay_item.ensures.laid;
   room = c.lay_item.ensures.room;
 }
 
@@ -64,3 +69,24 @@ pub lay_value-returns-then-moves_whole-clause-laid : goal.lay_value-returns-then
 lay_value-returns-then-moves_whole-clause-laid t c =
     subst (λ b. Lays b c.args.at c.lay_octets.result c.args.output.now c.lay_octets.new.output) (ap bits c.octets.ensures.body ∙ sym (c.moves_whole.ensures c.if-moves_whole.true))
     (gathered_bits c.octets.result.now c.args.at c.lay_octets.result c.args.output.now c.lay_octets.new.output c.lay_octets.ensures.laid)
+
+pub lay_anew-front-front-requires-clause-links : goal.lay_anew-front-front-requires-clause-links
+lay_anew-front-front-requires-clause-links t c =
+    let item = c.args.item.now in
+    let own = item.codec.now in
+    let same : own.nodes ≡ c.as_slice-in-Extended.result.now = ap (λ (x : Codec). x.nodes) c.requires.codec ∙ sym c.as_slice-in-Extended.ensures.members in
+    subst (λ (ns : List Node). LinksWithin (length ns) c.as_slice-in-Extended-2.result.now) same
+    (extended_links own.nodes item.link c.node.result.now own.table item.item.some item.item.within c.node.ensures c.in-Extended.last c.in-Extended.parts c.as_slice-in-Extended-2.result.now c.in-Extended.is c.as_slice-in-Extended-2.ensures.members)
+
+pub lay_anew-front-front-requires-clause-some : goal.lay_anew-front-front-requires-clause-some
+lay_anew-front-front-requires-clause-some t c =
+    omega (arith, ap length c.octets-octets.ensures.body, octets_some c.args.item.now c.node.result.now c.node.ensures c.in-Extended.last c.in-Extended.parts c.in-Extended.parts c.in-Extended.is refl)
+
+pub lay_anew-returns-in-Extended-clause-laid : goal.lay_anew-returns-in-Extended-clause-laid
+lay_anew-returns-in-Extended-clause-laid t c =
+    let item = c.args.item.now in
+    let same : c.as_slice-in-Extended.result.now ≡ item.codec.now.nodes = c.as_slice-in-Extended.ensures.members ∙ sym (ap (λ (x : Codec). x.nodes) c.requires.codec) in
+    subst (λ b. Lays b c.args.at c.lay_front.result c.args.output.now c.lay_front.new.output)
+    (front_stays item c.node.result.now c.node.ensures c.in-Extended.last c.in-Extended.parts c.as_slice-in-Extended-2.result.now c.in-Extended.is c.as_slice-in-Extended-2.ensures.members c.args.count (moves_tree c.args.moves.now)
+    c.front-front.result c.as_slice-in-Extended.result.now c.octets-octets.result.now same c.octets-octets.ensures.body c.front-front.ensures)
+    c.lay_front.ensures.laid

@@ -1,0 +1,9 @@
+use Rattle.std.proofs.Common.{◌≡◌, ◌-◌, length}
+use Rattle.ax_migrate_view_work.proofs.Splitting.{Judged}
+use Rattle.ax_migrate_view_work.proofs.pieces.first_too_long.Given as goal
+
+abbrev pub invariant-loop-from : goal.invariant-loop-from
+invariant-loop-from l = Judged l.migrator l.view.body.now l.from
+
+abbrev pub decreases-loop-from : goal.decreases-loop-from
+decreases-loop-from l = l.count - l.from

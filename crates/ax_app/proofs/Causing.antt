@@ -5,7 +5,7 @@ use Rattle.ax_command.specs.Outcomes.{outcome_of_stop, outcome_of_end, outcome_o
 use Rattle.ax_command.specs.declared.outcome.JobStop.{JobStop}
 use Rattle.ax_command.specs.declared.outcome.JobStop.TheVariants as JobStopOf
 use Rattle.ax_command.specs.declared.outcome.Outcome.{Outcome}
-use Rattle.ax_command.specs.declared.outcome.Outcome.TheVariants.{Done, Usage, SpecRefused, CategoryTwice, InputRefused, TextRefused, MigratedTooLong, InputTooLong, LoadFault, ReadFault, WriteFault, ReportFault, OutOfMemory, OtherCategory, FilterRefused}
+use Rattle.ax_command.specs.declared.outcome.Outcome.TheVariants.{Done, Usage, SpecRefused, CategoryTwice, InputRefused, TextRefused, MigratedTooLong, InputTooLong, LoadFault, ReadFault, WriteFault, ReportFault, OutOfMemory, OtherCategory, ExpansionUnused, FilterRefused}
 use Rattle.ax_command.specs.declared.outcome.Refusal.TheVariants as RefusalOf
 use Rattle.ax_line_stream.specs.Runs as OfLines
 use Rattle.ax_line_stream.specs.declared.end.LinesEnd.{LinesEnd}
@@ -42,6 +42,7 @@ IsCausedBy i o r (MigratedTooLong block octets) = Unit {0}
 IsCausedBy i o r (LoadFault file) = Unit {0}
 IsCausedBy i o r OutOfMemory = Unit {0}
 IsCausedBy i o r (OtherCategory old new) = Unit {0}
+IsCausedBy i o r (ExpansionUnused category) = Unit {0}
 IsCausedBy i o r (FilterRefused fault) = Unit {0}
 
 module _ (i : SourceChange) (o r : SinkChange) where
@@ -53,6 +54,7 @@ module _ (i : SourceChange) (o r : SinkChange) where
 
   caused_before : (stop : JobStop) → IsCausedBy i o r (outcome_of_job_stop stop)
   caused_before (JobStopOf.Refused (RefusalOf.OtherCategory old new)) = tt
+  caused_before (JobStopOf.Refused (RefusalOf.ExpansionUnused category)) = tt
   caused_before (JobStopOf.Refused (RefusalOf.FilterRefused fault)) = tt
   caused_before JobStopOf.OutOfMemory = tt
 

@@ -3,7 +3,7 @@ use Rattle.std.proofs.Common.{◌≡◌, ℕ}
 use Rattle.ax_build_work.specs.declared.fault.TextFault.{TextFault}
 use Rattle.ax_command.specs.Outcomes.{outcome_of_stop, outcome_of_end, outcome_of_lines, outcome_of_job_stop}
 use Rattle.ax_command.specs.declared.outcome.Outcome.{Outcome}
-use Rattle.ax_command.specs.declared.outcome.Outcome.TheVariants.{Done, Usage, SpecRefused, CategoryTwice, InputRefused, TextRefused, MigratedTooLong, InputTooLong, LoadFault, ReadFault, WriteFault, ReportFault, OutOfMemory, OtherCategory, FilterRefused}
+use Rattle.ax_command.specs.declared.outcome.Outcome.TheVariants.{Done, Usage, SpecRefused, CategoryTwice, InputRefused, TextRefused, MigratedTooLong, InputTooLong, LoadFault, ReadFault, WriteFault, ReportFault, OutOfMemory, OtherCategory, ExpansionUnused, FilterRefused}
 use Rattle.ax_command.specs.declared.outcome.JobStop.{JobStop}
 use Rattle.ax_command.specs.declared.outcome.JobStop.TheVariants as JobStopOf
 use Rattle.ax_command.specs.declared.outcome.Refusal.TheVariants as RefusalOf
@@ -23,6 +23,7 @@ IsEarly (SpecRefused file fault) = Unit {0}
 IsEarly (CategoryTwice file category) = Unit {0}
 IsEarly (LoadFault file) = Unit {0}
 IsEarly (OtherCategory old new) = Unit {0}
+IsEarly (ExpansionUnused category) = Unit {0}
 IsEarly (FilterRefused fault) = Unit {0}
 IsEarly OutOfMemory = Unit {0}
 IsEarly (Done blocks) = ⊥
@@ -43,6 +44,7 @@ stop_is_early LoadStopOf.OutOfMemory = tt
 
 pub job_stop_is_early : (stop : JobStop) → IsEarly (outcome_of_job_stop stop)
 job_stop_is_early (JobStopOf.Refused (RefusalOf.OtherCategory old new)) = tt
+job_stop_is_early (JobStopOf.Refused (RefusalOf.ExpansionUnused category)) = tt
 job_stop_is_early (JobStopOf.Refused (RefusalOf.FilterRefused fault)) = tt
 job_stop_is_early JobStopOf.OutOfMemory = tt
 

@@ -12,3 +12,5 @@ pub mod OwnOutcomes
 pub mod SalvagedWhole
 pub mod Stages
 pub mod Trials
+pub mod Expansions
+pub mod GivenOnce

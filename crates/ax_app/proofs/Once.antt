@@ -2,12 +2,12 @@
 use Rattle.std.proofs.Common.{◌≡◌, ℕ, List, [], ◌∷◌, Option, Some, refl, sym, ◌∙◌, ap, subst}
 use Rattle.std.specs.List.{AllByRecursion}
 use Rattle.ax_command.specs.declared.outcome.Refusal.TheVariants.{FilterRefused}
+use Rattle.ax_expand.specs.Expansion.{ExpansionTree}
 use Rattle.ax_filter.proofs.TextStops.{filter_once, refused_once, filter_not_refused}
 use Rattle.ax_filter_work.specs.FilterCommand.{filter_command}
 use Rattle.ax_grammar.proofs.Ranges.{numbers_in_range}
 use Rattle.ax_grammar.specs.InRange.{AreNumbersInRange}
-use Rattle.ax_load.proofs.FilesOnce.{given_once}
-use Rattle.ax_load.specs.Loading.{FilesGive, EachGives}
+use Rattle.ax_load.specs.Loading.{EachGives}
 use Rattle.ax_model.specs.Flaws.{NoFlaw}
 use Rattle.ax_model.specs.Specification.{SpecTree}
 use Rattle.ax_outside.specs.Files.{File}
@@ -18,9 +18,12 @@ use Rattle.ax_trial.specs.Trial.{IsTrial}
 use Rattle.ax_words.proofs.Once.{once as shape_once}
 use Rattle.ax_words.specs.Words.{IsInBounds}
 use Rattle.ax_words.specs.declared.line.Line.{Line}
-use Rattle.ax_words.specs.declared.line.Line.TheVariants.{Check, Canon, Show, Text, Build, Filter, Migrate, Trial, Salvage, Help, Version}
+use Rattle.ax_words.specs.declared.line.Line.TheVariants.{Check, Canon, Show, Text, Build, Filter, Migrate, Trial, Salvage, Expand, Help, Version}
 use Rattle.ax_app.proofs.Editions.{migrate_job_once}
-use Rattle.ax_app.specs.Jobs.{Job, writes, each_block, builds, salvages, refuses, IsJob, IsCheckJob, IsTrialJob, IsFilterJob, filters, refused, IsMigrateJob, migrates, other_category, IsReady, check_text, files_of, takes_distinct}
+use Rattle.ax_app.proofs.Expansions.{expand_job_once}
+use Rattle.ax_app.proofs.GivenOnce.{line_gives_once}
+use Rattle.ax_app.specs.Given.{Given, LineGives, files_of}
+use Rattle.ax_app.specs.Jobs.{Job, writes, each_block, builds, salvages, refuses, IsJob, IsCheckJob, IsTrialJob, IsFilterJob, filters, refused, IsMigrateJob, migrates, other_category, IsExpandJob, expands, unused, of_another, IsReady, check_text}
 use Rattle.ax_app.specs.Running.{Does}
 
 -- ---- one job
@@ -41,24 +44,25 @@ trial_job_once seed count specs job other h k =
     h.is ∙ ap (writes count) (trial_once h.spec seed count h.line k.line h.trial (subst (λ x. IsTrial x seed count k.line) s k.trial)) ∙ sym k.is
 
 -- one row for each command
-pub job_once : (line : Line) (specs : List SpecTree) (job other : Job) → IsJob line specs job → IsJob line specs other → job ≡ other
-job_once (Check file) specs job other h k = check_once specs job other h k
-job_once (Canon files) specs job other h k = h ∙ sym k
-job_once (Show files) specs job other h k = h ∙ sym k
-job_once (Text files) specs job other h k = h ∙ sym k
-job_once (Build files) specs job other h k = h ∙ sym k
-job_once (Filter expression files) specs job other h k = filter_job_once expression specs job other h k
-job_once (Migrate old new) specs job other h k = migrate_job_once specs job other h k
-job_once (Trial file seed count) specs job other h k = trial_job_once seed count specs job other h k
-job_once (Salvage files) specs job other h k = h ∙ sym k
-job_once Help specs job other h k = h ∙ sym k
-job_once Version specs job other h k = h ∙ sym k
+pub job_once : (line : Line) (given : Given) (job other : Job) → IsJob line given job → IsJob line given other → job ≡ other
+job_once (Check file) given job other h k = check_once given.specs job other h k
+job_once (Canon files) given job other h k = h ∙ sym k
+job_once (Show files) given job other h k = h ∙ sym k
+job_once (Text files) given job other h k = h ∙ sym k
+job_once (Build files) given job other h k = h ∙ sym k
+job_once (Filter expression files) given job other h k = filter_job_once expression given.specs job other h k
+job_once (Migrate old new) given job other h k = migrate_job_once given.specs job other h k
+job_once (Trial file seed count) given job other h k = trial_job_once seed count given.specs job other h k
+job_once (Salvage files) given job other h k = h ∙ sym k
+job_once (Expand spec expansion) given job other h k = expand_job_once given job other h k
+job_once Help given job other h k = h ∙ sym k
+job_once Version given job other h k = h ∙ sym k
 
 pub does_once : (words : List (List ℕ)) (files : List File) (job other : Job) → Does words (Some files) job → Does words (Some files) other → job ≡ other
 does_once words files job other h k =
     let same : h.what ≡ k.what = shape_once words h.what k.what h.shape k.shape in
-    let specs : k.specs ≡ h.specs = given_once (takes_distinct h.what) files (files_of h.what) k.specs h.specs (subst (λ w. FilesGive (takes_distinct w) (Some files) (files_of w) k.specs) (sym same) k.give) h.give in
-    job_once h.what h.specs job other h.is (subst (λ s. IsJob h.what s other) specs (subst (λ w. IsJob w k.specs other) (sym same) k.is))
+    let given : k.given ≡ h.given = line_gives_once h.what files k.given h.given (subst (λ w. LineGives w (Some files) k.given) (sym same) k.give) h.give in
+    job_once h.what h.given job other h.is (subst (λ g. IsJob h.what g other) given (subst (λ w. IsJob w k.given other) (sym same) k.is))
 
 -- ---- the specifications under which blocks are built or judged
 
@@ -66,7 +70,7 @@ good_specs : (files : Option (List File)) (names : List (List ℕ)) (specs : Lis
 good_specs files [] [] gives = tt
 good_specs files [] (spec ∷ specs) gives = absurd gives
 good_specs files (name ∷ names) [] gives = absurd gives
-good_specs files (name ∷ names) (spec ∷ specs) gives = ((gives.0.accepted.sound, spec_named spec gives.0.accepted.spelled.in_range), good_specs files names specs gives.1)
+good_specs files (name ∷ names) (spec ∷ specs) gives = ((record { none = gives.0.accepted.sound }, spec_named spec gives.0.accepted.spelled.in_range), good_specs files names specs gives.1)
 
 -- they have no flaw, and their names are names
 abbrev pub IsGood : Job → Type 0
@@ -84,22 +88,28 @@ good_migrate : (old new : SpecTree) (job : Job) → IsMigrateJob old new job →
 good_migrate old new job (migrates same is) = subst IsGood (sym is) tt
 good_migrate old new job (other_category differ is) = subst IsGood (sym is) tt
 
+good_expand : (spec : SpecTree) (x : ExpansionTree) (job : Job) → IsExpandJob spec x job → IsGood job
+good_expand spec x job (expands same frn stands is) = subst IsGood (sym is) tt
+good_expand spec x job (unused same none is) = subst IsGood (sym is) tt
+good_expand spec x job (of_another differ is) = subst IsGood (sym is) tt
+
 -- one row for each command
-good_of : (line : Line) (specs : List SpecTree) (job : Job) → AllByRecursion (λ spec. NoFlaw spec × IsNamed spec) specs → IsJob line specs job → IsGood job
-good_of (Check file) specs job good h = subst IsGood (sym h.is) tt
-good_of (Canon files) specs job good h = subst IsGood (sym h) tt
-good_of (Show files) specs job good h = subst IsGood (sym h) tt
-good_of (Text files) specs job good h = subst IsGood (sym h) tt
-good_of (Build files) specs job good h = subst IsGood (sym h) good
-good_of (Filter expression files) specs job good h = good_filter expression specs job h
-good_of (Migrate old new) specs job good h = good_migrate h.old h.new job h.is
-good_of (Trial file seed count) specs job good h = subst IsGood (sym h.is) tt
-good_of (Salvage files) specs job good h = subst IsGood (sym h) good
-good_of Help specs job good h = subst IsGood (sym h) tt
-good_of Version specs job good h = subst IsGood (sym h) tt
+good_of : (line : Line) (given : Given) (job : Job) → AllByRecursion (λ spec. NoFlaw spec × IsNamed spec) given.specs → IsJob line given job → IsGood job
+good_of (Check file) given job good h = subst IsGood (sym h.is) tt
+good_of (Canon files) given job good h = subst IsGood (sym h) tt
+good_of (Show files) given job good h = subst IsGood (sym h) tt
+good_of (Text files) given job good h = subst IsGood (sym h) tt
+good_of (Build files) given job good h = subst IsGood (sym h) good
+good_of (Filter expression files) given job good h = good_filter expression given.specs job h
+good_of (Migrate old new) given job good h = good_migrate h.old h.new job h.is
+good_of (Trial file seed count) given job good h = subst IsGood (sym h.is) tt
+good_of (Salvage files) given job good h = subst IsGood (sym h) good
+good_of (Expand file expansion) given job good h = good_expand h.spec h.x job h.is
+good_of Help given job good h = subst IsGood (sym h) tt
+good_of Version given job good h = subst IsGood (sym h) tt
 
 pub good_job : (words : List (List ℕ)) (files : Option (List File)) (job : Job) → Does words files job → IsGood job
-good_job words files job d = good_of d.what d.specs job (good_specs files (files_of d.what) d.specs d.give.each) d.is
+good_job words files job d = good_of d.what d.given job (good_specs files (files_of d.what) d.given.specs d.give.specs.each) d.is
 
 -- ---- what the code of a command may rely on
 
@@ -125,5 +135,6 @@ ready files (Filter expression names) specs bounds gives = bounds.0
 ready files (Migrate old new) specs bounds gives = tt
 ready files (Trial file seed count) specs bounds gives = let s = one_spec files file specs gives in record { spec = s.spec; one = s.one; few = bounds.1 }
 ready files (Salvage names) specs bounds gives = tt
+ready files (Expand spec expansion) specs bounds gives = tt
 ready files Help specs bounds gives = tt
 ready files Version specs bounds gives = tt

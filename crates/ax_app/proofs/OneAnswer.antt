@@ -9,9 +9,6 @@ use Rattle.ax_line_stream.proofs.AnswersOnce as OfLines
 use Rattle.ax_line_stream.specs.Commands as LineAnswers
 use Rattle.ax_line_stream.specs.Ending as Lines
 use Rattle.ax_line_stream.specs.Ending.{longest_line}
-use Rattle.ax_load.proofs.EndsOnce.{loading_ends_once}
-use Rattle.ax_load.proofs.FilesOnce.{given_ends_for_memory}
-use Rattle.ax_load.specs.Loading.{FilesGive, FilesEnd}
 use Rattle.ax_load.specs.declared.fault.LoadStop.{LoadStop}
 use Rattle.ax_load.specs.declared.fault.LoadStop.TheVariants as LoadStopOf
 use Rattle.ax_outside.specs.Changes.{none_counted}
@@ -22,9 +19,11 @@ use Rattle.ax_stream.proofs.AnswersOnce.{answers_once}
 use Rattle.ax_stream.specs.Commands.{output_of, report_of}
 use Rattle.ax_stream.specs.Ending.{longest_input}
 use Rattle.ax_words.proofs.Once.{once as shape_once}
+use Rattle.ax_app.proofs.GivenOnce.{line_ends_for_memory, line_ends_once}
 use Rattle.ax_app.proofs.Once.{does_once, IsGood, good_job}
 use Rattle.ax_app.specs.Answer.{Answer, by_words, by_files, by_refusal, by_job}
-use Rattle.ax_app.specs.Jobs.{Job, writes, each_block, builds, salvages, refuses, JobAnswers, files_of, takes_distinct}
+use Rattle.ax_app.specs.Given.{LineGives, LineEnds}
+use Rattle.ax_app.specs.Jobs.{Job, writes, each_block, builds, salvages, refuses, JobAnswers}
 use Rattle.ax_app.specs.Running.{Does, StopsAtFiles}
 use Rattle.ax_app.specs.Salvages.{outcome_of_salvage}
 
@@ -69,13 +68,13 @@ same_files : (words : List (List ℕ)) (files : List File) (stop next : LoadStop
     → (stop ≡ LoadStopOf.OutOfMemory → ⊥) → (next ≡ LoadStopOf.OutOfMemory → ⊥) → outcome ≡ outcome_of_stop stop → other ≡ outcome_of_stop next → written ≡ others → reported ≡ more → (outcome ≡ other) × (written ≡ others) × (reported ≡ more)
 same_files words files stop next outcome other written others reported more h k never nor is to w r =
     let same = shape_once words h.what k.what h.shape k.shape in
-    let ends : FilesEnd (takes_distinct h.what) (Some files) none_counted (files_of h.what) next = subst (λ v. FilesEnd (takes_distinct v) (Some files) none_counted (files_of v) next) (sym same) k.ends in
-    (is ∙ ap outcome_of_stop (loading_ends_once (takes_distinct h.what) files none_counted (files_of h.what) stop next none_rose never nor h.ends ends) ∙ sym to, w, r)
+    let ends : LineEnds h.what (Some files) none_counted next = subst (λ v. LineEnds v (Some files) none_counted next) (sym same) k.ends in
+    (is ∙ ap outcome_of_stop (line_ends_once h.what files none_counted stop next none_rose never nor h.ends ends) ∙ sym to, w, r)
 
 files_or_job : (words : List (List ℕ)) (files : List File) (stop : LoadStop) (job : Job) → StopsAtFiles words (Some files) none_counted stop → (stop ≡ LoadStopOf.OutOfMemory → ⊥) → Does words (Some files) job → ⊥
 files_or_job words files stop job h never d =
     let same = shape_once words d.what h.what d.shape h.shape in
-    never (given_ends_for_memory (takes_distinct h.what) files none_counted (files_of h.what) d.specs stop none_rose (subst (λ v. FilesGive (takes_distinct v) (Some files) (files_of v) d.specs) same d.give) h.ends)
+    never (line_ends_for_memory h.what files none_counted d.given stop none_rose (subst (λ v. LineGives v (Some files) d.given) same d.give) h.ends)
 
 -- ---- all
 

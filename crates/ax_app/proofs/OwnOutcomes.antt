@@ -5,13 +5,15 @@ use Rattle.ax_command.specs.Outcomes.{outcome_of_stop, outcome_of_end, outcome_o
 use Rattle.ax_command.specs.declared.outcome.JobStop.{JobStop}
 use Rattle.ax_command.specs.declared.outcome.JobStop.TheVariants as JobStopOf
 use Rattle.ax_command.specs.declared.outcome.Outcome.{Outcome}
-use Rattle.ax_command.specs.declared.outcome.Refusal.TheVariants.{OtherCategory, FilterRefused}
+use Rattle.ax_command.specs.declared.outcome.Refusal.TheVariants.{OtherCategory, ExpansionUnused, FilterRefused}
+use Rattle.ax_expand.specs.Expansion.{ExpansionTree}
+use Rattle.ax_expand_work.specs.ExpandCommand.{expand_command, expand_answer}
 use Rattle.ax_filter.specs.declared.text.FilterFault.{FilterFault}
 use Rattle.ax_line_stream.specs.declared.end.LinesEnd.{LinesEnd}
 use Rattle.ax_line_stream.specs.declared.end.LinesEnd.TheVariants as LinesEndOf
 use Rattle.ax_load.specs.declared.fault.LoadStop.{LoadStop}
 use Rattle.ax_load.specs.declared.fault.LoadStop.TheVariants as LoadStopOf
-use Rattle.ax_model.specs.Blocks.{BlockTree}
+use Rattle.ax_model.specs.Blocks.{BlockTree, read_block, opaque_block}
 use Rattle.ax_model.specs.Specification.{SpecTree}
 use Rattle.ax_outside.specs.Changes.{LibraryCounts, SourceChange, SinkChange}
 use Rattle.ax_outside.specs.Files.{File}
@@ -22,9 +24,10 @@ use Rattle.ax_stream.specs.Streams.{IsLicensed, Reports, RefusesLength}
 use Rattle.ax_stream.specs.declared.end.StreamEnd.{StreamEnd}
 use Rattle.ax_stream.specs.declared.end.StreamEnd.TheVariants as EndOf
 use Rattle.ax_words.specs.declared.line.Line.{Line}
-use Rattle.ax_words.specs.declared.line.Line.TheVariants.{Check, Canon, Show, Text, Build, Filter, Migrate, Trial, Salvage, Help, Version}
-use Rattle.ax_app.specs.Jobs.{Job, writes, each_block, builds, salvages, refuses, IsJob, IsFilterJob, filters, refused, IsMigrateJob, migrates, other_category, IsStopped, JobRuns, TextEnds, written, cut, no_memory}
-use Rattle.ax_app.specs.Running.{Runs, at_words, no_words, at_files, before_input, in_job, NoCountFell, ComparesEditions, ReadsExpression, MayCome, IsOfItsCommand}
+use Rattle.ax_words.specs.declared.line.Line.TheVariants.{Check, Canon, Show, Text, Build, Filter, Migrate, Trial, Salvage, Expand, Help, Version}
+use Rattle.ax_app.specs.Given.{Given}
+use Rattle.ax_app.specs.Jobs.{Job, writes, each_block, builds, salvages, refuses, IsJob, IsFilterJob, filters, refused, IsMigrateJob, migrates, other_category, IsExpandJob, expands, unused, of_another, IsStopped, JobRuns, TextEnds, written, cut, no_memory}
+use Rattle.ax_app.specs.Running.{Runs, at_words, no_words, at_files, before_input, in_job, NoCountFell, ComparesCategories, ReadsExpansion, ReadsExpression, MayCome, IsOfItsCommand}
 use Rattle.ax_app.specs.Salvages.{outcome_of_salvage}
 
 -- ---- ends of jobs
@@ -64,6 +67,21 @@ of_migrate old new EndOf.ReadFault = tt
 of_migrate old new EndOf.WriteFault = tt
 of_migrate old new EndOf.ReportFault = tt
 of_migrate old new EndOf.OutOfMemory = tt
+
+-- it refuses no length
+expand_never_refuses : (spec : SpecTree) (frn : ℕ) (x : ExpansionTree) (number count : ℕ) (block : BlockTree) → expand_answer frn x number block ≡ too_long count → ⊥
+expand_never_refuses spec frn x number count (read_block category records) e = absurd (cc)
+expand_never_refuses spec frn x number count (opaque_block category content) e = absurd (cc)
+
+of_expand : (file expansion : List ℕ) (spec : SpecTree) (frn : ℕ) (x : ExpansionTree) (end : StreamEnd) → IsLicensed (expand_command spec frn x) end → MayCome (outcome_of_end end) (Expand file expansion)
+of_expand file expansion spec frn x (EndOf.Done blocks) h = tt
+of_expand file expansion spec frn x (EndOf.Refused fault) h = tt
+of_expand file expansion spec frn x EndOf.InputTooLong h = tt
+of_expand file expansion spec frn x (EndOf.TooLong block octets) h = absurd (expand_never_refuses spec frn x block octets h.block h.answer)
+of_expand file expansion spec frn x EndOf.ReadFault h = tt
+of_expand file expansion spec frn x EndOf.WriteFault h = tt
+of_expand file expansion spec frn x EndOf.ReportFault h = tt
+of_expand file expansion spec frn x EndOf.OutOfMemory h = tt
 
 of_build : (files : List (List ℕ)) (end : LinesEnd TextFault) → MayCome (outcome_of_lines end) (Build files)
 of_build files (LinesEndOf.Done blocks) = tt
@@ -113,19 +131,26 @@ module _ (i : SourceChange) (o r : SinkChange) (outcome : Outcome) where
       let h : JobRuns (each_block _) i o r outcome = run_of job _ is runs in may_too (Migrate names.0 names.1) outcome _ h.is (of_migrate names.0 names.1 h.end)
   migrating names old new job (other_category differ is) runs = absurd (run_of job _ is runs)
 
+  expanding : (file expansion : List ℕ) (spec : SpecTree) (x : ExpansionTree) (job : Job) → IsExpandJob spec x job → JobRuns job i o r outcome → MayCome outcome (Expand file expansion)
+  expanding file expansion spec x job (expands same frn stands is) runs =
+      let h : JobRuns (each_block (expand_command spec frn x)) i o r outcome = run_of job _ is runs in may_too (Expand file expansion) outcome _ h.is (of_expand file expansion spec frn x h.end h.runs.licensed)
+  expanding file expansion spec x job (unused same none is) runs = absurd (run_of job _ is runs)
+  expanding file expansion spec x job (of_another differ is) runs = absurd (run_of job _ is runs)
+
   -- one row for each command
-  own_in_job : (what : Line) (specs : List SpecTree) (job : Job) → IsJob what specs job → JobRuns job i o r outcome → MayCome outcome what
-  own_in_job (Check file) specs job is h = writing (Check file) _ _ (run_of job _ is.is h)
-  own_in_job (Canon files) specs job is h = silent (Canon files) _ (record { octets = _; answer = λ number block. refl }) (run_of job _ is h)
-  own_in_job (Show files) specs job is h = silent (Show files) _ (record { octets = _; answer = λ number block. refl }) (run_of job _ is h)
-  own_in_job (Text files) specs job is h = silent (Text files) _ (record { octets = _; answer = λ number block. refl }) (run_of job _ is h)
-  own_in_job (Build files) specs job is h = let run : JobRuns (builds specs) i o r outcome = run_of job _ is h in may_too (Build files) outcome _ run.is (of_build files run.end)
-  own_in_job (Filter expression files) specs job is h = filtering (Filter expression files) expression specs job is h
-  own_in_job (Migrate old new) specs job is h = migrating (old, new) is.old is.new job is.is h
-  own_in_job (Trial file seed count) specs job is h = writing (Trial file seed count) _ _ (run_of job _ is.is h)
-  own_in_job (Salvage files) specs job is h = let run : JobRuns (salvages specs) i o r outcome = run_of job _ is h in may_too (Salvage files) outcome _ run.is (of_salvage files run.end)
-  own_in_job Help specs job is h = writing Help _ _ (run_of job _ is h)
-  own_in_job Version specs job is h = writing Version _ _ (run_of job _ is h)
+  own_in_job : (what : Line) (given : Given) (job : Job) → IsJob what given job → JobRuns job i o r outcome → MayCome outcome what
+  own_in_job (Check file) given job is h = writing (Check file) _ _ (run_of job _ is.is h)
+  own_in_job (Canon files) given job is h = silent (Canon files) _ (record { octets = _; answer = λ number block. refl }) (run_of job _ is h)
+  own_in_job (Show files) given job is h = silent (Show files) _ (record { octets = _; answer = λ number block. refl }) (run_of job _ is h)
+  own_in_job (Text files) given job is h = silent (Text files) _ (record { octets = _; answer = λ number block. refl }) (run_of job _ is h)
+  own_in_job (Build files) given job is h = let run : JobRuns (builds given.specs) i o r outcome = run_of job _ is h in may_too (Build files) outcome _ run.is (of_build files run.end)
+  own_in_job (Filter expression files) given job is h = filtering (Filter expression files) expression given.specs job is h
+  own_in_job (Migrate old new) given job is h = migrating (old, new) is.old is.new job is.is h
+  own_in_job (Trial file seed count) given job is h = writing (Trial file seed count) _ _ (run_of job _ is.is h)
+  own_in_job (Salvage files) given job is h = let run : JobRuns (salvages given.specs) i o r outcome = run_of job _ is h in may_too (Salvage files) outcome _ run.is (of_salvage files run.end)
+  own_in_job (Expand file expansion) given job is h = expanding file expansion is.spec is.x job is.is h
+  own_in_job Help given job is h = writing Help _ _ (run_of job _ is h)
+  own_in_job Version given job is h = writing Version _ _ (run_of job _ is h)
 
 -- ---- refusals before the input
 
@@ -135,46 +160,77 @@ at_each_file what (LoadStopOf.CategoryTwice file category) = tt
 at_each_file what (LoadStopOf.LoadFault file) = tt
 at_each_file what LoadStopOf.OutOfMemory = tt
 
-filter_has_no_editions : (expression : List ℕ) (specs : List SpecTree) (old new : ℕ) → IsFilterJob expression specs (refuses (OtherCategory old new)) → ⊥
-filter_has_no_editions expression specs old new (filters e h is) = absurd (cc)
-filter_has_no_editions expression specs old new (refused fault h is) = absurd (cc)
+filter_has_no_categories : (expression : List ℕ) (specs : List SpecTree) (old new : ℕ) → IsFilterJob expression specs (refuses (OtherCategory old new)) → ⊥
+filter_has_no_categories expression specs old new (filters e h is) = absurd (cc)
+filter_has_no_categories expression specs old new (refused fault h is) = absurd (cc)
 
 -- one row for each command
-editions_of : (what : Line) (specs : List SpecTree) (old new : ℕ) → IsJob what specs (refuses (OtherCategory old new)) → ComparesEditions what
-editions_of (Check file) specs old new h = let e = h.is in absurd (cc)
-editions_of (Canon files) specs old new h = absurd (cc)
-editions_of (Show files) specs old new h = absurd (cc)
-editions_of (Text files) specs old new h = absurd (cc)
-editions_of (Build files) specs old new h = absurd (cc)
-editions_of (Filter expression files) specs old new h = absurd (filter_has_no_editions expression specs old new h)
-editions_of (Migrate one other) specs old new h = tt
-editions_of (Trial file seed count) specs old new h = let e = h.is in absurd (cc)
-editions_of (Salvage files) specs old new h = absurd (cc)
-editions_of Help specs old new h = absurd (cc)
-editions_of Version specs old new h = absurd (cc)
+categories_of : (what : Line) (given : Given) (old new : ℕ) → IsJob what given (refuses (OtherCategory old new)) → ComparesCategories what
+categories_of (Check file) given old new h = let e = h.is in absurd (cc)
+categories_of (Canon files) given old new h = absurd (cc)
+categories_of (Show files) given old new h = absurd (cc)
+categories_of (Text files) given old new h = absurd (cc)
+categories_of (Build files) given old new h = absurd (cc)
+categories_of (Filter expression files) given old new h = absurd (filter_has_no_categories expression given.specs old new h)
+categories_of (Migrate one other) given old new h = tt
+categories_of (Trial file seed count) given old new h = let e = h.is in absurd (cc)
+categories_of (Salvage files) given old new h = absurd (cc)
+categories_of (Expand spec expansion) given old new h = tt
+categories_of Help given old new h = absurd (cc)
+categories_of Version given old new h = absurd (cc)
 
 migrate_has_no_expression : (old new : SpecTree) (fault : FilterFault) → IsMigrateJob old new (refuses (FilterRefused fault)) → ⊥
 migrate_has_no_expression old new fault (migrates same is) = absurd (cc)
 migrate_has_no_expression old new fault (other_category differ is) = absurd (cc)
 
--- one row for each command
-expression_of : (what : Line) (specs : List SpecTree) (fault : FilterFault) → IsJob what specs (refuses (FilterRefused fault)) → ReadsExpression what
-expression_of (Check file) specs fault h = let e = h.is in absurd (cc)
-expression_of (Canon files) specs fault h = absurd (cc)
-expression_of (Show files) specs fault h = absurd (cc)
-expression_of (Text files) specs fault h = absurd (cc)
-expression_of (Build files) specs fault h = absurd (cc)
-expression_of (Filter expression files) specs fault h = tt
-expression_of (Migrate old new) specs fault h = absurd (migrate_has_no_expression h.old h.new fault h.is)
-expression_of (Trial file seed count) specs fault h = let e = h.is in absurd (cc)
-expression_of (Salvage files) specs fault h = absurd (cc)
-expression_of Help specs fault h = absurd (cc)
-expression_of Version specs fault h = absurd (cc)
+expand_has_no_expression : (spec : SpecTree) (x : ExpansionTree) (fault : FilterFault) → IsExpandJob spec x (refuses (FilterRefused fault)) → ⊥
+expand_has_no_expression spec x fault (expands same frn stands is) = absurd (cc)
+expand_has_no_expression spec x fault (unused same none is) = absurd (cc)
+expand_has_no_expression spec x fault (of_another differ is) = absurd (cc)
 
-own_before : (what : Line) (specs : List SpecTree) (stop : JobStop) → IsStopped what specs stop → MayCome (outcome_of_job_stop stop) what
-own_before what specs (JobStopOf.Refused (OtherCategory old new)) h = editions_of what specs old new h
-own_before what specs (JobStopOf.Refused (FilterRefused fault)) h = expression_of what specs fault h
-own_before what specs JobStopOf.OutOfMemory h = tt
+-- one row for each command
+expression_of : (what : Line) (given : Given) (fault : FilterFault) → IsJob what given (refuses (FilterRefused fault)) → ReadsExpression what
+expression_of (Check file) given fault h = let e = h.is in absurd (cc)
+expression_of (Canon files) given fault h = absurd (cc)
+expression_of (Show files) given fault h = absurd (cc)
+expression_of (Text files) given fault h = absurd (cc)
+expression_of (Build files) given fault h = absurd (cc)
+expression_of (Filter expression files) given fault h = tt
+expression_of (Migrate old new) given fault h = absurd (migrate_has_no_expression h.old h.new fault h.is)
+expression_of (Trial file seed count) given fault h = let e = h.is in absurd (cc)
+expression_of (Salvage files) given fault h = absurd (cc)
+expression_of (Expand spec expansion) given fault h = absurd (expand_has_no_expression h.spec h.x fault h.is)
+expression_of Help given fault h = absurd (cc)
+expression_of Version given fault h = absurd (cc)
+
+filter_has_no_expansion : (expression : List ℕ) (specs : List SpecTree) (category : ℕ) → IsFilterJob expression specs (refuses (ExpansionUnused category)) → ⊥
+filter_has_no_expansion expression specs category (filters e h is) = absurd (cc)
+filter_has_no_expansion expression specs category (refused fault h is) = absurd (cc)
+
+migrate_has_no_expansion : (old new : SpecTree) (category : ℕ) → IsMigrateJob old new (refuses (ExpansionUnused category)) → ⊥
+migrate_has_no_expansion old new category (migrates same is) = absurd (cc)
+migrate_has_no_expansion old new category (other_category differ is) = absurd (cc)
+
+-- one row for each command
+unused_of : (what : Line) (given : Given) (category : ℕ) → IsJob what given (refuses (ExpansionUnused category)) → ReadsExpansion what
+unused_of (Check file) given category h = let e = h.is in absurd (cc)
+unused_of (Canon files) given category h = absurd (cc)
+unused_of (Show files) given category h = absurd (cc)
+unused_of (Text files) given category h = absurd (cc)
+unused_of (Build files) given category h = absurd (cc)
+unused_of (Filter expression files) given category h = absurd (filter_has_no_expansion expression given.specs category h)
+unused_of (Migrate old new) given category h = absurd (migrate_has_no_expansion h.old h.new category h.is)
+unused_of (Trial file seed count) given category h = let e = h.is in absurd (cc)
+unused_of (Salvage files) given category h = absurd (cc)
+unused_of (Expand spec expansion) given category h = tt
+unused_of Help given category h = absurd (cc)
+unused_of Version given category h = absurd (cc)
+
+own_before : (what : Line) (given : Given) (stop : JobStop) → IsStopped what given stop → MayCome (outcome_of_job_stop stop) what
+own_before what given (JobStopOf.Refused (OtherCategory old new)) h = categories_of what given old new h
+own_before what given (JobStopOf.Refused (ExpansionUnused category)) h = unused_of what given category h
+own_before what given (JobStopOf.Refused (FilterRefused fault)) h = expression_of what given fault h
+own_before what given JobStopOf.OutOfMemory h = tt
 
 -- ---- of a run
 
@@ -182,8 +238,8 @@ pub of_its_command : (words : List (List ℕ)) (files : Option (List File)) (c :
 of_its_command words files c i o r outcome (at_words none is unasked idle) = inl is
 of_its_command words files c i o r outcome (no_words is unasked idle) = inr (inl is)
 of_its_command words files c i o r outcome (at_files stop h loads is idle) = inr (inr (record { what = h.what; shape = h.shape; may = may_too h.what outcome _ is (at_each_file h.what stop) }))
-of_its_command words files c i o r outcome (before_input stop h loads is idle) = inr (inr (record { what = h.what; shape = h.shape; may = may_too h.what outcome _ is (own_before h.what h.specs stop h.stopped) }))
-of_its_command words files c i o r outcome (in_job job d loads h) = inr (inr (record { what = d.what; shape = d.shape; may = own_in_job i o r outcome d.what d.specs job d.is h }))
+of_its_command words files c i o r outcome (before_input stop h loads is idle) = inr (inr (record { what = h.what; shape = h.shape; may = may_too h.what outcome _ is (own_before h.what h.given stop h.stopped) }))
+of_its_command words files c i o r outcome (in_job job d loads h) = inr (inr (record { what = d.what; shape = d.shape; may = own_in_job i o r outcome d.what d.given job d.is h }))
 
 -- ---- counts
 

@@ -20,8 +20,8 @@ use Rattle.ax_line_stream.specs.Runs as OfLines
 use Rattle.ax_line_stream.specs.Runs.{LinesRun}
 use Rattle.ax_line_stream.specs.declared.end.LinesEnd.{LinesEnd}
 use Rattle.ax_line_stream.specs.declared.end.LinesEnd.TheVariants as LinesEndOf
-use Rattle.ax_load.proofs.FilesOnce.{given_ends_for_memory}
-use Rattle.ax_load.specs.Loading.{FilesGive, StopsAtFile, EndsAtFile, by_file, by_category, IsRefusedFile}
+use Rattle.ax_load.specs.Languages.{Language, category_files, expansion_files}
+use Rattle.ax_load.specs.Loading.{FilesGive, FilesEnd, StopsAtFile, EndsAtFile, by_file, by_category, IsRefusedFile}
 use Rattle.ax_load.specs.declared.fault.LoadStop.{LoadStop}
 use Rattle.ax_load.specs.declared.fault.LoadStop.TheVariants as LoadStopOf
 use Rattle.ax_load.specs.declared.fault.SpecFault.{SpecFault}
@@ -48,42 +48,44 @@ use Rattle.ax_words.specs.declared.line.Line.{Line}
 use Rattle.ax_words.specs.declared.line.Line.TheVariants.{Check, Build, Trial}
 use Rattle.ax_app.proofs.Ends.{IsEarly, stop_is_early, job_stop_is_early, no_usage_of_blocks, no_usage_of_lines, no_usage_of_salvage, done_of_blocks, done_of_lines, done_of_salvage}
 use Rattle.ax_words.proofs.Once.{once as shape_once}
+use Rattle.ax_app.proofs.GivenOnce.{line_ends_for_memory}
 use Rattle.ax_app.proofs.Once.{does_once, IsGood, good_job}
 use Rattle.ax_app.proofs.SalvagedWhole.{salvage_completes, salvage_reads}
 use Rattle.ax_app.specs.Answer.{by_words, by_files, by_refusal, by_job}
 use Rattle.ax_app.specs.Completing.{NoFaultCounted, HasWhole, IsDoneWith}
+use Rattle.ax_app.specs.Given.{Given, only, LineGives, LineEnds, in_specs, in_expansion, files_of, takes_distinct, expansion_of}
 use Rattle.ax_app.specs.Headline.{Headline, answered, stopped_at_words, stopped_at_files, stopped_before_input, stopped_in_job, IsHindrance, of_library, of_memory}
-use Rattle.ax_app.specs.Jobs.{Job, writes, each_block, builds, salvages, refuses, check_text, IsJob, ReadsInput, TextEnds, written, cut, no_memory, JobRuns, RunsJob, EndsTrial, IsReadyToCheck, IsReadyToTry, files_of, takes_distinct}
+use Rattle.ax_app.specs.Jobs.{Job, writes, each_block, builds, salvages, refuses, check_text, IsJob, ReadsInput, TextEnds, written, cut, no_memory, JobRuns, RunsJob, EndsTrial, IsReadyToCheck, IsReadyToTry}
 use Rattle.ax_app.specs.Salvages.{outcome_of_salvage}
 use Rattle.ax_app.specs.Running.{Does, StopsAtFiles, StopsBeforeInput, Runs, at_words, no_words, at_files, before_input, in_job, Ended, Causes}
 
 -- ---- the jobs of the commands
 
 -- a text is written, no octet taken and nothing reported
-pub text_job : (line : Line) (specs : List SpecTree) (left held' : Option (List ℕ)) (taken faults faults' : ℕ) (o : SinkChange) (count : ℕ) (text : List ℕ) (outcome : Outcome) → IsJob line specs (writes count text) → TextEnds count text o outcome
-    → RunsJob line specs (record { left = left; left' = left; taken = taken; taken' = taken; faults = faults; faults' = faults }) o (record { held = held'; held' = held'; faults = faults'; faults' = faults' }) outcome
-text_job line specs left held' taken faults faults' o count text outcome is ends = record {
+pub text_job : (line : Line) (given : Given) (left held' : Option (List ℕ)) (taken faults faults' : ℕ) (o : SinkChange) (count : ℕ) (text : List ℕ) (outcome : Outcome) → IsJob line given (writes count text) → TextEnds count text o outcome
+    → RunsJob line given (record { left = left; left' = left; taken = taken; taken' = taken; faults = faults; faults' = faults }) o (record { held = held'; held' = held'; faults = faults'; faults' = faults' }) outcome
+text_job line given left held' taken faults faults' o count text outcome is ends = record {
   job = writes count text;
   is = is;
   runs = record { ends = ends; untouched = record { left = refl; taken = refl }; report = refl; source_quiet = refl; report_quiet = refl };
 }
 
 pub check_job : (file : List ℕ) (specs : List SpecTree) (left held' : Option (List ℕ)) (taken faults faults' : ℕ) (o : SinkChange) (outcome : Outcome) → IsReadyToCheck specs → ((spec : SpecTree) → specs ≡ spec ∷ [] → TextEnds 0 (check_text spec) o outcome)
-    → RunsJob (Check file) specs (record { left = left; left' = left; taken = taken; taken' = taken; faults = faults; faults' = faults }) o (record { held = held'; held' = held'; faults = faults'; faults' = faults' }) outcome
+    → RunsJob (Check file) (only specs) (record { left = left; left' = left; taken = taken; taken' = taken; faults = faults; faults' = faults }) o (record { held = held'; held' = held'; faults = faults'; faults' = faults' }) outcome
 check_job file specs left held' taken faults faults' o outcome ready ends =
-    text_job (Check file) specs left held' taken faults faults' o 0 (check_text ready.spec) outcome (record { spec = ready.spec; one = ready.one; is = refl }) (ends ready.spec ready.one)
+    text_job (Check file) (only specs) left held' taken faults faults' o 0 (check_text ready.spec) outcome (record { spec = ready.spec; one = ready.one; is = refl }) (ends ready.spec ready.one)
 
 pub trial_job : (file : List ℕ) (seed count : ℕ) (specs : List SpecTree) (left held' : Option (List ℕ)) (taken faults faults' : ℕ) (o : SinkChange) (result : Result Outcome JobStop) → IsReadyToTry count specs
     → IfOk result (λ outcome. (spec : SpecTree) → specs ≡ spec ∷ [] → EndsTrial spec seed count o outcome)
-    → IfOk result (RunsJob (Trial file seed count) specs (record { left = left; left' = left; taken = taken; taken' = taken; faults = faults; faults' = faults }) o (record { held = held'; held' = held'; faults = faults'; faults' = faults' }))
+    → IfOk result (RunsJob (Trial file seed count) (only specs) (record { left = left; left' = left; taken = taken; taken' = taken; faults = faults; faults' = faults }) o (record { held = held'; held' = held'; faults = faults'; faults' = faults' }))
 trial_job file seed count specs left held' taken faults faults' o (Ok outcome) ready ends =
     let t = ends ready.spec ready.one in
-    text_job (Trial file seed count) specs left held' taken faults faults' o count t.line outcome (record { spec = ready.spec; one = ready.one; line = t.line; trial = t.trial; is = refl }) t.ends
+    text_job (Trial file seed count) (only specs) left held' taken faults faults' o count t.line outcome (record { spec = ready.spec; one = ready.one; line = t.line; trial = t.trial; is = refl }) t.ends
 trial_job file seed count specs left held' taken faults faults' o (Err stop) ready ends = tt
 
 -- `build` reports nothing
 pub build_job : (files : List (List ℕ)) (specs : List SpecTree) (i : SourceChange) (o : SinkChange) (held : Option (List ℕ)) (faults : ℕ) (end : LinesEnd TextFault) (outcome : Outcome) → LinesRun (build_command specs) longest_line longest_input i o end → outcome ≡ outcome_of_lines end
-    → RunsJob (Build files) specs i o (record { held = held; held' = held; faults = faults; faults' = faults }) outcome
+    → RunsJob (Build files) (only specs) i o (record { held = held; held' = held; faults = faults; faults' = faults }) outcome
 build_job files specs i o held faults end outcome runs is = record { job = builds specs; is = refl; runs = record { end = end; runs = runs; is = is; report = refl; report_quiet = refl } }
 
 -- ---- usage
@@ -119,40 +121,49 @@ usage_there words files c i o r outcome (in_job job d loads h) e = absurd (e d.w
 
 -- ---- the told headline: files
 
-refused_uncounted : (files : List File) (c : LibraryCounts) (name : List ℕ) (fault : SpecFault) → IsRefusedFile (Some files) c name fault → IsRefusedFile (Some files) none_counted name fault
-refused_uncounted files c name TooLarge h = h
-refused_uncounted files c name (BadByte at) h = h
-refused_uncounted files c name (TooDeep token) h = h
-refused_uncounted files c name (BadToken token) h = h
-refused_uncounted files c name (Flawed flaws) h = h
+refused_uncounted : {T : Type 0} (language : Language T) (files : List File) (c : LibraryCounts) (name : List ℕ) (fault : SpecFault) → IsRefusedFile language (Some files) c name fault → IsRefusedFile language (Some files) none_counted name fault
+refused_uncounted language files c name TooLarge h = h
+refused_uncounted language files c name (BadByte at) h = h
+refused_uncounted language files c name (TooDeep token) h = h
+refused_uncounted language files c name (BadToken token) h = h
+refused_uncounted language files c name (Flawed flaws) h = h
 
--- a file ends the run by what it is, or a fault of the library or want of memory does
-pub record ByItself (distinct : Bool) (files : List File) (before : List SpecTree) (name : List ℕ) (i : ℕ) (stop : LoadStop) : Type 0 where
-  pub ends : EndsAtFile distinct (Some files) none_counted before name i stop
+-- what ends the run so does it by itself, and not for want of memory; or a fault of the library or want of memory does
+pub record ByItself (stop : LoadStop) (Ends : Type 0) : Type 0 where
+  pub ends : Ends
   pub not_memory : stop ≡ LoadStopOf.OutOfMemory → ⊥
 
-by_itself : (distinct : Bool) (files : List File) (c : LibraryCounts) (before : List SpecTree) (name : List ℕ) (i : ℕ) (stop : LoadStop) → StopsAtFile (Some files) c name i stop → IsHindrance c stop ⊎ ByItself distinct files before name i stop
-by_itself distinct files c before name i (LoadStopOf.LoadFault n) (is, inl rose) = inl (of_library n refl rose)
-by_itself distinct files c before name i (LoadStopOf.LoadFault n) (is, inr lacks) = inr (record { ends = by_file (is, inr lacks); not_memory = λ e. absurd (cc) })
-by_itself distinct files c before name i (LoadStopOf.SpecRefused n fault) h = inr (record { ends = by_file (h.0, refused_uncounted files c name fault h.1); not_memory = λ e. absurd (cc) })
-by_itself distinct files c before name i LoadStopOf.OutOfMemory h = inl (of_memory refl)
-by_itself distinct files c before name i (LoadStopOf.CategoryTwice n category) h = absurd h
+by_itself : {T : Type 0} (language : Language T) (files : List File) (c : LibraryCounts) (name : List ℕ) (i : ℕ) (stop : LoadStop) → StopsAtFile language (Some files) c name i stop → IsHindrance c stop ⊎ ByItself stop (StopsAtFile language (Some files) none_counted name i stop)
+by_itself language files c name i (LoadStopOf.LoadFault n) (is, inl rose) = inl (of_library n refl rose)
+by_itself language files c name i (LoadStopOf.LoadFault n) (is, inr lacks) = inr (record { ends = (is, inr lacks); not_memory = λ e. absurd (cc) })
+by_itself language files c name i (LoadStopOf.SpecRefused n fault) h = inr (record { ends = (h.0, refused_uncounted language files c name fault h.1); not_memory = λ e. absurd (cc) })
+by_itself language files c name i LoadStopOf.OutOfMemory h = inl (of_memory refl)
+by_itself language files c name i (LoadStopOf.CategoryTwice n category) h = absurd h
+
+-- so it is of what ends by that
+itself_on : (c : LibraryCounts) (stop : LoadStop) (A B : Type 0) → (A → B) → IsHindrance c stop ⊎ ByItself stop A → IsHindrance c stop ⊎ ByItself stop B
+itself_on c stop A B on (inl hindered) = inl hindered
+itself_on c stop A B on (inr b) = inr (record { ends = on b.ends; not_memory = b.not_memory })
 
 twice_is_not_memory : (stop : LoadStop) (i category : ℕ) → stop ≡ LoadStopOf.CategoryTwice i category → stop ≡ LoadStopOf.OutOfMemory → ⊥
 twice_is_not_memory stop i category is memory = absurd (cc)
 
-at_file : (distinct : Bool) (files : List File) (c : LibraryCounts) (before : List SpecTree) (name : List ℕ) (i : ℕ) (stop : LoadStop) → EndsAtFile distinct (Some files) c before name i stop → IsHindrance c stop ⊎ ByItself distinct files before name i stop
-at_file distinct files c before name i stop (by_file h) = by_itself distinct files c before name i stop h
+at_file : (distinct : Bool) (files : List File) (c : LibraryCounts) (before : List SpecTree) (name : List ℕ) (i : ℕ) (stop : LoadStop) → EndsAtFile distinct (Some files) c before name i stop
+    → IsHindrance c stop ⊎ ByItself stop (EndsAtFile distinct (Some files) none_counted before name i stop)
+at_file distinct files c before name i stop (by_file h) = itself_on c stop _ _ (λ s. by_file s) (by_itself category_files files c name i stop h)
 at_file distinct files c before name i stop (by_category want category is twice) = inr (record { ends = by_category want category is twice; not_memory = twice_is_not_memory stop i category is })
 
+at_files_of : (what : Line) (files : List File) (c : LibraryCounts) (stop : LoadStop) → LineEnds what (Some files) c stop → IsHindrance c stop ⊎ ByItself stop (LineEnds what (Some files) none_counted stop)
+at_files_of what files c stop (in_specs h) =
+    itself_on c stop _ _ (λ e. in_specs (record { earlier = h.earlier; name = h.name; more = h.more; split = h.split; before = h.before; give = h.give; ends = e }))
+    (at_file (takes_distinct what) files c h.before h.name (length h.earlier) stop h.ends)
+at_files_of what files c stop (in_expansion name is specs gives h) = itself_on c stop _ _ (λ e. in_expansion name is specs gives e) (by_itself expansion_files files c name (length (files_of what)) stop h)
+
 files_headline : (words : List (List ℕ)) (files : List File) (c : LibraryCounts) (input : List ℕ) (i : SourceChange) (o r : SinkChange) (outcome : Outcome) (stop : LoadStop) (h : StopsAtFiles words (Some files) c stop) → outcome ≡ outcome_of_stop stop → IsIdle i o r
-    → IsHindrance c stop ⊎ ByItself (takes_distinct h.what) files h.ends.before h.ends.name (length h.ends.earlier) stop → Headline words files c input i o r outcome
+    → IsHindrance c stop ⊎ ByItself stop (LineEnds h.what (Some files) none_counted stop) → Headline words files c input i o r outcome
 files_headline words files c input i o r outcome stop h is idle (inl hindered) = stopped_at_files stop h hindered is idle
 files_headline words files c input i o r outcome stop h is idle (inr b) =
-    answered [] [] (by_files stop
-    (record { what = h.what; shape = h.shape; ends = record { earlier = h.ends.earlier; name = h.ends.name; more = h.ends.more; split = h.ends.split; before = h.ends.before; give = h.ends.give; ends = b.ends } })
-    b.not_memory is refl refl)
-    (idle.out ∙ sym (with_end-nil o.held)) (idle.report ∙ sym (with_end-nil r.held))
+    answered [] [] (by_files stop (record { what = h.what; shape = h.shape; ends = b.ends }) b.not_memory is refl refl) (idle.out ∙ sym (with_end-nil o.held)) (idle.report ∙ sym (with_end-nil r.held))
 
 -- ---- the told headline: jobs
 
@@ -191,7 +202,7 @@ job_headline words files c input i o r outcome (refuses refusal) octets left d h
 before_headline : (words : List (List ℕ)) (files : List File) (c : LibraryCounts) (input : List ℕ) (i : SourceChange) (o r : SinkChange) (outcome : Outcome) (stop : JobStop) → StopsBeforeInput words (Some files) stop → outcome ≡ outcome_of_job_stop stop → IsIdle i o r
     → Headline words files c input i o r outcome
 before_headline words files c input i o r outcome (JobStopOf.Refused refusal) h is idle =
-    answered [] [] (by_refusal refusal (record { what = h.what; shape = h.shape; specs = h.specs; give = h.give; is = h.stopped }) is refl refl) (idle.out ∙ sym (with_end-nil o.held)) (idle.report ∙ sym (with_end-nil r.held))
+    answered [] [] (by_refusal refusal (record { what = h.what; shape = h.shape; given = h.given; give = h.give; is = h.stopped }) is refl refl) (idle.out ∙ sym (with_end-nil o.held)) (idle.report ∙ sym (with_end-nil r.held))
 before_headline words files c input i o r outcome JobStopOf.OutOfMemory h is idle = stopped_before_input h is idle
 
 told_headline : (words : List (List ℕ)) (files : List File) (c : LibraryCounts) (input : List ℕ) (i : SourceChange) (o r : SinkChange) (outcome : Outcome) → AreOctets input → i.left ≡ Some input
@@ -199,7 +210,7 @@ told_headline : (words : List (List ℕ)) (files : List File) (c : LibraryCounts
 told_headline words files c input i o r outcome octets left (at_words none is unasked idle) = answered [] [] (by_words none is refl refl) (idle.out ∙ sym (with_end-nil o.held)) (idle.report ∙ sym (with_end-nil r.held))
 told_headline words files c input i o r outcome octets left (no_words is unasked idle) = stopped_at_words is idle
 told_headline words files c input i o r outcome octets left (at_files stop h loads is idle) =
-    files_headline words files c input i o r outcome stop h is idle (at_file (takes_distinct h.what) files c h.ends.before h.ends.name (length h.ends.earlier) stop h.ends.ends)
+    files_headline words files c input i o r outcome stop h is idle (at_files_of h.what files c stop h.ends)
 told_headline words files c input i o r outcome octets left (before_input stop h loads is idle) = before_headline words files c input i o r outcome stop h is idle
 told_headline words files c input i o r outcome octets left (in_job job d loads h) = job_headline words files c input i o r outcome job octets left d h
 
@@ -245,7 +256,7 @@ module _ (input : List ℕ) (i : SourceChange) (o r : SinkChange) (outcome : Out
 -- a job with a whole result isn't refused
 not_refused : (words : List (List ℕ)) (files : List File) (input : List ℕ) (job : Job) (count : ℕ) (all said : List ℕ) (stop : JobStop) → Does words (Some files) job → HasWhole job input count all said → StopsBeforeInput words (Some files) stop → stop ≡ JobStopOf.OutOfMemory
 not_refused words files input job count all said (JobStopOf.Refused refusal) d can h =
-    let same : job ≡ refuses refusal = does_once words files job (refuses refusal) d (record { what = h.what; shape = h.shape; specs = h.specs; give = h.give; is = h.stopped }) in
+    let same : job ≡ refuses refusal = does_once words files job (refuses refusal) d (record { what = h.what; shape = h.shape; given = h.given; give = h.give; is = h.stopped }) in
     absurd (subst (λ j. HasWhole j input count all said) same can)
 not_refused words files input job count all said JobStopOf.OutOfMemory d can h = refl
 
@@ -256,7 +267,7 @@ run_completes words files c input i o r outcome job count all said octets left l
 run_completes words files c input i o r outcome job count all said octets left library source out report d can (no_words is unasked idle) = inl is
 run_completes words files c input i o r outcome job count all said octets left library source out report d can (at_files stop h loads is idle) =
     let same : d.what ≡ h.what = shape_once words d.what h.what d.shape h.shape in
-    let memory : stop ≡ LoadStopOf.OutOfMemory = given_ends_for_memory (takes_distinct h.what) files c (files_of h.what) d.specs stop library (subst (λ w. FilesGive (takes_distinct w) (Some files) (files_of w) d.specs) same d.give) h.ends in
+    let memory : stop ≡ LoadStopOf.OutOfMemory = line_ends_for_memory h.what files c d.given stop library (subst (λ w. LineGives w (Some files) d.given) same d.give) h.ends in
     inl (is ∙ ap outcome_of_stop memory)
 run_completes words files c input i o r outcome job count all said octets left library source out report d can (before_input stop h loads is idle) =
     inl (is ∙ ap outcome_of_job_stop (not_refused words files input job count all said stop d can h))

@@ -8,7 +8,7 @@ use Rattle.ax_load.specs.declared.fault.LoadStop.TheVariants.{LoadFault}
 use Rattle.ax_outside.specs.Changes.{LibraryCounts, SourceChange, SinkChange, IsUnasked}
 use Rattle.ax_outside.specs.Files.{File}
 use Rattle.ax_words.specs.declared.line.Line.{Line}
-use Rattle.ax_app.specs.Jobs.{files_of}
+use Rattle.ax_app.specs.Given.{all_files_of}
 
 -- one fault at most where a file couldn't be loaded, and else none
 abbrev pub CountsAt : LoadStop → LibraryCounts → Type 0
@@ -18,13 +18,13 @@ CountsAt _ c = c.faults' ≡ c.faults
 -- each file of the line was loaded once, in order, and no other; of a line without files nothing was
 pub record LoadsAll (what : Line) (files : Option (List File)) (c : LibraryCounts) : Type 0 where
   pub quiet : c.faults' ≡ c.faults
-  pub took : TookFiles files c.taken c.taken' (files_of what)
-  pub unasked : files_of what ≡ [] → IsUnasked c
+  pub took : TookFiles files c.taken c.taken' (all_files_of what)
+  pub unasked : all_files_of what ≡ [] → IsUnasked c
 
 -- so were those as far as the one at which loading stops
 pub record LoadsThrough (what : Line) (files : Option (List File)) (c : LibraryCounts) (stop : LoadStop) : Type 0 where
   pub counts : CountsAt stop c
-  pub took : TookThrough files c.taken c.taken' (files_of what) stop
+  pub took : TookThrough files c.taken c.taken' (all_files_of what) stop
 
 -- the counts of the library, the source and the two sinks
 pub record NoneCounted (c : LibraryCounts) (i : SourceChange) (o r : SinkChange) : Type 0 where

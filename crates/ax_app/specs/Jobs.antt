@@ -1,5 +1,5 @@
 -- The commands: what each does once its files are accepted. A command is one row of `IsJob`.
-use Rattle.std.specs.Prelude.{◌≡◌, ℕ, ◌+◌, ◌≤◌, ◌^◌, Bool, true, false, List, [], ◌∷◌, ◌++◌, length, codes}
+use Rattle.std.specs.Prelude.{◌≡◌, ℕ, ◌+◌, ◌≤◌, ◌^◌, List, [], ◌∷◌, ◌++◌, length, codes, Some, None}
 use Rattle.ax_build_work.specs.BuildCommand.{build_command}
 use Rattle.ax_build_work.specs.declared.fault.TextFault.{TextFault}
 use Rattle.ax_command.specs.Accepted.{accepted_line}
@@ -9,7 +9,9 @@ use Rattle.ax_command.specs.declared.outcome.JobStop.TheVariants as JobStopOf
 use Rattle.ax_command.specs.declared.outcome.Outcome.{Outcome}
 use Rattle.ax_command.specs.declared.outcome.Outcome.TheVariants.{Done, WriteFault, OutOfMemory}
 use Rattle.ax_command.specs.declared.outcome.Refusal.{Refusal}
-use Rattle.ax_command.specs.declared.outcome.Refusal.TheVariants.{FilterRefused, OtherCategory}
+use Rattle.ax_command.specs.declared.outcome.Refusal.TheVariants.{FilterRefused, OtherCategory, ExpansionUnused}
+use Rattle.ax_expand.specs.Expansion.{ExpansionTree}
+use Rattle.ax_expand_work.specs.ExpandCommand.{re_frn, expand_command}
 use Rattle.ax_filter.specs.Texts.{IsFilterText, IsRefused}
 use Rattle.ax_filter.specs.Tree.{ExprTree}
 use Rattle.ax_filter.specs.declared.text.FilterFault.{FilterFault}
@@ -37,9 +39,10 @@ use Rattle.ax_stream.specs.declared.end.StreamEnd.{StreamEnd}
 use Rattle.ax_text.specs.BlockText.{BlockLine, OpaqueLine}
 use Rattle.ax_text.specs.ShowText.{ShowText, OpaqueShown}
 use Rattle.ax_trial.specs.Trial.{IsTrial}
+use Rattle.ax_app.specs.Given.{Given}
 use Rattle.ax_app.specs.Salvages.{outcome_of_salvage}
 use Rattle.ax_words.specs.declared.line.Line.{Line}
-use Rattle.ax_words.specs.declared.line.Line.TheVariants.{Check, Canon, Show, Text, Build, Filter, Migrate, Trial, Salvage, Help, Version}
+use Rattle.ax_words.specs.declared.line.Line.TheVariants.{Check, Canon, Show, Text, Build, Filter, Migrate, Trial, Salvage, Expand, Help, Version}
 
 -- it writes a text, which counts so many blocks, and reads no input, or it answers each block of the input, or it builds a
 -- block of each line of the input that has a token, under this catalogue; or it salvages the blocks of the input, under this
@@ -92,59 +95,46 @@ pub record IsTrialJob (seed count : ℕ) (specs : List SpecTree) (job : Job) : T
   pub trial : IsTrial spec seed count line
   pub is : job ≡ writes count line
 
+-- `expand`: of a category file and an expansion of one category, where the UAP has an item RE of kind explicit, it answers each
+-- block; else it refuses, first for the categories
+pub data IsExpandJob (spec : SpecTree) (x : ExpansionTree) (job : Job) : Type 0 where
+  expands : spec.category ≡ x.category → (frn : ℕ) → re_frn spec ≡ Some frn → job ≡ each_block (expand_command spec frn x) → IsExpandJob spec x job
+  unused : spec.category ≡ x.category → re_frn spec ≡ None → job ≡ refuses (ExpansionUnused spec.category) → IsExpandJob spec x job
+  of_another : (spec.category ≡ x.category → ⊥) → job ≡ refuses (OtherCategory spec.category x.category) → IsExpandJob spec x job
+
+pub record ExpandsBy (given : Given) (job : Job) : Type 0 where
+  pub spec : SpecTree
+  pub x : ExpansionTree
+  pub one : given.specs ≡ spec ∷ []
+  pub expansion : given.expansion ≡ Some x
+  pub is : IsExpandJob spec x job
+
 -- `--help`: the shapes of the commands
 abbrev pub help_text : List ℕ
-help_text = codes "asterix check SPEC\nasterix canon SPEC...\nasterix show SPEC...\nasterix text SPEC...\nasterix build SPEC...\nasterix filter EXPR SPEC...\nasterix migrate OLD NEW\nasterix trial SPEC SEED COUNT\nasterix salvage SPEC...\n"
+help_text = codes "asterix check SPEC\nasterix canon SPEC...\nasterix show SPEC...\nasterix text SPEC...\nasterix build SPEC...\nasterix filter EXPR SPEC...\nasterix migrate OLD NEW\nasterix trial SPEC SEED COUNT\nasterix salvage SPEC...\nasterix expand SPEC EXPANSION\n"
 
 abbrev pub version_text : List ℕ
 version_text = codes "asterix 1\n"
 
--- the names of a line's files, in their order
-abbrev pub files_of : Line → List (List ℕ)
-files_of (Check file) = file ∷ []
-files_of (Canon files) = files
-files_of (Show files) = files
-files_of (Text files) = files
-files_of (Build files) = files
-files_of (Filter expression files) = files
-files_of (Migrate old new) = old ∷ new ∷ []
-files_of (Trial file seed count) = file ∷ []
-files_of (Salvage files) = files
-files_of Help = []
-files_of Version = []
-
--- whether they have to be of distinct categories
-abbrev pub takes_distinct : Line → Bool
-takes_distinct (Check file) = true
-takes_distinct (Canon files) = true
-takes_distinct (Show files) = true
-takes_distinct (Text files) = true
-takes_distinct (Build files) = true
-takes_distinct (Filter expression files) = true
-takes_distinct (Migrate old new) = false
-takes_distinct (Trial file seed count) = true
-takes_distinct (Salvage files) = true
-takes_distinct Help = true
-takes_distinct Version = true
-
--- the job of a line, over the specifications of its files
-abbrev pub IsJob : Line → List SpecTree → Job → Type 0
-IsJob (Check file) specs job = IsCheckJob specs job
-IsJob (Canon files) specs job = job ≡ each_block (canon_command specs)
-IsJob (Show files) specs job = job ≡ each_block (show_command specs)
-IsJob (Text files) specs job = job ≡ each_block (text_command specs)
-IsJob (Build files) specs job = job ≡ builds specs
-IsJob (Filter expression files) specs job = IsFilterJob expression specs job
-IsJob (Migrate old new) specs job = MigratesBetween specs job
-IsJob (Trial file seed count) specs job = IsTrialJob seed count specs job
-IsJob (Salvage files) specs job = job ≡ salvages specs
-IsJob Help specs job = job ≡ writes 0 help_text
-IsJob Version specs job = job ≡ writes 0 version_text
+-- the job of a line, over what its files give
+abbrev pub IsJob : Line → Given → Job → Type 0
+IsJob (Check file) given job = IsCheckJob given.specs job
+IsJob (Canon files) given job = job ≡ each_block (canon_command given.specs)
+IsJob (Show files) given job = job ≡ each_block (show_command given.specs)
+IsJob (Text files) given job = job ≡ each_block (text_command given.specs)
+IsJob (Build files) given job = job ≡ builds given.specs
+IsJob (Filter expression files) given job = IsFilterJob expression given.specs job
+IsJob (Migrate old new) given job = MigratesBetween given.specs job
+IsJob (Trial file seed count) given job = IsTrialJob seed count given.specs job
+IsJob (Salvage files) given job = job ≡ salvages given.specs
+IsJob (Expand spec expansion) given job = ExpandsBy given job
+IsJob Help given job = job ≡ writes 0 help_text
+IsJob Version given job = job ≡ writes 0 version_text
 
 -- the job is a refusal, or memory was wanting before anything was taken or written
-abbrev pub IsStopped : Line → List SpecTree → JobStop → Type 0
-IsStopped line specs (JobStopOf.Refused refusal) = IsJob line specs (refuses refusal)
-IsStopped line specs JobStopOf.OutOfMemory = Unit {0}
+abbrev pub IsStopped : Line → Given → JobStop → Type 0
+IsStopped line given (JobStopOf.Refused refusal) = IsJob line given (refuses refusal)
+IsStopped line given JobStopOf.OutOfMemory = Unit {0}
 
 abbrev pub ReadsInput : Job → Type 0
 ReadsInput (writes count text) = ⊥
@@ -249,6 +239,7 @@ IsReady (Filter expression files) specs = length expression ≤ 2 ^ 31
 IsReady (Migrate old new) specs = Unit {0}
 IsReady (Trial file seed count) specs = IsReadyToTry count specs
 IsReady (Salvage files) specs = Unit {0}
+IsReady (Expand spec expansion) specs = Unit {0}
 IsReady Help specs = Unit {0}
 IsReady Version specs = Unit {0}
 
@@ -259,7 +250,7 @@ pub record EndsTrial (spec : SpecTree) (seed count : ℕ) (o : SinkChange) (outc
   pub ends : TextEnds count line o outcome
 
 -- the line's job was run
-pub record RunsJob (line : Line) (specs : List SpecTree) (i : SourceChange) (o r : SinkChange) (outcome : Outcome) : Type 0 where
+pub record RunsJob (line : Line) (given : Given) (i : SourceChange) (o r : SinkChange) (outcome : Outcome) : Type 0 where
   pub job : Job
-  pub is : IsJob line specs job
+  pub is : IsJob line given job
   pub runs : JobRuns job i o r outcome

@@ -1,15 +1,19 @@
 -- What the files of a command are loaded into.
-use Rattle.std.specs.Prelude.{Bool, IsTrue, IsFalse, List, [], ◌∷◌}
+use Rattle.std.specs.Prelude.{◌≡◌, IsTrue, IsFalse, [], ◌∷◌, Some, None, IsSome}
+use Rattle.ax_app.specs.Given.{Given, only, takes_distinct, expansion_of}
 use Rattle.ax_app.specs.declared.loading.Loaded.{Loaded}
-use Rattle.ax_app.specs.declared.loading.Loaded.TheVariants.{Catalogue, Editions}
+use Rattle.ax_app.specs.declared.loading.Loaded.TheVariants.{Catalogue, Editions, WithExpansion}
+use Rattle.ax_expand.specs.Expansion.{expansion_tree}
 use Rattle.ax_model.specs.Plain.{spec_tree, catalogue_tree}
-use Rattle.ax_model.specs.Specification.{SpecTree}
+use Rattle.ax_words.specs.declared.line.Line.{Line}
 
-abbrev pub specs_of : Loaded → List SpecTree
-specs_of (Catalogue specs) = catalogue_tree specs
-specs_of (Editions old new) = spec_tree old ∷ spec_tree new ∷ []
+abbrev pub given_of : Loaded → Given
+given_of (Catalogue specs) = only (catalogue_tree specs)
+given_of (Editions old new) = only (spec_tree old ∷ spec_tree new ∷ [])
+given_of (WithExpansion spec x) = record { specs = spec_tree spec ∷ []; expansion = Some (expansion_tree x) }
 
--- a catalogue, where the categories have to be distinct, and else two editions
-abbrev pub IsLoadedFor : Bool → Loaded → Type 0
-IsLoadedFor distinct (Catalogue specs) = IsTrue distinct
-IsLoadedFor distinct (Editions old new) = IsFalse distinct
+-- a catalogue, where the line takes one; two editions; or a specification and an expansion, where the line takes one
+abbrev pub IsLoadedFor : Line → Loaded → Type 0
+IsLoadedFor line (Catalogue specs) = IsTrue (takes_distinct line)
+IsLoadedFor line (Editions old new) = IsFalse (takes_distinct line) × (expansion_of line ≡ None)
+IsLoadedFor line (WithExpansion spec x) = IsSome (expansion_of line)

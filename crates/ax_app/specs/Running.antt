@@ -3,10 +3,8 @@ use Rattle.std.specs.Prelude.{◌≡◌, ℕ, ◌+◌, ◌<◌, ◌≤◌, ◌�
 use Rattle.ax_command.specs.Outcomes.{outcome_of_stop, outcome_of_job_stop}
 use Rattle.ax_command.specs.declared.outcome.JobStop.{JobStop}
 use Rattle.ax_command.specs.declared.outcome.Outcome.{Outcome}
-use Rattle.ax_command.specs.declared.outcome.Outcome.TheVariants.{Usage, OtherCategory, FilterRefused, TextRefused, MigratedTooLong, ReadFault, WriteFault, ReportFault, InputTooLong, OutOfMemory}
-use Rattle.ax_load.specs.Loading.{FilesGive, FilesEnd}
+use Rattle.ax_command.specs.declared.outcome.Outcome.TheVariants.{Usage, OtherCategory, ExpansionUnused, FilterRefused, TextRefused, MigratedTooLong, ReadFault, WriteFault, ReportFault, InputTooLong, OutOfMemory}
 use Rattle.ax_load.specs.declared.fault.LoadStop.{LoadStop}
-use Rattle.ax_model.specs.Specification.{SpecTree}
 use Rattle.ax_outside.specs.Changes.{LibraryCounts, SourceChange, SinkChange, IsUntouched, IsUnasked, first_step, second_step, Gains, GainsNothing, GainsPart}
 use Rattle.ax_outside.specs.Files.{File}
 use Rattle.ax_outside.specs.Told.{Rose}
@@ -16,29 +14,30 @@ use Rattle.ax_words.specs.Words.{HasShape, HasNoShape}
 use Rattle.ax_words.specs.declared.line.Line.{Line}
 use Rattle.ax_words.specs.declared.line.Line.TheVariants as LineOf
 use Rattle.ax_app.specs.Counting.{LoadsAll, LoadsThrough}
-use Rattle.ax_app.specs.Jobs.{Job, IsJob, IsStopped, JobRuns, files_of, takes_distinct}
+use Rattle.ax_app.specs.Given.{Given, LineGives, LineEnds}
+use Rattle.ax_app.specs.Jobs.{Job, IsJob, IsStopped, JobRuns}
 
--- the words ask for this, its files give these specifications, and over them it is this job
+-- the words ask for this, its files give this, and over it it is this job
 pub record Does (words : List (List ℕ)) (files : Option (List File)) (job : Job) : Type 0 where
   pub what : Line
   pub shape : HasShape words what
-  pub specs : List SpecTree
-  pub give : FilesGive (takes_distinct what) files (files_of what) specs
-  pub is : IsJob what specs job
+  pub given : Given
+  pub give : LineGives what files given
+  pub is : IsJob what given job
 
 -- the words ask for this, and loading its files stops so
 pub record StopsAtFiles (words : List (List ℕ)) (files : Option (List File)) (c : LibraryCounts) (stop : LoadStop) : Type 0 where
   pub what : Line
   pub shape : HasShape words what
-  pub ends : FilesEnd (takes_distinct what) files c (files_of what) stop
+  pub ends : LineEnds what files c stop
 
--- its files give these specifications, and the command stops before its input
+-- its files give this, and the command stops before its input
 pub record StopsBeforeInput (words : List (List ℕ)) (files : Option (List File)) (stop : JobStop) : Type 0 where
   pub what : Line
   pub shape : HasShape words what
-  pub specs : List SpecTree
-  pub give : FilesGive (takes_distinct what) files (files_of what) specs
-  pub stopped : IsStopped what specs stop
+  pub given : Given
+  pub give : LineGives what files given
+  pub stopped : IsStopped what given stop
 
 -- first the words, for which memory may be wanting, then the files, then what else the words say over them, then the job
 pub data Runs (words : List (List ℕ)) (files : Option (List File)) (c : LibraryCounts) (i : SourceChange) (o r : SinkChange) (outcome : Outcome) : Type 0 where
@@ -96,6 +95,7 @@ TakesMemory (LineOf.Filter expression files) = ⊥
 TakesMemory (LineOf.Migrate old new) = ⊥
 TakesMemory (LineOf.Trial file seed count) = ⊥
 TakesMemory (LineOf.Salvage files) = ⊥
+TakesMemory (LineOf.Expand spec expansion) = Unit {0}
 TakesMemory LineOf.Help = ⊥
 TakesMemory LineOf.Version = ⊥
 
@@ -119,6 +119,7 @@ pub record AsksForMemory (words : List (List ℕ)) : Type 0 where
 abbrev pub ReportsBlocks : Line → Type 0
 ReportsBlocks (LineOf.Migrate old new) = Unit {0}
 ReportsBlocks (LineOf.Salvage files) = Unit {0}
+ReportsBlocks (LineOf.Expand spec expansion) = Unit {0}
 ReportsBlocks _ = ⊥
 
 -- those that refuse a block for the length of its migrated form
@@ -126,10 +127,16 @@ abbrev pub RefusesLengths : Line → Type 0
 RefusesLengths (LineOf.Migrate old new) = Unit {0}
 RefusesLengths _ = ⊥
 
--- those that compare two editions
-abbrev pub ComparesEditions : Line → Type 0
-ComparesEditions (LineOf.Migrate old new) = Unit {0}
-ComparesEditions _ = ⊥
+-- those that compare the categories of two files
+abbrev pub ComparesCategories : Line → Type 0
+ComparesCategories (LineOf.Migrate old new) = Unit {0}
+ComparesCategories (LineOf.Expand spec expansion) = Unit {0}
+ComparesCategories _ = ⊥
+
+-- those that read an expansion file
+abbrev pub ReadsExpansion : Line → Type 0
+ReadsExpansion (LineOf.Expand spec expansion) = Unit {0}
+ReadsExpansion _ = ⊥
 
 -- those that read an expression
 abbrev pub ReadsExpression : Line → Type 0
@@ -145,7 +152,8 @@ ReadsLines _ = ⊥
 abbrev pub MayCome : Outcome → Line → Type 0
 MayCome ReportFault what = ReportsBlocks what
 MayCome (MigratedTooLong block octets) what = RefusesLengths what
-MayCome (OtherCategory old new) what = ComparesEditions what
+MayCome (OtherCategory old new) what = ComparesCategories what
+MayCome (ExpansionUnused category) what = ReadsExpansion what
 MayCome (FilterRefused fault) what = ReadsExpression what
 MayCome (TextRefused line fault) what = ReadsLines what
 MayCome _ what = Unit {0}

@@ -4,14 +4,14 @@ ghost use Rattle.std.specs.String.{string_bytes};
 ghost use Rattle.ax_bits.specs.Bits.{AreOctets};
 ghost use Rattle.ax_command.specs.Lines.{lines_of};
 ghost use Rattle.ax_outside.specs.Changes.{LibraryCounts, library_counts, source_change, sink_change, IsUntouched, GainsNothing};
-ghost use Rattle.ax_load.specs.Loading.{FilesGive};
 ghost use Rattle.ax_outside.specs.Files.{File};
 ghost use Rattle.ax_words.specs.Words.{IsInBounds, HasShape, HasNoShape};
 ghost use Rattle.ax_app.specs.Completing.{NoFaultCounted, HasWhole, IsDoneWith};
 ghost use Rattle.ax_app.specs.Counting.{LoadsAll, CountsOnly};
 ghost use Rattle.ax_app.specs.Headline.{Headline};
-ghost use Rattle.ax_app.specs.Jobs.{Job, IsReady, ReadsInput, files_of, takes_distinct};
-ghost use Rattle.ax_app.specs.Loaded.{specs_of, IsLoadedFor};
+ghost use Rattle.ax_app.specs.Given.{LineGives};
+ghost use Rattle.ax_app.specs.Jobs.{Job, IsReady, ReadsInput};
+ghost use Rattle.ax_app.specs.Loaded.{given_of, IsLoadedFor};
 ghost use Rattle.ax_app.specs.Running.{Runs, Does, Causes, Ended, NoCountFell, NoFaultFell, WantsFirst, AsksForMemory, IsOfItsCommand};
 
 use crate::jobs::do_job;
@@ -30,9 +30,9 @@ fn obey_loaded<S: Source, K: Sink, R: Sink>(
     out: &mut K,
     report: &mut R,
 ) -> Outcome
-    requires ready { IsReady line.now (specs_of loaded.now) }
-    requires loaded { IsLoadedFor (takes_distinct line.now) loaded.now }
-    ensures runs { (words : List (List ℕ)) (files : Option (List File)) (c : LibraryCounts) → HasShape words line.now → FilesGive (takes_distinct line.now) files (files_of line.now) (specs_of loaded.now) → LoadsAll line.now files c
+    requires ready { IsReady line.now (given_of loaded.now).specs }
+    requires loaded { IsLoadedFor line.now loaded.now }
+    ensures runs { (words : List (List ℕ)) (files : Option (List File)) (c : LibraryCounts) → HasShape words line.now → LineGives line.now files (given_of loaded.now) → LoadsAll line.now files c
         → Runs words files c (source_change S.Source source.old source.new) (sink_change K.Sink out.old out.new) (sink_change R.Sink report.old report.new) result }
     ensures first { WantsFirst line.now (source_change S.Source source.old source.new) (sink_change K.Sink out.old out.new) result }
     ensures later { NoFaultFell (source_change S.Source source.old source.new) (sink_change K.Sink out.old out.new) (sink_change R.Sink report.old report.new) }
@@ -89,7 +89,7 @@ fn obey<L: Library, S: Source, K: Sink, R: Sink>(
 
 /// Does what the words say, and answers how that ended. Usage comes exactly where the words have no shape, but that want of
 /// memory may stand in its place, since reading the words takes memory. Where memory is wanting, the source is untouched and
-/// nothing was written, but of the commands that take memory once they read: `show`, `text` and `build`. Before the lines of
+/// nothing was written, but of the commands that take memory once they read: `show`, `text`, `build` and `expand`. Before the lines of
 /// the outcome one fault at most is counted, of the object that the outcome names.
 pub fn run<L: Library, S: Source, K: Sink, R: Sink>(
     alloc: Global,

@@ -1,4 +1,4 @@
-//! The commands, over the specifications of their files.
+//! The commands, over what their files give.
 ghost use Rattle.std.specs.Prelude.{◌≡◌, ◌≤◌, ◌^◌, List, ℕ, [], ◌∷◌, length, IsTrue, IfOk, IfErr, OnErr};
 ghost use Rattle.ax_drive.specs.Working.{IsSoundJob, job_command};
 ghost use Rattle.ax_relation.specs.Relates.{Relates};
@@ -13,10 +13,12 @@ ghost use Rattle.ax_command.specs.declared.outcome.JobStop.{JobStop};
 ghost use Rattle.ax_command.specs.declared.outcome.JobStop.TheVariants.{OutOfMemory};
 ghost use Rattle.ax_stream.specs.Streams.{IsIdle};
 ghost use Rattle.ax_words.specs.declared.line.Line.TheVariants.{Canon, Show, Text, Filter, Migrate};
-ghost use Rattle.ax_app.specs.Jobs.{BlocksRun, IsReady, IsReadyToCheck, IsReadyToTry, EndsTrial, IsStopped, RunsJob, TextEnds, check_text, takes_distinct};
-ghost use Rattle.ax_app.specs.Loaded.{specs_of, IsLoadedFor};
+ghost use Rattle.ax_app.specs.Jobs.{BlocksRun, IsReady, IsReadyToCheck, IsReadyToTry, EndsTrial, IsStopped, RunsJob, TextEnds, check_text};
+ghost use Rattle.ax_app.specs.Given.{only, takes_distinct};
+ghost use Rattle.ax_app.specs.Loaded.{given_of, IsLoadedFor};
 ghost use Rattle.ax_app.specs.Running.{NoFaultFell, WasIdle, WantsFirst};
 
+use crate::expanding::expand;
 use crate::loading::Loaded;
 use crate::outcomes::{outcome_of, outcome_of_salvage};
 use ax_build_work::build_lines;
@@ -40,7 +42,7 @@ use std::alloc::{AllocError, Global};
 
 /// What `--help` writes.
 const HELP: &[u8] =
-    b"asterix check SPEC\nasterix canon SPEC...\nasterix show SPEC...\nasterix text SPEC...\nasterix build SPEC...\nasterix filter EXPR SPEC...\nasterix migrate OLD NEW\nasterix trial SPEC SEED COUNT\nasterix salvage SPEC...\n";
+    b"asterix check SPEC\nasterix canon SPEC...\nasterix show SPEC...\nasterix text SPEC...\nasterix build SPEC...\nasterix filter EXPR SPEC...\nasterix migrate OLD NEW\nasterix trial SPEC SEED COUNT\nasterix salvage SPEC...\nasterix expand SPEC EXPANSION\n";
 
 /// What `--version` writes.
 const VERSION: &[u8] = b"asterix 1\n";
@@ -146,7 +148,7 @@ fn canon<S: Source, K: Sink, R: Sink>(
     out: &mut K,
     report: &mut R,
 ) -> Result<Outcome, JobStop>
-    ensures runs { (files : List (List ℕ)) → IfOk result (RunsJob (Canon files) (catalogue_tree catalogue.now) (source_change S.Source source.old source.new) (sink_change K.Sink out.old out.new) (sink_change R.Sink report.old report.new)) }
+    ensures runs { (files : List (List ℕ)) → IfOk result (RunsJob (Canon files) (only (catalogue_tree catalogue.now)) (source_change S.Source source.old source.new) (sink_change K.Sink out.old out.new) (sink_change R.Sink report.old report.new)) }
     ensures memory { IfErr result (λ stop. stop ≡ OutOfMemory) }
     ensures first { IfOk result (WasIdle (source_change S.Source source.old source.new) (sink_change K.Sink out.old out.new)) }
     ensures idle { OnErr result (IsIdle (source_change S.Source source.old source.new) (sink_change K.Sink out.old out.new) (sink_change R.Sink report.old report.new)) }
@@ -167,7 +169,7 @@ fn show<S: Source, K: Sink, R: Sink>(
     out: &mut K,
     report: &mut R,
 ) -> Result<Outcome, JobStop>
-    ensures runs { (files : List (List ℕ)) → IfOk result (RunsJob (Show files) (catalogue_tree catalogue.now) (source_change S.Source source.old source.new) (sink_change K.Sink out.old out.new) (sink_change R.Sink report.old report.new)) }
+    ensures runs { (files : List (List ℕ)) → IfOk result (RunsJob (Show files) (only (catalogue_tree catalogue.now)) (source_change S.Source source.old source.new) (sink_change K.Sink out.old out.new) (sink_change R.Sink report.old report.new)) }
     ensures memory { IfErr result (λ stop. stop ≡ OutOfMemory) }
     ensures idle { OnErr result (IsIdle (source_change S.Source source.old source.new) (sink_change K.Sink out.old out.new) (sink_change R.Sink report.old report.new)) }
     ensures later { NoFaultFell (source_change S.Source source.old source.new) (sink_change K.Sink out.old out.new) (sink_change R.Sink report.old report.new) }
@@ -190,7 +192,7 @@ fn text_blocks<S: Source, K: Sink, R: Sink>(
     out: &mut K,
     report: &mut R,
 ) -> Result<Outcome, JobStop>
-    ensures runs { (files : List (List ℕ)) → IfOk result (RunsJob (Text files) (catalogue_tree catalogue.now) (source_change S.Source source.old source.new) (sink_change K.Sink out.old out.new) (sink_change R.Sink report.old report.new)) }
+    ensures runs { (files : List (List ℕ)) → IfOk result (RunsJob (Text files) (only (catalogue_tree catalogue.now)) (source_change S.Source source.old source.new) (sink_change K.Sink out.old out.new) (sink_change R.Sink report.old report.new)) }
     ensures memory { IfErr result (λ stop. stop ≡ OutOfMemory) }
     ensures idle { OnErr result (IsIdle (source_change S.Source source.old source.new) (sink_change K.Sink out.old out.new) (sink_change R.Sink report.old report.new)) }
     ensures later { NoFaultFell (source_change S.Source source.old source.new) (sink_change K.Sink out.old out.new) (sink_change R.Sink report.old report.new) }
@@ -235,8 +237,8 @@ fn filter<S: Source, K: Sink, R: Sink>(
     report: &mut R,
 ) -> Result<Outcome, JobStop>
     requires { length text.now ≤ 2 ^ 31 }
-    ensures runs { (files : List (List ℕ)) → IfOk result (RunsJob (Filter text.now files) (catalogue_tree catalogue.now) (source_change S.Source source.old source.new) (sink_change K.Sink out.old out.new) (sink_change R.Sink report.old report.new)) }
-    ensures stopped { (files : List (List ℕ)) → IfErr result (IsStopped (Filter text.now files) (catalogue_tree catalogue.now)) }
+    ensures runs { (files : List (List ℕ)) → IfOk result (RunsJob (Filter text.now files) (only (catalogue_tree catalogue.now)) (source_change S.Source source.old source.new) (sink_change K.Sink out.old out.new) (sink_change R.Sink report.old report.new)) }
+    ensures stopped { (files : List (List ℕ)) → IfErr result (IsStopped (Filter text.now files) (only (catalogue_tree catalogue.now))) }
     ensures first { IfOk result (WasIdle (source_change S.Source source.old source.new) (sink_change K.Sink out.old out.new)) }
     ensures idle { OnErr result (IsIdle (source_change S.Source source.old source.new) (sink_change K.Sink out.old out.new) (sink_change R.Sink report.old report.new)) }
     ensures later { NoFaultFell (source_change S.Source source.old source.new) (sink_change K.Sink out.old out.new) (sink_change R.Sink report.old report.new) }
@@ -285,8 +287,8 @@ fn migrate<S: Source, K: Sink, R: Sink>(
     out: &mut K,
     report: &mut R,
 ) -> Result<Outcome, JobStop>
-    ensures runs { (names : List ℕ × List ℕ) → IfOk result (RunsJob (Migrate names.0 names.1) (spec_tree old.now ∷ spec_tree new.now ∷ []) (source_change S.Source source.old source.new) (sink_change K.Sink out.old out.new) (sink_change R.Sink report.old report.new)) }
-    ensures stopped { (names : List ℕ × List ℕ) → IfErr result (IsStopped (Migrate names.0 names.1) (spec_tree old.now ∷ spec_tree new.now ∷ [])) }
+    ensures runs { (names : List ℕ × List ℕ) → IfOk result (RunsJob (Migrate names.0 names.1) (only (spec_tree old.now ∷ spec_tree new.now ∷ [])) (source_change S.Source source.old source.new) (sink_change K.Sink out.old out.new) (sink_change R.Sink report.old report.new)) }
+    ensures stopped { (names : List ℕ × List ℕ) → IfErr result (IsStopped (Migrate names.0 names.1) (only (spec_tree old.now ∷ spec_tree new.now ∷ []))) }
     ensures first { IfOk result (WasIdle (source_change S.Source source.old source.new) (sink_change K.Sink out.old out.new)) }
     ensures idle { OnErr result (IsIdle (source_change S.Source source.old source.new) (sink_change K.Sink out.old out.new) (sink_change R.Sink report.old report.new)) }
     ensures later { NoFaultFell (source_change S.Source source.old source.new) (sink_change K.Sink out.old out.new) (sink_change R.Sink report.old report.new) }
@@ -310,7 +312,7 @@ fn salvage_blocks<S: Source, K: Sink, R: Sink>(
     out: &mut K,
     report: &mut R,
 ) -> Result<Outcome, JobStop>
-    ensures runs { (files : List (List ℕ)) → IfOk result (RunsJob (Line.Salvage files) (catalogue_tree catalogue.now) (source_change S.Source source.old source.new) (sink_change K.Sink out.old out.new) (sink_change R.Sink report.old report.new)) }
+    ensures runs { (files : List (List ℕ)) → IfOk result (RunsJob (Line.Salvage files) (only (catalogue_tree catalogue.now)) (source_change S.Source source.old source.new) (sink_change K.Sink out.old out.new) (sink_change R.Sink report.old report.new)) }
     ensures memory { IfErr result (λ stop. stop ≡ OutOfMemory) }
     ensures first { IfOk result (WasIdle (source_change S.Source source.old source.new) (sink_change K.Sink out.old out.new)) }
     ensures idle { OnErr result (IsIdle (source_change S.Source source.old source.new) (sink_change K.Sink out.old out.new) (sink_change R.Sink report.old report.new)) }
@@ -337,8 +339,8 @@ fn over_catalogue<S: Source, K: Sink, R: Sink>(
 ) -> Result<Outcome, JobStop>
     requires ready { IsReady line.now (catalogue_tree catalogue.now) }
     requires distinct { IsTrue (takes_distinct line.now) }
-    ensures runs { IfOk result (RunsJob line.now (catalogue_tree catalogue.now) (source_change S.Source source.old source.new) (sink_change K.Sink out.old out.new) (sink_change R.Sink report.old report.new)) }
-    ensures stopped { IfErr result (IsStopped line.now (catalogue_tree catalogue.now)) }
+    ensures runs { IfOk result (RunsJob line.now (only (catalogue_tree catalogue.now)) (source_change S.Source source.old source.new) (sink_change K.Sink out.old out.new) (sink_change R.Sink report.old report.new)) }
+    ensures stopped { IfErr result (IsStopped line.now (only (catalogue_tree catalogue.now))) }
     ensures first { IfOk result (WantsFirst line.now (source_change S.Source source.old source.new) (sink_change K.Sink out.old out.new)) }
     ensures idle { OnErr result (IsIdle (source_change S.Source source.old source.new) (sink_change K.Sink out.old out.new) (sink_change R.Sink report.old report.new)) }
     ensures later { NoFaultFell (source_change S.Source source.old source.new) (sink_change K.Sink out.old out.new) (sink_change R.Sink report.old report.new) }
@@ -355,10 +357,11 @@ fn over_catalogue<S: Source, K: Sink, R: Sink>(
         Line::Help => Ok(write_out(out, HELP, 0)),
         Line::Version => Ok(write_out(out, VERSION, 0)),
         Line::Migrate { .. } => unreachable!(),
+        Line::Expand { .. } => unreachable!(),
     }
 }
 
-/// Does what the command says, over the specifications of its files.
+/// Does what the command says, over what its files give.
 pub fn do_job<S: Source, K: Sink, R: Sink>(
     alloc: Global,
     line: &Line,
@@ -367,10 +370,10 @@ pub fn do_job<S: Source, K: Sink, R: Sink>(
     out: &mut K,
     report: &mut R,
 ) -> Result<Outcome, JobStop>
-    requires ready { IsReady line.now (specs_of loaded.now) }
-    requires loaded { IsLoadedFor (takes_distinct line.now) loaded.now }
-    ensures runs { IfOk result (RunsJob line.now (specs_of loaded.now) (source_change S.Source source.old source.new) (sink_change K.Sink out.old out.new) (sink_change R.Sink report.old report.new)) }
-    ensures stopped { IfErr result (IsStopped line.now (specs_of loaded.now)) }
+    requires ready { IsReady line.now (given_of loaded.now).specs }
+    requires loaded { IsLoadedFor line.now loaded.now }
+    ensures runs { IfOk result (RunsJob line.now (given_of loaded.now) (source_change S.Source source.old source.new) (sink_change K.Sink out.old out.new) (sink_change R.Sink report.old report.new)) }
+    ensures stopped { IfErr result (IsStopped line.now (given_of loaded.now)) }
     ensures first { IfOk result (WantsFirst line.now (source_change S.Source source.old source.new) (sink_change K.Sink out.old out.new)) }
     ensures idle { OnErr result (IsIdle (source_change S.Source source.old source.new) (sink_change K.Sink out.old out.new) (sink_change R.Sink report.old report.new)) }
     ensures later { NoFaultFell (source_change S.Source source.old source.new) (sink_change K.Sink out.old out.new) (sink_change R.Sink report.old report.new) }
@@ -380,5 +383,8 @@ pub fn do_job<S: Source, K: Sink, R: Sink>(
             over_catalogue(alloc, line, catalogue, source, out, report)
         }
         Loaded::Editions(old, new) => migrate(alloc, old, new, source, out, report),
+        Loaded::WithExpansion(accepted, expansion) => {
+            expand(alloc, accepted, expansion, source, out, report)
+        }
     }
 }

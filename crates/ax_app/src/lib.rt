@@ -2,6 +2,7 @@
 //! `asterix` does.
 #![tactic(auto)]
 
+mod expanding;
 mod gateway;
 mod jobs;
 mod laws;

@@ -1,13 +1,13 @@
 //! The files of a command.
 ghost use Rattle.std.specs.Prelude.{◌≡◌, ◌≤◌, ◌<◌, IsTrue, length, IfOk, IfErr};
 ghost use Rattle.ax_app.specs.Counting.{LoadsAll, LoadsThrough};
-ghost use Rattle.ax_app.specs.Jobs.{files_of, takes_distinct};
-ghost use Rattle.ax_app.specs.Loaded.{specs_of, IsLoadedFor};
-ghost use Rattle.ax_load.specs.Loading.{FilesGive, FilesEnd};
+ghost use Rattle.ax_app.specs.Given.{files_of, takes_distinct, LineGives, LineEnds};
+ghost use Rattle.ax_app.specs.Loaded.{given_of, IsLoadedFor};
 ghost use Rattle.ax_outside.specs.Changes.{library_counts};
 
 use ax_check::{Accepted, Catalogue};
-use ax_load::{LoadStop, load_catalogue, load_two};
+use ax_expand::AcceptedExpansion;
+use ax_load::{LoadStop, load_catalogue, load_two, load_with_expansion};
 use ax_outside::Library;
 use ax_words::{Line, WordText};
 use std::alloc::Global;
@@ -20,6 +20,8 @@ pub enum Loaded {
     Catalogue(Catalogue),
     /// The old edition and the new one.
     Editions(Accepted, Accepted),
+    /// A specification, and an expansion by which its RE is read.
+    WithExpansion(Accepted, AcceptedExpansion),
 }
 
 /// The names of the files of a command that takes a catalogue.
@@ -40,16 +42,17 @@ fn names_of(line: &Line) -> &[WordText]
         Line::Help => &[],
         Line::Version => &[],
         Line::Migrate { .. } => unreachable!(),
+        Line::Expand { .. } => unreachable!(),
     }
 }
 
-/// The specifications of the files of a command, or how the run ends at the first file that gives none. Each file is loaded
+/// What the files of a command give, or how the run ends at the first file that gives none. Each file is loaded
 /// once, in order, and none after the first one that ends the run.
 #[tactic(auto, using(crate::proofs::Loads::loads))]
 pub fn load<L: Library>(alloc: Global, library: &mut L, line: &Line) -> Result<Loaded, LoadStop>
-    ensures gives { IfOk result (λ loaded. FilesGive (takes_distinct line.now) (L.files library.old) (files_of line.now) (specs_of loaded)) }
-    ensures loaded { IfOk result (IsLoadedFor (takes_distinct line.now)) }
-    ensures ends { IfErr result (λ stop. FilesEnd (takes_distinct line.now) (L.files library.old) (library_counts L.Library library.old library.new) (files_of line.now) stop) }
+    ensures gives { IfOk result (λ loaded. LineGives line.now (L.files library.old) (given_of loaded)) }
+    ensures loaded { IfOk result (IsLoadedFor line.now) }
+    ensures ends { IfErr result (LineEnds line.now (L.files library.old) (library_counts L.Library library.old library.new)) }
     ensures loads_all { IfOk result (λ _. LoadsAll line.now (L.files library.old) (library_counts L.Library library.old library.new)) }
     ensures loads_through { IfErr result (λ stop. LoadsThrough line.now (L.files library.old) (library_counts L.Library library.old library.new) stop) }
     ensures keeps { L.files library.new ≡ L.files library.old }
@@ -61,6 +64,12 @@ pub fn load<L: Library>(alloc: Global, library: &mut L, line: &Line) -> Result<L
             Ok((old, new)) => Ok(Loaded::Editions(old, new)),
             Err(stop) => Err(stop),
         },
+        Line::Expand { spec, expansion } => {
+            match load_with_expansion(alloc, library, spec.text(), expansion.text()) {
+                Ok((spec, expansion)) => Ok(Loaded::WithExpansion(spec, expansion)),
+                Err(stop) => Err(stop),
+            }
+        }
         _ => match load_catalogue(alloc, library, names_of(line)) {
             Ok(catalogue) => Ok(Loaded::Catalogue(catalogue)),
             Err(stop) => Err(stop),

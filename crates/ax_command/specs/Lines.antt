@@ -7,7 +7,7 @@ use Rattle.ax_model.specs.declared.flaw.FlawKind.TheVariants.{DuplicateItem, Dup
 use Rattle.ax_report.specs.Lines.{numbered}
 use Rattle.ax_stream.specs.Lines.{fault_line}
 use Rattle.ax_command.specs.declared.outcome.Outcome.{Outcome}
-use Rattle.ax_command.specs.declared.outcome.Outcome.TheVariants.{Done, Usage, SpecRefused, CategoryTwice, InputRefused, TextRefused, MigratedTooLong, InputTooLong, LoadFault, ReadFault, WriteFault, ReportFault, OutOfMemory, OtherCategory, FilterRefused}
+use Rattle.ax_command.specs.declared.outcome.Outcome.TheVariants.{Done, Usage, SpecRefused, CategoryTwice, InputRefused, TextRefused, MigratedTooLong, InputTooLong, LoadFault, ReadFault, WriteFault, ReportFault, OutOfMemory, OtherCategory, ExpansionUnused, FilterRefused}
 use Rattle.ax_build_work.specs.declared.fault.TextFault.{TextFault}
 use Rattle.ax_build_work.specs.declared.fault.TextFault.TheVariants as TextFaultOf
 use Rattle.ax_filter.specs.declared.text.FilterFault.{FilterFault}
@@ -75,4 +75,5 @@ lines_of WriteFault = codes "fault write\n"
 lines_of ReportFault = []
 lines_of OutOfMemory = codes "refused memory\n"
 lines_of (OtherCategory old new) = codes "refused editions" ++ (codes " " ++ (three_digits old ++ (codes " " ++ (three_digits new ++ codes "\n"))))
+lines_of (ExpansionUnused category) = codes "refused expansion " ++ (three_digits category ++ codes "\n")
 lines_of (FilterRefused fault) = filter_line fault

@@ -42,6 +42,7 @@ outcome_of_lines LinesEndOf.OutOfMemory = OutcomeOf.OutOfMemory
 
 abbrev pub outcome_of_refusal : Refusal → Outcome
 outcome_of_refusal (RefusalOf.OtherCategory old new) = OutcomeOf.OtherCategory old new
+outcome_of_refusal (RefusalOf.ExpansionUnused category) = OutcomeOf.ExpansionUnused category
 outcome_of_refusal (RefusalOf.FilterRefused fault) = OutcomeOf.FilterRefused fault
 
 abbrev pub outcome_of_job_stop : JobStop → Outcome

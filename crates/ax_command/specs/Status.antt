@@ -1,7 +1,7 @@
 -- The exit status of each outcome (this project's own rule).
 use Rattle.std.specs.Prelude.{ℕ}
 use Rattle.ax_command.specs.declared.outcome.Outcome.{Outcome}
-use Rattle.ax_command.specs.declared.outcome.Outcome.TheVariants.{Done, Usage, SpecRefused, CategoryTwice, InputRefused, TextRefused, MigratedTooLong, InputTooLong, LoadFault, ReadFault, WriteFault, ReportFault, OutOfMemory, OtherCategory, FilterRefused}
+use Rattle.ax_command.specs.declared.outcome.Outcome.TheVariants.{Done, Usage, SpecRefused, CategoryTwice, InputRefused, TextRefused, MigratedTooLong, InputTooLong, LoadFault, ReadFault, WriteFault, ReportFault, OutOfMemory, OtherCategory, ExpansionUnused, FilterRefused}
 
 abbrev pub status_of : Outcome → ℕ
 status_of (Done blocks) = 0
@@ -18,4 +18,5 @@ status_of WriteFault = 4
 status_of ReportFault = 4
 status_of OutOfMemory = 5
 status_of (OtherCategory old new) = 2
+status_of (ExpansionUnused category) = 2
 status_of (FilterRefused fault) = 2

@@ -97,6 +97,18 @@ fn write_editions<K: Sink>(sink: &mut K, old: u8, new: u8) -> Result<(), SinkFai
     write_two(sink, b"refused editions", &two_categories(old, new))
 }
 
+/// Writes the line of an expansion file without use.
+fn write_unused<K: Sink>(sink: &mut K, category: u8) -> Result<(), SinkFailed>
+    ensures { Wrote (sink_change K.Sink sink.old sink.new) result (lines_of (Outcome.ExpansionUnused category)) }
+{
+    write_three(
+        sink,
+        b"refused expansion ",
+        &category_digits(category),
+        b"\n",
+    )
+}
+
 /// Writes the line of a refused expression.
 fn write_filter_fault<K: Sink>(sink: &mut K, fault: FilterFault) -> Result<(), SinkFailed>
     ensures { Wrote (sink_change K.Sink sink.old sink.new) result (filter_line fault) }
@@ -271,6 +283,7 @@ pub fn write_lines<K: Sink>(sink: &mut K, outcome: &Outcome) -> Result<(), SinkF
         Outcome::ReportFault => Ok(()),
         Outcome::OutOfMemory => write_text(sink, b"refused memory\n"),
         Outcome::OtherCategory { old, new } => write_editions(sink, *old, *new),
+        Outcome::ExpansionUnused { category } => write_unused(sink, *category),
         Outcome::FilterRefused { fault } => write_filter_fault(sink, *fault),
     }
 }

@@ -17,23 +17,25 @@ pub enum Outcome {
     Done { blocks: u64 },
     /// The words have no shape that the program knows.
     Usage,
-    /// A category file, numbered from 0 in the order of the words, is refused.
+    /// A category file or an expansion file, numbered from 0 in the order of the words, is refused.
     SpecRefused { file: u32, fault: SpecFault },
     /// An earlier file has the category of that one, which is numbered from 0 in the order of the words.
     CategoryTwice { file: u32, category: u8 },
     /// The expression of `filter` is refused.
     FilterRefused { fault: FilterFault },
-    /// The two editions are of these two categories, which differ.
+    /// The two editions, or the category file and the expansion file, are of these two categories, which differ.
     OtherCategory { old: u8, new: u8 },
+    /// The user application profile of that category has no item RE of kind explicit, so that an expansion file has no use.
+    ExpansionUnused { category: u8 },
     /// The input has a fault.
     InputRefused { fault: InputFault },
     /// That line of the input, numbered from 0, is too long, no block's text, or the text of a block that is too long.
     TextRefused { line: u64, fault: TextFault },
-    /// The migrated form of that block has that many octets, more than a block can have.
+    /// A record of that block, migrated, gives alone a data block of that many octets, more than one can have.
     MigratedTooLong { block: u64, octets: u32 },
     /// The input has more than 2^40 octets.
     InputTooLong,
-    /// A category file, numbered from 0 in the order of the words, could not be loaded.
+    /// A category file or an expansion file, numbered from 0 in the order of the words, could not be loaded.
     LoadFault { file: u32 },
     /// The input could not be read.
     ReadFault,
@@ -50,8 +52,10 @@ pub enum Outcome {
 pub enum Refusal {
     /// The expression of `filter` has that fault.
     FilterRefused { fault: FilterFault },
-    /// The two editions are of these two categories, which differ.
+    /// The two editions, or the category file and the expansion file, are of these two categories, which differ.
     OtherCategory { old: u8, new: u8 },
+    /// The user application profile of that category has no item RE of kind explicit.
+    ExpansionUnused { category: u8 },
 }
 
 /// Why a command doesn't come to its input.
@@ -71,6 +75,9 @@ impl From<JobStop> for Outcome {
             JobStop::Refused(Refusal::FilterRefused { fault }) => Outcome::FilterRefused { fault },
             JobStop::Refused(Refusal::OtherCategory { old, new }) => {
                 Outcome::OtherCategory { old, new }
+            }
+            JobStop::Refused(Refusal::ExpansionUnused { category }) => {
+                Outcome::ExpansionUnused { category }
             }
             JobStop::OutOfMemory => Outcome::OutOfMemory,
         }
@@ -127,9 +134,9 @@ impl From<LinesEnd<TextFault>> for Outcome {
 }
 
 impl Outcome {
-    /// The exit status: 0 for Done, 1 for faulty words, 2 for a refused file or expression and for two editions of
-    /// different categories, 3 for a refused input, 4 for a
-    /// fault of the outside, 5 for want of memory. Takes no memory.
+    /// The exit status: 0 for Done, 1 for faulty words, 2 for a refused file or expression, for two files of different
+    /// categories and for an expansion file without use, 3 for a refused input, 4 for a fault of the outside, 5 for want of
+    /// memory. Takes no memory.
     pub fn status(&self) -> u8
         ensures { result ≡ status_of self.now }
     {
@@ -139,7 +146,8 @@ impl Outcome {
             Outcome::SpecRefused { .. }
             | Outcome::CategoryTwice { .. }
             | Outcome::FilterRefused { .. }
-            | Outcome::OtherCategory { .. } => 2,
+            | Outcome::OtherCategory { .. }
+            | Outcome::ExpansionUnused { .. } => 2,
             Outcome::InputRefused { .. }
             | Outcome::TextRefused { .. }
             | Outcome::MigratedTooLong { .. }

@@ -1,5 +1,5 @@
 -- What is spelled so is read, whatever follows.
-use Rattle.std.proofs.Common.{◌≡◌, ℕ, Bool, true, false, cond, List, [], ◌∷◌, ◌++◌, Option, Some, Ok, refl, sym, ◌∙◌, ap, append_assoc, append-nil, lit≤, lit<}
+use Rattle.std.proofs.Common.{◌≡◌, ℕ, Bool, true, false, cond, List, [], ◌∷◌, ◌++◌, Option, Some, Ok, refl, ◌∙◌, ap, append_assoc, lit≤, lit<}
 use Rattle.std.specs.Prelude.{bytes_eq, decimal}
 use Rattle.std.specs.List.{AllByRecursion, flat_map}
 use Rattle.std.proofs.lemmas.List.Concat.{flat_map-cons}
@@ -22,7 +22,7 @@ use Rattle.ax_grammar.specs.Spelling.{quoted, sign_text, closed, block, extended
 use Rattle.ax_model.specs.Paths.{three_digits}
 use Rattle.ax_grammar.specs.Tests.{name_of, number_of, category_of, text_of}
 use Rattle.ax_grammar.specs.Parsing.{Texts, Parsed, ◌>>=◌, one_of, one_at, expect_at, takes_at, list_at}
-use Rattle.ax_grammar.specs.Rules.{keyword_at, name_at, width_at, number_at, text_at, sign_by_word, sign_at, entry_at, scale_at, content_by_word, content_at, fixed_by_word, member_step, fixed_step, fixed_at, member_at, part_at, extended_at, counted_at, kind_by_word, kind_step, kind_at, slot_step, slot_at, item_at, uap_slot_at, spec_at, end_at, whole_at}
+use Rattle.ax_grammar.specs.Rules.{keyword_at, name_at, width_at, number_at, text_at, sign_by_word, sign_at, entry_at, scale_at, content_by_word, content_at, fixed_by_word, member_step, fixed_step, fixed_at, member_at, part_at, extended_at, counted_at, kind_by_word, kind_step, kind_at, slot_step, slot_at, item_at, uap_slot_at, spec_at}
 use Rattle.ax_grammar.specs.declared.keyword.Keyword.{Keyword}
 use Rattle.ax_grammar.specs.declared.keyword.Keyword.TheVariants as Word
 use Rattle.ax_grammar.proofs.Recursion.{Shrinks, reads}
@@ -61,19 +61,22 @@ keyword_found Word.Integer = refl
 keyword_found Word.Quantity = refl
 keyword_found Word.Unsigned = refl
 keyword_found Word.Signed = refl
+keyword_found Word.Expansion = refl
+keyword_found Word.Fx = refl
+keyword_found Word.Fixed = refl
 keyword_found Word.Open = refl
 keyword_found Word.Close = refl
 
-some_at : {A : Type 0} (test : List ℕ → Option A) (text : List ℕ) (a : A) (rest : Texts) → test text ≡ Some a → one_at test (text ∷ rest) ≡ Ok (a, rest)
+pub some_at : {A : Type 0} (test : List ℕ → Option A) (text : List ℕ) (a : A) (rest : Texts) → test text ≡ Some a → one_at test (text ∷ rest) ≡ Ok (a, rest)
 some_at test text a rest e = ap (λ o. one_of o text rest) e
 
-keyword_read : (word : Keyword) (rest : Texts) → keyword_at (keyword_text word ∷ rest) ≡ Ok (word, rest)
+pub keyword_read : (word : Keyword) (rest : Texts) → keyword_at (keyword_text word ∷ rest) ≡ Ok (word, rest)
 keyword_read word rest = some_at keyword_of (keyword_text word) word rest (keyword_found word)
 
 name_read : (name : List ℕ) (rest : Texts) → IsName name → name_at (name ∷ rest) ≡ Ok (name, rest)
 name_read name rest h = some_at name_of name name rest (name_some name h)
 
-text_read : (text : List ℕ) (rest : Texts) → IsText text → text_at (quoted text ∷ rest) ≡ Ok (text, rest)
+pub text_read : (text : List ℕ) (rest : Texts) → IsText text → text_at (quoted text ∷ rest) ≡ Ok (text, rest)
 text_read text rest h = some_at text_of (quoted text) text rest (quoted_is text h)
 
 width_read : (width : ℕ) (rest : Texts) → IsWidth width → width_at (decimal width ∷ rest) ≡ Ok (width, rest)
@@ -217,11 +220,11 @@ counted_word_read : (size : Counter) (rest : Texts) → kind_at (keyword_text (c
 counted_word_read One rest = kind_by_word_read Word.Counted rest
 counted_word_read Two rest = kind_by_word_read Word.Wide rest
 
-abbrev slots_list : SlotsTree → List SlotTree
+abbrev pub slots_list : SlotsTree → List SlotTree
 slots_list no_slots = []
 slots_list (slot_and s ss) = s ∷ slots_list ss
 
-slots_back : (ss : SlotsTree) → slots_of (slots_list ss) ≡ ss
+pub slots_back : (ss : SlotsTree) → slots_of (slots_list ss) ≡ ss
 slots_back no_slots = refl
 slots_back (slot_and s ss) = ap (slot_and s) (slots_back ss)
 
@@ -311,7 +314,3 @@ spec_read spec rest h =
       list_read item_at item_shrinks item_texts ItemInRange item_read item_goes spec.items following h.items,
       list_read uap_slot_at uap_slot_shrinks uap_slot_texts UapSlotInRange uap_slot_read uap_slot_goes spec.uap rest h.uap,
     ) refl
-
-pub whole_read : (spec : SpecTree) → InRange spec → whole_at (spelled spec) ≡ Ok (spec, [])
-unfolding whole_at
-whole_read spec h = ap (λ t. spec_at t >>= λ s. end_at s.1 >>= λ e. Ok (s.0, e.1)) (sym (append-nil (spelled spec))) ∙ ap (λ r. r >>= λ s. end_at s.1 >>= λ e. Ok (s.0, e.1)) (spec_read spec [] h)

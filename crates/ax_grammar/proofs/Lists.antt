@@ -1,5 +1,5 @@
 -- Lists of elements up to the brace that closes them.
-use Rattle.std.proofs.Common.{◌≡◌, ℕ, zero, suc, ◌<◌, ◌≤◌, Bool, true, false, cond, List, [], ◌∷◌, ◌++◌, length, Ok, Err, refl, sym, ◌∙◌, ap, append_assoc, arith}
+use Rattle.std.proofs.Common.{◌≡◌, ℕ, zero, suc, ◌+◌, ◌^◌, ◌<◌, ◌≤◌, lit<, Bool, true, false, cond, List, [], ◌∷◌, ◌++◌, length, Ok, Err, refl, sym, ◌∙◌, ap, append_assoc, arith}
 use Rattle.std.specs.Prelude.{bytes_eq}
 use Rattle.std.proofs.lemmas.List.{append-nil}
 use Rattle.ax_grammar.specs.Keywords.{keyword_text}
@@ -86,6 +86,17 @@ pub braced_shrinks : {A : Type 0} (element : Texts → Parsed A) → Shrinks ele
 braced_shrinks element s texts a rest e =
     let f = bind_ok (expect_at Word.Open texts) _ (a, rest) e in
     omega (arith, expect_shrinks Word.Open texts f.0.0 f.0.1 f.1, list_shrinks element s f.0.1 a rest f.2)
+
+-- ---- how many elements there are
+
+-- elements and the texts that are left are fewer than 2^32, from the first element on
+pub few_more : (n m k : ℕ) → (0 < n → n + m < 2 ^ 32) → m < 2 ^ 32 → k < m → n + 1 + k < 2 ^ 32
+few_more zero m k h b lt = omega (arith, b, lt)
+few_more (suc n) m k h b lt = omega (arith, h (omega arith), lt)
+
+pub few_room : (n m : ℕ) → (0 < n → n + m < 2 ^ 32) → 0 < m → n < 4294967295
+few_room zero m h lt = lit< tt
+few_room (suc n) m h lt = omega (arith, h (omega arith), lt)
 
 -- ---- a loop over elements
 

@@ -1,7 +1,8 @@
 -- Numbers and categories, and the digits that stand for them.
-use Rattle.std.proofs.Common.{◌≡◌, ℕ, zero, suc, ◌+◌, ◌/◌, ◌%◌, ◌^◌, ◌<◌, ◌≤◌, Bool, true, false, not, ◌&&◌, List, [], ◌∷◌, length, eqb, Some, None, refl, sym, ◌∙◌, ap, subst, arith, rules, get_or, inl, inr, ◌⊎◌, lit<}
+use Rattle.std.proofs.Common.{◌≡◌, ℕ, zero, suc, ◌+◌, ◌/◌, ◌%◌, ◌^◌, ◌<◌, ◌≤◌, Bool, true, false, not, ◌&&◌, List, [], ◌∷◌, length, eqb, Option, Some, None, refl, sym, ◌∙◌, ap, subst, arith, rules, get_or, inl, inr, ◌⊎◌, lit<, lit≤}
 use Rattle.std.specs.Prelude.{bytes_eq, decimal, nat_le, nat_lt, ◌==◌}
 use Rattle.std.specs.List.{list_all}
+use Rattle.std.specs.Option.{option_and_then}
 use Rattle.std.proofs.lemmas.Bool.{and_parts, and_from, leb-true, le-leb, eqb-true, eqb-false, ne_eqb, cond-true, not-true, not_from_false, ltb-true, lt-ltb, both_ways}
 use Rattle.std.proofs.lemmas.Option.{cond_some}
 use Rattle.std.proofs.lemmas.Fmt.{digits_decimal, digits_value-decimal, decimal-digits_value, length-decimal-le, decimal_nonempty, first_decimal, decimal_digit}
@@ -9,7 +10,7 @@ use Rattle.std.proofs.lemmas.Str.Parse.{IsNumeralModel, numerals_by_fold, digits
 use Rattle.std.proofs.Math.Nat.{pow-le-pow_right}
 use Rattle.ax_model.specs.Characters.{IsName, is_name_octet}
 use Rattle.ax_model.specs.Paths.{three_digits}
-use Rattle.ax_grammar.specs.Tests.{is_digit, number_after_digits, has_leading_zero, number_of, category_of}
+use Rattle.ax_grammar.specs.Tests.{is_digit, number_after_digits, has_leading_zero, number_of, if_within, number_within, category_of}
 
 abbrev pub AreDigits : List ℕ → Type 0
 AreDigits digits = list_all is_digit digits ≡ true
@@ -60,6 +61,28 @@ number_found most n text le e =
     let some : 0 < length text = leb-true 1 (length text) s.0 in
     let back : decimal (number_after_digits 0 text) ≡ text = decimal-digits_value model text r.1 some (λ z. zero_alone text (not-true _ q.1) z some) (few most (number_after_digits 0 text) le bound) in
     subst (λ v. (v < 10 ^ most) × (text ≡ decimal v)) p.1 (bound, sym back)
+
+-- ---- numbers from one to another
+
+if_within_found : (least most n m : ℕ) → if_within least most n ≡ Some m → (least ≤ m) × (m ≤ most) × (n ≡ m)
+if_within_found least most n m e =
+    let p = cond_some (nat_le least n && nat_le n most) n m e in
+    let q = and_parts _ _ p.0 in
+    subst (λ v. (least ≤ v) × (v ≤ most) × (n ≡ v)) p.1 (leb-true least n q.0, leb-true n most q.1, refl)
+
+pub number_within_some : (least most n : ℕ) → least ≤ n → n ≤ most → n < 10 ^ 18 → number_within least most (decimal n) ≡ Some n
+unfolding number_within
+number_within_some least most n from to small =
+    ap (option_and_then (if_within least most)) (number_some 18 n (lit< tt) (lit≤ tt) small) ∙ cond-true (nat_le least n && nat_le n most) (Some n) None (and_from _ _ (le-leb least n from) (le-leb n most to))
+
+then_within : (least most n : ℕ) (text : List ℕ) (o : Option ℕ) → number_of 18 text ≡ o → option_and_then (if_within least most) o ≡ Some n → (least ≤ n) × (n ≤ most) × (text ≡ decimal n)
+then_within least most n text None e h = absurd cc
+then_within least most n text (Some m) e h =
+    let w = if_within_found least most m n h in (w.0, w.1, (number_found 18 m text (lit≤ tt) e).1 ∙ ap decimal w.2)
+
+pub number_within_found : (least most n : ℕ) (text : List ℕ) → number_within least most text ≡ Some n → (least ≤ n) × (n ≤ most) × (text ≡ decimal n)
+unfolding number_within
+number_within_found least most n text e = then_within least most n text (number_of 18 text) refl e
 
 -- ---- categories
 

@@ -1,5 +1,5 @@
 -- What is read is spelled so.
-use Rattle.std.proofs.Common.{◌≡◌, ℕ, zero, suc, ◌<◌, Bool, true, false, cond, List, [], ◌∷◌, ◌++◌, length, Option, Some, None, Ok, Err, refl, sym, ◌∙◌, ap, subst, append_assoc, append-nil, lit≤, arith}
+use Rattle.std.proofs.Common.{◌≡◌, ℕ, zero, suc, ◌<◌, Bool, true, false, cond, List, [], ◌∷◌, ◌++◌, length, Option, Some, None, Ok, Err, refl, sym, ◌∙◌, ap, subst, append_assoc, lit≤, arith}
 use Rattle.std.specs.Prelude.{bytes_eq, decimal, find}
 use Rattle.std.specs.List.{AllByRecursion, flat_map}
 use Rattle.std.proofs.lemmas.List.Concat.{flat_map-cons}
@@ -23,7 +23,7 @@ use Rattle.ax_grammar.specs.Spelling.{quoted, sign_text, closed, block, extended
 use Rattle.ax_model.specs.Paths.{three_digits}
 use Rattle.ax_grammar.specs.Tests.{name_of, number_of, category_of, text_of}
 use Rattle.ax_grammar.specs.Parsing.{Texts, Parsed, ◌>>=◌, one_of, one_at, expect_at, takes_at, list_at, braced_at}
-use Rattle.ax_grammar.specs.Rules.{keyword_at, name_at, category_at, width_at, number_at, text_at, sign_by_word, sign_at, entry_at, scale_at, content_by_word, content_at, fixed_by_word, member_step, fixed_step, fixed_at, member_at, part_at, extended_at, counted_at, kind_by_word, kind_step, kind_at, slot_step, slot_at, item_at, uap_slot_at, spec_at, end_at, whole_at}
+use Rattle.ax_grammar.specs.Rules.{keyword_at, name_at, category_at, width_at, number_at, text_at, sign_by_word, sign_at, entry_at, scale_at, content_by_word, content_at, fixed_by_word, member_step, fixed_step, fixed_at, member_at, part_at, extended_at, counted_at, kind_by_word, kind_step, kind_at, slot_step, slot_at, item_at, uap_slot_at, spec_at}
 use Rattle.ax_grammar.specs.declared.keyword.Keyword.{Keyword}
 use Rattle.ax_grammar.specs.declared.keyword.Keyword.TheVariants as Word
 use Rattle.ax_grammar.proofs.Recursion.{Shrinks, bind_ok, reads, rest_is, value_is}
@@ -38,12 +38,12 @@ abbrev pub Finds : {A : Type 0} → ℕ → (Texts → Parsed A) → (A → Type
 Finds {A} k p Fits spell = (texts rest : Texts) (a : A) → length texts < k → p texts ≡ reads a rest → Fits a × (texts ≡ spell a ++ rest)
 
 -- the last reader's value, as it is made a part of another
-mapped : {A B : Type 0} (g : A → B) (r : Parsed A) (b : B) (rest : Texts) → (r >>= λ x. Ok (g x.0, x.1)) ≡ reads b rest → (a : A) × (r ≡ reads a rest) × (g a ≡ b)
+pub mapped : {A B : Type 0} (g : A → B) (r : Parsed A) (b : B) (rest : Texts) → (r >>= λ x. Ok (g x.0, x.1)) ≡ reads b rest → (a : A) × (r ≡ reads a rest) × (g a ≡ b)
 mapped g (Ok x) b rest e = (x.0, ap (λ t. reads x.0 t) (rest_is (g x.0) b x.1 rest e), value_is (g x.0) b x.1 rest e)
 mapped g (Err d) b rest e = absurd cc
 
 -- what follows a reader: its value fits, and is spelled by the texts in front of what is left
-reading : {A B : Type 0} (k : ℕ) (p : Texts → Parsed A) (Fits : A → Type 0) (spell : A → Texts) → Finds k p Fits spell → Shrinks p → (texts rest : Texts) (b : B) (q : A × Texts → Parsed B) → length texts < k → (p texts >>= q) ≡ reads b rest
+pub reading : {A B : Type 0} (k : ℕ) (p : Texts → Parsed A) (Fits : A → Type 0) (spell : A → Texts) → Finds k p Fits spell → Shrinks p → (texts rest : Texts) (b : B) (q : A × Texts → Parsed B) → length texts < k → (p texts >>= q) ≡ reads b rest
     → (C : Type 0) → ((a : A) (after : Texts) → Fits a → texts ≡ spell a ++ after → length after < length texts → q (a, after) ≡ reads b rest → C) → C
 reading k p Fits spell finds shrinks texts rest b q lt e C next =
     let f = bind_ok (p texts) q (b, rest) e in
@@ -51,7 +51,7 @@ reading k p Fits spell finds shrinks texts rest b q lt e C next =
     next f.0.0 f.0.1 found.0 found.1 (shrinks texts f.0.0 f.0.1 f.1) f.2
 
 -- the same of the last reader
-making : {A B : Type 0} (k : ℕ) (p : Texts → Parsed A) (Fits : A → Type 0) (spell : A → Texts) → Finds k p Fits spell → (texts rest : Texts) (b : B) (g : A → B) → length texts < k → (p texts >>= λ x. Ok (g x.0, x.1)) ≡ reads b rest
+pub making : {A B : Type 0} (k : ℕ) (p : Texts → Parsed A) (Fits : A → Type 0) (spell : A → Texts) → Finds k p Fits spell → (texts rest : Texts) (b : B) (g : A → B) → length texts < k → (p texts >>= λ x. Ok (g x.0, x.1)) ≡ reads b rest
     → (C : B → Type 0) → ((a : A) → Fits a → texts ≡ spell a ++ rest → C (g a)) → C b
 making k p Fits spell finds texts rest b g lt e C next =
     let m = mapped g (p texts) b rest e in
@@ -64,7 +64,7 @@ one_text : {A : Type 0} (o : Option A) (text : List ℕ) (after rest : Texts) (a
 one_text None text after rest a e = absurd cc
 one_text (Some x) text after rest a e = (ap (λ y. Some y) (value_is x a after rest e), rest_is x a after rest e)
 
-one_found : {A : Type 0} (test : List ℕ → Option A) (Fits : A → Type 0) (spell : A → List ℕ) → ((text : List ℕ) (a : A) → test text ≡ Some a → Fits a × (text ≡ spell a)) → (k : ℕ) → Finds k (one_at test) Fits (λ a. spell a ∷ [])
+pub one_found : {A : Type 0} (test : List ℕ → Option A) (Fits : A → Type 0) (spell : A → List ℕ) → ((text : List ℕ) (a : A) → test text ≡ Some a → Fits a × (text ≡ spell a)) → (k : ℕ) → Finds k (one_at test) Fits (λ a. spell a ∷ [])
 one_found test Fits spell h k [] rest a lt e = absurd cc
 one_found test Fits spell h k (text ∷ after) rest a lt e =
     let p = one_text (test text) text after rest a e in
@@ -83,13 +83,13 @@ keyword_is : (text : List ℕ) (word : Keyword) → keyword_of text ≡ Some wor
 unfolding keyword_of
 keyword_is text word e = find_is text keywords word e
 
-keyword_found : (k : ℕ) → Finds k keyword_at (λ word. Unit {0}) (λ word. keyword_text word ∷ [])
+pub keyword_found : (k : ℕ) → Finds k keyword_at (λ word. Unit {0}) (λ word. keyword_text word ∷ [])
 keyword_found = one_found keyword_of (λ word. Unit {0}) keyword_text (λ text word e. (tt, keyword_is text word e))
 
 names_found : (k : ℕ) → Finds k name_at IsName (λ name. name ∷ [])
 names_found = one_found name_of IsName (λ name. name) name_found
 
-texts_found : (k : ℕ) → Finds k text_at IsText (λ text. quoted text ∷ [])
+pub texts_found : (k : ℕ) → Finds k text_at IsText (λ text. quoted text ∷ [])
 texts_found = one_found text_of IsText quoted text_found
 
 widths_found : (k : ℕ) → Finds k width_at IsWidth (λ width. decimal width ∷ [])
@@ -108,7 +108,7 @@ expect_found word [] rest u e = absurd cc
 expect_found word (text ∷ after) rest u e = expecting_found (bytes_eq (keyword_text word) text) word text after rest u refl e
 
 -- a keyword, and then a reader
-expecting : {B : Type 0} (word : Keyword) (texts rest : Texts) (b : B) (q : Texts → Parsed B) → (expect_at word texts >>= λ u. q u.1) ≡ reads b rest → (C : Type 0)
+pub expecting : {B : Type 0} (word : Keyword) (texts rest : Texts) (b : B) (q : Texts → Parsed B) → (expect_at word texts >>= λ u. q u.1) ≡ reads b rest → (C : Type 0)
     → ((after : Texts) → texts ≡ keyword_text word ∷ after → length after < length texts → q after ≡ reads b rest → C) → C
 expecting word texts rest b q e C next =
     let f = bind_ok (expect_at word texts) (λ u. q u.1) (b, rest) e in
@@ -139,7 +139,7 @@ list_case p Fits spell false texts after rest xs front one more e =
     let whole : closed (flat_map spell (f.0.0 ∷ m.0)) ++ rest ≡ spell f.0.0 ++ (closed (flat_map spell m.0) ++ rest) = rw (flat_map-cons, append_assoc, append_assoc, append_assoc) refl in
     subst (λ ys. AllByRecursion Fits ys × (texts ≡ closed (flat_map spell ys) ++ rest)) m.2 ((a.0, b.0), front ∙ a.1 ∙ ap (λ t. spell f.0.0 ++ t) b.1 ∙ sym whole)
 
-list_found : {A : Type 0} (p : Texts → Parsed A) → Shrinks p → (Fits : A → Type 0) (spell : A → Texts) (k : ℕ) → Finds k p Fits spell → Finds k (list_at p) (AllByRecursion Fits) (λ xs. closed (flat_map spell xs))
+pub list_found : {A : Type 0} (p : Texts → Parsed A) → Shrinks p → (Fits : A → Type 0) (spell : A → Texts) (k : ℕ) → Finds k p Fits spell → Finds k (list_at p) (AllByRecursion Fits) (λ xs. closed (flat_map spell xs))
 list_found p s Fits spell zero h texts rest xs lt e = absurd (omega arith)
 list_found p s Fits spell (suc k) h texts rest xs lt e =
     let f = bind_ok (takes_at Word.Close texts) (λ c. cond c.0 (reads [] c.1) (p c.1 >>= λ first. list_at p first.1 >>= λ others. Ok (first.0 ∷ others.0, others.1))) (xs, rest) (sym (list_is p s texts) ∙ e) in
@@ -149,7 +149,7 @@ list_found p s Fits spell (suc k) h texts rest xs lt e =
     (λ a last e' ys e''. list_found p s Fits spell k (λ t r x l. h t r x (omega arith)) last rest ys (omega (arith, less, s f.0.1 a last e')) e'')
     f.2
 
-braced_found : {A : Type 0} (p : Texts → Parsed A) → Shrinks p → (Fits : A → Type 0) (spell : A → Texts) (k : ℕ) → Finds k p Fits spell → Finds (suc k) (braced_at p) (AllByRecursion Fits) (λ xs. keyword_text Word.Open ∷ closed (flat_map spell xs))
+pub braced_found : {A : Type 0} (p : Texts → Parsed A) → Shrinks p → (Fits : A → Type 0) (spell : A → Texts) (k : ℕ) → Finds k p Fits spell → Finds (suc k) (braced_at p) (AllByRecursion Fits) (λ xs. keyword_text Word.Open ∷ closed (flat_map spell xs))
 braced_found p s Fits spell k h texts rest xs lt e =
     let f = bind_ok (expect_at Word.Open texts) (λ o. list_at p o.1) (xs, rest) e in
     let l = list_found p s Fits spell k h f.0.1 rest xs (omega (arith, expect_shrinks Word.Open texts f.0.0 f.0.1 f.1)) f.2 in
@@ -304,17 +304,17 @@ slot_case k h true texts after rest s lt front e =
     subst (λ x. SlotInRange x × (texts ≡ slot_texts x ++ rest)) (value_is spare_slot s after rest e) (tt, front ∙ ap (λ t. keyword_text Word.Dash ∷ t) (rest_is spare_slot s after rest e))
 slot_case k h false texts after rest s lt front e = let x = subitem_case k h after rest s lt e in (x.0, front ∙ x.1)
 
-slot_found : (k : ℕ) → Finds k kind_at KindInRange kind_texts → Finds (suc k) slot_at SlotInRange slot_texts
+pub slot_found : (k : ℕ) → Finds k kind_at KindInRange kind_texts → Finds (suc k) slot_at SlotInRange slot_texts
 unfolding slot_at slot_step
 slot_found k h texts rest s lt e =
     let f = bind_ok (takes_at Word.Dash texts) (λ c. cond c.0 (reads spare_slot c.1) (name_at c.1 >>= λ n. kind_at n.1 >>= λ f. reads (subitem n.0 f.0) f.1)) (s, rest) e in
     slot_case k h f.0.0 texts f.0.1 rest s (omega (arith, lt, (takes_keeps Word.Dash texts f.0.0 f.0.1 f.1).0)) (takes_found Word.Dash texts f.0.1 f.0.0 f.1) f.2
 
-slots_spelled : (ss : List SlotTree) → slots_texts (slots_of ss) ≡ flat_map slot_texts ss
+pub slots_spelled : (ss : List SlotTree) → slots_texts (slots_of ss) ≡ flat_map slot_texts ss
 slots_spelled [] = refl
 slots_spelled (s ∷ ss) = ap (λ t. slot_texts s ++ t) (slots_spelled ss) ∙ sym (flat_map-cons slot_texts s ss)
 
-slots_fit : (ss : List SlotTree) → AllByRecursion SlotInRange ss → SlotsInRange (slots_of ss)
+pub slots_fit : (ss : List SlotTree) → AllByRecursion SlotInRange ss → SlotsInRange (slots_of ss)
 slots_fit [] h = tt
 slots_fit (s ∷ ss) h = (h.0, slots_fit ss h.1)
 
@@ -356,7 +356,7 @@ kind_case k h word texts after rest f lt le front e =
     let x = fixed_found (suc k) texts rest m.0 lt m.1 in
     subst (λ x. KindInRange x × (texts ≡ kind_texts x ++ rest)) m.2 x
 
-kind_found : (k : ℕ) → Finds k kind_at KindInRange kind_texts
+pub kind_found : (k : ℕ) → Finds k kind_at KindInRange kind_texts
 unfolding kind_step
 kind_found zero texts rest f lt e = absurd (omega arith)
 kind_found (suc k) texts rest f lt e =
@@ -393,7 +393,7 @@ uap_slot_found k texts rest s lt e =
     let f = bind_ok (takes_at Word.Dash texts) (λ c. cond c.0 (reads Uap.Spare c.1) (name_at c.1 >>= λ n. reads (Uap.Item n.0) n.1)) (s, rest) e in
     uap_slot_case k f.0.0 texts f.0.1 rest s (omega (arith, lt, (takes_keeps Word.Dash texts f.0.0 f.0.1 f.1).0)) (takes_found Word.Dash texts f.0.1 f.0.0 f.1) f.2
 
-categories_found : (k : ℕ) → Finds k category_at (λ n. n < 256) (λ n. three_digits n ∷ [])
+pub categories_found : (k : ℕ) → Finds k category_at (λ n. n < 256) (λ n. three_digits n ∷ [])
 categories_found = one_found category_of (λ n. n < 256) three_digits (λ text n e. category_found n text e)
 
 pub spec_found : (texts rest : Texts) (spec : SpecTree) → spec_at texts ≡ reads spec rest → InRange spec × (texts ≡ spelled spec ++ rest)
@@ -419,16 +419,3 @@ spec_found texts rest spec e =
       record { category = fits2; edition = fits4; items = fits6; uap = fits8 },
       is1 ∙ ap (λ t. keyword_text Word.Category ∷ t) (is2 ∙ ap (λ t. three_digits category ∷ t) (is3 ∙ ap (λ t. keyword_text Word.Edition ∷ t) (is4 ∙ ap (λ t. quoted edition ∷ t) middle))),
     )))))))))
-
-end_found : (texts rest : Texts) (u : Unit {0}) → end_at texts ≡ reads u rest → (texts ≡ []) × (rest ≡ [])
-end_found [] rest u e = (refl, sym (rest_is tt u [] rest e))
-end_found (text ∷ texts) rest u e = absurd cc
-
-pub whole_found : (texts rest : Texts) (spec : SpecTree) → whole_at texts ≡ reads spec rest → InRange spec × (texts ≡ spelled spec)
-unfolding whole_at
-whole_found texts rest spec e =
-    let f = bind_ok (spec_at texts) (λ s. end_at s.1 >>= λ x. reads s.0 x.1) (spec, rest) e in
-    let g = bind_ok (end_at f.0.1) (λ x. reads f.0.0 x.1) (spec, rest) f.2 in
-    let s = spec_found texts f.0.1 f.0.0 f.1 in
-    let n = end_found f.0.1 g.0.1 g.0.0 g.1 in
-    subst (λ x. InRange x × (texts ≡ spelled x)) (value_is f.0.0 spec g.0.1 rest g.2) (s.0, s.1 ∙ ap (λ t. spelled f.0.0 ++ t) n.0 ∙ append-nil (spelled f.0.0))

@@ -34,7 +34,7 @@ use Rattle.ax_grammar.proofs.SpecParts.{made, uap_part, items_part, edition_part
 abbrev a_name : List ℕ
 a_name = 65 ∷ []
 
-abbrev IsRead : {A : Type 0} → (List ℕ → Option A) → List ℕ → A → Type 0
+abbrev pub IsRead : {A : Type 0} → (List ℕ → Option A) → List ℕ → A → Type 0
 IsRead test text a = test text ≡ Some a
 
 name_due : IsRead name_of a_name a_name
@@ -46,10 +46,10 @@ width_due = number_some 9 1 (lit< tt) (lit≤ tt) (lit< tt)
 number_due : IsRead (number_of 18) (decimal 0) 0
 number_due = number_some 18 0 (lit< tt) (lit≤ tt) (lit< tt)
 
-text_due : IsRead text_of (quoted []) []
+pub text_due : IsRead text_of (quoted []) []
 text_due = quoted_is [] (lit< tt, tt)
 
-category_due : IsRead category_of (three_digits 0) 0
+pub category_due : IsRead category_of (three_digits 0) 0
 category_due = category_some 0 (lit< tt)
 
 name_steady : (k : ℕ) → IsSteady k name_at
@@ -61,14 +61,14 @@ width_steady k = one_steady k (number_of 9) (decimal 1) 1 width_due
 number_steady : (k : ℕ) → IsSteady k number_at
 number_steady k = one_steady k (number_of 18) (decimal 0) 0 number_due
 
-text_steady : (k : ℕ) → IsSteady k text_at
+pub text_steady : (k : ℕ) → IsSteady k text_at
 text_steady k = one_steady k text_of (quoted []) [] text_due
 
-category_steady : (k : ℕ) → IsSteady k category_at
+pub category_steady : (k : ℕ) → IsSteady k category_at
 category_steady k = one_steady k category_of (three_digits 0) 0 category_due
 
 -- the rule, where the first text is known to be a keyword or none
-abbrev on_keyword : {A : Type 0} → Option Keyword → (Keyword → Texts → Texts → Parsed A) → List ℕ → Texts → Parsed A
+abbrev pub on_keyword : {A : Type 0} → Option Keyword → (Keyword → Texts → Texts → Parsed A) → List ℕ → Texts → Parsed A
 on_keyword o following text more = one_of o text more >>= λ w. following w.0 (text ∷ more) w.1
 
 -- ---- contents
@@ -207,7 +207,7 @@ members_steady k = braced_steady member_at member_shrinks k (member_steady k (fi
 -- ---- kinds
 
 -- braces with nothing in them
-braced_due : {A : Type 0} (p : Texts → Parsed A) → Shrinks p → Due (braced_at p)
+pub braced_due : {A : Type 0} (p : Texts → Parsed A) → Shrinks p → Due (braced_at p)
 braced_due p s = let inner = list_due p s in record { texts = keyword_text Word.Open ∷ inner.texts; value = inner.value; due = inner.due }
 
 part_steady : (k : ℕ) → IsSteady k part_at
@@ -232,7 +232,7 @@ slot_case k l false text rest lt e =
     same slot_at subitem_at text rest slot_due e
     (then_steady k name_at (λ n texts. kind_at texts >>= λ f. reads (subitem n f.0) f.1) (name_steady k) (λ n. map_steady k (subitem n) kind_at l) (λ n. mapped_due (subitem n) kind_at kind_due) (text ∷ rest) lt)
 
-slot_steady : (k : ℕ) → IsSteady k kind_at → IsSteady k slot_at
+pub slot_steady : (k : ℕ) → IsSteady k kind_at → IsSteady k slot_at
 unfolding slot_at slot_step
 slot_steady k l [] lt = refused slot_at [] slot_due (λ more. refl)
 slot_steady k l (text ∷ rest) lt = slot_case k l (bytes_eq (keyword_text Word.Dash) text) text rest lt (λ more. refl)
@@ -278,7 +278,7 @@ kind_empty : kind_at [] ≡ Err []
 unfolding kind_step
 kind_empty = kind_is []
 
-kind_steady : (k : ℕ) → IsSteady k kind_at
+pub kind_steady : (k : ℕ) → IsSteady k kind_at
 kind_steady zero old lt = absurd (omega arith)
 kind_steady (suc k) [] lt = refused kind_at [] kind_due (λ more. kind_empty)
 kind_steady (suc k) (text ∷ rest) lt = kind_case k (kind_steady k) (keyword_of text) text rest (omega (arith, lt)) (kind_unfolds text)
@@ -325,7 +325,7 @@ uap_slot_steady k [] lt = refused uap_slot_at [] uap_slot_due (λ more. refl)
 uap_slot_steady k (text ∷ rest) lt = uap_slot_case k (bytes_eq (keyword_text Word.Dash) text) text rest lt (λ more. refl)
 
 -- a keyword is due, and what is due after it
-word_then : {B : Type 0} (word : Keyword) (q : Texts → Parsed B) → Due q → Due (λ texts. expect_at word texts >>= λ u. q u.1)
+pub word_then : {B : Type 0} (word : Keyword) (q : Texts → Parsed B) → Due q → Due (λ texts. expect_at word texts >>= λ u. q u.1)
 word_then word q d = record { texts = keyword_text word ∷ d.texts; value = d.value; due = λ more. ap (λ r. r >>= λ u. q u.1) (expect_read word (d.texts ++ more)) ∙ d.due more }
 
 uap_due : (category : ℕ) (edition : List ℕ) (items : List ItemTree) → Due (uap_part category edition items)

@@ -30,7 +30,7 @@ use Rattle.ax_grammar.specs.Rules.{whole_at}
 use Rattle.ax_grammar.specs.Tests.{is_digit}
 use Rattle.ax_grammar.specs.declared.keyword.Keyword.{Keyword}
 use Rattle.ax_grammar.specs.declared.keyword.Keyword.TheVariants as Word
-use Rattle.ax_grammar.proofs.Complete.{whole_read}
+use Rattle.ax_grammar.proofs.BadTokens.{whole_read}
 use Rattle.ax_grammar.proofs.Numbers.{model, digit}
 use Rattle.ax_grammar.proofs.Recursion.{value_is}
 use Rattle.ax_grammar.proofs.SingleTokens.{are_string}
@@ -81,6 +81,9 @@ keyword_token Word.Integer = (lit< tt, refl)
 keyword_token Word.Quantity = (lit< tt, refl)
 keyword_token Word.Unsigned = (lit< tt, refl)
 keyword_token Word.Signed = (lit< tt, refl)
+keyword_token Word.Expansion = (lit< tt, refl)
+keyword_token Word.Fx = (lit< tt, refl)
+keyword_token Word.Fixed = (lit< tt, refl)
 
 -- a letter or digit is an octet of a Word, and begins no other token
 abbrev IsPlain : ℕ → Type 0

@@ -12,6 +12,10 @@ use Rattle.ax_grammar.specs.declared.error.SyntaxError.TheVariants.{BadToken, Ou
 abbrev pub texts_of : List PlainToken → List (List ℕ)
 texts_of tokens = map (λ t. t.text) tokens
 
+-- the language of a spelling: the texts of the trees that fit
+abbrev pub Spelled : {A : Type 0} → (A → Type 0) → (A → List (List ℕ)) → List (List ℕ) → Type 0
+Spelled {A} Fits spell texts = (a : A) × Fits a × (texts ≡ spell a)
+
 -- the tokens are the spelling of the tree
 pub record SpellsSpec (tokens : List PlainToken) (spec : SpecTree) : Type 0 where
   pub in_range : InRange spec
@@ -19,7 +23,7 @@ pub record SpellsSpec (tokens : List PlainToken) (spec : SpecTree) : Type 0 wher
 
 -- the language of category files: the spellings of trees
 abbrev pub IsSpec : List (List ℕ) → Type 0
-IsSpec texts = (spec : SpecTree) × InRange spec × (texts ≡ spelled spec)
+IsSpec texts = Spelled InRange spelled texts
 
 -- the tokens spell no tree; the tokens before this one begin some spelling, and none begins with those and this one. It is
 -- the count of the tokens where some spelling begins with all of them

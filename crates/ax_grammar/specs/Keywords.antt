@@ -31,6 +31,9 @@ keyword_text Word.Integer = codes "integer"
 keyword_text Word.Quantity = codes "quantity"
 keyword_text Word.Unsigned = codes "unsigned"
 keyword_text Word.Signed = codes "signed"
+keyword_text Word.Expansion = codes "expansion"
+keyword_text Word.Fx = codes "fx"
+keyword_text Word.Fixed = codes "fixed"
 keyword_text Word.Open = codes "{"
 keyword_text Word.Close = codes "}"
 
@@ -38,7 +41,7 @@ keyword_text Word.Close = codes "}"
 abbrev pub keywords : List Keyword
 keywords = Word.Category ∷ Word.Edition ∷ Word.Items ∷ Word.Uap ∷ Word.Item ∷ Word.Element ∷ Word.Group ∷ Word.Extended
     ∷ Word.Closed ∷ Word.Counted ∷ Word.Wide ∷ Word.ByFx ∷ Word.Explicit ∷ Word.Compound ∷ Word.Part ∷ Word.Spare ∷ Word.Dash ∷ Word.Raw ∷ Word.Table
-    ∷ Word.Ascii ∷ Word.Icao ∷ Word.Octal ∷ Word.Integer ∷ Word.Quantity ∷ Word.Unsigned ∷ Word.Signed ∷ Word.Open ∷ Word.Close ∷ []
+    ∷ Word.Ascii ∷ Word.Icao ∷ Word.Octal ∷ Word.Integer ∷ Word.Quantity ∷ Word.Unsigned ∷ Word.Signed ∷ Word.Expansion ∷ Word.Fx ∷ Word.Fixed ∷ Word.Open ∷ Word.Close ∷ []
 
 -- the one of these octets
 unfoldable pub keyword_of : List ℕ → Option Keyword

@@ -76,3 +76,17 @@ abbrev pub braced_at : {A : Type 0} → (Texts → Parsed A) → Texts → Parse
 braced_at element texts = do
   opens ← expect_at Word.Open texts
   list_at element opens.1
+
+-- ---- all of the texts
+
+-- nothing is left
+abbrev pub end_at : Texts → Parsed (Unit {0})
+end_at [] = Ok (tt, [])
+end_at (text ∷ rest) = Err (text ∷ rest)
+
+-- what a reader reads, and nothing after it
+abbrev pub all_of : {A : Type 0} → (Texts → Parsed A) → Texts → Parsed A
+all_of read texts = do
+  a ← read texts
+  end ← end_at a.1
+  Ok (a.0, end.1)

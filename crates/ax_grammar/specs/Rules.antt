@@ -1,5 +1,5 @@
 -- A reader for each rule of the grammar.
-use Rattle.std.specs.Prelude.{ℕ, if◌then◌else◌, List, [], ◌∷◌, Ok, Err}
+use Rattle.std.specs.Prelude.{ℕ, if◌then◌else◌, List, Ok, Err}
 use Rattle.ax_model.specs.Specification.{ItemTree, SpecTree}
 use Rattle.ax_model.specs.Tree.{FixedTree, element, group, MemberTree, named, spare, MembersTree, members_of, KindTree, fixed, extended, counted, by_fx, explicit, compound, SlotTree, spare_slot, subitem, slots_of}
 use Rattle.ax_model.specs.declared.content.Content.{Content}
@@ -14,7 +14,7 @@ use Rattle.ax_model.specs.declared.kind.LastPart.TheVariants.{WithFx, WithoutFx}
 use Rattle.ax_model.specs.declared.spec.UapSlot.{UapSlot}
 use Rattle.ax_model.specs.declared.spec.UapSlot.TheVariants as Uap
 use Rattle.ax_grammar.specs.Keywords.{keyword_of}
-use Rattle.ax_grammar.specs.Parsing.{Texts, Parsed, ◌>>=◌, one_at, expect_at, takes_at, recursive, braced_at}
+use Rattle.ax_grammar.specs.Parsing.{Texts, Parsed, ◌>>=◌, one_at, expect_at, takes_at, recursive, braced_at, all_of}
 use Rattle.ax_grammar.specs.Tests.{name_of, number_of, category_of, text_of}
 use Rattle.ax_grammar.specs.declared.keyword.Keyword.{Keyword}
 use Rattle.ax_grammar.specs.declared.keyword.Keyword.TheVariants as Word
@@ -235,14 +235,6 @@ spec_at texts = do
   uap ← braced_at uap_slot_at word.1
   Ok (record { category = category.0; edition = edition.0; items = items.0; uap = uap.0 }, uap.1)
 
--- nothing is left
-abbrev pub end_at : Texts → Parsed (Unit {0})
-end_at [] = Ok (tt, [])
-end_at (text ∷ rest) = Err (text ∷ rest)
-
 -- all of the texts
 unfoldable pub whole_at : Texts → Parsed SpecTree
-whole_at texts = do
-  spec ← spec_at texts
-  end ← end_at spec.1
-  Ok (spec.0, end.1)
+whole_at texts = all_of spec_at texts

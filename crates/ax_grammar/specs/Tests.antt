@@ -31,6 +31,14 @@ number_of most text =
     if nat_le 1 (length text) && nat_le (length text) most && list_all is_digit text && not (has_leading_zero text)
     then Some (number_after_digits 0 text) else None
 
+-- a number is from the least to the most
+abbrev pub if_within : ℕ → ℕ → ℕ → Option ℕ
+if_within least most n = if nat_le least n && nat_le n most then Some n else None
+
+-- a decimal number from the least to the most, of at most 18 digits and without leading zeros
+unfoldable pub number_within : ℕ → ℕ → List ℕ → Option ℕ
+number_within least most text = option_and_then (if_within least most) (number_of 18 text)
+
 -- three digits, 000 to 255
 unfoldable pub category_of : List ℕ → Option ℕ
 category_of text =

@@ -4,7 +4,7 @@ ghost use Rattle.std.specs.Prelude.{◌≡◌, bytes_eq, find};
 ghost use Rattle.std.specs.Option.{option_copied};
 ghost use Rattle.ax_grammar.specs.Keywords.{keyword_text, keyword_of};
 
-/// A token of a specification that stands for itself.
+/// A token of a specification or of an expansion file that stands for itself.
 #[derive(Clone, Copy)]
 pub enum Keyword {
     Category,
@@ -34,12 +34,18 @@ pub enum Keyword {
     Quantity,
     Unsigned,
     Signed,
+    /// The first token of an expansion file.
+    Expansion,
+    /// A presence field continued by FX bits.
+    Fx,
+    /// A presence field of a fixed number of octets.
+    Fixed,
     Open,
     Close,
 }
 
 /// Each of them.
-const KEYWORDS: [Keyword; 28] = [
+const KEYWORDS: [Keyword; 31] = [
     Keyword::Category,
     Keyword::Edition,
     Keyword::Items,
@@ -66,6 +72,9 @@ const KEYWORDS: [Keyword; 28] = [
     Keyword::Quantity,
     Keyword::Unsigned,
     Keyword::Signed,
+    Keyword::Expansion,
+    Keyword::Fx,
+    Keyword::Fixed,
     Keyword::Open,
     Keyword::Close,
 ];
@@ -102,6 +111,9 @@ impl Keyword {
             Keyword::Quantity => b"quantity",
             Keyword::Unsigned => b"unsigned",
             Keyword::Signed => b"signed",
+            Keyword::Expansion => b"expansion",
+            Keyword::Fx => b"fx",
+            Keyword::Fixed => b"fixed",
             Keyword::Open => b"{",
             Keyword::Close => b"}",
         }

@@ -6,7 +6,7 @@ ghost use Rattle.std.specs.List.{list_all};
 ghost use Rattle.ax_tokens.specs.PlainToken.{plain_token};
 ghost use Rattle.ax_tokens.specs.Lexing.{HasTokenText};
 ghost use Rattle.ax_grammar.specs.InRange.{IsText};
-ghost use Rattle.ax_grammar.specs.Tests.{is_digit, number_after_digits, number_of, category_of, has_leading_zero, name_of, text_of};
+ghost use Rattle.ax_grammar.specs.Tests.{is_digit, number_after_digits, number_of, number_within, category_of, has_leading_zero, name_of, text_of};
 
 use ax_model::Name;
 use ax_tokens::{Token, TokenKind};
@@ -51,6 +51,18 @@ pub fn number(text: &[u8], most: usize) -> Option<u64>
         return None;
     }
     Some(value(text))
+}
+
+/// The decimal number from `least` to `most`, of at most 18 digits. None comes exactly where the octets are none.
+#[tactic(auto, unfolding(crate::specs::Tests::number_within))]
+pub fn number_within(text: &[u8], least: u64, most: u64) -> Option<u64>
+    ensures value { result ≡ number_within least most text.now }
+    ensures bounds { IfSome result (λ n. (least ≤ n) × (n ≤ most)) }
+{
+    match number(text, 18) {
+        Some(number) if least <= number && number <= most => Some(number),
+        _ => None,
+    }
 }
 
 /// The same of at most nine digits.

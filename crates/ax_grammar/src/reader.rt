@@ -8,7 +8,8 @@ ghost use Rattle.ax_tokens.specs.Lexing.{HasTokenText};
 ghost use Rattle.ax_token_reader.specs.declared.stopped.Stopped.TheVariants.{Bad};
 ghost use Rattle.ax_grammar.specs.Answers.{texts_of};
 ghost use Rattle.ax_grammar.specs.Gives.{Gives, Stops};
-ghost use Rattle.ax_grammar.specs.Parsing.{expect_at, takes_at};
+ghost use Rattle.ax_grammar.specs.Parsing.{expect_at, takes_at, one_at, end_at};
+ghost use Rattle.ax_grammar.specs.Tests.{number_within};
 ghost use Rattle.ax_grammar.specs.Rules.{keyword_at, name_at, category_at, width_at, number_at, text_at};
 
 use crate::keyword::Keyword;
@@ -57,6 +58,15 @@ impl<'r, 't> SpecReader<'r, 't> {
         }
     }
 
+    /// In front of the token of that number, or at the end where there are fewer.
+    pub fn from(tokens: &'r Tokens<'t>, at: u32) -> Self
+        ensures { result ≡ drop at (texts_of tokens.now) }
+    {
+        SpecReader {
+            inside: ax_token_reader::Reader::from(tokens, at),
+        }
+    }
+
     /// How many tokens are left.
     pub fn count(&self) -> u32
         ensures { result ≡ length self.now }
@@ -101,6 +111,7 @@ impl<'r, 't> SpecReader<'r, 't> {
         ensures reads { Gives (λ taken. taken) result self.new (takes_at word self.old) }
         ensures moves { OnOk result (length self.new ≤ length self.old) }
         ensures taken { result ≡ Ok true → length self.new < length self.old }
+        ensures bound { OnOk result (length self.old < 2 ^ 32) }
     {
         let token = self.peek()?;
         let taken = word.is(token.text);
@@ -172,6 +183,19 @@ impl<'r, 't> SpecReader<'r, 't> {
         Ok(number)
     }
 
+    /// Reads a number from `least` to `most`.
+    pub fn number_within(&mut self, least: u64, most: u64) -> Result<u64, Stopped>
+        ensures reads { Gives (λ number. number) result self.new (one_at (number_within least most) self.old) }
+        ensures bounds { IfOk result (λ number. (least ≤ number) × (number ≤ most)) }
+    {
+        let token = self.peek()?;
+        let Some(number) = octets::number_within(token.text, least, most) else {
+            return Err(Stopped::Bad);
+        };
+        self.skip();
+        Ok(number)
+    }
+
     /// Reads a text in quotes.
     pub fn text(&mut self, alloc: Global) -> Result<Text, Stopped>
         ensures { Gives (λ text. text) result self.new (text_at self.old) }
@@ -183,5 +207,15 @@ impl<'r, 't> SpecReader<'r, 't> {
         let text = text_of(alloc, content)?;
         self.skip();
         Ok(text)
+    }
+
+    /// That no token is left.
+    pub fn end(&self) -> Result<(), Stopped>
+        ensures { Gives (λ _. tt) result self.now (end_at self.now) }
+    {
+        if self.count() > 0 {
+            return Err(Stopped::Bad);
+        }
+        Ok(())
     }
 }

@@ -5,7 +5,7 @@ ghost use Rattle.ax_model.specs.Plain.{spec_tree};
 ghost use Rattle.ax_model.specs.Specification.{SpecTree};
 ghost use Rattle.ax_grammar.specs.Answers.{SpellsSpec, IsBad, texts_of};
 ghost use Rattle.ax_grammar.specs.Gives.{Gives};
-ghost use Rattle.ax_grammar.specs.Rules.{end_at, whole_at};
+ghost use Rattle.ax_grammar.specs.Rules.{whole_at};
 ghost use Rattle.ax_grammar.specs.declared.error.SyntaxError.TheVariants.{OutOfMemory};
 
 use crate::error::SyntaxError;
@@ -15,23 +15,13 @@ use ax_token_reader::Stopped;
 use ax_tokens::Tokens;
 use std::alloc::Global;
 
-/// Nothing is left.
-fn end(reader: &mut SpecReader<'_, '_>) -> Result<(), Stopped>
-    ensures { Gives (λ _. tt) result reader.new (end_at reader.old) }
-{
-    if reader.count() > 0 {
-        return Err(Stopped::Bad);
-    }
-    Ok(())
-}
-
 /// All tokens that are left are a specification.
 #[tactic(auto, unfolding(crate::specs::Rules::whole_at))]
 fn whole(alloc: Global, reader: &mut SpecReader<'_, '_>) -> Result<Spec, Stopped>
     ensures { Gives spec_tree result reader.new (whole_at reader.old) }
 {
     let spec = reader.spec(alloc)?;
-    end(reader)?;
+    reader.end()?;
     Ok(spec)
 }
 

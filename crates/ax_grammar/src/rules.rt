@@ -8,7 +8,7 @@ ghost use Rattle.ax_model.specs.Specification.{ItemTree};
 ghost use Rattle.ax_model.specs.Tree.{MembersTree};
 ghost use Rattle.ax_model.specs.declared.content.TableText as Table;
 ghost use Rattle.ax_model.specs.declared.spec.UapSlot as Uap;
-ghost use Rattle.ax_grammar.specs.Parsing.{Texts, Parsed, LeavesLess, braced_at};
+ghost use Rattle.ax_grammar.specs.Parsing.{Texts, Parsed, LeavesLess, braced_at, list_at};
 ghost use Rattle.ax_grammar.specs.Rules.{sign_at, entry_at, scale_at, content_at, member_at, fixed_at, part_at, extended_at, counted_at, kind_at, slot_at, item_at, uap_slot_at, spec_at};
 
 use crate::keyword::Keyword;
@@ -231,10 +231,18 @@ impl<'r, 't> SpecReader<'r, 't> {
 
     /// Slots in braces.
     #[cycle(read_kind)]
-    fn slots(&mut self, alloc: Global) -> Result<Slots, Stopped>
+    pub fn slots(&mut self, alloc: Global) -> Result<Slots, Stopped>
         ensures { Gives (λ slots. map slot_tree slots) result self.new (braced_at slot_at self.old) }
     {
         self.expect(Keyword::Open)?;
+        self.closed_slots(alloc)
+    }
+
+    /// Slots up to the brace that closes them, which is read too.
+    #[cycle(read_kind)]
+    pub fn closed_slots(&mut self, alloc: Global) -> Result<Slots, Stopped>
+        ensures { Gives (λ slots. map slot_tree slots) result self.new (list_at slot_at self.old) }
+    {
         let mut slots = Slots::new(alloc);
         while !self.takes(Keyword::Close)? {
             let slot = self.slot(alloc)?;

@@ -2,53 +2,52 @@
 use Rattle.std.proofs.Common.{◌≡◌, ◌≢◌, ℕ, ◌+◌, ◌<◌, ◌≤◌, ◌⊎◌, inl, inr, List, [], ◌∷◌, ◌++◌, Bool, IsTrue, Option, Some, None, IsSome, length, append_assoc, append-nil, refl, sym, ◌∙◌, ap, subst, arith}
 use Rattle.ax_outside.specs.Files.{File, octets_of, Lacks, Exceeds}
 use Rattle.ax_outside.specs.Told.{Rose}
-use Rattle.ax_model.specs.Flaws.{flaws_of}
 use Rattle.ax_model.specs.Specification.{SpecTree, spec_of}
 use Rattle.ax_tokens.proofs.Once.{no_bad_byte, none_too_deep, bad_byte_once, too_deep_once, one_kind}
-use Rattle.ax_grammar.specs.Answers.{SpellsSpec, NamesBadToken}
-use Rattle.ax_grammar.proofs.BadTokens.{bad_token_once, bad_spells_none}
 use Rattle.ax_load.specs.declared.fault.LoadStop.{LoadStop}
 use Rattle.ax_load.specs.declared.fault.LoadStop.TheVariants as LoadStopOf
 use Rattle.ax_load.specs.declared.fault.SpecFault.{SpecFault}
 use Rattle.ax_load.specs.declared.fault.SpecFault.TheVariants.{TooLarge, BadByte, TooDeep, BadToken, Flawed}
-use Rattle.ax_load.specs.FileAnswers.{IsFlawed, IsRefused, largest_file}
+use Rattle.ax_load.specs.FileAnswers.{IsFlawedIn, IsRefusedIn, largest_file}
+use Rattle.ax_load.specs.Languages.{Language, category_files}
 use Rattle.ax_outside.specs.Changes.{LibraryCounts}
 use Rattle.ax_load.specs.Loading.{GivesSpec, IsRefusedFile, StopsAtFile, EachGives, AreNewAfter, HasCategoryTwice, EndsAtFile, by_file, by_category, FilesEnd}
-use Rattle.ax_load.proofs.FilesOnce.{same_tokens, same_spelled, same_octets, spec_given_once, given_stops_for_memory, none_is_none}
+use Rattle.ax_load.proofs.FilesOnce.{IsOne, category_files_are_one, same_tokens, same_tree, same_octets, spec_given_once, given_stops_for_memory, none_is_none}
 
 -- ---- one file's octets
 
-flawed_once : (octets : List ℕ) (spec other : SpecTree) → IsFlawed octets spec → IsFlawed octets other → spec ≡ other
-flawed_once octets spec other h k = same_spelled h.tokens k.tokens spec other (same_tokens octets h.tokens k.tokens h.has k.has) h.spelled k.spelled
+module _ {T : Type 0} (language : Language T) (one : IsOne language) where
+  flawed_once : (octets : List ℕ) (tree other : T) → IsFlawedIn language octets tree → IsFlawedIn language octets other → tree ≡ other
+  flawed_once octets tree other h k = same_tree language one h.tokens k.tokens tree other (same_tokens octets h.tokens k.tokens h.has k.has) h.spelled k.spelled
 
-pub fault_once : (octets : List ℕ) (fault other : SpecFault) → IsRefused octets fault → IsRefused octets other → fault ≡ other
-fault_once octets TooLarge TooLarge h k = refl
-fault_once octets TooLarge (BadByte at) h k = let s : length octets ≤ largest_file = k.small in absurd (omega arith)
-fault_once octets TooLarge (TooDeep token) h k = let s : length octets ≤ largest_file = k.small in absurd (omega arith)
-fault_once octets TooLarge (BadToken token) h k = let s : length octets ≤ largest_file = k.has.small in absurd (omega arith)
-fault_once octets TooLarge (Flawed flaws) h (spec, k, is) = let s : length octets ≤ largest_file = k.has.small in absurd (omega arith)
-fault_once octets (BadByte at) TooLarge h k = let s : length octets ≤ largest_file = h.small in absurd (omega arith)
-fault_once octets (BadByte at) (BadByte next) h k = ap BadByte (bad_byte_once octets 16 at next h.bad k.bad)
-fault_once octets (BadByte at) (TooDeep token) h k = absurd (one_kind octets 16 at token h.bad k.deep)
-fault_once octets (BadByte at) (BadToken token) h k = absurd (no_bad_byte octets 16 k.tokens at k.has.lexed h.bad)
-fault_once octets (BadByte at) (Flawed flaws) h (spec, k, is) = absurd (no_bad_byte octets 16 k.tokens at k.has.lexed h.bad)
-fault_once octets (TooDeep token) TooLarge h k = let s : length octets ≤ largest_file = h.small in absurd (omega arith)
-fault_once octets (TooDeep token) (BadByte at) h k = absurd (one_kind octets 16 at token k.bad h.deep)
-fault_once octets (TooDeep token) (TooDeep next) h k = ap TooDeep (too_deep_once octets 16 token next h.deep k.deep)
-fault_once octets (TooDeep token) (BadToken next) h k = absurd (none_too_deep octets 16 k.tokens token k.has.lexed h.deep)
-fault_once octets (TooDeep token) (Flawed flaws) h (spec, k, is) = absurd (none_too_deep octets 16 k.tokens token k.has.lexed h.deep)
-fault_once octets (BadToken token) TooLarge h k = let s : length octets ≤ largest_file = h.has.small in absurd (omega arith)
-fault_once octets (BadToken token) (BadByte at) h k = absurd (no_bad_byte octets 16 h.tokens at h.has.lexed k.bad)
-fault_once octets (BadToken token) (TooDeep next) h k = absurd (none_too_deep octets 16 h.tokens next h.has.lexed k.deep)
-fault_once octets (BadToken token) (BadToken next) h k =
-    ap BadToken (bad_token_once h.tokens token next h.bad (subst (λ ts. NamesBadToken ts next) (same_tokens octets k.tokens h.tokens k.has h.has) k.bad))
-fault_once octets (BadToken token) (Flawed flaws) h (spec, k, is) = absurd (bad_spells_none h.tokens token spec h.bad (subst (λ ts. SpellsSpec ts spec) (same_tokens octets k.tokens h.tokens k.has h.has) k.spelled))
-fault_once octets (Flawed flaws) TooLarge (spec, h, is) k = let s : length octets ≤ largest_file = h.has.small in absurd (omega arith)
-fault_once octets (Flawed flaws) (BadByte at) (spec, h, is) k = absurd (no_bad_byte octets 16 h.tokens at h.has.lexed k.bad)
-fault_once octets (Flawed flaws) (TooDeep token) (spec, h, is) k = absurd (none_too_deep octets 16 h.tokens token h.has.lexed k.deep)
-fault_once octets (Flawed flaws) (BadToken token) (spec, h, is) k = absurd (bad_spells_none k.tokens token spec k.bad (subst (λ ts. SpellsSpec ts spec) (same_tokens octets h.tokens k.tokens h.has k.has) h.spelled))
-fault_once octets (Flawed flaws) (Flawed others) (spec, h, is) (other, k, is') =
-    ap Flawed (is ∙ ap flaws_of (flawed_once octets spec other h k) ∙ sym is')
+  pub fault_once : (octets : List ℕ) (fault other : SpecFault) → IsRefusedIn language octets fault → IsRefusedIn language octets other → fault ≡ other
+  fault_once octets TooLarge TooLarge h k = refl
+  fault_once octets TooLarge (BadByte at) h k = let s : length octets ≤ largest_file = k.small in absurd (omega arith)
+  fault_once octets TooLarge (TooDeep token) h k = let s : length octets ≤ largest_file = k.small in absurd (omega arith)
+  fault_once octets TooLarge (BadToken token) h k = let s : length octets ≤ largest_file = k.has.small in absurd (omega arith)
+  fault_once octets TooLarge (Flawed flaws) h (spec, k, is) = let s : length octets ≤ largest_file = k.has.small in absurd (omega arith)
+  fault_once octets (BadByte at) TooLarge h k = let s : length octets ≤ largest_file = h.small in absurd (omega arith)
+  fault_once octets (BadByte at) (BadByte next) h k = ap BadByte (bad_byte_once octets 16 at next h.bad k.bad)
+  fault_once octets (BadByte at) (TooDeep token) h k = absurd (one_kind octets 16 at token h.bad k.deep)
+  fault_once octets (BadByte at) (BadToken token) h k = absurd (no_bad_byte octets 16 k.tokens at k.has.lexed h.bad)
+  fault_once octets (BadByte at) (Flawed flaws) h (spec, k, is) = absurd (no_bad_byte octets 16 k.tokens at k.has.lexed h.bad)
+  fault_once octets (TooDeep token) TooLarge h k = let s : length octets ≤ largest_file = h.small in absurd (omega arith)
+  fault_once octets (TooDeep token) (BadByte at) h k = absurd (one_kind octets 16 at token k.bad h.deep)
+  fault_once octets (TooDeep token) (TooDeep next) h k = ap TooDeep (too_deep_once octets 16 token next h.deep k.deep)
+  fault_once octets (TooDeep token) (BadToken next) h k = absurd (none_too_deep octets 16 k.tokens token k.has.lexed h.deep)
+  fault_once octets (TooDeep token) (Flawed flaws) h (spec, k, is) = absurd (none_too_deep octets 16 k.tokens token k.has.lexed h.deep)
+  fault_once octets (BadToken token) TooLarge h k = let s : length octets ≤ largest_file = h.has.small in absurd (omega arith)
+  fault_once octets (BadToken token) (BadByte at) h k = absurd (no_bad_byte octets 16 h.tokens at h.has.lexed k.bad)
+  fault_once octets (BadToken token) (TooDeep next) h k = absurd (none_too_deep octets 16 h.tokens next h.has.lexed k.deep)
+  fault_once octets (BadToken token) (BadToken next) h k =
+      ap BadToken (one.bad_once h.tokens token next h.bad (subst (λ ts. language.NamesBad ts next) (same_tokens octets k.tokens h.tokens k.has h.has) k.bad))
+  fault_once octets (BadToken token) (Flawed flaws) h (spec, k, is) = absurd (one.never_both h.tokens token spec h.bad (subst (λ ts. language.Spells ts spec) (same_tokens octets k.tokens h.tokens k.has h.has) k.spelled))
+  fault_once octets (Flawed flaws) TooLarge (spec, h, is) k = let s : length octets ≤ largest_file = h.has.small in absurd (omega arith)
+  fault_once octets (Flawed flaws) (BadByte at) (spec, h, is) k = absurd (no_bad_byte octets 16 h.tokens at h.has.lexed k.bad)
+  fault_once octets (Flawed flaws) (TooDeep token) (spec, h, is) k = absurd (none_too_deep octets 16 h.tokens token h.has.lexed k.deep)
+  fault_once octets (Flawed flaws) (BadToken token) (spec, h, is) k = absurd (one.never_both k.tokens token spec k.bad (subst (λ ts. language.Spells ts spec) (same_tokens octets h.tokens k.tokens h.has k.has) h.spelled))
+  fault_once octets (Flawed flaws) (Flawed others) (spec, h, is) (other, k, is') =
+      ap Flawed (is ∙ ap language.flaws (flawed_once octets spec other h k) ∙ sym is')
 
 -- ---- a file of a library that tells its files
 
@@ -56,41 +55,42 @@ exceeds_some : (o : Option (List ℕ)) (limit : ℕ) → Exceeds o limit → (oc
 exceeds_some None limit h = absurd h
 exceeds_some (Some octets) limit h = (octets, refl, h)
 
-refused_there : (files : List File) (c : LibraryCounts) (name : List ℕ) (fault : SpecFault) → IsRefusedFile (Some files) c name fault → (octets : List ℕ) × (octets_of name files ≡ Some octets) × IsRefused octets fault
-refused_there files c name TooLarge h = exceeds_some (octets_of name files) largest_file h
-refused_there files c name (BadByte at) h = (h.octets, h.holds, h.refused)
-refused_there files c name (TooDeep token) h = (h.octets, h.holds, h.refused)
-refused_there files c name (BadToken token) h = (h.octets, h.holds, h.refused)
-refused_there files c name (Flawed flaws) h = (h.octets, h.holds, h.refused)
+module _ {T : Type 0} (language : Language T) (one : IsOne language) where
+  refused_there : (files : List File) (c : LibraryCounts) (name : List ℕ) (fault : SpecFault) → IsRefusedFile language (Some files) c name fault → (octets : List ℕ) × (octets_of name files ≡ Some octets) × IsRefusedIn language octets fault
+  refused_there files c name TooLarge h = exceeds_some (octets_of name files) largest_file h
+  refused_there files c name (BadByte at) h = (h.octets, h.holds, h.refused)
+  refused_there files c name (TooDeep token) h = (h.octets, h.holds, h.refused)
+  refused_there files c name (BadToken token) h = (h.octets, h.holds, h.refused)
+  refused_there files c name (Flawed flaws) h = (h.octets, h.holds, h.refused)
 
-refused_once : (files : List File) (c : LibraryCounts) (name : List ℕ) (fault next : SpecFault) → (octets : List ℕ) × (octets_of name files ≡ Some octets) × IsRefused octets fault → (octets : List ℕ) × (octets_of name files ≡ Some octets) × IsRefused octets next → fault ≡ next
-refused_once files c name fault next (octets, is, h) (others, is', k) = fault_once others fault next (subst (λ o. IsRefused o fault) (same_octets files name octets others is is') h) k
+  refused_once : (files : List File) (c : LibraryCounts) (name : List ℕ) (fault next : SpecFault) → (octets : List ℕ) × (octets_of name files ≡ Some octets) × IsRefusedIn language octets fault → (octets : List ℕ) × (octets_of name files ≡ Some octets) × IsRefusedIn language octets next → fault ≡ next
+  refused_once files c name fault next (octets, is, h) (others, is', k) = fault_once language one others fault next (subst (λ o. IsRefusedIn language o fault) (same_octets files name octets others is is') h) k
 
-lacks_or_refused : (files : List File) (c : LibraryCounts) (name : List ℕ) (fault : SpecFault) → (Rose c.faults c.faults' → ⊥) → Rose c.faults c.faults' ⊎ Lacks (Some files) name → (octets : List ℕ) × (octets_of name files ≡ Some octets) × IsRefused octets fault → ⊥
-lacks_or_refused files c name fault quiet (inl rose) k = quiet rose
-lacks_or_refused files c name fault quiet (inr lacks) (octets, is, k) = let e : None ≡ Some octets = sym lacks ∙ is in absurd (cc)
+  lacks_or_refused : (files : List File) (c : LibraryCounts) (name : List ℕ) (fault : SpecFault) → (Rose c.faults c.faults' → ⊥) → Rose c.faults c.faults' ⊎ Lacks (Some files) name → (octets : List ℕ) × (octets_of name files ≡ Some octets) × IsRefusedIn language octets fault → ⊥
+  lacks_or_refused files c name fault quiet (inl rose) k = quiet rose
+  lacks_or_refused files c name fault quiet (inr lacks) (octets, is, k) = let e : None ≡ Some octets = sym lacks ∙ is in absurd (cc)
 
-refusals_once : (files : List File) (c : LibraryCounts) (name : List ℕ) (i n m : ℕ) (fault next : SpecFault) → n ≡ i → m ≡ i → IsRefusedFile (Some files) c name fault → IsRefusedFile (Some files) c name next → LoadStopOf.SpecRefused n fault ≡ LoadStopOf.SpecRefused m next
-refusals_once files c name i n m fault next is is' h k =
-    ap (λ x. LoadStopOf.SpecRefused x fault) (is ∙ sym is') ∙ ap (λ f. LoadStopOf.SpecRefused m f) (refused_once files c name fault next (refused_there files c name fault h) (refused_there files c name next k))
+  refusals_once : (files : List File) (c : LibraryCounts) (name : List ℕ) (i n m : ℕ) (fault next : SpecFault) → n ≡ i → m ≡ i → IsRefusedFile language (Some files) c name fault → IsRefusedFile language (Some files) c name next → LoadStopOf.SpecRefused n fault ≡ LoadStopOf.SpecRefused m next
+  refusals_once files c name i n m fault next is is' h k =
+      ap (λ x. LoadStopOf.SpecRefused x fault) (is ∙ sym is') ∙ ap (λ f. LoadStopOf.SpecRefused m f) (refused_once files c name fault next (refused_there files c name fault h) (refused_there files c name next k))
 
-stops_once : (files : List File) (c : LibraryCounts) (name : List ℕ) (i : ℕ) (outcome other : LoadStop) → (Rose c.faults c.faults' → ⊥) → outcome ≢ LoadStopOf.OutOfMemory → other ≢ LoadStopOf.OutOfMemory
-    → StopsAtFile (Some files) c name i outcome → StopsAtFile (Some files) c name i other → outcome ≡ other
-stops_once files c name i (LoadStopOf.LoadFault n) (LoadStopOf.LoadFault m) quiet some others h k = ap LoadStopOf.LoadFault (h.0 ∙ sym k.0)
-stops_once files c name i (LoadStopOf.LoadFault n) (LoadStopOf.SpecRefused m next) quiet some others h k = absurd (lacks_or_refused files c name next quiet h.1 (refused_there files c name next k.1))
-stops_once files c name i (LoadStopOf.SpecRefused n fault) (LoadStopOf.LoadFault m) quiet some others h k = absurd (lacks_or_refused files c name fault quiet k.1 (refused_there files c name fault h.1))
-stops_once files c name i (LoadStopOf.SpecRefused n fault) (LoadStopOf.SpecRefused m next) quiet some others h k = refusals_once files c name i n m fault next h.0 k.0 h.1 k.1
-stops_once files c name i LoadStopOf.OutOfMemory other quiet some others h k = absurd (some refl)
-stops_once files c name i outcome LoadStopOf.OutOfMemory quiet some others h k = absurd (others refl)
-stops_once files c name i (LoadStopOf.CategoryTwice n category) other quiet some others h k = absurd h
-stops_once files c name i outcome (LoadStopOf.CategoryTwice n category) quiet some others h k = absurd k
+  pub stops_once : (files : List File) (c : LibraryCounts) (name : List ℕ) (i : ℕ) (outcome other : LoadStop) → (Rose c.faults c.faults' → ⊥) → outcome ≢ LoadStopOf.OutOfMemory → other ≢ LoadStopOf.OutOfMemory
+      → StopsAtFile language (Some files) c name i outcome → StopsAtFile language (Some files) c name i other → outcome ≡ other
+  stops_once files c name i (LoadStopOf.LoadFault n) (LoadStopOf.LoadFault m) quiet some others h k = ap LoadStopOf.LoadFault (h.0 ∙ sym k.0)
+  stops_once files c name i (LoadStopOf.LoadFault n) (LoadStopOf.SpecRefused m next) quiet some others h k = absurd (lacks_or_refused files c name next quiet h.1 (refused_there files c name next k.1))
+  stops_once files c name i (LoadStopOf.SpecRefused n fault) (LoadStopOf.LoadFault m) quiet some others h k = absurd (lacks_or_refused files c name fault quiet k.1 (refused_there files c name fault h.1))
+  stops_once files c name i (LoadStopOf.SpecRefused n fault) (LoadStopOf.SpecRefused m next) quiet some others h k = refusals_once files c name i n m fault next h.0 k.0 h.1 k.1
+  stops_once files c name i LoadStopOf.OutOfMemory other quiet some others h k = absurd (some refl)
+  stops_once files c name i outcome LoadStopOf.OutOfMemory quiet some others h k = absurd (others refl)
+  stops_once files c name i (LoadStopOf.CategoryTwice n category) other quiet some others h k = absurd h
+  stops_once files c name i outcome (LoadStopOf.CategoryTwice n category) quiet some others h k = absurd k
 
 twice_once : (files : List File) (before : List SpecTree) (name : List ℕ) (category next : ℕ) → HasCategoryTwice (Some files) before name category → HasCategoryTwice (Some files) before name next → category ≡ next
 twice_once files before name category next h k = h.is ∙ ap (λ s. s.category) (spec_given_once files name h.spec k.spec h.gives k.gives) ∙ sym k.is
 
 file_ends_once : (distinct : Bool) (files : List File) (c : LibraryCounts) (before : List SpecTree) (name : List ℕ) (i : ℕ) (outcome other : LoadStop) → (Rose c.faults c.faults' → ⊥) → outcome ≢ LoadStopOf.OutOfMemory → other ≢ LoadStopOf.OutOfMemory
     → EndsAtFile distinct (Some files) c before name i outcome → EndsAtFile distinct (Some files) c before name i other → outcome ≡ other
-file_ends_once distinct files c before name i outcome other quiet some others (by_file h) (by_file k) = stops_once files c name i outcome other quiet some others h k
+file_ends_once distinct files c before name i outcome other quiet some others (by_file h) (by_file k) = stops_once category_files category_files_are_one files c name i outcome other quiet some others h k
 file_ends_once distinct files c before name i outcome other quiet some others (by_file h) (by_category want category is twice) = absurd (some (given_stops_for_memory files c name i twice.spec outcome twice.gives quiet h))
 file_ends_once distinct files c before name i outcome other quiet some others (by_category want category is twice) (by_file k) = absurd (others (given_stops_for_memory files c name i twice.spec other twice.gives quiet k))
 file_ends_once distinct files c before name i outcome other quiet some others (by_category want category is twice) (by_category want' next is' twice') =

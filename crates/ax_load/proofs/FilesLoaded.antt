@@ -8,6 +8,7 @@ use Rattle.ax_model.specs.Plain.{spec_tree, catalogue_tree}
 use Rattle.ax_model.specs.Specification.{spec_of}
 use Rattle.ax_model.specs.declared.spec.Spec.{Spec}
 use Rattle.ax_outside.specs.Changes.{LibraryCounts}
+use Rattle.ax_load.specs.Languages.{category_files}
 use Rattle.ax_load.specs.Loading.{GivesSpec, StopsAtFile, EndsAtFile, FilesEnd, by_file, by_category}
 use Rattle.std.proofs.Math.Seq.{take-length}
 use Rattle.ax_load.proofs.TakenFiles.{take_more, took_nothing, through, stop_took, adding_took}
@@ -74,8 +75,8 @@ module _ (distinct : Bool) (files files' : Option (List File)) (names left : Lis
   one_more : take (i + 1) names ≡ take i names ++ name ∷ []
   one_more = take_more names l.pass.earlier more name i (l.pass.split ∙ ap (λ x. l.pass.earlier ++ x) is) l.pass.counted
 
-  pub file_took : (c : LibraryCounts) (stop : LoadStop) → StopsAtFile files' c name file stop → TookAt files' t' t'' name stop → TookThrough files t t'' names stop
-  file_took c stop h k = stop_took files files' names name i file t t' t'' l.keeps l.number one_more l.took c stop h k
+  pub file_took : (c : LibraryCounts) (stop : LoadStop) → StopsAtFile category_files files' c name file stop → TookAt files' t' t'' name stop → TookThrough files t t'' names stop
+  file_took c stop h k = stop_took files files' names name i file t t' t'' l.keeps l.number one_more l.took category_files c stop h k
 
   pub add_took : (error : AddError) (stop : LoadStop) → stop ≡ stop_of_adding file error → TookFiles files' t' t'' (name ∷ []) → TookThrough files t t'' names stop
   add_took error stop same k = adding_took files files' names name i file t t' t'' l.keeps l.number one_more l.took error stop same k

@@ -2,74 +2,95 @@
 use Rattle.std.proofs.Common.{◌≡◌, ℕ, ◌≤◌, ◌⊎◌, inl, inr, List, [], ◌∷◌, ◌++◌, Bool, IsTrue, Option, Some, None, IsSome, length, append_assoc, append-nil, refl, sym, ◌∙◌, ap, subst, arith}
 use Rattle.ax_outside.specs.Files.{File, octets_of, Lacks, IsLonger, Exceeds}
 use Rattle.ax_outside.specs.Told.{Rose}
-use Rattle.ax_model.specs.Flaws.{flaws_of}
 use Rattle.ax_model.specs.Specification.{SpecTree, spec_of}
 use Rattle.ax_tokens.specs.PlainToken.{PlainToken}
 use Rattle.ax_tokens.proofs.Once.{tokens_once, no_bad_byte, none_too_deep}
-use Rattle.ax_grammar.proofs.BadTokens.{bad_spells_none}
+use Rattle.ax_grammar.proofs.BadTokens.{bad_token_once, bad_spells_none}
 use Rattle.ax_grammar.specs.Answers.{SpellsSpec, texts_of}
 use Rattle.ax_grammar.proofs.TokenTexts.{spelling_once}
 use Rattle.ax_load.specs.declared.fault.LoadStop.{LoadStop}
 use Rattle.ax_load.specs.declared.fault.LoadStop.TheVariants as LoadStopOf
 use Rattle.ax_load.specs.declared.fault.SpecFault.{SpecFault}
 use Rattle.ax_load.specs.declared.fault.SpecFault.TheVariants.{TooLarge, BadByte, TooDeep, BadToken, Flawed}
-use Rattle.ax_load.specs.FileAnswers.{HasTokens, IsAccepted, IsRefused, largest_file}
+use Rattle.ax_load.specs.FileAnswers.{HasTokens, IsAcceptedIn, IsRefusedIn, largest_file}
+use Rattle.ax_load.specs.Languages.{Language, category_files}
 use Rattle.ax_outside.specs.Changes.{LibraryCounts}
-use Rattle.ax_load.specs.Loading.{GivesSpec, IsRefusedFile, IsRefusedOctets, StopsAtFile, EachGives, AreNewAfter, HasCategoryTwice, EndsAtFile, by_file, by_category, FilesGive, FilesEnd}
+use Rattle.ax_load.specs.Loading.{GivesIn, GivesSpec, IsRefusedFile, IsRefusedOctets, StopsAtFile, EachGives, AreNewAfter, HasCategoryTwice, EndsAtFile, by_file, by_category, FilesGive, FilesEnd}
 
 -- ---- one file
 
 pub same_tokens : (octets : List ℕ) (ts us : List PlainToken) → HasTokens octets ts → HasTokens octets us → ts ≡ us
 same_tokens octets ts us h k = tokens_once octets ts us h.lexed.lexed k.lexed.lexed
 
-pub same_spelled : (ts us : List PlainToken) (spec other : SpecTree) → ts ≡ us → SpellsSpec ts spec → SpellsSpec us other → spec ≡ other
-same_spelled ts us spec other is h k = spelling_once spec other h.in_range k.in_range (sym h.texts ∙ ap texts_of is ∙ k.texts)
+-- tokens of the language spell one tree or have one bad token, and never both
+pub record IsOne {T : Type 0} (language : Language T) : Type 0 where
+  pub tree_once : (ts : List PlainToken) (tree other : T) → language.Spells ts tree → language.Spells ts other → tree ≡ other
+  pub bad_once : (ts : List PlainToken) (token next : ℕ) → language.NamesBad ts token → language.NamesBad ts next → token ≡ next
+  pub never_both : (ts : List PlainToken) (token : ℕ) (tree : T) → language.NamesBad ts token → language.Spells ts tree → ⊥
 
-pub accepted_once : (octets : List ℕ) (spec other : SpecTree) → IsAccepted octets spec → IsAccepted octets other → spec ≡ other
-accepted_once octets spec other h k = same_spelled h.tokens k.tokens spec other (same_tokens octets h.tokens k.tokens h.has k.has) h.spelled k.spelled
+pub category_files_are_one : IsOne category_files
+category_files_are_one = record {
+  tree_once = λ ts tree other h k. spelling_once tree other h.in_range k.in_range (sym h.texts ∙ k.texts);
+  bad_once = bad_token_once;
+  never_both = bad_spells_none;
+}
 
-pub accepted_not_refused : (octets : List ℕ) (spec : SpecTree) (fault : SpecFault) → IsAccepted octets spec → IsRefused octets fault → ⊥
-accepted_not_refused octets spec TooLarge h k = let small : length octets ≤ largest_file = h.has.small in absurd (omega arith)
-accepted_not_refused octets spec (BadByte at) h k = no_bad_byte octets 16 h.tokens at h.has.lexed k.bad
-accepted_not_refused octets spec (TooDeep token) h k = none_too_deep octets 16 h.tokens token h.has.lexed k.deep
-accepted_not_refused octets spec (BadToken token) h k = bad_spells_none k.tokens token spec k.bad (subst (λ ts. SpellsSpec ts spec) (same_tokens octets h.tokens k.tokens h.has k.has) h.spelled)
-accepted_not_refused octets spec (Flawed flaws) h (other, flawed, is) =
-    let same : spec ≡ other = same_spelled h.tokens flawed.tokens spec other (same_tokens octets h.tokens flawed.tokens h.has flawed.has) h.spelled flawed.spelled in
-    flawed.some (subst (λ s. flaws_of s ≡ []) same h.sound.none)
+module _ {T : Type 0} (language : Language T) (one : IsOne language) where
+  pub same_tree : (ts us : List PlainToken) (tree other : T) → ts ≡ us → language.Spells ts tree → language.Spells us other → tree ≡ other
+  same_tree ts us tree other is h k = one.tree_once us tree other (subst (λ x. language.Spells x tree) is h) k
+
+  pub accepted_once : (octets : List ℕ) (tree other : T) → IsAcceptedIn language octets tree → IsAcceptedIn language octets other → tree ≡ other
+  accepted_once octets tree other h k = same_tree h.tokens k.tokens tree other (same_tokens octets h.tokens k.tokens h.has k.has) h.spelled k.spelled
+
+  pub accepted_not_refused : (octets : List ℕ) (tree : T) (fault : SpecFault) → IsAcceptedIn language octets tree → IsRefusedIn language octets fault → ⊥
+  accepted_not_refused octets tree TooLarge h k = let small : length octets ≤ largest_file = h.has.small in absurd (omega arith)
+  accepted_not_refused octets tree (BadByte at) h k = no_bad_byte octets 16 h.tokens at h.has.lexed k.bad
+  accepted_not_refused octets tree (TooDeep token) h k = none_too_deep octets 16 h.tokens token h.has.lexed k.deep
+  accepted_not_refused octets tree (BadToken token) h k = one.never_both k.tokens token tree k.bad (subst (λ ts. language.Spells ts tree) (same_tokens octets h.tokens k.tokens h.has k.has) h.spelled)
+  accepted_not_refused octets tree (Flawed flaws) h (other, flawed, is) =
+      let same : tree ≡ other = same_tree h.tokens flawed.tokens tree other (same_tokens octets h.tokens flawed.tokens h.has flawed.has) h.spelled flawed.spelled in
+      flawed.some (subst (λ s. language.flaws s ≡ []) same h.sound)
 
 -- ---- one file of a library that tells its files
 
 pub same_octets : (files : List File) (name octets other : List ℕ) → octets_of name files ≡ Some octets → octets_of name files ≡ Some other → octets ≡ other
 same_octets files name octets other h k = let e : Some octets ≡ Some other = sym h ∙ k in cc
 
-pub spec_given_once : (files : List File) (name : List ℕ) (spec other : SpecTree) → GivesSpec (Some files) name spec → GivesSpec (Some files) name other → spec ≡ other
-spec_given_once files name spec other h k =
-    accepted_once k.octets spec other (subst (λ o. IsAccepted o spec) (same_octets files name h.octets k.octets h.holds k.holds) h.accepted) k.accepted
-
-refused_octets_not_given : (files : List File) (name : List ℕ) (spec : SpecTree) (fault : SpecFault) → GivesSpec (Some files) name spec → IsRefusedOctets (Some files) name fault → ⊥
-refused_octets_not_given files name spec fault h k =
-    accepted_not_refused k.octets spec fault (subst (λ o. IsAccepted o spec) (same_octets files name h.octets k.octets h.holds k.holds) h.accepted) k.refused
-
 given_not_longer : (files : List File) (name octets : List ℕ) → octets_of name files ≡ Some octets → length octets ≤ largest_file → IsLonger (Some files) name largest_file → ⊥
 given_not_longer files name octets is small h = let k : Exceeds (Some octets) largest_file = subst (λ o. Exceeds o largest_file) is h in absurd (omega arith)
 
-refused_not_given : (files : List File) (c : LibraryCounts) (name : List ℕ) (spec : SpecTree) (fault : SpecFault) → GivesSpec (Some files) name spec → IsRefusedFile (Some files) c name fault → ⊥
-refused_not_given files c name spec TooLarge h k = given_not_longer files name h.octets h.holds h.accepted.has.small k
-refused_not_given files c name spec (BadByte at) h k = refused_octets_not_given files name spec (BadByte at) h k
-refused_not_given files c name spec (TooDeep token) h k = refused_octets_not_given files name spec (TooDeep token) h k
-refused_not_given files c name spec (BadToken token) h k = refused_octets_not_given files name spec (BadToken token) h k
-refused_not_given files c name spec (Flawed flaws) h k = refused_octets_not_given files name spec (Flawed flaws) h k
+module _ {T : Type 0} (language : Language T) (one : IsOne language) (files : List File) (name : List ℕ) where
+  pub tree_given_once : (tree other : T) → GivesIn language (Some files) name tree → GivesIn language (Some files) name other → tree ≡ other
+  tree_given_once tree other h k =
+      accepted_once language one k.octets tree other (subst (λ o. IsAcceptedIn language o tree) (same_octets files name h.octets k.octets h.holds k.holds) h.accepted) k.accepted
 
-fault_not_given : (files : List File) (c : LibraryCounts) (name : List ℕ) (spec : SpecTree) → GivesSpec (Some files) name spec → (Rose c.faults c.faults' → ⊥) → Rose c.faults c.faults' ⊎ Lacks (Some files) name → ⊥
-fault_not_given files c name spec h quiet (inl rose) = quiet rose
-fault_not_given files c name spec h quiet (inr lacks) = let e : None ≡ Some h.octets = sym lacks ∙ h.holds in absurd (cc)
+  refused_octets_not_given : (tree : T) (fault : SpecFault) → GivesIn language (Some files) name tree → IsRefusedOctets language (Some files) name fault → ⊥
+  refused_octets_not_given tree fault h k =
+      accepted_not_refused language one k.octets tree fault (subst (λ o. IsAcceptedIn language o tree) (same_octets files name h.octets k.octets h.holds k.holds) h.accepted) k.refused
 
--- a file that gives a specification ends no run, but for want of memory
-pub given_stops_for_memory : (files : List File) (c : LibraryCounts) (name : List ℕ) (i : ℕ) (spec : SpecTree) (outcome : LoadStop) → GivesSpec (Some files) name spec → (Rose c.faults c.faults' → ⊥) → StopsAtFile (Some files) c name i outcome → outcome ≡ LoadStopOf.OutOfMemory
-given_stops_for_memory files c name i spec (LoadStopOf.LoadFault n) h quiet k = absurd (fault_not_given files c name spec h quiet k.1)
-given_stops_for_memory files c name i spec (LoadStopOf.SpecRefused n fault) h quiet k = absurd (refused_not_given files c name spec fault h k.1)
-given_stops_for_memory files c name i spec LoadStopOf.OutOfMemory h quiet k = refl
-given_stops_for_memory files c name i spec (LoadStopOf.CategoryTwice n category) h quiet k = absurd k
+  refused_not_given : (c : LibraryCounts) (tree : T) (fault : SpecFault) → GivesIn language (Some files) name tree → IsRefusedFile language (Some files) c name fault → ⊥
+  refused_not_given c tree TooLarge h k = given_not_longer files name h.octets h.holds h.accepted.has.small k
+  refused_not_given c tree (BadByte at) h k = refused_octets_not_given tree (BadByte at) h k
+  refused_not_given c tree (TooDeep token) h k = refused_octets_not_given tree (TooDeep token) h k
+  refused_not_given c tree (BadToken token) h k = refused_octets_not_given tree (BadToken token) h k
+  refused_not_given c tree (Flawed flaws) h k = refused_octets_not_given tree (Flawed flaws) h k
+
+  fault_not_given : (c : LibraryCounts) (tree : T) → GivesIn language (Some files) name tree → (Rose c.faults c.faults' → ⊥) → Rose c.faults c.faults' ⊎ Lacks (Some files) name → ⊥
+  fault_not_given c tree h quiet (inl rose) = quiet rose
+  fault_not_given c tree h quiet (inr lacks) = let e : None ≡ Some h.octets = sym lacks ∙ h.holds in absurd (cc)
+
+  -- a file that gives a tree ends no run, but for want of memory
+  pub given_tree_stops_for_memory : (c : LibraryCounts) (i : ℕ) (tree : T) (outcome : LoadStop) → GivesIn language (Some files) name tree → (Rose c.faults c.faults' → ⊥) → StopsAtFile language (Some files) c name i outcome → outcome ≡ LoadStopOf.OutOfMemory
+  given_tree_stops_for_memory c i tree (LoadStopOf.LoadFault n) h quiet k = absurd (fault_not_given c tree h quiet k.1)
+  given_tree_stops_for_memory c i tree (LoadStopOf.SpecRefused n fault) h quiet k = absurd (refused_not_given c tree fault h k.1)
+  given_tree_stops_for_memory c i tree LoadStopOf.OutOfMemory h quiet k = refl
+  given_tree_stops_for_memory c i tree (LoadStopOf.CategoryTwice n category) h quiet k = absurd k
+
+pub spec_given_once : (files : List File) (name : List ℕ) (spec other : SpecTree) → GivesSpec (Some files) name spec → GivesSpec (Some files) name other → spec ≡ other
+spec_given_once files name spec other h k = tree_given_once category_files category_files_are_one files name spec other h k
+
+pub given_stops_for_memory : (files : List File) (c : LibraryCounts) (name : List ℕ) (i : ℕ) (spec : SpecTree) (outcome : LoadStop) → GivesSpec (Some files) name spec → (Rose c.faults c.faults' → ⊥) → StopsAtFile category_files (Some files) c name i outcome → outcome ≡ LoadStopOf.OutOfMemory
+given_stops_for_memory files c name i spec outcome h quiet k = given_tree_stops_for_memory category_files category_files_are_one files name c i spec outcome h quiet k
 
 pub none_is_none : {A : Type 0} (x : Option A) → x ≡ None → IsSome x → ⊥
 none_is_none {A = A} x is h = let e : IsSome {T = A} None = subst IsSome is h in absurd (cc)

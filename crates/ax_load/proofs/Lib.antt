@@ -5,3 +5,7 @@ pub mod FilesOnce
 pub mod EndsOnce
 pub mod TwoFiles
 pub mod TakenFiles
+pub mod FileOctets
+pub mod ExpansionLemmas
+pub mod WithExpansion
+pub mod ExpansionsOnce

@@ -6,6 +6,7 @@ use Rattle.ax_check.specs.declared.catalogue.AddError.{AddError}
 use Rattle.ax_check.specs.declared.catalogue.AddError.TheVariants as AddErrorOf
 use Rattle.ax_load.specs.Adding.{stop_of_adding}
 use Rattle.ax_load.specs.Counting.{octet_count, taken_after, TookFiles, TookAt, TookThrough, UnlessLoadFault}
+use Rattle.ax_load.specs.Languages.{Language}
 use Rattle.ax_load.specs.Loading.{StopsAtFile}
 use Rattle.ax_load.specs.declared.fault.LoadStop.{LoadStop}
 use Rattle.ax_load.specs.declared.fault.LoadStop.TheVariants.{SpecRefused, CategoryTwice, LoadFault, OutOfMemory}
@@ -61,15 +62,15 @@ module _ (files files' : Option (List File)) (names : List (List ℕ)) (name : L
   memory_at (inl h) = (i, before h)
   memory_at (inr h) = (i + 1, through h)
 
-  pub stop_took : (c : LibraryCounts) (stop : LoadStop) → StopsAtFile files' c name file stop → TookAt files' t' t'' name stop → TookThrough files t t'' names stop
-  stop_took c (LoadFault n) h k = before_at n h.0 k
-  stop_took c (SpecRefused n TooLarge) h k = before_at n h.0 k
-  stop_took c (SpecRefused n (BadByte at)) h k = through_at n h.0 k
-  stop_took c (SpecRefused n (TooDeep token)) h k = through_at n h.0 k
-  stop_took c (SpecRefused n (BadToken token)) h k = through_at n h.0 k
-  stop_took c (SpecRefused n (Flawed flaws)) h k = through_at n h.0 k
-  stop_took c (CategoryTwice n category) h k = absurd h
-  stop_took c OutOfMemory h k = memory_at k
+  pub stop_took : {T : Type 0} (language : Language T) (c : LibraryCounts) (stop : LoadStop) → StopsAtFile language files' c name file stop → TookAt files' t' t'' name stop → TookThrough files t t'' names stop
+  stop_took language c (LoadFault n) h k = before_at n h.0 k
+  stop_took language c (SpecRefused n TooLarge) h k = before_at n h.0 k
+  stop_took language c (SpecRefused n (BadByte at)) h k = through_at n h.0 k
+  stop_took language c (SpecRefused n (TooDeep token)) h k = through_at n h.0 k
+  stop_took language c (SpecRefused n (BadToken token)) h k = through_at n h.0 k
+  stop_took language c (SpecRefused n (Flawed flaws)) h k = through_at n h.0 k
+  stop_took language c (CategoryTwice n category) h k = absurd h
+  stop_took language c OutOfMemory h k = memory_at k
 
   pub adding_took : (error : AddError) (stop : LoadStop) → stop ≡ stop_of_adding file error → TookFiles files' t' t'' (name ∷ []) → TookThrough files t t'' names stop
   adding_took (AddErrorOf.CategoryTwice category) stop is k = subst (TookThrough files t t'' names) (sym is) (through_at file refl k)

@@ -6,6 +6,7 @@ use Rattle.ax_outside.specs.Changes.{LibraryCounts}
 use Rattle.ax_outside.specs.Files.{File, Lacks, TooMany}
 use Rattle.ax_outside.specs.Told.{Rose}
 use Rattle.ax_model.specs.Specification.{SpecTree}
+use Rattle.ax_load.specs.Languages.{Language, category_files}
 use Rattle.ax_load.specs.Loading.{GivesSpec, AreNewAfter, FilesGive, FilesEnd, StopsAtFile, IsRefusedFile, by_file}
 use Rattle.ax_load.specs.declared.fault.LoadStop.{LoadStop}
 use Rattle.ax_load.specs.declared.fault.LoadStop.TheVariants.{SpecRefused, CategoryTwice, LoadFault, OutOfMemory}
@@ -15,15 +16,15 @@ use Rattle.ax_load.specs.FileAnswers.{largest_file}
 
 -- ---- what a later part of a call licenses, the whole call does
 
-abbrev counts : ℕ → ℕ → ℕ → ℕ → LibraryCounts
+abbrev pub counts : ℕ → ℕ → ℕ → ℕ → LibraryCounts
 counts faults faults' taken taken' = record { faults = faults; faults' = faults'; taken = taken; taken' = taken' }
 
-module _ (files : Option (List File)) (name : List ℕ) (f f' f'' t t' t'' : ℕ) (rose : f ≤ f') (more : t ≤ t') where
+module _ {T : Type 0} (language : Language T) (files : Option (List File)) (name : List ℕ) (f f' f'' t t' t'' : ℕ) (rose : f ≤ f') (more : t ≤ t') where
   many_over : (told : Option (List File)) → TooMany told name largest_file t' t'' → TooMany told name largest_file t t''
   many_over None h = let a = more in omega arith
   many_over (Some files) h = h
 
-  refused_over : (fault : SpecFault) → IsRefusedFile files (counts f' f'' t' t'') name fault → IsRefusedFile files (counts f f'' t t'') name fault
+  refused_over : (fault : SpecFault) → IsRefusedFile language files (counts f' f'' t' t'') name fault → IsRefusedFile language files (counts f f'' t t'') name fault
   refused_over TooLarge h = many_over files h
   refused_over (BadByte at) h = h
   refused_over (TooDeep token) h = h
@@ -34,7 +35,7 @@ module _ (files : Option (List File)) (name : List ℕ) (f f' f'' t t' t'' : ℕ
   failed_over (inl h) = inl (Rose-later rose h)
   failed_over (inr lacks) = inr lacks
 
-  stops_over : (i : ℕ) (stop : LoadStop) → StopsAtFile files (counts f' f'' t' t'') name i stop → StopsAtFile files (counts f f'' t t'') name i stop
+  pub stops_over : (i : ℕ) (stop : LoadStop) → StopsAtFile language files (counts f' f'' t' t'') name i stop → StopsAtFile language files (counts f f'' t t'') name i stop
   stops_over i (LoadFault n) h = (h.0, failed_over h.1)
   stops_over i (SpecRefused n fault) h = (h.0, refused_over fault h.1)
   stops_over i OutOfMemory h = tt
@@ -42,19 +43,19 @@ module _ (files : Option (List File)) (name : List ℕ) (f f' f'' t t' t'' : ℕ
 
 -- ---- the files
 
-free : (before specs : List SpecTree) → IsTrue false → AreNewAfter before specs
+pub free : (before specs : List SpecTree) → IsTrue false → AreNewAfter before specs
 free before specs want = absurd (cc)
 
 pub two_give : (files files' : Option (List File)) (first second : List ℕ) (one other : SpecTree) → GivesSpec files first one → files' ≡ files → GivesSpec files' second other
     → FilesGive false files (first ∷ second ∷ []) (one ∷ other ∷ [])
 two_give files files' first second one other h same k = record { each = (h, (subst (λ x. GivesSpec x second other) same k, tt)); categories = free [] (one ∷ other ∷ []) }
 
-pub first_ends : (files : Option (List File)) (c : LibraryCounts) (first second : List ℕ) (stop : LoadStop) → StopsAtFile files c first 0 stop → FilesEnd false files c (first ∷ second ∷ []) stop
+pub first_ends : (files : Option (List File)) (c : LibraryCounts) (first second : List ℕ) (stop : LoadStop) → StopsAtFile category_files files c first 0 stop → FilesEnd false files c (first ∷ second ∷ []) stop
 first_ends files c first second stop h =
     record { earlier = []; name = first; more = second ∷ []; split = refl; before = []; give = record { each = tt; categories = free [] [] }; ends = by_file h }
 
 pub second_ends : (files files' : Option (List File)) (first second : List ℕ) (one : SpecTree) (stop : LoadStop) (f f' f'' t t' t'' : ℕ) → GivesSpec files first one → files' ≡ files → f ≤ f' → t ≤ t'
-    → StopsAtFile files' (counts f' f'' t' t'') second 1 stop → FilesEnd false files (counts f f'' t t'') (first ∷ second ∷ []) stop
+    → StopsAtFile category_files files' (counts f' f'' t' t'') second 1 stop → FilesEnd false files (counts f f'' t t'') (first ∷ second ∷ []) stop
 second_ends files files' first second one stop f f' f'' t t' t'' h same rose more k = record {
   earlier = first ∷ [];
   name = second;
@@ -62,7 +63,7 @@ second_ends files files' first second one stop f f' f'' t t' t'' h same rose mor
   split = refl;
   before = one ∷ [];
   give = record { each = (h, tt); categories = free [] (one ∷ []) };
-  ends = by_file (stops_over files second f f' f'' t t' t'' rose more 1 stop (subst (λ x. StopsAtFile x (counts f' f'' t' t'') second 1 stop) same k));
+  ends = by_file (stops_over category_files files second f f' f'' t t' t'' rose more 1 stop (subst (λ x. StopsAtFile category_files x (counts f' f'' t' t'') second 1 stop) same k));
 }
 
 -- a stop that was passed on

@@ -1,20 +1,24 @@
 -- Which specifications the files of a command line give, or how the run ends at the first one that gives none.
-use Rattle.std.specs.Prelude.{◌≡◌, ℕ, ◌⊎◌, List, [], ◌∷◌, ◌++◌, Bool, IsTrue, Option, None, IsSome, length}
+use Rattle.std.specs.Prelude.{◌≡◌, ℕ, ◌⊎◌, List, [], ◌∷◌, ◌++◌, Bool, false, IsTrue, Option, None, IsSome, length}
 use Rattle.ax_outside.specs.Files.{File, HoldsFile, Lacks, TooMany}
 use Rattle.ax_outside.specs.Changes.{LibraryCounts}
 use Rattle.ax_outside.specs.Told.{Rose}
 use Rattle.ax_model.specs.Specification.{SpecTree, spec_of}
-use Rattle.ax_load.specs.FileAnswers.{largest_file, IsAccepted, IsRefused}
+use Rattle.ax_load.specs.FileAnswers.{largest_file, IsAcceptedIn, IsRefusedIn}
+use Rattle.ax_load.specs.Languages.{Language, category_files, expansion_files}
 use Rattle.ax_load.specs.declared.fault.LoadStop.{LoadStop}
 use Rattle.ax_load.specs.declared.fault.LoadStop.TheVariants.{SpecRefused, CategoryTwice, LoadFault, OutOfMemory}
 use Rattle.ax_load.specs.declared.fault.SpecFault.{SpecFault}
 use Rattle.ax_load.specs.declared.fault.SpecFault.TheVariants.{TooLarge, BadByte, TooDeep, BadToken, Flawed}
 
--- the file of this name is an accepted one, of this specification
-pub record GivesSpec (files : Option (List File)) (name : List ℕ) (spec : SpecTree) : Type 0 where
+-- the file of this name is an accepted one, of this tree
+pub record GivesIn {T : Type 0} (language : Language T) (files : Option (List File)) (name : List ℕ) (tree : T) : Type 0 where
   pub octets : List ℕ
   pub holds : HoldsFile files name octets
-  pub accepted : IsAccepted octets spec
+  pub accepted : IsAcceptedIn language octets tree
+
+abbrev pub GivesSpec : Option (List File) → List ℕ → SpecTree → Type 0
+GivesSpec files name spec = GivesIn category_files files name spec
 
 -- each file in turn gives its specification
 abbrev pub EachGives : Option (List File) → List (List ℕ) → List SpecTree → Type 0
@@ -35,17 +39,17 @@ pub record FilesGive (distinct : Bool) (files : Option (List File)) (names : Lis
 
 -- ---- a file ends the run: the one of number i, after files that gave these specifications
 
-pub record IsRefusedOctets (files : Option (List File)) (name : List ℕ) (fault : SpecFault) : Type 0 where
+pub record IsRefusedOctets {T : Type 0} (language : Language T) (files : Option (List File)) (name : List ℕ) (fault : SpecFault) : Type 0 where
   pub octets : List ℕ
   pub holds : HoldsFile files name octets
-  pub refused : IsRefused octets fault
+  pub refused : IsRefusedIn language octets fault
 
-abbrev pub IsRefusedFile : Option (List File) → LibraryCounts → List ℕ → SpecFault → Type 0
-IsRefusedFile files c name TooLarge = TooMany files name largest_file c.taken c.taken'
-IsRefusedFile files c name (BadByte at) = IsRefusedOctets files name (BadByte at)
-IsRefusedFile files c name (TooDeep token) = IsRefusedOctets files name (TooDeep token)
-IsRefusedFile files c name (BadToken token) = IsRefusedOctets files name (BadToken token)
-IsRefusedFile files c name (Flawed flaws) = IsRefusedOctets files name (Flawed flaws)
+abbrev pub IsRefusedFile : {T : Type 0} → Language T → Option (List File) → LibraryCounts → List ℕ → SpecFault → Type 0
+IsRefusedFile language files c name TooLarge = TooMany files name largest_file c.taken c.taken'
+IsRefusedFile language files c name (BadByte at) = IsRefusedOctets language files name (BadByte at)
+IsRefusedFile language files c name (TooDeep token) = IsRefusedOctets language files name (TooDeep token)
+IsRefusedFile language files c name (BadToken token) = IsRefusedOctets language files name (BadToken token)
+IsRefusedFile language files c name (Flawed flaws) = IsRefusedOctets language files name (Flawed flaws)
 
 pub record HasCategoryTwice (files : Option (List File)) (before : List SpecTree) (name : List ℕ) (category : ℕ) : Type 0 where
   pub spec : SpecTree
@@ -54,15 +58,23 @@ pub record HasCategoryTwice (files : Option (List File)) (before : List SpecTree
   pub twice : IsSome (spec_of category before)
 
 -- by itself: it isn't there, a fault of the library, it is refused, or want of memory
-abbrev pub StopsAtFile : Option (List File) → LibraryCounts → List ℕ → ℕ → LoadStop → Type 0
-StopsAtFile files c name i (LoadFault n) = (n ≡ i) × (Rose c.faults c.faults' ⊎ Lacks files name)
-StopsAtFile files c name i (SpecRefused n fault) = (n ≡ i) × IsRefusedFile files c name fault
-StopsAtFile files c name i OutOfMemory = Unit {0}
-StopsAtFile files c name i (CategoryTwice n category) = ⊥
+abbrev pub StopsAtFile : {T : Type 0} → Language T → Option (List File) → LibraryCounts → List ℕ → ℕ → LoadStop → Type 0
+StopsAtFile language files c name i (LoadFault n) = (n ≡ i) × (Rose c.faults c.faults' ⊎ Lacks files name)
+StopsAtFile language files c name i (SpecRefused n fault) = (n ≡ i) × IsRefusedFile language files c name fault
+StopsAtFile language files c name i OutOfMemory = Unit {0}
+StopsAtFile language files c name i (CategoryTwice n category) = ⊥
+
+-- it gives no octets: it isn't there, a fault of the library, it is too large, or want of memory
+abbrev pub HasNoOctets : Option (List File) → LibraryCounts → List ℕ → ℕ → LoadStop → Type 0
+HasNoOctets files c name i (LoadFault n) = (n ≡ i) × (Rose c.faults c.faults' ⊎ Lacks files name)
+HasNoOctets files c name i (SpecRefused n TooLarge) = (n ≡ i) × TooMany files name largest_file c.taken c.taken'
+HasNoOctets files c name i (SpecRefused n fault) = ⊥
+HasNoOctets files c name i OutOfMemory = Unit {0}
+HasNoOctets files c name i (CategoryTwice n category) = ⊥
 
 -- a file ends the run by itself, or, where the categories have to be distinct, by its category, which is that of an earlier one
 pub data EndsAtFile (distinct : Bool) (files : Option (List File)) (c : LibraryCounts) (before : List SpecTree) (name : List ℕ) (i : ℕ) (outcome : LoadStop) : Type 0 where
-  by_file : StopsAtFile files c name i outcome → EndsAtFile distinct files c before name i outcome
+  by_file : StopsAtFile category_files files c name i outcome → EndsAtFile distinct files c before name i outcome
   by_category : IsTrue distinct → (category : ℕ) → outcome ≡ CategoryTwice i category → HasCategoryTwice files before name category → EndsAtFile distinct files c before name i outcome
 
 -- the files before one give specifications, and that one ends the run so
@@ -74,3 +86,10 @@ pub record FilesEnd (distinct : Bool) (files : Option (List File)) (c : LibraryC
   pub before : List SpecTree
   pub give : FilesGive distinct files earlier before
   pub ends : EndsAtFile distinct files c before name (length earlier) outcome
+
+-- ---- a category file and an expansion file
+
+-- the category file ends the run; or it gives a specification, and the expansion file, which is the second one, ends the run
+pub data EitherEnds (files : Option (List File)) (c : LibraryCounts) (name expansion : List ℕ) (outcome : LoadStop) : Type 0 where
+  first : FilesEnd false files c (name ∷ []) outcome → EitherEnds files c name expansion outcome
+  second : (spec : SpecTree) → FilesGive false files (name ∷ []) (spec ∷ []) → StopsAtFile expansion_files files c expansion 1 outcome → EitherEnds files c name expansion outcome

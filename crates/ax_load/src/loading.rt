@@ -1,10 +1,14 @@
 //! The category files of a command line, loaded one after another into a catalogue.
-ghost use Rattle.std.specs.Prelude.{◌≡◌, ◌+◌, ◌≤◌, ◌<◌, true, false, [], ◌∷◌, length, IfOk, IfErr};
+ghost use Rattle.std.specs.Prelude.{◌≡◌, ◌+◌, ◌≤◌, ◌<◌, true, false, [], ◌∷◌, length, IsSome, IfOk, IfErr, OnErr};
 ghost use Rattle.ax_model.specs.Plain.{spec_tree, catalogue_tree};
 ghost use Rattle.ax_load.specs.Adding.{stop_of_adding};
 ghost use Rattle.ax_load.specs.Counting.{TookFiles, TookAt, TookThrough, UnlessLoadFault};
 ghost use Rattle.ax_outside.specs.Changes.{IsUnasked, library_counts};
-ghost use Rattle.ax_load.specs.Loading.{GivesSpec, StopsAtFile, FilesGive, FilesEnd};
+ghost use Rattle.ax_outside.specs.Files.{HoldsFile};
+ghost use Rattle.ax_outside.specs.Told.{number_after};
+ghost use Rattle.ax_load.specs.Languages.{category_files};
+ghost use Rattle.ax_load.specs.FileAnswers.{largest_file};
+ghost use Rattle.ax_load.specs.Loading.{GivesSpec, HasNoOctets, StopsAtFile, FilesGive, FilesEnd};
 
 use crate::fault::{LoadStop, SpecFault};
 use crate::files::{FileStop, LARGEST_FILE, read_file};
@@ -13,9 +17,39 @@ use ax_outside::{Library, LoadError};
 use ax_words::WordText;
 use std::alloc::Global;
 
+/// The octets of the file of that name, at most 1,048,576, or how the run ends. The file has that number in the order of the
+/// words. It is loaded once: one fault at most is counted, and none but at `LoadFault`.
+pub(crate) fn load_octets<L: Library>(
+    alloc: Global,
+    library: &mut L,
+    name: &str,
+    file: u32,
+) -> Result<Vec<u8>, LoadStop>
+    ensures small { IfOk result (λ octets. length octets.items ≤ largest_file) }
+    ensures holds { IfOk result (λ octets. HoldsFile (L.files library.old) name.now octets.items) }
+    ensures none { IfErr result (λ stop. HasNoOctets (L.files library.old) (library_counts L.Library library.old library.new) name.now file stop) }
+    ensures keeps { L.files library.new ≡ L.files library.old }
+    ensures number_never_falls { L.taken library.old ≤ L.taken library.new }
+    ensures number { IfOk result (λ octets. L.taken library.new ≡ number_after (L.taken library.old) (length octets.items)) }
+    ensures number_kept { IsSome (L.files library.old) → OnErr result (L.taken library.new ≡ L.taken library.old) }
+    ensures never_falls { L.faults library.old ≤ L.faults library.new }
+    ensures once { L.faults library.new ≤ L.faults library.old + 1 }
+    ensures quiet { UnlessLoadFault result (L.faults library.new ≡ L.faults library.old) }
+{
+    match library.load(alloc, name, LARGEST_FILE) {
+        Ok(octets) => Ok(octets),
+        Err(LoadError::Failed) => Err(LoadStop::LoadFault { file }),
+        Err(LoadError::TooLarge) => Err(LoadStop::SpecRefused {
+            file,
+            fault: SpecFault::TooLarge,
+        }),
+        Err(LoadError::OutOfMemory) => Err(LoadStop::OutOfMemory),
+    }
+}
+
 /// The specification of the file of that name, or how the run ends. The file has that number in the order of the words. It is
 /// loaded once: one fault at most is counted, and none but at `LoadFault`.
-#[tactic(auto, using(crate::proofs::FileLemmas::file_ends))]
+#[tactic(auto, using(crate::proofs::FileOctets::file_ends))]
 pub fn load_file<L: Library>(
     alloc: Global,
     library: &mut L,
@@ -23,7 +57,7 @@ pub fn load_file<L: Library>(
     file: u32,
 ) -> Result<Accepted, LoadStop>
     ensures gives { IfOk result (λ accepted. GivesSpec (L.files library.old) name.now (spec_tree accepted)) }
-    ensures stops { IfErr result (λ outcome. StopsAtFile (L.files library.old) (library_counts L.Library library.old library.new) name.now file outcome) }
+    ensures stops { IfErr result (λ outcome. StopsAtFile category_files (L.files library.old) (library_counts L.Library library.old library.new) name.now file outcome) }
     ensures keeps { L.files library.new ≡ L.files library.old }
     ensures number_never_falls { L.taken library.old ≤ L.taken library.new }
     ensures took { IfOk result (λ _. TookFiles (L.files library.old) (L.taken library.old) (L.taken library.new) (name.now ∷ [])) }
@@ -32,16 +66,9 @@ pub fn load_file<L: Library>(
     ensures once { L.faults library.new ≤ L.faults library.old + 1 }
     ensures quiet { UnlessLoadFault result (L.faults library.new ≡ L.faults library.old) }
 {
-    let octets = match library.load(alloc, name, LARGEST_FILE) {
+    let octets = match load_octets(alloc, library, name, file) {
         Ok(octets) => octets,
-        Err(LoadError::Failed) => return Err(LoadStop::LoadFault { file }),
-        Err(LoadError::TooLarge) => {
-            return Err(LoadStop::SpecRefused {
-                file,
-                fault: SpecFault::TooLarge,
-            });
-        }
-        Err(LoadError::OutOfMemory) => return Err(LoadStop::OutOfMemory),
+        Err(stop) => return Err(stop),
     };
     match read_file(alloc, &octets) {
         Ok(accepted) => Ok(accepted),

@@ -1,4 +1,4 @@
-//! Small category files that show one thing each.
+//! Small category files, and expansion files, that show one thing each.
 
 /// Three plain elements, on one line as a specification is printed.
 pub const FILE_E: &str =
@@ -72,3 +72,13 @@ pub const FILE_Z: &str = r#"category 203 edition "Z" items { } uap { - }
 /// Seventeen nested braces, one more than a category file may have.
 pub const NESTED_TOO_DEEP: &str =
     r#"category 001 edition "D" items { item 010 "T" group { A group { A group { A group { A group { A group { A group { A group { A group { A group { A group { A group { A group { A group { A group { A group {"#;
+
+/// An expansion file of category 048 with one octet of marks. It is a test, and no RE field of EUROCONTROL's.
+pub const FILE_X: &str =
+    r#"expansion 048 edition "T1" fixed 1 { A element 8 raw - B counted { element 8 raw } }
+"#;
+
+/// An expansion file of category 048 with a presence field by FX. It is a test, and no RE field of EUROCONTROL's.
+pub const FILE_X2: &str =
+    r#"expansion 048 edition "T2" fx { A element 8 raw - - - - - - B element 8 raw }
+"#;

@@ -9,8 +9,8 @@ use Rattle.ax_words.specs.Found.{found}
 use Rattle.ax_words.specs.Verbs.{TakesWords}
 use Rattle.ax_words.specs.Words.{IsPlain}
 use Rattle.ax_words.specs.declared.verb.Verb.{Verb}
-use Rattle.ax_words.specs.declared.verb.Verb.TheVariants.{Check, Canon, Show, Text as Texts, Build, Filter, Migrate, Trial, Salvage}
-use Rattle.ax_words.proofs.Leaves.{fault, rows, one_none, one_one, one_rows, one_two, many, many_none, many_some, many_rows, filter_none, filter_one, filter_some, filter_rows, two_none, two_one, two_two, two_rows, two_three, three_none, three_one, three_two, three_three, three_rows, three_four}
+use Rattle.ax_words.specs.declared.verb.Verb.TheVariants.{Check, Canon, Show, Text as Texts, Build, Filter, Migrate, Trial, Salvage, Expand}
+use Rattle.ax_words.proofs.Leaves.{fault, rows, one_none, one_one, one_rows, one_two, many, many_none, many_some, many_rows, filter_none, filter_one, filter_some, filter_rows, two_none, two_one, two_two, two_rows, two_three, expand_none, expand_one, expand_two, expand_rows, expand_three, three_none, three_one, three_two, three_three, three_rows, three_four}
 
 -- the words are taken, and these rows found, or they are refused
 pub data Leaf (s : Shape) (Takes : Type 0) (ws : List Text) (found : List Row) : Type 0 where
@@ -37,6 +37,12 @@ two_leaf (f ∷ []) all = refuses (λ e. omega (arith, e)) (two_one (codes "migr
 two_leaf (f ∷ g ∷ []) all = takes refl (two_two (codes "migrate") f g all.0 all.1.0) (two_rows (codes "migrate") f g all.0 all.1.0)
 two_leaf (f ∷ g ∷ h ∷ ws) all = refuses (λ e. omega (arith, e)) (two_three (codes "migrate") f g h ws all.0 all.1.0 all.1.1.0)
 
+expand_leaf : (ws : List Text) → AllByRecursion IsPlain ws → Leaf (shape_of_verb Expand) (length ws ≡ 2) ws (found Expand ws)
+expand_leaf [] all = refuses (λ e. omega (arith, e)) (expand_none (codes "expand"))
+expand_leaf (f ∷ []) all = refuses (λ e. omega (arith, e)) (expand_one (codes "expand") f all.0)
+expand_leaf (f ∷ g ∷ []) all = takes refl (expand_two (codes "expand") f g all.0 all.1.0) (expand_rows (codes "expand") f g all.0 all.1.0)
+expand_leaf (f ∷ g ∷ h ∷ ws) all = refuses (λ e. omega (arith, e)) (expand_three (codes "expand") f g h ws all.0 all.1.0 all.1.1.0)
+
 three_leaf : (ws : List Text) → AllByRecursion IsPlain ws → Leaf (shape_of_verb Trial) (length ws ≡ 3) ws (found Trial ws)
 three_leaf [] all = refuses (λ e. omega (arith, e)) (three_none (codes "trial"))
 three_leaf (f ∷ []) all = refuses (λ e. omega (arith, e)) (three_one (codes "trial") f all.0)
@@ -54,3 +60,4 @@ leaf Filter ws all few = filter_leaf ws all few
 leaf Migrate ws all few = two_leaf ws all
 leaf Trial ws all few = three_leaf ws all
 leaf Salvage ws all few = many_leaf (codes "salvage") ws all few
+leaf Expand ws all few = expand_leaf ws all

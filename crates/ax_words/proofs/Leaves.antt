@@ -14,7 +14,7 @@ use Rattle.clap.proofs.OnLiterals.{clap_on_literals}
 use Rattle.ax_words.specs.Commands.{leaf_shape, rules_of}
 use Rattle.ax_words.specs.Found.{given}
 use Rattle.ax_words.specs.Words.{IsPlain}
-use Rattle.ax_words.specs.declared.verb.Verb.TheVariants.{Check, Canon, Filter, Migrate, Trial}
+use Rattle.ax_words.specs.declared.verb.Verb.TheVariants.{Check, Canon, Filter, Migrate, Trial, Expand}
 use Rattle.ax_words.proofs.Plain.{at, plain_walked, plain_turn}
 
 -- a subcommand as it is built, with the settings of the whole command
@@ -216,6 +216,53 @@ two_three name f g h ws p q r e =
       plain_turn (sub (two name)) idle 2 g (old_held f) tt q,
       plain_walked (sub (two name)).rules idle 2 g (old_held f) tt q,
       plain_turn (sub (two name)) idle 3 h (new_held f g) tt r,
+    ) at e in
+    cc
+
+-- ---- two words under other names: clap compares names, so that each pair of them is computed by itself
+
+abbrev pub expand_shape : Text → Shape
+expand_shape name = leaf_shape name (rules_of Expand)
+
+abbrev spec_held : Text → Held
+spec_held f = pending [] (codes "SPEC") (f ∷ [])
+
+abbrev expansion_held : Text → Text → Held
+expansion_held f g = pending (given (codes "SPEC") (f ∷ []) ∷ []) (codes "EXPANSION") (g ∷ [])
+
+pub expand_none : (name : Text) → fault (expand_shape name) [] ≡ [] → ⊥
+unfolding clap_on_literals
+expand_none name e = cc
+
+pub expand_one : (name f : Text) → IsPlain f → fault (expand_shape name) (f ∷ []) ≡ [] → ⊥
+unfolding clap_on_literals
+expand_one name f p e =
+    let e' = rw (plain_turn (sub (expand_shape name)) idle 1 f nothing_held tt p, plain_walked (sub (expand_shape name)).rules idle 1 f nothing_held tt p) at e in
+    cc
+
+pub expand_two : (name f g : Text) → IsPlain f → IsPlain g → fault (expand_shape name) (f ∷ g ∷ []) ≡ []
+unfolding clap_on_literals
+expand_two name f g p q =
+    rw (
+      plain_turn (sub (expand_shape name)) idle 1 f nothing_held tt p,
+      plain_walked (sub (expand_shape name)).rules idle 1 f nothing_held tt p,
+      plain_turn (sub (expand_shape name)) idle 2 g (spec_held f) tt q,
+      plain_walked (sub (expand_shape name)).rules idle 2 g (spec_held f) tt q,
+    ) refl
+
+pub expand_rows : (name f g : Text) → IsPlain f → IsPlain g → rows (expand_shape name) (f ∷ g ∷ []) ≡ given (codes "SPEC") (f ∷ []) ∷ given (codes "EXPANSION") (g ∷ []) ∷ []
+unfolding clap_on_literals
+expand_rows name f g p q = rw (plain_walked (sub (expand_shape name)).rules idle 1 f nothing_held tt p, plain_walked (sub (expand_shape name)).rules idle 2 g (spec_held f) tt q) refl
+
+pub expand_three : (name f g h : Text) (ws : List Text) → IsPlain f → IsPlain g → IsPlain h → fault (expand_shape name) (f ∷ g ∷ h ∷ ws) ≡ [] → ⊥
+unfolding clap_on_literals
+expand_three name f g h ws p q r e =
+    let e' = rw (
+      plain_turn (sub (expand_shape name)) idle 1 f nothing_held tt p,
+      plain_walked (sub (expand_shape name)).rules idle 1 f nothing_held tt p,
+      plain_turn (sub (expand_shape name)) idle 2 g (spec_held f) tt q,
+      plain_walked (sub (expand_shape name)).rules idle 2 g (spec_held f) tt q,
+      plain_turn (sub (expand_shape name)) idle 3 h (expansion_held f g) tt r,
     ) at e in
     cc
 

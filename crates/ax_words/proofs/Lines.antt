@@ -11,7 +11,7 @@ use Rattle.ax_words.specs.declared.error.WordsError.TheVariants as ErrorOf
 use Rattle.ax_words.specs.declared.line.Line.{Line}
 use Rattle.ax_words.specs.declared.line.Line.TheVariants as LineOf
 use Rattle.ax_words.specs.declared.verb.Verb.{Verb}
-use Rattle.ax_words.specs.declared.verb.Verb.TheVariants.{Check, Canon, Show, Text as Texts, Build, Filter, Migrate, Trial, Salvage}
+use Rattle.ax_words.specs.declared.verb.Verb.TheVariants.{Check, Canon, Show, Text as Texts, Build, Filter, Migrate, Trial, Salvage, Expand}
 use Rattle.ax_words.proofs.Shapes.{verb_of, verb_is}
 
 abbrev some : {A : Type 0} → A → Option A
@@ -131,6 +131,7 @@ short_expr f ws (LineOf.Build files) v e b = absurd cc
 short_expr f ws (LineOf.Migrate old new) v e b = absurd cc
 short_expr f ws (LineOf.Trial file seed count) v e b = absurd cc
 short_expr f ws (LineOf.Salvage files) v e b = absurd cc
+short_expr f ws (LineOf.Expand spec expansion) v e b = absurd cc
 short_expr f ws LineOf.Help v e b = absurd cc
 short_expr f ws LineOf.Version v e b = absurd cc
 
@@ -143,27 +144,58 @@ pub ruleset filter_lines = (no_memory, filter_there, filter_lacks_expr, filter_l
 
 -- ---- two files
 
+-- the two words are those that clap finds under these names
+record Two (a b : Text) (rows : List Row) (ws : List Text) : Type 0 where
+  one : Text
+  other : Text
+  words_are : ws ≡ one ∷ other ∷ []
+  one_found : first_of a rows ≡ Some one
+  other_found : first_of b rows ≡ Some other
+
+migrate_two : (rows : List Row) (ws : List Text) → AreTaken Migrate ws → rows ≡ found Migrate ws → Two (codes "OLD") (codes "NEW") rows ws
+migrate_two rows [] t h = absurd (omega (arith, t.counted))
+migrate_two rows (f ∷ []) t h = absurd (omega (arith, t.counted))
+migrate_two rows (f ∷ g ∷ []) t h = record { one = f; other = g; words_are = refl; one_found = ap (first_of (codes "OLD")) h; other_found = ap (first_of (codes "NEW")) h }
+migrate_two rows (f ∷ g ∷ k ∷ ws) t h = absurd (omega (arith, t.counted))
+
+expand_two : (rows : List Row) (ws : List Text) → AreTaken Expand ws → rows ≡ found Expand ws → Two (codes "SPEC") (codes "EXPANSION") rows ws
+expand_two rows [] t h = absurd (omega (arith, t.counted))
+expand_two rows (f ∷ []) t h = absurd (omega (arith, t.counted))
+expand_two rows (f ∷ g ∷ []) t h = record { one = f; other = g; words_are = refl; one_found = ap (first_of (codes "SPEC")) h; other_found = ap (first_of (codes "EXPANSION")) h }
+expand_two rows (f ∷ g ∷ k ∷ ws) t h = absurd (omega (arith, t.counted))
+
+equal_of : {X : Type 0} (o : Option X) (x y : X) → o ≡ Some x → o ≡ Some y → x ≡ y
+equal_of o x y e f = cc
+
+found_is : {X : Type 0} (o : Option X) (x : X) → o ≡ Some x → o ≡ None → ⊥
+found_is o x e f = cc
+
+-- behind a verb stand the two words that were found
+two_words : (verb a b : Text) (rows : List Row) (ws : List Text) (one other : Text) → Two a b rows ws → first_of a rows ≡ Some one → first_of b rows ≡ Some other → verb ∷ ws ≡ verb ∷ one ∷ other ∷ []
+two_words verb a b rows ws one other x d e =
+    ap (λ y. verb ∷ y) x.words_are ∙ ap (λ w. verb ∷ w ∷ x.other ∷ []) (equal_of _ _ _ x.one_found d) ∙ ap (λ w. verb ∷ one ∷ w ∷ []) (equal_of _ _ _ x.other_found e)
+
 pub migrate_there : (rows : List Row) (a b : Text) → first_of (codes "OLD") rows ≡ Some a → first_of (codes "NEW") rows ≡ Some b → AnswersRows Migrate rows (Ok (LineOf.Migrate a b))
-migrate_there rows a b d e [] t h = absurd (omega (arith, t.counted))
-migrate_there rows a b d e (f ∷ []) t h = absurd (omega (arith, t.counted))
-migrate_there rows a b d e (f ∷ g ∷ []) t h =
-    let one : some f ≡ some a = sym (ap (first_of (codes "OLD")) h) ∙ d in
-    let two : some g ≡ some b = sym (ap (first_of (codes "NEW")) h) ∙ e in
-    let old : f ≡ a = cc in
-    let new : g ≡ b = cc in
-    shaped Migrate (f ∷ g ∷ []) (LineOf.Migrate a b) t (ap (λ w. codes "migrate" ∷ w ∷ g ∷ []) old ∙ ap (λ w. codes "migrate" ∷ a ∷ w ∷ []) new) tt
-migrate_there rows a b d e (f ∷ g ∷ k ∷ ws) t h = absurd (omega (arith, t.counted))
+migrate_there rows a b d e ws t h = shaped Migrate ws (LineOf.Migrate a b) t (two_words (codes "migrate") _ _ rows ws a b (migrate_two rows ws t h) d e) tt
 
 pub migrate_lacks_old : (rows : List Row) (e : WordsError) → first_of (codes "OLD") rows ≡ None → AnswersRows Migrate rows (Err e)
-migrate_lacks_old rows error e [] t h = absurd (omega (arith, t.counted))
-migrate_lacks_old rows error e (f ∷ ws) t h = let same : some f ≡ None = sym (ap (first_of (codes "OLD")) h) ∙ e in absurd cc
+migrate_lacks_old rows error e ws t h = let x = migrate_two rows ws t h in absurd (found_is _ _ x.one_found e)
 
 pub migrate_lacks_new : (rows : List Row) (e : WordsError) → first_of (codes "NEW") rows ≡ None → AnswersRows Migrate rows (Err e)
-migrate_lacks_new rows error e [] t h = absurd (omega (arith, t.counted))
-migrate_lacks_new rows error e (f ∷ []) t h = absurd (omega (arith, t.counted))
-migrate_lacks_new rows error e (f ∷ g ∷ ws) t h = let same : some g ≡ None = sym (ap (first_of (codes "NEW")) h) ∙ e in absurd cc
+migrate_lacks_new rows error e ws t h = let x = migrate_two rows ws t h in absurd (found_is _ _ x.other_found e)
 
 pub ruleset migrate_lines = (no_memory, migrate_there, migrate_lacks_old, migrate_lacks_new)
+
+pub expand_there : (rows : List Row) (a b : Text) → first_of (codes "SPEC") rows ≡ Some a → first_of (codes "EXPANSION") rows ≡ Some b → AnswersRows Expand rows (Ok (LineOf.Expand a b))
+expand_there rows a b d e ws t h = shaped Expand ws (LineOf.Expand a b) t (two_words (codes "expand") _ _ rows ws a b (expand_two rows ws t h) d e) tt
+
+pub expand_lacks_spec : (rows : List Row) (e : WordsError) → first_of (codes "SPEC") rows ≡ None → AnswersRows Expand rows (Err e)
+expand_lacks_spec rows error e ws t h = let x = expand_two rows ws t h in absurd (found_is _ _ x.one_found e)
+
+pub expand_lacks_expansion : (rows : List Row) (e : WordsError) → first_of (codes "EXPANSION") rows ≡ None → AnswersRows Expand rows (Err e)
+expand_lacks_expansion rows error e ws t h = let x = expand_two rows ws t h in absurd (found_is _ _ x.other_found e)
+
+pub ruleset expand_lines = (no_memory, expand_there, expand_lacks_spec, expand_lacks_expansion)
 
 -- ---- a file and two numbers
 
@@ -183,12 +215,6 @@ three rows (f ∷ []) t h = absurd (omega (arith, t.counted))
 three rows (f ∷ g ∷ []) t h = absurd (omega (arith, t.counted))
 three rows (f ∷ g ∷ k ∷ []) t h = record { file = f; seed = g; count = k; words_are = refl; file_found = ap (first_of (codes "SPEC")) h; seed_found = ap (first_of (codes "SEED")) h; count_found = ap (first_of (codes "COUNT")) h }
 three rows (f ∷ g ∷ k ∷ l ∷ ws) t h = absurd (omega (arith, t.counted))
-
-equal_of : {X : Type 0} (o : Option X) (x y : X) → o ≡ Some x → o ≡ Some y → x ≡ y
-equal_of o x y e f = cc
-
-found_is : {X : Type 0} (o : Option X) (x : X) → o ≡ Some x → o ≡ None → ⊥
-found_is o x e f = cc
 
 pub trial_there : (rows : List Row) (file seed count : Text) (n m : ℕ) → first_of (codes "SPEC") rows ≡ Some file → first_of (codes "SEED") rows ≡ Some seed → first_of (codes "COUNT") rows ≡ Some count
     → n < 2 ^ 64 → seed ≡ decimal n → (m ≤ 1000000) × (count ≡ decimal m) → AnswersRows Trial rows (Ok (LineOf.Trial file n m))
@@ -229,6 +255,7 @@ numbers_of f g k (LineOf.Build files) v e b = absurd cc
 numbers_of f g k (LineOf.Filter expr files) v e b = absurd cc
 numbers_of f g k (LineOf.Migrate old new) v e b = absurd cc
 numbers_of f g k (LineOf.Salvage files) v e b = absurd cc
+numbers_of f g k (LineOf.Expand spec expansion) v e b = absurd cc
 numbers_of f g k LineOf.Help v e b = absurd cc
 numbers_of f g k LineOf.Version v e b = absurd cc
 

@@ -26,6 +26,7 @@ rules_of VerbOf.Filter = one_word (codes "EXPR") ∷ some_words (codes "SPEC") �
 rules_of VerbOf.Migrate = one_word (codes "OLD") ∷ one_word (codes "NEW") ∷ []
 rules_of VerbOf.Trial = one_word (codes "SPEC") ∷ one_word (codes "SEED") ∷ one_word (codes "COUNT") ∷ []
 rules_of VerbOf.Salvage = some_words (codes "SPEC") ∷ []
+rules_of VerbOf.Expand = one_word (codes "SPEC") ∷ one_word (codes "EXPANSION") ∷ []
 
 -- a subcommand with these rules
 abbrev pub leaf_shape : Text → List Rule → Shape

@@ -2,10 +2,10 @@
 use Rattle.std.specs.Prelude.{◌≡◌, ℕ, ◌<◌, List, [], ◌∷◌, codes, find, Option}
 use Rattle.std.specs.Str.{bytes_eq}
 use Rattle.ax_words.specs.declared.verb.Verb.{Verb}
-use Rattle.ax_words.specs.declared.verb.Verb.TheVariants.{Check, Canon, Show, Text, Build, Filter, Migrate, Trial, Salvage}
+use Rattle.ax_words.specs.declared.verb.Verb.TheVariants.{Check, Canon, Show, Text, Build, Filter, Migrate, Trial, Salvage, Expand}
 
 abbrev pub verbs : List Verb
-verbs = Check ∷ Canon ∷ Show ∷ Text ∷ Build ∷ Filter ∷ Migrate ∷ Trial ∷ Salvage ∷ []
+verbs = Check ∷ Canon ∷ Show ∷ Text ∷ Build ∷ Filter ∷ Migrate ∷ Trial ∷ Salvage ∷ Expand ∷ []
 
 abbrev pub name_of : Verb → List ℕ
 name_of Check = codes "check"
@@ -17,6 +17,7 @@ name_of Filter = codes "filter"
 name_of Migrate = codes "migrate"
 name_of Trial = codes "trial"
 name_of Salvage = codes "salvage"
+name_of Expand = codes "expand"
 
 -- the first verb that the word names
 unfoldable pub verb_named : List ℕ → Option Verb
@@ -33,3 +34,4 @@ TakesWords Filter count = 1 < count
 TakesWords Migrate count = count ≡ 2
 TakesWords Trial count = count ≡ 3
 TakesWords Salvage count = 0 < count
+TakesWords Expand count = count ≡ 2

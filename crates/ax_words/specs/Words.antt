@@ -17,6 +17,7 @@ words_of (LineOf.Filter expr files) = codes "filter" ∷ expr ∷ files
 words_of (LineOf.Migrate old new) = codes "migrate" ∷ old ∷ new ∷ []
 words_of (LineOf.Trial file seed count) = codes "trial" ∷ file ∷ decimal seed ∷ decimal count ∷ []
 words_of (LineOf.Salvage files) = codes "salvage" ∷ files
+words_of (LineOf.Expand spec expansion) = codes "expand" ∷ spec ∷ expansion ∷ []
 words_of LineOf.Help = codes "--help" ∷ []
 words_of LineOf.Version = codes "--version" ∷ []
 
@@ -31,6 +32,7 @@ IsInBounds (LineOf.Filter expr files) = (length expr ≤ 2 ^ 31) × (0 < length 
 IsInBounds (LineOf.Migrate old new) = Unit {0}
 IsInBounds (LineOf.Trial file seed count) = (seed < 2 ^ 64) × (count ≤ 1000000)
 IsInBounds (LineOf.Salvage files) = 0 < length files
+IsInBounds (LineOf.Expand spec expansion) = Unit {0}
 IsInBounds LineOf.Help = Unit {0}
 IsInBounds LineOf.Version = Unit {0}
 

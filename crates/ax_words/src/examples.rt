@@ -9,6 +9,7 @@ pub fn words_with_a_shape()
     ensures canon { HasShape (codes "canon" ∷ codes "A" ∷ [] ∷ []) (LineOf.Canon (codes "A" ∷ [] ∷ [])) }
     ensures filter { HasShape (codes "filter" ∷ codes "all { }" ∷ codes "A" ∷ []) (LineOf.Filter (codes "all { }") (codes "A" ∷ [])) }
     ensures trial { HasShape (codes "trial" ∷ codes "Z" ∷ codes "0" ∷ codes "1000000" ∷ []) (LineOf.Trial (codes "Z") 0 1000000) }
+    ensures expand { HasShape (codes "expand" ∷ codes "B" ∷ codes "X" ∷ []) (LineOf.Expand (codes "B") (codes "X")) }
     ensures help { HasShape (codes "--help" ∷ []) LineOf.Help }
 {}
 
@@ -18,6 +19,7 @@ pub fn words_without_a_shape()
     ensures verb { HasNoShape (codes "help" ∷ []) }
     ensures few { HasNoShape (codes "canon" ∷ []) }
     ensures many { HasNoShape (codes "check" ∷ codes "A" ∷ codes "E" ∷ []) }
+    ensures expansions { HasNoShape (codes "expand" ∷ codes "B" ∷ codes "X" ∷ codes "Y" ∷ []) }
     ensures dash { HasNoShape (codes "canon" ∷ codes "A" ∷ codes "--help" ∷ []) }
     ensures beside { HasNoShape (codes "--help" ∷ codes "A" ∷ []) }
 {}

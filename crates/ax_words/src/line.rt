@@ -83,6 +83,11 @@ pub enum Line {
     Salvage {
         files: WordTexts,
     },
+    /// `expand SPEC EXPANSION`
+    Expand {
+        spec: WordText,
+        expansion: WordText,
+    },
     /// `--help` alone.
     Help,
     /// `--version` alone.

@@ -188,6 +188,18 @@ fn salvage_line(alloc: Global, matches: &ArgMatches<'_>) -> Result<Line, WordsEr
     Ok(Line::Salvage { files })
 }
 
+/// The line of `expand`.
+#[tactic(auto, using(crate::proofs::Lines::expand_lines))]
+fn expand_line(alloc: Global, matches: &ArgMatches<'_>) -> Result<Line, WordsError>
+    ensures { AnswersRows Verb.Expand (rows_of (found_of matches.now)) result }
+{
+    let spec = word_of(matches, "SPEC")?;
+    let expansion = word_of(matches, "EXPANSION")?;
+    let spec = WordText::of(alloc, spec)?;
+    let expansion = WordText::of(alloc, expansion)?;
+    Ok(Line::Expand { spec, expansion })
+}
+
 /// The line of a verb and its matches.
 fn line_of(alloc: Global, verb: Verb, matches: &ArgMatches<'_>) -> Result<Line, WordsError>
     requires { HasFewFiles (rows_of (found_of matches.now)) }
@@ -203,6 +215,7 @@ fn line_of(alloc: Global, verb: Verb, matches: &ArgMatches<'_>) -> Result<Line, 
         Verb::Migrate => migrate_line(alloc, matches),
         Verb::Trial => trial_line(alloc, matches),
         Verb::Salvage => salvage_line(alloc, matches),
+        Verb::Expand => expand_line(alloc, matches),
     }
 }
 

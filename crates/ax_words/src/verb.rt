@@ -16,10 +16,11 @@ pub(crate) enum Verb {
     Migrate,
     Trial,
     Salvage,
+    Expand,
 }
 
 /// Every verb, once.
-pub(crate) const VERBS: [Verb; 9] = [
+pub(crate) const VERBS: [Verb; 10] = [
     Verb::Check,
     Verb::Canon,
     Verb::Show,
@@ -29,6 +30,7 @@ pub(crate) const VERBS: [Verb; 9] = [
     Verb::Migrate,
     Verb::Trial,
     Verb::Salvage,
+    Verb::Expand,
 ];
 
 impl Verb {
@@ -46,6 +48,7 @@ impl Verb {
             Verb::Migrate => "migrate",
             Verb::Trial => "trial",
             Verb::Salvage => "salvage",
+            Verb::Expand => "expand",
         }
     }
 

@@ -4,7 +4,7 @@ use Rattle.ax_app.proofs.Once.{ready}
 use Rattle.ax_app.proofs.gateway.obey_line.Goals as goal
 
 pub obey_loaded-requires-clause-ready : goal.obey_loaded-requires-clause-ready
-obey_loaded-requires-clause-ready g c = ready _ c.args.line.now _ c.requires c.in-Ok.ensures.gives.each
+obey_loaded-requires-clause-ready g c = ready _ c.args.line.now _ c.requires c.in-Ok.ensures.gives.specs.each
 
 pub returns-in-Ok-clause-runs : goal.returns-in-Ok-clause-runs
 returns-in-Ok-clause-runs g c = λ words shape. c.obey_loaded.ensures.runs words _ _ shape c.in-Ok.ensures.gives c.in-Ok.ensures.loads_all

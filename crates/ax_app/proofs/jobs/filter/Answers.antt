@@ -4,6 +4,7 @@ use Rattle.ax_filter.specs.OfCode.{expression}
 use Rattle.ax_filter.specs.Texts.{IsFilterText}
 use Rattle.ax_model.specs.Plain.{catalogue_tree}
 use Rattle.ax_words.specs.declared.line.Line.TheVariants.{Filter}
+use Rattle.ax_app.specs.Given.{only}
 use Rattle.ax_app.specs.Jobs.{refuses, IsJob}
 use Rattle.ax_app.proofs.Filters.{filter_runs, filter_refuses}
 use Rattle.ax_app.proofs.jobs.filter.Goals as goal
@@ -15,5 +16,5 @@ returns-in-Ok-clause-runs g c =
 
 pub returns-in-Err-Refused-clause-stopped : goal.returns-in-Err-Refused-clause-stopped
 returns-in-Err-Refused-clause-stopped g c =
-    λ files. subst (λ fault. IsJob (Filter c.args.text.now files) (catalogue_tree c.args.catalogue.now) (refuses (FilterRefused fault))) (sym c.in-Err-Refused.fault-is)
+    λ files. subst (λ fault. IsJob (Filter c.args.text.now files) (only (catalogue_tree c.args.catalogue.now)) (refuses (FilterRefused fault))) (sym c.in-Err-Refused.fault-is)
     (filter_refuses c.args.text.now files _ _ _ _ c.as_bytes.ensures.value c.in-Err-Refused.field-0-is c.in-Err-Refused.ensures.stop)

@@ -1,6 +1,7 @@
 use Rattle.std.proofs.Common.{IfErr, refl, subst}
 use Rattle.ax_model.specs.Plain.{catalogue_tree}
 use Rattle.ax_words.specs.declared.line.Line.TheVariants.{Filter, Help, Version}
+use Rattle.ax_app.specs.Given.{only}
 use Rattle.ax_app.specs.Jobs.{IsReady, IsStopped, help_text, version_text}
 use Rattle.ax_app.proofs.Stages.{text_job, check_job, trial_job, build_job}
 use Rattle.ax_app.proofs.jobs.over_catalogue.Goals as goal
@@ -22,7 +23,7 @@ returns-in-Build-clause-runs g c = rw c.in-Build.is (build_job _ _ _ _ _ _ _ _ c
 
 pub returns-in-Filter-clause-stopped : goal.returns-in-Filter-clause-stopped
 returns-in-Filter-clause-stopped g c =
-    rw c.in-Filter.is (subst (λ t. IfErr c.filter.result (IsStopped (Filter t c.in-Filter.files) (catalogue_tree c.args.catalogue.now))) c.text.ensures (c.filter.ensures.stopped c.in-Filter.files))
+    rw c.in-Filter.is (subst (λ t. IfErr c.filter.result (IsStopped (Filter t c.in-Filter.files) (only (catalogue_tree c.args.catalogue.now)))) c.text.ensures (c.filter.ensures.stopped c.in-Filter.files))
 
 pub returns-in-Trial-clause-runs : goal.returns-in-Trial-clause-runs
 returns-in-Trial-clause-runs g c = rw c.in-Trial.is (trial_job _ _ _ _ _ _ _ _ _ _ _ (subst (λ l. IsReady l (catalogue_tree c.args.catalogue.now)) c.in-Trial.is c.requires.ready) c.trial.ensures.ends)

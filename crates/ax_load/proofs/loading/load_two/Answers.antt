@@ -1,6 +1,7 @@
 use Rattle.std.proofs.Common.{refl}
 use Rattle.ax_load.proofs.TakenFiles.{stop_took}
 use Rattle.ax_load.proofs.TwoFiles.{first_ends, second_ends, passed_on}
+use Rattle.ax_load.specs.Languages.{category_files}
 use Rattle.ax_load.proofs.loading.load_two.Goals as goal
 
 pub returns-in_err-one-clause-ends : goal.returns-in_err-one-clause-ends
@@ -12,4 +13,4 @@ returns-in_err-other-clause-ends g c = passed_on c.from_residual-in_err-other.re
 
 pub returns-in_err-other-clause-took_through : goal.returns-in_err-other-clause-took_through
 returns-in_err-other-clause-took_through g c = passed_on c.from_residual-in_err-other.result c.in_err-other.field-0.0 _ c.from_residual-in_err-other.ensures.1
-    (stop_took _ _ _ _ 1 1 _ _ _ c.load_file.ensures.keeps refl refl c.in_ok-one.ensures.took _ _ c.in_err-other.ensures.stops c.in_err-other.ensures.took_at_stop)
+    (stop_took _ _ _ _ 1 1 _ _ _ c.load_file.ensures.keeps refl refl c.in_ok-one.ensures.took category_files _ _ c.in_err-other.ensures.stops c.in_err-other.ensures.took_at_stop)

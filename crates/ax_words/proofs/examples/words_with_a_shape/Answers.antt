@@ -9,5 +9,6 @@ returns c = record {
   canon = record { words_are = refl; in_bounds = omega arith; plain = (refl, (tt, tt)); few = omega arith };
   filter = record { words_are = refl; in_bounds = (omega arith, omega arith); plain = (refl, (refl, tt)); few = omega arith };
   trial = record { words_are = refl; in_bounds = (omega arith, omega arith); plain = (refl, (refl, (refl, tt))); few = omega arith };
+  expand = record { words_are = refl; in_bounds = tt; plain = (refl, (refl, tt)); few = omega arith };
   help = record { words_are = refl; in_bounds = tt; plain = tt; few = omega arith };
 }

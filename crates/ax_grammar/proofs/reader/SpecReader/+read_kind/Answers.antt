@@ -6,39 +6,51 @@ use Rattle.ax_grammar.specs.Parsing.{list_at}
 use Rattle.ax_grammar.specs.Rules.{slot_at}
 use Rattle.ax_grammar.proofs.Cases.{by_fx_gives, explicit_read, compound_gives, fixed_gives}
 use Rattle.ax_model.proofs.VariantTrees.{explicit_tree}
-use Rattle.ax_grammar.proofs.Lists.{list_goes_on, braced_stops_before, braced_stops_within, braced_ends}
+use Rattle.ax_grammar.proofs.Lists.{few_more, few_room, list_goes_on, list_stops_before, list_stops_within, list_ends}
 use Rattle.ax_grammar.proofs.Recursive.{slot_shrinks}
 use Rattle.ax_grammar.proofs.reader.SpecReader.+read_kind.Goals as goal
 
-pub slots-returns-in_err-takes : goal.slots-returns-in_err-takes
-slots-returns-in_err-takes t c =
-    let p = err_from_is_err_and c.from_residual-in_err-takes.result c.from_residual-in_err-takes.ensures.1 in
-    rw (p.1, p.2) (braced_stops_before slot_at slot_shrinks c.args.self.now c.expect.new.self c.loop-slots.self c.takes.new.self (map slot_tree c.loop-slots.slots) c.in_err-takes.field-0.0 c.in_ok-expect.ensures.reads c.loop-slots.invariant.read c.in_err-takes.ensures.reads)
+pub closed_slots-returns-in_err-takes : goal.closed_slots-returns-in_err-takes
+closed_slots-returns-in_err-takes t c =
+    let p = err_from_is_err_and c.from_residual.result c.from_residual.ensures.1 in
+    rw (p.1, p.2) (list_stops_before slot_at (map slot_tree c.loop-slots.slots) c.loop-slots.self c.takes.new.self (list_at slot_at c.args.self.now) c.in_err-takes.field-0.0 slot_shrinks c.in_err-takes.ensures.reads c.loop-slots.invariant.read)
 
-pub slots-returns-in_err-slot : goal.slots-returns-in_err-slot
-slots-returns-in_err-slot t c =
+pub closed_slots-returns-in_err-slot : goal.closed_slots-returns-in_err-slot
+closed_slots-returns-in_err-slot t c =
     let p = err_from_is_err_and c.from_residual-in_err-slot.result c.from_residual-in_err-slot.ensures.1 in
-    rw (p.1, p.2) (braced_stops_within slot_at slot_shrinks c.args.self.now c.expect.new.self c.loop-slots.self c.takes.new.self c.slot.new.self (map slot_tree c.loop-slots.slots) c.in_err-slot.field-0.0 c.in_ok-expect.ensures.reads c.loop-slots.invariant.read (search rules) c.in_err-slot.ensures)
+    rw (p.1, p.2) (list_stops_within slot_at (map slot_tree c.loop-slots.slots) c.loop-slots.self c.takes.new.self c.slot.new.self (list_at slot_at c.args.self.now) c.in_err-slot.field-0.0 slot_shrinks (search rules) c.in_err-slot.ensures c.loop-slots.invariant.read)
 
-pub slots-push-requires : goal.slots-push-requires
-slots-push-requires t c = record { room = omega (arith, c.loop-slots.invariant.few, c.in_ok-expect.ensures.moves, c.in_ok-expect.ensures.bound) }
+pub closed_slots-slot-requires : goal.closed_slots-slot-requires
+closed_slots-slot-requires t c = omega (arith, c.loop-slots.invariant.less, c.in_ok-takes.ensures.moves)
 
-pub slots-loop-slots-preserved : goal.slots-loop-slots-preserved
-slots-loop-slots-preserved t c =
+pub closed_slots-push-requires : goal.closed_slots-push-requires
+closed_slots-push-requires t c = record {
+  room = few_room (length c.loop-slots.slots) (length c.loop-slots.self) c.loop-slots.invariant.few
+      (omega (arith, slot_shrinks c.takes.new.self (slot_tree c.in_ok-slot.slot) c.slot.new.self c.in_ok-slot.ensures, c.in_ok-takes.ensures.moves));
+}
+
+pub closed_slots-loop-slots-preserved : goal.closed_slots-loop-slots-preserved
+closed_slots-loop-slots-preserved t c =
     let pushed : c.push.new.self ≡ c.loop-slots.slots ++ c.in_ok-slot.slot ∷ [] = c.in_ok-push.ensures.ok in
     let count = length_push c.loop-slots.slots c.in_ok-slot.slot in
     let views : map slot_tree c.push.new.self ≡ map slot_tree c.loop-slots.slots ++ slot_tree c.in_ok-slot.slot ∷ [] = rw pushed (map_push _ c.loop-slots.slots c.in_ok-slot.slot) in
     record {
-      read = rw views (list_goes_on slot_at (map slot_tree c.loop-slots.slots) c.loop-slots.self c.takes.new.self c.slot.new.self (slot_tree c.in_ok-slot.slot) (list_at slot_at c.expect.new.self) slot_shrinks (search rules) c.in_ok-slot.ensures c.loop-slots.invariant.read);
-      few = omega (arith, ap length pushed, count, c.loop-slots.invariant.few, slot_shrinks c.takes.new.self (slot_tree c.in_ok-slot.slot) c.slot.new.self c.in_ok-slot.ensures, c.in_ok-takes.ensures.moves);
+      read = rw views (list_goes_on slot_at (map slot_tree c.loop-slots.slots) c.loop-slots.self c.takes.new.self c.slot.new.self (slot_tree c.in_ok-slot.slot) (list_at slot_at c.args.self.now) slot_shrinks (search rules) c.in_ok-slot.ensures c.loop-slots.invariant.read);
+      less = omega (arith, c.loop-slots.invariant.less, slot_shrinks c.takes.new.self (slot_tree c.in_ok-slot.slot) c.slot.new.self c.in_ok-slot.ensures, c.in_ok-takes.ensures.moves);
+      few = λ _. omega (
+        arith,
+        ap length pushed,
+        count,
+        few_more (length c.loop-slots.slots) (length c.loop-slots.self) (length c.slot.new.self) c.loop-slots.invariant.few c.in_ok-takes.ensures.bound
+            (omega (arith, slot_shrinks c.takes.new.self (slot_tree c.in_ok-slot.slot) c.slot.new.self c.in_ok-slot.ensures, c.in_ok-takes.ensures.moves)),
+      );
     }
 
-pub slots-loop-slots-smaller : goal.slots-loop-slots-smaller
-slots-loop-slots-smaller t c = omega (arith, slot_shrinks c.takes.new.self (slot_tree c.in_ok-slot.slot) c.slot.new.self c.in_ok-slot.ensures, c.in_ok-takes.ensures.moves)
+pub closed_slots-loop-slots-smaller : goal.closed_slots-loop-slots-smaller
+closed_slots-loop-slots-smaller t c = omega (arith, slot_shrinks c.takes.new.self (slot_tree c.in_ok-slot.slot) c.slot.new.self c.in_ok-slot.ensures, c.in_ok-takes.ensures.moves)
 
-pub slots-returns : goal.slots-returns
-slots-returns t c =
-    braced_ends slot_at slot_shrinks c.args.self.now c.expect.new.self c.loop-slots.self c.takes.new.self (map slot_tree c.loop-slots.slots) c.in_ok-expect.ensures.reads c.loop-slots.invariant.read (search rules)
+pub closed_slots-returns : goal.closed_slots-returns
+closed_slots-returns t c = list_ends slot_at (map slot_tree c.loop-slots.slots) c.loop-slots.self c.takes.new.self (list_at slot_at c.args.self.now) slot_shrinks (search rules) c.loop-slots.invariant.read
 
 pub kind-returns-in-ByFx : goal.kind-returns-in-ByFx
 kind-returns-in-ByFx t c = by_fx_gives c.args.self.now c.skip-in-ByFx.new.self c.fixed.new.self c.fixed.result c.map.result (search rules) c.fixed.ensures c.map.ensures.cases

@@ -1,0 +1,14 @@
+pub mod FileRules
+pub mod FileTokens
+pub mod ExpansionFlaws
+pub mod ExpansionBounds
+pub mod Entries
+pub mod Fields
+pub mod Contents
+pub mod Canonical
+pub mod Octets
+pub mod Decoded
+pub mod Writing
+pub mod Shapes
+pub mod ContentLengths
+pub mod WorkedExamples

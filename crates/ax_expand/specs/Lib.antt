@@ -1,0 +1,11 @@
+pub mod Expansion
+pub mod Files
+pub mod Rules
+pub mod Accepting
+pub mod Fields
+pub mod Content
+pub mod Answers
+pub mod Reading
+pub mod Lengths
+pub mod Marks
+pub mod Examples

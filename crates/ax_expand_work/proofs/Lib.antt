@@ -1,0 +1,7 @@
+pub mod Appended
+pub mod Gathered
+pub mod Slots
+pub mod GatheredRecords
+pub mod Blocks
+pub mod Judged
+pub mod WorkedLines

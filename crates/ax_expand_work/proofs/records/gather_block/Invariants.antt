@@ -1,0 +1,7 @@
+use Rattle.ax_expand.specs.Expansion.{expansion_tree}
+use Rattle.ax_view.specs.Left.{records_left}
+use Rattle.ax_expand_work.proofs.GatheredRecords.{Gathering}
+use Rattle.ax_expand_work.proofs.records.gather_block.Given as goal
+
+abbrev pub invariant-loop-number : goal.invariant-loop-number
+invariant-loop-number l = Gathering (expansion_tree l.expansion) l.frn l.block l.view.codec.now l.view.body.now l.number l.fn.lines l.lines (records_left l.records)

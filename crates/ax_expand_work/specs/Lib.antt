@@ -1,0 +1,5 @@
+pub mod Examples
+pub mod ExpandCommand
+pub mod Gathering
+pub mod Judging
+pub mod Lines

@@ -1,0 +1,49 @@
+//! The lines of one content of RE.
+ghost use Rattle.std.specs.Prelude.{◌≡◌, ◌≤◌, length, Some, OnOk};
+ghost use Rattle.ax_expand.specs.Expansion.{expansion_tree};
+ghost use Rattle.ax_expand_work.specs.Gathering.{GathersContent};
+
+use crate::lines::{canonical, push_re, push_unread};
+use ax_expand::{AcceptedExpansion, ContentError, decode_content};
+use ax_octets::Octets;
+use std::alloc::{AllocError, Global};
+
+/// The lines of a block, before any of them is written: of contents that spell a value, and of contents that have a fault.
+#[derive(Drop)]
+pub(crate) struct Lines {
+    pub(crate) spelled: Octets,
+    pub(crate) faulty: Octets,
+}
+
+/// Gathers the line of a content of RE, of at most 254 octets.
+#[tactic(auto, using(crate::proofs::Gathered::contents))]
+pub(crate) fn gather_content(
+    alloc: Global,
+    expansion: &AcceptedExpansion,
+    block: u64,
+    number: u32,
+    content: &[u8],
+    lines: &mut Lines,
+) -> Result<(), AllocError>
+    requires { length content.now ≤ 254 }
+    ensures { OnOk result (GathersContent (expansion_tree expansion.now) block number (Some content.now) lines.old lines.new) }
+{
+    match decode_content(alloc, expansion, content) {
+        Ok(value) => {
+            let octets = canonical(alloc, expansion, &value)?;
+            push_re(
+                alloc,
+                &mut lines.spelled,
+                expansion,
+                block,
+                number,
+                &octets,
+                value,
+            )
+        }
+        Err(ContentError::Fault { cause, bit }) => {
+            push_unread(&mut lines.faulty, block, number, bit, cause)
+        }
+        Err(ContentError::OutOfMemory) => Err(AllocError),
+    }
+}

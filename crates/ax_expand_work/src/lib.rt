@@ -1,0 +1,13 @@
+//! The command `expand` over the blocks of an input: the content of each RE is read by an expansion file.
+#![tactic(auto)]
+
+mod contents;
+pub mod examples;
+pub mod laws;
+mod lines;
+mod records;
+mod slot;
+mod work;
+
+pub use slot::re_slot;
+pub use work::ExpandViews;

@@ -1,0 +1,14 @@
+pub mod Divisors
+pub mod Quotients
+pub mod Products
+pub mod Conversions
+pub mod Once
+pub mod Worked
+pub mod FrontSteps
+pub mod PieceLists
+pub mod AlikeKinds
+pub mod ConvertedOnce
+pub mod ConvertedShape
+pub mod AlikeLists
+pub mod GroupSteps
+pub mod WorkedValues

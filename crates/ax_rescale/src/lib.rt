@@ -1,0 +1,34 @@
+//! Conversion of data blocks from one edition of a category to another, in which a quantity may have another scale.
+#![tactic(auto)]
+
+mod alike;
+mod divisor;
+mod error;
+mod examples;
+mod fixed_values;
+mod fronts;
+mod kind_examples;
+mod laws;
+mod miss;
+mod number;
+mod octets;
+#[cfg(test)]
+mod rows;
+mod sameness;
+#[cfg(test)]
+mod split_rows;
+mod splitting;
+mod value_laws;
+
+pub use alike::is_alike;
+pub use error::SplitError;
+pub use examples::{converted_numbers, lines_of_misses};
+pub use fixed_values::convert_fixed;
+pub use kind_examples::{
+    alike_inside, not_alike, other_elements_alike, quantities_alike, values_converted,
+};
+pub use laws::converts_to_one_number;
+pub use miss::{Miss, miss_line};
+pub use number::convert_number;
+pub use splitting::{Pieces, split};
+pub use value_laws::{alikeness_is_tested, converted_has_its_shape, converted_once};

@@ -1,0 +1,25 @@
+//! The laws of converted values. Each function stands for what its contract says.
+ghost use Rattle.std.specs.Prelude.{◌≡◌, ◌↔◌, true};
+ghost use Rattle.ax_model.specs.Shape.{Shape};
+ghost use Rattle.ax_model.specs.Tree.{KindTree, ValueTree};
+ghost use Rattle.ax_rescale.specs.Alike.{Alike, is_alike};
+ghost use Rattle.ax_rescale.specs.Converted.{Converted};
+ghost use Rattle.ax_rescale.specs.Scales.{Scaled};
+
+/// The test of alikeness holds exactly for alike kinds.
+#[tactic(auto, using(crate::proofs::AlikeKinds::alike_kinds, crate::proofs::AlikeKinds::kinds_alike))]
+pub fn alikeness_is_tested()
+    ensures { (old new : KindTree) → is_alike old new ≡ true ↔ Alike old new }
+{}
+
+/// A value is converted to at most one value.
+#[tactic(auto, using(crate::proofs::ConvertedOnce::converted_once))]
+pub fn converted_once()
+    ensures { (old new : KindTree) (value one other : ValueTree) → Scaled old → Scaled new → Converted old new value one → Converted old new value other → one ≡ other }
+{}
+
+/// A converted value has the new kind's shape.
+#[tactic(auto, using(crate::proofs::ConvertedShape::converted_shape))]
+pub fn converted_has_its_shape()
+    ensures { (old new : KindTree) (value made : ValueTree) → Alike old new → Shape old value → Converted old new value made → Shape new made }
+{}

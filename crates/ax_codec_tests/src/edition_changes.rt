@@ -12,7 +12,7 @@ fn file_of(rt: &impl Abort, alloc: Global, title: &str, kind: &str) -> String {
     file.expect(rt, "memory")
 }
 
-static CHANGES: [(&str, &str, &str); 30] = [
+static CHANGES: [(&str, &str, &str); 43] = [
     ("element 8 raw", "element 16 raw", "202/010 0 shared"),
     ("element 8 raw", "element 8 ascii", "202/010 0 shared"),
     ("element 8 raw", "element 8 table { }", "202/010 0 shared"),
@@ -94,6 +94,56 @@ static CHANGES: [(&str, &str, &str); 30] = [
     (
         "extended { part { A element 7 raw } }",
         "extended { part { A element 7 raw } part { B element 7 raw } }",
+        "2 shared",
+    ),
+    (
+        "extended { part { A element 7 raw } part { B element 7 raw } }",
+        "extended { part { A element 7 raw } }",
+        "202/010/part1 2 shared",
+    ),
+    (
+        "extended { part { A element 7 raw } part { B element 7 raw } part { C element 7 raw } }",
+        "extended { part { A element 7 raw } part { D element 7 raw } part { C element 7 raw } }",
+        "202/010/part1 202/010/part2 2 shared",
+    ),
+    (
+        "extended { part { A element 7 table { 1 \"one\" } } }",
+        "extended { part { A element 7 table { 2 \"two\" } } }",
+        "2 shared",
+    ),
+    (
+        "extended { part { A element 7 raw } }",
+        "extended { part { B element 7 raw } }",
+        "202/010 202/010/part0 0 shared",
+    ),
+    (
+        "extended { part { A element 3 raw B element 4 raw } }",
+        "extended { part { A element 4 raw B element 3 raw } }",
+        "202/010 202/010/part0 0 shared",
+    ),
+    (
+        "extended { part { A element 3 raw B element 4 raw } }",
+        "extended { part { B element 4 raw A element 3 raw } }",
+        "202/010 202/010/part0 0 shared",
+    ),
+    (
+        "extended { part { A element 7 raw } }",
+        "element 8 raw",
+        "202/010 202/010/part0 0 shared",
+    ),
+    (
+        "element 8 raw",
+        "extended { part { A element 7 raw } }",
+        "202/010 0 shared",
+    ),
+    (
+        "extended { part { A element 7 raw } }",
+        "compound { A element 8 raw }",
+        "202/010 202/010/part0 0 shared",
+    ),
+    (
+        "counted { extended { part { A element 7 raw } part { B element 7 raw } } }",
+        "counted { extended { part { A element 7 raw } } }",
         "202/010 0 shared",
     ),
     (
@@ -129,12 +179,22 @@ static CHANGES: [(&str, &str, &str); 30] = [
     (
         "extended { part { A element 7 raw } part { B element 7 raw } }",
         "closed { part { A element 7 raw } part { B element 8 raw } }",
-        "202/010 0 shared",
+        "202/010/part1 2 shared",
     ),
     (
         "closed { part { A element 7 raw } part { B element 8 raw } }",
         "closed { part { A element 7 raw } part { B element 8 raw } }",
-        "1 shared",
+        "3 shared",
+    ),
+    (
+        "closed { part { A element 7 raw } part { B element 8 raw } }",
+        "extended { part { A element 7 raw } part { B element 7 raw } part { C element 7 raw } }",
+        "202/010/part1 2 shared",
+    ),
+    (
+        "closed { part { A element 7 raw } part { B element 7 raw } part { C element 8 raw } }",
+        "extended { part { A element 7 raw } part { B element 7 raw } }",
+        "202/010/part2 3 shared",
     ),
     ("explicit", "explicit", "1 shared"),
     (
@@ -146,6 +206,11 @@ static CHANGES: [(&str, &str, &str); 30] = [
         "compound { A compound { B explicit } }",
         "compound { A compound { C explicit } }",
         "202/010/A/B 2 shared",
+    ),
+    (
+        "compound { A extended { part { B element 7 raw } part { C element 7 raw } } }",
+        "compound { - A extended { part { B element 7 raw } } }",
+        "202/010/A/part1 3 shared",
     ),
 ];
 

@@ -45,6 +45,23 @@ const FILE_DEEP_FLAT: &str =
 const FILE_W_SWAPPED: &str =
     r#"category 206 edition "X" items { item 010 "" wide { element 8 raw } item 020 "" closed { part { A element 7 raw } part { B element 8 raw } } } uap { 020 010 }"#;
 
+// An extended item, and another whose first part has the same width but other members.
+const FILE_V1: &str =
+    r#"category 207 edition "V1" items { item 010 "" extended { part { A element 7 raw } part { B element 7 raw } } } uap { 010 }"#;
+
+const FILE_V2: &str =
+    r#"category 207 edition "V2" items { item 010 "" extended { part { A element 4 raw C element 3 raw } } } uap { 010 }"#;
+
+// An item of occurrences, in the slots 1, 8 and 126.
+const FILE_J1: &str =
+    r#"category 208 edition "J1" items { item 010 "" byfx element 7 raw } uap { 010 }"#;
+
+const FILE_J2: &str =
+    r#"category 208 edition "J2" items { item 010 "" byfx element 7 raw } uap { - - - - - - - 010 }"#;
+
+const FILE_J3: &str =
+    r#"category 208 edition "J3" items { item 010 "" byfx element 7 raw } uap { - - - - - - - - - - - - - - - - - - - - - - - - - - - - - - - - - - - - - - - - - - - - - - - - - - - - - - - - - - - - - - - - - - - - - - - - - - - - - - - - - - - - - - - - - - - - - - - - - - - - - - - - - - - - - - - - - - - - - - - - - - - - - 010 }"#;
+
 /// The files of these tests.
 #[derive(Clone, Copy)]
 pub(crate) enum Edition {
@@ -66,6 +83,11 @@ pub(crate) enum Edition {
     DeepFlat,
     W,
     WSwapped,
+    V1,
+    V2,
+    J1,
+    J2,
+    J3,
 }
 
 impl Edition {
@@ -88,6 +110,11 @@ impl Edition {
             Edition::DeepFlat => FILE_DEEP_FLAT,
             Edition::W => FILE_W,
             Edition::WSwapped => FILE_W_SWAPPED,
+            Edition::V1 => FILE_V1,
+            Edition::V2 => FILE_V2,
+            Edition::J1 => FILE_J1,
+            Edition::J2 => FILE_J2,
+            Edition::J3 => FILE_J3,
         }
     }
 }

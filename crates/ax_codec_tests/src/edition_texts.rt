@@ -35,12 +35,21 @@ fn new_place_told(alloc: Global, path: &RelationPath) -> Result<String, AllocErr
     }
 }
 
-/// The text of a path, its old place, and its new one.
+/// The number of a part, if it is one.
+fn part_told(alloc: Global, path: &RelationPath) -> Result<String, AllocError> {
+    match path.part {
+        Some(number) => format!(in alloc; " (part {number})"),
+        None => String::from_str(alloc, ""),
+    }
+}
+
+/// The text of a path, the number of its part, its old place, and its new one.
 pub(crate) fn path_told(alloc: Global, path: &RelationPath) -> Result<String, AllocError> {
     let text = String::from_utf8_lossy(alloc, path.text.as_slice())?;
+    let part = part_told(alloc, path)?;
     let old = place_told(alloc, &path.old)?;
     let new = new_place_told(alloc, path)?;
-    format!(in alloc; "{text} at {old} {new}")
+    format!(in alloc; "{text}{part} at {old} {new}")
 }
 
 /// The paths that aren't shared, and how many are.
@@ -79,19 +88,32 @@ fn same_relation(rt: &impl Abort, found: &str, wanted: &str, old: &str, new: &st
     );
 }
 
-/// Whether a path, without its category, is shared.
-pub(crate) fn shares(rt: &impl Abort, alloc: Global, relation: &Relation, text: &str) -> bool {
+/// Whether a path, without its category, is shared, and how many first parts are.
+pub(crate) fn shares(
+    rt: &impl Abort,
+    alloc: Global,
+    relation: &Relation,
+    text: &str,
+) -> (bool, u32) {
     assert!(rt; text.len() <= 100);
     let path = Path::of(alloc, text.as_bytes()).expect(rt, "memory");
-    relation.shared(&path.expect(rt, "a path"))
+    let path = path.expect(rt, "a path");
+    (relation.shared(&path), relation.shared_parts(&path))
 }
 
-/// The moves of one list, as `old to new` with how many move below.
+/// The moves of one list, as `old to new` with how many first parts move and how many move below.
 pub(crate) fn moves_told(alloc: Global, moves: &Moves) -> Result<String, AllocError> {
     let mut told = String::new(alloc);
     for one in moves.as_slice() {
-        let Move { old, new, below } = one;
-        told.push_str(format!(in alloc; "{old} to {new} with {}; ", below.count())?.as_str())?;
+        let Move {
+            old,
+            new,
+            parts,
+            below,
+        } = one;
+        let below = below.count();
+        let line = format!(in alloc; "{old} to {new} with {parts} parts, {below} below; ")?;
+        told.push_str(line.as_str())?;
     }
     Ok(told)
 }

@@ -20,7 +20,11 @@ mod fixtures;
 #[cfg(test)]
 mod migrated_blocks;
 #[cfg(test)]
+mod migrated_parts;
+#[cfg(test)]
 mod migrated_views;
+#[cfg(test)]
+mod ranges;
 #[cfg(test)]
 mod records;
 #[cfg(test)]

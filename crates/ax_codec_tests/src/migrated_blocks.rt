@@ -1,4 +1,4 @@
-//! Single blocks of one edition in another.
+//! Single blocks of one edition in another, as trees.
 
 use crate::edition_fixtures::{Edition, accepted, decoded, have_lines, same};
 use crate::fixtures::octets_of;
@@ -15,13 +15,13 @@ const FULL: &str = "CA 00 08 80 C0 11 22 33";
 const DEEP: &str = "CC 00 0E C0 E0 C0 11 22 02 AA 80 33 01 44";
 
 // The old edition, the new one, a block of the old one; the octets of the block in the new one, and the lines of its losses.
-pub(crate) static MIGRATED: [(Edition, Edition, &str, &str, &str); 22] = [
+pub(crate) static MIGRATED: [(Edition, Edition, &str, &str, &str); 24] = [
     (
         Edition::P1,
         Edition::P2,
         "30 00 08 A0 19 0C A1 00",
-        "30 00 06 80 19 0C",
-        "lost block 7 record 0 048/020\n",
+        "30 00 07 A0 19 0C A0",
+        "lost block 7 record 0 048/020/part1\n",
     ),
     (
         Edition::P1,
@@ -65,8 +65,8 @@ pub(crate) static MIGRATED: [(Edition, Edition, &str, &str, &str); 22] = [
         Edition::P1,
         Edition::P2,
         "30 00 09 A1 00 19 0C A1 00",
-        "30 00 06 80 19 0C",
-        "lost block 7 record 0 048/020\n",
+        "30 00 07 A0 19 0C A0",
+        "lost block 7 record 0 048/020/part1\n",
     ),
     // A compound stays where all of its subitems are lost, and where it has none.
     (
@@ -111,7 +111,7 @@ pub(crate) static MIGRATED: [(Edition, Edition, &str, &str, &str); 22] = [
         Edition::First,
         "CB 00 09 C0 11 23 44 40 02",
         "CB 00 07 01 80 11 00",
-        "lost block 7 record 0 203/020\nlost block 7 record 1 203/020\n",
+        "lost block 7 record 0 203/020\nlost block 7 record 0 203/020/part0\nlost block 7 record 0 203/020/part1\nlost block 7 record 1 203/020\nlost block 7 record 1 203/020/part0\n",
     ),
     (
         Edition::First,
@@ -158,6 +158,21 @@ pub(crate) static MIGRATED: [(Edition, Edition, &str, &str, &str); 22] = [
         "CE 00 07 40 00 01 AA",
         "",
     ),
+    // No part of an extended item is shared; all of them are.
+    (
+        Edition::V1,
+        Edition::V2,
+        "CF 00 06 80 03 04",
+        "CF 00 04 00",
+        "lost block 7 record 0 207/010\nlost block 7 record 0 207/010/part0\nlost block 7 record 0 207/010/part1\n",
+    ),
+    (
+        Edition::V1,
+        Edition::V1,
+        "CF 00 06 80 03 04",
+        "CF 00 06 80 03 04",
+        "",
+    ),
 ];
 
 // A block of another category is opaque.
@@ -190,7 +205,7 @@ fn encoded(rt: &impl Abort, alloc: Global, file: &Accepted, block: &Block) -> Ve
 }
 
 /// Asserts that the migrated block has these octets, and that its losses as those of block 7 have these lines.
-fn migrates_as(
+pub(crate) fn migrates_as(
     rt: &impl Abort,
     alloc: Global,
     old: &Accepted,

@@ -6,6 +6,7 @@ ghost use Rattle.ax_relation.specs.Relates.{Relates};
 use crate::edition_fixtures::{Edition, accepted, report_of, same};
 use crate::fixtures::{octets_of, raw_of};
 use crate::migrated_blocks::MIGRATED;
+use crate::migrated_parts::{PARTS, edition_of};
 use ax_bits::Out;
 use ax_check::Accepted;
 use ax_edition::{Relation, relate};
@@ -112,5 +113,22 @@ fn migrates(
 fn views_pass_or_are_lost(rt: HostRuntime) {
     for row in &MIGRATED {
         migrates(&rt, rt.alloc(), row);
+    }
+}
+
+fn parts_migrate(
+    rt: &impl Abort,
+    alloc: Global,
+    &(old, new, input, made, lines): &(&str, &str, &str, &str, &str),
+) {
+    let old = edition_of(rt, alloc, old);
+    let new = edition_of(rt, alloc, new);
+    migrates_as(rt, alloc, &old, &new, (input, made, lines));
+}
+
+#[test]
+fn parts_of_views_pass_or_are_lost(rt: HostRuntime) {
+    for row in &PARTS {
+        parts_migrate(&rt, rt.alloc(), row);
     }
 }

@@ -1,5 +1,5 @@
 //! Tests of the crates that the format is written in: bits and outputs, lists, presence fields, the values, copies and paths of
-//! a specification, its flaws and its places, and the catalogue; and of blocks as text: printed, listed, and read again under a
+//! a specification, its flaws and its places, and the catalogue; expansion files and the contents read by them; and of blocks as text: printed, listed, and read again under a
 //! catalogue. The crate has nothing else.
 #![tactic(auto)]
 
@@ -11,6 +11,10 @@ mod bits;
 mod catalogue;
 #[cfg(test)]
 mod checks;
+#[cfg(test)]
+mod contents;
+#[cfg(test)]
+mod expansions;
 #[cfg(test)]
 mod fitting;
 #[cfg(test)]

@@ -32,7 +32,7 @@ fn line(alloc: Global, flaw: &Flaw) -> Result<String, AllocError> {
 }
 
 /// The flaws in order, joined by `, `.
-fn lines(alloc: Global, found: &Flaws) -> Result<String, AllocError> {
+pub(crate) fn flaw_lines(alloc: Global, found: &Flaws) -> Result<String, AllocError> {
     let mut made = String::new(alloc);
     for flaw in found.as_slice() {
         if !made.is_empty() {
@@ -46,7 +46,7 @@ fn lines(alloc: Global, found: &Flaws) -> Result<String, AllocError> {
 /// Asserts that a text has those flaws.
 pub(crate) fn has_flaws(rt: &impl Abort, alloc: Global, text: &str, wanted: &str) {
     let found = flaws(alloc, &read(rt, alloc, text)).expect(rt, "memory");
-    let told = lines(alloc, &found).expect(rt, "memory");
+    let told = flaw_lines(alloc, &found).expect(rt, "memory");
     same(rt, told.as_str(), wanted, text);
 }
 

@@ -34,11 +34,18 @@ fn with_files(rt: &impl Abort, alloc: Global, verb: &str, files: &WordTexts) -> 
     shown
 }
 
-/// Both files of a migration, in brackets.
-fn with_editions(rt: &impl Abort, alloc: Global, old: &WordText, new: &WordText) -> String {
-    let mut shown = with_word(rt, alloc, "migrate", old);
-    shown.push_str(" to").expect(rt, "memory");
-    with_word(rt, alloc, shown.as_str(), new)
+/// A verb, and two files in brackets with a word between them.
+fn with_two(
+    rt: &impl Abort,
+    alloc: Global,
+    verb: &str,
+    one: &WordText,
+    between: &str,
+    other: &WordText,
+) -> String {
+    let mut shown = with_word(rt, alloc, verb, one);
+    shown.push_str(between).expect(rt, "memory");
+    with_word(rt, alloc, shown.as_str(), other)
 }
 
 /// The file of a trial in brackets, and its numbers.
@@ -57,9 +64,12 @@ fn shown(rt: &impl Abort, alloc: Global, line: &Line) -> String {
         Line::Text { files } => with_files(rt, alloc, "text", files),
         Line::Build { files } => with_files(rt, alloc, "build", files),
         Line::Filter { expr, files } => with_files(rt, alloc, expr.text(), files),
-        Line::Migrate { old, new } => with_editions(rt, alloc, old, new),
+        Line::Migrate { old, new } => with_two(rt, alloc, "migrate", old, " to", new),
         Line::Trial { file, seed, count } => with_numbers(rt, alloc, file, *seed, *count),
         Line::Salvage { files } => with_files(rt, alloc, "salvage", files),
+        Line::Expand { spec, expansion } => {
+            with_two(rt, alloc, "expand", spec, " by", expansion)
+        }
         Line::Help => String::from_str(alloc, "help").expect(rt, "memory"),
         Line::Version => String::from_str(alloc, "version").expect(rt, "memory"),
     }
@@ -81,7 +91,7 @@ fn ask_for(rt: &impl Abort, alloc: Global, text: &str, want: &str) {
     same_text(rt, found.as_str(), want, text);
 }
 
-const LINES: [(&str, &str); 16] = [
+const LINES: [(&str, &str); 17] = [
     ("check A", "check [A]"),
     ("check ", "check []"),
     ("canon A", "canon [A]"),
@@ -99,6 +109,7 @@ const LINES: [(&str, &str); 16] = [
         "trial [Z] 18446744073709551615 1000000",
     ),
     ("salvage A B", "salvage [A] [B]"),
+    ("expand A X", "expand [A] by [X]"),
     ("--help", "help"),
     ("--version", "version"),
 ];
@@ -110,7 +121,7 @@ fn lines_of_words(rt: HostRuntime) {
     }
 }
 
-const REFUSED: [&str; 27] = [
+const REFUSED: [&str; 29] = [
     "",
     " ",
     "help",
@@ -134,6 +145,8 @@ const REFUSED: [&str; 27] = [
     "trial Z 18446744073709551616 1",
     "trial Z 1 1000001",
     "salvage",
+    "expand A",
+    "expand A X X",
     "--help A",
     "--version A",
     "-h",

@@ -7,7 +7,7 @@ ghost use Rattle.ax_run_tests.specs.Categories.{category_command, category_line}
 use crate::world::{bytes, failing, left_of};
 use ax_model::{RawBlock, category_digits};
 use ax_outside::{MemSink, MemSource, Sink, SinkFailed, write_text};
-use ax_stream::{BlockWork, StreamEnd, WorkStop, run_blocks};
+use ax_stream::{BlockWork, StreamEnd, WorkStop, run_blocks, write_piece};
 use std::alloc::Global;
 use std::process::Abort;
 
@@ -40,30 +40,25 @@ impl<'m> BlockWork for CategoryWork<'m> {
 
     ghost sound = { λ s. Unit {0} };
 
-    ghost laid = { λ s. s.mark.now };
-
     ghost remembers = { λ first s raws. Unit {0} };
 
     ghost takes_memory = { false };
 
     #[tactic(auto, using(crate::proofs::CategoryBlocks::category_takes))]
-    fn take<R: Sink>(
+    fn take<R: Sink, K: Sink>(
         &mut self,
         _number: u64,
         raw: &RawBlock<'_>,
         report: &mut R,
+        out: &mut K,
     ) -> Result<(), WorkStop> {
         if raw.category == 255 {
             return Err(WorkStop::TooLong { octets: TOO_MANY });
         }
         match write_category_line(report, raw.category) {
-            Ok(()) => Ok(()),
+            Ok(()) => write_piece(out, self.mark),
             Err(_) => Err(WorkStop::ReportFault),
         }
-    }
-
-    fn octets(&self) -> &[u8] {
-        self.mark
     }
 }
 

@@ -3,6 +3,7 @@ ghost use Rattle.ax_drive.specs.Working.{IsSoundJob};
 ghost use Rattle.ax_migrate_views.specs.Blocks.{IsOfEditions};
 ghost use Rattle.ax_relation.specs.Relates.{Relates};
 
+use crate::migrating::{largest, moved};
 use crate::specs::accepted;
 use crate::world::{bytes, failing, text_of};
 use ax_check::{Accepted, Catalogue};
@@ -77,8 +78,8 @@ fn an_input_without_end_is_too_long(rt: HostRuntime) {
     endless_is_too_long(&rt, alloc, Job::Canon(&catalogue, &codecs));
 }
 
-// The call of the report that fails, and how the loop ends, what it wrote, and what it told. Each of the two blocks loses its
-// item 020, and a block whose line isn't written isn't written either.
+// The call of the report that fails, and how the loop ends, what it wrote, and what it told. Each of the two blocks loses the
+// second part of item 020, and a block whose line isn't written isn't written either.
 type Row = (u64, DriveEnd, &'static str, &'static str);
 
 static REPORTS: [Row; 3] = [
@@ -86,14 +87,14 @@ static REPORTS: [Row; 3] = [
     (
         1,
         DriveEnd::ReportFault,
-        "30 00 06 80 19 0C",
-        "lost block 0 record 0 048/020\n",
+        "30 00 07 A0 19 0C A0",
+        "lost block 0 record 0 048/020/part1\n",
     ),
     (
         2,
         DriveEnd::Done { blocks: 2 },
-        "30 00 06 80 19 0C 30 00 06 80 19 0C",
-        "lost block 0 record 0 048/020\nlost block 1 record 0 048/020\n",
+        "30 00 07 A0 19 0C A0 30 00 07 A0 19 0C A0",
+        "lost block 0 record 0 048/020/part1\nlost block 1 record 0 048/020/part1\n",
     ),
 ];
 
@@ -142,4 +143,61 @@ fn a_report_that_fails_ends_a_migration(rt: HostRuntime) {
     let old = file_of(&rt, alloc, "048");
     let new = file_of(&rt, alloc, "048-P2");
     related_end_as(&rt, alloc, &old, &new);
+}
+
+// The most octets that the first reads give, in turn; the later ones give what is asked.
+static READS: [[u32; 4]; 5] = [
+    [70_000, 70_000, 70_000, 70_000],
+    [1, 1, 1, 1],
+    [3, 65_529, 1, 1],
+    [65_533, 1, 70_000, 70_000],
+    [65_534, 70_000, 70_000, 70_000],
+];
+
+/// Migrates the largest block of G1 where the reads are cut so, and asserts that both of its blocks are written.
+fn both_are_written(
+    rt: &impl Abort,
+    alloc: Global,
+    migrator: &Migrator<'_>,
+    cuts: &[u32],
+    both: &[u8],
+)
+    requires { IsOfEditions migrator.now }
+{
+    let input = largest(rt, alloc, &[]);
+    let cuts = cuts.to_vec(alloc).expect(rt, "memory");
+    let mut source = MemSource::new(input, cuts, Vec::new(alloc));
+    let mut sinks = sinks_of(rt, alloc, 1, None);
+    let end = ended(rt, alloc, Job::Migrate(migrator), &mut source, &mut sinks);
+    stands(rt, &sinks, end, (DriveEnd::Done { blocks: 1 }, both, b""));
+}
+
+/// Migrates it by a relation of two editions, with the reads cut in each way.
+fn each_writes_both(
+    rt: &impl Abort,
+    alloc: Global,
+    old: &Accepted,
+    new: &Accepted,
+    relation: &Relation,
+)
+    requires { Relates old.now new.now relation.now }
+{
+    let codec = compile(alloc, old).expect(rt, "memory");
+    let migrator = Migrator::new(alloc, old.spec(), new.spec(), relation, &codec);
+    let migrator = migrator.expect(rt, "memory");
+    let second = moved(rt, alloc, [0x80, 0x01], 10_922, &[]);
+    let both = moved(rt, alloc, [0xFF, 0xFF], 21_844, second.as_slice());
+    for cuts in &READS {
+        both_are_written(rt, alloc, &migrator, cuts, both.as_slice());
+    }
+}
+
+// The loop has no allocator, and no ending of memory: a block is split without any.
+#[test]
+fn a_block_is_split_without_memory(rt: HostRuntime) {
+    let alloc = rt.alloc();
+    let old = file_of(&rt, alloc, "G1");
+    let new = file_of(&rt, alloc, "G2");
+    let relation = relate(alloc, &old, &new).expect(&rt, "editions of one category");
+    each_writes_both(&rt, alloc, &old, &new, &relation);
 }

@@ -5,7 +5,7 @@ use std::alloc::Global;
 use std::process::Abort;
 
 // The words, the input, the exit status, the output and the report. Each input is read to its end.
-static OCTETS: [(&str, &str, u8, &str, &str); 26] = [
+static OCTETS: [(&str, &str, u8, &str, &str); 27] = [
     (
         "canon W",
         "CE 00 08 80 00 02 AA BB",
@@ -106,7 +106,7 @@ static OCTETS: [(&str, &str, u8, &str, &str); 26] = [
         "CE 00 0B C0 00 02 AA BB 0B FF 00",
         "",
     ),
-    // A wide and a counted item are two kinds, and other last parts make other items.
+    // A wide and a counted item are two kinds; of a closed and an extended item the first parts that are alike pass.
     (
         "migrate W W-counted",
         "CE 00 08 80 00 02 AA BB",
@@ -125,8 +125,15 @@ static OCTETS: [(&str, &str, u8, &str, &str); 26] = [
         "migrate W W-counted",
         "CE 00 05 40 0A",
         0,
-        "CE 00 04 00",
-        "lost block 0 record 0 206/020\n",
+        "CE 00 05 40 0A",
+        "",
+    ),
+    (
+        "migrate W W-counted",
+        "CE 00 06 40 0B FF",
+        0,
+        "CE 00 05 40 0A",
+        "lost block 0 record 0 206/020/part1\n",
     ),
     // FX in the last part of the extended item is still refused.
     (

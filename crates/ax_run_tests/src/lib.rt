@@ -1,5 +1,6 @@
 //! Tests of the call `run` over files, an input and outputs in memory, and of the block loop below it; of category files that
-//! are loaded by name, of what a user reads of each outcome, of what `trial` writes, and of the tallies of `salvage`. The crate
+//! are loaded by name, of what a user reads of each outcome, of what `trial` writes, of the tallies of `salvage`, and of
+//! the lines of `expand`. The crate
 //! has nothing else.
 #![tactic(auto)]
 
@@ -17,6 +18,10 @@ mod checks;
 mod driving;
 #[cfg(test)]
 mod each_call;
+#[cfg(test)]
+mod expanding;
+#[cfg(test)]
+mod expansions;
 #[cfg(test)]
 mod filtering;
 #[cfg(test)]

@@ -6,7 +6,7 @@ use std::process::Abort;
 
 const PLOT: &str = "30 00 08 A0 19 0C A1 00";
 
-const PLOT_MIGRATED: &str = "30 00 06 80 19 0C";
+const PLOT_MIGRATED: &str = "30 00 07 A0 19 0C A0";
 
 const PLOT_TWICE: &str = "30 00 08 A0 19 0C A1 00 30 00 08 A0 19 0C A1 00";
 
@@ -20,14 +20,14 @@ const FULL_MIGRATED: &str = "CA 00 07 80 80 22 33";
 const FULL_TWICE: &str = "CA 00 08 80 C0 11 22 33 CA 00 08 80 C0 11 22 33";
 
 // How the outside fails, the words and the input; and the status, the output, the report, and how many octets aren't read.
-static RUNS: [(Outside, &str, &str, u8, &str, &str, usize); 21] = [
+static RUNS: [(Outside, &str, &str, u8, &str, &str, usize); 23] = [
     (
         Outside::Sound,
         "migrate 048 048-P2",
         PLOT,
         0,
         PLOT_MIGRATED,
-        "lost block 0 record 0 048/020\n",
+        "lost block 0 record 0 048/020/part1\n",
         0,
     ),
     (
@@ -64,6 +64,25 @@ static RUNS: [(Outside, &str, &str, u8, &str, &str, usize); 21] = [
         0,
         "CA 00 07 80 40 22 33",
         "lost block 0 record 0 202/010/A\n",
+        0,
+    ),
+    // The first parts of an extended item have other members, and it is lost with all of them.
+    (
+        Outside::Sound,
+        "migrate V1 V2",
+        "CF 00 06 80 03 04",
+        0,
+        "CF 00 04 00",
+        "lost block 0 record 0 207/010\nlost block 0 record 0 207/010/part0\nlost block 0 record 0 207/010/part1\n",
+        0,
+    ),
+    (
+        Outside::Sound,
+        "migrate V1 V1",
+        "CF 00 06 80 03 04",
+        0,
+        "CF 00 06 80 03 04",
+        "",
         0,
     ),
     // A file beside itself is of its own category.
@@ -158,7 +177,7 @@ static RUNS: [(Outside, &str, &str, u8, &str, &str, usize); 21] = [
         PLOT_TWICE,
         4,
         PLOT_MIGRATED,
-        "lost block 0 record 0 048/020\nlost block 1 record 0 048/020\nfault write\n",
+        "lost block 0 record 0 048/020/part1\nlost block 1 record 0 048/020/part1\nfault write\n",
         0,
     ),
     (
@@ -240,34 +259,193 @@ fn lines_that_are_cut(rt: HostRuntime) {
     }
 }
 
-/// The largest block of G1, whose records have one item of one octet, and these octets after it.
-fn largest(rt: &impl Abort, alloc: Global, after: &[u8]) -> Vec<u8> {
-    let mut made = vec![in alloc; 0xC9, 0xFF, 0xFF].expect(rt, "memory");
-    for _ in 0..32_766 {
-        made.extend_from_slice(&[0x80, 0x01]).expect(rt, "memory");
+/// These octets, and then so many times others.
+fn repeated(
+    rt: &impl Abort,
+    alloc: Global,
+    front: &[u8],
+    times: usize,
+    octets: &[u8],
+    after: &[u8],
+) -> Vec<u8> {
+    let mut made = front.to_vec(alloc).expect(rt, "memory");
+    for _ in 0..times {
+        made.extend_from_slice(octets).expect(rt, "memory");
     }
     made.extend_from_slice(after).expect(rt, "memory");
     made
 }
 
-// Asserts that the octets after the largest block, in hexadecimal, aren't read: there are so many.
-fn is_too_long(rt: &impl Abort, alloc: Global, after: &str, left: usize) {
-    let after = bytes(rt, alloc, after);
-    let input = largest(rt, alloc, &after);
-    let want = Left {
-        status: 3,
-        out: b"",
-        report: b"refused block 0 MigratedTooLong 98301\n",
-        left,
-    };
-    leaves(rt, alloc, "migrate G1 G2", &input, Outside::Sound, want);
+/// The largest block of G1, whose records have one item of one octet, and these octets after it.
+pub(crate) fn largest(rt: &impl Abort, alloc: Global, after: &[u8]) -> Vec<u8> {
+    repeated(rt, alloc, &[0xC9, 0xFF, 0xFF], 32_766, &[0x80, 0x01], after)
 }
 
-// A migrated block that is too long is refused before any fault after it.
+/// A block of so many records of G2, with its LEN, and these octets after it.
+pub(crate) fn moved(
+    rt: &impl Abort,
+    alloc: Global,
+    len: [u8; 2],
+    records: usize,
+    after: &[u8],
+) -> Vec<u8> {
+    let [high, low] = len;
+    let head = [0xC9, high, low];
+    repeated(rt, alloc, &head, records, &[0x01, 0x80, 0x01], after)
+}
+
+// As many records as come into one block are written as one, and the others after them: all, up to a fault of the next block.
 #[test]
-fn a_migrated_block_is_too_long(rt: HostRuntime) {
+fn a_long_migrated_block_is_split(rt: HostRuntime) {
     let alloc = rt.alloc();
-    for (after, left) in [("", 0), ("C9 00 03", 3)] {
-        is_too_long(&rt, alloc, after, left);
+    let second = moved(&rt, alloc, [0x80, 0x01], 10_922, &[]);
+    let both = moved(&rt, alloc, [0xFF, 0xFF], 21_844, second.as_slice());
+    for (outside, after, status, report) in [
+        (Outside::Sound, "", 0, ""),
+        (Outside::CutReads, "", 0, ""),
+        (
+            Outside::Sound,
+            "C9 00 03",
+            3,
+            "refused block 1 bit 8 BadLen\n",
+        ),
+    ] {
+        let after = bytes(&rt, alloc, after);
+        let input = largest(&rt, alloc, &after);
+        let want = Left {
+            status,
+            out: both.as_slice(),
+            report: report.as_bytes(),
+            left: 0,
+        };
+        leaves(&rt, alloc, "migrate G1 G2", &input, outside, want);
+    }
+}
+
+// How many records of the largest block are there, and the octets after them; and the report. The input has no more.
+static CUT_BLOCKS: [(usize, &str, &str); 6] = [
+    (32_765, "80", "refused block 0 bit 524272 EndsInBlock\n"),
+    (32_765, "", "refused block 0 bit 524264 EndsInBlock\n"),
+    (32_764, "80", "refused block 0 bit 524256 EndsInBlock\n"),
+    (32_764, "", "refused block 0 bit 524248 EndsInBlock\n"),
+    (0, "80", "refused block 0 bit 32 EndsInBlock\n"),
+    (0, "", "refused block 0 bit 24 EndsInBlock\n"),
+];
+
+// A block whose input ends in it is refused, and no block of its first records is written.
+#[test]
+fn a_block_to_be_split_is_cut(rt: HostRuntime) {
+    let alloc = rt.alloc();
+    for &(records, after, report) in &CUT_BLOCKS {
+        let after = bytes(&rt, alloc, after);
+        let head = [0xC9, 0xFF, 0xFF];
+        let input = repeated(&rt, alloc, &head, records, &[0x80, 0x01], &after);
+        let want = Left {
+            status: 3,
+            out: b"",
+            report: report.as_bytes(),
+            left: 0,
+        };
+        leaves(&rt, alloc, "migrate G1 G2", &input, Outside::Sound, want);
+    }
+}
+
+// The blocks are written by one call each: where that of the second fails the first stands whole.
+#[test]
+fn the_second_of_two_blocks_is_cut(rt: HostRuntime) {
+    let alloc = rt.alloc();
+    let first = moved(&rt, alloc, [0xFF, 0xFF], 21_844, &[]);
+    let input = largest(&rt, alloc, &[]);
+    let want = Left {
+        status: 4,
+        out: first.as_slice(),
+        report: b"fault write\n",
+        left: 0,
+    };
+    leaves(&rt, alloc, "migrate G1 G2", &input, Outside::Write(1), want);
+}
+
+// All lines come before the first octet of a block that is split.
+#[test]
+fn a_split_block_with_a_loss(rt: HostRuntime) {
+    let alloc = rt.alloc();
+    let front = [0xC9, 0xFF, 0xFE, 0xC0, 0x01, 0x05];
+    let input = repeated(&rt, alloc, &front, 32_764, &[0x80, 0x01], &[]);
+    let second = moved(&rt, alloc, [0x7F, 0xFE], 10_921, &[]);
+    let both = moved(&rt, alloc, [0xFF, 0xFF], 21_844, second.as_slice());
+    let whole = Left {
+        status: 0,
+        out: both.as_slice(),
+        report: b"lost block 0 record 0 201/020\n",
+        left: 0,
+    };
+    leaves(&rt, alloc, "migrate G3 G2", &input, Outside::Sound, whole);
+    let cut = Left {
+        status: 4,
+        out: b"",
+        report: b"",
+        left: 0,
+    };
+    leaves(&rt, alloc, "migrate G3 G2", &input, Outside::Report(0), cut);
+}
+
+// One octet fewer than a block can have, and one record more.
+#[test]
+fn a_block_of_65534_octets_before_another(rt: HostRuntime) {
+    let alloc = rt.alloc();
+    let front = [0xC9, 0xAA, 0xAD, 0x00, 0x00];
+    let input = repeated(&rt, alloc, &front, 21_844, &[0x80, 0x01], &[]);
+    let second = moved(&rt, alloc, [0x00, 0x06], 1, &[]);
+    let head = [0xC9, 0xFF, 0xFE, 0x00, 0x00];
+    let both = repeated(&rt, alloc, &head, 21_843, &[0x01, 0x80, 0x01], &second);
+    let want = Left {
+        status: 0,
+        out: both.as_slice(),
+        report: b"",
+        left: 0,
+    };
+    leaves(&rt, alloc, "migrate G1 G2", &input, Outside::Sound, want);
+}
+
+// The octets before and after the occurrences of an item, how many there are, and the words; and the output and the report.
+static TOO_LONG: [(&str, usize, &str, &str, &str); 3] = [
+    (
+        "D0 FF FF 80",
+        65_530,
+        "migrate J1 J2",
+        "",
+        "refused block 0 MigratedTooLong 65536\n",
+    ),
+    (
+        "D0 00 05 80 00 D0 FF FF 80",
+        65_530,
+        "migrate J1 J2",
+        "D0 00 06 01 80 00",
+        "refused block 1 MigratedTooLong 65536\n",
+    ),
+    (
+        "D0 FF FF 80 00 80",
+        65_528,
+        "migrate J1 J3",
+        "",
+        "refused block 0 MigratedTooLong 65550\n",
+    ),
+];
+
+// A record that is too long alone refuses its block, and nothing of it is written, whatever comes before it.
+#[test]
+fn a_migrated_record_is_too_long(rt: HostRuntime) {
+    let alloc = rt.alloc();
+    for &(front, times, words, out, report) in &TOO_LONG {
+        let front = bytes(&rt, alloc, front);
+        let out = bytes(&rt, alloc, out);
+        let input = repeated(&rt, alloc, &front, times, &[0x01], &[0x00]);
+        let want = Left {
+            status: 3,
+            out: out.as_slice(),
+            report: report.as_bytes(),
+            left: 0,
+        };
+        leaves(&rt, alloc, words, &input, Outside::Sound, want);
     }
 }

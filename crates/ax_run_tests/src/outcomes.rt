@@ -28,7 +28,7 @@ fn each_says(rt: &impl Abort, alloc: Global, rows: &[Said]) {
     }
 }
 
-const WORDS_AND_FILES: [Said; 7] = [
+const WORDS_AND_FILES: [Said; 8] = [
     (Outcome::Usage, 1, "refused usage\n"),
     (
         Outcome::SpecRefused {
@@ -74,6 +74,11 @@ const WORDS_AND_FILES: [Said; 7] = [
         Outcome::OtherCategory { old: 34, new: 48 },
         2,
         "refused editions 034 048\n",
+    ),
+    (
+        Outcome::ExpansionUnused { category: 4 },
+        2,
+        "refused expansion 004\n",
     ),
 ];
 

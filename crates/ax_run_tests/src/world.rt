@@ -1,5 +1,6 @@
 //! One run in memory: the files that it finds, how its outside is cut and fails, and what it leaves.
 
+use crate::expansions::expansion_texts;
 use ax_app::run;
 use ax_outside::{MemLibrary, MemSink, MemSource, fill};
 use ax_samples::{
@@ -25,8 +26,28 @@ const NESTED_KINDS: &str =
 const COUNTED_AND_EXTENDED: &str =
     r#"category 206 edition "W" items { item 010 "" counted { element 8 raw } item 020 "" extended { part { A element 7 raw } part { B element 7 raw } } } uap { 010 020 }"#;
 
+// An extended item, and another whose first part has the same width but other members.
+const TWO_PARTS: &str =
+    r#"category 207 edition "V1" items { item 010 "" extended { part { A element 7 raw } part { B element 7 raw } } } uap { 010 }"#;
+
+const OTHER_PART: &str =
+    r#"category 207 edition "V2" items { item 010 "" extended { part { A element 4 raw C element 3 raw } } } uap { 010 }"#;
+
 const EMPTY_LAST_PART: &str =
     r#"category 206 edition "W" items { item 010 "" wide { element 8 raw } item 020 "" closed { part { } } } uap { 010 020 }"#;
+
+// File G1 with an item that file G2 lacks.
+const TWO_ITEMS: &str =
+    r#"category 201 edition "G3" items { item 010 "" element 8 raw item 020 "" element 8 raw } uap { 010 020 }"#;
+
+const OCCURRENCES: &str =
+    r#"category 208 edition "J1" items { item 010 "" byfx element 7 raw } uap { 010 }"#;
+
+const OCCURRENCES_IN_SLOT_8: &str =
+    r#"category 208 edition "J2" items { item 010 "" byfx element 7 raw } uap { - - - - - - - 010 }"#;
+
+const OCCURRENCES_IN_SLOT_126: &str =
+    r#"category 208 edition "J3" items { item 010 "" byfx element 7 raw } uap { - - - - - - - - - - - - - - - - - - - - - - - - - - - - - - - - - - - - - - - - - - - - - - - - - - - - - - - - - - - - - - - - - - - - - - - - - - - - - - - - - - - - - - - - - - - - - - - - - - - - - - - - - - - - - - - - - - - - - - - - - - - - - 010 }"#;
 
 const CUT_SHORT: &str =
     r#"category 034 edition "X" items { item 000 "T" element 8 raw } uap { 000"#;
@@ -75,7 +96,7 @@ pub enum Outside {
 }
 
 // More octets than any output here has.
-const AMPLE: u32 = 70_000;
+const AMPLE: u32 = 200_000;
 
 /// The number of the call that fails, if any.
 pub fn failing(rt: &impl Abort, alloc: Global, call: Option<u64>) -> Vec<u64> {
@@ -197,11 +218,15 @@ fn put_padded(
     put(rt, alloc, files, name, octets);
 }
 
-static TEXTS: [(&str, &str); 26] = [
+static TEXTS: [(&str, &str); 32] = [
     ("A", FILE_A),
     ("E", FILE_E),
     ("F", FILE_F),
     ("G1", FILE_G1),
+    ("G3", TWO_ITEMS),
+    ("J1", OCCURRENCES),
+    ("J2", OCCURRENCES_IN_SLOT_8),
+    ("J3", OCCURRENCES_IN_SLOT_126),
     ("G2", FILE_G2),
     ("H1", FILE_H1),
     ("H2", FILE_H2),
@@ -209,6 +234,8 @@ static TEXTS: [(&str, &str); 26] = [
     ("N", FILE_N),
     ("S", FILE_S),
     ("V", FILE_V),
+    ("V1", TWO_PARTS),
+    ("V2", OTHER_PART),
     ("W", FILE_W),
     ("X", NESTED_KINDS),
     ("W-counted", COUNTED_AND_EXTENDED),
@@ -241,12 +268,22 @@ pub fn text_of(rt: &impl Abort, name: &str) -> &'static str {
     panic!(rt; "no file {name}")
 }
 
+fn put_texts(
+    rt: &impl Abort,
+    alloc: Global,
+    files: &mut Vec<(String, Vec<u8>)>,
+    texts: &[(&str, &str)],
+) {
+    for &(name, text) in texts {
+        let octets = text.as_bytes().to_vec(alloc).expect(rt, "memory");
+        put(rt, alloc, files, name, octets);
+    }
+}
+
 fn texts(rt: &impl Abort, alloc: Global) -> Vec<(String, Vec<u8>)> {
     let mut made = Vec::new(alloc);
-    for &(name, text) in named_texts() {
-        let octets = text.as_bytes().to_vec(alloc).expect(rt, "memory");
-        put(rt, alloc, &mut made, name, octets);
-    }
+    put_texts(rt, alloc, &mut made, named_texts());
+    put_texts(rt, alloc, &mut made, expansion_texts());
     made
 }
 

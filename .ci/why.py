@@ -19,15 +19,23 @@ printf 'category 048 edition "k\\nitems { } uap { - }' > open
 printf 'block 034 { record { } }\\nblock 034 { record { 010 { SAC 256 SIC 12 } } }\\n' > lines
 printf '\\x30\\x00\\x07\\x81\\x01\\x19\\x0c' > refused
 printf '\\x30\\x00\\x09\\x80\\x19\\x0c' > late
-printf '\\x30\\x00\\x07\\xa0\\x19\\x0c\\xa0\\x30\\x00\\x07\\xa0\\x19\\x0c\\xa0' > losing
+printf '\\x3e\\x00\\x13\\x01\\x04\\x01\\x01\\x01\\x01\\x01\\x80\\x01\\x04\\x01\\x01\\x01\\x01\\x01\\x80' > losing
+printf 'expansion 048 edition "k" fixed 16 { A element 8 raw }' > sixteen
+printf 'expansion 048 edition "k" fixed 1 { A element 7 raw }' > flawed
+printf 'expansion 034 edition "k" fx { A element 8 raw }' > unused
+printf '\\x30\\x00\\x0a\\x01\\x01\\x01\\x02\\x03\\x40\\x05\\x30\\x00\\x0b\\x01\\x01\\x01\\x02\\x04\\x80\\x05\\x07' > unread
 printf '\\xd4\\xc3\\xb2\\xa1\\x02\\x00\\x04\\x00\\x00\\x00\\x00\\x00' > capture
 """
 BESIDE = {
     "E": "samples/E",
     "F": "samples/F",
+    "048-P1": "samples/048-P1",
+    "X": "samples/X",
     "034": "categories/034-1.29",
     "048": "categories/048-1.31",
     "old": "categories/048-1.30",
+    "before": "categories/062-1.17",
+    "after": "categories/062-1.18",
     "turns": "docs/turns.ast",
 }
 # The words after `asterix`, and what is said of its report.
@@ -253,9 +261,52 @@ CASES = [
         ],
     ),
     (
-        "migrate old 048 < losing",
+        "expand E X < turns",
         [
-            "laid out otherwise: old:24:1 `}`, 048:24:3 `part`",
+            "E is of category 034",
+            "X is of category 048",
+            "both files of `expand` are of one category",
+        ],
+    ),
+    ("expand E unused < turns", ["E: no item has the name RE"]),
+    (
+        "expand 048-P1 sixteen < turns",
+        [
+            "sixteen:1:33: `16` can't stand here after `fixed`",
+            "could stand here: OCTETS",
+            "OCTETS: a number of octets, 1 to 15, without leading zeros",
+        ],
+    ),
+    (
+        "expand 048-P1 flawed < turns",
+        [
+            "its bits are to be whole octets",
+            "flawed:1:37: `A`, 7 bits",
+            "flawed: each flaw is named above",
+        ],
+    ),
+    (
+        "expand 048-P1 034 < turns",
+        [
+            "034:1:1: `category` can't stand here",
+            "could stand here: expansion",
+        ],
+    ),
+    ("expand 048-P1 Q < turns", ["Q: there is no such file"]),
+    (
+        "expand 048-P1 X < unread",
+        [
+            "block 1, record 1, counted from 1: octet 1 of RE's content, bit-7",
+            "a presence bit marks a slot that is spare in the file, or past its last one",
+            "(said once of each cause)",
+            "block 2, record 1, counted from 1: octet 3 of RE's content, bit-8",
+            "octets are left after the last slot that is marked",
+        ],
+    ),
+    (
+        "migrate before after < losing",
+        [
+            "laid out otherwise: before:182:5 `spare`, after:182:5 `SFC`",
             "(said once of each path)",
         ],
     ),

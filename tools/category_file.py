@@ -1,5 +1,5 @@
-"""Category files as asterix-why reads them: their tokens, and what stands at each path. A file of which the grammar isn't that of this
-reader is read as far as it goes."""
+"""Category files and expansion files as asterix-why reads them: their tokens, and what stands at each path. A file of which the grammar
+isn't that of this reader is read as far as it goes."""
 import re
 
 TOKEN = re.compile(rb'"[^"\n]*"|[{}]|[^\s"{}#]+|(#[^\n]*)')
@@ -17,7 +17,7 @@ def place(text, at):
 
 
 class Node:
-    """What stands at a path of a category file: the tokens of its name and of its kind, its bits where they are fixed, and
+    """What stands at a path of a file: the tokens of its name and of its kind, its bits where they are fixed, and
     whether an FX bit is one of them."""
 
     def __init__(self, path, name, begin, end, bits, is_place, has_fx=False):
@@ -26,7 +26,7 @@ class Node:
 
 
 class Spec:
-    """A category file, read as far as its grammar holds."""
+    """A category file or an expansion file, read as far as its grammar holds."""
 
     def __init__(self, name):
         self.name, self.nodes, self.category, self.uap, self.at = name, [], "", [], 0
@@ -46,8 +46,10 @@ class Spec:
         return self.tokens[self.at][1].decode("latin1")
 
     def read(self):
-        self.at = 1
+        kind = self.word()
         self.category = self.word()
+        if kind == "expansion":
+            return self.expansion()
         self.at += 4
         while self.peek() != "}":
             self.at += 1
@@ -57,6 +59,15 @@ class Spec:
         self.at += 3
         while self.peek() != "}":
             self.uap.append((self.at, self.word()))
+        return None
+
+    def expansion(self):
+        self.at += 2
+        begin = self.at
+        form = self.word()
+        self.at += 2 if form == "fixed" else 1
+        self.slots(f"{self.category}/RE", True)
+        self.nodes.append(Node(f"{self.category}/RE", begin, begin, self.at, None, True))
 
     def node(self, path, name, is_place):
         begin = self.at
@@ -77,14 +88,17 @@ class Spec:
             self.nodes.append(Node(f"{path}/body", begin, begin, self.at, bits + 1, False, True))
         elif word == "compound":
             self.at += 1
-            while self.peek() != "}":
-                name = self.word()
-                if name != "-":
-                    self.node(f"{path}/{name}", self.at - 1, is_place)
-            self.at += 1
+            self.slots(path, is_place)
         elif word != "explicit":
             return self.fixed(word, path, is_place)
         return None
+
+    def slots(self, path, is_place):
+        while self.peek() != "}":
+            name = self.word()
+            if name != "-":
+                self.node(f"{path}/{name}", self.at - 1, is_place)
+        self.at += 1
 
     def parts(self, path, is_place, last_has_fx):
         self.at += 1

@@ -3,7 +3,7 @@ _asterix() {
     local word=${COMP_WORDS[COMP_CWORD]} at=$((COMP_CWORD - 2)) shape=() what
     COMPREPLY=()
     if [ "$COMP_CWORD" = 1 ]; then
-        mapfile -t COMPREPLY < <(compgen -W 'check canon show text build filter migrate trial salvage --help --version' -- "$word")
+        mapfile -t COMPREPLY < <(compgen -W 'check canon show text build filter migrate trial salvage expand --help --version' -- "$word")
         return
     fi
     case ${COMP_WORDS[1]} in
@@ -16,12 +16,13 @@ _asterix() {
         migrate) shape=(OLD NEW) ;;
         trial) shape=(SPEC SEED COUNT) ;;
         salvage) shape=(SPEC...) ;;
+        expand) shape=(SPEC EXPANSION) ;;
     esac
     what=${shape[at]-}
     # What ends with three dots may come any number of times.
     [ -n "$what" ] || [ "${#shape[@]}" = 0 ] || case ${shape[-1]} in *...) what=${shape[-1]} ;; esac
     case $what in
-        SPEC* | OLD | NEW)
+        SPEC* | OLD | NEW | EXPANSION)
             compopt -o filenames 2> /dev/null
             mapfile -t COMPREPLY < <(compgen -f -- "$word")
             ;;

@@ -1,6 +1,5 @@
 pub mod Catalogues
 pub mod NameSets
-pub mod Octets
 pub mod Remainders
 pub mod FlawLists
 pub mod WholeFlaws

@@ -9,9 +9,9 @@ ghost use Rattle.ax_check.specs.Names.{listed, AreSame};
 
 use crate::fixed_flaws::{enter_at, find_in_fixed, find_in_members, note};
 use crate::names::Names;
-use crate::texts::{at_body, at_part};
+use crate::texts::at_body;
 use crate::widths::{bits_over, bits_over_members};
-use ax_model::{Fixed, FlawKind, Flaws, Kind, LastPart, Part, Parts, Slot, Slots, Text};
+use ax_model::{Fixed, FlawKind, Flaws, Kind, LastPart, Part, Parts, Slot, Slots, Text, at_part};
 use std::alloc::{AllocError, Global};
 
 /// The widest fixed kind or part, in bits: the longest body.

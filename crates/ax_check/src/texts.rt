@@ -1,5 +1,5 @@
 //! Paths of flaws that don't end with a name.
-ghost use Rattle.std.specs.Prelude.{◌≡◌, ◌++◌, codes, decimal, IfOk};
+ghost use Rattle.std.specs.Prelude.{◌≡◌, codes, IfOk};
 ghost use Rattle.ax_model.specs.Paths.{at};
 
 use ax_model::{Text, at_word};
@@ -24,13 +24,4 @@ pub(crate) fn at_uap(alloc: Global, path: &Text) -> Result<Text, AllocError>
     ensures { IfOk result (λ made. made ≡ at path.now (codes "uap")) }
 {
     at_word(alloc, path, b"uap")
-}
-
-/// The path of a part, by its number from 0.
-#[tactic(auto, using(crate::proofs::Octets::part_printable))]
-pub(crate) fn at_part(alloc: Global, path: &Text, number: u32) -> Result<Text, AllocError>
-    ensures { IfOk result (λ made. made ≡ at path.now (codes "part" ++ decimal number)) }
-{
-    let word = format!(in alloc; "part{number}")?;
-    at_word(alloc, path, word.as_bytes())
 }

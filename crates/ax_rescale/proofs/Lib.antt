@@ -12,3 +12,7 @@ pub mod ConvertedShape
 pub mod AlikeLists
 pub mod GroupSteps
 pub mod WorkedValues
+pub mod EachSteps
+pub mod EntrySteps
+pub mod CountedKinds
+pub mod Weights

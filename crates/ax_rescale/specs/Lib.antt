@@ -6,3 +6,4 @@ pub mod Missed
 pub mod Rescaled
 pub mod Scales
 pub mod Splits
+pub mod SlotSteps

@@ -38,7 +38,7 @@ fn convert_element(
 /// width or its sign, or the kinds differ in their members.
 #[cycle(convert_fixed)]
 #[tactic(auto, using(crate::proofs::GroupSteps::no_group))]
-pub fn convert_fixed(
+pub(crate) fn convert_fixed(
     alloc: Global,
     old: &Fixed,
     new: &Fixed,

@@ -19,11 +19,11 @@ mod sameness;
 mod split_rows;
 mod splitting;
 mod value_laws;
+mod values;
 
 pub use alike::is_alike;
 pub use error::SplitError;
 pub use examples::{converted_numbers, lines_of_misses};
-pub use fixed_values::convert_fixed;
 pub use kind_examples::{
     alike_inside, not_alike, other_elements_alike, quantities_alike, values_converted,
 };
@@ -32,3 +32,4 @@ pub use miss::{Miss, miss_line};
 pub use number::convert_number;
 pub use splitting::{Pieces, split};
 pub use value_laws::{alikeness_is_tested, converted_has_its_shape, converted_once};
+pub use values::convert_value;

@@ -16,3 +16,4 @@ pub mod EachSteps
 pub mod EntrySteps
 pub mod CountedKinds
 pub mod Weights
+pub mod ScaledKinds

@@ -31,5 +31,7 @@ pub use laws::converts_to_one_number;
 pub use miss::{Miss, miss_line};
 pub use number::convert_number;
 pub use splitting::{Pieces, split};
-pub use value_laws::{alikeness_is_tested, converted_has_its_shape, converted_once};
+pub use value_laws::{
+    alikeness_is_tested, converted_has_its_shape, converted_once, without_flaw_scaled,
+};
 pub use values::convert_value;

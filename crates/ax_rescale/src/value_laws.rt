@@ -1,6 +1,9 @@
 //! The laws of converted values. Each function stands for what its contract says.
 ghost use Rattle.std.specs.Prelude.{◌≡◌, ◌↔◌, true};
+ghost use Rattle.std.specs.List.{AllByRecursion};
+ghost use Rattle.ax_model.specs.Flaws.{NoFlaw};
 ghost use Rattle.ax_model.specs.Shape.{Shape};
+ghost use Rattle.ax_model.specs.Specification.{ItemTree, SpecTree};
 ghost use Rattle.ax_model.specs.Tree.{KindTree, ValueTree};
 ghost use Rattle.ax_rescale.specs.Alike.{Alike, is_alike};
 ghost use Rattle.ax_rescale.specs.Converted.{Converted};
@@ -22,4 +25,11 @@ pub fn converted_once()
 #[tactic(auto, using(crate::proofs::ConvertedShape::converted_shape))]
 pub fn converted_has_its_shape()
     ensures { (old new : KindTree) (value made : ValueTree) → Alike old new → Shape old value → Converted old new value made → Shape new made }
+{}
+
+/// The kinds of a specification without flaw have what the conversion of their values asks for: quantities of 1 to 64 bits, and no 0
+/// in a scale.
+#[tactic(auto, using(crate::proofs::ScaledKinds::without_flaw_scaled))]
+pub fn without_flaw_scaled()
+    ensures { (spec : SpecTree) → NoFlaw spec → AllByRecursion (λ (item : ItemTree). Scaled item.kind) spec.items }
 {}

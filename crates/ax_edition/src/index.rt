@@ -7,7 +7,7 @@ ghost use Rattle.ax_edition.specs.Index.{slot_found, found, seen_kind, Finds, Fi
 ghost use Rattle.ax_edition.specs.SlotItems.{item_slot, items_tree};
 
 use crate::numbers::{Numbers, number_slot_items, number_slots};
-use crate::slot_items::SlotItems;
+use crate::record_items::SlotItems;
 use ax_lists::Sequence;
 use ax_model::{Item, Kind, Name, Slot, Slots};
 use std::alloc::{AllocError, Global};
@@ -17,7 +17,7 @@ type Kinds<'k> = Sequence<Option<&'k Kind>>;
 
 /// Slots, each to be found by its name: the first of a name.
 #[derive(Drop)]
-pub(crate) struct Index<'k> {
+pub struct Index<'k> {
     numbers: Numbers,
     kinds: Kinds<'k>,
 }
@@ -43,8 +43,8 @@ impl<'k> Index<'k> {
         }
     }
 
-    /// The first slot of that name: its number and its kind.
-    pub(crate) fn find(&self, name: &Name) -> Option<(u32, &'k Kind)>
+    /// The first slot of that name: its number, from 1, and its kind. Takes no memory.
+    pub fn find(&self, name: &Name) -> Option<(u32, &'k Kind)>
         ensures { option_map slot_found result ≡ found self.now name.now }
     {
         let number = self.numbers.get(name)?;
@@ -98,9 +98,9 @@ fn kinds_of_items<'k>(alloc: Global, items: &SlotItems<'k>) -> Result<Kinds<'k>,
     Ok(kinds)
 }
 
-/// The slots of the UAP, by the names of their items.
+/// The slots of the UAP, by the names of their items. Err is want of memory.
 #[tactic(auto, using(crate::proofs::Indexing::whole))]
-pub(crate) fn index_items<'k>(alloc: Global, items: &SlotItems<'k>) -> Result<Index<'k>, AllocError>
+pub fn index_items<'k>(alloc: Global, items: &SlotItems<'k>) -> Result<Index<'k>, AllocError>
     ensures { IfOk result (λ index. Finds 1 (items_tree items.now) index) }
 {
     Ok(Index {
@@ -120,11 +120,8 @@ fn index_slots<'k>(alloc: Global, slots: &'k Slots) -> Result<Index<'k>, AllocEr
     })
 }
 
-/// The slots below a kind, if there is one and it is a compound.
-pub(crate) fn index_below<'k>(
-    alloc: Global,
-    kind: &Option<&'k Kind>,
-) -> Result<Index<'k>, AllocError>
+/// The slots below a kind, if there is one and it is a compound. Err is want of memory.
+pub fn index_below<'k>(alloc: Global, kind: &Option<&'k Kind>) -> Result<Index<'k>, AllocError>
     ensures { IfOk result (λ index. FindsBelow (option_map kind_tree (option_copied kind.now)) index) }
 {
     match kind {

@@ -7,8 +7,8 @@ ghost use Rattle.ax_relation.specs.Known.{said, sharing_of, Says, Knows};
 ghost use Rattle.ax_edition.specs.SlotItems.{item_slot, items_tree};
 
 use crate::index::{Index, index_below};
+use crate::record_items::SlotItems;
 use crate::sameness::{is_shared, shared_parts};
-use crate::slot_items::SlotItems;
 use ax_model::{Item, Kind, Name, Slot, Slots};
 use ax_relation::{Known, Sharing};
 use std::alloc::{AllocError, Global};

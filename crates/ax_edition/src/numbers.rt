@@ -4,7 +4,7 @@ ghost use Rattle.ax_model.specs.Plain.{slots_tree};
 ghost use Rattle.ax_edition.specs.Numbers.{numbered, Enters, Counts, CountsItems};
 ghost use Rattle.ax_edition.specs.SlotItems.{items_tree};
 
-use crate::slot_items::SlotItems;
+use crate::record_items::SlotItems;
 use ax_model::{Items, Name, Slot, Slots};
 use indexmap::IndexMap;
 use std::alloc::{AllocError, Global};

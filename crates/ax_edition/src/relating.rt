@@ -8,8 +8,8 @@ ghost use Rattle.ax_edition.specs.Relating.{target_tree, target_below, lead, Lea
 ghost use Rattle.ax_edition.specs.SlotItems.{item_slot, items_tree};
 
 use crate::index::{Index, index_below, index_items};
+use crate::record_items::SlotItems;
 use crate::sameness::{is_shared, shared_parts};
-use crate::slot_items::SlotItems;
 use ax_model::{Item, Kind, Name, Parts, Place, Slot, Slots, Steps, Text, at_name, at_part};
 use ax_relation::{RelationPath, RelationPaths};
 use std::alloc::{AllocError, Global};

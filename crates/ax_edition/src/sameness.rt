@@ -17,7 +17,8 @@ fn same_sign(one: &Sign, other: &Sign) -> bool
     }
 }
 
-fn same_content(one: &Content, other: &Content) -> bool
+/// Whether two contents are the same: of two tables neither's entries count.
+pub fn same_content(one: &Content, other: &Content) -> bool
     ensures { result ≡ is_same_content one.now other.now }
 {
     match (one, other) {
@@ -87,8 +88,9 @@ fn same_members(one: &Members, other: &Members) -> bool
     true
 }
 
+/// Whether as many parts have the same members, each as the other.
 #[tactic(auto, using(crate::proofs::UnlikeLists::parts))]
-fn same_parts(one: &Parts, other: &Parts) -> bool
+pub fn same_parts(one: &Parts, other: &Parts) -> bool
     ensures { result ≡ are_same_parts (map part_tree one.now) (map part_tree other.now) }
 {
     if one.count() != other.count() {
@@ -102,7 +104,8 @@ fn same_parts(one: &Parts, other: &Parts) -> bool
     true
 }
 
-fn same_last(one: LastPart, other: LastPart) -> bool
+/// Whether the last parts end alike.
+pub fn same_last(one: LastPart, other: LastPart) -> bool
     ensures { result ≡ is_same_last one other }
 {
     match (one, other) {
@@ -111,7 +114,8 @@ fn same_last(one: LastPart, other: LastPart) -> bool
     }
 }
 
-fn same_counter(one: Counter, other: Counter) -> bool
+/// Whether the counters have as many octets.
+pub fn same_counter(one: Counter, other: Counter) -> bool
     ensures { result ≡ is_same_counter one other }
 {
     match (one, other) {
@@ -201,7 +205,7 @@ fn common_of(old: &Parts, new: &Parts) -> u32
 }
 
 /// How many first parts two kinds have in common; none where they aren't both extended.
-pub(crate) fn shared_parts(old: &Kind, new: &Kind) -> u32
+pub fn shared_parts(old: &Kind, new: &Kind) -> u32
     ensures { result ≡ common_parts (kind_tree old.now) (kind_tree new.now) }
 {
     match (old, new) {
@@ -212,7 +216,7 @@ pub(crate) fn shared_parts(old: &Kind, new: &Kind) -> u32
 
 /// Whether a value of the old kind, or part of it, passes to the new one at the same path: both are compounds, or extended
 /// with a part in common, or they are the same.
-pub(crate) fn is_shared(old: &Kind, new: &Kind) -> bool
+pub fn is_shared(old: &Kind, new: &Kind) -> bool
     ensures { result ≡ is_shared_kind (kind_tree old.now) (kind_tree new.now) }
 {
     match (old, new) {

@@ -6,7 +6,8 @@ use Rattle.ax_edition_laws.proofs.MovedNamed.{source_value, new_value}
 use Rattle.ax_edition_laws.proofs.MovedShape.{slot_shape}
 use Rattle.ax_model.specs.Same.{common_parts}
 use Rattle.ax_edition_laws.specs.Moved.{entry_where, moved, moved_entries}
-use Rattle.ax_migrate.specs.Moving.{value_by, entries_by}
+use Rattle.ax_migrate.specs.Moving.{entries_by}
+use Rattle.ax_relation.specs.Passing.{value_by}
 use Rattle.ax_model.specs.At.{slot_value}
 use Rattle.ax_model.specs.Naming.{slot_named}
 use Rattle.ax_model.specs.Shape.{Shape, EntriesShape}

@@ -1,6 +1,5 @@
 pub mod ByMoves
 pub mod EntryLists
-pub mod FirstLists
 pub mod Found
 pub mod OneBlock
 pub mod RecordLists

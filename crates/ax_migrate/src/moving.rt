@@ -1,52 +1,12 @@
 //! Values and entries of the old edition, as they move to the new one.
-ghost use Rattle.std.specs.Prelude.{◌≡◌, ◌++◌, map, IfOk, OnOk, option_map};
-ghost use Rattle.std.specs.Option.{option_copied};
+ghost use Rattle.std.specs.Prelude.{◌≡◌, ◌++◌, map, IfOk, OnOk};
 ghost use Rattle.ax_relation.specs.PlainMoves.{move_tree, moves_tree};
-ghost use Rattle.ax_edition_laws.specs.Moved.{first_lists};
 ghost use Rattle.ax_migrate.specs.Moving.{entries_by, move_entries, moved_by};
-ghost use Rattle.ax_model.specs.At.{slot_value};
-ghost use Rattle.ax_model.specs.Plain.{value_tree, lists_tree, entry_tree, entries_tree};
+ghost use Rattle.ax_model.specs.Plain.{value_tree, entry_tree, entries_tree};
 
-use ax_model::{Entries, Entry, Lists, Value, Values};
-use ax_relation::{Move, Moves};
+use ax_model::{Entries, Entry, Value};
+use ax_relation::{Move, Moves, first_copies, value_of};
 use std::alloc::{AllocError, Global};
-
-/// The value of the slot of that number, if there is an entry for it.
-pub(crate) fn value_of(entries: &Entries, slot: u32) -> Option<&Value>
-    ensures { option_map value_tree (option_copied result) ≡ slot_value slot (entries_tree entries.now) }
-{
-    for entry in entries.as_slice() {
-        if entry.slot == slot {
-            return Some(&entry.value);
-        }
-    }
-    None
-}
-
-/// Copies of values.
-fn copies(alloc: Global, values: &Values) -> Result<Values, AllocError>
-    ensures { IfOk result (λ made. made ≡ values.now) }
-{
-    let mut made = Values::new(alloc);
-    for value in values.as_slice() {
-        made.push(value.copy(alloc)?)?;
-    }
-    Ok(made)
-}
-
-/// Copies of the first lists, so many at most.
-fn first_copies(alloc: Global, count: u32, lists: &Lists) -> Result<Lists, AllocError>
-    ensures { IfOk result (λ made. lists_tree made ≡ first_lists count (lists_tree lists.now)) }
-{
-    let mut made = Lists::new(alloc);
-    for values in lists.as_slice() {
-        if made.count() == count {
-            return Ok(made);
-        }
-        made.push(copies(alloc, values)?)?;
-    }
-    Ok(made)
-}
 
 /// The value as it moves: of an extended item so many first parts, in a compound what moves below, and else all of it.
 #[cycle(moving)]

@@ -1,5 +1,5 @@
 -- The parts of an item, and the first of them as they move.
-use Rattle.std.proofs.Common.{◌≡◌, ℕ, zero, suc, ◌+◌, ◌-◌, ◌*◌, ◌/◌, ◌<◌, ◌≤◌, inl, inr, nat_lt, false, true, List, [], ◌∷◌, length, drop, get_or, Option, Some, None, refl, sym, ◌∙◌, ap, arith, subst}
+use Rattle.std.proofs.Common.{◌≡◌, ℕ, zero, suc, ◌+◌, ◌-◌, ◌*◌, ◌/◌, ◌<◌, ◌≤◌, ◌⊎◌, inl, inr, nat_lt, Bool, false, true, List, [], ◌∷◌, length, drop, get_or, Option, Some, None, refl, sym, ◌∙◌, ap, arith, subst}
 use Rattle.std.proofs.lemmas.Bool.{le-ltb, lt-ltb}
 use Rattle.std.proofs.lemmas.List.{get_or_default, length-map}
 use Rattle.ax_bits.specs.Bits.{bits, number_of}
@@ -7,6 +7,7 @@ use Rattle.ax_edition_laws.proofs.CommonParts.{same_test}
 use Rattle.ax_edition_laws.specs.Moved.{first_lists}
 use Rattle.ax_migrate_views.proofs.FrontParts.{count_within, few_kept, front_kept, some_octets, whole_kept}
 use Rattle.ax_migrate_views.specs.Fronts.{FrontIs, IsFront, front_octets, kept_bits}
+use Rattle.ax_migrate_views.specs.Lost.{HasParts}
 use Rattle.ax_migrate_views.specs.Octets.{value_canon_by}
 use Rattle.ax_model.proofs.CanonSpells.{spells_shape}
 use Rattle.ax_model.proofs.Namings.{from_place}
@@ -25,6 +26,7 @@ use Rattle.ax_tables.specs.Meaning.{linked_part, linked_parts, meanings}
 use Rattle.ax_tables.specs.declared.node.Node.{Node}
 use Rattle.ax_tables.specs.declared.node.Node.TheVariants as Of
 use Rattle.ax_view.proofs.ItemPieces.{extended_bounds, extended_one}
+use Rattle.ax_view.proofs.ItemSteps.{le_or_less}
 use Rattle.ax_view.proofs.NodeKinds.{is_extended}
 use Rattle.ax_view.proofs.PartSteps.{is_parts}
 use Rattle.ax_view.proofs.Spelled.{leaf_canonical, value_spelled}
@@ -186,6 +188,39 @@ parts_found item number left later x before h e none = h.same ∙ (λ i. nat_lt 
 
 pub parts_end : (item : ItemView) (number : ℕ) (left : List (List ℕ)) (before : ℕ) → PartsLeft item number left before → left ≡ [] → has_part (Some number) (item_value item) ≡ false
 parts_end item number left before h e = h.same ∙ none_below before left e
+
+-- ---- how many parts are present
+
+-- so many parts were passed, and these slices are left
+pub record PartsPassed (item : ItemView) (left : List (List ℕ)) (count : ℕ) : Type 0 where
+  pub each : (i : ℕ) → has_part (Some i) (item_value item) ≡ nat_lt i (count + length left)
+
+pub passed_first : (item : ItemView) (left : List (List ℕ)) → IsParts item left → PartsPassed item left 0
+passed_first item left h = record { each = λ i. sym (parts_there item i left (item_kind item) refl h.parts) ∙ ap (nat_lt i) (let e : length left ≡ 0 + length left = omega arith in e) }
+
+module _ (item : ItemView) (left later : List (List ℕ)) (x : List ℕ) (count : ℕ) (h : PartsPassed item left count) (e : left ≡ x ∷ later) where
+  pub passed_next : PartsPassed item later (count + 1)
+  passed_next = record { each = λ i. h.each i ∙ ap (nat_lt i) (let same : count + length left ≡ count + 1 + length later = omega (arith, ap length e) in same) }
+
+  here : has_part (Some count) (item_value item) ≡ true
+  here = h.each count ∙ lt-ltb count (count + length left) (omega (arith, ap length e))
+
+  pub passed_within : count < length item.body.now
+  passed_within = by (le_or_less (length item.body.now) count)
+    where
+      by : (length item.body.now ≤ count) ⊎ (count < length item.body.now) → count < length item.body.now
+      by (inl few) = absurd (let no : true ≡ false = sym here ∙ few_octets item count few in cc)
+      by (inr lt) = lt
+
+few_of : (fx : Bool) (k : KindTree) (octets : List ℕ) → IsItemOf fx k octets → length octets ≤ 65532
+few_of false k octets h = h.few
+few_of true k octets h = h.few
+
+pub passed_few : (item : ItemView) (left later : List (List ℕ)) (x : List ℕ) (count : ℕ) → PartsPassed item left count → left ≡ x ∷ later → count < 65532
+passed_few item left later x count h e = omega (arith, passed_within item left later x count h e, few_of item.by_fx (item_kind item) item.body.now item.item.one)
+
+pub passed_all : (item : ItemView) (left : List (List ℕ)) (count : ℕ) → PartsPassed item left count → left ≡ [] → HasParts item count
+passed_all item left count h e = record { each = λ i. h.each i ∙ ap (nat_lt i) (let same : count + length left ≡ count = omega (arith, ap length e) in same) }
 
 -- ---- the octets of the first parts, one after the other
 

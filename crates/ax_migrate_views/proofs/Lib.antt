@@ -3,6 +3,10 @@ pub mod BodySteps
 pub mod Entries
 pub mod LaidBits
 pub mod LossSteps
+pub mod LostRuns
+pub mod RunSteps
+pub mod TellingSteps
+pub mod WritingSteps
 pub mod MigratedBlocks
 pub mod MovedCanon
 pub mod MovedMarks

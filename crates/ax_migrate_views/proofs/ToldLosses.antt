@@ -14,6 +14,7 @@ use Rattle.ax_migrate.specs.declared.losing.LossEntry.{LossEntry}
 use Rattle.ax_migrate_views.proofs.GonePaths.{found_gone}
 use Rattle.ax_migrate_views.specs.Blocks.{old_tree, new_tree, IsOfEditions}
 use Rattle.ax_migrate_views.specs.Bodies.{TellsBody}
+use Rattle.ax_migrate_views.specs.Lost.{key_paths}
 use Rattle.ax_migrate_views.specs.Losses.{shown_entries, shown_losses, LosesEach, TellsLosses, WritesLosses}
 use Rattle.ax_migrate_views.specs.declared.migrator.Migrator.{Migrator}
 use Rattle.ax_model.proofs.Spelled.{read_spelled}
@@ -62,9 +63,9 @@ losses_written m body block losses h h' f f' r are w = record {
 }
 
 -- those that were laid
-pub losses_told : (m : Migrator) (body : List ℕ) (block n : ℕ) (before lines : List ℕ) → IsOfEditions m → TellsBody m.codec.now m.lost block body n before lines → TellsLosses m body block n lines
+pub losses_told : (m : Migrator) (body : List ℕ) (block n : ℕ) (before lines : List ℕ) → IsOfEditions m → TellsBody m.codec.now (key_paths m.lost.items) block body n before lines → TellsLosses m body block n lines
 losses_told m body block n before lines of t = record {
   told = λ records spells short. (
-      (t.told (old_tree m) records of.compiled.clean of.compiled.stands spells).laid short ∙ ap (λ ps. lost_lines block (found_losses ps 0 records)) of.lost
+      (t.told (old_tree m) records of.compiled.clean of.compiled.stands spells).laid short ∙ ap (λ ps. lost_lines block (found_losses ps 0 records)) of.lost.gone
       ∙ ap (lost_lines block) (found_gone 0 m.relation.now.paths records ∙ ap (λ ps. found_losses ps 0 records) of.related.paths ∙ all_found (old_tree m) (new_tree m) 0 records (record_distinct (old_tree m) of.related.old_no_flaw) (body_shape (old_tree m) records (bits body) spells.spelled)));
 }

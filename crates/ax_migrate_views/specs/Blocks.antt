@@ -5,7 +5,7 @@ use Rattle.ax_bits.specs.Out.{Appends}
 use Rattle.ax_bits.specs.declared.output.Out.{Out}
 use Rattle.ax_relation.specs.Relates.{Relates}
 use Rattle.ax_migrate.specs.Migrating.{migrated_block}
-use Rattle.ax_migrate_views.specs.Gone.{gone}
+use Rattle.ax_migrate_views.specs.Lost.{AreLost}
 use Rattle.ax_migrate_views.specs.declared.migrator.Migrator.{Migrator}
 use Rattle.ax_model.specs.Blocks.{BlockTree, read_block}
 use Rattle.ax_model.specs.Bodies.{SpellsBody}
@@ -30,7 +30,7 @@ new_tree m = spec_tree m.new.now
 pub record IsOfEditions (m : Migrator) : Type 0 where
   pub related : Relates m.old.now m.new.now m.relation.now
   pub compiled : IsCompiled m.codec.now (old_tree m)
-  pub lost : m.lost ≡ gone m.relation.now.paths
+  pub lost : AreLost m.relation.now.paths m.lost.items
 
 -- the canonical form of the migrated block has so many octets, and they stand at the front of the output, where a block can
 -- have as many

@@ -6,6 +6,7 @@ pub mod Gone
 pub mod Keeping
 pub mod Laying
 pub mod Losses
+pub mod Lost
 pub mod Octets
 pub mod Ranges
 pub mod Wholes

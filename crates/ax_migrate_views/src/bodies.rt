@@ -6,6 +6,7 @@ ghost use Rattle.ax_migrate.specs.Losing.{lost_lines};
 ghost use Rattle.ax_migrate_views.specs.Bodies.{IsRecordPlaced, LaysBody, TellsBody};
 ghost use Rattle.ax_migrate_views.specs.BySlot.{KnowsMoves};
 ghost use Rattle.ax_migrate_views.specs.Laying.{Gathers, Lays};
+ghost use Rattle.ax_migrate_views.specs.Lost.{AreRuns, key_paths};
 ghost use Rattle.ax_migrate_views.specs.Octets.{canon_by};
 ghost use Rattle.ax_model.specs.Sizes.{longest_body};
 ghost use Rattle.ax_model.specs.Tree.{marked};
@@ -15,9 +16,10 @@ ghost use Rattle.ax_view.specs.Views.{FailsThere, SpellsSome};
 
 use crate::by_slot::SlotMoves;
 use crate::in_order::lay_moved;
+use crate::lost::LostKey;
 use crate::telling::tell_record;
 use ax_model::BodyFault;
-use ax_relation::{Moves, RelationPaths};
+use ax_relation::Moves;
 use ax_tables::Codec;
 use ax_view::{Notes, PlacedSlots, Places, place_record};
 
@@ -54,15 +56,16 @@ fn tell_losses(
     body: &[u8],
     here: u32,
     places: &Places,
-    lost: &RelationPaths,
+    lost: &[LostKey<'_>],
     block: u64,
     number: u32,
     at: u32,
     lines: &mut [u8],
 ) -> u32
     requires placed { IsRecordPlaced codec.now body.now here places.now }
+    requires runs { AreRuns lost.now }
     requires room { length lines.old ≡ 131067 }
-    ensures told { Gathers (lost_lines block (record_losses number (entries_there codec.now.nodes codec.now.slots body.now here) lost.now)) at result lines.old lines.new }
+    ensures told { Gathers (lost_lines block (record_losses number (entries_there codec.now.nodes codec.now.slots body.now here) (key_paths lost.now))) at result lines.old lines.new }
     ensures room { length lines.new ≡ 131067 }
 {
     let record = PlacedSlots {
@@ -90,18 +93,19 @@ pub(crate) fn lay_body(
     body: &[u8],
     moves: &Moves,
     known: &SlotMoves,
-    lost: &RelationPaths,
+    lost: &[LostKey<'_>],
     block: u64,
     output: &mut [u8],
     lines: &mut [u8],
 ) -> Result<Laid, BodyFault>
     requires known { KnowsMoves codec.now.nodes codec.now.slots moves.now known.now }
+    requires runs { AreRuns lost.now }
     requires size { (1 ≤ length body.now) × (length body.now ≤ longest_body) }
     requires room { length output.old ≡ 131067 }
     requires lines_room { length lines.old ≡ 131067 }
     ensures spelled { IfOk result (λ laid. SpellsSome codec.now body.now) }
     ensures laid { IfOk result (λ laid. LaysBody codec.now moves.now body.now 3 laid.octets output.old output.new) }
-    ensures told { IfOk result (λ laid. TellsBody codec.now lost.now block body.now laid.lines lines.old lines.new) }
+    ensures told { IfOk result (λ laid. TellsBody codec.now (key_paths lost.now) block body.now laid.lines lines.old lines.new) }
     ensures fault { IfErr result (λ fault. FailsThere codec.now body.now fault) }
     ensures room { length output.new ≡ 131067 }
     ensures lines_room { length lines.new ≡ 131067 }

@@ -1,6 +1,7 @@
 //! Whether something stands where slot numbers lead.
-ghost use Rattle.std.specs.Prelude.{◌≡◌};
-ghost use Rattle.ax_migrate.specs.Finding.{is_there, value_below};
+ghost use Rattle.std.specs.Prelude.{◌≡◌, IfSome};
+ghost use Rattle.ax_relation.specs.Standing.{is_there, value_below};
+ghost use Rattle.ax_migrate_views.specs.Lost.{HasParts};
 ghost use Rattle.ax_model.specs.Placed.{has_part, has_part_where};
 ghost use Rattle.ax_view.specs.Shown.{item_value, record_entries};
 
@@ -27,6 +28,43 @@ pub(crate) fn has_part(item: &ItemView<'_, '_>, part: Option<u32>) -> bool
         before -= 1;
     }
     false
+}
+
+/// How many parts of an item are present.
+fn count_parts(item: &ItemView<'_, '_>) -> u32
+    ensures { HasParts item.now result }
+{
+    let mut later = item.parts();
+    let mut count = 0;
+    while let Some(_) = later.next() {
+        count += 1;
+    }
+    count
+}
+
+/// The same as `has_part`; the parts are counted at most once for several calls.
+pub(crate) fn has_counted(
+    item: &ItemView<'_, '_>,
+    part: Option<u32>,
+    counted: &mut Option<u32>,
+) -> bool
+    requires counted { IfSome counted.old (HasParts item.now) }
+    ensures has { result ≡ has_part part (item_value item.now) }
+    ensures counted { IfSome counted.new (HasParts item.now) }
+{
+    let Some(number) = part else {
+        return true;
+    };
+    // Each part has an octet at least.
+    if item.octets().len() <= number as usize {
+        return false;
+    }
+    let count = match *counted {
+        Some(count) => count,
+        None => count_parts(item),
+    };
+    *counted = Some(count);
+    number < count
 }
 
 /// Whether slot numbers lead on from an item, to one that has the part.

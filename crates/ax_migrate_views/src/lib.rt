@@ -6,13 +6,13 @@ mod by_slot;
 mod each_loss;
 mod examples;
 mod fronts;
-mod gone;
 mod in_order;
 mod keeping;
 mod laws;
 mod laying;
 mod leading;
 mod losses;
+mod lost;
 mod marks;
 mod migrating;
 mod migrating_views;
@@ -21,6 +21,7 @@ mod ranges;
 mod telling;
 mod values;
 mod whole;
+mod writing;
 
 pub use bodies::Laid;
 pub use examples::{

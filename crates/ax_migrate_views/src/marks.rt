@@ -12,7 +12,7 @@ use ax_view::PlacedSlots;
 
 /// Adds a slot from 1 to 126; another number changes nothing.
 #[inline]
-fn add_slot(slot: u32, marked: &mut Presence)
+pub(crate) fn add_slot(slot: u32, marked: &mut Presence)
     ensures { marked.new ≡ with_slot slot marked.old }
 {
     if slot >= 1 && slot <= 126 {

@@ -10,7 +10,7 @@ ghost use Rattle.ax_view.specs.Views.{FailsThere, SpellsSome};
 
 use crate::bodies::{Laid, lay_body};
 use crate::by_slot::know_moves;
-use crate::gone::gone_paths;
+use crate::lost::lost_keys;
 use crate::migrator::Migrator;
 use ax_model::{BodyFault, Spec};
 use ax_relation::Relation;
@@ -43,7 +43,7 @@ impl<'c> Migrator<'c> {
         ensures new { IfOk result (λ made. new_tree made ≡ spec_tree new.now) }
         ensures codec { IfOk result (λ made. made.codec.now ≡ codec.now) }
     {
-        let lost = gone_paths(alloc, relation.paths())?;
+        let lost = lost_keys(alloc, relation.paths())?;
         let known = know_moves(alloc, codec, relation.moves())?;
         Ok(Migrator {
             old,
@@ -90,7 +90,7 @@ impl<'c> Migrator<'c> {
             body,
             moves,
             &self.known,
-            &self.lost,
+            self.lost.as_slice(),
             number,
             output,
             lines,

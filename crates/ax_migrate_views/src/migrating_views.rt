@@ -7,8 +7,8 @@ ghost use Rattle.ax_outside.specs.Changes.{sink_change};
 
 use crate::losses::Losses;
 use crate::migrator::Migrator;
+use crate::writing::write_record;
 use ax_bits::Out;
-use ax_migrate::loss_line;
 use ax_outside::{Sink, SinkFailed};
 use ax_view::BlockView;
 
@@ -81,8 +81,19 @@ impl<'c> Migrator<'c> {
         requires view { view.now.codec.now ≡ self.now.codec.now }
         ensures { WritesLosses self.now view.now.body.now block (sink_change R.Sink report.old report.new) result }
     {
-        for loss in self.losses(view) {
-            loss_line(report, block, &loss)?;
+        let mut lines = [0; 131_067];
+        let mut number = 0;
+        for one in view.records() {
+            write_record(
+                report,
+                block,
+                number,
+                self.codec,
+                &one,
+                self.lost.as_slice(),
+                &mut lines,
+            )?;
+            number += 1;
         }
         Ok(())
     }

@@ -2,8 +2,9 @@
 ghost use Rattle.ax_migrate_views.specs.BySlot.{KnowsMoves, KnowsMoves-prop};
 
 use crate::by_slot::SlotMoves;
+use crate::lost::LostKey;
 use ax_model::Spec;
-use ax_relation::{Relation, RelationPaths};
+use ax_relation::Relation;
 use ax_tables::Codec;
 
 /// Migration from one edition to another, by the relation of the two and the codec of the old one. Memory is taken when it is
@@ -15,8 +16,8 @@ pub struct Migrator<'c> {
     pub(crate) new: &'c Spec,
     pub(crate) relation: &'c Relation,
     pub(crate) codec: &'c Codec,
-    /// The keys that have no new place.
-    pub(crate) lost: RelationPaths,
+    /// The keys that have no new place, in order.
+    pub(crate) lost: Vec<LostKey<'c>>,
     /// What is known of the relation's moves.
     pub(crate) known: SlotMoves,
     ghost moves: { KnowsMoves codec.now.nodes codec.now.slots relation.now.moves known } by { KnowsMoves-prop codec.now.nodes codec.now.slots relation.now.moves known },

@@ -1,12 +1,13 @@
 use Rattle.std.proofs.Common.{arith}
 use Rattle.ax_migrate_views.proofs.BodySteps.{body_first, body_next, body_fails, body_laid, body_told, body_spelled, body_goes_on}
+use Rattle.ax_migrate_views.specs.Lost.{key_paths}
 use Rattle.ax_migrate_views.proofs.bodies.lay_body.Goals as goal
 
 pub loop-here-init : goal.loop-here-init
-loop-here-init c = body_first c.args.codec.now c.args.moves.now c.args.lost.now c.args.block c.args.body.now c.args.output.now c.args.lines.now
+loop-here-init c = body_first c.args.codec.now c.args.moves.now (key_paths c.args.lost.now) c.args.block c.args.body.now c.args.output.now c.args.lines.now
 
 pub returns-in_default-clause-fault : goal.returns-in_default-clause-fault
-returns-in_default-clause-fault c = body_fails c.args.codec.now c.args.moves.now c.args.lost.now c.args.block c.args.body.now c.loop-here.here c.loop-here.end c.loop-here.number c.loop-here.told c.args.output.now c.loop-here.output c.args.lines.now c.loop-here.lines c.loop-here.invariant c.loop-here-test.true c.place_record.new.notes.fault c.in_default.ensures.fault
+returns-in_default-clause-fault c = body_fails c.args.codec.now c.args.moves.now (key_paths c.args.lost.now) c.args.block c.args.body.now c.loop-here.here c.loop-here.end c.loop-here.number c.loop-here.told c.args.output.now c.loop-here.output c.args.lines.now c.loop-here.lines c.loop-here.invariant c.loop-here-test.true c.place_record.new.notes.fault c.in_default.ensures.fault
 
 pub lay_record-end-requires-clause-placed : goal.lay_record-end-requires-clause-placed
 lay_record-end-requires-clause-placed c = record { end = c.in-Some.next; placed = c.in-Some.ensures.end }
@@ -23,14 +24,14 @@ loop-here-smaller c =
 
 pub loop-here-preserved : goal.loop-here-preserved
 loop-here-preserved c =
-    body_next c.args.codec.now c.args.moves.now c.args.lost.now c.args.block c.args.body.now c.loop-here.here c.loop-here.end c.loop-here.number c.loop-here.told c.args.output.now c.loop-here.output c.args.lines.now c.loop-here.lines c.loop-here.invariant c.loop-here-test.true
+    body_next c.args.codec.now c.args.moves.now (key_paths c.args.lost.now) c.args.block c.args.body.now c.loop-here.here c.loop-here.end c.loop-here.number c.loop-here.told c.args.output.now c.loop-here.output c.args.lines.now c.loop-here.lines c.loop-here.invariant c.loop-here-test.true
     c.in-Some.next c.lay_record-end.result c.lay_record-end.new.output c.place_record.new.places c.in-Some.ensures.end c.lay_record-end.ensures.laid c.tell_losses-told.result c.tell_losses-told.new.lines c.tell_losses-told.ensures.told
 
 pub returns-clause-spelled : goal.returns-clause-spelled
-returns-clause-spelled c = body_spelled c.args.codec.now c.args.moves.now c.args.lost.now c.args.block c.args.body.now c.loop-here.here c.loop-here.end c.loop-here.number c.loop-here.told c.args.output.now c.loop-here.output c.args.lines.now c.loop-here.lines c.loop-here.invariant c.loop-here-test.false c.requires.size.0
+returns-clause-spelled c = body_spelled c.args.codec.now c.args.moves.now (key_paths c.args.lost.now) c.args.block c.args.body.now c.loop-here.here c.loop-here.end c.loop-here.number c.loop-here.told c.args.output.now c.loop-here.output c.args.lines.now c.loop-here.lines c.loop-here.invariant c.loop-here-test.false c.requires.size.0
 
 pub returns-clause-laid : goal.returns-clause-laid
-returns-clause-laid c = body_laid c.args.codec.now c.args.moves.now c.args.lost.now c.args.block c.args.body.now c.loop-here.here c.loop-here.end c.loop-here.number c.loop-here.told c.args.output.now c.loop-here.output c.args.lines.now c.loop-here.lines c.loop-here.invariant c.loop-here-test.false
+returns-clause-laid c = body_laid c.args.codec.now c.args.moves.now (key_paths c.args.lost.now) c.args.block c.args.body.now c.loop-here.here c.loop-here.end c.loop-here.number c.loop-here.told c.args.output.now c.loop-here.output c.args.lines.now c.loop-here.lines c.loop-here.invariant c.loop-here-test.false
 
 pub returns-clause-told : goal.returns-clause-told
-returns-clause-told c = body_told c.args.codec.now c.args.moves.now c.args.lost.now c.args.block c.args.body.now c.loop-here.here c.loop-here.end c.loop-here.number c.loop-here.told c.args.output.now c.loop-here.output c.args.lines.now c.loop-here.lines c.loop-here.invariant c.loop-here-test.false
+returns-clause-told c = body_told c.args.codec.now c.args.moves.now (key_paths c.args.lost.now) c.args.block c.args.body.now c.loop-here.here c.loop-here.end c.loop-here.number c.loop-here.told c.args.output.now c.loop-here.output c.args.lines.now c.loop-here.lines c.loop-here.invariant c.loop-here-test.false

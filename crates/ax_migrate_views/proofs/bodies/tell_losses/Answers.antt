@@ -3,6 +3,7 @@ use Rattle.ax_migrate.specs.Finding.{record_losses}
 use Rattle.ax_migrate.specs.Losing.{lost_lines}
 use Rattle.ax_migrate_views.proofs.Slots.{placed_by}
 use Rattle.ax_migrate_views.specs.Laying.{Gathers}
+use Rattle.ax_migrate_views.specs.Lost.{key_paths}
 use Rattle.ax_view.specs.Placing.{entries_there}
 use Rattle.ax_migrate_views.proofs.bodies.tell_losses.Goals as goal
 
@@ -13,4 +14,4 @@ tell_record-requires-clause-placed c =
 pub returns-clause-told : goal.returns-clause-told
 returns-clause-told c =
     let ns = c.args.codec.now.nodes in
-    subst (λ links. Gathers (lost_lines c.args.block (record_losses c.args.number (entries_there ns links c.args.body.now c.args.here) c.args.lost.now)) c.args.at c.tell_record.result c.args.lines.now c.tell_record.new.lines) c.as_slice.ensures.members c.tell_record.ensures.told
+    subst (λ links. Gathers (lost_lines c.args.block (record_losses c.args.number (entries_there ns links c.args.body.now c.args.here) (key_paths c.args.lost.now))) c.args.at c.tell_record.result c.args.lines.now c.tell_record.new.lines) c.as_slice.ensures.members c.tell_record.ensures.told

@@ -1,0 +1,86 @@
+//! The lines of what a record loses, written where those of its block are more than are kept. Nothing here takes memory.
+ghost use Rattle.std.specs.Prelude.{◌≡◌, length};
+ghost use Rattle.ax_migrate.specs.Finding.{record_losses};
+ghost use Rattle.ax_migrate.specs.Losing.{lost_lines};
+ghost use Rattle.ax_migrate_views.specs.Lost.{AreRuns, key_paths, losses_below};
+ghost use Rattle.ax_migrate_views.specs.Wholes.{whole_entries};
+ghost use Rattle.ax_model.specs.Tree.{marked};
+ghost use Rattle.ax_outside.specs.Changes.{Wrote, sink_change};
+ghost use Rattle.ax_view.specs.Placing.{IsPlaced};
+ghost use Rattle.ax_view.specs.Shown.{record_entries};
+
+use crate::laying::LONGEST;
+use crate::lost::LostKey;
+use crate::telling::tell_keys;
+use ax_migrate::{Loss, loss_line};
+use ax_outside::{Sink, SinkFailed, write_text};
+use ax_tables::Codec;
+use ax_view::{Notes, PlacedSlots, Places, RecordView, place_record};
+
+/// Writes the lines of the keys that the record of that number loses: as one piece where they can be kept, and else those of
+/// one half of the keys after those of the other. At `SinkFailed` a prefix was added, and the report counted a fault.
+fn write_keys<R: Sink>(
+    report: &mut R,
+    block: u64,
+    number: u32,
+    whole: &PlacedSlots<'_, '_, '_>,
+    keys: &[LostKey<'_>],
+    lines: &mut [u8],
+) -> Result<(), SinkFailed>
+    requires placed { IsPlaced whole.now }
+    requires runs { AreRuns keys.now }
+    requires room { length lines.old ≡ 131067 }
+    ensures written { Wrote (sink_change R.Sink report.old report.new) result (lost_lines block (losses_below number 0 (marked (whole_entries whole.now)) keys.now)) }
+    ensures room { length lines.new ≡ 131067 }
+{
+    let told = tell_keys(whole, keys, 0, block, number, 0, lines);
+    if told <= LONGEST {
+        return write_text(report, &lines[..told as usize]);
+    }
+    if keys.len() == 1 {
+        let key = &keys[0];
+        let path = key.path;
+        let loss = Loss {
+            record_at: number,
+            path: &path.text,
+        };
+        return loss_line(report, block, &loss);
+    }
+    let (front, later) = keys.split_at(keys.len() / 2);
+    write_keys(report, block, number, whole, front, lines)?;
+    write_keys(report, block, number, whole, later, lines)
+}
+
+/// Writes the lines of what the record of that number loses, after one walk over it. At `SinkFailed` a prefix was added, and the
+/// report counted a fault.
+pub(crate) fn write_record<R: Sink>(
+    report: &mut R,
+    block: u64,
+    number: u32,
+    codec: &Codec,
+    one: &RecordView<'_, '_>,
+    lost: &[LostKey<'_>],
+    lines: &mut [u8],
+) -> Result<(), SinkFailed>
+    requires codec { one.now.codec.now ≡ codec.now }
+    requires runs { AreRuns lost.now }
+    requires room { length lines.old ≡ 131067 }
+    ensures written { Wrote (sink_change R.Sink report.old report.new) result (lost_lines block (record_losses number (record_entries one.now) (key_paths lost.now))) }
+    ensures room { length lines.new ≡ 131067 }
+{
+    let body = one.octets();
+    let mut places = Places::new();
+    let mut notes = Notes::new();
+    if place_record(codec, body, 0, &mut notes, &mut places).is_none() {
+        // The octets of a view's record spell one.
+        unreachable!();
+    }
+    let whole = PlacedSlots {
+        codec,
+        slots: codec.slots.as_slice(),
+        body,
+        at: 0,
+        places: &places,
+    };
+    write_keys(report, block, number, &whole, lost, lines)
+}

@@ -9,6 +9,7 @@ pub mod Whole
 pub mod Leads
 pub mod Resolved
 pub mod Truth
+pub mod PlacedRecords
 pub mod PlaceValues
 pub mod TestLists
 pub mod Signs

@@ -16,5 +16,7 @@ pub struct Filter<'c> {
     pub(crate) expr: Expr,
     pub(crate) catalogue: &'c Catalogue,
     pub(crate) test: Test,
+    /// How many tests ask what stands at a place; counted up to 2^32 - 1.
+    pub(crate) asking: u32,
     ghost same: { (category : ℕ) (r : EntriesTree) → passes category r (test_tree test) ≡ holds (catalogue_tree catalogue.now) category r (expr_tree expr) },
 }

@@ -1,6 +1,7 @@
 //! Filters: expressions over paths, and the records that they hold of.
 #![tactic(auto)]
 
+mod asking;
 mod comparing;
 mod error;
 pub mod examples;

@@ -11,6 +11,7 @@ use crate::test::{Element, Test, Tests};
 use ax_model::Place;
 
 fn stands<R: HasPlaces>(place: &Option<Place>, one: &R) -> bool
+    requires { R.sound one.now }
     ensures { result ≡ some_passes (is_present (R.entries one.now)) place.now }
 {
     match place {
@@ -21,6 +22,7 @@ fn stands<R: HasPlaces>(place: &Option<Place>, one: &R) -> bool
 
 /// Whether the element's number compares so with the other one. It doesn't where it is absent.
 fn measures<R: HasPlaces>(element: &Option<Element>, op: Op, other: i128, one: &R) -> bool
+    requires { R.sound one.now }
     ensures { result ≡ some_passes (λ n. compares op n other) (option_and_then (number_for (R.entries one.now)) element.now) }
 {
     let Some(element) = element else {
@@ -36,6 +38,7 @@ fn measures<R: HasPlaces>(element: &Option<Element>, op: Op, other: i128, one: &
 #[cycle(pass)]
 #[tactic(auto, using(crate::proofs::TestLists::alls))]
 fn all_pass<R: HasPlaces>(tests: &Tests, category: u8, one: &R) -> bool
+    requires { R.sound one.now }
     ensures { result ≡ all_pass category (R.entries one.now) (tests_of (map test_tree tests.now)) }
 {
     for test in tests.as_slice() {
@@ -50,6 +53,7 @@ fn all_pass<R: HasPlaces>(tests: &Tests, category: u8, one: &R) -> bool
 #[cycle(pass)]
 #[tactic(auto, using(crate::proofs::TestLists::anys))]
 fn any_passes<R: HasPlaces>(tests: &Tests, category: u8, one: &R) -> bool
+    requires { R.sound one.now }
     ensures { result ≡ any_passes category (R.entries one.now) (tests_of (map test_tree tests.now)) }
 {
     for test in tests.as_slice() {
@@ -64,6 +68,7 @@ fn any_passes<R: HasPlaces>(tests: &Tests, category: u8, one: &R) -> bool
 #[cycle(pass)]
 #[tactic(auto, using(crate::proofs::Trees::passing))]
 pub fn passes<R: HasPlaces>(test: &Test, category: u8, one: &R) -> bool
+    requires { R.sound one.now }
     ensures { result ≡ passes category (R.entries one.now) (test_tree test.now) }
 {
     match test {

@@ -3,28 +3,36 @@ ghost use Rattle.std.specs.Prelude.{◌≡◌};
 ghost use Rattle.ax_model.specs.At.{is_present, At};
 ghost use Rattle.ax_model.specs.Plain.{record_tree};
 ghost use Rattle.ax_model.specs.Tree.{EntriesTree};
+ghost use Rattle.ax_view.specs.Placing.{IsPlaced, placed_entries};
 ghost use Rattle.ax_view.specs.Shown.{record_entries};
 
 use crate::standing;
 use ax_model::{Place, Record};
-use ax_view::RecordView;
+use ax_view::{PlacedSlots, RecordView};
 
 /// A record, as far as a filter asks for it. Nothing here takes memory.
 pub trait HasPlaces {
     // The record's entries.
     ghost entries: { Self → EntriesTree };
 
+    // What has to hold for it to be asked.
+    ghost sound: { Self → Type 0 };
+
     /// Whether something stands at the place.
     fn has(&self, place: &Place) -> bool
+        requires { sound self.now }
         ensures { result ≡ is_present (entries self.now) place.now };
 
     /// The number that stands at the place, if it is one.
     fn number_at(&self, place: &Place) -> Option<u128>
+        requires { sound self.now }
         ensures { result ≡ At (entries self.now) place.now };
 }
 
 impl HasPlaces for Record {
     ghost entries = { λ one. record_tree one };
+
+    ghost sound = { λ one. Unit {0} };
 
     fn has(&self, place: &Place) -> bool {
         standing::is_present(self, place)
@@ -38,8 +46,24 @@ impl HasPlaces for Record {
 impl HasPlaces for RecordView<'_, '_> {
     ghost entries = { λ one. record_entries one };
 
+    ghost sound = { λ one. Unit {0} };
+
     fn has(&self, place: &Place) -> bool {
         self.present(place)
+    }
+
+    fn number_at(&self, place: &Place) -> Option<u128> {
+        self.number(place)
+    }
+}
+
+impl HasPlaces for PlacedSlots<'_, '_, '_> {
+    ghost entries = { λ one. placed_entries one };
+
+    ghost sound = { λ one. IsPlaced one };
+
+    fn has(&self, place: &Place) -> bool {
+        PlacedSlots::present(self, place)
     }
 
     fn number_at(&self, place: &Place) -> Option<u128> {

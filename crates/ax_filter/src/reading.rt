@@ -7,6 +7,7 @@ ghost use Rattle.ax_filter.specs.Leading.{IsPathFault};
 ghost use Rattle.ax_filter.specs.declared.error.FilterError.TheVariants as Fault;
 ghost use Rattle.ax_filter.specs.OfCode.{expression, catalogue_of, IsFilterOf};
 
+use crate::asking::asking;
 use crate::error::FilterError;
 use crate::expr::Expr;
 use crate::faults::{PathFault, first_fault};
@@ -47,10 +48,12 @@ fn filter_of<'c>(
     ensures memory { IfErr result (λ e. e ≡ Fault.OutOfMemory) }
 {
     let test = resolve(alloc, catalogue, &expr)?;
+    let asking = asking(&test);
     Ok(Filter {
         expr,
         catalogue,
         test,
+        asking,
     })
 }
 

@@ -37,12 +37,12 @@ record_once spec r q b s t = first_same r q (body_once spec b (r ∷ []) (q ∷ 
     alone : (r : EntriesTree) → SpellsRecord spec r b → SpellsBody spec (r ∷ []) b
     alone r s = record { some = omega arith; spelled = (b, [], sym (append-nil b), s, refl) }
 
-module _ (call : RecordView → Bool → Type 0) (catalogue : List SpecTree) (e : ExprTree) (codec : Codec) (holds_of : (view : RecordView) (b : Bool) → call view b → b ≡ holds catalogue codec.category (record_entries view) e) (spec : SpecTree) (clean : NoFlaw spec) (stands : StandsFor codec spec) where
+module _ (call : RecordView → Bool → Type 0) (catalogue : List SpecTree) (e : ExprTree) (codec : Codec) (holds_of : (view : RecordView) (b : Bool) → view.codec.now ≡ codec → call view b → b ≡ holds catalogue codec.category (record_entries view) e) (spec : SpecTree) (clean : NoFlaw spec) (stands : StandsFor codec spec) where
   says_holds : (r : EntriesTree) (b : Bool) → Says call codec spec r b → holds catalogue spec.category r e ≡ b
   says_holds r b y =
       let own = (record_spelled y.view.codec.now y.view.body.now y.view.record_octets).spells spec clean (subst (λ c. StandsFor c spec) (sym y.same) stands) in
       let same : r ≡ record_entries y.view = record_once spec r (record_entries y.view) (bits y.view.body.now) y.spells own in
-      (λ i. holds catalogue (sym stands.category i) (same i) e) ∙ sym (holds_of y.view b y.says)
+      (λ i. holds catalogue (sym stands.category i) (same i) e) ∙ sym (holds_of y.view b y.same y.says)
 
   matches : (rs ks : List EntriesTree) → Keeps (Says call codec spec) rs ks → ks ≡ matching catalogue spec.category e rs
   matches [] ks h = h
@@ -58,7 +58,7 @@ octets_kept spec (r ∷ kept) = refl
 appended_front : (old new : Out) (n : ℕ) (xs : List ℕ) → written old ≡ [] → Appends old new (bits xs) → n ≡ length xs → take (8 * n) (bits new.buffer.now) ≡ bits xs
 appended_front old new n xs none a e = ap (λ n. take (8 * n) (bits new.buffer.now)) e ∙ front_laid old new xs none a
 
-matching_begins : (call : RecordView → Bool → Type 0) (catalogue : List SpecTree) (e : ExprTree) (codec : Codec) (body : List ℕ) (n : ℕ) (old new : Out) → ((view : RecordView) (b : Bool) → call view b → b ≡ holds catalogue codec.category (record_entries view) e)
+matching_begins : (call : RecordView → Bool → Type 0) (catalogue : List SpecTree) (e : ExprTree) (codec : Codec) (body : List ℕ) (n : ℕ) (old new : Out) → ((view : RecordView) (b : Bool) → view.codec.now ≡ codec → call view b → b ≡ holds catalogue codec.category (record_entries view) e)
     → written old ≡ [] → room old ≡ 8 * 65535 → IsCanonicalIf call codec body n old new → LaysMatchingBits catalogue e codec body n (bits new.buffer.now)
 matching_begins call catalogue e codec body n old new holds_of none all h = record {
   begins = λ spec records clean stands spells. (
@@ -73,7 +73,7 @@ matching_begins call catalogue e codec body n old new holds_of none all h = reco
 
 -- what a call answers is taken last, so that it is known which calls these are
 pub matching_scanned : (call : RecordView → Bool → Type 0) (catalogue : List SpecTree) (e : ExprTree) (codec : Codec) (body : List ℕ) (result : Result ℕ BodyFault) (old new : Out) → written old ≡ [] → room old ≡ 8 * 65535 → IfOk result (λ n. IsCanonicalIf call codec body n old new)
-    → ((view : RecordView) (b : Bool) → call view b → b ≡ holds catalogue codec.category (record_entries view) e) → IfOk result (λ n. LaysMatchingBits catalogue e codec body n (bits new.buffer.now))
+    → ((view : RecordView) (b : Bool) → view.codec.now ≡ codec → call view b → b ≡ holds catalogue codec.category (record_entries view) e) → IfOk result (λ n. LaysMatchingBits catalogue e codec body n (bits new.buffer.now))
 matching_scanned call catalogue e codec body (Ok n) old new none all h holds_of = matching_begins call catalogue e codec body n old new holds_of none all h
 matching_scanned call catalogue e codec body (Err fault) old new none all h holds_of = tt
 

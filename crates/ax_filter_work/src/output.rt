@@ -49,7 +49,7 @@ fn lay_matching_bits(
     ensures fault { IfErr result (λ fault. FailsThere codec.now body.now fault) }
     ensures room { length output.new ≡ longest_block }
 {
-    let matches = |one: &RecordView<'_, '_>| filter.holds(category, one);
+    let matches = |one: &RecordView<'_, '_>| filter.holds_under(category, codec, one);
     let mut out = Out::over(output);
     scan_if(codec, body, matches, &mut out)
 }

@@ -101,6 +101,17 @@ fn matching_views(filter: &Filter<'_>, category: u8, view: &BlockView<'_, '_>) -
     count
 }
 
+/// The same, each record asked under its codec.
+fn matching_under(filter: &Filter<'_>, category: u8, view: &BlockView<'_, '_>) -> usize {
+    let mut count: usize = 0;
+    for one in view.records() {
+        if filter.holds_under(category, view.codec(), &one) {
+            count = count.saturating_add(1);
+        }
+    }
+    count
+}
+
 /// How many records of a block the filter holds of, as trees.
 fn matching(
     rt: &impl Abort,
@@ -141,7 +152,7 @@ fn kept(
 }
 
 /// The canonical block of the records that the filter holds of, in hexadecimal; no octets where it holds of none. Trees and
-/// views agree on how many these are.
+/// views, under their codec too, agree on how many these are.
 fn filtered(
     rt: &impl Abort,
     alloc: Global,
@@ -155,6 +166,7 @@ fn filtered(
     let view = scan(&codec, raw.body).expect(rt, "records");
     let as_trees = matching(rt, alloc, file, filter, raw);
     assert_eq!(rt; matching_views(filter, raw.category, &view), as_trees);
+    assert_eq!(rt; matching_under(filter, raw.category, &view), as_trees);
     kept(rt, alloc, filter, raw.category, &view)
 }
 

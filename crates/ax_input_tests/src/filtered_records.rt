@@ -61,6 +61,35 @@ const KEPT: [(&str, &str, &str); 24] = [
     ),
 ];
 
+// The same of expressions with more than a few tests, each on an item of another kind.
+const OF_MANY: [(&str, &str, &str); 5] = [
+    (
+        "all { is 048/010/SAC = 25 is 048/010/SIC = 12 present 048/010 not { present 048/020 } not { is 048/090/FL < 0 } }",
+        "30 00 0C 80 19 0C 80 1A 0C 80 19 0D",
+        "30 00 06 80 19 0C",
+    ),
+    (
+        "any { is 048/020/TST = 1 present 048/130/SRL present 034/010 is 048/010/SAC = 25 is 048/090/FL < 0 }",
+        ONE_PART,
+        "",
+    ),
+    (
+        "any { is 048/020/TST = 1 present 048/130/SRL present 034/010 is 048/010/SAC = 25 is 048/090/FL < 0 }",
+        TWO_PARTS,
+        TWO_PARTS,
+    ),
+    (
+        "all { present 048/130 not { present 048/130/SRL } present 048/130/SRR is 048/130/SRR = 5 not { present 048/010 } }",
+        SRR,
+        SRR,
+    ),
+    (
+        "any { present 048/010 present 048/020 present 048/130 present 034/010 is 048/090/FL < 0 }",
+        "30 00 08 0C 0E 00 3F FF",
+        "30 00 08 0C 0E 00 3F FF",
+    ),
+];
+
 fn each_keeps(rt: &impl Abort, alloc: Global, files: &Catalogue, rows: &[(&str, &str, &str)]) {
     for &(text, block, want) in rows {
         keeps(rt, alloc, files, text, block, want);
@@ -71,6 +100,7 @@ fn each_keeps(rt: &impl Abort, alloc: Global, files: &Catalogue, rows: &[(&str, 
 fn records_are_kept(rt: HostRuntime) {
     let files = catalogue(&rt, rt.alloc(), CAT034_P1, CAT048_P1);
     each_keeps(&rt, rt.alloc(), &files, &KEPT);
+    each_keeps(&rt, rt.alloc(), &files, &OF_MANY);
 }
 
 // Elements of the greatest width, without a sign and with one.

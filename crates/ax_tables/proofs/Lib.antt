@@ -3,3 +3,4 @@ pub mod Compiling
 pub mod Growing
 pub mod BareKinds
 pub mod Tables
+pub mod Places

@@ -3,6 +3,7 @@ ghost use Rattle.std.specs.Prelude.{◌≡◌, ◌++◌, length, map, nat_eq, ta
 ghost use Rattle.std.specs.List.{IsDistinct, IsDistinct-prop};
 ghost use Rattle.std.specs.Option.{option_copied};
 ghost use Rattle.ax_model.specs.Plain.{catalogue_tree};
+ghost use Rattle.ax_tables.specs.Places.{place_from, ArePlaces, ArePlaces-prop};
 ghost use Rattle.ax_tables.specs.Standing.{StandForEach, codec_of};
 
 use crate::build::compile;
@@ -14,11 +15,41 @@ use std::alloc::{AllocError, Global};
 /// Codecs, in order.
 pub type CodecList = Sequence<Codec>;
 
-/// Codecs of categories that differ from each other.
+/// The categories: 0 to 255.
+const CATEGORIES: u32 = 256;
+
+/// The place of the first codec of a category, from 1; 0 where there is none.
+fn place_of(codecs: &CodecList, category: u32) -> u32
+    ensures { result ≡ place_from 1 category codecs.now }
+{
+    let list = codecs.as_slice();
+    for index in 0..codecs.count() {
+        if list[index as usize].category as u32 == category {
+            return index + 1;
+        }
+    }
+    0
+}
+
+/// The places of the codecs of all categories.
+fn places_of(alloc: Global, codecs: &CodecList) -> Result<Vec<u32>, AllocError>
+    ensures { IfOk result (λ made. ArePlaces codecs.now 256 made.items) }
+{
+    let mut places = Vec::new(alloc);
+    for category in 0..CATEGORIES {
+        places.push(place_of(codecs, category))?;
+    }
+    Ok(places)
+}
+
+/// Codecs of categories that differ from each other, each found by its category without a search.
 #[derive(Drop)]
 pub struct Codecs {
     pub codecs: CodecList,
+    /// By category: the place of its codec, from 1; 0 where there is none.
+    places: Vec<u32>,
     ghost apart: { IsDistinct nat_eq (map (λ codec. codec.category) codecs) } by { IsDistinct-prop nat_eq (map (λ codec. codec.category) codecs) },
+    ghost placed: { ArePlaces codecs 256 places.items } by { ArePlaces-prop codecs 256 places.items },
 }
 
 impl Codecs {
@@ -32,16 +63,18 @@ impl Codecs {
                 codecs.push(compile(alloc, accepted)?)?;
             }
         }
-        Ok(Codecs { codecs })
+        let places = places_of(alloc, &codecs)?;
+        Ok(Codecs { codecs, places })
     }
 
     /// The codec of that category. None comes exactly where there is none.
     pub fn get(&self, category: u8) -> Option<&Codec>
         ensures { option_copied result ≡ codec_of category self.now.codecs }
     {
-        self.codecs
-            .as_slice()
-            .iter()
-            .find(|codec| codec.category == category)
+        let place = self.places[category as usize];
+        if place == 0 {
+            return None;
+        }
+        self.codecs.get(place - 1)
     }
 }

@@ -1,2 +1,3 @@
 pub mod Categories
 pub mod Found
+pub mod Places

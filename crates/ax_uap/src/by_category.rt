@@ -1,5 +1,5 @@
 //! What is held of each specification of a catalogue, by category.
-ghost use Rattle.std.specs.Prelude.{◌≡◌, ◌∷◌, ◌++◌, [], ◌==◌, find, option_map, slice_get, IfSome, OnOk};
+ghost use Rattle.std.specs.Prelude.{◌≡◌, ◌∷◌, ◌++◌, [], option_map, replicate, slice_get, IfSome, OnOk};
 ghost use Rattle.std.specs.Option.{option_copied};
 ghost use Rattle.ax_model.specs.OfCode.{HasNoFlaw};
 ghost use Rattle.ax_model.specs.Plain.{spec_tree, catalogue_tree};
@@ -29,10 +29,13 @@ impl<'s> OfSpec for UapItems<'s> {
     }
 }
 
-/// What is held of specifications without flaw, one after another. Contracts see it as the list of the specifications.
+/// What is held of specifications without flaw, one after another. Contracts see it as the list of the specifications; the
+/// place of each category's stands beside it, so that it is found without a search.
 #[derive(Drop)]
 pub struct ByCategory<T: OfSpec> {
     each: Vec<T>,
+    /// By category: the place of what is held of its first specification, from 1; 0 where there is none.
+    places: [usize; 256],
 }
 
 /// The items of the UAPs of specifications: of each specification they are looked up once, when this is made.
@@ -45,6 +48,7 @@ impl<T: OfSpec> Model for ByCategory<T> {
     ghost use Rattle.ax_model.specs.OfCode.{HasNoFlaw};
     ghost use Rattle.ax_model.specs.contracts.spec.Spec as row;
     ghost use Rattle.ax_model.specs.declared.spec.Spec.{Spec};
+    ghost use Rattle.ax_uap.specs.Categories.{ArePlaces};
 
     ghost Value = { List Spec };
 
@@ -52,14 +56,21 @@ impl<T: OfSpec> Model for ByCategory<T> {
 
     ghost view = { λ c. map (λ one. T.of one) c.each.items };
 
-    ghost invariant = { λ c. AllByRecursion HasNoFlaw (map (λ one. T.of one) c.each.items) };
+    ghost invariant = { λ c. AllByRecursion HasNoFlaw (map (λ one. T.of one) c.each.items) × ArePlaces (map (λ one. T.of one) c.each.items) 256 c.places };
 }
 
-/// The first of them whose specification has the category.
-fn of_category<T: OfSpec>(each: &[T], category: u8) -> Option<&T>
-    ensures { option_copied result ≡ find (λ one. (T.of one).category == category) each.now }
+/// No category has a place.
+fn no_places() -> [usize; 256]
+    ensures { result ≡ replicate 256 0 }
 {
-    each.iter().find(|one| one.spec().category == category)
+    [0; 256]
+}
+
+/// What is held at that index, from 0. None comes exactly past the end.
+fn held_at<T: OfSpec>(each: &[T], index: usize) -> Option<&T>
+    ensures { option_copied result ≡ slice_get each.now index }
+{
+    each.get(index)
 }
 
 impl<T: OfSpec> ByCategory<T> {
@@ -69,6 +80,7 @@ impl<T: OfSpec> ByCategory<T> {
     {
         ByCategory {
             each: Vec::new(alloc),
+            places: no_places(),
         }
     }
 
@@ -78,7 +90,11 @@ impl<T: OfSpec> ByCategory<T> {
         requires { HasNoFlaw (T.of one) }
         ensures { OnOk result (self.new ≡ self.old ++ T.of one ∷ []) }
     {
+        let category = one.spec().category as usize;
         self.each.push(one)?;
+        if self.places[category] == 0 {
+            self.places[category] = self.each.len();
+        }
         Ok(())
     }
 
@@ -87,7 +103,11 @@ impl<T: OfSpec> ByCategory<T> {
         ensures spec { option_map (λ one. spec_tree (T.of one)) (option_copied result) ≡ spec_of category (catalogue_tree self.now) }
         ensures no_flaw { IfSome result (λ one. HasNoFlaw (T.of one.now)) }
     {
-        of_category(&self.each, category)
+        let place = self.places[category as usize];
+        if place == 0 {
+            return None;
+        }
+        held_at(&self.each, place - 1)
     }
 
     /// The first specification. None comes exactly where there is none.

@@ -1,12 +1,16 @@
-//! What stands in a slot, by the place that is known.
-ghost use Rattle.std.specs.Prelude.{◌≡◌, is_some, option_map, IfSome};
-ghost use Rattle.ax_model.specs.At.{slot_value};
+//! What stands in a slot and below it, by the place that is known.
+ghost use Rattle.std.specs.Prelude.{◌≡◌, ◌∷◌, is_some, option_map, IfSome};
+ghost use Rattle.ax_model.specs.At.{slot_value, value_at, is_present, At};
+ghost use Rattle.ax_model.specs.Tree.{marked};
 ghost use Rattle.ax_view.specs.Placing.{HoldsValue, IsPlaced, placed_entries, window_value};
 ghost use Rattle.ax_view.specs.Shown.{item_value, IsOfSlot};
+ghost use Rattle.ax_view.specs.Spots.{IsSpot};
 
 use crate::item::ItemView;
 use crate::places::{FoundItem, PlacedSlots, Window};
+use crate::spot::{Spot, fixed_number, spot_of};
 use ax_fspec::Presence;
+use ax_model::Place;
 
 impl<'v, 'c, 'a> PlacedSlots<'v, 'c, 'a> {
     /// The marked slots.
@@ -60,5 +64,39 @@ impl<'v, 'c, 'a> PlacedSlots<'v, 'c, 'a> {
             item,
             least: window.least,
         })
+    }
+
+    /// What stands at a place of the record.
+    fn spot(&self, place: &Place) -> Spot<'a>
+        requires placed { IsPlaced self.now }
+        ensures { IsSpot self.now.codec.now.nodes result (value_at (place.now.frn ∷ place.now.steps) (marked (placed_entries self.now))) }
+    {
+        match self.item(place.frn) {
+            Some(found) => spot_of(&found.item, place.steps.as_slice()),
+            None => Spot::Missing,
+        }
+    }
+
+    /// Whether something stands at a place of the record: its item is marked, and within it each slot and part that the
+    /// steps lead through is there. The items before aren't walked over.
+    pub fn present(&self, place: &Place) -> bool
+        requires placed { IsPlaced self.now }
+        ensures { result ≡ is_present (placed_entries self.now) place.now }
+    {
+        !matches!(self.spot(place), Spot::Missing)
+    }
+
+    /// The number at a place of the record, without a walk over the items before. None comes exactly where none stands
+    /// there: the place of an element isn't present.
+    pub fn number(&self, place: &Place) -> Option<u128>
+        requires placed { IsPlaced self.now }
+        ensures { result ≡ At (placed_entries self.now) place.now }
+    {
+        match self.spot(place) {
+            Spot::Fixed { link, bit, octets } => {
+                fixed_number(self.codec.nodes.as_slice(), link, bit, octets)
+            }
+            _ => None,
+        }
     }
 }

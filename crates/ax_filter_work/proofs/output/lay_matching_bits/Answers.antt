@@ -12,5 +12,5 @@ pub returns-clause-laid : goal.returns-clause-laid
 returns-clause-laid c =
     let f : IfOk c.scan_if.result (λ count. LaysMatchingBits (catalogue_of c.args.filter.now) (expression c.args.filter.now) c.args.codec.now c.args.body.now count (bits c.scan_if.new.out.buffer.now)) =
     matching_scanned _ (catalogue_of c.args.filter.now) (expression c.args.filter.now) c.args.codec.now c.args.body.now c.scan_if.result c.over-out.result c.scan_if.new.out c.over-out.ensures.written (omega (arith, c.over-out.ensures.room, c.requires.room)) c.scan_if.ensures.kept
-    (λ view b k. (let is : b ≡ holds (catalogue_of c.args.filter.now) c.args.category (record_entries view) (expression c.args.filter.now) = search rules in is ∙ ap (λ n. holds (catalogue_of c.args.filter.now) n (record_entries view) (expression c.args.filter.now)) (sym c.requires.category))) in
+    (λ view b same k. (let said : view.codec.now ≡ c.args.codec.now → b ≡ holds (catalogue_of c.args.filter.now) c.args.category (record_entries view) (expression c.args.filter.now) = search rules in said same ∙ ap (λ n. holds (catalogue_of c.args.filter.now) n (record_entries view) (expression c.args.filter.now)) (sym c.requires.category))) in
     let l : loan c.scan_if.new.out ≡ loan c.over-out.result = c.scan_if.ensures.same_loan in search rules

@@ -25,4 +25,7 @@ invariant_of-result c =
     let all = c.args.catalogue.now in
     let i : ℕ = c.loop-index.index in
     let whole : take i all ≡ all = take_all i all (omega (arith, c.loop-index-test.false, c.count-index-end.ensures.number)) in
-    record { apart = apart c.loop-index.codecs all (subst (λ specs. StandForEach c.loop-index.codecs (catalogue_tree specs)) whole c.loop-index.invariant.stand) c.count-index-end.ensures.apart }
+    record {
+      apart = apart c.loop-index.codecs all (subst (λ specs. StandForEach c.loop-index.codecs (catalogue_tree specs)) whole c.loop-index.invariant.stand) c.count-index-end.ensures.apart;
+      placed = c.in_ok-places.ensures;
+    }

@@ -1,3 +1,4 @@
+mod TableRemarks
 mod Members
 mod Leading
 mod UnitLines

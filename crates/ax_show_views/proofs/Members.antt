@@ -1,15 +1,15 @@
 -- Fixed kinds that are shown from their bits.
-use Rattle.std.proofs.Common.{◌≡◌, ℕ, ◌+◌, ◌<◌, ◌≤◌, ◌^◌, List, ◌++◌, length, take, drop, get_or, refl, sym, ◌∙◌, ap, subst, arith}
+use Rattle.std.proofs.Common.{◌≡◌, ℕ, ◌+◌, ◌<◌, ◌≤◌, ◌^◌, List, ◌++◌, length, take, drop, drop-cons, get_or, suc, ◌∷◌, refl, sym, ◌∙◌, ap, subst, arith, add-one}
 use Rattle.std.proofs.lemmas.List.{drop-drop, drop_all}
 use Rattle.ax_bits.proofs.Pieces.{number-word}
 use Rattle.ax_bits.specs.Bits.{number_of, word}
 use Rattle.ax_model.specs.InBounds.{MembersInBounds}
-use Rattle.ax_model.specs.Plain.{member_tree, members_tree}
+use Rattle.ax_held_kinds.specs.Held.{held_member, held_members}
 use Rattle.ax_model.specs.Reader.{members_value}
 use Rattle.ax_model.specs.Tree.{MembersTree, member_and, MemberTree, named, spare}
 use Rattle.ax_model.specs.Widths.{width, members_width}
 use Rattle.ax_model.specs.declared.content.Content.{Content}
-use Rattle.ax_model.specs.declared.kind.Member.{Member}
+use Rattle.ax_held_kinds.specs.declared.kinds.HeldMember.{HeldMember}
 use Rattle.ax_text.proofs.Printed.{Leaves, leaves_all, leaves_fewer, leaves_none}
 use Rattle.ax_text.specs.Listable.{MemberListable, MembersListable}
 use Rattle.ax_text.specs.Printing.{as_lines, Puts}
@@ -17,7 +17,6 @@ use Rattle.ax_text.specs.Remarks.{remark}
 use Rattle.ax_text.specs.ShowText.{number_line, member_lines, members_lines}
 use Rattle.ax_text.specs.ValueText.{one_onto}
 use Rattle.ax_show_views.specs.Shown.{member_width, member_value, MemberInBounds}
-use Rattle.ax_values.proofs.FixedRead.{members_from}
 
 pub number_is : (b : List ℕ) (at w n : ℕ) → n < 2 ^ w → word w n ≡ take w (drop at b) → n ≡ number_of (take w (drop at b))
 number_is b at w n lt e = sym (number-word w n lt) ∙ ap number_of e
@@ -69,30 +68,34 @@ tree_next all (spare w) ms b start at after path old now new h p e = record {
       (members_lines ms path (members_value ms (drop after b))) old now new h.lines (λ rest. ap (λ c. member_lines (spare w) path (member_value (spare w) (drop at b)) (members_lines ms path (members_value ms c) rest)) (on b at w after e)) p;
 }
 
-module _ (whole : MembersTree) (all : List Member) (i : ℕ) (m : Member) (b : List ℕ) (start at : ℕ) (path old now : List ℕ) (h : MembersShown whole (members_tree (drop i all)) b start at path old now) (within : i < length all) (e : m ≡ get_or all i m) where
-  member_here : MembersShown whole (member_and (member_tree m) (members_tree (drop (i + 1) all))) b start at path old now
+members_from : (all : List HeldMember) (i : ℕ) (m : HeldMember) → i < length all → m ≡ get_or all i m → held_members (drop i all) ≡ member_and (held_member m) (held_members (drop (i + 1) all))
+members_from all i m within e =
+    ap held_members (drop-cons all i m within ∙ ap (λ x. x ∷ drop (suc i) all) (sym e)) ∙ ap (λ n. member_and (held_member m) (held_members (drop n all))) (sym (add-one i))
+
+module _ (whole : MembersTree) (all : List HeldMember) (i : ℕ) (m : HeldMember) (b : List ℕ) (start at : ℕ) (path old now : List ℕ) (h : MembersShown whole (held_members (drop i all)) b start at path old now) (within : i < length all) (e : m ≡ get_or all i m) where
+  member_here : MembersShown whole (member_and (held_member m) (held_members (drop (i + 1) all))) b start at path old now
   member_here = subst (λ left. MembersShown whole left b start at path old now) (members_from all i m within e) h
 
-  pub member_bounds : MemberInBounds (member_tree m)
-  member_bounds = first_bounds (member_tree m) (members_tree (drop (i + 1) all)) member_here.bounds
+  pub member_bounds : MemberInBounds (held_member m)
+  member_bounds = first_bounds (held_member m) (held_members (drop (i + 1) all)) member_here.bounds
 
-  pub member_listable : MemberListable (member_tree m)
+  pub member_listable : MemberListable (held_member m)
   member_listable = member_here.listable.0
 
-  pub member_within : at + member_width (member_tree m) ≤ start + members_width whole
-  member_within = let w = first_within (member_tree m) (members_tree (drop (i + 1) all)) in omega (arith, member_here.width, w)
+  pub member_within : at + member_width (held_member m) ≤ start + members_width whole
+  member_within = let w = first_within (held_member m) (held_members (drop (i + 1) all)) in omega (arith, member_here.width, w)
 
-  pub member_next : (after : ℕ) (new : List ℕ) → Puts as_lines (member_lines (member_tree m) path (member_value (member_tree m) (drop at b))) now new → after ≡ at + member_width (member_tree m)
-      → MembersShown whole (members_tree (drop (i + 1) all)) b start after path old new
-  member_next after new p f = tree_next whole (member_tree m) (members_tree (drop (i + 1) all)) b start at after path old now new member_here p f
+  pub member_next : (after : ℕ) (new : List ℕ) → Puts as_lines (member_lines (held_member m) path (member_value (held_member m) (drop at b))) now new → after ≡ at + member_width (held_member m)
+      → MembersShown whole (held_members (drop (i + 1) all)) b start after path old new
+  member_next after new p f = tree_next whole (held_member m) (held_members (drop (i + 1) all)) b start at after path old now new member_here p f
 
-module _ (whole : MembersTree) (all : List Member) (i : ℕ) (b : List ℕ) (start at : ℕ) (path old now : List ℕ) (h : MembersShown whole (members_tree (drop i all)) b start at path old now) (past : length all ≤ i) where
+module _ (whole : MembersTree) (all : List HeldMember) (i : ℕ) (b : List ℕ) (start at : ℕ) (path old now : List ℕ) (h : MembersShown whole (held_members (drop i all)) b start at path old now) (past : length all ≤ i) where
   pub members_lines_end : Puts as_lines (members_lines whole path (members_value whole (drop start b))) old now
   members_lines_end =
-      leaves_none (members_lines whole path (members_value whole (drop start b))) (members_lines (members_tree (drop i all)) path (members_value (members_tree (drop i all)) (drop at b))) old now h.lines
-      (λ rest. ap (λ ms. members_lines (members_tree ms) path (members_value (members_tree ms) (drop at b)) rest) (drop_all i all past))
+      leaves_none (members_lines whole path (members_value whole (drop start b))) (members_lines (held_members (drop i all)) path (members_value (held_members (drop i all)) (drop at b))) old now h.lines
+      (λ rest. ap (λ ms. members_lines (held_members ms) path (members_value (held_members ms) (drop at b)) rest) (drop_all i all past))
 
   pub members_end : at ≡ start + members_width whole
-  members_end = let w : members_width (members_tree (drop i all)) ≡ 0 = ap (λ left. members_width (members_tree left)) (drop_all i all past) in omega (arith, h.width)
+  members_end = let w : members_width (held_members (drop i all)) ≡ 0 = ap (λ left. members_width (held_members left)) (drop_all i all past) in omega (arith, h.width)
 
 pub ruleset members = (members_first, member_bounds, member_listable, member_within, members_lines_end, members_end)

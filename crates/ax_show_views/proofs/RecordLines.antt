@@ -1,6 +1,5 @@
 -- Records, and bodies of them.
-use Rattle.std.proofs.Common.{◌≡◌, ℕ, suc, ◌+◌, ◌-◌, ◌<◌, ◌≤◌, List, [], ◌∷◌, ◌++◌, length, take, drop, Some, None, codes, decimal, refl, sym, ◌∙◌, ap, arith, subst, length-append, take-append-drop, length-drop, take-add}
-use Rattle.std.specs.Option.{option_map}
+use Rattle.std.proofs.Common.{◌≡◌, ℕ, suc, ◌+◌, ◌-◌, ◌<◌, ◌≤◌, List, [], ◌∷◌, ◌++◌, length, take, drop, codes, decimal, refl, sym, ◌∙◌, ap, arith, subst, length-append, take-append-drop, length-drop, take-add}
 use Rattle.std.proofs.lemmas.List.{length-take-le, take_all}
 use Rattle.ax_bits.proofs.Words.{bits-append, length-bits}
 use Rattle.ax_bits.specs.Bits.{bits}
@@ -10,62 +9,25 @@ use Rattle.ax_model.proofs.Bounds.{record_bounds}
 use Rattle.ax_model.specs.Bodies.{RecordsSpell}
 use Rattle.ax_model.specs.Flaws.{NoFlaw}
 use Rattle.ax_model.specs.InBounds.{InBounds}
-use Rattle.ax_model.specs.Lookup.{item_of_frn}
 use Rattle.ax_model.specs.Paths.{three_digits, at}
-use Rattle.ax_model.specs.Plain.{spec_tree, item_tree, kind_tree}
-use Rattle.ax_model.specs.Specification.{SpecTree, slot_of_item, record_kind, record_slots}
-use Rattle.ax_model.specs.Tree.{EntriesTree, marked, subitem, slots_of}
-use Rattle.ax_model.specs.declared.spec.Item.{Item}
-use Rattle.ax_model.specs.declared.spec.Spec.{Spec}
+use Rattle.ax_model.specs.Specification.{SpecTree, record_kind, record_slots}
+use Rattle.ax_model.specs.Tree.{EntriesTree, marked}
 use Rattle.ax_reader.proofs.Continuing.{gets_after, fails_after}
 use Rattle.ax_reader.proofs.Exact.{spelled_at, fault_at}
 use Rattle.ax_reader.proofs.Marking.{field_read, marks_bits}
-use Rattle.ax_reader.specs.Reading.{FailsAt, IsMaskOf, SlotInBounds, record_slot_list, slot_of_frn, kind_read, entries_at}
-use Rattle.ax_text.proofs.ListedKinds.{slot_listable}
-use Rattle.ax_text.proofs.RecordWays as Ways
-use Rattle.ax_text.specs.Listable.{SlotListable, SlotsListable}
+use Rattle.ax_reader.specs.Reading.{FailsAt, IsMaskOf, record_slot_list, kind_read, entries_at}
 use Rattle.ax_text.specs.Printing.{as_lines, Puts}
-use Rattle.ax_text.specs.ShowText.{kind_lines, entries_lines, record_lines, records_lines}
-use Rattle.ax_text.specs.Slots.{slot_numbered}
+use Rattle.ax_text.specs.ShowText.{entries_lines, record_lines, records_lines}
 use Rattle.ax_text.specs.ValueText.{Texts, one_onto}
 use Rattle.ax_values.proofs.RecordSlots.{record_at, record_fault, one_more, forwards_record}
 use Rattle.ax_values.specs.Decoding.{IsRecordAt, IsBodyFault, IsFaultOf}
-use Rattle.ax_values.specs.SlotReading.{HasFailed, HasSlotFailed}
+use Rattle.ax_values.specs.SlotReading.{HasFailed}
 use Rattle.ax_values.specs.declared.error.DecodeError.{DecodeError}
 use Rattle.ax_values.specs.declared.error.DecodeError.TheVariants as Decoding
-use Rattle.ax_show_views.specs.Shown.{Shows, ShowsEntries, ShowsRecords, IsSlotShown}
+use Rattle.ax_show_views.specs.Shown.{ShowsEntries, ShowsRecords}
 use Rattle.ax_show_views.proofs.Leading.{Ending}
-use Rattle.ax_show_views.proofs.MarkedLines.{MarksShown, marks_clear, entries_lines_are, numbered_bounds, few_at_first}
-
--- ---- one item
-
-pub item_shown : (spec : Spec) (frn : ℕ) (item : Item) (path body : List ℕ) (here end : ℕ) (old new : List ℕ) → Some item ≡ item_of_frn frn spec.uap spec.items
-    → Shows (kind_lines (kind_tree item.kind) (at path item.name)) (kind_read (kind_tree item.kind) body here) body here end old new → IsSlotShown (slot_of_frn frn spec) path body here end old new
-item_shown spec frn item path body here end old new e h = subst (λ o. IsSlotShown (slot_of_item (option_map item_tree o)) path body here end old new) e (record { shows = h })
-
-pub no_item_shown : (spec : Spec) (frn : ℕ) (path body : List ℕ) (here : ℕ) (out : List ℕ) → None ≡ item_of_frn frn spec.uap spec.items → IsSlotShown (slot_of_frn frn spec) path body here here out out
-no_item_shown spec frn path body here out e = subst (λ o. IsSlotShown (slot_of_item (option_map item_tree o)) path body here here out out) e (record { shows = tt })
-
-pub item_failed : (spec : Spec) (frn : ℕ) (item : Item) (body : List ℕ) (here : ℕ) (d : DecodeError) → Some item ≡ item_of_frn frn spec.uap spec.items → HasFailed (kind_read (kind_tree item.kind) body here) here d → HasSlotFailed (slot_of_frn frn spec) body here d
-item_failed spec frn item body here d e h = subst (λ o. HasSlotFailed (slot_of_item (option_map item_tree o)) body here d) e (record { failed = h })
-
-pub item_bounds : (spec : Spec) (frn : ℕ) (item : Item) → Some item ≡ item_of_frn frn spec.uap spec.items → SlotInBounds (slot_of_frn frn spec) → InBounds (kind_tree item.kind)
-item_bounds spec frn item e h = subst (λ o. SlotInBounds (slot_of_item (option_map item_tree o))) (sym e) h
-
-pub item_listable : (spec : Spec) (frn : ℕ) (item : Item) → Some item ≡ item_of_frn frn spec.uap spec.items → SlotListable (slot_of_frn frn spec) → SlotListable (subitem item.name (kind_tree item.kind))
-item_listable spec frn item e h = subst (λ o. SlotListable (slot_of_item (option_map item_tree o))) (sym e) h
-
-pub ruleset item_ways = (item_shown, no_item_shown, item_failed, item_bounds, item_listable)
-
--- the slot of a field reference number
-pub slot_is : (spec : Spec) (frn : ℕ) → slot_numbered (slots_of (record_slot_list (spec_tree spec))) frn ≡ slot_of_frn frn spec
-slot_is spec frn = Ways.slot_of_frn spec frn
-
-pub frn_in_bounds : (spec : Spec) (frn : ℕ) → NoFlaw (spec_tree spec) → SlotInBounds (slot_of_frn frn spec)
-frn_in_bounds spec frn h = subst SlotInBounds (slot_is spec frn) (numbered_bounds (record_slots (spec_tree spec)) frn (record_bounds (spec_tree spec) h).2)
-
-pub frn_listable : (spec : Spec) (frn : ℕ) → SlotsListable (record_slots (spec_tree spec)) → SlotListable (slot_of_frn frn spec)
-frn_listable spec frn h = subst SlotListable (slot_is spec frn) (slot_listable (record_slots (spec_tree spec)) frn h)
+use Rattle.ax_held_kinds.proofs.MarkedSlots.{marks_clear}
+use Rattle.ax_show_views.proofs.MarkedLines.{MarksShown, entries_lines_are, few_at_first}
 
 -- ---- the items of a record
 

@@ -11,26 +11,26 @@ ghost use Rattle.ax_show_views.specs.Shown.{ShowsRecords};
 
 use crate::records::show_record;
 use ax_fspec::SlotMask;
+use ax_held_kinds::HeldItems;
 use ax_model::category_digits;
 use ax_text::Lister;
-use ax_uap::UapItems;
 use ax_values::DecodeError;
 
 /// Puts the lines of the records of a body on a listing, over the items of a specification without flaw and the mask of
 /// its UAP. Fault is the first fault of the body, by its bits; what was put on the listing before is then of no use.
 pub fn show_records(
     lister: &mut Lister,
-    items: &UapItems<'_>,
+    items: &HeldItems<'_>,
     mask: &SlotMask,
     body: &[u8],
 ) -> Result<(), DecodeError>
-    requires spec { NoFlaw (spec_tree items.now.spec.now) }
-    requires listable { SlotsListable (record_slots (spec_tree items.now.spec.now)) }
-    requires mask { IsMaskOf (record_slot_list (spec_tree items.now.spec.now)) mask.now }
+    requires spec { NoFlaw (spec_tree items.now) }
+    requires listable { SlotsListable (record_slots (spec_tree items.now)) }
+    requires mask { IsMaskOf (record_slot_list (spec_tree items.now)) mask.now }
     requires body { length body.now ≤ longest_body }
     requires some { 1 ≤ length body.now }
-    ensures ok { OnOk result (ShowsRecords (spec_tree items.now.spec.now) body.now lister.old.out lister.new.out) }
-    ensures err { IfErr result (IsFaultOf (IsBodyFault (spec_tree items.now.spec.now) body.now)) }
+    ensures ok { OnOk result (ShowsRecords (spec_tree items.now) body.now lister.old.out lister.new.out) }
+    ensures err { IfErr result (IsFaultOf (IsBodyFault (spec_tree items.now) body.now)) }
 {
     let mut path = lister.blank_path();
     path.set(&category_digits(items.spec().category));

@@ -3,7 +3,7 @@ ghost use Rattle.std.specs.Prelude.{◌≡◌, ◌+◌, ◌*◌, ◌/◌, ◌%�
 ghost use Rattle.ax_bits.specs.Bits.{bits, number_of};
 ghost use Rattle.ax_model.specs.InBounds.{IsWidth, FixedInBounds, MembersInBounds};
 ghost use Rattle.ax_model.specs.Paths as Paths;
-ghost use Rattle.ax_model.specs.Plain.{fixed_tree, member_tree, members_tree};
+ghost use Rattle.ax_held_kinds.specs.Held.{held_content, held_fixed, held_member, held_members};
 ghost use Rattle.ax_model.specs.Reader.{fixed_value, members_value};
 ghost use Rattle.ax_model.specs.Sizes.{longest_body};
 ghost use Rattle.ax_model.specs.Widths.{width, members_width};
@@ -14,10 +14,12 @@ ghost use Rattle.ax_text.specs.ValueText.{one_onto};
 ghost use Rattle.ax_show_views.specs.Shown.{element_line, member_width, member_value, MemberInBounds};
 ghost use Rattle.ax_show_views.specs.Stopped.{IsStopped};
 
+use crate::contents::{put_at, put_under};
 use crate::numbers::{number_at, wide_number_at};
 use crate::paths::set_named;
 use crate::stop::{FixedStop, pass};
-use ax_model::{Content, Fixed, Member, Members, Name};
+use ax_held_kinds::{HeldContent, HeldFixed, HeldMember, HeldMembers};
+use ax_model::Name;
 use ax_octets::Path;
 use ax_text::Lister;
 use std::alloc::AllocError;
@@ -29,16 +31,16 @@ fn show_element(
     lister: &mut Lister,
     name: &Name,
     width: u32,
-    content: &Content,
+    content: &HeldContent<'_>,
     body: &[u8],
     at: &mut u32,
     path: &Path,
 ) -> Result<(), FixedStop>
     requires width { IsWidth width }
-    requires content { ContentListable width content.now }
+    requires content { ContentListable width (held_content content.now) }
     requires place { at.old ≤ 8 * length body.now }
     requires body { length body.now ≤ longest_body }
-    ensures lines { OnOk result (Puts as_lines (one_onto (element_line width content.now (Paths.at path.now name.now) (number_of (take width (drop at.old (bits body.now)))))) lister.old.out lister.new.out) }
+    ensures lines { OnOk result (Puts as_lines (one_onto (element_line width (held_content content.now) (Paths.at path.now name.now) (number_of (take width (drop at.old (bits body.now)))))) lister.old.out lister.new.out) }
     ensures at { OnOk result (at.new ≡ at.old + width) }
     ensures within { OnOk result (at.new ≤ 8 * length body.now) }
     ensures stop { IfErr result (IsStopped body.now at.old width) }
@@ -48,7 +50,8 @@ fn show_element(
         show_wide_element(lister, name, width, content, body, here, path)?;
         return Ok(());
     }
-    lister.element_under(number_at(body, here, width), width, content, path, name)?;
+    let number = number_at(body, here, width);
+    put_under(lister, number, width, content, path, name)?;
     Ok(())
 }
 
@@ -59,19 +62,20 @@ fn show_wide_element(
     lister: &mut Lister,
     name: &Name,
     width: u32,
-    content: &Content,
+    content: &HeldContent<'_>,
     body: &[u8],
     at: u32,
     path: &Path,
 ) -> Result<(), AllocError>
     requires width { IsWidth width }
-    requires content { ContentListable width content.now }
+    requires content { ContentListable width (held_content content.now) }
     requires within { at + width ≤ 8 * length body.now }
-    ensures lines { OnOk result (Puts as_lines (one_onto (element_line width content.now (Paths.at path.now name.now) (number_of (take width (drop at (bits body.now)))))) lister.old.out lister.new.out) }
+    ensures lines { OnOk result (Puts as_lines (one_onto (element_line width (held_content content.now) (Paths.at path.now name.now) (number_of (take width (drop at (bits body.now)))))) lister.old.out lister.new.out) }
 {
     let mut inner = lister.blank_path();
     set_named(&mut inner, path, name)?;
-    lister.element_at(wide_number_at(body, at, width), width, content, &inner)
+    let number = wide_number_at(body, at, width);
+    put_at(lister, number, width, content, &inner)
 }
 
 /// The line of so many spare bits, more than are read at once.
@@ -95,27 +99,28 @@ fn show_wide_spare(
 #[tactic(auto, using(crate::proofs::Members::elements, crate::proofs::Stops::stops))]
 pub(crate) fn show_fixed(
     lister: &mut Lister,
-    fixed: &Fixed,
+    fixed: &HeldFixed<'_>,
     body: &[u8],
     at: &mut u32,
     path: &Path,
 ) -> Result<(), FixedStop>
-    requires bounds { FixedInBounds (fixed_tree fixed.now) }
-    requires listable { FixedListable (fixed_tree fixed.now) }
+    requires bounds { FixedInBounds (held_fixed fixed.now) }
+    requires listable { FixedListable (held_fixed fixed.now) }
     requires place { at.old ≤ 8 * length body.now }
     requires body { length body.now ≤ longest_body }
-    ensures lines { OnOk result (Puts as_lines (fixed_lines (fixed_tree fixed.now) path.now (fixed_value (fixed_tree fixed.now) (drop at.old (bits body.now)))) lister.old.out lister.new.out) }
-    ensures at { OnOk result (at.new ≡ at.old + width (fixed_tree fixed.now)) }
+    ensures lines { OnOk result (Puts as_lines (fixed_lines (held_fixed fixed.now) path.now (fixed_value (held_fixed fixed.now) (drop at.old (bits body.now)))) lister.old.out lister.new.out) }
+    ensures at { OnOk result (at.new ≡ at.old + width (held_fixed fixed.now)) }
     ensures within { OnOk result (at.new ≤ 8 * length body.now) }
-    ensures stop { IfErr result (IsStopped body.now at.old (width (fixed_tree fixed.now))) }
+    ensures stop { IfErr result (IsStopped body.now at.old (width (held_fixed fixed.now))) }
 {
     match fixed {
-        Fixed::Element { width, content } => {
+        HeldFixed::Element { width, content } => {
             let here = pass(body, at, *width)?;
-            lister.element_at(wide_number_at(body, here, *width), *width, content, path)?;
+            let number = wide_number_at(body, here, *width);
+            put_at(lister, number, *width, content, path)?;
             Ok(())
         }
-        Fixed::Group(members) => show_members(lister, members, body, at, path),
+        HeldFixed::Group(members) => show_members(lister, members, body, at, path),
     }
 }
 
@@ -125,19 +130,19 @@ pub(crate) fn show_fixed(
 #[tactic(auto, using(crate::proofs::Members::members, crate::proofs::Stops::stops))]
 pub(crate) fn show_members(
     lister: &mut Lister,
-    members: &Members,
+    members: &HeldMembers<'_>,
     body: &[u8],
     at: &mut u32,
     path: &Path,
 ) -> Result<(), FixedStop>
-    requires bounds { MembersInBounds (members_tree members.now) }
-    requires listable { MembersListable (members_tree members.now) }
+    requires bounds { MembersInBounds (held_members members.now) }
+    requires listable { MembersListable (held_members members.now) }
     requires place { at.old ≤ 8 * length body.now }
     requires body { length body.now ≤ longest_body }
-    ensures lines { OnOk result (Puts as_lines (members_lines (members_tree members.now) path.now (members_value (members_tree members.now) (drop at.old (bits body.now)))) lister.old.out lister.new.out) }
-    ensures at { OnOk result (at.new ≡ at.old + members_width (members_tree members.now)) }
+    ensures lines { OnOk result (Puts as_lines (members_lines (held_members members.now) path.now (members_value (held_members members.now) (drop at.old (bits body.now)))) lister.old.out lister.new.out) }
+    ensures at { OnOk result (at.new ≡ at.old + members_width (held_members members.now)) }
     ensures within { OnOk result (at.new ≤ 8 * length body.now) }
-    ensures stop { IfErr result (IsStopped body.now at.old (members_width (members_tree members.now))) }
+    ensures stop { IfErr result (IsStopped body.now at.old (members_width (held_members members.now))) }
 {
     for member in members.as_slice() {
         show_member(lister, member, body, at, path)?;
@@ -149,23 +154,23 @@ pub(crate) fn show_members(
 #[tactic(auto, using(crate::proofs::Members::elements, crate::proofs::Stops::stops))]
 fn show_member(
     lister: &mut Lister,
-    member: &Member,
+    member: &HeldMember<'_>,
     body: &[u8],
     at: &mut u32,
     path: &Path,
 ) -> Result<(), FixedStop>
-    requires bounds { MemberInBounds (member_tree member.now) }
-    requires listable { MemberListable (member_tree member.now) }
+    requires bounds { MemberInBounds (held_member member.now) }
+    requires listable { MemberListable (held_member member.now) }
     requires place { at.old ≤ 8 * length body.now }
     requires body { length body.now ≤ longest_body }
-    ensures lines { OnOk result (Puts as_lines (member_lines (member_tree member.now) path.now (member_value (member_tree member.now) (drop at.old (bits body.now)))) lister.old.out lister.new.out) }
-    ensures at { OnOk result (at.new ≡ at.old + member_width (member_tree member.now)) }
+    ensures lines { OnOk result (Puts as_lines (member_lines (held_member member.now) path.now (member_value (held_member member.now) (drop at.old (bits body.now)))) lister.old.out lister.new.out) }
+    ensures at { OnOk result (at.new ≡ at.old + member_width (held_member member.now)) }
     ensures within { OnOk result (at.new ≤ 8 * length body.now) }
-    ensures stop { IfErr result (IsStopped body.now at.old (member_width (member_tree member.now))) }
+    ensures stop { IfErr result (IsStopped body.now at.old (member_width (held_member member.now))) }
 {
     match member {
-        Member::Named { name, fixed } => show_named(lister, name, fixed, body, at, path),
-        Member::Spare { width } => {
+        HeldMember::Named { name, fixed } => show_named(lister, name, fixed, body, at, path),
+        HeldMember::Spare { width } => {
             let here = pass(body, at, *width)?;
             if *width > 56 {
                 show_wide_spare(lister, *width, body, here, path)?;
@@ -184,25 +189,25 @@ fn show_member(
 pub(crate) fn show_named(
     lister: &mut Lister,
     name: &Name,
-    fixed: &Fixed,
+    fixed: &HeldFixed<'_>,
     body: &[u8],
     at: &mut u32,
     path: &Path,
 ) -> Result<(), FixedStop>
-    requires bounds { FixedInBounds (fixed_tree fixed.now) }
-    requires listable { FixedListable (fixed_tree fixed.now) }
+    requires bounds { FixedInBounds (held_fixed fixed.now) }
+    requires listable { FixedListable (held_fixed fixed.now) }
     requires place { at.old ≤ 8 * length body.now }
     requires body { length body.now ≤ longest_body }
-    ensures lines { OnOk result (Puts as_lines (fixed_lines (fixed_tree fixed.now) (Paths.at path.now name.now) (fixed_value (fixed_tree fixed.now) (drop at.old (bits body.now)))) lister.old.out lister.new.out) }
-    ensures at { OnOk result (at.new ≡ at.old + width (fixed_tree fixed.now)) }
+    ensures lines { OnOk result (Puts as_lines (fixed_lines (held_fixed fixed.now) (Paths.at path.now name.now) (fixed_value (held_fixed fixed.now) (drop at.old (bits body.now)))) lister.old.out lister.new.out) }
+    ensures at { OnOk result (at.new ≡ at.old + width (held_fixed fixed.now)) }
     ensures within { OnOk result (at.new ≤ 8 * length body.now) }
-    ensures stop { IfErr result (IsStopped body.now at.old (width (fixed_tree fixed.now))) }
+    ensures stop { IfErr result (IsStopped body.now at.old (width (held_fixed fixed.now))) }
 {
     match fixed {
-        Fixed::Element { width, content } => {
+        HeldFixed::Element { width, content } => {
             show_element(lister, name, *width, content, body, at, path)
         }
-        Fixed::Group(members) => show_group(lister, name, members, body, at, path),
+        HeldFixed::Group(members) => show_group(lister, name, members, body, at, path),
     }
 }
 
@@ -213,19 +218,19 @@ pub(crate) fn show_named(
 fn show_group(
     lister: &mut Lister,
     name: &Name,
-    members: &Members,
+    members: &HeldMembers<'_>,
     body: &[u8],
     at: &mut u32,
     path: &Path,
 ) -> Result<(), FixedStop>
-    requires bounds { MembersInBounds (members_tree members.now) }
-    requires listable { MembersListable (members_tree members.now) }
+    requires bounds { MembersInBounds (held_members members.now) }
+    requires listable { MembersListable (held_members members.now) }
     requires place { at.old ≤ 8 * length body.now }
     requires body { length body.now ≤ longest_body }
-    ensures lines { OnOk result (Puts as_lines (members_lines (members_tree members.now) (Paths.at path.now name.now) (members_value (members_tree members.now) (drop at.old (bits body.now)))) lister.old.out lister.new.out) }
-    ensures at { OnOk result (at.new ≡ at.old + members_width (members_tree members.now)) }
+    ensures lines { OnOk result (Puts as_lines (members_lines (held_members members.now) (Paths.at path.now name.now) (members_value (held_members members.now) (drop at.old (bits body.now)))) lister.old.out lister.new.out) }
+    ensures at { OnOk result (at.new ≡ at.old + members_width (held_members members.now)) }
     ensures within { OnOk result (at.new ≤ 8 * length body.now) }
-    ensures stop { IfErr result (IsStopped body.now at.old (members_width (members_tree members.now))) }
+    ensures stop { IfErr result (IsStopped body.now at.old (members_width (held_members members.now))) }
 {
     let mut inner = lister.blank_path();
     set_named(&mut inner, path, name)?;

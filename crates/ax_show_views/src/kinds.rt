@@ -3,7 +3,7 @@ ghost use Rattle.std.specs.Prelude.{◌≡◌, ◌+◌, ◌<◌, ◌≤◌, leng
 ghost use Rattle.ax_bits.specs.Bits.{AreBits};
 ghost use Rattle.ax_model.specs.InBounds.{InBounds, SlotsInBounds};
 ghost use Rattle.ax_model.specs.Paths as Paths;
-ghost use Rattle.ax_model.specs.Plain.{kind_tree, slot_tree, slots_tree};
+ghost use Rattle.ax_held_kinds.specs.Held.{held_kind, held_slot, held_slots};
 ghost use Rattle.ax_model.specs.Sizes.{longest_body};
 ghost use Rattle.ax_model.specs.Tree as Tree;
 ghost use Rattle.ax_reader.specs.Reading.{SlotInBounds, kind_read};
@@ -14,37 +14,38 @@ ghost use Rattle.ax_show_views.specs.Shown.{Shows, ShowsCounted, IsSlotShown};
 
 use crate::paths::{set_named, set_numbered};
 use crate::units::{show_alone, show_by_fx, show_extended, show_single};
-use ax_fspec::{Presence, read_presence};
-use ax_model::{Counter, Kind, Name, Slot, Slots};
+use ax_fspec::Presence;
+use ax_held_kinds::{HeldKind, HeldSlot, HeldSlots, read_field};
+use ax_model::{Counter, Name};
 use ax_octets::Path;
 use ax_text::Lister;
-use ax_values::{DecodeError, counter_at, explicit_content, slots_mask};
+use ax_values::{DecodeError, counter_at, explicit_content};
 
 /// The lines of the value of a kind that begins at octet `at` of the body. Ok is the octet after it.
 #[cycle(show_kind)]
 pub(crate) fn show_value(
     lister: &mut Lister,
-    kind: &Kind,
+    kind: &HeldKind<'_>,
     body: &[u8],
     at: u32,
     path: &Path,
 ) -> Result<u32, DecodeError>
-    requires bounds { InBounds (kind_tree kind.now) }
-    requires listable { KindListable (kind_tree kind.now) }
+    requires bounds { InBounds (held_kind kind.now) }
+    requires listable { KindListable (held_kind kind.now) }
     requires body { length body.now ≤ longest_body }
     requires at { at ≤ length body.now }
-    ensures ok { IfOk result (λ end. Shows (kind_lines (kind_tree kind.now) path.now) (kind_read (kind_tree kind.now) body.now at) body.now at end lister.old.out lister.new.out) }
-    ensures err { IfErr result (λ e. HasFailed (kind_read (kind_tree kind.now) body.now at) at e) }
+    ensures ok { IfOk result (λ end. Shows (kind_lines (held_kind kind.now) path.now) (kind_read (held_kind kind.now) body.now at) body.now at end lister.old.out lister.new.out) }
+    ensures err { IfErr result (λ e. HasFailed (kind_read (held_kind kind.now) body.now at) at e) }
 {
     match kind {
-        Kind::Fixed(fixed) => show_alone(lister, fixed, body, at, path),
-        Kind::Extended { last, parts } => show_extended(lister, *last, parts, body, at, path),
-        Kind::Counted { counter, inner } => {
+        HeldKind::Fixed(fixed) => show_alone(lister, fixed, body, at, path),
+        HeldKind::Extended { last, parts } => show_extended(lister, *last, parts, body, at, path),
+        HeldKind::Counted { counter, inner } => {
             show_counted(lister, *counter, inner, body, at, path)
         }
-        Kind::ByFx(fixed) => show_by_fx(lister, fixed, body, at, path),
-        Kind::Explicit => show_explicit(lister, body, at, path),
-        Kind::Compound(slots) => show_compound(lister, slots, body, at, path),
+        HeldKind::ByFx(fixed) => show_by_fx(lister, fixed, body, at, path),
+        HeldKind::Explicit => show_explicit(lister, body, at, path),
+        HeldKind::Compound(slots) => show_compound(lister, slots, body, at, path),
     }
 }
 
@@ -68,17 +69,17 @@ fn show_explicit(lister: &mut Lister, body: &[u8], at: u32, path: &Path) -> Resu
 fn show_counted(
     lister: &mut Lister,
     size: Counter,
-    inner: &Kind,
+    inner: &HeldKind<'_>,
     body: &[u8],
     at: u32,
     path: &Path,
 ) -> Result<u32, DecodeError>
-    requires bounds { InBounds (Tree.counted size (kind_tree inner.now)) }
-    requires listable { KindListable (kind_tree inner.now) }
+    requires bounds { InBounds (Tree.counted size (held_kind inner.now)) }
+    requires listable { KindListable (held_kind inner.now) }
     requires body { length body.now ≤ longest_body }
     requires at { at ≤ length body.now }
-    ensures ok { IfOk result (λ end. Shows (kind_lines (Tree.counted size (kind_tree inner.now)) path.now) (kind_read (Tree.counted size (kind_tree inner.now)) body.now at) body.now at end lister.old.out lister.new.out) }
-    ensures err { IfErr result (λ e. HasFailed (kind_read (Tree.counted size (kind_tree inner.now)) body.now at) at e) }
+    ensures ok { IfOk result (λ end. Shows (kind_lines (Tree.counted size (held_kind inner.now)) path.now) (kind_read (Tree.counted size (held_kind inner.now)) body.now at) body.now at end lister.old.out lister.new.out) }
+    ensures err { IfErr result (λ e. HasFailed (kind_read (Tree.counted size (held_kind inner.now)) body.now at) at e) }
 {
     lister.none_of(b"occurrences", path)?;
     let line = lister.len();
@@ -93,17 +94,17 @@ fn show_counted(
 fn show_each(
     lister: &mut Lister,
     size: Counter,
-    inner: &Kind,
+    inner: &HeldKind<'_>,
     body: &[u8],
     at: u32,
     path: &Path,
 ) -> Result<(u32, u32), DecodeError>
-    requires bounds { InBounds (Tree.counted size (kind_tree inner.now)) }
-    requires listable { KindListable (kind_tree inner.now) }
+    requires bounds { InBounds (Tree.counted size (held_kind inner.now)) }
+    requires listable { KindListable (held_kind inner.now) }
     requires body { length body.now ≤ longest_body }
     requires at { at ≤ length body.now }
-    ensures ok { IfOk result (λ r. ShowsCounted (Tree.counted size (kind_tree inner.now)) path.now (codes "occurrences") body.now at r.0 lister.old.out lister.new.out r.1) }
-    ensures err { IfErr result (λ e. HasFailed (kind_read (Tree.counted size (kind_tree inner.now)) body.now at) at e) }
+    ensures ok { IfOk result (λ r. ShowsCounted (Tree.counted size (held_kind inner.now)) path.now (codes "occurrences") body.now at r.0 lister.old.out lister.new.out r.1) }
+    ensures err { IfErr result (λ e. HasFailed (kind_read (Tree.counted size (held_kind inner.now)) body.now at) at e) }
 {
     let count = counter_at(body, at, size)?;
     let mut here = at + size.octets();
@@ -120,17 +121,17 @@ fn show_each(
 #[tactic(auto, using(crate::proofs::Leading::counts))]
 fn show_compound(
     lister: &mut Lister,
-    slots: &Slots,
+    slots: &HeldSlots<'_>,
     body: &[u8],
     at: u32,
     path: &Path,
 ) -> Result<u32, DecodeError>
-    requires bounds { InBounds (Tree.compound (slots_tree slots.now)) }
-    requires listable { SlotsListable (slots_tree slots.now) }
+    requires bounds { InBounds (Tree.compound (held_slots slots.now)) }
+    requires listable { SlotsListable (held_slots slots.now) }
     requires body { length body.now ≤ longest_body }
     requires at { at ≤ length body.now }
-    ensures ok { IfOk result (λ end. Shows (kind_lines (Tree.compound (slots_tree slots.now)) path.now) (kind_read (Tree.compound (slots_tree slots.now)) body.now at) body.now at end lister.old.out lister.new.out) }
-    ensures err { IfErr result (λ e. HasFailed (kind_read (Tree.compound (slots_tree slots.now)) body.now at) at e) }
+    ensures ok { IfOk result (λ end. Shows (kind_lines (Tree.compound (held_slots slots.now)) path.now) (kind_read (Tree.compound (held_slots slots.now)) body.now at) body.now at end lister.old.out lister.new.out) }
+    ensures err { IfErr result (λ e. HasFailed (kind_read (Tree.compound (held_slots slots.now)) body.now at) at e) }
 {
     lister.none_of(b"subitems", path)?;
     let line = lister.len();
@@ -144,49 +145,49 @@ fn show_compound(
 #[tactic(auto, using(ax_values::proofs::Continuing::errors))]
 fn show_subitems(
     lister: &mut Lister,
-    slots: &Slots,
+    slots: &HeldSlots<'_>,
     body: &[u8],
     at: u32,
     path: &Path,
 ) -> Result<(u32, u32), DecodeError>
-    requires bounds { InBounds (Tree.compound (slots_tree slots.now)) }
-    requires listable { SlotsListable (slots_tree slots.now) }
+    requires bounds { InBounds (Tree.compound (held_slots slots.now)) }
+    requires listable { SlotsListable (held_slots slots.now) }
     requires body { length body.now ≤ longest_body }
     requires at { at ≤ length body.now }
-    ensures ok { IfOk result (λ r. ShowsCounted (Tree.compound (slots_tree slots.now)) path.now (codes "subitems") body.now at r.0 lister.old.out lister.new.out r.1) }
-    ensures err { IfErr result (λ e. HasFailed (kind_read (Tree.compound (slots_tree slots.now)) body.now at) at e) }
+    ensures ok { IfOk result (λ r. ShowsCounted (Tree.compound (held_slots slots.now)) path.now (codes "subitems") body.now at r.0 lister.old.out lister.new.out r.1) }
+    ensures err { IfErr result (λ e. HasFailed (kind_read (Tree.compound (held_slots slots.now)) body.now at) at e) }
 {
+    let all = slots.as_slice();
     let mut left = Presence::empty();
-    let mut here = read_presence(&slots_mask(slots), body, at, &mut left)?;
+    let mut here = read_field(all, body, at, &mut left)?;
     let mut count = 0;
     while let Some(number) = left.take_first() {
-        let slot = &slots.as_slice()[number as usize - 1];
-        here = show_slot(lister, slot, body, here, path)?;
+        here = show_slot(lister, &all[number as usize - 1], body, here, path)?;
         count += 1;
     }
     Ok((here, count))
 }
 
-/// The lines of the subitem of a slot, under a path. Ok is the octet after it.
+/// The lines of the subitem or the item of a slot, under a path. Ok is the octet after it.
 #[cycle(show_kind)]
 #[tactic(auto, using(ax_values::proofs::Continuing::errors, crate::proofs::SlotLines::slot_ways))]
-fn show_slot(
+pub(crate) fn show_slot(
     lister: &mut Lister,
-    slot: &Slot,
+    slot: &HeldSlot<'_>,
     body: &[u8],
     at: u32,
     path: &Path,
 ) -> Result<u32, DecodeError>
-    requires bounds { SlotInBounds (slot_tree slot.now) }
-    requires listable { SlotListable (slot_tree slot.now) }
+    requires bounds { SlotInBounds (held_slot slot.now) }
+    requires listable { SlotListable (held_slot slot.now) }
     requires body { length body.now ≤ longest_body }
     requires at { at ≤ length body.now }
-    ensures ok { IfOk result (λ end. IsSlotShown (slot_tree slot.now) path.now body.now at end lister.old.out lister.new.out) }
-    ensures err { IfErr result (λ e. HasSlotFailed (slot_tree slot.now) body.now at e) }
+    ensures ok { IfOk result (λ end. IsSlotShown (held_slot slot.now) path.now body.now at end lister.old.out lister.new.out) }
+    ensures err { IfErr result (λ e. HasSlotFailed (held_slot slot.now) body.now at e) }
 {
     match slot {
-        Slot::Spare => Ok(at),
-        Slot::Sub { name, kind } => {
+        HeldSlot::Spare => Ok(at),
+        HeldSlot::Sub { name, kind } => {
             let end = show_under(lister, name, kind, body, at, path)?;
             Ok(end)
         }
@@ -197,22 +198,22 @@ fn show_slot(
 /// where it has members.
 #[cycle(show_kind)]
 #[tactic(auto, using(ax_values::proofs::Continuing::errors, crate::proofs::SlotLines::under_ways))]
-pub(crate) fn show_under(
+fn show_under(
     lister: &mut Lister,
     name: &Name,
-    kind: &Kind,
+    kind: &HeldKind<'_>,
     body: &[u8],
     at: u32,
     path: &Path,
 ) -> Result<u32, DecodeError>
-    requires bounds { InBounds (kind_tree kind.now) }
-    requires listable { KindListable (kind_tree kind.now) }
+    requires bounds { InBounds (held_kind kind.now) }
+    requires listable { KindListable (held_kind kind.now) }
     requires body { length body.now ≤ longest_body }
     requires at { at ≤ length body.now }
-    ensures ok { IfOk result (λ end. Shows (kind_lines (kind_tree kind.now) (Paths.at path.now name.now)) (kind_read (kind_tree kind.now) body.now at) body.now at end lister.old.out lister.new.out) }
-    ensures err { IfErr result (λ e. HasFailed (kind_read (kind_tree kind.now) body.now at) at e) }
+    ensures ok { IfOk result (λ end. Shows (kind_lines (held_kind kind.now) (Paths.at path.now name.now)) (kind_read (held_kind kind.now) body.now at) body.now at end lister.old.out lister.new.out) }
+    ensures err { IfErr result (λ e. HasFailed (kind_read (held_kind kind.now) body.now at) at e) }
 {
-    if let Kind::Fixed(fixed) = kind {
+    if let HeldKind::Fixed(fixed) = kind {
         return show_single(lister, name, fixed, body, at, path);
     }
     let mut inner = lister.blank_path();

@@ -2,6 +2,7 @@
 #![tactic(auto)]
 
 mod body;
+mod contents;
 mod fixed;
 mod kinds;
 mod numbers;

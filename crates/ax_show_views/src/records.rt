@@ -5,17 +5,17 @@ ghost use Rattle.ax_model.specs.Paths.{three_digits};
 ghost use Rattle.ax_model.specs.Plain.{spec_tree};
 ghost use Rattle.ax_model.specs.Sizes.{longest_body};
 ghost use Rattle.ax_model.specs.Specification.{record_kind, record_slots};
-ghost use Rattle.ax_reader.specs.Reading.{IsMaskOf, SlotInBounds, record_slot_list, slot_of_frn, kind_read};
-ghost use Rattle.ax_text.specs.Listable.{SlotListable, SlotsListable};
+ghost use Rattle.ax_reader.specs.Reading.{IsMaskOf, record_slot_list, kind_read};
+ghost use Rattle.ax_text.specs.Listable.{SlotsListable};
 ghost use Rattle.ax_text.specs.ShowText.{entries_lines, record_lines};
-ghost use Rattle.ax_values.specs.SlotReading.{HasFailed, HasSlotFailed};
-ghost use Rattle.ax_show_views.specs.Shown.{ShowsEntries, IsSlotShown};
+ghost use Rattle.ax_values.specs.SlotReading.{HasFailed};
+ghost use Rattle.ax_show_views.specs.Shown.{ShowsEntries};
 
-use crate::kinds::show_under;
+use crate::kinds::show_slot;
 use ax_fspec::{Presence, SlotMask, read_presence};
+use ax_held_kinds::HeldItems;
 use ax_octets::Path;
 use ax_text::Lister;
-use ax_uap::UapItems;
 use ax_values::DecodeError;
 
 /// The lines of the record of that number that begins at octet `at` of the body, under the path of its category. Ok is
@@ -23,21 +23,21 @@ use ax_values::DecodeError;
 #[tactic(auto, using(ax_values::proofs::Continuing::errors, crate::proofs::RecordLines::record_ways))]
 pub(crate) fn show_record(
     lister: &mut Lister,
-    items: &UapItems<'_>,
+    items: &HeldItems<'_>,
     mask: &SlotMask,
     number: u32,
     body: &[u8],
     at: u32,
     path: &Path,
 ) -> Result<u32, DecodeError>
-    requires spec { NoFlaw (spec_tree items.now.spec.now) }
-    requires listable { SlotsListable (record_slots (spec_tree items.now.spec.now)) }
-    requires mask { IsMaskOf (record_slot_list (spec_tree items.now.spec.now)) mask.now }
-    requires path { path.now ≡ three_digits items.now.spec.now.category }
+    requires spec { NoFlaw (spec_tree items.now) }
+    requires listable { SlotsListable (record_slots (spec_tree items.now)) }
+    requires mask { IsMaskOf (record_slot_list (spec_tree items.now)) mask.now }
+    requires path { path.now ≡ three_digits items.now.category }
     requires body { length body.now ≤ longest_body }
     requires at { at ≤ length body.now }
-    ensures ok { IfOk result (λ end. ShowsEntries (spec_tree items.now.spec.now) (record_lines (spec_tree items.now.spec.now) number) body.now at end lister.old.out lister.new.out) }
-    ensures err { IfErr result (λ e. HasFailed (kind_read (record_kind (spec_tree items.now.spec.now)) body.now at) at e) }
+    ensures ok { IfOk result (λ end. ShowsEntries (spec_tree items.now) (record_lines (spec_tree items.now) number) body.now at end lister.old.out lister.new.out) }
+    ensures err { IfErr result (λ e. HasFailed (kind_read (record_kind (spec_tree items.now)) body.now at) at e) }
 {
     lister.record_front(number)?;
     let end = show_items(lister, items, mask, body, at, path)?;
@@ -48,48 +48,25 @@ pub(crate) fn show_record(
 #[tactic(auto, using(ax_values::proofs::Continuing::errors))]
 fn show_items(
     lister: &mut Lister,
-    items: &UapItems<'_>,
+    items: &HeldItems<'_>,
     mask: &SlotMask,
     body: &[u8],
     at: u32,
     path: &Path,
 ) -> Result<u32, DecodeError>
-    requires spec { NoFlaw (spec_tree items.now.spec.now) }
-    requires listable { SlotsListable (record_slots (spec_tree items.now.spec.now)) }
-    requires mask { IsMaskOf (record_slot_list (spec_tree items.now.spec.now)) mask.now }
+    requires spec { NoFlaw (spec_tree items.now) }
+    requires listable { SlotsListable (record_slots (spec_tree items.now)) }
+    requires mask { IsMaskOf (record_slot_list (spec_tree items.now)) mask.now }
     requires body { length body.now ≤ longest_body }
     requires at { at ≤ length body.now }
-    ensures ok { IfOk result (λ end. ShowsEntries (spec_tree items.now.spec.now) (entries_lines path.now 1 (record_slots (spec_tree items.now.spec.now))) body.now at end lister.old.out lister.new.out) }
-    ensures err { IfErr result (λ e. HasFailed (kind_read (record_kind (spec_tree items.now.spec.now)) body.now at) at e) }
+    ensures ok { IfOk result (λ end. ShowsEntries (spec_tree items.now) (entries_lines path.now 1 (record_slots (spec_tree items.now))) body.now at end lister.old.out lister.new.out) }
+    ensures err { IfErr result (λ e. HasFailed (kind_read (record_kind (spec_tree items.now)) body.now at) at e) }
 {
+    let slots = items.slots();
     let mut left = Presence::empty();
     let mut here = read_presence(mask, body, at, &mut left)?;
     while let Some(frn) = left.take_first() {
-        here = show_item(lister, items, frn, body, here, path)?;
+        here = show_slot(lister, &slots[frn as usize - 1], body, here, path)?;
     }
     Ok(here)
-}
-
-/// The lines of the item of a field reference number, under a path. Ok is the octet after it.
-#[tactic(auto, using(ax_values::proofs::Continuing::errors, crate::proofs::RecordLines::item_ways))]
-fn show_item(
-    lister: &mut Lister,
-    items: &UapItems<'_>,
-    frn: u32,
-    body: &[u8],
-    at: u32,
-    path: &Path,
-) -> Result<u32, DecodeError>
-    requires bounds { SlotInBounds (slot_of_frn frn items.now.spec.now) }
-    requires listable { SlotListable (slot_of_frn frn items.now.spec.now) }
-    requires body { length body.now ≤ longest_body }
-    requires at { at ≤ length body.now }
-    ensures ok { IfOk result (λ end. IsSlotShown (slot_of_frn frn items.now.spec.now) path.now body.now at end lister.old.out lister.new.out) }
-    ensures err { IfErr result (λ e. HasSlotFailed (slot_of_frn frn items.now.spec.now) body.now at e) }
-{
-    let Some(item) = items.item(frn) else {
-        return Ok(at);
-    };
-    let end = show_under(lister, &item.name, &item.kind, body, at, path)?;
-    Ok(end)
 }

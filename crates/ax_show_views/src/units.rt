@@ -4,7 +4,7 @@ ghost use Rattle.std.specs.List.{AllByRecursion};
 ghost use Rattle.ax_bits.specs.Bits.{bits};
 ghost use Rattle.ax_model.specs.InBounds.{InBounds, FixedInBounds};
 ghost use Rattle.ax_model.specs.Paths as Paths;
-ghost use Rattle.ax_model.specs.Plain.{fixed_tree, part_tree};
+ghost use Rattle.ax_held_kinds.specs.Held.{held_fixed, held_part};
 ghost use Rattle.ax_model.specs.Reader.{fixed_value};
 ghost use Rattle.ax_model.specs.Sizes.{longest_body};
 ghost use Rattle.ax_model.specs.Tree as Tree;
@@ -20,7 +20,8 @@ ghost use Rattle.ax_show_views.specs.Stopped.{IsStopped};
 use crate::fixed::{show_fixed, show_members, show_named};
 use crate::paths::set_numbered;
 use crate::stop::FixedStop;
-use ax_model::{BodyCause, BodyFault, Fixed, LastPart, Name, Parts};
+use ax_held_kinds::{HeldFixed, HeldParts};
+use ax_model::{BodyCause, BodyFault, LastPart, Name};
 use ax_octets::Path;
 use ax_text::Lister;
 use ax_values::{DecodeError, has_fx, is_continued};
@@ -29,17 +30,17 @@ use ax_values::{DecodeError, has_fx, is_continued};
 #[tactic(auto, using(ax_values::proofs::Continuing::errors, ax_reader::proofs::AtOctets::fixed_fails))]
 pub(crate) fn show_alone(
     lister: &mut Lister,
-    fixed: &Fixed,
+    fixed: &HeldFixed<'_>,
     body: &[u8],
     at: u32,
     path: &Path,
 ) -> Result<u32, DecodeError>
-    requires bounds { InBounds (Tree.fixed (fixed_tree fixed.now)) }
-    requires listable { FixedListable (fixed_tree fixed.now) }
+    requires bounds { InBounds (Tree.fixed (held_fixed fixed.now)) }
+    requires listable { FixedListable (held_fixed fixed.now) }
     requires body { length body.now ≤ longest_body }
     requires at { at ≤ length body.now }
-    ensures ok { IfOk result (λ end. Shows (kind_lines (Tree.fixed (fixed_tree fixed.now)) path.now) (kind_read (Tree.fixed (fixed_tree fixed.now)) body.now at) body.now at end lister.old.out lister.new.out) }
-    ensures err { IfErr result (λ e. HasFailed (kind_read (Tree.fixed (fixed_tree fixed.now)) body.now at) at e) }
+    ensures ok { IfOk result (λ end. Shows (kind_lines (Tree.fixed (held_fixed fixed.now)) path.now) (kind_read (Tree.fixed (held_fixed fixed.now)) body.now at) body.now at end lister.old.out lister.new.out) }
+    ensures err { IfErr result (λ e. HasFailed (kind_read (Tree.fixed (held_fixed fixed.now)) body.now at) at e) }
 {
     let mut bit = 8 * at;
     if let Err(stop) = show_fixed(lister, fixed, body, &mut bit, path) {
@@ -53,17 +54,17 @@ pub(crate) fn show_alone(
 pub(crate) fn show_single(
     lister: &mut Lister,
     name: &Name,
-    fixed: &Fixed,
+    fixed: &HeldFixed<'_>,
     body: &[u8],
     at: u32,
     path: &Path,
 ) -> Result<u32, DecodeError>
-    requires bounds { InBounds (Tree.fixed (fixed_tree fixed.now)) }
-    requires listable { FixedListable (fixed_tree fixed.now) }
+    requires bounds { InBounds (Tree.fixed (held_fixed fixed.now)) }
+    requires listable { FixedListable (held_fixed fixed.now) }
     requires body { length body.now ≤ longest_body }
     requires at { at ≤ length body.now }
-    ensures ok { IfOk result (λ end. Shows (kind_lines (Tree.fixed (fixed_tree fixed.now)) (Paths.at path.now name.now)) (kind_read (Tree.fixed (fixed_tree fixed.now)) body.now at) body.now at end lister.old.out lister.new.out) }
-    ensures err { IfErr result (λ e. HasFailed (kind_read (Tree.fixed (fixed_tree fixed.now)) body.now at) at e) }
+    ensures ok { IfOk result (λ end. Shows (kind_lines (Tree.fixed (held_fixed fixed.now)) (Paths.at path.now name.now)) (kind_read (Tree.fixed (held_fixed fixed.now)) body.now at) body.now at end lister.old.out lister.new.out) }
+    ensures err { IfErr result (λ e. HasFailed (kind_read (Tree.fixed (held_fixed fixed.now)) body.now at) at e) }
 {
     let mut bit = 8 * at;
     if let Err(stop) = show_named(lister, name, fixed, body, &mut bit, path) {
@@ -78,34 +79,33 @@ pub(crate) fn show_single(
 fn show_parts(
     lister: &mut Lister,
     last: LastPart,
-    parts: &Parts,
+    parts: &HeldParts<'_>,
     body: &[u8],
     at: u32,
     path: &Path,
 ) -> Result<(u32, u32), DecodeError>
-    requires bounds { InBounds (Tree.extended last (map part_tree parts.now)) }
-    requires listable { AllByRecursion MembersListable (map part_tree parts.now) }
+    requires bounds { InBounds (Tree.extended last (map held_part parts.now)) }
+    requires listable { AllByRecursion MembersListable (map held_part parts.now) }
     requires body { length body.now ≤ longest_body }
     requires at { at ≤ length body.now }
-    ensures ok { IfOk result (λ r. ShowsCounted (Tree.extended last (map part_tree parts.now)) path.now (codes "parts") body.now at r.0 lister.old.out lister.new.out r.1) }
-    ensures err { IfErr result (λ e. HasFailed (kind_read (Tree.extended last (map part_tree parts.now)) body.now at) at e) }
+    ensures ok { IfOk result (λ r. ShowsCounted (Tree.extended last (map held_part parts.now)) path.now (codes "parts") body.now at r.0 lister.old.out lister.new.out r.1) }
+    ensures err { IfErr result (λ e. HasFailed (kind_read (Tree.extended last (map held_part parts.now)) body.now at) at e) }
 {
     let mut here = at;
     let mut count = 0;
-    let mut left = parts.as_slice();
-    while let Some((part, later)) = left.split_first() {
+    let all = parts.as_slice();
+    for (index, part) in all.iter().enumerate() {
         let mut bit = 8 * here;
         if let Err(stop) = show_members(lister, &part.members, body, &mut bit, path) {
             return Err(stop.of_unit(here));
         }
         count += 1;
-        let fx = last.fx_width(later.len());
+        let fx = last.fx_width(all.len() - 1 - index);
         let end = (bit + fx) / 8;
         if !is_continued(body, bit, fx) {
             return Ok((end, count));
         }
         here = end;
-        left = later;
     }
     Err(DecodeError::Fault(BodyFault {
         cause: BodyCause::ExtensionPastEnd,
@@ -118,17 +118,17 @@ fn show_parts(
 pub(crate) fn show_extended(
     lister: &mut Lister,
     last: LastPart,
-    parts: &Parts,
+    parts: &HeldParts<'_>,
     body: &[u8],
     at: u32,
     path: &Path,
 ) -> Result<u32, DecodeError>
-    requires bounds { InBounds (Tree.extended last (map part_tree parts.now)) }
-    requires listable { AllByRecursion MembersListable (map part_tree parts.now) }
+    requires bounds { InBounds (Tree.extended last (map held_part parts.now)) }
+    requires listable { AllByRecursion MembersListable (map held_part parts.now) }
     requires body { length body.now ≤ longest_body }
     requires at { at ≤ length body.now }
-    ensures ok { IfOk result (λ end. Shows (kind_lines (Tree.extended last (map part_tree parts.now)) path.now) (kind_read (Tree.extended last (map part_tree parts.now)) body.now at) body.now at end lister.old.out lister.new.out) }
-    ensures err { IfErr result (λ e. HasFailed (kind_read (Tree.extended last (map part_tree parts.now)) body.now at) at e) }
+    ensures ok { IfOk result (λ end. Shows (kind_lines (Tree.extended last (map held_part parts.now)) path.now) (kind_read (Tree.extended last (map held_part parts.now)) body.now at) body.now at end lister.old.out lister.new.out) }
+    ensures err { IfErr result (λ e. HasFailed (kind_read (Tree.extended last (map held_part parts.now)) body.now at) at e) }
 {
     lister.none_of(b"parts", path)?;
     let line = lister.len();
@@ -141,20 +141,20 @@ pub(crate) fn show_extended(
 #[tactic(auto, using(crate::proofs::UnitLines::occurrences_shown, crate::proofs::Stops::stops))]
 fn show_occurrence(
     lister: &mut Lister,
-    fixed: &Fixed,
+    fixed: &HeldFixed<'_>,
     number: u32,
     body: &[u8],
     at: &mut u32,
     path: &Path,
 ) -> Result<(), FixedStop>
-    requires bounds { FixedInBounds (fixed_tree fixed.now) }
-    requires listable { FixedListable (fixed_tree fixed.now) }
+    requires bounds { FixedInBounds (held_fixed fixed.now) }
+    requires listable { FixedListable (held_fixed fixed.now) }
     requires place { at.old ≤ 8 * length body.now }
     requires body { length body.now ≤ longest_body }
-    ensures lines { OnOk result (Puts as_lines (fixed_lines (fixed_tree fixed.now) (occurrence path.now number) (fixed_value (fixed_tree fixed.now) (drop at.old (bits body.now)))) lister.old.out lister.new.out) }
-    ensures at { OnOk result (at.new ≡ at.old + width (fixed_tree fixed.now)) }
+    ensures lines { OnOk result (Puts as_lines (fixed_lines (held_fixed fixed.now) (occurrence path.now number) (fixed_value (held_fixed fixed.now) (drop at.old (bits body.now)))) lister.old.out lister.new.out) }
+    ensures at { OnOk result (at.new ≡ at.old + width (held_fixed fixed.now)) }
     ensures within { OnOk result (at.new ≤ 8 * length body.now) }
-    ensures stop { IfErr result (IsStopped body.now at.old (width (fixed_tree fixed.now))) }
+    ensures stop { IfErr result (IsStopped body.now at.old (width (held_fixed fixed.now))) }
 {
     let mut inner = lister.blank_path();
     set_numbered(&mut inner, path, number)?;
@@ -166,17 +166,17 @@ fn show_occurrence(
 #[tactic(auto, using(ax_values::proofs::Continuing::errors))]
 fn show_run(
     lister: &mut Lister,
-    fixed: &Fixed,
+    fixed: &HeldFixed<'_>,
     body: &[u8],
     at: u32,
     path: &Path,
 ) -> Result<(u32, u32), DecodeError>
-    requires bounds { InBounds (Tree.by_fx (fixed_tree fixed.now)) }
-    requires listable { FixedListable (fixed_tree fixed.now) }
+    requires bounds { InBounds (Tree.by_fx (held_fixed fixed.now)) }
+    requires listable { FixedListable (held_fixed fixed.now) }
     requires body { length body.now ≤ longest_body }
     requires at { at ≤ length body.now }
-    ensures ok { IfOk result (λ r. ShowsCounted (Tree.by_fx (fixed_tree fixed.now)) path.now (codes "occurrences") body.now at r.0 lister.old.out lister.new.out r.1) }
-    ensures err { IfErr result (λ e. HasFailed (kind_read (Tree.by_fx (fixed_tree fixed.now)) body.now at) at e) }
+    ensures ok { IfOk result (λ r. ShowsCounted (Tree.by_fx (held_fixed fixed.now)) path.now (codes "occurrences") body.now at r.0 lister.old.out lister.new.out r.1) }
+    ensures err { IfErr result (λ e. HasFailed (kind_read (Tree.by_fx (held_fixed fixed.now)) body.now at) at e) }
 {
     let mut here = at;
     let mut count = 0;
@@ -198,17 +198,17 @@ fn show_run(
 #[tactic(auto, using(crate::proofs::Leading::counts))]
 pub(crate) fn show_by_fx(
     lister: &mut Lister,
-    fixed: &Fixed,
+    fixed: &HeldFixed<'_>,
     body: &[u8],
     at: u32,
     path: &Path,
 ) -> Result<u32, DecodeError>
-    requires bounds { InBounds (Tree.by_fx (fixed_tree fixed.now)) }
-    requires listable { FixedListable (fixed_tree fixed.now) }
+    requires bounds { InBounds (Tree.by_fx (held_fixed fixed.now)) }
+    requires listable { FixedListable (held_fixed fixed.now) }
     requires body { length body.now ≤ longest_body }
     requires at { at ≤ length body.now }
-    ensures ok { IfOk result (λ end. Shows (kind_lines (Tree.by_fx (fixed_tree fixed.now)) path.now) (kind_read (Tree.by_fx (fixed_tree fixed.now)) body.now at) body.now at end lister.old.out lister.new.out) }
-    ensures err { IfErr result (λ e. HasFailed (kind_read (Tree.by_fx (fixed_tree fixed.now)) body.now at) at e) }
+    ensures ok { IfOk result (λ end. Shows (kind_lines (Tree.by_fx (held_fixed fixed.now)) path.now) (kind_read (Tree.by_fx (held_fixed fixed.now)) body.now at) body.now at end lister.old.out lister.new.out) }
+    ensures err { IfErr result (λ e. HasFailed (kind_read (Tree.by_fx (held_fixed fixed.now)) body.now at) at e) }
 {
     lister.none_of(b"occurrences", path)?;
     let line = lister.len();

@@ -27,8 +27,8 @@ use Rattle.ax_text.specs.ValueText.{one_onto}
 use Rattle.ax_view.specs.Views.{CountsRecords}
 use Rattle.ax_view_work.proofs.CodecsOf.{stands_there, none_there}
 use Rattle.ax_view_work.specs.Laid.{LaysBits}
-use Rattle.ax_text_view_work.proofs.TablesOf as TablesOf
-use Rattle.ax_text_view_work.specs.declared.tables.Table.{Table}
+use Rattle.ax_show_work.proofs.TablesOf as TablesOf
+use Rattle.ax_show_work.specs.declared.tables.Table.{Table}
 
 pub listable : (spec : SpecTree) → NoFlaw spec → SlotsListable (record_slots spec)
 listable spec h = record_listable spec h
@@ -71,12 +71,12 @@ none_some : {s : SpecTree} → None ≡ Some s → ⊥
 none_some e = cc
 
 -- the codec and the table of a category are of one specification
-module _ (codecs : List Codec) (tables catalogue : List Spec) (category : ℕ) (same : tables ≡ catalogue) (found : Option (Bor Table)) (looked : option_map (λ table. spec_tree table.items.spec.now) (option_copied found) ≡ spec_of category (catalogue_tree tables)) where
-  pub stands : (codec : Codec) (table : Bor Table) → StandForEach codecs (catalogue_tree catalogue) → codec_of category codecs ≡ Some codec → found ≡ Some table → StandsFor codec (spec_tree table.now.items.spec.now)
+module _ (codecs : List Codec) (tables catalogue : List Spec) (category : ℕ) (same : tables ≡ catalogue) (found : Option (Bor Table)) (looked : option_map (λ table. spec_tree table.items) (option_copied found) ≡ spec_of category (catalogue_tree tables)) where
+  pub stands : (codec : Codec) (table : Bor Table) → StandForEach codecs (catalogue_tree catalogue) → codec_of category codecs ≡ Some codec → found ≡ Some table → StandsFor codec (spec_tree table.now.items)
   stands codec table h f is = let s = stands_there codecs (catalogue_tree catalogue) category codec h f in subst (StandsFor codec) (some_same (sym s.known ∙ TablesOf.known tables catalogue category same found table looked is)) s.compiled.stands
 
-  pub same_category : (table : Bor Table) → found ≡ Some table → category ≡ table.now.items.spec.now.category
-  same_category table is = asked_category category (catalogue_tree catalogue) table.now.items.spec.now (TablesOf.known tables catalogue category same found table looked is)
+  pub same_category : (table : Bor Table) → found ≡ Some table → category ≡ table.now.items.category
+  same_category table is = asked_category category (catalogue_tree catalogue) table.now.items (TablesOf.known tables catalogue category same found table looked is)
 
   pub never : (codec : Codec) → StandForEach codecs (catalogue_tree catalogue) → codec_of category codecs ≡ Some codec → found ≡ None → ⊥
   never codec h f is = let s = stands_there codecs (catalogue_tree catalogue) category codec h f in none_some (sym (TablesOf.unknown tables catalogue category same found looked is) ∙ s.known)

@@ -11,13 +11,13 @@ ghost use Rattle.ax_text.specs.ShowText.{ShowText, OpaqueShown};
 ghost use Rattle.ax_values.specs.Decoding.{IsBodyFault, IsFaultOf};
 ghost use Rattle.ax_show_work.specs.Listing.{ListsBody};
 
+use crate::tables::{Table, Tables};
 use ax_check::Catalogue;
 use ax_model::RawBlock;
 use ax_show_views::show_records;
 use ax_stream::BlockStop;
 use ax_tables::{Codec, Codecs};
 use ax_text::Lister;
-use ax_text_view_work::{Table, Tables};
 use ax_values::DecodeError;
 use ax_view::scan;
 use ax_view_work::lay_view;
@@ -33,11 +33,11 @@ fn list_body(
     octets: u32,
     count: u32,
 ) -> Result<(), DecodeError>
-    requires no_flaw { NoFlaw (spec_tree table.now.items.spec.now) }
-    requires mask { IsMaskOf (record_slot_list (spec_tree table.now.items.spec.now)) table.now.mask }
+    requires no_flaw { NoFlaw (spec_tree table.now.items) }
+    requires mask { IsMaskOf (record_slot_list (spec_tree table.now.items)) table.now.mask }
     requires empty { lister.old.out ≡ [] }
-    ensures ok { OnOk result (ListsBody (spec_tree table.now.items.spec.now) number raw.now.category octets count raw.now.body.now lister.new.out) }
-    ensures err { IfErr result (IsFaultOf (IsBodyFault (spec_tree table.now.items.spec.now) raw.now.body.now)) }
+    ensures ok { OnOk result (ListsBody (spec_tree table.now.items) number raw.now.category octets count raw.now.body.now lister.new.out) }
+    ensures err { IfErr result (IsFaultOf (IsBodyFault (spec_tree table.now.items) raw.now.body.now)) }
     ensures small { octets < 4294967296 }
 {
     lister.block_line(number, raw.category, u64::from(octets), count)?;
@@ -56,13 +56,13 @@ fn list_read(
     number: u64,
     raw: &RawBlock<'_>,
 ) -> Result<(), BlockStop>
-    requires no_flaw { NoFlaw (spec_tree table.now.items.spec.now) }
-    requires mask { IsMaskOf (record_slot_list (spec_tree table.now.items.spec.now)) table.now.mask }
-    requires stands { StandsFor codec.now (spec_tree table.now.items.spec.now) }
-    requires category { raw.now.category ≡ table.now.items.spec.now.category }
+    requires no_flaw { NoFlaw (spec_tree table.now.items) }
+    requires mask { IsMaskOf (record_slot_list (spec_tree table.now.items)) table.now.mask }
+    requires stands { StandsFor codec.now (spec_tree table.now.items) }
+    requires category { raw.now.category ≡ table.now.items.category }
     requires room { length output.old ≡ longest_block }
-    ensures octets { OnOk result (IsMadeRead (λ spec block. ShowText spec block number) (spec_tree table.now.items.spec.now) (raw_tree raw.now) lister.new.out) }
-    ensures stop { IfErr result (λ stop. NothingMadeRead (spec_tree table.now.items.spec.now) (raw_tree raw.now) stop) }
+    ensures octets { OnOk result (IsMadeRead (λ spec block. ShowText spec block number) (spec_tree table.now.items) (raw_tree raw.now) lister.new.out) }
+    ensures stop { IfErr result (λ stop. NothingMadeRead (spec_tree table.now.items) (raw_tree raw.now) stop) }
     ensures room { length output.new ≡ longest_block }
 {
     lister.clear();

@@ -2,6 +2,7 @@
 #![tactic(auto)]
 
 mod block;
+mod tables;
 mod work;
 
 pub use work::ShowViews;

@@ -7,13 +7,13 @@ ghost use Rattle.ax_tables.specs.Standing.{StandForEach};
 ghost use Rattle.ax_text.specs.ShowText.{ShowText, OpaqueShown};
 
 use crate::block::list_block;
+use crate::tables::{Tables, tables_of};
 use ax_check::Catalogue;
 use ax_model::RawBlock;
 use ax_outside::Sink;
 use ax_stream::{BlockStop, BlockWork, WorkStop, write_piece};
 use ax_tables::Codecs;
 use ax_text::Lister;
-use ax_text_view_work::{Tables, tables_of};
 use ax_view_work::blank_output;
 use std::alloc::{AllocError, Global};
 

@@ -22,8 +22,8 @@ use Rattle.ax_text.proofs.Printed.{none_put, both_put, braces_put}
 use Rattle.ax_text.specs.BlockText.{record_onto, records_onto}
 use Rattle.ax_text.specs.Printing.{after_spaces, Puts}
 use Rattle.ax_text.specs.ValueText.{Texts, opening, closing, one_onto, in_braces, kind_onto, entries_onto}
-use Rattle.ax_text_views.proofs.Marked.{slot_printed}
-use Rattle.ax_text_views.specs.Prints.{Prints, IsSlotPrinted, IsRecordPrinted, PrintsBody}
+use Rattle.ax_text_views.proofs.Marked.{slot_printed, entries_onto_are}
+use Rattle.ax_text_views.specs.Prints.{slots_onto, Prints, IsSlotPrinted, IsRecordPrinted, PrintsBody}
 use Rattle.ax_values.proofs.Marking.{compound_gets}
 use Rattle.ax_values.proofs.RecordSlots.{record_at, record_fault, forwards_record, one_more}
 use Rattle.ax_values.specs.Decoding.{IsRecordAt, IsBodyFault, IsFaultOf}
@@ -40,13 +40,15 @@ item_printed spec frn item body at end old mid new e p q =
 
 -- ---- a record
 
-pub record_printed : (spec : SpecTree) (mask : SlotMask) (body marks : List ℕ) (at here end : ℕ) (old a c d new : List ℕ) → IsMaskOf (record_slot_list spec) mask → MarksSlots mask body at here marks → Puts after_spaces (one_onto (codes "record")) old a
-    → Puts after_spaces (one_onto opening) a c → Prints (entries_onto 1 (record_slots spec)) (entries_at (record_slots spec) marks body here) body here end c d → Puts after_spaces (one_onto closing) d new → IsRecordPrinted spec body at end old new
-record_printed spec mask body marks at here end old a c d new m h w o p l = record {
-  entries = p.value;
-  read = compound_gets (record_slot_list spec) mask body marks at here end p.value m h p.read;
-  put = both_put (one_onto (codes "record")) (in_braces (entries_onto 1 (record_slots spec) p.value)) old a new w (braces_put (entries_onto 1 (record_slots spec) p.value) a c d new o p.put l);
-}
+pub record_printed : (spec : SpecTree) (mask : SlotMask) (body marks : List ℕ) (at here end : ℕ) (old a c d new : List ℕ) → NoFlaw spec → IsMaskOf (record_slot_list spec) mask → MarksSlots mask body at here marks → Puts after_spaces (one_onto (codes "record")) old a
+    → Puts after_spaces (one_onto opening) a c → Prints (slots_onto (record_slots spec)) (entries_at (record_slots spec) marks body here) body here end c d → Puts after_spaces (one_onto closing) d new → IsRecordPrinted spec body at end old new
+record_printed spec mask body marks at here end old a c d new clean m h w o p l =
+    let read = compound_gets (record_slot_list spec) mask body marks at here end p.value m h p.read in
+    let put : Puts after_spaces (entries_onto 1 (record_slots spec) p.value) c d = record { put = λ rest. p.put.put rest ∙ ap (λ t. c ++ after_spaces t) (sym (entries_onto_are (record_slot_list spec) body at end p.value rest (record_bounds spec clean) read)) } in record {
+      entries = p.value;
+      read = read;
+      put = both_put (one_onto (codes "record")) (in_braces (entries_onto 1 (record_slots spec) p.value)) old a new w (braces_put (entries_onto 1 (record_slots spec) p.value) a c d new o put l);
+    }
 
 -- ---- a body
 

@@ -5,16 +5,21 @@ use Rattle.ax_model.specs.Blocks.{read_block}
 use Rattle.ax_model.specs.Bodies.{SpellsBody}
 use Rattle.ax_model.specs.Reader.{Read, members_value}
 use Rattle.ax_model.specs.Specification.{SpecTree, record_kind}
-use Rattle.ax_model.specs.Tree.{MembersTree, EntriesTree, SlotTree, spare_slot, subitem, marked}
+use Rattle.ax_model.specs.Tree.{MembersTree, EntriesTree, no_entries, entry_and, SlotTree, SlotsTree, spare_slot, subitem, marked}
 use Rattle.ax_reader.specs.Reading.{Gets, kind_read}
 use Rattle.ax_text.specs.BlockText.{record_onto, records_onto, BlockLine}
 use Rattle.ax_text.specs.Printing.{after_spaces, Puts}
-use Rattle.ax_text.specs.Slots.{slot_onto}
+use Rattle.ax_text.specs.Slots.{slot_numbered, slot_onto}
 use Rattle.ax_text.specs.ValueText.{Texts, members_onto}
 
 -- the texts of members, with the values that the bits begin with
 abbrev pub members_read_onto : MembersTree → List ℕ → Texts → Texts
 members_read_onto ms b rest = members_onto ms (members_value ms b) rest
+
+-- the names and the values of entries, by the numbers of their slots
+abbrev pub slots_onto : SlotsTree → EntriesTree → Texts → Texts
+slots_onto ss no_entries rest = rest
+slots_onto ss (entry_and t v es) rest = slot_onto (slot_numbered ss t) v (slots_onto ss es rest)
 
 -- a value was read, from octet `at` of the body up to octet `end`, and its texts were printed
 pub record Prints {A : Type 0} (onto : A → Texts → Texts) (found : Read A) (body : List ℕ) (at end : ℕ) (old new : List ℕ) : Type 0 where

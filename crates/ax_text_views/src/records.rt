@@ -3,11 +3,12 @@ ghost use Rattle.std.specs.Prelude.{◌≡◌, ◌≤◌, length, IfOk, IfErr};
 ghost use Rattle.ax_bits.specs.Bits.{AreBits};
 ghost use Rattle.ax_model.specs.Flaws.{NoFlaw};
 ghost use Rattle.ax_model.specs.Plain.{spec_tree};
+ghost use Rattle.ax_model.specs.Presence.{NoneUndefined};
 ghost use Rattle.ax_model.specs.Sizes.{longest_body};
 ghost use Rattle.ax_model.specs.Specification.{record_slots, record_kind};
+ghost use Rattle.ax_model.specs.Tree.{defined_slots};
 ghost use Rattle.ax_reader.specs.Reading.{IsMaskOf, SlotInBounds, record_slot_list, slot_of_frn, kind_read, entries_at};
-ghost use Rattle.ax_text.specs.ValueText.{entries_onto};
-ghost use Rattle.ax_text_views.specs.Prints.{Prints, IsSlotPrinted, IsRecordPrinted};
+ghost use Rattle.ax_text_views.specs.Prints.{slots_onto, Prints, IsSlotPrinted, IsRecordPrinted};
 ghost use Rattle.ax_values.specs.SlotReading.{HasFailed, HasSlotFailed};
 
 use crate::kinds::print_value;
@@ -43,7 +44,6 @@ pub(crate) fn print_record(
 
 /// Prints the items of the marked field reference numbers, of which the first begins at octet `at`. Ok is the octet after
 /// them.
-#[tactic(auto, using(crate::proofs::Marked::lead_within))]
 fn print_items(
     line: &mut Line,
     items: &UapItems<'_>,
@@ -52,17 +52,17 @@ fn print_items(
     at: u32,
 ) -> Result<u32, DecodeError>
     requires spec { NoFlaw (spec_tree items.now.spec.now) }
+    requires clear { NoneUndefined (defined_slots (record_slots (spec_tree items.now.spec.now))) marked.now }
     requires marks { AreBits marked.now }
     requires body { length body.now ≤ longest_body }
     requires at { at ≤ length body.now }
-    ensures ok { IfOk result (λ end. Prints (entries_onto 1 (record_slots (spec_tree items.now.spec.now))) (entries_at (record_slots (spec_tree items.now.spec.now)) marked.now body.now at) body.now at end line.old line.new) }
+    ensures ok { IfOk result (λ end. Prints (slots_onto (record_slots (spec_tree items.now.spec.now))) (entries_at (record_slots (spec_tree items.now.spec.now)) marked.now body.now at) body.now at end line.old line.new) }
     ensures err { IfErr result (λ e. HasFailed (entries_at (record_slots (spec_tree items.now.spec.now)) marked.now body.now at) at e) }
 {
+    let mut left = *marked;
     let mut here = at;
-    for index in 0..items.spec().uap.count() {
-        if marked.has(index + 1) {
-            here = print_item(line, items, index + 1, body, here)?;
-        }
+    while let Some(frn) = left.take_first() {
+        here = print_item(line, items, frn, body, here)?;
     }
     Ok(here)
 }

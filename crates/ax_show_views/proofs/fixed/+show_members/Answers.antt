@@ -1,6 +1,6 @@
 use Rattle.std.proofs.Common.{◌≡◌, ◌<◌, length, get_or, subst}
 use Rattle.ax_bits.specs.Bits.{bits}
-use Rattle.ax_model.specs.Plain.{members_tree}
+use Rattle.ax_held_kinds.specs.Held.{held_members}
 use Rattle.ax_show_views.proofs.Members.{member_next}
 use Rattle.ax_show_views.proofs.fixed.+show_members.Goals as goal
 
@@ -14,6 +14,6 @@ show_members-loop-member-preserved t c =
     let is : m ≡ get_or all i m = subst (λ xs. m ≡ get_or xs i m) same c.member-item.is in
     record {
       within = c.in_ok-show_member.ensures.within;
-      shown = member_next (members_tree all) all i m (bits c.args.body.now) c.args.at.now c.loop-member.at c.args.path.now c.args.lister.now.out c.loop-member.lister.out c.loop-member.invariant.shown within is
+      shown = member_next (held_members all) all i m (bits c.args.body.now) c.args.at.now c.loop-member.at c.args.path.now c.args.lister.now.out c.loop-member.lister.out c.loop-member.invariant.shown within is
           c.show_member.new.at c.show_member.new.lister.out c.in_ok-show_member.ensures.lines c.in_ok-show_member.ensures.at;
     }

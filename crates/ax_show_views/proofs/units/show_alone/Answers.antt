@@ -1,14 +1,14 @@
 use Rattle.std.proofs.Common.{arith, refl}
 use Rattle.ax_bits.specs.Bits.{bits}
 use Rattle.std.proofs.Common.{drop, ◌*◌, ◌/◌}
-use Rattle.ax_model.specs.Plain.{fixed_tree}
+use Rattle.ax_held_kinds.specs.Held.{held_fixed}
 use Rattle.ax_model.specs.Reader.{fixed_value}
 use Rattle.ax_reader.proofs.AtOctets.{fixed_gets}
 use Rattle.ax_show_views.proofs.units.show_alone.Goals as goal
 
 pub returns-clause-ok : goal.returns-clause-ok
 returns-clause-ok c =
-    let f = fixed_tree c.args.fixed.now in
+    let f = held_fixed c.args.fixed.now in
     let v = fixed_value f (drop (8 * c.args.at) (bits c.args.body.now)) in
     record {
       value = v;

@@ -1,5 +1,5 @@
 use Rattle.std.proofs.Common.{◌≡◌, ◌+◌, ◌*◌, ◌/◌, ◌≤◌, length, arith, refl}
-use Rattle.ax_model.specs.Plain.{fixed_tree}
+use Rattle.ax_held_kinds.specs.Held.{held_fixed}
 use Rattle.ax_model.specs.Tree.{by_fx}
 use Rattle.ax_model.specs.Widths.{width}
 use Rattle.ax_reader.specs.Reading.{kind_read}
@@ -9,11 +9,11 @@ use Rattle.ax_values.proofs.Repeating.{unit_is}
 use Rattle.ax_show_views.proofs.units.show_run.Goals as goal
 
 pub loop-stop-init : goal.loop-stop-init
-loop-stop-init c = run_first (fixed_tree c.args.fixed.now) c.args.path.now c.args.body.now c.args.at c.args.lister.now.out c.requires.at
+loop-stop-init c = run_first (held_fixed c.args.fixed.now) c.args.path.now c.args.body.now c.args.at c.args.lister.now.out c.requires.at
 
 pub returns-in-Err-clause-err : goal.returns-in-Err-clause-err
 returns-in-Err-clause-err c =
-    let f = fixed_tree c.args.fixed.now in
+    let f = held_fixed c.args.fixed.now in
     let path = c.args.path.now in
     let body = c.args.body.now in
     let here = c.loop-stop.here in
@@ -24,7 +24,7 @@ returns-in-Err-clause-err c =
 
 pub returns-then-not-has_fx-clause-ok : goal.returns-then-not-has_fx-clause-ok
 returns-then-not-has_fx-clause-ok c =
-    let f = fixed_tree c.args.fixed.now in
+    let f = held_fixed c.args.fixed.now in
     let path = c.args.path.now in
     let body = c.args.body.now in
     let here = c.loop-stop.here in
@@ -38,7 +38,7 @@ returns-then-not-has_fx-clause-ok c =
 
 pub loop-stop-preserved : goal.loop-stop-preserved
 loop-stop-preserved c =
-    let f = fixed_tree c.args.fixed.now in
+    let f = held_fixed c.args.fixed.now in
     let path = c.args.path.now in
     let body = c.args.body.now in
     let here = c.loop-stop.here in

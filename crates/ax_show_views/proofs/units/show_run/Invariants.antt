@@ -1,10 +1,10 @@
 use Rattle.std.proofs.Common.{◌-◌, length}
-use Rattle.ax_model.specs.Plain.{fixed_tree}
+use Rattle.ax_held_kinds.specs.Held.{held_fixed}
 use Rattle.ax_show_views.proofs.UnitLines.{RunShown}
 use Rattle.ax_show_views.proofs.units.show_run.Given as goal
 
 abbrev pub invariant-loop-stop : goal.invariant-loop-stop
-invariant-loop-stop l = RunShown (fixed_tree l.fixed) l.path l.body l.at l.here l.fn.lister.out l.lister.out l.count
+invariant-loop-stop l = RunShown (held_fixed l.fixed) l.path l.body l.at l.here l.fn.lister.out l.lister.out l.count
 
 abbrev pub decreases-loop-stop : goal.decreases-loop-stop
 decreases-loop-stop l = length l.body - l.here

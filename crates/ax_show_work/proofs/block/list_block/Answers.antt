@@ -4,7 +4,7 @@ use Rattle.ax_blocks.specs.Reader.{raw_tree}
 use Rattle.ax_model.specs.Plain.{spec_tree, catalogue_tree}
 use Rattle.ax_show_work.proofs.Blocks.{stands, same_category, never, read_block_listed}
 use Rattle.ax_show_work.proofs.block.list_block.Goals as goal
-use Rattle.ax_text_view_work.proofs.TablesOf.{masked, known}
+use Rattle.ax_show_work.proofs.TablesOf.{masked, known}
 
 pub list_read-requires-clause-mask : goal.list_read-requires-clause-mask
 list_read-requires-clause-mask c = masked c.in-Some-get.table.now
@@ -23,4 +23,4 @@ unreachable-requires c =
 pub returns-in-Ok-clause-octets : goal.returns-in-Ok-clause-octets
 returns-in-Ok-clause-octets c =
     let there = known c.args.tables.now c.args.catalogue.now c.args.raw.now.category c.requires.tables c.get-in-Some.result c.in-Some-get.table c.get-in-Some.ensures.spec c.in-Some-get.is in
-    read_block_listed (catalogue_tree c.args.catalogue.now) c.args.number (raw_tree c.args.raw.now) (spec_tree c.in-Some-get.table.now.items.spec.now) c.list_read.new.lister.out c.args.raw.now.within_block there c.in-Ok.ensures.octets
+    read_block_listed (catalogue_tree c.args.catalogue.now) c.args.number (raw_tree c.args.raw.now) (spec_tree c.in-Some-get.table.now.items) c.list_read.new.lister.out c.args.raw.now.within_block there c.in-Ok.ensures.octets

@@ -1,3 +1,4 @@
+use Rattle.ax_held_kinds.proofs.MarkedSlots.{marks_clear}
 use Rattle.ax_model.specs.Plain.{spec_tree}
 use Rattle.ax_model.specs.Specification.{record_kind}
 use Rattle.ax_reader.proofs.Marking.{field_failed}
@@ -24,4 +25,7 @@ returns-in_err-end-clause-err c =
 pub returns-clause-ok : goal.returns-clause-ok
 returns-clause-ok c =
     record_printed (spec_tree c.args.items.now.spec.now) c.args.mask.now c.args.body.now c.read_presence.new.into c.args.at c.in_ok-here.here c.in_ok-end.end c.args.line.now c.text.new.self c.open.new.self c.print_items.new.line c.close.new.self
-    c.requires.mask c.in_ok-here.ensures.ok c.in_ok-text.ensures c.in_ok-open.ensures c.in_ok-end.ensures.ok c.in_ok-close.ensures
+    c.requires.spec c.requires.mask c.in_ok-here.ensures.ok c.in_ok-text.ensures c.in_ok-open.ensures c.in_ok-end.ensures.ok c.in_ok-close.ensures
+
+pub print_items-requires-clause-clear : goal.print_items-requires-clause-clear
+print_items-requires-clause-clear c = marks_clear (record_slot_list (spec_tree c.args.items.now.spec.now)) c.args.mask.now c.args.body.now c.read_presence.new.into c.args.at c.in_ok-here.here c.requires.mask c.in_ok-here.ensures.ok

@@ -1,0 +1,4 @@
+mod Entries
+pub mod MarkedSlots
+mod Masks
+mod UapSlots

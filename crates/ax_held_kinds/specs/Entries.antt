@@ -1,0 +1,14 @@
+-- Entries of tables as contents.
+use Rattle.std.specs.Prelude.{[], ◌∷◌, Option, Some, None}
+use Rattle.ax_model.specs.declared.content.Content.{Content}
+use Rattle.ax_model.specs.declared.content.Content.TheVariants.{Raw, Table}
+use Rattle.ax_model.specs.declared.content.TableText.{TableText}
+
+-- a table of one entry
+abbrev pub alone : TableText → Content
+alone entry = Table (entry ∷ [])
+
+-- what the first entry of a number says, if there is one
+abbrev pub said_by : Option TableText → Content
+said_by None = Raw
+said_by (Some entry) = alone entry

@@ -1,0 +1,73 @@
+//! Kinds with their tables' entries by number.
+use crate::by_number::EntriesByNumber;
+use ax_lists::Sequence;
+use ax_model::{Content, Counter, LastPart, Name};
+
+/// What an element's number means.
+#[derive(Drop)]
+pub enum HeldContent<'s> {
+    /// A content that is looked at as a whole: any but a table of many entries.
+    Plain(&'s Content),
+    /// A table of many entries.
+    Table(EntriesByNumber<'s>),
+}
+
+/// The members of a group or a part, in order.
+pub type HeldMembers<'s> = Sequence<HeldMember<'s>>;
+
+/// A run of bits of a known length.
+#[cycle(fixed)]
+#[derive(Drop)]
+pub enum HeldFixed<'s> {
+    Element {
+        width: u32,
+        content: HeldContent<'s>,
+    },
+    Group(HeldMembers<'s>),
+}
+
+/// A member of a group or a part. A spare has a width in bits and no name.
+#[cycle(fixed)]
+#[derive(Drop)]
+pub enum HeldMember<'s> {
+    Named { name: Name, fixed: HeldFixed<'s> },
+    Spare { width: u32 },
+}
+
+/// A part of an extended item.
+#[derive(Drop)]
+pub struct HeldPart<'s> {
+    pub members: HeldMembers<'s>,
+}
+
+/// The parts of an extended item, in order.
+pub type HeldParts<'s> = Sequence<HeldPart<'s>>;
+
+/// The slots of a compound or of a UAP, in order; the first is slot 1.
+pub type HeldSlots<'s> = Sequence<HeldSlot<'s>>;
+
+/// The kind of an item, a subitem or a counted body.
+#[cycle(kind)]
+#[derive(Drop)]
+pub enum HeldKind<'s> {
+    Fixed(HeldFixed<'s>),
+    Extended {
+        last: LastPart,
+        parts: HeldParts<'s>,
+    },
+    Counted {
+        counter: Counter,
+        inner: Box<HeldKind<'s>>,
+    },
+    ByFx(HeldFixed<'s>),
+    Explicit,
+    Compound(HeldSlots<'s>),
+}
+
+/// A slot of a compound or of a UAP.
+#[cycle(kind)]
+#[derive(Drop)]
+pub enum HeldSlot<'s> {
+    Spare,
+    Sub { name: Name, kind: HeldKind<'s> },
+}

@@ -1,5 +1,5 @@
 -- The test of alikeness holds exactly for alike kinds.
-use Rattle.std.proofs.Common.{◌≡◌, ◌↔◌, Bool, true, false, ◌&&◌, refl, sym, ◌∙◌, ap}
+use Rattle.std.proofs.Common.{◌≡◌, ◌↔◌, Bool, true, false, ◌&&◌, sym, ◌∙◌}
 use Rattle.ax_edition_laws.proofs.SameKinds.{both, same_kinds, kinds_same}
 use Rattle.ax_model.specs.Same.{is_same}
 use Rattle.ax_model.specs.Tree.{KindTree}

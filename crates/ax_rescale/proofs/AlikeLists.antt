@@ -1,27 +1,14 @@
--- Lists of unlike lengths are neither the same nor alike.
-use Rattle.std.proofs.Common.{◌≡◌, ◌≢◌, suc, List, [], ◌∷◌, length, map, Bool, true, false, ◌&&◌, refl, ◌∙◌, ap}
-use Rattle.ax_model.specs.Plain.{member_tree, members_tree, part_tree, slot_tree, slots_tree}
-use Rattle.ax_model.specs.Same.{is_same_member, are_same_members, are_same_parts, is_same_slot, are_same_slots}
+-- Lists of unlike lengths aren't alike.
+use Rattle.std.proofs.Common.{◌≡◌, ◌≢◌, suc, List, [], ◌∷◌, length, Bool, true, false, ◌&&◌, refl, ap}
+use Rattle.ax_model.specs.Plain.{member_tree, members_tree, slot_tree, slots_tree}
+use Rattle.ax_model.specs.Same.{is_same_member, are_same_members, is_same_slot, are_same_slots}
 use Rattle.ax_model.specs.declared.kind.Member.{Member}
-use Rattle.ax_model.specs.declared.kind.Part.{Part}
 use Rattle.ax_model.specs.declared.kind.Slot.{Slot}
 use Rattle.ax_rescale.specs.Alike.{unscaled_member, unscaled_members, unscaled_slot, unscaled_slots}
 
 and_false : (b c : Bool) → false ≡ c → false ≡ b && c
 and_false true c e = e
 and_false false c e = refl
-
-pub own_members : (ms ns : List Member) → length ms ≢ length ns → false ≡ are_same_members (members_tree ms) (members_tree ns)
-own_members [] [] ne = absurd (ne refl)
-own_members [] (n ∷ ns) ne = refl
-own_members (m ∷ ms) [] ne = refl
-own_members (m ∷ ms) (n ∷ ns) ne = and_false (is_same_member (member_tree m) (member_tree n)) (are_same_members (members_tree ms) (members_tree ns)) (own_members ms ns (λ e. ne (ap suc e)))
-
-pub parts : (ps qs : List Part) → length ps ≢ length qs → false ≡ are_same_parts (map part_tree ps) (map part_tree qs)
-parts [] [] ne = absurd (ne refl)
-parts [] (q ∷ qs) ne = refl
-parts (p ∷ ps) [] ne = refl
-parts (p ∷ ps) (q ∷ qs) ne = and_false (are_same_members (part_tree p) (part_tree q)) (are_same_parts (map part_tree ps) (map part_tree qs)) (parts ps qs (λ e. ne (ap suc e)))
 
 pub members : (ms ns : List Member) → length ms ≢ length ns → false ≡ are_same_members (unscaled_members (members_tree ms)) (unscaled_members (members_tree ns))
 members [] [] ne = absurd (ne refl)

@@ -1,5 +1,5 @@
 -- Occurrences converted one after another.
-use Rattle.std.proofs.Common.{◌≡◌, List, [], ◌∷◌, ◌++◌, length, sym, subst}
+use Rattle.std.proofs.Common.{◌≡◌, List, [], ◌∷◌, ◌++◌, sym, subst}
 use Rattle.ax_model.specs.Plain.{value_tree, values_tree}
 use Rattle.ax_model.specs.Shape.{EachShape}
 use Rattle.ax_model.specs.Tree.{KindTree, counted, by_fx, compound, FixedTree, SlotsTree, ValueTree, occurrences, marked, ValuesTree, no_values, value_and, EntriesTree}

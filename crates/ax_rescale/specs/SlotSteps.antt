@@ -2,7 +2,7 @@
 use Rattle.std.specs.Prelude.{◌≡◌, ℕ, ◌+◌, ◌≤◌, ◌==◌, MatchBool, List, [], ◌∷◌, ◌++◌, length}
 use Rattle.ax_model.specs.Plain.{entry_tree}
 use Rattle.ax_model.specs.Shape.{Shape, EntriesShape}
-use Rattle.ax_model.specs.Tree.{SlotTree, spare_slot, subitem, SlotsTree, slot_and, EntriesTree, no_entries, entry_and}
+use Rattle.ax_model.specs.Tree.{SlotTree, subitem, SlotsTree, slot_and, EntriesTree, entry_and}
 use Rattle.ax_model.specs.declared.value.Entry.{Entry}
 use Rattle.ax_rescale.specs.Converted.{EntriesConverted}
 

@@ -3,9 +3,9 @@ ghost use Rattle.std.specs.Prelude.{◌≡◌, ◌↔◌, true};
 ghost use Rattle.ax_model.specs.Plain.{fixed_tree, member_tree, members_tree, kind_tree, slot_tree, slots_tree};
 ghost use Rattle.ax_model.specs.Same.{is_same_fixed, is_same_member, are_same_members, is_same, is_same_slot, are_same_slots};
 ghost use Rattle.ax_model.specs.Tree.{element, no_members, member_and, no_slots, slot_and};
-ghost use Rattle.ax_rescale.specs.Alike.{Alike, is_plain, unscaled_fixed, unscaled_member, unscaled_members, unscaled, unscaled_slot, unscaled_slots};
+ghost use Rattle.ax_rescale.specs.Alike.{Alike, is_alike, is_plain, unscaled_fixed, unscaled_member, unscaled_members, unscaled, unscaled_slot, unscaled_slots};
 
-use crate::sameness::{same_content, same_counter, same_last, same_parts};
+use ax_edition::{same_content, same_counter, same_last, same_parts};
 use ax_model::{Content, Fixed, Kind, Member, Members, Slot, Slots};
 
 /// Whether two elements are the same; of two quantities only the units count.
@@ -144,7 +144,8 @@ fn is_converted(kind: &Kind) -> bool
 /// the width and the scale of each quantity that stands in no extended kind. A quantity's unit counts.
 #[tactic(auto, using(crate::proofs::AlikeKinds::plain_kinds, crate::proofs::AlikeKinds::compound_kinds))]
 pub fn is_alike(old: &Kind, new: &Kind) -> bool
-    ensures { result ≡ true ↔ Alike (kind_tree old.now) (kind_tree new.now) }
+    ensures test { result ≡ is_alike (kind_tree old.now) (kind_tree new.now) }
+    ensures alike { result ≡ true ↔ Alike (kind_tree old.now) (kind_tree new.now) }
 {
     is_converted(old) && is_converted(new) && alike_kind(old, new)
 }

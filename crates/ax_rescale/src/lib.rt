@@ -2,6 +2,9 @@
 #![tactic(auto)]
 
 mod alike;
+mod beside;
+mod conversion_laws;
+mod converter;
 mod divisor;
 mod error;
 mod examples;
@@ -10,18 +13,26 @@ mod fronts;
 mod kind_examples;
 mod laws;
 mod miss;
+mod missing;
 mod number;
 mod octets;
+mod passing;
 #[cfg(test)]
 mod rows;
-mod sameness;
 #[cfg(test)]
 mod split_rows;
 mod splitting;
 mod value_laws;
 mod values;
+mod watches;
+mod ways;
 
 pub use alike::is_alike;
+pub use conversion_laws::{
+    converted_value_is_the_one, converts_to_one_block, converts_to_one_record,
+    each_key_has_one_fate, records_converted,
+};
+pub use converter::{ConvertedBlock, Converter, convert_tree};
 pub use error::SplitError;
 pub use examples::{converted_numbers, lines_of_misses};
 pub use kind_examples::{
@@ -29,6 +40,7 @@ pub use kind_examples::{
 };
 pub use laws::converts_to_one_number;
 pub use miss::{Miss, miss_line};
+pub use missing::Misses;
 pub use number::convert_number;
 pub use splitting::{Pieces, split};
 pub use value_laws::{

@@ -3,10 +3,10 @@ use Rattle.std.proofs.lemmas.List.{drop_all, length_push}
 use Rattle.ax_model.proofs.Namings.{from_place}
 use Rattle.ax_model.specs.Plain.{slots_tree}
 use Rattle.ax_rescale.proofs.EachSteps.{each_ready, each_made, each_none, each_all}
-use Rattle.ax_rescale.proofs.EntrySteps.{spare_step, sub_empty, sub_later, sub_first, sub_none, sub_ready, spare_is, sub_is, step_as, none_as, shape_as, slot_ready, slot_made, slot_none, entries_all, no_slot_left, slots_too_many, one_more}
+use Rattle.ax_rescale.proofs.EntrySteps.{spare_step, sub_empty, sub_later, spare_is, sub_is, step_as, slot_ready, slot_made, slot_none, entries_all, no_slot_left, slots_too_many, one_more}
 use Rattle.ax_rescale.proofs.GroupSteps.{if_some, if_none, match_some, match_none}
 use Rattle.ax_rescale.proofs.CountedKinds.{none_inner, made_inner, scaled_inner, shape_inner}
-use Rattle.ax_rescale.proofs.Weights.{weights, inner_weight, slots_weight, sub_weight, member_weight}
+use Rattle.ax_rescale.proofs.Weights.{weights, inner_weight, member_weight}
 use Rattle.ax_rescale.proofs.values.+convert_value.Goals as goal
 use Rattle.ax_rescale.proofs.values.+convert_value.Goals.{convert_slot-in_default-split_first-via-in-Some+else-from-number, convert_slot-in_default-split_first-via-in_default-split_first}
 

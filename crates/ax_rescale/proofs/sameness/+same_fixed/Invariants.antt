@@ -1,9 +1,0 @@
-use Rattle.std.proofs.Common.{◌≡◌, length}
-use Rattle.ax_model.specs.Plain.{members_tree}
-use Rattle.ax_model.specs.Same.{are_same_members}
-use Rattle.ax_rescale.proofs.sameness.+same_fixed.Given as goal
-
-abbrev pub invariant-same_members-loop-member : goal.invariant-same_members-loop-member
-invariant-same_members-loop-member l =
-    (length l.member-iterator.a.rest.now ≡ length l.member-iterator.b.rest.now)
-    × (are_same_members (members_tree l.one) (members_tree l.other) ≡ are_same_members (members_tree l.member-iterator.a.rest.now) (members_tree l.member-iterator.b.rest.now))

@@ -1,9 +1,0 @@
-use Rattle.std.proofs.Common.{◌≡◌, length, map}
-use Rattle.ax_model.specs.Plain.{part_tree}
-use Rattle.ax_model.specs.Same.{are_same_parts}
-use Rattle.ax_rescale.proofs.sameness.same_parts.Given as goal
-
-abbrev pub invariant-loop-part : goal.invariant-loop-part
-invariant-loop-part l =
-    (length l.part-iterator.a.rest.now ≡ length l.part-iterator.b.rest.now)
-    × (are_same_parts (map part_tree l.one) (map part_tree l.other) ≡ are_same_parts (map part_tree l.part-iterator.a.rest.now) (map part_tree l.part-iterator.b.rest.now))

@@ -1,0 +1,85 @@
+//! What a record's conversion misses.
+ghost use Rattle.std.specs.Prelude.{◌≡◌, ◌++◌, ◌∷◌, [], ◌&&◌, not, is_none, is_some, length, OnOk};
+ghost use Rattle.ax_model.specs.Placed.{has_part};
+ghost use Rattle.ax_model.specs.Plain.{entries_tree, spec_tree, value_tree};
+ghost use Rattle.ax_rescale.specs.Watching.{AreWatched, record_misses, stands};
+
+use crate::converter::Converter;
+use crate::miss::Miss;
+use crate::watches::Watch;
+use ax_lists::Sequence;
+use ax_model::{Entries, Place, Value};
+use ax_relation::{has_part, is_there, value_standing};
+use std::alloc::{AllocError, Global};
+
+/// Misses, by record and, in a record, by ascending field reference number, a compound before its subitems, an extended item
+/// before its parts.
+pub type Misses = Sequence<Miss>;
+
+/// Whether a converted value stands there.
+fn stands(target: &Option<Place>, made: &Entries) -> bool
+    ensures { result ≡ stands target.now (entries_tree made.now) }
+{
+    match target {
+        Some(place) => is_there(made, place, None),
+        None => false,
+    }
+}
+
+/// Whether a key, at whose place this value stands, is present and missed.
+fn is_missed(one: &Watch<'_>, value: &Value, made: &Entries) -> bool
+    ensures { result ≡ (is_none one.now.path.now.new && has_part one.now.path.now.part (value_tree value.now)) && not (stands one.now.target (entries_tree made.now)) }
+{
+    one.path.new.is_none() && has_part(value, one.path.part) && !stands(&one.target, made)
+}
+
+/// Appends the miss of a key. A list of more than 2^32 - 1 misses is a want of memory.
+fn push_miss(
+    alloc: Global,
+    misses: &mut Misses,
+    number: u32,
+    one: &Watch<'_>,
+) -> Result<(), AllocError>
+    ensures { OnOk result (misses.new ≡ misses.old ++ record { record_at = number; path = one.now.path.now.text; unconverted = is_some one.now.target } ∷ []) }
+{
+    let path = one.path.text.copy(alloc)?;
+    if misses.count() == u32::MAX {
+        return Err(AllocError);
+    }
+    misses.push(Miss {
+        record_at: number,
+        path,
+        unconverted: one.target.is_some(),
+    })
+}
+
+/// Appends what the conversion of a record of that number misses: its entries, and those that were made of them.
+pub(crate) fn miss_record(
+    alloc: Global,
+    converter: &Converter<'_>,
+    misses: &mut Misses,
+    number: u32,
+    entries: &Entries,
+    made: &Entries,
+) -> Result<(), AllocError>
+    requires watched { AreWatched (spec_tree converter.now.old.now) (spec_tree converter.now.new.now) converter.now.watches converter.now.relation.now.paths }
+    requires all { length converter.now.watches ≡ length converter.now.relation.now.paths }
+    ensures { OnOk result (misses.new ≡ misses.old ++ record_misses (spec_tree converter.now.old.now) (spec_tree converter.now.new.now) number (entries_tree entries.now) (entries_tree made.now) converter.now.relation.now.paths) }
+{
+    let watches = converter.watches.as_slice();
+    let mut at: usize = 0;
+    while at < watches.len() {
+        let one = &watches[at];
+        at += 1;
+        match value_standing(entries, &one.path.old) {
+            Some(value) => {
+                if is_missed(one, value, made) {
+                    push_miss(alloc, misses, number, one)?;
+                }
+            }
+            // Nothing stands below either.
+            None => at += one.skip as usize,
+        }
+    }
+    Ok(())
+}

@@ -1,0 +1,84 @@
+//! Values and entries of the old edition, as they come to the new one.
+ghost use Rattle.std.specs.Prelude.{◌≡◌, ◌++◌, map, IfOk, OnOk, option_map};
+ghost use Rattle.ax_model.specs.Plain.{value_tree, entry_tree, entries_tree};
+ghost use Rattle.ax_rescale.specs.ConvertedValue.{converted_value};
+ghost use Rattle.ax_rescale.specs.PlainWays.{pair_tree, way_tree, ways_tree};
+ghost use Rattle.ax_rescale.specs.Ready.{PairReady, ValueReady, WayReady, WaysReady};
+ghost use Rattle.ax_rescale.specs.Ways.{passed_by, way_entries, way_value};
+
+use crate::values::convert_value;
+use crate::ways::{AlikePair, Way, Ways};
+use ax_model::{Entries, Entry, Value};
+use ax_relation::{first_copies, value_of};
+use std::alloc::{AllocError, Global};
+
+/// The converted value; None where there is none.
+fn converted(alloc: Global, pair: AlikePair<'_>, value: &Value) -> Result<Option<Value>, AllocError>
+    requires { PairReady (pair_tree pair) (value_tree value.now) }
+    ensures { IfOk result (λ made. option_map value_tree made ≡ converted_value (pair_tree pair.entry).old (pair_tree pair.entry).new (value_tree value.now)) }
+{
+    convert_value(alloc, pair.old, pair.new, value)
+}
+
+/// The value as it comes to the new slot of a way: converted, if it can be; else of an extended item so many first parts, in a
+/// compound what passes below, and else all of it.
+#[cycle(passing)]
+fn value_by(alloc: Global, one: &Way<'_>, value: &Value) -> Result<Option<Value>, AllocError>
+    requires { ValueReady (way_tree one.now) (value_tree value.now) }
+    ensures { IfOk result (λ made. option_map value_tree made ≡ way_value (way_tree one.now) (value_tree value.now)) }
+{
+    if let Some(pair) = one.alike {
+        return converted(alloc, pair, value);
+    }
+    let passed = match value {
+        Value::Compound(entries) => { Value::Compound(passed_entries(alloc, &one.below, entries)?) }
+        Value::Extended(lists) => Value::Extended(first_copies(alloc, one.parts, lists)?),
+        _ => value.copy(alloc)?,
+    };
+    Ok(Some(passed))
+}
+
+/// Appends the entry that a way makes, if there is one. A list of more than 2^32 - 1 entries is a want of memory.
+#[cycle(passing)]
+fn pass_entry(
+    alloc: Global,
+    one: &Way<'_>,
+    entries: &Entries,
+    made: &mut Entries,
+) -> Result<(), AllocError>
+    requires { WayReady (way_tree one.now) (entries_tree entries.now) }
+    ensures { OnOk result (map entry_tree made.new ≡ map entry_tree made.old ++ way_entries (way_tree one.now) (entries_tree entries.now)) }
+{
+    let Some(value) = value_of(entries, one.old) else {
+        return Ok(());
+    };
+    let Some(value) = value_by(alloc, one, value)? else {
+        return Ok(());
+    };
+    if made.count() == u32::MAX {
+        return Err(AllocError);
+    }
+    made.push(Entry {
+        slot: one.new,
+        value,
+    })?;
+    Ok(())
+}
+
+/// The entries as they come to the new edition, in the order of the ways.
+#[cycle(passing)]
+#[tactic(auto, using(crate::proofs::PassedEntries::entries))]
+pub(crate) fn passed_entries(
+    alloc: Global,
+    ways: &Ways<'_>,
+    entries: &Entries,
+) -> Result<Entries, AllocError>
+    requires { WaysReady (ways_tree ways.now) (entries_tree entries.now) }
+    ensures { IfOk result (λ made. entries_tree made ≡ passed_by (ways_tree ways.now) (entries_tree entries.now)) }
+{
+    let mut made = Entries::new(alloc);
+    for one in ways.as_slice() {
+        pass_entry(alloc, one, entries, &mut made)?;
+    }
+    Ok(made)
+}

@@ -24,6 +24,7 @@ printf 'expansion 048 edition "k" fixed 16 { A element 8 raw }' > sixteen
 printf 'expansion 048 edition "k" fixed 1 { A element 7 raw }' > flawed
 printf 'expansion 034 edition "k" fx { A element 8 raw }' > unused
 printf '\\x30\\x00\\x0a\\x01\\x01\\x01\\x02\\x03\\x40\\x05\\x30\\x00\\x0b\\x01\\x01\\x01\\x02\\x04\\x80\\x05\\x07' > unread
+printf '\\xd1\\x00\\x0c\\x80\\x01\\x00\\x80\\x01\\x01\\x80\\x02\\x00' > seconds
 printf '\\xd4\\xc3\\xb2\\xa1\\x02\\x00\\x04\\x00\\x00\\x00\\x00\\x00' > capture
 """
 BESIDE = {
@@ -31,6 +32,8 @@ BESIDE = {
     "F": "samples/F",
     "048-P1": "samples/048-P1",
     "X": "samples/X",
+    "Y1": "samples/Y1",
+    "Y3": "samples/Y3",
     "034": "categories/034-1.29",
     "048": "categories/048-1.31",
     "old": "categories/048-1.30",
@@ -307,6 +310,13 @@ CASES = [
         "migrate before after < losing",
         [
             "laid out otherwise: before:182:5 `spare`, after:182:5 `SFC`",
+            "(said once of each path)",
+        ],
+    ),
+    (
+        "convert Y1 Y3 < seconds",
+        [
+            "a number of it isn't whole there, or doesn't come into its bits: Y1:1:55 `16`, Y3:1:55 `8`",
             "(said once of each path)",
         ],
     ),

@@ -5,8 +5,8 @@ Compares the commands of BINARY (else crates/asterix/out/asterix) with decoder.r
 stream of make_stream.py. Each round runs `cat`, the decoder and each command once, one after another, from a file to
 /dev/null, standard error too. --only leaves the rows whose name has WORD, and the decoder. A row of the table says:
 
-  time      the median of the rounds as a multiple of the decoder's median, and [the least..the greatest]; for migrate and expand,
-            the decoder's on the same blocks, those of category 048; for build, the decoder's on the blocks that it makes
+  time      the median of the rounds as a multiple of the decoder's median, and [the least..the greatest]; for migrate, convert and
+            expand, the decoder's on the same blocks, those of category 048; for build, the decoder's on the blocks that it makes
   processor the time on a processor, likewise
   MB/s      octets of data blocks by the median time; of build those that it makes, of the others those that they read
   peak kB   the greatest memory in use at a time, of a run apart from the rounds
@@ -83,6 +83,7 @@ def commands(room, binary, stream, targets, only):
         Row("filter SAC = 25", [binary, "filter", "is 048/010/SAC = 25", *SAMPLES], stream, "decoder", octets),
         Row("filter all { }", [binary, "filter", "all { }", *SAMPLES], stream, "decoder", octets),
         Row("migrate", [binary, "migrate", *EDITIONS], targets, "decoder 048", targets.stat().st_size),
+        Row("convert", [binary, "convert", *EDITIONS], targets, "decoder 048", targets.stat().st_size),
         # The contents of RE in the stream are by chance, so nearly each one has a line on standard error.
         Row("expand", [binary, "expand", *EXPANSION], targets, "decoder 048", targets.stat().st_size),
         Row("text", [binary, "text", *SAMPLES], stream, "decoder", octets),

@@ -53,6 +53,7 @@ void *aligned_alloc(size_t align, size_t size) {
 
 NORTH = bytes.fromhex('22000ae0190c01000080')
 LOSING = bytes.fromhex('300008a0190ca100')
+SECONDS = bytes.fromhex('d1000c800100800101800200')
 TARGET = bytes.fromhex('30001efdd0190c350000a0190040000e0005783c6501042c60820820002a')
 LINE = b'block 048 { record { 010 { SAC 25 SIC 12 } } }\n'
 
@@ -60,6 +61,7 @@ LINE = b'block 048 { record { 010 { SAC 25 SIC 12 } } }\n'
 RUNS = [
     (['canon', 'E'], NORTH),
     (['migrate', '048-P1', '048-P2'], LOSING * 2),
+    (['convert', 'Y1', 'Y3'], SECONDS),
     (['build', '048-P1'], LINE),
     (['check', 'F'], b''),
     (['show', '048-P1'], TARGET),

@@ -3,7 +3,7 @@ _asterix() {
     local word=${COMP_WORDS[COMP_CWORD]} at=$((COMP_CWORD - 2)) shape=() what
     COMPREPLY=()
     if [ "$COMP_CWORD" = 1 ]; then
-        mapfile -t COMPREPLY < <(compgen -W 'check canon show text build filter migrate trial salvage expand --help --version' -- "$word")
+        mapfile -t COMPREPLY < <(compgen -W 'check canon show text build filter migrate trial salvage expand convert --help --version' -- "$word")
         return
     fi
     case ${COMP_WORDS[1]} in
@@ -17,6 +17,7 @@ _asterix() {
         trial) shape=(SPEC SEED COUNT) ;;
         salvage) shape=(SPEC...) ;;
         expand) shape=(SPEC EXPANSION) ;;
+        convert) shape=(OLD NEW) ;;
     esac
     what=${shape[at]-}
     # What ends with three dots may come any number of times.

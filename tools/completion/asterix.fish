@@ -25,6 +25,8 @@ function __asterix_wants_file
             set shape SPEC...
         case expand
             set shape SPEC EXPANSION
+        case convert
+            set shape OLD NEW
     end
     test (count $shape) -gt 0; or return 1
     # What ends with three dots may come any number of times.
@@ -48,4 +50,5 @@ for program in asterix asterix-why
     complete -c $program -n '__fish_is_nth_token 1' -a trial -d 'make blocks from a seed and count them'
     complete -c $program -n '__fish_is_nth_token 1' -a salvage -d 'write the sound blocks as they came, and tell each damaged one'
     complete -c $program -n '__fish_is_nth_token 1' -a expand -d 'tell what stands in the RE of each record, by an expansion file'
+    complete -c $program -n '__fish_is_nth_token 1' -a convert -d 'write the blocks of one edition of a category in another, with their quantities converted'
 end

@@ -1,81 +1,95 @@
--- The files and the job of `migrate`.
-use Rattle.std.proofs.Common.{◌≡◌, ℕ, false, true, IsFalse, Option, Some, None, Result, Ok, Err, IfOk, IfErr, List, [], ◌∷◌, refl, sym, ◌∙◌, subst}
+-- The files and the jobs of `migrate` and `convert`.
+use Rattle.std.proofs.Common.{◌≡◌, ℕ, false, true, Some, None, Result, Ok, Err, IfOk, List, [], ◌∷◌, refl, sym, ◌∙◌, subst}
 use Rattle.ax_command.specs.declared.outcome.JobStop.{JobStop}
 use Rattle.ax_command.specs.declared.outcome.Outcome.{Outcome}
 use Rattle.ax_command.specs.declared.outcome.Refusal.TheVariants.{OtherCategory}
+use Rattle.ax_convert_work.specs.ConvertCommand.{convert_command}
 use Rattle.ax_migrate_work.specs.Commands.{migrate_command}
 use Rattle.ax_model.specs.Plain.{spec_tree}
 use Rattle.ax_model.specs.Specification.{SpecTree}
 use Rattle.ax_model.specs.declared.spec.Spec.{Spec}
 use Rattle.ax_outside.specs.Changes.{SourceChange, SinkChange}
+use Rattle.ax_stream.specs.Commands.{BlockCommand}
 use Rattle.ax_words.specs.declared.line.Line.{Line}
-use Rattle.ax_words.specs.declared.line.Line.TheVariants.{Check, Canon, Show, Text, Build, Filter, Migrate, Trial, Salvage, Expand, Help, Version}
-use Rattle.ax_app.specs.Given.{only, takes_distinct, expansion_of}
-use Rattle.ax_app.specs.Jobs.{Job, each_block, refuses, IsJob, MigratesBetween, IsMigrateJob, migrates, other_category, IsStopped, BlocksRun, RunsJob}
-use Rattle.ax_app.specs.Loaded.{given_of, IsLoadedFor}
-use Rattle.ax_app.specs.declared.loading.Loaded.{Loaded}
-use Rattle.ax_app.specs.declared.loading.Loaded.TheVariants as LoadedOf
+use Rattle.ax_words.specs.declared.line.Line.TheVariants.{Check, Canon, Show, Text, Build, Filter, Migrate, Trial, Salvage, Expand, Convert, Help, Version}
+use Rattle.ax_app.specs.Given.{only, TakesEditions}
+use Rattle.ax_app.specs.Jobs.{Job, each_block, refuses, IsJob, OverEditions, IsEditionsJob, answers_each, other_category, BlocksRun, RunsJob}
+
+-- ---- the lines
 
 -- no other command takes two editions
-pub record IsMigrate (line : Line) : Type 0 where
-  pub names : List ℕ × List ℕ
-  pub is : line ≡ Migrate names.0 names.1
+data IsOfEditions (line : Line) : Type 0 where
+  migrate : (old new : List ℕ) → line ≡ Migrate old new → IsOfEditions line
+  convert : (old new : List ℕ) → line ≡ Convert old new → IsOfEditions line
 
-never : (line : Line) → true ≡ false → IsMigrate line
+never : (line : Line) → true ≡ false → IsOfEditions line
 never line h = absurd (cc)
 
-never_expands : (spec expansion : List ℕ) → Some expansion ≡ None → IsMigrate (Expand spec expansion)
+never_expands : (spec expansion : List ℕ) → Some expansion ≡ None → IsOfEditions (Expand spec expansion)
 never_expands spec expansion e = absurd (cc)
 
-pub is_migrate : (line : Line) → IsFalse (takes_distinct line) × (expansion_of line ≡ None) → IsMigrate line
-is_migrate (Check file) h = never (Check file) h.0
-is_migrate (Canon files) h = never (Canon files) h.0
-is_migrate (Show files) h = never (Show files) h.0
-is_migrate (Text files) h = never (Text files) h.0
-is_migrate (Build files) h = never (Build files) h.0
-is_migrate (Filter expression files) h = never (Filter expression files) h.0
-is_migrate (Migrate old new) h = record { names = (old, new); is = refl }
-is_migrate (Trial file seed count) h = never (Trial file seed count) h.0
-is_migrate (Salvage files) h = never (Salvage files) h.0
-is_migrate (Expand spec expansion) h = never_expands spec expansion h.1
-is_migrate Help h = never Help h.0
-is_migrate Version h = never Version h.0
+of_editions : (line : Line) → TakesEditions line → IsOfEditions line
+of_editions (Check file) h = never (Check file) h.0
+of_editions (Canon files) h = never (Canon files) h.0
+of_editions (Show files) h = never (Show files) h.0
+of_editions (Text files) h = never (Text files) h.0
+of_editions (Build files) h = never (Build files) h.0
+of_editions (Filter expression files) h = never (Filter expression files) h.0
+of_editions (Migrate old new) h = migrate old new refl
+of_editions (Trial file seed count) h = never (Trial file seed count) h.0
+of_editions (Salvage files) h = never (Salvage files) h.0
+of_editions (Expand spec expansion) h = never_expands spec expansion h.1
+of_editions (Convert old new) h = convert old new refl
+of_editions Help h = never Help h.0
+of_editions Version h = never Version h.0
 
--- what `migrate` says of two editions, the command says of what was loaded
-module _ (line : Line) (loaded : Loaded) (old new : Spec) where
-  pub editions_run : (i : SourceChange) (o r : SinkChange) (result : Result Outcome JobStop) → loaded ≡ LoadedOf.Editions old new → IsLoadedFor line loaded
-      → ((names : List ℕ × List ℕ) → IfOk result (RunsJob (Migrate names.0 names.1) (only (spec_tree old ∷ spec_tree new ∷ [])) i o r)) → IfOk result (RunsJob line (given_of loaded) i o r)
-  editions_run i o r result is for run =
-      let m = is_migrate line (subst (IsLoadedFor line) is for) in
-      subst (λ l. IfOk result (RunsJob l (given_of loaded) i o r)) (sym m.is) (subst (λ l. IfOk result (RunsJob (Migrate m.names.0 m.names.1) (given_of l) i o r)) (sym is) (run m.names))
+-- ---- their jobs
 
-  pub editions_stopped : (result : Result Outcome JobStop) → loaded ≡ LoadedOf.Editions old new → IsLoadedFor line loaded
-      → ((names : List ℕ × List ℕ) → IfErr result (IsStopped (Migrate names.0 names.1) (only (spec_tree old ∷ spec_tree new ∷ [])))) → IfErr result (IsStopped line (given_of loaded))
-  editions_stopped result is for stopped =
-      let m = is_migrate line (subst (IsLoadedFor line) is for) in
-      subst (λ l. IfErr result (IsStopped l (given_of loaded))) (sym m.is) (subst (λ l. IfErr result (IsStopped (Migrate m.names.0 m.names.1) (given_of l))) (sym is) (stopped m.names))
+-- a line whose jobs are those of this command
+module _ (line : Line) (command : SpecTree → SpecTree → BlockCommand) (jobs : (specs : List SpecTree) (job : Job) → OverEditions command specs job → IsJob line (only specs) job) (old new : Spec) where
+  editions_run : (i : SourceChange) (o r : SinkChange) (result : Result Outcome JobStop) → old.category ≡ new.category → IfOk result (BlocksRun (command (spec_tree old) (spec_tree new)) i o r)
+      → IfOk result (RunsJob line (only (spec_tree old ∷ spec_tree new ∷ [])) i o r)
+  editions_run i o r (Ok outcome) same runs = record {
+    job = each_block (command (spec_tree old) (spec_tree new));
+    is = jobs _ _ (record { old = spec_tree old; new = spec_tree new; two = refl; is = answers_each same refl });
+    runs = runs;
+  }
+  editions_run i o r (Err stop) same runs = tt
 
-pub migrate_runs : (names : List ℕ × List ℕ) (old new : Spec) (i : SourceChange) (o r : SinkChange) (result : Result Outcome JobStop) → old.category ≡ new.category → IfOk result (BlocksRun (migrate_command (spec_tree old) (spec_tree new)) i o r)
-    → IfOk result (RunsJob (Migrate names.0 names.1) (only (spec_tree old ∷ spec_tree new ∷ [])) i o r)
-migrate_runs names old new i o r (Ok outcome) same runs = record { job = each_block (migrate_command (spec_tree old) (spec_tree new)); is = record { old = spec_tree old; new = spec_tree new; two = refl; is = migrates same refl }; runs = runs }
-migrate_runs names old new i o r (Err stop) same runs = tt
+  editions_refused : (one other : ℕ) → one ≡ old.category → other ≡ new.category → (old.category ≡ new.category → ⊥) → IsJob line (only (spec_tree old ∷ spec_tree new ∷ [])) (refuses (OtherCategory one other))
+  editions_refused one other p q differ = jobs _ _ (record { old = spec_tree old; new = spec_tree new; two = refl; is = other_category differ (λ i. refuses (OtherCategory (p i) (q i))) })
 
-pub migrate_refuses : (names : List ℕ × List ℕ) (old new : Spec) (one other : ℕ) → one ≡ old.category → other ≡ new.category → (old.category ≡ new.category → ⊥)
-    → IsJob (Migrate names.0 names.1) (only (spec_tree old ∷ spec_tree new ∷ [])) (refuses (OtherCategory one other))
-migrate_refuses names old new one other p q differ =
-    record { old = spec_tree old; new = spec_tree new; two = refl; is = other_category differ (λ i. refuses (OtherCategory (p i) (q i))) }
+pub migrate_runs : (one other : List ℕ) (old new : Spec) (i : SourceChange) (o r : SinkChange) (result : Result Outcome JobStop) → old.category ≡ new.category → IfOk result (BlocksRun (migrate_command (spec_tree old) (spec_tree new)) i o r)
+    → IfOk result (RunsJob (Migrate one other) (only (spec_tree old ∷ spec_tree new ∷ [])) i o r)
+migrate_runs one other = editions_run (Migrate one other) migrate_command (λ specs job h. h)
 
-migrate_once : (old new : SpecTree) (job other : Job) → IsMigrateJob old new job → IsMigrateJob old new other → job ≡ other
-migrate_once old new job other (migrates same is) (migrates also to) = is ∙ sym to
-migrate_once old new job other (migrates same is) (other_category differ to) = absurd (differ same)
-migrate_once old new job other (other_category differ is) (migrates same to) = absurd (differ same)
-migrate_once old new job other (other_category differ is) (other_category also to) = is ∙ sym to
+pub convert_runs : (one other : List ℕ) (old new : Spec) (i : SourceChange) (o r : SinkChange) (result : Result Outcome JobStop) → old.category ≡ new.category → IfOk result (BlocksRun (convert_command (spec_tree old) (spec_tree new)) i o r)
+    → IfOk result (RunsJob (Convert one other) (only (spec_tree old ∷ spec_tree new ∷ [])) i o r)
+convert_runs one other = editions_run (Convert one other) convert_command (λ specs job h. h)
 
-pub migrate_job_once : (specs : List SpecTree) (job other : Job) → MigratesBetween specs job → MigratesBetween specs other → job ≡ other
-migrate_job_once specs job other h k =
+refused_of : (line : Line) (old new : Spec) (one other : ℕ) → IsOfEditions line → one ≡ old.category → other ≡ new.category → (old.category ≡ new.category → ⊥) → IsJob line (only (spec_tree old ∷ spec_tree new ∷ [])) (refuses (OtherCategory one other))
+refused_of line old new one other (migrate a b is) p q differ =
+    subst (λ l. IsJob l (only (spec_tree old ∷ spec_tree new ∷ [])) (refuses (OtherCategory one other))) (sym is) (editions_refused (Migrate a b) migrate_command (λ specs job h. h) old new one other p q differ)
+refused_of line old new one other (convert a b is) p q differ =
+    subst (λ l. IsJob l (only (spec_tree old ∷ spec_tree new ∷ [])) (refuses (OtherCategory one other))) (sym is) (editions_refused (Convert a b) convert_command (λ specs job h. h) old new one other p q differ)
+
+-- a line that takes two editions refuses those of different categories
+pub others_refused : (line : Line) (old new : Spec) (one other : ℕ) → TakesEditions line → one ≡ old.category → other ≡ new.category → (old.category ≡ new.category → ⊥) → IsJob line (only (spec_tree old ∷ spec_tree new ∷ [])) (refuses (OtherCategory one other))
+others_refused line old new one other takes p q differ = refused_of line old new one other (of_editions line takes) p q differ
+
+-- ---- one job
+
+editions_once : (command : SpecTree → SpecTree → BlockCommand) (old new : SpecTree) (job other : Job) → IsEditionsJob command old new job → IsEditionsJob command old new other → job ≡ other
+editions_once command old new job other (answers_each same is) (answers_each also to) = is ∙ sym to
+editions_once command old new job other (answers_each same is) (other_category differ to) = absurd (differ same)
+editions_once command old new job other (other_category differ is) (answers_each same to) = absurd (differ same)
+editions_once command old new job other (other_category differ is) (other_category also to) = is ∙ sym to
+
+pub editions_job_once : (command : SpecTree → SpecTree → BlockCommand) (specs : List SpecTree) (job other : Job) → OverEditions command specs job → OverEditions command specs other → job ≡ other
+editions_job_once command specs job other h k =
     let e : h.old ∷ h.new ∷ [] ≡ k.old ∷ k.new ∷ [] = sym h.two ∙ k.two in
     let old : k.old ≡ h.old = cc in
     let new : k.new ≡ h.new = cc in
-    migrate_once h.old h.new job other h.is (subst (λ s. IsMigrateJob h.old s other) new (subst (λ s. IsMigrateJob s k.new other) old k.is))
+    editions_once command h.old h.new job other h.is (subst (λ s. IsEditionsJob command h.old s other) new (subst (λ s. IsEditionsJob command s k.new other) old k.is))
 
-pub ruleset migrate_jobs = (migrate_refuses)
+pub ruleset editions_jobs = (others_refused)

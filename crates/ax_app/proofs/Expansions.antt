@@ -11,7 +11,7 @@ use Rattle.ax_model.specs.Specification.{SpecTree}
 use Rattle.ax_model.specs.declared.spec.Spec.{Spec}
 use Rattle.ax_outside.specs.Changes.{SourceChange, SinkChange}
 use Rattle.ax_words.specs.declared.line.Line.{Line}
-use Rattle.ax_words.specs.declared.line.Line.TheVariants.{Check, Canon, Show, Text, Build, Filter, Migrate, Trial, Salvage, Expand, Help, Version}
+use Rattle.ax_words.specs.declared.line.Line.TheVariants.{Check, Canon, Show, Text, Build, Filter, Migrate, Trial, Salvage, Expand, Convert, Help, Version}
 use Rattle.ax_app.specs.Given.{Given, expansion_of}
 use Rattle.ax_app.specs.Jobs.{Job, each_block, refuses, IsJob, ExpandsBy, IsExpandJob, expands, unused, of_another, IsStopped, BlocksRun, RunsJob}
 use Rattle.ax_app.specs.Loaded.{given_of, IsLoadedFor}
@@ -37,6 +37,7 @@ is_expand (Migrate old new) h = none_there (Migrate old new) h
 is_expand (Trial file seed count) h = none_there (Trial file seed count) h
 is_expand (Salvage files) h = none_there (Salvage files) h
 is_expand (Expand spec expansion) h = record { names = (spec, expansion); is = refl }
+is_expand (Convert old new) h = none_there (Convert old new) h
 is_expand Help h = none_there Help h
 is_expand Version h = none_there Version h
 

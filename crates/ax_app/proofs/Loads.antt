@@ -34,7 +34,7 @@ use Rattle.ax_stream.specs.Streams.{IsIdle}
 use Rattle.ax_stream.specs.declared.end.StreamEnd.{StreamEnd}
 use Rattle.ax_stream.specs.declared.end.StreamEnd.TheVariants as EndOf
 use Rattle.ax_words.specs.declared.line.Line.{Line}
-use Rattle.ax_words.specs.declared.line.Line.TheVariants.{Check, Canon, Show, Text, Build, Filter, Migrate, Trial, Salvage, Expand, Help, Version}
+use Rattle.ax_words.specs.declared.line.Line.TheVariants.{Check, Canon, Show, Text, Build, Filter, Migrate, Trial, Salvage, Expand, Convert, Help, Version}
 
 -- ---- the files
 
@@ -53,6 +53,7 @@ no_expansion (Migrate old new) h = never h
 no_expansion (Trial file seed count) h = refl
 no_expansion (Salvage files) h = refl
 no_expansion (Expand spec expansion) h = never h
+no_expansion (Convert old new) h = never h
 no_expansion Help h = refl
 no_expansion Version h = refl
 
@@ -72,11 +73,17 @@ gives_catalogue what names files specs distinct is h = record {
 pub ends_catalogue : (what : Line) (names : List (List ℕ)) (files : Option (List File)) (c : LibraryCounts) (stop : LoadStop) → IsTrue (takes_distinct what) → names ≡ files_of what → FilesEnd true files c names stop → LineEnds what files c stop
 ends_catalogue what names files c stop distinct is h = in_specs (subst (λ b. FilesEnd b files c (files_of what) stop) (is_distinct (takes_distinct what) distinct) (subst (λ n. FilesEnd true files c n stop) is h))
 
-pub gives_two : (old new : List ℕ) (files : Option (List File)) (specs : List SpecTree) → FilesGive false files (old ∷ new ∷ []) specs → LineGives (Migrate old new) files (only specs)
-gives_two old new files specs h = record { specs = h; expansion = tt }
+pub gives_migrate : (old new : List ℕ) (files : Option (List File)) (specs : List SpecTree) → FilesGive false files (old ∷ new ∷ []) specs → LineGives (Migrate old new) files (only specs)
+gives_migrate old new files specs h = record { specs = h; expansion = tt }
 
-pub ends_two : (old new : List ℕ) (files : Option (List File)) (c : LibraryCounts) (stop : LoadStop) → FilesEnd false files c (old ∷ new ∷ []) stop → LineEnds (Migrate old new) files c stop
-ends_two old new files c stop h = in_specs h
+pub gives_convert : (old new : List ℕ) (files : Option (List File)) (specs : List SpecTree) → FilesGive false files (old ∷ new ∷ []) specs → LineGives (Convert old new) files (only specs)
+gives_convert old new files specs h = record { specs = h; expansion = tt }
+
+pub ends_migrate : (old new : List ℕ) (files : Option (List File)) (c : LibraryCounts) (stop : LoadStop) → FilesEnd false files c (old ∷ new ∷ []) stop → LineEnds (Migrate old new) files c stop
+ends_migrate old new files c stop h = in_specs h
+
+pub ends_convert : (old new : List ℕ) (files : Option (List File)) (c : LibraryCounts) (stop : LoadStop) → FilesEnd false files c (old ∷ new ∷ []) stop → LineEnds (Convert old new) files c stop
+ends_convert old new files c stop h = in_specs h
 
 pub gives_both : (name expansion : List ℕ) (files : Option (List File)) (spec : SpecTree) (x : ExpansionTree) → FilesGive false files (name ∷ []) (spec ∷ []) → GivesIn expansion_files files expansion x
     → LineGives (Expand name expansion) files (record { specs = spec ∷ []; expansion = Some x })
@@ -91,8 +98,11 @@ all_of_catalogue what names files c distinct is quiet took unasked =
     let all : names ≡ all_files_of what = is ∙ sym (same_names what distinct) in
     record { quiet = quiet; took = subst (TookFiles files c.taken c.taken') all took; unasked = λ none. unasked (all ∙ none) }
 
-pub all_of_two : (old new : List ℕ) (files : Option (List File)) (c : LibraryCounts) → c.faults' ≡ c.faults → TookFiles files c.taken c.taken' (old ∷ new ∷ []) → LoadsAll (Migrate old new) files c
-all_of_two old new files c quiet took = record { quiet = quiet; took = took; unasked = λ none. absurd (cc) }
+pub all_of_migrate : (old new : List ℕ) (files : Option (List File)) (c : LibraryCounts) → c.faults' ≡ c.faults → TookFiles files c.taken c.taken' (old ∷ new ∷ []) → LoadsAll (Migrate old new) files c
+all_of_migrate old new files c quiet took = record { quiet = quiet; took = took; unasked = λ none. absurd (cc) }
+
+pub all_of_convert : (old new : List ℕ) (files : Option (List File)) (c : LibraryCounts) → c.faults' ≡ c.faults → TookFiles files c.taken c.taken' (old ∷ new ∷ []) → LoadsAll (Convert old new) files c
+all_of_convert old new files c quiet took = record { quiet = quiet; took = took; unasked = λ none. absurd (cc) }
 
 counts_at : (A : Type 0) (stop : LoadStop) (c : LibraryCounts) → c.faults' ≤ c.faults + 1 → UnlessLoadFault {A = A} (Err stop) (c.faults' ≡ c.faults) → CountsAt stop c
 counts_at A (LoadStopOf.LoadFault file) c once quiet = once
@@ -108,9 +118,13 @@ pub through_catalogue : (what : Line) (names : List (List ℕ)) (files : Option 
     → TookThrough files c.taken c.taken' names stop → LoadsThrough what files c stop
 through_catalogue what names files c stop distinct is once quiet took = through_of Catalogue what names files c stop (is ∙ sym (same_names what distinct)) once quiet took
 
-pub through_two : (old new : List ℕ) (files : Option (List File)) (c : LibraryCounts) (stop : LoadStop) → c.faults' ≤ c.faults + 1 → UnlessLoadFault {A = Accepted × Accepted} (Err stop) (c.faults' ≡ c.faults)
+pub through_migrate : (old new : List ℕ) (files : Option (List File)) (c : LibraryCounts) (stop : LoadStop) → c.faults' ≤ c.faults + 1 → UnlessLoadFault {A = Accepted × Accepted} (Err stop) (c.faults' ≡ c.faults)
     → TookThrough files c.taken c.taken' (old ∷ new ∷ []) stop → LoadsThrough (Migrate old new) files c stop
-through_two old new files c stop once quiet took = record { counts = counts_at (Accepted × Accepted) stop c once quiet; took = took }
+through_migrate old new files c stop once quiet took = record { counts = counts_at (Accepted × Accepted) stop c once quiet; took = took }
+
+pub through_convert : (old new : List ℕ) (files : Option (List File)) (c : LibraryCounts) (stop : LoadStop) → c.faults' ≤ c.faults + 1 → UnlessLoadFault {A = Accepted × Accepted} (Err stop) (c.faults' ≡ c.faults)
+    → TookThrough files c.taken c.taken' (old ∷ new ∷ []) stop → LoadsThrough (Convert old new) files c stop
+through_convert old new files c stop once quiet took = record { counts = counts_at (Accepted × Accepted) stop c once quiet; took = took }
 
 pub all_of_both : (name expansion : List ℕ) (files : Option (List File)) (c : LibraryCounts) → c.faults' ≡ c.faults → TookFiles files c.taken c.taken' (name ∷ expansion ∷ []) → LoadsAll (Expand name expansion) files c
 all_of_both name expansion files c quiet took = record { quiet = quiet; took = took; unasked = λ none. absurd (cc) }
@@ -188,14 +202,18 @@ module _ (c : LibraryCounts) (i : SourceChange) (o r : SinkChange) where
 pub ruleset loads = (
   gives_catalogue,
   ends_catalogue,
-  gives_two,
-  ends_two,
+  gives_migrate,
+  ends_migrate,
+  gives_convert,
+  ends_convert,
   gives_both,
   ends_both,
   all_of_catalogue,
-  all_of_two,
+  all_of_migrate,
+  all_of_convert,
   all_of_both,
   through_catalogue,
-  through_two,
+  through_migrate,
+  through_convert,
   through_both,
 )

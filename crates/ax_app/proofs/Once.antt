@@ -2,28 +2,31 @@
 use Rattle.std.proofs.Common.{◌≡◌, ℕ, List, [], ◌∷◌, Option, Some, refl, sym, ◌∙◌, ap, subst}
 use Rattle.std.specs.List.{AllByRecursion}
 use Rattle.ax_command.specs.declared.outcome.Refusal.TheVariants.{FilterRefused}
+use Rattle.ax_convert_work.specs.ConvertCommand.{convert_command}
 use Rattle.ax_expand.specs.Expansion.{ExpansionTree}
 use Rattle.ax_filter.proofs.TextStops.{filter_once, refused_once, filter_not_refused}
 use Rattle.ax_filter_work.specs.FilterCommand.{filter_command}
 use Rattle.ax_grammar.proofs.Ranges.{numbers_in_range}
 use Rattle.ax_grammar.specs.InRange.{AreNumbersInRange}
 use Rattle.ax_load.specs.Loading.{EachGives}
+use Rattle.ax_migrate_work.specs.Commands.{migrate_command}
 use Rattle.ax_model.specs.Flaws.{NoFlaw}
 use Rattle.ax_model.specs.Specification.{SpecTree}
 use Rattle.ax_outside.specs.Files.{File}
 use Rattle.ax_text.specs.Names.{IsNamed}
 use Rattle.ax_text_laws.proofs.FileNesting.{spec_named}
+use Rattle.ax_stream.specs.Commands.{BlockCommand}
 use Rattle.ax_trial.proofs.Once.{trial_once}
 use Rattle.ax_trial.specs.Trial.{IsTrial}
 use Rattle.ax_words.proofs.Once.{once as shape_once}
 use Rattle.ax_words.specs.Words.{IsInBounds}
 use Rattle.ax_words.specs.declared.line.Line.{Line}
-use Rattle.ax_words.specs.declared.line.Line.TheVariants.{Check, Canon, Show, Text, Build, Filter, Migrate, Trial, Salvage, Expand, Help, Version}
-use Rattle.ax_app.proofs.Editions.{migrate_job_once}
+use Rattle.ax_words.specs.declared.line.Line.TheVariants.{Check, Canon, Show, Text, Build, Filter, Migrate, Trial, Salvage, Expand, Convert, Help, Version}
+use Rattle.ax_app.proofs.Editions.{editions_job_once}
 use Rattle.ax_app.proofs.Expansions.{expand_job_once}
 use Rattle.ax_app.proofs.GivenOnce.{line_gives_once}
 use Rattle.ax_app.specs.Given.{Given, LineGives, files_of}
-use Rattle.ax_app.specs.Jobs.{Job, writes, each_block, builds, salvages, refuses, IsJob, IsCheckJob, IsTrialJob, IsFilterJob, filters, refused, IsMigrateJob, migrates, other_category, IsExpandJob, expands, unused, of_another, IsReady, check_text}
+use Rattle.ax_app.specs.Jobs.{Job, writes, each_block, builds, salvages, refuses, IsJob, IsCheckJob, IsTrialJob, IsFilterJob, filters, refused, IsEditionsJob, answers_each, other_category, IsExpandJob, expands, unused, of_another, IsReady, check_text}
 use Rattle.ax_app.specs.Running.{Does}
 
 -- ---- one job
@@ -51,10 +54,11 @@ job_once (Show files) given job other h k = h ∙ sym k
 job_once (Text files) given job other h k = h ∙ sym k
 job_once (Build files) given job other h k = h ∙ sym k
 job_once (Filter expression files) given job other h k = filter_job_once expression given.specs job other h k
-job_once (Migrate old new) given job other h k = migrate_job_once given.specs job other h k
+job_once (Migrate old new) given job other h k = editions_job_once migrate_command given.specs job other h k
 job_once (Trial file seed count) given job other h k = trial_job_once seed count given.specs job other h k
 job_once (Salvage files) given job other h k = h ∙ sym k
 job_once (Expand spec expansion) given job other h k = expand_job_once given job other h k
+job_once (Convert old new) given job other h k = editions_job_once convert_command given.specs job other h k
 job_once Help given job other h k = h ∙ sym k
 job_once Version given job other h k = h ∙ sym k
 
@@ -84,9 +88,9 @@ good_filter : (expression : List ℕ) (specs : List SpecTree) (job : Job) → Is
 good_filter expression specs job (filters e h is) = subst IsGood (sym is) tt
 good_filter expression specs job (refused fault h is) = subst IsGood (sym is) tt
 
-good_migrate : (old new : SpecTree) (job : Job) → IsMigrateJob old new job → IsGood job
-good_migrate old new job (migrates same is) = subst IsGood (sym is) tt
-good_migrate old new job (other_category differ is) = subst IsGood (sym is) tt
+good_editions : (command : SpecTree → SpecTree → BlockCommand) (old new : SpecTree) (job : Job) → IsEditionsJob command old new job → IsGood job
+good_editions command old new job (answers_each same is) = subst IsGood (sym is) tt
+good_editions command old new job (other_category differ is) = subst IsGood (sym is) tt
 
 good_expand : (spec : SpecTree) (x : ExpansionTree) (job : Job) → IsExpandJob spec x job → IsGood job
 good_expand spec x job (expands same frn stands is) = subst IsGood (sym is) tt
@@ -101,10 +105,11 @@ good_of (Show files) given job good h = subst IsGood (sym h) tt
 good_of (Text files) given job good h = subst IsGood (sym h) tt
 good_of (Build files) given job good h = subst IsGood (sym h) good
 good_of (Filter expression files) given job good h = good_filter expression given.specs job h
-good_of (Migrate old new) given job good h = good_migrate h.old h.new job h.is
+good_of (Migrate old new) given job good h = good_editions migrate_command h.old h.new job h.is
 good_of (Trial file seed count) given job good h = subst IsGood (sym h.is) tt
 good_of (Salvage files) given job good h = subst IsGood (sym h) good
 good_of (Expand file expansion) given job good h = good_expand h.spec h.x job h.is
+good_of (Convert old new) given job good h = good_editions convert_command h.old h.new job h.is
 good_of Help given job good h = subst IsGood (sym h) tt
 good_of Version given job good h = subst IsGood (sym h) tt
 
@@ -136,5 +141,6 @@ ready files (Migrate old new) specs bounds gives = tt
 ready files (Trial file seed count) specs bounds gives = let s = one_spec files file specs gives in record { spec = s.spec; one = s.one; few = bounds.1 }
 ready files (Salvage names) specs bounds gives = tt
 ready files (Expand spec expansion) specs bounds gives = tt
+ready files (Convert old new) specs bounds gives = tt
 ready files Help specs bounds gives = tt
 ready files Version specs bounds gives = tt

@@ -6,6 +6,7 @@ use Rattle.ax_command.specs.declared.outcome.JobStop.{JobStop}
 use Rattle.ax_command.specs.declared.outcome.JobStop.TheVariants as JobStopOf
 use Rattle.ax_command.specs.declared.outcome.Outcome.{Outcome}
 use Rattle.ax_command.specs.declared.outcome.Refusal.TheVariants.{OtherCategory, ExpansionUnused, FilterRefused}
+use Rattle.ax_convert_work.specs.ConvertCommand.{convert_command}
 use Rattle.ax_expand.specs.Expansion.{ExpansionTree}
 use Rattle.ax_expand_work.specs.ExpandCommand.{expand_command, expand_answer}
 use Rattle.ax_filter.specs.declared.text.FilterFault.{FilterFault}
@@ -13,6 +14,7 @@ use Rattle.ax_line_stream.specs.declared.end.LinesEnd.{LinesEnd}
 use Rattle.ax_line_stream.specs.declared.end.LinesEnd.TheVariants as LinesEndOf
 use Rattle.ax_load.specs.declared.fault.LoadStop.{LoadStop}
 use Rattle.ax_load.specs.declared.fault.LoadStop.TheVariants as LoadStopOf
+use Rattle.ax_migrate_work.specs.Commands.{migrate_command}
 use Rattle.ax_model.specs.Blocks.{BlockTree, read_block, opaque_block}
 use Rattle.ax_model.specs.Specification.{SpecTree}
 use Rattle.ax_outside.specs.Changes.{LibraryCounts, SourceChange, SinkChange}
@@ -24,10 +26,10 @@ use Rattle.ax_stream.specs.Streams.{IsLicensed, Reports, RefusesLength}
 use Rattle.ax_stream.specs.declared.end.StreamEnd.{StreamEnd}
 use Rattle.ax_stream.specs.declared.end.StreamEnd.TheVariants as EndOf
 use Rattle.ax_words.specs.declared.line.Line.{Line}
-use Rattle.ax_words.specs.declared.line.Line.TheVariants.{Check, Canon, Show, Text, Build, Filter, Migrate, Trial, Salvage, Expand, Help, Version}
+use Rattle.ax_words.specs.declared.line.Line.TheVariants.{Check, Canon, Show, Text, Build, Filter, Migrate, Trial, Salvage, Expand, Convert, Help, Version}
 use Rattle.ax_app.specs.Given.{Given}
-use Rattle.ax_app.specs.Jobs.{Job, writes, each_block, builds, salvages, refuses, IsJob, IsFilterJob, filters, refused, IsMigrateJob, migrates, other_category, IsExpandJob, expands, unused, of_another, IsStopped, JobRuns, TextEnds, written, cut, no_memory}
-use Rattle.ax_app.specs.Running.{Runs, at_words, no_words, at_files, before_input, in_job, NoCountFell, ComparesCategories, ReadsExpansion, ReadsExpression, MayCome, IsOfItsCommand}
+use Rattle.ax_app.specs.Jobs.{Job, writes, each_block, builds, salvages, refuses, IsJob, IsFilterJob, filters, refused, IsEditionsJob, answers_each, other_category, IsExpandJob, expands, unused, of_another, IsStopped, JobRuns, TextEnds, written, cut, no_memory}
+use Rattle.ax_app.specs.Running.{Runs, at_words, no_words, at_files, before_input, in_job, NoCountFell, ReportsBlocks, RefusesLengths, ComparesCategories, ReadsExpansion, ReadsExpression, MayCome, IsOfItsCommand}
 use Rattle.ax_app.specs.Salvages.{outcome_of_salvage}
 
 -- ---- ends of jobs
@@ -58,15 +60,16 @@ of_silent c what EndOf.WriteFault s h = tt
 of_silent c what EndOf.ReportFault s h = absurd (no_line c s h)
 of_silent c what EndOf.OutOfMemory s h = tt
 
-of_migrate : (old new : List ℕ) (end : StreamEnd) → MayCome (outcome_of_end end) (Migrate old new)
-of_migrate old new (EndOf.Done blocks) = tt
-of_migrate old new (EndOf.Refused fault) = tt
-of_migrate old new EndOf.InputTooLong = tt
-of_migrate old new (EndOf.TooLong block octets) = tt
-of_migrate old new EndOf.ReadFault = tt
-of_migrate old new EndOf.WriteFault = tt
-of_migrate old new EndOf.ReportFault = tt
-of_migrate old new EndOf.OutOfMemory = tt
+-- of a command with both
+of_spoken : (what : Line) → ReportsBlocks what → RefusesLengths what → (end : StreamEnd) → MayCome (outcome_of_end end) what
+of_spoken what reports lengths (EndOf.Done blocks) = tt
+of_spoken what reports lengths (EndOf.Refused fault) = tt
+of_spoken what reports lengths EndOf.InputTooLong = tt
+of_spoken what reports lengths (EndOf.TooLong block octets) = lengths
+of_spoken what reports lengths EndOf.ReadFault = tt
+of_spoken what reports lengths EndOf.WriteFault = tt
+of_spoken what reports lengths EndOf.ReportFault = reports
+of_spoken what reports lengths EndOf.OutOfMemory = tt
 
 -- it refuses no length
 expand_never_refuses : (spec : SpecTree) (frn : ℕ) (x : ExpansionTree) (number count : ℕ) (block : BlockTree) → expand_answer frn x number block ≡ too_long count → ⊥
@@ -126,10 +129,9 @@ module _ (i : SourceChange) (o r : SinkChange) (outcome : Outcome) where
   filtering what expression specs job (filters e h is) runs = silent what _ (record { octets = _; answer = λ number block. refl }) (run_of job _ is runs)
   filtering what expression specs job (refused fault h is) runs = absurd (run_of job _ is runs)
 
-  migrating : (names : List ℕ × List ℕ) (old new : SpecTree) (job : Job) → IsMigrateJob old new job → JobRuns job i o r outcome → MayCome outcome (Migrate names.0 names.1)
-  migrating names old new job (migrates same is) runs =
-      let h : JobRuns (each_block _) i o r outcome = run_of job _ is runs in may_too (Migrate names.0 names.1) outcome _ h.is (of_migrate names.0 names.1 h.end)
-  migrating names old new job (other_category differ is) runs = absurd (run_of job _ is runs)
+  between : (what : Line) (command : SpecTree → SpecTree → BlockCommand) → ReportsBlocks what → RefusesLengths what → (old new : SpecTree) (job : Job) → IsEditionsJob command old new job → JobRuns job i o r outcome → MayCome outcome what
+  between what command reports lengths old new job (answers_each same is) runs = let h : JobRuns (each_block (command old new)) i o r outcome = run_of job _ is runs in may_too what outcome _ h.is (of_spoken what reports lengths h.end)
+  between what command reports lengths old new job (other_category differ is) runs = absurd (run_of job _ is runs)
 
   expanding : (file expansion : List ℕ) (spec : SpecTree) (x : ExpansionTree) (job : Job) → IsExpandJob spec x job → JobRuns job i o r outcome → MayCome outcome (Expand file expansion)
   expanding file expansion spec x job (expands same frn stands is) runs =
@@ -145,10 +147,11 @@ module _ (i : SourceChange) (o r : SinkChange) (outcome : Outcome) where
   own_in_job (Text files) given job is h = silent (Text files) _ (record { octets = _; answer = λ number block. refl }) (run_of job _ is h)
   own_in_job (Build files) given job is h = let run : JobRuns (builds given.specs) i o r outcome = run_of job _ is h in may_too (Build files) outcome _ run.is (of_build files run.end)
   own_in_job (Filter expression files) given job is h = filtering (Filter expression files) expression given.specs job is h
-  own_in_job (Migrate old new) given job is h = migrating (old, new) is.old is.new job is.is h
+  own_in_job (Migrate old new) given job is h = between (Migrate old new) migrate_command tt tt is.old is.new job is.is h
   own_in_job (Trial file seed count) given job is h = writing (Trial file seed count) _ _ (run_of job _ is.is h)
   own_in_job (Salvage files) given job is h = let run : JobRuns (salvages given.specs) i o r outcome = run_of job _ is h in may_too (Salvage files) outcome _ run.is (of_salvage files run.end)
   own_in_job (Expand file expansion) given job is h = expanding file expansion is.spec is.x job is.is h
+  own_in_job (Convert old new) given job is h = between (Convert old new) convert_command tt tt is.old is.new job is.is h
   own_in_job Help given job is h = writing Help _ _ (run_of job _ is h)
   own_in_job Version given job is h = writing Version _ _ (run_of job _ is h)
 
@@ -176,12 +179,13 @@ categories_of (Migrate one other) given old new h = tt
 categories_of (Trial file seed count) given old new h = let e = h.is in absurd (cc)
 categories_of (Salvage files) given old new h = absurd (cc)
 categories_of (Expand spec expansion) given old new h = tt
+categories_of (Convert one other) given old new h = tt
 categories_of Help given old new h = absurd (cc)
 categories_of Version given old new h = absurd (cc)
 
-migrate_has_no_expression : (old new : SpecTree) (fault : FilterFault) → IsMigrateJob old new (refuses (FilterRefused fault)) → ⊥
-migrate_has_no_expression old new fault (migrates same is) = absurd (cc)
-migrate_has_no_expression old new fault (other_category differ is) = absurd (cc)
+editions_have_no_expression : (command : SpecTree → SpecTree → BlockCommand) (old new : SpecTree) (fault : FilterFault) → IsEditionsJob command old new (refuses (FilterRefused fault)) → ⊥
+editions_have_no_expression command old new fault (answers_each same is) = absurd (cc)
+editions_have_no_expression command old new fault (other_category differ is) = absurd (cc)
 
 expand_has_no_expression : (spec : SpecTree) (x : ExpansionTree) (fault : FilterFault) → IsExpandJob spec x (refuses (FilterRefused fault)) → ⊥
 expand_has_no_expression spec x fault (expands same frn stands is) = absurd (cc)
@@ -196,10 +200,11 @@ expression_of (Show files) given fault h = absurd (cc)
 expression_of (Text files) given fault h = absurd (cc)
 expression_of (Build files) given fault h = absurd (cc)
 expression_of (Filter expression files) given fault h = tt
-expression_of (Migrate old new) given fault h = absurd (migrate_has_no_expression h.old h.new fault h.is)
+expression_of (Migrate old new) given fault h = absurd (editions_have_no_expression migrate_command h.old h.new fault h.is)
 expression_of (Trial file seed count) given fault h = let e = h.is in absurd (cc)
 expression_of (Salvage files) given fault h = absurd (cc)
 expression_of (Expand spec expansion) given fault h = absurd (expand_has_no_expression h.spec h.x fault h.is)
+expression_of (Convert old new) given fault h = absurd (editions_have_no_expression convert_command h.old h.new fault h.is)
 expression_of Help given fault h = absurd (cc)
 expression_of Version given fault h = absurd (cc)
 
@@ -207,9 +212,9 @@ filter_has_no_expansion : (expression : List ℕ) (specs : List SpecTree) (categ
 filter_has_no_expansion expression specs category (filters e h is) = absurd (cc)
 filter_has_no_expansion expression specs category (refused fault h is) = absurd (cc)
 
-migrate_has_no_expansion : (old new : SpecTree) (category : ℕ) → IsMigrateJob old new (refuses (ExpansionUnused category)) → ⊥
-migrate_has_no_expansion old new category (migrates same is) = absurd (cc)
-migrate_has_no_expansion old new category (other_category differ is) = absurd (cc)
+editions_have_no_expansion : (command : SpecTree → SpecTree → BlockCommand) (old new : SpecTree) (category : ℕ) → IsEditionsJob command old new (refuses (ExpansionUnused category)) → ⊥
+editions_have_no_expansion command old new category (answers_each same is) = absurd (cc)
+editions_have_no_expansion command old new category (other_category differ is) = absurd (cc)
 
 -- one row for each command
 unused_of : (what : Line) (given : Given) (category : ℕ) → IsJob what given (refuses (ExpansionUnused category)) → ReadsExpansion what
@@ -219,10 +224,11 @@ unused_of (Show files) given category h = absurd (cc)
 unused_of (Text files) given category h = absurd (cc)
 unused_of (Build files) given category h = absurd (cc)
 unused_of (Filter expression files) given category h = absurd (filter_has_no_expansion expression given.specs category h)
-unused_of (Migrate old new) given category h = absurd (migrate_has_no_expansion h.old h.new category h.is)
+unused_of (Migrate old new) given category h = absurd (editions_have_no_expansion migrate_command h.old h.new category h.is)
 unused_of (Trial file seed count) given category h = let e = h.is in absurd (cc)
 unused_of (Salvage files) given category h = absurd (cc)
 unused_of (Expand spec expansion) given category h = tt
+unused_of (Convert old new) given category h = absurd (editions_have_no_expansion convert_command h.old h.new category h.is)
 unused_of Help given category h = absurd (cc)
 unused_of Version given category h = absurd (cc)
 

@@ -1,5 +1,5 @@
 -- What the files of a line give, or how the run ends at the first one that gives nothing.
-use Rattle.std.specs.Prelude.{◌≡◌, ℕ, Bool, true, false, List, [], ◌∷◌, ◌++◌, length, Option, Some, None}
+use Rattle.std.specs.Prelude.{◌≡◌, ℕ, Bool, true, false, IsFalse, List, [], ◌∷◌, ◌++◌, length, Option, Some, None}
 use Rattle.ax_expand.specs.Expansion.{ExpansionTree}
 use Rattle.ax_load.specs.Languages.{expansion_files}
 use Rattle.ax_load.specs.Loading.{FilesGive, FilesEnd, GivesIn, StopsAtFile}
@@ -8,7 +8,7 @@ use Rattle.ax_model.specs.Specification.{SpecTree}
 use Rattle.ax_outside.specs.Changes.{LibraryCounts}
 use Rattle.ax_outside.specs.Files.{File}
 use Rattle.ax_words.specs.declared.line.Line.{Line}
-use Rattle.ax_words.specs.declared.line.Line.TheVariants.{Check, Canon, Show, Text, Build, Filter, Migrate, Trial, Salvage, Expand, Help, Version}
+use Rattle.ax_words.specs.declared.line.Line.TheVariants.{Check, Canon, Show, Text, Build, Filter, Migrate, Trial, Salvage, Expand, Convert, Help, Version}
 
 -- ---- names
 
@@ -24,6 +24,7 @@ files_of (Migrate old new) = old ∷ new ∷ []
 files_of (Trial file seed count) = file ∷ []
 files_of (Salvage files) = files
 files_of (Expand spec expansion) = spec ∷ []
+files_of (Convert old new) = old ∷ new ∷ []
 files_of Help = []
 files_of Version = []
 
@@ -39,6 +40,7 @@ takes_distinct (Migrate old new) = false
 takes_distinct (Trial file seed count) = true
 takes_distinct (Salvage files) = true
 takes_distinct (Expand spec expansion) = false
+takes_distinct (Convert old new) = false
 takes_distinct Help = true
 takes_distinct Version = true
 
@@ -54,8 +56,13 @@ expansion_of (Migrate old new) = None
 expansion_of (Trial file seed count) = None
 expansion_of (Salvage files) = None
 expansion_of (Expand spec expansion) = Some expansion
+expansion_of (Convert old new) = None
 expansion_of Help = None
 expansion_of Version = None
+
+-- whether they are two editions: no catalogue, and no expansion file after them
+abbrev pub TakesEditions : Line → Type 0
+TakesEditions what = IsFalse (takes_distinct what) × (expansion_of what ≡ None)
 
 abbrev pub and_last : List (List ℕ) → Option (List ℕ) → List (List ℕ)
 and_last names None = names

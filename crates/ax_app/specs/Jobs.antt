@@ -10,6 +10,7 @@ use Rattle.ax_command.specs.declared.outcome.Outcome.{Outcome}
 use Rattle.ax_command.specs.declared.outcome.Outcome.TheVariants.{Done, WriteFault, OutOfMemory}
 use Rattle.ax_command.specs.declared.outcome.Refusal.{Refusal}
 use Rattle.ax_command.specs.declared.outcome.Refusal.TheVariants.{FilterRefused, OtherCategory, ExpansionUnused}
+use Rattle.ax_convert_work.specs.ConvertCommand.{convert_command}
 use Rattle.ax_expand.specs.Expansion.{ExpansionTree}
 use Rattle.ax_expand_work.specs.ExpandCommand.{re_frn, expand_command}
 use Rattle.ax_filter.specs.Texts.{IsFilterText, IsRefused}
@@ -42,7 +43,7 @@ use Rattle.ax_trial.specs.Trial.{IsTrial}
 use Rattle.ax_app.specs.Given.{Given}
 use Rattle.ax_app.specs.Salvages.{outcome_of_salvage}
 use Rattle.ax_words.specs.declared.line.Line.{Line}
-use Rattle.ax_words.specs.declared.line.Line.TheVariants.{Check, Canon, Show, Text, Build, Filter, Migrate, Trial, Salvage, Expand, Help, Version}
+use Rattle.ax_words.specs.declared.line.Line.TheVariants.{Check, Canon, Show, Text, Build, Filter, Migrate, Trial, Salvage, Expand, Convert, Help, Version}
 
 -- it writes a text, which counts so many blocks, and reads no input, or it answers each block of the input, or it builds a
 -- block of each line of the input that has a token, under this catalogue; or it salvages the blocks of the input, under this
@@ -76,16 +77,17 @@ pub data IsFilterJob (expression : List ℕ) (specs : List SpecTree) (job : Job)
   filters : (e : ExprTree) → IsFilterText specs expression e → job ≡ each_block (filter_command e specs) → IsFilterJob expression specs job
   refused : (fault : FilterFault) → IsRefused specs expression fault → job ≡ refuses (FilterRefused fault) → IsFilterJob expression specs job
 
--- `migrate`: of two editions of one category it answers each block; two of different categories it refuses
-pub data IsMigrateJob (old new : SpecTree) (job : Job) : Type 0 where
-  migrates : old.category ≡ new.category → job ≡ each_block (migrate_command old new) → IsMigrateJob old new job
-  other_category : (old.category ≡ new.category → ⊥) → job ≡ refuses (OtherCategory old.category new.category) → IsMigrateJob old new job
+-- `migrate` and `convert`, each by its command: of two editions of one category it answers each block; two of different
+-- categories it refuses
+pub data IsEditionsJob (command : SpecTree → SpecTree → BlockCommand) (old new : SpecTree) (job : Job) : Type 0 where
+  answers_each : old.category ≡ new.category → job ≡ each_block (command old new) → IsEditionsJob command old new job
+  other_category : (old.category ≡ new.category → ⊥) → job ≡ refuses (OtherCategory old.category new.category) → IsEditionsJob command old new job
 
-pub record MigratesBetween (specs : List SpecTree) (job : Job) : Type 0 where
+pub record OverEditions (command : SpecTree → SpecTree → BlockCommand) (specs : List SpecTree) (job : Job) : Type 0 where
   pub old : SpecTree
   pub new : SpecTree
   pub two : specs ≡ old ∷ new ∷ []
-  pub is : IsMigrateJob old new job
+  pub is : IsEditionsJob command old new job
 
 -- `trial`: the line of so many blocks made from the seed over its file
 pub record IsTrialJob (seed count : ℕ) (specs : List SpecTree) (job : Job) : Type 0 where
@@ -111,7 +113,7 @@ pub record ExpandsBy (given : Given) (job : Job) : Type 0 where
 
 -- `--help`: the shapes of the commands
 abbrev pub help_text : List ℕ
-help_text = codes "asterix check SPEC\nasterix canon SPEC...\nasterix show SPEC...\nasterix text SPEC...\nasterix build SPEC...\nasterix filter EXPR SPEC...\nasterix migrate OLD NEW\nasterix trial SPEC SEED COUNT\nasterix salvage SPEC...\nasterix expand SPEC EXPANSION\n"
+help_text = codes "asterix check SPEC\nasterix canon SPEC...\nasterix show SPEC...\nasterix text SPEC...\nasterix build SPEC...\nasterix filter EXPR SPEC...\nasterix migrate OLD NEW\nasterix trial SPEC SEED COUNT\nasterix salvage SPEC...\nasterix expand SPEC EXPANSION\nasterix convert OLD NEW\n"
 
 abbrev pub version_text : List ℕ
 version_text = codes "asterix 1\n"
@@ -124,10 +126,11 @@ IsJob (Show files) given job = job ≡ each_block (show_command given.specs)
 IsJob (Text files) given job = job ≡ each_block (text_command given.specs)
 IsJob (Build files) given job = job ≡ builds given.specs
 IsJob (Filter expression files) given job = IsFilterJob expression given.specs job
-IsJob (Migrate old new) given job = MigratesBetween given.specs job
+IsJob (Migrate old new) given job = OverEditions migrate_command given.specs job
 IsJob (Trial file seed count) given job = IsTrialJob seed count given.specs job
 IsJob (Salvage files) given job = job ≡ salvages given.specs
 IsJob (Expand spec expansion) given job = ExpandsBy given job
+IsJob (Convert old new) given job = OverEditions convert_command given.specs job
 IsJob Help given job = job ≡ writes 0 help_text
 IsJob Version given job = job ≡ writes 0 version_text
 
@@ -240,6 +243,7 @@ IsReady (Migrate old new) specs = Unit {0}
 IsReady (Trial file seed count) specs = IsReadyToTry count specs
 IsReady (Salvage files) specs = Unit {0}
 IsReady (Expand spec expansion) specs = Unit {0}
+IsReady (Convert old new) specs = Unit {0}
 IsReady Help specs = Unit {0}
 IsReady Version specs = Unit {0}
 

@@ -1,6 +1,6 @@
 -- What the files of a command are loaded into.
-use Rattle.std.specs.Prelude.{◌≡◌, IsTrue, IsFalse, [], ◌∷◌, Some, None, IsSome}
-use Rattle.ax_app.specs.Given.{Given, only, takes_distinct, expansion_of}
+use Rattle.std.specs.Prelude.{◌≡◌, IsTrue, [], ◌∷◌, Some, None, IsSome}
+use Rattle.ax_app.specs.Given.{Given, only, takes_distinct, expansion_of, TakesEditions}
 use Rattle.ax_app.specs.declared.loading.Loaded.{Loaded}
 use Rattle.ax_app.specs.declared.loading.Loaded.TheVariants.{Catalogue, Editions, WithExpansion}
 use Rattle.ax_expand.specs.Expansion.{expansion_tree}
@@ -12,8 +12,8 @@ given_of (Catalogue specs) = only (catalogue_tree specs)
 given_of (Editions old new) = only (spec_tree old ∷ spec_tree new ∷ [])
 given_of (WithExpansion spec x) = record { specs = spec_tree spec ∷ []; expansion = Some (expansion_tree x) }
 
--- a catalogue, where the line takes one; two editions; or a specification and an expansion, where the line takes one
+-- a catalogue, or two editions, where the line takes them; or a specification and an expansion, where the line takes one
 abbrev pub IsLoadedFor : Line → Loaded → Type 0
 IsLoadedFor line (Catalogue specs) = IsTrue (takes_distinct line)
-IsLoadedFor line (Editions old new) = IsFalse (takes_distinct line) × (expansion_of line ≡ None)
+IsLoadedFor line (Editions old new) = TakesEditions line
 IsLoadedFor line (WithExpansion spec x) = IsSome (expansion_of line)

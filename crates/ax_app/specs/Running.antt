@@ -96,6 +96,7 @@ TakesMemory (LineOf.Migrate old new) = ⊥
 TakesMemory (LineOf.Trial file seed count) = ⊥
 TakesMemory (LineOf.Salvage files) = ⊥
 TakesMemory (LineOf.Expand spec expansion) = Unit {0}
+TakesMemory (LineOf.Convert old new) = Unit {0}
 TakesMemory LineOf.Help = ⊥
 TakesMemory LineOf.Version = ⊥
 
@@ -120,17 +121,20 @@ abbrev pub ReportsBlocks : Line → Type 0
 ReportsBlocks (LineOf.Migrate old new) = Unit {0}
 ReportsBlocks (LineOf.Salvage files) = Unit {0}
 ReportsBlocks (LineOf.Expand spec expansion) = Unit {0}
+ReportsBlocks (LineOf.Convert old new) = Unit {0}
 ReportsBlocks _ = ⊥
 
--- those that refuse a block for the length of its migrated form
+-- those that refuse a block for the length of a record in the new edition
 abbrev pub RefusesLengths : Line → Type 0
 RefusesLengths (LineOf.Migrate old new) = Unit {0}
+RefusesLengths (LineOf.Convert old new) = Unit {0}
 RefusesLengths _ = ⊥
 
 -- those that compare the categories of two files
 abbrev pub ComparesCategories : Line → Type 0
 ComparesCategories (LineOf.Migrate old new) = Unit {0}
 ComparesCategories (LineOf.Expand spec expansion) = Unit {0}
+ComparesCategories (LineOf.Convert old new) = Unit {0}
 ComparesCategories _ = ⊥
 
 -- those that read an expansion file

@@ -89,8 +89,8 @@ fn obey<L: Library, S: Source, K: Sink, R: Sink>(
 
 /// Does what the words say, and answers how that ended. Usage comes exactly where the words have no shape, but that want of
 /// memory may stand in its place, since reading the words takes memory. Where memory is wanting, the source is untouched and
-/// nothing was written, but of the commands that take memory once they read: `show`, `text`, `build` and `expand`. Before the lines of
-/// the outcome one fault at most is counted, of the object that the outcome names.
+/// nothing was written, but of the commands that take memory once they read: `show`, `text`, `build`, `expand` and `convert`.
+/// Before the lines of the outcome one fault at most is counted, of the object that the outcome names.
 pub fn run<L: Library, S: Source, K: Sink, R: Sink>(
     alloc: Global,
     words: &Vec<String>,

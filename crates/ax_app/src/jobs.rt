@@ -1,5 +1,5 @@
 //! The commands, over what their files give.
-ghost use Rattle.std.specs.Prelude.{◌≡◌, ◌≤◌, ◌^◌, List, ℕ, [], ◌∷◌, length, IsTrue, IfOk, IfErr, OnErr};
+ghost use Rattle.std.specs.Prelude.{◌≡◌, ◌≤◌, ◌^◌, List, ℕ, [], ◌∷◌, length, IsTrue, IfOk, IfErr, OnOk, OnErr};
 ghost use Rattle.ax_drive.specs.Working.{IsSoundJob, job_command};
 ghost use Rattle.ax_relation.specs.Relates.{Relates};
 ghost use Rattle.ax_filter.specs.OfCode.{catalogue_of, expression};
@@ -12,12 +12,14 @@ ghost use Rattle.ax_outside.specs.Changes.{source_change, sink_change, GainsNoth
 ghost use Rattle.ax_command.specs.declared.outcome.JobStop.{JobStop};
 ghost use Rattle.ax_command.specs.declared.outcome.JobStop.TheVariants.{OutOfMemory};
 ghost use Rattle.ax_stream.specs.Streams.{IsIdle};
-ghost use Rattle.ax_words.specs.declared.line.Line.TheVariants.{Canon, Show, Text, Filter, Migrate};
+ghost use Rattle.ax_words.specs.declared.line.Line.{Line};
+ghost use Rattle.ax_words.specs.declared.line.Line.TheVariants.{Canon, Show, Text, Filter};
 ghost use Rattle.ax_app.specs.Jobs.{BlocksRun, IsReady, IsReadyToCheck, IsReadyToTry, EndsTrial, IsStopped, RunsJob, TextEnds, check_text};
-ghost use Rattle.ax_app.specs.Given.{only, takes_distinct};
+ghost use Rattle.ax_app.specs.Given.{only, takes_distinct, TakesEditions};
 ghost use Rattle.ax_app.specs.Loaded.{given_of, IsLoadedFor};
 ghost use Rattle.ax_app.specs.Running.{NoFaultFell, WasIdle, WantsFirst};
 
+use crate::converting::convert_blocks;
 use crate::expanding::expand;
 use crate::loading::Loaded;
 use crate::outcomes::{outcome_of, outcome_of_salvage};
@@ -42,7 +44,7 @@ use std::alloc::{AllocError, Global};
 
 /// What `--help` writes.
 const HELP: &[u8] =
-    b"asterix check SPEC\nasterix canon SPEC...\nasterix show SPEC...\nasterix text SPEC...\nasterix build SPEC...\nasterix filter EXPR SPEC...\nasterix migrate OLD NEW\nasterix trial SPEC SEED COUNT\nasterix salvage SPEC...\nasterix expand SPEC EXPANSION\n";
+    b"asterix check SPEC\nasterix canon SPEC...\nasterix show SPEC...\nasterix text SPEC...\nasterix build SPEC...\nasterix filter EXPR SPEC...\nasterix migrate OLD NEW\nasterix trial SPEC SEED COUNT\nasterix salvage SPEC...\nasterix expand SPEC EXPANSION\nasterix convert OLD NEW\n";
 
 /// What `--version` writes.
 const VERSION: &[u8] = b"asterix 1\n";
@@ -277,28 +279,45 @@ fn migrate_blocks<'x, S: Source, K: Sink, R: Sink>(
     drive_job(alloc, Job::Migrate(&migrator), source, out, report)
 }
 
-/// `migrate`: each block of the old edition in the new one, or the refusal of two categories.
-#[tactic(auto, using(crate::proofs::Editions::migrate_jobs, crate::proofs::Falling::falls))]
-fn migrate<S: Source, K: Sink, R: Sink>(
+/// The relation of two editions, or the refusal of two categories.
+#[tactic(auto, using(crate::proofs::Editions::editions_jobs))]
+fn related(alloc: Global, old: &Accepted, new: &Accepted) -> Result<Relation, JobStop>
+    ensures relates { IfOk result (Relates old.now new.now) }
+    ensures same_category { OnOk result (old.now.category ≡ new.now.category) }
+    ensures stopped { (line : Line) → TakesEditions line → IfErr result (IsStopped line (only (spec_tree old.now ∷ spec_tree new.now ∷ []))) }
+{
+    match relate(alloc, old, new) {
+        Ok(relation) => Ok(relation),
+        Err(RelateError::OtherCategory { old, new }) => {
+            Err(JobStop::Refused(Refusal::OtherCategory { old, new }))
+        }
+        Err(RelateError::OutOfMemory) => Err(JobStop::OutOfMemory),
+    }
+}
+
+/// Does what a command over two editions says: each block of the old one in the new one, or the refusal of two categories.
+#[tactic(auto, using(crate::proofs::Editions::editions_jobs, crate::proofs::Falling::falls))]
+fn over_editions<S: Source, K: Sink, R: Sink>(
     alloc: Global,
+    line: &Line,
     old: &Accepted,
     new: &Accepted,
     source: &mut S,
     out: &mut K,
     report: &mut R,
 ) -> Result<Outcome, JobStop>
-    ensures runs { (names : List ℕ × List ℕ) → IfOk result (RunsJob (Migrate names.0 names.1) (only (spec_tree old.now ∷ spec_tree new.now ∷ [])) (source_change S.Source source.old source.new) (sink_change K.Sink out.old out.new) (sink_change R.Sink report.old report.new)) }
-    ensures stopped { (names : List ℕ × List ℕ) → IfErr result (IsStopped (Migrate names.0 names.1) (only (spec_tree old.now ∷ spec_tree new.now ∷ []))) }
-    ensures first { IfOk result (WasIdle (source_change S.Source source.old source.new) (sink_change K.Sink out.old out.new)) }
+    requires { TakesEditions line.now }
+    ensures runs { IfOk result (RunsJob line.now (only (spec_tree old.now ∷ spec_tree new.now ∷ [])) (source_change S.Source source.old source.new) (sink_change K.Sink out.old out.new) (sink_change R.Sink report.old report.new)) }
+    ensures stopped { IfErr result (IsStopped line.now (only (spec_tree old.now ∷ spec_tree new.now ∷ []))) }
+    ensures first { IfOk result (WantsFirst line.now (source_change S.Source source.old source.new) (sink_change K.Sink out.old out.new)) }
     ensures idle { OnErr result (IsIdle (source_change S.Source source.old source.new) (sink_change K.Sink out.old out.new) (sink_change R.Sink report.old report.new)) }
     ensures later { NoFaultFell (source_change S.Source source.old source.new) (sink_change K.Sink out.old out.new) (sink_change R.Sink report.old report.new) }
 {
-    match relate(alloc, old, new) {
-        Ok(relation) => migrate_blocks(alloc, &relation, old, new, source, out, report),
-        Err(RelateError::OtherCategory { old, new }) => {
-            Err(JobStop::Refused(Refusal::OtherCategory { old, new }))
-        }
-        Err(RelateError::OutOfMemory) => Err(JobStop::OutOfMemory),
+    let relation = related(alloc, old, new)?;
+    match line {
+        Line::Migrate { .. } => migrate_blocks(alloc, &relation, old, new, source, out, report),
+        Line::Convert { .. } => convert_blocks(alloc, &relation, old, new, source, out, report),
+        _ => unreachable!(),
     }
 }
 
@@ -358,6 +377,7 @@ fn over_catalogue<S: Source, K: Sink, R: Sink>(
         Line::Version => Ok(write_out(out, VERSION, 0)),
         Line::Migrate { .. } => unreachable!(),
         Line::Expand { .. } => unreachable!(),
+        Line::Convert { .. } => unreachable!(),
     }
 }
 
@@ -382,7 +402,7 @@ pub fn do_job<S: Source, K: Sink, R: Sink>(
         Loaded::Catalogue(catalogue) => {
             over_catalogue(alloc, line, catalogue, source, out, report)
         }
-        Loaded::Editions(old, new) => migrate(alloc, old, new, source, out, report),
+        Loaded::Editions(old, new) => { over_editions(alloc, line, old, new, source, out, report) }
         Loaded::WithExpansion(accepted, expansion) => {
             expand(alloc, accepted, expansion, source, out, report)
         }

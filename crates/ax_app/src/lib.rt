@@ -2,6 +2,7 @@
 //! `asterix` does.
 #![tactic(auto)]
 
+mod converting;
 mod expanding;
 mod gateway;
 mod jobs;

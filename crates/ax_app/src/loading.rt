@@ -43,6 +43,7 @@ fn names_of(line: &Line) -> &[WordText]
         Line::Version => &[],
         Line::Migrate { .. } => unreachable!(),
         Line::Expand { .. } => unreachable!(),
+        Line::Convert { .. } => unreachable!(),
     }
 }
 
@@ -61,6 +62,10 @@ pub fn load<L: Library>(alloc: Global, library: &mut L, line: &Line) -> Result<L
 {
     match line {
         Line::Migrate { old, new } => match load_two(alloc, library, old.text(), new.text()) {
+            Ok((old, new)) => Ok(Loaded::Editions(old, new)),
+            Err(stop) => Err(stop),
+        },
+        Line::Convert { old, new } => match load_two(alloc, library, old.text(), new.text()) {
             Ok((old, new)) => Ok(Loaded::Editions(old, new)),
             Err(stop) => Err(stop),
         },

@@ -70,6 +70,7 @@ fn shown(rt: &impl Abort, alloc: Global, line: &Line) -> String {
         Line::Expand { spec, expansion } => {
             with_two(rt, alloc, "expand", spec, " by", expansion)
         }
+        Line::Convert { old, new } => with_two(rt, alloc, "convert", old, " to", new),
         Line::Help => String::from_str(alloc, "help").expect(rt, "memory"),
         Line::Version => String::from_str(alloc, "version").expect(rt, "memory"),
     }
@@ -91,7 +92,7 @@ fn ask_for(rt: &impl Abort, alloc: Global, text: &str, want: &str) {
     same_text(rt, found.as_str(), want, text);
 }
 
-const LINES: [(&str, &str); 17] = [
+const LINES: [(&str, &str); 18] = [
     ("check A", "check [A]"),
     ("check ", "check []"),
     ("canon A", "canon [A]"),
@@ -110,6 +111,7 @@ const LINES: [(&str, &str); 17] = [
     ),
     ("salvage A B", "salvage [A] [B]"),
     ("expand A X", "expand [A] by [X]"),
+    ("convert A B", "convert [A] to [B]"),
     ("--help", "help"),
     ("--version", "version"),
 ];
@@ -121,7 +123,7 @@ fn lines_of_words(rt: HostRuntime) {
     }
 }
 
-const REFUSED: [&str; 29] = [
+const REFUSED: [&str; 32] = [
     "",
     " ",
     "help",
@@ -147,6 +149,9 @@ const REFUSED: [&str; 29] = [
     "salvage",
     "expand A",
     "expand A X X",
+    "convert A",
+    "convert A -B",
+    "convert A B C",
     "--help A",
     "--version A",
     "-h",

@@ -1,7 +1,6 @@
 //! Tests of the call `run` over files, an input and outputs in memory, and of the block loop below it; of category files that
-//! are loaded by name, of what a user reads of each outcome, of what `trial` writes, of the tallies of `salvage`, and of
-//! the lines of `expand`. The crate
-//! has nothing else.
+//! are loaded by name, of what a user reads of each outcome, of what `trial` writes, of the tallies of `salvage`, of the
+//! lines of `expand`, and of the blocks that `convert` writes. The crate has nothing else.
 #![tactic(auto)]
 
 #[cfg(test)]
@@ -14,6 +13,10 @@ mod categories;
 mod checking;
 #[cfg(test)]
 mod checks;
+#[cfg(test)]
+mod conversions;
+#[cfg(test)]
+mod converting;
 #[cfg(test)]
 mod driving;
 #[cfg(test)]

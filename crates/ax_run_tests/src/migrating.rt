@@ -260,7 +260,7 @@ fn lines_that_are_cut(rt: HostRuntime) {
 }
 
 /// These octets, and then so many times others.
-fn repeated(
+pub(crate) fn repeated(
     rt: &impl Abort,
     alloc: Global,
     front: &[u8],

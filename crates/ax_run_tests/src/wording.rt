@@ -5,7 +5,7 @@ use std::alloc::Global;
 use std::process::Abort;
 
 const HELP: &str =
-    "asterix check SPEC\nasterix canon SPEC...\nasterix show SPEC...\nasterix text SPEC...\nasterix build SPEC...\nasterix filter EXPR SPEC...\nasterix migrate OLD NEW\nasterix trial SPEC SEED COUNT\nasterix salvage SPEC...\nasterix expand SPEC EXPANSION\n";
+    "asterix check SPEC\nasterix canon SPEC...\nasterix show SPEC...\nasterix text SPEC...\nasterix build SPEC...\nasterix filter EXPR SPEC...\nasterix migrate OLD NEW\nasterix trial SPEC SEED COUNT\nasterix salvage SPEC...\nasterix expand SPEC EXPANSION\nasterix convert OLD NEW\n";
 
 const ONE_BLOCK: &str = "blocks 1 records 3 octets 6 canonical 6 sum 209\n";
 

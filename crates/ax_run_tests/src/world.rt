@@ -1,5 +1,6 @@
 //! One run in memory: the files that it finds, how its outside is cut and fails, and what it leaves.
 
+use crate::conversions::conversion_texts;
 use crate::expansions::expansion_texts;
 use ax_app::run;
 use ax_outside::{MemLibrary, MemSink, MemSource, fill};
@@ -284,6 +285,7 @@ fn texts(rt: &impl Abort, alloc: Global) -> Vec<(String, Vec<u8>)> {
     let mut made = Vec::new(alloc);
     put_texts(rt, alloc, &mut made, named_texts());
     put_texts(rt, alloc, &mut made, expansion_texts());
+    put_texts(rt, alloc, &mut made, conversion_texts());
     made
 }
 

@@ -10,5 +10,5 @@ pub use hexadecimal::octets;
 pub use samples::{CAT019_P1, CAT034_P1, CAT048_P1, CAT048_P2};
 pub use test_files::{
     FILE_A, FILE_E, FILE_F, FILE_G1, FILE_G2, FILE_H1, FILE_H2, FILE_H3, FILE_K, FILE_N, FILE_S,
-    FILE_W, FILE_X, FILE_X2, FILE_Z, NESTED_TOO_DEEP,
+    FILE_W, FILE_X, FILE_X2, FILE_Y1, FILE_Y2, FILE_Y3, FILE_Y4, FILE_Z, NESTED_TOO_DEEP,
 };

@@ -65,6 +65,26 @@ pub const FILE_W: &str =
     r#"category 206 edition "W" items { item 010 "" wide { element 8 raw } item 020 "" closed { part { A element 7 raw } part { B element 8 raw } } } uap { 010 020 }
 "#;
 
+/// A quantity, in a category of its own.
+pub const FILE_Y1: &str =
+    r#"category 209 edition "Y1" items { item 010 "" element 16 quantity unsigned 1 128 "s" } uap { 010 }
+"#;
+
+/// The quantity of `FILE_Y1` in more bits, under a finer scale.
+pub const FILE_Y2: &str =
+    r#"category 209 edition "Y2" items { item 010 "" element 24 quantity unsigned 1 256 "s" } uap { 010 }
+"#;
+
+/// The quantity of `FILE_Y1` in fewer bits, under a coarser scale.
+pub const FILE_Y3: &str =
+    r#"category 209 edition "Y3" items { item 010 "" element 8 quantity unsigned 1 64 "s" } uap { 010 }
+"#;
+
+/// The quantity of `FILE_Y1` in another unit.
+pub const FILE_Y4: &str =
+    r#"category 209 edition "Y4" items { item 010 "" element 16 quantity unsigned 1 128 "min" } uap { 010 }
+"#;
+
 /// No item, and a spare slot.
 pub const FILE_Z: &str = r#"category 203 edition "Z" items { } uap { - }
 "#;

@@ -24,7 +24,7 @@ use Rattle.ax_words.specs.Words.{IsPlain, HasNoShape, JudgesWords}
 use Rattle.ax_words.specs.declared.error.WordsError.{WordsError}
 use Rattle.ax_words.specs.declared.line.Line.{Line}
 use Rattle.ax_words.specs.declared.verb.Verb.{Verb}
-use Rattle.ax_words.specs.declared.verb.Verb.TheVariants.{Check, Canon, Show, Text as Texts, Build, Filter, Migrate, Trial, Salvage, Expand}
+use Rattle.ax_words.specs.declared.verb.Verb.TheVariants.{Check, Canon, Show, Text as Texts, Build, Filter, Migrate, Trial, Salvage, Expand, Convert}
 use Rattle.ax_words.proofs.Program.{Parsed, taken, refused, parsed}
 use Rattle.ax_words.proofs.Shapes.{named}
 
@@ -126,6 +126,7 @@ few_files Trial (w ∷ ws) lt = omega arith
 few_files Salvage ws lt = omega (arith, lt)
 few_files Expand [] lt = omega arith
 few_files Expand (w ∷ ws) lt = omega arith
+few_files Convert ws lt = tt
 
 pub found_few : (words : List Text) (name : Text) (rows : List Row) → Found words name rows → HasFewFiles rows
 found_few words name rows x = subst HasFewFiles (sym x.rows_are) (few_files x.verb x.following x.taken_are.few)

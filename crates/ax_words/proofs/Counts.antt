@@ -9,8 +9,8 @@ use Rattle.ax_words.specs.Found.{found}
 use Rattle.ax_words.specs.Verbs.{TakesWords}
 use Rattle.ax_words.specs.Words.{IsPlain}
 use Rattle.ax_words.specs.declared.verb.Verb.{Verb}
-use Rattle.ax_words.specs.declared.verb.Verb.TheVariants.{Check, Canon, Show, Text as Texts, Build, Filter, Migrate, Trial, Salvage, Expand}
-use Rattle.ax_words.proofs.Leaves.{fault, rows, one_none, one_one, one_rows, one_two, many, many_none, many_some, many_rows, filter_none, filter_one, filter_some, filter_rows, two_none, two_one, two_two, two_rows, two_three, expand_none, expand_one, expand_two, expand_rows, expand_three, three_none, three_one, three_two, three_three, three_rows, three_four}
+use Rattle.ax_words.specs.declared.verb.Verb.TheVariants.{Check, Canon, Show, Text as Texts, Build, Filter, Migrate, Trial, Salvage, Expand, Convert}
+use Rattle.ax_words.proofs.Leaves.{fault, rows, one_none, one_one, one_rows, one_two, many, many_none, many_some, many_rows, filter_none, filter_one, filter_some, filter_rows, two, two_none, two_one, two_two, two_rows, two_three, expand_none, expand_one, expand_two, expand_rows, expand_three, three_none, three_one, three_two, three_three, three_rows, three_four}
 
 -- the words are taken, and these rows found, or they are refused
 pub data Leaf (s : Shape) (Takes : Type 0) (ws : List Text) (found : List Row) : Type 0 where
@@ -31,11 +31,11 @@ filter_leaf [] all few = refuses (λ e. omega (arith, e)) (filter_none (codes "f
 filter_leaf (f ∷ []) all few = refuses (λ e. omega (arith, e)) (filter_one (codes "filter") f all.0)
 filter_leaf (f ∷ g ∷ ws) all few = takes (omega arith) (filter_some (codes "filter") f g ws all.0 all.1.0 all.1.1 (omega (arith, few))) (filter_rows (codes "filter") f g ws all.0 all.1.0 all.1.1)
 
-two_leaf : (ws : List Text) → AllByRecursion IsPlain ws → Leaf (shape_of_verb Migrate) (length ws ≡ 2) ws (found Migrate ws)
-two_leaf [] all = refuses (λ e. omega (arith, e)) (two_none (codes "migrate"))
-two_leaf (f ∷ []) all = refuses (λ e. omega (arith, e)) (two_one (codes "migrate") f all.0)
-two_leaf (f ∷ g ∷ []) all = takes refl (two_two (codes "migrate") f g all.0 all.1.0) (two_rows (codes "migrate") f g all.0 all.1.0)
-two_leaf (f ∷ g ∷ h ∷ ws) all = refuses (λ e. omega (arith, e)) (two_three (codes "migrate") f g h ws all.0 all.1.0 all.1.1.0)
+two_leaf : (name : Text) (ws : List Text) → AllByRecursion IsPlain ws → Leaf (two name) (length ws ≡ 2) ws (found Migrate ws)
+two_leaf name [] all = refuses (λ e. omega (arith, e)) (two_none name)
+two_leaf name (f ∷ []) all = refuses (λ e. omega (arith, e)) (two_one name f all.0)
+two_leaf name (f ∷ g ∷ []) all = takes refl (two_two name f g all.0 all.1.0) (two_rows name f g all.0 all.1.0)
+two_leaf name (f ∷ g ∷ h ∷ ws) all = refuses (λ e. omega (arith, e)) (two_three name f g h ws all.0 all.1.0 all.1.1.0)
 
 expand_leaf : (ws : List Text) → AllByRecursion IsPlain ws → Leaf (shape_of_verb Expand) (length ws ≡ 2) ws (found Expand ws)
 expand_leaf [] all = refuses (λ e. omega (arith, e)) (expand_none (codes "expand"))
@@ -57,7 +57,8 @@ leaf Show ws all few = many_leaf (codes "show") ws all few
 leaf Texts ws all few = many_leaf (codes "text") ws all few
 leaf Build ws all few = many_leaf (codes "build") ws all few
 leaf Filter ws all few = filter_leaf ws all few
-leaf Migrate ws all few = two_leaf ws all
+leaf Migrate ws all few = two_leaf (codes "migrate") ws all
 leaf Trial ws all few = three_leaf ws all
 leaf Salvage ws all few = many_leaf (codes "salvage") ws all few
 leaf Expand ws all few = expand_leaf ws all
+leaf Convert ws all few = two_leaf (codes "convert") ws all

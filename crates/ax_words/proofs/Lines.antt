@@ -2,7 +2,7 @@
 use Rattle.std.proofs.Common.{◌≡◌, ℕ, ◌<◌, ◌≤◌, ◌^◌, List, [], ◌∷◌, length, drop, Option, Some, None, Ok, Err, refl, sym, ◌∙◌, ap, subst, codes, arith}
 use Rattle.std.specs.Prelude.{decimal}
 use Rattle.clap.specs.Walk.{Row, Text, first_of, all_of}
-use Rattle.ax_words.specs.Found.{found, given}
+use Rattle.ax_words.specs.Found.{found, given, given_two}
 use Rattle.ax_words.specs.Lines.{AreTaken, AnswersRows}
 use Rattle.ax_words.specs.Verbs.{name_of}
 use Rattle.ax_words.specs.Words.{IsInBounds, HasShape, words_of}
@@ -11,7 +11,7 @@ use Rattle.ax_words.specs.declared.error.WordsError.TheVariants as ErrorOf
 use Rattle.ax_words.specs.declared.line.Line.{Line}
 use Rattle.ax_words.specs.declared.line.Line.TheVariants as LineOf
 use Rattle.ax_words.specs.declared.verb.Verb.{Verb}
-use Rattle.ax_words.specs.declared.verb.Verb.TheVariants.{Check, Canon, Show, Text as Texts, Build, Filter, Migrate, Trial, Salvage, Expand}
+use Rattle.ax_words.specs.declared.verb.Verb.TheVariants.{Check, Canon, Show, Text as Texts, Build, Filter, Migrate, Trial, Salvage, Expand, Convert}
 use Rattle.ax_words.proofs.Shapes.{verb_of, verb_is}
 
 abbrev some : {A : Type 0} → A → Option A
@@ -132,6 +132,7 @@ short_expr f ws (LineOf.Migrate old new) v e b = absurd cc
 short_expr f ws (LineOf.Trial file seed count) v e b = absurd cc
 short_expr f ws (LineOf.Salvage files) v e b = absurd cc
 short_expr f ws (LineOf.Expand spec expansion) v e b = absurd cc
+short_expr f ws (LineOf.Convert old new) v e b = absurd cc
 short_expr f ws LineOf.Help v e b = absurd cc
 short_expr f ws LineOf.Version v e b = absurd cc
 
@@ -152,11 +153,11 @@ record Two (a b : Text) (rows : List Row) (ws : List Text) : Type 0 where
   one_found : first_of a rows ≡ Some one
   other_found : first_of b rows ≡ Some other
 
-migrate_two : (rows : List Row) (ws : List Text) → AreTaken Migrate ws → rows ≡ found Migrate ws → Two (codes "OLD") (codes "NEW") rows ws
-migrate_two rows [] t h = absurd (omega (arith, t.counted))
-migrate_two rows (f ∷ []) t h = absurd (omega (arith, t.counted))
-migrate_two rows (f ∷ g ∷ []) t h = record { one = f; other = g; words_are = refl; one_found = ap (first_of (codes "OLD")) h; other_found = ap (first_of (codes "NEW")) h }
-migrate_two rows (f ∷ g ∷ k ∷ ws) t h = absurd (omega (arith, t.counted))
+two_editions : (rows : List Row) (ws : List Text) → length ws ≡ 2 → rows ≡ given_two (codes "OLD") (codes "NEW") ws → Two (codes "OLD") (codes "NEW") rows ws
+two_editions rows [] n h = absurd (omega (arith, n))
+two_editions rows (f ∷ []) n h = absurd (omega (arith, n))
+two_editions rows (f ∷ g ∷ []) n h = record { one = f; other = g; words_are = refl; one_found = ap (first_of (codes "OLD")) h; other_found = ap (first_of (codes "NEW")) h }
+two_editions rows (f ∷ g ∷ k ∷ ws) n h = absurd (omega (arith, n))
 
 expand_two : (rows : List Row) (ws : List Text) → AreTaken Expand ws → rows ≡ found Expand ws → Two (codes "SPEC") (codes "EXPANSION") rows ws
 expand_two rows [] t h = absurd (omega (arith, t.counted))
@@ -176,13 +177,13 @@ two_words verb a b rows ws one other x d e =
     ap (λ y. verb ∷ y) x.words_are ∙ ap (λ w. verb ∷ w ∷ x.other ∷ []) (equal_of _ _ _ x.one_found d) ∙ ap (λ w. verb ∷ one ∷ w ∷ []) (equal_of _ _ _ x.other_found e)
 
 pub migrate_there : (rows : List Row) (a b : Text) → first_of (codes "OLD") rows ≡ Some a → first_of (codes "NEW") rows ≡ Some b → AnswersRows Migrate rows (Ok (LineOf.Migrate a b))
-migrate_there rows a b d e ws t h = shaped Migrate ws (LineOf.Migrate a b) t (two_words (codes "migrate") _ _ rows ws a b (migrate_two rows ws t h) d e) tt
+migrate_there rows a b d e ws t h = shaped Migrate ws (LineOf.Migrate a b) t (two_words (codes "migrate") _ _ rows ws a b (two_editions rows ws t.counted h) d e) tt
 
 pub migrate_lacks_old : (rows : List Row) (e : WordsError) → first_of (codes "OLD") rows ≡ None → AnswersRows Migrate rows (Err e)
-migrate_lacks_old rows error e ws t h = let x = migrate_two rows ws t h in absurd (found_is _ _ x.one_found e)
+migrate_lacks_old rows error e ws t h = let x = two_editions rows ws t.counted h in absurd (found_is _ _ x.one_found e)
 
 pub migrate_lacks_new : (rows : List Row) (e : WordsError) → first_of (codes "NEW") rows ≡ None → AnswersRows Migrate rows (Err e)
-migrate_lacks_new rows error e ws t h = let x = migrate_two rows ws t h in absurd (found_is _ _ x.other_found e)
+migrate_lacks_new rows error e ws t h = let x = two_editions rows ws t.counted h in absurd (found_is _ _ x.other_found e)
 
 pub ruleset migrate_lines = (no_memory, migrate_there, migrate_lacks_old, migrate_lacks_new)
 
@@ -196,6 +197,17 @@ pub expand_lacks_expansion : (rows : List Row) (e : WordsError) → first_of (co
 expand_lacks_expansion rows error e ws t h = let x = expand_two rows ws t h in absurd (found_is _ _ x.other_found e)
 
 pub ruleset expand_lines = (no_memory, expand_there, expand_lacks_spec, expand_lacks_expansion)
+
+pub convert_there : (rows : List Row) (a b : Text) → first_of (codes "OLD") rows ≡ Some a → first_of (codes "NEW") rows ≡ Some b → AnswersRows Convert rows (Ok (LineOf.Convert a b))
+convert_there rows a b d e ws t h = shaped Convert ws (LineOf.Convert a b) t (two_words (codes "convert") _ _ rows ws a b (two_editions rows ws t.counted h) d e) tt
+
+pub convert_lacks_old : (rows : List Row) (e : WordsError) → first_of (codes "OLD") rows ≡ None → AnswersRows Convert rows (Err e)
+convert_lacks_old rows error e ws t h = let x = two_editions rows ws t.counted h in absurd (found_is _ _ x.one_found e)
+
+pub convert_lacks_new : (rows : List Row) (e : WordsError) → first_of (codes "NEW") rows ≡ None → AnswersRows Convert rows (Err e)
+convert_lacks_new rows error e ws t h = let x = two_editions rows ws t.counted h in absurd (found_is _ _ x.other_found e)
+
+pub ruleset convert_lines = (no_memory, convert_there, convert_lacks_old, convert_lacks_new)
 
 -- ---- a file and two numbers
 
@@ -256,6 +268,7 @@ numbers_of f g k (LineOf.Filter expr files) v e b = absurd cc
 numbers_of f g k (LineOf.Migrate old new) v e b = absurd cc
 numbers_of f g k (LineOf.Salvage files) v e b = absurd cc
 numbers_of f g k (LineOf.Expand spec expansion) v e b = absurd cc
+numbers_of f g k (LineOf.Convert old new) v e b = absurd cc
 numbers_of f g k LineOf.Help v e b = absurd cc
 numbers_of f g k LineOf.Version v e b = absurd cc
 

@@ -39,6 +39,7 @@ same_line (LineOf.Trial f n m) (LineOf.Trial g k l) v e p q =
     ap₂ (λ x y. LineOf.Trial x y m) file seed ∙ ap (LineOf.Trial g k) count
 same_line (LineOf.Salvage f) (LineOf.Salvage g) v e p q = ap LineOf.Salvage (ap tail e)
 same_line (LineOf.Expand c d) (LineOf.Expand f g) v e p q = ap₂ LineOf.Expand (second _ _ e) (third _ _ e)
+same_line (LineOf.Convert c d) (LineOf.Convert f g) v e p q = ap₂ LineOf.Convert (second _ _ e) (third _ _ e)
 same_line LineOf.Help LineOf.Help v e p q = refl
 same_line LineOf.Version LineOf.Version v e p q = refl
 same_line LineOf.Help LineOf.Version v e p q = absurd (never (ap (λ x. bytes_eq (first (words_of LineOf.Help)) (first x)) e))

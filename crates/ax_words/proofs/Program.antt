@@ -14,7 +14,7 @@ use Rattle.ax_words.specs.Found.{found}
 use Rattle.ax_words.specs.Verbs.{name_of, verbs, TakesWords}
 use Rattle.ax_words.specs.Words.{IsPlain, HasNoShape}
 use Rattle.ax_words.specs.declared.verb.Verb.{Verb}
-use Rattle.ax_words.specs.declared.verb.Verb.TheVariants.{Check, Canon, Show, Text as Texts, Build, Filter, Migrate, Trial, Salvage, Expand}
+use Rattle.ax_words.specs.declared.verb.Verb.TheVariants.{Check, Canon, Show, Text as Texts, Build, Filter, Migrate, Trial, Salvage, Expand, Convert}
 use Rattle.ax_words.proofs.Counts.{Leaf, takes, refuses, leaf}
 use Rattle.ax_words.proofs.Leaves.{fault, rows}
 use Rattle.ax_words.proofs.Shapes.{other_count, no_verb, no_words}
@@ -53,6 +53,7 @@ enters Migrate ws = rw (top_no_fault (built program).top names nothing_held (cod
 enters Trial ws = rw (top_no_fault (built program).top names nothing_held (codes "trial") [] ws refl, top_stopped names nothing_held (codes "trial") [] ws) (or_nothing (fault (shape_of_verb Trial) ws))
 enters Salvage ws = rw (top_no_fault (built program).top names nothing_held (codes "salvage") [] ws refl, top_stopped names nothing_held (codes "salvage") [] ws) (or_nothing (fault (shape_of_verb Salvage) ws))
 enters Expand ws = rw (top_no_fault (built program).top names nothing_held (codes "expand") [] ws refl, top_stopped names nothing_held (codes "expand") [] ws) (or_nothing (fault (shape_of_verb Expand) ws))
+enters Convert ws = rw (top_no_fault (built program).top names nothing_held (codes "convert") [] ws refl, top_stopped names nothing_held (codes "convert") [] ws) (or_nothing (fault (shape_of_verb Convert) ws))
 
 finds : (v : Verb) (ws : List Text) → subcommand_of program (name_of v ∷ ws) ≡ Some (name_of v, rows (shape_of_verb v) ws)
 unfolding clap_on_literals
@@ -66,6 +67,7 @@ finds Migrate ws = rw (top_stopped names nothing_held (codes "migrate") [] ws) r
 finds Trial ws = rw (top_stopped names nothing_held (codes "trial") [] ws) refl
 finds Salvage ws = rw (top_stopped names nothing_held (codes "salvage") [] ws) refl
 finds Expand ws = rw (top_stopped names nothing_held (codes "expand") [] ws) refl
+finds Convert ws = rw (top_stopped names nothing_held (codes "convert") [] ws) refl
 
 -- ---- no verb
 
@@ -76,7 +78,7 @@ unknown : (w : Text) (ws : List Text) → IsPlain w → IsOther w verbs → faul
 unfolding clap_on_literals
 unknown [] ws p all e = cc
 unknown (x ∷ xs) ws p all e =
-    let none : subcommand_met names idle (x ∷ xs) ≡ None = rw (all.0, all.1.0, all.1.1.0, all.1.1.1.0, all.1.1.1.1.0, all.1.1.1.1.1.0, all.1.1.1.1.1.1.0, all.1.1.1.1.1.1.1.0, all.1.1.1.1.1.1.1.1.0, all.1.1.1.1.1.1.1.1.1.0) refl in
+    let none : subcommand_met names idle (x ∷ xs) ≡ None = rw (all.0, all.1.0, all.1.1.0, all.1.1.1.0, all.1.1.1.1.0, all.1.1.1.1.1.0, all.1.1.1.1.1.1.0, all.1.1.1.1.1.1.1.0, all.1.1.1.1.1.1.1.1.0, all.1.1.1.1.1.1.1.1.1.0, all.1.1.1.1.1.1.1.1.1.1.0) refl in
     let first : turn_fault (built program).top names (walk_from nothing_held) (x ∷ xs) ≡ kind.UnknownArgument ∷ kind.InvalidSubcommand ∷ [] = rw none (rw p (rw p refl)) in
     let e' = rw first at e in cc
 

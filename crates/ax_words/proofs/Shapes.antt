@@ -7,7 +7,7 @@ use Rattle.ax_words.specs.Words.{IsPlain, IsInBounds, HasShape, HasNoShape, word
 use Rattle.ax_words.specs.declared.line.Line.{Line}
 use Rattle.ax_words.specs.declared.line.Line.TheVariants as LineOf
 use Rattle.ax_words.specs.declared.verb.Verb.{Verb}
-use Rattle.ax_words.specs.declared.verb.Verb.TheVariants.{Check, Canon, Show, Text, Build, Filter, Migrate, Trial, Salvage, Expand}
+use Rattle.ax_words.specs.declared.verb.Verb.TheVariants.{Check, Canon, Show, Text, Build, Filter, Migrate, Trial, Salvage, Expand, Convert}
 
 abbrev pub Words : Type 0
 Words = List (List ℕ)
@@ -28,6 +28,7 @@ verb_of (LineOf.Migrate old new) = Some Migrate
 verb_of (LineOf.Trial file seed count) = Some Trial
 verb_of (LineOf.Salvage files) = Some Salvage
 verb_of (LineOf.Expand spec expansion) = Some Expand
+verb_of (LineOf.Convert old new) = Some Convert
 verb_of LineOf.Help = None
 verb_of LineOf.Version = None
 
@@ -43,6 +44,7 @@ named Migrate = refl
 named Trial = refl
 named Salvage = refl
 named Expand = refl
+named Convert = refl
 
 pub line_named : (line : Line) → verb_named (first (words_of line)) ≡ verb_of line
 unfolding verb_named
@@ -56,6 +58,7 @@ line_named (LineOf.Migrate old new) = refl
 line_named (LineOf.Trial file seed count) = refl
 line_named (LineOf.Salvage files) = refl
 line_named (LineOf.Expand spec expansion) = refl
+line_named (LineOf.Convert old new) = refl
 line_named LineOf.Help = refl
 line_named LineOf.Version = refl
 
@@ -79,6 +82,7 @@ counted (LineOf.Migrate old new) h = refl
 counted (LineOf.Trial file seed count) h = refl
 counted (LineOf.Salvage files) h = h
 counted (LineOf.Expand spec expansion) h = refl
+counted (LineOf.Convert old new) h = refl
 counted LineOf.Help h = tt
 counted LineOf.Version h = tt
 
@@ -92,7 +96,7 @@ other_count v ws n line h =
 
 no_name : (w : List ℕ) → AllByRecursion (λ v. bytes_eq (name_of v) w ≡ false) verbs → verb_named w ≡ None
 unfolding verb_named
-no_name w all = rw (all.0, all.1.0, all.1.1.0, all.1.1.1.0, all.1.1.1.1.0, all.1.1.1.1.1.0, all.1.1.1.1.1.1.0, all.1.1.1.1.1.1.1.0, all.1.1.1.1.1.1.1.1.0, all.1.1.1.1.1.1.1.1.1.0) refl
+no_name w all = rw (all.0, all.1.0, all.1.1.0, all.1.1.1.0, all.1.1.1.1.0, all.1.1.1.1.1.0, all.1.1.1.1.1.1.0, all.1.1.1.1.1.1.1.0, all.1.1.1.1.1.1.1.1.0, all.1.1.1.1.1.1.1.1.1.0, all.1.1.1.1.1.1.1.1.1.1.0) refl
 
 never : false ≡ true → ⊥
 never e = cc
@@ -108,6 +112,7 @@ not_named (LineOf.Migrate old new) e p = cc
 not_named (LineOf.Trial file seed count) e p = cc
 not_named (LineOf.Salvage files) e p = cc
 not_named (LineOf.Expand spec expansion) e p = cc
+not_named (LineOf.Convert old new) e p = cc
 not_named LineOf.Help e p = never (sym p)
 not_named LineOf.Version e p = never (sym p)
 
@@ -135,6 +140,7 @@ plain_line (LineOf.Migrate old new) a b all = (refl, all)
 plain_line (LineOf.Trial file seed count) a b all = (refl, all)
 plain_line (LineOf.Salvage files) a b all = (refl, all)
 plain_line (LineOf.Expand spec expansion) a b all = (refl, all)
+plain_line (LineOf.Convert old new) a b all = (refl, all)
 plain_line LineOf.Help a b all = absurd (a refl)
 plain_line LineOf.Version a b all = absurd (b refl)
 

@@ -27,6 +27,7 @@ rules_of VerbOf.Migrate = one_word (codes "OLD") ∷ one_word (codes "NEW") ∷ 
 rules_of VerbOf.Trial = one_word (codes "SPEC") ∷ one_word (codes "SEED") ∷ one_word (codes "COUNT") ∷ []
 rules_of VerbOf.Salvage = some_words (codes "SPEC") ∷ []
 rules_of VerbOf.Expand = one_word (codes "SPEC") ∷ one_word (codes "EXPANSION") ∷ []
+rules_of VerbOf.Convert = one_word (codes "OLD") ∷ one_word (codes "NEW") ∷ []
 
 -- a subcommand with these rules
 abbrev pub leaf_shape : Text → List Rule → Shape

@@ -19,5 +19,6 @@ abbrev pub found : Verb → List Text → List Row
 found VerbOf.Filter words = given_two (codes "EXPR") (codes "SPEC") words
 found VerbOf.Migrate words = given_two (codes "OLD") (codes "NEW") words
 found VerbOf.Expand words = given_two (codes "SPEC") (codes "EXPANSION") words
+found VerbOf.Convert words = given_two (codes "OLD") (codes "NEW") words
 found VerbOf.Trial words = given (codes "SPEC") (take 1 words) ∷ given_two (codes "SEED") (codes "COUNT") (drop 1 words)
 found _ words = given (codes "SPEC") words ∷ []

@@ -2,10 +2,10 @@
 use Rattle.std.specs.Prelude.{◌≡◌, ℕ, ◌<◌, List, [], ◌∷◌, codes, find, Option}
 use Rattle.std.specs.Str.{bytes_eq}
 use Rattle.ax_words.specs.declared.verb.Verb.{Verb}
-use Rattle.ax_words.specs.declared.verb.Verb.TheVariants.{Check, Canon, Show, Text, Build, Filter, Migrate, Trial, Salvage, Expand}
+use Rattle.ax_words.specs.declared.verb.Verb.TheVariants.{Check, Canon, Show, Text, Build, Filter, Migrate, Trial, Salvage, Expand, Convert}
 
 abbrev pub verbs : List Verb
-verbs = Check ∷ Canon ∷ Show ∷ Text ∷ Build ∷ Filter ∷ Migrate ∷ Trial ∷ Salvage ∷ Expand ∷ []
+verbs = Check ∷ Canon ∷ Show ∷ Text ∷ Build ∷ Filter ∷ Migrate ∷ Trial ∷ Salvage ∷ Expand ∷ Convert ∷ []
 
 abbrev pub name_of : Verb → List ℕ
 name_of Check = codes "check"
@@ -18,6 +18,7 @@ name_of Migrate = codes "migrate"
 name_of Trial = codes "trial"
 name_of Salvage = codes "salvage"
 name_of Expand = codes "expand"
+name_of Convert = codes "convert"
 
 -- the first verb that the word names
 unfoldable pub verb_named : List ℕ → Option Verb
@@ -35,3 +36,4 @@ TakesWords Migrate count = count ≡ 2
 TakesWords Trial count = count ≡ 3
 TakesWords Salvage count = 0 < count
 TakesWords Expand count = count ≡ 2
+TakesWords Convert count = count ≡ 2

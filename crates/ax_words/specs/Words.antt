@@ -18,6 +18,7 @@ words_of (LineOf.Migrate old new) = codes "migrate" ∷ old ∷ new ∷ []
 words_of (LineOf.Trial file seed count) = codes "trial" ∷ file ∷ decimal seed ∷ decimal count ∷ []
 words_of (LineOf.Salvage files) = codes "salvage" ∷ files
 words_of (LineOf.Expand spec expansion) = codes "expand" ∷ spec ∷ expansion ∷ []
+words_of (LineOf.Convert old new) = codes "convert" ∷ old ∷ new ∷ []
 words_of LineOf.Help = codes "--help" ∷ []
 words_of LineOf.Version = codes "--version" ∷ []
 
@@ -33,6 +34,7 @@ IsInBounds (LineOf.Migrate old new) = Unit {0}
 IsInBounds (LineOf.Trial file seed count) = (seed < 2 ^ 64) × (count ≤ 1000000)
 IsInBounds (LineOf.Salvage files) = 0 < length files
 IsInBounds (LineOf.Expand spec expansion) = Unit {0}
+IsInBounds (LineOf.Convert old new) = Unit {0}
 IsInBounds LineOf.Help = Unit {0}
 IsInBounds LineOf.Version = Unit {0}
 

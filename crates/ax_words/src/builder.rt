@@ -95,7 +95,7 @@ fn leaf<'a>(alloc: Global, verb: Verb) -> Result<Command<'a>, AllocError>
             with_words(alloc, name, "SPEC")
         }
         Verb::Filter => with_word_and_words(alloc, name, "EXPR", "SPEC"),
-        Verb::Migrate => with_two_words(alloc, name, "OLD", "NEW"),
+        Verb::Migrate | Verb::Convert => with_two_words(alloc, name, "OLD", "NEW"),
         Verb::Expand => with_two_words(alloc, name, "SPEC", "EXPANSION"),
         Verb::Trial => with_three_words(alloc, name, "SPEC", "SEED", "COUNT"),
     }

@@ -10,6 +10,7 @@ pub fn words_with_a_shape()
     ensures filter { HasShape (codes "filter" ∷ codes "all { }" ∷ codes "A" ∷ []) (LineOf.Filter (codes "all { }") (codes "A" ∷ [])) }
     ensures trial { HasShape (codes "trial" ∷ codes "Z" ∷ codes "0" ∷ codes "1000000" ∷ []) (LineOf.Trial (codes "Z") 0 1000000) }
     ensures expand { HasShape (codes "expand" ∷ codes "B" ∷ codes "X" ∷ []) (LineOf.Expand (codes "B") (codes "X")) }
+    ensures convert { HasShape (codes "convert" ∷ codes "A" ∷ codes "B" ∷ []) (LineOf.Convert (codes "A") (codes "B")) }
     ensures help { HasShape (codes "--help" ∷ []) LineOf.Help }
 {}
 
@@ -20,6 +21,7 @@ pub fn words_without_a_shape()
     ensures few { HasNoShape (codes "canon" ∷ []) }
     ensures many { HasNoShape (codes "check" ∷ codes "A" ∷ codes "E" ∷ []) }
     ensures expansions { HasNoShape (codes "expand" ∷ codes "B" ∷ codes "X" ∷ codes "Y" ∷ []) }
+    ensures editions { HasNoShape (codes "convert" ∷ codes "A" ∷ []) }
     ensures dash { HasNoShape (codes "canon" ∷ codes "A" ∷ codes "--help" ∷ []) }
     ensures beside { HasNoShape (codes "--help" ∷ codes "A" ∷ []) }
 {}

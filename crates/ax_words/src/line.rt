@@ -88,6 +88,11 @@ pub enum Line {
         spec: WordText,
         expansion: WordText,
     },
+    /// `convert OLD NEW`
+    Convert {
+        old: WordText,
+        new: WordText,
+    },
     /// `--help` alone.
     Help,
     /// `--version` alone.

@@ -200,6 +200,18 @@ fn expand_line(alloc: Global, matches: &ArgMatches<'_>) -> Result<Line, WordsErr
     Ok(Line::Expand { spec, expansion })
 }
 
+/// The line of `convert`.
+#[tactic(auto, using(crate::proofs::Lines::convert_lines))]
+fn convert_line(alloc: Global, matches: &ArgMatches<'_>) -> Result<Line, WordsError>
+    ensures { AnswersRows Verb.Convert (rows_of (found_of matches.now)) result }
+{
+    let old = word_of(matches, "OLD")?;
+    let new = word_of(matches, "NEW")?;
+    let old = WordText::of(alloc, old)?;
+    let new = WordText::of(alloc, new)?;
+    Ok(Line::Convert { old, new })
+}
+
 /// The line of a verb and its matches.
 fn line_of(alloc: Global, verb: Verb, matches: &ArgMatches<'_>) -> Result<Line, WordsError>
     requires { HasFewFiles (rows_of (found_of matches.now)) }
@@ -216,6 +228,7 @@ fn line_of(alloc: Global, verb: Verb, matches: &ArgMatches<'_>) -> Result<Line, 
         Verb::Trial => trial_line(alloc, matches),
         Verb::Salvage => salvage_line(alloc, matches),
         Verb::Expand => expand_line(alloc, matches),
+        Verb::Convert => convert_line(alloc, matches),
     }
 }
 

@@ -17,10 +17,11 @@ pub(crate) enum Verb {
     Trial,
     Salvage,
     Expand,
+    Convert,
 }
 
 /// Every verb, once.
-pub(crate) const VERBS: [Verb; 10] = [
+pub(crate) const VERBS: [Verb; 11] = [
     Verb::Check,
     Verb::Canon,
     Verb::Show,
@@ -31,6 +32,7 @@ pub(crate) const VERBS: [Verb; 10] = [
     Verb::Trial,
     Verb::Salvage,
     Verb::Expand,
+    Verb::Convert,
 ];
 
 impl Verb {
@@ -49,6 +51,7 @@ impl Verb {
             Verb::Trial => "trial",
             Verb::Salvage => "salvage",
             Verb::Expand => "expand",
+            Verb::Convert => "convert",
         }
     }
 

@@ -10,5 +10,6 @@ returns c = record {
   filter = record { words_are = refl; in_bounds = (omega arith, omega arith); plain = (refl, (refl, tt)); few = omega arith };
   trial = record { words_are = refl; in_bounds = (omega arith, omega arith); plain = (refl, (refl, (refl, tt))); few = omega arith };
   expand = record { words_are = refl; in_bounds = tt; plain = (refl, (refl, tt)); few = omega arith };
+  convert = record { words_are = refl; in_bounds = tt; plain = (refl, (refl, tt)); few = omega arith };
   help = record { words_are = refl; in_bounds = tt; plain = tt; few = omega arith };
 }

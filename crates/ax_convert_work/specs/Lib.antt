@@ -1,0 +1,2 @@
+pub mod ConvertCommand
+pub mod Making

@@ -1,0 +1,26 @@
+//! The laws of `convert`. Each function stands for what its contract says.
+ghost use Rattle.std.specs.Prelude.{◌≡◌, ℕ, List, [], None, Some};
+ghost use Rattle.ax_convert_work.specs.ConvertCommand.{convert_command, told_octets, unless_too_long};
+ghost use Rattle.ax_model.specs.Blocks.{BlockTree, Fits, read_block, opaque_block};
+ghost use Rattle.ax_model.specs.CanonicalOctets.{framed};
+ghost use Rattle.ax_model.specs.Flaws.{NoFlaw};
+ghost use Rattle.ax_model.specs.Specification.{SpecTree};
+ghost use Rattle.ax_model.specs.Split.{first_too_long, split_octets};
+ghost use Rattle.ax_model.specs.Tree.{EntriesTree};
+ghost use Rattle.ax_rescale.specs.Conversion.{BlockConversion};
+ghost use Rattle.ax_rescale.specs.Misses.{block_misses, missed_lines};
+ghost use Rattle.ax_stream.specs.Commands.{gives, too_long};
+
+/// A block that fits the old edition is answered by its converted records and what they miss: these lines, and the octets of the
+/// blocks that the converted records are split into; or the octets of the first converted record that has too many for a block of
+/// its own, of which at most 4,294,967,295 are told. An opaque block is answered as it is.
+#[tactic(auto, using(crate::proofs::Answering::answers))]
+pub fn convert_answers_by_the_converted_block()
+    ensures split { (old new : SpecTree) (number category : ℕ) (records made : List EntriesTree) → NoFlaw new → Fits old (read_block category records) → BlockConversion old new (read_block category records) (read_block category made) → first_too_long new made ≡ None
+        → (convert_command old new).answer number (read_block category records) ≡ gives (missed_lines number (block_misses old new (read_block category records))) (split_octets new made) }
+    ensures long { (old new : SpecTree) (number category count : ℕ) (records made : List EntriesTree) → NoFlaw new → Fits old (read_block category records) → BlockConversion old new (read_block category records) (read_block category made) → first_too_long new made ≡ Some count
+        → (convert_command old new).answer number (read_block category records) ≡ too_long (told_octets count) }
+    ensures opaque { (old new : SpecTree) (number category : ℕ) (content : List ℕ) → (convert_command old new).answer number (opaque_block category content) ≡ gives [] (framed category content) }
+    ensures told { unless_too_long (Some 65536) [] [] ≡ too_long 65536 }
+    ensures held { unless_too_long (Some 4294967296) [] [] ≡ too_long 4294967295 }
+{}

@@ -1,5 +1,5 @@
 -- The codec at the place of a category.
-use Rattle.std.proofs.Common.{◌≡◌, ℕ, zero, suc, ◌+◌, ◌-◌, ◌<◌, ◌≤◌, ◌==◌, Bool, true, false, if◌then◌else◌, List, [], ◌∷◌, get_or, slice_get, Option, Some, None, refl, sym, ◌∙◌, ap, arith}
+use Rattle.std.proofs.Common.{◌≡◌, ℕ, zero, suc, ◌+◌, ◌-◌, ◌<◌, ◌≤◌, ◌==◌, Bool, true, false, if◌then◌else◌, List, [], ◌∷◌, get_or, slice_get, Some, None, refl, sym, ◌∙◌, ap, arith}
 use Rattle.ax_tables.specs.Places.{place_from, ArePlaces}
 use Rattle.ax_tables.specs.Standing.{codec_of}
 use Rattle.ax_tables.specs.declared.codec.Codec.{Codec}

@@ -27,7 +27,7 @@ pub fn compile(alloc: Global, accepted: &Accepted) -> Result<Codec, AllocError>
 {
     let spec = accepted.spec();
     let mut nodes = Nodes::new(alloc);
-    let slots = add_items(alloc, spec, &mut nodes)?;
+    let slots = add_record(alloc, spec, &mut nodes)?;
     let mask = mask_of(&slots);
     Ok(Codec {
         category: spec.category,
@@ -212,6 +212,17 @@ fn add_item(alloc: Global, spec: &Spec, frn: u32, nodes: &mut Nodes) -> Result<u
         None => Ok(0),
         Some(item) => add_kind(alloc, &item.kind, nodes),
     }
+}
+
+/// Adds the nodes of the items of the UAP, and makes the rows of its slots. Ok is a link for each of them.
+fn add_record(alloc: Global, spec: &Spec, nodes: &mut Nodes) -> Result<Links, AllocError>
+    requires table { IsTable nodes.old }
+    requires spec { NoFlaw (spec_tree spec.now) }
+    ensures { IfOk result (λ links. SlotsAreMade nodes.old nodes.new links (map bare_slot (record_slot_list (spec_tree spec.now)))) }
+{
+    let links = add_items(alloc, spec, nodes)?;
+    nodes.make_rows(alloc, links.as_slice())?;
+    Ok(links)
 }
 
 /// Adds the nodes of the items of the UAP. Ok is a link for each of its slots.

@@ -1,6 +1,8 @@
 //! The nodes of a table: kinds and parts that lead to each other by links.
-ghost use Rattle.std.specs.Prelude.{◌≡◌, ◌<◌, ◌++◌, ◌∷◌, ◌↔◌, [], length, map, slice_get, IsSome, OnOk, OnErr};
+ghost use Rattle.std.specs.Prelude.{◌≡◌, ◌<◌, ◌≤◌, ◌++◌, ◌∷◌, ◌↔◌, [], length, map, slice_get, IsSome, IfSome, OnOk, OnErr};
+ghost use Rattle.std.specs.List.{AllByRecursion};
 ghost use Rattle.std.specs.Option.{option_copied};
+ghost use Rattle.ax_rows.specs.Rows.{AreRows};
 ghost use Rattle.ax_lists.specs.Sizes.{list_bound};
 ghost use Rattle.ax_tables.specs.Octets.{octets_of};
 ghost use Rattle.ax_tables.specs.Meaning.{fixed_bits, part_bits};
@@ -8,6 +10,7 @@ ghost use Rattle.ax_tables.specs.Meaning.{fixed_bits, part_bits};
 use ax_fspec::SlotMask;
 use ax_lists::Sequence;
 use ax_model::{Counter, LastPart};
+use ax_rows::{Rows, SlotRows};
 use std::alloc::{AllocError, Global};
 use std::marker::Model;
 
@@ -15,15 +18,17 @@ use std::marker::Model;
 pub type Links = Sequence<u32>;
 
 /// The nodes of a table, in order. Contracts see that list alone; how many octets each fixed kind has stands beside it,
-/// so that octets are walked over without a look at the node.
+/// so that octets are walked over without a look at the node, and so do the rows of a set of slots, by which records are.
 #[derive(Drop)]
 pub struct Nodes {
     items: Vec<Node>,
     octets: Vec<u32>,
+    rows: SlotRows,
 }
 
 impl Model for Nodes {
     ghost use Rattle.std.specs.Prelude.{◌≡◌, ◌<◌, List, length, map};
+    ghost use Rattle.ax_rows.specs.Rows.{AreRowsOf};
     ghost use Rattle.ax_tables.specs.Octets.{octets_of};
     ghost use Rattle.ax_tables.specs.declared.node.Node.{Node};
     ghost use Rattle.ax_lists.specs.Sizes.{list_bound};
@@ -32,7 +37,7 @@ impl Model for Nodes {
 
     ghost view = { λ n. n.items.items };
 
-    ghost invariant = { λ n. (length n.items.items < list_bound) × (n.octets.items ≡ map octets_of n.items.items) };
+    ghost invariant = { λ n. (length n.items.items < list_bound) × (n.octets.items ≡ map octets_of n.items.items) × AreRowsOf n.octets.items n.rows };
 }
 
 impl Nodes {
@@ -43,6 +48,7 @@ impl Nodes {
         Nodes {
             items: Vec::new(alloc),
             octets: Vec::new(alloc),
+            rows: SlotRows::new(alloc),
         }
     }
 
@@ -76,12 +82,30 @@ impl Nodes {
         self.octets.as_slice()
     }
 
-    /// Appends one node. Want of memory leaves the list as it was.
+    /// The rows of these slots. None comes where rows were made for no slots, for others, or for more than 63.
+    #[inline]
+    pub fn rows_for(&self, slots: &[u32]) -> Option<Rows<'_>>
+        ensures { IfSome result (λ rows. AreRows (map octets_of self.now) slots.now rows.start.now rows.steps.now) }
+    {
+        self.rows.rows_for(slots)
+    }
+
+    /// Makes the rows of these slots, by which records of them are walked over.
+    pub fn make_rows(&mut self, alloc: Global, slots: &[u32]) -> Result<(), AllocError>
+        requires { AllByRecursion (λ link. link ≤ length self.old) slots.now }
+        ensures { self.new ≡ self.old }
+    {
+        self.rows = SlotRows::of(alloc, self.octets.as_slice(), slots)?;
+        Ok(())
+    }
+
+    /// Appends one node. Want of memory leaves the list as it was. The rows are those of no slot then.
     pub fn push(&mut self, one: Node) -> Result<(), AllocError>
         requires room { length self.old < 4294967295 }
         ensures ok { OnOk result (self.new ≡ self.old ++ one ∷ []) }
         ensures err { OnErr result (self.new ≡ self.old) }
     {
+        self.rows.clear();
         self.octets.push(one.octets())?;
         if self.items.push(one).is_err() {
             let _ = self.octets.pop();

@@ -11,14 +11,17 @@ ghost use Rattle.ax_model.specs.Tree as Tree;
 ghost use Rattle.ax_model.specs.Widths.{width};
 ghost use Rattle.ax_tables.specs.Meaning.{meanings, linked_slots};
 ghost use Rattle.ax_tables.specs.Table.{IsTable, SlotLinksWithin, kind_at, record_kind_at};
+ghost use Rattle.ax_rows.specs.Rows.{AreRows};
 ghost use Rattle.ax_reader.specs.Reading.{FailsAt, IsMaskOf, kind_read, entries_at};
 ghost use Rattle.ax_view.specs.Walking.{Walks, along, NeedsLast};
 
+use crate::by_rows::walk_by_rows;
 use crate::notes::{Notes, fail};
 use crate::units::{run, walk_explicit, walk_parts, walk_run};
 use ax_fspec::{Presence, SlotMask, read_presence};
 use ax_model::{BodyCause, Counter};
 use ax_reader::{count_at, run_end};
+use ax_rows::Rows;
 use ax_tables::{Codec, Node};
 
 /// The octet after the record that begins at octet `at`.
@@ -30,6 +33,49 @@ pub fn walk_record(codec: &Codec, body: &[u8], at: u32, notes: &mut Notes) -> Op
     ensures fault { IfNone result (FailsAt (kind_read (record_kind_at codec.now.nodes codec.now.slots) body.now at) at notes.new.fault) }
     ensures falls { IsTrue notes.new.least → IsTrue notes.old.least }
 {
+    walk_with(
+        codec,
+        codec.nodes.rows_for(codec.slots.as_slice()),
+        body,
+        at,
+        notes,
+    )
+}
+
+/// The same, with the rows of the codec's records, if there are some: what is by rows declined is judged by nodes, from the record's
+/// start.
+#[inline(always)]
+pub(crate) fn walk_with(
+    codec: &Codec,
+    rows: Option<Rows<'_>>,
+    body: &[u8],
+    at: u32,
+    notes: &mut Notes,
+) -> Option<u32>
+    requires rows { IfSome rows (λ rows. AreRows (map octets_of codec.now.nodes) codec.now.slots rows.start.now rows.steps.now) }
+    requires body { length body.now ≤ longest_body }
+    requires at { at ≤ length body.now }
+    ensures end { IfSome result (λ end. Walks (canon (record_kind_at codec.now.nodes codec.now.slots)) (kind_read (record_kind_at codec.now.nodes codec.now.slots) body.now at) body.now at end notes.new.least) }
+    ensures fault { IfNone result (FailsAt (kind_read (record_kind_at codec.now.nodes codec.now.slots) body.now at) at notes.new.fault) }
+    ensures falls { IsTrue notes.new.least → IsTrue notes.old.least }
+{
+    let before = notes.least;
+    if let Some(rows) = rows {
+        let end = walk_by_rows(
+            codec.nodes.as_slice(),
+            codec.nodes.octets(),
+            &codec.mask,
+            rows,
+            codec.slots.as_slice(),
+            body,
+            at,
+            notes,
+        );
+        if end.is_some() {
+            return end;
+        }
+        notes.least = before;
+    }
     walk_slots(
         codec.nodes.as_slice(),
         codec.nodes.octets(),
@@ -41,8 +87,8 @@ pub fn walk_record(codec: &Codec, body: &[u8], at: u32, notes: &mut Notes) -> Op
     )
 }
 
-/// The octet after a record of these slots.
-#[inline]
+/// The octet after a record of these slots. Inlined into the loops over records it would take their registers.
+#[inline(never)]
 fn walk_slots(
     nodes: &[Node],
     octets: &[u32],
@@ -267,7 +313,7 @@ fn walk_compound(
 
 /// Notes whether the presence field from octet `at` up to octet `here` needs its last octet.
 #[inline]
-fn note_field(body: &[u8], at: u32, here: u32, notes: &mut Notes)
+pub(crate) fn note_field(body: &[u8], at: u32, here: u32, notes: &mut Notes)
     requires { (at < here) × (here ≤ length body.now) }
     ensures needed { IsTrue notes.new.least → NeedsLast body.now at here }
     ensures falls { IsTrue notes.new.least → IsTrue notes.old.least }

@@ -1,0 +1,85 @@
+//! The rows of a set of slots.
+ghost use Rattle.std.specs.Prelude.{◌≡◌, ◌≤◌, List, ℕ, [], length, IfOk, IfSome, IfNone};
+ghost use Rattle.std.specs.List.{AllByRecursion};
+ghost use Rattle.ax_rows.specs.Rows.{AreRows, AreRowsOf};
+
+use crate::making::make_rows;
+use crate::step::Step;
+use std::alloc::{AllocError, Global};
+
+/// The most slots that rows are made for: those that nine presence octets can mark.
+const MOST_SLOTS: usize = 63;
+
+/// The rows of a set of slots: for presence octet `i` and the value `v` of its seven marks, `start[128 * i + v]` is the number of
+/// the row's first step, or `NO_ROW`.
+#[derive(Drop)]
+pub struct SlotRows {
+    /// The link of each slot; 0 of a spare one.
+    pub slots: Vec<u32>,
+    pub start: Vec<u32>,
+    pub steps: Vec<Step>,
+}
+
+/// Rows that are lent out.
+#[derive(Clone, Copy)]
+pub struct Rows<'a> {
+    pub start: &'a [u32],
+    pub steps: &'a [Step],
+}
+
+impl SlotRows {
+    /// The rows of no slot. Takes no memory.
+    pub fn new(alloc: Global) -> SlotRows
+        ensures { (octets : List ℕ) → AreRowsOf octets result }
+    {
+        SlotRows {
+            slots: Vec::new(alloc),
+            start: Vec::new(alloc),
+            steps: Vec::new(alloc),
+        }
+    }
+
+    /// Leaves the rows of no slot.
+    pub fn clear(&mut self)
+        ensures { (octets : List ℕ) → AreRowsOf octets self.new }
+    {
+        self.slots.clear();
+        self.start.clear();
+        self.steps.clear();
+    }
+
+    /// The rows of these slots; of more than 63 the rows of no slot. `octets` has for each node the octets of its fixed kind, and
+    /// else 0.
+    pub fn of(alloc: Global, octets: &[u32], slots: &[u32]) -> Result<SlotRows, AllocError>
+        requires links { AllByRecursion (λ link. link ≤ length octets.now) slots.now }
+        ensures rows { IfOk result (λ made. AreRowsOf octets.now made) }
+        ensures slots { IfOk result (λ made. length slots.now ≤ 63 → made.slots.items ≡ slots.now) }
+    {
+        if slots.len() > MOST_SLOTS {
+            return Ok(SlotRows::new(alloc));
+        }
+        let mut start = Vec::new(alloc);
+        let mut steps = Vec::new(alloc);
+        make_rows(octets, slots, &mut start, &mut steps)?;
+        Ok(SlotRows {
+            slots: Vec::from_slice(alloc, slots)?,
+            start,
+            steps,
+        })
+    }
+
+    /// The rows, where they are those of these slots.
+    pub fn rows_for(&self, slots: &[u32]) -> Option<Rows<'_>>
+        ensures some { IfSome result (λ rows. (octets : List ℕ) → AreRowsOf octets self.now → AreRows octets slots.now rows.start.now rows.steps.now) }
+        ensures none { IfNone result (self.now.slots.items ≡ slots.now → ⊥) }
+    {
+        if self.slots.as_slice() == slots {
+            Some(Rows {
+                start: self.start.as_slice(),
+                steps: self.steps.as_slice(),
+            })
+        } else {
+            None
+        }
+    }
+}

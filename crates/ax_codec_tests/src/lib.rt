@@ -30,6 +30,8 @@ mod records;
 #[cfg(test)]
 mod relations;
 #[cfg(test)]
+mod rows;
+#[cfg(test)]
 mod seeing;
 #[cfg(test)]
 mod shown;

@@ -130,6 +130,50 @@ def tables_and_tests():
     ]
 
 
+def repeated_tests():
+    """Filters of 1,000 tests on items that records haven't, on one path, and on many paths."""
+    fields = [file_of(many("I", 126, ONE))]
+    first = b"\x80\7"
+    absent = "not { any { " + "is 048/I125 = 7 " * 1_000 + "} }"
+    slots = " ".join(f"is 048/I{number % 126:03} = 8" for number in range(1_000))
+    two = [file_of(many("I", 126, ONE)), file_of(many("I", 126, ONE), 62)]
+    others = "any { present 048/I000 " + "present 062/I000 " * 1_000 + "}"
+    compound = [of_one(braced("compound", many("S", 126, ONE)))]
+    subitems = b"\x80" + b"\xff" * 17 + b"\xfe" + b"\7" * 126
+    below = " ".join(f"is 048/I000/S125 = {number}" for number in range(8, 1_008))
+    pairs = " ".join(f"all {{ is 048/I000/S125 = {number} present 048/I000/S124 }}" for number in range(8, 508))
+    counted = [of_one(f"counted {{ {ONE} }}")]
+    return [
+        Case("a filter of 1,000 tests of one absent item", ("filter",), fields, data(first, 2_000_000), absent),
+        Case("a filter of 1,000 tests of 126 items, one of them there", ("filter",), fields, data(first, 2_000_000), f"not {{ any {{ {slots} }} }}"),
+        Case("a filter of 1,000 tests of another category", ("filter",), two, data(first, 2_000_000), others),
+        Case("a filter of 1,000 tests of one subitem, 126 there", ("filter",), compound, data(subitems, 2_000_000), f"not {{ any {{ {below} }} }}"),
+        Case("a filter of 500 pairs of tests of two subitems", ("filter",), compound, data(subitems, 2_000_000), f"not {{ any {{ {pairs} }} }}"),
+        Case("a filter of 1,000 tests of one counted item", ("filter",), counted, data(b"\x80\xff" + b"\7" * 255, 2_000_000), "all { " + "present 048/I000 " * 1_000 + "}"),
+    ]
+
+
+def shared_subitems():
+    """Two editions of 126 compounds of 126 subitems, of which the new one has 125, each under the same slot or in the other order; and
+    records of all compounds, with no subitem or one."""
+    old = file_of(many("I", 126, braced("compound", many("S", 126, ONE))))
+    kept = many("S", 125, ONE)
+    same = [old, file_of(many("I", 126, braced("compound", kept)))]
+    turned = [old, file_of(many("I", 126, braced("compound", kept[::-1])))]
+    all_marked = b"\xff" * 17 + b"\xfe"
+    none = data(all_marked + b"\0" * 126, 1_000_000)
+    one = data(all_marked + b"\x80\7" * 126, 1_000_000)
+    last = data(all_marked + (b"\1" * 17 + b"\4\7") * 126, 2_000_000)
+    shared = "126 compounds of 125 shared subitems, one lost"
+    return [
+        Case(f"{shared}, none there", ("migrate",), same, none),
+        Case(f"{shared}, the first there", ("migrate",), same, one),
+        Case(f"{shared}, the last there", ("migrate",), same, last),
+        Case(f"{shared}, turned round, none there", ("migrate",), turned, none),
+        Case(f"{shared}, turned round, the first there", ("migrate",), turned, one),
+    ]
+
+
 def slots():
     subitems = many("S", 126, ONE)
     compound = braced("compound", subitems)
@@ -210,7 +254,7 @@ def frames_and_nests():
 
 
 def cases():
-    return lost_paths() + tables_and_tests() + slots() + long_texts() + frames_and_nests()
+    return lost_paths() + shared_subitems() + tables_and_tests() + repeated_tests() + slots() + long_texts() + frames_and_nests()
 
 
 def words_of(binary, command, expression, files):

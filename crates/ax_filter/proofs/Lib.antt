@@ -15,3 +15,9 @@ pub mod TestLists
 pub mod Signs
 pub mod Once
 pub mod TextStops
+pub mod SlotSets
+pub mod PlanTrees
+pub mod PlanLists
+pub mod PlannedTests
+pub mod Memos
+pub mod AbsentItems

@@ -36,19 +36,19 @@ is_tree path op number = ap expr_tree (sym (rolls-Is path op number)) ∙ fold-r
 
 -- ---- the plain trees of tests
 
-all_test_tree : (ts : List Test) → test_tree (Tests.All ts) ≡ all_tests (tests_of (map test_tree ts))
+pub all_test_tree : (ts : List Test) → test_tree (Tests.All ts) ≡ all_tests (tests_of (map test_tree ts))
 all_test_tree ts = ap test_tree (sym (Tests.rolls-All ts)) ∙ fold-roll-Test TestTree test_step (Test-F.All ts)
 
-any_test_tree : (ts : List Test) → test_tree (Tests.Any ts) ≡ any_test (tests_of (map test_tree ts))
+pub any_test_tree : (ts : List Test) → test_tree (Tests.Any ts) ≡ any_test (tests_of (map test_tree ts))
 any_test_tree ts = ap test_tree (sym (Tests.rolls-Any ts)) ∙ fold-roll-Test TestTree test_step (Test-F.Any ts)
 
-not_test_tree : (box : Box Test Global) → test_tree (Tests.Not box) ≡ not_test (test_tree box.value)
+pub not_test_tree : (box : Box Test Global) → test_tree (Tests.Not box) ≡ not_test (test_tree box.value)
 not_test_tree box = ap test_tree (sym (Tests.rolls-Not box)) ∙ fold-roll-Test TestTree test_step (Test-F.Not box)
 
-at_place_tree : (category : ℕ) (place : Option Place) → test_tree (Tests.Present category place) ≡ at_place category place
+pub at_place_tree : (category : ℕ) (place : Option Place) → test_tree (Tests.Present category place) ≡ at_place category place
 at_place_tree category place = ap test_tree (sym (Tests.rolls-Present category place)) ∙ fold-roll-Test TestTree test_step (Test-F.Present category place)
 
-at_element_tree : (category : ℕ) (e : Option Element) (op : Op) (number : ℤ) → test_tree (Tests.Is category e op number) ≡ at_element category e op number
+pub at_element_tree : (category : ℕ) (e : Option Element) (op : Op) (number : ℤ) → test_tree (Tests.Is category e op number) ≡ at_element category e op number
 at_element_tree category e op number = ap test_tree (sym (Tests.rolls-Is category e op number)) ∙ fold-roll-Test TestTree test_step (Test-F.Is category e op number)
 
 -- ---- what a test passes

@@ -2,6 +2,10 @@
 
 use crate::test::{Test, Tests};
 
+/// Up to so many tests each find their item by a walk over the items before it. To find all items of a record takes about
+/// as long as a few such walks.
+pub const FEW: u32 = 4;
+
 /// Those among tests that ask what stands at a place, counted up to 2^32 - 1.
 #[cycle(asking)]
 fn each_asking(tests: &Tests) -> u32 {

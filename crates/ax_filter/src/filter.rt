@@ -1,5 +1,6 @@
 //! Filters: an expression over a catalogue.
 ghost use Rattle.std.specs.Prelude.{◌≡◌, ℕ};
+ghost use Rattle.ax_filter.specs.Plans.{PlanEach};
 ghost use Rattle.ax_model.specs.Plain.{catalogue_tree};
 ghost use Rattle.ax_model.specs.Tree.{EntriesTree};
 ghost use Rattle.ax_filter.specs.Meaning.{holds};
@@ -7,6 +8,7 @@ ghost use Rattle.ax_filter.specs.Tests.{test_tree, passes};
 ghost use Rattle.ax_filter.specs.Tree.{expr_tree};
 
 use crate::expr::Expr;
+use crate::plan::{Plans, Questions};
 use crate::test::Test;
 use ax_check::Catalogue;
 
@@ -18,5 +20,10 @@ pub struct Filter<'c> {
     pub(crate) test: Test,
     /// How many tests ask what stands at a place; counted up to 2^32 - 1.
     pub(crate) asking: u32,
+    /// What the plans ask, by the numbers under which they do.
+    pub(crate) questions: Questions,
+    /// By category, the plan of the test for its records; none where few tests ask.
+    pub(crate) plans: Plans,
     ghost same: { (category : ℕ) (r : EntriesTree) → passes category r (test_tree test) ≡ holds (catalogue_tree catalogue.now) category r (expr_tree expr) },
+    ghost planned: { PlanEach questions plans test },
 }

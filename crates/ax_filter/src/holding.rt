@@ -6,15 +6,14 @@ ghost use Rattle.ax_filter.specs.OfCode.{expression, catalogue_of};
 ghost use Rattle.ax_view.specs.Placing.{IsPlaced, placed_entries};
 ghost use Rattle.ax_view.specs.Shown.{record_entries};
 
+use crate::asking::FEW;
+use crate::deciding::says;
 use crate::filter::Filter;
+use crate::memo::Memo;
 use crate::passing::passes;
 use ax_model::{Record, Spec};
 use ax_tables::Codec;
 use ax_view::{Notes, PlacedSlots, Places, RecordView, place_record};
-
-/// Up to so many tests each find their item by a walk over the items before it. To find all items of a record takes about
-/// as long as a few such walks.
-const FEW: u32 = 4;
 
 impl<'c> Filter<'c> {
     /// Whether the filter holds of a record of that category's specification, the catalogue's. Takes no memory.
@@ -31,8 +30,8 @@ impl<'c> Filter<'c> {
         passes(&self.test, spec.category, one)
     }
 
-    /// The same of a record under that codec, in a time that is linear in the tests that decide it: where there are more than
-    /// a few, its items are found in one walk for all of them. Takes no memory.
+    /// The same of a record under that codec. Where more than a few tests ask, its items are found in one walk for all of them,
+    /// tests of items that it hasn't are passed over together, and what several tests ask is looked for once. Takes no memory.
     pub fn holds_under(&self, category: u8, codec: &Codec, one: &RecordView<'_, '_>) -> bool
         ensures { one.now.codec.now ≡ codec.now → result ≡ holds (catalogue_of self.now) category (record_entries one.now) (expression self.now) }
     {
@@ -64,11 +63,17 @@ impl<'c> Filter<'c> {
         }
     }
 
-    /// The same of a record of which it is known where each item stands.
+    /// The same of a record of which it is known where each item stands: by the plan of its category.
     fn holds_among(&self, category: u8, one: &PlacedSlots<'_, '_, '_>) -> bool
         requires placed { IsPlaced one.now }
         ensures { result ≡ holds (catalogue_of self.now) category (placed_entries one.now) (expression self.now) }
     {
-        passes(&self.test, category, one)
+        match self.plans.get(category as u32) {
+            Some(plan) => {
+                let mut memo = Memo::new();
+                says(plan, self.questions.as_slice(), one, &mut memo)
+            }
+            None => passes(&self.test, category, one),
+        }
     }
 }

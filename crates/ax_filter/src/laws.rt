@@ -3,8 +3,11 @@ ghost use Rattle.std.specs.Prelude.{◌≡◌, ℕ, ◌⊎◌, List};
 ghost use Rattle.ax_model.specs.Specification.{SpecTree};
 ghost use Rattle.ax_token_reader.specs.Stopping.{texts_of};
 ghost use Rattle.ax_tokens.specs.PlainToken.{PlainToken};
+ghost use Rattle.ax_model.specs.Tree.{EntriesTree, no_entries};
+ghost use Rattle.ax_filter.specs.Absent.{HasNoneOf};
 ghost use Rattle.ax_filter.specs.Answers.{Spells};
 ghost use Rattle.ax_filter.specs.Faults.{IsFault};
+ghost use Rattle.ax_filter.specs.Meaning.{holds};
 ghost use Rattle.ax_filter.specs.OfCode.{IsFilterOf};
 ghost use Rattle.ax_filter.specs.Texts.{IsFilterText, IsRefused};
 ghost use Rattle.ax_filter.specs.Tree.{ExprTree};
@@ -28,4 +31,10 @@ pub fn text_once()
     ensures filter { (catalogue : List SpecTree) (text : List ℕ) (e other : ExprTree) → IsFilterText catalogue text e → IsFilterText catalogue text other → e ≡ other }
     ensures fault { (catalogue : List SpecTree) (text : List ℕ) (a b : FilterFault) → IsRefused catalogue text a → IsRefused catalogue text b → a ≡ b }
     ensures never_both { (catalogue : List SpecTree) (text : List ℕ) (e : ExprTree) (fault : FilterFault) → IsFilterText catalogue text e → IsRefused catalogue text fault → ⊥ }
+{}
+
+/// An expression says of a record that has none of the items that it asks what it says of a record without items. Items of which
+/// it asks under another category are none of these.
+pub fn absent_items_as_none()
+    ensures { (catalogue : List SpecTree) (category : ℕ) (r : EntriesTree) (e : ExprTree) → HasNoneOf catalogue category r e → holds catalogue category r e ≡ holds catalogue category no_entries e }
 {}

@@ -3,6 +3,7 @@
 
 mod asking;
 mod comparing;
+mod deciding;
 mod error;
 pub mod examples;
 mod expr;
@@ -11,12 +12,17 @@ mod faults;
 mod filter;
 mod holding;
 pub mod laws;
+mod memo;
 mod numbers;
 mod passing;
 mod paths;
 mod places;
+mod plan;
+mod planning;
+mod questions;
 mod reading;
 mod resolving;
+mod slot_sets;
 mod standing;
 mod syntax;
 mod test;

@@ -7,11 +7,13 @@ ghost use Rattle.ax_filter.specs.Leading.{IsPathFault};
 ghost use Rattle.ax_filter.specs.declared.error.FilterError.TheVariants as Fault;
 ghost use Rattle.ax_filter.specs.OfCode.{expression, catalogue_of, IsFilterOf};
 
-use crate::asking::asking;
+use crate::asking::{FEW, asking};
 use crate::error::FilterError;
 use crate::expr::Expr;
 use crate::faults::{PathFault, first_fault};
 use crate::filter::Filter;
+use crate::plan::{Plans, Questions};
+use crate::planning::plan_categories;
 use crate::resolving::resolve;
 use crate::syntax::{SyntaxError, read_expr};
 use ax_check::Catalogue;
@@ -49,11 +51,19 @@ fn filter_of<'c>(
 {
     let test = resolve(alloc, catalogue, &expr)?;
     let asking = asking(&test);
+    let mut questions = Questions::new(alloc);
+    let plans = if asking > FEW {
+        plan_categories(alloc, &test, &mut questions)?
+    } else {
+        Plans::new(alloc)
+    };
     Ok(Filter {
         expr,
         catalogue,
         test,
         asking,
+        questions,
+        plans,
     })
 }
 

@@ -21,6 +21,14 @@ const TWO_PARTS: &str = "30 00 06 20 A1 80";
 // Item 130 with its subitem SRR alone.
 const SRR: &str = "30 00 06 02 40 05";
 
+// Items 010 and 130, the latter with all its subitems.
+const PLOT: &str = "30 00 0E 82 19 0C FE 01 02 03 04 05 06 07";
+
+// The counted item 250, and item 120 with its counted subitem RDS alone.
+const COUNTED: &str = "30 00 0E 01 20 01 00 00 00 00 00 00 00 00";
+
+const RDS: &str = "30 00 0E 01 01 04 40 01 00 00 00 00 00 00";
+
 // The expression, the block, and what it keeps of it.
 const KEPT: [(&str, &str, &str); 24] = [
     (
@@ -90,6 +98,108 @@ const OF_MANY: [(&str, &str, &str); 5] = [
     ),
 ];
 
+// The same of tests of items that aren't there, of tests of two categories, and of what several tests ask.
+const TOGETHER: [(&str, &str, &str); 17] = [
+    (
+        "not { any { is 048/020/TST = 1 is 048/020/TST = 0 present 048/130/SRL is 048/090/FL < 0 present 048/250 } }",
+        SAC,
+        SAC,
+    ),
+    (
+        "not { any { is 048/020/TST = 1 is 048/020/TST = 0 present 048/130/SRL is 048/090/FL < 0 present 048/250 } }",
+        TWO_PARTS,
+        "",
+    ),
+    (
+        "any { not { present 048/130 } present 048/020 present 048/250 present 048/030 present 048/120 }",
+        SAC,
+        SAC,
+    ),
+    (
+        "any { not { present 048/130 } present 048/020 present 048/250 present 048/030 present 048/120 }",
+        SRR,
+        "",
+    ),
+    (
+        "any { present 048/020 present 048/130 is 048/090/FL < 0 is 048/010/SAC = 25 present 048/250 }",
+        SAC,
+        SAC,
+    ),
+    (
+        "any { present 048/020 present 048/130 is 048/090/FL < 0 is 048/010/SAC = 26 present 048/250 }",
+        SAC,
+        "",
+    ),
+    (
+        "any { present 034/010 is 034/010/SAC = 25 is 034/010/SIC = 12 present 034/000 present 048/020 }",
+        SAC,
+        "",
+    ),
+    (
+        "any { present 034/010 is 034/010/SAC = 25 is 034/010/SIC = 12 present 034/000 present 048/020 }",
+        OF_034,
+        OF_034,
+    ),
+    (
+        "all { not { present 034/010 } not { is 034/010/SAC = 25 } present 048/010 not { present 034/000 } not { present 048/020 } }",
+        SAC,
+        SAC,
+    ),
+    (
+        "all { not { present 034/010 } not { is 034/010/SAC = 25 } present 048/010 not { present 034/000 } not { present 048/020 } }",
+        OF_034,
+        "",
+    ),
+    (
+        "all { present 048/250 present 048/250 not { present 048/120/RDS } present 048/250 not { present 048/010 } }",
+        COUNTED,
+        COUNTED,
+    ),
+    (
+        "all { present 048/120/RDS present 048/120 present 048/120/RDS not { present 048/120/CAL } not { is 048/120/CAL = 5 } }",
+        RDS,
+        RDS,
+    ),
+    (
+        "any { is 048/010/SAC = 1 is 048/010/SAC = 2 is 048/010/SIC = 25 is 048/010/SAC = 4 is 048/010/SAC = 25 }",
+        SAC,
+        SAC,
+    ),
+    (
+        "any { is 048/010/SAC = 1 is 048/010/SAC = 2 is 048/010/SIC = 25 is 048/010/SAC = 4 is 048/010/SAC = 12 }",
+        SAC,
+        "",
+    ),
+    // More questions than there are answers kept at a time, some of them asked again.
+    (
+        r#"all { is 048/130/SRL = 1 is 048/130/SRR = 2 is 048/130/SAM = 3 is 048/130/PRL = 4 is 048/130/PAM = 5 is 048/130/RPD = 6
+        is 048/130/APD = 7 present 048/130/SRL present 048/130/SRR present 048/130/SAM present 048/130/PRL present 048/130/PAM
+        present 048/130/RPD present 048/130/APD is 048/010/SAC = 25 is 048/010/SIC = 12 present 048/010 is 048/130/SRL = 1
+        present 048/130 is 048/130/SRR = 2 not { is 048/130/SRL = 0 } present 048/010 }"#,
+        PLOT,
+        PLOT,
+    ),
+    // More tests than stand together.
+    (
+        r#"any { present 048/020 present 048/020 present 048/020 present 048/020 present 048/020 present 048/020 present 048/020 present 048/020
+        present 048/020 present 048/020 present 048/020 present 048/020 present 048/020 present 048/020 present 048/020 present 048/020
+        present 048/020 present 048/020 present 048/020 present 048/020 present 048/020 present 048/020 present 048/020 present 048/020
+        present 048/020 present 048/020 present 048/020 present 048/020 present 048/020 present 048/020 present 048/020 present 048/020
+        present 048/130 present 048/010 present 048/250 }"#,
+        SAC,
+        SAC,
+    ),
+    (
+        r#"any { present 048/020 present 048/020 present 048/020 present 048/020 present 048/020 present 048/020 present 048/020 present 048/020
+        present 048/020 present 048/020 present 048/020 present 048/020 present 048/020 present 048/020 present 048/020 present 048/020
+        present 048/020 present 048/020 present 048/020 present 048/020 present 048/020 present 048/020 present 048/020 present 048/020
+        present 048/020 present 048/020 present 048/020 present 048/020 present 048/020 present 048/020 present 048/020 present 048/020
+        present 048/130 present 048/250 }"#,
+        SAC,
+        "",
+    ),
+];
+
 fn each_keeps(rt: &impl Abort, alloc: Global, files: &Catalogue, rows: &[(&str, &str, &str)]) {
     for &(text, block, want) in rows {
         keeps(rt, alloc, files, text, block, want);
@@ -101,6 +211,7 @@ fn records_are_kept(rt: HostRuntime) {
     let files = catalogue(&rt, rt.alloc(), CAT034_P1, CAT048_P1);
     each_keeps(&rt, rt.alloc(), &files, &KEPT);
     each_keeps(&rt, rt.alloc(), &files, &OF_MANY);
+    each_keeps(&rt, rt.alloc(), &files, &TOGETHER);
 }
 
 // Elements of the greatest width, without a sign and with one.

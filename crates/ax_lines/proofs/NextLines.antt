@@ -131,7 +131,7 @@ line_within line_limit limit given octets one after left n size (inr (h, at_end)
     let within : given + length one ≤ limit = h.within in
     omega arith
 
-module _ (line_limit limit given : ℕ) (le : given ≤ limit) (i : SourceChange) (before buffer : List ℕ) (most : ℕ) (buffered : Buffered) (enough : most ≡ min (limit - given) line_limit + 1) (capacity : length buffer ≡ line_limit + read_ahead) (h : HoldsLine i before buffer most buffered) where
+module _ (line_limit limit given : ℕ) (le : given ≤ limit) (i : SourceChange) (before buffer : List ℕ) (most : ℕ) (buffered : Buffered) (enough : most ≡ min (limit - given) line_limit + 1) (capacity : length buffer ≤ line_limit + read_ahead) (h : HoldsLine i before buffer most buffered) where
   size : length (before ++ h.octets) ≡ buffered.end - buffered.start
   size = ap length (sym h.stands) ∙ size_of_range buffer buffered.start buffered.end h.window h.within
 

@@ -1,11 +1,11 @@
 -- Octets taken, step by step.
 use Rattle.std.proofs.Common.{◌≡◌, ℕ, ◌+◌, ◌-◌, ◌<◌, ◌≤◌, List, [], ◌∷◌, ◌++◌, Option, Some, None, length, take, drop, slice_range, sym, ◌∙◌, ap, subst, arith, append_assoc, append-nil, length-take-le, length-append}
-use Rattle.std.proofs.lemmas.List.{take-append-le}
+use Rattle.std.proofs.lemmas.List.{take-append-le, take-take, take_at}
 use Rattle.std.proofs.Math.Seq.{take-append-add, drop-append_seam}
 use Rattle.ax_outside.proofs.Ends.{with_front-append, with_front-nil}
 use Rattle.ax_outside.specs.Changes.{SourceChange}
 use Rattle.ax_outside.specs.Told.{with_front, IsAtEnd}
-use borrow.Rule.Slice.PartMut.{put_mid, post_of}
+use borrow.Rule.Slice.PartMut.{put_mid, post_of, same_len_mid}
 use Rattle.ax_lines.specs.Feeds.{IsPlain, IsFeedAt}
 use Rattle.ax_lines.specs.Holding.{Took, HoldsLine}
 
@@ -74,6 +74,11 @@ pub still_within : (buffer part : List ℕ) (at k n : ℕ) → at ≤ length buf
 still_within buffer part at k n le room =
     rw (length-append, length-append) (let e : length (take at buffer) ≡ at = length-take-le at buffer le in omega arith)
 
+-- a part is as long as before, and the octets that stand there are all of the buffer's
+pub all_put : (buffer items part : List ℕ) (len at k : ℕ) → length buffer ≡ len → length part ≡ length (take k (drop at buffer)) → take len (put_mid at k buffer part ++ drop (length (put_mid at k buffer part)) items) ≡ put_mid at k buffer part
+all_put buffer items part len at k size same =
+    take_at (put_mid at k buffer part) (drop (length (put_mid at k buffer part)) items) len (same_len_mid at k buffer part same ∙ size)
+
 -- the first octets of a list that begins with k others
 take-past : (xs ys : List ℕ) (k n : ℕ) → length xs ≡ k → take (k + n) (xs ++ ys) ≡ xs ++ take n ys
 take-past xs ys k n e = rw (← e) (take-append-add xs ys n)
@@ -116,6 +121,19 @@ module _ (left mid left' : Option (List ℕ)) (taken counted taken' faults later
     feed = feed_on before s.all.octets (take n part) filled at (stands_size (change left mid taken counted faults later) before buffer filled s.all) s.plain (subst (λ l. IsFeedAt l at) (part_read buffer part filled k n s.all.within room) h);
     whole = λ e. absurd (cc);
   }
+
+-- more octets come after those of the buffer
+stands_longer : (i : SourceChange) (before buffer more : List ℕ) (filled : ℕ) → take (length buffer) more ≡ buffer → length buffer ≤ length more → Stands i before buffer filled → Stands i before more filled
+stands_longer i before buffer more filled front longer s = record {
+  octets = s.octets;
+  took = s.took;
+  within = omega (arith, s.within, longer);
+  stands = sym (take-take filled (length buffer) more s.within) ∙ ap (take filled) front ∙ s.stands;
+}
+
+pub plain_longer : (i : SourceChange) (before buffer more : List ℕ) (filled : ℕ) → take (length buffer) more ≡ buffer → length buffer ≤ length more → StandsPlain i before buffer filled → StandsPlain i before more filled
+unfolding stands_longer
+plain_longer i before buffer more filled front longer s = record { all = stands_longer i before buffer more filled front longer s.all; plain = s.plain }
 
 -- no line feed is among those that stand there
 pub holds_plain : (i : SourceChange) (before buffer : List ℕ) (filled most : ℕ) → StandsPlain i before buffer filled → (filled < most → IsAtEnd i.left') → HoldsLine i before buffer most (record { start = 0; end = filled; feed = None })

@@ -1,5 +1,5 @@
 //! The next line, buffered in a buffer.
-ghost use Rattle.std.specs.Prelude.{◌≡◌, ◌+◌, ◌≤◌, ◌<◌, ◌⊎◌, length, slice_range};
+ghost use Rattle.std.specs.Prelude.{◌≡◌, ◌+◌, ◌≤◌, ◌<◌, ◌⊎◌, length, slice_range, vec_capacity};
 ghost use Rattle.ax_lines.specs.Feeds.{IsPlain};
 ghost use Rattle.ax_lines.specs.Reader.{read_ahead, OnLine, OnEnd, OnReadFault, UnlessReadFault, OnTooLong, FindsEnd, StopsInLine};
 ghost use Rattle.ax_lines.specs.Window.{HoldsNext};
@@ -26,7 +26,7 @@ pub struct BufferedLine {
 #[tactic(auto, using(crate::proofs::NextLines::next_lines))]
 pub fn next_line<S: Source>(
     source: &mut S,
-    buffer: &mut [u8],
+    buffer: &mut Vec<u8>,
     start: usize,
     end: usize,
     line_limit: u32,
@@ -34,14 +34,18 @@ pub fn next_line<S: Source>(
     given: u64,
 ) -> Result<Option<BufferedLine>, LineError>
     requires window { start ≤ end }
-    requires within { end ≤ length buffer.old }
-    requires room { length buffer.old ≡ line_limit + read_ahead }
+    requires within { end ≤ length buffer.old.items }
+    requires length { length buffer.old.items ≤ line_limit + read_ahead }
+    requires room { line_limit + read_ahead ≤ vec_capacity buffer.old }
     requires in_limit { given ≤ limit }
-    ensures line { OnLine result (HoldsNext line_limit limit given (slice_range buffer.old start end) (source_change S.Source source.old source.new) buffer.new) }
-    ensures end { OnEnd result (FindsEnd line_limit limit given (slice_range buffer.old start end) (source_change S.Source source.old source.new)) }
-    ensures past_limit { OnTooLong result (limit + S.taken source.old < given + length (slice_range buffer.old start end) + S.taken source.new) }
-    ensures fault { OnReadFault result (StopsInLine line_limit limit given (slice_range buffer.old start end) (source_change S.Source source.old source.new)) }
-    ensures asks { IsPlain (slice_range buffer.old start end) ⊎ (source.new ≡ source.old) }
+    ensures line { OnLine result (HoldsNext line_limit limit given (slice_range buffer.old.items start end) (source_change S.Source source.old source.new) buffer.new.items) }
+    ensures length { length buffer.new.items ≤ line_limit + read_ahead }
+    ensures longer { length buffer.old.items ≤ length buffer.new.items }
+    ensures room { line_limit + read_ahead ≤ vec_capacity buffer.new }
+    ensures end { OnEnd result (FindsEnd line_limit limit given (slice_range buffer.old.items start end) (source_change S.Source source.old source.new)) }
+    ensures past_limit { OnTooLong result (limit + S.taken source.old < given + length (slice_range buffer.old.items start end) + S.taken source.new) }
+    ensures fault { OnReadFault result (StopsInLine line_limit limit given (slice_range buffer.old.items start end) (source_change S.Source source.old source.new)) }
+    ensures asks { IsPlain (slice_range buffer.old.items start end) ⊎ (source.new ≡ source.old) }
     ensures rose { OnReadFault result (Rose (S.faults source.old) (S.faults source.new)) }
     ensures never_falls { S.faults source.old ≤ S.faults source.new }
     ensures once { S.faults source.new ≤ S.faults source.old + 1 }

@@ -3,7 +3,7 @@ ghost use Rattle.std.specs.Prelude.{◌≡◌, IfOk, length};
 
 use crate::line_error::LineError;
 use crate::next_line::{BufferedLine, next_line};
-use ax_lists::zeros;
+use crate::reading::READ_AHEAD;
 use ax_outside::Source;
 use std::alloc::{AllocError, Global};
 use std::marker::Model;
@@ -15,7 +15,7 @@ pub enum Ended {
     Refused(LineError),
 }
 
-/// A reader of lines, with room for the longest one.
+/// A reader of lines, with room for the longest one. The buffer has as many octets as were needed so far.
 #[derive(Drop)]
 pub struct LineReader {
     buffer: Vec<u8>,
@@ -28,7 +28,7 @@ pub struct LineReader {
 }
 
 impl Model for LineReader {
-    ghost use Rattle.std.specs.Prelude.{◌≡◌, ◌+◌, ◌≤◌, length, slice_range};
+    ghost use Rattle.std.specs.Prelude.{◌≡◌, ◌+◌, ◌≤◌, length, slice_range, vec_capacity};
     ghost use Rattle.ax_lines.specs.Reader.{ReaderState, read_ahead};
 
     ghost Value = { ReaderState };
@@ -41,7 +41,7 @@ impl Model for LineReader {
       ended = r.ended;
     } };
 
-    ghost invariant = { λ r. (length r.buffer.items ≡ r.line_limit + read_ahead) × (r.start ≤ r.end) × (r.end ≤ length r.buffer.items) × (r.given ≤ r.limit) };
+    ghost invariant = { λ r. (length r.buffer.items ≤ r.line_limit + read_ahead) × (r.line_limit + read_ahead ≤ vec_capacity r.buffer) × (r.start ≤ r.end) × (r.end ≤ length r.buffer.items) × (r.given ≤ r.limit) };
 }
 
 impl LineReader {
@@ -56,12 +56,12 @@ impl LineReader {
 
     /// A reader of an input of at most `limit` octets in lines of at most `line_limit` octets each, which has taken nothing
     /// and keeps no answer. The room for the longest line and 65,536 octets after it is taken here, once; want of memory
-    /// for it is the one refusal.
+    /// for it is the one refusal. Of that room no more is touched than the lines of the input reach.
     pub fn new(alloc: Global, line_limit: u32, limit: u64) -> Result<LineReader, AllocError>
         requires { line_limit ≤ 2 ^ 30 }
         ensures { IfOk result (λ reader. reader ≡ record { line_limit = line_limit; limit = limit; given = 0; buffered = []; ended = None }) }
     {
-        let buffer = zeros(alloc, line_limit as usize + READ_AHEAD)?;
+        let buffer = Vec::with_capacity(alloc, line_limit as usize + READ_AHEAD)?;
         Ok(LineReader {
             buffer,
             start: 0,
@@ -141,6 +141,3 @@ impl LineReader {
         }
     }
 }
-
-/// The octets that the buffer takes besides those of the longest line.
-const READ_AHEAD: usize = 65_536;

@@ -58,8 +58,8 @@ fn built(
     Ok(octets)
 }
 
-/// The canonical octets of the block whose text the line is, or None where the line has no token. Lines as `text` prints
-/// them are read without a list of tokens, in the room that is lent; the others, and those that are refused, token by token.
+/// The canonical octets of the block whose text the line is, or None where the line has no token. Lines without comments are mostly
+/// read without a list of tokens, in the room that is lent; the others, and those that are refused, token by token.
 #[tactic(auto, using(crate::proofs::Built::lines_built))]
 pub(crate) fn line_octets(
     alloc: Global,

@@ -3,7 +3,7 @@ use Rattle.std.proofs.Common.{◌≡◌, ℕ, zero, suc, ◌+◌, ◌-◌, ◌<�
 use Rattle.std.specs.Prelude.{◌==◌, MatchBool}
 use Rattle.std.proofs.lemmas.Bool.{eq-eqb, eqb-true, ne_eqb}
 use Rattle.std.proofs.lemmas.List.{take_more_set, drop-set-lt, length-set, length-replicate}
-use Rattle.ax_bits.specs.declared.output.Out.{Out}
+use Rattle.ax_printed_lines.specs.declared.laid.Laid.{Laid}
 use Rattle.ax_block_reader.proofs.Onto.{kind_more}
 use Rattle.ax_fspec.proofs.FieldLaws.{least_field_of, none_further}
 use Rattle.ax_fspec.specs.Fields.{least_field}
@@ -76,7 +76,7 @@ taken s (subitem name kind) ss v es h k =
 abbrev WithMarks : SlotsTree → ℕ → List ℕ → EntriesTree → Type 0
 WithMarks ss s marks es = EntriesShape s ss es × (marks_of s ss es ≡ marks)
 
-pub record EntriesLeft (all : SlotsTree) (marks : List ℕ) (i : ℕ) (ss : SlotsTree) (old now : Place) (before after : Out) : Type 0 where
+pub record EntriesLeft (all : SlotsTree) (marks : List ℕ) (i : ℕ) (ss : SlotsTree) (old now : Place) (before after : Laid) : Type 0 where
   pub built : (whole more : List ℕ) → whole ≡ take i marks ++ more
       → Partly (WithMarks all 1 whole) (λ es. entries_onto 1 all es (closing ∷ [])) (entries_canon 1 all) (WithMarks ss (i + 1) more) (λ es. entries_onto (i + 1) ss es (closing ∷ [])) (entries_canon (i + 1) ss) old now before after
   pub size : length marks ≡ 126
@@ -86,7 +86,7 @@ pub record EntriesLeft (all : SlotsTree) (marks : List ℕ) (i : ℕ) (ss : Slot
   pub few : slot_count all ≤ 126
   pub some : 0 < slot_count all
 
-pub entries_first : (ss : SlotsTree) (marks : List ℕ) (old : Place) (out : Out) → AreSlots ss → marks ≡ no_marks → EntriesLeft ss marks 0 ss old old out out
+pub entries_first : (ss : SlotsTree) (marks : List ℕ) (old : Place) (out : Laid) → AreSlots ss → marks ≡ no_marks → EntriesLeft ss marks 0 ss old old out out
 unfolding no_marks
 entries_first ss marks old out h e = record {
   built = λ whole more is. (
@@ -112,13 +112,13 @@ bounds_and spare_slot ss h = (tt, h)
 bounds_and (subitem name k) ss h = ((h.0, tt), h.1)
 
 module _ (all : SlotsTree) (i : ℕ) (slot : SlotTree) (ss here : SlotsTree) (is : here ≡ slot_and slot ss) where
-  pub slot_bounds : (marks : List ℕ) (old now : Place) (before after : Out) → EntriesLeft all marks i here old now before after → SlotsInBounds (slot_and slot no_slots)
+  pub slot_bounds : (marks : List ℕ) (old now : Place) (before after : Laid) → EntriesLeft all marks i here old now before after → SlotsInBounds (slot_and slot no_slots)
   slot_bounds marks old now before after l = (bounds_and slot ss (subst SlotsInBounds is l.bounds)).0
 
-  pub slot_few : (marks : List ℕ) (old now : Place) (before after : Out) → EntriesLeft all marks i here old now before after → i + 1 ≤ 126
+  pub slot_few : (marks : List ℕ) (old now : Place) (before after : Laid) → EntriesLeft all marks i here old now before after → i + 1 ≤ 126
   slot_few marks old now before after l = let n : slot_count here ≡ suc (slot_count ss) = ap slot_count is in omega (arith, l.count, l.few, n)
 
-  pub entry_passed : (marks : List ℕ) (old now : Place) (before after : Out) → EntriesLeft all marks i here old now before after → EntriesLeft all marks (i + 1) ss old now before after
+  pub entry_passed : (marks : List ℕ) (old now : Place) (before after : Laid) → EntriesLeft all marks i here old now before after → EntriesLeft all marks (i + 1) ss old now before after
   entry_passed marks old now before after h =
       let l : EntriesLeft all marks i (slot_and slot ss) old now before after = subst (λ z. EntriesLeft all marks i z old now before after) is h in
       let n : slot_count here ≡ suc (slot_count ss) = ap slot_count is in
@@ -138,7 +138,7 @@ module _ (all : SlotsTree) (i : ℕ) (slot : SlotTree) (ss here : SlotsTree) (is
         some = l.some;
       }
 
-  pub entry_taken : (marks new : List ℕ) (old now next : Place) (before mid after : Out) → EntriesLeft all marks i here old now before mid → new ≡ set marks (i + 1 - 1) 1 → IsBuilt (SlotShape slot) (λ v. slot_onto slot v []) (slot_canon slot) now next mid after → EntriesLeft all new (i + 1) ss old next before after
+  pub entry_taken : (marks new : List ℕ) (old now next : Place) (before mid after : Laid) → EntriesLeft all marks i here old now before mid → new ≡ set marks (i + 1 - 1) 1 → IsBuilt (SlotShape slot) (λ v. slot_onto slot v []) (slot_canon slot) now next mid after → EntriesLeft all new (i + 1) ss old next before after
   entry_taken marks new old now next before mid after h f b =
       let l : EntriesLeft all marks i (slot_and slot ss) old now before mid = subst (λ z. EntriesLeft all marks i z old now before mid) is h in
       let g : new ≡ set marks i 1 = f ∙ ap (λ k. set marks k 1) (let z : i + 1 - 1 ≡ i = omega arith in z) in
@@ -159,7 +159,7 @@ module _ (all : SlotsTree) (i : ℕ) (slot : SlotTree) (ss here : SlotsTree) (is
         some = l.some;
       }
 
-pub entries_done : (all : SlotsTree) (marks : List ℕ) (i : ℕ) (here : SlotsTree) (old now new : Place) (before after : Out) → here ≡ no_slots → EntriesLeft all marks i here old now before after → Goes now new (closing ∷ [])
+pub entries_done : (all : SlotsTree) (marks : List ℕ) (i : ℕ) (here : SlotsTree) (old now new : Place) (before after : Laid) → here ≡ no_slots → EntriesLeft all marks i here old now before after → Goes now new (closing ∷ [])
     → IsBuilt (HasMarks all marks) (λ es. entries_onto 1 all es (closing ∷ [])) (entries_canon 1 all) old new before after
 entries_done all marks i here old now new before after is h g =
     let l : EntriesLeft all marks i no_slots old now before after = subst (λ z. EntriesLeft all marks i z old now before after) is h in
@@ -173,12 +173,22 @@ entries_done all marks i here old now new before after is h g =
     (built_bare (WithMarks no_slots (i + 1) []) (λ es. entries_onto (i + 1) no_slots es (closing ∷ [])) (entries_canon (i + 1) no_slots) no_entries now new after (tt, refl) g refl))
     (λ es k. (es, (k.0, least ∙ ap (least_presence (octets_needed (slot_count all))) (sym k.1)), refl, refl))
 
-pub entries_less : (all : SlotsTree) (marks : List ℕ) (i : ℕ) (here : SlotsTree) (old now : Place) (before after : Out) → EntriesLeft all marks i here old now before after → length now.left ≤ length old.left
+-- the later slots are all passed, where the brace comes
+all_passed : (all : SlotsTree) (ss : SlotsTree) (i : ℕ) (marks : List ℕ) (old now : Place) (before after : Laid) → EntriesLeft all marks i ss old now before after → (j : ℕ) × EntriesLeft all marks j no_slots old now before after
+all_passed all no_slots i marks old now before after h = (i, h)
+all_passed all (slot_and slot ss) i marks old now before after h = all_passed all ss (i + 1) marks old now before after (entry_passed all i slot ss (slot_and slot ss) refl marks old now before after h)
+
+pub entries_ended : (all : SlotsTree) (marks : List ℕ) (i : ℕ) (here : SlotsTree) (old now new : Place) (before after : Laid) → EntriesLeft all marks i here old now before after → Goes now new (closing ∷ [])
+    → IsBuilt (HasMarks all marks) (λ es. entries_onto 1 all es (closing ∷ [])) (entries_canon 1 all) old new before after
+entries_ended all marks i here old now new before after h g =
+    let l = all_passed all here i marks old now before after h in entries_done all marks l.0 no_slots old now new before after refl l.1 g
+
+pub entries_less : (all : SlotsTree) (marks : List ℕ) (i : ℕ) (here : SlotsTree) (old now : Place) (before after : Laid) → EntriesLeft all marks i here old now before after → length now.left ≤ length old.left
 entries_less all marks i here old now before after l = let p = l.built (take i marks) [] (sym (append-nil (take i marks))) in less_left old now p.front p.goes
 
 -- what a call for the slot gives, by whether its name came
-pub entry_passed_by : (slot : SlotTree) (came : Bool) (now next : Place) (mid after : Out) → came ≡ false → BuildsSlot slot came now next mid after → (next ≡ now) × (after ≡ mid)
+pub entry_passed_by : (slot : SlotTree) (came : Bool) (now next : Place) (mid after : Laid) → came ≡ false → BuildsSlot slot came now next mid after → (next ≡ now) × (after ≡ mid)
 entry_passed_by slot came now next mid after e h = subst (λ b. BuildsSlot slot b now next mid after) e h
 
-pub entry_taken_by : (slot : SlotTree) (came : Bool) (now next : Place) (mid after : Out) → came ≡ true → BuildsSlot slot came now next mid after → IsBuilt (SlotShape slot) (λ v. slot_onto slot v []) (slot_canon slot) now next mid after
+pub entry_taken_by : (slot : SlotTree) (came : Bool) (now next : Place) (mid after : Laid) → came ≡ true → BuildsSlot slot came now next mid after → IsBuilt (SlotShape slot) (λ v. slot_onto slot v []) (slot_canon slot) now next mid after
 entry_taken_by slot came now next mid after e h = subst (λ b. BuildsSlot slot b now next mid after) e h

@@ -1,13 +1,12 @@
 -- Values of kinds that are built.
 use Rattle.std.proofs.Common.{◌≡◌, ℕ, suc, ◌+◌, ◌^◌, ◌<◌, ◌≤◌, true, List, [], ◌∷◌, ◌++◌, length, map, refl, sym, ◌∙◌, ap, subst, arith, Box, Global}
 use Rattle.ax_bits.specs.Bits.{word}
-use Rattle.ax_bits.specs.Out.{Appends, written}
-use Rattle.ax_bits.specs.declared.output.Out.{Out}
+use Rattle.ax_printed_lines.specs.Laid.{laid, Lays}
+use Rattle.ax_printed_lines.specs.declared.laid.Laid.{Laid}
 use Rattle.ax_block_reader.proofs.Onto.{kind_more}
 use Rattle.ax_fspec.specs.Fields.{least_field}
 use Rattle.ax_model.proofs.VariantTrees.{fixed_kind_tree, extended_tree, counted_tree, by_fx_tree, explicit_tree, compound_tree}
 use Rattle.ax_model.specs.Canonical.{canon, fixed_canon, parts_canon, run_canon, each_canon, entries_canon}
-use Rattle.ax_model.specs.Characters.{IsName}
 use Rattle.ax_model.specs.InBounds.{FixedInBounds, PartsInBounds, InBounds, SlotsInBounds}
 use Rattle.ax_model.specs.Plain.{fixed_tree, part_tree, kind_tree, slot_tree, slots_tree, kind_step, slot_step}
 use Rattle.ax_model.specs.Shape.{FixedShape, PartsShape, Shape, EachShape, EntriesShape}
@@ -24,10 +23,10 @@ use Rattle.ax_model.specs.declared.kind.Slot.{Slot, fold-roll-Slot}
 use Rattle.ax_model.specs.declared.kind.Slot.TheVariants.{Sub, rolls-Sub}
 use Rattle.ax_text.specs.Slots.{SlotShape, slot_onto}
 use Rattle.ax_text.specs.ValueText.{opening, closing, fixed_onto, parts_onto, each_onto, kind_onto, entries_onto}
-use Rattle.ax_printed_lines.specs.Printed.{Place, Goes, IsBuilt, IsOneWord, AreSlots, BuildsSlot, HasMarks, slot_canon}
+use Rattle.ax_printed_lines.specs.Printed.{Place, Goes, IsBuilt, AreSlots, BuildsSlot, HasMarks, slot_canon}
 use Rattle.ax_printed_lines.proofs.Building.{built_after, built_as, Partly, partly_first, partly_more, partly_done, built_bare}
 use Rattle.ax_printed_lines.proofs.FixedBuilt.{FixedIsBuilt}
-use Rattle.ax_printed_lines.proofs.Going.{less_left, name_one}
+use Rattle.ax_printed_lines.proofs.Going.{less_left}
 use Rattle.ax_printed_lines.proofs.ListsBuilt.{SomeFixed, PartsAreBuilt, RunIsBuilt}
 
 -- ---- the trees of the code's variants
@@ -55,24 +54,24 @@ sub_slot slot name k e = ap slot_tree e ∙ ap slot_tree (sym (rolls-Sub name k)
 
 -- ---- a value of a kind
 
-abbrev pub KindIsBuilt : KindTree → Place → Place → Out → Out → Type 0
+abbrev pub KindIsBuilt : KindTree → Place → Place → Laid → Laid → Type 0
 KindIsBuilt k old new before after = IsBuilt (Shape k) (λ v. kind_onto k v []) (canon k) old new before after
 
 pub fixed_bounds : (kind : Kind) (f : Fixed) → kind ≡ KindOf.Fixed f → InBounds (kind_tree kind) → FixedInBounds (fixed_tree f)
 fixed_bounds kind f e h = let x : InBounds (fixed (fixed_tree f)) = subst InBounds (fixed_kind kind f e) h in x.2
 
-pub fixed_of_kind : (kind : Kind) (f : Fixed) (old new : Place) (before after : Out) → kind ≡ KindOf.Fixed f → FixedIsBuilt (fixed_tree f) old new before after → KindIsBuilt (kind_tree kind) old new before after
+pub fixed_of_kind : (kind : Kind) (f : Fixed) (old new : Place) (before after : Laid) → kind ≡ KindOf.Fixed f → FixedIsBuilt (fixed_tree f) old new before after → KindIsBuilt (kind_tree kind) old new before after
 fixed_of_kind kind f old new before after e b =
     subst (λ k. KindIsBuilt k old new before after) (sym (fixed_kind kind f e))
     (built_as (FixedShape (fixed_tree f)) (λ v. fixed_onto (fixed_tree f) v []) (fixed_canon (fixed_tree f)) (Shape (fixed (fixed_tree f))) (λ v. kind_onto (fixed (fixed_tree f)) v []) (canon (fixed (fixed_tree f))) old new before after b (λ v h. (v, h, refl, refl)))
 
-pub explicit_of_kind : (kind : Kind) (old new : Place) (before after : Out) → kind ≡ KindOf.Explicit → KindIsBuilt explicit old new before after → KindIsBuilt (kind_tree kind) old new before after
+pub explicit_of_kind : (kind : Kind) (old new : Place) (before after : Laid) → kind ≡ KindOf.Explicit → KindIsBuilt explicit old new before after → KindIsBuilt (kind_tree kind) old new before after
 explicit_of_kind kind old new before after e b = subst (λ k. KindIsBuilt k old new before after) (sym (explicit_kind kind e)) b
 
 pub parts_bounds : (kind : Kind) (last : LastPart) (ps : List Part) → kind ≡ KindOf.Extended last ps → InBounds (kind_tree kind) → PartsInBounds last (map part_tree ps)
 parts_bounds kind last ps e h = let x : InBounds (extended last (map part_tree ps)) = subst InBounds (extended_kind kind last ps e) h in x.1
 
-pub extended_of_kind : (kind : Kind) (last : LastPart) (ps : List Part) (old mid new : Place) (before after : Out) → kind ≡ KindOf.Extended last ps → Goes old mid (opening ∷ []) → PartsAreBuilt last (map part_tree ps) mid new before after → KindIsBuilt (kind_tree kind) old new before after
+pub extended_of_kind : (kind : Kind) (last : LastPart) (ps : List Part) (old mid new : Place) (before after : Laid) → kind ≡ KindOf.Extended last ps → Goes old mid (opening ∷ []) → PartsAreBuilt last (map part_tree ps) mid new before after → KindIsBuilt (kind_tree kind) old new before after
 extended_of_kind kind last list old mid new before after e g b =
     let ps = map part_tree list in
     let k = extended last ps in
@@ -83,13 +82,13 @@ extended_of_kind kind last list old mid new before after e g b =
 abbrev pub FewValues : Counter → KindTree → ValuesTree → Type 0
 FewValues size k vs = (value_count vs < 2 ^ counter_width size) × EachShape (Shape k) vs
 
-abbrev pub CountedIsBuilt : Counter → KindTree → Place → Place → Out → Out → Type 0
+abbrev pub CountedIsBuilt : Counter → KindTree → Place → Place → Laid → Laid → Type 0
 CountedIsBuilt size k old new before after = IsBuilt (FewValues size k) (λ vs. each_onto (kind_onto k) vs (closing ∷ [])) (λ vs. canon (counted size k) (occurrences vs)) old new before after
 
 pub counted_bounds : (kind : Kind) (size : Counter) (inner : Box Kind Global) → kind ≡ KindOf.Counted size inner → InBounds (kind_tree kind) → InBounds (kind_tree inner.value)
 counted_bounds kind size inner e h = subst InBounds (counted_kind kind size inner e) h
 
-pub counted_of_kind : (kind : Kind) (size : Counter) (inner : Box Kind Global) (old mid new : Place) (before after : Out) → kind ≡ KindOf.Counted size inner → Goes old mid (opening ∷ []) → CountedIsBuilt size (kind_tree inner.value) mid new before after → KindIsBuilt (kind_tree kind) old new before after
+pub counted_of_kind : (kind : Kind) (size : Counter) (inner : Box Kind Global) (old mid new : Place) (before after : Laid) → kind ≡ KindOf.Counted size inner → Goes old mid (opening ∷ []) → CountedIsBuilt size (kind_tree inner.value) mid new before after → KindIsBuilt (kind_tree kind) old new before after
 counted_of_kind kind size inner old mid new before after e g b =
     let k = kind_tree inner.value in
     let whole = counted size k in
@@ -99,20 +98,20 @@ counted_of_kind kind size inner old mid new before after e g b =
 pub by_fx_bounds : (kind : Kind) (f : Fixed) → kind ≡ KindOf.ByFx f → InBounds (kind_tree kind) → FixedInBounds (fixed_tree f)
 by_fx_bounds kind f e h = let x : InBounds (by_fx (fixed_tree f)) = subst InBounds (by_fx_kind kind f e) h in x.2
 
-pub by_fx_of_kind : (kind : Kind) (f : Fixed) (old mid new : Place) (before after : Out) → kind ≡ KindOf.ByFx f → Goes old mid (opening ∷ []) → RunIsBuilt (fixed_tree f) mid new before after → KindIsBuilt (kind_tree kind) old new before after
+pub by_fx_of_kind : (kind : Kind) (f : Fixed) (old mid new : Place) (before after : Laid) → kind ≡ KindOf.ByFx f → Goes old mid (opening ∷ []) → RunIsBuilt (fixed_tree f) mid new before after → KindIsBuilt (kind_tree kind) old new before after
 by_fx_of_kind kind fx old mid new before after e g b =
     let f = fixed_tree fx in
     subst (λ k. KindIsBuilt k old new before after) (sym (by_fx_kind kind fx e))
     (built_after (SomeFixed f) (λ vs. each_onto (fixed_onto f) vs (closing ∷ [])) (run_canon f) (Shape (by_fx f)) (λ v. kind_onto (by_fx f) v []) (canon (by_fx f)) (opening ∷ []) old mid new before after g b (λ vs h. (occurrences vs, h, refl, refl)))
 
 -- the entries of a compound
-abbrev pub CompoundIsBuilt : SlotsTree → Place → Place → Out → Out → Type 0
+abbrev pub CompoundIsBuilt : SlotsTree → Place → Place → Laid → Laid → Type 0
 CompoundIsBuilt ss old new before after = IsBuilt (EntriesShape 1 ss) (λ es. entries_onto 1 ss es (closing ∷ [])) (λ es. canon (compound ss) (marked es)) old new before after
 
 pub compound_slots : (kind : Kind) (slots : List Slot) → kind ≡ KindOf.Compound slots → InBounds (kind_tree kind) → AreSlots (slots_tree slots)
 compound_slots kind slots e h = subst InBounds (compound_kind kind slots e) h
 
-pub compound_of_kind : (kind : Kind) (slots : List Slot) (old mid new : Place) (before after : Out) → kind ≡ KindOf.Compound slots → Goes old mid (opening ∷ []) → CompoundIsBuilt (slots_tree slots) mid new before after → KindIsBuilt (kind_tree kind) old new before after
+pub compound_of_kind : (kind : Kind) (slots : List Slot) (old mid new : Place) (before after : Laid) → kind ≡ KindOf.Compound slots → Goes old mid (opening ∷ []) → CompoundIsBuilt (slots_tree slots) mid new before after → KindIsBuilt (kind_tree kind) old new before after
 compound_of_kind kind slots old mid new before after e g b =
     let ss = slots_tree slots in
     subst (λ k. KindIsBuilt k old new before after) (sym (compound_kind kind slots e))
@@ -124,14 +123,14 @@ compound_of_kind kind slots old mid new before after e g b =
 abbrev pub SoMany : KindTree → ℕ → ValuesTree → Type 0
 SoMany k n vs = (value_count vs ≡ n) × EachShape (Shape k) vs
 
-abbrev pub EachIsBuilt : KindTree → ℕ → Place → Place → Out → Out → Type 0
+abbrev pub EachIsBuilt : KindTree → ℕ → Place → Place → Laid → Laid → Type 0
 EachIsBuilt k n old new before after = IsBuilt (SoMany k n) (λ vs. each_onto (kind_onto k) vs (closing ∷ [])) (each_canon (canon k)) old new before after
 
-pub record EachLeft (k : KindTree) (count : ℕ) (old now : Place) (before after : Out) : Type 0 where
+pub record EachLeft (k : KindTree) (count : ℕ) (old now : Place) (before after : Laid) : Type 0 where
   pub built : (n more : ℕ) → n ≡ count + more
       → Partly (SoMany k n) (λ vs. each_onto (kind_onto k) vs (closing ∷ [])) (each_canon (canon k)) (SoMany k more) (λ vs. each_onto (kind_onto k) vs (closing ∷ [])) (each_canon (canon k)) old now before after
 
-pub each_first : (k : KindTree) (old : Place) (out : Out) → EachLeft k 0 old old out out
+pub each_first : (k : KindTree) (old : Place) (out : Laid) → EachLeft k 0 old old out out
 each_first k old out = record {
   built = λ n more e. (
       subst (λ m. Partly (SoMany k m) (λ vs. each_onto (kind_onto k) vs (closing ∷ [])) (each_canon (canon k)) (SoMany k more) (λ vs. each_onto (kind_onto k) vs (closing ∷ [])) (each_canon (canon k)) old old out out) (let z : more ≡ n = omega (arith, e) in z)
@@ -139,7 +138,7 @@ each_first k old out = record {
       );
 }
 
-pub each_next : (k : KindTree) (count : ℕ) (old now new : Place) (before mid after : Out) → EachLeft k count old now before mid → KindIsBuilt k now new mid after → EachLeft k (count + 1) old new before after
+pub each_next : (k : KindTree) (count : ℕ) (old now new : Place) (before mid after : Laid) → EachLeft k count old now before mid → KindIsBuilt k now new mid after → EachLeft k (count + 1) old new before after
 each_next k count old now new before mid after l b = record {
   built = λ n more e. (
       partly_more (SoMany k n) (λ vs. each_onto (kind_onto k) vs (closing ∷ [])) (each_canon (canon k)) (SoMany k (suc more)) (λ vs. each_onto (kind_onto k) vs (closing ∷ [])) (each_canon (canon k)) (Shape k) (λ v. kind_onto k v []) (canon k)
@@ -148,32 +147,32 @@ each_next k count old now new before mid after l b = record {
       );
 }
 
-pub each_done : (k : KindTree) (count : ℕ) (old now new : Place) (before after : Out) → EachLeft k count old now before after → Goes now new (closing ∷ []) → EachIsBuilt k count old new before after
+pub each_done : (k : KindTree) (count : ℕ) (old now new : Place) (before after : Laid) → EachLeft k count old now before after → Goes now new (closing ∷ []) → EachIsBuilt k count old new before after
 each_done k count old now new before after l g =
     partly_done (SoMany k count) (λ vs. each_onto (kind_onto k) vs (closing ∷ [])) (each_canon (canon k)) (SoMany k 0) (λ vs. each_onto (kind_onto k) vs (closing ∷ [])) (each_canon (canon k)) old now new before after after (l.built count 0 (omega arith))
     (built_bare (SoMany k 0) (λ vs. each_onto (kind_onto k) vs (closing ∷ [])) (each_canon (canon k)) no_values now new after (refl, tt) g refl)
 
 -- ---- what stands after a count or a presence field
 
-pub fresh_bits : (before after : Out) (b : List ℕ) → written before ≡ [] → Appends before after b → written after ≡ b
-fresh_bits before after b none a = a.written ∙ ap (λ w. w ++ b) none
+pub fresh_bits : (before after : Laid) (b : List ℕ) → laid before ≡ [] → Lays before after b → laid after ≡ b
+fresh_bits before after b none a = a ∙ ap (λ w. w ++ b) none
 
-pub counted_whole : (size : Counter) (k : KindTree) (count : ℕ) (old new : Place) (first last before after : Out) → count < 2 ^ counter_width size → written first ≡ [] → EachIsBuilt k count old new first last → Appends before after (word (counter_width size) count ++ written last)
+pub counted_whole : (size : Counter) (k : KindTree) (count : ℕ) (old new : Place) (first last before after : Laid) → count < 2 ^ counter_width size → laid first ≡ [] → EachIsBuilt k count old new first last → Lays before after (word (counter_width size) count ++ laid last)
     → CountedIsBuilt size k old new before after
 counted_whole size k count old new first last before after few none b a = record {
   value = b.value;
   shape = (subst (λ n. n < 2 ^ counter_width size) (sym b.shape.0) few, b.shape.1);
   goes = b.goes;
-  appends = subst (λ w. Appends before after w) (λ i. word (counter_width size) (sym b.shape.0 i) ++ fresh_bits first last (each_canon (canon k) b.value) none b.appends i) a;
+  lays = subst (λ w. Lays before after w) (λ i. word (counter_width size) (sym b.shape.0 i) ++ fresh_bits first last (each_canon (canon k) b.value) none b.lays i) a;
 }
 
-pub compound_whole : (ss : SlotsTree) (marks : List ℕ) (old new : Place) (first last before after : Out) → written first ≡ [] → IsBuilt (HasMarks ss marks) (λ es. entries_onto 1 ss es (closing ∷ [])) (entries_canon 1 ss) old new first last
-    → Appends before after (least_field marks ++ written last) → CompoundIsBuilt ss old new before after
+pub compound_whole : (ss : SlotsTree) (marks : List ℕ) (old new : Place) (first last before after : Laid) → laid first ≡ [] → IsBuilt (HasMarks ss marks) (λ es. entries_onto 1 ss es (closing ∷ [])) (entries_canon 1 ss) old new first last
+    → Lays before after (least_field marks ++ laid last) → CompoundIsBuilt ss old new before after
 compound_whole ss marks old new first last before after none b a = record {
   value = b.value;
   shape = b.shape.0;
   goes = b.goes;
-  appends = subst (λ w. Appends before after w) (λ i. b.shape.1 i ++ fresh_bits first last (entries_canon 1 ss b.value) none b.appends i) a;
+  lays = subst (λ w. Lays before after w) (λ i. b.shape.1 i ++ fresh_bits first last (entries_canon 1 ss b.value) none b.lays i) a;
 }
 
 -- ---- a subitem
@@ -181,15 +180,13 @@ compound_whole ss marks old new first last before after none b a = record {
 pub sub_bounds : (slot : Slot) (name : List ℕ) (k : Kind) → slot ≡ Sub name k → SlotsInBounds (slot_and (slot_tree slot) no_slots) → InBounds (kind_tree k)
 sub_bounds slot name k e h = (subst (λ s. SlotsInBounds (slot_and s no_slots)) (sub_slot slot name k e) h).0
 
-pub named_slot : (name : List ℕ) (k : KindTree) (old mid new : Place) (before after : Out) → Goes old mid (name ∷ []) → KindIsBuilt k mid new before after → IsBuilt (SlotShape (subitem name k)) (λ v. slot_onto (subitem name k) v []) (slot_canon (subitem name k)) old new before after
+pub named_slot : (name : List ℕ) (k : KindTree) (old mid new : Place) (before after : Laid) → Goes old mid (name ∷ []) → KindIsBuilt k mid new before after → IsBuilt (SlotShape (subitem name k)) (λ v. slot_onto (subitem name k) v []) (slot_canon (subitem name k)) old new before after
 named_slot name k old mid new before after g b =
     built_after (Shape k) (λ v. kind_onto k v []) (canon k) (SlotShape (subitem name k)) (λ v. slot_onto (subitem name k) v []) (slot_canon (subitem name k)) (name ∷ []) old mid new before after g b (λ v h. (v, h, refl, refl))
 
-pub sub_built : (slot : Slot) (name text : List ℕ) (k : Kind) (old mid new : Place) (before after : Out) → slot ≡ Sub name k → text ≡ name → IsName name → (IsOneWord text → Goes old mid (text ∷ [])) → KindIsBuilt (kind_tree k) mid new before after
-    → BuildsSlot (slot_tree slot) true old new before after
-sub_built slot name text k old mid new before after e same is g b =
-    subst (λ s. BuildsSlot s true old new before after) (sym (sub_slot slot name k e))
-    (named_slot name (kind_tree k) old mid new before after (subst (λ t. Goes old mid (t ∷ [])) same (g (subst IsOneWord (sym same) (name_one name is)))) b)
+pub sub_built : (slot : Slot) (name : List ℕ) (k : Kind) (old mid new : Place) (before after : Laid) → slot ≡ Sub name k → Goes old mid (name ∷ []) → KindIsBuilt (kind_tree k) mid new before after → BuildsSlot (slot_tree slot) true old new before after
+sub_built slot name k old mid new before after e g b =
+    subst (λ s. BuildsSlot s true old new before after) (sym (sub_slot slot name k e)) (named_slot name (kind_tree k) old mid new before after g b)
 
-pub each_less : (k : KindTree) (count : ℕ) (old now : Place) (before after : Out) → EachLeft k count old now before after → length now.left ≤ length old.left
+pub each_less : (k : KindTree) (count : ℕ) (old now : Place) (before after : Laid) → EachLeft k count old now before after → length now.left ≤ length old.left
 each_less k count old now before after l = let p = l.built count 0 (omega arith) in less_left old now p.front p.goes

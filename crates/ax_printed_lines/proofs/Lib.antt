@@ -1,4 +1,8 @@
+pub mod Digits
+pub mod Fronts
+pub mod Separators
 pub mod Going
+pub mod Laying
 pub mod Building
 pub mod FixedBuilt
 pub mod ListsBuilt

@@ -1,10 +1,10 @@
 -- Lines of blocks that are built.
-use Rattle.std.proofs.Common.{◌≡◌, ℕ, ◌+◌, ◌<◌, ◌≤◌, Bool, true, false, cond, List, [], ◌∷◌, ◌++◌, length, map, Option, Some, refl, sym, ◌∙◌, ap, subst, arith, append_assoc}
+use Rattle.std.proofs.Common.{◌≡◌, ℕ, ◌+◌, ◌<◌, ◌≤◌, Bool, true, false, cond, List, [], ◌∷◌, ◌++◌, length, map, Option, Some, refl, sym, ◌∙◌, ap, subst, arith, append-nil}
 use Rattle.std.specs.Prelude.{codes, ◌==◌}
-use Rattle.std.proofs.lemmas.Bool.{eqb-true}
-use Rattle.std.specs.List.{join_with_byte}
+use Rattle.std.proofs.lemmas.Bool.{eqb-true, and_parts}
+use Rattle.std.specs.List.{list_all}
 use Rattle.ax_bits.proofs.Pieces.{bits-injective}
-use Rattle.ax_bits.specs.declared.output.Out.{Out}
+use Rattle.ax_printed_lines.specs.declared.laid.Laid.{Laid}
 use Rattle.ax_block_reader.proofs.Onto.{entries_more}
 use Rattle.ax_model.specs.Blocks.{read_block}
 use Rattle.ax_model.specs.Bodies.{CanonBody}
@@ -16,44 +16,48 @@ use Rattle.ax_model.specs.Streams.{FitsOver}
 use Rattle.ax_model.specs.Tree.{EntriesTree}
 use Rattle.ax_text.proofs.WordTokens.{block_is_word}
 use Rattle.ax_text.specs.BlockText.{records_onto, BlockText}
-use Rattle.ax_text.specs.Tokens.{kind_of, BlockTokens}
+use Rattle.ax_text.specs.Tokens.{kind_of}
 use Rattle.ax_text.specs.ValueText.{Texts, opening, closing, entries_onto}
 use Rattle.ax_tokens.proofs.Levels.{keeps_within}
-use Rattle.ax_tokens.proofs.Printed.{printed_text}
 use Rattle.ax_tokens.specs.Depth.{level_after, KeepsWithin}
-use Rattle.ax_tokens.specs.Lexing.{AreTokensOf}
-use Rattle.ax_tokens.specs.Printing.{AreTokenTexts, placed}
-use Rattle.ax_tokens.specs.declared.token.TokenKind.{TokenKind}
+use Rattle.ax_tokens.specs.Gap.{IsGap, no_octet, separator}
+use Rattle.ax_tokens.specs.Lexing.{MayFollow, AreTokensWithGaps, AreTokensOf}
+use Rattle.ax_tokens.specs.Octets.{is_separator}
+use Rattle.ax_tokens.specs.PlainToken.{PlainToken}
 use Rattle.ax_values.proofs.WrittenRecords.{body_bits, body_octets}
-use Rattle.ax_printed_lines.specs.Printed.{Place, ended, IsOneWord, Keeps, Goes, AreRecords, IsPrinted}
-use Rattle.ax_printed_lines.proofs.Going.{goes_both, one_word}
+use Rattle.ax_printed_lines.specs.Printed.{Place, AfterGap, IsAfterOctet, AreInFront, IsOneWord, Keeps, Goes, AreRecords, IsPrinted}
+use Rattle.ax_printed_lines.proofs.Going.{front_both, goes_both, one_word, close_stands}
 
 -- ---- texts that are read are the tokens of their line
 
-abbrev with_kinds : Texts → List (TokenKind × List ℕ)
-with_kinds texts = map (λ text. (kind_of text, text)) texts
+gap_there : (rest gap : List ℕ) → list_all is_separator gap ≡ true → IsGap rest gap
+gap_there rest [] h = no_octet
+gap_there rest (x ∷ gap) h = let p = and_parts (is_separator x) (list_all is_separator gap) h in separator x gap p.0 (gap_there rest gap p.1)
 
-are_texts : (level : ℕ) (texts : Texts) → Keeps level texts → AreTokenTexts (with_kinds texts)
-are_texts level [] h = tt
-are_texts level (text ∷ texts) h = (h.0, are_texts (level_after (kind_of text) level) texts h.2)
+-- the tokens of texts that stand in front, of which the first begins at place `at`
+abbrev tokens_in_front : (at : ℕ) (texts : Texts) (octets left : List ℕ) → AreInFront texts octets left → List PlainToken
+tokens_in_front at [] octets left h = []
+tokens_in_front at (text ∷ texts) octets left (more, s, h) = record { kind = kind_of text; text = text; from = at; to = at + length text } ∷ tokens_in_front (at + length text + length s.gap) texts more left h
 
-keep_levels : (level at : ℕ) (texts : Texts) → Keeps level texts → KeepsWithin 20 level (placed at (with_kinds texts))
-keep_levels level at [] h = tt
-keep_levels level at (text ∷ texts) h = (h.1, keep_levels (level_after (kind_of text) level) (at + length text + 1) texts h.2)
+texts_back : (at : ℕ) (texts : Texts) (octets left : List ℕ) (h : AreInFront texts octets left) → map (λ t. t.text) (tokens_in_front at texts octets left h) ≡ texts
+texts_back at [] octets left h = refl
+texts_back at (text ∷ texts) octets left (more, s, h) = ap (λ t. text ∷ t) (texts_back (at + length text + length s.gap) texts more left h)
 
-texts_back : (texts : Texts) → map (λ t. t.1) (with_kinds texts) ≡ texts
-texts_back [] = refl
-texts_back (text ∷ texts) = ap (λ t. text ∷ t) (texts_back texts)
+each_lexed : (at level : ℕ) (texts : Texts) (octets : List ℕ) (h : AreInFront texts octets []) → Keeps level texts → AreTokensWithGaps at (tokens_in_front at texts octets [] h) octets []
+each_lexed at level [] octets h k = h
+each_lexed at level (text ∷ texts) octets (more, s, h) k =
+    (s.gap, more, s.split, refl, refl, k.0, subst (λ l. MayFollow (kind_of text) (s.gap ++ l)) (sym (append-nil more)) s.follows, gap_there (more ++ []) s.gap s.each, each_lexed (at + length text + length s.gap) (level_after (kind_of text) level) texts more h k.2)
 
-line_lexed : (texts : Texts) → Keeps 0 texts → AreTokensOf (join_with_byte 0x20 texts) 20 (placed 0 (with_kinds texts))
-line_lexed texts h =
-    subst (λ l. AreTokensOf (join_with_byte 0x20 l) 20 (placed 0 (with_kinds texts))) (texts_back texts)
-    (printed_text (with_kinds texts) 20 (are_texts 0 texts h) (keeps_within 20 (placed 0 (with_kinds texts)) (keep_levels 0 0 texts h)))
+keep_levels : (at level : ℕ) (texts : Texts) (octets left : List ℕ) (h : AreInFront texts octets left) → Keeps level texts → KeepsWithin 20 level (tokens_in_front at texts octets left h)
+keep_levels at level [] octets left h k = tt
+keep_levels at level (text ∷ texts) octets left (more, s, h) k = (k.1, keep_levels (at + length text + length s.gap) (level_after (kind_of text) level) texts more left h k.2)
 
-joined : (texts : Texts) (last : List ℕ) → ended texts ++ last ≡ join_with_byte 0x20 (texts ++ last ∷ [])
-joined [] last = refl
-joined (text ∷ []) last = append_assoc text (0x20 ∷ []) last
-joined (text ∷ next ∷ texts) last = append_assoc text (0x20 ∷ ended (next ∷ texts)) last ∙ ap (λ t. text ++ 0x20 ∷ t) (joined (next ∷ texts) last)
+-- the tokens of a line, which has a gap in front
+line_lexed : (texts : Texts) (line octets : List ℕ) (g : AfterGap line octets) (h : AreInFront texts octets []) → Keeps 0 texts → AreTokensOf line 20 (tokens_in_front (length g.gap) texts octets [] h)
+line_lexed texts line octets g h k = record {
+  lexed = record { gap = g.gap; more = octets; split = g.split; first_gap = gap_there (octets ++ []) g.gap g.each; each_token = each_lexed (length g.gap) 0 texts octets h k };
+  within = keeps_within 20 (tokens_in_front (length g.gap) texts octets [] h) (keep_levels (length g.gap) 0 texts octets [] h k);
+}
 
 -- ---- a block's line
 
@@ -72,24 +76,27 @@ found_category category [] spec e = absurd cc
 found_category category (first ∷ catalogue) spec e = found_case (first.category == category) first spec category (spec_of category catalogue) refl (found_category category catalogue spec) e
 
 module _ (catalogue : List SpecTree) (spec : SpecTree) (category : ℕ) (line : List ℕ) (known : Some spec ≡ spec_of category catalogue) (none : NoFlaw spec) (small : category < 256) where
-  pub line_printed : (old named numbered opened new : Place) (before after : Out) → old ≡ record { left = line; level = 0 } → (IsOneWord (codes "block") → Goes old named (codes "block" ∷ [])) → Goes named numbered (three_digits category ∷ []) → Goes numbered opened (opening ∷ [])
-      → AreRecords spec opened new before after → new.left ≡ closing → new.level ≤ 20 → IsPrinted catalogue line category before after
-  line_printed old named numbered opened new before after start g d o b end low =
+  pub line_printed : (old named numbered opened new : Place) (before after : Laid) → AfterGap line old.left → old.level ≡ 0 → (IsOneWord (codes "block") → Goes old named (codes "block" ∷ [])) → Goes named numbered (three_digits category ∷ []) → Goes numbered opened (opening ∷ [])
+      → AreRecords spec opened new before after → IsAfterOctet 125 new.left [] → new.level ≤ 20 → IsPrinted catalogue line category before after
+  line_printed old named numbered opened new before after gap start g d o b end low =
       let rs = b.value in
       let block = read_block category rs in
       let front : Texts = codes "block" ∷ three_digits category ∷ opening ∷ [] in
+      let all : Texts = (front ++ records_onto spec rs []) ++ closing ∷ [] in
       let goes : Goes old new (front ++ records_onto spec rs []) =
       goes_both old opened new front (records_onto spec rs []) (goes_both old named opened (codes "block" ∷ []) (three_digits category ∷ opening ∷ []) (g (one_word (codes "block") block_is_word)) (goes_both named numbered opened (three_digits category ∷ []) (opening ∷ []) d o)) b.goes in
-      let texts : (front ++ records_onto spec rs []) ++ closing ∷ [] ≡ BlockText spec block = ap (λ t. codes "block" ∷ three_digits category ∷ opening ∷ t) (records_more spec rs [] (closing ∷ [])) in
-      let keeps : Keeps 0 (BlockText spec block) = subst (Keeps 0) texts (subst (λ p. Keeps p.level ((front ++ records_onto spec rs []) ++ closing ∷ [])) start (goes.keeps (closing ∷ []) (refl, omega (arith, low), tt))) in
-      let text : line ≡ join_with_byte 0x20 (BlockText spec block) =
-      ap (λ p. p.left) (sym start) ∙ goes.left ∙ ap (λ t. ended (front ++ records_onto spec rs []) ++ t) end ∙ joined (front ++ records_onto spec rs []) closing ∙ ap (join_with_byte 0x20) texts in record {
+      let texts : all ≡ BlockText spec block = ap (λ t. codes "block" ∷ three_digits category ∷ opening ∷ t) (records_more spec rs [] (closing ∷ [])) in
+      let keeps : Keeps 0 all = subst (λ n. Keeps n all) start (goes.keeps (closing ∷ []) (refl, omega (arith, low), tt)) in
+      let whole : AreInFront all old.left [] = front_both (front ++ records_onto spec rs []) (closing ∷ []) old.left new.left [] goes.left ([], close_stands new.left [] end, refl) in
+      record {
         spec = spec;
         block = block;
         known = sym known;
         of_catalogue = record { fits = record { fits = subst (λ o. FitsOver o block) known (sym (found_category category catalogue spec (sym known)), b.shape.0, b.shape.1); octets = tt }; category = small };
-        lexed = subst (λ l. AreTokensOf l 20 (BlockTokens spec block)) (sym text) (line_lexed (BlockText spec block) keeps);
+        tokens = tokens_in_front (length gap.gap) all old.left [] whole;
+        lexed = line_lexed all line old.left gap whole keeps;
+        texts = texts_back (length gap.gap) all old.left [] whole ∙ texts;
         body = CanonBody spec rs;
-        appends = b.appends;
+        lays = b.lays;
         canonical = λ octets h e. ap (framed category) (bits-injective octets (octets_of (CanonBody spec rs)) h (body_octets spec rs none b.shape.0 b.shape.1) (e ∙ sym (body_bits spec rs none b.shape.0 b.shape.1)));
       }

@@ -2,8 +2,8 @@
 use Rattle.std.proofs.Common.{◌≡◌, ℕ, ◌<◌, List, [], ◌∷◌, ◌++◌, length, map, refl, sym, ◌∙◌, ap, subst, arith, append_assoc}
 use Rattle.std.proofs.lemmas.List.{length-map}
 use Rattle.ax_bits.specs.Bits.{word}
-use Rattle.ax_bits.specs.Out.{Appends}
-use Rattle.ax_bits.specs.declared.output.Out.{Out}
+use Rattle.ax_printed_lines.specs.Laid.{Lays}
+use Rattle.ax_printed_lines.specs.declared.laid.Laid.{Laid}
 use Rattle.ax_block_reader.proofs.Onto.{fixed_more, part_more}
 use Rattle.ax_model.specs.Canonical.{fixed_canon, members_canon, parts_canon, run_canon}
 use Rattle.ax_model.specs.InBounds.{MembersInBounds, PartsInBounds}
@@ -22,24 +22,24 @@ use Rattle.ax_printed_lines.proofs.Going.{goes_both, one_word}
 
 -- ---- a part
 
-abbrev pub PartIsBuilt : MembersTree → Place → Place → Out → Out → Type 0
+abbrev pub PartIsBuilt : MembersTree → Place → Place → Laid → Laid → Type 0
 PartIsBuilt p old new before after = IsBuilt (MembersShape p) (λ vs. part_onto p vs []) (members_canon p) old new before after
 
-abbrev pub PartsAreBuilt : LastPart → List MembersTree → Place → Place → Out → Out → Type 0
+abbrev pub PartsAreBuilt : LastPart → List MembersTree → Place → Place → Laid → Laid → Type 0
 PartsAreBuilt last ps old new before after = IsBuilt (PartsShape ps) (λ ls. parts_onto ps ls (closing ∷ [])) (parts_canon last ps) old new before after
 
-pub part_built : (p : MembersTree) (old mid inner new : Place) (before after : Out) → (IsOneWord part_word → Goes old mid (part_word ∷ [])) → Goes mid inner (opening ∷ []) → MembersAreBuilt p inner new before after → PartIsBuilt p old new before after
+pub part_built : (p : MembersTree) (old mid inner new : Place) (before after : Laid) → (IsOneWord part_word → Goes old mid (part_word ∷ [])) → Goes mid inner (opening ∷ []) → MembersAreBuilt p inner new before after → PartIsBuilt p old new before after
 part_built p old mid inner new before after g o b =
     built_after (MembersShape p) (λ vs. members_onto p vs (closing ∷ [])) (members_canon p) (MembersShape p) (λ vs. part_onto p vs []) (members_canon p) (part_word ∷ opening ∷ []) old inner new before after
     (goes_both old mid inner (part_word ∷ []) (opening ∷ []) (g (one_word part_word part_is_word)) o) b (λ vs h. (vs, h, refl, refl))
 
 -- ---- parts
 
-pub record PartsLeft (last : LastPart) (ps all : List MembersTree) (old now : Place) (before after : Out) : Type 0 where
+pub record PartsLeft (last : LastPart) (ps all : List MembersTree) (old now : Place) (before after : Laid) : Type 0 where
   pub built : Partly (PartsShape all) (λ ls. parts_onto all ls (closing ∷ [])) (parts_canon last all) (PartsShape ps) (λ ls. parts_onto ps ls (closing ∷ [])) (parts_canon last ps) old now before after
   pub bounds : PartsInBounds last ps
 
-pub parts_first : (last : LastPart) (ps : List MembersTree) (old : Place) (out : Out) → PartsInBounds last ps → PartsLeft last ps ps old old out out
+pub parts_first : (last : LastPart) (ps : List MembersTree) (old : Place) (out : Laid) → PartsInBounds last ps → PartsLeft last ps ps old old out out
 parts_first last ps old out h = record { built = partly_first (PartsShape ps) (λ ls. parts_onto ps ls (closing ∷ [])) (parts_canon last ps) old out; bounds = h }
 
 -- a part, and later ones
@@ -49,12 +49,12 @@ parts_and last p ps vs no_lists h k = absurd k
 parts_and last p ps vs (list_and ws ls) h k =
     (list_and vs (list_and ws ls), (h, k), sym (part_more p vs [] (parts_onto ps (list_and ws ls) (closing ∷ []))), sym (append_assoc (members_canon p vs) (1 ∷ []) (parts_canon last ps (list_and ws ls))))
 
-with_bit : (p : MembersTree) (old new : Place) (before mid after : Out) (bit : ℕ) → PartIsBuilt p old new before mid → Appends mid after (bit ∷ []) → IsBuilt (MembersShape p) (λ vs. part_onto p vs []) (λ vs. members_canon p vs ++ bit ∷ []) old new before after
+with_bit : (p : MembersTree) (old new : Place) (before mid after : Laid) (bit : ℕ) → PartIsBuilt p old new before mid → Lays mid after (bit ∷ []) → IsBuilt (MembersShape p) (λ vs. part_onto p vs []) (λ vs. members_canon p vs ++ bit ∷ []) old new before after
 with_bit p old new before mid after bit b a =
     built_and (MembersShape p) (λ vs. part_onto p vs []) (members_canon p) (MembersShape p) (λ vs. part_onto p vs []) (λ vs. members_canon p vs ++ bit ∷ []) [] (bit ∷ []) old new new before mid after b (record { left = refl; keeps = λ rest k. k }) a
     (λ vs h. (vs, h, sym (part_more p vs [] []), refl))
 
-one_part : (last : LastPart) (p : MembersTree) (ps all : List MembersTree) (old now new : Place) (before mid inner after : Out) → PartsLeft last (p ∷ ps) all old now before mid → PartIsBuilt p now new mid inner → Appends inner after (1 ∷ []) → PartsLeft last ps all old new before after
+one_part : (last : LastPart) (p : MembersTree) (ps all : List MembersTree) (old now new : Place) (before mid inner after : Laid) → PartsLeft last (p ∷ ps) all old now before mid → PartIsBuilt p now new mid inner → Lays inner after (1 ∷ []) → PartsLeft last ps all old new before after
 one_part last p ps all old now new before mid inner after l b a = record {
   built = partly_more (PartsShape all) (λ ls. parts_onto all ls (closing ∷ [])) (parts_canon last all) (PartsShape (p ∷ ps)) (λ ls. parts_onto (p ∷ ps) ls (closing ∷ [])) (parts_canon last (p ∷ ps)) (MembersShape p) (λ vs. part_onto p vs []) (λ vs. members_canon p vs ++ 1 ∷ [])
       (PartsShape ps) (λ ls. parts_onto ps ls (closing ∷ [])) (parts_canon last ps) old now new before mid after l.built (with_bit p now new mid inner after 1 b a) (λ vs ls h k. parts_and last p ps vs ls h k);
@@ -65,7 +65,7 @@ no_part : (ps : List MembersTree) (x : Texts) → parts_onto ps no_lists x ≡ x
 no_part [] x = refl
 no_part (p ∷ ps) x = refl
 
-last_part : (last : LastPart) (p : MembersTree) (ps all : List MembersTree) (old now mid new : Place) (before middle inner after : Out) → PartsLeft last (p ∷ ps) all old now before middle → PartIsBuilt p now mid middle inner → Goes mid new (closing ∷ []) → Appends inner after (word (fx_width last (length ps)) 0)
+last_part : (last : LastPart) (p : MembersTree) (ps all : List MembersTree) (old now mid new : Place) (before middle inner after : Laid) → PartsLeft last (p ∷ ps) all old now before middle → PartIsBuilt p now mid middle inner → Goes mid new (closing ∷ []) → Lays inner after (word (fx_width last (length ps)) 0)
     → PartsAreBuilt last all old new before after
 last_part last p ps all old now mid new before middle inner after l b g a =
     let fx = word (fx_width last (length ps)) 0 in
@@ -75,32 +75,32 @@ last_part last p ps all old now mid new before middle inner after l b g a =
 
 -- the first of the parts that are left
 module _ (last : LastPart) (p : Part) (left later : List Part) (at : left ≡ p ∷ later) where
-  pub part_bounds : (all : List MembersTree) (old now : Place) (before after : Out) → PartsLeft last (map part_tree left) all old now before after → MembersInBounds (part_tree p)
+  pub part_bounds : (all : List MembersTree) (old now : Place) (before after : Laid) → PartsLeft last (map part_tree left) all old now before after → MembersInBounds (part_tree p)
   part_bounds all old now before after l = (subst (PartsInBounds last) (ap (map part_tree) at) l.bounds).0.2
 
-  pub part_next : (all : List MembersTree) (old now new : Place) (before mid inner after : Out) → PartsLeft last (map part_tree left) all old now before mid → PartIsBuilt (part_tree p) now new mid inner → Appends inner after (1 ∷ []) → PartsLeft last (map part_tree later) all old new before after
+  pub part_next : (all : List MembersTree) (old now new : Place) (before mid inner after : Laid) → PartsLeft last (map part_tree left) all old now before mid → PartIsBuilt (part_tree p) now new mid inner → Lays inner after (1 ∷ []) → PartsLeft last (map part_tree later) all old new before after
   part_next all old now new before mid inner after l b a =
       one_part last (part_tree p) (map part_tree later) all old now new before mid inner after (subst (λ ps. PartsLeft last ps all old now before mid) (ap (map part_tree) at) l) b a
 
-  pub part_last : (all : List MembersTree) (old now mid new : Place) (before middle inner after : Out) → PartsLeft last (map part_tree left) all old now before middle → PartIsBuilt (part_tree p) now mid middle inner → Goes mid new (closing ∷ []) → Appends inner after (word (fx_width last (length later)) 0)
+  pub part_last : (all : List MembersTree) (old now mid new : Place) (before middle inner after : Laid) → PartsLeft last (map part_tree left) all old now before middle → PartIsBuilt (part_tree p) now mid middle inner → Goes mid new (closing ∷ []) → Lays inner after (word (fx_width last (length later)) 0)
       → PartsAreBuilt last all old new before after
   part_last all old now mid new before middle inner after l b g a =
       last_part last (part_tree p) (map part_tree later) all old now mid new before middle inner after (subst (λ ps. PartsLeft last ps all old now before middle) (ap (map part_tree) at) l) b g
-      (subst (λ n. Appends inner after (word (fx_width last n) 0)) (sym (length-map later part_tree)) a)
+      (subst (λ n. Lays inner after (word (fx_width last n) 0)) (sym (length-map later part_tree)) a)
 
 -- ---- occurrences by FX
 
 abbrev pub SomeFixed : FixedTree → ValuesTree → Type 0
 SomeFixed f vs = (0 < value_count vs) × EachShape (FixedShape f) vs
 
-abbrev pub RunIsBuilt : FixedTree → Place → Place → Out → Out → Type 0
+abbrev pub RunIsBuilt : FixedTree → Place → Place → Laid → Laid → Type 0
 RunIsBuilt f old new before after = IsBuilt (SomeFixed f) (λ vs. each_onto (fixed_onto f) vs (closing ∷ [])) (run_canon f) old new before after
 
-abbrev pub RunLeft : FixedTree → Place → Place → Out → Out → Type 0
+abbrev pub RunLeft : FixedTree → Place → Place → Laid → Laid → Type 0
 RunLeft f old now before after =
     Partly (SomeFixed f) (λ vs. each_onto (fixed_onto f) vs (closing ∷ [])) (run_canon f) (SomeFixed f) (λ vs. each_onto (fixed_onto f) vs (closing ∷ [])) (run_canon f) old now before after
 
-pub run_first : (f : FixedTree) (old : Place) (out : Out) → RunLeft f old old out out
+pub run_first : (f : FixedTree) (old : Place) (out : Laid) → RunLeft f old old out out
 run_first f old out = partly_first (SomeFixed f) (λ vs. each_onto (fixed_onto f) vs (closing ∷ [])) (run_canon f) old out
 
 run_and : (f : FixedTree) (v : ValueTree) (vs : ValuesTree) → FixedShape f v → SomeFixed f vs
@@ -109,14 +109,14 @@ run_and f v no_values h k = absurd (omega (arith, k.0))
 run_and f v (value_and w vs) h k =
     (value_and v (value_and w vs), (omega arith, (h, k.1)), sym (fixed_more f v [] (each_onto (fixed_onto f) (value_and w vs) (closing ∷ []))), sym (append_assoc (fixed_canon f v) (1 ∷ []) (run_canon f (value_and w vs))))
 
-pub run_next : (f : FixedTree) (old now new : Place) (before mid inner after : Out) → RunLeft f old now before mid → FixedIsBuilt f now new mid inner → Appends inner after (1 ∷ []) → RunLeft f old new before after
+pub run_next : (f : FixedTree) (old now new : Place) (before mid inner after : Laid) → RunLeft f old now before mid → FixedIsBuilt f now new mid inner → Lays inner after (1 ∷ []) → RunLeft f old new before after
 run_next f old now new before mid inner after l b a =
     partly_more (SomeFixed f) (λ vs. each_onto (fixed_onto f) vs (closing ∷ [])) (run_canon f) (SomeFixed f) (λ vs. each_onto (fixed_onto f) vs (closing ∷ [])) (run_canon f) (FixedShape f) (λ v. fixed_onto f v []) (λ v. fixed_canon f v ++ 1 ∷ [])
     (SomeFixed f) (λ vs. each_onto (fixed_onto f) vs (closing ∷ [])) (run_canon f) old now new before mid after l
     (built_and (FixedShape f) (λ v. fixed_onto f v []) (fixed_canon f) (FixedShape f) (λ v. fixed_onto f v []) (λ v. fixed_canon f v ++ 1 ∷ []) [] (1 ∷ []) now new new mid inner after b (record { left = refl; keeps = λ rest k. k }) a (λ v h. (v, h, sym (fixed_more f v [] []), refl)))
     (λ v vs h k. run_and f v vs h k)
 
-pub run_last : (f : FixedTree) (old now mid new : Place) (before middle inner after : Out) → RunLeft f old now before middle → FixedIsBuilt f now mid middle inner → Goes mid new (closing ∷ []) → Appends inner after (0 ∷ []) → RunIsBuilt f old new before after
+pub run_last : (f : FixedTree) (old now mid new : Place) (before middle inner after : Laid) → RunLeft f old now before middle → FixedIsBuilt f now mid middle inner → Goes mid new (closing ∷ []) → Lays inner after (0 ∷ []) → RunIsBuilt f old new before after
 run_last f old now mid new before middle inner after l b g a =
     partly_done (SomeFixed f) (λ vs. each_onto (fixed_onto f) vs (closing ∷ [])) (run_canon f) (SomeFixed f) (λ vs. each_onto (fixed_onto f) vs (closing ∷ [])) (run_canon f) old now new before middle after l
     (built_and (FixedShape f) (λ v. fixed_onto f v []) (fixed_canon f) (SomeFixed f) (λ vs. each_onto (fixed_onto f) vs (closing ∷ [])) (run_canon f) (closing ∷ []) (0 ∷ []) now mid new middle inner after b g a

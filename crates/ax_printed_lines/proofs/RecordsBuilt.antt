@@ -1,15 +1,14 @@
 -- Records that are built.
 use Rattle.std.proofs.Common.{◌≡◌, ℕ, suc, ◌+◌, ◌<◌, true, List, [], ◌∷◌, ◌++◌, length, map, get_or, Some, refl, sym, ◌∙◌, ap, subst, arith}
 use Rattle.std.specs.List.{AllByRecursion}
-use Rattle.ax_bits.specs.Out.{Appends, written}
-use Rattle.ax_bits.specs.declared.output.Out.{Out}
+use Rattle.ax_printed_lines.specs.Laid.{laid, Lays}
+use Rattle.ax_printed_lines.specs.declared.laid.Laid.{Laid}
 use Rattle.ax_block_reader.proofs.Onto.{entries_more}
 use Rattle.ax_block_reader.proofs.RecordWays.{item_there, name_there}
 use Rattle.ax_fspec.specs.Fields.{least_field}
 use Rattle.ax_model.proofs.Bounds.{record_bounds}
 use Rattle.ax_model.specs.Bodies.{RecordShape, CanonRecord, CanonBody}
 use Rattle.ax_model.specs.Canonical.{entries_canon}
-use Rattle.ax_model.specs.Characters.{IsName}
 use Rattle.ax_model.specs.Flaws.{NoFlaw}
 use Rattle.ax_model.specs.InBounds.{InBounds, SlotsInBounds}
 use Rattle.ax_model.specs.Lookup.{item_of_frn, item_of_slot}
@@ -27,7 +26,7 @@ use Rattle.ax_text.specs.ValueText.{Texts, opening, closing, entries_onto}
 use Rattle.std.specs.Prelude.{codes}
 use Rattle.ax_printed_lines.specs.Printed.{Place, Goes, IsBuilt, IsOneWord, AreSlots, BuildsSlot, HasMarks, AreRecords}
 use Rattle.ax_printed_lines.proofs.Building.{built_after, Partly, partly_first, partly_more, partly_done}
-use Rattle.ax_printed_lines.proofs.Going.{goes_both, goes_same, one_word, name_one}
+use Rattle.ax_printed_lines.proofs.Going.{goes_both, goes_same, one_word}
 use Rattle.ax_printed_lines.proofs.KindsBuilt.{KindIsBuilt, compound_whole, named_slot}
 
 -- ---- an item
@@ -35,11 +34,11 @@ use Rattle.ax_printed_lines.proofs.KindsBuilt.{KindIsBuilt, compound_whole, name
 pub item_bounds : (items : List Item) (slot : UapSlot) (item : Item) → item_of_slot (Some slot) items ≡ Some item → SlotsInBounds (slot_and (uap_slot (map item_tree items) slot) no_slots) → InBounds (kind_tree item.kind)
 item_bounds items slot item e h = (subst (λ s. SlotsInBounds (slot_and s no_slots)) (item_there items slot item e) h).0
 
-pub item_is_built : (items : List Item) (slot : UapSlot) (item : Item) (name text : List ℕ) (old mid new : Place) (before after : Out) → slot ≡ Uap.Item name → text ≡ name → IsName name → item_of_slot (Some slot) items ≡ Some item → (IsOneWord text → Goes old mid (text ∷ []))
+pub item_is_built : (items : List Item) (slot : UapSlot) (item : Item) (name : List ℕ) (old mid new : Place) (before after : Laid) → slot ≡ Uap.Item name → item_of_slot (Some slot) items ≡ Some item → Goes old mid (name ∷ [])
     → KindIsBuilt (kind_tree item.kind) mid new before after → BuildsSlot (uap_slot (map item_tree items) slot) true old new before after
-item_is_built items slot item name text old mid new before after e same is found g b =
-    let texts : text ∷ [] ≡ item.name ∷ [] = name_there items slot item name text text (text ∷ []) [] e same found refl refl refl in
-    let goes : Goes old mid (item.name ∷ []) = goes_same old mid (text ∷ []) (item.name ∷ []) texts (g (subst IsOneWord (sym same) (name_one name is))) in
+item_is_built items slot item name old mid new before after e found g b =
+    let texts : name ∷ [] ≡ item.name ∷ [] = name_there items slot item name name name (name ∷ []) [] e refl found refl refl refl in
+    let goes : Goes old mid (item.name ∷ []) = goes_same old mid (name ∷ []) (item.name ∷ []) texts g in
     subst (λ s. BuildsSlot s true old new before after) (sym (item_there items slot item found)) (named_slot item.name (kind_tree item.kind) old mid new before after goes b)
 
 -- ---- a record
@@ -47,11 +46,11 @@ item_is_built items slot item name text old mid new before after e same is found
 pub record_areas : (spec : SpecTree) → NoFlaw spec → AreSlots (record_slots spec)
 record_areas spec none = record_bounds spec none
 
-abbrev pub RecordIsBuilt : SpecTree → Place → Place → Out → Out → Type 0
+abbrev pub RecordIsBuilt : SpecTree → Place → Place → Laid → Laid → Type 0
 RecordIsBuilt spec old new before after = IsBuilt (RecordShape spec) (λ es. record_onto spec es []) (CanonRecord spec) old new before after
 
-pub record_whole : (spec : SpecTree) (marks : List ℕ) (old mid inner new : Place) (first last before after : Out) → (IsOneWord (codes "record") → Goes old mid (codes "record" ∷ [])) → Goes mid inner (opening ∷ []) → written first ≡ []
-    → IsBuilt (HasMarks (record_slots spec) marks) (λ es. entries_onto 1 (record_slots spec) es (closing ∷ [])) (entries_canon 1 (record_slots spec)) inner new first last → Appends before after (least_field marks ++ written last) → RecordIsBuilt spec old new before after
+pub record_whole : (spec : SpecTree) (marks : List ℕ) (old mid inner new : Place) (first last before after : Laid) → (IsOneWord (codes "record") → Goes old mid (codes "record" ∷ [])) → Goes mid inner (opening ∷ []) → laid first ≡ []
+    → IsBuilt (HasMarks (record_slots spec) marks) (λ es. entries_onto 1 (record_slots spec) es (closing ∷ [])) (entries_canon 1 (record_slots spec)) inner new first last → Lays before after (least_field marks ++ laid last) → RecordIsBuilt spec old new before after
 record_whole spec marks old mid inner new first last before after g o none b a =
     let ss = record_slots spec in
     let front = goes_both old mid inner (codes "record" ∷ []) (opening ∷ []) (g (one_word (codes "record") record_is_word)) o in
@@ -63,22 +62,22 @@ record_whole spec marks old mid inner new first last before after g o none b a =
 abbrev SomeRecords : SpecTree → List EntriesTree → Type 0
 SomeRecords spec rs = (0 < length rs) × AllByRecursion (RecordShape spec) rs
 
-abbrev pub RecordsLeft : SpecTree → Place → Place → Out → Out → Type 0
+abbrev pub RecordsLeft : SpecTree → Place → Place → Laid → Laid → Type 0
 RecordsLeft spec old now before after = Partly (SomeRecords spec) (λ rs. records_onto spec rs []) (CanonBody spec) (SomeRecords spec) (λ rs. records_onto spec rs []) (CanonBody spec) old now before after
 
-pub records_first : (spec : SpecTree) (old : Place) (out : Out) → RecordsLeft spec old old out out
+pub records_first : (spec : SpecTree) (old : Place) (out : Laid) → RecordsLeft spec old old out out
 records_first spec old out = partly_first (SomeRecords spec) (λ rs. records_onto spec rs []) (CanonBody spec) old out
 
 record_more : (spec : SpecTree) (es : EntriesTree) (x y : Texts) → record_onto spec es x ++ y ≡ record_onto spec es (x ++ y)
 record_more spec es x y = ap (λ t. codes "record" ∷ opening ∷ t) (entries_more 1 (record_slots spec) es (closing ∷ x) y)
 
-pub records_next : (spec : SpecTree) (old now new : Place) (before mid after : Out) → RecordsLeft spec old now before mid → RecordIsBuilt spec now new mid after → RecordsLeft spec old new before after
+pub records_next : (spec : SpecTree) (old now new : Place) (before mid after : Laid) → RecordsLeft spec old now before mid → RecordIsBuilt spec now new mid after → RecordsLeft spec old new before after
 records_next spec old now new before mid after l b =
     partly_more (SomeRecords spec) (λ rs. records_onto spec rs []) (CanonBody spec) (SomeRecords spec) (λ rs. records_onto spec rs []) (CanonBody spec) (RecordShape spec) (λ es. record_onto spec es []) (CanonRecord spec)
     (SomeRecords spec) (λ rs. records_onto spec rs []) (CanonBody spec) old now new before mid after l b
     (λ es rs h k. (es ∷ rs, (omega arith, (h, k.1)), sym (record_more spec es [] (records_onto spec rs [])), refl))
 
-pub records_last : (spec : SpecTree) (old now new : Place) (before mid after : Out) → RecordsLeft spec old now before mid → RecordIsBuilt spec now new mid after → AreRecords spec old new before after
+pub records_last : (spec : SpecTree) (old now new : Place) (before mid after : Laid) → RecordsLeft spec old now before mid → RecordIsBuilt spec now new mid after → AreRecords spec old new before after
 records_last spec old now new before mid after l b =
     partly_done (SomeRecords spec) (λ rs. records_onto spec rs []) (CanonBody spec) (SomeRecords spec) (λ rs. records_onto spec rs []) (CanonBody spec) old now new before mid after l
     (built_after (RecordShape spec) (λ es. record_onto spec es []) (CanonRecord spec) (SomeRecords spec) (λ rs. records_onto spec rs []) (CanonBody spec) [] now now new mid after (record { left = refl; keeps = λ rest k. k }) b

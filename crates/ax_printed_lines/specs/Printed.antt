@@ -1,15 +1,13 @@
--- Lines in the form in which `text` prints them: each token but the last with one space after it.
-use Rattle.std.specs.Prelude.{◌≡◌, ℕ, ◌≤◌, ◌<◌, Bool, true, false, List, [], ◌∷◌, ◌++◌, length, slice_index, Some}
-use Rattle.std.specs.List.{AllByRecursion}
+-- Lines of the texts of blocks, in which separators alone stand between tokens.
+use Rattle.std.specs.Prelude.{◌≡◌, ℕ, ◌≤◌, ◌<◌, Bool, true, false, List, [], ◌∷◌, ◌++◌, length, map, slice_index, Some, IsTrue}
+use Rattle.std.specs.List.{AllByRecursion, list_all}
 use Rattle.hex.specs.Hex.{encode_lower, lower_digits}
 use Rattle.ax_bits.specs.Bits.{bits, AreOctets}
-use Rattle.ax_bits.specs.Out.{Appends}
-use Rattle.ax_bits.specs.declared.output.Out.{Out}
 use Rattle.ax_block_reader.specs.BlockTexts.{IsBlockOf}
 use Rattle.ax_model.specs.Blocks.{BlockTree}
 use Rattle.ax_fspec.specs.Fields.{least_field}
 use Rattle.ax_model.specs.Bodies.{RecordShape, CanonBody}
-use Rattle.ax_text.specs.BlockText.{records_onto}
+use Rattle.ax_text.specs.BlockText.{records_onto, BlockText}
 use Rattle.ax_model.specs.Canonical.{canon, fixed_canon, number_canon, marks_of}
 use Rattle.ax_model.specs.CanonicalOctets.{canon_block, category_of, framed}
 use Rattle.ax_model.specs.InBounds.{SlotsInBounds}
@@ -18,11 +16,16 @@ use Rattle.ax_model.specs.Shape.{EntriesShape}
 use Rattle.ax_model.specs.Specification.{SpecTree, spec_of}
 use Rattle.ax_model.specs.Tree.{MemberTree, named, spare, SlotTree, spare_slot, subitem, SlotsTree, slot_count, ValueTree, EntriesTree}
 use Rattle.ax_text.specs.Slots.{SlotShape, slot_onto}
-use Rattle.ax_text.specs.Tokens.{kind_of, BlockTokens}
+use Rattle.ax_text.specs.Tokens.{kind_of}
 use Rattle.ax_text.specs.ValueText.{Texts}
 use Rattle.ax_tokens.specs.Depth.{level_after}
-use Rattle.ax_tokens.specs.Lexing.{IsTokenText, AreTokensOf}
+use Rattle.ax_tokens.specs.Lexing.{IsTokenText, MayFollow, AreTokensOf}
+use Rattle.ax_tokens.specs.Octets.{is_separator}
+use Rattle.ax_tokens.specs.PlainToken.{PlainToken}
+use Rattle.ax_tokens.specs.declared.token.TokenKind.{TokenKind}
 use Rattle.ax_tokens.specs.declared.token.TokenKind.TheVariants.{Word}
+use Rattle.ax_printed_lines.specs.Laid.{Lays}
+use Rattle.ax_printed_lines.specs.declared.laid.Laid.{Laid}
 
 -- ---- places
 
@@ -31,10 +34,27 @@ pub record Place : Type 0 where
   pub left : List ℕ
   pub level : ℕ
 
--- each text with a space after it
-abbrev pub ended : Texts → List ℕ
-ended [] = []
-ended (text ∷ texts) = text ++ 0x20 ∷ ended texts
+-- separators stand in front, and after them what is left
+pub record AfterGap (octets left : List ℕ) : Type 0 where
+  pub gap : List ℕ
+  pub split : octets ≡ gap ++ left
+  pub each : IsTrue (list_all is_separator gap)
+
+-- the octet stands in front, and after it separators and what is left
+abbrev pub IsAfterOctet : ℕ → List ℕ → List ℕ → Type 0
+IsAfterOctet octet octets left = (following : List ℕ) × (octets ≡ octet ∷ following) × AfterGap following left
+
+-- the text of a token of that kind stands in front, separators or none after it, and then what is left
+pub record Stands (kind : TokenKind) (text octets left : List ℕ) : Type 0 where
+  pub gap : List ℕ
+  pub split : octets ≡ text ++ (gap ++ left)
+  pub each : IsTrue (list_all is_separator gap)
+  pub follows : MayFollow kind (gap ++ left)
+
+-- the texts of tokens stand in front, one after another
+abbrev pub AreInFront : Texts → List ℕ → List ℕ → Type 0
+AreInFront [] octets left = octets ≡ left
+AreInFront (text ∷ texts) octets left = (more : List ℕ) × Stands (kind_of text) text octets more × AreInFront texts more left
 
 -- the text is one Word
 abbrev pub IsOneWord : List ℕ → Type 0
@@ -47,17 +67,17 @@ Keeps level (text ∷ texts) = IsTokenText (kind_of text) text × (level_after (
 
 -- the texts stood there, and are read
 pub record Goes (old new : Place) (texts : Texts) : Type 0 where
-  pub left : old.left ≡ ended texts ++ new.left
+  pub left : AreInFront texts old.left new.left
   pub keeps : (rest : Texts) → Keeps new.level rest → Keeps old.level (texts ++ rest)
 
 -- ---- what is built
 
--- the texts of something of that shape were read, and its canonical bits were written
-pub record IsBuilt {X : Type 0} (R : X → Type 0) (onto : X → Texts) (spell : X → List ℕ) (old new : Place) (before after : Out) : Type 0 where
+-- the texts of something of that shape were read, and its canonical bits were laid
+pub record IsBuilt {X : Type 0} (R : X → Type 0) (onto : X → Texts) (spell : X → List ℕ) (old new : Place) (before after : Laid) : Type 0 where
   pub value : X
   pub shape : R value
   pub goes : Goes old new (onto value)
-  pub appends : Appends before after (spell value)
+  pub lays : Lays before after (spell value)
 
 abbrev pub member_canon : MemberTree → ValueTree → List ℕ
 member_canon (named name f) v = fixed_canon f v
@@ -68,15 +88,17 @@ slot_canon spare_slot v = []
 slot_canon (subitem name k) v = canon k v
 
 -- the line is the text of a block of that category under the catalogue, and the bits of the body of its canonical form were
--- written
-pub record IsPrinted (catalogue : List SpecTree) (line : List ℕ) (category : ℕ) (before after : Out) : Type 0 where
+-- laid
+pub record IsPrinted (catalogue : List SpecTree) (line : List ℕ) (category : ℕ) (before after : Laid) : Type 0 where
   pub spec : SpecTree
   pub block : BlockTree
   pub known : spec_of (category_of block) catalogue ≡ Some spec
   pub of_catalogue : IsBlockOf catalogue block
-  pub lexed : AreTokensOf line 20 (BlockTokens spec block)
+  pub tokens : List PlainToken
+  pub lexed : AreTokensOf line 20 tokens
+  pub texts : map (λ t. t.text) tokens ≡ BlockText spec block
   pub body : List ℕ
-  pub appends : Appends before after body
+  pub lays : Lays before after body
   pub canonical : (octets : List ℕ) → AreOctets octets → bits octets ≡ body → framed category octets ≡ canon_block spec block
 
 -- ---- slots
@@ -86,7 +108,7 @@ abbrev pub AreSlots : SlotsTree → Type 0
 AreSlots ss = (0 < slot_count ss) × (slot_count ss ≤ 126) × SlotsInBounds ss
 
 -- the slot's value is built where its name comes, and nothing is done where it doesn't
-abbrev pub BuildsSlot : SlotTree → Bool → Place → Place → Out → Out → Type 0
+abbrev pub BuildsSlot : SlotTree → Bool → Place → Place → Laid → Laid → Type 0
 BuildsSlot slot true old new before after = IsBuilt (SlotShape slot) (λ v. slot_onto slot v []) (slot_canon slot) old new before after
 BuildsSlot slot false old new before after = (new ≡ old) × (after ≡ before)
 
@@ -99,15 +121,15 @@ HasMarks ss marks es = EntriesShape 1 ss es × (least_field marks ≡ least_pres
 abbrev pub digit_text : ℕ → ℕ
 digit_text n = slice_index lower_digits n
 
--- the digits of some octets, which were written
-pub record AreDigits (digits : List ℕ) (before after : Out) : Type 0 where
+-- the digits of some octets, which were laid
+pub record AreDigits (digits : List ℕ) (before after : Laid) : Type 0 where
   pub octets : List ℕ
   pub each : AreOctets octets
   pub text : digits ≡ encode_lower octets
-  pub appends : Appends before after (bits octets)
+  pub lays : Lays before after (bits octets)
 
 -- ---- records
 
--- one or more records were read, and their canonical bits were written
-abbrev pub AreRecords : SpecTree → Place → Place → Out → Out → Type 0
+-- one or more records were read, and their canonical bits were laid
+abbrev pub AreRecords : SpecTree → Place → Place → Laid → Laid → Type 0
 AreRecords spec old new before after = IsBuilt (λ rs. (0 < length rs) × AllByRecursion (RecordShape spec) rs) (λ rs. records_onto spec rs []) (CanonBody spec) old new before after

@@ -4,15 +4,14 @@ ghost use Rattle.ax_model.specs.Plain.{catalogue_tree};
 ghost use Rattle.ax_printed_lines.specs.Printed.{IsPrinted};
 
 use crate::cursor::Cursor;
+use crate::laid::Laid;
 use crate::records::records_built;
-use ax_bits::Out;
 use ax_uap::CatalogueItems;
 
-/// Where the line is the text of a block of a category that the catalogue has, in the form in which `text` prints it, the body of
-/// its canonical form is appended, and this is its category. None says nothing of the line: it comes for any other text,
-/// and where the octets of a record, of a counted or wide item or of a compound, or the body, need more room than is kept here.
-/// Takes no memory.
-pub fn printed_body(items: &CatalogueItems<'_>, line: &[u8], out: &mut Out<'_>) -> Option<u8>
+/// Where the line is the text of a block of a category that the catalogue has, with separators between its tokens and no comment, the
+/// body of its canonical form is laid, and this is its category. None says nothing of the line: it comes for any other text, and where
+/// the octets of a record, of a counted or wide item or of a compound, or the body, need more room than is kept here. Takes no memory.
+pub fn printed_body(items: &CatalogueItems<'_>, line: &[u8], out: &mut Laid<'_>) -> Option<u8>
     ensures { IfSome result (λ category. IsPrinted (catalogue_tree items.now) line.now category out.old out.new) }
 {
     let mut cursor = Cursor::new(line);

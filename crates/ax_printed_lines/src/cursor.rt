@@ -1,25 +1,25 @@
-//! The place in a printed line.
+//! The place in a line.
 ghost use Rattle.std.specs.Prelude.{◌≡◌, ◌+◌, ◌<◌, ◌≤◌, [], ◌∷◌, ◌++◌, ℕ, List, false, length, decimal, IsTrue, IfSome, IfNone};
 ghost use Rattle.ax_model.specs.Paths.{three_digits};
 ghost use Rattle.ax_text.specs.ValueText.{opening, closing, hex_text};
 ghost use Rattle.ax_bits.specs.Bits.{AreOctets};
 ghost use Rattle.hex.specs.Hex.{encode_lower};
-ghost use Rattle.ax_printed_lines.specs.Printed.{Place, IsOneWord, Goes};
+ghost use Rattle.ax_printed_lines.specs.Printed.{Place, AfterGap, IsAfterOctet, IsOneWord, Goes};
 
-use ax_block_reader::{category_of, short_number, unquoted};
+use crate::gaps::{after_gap, after_word, split_word};
+use crate::names::{are_same, begins_with};
+use crate::numbers::number_in_front;
+use ax_block_reader::{category_of, unquoted};
+use ax_model::Name;
 use std::marker::Model;
 
 /// How deep the braces of a line may nest.
 const DEEPEST: u32 = 20;
 
-/// The most digits of a number that is read here.
-const MOST_DIGITS: usize = 19;
-
 /// The most octets of an explicit item as a text in quotes.
 const MOST_QUOTED: usize = 510;
 
-/// The place in a line of tokens with one space after each. Contracts see the octets that are left and the level of the
-/// braces.
+/// The place in a line, in front of a token or at the end. Contracts see the octets that are left and the level of the braces.
 #[derive(Drop)]
 pub struct Cursor<'t> {
     rest: &'t [u8],
@@ -37,41 +37,13 @@ impl<'t> Model for Cursor<'t> {
     ghost invariant = { λ c. c.level ≤ 20 };
 }
 
-/// The first octets, that many, and what stands after the space after them. None comes where no space does.
+/// How many octets a text in quotes has, of which the first quote stands in front; or that many where they are more.
 #[inline(always)]
-fn split_spaced(octets: &[u8], count: usize) -> Option<(&[u8], &[u8])>
-    ensures split { IfSome result (λ found. octets.now ≡ found.0.now ++ 0x20 ∷ found.1.now) }
-    ensures count { IfSome result (λ found. length found.0.now ≡ count) }
-{
-    if octets.len() < count {
-        return None;
-    }
-    let (front, following) = octets.split_at(count);
-    match following.split_first() {
-        Some((b' ', later)) => Some((front, later)),
-        _ => None,
-    }
-}
-
-/// Whether the octets are the same. Words are short, so that octet by octet is quickest.
-#[inline(always)]
-fn are_same(octets: &[u8], word: &[u8]) -> bool
-    ensures { IsTrue result → octets.now ≡ word.now }
-{
-    octets.len() == word.len()
-        && octets
-            .iter()
-            .zip(word)
-            .all(|(octet, wanted)| octet == wanted)
-}
-
-/// How many octets stand before the first space, or that many where they are more.
-#[inline(always)]
-fn count_before_space(octets: &[u8], most: usize) -> usize {
-    let mut count = 0;
+fn quoted_count(octets: &[u8], most: usize) -> usize {
+    let mut count = 1;
     while count < octets.len() && count < most {
-        if octets[count] == b' ' {
-            break;
+        if octets[count] == b'"' {
+            return count + 1;
         }
         count += 1;
     }
@@ -79,12 +51,13 @@ fn count_before_space(octets: &[u8], most: usize) -> usize {
 }
 
 impl<'t> Cursor<'t> {
-    /// At the front of a line.
+    /// In front of a line's first token.
     pub fn new(line: &'t [u8]) -> Cursor<'t>
-        ensures { result ≡ record { left = line.now; level = 0 } }
+        ensures gap { AfterGap line.now result.left }
+        ensures level { result.level ≡ 0 }
     {
         Cursor {
-            rest: line,
+            rest: after_gap(line),
             level: 0,
         }
     }
@@ -96,7 +69,7 @@ impl<'t> Cursor<'t> {
         ensures taken { IsTrue result → IsOneWord word.now → Goes self.old self.new (word.now ∷ []) }
         ensures other { result ≡ false → self.new ≡ self.old }
     {
-        let Some((front, later)) = split_spaced(self.rest, word.len()) else {
+        let Some((front, later)) = split_word(self.rest, word.len()) else {
             return false;
         };
         if !are_same(front, word) {
@@ -106,16 +79,33 @@ impl<'t> Cursor<'t> {
         true
     }
 
-    /// What stands after that octet and a space, where they come.
+    /// Whether the name comes. It is read if so.
     #[inline(always)]
+    #[tactic(auto, using(crate::proofs::Going::names))]
+    pub fn takes_name(&mut self, name: &Name) -> bool
+        ensures taken { IsTrue result → Goes self.old self.new (name.now ∷ []) }
+        ensures moves { IsTrue result → length self.new.left < length self.old.left }
+        ensures other { result ≡ false → self.new ≡ self.old }
+    {
+        let count = name.octets().len();
+        if self.rest.len() < count || !begins_with(self.rest, name) {
+            return false;
+        }
+        let Some((_, later)) = split_word(self.rest, count) else {
+            return false;
+        };
+        self.rest = later;
+        true
+    }
+
+    /// What comes after that octet and the separators behind it, where it comes.
+    #[inline(always)]
+    #[tactic(auto, using(crate::proofs::Going::octets))]
     fn following(&self, octet: u8) -> Option<&'t [u8]>
-        ensures { IfSome result (λ later. self.now.left ≡ octet ∷ 0x20 ∷ later.now) }
+        ensures { IfSome result (λ later. IsAfterOctet octet self.now.left later.now) }
     {
         match self.rest.split_first() {
-            Some((first, following)) if *first == octet => match following.split_first() {
-                Some((b' ', later)) => Some(later),
-                _ => None,
-            },
+            Some((first, following)) if *first == octet => Some(after_gap(following)),
             _ => None,
         }
     }
@@ -125,6 +115,7 @@ impl<'t> Cursor<'t> {
     #[tactic(auto, using(crate::proofs::Going::braces))]
     pub fn opens(&mut self) -> bool
         ensures opened { IsTrue result → Goes self.old self.new (opening ∷ []) }
+        ensures moves { IsTrue result → length self.new.left < length self.old.left }
     {
         if self.level >= DEEPEST {
             return false;
@@ -152,12 +143,15 @@ impl<'t> Cursor<'t> {
         true
     }
 
-    /// Whether a brace that closes is all that is left.
+    /// Whether a brace that closes is all that is left, with the separators behind it.
     pub fn ends(&self) -> bool
-        ensures { IsTrue result → (self.now.left ≡ closing) × (self.now.level ≤ 20) }
+        ensures { IsTrue result → IsAfterOctet 125 self.now.left [] × (self.now.level ≤ 20) }
     {
-        match self.rest {
-            [octet] => *octet == b'}',
+        match self.rest.split_first() {
+            Some((octet, following)) if *octet == b'}' => match after_gap(following) {
+                [] => true,
+                _ => false,
+            },
             _ => false,
         }
     }
@@ -169,21 +163,17 @@ impl<'t> Cursor<'t> {
         ensures some { IfSome result (λ n. Goes self.old self.new (decimal n ∷ [])) }
         ensures none { IfNone result (self.new ≡ self.old) }
     {
-        let Some(first) = self.rest.first() else {
-            return None;
-        };
-        let octet = *first;
-        if octet < b'0' || octet > b'9' {
+        let (first, following) = self.rest.split_first()?;
+        if *first < b'0' || *first > b'9' {
             return None;
         }
-        let Some(later) = self.following(octet) else {
-            return None;
-        };
+        let later = after_word(following)?;
         self.rest = later;
-        Some(u64::from(octet - b'0'))
+        Some(u64::from(*first - b'0'))
     }
 
     /// The number of at most 19 digits that comes. It is read if there is one.
+    #[inline(always)]
     #[tactic(auto, using(crate::proofs::Going::numbers))]
     pub fn number(&mut self) -> Option<u64>
         ensures { IfSome result (λ n. Goes self.old self.new (decimal n ∷ [])) }
@@ -191,11 +181,8 @@ impl<'t> Cursor<'t> {
         if let Some(number) = self.digit() {
             return Some(number);
         }
-        let (digits, later) = split_spaced(self.rest, count_before_space(self.rest, MOST_DIGITS))?;
-        if digits.len() > MOST_DIGITS {
-            return None;
-        }
-        let number = short_number(digits)?;
+        let (number, following) = number_in_front(self.rest)?;
+        let later = after_word(following)?;
         self.rest = later;
         Some(number)
     }
@@ -206,7 +193,7 @@ impl<'t> Cursor<'t> {
         ensures octet { IfSome result (λ n. n < 256) }
         ensures goes { IfSome result (λ n. Goes self.old self.new (three_digits n ∷ [])) }
     {
-        let (digits, later) = split_spaced(self.rest, 3)?;
+        let (digits, later) = split_word(self.rest, 3)?;
         let category = category_of(digits)?;
         self.rest = later;
         Some(category)
@@ -217,7 +204,7 @@ impl<'t> Cursor<'t> {
     pub fn quoted(&mut self) -> Option<&'t [u8]>
         ensures { IfSome result (λ digits. (octets : List ℕ) → AreOctets octets → digits.now ≡ encode_lower octets → Goes self.old self.new (hex_text octets ∷ [])) }
     {
-        let (text, later) = split_spaced(self.rest, count_before_space(self.rest, MOST_QUOTED))?;
+        let (text, later) = split_word(self.rest, quoted_count(self.rest, MOST_QUOTED))?;
         let digits = unquoted(text)?;
         self.rest = later;
         Some(digits)

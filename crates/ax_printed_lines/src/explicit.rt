@@ -2,7 +2,6 @@
 ghost use Rattle.std.specs.Prelude.{◌≡◌, ◌+◌, ◌<◌, ◌≤◌, ◌∷◌, ◌++◌, [], ℕ, List, length, IfSome};
 ghost use Rattle.hex.specs.Hex.{encode_lower};
 ghost use Rattle.ax_bits.specs.Bits.{bits, AreOctets};
-ghost use Rattle.ax_bits.specs.Out.{Appends};
 ghost use Rattle.ax_model.specs.Canonical.{canon};
 ghost use Rattle.ax_model.specs.Shape.{Shape};
 ghost use Rattle.ax_model.specs.Tree.{explicit};
@@ -10,7 +9,7 @@ ghost use Rattle.ax_text.specs.ValueText.{kind_onto};
 ghost use Rattle.ax_printed_lines.specs.Printed.{IsBuilt, AreDigits, digit_text};
 
 use crate::cursor::Cursor;
-use ax_bits::Out;
+use crate::laid::Laid;
 
 /// The number of a lower-case hexadecimal digit.
 fn digit_of(octet: u8) -> Option<u8>
@@ -34,32 +33,29 @@ fn octet_of(high: u8, low: u8) -> Option<u8>
     Some(16 * high + low)
 }
 
-/// The octets whose digits these are are appended. None comes where they are the digits of none, or there is no room.
-fn octets_built(digits: &[u8], out: &mut Out<'_>) -> Option<()>
+/// The octets whose digits these are are laid. None comes where they are the digits of none, or there is no room.
+fn octets_built(digits: &[u8], out: &mut Laid<'_>) -> Option<()>
     ensures { IfSome result (λ done. AreDigits digits.now out.old out.new) }
 {
     let mut left = digits;
     while let Some((high, following)) = left.split_first() {
         let (low, later) = following.split_first()?;
         let octet = octet_of(*high, *low)?;
-        if out.room() < 8 {
-            return None;
-        }
-        out.push_octet(octet);
+        out.push(u64::from(octet), 8)?;
         left = later;
     }
     Some(())
 }
 
-/// The content of an explicit item that comes is read, and its length octet and its octets are appended.
-pub fn explicit_built(cursor: &mut Cursor<'_>, out: &mut Out<'_>) -> Option<()>
+/// The content of an explicit item that comes is read, and its length octet and its octets are laid.
+pub fn explicit_built(cursor: &mut Cursor<'_>, out: &mut Laid<'_>) -> Option<()>
     ensures { IfSome result (λ done. IsBuilt (Shape explicit) (λ v. kind_onto explicit v []) (canon explicit) cursor.old cursor.new out.old out.new) }
 {
     let digits = cursor.quoted()?;
     let count = digits.len() / 2;
-    if count > 254 || out.room() < 8 {
+    if count > 254 {
         return None;
     }
-    out.push_octet(count as u8 + 1);
+    out.push(count as u64 + 1, 8)?;
     octets_built(digits, out)
 }

@@ -11,13 +11,13 @@ ghost use Rattle.ax_text.specs.ValueText.{closing, fixed_onto, member_onto, memb
 ghost use Rattle.ax_printed_lines.specs.Printed.{IsBuilt, member_canon};
 
 use crate::cursor::Cursor;
+use crate::laid::Laid;
 use crate::pieces::{fx_built, last_fx_built, number_built};
-use ax_bits::Out;
 use ax_model::{Fixed, LastPart, Member, Members, Part, Parts};
 
-/// The value of a fixed kind that comes is read, and its bits are appended.
+/// The value of a fixed kind that comes is read, and its bits are laid.
 #[cycle(fixed_built)]
-pub fn fixed_built(cursor: &mut Cursor<'_>, fixed: &Fixed, out: &mut Out<'_>) -> Option<()>
+pub fn fixed_built(cursor: &mut Cursor<'_>, fixed: &Fixed, out: &mut Laid<'_>) -> Option<()>
     requires { FixedInBounds (fixed_tree fixed.now) }
     ensures { IfSome result (λ done. IsBuilt (FixedShape (fixed_tree fixed.now)) (λ v. fixed_onto (fixed_tree fixed.now) v []) (fixed_canon (fixed_tree fixed.now)) cursor.old cursor.new out.old out.new) }
 {
@@ -34,13 +34,14 @@ pub fn fixed_built(cursor: &mut Cursor<'_>, fixed: &Fixed, out: &mut Out<'_>) ->
 
 /// A member: its name and its value, or `spare` and its number.
 #[cycle(fixed_built)]
-fn member_built(cursor: &mut Cursor<'_>, member: &Member, out: &mut Out<'_>) -> Option<()>
+#[inline(always)]
+fn member_built(cursor: &mut Cursor<'_>, member: &Member, out: &mut Laid<'_>) -> Option<()>
     requires { MembersInBounds (member_and (member_tree member.now) no_members) }
     ensures { IfSome result (λ done. IsBuilt (MemberShape (member_tree member.now)) (λ v. member_onto (member_tree member.now) v []) (member_canon (member_tree member.now)) cursor.old cursor.new out.old out.new) }
 {
     match member {
         Member::Named { name, fixed } => {
-            if !cursor.takes(name.octets()) {
+            if !cursor.takes_name(name) {
                 return None;
             }
             fixed_built(cursor, fixed, out)
@@ -56,7 +57,7 @@ fn member_built(cursor: &mut Cursor<'_>, member: &Member, out: &mut Out<'_>) -> 
 
 /// A value for each member, in order, and the brace after them.
 #[cycle(fixed_built)]
-pub fn members_built(cursor: &mut Cursor<'_>, members: &Members, out: &mut Out<'_>) -> Option<()>
+pub fn members_built(cursor: &mut Cursor<'_>, members: &Members, out: &mut Laid<'_>) -> Option<()>
     requires { MembersInBounds (members_tree members.now) }
     ensures { IfSome result (λ done. IsBuilt (MembersShape (members_tree members.now)) (λ vs. members_onto (members_tree members.now) vs (closing ∷ [])) (members_canon (members_tree members.now)) cursor.old cursor.new out.old out.new) }
 {
@@ -70,7 +71,7 @@ pub fn members_built(cursor: &mut Cursor<'_>, members: &Members, out: &mut Out<'
 }
 
 /// A part: `part` and its members in braces.
-fn part_built(cursor: &mut Cursor<'_>, part: &Part, out: &mut Out<'_>) -> Option<()>
+fn part_built(cursor: &mut Cursor<'_>, part: &Part, out: &mut Laid<'_>) -> Option<()>
     requires { MembersInBounds (part_tree part.now) }
     ensures { IfSome result (λ done. IsBuilt (MembersShape (part_tree part.now)) (λ vs. part_onto (part_tree part.now) vs []) (members_canon (part_tree part.now)) cursor.old cursor.new out.old out.new) }
 {
@@ -85,7 +86,7 @@ pub fn parts_built(
     cursor: &mut Cursor<'_>,
     last: LastPart,
     parts: &Parts,
-    out: &mut Out<'_>,
+    out: &mut Laid<'_>,
 ) -> Option<()>
     requires { PartsInBounds last (map part_tree parts.now) }
     ensures { IfSome result (λ done. IsBuilt (PartsShape (map part_tree parts.now)) (λ ls. parts_onto (map part_tree parts.now) ls (closing ∷ [])) (parts_canon last (map part_tree parts.now)) cursor.old cursor.new out.old out.new) }
@@ -106,7 +107,7 @@ pub fn parts_built(
 const MOST: u32 = 65_536;
 
 /// One or more values of a fixed kind, and the brace after them.
-pub fn run_built(cursor: &mut Cursor<'_>, fixed: &Fixed, out: &mut Out<'_>) -> Option<()>
+pub fn run_built(cursor: &mut Cursor<'_>, fixed: &Fixed, out: &mut Laid<'_>) -> Option<()>
     requires { FixedInBounds (fixed_tree fixed.now) }
     ensures { IfSome result (λ done. IsBuilt (λ vs. (0 < value_count vs) × EachShape (FixedShape (fixed_tree fixed.now)) vs) (λ vs. each_onto (fixed_onto (fixed_tree fixed.now)) vs (closing ∷ [])) (run_canon (fixed_tree fixed.now)) cursor.old cursor.new out.old out.new) }
 {

@@ -15,17 +15,17 @@ ghost use Rattle.ax_printed_lines.specs.Printed.{IsBuilt, AreSlots, BuildsSlot, 
 use crate::cursor::Cursor;
 use crate::explicit::explicit_built;
 use crate::fixed::{fixed_built, parts_built, run_built};
+use crate::laid::Laid;
 use crate::pieces::{counted_content, marked_content};
-use ax_bits::Out;
 use ax_fspec::Presence;
 use ax_model::{Counter, Kind, Slot, Slots};
 
 // The most octets of the values of a counted or wide item or of a compound that are built here.
 const ROOM: usize = 1024;
 
-/// The value of a kind that comes is read, and its canonical bits are appended.
+/// The value of a kind that comes is read, and its canonical bits are laid.
 #[cycle(kind_built)]
-pub fn kind_built(cursor: &mut Cursor<'_>, kind: &Kind, out: &mut Out<'_>) -> Option<()>
+pub fn kind_built(cursor: &mut Cursor<'_>, kind: &Kind, out: &mut Laid<'_>) -> Option<()>
     requires { InBounds (kind_tree kind.now) }
     ensures { IfSome result (λ done. IsBuilt (Shape (kind_tree kind.now)) (λ v. kind_onto (kind_tree kind.now) v []) (canon (kind_tree kind.now)) cursor.old cursor.new out.old out.new) }
 {
@@ -69,20 +69,25 @@ fn counted_built(
     cursor: &mut Cursor<'_>,
     size: Counter,
     kind: &Kind,
-    out: &mut Out<'_>,
+    out: &mut Laid<'_>,
 ) -> Option<()>
     requires { InBounds (kind_tree kind.now) }
     ensures { IfSome result (λ done. IsBuilt (λ vs. (value_count vs < 2 ^ counter_width size) × EachShape (Shape (kind_tree kind.now)) vs) (λ vs. each_onto (kind_onto (kind_tree kind.now)) vs (closing ∷ [])) (λ vs. canon (counted size (kind_tree kind.now)) (occurrences vs)) cursor.old cursor.new out.old out.new) }
 {
     let mut own = [0u8; ROOM];
-    let mut inner = Out::over(&mut own);
+    let mut inner = Laid::over(&mut own);
     let count = each_built(cursor, size, kind, &mut inner)?;
     counted_content(size, count, &inner, out)
 }
 
 /// As many values of a kind as the counter can hold, or fewer, and the brace after them. It answers how many they are.
 #[cycle(kind_built)]
-fn each_built(cursor: &mut Cursor<'_>, size: Counter, kind: &Kind, out: &mut Out<'_>) -> Option<u32>
+fn each_built(
+    cursor: &mut Cursor<'_>,
+    size: Counter,
+    kind: &Kind,
+    out: &mut Laid<'_>,
+) -> Option<u32>
     requires { InBounds (kind_tree kind.now) }
     ensures few { IfSome result (λ count. count < 2 ^ counter_width size) }
     ensures built { IfSome result (λ count. IsBuilt (λ vs. (value_count vs ≡ count) × EachShape (Shape (kind_tree kind.now)) vs) (λ vs. each_onto (kind_onto (kind_tree kind.now)) vs (closing ∷ [])) (each_canon (canon (kind_tree kind.now))) cursor.old cursor.new out.old out.new) }
@@ -105,41 +110,45 @@ fn each_built(cursor: &mut Cursor<'_>, size: Counter, kind: &Kind, out: &mut Out
 /// The entries of a compound, and the brace after them. They are built in a buffer of their own, since the presence field
 /// stands in front of them.
 #[cycle(kind_built)]
-fn compound_built(cursor: &mut Cursor<'_>, slots: &Slots, out: &mut Out<'_>) -> Option<()>
+fn compound_built(cursor: &mut Cursor<'_>, slots: &Slots, out: &mut Laid<'_>) -> Option<()>
     requires { AreSlots (slots_tree slots.now) }
     ensures { IfSome result (λ done. IsBuilt (EntriesShape 1 (slots_tree slots.now)) (λ es. entries_onto 1 (slots_tree slots.now) es (closing ∷ [])) (λ es. canon (compound (slots_tree slots.now)) (marked es)) cursor.old cursor.new out.old out.new) }
 {
     let mut own = [0u8; ROOM];
-    let mut inner = Out::over(&mut own);
+    let mut inner = Laid::over(&mut own);
     let marks = entries_built(cursor, slots, &mut inner)?;
     marked_content(&marks, &inner, out)
 }
 
 /// The value of the slot's subitem, where the subitem's name comes. It answers whether it does.
 #[cycle(kind_built)]
-fn subitem_built(cursor: &mut Cursor<'_>, slot: &Slot, out: &mut Out<'_>) -> Option<bool>
+#[inline(always)]
+fn subitem_built(cursor: &mut Cursor<'_>, slot: &Slot, out: &mut Laid<'_>) -> Option<bool>
     requires { SlotsInBounds (slot_and (slot_tree slot.now) no_slots) }
     ensures { IfSome result (λ came. BuildsSlot (slot_tree slot.now) came cursor.old cursor.new out.old out.new) }
 {
     let Slot::Sub { name, kind } = slot else {
         return Some(false);
     };
-    if !cursor.takes(name.octets()) {
+    if !cursor.takes_name(name) {
         return Some(false);
     }
     kind_built(cursor, kind, out)?;
     Some(true)
 }
 
-/// The entries of a compound, and the brace after them. It answers which slots they are of.
+/// The entries of a compound, and the brace after them. It answers which slots they are of. After the last entry no slot is looked at.
 #[cycle(kind_built)]
-fn entries_built(cursor: &mut Cursor<'_>, slots: &Slots, out: &mut Out<'_>) -> Option<Presence>
+fn entries_built(cursor: &mut Cursor<'_>, slots: &Slots, out: &mut Laid<'_>) -> Option<Presence>
     requires { AreSlots (slots_tree slots.now) }
     ensures { IfSome result (λ marks. IsBuilt (HasMarks (slots_tree slots.now) marks) (λ es. entries_onto 1 (slots_tree slots.now) es (closing ∷ [])) (entries_canon 1 (slots_tree slots.now)) cursor.old cursor.new out.old out.new) }
 {
     let mut marks = Presence::empty();
     let mut number = 0;
     for slot in slots.as_slice() {
+        if cursor.closes() {
+            return Some(marks);
+        }
         number += 1;
         if subitem_built(cursor, slot, out)? {
             marks.mark(number);

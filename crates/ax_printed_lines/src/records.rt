@@ -10,12 +10,12 @@ ghost use Rattle.ax_model.specs.Specification.{uap_slot, record_slots};
 ghost use Rattle.ax_model.specs.Tree.{slot_and, no_slots};
 ghost use Rattle.ax_text.specs.BlockText.{record_onto};
 ghost use Rattle.ax_text.specs.ValueText.{closing, entries_onto};
-ghost use Rattle.ax_printed_lines.specs.Printed.{IsBuilt, AreSlots, BuildsSlot, HasMarks, AreRecords};
+ghost use Rattle.ax_printed_lines.specs.Printed.{IsBuilt, IsAfterOctet, AreSlots, BuildsSlot, HasMarks, AreRecords};
 
 use crate::cursor::Cursor;
 use crate::kinds::kind_built;
+use crate::laid::Laid;
 use crate::pieces::marked_content;
-use ax_bits::Out;
 use ax_fspec::Presence;
 use ax_model::UapSlot;
 use ax_uap::UapItems;
@@ -27,12 +27,13 @@ const ROOM: usize = 2048;
 const MOST: u32 = 65_536;
 
 /// The value of the slot's item, where the item's name comes. It answers whether it does.
+#[inline(always)]
 fn item_built(
     cursor: &mut Cursor<'_>,
     items: &UapItems<'_>,
     frn: u32,
     slot: &UapSlot,
-    out: &mut Out<'_>,
+    out: &mut Laid<'_>,
 ) -> Option<bool>
     requires bounds { SlotsInBounds (slot_and (uap_slot (map item_tree items.now.spec.now.items) slot.now) no_slots) }
     requires at { item_of_frn frn items.now.spec.now.uap items.now.spec.now.items ≡ item_of_slot (Some slot.now) items.now.spec.now.items }
@@ -41,7 +42,7 @@ fn item_built(
     let UapSlot::Item(name) = slot else {
         return Some(false);
     };
-    if !cursor.takes(name.octets()) {
+    if !cursor.takes_name(name) {
         return Some(false);
     }
     let item = items.item(frn)?;
@@ -49,8 +50,12 @@ fn item_built(
     Some(true)
 }
 
-/// The entries of a record, and the brace after them. It answers which slots they are of.
-fn items_built(cursor: &mut Cursor<'_>, items: &UapItems<'_>, out: &mut Out<'_>) -> Option<Presence>
+/// The entries of a record, and the brace after them. It answers which slots they are of. After the last entry no slot is looked at.
+fn items_built(
+    cursor: &mut Cursor<'_>,
+    items: &UapItems<'_>,
+    out: &mut Laid<'_>,
+) -> Option<Presence>
     requires { AreSlots (record_slots (spec_tree items.now.spec.now)) }
     ensures { IfSome result (λ marks. IsBuilt (HasMarks (record_slots (spec_tree items.now.spec.now)) marks) (λ es. entries_onto 1 (record_slots (spec_tree items.now.spec.now)) es (closing ∷ [])) (entries_canon 1 (record_slots (spec_tree items.now.spec.now))) cursor.old cursor.new out.old out.new) }
 {
@@ -58,6 +63,9 @@ fn items_built(cursor: &mut Cursor<'_>, items: &UapItems<'_>, out: &mut Out<'_>)
     let mut marks = Presence::empty();
     let mut number = 0;
     for slot in spec.uap.as_slice() {
+        if cursor.closes() {
+            return Some(marks);
+        }
         number += 1;
         if item_built(cursor, items, number, slot, out)? {
             marks.mark(number);
@@ -70,7 +78,7 @@ fn items_built(cursor: &mut Cursor<'_>, items: &UapItems<'_>, out: &mut Out<'_>)
 }
 
 /// The entries of a record in braces. They are built in a buffer of their own, since the FSPEC stands in front of them.
-fn record_built(cursor: &mut Cursor<'_>, items: &UapItems<'_>, out: &mut Out<'_>) -> Option<()>
+fn record_built(cursor: &mut Cursor<'_>, items: &UapItems<'_>, out: &mut Laid<'_>) -> Option<()>
     requires { AreSlots (record_slots (spec_tree items.now.spec.now)) }
     ensures { IfSome result (λ done. IsBuilt (RecordShape (spec_tree items.now.spec.now)) (λ es. record_onto (spec_tree items.now.spec.now) es []) (CanonRecord (spec_tree items.now.spec.now)) cursor.old cursor.new out.old out.new) }
 {
@@ -78,16 +86,20 @@ fn record_built(cursor: &mut Cursor<'_>, items: &UapItems<'_>, out: &mut Out<'_>
         return None;
     }
     let mut own = [0u8; ROOM];
-    let mut inner = Out::over(&mut own);
+    let mut inner = Laid::over(&mut own);
     let marks = items_built(cursor, items, &mut inner)?;
     marked_content(&marks, &inner, out)
 }
 
 /// One or more records, up to a brace that ends the line.
-pub fn records_built(cursor: &mut Cursor<'_>, items: &UapItems<'_>, out: &mut Out<'_>) -> Option<()>
+pub fn records_built(
+    cursor: &mut Cursor<'_>,
+    items: &UapItems<'_>,
+    out: &mut Laid<'_>,
+) -> Option<()>
     requires { AreSlots (record_slots (spec_tree items.now.spec.now)) }
     ensures records { IfSome result (λ done. AreRecords (spec_tree items.now.spec.now) cursor.old cursor.new out.old out.new) }
-    ensures ended { IfSome result (λ done. (cursor.new.left ≡ closing) × (cursor.new.level ≤ 20)) }
+    ensures ended { IfSome result (λ done. IsAfterOctet 125 cursor.new.left [] × (cursor.new.level ≤ 20)) }
 {
     for _ in 0..MOST {
         record_built(cursor, items, out)?;

@@ -13,4 +13,4 @@ returns c =
     let spec = spec_tree c.in_ok-uap.uap.now.spec.now in
     let known : Some spec ≡ spec_of c.in_ok-category.category (catalogue_tree c.args.items.now) = c.in_ok-uap.ensures.spec in
     line_printed (catalogue_tree c.args.items.now) spec c.in_ok-category.category c.args.line.now known c.in_ok-uap.ensures.no_flaw c.in_ok-category.ensures.octet c.new-cursor.result c.takes.new.self c.category.new.self c.opens.new.self c.records_built.new.cursor c.args.out.now c.records_built.new.out
-    c.new-cursor.ensures (search rules) c.in_ok-category.ensures.goes (search rules) c.in_ok-records_built.ensures.records c.in_ok-records_built.ensures.ended.0 c.in_ok-records_built.ensures.ended.1
+    c.new-cursor.ensures.gap c.new-cursor.ensures.level (search rules) c.in_ok-category.ensures.goes (search rules) c.in_ok-records_built.ensures.records c.in_ok-records_built.ensures.ended.0 c.in_ok-records_built.ensures.ended.1

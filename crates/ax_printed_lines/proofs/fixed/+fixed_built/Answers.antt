@@ -14,13 +14,13 @@ pub fixed_built-returns-else-not-opens : goal.fixed_built-returns-else-not-opens
 fixed_built-returns-else-not-opens t c =
     IfSome_then c.members_built.result c.members_built.ensures (λ done. group_built c.args.fixed.now c.in-Group.members c.args.cursor.now c.opens.new.self c.members_built.new.cursor c.args.out.now c.members_built.new.out c.in-Group.is (search rules))
 
+pub member_built-returns-else-not-takes_name : goal.member_built-returns-else-not-takes_name
+member_built-returns-else-not-takes_name t c =
+    IfSome_then c.fixed_built.result c.fixed_built.ensures (λ done. named_built c.args.member.now c.in-Named.name c.in-Named.fixed c.args.cursor.now c.takes_name.new.self c.fixed_built.new.cursor c.args.out.now c.fixed_built.new.out c.in-Named.is (search rules))
+
 pub member_built-returns-else-not-takes : goal.member_built-returns-else-not-takes
 member_built-returns-else-not-takes t c =
-    IfSome_then c.fixed_built.result c.fixed_built.ensures (λ done. named_built c.args.member.now c.in-Named.name c.octets.result.now c.in-Named.fixed c.args.cursor.now c.takes.new.self c.fixed_built.new.cursor c.args.out.now c.fixed_built.new.out c.in-Named.is c.octets.ensures.octets c.octets.ensures.name (search rules))
-
-pub member_built-returns-else-not-takes-2 : goal.member_built-returns-else-not-takes-2
-member_built-returns-else-not-takes-2 t c =
-    IfSome_then c.number_built.result c.number_built.ensures (λ done. spare_built c.args.member.now c.in-Spare.width c.args.cursor.now c.takes-in-Spare.new.self c.number_built.new.cursor c.args.out.now c.number_built.new.out c.in-Spare.is (search rules))
+    IfSome_then c.number_built.result c.number_built.ensures (λ done. spare_built c.args.member.now c.in-Spare.width c.args.cursor.now c.takes.new.self c.number_built.new.cursor c.args.out.now c.number_built.new.out c.in-Spare.is (search rules))
 
 pub members_built-loop-member-init : goal.members_built-loop-member-init
 members_built-loop-member-init t c = members_first (members_tree c.args.members.now) c.args.cursor.now c.args.out.now c.requires

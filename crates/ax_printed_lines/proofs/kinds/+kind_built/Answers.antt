@@ -1,10 +1,9 @@
-use Rattle.std.proofs.Common.{◌≡◌, ◌<◌, ◌≤◌, ◌+◌, ◌-◌, ℕ, [], ◌∷◌, true, false, length, drop, get_or, set, arith, ap, sym, ◌∙◌, subst, refl, rules}
+use Rattle.std.proofs.Common.{◌≡◌, ◌<◌, ◌≤◌, ◌+◌, ◌-◌, ℕ, true, false, length, drop, get_or, set, arith, ap, sym, ◌∙◌, subst, refl, rules}
 use Rattle.std.proofs.lemmas.Option.{IfSome_then}
 use Rattle.ax_block_reader.proofs.EntryWays.{slots_from, slots_past}
 use Rattle.ax_model.specs.Plain.{kind_tree, slot_tree, slots_tree}
-use Rattle.ax_printed_lines.specs.Printed.{IsOneWord, Goes}
-use Rattle.ax_printed_lines.proofs.Going.{name_one, fewer_left}
-use Rattle.ax_printed_lines.proofs.EntriesBuilt.{EntriesLeft, entries_first, entry_passed, entry_taken, entry_passed_by, entry_taken_by, entries_less, entries_done}
+use Rattle.ax_printed_lines.specs.Printed.{BuildsSlot}
+use Rattle.ax_printed_lines.proofs.EntriesBuilt.{EntriesLeft, entries_first, entry_passed, entry_taken, entry_passed_by, entry_taken_by, entries_less, entries_done, entries_ended}
 use Rattle.ax_printed_lines.proofs.KindsBuilt.{KindIsBuilt, CountedIsBuilt, EachLeft, fixed_of_kind, explicit_of_kind, extended_of_kind, counted_of_kind, by_fx_of_kind, compound_of_kind, each_first, each_next, each_less, each_done, counted_whole, compound_whole, sub_bounds, sub_built}
 use Rattle.ax_printed_lines.proofs.kinds.+kind_built.Goals.{entries_built-then-branch, entries_built-else-branch}
 use Rattle.ax_printed_lines.proofs.kinds.+kind_built.Goals as goal
@@ -62,20 +61,18 @@ each_built-returns-clause-built t c =
 
 pub counted_built-returns : goal.counted_built-returns
 counted_built-returns t c =
-    IfSome_then c.counted_content.result c.counted_content.ensures (λ done. counted_whole c.args.size (kind_tree c.args.kind.now) c.in_ok-count.count c.args.cursor.now c.each_built.new.cursor c.over-inner.result c.each_built.new.out c.args.out.now c.counted_content.new.out c.in_ok-count.ensures.few c.over-inner.ensures.written c.in_ok-count.ensures.built)
+    IfSome_then c.counted_content.result c.counted_content.ensures (λ done. counted_whole c.args.size (kind_tree c.args.kind.now) c.in_ok-count.count c.args.cursor.now c.each_built.new.cursor c.over-inner.result c.each_built.new.out c.args.out.now c.counted_content.new.out c.in_ok-count.ensures.few c.over-inner.ensures c.in_ok-count.ensures.built)
 
 -- ---- a subitem
 
 pub subitem_built-kind_built-requires : goal.subitem_built-kind_built-requires
 subitem_built-kind_built-requires t c =
-    let goes : IsOneWord c.octets.result.now → Goes c.args.cursor.now c.takes.new.self (c.octets.result.now ∷ []) = search rules in
-    let word : IsOneWord c.octets.result.now = subst IsOneWord (sym c.octets.ensures.octets) (name_one c.in-Sub.name c.octets.ensures.name) in
-    let less = fewer_left c.args.cursor.now c.takes.new.self c.octets.result.now [] (goes word) in
+    let less : length c.takes_name.new.self.left < length c.args.cursor.now.left = search rules in
     (omega (arith, less), sub_bounds c.args.slot.now c.in-Sub.name c.in-Sub.kind c.in-Sub.is c.requires)
 
 pub subitem_built-returns : goal.subitem_built-returns
 subitem_built-returns t c =
-    sub_built c.args.slot.now c.in-Sub.name c.octets.result.now c.in-Sub.kind c.args.cursor.now c.takes.new.self c.kind_built.new.cursor c.args.out.now c.kind_built.new.out c.in-Sub.is c.octets.ensures.octets c.octets.ensures.name (search rules) c.in_ok-kind_built.ensures
+    sub_built c.args.slot.now c.in-Sub.name c.in-Sub.kind c.args.cursor.now c.takes_name.new.self c.kind_built.new.cursor c.args.out.now c.kind_built.new.out c.in-Sub.is (search rules) c.in_ok-kind_built.ensures
 
 -- ---- entries
 
@@ -99,6 +96,8 @@ entries_built-loop-slot-preserved t c =
     let mid = c.loop-slot.out in
     let after = c.subitem_built.new.out in
     let number : c.loop-slot.number + 1 ≡ i + 1 = omega (arith, c.loop-slot.invariant.number) in
+    let still : c.closes.new.self ≡ now = search rules in
+    let builds : BuildsSlot (slot_tree s) c.in_ok-subitem_built.field-0 now next mid after = subst (λ z. BuildsSlot (slot_tree s) c.in_ok-subitem_built.field-0 z next mid after) still c.in_ok-subitem_built.ensures in
     elim c.if-branch.branch [
       | entries_built-then-branch w ↦ (
           let came : c.in_ok-subitem_built.field-0 ≡ true = search rules in
@@ -106,12 +105,12 @@ entries_built-loop-slot-preserved t c =
           let marked : w.mark.new.self ≡ set c.loop-slot.marks (i + 1 - 1) 1 = w.mark.ensures ∙ ap (λ n. set c.loop-slot.marks n 1) place in
           let built : EntriesLeft all c.if-branch.marks (i + 1) later old next before after =
           subst (λ m. EntriesLeft all m (i + 1) later old next before after) (sym w.marks-is)
-          (entry_taken all i (slot_tree s) later (slots_tree (drop i list)) at c.loop-slot.marks w.mark.new.self old now next before mid after c.loop-slot.invariant.built marked (entry_taken_by (slot_tree s) c.in_ok-subitem_built.field-0 now next mid after came c.in_ok-subitem_built.ensures)) in
+          (entry_taken all i (slot_tree s) later (slots_tree (drop i list)) at c.loop-slot.marks w.mark.new.self old now next before mid after c.loop-slot.invariant.built marked (entry_taken_by (slot_tree s) c.in_ok-subitem_built.field-0 now next mid after came builds)) in
           record { built = built; number = number; less = entries_less all c.if-branch.marks (i + 1) later old next before after built }
           )
       | entries_built-else-branch w ↦ (
           let came : c.in_ok-subitem_built.field-0 ≡ false = search rules in
-          let stays = entry_passed_by (slot_tree s) c.in_ok-subitem_built.field-0 now next mid after came c.in_ok-subitem_built.ensures in
+          let stays = entry_passed_by (slot_tree s) c.in_ok-subitem_built.field-0 now next mid after came builds in
           let passed = entry_passed all i (slot_tree s) later (slots_tree (drop i list)) at c.loop-slot.marks old now before mid c.loop-slot.invariant.built in
           let built : EntriesLeft all c.if-branch.marks (i + 1) later old next before after =
           subst (λ m. EntriesLeft all m (i + 1) later old next before after) (sym w.marks-is) (subst (λ z. EntriesLeft all c.loop-slot.marks (i + 1) later old z before after) (sym stays.0) (subst (λ o. EntriesLeft all c.loop-slot.marks (i + 1) later old now before o) (sym stays.1) passed)) in
@@ -119,13 +118,19 @@ entries_built-loop-slot-preserved t c =
           )
     ]
 
+pub entries_built-returns-then-closes : goal.entries_built-returns-then-closes
+entries_built-returns-then-closes t c =
+    let list = c.args.slots.now in
+    let i : ℕ = c.loop-slot.slot-index in
+    entries_ended (slots_tree list) c.loop-slot.marks i (slots_tree (drop i list)) c.args.cursor.now c.loop-slot.cursor c.closes.new.self c.args.out.now c.loop-slot.out c.loop-slot.invariant.built (search rules)
+
 pub entries_built-returns : goal.entries_built-returns
 entries_built-returns t c =
     let list = c.args.slots.now in
     let i : ℕ = c.loop-slot.slot-index in
-    entries_done (slots_tree list) c.loop-slot.marks i (slots_tree (drop i list)) c.args.cursor.now c.loop-slot.cursor c.closes.new.self c.args.out.now c.loop-slot.out
+    entries_done (slots_tree list) c.loop-slot.marks i (slots_tree (drop i list)) c.args.cursor.now c.loop-slot.cursor c.closes-2.new.self c.args.out.now c.loop-slot.out
     (slots_past list i (subst (λ xs. length xs ≤ i) c.as_slice-slot-items.ensures.members c.loop-slot-test.false)) c.loop-slot.invariant.built (search rules)
 
 pub compound_built-returns : goal.compound_built-returns
 compound_built-returns t c =
-    IfSome_then c.marked_content.result c.marked_content.ensures (λ done. compound_whole (slots_tree c.args.slots.now) c.in_ok-marks.marks c.args.cursor.now c.entries_built.new.cursor c.over-inner.result c.entries_built.new.out c.args.out.now c.marked_content.new.out c.over-inner.ensures.written c.in_ok-marks.ensures)
+    IfSome_then c.marked_content.result c.marked_content.ensures (λ done. compound_whole (slots_tree c.args.slots.now) c.in_ok-marks.marks c.args.cursor.now c.entries_built.new.cursor c.over-inner.result c.entries_built.new.out c.args.out.now c.marked_content.new.out c.over-inner.ensures c.in_ok-marks.ensures)

@@ -11,4 +11,4 @@ kind_built-requires c =
 pub returns : goal.returns
 returns c =
     let found : item_of_slot (Some c.args.slot.now) c.args.items.now.spec.now.items ≡ Some c.in_ok-item.item.now = search rules in
-    item_is_built c.args.items.now.spec.now.items c.args.slot.now c.in_ok-item.item.now c.in-Item.name c.octets.result.now c.args.cursor.now c.takes.new.self c.kind_built.new.cursor c.args.out.now c.kind_built.new.out c.in-Item.is c.octets.ensures.octets c.octets.ensures.name found (search rules) c.in_ok-kind_built.ensures
+    item_is_built c.args.items.now.spec.now.items c.args.slot.now c.in_ok-item.item.now c.in-Item.name c.args.cursor.now c.takes_name.new.self c.kind_built.new.cursor c.args.out.now c.kind_built.new.out c.in-Item.is found (search rules) c.in_ok-kind_built.ensures

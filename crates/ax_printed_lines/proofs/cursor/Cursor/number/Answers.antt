@@ -1,11 +1,10 @@
-use Rattle.std.proofs.Common.{◌≡◌, ◌≤◌, ◌<◌, ◌^◌, ◌∷◌, ◌++◌, rules, arith}
-use Rattle.ax_printed_lines.proofs.Going.{number_goes}
+use Rattle.std.proofs.Common.{◌≡◌, ◌≤◌, ◌++◌, decimal, rules}
+use Rattle.ax_printed_lines.proofs.Going.{digits_go}
 use Rattle.ax_printed_lines.proofs.cursor.Cursor.number.Goals as goal
 
 pub returns : goal.returns
 returns c =
-    let left : c.args.self.now.left ≡ c.in_ok-digits.digits.now ++ 0x20 ∷ c.in_ok-digits.later.now = search rules in
+    let left : c.args.self.now.left ≡ decimal c.in_ok-number.number ++ c.in_ok-number.following.now = search rules in
     let level : c.self.inside.level ≡ c.args.self.now.level = search rules in
     let within : c.args.self.now.level ≤ 20 = search rules in
-    let small : c.in_ok-number.number < 2 ^ 64 = omega arith in
-    number_goes _ _ _ _ small c.in_ok-number.ensures left level within
+    digits_go _ _ c.in_ok-number.number c.in_ok-number.following.now c.in_ok-number.ensures.below left c.in_ok-later.ensures.gap c.in_ok-later.ensures.ended level within

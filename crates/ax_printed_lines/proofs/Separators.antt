@@ -1,0 +1,41 @@
+-- Separators behind a token.
+use Rattle.std.proofs.Common.{◌≡◌, ℕ, true, List, [], ◌∷◌, ◌++◌, refl, sym, ◌∙◌, ap, subst, append_assoc}
+use Rattle.std.specs.List.{list_all}
+use Rattle.std.proofs.lemmas.Bool.{and_from, and_parts}
+use Rattle.ax_tokens.specs.Lexing.{MayFollow}
+use Rattle.ax_tokens.specs.Octets.{is_separator}
+use Rattle.ax_tokens.specs.declared.token.TokenKind.{TokenKind}
+use Rattle.ax_tokens.specs.declared.token.TokenKind.TheVariants.{Word}
+use Rattle.ax_printed_lines.specs.Printed.{AfterGap, Stands}
+
+pub no_gap : (octets : List ℕ) → AfterGap octets octets
+no_gap octets = record { gap = []; split = refl; each = refl }
+
+one_more : (gap : List ℕ) (x : ℕ) → list_all is_separator gap ≡ true → is_separator x ≡ true → list_all is_separator (gap ++ x ∷ []) ≡ true
+one_more [] x h e = and_from (is_separator x) true e refl
+one_more (y ∷ gap) x h e = let p = and_parts (is_separator y) (list_all is_separator gap) h in and_from (is_separator y) (list_all is_separator (gap ++ x ∷ [])) p.0 (one_more gap x p.1 e)
+
+pub gap_more : (octets left later : List ℕ) (x : ℕ) → AfterGap octets left → left ≡ x ∷ later → is_separator x ≡ true → AfterGap octets later
+gap_more octets left later x g e s = record {
+  gap = g.gap ++ x ∷ [];
+  split = g.split ∙ ap (λ l. g.gap ++ l) e ∙ sym (append_assoc g.gap (x ∷ []) later);
+  each = one_more g.gap x g.each s;
+}
+
+pub ruleset gaps = (no_gap, gap_more)
+
+pub ends_there : (octets : List ℕ) → octets ≡ [] → MayFollow Word octets
+ends_there octets e = subst (MayFollow Word) (sym e) tt
+
+pub ruleset ends = (ends_there)
+
+-- a token in front of a gap
+pub stands_there : (kind : TokenKind) (text following octets left : List ℕ) → octets ≡ text ++ following → AfterGap following left → MayFollow kind following → Stands kind text octets left
+stands_there kind text following octets left e g f = record {
+  gap = g.gap;
+  split = e ∙ ap (λ l. text ++ l) g.split;
+  each = g.each;
+  follows = subst (MayFollow kind) g.split f;
+}
+
+pub ruleset stands = (stands_there)

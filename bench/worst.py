@@ -195,7 +195,7 @@ def slots():
             data(all_marked + b"\0" * 126, 1_000_000),
         ),
         Case("a UAP of 126 items, slot 1 alone", ("text", "build"), fields, data(b"\x80\7", 1_000_000)),
-        Case("a UAP of 126 items, slot 126 alone", ("text",), fields, data(b"\1" * 17 + b"\2\7", 1_000_000)),
+        Case("a UAP of 126 items, slot 126 alone", ("text", "build"), fields, data(b"\1" * 17 + b"\2\7", 1_000_000)),
         Case(
             "a UAP of 126 items, presence fields of 18 octets, none marked",
             ("canon",),
@@ -288,9 +288,12 @@ def usual_rows(room, binary, stream, commands, spaced):
         words = words_of(binary, command, "is 048/010/SAC = 25", files)
         yield Row("the usual stream", command, words, sources.get(command, stream))
     if spaced:
-        lines = room / "spaced"
-        lines.write_bytes(sources["build"].read_bytes().replace(b" ", b"  "))
-        yield Row("the usual stream's text, two spaces between tokens", "build", words_of(binary, "build", "", SAMPLES), lines)
+        text = sources["build"].read_bytes()
+        tight = text.replace(b" { ", b"{").replace(b" } ", b"}").replace(b" }", b"}").replace(b"} ", b"}")
+        for name, octets in (("two spaces between tokens", text.replace(b" ", b"  ")), ("tabs, none beside braces", tight.replace(b" ", b"\t"))):
+            lines = room / name.replace(" ", "_")
+            lines.write_bytes(octets)
+            yield Row(f"the usual stream's text, {name}", "build", words_of(binary, "build", "", SAMPLES), lines)
 
 
 def bounded():

@@ -1,6 +1,6 @@
 //! The tests of the codec across crates: category files are read and accepted, and their blocks decoded, encoded and
-//! copied, each body read by trees and by views alike; and of relations of editions, and of blocks that are migrated by them,
-//! as trees and as views. It holds nothing public.
+//! copied, each body read by trees and by views alike; of relations of editions, and of blocks that are migrated by them, as trees
+//! and as views; of numbers under other scales, and of blocks that are split. It holds nothing public.
 #![tactic(auto)]
 
 #[cfg(test)]
@@ -30,6 +30,8 @@ mod records;
 #[cfg(test)]
 mod relations;
 #[cfg(test)]
+mod rescaled_numbers;
+#[cfg(test)]
 mod rows;
 #[cfg(test)]
 mod seeing;
@@ -37,5 +39,7 @@ mod seeing;
 mod shown;
 #[cfg(test)]
 mod shown_specs;
+#[cfg(test)]
+mod split_blocks;
 #[cfg(test)]
 mod views;

@@ -12,6 +12,7 @@ pub mod ConvertedLists
 pub mod ConvertedOnce
 pub mod ConvertedShape
 pub mod Converters
+pub mod ConvertingWays
 pub mod CountedKinds
 pub mod Divisors
 pub mod EachSteps
@@ -20,6 +21,7 @@ pub mod FrontSteps
 pub mod GroupSteps
 pub mod KeyFates
 pub mod MissedKeys
+pub mod NothingConverted
 pub mod Once
 pub mod PassedEntries
 pub mod PieceLists

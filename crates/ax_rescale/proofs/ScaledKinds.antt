@@ -23,7 +23,7 @@ holds_not : (b : Bool) (kind : FlawKind) (path : List ℕ) → flaw_where b kind
 holds_not true kind path e = cc
 holds_not false kind path e = refl
 
-neither : (a b : Bool) → (a || b) ≡ false → (a ≡ false) × (b ≡ false)
+pub neither : (a b : Bool) → (a || b) ≡ false → (a ≡ false) × (b ≡ false)
 neither true b e = cc
 neither false b e = (refl, e)
 

@@ -8,6 +8,7 @@ pub mod Converted
 pub mod ConvertedRecord
 pub mod ConvertedValue
 pub mod Converting
+pub mod Converts
 pub mod KeyFates
 pub mod MemberShapes
 pub mod Missed

@@ -2,15 +2,18 @@
 ghost use Rattle.std.specs.Prelude.{◌≡◌, [], ◌∷◌, false, true, None, Some, codes};
 ghost use Rattle.ax_model.specs.Blocks.{BlockTree, Fits, read_block};
 ghost use Rattle.ax_model.specs.Bodies.{RecordShape};
+ghost use Rattle.ax_edition_laws.specs.Moved.{moved_record};
 ghost use Rattle.ax_model.specs.Flaws.{NoFlaw};
+ghost use Rattle.ax_model.specs.Migrated.{Lost};
 ghost use Rattle.ax_model.specs.Named.{Key, Named, NamedEntry};
 ghost use Rattle.ax_model.specs.Specification.{SpecTree};
 ghost use Rattle.ax_model.specs.Tree.{EntriesTree, KindTree, ValueTree, no_entries};
-ghost use Rattle.ax_rescale.specs.Conversion.{BlockConversion, Conversion, is_missed};
+ghost use Rattle.ax_rescale.specs.Conversion.{BlockConversion, Conversion, convertible, is_missed, Missed};
 ghost use Rattle.ax_rescale.specs.ConversionExamples.{counted_in, of_number};
 ghost use Rattle.ax_rescale.specs.Converted.{Converted};
 ghost use Rattle.ax_rescale.specs.ConvertedRecord.{converted_record};
 ghost use Rattle.ax_rescale.specs.ConvertedValue.{converted_value};
+ghost use Rattle.ax_rescale.specs.Converts.{converting_slots, stands_in};
 ghost use Rattle.ax_rescale.specs.KeyFates.{Fate, HasFate};
 ghost use Rattle.ax_rescale.specs.Misses.{block_misses};
 ghost use Rattle.ax_rescale.specs.Scales.{Scaled};
@@ -54,4 +57,13 @@ pub fn records_converted()
     ensures lost { block_misses (counted_in 4 2 (codes "s")) (counted_in 4 2 (codes "min")) (read_block 202 (of_number 3 ∷ []))
         ≡ record { record_at = 0; path = codes "202/010"; unconverted = false } ∷ [] }
     ensures nothing { converted_record (counted_in 4 2 (codes "s")) (counted_in 4 2 (codes "min")) (of_number 3) ≡ no_entries }
+{}
+
+/// Of a record in which no value stands from which something is converted, converting is migrating: the converted record is the
+/// migrated one, no key that is present can be converted, and what is missed is what is lost. So it is of each record where
+/// nothing is converted between the two editions, whose `converting_slots` are none then.
+pub fn migrates_where_nothing_is_converted()
+    ensures record { (old new : SpecTree) (entries : EntriesTree) → stands_in (converting_slots old new) entries ≡ false → converted_record old new entries ≡ moved_record old new entries }
+    ensures present { (old new : SpecTree) (entries : EntriesTree) (key : Key) (entry : NamedEntry) → stands_in (converting_slots old new) entries ≡ false → Named old entries key ≡ Some entry → convertible old new key ≡ None }
+    ensures missed { (old new : SpecTree) (entries : EntriesTree) → stands_in (converting_slots old new) entries ≡ false → Missed old new entries ≡ Lost old new entries }
 {}

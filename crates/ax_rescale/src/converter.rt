@@ -40,7 +40,11 @@ pub struct Converter<'x> {
 
 /// The ways from the slots of the one edition to those of the other.
 #[tactic(auto, using(crate::proofs::Converters::ways))]
-fn ways_between<'x>(alloc: Global, old: &'x Spec, new: &'x Spec) -> Result<Ways<'x>, AllocError>
+pub(crate) fn ways_between<'x>(
+    alloc: Global,
+    old: &'x Spec,
+    new: &'x Spec,
+) -> Result<Ways<'x>, AllocError>
     ensures { IfOk result (λ ways. map way_tree ways ≡ record_ways (spec_tree old.now) (spec_tree new.now)) }
 {
     let old_items = slot_items(alloc, old)?;

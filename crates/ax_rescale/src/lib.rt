@@ -5,6 +5,7 @@ mod alike;
 mod beside;
 mod conversion_laws;
 mod converter;
+mod convertible;
 mod divisor;
 mod error;
 mod examples;
@@ -17,10 +18,6 @@ mod missing;
 mod number;
 mod octets;
 mod passing;
-#[cfg(test)]
-mod rows;
-#[cfg(test)]
-mod split_rows;
 mod splitting;
 mod value_laws;
 mod values;
@@ -30,9 +27,10 @@ mod ways;
 pub use alike::is_alike;
 pub use conversion_laws::{
     converted_value_is_the_one, converts_to_one_block, converts_to_one_record,
-    each_key_has_one_fate, records_converted,
+    each_key_has_one_fate, migrates_where_nothing_is_converted, records_converted,
 };
 pub use converter::{ConvertedBlock, Converter, convert_tree};
+pub use convertible::converting_slots;
 pub use error::SplitError;
 pub use examples::{converted_numbers, lines_of_misses};
 pub use kind_examples::{

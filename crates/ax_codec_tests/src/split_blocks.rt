@@ -2,13 +2,12 @@
 //! counter; a block has three more.
 ghost use Rattle.ax_rescale.specs.Splits.{IsRead};
 
-use crate::error::SplitError;
-use crate::splitting::{Pieces, split};
 use ax_check::{Accepted, accept};
 use ax_model::{
     Block, Content, Counter, Entries, Entry, Fixed, Item, Items, Kind, Name, Record, Records, Spec,
     Text, UapSlot, UapSlots, Value, Values, fits,
 };
+use ax_rescale::{Pieces, SplitError, split};
 use std::alloc::Global;
 use std::process::Abort;
 

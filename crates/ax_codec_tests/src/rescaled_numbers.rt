@@ -1,9 +1,9 @@
 //! Rows of numbers under other scales.
 ghost use Rattle.std.specs.Prelude.{◌≡◌, ◌<◌, ◌≤◌};
 
-use crate::number::convert_number;
 use ax_model::Sign::{Signed, Unsigned};
 use ax_model::{Scale, Sign, Text};
+use ax_rescale::convert_number;
 use std::alloc::Global;
 use std::process::Abort;
 

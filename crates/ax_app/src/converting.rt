@@ -11,10 +11,12 @@ ghost use Rattle.ax_stream.specs.Streams.{IsIdle};
 
 use ax_check::Accepted;
 use ax_command::{JobStop, Outcome};
-use ax_convert_work::ConvertTrees;
+use ax_convert_work::ConvertBlocks;
 use ax_edition::Relation;
+use ax_migrate_views::Migrator;
 use ax_outside::{Sink, Source};
 use ax_stream::run_blocks;
+use ax_tables::compile;
 use std::alloc::Global;
 
 /// `convert`: each block of the old edition in the new one, by the relation of the two.
@@ -34,7 +36,13 @@ pub(crate) fn convert_blocks<'x, S: Source, K: Sink, R: Sink>(
     ensures idle { OnErr result (IsIdle (source_change S.Source source.old source.new) (sink_change K.Sink out.old out.new) (sink_change R.Sink report.old report.new)) }
     ensures later { NoFaultFell (source_change S.Source source.old source.new) (sink_change K.Sink out.old out.new) (sink_change R.Sink report.old report.new) }
 {
-    let Ok(mut work) = ConvertTrees::new(alloc, relation, old, new) else {
+    let Ok(codec) = compile(alloc, old) else {
+        return Err(JobStop::OutOfMemory);
+    };
+    let Ok(migrator) = Migrator::new(alloc, old.spec(), new.spec(), relation, &codec) else {
+        return Err(JobStop::OutOfMemory);
+    };
+    let Ok(mut work) = ConvertBlocks::new(alloc, relation, old, new, &migrator) else {
         return Err(JobStop::OutOfMemory);
     };
     Ok(Outcome::from(run_blocks(alloc, &mut work, source, out, report)))

@@ -12,6 +12,10 @@ use Rattle.ax_stream.specs.Commands.{BlockCommand, BlockAnswer, gives, too_long}
 abbrev pub told_octets : ℕ → ℕ
 told_octets count = min count 4294967295
 
+abbrev pub told_answer : BlockAnswer → BlockAnswer
+told_answer (gives lines octets) = gives lines octets
+told_answer (too_long count) = too_long (told_octets count)
+
 -- a record that is too long for a block of its own refuses the whole block
 abbrev pub unless_too_long : Option ℕ → List ℕ → List ℕ → BlockAnswer
 unless_too_long (Some count) lines octets = too_long (told_octets count)

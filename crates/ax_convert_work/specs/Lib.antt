@@ -1,2 +1,3 @@
 pub mod ConvertCommand
 pub mod Making
+pub mod Standing

@@ -1,13 +1,18 @@
 //! The laws of `convert`. Each function stands for what its contract says.
-ghost use Rattle.std.specs.Prelude.{◌≡◌, ℕ, List, [], None, Some};
-ghost use Rattle.ax_convert_work.specs.ConvertCommand.{convert_command, told_octets, unless_too_long};
+ghost use Rattle.std.specs.Prelude.{◌≡◌, ℕ, List, [], ◌∷◌, None, Some, false};
+ghost use Rattle.ax_convert_work.specs.ConvertCommand.{convert_command, told_answer, told_octets, unless_too_long};
+ghost use Rattle.ax_convert_work.specs.Standing.{MayConvert};
+ghost use Rattle.ax_migrate_work.specs.Commands.{migrate_command};
 ghost use Rattle.ax_model.specs.Blocks.{BlockTree, Fits, read_block, opaque_block};
 ghost use Rattle.ax_model.specs.CanonicalOctets.{framed};
+ghost use Rattle.ax_model.specs.Ends.{RawSpells};
 ghost use Rattle.ax_model.specs.Flaws.{NoFlaw};
+ghost use Rattle.ax_model.specs.Framing.{RawTree};
 ghost use Rattle.ax_model.specs.Specification.{SpecTree};
 ghost use Rattle.ax_model.specs.Split.{first_too_long, split_octets};
 ghost use Rattle.ax_model.specs.Tree.{EntriesTree};
 ghost use Rattle.ax_rescale.specs.Conversion.{BlockConversion};
+ghost use Rattle.ax_rescale.specs.Converts.{converting_slots};
 ghost use Rattle.ax_rescale.specs.Misses.{block_misses, missed_lines};
 ghost use Rattle.ax_stream.specs.Commands.{gives, too_long};
 
@@ -23,4 +28,14 @@ pub fn convert_answers_by_the_converted_block()
     ensures opaque { (old new : SpecTree) (number category : ℕ) (content : List ℕ) → (convert_command old new).answer number (opaque_block category content) ≡ gives [] (framed category content) }
     ensures told { unless_too_long (Some 65536) [] [] ≡ too_long 65536 }
     ensures held { unless_too_long (Some 4294967296) [] [] ≡ too_long 4294967295 }
+{}
+
+/// A block in which nothing may be converted is answered as `migrate` answers it, but that at most 4,294,967,295 octets of a record
+/// that is too long are told; where octets spell the block there are never more, so that the answer is the same. Where the two
+/// editions have nothing that is converted, each block is such a block.
+pub fn migrates_where_nothing_is_converted()
+    ensures told { (old new : SpecTree) (number : ℕ) (block : BlockTree) → MayConvert old new block ≡ false → (convert_command old new).answer number block ≡ told_answer ((migrate_command old new).answer number block) }
+    ensures spelled { (old new : SpecTree) (number : ℕ) (raw : RawTree) (block : BlockTree) → NoFlaw old → NoFlaw new → MayConvert old new block ≡ false → RawSpells (old ∷ []) raw block
+        → (convert_command old new).answer number block ≡ (migrate_command old new).answer number block }
+    ensures each { (old new : SpecTree) (block : BlockTree) → converting_slots old new ≡ [] → MayConvert old new block ≡ false }
 {}

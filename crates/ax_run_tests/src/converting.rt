@@ -12,7 +12,7 @@ const MISSED: &str = "unconverted block 0 record 0 209/010\n";
 
 // The words and the input; and the output and the report of a run that is done. Each input is read to its end. A number n becomes
 // the m for which m times the new scale is n times the old one.
-static CONVERTED: [(&str, &str, &str, &str); 22] = [
+static CONVERTED: [(&str, &str, &str, &str); 26] = [
     // 256/128 is 512/256.
     ("convert Y1 Y2", ONE, "D1 00 07 80 00 02 00", ""),
     // 256/128 is 128/64; 257/128 is no 64th, and 512/128 is 256/64, which 8 bits don't have.
@@ -142,6 +142,32 @@ static CONVERTED: [(&str, &str, &str, &str); 22] = [
         "D1 00 06 A0 04 06",
         "D1 00 06 50 03 02",
         "",
+    ),
+    // A block without such an item before one with it, and a record.
+    (
+        "convert four-1 four-2",
+        "D1 00 05 40 11 D1 00 05 80 04",
+        "D1 00 04 00 D1 00 05 10 02",
+        "lost block 0 record 0 209/020\n",
+    ),
+    (
+        "convert four-1 four-2",
+        "D1 00 07 40 11 80 04",
+        "D1 00 06 00 10 02",
+        "lost block 0 record 0 209/020\n",
+    ),
+    // Two editions without a quantity: a subitem is lost, and a block of another category passes.
+    (
+        "convert H1 H2",
+        "CA 00 08 80 C0 11 22 33",
+        "CA 00 07 80 80 22 33",
+        "lost block 0 record 0 202/010/A\n",
+    ),
+    (
+        "convert H1 H2",
+        "3E 00 05 80 FF CA 00 06 80 80 11",
+        "3E 00 05 80 FF CA 00 05 80 00",
+        "lost block 1 record 0 202/010/A\n",
     ),
 ];
 
@@ -375,4 +401,19 @@ fn long_records_are_converted_or_refused(rt: HostRuntime) {
             want,
         );
     }
+}
+
+// A record without a quantity, of 65,532 octets, which gets a presence field of two octets for one.
+#[test]
+fn a_long_record_without_a_quantity_is_refused(rt: HostRuntime) {
+    let alloc = rt.alloc();
+    let front = [0xD0, 0xFF, 0xFF, 0x80];
+    let input = repeated(&rt, alloc, &front, 65_530, &[0x01], &[0x00]);
+    let want = Left {
+        status: 3,
+        out: b"",
+        report: b"refused block 0 MigratedTooLong 65536\n",
+        left: 0,
+    };
+    leaves(&rt, alloc, "convert J1 J2", &input, Outside::Sound, want);
 }

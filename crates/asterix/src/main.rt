@@ -1,9 +1,13 @@
 //! The program `asterix`: it makes the real library, source and sinks, and leaves all else to `run`.
 #![tactic(auto)]
 
+mod held;
+mod own_lines;
 mod tied;
 
-use crate::tied::{Shared, TiedReader, TiedReport, TiedWriter, flush_shared, share};
+use crate::held::Failed;
+use crate::own_lines::own_lines;
+use crate::tied::{Shared, TiedReader, TiedReport, TiedWriter, close_shared, share};
 use ax_app::{Outcome, run};
 use ax_command::write_lines;
 use ax_outside::{FolderLibrary, ReadSource, WriteSink};
@@ -25,12 +29,12 @@ fn words_of(alloc: Global, rt: &HostRuntime) -> io::Result<Vec<String>> {
     }
 }
 
-/// Standard input through a buffer, tied to the output.
+/// Standard input through a buffer, tied to the output and the report.
 fn input_of<'s>(
     alloc: Global,
     input: Stdin,
-    shared: &'s Shared<Stdout>,
-) -> io::Result<BufReader<TiedReader<'s, Stdin, Stdout>>> {
+    shared: &'s Shared<Stdout, Stderr>,
+) -> io::Result<BufReader<TiedReader<'s, Stdin, Stdout, Stderr>>> {
     BufReader::with_capacity(alloc, INPUT_BUFFER, TiedReader::new(input, shared))
 }
 
@@ -42,14 +46,20 @@ fn out_of_memory(report: Stderr) -> ExitCode {
     ExitCode::from(Outcome::OutOfMemory.status())
 }
 
-/// Whether a run that ended so has told of a failed write, or can't.
-fn has_told(outcome: &Outcome) -> bool {
-    matches!(outcome, Outcome::WriteFault | Outcome::ReportFault)
+/// How the program ends where a write of what was held back has failed that a run which ended so doesn't know of.
+fn late_ending(outcome: &Outcome, failed: Option<Failed>) -> Option<Outcome> {
+    match (outcome, failed) {
+        (Outcome::WriteFault | Outcome::ReportFault, _) => None,
+        (_, Some(Failed::Output)) => Some(Outcome::WriteFault),
+        (_, Some(Failed::Line)) => Some(Outcome::ReportFault),
+        (_, Some(Failed::ToldLine) | None) => None,
+    }
 }
 
 fn main(rt: HostRuntime) -> ExitCode {
     let alloc = rt.alloc();
-    let (Ok(words), Ok(shared)) = (words_of(alloc, &rt), share(alloc, rt.stdout())) else {
+    let (Ok(words), Ok(shared)) = (words_of(alloc, &rt), share(alloc, rt.stdout(), rt.stderr()))
+    else {
         return out_of_memory(rt.stderr());
     };
     let Ok(input) = input_of(alloc, rt.stdin(), &shared) else {
@@ -57,7 +67,7 @@ fn main(rt: HostRuntime) -> ExitCode {
     };
     let mut source = ReadSource::new(input);
     let mut out = WriteSink::new(TiedWriter::new(&shared));
-    let mut report = WriteSink::new(TiedReport::new(rt.stderr(), &shared));
+    let mut report = WriteSink::new(TiedReport::new(&shared));
     let mut library = FolderLibrary::new(rt);
     let outcome = run(
         alloc,
@@ -67,10 +77,10 @@ fn main(rt: HostRuntime) -> ExitCode {
         &mut out,
         &mut report,
     );
-    if flush_shared(&shared) || has_told(&outcome) {
+    let failed = close_shared(&shared, own_lines(alloc, &outcome));
+    let Some(late) = late_ending(&outcome, failed) else {
         return ExitCode::from(outcome.status());
-    }
-    // What was held back could not be written, and no write came after it.
-    let _ = write_lines(&mut report, &Outcome::WriteFault);
-    ExitCode::from(Outcome::WriteFault.status())
+    };
+    let _ = write_lines(&mut report, &late);
+    ExitCode::from(late.status())
 }

@@ -1,132 +1,110 @@
-//! Standard input, output and report, tied together: what is buffered for the output is written before each read that goes to
-//! the system and before each write to the report, so that a block is out as soon as nothing more is there to be read.
+//! Standard input, output and report, tied together: what is held back for the output and the report is written before each read
+//! that goes to the system, so that a block and its lines are out as soon as nothing more is there to be read.
 ghost use Rattle.std.specs.Prelude.{◌≤◌, length, IfOk};
 
+use crate::held::{Failed, Held};
 use std::alloc::Global;
 use std::cell::RefCell;
-use std::io::{self, BufWriter, ErrorKind, Read, Write};
+use std::io::{self, ErrorKind, Read, Write};
 
-/// The octets of output that are held back, at most.
-const OUTPUT_BUFFER: usize = 65_536;
+/// What is held back, as the three ends share it.
+pub type Shared<W, P> = RefCell<Held<W, P>>;
 
-/// An output through a buffer, and whether a write has failed. After that nothing more is written.
-#[derive(Drop)]
-pub struct Buffered<W: Write + Drop> {
-    writer: BufWriter<W>,
-    failed: bool,
+/// That output and that report, with room for what is held back. An `Err` is want of memory.
+pub fn share<W: Write + Drop, P: Write + Drop>(
+    alloc: Global,
+    out: W,
+    report: P,
+) -> io::Result<Shared<W, P>> {
+    Ok(RefCell::new(Held::new(alloc, out, report)?))
 }
 
-/// The output, as the three ends hold it.
-pub type Shared<W> = RefCell<Buffered<W>>;
-
-/// That output through a new buffer. An `Err` is want of memory.
-pub fn share<W: Write + Drop>(alloc: Global, inner: W) -> io::Result<Shared<W>> {
-    let writer = BufWriter::with_capacity(alloc, OUTPUT_BUFFER, inner)?;
-    Ok(RefCell::new(Buffered {
-        writer,
-        failed: false,
-    }))
-}
-
-impl<W: Write + Drop> Buffered<W> {
-    fn write(&mut self, piece: &[u8]) -> io::Result<usize>
-        ensures { IfOk result (λ n. n ≤ length piece.now) }
-    {
-        if self.failed {
-            return Err(io::Error::from(ErrorKind::BrokenPipe));
-        }
-        let written = self.writer.write(piece);
-        self.failed = written.is_err();
-        written
-    }
-
-    fn flush(&mut self) -> bool {
-        if !self.failed {
-            self.failed = self.writer.flush().is_err();
-        }
-        !self.failed
-    }
-}
-
-/// Writes what is held back, and answers whether all that was given so far is out.
-pub fn flush_shared<W: Write + Drop>(shared: &Shared<W>) -> bool {
+/// Writes what is held back, and answers whether a write has failed, as `Held::close` does.
+pub fn close_shared<W: Write + Drop, P: Write + Drop>(
+    shared: &Shared<W, P>,
+    own: usize,
+) -> Option<Failed> {
     match shared.try_borrow_mut() {
-        Ok(mut output) => output.flush(),
-        Err(_) => false,
+        Ok(mut held) => held.close(own),
+        Err(_) => Some(Failed::Output),
+    }
+}
+
+fn flush_shared<W: Write + Drop, P: Write + Drop>(shared: &Shared<W, P>) {
+    if let Ok(mut held) = shared.try_borrow_mut() {
+        held.flush();
     }
 }
 
 /// The output to write to.
 #[derive(Drop)]
-pub struct TiedWriter<'s, W: Write + Drop> {
-    shared: &'s Shared<W>,
+pub struct TiedWriter<'s, W: Write + Drop, P: Write + Drop> {
+    shared: &'s Shared<W, P>,
 }
 
-impl<'s, W: Write + Drop> TiedWriter<'s, W> {
-    pub fn new(shared: &'s Shared<W>) -> TiedWriter<'s, W> {
+impl<'s, W: Write + Drop, P: Write + Drop> TiedWriter<'s, W, P> {
+    pub fn new(shared: &'s Shared<W, P>) -> TiedWriter<'s, W, P> {
         TiedWriter { shared }
     }
 }
 
-impl<'s, W: Write + Drop> Write for TiedWriter<'s, W> {
+impl<'s, W: Write + Drop, P: Write + Drop> Write for TiedWriter<'s, W, P> {
     fn write(&mut self, piece: &[u8]) -> io::Result<usize> {
         match self.shared.try_borrow_mut() {
-            Ok(mut output) => output.write(piece),
+            Ok(mut held) => held.write_octets(piece),
             Err(_) => Err(io::Error::from(ErrorKind::ResourceBusy)),
         }
     }
 
     fn flush(&mut self) -> io::Result<()> {
-        if flush_shared(self.shared) {
-            Ok(())
-        } else {
-            Err(io::Error::from(ErrorKind::BrokenPipe))
-        }
+        flush_shared(self.shared);
+        Ok(())
     }
 }
 
-/// An input, before each read of which the output's buffer is written. Where that fails the read goes on, and the next write
-/// to the output fails.
+/// The report to write to.
 #[derive(Drop)]
-pub struct TiedReader<'s, R: Read, W: Write + Drop> {
-    inner: R,
-    shared: &'s Shared<W>,
+pub struct TiedReport<'s, W: Write + Drop, P: Write + Drop> {
+    shared: &'s Shared<W, P>,
 }
 
-impl<'s, R: Read, W: Write + Drop> TiedReader<'s, R, W> {
-    pub fn new(inner: R, shared: &'s Shared<W>) -> TiedReader<'s, R, W> {
+impl<'s, W: Write + Drop, P: Write + Drop> TiedReport<'s, W, P> {
+    pub fn new(shared: &'s Shared<W, P>) -> TiedReport<'s, W, P> {
+        TiedReport { shared }
+    }
+}
+
+impl<'s, W: Write + Drop, P: Write + Drop> Write for TiedReport<'s, W, P> {
+    fn write(&mut self, piece: &[u8]) -> io::Result<usize> {
+        match self.shared.try_borrow_mut() {
+            Ok(mut held) => held.write_lines(piece),
+            Err(_) => Err(io::Error::from(ErrorKind::ResourceBusy)),
+        }
+    }
+
+    fn flush(&mut self) -> io::Result<()> {
+        flush_shared(self.shared);
+        Ok(())
+    }
+}
+
+/// An input, before each read of which what is held back is written. Where that fails the read goes on, and the next write
+/// fails.
+#[derive(Drop)]
+pub struct TiedReader<'s, R: Read, W: Write + Drop, P: Write + Drop> {
+    inner: R,
+    shared: &'s Shared<W, P>,
+}
+
+impl<'s, R: Read, W: Write + Drop, P: Write + Drop> TiedReader<'s, R, W, P> {
+    pub fn new(inner: R, shared: &'s Shared<W, P>) -> TiedReader<'s, R, W, P> {
         TiedReader { inner, shared }
     }
 }
 
-impl<'s, R: Read, W: Write + Drop> Read for TiedReader<'s, R, W> {
+impl<'s, R: Read, W: Write + Drop, P: Write + Drop> Read for TiedReader<'s, R, W, P> {
     fn read(&mut self, into: &mut [u8]) -> io::Result<usize> {
         flush_shared(self.shared);
         self.inner.read(into)
-    }
-}
-
-/// A report, before each write to which the output's buffer is written. Where that fails the write goes on, and the next
-/// write to the output fails.
-#[derive(Drop)]
-pub struct TiedReport<'s, P: Write + Drop, W: Write + Drop> {
-    inner: P,
-    shared: &'s Shared<W>,
-}
-
-impl<'s, P: Write + Drop, W: Write + Drop> TiedReport<'s, P, W> {
-    pub fn new(inner: P, shared: &'s Shared<W>) -> TiedReport<'s, P, W> {
-        TiedReport { inner, shared }
-    }
-}
-
-impl<'s, P: Write + Drop, W: Write + Drop> Write for TiedReport<'s, P, W> {
-    fn write(&mut self, piece: &[u8]) -> io::Result<usize> {
-        flush_shared(self.shared);
-        self.inner.write(piece)
-    }
-
-    fn flush(&mut self) -> io::Result<()> {
-        self.inner.flush()
     }
 }

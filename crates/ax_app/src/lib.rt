@@ -11,5 +11,7 @@ mod loading;
 mod outcomes;
 
 pub use ax_command::{Cause, FilterFault, InputFault, Outcome, SpecFault, TextFault};
+pub use ax_drive::{DriveEnd, Job, Work, drive};
+pub use ax_words::{Line, read_words};
 pub use gateway::run;
 pub use laws::one_answer;

@@ -1,0 +1,4 @@
+mod MadeBlocks
+mod MemberPresence
+mod OpaqueTokens
+mod Widths

@@ -1,13 +1,14 @@
 -- What the octets taken show: a block, or an end of framing.
-use Rattle.std.proofs.Common.{◌≡◌, ℕ, suc, ◌+◌, ◌-◌, ◌*◌, ◌<◌, ◌≤◌, inr, List, [], ◌∷◌, ◌++◌, Option, Some, None, get_or, length, take, drop, refl, sym, ◌∙◌, ap, arith, subst, length-append, length-take-le}
+use Rattle.std.proofs.Common.{◌≡◌, ℕ, suc, ◌+◌, ◌-◌, ◌*◌, ◌<◌, ◌≤◌, inl, inr, List, [], ◌∷◌, ◌++◌, Option, Some, None, get_or, length, take, drop, refl, sym, ◌∙◌, ap, arith, subst, length-append, length-take-le}
 use Rattle.std.specs.Int.{w16, from_be_bytes}
 use Rattle.std.specs.Prelude.{Result, Ok, Err, IsErrAnd, IfSome}
 use Rattle.ax_blocks.specs.declared.next_error.NextError.{NextError}
 use Rattle.ax_blocks.specs.declared.next_error.NextError.TheVariants.{InputTooLong, ReadFault}
 use Rattle.ax_blocks.specs.Reader.{ReaderState, IsOpen, IsAfter, GivesBlock, FindsEnd, StopsUnfinished, HoldsBlock, OnEnd, OnReadFault}
-use Rattle.ax_blocks.specs.Taking.{OnTold, Took, PartTaken, PartPastRoom, PartCut, PartMeans}
+use Rattle.ax_bits.specs.Bits.{AreOctets}
+use Rattle.ax_blocks.specs.Taking.{Took, PartTaken, PartPastRoom, PartCut, PartMeans}
 use Rattle.ax_model.specs.Blocks.{IsFramed}
-use Rattle.ax_model.specs.Framing.{RawTree, FramingEnd, input_too_long, ends_in_block, len_of, FramingEnds, block, end, IsJustNext}
+use Rattle.ax_model.specs.Framing.{RawTree, input_too_long, ends_in_block, len_of, block, end}
 use Rattle.ax_model.proofs.Framings.{just_next}
 use Rattle.ax_blocks.specs.declared.reader.Ended.{Ended}
 use Rattle.ax_model.specs.declared.record.RawBlock.{RawBlock}
@@ -16,19 +17,16 @@ use Rattle.ax_outside.proofs.Ends.{with_front-append}
 
 -- ---- octets in front of what is left
 
+octets_both : (a b : List ℕ) → AreOctets a → AreOctets b → AreOctets (a ++ b)
+octets_both [] b h g = g
+octets_both (x ∷ a) b h g = (h.0, octets_both a b h.1 g)
+
 pub took_both : (left mid left' : Option (List ℕ)) (taken between taken' : ℕ) (a b : List ℕ) → Took left mid taken between a → Took mid left' between taken' b → Took left left' taken taken' (a ++ b)
 took_both left mid left' taken between taken' a b p q = record {
+  octets_are = octets_both a b p.octets_are q.octets_are;
   gives = p.gives ∙ ap (with_front a) q.gives ∙ with_front-append left' a b;
   counted = (let e : length (a ++ b) ≡ length a + length b = length-append a b in let m = p.counted in let n = q.counted in omega arith);
 }
-
--- what holds of all that is left, where it is told
-pub told : (P : List ℕ → Type 0) (left left' : Option (List ℕ)) (front : List ℕ) → left ≡ with_front front left' → ((rest : List ℕ) → left' ≡ Some rest → P (front ++ rest)) → OnTold left P
-told P left None front e f = subst (λ l. OnTold l P) (sym e) tt
-told P left (Some rest) front e f = subst (λ l. OnTold l P) (sym e) (f rest refl)
-
-pub none_left : (left' : Option (List ℕ)) (rest : List ℕ) → IsAtEnd left' → left' ≡ Some rest → rest ≡ []
-none_left left' rest h e = subst IsAtEnd e h
 
 -- LEN stands in the first three octets
 len_of-append : (front rest : List ℕ) → 3 ≤ length front → len_of (front ++ rest) ≡ len_of front
@@ -36,12 +34,6 @@ len_of-append [] rest h = absurd (omega (arith, h))
 len_of-append (a ∷ []) rest h = absurd (omega (arith, h))
 len_of-append (a ∷ b ∷ []) rest h = absurd (omega (arith, h))
 len_of-append (a ∷ b ∷ c ∷ front) rest h = refl
-
--- the octets taken show this end, whatever is left after them
-shows_end : (limit given : ℕ) (left left' : Option (List ℕ)) (front : List ℕ) (e : FramingEnd) → given ≤ limit → left ≡ with_front front left'
-    → ((rest : List ℕ) → left' ≡ Some rest → FramingEnds limit given (front ++ rest) e) → OnTold left (λ rest. IsJustNext limit given rest (end e))
-shows_end limit given left left' front e le gives f =
-    told (λ rest. IsJustNext limit given rest (end e)) left left' front gives (λ rest is. just_next limit given (front ++ rest) (end e) le (f rest is))
 
 -- ---- the header
 
@@ -51,6 +43,26 @@ len_read [] h = absurd (omega (arith, h))
 len_read (a ∷ []) h = absurd (omega (arith, h))
 len_read (a ∷ b ∷ []) h = absurd (omega (arith, h))
 len_read (a ∷ b ∷ c ∷ xs) h = omega arith
+
+-- the octet past the limit is one of the header's
+pub header_past : (limit given : ℕ) (left left' : Option (List ℕ)) (taken taken' : ℕ) → given ≤ limit → PartPastRoom left left' taken taken' 0 3 (limit - given) → FindsEnd limit given left left' taken taken' input_too_long
+header_past limit given left left' taken taken' le p =
+    let count : 0 + length p.octets ≡ limit - given + 1 = p.count in
+    let needs : limit - given < 3 = p.needs in
+    record {
+      octets = p.octets;
+      took = p.took;
+      count = omega arith;
+      ran_out = tt;
+      just = λ rest none. just_next limit given (p.octets ++ rest) (end input_too_long) le
+          (let e : length (p.octets ++ rest) ≡ length p.octets + length rest = length-append p.octets rest in inl (record { in_header = omega arith; there = omega arith }));
+    }
+
+pub header_ends : (limit given : ℕ) (left left' : Option (List ℕ)) (taken taken' : ℕ) (buffer buffer' : List ℕ) → given ≤ limit → (e : NextError) → PartMeans left left' taken taken' buffer buffer' 0 3 (limit - given) (Err e)
+    → OnEnd {A = ℕ} (Err e) (FindsEnd limit given left left' taken taken')
+header_ends limit given left left' taken taken' buffer buffer' le InputTooLong p = header_past limit given left left' taken taken' le p
+header_ends limit given left left' taken taken' buffer buffer' le ReadFault p = tt
+header_ends limit given left left' taken taken' buffer buffer' le _ p = absurd p
 
 -- the octets of the header, and those after it
 pub record Header (limit given : ℕ) (left mid : Option (List ℕ)) (taken between : ℕ) (buffer : List ℕ) (n : ℕ) : Type 0 where
@@ -89,11 +101,11 @@ module _ (limit given : ℕ) (left mid left' : Option (List ℕ)) (taken between
         took = whole_took;
         count = omega arith;
         ran_out = at_end;
-        just = shows_end limit given left left' (take 3 header ++ p.octets) (ends_in_block (8 * m)) le whole_took.gives (λ rest is.
+        just = λ rest none. just_next limit given ((take 3 header ++ p.octets) ++ rest) (end (ends_in_block (8 * m))) le
             (let e : length ((take 3 header ++ p.octets) ++ rest) ≡ length (take 3 header ++ p.octets) + length rest = length-append (take 3 header ++ p.octets) rest in
-            let z : length rest ≡ 0 = ap length (none_left left' rest at_end is) in
+            let z : length rest ≡ 0 = ap length none in
             let len : len_of ((take 3 header ++ p.octets) ++ rest) ≡ n = len_of-append (take 3 header ++ p.octets) rest (omega arith) ∙ len_of-append (take 3 header) p.octets (omega arith) ∙ h.len in
-            record { header = omega arith; len = omega arith; cut = omega arith; within = omega arith; missing = omega arith }));
+            record { header = omega arith; len = omega arith; cut = omega arith; within = omega arith; missing = omega arith });
       }
 
   pub block_past : PartPastRoom mid left' between taken' 3 n (limit - given) → FindsEnd limit given left left' taken taken' input_too_long
@@ -109,10 +121,10 @@ module _ (limit given : ℕ) (left mid left' : Option (List ℕ)) (taken between
         took = whole_took;
         count = omega arith;
         ran_out = tt;
-        just = shows_end limit given left left' (take 3 header ++ p.octets) input_too_long le whole_took.gives (λ rest is.
+        just = λ rest none. just_next limit given ((take 3 header ++ p.octets) ++ rest) (end input_too_long) le
             (let e : length ((take 3 header ++ p.octets) ++ rest) ≡ length (take 3 header ++ p.octets) + length rest = length-append (take 3 header ++ p.octets) rest in
             let len : len_of ((take 3 header ++ p.octets) ++ rest) ≡ n = len_of-append (take 3 header ++ p.octets) rest (omega arith) ∙ len_of-append (take 3 header) p.octets (omega arith) ∙ h.len in
-            inr (record { header = omega arith; header_within = within; len = omega arith; in_block = omega arith; there = omega arith })));
+            inr (record { header = omega arith; header_within = within; len = omega arith; in_block = omega arith; there = omega arith }));
       }
 
   pub block_fault : PartCut mid left' between taken' 3 n (limit - given) → StopsUnfinished limit given left left' taken taken'
@@ -180,8 +192,8 @@ gives_block limit given left left' taken taken' buffer n raw le h framed count =
       framed = framed;
       took = h.took;
       within = omega arith;
-      just = told (λ rest. IsJustNext limit given rest (block raw)) left left' (take n buffer) h.took.gives (λ rest is.
-          just_next limit given (take n buffer ++ rest) (block raw) le (record { front = take n buffer; after = rest; split = refl; framed = framed; some = omega arith; within = omega arith }));
+      just = λ rest. just_next limit given (take n buffer ++ rest) (block raw) le
+          (record { front = take n buffer; after = rest; split = refl; framed = framed; some = omega arith; within = omega arith });
     }
 
 -- the reader that gave it, as it was seen before

@@ -1,6 +1,6 @@
 -- What contracts see of a block reader and of its answers.
-use Rattle.std.specs.Prelude.{◌≡◌, ℕ, ◌+◌, ◌-◌, ◌/◌, ◌≤◌, List, length, take, Option, Some, None, Result, Ok, Err}
-use Rattle.ax_blocks.specs.Taking.{OnTold, Took, IsUnfinished}
+use Rattle.std.specs.Prelude.{◌≡◌, ℕ, ◌+◌, ◌-◌, ◌/◌, ◌≤◌, List, ◌++◌, length, take, Option, Some, None, Result, Ok, Err}
+use Rattle.ax_blocks.specs.Taking.{Took, IsUnfinished}
 use Rattle.ax_blocks.specs.declared.next_error.NextError.{NextError}
 use Rattle.ax_blocks.specs.declared.next_error.NextError.TheVariants.{BadLen, EndsInHeader, EndsInBlock, InputTooLong, ReadFault}
 use Rattle.ax_blocks.specs.declared.reader.Ended.{Ended}
@@ -69,13 +69,14 @@ pub record IsAfter (old : ReaderState) (result : Result (Option RawBlock) NextEr
 
 -- ---- what was taken
 
--- the octets of this block and no others, within the limit; it is what comes next, and nothing else is
+-- the octets of this block and no others, within the limit; whatever stands after them, it is what comes next, and nothing
+-- else is
 pub record GivesBlock (limit given : ℕ) (left left' : Option (List ℕ)) (taken taken' : ℕ) (raw : RawTree) : Type 0 where
   pub octets : List ℕ
   pub framed : IsFramed raw.category raw.body octets
   pub took : Took left left' taken taken' octets
   pub within : given + length octets ≤ limit
-  pub just : OnTold left (λ rest. IsJustNext limit given rest (block raw))
+  pub just : (after : List ℕ) → IsJustNext limit given (octets ++ after) (block raw)
 
 -- how many octets show an end, after `given` octets of whole blocks
 abbrev pub octets_to_end : ℕ → ℕ → FramingEnd → ℕ
@@ -93,13 +94,14 @@ RanOut (ends_in_header bit) left = IsAtEnd left
 RanOut bad_len left = Unit {0}
 RanOut (ends_in_block bit) left = IsAtEnd left
 
--- the octets that show this end; it is what comes next, and nothing else is
+-- the octets that show this end; whatever stands after them, or where they ran out nothing, it is what comes next, and
+-- nothing else is
 pub record FindsEnd (limit given : ℕ) (left left' : Option (List ℕ)) (taken taken' : ℕ) (e : FramingEnd) : Type 0 where
   pub octets : List ℕ
   pub took : Took left left' taken taken' octets
   pub count : length octets ≡ octets_to_end limit given e
   pub ran_out : RanOut e left'
-  pub just : OnTold left (λ rest. IsJustNext limit given rest (end e))
+  pub just : (after : List ℕ) → RanOut e (Some after) → IsJustNext limit given (octets ++ after) (end e)
 
 -- some octets of a block that isn't there whole yet
 pub record StopsUnfinished (limit given : ℕ) (left left' : Option (List ℕ)) (taken taken' : ℕ) : Type 0 where

@@ -1,17 +1,15 @@
 -- Octets taken from a source, and how far they go.
-use Rattle.std.specs.Prelude.{◌≡◌, ℕ, ◌+◌, ◌<◌, ◌≤◌, List, ◌++◌, length, take, Option, Some, None, Result, Ok, Err}
+use Rattle.std.specs.Prelude.{◌≡◌, ℕ, ◌+◌, ◌<◌, ◌≤◌, List, ◌++◌, length, take, Option, Result, Ok, Err}
+use Rattle.ax_bits.specs.Bits.{AreOctets}
 use Rattle.ax_blocks.specs.declared.next_error.NextError.{NextError}
 use Rattle.ax_blocks.specs.declared.next_error.NextError.TheVariants.{InputTooLong, ReadFault}
 use Rattle.ax_model.specs.Framing.{len_of}
 use Rattle.ax_outside.specs.Told.{with_front, IsAtEnd}
 
--- what a source tells, if anything, of the octets left
-abbrev pub OnTold : Option (List ℕ) → (List ℕ → Type 0) → Type 0
-OnTold None P = Unit {0}
-OnTold (Some rest) P = P rest
-
--- these octets were taken: they stood in front of what is left now, and the number of octets taken rose by their count
+-- these octets were taken: they stood in front of what is left now, where that is told, and the number of octets taken rose
+-- by their count
 pub record Took (left left' : Option (List ℕ)) (taken taken' : ℕ) (octets : List ℕ) : Type 0 where
+  pub octets_are : AreOctets octets
   pub gives : left ≡ with_front octets left'
   pub counted : taken' ≡ taken + length octets
 

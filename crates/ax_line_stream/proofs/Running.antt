@@ -1,41 +1,29 @@
 -- What holds after each line of an input, and where the run over it stops.
-use Rattle.std.proofs.Common.{◌≡◌, ℕ, suc, ◌+◌, ◌-◌, ◌<◌, ◌≤◌, List, [], ◌∷◌, ◌++◌, Option, Some, None, length, refl, sym, ◌∙◌, ap, subst, arith, append_assoc, length-append, ◌⊎◌, inl, inr, Result, Ok, Err, IfSome}
+use Rattle.std.proofs.Common.{◌≡◌, ℕ, ◌+◌, ◌-◌, ◌<◌, ◌≤◌, List, [], ◌++◌, Option, Some, None, length, refl, sym, ◌∙◌, ap, subst, arith, length-append, ◌⊎◌, inl, inr, Result, Ok, Err, IfSome}
 use Rattle.std.specs.Borrow.{Bor}
-use Rattle.ax_lines.specs.Lined.{LinedEnd, all_lines, input_too_long, line_too_long, end, IsNextLine, IsJustNextLine}
-use Rattle.ax_lines.specs.Reader.{ReaderState, IsOpen, OnTold, OnEnd, OnTooLong, OnReadFault, UnlessReadFault, ShowsLine, read_ahead, ahead, IsToldLine, GivesLine, FindsEnd, StopsInLine, IsAfter, ended_by, line_read}
+use Rattle.ax_lines.specs.Lined.{LinedEnd, all_lines, input_too_long, line_too_long, end}
+use Rattle.ax_lines.specs.Reader.{ReaderState, IsOpen, OnEnd, OnTooLong, OnReadFault, UnlessReadFault, ShowsLine, ahead, GivesLine, FindsEnd, StopsInLine, IsAfter, ended_by, line_read}
 use Rattle.ax_lines.proofs.LinedOnce.{next_once}
 use Rattle.ax_lines.specs.declared.reader.Ended.{Ended}
 use Rattle.ax_lines.specs.declared.reader.Ended.TheVariants.{EndOfInput}
 use Rattle.ax_lines.specs.declared.reader.Ended.TheVariants.{Refused as RefusedBy}
 use Rattle.ax_lines.specs.declared.line_error.LineError.{LineError}
 use Rattle.ax_lines.specs.declared.line_error.LineError.TheVariants.{InputTooLong, LineTooLong, ReadFault}
-use Rattle.ax_line_stream.proofs.Begins.{begins_snoc, begins_end, left_of_ahead, IsPartOf, part_of_taken, left_of_part, none_left}
-use Rattle.ax_line_stream.proofs.Results.{output_snoc, results_snoc, feeds_snoc, answered_snoc, length_snoc, both, gains_both, gains_on, gains_part, gains_none}
-use Rattle.ax_line_stream.specs.Commands.{LineCommand, LineAnswer, KeepsTo, gives, nothing, refused, octets_in, results_in, output_of, results_of}
+use Rattle.ax_line_stream.proofs.Results.{both, gains_none}
+use Rattle.ax_line_stream.specs.Commands.{LineCommand, LineAnswer, KeepsTo, gives, nothing, refused, results_in}
 use Rattle.ax_line_stream.specs.Ending.{lines_end, error_end}
-use Rattle.ax_line_stream.specs.Runs as RunOf
-use Rattle.ax_line_stream.specs.Runs.{BeginsWith, AnswersLines, IsLeftOf, IsLeftAfter, with_feeds, LinesStop, ToldRun, IsCaused, IsLicensed, CountsOnly, LinesRun}
+use Rattle.ax_line_stream.specs.Runs.{ToldRun, IsCaused, IsLicensed, CountsOnly, LinesRun, RunsOverTaken}
 use Rattle.ax_line_stream.specs.Standing.{StandsAfter}
 use Rattle.ax_line_stream.specs.Taking.{IsWritten, EndsAt, refusing, writing, for_memory}
 use Rattle.ax_line_stream.specs.declared.end.LinesEnd.{LinesEnd}
 use Rattle.ax_line_stream.specs.declared.end.LinesEnd.TheVariants as EndOf
 use Rattle.ax_outside.proofs.Ends.{Rose-later}
-use Rattle.ax_outside.specs.Changes.{SourceChange, source_change, SinkChange, Gains}
+use Rattle.ax_outside.specs.Changes.{SourceChange, source_change, SinkChange}
 use Rattle.ax_outside.specs.declared.sources.Source as SourceOf
-use Rattle.ax_outside.specs.Told.{with_front, with_end, IsAtEnd, Rose}
+use Rattle.ax_outside.specs.Told.{IsAtEnd, Rose}
 
--- the input began with lines that are answered, whose results were written; `following` are the octets that aren't given yet.
--- Where the reader goes on each line has its line feed
-pub record SoFar {F : Type 0} (c : LineCommand F) (line_limit limit : ℕ) (input : List ℕ) (following : Option (List ℕ)) (ended : Option Ended) (o : SinkChange) (given number count : ℕ) : Type 0 where
-  pub lines : List (List ℕ)
-  pub answers : List (LineAnswer F)
-  pub rest : List ℕ
-  pub following_is : following ≡ Some rest
-  pub front : AnswersLines c line_limit limit input lines answers given rest
-  pub out : Gains o (output_of answers)
-  pub numbered : number ≡ length lines
-  pub counted : count ≡ results_of answers
-  pub fed : ended ≡ None → input ≡ with_feeds lines ++ rest
+use Rattle.ax_line_stream.proofs.FrontLines.{SoFar, nothing_so_far, no_memory, shown_longer, ended, reading_told, stands_after, stops_told, line_more}
+use Rattle.ax_line_stream.proofs.TakenLines.{TakenSoFar, took_nothing, nothing_taken, done_over, refused_over, failed_over, stopped_over, taken_more}
 
 -- the reader gave the last line: the source has ended, and it holds nothing
 pub record HasEnded (reader : ReaderState) (left : Option (List ℕ)) : Type 0 where
@@ -59,6 +47,7 @@ pub record Running {F : Type 0} (c : LineCommand F) (line_limit limit : ℕ) (i 
   pub source_quiet : i.faults' ≡ i.faults
   pub out_quiet : o.faults' ≡ o.faults
   pub told : (input : List ℕ) → i.left ≡ Some input → SoFar c line_limit limit input (ahead reader.buffered i.left') reader.ended o reader.given number count
+  pub taken : TakenSoFar c line_limit limit i reader.buffered reader.ended o reader.given number count
 
 -- a read, and one more after it
 abbrev pub read_on : SourceChange → SourceChange → SourceChange
@@ -68,32 +57,6 @@ pub record Joins (i j : SourceChange) : Type 0 where
   pub left : j.left ≡ i.left'
   pub taken : j.taken ≡ i.taken'
   pub faults : j.faults ≡ i.faults'
-
-told_at : (P : List ℕ → Type 0) (t : Option (List ℕ)) (x : List ℕ) → t ≡ Some x → OnTold t P → P x
-told_at P t x e h = subst (λ l. OnTold l P) e h
-
--- a line takes an octet at least
-shown_longer : (line_limit limit given : ℕ) (octets one after : List ℕ) (left : Option (List ℕ)) (ended : Option Ended) → ShowsLine line_limit limit given octets left one after ended → length after < length octets
-shown_longer line_limit limit given octets one after left ended (inl (h, open_)) = let e : length octets ≡ length one + suc (length after) = ap length h.split ∙ length-append one (10 ∷ after) in omega arith
-shown_longer line_limit limit given octets one after left ended (inr (h, at_end, is)) =
-    let e : length octets ≡ length one = ap length h.split in let f : length after ≡ 0 = ap length h.none_following in let g : 0 < length one = h.some in omega arith
-
--- a line after which the reader goes on has its line feed
-shown_fed : (line_limit limit given : ℕ) (octets one after : List ℕ) (left : Option (List ℕ)) (ended : Option Ended) → ended ≡ None → ShowsLine line_limit limit given octets left one after ended → octets ≡ one ++ (10 ∷ after)
-shown_fed line_limit limit given octets one after left ended none (inl (h, open_)) = h.split
-shown_fed line_limit limit given octets one after left ended none (inr (h, at_end, is)) = absurd (let e : ◌≡◌ {A = Option Ended} None (Some EndOfInput) = sym none ∙ is in cc)
-
--- a line with its line feed leaves the reader open
-fed_open : (line_limit limit given : ℕ) (octets rest later one after held : List ℕ) (left : Option (List ℕ)) (ended : Option Ended) → rest ≡ octets ++ later → left ≡ Some later → rest ≡ one ++ (10 ∷ after)
-    → ShowsLine line_limit limit given octets left one held ended → ended ≡ None
-fed_open line_limit limit given octets rest later one after held left ended split is fed (inl (h, open_)) = open_
-fed_open line_limit limit given octets rest later one after held left ended split is fed (inr (h, at_end, e)) =
-    let none : later ≡ [] = subst IsAtEnd is at_end in
-    let a : length rest ≡ length octets + length later = ap length split ∙ length-append octets later in
-    let b : length rest ≡ length one + suc (length after) = ap length fed ∙ length-append one (10 ∷ after) in
-    let d : length octets ≡ length one = ap length h.split in
-    let n : length later ≡ 0 = ap length none in
-    absurd (omega arith)
 
 -- how the reader goes on after a line
 shown_going : (line_limit limit given : ℕ) (octets one after : List ℕ) (left : Option (List ℕ)) (ended : Option Ended) (reader : ReaderState) → reader.ended ≡ ended → reader.buffered ≡ after → ShowsLine line_limit limit given octets left one after ended
@@ -142,17 +105,8 @@ running_begins c left held taken faults fails reader Sound sound e =
       out_later = omega arith;
       source_quiet = refl;
       out_quiet = refl;
-      told = λ input l. record {
-        lines = [];
-        answers = [];
-        rest = input;
-        following_is = ap (λ h. with_front h left) none ∙ ap (with_front []) l;
-        front = record { begins = (sym z, refl); answered = record { each = tt; none_refused = tt } };
-        out = gains_none held fails fails;
-        numbered = refl;
-        counted = refl;
-        fed = λ open_. refl;
-      };
+      told = λ input l. nothing_so_far c reader.line_limit reader.limit input reader.buffered left reader.ended _ reader.given none l z (gains_none held fails fails);
+      taken = nothing_taken c reader.line_limit reader.limit left taken faults reader.buffered reader.ended _ reader.given none z (gains_none held fails fails);
     }
 
 module _ {F : Type 0} (c : LineCommand F) (line_limit limit : ℕ) (i : SourceChange) (o : SinkChange) (now : LineCommand F) (reader : ReaderState) (number count : ℕ) (Sound : Type 0) (run : Running c line_limit limit i o now reader number count Sound)
@@ -160,45 +114,25 @@ module _ {F : Type 0} (c : LineCommand F) (line_limit limit : ℕ) (i : SourceCh
   still_later : i.faults ≤ j.faults'
   still_later = let a : i.faults ≤ i.faults' = run.source_later in let b : j.faults ≡ i.faults' = joins.faults in omega arith
 
-  -- what is not given yet, as the reader sees it now
-  seen : (input : List ℕ) (l : i.left ≡ Some input) → ahead reader.buffered j.left ≡ Some (run.told input l).rest
-  seen input l = ap (ahead reader.buffered) joins.left ∙ (run.told input l).following_is
+  -- the lines given before
+  front : (input : List ℕ) → i.left ≡ Some input → SoFar c line_limit limit input (ahead reader.buffered j.left) reader.ended o reader.given number count
+  front input l = subst (λ h. SoFar c line_limit limit input (ahead reader.buffered h) reader.ended o reader.given number count) (sym joins.left) (run.told input l)
+
+  within : reader.given ≤ reader.limit
+  within = let a : reader.given ≤ limit = run.within in let b : reader.limit ≡ limit = run.limit_is in omega arith
 
   -- ---- the lines end
 
-  module _ (e : LinedEnd) (f : FindsEnd reader.line_limit reader.limit reader.given reader.buffered j e) where
-    ends_told : (input : List ℕ) (l : i.left ≡ Some input) → IsNextLine line_limit limit reader.given (run.told input l).rest (end e)
-    ends_told input l =
-        let next : IsNextLine reader.line_limit reader.limit reader.given (run.told input l).rest (end e)
-        = (told_at (λ before. IsJustNextLine reader.line_limit reader.limit reader.given before (end e)) (ahead reader.buffered j.left) (run.told input l).rest (seen input l) f.told).is in
-        subst (λ m. IsNextLine line_limit m reader.given (run.told input l).rest (end e)) run.limit_is (subst (λ m. IsNextLine m reader.limit reader.given (run.told input l).rest (end e)) run.line_limit_is next)
+  ended_told : (e : LinedEnd) → FindsEnd reader.line_limit reader.limit reader.given reader.buffered j e → (result : LinesEnd F) → result ≡ lines_end count number e → ((n : ℕ) → result ≡ EndOf.Done n → IsAtEnd j.left') → (input : List ℕ) → i.left ≡ Some input → ToldRun c line_limit limit input j.left' o result
+  ended_told e f result is at_end input l = ended c line_limit limit input o reader number count run.line_limit_is run.limit_is j (front input l) e f result is at_end
 
-    near : length (reader.buffered ++ f.taken) ≤ line_limit + read_ahead
-    near = let a : length (reader.buffered ++ f.taken) ≤ reader.line_limit + read_ahead = f.room in let b : reader.line_limit ≡ line_limit = run.line_limit_is in omega arith
-
-    left_told : (input : List ℕ) (l : i.left ≡ Some input) → IsLeftOf (line_limit + read_ahead) (run.told input l).rest j.left'
-    left_told input l = left_of_part (line_limit + read_ahead) (run.told input l).rest (reader.buffered ++ f.taken) j.left' near (part_of_taken reader.buffered f.taken (run.told input l).rest j.left j.left' (seen input l) f.took.gives)
-
-    ended : (result : LinesEnd F) → result ≡ lines_end count number e → ((n : ℕ) → result ≡ EndOf.Done n → IsAtEnd j.left') → (input : List ℕ) → i.left ≡ Some input → ToldRun c line_limit limit input j.left' o result
-    ended result is at_end input l =
-        let s = run.told input l in
-        inl (record {
-          lines = s.lines;
-          answers = s.answers;
-          ends = inl (record {
-            end = e;
-            lined = begins_end line_limit limit 0 input s.lines reader.given s.rest e s.front.begins (ends_told input l);
-            answered = s.front.answered;
-            is = is ∙ ap (λ n. lines_end n number e) s.counted ∙ ap (λ n. lines_end (results_of s.answers) n e) s.numbered;
-          });
-          out = s.out;
-          read = λ n done. none_left (line_limit + read_ahead) s.rest j.left' (left_told input l) (at_end n done);
-          left = record { past = reader.given; rest = s.rest; begins = s.front.begins; left = left_told input l };
-        })
+  ended_taken : IsOpen reader → (e : LinedEnd) → FindsEnd reader.line_limit reader.limit reader.given reader.buffered j e → (result : LinesEnd F) → result ≡ lines_end count number e → RunsOverTaken c line_limit limit (read_on i j) o result
+  ended_taken opened e f result is = refused_over c line_limit limit i o reader number count run.line_limit_is run.limit_is within run.taken j joins.left joins.taken opened e f result is
 
   pub run_done : j.faults' ≡ j.faults → FindsEnd reader.line_limit reader.limit reader.given reader.buffered j all_lines → LinesRun c line_limit limit (read_on i j) o (EndOf.Done count)
   run_done quiet f = record {
-    told = ended all_lines f (EndOf.Done count) refl (λ n done. f.shows.1);
+    told = ended_told all_lines f (EndOf.Done count) refl (λ n done. f.shows.1);
+    over_taken = done_over c line_limit limit i o reader number count run.line_limit_is run.limit_is within run.taken j joins.left joins.taken f;
     caused = tt;
     licensed = tt;
     counts = (quiet ∙ joins.faults ∙ run.source_quiet, run.out_quiet);
@@ -206,33 +140,13 @@ module _ {F : Type 0} (c : LineCommand F) (line_limit limit : ℕ) (i : SourceCh
     out_later = run.out_later;
   }
 
-  -- a read failed
-  reading_told : IsOpen reader → StopsInLine reader.line_limit reader.limit reader.given reader.buffered j → (input : List ℕ) → i.left ≡ Some input → ToldRun c line_limit limit input j.left' o EndOf.ReadFault
-  reading_told opened f input l =
-      let s = run.told input l in
-      let part : IsPartOf s.rest (reader.buffered ++ f.taken) j.left' = part_of_taken reader.buffered f.taken s.rest j.left j.left' (seen input l) f.took.gives in
-      let front : AnswersLines c line_limit limit input s.lines s.answers reader.given ((reader.buffered ++ f.taken) ++ part.after) = subst (AnswersLines c line_limit limit input s.lines s.answers reader.given) part.split s.front in
-      inr (RunOf.reading refl (record {
-        lines = s.lines;
-        answers = s.answers;
-        past = reader.given;
-        part = reader.buffered ++ f.taken;
-        rest = part.after;
-        front = front;
-        fed = s.fed opened ∙ ap (λ x. with_feeds s.lines ++ x) part.split;
-        plain = f.plain;
-        short = (let a : length (reader.buffered ++ f.taken) ≤ reader.line_limit = f.short in let b : reader.line_limit ≡ line_limit = run.line_limit_is in omega arith);
-        within = (let a : reader.given + length (reader.buffered ++ f.taken) ≤ reader.limit = f.within in let b : reader.limit ≡ limit = run.limit_is in omega arith);
-        left = part.left_is;
-        out = s.out;
-      }))
-
   -- the reader's refusal
   pub run_refused : (error : LineError) → IsOpen reader → OnEnd {A = List ℕ} (Err error) (FindsEnd reader.line_limit reader.limit reader.given reader.buffered j) → OnReadFault {A = List ℕ} (Err error) (StopsInLine reader.line_limit reader.limit reader.given reader.buffered j)
       → OnTooLong {A = List ℕ} (Err error) (reader.limit + j.taken < reader.given + length reader.buffered + j.taken') → OnReadFault {A = List ℕ} (Err error) (Rose j.faults j.faults') → j.faults' ≤ j.faults + 1
       → UnlessReadFault {A = Option (List ℕ)} (Err error) (j.faults' ≡ j.faults) → LinesRun c line_limit limit (read_on i j) o (error_end number error)
   run_refused InputTooLong opened f stops past rose once quiet = record {
-    told = ended input_too_long f EndOf.InputTooLong refl (λ n done. absurd (cc));
+    told = ended_told input_too_long f EndOf.InputTooLong refl (λ n done. absurd (cc));
+    over_taken = ended_taken opened input_too_long f EndOf.InputTooLong refl;
     caused = (let a : i.taken' ≡ i.taken + (reader.given + length reader.buffered) = run.took in let b : j.taken ≡ i.taken' = joins.taken in let d : reader.limit ≡ limit = run.limit_is in omega arith);
     licensed = tt;
     counts = (quiet ∙ joins.faults ∙ run.source_quiet, run.out_quiet);
@@ -240,7 +154,8 @@ module _ {F : Type 0} (c : LineCommand F) (line_limit limit : ℕ) (i : SourceCh
     out_later = run.out_later;
   }
   run_refused LineTooLong opened f stops past rose once quiet = record {
-    told = ended line_too_long f (EndOf.LineTooLong number) refl (λ n done. absurd (cc));
+    told = ended_told line_too_long f (EndOf.LineTooLong number) refl (λ n done. absurd (cc));
+    over_taken = ended_taken opened line_too_long f (EndOf.LineTooLong number) refl;
     caused = tt;
     licensed = tt;
     counts = (quiet ∙ joins.faults ∙ run.source_quiet, run.out_quiet);
@@ -248,7 +163,8 @@ module _ {F : Type 0} (c : LineCommand F) (line_limit limit : ℕ) (i : SourceCh
     out_later = run.out_later;
   }
   run_refused ReadFault opened f stops past rose once quiet = record {
-    told = reading_told opened stops;
+    told = λ input l. reading_told c line_limit limit input o reader number count run.line_limit_is run.limit_is j (front input l) opened stops;
+    over_taken = failed_over c line_limit limit i o reader number count run.line_limit_is run.limit_is within run.taken j joins.left joins.taken opened stops;
     caused = Rose-later run.source_later (subst (λ n. Rose n j.faults') joins.faults rose);
     licensed = tt;
     counts = (omega (arith, once, joins.faults, run.source_quiet), run.out_quiet);
@@ -259,138 +175,19 @@ module _ {F : Type 0} (c : LineCommand F) (line_limit limit : ℕ) (i : SourceCh
   -- ---- a line is given
 
   module _ (given' : ℕ) (held' : List ℕ) (ended' : Option Ended) (one : List ℕ) (g : GivesLine reader.line_limit reader.limit reader.given reader.buffered j given' held' ended' one) where
-    -- it comes next, and what is after it is told
-    told_line : (input : List ℕ) (l : i.left ≡ Some input) → IsToldLine line_limit limit reader.given (run.told input l).rest (ahead held' j.left') one
-    told_line input l =
-        let next : IsToldLine reader.line_limit reader.limit reader.given (run.told input l).rest (ahead held' j.left') one
-        = told_at (λ before. IsToldLine reader.line_limit reader.limit reader.given before (ahead held' j.left') one) (ahead reader.buffered j.left) (run.told input l).rest (seen input l) g.told in
-        subst (λ m. IsToldLine line_limit m reader.given (run.told input l).rest (ahead held' j.left') one) run.limit_is (subst (λ m. IsToldLine m reader.limit reader.given (run.told input l).rest (ahead held' j.left') one) run.line_limit_is next)
-
-    fewer : length held' < length (reader.buffered ++ g.taken)
-    fewer = shown_longer reader.line_limit reader.limit reader.given (reader.buffered ++ g.taken) one held' j.left' ended' g.shows
-
-    left_following : (input : List ℕ) (l : i.left ≡ Some input) → IsLeftOf (line_limit + read_ahead) (told_line input l).after j.left'
-    left_following input l =
-        let few : length held' < length (reader.buffered ++ g.taken) = fewer in
-        let room : length (reader.buffered ++ g.taken) ≤ reader.line_limit + read_ahead = g.room in
-        let b : reader.line_limit ≡ line_limit = run.line_limit_is in
-        left_of_ahead (line_limit + read_ahead) held' (told_line input l).after j.left' (omega arith) (told_line input l).following_is
-
-    -- all that was taken past the lines before it
-    part_taken : (input : List ℕ) (l : i.left ≡ Some input) → IsPartOf (run.told input l).rest (reader.buffered ++ g.taken) j.left'
-    part_taken input l = part_of_taken reader.buffered g.taken (run.told input l).rest j.left j.left' (seen input l) g.took.gives
-
-    left_before : (input : List ℕ) (l : i.left ≡ Some input) → IsLeftAfter line_limit limit input (run.told input l).lines j.left'
-    left_before input l =
-        let room : length (reader.buffered ++ g.taken) ≤ reader.line_limit + read_ahead = g.room in
-        let b : reader.line_limit ≡ line_limit = run.line_limit_is in
-        record {
-          past = reader.given;
-          rest = (run.told input l).rest;
-          begins = (run.told input l).front.begins;
-          left = left_of_part (line_limit + read_ahead) (run.told input l).rest (reader.buffered ++ g.taken) j.left' (omega arith) (part_taken input l);
-        }
-
-    longer : reader.given < given'
-    longer =
-        let more : length held' < length (reader.buffered ++ g.taken) = fewer in
-        let counts : given' + length held' ≡ reader.given + length (reader.buffered ++ g.taken) = g.counts in
-        omega arith
-
-    -- what is after it
-    following_held : (input : List ℕ) (l : i.left ≡ Some input) → (told_line input l).after ≡ held' ++ (part_taken input l).after
-    following_held input l =
-        let e : ◌≡◌ {A = Option (List ℕ)} (Some (held' ++ (part_taken input l).after)) (Some (told_line input l).after) = sym (ap (with_front held') (part_taken input l).left_is) ∙ (told_line input l).following_is in
-        cc
-
-    -- its line feed, where the reader goes on after it
-    feed_following : (input : List ℕ) (l : i.left ≡ Some input) → ended' ≡ None → (run.told input l).rest ≡ one ++ (10 ∷ (told_line input l).after)
-    feed_following input l open_ =
-        let front : reader.buffered ++ g.taken ≡ one ++ (10 ∷ held') = shown_fed reader.line_limit reader.limit reader.given (reader.buffered ++ g.taken) one held' j.left' ended' open_ g.shows in
-        (part_taken input l).split ∙ ap (λ x. x ++ (part_taken input l).after) front ∙ append_assoc one (10 ∷ held') (part_taken input l).after ∙ ap (λ x. one ++ (10 ∷ x)) (sym (following_held input l))
-
     -- where the reader stands then
-    pub stands_after : (reader' : ReaderState) → reader'.buffered ≡ held' → reader'.ended ≡ ended' → (input : List ℕ) → i.left ≡ Some input → StandsAfter line_limit limit input j.left' reader' number
-    stands_after reader' held ended_is input l =
-        let s = run.told input l in
-        record {
-          lines = s.lines;
-          past = reader.given;
-          rest = s.rest;
-          begins = s.front.begins;
-          numbered = s.numbered;
-          one = one;
-          after = (told_line input l).after;
-          next = (told_line input l).just.is;
-          held = ap (λ h. ahead h j.left') held ∙ (told_line input l).following_is;
-          open_ = λ h. ended_is ∙ fed_open reader.line_limit reader.limit reader.given (reader.buffered ++ g.taken) s.rest (part_taken input l).after one (told_line input l).after held' j.left' ended' (part_taken input l).split (part_taken input l).left_is h.split g.shows;
-        }
+    pub stands_told : (reader' : ReaderState) → reader'.buffered ≡ held' → reader'.ended ≡ ended' → (input : List ℕ) → i.left ≡ Some input → StandsAfter line_limit limit input j.left' reader' number
+    stands_told reader' held ended_is input l = stands_after c line_limit limit input o reader number count run.line_limit_is run.limit_is j (front input l) given' held' ended' one g reader' held ended_is
 
-    -- so many octets it takes
-    taken_by : (input : List ℕ) (l : i.left ≡ Some input) → length (run.told input l).rest ≡ (given' - reader.given) + length (told_line input l).after
-    taken_by input l =
-        let s = run.told input l in
-        let part : IsPartOf s.rest (reader.buffered ++ g.taken) j.left' = part_taken input l in
-        let all : length s.rest ≡ length (reader.buffered ++ g.taken) + length part.after = ap length part.split ∙ length-append (reader.buffered ++ g.taken) part.after in
-        let following : (told_line input l).after ≡ held' ++ part.after = following_held input l in
-        let rest : length (told_line input l).after ≡ length held' + length part.after = ap length following ∙ length-append held' part.after in
+    gives_more : reader.given < given'
+    gives_more =
+        let more : length held' < length (reader.buffered ++ g.taken) = shown_longer reader.line_limit reader.limit reader.given (reader.buffered ++ g.taken) one held' j.left' ended' g.shows in
         let counts : given' + length held' ≡ reader.given + length (reader.buffered ++ g.taken) = g.counts in
-        let more : reader.given < given' = longer in
         omega arith
 
     module _ (s : SinkChange) (writes : s.held ≡ o.held') (counted : s.faults ≡ o.faults') (later : s.faults ≤ s.faults') where
       out_still_later : o.faults ≤ s.faults'
       out_still_later = let a : o.faults ≤ o.faults' = run.out_later in omega arith
-
-      -- the run ends at it
-      stops_told : (e : LinesEnd F) → EndsAt c number one s e → (input : List ℕ) → i.left ≡ Some input → ToldRun c line_limit limit input j.left' (both o s) e
-      stops_told e (refusing fault is answer kept quiet) input l =
-          let so = run.told input l in
-          inl (record {
-            lines = so.lines;
-            answers = so.answers;
-            ends = inr (record {
-              past = reader.given;
-              rest = so.rest;
-              front = so.front;
-              one = one;
-              after = (told_line input l).after;
-              next = (told_line input l).just.is;
-              fault = fault;
-              answer = subst (λ n. c n one (refused fault)) so.numbered answer;
-              is = is ∙ ap (λ n. EndOf.Refused n fault) so.numbered;
-            });
-            out = gains_on o s (output_of so.answers) writes so.out kept;
-            read = λ n done. absurd (let x : EndOf.Refused number fault ≡ EndOf.Done n = sym is ∙ done in cc);
-            left = left_before input l;
-          })
-      stops_told e (writing laid is answer part once) input l =
-          let so = run.told input l in
-          inr (RunOf.writing is (record {
-            lines = so.lines;
-            answers = so.answers;
-            past = reader.given;
-            rest = so.rest;
-            front = so.front;
-            one = one;
-            after = (told_line input l).after;
-            next = (told_line input l).just.is;
-            laid = laid;
-            answer = subst (λ n. c n one (gives laid)) so.numbered answer;
-            left = left_following input l;
-            out = gains_part o s (output_of so.answers) laid writes so.out part;
-          }))
-      stops_told e (for_memory is kept quiet) input l =
-          let so = run.told input l in
-          inr (RunOf.for_memory is (record {
-            lines = so.lines;
-            answers = so.answers;
-            past = reader.given;
-            rest = so.rest;
-            front = so.front;
-            next = RunOf.one_taken one (told_line input l).after (told_line input l).just.is (left_following input l);
-            out = gains_on o s (output_of so.answers) writes so.out kept;
-          }))
 
       stop_caused : (e : LinesEnd F) → EndsAt c number one s e → IsCaused limit (read_on i j) (both o s) e
       stop_caused e (refusing fault is answer kept quiet) = subst (IsCaused limit (read_on i j) (both o s)) (sym is) tt
@@ -407,10 +204,11 @@ module _ {F : Type 0} (c : LineCommand F) (line_limit limit : ℕ) (i : SourceCh
       stop_counts e still (writing laid is answer part once) = subst (CountsOnly (read_on i j) (both o s)) (sym is) (still ∙ joins.faults ∙ run.source_quiet, omega (arith, once, counted, run.out_quiet))
       stop_counts e still (for_memory is kept quiet) = subst (CountsOnly (read_on i j) (both o s)) (sym is) (still ∙ joins.faults ∙ run.source_quiet, quiet ∙ counted ∙ run.out_quiet)
 
-      pub run_stopped : (e : LinesEnd F) → j.faults' ≡ j.faults → EndsAt now number one s e → LinesRun c line_limit limit (read_on i j) (both o s) e
-      run_stopped e still h =
+      pub run_stopped : (e : LinesEnd F) → IsOpen reader → j.faults' ≡ j.faults → EndsAt now number one s e → LinesRun c line_limit limit (read_on i j) (both o s) e
+      run_stopped e opened still h =
           let k : EndsAt c number one s e = ends_of_kept c now number one s e run.same h in record {
-            told = stops_told e k;
+            told = λ input l. stops_told c line_limit limit input o reader number count run.line_limit_is run.limit_is j (front input l) given' held' ended' one g s writes e k;
+            over_taken = stopped_over c line_limit limit i o reader number count run.line_limit_is run.limit_is within run.taken j joins.left joins.taken opened given' held' ended' one g s writes e k;
             caused = stop_caused e k;
             licensed = stop_licensed e k;
             counts = stop_counts e still k;
@@ -418,39 +216,11 @@ module _ {F : Type 0} (c : LineCommand F) (line_limit limit : ℕ) (i : SourceCh
             out_later = out_still_later;
           }
 
-      -- its result was written
-      line_more : (results : ℕ) → IsOpen reader → IsWritten c number one s results → (input : List ℕ) → i.left ≡ Some input → SoFar c line_limit limit input (ahead held' j.left') ended' (both o s) given' (number + 1) (count + results)
-      line_more results opened w input l =
-          let so = run.told input l in
-          let more : reader.given < given' = longer in
-          let past : reader.given + (given' - reader.given) ≡ given' = omega arith in
-          let begins : BeginsWith line_limit limit 0 input (so.lines ++ (one ∷ [])) (reader.given + (given' - reader.given)) (told_line input l).after
-          = begins_snoc line_limit limit 0 input so.lines reader.given so.rest one (told_line input l).after (given' - reader.given) so.front.begins (told_line input l).just.is (taken_by input l) in
-          let results_now : results_of (so.answers ++ (w.answer ∷ [])) ≡ results_of so.answers + results_in w.answer = results_snoc so.answers w.answer in
-          let size : length (so.lines ++ (one ∷ [])) ≡ length so.lines + 1 = length_snoc so.lines one in
-          let numbered : number ≡ length so.lines = so.numbered in
-          let counted_so : count ≡ results_of so.answers = so.counted in
-          let counted_now : results ≡ results_in w.answer = w.counted in
-          record {
-            lines = so.lines ++ (one ∷ []);
-            answers = so.answers ++ (w.answer ∷ []);
-            rest = (told_line input l).after;
-            following_is = (told_line input l).following_is;
-            front = record {
-              begins = subst (λ n. BeginsWith line_limit limit 0 input (so.lines ++ (one ∷ [])) n (told_line input l).after) past begins;
-              answered = answered_snoc c so.lines so.answers one w.answer so.front.answered (subst (λ n. c n one w.answer) so.numbered w.is) w.answered;
-            };
-            out = gains_both o s (output_of so.answers) (octets_in w.answer) writes so.out w.gained ∙ ap (with_end o.held) (sym (output_snoc so.answers w.answer));
-            numbered = omega arith;
-            counted = omega arith;
-            fed = λ open_. feeds_snoc input so.lines one so.rest (told_line input l).after (so.fed opened) (feed_following input l open_);
-          }
-
       pub run_on : (now' : LineCommand F) (reader' : ReaderState) (results : ℕ) (Still : Type 0) → Still → IsOpen reader → j.faults' ≡ j.faults → IsWritten now number one s results → KeepsTo now now' → reader'.line_limit ≡ reader.line_limit → reader'.limit ≡ reader.limit → reader'.given ≡ given' → reader'.buffered ≡ held'
           → reader'.given ≤ reader'.limit → reader'.ended ≡ ended' → Running c line_limit limit (read_on i j) (both o s) now' reader' (number + 1) (count + results) Still
       run_on now' reader' results Still sound' opened still w kept same_line same given_is held_is fits ended_is =
           let w' : IsWritten c number one s results = written_of_kept c now number one s results run.same w in
-          let more : reader.given < given' = longer in
+          let more : reader.given < given' = gives_more in
           let few : number ≤ reader.given = run.few in
           let fewer : count ≤ number = run.fewer in
           let a : i.taken' ≡ i.taken + (reader.given + length reader.buffered) = run.took in
@@ -479,7 +249,12 @@ module _ {F : Type 0} (c : LineCommand F) (line_limit limit : ℕ) (i : SourceCh
                 (let P : ℕ → Type 0 = λ n. SoFar c line_limit limit input (ahead reader'.buffered j.left') reader'.ended (both o s) n (number + 1) (count + results) in
                 let Q : List ℕ → Type 0 = λ h. SoFar c line_limit limit input (ahead h j.left') reader'.ended (both o s) given' (number + 1) (count + results) in
                 let E : Option Ended → Type 0 = λ x. SoFar c line_limit limit input (ahead held' j.left') x (both o s) given' (number + 1) (count + results) in
-                subst P (sym given_is) (subst Q (sym held_is) (subst E (sym ended_is) (line_more results opened w' input l))));
+                subst P (sym given_is) (subst Q (sym held_is) (subst E (sym ended_is) (line_more c line_limit limit input o reader number count run.line_limit_is run.limit_is j (front input l) given' held' ended' one g s writes results opened w'))));
+            taken =
+                (let P : ℕ → Type 0 = λ n. TakenSoFar c line_limit limit (read_on i j) reader'.buffered reader'.ended (both o s) n (number + 1) (count + results) in
+                let Q : List ℕ → Type 0 = λ h. TakenSoFar c line_limit limit (read_on i j) h reader'.ended (both o s) given' (number + 1) (count + results) in
+                let E : Option Ended → Type 0 = λ x. TakenSoFar c line_limit limit (read_on i j) held' x (both o s) given' (number + 1) (count + results) in
+                subst P (sym given_is) (subst Q (sym held_is) (subst E (sym ended_is) (taken_more c line_limit limit i o reader number count run.line_limit_is run.limit_is within run.taken j joins.left joins.taken opened given' held' ended' one g s writes results w'))));
           }
 
 -- ---- answers of the reader
@@ -546,15 +321,8 @@ after_line old new j result one e a = subst (λ r. IsAfter old j (line_read r) n
 pub memory_first : {F : Type 0} (c : LineCommand F) (line_limit limit : ℕ) (left held : Option (List ℕ)) (taken faults fails : ℕ)
     → LinesRun c line_limit limit (record { left = left; left' = left; taken = taken; taken' = taken; faults = faults; faults' = faults }) (record { held = held; held' = held; faults = fails; faults' = fails }) EndOf.OutOfMemory
 memory_first c line_limit limit left held taken faults fails = record {
-  told = λ input l. inr (RunOf.for_memory refl (record {
-    lines = [];
-    answers = [];
-    past = 0;
-    rest = input;
-    front = record { begins = (refl, refl); answered = record { each = tt; none_refused = tt } };
-    next = RunOf.nothing_taken refl l;
-    out = gains_none held fails fails;
-  }));
+  told = λ input l. no_memory c line_limit limit input left _ l (gains_none held fails fails);
+  over_taken = record { octets = []; took = took_nothing left taken faults; run = no_memory c line_limit limit [] (Some []) _ refl (gains_none held fails fails) };
   caused = tt;
   licensed = tt;
   counts = (refl, refl);

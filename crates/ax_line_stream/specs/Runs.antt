@@ -2,6 +2,7 @@
 -- the run stops before that.
 use Rattle.std.specs.Prelude.{◌≡◌, ℕ, ◌+◌, ◌<◌, ◌≤◌, ◌⊎◌, List, [], ◌∷◌, ◌++◌, length, flat_map, Option, Some}
 use Rattle.ax_lines.specs.Feeds.{IsPlain}
+use Rattle.ax_lines.specs.Holding.{Took}
 use Rattle.ax_lines.specs.Lined.{LinedEnd, line, IsNextLine, Lined}
 use Rattle.ax_lines.specs.Reader.{read_ahead}
 use Rattle.ax_line_stream.specs.Commands.{LineCommand, LineAnswer, gives, refused, output_of, results_of, AreAnswered}
@@ -137,6 +138,13 @@ pub record Answered {F : Type 0} (c : LineCommand F) (line_limit limit : ℕ) (i
 abbrev pub ToldRun : {F : Type 0} → LineCommand F → ℕ → ℕ → List ℕ → Option (List ℕ) → SinkChange → LinesEnd F → Type 0
 ToldRun c line_limit limit input left' o e = Answered c line_limit limit input left' o e ⊎ LinesStop c line_limit limit input left' o e
 
+-- the octets that were taken are an input of which this is the run, with none left of it, whether the source tells what it
+-- gives or not
+pub record RunsOverTaken {F : Type 0} (c : LineCommand F) (line_limit limit : ℕ) (i : SourceChange) (o : SinkChange) (e : LinesEnd F) : Type 0 where
+  pub octets : List ℕ
+  pub took : Took i octets
+  pub run : ToldRun c line_limit limit octets (Some []) o e
+
 -- ---- a run, whatever is told
 
 -- the command refuses some line of that number so
@@ -172,6 +180,7 @@ CountsOnly i o _ = (i.faults' ≡ i.faults) × (o.faults' ≡ o.faults)
 
 pub record LinesRun {F : Type 0} (c : LineCommand F) (line_limit limit : ℕ) (i : SourceChange) (o : SinkChange) (e : LinesEnd F) : Type 0 where
   pub told : (input : List ℕ) → i.left ≡ Some input → ToldRun c line_limit limit input i.left' o e
+  pub over_taken : RunsOverTaken c line_limit limit i o e
   pub caused : IsCaused limit i o e
   pub licensed : IsLicensed c e
   pub counts : CountsOnly i o e

@@ -61,7 +61,7 @@ shown_next line_limit limit given octets rest left (end line_too_long) is h = re
   within = h.within;
 }
 
-just_next : (line_limit limit given : ℕ) (octets rest : List ℕ) (left : Option (List ℕ)) (part : NextLine) → given ≤ limit → left ≡ Some rest → Shows line_limit limit given octets left part → IsJustNextLine line_limit limit given (octets ++ rest) (with_after part rest)
+pub just_next : (line_limit limit given : ℕ) (octets rest : List ℕ) (left : Option (List ℕ)) (part : NextLine) → given ≤ limit → left ≡ Some rest → Shows line_limit limit given octets left part → IsJustNextLine line_limit limit given (octets ++ rest) (with_after part rest)
 just_next line_limit limit given octets rest left part le is h =
     let next : IsNextLine line_limit limit given (octets ++ rest) (with_after part rest) = shown_next line_limit limit given octets rest left part is h in record {
       is = next;

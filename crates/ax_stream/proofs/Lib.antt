@@ -2,6 +2,7 @@ pub mod AnswersOnce
 pub mod BlockSteps
 pub mod CanonWritten
 pub mod Completes
+pub mod FrontBlocks
 pub mod MadeBlocks
 pub mod OpaqueBlocks
 pub mod Prefixes
@@ -9,4 +10,4 @@ pub mod Results
 pub mod Runs
 pub mod Streams
 pub mod Taken
-pub mod Remembered
+pub mod TakenBlocks

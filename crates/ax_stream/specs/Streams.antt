@@ -3,7 +3,7 @@
 use Rattle.std.specs.Prelude.{◌≡◌, ℕ, ◌+◌, ◌<◌, ◌≤◌, ◌⊎◌, List, [], ◌++◌, length, Option, Some}
 use Rattle.ax_bits.specs.Bits.{AreOctets}
 use Rattle.ax_blocks.specs.Reader.{octets_to_end, RanOut}
-use Rattle.ax_blocks.specs.Taking.{IsUnfinished}
+use Rattle.ax_blocks.specs.Taking.{Took, IsUnfinished}
 use Rattle.ax_model.specs.Blocks.{BlockTree, IsFramed, SpellsBlock, SpellsStream}
 use Rattle.ax_model.specs.Ends.{Ends, InputEnd, RawFails}
 use Rattle.ax_model.specs.Framing.{RawTree, FramingEnd}
@@ -175,6 +175,17 @@ pub record Answered (c : BlockCommand) (limit : ℕ) (input : List ℕ) (left' :
 abbrev pub ToldRun : BlockCommand → ℕ → List ℕ → Option (List ℕ) → SinkChange → SinkChange → StreamEnd → Type 0
 ToldRun c limit input left' o r e = Answered c limit input left' o r e ⊎ StreamStops c limit input left' o r e
 
+-- the octets that were taken are an input of which this is the run, with none left of it, whether the source tells what it
+-- gives or not; and so much else is true of them
+pub record RunsOver (c : BlockCommand) (limit : ℕ) (i : SourceChange) (o r : SinkChange) (e : StreamEnd) (Also : List ℕ → Type 0) : Type 0 where
+  pub octets : List ℕ
+  pub took : Took i.left i.left' i.taken i.taken' octets
+  pub run : ToldRun c limit octets (Some []) o r e
+  pub also : Also octets
+
+abbrev pub RunsOverTaken : BlockCommand → ℕ → SourceChange → SinkChange → SinkChange → StreamEnd → Type 0
+RunsOverTaken c limit i o r e = RunsOver c limit i o r e (λ octets. Unit {0})
+
 -- ---- a run, whatever is told
 
 -- the command has a line for some block
@@ -239,6 +250,7 @@ CountsOnly i o r _ = (i.faults' ≡ i.faults) × (o.faults' ≡ o.faults) × (r.
 
 pub record StreamRuns (c : BlockCommand) (limit : ℕ) (i : SourceChange) (o r : SinkChange) (e : StreamEnd) : Type 0 where
   pub told : (input : List ℕ) → AreOctets input → i.left ≡ Some input → ToldRun c limit input i.left' o r e
+  pub over_taken : RunsOverTaken c limit i o r e
   pub caused : IsCaused limit i o r e
   pub licensed : IsLicensed c e
   pub counts : CountsOnly i o r e

@@ -1,7 +1,13 @@
 use Rattle.std.proofs.Common.{arith}
 use Rattle.ax_blocks.specs.Reader.{OnEnd, OnReadFault, FindsEnd, StopsUnfinished}
-use Rattle.ax_blocks.proofs.Ends.{Header, header_there, block_cut, block_ends, block_faults, passed_on}
+use Rattle.ax_blocks.proofs.Ends.{Header, header_ends, header_there, block_cut, block_ends, block_faults, passed_on}
 use Rattle.ax_blocks.proofs.framing.next_length.Goals as goal
+
+pub returns-in_err-buffered-clause-end : goal.returns-in_err-buffered-clause-end
+returns-in_err-buffered-clause-end g c =
+    passed_on (λ r. OnEnd r (FindsEnd c.args.limit c.args.given (g.S.Source.left c.args.source.now) (g.S.Source.left c.take_part.new.source) (g.S.Source.taken c.args.source.now) (g.S.Source.taken c.take_part.new.source)))
+    c.from_residual.result c.in_err-buffered.field-0.0 c.from_residual.ensures.1
+    (header_ends c.args.limit c.args.given _ _ _ _ c.args.buffer.now c.take_part.new.buffer c.requires.within c.in_err-buffered.field-0.0 c.in_err-buffered.ensures.means)
 
 pub returns-in_err-buffered-2-clause-end : goal.returns-in_err-buffered-2-clause-end
 returns-in_err-buffered-2-clause-end g c =

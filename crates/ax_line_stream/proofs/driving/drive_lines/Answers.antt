@@ -1,5 +1,5 @@
 use Rattle.std.proofs.Common.{◌≡◌, ◌∙◌, ap, subst, refl, arith, Ok, Some, None}
-use Rattle.ax_line_stream.proofs.Running.{running_begins, run_done, run_refused, run_stopped, run_on, stands_after, unfailed, line_opens, refusal_opens, ends_now, never_refused, refused_there, after_line}
+use Rattle.ax_line_stream.proofs.Running.{running_begins, run_done, run_refused, run_stopped, run_on, stands_told, unfailed, line_opens, refusal_opens, ends_now, never_refused, refused_there, after_line}
 use Rattle.ax_line_stream.specs.Standing.{StandsAfter}
 use Rattle.ax_outside.specs.Changes.{source_change}
 use Rattle.ax_line_stream.proofs.driving.drive_lines.Goals as goal
@@ -26,8 +26,9 @@ pub returns-in-Err-do_line-clause-runs : goal.returns-in-Err-do_line-clause-runs
 returns-in-Err-do_line-clause-runs g c =
     let e : c.next.result ≡ Ok (Some c.in-Ok-Some.line) = c.in-Ok-Some.is ∙ ap Ok c.in-Ok-Some.field-0-is in
     let a = after_line _ _ _ _ _ e c.next.follows.holds-at-none in
+    let opened = line_opens _ c.lines.reader _ c.next.result c.in-Ok-Some.line e c.lines.invariant.going c.next.ensures.again in
     run_stopped _ _ _ _ _ _ _ _ _ _ c.lines.invariant (source_change g.S.Source c.lines.source c.next.new.source) (record { left = refl; taken = refl; faults = refl }) c.next.ensures.never_falls _ _ _ _ a.gives
-    _ refl refl c.do_line.ensures.out_later _ (unfailed _ _ _ e c.next.ensures.quiet) c.in-Err-do_line.ensures.does
+    _ refl refl c.do_line.ensures.out_later _ opened (unfailed _ _ _ e c.next.ensures.quiet) c.in-Err-do_line.ensures.does
 
 pub returns-in-Err-do_line-clause-stands : goal.returns-in-Err-do_line-clause-stands
 returns-in-Err-do_line-clause-stands g c =
@@ -35,7 +36,7 @@ returns-in-Err-do_line-clause-stands g c =
     let a = after_line _ _ _ _ _ e c.next.follows.holds-at-none in
     λ input line fault left is.
     let number = refused_there _ _ line fault _ _ _ c.in-Err-do_line.ensures.does is in
-    subst (StandsAfter _ _ input _ _) number (stands_after _ _ _ _ _ _ _ _ _ _ c.lines.invariant (source_change g.S.Source c.lines.source c.next.new.source) (record { left = refl; taken = refl; faults = refl }) c.next.ensures.never_falls _ _ _ _ a.gives _ refl refl input left)
+    subst (StandsAfter _ _ input _ _) number (stands_told _ _ _ _ _ _ _ _ _ _ c.lines.invariant (source_change g.S.Source c.lines.source c.next.new.source) (record { left = refl; taken = refl; faults = refl }) c.next.ensures.never_falls _ _ _ _ a.gives _ refl refl input left)
 
 pub lines-preserved : goal.lines-preserved
 lines-preserved g c =

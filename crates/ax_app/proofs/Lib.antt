@@ -11,6 +11,7 @@ pub mod OneAnswer
 pub mod OwnOutcomes
 pub mod SalvagedWhole
 pub mod Stages
+pub mod TakenHeadline
 pub mod Trials
 pub mod Expansions
 pub mod GivenOnce

@@ -153,13 +153,13 @@ at_file : (distinct : Bool) (files : List File) (c : LibraryCounts) (before : Li
 at_file distinct files c before name i stop (by_file h) = itself_on c stop _ _ (λ s. by_file s) (by_itself category_files files c name i stop h)
 at_file distinct files c before name i stop (by_category want category is twice) = inr (record { ends = by_category want category is twice; not_memory = twice_is_not_memory stop i category is })
 
-at_files_of : (what : Line) (files : List File) (c : LibraryCounts) (stop : LoadStop) → LineEnds what (Some files) c stop → IsHindrance c stop ⊎ ByItself stop (LineEnds what (Some files) none_counted stop)
+pub at_files_of : (what : Line) (files : List File) (c : LibraryCounts) (stop : LoadStop) → LineEnds what (Some files) c stop → IsHindrance c stop ⊎ ByItself stop (LineEnds what (Some files) none_counted stop)
 at_files_of what files c stop (in_specs h) =
     itself_on c stop _ _ (λ e. in_specs (record { earlier = h.earlier; name = h.name; more = h.more; split = h.split; before = h.before; give = h.give; ends = e }))
     (at_file (takes_distinct what) files c h.before h.name (length h.earlier) stop h.ends)
 at_files_of what files c stop (in_expansion name is specs gives h) = itself_on c stop _ _ (λ e. in_expansion name is specs gives e) (by_itself expansion_files files c name (length (files_of what)) stop h)
 
-files_headline : (words : List (List ℕ)) (files : List File) (c : LibraryCounts) (input : List ℕ) (i : SourceChange) (o r : SinkChange) (outcome : Outcome) (stop : LoadStop) (h : StopsAtFiles words (Some files) c stop) → outcome ≡ outcome_of_stop stop → IsIdle i o r
+pub files_headline : (words : List (List ℕ)) (files : List File) (c : LibraryCounts) (input : List ℕ) (i : SourceChange) (o r : SinkChange) (outcome : Outcome) (stop : LoadStop) (h : StopsAtFiles words (Some files) c stop) → outcome ≡ outcome_of_stop stop → IsIdle i o r
     → IsHindrance c stop ⊎ ByItself stop (LineEnds h.what (Some files) none_counted stop) → Headline words files c input i o r outcome
 files_headline words files c input i o r outcome stop h is idle (inl hindered) = stopped_at_files stop h hindered is idle
 files_headline words files c input i o r outcome stop h is idle (inr b) =
@@ -167,26 +167,26 @@ files_headline words files c input i o r outcome stop h is idle (inr b) =
 
 -- ---- the told headline: jobs
 
-text_headline : (words : List (List ℕ)) (files : List File) (c : LibraryCounts) (input : List ℕ) (i : SourceChange) (o r : SinkChange) (outcome : Outcome) (count : ℕ) (text : List ℕ) → Does words (Some files) (writes count text)
+pub text_headline : (words : List (List ℕ)) (files : List File) (c : LibraryCounts) (input : List ℕ) (i : SourceChange) (o r : SinkChange) (outcome : Outcome) (count : ℕ) (text : List ℕ) → Does words (Some files) (writes count text)
     → IsUntouched i → GainsNothing r → TextEnds count text o outcome → Headline words files c input i o r outcome
 text_headline words files c input i o r outcome count text d idle none (written done h quiet) =
     answered text [] (by_job (writes count text) d (record { done = done; written_is = refl; reported_is = refl })) h (none ∙ sym (with_end-nil r.held))
 text_headline words files c input i o r outcome count text d idle none (cut e h once) = stopped_in_job (writes count text) d (record { ends = inl (e, h); untouched = idle; report = none })
 text_headline words files c input i o r outcome count text d idle none (no_memory e h still) = stopped_in_job (writes count text) d (record { ends = inr (e, h); untouched = idle; report = none })
 
-blocks_headline : (words : List (List ℕ)) (files : List File) (c : LibraryCounts) (input : List ℕ) (i : SourceChange) (o r : SinkChange) (outcome : Outcome) (k : BlockCommand) (end : StreamEnd) → Does words (Some files) (each_block k)
+pub blocks_headline : (words : List (List ℕ)) (files : List File) (c : LibraryCounts) (input : List ℕ) (i : SourceChange) (o r : SinkChange) (outcome : Outcome) (k : BlockCommand) (end : StreamEnd) → Does words (Some files) (each_block k)
     → outcome ≡ outcome_of_end end → ToldRun k longest_input input i.left' o r end → Headline words files c input i o r outcome
 blocks_headline words files c input i o r outcome k end d is (inl a) =
     answered _ _ (by_job (each_block k) d (record { blocks = a.blocks; end = end; answers = a.answers; is = is; written_is = refl; reported_is = refl })) a.out a.report
 blocks_headline words files c input i o r outcome k end d is (inr stops) = stopped_in_job (each_block k) d (record { end = end; stops = stops; is = is })
 
-lines_headline : (words : List (List ℕ)) (files : List File) (c : LibraryCounts) (input : List ℕ) (i : SourceChange) (o r : SinkChange) (outcome : Outcome) (catalogue : List SpecTree) (end : LinesEnd TextFault) → Does words (Some files) (builds catalogue)
+pub lines_headline : (words : List (List ℕ)) (files : List File) (c : LibraryCounts) (input : List ℕ) (i : SourceChange) (o r : SinkChange) (outcome : Outcome) (catalogue : List SpecTree) (end : LinesEnd TextFault) → Does words (Some files) (builds catalogue)
     → outcome ≡ outcome_of_lines end → GainsNothing r → OfLines.ToldRun (build_command catalogue) longest_line longest_input input i.left' o end → Headline words files c input i o r outcome
 lines_headline words files c input i o r outcome catalogue end d is none (inl a) =
     answered _ [] (by_job (builds catalogue) d (record { lines = a.lines; answers = a.answers; end = end; ends = a.ends; is = is; written_is = refl; reported_is = refl })) a.out (none ∙ sym (with_end-nil r.held))
 lines_headline words files c input i o r outcome catalogue end d is none (inr stops) = stopped_in_job (builds catalogue) d (record { end = end; stops = stops; is = is; report = none })
 
-salvage_headline : (words : List (List ℕ)) (files : List File) (c : LibraryCounts) (input : List ℕ) (i : SourceChange) (o r : SinkChange) (outcome : Outcome) (catalogue : List SpecTree) (end : SalvageEnd) → Does words (Some files) (salvages catalogue)
+pub salvage_headline : (words : List (List ℕ)) (files : List File) (c : LibraryCounts) (input : List ℕ) (i : SourceChange) (o r : SinkChange) (outcome : Outcome) (catalogue : List SpecTree) (end : SalvageEnd) → Does words (Some files) (salvages catalogue)
     → outcome ≡ outcome_of_salvage end → SalvageAnswers catalogue longest_input input i.left' o r end ⊎ SalvageStops catalogue longest_input input i.left' o r end → Headline words files c input i o r outcome
 salvage_headline words files c input i o r outcome catalogue end d is (inl a) = answered a.out a.report (by_job (salvages catalogue) d (record { end = end; salvaged = a.salvaged; is = is })) a.wrote a.reported
 salvage_headline words files c input i o r outcome catalogue end d is (inr stops) = stopped_in_job (salvages catalogue) d (record { end = end; stops = stops; is = is })
@@ -199,7 +199,7 @@ job_headline words files c input i o r outcome (builds catalogue) octets left d 
 job_headline words files c input i o r outcome (salvages catalogue) octets left d h = salvage_headline words files c input i o r outcome catalogue h.end d h.is (h.runs.told input octets left)
 job_headline words files c input i o r outcome (refuses refusal) octets left d h = absurd h
 
-before_headline : (words : List (List ℕ)) (files : List File) (c : LibraryCounts) (input : List ℕ) (i : SourceChange) (o r : SinkChange) (outcome : Outcome) (stop : JobStop) → StopsBeforeInput words (Some files) stop → outcome ≡ outcome_of_job_stop stop → IsIdle i o r
+pub before_headline : (words : List (List ℕ)) (files : List File) (c : LibraryCounts) (input : List ℕ) (i : SourceChange) (o r : SinkChange) (outcome : Outcome) (stop : JobStop) → StopsBeforeInput words (Some files) stop → outcome ≡ outcome_of_job_stop stop → IsIdle i o r
     → Headline words files c input i o r outcome
 before_headline words files c input i o r outcome (JobStopOf.Refused refusal) h is idle =
     answered [] [] (by_refusal refusal (record { what = h.what; shape = h.shape; given = h.given; give = h.give; is = h.stopped }) is refl refl) (idle.out ∙ sym (with_end-nil o.held)) (idle.report ∙ sym (with_end-nil r.held))

@@ -8,7 +8,7 @@ ghost use Rattle.ax_outside.specs.Files.{File};
 ghost use Rattle.ax_words.specs.Words.{IsInBounds, HasShape, HasNoShape};
 ghost use Rattle.ax_app.specs.Completing.{NoFaultCounted, HasWhole, IsDoneWith};
 ghost use Rattle.ax_app.specs.Counting.{LoadsAll, CountsOnly};
-ghost use Rattle.ax_app.specs.Headline.{Headline};
+ghost use Rattle.ax_app.specs.Headline.{Headline, HeadlineOfTaken};
 ghost use Rattle.ax_app.specs.Given.{LineGives};
 ghost use Rattle.ax_app.specs.Jobs.{Job, IsReady, ReadsInput};
 ghost use Rattle.ax_app.specs.Loaded.{given_of, IsLoadedFor};
@@ -90,7 +90,8 @@ fn obey<L: Library, S: Source, K: Sink, R: Sink>(
 /// Does what the words say, and answers how that ended. Usage comes exactly where the words have no shape, but that want of
 /// memory may stand in its place, since reading the words takes memory. Where memory is wanting, the source is untouched and
 /// nothing was written, but of the commands that take memory once they read: `show`, `text`, `build`, `expand` and `convert`.
-/// Before the lines of the outcome one fault at most is counted, of the object that the outcome names.
+/// Before the lines of the outcome one fault at most is counted, of the object that the outcome names. Of a source that doesn't
+/// tell what it gives, the octets that were taken are an input of which the outcome and both outputs are those of the run.
 pub fn run<L: Library, S: Source, K: Sink, R: Sink>(
     alloc: Global,
     words: &Vec<String>,
@@ -101,6 +102,9 @@ pub fn run<L: Library, S: Source, K: Sink, R: Sink>(
 ) -> Outcome
     ensures headline { (files : List File) (input : List ℕ) → AreOctets input → L.files library.old ≡ Some files → S.left source.old ≡ Some input
         → Ended (λ before. Headline (map string_bytes words.now.items) files (library_counts L.Library library.old library.new) input
+        (source_change S.Source source.old source.new) (sink_change K.Sink out.old out.new) before result) (sink_change R.Sink report.old report.new) (lines_of result) }
+    ensures headline_of_taken { (files : List File) → L.files library.old ≡ Some files
+        → Ended (λ before. HeadlineOfTaken (map string_bytes words.now.items) files (library_counts L.Library library.old library.new)
         (source_change S.Source source.old source.new) (sink_change K.Sink out.old out.new) before result) (sink_change R.Sink report.old report.new) (lines_of result) }
     ensures runs { Ended (λ before. Runs (map string_bytes words.now.items) (L.files library.old) (library_counts L.Library library.old library.new)
         (source_change S.Source source.old source.new) (sink_change K.Sink out.old out.new) before result) (sink_change R.Sink report.old report.new) (lines_of result) }

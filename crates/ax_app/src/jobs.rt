@@ -32,7 +32,7 @@ use ax_filter::{FilterStop, read_expression};
 use ax_grammar::print_spec;
 use ax_migrate_views::Migrator;
 use ax_model::Spec;
-use ax_outside::{Sink, Source, write_text};
+use ax_outside::{LONGEST_INPUT, Sink, Source, write_text};
 use ax_salvage::{Salvage, salvage};
 use ax_show_work::ShowViews;
 use ax_stream::run_blocks;
@@ -115,9 +115,6 @@ fn trial<K: Sink>(
     };
     Ok(write_out(out, &line, u64::from(count)))
 }
-
-/// The most octets of an input.
-const LONGEST_INPUT: u64 = 1 << 40;
 
 /// Does a job on each block of the input. All memory is taken before the input is read.
 #[tactic(auto, using(crate::proofs::Memory::firsts, crate::proofs::Falling::falls))]

@@ -17,7 +17,6 @@ use Rattle.ax_line_stream.specs.declared.end.LinesEnd.TheVariants as EndOf
 use Rattle.ax_outside.specs.Changes.{SourceChange, SinkChange, Gains}
 use Rattle.ax_outside.specs.Told.{with_front, with_end, IsAtEnd}
 
-
 -- the input began with lines that are answered, whose results were written; `following` are the octets that aren't given yet.
 -- Where the reader goes on each line has its line feed
 pub record SoFar {F : Type 0} (c : LineCommand F) (line_limit limit : ℕ) (input : List ℕ) (following : Option (List ℕ)) (ended : Option Ended) (o : SinkChange) (given number count : ℕ) : Type 0 where
@@ -292,4 +291,3 @@ module _ {F : Type 0} (c : LineCommand F) (line_limit limit : ℕ) (input : List
             counted = omega arith;
             fed = λ open_. feeds_snoc input s.lines one s.rest told_line.after (s.fed opened) (feed_following open_);
           }
-

@@ -21,7 +21,6 @@ use Rattle.ax_outside.proofs.Ends.{Rose-later}
 use Rattle.ax_outside.specs.Changes.{SourceChange, source_change, SinkChange}
 use Rattle.ax_outside.specs.declared.sources.Source as SourceOf
 use Rattle.ax_outside.specs.Told.{IsAtEnd, Rose}
-
 use Rattle.ax_line_stream.proofs.FrontLines.{SoFar, nothing_so_far, no_memory, shown_longer, ended, reading_told, stands_after, stops_told, line_more}
 use Rattle.ax_line_stream.proofs.TakenLines.{TakenSoFar, took_nothing, nothing_taken, done_over, refused_over, failed_over, stopped_over, taken_more}
 

@@ -13,7 +13,6 @@ use Rattle.ax_line_stream.specs.declared.end.LinesEnd.TheVariants as EndOf
 use Rattle.ax_outside.proofs.Ends.{with_front-append}
 use Rattle.ax_outside.specs.Changes.{SourceChange, SinkChange, Gains}
 use Rattle.ax_outside.specs.Told.{with_front}
-
 use Rattle.ax_lines.proofs.NextLines.{just_next}
 use Rattle.ax_lines.specs.Holding.{Took}
 use Rattle.ax_lines.specs.Lined.{line}

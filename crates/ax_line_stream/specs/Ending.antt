@@ -3,6 +3,7 @@ use Rattle.std.specs.Prelude.{ℕ, ◌^◌}
 use Rattle.ax_lines.specs.Lined.{LinedEnd, all_lines, input_too_long, line_too_long}
 use Rattle.ax_lines.specs.declared.line_error.LineError.{LineError}
 use Rattle.ax_lines.specs.declared.line_error.LineError.TheVariants as LineErrorOf
+use Rattle.ax_outside.specs.Limits as Limits
 use Rattle.ax_line_stream.specs.declared.end.LinesEnd.{LinesEnd}
 use Rattle.ax_line_stream.specs.declared.end.LinesEnd.TheVariants.{Done, LineTooLong, InputTooLong, ReadFault}
 
@@ -12,7 +13,7 @@ longest_line = 2 ^ 24
 
 -- the most octets of an input
 abbrev pub longest_input : ℕ
-longest_input = 2 ^ 40
+longest_input = Limits.longest_input
 
 -- after this many results and lines: a line that is too long has the number of the lines before it
 abbrev pub lines_end : {F : Type 0} → ℕ → ℕ → LinedEnd → LinesEnd F

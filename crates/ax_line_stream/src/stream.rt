@@ -9,14 +9,11 @@ use crate::driving::drive_lines;
 use crate::end::LinesEnd;
 use crate::work::LineWork;
 use ax_lines::LineReader;
-use ax_outside::{Sink, Source};
+use ax_outside::{LONGEST_INPUT, Sink, Source};
 use std::alloc::Global;
 
 /// The most octets of a line, its line feed aside.
 const LONGEST_LINE: u32 = 1 << 24;
-
-/// The most octets of an input.
-const LONGEST_INPUT: u64 = 1 << 40;
 
 /// Does the work on each line of the input. The reader's memory is taken first.
 pub fn run_lines<W: LineWork, S: Source, K: Sink>(

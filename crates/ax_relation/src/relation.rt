@@ -3,7 +3,7 @@ ghost use Rattle.std.specs.Prelude.{◌≡◌, None};
 ghost use Rattle.ax_model.specs.Plain.{spec_tree};
 ghost use Rattle.ax_model.specs.Shared.{Shared, Common};
 ghost use Rattle.ax_model.specs.declared.spec.Spec.{Spec};
-ghost use Rattle.ax_relation.specs.Relates.{Relates};
+ghost use Rattle.ax_relation.specs.Editions.{AreOf, AreOfEditions};
 
 use crate::known::Known;
 use crate::moves::Moves;
@@ -23,17 +23,19 @@ pub struct RelationPath {
 /// Keys of the old edition, in order.
 pub type RelationPaths = Sequence<RelationPath>;
 
-/// The relation of two editions of one category.
+/// The relation of two editions of one category, which have no flaw: there is no other.
 #[derive(Drop)]
 pub struct Relation {
     paths: RelationPaths,
     known: Known,
     moves: Moves,
+    ghost editions: { AreOfEditions paths known moves },
 }
 
 impl Relation {
-    /// The relation that has these paths, of which those are known to be shared, and these moves.
+    /// The relation that has these paths, of which those are known to be shared, and these moves, where they are of two editions.
     pub fn new(paths: RelationPaths, known: Known, moves: Moves) -> Relation
+        requires { AreOfEditions paths known moves }
         ensures paths { result.paths ≡ paths }
         ensures known { result.known ≡ known }
         ensures moves { result.moves ≡ moves }
@@ -48,7 +50,7 @@ impl Relation {
     /// Whether the path is a named path of the old edition that the new one shares. Takes no memory.
     #[tactic(auto, using(crate::proofs::SharedPaths::sharing))]
     pub fn shared(&self, path: &Path) -> bool
-        ensures { (old new : Spec) → Relates old new self.now → result ≡ Shared (spec_tree old) (spec_tree new) (record { names = path.now; part = None }) }
+        ensures { (old new : Spec) → AreOf old new self.now.paths self.now.known self.now.moves → result ≡ Shared (spec_tree old) (spec_tree new) (record { names = path.now; part = None }) }
     {
         self.known.get(path.as_slice()).path
     }
@@ -56,7 +58,7 @@ impl Relation {
     /// How many first parts the extended items of both editions at the path have in common; 0 of another path. Takes no memory.
     #[tactic(auto, using(crate::proofs::SharedPaths::sharing))]
     pub fn shared_parts(&self, path: &Path) -> u32
-        ensures { (old new : Spec) → Relates old new self.now → result ≡ Common (spec_tree old) (spec_tree new) path.now }
+        ensures { (old new : Spec) → AreOf old new self.now.paths self.now.known self.now.moves → result ≡ Common (spec_tree old) (spec_tree new) path.now }
     {
         self.known.get(path.as_slice()).parts
     }

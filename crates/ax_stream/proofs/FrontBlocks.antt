@@ -314,4 +314,3 @@ module _ (c : BlockCommand) (limit : ℕ) (Kept : List RawTree → Type 0) (inpu
   reader_stops (EndsInBlock bit) f u = ends_early (ends_in_block bit) (λ m is. absurd (cc)) f
   reader_stops InputTooLong f u = ends_early input_too_long (λ m is. absurd (cc)) f
   reader_stops ReadFault f u = stops_reading u
-

@@ -139,4 +139,3 @@ module _ (c : BlockCommand) (limit : ℕ) (Kept : List RawTree → Type 0) (i : 
       took = all_taken g.octets g.took;
       so_far = one_block_more c limit Kept (s.octets ++ g.octets) (Some g.octets) (Some []) o r given count i.taken' t' raw (so_far g.octets) (gives_alone limit given i.left' next i.taken' t' raw g) Later lines laid p q keeps f joins added shows said;
     }
-

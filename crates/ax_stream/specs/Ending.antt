@@ -1,9 +1,10 @@
 -- The end of a run over a stream, for the end of its input.
-use Rattle.std.specs.Prelude.{ℕ, ◌+◌, ◌^◌, ◌≤◌}
+use Rattle.std.specs.Prelude.{ℕ, ◌+◌, ◌≤◌}
 use Rattle.ax_model.specs.Ends.{InputEnd, by_framing, by_body}
 use Rattle.ax_model.specs.Framing.{FramingEnd, whole, input_too_long, ends_in_header, bad_len, ends_in_block}
 use Rattle.ax_model.specs.declared.fault.BodyCause.{BodyCause}
 use Rattle.ax_model.specs.declared.fault.BodyCause.TheVariants as Body
+use Rattle.ax_outside.specs.Limits as Limits
 use Rattle.ax_stream.specs.declared.end.Cause.{Cause}
 use Rattle.ax_stream.specs.declared.end.Cause.TheVariants.{EndsInHeader, BadLen, EndsInBlock, RunsOut, UndefinedSlot, PresenceTooLong, ExtensionPastEnd, BadExplicitLength}
 use Rattle.ax_blocks.specs.declared.next_error.NextError.{NextError}
@@ -16,7 +17,7 @@ use Rattle.ax_stream.specs.declared.work.WorkStop.TheVariants as WorkStopOf
 
 -- the most octets of an input
 abbrev pub longest_input : ℕ
-longest_input = 2 ^ 40
+longest_input = Limits.longest_input
 
 abbrev pub cause_of : BodyCause → Cause
 cause_of Body.RunsOut = RunsOut

@@ -1,11 +1,15 @@
 use Rattle.ax_app.proofs.Causing.{causes}
 use Rattle.ax_app.proofs.Loads.{counted}
 use Rattle.ax_app.proofs.Stages.{headline, usage_only, usage_there, causes_on, completes, reads_all, ended}
+use Rattle.ax_app.proofs.TakenHeadline.{taken_headline}
 use Rattle.ax_app.proofs.OwnOutcomes.{of_its_command, later_on}
 use Rattle.ax_app.proofs.gateway.run.Goals as goal
 
 pub returns-clause-headline : goal.returns-clause-headline
 returns-clause-headline g c = λ files input octets is left. ended _ _ _ _ _ _ _ _ _ c.obey-outcome.ensures.later.report c.write_lines.ensures.later (headline _ _ files _ input _ _ _ _ is octets left c.obey-outcome.ensures.runs) c.write_lines.ensures
+
+pub returns-clause-headline_of_taken : goal.returns-clause-headline_of_taken
+returns-clause-headline_of_taken g c = λ files is. ended _ _ _ _ _ _ _ _ _ c.obey-outcome.ensures.later.report c.write_lines.ensures.later (taken_headline _ _ files _ _ _ _ _ is c.obey-outcome.ensures.runs) c.write_lines.ensures
 
 pub returns-clause-runs : goal.returns-clause-runs
 returns-clause-runs g c = ended _ _ _ _ _ _ _ _ _ c.obey-outcome.ensures.later.report c.write_lines.ensures.later c.obey-outcome.ensures.runs c.write_lines.ensures

@@ -9,6 +9,7 @@ pub mod Whole
 pub mod Leads
 pub mod Resolved
 pub mod Truth
+pub mod Marked
 pub mod PlacedRecords
 pub mod PlaceValues
 pub mod TestLists
@@ -18,6 +19,7 @@ pub mod TextStops
 pub mod SlotSets
 pub mod PlanTrees
 pub mod PlanLists
+pub mod Levels
 pub mod PlannedTests
 pub mod Memos
 pub mod AbsentItems

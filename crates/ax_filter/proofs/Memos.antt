@@ -8,9 +8,10 @@ use Rattle.ax_filter.specs.Memos.{Recalls, no_answer}
 use Rattle.ax_filter.specs.Plans.{finds, found_in}
 use Rattle.ax_filter.specs.declared.memo.Answer.{Answer}
 use Rattle.ax_filter.specs.declared.memo.Memo.{Memo}
+use Rattle.ax_filter.specs.declared.plan.Found.{Found}
 use Rattle.ax_filter.specs.declared.plan.Question.{Question}
 
-pub recalls_one_more : (found : ℕ → Option ℕ) (memo new : Memo) (place n : ℕ) (o : Option ℕ) → new.answers ≡ set memo.answers place (record { question = n; found = o }) → place < length memo.answers → o ≡ found n → Recalls found memo → Recalls found new
+pub recalls_one_more : (found : ℕ → Option Found) (memo new : Memo) (place n : ℕ) (o : Option Found) → new.answers ≡ set memo.answers place (record { question = n; found = o }) → place < length memo.answers → o ≡ found n → Recalls found memo → Recalls found new
 recalls_one_more found memo new place n o put within is h i lt = by (cases_eq i place)
   where
     one : Answer
@@ -28,5 +29,5 @@ pub no_question : (qs : List Question) (r : EntriesTree) → length qs < 4294967
 no_question qs r few = ap (λ o. option_and_then (found_in r) o) (slice_get_past qs 4294967295 (omega arith))
 
 -- the answer at a place is that to its question
-pub kept_found : (found : ℕ → Option ℕ) (memo : Memo) (place n : ℕ) → place < length memo.answers → (get_or memo.answers place no_answer).question ≡ n → Recalls found memo → (get_or memo.answers place no_answer).found ≡ found n
+pub kept_found : (found : ℕ → Option Found) (memo : Memo) (place n : ℕ) → place < length memo.answers → (get_or memo.answers place no_answer).question ≡ n → Recalls found memo → (get_or memo.answers place no_answer).found ≡ found n
 kept_found found memo place n within is h = h place within ∙ ap found is

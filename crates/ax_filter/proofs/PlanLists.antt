@@ -3,6 +3,7 @@ use Rattle.std.proofs.Common.{◌≡◌, ℕ, ◌+◌, ◌<◌, ◌≤◌, Bool,
 use Rattle.std.proofs.lemmas.List.{drop_all, map-append}
 use Rattle.ax_model.proofs.Namings.{from_place}
 use Rattle.ax_filter.specs.Plans.{PlanTree, PlansTree, plan_tree, plans_of, joined, joined_all, says, many_say}
+use Rattle.ax_filter.specs.declared.plan.Found.{Found}
 use Rattle.ax_filter.specs.declared.plan.Plan.{Plan}
 
 -- ---- joined answers
@@ -39,11 +40,11 @@ joined_append all (b ∷ bs) cs = ap (joined all b) (joined_append all bs cs) �
 
 -- ---- what plans say
 
-pub said_each : (marks : List ℕ) (found : ℕ → Option ℕ) (all : Bool) (ps : List PlanTree) → many_say marks found all (plans_of ps) ≡ joined_all all (map (says marks found) ps)
+pub said_each : (marks : List ℕ) (found : ℕ → Option Found) (all : Bool) (ps : List PlanTree) → many_say marks found all (plans_of ps) ≡ joined_all all (map (says marks found) ps)
 said_each marks found all [] = refl
 said_each marks found all (p ∷ ps) = ap (joined all (says marks found p)) (said_each marks found all ps)
 
-pub say_more : (marks : List ℕ) (found : ℕ → Option ℕ) (all : Bool) (ps : List PlanTree) (p : PlanTree) → many_say marks found all (plans_of (ps ++ p ∷ [])) ≡ joined all (many_say marks found all (plans_of ps)) (says marks found p)
+pub say_more : (marks : List ℕ) (found : ℕ → Option Found) (all : Bool) (ps : List PlanTree) (p : PlanTree) → many_say marks found all (plans_of (ps ++ p ∷ [])) ≡ joined all (many_say marks found all (plans_of ps)) (says marks found p)
 say_more marks found all ps p =
     said_each marks found all (ps ++ p ∷ []) ∙ ap (joined_all all) (map-append (says marks found) ps (p ∷ [])) ∙ joined_append all (map (says marks found) ps) (says marks found p ∷ [])
     ∙ (λ i. joined all (sym (said_each marks found all ps) i) (own_last all (says marks found p) i))
@@ -56,17 +57,17 @@ plans_from ps i = plans_of (map plan_tree (drop i ps))
 next : (ps : List Plan) (i : ℕ) (p : Plan) → i < length ps → p ≡ get_or ps i p → plans_from ps i ≡ plans_of (map plan_tree (p ∷ drop (i + 1) ps))
 next ps i p within is = ap (λ x. plans_of (map plan_tree x)) (from_place ps i p within is)
 
-pub several_next : (marks : List ℕ) (found : ℕ → Option ℕ) (all : Bool) (ps : List Plan) (i : ℕ) (p : Plan) (whole : Bool) → i < length ps → p ≡ get_or ps i p → says marks found (plan_tree p) ≡ all
+pub several_next : (marks : List ℕ) (found : ℕ → Option Found) (all : Bool) (ps : List Plan) (i : ℕ) (p : Plan) (whole : Bool) → i < length ps → p ≡ get_or ps i p → says marks found (plan_tree p) ≡ all
     → many_say marks found all (plans_from ps i) ≡ whole → many_say marks found all (plans_from ps (i + 1)) ≡ whole
 several_next marks found all ps i p whole within is s h =
     sym (joined_own all (many_say marks found all (plans_from ps (i + 1)))) ∙ sym (ap (λ b. joined all b (many_say marks found all (plans_from ps (i + 1)))) s) ∙ sym (ap (many_say marks found all) (next ps i p within is)) ∙ h
 
-pub several_decided : (marks : List ℕ) (found : ℕ → Option ℕ) (all : Bool) (ps : List Plan) (i : ℕ) (p : Plan) (whole : Bool) → i < length ps → p ≡ get_or ps i p → says marks found (plan_tree p) ≡ not all
+pub several_decided : (marks : List ℕ) (found : ℕ → Option Found) (all : Bool) (ps : List Plan) (i : ℕ) (p : Plan) (whole : Bool) → i < length ps → p ≡ get_or ps i p → says marks found (plan_tree p) ≡ not all
     → many_say marks found all (plans_from ps i) ≡ whole → not all ≡ whole
 several_decided marks found all ps i p whole within is s h =
     sym (joined_decided all (says marks found (plan_tree p)) (many_say marks found all (plans_from ps (i + 1))) s) ∙ sym (ap (many_say marks found all) (next ps i p within is)) ∙ h
 
-pub several_end : (marks : List ℕ) (found : ℕ → Option ℕ) (all : Bool) (ps : List Plan) (i : ℕ) (whole : Bool) → length ps ≤ i → many_say marks found all (plans_from ps i) ≡ whole → all ≡ whole
+pub several_end : (marks : List ℕ) (found : ℕ → Option Found) (all : Bool) (ps : List Plan) (i : ℕ) (whole : Bool) → length ps ≤ i → many_say marks found all (plans_from ps i) ≡ whole → all ≡ whole
 several_end marks found all ps i whole past h = sym (ap (λ x. many_say marks found all (plans_of (map plan_tree x))) (drop_all i ps past)) ∙ h
 
 pub ruleset several = (several_next, several_decided, several_end)

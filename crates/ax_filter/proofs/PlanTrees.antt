@@ -3,6 +3,7 @@ use Rattle.std.proofs.Common.{◌≡◌, ℕ, Bool, true, false, not, ◌&&◌, 
 use Rattle.ax_fspec.specs.Marks.{no_marks}
 use Rattle.ax_filter.specs.Meaning.{some_passes}
 use Rattle.ax_filter.specs.Plans.{PlanTree, always, asks, opposite, several, plans_of, plan_step, plan_tree, asked_by, said_of_none, is_slot, only_slot, meets, says, many_say, wanted}
+use Rattle.ax_filter.specs.declared.plan.Found.{Found}
 use Rattle.ax_filter.specs.declared.plan.Plan.{Plan, fold-roll-Plan}
 use Rattle.ax_filter.specs.declared.plan.Plan.TheOpen.{Plan-F}
 use Rattle.ax_filter.specs.declared.plan.Plan.TheVariants as Plans
@@ -54,7 +55,7 @@ pub ruleset quiet = (always_quiet, one_quiet, not_quiet, several_quiet)
 
 -- ---- what a plan says
 
-module _ (marks : List ℕ) (found : ℕ → Option ℕ) (p : Plan) where
+module _ (marks : List ℕ) (found : ℕ → Option Found) (p : Plan) where
   pub always_says : (b : Bool) → p ≡ Plans.Always b → b ≡ says marks found (plan_tree p)
   always_says b is = sym (ap (says marks found) (ap plan_tree is ∙ always_tree b))
 
@@ -67,7 +68,7 @@ module _ (marks : List ℕ) (found : ℕ → Option ℕ) (p : Plan) where
   pub none_says : (slot question : ℕ) (want : Want) → p ≡ Plans.Asks slot question want → is_slot marks slot ≡ true → found question ≡ None → false ≡ says marks found (plan_tree p)
   none_says slot question want is e f = sym (asks_says slot question want is ∙ ap (λ b. b && some_passes (wanted want) (found question)) e ∙ ap (some_passes (wanted want)) f)
 
-  pub found_says : (slot question : ℕ) (want : Want) (n : ℕ) → p ≡ Plans.Asks slot question want → is_slot marks slot ≡ true → found question ≡ Some n → wanted want n ≡ says marks found (plan_tree p)
+  pub found_says : (slot question : ℕ) (want : Want) (n : Found) → p ≡ Plans.Asks slot question want → is_slot marks slot ≡ true → found question ≡ Some n → wanted want n ≡ says marks found (plan_tree p)
   found_says slot question want n is e f = sym (asks_says slot question want is ∙ ap (λ b. b && some_passes (wanted want) (found question)) e ∙ ap (some_passes (wanted want)) f)
 
   pub not_says : (box : Box Plan Global) (b : Bool) → p ≡ Plans.Not box → b ≡ says marks found (plan_tree box.value) → not b ≡ says marks found (plan_tree p)

@@ -1,20 +1,22 @@
 -- Plans that say of each record what tests do.
-use Rattle.std.proofs.Common.{◌≡◌, ◌⊎◌, inl, inr, ℕ, zero, suc, ◌+◌, ◌==◌, ◌<◌, ◌≤◌, Bool, true, false, not, ◌&&◌, ◌||◌, cond, List, [], ◌∷◌, ◌++◌, map, drop, take, length, get_or, slice_get, Box, Global, Result, Ok, Err, IfOk, OnOk, Option, Some, None, option_map, option_and_then, is_some, refl, sym, ◌∙◌, ap, ℤ, append_assoc, append-nil}
+use Rattle.std.proofs.Common.{◌≡◌, ◌⊎◌, inl, inr, ℕ, zero, suc, ◌+◌, ◌==◌, ◌<◌, ◌≤◌, Bool, true, false, not, ◌&&◌, ◌||◌, cond, List, [], ◌∷◌, ◌++◌, map, drop, take, length, get_or, slice_get, Box, Global, Result, Ok, Err, IfOk, Option, Some, None, option_map, option_and_then, is_some, refl, sym, ◌∙◌, ap, ℤ, append_assoc, append-nil}
 use Rattle.std.proofs.lemmas.List.{map-append, take_more, take_all, take-append-drop}
 use Rattle.ax_model.proofs.Namings.{from_place}
 use Rattle.ax_model.specs.At.{slot_value, value_at, number_of_value, is_present, At}
 use Rattle.ax_model.specs.Tree.{EntriesTree}
 use Rattle.ax_model.specs.declared.place.Place.{Place}
-use Rattle.ax_filter.proofs.PlanLists.{joined_own, joined_decided, decided_last, joined_more, own_last, joined_append, say_more}
-use Rattle.ax_filter.proofs.PlanTrees.{always_tree, asks_tree, not_plan_tree, several_tree}
-use Rattle.ax_filter.proofs.SlotSets.{only_this}
+use Rattle.ax_filter.proofs.Levels.{level_more}
+use Rattle.ax_filter.proofs.PlanLists.{joined_decided, decided_last, own_last, joined_append}
+use Rattle.ax_filter.proofs.PlanTrees.{always_tree, asks_tree, not_plan_tree}
 use Rattle.ax_filter.proofs.Trees.{all_test_tree, any_test_tree, not_test_tree, at_place_tree, at_element_tree}
 use Rattle.ax_filter.specs.Meaning.{number_of, compares, some_passes}
-use Rattle.ax_filter.specs.Plans.{found_by, found_in, finds, wanted, is_slot, meets, PlanTree, always, asks, opposite, several, plans_of, plan_tree, asked_by, said_of_none, joined, joined_all, says, many_say, MarkEach, SaysAs, many_pass, Grow, PlanEach}
+use Rattle.ax_filter.specs.Plans.{found_by, found_in, finds, wanted, is_slot, PlanTree, opposite, plan_tree, joined, joined_all, says, level_says, IsLevel, MarkEach, SaysAs, many_pass, Grow, PlanEach}
 use Rattle.ax_filter.specs.Tests.{TestTree, tests_of, test_tree, number_for, passes, all_pass, any_passes}
 use Rattle.ax_filter.specs.declared.expr.Op.{Op}
 use Rattle.ax_filter.specs.declared.plan.Asking.{Asking}
 use Rattle.ax_filter.specs.declared.plan.Asking.TheVariants.{Standing, Number}
+use Rattle.ax_filter.specs.declared.plan.CategoryPlan.{CategoryPlan}
+use Rattle.ax_filter.specs.declared.plan.Found.TheVariants as Of
 use Rattle.ax_filter.specs.declared.plan.Plan.{Plan}
 use Rattle.ax_filter.specs.declared.plan.Plan.TheVariants as Plans
 use Rattle.ax_filter.specs.declared.plan.Question.{Question}
@@ -24,44 +26,6 @@ use Rattle.ax_filter.specs.declared.test.Element.{Element}
 use Rattle.ax_filter.specs.declared.test.Test.{Test}
 use Rattle.ax_filter.specs.declared.test.Test.TheVariants as Tests
 
--- ---- absent items
-
--- where none of its slots is marked, a plan says the same whatever questions find
-pub quiet_says : (marks : List ℕ) (found : ℕ → Option ℕ) (p : PlanTree) → meets (asked_by p) marks ≡ false → says marks found p ≡ said_of_none p
-quiet_says marks found (always b) e = refl
-quiet_says marks found (asks slot question want) e = ap (λ b. b && some_passes (wanted want) (found question)) (only_this slot marks e)
-quiet_says marks found (opposite p) e = ap not (quiet_says marks found p e)
-quiet_says marks found (several all asked absent ps) e = ap (λ b. cond b (many_say marks found all ps) absent) e
-
--- the first plans say that where none of these slots is marked
-abbrev pub Quiet : Bool → List Plan → ℕ → List ℕ → Bool → Type 0
-Quiet all ps i asked absent = (marks : List ℕ) (found : ℕ → Option ℕ) → meets asked marks ≡ false → many_say marks found all (plans_of (map plan_tree (take i ps))) ≡ absent
-
-first_more : (ps : List Plan) (i : ℕ) (p : Plan) → i < length ps → p ≡ get_or ps i p → map plan_tree (take (i + 1) ps) ≡ map plan_tree (take i ps) ++ plan_tree p ∷ []
-first_more ps i p within is = ap (map plan_tree) (take_more ps i p within ∙ ap (λ x. take i ps ++ x ∷ []) (sym is)) ∙ map-append plan_tree (take i ps) (p ∷ [])
-
-pub quiet_next : (all : Bool) (ps : List Plan) (i : ℕ) (p : Plan) (asked more asked' : List ℕ) (absent said absent' : Bool) → i < length ps → p ≡ get_or ps i p → more ≡ asked_by (plan_tree p) → said ≡ said_of_none (plan_tree p) → absent' ≡ joined all absent said
-    → ((marks : List ℕ) → meets asked' marks ≡ false → (meets asked marks ≡ false) × (meets more marks ≡ false)) → Quiet all ps i asked absent → Quiet all ps (i + 1) asked' absent'
-quiet_next all ps i p asked more asked' absent said absent' within is m s j apart h marks found e =
-    let a = apart marks e in
-    ap (λ x. many_say marks found all (plans_of x)) (first_more ps i p within is) ∙ say_more marks found all (map plan_tree (take i ps)) (plan_tree p)
-    ∙ (λ k. joined all (h marks found a.0 k) ((quiet_says marks found (plan_tree p) (sym (ap (λ x. meets x marks) m) ∙ a.1) ∙ sym s) k)) ∙ sym j
-
-quiet_all : (all : Bool) (ps : List Plan) (i : ℕ) (asked : List ℕ) (absent : Bool) → length ps ≤ i → Quiet all ps i asked absent → (marks : List ℕ) (found : ℕ → Option ℕ) → meets asked marks ≡ false → many_say marks found all (plans_of (map plan_tree ps)) ≡ absent
-quiet_all all ps i asked absent past h marks found e = sym (ap (λ x. many_say marks found all (plans_of (map plan_tree x))) (take_all i ps past)) ∙ h marks found e
-
-pub group_says : (all : Bool) (ps : List Plan) (i : ℕ) (asked : List ℕ) (absent : Bool) → length ps ≤ i → Quiet all ps i asked absent → (marks : List ℕ) (found : ℕ → Option ℕ)
-    → says marks found (plan_tree (Plans.Several all asked absent ps)) ≡ many_say marks found all (plans_of (map plan_tree ps))
-group_says all ps i asked absent past h marks found = ap (says marks found) (several_tree all asked absent ps) ∙ by (meets asked marks) refl
-  where
-    by : (b : Bool) → meets asked marks ≡ b → cond (meets asked marks) (many_say marks found all (plans_of (map plan_tree ps))) absent ≡ many_say marks found all (plans_of (map plan_tree ps))
-    by true e = ap (λ b. cond b (many_say marks found all (plans_of (map plan_tree ps))) absent) e
-    by false e = ap (λ b. cond b (many_say marks found all (plans_of (map plan_tree ps))) absent) e ∙ sym (quiet_all all ps i asked absent past h marks found e)
-
-pub constant_says : (all : Bool) (ps : List Plan) (i : ℕ) (asked : List ℕ) (absent : Bool) → length ps ≤ i → Quiet all ps i asked absent → ((marks : List ℕ) → meets asked marks ≡ false) → (marks : List ℕ) (found : ℕ → Option ℕ)
-    → says marks found (plan_tree (Plans.Always absent)) ≡ many_say marks found all (plans_of (map plan_tree ps))
-constant_says all ps i asked absent past h none marks found = ap (says marks found) (always_tree absent) ∙ sym (quiet_all all ps i asked absent past h marks found (none marks))
-
 -- ---- questions
 
 pub question_stays : (qs more : List Question) (n : ℕ) (q : Question) → slice_get qs n ≡ Some q → slice_get (qs ++ more) n ≡ Some q
@@ -70,8 +34,8 @@ question_stays (x ∷ qs) more zero q e = e
 question_stays (x ∷ qs) more (suc n) q e = question_stays qs more n q e
 
 found_none : (r : EntriesTree) (q : Question) (a : Asking) → slot_value q.place.frn r ≡ None → found_by r q a ≡ None
-found_none r q Standing e = ap (λ o. cond (is_some (option_and_then (value_at q.place.steps) o)) (Some 0) None) e
-found_none r q Number e = ap (λ o. option_and_then number_of_value (option_and_then (value_at q.place.steps) o)) e
+found_none r q Standing e = ap (λ o. cond (is_some (option_and_then (value_at q.place.steps) o)) (Some Of.Something) None) e
+found_none r q Number e = ap (λ o. option_map Of.Number (option_and_then number_of_value (option_and_then (value_at q.place.steps) o))) e
 
 pub place_says : (qs : List Question) (n : ℕ) (asking : Asking) (place : Place) (want : Want) → slice_get qs n ≡ Some (record { asking = asking; place = place })
     → SaysAs qs (plan_tree (Plans.Asks place.frn n want)) (λ r. some_passes (wanted want) (found_by r (record { asking = asking; place = place }) asking))
@@ -92,7 +56,7 @@ says_same qs p rule other same h more r marks m = h more r marks m ∙ same r
 
 -- ---- tests of one place
 
-standing_same : (b : Bool) → some_passes (wanted There) (cond b (Some 0) None) ≡ b
+standing_same : (b : Bool) → some_passes (wanted There) (cond b (Some Of.Something) None) ≡ b
 standing_same true = refl
 standing_same false = refl
 
@@ -102,9 +66,9 @@ pub number_made : {E : Type 0} (qs : List Question) (result : Result Plan E) (el
 number_made qs (Err error) element o op number own want is e w h = h
 number_made qs (Ok made) element o op number own want is e w h =
     says_same qs (plan_tree made) _ _
-    (λ r. ap (λ x. some_passes (wanted x) (At r element.place)) w ∙ by (At r element.place) ∙ sym (ap (λ b. b && some_passes (λ n. compares op n number) (option_and_then (number_for r) o)) e ∙ ap (λ o. some_passes (λ n. compares op n number) (option_and_then (number_for r) o)) is)) h
+    (λ r. ap (λ x. some_passes (wanted x) (option_map Of.Number (At r element.place))) w ∙ by (At r element.place) ∙ sym (ap (λ b. b && some_passes (λ n. compares op n number) (option_and_then (number_for r) o)) e ∙ ap (λ o. some_passes (λ n. compares op n number) (option_and_then (number_for r) o)) is)) h
   where
-    by : (found : Option ℕ) → some_passes (wanted (Compares op element.signed element.width number)) found ≡ some_passes (λ n. compares op n number) (option_map (number_of element.signed element.width) found)
+    by : (found : Option ℕ) → some_passes (wanted (Compares op element.signed element.width number)) (option_map Of.Number found) ≡ some_passes (λ n. compares op n number) (option_map (number_of element.signed element.width) found)
     by None = refl
     by (Some n) = refl
 
@@ -145,20 +109,17 @@ says_later qs new p rule g h more r marks m =
 abbrev answers : ℕ → EntriesTree → List Test → List Bool
 answers category r ts = map (passes category r) (map test_tree ts)
 
--- the first tests, in plans that are closed and in some that are open
-abbrev pub PlannedFirst : Bool → ℕ → List Question → List Plan → List Plan → List Test → ℕ → Type 0
-PlannedFirst all category qs made latest ts i = (more : List Question) (r : EntriesTree) (marks : List ℕ) → MarkEach marks r
-    → joined all (many_say marks (finds (qs ++ more) r) all (plans_of (map plan_tree made))) (many_say marks (finds (qs ++ more) r) all (plans_of (map plan_tree latest))) ≡ joined_all all (answers category r (take i ts))
+-- what the first tests say, as a level of plans
+abbrev pub PlannedFirst : Bool → ℕ → List Question → List Plan → List Test → ℕ → Type 0
+PlannedFirst all category qs level ts i = (more : List Question) (r : EntriesTree) (marks : List ℕ) → MarkEach marks r → level_says all level marks (finds (qs ++ more) r) ≡ joined_all all (answers category r (take i ts))
 
-pub planned_none : (all : Bool) (category : ℕ) (qs : List Question) (ts : List Test) (made latest : List Plan) → made ≡ [] → latest ≡ [] → PlannedFirst all category qs made latest ts 0
-planned_none all category qs ts made latest m o more r marks k =
-    (λ i. joined all (many_say marks (finds (qs ++ more) r) all (plans_of (map plan_tree (m i)))) (many_say marks (finds (qs ++ more) r) all (plans_of (map plan_tree (o i))))) ∙ joined_own all all
+pub planned_none : (all : Bool) (category : ℕ) (qs : List Question) (ts : List Test) (level : List Plan) → level ≡ [] → PlannedFirst all category qs level ts 0
+planned_none all category qs ts level none more r marks k = ap (λ ps. level_says all ps marks (finds (qs ++ more) r)) none
 
-module _ (all : Bool) (category : ℕ) (qs new : List Question) (made latest : List Plan) (ts : List Test) (i : ℕ) (t : Test) (p : Plan) (within : i < length ts) (is : t ≡ get_or ts i t) (grow : Grow qs new) (h : PlannedFirst all category qs made latest ts i) (one : SaysAs new (plan_tree p) (λ r. passes category r (test_tree t))) where
-  later : PlannedFirst all category new made latest ts i
+module _ (all : Bool) (category : ℕ) (qs new : List Question) (level : List Plan) (ts : List Test) (i : ℕ) (t : Test) (p : Plan) (within : i < length ts) (is : t ≡ get_or ts i t) (grow : Grow qs new) (h : PlannedFirst all category qs level ts i) (one : SaysAs new (plan_tree p) (λ r. passes category r (test_tree t))) where
+  later : PlannedFirst all category new level ts i
   later more r marks m =
-      ap (λ x. joined all (many_say marks (finds x r) all (plans_of (map plan_tree made))) (many_say marks (finds x r) all (plans_of (map plan_tree latest)))) (ap (λ x. x ++ more) grow.1 ∙ append_assoc qs grow.0 more)
-      ∙ h (grow.0 ++ more) r marks m
+      ap (λ x. level_says all level marks (finds x r)) (ap (λ x. x ++ more) grow.1 ∙ append_assoc qs grow.0 more) ∙ h (grow.0 ++ more) r marks m
 
   next_answer : (r : EntriesTree) → joined_all all (answers category r (take (i + 1) ts)) ≡ joined all (joined_all all (answers category r (take i ts))) (passes category r (test_tree t))
   next_answer r =
@@ -167,7 +128,7 @@ module _ (all : Bool) (category : ℕ) (qs new : List Question) (made latest : L
       ∙ joined_append all (answers category r (take i ts)) (passes category r (test_tree t) ∷ []) ∙ ap (joined all (joined_all all (answers category r (take i ts)))) (own_last all (passes category r (test_tree t)))
 
   -- a plan that decides nothing
-  pub planned_same : (b : Bool) → p ≡ Plans.Always b → b ≡ all → PlannedFirst all category new made latest ts (i + 1)
+  pub planned_same : (b : Bool) → p ≡ Plans.Always b → b ≡ all → PlannedFirst all category new level ts (i + 1)
   planned_same b a e more r marks m =
       let own : passes category r (test_tree t) ≡ all = sym (one more r marks m) ∙ ap (says marks (finds (new ++ more) r)) (ap plan_tree a ∙ always_tree b) ∙ e in
       later more r marks m ∙ sym (next_answer r ∙ ap (joined all (joined_all all (answers category r (take i ts)))) own ∙ own_last all (joined_all all (answers category r (take i ts))))
@@ -185,42 +146,21 @@ module _ (all : Bool) (category : ℕ) (qs new : List Question) (made latest : L
       ∙ ap (joined all (joined_all all (answers category r (take i ts)))) (joined_decided all (passes category r (test_tree t)) (joined_all all (answers category r (drop (i + 1) ts))) own)
       ∙ decided_last all (joined_all all (answers category r (take i ts))) (not all) refl)
 
-  -- one more plan that is open
-  pub planned_open : (latest' : List Plan) → latest' ≡ latest ++ p ∷ [] → PlannedFirst all category new made latest' ts (i + 1)
-  planned_open latest' put more r marks m =
-      ap (λ x. joined all (many_say marks (finds (new ++ more) r) all (plans_of (map plan_tree made))) (many_say marks (finds (new ++ more) r) all (plans_of x))) (ap (map plan_tree) put ∙ map-append plan_tree latest (p ∷ []))
-      ∙ ap (joined all (many_say marks (finds (new ++ more) r) all (plans_of (map plan_tree made)))) (say_more marks (finds (new ++ more) r) all (map plan_tree latest) (plan_tree p))
-      ∙ joined_more all (many_say marks (finds (new ++ more) r) all (plans_of (map plan_tree made))) (many_say marks (finds (new ++ more) r) all (plans_of (map plan_tree latest))) (says marks (finds (new ++ more) r) (plan_tree p))
+  -- one more plan
+  pub planned_open : (level' : List Plan) → level' ≡ level ++ p ∷ [] → PlannedFirst all category new level' ts (i + 1)
+  planned_open level' put more r marks m =
+      ap (λ ps. level_says all ps marks (finds (new ++ more) r)) put ∙ level_more marks (finds (new ++ more) r) all level p
       ∙ (λ j. joined all (later more r marks m j) (one more r marks m j)) ∙ sym (next_answer r)
 
--- plans that were open are closed
-pub closed_alike : (all : Bool) (made latest made' latest' : List Plan) (full : Plan) → made' ≡ made ++ full ∷ [] → latest' ≡ []
-    → ((marks : List ℕ) (found : ℕ → Option ℕ) → says marks found (plan_tree full) ≡ many_say marks found all (plans_of (map plan_tree latest)))
-    → (marks : List ℕ) (found : ℕ → Option ℕ) → joined all (many_say marks found all (plans_of (map plan_tree made'))) (many_say marks found all (plans_of (map plan_tree latest'))) ≡ joined all (many_say marks found all (plans_of (map plan_tree made))) (many_say marks found all (plans_of (map plan_tree latest)))
-closed_alike all made latest made' latest' full put none alike marks found =
-    (λ j. joined all (many_say marks found all (plans_of ((ap (map plan_tree) put ∙ map-append plan_tree made (full ∷ [])) j))) (many_say marks found all (plans_of (map plan_tree (none j)))))
-    ∙ own_last all (many_say marks found all (plans_of (map plan_tree made ++ plan_tree full ∷ []))) ∙ say_more marks found all (map plan_tree made) (plan_tree full)
-    ∙ ap (joined all (many_say marks found all (plans_of (map plan_tree made)))) (alike marks found)
+pub planned_all : (all : Bool) (category : ℕ) (qs : List Question) (level : List Plan) (ts : List Test) (i : ℕ) (whole : Plan) → length ts ≤ i → IsLevel all level whole → PlannedFirst all category qs level ts i
+    → SaysAs qs (plan_tree whole) (many_pass all category (map test_tree ts))
+planned_all all category qs level ts i whole past alike h more r marks m =
+    alike marks (finds (qs ++ more) r) ∙ h more r marks m ∙ ap (λ x. joined_all all (answers category r x)) (take_all i ts past)
 
-pub closed_if : {A E : Type 0} (result : Result A E) (all : Bool) (made latest made' latest' : List Plan) (full : Plan) → OnOk result (made' ≡ made ++ full ∷ []) → latest' ≡ []
-    → ((marks : List ℕ) (found : ℕ → Option ℕ) → says marks found (plan_tree full) ≡ many_say marks found all (plans_of (map plan_tree latest)))
-    → OnOk result ((marks : List ℕ) (found : ℕ → Option ℕ) → joined all (many_say marks found all (plans_of (map plan_tree made'))) (many_say marks found all (plans_of (map plan_tree latest'))) ≡ joined all (many_say marks found all (plans_of (map plan_tree made))) (many_say marks found all (plans_of (map plan_tree latest))))
-closed_if (Ok u) all made latest made' latest' full put none alike = closed_alike all made latest made' latest' full put none alike
-closed_if (Err e) all made latest made' latest' full put none alike = put
-
-pub planned_alike : (all : Bool) (category : ℕ) (qs : List Question) (made latest made' latest' : List Plan) (ts : List Test) (i : ℕ)
-    → ((marks : List ℕ) (found : ℕ → Option ℕ) → joined all (many_say marks found all (plans_of (map plan_tree made'))) (many_say marks found all (plans_of (map plan_tree latest'))) ≡ joined all (many_say marks found all (plans_of (map plan_tree made))) (many_say marks found all (plans_of (map plan_tree latest))))
-    → PlannedFirst all category qs made latest ts i → PlannedFirst all category qs made' latest' ts i
-planned_alike all category qs made latest made' latest' ts i alike h more r marks m = alike marks (finds (qs ++ more) r) ∙ h more r marks m
-
-pub planned_all : (all : Bool) (category : ℕ) (qs : List Question) (made latest made' : List Plan) (ts : List Test) (i : ℕ) (last whole : Plan) → length ts ≤ i → made' ≡ made ++ last ∷ []
-    → ((marks : List ℕ) (found : ℕ → Option ℕ) → says marks found (plan_tree last) ≡ many_say marks found all (plans_of (map plan_tree latest)))
-    → ((marks : List ℕ) (found : ℕ → Option ℕ) → says marks found (plan_tree whole) ≡ many_say marks found all (plans_of (map plan_tree made')))
-    → PlannedFirst all category qs made latest ts i → SaysAs qs (plan_tree whole) (many_pass all category (map test_tree ts))
-planned_all all category qs made latest made' ts i last whole past put one alike h more r marks m =
-    let found = finds (qs ++ more) r in
-    alike marks found ∙ sym (own_last all (many_say marks found all (plans_of (map plan_tree made'))))
-    ∙ planned_alike all category qs made latest made' [] ts i (closed_alike all made latest made' [] last put refl one) h more r marks m ∙ ap (λ x. joined_all all (answers category r x)) (take_all i ts past)
+pub planned_if : {E : Type 0} (result : Result Plan E) (all : Bool) (category : ℕ) (qs : List Question) (level : List Plan) (ts : List Test) (i : ℕ) → length ts ≤ i → IfOk result (IsLevel all level) → PlannedFirst all category qs level ts i
+    → IfOk result (λ made. SaysAs qs (plan_tree made) (many_pass all category (map test_tree ts)))
+planned_if (Ok whole) all category qs level ts i past alike h = planned_all all category qs level ts i whole past alike h
+planned_if (Err error) all category qs level ts i past alike h = alike
 
 -- ---- tests of each kind
 
@@ -269,19 +209,21 @@ got_last (z ∷ xs) x y (suc n) e = by (got_last xs x y n e)
     by (inl f) = inl f
     by (inr (f, g)) = inr (ap suc f, g)
 
-pub none_planned : (qs : List Question) (plans : List Plan) (t : Test) → plans ≡ [] → PlanEach qs plans t
-none_planned qs plans t none category plan e = absurd (let f : slice_get {X = Plan} [] category ≡ Some plan = sym (ap (λ x. slice_get x category) none) ∙ e in cc)
+pub none_planned : (qs : List Question) (plans : List CategoryPlan) (t : Test) → plans ≡ [] → PlanEach qs plans t
+none_planned qs plans t none category p e = absurd (let f : slice_get {X = CategoryPlan} [] category ≡ Some p = sym (ap (λ x. slice_get x category) none) ∙ e in cc)
 
-pub each_next : (qs new : List Question) (plans more : List Plan) (t : Test) (category : ℕ) (p : Plan) → PlanEach qs plans t → Grow qs new → category ≡ length plans → SaysAs new (plan_tree p) (λ r. passes category r (test_tree t)) → more ≡ plans ++ p ∷ [] → PlanEach new more t
-each_next qs new plans more t category p h grow at one put c plan e = by (got_last plans p plan c (sym (ap (λ x. slice_get x c) put) ∙ e))
+pub each_next : (qs new : List Question) (plans more : List CategoryPlan) (t : Test) (category : ℕ) (p : CategoryPlan) → PlanEach qs plans t → Grow qs new → category ≡ length plans → SaysAs new (plan_tree p.plan) (λ r. passes category r (test_tree t)) → more ≡ plans ++ p ∷ []
+    → PlanEach new more t
+each_next qs new plans more t category p h grow at one put c q e = by (got_last plans p q c (sym (ap (λ x. slice_get x c) put) ∙ e))
   where
-    by : (slice_get plans c ≡ Some plan) ⊎ ((c ≡ length plans) × (p ≡ plan)) → SaysAs new (plan_tree plan) (λ r. passes c r (test_tree t))
-    by (inl f) = says_later qs new (plan_tree plan) _ grow (h c plan f)
-    by (inr (f, g)) = λ more r marks m. ap (λ x. says marks (finds (new ++ more) r) (plan_tree x)) (sym g) ∙ one more r marks m ∙ ap (λ n. passes n r (test_tree t)) (at ∙ sym f)
+    by : (slice_get plans c ≡ Some q) ⊎ ((c ≡ length plans) × (p ≡ q)) → SaysAs new (plan_tree q.plan) (λ r. passes c r (test_tree t))
+    by (inl f) = says_later qs new (plan_tree q.plan) _ grow (h c q f)
+    by (inr (f, g)) = λ more r marks m. ap (λ x. says marks (finds (new ++ more) r) (plan_tree x.plan)) (sym g) ∙ one more r marks m ∙ ap (λ n. passes n r (test_tree t)) (at ∙ sym f)
 
 pub ruleset categories = (none_planned, each_next)
 
 -- ---- the plan of a record's category
 
-pub said_of : (qs : List Question) (plans : List Plan) (t : Test) (category : ℕ) (plan : Plan) (r : EntriesTree) (marks : List ℕ) → PlanEach qs plans t → slice_get plans category ≡ Some plan → MarkEach marks r → says marks (finds qs r) (plan_tree plan) ≡ passes category r (test_tree t)
-said_of qs plans t category plan r marks h e m = sym (ap (λ x. says marks (finds x r) (plan_tree plan)) (append-nil qs)) ∙ h category plan e [] r marks m
+pub said_of : (qs : List Question) (plans : List CategoryPlan) (t : Test) (category : ℕ) (p : CategoryPlan) (r : EntriesTree) (marks : List ℕ) → PlanEach qs plans t → slice_get plans category ≡ Some p → MarkEach marks r
+    → says marks (finds qs r) (plan_tree p.plan) ≡ passes category r (test_tree t)
+said_of qs plans t category p r marks h e m = sym (ap (λ x. says marks (finds x r) (plan_tree p.plan)) (append-nil qs)) ∙ h category p e [] r marks m

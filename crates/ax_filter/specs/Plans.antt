@@ -1,5 +1,5 @@
 -- Plans as plain trees, and what they say of a record: by its marked slots and by what questions find.
-use Rattle.std.specs.Prelude.{◌≡◌, ℕ, ◌-◌, ◌==◌, nat_lt, Bool, true, false, not, ◌&&◌, ◌||◌, if◌then◌else◌, List, [], ◌∷◌, ◌++◌, map, set, slice_index, slice_get, Option, Some, None, option_and_then}
+use Rattle.std.specs.Prelude.{◌≡◌, ℕ, ◌-◌, ◌==◌, nat_lt, Bool, true, false, not, ◌&&◌, ◌||◌, if◌then◌else◌, List, [], ◌∷◌, ◌++◌, map, set, slice_index, slice_get, Option, Some, None, option_map, option_and_then}
 use Rattle.ax_fspec.specs.Marks.{common_marks, no_marks, slots_of}
 use Rattle.ax_model.specs.At.{slot_value, is_present, At}
 use Rattle.ax_model.specs.Tree.{EntriesTree}
@@ -7,6 +7,9 @@ use Rattle.ax_filter.specs.Meaning.{number_of, compares, some_passes}
 use Rattle.ax_filter.specs.Tests.{TestTree, test_tree, passes}
 use Rattle.ax_filter.specs.declared.plan.Asking.{Asking}
 use Rattle.ax_filter.specs.declared.plan.Asking.TheVariants.{Standing, Number}
+use Rattle.ax_filter.specs.declared.plan.CategoryPlan.{CategoryPlan}
+use Rattle.ax_filter.specs.declared.plan.Found.{Found}
+use Rattle.ax_filter.specs.declared.plan.Found.TheVariants as Of
 use Rattle.ax_filter.specs.declared.plan.Plan.{Plan, fold-Plan}
 use Rattle.ax_filter.specs.declared.plan.Plan.TheOpen.{Plan-F}
 use Rattle.ax_filter.specs.declared.plan.Question.{Question}
@@ -17,21 +20,22 @@ use Rattle.ax_filter.specs.declared.test.Test.{Test}
 -- ---- questions
 
 -- what a question finds in a record
-abbrev pub found_by : EntriesTree → Question → Asking → Option ℕ
-found_by r q Standing = if is_present r q.place then Some 0 else None
-found_by r q Number = At r q.place
+abbrev pub found_by : EntriesTree → Question → Asking → Option Found
+found_by r q Standing = if is_present r q.place then Some Of.Something else None
+found_by r q Number = option_map Of.Number (At r q.place)
 
-abbrev pub found_in : EntriesTree → Question → Option ℕ
+abbrev pub found_in : EntriesTree → Question → Option Found
 found_in r q = found_by r q q.asking
 
 -- what the question of a number finds; where there is no such question, nothing
-abbrev pub finds : List Question → EntriesTree → ℕ → Option ℕ
+abbrev pub finds : List Question → EntriesTree → ℕ → Option Found
 finds questions r n = option_and_then (found_in r) (slice_get questions n)
 
 -- whether what is found holds
-abbrev pub wanted : Want → ℕ → Bool
-wanted There n = true
-wanted (Compares op is w number) n = compares op (number_of is w n) number
+abbrev pub wanted : Want → Found → Bool
+wanted There found = true
+wanted (Compares op is w number) (Of.Number n) = compares op (number_of is w n) number
+wanted (Compares op is w number) Of.Something = false
 
 -- ---- slots
 
@@ -107,15 +111,29 @@ joined_all all [] = all
 joined_all all (b ∷ bs) = joined all b (joined_all all bs)
 
 abbrev mutual
-  pub says : List ℕ → (ℕ → Option ℕ) → PlanTree → Bool
+  pub says : List ℕ → (ℕ → Option Found) → PlanTree → Bool
   says marks found (always b) = b
   says marks found (asks slot question want) = is_slot marks slot && some_passes (wanted want) (found question)
   says marks found (opposite p) = not (says marks found p)
   says marks found (several all asked absent ps) = if meets asked marks then many_say marks found all ps else absent
 
-  pub many_say : List ℕ → (ℕ → Option ℕ) → Bool → PlansTree → Bool
+  pub many_say : List ℕ → (ℕ → Option Found) → Bool → PlansTree → Bool
   many_say marks found all no_plans = all
   many_say marks found all (plan_and p ps) = joined all (says marks found p) (many_say marks found all ps)
+
+-- ---- levels
+
+-- each of the plans of a level, or some of them
+abbrev pub level_says : Bool → List Plan → List ℕ → (ℕ → Option Found) → Bool
+level_says all ps marks found = many_say marks found all (plans_of (map plan_tree ps))
+
+-- one plan says of each record what a level does
+abbrev pub IsLevel : Bool → List Plan → Plan → Type 0
+IsLevel all ps p = (marks : List ℕ) (found : ℕ → Option Found) → says marks found (plan_tree p) ≡ level_says all ps marks found
+
+-- two levels say the same of each record
+abbrev pub AreAlike : Bool → List Plan → List Plan → Type 0
+AreAlike all ps qs = (marks : List ℕ) (found : ℕ → Option Found) → level_says all ps marks found ≡ level_says all qs marks found
 
 -- ---- plans of tests
 
@@ -127,11 +145,6 @@ MarkEach marks r = (s : ℕ) → is_slot marks s ≡ false → slot_value s r �
 abbrev pub SaysAs : List Question → PlanTree → (EntriesTree → Bool) → Type 0
 SaysAs questions p rule = (more : List Question) (r : EntriesTree) (marks : List ℕ) → MarkEach marks r → says marks (finds (questions ++ more) r) p ≡ rule r
 
--- the same of several plans
-abbrev pub SayAs : Bool → List Question → List PlanTree → List PlanTree → (EntriesTree → Bool) → Type 0
-SayAs all questions ps qs rule = (more : List Question) (r : EntriesTree) (marks : List ℕ) → MarkEach marks r
-    → joined all (many_say marks (finds (questions ++ more) r) all (plans_of ps)) (many_say marks (finds (questions ++ more) r) all (plans_of qs)) ≡ rule r
-
 -- what each of some tests says of a record of the category, or some of them
 abbrev pub many_pass : Bool → ℕ → List TestTree → EntriesTree → Bool
 many_pass all category ts r = joined_all all (map (passes category r) ts)
@@ -141,5 +154,5 @@ abbrev pub Grow : List Question → List Question → Type 0
 Grow old new = (more : List Question) × (new ≡ old ++ more)
 
 -- the plan of each category that has one says of its records what the test does
-abbrev pub PlanEach : List Question → List Plan → Test → Type 0
-PlanEach questions plans t = (category : ℕ) (plan : Plan) → slice_get plans category ≡ Some plan → SaysAs questions (plan_tree plan) (λ r. passes category r (test_tree t))
+abbrev pub PlanEach : List Question → List CategoryPlan → Test → Type 0
+PlanEach questions plans t = (category : ℕ) (p : CategoryPlan) → slice_get plans category ≡ Some p → SaysAs questions (plan_tree p.plan) (λ r. passes category r (test_tree t))

@@ -1,5 +1,6 @@
 //! How many tests ask a record. It decides how the record is asked, and not what is answered.
 
+use crate::plan::{Plan, Plans};
 use crate::test::{Test, Tests};
 
 /// Up to so many tests each find their item by a walk over the items before it. To find all items of a record takes about
@@ -25,5 +26,26 @@ pub fn asking(test: &Test) -> u32 {
         Test::Not(inner) => asking(inner),
         Test::Present { .. } => 1,
         Test::Is { .. } => 1,
+    }
+}
+
+/// Those among plans that ask, counted up to 2^32 - 1.
+#[cycle(asking_plans)]
+fn each_asking_plan(plans: &Plans) -> u32 {
+    let mut count: u32 = 0;
+    for plan in plans.as_slice() {
+        count = count.saturating_add(asking_plan(plan));
+    }
+    count
+}
+
+/// Those within a plan that ask, counted up to 2^32 - 1.
+#[cycle(asking_plans)]
+pub fn asking_plan(plan: &Plan) -> u32 {
+    match plan {
+        Plan::Always { .. } => 0,
+        Plan::Asks { .. } => 1,
+        Plan::Not { plan } => asking_plan(plan),
+        Plan::Several { plans, .. } => each_asking_plan(plans),
     }
 }

@@ -1,17 +1,16 @@
 //! What a plan says of a record. Nothing here takes memory.
-ghost use Rattle.std.specs.Prelude.{◌≡◌, map};
+ghost use Rattle.std.specs.Prelude.{◌≡◌, IfSome};
 ghost use Rattle.ax_filter.specs.Memos.{Recalls};
-ghost use Rattle.ax_filter.specs.Plans.{finds, many_say, plan_tree, plans_of, says, wanted};
-ghost use Rattle.ax_view.specs.Placing.{IsPlaced, placed_entries};
+ghost use Rattle.ax_filter.specs.Plans.{finds, level_says, plan_tree, says, wanted};
 
 use crate::comparing::compares_as;
-use crate::memo::{Memo, recall};
-use crate::plan::{Plan, Plans, Question, Want};
+use crate::memo::{Asked, Memo, found_under};
+use crate::places::HasPlaces;
+use crate::plan::{Found, Plan, Plans, Want};
 use crate::slot_sets::{has_slot, meets};
-use ax_view::PlacedSlots;
 
 /// Whether what was found holds.
-fn is_wanted(want: Want, found: u128) -> bool
+fn is_wanted(want: Want, found: Found) -> bool
     ensures { result ≡ wanted want found }
 {
     match want {
@@ -21,27 +20,29 @@ fn is_wanted(want: Want, found: u128) -> bool
             signed,
             width,
             number,
-        } => compares_as(op, found, signed, width, number),
+        } => match found {
+            Found::Number { number: other } => compares_as(op, other, signed, width, number),
+            Found::Something => false,
+        },
     }
 }
 
 /// What several plans say: each of them, or some. The first one that decides is the last one asked.
 #[cycle(deciding)]
 #[tactic(auto, using(crate::proofs::PlanLists::several))]
-fn many_say(
+fn many_say<R: HasPlaces>(
     plans: &Plans,
     all: bool,
-    questions: &[Question],
-    one: &PlacedSlots<'_, '_, '_>,
-    memo: &mut Memo,
+    one: &Asked<'_, R>,
+    memo: &mut Option<Memo>,
 ) -> bool
-    requires placed { IsPlaced one.now }
-    requires memo { Recalls (finds questions.now (placed_entries one.now)) memo.old }
-    ensures said { result ≡ many_say one.now.places.now.marked (finds questions.now (placed_entries one.now)) all (plans_of (map plan_tree plans.now)) }
-    ensures memo { Recalls (finds questions.now (placed_entries one.now)) memo.new }
+    requires sound { R.sound one.now.record.now }
+    requires memo { IfSome memo.old (Recalls (finds one.now.questions.now (R.entries one.now.record.now))) }
+    ensures said { result ≡ level_says all plans.now one.now.marked (finds one.now.questions.now (R.entries one.now.record.now)) }
+    ensures memo { IfSome memo.new (Recalls (finds one.now.questions.now (R.entries one.now.record.now))) }
 {
     for plan in plans.as_slice() {
-        if says(plan, questions, one, memo) != all {
+        if says(plan, one, memo) != all {
             return !all;
         }
     }
@@ -51,16 +52,11 @@ fn many_say(
 /// What a plan says of a record.
 #[cycle(deciding)]
 #[tactic(auto, using(crate::proofs::PlanTrees::deciding))]
-pub fn says(
-    plan: &Plan,
-    questions: &[Question],
-    one: &PlacedSlots<'_, '_, '_>,
-    memo: &mut Memo,
-) -> bool
-    requires placed { IsPlaced one.now }
-    requires memo { Recalls (finds questions.now (placed_entries one.now)) memo.old }
-    ensures said { result ≡ says one.now.places.now.marked (finds questions.now (placed_entries one.now)) (plan_tree plan.now) }
-    ensures memo { Recalls (finds questions.now (placed_entries one.now)) memo.new }
+pub fn says<R: HasPlaces>(plan: &Plan, one: &Asked<'_, R>, memo: &mut Option<Memo>) -> bool
+    requires sound { R.sound one.now.record.now }
+    requires memo { IfSome memo.old (Recalls (finds one.now.questions.now (R.entries one.now.record.now))) }
+    ensures said { result ≡ says one.now.marked (finds one.now.questions.now (R.entries one.now.record.now)) (plan_tree plan.now) }
+    ensures memo { IfSome memo.new (Recalls (finds one.now.questions.now (R.entries one.now.record.now))) }
 {
     match plan {
         Plan::Always { holds } => *holds,
@@ -69,25 +65,25 @@ pub fn says(
             question,
             want,
         } => {
-            if !has_slot(&one.marked(), *slot) {
+            if !has_slot(&one.marked, *slot) {
                 return false;
             }
-            match recall(questions, *question, one, memo) {
+            match found_under(one, *question, memo) {
                 Some(found) => is_wanted(*want, found),
                 None => false,
             }
         }
-        Plan::Not { plan } => !says(plan, questions, one, memo),
+        Plan::Not { plan } => !says(plan, one, memo),
         Plan::Several {
             all,
             asked,
             absent,
             plans,
         } => {
-            if !meets(asked, &one.marked()) {
+            if !meets(asked, &one.marked) {
                 return *absent;
             }
-            many_say(plans, *all, questions, one, memo)
+            many_say(plans, *all, one, memo)
         }
     }
 }

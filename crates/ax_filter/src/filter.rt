@@ -8,7 +8,7 @@ ghost use Rattle.ax_filter.specs.Tests.{test_tree, passes};
 ghost use Rattle.ax_filter.specs.Tree.{expr_tree};
 
 use crate::expr::Expr;
-use crate::plan::{Plans, Questions};
+use crate::plan::{CategoryPlans, Questions};
 use crate::test::Test;
 use ax_check::Catalogue;
 
@@ -22,8 +22,8 @@ pub struct Filter<'c> {
     pub(crate) asking: u32,
     /// What the plans ask, by the numbers under which they do.
     pub(crate) questions: Questions,
-    /// By category, the plan of the test for its records; none where few tests ask.
-    pub(crate) plans: Plans,
+    /// By category, what the test asks of its records; none where few tests ask.
+    pub(crate) plans: CategoryPlans,
     ghost same: { (category : ℕ) (r : EntriesTree) → passes category r (test_tree test) ≡ holds (catalogue_tree catalogue.now) category r (expr_tree expr) },
     ghost planned: { PlanEach questions plans test },
 }

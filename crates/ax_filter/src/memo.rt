@@ -1,20 +1,29 @@
 //! What questions found in a record, each looked for once.
-ghost use Rattle.std.specs.Prelude.{◌≡◌, ℕ, Option, None};
+ghost use Rattle.std.specs.Prelude.{◌≡◌, ℕ, Option, None, IfSome};
 ghost use Rattle.ax_filter.specs.Plans.{finds, found_in};
 ghost use Rattle.ax_filter.specs.Memos.{Recalls};
-ghost use Rattle.ax_view.specs.Placing.{IsPlaced, placed_entries};
+ghost use Rattle.ax_filter.specs.declared.plan.Found.{Found};
 
-use crate::plan::{Asking, Question};
-use ax_view::PlacedSlots;
+use crate::places::HasPlaces;
+use crate::plan::{Asking, Found, Question};
+use ax_fspec::Presence;
 
 /// How many answers are kept at a time.
 const KEPT: usize = 16;
+
+/// A record that is asked: its marked slots, and the questions by their numbers.
+#[derive(Drop)]
+pub struct Asked<'r, R> {
+    pub record: &'r R,
+    pub marked: Presence,
+    pub questions: &'r [Question],
+}
 
 /// What the question of a number found.
 #[derive(Clone, Copy)]
 pub struct Answer {
     pub question: u32,
-    pub found: Option<u128>,
+    pub found: Option<Found>,
 }
 
 /// The answers of a record that are kept: that to a question stands at the remainder of its number by 16. So questions whose
@@ -28,7 +37,7 @@ impl Memo {
     /// Nothing was asked yet: no question has the greatest number.
     #[inline]
     pub fn new() -> Memo
-        ensures { (found : ℕ → Option ℕ) → found 4294967295 ≡ None → Recalls found result }
+        ensures { (found : ℕ → Option Found) → found 4294967295 ≡ None → Recalls found result }
     {
         Memo {
             answers: [Answer {
@@ -40,15 +49,18 @@ impl Memo {
 }
 
 /// What a question finds in a record.
-fn found_in(question: &Question, one: &PlacedSlots<'_, '_, '_>) -> Option<u128>
-    requires placed { IsPlaced one.now }
-    ensures { result ≡ found_in (placed_entries one.now) question.now }
+fn found_in<R: HasPlaces>(question: &Question, one: &R) -> Option<Found>
+    requires { R.sound one.now }
+    ensures { result ≡ found_in (R.entries one.now) question.now }
 {
     match question.asking {
-        Asking::Number => one.number(&question.place),
+        Asking::Number => match one.number_at(&question.place) {
+            Some(number) => Some(Found::Number { number }),
+            None => None,
+        },
         Asking::Standing => {
-            if PlacedSlots::present(one, &question.place) {
-                Some(0)
+            if one.has(&question.place) {
+                Some(Found::Something)
             } else {
                 None
             }
@@ -57,37 +69,49 @@ fn found_in(question: &Question, one: &PlacedSlots<'_, '_, '_>) -> Option<u128>
 }
 
 /// What the question of a number finds in a record.
-fn find(questions: &[Question], number: u32, one: &PlacedSlots<'_, '_, '_>) -> Option<u128>
-    requires placed { IsPlaced one.now }
-    ensures { result ≡ finds questions.now (placed_entries one.now) number }
+fn find<R: HasPlaces>(one: &Asked<'_, R>, number: u32) -> Option<Found>
+    requires { R.sound one.now.record.now }
+    ensures { result ≡ finds one.now.questions.now (R.entries one.now.record.now) number }
 {
-    match questions.get(number as usize) {
-        Some(question) => found_in(question, one),
+    match one.questions.get(number as usize) {
+        Some(question) => found_in(question, one.record),
         None => None,
     }
 }
 
 /// The same, looked for where its answer isn't kept.
-pub fn recall(
-    questions: &[Question],
-    number: u32,
-    one: &PlacedSlots<'_, '_, '_>,
-    memo: &mut Memo,
-) -> Option<u128>
-    requires placed { IsPlaced one.now }
-    requires memo { Recalls (finds questions.now (placed_entries one.now)) memo.old }
-    ensures found { result ≡ finds questions.now (placed_entries one.now) number }
-    ensures memo { Recalls (finds questions.now (placed_entries one.now)) memo.new }
+fn recall<R: HasPlaces>(one: &Asked<'_, R>, number: u32, memo: &mut Memo) -> Option<Found>
+    requires sound { R.sound one.now.record.now }
+    requires memo { Recalls (finds one.now.questions.now (R.entries one.now.record.now)) memo.old }
+    ensures found { result ≡ finds one.now.questions.now (R.entries one.now.record.now) number }
+    ensures memo { Recalls (finds one.now.questions.now (R.entries one.now.record.now)) memo.new }
 {
     let place = number as usize % KEPT;
     let kept = memo.answers[place];
     if kept.question == number {
         return kept.found;
     }
-    let found = find(questions, number, one);
+    let found = find(one, number);
     memo.answers[place] = Answer {
         question: number,
         found,
     };
     found
+}
+
+/// The same; no answer is kept where there is no memo.
+pub fn found_under<R: HasPlaces>(
+    one: &Asked<'_, R>,
+    number: u32,
+    memo: &mut Option<Memo>,
+) -> Option<Found>
+    requires sound { R.sound one.now.record.now }
+    requires memo { IfSome memo.old (Recalls (finds one.now.questions.now (R.entries one.now.record.now))) }
+    ensures found { result ≡ finds one.now.questions.now (R.entries one.now.record.now) number }
+    ensures memo { IfSome memo.new (Recalls (finds one.now.questions.now (R.entries one.now.record.now))) }
+{
+    match memo {
+        Some(memo) => recall(one, number, memo),
+        None => find(one, number),
+    }
 }

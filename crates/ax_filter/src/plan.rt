@@ -7,7 +7,7 @@ use ax_model::Place;
 /// What a question asks for.
 #[derive(Clone, Copy, PartialEq, Eq)]
 pub enum Asking {
-    /// Whether something stands at a place. What is found is 0 then.
+    /// Whether something stands at a place.
     Standing,
     /// The number that stands there.
     Number,
@@ -23,6 +23,15 @@ pub struct Question {
 /// Questions by their numbers, from 0.
 pub type Questions = Sequence<Question>;
 
+/// What a question finds in a record, where it finds anything.
+#[derive(Clone, Copy)]
+pub enum Found {
+    /// Something stands at the place.
+    Something,
+    /// The number that stands there.
+    Number { number: u128 },
+}
+
 /// Of what is found, what holds.
 #[derive(Clone, Copy)]
 pub enum Want {
@@ -37,7 +46,7 @@ pub enum Want {
     },
 }
 
-/// Plans in order.
+/// Plans of one level.
 pub type Plans = Sequence<Plan>;
 
 /// A test as it is asked of the records of one category. A plan of several knows the slots, by field reference number, that
@@ -66,3 +75,14 @@ pub enum Plan {
         plans: Plans,
     },
 }
+
+/// What is asked of the records of one category.
+#[derive(Drop)]
+pub struct CategoryPlan {
+    pub plan: Plan,
+    /// How many of its tests ask what stands at a place; counted up to 2^32 - 1.
+    pub asking: u32,
+}
+
+/// By category, what is asked of its records.
+pub type CategoryPlans = Sequence<CategoryPlan>;

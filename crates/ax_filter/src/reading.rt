@@ -12,8 +12,9 @@ use crate::error::FilterError;
 use crate::expr::Expr;
 use crate::faults::{PathFault, first_fault};
 use crate::filter::Filter;
-use crate::plan::{Plans, Questions};
+use crate::plan::CategoryPlans;
 use crate::planning::plan_categories;
+use crate::questions::Numbering;
 use crate::resolving::resolve;
 use crate::syntax::{SyntaxError, read_expr};
 use ax_check::Catalogue;
@@ -51,18 +52,18 @@ fn filter_of<'c>(
 {
     let test = resolve(alloc, catalogue, &expr)?;
     let asking = asking(&test);
-    let mut questions = Questions::new(alloc);
+    let mut numbering = Numbering::new(alloc);
     let plans = if asking > FEW {
-        plan_categories(alloc, &test, &mut questions)?
+        plan_categories(alloc, &test, &mut numbering)?
     } else {
-        Plans::new(alloc)
+        CategoryPlans::new(alloc)
     };
     Ok(Filter {
         expr,
         catalogue,
         test,
         asking,
-        questions,
+        questions: numbering.questions,
         plans,
     })
 }

@@ -1,11 +1,12 @@
-use Rattle.std.proofs.Common.{◌≡◌, drop, map}
+use Rattle.std.proofs.Common.{◌≡◌, IfSome, drop}
 use Rattle.ax_filter.specs.Memos.{Recalls}
-use Rattle.ax_filter.specs.Plans.{finds, many_say, plan_tree, plans_of}
-use Rattle.ax_view.specs.Placing.{placed_entries}
+use Rattle.ax_filter.specs.Plans.{finds, level_says}
 use Rattle.ax_filter.proofs.deciding.+deciding.Given as goal
 
 abbrev pub invariant-many_say-loop-plan : goal.invariant-many_say-loop-plan
-invariant-many_say-loop-plan l = record {
-  recalls : Recalls (finds l.questions (placed_entries l.one)) l.memo;
-  said : many_say l.one.places.now.marked (finds l.questions (placed_entries l.one)) l.all (plans_of (map plan_tree (drop l.plan-index l.plans))) ≡ many_say l.one.places.now.marked (finds l.questions (placed_entries l.one)) l.all (plans_of (map plan_tree l.plans));
-}
+invariant-many_say-loop-plan g l =
+    let found = finds l.one.questions.now (g.R.HasPlaces.entries l.one.record.now) in
+    record {
+      recalls : IfSome l.memo (Recalls found);
+      said : level_says l.all (drop l.plan-index l.plans) l.one.marked found ≡ level_says l.all l.plans l.one.marked found;
+    }

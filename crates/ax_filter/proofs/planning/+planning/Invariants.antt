@@ -1,11 +1,9 @@
-use Rattle.std.proofs.Common.{◌≤◌, ◌+◌, ◌*◌, length}
 use Rattle.ax_filter.proofs.PlannedTests.{PlannedFirst}
 use Rattle.ax_filter.specs.Plans.{Grow}
 use Rattle.ax_filter.proofs.planning.+planning.Given as goal
 
 abbrev pub invariant-plan_several-loop-test : goal.invariant-plan_several-loop-test
 invariant-plan_several-loop-test l = record {
-  grow : Grow l.fn.questions l.questions;
-  few : 32 * length l.made + length l.latest ≤ l.test-index;
-  planned : PlannedFirst l.all l.category l.questions l.made l.latest l.tests l.test-index;
+  grow : Grow l.fn.numbering.questions l.numbering.questions;
+  planned : PlannedFirst l.all l.category l.numbering.questions l.level.items l.tests l.test-index;
 }

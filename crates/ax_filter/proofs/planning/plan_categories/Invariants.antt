@@ -5,5 +5,5 @@ use Rattle.ax_filter.proofs.planning.plan_categories.Given as goal
 abbrev pub invariant-loop-category : goal.invariant-loop-category
 invariant-loop-category l = record {
   size : length l.made ≡ l.category;
-  planned : PlanEach l.questions l.made l.test;
+  planned : PlanEach l.numbering.questions l.made l.test;
 }

@@ -1,6 +1,6 @@
 use Rattle.std.proofs.Common.{◌≡◌, length}
-use Rattle.ax_filter.proofs.PlannedTests.{Quiet}
-use Rattle.ax_filter.proofs.planning.several.Given as goal
+use Rattle.ax_filter.proofs.Levels.{Quiet}
+use Rattle.ax_filter.proofs.grouping.several.Given as goal
 
 abbrev pub invariant-loop-plan : goal.invariant-loop-plan
 invariant-loop-plan l = record {

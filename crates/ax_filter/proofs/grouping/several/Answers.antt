@@ -1,7 +1,7 @@
 use Rattle.std.proofs.Common.{refl, ◌∙◌, ap, length, rules}
-use Rattle.ax_filter.proofs.PlannedTests.{quiet_next, group_says, constant_says}
+use Rattle.ax_filter.proofs.Levels.{quiet_next, group_says, constant_says}
 use Rattle.ax_filter.proofs.SlotSets.{size_none}
-use Rattle.ax_filter.proofs.planning.several.Goals as goal
+use Rattle.ax_filter.proofs.grouping.several.Goals as goal
 
 pub loop-plan-init : goal.loop-plan-init
 loop-plan-init c = record { size = ap length c.empty-asked.ensures ∙ size_none; quiet = λ marks found e. refl }

@@ -1,0 +1,100 @@
+-- The marked slots of a record, read from its presence field.
+use Rattle.std.proofs.Common.{◌≡◌, ℕ, zero, suc, ◌+◌, ◌-◌, ◌<◌, ◌≤◌, ◌==◌, ◌&&◌, if◌then◌else◌, nat_lt, Bool, true, false, List, [], ◌∷◌, length, get_or, Some, None, refl, sym, ◌∙◌, ap, arith, subst}
+use Rattle.std.proofs.lemmas.Bool.{lt-ltb, ltb-false}
+use Rattle.ax_bits.specs.Bits.{AreBits}
+use Rattle.ax_fspec.specs.Fields.{MarksSlots, FailsToMark}
+use Rattle.ax_model.specs.At.{slot_value}
+use Rattle.ax_model.specs.declared.fault.BodyFault.{BodyFault}
+use Rattle.ax_model.specs.Presence.{first_mark, later_marks}
+use Rattle.ax_model.specs.Reader.{Read, got, failed, after, both, read, mark_read, entries_read}
+use Rattle.ax_model.specs.Tree.{KindTree, ValueTree, EntriesTree, entry_and, SlotsTree, no_slots, slot_and, spare_slot, subitem, slots_of}
+use Rattle.ax_reader.proofs.Marking.{marks_bits}
+use Rattle.ax_reader.specs.Reading.{entries_at}
+use Rattle.ax_tables.specs.Meaning.{meanings, linked_slots}
+use Rattle.ax_tables.specs.declared.codec.Codec.{Codec}
+use Rattle.ax_view.proofs.Found.{not_same, field_never, entries_are}
+use Rattle.ax_view.specs.Shown.{record_entries}
+use Rattle.ax_view.specs.Values.{entries_found}
+use Rattle.ax_view.specs.declared.record.RecordView.{RecordView}
+use Rattle.ax_filter.specs.Plans.{is_slot, MarkEach}
+
+-- ---- entries of slots that aren't marked
+
+first_is : (ms : List ℕ) → get_or ms 0 0 ≡ first_mark ms
+first_is [] = refl
+first_is (m ∷ ms) = refl
+
+later : (n s : ℕ) (ms : List ℕ) → (n ≤ s → get_or ms (s - n) 0 ≡ 0) → n + 1 ≤ s → get_or (later_marks ms) (s - (n + 1)) 0 ≡ 0
+later n s [] h le = refl
+later n s (m ∷ ms) h le = let e : s - n ≡ suc (s - (n + 1)) = omega (arith, le) in sym (ap (λ k. get_or (m ∷ ms) k 0) e) ∙ h (omega (arith, le))
+
+apart : (n s m : ℕ) (ms : List ℕ) → first_mark ms ≡ suc m → (n ≤ s → get_or ms (s - n) 0 ≡ 0) → n ≡ s → ⊥
+apart n s m ms e h is =
+    let first : get_or ms (s - n) 0 ≡ suc m = ap (λ k. get_or ms k 0) (let z : s - n ≡ 0 = omega (arith, is) in z) ∙ first_is ms ∙ e in
+    let none = h (omega (arith, is)) in omega (arith, first, none)
+
+of_rest : (n s w : ℕ) (v : ValueTree) (r : Read EntriesTree) → (n ≡ s → ⊥) → slot_value s (entries_found r) ≡ None → slot_value s (entries_found (after w (λ es. entry_and n v es) r)) ≡ None
+of_rest n s w v (failed p c) ne h = refl
+of_rest n s w v (got es m y) ne h = ap (λ b. if b then Some v else slot_value s es) (not_same n s ne) ∙ h
+
+of_value : (n s : ℕ) (go : List ℕ → Read EntriesTree) (r : Read ValueTree) → (n ≡ s → ⊥) → ((y : List ℕ) → slot_value s (entries_found (go y)) ≡ None) → slot_value s (entries_found (both (λ v es. entry_and n v es) r go)) ≡ None
+of_value n s go (failed p c) ne h = refl
+of_value n s go (got v w y) ne h = of_rest n s w v (go y) ne (h y)
+
+of_mark : (n s m : ℕ) (k : KindTree) (go : List ℕ → Read EntriesTree) (ms b : List ℕ) → first_mark ms ≡ m → (n ≤ s → get_or ms (s - n) 0 ≡ 0) → ((y : List ℕ) → slot_value s (entries_found (go y)) ≡ None) → slot_value s (entries_found (mark_read m n (read k) go b)) ≡ None
+of_mark n s zero k go ms b e h rest = rest b
+of_mark n s (suc m) k go ms b e h rest = of_value n s go (read k b) (apart n s m ms e h) rest
+
+not_read : (n s : ℕ) (ss : SlotsTree) (ms b : List ℕ) → (n ≤ s → get_or ms (s - n) 0 ≡ 0) → slot_value s (entries_found (entries_read n ss ms b)) ≡ None
+not_read n s no_slots ms b h = refl
+not_read n s (slot_and spare_slot ss) ms b h = not_read (n + 1) s ss (later_marks ms) b (later n s ms h)
+not_read n s (slot_and (subitem name k) ss) ms b h =
+    of_mark n s (first_mark ms) k (entries_read (n + 1) ss (later_marks ms)) ms b refl h (λ y. not_read (n + 1) s ss (later_marks ms) y (later n s ms h))
+
+not_there : (s : ℕ) (ss : SlotsTree) (marks body : List ℕ) (at : ℕ) → (1 ≤ s → get_or marks (s - 1) 0 ≡ 0) → slot_value s (entries_found (entries_at ss marks body at)) ≡ None
+unfolding entries_at
+not_there s ss marks body at h = not_read 1 s ss marks _ h
+
+-- ---- slots that aren't in a set
+
+bit_below : (b : List ℕ) (i : ℕ) → AreBits b → get_or b i 0 < 2
+bit_below [] i h = omega arith
+bit_below (x ∷ b) zero h = h.0
+bit_below (x ∷ b) (suc i) h = bit_below b i h.1
+
+zero_of : (x : ℕ) → x < 2 → (x == 1) ≡ false → x ≡ 0
+zero_of zero l e = refl
+zero_of (suc zero) l e = absurd cc
+zero_of (suc (suc x)) l e = absurd (omega (arith, l))
+
+past : (xs : List ℕ) (i : ℕ) → length xs ≤ i → get_or xs i 0 ≡ 0
+past [] i l = refl
+past (x ∷ xs) zero l = absurd (omega (arith, l))
+past (x ∷ xs) (suc i) l = past xs i (omega (arith, l))
+
+unmarked : (marks : List ℕ) (s : ℕ) → AreBits marks → length marks ≡ 126 → is_slot marks s ≡ false → 1 ≤ s → get_or marks (s - 1) 0 ≡ 0
+unmarked marks s bit size e some = by (nat_lt s 127) refl
+  where
+    by : (few : Bool) → nat_lt s 127 ≡ few → get_or marks (s - 1) 0 ≡ 0
+    by true few =
+        zero_of (get_or marks (s - 1) 0) (bit_below marks (s - 1) bit)
+        (sym (ap (λ b. b && (nat_lt s 127 && (get_or marks (s - 1) 0 == 1))) (lt-ltb 0 s some) ∙ ap (λ b. b && (get_or marks (s - 1) 0 == 1)) few) ∙ e)
+    by false large = past marks (s - 1) (let l = ltb-false s 127 large in omega (arith, size, l))
+
+-- ---- the slots of a record
+
+own_marks : (view : RecordView) (here : ℕ) (marks : List ℕ) → MarksSlots view.codec.now.mask view.body.now 0 here marks → MarkEach marks (record_entries view)
+own_marks view here marks h s e =
+    let codec = view.codec.now in
+    sym (ap (slot_value s) (entries_are codec.nodes codec.slots codec.mask view.body.now codec.records.mask view.record_octets marks here h))
+    ∙ not_there s (slots_of (linked_slots (meanings codec.nodes) codec.slots)) marks view.body.now here (unmarked marks s (marks_bits codec.mask view.body.now marks 0 here h) h.size e)
+
+own_never : (view : RecordView) (fault : BodyFault) → FailsToMark view.codec.now.mask view.body.now 0 fault → ⊥
+own_never view fault h = let codec = view.codec.now in field_never codec.nodes codec.slots codec.mask view.body.now codec.records.mask view.record_octets fault h
+
+module _ (view : RecordView) (codec : Codec) (body : List ℕ) (b : body ≡ view.body.now) (same : view.codec.now ≡ codec) where
+  pub marks_of : (here : ℕ) (marks : List ℕ) → MarksSlots codec.mask body 0 here marks → MarkEach marks (record_entries view)
+  marks_of here marks h = own_marks view here marks (subst (λ c. MarksSlots c.mask view.body.now 0 here marks) (sym same) (subst (λ x. MarksSlots codec.mask x 0 here marks) b h))
+
+  pub never_fails : (fault : BodyFault) → FailsToMark codec.mask body 0 fault → ⊥
+  never_fails fault h = own_never view fault (subst (λ c. FailsToMark c.mask view.body.now 0 fault) (sym same) (subst (λ x. FailsToMark codec.mask x 0 fault) b h))

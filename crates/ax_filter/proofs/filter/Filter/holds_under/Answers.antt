@@ -1,0 +1,14 @@
+use Rattle.std.proofs.Common.{◌∙◌, ap, sym}
+use Rattle.std.specs.Option.{option_copied}
+use Rattle.ax_filter.proofs.PlannedTests.{said_of}
+use Rattle.ax_filter.specs.Plans.{finds, plan_tree, says}
+use Rattle.ax_view.specs.Shown.{record_entries}
+use Rattle.ax_filter.proofs.filter.Filter.holds_under.Goals as goal
+
+pub returns-in-Some : goal.returns-in-Some
+returns-in-Some c same =
+    let f = c.args.self.now in
+    let r = record_entries c.args.one.now in
+    let marks = c.marked_slots-marked.result in
+    c.says_of.ensures same ∙ ap (λ qs. says marks (finds qs r) (plan_tree c.in-Some.plan.now.plan)) c.as_slice.ensures.members
+    ∙ said_of f.questions f.plans f.test c.args.category c.in-Some.plan.now r marks f.planned (sym c.get.ensures.value ∙ ap option_copied c.in-Some.is) (c.marked_slots-marked.ensures same) ∙ f.same c.args.category r

@@ -18,11 +18,11 @@ pub struct Filter<'c> {
     pub(crate) expr: Expr,
     pub(crate) catalogue: &'c Catalogue,
     pub(crate) test: Test,
-    /// How many tests ask what stands at a place; counted up to 2^32 - 1.
-    pub(crate) asking: u32,
+    /// How many tests there are, those of several and of `not` too; counted up to 2^32 - 1.
+    pub(crate) count: u32,
     /// What the plans ask, by the numbers under which they do.
     pub(crate) questions: Questions,
-    /// By category, what the test asks of its records; none where few tests ask.
+    /// By category, what the test asks of its records; none where there are few tests.
     pub(crate) plans: CategoryPlans,
     ghost same: { (category : ℕ) (r : EntriesTree) → passes category r (test_tree test) ≡ holds (catalogue_tree catalogue.now) category r (expr_tree expr) },
     ghost planned: { PlanEach questions plans test },

@@ -124,13 +124,13 @@ impl<'c> Filter<'c> {
         passes(&self.test, spec.category, one)
     }
 
-    /// The same of a record under that codec. Where more than a few tests ask, it is asked by the plan of its category: no test of
+    /// The same of a record under that codec. Where there are more than a few tests, it is asked by the plan of its category: no test of
     /// another one is looked at, those of items that it hasn't are passed over together, its items are found in one walk for all
     /// tests, and what several tests ask is looked for once. Takes no memory.
     pub fn holds_under(&self, category: u8, codec: &Codec, one: &RecordView<'_, '_>) -> bool
         ensures { one.now.codec.now ≡ codec.now → result ≡ holds (catalogue_of self.now) category (record_entries one.now) (expression self.now) }
     {
-        if self.asking <= FEW {
+        if self.count <= FEW {
             return self.holds(category, one);
         }
         match self.plans.get(category as u32) {

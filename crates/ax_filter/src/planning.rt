@@ -6,7 +6,7 @@ ghost use Rattle.ax_filter.specs.Plans.{Grow, PlanEach, SaysAs, found_by, many_p
 ghost use Rattle.ax_filter.specs.Tests.{number_for, passes, test_tree};
 ghost use Rattle.ax_filter.specs.declared.plan.Want.TheVariants.{Compares};
 
-use crate::asking::asking_plan;
+use crate::asking::asking;
 use crate::expr::Op;
 use crate::grouping::grouped;
 use crate::plan::{Asking, CategoryPlan, CategoryPlans, Plan, Want};
@@ -153,7 +153,7 @@ fn plan_category(
     ensures grow { Grow numbering.old.questions numbering.new.questions }
 {
     let plan = plan_of(alloc, test, category, numbering)?;
-    let asking = asking_plan(&plan);
+    let asking = asking(&plan);
     Ok(CategoryPlan { plan, asking })
 }
 

@@ -7,7 +7,7 @@ ghost use Rattle.ax_filter.specs.Leading.{IsPathFault};
 ghost use Rattle.ax_filter.specs.declared.error.FilterError.TheVariants as Fault;
 ghost use Rattle.ax_filter.specs.OfCode.{expression, catalogue_of, IsFilterOf};
 
-use crate::asking::{FEW, asking};
+use crate::asking::{FEW, count_tests};
 use crate::error::FilterError;
 use crate::expr::Expr;
 use crate::faults::{PathFault, first_fault};
@@ -51,9 +51,9 @@ fn filter_of<'c>(
     ensures memory { IfErr result (λ e. e ≡ Fault.OutOfMemory) }
 {
     let test = resolve(alloc, catalogue, &expr)?;
-    let asking = asking(&test);
+    let count = count_tests(&test);
     let mut numbering = Numbering::new(alloc);
-    let plans = if asking > FEW {
+    let plans = if count > FEW {
         plan_categories(alloc, &test, &mut numbering)?
     } else {
         CategoryPlans::new(alloc)
@@ -62,7 +62,7 @@ fn filter_of<'c>(
         expr,
         catalogue,
         test,
-        asking,
+        count,
         questions: numbering.questions,
         plans,
     })

@@ -1,11 +1,13 @@
 -- Bits that are laid, piece by piece.
-use Rattle.std.proofs.Common.{◌≡◌, ℕ, ◌+◌, ◌-◌, ◌*◌, ◌/◌, ◌%◌, ◌^◌, ◌<◌, ◌≤◌, List, [], ◌∷◌, ◌++◌, length, take, set, get_or, sym, ◌∙◌, ap, subst, arith, append_assoc, append-nil, lit<}
-use Rattle.std.proofs.lemmas.List.{take_more_set, take_all}
-use Rattle.std.proofs.lemmas.Nat.{shl_below, shr_below}
-use Rattle.std.proofs.Math.Nat.{mod-eq_of_lt, pow-le-pow_right}
+use Rattle.std.proofs.Common.{◌≡◌, ℕ, suc, ◌+◌, ◌-◌, ◌*◌, ◌/◌, ◌%◌, ◌^◌, ◌<◌, ◌≤◌, List, [], ◌∷◌, ◌++◌, length, take, set, get_or, refl, sym, ◌∙◌, ap, subst, arith, append_assoc, append-nil, lit<, length-take-le}
+use Rattle.std.proofs.lemmas.List.{take_more_set, take_all, take_at, take-take}
+use Rattle.std.proofs.lemmas.Nat.{shl_below, shr_below, pow_pos}
+use Rattle.std.proofs.Math.Seq.{take-append-add}
+use Rattle.std.specs.Int.{w64, to_be_bytes, bytes_high_first, byte_at}
+use Rattle.std.proofs.Math.Nat.{mod-eq_of_lt, pow-le-pow_right, pow-suc}
 use Rattle.ax_bits.specs.Bits.{word, bits}
-use Rattle.ax_bits.proofs.Pieces.{word-split, word-low, word-joined, bits_more}
-use Rattle.ax_bits.proofs.Words.{bits-append}
+use Rattle.ax_bits.proofs.Pieces.{word-split, word-low, word-joined, bits_more, take-bits}
+use Rattle.ax_bits.proofs.Words.{bits-append, length-word}
 use Rattle.ax_printed_lines.specs.Laid.{laid, Lays}
 use Rattle.ax_printed_lines.specs.declared.laid.Laid.{Laid}
 
@@ -73,3 +75,54 @@ each_laid old now new octets i x lt is p q =
 
 pub all_laid : (old now : Laid) (octets : List ℕ) (i : ℕ) → length octets ≤ i → Lays old now (bits (take i octets)) → Lays old now (bits octets)
 all_laid old now octets i le p = subst (λ l. Lays old now (bits l)) (take_all i octets le) p
+
+-- ---- whole octets of a number that is stored at once
+
+one_byte : (k n byte : ℕ) (lower : List ℕ) → byte ≡ n / 2 ^ (8 * k) % 256 → bits lower ≡ word (8 * k) n → bits (byte ∷ lower) ≡ word (8 * (k + 1)) n
+one_byte k n byte lower is e =
+    let size : 8 * (k + 1) ≡ 8 + 8 * k = omega arith in
+    let upper : word 8 byte ≡ word 8 (n / 2 ^ (8 * k)) = ap (word 8) is ∙ word-low 8 (n / 2 ^ (8 * k)) in
+    (λ i. upper i ++ e i) ∙ sym (ap (λ w. word w n) size ∙ word-split 8 (8 * k) n)
+
+eight_bytes : (n : ℕ) → bits (to_be_bytes w64 n) ≡ word 64 n
+eight_bytes n =
+    let b0 = one_byte 0 n (byte_at 0 n) [] (omega arith) refl in
+    let b1 = one_byte 1 n (byte_at 1 n) (bytes_high_first 1 n) refl b0 in
+    let b2 = one_byte 2 n (byte_at 2 n) (bytes_high_first 2 n) refl b1 in
+    let b3 = one_byte 3 n (byte_at 3 n) (bytes_high_first 3 n) refl b2 in
+    let b4 = one_byte 4 n (byte_at 4 n) (bytes_high_first 4 n) refl b3 in
+    let b5 = one_byte 5 n (byte_at 5 n) (bytes_high_first 5 n) refl b4 in
+    let b6 = one_byte 6 n (byte_at 6 n) (bytes_high_first 6 n) refl b5 in
+    one_byte 7 n (byte_at 7 n) (bytes_high_first 7 n) refl b6
+
+-- the first octets of a number that is shifted up to the front of 64 bits
+shifted_front : (width number stored : ℕ) → width < 64 → stored ≡ number * 2 ^ (64 - width) % 2 ^ 64 → bits (take (width / 8) (to_be_bytes w64 stored)) ++ word (width % 8) number ≡ word width number
+shifted_front width number stored lt is =
+    let q = width / 8 in
+    let r = width % 8 in
+    let low = 64 - width in
+    let all : 64 ≡ width + low = omega (arith, lt) in
+    let parts : width ≡ 8 * q + r = omega arith in
+    let whole : word 64 stored ≡ word width number ++ word low 0 =
+    ap (word 64) is ∙ word-low 64 (number * 2 ^ low) ∙ ap (λ w. word w (number * 2 ^ low)) all ∙ ap (word (width + low)) (let z : number * 2 ^ low ≡ number * 2 ^ low + 0 = omega arith in z) ∙ word-joined width low number 0 (pow_pos low) in
+    let split : word width number ≡ word (8 * q) (number / 2 ^ r) ++ word r number = ap (λ w. word w number) parts ∙ word-split (8 * q) r number in
+    let front : take (8 * q) (word 64 stored) ≡ word (8 * q) (number / 2 ^ r) =
+    ap (take (8 * q)) (whole ∙ ap (λ k. k ++ word low 0) split ∙ append_assoc (word (8 * q) (number / 2 ^ r)) (word r number) (word low 0)) ∙ take_at (word (8 * q) (number / 2 ^ r)) (word r number ++ word low 0) (8 * q) (length-word (8 * q) (number / 2 ^ r)) in
+    ap (λ k. k ++ word r number) (sym (take-bits q (to_be_bytes w64 stored)) ∙ ap (take (8 * q)) (eight_bytes stored) ∙ front) ∙ sym split
+
+-- a shift by one bit after another shift
+pub shifted_twice : (number width : ℕ) → width < 64 → number * 2 ^ (63 - width) % 2 ^ 64 * 2 % 2 ^ 64 ≡ number * 2 ^ (64 - width) % 2 ^ 64
+shifted_twice number width lt =
+    let size : 64 - width ≡ suc (63 - width) = omega (arith, lt) in
+    let twice : number * 2 ^ (64 - width) ≡ number * 2 ^ (63 - width) * 2 = ap (λ k. number * 2 ^ k) size ∙ ap (λ m. number * m) (pow-suc 2 (63 - width)) ∙ omega arith in
+    omega (arith, twice)
+
+-- after a front
+pub stored_after : (old new : List ℕ) (from width number stored : ℕ) → width < 64 → from ≤ length old → stored ≡ number * 2 ^ (64 - width) % 2 ^ 64 → take (from + 8) new ≡ take from old ++ to_be_bytes w64 stored
+    → bits (take (from + width / 8) new) ++ word (width % 8) number ≡ bits (take from old) ++ word width number
+stored_after old new from width number stored lt within is e =
+    let q = width / 8 in
+    let bytes = to_be_bytes w64 stored in
+    let short : take (from + q) new ≡ take from old ++ take q bytes =
+    sym (take-take (from + q) (from + 8) new (omega (arith, lt))) ∙ ap (take (from + q)) e ∙ ap (λ n. take (n + q) (take from old ++ bytes)) (sym (length-take-le from old within)) ∙ take-append-add (take from old) bytes q in
+    ap (λ k. k ++ word (width % 8) number) (ap bits short ∙ bits-append (take from old) (take q bytes)) ∙ append_assoc (bits (take from old)) (bits (take q bytes)) (word (width % 8) number) ∙ ap (λ k. bits (take from old) ++ k) (shifted_front width number stored lt is)

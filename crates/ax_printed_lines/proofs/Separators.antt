@@ -1,9 +1,9 @@
 -- Separators behind a token.
-use Rattle.std.proofs.Common.{◌≡◌, ℕ, true, List, [], ◌∷◌, ◌++◌, refl, sym, ◌∙◌, ap, subst, append_assoc}
+use Rattle.std.proofs.Common.{◌≡◌, ℕ, true, false, List, [], ◌∷◌, ◌++◌, refl, sym, ◌∙◌, ap, subst, append_assoc}
 use Rattle.std.specs.List.{list_all}
 use Rattle.std.proofs.lemmas.Bool.{and_from, and_parts}
 use Rattle.ax_tokens.specs.Lexing.{MayFollow}
-use Rattle.ax_tokens.specs.Octets.{is_separator}
+use Rattle.ax_tokens.specs.Octets.{is_separator, is_word_octet}
 use Rattle.ax_tokens.specs.declared.token.TokenKind.{TokenKind}
 use Rattle.ax_tokens.specs.declared.token.TokenKind.TheVariants.{Word}
 use Rattle.ax_printed_lines.specs.Printed.{AfterGap, Stands}
@@ -23,6 +23,23 @@ gap_more octets left later x g e s = record {
 }
 
 pub ruleset gaps = (no_gap, gap_more)
+
+-- one space
+separator : is_separator 32 ≡ true
+unfolding is_separator
+separator = refl
+
+no_word_octet : is_word_octet 32 ≡ false
+unfolding is_word_octet
+no_word_octet = refl
+
+pub space_gap : (octets following : List ℕ) (x : ℕ) → octets ≡ x ∷ following → x ≡ 32 → AfterGap octets following
+space_gap octets following x e is = gap_more octets octets following x (no_gap octets) e (ap is_separator is ∙ separator)
+
+pub space_ends : (octets following : List ℕ) (x : ℕ) → octets ≡ x ∷ following → x ≡ 32 → MayFollow Word octets
+space_ends octets following x e is = subst (MayFollow Word) (sym (e ∙ ap (λ k. k ∷ following) is)) no_word_octet
+
+pub ruleset spaces = (space_gap)
 
 pub ends_there : (octets : List ℕ) → octets ≡ [] → MayFollow Word octets
 ends_there octets e = subst (MayFollow Word) (sym e) tt

@@ -6,7 +6,7 @@ ghost use Rattle.ax_bits.specs.Bits.{AreOctets};
 ghost use Rattle.hex.specs.Hex.{encode_lower};
 ghost use Rattle.ax_printed_lines.specs.Printed.{Place, AfterGap, IsAfterOctet, IsOneWord, Goes};
 
-use crate::gaps::{after_gap, after_word, split_word};
+use crate::gaps::{after_gap, after_space, after_word, split_word};
 use crate::names::{are_same, begins_with};
 use crate::numbers::number_in_front;
 use ax_block_reader::{category_of, unquoted};
@@ -156,7 +156,7 @@ impl<'t> Cursor<'t> {
         }
     }
 
-    /// The number of one digit that comes, as most are. It is read if there is one.
+    /// The number of one digit that comes, with one space behind it, as most are. It is read if there is one.
     #[inline(always)]
     #[tactic(auto, using(crate::proofs::Going::digits))]
     fn digit(&mut self) -> Option<u64>
@@ -167,7 +167,7 @@ impl<'t> Cursor<'t> {
         if *first < b'0' || *first > b'9' {
             return None;
         }
-        let later = after_word(following)?;
+        let later = after_space(following)?;
         self.rest = later;
         Some(u64::from(*first - b'0'))
     }

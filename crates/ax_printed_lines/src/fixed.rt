@@ -17,6 +17,7 @@ use ax_model::{Fixed, LastPart, Member, Members, Part, Parts};
 
 /// The value of a fixed kind that comes is read, and its bits are laid.
 #[cycle(fixed_built)]
+#[inline(always)]
 pub fn fixed_built(cursor: &mut Cursor<'_>, fixed: &Fixed, out: &mut Laid<'_>) -> Option<()>
     requires { FixedInBounds (fixed_tree fixed.now) }
     ensures { IfSome result (λ done. IsBuilt (FixedShape (fixed_tree fixed.now)) (λ v. fixed_onto (fixed_tree fixed.now) v []) (fixed_canon (fixed_tree fixed.now)) cursor.old cursor.new out.old out.new) }

@@ -23,10 +23,36 @@ fn is_of_word(octet: u8) -> bool
     matches!(octet, b'$'..=b'z') || matches!(octet, b'!' | b'|' | b'~')
 }
 
-/// What comes after the separators in front, of which there mostly is one space.
+/// What comes after one space in front, where a token follows it, as mostly between tokens.
 #[inline(always)]
-#[tactic(auto, using(crate::proofs::Separators::gaps))]
+#[tactic(auto, using(crate::proofs::Separators::spaces))]
+pub fn after_space(octets: &[u8]) -> Option<&[u8]>
+    ensures gap { IfSome result (λ left. AfterGap octets.now left.now) }
+    ensures ended { IfSome result (λ left. MayFollow Word octets.now) }
+{
+    let (first, following) = octets.split_first()?;
+    let next = following.first()?;
+    // Each separator is a space or below.
+    if *first != b' ' || *next <= b' ' {
+        return None;
+    }
+    Some(following)
+}
+
+/// What comes after the separators in front.
+#[inline(always)]
 pub fn after_gap(octets: &[u8]) -> &[u8]
+    ensures { AfterGap octets.now result.now }
+{
+    match after_space(octets) {
+        Some(left) => left,
+        None => after_separators(octets),
+    }
+}
+
+/// The same, separator by separator.
+#[tactic(auto, using(crate::proofs::Separators::gaps))]
+fn after_separators(octets: &[u8]) -> &[u8]
     ensures { AfterGap octets.now result.now }
 {
     let mut left = octets;
@@ -41,8 +67,19 @@ pub fn after_gap(octets: &[u8]) -> &[u8]
 
 /// What comes after a Word and the separators behind it, where it ends in front of these octets. None comes where it doesn't.
 #[inline(always)]
-#[tactic(auto, using(crate::proofs::Separators::ends))]
 pub fn after_word(octets: &[u8]) -> Option<&[u8]>
+    ensures gap { IfSome result (λ left. AfterGap octets.now left.now) }
+    ensures ended { IfSome result (λ left. MayFollow Word octets.now) }
+{
+    if let Some(left) = after_space(octets) {
+        return Some(left);
+    }
+    after_ended_word(octets)
+}
+
+/// The same, whatever stands behind the Word.
+#[tactic(auto, using(crate::proofs::Separators::ends))]
+fn after_ended_word(octets: &[u8]) -> Option<&[u8]>
     ensures gap { IfSome result (λ left. AfterGap octets.now left.now) }
     ensures ended { IfSome result (λ left. MayFollow Word octets.now) }
 {
@@ -51,7 +88,7 @@ pub fn after_word(octets: &[u8]) -> Option<&[u8]>
     {
         return None;
     }
-    Some(after_gap(octets))
+    Some(after_separators(octets))
 }
 
 /// The first octets, that many, where no octet of a Word follows, and what comes after them and the separators behind them.

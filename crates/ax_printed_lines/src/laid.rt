@@ -1,5 +1,6 @@
 //! Bits laid one after another over a lent buffer.
 ghost use Rattle.std.specs.Prelude.{◌≡◌, ◌+◌, ◌*◌, ◌%◌, ◌^◌, ◌<◌, ◌≤◌, ◌++◌, [], length, take, IfSome};
+ghost use Rattle.std.specs.Int.{w64, to_be_bytes};
 ghost use Rattle.ax_bits.specs.Bits.{word, bits};
 
 /// The most bits that are laid at once.
@@ -38,10 +39,36 @@ fn lowest(number: u64, width: u32) -> u64
     number & ((1 << width) - 1)
 }
 
+// Stores the eight octets of a number from octet `from` on.
+#[inline(always)]
+fn store_eight(buffer: &mut [u8], from: usize, number: u64)
+    requires { from + 8 ≤ length buffer.old }
+    ensures size { length buffer.new ≡ length buffer.old }
+    ensures stored { take (from + 8) buffer.new ≡ take from buffer.old ++ to_be_bytes w64 number }
+{
+    buffer[from..from + 8].copy_from_slice(&number.to_be_bytes());
+}
+
 // Lays the whole octets of that many bits, which spell a number, from octet `from` on. It answers how many octets are laid then, and
-// how many bits are left over. None comes where there is no room.
+// how many bits are left over. None comes where there is no room. Where eight octets have room, they are stored at once, whatever
+// stands after those that are laid.
 #[inline(always)]
 fn lay_octets(buffer: &mut [u8], from: usize, number: u64, width: u32) -> Option<(usize, u32)>
+    requires { (from ≤ length buffer.old) × (width < 64) }
+    ensures within { IfSome result (λ end. (end.0 ≤ length buffer.new) × (end.1 < 8)) }
+    ensures laid { IfSome result (λ end. bits (take end.0 buffer.new) ++ word end.1 number ≡ bits (take from buffer.old) ++ word width number) }
+{
+    if buffer.len() - from < 8 {
+        return lay_each(buffer, from, number, width);
+    }
+    // A shift by 64 is none in Rust.
+    store_eight(buffer, from, number << (63 - width) << 1);
+    Some((from + (width / 8) as usize, width % 8))
+}
+
+// The same, octet by octet.
+#[cold]
+fn lay_each(buffer: &mut [u8], from: usize, number: u64, width: u32) -> Option<(usize, u32)>
     requires { (from ≤ length buffer.old) × (width < 64) }
     ensures within { IfSome result (λ end. (end.0 ≤ length buffer.new) × (end.1 < 8)) }
     ensures laid { IfSome result (λ end. bits (take end.0 buffer.new) ++ word end.1 number ≡ bits (take from buffer.old) ++ word width number) }

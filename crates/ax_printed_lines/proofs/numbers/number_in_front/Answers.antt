@@ -1,10 +1,38 @@
-use Rattle.std.proofs.Common.{arith}
-use Rattle.ax_printed_lines.proofs.Digits.{first_digit, next_digit}
+use Rattle.std.proofs.Common.{◌≡◌, ◌<◌, ◌≤◌, ◌+◌, ◌-◌, ◌*◌, ◌^◌, ◌++◌, decimal, length, drop, length-drop, get_or, sym, ◌∙◌, ap, arith, rules}
+use Rattle.std.proofs.lemmas.Bool.{eqb-false}
+use Rattle.std.proofs.lemmas.List.{take_all}
+use Rattle.ax_printed_lines.proofs.Digits.{digit_more, next_small}
+use Rattle.ax_printed_lines.proofs.numbers.number_in_front.Goals.{then-count-gt1, else-count-gt1}
 use Rattle.ax_printed_lines.proofs.numbers.number_in_front.Goals as goal
 
-pub loop-octet-init : goal.loop-octet-init
-loop-octet-init c = first_digit c.args.octets.now c.in_ok-first.following.now c.in_ok-first.first.now c.from-number.result c.in_ok-first.ensures.cases.0 (omega arith) (omega arith) c.from-number.ensures
+pub overflow_mul-number : goal.overflow_mul-number
+overflow_mul-number c =
+    let small : 10 * c.loop-count.number + 9 < 2 ^ 64 = next_small c.args.octets.now c.loop-count.count c.loop-count.number 9 c.loop-count.invariant.digits (omega arith) (omega arith) in
+    omega (arith, small)
 
-pub loop-octet-preserved : goal.loop-octet-preserved
-loop-octet-preserved c =
-    next_digit c.args.octets.now c.loop-octet.left.now c.in-Some.later.now c.loop-octet.number c.in-Some.octet.now c.from.result c.loop-octet.invariant c.in-Some.ensures.cases.0 (omega arith) (omega arith) c.from.ensures (omega arith)
+pub overflow_add-number : goal.overflow_add-number
+overflow_add-number c =
+    let small : 10 * c.loop-count.number + 9 < 2 ^ 64 = next_small c.args.octets.now c.loop-count.count c.loop-count.number 9 c.loop-count.invariant.digits (omega arith) (omega arith) in
+    omega (arith, small)
+
+pub loop-count-preserved : goal.loop-count-preserved
+loop-count-preserved c = record {
+  digits = digit_more c.args.octets.now c.loop-count.count c.loop-count.number c.from.result c.loop-count.invariant.digits (omega arith) (omega arith) (omega arith) (omega arith) (omega arith);
+  few = omega arith;
+}
+
+pub returns-clause-digits : goal.returns-clause-digits
+returns-clause-digits c =
+    let all = c.args.octets.now in
+    let k = c.loop-count.count in
+    let digits = c.loop-count.invariant.digits in
+    let usual : 1 < k → 49 ≤ get_or all 0 0 =
+    λ more. elim c.if-count-gt1.branch [
+      | then-count-gt1 w ↦ (
+          let other : get_or all 0 0 ≡ 48 → ⊥ = eqb-false (get_or all 0 0) 48 (sym w.value-is ∙ c.if-octets-eq48.false) in
+          let first = digits.first (omega (arith, more)) in
+          omega (arith, other, first)
+          )
+      | else-count-gt1 w ↦ absurd (omega (arith, w.if-count-gt1, more))
+    ] in
+    digits.read (omega arith) usual ∙ ap (λ t. decimal c.loop-count.number ++ t) (sym (take_all (length all - k) (drop k all) (omega (arith, length-drop k all))))

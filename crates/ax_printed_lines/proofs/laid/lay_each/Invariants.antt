@@ -1,6 +1,6 @@
 use Rattle.std.proofs.Common.{◌≡◌, ◌≤◌, ◌++◌, length, take}
 use Rattle.ax_bits.specs.Bits.{word, bits}
-use Rattle.ax_printed_lines.proofs.laid.lay_octets.Given as goal
+use Rattle.ax_printed_lines.proofs.laid.lay_each.Given as goal
 
 abbrev pub invariant-loop-left : goal.invariant-loop-left
 invariant-loop-left l = record {

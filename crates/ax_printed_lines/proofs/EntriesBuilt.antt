@@ -1,8 +1,8 @@
 -- Entries that are built, slot by slot, and their marks.
-use Rattle.std.proofs.Common.{◌≡◌, ℕ, zero, suc, ◌+◌, ◌-◌, ◌<◌, ◌≤◌, Bool, true, false, cond, IsTrue, List, [], ◌∷◌, ◌++◌, length, take, drop, set, replicate, refl, sym, ◌∙◌, ap, subst, arith, append_assoc, append-nil, take-add, length-drop}
+use Rattle.std.proofs.Common.{◌≡◌, ℕ, zero, suc, ◌+◌, ◌-◌, ◌<◌, ◌≤◌, Bool, true, false, cond, IsTrue, List, [], ◌∷◌, ◌++◌, length, take, drop, set, get_or, replicate, refl, sym, ◌∙◌, ap, subst, arith, append_assoc, append-nil, take-add, length-drop}
 use Rattle.std.specs.Prelude.{◌==◌, MatchBool}
 use Rattle.std.proofs.lemmas.Bool.{eq-eqb, eqb-true, ne_eqb}
-use Rattle.std.proofs.lemmas.List.{take_more_set, drop-set-lt, length-set, length-replicate}
+use Rattle.std.proofs.lemmas.List.{drop_more, take_more_set, drop-set-lt, length-set, length-replicate}
 use Rattle.ax_printed_lines.specs.declared.laid.Laid.{Laid}
 use Rattle.ax_block_reader.proofs.Onto.{kind_more}
 use Rattle.ax_fspec.proofs.FieldLaws.{least_field_of, none_further}
@@ -172,6 +172,22 @@ entries_done all marks i here old now new before after is h g =
     (l.built whole [] (sym (append-nil whole)))
     (built_bare (WithMarks no_slots (i + 1) []) (λ es. entries_onto (i + 1) no_slots es (closing ∷ [])) (entries_canon (i + 1) no_slots) no_entries now new after (tt, refl) g refl))
     (λ es k. (es, (k.0, least ∙ ap (least_presence (octets_needed (slot_count all))) (sym k.1)), refl, refl))
+
+-- slots up to a later one are passed
+module _ {X : Type 0} (all : SlotsTree) (one : X → SlotTree) (tree : List X → SlotsTree) (first : (x : X) (xs : List X) → tree (x ∷ xs) ≡ slot_and (one x) (tree xs)) (list : List X) (d : X) (marks : List ℕ) (old now : Place) (before after : Laid) where
+  pub slot_there : (i : ℕ) → i < length list → tree (drop i list) ≡ slot_and (one (get_or list i d)) (tree (drop (i + 1) list))
+  slot_there i lt = ap tree (drop_more list i d lt) ∙ first (get_or list i d) (drop (i + 1) list)
+
+  passed_over : (n i : ℕ) → i + n ≤ length list → EntriesLeft all marks i (tree (drop i list)) old now before after → EntriesLeft all marks (i + n) (tree (drop (i + n) list)) old now before after
+  passed_over zero i le h = subst (λ k. EntriesLeft all marks k (tree (drop k list)) old now before after) (let e : i ≡ i + 0 = omega arith in e) h
+  passed_over (suc n) i le h =
+      let next : EntriesLeft all marks (i + 1) (tree (drop (i + 1) list)) old now before after = entry_passed all i (one (get_or list i d)) (tree (drop (i + 1) list)) (tree (drop i list)) (slot_there i (omega (arith, le))) marks old now before after h in
+      subst (λ k. EntriesLeft all marks k (tree (drop k list)) old now before after) (let e : i + 1 + n ≡ i + suc n = omega arith in e) (passed_over n (i + 1) (omega (arith, le)) next)
+
+  pub passed_to : (i j : ℕ) → i ≤ j → j ≤ length list → EntriesLeft all marks i (tree (drop i list)) old now before after → EntriesLeft all marks j (tree (drop j list)) old now before after
+  passed_to i j le within h =
+      let e : i + (j - i) ≡ j = omega (arith, le) in
+      subst (λ k. EntriesLeft all marks k (tree (drop k list)) old now before after) e (passed_over (j - i) i (omega (arith, e, within)) h)
 
 -- the later slots are all passed, where the brace comes
 all_passed : (all : SlotsTree) (ss : SlotsTree) (i : ℕ) (marks : List ℕ) (old now : Place) (before after : Laid) → EntriesLeft all marks i ss old now before after → (j : ℕ) × EntriesLeft all marks j no_slots old now before after

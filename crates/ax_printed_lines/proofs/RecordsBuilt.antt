@@ -1,10 +1,10 @@
 -- Records that are built.
-use Rattle.std.proofs.Common.{◌≡◌, ℕ, suc, ◌+◌, ◌<◌, true, List, [], ◌∷◌, ◌++◌, length, map, get_or, Some, refl, sym, ◌∙◌, ap, subst, arith}
+use Rattle.std.proofs.Common.{◌≡◌, ℕ, suc, ◌+◌, ◌<◌, ◌≤◌, true, List, [], ◌∷◌, ◌++◌, length, map, drop, get_or, Some, refl, sym, ◌∙◌, ap, subst, arith}
 use Rattle.std.specs.List.{AllByRecursion}
 use Rattle.ax_printed_lines.specs.Laid.{laid, Lays}
 use Rattle.ax_printed_lines.specs.declared.laid.Laid.{Laid}
 use Rattle.ax_block_reader.proofs.Onto.{entries_more}
-use Rattle.ax_block_reader.proofs.RecordWays.{item_there, name_there}
+use Rattle.ax_block_reader.proofs.RecordWays.{item_there, name_there, slots_of_uap}
 use Rattle.ax_fspec.specs.Fields.{least_field}
 use Rattle.ax_model.proofs.Bounds.{record_bounds}
 use Rattle.ax_model.specs.Bodies.{RecordShape, CanonRecord, CanonBody}
@@ -16,7 +16,7 @@ use Rattle.std.proofs.lemmas.Option.{slice_get_read}
 use Rattle.ax_model.specs.Plain.{item_tree, kind_tree}
 use Rattle.ax_model.specs.Shape.{EntriesShape}
 use Rattle.ax_model.specs.Specification.{SpecTree, uap_slot, record_slots}
-use Rattle.ax_model.specs.Tree.{no_slots, slot_and, EntriesTree}
+use Rattle.ax_model.specs.Tree.{SlotsTree, no_slots, slot_and, EntriesTree}
 use Rattle.ax_model.specs.declared.spec.Item.{Item}
 use Rattle.ax_model.specs.declared.spec.UapSlot.{UapSlot}
 use Rattle.ax_model.specs.declared.spec.UapSlot.TheVariants as Uap
@@ -26,6 +26,7 @@ use Rattle.ax_text.specs.ValueText.{Texts, opening, closing, entries_onto}
 use Rattle.std.specs.Prelude.{codes}
 use Rattle.ax_printed_lines.specs.Printed.{Place, Goes, IsBuilt, IsOneWord, AreSlots, BuildsSlot, HasMarks, AreRecords}
 use Rattle.ax_printed_lines.proofs.Building.{built_after, Partly, partly_first, partly_more, partly_done}
+use Rattle.ax_printed_lines.proofs.EntriesBuilt.{EntriesLeft, passed_to}
 use Rattle.ax_printed_lines.proofs.Going.{goes_both, goes_same, one_word}
 use Rattle.ax_printed_lines.proofs.KindsBuilt.{KindIsBuilt, compound_whole, named_slot}
 
@@ -93,3 +94,8 @@ pub item_at : (uap : List UapSlot) (items : List Item) (i n : ℕ) (slot : UapSl
 item_at uap items i n slot e lt at =
     let place : n + 1 ≡ suc i = omega (arith, e) in
     ap (λ t. item_of_frn t uap items) place ∙ ap (λ o. item_of_slot o items) (slice_get_read uap (length uap) i slot refl lt at)
+
+-- the slots up to a later one are passed
+pub items_passed : (all : SlotsTree) (items : List Item) (uap : List UapSlot) (slot : UapSlot) (marks : List ℕ) (old now : Place) (before after : Laid) (i j : ℕ) → i ≤ j → j < length uap
+    → EntriesLeft all marks i (slots_of_uap items (drop i uap)) old now before after → EntriesLeft all marks j (slots_of_uap items (drop j uap)) old now before after
+items_passed all items uap slot marks old now before after i j le lt h = passed_to all (uap_slot (map item_tree items)) (slots_of_uap items) (λ x xs. refl) uap slot marks old now before after i j le (omega (arith, lt)) h

@@ -7,7 +7,7 @@ ghost use Rattle.hex.specs.Hex.{encode_lower};
 ghost use Rattle.ax_printed_lines.specs.Printed.{Place, AfterGap, IsAfterOctet, IsOneWord, Goes};
 
 use crate::gaps::{after_gap, after_space, after_word, split_word};
-use crate::names::{are_same, begins_with};
+use crate::names::{FrontWord, are_same, begins_with};
 use crate::numbers::number_in_front;
 use ax_block_reader::{category_of, unquoted};
 use ax_model::Name;
@@ -77,6 +77,12 @@ impl<'t> Cursor<'t> {
         }
         self.rest = later;
         true
+    }
+
+    /// The word that comes, by which the slot of its name is looked for.
+    #[inline(always)]
+    pub fn word(&self) -> FrontWord {
+        FrontWord::of(self.rest)
     }
 
     /// Whether the name comes. It is read if so.

@@ -16,6 +16,7 @@ use crate::cursor::Cursor;
 use crate::explicit::explicit_built;
 use crate::fixed::{fixed_built, parts_built, run_built};
 use crate::laid::Laid;
+use crate::names::FrontWord;
 use crate::pieces::{counted_content, marked_content};
 use ax_fspec::Presence;
 use ax_model::{Counter, Kind, Slot, Slots};
@@ -137,25 +138,38 @@ fn subitem_built(cursor: &mut Cursor<'_>, slot: &Slot, out: &mut Laid<'_>) -> Op
     Some(true)
 }
 
-/// The entries of a compound, and the brace after them. It answers which slots they are of. After the last entry no slot is looked at.
+/// The first slot, from that index on, of which the subitem's name is that word. None comes where there is none.
+fn slot_of(slots: &[Slot], from: usize, word: FrontWord) -> Option<usize>
+    ensures { IfSome result (λ index. (from ≤ index) × (index < length slots.now)) }
+{
+    let mut index = from;
+    while index < slots.len() {
+        if let Slot::Sub { name, .. } = &slots[index]
+            && word.is(name)
+        {
+            return Some(index);
+        }
+        index += 1;
+    }
+    None
+}
+
+/// The entries of a compound, and the brace after them. It answers which slots they are of. The slots between two entries are passed
+/// over by their names' numbers, and after the last entry no slot is looked at.
 #[cycle(kind_built)]
 fn entries_built(cursor: &mut Cursor<'_>, slots: &Slots, out: &mut Laid<'_>) -> Option<Presence>
     requires { AreSlots (slots_tree slots.now) }
     ensures { IfSome result (λ marks. IsBuilt (HasMarks (slots_tree slots.now) marks) (λ es. entries_onto 1 (slots_tree slots.now) es (closing ∷ [])) (entries_canon 1 (slots_tree slots.now)) cursor.old cursor.new out.old out.new) }
 {
+    let list = slots.as_slice();
     let mut marks = Presence::empty();
-    let mut number = 0;
-    for slot in slots.as_slice() {
-        if cursor.closes() {
-            return Some(marks);
+    let mut passed = 0;
+    while !cursor.closes() {
+        let index = slot_of(list, passed, cursor.word())?;
+        passed = index + 1;
+        if subitem_built(cursor, &list[index], out)? {
+            marks.mark(passed as u32);
         }
-        number += 1;
-        if subitem_built(cursor, slot, out)? {
-            marks.mark(number);
-        }
-    }
-    if !cursor.closes() {
-        return None;
     }
     Some(marks)
 }

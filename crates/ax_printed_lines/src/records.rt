@@ -15,6 +15,7 @@ ghost use Rattle.ax_printed_lines.specs.Printed.{IsBuilt, IsAfterOctet, AreSlots
 use crate::cursor::Cursor;
 use crate::kinds::kind_built;
 use crate::laid::Laid;
+use crate::names::FrontWord;
 use crate::pieces::marked_content;
 use ax_fspec::Presence;
 use ax_model::UapSlot;
@@ -50,7 +51,24 @@ fn item_built(
     Some(true)
 }
 
-/// The entries of a record, and the brace after them. It answers which slots they are of. After the last entry no slot is looked at.
+/// The first slot, from that index on, of which the item's name is that word. None comes where there is none.
+fn slot_of(slots: &[UapSlot], from: usize, word: FrontWord) -> Option<usize>
+    ensures { IfSome result (λ index. (from ≤ index) × (index < length slots.now)) }
+{
+    let mut index = from;
+    while index < slots.len() {
+        if let UapSlot::Item(name) = &slots[index]
+            && word.is(name)
+        {
+            return Some(index);
+        }
+        index += 1;
+    }
+    None
+}
+
+/// The entries of a record, and the brace after them. It answers which slots they are of. The slots between two entries are passed
+/// over by their names' numbers, and after the last entry no slot is looked at.
 fn items_built(
     cursor: &mut Cursor<'_>,
     items: &UapItems<'_>,
@@ -59,20 +77,15 @@ fn items_built(
     requires { AreSlots (record_slots (spec_tree items.now.spec.now)) }
     ensures { IfSome result (λ marks. IsBuilt (HasMarks (record_slots (spec_tree items.now.spec.now)) marks) (λ es. entries_onto 1 (record_slots (spec_tree items.now.spec.now)) es (closing ∷ [])) (entries_canon 1 (record_slots (spec_tree items.now.spec.now))) cursor.old cursor.new out.old out.new) }
 {
-    let spec = items.spec();
+    let slots = items.spec().uap.as_slice();
     let mut marks = Presence::empty();
-    let mut number = 0;
-    for slot in spec.uap.as_slice() {
-        if cursor.closes() {
-            return Some(marks);
+    let mut passed = 0;
+    while !cursor.closes() {
+        let index = slot_of(slots, passed, cursor.word())?;
+        passed = index + 1;
+        if item_built(cursor, items, passed as u32, &slots[index], out)? {
+            marks.mark(passed as u32);
         }
-        number += 1;
-        if item_built(cursor, items, number, slot, out)? {
-            marks.mark(number);
-        }
-    }
-    if !cursor.closes() {
-        return None;
     }
     Some(marks)
 }

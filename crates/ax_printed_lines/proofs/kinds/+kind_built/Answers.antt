@@ -1,11 +1,10 @@
-use Rattle.std.proofs.Common.{◌≡◌, ◌<◌, ◌≤◌, ◌+◌, ◌-◌, ℕ, true, false, length, drop, get_or, set, arith, ap, sym, ◌∙◌, subst, refl, rules}
+use Rattle.std.proofs.Common.{◌≡◌, ◌<◌, ◌≤◌, ◌+◌, ℕ, true, false, length, drop, get_or, arith, sym, subst, refl, rules}
 use Rattle.std.proofs.lemmas.Option.{IfSome_then}
-use Rattle.ax_block_reader.proofs.EntryWays.{slots_from, slots_past}
+use Rattle.ax_block_reader.proofs.EntryWays.{slots_from}
 use Rattle.ax_model.specs.Plain.{kind_tree, slot_tree, slots_tree}
 use Rattle.ax_printed_lines.specs.Printed.{BuildsSlot}
-use Rattle.ax_printed_lines.proofs.EntriesBuilt.{EntriesLeft, entries_first, entry_passed, entry_taken, entry_passed_by, entry_taken_by, entries_less, entries_done, entries_ended}
+use Rattle.ax_printed_lines.proofs.EntriesBuilt.{EntriesLeft, entries_first, slot_bounds, slot_few, passed_to, entry_passed, entry_taken, entry_passed_by, entry_taken_by, entries_less, entries_ended}
 use Rattle.ax_printed_lines.proofs.KindsBuilt.{KindIsBuilt, CountedIsBuilt, EachLeft, fixed_of_kind, explicit_of_kind, extended_of_kind, counted_of_kind, by_fx_of_kind, compound_of_kind, each_first, each_next, each_less, each_done, counted_whole, compound_whole, sub_bounds, sub_built}
-use Rattle.ax_printed_lines.proofs.kinds.+kind_built.Goals.{entries_built-then-branch, entries_built-else-branch}
 use Rattle.ax_printed_lines.proofs.kinds.+kind_built.Goals as goal
 
 -- ---- kinds
@@ -76,60 +75,109 @@ subitem_built-returns t c =
 
 -- ---- entries
 
-pub entries_built-loop-slot-init : goal.entries_built-loop-slot-init
-entries_built-loop-slot-init t c =
-    record { built = entries_first (slots_tree c.args.slots.now) c.empty-marks.result c.args.cursor.now c.args.out.now c.requires c.empty-marks.ensures; number = refl; less = omega arith }
+pub entries_built-loop-list-init : goal.entries_built-loop-list-init
+entries_built-loop-list-init t c =
+    record { built = entries_first (slots_tree c.args.slots.now) c.empty-marks.result c.args.cursor.now c.args.out.now c.requires c.empty-marks.ensures; within = omega arith; less = omega arith }
 
-pub entries_built-loop-slot-preserved : goal.entries_built-loop-slot-preserved
-entries_built-loop-slot-preserved t c =
+pub entries_built-subitem_built-requires : goal.entries_built-subitem_built-requires
+entries_built-subitem_built-requires t c =
     let list = c.args.slots.now in
     let all = slots_tree list in
-    let i : ℕ = c.loop-slot.slot-index in
-    let s = c.slot-item.result in
-    let same = c.as_slice-slot-items.ensures.members in
-    let at = slots_from list i s (subst (λ xs. i < length xs) same c.loop-slot-test.true) (subst (λ xs. s ≡ get_or xs i s) same c.slot-item.is) in
+    let i : ℕ = c.in_ok-index.index in
+    let s = c.index-list-index.result in
+    let same = c.as_slice-list.ensures.members in
+    let lt : i < length list = subst (λ xs. i < length xs) same c.in_ok-index.ensures.1 in
+    let at = slots_from list i s lt (subst (λ xs. s ≡ get_or xs i s) same c.index-list-index.is) in
     let later = slots_tree (drop (i + 1) list) in
+    let here = slots_tree (drop i list) in
+    let slot = slot_tree s in
     let old = c.args.cursor.now in
-    let now = c.loop-slot.cursor in
-    let next = c.subitem_built.new.cursor in
+    let now = c.loop-list.cursor in
     let before = c.args.out.now in
-    let mid = c.loop-slot.out in
-    let after = c.subitem_built.new.out in
-    let number : c.loop-slot.number + 1 ≡ i + 1 = omega (arith, c.loop-slot.invariant.number) in
+    let mid = c.loop-list.out in
+    let ahead = passed_to all slot_tree slots_tree (λ x xs. refl) list s c.loop-list.marks old now before mid c.loop-list.passed i c.in_ok-index.ensures.0 (omega (arith, lt)) c.loop-list.invariant.built in
     let still : c.closes.new.self ≡ now = search rules in
-    let builds : BuildsSlot (slot_tree s) c.in_ok-subitem_built.field-0 now next mid after = subst (λ z. BuildsSlot (slot_tree s) c.in_ok-subitem_built.field-0 z next mid after) still c.in_ok-subitem_built.ensures in
-    elim c.if-branch.branch [
-      | entries_built-then-branch w ↦ (
-          let came : c.in_ok-subitem_built.field-0 ≡ true = search rules in
-          let place : c.loop-slot.number + 1 - 1 ≡ i + 1 - 1 = omega (arith, c.loop-slot.invariant.number) in
-          let marked : w.mark.new.self ≡ set c.loop-slot.marks (i + 1 - 1) 1 = w.mark.ensures ∙ ap (λ n. set c.loop-slot.marks n 1) place in
-          let built : EntriesLeft all c.if-branch.marks (i + 1) later old next before after =
-          subst (λ m. EntriesLeft all m (i + 1) later old next before after) (sym w.marks-is)
-          (entry_taken all i (slot_tree s) later (slots_tree (drop i list)) at c.loop-slot.marks w.mark.new.self old now next before mid after c.loop-slot.invariant.built marked (entry_taken_by (slot_tree s) c.in_ok-subitem_built.field-0 now next mid after came builds)) in
-          record { built = built; number = number; less = entries_less all c.if-branch.marks (i + 1) later old next before after built }
-          )
-      | entries_built-else-branch w ↦ (
-          let came : c.in_ok-subitem_built.field-0 ≡ false = search rules in
-          let stays = entry_passed_by (slot_tree s) c.in_ok-subitem_built.field-0 now next mid after came builds in
-          let passed = entry_passed all i (slot_tree s) later (slots_tree (drop i list)) at c.loop-slot.marks old now before mid c.loop-slot.invariant.built in
-          let built : EntriesLeft all c.if-branch.marks (i + 1) later old next before after =
-          subst (λ m. EntriesLeft all m (i + 1) later old next before after) (sym w.marks-is) (subst (λ z. EntriesLeft all c.loop-slot.marks (i + 1) later old z before after) (sym stays.0) (subst (λ o. EntriesLeft all c.loop-slot.marks (i + 1) later old now before o) (sym stays.1) passed)) in
-          record { built = built; number = number; less = entries_less all c.if-branch.marks (i + 1) later old next before after built }
-          )
-    ]
+    let less : length c.closes.new.self.left ≤ length old.left = subst (λ z. length z.left ≤ length old.left) (sym still) c.loop-list.invariant.less in
+    (omega (arith, less), slot_bounds all i slot later here at c.loop-list.marks old now before mid ahead)
 
-pub entries_built-returns-then-closes : goal.entries_built-returns-then-closes
-entries_built-returns-then-closes t c =
+pub entries_built-mark-requires : goal.entries_built-mark-requires
+entries_built-mark-requires t c =
     let list = c.args.slots.now in
-    let i : ℕ = c.loop-slot.slot-index in
-    entries_ended (slots_tree list) c.loop-slot.marks i (slots_tree (drop i list)) c.args.cursor.now c.loop-slot.cursor c.closes.new.self c.args.out.now c.loop-slot.out c.loop-slot.invariant.built (search rules)
+    let all = slots_tree list in
+    let i : ℕ = c.in_ok-index.index in
+    let s = c.index-list-index.result in
+    let same = c.as_slice-list.ensures.members in
+    let lt : i < length list = subst (λ xs. i < length xs) same c.in_ok-index.ensures.1 in
+    let at = slots_from list i s lt (subst (λ xs. s ≡ get_or xs i s) same c.index-list-index.is) in
+    let later = slots_tree (drop (i + 1) list) in
+    let here = slots_tree (drop i list) in
+    let slot = slot_tree s in
+    let old = c.args.cursor.now in
+    let now = c.loop-list.cursor in
+    let before = c.args.out.now in
+    let mid = c.loop-list.out in
+    let ahead = passed_to all slot_tree slots_tree (λ x xs. refl) list s c.loop-list.marks old now before mid c.loop-list.passed i c.in_ok-index.ensures.0 (omega (arith, lt)) c.loop-list.invariant.built in
+    (omega arith, slot_few all i slot later here at c.loop-list.marks old now before mid ahead)
+
+pub entries_built-loop-list-preserved-then-branch : goal.entries_built-loop-list-preserved-then-branch
+entries_built-loop-list-preserved-then-branch t c =
+    let list = c.args.slots.now in
+    let all = slots_tree list in
+    let i : ℕ = c.in_ok-index.index in
+    let s = c.index-list-index.result in
+    let same = c.as_slice-list.ensures.members in
+    let lt : i < length list = subst (λ xs. i < length xs) same c.in_ok-index.ensures.1 in
+    let at = slots_from list i s lt (subst (λ xs. s ≡ get_or xs i s) same c.index-list-index.is) in
+    let later = slots_tree (drop (i + 1) list) in
+    let here = slots_tree (drop i list) in
+    let slot = slot_tree s in
+    let old = c.args.cursor.now in
+    let now = c.loop-list.cursor in
+    let before = c.args.out.now in
+    let mid = c.loop-list.out in
+    let ahead = passed_to all slot_tree slots_tree (λ x xs. refl) list s c.loop-list.marks old now before mid c.loop-list.passed i c.in_ok-index.ensures.0 (omega (arith, lt)) c.loop-list.invariant.built in
+    let next = c.subitem_built.new.cursor in
+    let after = c.subitem_built.new.out in
+    let still : c.closes.new.self ≡ now = search rules in
+    let builds : BuildsSlot slot c.in_ok-subitem_built.field-0 now next mid after = subst (λ z. BuildsSlot slot c.in_ok-subitem_built.field-0 z next mid after) still c.in_ok-subitem_built.ensures in
+    let came : c.in_ok-subitem_built.field-0 ≡ true = search rules in
+    let built : EntriesLeft all c.mark.new.self (i + 1) later old next before after =
+    entry_taken all i slot later here at c.loop-list.marks c.mark.new.self old now next before mid after ahead c.mark.ensures (entry_taken_by slot c.in_ok-subitem_built.field-0 now next mid after came builds) in
+    record { built = built; within = omega (arith, lt); less = entries_less all c.mark.new.self (i + 1) later old next before after built }
+
+pub entries_built-loop-list-preserved : goal.entries_built-loop-list-preserved
+entries_built-loop-list-preserved t c =
+    let list = c.args.slots.now in
+    let all = slots_tree list in
+    let i : ℕ = c.in_ok-index.index in
+    let s = c.index-list-index.result in
+    let same = c.as_slice-list.ensures.members in
+    let lt : i < length list = subst (λ xs. i < length xs) same c.in_ok-index.ensures.1 in
+    let at = slots_from list i s lt (subst (λ xs. s ≡ get_or xs i s) same c.index-list-index.is) in
+    let later = slots_tree (drop (i + 1) list) in
+    let here = slots_tree (drop i list) in
+    let slot = slot_tree s in
+    let old = c.args.cursor.now in
+    let now = c.loop-list.cursor in
+    let before = c.args.out.now in
+    let mid = c.loop-list.out in
+    let ahead = passed_to all slot_tree slots_tree (λ x xs. refl) list s c.loop-list.marks old now before mid c.loop-list.passed i c.in_ok-index.ensures.0 (omega (arith, lt)) c.loop-list.invariant.built in
+    let next = c.subitem_built.new.cursor in
+    let after = c.subitem_built.new.out in
+    let still : c.closes.new.self ≡ now = search rules in
+    let builds : BuildsSlot slot c.in_ok-subitem_built.field-0 now next mid after = subst (λ z. BuildsSlot slot c.in_ok-subitem_built.field-0 z next mid after) still c.in_ok-subitem_built.ensures in
+    let came : c.in_ok-subitem_built.field-0 ≡ false = search rules in
+    let stays = entry_passed_by slot c.in_ok-subitem_built.field-0 now next mid after came builds in
+    let passed = entry_passed all i slot later here at c.loop-list.marks old now before mid ahead in
+    let built : EntriesLeft all c.loop-list.marks (i + 1) later old next before after =
+    subst (λ z. EntriesLeft all c.loop-list.marks (i + 1) later old z before after) (sym stays.0) (subst (λ o. EntriesLeft all c.loop-list.marks (i + 1) later old now before o) (sym stays.1) passed) in
+    record { built = built; within = omega (arith, lt); less = entries_less all c.loop-list.marks (i + 1) later old next before after built }
 
 pub entries_built-returns : goal.entries_built-returns
 entries_built-returns t c =
     let list = c.args.slots.now in
-    let i : ℕ = c.loop-slot.slot-index in
-    entries_done (slots_tree list) c.loop-slot.marks i (slots_tree (drop i list)) c.args.cursor.now c.loop-slot.cursor c.closes-2.new.self c.args.out.now c.loop-slot.out
-    (slots_past list i (subst (λ xs. length xs ≤ i) c.as_slice-slot-items.ensures.members c.loop-slot-test.false)) c.loop-slot.invariant.built (search rules)
+    let p : ℕ = c.loop-list.passed in
+    entries_ended (slots_tree list) c.loop-list.marks p (slots_tree (drop p list)) c.args.cursor.now c.loop-list.cursor c.closes.new.self c.args.out.now c.loop-list.out c.loop-list.invariant.built (search rules)
 
 pub compound_built-returns : goal.compound_built-returns
 compound_built-returns t c =

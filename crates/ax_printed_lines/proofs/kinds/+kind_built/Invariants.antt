@@ -1,4 +1,4 @@
-use Rattle.std.proofs.Common.{◌≡◌, ◌≤◌, ◌+◌, ◌-◌, ◌*◌, length, drop}
+use Rattle.std.proofs.Common.{◌≤◌, ◌+◌, ◌-◌, ◌*◌, length, drop}
 use Rattle.ax_model.specs.Plain.{kind_tree, slots_tree}
 use Rattle.ax_printed_lines.proofs.EntriesBuilt.{EntriesLeft}
 use Rattle.ax_printed_lines.proofs.KindsBuilt.{EachLeft}
@@ -32,9 +32,12 @@ invariant-each_built-loop-count l = record {
 abbrev pub decreases-each_built-loop-count : goal.decreases-each_built-loop-count
 decreases-each_built-loop-count l = l.most - l.count
 
-abbrev pub invariant-entries_built-loop-slot : goal.invariant-entries_built-loop-slot
-invariant-entries_built-loop-slot l = record {
-  built : EntriesLeft (slots_tree l.slots) l.marks l.slot-index (slots_tree (drop l.slot-index l.slots)) l.fn.cursor l.cursor l.fn.out l.out;
-  number : l.number ≡ l.slot-index;
+abbrev pub invariant-entries_built-loop-list : goal.invariant-entries_built-loop-list
+invariant-entries_built-loop-list l = record {
+  built : EntriesLeft (slots_tree l.fn.slots) l.marks l.passed (slots_tree (drop l.passed l.fn.slots)) l.fn.cursor l.cursor l.fn.out l.out;
+  within : l.passed ≤ length l.fn.slots;
   less : length l.cursor.left ≤ length l.fn.cursor.left;
 }
+
+abbrev pub decreases-entries_built-loop-list : goal.decreases-entries_built-loop-list
+decreases-entries_built-loop-list l = length l.fn.slots - l.passed

@@ -1,4 +1,4 @@
-use Rattle.std.proofs.Common.{◌≡◌, ◌-◌, ◌*◌, ◌%◌, ◌^◌, arith}
+use Rattle.std.proofs.Common.{arith}
 use Rattle.ax_printed_lines.proofs.Laying.{stored_after, shifted_twice}
 use Rattle.ax_printed_lines.proofs.laid.lay_octets.Goals as goal
 

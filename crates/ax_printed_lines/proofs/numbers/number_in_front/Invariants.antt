@@ -1,4 +1,4 @@
-use Rattle.std.proofs.Common.{◌≤◌, ◌-◌, length}
+use Rattle.std.proofs.Common.{◌≤◌, ◌-◌}
 use Rattle.ax_printed_lines.proofs.Digits.{DigitsRead}
 use Rattle.ax_printed_lines.proofs.numbers.number_in_front.Given as goal
 

@@ -27,7 +27,7 @@ use Rattle.ax_view.specs.declared.item.ItemView.{ItemView}
 
 -- ---- marks
 
-one_mark : (m : MoveTree) (ms : MovesTree) (es : EntriesTree) (marks : List ℕ) → marks_by (move_and m ms) es marks ≡ marks_by ms es (move_marks m es marks)
+pub one_mark : (m : MoveTree) (ms : MovesTree) (es : EntriesTree) (marks : List ℕ) → marks_by (move_and m ms) es marks ≡ marks_by ms es (move_marks m es marks)
 one_mark (move_from s t c below) ms es marks = refl
 
 pub mark_next : (moves : List Move) (i : ℕ) (one : Move) (es : EntriesTree) (set new all : List ℕ) → i < length moves → one ≡ get_or moves i one → new ≡ move_marks (move_tree one) es set
@@ -51,7 +51,7 @@ pub record LaidSoFar (moves : List Move) (i : ℕ) (ss : SlotsTree) (es : Entrie
 pub none_laid : (moves : List Move) (ss : SlotsTree) (es : EntriesTree) (at : ℕ) (output : List ℕ) → at < 4294967296 → LaidSoFar moves 0 ss es at at output output
 none_laid moves ss es at output few = record { front = []; laid = lays_none at output (omega arith); whole = refl }
 
-one_entry : (m : MoveTree) (ms : MovesTree) (ss : SlotsTree) (es : EntriesTree) → entries_canon_by (move_and m ms) ss es ≡ move_canon m ss es ++ entries_canon_by ms ss es
+pub one_entry : (m : MoveTree) (ms : MovesTree) (ss : SlotsTree) (es : EntriesTree) → entries_canon_by (move_and m ms) ss es ≡ move_canon m ss es ++ entries_canon_by ms ss es
 one_entry (move_from s t c below) ms ss es = refl
 
 pub one_laid : (moves : List Move) (i : ℕ) (one : Move) (ss : SlotsTree) (es : EntriesTree) (at end n : ℕ) (old now new : List ℕ) → i < length moves → one ≡ get_or moves i one → LaidSoFar moves i ss es at end old now → Lays (move_canon (move_tree one) ss es) end n now new

@@ -56,7 +56,7 @@ pub record KeptBelow (moves : List Move) (n : ℕ) (kept : List ℕ) : Type 0 wh
   pub at : (s : ℕ) → 1 ≤ s → s < n → KeepsSlot (moves_tree moves) s (get_or kept (s - 1) 0)
   pub none : (i : ℕ) → n ≤ i + 1 → get_or kept i 0 ≡ 0
 
-none_at : (n i : ℕ) → ◌≡◌ {A = ℕ} (get_or (replicate {A = ℕ} n 0) i 0) 0
+pub none_at : (n i : ℕ) → ◌≡◌ {A = ℕ} (get_or (replicate {A = ℕ} n 0) i 0) 0
 none_at zero i = refl
 none_at (suc n) zero = refl
 none_at (suc n) (suc i) = none_at n i

@@ -27,3 +27,6 @@ pub mod RangeLengths
 pub mod RangeRecords
 pub mod Fits
 pub mod ViewRanges
+pub mod PlacesThere
+pub mod KnowingSteps
+pub mod BareItems

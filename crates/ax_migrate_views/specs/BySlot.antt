@@ -6,7 +6,6 @@ use Rattle.ax_relation.specs.PlainMoves.{moves_tree}
 use Rattle.ax_relation.specs.declared.moves.Move.{Move}
 use Rattle.ax_migrate_views.specs.Octets.{move_canon, move_marks, with_slot}
 use Rattle.ax_migrate_views.specs.Wholes.{slots_in}
-use Rattle.ax_migrate_views.specs.declared.by_slot.SlotMoves.{SlotMoves}
 use Rattle.ax_model.specs.At.{slot_value}
 use Rattle.ax_model.specs.Canonical.{canon}
 use Rattle.ax_model.specs.InBounds.{InBounds}
@@ -90,13 +89,6 @@ KeepsSlot ms s mark = (es : EntriesTree) (v : ValueTree) (set : List ℕ) → sl
 abbrev pub KeepSlots : List Move → List ℕ → Type 0
 KeepSlots moves kept = (s : ℕ) → 1 ≤ s → s < 127 → KeepsSlot (moves_tree moves) s (get_or kept (s - 1) 0)
 
--- what is kept of the moves of records of these slots
-pub record KnowsMoves (nodes : List Node) (links : List ℕ) (moves : List Move) (known : SlotMoves) : Type 0 where
-  pub ordered : IsTrue known.ordered → IsTrue (ascends 1 (moves_tree moves))
-  pub places : ArePlaces moves 127 known.places.items
-  pub stays : StayInSlots nodes links moves 127 known.stays.items
-  pub kept : IfSome known.kept (KeepSlots moves)
-
 pub ArePlaces-prop : (moves : List Move) (n : ℕ) (places : List ℕ) → IsProp (ArePlaces moves n places)
 ArePlaces-prop moves n places a b = λ i. record {
   size = Coded-set coded_ℕ (length places) n a.size b.size i;
@@ -107,20 +99,12 @@ StaysInSlot-prop : (nodes : List Node) (links : List ℕ) (ms : MovesTree) (s : 
 StaysInSlot-prop nodes links ms s a b = λ i. λ es octets some bounds one there. Coded-set (coded_list coded_ℕ) (found_canon (found_move s ms) (slots_in (record_kind_at nodes links)) es) (canon (kind_at nodes (get_or links (s - 1) 0)) (value_in (kind_at nodes (get_or links (s - 1) 0)) octets))
     (a es octets some bounds one there) (b es octets some bounds one there) i
 
-StayInSlots-prop : (nodes : List Node) (links : List ℕ) (moves : List Move) (n : ℕ) (stays : List Bool) → IsProp (StayInSlots nodes links moves n stays)
+pub StayInSlots-prop : (nodes : List Node) (links : List ℕ) (moves : List Move) (n : ℕ) (stays : List Bool) → IsProp (StayInSlots nodes links moves n stays)
 StayInSlots-prop nodes links moves n stays a b = λ i. record {
   size = Coded-set coded_ℕ (length stays) n a.size b.size i;
   at = λ s lt said. StaysInSlot-prop nodes links (moves_tree moves) s (a.at s lt said) (b.at s lt said) i;
 }
 
-KeepSlots-prop : (moves : List Move) (o : Option (List ℕ)) → IsProp (IfSome o (KeepSlots moves))
+pub KeepSlots-prop : (moves : List Move) (o : Option (List ℕ)) → IsProp (IfSome o (KeepSlots moves))
 KeepSlots-prop moves None a b = λ i. a
 KeepSlots-prop moves (Some kept) a b = λ i. λ s some few es v set there. Coded-set (coded_list coded_ℕ) (found_marks (found_move s (moves_tree moves)) es set) (with_slot_by (get_or kept (s - 1) 0) s set) (a s some few es v set there) (b s some few es v set there) i
-
-pub KnowsMoves-prop : (nodes : List Node) (links : List ℕ) (moves : List Move) (known : SlotMoves) → IsProp (KnowsMoves nodes links moves known)
-KnowsMoves-prop nodes links moves known a b = λ i. record {
-  ordered = λ said. Coded-set coded_bool (ascends 1 (moves_tree moves)) true (a.ordered said) (b.ordered said) i;
-  places = ArePlaces-prop moves 127 known.places.items a.places b.places i;
-  stays = StayInSlots-prop nodes links moves 127 known.stays.items a.stays b.stays i;
-  kept = KeepSlots-prop moves known.kept a.kept b.kept i;
-}

@@ -1,9 +1,11 @@
+pub mod Bare
 pub mod Blocks
 pub mod Bodies
 pub mod BySlot
 pub mod Fronts
 pub mod Gone
 pub mod Keeping
+pub mod KnownMoves
 pub mod Laying
 pub mod Losses
 pub mod Lost

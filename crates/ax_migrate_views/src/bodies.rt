@@ -4,7 +4,7 @@ ghost use Rattle.ax_relation.specs.PlainMoves.{moves_tree};
 ghost use Rattle.ax_migrate.specs.Finding.{record_losses};
 ghost use Rattle.ax_migrate.specs.Losing.{lost_lines};
 ghost use Rattle.ax_migrate_views.specs.Bodies.{IsRecordPlaced, LaysBody, TellsBody};
-ghost use Rattle.ax_migrate_views.specs.BySlot.{KnowsMoves};
+ghost use Rattle.ax_migrate_views.specs.KnownMoves.{KnowsMoves};
 ghost use Rattle.ax_migrate_views.specs.Laying.{Gathers, Lays};
 ghost use Rattle.ax_migrate_views.specs.Lost.{AreRuns, key_paths};
 ghost use Rattle.ax_migrate_views.specs.Octets.{canon_by};

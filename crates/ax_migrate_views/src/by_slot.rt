@@ -1,10 +1,12 @@
 //! The moves of a record by the old slot, looked up once.
-ghost use Rattle.std.specs.Prelude.{◌≡◌, ◌<◌, IsTrue, IfOk, IfSome, length};
+ghost use Rattle.std.specs.Prelude.{◌≡◌, ◌<◌, ◌≤◌, IsTrue, IfOk, IfSome, length};
 ghost use Rattle.ax_relation.specs.PlainMoves.{moves_tree};
-ghost use Rattle.ax_migrate_views.specs.BySlot.{ArePlaces, KeepSlots, KnowsMoves, StayInSlots, StaysInSlot, ascends, place_from};
+ghost use Rattle.ax_migrate_views.specs.BySlot.{ArePlaces, KeepSlots, StayInSlots, StaysInSlot, ascends, place_from};
+ghost use Rattle.ax_migrate_views.specs.KnownMoves.{KnowsMoves};
 ghost use Rattle.ax_tables.specs.Table.{IsTable, SlotLinksWithin};
 
 use crate::keeping::keeps;
+use crate::known_moves::{KnownMoves, know_each};
 use ax_fspec::Presence;
 use ax_relation::{Move, Moves};
 use ax_tables::{Codec, Node};
@@ -24,6 +26,8 @@ pub(crate) struct SlotMoves {
     pub(crate) stays: Vec<bool>,
     /// The slots that have a move, where each move is to the slot of the same number.
     pub(crate) kept: Option<Presence>,
+    /// What is known of the moves by their places in order, and of those below each.
+    pub(crate) by_place: KnownMoves,
 }
 
 /// Whether the moves come in the order of their old slots, each slot once.
@@ -42,8 +46,9 @@ fn are_ordered(moves: &[Move]) -> bool
 }
 
 /// 1 more than the index of the first move from a slot, and 0 where there is none.
-fn place_of(moves: &[Move], slot: u32) -> usize
-    ensures { result ≡ place_from 1 slot (moves_tree moves.now) }
+pub(crate) fn place_of(moves: &[Move], slot: u32) -> usize
+    ensures place { result ≡ place_from 1 slot (moves_tree moves.now) }
+    ensures within { result ≤ length moves.now }
 {
     for index in 0..moves.len() {
         if moves[index].old == slot {
@@ -132,6 +137,7 @@ pub(crate) fn know_moves(
 ) -> Result<SlotMoves, AllocError>
     ensures { IfOk result (KnowsMoves codec.now.nodes codec.now.slots moves.now) }
 {
+    let by_place = know_each(alloc, moves)?;
     let moves = moves.as_slice();
     let ordered = are_ordered(moves);
     let places = places_of(alloc, moves)?;
@@ -148,5 +154,6 @@ pub(crate) fn know_moves(
         places,
         stays,
         kept,
+        by_place,
     })
 }

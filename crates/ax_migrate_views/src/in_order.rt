@@ -3,7 +3,8 @@ ghost use Rattle.std.specs.Prelude.{◌≡◌, ◌++◌, ◌<◌, ◌≤◌, IsT
 ghost use Rattle.ax_bits.specs.Bits.{bits};
 ghost use Rattle.ax_relation.specs.PlainMoves.{moves_tree};
 ghost use Rattle.ax_fspec.specs.Marks.{no_marks, slots_of};
-ghost use Rattle.ax_migrate_views.specs.BySlot.{ArePlaces, KnowsMoves, StayInSlots, ascends, found_marks, found_move, run_octets, slots_canon, slots_marks};
+ghost use Rattle.ax_migrate_views.specs.BySlot.{ArePlaces, ascends, found_marks, found_move, run_octets, slots_canon, slots_marks};
+ghost use Rattle.ax_migrate_views.specs.KnownMoves.{KnowsMoves};
 ghost use Rattle.ax_migrate_views.specs.Laying.{Lays};
 ghost use Rattle.ax_migrate_views.specs.Octets.{entries_canon_by, field_by};
 ghost use Rattle.ax_migrate_views.specs.Wholes.{whole_entries, whole_slots};
@@ -76,19 +77,20 @@ fn lay_run(body: &[u8], start: u32, stop: u32, at: u32, output: &mut [u8]) -> u3
 fn lay_marked(
     whole: &PlacedSlots<'_, '_, '_>,
     moves: &[Move],
-    places: &[usize],
-    stays: &[bool],
+    known: &SlotMoves,
     at: u32,
     output: &mut [u8],
 ) -> u32
     requires placed { IsPlaced whole.now }
     requires few { length moves.now < 4294967296 }
-    requires places { ArePlaces moves.now 127 places.now }
-    requires stays { StayInSlots whole.now.codec.now.nodes whole.now.slots.now moves.now 127 stays.now }
+    requires known { KnowsMoves whole.now.codec.now.nodes whole.now.slots.now moves.now known.now }
     requires room { length output.old ≡ 131067 }
     ensures laid { Lays (slots_canon (slots_of whole.now.places.now.marked) (moves_tree moves.now) (whole_slots whole.now) (whole_entries whole.now)) at result output.old output.new }
     ensures room { length output.new ≡ 131067 }
 {
+    let places = known.places.as_slice();
+    let stays = known.stays.as_slice();
+    let below = known.by_place.below.as_slice();
     let mut end = at;
     let mut start = 0;
     let mut stop = 0;
@@ -103,7 +105,14 @@ fn lay_marked(
                 continue;
             }
             end = lay_run(whole.body, start, stop, end, output);
-            end = lay_entry(whole.codec, whole, &moves[place - 1], end, output);
+            end = lay_entry(
+                whole.codec,
+                whole,
+                &moves[place - 1],
+                &below[place - 1],
+                end,
+                output,
+            );
             start = 0;
             stop = 0;
             continue;
@@ -135,14 +144,7 @@ fn lay_in_order(
 {
     let marked = marked_anew(whole, moves, known);
     let end = lay_field(&marked, at, output);
-    lay_marked(
-        whole,
-        moves,
-        known.places.as_slice(),
-        known.stays.as_slice(),
-        end,
-        output,
-    )
+    lay_marked(whole, moves, known, end, output)
 }
 
 /// Lays the entries that move, after the presence field of their new slots.
@@ -162,6 +164,6 @@ pub(crate) fn lay_moved(
     if known.ordered {
         lay_in_order(whole, moves.as_slice(), known, at, output)
     } else {
-        lay_whole(whole.codec, whole, moves, at, output)
+        lay_whole(whole.codec, whole, moves, &known.by_place, at, output)
     }
 }

@@ -1,6 +1,7 @@
 //! Items whose octets stay as they are.
 ghost use Rattle.std.specs.Prelude.{◌≡◌, ◌+◌, ◌<◌, ◌≤◌, false, length, IsTrue};
 ghost use Rattle.ax_bits.specs.Bits.{bits};
+ghost use Rattle.ax_relation.specs.Moves.{MovesTree};
 ghost use Rattle.ax_relation.specs.PlainMoves.{move_tree, moves_tree};
 ghost use Rattle.ax_migrate_views.specs.Keeping.{IsLeaf, KeepsAll, MovesWhole, StaysIn};
 ghost use Rattle.ax_migrate_views.specs.Octets.{value_canon_by};
@@ -10,7 +11,7 @@ ghost use Rattle.ax_tables.specs.Table.{IsTable, SlotLinksWithin, kind_at};
 ghost use Rattle.ax_view.specs.Shown.{item_kind, item_value};
 
 use ax_relation::{Move, Moves};
-use ax_tables::{Codec, Node};
+use ax_tables::Node;
 use ax_view::FoundItem;
 
 /// Whether the kind of a link is sure to be no compound and, if it is extended, to have no more than so many parts.
@@ -77,26 +78,18 @@ pub(crate) fn keeps(nodes: &[Node], link: u32, count: u32, moves: &Moves) -> boo
     }
 }
 
-/// Whether an item's octets are sure to be the canonical ones of its value as it moves, so that they can be copied: they are
-/// those of the value, and where it is a compound, each of its slots stays; where it is extended, its kind has no more parts
-/// than so many, or it has no more octets, each part having one at least.
-pub(crate) fn moves_whole(
-    codec: &Codec,
-    found: &FoundItem<'_, '_>,
-    count: u32,
-    moves: &Moves,
-) -> bool
-    requires codec { found.now.item.codec.now ≡ codec.now }
+/// Whether an item's octets are sure to be the canonical ones of its value whatever moves, so that they can be copied: they are
+/// those of the value, and it is no compound; where it is extended, its kind has no more parts than so many, or it has no more
+/// octets, each part having one at least.
+pub(crate) fn moves_whole(found: &FoundItem<'_, '_>, count: u32) -> bool
     requires whole { found.now.item.by_fx ≡ false }
-    ensures { IsTrue result → value_canon_by count (moves_tree moves.now) (item_kind found.now.item) (item_value found.now.item) ≡ bits found.now.item.body.now }
+    ensures { IsTrue result → (ms : MovesTree) → value_canon_by count ms (item_kind found.now.item) (item_value found.now.item) ≡ bits found.now.item.body.now }
 {
     if !found.least {
         return false;
     }
     match found.item.node() {
-        Node::Compound { slots, .. } => {
-            keeps_all(codec.nodes.as_slice(), slots.as_slice(), moves)
-        }
+        Node::Compound { .. } => false,
         Node::Extended { parts, .. } => {
             parts.count() <= count || found.item.octets().len() <= count as usize
         }

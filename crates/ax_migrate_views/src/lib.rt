@@ -1,6 +1,7 @@
 //! Migration of data blocks over views, without memory for a block.
 #![tactic(auto)]
 
+mod bare;
 mod bodies;
 mod by_slot;
 mod each_loss;
@@ -8,6 +9,7 @@ mod examples;
 mod fronts;
 mod in_order;
 mod keeping;
+mod known_moves;
 mod laws;
 mod laying;
 mod leading;
@@ -19,6 +21,7 @@ mod migrating_views;
 mod migrator;
 mod ranges;
 mod telling;
+mod there;
 mod values;
 mod whole;
 mod writing;

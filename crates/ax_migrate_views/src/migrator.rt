@@ -1,5 +1,5 @@
 //! What blocks are migrated by.
-ghost use Rattle.ax_migrate_views.specs.BySlot.{KnowsMoves, KnowsMoves-prop};
+ghost use Rattle.ax_migrate_views.specs.KnownMoves.{KnowsMoves, KnowsMoves-prop};
 
 use crate::by_slot::SlotMoves;
 use crate::lost::LostKey;

@@ -1,5 +1,5 @@
 //! The lines of what records lose, laid one after another. Nothing here takes memory.
-ghost use Rattle.std.specs.Prelude.{◌≡◌, IfSome, IsTrue, length, decimal};
+ghost use Rattle.std.specs.Prelude.{◌≡◌, ℕ, [], IfSome, IsTrue, length, decimal};
 ghost use Rattle.ax_migrate.specs.Finding.{record_losses};
 ghost use Rattle.ax_migrate.specs.Losing.{lost_line, lost_lines};
 ghost use Rattle.ax_migrate_views.specs.Laying.{Gathers};
@@ -9,6 +9,7 @@ ghost use Rattle.ax_model.specs.Tree.{marked, no_entries};
 ghost use Rattle.ax_view.specs.Placing.{IsPlaced};
 ghost use Rattle.ax_view.specs.Shown.{item_entries, item_value};
 
+use crate::bare::subitem_slots;
 use crate::laying::lay_octets;
 use crate::leading::has_counted;
 use crate::lost::{LostKey, Run};
@@ -116,6 +117,25 @@ fn is_passed(run: &Run, behind: usize, marked: &Presence) -> bool
     behind <= run.reach as usize && marked.common(&run.later).take_first().is_none()
 }
 
+/// Whether an item is sure to be a compound that has none of these keys, of which so many numbers lead to it: they are below
+/// subitems, and none of these is there. The subitems that are there aren't walked over.
+fn loses_nothing(item: &ItemView<'_, '_>, keys: &[LostKey<'_>], depth: usize) -> bool
+    requires runs { AreRuns keys.now }
+    ensures { IsTrue result → (number : ℕ) → losses_below number depth (item_value item.now) keys.now ≡ [] }
+{
+    if keys.is_empty() {
+        return false;
+    }
+    let key = &keys[0];
+    let Some(run) = key.runs.get(depth) else {
+        return false;
+    };
+    match subitem_slots(item) {
+        Some(marked) => is_passed(run, keys.len() - 1, &marked),
+        None => false,
+    }
+}
+
 /// Lays the lines of the keys of which so many numbers lead to an item. It has a table of places on its stack, and so stands apart.
 #[cycle(telling)]
 #[inline(never)]
@@ -137,6 +157,9 @@ fn tell_inside(
 {
     match item.node() {
         Node::Compound { slots, .. } => {
+            if loses_nothing(item, keys, depth) {
+                return at;
+            }
             let mut places = Places::new();
             place_subitems(item, &mut places);
             let whole = PlacedSlots {

@@ -1,17 +1,23 @@
 //! Migrated values, laid from those of the old edition.
 ghost use Rattle.std.specs.Prelude.{◌≡◌, ◌++◌, false, length};
+ghost use Rattle.ax_fspec.specs.Marks.{slots_of};
 ghost use Rattle.ax_relation.specs.PlainMoves.{move_tree, moves_tree};
+ghost use Rattle.ax_migrate_views.specs.KnownMoves.{Knows, KnowsOf, KnowsBelow, places_canon};
 ghost use Rattle.ax_migrate_views.specs.Laying.{Lays};
 ghost use Rattle.ax_migrate_views.specs.Octets.{entries_canon_by, field_by, move_canon, value_canon_by};
 ghost use Rattle.ax_migrate_views.specs.Wholes.{whole_codec, whole_entries, whole_slots};
 ghost use Rattle.ax_view.specs.Placing.{IsPlaced};
 ghost use Rattle.ax_view.specs.Shown.{item_kind, item_value};
 
+use crate::bare::is_bare;
 use crate::fronts::front;
 use crate::keeping::moves_whole;
+use crate::known_moves::{KnownBelow, KnownMoves};
 use crate::laying::{lay_field, lay_front, lay_item, lay_octets};
 use crate::marks::moved_slots;
+use crate::there::{moves_there, slots_there};
 use crate::whole::item_of;
+use ax_fspec::Presence;
 use ax_relation::{Move, Moves};
 use ax_tables::{Codec, Node};
 use ax_view::{FoundItem, ItemView, PlacedSlots, Places, place_subitems};
@@ -24,19 +30,24 @@ fn lay_value(
     found: &FoundItem<'_, '_>,
     count: u32,
     moves: &Moves,
+    known: &KnownMoves,
     at: u32,
     output: &mut [u8],
 ) -> u32
     requires codec { found.now.item.codec.now ≡ codec.now }
     requires whole { found.now.item.by_fx ≡ false }
+    requires known { Knows (moves_tree moves.now) known.now }
     requires room { length output.old ≡ 131067 }
     ensures laid { Lays (value_canon_by count (moves_tree moves.now) (item_kind found.now.item) (item_value found.now.item)) at result output.old output.new }
     ensures room { length output.new ≡ 131067 }
 {
-    if moves_whole(codec, found, count, moves) {
+    if moves_whole(found, count) {
         return lay_octets(found.item.octets(), at, output);
     }
-    lay_anew(codec, &found.item, count, moves, at, output)
+    if is_bare(&found.item) {
+        return lay_octets(&[0], at, output);
+    }
+    lay_anew(codec, &found.item, count, moves, known, at, output)
 }
 
 /// The same, slot by slot in a compound and part by part in an extended item. It has a table of places on its stack, and so stands apart.
@@ -47,11 +58,13 @@ fn lay_anew(
     item: &ItemView<'_, '_>,
     count: u32,
     moves: &Moves,
+    known: &KnownMoves,
     at: u32,
     output: &mut [u8],
 ) -> u32
     requires codec { item.now.codec.now ≡ codec.now }
     requires whole { item.now.by_fx ≡ false }
+    requires known { Knows (moves_tree moves.now) known.now }
     requires room { length output.old ≡ 131067 }
     ensures laid { Lays (value_canon_by count (moves_tree moves.now) (item_kind item.now) (item_value item.now)) at result output.old output.new }
     ensures room { length output.new ≡ 131067 }
@@ -67,7 +80,7 @@ fn lay_anew(
                 at: 0,
                 places: &places,
             };
-            lay_whole(codec, &whole, moves, at, output)
+            lay_whole(codec, &whole, moves, known, at, output)
         }
         Node::Extended { parts, .. } => {
             let octets = item.octets();
@@ -89,59 +102,105 @@ pub(crate) fn lay_whole(
     codec: &Codec,
     whole: &PlacedSlots<'_, '_, '_>,
     moves: &Moves,
+    known: &KnownMoves,
     at: u32,
     output: &mut [u8],
 ) -> u32
     requires codec { whole_codec whole.now ≡ codec.now }
     requires placed { IsPlaced whole.now }
+    requires known { Knows (moves_tree moves.now) known.now }
     requires room { length output.old ≡ 131067 }
     ensures laid { Lays (field_by (moves_tree moves.now) (whole_entries whole.now) ++ entries_canon_by (moves_tree moves.now) (whole_slots whole.now) (whole_entries whole.now)) at result output.old output.new }
     ensures room { length output.new ≡ 131067 }
 {
-    let marked = moved_slots(whole, moves);
+    let Some(places) = &known.places else {
+        let marked = moved_slots(whole, moves);
+        let end = lay_field(&marked, at, output);
+        return lay_entries(codec, whole, moves, &known.below, end, output);
+    };
+    let there = moves_there(whole, places.as_slice());
+    let marked = slots_there(whole, moves.as_slice(), &there);
     let end = lay_field(&marked, at, output);
-    lay_entries(codec, whole, moves, end, output)
+    lay_there(codec, whole, moves, &known.below, there, end, output)
 }
 
 /// Lays the entry that a move makes, if there is one.
 #[cycle(laying)]
+#[tactic(auto, using(crate::proofs::KnowingSteps::known_below))]
 pub(crate) fn lay_entry(
     codec: &Codec,
     whole: &PlacedSlots<'_, '_, '_>,
     one: &Move,
+    known: &KnownMoves,
     at: u32,
     output: &mut [u8],
 ) -> u32
     requires codec { whole_codec whole.now ≡ codec.now }
     requires placed { IsPlaced whole.now }
+    requires known { KnowsOf (move_tree one.now) known.now }
     requires room { length output.old ≡ 131067 }
     ensures laid { Lays (move_canon (move_tree one.now) (whole_slots whole.now) (whole_entries whole.now)) at result output.old output.new }
     ensures room { length output.new ≡ 131067 }
 {
     match item_of(whole, one.old) {
-        Some(found) => lay_value(codec, &found, one.parts, &one.below, at, output),
+        Some(found) => lay_value(codec, &found, one.parts, &one.below, known, at, output),
         None => at,
     }
 }
 
-/// Lays the entries that move, in the order of the moves.
+/// Lays the entries of the moves at these places, in their order.
 #[cycle(laying)]
-fn lay_entries(
+fn lay_there(
     codec: &Codec,
     whole: &PlacedSlots<'_, '_, '_>,
     moves: &Moves,
+    known: &KnownBelow,
+    there: Presence,
     at: u32,
     output: &mut [u8],
 ) -> u32
     requires codec { whole_codec whole.now ≡ codec.now }
     requires placed { IsPlaced whole.now }
+    requires known { KnowsBelow (moves_tree moves.now) known.now }
+    requires room { length output.old ≡ 131067 }
+    ensures laid { Lays (places_canon (slots_of there) (moves_tree moves.now) (whole_slots whole.now) (whole_entries whole.now)) at result output.old output.new }
+    ensures room { length output.new ≡ 131067 }
+{
+    let moves = moves.as_slice();
+    let known = known.as_slice();
+    let mut end = at;
+    let mut left = there;
+    while let Some(place) = left.take_first() {
+        let index = place as usize - 1;
+        if index < moves.len() {
+            end = lay_entry(codec, whole, &moves[index], &known[index], end, output);
+        }
+    }
+    end
+}
+
+/// Lays the entries that move, in the order of the moves, whichever slots are marked.
+#[cycle(laying)]
+fn lay_entries(
+    codec: &Codec,
+    whole: &PlacedSlots<'_, '_, '_>,
+    moves: &Moves,
+    known: &KnownBelow,
+    at: u32,
+    output: &mut [u8],
+) -> u32
+    requires codec { whole_codec whole.now ≡ codec.now }
+    requires placed { IsPlaced whole.now }
+    requires known { KnowsBelow (moves_tree moves.now) known.now }
     requires room { length output.old ≡ 131067 }
     ensures laid { Lays (entries_canon_by (moves_tree moves.now) (whole_slots whole.now) (whole_entries whole.now)) at result output.old output.new }
     ensures room { length output.new ≡ 131067 }
 {
+    let moves = moves.as_slice();
+    let known = known.as_slice();
     let mut end = at;
-    for one in moves.as_slice() {
-        end = lay_entry(codec, whole, one, end, output);
+    for index in 0..moves.len() {
+        end = lay_entry(codec, whole, &moves[index], &known[index], end, output);
     }
     end
 }

@@ -3,6 +3,7 @@ use Rattle.ax_fspec.specs.Marks.{IsMarked}
 use Rattle.ax_migrate.specs.Losing.{lost_lines}
 use Rattle.ax_migrate_views.proofs.Slots.{placed_by, compound_node}
 use Rattle.ax_migrate_views.proofs.TellingSteps.{KeysTold, all_told, compound_value, deeper, own_told, slot_runs, slot_skipped, slot_told}
+use Rattle.ax_migrate_views.proofs.ToldLines.{gathers_none}
 use Rattle.ax_migrate_views.specs.Laying.{Gathers}
 use Rattle.ax_migrate_views.specs.Lost.{losses_below}
 use Rattle.ax_migrate_views.specs.Wholes.{whole_entries}
@@ -32,8 +33,8 @@ tell_inside-tell_parts-requires t c =
       room = c.requires.room;
     }
 
-pub tell_inside-returns-in-Compound-clause-told : goal.tell_inside-returns-in-Compound-clause-told
-tell_inside-returns-in-Compound-clause-told t c =
+pub tell_inside-returns-else-loses_nothing-clause-told : goal.tell_inside-returns-else-loses_nothing-clause-told
+tell_inside-returns-else-loses_nothing-clause-told t c =
     subst (λ v. Gathers (lost_lines c.args.block (losses_below c.args.number c.args.depth v c.args.keys.now)) c.args.at c.tell_keys.result c.args.lines.now c.tell_keys.new.lines)
     (compound_value c.args.item.now c.node.result.now c.node.ensures c.in-Compound.mask c.in-Compound.slots c.as_slice.result.now c.octets.result.now c.args.codec.now c.in-Compound.is (sym c.as_slice.ensures.members) (sym c.octets.ensures.body) c.requires.codec)
     c.tell_keys.ensures.told
@@ -104,3 +105,7 @@ tell_keys-loop-index-preserved t c =
       ];
       within = omega (arith, c.loop-index-test.true, c.min-count.ensures);
     }
+
+pub tell_inside-returns-then-loses_nothing-clause-told : goal.tell_inside-returns-then-loses_nothing-clause-told
+tell_inside-returns-then-loses_nothing-clause-told t c =
+    subst (λ ls. Gathers (lost_lines c.args.block ls) c.args.at c.args.at c.args.lines.now c.args.lines.now) (sym (c.loses_nothing.ensures c.if-loses_nothing.true c.args.number)) (gathers_none c.args.at c.args.lines.now (omega (arith, c.ranges.at.fits)))

@@ -1,11 +1,18 @@
-use Rattle.std.proofs.Common.{rules, ◌≡◌, List, ◌++◌, arith, ap, sym, subst, refl, length, get_or, ◌∙◌, option_map}
+use denote.Param.Weighed.{at_most}
+use Rattle.std.proofs.Common.{rules, ◌≡◌, ℕ, ◌-◌, ◌<◌, List, [], ◌∷◌, ◌++◌, arith, ap, sym, subst, refl, length, get_or, ◌∙◌, option_map, Option, IfSome, Vec, Global}
 use Rattle.ax_bits.specs.Bits.{bits}
+use Rattle.ax_relation.proofs.moves.Move.TheLaws.{the_size}
 use Rattle.ax_relation.specs.PlainMoves.{move_tree, moves_tree}
+use Rattle.ax_relation.specs.declared.moves.Move.{Move}
 use Rattle.ax_fspec.specs.Fields.{least_field}
+use Rattle.ax_fspec.specs.Marks.{no_marks, slots_of}
 use Rattle.ax_migrate_views.proofs.Entries.{none_laid, one_laid, all_laid, nothing_moves, nothing_laid, compound_there}
 use Rattle.ax_migrate_views.proofs.ItemParts.{front_stays, octets_some}
 use Rattle.ax_migrate_views.proofs.KeepingSteps.{leaf_canon_by}
+use Rattle.ax_migrate_views.proofs.KnowingSteps.{known_at}
 use Rattle.ax_migrate_views.proofs.LaidBits.{lays_more}
+use Rattle.ax_migrate_views.proofs.PlacesThere.{at_is, at_past, others_absent, place_laid, place_skips, places_entries, places_first, places_last, places_slots}
+use Rattle.ax_migrate_views.specs.KnownMoves.{AreOthersAbsent, FindsEach, KnowsBelow, places_canon, places_marks}
 use Rattle.ax_migrate_views.proofs.Slots.{placed_by, compound_node}
 use Rattle.ax_migrate_views.proofs.ToldLines.{gathered_bits}
 use Rattle.ax_migrate_views.specs.Laying.{Lays}
@@ -19,18 +26,73 @@ use Rattle.ax_view.specs.Shown.{item_value}
 use Rattle.ax_view.specs.declared.places.FoundItem.{FoundItem}
 use Rattle.ax_migrate_views.proofs.values.+laying.Goals as goal
 
-pub lay_entries-loop-one-init : goal.lay_entries-loop-one-init
-lay_entries-loop-one-init t c = none_laid c.args.moves.now (whole_slots c.args.whole.now) (whole_entries c.args.whole.now) c.args.at c.args.output.now c.ranges.at.fits
+pub lay_entries-loop-index-init : goal.lay_entries-loop-index-init
+lay_entries-loop-index-init t c = none_laid c.as_slice-moves.result.now (whole_slots c.args.whole.now) (whole_entries c.args.whole.now) c.args.at c.args.output.now c.ranges.at.fits
 
-pub lay_entries-loop-one-preserved : goal.lay_entries-loop-one-preserved
-lay_entries-loop-one-preserved t c =
-    let m = c.as_slice-one-items.ensures.members in
-    one_laid c.args.moves.now c.loop-one.one-index c.one-item.result (whole_slots c.args.whole.now) (whole_entries c.args.whole.now) c.args.at c.loop-one.end c.lay_entry-end.result c.args.output.now c.loop-one.output c.lay_entry-end.new.output
-    (omega (arith, c.loop-one-test.true, ap length m)) (c.one-item.is ∙ ap (λ ms. get_or ms c.loop-one.one-index c.one-item.result) m) c.loop-one.invariant c.lay_entry-end.ensures.laid
+pub lay_entries-bounds-known-index : goal.lay_entries-bounds-known-index
+lay_entries-bounds-known-index t c =
+    let knows = subst (λ ks. KnowsBelow (moves_tree c.args.moves.now) ks) (sym c.as_slice-known.ensures.members) c.requires.known in
+    (known_at c.args.moves.now c.as_slice-known.result.now c.loop-index.index c.index-moves-index.result knows (omega (arith, c.loop-index-test.true, ap length c.as_slice-moves.ensures.members)) (c.index-moves-index.is ∙ ap (λ ms. get_or ms c.loop-index.index c.index-moves-index.result) c.as_slice-moves.ensures.members)).0
+
+pub lay_entries-lay_entry-end-requires : goal.lay_entries-lay_entry-end-requires
+lay_entries-lay_entry-end-requires t c =
+    let all = c.args.moves.now in
+    let i : ℕ = c.loop-index.index in
+    let m = c.index-moves-index.result in
+    let same = c.as_slice-moves.ensures.members in
+    let within : i < length all = omega (arith, c.loop-index-test.true, ap length same) in
+    let is : m ≡ get_or all i m = c.index-moves-index.is ∙ ap (λ ms. get_or ms i m) same in
+    let small = at_most the_size all i m within in
+    let same_size : the_size m ≡ the_size (get_or all i m) = ap the_size is in
+    let knows = subst (λ ks. KnowsBelow (moves_tree all) ks) (sym c.as_slice-known.ensures.members) c.requires.known in
+    let known = (known_at all c.as_slice-known.result.now i m knows within is).1 c.index-known-index.result c.index-known-index.is in
+    (omega (arith, small, same_size, c.decreases), (c.requires.codec, (c.requires.placed, (known, search rules))))
+
+pub lay_entries-loop-index-preserved : goal.lay_entries-loop-index-preserved
+lay_entries-loop-index-preserved t c =
+    one_laid c.as_slice-moves.result.now c.loop-index.index c.index-moves-index.result (whole_slots c.args.whole.now) (whole_entries c.args.whole.now) c.args.at c.loop-index.end c.lay_entry-end.result c.args.output.now c.loop-index.output c.lay_entry-end.new.output
+    (omega (arith, c.loop-index-test.true)) c.index-moves-index.is c.loop-index.invariant c.lay_entry-end.ensures.laid
 
 pub lay_entries-returns-clause-laid : goal.lay_entries-returns-clause-laid
 lay_entries-returns-clause-laid t c =
-    all_laid c.args.moves.now c.loop-one.one-index (whole_slots c.args.whole.now) (whole_entries c.args.whole.now) c.args.at c.loop-one.end c.args.output.now c.loop-one.output (omega (arith, c.loop-one-test.false, ap length c.as_slice-one-items.ensures.members)) c.loop-one.invariant
+    subst (λ (ms : List Move). Lays (entries_canon_by (moves_tree ms) (whole_slots c.args.whole.now) (whole_entries c.args.whole.now)) c.args.at c.loop-index.end c.args.output.now c.loop-index.output) c.as_slice-moves.ensures.members
+    (all_laid c.as_slice-moves.result.now c.loop-index.index (whole_slots c.args.whole.now) (whole_entries c.args.whole.now) c.args.at c.loop-index.end c.args.output.now c.loop-index.output (omega (arith, c.loop-index-test.false)) c.loop-index.invariant)
+
+pub lay_there-loop-place-init : goal.lay_there-loop-place-init
+lay_there-loop-place-init t c = places_first (slots_of c.args.there) (moves_tree c.as_slice-moves.result.now) (whole_slots c.args.whole.now) (whole_entries c.args.whole.now) c.args.at c.args.output.now c.ranges.at.fits
+
+pub lay_there-bounds-known-index : goal.lay_there-bounds-known-index
+lay_there-bounds-known-index t c =
+    let knows = subst (λ ks. KnowsBelow (moves_tree c.args.moves.now) ks) (sym c.as_slice-known.ensures.members) c.requires.known in
+    (known_at c.args.moves.now c.as_slice-known.result.now (c.in-Some.place - 1) c.index-moves-index.result knows (omega (arith, c.if-index-moves.true, ap length c.as_slice-moves.ensures.members)) (c.index-moves-index.is ∙ ap (λ ms. get_or ms (c.in-Some.place - 1) c.index-moves-index.result) c.as_slice-moves.ensures.members)).0
+
+pub lay_there-lay_entry-end-requires : goal.lay_there-lay_entry-end-requires
+lay_there-lay_entry-end-requires t c =
+    let all = c.args.moves.now in
+    let i : ℕ = c.in-Some.place - 1 in
+    let m = c.index-moves-index.result in
+    let same = c.as_slice-moves.ensures.members in
+    let within : i < length all = omega (arith, c.if-index-moves.true, ap length same) in
+    let is : m ≡ get_or all i m = c.index-moves-index.is ∙ ap (λ ms. get_or ms i m) same in
+    let small = at_most the_size all i m within in
+    let same_size : the_size m ≡ the_size (get_or all i m) = ap the_size is in
+    let knows = subst (λ ks. KnowsBelow (moves_tree all) ks) (sym c.as_slice-known.ensures.members) c.requires.known in
+    let known = (known_at all c.as_slice-known.result.now i m knows within is).1 c.index-known-index.result c.index-known-index.is in
+    (omega (arith, small, same_size, c.decreases), (c.requires.codec, (c.requires.placed, (known, search rules))))
+
+pub lay_there-loop-place-preserved-then-index-moves : goal.lay_there-loop-place-preserved-then-index-moves
+lay_there-loop-place-preserved-then-index-moves t c =
+    place_laid _ _ _ c.in-Some.place (moves_tree c.as_slice-moves.result.now) (whole_slots c.args.whole.now) (whole_entries c.args.whole.now) _ _ _ _ c.loop-place.invariant c.in-Some.ensures.some (move_tree c.index-moves-index.result) c.lay_entry-end.result c.lay_entry-end.new.output
+    (at_is c.as_slice-moves.result.now (c.in-Some.place - 1) c.index-moves-index.result (omega (arith, c.if-index-moves.true)) c.index-moves-index.is) c.lay_entry-end.ensures.laid
+
+pub lay_there-loop-place-preserved : goal.lay_there-loop-place-preserved
+lay_there-loop-place-preserved t c =
+    place_skips _ _ _ c.in-Some.place (moves_tree c.as_slice-moves.result.now) (whole_slots c.args.whole.now) (whole_entries c.args.whole.now) _ _ _ _ c.loop-place.invariant c.in-Some.ensures.some (at_past c.as_slice-moves.result.now (c.in-Some.place - 1) (omega (arith, c.if-index-moves.false)))
+
+pub lay_there-returns-clause-laid : goal.lay_there-returns-clause-laid
+lay_there-returns-clause-laid t c =
+    subst (λ (ms : List Move). Lays (places_canon (slots_of c.args.there) (moves_tree ms) (whole_slots c.args.whole.now) (whole_entries c.args.whole.now)) c.args.at c.loop-place.end c.args.output.now c.loop-place.output) c.as_slice-moves.ensures.members
+    (places_last _ _ _ _ _ _ _ _ _ c.in_default.ensures.none c.loop-place.invariant)
 
 pub lay_entry-returns-in-None-clause-laid : goal.lay_entry-returns-in-None-clause-laid
 lay_entry-returns-in-None-clause-laid t c =
@@ -44,7 +106,7 @@ lay_anew-lay_whole-requires t c =
     let placed = placed_by _ own c.in-Compound.slots item.body.now 0 c.place_subitems.new.places (length item.body.now) c.requires.codec (sym c.as_slice.ensures.members) (sym c.octets.ensures.body) refl refl
     (compound_links own.nodes item.link c.node.result.now own.table item.item.some item.item.within c.node.ensures c.in-Compound.mask c.in-Compound.slots c.in-Compound.slots c.in-Compound.is refl)
     (c.place_subitems.ensures c.in-Compound.mask c.in-Compound.slots (compound_node own.nodes item.link c.node.result.now c.in-Compound.mask c.in-Compound.slots item.item.some item.item.within c.node.ensures c.in-Compound.is)) in
-    (search rules, (refl, (placed, c.requires.room)))
+    (search rules, (refl, (placed, (c.requires.known, c.requires.room))))
 
 pub lay_anew-returns-in-Compound-clause-laid : goal.lay_anew-returns-in-Compound-clause-laid
 lay_anew-returns-in-Compound-clause-laid t c =
@@ -58,16 +120,36 @@ lay_anew-returns-in_default t c = record {
   room = c.lay_item.ensures.room;
 }
 
-pub lay_whole-returns-clause-laid : goal.lay_whole-returns-clause-laid
-lay_whole-returns-clause-laid t c =
+pub lay_whole-returns-in_default-clause-laid : goal.lay_whole-returns-in_default-clause-laid
+lay_whole-returns-in_default-clause-laid t c =
     let field = subst (λ b. Lays b c.args.at c.lay_field-end.result c.args.output.now c.lay_field-end.new.output) (ap least_field c.moved_slots-marked.ensures) c.lay_field-end.ensures.laid in
     let rest = entries_canon_by (moves_tree c.args.moves.now) (whole_slots c.args.whole.now) (whole_entries c.args.whole.now) in
     let front = field_by (moves_tree c.args.moves.now) (whole_entries c.args.whole.now) in
     lays_more front rest (front ++ rest) c.args.at c.lay_field-end.result c.lay_entries.result c.args.output.now c.lay_field-end.new.output c.lay_entries.new.output refl field c.lay_entries.ensures.laid
 
+pub lay_whole-returns-clause-laid : goal.lay_whole-returns-clause-laid
+lay_whole-returns-clause-laid t c =
+    let w = c.args.whole.now in
+    let ms = moves_tree c.args.moves.now in
+    let ss = whole_slots w in
+    let es = whole_entries w in
+    let there = c.moves_there-there.result in
+    let finds = subst (λ (o : Option (Vec ℕ Global)). IfSome o (λ places. FindsEach ms places.items)) c.in-Some.is c.requires.known.0 in
+    let all = others_absent w.places.now.marked c.as_slice.result.now ms es (subst (FindsEach ms) (sym c.as_slice.ensures.value) finds) (λ s m. (c.requires.placed.placed.there s m).small) c.requires.placed.placed.others in
+    let none = subst (λ x. AreOthersAbsent x ms es) (sym c.moves_there-there.ensures) all in
+    let set = c.slots_there-marked.ensures ∙ ap (λ l. places_marks (slots_of there) (moves_tree l) es no_marks) c.as_slice-2.ensures.members ∙ places_slots there ms es no_marks none in
+    let field = subst (λ b. Lays b c.args.at c.lay_field-end-2.result c.args.output.now c.lay_field-end-2.new.output) (ap least_field set) c.lay_field-end-2.ensures.laid in
+    let rest = subst (λ b. Lays b c.lay_field-end-2.result c.lay_there.result c.lay_field-end-2.new.output c.lay_there.new.output) (places_entries there ms ss es none) c.lay_there.ensures.laid in
+    lays_more (field_by ms es) (entries_canon_by ms ss es) (field_by ms es ++ entries_canon_by ms ss es) c.args.at c.lay_field-end-2.result c.lay_there.result c.args.output.now c.lay_field-end-2.new.output c.lay_there.new.output refl field rest
+
+pub lay_value-returns-then-is_bare-clause-laid : goal.lay_value-returns-then-is_bare-clause-laid
+lay_value-returns-then-is_bare-clause-laid t c =
+    subst (λ b. Lays b c.args.at c.lay_octets-then-is_bare.result c.args.output.now c.lay_octets-then-is_bare.new.output) (sym (c.is_bare.ensures c.if-is_bare.true c.args.count (moves_tree c.args.moves.now)))
+    (gathered_bits (0 ∷ []) c.args.at c.lay_octets-then-is_bare.result c.args.output.now c.lay_octets-then-is_bare.new.output c.lay_octets-then-is_bare.ensures.laid)
+
 pub lay_value-returns-then-moves_whole-clause-laid : goal.lay_value-returns-then-moves_whole-clause-laid
 lay_value-returns-then-moves_whole-clause-laid t c =
-    subst (λ b. Lays b c.args.at c.lay_octets.result c.args.output.now c.lay_octets.new.output) (ap bits c.octets.ensures.body ∙ sym (c.moves_whole.ensures c.if-moves_whole.true))
+    subst (λ b. Lays b c.args.at c.lay_octets.result c.args.output.now c.lay_octets.new.output) (ap bits c.octets.ensures.body ∙ sym (c.moves_whole.ensures c.if-moves_whole.true (moves_tree c.args.moves.now)))
     (gathered_bits c.octets.result.now c.args.at c.lay_octets.result c.args.output.now c.lay_octets.new.output c.lay_octets.ensures.laid)
 
 pub lay_anew-front-front-requires-clause-links : goal.lay_anew-front-front-requires-clause-links

@@ -8,7 +8,7 @@ use Rattle.ax_reader.specs.Reading.{IsMaskOf, record_slot_list}
 use Rattle.ax_text_view_work.specs.declared.tables.Table.{Table}
 
 abbrev tree_of : Table → SpecTree
-tree_of table = spec_tree table.items.spec.now
+tree_of table = spec_tree table.items
 
 -- a table's mask is that of its slots
 pub masked : (table : Table) → IsMaskOf (record_slot_list (tree_of table)) table.mask

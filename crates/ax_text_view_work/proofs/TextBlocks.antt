@@ -27,17 +27,17 @@ abbrev of_opaque : ℕ → ℕ → List ℕ → List ℕ
 of_opaque number category content = OpaqueLine category content
 
 module _ (tables catalogue : List Spec) (number : ℕ) (raw : RawTree) (held : Option (List ℕ)) (faults : ℕ) (same : tables ≡ catalogue) (found : Option (Bor Table))
-    (looked : option_map (λ table. spec_tree table.items.spec.now) (option_copied found) ≡ spec_of raw.category (catalogue_tree tables)) where
-  pub text_printed : (table : Bor Table) (o : SinkChange) (line laid : List ℕ) (result : Result Unit WorkStop) → found ≡ Some table → length raw.body ≤ 65532 → IsBlockPrinted (spec_tree table.now.items.spec.now) raw.category raw.body line → laid ≡ line
+    (looked : option_map (λ table. spec_tree table.items) (option_copied found) ≡ spec_of raw.category (catalogue_tree tables)) where
+  pub text_printed : (table : Bor Table) (o : SinkChange) (line laid : List ℕ) (result : Result Unit WorkStop) → found ≡ Some table → length raw.body ≤ 65532 → IsBlockPrinted (spec_tree table.now.items) raw.category raw.body line → laid ≡ line
       → WritesOctets o laid result → Takes (text_command (catalogue_tree catalogue)) number raw o (record { held = held; held' = held; faults = faults; faults' = faults }) result
   text_printed table o line laid result is few printed e w =
       tree_taken of_read of_opaque (catalogue_tree catalogue) number raw o held faults line laid result
-      (read_made of_read of_opaque (catalogue_tree catalogue) number raw (spec_tree table.now.items.spec.now) line few (known tables catalogue raw.category same found table looked is) (record { records = printed.records; spelled = printed.spelled; is = printed.is })) e w
+      (read_made of_read of_opaque (catalogue_tree catalogue) number raw (spec_tree table.now.items) line few (known tables catalogue raw.category same found table looked is) (record { records = printed.records; spelled = printed.spelled; is = printed.is })) e w
 
-  pub text_fails : (table : Bor Table) (f : BodyFault) (shown : Option (List ℕ)) (flaws : ℕ) → found ≡ Some table → length raw.body ≤ 65532 → IsBodyFault (spec_tree table.now.items.spec.now) raw.body f
+  pub text_fails : (table : Bor Table) (f : BodyFault) (shown : Option (List ℕ)) (flaws : ℕ) → found ≡ Some table → length raw.body ≤ 65532 → IsBodyFault (spec_tree table.now.items) raw.body f
       → Takes (text_command (catalogue_tree catalogue)) number raw (record { held = held; held' = held; faults = faults; faults' = faults }) (record { held = shown; held' = shown; faults = flaws; faults' = flaws }) (Err (Fault f))
   text_fails table f shown flaws is few fails =
-      let spec = spec_tree table.now.items.spec.now in
+      let spec = spec_tree table.now.items in
       tree_fails of_read of_opaque (catalogue_tree catalogue) number raw held shown faults flaws f (record { spec = spec; known = known tables catalogue raw.category same found table looked is; fails = fails.fails }) (short_fault spec raw.body f.bit f.cause few fails.fails)
 
   pub text_opaque : (o : SinkChange) (line laid : List ℕ) (result : Result Unit WorkStop) → found ≡ None → length raw.body ≤ 65532 → 1 ≤ length raw.body → line ≡ OpaqueLine raw.category raw.body → laid ≡ line

@@ -9,39 +9,44 @@ ghost use Rattle.ax_reader.specs.Reading.{record_slot_list};
 use ax_check::{Accepted, Catalogue};
 use ax_fspec::SlotMask;
 use ax_model::Spec;
-use ax_uap::{ByCategory, OfSpec, UapItems};
+use ax_text_views::{StepsLeft, TextItems};
+use ax_uap::{ByCategory, OfSpec};
 use ax_values::record_mask;
 use std::alloc::{AllocError, Global};
 
-/// What the blocks of a category are read by: the items of its UAP, each looked up once, and the mask of the UAP's slots.
+/// What the blocks of a category are printed by: what is held of the items of its UAP, and the mask of the UAP's slots.
 #[derive(Drop)]
 pub struct Table<'c> {
-    pub items: UapItems<'c>,
+    pub items: TextItems<'c>,
     pub mask: SlotMask,
-    ghost count: { mask.count ≡ length (record_slot_list (spec_tree items.spec.now)) },
-    ghost defined: { mask_slots mask ≡ defined_slots (slots_of (record_slot_list (spec_tree items.spec.now))) },
+    ghost count: { mask.count ≡ length (record_slot_list (spec_tree items)) },
+    ghost defined: { mask_slots mask ≡ defined_slots (slots_of (record_slot_list (spec_tree items))) },
 }
 
 /// Tables, by category.
 pub type Tables<'c> = ByCategory<Table<'c>>;
 
 impl<'c> OfSpec for Table<'c> {
-    ghost of = { λ table. table.items.spec.now };
+    ghost of = { λ table. table.items };
 
     fn spec(&self) -> &Spec {
         self.items.spec()
     }
 }
 
-/// The table of a specification.
+/// The table of a specification, with no more steps of templates than are left.
 #[tactic(auto, using(ax_reader::proofs::RecordSlots::uap_bounds))]
-fn table_of<'c>(alloc: Global, accepted: &'c Accepted) -> Result<Table<'c>, AllocError>
-    ensures spec { IfOk result (λ table. table.items.spec.now ≡ accepted.now) }
-    ensures no_flaw { IfOk result (λ table. HasNoFlaw table.items.spec.now) }
+fn table_of<'c>(
+    alloc: Global,
+    left: &mut StepsLeft,
+    accepted: &'c Accepted,
+) -> Result<Table<'c>, AllocError>
+    ensures spec { IfOk result (λ table. table.items ≡ accepted.now) }
+    ensures no_flaw { IfOk result (λ table. HasNoFlaw table.items) }
 {
     let spec = accepted.spec();
     let mask = record_mask(spec);
-    let items = UapItems::of(alloc, spec)?;
+    let items = TextItems::of(alloc, left, spec)?;
     Ok(Table { items, mask })
 }
 
@@ -50,10 +55,11 @@ fn table_of<'c>(alloc: Global, accepted: &'c Accepted) -> Result<Table<'c>, Allo
 pub fn tables_of<'c>(alloc: Global, catalogue: &'c Catalogue) -> Result<Tables<'c>, AllocError>
     ensures { IfOk result (λ made. made ≡ catalogue.now) }
 {
+    let mut left = StepsLeft::all();
     let mut tables = Tables::new(alloc);
     for index in 0..catalogue.count() {
         if let Some(accepted) = catalogue.at(index) {
-            tables.push(table_of(alloc, accepted)?)?;
+            tables.push(table_of(alloc, &mut left, accepted)?)?;
         }
     }
     Ok(tables)

@@ -6,3 +6,8 @@ pub mod Marked
 pub mod RecordsPrinted
 pub mod Octets
 pub mod Digits
+pub mod DraftPieces
+pub mod StepsPrinted
+pub mod TemplateTexts
+pub mod UapSlots
+pub mod HeldParts

@@ -1,7 +1,6 @@
 -- Items and records that are printed, one after the other.
-use Rattle.std.proofs.Common.{◌≡◌, ℕ, ◌+◌, ◌-◌, ◌<◌, ◌≤◌, List, [], ◌∷◌, ◌++◌, length, take, drop, Some, refl, sym, ◌∙◌, ap, arith, subst, take-append-drop, take-add, length-drop}
+use Rattle.std.proofs.Common.{◌≡◌, ℕ, ◌+◌, ◌-◌, ◌<◌, ◌≤◌, List, [], ◌∷◌, ◌++◌, length, take, drop, refl, sym, ◌∙◌, ap, arith, subst, take-append-drop, take-add, length-drop}
 use Rattle.std.proofs.lemmas.List.{length-take-le, take_all}
-use Rattle.std.specs.Option.{option_map}
 use Rattle.std.specs.Prelude.{codes}
 use Rattle.ax_bits.proofs.Words.{bits-append, length-bits}
 use Rattle.ax_bits.specs.Bits.{bits}
@@ -10,33 +9,22 @@ use Rattle.ax_fspec.specs.declared.mask.SlotMask.{SlotMask}
 use Rattle.ax_model.proofs.Bounds.{record_bounds}
 use Rattle.ax_model.specs.Bodies.{RecordsSpell}
 use Rattle.ax_model.specs.Flaws.{NoFlaw}
-use Rattle.ax_model.specs.Lookup.{item_of_frn}
-use Rattle.ax_model.specs.Plain.{kind_tree, item_tree}
-use Rattle.ax_model.specs.Specification.{SpecTree, slot_of_item, record_slots, record_kind}
+use Rattle.ax_model.specs.Specification.{SpecTree, record_slots, record_kind}
 use Rattle.ax_model.specs.Tree.{EntriesTree, marked}
-use Rattle.ax_model.specs.declared.spec.Item.{Item}
-use Rattle.ax_model.specs.declared.spec.Spec.{Spec}
 use Rattle.ax_reader.proofs.Exact.{spelled_at, fault_at}
-use Rattle.ax_reader.specs.Reading.{IsMaskOf, record_slot_list, slot_of_frn, kind_read, entries_at}
+use Rattle.ax_reader.specs.Reading.{IsMaskOf, record_slot_list, kind_read, entries_at}
 use Rattle.ax_text.proofs.Printed.{none_put, both_put, braces_put}
 use Rattle.ax_text.specs.BlockText.{record_onto, records_onto}
 use Rattle.ax_text.specs.Printing.{after_spaces, Puts}
-use Rattle.ax_text.specs.ValueText.{Texts, opening, closing, one_onto, in_braces, kind_onto, entries_onto}
-use Rattle.ax_text_views.proofs.Marked.{slot_printed, entries_onto_are}
-use Rattle.ax_text_views.specs.Prints.{slots_onto, Prints, IsSlotPrinted, IsRecordPrinted, PrintsBody}
+use Rattle.ax_text.specs.ValueText.{Texts, opening, closing, one_onto, in_braces, entries_onto}
+use Rattle.ax_text_views.proofs.Marked.{entries_onto_are}
+use Rattle.ax_text_views.specs.Prints.{slots_onto, Prints, IsRecordPrinted, PrintsBody}
 use Rattle.ax_values.proofs.Marking.{compound_gets}
 use Rattle.ax_values.proofs.RecordSlots.{record_at, record_fault, forwards_record, one_more}
 use Rattle.ax_values.specs.Decoding.{IsRecordAt, IsBodyFault, IsFaultOf}
 use Rattle.ax_values.specs.SlotReading.{HasFailed}
 use Rattle.ax_values.specs.declared.error.DecodeError.{DecodeError}
 use Rattle.ax_values.specs.declared.error.DecodeError.TheVariants as Decoding
-
--- ---- items
-
-pub item_printed : (spec : Spec) (frn : ℕ) (item : Item) (body : List ℕ) (at end : ℕ) (old mid new : List ℕ) → Some item ≡ item_of_frn frn spec.uap spec.items → Puts after_spaces (one_onto item.name) old mid
-    → Prints (kind_onto (kind_tree item.kind)) (kind_read (kind_tree item.kind) body at) body at end mid new → IsSlotPrinted (slot_of_frn frn spec) body at end old new
-item_printed spec frn item body at end old mid new e p q =
-    subst (λ o. IsSlotPrinted (slot_of_item (option_map item_tree o)) body at end old new) e (slot_printed item.name (kind_tree item.kind) body at end old mid new p q)
 
 -- ---- a record
 

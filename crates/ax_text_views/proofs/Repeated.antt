@@ -1,21 +1,21 @@
 -- Occurrences by FX and parts, printed one after the other.
 use Rattle.std.proofs.Common.{◌≡◌, ℕ, ◌-◌, ◌*◌, ◌≤◌, Bool, true, false, List, [], ◌∷◌, ◌++◌, length, drop, map, refl, sym, ◌∙◌, ap, subst}
 use Rattle.ax_bits.specs.Bits.{bits}
-use Rattle.ax_model.specs.Plain.{part_tree}
 use Rattle.ax_model.specs.Reader.{fixed_value, members_value}
 use Rattle.ax_model.specs.Tree.{FixedTree, MembersTree, by_fx, extended, part_values, occurrences, value_and, no_values, list_and, no_lists}
 use Rattle.ax_model.specs.Widths.{width}
 use Rattle.ax_model.specs.declared.fault.BodyCause.TheVariants.{RunsOut}
 use Rattle.ax_model.specs.declared.fault.BodyFault.{BodyFault}
 use Rattle.ax_model.specs.declared.kind.LastPart.{LastPart}
-use Rattle.ax_model.specs.declared.kind.Part.{Part}
 use Rattle.ax_reader.proofs.AtOctets.{IsUnit, run_at, parts_at, run_ends, run_goes_on, run_fails, by_fx_gets, by_fx_fails, extended_gets, extended_fails}
 use Rattle.ax_reader.specs.Reading.{FailsAt, kind_read, fx_bit}
 use Rattle.ax_text.proofs.Printed.{both_put}
 use Rattle.ax_text.specs.Printing.{after_spaces, Puts}
 use Rattle.ax_text.specs.ValueText.{Texts, opening, closing, one_onto, fixed_onto, part_onto, parts_onto, each_onto, kind_onto}
 use Rattle.ax_text_views.proofs.Leading.{Leads, closed, opened, leads_by, leads_on, fails_too}
+use Rattle.ax_text_views.specs.HeldText.{text_part}
 use Rattle.ax_text_views.specs.Prints.{Prints}
+use Rattle.ax_text_views.specs.declared.drafting.TextPart.{TextPart}
 use Rattle.ax_values.proofs.PartsRead.{left_is, none_left}
 use Rattle.ax_values.specs.Parts.{parts_left, PartsReady, IsPartMet}
 
@@ -72,15 +72,15 @@ parts_begin last ps body at old now h p = record {
       (opened (parts_onto ps) (parts_at last ps body at) (kind_onto (extended last ps)) (kind_read (extended last ps) body at) body at old now (λ ls. part_values ls) (λ end ls h. extended_gets last ps body at end ls h) (λ fault h. extended_fails last ps body at fault h) (λ ls rest. refl) p);
 }
 
-pub parts_start : (whole_last last : LastPart) (all ps : List Part) (body own : List ℕ) (at here : ℕ) (more : Bool) (old now : List ℕ) → last ≡ whole_last → ps ≡ all → own ≡ body → here ≡ at → more ≡ true → PartsReady last more (map part_tree ps) own here
-    → Puts after_spaces (one_onto opening) old now → PartsLead whole_last (map part_tree all) last more (map part_tree ps) body at here old now
+pub parts_start : (whole_last last : LastPart) (all ps : List TextPart) (body own : List ℕ) (at here : ℕ) (more : Bool) (old now : List ℕ) → last ≡ whole_last → ps ≡ all → own ≡ body → here ≡ at → more ≡ true → PartsReady last more (map text_part ps) own here
+    → Puts after_spaces (one_onto opening) old now → PartsLead whole_last (map text_part all) last more (map text_part ps) body at here old now
 parts_start whole_last last all ps body own at here more old now l p b h m ready put =
-    subst (λ whole_last. PartsLead whole_last (map part_tree all) last more (map part_tree ps) body at here old now) l
-    (subst (λ all. PartsLead last (map part_tree all) last more (map part_tree ps) body at here old now) p
-    (subst (λ here. PartsLead last (map part_tree ps) last more (map part_tree ps) body at here old now) (sym h)
-    (subst (λ more. PartsLead last (map part_tree ps) last more (map part_tree ps) body at at old now) (sym m)
-    (parts_begin last (map part_tree ps) body at old now
-    (subst (λ more. PartsReady last more (map part_tree ps) body at) m (subst (λ here. PartsReady last more (map part_tree ps) body here) h (subst (λ own. PartsReady last more (map part_tree ps) own here) b ready))) put))))
+    subst (λ whole_last. PartsLead whole_last (map text_part all) last more (map text_part ps) body at here old now) l
+    (subst (λ all. PartsLead last (map text_part all) last more (map text_part ps) body at here old now) p
+    (subst (λ here. PartsLead last (map text_part ps) last more (map text_part ps) body at here old now) (sym h)
+    (subst (λ more. PartsLead last (map text_part ps) last more (map text_part ps) body at at old now) (sym m)
+    (parts_begin last (map text_part ps) body at old now
+    (subst (λ more. PartsReady last more (map text_part ps) body at) m (subst (λ here. PartsReady last more (map text_part ps) body here) h (subst (λ own. PartsReady last more (map text_part ps) own here) b ready))) put))))
 
 module _ (whole_last : LastPart) (all : List MembersTree) (last : LastPart) (more : Bool) (ps : List MembersTree) (body own : List ℕ) (at here : ℕ) (old now : List ℕ) (h : PartsLead whole_last all last more ps body at here old now) (b : own ≡ body) where
   pub parts_next : (new_last : LastPart) (new mid : List ℕ) (first : ℕ) (p : MembersTree) (again : Bool) (qs : List MembersTree) (end : ℕ) → new_last ≡ last → new ≡ own → IsPartMet last more ps own here p again qs end → PartsReady new_last again qs new end → first ≡ 8 * here

@@ -1,1 +1,4 @@
+pub mod Drafts
+pub mod HeldText
 pub mod Prints
+pub mod Templates

@@ -8,11 +8,11 @@ ghost use Rattle.ax_text.specs.BlockText.{OpaqueLine};
 ghost use Rattle.ax_text_views.specs.Prints.{IsBlockPrinted, PrintsBody};
 ghost use Rattle.ax_values.specs.Decoding.{IsBodyFault, IsFaultOf};
 
+use crate::items::TextItems;
 use crate::line::Line;
 use crate::records::print_record;
 use ax_fspec::SlotMask;
 use ax_model::RawBlock;
-use ax_uap::UapItems;
 use ax_values::DecodeError;
 use std::alloc::AllocError;
 
@@ -21,14 +21,14 @@ use std::alloc::AllocError;
 /// of the body, with its bit in the body; what the line then holds isn't said.
 pub fn print_block(
     line: &mut Line,
-    items: &UapItems<'_>,
+    items: &TextItems<'_>,
     mask: &SlotMask,
     raw: &RawBlock<'_>,
 ) -> Result<(), DecodeError>
-    requires spec { NoFlaw (spec_tree items.now.spec.now) }
-    requires mask { IsMaskOf (record_slot_list (spec_tree items.now.spec.now)) mask.now }
-    ensures printed { OnOk result (IsBlockPrinted (spec_tree items.now.spec.now) raw.now.category raw.now.body.now line.new) }
-    ensures fault { IfErr result (IsFaultOf (IsBodyFault (spec_tree items.now.spec.now) raw.now.body.now)) }
+    requires spec { NoFlaw (spec_tree items.now) }
+    requires mask { IsMaskOf (record_slot_list (spec_tree items.now)) mask.now }
+    ensures printed { OnOk result (IsBlockPrinted (spec_tree items.now) raw.now.category raw.now.body.now line.new) }
+    ensures fault { IfErr result (IsFaultOf (IsBodyFault (spec_tree items.now) raw.now.body.now)) }
 {
     line.begin(b"block")?;
     line.category(raw.category)?;
@@ -42,16 +42,16 @@ pub fn print_block(
 /// Prints the records of a body.
 fn print_body(
     line: &mut Line,
-    items: &UapItems<'_>,
+    items: &TextItems<'_>,
     mask: &SlotMask,
     body: &[u8],
 ) -> Result<(), DecodeError>
-    requires spec { NoFlaw (spec_tree items.now.spec.now) }
-    requires mask { IsMaskOf (record_slot_list (spec_tree items.now.spec.now)) mask.now }
+    requires spec { NoFlaw (spec_tree items.now) }
+    requires mask { IsMaskOf (record_slot_list (spec_tree items.now)) mask.now }
     requires body { length body.now ≤ longest_body }
     requires some { 1 ≤ length body.now }
-    ensures records { OnOk result (PrintsBody (spec_tree items.now.spec.now) body.now line.old line.new) }
-    ensures fault { IfErr result (IsFaultOf (IsBodyFault (spec_tree items.now.spec.now) body.now)) }
+    ensures records { OnOk result (PrintsBody (spec_tree items.now) body.now line.old line.new) }
+    ensures fault { IfErr result (IsFaultOf (IsBodyFault (spec_tree items.now) body.now)) }
 {
     let mut at = 0;
     while (at as usize) < body.len() {

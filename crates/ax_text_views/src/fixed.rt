@@ -1,19 +1,19 @@
-//! Runs of bits of a known length, printed: elements, spares and groups.
+//! Runs of bits of a known length, printed member by member: elements, spares, groups and parts.
 ghost use Rattle.std.specs.Prelude.{◌≡◌, ◌+◌, ◌*◌, ◌/◌, ◌%◌, ◌^◌, ◌<◌, ◌≤◌, length, drop, take, decimal, OnOk};
 ghost use Rattle.ax_bits.specs.Bits.{bits, number_of, word};
-ghost use Rattle.ax_model.specs.Reader.{fixed_value};
+ghost use Rattle.ax_model.specs.Reader.{fixed_value, members_value};
 ghost use Rattle.ax_model.specs.InBounds.{IsWidth, FixedInBounds, MembersInBounds};
-ghost use Rattle.ax_model.specs.Plain.{fixed_tree, member_tree, members_tree};
+ghost use Rattle.ax_model.specs.Plain.{fixed_tree, member_tree, members_tree, part_tree};
 ghost use Rattle.ax_model.specs.Sizes.{longest_body};
 ghost use Rattle.ax_model.specs.Tree.{member_and, no_members};
 ghost use Rattle.ax_model.specs.Widths.{width, members_width};
 ghost use Rattle.ax_text.specs.Printing.{after_spaces, Puts};
-ghost use Rattle.ax_text.specs.ValueText.{one_onto, fixed_onto};
+ghost use Rattle.ax_text.specs.ValueText.{one_onto, fixed_onto, part_onto};
 ghost use Rattle.ax_text_views.specs.Prints.{members_read_onto};
 
 use crate::line::Line;
 use ax_bits::{bits_at, short_bits_at};
-use ax_model::{Fixed, Member, Members};
+use ax_model::{Fixed, Member, Members, Part};
 use std::alloc::AllocError;
 
 /// Prints the number in the `width` bits from bit `at` of the body on, of any width.
@@ -118,4 +118,25 @@ fn print_member(
             Ok(())
         }
     }
+}
+
+/// Prints a part with its values, which begin at bit `at` of the body. That is moved after them, to the FX bit where the
+/// part has one.
+#[tactic(auto, using(ax_text::proofs::KindWays::part_put))]
+pub(crate) fn print_part(
+    line: &mut Line,
+    part: &Part,
+    body: &[u8],
+    at: &mut u32,
+) -> Result<(), AllocError>
+    requires bounds { MembersInBounds (part_tree part.now) }
+    requires within { at.old + members_width (part_tree part.now) ≤ 8 * length body.now }
+    requires body { length body.now ≤ longest_body }
+    ensures text { OnOk result (Puts after_spaces (part_onto (part_tree part.now) (members_value (part_tree part.now) (drop at.old (bits body.now)))) line.old line.new) }
+    ensures at { OnOk result (at.new ≡ at.old + members_width (part_tree part.now)) }
+{
+    line.text(b"part")?;
+    line.open()?;
+    print_members(line, &part.members, body, at)?;
+    line.close()
 }

@@ -2,12 +2,22 @@
 #![tactic(auto)]
 
 mod blocks;
+mod build;
+mod drafting;
 mod fixed;
+mod held;
+mod items;
 mod kinds;
 mod line;
+mod literal;
+mod parts_left;
 mod records;
 mod room;
+mod steps;
+mod templates;
 mod units;
 
 pub use blocks::{print_block, print_opaque};
+pub use drafting::StepsLeft;
+pub use items::TextItems;
 pub use line::Line;

@@ -1,11 +1,11 @@
 //! A line of tokens, as it is printed.
-ghost use Rattle.std.specs.Prelude.{◌≡◌, [], ◌∷◌, ◌++◌, decimal, OnOk};
+ghost use Rattle.std.specs.Prelude.{◌≡◌, ◌≤◌, [], ◌∷◌, ◌++◌, length, take, decimal, OnOk};
 ghost use Rattle.ax_model.specs.Paths.{three_digits};
 ghost use Rattle.ax_text.specs.Printing.{after_spaces, Puts};
 ghost use Rattle.ax_text.specs.ValueText.{opening, closing, one_onto, hex_text};
 ghost use Rattle.ax_tokens.specs.Octets.{line_feed};
 
-use crate::room::{make_room, put_name, put_number, put_octets};
+use crate::room::{make_room, put_decimal, put_name, put_number, put_octets, put_some};
 use ax_model::{Name, category_digits};
 use itoa::Buffer;
 use std::alloc::{AllocError, Global};
@@ -122,6 +122,42 @@ impl Line {
         make_room(&mut self.room, self.used, 21)?;
         self.used = put_number(&mut self.room, self.used, number);
         Ok(())
+    }
+
+    /// The first `count` of 32 octets, with no space.
+    #[inline(always)]
+    pub(crate) fn some(&mut self, octets: &[u8], count: usize) -> Result<(), AllocError>
+        requires { (32 ≤ length octets.now) × (count ≤ 32) }
+        ensures { OnOk result (self.new ≡ self.old ++ take count octets.now) }
+    {
+        make_room(&mut self.room, self.used, 32)?;
+        self.used = put_some(&mut self.room, self.used, octets, count);
+        Ok(())
+    }
+
+    /// The first `count` of 32 octets and a number of at most 64 bits in decimal, with no spaces.
+    #[inline(always)]
+    pub(crate) fn some_and_number(
+        &mut self,
+        octets: &[u8],
+        count: usize,
+        number: u64,
+    ) -> Result<(), AllocError>
+        requires { (32 ≤ length octets.now) × (count ≤ 32) }
+        ensures { OnOk result (self.new ≡ self.old ++ (take count octets.now ++ decimal number)) }
+    {
+        make_room(&mut self.room, self.used, 52)?;
+        let end = put_some(&mut self.room, self.used, octets, count);
+        self.used = put_decimal(&mut self.room, end, number);
+        Ok(())
+    }
+
+    /// Any number in decimal, with no space.
+    pub(crate) fn digits(&mut self, number: u128) -> Result<(), AllocError>
+        ensures { OnOk result (self.new ≡ self.old ++ decimal number) }
+    {
+        let mut buffer = Buffer::new();
+        self.more(buffer.format(number).as_bytes())
     }
 
     /// Any number in decimal.

@@ -42,7 +42,7 @@ fn lengthen(room: &mut Vec<u8>, more: usize) -> Result<(), AllocError>
 
 /// Puts an octet.
 #[inline(always)]
-fn put_octet(room: &mut [u8], at: usize, octet: u8)
+pub(crate) fn put_octet(room: &mut [u8], at: usize, octet: u8)
     requires { at < length room.old }
     ensures front { take (at + 1) room.new ≡ take at room.old ++ octet ∷ [] }
     ensures whole { length room.new ≡ length room.old }
@@ -71,6 +71,20 @@ pub(crate) fn put_name(room: &mut [u8], at: usize, name: &Name) -> usize
     put_octet(room, at, b' ');
     put_octets(room, at + 1, name.padded());
     at + 1 + name.octets().len()
+}
+
+/// Puts the first `count` of 32 octets. The result is the place after them. All 32 are copied, since a copy of a known length is
+/// quick.
+#[inline(always)]
+pub(crate) fn put_some(room: &mut [u8], at: usize, octets: &[u8], count: usize) -> usize
+    requires room { at + 32 ≤ length room.old }
+    requires count { (32 ≤ length octets.now) × (count ≤ 32) }
+    ensures front { take result room.new ≡ take at room.old ++ take count octets.now }
+    ensures place { result ≡ at + count }
+    ensures whole { length room.new ≡ length room.old }
+{
+    put_octets(room, at, &octets[..32]);
+    at + count
 }
 
 /// Puts the three last digits of a number.
@@ -121,7 +135,7 @@ fn put_long(room: &mut [u8], at: usize, number: u64) -> usize
 
 /// Puts a number in decimal. Most have at most three digits, and few more than six.
 #[inline(always)]
-fn put_decimal(room: &mut [u8], at: usize, number: u64) -> usize
+pub(crate) fn put_decimal(room: &mut [u8], at: usize, number: u64) -> usize
     requires { at + 20 ≤ length room.old }
     ensures front { take result room.new ≡ take at room.old ++ decimal number }
     ensures within { result ≤ length room.new }

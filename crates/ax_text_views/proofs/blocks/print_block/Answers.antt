@@ -4,7 +4,7 @@ use Rattle.ax_text_views.proofs.blocks.print_block.Goals as goal
 
 pub returns-clause-printed : goal.returns-clause-printed
 returns-clause-printed c =
-    let spec = spec_tree c.args.items.now.spec.now in
+    let spec = spec_tree c.args.items.now in
     let body = c.in_ok-print_body.ensures.records in record {
       records = body.records;
       spelled = body.spelled;

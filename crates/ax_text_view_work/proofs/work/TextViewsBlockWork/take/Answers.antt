@@ -15,7 +15,7 @@ returns-in-Ok-clause-takes g c =
 pub returns-in-Err-Fault-clause-takes : goal.returns-in-Err-Fault-clause-takes
 returns-in-Err-Fault-clause-takes g c =
     text_fails _ _ _ _ _ _ c.requires.sound c.get.result c.get.ensures.spec c.in-Some.table c.in-Err-Fault.fault _ _ c.in-Some.is c.args.raw.now.within_block
-    (subst (IsFaultOf (IsBodyFault (spec_tree c.in-Some.table.now.items.spec.now) c.args.raw.now.body.now)) c.in-Err-Fault.field-0-is c.in-Err-Fault.ensures.fault)
+    (subst (IsFaultOf (IsBodyFault (spec_tree c.in-Some.table.now.items) c.args.raw.now.body.now)) c.in-Err-Fault.field-0-is c.in-Err-Fault.ensures.fault)
 
 pub returns-in-Ok-print_opaque-clause-takes : goal.returns-in-Ok-print_opaque-clause-takes
 returns-in-Ok-print_opaque-clause-takes g c =

@@ -4,7 +4,7 @@ use Rattle.ax_bits.specs.Bits.{bits}
 use Rattle.ax_model.specs.Plain.{part_tree}
 use Rattle.ax_model.specs.Reader.{members_value}
 use Rattle.ax_text.proofs.KindWays.{part_put}
-use Rattle.ax_text_views.proofs.units.print_part.Goals as goal
+use Rattle.ax_text_views.proofs.fixed.print_part.Goals as goal
 
 pub returns-clause-text : goal.returns-clause-text
 returns-clause-text c =

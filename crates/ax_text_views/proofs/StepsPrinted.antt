@@ -1,0 +1,136 @@
+-- Steps printed one after the other.
+use Rattle.std.proofs.Common.{◌≡◌, ℕ, ◌+◌, ◌^◌, ◌<◌, ◌≤◌, List, [], ◌++◌, Option, Some, None, length, take, drop, get_or, decimal, IfSome, refl, sym, ◌∙◌, ap, arith, subst, append_assoc, append-nil}
+use Rattle.std.proofs.lemmas.List.{drop-drop, drop_all}
+use Rattle.ax_bits.proofs.Pieces.{number-word}
+use Rattle.ax_bits.specs.Bits.{number_of, word}
+use Rattle.ax_model.specs.InBounds.{IsWidth, FixedInBounds, MembersInBounds}
+use Rattle.ax_model.specs.Reader.{fixed_value, members_value}
+use Rattle.ax_model.specs.Tree.{FixedTree, MembersTree}
+use Rattle.ax_model.specs.Widths.{width, members_width}
+use Rattle.ax_text.proofs.Printed.{from_place}
+use Rattle.ax_text.specs.Printing.{after_spaces, Puts}
+use Rattle.ax_text.specs.ValueText.{fixed_onto, part_onto}
+use Rattle.ax_text_views.proofs.TemplateTexts.{printed_before, width_before, bounds_behind, steps_are, steps_bounds, steps_width, fixed_put, part_bounds, part_width, part_put}
+use Rattle.ax_text_views.specs.Templates.{Template, ends, fixed_template, part_template, printed, template_width, TemplateInBounds, with_number, step_then, template_of, number_width, number_text, NumberInBounds, AreSteps}
+use Rattle.ax_text_views.specs.declared.templates.Step.{Step}
+
+-- ---- a number
+
+pub digits_put : (b : List ℕ) (at w n : ℕ) (xs old new : List ℕ) → n < 2 ^ w → word w n ≡ take w (drop at b) → new ≡ old ++ (xs ++ decimal n) → new ≡ old ++ (xs ++ decimal (number_of (take w (drop at b))))
+digits_put b at w n xs old new lt e p = p ∙ ap (λ n. old ++ (xs ++ decimal n)) (sym (number-word w n lt) ∙ ap number_of e)
+
+pub digits_put_then : (b : List ℕ) (at w n : ℕ) (xs old mid new : List ℕ) → n < 2 ^ w → word w n ≡ take w (drop at b) → mid ≡ old ++ xs → new ≡ mid ++ decimal n → new ≡ old ++ (xs ++ decimal (number_of (take w (drop at b))))
+digits_put_then b at w n xs old mid new lt e p q = digits_put b at w n xs old new lt e (q ∙ ap (λ t. t ++ decimal n) p ∙ append_assoc old xs (decimal n))
+
+pub ruleset digits = (digits_put, digits_put_then)
+
+pub none_put : (xs b old new : List ℕ) (o : Option ℕ) → o ≡ None → new ≡ old ++ xs → new ≡ old ++ (xs ++ number_text o b)
+none_put xs b old new o is e = e ∙ ap (λ t. old ++ t) (sym (append-nil xs)) ∙ ap (λ o. old ++ (xs ++ number_text o b)) (sym is)
+
+pub some_put : (xs b old new : List ℕ) (o : Option ℕ) (w : ℕ) → o ≡ Some w → new ≡ old ++ (xs ++ decimal (number_of (take w b))) → new ≡ old ++ (xs ++ number_text o b)
+some_put xs b old new o w is e = e ∙ ap (λ o. old ++ (xs ++ number_text o b)) (sym is)
+
+pub none_wide : (o : Option ℕ) (at : ℕ) → o ≡ None → at ≡ at + number_width o
+none_wide o at is = (let e : at ≡ at + 0 = omega arith in e) ∙ ap (λ o. at + number_width o) (sym is)
+
+pub some_wide : (o : Option ℕ) (w at : ℕ) → o ≡ Some w → at + w ≡ at + number_width o
+some_wide o w at is = ap (λ o. at + number_width o) (sym is)
+
+pub some_bounds : (o : Option ℕ) (w : ℕ) → o ≡ Some w → NumberInBounds o → IsWidth w
+some_bounds o w is h = subst NumberInBounds is h
+
+pub some_within : (o : Option ℕ) (w at n : ℕ) → o ≡ Some w → at + number_width o ≤ n → at + w ≤ n
+some_within o w at n is h = subst (λ o. at + number_width o ≤ n) is h
+
+pub ruleset ways = (none_put, some_put, none_wide, some_wide, some_bounds, some_within)
+
+-- ---- a step
+
+with_printed : (xs : List ℕ) (o : Option ℕ) (r : Template) (b : List ℕ) → printed (with_number xs o r) b ≡ (xs ++ number_text o b) ++ printed r (drop (number_width o) b)
+with_printed xs None r b = printed_before xs r b ∙ ap (λ t. t ++ printed r b) (sym (append-nil xs))
+with_printed xs (Some w) r b = sym (append_assoc xs (decimal (number_of (take w b))) (printed r (drop w b)))
+
+with_width : (xs : List ℕ) (o : Option ℕ) (r : Template) → template_width (with_number xs o r) ≡ number_width o + template_width r
+with_width xs None r = width_before xs r ∙ (let e : template_width r ≡ 0 + template_width r = omega arith in e)
+with_width xs (Some w) r = refl
+
+with_bounds : (xs : List ℕ) (o : Option ℕ) (r : Template) → TemplateInBounds (with_number xs o r) → NumberInBounds o × TemplateInBounds r
+with_bounds xs None r h = (tt, bounds_behind xs r h)
+with_bounds xs (Some w) r h = h
+
+-- ---- steps so far
+
+-- the steps before place i are printed, with their numbers from bit start up to bit at
+pub record StepsPrinted (all : List Step) (i : ℕ) (b : List ℕ) (start at : ℕ) (old now : List ℕ) : Type 0 where
+  pub bounds : TemplateInBounds (template_of (drop i all))
+  pub width : at + template_width (template_of (drop i all)) ≡ start + template_width (template_of all)
+  pub text : now ++ printed (template_of (drop i all)) (drop at b) ≡ old ++ printed (template_of all) (drop start b)
+
+pub steps_begun : (all : List Step) (b : List ℕ) (start : ℕ) (out : List ℕ) → TemplateInBounds (template_of all) → StepsPrinted all 0 b start start out out
+steps_begun all b start out h = record { bounds = h; width = refl; text = refl }
+
+module _ (all : List Step) (i : ℕ) (s : Step) (b : List ℕ) (start at : ℕ) (old now : List ℕ) (h : StepsPrinted all i b start at old now) (lt : i < length all) (e : s ≡ get_or all i s) where
+  from : template_of (drop i all) ≡ step_then s (template_of (drop (i + 1) all))
+  from = ap template_of (from_place all i s lt e)
+
+  parts : NumberInBounds s.number × TemplateInBounds (template_of (drop (i + 1) all))
+  parts = with_bounds (take s.literal.count s.literal.octets) s.number (template_of (drop (i + 1) all)) (subst TemplateInBounds from h.bounds)
+
+  wide : template_width (template_of (drop i all)) ≡ number_width s.number + template_width (template_of (drop (i + 1) all))
+  wide = ap template_width from ∙ with_width (take s.literal.count s.literal.octets) s.number (template_of (drop (i + 1) all))
+
+  pub step_bounds : NumberInBounds s.number
+  step_bounds = parts.0
+
+  pub step_within : at + number_width s.number ≤ start + template_width (template_of all)
+  step_within = omega (arith, wide, h.width)
+
+  pub steps_go_on : (next : ℕ) (new : List ℕ) → new ≡ now ++ (take s.literal.count s.literal.octets ++ number_text s.number (drop at b)) → next ≡ at + number_width s.number → StepsPrinted all (i + 1) b start next old new
+  steps_go_on next new p g =
+      let xs = take s.literal.count s.literal.octets in
+      let later = template_of (drop (i + 1) all) in
+      let text = xs ++ number_text s.number (drop at b) in
+      let place : drop (number_width s.number) (drop at b) ≡ drop next b = drop-drop (number_width s.number) at b ∙ ap (λ k. drop k b) (sym g) in
+      let one : printed (template_of (drop i all)) (drop at b) ≡ text ++ printed later (drop next b) = ap (λ t. printed t (drop at b)) from ∙ with_printed xs s.number later (drop at b) ∙ ap (λ c. text ++ printed later c) place in
+      record {
+        bounds = parts.1;
+        width = omega (arith, wide, h.width, g);
+        text = ap (λ t. t ++ printed later (drop next b)) p ∙ append_assoc now text (printed later (drop next b)) ∙ ap (λ t. now ++ t) (sym one) ∙ h.text;
+      }
+
+pub steps_over : (all : List Step) (i : ℕ) (b : List ℕ) (start at : ℕ) (old now : List ℕ) → StepsPrinted all i b start at old now → length all ≤ i → now ≡ old ++ printed (template_of all) (drop start b)
+steps_over all i b start at old now h past = sym (append-nil now) ∙ ap (λ ss. now ++ printed (template_of ss) (drop at b)) (sym (drop_all i all past)) ∙ h.text
+
+pub ruleset loops = (steps_begun, step_bounds, step_within, steps_go_on, steps_over)
+
+-- ---- what is held of a fixed kind, and of a part
+
+module _ (f : FixedTree) (o : Option (List Step)) (ss ps : List Step) (made : IfSome o (λ ss. AreSteps (fixed_template f (ends [])) ss)) (is : o ≡ Some ss) (same : ps ≡ ss) where
+  fixed_steps : template_of ps ≡ fixed_template f (ends [])
+  fixed_steps = ap template_of same ∙ steps_are (fixed_template f (ends [])) ss (subst (λ o. IfSome o (λ ss. AreSteps (fixed_template f (ends [])) ss)) is made)
+
+  pub held_bounds : FixedInBounds f → TemplateInBounds (template_of ps)
+  held_bounds h = steps_bounds f ps fixed_steps h
+
+  pub held_within : (at n : ℕ) → at + width f ≤ n → at + template_width (template_of ps) ≤ n
+  held_within at n h = omega (arith, h, steps_width f ps fixed_steps)
+
+  pub held_put : (b old new : List ℕ) → new ≡ old ++ printed (template_of ps) b → Puts after_spaces (fixed_onto f (fixed_value f b)) old new
+  held_put b old new e = fixed_put f ps b old new fixed_steps e
+
+module _ (p : MembersTree) (o : Option (List Step)) (ss ps : List Step) (made : IfSome o (λ ss. AreSteps (part_template p (ends [])) ss)) (is : o ≡ Some ss) (same : ps ≡ ss) where
+  part_steps : template_of ps ≡ part_template p (ends [])
+  part_steps = ap template_of same ∙ steps_are (part_template p (ends [])) ss (subst (λ o. IfSome o (λ ss. AreSteps (part_template p (ends [])) ss)) is made)
+
+  pub held_part_bounds : MembersInBounds p → TemplateInBounds (template_of ps)
+  held_part_bounds h = part_bounds p ps part_steps h
+
+  pub held_part_within : (at n : ℕ) → at + members_width p ≤ n → at + template_width (template_of ps) ≤ n
+  held_part_within at n h = omega (arith, h, part_width p ps part_steps)
+
+  pub held_part_put : (b old new : List ℕ) → new ≡ old ++ printed (template_of ps) b → Puts after_spaces (part_onto p (members_value p b)) old new
+  held_part_put b old new e = part_put p ps b old new part_steps e
+
+pub ruleset held = (held_bounds, held_within, held_put)
+
+pub ruleset held_part = (held_part_bounds, held_part_within, held_part_put)

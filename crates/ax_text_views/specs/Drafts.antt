@@ -1,0 +1,12 @@
+-- Templates as they are put together.
+use Rattle.std.specs.Prelude.{◌≡◌, take}
+use Rattle.ax_text_views.specs.Templates.{Template, before, steps_then}
+use Rattle.ax_text_views.specs.declared.templates.Draft.{Draft}
+
+-- with that template after what is drafted
+abbrev pub drafted : Draft → Template → Template
+drafted draft r = steps_then draft.steps (before (take draft.literal.count draft.literal.octets) r)
+
+-- so much was appended
+pub record Adds (f : Template → Template) (old new : Draft) : Type 0 where
+  pub add : (r : Template) → drafted new r ≡ drafted old (f r)

@@ -1,0 +1,181 @@
+//! Templates made of kinds.
+ghost use Rattle.std.specs.Prelude.{◌≡◌, [], IfOk, IfSome, OnOk};
+ghost use Rattle.std.proofs.Props.{props};
+ghost use Rattle.ax_model.specs.Lengths.{capped};
+ghost use Rattle.ax_model.specs.Plain.{fixed_tree, member_tree, members_tree, part_tree};
+ghost use Rattle.ax_model.specs.Widths as Widths;
+ghost use Rattle.ax_text_views.specs.Drafts.{Adds};
+ghost use Rattle.ax_text_views.specs.Templates.{AreSteps, ends, fixed_template, member_template, members_template, part_template, template_of};
+
+use crate::templates::{Draft, Steps};
+use ax_model::{Fixed, Member, Members, Part};
+use std::alloc::{AllocError, Global};
+
+#[cycle(add_fixed)]
+#[tactic(auto, using(crate::proofs::DraftPieces::groups))]
+fn add_fixed(draft: &mut Draft, fixed: &Fixed) -> Result<(), AllocError>
+    ensures { OnOk result (Adds (fixed_template (fixed_tree fixed.now)) draft.old draft.new) }
+{
+    match fixed {
+        Fixed::Element { width, .. } => draft.number(*width),
+        Fixed::Group(members) => {
+            draft.text(b"{")?;
+            add_members(draft, members)?;
+            draft.text(b"}")?;
+            Ok(())
+        }
+    }
+}
+
+#[cycle(add_fixed)]
+#[tactic(auto, using(crate::proofs::DraftPieces::members))]
+fn add_members(draft: &mut Draft, members: &Members) -> Result<(), AllocError>
+    ensures { OnOk result (Adds (members_template (members_tree members.now)) draft.old draft.new) }
+{
+    for member in members.as_slice() {
+        add_member(draft, member)?;
+    }
+    Ok(())
+}
+
+#[cycle(add_fixed)]
+#[tactic(auto, using(crate::proofs::DraftPieces::of_member))]
+fn add_member(draft: &mut Draft, member: &Member) -> Result<(), AllocError>
+    ensures { OnOk result (Adds (member_template (member_tree member.now)) draft.old draft.new) }
+{
+    match member {
+        Member::Named { name, fixed } => {
+            draft.text(name.octets())?;
+            add_fixed(draft, fixed)?;
+            Ok(())
+        }
+        Member::Spare { width } => {
+            draft.text(b"spare")?;
+            draft.number(*width)?;
+            Ok(())
+        }
+    }
+}
+
+#[tactic(auto, using(crate::proofs::DraftPieces::of_part))]
+fn add_part(draft: &mut Draft, part: &Part) -> Result<(), AllocError>
+    ensures { OnOk result (Adds (part_template (part_tree part.now)) draft.old draft.new) }
+{
+    draft.text(b"part")?;
+    draft.text(b"{")?;
+    add_members(draft, &part.members)?;
+    draft.text(b"}")?;
+    Ok(())
+}
+
+/// The steps of a fixed kind, at most so many. Err is want of memory, or more steps.
+#[tactic(auto, using(crate::proofs::DraftPieces::whole))]
+fn steps_of_fixed(alloc: Global, fixed: &Fixed, most: u32) -> Result<Steps, AllocError>
+    ensures { IfOk result (λ steps. template_of steps ≡ fixed_template (fixed_tree fixed.now) (ends [])) }
+{
+    let mut draft = Draft::new(alloc, most);
+    add_fixed(&mut draft, fixed)?;
+    let steps = draft.steps(alloc)?;
+    Ok(steps)
+}
+
+/// The same, or none.
+#[tactic(auto, using(crate::proofs::TemplateTexts::found))]
+fn some_steps_of_fixed(alloc: Global, fixed: &Fixed, most: u32) -> Option<Steps>
+    ensures { IfSome result (λ steps. AreSteps (fixed_template (fixed_tree fixed.now) (ends [])) steps) }
+{
+    match steps_of_fixed(alloc, fixed, most) {
+        Ok(steps) => Some(steps),
+        Err(_) => None,
+    }
+}
+
+/// The steps of a part, at most so many. Err is want of memory, or more steps.
+#[tactic(auto, using(crate::proofs::DraftPieces::whole))]
+fn steps_of_part(alloc: Global, part: &Part, most: u32) -> Result<Steps, AllocError>
+    ensures { IfOk result (λ steps. template_of steps ≡ part_template (part_tree part.now) (ends [])) }
+{
+    let mut draft = Draft::new(alloc, most);
+    add_part(&mut draft, part)?;
+    let steps = draft.steps(alloc)?;
+    Ok(steps)
+}
+
+/// The same, or none.
+#[tactic(auto, using(crate::proofs::TemplateTexts::found))]
+fn some_steps_of_part(alloc: Global, part: &Part, most: u32) -> Option<Steps>
+    ensures { IfSome result (λ steps. AreSteps (part_template (part_tree part.now) (ends [])) steps) }
+{
+    match steps_of_part(alloc, part, most) {
+        Ok(steps) => Some(steps),
+        Err(_) => None,
+    }
+}
+
+/// How many steps of templates may still be made.
+#[derive(Drop)]
+pub struct StepsLeft {
+    steps: u32,
+}
+
+impl StepsLeft {
+    /// All of them: some 4 MB.
+    pub fn all() -> StepsLeft {
+        StepsLeft { steps: 80_000 }
+    }
+
+    /// Takes those off that were made.
+    fn take(&mut self, made: &Option<Steps>) {
+        if let Some(made) = made {
+            self.steps = self.steps.saturating_sub(made.count());
+        }
+    }
+}
+
+/// A fixed kind, with its width, and its template where that was made.
+#[derive(Drop)]
+pub(crate) struct TextFixed<'s> {
+    pub(crate) fixed: &'s Fixed,
+    pub(crate) width: u64,
+    pub(crate) steps: Option<Steps>,
+    ghost wide: { width ≡ capped (Widths.width (fixed_tree fixed.now)) },
+    ghost made: { IfSome steps (λ steps. AreSteps (fixed_template (fixed_tree fixed.now) (ends [])) steps) } by { Prim.hlevel props },
+}
+
+impl<'s> TextFixed<'s> {
+    pub(crate) fn of(alloc: Global, left: &mut StepsLeft, fixed: &'s Fixed) -> TextFixed<'s>
+        ensures { result.fixed.now ≡ fixed.now }
+    {
+        let steps = some_steps_of_fixed(alloc, fixed, left.steps);
+        left.take(&steps);
+        TextFixed {
+            fixed,
+            width: fixed.width(),
+            steps,
+        }
+    }
+}
+
+/// A part of an extended item, with its width without the FX bit, and its template where that was made.
+#[derive(Drop)]
+pub(crate) struct TextPart<'s> {
+    pub(crate) part: &'s Part,
+    pub(crate) width: u64,
+    pub(crate) steps: Option<Steps>,
+    ghost wide: { width ≡ capped (Widths.members_width (part_tree part.now)) },
+    ghost made: { IfSome steps (λ steps. AreSteps (part_template (part_tree part.now) (ends [])) steps) } by { Prim.hlevel props },
+}
+
+impl<'s> TextPart<'s> {
+    pub(crate) fn of(alloc: Global, left: &mut StepsLeft, part: &'s Part) -> TextPart<'s>
+        ensures { result.part.now ≡ part.now }
+    {
+        let steps = some_steps_of_part(alloc, part, left.steps);
+        left.take(&steps);
+        TextPart {
+            part,
+            width: part.width(),
+            steps,
+        }
+    }
+}

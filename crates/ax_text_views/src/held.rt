@@ -1,0 +1,50 @@
+//! Kinds as `text` holds them: each fixed kind and each part with its template.
+ghost use Rattle.ax_text_views.specs.HeldText.{text_slot};
+
+use crate::drafting::{TextFixed, TextPart};
+use ax_held_kinds::PresenceSlot;
+use ax_lists::Sequence;
+use ax_model::{Counter, LastPart, Name};
+
+/// The parts of an extended item, in order.
+pub(crate) type TextParts<'s> = Sequence<TextPart<'s>>;
+
+/// The slots of a compound or of a UAP, in order; the first is slot 1.
+pub(crate) type TextSlots<'s> = Sequence<TextSlot<'s>>;
+
+/// The kind of an item, a subitem or a counted body.
+#[cycle(kind)]
+#[derive(Drop)]
+pub(crate) enum TextKind<'s> {
+    Fixed(TextFixed<'s>),
+    Extended {
+        last: LastPart,
+        parts: TextParts<'s>,
+    },
+    Counted {
+        counter: Counter,
+        inner: Box<TextKind<'s>>,
+    },
+    ByFx(TextFixed<'s>),
+    Explicit,
+    Compound(TextSlots<'s>),
+}
+
+/// A slot of a compound or of a UAP.
+#[cycle(kind)]
+#[derive(Drop)]
+pub(crate) enum TextSlot<'s> {
+    Spare,
+    Sub { name: Name, kind: TextKind<'s> },
+}
+
+impl<'s> PresenceSlot for TextSlot<'s> {
+    ghost tree = { λ slot. text_slot slot };
+
+    fn is_sub(&self) -> bool {
+        match self {
+            TextSlot::Spare => false,
+            TextSlot::Sub { .. } => true,
+        }
+    }
+}

@@ -1,0 +1,135 @@
+//! Templates of runs of bits: the octets that are known of the kind, and the widths of the numbers between them, put together
+//! once.
+ghost use Rattle.std.specs.Prelude.{◌≡◌, ◌+◌, ◌<◌, ◌≤◌, [], ◌∷◌, Some, None, length, take, IfOk, OnOk};
+ghost use Rattle.ax_text_views.specs.Drafts.{Adds, drafted};
+ghost use Rattle.ax_text_views.specs.Templates as Templates;
+ghost use Rattle.ax_text_views.specs.Templates.{before, number_then, text_then, template_of, steps_then, with_number};
+
+use crate::literal::{LITERAL_ROOM, Literal};
+use crate::room::put_octet;
+use ax_lists::Sequence;
+use std::alloc::{AllocError, Global};
+
+/// Octets that are printed as they are, and a number that is printed after them.
+#[derive(Clone, Copy)]
+pub(crate) struct Step {
+    pub(crate) literal: Literal,
+    /// The bits of the number. None where only octets follow, or nothing does.
+    pub(crate) number: Option<u32>,
+}
+
+/// The steps of a template, in order.
+pub(crate) type Steps = Sequence<Step>;
+
+/// A template as it is put together: its steps so far, and the octets after them.
+#[derive(Drop)]
+pub(crate) struct Draft {
+    steps: Steps,
+    literal: Literal,
+    /// How many steps it may have.
+    most: u32,
+}
+
+impl Draft {
+    /// One with nothing in it, which may have so many steps.
+    #[tactic(auto, using(crate::proofs::DraftPieces::begun))]
+    pub(crate) fn new(alloc: Global, most: u32) -> Draft
+        ensures { (r : Templates.Template) → drafted result r ≡ r }
+    {
+        Draft {
+            steps: Steps::new(alloc),
+            literal: Literal {
+                octets: [0; 32],
+                count: 0,
+            },
+            most,
+        }
+    }
+
+    /// Makes a step of the octets after the steps, with a number after them or with none. Err is want of memory, or a step more
+    /// than it may have.
+    fn push_step(&mut self, number: Option<u32>) -> Result<(), AllocError>
+        ensures step { OnOk result ((r : Templates.Template) → steps_then self.new.steps r ≡ steps_then self.old.steps (with_number (take self.old.literal.count self.old.literal.octets) number r)) }
+        ensures count { OnOk result (self.new.literal.count ≡ 0) }
+    {
+        if self.steps.count() >= self.most {
+            return Err(AllocError);
+        }
+        let step = Step {
+            literal: self.literal,
+            number,
+        };
+        self.steps.push(step)?;
+        self.literal.count = 0;
+        Ok(())
+    }
+
+    /// Sees to room for an octet.
+    #[tactic(auto, using(crate::proofs::DraftPieces::same))]
+    fn make_room(&mut self) -> Result<(), AllocError>
+        ensures same { OnOk result (Adds (λ r. r) self.old self.new) }
+        ensures room { OnOk result (self.new.literal.count < 32) }
+    {
+        if self.literal.count < LITERAL_ROOM {
+            return Ok(());
+        }
+        self.push_step(None)?;
+        Ok(())
+    }
+
+    #[tactic(auto, using(crate::proofs::DraftPieces::octets))]
+    fn octet(&mut self, octet: u8) -> Result<(), AllocError>
+        ensures { OnOk result (Adds (before (octet ∷ [])) self.old self.new) }
+    {
+        self.make_room()?;
+        let octets: &mut [u8] = &mut self.literal.octets;
+        put_octet(octets, self.literal.count, octet);
+        self.literal.count += 1;
+        Ok(())
+    }
+
+    /// Appends a text after a space.
+    #[tactic(auto, using(crate::proofs::DraftPieces::texts))]
+    pub(crate) fn text(&mut self, text: &[u8]) -> Result<(), AllocError>
+        ensures { OnOk result (Adds (text_then text.now) self.old self.new) }
+    {
+        self.octet(b' ')?;
+        for octet in text {
+            self.octet(*octet)?;
+        }
+        Ok(())
+    }
+
+    /// Appends a number of so many bits after a space.
+    #[tactic(auto, using(crate::proofs::DraftPieces::numbers))]
+    pub(crate) fn number(&mut self, width: u32) -> Result<(), AllocError>
+        ensures { OnOk result (Adds (number_then width) self.old self.new) }
+    {
+        self.octet(b' ')?;
+        self.push_step(Some(width))?;
+        Ok(())
+    }
+
+    /// Makes a step of the octets at the end, where there are any.
+    #[tactic(auto, using(crate::proofs::DraftPieces::ends_ways))]
+    fn end(&mut self) -> Result<(), AllocError>
+        ensures { OnOk result (template_of self.new.steps ≡ drafted self.old (Templates.ends [])) }
+    {
+        if self.literal.count == 0 {
+            return Ok(());
+        }
+        self.push_step(None)?;
+        Ok(())
+    }
+
+    /// The steps, with no room for others.
+    #[tactic(auto, using(crate::proofs::DraftPieces::ends_ways))]
+    pub(crate) fn steps(self, alloc: Global) -> Result<Steps, AllocError>
+        ensures { IfOk result (λ steps. template_of steps ≡ drafted self (Templates.ends [])) }
+    {
+        let mut draft = self;
+        draft.end()?;
+        let steps = draft.steps.copy(alloc)?;
+        Ok(steps)
+    }
+}

@@ -194,6 +194,12 @@ def slots():
             of_compounds,
             data(all_marked + b"\0" * 126, 1_000_000),
         ),
+        Case(
+            "126 compounds of 126 slots, the last of each marked",
+            ("text", "show", "build"),
+            of_compounds,
+            data(all_marked + (b"\1" * 17 + b"\2\7") * 126, 2_000_000),
+        ),
         Case("a UAP of 126 items, slot 1 alone", ("text", "build"), fields, data(b"\x80\7", 1_000_000)),
         Case("a UAP of 126 items, slot 126 alone", ("text", "build"), fields, data(b"\1" * 17 + b"\2\7", 1_000_000)),
         Case(

@@ -9,7 +9,7 @@ use Rattle.ax_bits.specs.Out.{Appends, room, written}
 use Rattle.ax_bits.specs.declared.output.Out.{Out}
 use Rattle.ax_canon.proofs.BodyWriting.{gets_of}
 use Rattle.ax_canon.proofs.Patching.{IsBlock, block_of}
-use Rattle.ax_canon.specs.Kept.{Says, Keeps, KeepsOf, IsCanonicalIf, are_some, front_if, block_if, room_for, KeptWritten, IsKeptBody, HasLength}
+use Rattle.ax_canon.specs.Kept.{Says, Keeps, KeepsOf, IsCanonicalIf, StartsRecord, at_front, after_one, are_some, front_if, block_if, room_for, KeptWritten, IsKeptBody, HasLength}
 use Rattle.ax_canon.specs.Rewriting.{Rewrites}
 use Rattle.ax_model.proofs.Bounds.{record_bounds}
 use Rattle.ax_model.proofs.CanonSpells.{canon_shortest}
@@ -138,6 +138,7 @@ pub record RecordsKept (call : RecordView → Bool → Type 0) (codec : Codec) (
 pub record BodyKeeps (call : RecordView → Bool → Type 0) (codec : Codec) (body : List ℕ) (from at : ℕ) (some : Bool) (old now : Out) : Type 0 where
   pub before : from ≤ at
   pub within : at ≤ length body
+  pub starts : StartsRecord codec body at
   pub room : room_for some (8 * (length body - from)) ≤ room now
   pub b : List ℕ
   pub none : some ≡ false → b ≡ []
@@ -150,6 +151,7 @@ kept_first call codec body old free =
     let none : Pends old old (bits (run body 0 0)) [] = record { front = []; appends = appends_none old; whole = sym (no_run body 0) } in record {
       before = omega arith;
       within = omega arith;
+      starts = at_front;
       room = omega (arith, free);
       b = [];
       none = λ _. refl;
@@ -219,6 +221,7 @@ module _ (call : RecordView → Bool → Type 0) (codec : Codec) (body : List �
     keeps_left says = record {
       before = omega arith;
       within = r.read.within;
+      starts = after_one at end view.body.now h.starts r;
       room = room_skipped some h.room;
       b = h.b;
       none = h.none;
@@ -276,6 +279,7 @@ module _ (call : RecordView → Bool → Type 0) (codec : Codec) (body : List �
       keeps_by says = record {
         before = before;
         within = r.read.within;
+        starts = after_one at end view.body.now h.starts r;
         room = free;
         b = h.b ++ canon_in codec view.body.now;
         none = λ e. absurd (let no : true ≡ false = e in cc);

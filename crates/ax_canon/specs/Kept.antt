@@ -1,5 +1,6 @@
 -- Records that are kept, and the canonical block of them.
 use Rattle.std.specs.Prelude.{◌≡◌, ℕ, ◌/◌, ◌%◌, ◌+◌, ◌⊎◌, Bool, true, false, List, [], ◌∷◌, ◌++◌, length}
+use Rattle.std.specs.Borrow.{Bor}
 use Rattle.ax_bits.specs.Bits.{bits, word}
 use Rattle.ax_bits.specs.Out.{Appends, Replaces}
 use Rattle.ax_bits.specs.declared.output.Out.{Out}
@@ -11,7 +12,29 @@ use Rattle.ax_model.specs.Specification.{SpecTree}
 use Rattle.ax_model.specs.Tree.{EntriesTree}
 use Rattle.ax_tables.specs.Standing.{StandsFor}
 use Rattle.ax_tables.specs.declared.codec.Codec.{Codec}
+use Rattle.ax_view.specs.RecordsAt.{IsRecordAt}
 use Rattle.ax_view.specs.declared.record.RecordView.{RecordView}
+
+-- ---- which records are asked of
+
+-- records follow one another from the front of the body to this octet
+pub data StartsRecord (codec : Codec) (body : List ℕ) : ℕ → Type 0 where
+  at_front : StartsRecord codec body 0
+  after_one : (at end : ℕ) (octets : List ℕ) → StartsRecord codec body at → IsRecordAt codec body at end octets → StartsRecord codec body end
+
+-- it is the view of one of the body's records
+pub record IsOwnRecord (codec : Codec) (body : List ℕ) (one : RecordView) : Type 0 where
+  pub under : one.codec.now ≡ codec
+  pub at : ℕ
+  pub end : ℕ
+  pub starts : StartsRecord codec body at
+  pub is : IsRecordAt codec body at end one.body.now
+
+-- a call may be made on each of them
+abbrev pub MayAskEach : (Bor RecordView → Type 0) → Codec → List ℕ → Type 0
+MayAskEach may codec body = (one : Bor RecordView) → IsOwnRecord codec body one.now → may one
+
+-- ---- what is kept
 
 -- a call on a view of the record under that codec gives this answer
 pub record Says (call : RecordView → Bool → Type 0) (codec : Codec) (spec : SpecTree) (entries : EntriesTree) (answer : Bool) : Type 0 where

@@ -1,6 +1,5 @@
 //! The same blocks as views: their length, their octets and their losses, one after the other.
 ghost use Rattle.std.specs.Prelude.{◌≡◌};
-ghost use Rattle.ax_migrate_views.specs.Blocks.{IsOfEditions};
 ghost use Rattle.ax_relation.specs.Relates.{Relates};
 
 use crate::edition_fixtures::{Edition, accepted, report_of, same};
@@ -29,7 +28,6 @@ fn loses(
     lines: &str,
     of: &str,
 )
-    requires editions { IsOfEditions migrator.now }
     requires view { view.now.codec.now ≡ migrator.now.codec.now }
 {
     let mut report = report_of(rt, alloc);
@@ -47,7 +45,6 @@ fn becomes(
     made: &[u8],
     of: &str,
 )
-    requires editions { IsOfEditions migrator.now }
     requires view { view.now.codec.now ≡ migrator.now.codec.now }
 {
     let octets = migrator.length(view) as usize;
@@ -59,9 +56,7 @@ fn becomes(
 }
 
 /// Asserts both of the view of a block.
-fn is_migrated(rt: &impl Abort, alloc: Global, migrator: &Migrator<'_>, row: (&str, &str, &str))
-    requires editions { IsOfEditions migrator.now }
-{
+fn is_migrated(rt: &impl Abort, alloc: Global, migrator: &Migrator<'_>, row: (&str, &str, &str)) {
     let (input, made, lines) = row;
     let octets = octets_of(rt, alloc, input);
     let raw = raw_of(rt, &octets, input);

@@ -1,6 +1,5 @@
 //! Some of the records of a view in another edition: as many as come into one block, and the block of some.
 ghost use Rattle.std.specs.Prelude.{◌≡◌, ◌+◌};
-ghost use Rattle.ax_migrate_views.specs.Blocks.{IsOfEditions};
 ghost use Rattle.ax_migrate_views.specs.Ranges.{HasRecords};
 ghost use Rattle.ax_relation.specs.Relates.{Relates};
 
@@ -219,7 +218,6 @@ fn has_records(
     from: u32,
     count: u32,
 )
-    requires editions { IsOfEditions migrator.now }
     requires view { view.now.codec.now ≡ migrator.now.codec.now }
     ensures { HasRecords migrator.now view.now.body.now (from + count) }
 {
@@ -234,7 +232,6 @@ fn has_records(
 
 /// Asserts that as many of the records of a view as wanted come into one block, from one of them on.
 fn fits_as(rt: &impl Abort, migrator: &Migrator<'_>, view: &BlockView<'_, '_>, from: u32, want: Fit)
-    requires editions { IsOfEditions migrator.now }
     requires view { view.now.codec.now ≡ migrator.now.codec.now }
 {
     has_records(rt, migrator, view, from, 1);
@@ -251,7 +248,6 @@ fn becomes(
     count: u32,
     made: &[u8],
 )
-    requires editions { IsOfEditions migrator.now }
     requires view { view.now.codec.now ≡ migrator.now.codec.now }
 {
     has_records(rt, migrator, view, from, count);
@@ -280,7 +276,6 @@ fn view_answers(
     from: u32,
     asked: Asked,
 )
-    requires editions { IsOfEditions migrator.now }
     requires view { view.now.codec.now ≡ migrator.now.codec.now }
 {
     match asked {
@@ -293,9 +288,12 @@ fn view_answers(
 }
 
 /// Asserts what the view of a block answers.
-fn block_answers(rt: &impl Abort, alloc: Global, migrator: &Migrator<'_>, row: (Shape, u32, Asked))
-    requires editions { IsOfEditions migrator.now }
-{
+fn block_answers(
+    rt: &impl Abort,
+    alloc: Global,
+    migrator: &Migrator<'_>,
+    row: (Shape, u32, Asked),
+) {
     let (shape, from, asked) = row;
     let octets = block_of(rt, alloc, shape);
     let raw = raw_of(rt, &octets, shape.0);

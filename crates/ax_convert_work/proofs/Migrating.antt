@@ -10,7 +10,7 @@ use Rattle.ax_edition_laws.proofs.Once.{moved_migrated}
 use Rattle.ax_edition_laws.proofs.SmallBlocks.{migrated_is_small}
 use Rattle.ax_edition_laws.specs.Moved.{moved_record}
 use Rattle.ax_migrate.specs.Losing.{loss, losses_from, lost_line, lost_lines}
-use Rattle.ax_migrate_views.specs.Blocks.{IsOfEditions, old_tree, new_tree}
+use Rattle.ax_migrate_views.specs.Blocks.{old_tree, new_tree}
 use Rattle.ax_migrate_views.specs.declared.migrator.Migrator.{Migrator}
 use Rattle.ax_migrate_work.specs.Commands as Migrate
 use Rattle.ax_migrate_work.specs.Commands.{migrate_command}
@@ -183,10 +183,10 @@ module _ (old new : SpecTree) (raw : RawTree) (tells : TellsMayConvert old new r
     }
 
 -- by the work of `migrate`, and by trees
-pub view_taken : (m : Migrator) (may : Bool) (c : BlockCommand) (number : ℕ) (raw : RawTree) (o r : SinkChange) (result : Result Unit WorkStop) → IsOfEditions m → TellsMayConvert (old_tree m) (new_tree m) raw may → may ≡ false → c ≡ migrate_command (old_tree m) (new_tree m) → Takes c number raw o r result
+pub view_taken : (m : Migrator) (may : Bool) (c : BlockCommand) (number : ℕ) (raw : RawTree) (o r : SinkChange) (result : Result Unit WorkStop) → TellsMayConvert (old_tree m) (new_tree m) raw may → may ≡ false → c ≡ migrate_command (old_tree m) (new_tree m) → Takes c number raw o r result
     → Takes (convert_command (old_tree m) (new_tree m)) number raw o r result
-view_taken m may c number raw o r result of tells still is t =
-    takes_same (old_tree m) (new_tree m) raw (subst (TellsMayConvert (old_tree m) (new_tree m) raw) still tells) of.related.old_no_flaw of.related.new_no_flaw number o r result (subst (λ (d : BlockCommand). Takes d number raw o r result) is t)
+view_taken m may c number raw o r result tells still is t =
+    takes_same (old_tree m) (new_tree m) raw (subst (TellsMayConvert (old_tree m) (new_tree m) raw) still tells) m.editions.related.old_no_flaw m.editions.related.new_no_flaw number o r result (subst (λ (d : BlockCommand). Takes d number raw o r result) is t)
 
 pub tree_taken : (m : Migrator) (c : BlockCommand) (number : ℕ) (raw : RawTree) (o r : SinkChange) (result : Result Unit WorkStop) → c ≡ convert_command (old_tree m) (new_tree m) → Takes c number raw o r result
     → Takes (convert_command (old_tree m) (new_tree m)) number raw o r result

@@ -5,7 +5,7 @@ use Rattle.ax_bits.specs.Bits.{bits}
 use Rattle.ax_convert_work.proofs.Migrating.{each_block}
 use Rattle.ax_convert_work.specs.Standing.{MayConvert, SomeStands, TellsMayConvert}
 use Rattle.ax_edition_laws.proofs.Lookups.{equal}
-use Rattle.ax_migrate_views.specs.Blocks.{IsOfEditions, old_tree, new_tree}
+use Rattle.ax_migrate_views.specs.Blocks.{old_tree, new_tree}
 use Rattle.ax_migrate_views.specs.declared.migrator.Migrator.{Migrator}
 use Rattle.ax_model.proofs.Once.{body_never_both}
 use Rattle.ax_model.specs.Blocks.{BlockTree, read_block, opaque_block}
@@ -58,19 +58,19 @@ module _ (m : Migrator) (raw : RawTree) (slots : List ℕ) (are : slots ≡ conv
       by (read_block category records) h = absurd (other (read_spells (old_tree m) raw category records h).0)
       by (opaque_block category content) h = refl
 
-  module _ (of : IsOfEditions m) (own : raw.category ≡ (old_tree m).category) where
+  module _ (own : raw.category ≡ (old_tree m).category) where
     pub tells_view : (some : Bool) → SomeStands slots m.codec.now raw.body some → TellsMayConvert (old_tree m) (new_tree m) raw some
     tells_view some t = record { told = by }
       where
         by : (block : BlockTree) → RawSpells (old_tree m ∷ []) raw block → some ≡ MayConvert (old_tree m) (new_tree m) block
-        by (read_block category records) h = t.told (old_tree m) records of.compiled.clean of.compiled.stands (read_spells (old_tree m) raw category records h).1 ∙ ap (λ ss. some_stands ss records) are
+        by (read_block category records) h = t.told (old_tree m) records m.editions.compiled.clean m.editions.compiled.stands (read_spells (old_tree m) raw category records h).1 ∙ ap (λ ss. some_stands ss records) are
         by (opaque_block category content) h = absurd (opaque_other (old_tree m) raw category content h own)
 
     pub tells_fault : (may : Bool) (fault : BodyFault) → FailsThere m.codec.now raw.body fault → TellsMayConvert (old_tree m) (new_tree m) raw may
     tells_fault may fault f = record { told = by }
       where
         by : (block : BlockTree) → RawSpells (old_tree m ∷ []) raw block → may ≡ MayConvert (old_tree m) (new_tree m) block
-        by (read_block category records) h = absurd (body_never_both (old_tree m) (bits raw.body) records fault.bit fault.cause (read_spells (old_tree m) raw category records h).1 (f.fails (old_tree m) of.compiled.clean of.compiled.stands))
+        by (read_block category records) h = absurd (body_never_both (old_tree m) (bits raw.body) records fault.bit fault.cause (read_spells (old_tree m) raw category records h).1 (f.fails (old_tree m) m.editions.compiled.clean m.editions.compiled.stands))
         by (opaque_block category content) h = absurd (opaque_other (old_tree m) raw category content h own)
 
 pub ruleset tells = (tells_none, tells_other, tells_view, tells_fault)

@@ -3,7 +3,7 @@ ghost use Rattle.std.specs.Prelude.{◌≡◌, false, IfOk};
 ghost use Rattle.ax_blocks.specs.Reader.{raw_tree};
 ghost use Rattle.ax_convert_work.specs.ConvertCommand.{convert_command};
 ghost use Rattle.ax_convert_work.specs.Standing.{TellsMayConvert};
-ghost use Rattle.ax_migrate_views.specs.Blocks.{IsOfEditions, new_tree, old_tree};
+ghost use Rattle.ax_migrate_views.specs.Blocks.{new_tree, old_tree};
 ghost use Rattle.ax_model.specs.Plain.{spec_tree};
 ghost use Rattle.ax_relation.specs.Relates.{Relates};
 ghost use Rattle.ax_rescale.specs.Converts.{converting_slots};
@@ -41,7 +41,6 @@ impl<'m, 'c> ConvertBlocks<'m, 'c> {
         migrator: &'m Migrator<'c>,
     ) -> Result<ConvertBlocks<'m, 'c>, AllocError>
         requires related { Relates old.now new.now relation.now }
-        requires editions { IsOfEditions migrator.now }
         requires old { old_tree migrator.now ≡ spec_tree old.now }
         requires new { new_tree migrator.now ≡ spec_tree new.now }
         ensures command { IfOk result (λ work. ⟦<ConvertBlocks<'m, 'c> as BlockWork>⟧.command work ≡ convert_command (old_tree migrator.now) (new_tree migrator.now)) }
@@ -61,7 +60,6 @@ impl<'m, 'c> ConvertBlocks<'m, 'c> {
     /// Whether something in the block may be converted. Nothing is said of a block whose body has a fault.
     #[tactic(auto, using(crate::proofs::ToldBlocks::tells))]
     fn may_convert(&self, raw: &RawBlock<'_>) -> bool
-        requires editions { IsOfEditions self.now.migrator.now }
         requires slots { self.now.slots.items ≡ converting_slots (old_tree self.now.migrator.now) (new_tree self.now.migrator.now) }
         ensures { TellsMayConvert (old_tree self.now.migrator.now) (new_tree self.now.migrator.now) (raw_tree raw.now) result }
     {
@@ -85,7 +83,7 @@ impl<'m, 'c> BlockWork for ConvertBlocks<'m, 'c> {
 
     ghost command = { λ s. convert_command (old_tree s.migrator.now) (new_tree s.migrator.now) };
 
-    ghost sound = { λ s. IsOfEditions s.migrator.now × (s.slots.items ≡ converting_slots (old_tree s.migrator.now) (new_tree s.migrator.now))
+    ghost sound = { λ s. (s.slots.items ≡ converting_slots (old_tree s.migrator.now) (new_tree s.migrator.now))
         × ⟦<MigrateViews<'m, 'c> as BlockWork>⟧.sound s.views × (⟦<MigrateViews<'m, 'c> as BlockWork>⟧.command s.views ≡ migrate_command (old_tree s.migrator.now) (new_tree s.migrator.now))
         × ⟦<ConvertTrees<'c> as BlockWork>⟧.sound s.trees × (⟦<ConvertTrees<'c> as BlockWork>⟧.command s.trees ≡ convert_command (old_tree s.migrator.now) (new_tree s.migrator.now)) };
 

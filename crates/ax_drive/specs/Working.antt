@@ -9,7 +9,7 @@ use Rattle.ax_drive.specs.declared.work.BlocksWork.TheVariants as WorkOf
 use Rattle.ax_drive.specs.declared.work.Work.{Work}
 use Rattle.ax_filter.specs.OfCode.{catalogue_of, expression}
 use Rattle.ax_filter_work.specs.FilterCommand.{filter_command}
-use Rattle.ax_migrate_views.specs.Blocks.{IsOfEditions, new_tree, old_tree}
+use Rattle.ax_migrate_views.specs.Blocks.{new_tree, old_tree}
 use Rattle.ax_migrate_work.specs.Commands.{migrate_command}
 use Rattle.ax_model.specs.Blocks.{BlockTree}
 use Rattle.ax_model.specs.Plain.{catalogue_tree}
@@ -26,11 +26,11 @@ job_command (JobOf.Canon catalogue codecs) = canon_command (catalogue_tree catal
 job_command (JobOf.Filter codecs filter) = filter_command (expression filter.now) (catalogue_of filter.now)
 job_command (JobOf.Migrate migrator) = migrate_command (old_tree migrator.now) (new_tree migrator.now)
 
--- its codecs are those of its catalogue, or of its filter's; its migrator is of two editions
+-- its codecs are those of its catalogue, or of its filter's; a migrator is of its two editions by its type
 abbrev pub IsSoundJob : Job → Type 0
 IsSoundJob (JobOf.Canon catalogue codecs) = StandForEach codecs.now.codecs (catalogue_tree catalogue.now)
 IsSoundJob (JobOf.Filter codecs filter) = StandForEach codecs.now.codecs (catalogue_of filter.now)
-IsSoundJob (JobOf.Migrate migrator) = IsOfEditions migrator.now
+IsSoundJob (JobOf.Migrate migrator) = Unit {0}
 
 -- ---- a work
 
@@ -42,7 +42,7 @@ blocks_command (WorkOf.Migrate one) = migrate_command (old_tree one.migrator.now
 abbrev pub IsSound : BlocksWork → Type 0
 IsSound (WorkOf.Canon one) = StandForEach one.codecs.now.codecs (catalogue_tree one.catalogue.now)
 IsSound (WorkOf.Filter one) = StandForEach one.codecs.now.codecs (catalogue_of one.filter.now)
-IsSound (WorkOf.Migrate one) = IsOfEditions one.migrator.now
+IsSound (WorkOf.Migrate one) = Unit {0}
 
 -- what it does with each block
 abbrev pub work_command : Work → BlockCommand

@@ -5,7 +5,8 @@ use Rattle.ax_lines.specs.Reader.{ReaderState, IsOpen, OnTold, ShowsLine, read_a
 use Rattle.ax_lines.specs.declared.reader.Ended.{Ended}
 use Rattle.ax_lines.specs.declared.reader.Ended.TheVariants.{EndOfInput}
 use Rattle.ax_line_stream.proofs.Begins.{begins_snoc, begins_end, left_of_ahead, IsPartOf, part_of_taken, left_of_part, none_left}
-use Rattle.ax_line_stream.proofs.Results.{output_snoc, results_snoc, feeds_snoc, answered_snoc, length_snoc, both, gains_both, gains_on, gains_part}
+use Rattle.ax_line_stream.proofs.Results.{output_snoc, results_snoc, feeds_snoc, answered_snoc, length_snoc}
+use Rattle.ax_outside.proofs.Gains.{both, gains_both, gains_on, gains_part}
 use Rattle.ax_line_stream.specs.Commands.{LineCommand, LineAnswer, gives, refused, octets_in, results_in, output_of, results_of}
 use Rattle.ax_line_stream.specs.Ending.{lines_end}
 use Rattle.ax_line_stream.specs.Runs as RunOf

@@ -1,13 +1,10 @@
--- The answers to lines, one line after another, and what a sink gains by them.
-use Rattle.std.proofs.Common.{◌≡◌, ℕ, suc, ◌+◌, List, [], ◌∷◌, ◌++◌, Option, length, take, sum_by, sym, ◌∙◌, ap, subst, arith, append_assoc, append-nil}
+-- The answers to lines, one line after another.
+use Rattle.std.proofs.Common.{◌≡◌, ℕ, suc, ◌+◌, List, [], ◌∷◌, ◌++◌, length, sum_by, sym, ◌∙◌, ap, subst, arith, append_assoc, append-nil}
 use Rattle.std.proofs.lemmas.List.Concat.{flat_map-append}
 use Rattle.std.proofs.lemmas.List.Sums.{sum_by-append, sum_by-cons}
 use Rattle.std.specs.List.{AllByRecursion}
 use Rattle.ax_line_stream.specs.Commands.{LineCommand, LineAnswer, octets_in, results_in, IsAnswered, output_of, results_of, AreAnswersFrom, AreAnswered}
 use Rattle.ax_line_stream.specs.Runs.{with_feeds}
-use Rattle.ax_outside.proofs.Ends.{with_end-nil, with_end-append}
-use Rattle.ax_outside.specs.Changes.{SinkChange, Gains, GainsNothing, GainsPart, GainsWithPart}
-use Rattle.ax_outside.specs.Told.{with_end}
 
 later_number : (n k : ℕ) → n + 1 + k ≡ n + suc k
 later_number n k = omega arith
@@ -50,25 +47,3 @@ feeds_snoc input lines one rest after is split =
     let fed : List ℕ → List ℕ = λ l. l ++ 10 ∷ [] in
     let more : with_feeds (lines ++ one ∷ []) ≡ with_feeds lines ++ (one ++ 10 ∷ []) = flat_map-append fed lines (one ∷ []) ∙ ap (λ x. with_feeds lines ++ x) (append-nil (one ++ 10 ∷ [])) in
     is ∙ ap (λ x. with_feeds lines ++ x) (split ∙ sym (append_assoc one (10 ∷ []) after)) ∙ sym (append_assoc (with_feeds lines) (one ++ 10 ∷ []) after) ∙ ap (λ x. x ++ after) (sym more)
-
--- ---- sinks
-
--- a change, and another after it
-abbrev pub both : SinkChange → SinkChange → SinkChange
-both o s = record { held = o.held; held' = s.held'; faults = o.faults; faults' = s.faults' }
-
-pub gains_both : (o s : SinkChange) (a b : List ℕ) → s.held ≡ o.held' → Gains o a → Gains s b → Gains (both o s) (a ++ b)
-gains_both o s a b joins g h = h ∙ ap (λ t. with_end t b) (joins ∙ g) ∙ with_end-append o.held a b
-
-pub gains_on : (o s : SinkChange) (a : List ℕ) → s.held ≡ o.held' → Gains o a → GainsNothing s → Gains (both o s) a
-gains_on o s a joins g h = h ∙ joins ∙ g
-
-pub gains_part : (o s : SinkChange) (a b : List ℕ) → s.held ≡ o.held' → Gains o a → GainsPart s b → GainsWithPart (both o s) a b
-gains_part o s a b joins g h = record {
-  count = h.count;
-  within = h.within;
-  gained = h.gained ∙ ap (λ t. with_end t (take h.count b)) (joins ∙ g) ∙ with_end-append o.held a (take h.count b);
-}
-
-pub gains_none : (held : Option (List ℕ)) (faults later : ℕ) → Gains (record { held = held; held' = held; faults = faults; faults' = later }) []
-gains_none held faults later = sym (with_end-nil held)

@@ -9,7 +9,7 @@ use Rattle.ax_lines.specs.declared.reader.Ended.TheVariants.{EndOfInput}
 use Rattle.ax_lines.specs.declared.reader.Ended.TheVariants.{Refused as RefusedBy}
 use Rattle.ax_lines.specs.declared.line_error.LineError.{LineError}
 use Rattle.ax_lines.specs.declared.line_error.LineError.TheVariants.{InputTooLong, LineTooLong, ReadFault}
-use Rattle.ax_line_stream.proofs.Results.{both, gains_none}
+use Rattle.ax_outside.proofs.Gains.{both, gains_none}
 use Rattle.ax_line_stream.specs.Commands.{LineCommand, LineAnswer, KeepsTo, gives, nothing, refused, results_in}
 use Rattle.ax_line_stream.specs.Ending.{lines_end, error_end}
 use Rattle.ax_line_stream.specs.Runs.{ToldRun, IsCaused, IsLicensed, CountsOnly, LinesRun, RunsOverTaken}

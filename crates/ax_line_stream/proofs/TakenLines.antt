@@ -3,7 +3,7 @@ use Rattle.std.proofs.Common.{◌≡◌, ℕ, ◌+◌, ◌≤◌, List, [], ◌�
 use Rattle.ax_lines.specs.Lined.{LinedEnd, all_lines, input_too_long, line_too_long, end, IsJustNextLine}
 use Rattle.ax_lines.specs.Reader.{ReaderState, IsOpen, ShowsLine, ahead, GivesLine, FindsEnd, StopsInLine}
 use Rattle.ax_lines.specs.declared.reader.Ended.{Ended}
-use Rattle.ax_line_stream.proofs.Results.{both}
+use Rattle.ax_outside.proofs.Gains.{both}
 use Rattle.ax_line_stream.specs.Commands.{LineCommand}
 use Rattle.ax_line_stream.specs.Ending.{lines_end}
 use Rattle.ax_line_stream.specs.Runs.{ToldRun}

@@ -1,7 +1,7 @@
 //! What is made of one block.
 ghost use Rattle.std.specs.Prelude.{◌≡◌, ◌≤◌, length, IsErrOf};
 ghost use Rattle.ax_blocks.specs.Reader.{raw_tree};
-ghost use Rattle.ax_migrate_views.specs.Blocks.{IsOfEditions, new_tree, old_tree};
+ghost use Rattle.ax_migrate_views.specs.Blocks.{new_tree, old_tree};
 ghost use Rattle.ax_migrate_views.specs.Losses.{TellsLosses, WritesLosses};
 ghost use Rattle.ax_migrate_work.specs.Commands.{migrate_command};
 ghost use Rattle.ax_model.specs.Sizes.{longest_body};
@@ -32,7 +32,6 @@ pub(crate) fn migrate_block<R: Sink, K: Sink>(
     output: &mut [u8],
     lines: &mut [u8],
 ) -> Result<(), WorkStop>
-    requires editions { IsOfEditions migrator.now }
     requires category { raw.now.category ≡ (old_tree migrator.now).category }
     requires room { length output.old ≡ 131067 }
     requires lines_room { length lines.old ≡ 131067 }
@@ -67,7 +66,6 @@ fn migrate_long<R: Sink, K: Sink>(
     output: &mut [u8],
     lines: &[u8],
 ) -> Result<(), WorkStop>
-    requires editions { IsOfEditions migrator.now }
     requires category { raw.now.category ≡ (old_tree migrator.now).category }
     requires spelled { SpellsSome migrator.now.codec.now raw.now.body.now }
     requires told { TellsLosses migrator.now raw.now.body.now number told lines.now }
@@ -103,7 +101,6 @@ fn report_losses<R: Sink>(
     lines: &[u8],
     report: &mut R,
 ) -> Result<(), SinkFailed>
-    requires editions { IsOfEditions migrator.now }
     requires size { (1 ≤ length body.now) × (length body.now ≤ longest_body) }
     requires spelled { SpellsSome migrator.now.codec.now body.now }
     requires told { TellsLosses migrator.now body.now number told lines.now }

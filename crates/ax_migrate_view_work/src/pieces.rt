@@ -1,7 +1,6 @@
 //! Views whose migrated records come into several data blocks.
 ghost use Rattle.std.specs.Prelude.{◌≡◌, ◌+◌, ◌≤◌, length, None};
 ghost use Rattle.ax_migrate_view_work.specs.Pieces.{FindsTooLong, IsRange, WritesBlocks, WritesRange};
-ghost use Rattle.ax_migrate_views.specs.Blocks.{IsOfEditions};
 ghost use Rattle.ax_outside.specs.Changes.{sink_change};
 
 use ax_migrate_views::Migrator;
@@ -10,7 +9,6 @@ use ax_view::BlockView;
 
 /// The octets of the first migrated record of a view that has too many for a data block of its own, if one has.
 pub(crate) fn first_too_long(migrator: &Migrator<'_>, view: &BlockView<'_, '_>) -> Option<u32>
-    requires editions { IsOfEditions migrator.now }
     requires view { view.now.codec.now ≡ migrator.now.codec.now }
     ensures { FindsTooLong migrator.now view.now.body.now result }
 {
@@ -35,7 +33,6 @@ fn write_range<K: Sink>(
     out: &mut K,
     output: &mut [u8],
 ) -> Result<(), SinkFailed>
-    requires editions { IsOfEditions migrator.now }
     requires view { view.now.codec.now ≡ migrator.now.codec.now }
     requires range { IsRange migrator.now view.now.body.now from count }
     requires room { length output.old ≡ 131067 }
@@ -54,7 +51,6 @@ pub(crate) fn write_blocks<K: Sink>(
     out: &mut K,
     output: &mut [u8],
 ) -> Result<(), SinkFailed>
-    requires editions { IsOfEditions migrator.now }
     requires view { view.now.codec.now ≡ migrator.now.codec.now }
     requires none { FindsTooLong migrator.now view.now.body.now None }
     requires room { length output.old ≡ 131067 }

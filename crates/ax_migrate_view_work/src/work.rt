@@ -1,6 +1,6 @@
 //! The work of `migrate` on one block.
 ghost use Rattle.std.specs.Prelude.{◌≡◌, length, IfOk};
-ghost use Rattle.ax_migrate_views.specs.Blocks.{IsOfEditions, new_tree, old_tree};
+ghost use Rattle.ax_migrate_views.specs.Blocks.{new_tree, old_tree};
 ghost use Rattle.ax_migrate_work.specs.Commands.{migrate_command};
 
 use crate::block::migrate_block;
@@ -29,7 +29,6 @@ impl<'m, 'c> MigrateViews<'m, 'c> {
         alloc: Global,
         migrator: &'m Migrator<'c>,
     ) -> Result<MigrateViews<'m, 'c>, AllocError>
-        requires { IsOfEditions migrator.now }
         ensures command { IfOk result (λ work. ⟦<MigrateViews<'m, 'c> as BlockWork>⟧.command work ≡ migrate_command (old_tree migrator.now) (new_tree migrator.now)) }
         ensures sound { IfOk result (λ work. ⟦<MigrateViews<'m, 'c> as BlockWork>⟧.sound work) }
     {
@@ -48,7 +47,7 @@ impl<'m, 'c> BlockWork for MigrateViews<'m, 'c> {
 
     ghost command = { λ s. migrate_command (old_tree s.migrator.now) (new_tree s.migrator.now) };
 
-    ghost sound = { λ s. IsOfEditions s.migrator.now };
+    ghost sound = { λ s. Unit {0} };
 
     ghost remembers = { λ first s raws. Unit {0} };
 

@@ -3,9 +3,8 @@ use Rattle.std.specs.Prelude.{◌≡◌, ℕ, ◌*◌, ◌/◌, ◌%◌, ◌≤�
 use Rattle.ax_bits.specs.Bits.{bits}
 use Rattle.ax_bits.specs.Out.{Appends}
 use Rattle.ax_bits.specs.declared.output.Out.{Out}
-use Rattle.ax_relation.specs.Relates.{Relates}
 use Rattle.ax_migrate.specs.Migrating.{migrated_block}
-use Rattle.ax_migrate_views.specs.Lost.{AreLost}
+use Rattle.ax_migrate_views.specs.Editions.{AreEditions}
 use Rattle.ax_migrate_views.specs.declared.migrator.Migrator.{Migrator}
 use Rattle.ax_model.specs.Blocks.{BlockTree, read_block}
 use Rattle.ax_model.specs.Bodies.{SpellsBody}
@@ -14,7 +13,6 @@ use Rattle.ax_model.specs.Plain.{spec_tree}
 use Rattle.ax_model.specs.Sizes.{longest_block}
 use Rattle.ax_model.specs.Specification.{SpecTree}
 use Rattle.ax_model.specs.Tree.{EntriesTree}
-use Rattle.ax_tables.specs.Standing.{IsCompiled}
 
 -- CAT and LEN written over the first three octets
 abbrev pub with_head : ℕ → ℕ → List ℕ → List ℕ
@@ -26,11 +24,9 @@ old_tree m = spec_tree m.old.now
 abbrev pub new_tree : Migrator → SpecTree
 new_tree m = spec_tree m.new.now
 
--- the relation is of its two editions, the codec stands for the old one, and the paths without a new place are known
-pub record IsOfEditions (m : Migrator) : Type 0 where
-  pub related : Relates m.old.now m.new.now m.relation.now
-  pub compiled : IsCompiled m.codec.now (old_tree m)
-  pub lost : AreLost m.relation.now.paths m.lost.items
+-- what it is made of is of its two editions
+abbrev pub IsOfEditions : Migrator → Type 0
+IsOfEditions m = AreEditions m.old.now m.new.now m.relation.now m.codec.now m.lost.items
 
 -- the canonical form of the migrated block has so many octets, and they stand at the front of the output, where a block can
 -- have as many

@@ -2,6 +2,7 @@ pub mod Bare
 pub mod Blocks
 pub mod Bodies
 pub mod BySlot
+pub mod Editions
 pub mod Fronts
 pub mod Gone
 pub mod Keeping
@@ -9,6 +10,8 @@ pub mod KnownMoves
 pub mod Laying
 pub mod Losses
 pub mod Lost
+pub mod MoveSets
 pub mod Octets
 pub mod Ranges
+pub mod TreeSets
 pub mod Wholes

@@ -1,7 +1,7 @@
 //! Blocks of one edition in another.
 ghost use Rattle.std.specs.Prelude.{◌≡◌, ◌≤◌, length, IfOk, IfErr};
 ghost use Rattle.ax_relation.specs.Relates.{Relates};
-ghost use Rattle.ax_migrate_views.specs.Blocks.{IsOfEditions, LaysMigrated, new_tree, old_tree, with_head};
+ghost use Rattle.ax_migrate_views.specs.Blocks.{LaysMigrated, new_tree, old_tree, with_head};
 ghost use Rattle.ax_migrate_views.specs.Losses.{TellsLosses};
 ghost use Rattle.ax_model.specs.Plain.{spec_tree};
 ghost use Rattle.ax_model.specs.Sizes.{longest_body};
@@ -38,7 +38,6 @@ impl<'c> Migrator<'c> {
     ) -> Result<Migrator<'c>, AllocError>
         requires related { Relates old.now new.now relation.now }
         requires compiled { IsCompiled codec.now (spec_tree old.now) }
-        ensures editions { IfOk result IsOfEditions }
         ensures old { IfOk result (λ made. old_tree made ≡ spec_tree old.now) }
         ensures new { IfOk result (λ made. new_tree made ≡ spec_tree new.now) }
         ensures codec { IfOk result (λ made. made.codec.now ≡ codec.now) }
@@ -73,7 +72,6 @@ impl<'c> Migrator<'c> {
         output: &mut [u8],
         lines: &mut [u8],
     ) -> Result<Laid, BodyFault>
-        requires editions { IsOfEditions self.now }
         requires size { (1 ≤ length body.now) × (length body.now ≤ longest_body) }
         requires room { length output.old ≡ 131067 }
         requires lines_room { length lines.old ≡ 131067 }

@@ -1,7 +1,7 @@
 //! Views of blocks of one edition in another, and what they lose. Nothing here takes memory.
 ghost use Rattle.std.specs.Prelude.{◌≡◌, [], length};
 ghost use Rattle.ax_bits.specs.Out.{written, room};
-ghost use Rattle.ax_migrate_views.specs.Blocks.{AppendsMigrated, CountsMigrated, HasRoom, IsOfEditions, LaysMigrated};
+ghost use Rattle.ax_migrate_views.specs.Blocks.{AppendsMigrated, CountsMigrated, HasRoom, LaysMigrated};
 ghost use Rattle.ax_migrate_views.specs.Losses.{LosesEach, WritesLosses, losses_left};
 ghost use Rattle.ax_outside.specs.Changes.{sink_change};
 
@@ -16,7 +16,6 @@ impl<'c> Migrator<'c> {
     /// Lays the canonical form of the migrated block of a view at the front of the output, and answers its octets; where they
     /// are more than 65,535, what is laid there is none.
     fn lay_view(&self, view: &BlockView<'_, '_>, output: &mut [u8]) -> u32
-        requires editions { IsOfEditions self.now }
         requires view { view.now.codec.now ≡ self.now.codec.now }
         requires room { length output.old ≡ 131067 }
         ensures laid { LaysMigrated self.now view.now.body.now result output.new }
@@ -33,7 +32,6 @@ impl<'c> Migrator<'c> {
     /// The octets of the canonical form of the migrated block of a view, CAT and LEN among them. More than 65,535 are those of no
     /// data block.
     pub fn length(&self, view: &BlockView<'_, '_>) -> u32
-        requires editions { IsOfEditions self.now }
         requires view { view.now.codec.now ≡ self.now.codec.now }
         ensures { CountsMigrated self.now view.now.body.now result }
     {
@@ -43,7 +41,6 @@ impl<'c> Migrator<'c> {
 
     /// Appends the canonical form of the migrated block of a view, of at most 65,535 octets.
     pub fn migrate(&self, view: &BlockView<'_, '_>, out: &mut Out<'_>)
-        requires editions { IsOfEditions self.now }
         requires view { view.now.codec.now ≡ self.now.codec.now }
         requires empty { written out.old ≡ [] }
         requires room { HasRoom self.now view.now.body.now (room out.old) }
@@ -56,7 +53,6 @@ impl<'c> Migrator<'c> {
 
     /// What the records of a view lose, by record and, in a record, in the order of the keys of the old edition.
     pub fn losses<'m>(&'m self, view: &'m BlockView<'m, 'm>) -> Losses<'m>
-        requires editions { IsOfEditions self.now }
         requires view { view.now.codec.now ≡ self.now.codec.now }
         ensures { LosesEach self.now view.now.body.now (losses_left result) }
     {
@@ -77,7 +73,6 @@ impl<'c> Migrator<'c> {
         block: u64,
         view: &BlockView<'_, '_>,
     ) -> Result<(), SinkFailed>
-        requires editions { IsOfEditions self.now }
         requires view { view.now.codec.now ≡ self.now.codec.now }
         ensures { WritesLosses self.now view.now.body.now block (sink_change R.Sink report.old report.new) result }
     {

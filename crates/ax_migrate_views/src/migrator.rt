@@ -1,4 +1,5 @@
 //! What blocks are migrated by.
+ghost use Rattle.ax_migrate_views.specs.Editions.{AreEditions, AreEditions-prop};
 ghost use Rattle.ax_migrate_views.specs.KnownMoves.{KnowsMoves, KnowsMoves-prop};
 
 use crate::by_slot::SlotMoves;
@@ -7,8 +8,8 @@ use ax_model::Spec;
 use ax_relation::Relation;
 use ax_tables::Codec;
 
-/// Migration from one edition to another, by the relation of the two and the codec of the old one. Memory is taken when it is
-/// made, and none for a block.
+/// Migration from one edition to another, by the relation of the two and the codec of the old one: each is of these editions.
+/// Memory is taken when it is made, and none for a block.
 #[derive(Drop)]
 pub struct Migrator<'c> {
     /// The two editions: contracts speak of them, the code doesn't.
@@ -20,5 +21,6 @@ pub struct Migrator<'c> {
     pub(crate) lost: Vec<LostKey<'c>>,
     /// What is known of the relation's moves.
     pub(crate) known: SlotMoves,
+    ghost editions: { AreEditions old.now new.now relation.now codec.now lost.items } by { AreEditions-prop old.now new.now relation.now codec.now lost.items },
     ghost moves: { KnowsMoves codec.now.nodes codec.now.slots relation.now.moves known } by { KnowsMoves-prop codec.now.nodes codec.now.slots relation.now.moves known },
 }

@@ -2,7 +2,7 @@
 //! takes memory.
 ghost use Rattle.std.specs.Prelude.{◌≡◌, ◌+◌, ◌<◌, ◌≤◌, [], length, take, drop};
 ghost use Rattle.ax_bits.specs.Out.{written, room};
-ghost use Rattle.ax_migrate_views.specs.Blocks.{IsOfEditions, LaysMigrated};
+ghost use Rattle.ax_migrate_views.specs.Blocks.{LaysMigrated};
 ghost use Rattle.ax_migrate_views.specs.Ranges.{AppendsRange, AreRecordsOf, FitsFrom, FitsShown, HasRange, HasRecords, LaysRange, SpellsOld, SpellsRange, shown_octets};
 ghost use Rattle.ax_model.specs.Sizes.{longest_body};
 ghost use Rattle.ax_view.specs.Left.{records_left};
@@ -47,7 +47,6 @@ impl<'c> Migrator<'c> {
     /// Lays the canonical form of the migrated block of octets that spell records at the front of the output, and answers its
     /// octets; where they are more than 65,535, what is laid there is none. The lines of what is lost are laid too.
     fn lay_spelled(&self, octets: &[u8], output: &mut [u8], lines: &mut [u8]) -> u32
-        requires editions { IsOfEditions self.now }
         requires spelled { SpellsOld self.now octets.now }
         requires size { (1 ≤ length octets.now) × (length octets.now ≤ longest_body) }
         requires room { length output.old ≡ 131067 }
@@ -65,7 +64,6 @@ impl<'c> Migrator<'c> {
 
     /// As many of the records that are left as come into one block. A record has the octets of its own block but CAT and LEN.
     fn fit_records(&self, later: &mut Records<'_, '_>) -> Fit
-        requires editions { IsOfEditions self.now }
         requires records { AreRecordsOf self.now (records_left later.old) }
         requires some { 0 < length (records_left later.old) }
         ensures { FitsShown self.now (records_left later.old) result }
@@ -90,7 +88,6 @@ impl<'c> Migrator<'c> {
     /// As many of the records of a view, from that of the number `from` on, as come into one data block as they move, whatever
     /// the later ones are. Count 0 says that this record alone has too many octets, and how many its block would have.
     pub fn fit(&self, view: &BlockView<'_, '_>, from: u32) -> Fit
-        requires editions { IsOfEditions self.now }
         requires view { view.now.codec.now ≡ self.now.codec.now }
         requires from { HasRecords self.now view.now.body.now (from + 1) }
         ensures { FitsFrom self.now view.now.body.now from result }
@@ -102,7 +99,6 @@ impl<'c> Migrator<'c> {
 
     /// The octets of `count` records of a view, from that of the number `from` on.
     fn range_octets<'a>(&self, view: &BlockView<'_, 'a>, from: u32, count: u32) -> &'a [u8]
-        requires editions { IsOfEditions self.now }
         requires view { view.now.codec.now ≡ self.now.codec.now }
         requires there { HasRecords self.now view.now.body.now (from + count) }
         ensures { SpellsRange self.now view.now.body.now from count result.now }
@@ -122,7 +118,6 @@ impl<'c> Migrator<'c> {
         count: u32,
         output: &mut [u8],
     ) -> u32
-        requires editions { IsOfEditions self.now }
         requires view { view.now.codec.now ≡ self.now.codec.now }
         requires some { 1 ≤ count }
         requires there { HasRecords self.now view.now.body.now (from + count) }
@@ -137,7 +132,6 @@ impl<'c> Migrator<'c> {
     /// Appends the canonical form of the migrated block of `count` records of a view, of 1 at least, from that of the number
     /// `from` on. It has at most 65,535 octets.
     pub fn migrate_range(&self, view: &BlockView<'_, '_>, from: u32, count: u32, out: &mut Out<'_>)
-        requires editions { IsOfEditions self.now }
         requires view { view.now.codec.now ≡ self.now.codec.now }
         requires empty { written out.old ≡ [] }
         requires range { HasRange self.now view.now.body.now from count (room out.old) }

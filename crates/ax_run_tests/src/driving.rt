@@ -1,6 +1,5 @@
 //! The block loop of jobs that take no memory, by itself.
 ghost use Rattle.ax_drive.specs.Working.{IsSoundJob};
-ghost use Rattle.ax_migrate_views.specs.Blocks.{IsOfEditions};
 ghost use Rattle.ax_relation.specs.Relates.{Relates};
 
 use crate::migrating::{largest, moved};
@@ -101,18 +100,19 @@ static REPORTS: [Row; 3] = [
 const LOSING: &str = "30 00 08 A0 19 0C A1 00 30 00 08 A0 19 0C A1 00";
 
 /// How the migration of the two blocks ends.
-fn migrated(rt: &impl Abort, alloc: Global, migrator: &Migrator<'_>, sinks: &mut Sinks) -> DriveEnd
-    requires { IsOfEditions migrator.now }
-{
+fn migrated(
+    rt: &impl Abort,
+    alloc: Global,
+    migrator: &Migrator<'_>,
+    sinks: &mut Sinks,
+) -> DriveEnd {
     let input = bytes(rt, alloc, LOSING);
     let mut source = MemSource::new(input, Vec::new(alloc), Vec::new(alloc));
     ended(rt, alloc, Job::Migrate(migrator), &mut source, sinks)
 }
 
 /// Migrates the two blocks, and asserts what that row says.
-fn ends_as(rt: &impl Abort, alloc: Global, migrator: &Migrator<'_>, row: &Row)
-    requires { IsOfEditions migrator.now }
-{
+fn ends_as(rt: &impl Abort, alloc: Global, migrator: &Migrator<'_>, row: &Row) {
     let (call, end, written, told) = *row;
     let mut sinks = sinks_of(rt, alloc, 1_000, Some(call));
     let got = migrated(rt, alloc, migrator, &mut sinks);
@@ -161,9 +161,7 @@ fn both_are_written(
     migrator: &Migrator<'_>,
     cuts: &[u32],
     both: &[u8],
-)
-    requires { IsOfEditions migrator.now }
-{
+) {
     let input = largest(rt, alloc, &[]);
     let cuts = cuts.to_vec(alloc).expect(rt, "memory");
     let mut source = MemSource::new(input, cuts, Vec::new(alloc));

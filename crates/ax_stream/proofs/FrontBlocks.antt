@@ -13,7 +13,8 @@ use Rattle.ax_model.specs.declared.fault.BodyCause.{BodyCause}
 use Rattle.ax_model.specs.declared.record.RawBlock.{RawBlock}
 use Rattle.ax_outside.specs.Changes.{SinkChange, Gains}
 use Rattle.ax_outside.specs.Told.{with_front, with_end, IsAtEnd}
-use Rattle.ax_stream.proofs.Results.{output_snoc, report_snoc, given_snoc, both, gains_both, gains_on, gains_part}
+use Rattle.ax_stream.proofs.Results.{output_snoc, report_snoc, given_snoc}
+use Rattle.ax_outside.proofs.Gains.{both, gains_both, gains_on, gains_part}
 use Rattle.ax_stream.proofs.Streams.{raws_snoc, spell_snoc, spell_count, stream_snoc, length_snoc, framed_count, raw_spells_block, octets_after}
 use Rattle.ax_stream.specs.Commands.{BlockCommand, gives, lines_in, octets_in, report_of, output_of, IsGiven}
 use Rattle.ax_stream.specs.Remembering.{RemembersAll}

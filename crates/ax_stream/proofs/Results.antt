@@ -1,9 +1,6 @@
--- The results of blocks, one block after another, and what sinks gain by them.
-use Rattle.std.proofs.Common.{◌≡◌, ℕ, suc, ◌+◌, List, [], ◌∷◌, ◌++◌, Option, length, take, sym, ◌∙◌, ap, subst, arith, append_assoc, append-nil}
+-- The results of blocks, one block after another.
+use Rattle.std.proofs.Common.{◌≡◌, ℕ, suc, ◌+◌, List, [], ◌∷◌, ◌++◌, length, sym, ◌∙◌, ap, subst, arith, append_assoc, append-nil}
 use Rattle.ax_model.specs.Blocks.{BlockTree}
-use Rattle.ax_outside.proofs.Ends.{with_end-nil, with_end-append}
-use Rattle.ax_outside.specs.Changes.{SinkChange, Gains, GainsNothing, GainsPart, GainsWithPart}
-use Rattle.ax_outside.specs.Told.{with_end}
 use Rattle.ax_stream.specs.Commands.{BlockCommand, IsGiven, lines_in, octets_in, report_of, output_of, AreGiven}
 
 later_number : (n k : ℕ) → n + 1 + k ≡ n + suc k
@@ -30,25 +27,3 @@ report_snoc c n (x ∷ blocks) b =
 pub given_snoc : (c : BlockCommand) (n : ℕ) (blocks : List BlockTree) (b : BlockTree) → AreGiven c n blocks → IsGiven (c.answer (n + length blocks) b) → AreGiven c n (blocks ++ b ∷ [])
 given_snoc c n [] b h g = (subst (λ m. IsGiven (c.answer m b)) (sym (none_more n)) g, tt)
 given_snoc c n (x ∷ blocks) b h g = (h.0, given_snoc c (n + 1) blocks b h.1 (subst IsGiven (sym (answer_at c n (length blocks) b)) g))
-
--- ---- sinks
-
--- a change, and another after it
-abbrev pub both : SinkChange → SinkChange → SinkChange
-both o s = record { held = o.held; held' = s.held'; faults = o.faults; faults' = s.faults' }
-
-pub gains_both : (o s : SinkChange) (a b : List ℕ) → s.held ≡ o.held' → Gains o a → Gains s b → Gains (both o s) (a ++ b)
-gains_both o s a b joins g h = h ∙ ap (λ t. with_end t b) (joins ∙ g) ∙ with_end-append o.held a b
-
-pub gains_on : (o s : SinkChange) (a : List ℕ) → s.held ≡ o.held' → Gains o a → GainsNothing s → Gains (both o s) a
-gains_on o s a joins g h = h ∙ joins ∙ g
-
-pub gains_part : (o s : SinkChange) (a b : List ℕ) → s.held ≡ o.held' → Gains o a → GainsPart s b → GainsWithPart (both o s) a b
-gains_part o s a b joins g h = record {
-  count = h.count;
-  within = h.within;
-  gained = h.gained ∙ ap (λ t. with_end t (take h.count b)) (joins ∙ g) ∙ with_end-append o.held a (take h.count b);
-}
-
-pub gains_none : (held : Option (List ℕ)) (faults later : ℕ) → Gains (record { held = held; held' = held; faults = faults; faults' = later }) []
-gains_none held faults later = sym (with_end-nil held)

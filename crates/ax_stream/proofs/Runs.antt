@@ -13,7 +13,7 @@ use Rattle.ax_model.specs.declared.record.RawBlock.{RawBlock}
 use Rattle.ax_outside.proofs.Ends.{Rose-later}
 use Rattle.ax_outside.specs.Changes.{SourceChange, SinkChange}
 use Rattle.ax_outside.specs.Told.{Rose}
-use Rattle.ax_stream.proofs.Results.{both, gains_none}
+use Rattle.ax_outside.proofs.Gains.{both, gains_none}
 use Rattle.ax_stream.proofs.Streams.{framed_count}
 use Rattle.ax_stream.specs.Commands.{BlockCommand}
 use Rattle.ax_stream.specs.Ending.{cause_of, error_end, stop_end}

@@ -8,7 +8,7 @@ use Rattle.ax_blocks.specs.declared.next_error.NextError.TheVariants.{BadLen, En
 use Rattle.ax_model.specs.Framing.{RawTree, FramingEnd, whole, bad_len, ends_in_header, ends_in_block, input_too_long}
 use Rattle.ax_model.specs.declared.record.RawBlock.{RawBlock}
 use Rattle.ax_outside.specs.Changes.{SourceChange, SinkChange, Gains}
-use Rattle.ax_stream.proofs.Results.{both}
+use Rattle.ax_outside.proofs.Gains.{both}
 use Rattle.ax_stream.specs.Commands.{BlockCommand}
 use Rattle.ax_stream.specs.Ending.{framing_end, error_end, stop_end}
 use Rattle.ax_stream.specs.Streams.{RunsOver}

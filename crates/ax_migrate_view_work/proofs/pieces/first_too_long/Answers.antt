@@ -18,7 +18,7 @@ pub fit-fit-requires-clause-from : goal.fit-fit-requires-clause-from
 fit-fit-requires-clause-from c =
     let m = c.args.migrator.now in
     let view = c.args.view.now in
-    let of = c.requires.editions in
+    let of = c.args.migrator.now.editions in
     let pieces = subst (λ codec. ArePieces false (record_kind_at codec.nodes codec.slots) view.count view.body.now) c.requires.view view.records in
     let whole = all m of view.body.now view.size.1 view.size.0 view.count pieces in
     let counts = subst (λ codec. CountsRecords codec view.body.now c.count-count.result) c.requires.view c.count-count.ensures in
@@ -29,7 +29,7 @@ pub returns-then-fit-eq0 : goal.returns-then-fit-eq0
 returns-then-fit-eq0 c =
     let m = c.args.migrator.now in
     let view = c.args.view.now in
-    let of = c.requires.editions in
+    let of = c.args.migrator.now.editions in
     let pieces = subst (λ codec. ArePieces false (record_kind_at codec.nodes codec.slots) view.count view.body.now) c.requires.view view.records in
     let whole = all m of view.body.now view.size.1 view.size.0 view.count pieces in
     let counts = subst (λ codec. CountsRecords codec view.body.now c.count-count.result) c.requires.view c.count-count.ensures in
@@ -40,7 +40,7 @@ pub overflow_add-from : goal.overflow_add-from
 overflow_add-from c =
     let m = c.args.migrator.now in
     let view = c.args.view.now in
-    let of = c.requires.editions in
+    let of = c.args.migrator.now.editions in
     let pieces = subst (λ codec. ArePieces false (record_kind_at codec.nodes codec.slots) view.count view.body.now) c.requires.view view.records in
     let whole = all m of view.body.now view.size.1 view.size.0 view.count pieces in
     let counts = subst (λ codec. CountsRecords codec view.body.now c.count-count.result) c.requires.view c.count-count.ensures in
@@ -51,7 +51,7 @@ pub loop-from-preserved : goal.loop-from-preserved
 loop-from-preserved c =
     let m = c.args.migrator.now in
     let view = c.args.view.now in
-    let of = c.requires.editions in
+    let of = c.args.migrator.now.editions in
     let pieces = subst (λ codec. ArePieces false (record_kind_at codec.nodes codec.slots) view.count view.body.now) c.requires.view view.records in
     let whole = all m of view.body.now view.size.1 view.size.0 view.count pieces in
     let counts = subst (λ codec. CountsRecords codec view.body.now c.count-count.result) c.requires.view c.count-count.ensures in
@@ -62,7 +62,7 @@ pub returns : goal.returns
 returns c =
     let m = c.args.migrator.now in
     let view = c.args.view.now in
-    let of = c.requires.editions in
+    let of = c.args.migrator.now.editions in
     let pieces = subst (λ codec. ArePieces false (record_kind_at codec.nodes codec.slots) view.count view.body.now) c.requires.view view.records in
     let whole = all m of view.body.now view.size.1 view.size.0 view.count pieces in
     let counts = subst (λ codec. CountsRecords codec view.body.now c.count-count.result) c.requires.view c.count-count.ensures in

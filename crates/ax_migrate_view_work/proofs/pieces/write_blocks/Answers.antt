@@ -18,7 +18,7 @@ pub fit-fit-requires-clause-from : goal.fit-fit-requires-clause-from
 fit-fit-requires-clause-from g c =
     let m = c.args.migrator.now in
     let view = c.args.view.now in
-    let of = c.requires.editions in
+    let of = c.args.migrator.now.editions in
     let pieces = subst (λ codec. ArePieces false (record_kind_at codec.nodes codec.slots) view.count view.body.now) c.requires.view view.records in
     let whole = all m of view.body.now view.size.1 view.size.0 view.count pieces in
     let counts = subst (λ codec. CountsRecords codec view.body.now c.count-count.result) c.requires.view c.count-count.ensures in
@@ -29,7 +29,7 @@ pub write_range-requires-clause-range : goal.write_range-requires-clause-range
 write_range-requires-clause-range g c =
     let m = c.args.migrator.now in
     let view = c.args.view.now in
-    let of = c.requires.editions in
+    let of = c.args.migrator.now.editions in
     let pieces = subst (λ codec. ArePieces false (record_kind_at codec.nodes codec.slots) view.count view.body.now) c.requires.view view.records in
     let whole = all m of view.body.now view.size.1 view.size.0 view.count pieces in
     let counts = subst (λ codec. CountsRecords codec view.body.now c.count-count.result) c.requires.view c.count-count.ensures in
@@ -40,7 +40,7 @@ pub returns-in_err-write_range-clause-written : goal.returns-in_err-write_range-
 returns-in_err-write_range-clause-written g c =
     let m = c.args.migrator.now in
     let view = c.args.view.now in
-    let of = c.requires.editions in
+    let of = c.args.migrator.now.editions in
     let pieces = subst (λ codec. ArePieces false (record_kind_at codec.nodes codec.slots) view.count view.body.now) c.requires.view view.records in
     let whole = all m of view.body.now view.size.1 view.size.0 view.count pieces in
     let counts = subst (λ codec. CountsRecords codec view.body.now c.count-count.result) c.requires.view c.count-count.ensures in
@@ -51,7 +51,7 @@ pub overflow_add-from : goal.overflow_add-from
 overflow_add-from g c =
     let m = c.args.migrator.now in
     let view = c.args.view.now in
-    let of = c.requires.editions in
+    let of = c.args.migrator.now.editions in
     let pieces = subst (λ codec. ArePieces false (record_kind_at codec.nodes codec.slots) view.count view.body.now) c.requires.view view.records in
     let whole = all m of view.body.now view.size.1 view.size.0 view.count pieces in
     let counts = subst (λ codec. CountsRecords codec view.body.now c.count-count.result) c.requires.view c.count-count.ensures in
@@ -62,7 +62,7 @@ pub loop-from-smaller : goal.loop-from-smaller
 loop-from-smaller g c =
     let m = c.args.migrator.now in
     let view = c.args.view.now in
-    let of = c.requires.editions in
+    let of = c.args.migrator.now.editions in
     let pieces = subst (λ codec. ArePieces false (record_kind_at codec.nodes codec.slots) view.count view.body.now) c.requires.view view.records in
     let whole = all m of view.body.now view.size.1 view.size.0 view.count pieces in
     let counts = subst (λ codec. CountsRecords codec view.body.now c.count-count.result) c.requires.view c.count-count.ensures in
@@ -73,7 +73,7 @@ pub loop-from-preserved : goal.loop-from-preserved
 loop-from-preserved g c =
     let m = c.args.migrator.now in
     let view = c.args.view.now in
-    let of = c.requires.editions in
+    let of = c.args.migrator.now.editions in
     let pieces = subst (λ codec. ArePieces false (record_kind_at codec.nodes codec.slots) view.count view.body.now) c.requires.view view.records in
     let whole = all m of view.body.now view.size.1 view.size.0 view.count pieces in
     let counts = subst (λ codec. CountsRecords codec view.body.now c.count-count.result) c.requires.view c.count-count.ensures in
@@ -84,7 +84,7 @@ pub returns-clause-written : goal.returns-clause-written
 returns-clause-written g c =
     let m = c.args.migrator.now in
     let view = c.args.view.now in
-    let of = c.requires.editions in
+    let of = c.args.migrator.now.editions in
     let pieces = subst (λ codec. ArePieces false (record_kind_at codec.nodes codec.slots) view.count view.body.now) c.requires.view view.records in
     let whole = all m of view.body.now view.size.1 view.size.0 view.count pieces in
     let counts = subst (λ codec. CountsRecords codec view.body.now c.count-count.result) c.requires.view c.count-count.ensures in

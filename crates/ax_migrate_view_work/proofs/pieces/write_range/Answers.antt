@@ -14,7 +14,7 @@ pub slice_bounds-write_text-end : goal.slice_bounds-write_text-end
 slice_bounds-write_text-end g c =
     let m = c.args.migrator.now in
     let view = c.args.view.now in
-    let of = c.requires.editions in
+    let of = c.args.migrator.now.editions in
     let pieces = subst (λ codec. ArePieces false (record_kind_at codec.nodes codec.slots) view.count view.body.now) c.requires.view view.records in
     let whole = all m of view.body.now view.size.1 view.size.0 view.count pieces in
     let short : c.lay_range-octets.result ≤ 65535 = subst (λ n. n ≤ 65535) (sym (c.lay_range-octets.ensures.laid.measured whole.0 whole.1)) (c.requires.range.short whole.0 whole.1) in
@@ -24,7 +24,7 @@ pub slice_bounds-write_text-end-2 : goal.slice_bounds-write_text-end-2
 slice_bounds-write_text-end-2 g c =
     let m = c.args.migrator.now in
     let view = c.args.view.now in
-    let of = c.requires.editions in
+    let of = c.args.migrator.now.editions in
     let pieces = subst (λ codec. ArePieces false (record_kind_at codec.nodes codec.slots) view.count view.body.now) c.requires.view view.records in
     let whole = all m of view.body.now view.size.1 view.size.0 view.count pieces in
     let short : c.lay_range-octets.result ≤ 65535 = subst (λ n. n ≤ 65535) (sym (c.lay_range-octets.ensures.laid.measured whole.0 whole.1)) (c.requires.range.short whole.0 whole.1) in
@@ -34,7 +34,7 @@ pub returns-clause-written : goal.returns-clause-written
 returns-clause-written g c =
     let m = c.args.migrator.now in
     let view = c.args.view.now in
-    let of = c.requires.editions in
+    let of = c.args.migrator.now.editions in
     let pieces = subst (λ codec. ArePieces false (record_kind_at codec.nodes codec.slots) view.count view.body.now) c.requires.view view.records in
     let whole = all m of view.body.now view.size.1 view.size.0 view.count pieces in
     let short : c.lay_range-octets.result ≤ 65535 = subst (λ n. n ≤ 65535) (sym (c.lay_range-octets.ensures.laid.measured whole.0 whole.1)) (c.requires.range.short whole.0 whole.1) in

@@ -11,4 +11,4 @@ returns-then-is_empty c =
 
 pub returns-in-Err : goal.returns-in-Err
 returns-in-Err c =
-    tells_fault c.args.self.now.migrator.now (raw_tree c.args.raw.now) c.args.self.now.slots.items c.requires.slots c.requires.editions (search rules) true c.in-Err.field-0 (search rules)
+    tells_fault c.args.self.now.migrator.now (raw_tree c.args.raw.now) c.args.self.now.slots.items c.requires.slots (search rules) true c.in-Err.field-0 (search rules)

@@ -13,36 +13,36 @@ pub lay_spelled-own-requires-clause-spelled : goal.lay_spelled-own-requires-clau
 lay_spelled-own-requires-clause-spelled c =
     let m = c.args.self.now in
     let t = at_next m _ _ _ (record_shown c.in-Some.record) _ _ c.loop-record.invariant.0 c.in-Some.ensures.steps in
-    subst (SpellsOld m) (sym c.octets.ensures.body) (next_spelled m c.requires.editions _ _ t.records)
+    subst (SpellsOld m) (sym c.octets.ensures.body) (next_spelled m c.args.self.now.editions _ _ t.records)
 
 pub lay_spelled-own-requires-clause-size : goal.lay_spelled-own-requires-clause-size
 lay_spelled-own-requires-clause-size c =
     let m = c.args.self.now in
     let t = at_next m _ _ _ (record_shown c.in-Some.record) _ _ c.loop-record.invariant.0 c.in-Some.ensures.steps in
-    subst (λ octets. (1 ≤ length octets) × (length octets ≤ 65532)) (sym c.octets.ensures.body) (next_size m c.requires.editions _ _ t.records)
+    subst (λ octets. (1 ≤ length octets) × (length octets ≤ 65532)) (sym c.octets.ensures.body) (next_size m c.args.self.now.editions _ _ t.records)
 
 pub overflow_sub-own : goal.overflow_sub-own
 overflow_sub-own c =
     let m = c.args.self.now in
     let t = at_next m _ _ _ (record_shown c.in-Some.record) _ _ c.loop-record.invariant.0 c.in-Some.ensures.steps in
     let laid = subst (λ octets. LaysMigrated m octets c.lay_spelled-own.result c.lay_spelled-own.new.output) c.octets.ensures.body c.lay_spelled-own.ensures.laid in
-    own_some m c.requires.editions (record_shown c.in-Some.record) _ _ _ laid _ _ _ t
+    own_some m c.args.self.now.editions (record_shown c.in-Some.record) _ _ _ laid _ _ _ t
 
 pub returns-then-count-eq0 : goal.returns-then-count-eq0
 returns-then-count-eq0 c =
     let m = c.args.self.now in
     let t = at_next m _ _ _ (record_shown c.in-Some.record) _ _ c.loop-record.invariant.0 c.in-Some.ensures.steps in
     let laid = subst (λ octets. LaysMigrated m octets c.lay_spelled-own.result c.lay_spelled-own.new.output) c.octets.ensures.body c.lay_spelled-own.ensures.laid in
-    let some = own_some m c.requires.editions (record_shown c.in-Some.record) _ _ _ laid _ _ _ t in
-    fit_stops m c.requires.editions (record_shown c.in-Some.record) _ _ _ laid _ _ _ some c.lay_spelled-own.type_inv t.few c.saturating_add-more.ensures _ _ t c.if-more-gt-LONGEST.true (λ e. refl) (λ lt. absurd (omega (arith, c.if-count-eq0.true, lt)))
+    let some = own_some m c.args.self.now.editions (record_shown c.in-Some.record) _ _ _ laid _ _ _ t in
+    fit_stops m c.args.self.now.editions (record_shown c.in-Some.record) _ _ _ laid _ _ _ some c.lay_spelled-own.type_inv t.few c.saturating_add-more.ensures _ _ t c.if-more-gt-LONGEST.true (λ e. refl) (λ lt. absurd (omega (arith, c.if-count-eq0.true, lt)))
 
 pub returns-else-count-eq0 : goal.returns-else-count-eq0
 returns-else-count-eq0 c =
     let m = c.args.self.now in
     let t = at_next m _ _ _ (record_shown c.in-Some.record) _ _ c.loop-record.invariant.0 c.in-Some.ensures.steps in
     let laid = subst (λ octets. LaysMigrated m octets c.lay_spelled-own.result c.lay_spelled-own.new.output) c.octets.ensures.body c.lay_spelled-own.ensures.laid in
-    let some = own_some m c.requires.editions (record_shown c.in-Some.record) _ _ _ laid _ _ _ t in
-    fit_stops m c.requires.editions (record_shown c.in-Some.record) _ _ _ laid _ _ _ some c.lay_spelled-own.type_inv t.few c.saturating_add-more.ensures _ _ t c.if-more-gt-LONGEST.true (λ e. absurd (c.if-count-eq0.false e)) (λ lt. refl)
+    let some = own_some m c.args.self.now.editions (record_shown c.in-Some.record) _ _ _ laid _ _ _ t in
+    fit_stops m c.args.self.now.editions (record_shown c.in-Some.record) _ _ _ laid _ _ _ some c.lay_spelled-own.type_inv t.few c.saturating_add-more.ensures _ _ t c.if-more-gt-LONGEST.true (λ e. absurd (c.if-count-eq0.false e)) (λ lt. refl)
 
 pub overflow_add-count : goal.overflow_add-count
 overflow_add-count c =
@@ -54,8 +54,8 @@ loop-record-preserved c =
     let m = c.args.self.now in
     let t = at_next m _ _ _ (record_shown c.in-Some.record) _ _ c.loop-record.invariant.0 c.in-Some.ensures.steps in
     let laid = subst (λ octets. LaysMigrated m octets c.lay_spelled-own.result c.lay_spelled-own.new.output) c.octets.ensures.body c.lay_spelled-own.ensures.laid in
-    let some = own_some m c.requires.editions (record_shown c.in-Some.record) _ _ _ laid _ _ _ t in (
-      fit_more m c.requires.editions (record_shown c.in-Some.record) _ _ _ laid _ _ _ some c.lay_spelled-own.type_inv t.few c.saturating_add-more.ensures _ t c.if-more-gt-LONGEST.false,
+    let some = own_some m c.args.self.now.editions (record_shown c.in-Some.record) _ _ _ laid _ _ _ t in (
+      fit_more m c.args.self.now.editions (record_shown c.in-Some.record) _ _ _ laid _ _ _ some c.lay_spelled-own.type_inv t.few c.saturating_add-more.ensures _ t c.if-more-gt-LONGEST.false,
       c.lay_spelled-own.ensures.room,
       c.lay_spelled-own.ensures.lines_room,
     )

@@ -11,11 +11,11 @@ returns-clause-laid c =
     let n = c.in_ok-laid.laid.octets in
     let body = c.args.body.now in
     let laid = subst (λ ms. LaysBody c.args.self.now.codec.now ms body 3 n c.args.output.now c.lay_body.new.output) c.moves-moves.ensures c.in_ok-laid.ensures.laid in
-    migrated_laid c.args.self.now body n c.args.output.now c.lay_body.new.output c.write_head.new.output c.requires.editions c.requires.size.1 laid c.requires.room c.lay_body.ensures.room
+    migrated_laid c.args.self.now body n c.args.output.now c.lay_body.new.output c.write_head.new.output c.args.self.now.editions c.requires.size.1 laid c.requires.room c.lay_body.ensures.room
     (c.write_head.ensures ∙ ap (λ k. with_head k n c.lay_body.new.output) c.category.ensures)
     (λ i. (let fits = c.type_inv.output i in omega arith)) (omega (arith, c.category.ensures, c.category.type_inv))
 
 pub returns-clause-told : goal.returns-clause-told
 returns-clause-told c =
     let told = subst (λ ks. TellsBody c.args.self.now.codec.now (key_paths ks) c.args.number c.args.body.now c.in_ok-laid.laid.lines c.args.lines.now c.lay_body.new.lines) c.as_slice.ensures.value c.in_ok-laid.ensures.told in
-    losses_told c.args.self.now c.args.body.now c.args.number c.in_ok-laid.laid.lines c.args.lines.now c.lay_body.new.lines c.requires.editions told
+    losses_told c.args.self.now c.args.body.now c.args.number c.in_ok-laid.laid.lines c.args.lines.now c.lay_body.new.lines c.args.self.now.editions told

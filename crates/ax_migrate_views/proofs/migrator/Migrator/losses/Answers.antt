@@ -11,4 +11,4 @@ invariant_of-result c = record { few = omega (arith, records_few c.records.resul
 pub returns : goal.returns
 returns c =
     let each = subst (λ codec. SpellEach codec c.args.view.now.body.now (records_left c.records.result)) c.requires.view c.records.ensures in
-    losses_each c.args.self.now c.args.view.now.body.now c.paths.result.now (records_left c.records.result) c.requires.editions c.paths.ensures each
+    losses_each c.args.self.now c.args.view.now.body.now c.paths.result.now (records_left c.records.result) c.args.self.now.editions c.paths.ensures each

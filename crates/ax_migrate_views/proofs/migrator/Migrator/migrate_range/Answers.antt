@@ -11,7 +11,7 @@ slice_bounds-output-end c =
     let m = c.args.self.now in
     let view = c.args.view.now in
     let pieces = subst (λ codec. ArePieces false (record_kind_at codec.nodes codec.slots) view.count view.body.now) c.requires.view view.records in
-    omega (arith, range_few m c.requires.editions view.body.now view.size.1 view.size.0 view.count pieces c.args.from c.args.count c.lay_range-octets.result c.lay_range-octets.new.output c.lay_range-octets.ensures.laid (room c.args.out.now) c.requires.range, c.lay_range-octets.ensures.room)
+    omega (arith, range_few m c.args.self.now.editions view.body.now view.size.1 view.size.0 view.count pieces c.args.from c.args.count c.lay_range-octets.result c.lay_range-octets.new.output c.lay_range-octets.ensures.laid (room c.args.out.now) c.requires.range, c.lay_range-octets.ensures.room)
 
 pub slice_bounds-push_octets-end : goal.slice_bounds-push_octets-end
 slice_bounds-push_octets-end c =
@@ -19,7 +19,7 @@ slice_bounds-push_octets-end c =
     let view = c.args.view.now in
     let pieces = subst (λ codec. ArePieces false (record_kind_at codec.nodes codec.slots) view.count view.body.now) c.requires.view view.records in
     let n = c.lay_range-octets.result in
-    let size : n ≤ length c.lay_range-octets.new.output = omega (arith, range_few m c.requires.editions view.body.now view.size.1 view.size.0 view.count pieces c.args.from c.args.count c.lay_range-octets.result c.lay_range-octets.new.output c.lay_range-octets.ensures.laid (room c.args.out.now) c.requires.range, c.lay_range-octets.ensures.room) in
+    let size : n ≤ length c.lay_range-octets.new.output = omega (arith, range_few m c.args.self.now.editions view.body.now view.size.1 view.size.0 view.count pieces c.args.from c.args.count c.lay_range-octets.result c.lay_range-octets.new.output c.lay_range-octets.ensures.laid (room c.args.out.now) c.requires.range, c.lay_range-octets.ensures.room) in
     omega (arith, length-take-le n c.lay_range-octets.new.output size)
 
 pub push_octets-requires : goal.push_octets-requires
@@ -28,12 +28,12 @@ push_octets-requires c =
     let view = c.args.view.now in
     let pieces = subst (λ codec. ArePieces false (record_kind_at codec.nodes codec.slots) view.count view.body.now) c.requires.view view.records in
     let n = c.lay_range-octets.result in
-    let size : n ≤ length c.lay_range-octets.new.output = omega (arith, range_few m c.requires.editions view.body.now view.size.1 view.size.0 view.count pieces c.args.from c.args.count c.lay_range-octets.result c.lay_range-octets.new.output c.lay_range-octets.ensures.laid (room c.args.out.now) c.requires.range, c.lay_range-octets.ensures.room) in
-    omega (arith, length-take-le n c.lay_range-octets.new.output size, range_fits m c.requires.editions view.body.now view.size.1 view.size.0 view.count pieces c.args.from c.args.count c.lay_range-octets.result c.lay_range-octets.new.output c.lay_range-octets.ensures.laid (room c.args.out.now) c.requires.range)
+    let size : n ≤ length c.lay_range-octets.new.output = omega (arith, range_few m c.args.self.now.editions view.body.now view.size.1 view.size.0 view.count pieces c.args.from c.args.count c.lay_range-octets.result c.lay_range-octets.new.output c.lay_range-octets.ensures.laid (room c.args.out.now) c.requires.range, c.lay_range-octets.ensures.room) in
+    omega (arith, length-take-le n c.lay_range-octets.new.output size, range_fits m c.args.self.now.editions view.body.now view.size.1 view.size.0 view.count pieces c.args.from c.args.count c.lay_range-octets.result c.lay_range-octets.new.output c.lay_range-octets.ensures.laid (room c.args.out.now) c.requires.range)
 
 pub returns : goal.returns
 returns c =
     let m = c.args.self.now in
     let view = c.args.view.now in
     let pieces = subst (λ codec. ArePieces false (record_kind_at codec.nodes codec.slots) view.count view.body.now) c.requires.view view.records in
-    range_appended m c.requires.editions view.body.now view.size.1 view.size.0 view.count pieces c.args.from c.args.count c.lay_range-octets.result c.lay_range-octets.new.output c.lay_range-octets.ensures.laid c.args.out.now c.push_octets.new.self (range_few m c.requires.editions view.body.now view.size.1 view.size.0 view.count pieces c.args.from c.args.count c.lay_range-octets.result c.lay_range-octets.new.output c.lay_range-octets.ensures.laid (room c.args.out.now) c.requires.range) c.push_octets.ensures
+    range_appended m c.args.self.now.editions view.body.now view.size.1 view.size.0 view.count pieces c.args.from c.args.count c.lay_range-octets.result c.lay_range-octets.new.output c.lay_range-octets.ensures.laid c.args.out.now c.push_octets.new.self (range_few m c.args.self.now.editions view.body.now view.size.1 view.size.0 view.count pieces c.args.from c.args.count c.lay_range-octets.result c.lay_range-octets.new.output c.lay_range-octets.ensures.laid (room c.args.out.now) c.requires.range) c.push_octets.ensures

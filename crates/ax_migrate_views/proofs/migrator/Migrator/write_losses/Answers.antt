@@ -22,7 +22,7 @@ loop-one-init g c =
     let m = c.args.self.now in
     let view = c.args.view.now in
     let it = c.into_iter-one-iterator.result in
-    let of = c.requires.editions in
+    let of = c.args.self.now.editions in
     let pieces = subst (λ codec. ArePieces false (record_kind_at codec.nodes codec.slots) view.count view.body.now) c.requires.view view.records in
     let each = subst (λ (codec : Codec). SpellEach codec view.body.now (records_left it)) c.requires.view (subst (λ it. SpellEach view.codec.now view.body.now (records_left it)) (sym c.into_iter-one-iterator.ensures.into_iter_gives) c.records-one-items.ensures) in
     record {
@@ -43,7 +43,7 @@ returns-in_err-write_record g c =
     let each = subst (λ (codec : Codec). SpellEach codec view.body.now (records_left it)) c.requires.view (subst (λ it. SpellEach view.codec.now view.body.now (records_left it)) (sym c.into_iter-one-iterator.ensures.into_iter_gives) c.records-one-items.ensures) in
     let lines = next_lines c.args.block n paths (records_left c.loop-one.one-iterator) later (record_shown c.in-Some.one) c.in-Some.ensures.steps
     ∙ ap (λ ks. lost_lines c.args.block (record_losses n (record_entries c.in-Some.one) (key_paths ks)) ++ lost_lines c.args.block (shown_losses paths (n + 1) later)) (sym c.as_slice.ensures.value) in
-    losses_written m view.body.now c.args.block (shown_losses paths 0 (records_left it)) _ _ _ _ _ (lost_each m view.body.now (records_left it) c.requires.editions each)
+    losses_written m view.body.now c.args.block (shown_losses paths 0 (records_left it)) _ _ _ _ _ (lost_each m view.body.now (records_left it) c.args.self.now.editions each)
     (front_failed _ _ _ _ _ _ _ _ _ _ _ _ c.from_residual.ensures.0 lines c.loop-one.invariant.front c.in_err-write_record.ensures.written)
 
 pub loop-one-preserved : goal.loop-one-preserved
@@ -68,5 +68,5 @@ returns g c =
     let it = c.into_iter-one-iterator.result in
     let paths = key_paths m.lost.items in
     let each = subst (λ (codec : Codec). SpellEach codec view.body.now (records_left it)) c.requires.view (subst (λ it. SpellEach view.codec.now view.body.now (records_left it)) (sym c.into_iter-one-iterator.ensures.into_iter_gives) c.records-one-items.ensures) in
-    losses_written m view.body.now c.args.block (shown_losses paths 0 (records_left it)) _ _ _ _ _ (lost_each m view.body.now (records_left it) c.requires.editions each)
+    losses_written m view.body.now c.args.block (shown_losses paths 0 (records_left it)) _ _ _ _ _ (lost_each m view.body.now (records_left it) c.args.self.now.editions each)
     (front_all _ _ _ _ _ _ (ap (λ x. lost_lines c.args.block (shown_losses paths c.loop-one.number x)) c.in-None.ensures.steps.0) c.loop-one.invariant.front)

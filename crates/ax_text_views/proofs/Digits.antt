@@ -1,5 +1,6 @@
 -- The digits of short numbers, and octets put at a place.
-use Rattle.std.proofs.Common.{◌≡◌, ℕ, ◌+◌, ◌/◌, ◌%◌, ◌<◌, ◌≤◌, List, [], ◌∷◌, ◌++◌, length, take, decimal, refl, sym, ◌∙◌, ap, arith, append_assoc}
+use Rattle.std.proofs.Common.{◌≡◌, ℕ, ◌+◌, ◌/◌, ◌%◌, ◌<◌, ◌≤◌, ◌⊎◌, inl, inr, List, [], ◌∷◌, ◌++◌, length, take, decimal, refl, sym, ◌∙◌, ap, arith, append_assoc}
+use Rattle.std.proofs.lemmas.Bool.{cases_lt}
 use Rattle.std.proofs.lemmas.Fmt.{decimal_digit, decimal_step}
 use Rattle.std.proofs.lemmas.List.{take-take, length-take-le}
 use Rattle.std.proofs.Math.Seq.{take-append-add}
@@ -27,6 +28,28 @@ by_thousands n lo hi =
 -- a front of n and one of m more is a front of both
 pub put_twice : (first mid last : List ℕ) (a b : List ℕ) (at n m : ℕ) → take n mid ≡ take at first ++ a → take m last ≡ take n mid ++ b → take m last ≡ take at first ++ (a ++ b)
 put_twice first mid last a b at n m p q = q ∙ ap (λ t. t ++ b) p ∙ append_assoc (take at first) a b
+
+-- the digits of a number of at most three, of which the first ones stay where there are as many
+pub short_put : (n at tens ones : ℕ) (old first second new : List ℕ) → n < 1000
+    → (n < 100 → take tens first ≡ take at old) → (100 ≤ n → take tens first ≡ take at old ++ (48 + n / 100) ∷ [])
+    → (n < 10 → take ones second ≡ take tens first) → (10 ≤ n → take ones second ≡ take tens first ++ (48 + n / 10 % 10) ∷ [])
+    → take (ones + 1) new ≡ take ones second ++ (48 + n % 10) ∷ [] → take (ones + 1) new ≡ take at old ++ decimal n
+short_put n at tens ones old first second new few no_hundreds hundreds no_tens tens_put last = by (cases_lt n 10) (cases_lt n 100)
+  where
+    by : (n < 10) ⊎ (10 ≤ n) → (n < 100) ⊎ (100 ≤ n) → take (ones + 1) new ≡ take at old ++ decimal n
+    by (inl lo) h =
+        let e : n % 10 ≡ n = omega arith in
+        last ∙ ap (λ t. t ++ (48 + n % 10) ∷ []) (no_tens lo ∙ no_hundreds (omega arith)) ∙ ap (λ d. take at old ++ (48 + d) ∷ []) e ∙ ap (λ t. take at old ++ t) (sym (decimal_digit n lo))
+    by (inr lo) (inl hi) =
+        let e : n / 10 % 10 ≡ n / 10 = omega arith in
+        put_twice old second new ((48 + n / 10 % 10) ∷ []) ((48 + n % 10) ∷ []) at ones (ones + 1) (tens_put lo ∙ ap (λ t. t ++ (48 + n / 10 % 10) ∷ []) (no_hundreds hi)) last
+        ∙ ap (λ d. take at old ++ (48 + d) ∷ (48 + n % 10) ∷ []) e ∙ ap (λ t. take at old ++ t) (sym (two_digits n lo hi))
+    by (inr lo) (inr hi) =
+        put_twice old second new ((48 + n / 100) ∷ (48 + n / 10 % 10) ∷ []) ((48 + n % 10) ∷ []) at ones (ones + 1)
+          (put_twice old first second ((48 + n / 100) ∷ []) ((48 + n / 10 % 10) ∷ []) at tens ones (hundreds hi) (tens_put lo)) last
+        ∙ ap (λ t. take at old ++ t) (sym (three_digits n hi few))
+
+pub ruleset shorts = (short_put)
 
 -- of what was put, only a front is kept
 pub put_front : (old new all text : List ℕ) (at : ℕ) → at ≤ length old → take (at + length all) new ≡ take at old ++ all → take (length text) all ≡ text → length text ≤ length all → take (at + length text) new ≡ take at old ++ text

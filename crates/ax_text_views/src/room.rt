@@ -99,25 +99,33 @@ fn put_three(room: &mut [u8], at: usize, number: u32)
     put_octet(room, at + 2, b'0' + (number % 10) as u8);
 }
 
+/// Puts a digit of a number, which stays only where the number isn't below `least`: so no branch depends on it. The result is the
+/// place after what stays.
+#[inline(always)]
+fn put_digit_from(room: &mut [u8], at: usize, digit: u32, number: u32, least: u32) -> usize
+    requires { (at < length room.old) × (digit < 10) }
+    ensures none { number < least → take result room.new ≡ take at room.old }
+    ensures some { least ≤ number → take result room.new ≡ take at room.old ++ (48 + digit) ∷ [] }
+    ensures few { result ≤ at + 1 }
+    ensures whole { length room.new ≡ length room.old }
+{
+    put_octet(room, at, b'0' + digit as u8);
+    if number < least { at } else { at + 1 }
+}
+
 /// Puts a number of at most three digits. The result is the place after it.
 #[inline(always)]
+#[tactic(auto, using(crate::proofs::Digits::shorts))]
 fn put_short(room: &mut [u8], at: usize, number: u32) -> usize
     requires { (at + 3 ≤ length room.old) × (number < 1000) }
     ensures front { take result room.new ≡ take at room.old ++ decimal number }
     ensures within { result ≤ at + 3 }
     ensures whole { length room.new ≡ length room.old }
 {
-    if number < 10 {
-        put_octet(room, at, b'0' + number as u8);
-        return at + 1;
-    }
-    if number < 100 {
-        put_octet(room, at, b'0' + (number / 10) as u8);
-        put_octet(room, at + 1, b'0' + (number % 10) as u8);
-        return at + 2;
-    }
-    put_three(room, at, number);
-    at + 3
+    let tens = put_digit_from(room, at, number / 100, number, 100);
+    let ones = put_digit_from(room, tens, number / 10 % 10, number, 10);
+    put_octet(room, ones, b'0' + (number % 10) as u8);
+    ones + 1
 }
 
 /// Puts a number of at most 64 bits. The result is the place after it.

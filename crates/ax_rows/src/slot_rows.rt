@@ -1,5 +1,5 @@
 //! The rows of a set of slots.
-ghost use Rattle.std.specs.Prelude.{◌≡◌, ◌≤◌, List, ℕ, [], length, IfOk, IfSome, IfNone};
+ghost use Rattle.std.specs.Prelude.{◌≡◌, ◌<◌, ◌≤◌, List, ℕ, [], false, length, IfOk, IfSome, IfNone};
 ghost use Rattle.std.specs.List.{AllByRecursion};
 ghost use Rattle.ax_rows.specs.Rows.{AreRows, AreRowsOf};
 
@@ -30,7 +30,8 @@ pub struct Rows<'a> {
 impl SlotRows {
     /// The rows of no slot. Takes no memory.
     pub fn new(alloc: Global) -> SlotRows
-        ensures { (octets : List ℕ) → AreRowsOf octets result }
+        ensures rows { (octets : List ℕ) → AreRowsOf octets result }
+        ensures none { result.slots.items ≡ [] }
     {
         SlotRows {
             slots: Vec::new(alloc),
@@ -54,6 +55,7 @@ impl SlotRows {
         requires links { AllByRecursion (λ link. link ≤ length octets.now) slots.now }
         ensures rows { IfOk result (λ made. AreRowsOf octets.now made) }
         ensures slots { IfOk result (λ made. length slots.now ≤ 63 → made.slots.items ≡ slots.now) }
+        ensures some { IfOk result (λ made. 0 < length made.slots.items → made.slots.items ≡ slots.now) }
     {
         if slots.len() > MOST_SLOTS {
             return Ok(SlotRows::new(alloc));
@@ -68,16 +70,33 @@ impl SlotRows {
         })
     }
 
+    /// Whether they are the rows of no slot.
+    #[inline(always)]
+    pub fn is_empty(&self) -> bool
+        ensures { result ≡ false → 0 < length self.now.slots.items }
+    {
+        self.slots.is_empty()
+    }
+
+    /// The rows, lent.
+    #[inline(always)]
+    pub fn as_rows(&self) -> Rows<'_>
+        ensures start { result.start.now ≡ self.now.start.items }
+        ensures steps { result.steps.now ≡ self.now.steps.items }
+    {
+        Rows {
+            start: self.start.as_slice(),
+            steps: self.steps.as_slice(),
+        }
+    }
+
     /// The rows, where they are those of these slots.
     pub fn rows_for(&self, slots: &[u32]) -> Option<Rows<'_>>
         ensures some { IfSome result (λ rows. (octets : List ℕ) → AreRowsOf octets self.now → AreRows octets slots.now rows.start.now rows.steps.now) }
         ensures none { IfNone result (self.now.slots.items ≡ slots.now → ⊥) }
     {
         if self.slots.as_slice() == slots {
-            Some(Rows {
-                start: self.start.as_slice(),
-                steps: self.steps.as_slice(),
-            })
+            Some(self.as_rows())
         } else {
             None
         }

@@ -38,7 +38,7 @@ links_far : (m n : ℕ) (links : List ℕ) → m ≤ n → LinksWithin m links �
 links_far m n [] le h = tt
 links_far m n (link ∷ links) le h = ((h.0.0, omega (arith, h.0.1)), links_far m n links le h.1)
 
-slot_links_far : (m n : ℕ) (links : List ℕ) → m ≤ n → SlotLinksWithin m links → SlotLinksWithin n links
+pub slot_links_far : (m n : ℕ) (links : List ℕ) → m ≤ n → SlotLinksWithin m links → SlotLinksWithin n links
 slot_links_far m n [] le h = tt
 slot_links_far m n (link ∷ links) le h = (omega (arith, h.0), slot_links_far m n links le h.1)
 

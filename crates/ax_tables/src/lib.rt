@@ -7,6 +7,7 @@ mod build;
 mod codec;
 mod codecs;
 mod node;
+mod node_rows;
 
 pub use build::compile;
 pub use codec::Codec;

@@ -6,7 +6,10 @@ ghost use Rattle.ax_rows.specs.Rows.{AreRows};
 ghost use Rattle.ax_lists.specs.Sizes.{list_bound};
 ghost use Rattle.ax_tables.specs.Octets.{octets_of};
 ghost use Rattle.ax_tables.specs.Meaning.{fixed_bits, part_bits};
+ghost use Rattle.ax_tables.specs.NodeRows.{EachRows};
+ghost use Rattle.ax_tables.specs.Table.{IsTable};
 
+use crate::node_rows::rows_of_compounds;
 use ax_fspec::SlotMask;
 use ax_lists::Sequence;
 use ax_model::{Counter, LastPart};
@@ -18,17 +21,21 @@ use std::marker::Model;
 pub type Links = Sequence<u32>;
 
 /// The nodes of a table, in order. Contracts see that list alone; how many octets each fixed kind has stands beside it,
-/// so that octets are walked over without a look at the node, and so do the rows of a set of slots, by which records are.
+/// so that octets are walked over without a look at the node, and so do the rows of a set of slots, by which records are, and
+/// those of compounds.
 #[derive(Drop)]
 pub struct Nodes {
     items: Vec<Node>,
     octets: Vec<u32>,
     rows: SlotRows,
+    /// By node the rows of a compound's slots; of no slot where it is none, or has no rows.
+    compounds: Vec<SlotRows>,
 }
 
 impl Model for Nodes {
     ghost use Rattle.std.specs.Prelude.{◌≡◌, ◌<◌, List, length, map};
     ghost use Rattle.ax_rows.specs.Rows.{AreRowsOf};
+    ghost use Rattle.ax_tables.specs.NodeRows.{EachRows};
     ghost use Rattle.ax_tables.specs.Octets.{octets_of};
     ghost use Rattle.ax_tables.specs.declared.node.Node.{Node};
     ghost use Rattle.ax_lists.specs.Sizes.{list_bound};
@@ -37,7 +44,7 @@ impl Model for Nodes {
 
     ghost view = { λ n. n.items.items };
 
-    ghost invariant = { λ n. (length n.items.items < list_bound) × (n.octets.items ≡ map octets_of n.items.items) × AreRowsOf n.octets.items n.rows };
+    ghost invariant = { λ n. (length n.items.items < list_bound) × (n.octets.items ≡ map octets_of n.items.items) × AreRowsOf n.octets.items n.rows × EachRows n.octets.items n.items.items n.compounds.items };
 }
 
 impl Nodes {
@@ -49,6 +56,7 @@ impl Nodes {
             items: Vec::new(alloc),
             octets: Vec::new(alloc),
             rows: SlotRows::new(alloc),
+            compounds: Vec::new(alloc),
         }
     }
 
@@ -90,12 +98,25 @@ impl Nodes {
         self.rows.rows_for(slots)
     }
 
-    /// Makes the rows of these slots, by which records of them are walked over.
+    /// The rows of the slots of compounds, by node, for the first nodes; of no slot where a node is no compound or has no rows.
+    #[inline]
+    pub fn compound_rows(&self) -> &[SlotRows]
+        ensures { EachRows (map octets_of self.now) self.now result.now }
+    {
+        self.compounds.as_slice()
+    }
+
+    /// Makes the rows of these slots, by which records of them are walked over, and those of compounds, as far as their rows have
+    /// room.
     pub fn make_rows(&mut self, alloc: Global, slots: &[u32]) -> Result<(), AllocError>
-        requires { AllByRecursion (λ link. link ≤ length self.old) slots.now }
+        requires table { IsTable self.old }
+        requires slots { AllByRecursion (λ link. link ≤ length self.old) slots.now }
         ensures { self.new ≡ self.old }
     {
-        self.rows = SlotRows::of(alloc, self.octets.as_slice(), slots)?;
+        let rows = SlotRows::of(alloc, self.octets.as_slice(), slots)?;
+        let compounds = rows_of_compounds(alloc, self.items.as_slice(), self.octets.as_slice())?;
+        self.rows = rows;
+        self.compounds = compounds;
         Ok(())
     }
 
@@ -106,6 +127,7 @@ impl Nodes {
         ensures err { OnErr result (self.new ≡ self.old) }
     {
         self.rows.clear();
+        self.compounds.clear();
         self.octets.push(one.octets())?;
         if self.items.push(one).is_err() {
             let _ = self.octets.pop();

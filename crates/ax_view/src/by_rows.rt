@@ -9,22 +9,59 @@ ghost use Rattle.ax_model.specs.Sizes.{longest_body};
 ghost use Rattle.ax_reader.specs.Reading.{IsMaskOf, kind_read};
 ghost use Rattle.ax_rows.specs.Rows.{IsRow, AreRows};
 ghost use Rattle.ax_tables.specs.Meaning.{meanings, linked_slots};
+ghost use Rattle.ax_tables.specs.NodeRows.{EachRows};
 ghost use Rattle.ax_tables.specs.Octets.{octets_of};
-ghost use Rattle.ax_tables.specs.Table.{IsTable, SlotLinksWithin, record_kind_at};
+ghost use Rattle.ax_tables.specs.Table.{IsTable, SlotLinksWithin, kind_at, record_kind_at};
 ghost use Rattle.ax_view.specs.Rows.{AreSlots, SlotsLead, IsField, HaveRows, marks_of, slots_at};
 ghost use Rattle.ax_view.specs.Walking.{Walks};
 
+use crate::compound_rows::{compound_rows, skip_compound};
 use crate::notes::Notes;
 use crate::octets::{note_field, walk_item};
 use ax_fspec::SlotMask;
-use ax_rows::{NO_ROW, Rows, Step};
+use ax_rows::{NO_ROW, Rows, SlotRows, Step};
 use ax_tables::Node;
+
+/// The octet after the value of an item of a record that begins at octet `at`: a compound is walked over by its rows, if it has some
+/// and each marked subitem has fixed octets.
+#[inline(always)]
+fn walk_record_item(
+    nodes: &[Node],
+    octets: &[u32],
+    compounds: &[SlotRows],
+    link: u32,
+    body: &[u8],
+    at: u32,
+    notes: &mut Notes,
+) -> Option<u32>
+    requires table { IsTable nodes.now }
+    requires octets { octets.now ≡ map octets_of nodes.now }
+    requires compounds { EachRows octets.now nodes.now compounds.now }
+    requires link { (0 < link) × (link ≤ length nodes.now) }
+    requires bounds { InBounds (kind_at nodes.now link) }
+    requires body { length body.now ≤ longest_body }
+    requires at { at ≤ length body.now }
+    ensures end { IfSome result (λ end. Walks (canon (kind_at nodes.now link)) (kind_read (kind_at nodes.now link) body.now at) body.now at end notes.new.least) }
+    ensures falls { IsTrue notes.new.least → IsTrue notes.old.least }
+{
+    if let Node::Compound { mask, slots } = &nodes[link as usize - 1] {
+        let slots = slots.as_slice();
+        if let Some(rows) = compound_rows(nodes, octets, compounds, link) {
+            let end = skip_compound(nodes, octets, mask, rows, slots, body, at, notes);
+            if end.is_some() {
+                return end;
+            }
+        }
+    }
+    walk_item(nodes, octets, link, body, at, notes)
+}
 
 /// The octet after the values of the slots that presence octet `index` marks, by its row. None says nothing.
 #[inline(always)]
 fn walk_row(
     nodes: &[Node],
     octets: &[u32],
+    compounds: &[SlotRows],
     steps: &[Step],
     first: u32,
     slots: &[u32],
@@ -36,6 +73,7 @@ fn walk_row(
 ) -> Option<u32>
     requires table { IsTable nodes.now }
     requires octets { octets.now ≡ map octets_of nodes.now }
+    requires compounds { EachRows octets.now nodes.now compounds.now }
     requires slots { AreSlots nodes.now (slots_at index slots.now) }
     requires row { IsRow octets.now (slots_at index slots.now) (seven marks) steps.now first }
     requires body { length body.now ≤ longest_body }
@@ -55,7 +93,7 @@ fn walk_row(
         if step.link == 0 {
             return Some(here);
         }
-        here = walk_item(nodes, octets, step.link, body, here, notes)?;
+        here = walk_record_item(nodes, octets, compounds, step.link, body, here, notes)?;
         place += 1;
     }
     None
@@ -67,6 +105,7 @@ fn walk_row(
 fn walk_rows(
     nodes: &[Node],
     octets: &[u32],
+    compounds: &[SlotRows],
     rows: Rows<'_>,
     slots: &[u32],
     field: u32,
@@ -76,6 +115,7 @@ fn walk_rows(
 ) -> Option<u32>
     requires table { IsTable nodes.now }
     requires octets { octets.now ≡ map octets_of nodes.now }
+    requires compounds { EachRows octets.now nodes.now compounds.now }
     requires slots { AreSlots nodes.now slots.now }
     requires rows { AreRows octets.now slots.now rows.start.now rows.steps.now }
     requires count { 128 * count ≤ length rows.start.now }
@@ -93,7 +133,7 @@ fn walk_rows(
             return None;
         }
         here = walk_row(
-            nodes, octets, rows.steps, first, slots, index, marks, body, here, notes,
+            nodes, octets, compounds, rows.steps, first, slots, index, marks, body, here, notes,
         )?;
     }
     Some(here)
@@ -101,7 +141,7 @@ fn walk_rows(
 
 /// The octets of the presence field that begins at octet `at`, where it has no more than so many slots need. None says nothing.
 #[inline(always)]
-fn field_octets(body: &[u8], at: u32, slots: u32) -> Option<u32>
+pub(crate) fn field_octets(body: &[u8], at: u32, slots: u32) -> Option<u32>
     requires body { length body.now ≤ longest_body }
     requires at { at ≤ length body.now }
     requires slots { slots ≤ 126 }
@@ -127,6 +167,7 @@ fn field_octets(body: &[u8], at: u32, slots: u32) -> Option<u32>
 pub(crate) fn walk_by_rows(
     nodes: &[Node],
     octets: &[u32],
+    compounds: &[SlotRows],
     mask: &SlotMask,
     rows: Rows<'_>,
     slots: &[u32],
@@ -136,6 +177,7 @@ pub(crate) fn walk_by_rows(
 ) -> Option<u32>
     requires table { IsTable nodes.now }
     requires octets { octets.now ≡ map octets_of nodes.now }
+    requires compounds { EachRows octets.now nodes.now compounds.now }
     requires links { SlotLinksWithin (length nodes.now) slots.now }
     requires mask { IsMaskOf (linked_slots (meanings nodes.now) slots.now) mask.now }
     requires bounds { InBounds (record_kind_at nodes.now slots.now) }
@@ -147,5 +189,7 @@ pub(crate) fn walk_by_rows(
 {
     let count = field_octets(body, at, mask.count)?;
     note_field(body, at, at + count, notes);
-    walk_rows(nodes, octets, rows, slots, at, count, body, notes)
+    walk_rows(
+        nodes, octets, compounds, rows, slots, at, count, body, notes,
+    )
 }

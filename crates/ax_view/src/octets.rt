@@ -64,6 +64,7 @@ pub(crate) fn walk_with(
         let end = walk_by_rows(
             codec.nodes.as_slice(),
             codec.nodes.octets(),
+            codec.nodes.compound_rows(),
             &codec.mask,
             rows,
             codec.slots.as_slice(),

@@ -18,7 +18,7 @@ ghost use Rattle.ax_view.specs.Walking.{Walks};
 
 use crate::item::ItemView;
 use crate::notes::Notes;
-use crate::octets::walk;
+use crate::octets::walk_item;
 use ax_fspec::{Presence, SlotMask, read_presence};
 use ax_tables::Codec;
 
@@ -47,6 +47,7 @@ pub(crate) fn find<'c, 'a>(
 }
 
 /// The same in the octets after the presence field.
+#[inline(always)]
 fn find_marked<'c, 'a>(
     codec: &'c Codec,
     slots: &[u32],
@@ -101,5 +102,6 @@ pub(crate) fn walk_of(
     ensures end { IfSome result (λ end. Walks (canon (kind_at codec.now.nodes link)) (kind_read (kind_at codec.now.nodes link) body.now at) body.now at end notes.new.least) }
     ensures fault { IfNone result (FailsAt (kind_read (kind_at codec.now.nodes link) body.now at) at notes.new.fault) }
 {
-    walk(codec.nodes.as_slice(), link, body, at, notes)
+    let octets = codec.nodes.octets();
+    walk_item(codec.nodes.as_slice(), octets, link, body, at, notes)
 }

@@ -67,6 +67,7 @@ impl<'v, 'c, 'a> PlacedSlots<'v, 'c, 'a> {
     }
 
     /// What stands at a place of the record.
+    #[inline(always)]
     fn spot(&self, place: &Place) -> Spot<'a>
         requires placed { IsPlaced self.now }
         ensures { IsSpot self.now.codec.now.nodes result (value_at (place.now.frn ∷ place.now.steps) (marked (placed_entries self.now))) }
@@ -79,6 +80,7 @@ impl<'v, 'c, 'a> PlacedSlots<'v, 'c, 'a> {
 
     /// Whether something stands at a place of the record: its item is marked, and within it each slot and part that the
     /// steps lead through is there. The items before aren't walked over.
+    #[inline]
     pub fn present(&self, place: &Place) -> bool
         requires placed { IsPlaced self.now }
         ensures { result ≡ is_present (placed_entries self.now) place.now }
@@ -88,6 +90,7 @@ impl<'v, 'c, 'a> PlacedSlots<'v, 'c, 'a> {
 
     /// The number at a place of the record, without a walk over the items before. None comes exactly where none stands
     /// there: the place of an element isn't present.
+    #[inline]
     pub fn number(&self, place: &Place) -> Option<u128>
         requires placed { IsPlaced self.now }
         ensures { result ≡ At (placed_entries self.now) place.now }

@@ -25,6 +25,7 @@ impl<'c, 'a> RecordView<'c, 'a> {
 
     /// The item of a field reference number, in its octets of the record: those after the presence field and the items before.
     /// None comes exactly where it isn't marked.
+    #[inline(always)]
     pub fn item(&self, frn: u32) -> Option<ItemView<'c, 'a>>
         ensures value { option_map item_value result ≡ slot_value frn (record_entries self.now) }
         ensures place { IfSome result (IsOfSlot self.now.codec.now self.now.codec.now.slots frn) }
@@ -40,6 +41,7 @@ impl<'c, 'a> RecordView<'c, 'a> {
     }
 
     /// What stands at a place.
+    #[inline(always)]
     fn spot(&self, place: &Place) -> Spot<'a>
         ensures { IsSpot self.now.codec.now.nodes result (value_at (place.now.frn ∷ place.now.steps) (marked (record_entries self.now))) }
     {
@@ -51,6 +53,7 @@ impl<'c, 'a> RecordView<'c, 'a> {
 
     /// Whether something stands at a place: its item is marked, and within it each slot and part that the steps lead
     /// through is there.
+    #[inline]
     pub fn present(&self, place: &Place) -> bool
         ensures { result ≡ is_present (record_entries self.now) place.now }
     {
@@ -58,6 +61,7 @@ impl<'c, 'a> RecordView<'c, 'a> {
     }
 
     /// The number at a place. None comes exactly where none stands there: the place of an element isn't present.
+    #[inline]
     pub fn number(&self, place: &Place) -> Option<u128>
         ensures { result ≡ At (record_entries self.now) place.now }
     {

@@ -17,6 +17,7 @@ use ax_model::LastPart;
 use ax_tables::Node;
 
 /// The link of a member, and the bit at which it begins. None comes exactly where there is no such member.
+#[inline(always)]
 pub(crate) fn find_member(
     nodes: &[Node],
     members: &[u32],

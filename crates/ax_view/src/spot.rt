@@ -1,6 +1,6 @@
 //! Places in records, found by steps down the nodes.
-ghost use Rattle.std.specs.Prelude.{◌≡◌, ◌+◌, ◌-◌, ◌*◌, ◌<◌, ◌≤◌, false, length, drop, IfSome, IfNone};
-ghost use Rattle.ax_bits.specs.Bits.{bits};
+ghost use Rattle.std.specs.Prelude.{◌≡◌, ◌+◌, ◌-◌, ◌*◌, ◌%◌, ◌^◌, ◌<◌, ◌≤◌, false, length, drop, take, IfSome, IfNone};
+ghost use Rattle.ax_bits.specs.Bits.{bits, word};
 ghost use Rattle.ax_model.specs.At.{value_at, number_of_value};
 ghost use Rattle.ax_model.specs.InBounds.{InBounds, FixedInBounds};
 ghost use Rattle.ax_model.specs.Reader.{fixed_value};
@@ -36,6 +36,7 @@ pub(crate) enum Spot<'a> {
 
 /// The link of the fixed kind at the end of these steps in another, of which the value begins at bit `at`, and the bit at
 /// which its own begins. None comes exactly where the steps lead nowhere.
+#[inline(always)]
 fn find_fixed(nodes: &[Node], first: u32, at: u32, steps: &[u32]) -> Option<(u32, u32)>
     requires table { IsTable nodes.now }
     requires link { (0 < first) × (first ≤ length nodes.now) }
@@ -62,6 +63,7 @@ fn find_fixed(nodes: &[Node], first: u32, at: u32, steps: &[u32]) -> Option<(u32
 }
 
 /// What stands at the end of these steps in a value of a fixed kind that begins with the octets.
+#[inline(always)]
 fn fixed_spot<'a>(nodes: &[Node], link: u32, octets: &'a [u8], steps: &[u32]) -> Spot<'a>
     requires table { IsTable nodes.now }
     requires link { (0 < link) × (link ≤ length nodes.now) }
@@ -77,6 +79,7 @@ fn fixed_spot<'a>(nodes: &[Node], link: u32, octets: &'a [u8], steps: &[u32]) ->
 }
 
 /// What stands at the end of these steps in an extended or closed item.
+#[inline]
 fn part_spot<'a>(
     nodes: &[Node],
     last: LastPart,
@@ -140,7 +143,35 @@ pub(crate) fn spot_of<'a>(item: &ItemView<'_, 'a>, steps: &[u32]) -> Spot<'a>
     }
 }
 
+/// The number that `width` bits in one octet of `octets` spell, from bit `at` on.
+#[inline(always)]
+fn number_in_octet(octets: &[u8], at: u32, width: u32) -> u32
+    requires width { (1 ≤ width) × (at % 8 + width ≤ 8) }
+    requires within { at + width ≤ 8 * length octets.now }
+    ensures number { word width result ≡ take width (drop at (bits octets.now)) }
+    ensures below { result < 2 ^ width }
+{
+    let octet = octets[(at / 8) as usize] as u32;
+    octet >> (8 - at % 8 - width) & ((1 << width) - 1)
+}
+
+/// The number that `width` bits of `octets` spell, from bit `at` on; where they are in one octet, by that alone.
+#[inline(always)]
+fn number_in(octets: &[u8], at: u32, width: u32) -> u128
+    requires width { (1 ≤ width) × (width ≤ 128) }
+    requires within { at + width ≤ 8 * length octets.now }
+    ensures number { word width result ≡ take width (drop at (bits octets.now)) }
+    ensures below { result < 2 ^ width }
+{
+    if at % 8 + width <= 8 {
+        number_in_octet(octets, at, width) as u128
+    } else {
+        bits_at(octets, at, width)
+    }
+}
+
 /// The number in a value of a fixed kind that begins at bit `at`. None comes exactly where it is no element.
+#[inline(always)]
 pub(crate) fn fixed_number(nodes: &[Node], link: u32, at: u32, body: &[u8]) -> Option<u128>
     requires table { IsTable nodes.now }
     requires link { (0 < link) × (link ≤ length nodes.now) }
@@ -152,5 +183,5 @@ pub(crate) fn fixed_number(nodes: &[Node], link: u32, at: u32, body: &[u8]) -> O
     let Node::Element { width } = &nodes[link as usize - 1] else {
         return None;
     };
-    Some(bits_at(body, at, *width))
+    Some(number_in(body, at, *width))
 }

@@ -1,7 +1,7 @@
 -- Values of kinds that are built.
 use Rattle.std.proofs.Common.{◌≡◌, ℕ, suc, ◌+◌, ◌^◌, ◌<◌, ◌≤◌, true, List, [], ◌∷◌, ◌++◌, length, map, refl, sym, ◌∙◌, ap, subst, arith, Box, Global}
 use Rattle.ax_bits.specs.Bits.{word}
-use Rattle.ax_printed_lines.specs.Laid.{laid, Lays}
+use Rattle.ax_printed_lines.specs.Laid.{Lays, Leaves, Fills}
 use Rattle.ax_printed_lines.specs.declared.laid.Laid.{Laid}
 use Rattle.ax_block_reader.proofs.Onto.{kind_more}
 use Rattle.ax_fspec.specs.Fields.{least_field}
@@ -12,7 +12,7 @@ use Rattle.ax_model.specs.Plain.{fixed_tree, part_tree, kind_tree, slot_tree, sl
 use Rattle.ax_model.specs.Shape.{FixedShape, PartsShape, Shape, EachShape, EntriesShape}
 use Rattle.ax_model.specs.Tree.{KindTree, fixed, extended, counted, by_fx, explicit, compound, SlotTree, SlotsTree, no_slots, slot_and, subitem, part_values, occurrences, marked, ValuesTree, no_values, value_and, value_count}
 use Rattle.ax_model.specs.declared.kind.Fixed.{Fixed}
-use Rattle.ax_model.specs.Widths.{counter_width}
+use Rattle.ax_model.specs.Widths.{counter_width, counter_octets}
 use Rattle.ax_model.specs.declared.kind.Counter.{Counter}
 use Rattle.ax_model.specs.declared.kind.Kind.{Kind}
 use Rattle.ax_model.specs.declared.kind.Kind.TheOpen.{Slot-F}
@@ -27,6 +27,7 @@ use Rattle.ax_printed_lines.specs.Printed.{Place, Goes, IsBuilt, AreSlots, Build
 use Rattle.ax_printed_lines.proofs.Building.{built_after, built_as, Partly, partly_first, partly_more, partly_done, built_bare}
 use Rattle.ax_printed_lines.proofs.FixedBuilt.{FixedIsBuilt}
 use Rattle.ax_printed_lines.proofs.Going.{less_left}
+use Rattle.ax_printed_lines.proofs.Room.{left_filled}
 use Rattle.ax_printed_lines.proofs.ListsBuilt.{SomeFixed, PartsAreBuilt, RunIsBuilt}
 
 -- ---- the trees of the code's variants
@@ -154,25 +155,22 @@ each_done k count old now new before after l g =
 
 -- ---- what stands after a count or a presence field
 
-pub fresh_bits : (before after : Laid) (b : List ℕ) → laid before ≡ [] → Lays before after b → laid after ≡ b
-fresh_bits before after b none a = a ∙ ap (λ w. w ++ b) none
-
-pub counted_whole : (size : Counter) (k : KindTree) (count : ℕ) (old new : Place) (first last before after : Laid) → count < 2 ^ counter_width size → laid first ≡ [] → EachIsBuilt k count old new first last → Lays before after (word (counter_width size) count ++ laid last)
+pub counted_whole : (size : Counter) (k : KindTree) (count n : ℕ) (old new : Place) (before first last after : Laid) → count < 2 ^ counter_width size → Leaves before first n (counter_octets size) → EachIsBuilt k count old new first last → Fills last after n (counter_octets size) (word (counter_width size) count)
     → CountedIsBuilt size k old new before after
-counted_whole size k count old new first last before after few none b a = record {
+counted_whole size k count n old new before first last after few l b f = record {
   value = b.value;
   shape = (subst (λ n. n < 2 ^ counter_width size) (sym b.shape.0) few, b.shape.1);
   goes = b.goes;
-  lays = subst (λ w. Lays before after w) (λ i. word (counter_width size) (sym b.shape.0 i) ++ fresh_bits first last (each_canon (canon k) b.value) none b.lays i) a;
+  lays = subst (λ m. Lays before after (word (counter_width size) m ++ each_canon (canon k) b.value)) (sym b.shape.0) (left_filled before first last after n (counter_octets size) (each_canon (canon k) b.value) (word (counter_width size) count) l b.lays f);
 }
 
-pub compound_whole : (ss : SlotsTree) (marks : List ℕ) (old new : Place) (first last before after : Laid) → laid first ≡ [] → IsBuilt (HasMarks ss marks) (λ es. entries_onto 1 ss es (closing ∷ [])) (entries_canon 1 ss) old new first last
-    → Lays before after (least_field marks ++ laid last) → CompoundIsBuilt ss old new before after
-compound_whole ss marks old new first last before after none b a = record {
+pub compound_whole : (ss : SlotsTree) (marks : List ℕ) (n room : ℕ) (old new : Place) (before first last after : Laid) → Leaves before first n room → IsBuilt (HasMarks ss marks) (λ es. entries_onto 1 ss es (closing ∷ [])) (entries_canon 1 ss) old new first last
+    → Fills last after n room (least_field marks) → CompoundIsBuilt ss old new before after
+compound_whole ss marks n room old new before first last after l b f = record {
   value = b.value;
   shape = b.shape.0;
   goes = b.goes;
-  lays = subst (λ w. Lays before after w) (λ i. b.shape.1 i ++ fresh_bits first last (entries_canon 1 ss b.value) none b.lays i) a;
+  lays = subst (λ w. Lays before after (w ++ entries_canon 1 ss b.value)) b.shape.1 (left_filled before first last after n room (entries_canon 1 ss b.value) (least_field marks) l b.lays f);
 }
 
 -- ---- a subitem

@@ -1,12 +1,12 @@
 -- Bits that are laid, piece by piece.
-use Rattle.std.proofs.Common.{◌≡◌, ℕ, suc, ◌+◌, ◌-◌, ◌*◌, ◌/◌, ◌%◌, ◌^◌, ◌<◌, ◌≤◌, List, [], ◌∷◌, ◌++◌, length, take, set, get_or, refl, sym, ◌∙◌, ap, subst, arith, append_assoc, append-nil, lit<, length-take-le}
-use Rattle.std.proofs.lemmas.List.{take_more_set, take_all, take_at, take-take}
+use Rattle.std.proofs.Common.{◌≡◌, ℕ, suc, ◌+◌, ◌-◌, ◌*◌, ◌/◌, ◌%◌, ◌^◌, ◌<◌, ◌≤◌, List, [], ◌∷◌, ◌++◌, length, take, set, refl, sym, ◌∙◌, ap, subst, arith, append_assoc, append-nil, lit<, length-take-le}
+use Rattle.std.proofs.lemmas.List.{take_more_set, take_at, take-take}
 use Rattle.std.proofs.lemmas.Nat.{shl_below, shr_below, pow_pos}
 use Rattle.std.proofs.Math.Seq.{take-append-add}
 use Rattle.std.specs.Int.{w64, to_be_bytes, bytes_high_first, byte_at}
 use Rattle.std.proofs.Math.Nat.{mod-eq_of_lt, pow-le-pow_right, pow-suc}
 use Rattle.ax_bits.specs.Bits.{word, bits}
-use Rattle.ax_bits.proofs.Pieces.{word-split, word-low, word-joined, bits_more, take-bits}
+use Rattle.ax_bits.proofs.Pieces.{word-split, word-low, word-joined, take-bits}
 use Rattle.ax_bits.proofs.Words.{bits-append, length-word}
 use Rattle.ax_printed_lines.specs.Laid.{laid, Lays}
 use Rattle.ax_printed_lines.specs.declared.laid.Laid.{Laid}
@@ -62,19 +62,6 @@ zeros_in_front width value lt few =
 
 pub upper_below : (width value : ℕ) → 32 < width → value < 2 ^ width → value / 2 ^ 32 < 2 ^ (width - 32)
 upper_below width value lt few = shr_below value (width - 32) 32 (subst (λ w. value < 2 ^ w) (let e : width ≡ width - 32 + 32 = omega (arith, lt) in e) few)
-
--- ---- octets
-
-pub octets_copied : (all new octets : List ℕ) (count end : ℕ) → take end new ≡ take count all ++ octets → bits (take end new) ++ [] ≡ (bits (take count all) ++ []) ++ bits octets
-octets_copied all new octets count end e =
-    append-nil (bits (take end new)) ∙ ap bits e ∙ bits-append (take count all) octets ∙ ap (λ w. w ++ bits octets) (sym (append-nil (bits (take count all))))
-
-pub each_laid : (old now new : Laid) (octets : List ℕ) (i x : ℕ) → i < length octets → x ≡ get_or octets i 0 → Lays old now (bits (take i octets)) → Lays now new (word 8 x) → Lays old new (bits (take (i + 1) octets))
-each_laid old now new octets i x lt is p q =
-    lays_more old now new (bits (take i octets)) (word 8 x) (bits (take (i + 1) octets)) (bits_more octets i lt ∙ ap (λ k. bits (take i octets) ++ word 8 k) (sym is)) p q
-
-pub all_laid : (old now : Laid) (octets : List ℕ) (i : ℕ) → length octets ≤ i → Lays old now (bits (take i octets)) → Lays old now (bits octets)
-all_laid old now octets i le p = subst (λ l. Lays old now (bits l)) (take_all i octets le) p
 
 -- ---- whole octets of a number that is stored at once
 

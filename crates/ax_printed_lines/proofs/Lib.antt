@@ -3,6 +3,7 @@ pub mod Fronts
 pub mod Separators
 pub mod Going
 pub mod Laying
+pub mod Room
 pub mod Building
 pub mod FixedBuilt
 pub mod ListsBuilt

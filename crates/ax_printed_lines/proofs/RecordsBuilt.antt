@@ -1,7 +1,7 @@
 -- Records that are built.
 use Rattle.std.proofs.Common.{◌≡◌, ℕ, suc, ◌+◌, ◌<◌, ◌≤◌, true, List, [], ◌∷◌, ◌++◌, length, map, drop, get_or, Some, refl, sym, ◌∙◌, ap, subst, arith}
 use Rattle.std.specs.List.{AllByRecursion}
-use Rattle.ax_printed_lines.specs.Laid.{laid, Lays}
+use Rattle.ax_printed_lines.specs.Laid.{Leaves, Fills}
 use Rattle.ax_printed_lines.specs.declared.laid.Laid.{Laid}
 use Rattle.ax_block_reader.proofs.Onto.{entries_more}
 use Rattle.ax_block_reader.proofs.RecordWays.{item_there, name_there, slots_of_uap}
@@ -50,13 +50,13 @@ record_areas spec none = record_bounds spec none
 abbrev pub RecordIsBuilt : SpecTree → Place → Place → Laid → Laid → Type 0
 RecordIsBuilt spec old new before after = IsBuilt (RecordShape spec) (λ es. record_onto spec es []) (CanonRecord spec) old new before after
 
-pub record_whole : (spec : SpecTree) (marks : List ℕ) (old mid inner new : Place) (first last before after : Laid) → (IsOneWord (codes "record") → Goes old mid (codes "record" ∷ [])) → Goes mid inner (opening ∷ []) → laid first ≡ []
-    → IsBuilt (HasMarks (record_slots spec) marks) (λ es. entries_onto 1 (record_slots spec) es (closing ∷ [])) (entries_canon 1 (record_slots spec)) inner new first last → Lays before after (least_field marks ++ laid last) → RecordIsBuilt spec old new before after
-record_whole spec marks old mid inner new first last before after g o none b a =
+pub record_whole : (spec : SpecTree) (marks : List ℕ) (n room : ℕ) (old mid inner new : Place) (before first last after : Laid) → (IsOneWord (codes "record") → Goes old mid (codes "record" ∷ [])) → Goes mid inner (opening ∷ []) → Leaves before first n room
+    → IsBuilt (HasMarks (record_slots spec) marks) (λ es. entries_onto 1 (record_slots spec) es (closing ∷ [])) (entries_canon 1 (record_slots spec)) inner new first last → Fills last after n room (least_field marks) → RecordIsBuilt spec old new before after
+record_whole spec marks n room old mid inner new before first last after g o l b f =
     let ss = record_slots spec in
     let front = goes_both old mid inner (codes "record" ∷ []) (opening ∷ []) (g (one_word (codes "record") record_is_word)) o in
     built_after (EntriesShape 1 ss) (λ es. entries_onto 1 ss es (closing ∷ [])) (CanonRecord spec) (RecordShape spec) (λ es. record_onto spec es []) (CanonRecord spec) (codes "record" ∷ opening ∷ []) old inner new before after front
-    (compound_whole ss marks inner new first last before after none b a) (λ es h. (es, record { shape = h }, refl, refl))
+    (compound_whole ss marks n room inner new before first last after l b f) (λ es h. (es, record { shape = h }, refl, refl))
 
 -- ---- records
 

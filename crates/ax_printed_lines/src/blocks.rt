@@ -10,7 +10,7 @@ use ax_uap::CatalogueItems;
 
 /// Where the line is the text of a block of a category that the catalogue has, with separators between its tokens and no comment, the
 /// body of its canonical form is laid, and this is its category. None says nothing of the line: it comes for any other text, and where
-/// the octets of a record, of a counted or wide item or of a compound, or the body, need more room than is kept here. Takes no memory.
+/// the body needs more room than is lent. Takes no memory.
 pub fn printed_body(items: &CatalogueItems<'_>, line: &[u8], out: &mut Laid<'_>) -> Option<u8>
     ensures { IfSome result (λ category. IsPrinted (catalogue_tree items.now) line.now category out.old out.new) }
 {

@@ -17,12 +17,9 @@ use crate::explicit::explicit_built;
 use crate::fixed::{fixed_built, parts_built, run_built};
 use crate::laid::Laid;
 use crate::names::FrontWord;
-use crate::pieces::{counted_content, marked_content};
+use crate::pieces::{count_filled, field_filled, field_room};
 use ax_fspec::Presence;
 use ax_model::{Counter, Kind, Slot, Slots};
-
-// The most octets of the values of a counted or wide item or of a compound that are built here.
-const ROOM: usize = 1024;
 
 /// The value of a kind that comes is read, and its canonical bits are laid.
 #[cycle(kind_built)]
@@ -63,8 +60,8 @@ pub fn kind_built(cursor: &mut Cursor<'_>, kind: &Kind, out: &mut Laid<'_>) -> O
     }
 }
 
-/// The values of a counted or wide item, and the brace after them. They are built in a buffer of their own, since REP stands
-/// in front of them.
+/// The values of a counted or wide item, and the brace after them. They are laid behind room for REP, which is written once they
+/// are there.
 #[cycle(kind_built)]
 fn counted_built(
     cursor: &mut Cursor<'_>,
@@ -75,10 +72,9 @@ fn counted_built(
     requires { InBounds (kind_tree kind.now) }
     ensures { IfSome result (λ done. IsBuilt (λ vs. (value_count vs < 2 ^ counter_width size) × EachShape (Shape (kind_tree kind.now)) vs) (λ vs. each_onto (kind_onto (kind_tree kind.now)) vs (closing ∷ [])) (λ vs. canon (counted size (kind_tree kind.now)) (occurrences vs)) cursor.old cursor.new out.old out.new) }
 {
-    let mut own = [0u8; ROOM];
-    let mut inner = Laid::over(&mut own);
-    let count = each_built(cursor, size, kind, &mut inner)?;
-    counted_content(size, count, &inner, out)
+    let at = out.leave(size.octets() as usize)?;
+    let count = each_built(cursor, size, kind, out)?;
+    count_filled(size, count, at, out)
 }
 
 /// As many values of a kind as the counter can hold, or fewer, and the brace after them. It answers how many they are.
@@ -108,17 +104,17 @@ fn each_built(
     Some(count)
 }
 
-/// The entries of a compound, and the brace after them. They are built in a buffer of their own, since the presence field
-/// stands in front of them.
+/// The entries of a compound, and the brace after them. They are laid behind room for the presence field, which is written once
+/// they are there.
 #[cycle(kind_built)]
 fn compound_built(cursor: &mut Cursor<'_>, slots: &Slots, out: &mut Laid<'_>) -> Option<()>
     requires { AreSlots (slots_tree slots.now) }
     ensures { IfSome result (λ done. IsBuilt (EntriesShape 1 (slots_tree slots.now)) (λ es. entries_onto 1 (slots_tree slots.now) es (closing ∷ [])) (λ es. canon (compound (slots_tree slots.now)) (marked es)) cursor.old cursor.new out.old out.new) }
 {
-    let mut own = [0u8; ROOM];
-    let mut inner = Laid::over(&mut own);
-    let marks = entries_built(cursor, slots, &mut inner)?;
-    marked_content(&marks, &inner, out)
+    let room = field_room(slots.as_slice().len());
+    let at = out.leave(room)?;
+    let marks = entries_built(cursor, slots, out)?;
+    field_filled(&marks, at, room, out)
 }
 
 /// The value of the slot's subitem, where the subitem's name comes. It answers whether it does.

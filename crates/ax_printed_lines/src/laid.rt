@@ -1,7 +1,9 @@
 //! Bits laid one after another over a lent buffer.
-ghost use Rattle.std.specs.Prelude.{◌≡◌, ◌+◌, ◌*◌, ◌%◌, ◌^◌, ◌<◌, ◌≤◌, ◌++◌, [], length, take, IfSome};
+ghost use Rattle.std.specs.Prelude.{◌≡◌, ◌+◌, ◌-◌, ◌*◌, ◌%◌, ◌^◌, ◌<◌, ◌≤◌, ◌++◌, [], length, take, drop, IfSome};
 ghost use Rattle.std.specs.Int.{w64, to_be_bytes};
 ghost use Rattle.ax_bits.specs.Bits.{word, bits};
+
+use crate::moving::moved_up;
 
 /// The most bits that are laid at once.
 pub const AT_ONCE: u32 = 56;
@@ -86,23 +88,16 @@ fn lay_each(buffer: &mut [u8], from: usize, number: u64, width: u32) -> Option<(
     Some((count, left))
 }
 
-// Copies octets into the buffer from octet `from` on. It answers where they end. None comes where there is no room.
-#[inline(always)]
-fn copied(buffer: &mut [u8], from: usize, octets: &[u8]) -> Option<usize>
-    requires { from ≤ length buffer.old }
-    ensures within { IfSome result (λ end. end ≤ length buffer.new) }
-    ensures copied { IfSome result (λ end. take end buffer.new ≡ take from buffer.old ++ octets.now) }
+// Writes octets over those of the buffer from octet `from` on.
+fn replaced(buffer: &mut [u8], from: usize, octets: &[u8])
+    requires { from + length octets.now ≤ length buffer.old }
+    ensures { buffer.new ≡ take from buffer.old ++ (octets.now ++ drop (from + length octets.now) buffer.old) }
 {
-    if buffer.len() - from < octets.len() {
-        return None;
-    }
-    let end = from + octets.len();
-    buffer[from..end].copy_from_slice(octets);
-    Some(end)
+    buffer[from..from + octets.len()].copy_from_slice(octets);
 }
 
 impl<'b> Laid<'b> {
-    ghost use Rattle.ax_printed_lines.specs.Laid.{laid, Lays};
+    ghost use Rattle.ax_printed_lines.specs.Laid.{laid, Lays, Leaves, Fills};
 
     /// No bits, over a buffer.
     pub fn over(buffer: &'b mut [u8]) -> Laid<'b>
@@ -156,24 +151,29 @@ impl<'b> Laid<'b> {
         self.push(value % 0x1_0000_0000, 32)
     }
 
-    /// Lays the bits of octets: where no bits are held, by one copy. None comes where there is no room.
-    pub fn push_octets(&mut self, octets: &[u8]) -> Option<()>
-        ensures { IfSome result (λ done. Lays self.old self.new (bits octets.now)) }
+    /// Leaves room for so many octets after what is laid. It answers at which octet the room begins. None comes where bits are left
+    /// over, or where the buffer has no such room.
+    pub fn leave(&mut self, room: usize) -> Option<usize>
+        ensures { IfSome result (λ at. Leaves self.old self.new at room) }
     {
-        if self.width != 0 {
-            return self.push_each(octets);
+        if self.width != 0 || self.buffer.len() - self.count < room {
+            return None;
         }
-        self.count = copied(self.buffer, self.count, octets)?;
-        Some(())
+        let at = self.count;
+        self.count += room;
+        Some(at)
     }
 
-    // Lays octets after bits that fill no whole octet.
-    fn push_each(&mut self, octets: &[u8]) -> Option<()>
-        ensures { IfSome result (λ done. Lays self.old self.new (bits octets.now)) }
+    /// Writes octets into the room of so many octets that was left at octet `at`. What is laid behind the room comes straight after
+    /// them. None comes where they don't fit there.
+    pub fn fill(&mut self, at: usize, room: usize, octets: &[u8]) -> Option<()>
+        ensures { IfSome result (λ done. Fills self.old self.new at room (bits octets.now)) }
     {
-        for octet in octets {
-            self.push(u64::from(*octet), 8)?;
+        if self.count < room || self.count - room < at || octets.len() > room {
+            return None;
         }
+        replaced(self.buffer, at, octets);
+        self.count = moved_up(self.buffer, at + room, at + octets.len(), self.count);
         Some(())
     }
 

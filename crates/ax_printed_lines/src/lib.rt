@@ -1,5 +1,5 @@
 //! Lines of the texts of blocks, read straight to canonical octets: no list of tokens and no tree of values is made. A line that has a
-//! comment, or that needs more room than is kept, is left to the reader of tokens.
+//! comment, or that needs more room than is lent, is left to the reader of tokens.
 #![tactic(auto)]
 
 mod blocks;
@@ -9,6 +9,7 @@ mod fixed;
 mod gaps;
 mod kinds;
 mod laid;
+mod moving;
 mod names;
 mod numbers;
 mod pieces;

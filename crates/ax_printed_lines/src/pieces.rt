@@ -1,4 +1,4 @@
-//! Numbers, FX bits, and what stands after a presence field or a count.
+//! Numbers, FX bits, presence fields and counts.
 ghost use Rattle.std.specs.Prelude.{◌≡◌, ◌≤◌, ◌<◌, ◌^◌, [], ◌∷◌, ◌++◌, length, IsTrue, IfSome};
 ghost use Rattle.ax_bits.specs.Bits.{word, bits, AreOctets};
 ghost use Rattle.ax_bits.specs.Out.{written};
@@ -7,10 +7,10 @@ ghost use Rattle.ax_model.specs.Canonical.{number_canon};
 ghost use Rattle.ax_model.specs.InBounds.{IsWidth};
 ghost use Rattle.ax_model.specs.Shape.{NumberShape};
 ghost use Rattle.ax_model.specs.Sizes.{longest_body};
-ghost use Rattle.ax_model.specs.Widths.{counter_width, fx_width};
+ghost use Rattle.ax_model.specs.Widths.{counter_width, counter_octets, fx_width};
 ghost use Rattle.ax_reader.specs.Reading.{fx_bit};
 ghost use Rattle.ax_text.specs.ValueText.{number_onto};
-ghost use Rattle.ax_printed_lines.specs.Laid.{laid, Lays};
+ghost use Rattle.ax_printed_lines.specs.Laid.{laid, Lays, Fills};
 ghost use Rattle.ax_printed_lines.specs.Printed.{IsBuilt};
 
 use crate::cursor::Cursor;
@@ -87,21 +87,19 @@ pub fn whole_octets<'b>(inner: &'b Laid<'_>) -> Option<&'b [u8]>
     Some(body)
 }
 
-/// Lays a count, in the octets of its counter, and then what was laid over another buffer. None comes where that isn't whole
-/// octets or there is no room.
-pub fn counted_content(
-    size: Counter,
-    count: u32,
-    inner: &Laid<'_>,
-    out: &mut Laid<'_>,
-) -> Option<()>
+/// Writes a count, in the octets of its counter, into the room that was left for them at octet `at`.
+pub fn count_filled(size: Counter, count: u32, at: usize, out: &mut Laid<'_>) -> Option<()>
     requires { count < 2 ^ counter_width size }
-    ensures { IfSome result (λ done. Lays out.old out.new (word (counter_width size) count ++ laid inner.now)) }
+    ensures { IfSome result (λ done. Fills out.old out.new at (counter_octets size) (word (counter_width size) count)) }
 {
-    let octets = whole_octets(inner)?;
-    out.push(u64::from(count), 8 * size.octets())?;
-    out.push_octets(octets)
+    let mut room = [0u8; EIGHT];
+    let mut counter = Laid::over(&mut room);
+    counter.push(u64::from(count), 8 * size.octets())?;
+    out.fill(at, size.octets() as usize, counter.octets()?)
 }
+
+// More octets than a counter has: where eight have room, they are stored at once.
+const EIGHT: usize = 8;
 
 /// The octets that were written to an output. None comes where bits are left over.
 fn octets_written<'b>(out: &'b Out<'_>) -> Option<&'b [u8]>
@@ -113,25 +111,25 @@ fn octets_written<'b>(out: &'b Out<'_>) -> Option<&'b [u8]>
     Some(out.octets())
 }
 
-/// Lays the least presence field of a set.
-fn field_laid(marks: &Presence, out: &mut Laid<'_>) -> Option<()>
-    ensures { IfSome result (λ done. Lays out.old out.new (least_field marks.now)) }
+/// The room that a presence field over so many slots needs: an octet for each seven slots.
+#[inline(always)]
+pub fn field_room(slots: usize) -> usize {
+    if slots % 7 == 0 {
+        slots / 7
+    } else {
+        slots / 7 + 1
+    }
+}
+
+/// Writes the least presence field of a set into the room that was left for it at octet `at`.
+pub fn field_filled(marks: &Presence, at: usize, room: usize, out: &mut Laid<'_>) -> Option<()>
+    ensures { IfSome result (λ done. Fills out.old out.new at room (least_field marks.now)) }
 {
-    let mut room = [0u8; LONGEST_FIELD];
-    let mut field = Out::over(&mut room);
+    let mut own = [0u8; LONGEST_FIELD];
+    let mut field = Out::over(&mut own);
     write_presence(marks, &mut field);
-    out.push_octets(octets_written(&field)?)
+    out.fill(at, room, octets_written(&field)?)
 }
 
 // The most octets of a presence field.
 const LONGEST_FIELD: usize = 18;
-
-/// Lays the least presence field of a set, and then what was laid over another buffer. None comes where that isn't whole octets
-/// or there is no room.
-pub fn marked_content(marks: &Presence, inner: &Laid<'_>, out: &mut Laid<'_>) -> Option<()>
-    ensures { IfSome result (λ done. Lays out.old out.new (least_field marks.now ++ laid inner.now)) }
-{
-    let octets = whole_octets(inner)?;
-    field_laid(marks, out)?;
-    out.push_octets(octets)
-}

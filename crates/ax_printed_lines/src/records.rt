@@ -16,13 +16,10 @@ use crate::cursor::Cursor;
 use crate::kinds::kind_built;
 use crate::laid::Laid;
 use crate::names::FrontWord;
-use crate::pieces::marked_content;
+use crate::pieces::{field_filled, field_room};
 use ax_fspec::Presence;
 use ax_model::UapSlot;
 use ax_uap::UapItems;
-
-// The most octets of the items of a record that is built here.
-const ROOM: usize = 2048;
 
 // A body has room for fewer records.
 const MOST: u32 = 65_536;
@@ -90,7 +87,7 @@ fn items_built(
     Some(marks)
 }
 
-/// The entries of a record in braces. They are built in a buffer of their own, since the FSPEC stands in front of them.
+/// The entries of a record in braces. They are laid behind room for the FSPEC, which is written once they are there.
 fn record_built(cursor: &mut Cursor<'_>, items: &UapItems<'_>, out: &mut Laid<'_>) -> Option<()>
     requires { AreSlots (record_slots (spec_tree items.now.spec.now)) }
     ensures { IfSome result (λ done. IsBuilt (RecordShape (spec_tree items.now.spec.now)) (λ es. record_onto (spec_tree items.now.spec.now) es []) (CanonRecord (spec_tree items.now.spec.now)) cursor.old cursor.new out.old out.new) }
@@ -98,10 +95,10 @@ fn record_built(cursor: &mut Cursor<'_>, items: &UapItems<'_>, out: &mut Laid<'_
     if !cursor.takes(b"record") || !cursor.opens() {
         return None;
     }
-    let mut own = [0u8; ROOM];
-    let mut inner = Laid::over(&mut own);
-    let marks = items_built(cursor, items, &mut inner)?;
-    marked_content(&marks, &inner, out)
+    let room = field_room(items.spec().uap.as_slice().len());
+    let at = out.leave(room)?;
+    let marks = items_built(cursor, items, out)?;
+    field_filled(&marks, at, room, out)
 }
 
 /// One or more records, up to a brace that ends the line.

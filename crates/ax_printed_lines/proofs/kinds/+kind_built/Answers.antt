@@ -2,6 +2,7 @@ use Rattle.std.proofs.Common.{◌≡◌, ◌<◌, ◌≤◌, ◌+◌, ℕ, true,
 use Rattle.std.proofs.lemmas.Option.{IfSome_then}
 use Rattle.ax_block_reader.proofs.EntryWays.{slots_from}
 use Rattle.ax_model.specs.Plain.{kind_tree, slot_tree, slots_tree}
+use Rattle.ax_printed_lines.specs.Laid.{Leaves}
 use Rattle.ax_printed_lines.specs.Printed.{BuildsSlot}
 use Rattle.ax_printed_lines.proofs.EntriesBuilt.{EntriesLeft, entries_first, slot_bounds, slot_few, passed_to, entry_passed, entry_taken, entry_passed_by, entry_taken_by, entries_less, entries_ended}
 use Rattle.ax_printed_lines.proofs.KindsBuilt.{KindIsBuilt, CountedIsBuilt, EachLeft, fixed_of_kind, explicit_of_kind, extended_of_kind, counted_of_kind, by_fx_of_kind, compound_of_kind, each_first, each_next, each_less, each_done, counted_whole, compound_whole, sub_bounds, sub_built}
@@ -60,7 +61,7 @@ each_built-returns-clause-built t c =
 
 pub counted_built-returns : goal.counted_built-returns
 counted_built-returns t c =
-    IfSome_then c.counted_content.result c.counted_content.ensures (λ done. counted_whole c.args.size (kind_tree c.args.kind.now) c.in_ok-count.count c.args.cursor.now c.each_built.new.cursor c.over-inner.result c.each_built.new.out c.args.out.now c.counted_content.new.out c.in_ok-count.ensures.few c.over-inner.ensures c.in_ok-count.ensures.built)
+    IfSome_then c.count_filled.result c.count_filled.ensures (λ done. counted_whole c.args.size (kind_tree c.args.kind.now) c.in_ok-count.count c.in_ok-at.at c.args.cursor.now c.each_built.new.cursor c.args.out.now c.leave.new.self c.each_built.new.out c.count_filled.new.out c.in_ok-count.ensures.few (subst (λ n. Leaves c.args.out.now c.leave.new.self c.in_ok-at.at n) c.octets.ensures c.in_ok-at.ensures) c.in_ok-count.ensures.built)
 
 -- ---- a subitem
 
@@ -181,4 +182,4 @@ entries_built-returns t c =
 
 pub compound_built-returns : goal.compound_built-returns
 compound_built-returns t c =
-    IfSome_then c.marked_content.result c.marked_content.ensures (λ done. compound_whole (slots_tree c.args.slots.now) c.in_ok-marks.marks c.args.cursor.now c.entries_built.new.cursor c.over-inner.result c.entries_built.new.out c.args.out.now c.marked_content.new.out c.over-inner.ensures c.in_ok-marks.ensures)
+    IfSome_then c.field_filled.result c.field_filled.ensures (λ done. compound_whole (slots_tree c.args.slots.now) c.in_ok-marks.marks c.in_ok-at.at c.field_room-room.result c.args.cursor.now c.entries_built.new.cursor c.args.out.now c.leave.new.self c.entries_built.new.out c.field_filled.new.out c.in_ok-at.ensures c.in_ok-marks.ensures)

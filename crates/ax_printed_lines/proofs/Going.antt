@@ -15,7 +15,7 @@ use Rattle.ax_tokens.specs.Lexing.{IsTokenText, MayFollow}
 use Rattle.ax_tokens.specs.declared.token.TokenKind.{TokenKind}
 use Rattle.ax_tokens.specs.declared.token.TokenKind.TheVariants.{Word, Open, Close}
 use Rattle.ax_printed_lines.specs.Printed.{Place, AfterGap, IsAfterOctet, Stands, AreInFront, IsOneWord, Keeps, Goes}
-use Rattle.ax_printed_lines.proofs.Separators.{stands_there}
+use Rattle.ax_printed_lines.proofs.Separators.{stands_there, space_gap, space_ends}
 
 -- ---- texts after others
 
@@ -100,6 +100,18 @@ pub name_less : (name front octets left : List ℕ) → IsName name → Stands W
 name_less name front octets left is s size = omega (arith, is.0, size, ap length s.split, length-append front (s.gap ++ left), length-append s.gap left)
 
 pub ruleset names = (name_goes, name_less)
+
+-- a short name, and one space behind it
+spaced_stands : (name octets left : List ℕ) → octets ≡ name ++ 32 ∷ left → Stands Word name octets left
+spaced_stands name octets left e = stands_there Word name (32 ∷ left) octets left e (space_gap (32 ∷ left) left 32 refl refl) (space_ends (32 ∷ left) left 32 refl refl)
+
+pub spaced_goes : (old new : Place) (name : List ℕ) → IsName name → old.left ≡ name ++ 32 ∷ new.left → new.level ≡ old.level → old.level ≤ 20 → Goes old new (name ∷ [])
+spaced_goes old new name is e l le = word_goes old new name (name_one name is) (spaced_stands name old.left new.left e) l le
+
+pub spaced_less : (name octets left : List ℕ) → octets ≡ name ++ 32 ∷ left → length left < length octets
+spaced_less name octets left e = omega (arith, ap length e, length-append name (32 ∷ left))
+
+pub ruleset short_names = (spaced_goes, spaced_less)
 
 pub category_goes : (old new : Place) (n : ℕ) (digits : List ℕ) → n < 256 → digits ≡ three_digits n → Stands Word digits old.left new.left → new.level ≡ old.level → old.level ≤ 20 → Goes old new (three_digits n ∷ [])
 category_goes old new n digits small is s l le = word_goes old new (three_digits n) (one_word (three_digits n) (category_word n small)) (subst (λ t. Stands Word t old.left new.left) is s) l le

@@ -4,9 +4,10 @@ use Rattle.std.proofs.lemmas.List.{take_more_set, take_at, take-take}
 use Rattle.std.proofs.lemmas.Nat.{shl_below, shr_below, pow_pos}
 use Rattle.std.proofs.Math.Seq.{take-append-add}
 use Rattle.std.specs.Int.{w64, to_be_bytes, bytes_high_first, byte_at}
-use Rattle.std.proofs.Math.Nat.{mod-eq_of_lt, pow-le-pow_right, pow-suc}
+use Rattle.std.proofs.Math.Nat.{pow-le-pow_right, pow-suc}
 use Rattle.ax_bits.specs.Bits.{word, bits}
 use Rattle.ax_bits.proofs.Pieces.{word-split, word-low, word-joined, take-bits}
+use Rattle.ax_bits.proofs.Steps.{joined_below as below_joined}
 use Rattle.ax_bits.proofs.Words.{bits-append, length-word}
 use Rattle.ax_printed_lines.specs.Laid.{laid, Lays}
 use Rattle.ax_printed_lines.specs.declared.laid.Laid.{Laid}
@@ -21,18 +22,15 @@ lays_more old now new x y z e p q = q ∙ ap (λ k. k ++ y) p ∙ append_assoc (
 
 -- ---- a value
 
-pub joined : (held value width : ℕ) → held < 2 ^ 7 → width ≤ 56 → value < 2 ^ width → held * 2 ^ width % 2 ^ 64 ≡ held * 2 ^ width
-joined held value width h few lt =
-    let a : held * 2 ^ width < 2 ^ (7 + width) = shl_below held 7 width h in
-    let b : 2 ^ (7 + width) ≤ 2 ^ 63 = pow-le-pow_right (lit< tt) (let e : 7 + width ≤ 63 = omega (arith, few) in e) in
-    mod-eq_of_lt (omega (arith, a, b))
-
-pub joined_fits : (held value width : ℕ) → held < 2 ^ 7 → width ≤ 56 → value < 2 ^ width → held * 2 ^ width + value < 2 ^ 64
-joined_fits held value width h few lt =
-    let a : held * 2 ^ width < 2 ^ (7 + width) = shl_below held 7 width h in
-    let b : 2 ^ (7 + width) ≤ 2 ^ 63 = pow-le-pow_right (lit< tt) (let e : 7 + width ≤ 63 = omega (arith, few) in e) in
-    let c : 2 ^ width ≤ 2 ^ 56 = pow-le-pow_right (lit< tt) few in
+pub joined_fits : (held value width before : ℕ) → held < 2 ^ before → before + width ≤ 63 → value < 2 ^ width → held * 2 ^ width + value < 2 ^ 64
+joined_fits held value width before h few lt =
+    let a : held * 2 ^ width < 2 ^ (before + width) = shl_below held before width h in
+    let b : 2 ^ (before + width) ≤ 2 ^ 63 = pow-le-pow_right (lit< tt) few in
+    let c : 2 ^ width ≤ 2 ^ 63 = pow-le-pow_right (lit< tt) (let e : width ≤ 63 = omega (arith, few) in e) in
     omega (arith, a, b, c, lt)
+
+pub joined_below : (held value width before : ℕ) → held < 2 ^ before → value < 2 ^ width → held * 2 ^ width + value < 2 ^ (before + width)
+joined_below held value width before h lt = below_joined before width held value h lt
 
 -- one octet of a number of left bits, which has k bits after it
 pub one_octet : (buffer before : List ℕ) (count left k number x : ℕ) → count < length buffer → left ≡ 8 + k → x ≡ number / 2 ^ k % 256 → bits (take count buffer) ++ word left number ≡ before → bits (take (count + 1) (set buffer count x)) ++ word k number ≡ before
@@ -42,11 +40,14 @@ one_octet buffer before count left k number x lt size is e =
     let whole : word left number ≡ word 8 x ++ word k number = ap (λ w. word w number) size ∙ word-split 8 k number ∙ ap (λ w. w ++ word k number) (sym upper) in
     ap (λ w. w ++ word k number) octets ∙ append_assoc (bits (take count buffer)) (word 8 x) (word k number) ∙ ap (λ w. bits (take count buffer) ++ w) (sym whole) ∙ e
 
--- what is laid and held once the whole octets of a value are laid
-pub value_laid : (front back : List ℕ) (left above width held kept value number : ℕ) → value < 2 ^ width → number ≡ held * 2 ^ width + value → kept ≡ number % 2 ^ left → back ++ word left number ≡ front ++ word (above + width) number
-    → back ++ word left kept ≡ (front ++ word above held) ++ word width value
-value_laid front back left above width held kept value number lt is low e =
-    ap (λ w. back ++ w) (ap (word left) low ∙ word-low left number) ∙ e ∙ ap (λ n. front ++ word (above + width) n) is ∙ ap (λ w. front ++ w) (word-joined above width held value lt) ∙ sym (append_assoc front (word above held) (word width value))
+-- what is laid once the value is held with the bits before it
+pub value_laid : (front : List ℕ) (above width held value number : ℕ) → value < 2 ^ width → number ≡ held * 2 ^ width + value → front ++ word (above + width) number ≡ (front ++ word above held) ++ word width value
+value_laid front above width held value number lt is =
+    ap (λ n. front ++ word (above + width) n) is ∙ ap (λ w. front ++ w) (word-joined above width held value lt) ∙ sym (append_assoc front (word above held) (word width value))
+
+-- what is laid stays, where the lowest bits alone are held
+pub low_held : (back all : List ℕ) (left kept number : ℕ) → kept ≡ number % 2 ^ left → back ++ word left number ≡ all → back ++ word left kept ≡ all
+low_held back all left kept number low e = ap (λ w. back ++ w) (ap (word left) low ∙ word-low left number) ∙ e
 
 -- ---- a wide value
 

@@ -100,6 +100,13 @@ room_left all held count room within none = (
   ap (λ w. length (bits (take count all) ++ w)) none ∙ ap length (append-nil (bits (take count all))) ∙ length-bits (take count all) ∙ ap (λ k. 8 * k) (length-take-le count all (omega (arith, within))),
 )
 
+-- the same where what was laid is held otherwise before
+pub leaves_after : (old mid new : Laid) (n room : ℕ) → laid mid ≡ laid old → Leaves mid new n room → Leaves old new n room
+leaves_after old mid new n room e l = record { there = l.there; lays = l.lays ∙ ap (λ w. w ++ l.there) e; size = l.size; before = ap length (sym e) ∙ l.before }
+
+pub fills_after : (old mid new : Laid) (n room : ℕ) (b : List ℕ) → laid mid ≡ laid old → Fills mid new n room b → Fills old new n room b
+fills_after old mid new n room b e f = f ∙ ap (λ w. take (8 * n) w ++ (b ++ drop (8 * n + 8 * room) w)) e
+
 -- what was laid behind room stands behind the bits by which that is filled
 pub left_filled : (old mid last new : Laid) (n room : ℕ) (inner b : List ℕ) → Leaves old mid n room → Lays mid last inner → Fills last new n room b → Lays old new (b ++ inner)
 left_filled old mid last new n room inner b l p f =

@@ -7,7 +7,7 @@ ghost use Rattle.hex.specs.Hex.{encode_lower};
 ghost use Rattle.ax_printed_lines.specs.Printed.{Place, AfterGap, IsAfterOctet, IsOneWord, Goes};
 
 use crate::gaps::{after_gap, after_space, after_word, split_word};
-use crate::names::{FrontWord, are_same, begins_with};
+use crate::names::{FrontWord, after_short_name, are_same, begins_with};
 use crate::numbers::number_in_front;
 use ax_block_reader::{category_of, unquoted};
 use ax_model::Name;
@@ -87,8 +87,22 @@ impl<'t> Cursor<'t> {
 
     /// Whether the name comes. It is read if so.
     #[inline(always)]
-    #[tactic(auto, using(crate::proofs::Going::names))]
+    #[tactic(auto, using(crate::proofs::Going::short_names))]
     pub fn takes_name(&mut self, name: &Name) -> bool
+        ensures taken { IsTrue result → Goes self.old self.new (name.now ∷ []) }
+        ensures moves { IsTrue result → length self.new.left < length self.old.left }
+        ensures other { result ≡ false → self.new ≡ self.old }
+    {
+        if let Some(later) = after_short_name(self.rest, name) {
+            self.rest = later;
+            return true;
+        }
+        self.takes_any_name(name)
+    }
+
+    // The same, whatever stands behind the name.
+    #[tactic(auto, using(crate::proofs::Going::names))]
+    fn takes_any_name(&mut self, name: &Name) -> bool
         ensures taken { IsTrue result → Goes self.old self.new (name.now ∷ []) }
         ensures moves { IsTrue result → length self.new.left < length self.old.left }
         ensures other { result ≡ false → self.new ≡ self.old }

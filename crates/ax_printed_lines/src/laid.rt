@@ -8,23 +8,23 @@ use crate::moving::moved_up;
 /// The most bits that are laid at once.
 pub const AT_ONCE: u32 = 56;
 
-/// Bits that are laid, from the front of a lent buffer on. Those after the whole octets are held as a number, so that each octet
-/// is written once.
+/// Bits that are laid, from the front of a lent buffer on. The last of them, up to 63, are held as a number, so that eight octets at a
+/// time are written.
 #[derive(Drop)]
 pub struct Laid<'b> {
     buffer: &'b mut [u8],
-    // How many octets are whole.
+    // How many octets are written.
     count: usize,
     // The bits after them, and how many they are.
     held: u64,
     width: u32,
-    ghost within: { (count ≤ length buffer.now) × (width < 8) × (held < 2 ^ width) },
+    ghost within: { (count ≤ length buffer.now) × (width < 64) × (held < 2 ^ width) },
 }
 
 // A number of bits, and others after it.
 #[inline(always)]
 fn with_value(held: u64, value: u64, width: u32) -> u64
-    requires { (held < 2 ^ 7) × (width ≤ 56) × (value < 2 ^ width) }
+    requires { (width < 64) × (held * 2 ^ width + value < 2 ^ 64) }
     ensures { result ≡ held * 2 ^ width + value }
 {
     (held << width) + value
@@ -34,7 +34,7 @@ fn with_value(held: u64, value: u64, width: u32) -> u64
 #[inline(always)]
 #[tactic(auto, using(ax_bits::proofs::ShortNumbers::mask_wide))]
 fn lowest(number: u64, width: u32) -> u64
-    requires { width < 8 }
+    requires { width ≤ 56 }
     ensures value { result ≡ number % 2 ^ width }
     ensures below { result < 2 ^ width }
 {
@@ -118,10 +118,34 @@ impl<'b> Laid<'b> {
         requires fits { value < 2 ^ width }
         ensures { IfSome result (λ done. Lays self.old self.new (word width value)) }
     {
-        let number = with_value(self.held, value, width);
-        let (count, left) = lay_octets(self.buffer, self.count, number, self.width + width)?;
+        self.make_room(width)?;
+        self.held = with_value(self.held, value, width);
+        self.width += width;
+        Some(())
+    }
+
+    // Writes held octets, where so many bits more would be too many to be held.
+    #[inline(always)]
+    fn make_room(&mut self, width: u32) -> Option<()>
+        requires { width ≤ 56 }
+        ensures same { IfSome result (λ done. laid self.new ≡ laid self.old) }
+        ensures room { IfSome result (λ done. self.new.width + width ≤ 63) }
+    {
+        if self.width + width <= 63 {
+            return Some(());
+        }
+        self.settle()
+    }
+
+    /// Writes the whole octets that are held. None comes where there is no room.
+    #[inline(never)]
+    pub fn settle(&mut self) -> Option<()>
+        ensures same { IfSome result (λ done. laid self.new ≡ laid self.old) }
+        ensures few { IfSome result (λ done. self.new.width < 8) }
+    {
+        let (count, left) = lay_octets(self.buffer, self.count, self.held, self.width)?;
         self.count = count;
-        self.held = lowest(number, left);
+        self.held = lowest(self.held, left);
         self.width = left;
         Some(())
     }
@@ -156,6 +180,14 @@ impl<'b> Laid<'b> {
     pub fn leave(&mut self, room: usize) -> Option<usize>
         ensures { IfSome result (λ at. Leaves self.old self.new at room) }
     {
+        self.settle()?;
+        self.leave_settled(room)
+    }
+
+    // The same where no octet is held.
+    fn leave_settled(&mut self, room: usize) -> Option<usize>
+        ensures { IfSome result (λ at. Leaves self.old self.new at room) }
+    {
         if self.width != 0 || self.buffer.len() - self.count < room {
             return None;
         }
@@ -165,8 +197,16 @@ impl<'b> Laid<'b> {
     }
 
     /// Writes octets into the room of so many octets that was left at octet `at`. What is laid behind the room comes straight after
-    /// them. None comes where they don't fit there.
+    /// them, and no octet is held any more. None comes where they don't fit there.
     pub fn fill(&mut self, at: usize, room: usize, octets: &[u8]) -> Option<()>
+        ensures { IfSome result (λ done. Fills self.old self.new at room (bits octets.now)) }
+    {
+        self.settle()?;
+        self.fill_settled(at, room, octets)
+    }
+
+    // The same where no octet is held.
+    fn fill_settled(&mut self, at: usize, room: usize, octets: &[u8]) -> Option<()>
         ensures { IfSome result (λ done. Fills self.old self.new at room (bits octets.now)) }
     {
         if self.count < room || self.count - room < at || octets.len() > room {
@@ -177,7 +217,7 @@ impl<'b> Laid<'b> {
         Some(())
     }
 
-    /// The octets that are laid. None comes where bits are left over.
+    /// The octets that are laid. None comes where bits are held.
     pub fn octets(&self) -> Option<&[u8]>
         ensures { IfSome result (λ octets. bits octets.now ≡ laid self.now) }
     {

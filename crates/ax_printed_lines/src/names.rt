@@ -1,5 +1,7 @@
 //! Names and words at the front of octets.
-ghost use Rattle.std.specs.Prelude.{◌≡◌, ◌+◌, ◌≤◌, length, take, IsTrue};
+ghost use Rattle.std.specs.Prelude.{◌≡◌, ◌+◌, ◌^◌, ◌<◌, ◌≤◌, ◌∷◌, ◌++◌, length, take, IsTrue, IfSome};
+ghost use Rattle.ax_bits.specs.Bits.{word, bits};
+ghost use Rattle.ax_model.specs.Characters.{IsName};
 
 use ax_bits::short_bits_at;
 use ax_model::Name;
@@ -7,29 +9,26 @@ use ax_model::Name;
 /// The most octets of a name that are compared as one number.
 const MOST_AT_ONCE: usize = 7;
 
+/// The most octets of a name that are compared as one number with the space behind it.
+const SHORT: usize = 6;
+
 /// The most octets of a name.
 const LONGEST: usize = 16;
 
-/// The highest bit of each of eight octets.
-const HIGHEST: u64 = 0x8080_8080_8080_8080;
-
-/// Eight octets of 1.
-const EACH: u64 = 0x0101_0101_0101_0101;
-
-/// The word in front of some octets, as a name's octets are kept: sixteen octets, zeros after the word, in two numbers. The slot of a
-/// name is looked for by them. That the name stands there `begins_with` says.
+/// The octets in front, as a name's octets are kept: sixteen octets, zeros after the last, in two numbers. The slot of a name is looked
+/// for by them. That the name stands there `begins_with` says.
 #[derive(Clone, Copy)]
 pub struct FrontWord {
     first: u64,
     second: u64,
 }
 
-/// The number of eight octets from that place on, of which the first is the lowest.
+/// The number of eight octets from that place on, of which the first is the highest.
 #[inline(always)]
 fn eight_from(octets: &[u8], at: usize) -> u64
     requires { at + 8 ≤ length octets.now }
 {
-    u64::from_le_bytes([
+    u64::from_be_bytes([
         octets[at],
         octets[at + 1],
         octets[at + 2],
@@ -41,18 +40,8 @@ fn eight_from(octets: &[u8], at: usize) -> u64
     ])
 }
 
-/// Of the number of eight octets those before the first that stands in no name: each below `0` or above `Z`.
-#[inline(always)]
-fn up_to_end(octets: u64) -> u64 {
-    let from_zero = (octets | HIGHEST).wrapping_sub(EACH * 0x30);
-    let past_z = (octets & !HIGHEST).wrapping_add(EACH * (0x7f - 0x5a));
-    let outside = (!from_zero | past_z | octets) & HIGHEST;
-    let lowest = outside & outside.wrapping_neg();
-    octets & (lowest >> 7).wrapping_sub(1)
-}
-
 impl FrontWord {
-    /// The word in front.
+    /// The octets in front.
     #[inline(always)]
     pub fn of(octets: &[u8]) -> FrontWord {
         if octets.len() >= LONGEST {
@@ -67,22 +56,68 @@ impl FrontWord {
     fn of_sixteen(octets: &[u8]) -> FrontWord
         requires { 16 ≤ length octets.now }
     {
-        let first = up_to_end(eight_from(octets, 0));
-        // A word that ends within eight octets leaves the last of them 0.
-        let second = if first >> 56 == 0 {
-            0
-        } else {
-            up_to_end(eight_from(octets, 8))
-        };
-        FrontWord { first, second }
+        FrontWord {
+            first: eight_from(octets, 0),
+            second: eight_from(octets, 8),
+        }
     }
 
-    /// Whether the word is that name, as far as sixteen octets tell.
+    /// Whether they begin with that name, as far as sixteen octets tell.
     #[inline(always)]
     pub fn is(self, name: &Name) -> bool {
-        let octets = name.padded();
-        eight_from(octets, 0) == self.first && eight_from(octets, 8) == self.second
+        let count = name.octets().len();
+        let differing = self.first ^ eight_from(name.padded(), 0);
+        if count > MOST_AT_ONCE {
+            return differing == 0 && self.goes_on_as(name, count - 8);
+        }
+        // A shift by 64 is none in Rust.
+        differing >> 8 >> (56 - 8 * count) == 0
     }
+
+    // The same of so many octets of the name after its first eight.
+    #[cold]
+    fn goes_on_as(self, name: &Name, count: usize) -> bool
+        requires { count ≤ 8 }
+    {
+        let differing = self.second ^ eight_from(name.padded(), 8);
+        if count > MOST_AT_ONCE {
+            return differing == 0;
+        }
+        differing >> 8 >> (56 - 8 * count) == 0
+    }
+}
+
+/// The number that the first bits spell.
+#[inline(always)]
+fn front_number(octets: &[u8], width: u32) -> u64
+    requires width { (1 ≤ width) × (width ≤ 56) }
+    requires within { 8 ≤ length octets.now }
+    ensures number { word width result ≡ take width (bits octets.now) }
+    ensures below { result < 2 ^ width }
+{
+    let number = u64::from_be_bytes([
+        octets[0], octets[1], octets[2], octets[3], octets[4], octets[5], octets[6], octets[7],
+    ]);
+    number >> (64 - width)
+}
+
+/// What comes after a name of at most six octets in front and one space behind it, where a token follows, as mostly behind names. None
+/// comes for any other.
+#[inline(always)]
+pub fn after_short_name<'t>(octets: &'t [u8], name: &Name) -> Option<&'t [u8]>
+    ensures stands { IfSome result (λ left. octets.now ≡ name.now ++ 32 ∷ left.now) }
+    ensures name { IfSome result (λ left. IsName name.now) }
+{
+    let count = name.octets().len();
+    if count > SHORT || octets.len() < 8 {
+        return None;
+    }
+    let width = 8 * count as u32;
+    let wanted = 256 * front_number(name.padded(), width) + 32;
+    if front_number(octets, width + 8) != wanted || octets[count + 1] <= b' ' {
+        return None;
+    }
+    Some(&octets[count + 1..])
 }
 
 /// Whether the octets are the same. Words are short, so that octet by octet is quickest.

@@ -37,13 +37,34 @@ pub fn number_built(cursor: &mut Cursor<'_>, width: u32, out: &mut Laid<'_>) -> 
     ensures { IfSome result (λ done. IsBuilt (NumberShape width) (λ v. number_onto v []) (number_canon width) cursor.old cursor.new out.old out.new) }
 {
     let number = cursor.number()?;
+    number_laid(number, width, out)
+}
+
+/// Lays a number of that many bits. None comes where it has more.
+#[inline(always)]
+fn number_laid(number: u64, width: u32, out: &mut Laid<'_>) -> Option<()>
+    requires { IsWidth width }
+    ensures { IfSome result (λ done. (number < 2 ^ width) × Lays out.old out.new (word width number)) }
+{
+    if width > AT_ONCE {
+        return wide_laid(number, width, out);
+    }
     if !is_below(number, width) {
         return None;
     }
-    if width > AT_ONCE {
-        return out.push_wide(number, width);
-    }
     out.push(number, width)
+}
+
+/// The same of more bits than are laid at once.
+#[cold]
+fn wide_laid(number: u64, width: u32, out: &mut Laid<'_>) -> Option<()>
+    requires { (56 < width) × (width ≤ 128) }
+    ensures { IfSome result (λ done. (number < 2 ^ width) × Lays out.old out.new (word width number)) }
+{
+    if !is_below(number, width) {
+        return None;
+    }
+    out.push_wide(number, width)
 }
 
 /// An FX bit, which is set where more follows. None comes where there is no room.
@@ -95,6 +116,7 @@ pub fn count_filled(size: Counter, count: u32, at: usize, out: &mut Laid<'_>) ->
     let mut room = [0u8; EIGHT];
     let mut counter = Laid::over(&mut room);
     counter.push(u64::from(count), 8 * size.octets())?;
+    counter.settle()?;
     out.fill(at, size.octets() as usize, counter.octets()?)
 }
 

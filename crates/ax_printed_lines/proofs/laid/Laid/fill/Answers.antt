@@ -1,8 +1,7 @@
-use Rattle.std.proofs.Common.{arith}
-use Rattle.ax_bits.specs.Bits.{word}
-use Rattle.ax_printed_lines.proofs.Room.{room_filled}
+use Rattle.std.proofs.lemmas.Option.{IfSome_then}
+use Rattle.ax_bits.specs.Bits.{bits}
+use Rattle.ax_printed_lines.proofs.Room.{fills_after}
 use Rattle.ax_printed_lines.proofs.laid.Laid.fill.Goals as goal
 
 pub returns : goal.returns
-returns c =
-    room_filled c.args.self.now.buffer.now c.replaced.new.buffer c.moved_up-self.new.buffer c.args.octets.now (word c.args.self.now.width c.args.self.now.held) c.args.at c.args.room c.args.self.now.count c.moved_up-self.result (omega arith) (omega arith) (omega arith) c.replaced.ensures c.moved_up-self.ensures.moved
+returns c = IfSome_then c.fill_settled.result c.fill_settled.ensures (λ done. fills_after c.args.self.now c.settle.new.self c.fill_settled.new.self c.args.at c.args.room (bits c.args.octets.now) c.in_ok-settle.ensures.same)

@@ -1,9 +1,6 @@
-use Rattle.std.proofs.Common.{arith}
-use Rattle.ax_bits.specs.Bits.{word}
-use Rattle.ax_printed_lines.proofs.Room.{room_left}
+use Rattle.std.proofs.lemmas.Option.{IfSome_then}
+use Rattle.ax_printed_lines.proofs.Room.{leaves_after}
 use Rattle.ax_printed_lines.proofs.laid.Laid.leave.Goals as goal
 
 pub returns : goal.returns
-returns c =
-    let l = room_left c.args.self.now.buffer.now (word c.args.self.now.width c.args.self.now.held) c.args.self.now.count c.args.room (omega arith) (search) in
-    record { there = l.0; lays = l.1; size = l.2; before = l.3 }
+returns c = IfSome_then c.leave_settled.result c.leave_settled.ensures (λ at. leaves_after c.args.self.now c.settle.new.self c.leave_settled.new.self at c.args.room c.in_ok-settle.ensures.same)

@@ -3,7 +3,7 @@ use Rattle.std.proofs.Common.{◌≡◌, ℕ, zero, suc, ◌+◌, ◌-◌, ◌<�
 use Rattle.ax_bits.specs.Bits.{AreBits, bits}
 use Rattle.ax_fspec.proofs.Walks.{no_next_slot}
 use Rattle.ax_fspec.specs.Fields.{MarksSlots, least_field}
-use Rattle.ax_fspec.specs.Marks.{IsMarked, no_marks, slots_of}
+use Rattle.ax_fspec.specs.Marks.{IsMarked, common_marks, no_marks, slots_of}
 use Rattle.ax_fspec.specs.declared.mask.SlotMask.{SlotMask}
 use Rattle.ax_model.proofs.Places.{none_marked_at}
 use Rattle.ax_model.specs.At.{slot_value}
@@ -16,8 +16,8 @@ use Rattle.ax_reader.specs.Reading.{entries_at}
 use Rattle.ax_relation.specs.Moves.{MoveTree, move_from, MovesTree}
 use Rattle.ax_migrate_views.proofs.Entries.{record_canon}
 use Rattle.ax_migrate_views.proofs.PlacesThere.{all_absent_canon, all_absent_marks}
-use Rattle.ax_migrate_views.proofs.TellingSteps.{all_passed, run_there}
-use Rattle.ax_migrate_views.specs.Bare.{HasOnly, IsBare}
+use Rattle.ax_migrate_views.proofs.TellingSteps.{all_passed, none_shared, run_there}
+use Rattle.ax_migrate_views.specs.Bare.{HasNoneOf, HasOnly, IsBare}
 use Rattle.ax_migrate_views.specs.KnownMoves.{IsAbsent, move_at}
 use Rattle.ax_migrate_views.specs.Lost.{AreRuns, KeyRuns, IsPassed, losses_below}
 use Rattle.ax_migrate_views.specs.Octets.{field_by, entries_canon_by, value_canon_by}
@@ -104,7 +104,7 @@ unmarked marks e s m =
     let none = no_next_slot 1 marks e in
     let z = none_marked_at marks (s - 1) none in let one = m.1 in omega arith
 
-absent : (es : EntriesTree) → ((s : ℕ) → slot_value s es ≡ None) → (o : Option MoveTree) → IsAbsent es o
+pub absent : (es : EntriesTree) → ((s : ℕ) → slot_value s es ≡ None) → (o : Option MoveTree) → IsAbsent es o
 absent es none None = tt
 absent es none (Some (move_from s t c below)) = none s
 
@@ -126,6 +126,10 @@ bare item marks h none c ms =
 pub has_none : (item : ItemView) (marks : List ℕ) (o : Option ℕ) → HasOnly item marks → IfNone o (slots_of marks ≡ []) → is_some o ≡ false → IsBare item
 has_none item marks None h none is = bare item marks h none
 has_none item marks (Some s) h none is = absurd (let no : true ≡ false = is in cc)
+
+pub none_of : (item : ItemView) (marks slots both : List ℕ) (o : Option ℕ) → HasOnly item marks → both ≡ common_marks marks slots → IfNone o (slots_of both ≡ []) → is_some o ≡ false → HasNoneOf item slots
+none_of item marks slots both None h e none is = record { marks = marks; only = h; apart = none_shared marks slots both e none }
+none_of item marks slots both (Some s) h e none is = absurd (let no : true ≡ false = is in cc)
 
 -- ---- what is lost of it
 

@@ -1,6 +1,6 @@
 -- A compound of which each subitem keeps its slot has its own canonical octets.
-use Rattle.std.proofs.Common.{◌≡◌, ℕ, suc, ◌+◌, ◌-◌, ◌≤◌, IsTrue, List, ◌++◌, length, take, drop, Option, Some, None, refl, sym, ◌∙◌, ap, arith, subst, append-nil}
-use Rattle.ax_relation.specs.Moves.{move_from, MovesTree, no_moves, move_and}
+use Rattle.std.proofs.Common.{◌≡◌, ℕ, suc, ◌+◌, ◌-◌, ◌≤◌, ◌⊎◌, inl, inr, IsTrue, List, ◌++◌, length, take, drop, Option, Some, None, refl, sym, ◌∙◌, ap, arith, subst, append-nil}
+use Rattle.ax_relation.specs.Moves.{MoveTree, move_from, MovesTree, no_moves, move_and}
 use Rattle.ax_edition_laws.proofs.CutParts.{parts_whole}
 use Rattle.ax_edition_laws.proofs.NamedOnce.{front_of, front_value, front_later}
 use Rattle.ax_edition_laws.specs.Moved.{entry_where}
@@ -31,12 +31,37 @@ leaf_canon c below explicit (content_octets xs) h s = refl
 leaf_canon c below explicit _ h s = absurd s
 leaf_canon c below (compound ss) v h s = absurd h
 
-one_canon : (c : ℕ) (below : MovesTree) (k : KindTree) (o : Option ValueTree) → IsLeaf c k → ((v : ValueTree) → o ≡ Some v → Shape k v) → spelled_where (Some k) o (value_canon_by c below) ≡ canon_where k o
-one_canon c below k None h s = refl
-one_canon c below k (Some v) h s = leaf_canon c below k v h (s v refl)
+-- the move leaves slot t where it is, and its entry, if it is there, moves whole and is of no compound
+abbrev pub KeepsOne : ℕ → KindTree → MoveTree → EntriesTree → Type 0
+KeepsOne t k (move_from s u c below) es = (s ≡ t) × (u ≡ t) × ((slot_value t es ≡ None) ⊎ IsLeaf c k)
+
+-- the same of each of these slots, of which the first has the number t, and nothing else moves
+abbrev pub KeepsThere : ℕ → SlotsTree → MovesTree → EntriesTree → Type 0
+KeepsThere t no_slots no_moves es = Unit {0}
+KeepsThere t no_slots (move_and m ms) es = ⊥
+KeepsThere t (slot_and spare_slot ss) ms es = KeepsThere (t + 1) ss ms es
+KeepsThere t (slot_and (subitem name k) ss) no_moves es = ⊥
+KeepsThere t (slot_and (subitem name k) ss) (move_and m ms) es = KeepsOne t k m es × KeepsThere (t + 1) ss ms es
+
+keeps_there : (t : ℕ) (ss : SlotsTree) (ms : MovesTree) (es : EntriesTree) → KeepsAll t ss ms → KeepsThere t ss ms es
+keeps_there t no_slots no_moves es h = tt
+keeps_there t no_slots (move_and m ms) es h = absurd h
+keeps_there t (slot_and spare_slot ss) ms es h = keeps_there (t + 1) ss ms es h
+keeps_there t (slot_and (subitem name k) ss) no_moves es h = absurd h
+keeps_there t (slot_and (subitem name k) ss) (move_and (move_from s u c below) ms) es h = ((h.0.0, h.0.1, inr h.0.2), keeps_there (t + 1) ss ms es h.1)
+
+one_canon : (c : ℕ) (below : MovesTree) (k : KindTree) (o : Option ValueTree) → (o ≡ None) ⊎ IsLeaf c k → ((v : ValueTree) → o ≡ Some v → Shape k v) → spelled_where (Some k) o (value_canon_by c below) ≡ canon_where k o
+one_canon c below k o (inl e) s = ap (λ x. spelled_where (Some k) x (value_canon_by c below)) e ∙ ap (canon_where k) (sym e)
+one_canon c below k None (inr h) s = refl
+one_canon c below k (Some v) (inr h) s = leaf_canon c below k v h (s v refl)
+
+-- the same of an equal value
+where_is : (c : ℕ) (k : KindTree) (o p : Option ValueTree) → o ≡ p → (o ≡ None) ⊎ IsLeaf c k → (p ≡ None) ⊎ IsLeaf c k
+where_is c k o p e (inl none) = inl (sym e ∙ none)
+where_is c k o p e (inr leaf) = inr leaf
 
 -- the entries from slot t on
-pub entries_stay : (t : ℕ) (ss all : SlotsTree) (ms : MovesTree) (whole es : EntriesTree) → KeepsAll t ss ms → EntriesShape t ss es → ((u : ℕ) → t ≤ u → slot_value u whole ≡ slot_value u es) → 1 ≤ t
+pub entries_stay : (t : ℕ) (ss all : SlotsTree) (ms : MovesTree) (whole es : EntriesTree) → KeepsThere t ss ms whole → EntriesShape t ss es → ((u : ℕ) → t ≤ u → slot_value u whole ≡ slot_value u es) → 1 ≤ t
     → ((i : ℕ) → kind_after (t - 1 + i) all ≡ kind_after i ss) → entries_canon_by ms all whole ≡ entries_canon t ss es
 entries_stay t no_slots all no_moves whole es h shape values some kinds = refl
 entries_stay t no_slots all (move_and m ms) whole es h shape values some kinds = absurd h
@@ -46,13 +71,14 @@ entries_stay t (slot_and (subitem name k) ss) all no_moves whole es h shape valu
 entries_stay t (slot_and (subitem name k) ss) all (move_and (move_from s u c below) ms) whole es h shape values some kinds =
     let f = front_of t name k ss es shape in
     let kind : kind_after (s - 1) all ≡ Some k = ap (λ x. kind_after x all) (let e : s - 1 ≡ t - 1 + 0 = (let g = h.0.0 in omega arith) in e) ∙ kinds 0 in
-    let value : slot_value s whole ≡ f.here = ap (λ x. slot_value x whole) h.0.0 ∙ values t (omega arith) ∙ front_value t k ss es f in
+    let here : slot_value t whole ≡ f.here = values t (omega arith) ∙ front_value t k ss es f in
+    let value : slot_value s whole ≡ f.here = ap (λ x. slot_value x whole) h.0.0 ∙ here in
     let later = entries_stay (t + 1) ss all ms whole f.rest h.1 f.later (λ u le. values u (omega arith) ∙ front_later t k ss es f u (omega arith)) (omega arith)
     (λ i. ap (λ x. kind_after x all) (let e : t + 1 - 1 + i ≡ t - 1 + suc i = omega arith in e) ∙ kinds (suc i)) in
-    (λ i. spelled_where (kind i) (value i) (value_canon_by c below) ++ later i) ∙ ap (λ x. x ++ entries_canon (t + 1) ss f.rest) (one_canon c below k f.here h.0.2 f.shape)
+    (λ i. spelled_where (kind i) (value i) (value_canon_by c below) ++ later i) ∙ ap (λ x. x ++ entries_canon (t + 1) ss f.rest) (one_canon c below k f.here (where_is c k (slot_value t whole) f.here here h.0.2) f.shape)
     ∙ sym (front_canon t name k ss f.here f.rest f.later) ∙ ap (entries_canon t (slot_and (subitem name k) ss)) (sym f.is)
 
-pub marks_stay : (t : ℕ) (ss : SlotsTree) (ms : MovesTree) (whole es : EntriesTree) (before : List ℕ) → KeepsAll t ss ms → EntriesShape t ss es → ((u : ℕ) → t ≤ u → slot_value u whole ≡ slot_value u es) → 1 ≤ t → t - 1 + slot_count ss ≤ 126
+pub marks_stay : (t : ℕ) (ss : SlotsTree) (ms : MovesTree) (whole es : EntriesTree) (before : List ℕ) → KeepsThere t ss ms whole → EntriesShape t ss es → ((u : ℕ) → t ≤ u → slot_value u whole ≡ slot_value u es) → 1 ≤ t → t - 1 + slot_count ss ≤ 126
     → length before ≡ 126 → IsTrue (none_marked (drop (t - 1) before)) → Marked t (slot_count ss) before (marks_of t ss es) (marks_by ms whole before)
 marks_stay t no_slots no_moves whole es before h shape values some few size none = record {
   size = size;
@@ -82,8 +108,8 @@ marks_stay t (slot_and (subitem name k) ss) (move_and (move_from s u c below) ms
     by_here (Some v) rest later g = subst (λ x. Marked t (suc (slot_count ss)) before x (marks_by ms whole (with_slot t before))) (sym (slot_marked t name k ss v rest))
         (marks t (slot_count ss) before (marks_of (t + 1) ss rest) (marks_by ms whole (with_slot t before)) some (omega arith) size (g (with_slot t before) (with_size t before some (omega arith) size) (with_following t before some (omega arith) none)))
 
-pub whole_stays : (ss : SlotsTree) (ms : MovesTree) (es : EntriesTree) → KeepsAll 1 ss ms → EntriesShape 1 ss es → 1 ≤ slot_count ss → slot_count ss ≤ 126 → canon_by ms (compound ss) (marked es) ≡ canon (compound ss) (marked es)
-whole_stays ss ms es h shape some few =
+pub there_stays : (ss : SlotsTree) (ms : MovesTree) (es : EntriesTree) → KeepsThere 1 ss ms es → EntriesShape 1 ss es → 1 ≤ slot_count ss → slot_count ss ≤ 126 → canon_by ms (compound ss) (marked es) ≡ canon (compound ss) (marked es)
+there_stays ss ms es h shape some few =
     let m = marks_stay 1 ss ms es es no_marks h shape (λ u le. refl) (omega arith) (omega arith) size_none (none_after_none 0) in
     let made = marks_by ms es no_marks in
     let n : 1 - 1 + slot_count ss ≡ slot_count ss = omega arith in
@@ -91,3 +117,6 @@ whole_stays ss ms es h shape some few =
     least_field_of (slot_count ss) made some few (subst (λ k. IsTrue (none_marked (drop k made))) n m.following) ∙ ap (least_presence (octets_needed (slot_count ss))) (ap (λ k. take k made) (sym n) ∙ m.front) in
     let entries = entries_stay 1 ss ss ms es es h shape (λ u le. refl) (omega arith) (λ i. ap (λ x. kind_after x ss) (let e : 1 - 1 + i ≡ i = omega arith in e)) in
     λ i. field i ++ entries i
+
+pub whole_stays : (ss : SlotsTree) (ms : MovesTree) (es : EntriesTree) → KeepsAll 1 ss ms → EntriesShape 1 ss es → 1 ≤ slot_count ss → slot_count ss ≤ 126 → canon_by ms (compound ss) (marked es) ≡ canon (compound ss) (marked es)
+whole_stays ss ms es h shape some few = there_stays ss ms es (keeps_there 1 ss ms es h) shape some few

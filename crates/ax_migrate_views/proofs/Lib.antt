@@ -30,3 +30,5 @@ pub mod ViewRanges
 pub mod PlacesThere
 pub mod KnowingSteps
 pub mod BareItems
+pub mod SubitemSteps
+pub mod SubitemsStay

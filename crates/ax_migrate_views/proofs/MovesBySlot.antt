@@ -52,7 +52,7 @@ place_none n s (move_from u t c below ∷ ms) some e = by (u == s) (λ f. place_
     by true rest f = absurd (omega (arith, f))
     by false rest f = rest f
 
-tree_at : (moves : List Move) (k : ℕ) (one : Move) → k < length moves → one ≡ get_or moves k one → move_tree one ≡ get_or (map move_tree moves) k (move_tree one)
+pub tree_at : (moves : List Move) (k : ℕ) (one : Move) → k < length moves → one ≡ get_or moves k one → move_tree one ≡ get_or (map move_tree moves) k (move_tree one)
 tree_at [] k one within is = absurd (omega arith)
 tree_at (m ∷ moves) zero one within is = ap move_tree is
 tree_at (m ∷ moves) (suc k) one within is = tree_at moves k one (omega arith) is

@@ -2,6 +2,7 @@
 use Rattle.std.specs.Prelude.{◌≡◌, ℕ, List, [], ◌∷◌, length, None}
 use Rattle.ax_bits.specs.Bits.{bits}
 use Rattle.ax_fspec.specs.Marks.{IsMarked}
+use Rattle.ax_migrate_views.specs.Lost.{NoneShared}
 use Rattle.ax_migrate_views.specs.Octets.{value_canon_by}
 use Rattle.ax_model.specs.At.{slot_value}
 use Rattle.ax_model.specs.Tree.{marked, EntriesTree}
@@ -18,6 +19,12 @@ pub record HasOnly (item : ItemView) (marks : List ℕ) : Type 0 where
   pub value : item_value item ≡ marked entries
   pub others : (s : ℕ) → (IsMarked marks s → ⊥) → slot_value s entries ≡ None
   pub size : length marks ≡ 126
+
+-- the item is a compound that has no subitem in these slots
+pub record HasNoneOf (item : ItemView) (slots : List ℕ) : Type 0 where
+  pub marks : List ℕ
+  pub only : HasOnly item marks
+  pub apart : NoneShared marks slots
 
 -- whatever moves, the item's value is one octet of 0
 abbrev pub IsBare : ItemView → Type 0

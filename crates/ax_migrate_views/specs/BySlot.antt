@@ -1,6 +1,6 @@
 -- The moves of a record by the old slot, where they come in the order of the old slots.
 use Rattle.std.specs.Prelude.{◌≡◌, ℕ, zero, suc, ◌+◌, ◌==◌, ◌<◌, ◌≤◌, nat_lt, Bool, true, false, IsTrue, if◌then◌else◌, List, [], ◌∷◌, ◌++◌, ◌-◌, length, take, drop, get_or, Option, Some, None, IfSome}
-use Rattle.std.specs.Coded.{Coded-set, coded_ℕ, coded_bool, coded_list}
+use Rattle.std.specs.Coded.{Coded-set, coded_ℕ, coded_list}
 use Rattle.ax_relation.specs.Moves.{MoveTree, move_from, MovesTree, no_moves, move_and}
 use Rattle.ax_relation.specs.PlainMoves.{moves_tree}
 use Rattle.ax_relation.specs.declared.moves.Move.{Move}

@@ -6,6 +6,7 @@ use Rattle.ax_relation.specs.PlainMoves.{moves_tree}
 use Rattle.ax_relation.specs.declared.moves.Move.{Move}
 use Rattle.ax_migrate_views.specs.BySlot.{ArePlaces, ArePlaces-prop, KeepSlots, KeepSlots-prop, StayInSlots, StayInSlots-prop, ascends, place_from, found_canon, found_marks}
 use Rattle.ax_migrate_views.specs.Octets.{with_slot}
+use Rattle.ax_migrate_views.specs.Subitems.{StayWithout, StayWithout-prop}
 use Rattle.ax_migrate_views.specs.declared.by_slot.SlotMoves.{SlotMoves}
 use Rattle.ax_migrate_views.specs.declared.known_moves.KnownMoves.{KnownMoves, out-KnownMoves}
 use Rattle.ax_model.specs.At.{slot_value}
@@ -106,6 +107,7 @@ pub record KnowsMoves (nodes : List Node) (links : List ℕ) (moves : List Move)
   pub ordered : IsTrue known.ordered → IsTrue (ascends 1 (moves_tree moves))
   pub places : ArePlaces moves 127 known.places.items
   pub stays : StayInSlots nodes links moves 127 known.stays.items
+  pub leaving : StayWithout nodes links moves 127 known.leaving.items
   pub kept : IfSome known.kept (KeepSlots moves)
   pub by_place : Knows (moves_tree moves) known.by_place
 
@@ -114,6 +116,7 @@ KnowsMoves-prop nodes links moves known a b = λ i. record {
   ordered = λ said. Coded-set coded_bool (ascends 1 (moves_tree moves)) true (a.ordered said) (b.ordered said) i;
   places = ArePlaces-prop moves 127 known.places.items a.places b.places i;
   stays = StayInSlots-prop nodes links moves 127 known.stays.items a.stays b.stays i;
+  leaving = StayWithout-prop nodes links moves 127 known.leaving.items a.leaving b.leaving i;
   kept = KeepSlots-prop moves known.kept a.kept b.kept i;
   by_place = Knows-prop (moves_tree moves) known.by_place a.by_place b.by_place i;
 }

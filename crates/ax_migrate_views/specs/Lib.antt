@@ -13,5 +13,6 @@ pub mod Lost
 pub mod MoveSets
 pub mod Octets
 pub mod Ranges
+pub mod Subitems
 pub mod TreeSets
 pub mod Wholes

@@ -1,6 +1,6 @@
 //! Which subitems a compound has, by its presence field alone.
 ghost use Rattle.std.specs.Prelude.{IsTrue, IfSome};
-ghost use Rattle.ax_migrate_views.specs.Bare.{HasOnly, IsBare};
+ghost use Rattle.ax_migrate_views.specs.Bare.{HasNoneOf, HasOnly, IsBare};
 
 use ax_fspec::{Presence, read_presence};
 use ax_tables::Node;
@@ -28,6 +28,17 @@ pub(crate) fn is_bare(item: &ItemView<'_, '_>) -> bool
 {
     match subitem_slots(item) {
         Some(mut marked) => marked.take_first().is_none(),
+        None => false,
+    }
+}
+
+/// Whether an item is sure to be a compound without subitems in these slots.
+#[inline]
+pub(crate) fn has_none_of(item: &ItemView<'_, '_>, slots: &Presence) -> bool
+    ensures { IsTrue result → HasNoneOf item.now slots.now }
+{
+    match subitem_slots(item) {
+        Some(marked) => marked.common(slots).take_first().is_none(),
         None => false,
     }
 }

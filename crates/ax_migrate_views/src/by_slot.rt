@@ -7,13 +7,14 @@ ghost use Rattle.ax_tables.specs.Table.{IsTable, SlotLinksWithin};
 
 use crate::keeping::keeps;
 use crate::known_moves::{KnownMoves, know_each};
+use crate::subitems::leaving_slots;
 use ax_fspec::Presence;
 use ax_relation::{Move, Moves};
 use ax_tables::{Codec, Node};
 use std::alloc::{AllocError, Global};
 
 /// The numbers of the slots of a record, and 0.
-const SLOTS: u32 = 127;
+pub(crate) const SLOTS: u32 = 127;
 
 /// What is known of the moves of a record, so that its marked slots alone are gone through.
 #[derive(Drop)]
@@ -24,6 +25,9 @@ pub(crate) struct SlotMoves {
     pub(crate) places: Vec<usize>,
     /// By slot, from 0 on: whether it has a move under which the canonical octets of each of its values stay.
     pub(crate) stays: Vec<bool>,
+    /// By slot, from 0 on: of the compound that moves from it the slots of the subitems that may not stay as they are, and None
+    /// where no compound moves from it.
+    pub(crate) leaving: Vec<Option<Presence>>,
     /// The slots that have a move, where each move is to the slot of the same number.
     pub(crate) kept: Option<Presence>,
     /// What is known of the moves by their places in order, and of those below each.
@@ -31,7 +35,7 @@ pub(crate) struct SlotMoves {
 }
 
 /// Whether the moves come in the order of their old slots, each slot once.
-fn are_ordered(moves: &[Move]) -> bool
+pub(crate) fn are_ordered(moves: &[Move]) -> bool
     ensures { IsTrue result → IsTrue (ascends 1 (moves_tree moves.now)) }
 {
     let mut least: u64 = 1;
@@ -148,11 +152,19 @@ pub(crate) fn know_moves(
         moves,
         places.as_slice(),
     )?;
+    let leaving = leaving_slots(
+        alloc,
+        codec.nodes.as_slice(),
+        codec.slots.as_slice(),
+        moves,
+        places.as_slice(),
+    )?;
     let kept = kept_slots(moves, places.as_slice());
     Ok(SlotMoves {
         ordered,
         places,
         stays,
+        leaving,
         kept,
         by_place,
     })

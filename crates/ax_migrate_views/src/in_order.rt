@@ -13,6 +13,7 @@ ghost use Rattle.ax_view.specs.Placing.{IsPlaced};
 use crate::by_slot::SlotMoves;
 use crate::laying::{lay_field, lay_octets};
 use crate::marks::add_moved;
+use crate::subitems::is_copied;
 use crate::values::{lay_entry, lay_whole};
 use ax_fspec::Presence;
 use ax_relation::{Move, Moves};
@@ -90,6 +91,7 @@ fn lay_marked(
 {
     let places = known.places.as_slice();
     let stays = known.stays.as_slice();
+    let leaving = known.leaving.as_slice();
     let below = known.by_place.below.as_slice();
     let mut end = at;
     let mut start = 0;
@@ -99,7 +101,7 @@ fn lay_marked(
         let Some(window) = whole.place(slot) else {
             continue;
         };
-        if !window.least || !stays[slot as usize] {
+        if !window.least || !is_copied(whole, slot, stays[slot as usize], &leaving[slot as usize]) {
             let place = places[slot as usize];
             if place == 0 {
                 continue;

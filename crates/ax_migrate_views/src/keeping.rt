@@ -16,7 +16,7 @@ use ax_view::FoundItem;
 
 /// Whether the kind of a link is sure to be no compound and, if it is extended, to have no more than so many parts.
 #[inline]
-fn is_leaf(nodes: &[Node], link: u32, count: u32) -> bool
+pub(crate) fn is_leaf(nodes: &[Node], link: u32, count: u32) -> bool
     requires table { IsTable nodes.now }
     requires link { (0 < link) × (link ≤ length nodes.now) }
     ensures { IsTrue result → IsLeaf count (kind_at nodes.now link) }

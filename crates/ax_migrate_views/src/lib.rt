@@ -20,6 +20,7 @@ mod migrating;
 mod migrating_views;
 mod migrator;
 mod ranges;
+mod subitems;
 mod telling;
 mod there;
 mod values;

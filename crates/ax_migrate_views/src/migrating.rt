@@ -96,4 +96,28 @@ impl<'c> Migrator<'c> {
         write_head(self.codec.category(), laid.octets, output);
         Ok(laid)
     }
+
+    /// Lays the canonical form of the migrated block of a body at the front of the output, as `lay` does, and answers its octets.
+    /// No lines of what is lost are laid.
+    pub(crate) fn lay_block(
+        &self,
+        body: &[u8],
+        output: &mut [u8],
+        lines: &mut [u8],
+    ) -> Result<u32, BodyFault>
+        requires editions { IsOfEditions self.now }
+        requires size { (1 ≤ length body.now) × (length body.now ≤ longest_body) }
+        requires room { length output.old ≡ 131067 }
+        requires lines_room { length lines.old ≡ 131067 }
+        ensures laid { IfOk result (λ octets. LaysMigrated self.now body.now octets output.new) }
+        ensures fault { IfErr result (λ fault. FailsThere self.now.codec.now body.now fault) }
+        ensures room { length output.new ≡ 131067 }
+        ensures lines_room { length lines.new ≡ 131067 }
+    {
+        let moves = self.relation.moves();
+        let laid = lay_body(self.codec, body, moves, &self.known, &[], 0, output, lines)?;
+        let count = laid.octets;
+        write_head(self.codec.category(), count, output);
+        Ok(count)
+    }
 }

@@ -22,8 +22,8 @@ impl<'c> Migrator<'c> {
         ensures room { length output.new ≡ 131067 }
     {
         let mut lines = [0; 131_067];
-        match self.lay(0, view.octets(), output, &mut lines) {
-            Ok(laid) => laid.octets,
+        match self.lay_block(view.octets(), output, &mut lines) {
+            Ok(count) => count,
             // The body of a view spells records.
             Err(_) => unreachable!(),
         }

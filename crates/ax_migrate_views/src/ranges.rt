@@ -45,7 +45,7 @@ fn skip_records(later: &mut Records<'_, '_>, number: u32) -> u32
 
 impl<'c> Migrator<'c> {
     /// Lays the canonical form of the migrated block of octets that spell records at the front of the output, and answers its
-    /// octets; where they are more than 65,535, what is laid there is none. The lines of what is lost are laid too.
+    /// octets; where they are more than 65,535, what is laid there is none.
     fn lay_spelled(&self, octets: &[u8], output: &mut [u8], lines: &mut [u8]) -> u32
         requires spelled { SpellsOld self.now octets.now }
         requires size { (1 ≤ length octets.now) × (length octets.now ≤ longest_body) }
@@ -55,8 +55,8 @@ impl<'c> Migrator<'c> {
         ensures room { length output.new ≡ 131067 }
         ensures lines_room { length lines.new ≡ 131067 }
     {
-        match self.lay(0, octets, output, lines) {
-            Ok(laid) => laid.octets,
+        match self.lay_block(octets, output, lines) {
+            Ok(count) => count,
             // The octets spell records.
             Err(_) => unreachable!(),
         }

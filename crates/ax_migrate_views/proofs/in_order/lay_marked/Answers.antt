@@ -4,12 +4,13 @@ use Rattle.ax_bits.specs.Bits.{bits}
 use Rattle.ax_relation.specs.PlainMoves.{move_tree, moves_tree}
 use Rattle.ax_fspec.specs.Marks.{slots_of}
 use Rattle.ax_migrate_views.proofs.LaidRuns.{run_skips, run_extends, run_flushed, run_last, run_enters}
-use Rattle.ax_migrate_views.proofs.KeptSlots.{stays_there}
 use Rattle.ax_migrate_views.proofs.KnowingSteps.{known_at}
 use Rattle.ax_migrate_views.proofs.MovesBySlot.{no_move, move_within, move_there, none_canon, next_canon}
+use Rattle.ax_migrate_views.proofs.SubitemSteps.{copied_there}
 use Rattle.ax_migrate_views.specs.BySlot.{ArePlaces, StayInSlots, found_canon, run_octets, slots_canon}
 use Rattle.ax_migrate_views.specs.KnownMoves.{KnowsBelow}
 use Rattle.ax_migrate_views.specs.Octets.{move_canon}
+use Rattle.ax_migrate_views.specs.Subitems.{StayWithout}
 use Rattle.ax_migrate_views.specs.Wholes.{whole_entries, whole_slots}
 use Rattle.ax_migrate_views.proofs.in_order.lay_marked.Goals as goal
 
@@ -65,7 +66,8 @@ loop-slot-preserved-then-window-stop c =
     let w = c.args.whole.now in
     let ms = moves_tree c.args.moves.now in
     let there = c.in-Some-place.ensures.there in
-    let stays = stays_there w c.args.moves.now c.as_slice-stays.result.now c.in-Some.slot c.in-Some-place.window (subst (StayInSlots w.codec.now.nodes w.slots.now c.args.moves.now 127) (sym c.as_slice-stays.ensures.value) c.requires.known.stays) there (sym c.in-Some-place.ensures.value) (not-false _ c.if-not-window.false) c.if-not-stays-slot.false in
+    let stays = copied_there w c.args.moves.now c.as_slice-stays.result.now c.as_slice-leaving.result.now c.in-Some.slot c.in-Some-place.window c.index-leaving-slot.result (subst (StayInSlots w.codec.now.nodes w.slots.now c.args.moves.now 127) (sym c.as_slice-stays.ensures.value) c.requires.known.stays)
+    (subst (StayWithout w.codec.now.nodes w.slots.now c.args.moves.now 127) (sym c.as_slice-leaving.ensures.value) c.requires.known.leaving) c.index-leaving-slot.is there (sym c.in-Some-place.ensures.value) (not-false _ c.if-not-window.false) (c.is_copied.ensures c.if-not-is_copied.false) in
     let next = next_canon (slots_of c.loop-slot.left) (slots_of c.take_first.new.self) c.in-Some.slot ms (whole_slots w) (whole_entries w) (bits (run_octets c.in-Some-place.window.start c.in-Some-place.window.end w.body.now)) c.in-Some.ensures.some stays in
     run_extends _ _ _ _ _ _ _ _ _
     (run_flushed _ _ _ _ _ _ _ _ _ c.loop-slot.invariant c.in-Some-place.window.start c.lay_run-end-then-window-stop.result c.lay_run-end-then-window-stop.new.output (omega (arith, there.forwards, there.within)) c.lay_run-end-then-window-stop.ensures.laid)
@@ -77,7 +79,8 @@ loop-slot-preserved c =
     let ms = moves_tree c.args.moves.now in
     let there = c.in-Some-place.ensures.there in
     let here : c.in-Some-place.window.start ≡ c.loop-slot.stop = omega (arith, c.if-window-stop.false) in
-    let stays = stays_there w c.args.moves.now c.as_slice-stays.result.now c.in-Some.slot c.in-Some-place.window (subst (StayInSlots w.codec.now.nodes w.slots.now c.args.moves.now 127) (sym c.as_slice-stays.ensures.value) c.requires.known.stays) there (sym c.in-Some-place.ensures.value) (not-false _ c.if-not-window.false) c.if-not-stays-slot.false in
+    let stays = copied_there w c.args.moves.now c.as_slice-stays.result.now c.as_slice-leaving.result.now c.in-Some.slot c.in-Some-place.window c.index-leaving-slot.result (subst (StayInSlots w.codec.now.nodes w.slots.now c.args.moves.now 127) (sym c.as_slice-stays.ensures.value) c.requires.known.stays)
+    (subst (StayWithout w.codec.now.nodes w.slots.now c.args.moves.now 127) (sym c.as_slice-leaving.ensures.value) c.requires.known.leaving) c.index-leaving-slot.is there (sym c.in-Some-place.ensures.value) (not-false _ c.if-not-window.false) (c.is_copied.ensures c.if-not-is_copied.false) in
     let next = next_canon (slots_of c.loop-slot.left) (slots_of c.take_first.new.self) c.in-Some.slot ms (whole_slots w) (whole_entries w) (bits (run_octets c.loop-slot.stop c.in-Some-place.window.end w.body.now)) c.in-Some.ensures.some
     (stays ∙ ap (λ n. bits (run_octets n c.in-Some-place.window.end w.body.now)) here) in
     run_extends _ _ _ _ _ _ _ _ _ c.loop-slot.invariant _ c.in-Some-place.window.end (omega (arith, here, there.forwards)) there.within next

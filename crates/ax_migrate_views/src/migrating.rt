@@ -105,7 +105,6 @@ impl<'c> Migrator<'c> {
         output: &mut [u8],
         lines: &mut [u8],
     ) -> Result<u32, BodyFault>
-        requires editions { IsOfEditions self.now }
         requires size { (1 ≤ length body.now) × (length body.now ≤ longest_body) }
         requires room { length output.old ≡ 131067 }
         requires lines_room { length lines.old ≡ 131067 }

@@ -9,6 +9,6 @@ returns-clause-laid c =
     let n = c.in_ok-laid.laid.octets in
     let body = c.args.body.now in
     let laid = subst (λ ms. LaysBody c.args.self.now.codec.now ms body 3 n c.args.output.now c.lay_body.new.output) c.moves-moves.ensures c.in_ok-laid.ensures.laid in
-    migrated_laid c.args.self.now body n c.args.output.now c.lay_body.new.output c.write_head.new.output c.requires.editions c.requires.size.1 laid c.requires.room c.lay_body.ensures.room
+    migrated_laid c.args.self.now body n c.args.output.now c.lay_body.new.output c.write_head.new.output c.args.self.now.editions c.requires.size.1 laid c.requires.room c.lay_body.ensures.room
     (c.write_head.ensures ∙ ap (λ k. with_head k n c.lay_body.new.output) c.category.ensures)
     (λ i. (let fits = c.type_inv.output i in omega arith)) (omega (arith, c.category.ensures, c.category.type_inv))

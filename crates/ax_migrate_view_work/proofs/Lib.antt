@@ -1,2 +1,3 @@
 pub mod Splitting
 pub mod Takings
+pub mod Keeping

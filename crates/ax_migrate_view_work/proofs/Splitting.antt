@@ -1,28 +1,25 @@
 -- The records of a view, block by block: which is too long, and what is written.
 use Rattle.std.proofs.Common.{◌≡◌, ℕ, zero, suc, ◌+◌, ◌<◌, ◌≤◌, max, Bool, true, false, cond, List, [], ◌∷◌, ◌++◌, Option, Some, None, length, take, drop, flat_map, refl, sym, ◌∙◌, ap, arith, subst, append_assoc, append-nil, length-drop, take-append-drop, Result, Ok, Err, IsErr}
-use Rattle.std.proofs.lemmas.Bool.{lt-leb}
 use Rattle.std.proofs.lemmas.List.{drop-drop, drop_all}
 use Rattle.ax_bits.specs.Bits.{bits}
-use Rattle.ax_edition_laws.specs.Moved.{moved_record}
 use Rattle.ax_migrate_view_work.specs.Pieces.{FindsTooLong, IsRange, WritesBlocks, WritesRange}
 use Rattle.ax_migrate_views.proofs.MigratedBlocks.{length-moved}
 use Rattle.ax_migrate_views.specs.Blocks.{old_tree, new_tree}
 use Rattle.ax_migrate_views.specs.Ranges.{made_of, made_from, made_range, FitsFrom, HasRecords, LaysRange}
 use Rattle.ax_migrate_views.specs.declared.migrator.Migrator.{Migrator}
 use Rattle.ax_migrate_views.specs.declared.ranges.Fit.{Fit}
-use Rattle.ax_migrate_work.proofs.LongRecords.{too_long_first, too_long_later}
+use Rattle.ax_migrate_work.proofs.LongRecords.{too_long_later}
 use Rattle.ax_model.proofs.SplitFronts.{empty_length, fit_few, fit_fits}
 use Rattle.ax_model.proofs.SplitLists.{by_fit}
 use Rattle.ax_model.specs.Blocks.{read_block}
 use Rattle.ax_model.specs.Bodies.{SpellsBody}
 use Rattle.ax_model.specs.CanonicalOctets.{canon_block}
 use Rattle.ax_model.specs.Specification.{SpecTree}
-use Rattle.ax_model.specs.Split.{first_too_long, fit_after, fit_count, fit_within, fits_within, records_length, split_octets, split_within, too_long_within}
+use Rattle.ax_model.specs.Split.{first_too_long, fit_after, fit_count, fits_within, records_length, split_octets, too_long_within}
 use Rattle.ax_model.specs.Tree.{EntriesTree}
 use Rattle.ax_outside.proofs.Pieces.{change, failed_before, nothing_written, same_text, written_then}
 use Rattle.ax_outside.specs.Changes.{SinkChange, Wrote}
 use Rattle.ax_outside.specs.declared.sinks.SinkFailed.{SinkFailed}
-use Rattle.ax_view.specs.Views.{CountsRecords}
 
 -- ---- as many as fit
 

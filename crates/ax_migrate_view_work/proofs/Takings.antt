@@ -1,11 +1,10 @@
 -- What `migrate` over views does with one block.
-use Rattle.std.proofs.Common.{◌≡◌, ℕ, ◌<◌, ◌≤◌, ◌==◌, Bool, true, false, cond, List, [], ◌∷◌, ◌++◌, Option, Some, None, length, take, refl, sym, ◌∙◌, ap, subst, arith, Result, Ok, Err}
+use Rattle.std.proofs.Common.{◌≡◌, ℕ, ◌≤◌, ◌==◌, Bool, true, false, cond, List, [], ◌∷◌, ◌++◌, Option, Some, None, length, take, refl, sym, ◌∙◌, ap, subst, arith, Result, Ok, Err}
 use Rattle.std.proofs.lemmas.Bool.{eqb-true}
 use Rattle.std.proofs.lemmas.List.{take-append-le, take-take}
 use Rattle.ax_bits.specs.Bits.{bits}
 use Rattle.ax_edition_laws.proofs.Lookups.{equal}
 use Rattle.ax_migrate.specs.Losing.{losses_from, lost_lines}
-use Rattle.ax_migrate.specs.Migrating.{migrated_block}
 use Rattle.ax_migrate_view_work.specs.Pieces.{FindsTooLong, WritesBlocks}
 use Rattle.ax_migrate_views.specs.Blocks.{old_tree, new_tree, IsOfEditions, IsMigratedBlock, LaysMigrated}
 use Rattle.ax_migrate_views.specs.Losses.{TellsLosses, WritesLosses}
@@ -16,7 +15,7 @@ use Rattle.ax_migrate_work.specs.Commands.{migrate_command, unless_too_long}
 use Rattle.ax_model.proofs.Once.{body_never_both}
 use Rattle.ax_model.specs.Blocks.{BlockTree, read_block, opaque_block}
 use Rattle.ax_model.specs.Bodies.{SpellsBody}
-use Rattle.ax_model.specs.CanonicalOctets.{canon_block, canon_length, framed}
+use Rattle.ax_model.specs.CanonicalOctets.{framed}
 use Rattle.ax_model.specs.Ends.{RawSpells}
 use Rattle.ax_model.specs.Framing.{RawTree}
 use Rattle.ax_model.specs.Specification.{SpecTree, spec_of}
@@ -28,8 +27,8 @@ use Rattle.ax_outside.specs.Changes.{SinkChange, Wrote}
 use Rattle.ax_outside.specs.declared.sinks.SinkFailed.{SinkFailed}
 use Rattle.ax_stream.proofs.BlockSteps.{short_fault}
 use Rattle.ax_stream.proofs.OpaqueBlocks.{raw_framed}
-use Rattle.ax_stream.proofs.Taken.{Answers, all, failed, octets_written, takes_after_lines, takes_cut_line, takes_silently, takes_fault, takes_too_long}
-use Rattle.ax_stream.specs.Commands.{gives, too_long}
+use Rattle.ax_stream.proofs.Taken.{Answers, octets_written, takes_after_lines, takes_cut_line, takes_silently, takes_fault, takes_too_long}
+use Rattle.ax_stream.specs.Commands.{gives}
 use Rattle.ax_stream.specs.Taking.{Takes, GivesFor, WritesOctets}
 use Rattle.ax_stream.specs.declared.work.WorkStop.{WorkStop}
 use Rattle.ax_stream.specs.declared.work.WorkStop.TheVariants.{Fault, TooLong, ReportFault}

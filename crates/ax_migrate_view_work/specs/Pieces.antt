@@ -1,8 +1,9 @@
 -- The data blocks that the migrated records of a view come into.
-use Rattle.std.specs.Prelude.{◌≡◌, ℕ, ◌+◌, ◌≤◌, List, Option, Result}
+use Rattle.std.specs.Prelude.{◌≡◌, ℕ, ◌+◌, ◌<◌, ◌≤◌, List, length, get_or, Option, Result}
 use Rattle.ax_bits.specs.Bits.{bits}
 use Rattle.ax_migrate_views.specs.Blocks.{old_tree, new_tree}
-use Rattle.ax_migrate_views.specs.Ranges.{made_of, made_range, HasRecords}
+use Rattle.ax_migrate_views.specs.Ranges.{made_of, made_range, FitsFrom, HasRecords}
+use Rattle.ax_migrate_view_work.specs.declared.pieces.KnownRange.{KnownRange}
 use Rattle.ax_migrate_views.specs.declared.migrator.Migrator.{Migrator}
 use Rattle.ax_model.specs.Blocks.{read_block}
 use Rattle.ax_model.specs.Bodies.{SpellsBody}
@@ -30,3 +31,12 @@ pub record WritesRange (m : Migrator) (body : List ℕ) (from count : ℕ) (chan
 -- all blocks were, or a prefix
 pub record WritesBlocks (m : Migrator) (body : List ℕ) (change : SinkChange) (result : Result Unit SinkFailed) : Type 0 where
   pub wrote : (records : List EntriesTree) → SpellsBody (old_tree m) records (bits body) → Wrote change result (split_octets (new_tree m) (made_of m records))
+
+-- ---- ranges that are kept
+
+-- so many records from that one on come into one block, where there are some
+abbrev pub IsKnown : Migrator → List ℕ → KnownRange → Type 0
+IsKnown m body r = 0 < r.fit.count → FitsFrom m body r.from r.fit
+
+pub record AreKnown (m : Migrator) (body : List ℕ) (ranges : List KnownRange) : Type 0 where
+  pub at : (i : ℕ) (r : KnownRange) → i < length ranges → r ≡ get_or ranges i r → IsKnown m body r

@@ -10,8 +10,8 @@ ghost use Rattle.ax_stream.specs.Taking.{Takes};
 ghost use Rattle.ax_stream.specs.declared.work.WorkStop.TheVariants.{OutOfMemory};
 ghost use Rattle.ax_view.specs.Views.{SpellsSome};
 
-use crate::pieces::{first_too_long, write_blocks};
-use ax_migrate_views::Migrator;
+use crate::pieces::{KnownRange, first_too_long, write_blocks};
+use ax_migrate_views::{Fit, Migrator};
 use ax_model::RawBlock;
 use ax_outside::{Sink, SinkFailed, write_text};
 use ax_stream::{WorkStop, write_piece};
@@ -79,12 +79,20 @@ fn migrate_long<R: Sink, K: Sink>(
         Ok(view) => view,
         Err(fault) => return Err(WorkStop::Fault(fault)),
     };
-    match first_too_long(migrator, &view) {
+    let none = KnownRange {
+        from: 0,
+        fit: Fit {
+            count: 0,
+            octets: 0,
+        },
+    };
+    let mut known = [none; 64];
+    match first_too_long(migrator, &view, &mut known) {
         Some(octets) => return Err(WorkStop::TooLong { octets }),
         None => {}
     }
     match report_losses(migrator, number, raw.body, told, lines, report) {
-        Ok(()) => match write_blocks(migrator, &view, out, output) {
+        Ok(()) => match write_blocks(migrator, &view, &known, out, output) {
             Ok(()) => Ok(()),
             Err(_) => Err(WorkStop::WriteFault),
         },

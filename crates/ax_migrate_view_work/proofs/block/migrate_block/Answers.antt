@@ -1,5 +1,4 @@
-use Rattle.std.proofs.Common.{arith, refl, sym}
-use Rattle.std.proofs.lemmas.List.{length-take-le}
+use Rattle.std.proofs.Common.{arith, refl}
 use Rattle.ax_migrate_view_work.proofs.Takings.{block_taken, block_cut, block_fails}
 use Rattle.ax_migrate_view_work.proofs.block.migrate_block.Goals as goal
 

@@ -1,4 +1,4 @@
-use Rattle.std.proofs.Common.{◌≡◌, ◌+◌, ◌≤◌, List, arith, ap, false, length, subst, sym, ◌∙◌}
+use Rattle.std.proofs.Common.{◌≡◌, List, arith, false, length, subst}
 use Rattle.ax_bits.specs.Bits.{bits}
 use Rattle.ax_migrate_views.proofs.ViewRanges.{all}
 use Rattle.ax_migrate_views.specs.Blocks.{old_tree}
@@ -14,8 +14,8 @@ pub loop-from-init : goal.loop-from-init
 loop-from-init g c =
     (blocks_begin c.args.migrator.now c.args.view.now.body.now _ _, c.requires.room)
 
-pub fit-fit-requires-clause-from : goal.fit-fit-requires-clause-from
-fit-fit-requires-clause-from g c =
+pub fit_at-fit-requires-clause-from : goal.fit_at-fit-requires-clause-from
+fit_at-fit-requires-clause-from g c =
     let m = c.args.migrator.now in
     let view = c.args.view.now in
     let of = c.args.migrator.now.editions in
@@ -34,7 +34,7 @@ write_range-requires-clause-range g c =
     let whole = all m of view.body.now view.size.1 view.size.0 view.count pieces in
     let counts = subst (λ codec. CountsRecords codec view.body.now c.count-count.result) c.requires.view c.count-count.ensures in
     let counted : (records : List EntriesTree) → SpellsBody (old_tree m) records (bits view.body.now) → c.count-count.result ≡ length records = λ records s. counts.counts (old_tree m) records of.compiled.clean of.compiled.stands s in
-    fit_range m view.body.now c.requires.none c.loop-from.from c.count-count.result counted c.loop-from-test.true c.fit-fit.result c.fit-fit.ensures whole.0 whole.1 c.loop-from.invariant.0.judged
+    fit_range m view.body.now c.requires.none c.loop-from.from c.count-count.result counted c.loop-from-test.true c.fit_at-fit.result c.fit_at-fit.ensures whole.0 whole.1 c.loop-from.invariant.0.judged
 
 pub returns-in_err-write_range-clause-written : goal.returns-in_err-write_range-clause-written
 returns-in_err-write_range-clause-written g c =
@@ -45,7 +45,7 @@ returns-in_err-write_range-clause-written g c =
     let whole = all m of view.body.now view.size.1 view.size.0 view.count pieces in
     let counts = subst (λ codec. CountsRecords codec view.body.now c.count-count.result) c.requires.view c.count-count.ensures in
     let counted : (records : List EntriesTree) → SpellsBody (old_tree m) records (bits view.body.now) → c.count-count.result ≡ length records = λ records s. counts.counts (old_tree m) records of.compiled.clean of.compiled.stands s in
-    blocks_cut m view.body.now c.requires.none c.loop-from.from c.count-count.result counted c.loop-from-test.true c.fit-fit.result c.fit-fit.ensures _ _ _ _ _ _ c.loop-from.invariant.0 _ c.from_residual.result c.from_residual.ensures.0 c.in_err-write_range.ensures.written
+    blocks_cut m view.body.now c.requires.none c.loop-from.from c.count-count.result counted c.loop-from-test.true c.fit_at-fit.result c.fit_at-fit.ensures _ _ _ _ _ _ c.loop-from.invariant.0 _ c.from_residual.result c.from_residual.ensures.0 c.in_err-write_range.ensures.written
 
 pub overflow_add-from : goal.overflow_add-from
 overflow_add-from g c =
@@ -56,7 +56,7 @@ overflow_add-from g c =
     let whole = all m of view.body.now view.size.1 view.size.0 view.count pieces in
     let counts = subst (λ codec. CountsRecords codec view.body.now c.count-count.result) c.requires.view c.count-count.ensures in
     let counted : (records : List EntriesTree) → SpellsBody (old_tree m) records (bits view.body.now) → c.count-count.result ≡ length records = λ records s. counts.counts (old_tree m) records of.compiled.clean of.compiled.stands s in
-    omega (arith, fit_within_left m view.body.now c.loop-from.from c.count-count.result counted c.loop-from-test.true c.fit-fit.result c.fit-fit.ensures whole.0 whole.1, c.count-count.type_inv)
+    omega (arith, fit_within_left m view.body.now c.loop-from.from c.count-count.result counted c.loop-from-test.true c.fit_at-fit.result c.fit_at-fit.ensures whole.0 whole.1, c.count-count.type_inv)
 
 pub loop-from-smaller : goal.loop-from-smaller
 loop-from-smaller g c =
@@ -67,7 +67,7 @@ loop-from-smaller g c =
     let whole = all m of view.body.now view.size.1 view.size.0 view.count pieces in
     let counts = subst (λ codec. CountsRecords codec view.body.now c.count-count.result) c.requires.view c.count-count.ensures in
     let counted : (records : List EntriesTree) → SpellsBody (old_tree m) records (bits view.body.now) → c.count-count.result ≡ length records = λ records s. counts.counts (old_tree m) records of.compiled.clean of.compiled.stands s in
-    omega (arith, fit_some m view.body.now c.requires.none c.loop-from.from c.count-count.result counted c.loop-from-test.true c.fit-fit.result c.fit-fit.ensures c.loop-from.invariant.0.judged whole.0 whole.1, c.loop-from-test.true)
+    omega (arith, fit_some m view.body.now c.requires.none c.loop-from.from c.count-count.result counted c.loop-from-test.true c.fit_at-fit.result c.fit_at-fit.ensures c.loop-from.invariant.0.judged whole.0 whole.1, c.loop-from-test.true)
 
 pub loop-from-preserved : goal.loop-from-preserved
 loop-from-preserved g c =
@@ -78,7 +78,7 @@ loop-from-preserved g c =
     let whole = all m of view.body.now view.size.1 view.size.0 view.count pieces in
     let counts = subst (λ codec. CountsRecords codec view.body.now c.count-count.result) c.requires.view c.count-count.ensures in
     let counted : (records : List EntriesTree) → SpellsBody (old_tree m) records (bits view.body.now) → c.count-count.result ≡ length records = λ records s. counts.counts (old_tree m) records of.compiled.clean of.compiled.stands s in
-    (blocks_more m view.body.now c.requires.none c.loop-from.from c.count-count.result counted c.loop-from-test.true c.fit-fit.result c.fit-fit.ensures _ _ _ _ _ _ c.loop-from.invariant.0 _ c.in_ok-write_range.ensures.written, c.in_ok-write_range.ensures.room)
+    (blocks_more m view.body.now c.requires.none c.loop-from.from c.count-count.result counted c.loop-from-test.true c.fit_at-fit.result c.fit_at-fit.ensures _ _ _ _ _ _ c.loop-from.invariant.0 _ c.in_ok-write_range.ensures.written, c.in_ok-write_range.ensures.room)
 
 pub returns-clause-written : goal.returns-clause-written
 returns-clause-written g c =

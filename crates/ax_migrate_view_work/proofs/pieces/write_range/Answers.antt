@@ -1,9 +1,5 @@
-use Rattle.std.proofs.Common.{◌≡◌, ◌+◌, ◌≤◌, List, arith, ap, false, length, subst, sym, ◌∙◌}
-use Rattle.ax_bits.specs.Bits.{bits}
+use Rattle.std.proofs.Common.{◌≤◌, arith, false, subst, sym}
 use Rattle.ax_migrate_views.proofs.ViewRanges.{all}
-use Rattle.ax_migrate_views.specs.Blocks.{old_tree}
-use Rattle.ax_model.specs.Bodies.{SpellsBody}
-use Rattle.ax_model.specs.Tree.{EntriesTree}
 use Rattle.ax_tables.specs.Table.{record_kind_at}
 use Rattle.ax_view.specs.Pieces.{ArePieces}
 use Rattle.std.proofs.lemmas.List.{length-take-le}

@@ -20,6 +20,7 @@ pub mod SlotSets
 pub mod PlanTrees
 pub mod PlanLists
 pub mod Levels
+pub mod SameSlots
 pub mod PlannedTests
 pub mod Memos
 pub mod AbsentItems

@@ -1,21 +1,25 @@
 -- The marked slots of a record, read from its presence field.
-use Rattle.std.proofs.Common.{◌≡◌, ℕ, zero, suc, ◌+◌, ◌-◌, ◌<◌, ◌≤◌, ◌==◌, ◌&&◌, if◌then◌else◌, nat_lt, Bool, true, false, List, [], ◌∷◌, length, get_or, Some, None, refl, sym, ◌∙◌, ap, arith, subst}
+use Rattle.std.proofs.Common.{◌≡◌, ℕ, zero, suc, ◌+◌, ◌-◌, ◌<◌, ◌≤◌, ◌==◌, ◌&&◌, if◌then◌else◌, nat_lt, Bool, true, false, List, [], ◌∷◌, length, replicate, get_or, Some, None, refl, sym, ◌∙◌, ap, arith, subst}
 use Rattle.std.proofs.lemmas.Bool.{lt-ltb, ltb-false}
-use Rattle.ax_bits.specs.Bits.{AreBits}
+use Rattle.std.proofs.lemmas.List.{get_or-replicate}
+use Rattle.ax_bits.specs.Bits.{AreBits, bits}
 use Rattle.ax_fspec.specs.Fields.{MarksSlots, FailsToMark}
 use Rattle.ax_model.specs.At.{slot_value}
 use Rattle.ax_model.specs.declared.fault.BodyFault.{BodyFault}
-use Rattle.ax_model.specs.Presence.{first_mark, later_marks}
-use Rattle.ax_model.specs.Reader.{Read, got, failed, after, both, read, mark_read, entries_read}
-use Rattle.ax_model.specs.Tree.{KindTree, ValueTree, EntriesTree, entry_and, SlotsTree, no_slots, slot_and, spare_slot, subitem, slots_of}
+use Rattle.ax_model.proofs.Bounds.{count_of_slots}
+use Rattle.ax_model.specs.Presence.{first_mark, later_marks, octets_needed}
+use Rattle.ax_model.specs.Reader.{Read, got, failed, after, both, read, mark_read, marked_read, presence_read, entries_read}
+use Rattle.ax_model.specs.Tree.{KindTree, ValueTree, EntriesTree, entry_and, SlotsTree, no_slots, slot_and, spare_slot, subitem, slots_of, slot_count, defined_slots, marked}
 use Rattle.ax_reader.proofs.Marking.{marks_bits}
 use Rattle.ax_reader.specs.Reading.{entries_at}
 use Rattle.ax_tables.specs.Meaning.{meanings, linked_slots}
+use Rattle.ax_tables.specs.Table.{record_kind_at}
 use Rattle.ax_tables.specs.declared.codec.Codec.{Codec}
 use Rattle.ax_view.proofs.Found.{not_same, field_never, entries_are}
 use Rattle.ax_view.specs.Shown.{record_entries}
-use Rattle.ax_view.specs.Values.{entries_found}
+use Rattle.ax_view.specs.Values.{entries_found, entries_in, value_in, value_read}
 use Rattle.ax_view.specs.declared.record.RecordView.{RecordView}
+use Rattle.ax_filter.proofs.SlotSets.{marked_slot}
 use Rattle.ax_filter.specs.Plans.{is_slot, MarkEach}
 
 -- ---- entries of slots that aren't marked
@@ -54,6 +58,47 @@ not_read n s (slot_and (subitem name k) ss) ms b h =
 not_there : (s : ℕ) (ss : SlotsTree) (marks body : List ℕ) (at : ℕ) → (1 ≤ s → get_or marks (s - 1) 0 ≡ 0) → slot_value s (entries_found (entries_at ss marks body at)) ≡ None
 unfolding entries_at
 not_there s ss marks body at h = not_read 1 s ss marks _ h
+
+-- ---- slots past the last
+
+past_mark : (n s m : ℕ) (k : KindTree) (go : List ℕ → Read EntriesTree) (b : List ℕ) → (n ≡ s → ⊥) → ((y : List ℕ) → slot_value s (entries_found (go y)) ≡ None) → slot_value s (entries_found (mark_read m n (read k) go b)) ≡ None
+past_mark n s zero k go b ne rest = rest b
+past_mark n s (suc m) k go b ne rest = of_value n s go (read k b) ne rest
+
+past_last : (n s : ℕ) (ss : SlotsTree) (ms b : List ℕ) → ((i : ℕ) → i < slot_count ss → n + i ≡ s → ⊥) → slot_value s (entries_found (entries_read n ss ms b)) ≡ None
+past_last n s no_slots ms b h = refl
+past_last n s (slot_and spare_slot ss) ms b h = past_last (n + 1) s ss (later_marks ms) b (λ i lt e. h (suc i) (omega (arith, lt)) (omega (arith, e)))
+past_last n s (slot_and (subitem name k) ss) ms b h =
+    past_mark n s (first_mark ms) k (entries_read (n + 1) ss (later_marks ms)) b (λ e. h 0 (omega arith) (omega (arith, e)))
+    (λ y. past_last (n + 1) s ss (later_marks ms) y (λ i lt e. h (suc i) (omega (arith, lt)) (omega (arith, e))))
+
+of_all : (s n : ℕ) (r : Read EntriesTree) → slot_value s (entries_found r) ≡ None → slot_value s (entries_in (value_read (after n (λ es. marked es) r))) ≡ None
+of_all s n (got es m y) h = h
+of_all s n (failed p c) h = refl
+
+of_marks : (s : ℕ) (r : Read (List ℕ)) (go : List ℕ → List ℕ → Read EntriesTree) → ((ms y : List ℕ) → slot_value s (entries_found (go ms y)) ≡ None) → slot_value s (entries_in (value_read (marked_read r go))) ≡ None
+of_marks s (got ms n y) go h = of_all s n (go ms y) (h ms y)
+of_marks s (failed p c) go h = refl
+
+no_others : (view : RecordView) (s : ℕ) → (1 ≤ s → s ≤ 126 → ⊥) → slot_value s (record_entries view) ≡ None
+unfolding value_in record_kind_at
+no_others view s h =
+    let codec = view.codec.now in
+    let slots = linked_slots (meanings codec.nodes) codec.slots in
+    let ss = slots_of slots in
+    let few : slot_count ss ≤ 126 = omega (arith, count_of_slots slots, codec.records.mask.count, codec.mask.few) in
+    of_marks s (presence_read (octets_needed (slot_count ss)) (defined_slots ss) (bits view.body.now)) (entries_read 1 ss)
+    (λ ms y. past_last 1 s ss ms y (λ i lt e. h (omega (arith, e)) (omega (arith, e, lt, few))))
+
+-- the set of all slots
+abbrev pub all_slots : List ℕ
+all_slots = replicate 126 1
+
+in_all : (s : ℕ) → 1 ≤ s → s ≤ 126 → is_slot all_slots s ≡ true
+in_all s some few = marked_slot all_slots s (omega (arith, few)) (omega (arith, some), get_or-replicate 126 (s - 1) 1 0 (omega (arith, some, few)))
+
+pub all_mark : (view : RecordView) → MarkEach all_slots (record_entries view)
+all_mark view s e = no_others view s (λ some few. (let t = in_all s some few in cc))
 
 -- ---- slots that aren't in a set
 

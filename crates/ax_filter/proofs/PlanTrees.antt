@@ -53,6 +53,20 @@ several_quiet p all asked absent ps is = sym (ap said_of_none (ap plan_tree is �
 
 pub ruleset quiet = (always_quiet, one_quiet, not_quiet, several_quiet)
 
+-- ---- what the plan of a question says
+
+module _ (marks : List ℕ) (found : ℕ → Option Found) (slot question : ℕ) (want : Want) where
+  pub absent_says : is_slot marks slot ≡ false → false ≡ says marks found (asks slot question want)
+  absent_says e = sym (ap (λ b. b && some_passes (wanted want) (found question)) e)
+
+  pub none_says : is_slot marks slot ≡ true → found question ≡ None → false ≡ says marks found (asks slot question want)
+  none_says e f = sym (ap (λ b. b && some_passes (wanted want) (found question)) e ∙ ap (some_passes (wanted want)) f)
+
+  pub found_says : (n : Found) → is_slot marks slot ≡ true → found question ≡ Some n → wanted want n ≡ says marks found (asks slot question want)
+  found_says n e f = sym (ap (λ b. b && some_passes (wanted want) (found question)) e ∙ ap (some_passes (wanted want)) f)
+
+pub ruleset answering = (absent_says, none_says, found_says)
+
 -- ---- what a plan says
 
 module _ (marks : List ℕ) (found : ℕ → Option Found) (p : Plan) where
@@ -62,14 +76,8 @@ module _ (marks : List ℕ) (found : ℕ → Option Found) (p : Plan) where
   asks_says : (slot question : ℕ) (want : Want) → p ≡ Plans.Asks slot question want → says marks found (plan_tree p) ≡ (is_slot marks slot && some_passes (wanted want) (found question))
   asks_says slot question want is = ap (says marks found) (ap plan_tree is ∙ asks_tree slot question want)
 
-  pub absent_says : (slot question : ℕ) (want : Want) → p ≡ Plans.Asks slot question want → is_slot marks slot ≡ false → false ≡ says marks found (plan_tree p)
-  absent_says slot question want is e = sym (asks_says slot question want is ∙ ap (λ b. b && some_passes (wanted want) (found question)) e)
-
-  pub none_says : (slot question : ℕ) (want : Want) → p ≡ Plans.Asks slot question want → is_slot marks slot ≡ true → found question ≡ None → false ≡ says marks found (plan_tree p)
-  none_says slot question want is e f = sym (asks_says slot question want is ∙ ap (λ b. b && some_passes (wanted want) (found question)) e ∙ ap (some_passes (wanted want)) f)
-
-  pub found_says : (slot question : ℕ) (want : Want) (n : Found) → p ≡ Plans.Asks slot question want → is_slot marks slot ≡ true → found question ≡ Some n → wanted want n ≡ says marks found (plan_tree p)
-  found_says slot question want n is e f = sym (asks_says slot question want is ∙ ap (λ b. b && some_passes (wanted want) (found question)) e ∙ ap (some_passes (wanted want)) f)
+  pub answered : (slot question : ℕ) (want : Want) (b : Bool) → p ≡ Plans.Asks slot question want → b ≡ says marks found (asks slot question want) → b ≡ says marks found (plan_tree p)
+  answered slot question want b is h = h ∙ sym (asks_says slot question want is)
 
   pub not_says : (box : Box Plan Global) (b : Bool) → p ≡ Plans.Not box → b ≡ says marks found (plan_tree box.value) → not b ≡ says marks found (plan_tree p)
   not_says box b is h = ap not h ∙ sym (ap (says marks found) (ap plan_tree is ∙ not_plan_tree box))
@@ -84,4 +92,4 @@ module _ (marks : List ℕ) (found : ℕ → Option Found) (p : Plan) where
   pub gone_through : (all : Bool) (asked : List ℕ) (absent : Bool) (ps : List Plan) (b : Bool) → p ≡ Plans.Several all asked absent ps → meets asked marks ≡ true → b ≡ many_say marks found all (plans_of (map plan_tree ps)) → b ≡ says marks found (plan_tree p)
   gone_through all asked absent ps b is e h = h ∙ sym (several_says all asked absent ps is ∙ ap (λ b. cond b (many_say marks found all (plans_of (map plan_tree ps))) absent) e)
 
-pub ruleset deciding = (always_says, absent_says, none_says, found_says, not_says, passed_over, gone_through)
+pub ruleset deciding = (always_says, answered, not_says, passed_over, gone_through)

@@ -7,6 +7,7 @@ use crate::expr::Op;
 use ax_bits::signed_of;
 
 /// Whether one number compares so with another.
+#[inline(always)]
 fn compares(op: Op, number: i128, other: i128) -> bool
     ensures { result ≡ compares op number other }
 {
@@ -21,6 +22,7 @@ fn compares(op: Op, number: i128, other: i128) -> bool
 }
 
 /// The same of a number without a sign, which may be above each one with a sign.
+#[inline(always)]
 fn compares_unsigned(op: Op, number: u128, other: i128) -> bool
     ensures { result ≡ compares op (pos number) other }
 {
@@ -61,6 +63,7 @@ fn compares_signed(op: Op, value: u128, width: u32, other: i128) -> bool
 }
 
 /// Whether the number that an element's bits spell compares so with another.
+#[inline]
 pub fn compares_as(op: Op, value: u128, signed: bool, width: u32, other: i128) -> bool
     ensures { result ≡ compares op (number_of signed width value) other }
 {

@@ -3,6 +3,7 @@ ghost use Rattle.std.specs.Prelude.{◌≡◌, ◌+◌, ◌*◌, ◌≤◌, ◌+
 ghost use Rattle.ax_filter.specs.Plans.{AreAlike, IsLevel, asked_by, joined, plan_tree, said_of_none};
 
 use crate::plan::{Plan, Plans};
+use crate::same_slot::{joined_by_slot, order_of};
 use crate::slot_sets::{add_slots, is_empty, only_slot};
 use ax_fspec::Presence;
 use std::alloc::{AllocError, Global};
@@ -10,7 +11,7 @@ use std::mem;
 
 /// So many plans or groups stand together in one group. A record is asked of each group on the way to a plan of an item that it
 /// has, and of the others in them: few at each of a few steps.
-const TOGETHER: u32 = 8;
+pub const TOGETHER: u32 = 8;
 
 /// The slots that a plan asks.
 #[tactic(auto, using(crate::proofs::PlanTrees::asking))]
@@ -38,15 +39,6 @@ pub fn said_of_none(plan: &Plan) -> bool
     }
 }
 
-/// The first slot that a plan asks, or 0.
-fn first_slot(plan: &Plan) -> u32 {
-    let mut asked = asked_by(plan);
-    match asked.take_first() {
-        Some(slot) => slot,
-        None => 0,
-    }
-}
-
 /// Both, or one of them.
 fn joined(all: bool, one: bool, other: bool) -> bool
     ensures { result ≡ joined all one other }
@@ -55,7 +47,7 @@ fn joined(all: bool, one: bool, other: bool) -> bool
 }
 
 /// The plan of several: each of them, or some.
-fn several(all: bool, plans: Plans) -> Plan
+pub fn several(all: bool, plans: Plans) -> Plan
     ensures { IsLevel all plans result }
 {
     let mut asked = Presence::empty();
@@ -110,13 +102,14 @@ fn groups_of(alloc: Global, all: bool, plans: Vec<Plan>) -> Result<Vec<Plan>, Al
     Ok(made)
 }
 
-/// The plan of one level: each of these plans, or some, whatever their order. Those whose first slots are near stand together, in
-/// groups of groups.
+/// The plan of one level: each of these plans, or some, whatever their order. Those that ask one slot alone, and the same, stand in one
+/// row where there are as many as in a group, and those whose first slots are near stand together, in groups of groups.
 pub fn grouped(alloc: Global, all: bool, plans: Vec<Plan>) -> Result<Plan, AllocError>
     ensures { IfOk result (IsLevel all plans.items) }
 {
     let mut level = plans;
-    level.sort_by_key(first_slot)?;
+    level.sort_by_key(order_of)?;
+    level = joined_by_slot(alloc, all, level)?;
     while level.len() > 1 {
         level = groups_of(alloc, all, level)?;
     }

@@ -14,7 +14,7 @@ use crate::grouping::{asked_by, said_of_none};
 use crate::marks::marked_slots;
 use crate::memo::{Asked, Memo};
 use crate::passing::passes;
-use crate::plan::{CategoryPlan, Question};
+use crate::plan::{CategoryPlan, Plan, Question};
 use crate::slot_sets::meets;
 use ax_fspec::Presence;
 use ax_model::{Record, Spec};
@@ -125,8 +125,8 @@ impl<'c> Filter<'c> {
     }
 
     /// The same of a record under that codec. Where there are more than a few tests, it is asked by the plan of its category: no test of
-    /// another one is looked at, those of items that it hasn't are passed over together, its items are found in one walk for all
-    /// tests, and what several tests ask is looked for once. Takes no memory.
+    /// another one is looked at, a record of which nothing is asked isn't either, tests of items that it hasn't are passed over
+    /// together, its items are found in one walk for all tests, and what several tests ask is looked for once. Takes no memory.
     pub fn holds_under(&self, category: u8, codec: &Codec, one: &RecordView<'_, '_>) -> bool
         ensures { one.now.codec.now ≡ codec.now → result ≡ holds (catalogue_of self.now) category (record_entries one.now) (expression self.now) }
     {
@@ -135,6 +135,9 @@ impl<'c> Filter<'c> {
         }
         match self.plans.get(category as u32) {
             Some(plan) => {
+                if let Plan::Always { holds } = &plan.plan {
+                    return *holds;
+                }
                 let marked = marked_slots(codec, one);
                 says_of(plan, self.questions.as_slice(), marked, codec, one)
             }

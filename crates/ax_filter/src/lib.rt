@@ -24,6 +24,7 @@ mod planning;
 mod questions;
 mod reading;
 mod resolving;
+mod same_slot;
 mod slot_sets;
 mod standing;
 mod syntax;

@@ -49,6 +49,7 @@ impl Memo {
 }
 
 /// What a question finds in a record.
+#[inline]
 fn found_in<R: HasPlaces>(question: &Question, one: &R) -> Option<Found>
     requires { R.sound one.now }
     ensures { result ≡ found_in (R.entries one.now) question.now }
@@ -69,6 +70,7 @@ fn found_in<R: HasPlaces>(question: &Question, one: &R) -> Option<Found>
 }
 
 /// What the question of a number finds in a record.
+#[inline]
 fn find<R: HasPlaces>(one: &Asked<'_, R>, number: u32) -> Option<Found>
     requires { R.sound one.now.record.now }
     ensures { result ≡ finds one.now.questions.now (R.entries one.now.record.now) number }
@@ -80,6 +82,7 @@ fn find<R: HasPlaces>(one: &Asked<'_, R>, number: u32) -> Option<Found>
 }
 
 /// The same, looked for where its answer isn't kept.
+#[inline(always)]
 fn recall<R: HasPlaces>(one: &Asked<'_, R>, number: u32, memo: &mut Memo) -> Option<Found>
     requires sound { R.sound one.now.record.now }
     requires memo { Recalls (finds one.now.questions.now (R.entries one.now.record.now)) memo.old }
@@ -100,6 +103,7 @@ fn recall<R: HasPlaces>(one: &Asked<'_, R>, number: u32, memo: &mut Memo) -> Opt
 }
 
 /// The same; no answer is kept where there is no memo.
+#[inline(always)]
 pub fn found_under<R: HasPlaces>(
     one: &Asked<'_, R>,
     number: u32,

@@ -10,6 +10,7 @@ use crate::places::HasPlaces;
 use crate::test::{Element, Test, Tests};
 use ax_model::Place;
 
+#[inline]
 fn stands<R: HasPlaces>(place: &Option<Place>, one: &R) -> bool
     requires { R.sound one.now }
     ensures { result ≡ some_passes (is_present (R.entries one.now)) place.now }
@@ -21,6 +22,7 @@ fn stands<R: HasPlaces>(place: &Option<Place>, one: &R) -> bool
 }
 
 /// Whether the element's number compares so with the other one. It doesn't where it is absent.
+#[inline]
 fn measures<R: HasPlaces>(element: &Option<Element>, op: Op, other: i128, one: &R) -> bool
     requires { R.sound one.now }
     ensures { result ≡ some_passes (λ n. compares op n other) (option_and_then (number_for (R.entries one.now)) element.now) }

@@ -48,10 +48,12 @@ impl HasPlaces for RecordView<'_, '_> {
 
     ghost sound = { λ one. Unit {0} };
 
+    #[inline]
     fn has(&self, place: &Place) -> bool {
         self.present(place)
     }
 
+    #[inline]
     fn number_at(&self, place: &Place) -> Option<u128> {
         self.number(place)
     }
@@ -62,10 +64,12 @@ impl HasPlaces for PlacedSlots<'_, '_, '_> {
 
     ghost sound = { λ one. IsPlaced one };
 
+    #[inline]
     fn has(&self, place: &Place) -> bool {
         PlacedSlots::present(self, place)
     }
 
+    #[inline]
     fn number_at(&self, place: &Place) -> Option<u128> {
         self.number(place)
     }

@@ -1,12 +1,21 @@
 use Rattle.std.proofs.Common.{◌∙◌, ap, sym}
 use Rattle.std.specs.Option.{option_copied}
+use Rattle.ax_filter.proofs.Marked.{all_slots, all_mark}
+use Rattle.ax_filter.proofs.PlanTrees.{always_says}
 use Rattle.ax_filter.proofs.PlannedTests.{said_of}
 use Rattle.ax_filter.specs.Plans.{finds, plan_tree, says}
 use Rattle.ax_view.specs.Shown.{record_entries}
 use Rattle.ax_filter.proofs.filter.Filter.holds_under.Goals as goal
 
-pub returns-in-Some : goal.returns-in-Some
-returns-in-Some c same =
+pub returns-in-Always : goal.returns-in-Always
+returns-in-Always c same =
+    let f = c.args.self.now in
+    let r = record_entries c.args.one.now in
+    always_says all_slots (finds f.questions r) c.in-Some.plan.now.plan c.in-Always.holds c.in-Always.is
+    ∙ said_of f.questions f.plans f.test c.args.category c.in-Some.plan.now r all_slots f.planned (sym c.get.ensures.value ∙ ap option_copied c.in-Some.is) (all_mark c.args.one.now) ∙ f.same c.args.category r
+
+pub returns-in_default : goal.returns-in_default
+returns-in_default c same =
     let f = c.args.self.now in
     let r = record_entries c.args.one.now in
     let marks = c.marked_slots-marked.result in

@@ -17,8 +17,9 @@ use ax_outside::{Sink, Source};
 use ax_uap::CatalogueItems;
 use std::alloc::Global;
 
-/// The most octets of a block's body.
-const LONGEST_BODY: usize = 65_532;
+/// The room for a block's body, which has at most 65,532 octets, and for what is left in front of presence fields before their length is
+/// known: 18 octets for each compound in another one, 64 deep.
+const BODY_ROOM: usize = 65_532 + 18 * 64;
 
 /// `build` under a catalogue.
 #[derive(Drop)]
@@ -70,7 +71,7 @@ pub fn build_lines<S: Source, K: Sink>(
     let Ok(items) = items_of(alloc, catalogue) else {
         return LinesEnd::OutOfMemory;
     };
-    let Ok(room) = zeros(alloc, LONGEST_BODY) else {
+    let Ok(room) = zeros(alloc, BODY_ROOM) else {
         return LinesEnd::OutOfMemory;
     };
     let mut work = BuildWork {

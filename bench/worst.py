@@ -144,6 +144,7 @@ def repeated_tests():
     pairs = " ".join(f"all {{ is 048/I000/S125 = {number} present 048/I000/S124 }}" for number in range(8, 508))
     counted = [of_one(f"counted {{ {ONE} }}")]
     return [
+        Case("a filter of 1 test of one absent item", ("filter",), fields, data(first, 2_000_000), "not { is 048/I125 = 7 }"),
         Case("a filter of 1,000 tests of one absent item", ("filter",), fields, data(first, 2_000_000), absent),
         Case("a filter of 1,000 tests of 126 items, one of them there", ("filter",), fields, data(first, 2_000_000), f"not {{ any {{ {slots} }} }}"),
         Case("a filter of 1,000 tests of another category", ("filter",), two, data(first, 2_000_000), others),

@@ -17,9 +17,9 @@ use ax_outside::{Sink, Source};
 use ax_uap::CatalogueItems;
 use std::alloc::Global;
 
-/// The room for a block's body, which has at most 65,532 octets, and for what is left in front of presence fields before their length is
-/// known: 18 octets for each compound in another one, 64 deep.
-const BODY_ROOM: usize = 65_532 + 18 * 64;
+/// The octets of the room in which a body is laid: 65,532 of the longest body, and what is left in it for presence fields that turn out
+/// shorter, of a record and of compounds nested 20 deep.
+const ROOM: usize = 66_560;
 
 /// `build` under a catalogue.
 #[derive(Drop)]
@@ -57,7 +57,7 @@ impl<'c> LineWork for BuildWork<'c> {
     }
 }
 
-/// Looks the items of the catalogue's UAPs up, and takes the room for the longest body, once. Then it builds the block of each line of the input that has a token, and writes its canonical form as one piece, up to the first
+/// Looks the items of the catalogue's UAPs up, and takes the room in which bodies are laid, once. Then it builds the block of each line of the input that has a token, and writes its canonical form as one piece, up to the first
 /// line that is refused. Lines are numbered from 0, empty ones and comments among them.
 pub fn build_lines<S: Source, K: Sink>(
     alloc: Global,
@@ -71,7 +71,7 @@ pub fn build_lines<S: Source, K: Sink>(
     let Ok(items) = items_of(alloc, catalogue) else {
         return LinesEnd::OutOfMemory;
     };
-    let Ok(room) = zeros(alloc, BODY_ROOM) else {
+    let Ok(room) = zeros(alloc, ROOM) else {
         return LinesEnd::OutOfMemory;
     };
     let mut work = BuildWork {

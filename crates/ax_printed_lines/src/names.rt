@@ -23,12 +23,12 @@ pub struct FrontWord {
     second: u64,
 }
 
-/// The number of eight octets from that place on, of which the first is the highest.
+/// The number of eight octets from that place on, of which the first is the lowest.
 #[inline(always)]
 fn eight_from(octets: &[u8], at: usize) -> u64
     requires { at + 8 ≤ length octets.now }
 {
-    u64::from_be_bytes([
+    u64::from_le_bytes([
         octets[at],
         octets[at + 1],
         octets[at + 2],
@@ -38,6 +38,14 @@ fn eight_from(octets: &[u8], at: usize) -> u64
         octets[at + 6],
         octets[at + 7],
     ])
+}
+
+/// Whether the first octets of eight, 1 to 8 of them, are all 0.
+#[inline(always)]
+fn is_zero_up_to(octets: u64, count: usize) -> bool
+    requires { count ≤ 8 }
+{
+    octets << ((64 - 8 * count) % 64) == 0
 }
 
 impl FrontWord {
@@ -70,8 +78,7 @@ impl FrontWord {
         if count > MOST_AT_ONCE {
             return differing == 0 && self.goes_on_as(name, count - 8);
         }
-        // A shift by 64 is none in Rust.
-        differing >> 8 >> (56 - 8 * count) == 0
+        is_zero_up_to(differing, count)
     }
 
     // The same of so many octets of the name after its first eight.
@@ -79,11 +86,7 @@ impl FrontWord {
     fn goes_on_as(self, name: &Name, count: usize) -> bool
         requires { count ≤ 8 }
     {
-        let differing = self.second ^ eight_from(name.padded(), 8);
-        if count > MOST_AT_ONCE {
-            return differing == 0;
-        }
-        differing >> 8 >> (56 - 8 * count) == 0
+        count == 0 || is_zero_up_to(self.second ^ eight_from(name.padded(), 8), count)
     }
 }
 

@@ -1,4 +1,5 @@
 mod Entries
+pub mod LineEnds
 pub mod MarkedSlots
 mod Masks
 mod UapSlots

@@ -15,6 +15,7 @@ use Rattle.ax_held_kinds.specs.declared.kinds.HeldSlot.{HeldSlot, fold-HeldSlot}
 abbrev pub held_content : HeldContent → Content
 held_content (Held.Plain content) = content.now
 held_content (Held.Table table) = Content.Table table.entries.now
+held_content (Held.Quantity quantity) = Content.Quantity quantity.scale.now
 
 -- ---- fixed kinds
 
@@ -24,6 +25,7 @@ fixed_step (HeldFixed-F.Group ms) = group (members_of ms)
 
 abbrev pub member_step : HeldMember-F FixedTree MemberTree → MemberTree
 member_step (HeldMember-F.Named name f) = named name f
+member_step (HeldMember-F.Short s) = named s.name (element s.width s.content.now)
 member_step (HeldMember-F.Spare w) = spare w
 
 abbrev pub held_fixed : HeldFixed → FixedTree

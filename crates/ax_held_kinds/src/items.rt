@@ -7,6 +7,8 @@ ghost use Rattle.ax_held_kinds.specs.Held.{held_slot};
 
 use crate::build::hold_kind;
 use crate::kinds::{HeldSlot, HeldSlots};
+use crate::lines::LineMaker;
+use crate::sizes::least_octets;
 use ax_model::Spec;
 use std::alloc::{AllocError, Global};
 use std::marker::Model;
@@ -36,26 +38,36 @@ impl<'s> Model for HeldItems<'s> {
 }
 
 /// The slot of a field reference number, from 1: a spare one where the UAP has no such item.
-fn hold_item<'s>(alloc: Global, spec: &'s Spec, frn: u32) -> Result<HeldSlot<'s>, AllocError>
+fn hold_item<'s>(
+    alloc: Global,
+    maker: &mut LineMaker,
+    spec: &'s Spec,
+    frn: u32,
+) -> Result<HeldSlot<'s>, AllocError>
     ensures { IfOk result (λ made. held_slot made ≡ slot_of_frn frn spec.now) }
 {
     match spec.slot(frn) {
         None => Ok(HeldSlot::Spare),
         Some(item) => Ok(HeldSlot::Sub {
             name: item.name,
-            kind: hold_kind(alloc, &item.kind)?,
+            kind: hold_kind(alloc, maker, &item.kind)?,
         }),
     }
 }
 
 impl<'s> HeldItems<'s> {
-    /// The slots of the UAP of that specification. Err is want of memory.
-    pub fn of(alloc: Global, spec: &'s Spec) -> Result<HeldItems<'s>, AllocError>
+    /// The slots of the UAP of that specification, with the lines that the maker makes. Err is want of memory.
+    pub fn of(
+        alloc: Global,
+        maker: &mut LineMaker,
+        spec: &'s Spec,
+    ) -> Result<HeldItems<'s>, AllocError>
         ensures { IfOk result (λ made. made ≡ spec.now) }
     {
+        maker.begin(least_octets(spec));
         let mut slots = HeldSlots::new(alloc);
         for index in 0..spec.uap.count() {
-            let slot = hold_item(alloc, spec, index + 1)?;
+            let slot = hold_item(alloc, maker, spec, index + 1)?;
             slots.push(slot)?;
         }
         Ok(HeldItems { spec, slots })

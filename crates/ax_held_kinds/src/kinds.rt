@@ -1,15 +1,18 @@
 //! Kinds with their tables' entries by number.
 use crate::by_number::EntriesByNumber;
+use crate::lines::{HeldQuantity, ShortElement};
 use ax_lists::Sequence;
 use ax_model::{Content, Counter, LastPart, Name};
 
 /// What an element's number means.
 #[derive(Drop)]
 pub enum HeldContent<'s> {
-    /// A content that is looked at as a whole: any but a table of many entries.
+    /// A content that is looked at as a whole: any but a table of many entries and a quantity.
     Plain(&'s Content),
     /// A table of many entries.
     Table(EntriesByNumber<'s>),
+    /// A quantity.
+    Quantity(HeldQuantity<'s>),
 }
 
 /// The members of a group or a part, in order.
@@ -31,6 +34,8 @@ pub enum HeldFixed<'s> {
 #[derive(Drop)]
 pub enum HeldMember<'s> {
     Named { name: Name, fixed: HeldFixed<'s> },
+    /// An element of few bits, with its lines.
+    Short(ShortElement<'s>),
     Spare { width: u32 },
 }
 

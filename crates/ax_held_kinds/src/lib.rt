@@ -7,6 +7,8 @@ mod by_number;
 mod fields;
 mod items;
 mod kinds;
+mod lines;
+mod sizes;
 
 pub use by_number::EntriesByNumber;
 pub use fields::{PresenceSlot, read_field};
@@ -15,3 +17,4 @@ pub use kinds::{
     HeldContent, HeldFixed, HeldKind, HeldMember, HeldMembers, HeldPart, HeldParts, HeldSlot,
     HeldSlots,
 };
+pub use lines::{HeldQuantity, LineMaker, Lines, ShortElement};

@@ -2,9 +2,11 @@
 #![tactic(auto)]
 
 mod digits;
+mod literal;
 mod octets;
 mod path;
 mod place;
 
+pub use literal::Literal;
 pub use octets::Octets;
 pub use path::Path;

@@ -2,6 +2,7 @@
 ghost use Rattle.std.specs.Prelude.{◌≡◌, ◌+◌, ◌<◌, ◌≤◌, ◌^◌, [], ◌∷◌, ◌++◌, length, take, set, codes, decimal, OnOk, IsTrue, ◌↔◌};
 
 use crate::digits::place_decimal;
+use crate::literal::Literal;
 use crate::path::Path;
 use crate::place::{place_octet, place_some, place_text};
 use std::alloc::{AllocError, Global};
@@ -202,6 +203,42 @@ impl Octets {
     {
         self.text(&path.front[..path.count])?;
         self.text(&path.rest)
+    }
+
+    /// Appends a path and a literal.
+    #[inline(always)]
+    pub fn path_and_literal(&mut self, path: &Path, literal: &Literal) -> Result<(), AllocError>
+        ensures { OnOk result (self.new ≡ self.old ++ (path.now ++ literal.now)) }
+    {
+        if path.count > 32 || !path.rest.is_empty() {
+            return self.path_and_literal_in_turn(path, literal);
+        }
+        make_room(&mut self.area, self.filled, 96)?;
+        let area = self.area.as_mut_slice();
+        let at = place_some::<32>(area, self.filled, &path.front, path.count);
+        self.filled = place_some::<64>(area, at, &literal.octets, literal.count);
+        Ok(())
+    }
+
+    #[cold]
+    #[inline(never)]
+    fn path_and_literal_in_turn(&mut self, path: &Path, literal: &Literal) -> Result<(), AllocError>
+        ensures { OnOk result (self.new ≡ self.old ++ (path.now ++ literal.now)) }
+    {
+        self.long_path(path)?;
+        self.text(&literal.octets[..literal.count])
+    }
+
+    /// Appends a number in decimal and a literal.
+    #[inline(always)]
+    pub fn number_and_literal(&mut self, number: u64, literal: &Literal) -> Result<(), AllocError>
+        ensures { OnOk result (self.new ≡ self.old ++ (decimal number ++ literal.now)) }
+    {
+        make_room(&mut self.area, self.filled, 84)?;
+        let area = self.area.as_mut_slice();
+        let at = place_decimal(area, self.filled, number);
+        self.filled = place_some::<64>(area, at, &literal.octets, literal.count);
+        Ok(())
     }
 
     /// Appends a path and a name under it, which is the first `count` of 16 octets, and the number that it has.

@@ -4,6 +4,7 @@ mod Leading
 mod UnitLines
 mod CountedLines
 mod MarkedLines
+mod ShortLines
 mod SlotLines
 mod Stops
 mod RecordLines

@@ -2,7 +2,8 @@
 use Rattle.std.proofs.Common.{◌≡◌, ℕ, ◌==◌, Bool, true, false, cond, List, [], ◌∷◌, find, Option, Some, None, refl, sym, ap, subst, ◌∙◌}
 use Rattle.ax_held_kinds.specs.Entries.{said_by}
 use Rattle.ax_model.specs.declared.content.Content.{Content}
-use Rattle.ax_model.specs.declared.content.Content.TheVariants.{Table}
+use Rattle.ax_model.specs.declared.content.Content.TheVariants.{Quantity, Table}
+use Rattle.ax_model.specs.declared.content.Scale.{Scale}
 use Rattle.ax_model.specs.declared.content.TableText.{TableText}
 use Rattle.ax_text.specs.Listable.{ContentListable}
 use Rattle.ax_text.specs.Remarks.{entry_remark, remark}
@@ -33,4 +34,11 @@ listable_said w (Some entry) = tt
 pub table_listable : (n : ℕ) (entries : List TableText) (content : Content) → content ≡ said_by (find (λ entry. entry.number == n) entries) → (w : ℕ) → ContentListable w (Table entries) → ContentListable w content
 table_listable n entries content is w h = subst (ContentListable w) (sym is) (listable_said w (find (λ entry. entry.number == n) entries))
 
-pub ruleset contents = (table_remark, table_listable)
+-- a quantity's content
+pub scale_remark : (n : ℕ) (scale : Scale) (content : Content) → content ≡ Quantity scale → (w : ℕ) → remark w content n ≡ remark w (Quantity scale) n
+scale_remark n scale content is w = ap (λ c. remark w c n) is
+
+pub scale_listable : (scale : Scale) (content : Content) → content ≡ Quantity scale → (w : ℕ) → ContentListable w (Quantity scale) → ContentListable w content
+scale_listable scale content is w h = subst (ContentListable w) (sym is) h
+
+pub ruleset contents = (table_remark, table_listable, scale_remark, scale_listable)

@@ -26,6 +26,7 @@ fn content_of<'a>(content: &'a HeldContent<'_>, number: u128) -> &'a Content
     match content {
         HeldContent::Plain(content) => content,
         HeldContent::Table(entries) => entries.content(number),
+        HeldContent::Quantity(quantity) => quantity.content,
     }
 }
 
@@ -44,6 +45,10 @@ pub(crate) fn put_under(
     requires fits { number < 2 ^ width }
     ensures { OnOk result (Puts as_lines (one_onto (element_line width (held_content content.now) (Paths.at path.now name.now) number)) lister.old.out lister.new.out) }
 {
+    if let HeldContent::Quantity(quantity) = content {
+        let ends = quantity.ends.as_slice();
+        return lister.quantity_under(number, width, quantity.scale, ends, path, name);
+    }
     let found = content_of(content, u128::from(number));
     lister.element_under(number, width, found, path, name)
 }

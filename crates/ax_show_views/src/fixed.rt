@@ -18,7 +18,7 @@ use crate::contents::{put_at, put_under};
 use crate::numbers::{number_at, wide_number_at};
 use crate::paths::set_named;
 use crate::stop::{FixedStop, pass};
-use ax_held_kinds::{HeldContent, HeldFixed, HeldMember, HeldMembers};
+use ax_held_kinds::{HeldContent, HeldFixed, HeldMember, HeldMembers, ShortElement};
 use ax_model::Name;
 use ax_octets::Path;
 use ax_text::Lister;
@@ -76,6 +76,30 @@ fn show_wide_element(
     set_named(&mut inner, path, name)?;
     let number = wide_number_at(body, at, width);
     put_at(lister, number, width, content, &inner)
+}
+
+/// The line of an element of few bits, from bit `at` of the body on, which is moved after them: one of those that were made.
+#[inline(always)]
+#[tactic(auto, using(crate::proofs::ShortLines::shorts, crate::proofs::Stops::stops))]
+fn show_short(
+    lister: &mut Lister,
+    short: &ShortElement<'_>,
+    body: &[u8],
+    at: &mut u32,
+    path: &Path,
+) -> Result<(), FixedStop>
+    requires width { IsWidth short.now.width }
+    requires place { at.old ≤ 8 * length body.now }
+    requires body { length body.now ≤ longest_body }
+    ensures lines { OnOk result (Puts as_lines (one_onto (element_line short.now.width short.now.content.now (Paths.at path.now short.now.name) (number_of (take short.now.width (drop at.old (bits body.now)))))) lister.old.out lister.new.out) }
+    ensures at { OnOk result (at.new ≡ at.old + short.now.width) }
+    ensures within { OnOk result (at.new ≤ 8 * length body.now) }
+    ensures stop { IfErr result (IsStopped body.now at.old short.now.width) }
+{
+    let here = pass(body, at, short.width)?;
+    let number = number_at(body, here, short.width);
+    lister.literal_under(short.line(number), path)?;
+    Ok(())
 }
 
 /// The line of so many spare bits, more than are read at once.
@@ -170,6 +194,7 @@ fn show_member(
 {
     match member {
         HeldMember::Named { name, fixed } => show_named(lister, name, fixed, body, at, path),
+        HeldMember::Short(short) => show_short(lister, short, body, at, path),
         HeldMember::Spare { width } => {
             let here = pass(body, at, *width)?;
             if *width > 56 {

@@ -8,7 +8,7 @@ ghost use Rattle.ax_reader.specs.Reading.{record_slot_list};
 
 use ax_check::{Accepted, Catalogue};
 use ax_fspec::SlotMask;
-use ax_held_kinds::HeldItems;
+use ax_held_kinds::{HeldItems, LineMaker};
 use ax_model::Spec;
 use ax_uap::{ByCategory, OfSpec};
 use ax_values::record_mask;
@@ -34,15 +34,19 @@ impl<'c> OfSpec for Table<'c> {
     }
 }
 
-/// The table of a specification.
+/// The table of a specification, with the lines that the maker makes.
 #[tactic(auto, using(ax_reader::proofs::RecordSlots::uap_bounds))]
-fn table_of<'c>(alloc: Global, accepted: &'c Accepted) -> Result<Table<'c>, AllocError>
+fn table_of<'c>(
+    alloc: Global,
+    maker: &mut LineMaker,
+    accepted: &'c Accepted,
+) -> Result<Table<'c>, AllocError>
     ensures spec { IfOk result (λ table. table.items ≡ accepted.now) }
     ensures no_flaw { IfOk result (λ table. HasNoFlaw table.items) }
 {
     let spec = accepted.spec();
     let mask = record_mask(spec);
-    let items = HeldItems::of(alloc, spec)?;
+    let items = HeldItems::of(alloc, maker, spec)?;
     Ok(Table { items, mask })
 }
 
@@ -54,10 +58,11 @@ pub(crate) fn tables_of<'c>(
 ) -> Result<Tables<'c>, AllocError>
     ensures { IfOk result (λ made. made ≡ catalogue.now) }
 {
+    let mut maker = LineMaker::new(alloc);
     let mut tables = Tables::new(alloc);
     for index in 0..catalogue.count() {
         if let Some(accepted) = catalogue.at(index) {
-            tables.push(table_of(alloc, accepted)?)?;
+            tables.push(table_of(alloc, &mut maker, accepted)?)?;
         }
     }
     Ok(tables)

@@ -14,6 +14,7 @@ pub mod Divisors
 pub mod Twos
 mod SixBits
 pub mod RemarkWays
+pub mod QuantityLines
 pub mod ListedFixed
 pub mod ListedKinds
 pub mod ListedRecords

@@ -6,6 +6,7 @@ pub mod Names
 pub mod Readable
 pub mod Tokens
 pub mod Remarks
+pub mod FractionEnds
 pub mod ShowText
 pub mod Listable
 pub mod Examples

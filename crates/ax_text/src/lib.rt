@@ -14,6 +14,7 @@ mod list_records;
 mod lister;
 mod paths;
 mod printer;
+mod quantities;
 mod records;
 mod remarks;
 mod show;

@@ -11,7 +11,7 @@ ghost use Rattle.ax_text.specs.ShowText.{number_line, count_line, content_line, 
 ghost use Rattle.ax_text.specs.ValueText.{one_onto, hex_text};
 
 use ax_model::{Content, Name};
-use ax_octets::{Octets, Path};
+use ax_octets::{Literal, Octets, Path};
 use itoa::Buffer;
 use std::alloc::{AllocError, Global};
 
@@ -215,6 +215,14 @@ impl Lister {
         self.out
             .named_number(path, name.padded(), name.octets().len(), number)?;
         self.remark_end(number, width, content)
+    }
+
+    /// Puts a path and a literal after it.
+    #[inline(always)]
+    pub fn literal_under(&mut self, literal: &Literal, path: &Path) -> Result<(), AllocError>
+        ensures { OnOk result (self.new.out ≡ self.old.out ++ (path.now ++ literal.now)) }
+    {
+        self.out.path_and_literal(path, literal)
     }
 
     /// The line of spare bits under a path, of any number.

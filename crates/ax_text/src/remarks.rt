@@ -82,7 +82,7 @@ impl Lister {
     /// A text in quotes, after a space, and the end of the line.
     #[inline(always)]
     #[tactic(auto, using(crate::proofs::RemarkWays::quoted_last))]
-    fn quoted_end(&mut self, text: &[u8]) -> Result<(), AllocError>
+    pub(crate) fn quoted_end(&mut self, text: &[u8]) -> Result<(), AllocError>
         ensures { OnOk result (self.new.out ≡ self.old.out ++ (codes " " ++ quoted text.now ++ line_feed ∷ [])) }
     {
         self.out.text3(b" \"", text, b"\"\n")
@@ -192,7 +192,7 @@ impl Lister {
 
     /// So many times a fraction, in lowest terms.
     #[tactic(auto, using(crate::proofs::RemarkWays::fraction_ways))]
-    fn fraction(&mut self, times: u64, num: u64, den: u64) -> Result<(), AllocError>
+    pub(crate) fn fraction(&mut self, times: u64, num: u64, den: u64) -> Result<(), AllocError>
         requires { 0 < den }
         ensures { OnOk result (self.new.out ≡ self.old.out ++ reduced_text (times * num) den) }
     {

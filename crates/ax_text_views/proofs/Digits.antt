@@ -46,7 +46,7 @@ short_put n at tens ones old first second new few no_hundreds hundreds no_tens t
         ∙ ap (λ d. take at old ++ (48 + d) ∷ (48 + n % 10) ∷ []) e ∙ ap (λ t. take at old ++ t) (sym (two_digits n lo hi))
     by (inr lo) (inr hi) =
         put_twice old second new ((48 + n / 100) ∷ (48 + n / 10 % 10) ∷ []) ((48 + n % 10) ∷ []) at ones (ones + 1)
-          (put_twice old first second ((48 + n / 100) ∷ []) ((48 + n / 10 % 10) ∷ []) at tens ones (hundreds hi) (tens_put lo)) last
+        (put_twice old first second ((48 + n / 100) ∷ []) ((48 + n / 10 % 10) ∷ []) at tens ones (hundreds hi) (tens_put lo)) last
         ∙ ap (λ t. take at old ++ t) (sym (three_digits n hi few))
 
 pub ruleset shorts = (short_put)

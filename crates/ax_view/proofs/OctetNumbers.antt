@@ -1,6 +1,6 @@
 -- Numbers that bits of one octet spell.
-use Rattle.std.proofs.Common.{◌≡◌, ℕ, ◌+◌, ◌-◌, ◌*◌, ◌/◌, ◌%◌, ◌^◌, ◌<◌, ◌≤◌, List, [], ◌∷◌, length, length-drop, take, drop, get_or, refl, sym, ◌∙◌, ap, arith, bit_and}
-use Rattle.std.proofs.lemmas.List.{take_more, get_or-drop}
+use Rattle.std.proofs.Common.{◌≡◌, ℕ, ◌+◌, ◌-◌, ◌*◌, ◌/◌, ◌%◌, ◌^◌, ◌<◌, ◌≤◌, List, length, length-drop, take, drop, get_or, refl, sym, ◌∙◌, ap, arith, bit_and}
+use Rattle.std.proofs.lemmas.List.{get_or-drop}
 use Rattle.std.proofs.lemmas.Nat.{one_shl, and_mask}
 use Rattle.ax_bits.proofs.Pieces.{bits_more}
 use Rattle.ax_bits.proofs.ShortNumbers.{across}

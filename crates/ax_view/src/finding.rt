@@ -24,6 +24,7 @@ use ax_tables::Codec;
 
 /// The value of a slot in octets that spell a value of these slots, in its own place there: after the presence field and
 /// the values of the marked slots before. None comes exactly where the slot isn't marked.
+#[inline]
 pub(crate) fn find<'c, 'a>(
     codec: &'c Codec,
     mask: &SlotMask,

@@ -111,9 +111,23 @@ fn part_spot<'a>(
     }
 }
 
-/// What stands at the end of these steps in a value.
-#[cycle(spot_of)]
+/// What stands at the end of these steps in a value: in one of a fixed kind without a call.
+#[inline(always)]
 pub(crate) fn spot_of<'a>(item: &ItemView<'_, 'a>, steps: &[u32]) -> Spot<'a>
+    requires whole { item.now.by_fx ≡ false }
+    ensures { IsSpot item.now.codec.now.nodes result (value_at steps.now (item_value item.now)) }
+{
+    let nodes = item.codec.nodes.as_slice();
+    match &nodes[item.link as usize - 1] {
+        Node::Element { .. } => fixed_spot(nodes, item.link, item.body, steps),
+        Node::Group { .. } => fixed_spot(nodes, item.link, item.body, steps),
+        _ => spot_within(item, steps),
+    }
+}
+
+/// The same, of any kind.
+#[cycle(spot_within)]
+fn spot_within<'a>(item: &ItemView<'_, 'a>, steps: &[u32]) -> Spot<'a>
     requires whole { item.now.by_fx ≡ false }
     ensures { IsSpot item.now.codec.now.nodes result (value_at steps.now (item_value item.now)) }
 {
@@ -129,7 +143,7 @@ pub(crate) fn spot_of<'a>(item: &ItemView<'_, 'a>, steps: &[u32]) -> Spot<'a>
                 return Spot::Whole;
             };
             match item.subitem(*slot) {
-                Some(inner) => spot_of(&inner, later),
+                Some(inner) => spot_within(&inner, later),
                 None => Spot::Missing,
             }
         }

@@ -11,7 +11,7 @@ use Rattle.ax_view.proofs.ItemSteps.{item_in, back, spot_at, element_kind, group
 use Rattle.ax_view.specs.Values.{value_in}
 use Rattle.ax_view.specs.Shown.{item_value}
 use Rattle.ax_view.specs.declared.spot.Spot.TheVariants as Spot
-use Rattle.ax_view.proofs.spot.+spot_of.Goals as goal
+use Rattle.ax_view.proofs.spot.+spot_within.Goals as goal
 
 pub fixed_spot-requires-clause-bounds : goal.fixed_spot-requires-clause-bounds
 fixed_spot-requires-clause-bounds t c = let h = item_in c.args.item.now.codec.now c.as_slice-nodes.result.now c.args.item.now.link c.args.item.now.by_fx c.args.item.now.body.now c.as_slice-nodes.ensures.members c.requires.whole c.args.item.now.item in (in_bounds c.as_slice-nodes.result.now c.args.item.now.link c.args.item.now.body.now c.index-nodes-item.result h c.index-nodes-item.is (element_kind c.as_slice-nodes.result.now c.args.item.now.link c.args.item.now.body.now c.index-nodes-item.result h c.index-nodes-item.is c.in-Element.width c.in-Element.is)).2

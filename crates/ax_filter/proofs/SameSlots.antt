@@ -1,5 +1,5 @@
 -- Plans of one level that are put into rows.
-use Rattle.std.proofs.Common.{◌≡◌, ℕ, Bool, true, false, List, [], ◌∷◌, ◌++◌, refl, sym, ◌∙◌, ap}
+use Rattle.std.proofs.Common.{◌≡◌, Bool, true, false, List, [], ◌∷◌, ◌++◌, refl, sym, ◌∙◌, ap}
 use Rattle.ax_filter.proofs.Levels.{level_append, level_more, passed_on}
 use Rattle.ax_filter.specs.Plans.{plan_tree, joined, says, level_says, AreAlike}
 use Rattle.ax_filter.specs.declared.plan.Plan.{Plan}

@@ -63,7 +63,7 @@ fn compares_signed(op: Op, value: u128, width: u32, other: i128) -> bool
 }
 
 /// Whether the number that an element's bits spell compares so with another.
-#[inline]
+#[inline(always)]
 pub fn compares_as(op: Op, value: u128, signed: bool, width: u32, other: i128) -> bool
     ensures { result ≡ compares op (number_of signed width value) other }
 {

@@ -10,7 +10,7 @@ pub returns : goal.returns
 returns g c =
     let m = c.args.migrator.now in
     let view = c.args.view.now in
-    let of = c.requires.editions in
+    let of = c.args.migrator.now.editions in
     let counts = subst (λ codec. CountsRecords codec view.body.now c.count-records.result) c.requires.view c.count-records.ensures in
     let counted : (records : List EntriesTree) → SpellsBody (old_tree m) records (bits view.body.now) → c.count-records.result ≡ length records = λ records s. counts.counts (old_tree m) records of.compiled.clean of.compiled.stands s in
     record { there = λ records s. omega (arith, counted records s, c.if-records-from.false, c.if-records-from-2.false) }

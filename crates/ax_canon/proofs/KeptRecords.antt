@@ -5,16 +5,19 @@ use Rattle.std.specs.List.{AllByRecursion}
 use Rattle.ax_bits.proofs.Outputs.{appends_more, appends_none}
 use Rattle.ax_bits.proofs.Words.{bits-append, length-bits, length-word}
 use Rattle.ax_bits.specs.Bits.{bits, word}
-use Rattle.ax_bits.specs.Out.{Appends, room, written}
+use Rattle.ax_bits.specs.Out.{Appends, loan, room, written}
 use Rattle.ax_bits.specs.declared.output.Out.{Out}
 use Rattle.ax_canon.proofs.BodyWriting.{gets_of}
 use Rattle.ax_canon.proofs.Patching.{IsBlock, block_of}
-use Rattle.ax_canon.specs.Kept.{Says, Keeps, KeepsOf, IsCanonicalIf, StartsRecord, at_front, after_one, are_some, front_if, block_if, room_for, KeptWritten, IsKeptBody, HasLength}
+use Rattle.ax_canon.specs.Blocks.{IsCanonical}
+use Rattle.ax_canon.specs.Kept.{Says, Keeps, KeepsOf, kept_octets, IsCanonicalIf, StartsRecord, at_front, after_one, are_some, front_if, block_if, room_for, KeptWritten, IsKeptBody, HasLength}
 use Rattle.ax_canon.specs.Rewriting.{Rewrites}
 use Rattle.ax_model.proofs.Bounds.{record_bounds}
 use Rattle.ax_model.proofs.CanonSpells.{canon_shortest}
 use Rattle.ax_model.proofs.Once.{body_once, body_never_both}
 use Rattle.ax_model.proofs.RecordLaws.{record_shape}
+use Rattle.ax_model.specs.Blocks.{read_block}
+use Rattle.ax_model.specs.CanonicalOctets.{canon_block}
 use Rattle.ax_model.specs.Bodies.{RecordsSpell, RecordShape, SpellsRecord, SpellsBody, CanonBody}
 use Rattle.ax_model.specs.Canonical.{canon}
 use Rattle.ax_model.specs.Flaws.{NoFlaw}
@@ -388,6 +391,29 @@ module _ (call : RecordView → Bool → Type 0) (codec : Codec) (body : List �
 
   pub some_kept : (some : Bool) → some ≡ true → IsKeptBody call codec body some old now → IsCanonicalIf call codec body n old new
   some_kept some e h = record { kept = λ spec records clean stands spells. (let w = h.written spec records clean stands spells in block_kept spec records w.kept clean stands w.keeps (w.said ∙ e) (subst (λ b. Appends old now (block_if b codec.category (CanonBody spec w.kept))) e w.appends)) }
+
+-- ---- where each record is kept
+
+all_kept : (codec : Codec) (spec : SpecTree) (rs ks : List EntriesTree) → Keeps (Says (λ one answer. answer ≡ true) codec spec) rs ks → ks ≡ rs
+all_kept codec spec [] ks h = h
+all_kept codec spec (r ∷ rs) ks (inl (n, t)) = absurd (let no : false ≡ true = n.says in cc)
+all_kept codec spec (r ∷ rs) ks (inr (rest, y, e, t)) = e ∙ ap (λ rs. r ∷ rs) (all_kept codec spec rs rest t)
+
+some_octets : (spec : SpecTree) (rs : List EntriesTree) → 0 < length rs → kept_octets spec rs ≡ canon_block spec (read_block spec.category rs)
+some_octets spec [] some = absurd (omega (arith, some))
+some_octets spec (r ∷ rs) some = refl
+
+-- the canonical block of the kept records is that of all
+pub each_canonical : (codec : Codec) (body : List ℕ) (n : ℕ) (old new : Out) → loan new ≡ loan old → IsCanonicalIf (λ one answer. answer ≡ true) codec body n old new → IsCanonical codec body n old new
+each_canonical codec body n old new same h = record {
+  same_loan = same;
+  written = λ spec records clean stands spells. (
+      let k = h.kept spec records clean stands spells in
+      subst (λ octets. Appends old new (bits octets)) (ap (kept_octets spec) (all_kept codec spec records k.kept k.keeps) ∙ some_octets spec records spells.some) k.written);
+  octets = λ spec records clean stands spells. (
+      let k = h.kept spec records clean stands spells in
+      k.octets ∙ ap length (ap (kept_octets spec) (all_kept codec spec records k.kept k.keeps) ∙ some_octets spec records spells.some));
+}
 
 -- ---- what was written, for those who write LEN
 

@@ -42,11 +42,11 @@ use Rattle.ax_view.specs.Plain.{IsPlain}
 
 -- ---- copied whole
 
-pub copied : (k : KindTree) (body : List ℕ) (at end : ℕ) (least : Bool) (old new : Out) → IsTrue least → Walks (canon k) (kind_read k body at) body at end least → 8 * (length body - at) ≤ room old → Appends old new (bits (take (end - at) (drop at body)))
-    → Rewrites (canon k) (kind_read k body at) body at end old new
-copied k body at end least old new said w free a =
+pub copied : {A : Type 0} (rule : A → List ℕ) (found : Read A) (body : List ℕ) (at end : ℕ) (least : Bool) (old new : Out) → IsTrue least → Walks rule found body at end least → 8 * (length body - at) ≤ room old → Appends old new (bits (take (end - at) (drop at body)))
+    → Rewrites rule found body at end old new
+copied rule found body at end least old new said w free a =
     let x = bits (take (end - at) (drop at body)) in
-    let is : canon k w.value ≡ x = append_cancel_right (canon k w.value) x (bits (drop end body)) (w.canonical said ∙ octets_parts body at end w.read.forwards) in
+    let is : rule w.value ≡ x = append_cancel_right (rule w.value) x (bits (drop end body)) (w.canonical said ∙ octets_parts body at end w.read.forwards) in
     record {
       forwards = w.read.forwards;
       within = w.read.within;
@@ -57,7 +57,7 @@ copied k body at end least old new said w free a =
 
 pub copied_plain : (k : KindTree) (body : List ℕ) (at end : ℕ) (least : Bool) (old new : Out) → IsPlain k → InBounds k → Walks (canon k) (kind_read k body at) body at end least → 8 * (length body - at) ≤ room old → Appends old new (bits (take (end - at) (drop at body)))
     → Rewrites (canon k) (kind_read k body at) body at end old new
-copied_plain k body at end least old new plain bounds w free a = copied k body at end true old new refl (plain_again k body at end least true plain bounds w) free a
+copied_plain k body at end least old new plain bounds w free a = copied (canon k) (kind_read k body at) body at end true old new refl (plain_again k body at end least true plain bounds w) free a
 
 pub not_copied : {A : Type 0} (rule : A → List ℕ) (found : Read A) (body : List ℕ) (at : ℕ) (out : Out) (fault : BodyFault) → at ≤ length body → 8 * (length body - at) ≤ room out → FailsAt found at fault → Rewrites rule found body at at out out
 not_copied rule found body at out fault le free l = record { forwards = omega arith; within = le; room = free; some = ([], appends_none out); state = inr (fault, l) }

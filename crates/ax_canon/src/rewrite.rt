@@ -20,7 +20,7 @@ use ax_fspec::{Presence, SlotMask, read_presence, write_presence};
 use ax_model::Counter;
 use ax_reader::count_at;
 use ax_tables::{Codec, Node};
-use ax_view::{Notes, walk, walk_record};
+use ax_view::{Notes, walk, walk_items, walk_record};
 
 /// Appends the canonical spelling of the record at octet `at`. Answers the octet after it.
 pub(crate) fn rewrite_record(codec: &Codec, body: &[u8], at: u32, out: &mut Out<'_>) -> u32
@@ -35,14 +35,52 @@ pub(crate) fn rewrite_record(codec: &Codec, body: &[u8], at: u32, out: &mut Out<
             out.push_octets(&body[at as usize..end as usize]);
             end
         }
-        _ => rewrite_compound(
-            codec.nodes.as_slice(),
-            &codec.mask,
-            codec.slots.as_slice(),
-            body,
-            at,
-            out,
-        ),
+        _ => rewrite_field(codec, body, at, out),
+    }
+}
+
+/// The same of a record whose octets aren't its canonical spelling.
+pub(crate) fn rewrite_field(codec: &Codec, body: &[u8], at: u32, out: &mut Out<'_>) -> u32
+    requires body { length body.now ≤ longest_body }
+    requires at { at ≤ length body.now }
+    requires room { 8 * (length body.now - at) ≤ room out.old }
+    ensures { Rewrites (canon (record_kind_at codec.now.nodes codec.now.slots)) (kind_read (record_kind_at codec.now.nodes codec.now.slots) body.now at) body.now at result out.old out.new }
+{
+    let mut marked = Presence::empty();
+    match read_presence(&codec.mask, body, at, &mut marked) {
+        Err(_) => at,
+        Ok(here) => {
+            write_presence(&marked, out);
+            rewrite_items(codec, marked, body, here, out)
+        }
+    }
+}
+
+/// Appends the canonical spellings of the items of the marked slots. Where no presence field in them is longer than it has to be, their
+/// octets are copied in one piece: the record's own field alone was.
+fn rewrite_items(
+    codec: &Codec,
+    marked: Presence,
+    body: &[u8],
+    at: u32,
+    out: &mut Out<'_>,
+) -> u32
+    requires marks { AreBits marked }
+    requires clear { NoneUndefined (Tree.defined_slots (Tree.slots_of (linked_slots (meanings codec.now.nodes) codec.now.slots))) marked }
+    requires body { length body.now ≤ longest_body }
+    requires at { at ≤ length body.now }
+    requires room { 8 * (length body.now - at) ≤ room out.old }
+    ensures { Rewrites (along (Tree.slots_of (linked_slots (meanings codec.now.nodes) codec.now.slots)) marked) (entries_at (Tree.slots_of (linked_slots (meanings codec.now.nodes) codec.now.slots)) marked body.now at) body.now at result out.old out.new }
+{
+    let mut notes = Notes::new();
+    let nodes = codec.nodes.as_slice();
+    let slots = codec.slots.as_slice();
+    match walk_items(nodes, codec.nodes.octets(), slots, marked, body, at, &mut notes) {
+        Some(end) if notes.least => {
+            out.push_octets(&body[at as usize..end as usize]);
+            end
+        }
+        _ => rewrite_marked(nodes, slots, marked, body, at, out),
     }
 }
 

@@ -1,5 +1,5 @@
 //! The rows of a set of slots.
-ghost use Rattle.std.specs.Prelude.{◌≡◌, ◌<◌, ◌≤◌, List, ℕ, [], false, length, IfOk, IfSome, IfNone};
+ghost use Rattle.std.specs.Prelude.{◌≡◌, ◌<◌, ◌≤◌, List, ℕ, [], false, length, IfOk, IfSome, IfNone, IsTrue};
 ghost use Rattle.std.specs.List.{AllByRecursion};
 ghost use Rattle.ax_rows.specs.Rows.{AreRows, AreRowsOf};
 
@@ -25,6 +25,24 @@ pub struct SlotRows {
 pub struct Rows<'a> {
     pub start: &'a [u32],
     pub steps: &'a [Step],
+}
+
+/// Whether these are the same links. There is no return in between: so several are compared at once.
+#[inline]
+fn are_same(links: &[u32], others: &[u32]) -> bool
+    ensures same { IsTrue result → links.now ≡ others.now }
+    ensures others { links.now ≡ others.now → IsTrue result }
+{
+    if links.len() != others.len() {
+        return false;
+    }
+    let mut same = true;
+    for index in 0..links.len() {
+        if links[index] != others[index] {
+            same = false;
+        }
+    }
+    same
 }
 
 impl SlotRows {
@@ -95,7 +113,7 @@ impl SlotRows {
         ensures some { IfSome result (λ rows. (octets : List ℕ) → AreRowsOf octets self.now → AreRows octets slots.now rows.start.now rows.steps.now) }
         ensures none { IfNone result (self.now.slots.items ≡ slots.now → ⊥) }
     {
-        if self.slots.as_slice() == slots {
+        if are_same(self.slots.as_slice(), slots) {
             Some(self.as_rows())
         } else {
             None

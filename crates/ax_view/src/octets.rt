@@ -9,17 +9,17 @@ ghost use Rattle.ax_model.specs.InBounds.{InBounds, SlotsInBounds};
 ghost use Rattle.ax_model.specs.Presence.{NoneUndefined};
 ghost use Rattle.ax_model.specs.Tree as Tree;
 ghost use Rattle.ax_model.specs.Widths.{width};
-ghost use Rattle.ax_tables.specs.Meaning.{meanings, linked_slots};
-ghost use Rattle.ax_tables.specs.Table.{IsTable, SlotLinksWithin, kind_at, record_kind_at};
+ghost use Rattle.ax_tables.specs.Meaning.{meanings, linked_parts, linked_slots};
+ghost use Rattle.ax_tables.specs.Table.{IsTable, LinksWithin, SlotLinksWithin, kind_at, record_kind_at};
 ghost use Rattle.ax_rows.specs.Rows.{AreRows};
 ghost use Rattle.ax_reader.specs.Reading.{FailsAt, IsMaskOf, kind_read, entries_at};
 ghost use Rattle.ax_view.specs.Walking.{Walks, along, NeedsLast};
 
 use crate::by_rows::walk_by_rows;
 use crate::notes::{Notes, fail};
-use crate::units::{run, walk_explicit, walk_parts, walk_run};
+use crate::units::{first_part_end, run, walk_explicit, walk_parts, walk_run};
 use ax_fspec::{Presence, SlotMask, read_presence};
-use ax_model::{BodyCause, Counter};
+use ax_model::{BodyCause, Counter, LastPart};
 use ax_reader::{count_at, run_end};
 use ax_rows::Rows;
 use ax_tables::{Codec, Node};
@@ -125,7 +125,7 @@ fn walk_slots(
 
 /// The octet after the items of the marked slots, of which the first begins at octet `at`.
 #[inline]
-fn walk_items(
+pub fn walk_items(
     nodes: &[Node],
     octets: &[u32],
     slots: &[u32],
@@ -183,7 +183,7 @@ pub(crate) fn walk_item(
         Node::Group { width, .. } => run(body, at, *width, notes),
         Node::Part { .. } => None,
         Node::Extended { last, parts } => {
-            walk_parts(nodes, *last, parts.as_slice(), body, at, notes)
+            walk_extended(nodes, *last, parts.as_slice(), body, at, notes)
         }
         Node::Counted { counter, inner } => {
             walk_counted(nodes, *counter, *inner, body, at, notes)
@@ -194,6 +194,32 @@ pub(crate) fn walk_item(
             walk_compound(nodes, mask, slots.as_slice(), body, at, notes)
         }
     }
+}
+
+/// The octet after an extended item: without a call where no part follows the first.
+#[inline(always)]
+fn walk_extended(
+    nodes: &[Node],
+    last: LastPart,
+    parts: &[u32],
+    body: &[u8],
+    at: u32,
+    notes: &mut Notes,
+) -> Option<u32>
+    requires table { IsTable nodes.now }
+    requires links { LinksWithin (length nodes.now) parts.now }
+    requires bounds { InBounds (Tree.extended last (linked_parts (meanings nodes.now) parts.now)) }
+    requires body { length body.now ≤ longest_body }
+    requires at { at ≤ length body.now }
+    ensures end { IfSome result (λ end. Walks (canon (Tree.extended last (linked_parts (meanings nodes.now) parts.now))) (kind_read (Tree.extended last (linked_parts (meanings nodes.now) parts.now)) body.now at) body.now at end notes.new.least) }
+    ensures fault { IfNone result (FailsAt (kind_read (Tree.extended last (linked_parts (meanings nodes.now) parts.now)) body.now at) at notes.new.fault) }
+    ensures least { notes.new.least ≡ notes.old.least }
+{
+    let end = first_part_end(nodes, last, parts, body, at);
+    if end.is_some() {
+        return end;
+    }
+    walk_parts(nodes, last, parts, body, at, notes)
 }
 
 /// The octet after the value that begins at octet `at`, where the kind that a link leads to is a fixed one whose octets are all

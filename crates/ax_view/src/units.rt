@@ -1,5 +1,5 @@
 //! Units of a known length: fixed kinds, parts, occurrences by FX, explicit contents.
-ghost use Rattle.std.specs.Prelude.{◌≡◌, ◌⊎◌, ◌↔◌, ◌+◌, ◌-◌, ◌*◌, ◌%◌, ◌<◌, ◌≤◌, length, get_or, IfSome, IfNone, IsTrue};
+ghost use Rattle.std.specs.Prelude.{◌≡◌, ◌⊎◌, ◌↔◌, ◌+◌, ◌-◌, ◌*◌, ◌%◌, ◌<◌, ◌≤◌, length, get_or, Bool, IfSome, IfNone, IsTrue};
 ghost use Rattle.ax_model.specs.Canonical.{canon};
 ghost use Rattle.ax_model.specs.InBounds.{InBounds};
 ghost use Rattle.ax_model.specs.Sizes.{longest_body};
@@ -65,6 +65,35 @@ pub(crate) fn is_last_part(body: &[u8], end: u32, fx: u32) -> bool
     ensures { IsTrue result ↔ ((fx ≡ 0) ⊎ (get_or body.now (end - 1) 0 % 2 ≡ 0)) }
 {
     fx == 0 || !ends_with_fx(body, end - 1)
+}
+
+/// The octet after an extended item of which no part follows the first, whose octets are there. None says nothing. It spares most of
+/// these items a call.
+#[inline(always)]
+pub(crate) fn first_part_end(
+    nodes: &[Node],
+    last: LastPart,
+    parts: &[u32],
+    body: &[u8],
+    at: u32,
+) -> Option<u32>
+    requires table { IsTable nodes.now }
+    requires links { LinksWithin (length nodes.now) parts.now }
+    requires bounds { InBounds (Tree.extended last (linked_parts (meanings nodes.now) parts.now)) }
+    requires body { length body.now ≤ longest_body }
+    requires at { at ≤ length body.now }
+    ensures { IfSome result (λ end. (least : Bool) → Walks (canon (Tree.extended last (linked_parts (meanings nodes.now) parts.now))) (kind_read (Tree.extended last (linked_parts (meanings nodes.now) parts.now)) body.now at) body.now at end least) }
+{
+    let Some((part, later)) = parts.split_first() else {
+        return None;
+    };
+    let fx = last.fx_width(later.len());
+    let end = run_end(body, at, part_width(nodes, *part) + fx)?;
+    if is_last_part(body, end, fx) {
+        Some(end)
+    } else {
+        None
+    }
 }
 
 /// The octet after the parts that are present.

@@ -7,12 +7,12 @@ ghost use Rattle.ax_view.specs.Views.{FailsThere, SpellsSome};
 ghost use Rattle.ax_view_work.specs.Laid.{LaysBits, LaysCanonical};
 
 use ax_bits::Out;
-use ax_canon::canonical;
+use ax_canon::{canonical, scan_canonical};
 use ax_lists::zeros;
 use ax_model::{BodyFault, RawBlock};
 use ax_tables::Codec;
 use ax_values::write_opaque;
-use ax_view::{BlockView, scan};
+use ax_view::BlockView;
 use std::alloc::{AllocError, Global};
 
 /// The most octets of a data block.
@@ -57,8 +57,22 @@ pub(crate) fn lay_canonical(codec: &Codec, body: &[u8], output: &mut [u8]) -> Re
     ensures fault { IfErr result (λ fault. FailsThere codec.now body.now fault) }
     ensures room { length output.new ≡ longest_block }
 {
-    let view = scan(codec, body)?;
-    Ok(lay_block(&view, output))
+    // Read for its range: a category is an octet.
+    let _category = codec.category();
+    lay_canonical_bits(codec, body, output)
+}
+
+/// The same, by bits.
+fn lay_canonical_bits(codec: &Codec, body: &[u8], output: &mut [u8]) -> Result<u32, BodyFault>
+    requires size { (1 ≤ length body.now) × (length body.now ≤ longest_body) }
+    requires room { length output.old ≡ longest_block }
+    ensures spelled { IfOk result (λ count. SpellsSome codec.now body.now) }
+    ensures laid { IfOk result (λ count. LaysBits codec.now body.now count (bits output.new)) }
+    ensures fault { IfErr result (λ fault. FailsThere codec.now body.now fault) }
+    ensures room { length output.new ≡ longest_block }
+{
+    let mut out = Out::over(output);
+    scan_canonical(codec, body, &mut out)
 }
 
 /// Lays a block of a category without a file at the front of the output, and answers its octets.

@@ -16,12 +16,12 @@ run-requires-in-Group-clause-width c =
     let b : InBounds (Tree.fixed (Tree.group (linked_members (meanings c.args.nodes.now) c.in-Group.members))) = subst InBounds (is_group c.args.nodes.now c.args.link c.index-nodes-link.result c.requires.table c.requires.link.0 c.requires.link.1 c.index-nodes-link.is c.in-Group.width c.in-Group.members c.in-Group.is) c.requires.bounds in
     let w = group_width c.args.nodes.now c.args.link c.index-nodes-link.result c.requires.table c.requires.link.0 c.requires.link.1 c.index-nodes-link.is c.in-Group.width c.in-Group.members c.in-Group.is in (ap (λ w. w % 8) w ∙ b.0, omega (arith, b.1))
 
-pub walk_parts-requires-clause-links : goal.walk_parts-requires-clause-links
-walk_parts-requires-clause-links c =
+pub walk_extended-requires-clause-links : goal.walk_extended-requires-clause-links
+walk_extended-requires-clause-links c =
     extended_links c.args.nodes.now c.args.link c.index-nodes-link.result c.requires.table c.requires.link.0 c.requires.link.1 c.index-nodes-link.is c.in-Extended.last c.in-Extended.parts c.as_slice.result.now c.in-Extended.is c.as_slice.ensures.members
 
-pub walk_parts-requires-clause-bounds : goal.walk_parts-requires-clause-bounds
-walk_parts-requires-clause-bounds c =
+pub walk_extended-requires-clause-bounds : goal.walk_extended-requires-clause-bounds
+walk_extended-requires-clause-bounds c =
     let b : InBounds (Tree.extended c.in-Extended.last (linked_parts (meanings c.args.nodes.now) c.as_slice.result.now)) = subst InBounds (is_extended c.args.nodes.now c.args.link c.index-nodes-link.result c.requires.table c.requires.link.0 c.requires.link.1 c.index-nodes-link.is c.in-Extended.last c.in-Extended.parts c.as_slice.result.now c.in-Extended.is c.as_slice.ensures.members) c.requires.bounds in b
 
 pub walk_run-requires-clause-link : goal.walk_run-requires-clause-link
@@ -60,11 +60,11 @@ returns-in-Part-clause-fault c =
 
 pub returns-in-Extended-clause-end : goal.returns-in-Extended-clause-end
 returns-in-Extended-clause-end c =
-    end_as c.args.body.now c.args.at (kind_at c.args.nodes.now c.args.link) (Tree.extended c.in-Extended.last (linked_parts (meanings c.args.nodes.now) c.as_slice.result.now)) (is_extended c.args.nodes.now c.args.link c.index-nodes-link.result c.requires.table c.requires.link.0 c.requires.link.1 c.index-nodes-link.is c.in-Extended.last c.in-Extended.parts c.as_slice.result.now c.in-Extended.is c.as_slice.ensures.members) c.walk_parts.new.notes.least c.walk_parts.result c.walk_parts.ensures.end
+    end_as c.args.body.now c.args.at (kind_at c.args.nodes.now c.args.link) (Tree.extended c.in-Extended.last (linked_parts (meanings c.args.nodes.now) c.as_slice.result.now)) (is_extended c.args.nodes.now c.args.link c.index-nodes-link.result c.requires.table c.requires.link.0 c.requires.link.1 c.index-nodes-link.is c.in-Extended.last c.in-Extended.parts c.as_slice.result.now c.in-Extended.is c.as_slice.ensures.members) c.walk_extended.new.notes.least c.walk_extended.result c.walk_extended.ensures.end
 
 pub returns-in-Extended-clause-fault : goal.returns-in-Extended-clause-fault
 returns-in-Extended-clause-fault c =
-    fault_as c.args.body.now c.args.at (kind_at c.args.nodes.now c.args.link) (Tree.extended c.in-Extended.last (linked_parts (meanings c.args.nodes.now) c.as_slice.result.now)) (is_extended c.args.nodes.now c.args.link c.index-nodes-link.result c.requires.table c.requires.link.0 c.requires.link.1 c.index-nodes-link.is c.in-Extended.last c.in-Extended.parts c.as_slice.result.now c.in-Extended.is c.as_slice.ensures.members) c.walk_parts.new.notes.fault c.walk_parts.result c.walk_parts.ensures.fault
+    fault_as c.args.body.now c.args.at (kind_at c.args.nodes.now c.args.link) (Tree.extended c.in-Extended.last (linked_parts (meanings c.args.nodes.now) c.as_slice.result.now)) (is_extended c.args.nodes.now c.args.link c.index-nodes-link.result c.requires.table c.requires.link.0 c.requires.link.1 c.index-nodes-link.is c.in-Extended.last c.in-Extended.parts c.as_slice.result.now c.in-Extended.is c.as_slice.ensures.members) c.walk_extended.new.notes.fault c.walk_extended.result c.walk_extended.ensures.fault
 
 pub returns-in-ByFx-clause-end : goal.returns-in-ByFx-clause-end
 returns-in-ByFx-clause-end c =
@@ -128,7 +128,7 @@ pub returns-in-Group-clause-falls : goal.returns-in-Group-clause-falls
 returns-in-Group-clause-falls c = λ h. sym c.run-in-Group.ensures.least ∙ h
 
 pub returns-in-Extended-clause-falls : goal.returns-in-Extended-clause-falls
-returns-in-Extended-clause-falls c = λ h. sym c.walk_parts.ensures.least ∙ h
+returns-in-Extended-clause-falls c = λ h. sym c.walk_extended.ensures.least ∙ h
 
 pub returns-in-ByFx-clause-falls : goal.returns-in-ByFx-clause-falls
 returns-in-ByFx-clause-falls c = λ h. sym c.walk_run.ensures.least ∙ h

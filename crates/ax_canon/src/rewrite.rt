@@ -46,25 +46,19 @@ pub(crate) fn rewrite_field(codec: &Codec, body: &[u8], at: u32, out: &mut Out<'
     requires room { 8 * (length body.now - at) ≤ room out.old }
     ensures { Rewrites (canon (record_kind_at codec.now.nodes codec.now.slots)) (kind_read (record_kind_at codec.now.nodes codec.now.slots) body.now at) body.now at result out.old out.new }
 {
-    let mut marked = Presence::empty();
-    match read_presence(&codec.mask, body, at, &mut marked) {
+    let mut items = Presence::empty();
+    match read_presence(&codec.mask, body, at, &mut items) {
         Err(_) => at,
         Ok(here) => {
-            write_presence(&marked, out);
-            rewrite_items(codec, marked, body, here, out)
+            write_presence(&items, out);
+            rewrite_items(codec, items, body, here, out)
         }
     }
 }
 
 /// Appends the canonical spellings of the items of the marked slots. Where no presence field in them is longer than it has to be, their
 /// octets are copied in one piece: the record's own field alone was.
-fn rewrite_items(
-    codec: &Codec,
-    marked: Presence,
-    body: &[u8],
-    at: u32,
-    out: &mut Out<'_>,
-) -> u32
+fn rewrite_items(codec: &Codec, marked: Presence, body: &[u8], at: u32, out: &mut Out<'_>) -> u32
     requires marks { AreBits marked }
     requires clear { NoneUndefined (Tree.defined_slots (Tree.slots_of (linked_slots (meanings codec.now.nodes) codec.now.slots))) marked }
     requires body { length body.now ≤ longest_body }
@@ -75,10 +69,18 @@ fn rewrite_items(
     let mut notes = Notes::new();
     let nodes = codec.nodes.as_slice();
     let slots = codec.slots.as_slice();
-    match walk_items(nodes, codec.nodes.octets(), slots, marked, body, at, &mut notes) {
-        Some(end) if notes.least => {
-            out.push_octets(&body[at as usize..end as usize]);
-            end
+    match walk_items(
+        nodes,
+        codec.nodes.octets(),
+        slots,
+        marked,
+        body,
+        at,
+        &mut notes,
+    ) {
+        Some(stop) if notes.least => {
+            out.push_octets(&body[at as usize..stop as usize]);
+            stop
         }
         _ => rewrite_marked(nodes, slots, marked, body, at, out),
     }

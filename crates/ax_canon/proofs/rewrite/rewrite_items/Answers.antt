@@ -31,9 +31,9 @@ rewrite_marked-requires-clause-clear c =
 pub returns-in-Some : goal.returns-in-Some
 returns-in-Some c =
     let ss = slots_of (linked_slots (meanings c.as_slice-nodes.result.now) c.as_slice-slots.result.now) in
-    subst (λ ss. Rewrites (along ss c.args.marked) (entries_at ss c.args.marked c.args.body.now c.args.at) c.args.body.now c.args.at c.in-Some.end c.args.out.now c.push_octets.new.self)
+    subst (λ ss. Rewrites (along ss c.args.marked) (entries_at ss c.args.marked c.args.body.now c.args.at) c.args.body.now c.args.at c.in-Some.stop c.args.out.now c.push_octets.new.self)
     (λ i. slots_of (linked_slots (meanings (c.as_slice-nodes.ensures.members i)) (c.as_slice-slots.ensures.members i)))
-    (copied (along ss c.args.marked) (entries_at ss c.args.marked c.args.body.now c.args.at) c.args.body.now c.args.at c.in-Some.end c.walk_items.new.notes.least c.args.out.now c.push_octets.new.self c.if-notes.true c.in-Some.ensures.end c.requires.room c.push_octets.ensures)
+    (copied (along ss c.args.marked) (entries_at ss c.args.marked c.args.body.now c.args.at) c.args.body.now c.args.at c.in-Some.stop c.walk_items.new.notes.least c.args.out.now c.push_octets.new.self c.if-notes.true c.in-Some.ensures.end c.requires.room c.push_octets.ensures)
 
 pub returns-in_default : goal.returns-in_default
 returns-in_default c =

@@ -3,6 +3,7 @@ ghost use Rattle.std.specs.Prelude.{◌≡◌, ◌+◌, ◌-◌, ◌*◌, ◌<�
 ghost use Rattle.ax_bits.specs.Bits.{AreBits, bits};
 ghost use Rattle.ax_bits.specs.Out.{room, Appends};
 ghost use Rattle.ax_canon.specs.Rewriting.{Rewrites};
+ghost use Rattle.ax_fspec.specs.Fields.{MarksSlots};
 ghost use Rattle.ax_fspec.specs.declared.mask.SlotMask.{SlotMask};
 ghost use Rattle.ax_model.specs.Canonical.{canon};
 ghost use Rattle.ax_model.specs.InBounds.{InBounds, SlotsInBounds};
@@ -13,6 +14,7 @@ ghost use Rattle.ax_tables.specs.Meaning.{meanings, linked_slots};
 ghost use Rattle.ax_tables.specs.Table.{IsTable, SlotLinksWithin, kind_at, record_kind_at};
 ghost use Rattle.ax_reader.specs.Reading.{IsMaskOf, kind_read, entries_at};
 ghost use Rattle.ax_view.specs.Plain.{IsPlain};
+ghost use Rattle.ax_view.specs.Rows.{tree_of};
 ghost use Rattle.ax_view.specs.Walking.{along};
 
 use ax_bits::Out;
@@ -20,7 +22,7 @@ use ax_fspec::{Presence, SlotMask, read_presence, write_presence};
 use ax_model::Counter;
 use ax_reader::count_at;
 use ax_tables::{Codec, Node};
-use ax_view::{Notes, walk, walk_items, walk_record};
+use ax_view::{Notes, items_by_rows, walk, walk_record};
 
 /// Appends the canonical spelling of the record at octet `at`. Answers the octet after it.
 pub(crate) fn rewrite_record(codec: &Codec, body: &[u8], at: u32, out: &mut Out<'_>) -> u32
@@ -51,38 +53,36 @@ pub(crate) fn rewrite_field(codec: &Codec, body: &[u8], at: u32, out: &mut Out<'
         Err(_) => at,
         Ok(here) => {
             write_presence(&items, out);
-            rewrite_items(codec, items, body, here, out)
+            rewrite_items(codec, items, body, at, here, out)
         }
     }
 }
 
-/// Appends the canonical spellings of the items of the marked slots. Where no presence field in them is longer than it has to be, their
-/// octets are copied in one piece: the record's own field alone was.
-fn rewrite_items(codec: &Codec, marked: Presence, body: &[u8], at: u32, out: &mut Out<'_>) -> u32
-    requires marks { AreBits marked }
-    requires clear { NoneUndefined (Tree.defined_slots (Tree.slots_of (linked_slots (meanings codec.now.nodes) codec.now.slots))) marked }
+/// Appends the canonical spellings of the items of the marked slots, of a record whose presence field begins at octet `at` and ends
+/// before octet `here`. Where no presence field in them is longer than it has to be, as their rows tell, their octets are copied in
+/// one piece: the record's own field alone was.
+fn rewrite_items(
+    codec: &Codec,
+    items: Presence,
+    body: &[u8],
+    at: u32,
+    here: u32,
+    out: &mut Out<'_>,
+) -> u32
+    requires field { MarksSlots codec.now.mask body.now at here items }
     requires body { length body.now ≤ longest_body }
-    requires at { at ≤ length body.now }
-    requires room { 8 * (length body.now - at) ≤ room out.old }
-    ensures { Rewrites (along (Tree.slots_of (linked_slots (meanings codec.now.nodes) codec.now.slots)) marked) (entries_at (Tree.slots_of (linked_slots (meanings codec.now.nodes) codec.now.slots)) marked body.now at) body.now at result out.old out.new }
+    requires room { 8 * (length body.now - here) ≤ room out.old }
+    ensures { Rewrites (along (tree_of codec.now.nodes codec.now.slots) items) (entries_at (tree_of codec.now.nodes codec.now.slots) items body.now here) body.now here result out.old out.new }
 {
-    let mut notes = Notes::new();
     let nodes = codec.nodes.as_slice();
     let slots = codec.slots.as_slice();
-    match walk_items(
-        nodes,
-        codec.nodes.octets(),
-        slots,
-        marked,
-        body,
-        at,
-        &mut notes,
-    ) {
-        Some(stop) if notes.least => {
-            out.push_octets(&body[at as usize..stop as usize]);
-            stop
+    let mut notes = Notes::new();
+    match items_by_rows(codec, body, at, &mut notes) {
+        Some(end) if notes.least => {
+            out.push_octets(&body[here as usize..end as usize]);
+            end
         }
-        _ => rewrite_marked(nodes, slots, marked, body, at, out),
+        _ => rewrite_marked(nodes, slots, items, body, here, out),
     }
 }
 

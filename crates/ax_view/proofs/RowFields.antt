@@ -2,24 +2,28 @@
 use Rattle.std.proofs.Common.{◌≡◌, ℕ, zero, suc, inl, inr, ◌+◌, ◌-◌, ◌*◌, ◌/◌, ◌%◌, ◌<◌, ◌≤◌, ◌⊎◌, Bool, IsTrue, Option, Some, None, IfSome, List, [], ◌∷◌, ◌++◌, length, take, drop, replicate, get_or, refl, sym, ◌∙◌, ap, arith, subst}
 use Rattle.std.proofs.lemmas.List.{drop-drop}
 use Rattle.ax_bits.specs.Bits.{bits, AreOctets}
+use Rattle.ax_fspec.proofs.FieldLaws.{one_set, prefix_free}
+use Rattle.ax_fspec.specs.Fields.{IsFieldOf, MarksSlots, mask_slots}
 use Rattle.ax_fspec.specs.Marks.{seven}
 use Rattle.ax_fspec.specs.declared.mask.SlotMask.{SlotMask}
 use Rattle.ax_model.specs.Canonical.{canon}
 use Rattle.ax_model.specs.InBounds.{InBounds}
 use Rattle.ax_model.specs.Presence.{octets_needed, none_marked}
 use Rattle.ax_model.specs.Reader.{got}
-use Rattle.ax_model.specs.Tree.{no_entries}
+use Rattle.ax_model.specs.Tree.{SlotsTree, no_entries}
+use Rattle.ax_reader.proofs.AtOctets.{length-octets, octets_parts}
 use Rattle.ax_reader.specs.Reading.{IsMaskOf, kind_read, entries_at}
 use Rattle.ax_rows.specs.Rows.{no_row, HaveRow, IsRow, AreRows}
 use Rattle.ax_rows.specs.declared.step.Step.{Step}
 use Rattle.ax_tables.specs.Meaning.{meanings, linked_slots}
 use Rattle.ax_tables.specs.Table.{SlotLinksWithin, record_kind_at}
+use Rattle.ax_tables.specs.declared.codec.Codec.{Codec}
 use Rattle.ax_tables.specs.declared.node.Node.{Node}
 use Rattle.ax_view.proofs.Compounds.{compound_leads}
 use Rattle.ax_view.proofs.FieldRows.{field_marks, field_marks_slots, none_after, marks_next}
 use Rattle.ax_view.proofs.Leading.{leads_on, leads_none}
 use Rattle.ax_view.proofs.MarkedSteps.{no_entries_left, along_none}
-use Rattle.ax_view.specs.Rows.{slots_read, tree_of, AreSlots, SlotsLead, IsField, HaveRows, marks_of, slots_at}
+use Rattle.ax_view.specs.Rows.{slots_read, tree_of, AreSlots, SlotsLead, IsField, HaveRows, WalksItems, marks_of, slots_at}
 use Rattle.ax_view.specs.Walking.{Walks, along, NeedsLast}
 
 lead_join : (nodes : List Node) (body : List ℕ) (s : ℕ) (links marks : List ℕ) (at t : ℕ) (mid mid_marks : List ℕ) (here : ℕ) (before : Bool) (u : ℕ) (later later_marks : List ℕ) (end : ℕ) (least : Bool) → (IsTrue least → IsTrue before)
@@ -98,3 +102,34 @@ rows_walked nodes octets links mask body at count are bounds m most f few before
     let marked = field_marks_slots (meanings nodes) octets links mask body at count m f few most rows in
     (compound_leads nodes links mask body marks at (at + count) are bounds m marked before need).gets end least falls
     (lead_last nodes body links marks (at + count) (7 * count + 1) (slots_at count links) (replicate (126 - 7 * count) 0) end least (none_after count) (h (replicate (126 - 7 * count) 0)))
+
+-- ---- the items behind a field
+
+-- a presence field ends in one place, and marks one set
+set_once : (mask : SlotMask) (body : List ℕ) (at here there : ℕ) (marks others : List ℕ) → MarksSlots mask body at here marks → MarksSlots mask body at there others → (here ≡ there) × (marks ≡ others)
+set_once mask body at here there marks others h g =
+    let front = bits (take (here - at) (drop at body)) in
+    let other = bits (take (there - at) (drop at body)) in
+    let split : front ++ bits (drop here body) ≡ other ++ bits (drop there body) = sym (octets_parts body at here (omega (arith, h.begins))) ∙ octets_parts body at there (omega (arith, g.begins)) in
+    let same = prefix_free (octets_needed mask.count) (mask_slots mask) (take (7 * h.field.octets) marks) (take (7 * g.field.octets) others) front other (bits (drop here body)) (bits (drop there body)) h.field.field g.field.field split in
+    let ends : here ≡ there = omega (arith, ap length same.0, length-octets body at here (omega (arith, h.begins)) h.within, length-octets body at there (omega (arith, g.begins)) g.within, h.begins, g.begins) in
+    (ends, one_set mask.count (mask_slots mask) marks others front (h.size ∙ sym g.size) h.field (subst (IsFieldOf mask.count (mask_slots mask) others) (sym same.0) g.field))
+
+rows_items : (codec : Codec) (octets body : List ℕ) (at count end : ℕ) (least : Bool) → IsField body at count → count ≤ octets_needed codec.mask.count → HaveRows octets codec.slots body at count
+    → FieldLeads codec.nodes body codec.slots at (at + count) count end least → WalksItems codec body at end least
+rows_items codec octets body at count end least f few rows h =
+    let tree = tree_of codec.nodes codec.slots in
+    let marks = field_marks body at count in
+    let marked = field_marks_slots (meanings codec.nodes) octets codec.slots codec.mask body at count codec.records.mask f few codec.mask.few rows in
+    let own = lead_last codec.nodes body codec.slots marks (at + count) (7 * count + 1) (slots_at count codec.slots) (replicate (126 - 7 * count) 0) end least (none_after count) (h (replicate (126 - 7 * count) 0)) in record {
+      walks = λ here others g. (
+          let one = set_once codec.mask body at (at + count) here marks others marked g in
+          subst (λ ms. Walks (along tree ms) (entries_at tree ms body here) body here end least) one.1 (subst (λ n. Walks (along tree marks) (entries_at tree marks body n) body n end least) one.0 own));
+    }
+
+pub rows_items_if : (codec : Codec) (nodes : List Node) (links octets body : List ℕ) (at count : ℕ) (least : Bool) (r : Option ℕ) → nodes ≡ codec.nodes → links ≡ codec.slots → IsField body at count → count ≤ octets_needed codec.mask.count → IfSome r (λ end. HaveRows octets links body at count)
+    → IfSome r (λ end. FieldLeads nodes body links at (at + count) count end least) → IfSome r (λ end. WalksItems codec body at end least)
+rows_items_if codec nodes links octets body at count least None same_nodes same_links f few rows h = tt
+rows_items_if codec nodes links octets body at count least (Some end) same_nodes same_links f few rows h =
+    rows_items codec octets body at count end least f few (subst (λ links. HaveRows octets links body at count) same_links rows)
+    (subst (λ links. FieldLeads codec.nodes body links at (at + count) count end least) same_links (subst (λ nodes. FieldLeads nodes body links at (at + count) count end least) same_nodes h))

@@ -1,15 +1,18 @@
 -- What a row says of what is read.
 use Rattle.std.specs.Prelude.{◌≡◌, ℕ, suc, ◌+◌, ◌-◌, ◌*◌, ◌/◌, ◌%◌, ◌<◌, ◌≤◌, Bool, List, [], ◌∷◌, ◌++◌, length, drop, get_or}
 use Rattle.ax_bits.specs.Bits.{bits}
+use Rattle.ax_fspec.specs.Fields.{MarksSlots}
 use Rattle.ax_fspec.specs.Marks.{seven}
 use Rattle.ax_model.specs.InBounds.{SlotsInBounds}
 use Rattle.ax_model.specs.Reader.{Read, entries_read}
 use Rattle.ax_model.specs.Tree.{EntriesTree, SlotsTree, slots_of}
+use Rattle.ax_reader.specs.Reading.{entries_at}
 use Rattle.ax_rows.specs.Rows.{HaveRow}
 use Rattle.ax_tables.specs.Meaning.{meanings, linked_slots}
 use Rattle.ax_tables.specs.Table.{SlotLinksWithin}
+use Rattle.ax_tables.specs.declared.codec.Codec.{Codec}
 use Rattle.ax_tables.specs.declared.node.Node.{Node}
-use Rattle.ax_view.specs.Walking.{Leads, along}
+use Rattle.ax_view.specs.Walking.{Leads, Walks, along}
 
 -- what is read of the marked slots from octet `at` of a body on, where the first slot has the number s
 unfoldable pub slots_read : ℕ → SlotsTree → List ℕ → List ℕ → ℕ → Read EntriesTree
@@ -45,6 +48,10 @@ marks_of (x ∷ xs) = seven (x / 2) ++ marks_of xs
 -- the slots from those of presence octet i on
 abbrev pub slots_at : ℕ → List ℕ → List ℕ
 slots_at i links = drop (7 * i) links
+
+-- behind a presence field from octet `at` on, the items of the slots that it marks are read up to octet `end`
+pub record WalksItems (codec : Codec) (body : List ℕ) (at end : ℕ) (least : Bool) : Type 0 where
+  pub walks : (here : ℕ) (marks : List ℕ) → MarksSlots codec.mask body at here marks → Walks (along (tree_of codec.nodes codec.slots) marks) (entries_at (tree_of codec.nodes codec.slots) marks body here) body here end least
 
 -- each of so many presence octets has a row
 pub record HaveRows (octets links body : List ℕ) (at count : ℕ) : Type 0 where

@@ -12,7 +12,7 @@ ghost use Rattle.ax_tables.specs.Meaning.{meanings, linked_slots};
 ghost use Rattle.ax_tables.specs.NodeRows.{EachRows};
 ghost use Rattle.ax_tables.specs.Octets.{octets_of};
 ghost use Rattle.ax_tables.specs.Table.{IsTable, SlotLinksWithin, kind_at, record_kind_at};
-ghost use Rattle.ax_view.specs.Rows.{AreSlots, SlotsLead, IsField, HaveRows, marks_of, slots_at};
+ghost use Rattle.ax_view.specs.Rows.{AreSlots, SlotsLead, IsField, HaveRows, WalksItems, marks_of, slots_at};
 ghost use Rattle.ax_view.specs.Walking.{Walks};
 
 use crate::compound_rows::{compound_rows, skip_compound};
@@ -20,7 +20,7 @@ use crate::notes::Notes;
 use crate::octets::{note_field, walk_item};
 use ax_fspec::SlotMask;
 use ax_rows::{NO_ROW, Rows, SlotRows, Step};
-use ax_tables::Node;
+use ax_tables::{Codec, Node};
 
 /// The octet after the value of an item of a record that begins at octet `at`: a compound is walked over by its rows, if it has some
 /// and each marked subitem has fixed octets.
@@ -191,5 +191,28 @@ pub(crate) fn walk_by_rows(
     note_field(body, at, at + count, notes);
     walk_rows(
         nodes, octets, compounds, rows, slots, at, count, body, notes,
+    )
+}
+
+/// The octet after the items of the record whose presence field begins at octet `at`, by their rows; notes tell of the presence
+/// fields in these items alone. None says nothing.
+pub fn items_by_rows(codec: &Codec, body: &[u8], at: u32, notes: &mut Notes) -> Option<u32>
+    requires body { length body.now ≤ longest_body }
+    requires at { at ≤ length body.now }
+    ensures { IfSome result (λ end. WalksItems codec.now body.now at end notes.new.least) }
+{
+    let slots = codec.slots.as_slice();
+    let rows = codec.nodes.rows_for(slots)?;
+    let count = field_octets(body, at, codec.mask.count)?;
+    walk_rows(
+        codec.nodes.as_slice(),
+        codec.nodes.octets(),
+        codec.nodes.compound_rows(),
+        rows,
+        slots,
+        at,
+        count,
+        body,
+        notes,
     )
 }

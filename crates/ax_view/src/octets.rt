@@ -125,7 +125,7 @@ fn walk_slots(
 
 /// The octet after the items of the marked slots, of which the first begins at octet `at`.
 #[inline]
-pub fn walk_items(
+fn walk_items(
     nodes: &[Node],
     octets: &[u32],
     slots: &[u32],

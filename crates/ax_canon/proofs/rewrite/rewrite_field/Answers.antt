@@ -2,28 +2,15 @@ use Rattle.std.proofs.Common.{arith}
 use Rattle.ax_bits.proofs.Pieces.{AreOctets-items}
 use Rattle.ax_canon.proofs.Pieces.{compound_written, field_room, not_copied, room_following}
 use Rattle.ax_model.specs.Canonical.{canon}
-use Rattle.ax_reader.proofs.Marking.{marks_bits}
 use Rattle.ax_reader.specs.Reading.{kind_read}
-use Rattle.ax_tables.specs.Meaning.{meanings, linked_slots}
 use Rattle.ax_tables.specs.Table.{record_kind_at}
-use Rattle.ax_view.proofs.Compounds.{marks_clear, record_failed}
+use Rattle.ax_view.proofs.Compounds.{record_failed}
 use Rattle.ax_canon.proofs.rewrite.rewrite_field.Goals as goal
 
 pub write_presence-requires : goal.write_presence-requires
 write_presence-requires c =
     let codec = c.args.codec.now in
     field_room codec.nodes codec.slots codec.mask c.args.body.now c.read_presence.new.into c.args.at c.in-Ok.here (AreOctets-items c.args.body.now (λ i. (let fits = c.type_inv.body i in omega arith))) codec.records.bounds codec.records.mask c.in-Ok.ensures.ok _ c.requires.room
-
-pub rewrite_items-requires-clause-marks : goal.rewrite_items-requires-clause-marks
-rewrite_items-requires-clause-marks c = marks_bits c.args.codec.now.mask c.args.body.now c.read_presence.new.into c.args.at c.in-Ok.here c.in-Ok.ensures.ok
-
-pub rewrite_items-requires-clause-clear : goal.rewrite_items-requires-clause-clear
-rewrite_items-requires-clause-clear c =
-    let codec = c.args.codec.now in
-    marks_clear (linked_slots (meanings codec.nodes) codec.slots) codec.mask c.args.body.now c.read_presence.new.into c.args.at c.in-Ok.here codec.records.mask c.in-Ok.ensures.ok
-
-pub rewrite_items-requires-clause-at : goal.rewrite_items-requires-clause-at
-rewrite_items-requires-clause-at c = c.in-Ok.ensures.ok.within
 
 pub rewrite_items-requires-clause-room : goal.rewrite_items-requires-clause-room
 rewrite_items-requires-clause-room c =

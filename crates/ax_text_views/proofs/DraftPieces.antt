@@ -9,9 +9,10 @@ use Rattle.ax_text.proofs.Printed.{from_place}
 use Rattle.ax_text.specs.ValueText.{opening, closing, spare_word, part_word}
 use Rattle.ax_text_views.proofs.FixedPrinted.{spare_tree}
 use Rattle.ax_text_views.specs.Drafts.{drafted, Adds}
-use Rattle.ax_text_views.specs.Templates.{Template, ends, and_number, before, text_then, number_then, fixed_template, member_template, members_template, part_template, with_number, step_then, steps_then, template_of}
+use Rattle.ax_text_views.specs.Templates.{Template, ends, and_number, before, text_then, number_then, fixed_template, member_template, members_template, part_template, with_number, step_then, steps_then, whole_template}
 use Rattle.ax_text_views.specs.declared.templates.Draft.{Draft}
 use Rattle.ax_text_views.specs.declared.templates.Step.{Step}
+use Rattle.ax_text_views.specs.declared.templates.Steps.{Steps}
 use Rattle.ax_values.proofs.FixedRead.{members_from}
 
 -- ---- octets in front
@@ -57,21 +58,16 @@ number_added old mid new w h k e = record {
       ∙ h.add (and_number [] w r);
 }
 
-pub end_made : (old new : Draft) → ((r : Template) → steps_then new.steps r ≡ steps_then old.steps (with_number (take old.literal.count old.literal.octets) None r)) → template_of new.steps ≡ drafted old (ends [])
-end_made old new h = h (ends [])
-
-pub end_none : (old : Draft) → old.literal.count ≡ 0 → template_of old.steps ≡ drafted old (ends [])
-end_none old e = ap (λ n. steps_then old.steps (before (take n old.literal.octets) (ends []))) (sym e)
+-- what is drafted, with its octets as they stand after its steps
+pub tail_kept : (draft : Draft) (steps : List Step) → steps ≡ draft.steps → steps_then steps (ends (take draft.literal.count draft.literal.octets)) ≡ drafted draft (ends [])
+tail_kept draft steps e = (λ i. steps_then (e i) (ends (sym (append-nil (take draft.literal.count draft.literal.octets)) i)))
 
 pub draft_begun : (draft : Draft) → draft.steps ≡ [] → draft.literal.count ≡ 0 → (r : Template) → drafted draft r ≡ r
 draft_begun draft none e r = (λ i. steps_then (none i) (before (take (e i) draft.literal.octets) r)) ∙ before_none r
 
 -- all steps of a template that was appended to nothing
-pub whole_made : (f : Template → Template) (first all : Draft) (ss : List Step) → ((r : Template) → drafted first r ≡ r) → Adds f first all → template_of ss ≡ drafted all (ends []) → template_of ss ≡ f (ends [])
+pub whole_made : (f : Template → Template) (first all : Draft) (ss : Steps) → ((r : Template) → drafted first r ≡ r) → Adds f first all → whole_template ss ≡ drafted all (ends []) → whole_template ss ≡ f (ends [])
 whole_made f first all ss none h is = is ∙ h.add (ends []) ∙ none (f (ends []))
-
-pub steps_copied : (ss made : List Step) (t : Template) → template_of made ≡ t → ss ≡ made → template_of ss ≡ t
-steps_copied ss made t h e = ap template_of e ∙ h
 
 pub ruleset begun = (draft_begun)
 
@@ -81,7 +77,7 @@ pub ruleset octets = (octet_added)
 
 pub ruleset numbers = (number_added)
 
-pub ruleset ends_ways = (end_made, end_none, steps_copied)
+pub ruleset tails = (tail_kept)
 
 pub ruleset whole = (whole_made)
 

@@ -1,5 +1,5 @@
 -- Steps printed one after the other.
-use Rattle.std.proofs.Common.{◌≡◌, ℕ, ◌+◌, ◌^◌, ◌<◌, ◌≤◌, List, [], ◌++◌, Option, Some, None, length, take, drop, get_or, decimal, IfSome, refl, sym, ◌∙◌, ap, arith, subst, append_assoc, append-nil}
+use Rattle.std.proofs.Common.{◌≡◌, ℕ, ◌+◌, ◌^◌, ◌<◌, ◌≤◌, List, [], ◌∷◌, ◌++◌, Option, Some, None, length, take, drop, get_or, decimal, IfSome, refl, sym, ◌∙◌, ap, arith, subst, append_assoc, append-nil}
 use Rattle.std.proofs.lemmas.List.{drop-drop, drop_all}
 use Rattle.ax_bits.proofs.Pieces.{number-word}
 use Rattle.ax_bits.specs.Bits.{number_of, word}
@@ -10,25 +10,22 @@ use Rattle.ax_model.specs.Widths.{width, members_width}
 use Rattle.ax_text.proofs.Printed.{from_place}
 use Rattle.ax_text.specs.Printing.{after_spaces, Puts}
 use Rattle.ax_text.specs.ValueText.{fixed_onto, part_onto}
-use Rattle.ax_text_views.proofs.TemplateTexts.{printed_before, width_before, bounds_behind, steps_are, steps_bounds, steps_width, fixed_put, part_bounds, part_width, part_put}
-use Rattle.ax_text_views.specs.Templates.{Template, ends, fixed_template, part_template, printed, template_width, TemplateInBounds, with_number, step_then, template_of, number_width, number_text, NumberInBounds, AreSteps}
+use Rattle.ax_text_views.proofs.Digits.{put_twice}
+use Rattle.ax_text_views.proofs.TemplateTexts.{printed_before, width_before, bounds_before, bounds_behind, steps_are, steps_bounds, steps_width, fixed_put, part_bounds, part_width, part_put}
+use Rattle.ax_text_views.specs.Templates.{Template, ends, fixed_template, part_template, printed, template_width, TemplateInBounds, with_number, step_then, steps_then, template_of, whole_template, number_width, number_text, NumberInBounds, AreSteps}
 use Rattle.ax_text_views.specs.declared.templates.Step.{Step}
+use Rattle.ax_text_views.specs.declared.templates.Steps.{Steps}
 
 -- ---- a number
 
-pub digits_put : (b : List ℕ) (at w n : ℕ) (xs old new : List ℕ) → n < 2 ^ w → word w n ≡ take w (drop at b) → new ≡ old ++ (xs ++ decimal n) → new ≡ old ++ (xs ++ decimal (number_of (take w (drop at b))))
-digits_put b at w n xs old new lt e p = p ∙ ap (λ n. old ++ (xs ++ decimal n)) (sym (number-word w n lt) ∙ ap number_of e)
+pub digits_put : (b : List ℕ) (at w n : ℕ) (old new : List ℕ) → n < 2 ^ w → word w n ≡ take w (drop at b) → new ≡ old ++ decimal n → new ≡ old ++ decimal (number_of (take w (drop at b)))
+digits_put b at w n old new lt e p = p ∙ ap (λ n. old ++ decimal n) (sym (number-word w n lt) ∙ ap number_of e)
 
-pub digits_put_then : (b : List ℕ) (at w n : ℕ) (xs old mid new : List ℕ) → n < 2 ^ w → word w n ≡ take w (drop at b) → mid ≡ old ++ xs → new ≡ mid ++ decimal n → new ≡ old ++ (xs ++ decimal (number_of (take w (drop at b))))
-digits_put_then b at w n xs old mid new lt e p q = digits_put b at w n xs old new lt e (q ∙ ap (λ t. t ++ decimal n) p ∙ append_assoc old xs (decimal n))
+pub none_put : (b old : List ℕ) (o : Option ℕ) → o ≡ None → old ≡ old ++ number_text o b
+none_put b old o is = sym (append-nil old) ∙ ap (λ o. old ++ number_text o b) (sym is)
 
-pub ruleset digits = (digits_put, digits_put_then)
-
-pub none_put : (xs b old new : List ℕ) (o : Option ℕ) → o ≡ None → new ≡ old ++ xs → new ≡ old ++ (xs ++ number_text o b)
-none_put xs b old new o is e = e ∙ ap (λ t. old ++ t) (sym (append-nil xs)) ∙ ap (λ o. old ++ (xs ++ number_text o b)) (sym is)
-
-pub some_put : (xs b old new : List ℕ) (o : Option ℕ) (w : ℕ) → o ≡ Some w → new ≡ old ++ (xs ++ decimal (number_of (take w b))) → new ≡ old ++ (xs ++ number_text o b)
-some_put xs b old new o w is e = e ∙ ap (λ o. old ++ (xs ++ number_text o b)) (sym is)
+pub some_put : (b old new : List ℕ) (o : Option ℕ) (w : ℕ) → o ≡ Some w → new ≡ old ++ decimal (number_of (take w b)) → new ≡ old ++ number_text o b
+some_put b old new o w is e = e ∙ ap (λ o. old ++ number_text o b) (sym is)
 
 pub none_wide : (o : Option ℕ) (at : ℕ) → o ≡ None → at ≡ at + number_width o
 none_wide o at is = (let e : at ≡ at + 0 = omega arith in e) ∙ ap (λ o. at + number_width o) (sym is)
@@ -46,6 +43,8 @@ pub ruleset ways = (none_put, some_put, none_wide, some_wide, some_bounds, some_
 
 -- ---- a step
 
+pub ruleset step = (put_twice)
+
 with_printed : (xs : List ℕ) (o : Option ℕ) (r : Template) (b : List ℕ) → printed (with_number xs o r) b ≡ (xs ++ number_text o b) ++ printed r (drop (number_width o) b)
 with_printed xs None r b = printed_before xs r b ∙ ap (λ t. t ++ printed r b) (sym (append-nil xs))
 with_printed xs (Some w) r b = sym (append_assoc xs (decimal (number_of (take w b))) (printed r (drop w b)))
@@ -57,6 +56,10 @@ with_width xs (Some w) r = refl
 with_bounds : (xs : List ℕ) (o : Option ℕ) (r : Template) → TemplateInBounds (with_number xs o r) → NumberInBounds o × TemplateInBounds r
 with_bounds xs None r h = (tt, bounds_behind xs r h)
 with_bounds xs (Some w) r h = h
+
+with_in_bounds : (xs : List ℕ) (o : Option ℕ) (r : Template) → NumberInBounds o → TemplateInBounds r → TemplateInBounds (with_number xs o r)
+with_in_bounds xs None r n h = bounds_before xs r h
+with_in_bounds xs (Some w) r n h = (n, h)
 
 -- ---- steps so far
 
@@ -103,33 +106,72 @@ steps_over all i b start at old now h past = sym (append-nil now) ∙ ap (λ ss.
 
 pub ruleset loops = (steps_begun, step_bounds, step_within, steps_go_on, steps_over)
 
+-- ---- the octets after the steps
+
+printed_tail : (ss : List Step) (xs b : List ℕ) → printed (steps_then ss (ends xs)) b ≡ printed (template_of ss) b ++ xs
+printed_tail [] xs b = refl
+printed_tail (s ∷ ss) xs b =
+    let lit = take s.literal.count s.literal.octets in
+    let text = lit ++ number_text s.number b in
+    let later = drop (number_width s.number) b in
+    with_printed lit s.number (steps_then ss (ends xs)) b ∙ ap (λ t. text ++ t) (printed_tail ss xs later)
+    ∙ sym (append_assoc text (printed (template_of ss) later) xs) ∙ ap (λ t. t ++ xs) (sym (with_printed lit s.number (template_of ss) b))
+
+width_tail : (ss : List Step) (xs : List ℕ) → template_width (template_of ss) ≡ template_width (steps_then ss (ends xs))
+width_tail [] xs = refl
+width_tail (s ∷ ss) xs =
+    let lit = take s.literal.count s.literal.octets in
+    with_width lit s.number (template_of ss) ∙ ap (λ n. number_width s.number + n) (width_tail ss xs) ∙ sym (with_width lit s.number (steps_then ss (ends xs)))
+
+bounds_tail : (ss : List Step) (xs : List ℕ) → TemplateInBounds (steps_then ss (ends xs)) → TemplateInBounds (template_of ss)
+bounds_tail [] xs h = tt
+bounds_tail (s ∷ ss) xs h =
+    let lit = take s.literal.count s.literal.octets in
+    let both = with_bounds lit s.number (steps_then ss (ends xs)) h in with_in_bounds lit s.number (template_of ss) both.0 (bounds_tail ss xs both.1)
+
+module _ (s : Steps) (ss : List Step) (same : ss ≡ s.steps) where
+  abbrev tail : List ℕ
+  tail = take s.tail.count s.tail.octets
+
+  pub whole_bounds : TemplateInBounds (whole_template s) → TemplateInBounds (template_of ss)
+  whole_bounds h = subst (λ ss. TemplateInBounds (template_of ss)) (sym same) (bounds_tail s.steps tail h)
+
+  pub whole_within : (at n : ℕ) → at + template_width (whole_template s) ≤ n → at + template_width (template_of ss) ≤ n
+  whole_within at n h = omega (arith, h, ap (λ ss. template_width (template_of ss)) same, width_tail s.steps tail)
+
+  pub whole_put : (b first mid last : List ℕ) (at n m : ℕ) → take n mid ≡ take at first ++ printed (template_of ss) b → take m last ≡ take n mid ++ take s.tail.count s.tail.octets → take m last ≡ take at first ++ printed (whole_template s) b
+  whole_put b first mid last at n m p q =
+      put_twice first mid last (printed (template_of ss) b) tail at n m p q ∙ ap (λ t. take at first ++ t) (ap (λ ss. printed (template_of ss) b ++ tail) same ∙ sym (printed_tail s.steps tail b))
+
+pub ruleset wholes = (whole_bounds, whole_put)
+
 -- ---- what is held of a fixed kind, and of a part
 
-module _ (f : FixedTree) (o : Option (List Step)) (ss ps : List Step) (made : IfSome o (λ ss. AreSteps (fixed_template f (ends [])) ss)) (is : o ≡ Some ss) (same : ps ≡ ss) where
-  fixed_steps : template_of ps ≡ fixed_template f (ends [])
-  fixed_steps = ap template_of same ∙ steps_are (fixed_template f (ends [])) ss (subst (λ o. IfSome o (λ ss. AreSteps (fixed_template f (ends [])) ss)) is made)
+module _ (f : FixedTree) (o : Option Steps) (ss : Steps) (made : IfSome o (λ ss. AreSteps (fixed_template f (ends [])) ss)) (is : o ≡ Some ss) where
+  fixed_steps : whole_template ss ≡ fixed_template f (ends [])
+  fixed_steps = steps_are (fixed_template f (ends [])) ss (subst (λ o. IfSome o (λ ss. AreSteps (fixed_template f (ends [])) ss)) is made)
 
-  pub held_bounds : FixedInBounds f → TemplateInBounds (template_of ps)
-  held_bounds h = steps_bounds f ps fixed_steps h
+  pub held_bounds : FixedInBounds f → TemplateInBounds (whole_template ss)
+  held_bounds h = steps_bounds f ss fixed_steps h
 
-  pub held_within : (at n : ℕ) → at + width f ≤ n → at + template_width (template_of ps) ≤ n
-  held_within at n h = omega (arith, h, steps_width f ps fixed_steps)
+  pub held_within : (at n : ℕ) → at + width f ≤ n → at + template_width (whole_template ss) ≤ n
+  held_within at n h = omega (arith, h, steps_width f ss fixed_steps)
 
-  pub held_put : (b old new : List ℕ) → new ≡ old ++ printed (template_of ps) b → Puts after_spaces (fixed_onto f (fixed_value f b)) old new
-  held_put b old new e = fixed_put f ps b old new fixed_steps e
+  pub held_put : (b old new : List ℕ) → new ≡ old ++ printed (whole_template ss) b → Puts after_spaces (fixed_onto f (fixed_value f b)) old new
+  held_put b old new e = fixed_put f ss b old new fixed_steps e
 
-module _ (p : MembersTree) (o : Option (List Step)) (ss ps : List Step) (made : IfSome o (λ ss. AreSteps (part_template p (ends [])) ss)) (is : o ≡ Some ss) (same : ps ≡ ss) where
-  part_steps : template_of ps ≡ part_template p (ends [])
-  part_steps = ap template_of same ∙ steps_are (part_template p (ends [])) ss (subst (λ o. IfSome o (λ ss. AreSteps (part_template p (ends [])) ss)) is made)
+module _ (p : MembersTree) (o : Option Steps) (ss : Steps) (made : IfSome o (λ ss. AreSteps (part_template p (ends [])) ss)) (is : o ≡ Some ss) where
+  part_steps : whole_template ss ≡ part_template p (ends [])
+  part_steps = steps_are (part_template p (ends [])) ss (subst (λ o. IfSome o (λ ss. AreSteps (part_template p (ends [])) ss)) is made)
 
-  pub held_part_bounds : MembersInBounds p → TemplateInBounds (template_of ps)
-  held_part_bounds h = part_bounds p ps part_steps h
+  pub held_part_bounds : MembersInBounds p → TemplateInBounds (whole_template ss)
+  held_part_bounds h = part_bounds p ss part_steps h
 
-  pub held_part_within : (at n : ℕ) → at + members_width p ≤ n → at + template_width (template_of ps) ≤ n
-  held_part_within at n h = omega (arith, h, part_width p ps part_steps)
+  pub held_part_within : (at n : ℕ) → at + members_width p ≤ n → at + template_width (whole_template ss) ≤ n
+  held_part_within at n h = omega (arith, h, part_width p ss part_steps)
 
-  pub held_part_put : (b old new : List ℕ) → new ≡ old ++ printed (template_of ps) b → Puts after_spaces (part_onto p (members_value p b)) old new
-  held_part_put b old new e = part_put p ps b old new part_steps e
+  pub held_part_put : (b old new : List ℕ) → new ≡ old ++ printed (whole_template ss) b → Puts after_spaces (part_onto p (members_value p b)) old new
+  held_part_put b old new e = part_put p ss b old new part_steps e
 
 pub ruleset held = (held_bounds, held_within, held_put)
 

@@ -8,8 +8,8 @@ use Rattle.ax_model.specs.Tree.{FixedTree, element, group, MembersTree, no_membe
 use Rattle.ax_model.specs.Widths.{width, members_width}
 use Rattle.ax_text.specs.Printing.{after_spaces, Puts}
 use Rattle.ax_text.specs.ValueText.{Texts, opening, closing, spare_word, part_word, fixed_onto, members_onto, part_onto}
-use Rattle.ax_text_views.specs.Templates.{Template, ends, and_number, before, text_then, number_then, fixed_template, members_template, part_template, printed, template_width, TemplateInBounds, template_of, numbers_of, end_of, AreSteps}
-use Rattle.ax_text_views.specs.declared.templates.Step.{Step}
+use Rattle.ax_text_views.specs.Templates.{Template, ends, and_number, before, text_then, number_then, fixed_template, members_template, part_template, printed, template_width, TemplateInBounds, whole_template, numbers_of, end_of, AreSteps}
+use Rattle.ax_text_views.specs.declared.templates.Steps.{Steps}
 
 -- ---- templates by their lists
 
@@ -22,11 +22,11 @@ unfolding from_lists
 again (ends xs) = refl
 again (and_number xs w r) = ap (and_number xs w) (again r)
 
-pub are_steps : (t : Template) (ss : List Step) → template_of ss ≡ t → AreSteps t ss
+pub are_steps : (t : Template) (ss : Steps) → whole_template ss ≡ t → AreSteps t ss
 are_steps t ss e = (ap numbers_of e, ap end_of e)
 
-pub steps_are : (t : Template) (ss : List Step) → AreSteps t ss → template_of ss ≡ t
-steps_are t ss h = sym (again (template_of ss)) ∙ (λ i. from_lists (h.0 i) (h.1 i)) ∙ again t
+pub steps_are : (t : Template) (ss : Steps) → AreSteps t ss → whole_template ss ≡ t
+steps_are t ss h = sym (again (whole_template ss)) ∙ (λ i. from_lists (h.0 i) (h.1 i)) ∙ again t
 
 pub ruleset found = (are_steps)
 
@@ -86,15 +86,15 @@ part_prints p r b rest texts h =
     let ts = members_onto p (members_value p b) (closing ∷ texts) in
     text_prints part_word (text_then opening inner) b rest (opening ∷ ts) (text_prints opening inner b rest ts (members_prints p (text_then closing r) b rest (closing ∷ texts) (text_prints closing r (drop (members_width p) b) rest texts h)))
 
-steps_put : (t : Template) (ss : List Step) (onto : Texts → Texts) (b old new : List ℕ) → ((rest : Texts) → Prints t b rest (onto rest)) → template_of ss ≡ t → new ≡ old ++ printed (template_of ss) b → Puts after_spaces onto old new
+steps_put : (t : Template) (ss : Steps) (onto : Texts → Texts) (b old new : List ℕ) → ((rest : Texts) → Prints t b rest (onto rest)) → whole_template ss ≡ t → new ≡ old ++ printed (whole_template ss) b → Puts after_spaces onto old new
 steps_put t ss onto b old new h is e = record {
   put = λ rest. ap (λ t. t ++ after_spaces rest) (e ∙ ap (λ t. old ++ printed t b) is) ∙ append_assoc old (printed t b) (after_spaces rest) ∙ ap (λ t. old ++ t) (h rest);
 }
 
-pub fixed_put : (f : FixedTree) (ss : List Step) (b old new : List ℕ) → template_of ss ≡ fixed_template f (ends []) → new ≡ old ++ printed (template_of ss) b → Puts after_spaces (fixed_onto f (fixed_value f b)) old new
+pub fixed_put : (f : FixedTree) (ss : Steps) (b old new : List ℕ) → whole_template ss ≡ fixed_template f (ends []) → new ≡ old ++ printed (whole_template ss) b → Puts after_spaces (fixed_onto f (fixed_value f b)) old new
 fixed_put f ss b old new is e = steps_put (fixed_template f (ends [])) ss (fixed_onto f (fixed_value f b)) b old new (λ rest. fixed_prints f (ends []) b rest rest refl) is e
 
-pub part_put : (p : MembersTree) (ss : List Step) (b old new : List ℕ) → template_of ss ≡ part_template p (ends []) → new ≡ old ++ printed (template_of ss) b → Puts after_spaces (part_onto p (members_value p b)) old new
+pub part_put : (p : MembersTree) (ss : Steps) (b old new : List ℕ) → whole_template ss ≡ part_template p (ends []) → new ≡ old ++ printed (whole_template ss) b → Puts after_spaces (part_onto p (members_value p b)) old new
 part_put p ss b old new is e = steps_put (part_template p (ends [])) ss (part_onto p (members_value p b)) b old new (λ rest. part_prints p (ends []) b rest rest refl) is e
 
 -- ---- widths
@@ -135,16 +135,16 @@ mutual
 
 -- of steps that are a kind's
 
-pub steps_bounds : (f : FixedTree) (ss : List Step) → template_of ss ≡ fixed_template f (ends []) → FixedInBounds f → TemplateInBounds (template_of ss)
+pub steps_bounds : (f : FixedTree) (ss : Steps) → whole_template ss ≡ fixed_template f (ends []) → FixedInBounds f → TemplateInBounds (whole_template ss)
 steps_bounds f ss is h = subst TemplateInBounds (sym is) (fixed_bounds f (ends []) h tt)
 
-pub steps_width : (f : FixedTree) (ss : List Step) → template_of ss ≡ fixed_template f (ends []) → template_width (template_of ss) ≡ width f
+pub steps_width : (f : FixedTree) (ss : Steps) → whole_template ss ≡ fixed_template f (ends []) → template_width (whole_template ss) ≡ width f
 steps_width f ss is = ap template_width is ∙ fixed_wide f (ends []) ∙ (let e : width f + 0 ≡ width f = omega arith in e)
 
-pub part_bounds : (p : MembersTree) (ss : List Step) → template_of ss ≡ part_template p (ends []) → MembersInBounds p → TemplateInBounds (template_of ss)
+pub part_bounds : (p : MembersTree) (ss : Steps) → whole_template ss ≡ part_template p (ends []) → MembersInBounds p → TemplateInBounds (whole_template ss)
 part_bounds p ss is h =
     let inner = members_template p (text_then closing (ends [])) in
     subst TemplateInBounds (sym is) (bounds_before (0x20 ∷ part_word) (text_then opening inner) (bounds_before (0x20 ∷ opening) inner (members_bounds p (text_then closing (ends [])) h tt)))
 
-pub part_width : (p : MembersTree) (ss : List Step) → template_of ss ≡ part_template p (ends []) → template_width (template_of ss) ≡ members_width p
+pub part_width : (p : MembersTree) (ss : Steps) → whole_template ss ≡ part_template p (ends []) → template_width (whole_template ss) ≡ members_width p
 part_width p ss is = ap template_width is ∙ part_wide p (ends []) ∙ (let e : members_width p + 0 ≡ members_width p = omega arith in e)

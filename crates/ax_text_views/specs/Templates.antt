@@ -5,6 +5,7 @@ use Rattle.ax_model.specs.InBounds.{IsWidth}
 use Rattle.ax_model.specs.Tree.{FixedTree, element, group, MemberTree, MembersTree, no_members, member_and, named, spare}
 use Rattle.ax_text.specs.ValueText.{opening, closing, spare_word, part_word}
 use Rattle.ax_text_views.specs.declared.templates.Step.{Step}
+use Rattle.ax_text_views.specs.declared.templates.Steps.{Steps}
 
 -- octets alone; or octets, a number of so many bits, and what comes after it
 pub data Template : Type 0 where
@@ -77,6 +78,10 @@ steps_then (s ∷ ss) r = step_then s (steps_then ss r)
 abbrev pub template_of : List Step → Template
 template_of ss = steps_then ss (ends [])
 
+-- steps, and the octets after them
+abbrev pub whole_template : Steps → Template
+whole_template s = steps_then s.steps (ends (take s.tail.count s.tail.octets))
+
 -- the octets in front of each number and its bits, and the octets at the end
 abbrev pub numbers_of : Template → List (List ℕ × ℕ)
 numbers_of (ends xs) = []
@@ -87,8 +92,8 @@ end_of (ends xs) = xs
 end_of (and_number xs w r) = end_of r
 
 -- steps are that template
-abbrev pub AreSteps : Template → List Step → Type 0
-AreSteps t ss = (numbers_of (template_of ss) ≡ numbers_of t) × (end_of (template_of ss) ≡ end_of t)
+abbrev pub AreSteps : Template → Steps → Type 0
+AreSteps t ss = (numbers_of (whole_template ss) ≡ numbers_of t) × (end_of (whole_template ss) ≡ end_of t)
 
 -- the bits of the number of a step, and its digits
 abbrev pub number_width : Option ℕ → ℕ
@@ -98,6 +103,10 @@ number_width (Some w) = w
 abbrev pub number_text : Option ℕ → List ℕ → List ℕ
 number_text None b = []
 number_text (Some w) b = decimal (number_of (take w b))
+
+-- the octets of a step, with its number
+abbrev pub step_text : Step → List ℕ → List ℕ
+step_text s b = take s.literal.count s.literal.octets ++ number_text s.number b
 
 abbrev pub NumberInBounds : Option ℕ → Type 0
 NumberInBounds None = Unit {0}

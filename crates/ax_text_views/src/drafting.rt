@@ -5,7 +5,7 @@ ghost use Rattle.ax_model.specs.Lengths.{capped};
 ghost use Rattle.ax_model.specs.Plain.{fixed_tree, member_tree, members_tree, part_tree};
 ghost use Rattle.ax_model.specs.Widths as Widths;
 ghost use Rattle.ax_text_views.specs.Drafts.{Adds};
-ghost use Rattle.ax_text_views.specs.Templates.{AreSteps, ends, fixed_template, member_template, members_template, part_template, template_of};
+ghost use Rattle.ax_text_views.specs.Templates.{AreSteps, ends, fixed_template, member_template, members_template, part_template, whole_template};
 
 use crate::templates::{Draft, Steps};
 use ax_model::{Fixed, Member, Members, Part};
@@ -71,7 +71,7 @@ fn add_part(draft: &mut Draft, part: &Part) -> Result<(), AllocError>
 /// The steps of a fixed kind, at most so many. Err is want of memory, or more steps.
 #[tactic(auto, using(crate::proofs::DraftPieces::whole))]
 fn steps_of_fixed(alloc: Global, fixed: &Fixed, most: u32) -> Result<Steps, AllocError>
-    ensures { IfOk result (λ steps. template_of steps ≡ fixed_template (fixed_tree fixed.now) (ends [])) }
+    ensures { IfOk result (λ steps. whole_template steps ≡ fixed_template (fixed_tree fixed.now) (ends [])) }
 {
     let mut draft = Draft::new(alloc, most);
     add_fixed(&mut draft, fixed)?;
@@ -93,7 +93,7 @@ fn some_steps_of_fixed(alloc: Global, fixed: &Fixed, most: u32) -> Option<Steps>
 /// The steps of a part, at most so many. Err is want of memory, or more steps.
 #[tactic(auto, using(crate::proofs::DraftPieces::whole))]
 fn steps_of_part(alloc: Global, part: &Part, most: u32) -> Result<Steps, AllocError>
-    ensures { IfOk result (λ steps. template_of steps ≡ part_template (part_tree part.now) (ends [])) }
+    ensures { IfOk result (λ steps. whole_template steps ≡ part_template (part_tree part.now) (ends [])) }
 {
     let mut draft = Draft::new(alloc, most);
     add_part(&mut draft, part)?;
@@ -127,7 +127,7 @@ impl StepsLeft {
     /// Takes those off that were made.
     fn take(&mut self, made: &Option<Steps>) {
         if let Some(made) = made {
-            self.steps = self.steps.saturating_sub(made.count());
+            self.steps = self.steps.saturating_sub(made.steps.count());
         }
     }
 }

@@ -13,6 +13,7 @@ mod literal;
 mod parts_left;
 mod records;
 mod room;
+mod step_texts;
 mod steps;
 mod templates;
 mod units;

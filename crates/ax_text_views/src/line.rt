@@ -1,11 +1,16 @@
 //! A line of tokens, as it is printed.
-ghost use Rattle.std.specs.Prelude.{◌≡◌, ◌≤◌, [], ◌∷◌, ◌++◌, length, take, decimal, OnOk};
+ghost use Rattle.std.specs.Prelude.{◌≡◌, ◌+◌, ◌*◌, ◌≤◌, [], ◌∷◌, ◌++◌, length, take, drop, decimal, OnOk};
+ghost use Rattle.ax_bits.specs.Bits.{bits};
 ghost use Rattle.ax_model.specs.Paths.{three_digits};
+ghost use Rattle.ax_model.specs.Sizes.{longest_body};
 ghost use Rattle.ax_text.specs.Printing.{after_spaces, Puts};
 ghost use Rattle.ax_text.specs.ValueText.{opening, closing, one_onto, hex_text};
+ghost use Rattle.ax_text_views.specs.Templates.{TemplateInBounds, printed, template_width, whole_template};
 ghost use Rattle.ax_tokens.specs.Octets.{line_feed};
 
-use crate::room::{make_room, put_decimal, put_name, put_number, put_octets, put_some};
+use crate::room::{make_room, put_name, put_number, put_octets};
+use crate::step_texts::{put_template, template_room};
+use crate::templates::Steps;
 use ax_model::{Name, category_digits};
 use itoa::Buffer;
 use std::alloc::{AllocError, Global};
@@ -119,45 +124,21 @@ impl Line {
     pub(crate) fn number(&mut self, number: u64) -> Result<(), AllocError>
         ensures { OnOk result (Puts after_spaces (one_onto (decimal number)) self.old self.new) }
     {
-        make_room(&mut self.room, self.used, 21)?;
+        make_room(&mut self.room, self.used, 41)?;
         self.used = put_number(&mut self.room, self.used, number);
         Ok(())
     }
 
-    /// The first `count` of 32 octets, with no space.
-    #[inline(always)]
-    pub(crate) fn some(&mut self, octets: &[u8], count: usize) -> Result<(), AllocError>
-        requires { (32 ≤ length octets.now) × (count ≤ 32) }
-        ensures { OnOk result (self.new ≡ self.old ++ take count octets.now) }
+    /// Steps, whose numbers stand in the bits from bit `at` of the body on. Room is asked for once.
+    pub(crate) fn steps(&mut self, steps: &Steps, body: &[u8], at: u32) -> Result<(), AllocError>
+        requires bounds { TemplateInBounds (whole_template steps.now) }
+        requires within { at + template_width (whole_template steps.now) ≤ 8 * length body.now }
+        requires body { length body.now ≤ longest_body }
+        ensures { OnOk result (self.new ≡ self.old ++ printed (whole_template steps.now) (drop at (bits body.now))) }
     {
-        make_room(&mut self.room, self.used, 32)?;
-        self.used = put_some(&mut self.room, self.used, octets, count);
+        make_room(&mut self.room, self.used, template_room(steps))?;
+        self.used = put_template(&mut self.room, self.used, steps, body, at);
         Ok(())
-    }
-
-    /// The first `count` of 32 octets and a number of at most 64 bits in decimal, with no spaces.
-    #[inline(always)]
-    pub(crate) fn some_and_number(
-        &mut self,
-        octets: &[u8],
-        count: usize,
-        number: u64,
-    ) -> Result<(), AllocError>
-        requires { (32 ≤ length octets.now) × (count ≤ 32) }
-        ensures { OnOk result (self.new ≡ self.old ++ (take count octets.now ++ decimal number)) }
-    {
-        make_room(&mut self.room, self.used, 52)?;
-        let end = put_some(&mut self.room, self.used, octets, count);
-        self.used = put_decimal(&mut self.room, end, number);
-        Ok(())
-    }
-
-    /// Any number in decimal, with no space.
-    pub(crate) fn digits(&mut self, number: u128) -> Result<(), AllocError>
-        ensures { OnOk result (self.new ≡ self.old ++ decimal number) }
-    {
-        let mut buffer = Buffer::new();
-        self.more(buffer.format(number).as_bytes())
     }
 
     /// Any number in decimal.

@@ -5,6 +5,7 @@ ghost use Rattle.ax_text_views.specs.Prints.{three_last};
 use ax_model::Name;
 use itoa::Buffer;
 use std::alloc::AllocError;
+use std::simd::Simd;
 
 /// The octets that room grows by, at least.
 const LEAST: usize = 1024;
@@ -60,6 +61,16 @@ pub(crate) fn put_octets(room: &mut [u8], at: usize, octets: &[u8])
     room[at..at + octets.len()].copy_from_slice(octets);
 }
 
+/// Puts the first N octets by one load and one store.
+#[inline(always)]
+fn put_first<const N: usize>(room: &mut [u8], at: usize, octets: &[u8])
+    requires { (N ≤ length octets.now) × (at + N ≤ length room.old) }
+    ensures front { take (at + N) room.new ≡ take at room.old ++ take N octets.now }
+    ensures whole { length room.new ≡ length room.old }
+{
+    Simd::<u8, N>::from_slice(octets).copy_to_slice(&mut room[at..]);
+}
+
 /// Puts a space and a name. The result is the place after it. All that can be of the name is copied, since a copy of a known
 /// length is quick.
 #[inline(always)]
@@ -73,8 +84,7 @@ pub(crate) fn put_name(room: &mut [u8], at: usize, name: &Name) -> usize
     at + 1 + name.octets().len()
 }
 
-/// Puts the first `count` of 32 octets. The result is the place after them. All 32 are copied, since a copy of a known length is
-/// quick.
+/// Puts the first `count` of 32 octets. The result is the place after them. All 32 are copied at once.
 #[inline(always)]
 pub(crate) fn put_some(room: &mut [u8], at: usize, octets: &[u8], count: usize) -> usize
     requires room { at + 32 ≤ length room.old }
@@ -83,20 +93,22 @@ pub(crate) fn put_some(room: &mut [u8], at: usize, octets: &[u8], count: usize) 
     ensures place { result ≡ at + count }
     ensures whole { length room.new ≡ length room.old }
 {
-    put_octets(room, at, &octets[..32]);
+    put_first::<32>(room, at, octets);
     at + count
 }
 
-/// Puts the three last digits of a number.
+/// Puts the three last digits of a number. The result is the place after them.
 #[inline(always)]
-fn put_three(room: &mut [u8], at: usize, number: u32)
+fn put_three(room: &mut [u8], at: usize, number: u32) -> usize
     requires { (at + 3 ≤ length room.old) × (number < 1000) }
-    ensures front { take (at + 3) room.new ≡ take at room.old ++ three_last number }
+    ensures front { take result room.new ≡ take at room.old ++ three_last number }
+    ensures place { result ≡ at + 3 }
     ensures whole { length room.new ≡ length room.old }
 {
     put_octet(room, at, b'0' + (number / 100) as u8);
     put_octet(room, at + 1, b'0' + (number / 10 % 10) as u8);
     put_octet(room, at + 2, b'0' + (number % 10) as u8);
+    at + 3
 }
 
 /// Puts a digit of a number, which stays only where the number isn't below `least`: so no branch depends on it. The result is the
@@ -111,6 +123,19 @@ fn put_digit_from(room: &mut [u8], at: usize, digit: u32, number: u32, least: u3
 {
     put_octet(room, at, b'0' + digit as u8);
     if number < least { at } else { at + 1 }
+}
+
+/// Puts a number of one digit. The result is the place after it.
+#[inline(always)]
+#[tactic(auto, using(crate::proofs::Digits::ones))]
+pub(crate) fn put_one(room: &mut [u8], at: usize, number: u32) -> usize
+    requires { (at < length room.old) × (number < 10) }
+    ensures front { take result room.new ≡ take at room.old ++ decimal number }
+    ensures within { result ≤ at + 1 }
+    ensures whole { length room.new ≡ length room.old }
+{
+    put_octet(room, at, b'0' + number as u8);
+    at + 1
 }
 
 /// Puts a number of at most three digits. The result is the place after it.
@@ -128,12 +153,62 @@ fn put_short(room: &mut [u8], at: usize, number: u32) -> usize
     ones + 1
 }
 
-/// Puts a number of at most 64 bits. The result is the place after it.
-#[inline(never)]
-fn put_long(room: &mut [u8], at: usize, number: u64) -> usize
-    requires { at + 20 ≤ length room.old }
+/// Puts a number of at most six digits. The result is the place after it.
+#[inline(always)]
+#[tactic(auto, using(crate::proofs::Digits::thousands))]
+fn put_six(room: &mut [u8], at: usize, number: u32) -> usize
+    requires { (at + 6 ≤ length room.old) × (number < 1000000) }
     ensures front { take result room.new ≡ take at room.old ++ decimal number }
-    ensures within { result ≤ length room.new }
+    ensures within { result ≤ at + 6 }
+    ensures whole { length room.new ≡ length room.old }
+{
+    if number < 1000 {
+        return put_short(room, at, number);
+    }
+    let end = put_short(room, at, number / 1000);
+    put_three(room, end, number % 1000)
+}
+
+/// Puts a number of at most nine digits. The result is the place after it.
+#[inline(always)]
+#[tactic(auto, using(crate::proofs::Digits::thousands))]
+fn put_nine(room: &mut [u8], at: usize, number: u32) -> usize
+    requires { (at + 9 ≤ length room.old) × (number < 1000000000) }
+    ensures front { take result room.new ≡ take at room.old ++ decimal number }
+    ensures within { result ≤ at + 9 }
+    ensures whole { length room.new ≡ length room.old }
+{
+    if number < 1_000_000 {
+        return put_six(room, at, number);
+    }
+    let end = put_six(room, at, number / 1000);
+    put_three(room, end, number % 1000)
+}
+
+/// Puts a number of ten to eighteen digits. The result is the place after it.
+#[inline(always)]
+#[tactic(auto, using(crate::proofs::Digits::eighteen))]
+fn put_eighteen(room: &mut [u8], at: usize, number: u64) -> usize
+    requires { (at + 18 ≤ length room.old) × (1000000000 ≤ number) × (number < 1000000000000000000) }
+    ensures front { take result room.new ≡ take at room.old ++ decimal number }
+    ensures within { result ≤ at + 18 }
+    ensures whole { length room.new ≡ length room.old }
+{
+    let end = put_nine(room, at, (number / 1_000_000_000) as u32);
+    let nine = (number % 1_000_000_000) as u32;
+    let end = put_three(room, end, nine / 1_000_000);
+    let end = put_three(room, end, nine / 1000 % 1000);
+    put_three(room, end, nine % 1000)
+}
+
+/// Puts a number of any length. The result is the place after it.
+#[cold]
+#[inline(never)]
+pub(crate) fn put_longest(room: &mut [u8], at: usize, number: u128) -> usize
+    requires { at + 40 ≤ length room.old }
+    ensures front { take result room.new ≡ take at room.old ++ decimal number }
+    ensures within { result ≤ at + 40 }
+    ensures whole { length room.new ≡ length room.old }
 {
     let mut buffer = Buffer::new();
     let digits = buffer.format(number).as_bytes();
@@ -141,28 +216,41 @@ fn put_long(room: &mut [u8], at: usize, number: u64) -> usize
     at + digits.len()
 }
 
+/// Puts a number of more than six digits. The result is the place after it.
+#[inline(never)]
+fn put_long(room: &mut [u8], at: usize, number: u64) -> usize
+    requires { at + 40 ≤ length room.old }
+    ensures front { take result room.new ≡ take at room.old ++ decimal number }
+    ensures within { result ≤ at + 40 }
+    ensures whole { length room.new ≡ length room.old }
+{
+    if number < 1_000_000_000 {
+        return put_nine(room, at, number as u32);
+    }
+    if number >= 1_000_000_000_000_000_000 {
+        return put_longest(room, at, number as u128);
+    }
+    put_eighteen(room, at, number)
+}
+
 /// Puts a number in decimal. Most have at most three digits, and few more than six.
 #[inline(always)]
 pub(crate) fn put_decimal(room: &mut [u8], at: usize, number: u64) -> usize
-    requires { at + 20 ≤ length room.old }
+    requires { at + 40 ≤ length room.old }
     ensures front { take result room.new ≡ take at room.old ++ decimal number }
-    ensures within { result ≤ length room.new }
+    ensures within { result ≤ at + 40 }
+    ensures whole { length room.new ≡ length room.old }
 {
-    if number < 1000 {
-        return put_short(room, at, number as u32);
-    }
     if number >= 1_000_000 {
         return put_long(room, at, number);
     }
-    let end = put_short(room, at, number as u32 / 1000);
-    put_three(room, end, number as u32 % 1000);
-    end + 3
+    put_six(room, at, number as u32)
 }
 
 /// Puts a space and a number in decimal. The result is the place after it.
 #[inline(always)]
 pub(crate) fn put_number(room: &mut [u8], at: usize, number: u64) -> usize
-    requires { at + 21 ≤ length room.old }
+    requires { at + 41 ≤ length room.old }
     ensures front { take result room.new ≡ take at room.old ++ 0x20 ∷ decimal number }
     ensures within { result ≤ length room.new }
 {

@@ -3,7 +3,7 @@
 ghost use Rattle.std.specs.Prelude.{◌≡◌, ◌+◌, ◌<◌, ◌≤◌, [], ◌∷◌, Some, None, length, take, IfOk, OnOk};
 ghost use Rattle.ax_text_views.specs.Drafts.{Adds, drafted};
 ghost use Rattle.ax_text_views.specs.Templates as Templates;
-ghost use Rattle.ax_text_views.specs.Templates.{before, number_then, text_then, template_of, steps_then, with_number};
+ghost use Rattle.ax_text_views.specs.Templates.{before, number_then, text_then, whole_template, steps_then, with_number};
 
 use crate::literal::{LITERAL_ROOM, Literal};
 use crate::room::put_octet;
@@ -14,17 +14,21 @@ use std::alloc::{AllocError, Global};
 #[derive(Clone, Copy)]
 pub(crate) struct Step {
     pub(crate) literal: Literal,
-    /// The bits of the number. None where only octets follow, or nothing does.
+    /// The bits of the number. None where the octets are more than one literal has room for.
     pub(crate) number: Option<u32>,
 }
 
-/// The steps of a template, in order.
-pub(crate) type Steps = Sequence<Step>;
+/// A template: its steps, in order, and the octets after them.
+#[derive(Drop)]
+pub(crate) struct Steps {
+    pub(crate) steps: Sequence<Step>,
+    pub(crate) tail: Literal,
+}
 
 /// A template as it is put together: its steps so far, and the octets after them.
 #[derive(Drop)]
 pub(crate) struct Draft {
-    steps: Steps,
+    steps: Sequence<Step>,
     literal: Literal,
     /// How many steps it may have.
     most: u32,
@@ -37,7 +41,7 @@ impl Draft {
         ensures { (r : Templates.Template) → drafted result r ≡ r }
     {
         Draft {
-            steps: Steps::new(alloc),
+            steps: Sequence::new(alloc),
             literal: Literal {
                 octets: [0; 32],
                 count: 0,
@@ -110,26 +114,15 @@ impl Draft {
         Ok(())
     }
 
-    /// Makes a step of the octets at the end, where there are any.
-    #[tactic(auto, using(crate::proofs::DraftPieces::ends_ways))]
-    fn end(&mut self) -> Result<(), AllocError>
-        ensures { OnOk result (template_of self.new.steps ≡ drafted self.old (Templates.ends [])) }
-    {
-        if self.literal.count == 0 {
-            return Ok(());
-        }
-        self.push_step(None)?;
-        Ok(())
-    }
-
-    /// The steps, with no room for others.
-    #[tactic(auto, using(crate::proofs::DraftPieces::ends_ways))]
+    /// The steps, with no room for others, and the octets after them.
+    #[tactic(auto, using(crate::proofs::DraftPieces::tails))]
     pub(crate) fn steps(self, alloc: Global) -> Result<Steps, AllocError>
-        ensures { IfOk result (λ steps. template_of steps ≡ drafted self (Templates.ends [])) }
+        ensures { IfOk result (λ steps. whole_template steps ≡ drafted self (Templates.ends [])) }
     {
-        let mut draft = self;
-        draft.end()?;
-        let steps = draft.steps.copy(alloc)?;
-        Ok(steps)
+        let steps = self.steps.copy(alloc)?;
+        Ok(Steps {
+            steps,
+            tail: self.literal,
+        })
     }
 }

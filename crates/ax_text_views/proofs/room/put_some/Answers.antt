@@ -12,5 +12,5 @@ returns-clause-front c =
     let counted : length text ≡ n = length-take-le n all (omega (arith, c.requires.count)) in
     let whole : length (take 32 all) ≡ 32 = length-take-le 32 all c.requires.count.0 in
     let front : take (length text) (take 32 all) ≡ text = ap (λ k. take k (take 32 all)) counted ∙ take-take n 32 all c.requires.count.1 in
-    ap (λ k. take (at + k) c.put_octets.new.room) (sym counted)
-    ∙ put_front c.args.room.now c.put_octets.new.room (take 32 all) text at (omega (arith, c.requires.room)) c.put_octets.ensures.front front (omega (arith, counted, whole, c.requires.count))
+    ap (λ k. take (at + k) c.put_first.new.room) (sym counted)
+    ∙ put_front c.args.room.now c.put_first.new.room (take 32 all) text at (omega (arith, c.requires.room)) (ap (λ k. take (at + k) c.put_first.new.room) whole ∙ c.put_first.ensures.front) front (omega (arith, counted, whole, c.requires.count))

@@ -130,6 +130,7 @@ impl Line {
     }
 
     /// Steps, whose numbers stand in the bits from bit `at` of the body on. Room is asked for once.
+    #[inline(always)]
     pub(crate) fn steps(&mut self, steps: &Steps, body: &[u8], at: u32) -> Result<(), AllocError>
         requires bounds { TemplateInBounds (whole_template steps.now) }
         requires within { at + template_width (whole_template steps.now) ≤ 8 * length body.now }

@@ -71,8 +71,7 @@ fn put_first<const N: usize>(room: &mut [u8], at: usize, octets: &[u8])
     Simd::<u8, N>::from_slice(octets).copy_to_slice(&mut room[at..]);
 }
 
-/// Puts a space and a name. The result is the place after it. All that can be of the name is copied, since a copy of a known
-/// length is quick.
+/// Puts a space and a name. The result is the place after it. All that can be of the name is copied at once.
 #[inline(always)]
 pub(crate) fn put_name(room: &mut [u8], at: usize, name: &Name) -> usize
     requires { at + 17 ≤ length room.old }
@@ -80,7 +79,7 @@ pub(crate) fn put_name(room: &mut [u8], at: usize, name: &Name) -> usize
     ensures within { result ≤ length room.new }
 {
     put_octet(room, at, b' ');
-    put_octets(room, at + 1, name.padded());
+    put_first::<16>(room, at + 1, name.padded());
     at + 1 + name.octets().len()
 }
 

@@ -83,6 +83,7 @@ fn put_step(room: &mut [u8], place: usize, step: &Step, body: &[u8], at: &mut u3
 }
 
 /// Puts steps, whose numbers stand in the bits from bit `at` of the body on. The result is the place after them.
+#[inline(always)]
 #[tactic(auto, using(crate::proofs::StepsPrinted::loops))]
 fn put_steps(room: &mut [u8], place: usize, steps: &[Step], body: &[u8], at: u32) -> usize
     requires room { place + 72 * length steps.now ≤ length room.old }
@@ -102,6 +103,7 @@ fn put_steps(room: &mut [u8], place: usize, steps: &[Step], body: &[u8], at: u32
 }
 
 /// The octets that are printed by a template at most.
+#[inline(always)]
 pub(crate) fn template_room(steps: &Steps) -> usize
     ensures { result ≡ 72 * length steps.now.steps + 32 }
 {
@@ -109,6 +111,7 @@ pub(crate) fn template_room(steps: &Steps) -> usize
 }
 
 /// Puts what is printed by a template of the bits from bit `at` of the body on. The result is the place after it.
+#[inline(always)]
 #[tactic(auto, using(crate::proofs::StepsPrinted::wholes))]
 pub(crate) fn put_template(
     room: &mut [u8],

@@ -15,6 +15,7 @@ use crate::line::Line;
 use std::alloc::AllocError;
 
 /// Prints the value of a fixed kind in the bits from bit `at` of the body on.
+#[inline(always)]
 #[tactic(auto, using(crate::proofs::StepsPrinted::held))]
 pub(crate) fn print_held(
     line: &mut Line,

@@ -69,6 +69,11 @@ named_built member name f old mid new before after e goes b =
     subst (λ m. MemberIsBuilt m old new before after) (sym (named_tree member name f e))
     (built_after (FixedShape (fixed_tree f)) (λ v. fixed_onto (fixed_tree f) v []) (fixed_canon (fixed_tree f)) (MemberShape (named name (fixed_tree f))) (λ v. member_onto (named name (fixed_tree f)) v []) (member_canon (named name (fixed_tree f))) (name ∷ []) old mid new before after goes b (λ v h. (v, h, refl, refl)))
 
+pub named_number_built : (member : Member) (name : List ℕ) (f : Fixed) (w : ℕ) (c : Content) (n : ℕ) (old new : Place) (before after : Laid) → member ≡ Named name f → f ≡ Element w c → Goes old new (name ∷ decimal n ∷ []) → n < 2 ^ w → Lays before after (word w n) → MemberIsBuilt (member_tree member) old new before after
+named_number_built member name f w c n old new before after e is goes lt a =
+    subst (λ m. MemberIsBuilt m old new before after) (sym (named_tree member name f e))
+    (subst (λ k. MemberIsBuilt (named name k) old new before after) (sym (element_tree f w c is)) record { value = number n; shape = lt; goes = goes; lays = a })
+
 pub spare_built : (member : Member) (w : ℕ) (old mid new : Place) (before after : Laid) → member ≡ Spare w → (IsOneWord spare_word → Goes old mid (spare_word ∷ [])) → IsBuilt (NumberShape w) (λ v. number_onto v []) (number_canon w) mid new before after → MemberIsBuilt (member_tree member) old new before after
 spare_built member w old mid new before after e g b =
     subst (λ m. MemberIsBuilt m old new before after) (sym (spare_tree member w e))

@@ -1,16 +1,16 @@
 -- Octets that begin alike.
-use Rattle.std.proofs.Common.{◌≡◌, ℕ, zero, suc, ◌+◌, ◌-◌, ◌*◌, ◌/◌, ◌^◌, ◌<◌, ◌≤◌, true, inl, inr, List, [], ◌∷◌, ◌++◌, length, take, drop, get_or, sym, ◌∙◌, ap, subst, arith, append_assoc, lit<}
-use Rattle.std.proofs.lemmas.List.{take-append-drop}
-use Rattle.std.proofs.lemmas.Nat.{shr_below}
-use Rattle.std.proofs.Math.Nat.{pow-le-pow_right}
+use Rattle.std.proofs.Common.{◌≡◌, ℕ, zero, suc, ◌+◌, ◌-◌, ◌*◌, ◌/◌, ◌%◌, ◌^◌, ◌<◌, ◌≤◌, true, inl, inr, List, [], ◌∷◌, ◌++◌, length, take, drop, get_or, sym, ◌∙◌, ap, subst, arith}
+use Rattle.std.proofs.lemmas.List.{take-append-drop, drop_more}
+use Rattle.std.proofs.lemmas.Nat.{xor_shr}
+use Rattle.std.proofs.lemmas.Nat.Bits.{same_from_bits, bit_at_xor, bit_at-zero}
+use Rattle.std.specs.Int.RustNames.{bit_xor}
 use Rattle.std.specs.Int.{w64, from_be_bytes}
 use Rattle.ax_bits.proofs.ShortNumbers.{mask_wide, taken}
-use Rattle.ax_bits.proofs.Words.{bits-append}
 use Rattle.std.specs.Prelude.{nat_le, ◌&&◌}
 use Rattle.std.specs.List.{list_all}
 use Rattle.std.proofs.lemmas.Bool.{and_parts, leb-true, or_cases}
 use Rattle.ax_bits.specs.Bits.{word, bits, AreOctets}
-use Rattle.ax_bits.proofs.Pieces.{bits-injective, take-bits, word-low, word-joined}
+use Rattle.ax_bits.proofs.Pieces.{bits-injective, take-bits, word-low}
 use Rattle.ax_model.specs.Characters.{IsName, is_name_octet}
 
 pub octets_front : (n : ℕ) (xs : List ℕ) → AreOctets xs → AreOctets (take n xs)
@@ -42,23 +42,19 @@ pub front_bits : (octets : List ℕ) (w n : ℕ) → 8 ≤ length octets → w �
 front_bits octets w n long narrow bytes e =
     let x = n / 2 ^ (64 - w) in sym (word-low w x) ∙ ap (word w) (sym (mask_wide x w narrow)) ∙ taken octets 0 w n long narrow bytes e
 
-pub front_below : (n w : ℕ) → w ≤ 64 → n < 2 ^ 64 → n / 2 ^ (64 - w) < 2 ^ w
-front_below n w le lt = shr_below n w (64 - w) (subst (λ k. n < 2 ^ k) (let e : 64 ≡ w + (64 - w) = omega (arith, le) in e) lt)
+xor_none : (a b : ℕ) → bit_xor a b ≡ 0 → a ≡ b
+xor_none a b e =
+    same_from_bits a b (λ i.
+    let sum : bit_xor a b / 2 ^ i % 2 ≡ (a / 2 ^ i % 2 + b / 2 ^ i % 2) % 2 = bit_at_xor a b i in
+    let none : bit_xor a b / 2 ^ i % 2 ≡ 0 = ap (λ n. n / 2 ^ i % 2) e ∙ bit_at-zero i in
+    omega (arith, sum, none))
 
-and_space : (text : List ℕ) → AreOctets text → AreOctets (text ++ 32 ∷ [])
-and_space [] h = (lit< tt, tt)
-and_space (x ∷ text) h = (h.0, and_space text h.1)
-
-pub short_fits : (n w : ℕ) → n < 2 ^ w → w ≤ 48 → 256 * n + 32 < 2 ^ 64
-short_fits n w lt le = let b : 2 ^ w ≤ 2 ^ 48 = pow-le-pow_right (lit< tt) le in omega (arith, lt, b)
-
--- the number of the bits of a name's n octets, and after it the octet of a space
-pub short_front : (n : ℕ) (octets padded name : List ℕ) (a b : ℕ) → AreOctets octets → IsName name → word (8 * n + 8) a ≡ take (8 * n + 8) (bits octets) → word (8 * n) b ≡ take (8 * n) (bits padded) → a ≡ 256 * b + 32 → take n padded ≡ name → octets ≡ name ++ 32 ∷ drop (n + 1) octets
-short_front n octets padded name a b h q e f same is =
-    let text = name ++ 32 ∷ [] in
-    let number : a ≡ b * 2 ^ 8 + 32 = omega (arith, same) in
-    let spelled : word (8 * n + 8) a ≡ bits text = ap (word (8 * n + 8)) number ∙ word-joined (8 * n) 8 b 32 (lit< tt) ∙ ap (λ w. w ++ word 8 32) (f ∙ take-bits n padded ∙ ap bits is) ∙ sym (bits-append name (32 ∷ [])) in
-    let size : 8 * (n + 1) ≡ 8 * n + 8 = omega arith in
-    let front : bits (take (n + 1) octets) ≡ bits text = sym (take-bits (n + 1) octets) ∙ ap (λ k. take k (bits octets)) size ∙ sym e ∙ spelled in
-    let begins : take (n + 1) octets ≡ text = bits-injective (take (n + 1) octets) text (octets_front (n + 1) octets h) (and_space name (name_octets name q.2)) front in
-    sym (take-append-drop (n + 1) octets) ∙ ap (λ k. k ++ drop (n + 1) octets) begins ∙ append_assoc name (32 ∷ []) (drop (n + 1) octets)
+-- two numbers of eight octets, a name's octets after them, that differ in no bit of the name
+pub named_front : (n : ℕ) (octets padded name : List ℕ) (a b : ℕ) → AreOctets octets → IsName name → word (8 * n) (a / 2 ^ (64 - 8 * n)) ≡ take (8 * n) (bits octets) → word (8 * n) (b / 2 ^ (64 - 8 * n)) ≡ take (8 * n) (bits padded) → bit_xor a b / 2 ^ (64 - 8 * n) ≡ 0 → take n padded ≡ name
+    → n < length octets → get_or octets n 0 ≡ 32 → octets ≡ name ++ 32 ∷ drop (n + 1) octets
+named_front n octets padded name a b h q e f none is within space =
+    let k = 64 - 8 * n in
+    let same : a / 2 ^ k ≡ b / 2 ^ k = xor_none (a / 2 ^ k) (b / 2 ^ k) (sym (xor_shr a b k) ∙ none) in
+    let front : take n octets ≡ name = same_front n octets padded name (a / 2 ^ k) (b / 2 ^ k) h q e f same is in
+    let rest : drop n octets ≡ 32 ∷ drop (n + 1) octets = drop_more octets n 0 within ∙ ap (λ x. x ∷ drop (n + 1) octets) space in
+    sym (take-append-drop n octets) ∙ (λ i. front i ++ rest i)

@@ -80,11 +80,15 @@ after_less x octets left (following, e, g) = omega (arith, ap length e, ap lengt
 pub number_goes : (old new : Place) (n : ℕ) (digits : List ℕ) → n < 2 ^ 64 → digits ≡ decimal n → Stands Word digits old.left new.left → new.level ≡ old.level → old.level ≤ 20 → Goes old new (decimal n ∷ [])
 number_goes old new n digits small is s l le = word_goes old new (decimal n) (one_word (decimal n) (decimal_word n (omega (arith, small)))) (subst (λ t. Stands Word t old.left new.left) is s) l le
 
-pub digit_goes : (old new : Place) (x n : ℕ) (following : List ℕ) → 48 ≤ x → x ≤ 57 → n ≡ x - 48 → old.left ≡ x ∷ following → AfterGap following new.left → MayFollow Word following → new.level ≡ old.level → old.level ≤ 20 → Goes old new (decimal n ∷ [])
-digit_goes old new x n following low high is e g f l le =
+-- a number, and what ends it
+pub standing_goes : (old new : Place) (n : ℕ) → n < 2 ^ 64 → Stands Word (decimal n) old.left new.left → new.level ≡ old.level → old.level ≤ 20 → Goes old new (decimal n ∷ [])
+standing_goes old new n small s l le = number_goes old new n (decimal n) small refl s l le
+
+pub digit_stands : (octets following left : List ℕ) (x n : ℕ) → 48 ≤ x → x ≤ 57 → n ≡ x - 48 → octets ≡ x ∷ following → AfterGap following left → MayFollow Word following → Stands Word (decimal n) octets left
+digit_stands octets following left x n low high is e g f =
     let back : 48 + n ≡ x = omega (arith, low, is) in
     let text : x ∷ [] ≡ decimal n = ap (λ k. k ∷ []) (sym back) ∙ sym (decimal_digit n (omega (arith, high, is))) in
-    number_goes old new n (x ∷ []) (omega (arith, high, is)) text (stands_there Word (x ∷ []) following old.left new.left e g f) l le
+    subst (λ t. Stands Word t octets left) text (stands_there Word (x ∷ []) following octets left e g f)
 
 pub digits_go : (old new : Place) (n : ℕ) (following : List ℕ) → n < 2 ^ 64 → old.left ≡ decimal n ++ following → AfterGap following new.left → MayFollow Word following → new.level ≡ old.level → old.level ≤ 20 → Goes old new (decimal n ∷ [])
 digits_go old new n following small e g f l le = number_goes old new n (decimal n) small refl (stands_there Word (decimal n) following old.left new.left e g f) l le
@@ -113,6 +117,12 @@ spaced_less name octets left e = omega (arith, ap length e, length-append name (
 
 pub ruleset short_names = (spaced_goes, spaced_less)
 
+-- a short name, and a number behind it
+pub named_number_goes : (old new : Place) (name following : List ℕ) (n : ℕ) → IsName name → old.left ≡ name ++ 32 ∷ following → n < 2 ^ 64 → Stands Word (decimal n) following new.left → new.level ≡ old.level → old.level ≤ 20 → Goes old new (name ∷ decimal n ∷ [])
+named_number_goes old new name following n is e small s l le =
+    let mid : Place = record { left = following; level = old.level } in
+    goes_both old mid new (name ∷ []) (decimal n ∷ []) (spaced_goes old mid name is e refl le) (standing_goes mid new n small s l le)
+
 pub category_goes : (old new : Place) (n : ℕ) (digits : List ℕ) → n < 256 → digits ≡ three_digits n → Stands Word digits old.left new.left → new.level ≡ old.level → old.level ≤ 20 → Goes old new (three_digits n ∷ [])
 category_goes old new n digits small is s l le = word_goes old new (three_digits n) (one_word (three_digits n) (category_word n small)) (subst (λ t. Stands Word t old.left new.left) is s) l le
 
@@ -130,9 +140,9 @@ pub ruleset words = (word_goes)
 
 pub ruleset braces = (open_goes, close_goes, after_less)
 
-pub ruleset digits = (digit_goes)
+pub ruleset named_numbers = (named_number_goes)
 
-pub ruleset numbers = (digits_go)
+pub ruleset numbers = (digits_go, standing_goes)
 
 pub ruleset categories = (category_goes)
 

@@ -1,10 +1,10 @@
 -- Bits that are laid, piece by piece.
 use Rattle.std.proofs.Common.{◌≡◌, ℕ, suc, ◌+◌, ◌-◌, ◌*◌, ◌/◌, ◌%◌, ◌^◌, ◌<◌, ◌≤◌, List, [], ◌∷◌, ◌++◌, length, take, set, refl, sym, ◌∙◌, ap, subst, arith, append_assoc, append-nil, lit<, length-take-le}
 use Rattle.std.proofs.lemmas.List.{take_more_set, take_at, take-take}
-use Rattle.std.proofs.lemmas.Nat.{shl_below, shr_below, pow_pos}
+use Rattle.std.proofs.lemmas.Nat.{shl_below, shr_below, pow_pos, mul-mod_first}
 use Rattle.std.proofs.Math.Seq.{take-append-add}
 use Rattle.std.specs.Int.{w64, to_be_bytes, bytes_high_first, byte_at}
-use Rattle.std.proofs.Math.Nat.{pow-le-pow_right, pow-suc}
+use Rattle.std.proofs.Math.Nat.{pow-le-pow_right, pow-suc, mul_assoc, mul_comm}
 use Rattle.ax_bits.specs.Bits.{word, bits}
 use Rattle.ax_bits.proofs.Pieces.{word-split, word-low, word-joined, take-bits}
 use Rattle.ax_bits.proofs.Steps.{joined_below as below_joined}
@@ -98,12 +98,12 @@ shifted_front width number stored lt is =
     ap (take (8 * q)) (whole ∙ ap (λ k. k ++ word low 0) split ∙ append_assoc (word (8 * q) (number / 2 ^ r)) (word r number) (word low 0)) ∙ take_at (word (8 * q) (number / 2 ^ r)) (word r number ++ word low 0) (8 * q) (length-word (8 * q) (number / 2 ^ r)) in
     ap (λ k. k ++ word r number) (sym (take-bits q (to_be_bytes w64 stored)) ∙ ap (take (8 * q)) (eight_bytes stored) ∙ front) ∙ sym split
 
--- a shift by one bit after another shift
-pub shifted_twice : (number width : ℕ) → width < 64 → number * 2 ^ (63 - width) % 2 ^ 64 * 2 % 2 ^ 64 ≡ number * 2 ^ (64 - width) % 2 ^ 64
+-- a shift after another by one bit
+pub shifted_twice : (number width : ℕ) → width < 64 → number * 2 % 2 ^ 64 * 2 ^ (63 - width) % 2 ^ 64 ≡ number * 2 ^ (64 - width) % 2 ^ 64
 shifted_twice number width lt =
     let size : 64 - width ≡ suc (63 - width) = omega (arith, lt) in
-    let twice : number * 2 ^ (64 - width) ≡ number * 2 ^ (63 - width) * 2 = ap (λ k. number * 2 ^ k) size ∙ ap (λ m. number * m) (pow-suc 2 (63 - width)) ∙ omega arith in
-    omega (arith, twice)
+    let twice : number * 2 * 2 ^ (63 - width) ≡ number * 2 ^ (64 - width) = mul_assoc number 2 (2 ^ (63 - width)) ∙ ap (λ m. number * m) (mul_comm 2 (2 ^ (63 - width)) ∙ sym (pow-suc 2 (63 - width)) ∙ sym (ap (λ k. 2 ^ k) size)) in
+    mul-mod_first (number * 2) (2 ^ (63 - width)) (2 ^ 64) ∙ ap (λ m. m % 2 ^ 64) twice
 
 -- after a front
 pub stored_after : (old new : List ℕ) (from width number stored : ℕ) → width < 64 → from ≤ length old → stored ≡ number * 2 ^ (64 - width) % 2 ^ 64 → take (from + 8) new ≡ take from old ++ to_be_bytes w64 stored

@@ -1,12 +1,13 @@
 -- Separators behind a token.
-use Rattle.std.proofs.Common.{◌≡◌, ℕ, true, false, List, [], ◌∷◌, ◌++◌, refl, sym, ◌∙◌, ap, subst, append_assoc}
+use Rattle.std.proofs.Common.{◌≡◌, ℕ, ◌≤◌, true, false, List, [], ◌∷◌, ◌++◌, length, drop, get_or, arith, refl, sym, ◌∙◌, ap, subst, append_assoc}
 use Rattle.std.specs.List.{list_all}
 use Rattle.std.proofs.lemmas.Bool.{and_from, and_parts}
+use Rattle.std.proofs.lemmas.List.{drop_more}
 use Rattle.ax_tokens.specs.Lexing.{MayFollow}
 use Rattle.ax_tokens.specs.Octets.{is_separator, is_word_octet}
 use Rattle.ax_tokens.specs.declared.token.TokenKind.{TokenKind}
 use Rattle.ax_tokens.specs.declared.token.TokenKind.TheVariants.{Word}
-use Rattle.ax_printed_lines.specs.Printed.{AfterGap, Stands}
+use Rattle.ax_printed_lines.specs.Printed.{AfterGap, IsAfterOctet, Stands}
 
 pub no_gap : (octets : List ℕ) → AfterGap octets octets
 no_gap octets = record { gap = []; split = refl; each = refl }
@@ -56,3 +57,10 @@ stands_there kind text following octets left e g f = record {
 }
 
 pub ruleset stands = (stands_there)
+
+-- an octet, and one space behind it
+pub spaced_octet : (octets : List ℕ) (x : ℕ) → 3 ≤ length octets → get_or octets 0 0 ≡ x → get_or octets 1 0 ≡ 32 → IsAfterOctet x octets (drop 2 octets)
+spaced_octet octets x within is space =
+    let first : octets ≡ x ∷ drop 1 octets = drop_more octets 0 0 (omega (arith, within)) ∙ ap (λ k. k ∷ drop 1 octets) is in
+    let second : drop 1 octets ≡ get_or octets 1 0 ∷ drop 2 octets = drop_more octets 1 0 (omega (arith, within)) in
+    (drop 1 octets, first, space_gap (drop 1 octets) (drop 2 octets) (get_or octets 1 0) second space)

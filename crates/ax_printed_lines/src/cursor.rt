@@ -6,9 +6,9 @@ ghost use Rattle.ax_bits.specs.Bits.{AreOctets};
 ghost use Rattle.hex.specs.Hex.{encode_lower};
 ghost use Rattle.ax_printed_lines.specs.Printed.{Place, AfterGap, IsAfterOctet, IsOneWord, Goes};
 
-use crate::gaps::{after_gap, after_space, after_word, split_word};
-use crate::names::{FrontWord, after_short_name, are_same, begins_with};
-use crate::numbers::number_in_front;
+use crate::gaps::{after_gap, after_separators, after_spaced, after_word, split_word};
+use crate::names::{FrontWord, after_short_name, after_spaced_name, are_same, begins_with};
+use crate::numbers::{number_in_front, spaced_number};
 use ax_block_reader::{category_of, unquoted};
 use ax_model::Name;
 use std::marker::Model;
@@ -124,8 +124,11 @@ impl<'t> Cursor<'t> {
     fn following(&self, octet: u8) -> Option<&'t [u8]>
         ensures { IfSome result (λ later. IsAfterOctet octet self.now.left later.now) }
     {
+        if let Some(later) = after_spaced(self.rest, octet) {
+            return Some(later);
+        }
         match self.rest.split_first() {
-            Some((first, following)) if *first == octet => Some(after_gap(following)),
+            Some((first, following)) if *first == octet => Some(after_separators(following)),
             _ => None,
         }
     }
@@ -176,20 +179,18 @@ impl<'t> Cursor<'t> {
         }
     }
 
-    /// The number of one digit that comes, with one space behind it, as most are. It is read if there is one.
+    /// The number behind that name, where both come, a short one each, with one space behind each, as mostly in groups. They are read
+    /// if so.
     #[inline(always)]
-    #[tactic(auto, using(crate::proofs::Going::digits))]
-    fn digit(&mut self) -> Option<u64>
-        ensures some { IfSome result (λ n. Goes self.old self.new (decimal n ∷ [])) }
+    #[tactic(auto, using(crate::proofs::Going::named_numbers))]
+    pub fn named_number(&mut self, name: &Name) -> Option<u64>
+        ensures some { IfSome result (λ n. Goes self.old self.new (name.now ∷ decimal n ∷ [])) }
         ensures none { IfNone result (self.new ≡ self.old) }
     {
-        let (first, following) = self.rest.split_first()?;
-        if *first < b'0' || *first > b'9' {
-            return None;
-        }
-        let later = after_space(following)?;
+        let following = after_spaced_name(self.rest, name)?;
+        let (number, later) = spaced_number(following)?;
         self.rest = later;
-        Some(u64::from(*first - b'0'))
+        Some(number)
     }
 
     /// The number of at most 19 digits that comes. It is read if there is one.
@@ -198,9 +199,18 @@ impl<'t> Cursor<'t> {
     pub fn number(&mut self) -> Option<u64>
         ensures { IfSome result (λ n. Goes self.old self.new (decimal n ∷ [])) }
     {
-        if let Some(number) = self.digit() {
-            return Some(number);
+        if let Some(found) = spaced_number(self.rest) {
+            self.rest = found.1;
+            return Some(found.0);
         }
+        self.any_number()
+    }
+
+    // The same, whatever stands behind the number, and of any number of digits.
+    #[tactic(auto, using(crate::proofs::Going::numbers))]
+    fn any_number(&mut self) -> Option<u64>
+        ensures { IfSome result (λ n. Goes self.old self.new (decimal n ∷ [])) }
+    {
         let (number, following) = number_in_front(self.rest)?;
         let later = after_word(following)?;
         self.rest = later;

@@ -12,7 +12,7 @@ ghost use Rattle.ax_printed_lines.specs.Printed.{IsBuilt, member_canon};
 
 use crate::cursor::Cursor;
 use crate::laid::Laid;
-use crate::pieces::{fx_built, last_fx_built, number_built};
+use crate::pieces::{fx_built, last_fx_built, number_built, number_laid};
 use ax_model::{Fixed, LastPart, Member, Members, Part, Parts};
 
 /// The value of a fixed kind that comes is read, and its bits are laid.
@@ -42,6 +42,11 @@ fn member_built(cursor: &mut Cursor<'_>, member: &Member, out: &mut Laid<'_>) ->
 {
     match member {
         Member::Named { name, fixed } => {
+            if let Fixed::Element { width, .. } = fixed
+                && let Some(number) = cursor.named_number(name)
+            {
+                return number_laid(number, *width, out);
+            }
             if !cursor.takes_name(name) {
                 return None;
             }

@@ -3,7 +3,7 @@ ghost use Rattle.std.specs.Prelude.{◌≡◌, length, IfSome};
 ghost use Rattle.ax_tokens.specs.Octets.{is_separator, is_word_octet};
 ghost use Rattle.ax_tokens.specs.Lexing.{MayFollow};
 ghost use Rattle.ax_tokens.specs.declared.token.TokenKind.TheVariants.{Word};
-ghost use Rattle.ax_printed_lines.specs.Printed.{AfterGap, Stands};
+ghost use Rattle.ax_printed_lines.specs.Printed.{AfterGap, IsAfterOctet, Stands};
 
 /// Space, tab, carriage return or line feed.
 #[inline(always)]
@@ -39,6 +39,17 @@ pub fn after_space(octets: &[u8]) -> Option<&[u8]>
     Some(following)
 }
 
+/// What comes after that octet in front and one space behind it, where a token follows, as mostly behind braces.
+#[inline(always)]
+pub fn after_spaced(octets: &[u8], octet: u8) -> Option<&[u8]>
+    ensures { IfSome result (λ left. IsAfterOctet octet octets.now left.now) }
+{
+    if octets.len() < 3 || octets[0] != octet || octets[1] != b' ' || octets[2] <= b' ' {
+        return None;
+    }
+    Some(&octets[2..])
+}
+
 /// What comes after the separators in front.
 #[inline(always)]
 pub fn after_gap(octets: &[u8]) -> &[u8]
@@ -51,8 +62,9 @@ pub fn after_gap(octets: &[u8]) -> &[u8]
 }
 
 /// The same, separator by separator.
+#[inline(never)]
 #[tactic(auto, using(crate::proofs::Separators::gaps))]
-fn after_separators(octets: &[u8]) -> &[u8]
+pub fn after_separators(octets: &[u8]) -> &[u8]
     ensures { AfterGap octets.now result.now }
 {
     let mut left = octets;

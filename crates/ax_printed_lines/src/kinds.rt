@@ -60,6 +60,18 @@ pub fn kind_built(cursor: &mut Cursor<'_>, kind: &Kind, out: &mut Laid<'_>) -> O
     }
 }
 
+/// The same, where a fixed kind, as most are, takes no call of this.
+#[inline(always)]
+pub fn value_built(cursor: &mut Cursor<'_>, kind: &Kind, out: &mut Laid<'_>) -> Option<()>
+    requires { InBounds (kind_tree kind.now) }
+    ensures { IfSome result (λ done. IsBuilt (Shape (kind_tree kind.now)) (λ v. kind_onto (kind_tree kind.now) v []) (canon (kind_tree kind.now)) cursor.old cursor.new out.old out.new) }
+{
+    match kind {
+        Kind::Fixed(fixed) => fixed_built(cursor, fixed, out),
+        _ => kind_built(cursor, kind, out),
+    }
+}
+
 /// The values of a counted or wide item, and the brace after them. They are laid behind room for REP, which is written once they
 /// are there.
 #[cycle(kind_built)]

@@ -63,8 +63,8 @@ fn lay_octets(buffer: &mut [u8], from: usize, number: u64, width: u32) -> Option
     if buffer.len() - from < 8 {
         return lay_each(buffer, from, number, width);
     }
-    // A shift by 64 is none in Rust.
-    store_eight(buffer, from, number << (63 - width) << 1);
+    // A shift by 64 is none in Rust. Where the shift by one bit comes last, turning the octets round takes 30 instructions more.
+    store_eight(buffer, from, number << 1 << (63 - width));
     Some((from + (width / 8) as usize, width % 8))
 }
 

@@ -1,5 +1,5 @@
 //! Names and words at the front of octets.
-ghost use Rattle.std.specs.Prelude.{◌≡◌, ◌+◌, ◌^◌, ◌<◌, ◌≤◌, ◌∷◌, ◌++◌, length, take, IsTrue, IfSome};
+ghost use Rattle.std.specs.Prelude.{◌≡◌, ℕ, ◌+◌, ◌-◌, ◌*◌, ◌/◌, ◌^◌, ◌≤◌, ◌∷◌, ◌++◌, length, take, IsTrue, IfSome};
 ghost use Rattle.ax_bits.specs.Bits.{word, bits};
 ghost use Rattle.ax_model.specs.Characters.{IsName};
 
@@ -90,24 +90,20 @@ impl FrontWord {
     }
 }
 
-/// The number that the first bits spell.
+/// The number of the first eight octets, the first of which is the highest.
 #[inline(always)]
-fn front_number(octets: &[u8], width: u32) -> u64
-    requires width { (1 ≤ width) × (width ≤ 56) }
-    requires within { 8 ≤ length octets.now }
-    ensures number { word width result ≡ take width (bits octets.now) }
-    ensures below { result < 2 ^ width }
+fn eight_in_front(octets: &[u8]) -> u64
+    requires { 8 ≤ length octets.now }
+    ensures { (w : ℕ) → w ≤ 56 → word w (result / 2 ^ (64 - w)) ≡ take w (bits octets.now) }
 {
-    let number = u64::from_be_bytes([
+    u64::from_be_bytes([
         octets[0], octets[1], octets[2], octets[3], octets[4], octets[5], octets[6], octets[7],
-    ]);
-    number >> (64 - width)
+    ])
 }
 
-/// What comes after a name of at most six octets in front and one space behind it, where a token follows, as mostly behind names. None
-/// comes for any other.
+/// What comes after a name of at most six octets in front and one space behind it, as mostly behind names. None comes for any other.
 #[inline(always)]
-pub fn after_short_name<'t>(octets: &'t [u8], name: &Name) -> Option<&'t [u8]>
+pub fn after_spaced_name<'t>(octets: &'t [u8], name: &Name) -> Option<&'t [u8]>
     ensures stands { IfSome result (λ left. octets.now ≡ name.now ++ 32 ∷ left.now) }
     ensures name { IfSome result (λ left. IsName name.now) }
 {
@@ -115,12 +111,25 @@ pub fn after_short_name<'t>(octets: &'t [u8], name: &Name) -> Option<&'t [u8]>
     if count > SHORT || octets.len() < 8 {
         return None;
     }
-    let width = 8 * count as u32;
-    let wanted = 256 * front_number(name.padded(), width) + 32;
-    if front_number(octets, width + 8) != wanted || octets[count + 1] <= b' ' {
+    let differing = eight_in_front(octets) ^ eight_in_front(name.padded());
+    if differing >> (64 - 8 * count) != 0 || octets[count] != b' ' {
         return None;
     }
     Some(&octets[count + 1..])
+}
+
+/// The same where a token follows.
+#[inline(always)]
+pub fn after_short_name<'t>(octets: &'t [u8], name: &Name) -> Option<&'t [u8]>
+    ensures stands { IfSome result (λ left. octets.now ≡ name.now ++ 32 ∷ left.now) }
+    ensures name { IfSome result (λ left. IsName name.now) }
+{
+    let left = after_spaced_name(octets, name)?;
+    let next = left.first()?;
+    if *next <= b' ' {
+        return None;
+    }
+    Some(left)
 }
 
 /// Whether the octets are the same. Words are short, so that octet by octet is quickest.

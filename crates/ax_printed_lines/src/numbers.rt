@@ -1,5 +1,9 @@
 //! Numbers in decimal at the front of octets.
 ghost use Rattle.std.specs.Prelude.{◌≡◌, ◌<◌, ◌^◌, ◌++◌, decimal, IfSome};
+ghost use Rattle.ax_tokens.specs.declared.token.TokenKind.TheVariants.{Word};
+ghost use Rattle.ax_printed_lines.specs.Printed.{Stands};
+
+use crate::gaps::after_space;
 
 /// A number of so many digits is below 2^64, whatever they are.
 const MOST_DIGITS: usize = 19;
@@ -22,4 +26,42 @@ pub fn number_in_front(octets: &[u8]) -> Option<(u64, &[u8])>
         return None;
     }
     Some((number, &octets[count..]))
+}
+
+/// The number of one digit in front, as most are, and what comes after one space behind it, where a token follows.
+#[inline(always)]
+fn spaced_digit(octets: &[u8]) -> Option<(u64, &[u8])>
+    ensures number { IfSome result (λ found. Stands Word (decimal found.0) octets.now found.1.now) }
+    ensures below { IfSome result (λ found. found.0 < 2 ^ 64) }
+{
+    let (first, following) = octets.split_first()?;
+    if *first < b'0' || *first > b'9' {
+        return None;
+    }
+    let left = after_space(following)?;
+    Some((u64::from(*first - b'0'), left))
+}
+
+/// The number of at most 19 digits in front, and what comes after one space behind it, where a token follows, as mostly behind numbers.
+/// None comes for any other.
+#[inline(always)]
+pub fn spaced_number(octets: &[u8]) -> Option<(u64, &[u8])>
+    ensures number { IfSome result (λ found. Stands Word (decimal found.0) octets.now found.1.now) }
+    ensures below { IfSome result (λ found. found.0 < 2 ^ 64) }
+{
+    if let Some(found) = spaced_digit(octets) {
+        return Some(found);
+    }
+    longer_number(octets)
+}
+
+// The same, whatever the number of digits. A loop in the place of the call would take registers from what reads one digit.
+#[inline(never)]
+fn longer_number(octets: &[u8]) -> Option<(u64, &[u8])>
+    ensures number { IfSome result (λ found. Stands Word (decimal found.0) octets.now found.1.now) }
+    ensures below { IfSome result (λ found. found.0 < 2 ^ 64) }
+{
+    let (number, following) = number_in_front(octets)?;
+    let left = after_space(following)?;
+    Some((number, left))
 }

@@ -42,7 +42,7 @@ pub fn number_built(cursor: &mut Cursor<'_>, width: u32, out: &mut Laid<'_>) -> 
 
 /// Lays a number of that many bits. None comes where it has more.
 #[inline(always)]
-fn number_laid(number: u64, width: u32, out: &mut Laid<'_>) -> Option<()>
+pub fn number_laid(number: u64, width: u32, out: &mut Laid<'_>) -> Option<()>
     requires { IsWidth width }
     ensures { IfSome result (λ done. (number < 2 ^ width) × Lays out.old out.new (word width number)) }
 {

@@ -13,7 +13,7 @@ ghost use Rattle.ax_text.specs.ValueText.{closing, entries_onto};
 ghost use Rattle.ax_printed_lines.specs.Printed.{IsBuilt, IsAfterOctet, AreSlots, BuildsSlot, HasMarks, AreRecords};
 
 use crate::cursor::Cursor;
-use crate::kinds::kind_built;
+use crate::kinds::value_built;
 use crate::laid::Laid;
 use crate::names::FrontWord;
 use crate::pieces::{field_filled, field_room};
@@ -44,7 +44,7 @@ fn item_built(
         return Some(false);
     }
     let item = items.item(frn)?;
-    kind_built(cursor, &item.kind, out)?;
+    value_built(cursor, &item.kind, out)?;
     Some(true)
 }
 
@@ -66,6 +66,7 @@ fn slot_of(slots: &[UapSlot], from: usize, word: FrontWord) -> Option<usize>
 
 /// The entries of a record, and the brace after them. It answers which slots they are of. The slots between two entries are passed
 /// over by their names' numbers, and after the last entry no slot is looked at.
+#[inline(never)]
 fn items_built(
     cursor: &mut Cursor<'_>,
     items: &UapItems<'_>,

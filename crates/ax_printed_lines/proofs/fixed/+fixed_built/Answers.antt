@@ -3,7 +3,7 @@ use Rattle.std.proofs.Common.{◌≡◌, ◌<◌, ◌≤◌, ℕ, length, get_or
 use Rattle.std.proofs.lemmas.Option.{IfSome_then}
 use Rattle.ax_model.proofs.kind.Member.TheLaws.{the_size}
 use Rattle.ax_model.specs.Plain.{members_tree}
-use Rattle.ax_printed_lines.proofs.FixedBuilt.{element_built, group_built, named_built, spare_built, members_first, member_bounds, member_next, members_done}
+use Rattle.ax_printed_lines.proofs.FixedBuilt.{element_built, group_built, named_built, named_number_built, spare_built, members_first, member_bounds, member_next, members_done}
 use Rattle.ax_printed_lines.proofs.fixed.+fixed_built.Goals as goal
 
 pub fixed_built-returns-in-Element : goal.fixed_built-returns-in-Element
@@ -13,6 +13,11 @@ fixed_built-returns-in-Element t c =
 pub fixed_built-returns-else-not-opens : goal.fixed_built-returns-else-not-opens
 fixed_built-returns-else-not-opens t c =
     IfSome_then c.members_built.result c.members_built.ensures (λ done. group_built c.args.fixed.now c.in-Group.members c.args.cursor.now c.opens.new.self c.members_built.new.cursor c.args.out.now c.members_built.new.out c.in-Group.is (search rules))
+
+pub member_built-returns-in-Named : goal.member_built-returns-in-Named
+member_built-returns-in-Named t c =
+    IfSome_then c.number_laid.result c.number_laid.ensures (λ done h.
+    named_number_built c.args.member.now c.in-Named.name c.in-Named.fixed c.in-Element.width c.in-Element.content c.in-Some.number c.args.cursor.now c.named_number.new.self c.args.out.now c.number_laid.new.out c.in-Named.is c.in-Element.is c.in-Some.ensures.some h.0 h.1)
 
 pub member_built-returns-else-not-takes_name : goal.member_built-returns-else-not-takes_name
 member_built-returns-else-not-takes_name t c =

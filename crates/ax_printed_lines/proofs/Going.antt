@@ -1,8 +1,8 @@
 -- Single texts that are read.
-use Rattle.std.proofs.Common.{◌≡◌, ℕ, ◌+◌, ◌-◌, ◌<◌, ◌≤◌, ◌^◌, List, [], ◌∷◌, ◌++◌, length, take, refl, sym, ◌∙◌, ap, subst, arith, append_assoc, length-append}
+use Rattle.std.proofs.Common.{◌≡◌, ℕ, ◌+◌, ◌-◌, ◌<◌, ◌≤◌, ◌^◌, List, [], ◌∷◌, ◌++◌, length, take, drop, get_or, refl, sym, ◌∙◌, ap, subst, arith, append_assoc, length-append}
 use Rattle.std.specs.Prelude.{decimal}
 use Rattle.std.proofs.lemmas.Fmt.{decimal_digit}
-use Rattle.std.proofs.lemmas.List.{take_at}
+use Rattle.std.proofs.lemmas.List.{take_at, drop_more}
 use Rattle.hex.specs.Hex.{encode_lower}
 use Rattle.ax_bits.specs.Bits.{AreOctets}
 use Rattle.ax_tokens.specs.Octets.{quote}
@@ -92,6 +92,16 @@ digit_stands octets following left x n low high is e g f =
 
 pub digits_go : (old new : Place) (n : ℕ) (following : List ℕ) → n < 2 ^ 64 → old.left ≡ decimal n ++ following → AfterGap following new.left → MayFollow Word following → new.level ≡ old.level → old.level ≤ 20 → Goes old new (decimal n ∷ [])
 digits_go old new n following small e g f l le = number_goes old new n (decimal n) small refl (stands_there Word (decimal n) following old.left new.left e g f) l le
+
+-- a digit, and one space behind it
+pub spaced_digit_stands : (octets : List ℕ) (n : ℕ) → 3 ≤ length octets → 48 ≤ get_or octets 0 0 → get_or octets 0 0 ≤ 57 → n ≡ get_or octets 0 0 - 48 → get_or octets 1 0 ≡ 32 → Stands Word (decimal n) octets (drop 2 octets)
+spaced_digit_stands octets n within low high is space =
+    let x = get_or octets 0 0 in
+    let y = get_or octets 1 0 in
+    let following = drop 1 octets in
+    let first : octets ≡ x ∷ following = drop_more octets 0 0 (omega (arith, within)) in
+    let second : following ≡ y ∷ drop 2 octets = drop_more octets 1 0 (omega (arith, within)) in
+    digit_stands octets following (drop 2 octets) x n low high is first (space_gap following (drop 2 octets) y second space) (space_ends following (drop 2 octets) y second space)
 
 -- ---- a name
 

@@ -34,12 +34,14 @@ fn spaced_digit(octets: &[u8]) -> Option<(u64, &[u8])>
     ensures number { IfSome result (λ found. Stands Word (decimal found.0) octets.now found.1.now) }
     ensures below { IfSome result (λ found. found.0 < 2 ^ 64) }
 {
-    let (first, following) = octets.split_first()?;
-    if *first < b'0' || *first > b'9' {
+    if octets.len() < 3 || octets[1] != b' ' || octets[2] <= b' ' {
         return None;
     }
-    let left = after_space(following)?;
-    Some((u64::from(*first - b'0'), left))
+    let digit = octets[0];
+    if digit < b'0' || digit > b'9' {
+        return None;
+    }
+    Some((u64::from(digit - b'0'), &octets[2..]))
 }
 
 /// The number of at most 19 digits in front, and what comes after one space behind it, where a token follows, as mostly behind numbers.

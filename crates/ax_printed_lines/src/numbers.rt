@@ -19,7 +19,8 @@ pub fn number_in_front(octets: &[u8]) -> Option<(u64, &[u8])>
     let mut number: u64 = 0;
     let mut count = 0;
     while count < most && octets[count] >= b'0' && octets[count] <= b'9' {
-        number = 10 * number + u64::from(octets[count] - b'0');
+        // The octet of a zero is 48.
+        number = 10 * number + (u64::from(octets[count]) - 48);
         count += 1;
     }
     if count == 0 || (count > 1 && octets[0] == b'0') {

@@ -17,7 +17,7 @@ overflow_add-number c =
 
 pub loop-count-preserved : goal.loop-count-preserved
 loop-count-preserved c = record {
-  digits = digit_more c.args.octets.now c.loop-count.count c.loop-count.number c.from.result c.loop-count.invariant.digits (omega arith) (omega arith) (omega arith) (omega arith) (omega arith);
+  digits = digit_more c.args.octets.now c.loop-count.count c.loop-count.number (c.from.result - 48) c.loop-count.invariant.digits (omega arith) (omega arith) (omega arith) (omega arith) (omega arith);
   few = omega arith;
 }
 

@@ -179,8 +179,8 @@ impl<'t> Cursor<'t> {
         }
     }
 
-    /// The number behind that name, where both come, a short one each, with one space behind each, as mostly in groups. They are read
-    /// if so.
+    /// The number of at most 19 digits behind that name of at most six octets, where both come with one space behind each, as mostly in
+    /// groups. They are read if so.
     #[inline(always)]
     #[tactic(auto, using(crate::proofs::Going::named_numbers))]
     pub fn named_number(&mut self, name: &Name) -> Option<u64>

@@ -63,7 +63,7 @@ fn lay_octets(buffer: &mut [u8], from: usize, number: u64, width: u32) -> Option
     if buffer.len() - from < 8 {
         return lay_each(buffer, from, number, width);
     }
-    // A shift by 64 is none in Rust. Where the shift by one bit comes last, turning the octets round takes 30 instructions more.
+    // A shift by 64 is none in Rust. Where the shift by one bit comes last, the compiler turns the octets round one by one.
     store_eight(buffer, from, number << 1 << (63 - width));
     Some((from + (width / 8) as usize, width % 8))
 }

@@ -1,6 +1,6 @@
 //! How much is asked of a record. It decides how the record is asked, and not what is answered.
 
-use crate::plan::{Plan, Plans};
+use crate::plan::{CategoryPlans, Plan, Plans};
 use crate::test::{Test, Tests};
 
 /// Up to so many tests each find their item by a walk over the items before it. To find all items of a record takes about
@@ -48,4 +48,13 @@ pub fn asking(plan: &Plan) -> u32 {
         Plan::Not { plan } => asking(plan),
         Plan::Several { plans, .. } => each_asking(plans),
     }
+}
+
+/// The questions that all plans ask, each as often as they do, counted up to 2^32 - 1.
+pub fn asking_in_all(plans: &CategoryPlans) -> u32 {
+    let mut count: u32 = 0;
+    for plan in plans.as_slice() {
+        count = count.saturating_add(plan.asking);
+    }
+    count
 }

@@ -1,10 +1,10 @@
 //! What a plan says of a record. Nothing here takes memory.
-ghost use Rattle.std.specs.Prelude.{◌≡◌, IfSome};
+ghost use Rattle.std.specs.Prelude.{◌≡◌};
 ghost use Rattle.ax_filter.specs.Memos.{Recalls};
 ghost use Rattle.ax_filter.specs.Plans.{asks, finds, level_says, plan_tree, says, wanted};
 
 use crate::comparing::compares_as;
-use crate::memo::{Asked, Memo, found_under};
+use crate::memo::{Answer, Asked, found_once};
 use crate::places::HasPlaces;
 use crate::plan::{Found, Plan, Plans, Want};
 use crate::slot_sets::{has_slot, meets};
@@ -31,22 +31,22 @@ fn is_wanted(want: Want, found: Found) -> bool
 /// What the plan of a question says.
 #[inline(always)]
 #[tactic(auto, using(crate::proofs::PlanTrees::answering))]
-fn answers<R: HasPlaces>(
+fn question_says<R: HasPlaces>(
     one: &Asked<'_, R>,
     slot: u32,
     question: u32,
     want: Want,
-    memo: &mut Option<Memo>,
+    answers: &mut [Answer],
 ) -> bool
     requires sound { R.sound one.now.record.now }
-    requires memo { IfSome memo.old (Recalls (finds one.now.questions.now (R.entries one.now.record.now))) }
+    requires answers { Recalls (finds one.now.questions.now (R.entries one.now.record.now)) one.now.number answers.old }
     ensures said { result ≡ says one.now.marked (finds one.now.questions.now (R.entries one.now.record.now)) (asks slot question want) }
-    ensures memo { IfSome memo.new (Recalls (finds one.now.questions.now (R.entries one.now.record.now))) }
+    ensures answers { Recalls (finds one.now.questions.now (R.entries one.now.record.now)) one.now.number answers.new }
 {
     if !has_slot(&one.marked, slot) {
         return false;
     }
-    match found_under(one, question, memo) {
+    match found_once(one, question, answers) {
         Some(found) => is_wanted(want, found),
         None => false,
     }
@@ -56,20 +56,20 @@ fn answers<R: HasPlaces>(
 #[cycle(deciding)]
 #[inline(always)]
 #[tactic(auto, using(crate::proofs::PlanTrees::deciding))]
-fn member_says<R: HasPlaces>(plan: &Plan, one: &Asked<'_, R>, memo: &mut Option<Memo>) -> bool
+fn member_says<R: HasPlaces>(plan: &Plan, one: &Asked<'_, R>, answers: &mut [Answer]) -> bool
     requires sound { R.sound one.now.record.now }
-    requires memo { IfSome memo.old (Recalls (finds one.now.questions.now (R.entries one.now.record.now))) }
+    requires answers { Recalls (finds one.now.questions.now (R.entries one.now.record.now)) one.now.number answers.old }
     ensures said { result ≡ says one.now.marked (finds one.now.questions.now (R.entries one.now.record.now)) (plan_tree plan.now) }
-    ensures memo { IfSome memo.new (Recalls (finds one.now.questions.now (R.entries one.now.record.now))) }
+    ensures answers { Recalls (finds one.now.questions.now (R.entries one.now.record.now)) one.now.number answers.new }
 {
     match plan {
         Plan::Asks {
             slot,
             question,
             want,
-        } => answers(one, *slot, *question, *want, memo),
+        } => question_says(one, *slot, *question, *want, answers),
         Plan::Several { asked, absent, .. } if !meets(asked, &one.marked) => *absent,
-        _ => says(plan, one, memo),
+        _ => says(plan, one, answers),
     }
 }
 
@@ -80,15 +80,15 @@ fn many_say<R: HasPlaces>(
     plans: &Plans,
     all: bool,
     one: &Asked<'_, R>,
-    memo: &mut Option<Memo>,
+    answers: &mut [Answer],
 ) -> bool
     requires sound { R.sound one.now.record.now }
-    requires memo { IfSome memo.old (Recalls (finds one.now.questions.now (R.entries one.now.record.now))) }
+    requires answers { Recalls (finds one.now.questions.now (R.entries one.now.record.now)) one.now.number answers.old }
     ensures said { result ≡ level_says all plans.now one.now.marked (finds one.now.questions.now (R.entries one.now.record.now)) }
-    ensures memo { IfSome memo.new (Recalls (finds one.now.questions.now (R.entries one.now.record.now))) }
+    ensures answers { Recalls (finds one.now.questions.now (R.entries one.now.record.now)) one.now.number answers.new }
 {
     for plan in plans.as_slice() {
-        if member_says(plan, one, memo) != all {
+        if member_says(plan, one, answers) != all {
             return !all;
         }
     }
@@ -98,11 +98,11 @@ fn many_say<R: HasPlaces>(
 /// What a plan says of a record.
 #[cycle(deciding)]
 #[tactic(auto, using(crate::proofs::PlanTrees::deciding))]
-pub fn says<R: HasPlaces>(plan: &Plan, one: &Asked<'_, R>, memo: &mut Option<Memo>) -> bool
+pub fn says<R: HasPlaces>(plan: &Plan, one: &Asked<'_, R>, answers: &mut [Answer]) -> bool
     requires sound { R.sound one.now.record.now }
-    requires memo { IfSome memo.old (Recalls (finds one.now.questions.now (R.entries one.now.record.now))) }
+    requires answers { Recalls (finds one.now.questions.now (R.entries one.now.record.now)) one.now.number answers.old }
     ensures said { result ≡ says one.now.marked (finds one.now.questions.now (R.entries one.now.record.now)) (plan_tree plan.now) }
-    ensures memo { IfSome memo.new (Recalls (finds one.now.questions.now (R.entries one.now.record.now))) }
+    ensures answers { Recalls (finds one.now.questions.now (R.entries one.now.record.now)) one.now.number answers.new }
 {
     match plan {
         Plan::Always { holds } => *holds,
@@ -110,8 +110,8 @@ pub fn says<R: HasPlaces>(plan: &Plan, one: &Asked<'_, R>, memo: &mut Option<Mem
             slot,
             question,
             want,
-        } => answers(one, *slot, *question, *want, memo),
-        Plan::Not { plan } => !says(plan, one, memo),
+        } => question_says(one, *slot, *question, *want, answers),
+        Plan::Not { plan } => !says(plan, one, answers),
         Plan::Several {
             all,
             asked,
@@ -121,7 +121,7 @@ pub fn says<R: HasPlaces>(plan: &Plan, one: &Asked<'_, R>, memo: &mut Option<Mem
             if !meets(asked, &one.marked) {
                 return *absent;
             }
-            many_say(plans, *all, one, memo)
+            many_say(plans, *all, one, answers)
         }
     }
 }

@@ -22,7 +22,7 @@ pub struct Filter<'c> {
     pub(crate) count: u32,
     /// What the plans ask, by the numbers under which they do.
     pub(crate) questions: Questions,
-    /// By category, what the test asks of its records; none where there are few tests.
+    /// By category, what the test asks of its records; none where there are few tests and no two ask the same.
     pub(crate) plans: CategoryPlans,
     ghost same: { (category : ℕ) (r : EntriesTree) → passes category r (test_tree test) ≡ holds (catalogue_tree catalogue.now) category r (expr_tree expr) },
     ghost planned: { PlanEach questions plans test },

@@ -1,10 +1,11 @@
 //! What a filter says of a record.
-ghost use Rattle.std.specs.Prelude.{◌≡◌, ◌<◌, length};
+ghost use Rattle.std.specs.Prelude.{◌≡◌, ℕ, Option};
 ghost use Rattle.ax_model.specs.Plain.{record_tree};
 ghost use Rattle.ax_filter.specs.Meaning.{holds};
+ghost use Rattle.ax_filter.specs.Memos.{NoneLater, Recalls};
 ghost use Rattle.ax_filter.specs.OfCode.{expression, catalogue_of};
 ghost use Rattle.ax_filter.specs.Plans.{finds, plan_tree, says};
-ghost use Rattle.ax_view.specs.Placing.{IsPlaced, placed_entries};
+ghost use Rattle.ax_filter.specs.declared.plan.Found.{Found};
 ghost use Rattle.ax_view.specs.Shown.{record_entries};
 
 use crate::asking::FEW;
@@ -12,65 +13,27 @@ use crate::deciding::says;
 use crate::filter::Filter;
 use crate::grouping::{asked_by, said_of_none};
 use crate::marks::marked_slots;
-use crate::memo::{Asked, Memo};
+use crate::memo::{Answer, Asked, Memo};
 use crate::passing::passes;
-use crate::plan::{CategoryPlan, Plan, Question};
+use crate::plan::{CategoryPlan, Plan};
 use crate::slot_sets::meets;
-use ax_fspec::Presence;
 use ax_model::{Record, Spec};
 use ax_tables::Codec;
 use ax_view::{Notes, PlacedSlots, Places, RecordView, place_record};
+use std::alloc::{AllocError, Global};
 
-/// What a plan says of a record, each item found by a walk over those before it.
-fn says_by_walks(
-    plan: &CategoryPlan,
-    questions: &[Question],
-    marked: Presence,
-    one: &RecordView<'_, '_>,
-) -> bool
-    ensures { result ≡ says marked (finds questions.now (record_entries one.now)) (plan_tree plan.now.plan) }
-{
-    let asked = Asked {
-        record: one,
-        marked,
-        questions,
-    };
-    let mut memo = None;
-    says(&plan.plan, &asked, &mut memo)
-}
-
-/// What a plan says of a record of which it is known where each item stands; what questions find is kept.
-fn says_among(
-    plan: &CategoryPlan,
-    questions: &[Question],
-    marked: Presence,
-    one: &PlacedSlots<'_, '_, '_>,
-) -> bool
-    requires placed { IsPlaced one.now }
-    requires questions { length questions.now < 4294967296 }
-    ensures { result ≡ says marked (finds questions.now (placed_entries one.now)) (plan_tree plan.now.plan) }
-{
-    let asked = Asked {
-        record: one,
-        marked,
-        questions,
-    };
-    let mut memo = Some(Memo::new());
-    says(&plan.plan, &asked, &mut memo)
-}
-
-/// The same of a record under that codec, its items found in one walk.
+/// What a plan says of a record under that codec, its items found in one walk.
 fn says_by_places(
     plan: &CategoryPlan,
-    questions: &[Question],
-    marked: Presence,
     codec: &Codec,
-    one: &RecordView<'_, '_>,
+    one: &Asked<'_, RecordView<'_, '_>>,
+    answers: &mut [Answer],
 ) -> bool
-    requires questions { length questions.now < 4294967296 }
-    ensures { one.now.codec.now ≡ codec.now → result ≡ says marked (finds questions.now (record_entries one.now)) (plan_tree plan.now.plan) }
+    requires { (found : ℕ → Option Found) → Recalls found one.now.number answers.old }
+    ensures said { one.now.record.now.codec.now ≡ codec.now → result ≡ says one.now.marked (finds one.now.questions.now (record_entries one.now.record.now)) (plan_tree plan.now.plan) }
+    ensures answers { NoneLater one.now.number answers.new }
 {
-    let body = one.octets();
+    let body = one.record.octets();
     let mut notes = Notes::new();
     let mut places = Places::new();
     match place_record(codec, body, 0, &mut notes, &mut places) {
@@ -82,31 +45,37 @@ fn says_by_places(
                 at: 0,
                 places: &places,
             };
-            says_among(plan, questions, marked, &items)
+            let asked = Asked {
+                record: &items,
+                marked: one.marked,
+                number: one.number,
+                questions: one.questions,
+            };
+            says(&plan.plan, &asked, answers)
         }
-        None => says_by_walks(plan, questions, marked, one),
+        None => says(&plan.plan, one, answers),
     }
 }
 
-/// The same: where none of the items is there that the plan asks, by the marked slots alone; where more than a few tests ask, by the
-/// places of all items.
+/// The same: where none of the items is there that the plan asks, by the marked slots alone; where a few tests ask, each item found by
+/// a walk over those before it; else by the places of all items.
 fn says_of(
     plan: &CategoryPlan,
-    questions: &[Question],
-    marked: Presence,
     codec: &Codec,
-    one: &RecordView<'_, '_>,
+    one: &Asked<'_, RecordView<'_, '_>>,
+    answers: &mut [Answer],
 ) -> bool
-    requires questions { length questions.now < 4294967296 }
-    ensures { one.now.codec.now ≡ codec.now → result ≡ says marked (finds questions.now (record_entries one.now)) (plan_tree plan.now.plan) }
+    requires { (found : ℕ → Option Found) → Recalls found one.now.number answers.old }
+    ensures said { one.now.record.now.codec.now ≡ codec.now → result ≡ says one.now.marked (finds one.now.questions.now (record_entries one.now.record.now)) (plan_tree plan.now.plan) }
+    ensures answers { NoneLater one.now.number answers.new }
 {
-    if !meets(&asked_by(&plan.plan), &marked) {
+    if !meets(&asked_by(&plan.plan), &one.marked) {
         return said_of_none(&plan.plan);
     }
     if plan.asking <= FEW {
-        return says_by_walks(plan, questions, marked, one);
+        return says(&plan.plan, one, answers);
     }
-    says_by_places(plan, questions, marked, codec, one)
+    says_by_places(plan, codec, one, answers)
 }
 
 impl<'c> Filter<'c> {
@@ -124,22 +93,63 @@ impl<'c> Filter<'c> {
         passes(&self.test, spec.category, one)
     }
 
-    /// The same of a record under that codec. Where there are more than a few tests, it is asked by the plan of its category: no test of
-    /// another one is looked at, a record of which nothing is asked isn't either, tests of items that it hasn't are passed over
-    /// together, its items are found in one walk for all tests, and what several tests ask is looked for once. Takes no memory.
+    /// The same of a record under that codec. Where there are more than a few tests, or some ask the same, it is asked by the plan of its
+    /// category: no test of another one is looked at, a record of which nothing is asked isn't either, tests of items that it hasn't are
+    /// passed over together, and where more than a few ask, its items are found in one walk for all of them. Takes no memory.
     pub fn holds_under(&self, category: u8, codec: &Codec, one: &RecordView<'_, '_>) -> bool
         ensures { one.now.codec.now ≡ codec.now → result ≡ holds (catalogue_of self.now) category (record_entries one.now) (expression self.now) }
     {
-        if self.count <= FEW {
+        self.holds_by(category, codec, one, 0, &mut [])
+    }
+
+    /// The same, with a memo, which may be one of another filter: what several tests ask is looked for once. Takes no memory.
+    #[inline]
+    pub fn holds_with(
+        &self,
+        category: u8,
+        codec: &Codec,
+        one: &RecordView<'_, '_>,
+        memo: &mut Memo,
+    ) -> bool
+        ensures { one.now.codec.now ≡ codec.now → result ≡ holds (catalogue_of self.now) category (record_entries one.now) (expression self.now) }
+    {
+        if self.count == 1 {
             return self.holds(category, one);
         }
+        memo.go_on();
+        self.holds_by(category, codec, one, memo.number, &mut memo.answers)
+    }
+
+    /// A memo with room for what each question of the filter finds.
+    pub fn memo(&self, alloc: Global) -> Result<Memo, AllocError> {
+        Memo::of(alloc, self.questions.count() as usize)
+    }
+
+    /// The same, for a record of that number, with room for some answers; none is known of it.
+    fn holds_by(
+        &self,
+        category: u8,
+        codec: &Codec,
+        one: &RecordView<'_, '_>,
+        number: u32,
+        answers: &mut [Answer],
+    ) -> bool
+        requires { (found : ℕ → Option Found) → Recalls found number answers.old }
+        ensures holds { one.now.codec.now ≡ codec.now → result ≡ holds (catalogue_of self.now) category (record_entries one.now) (expression self.now) }
+        ensures answers { NoneLater number answers.new }
+    {
         match self.plans.get(category as u32) {
             Some(plan) => {
                 if let Plan::Always { holds } = &plan.plan {
                     return *holds;
                 }
-                let marked = marked_slots(codec, one);
-                says_of(plan, self.questions.as_slice(), marked, codec, one)
+                let asked = Asked {
+                    record: one,
+                    marked: marked_slots(codec, one),
+                    number,
+                    questions: self.questions.as_slice(),
+                };
+                says_of(plan, codec, &asked, answers)
             }
             None => self.holds(category, one),
         }

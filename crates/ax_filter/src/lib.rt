@@ -34,5 +34,6 @@ mod words;
 
 pub use error::FilterError;
 pub use filter::Filter;
+pub use memo::Memo;
 pub use reading::read_filter;
 pub use text::{FilterFault, FilterStop, read_expression};

@@ -1,51 +1,82 @@
 //! What questions found in a record, each looked for once.
-ghost use Rattle.std.specs.Prelude.{◌≡◌, ℕ, Option, None, IfSome};
+ghost use Rattle.std.specs.Prelude.{◌≡◌, ℕ, Option, IfOk};
 ghost use Rattle.ax_filter.specs.Plans.{finds, found_in};
-ghost use Rattle.ax_filter.specs.Memos.{Recalls};
+ghost use Rattle.ax_filter.specs.Memos.{NoneLater, Recalls};
 ghost use Rattle.ax_filter.specs.declared.plan.Found.{Found};
 
 use crate::places::HasPlaces;
 use crate::plan::{Asking, Found, Question};
 use ax_fspec::Presence;
+use std::alloc::{AllocError, Global};
 
-/// How many answers are kept at a time.
-const KEPT: usize = 16;
-
-/// A record that is asked: its marked slots, and the questions by their numbers.
+/// A record that is asked: its marked slots, its number among the records that were asked under the same answers, and the questions
+/// by their numbers.
 #[derive(Drop)]
 pub struct Asked<'r, R> {
     pub record: &'r R,
     pub marked: Presence,
+    pub number: u32,
     pub questions: &'r [Question],
 }
 
-/// What the question of a number found.
+/// What a question found in the latest record that it was asked of, with that record's number.
 #[derive(Clone, Copy)]
 pub struct Answer {
-    pub question: u32,
+    pub number: u32,
     pub found: Option<Found>,
 }
 
-/// The answers of a record that are kept: that to a question stands at the remainder of its number by 16. So questions whose
-/// numbers have other remainders are looked for once a record.
+/// So many answers, each of record 0, which is none.
+fn no_answers(alloc: Global, count: usize) -> Result<Vec<Answer>, AllocError>
+    ensures { IfOk result (λ made. NoneLater 0 made.items) }
+{
+    let none = Answer {
+        number: 0,
+        found: None,
+    };
+    vec![in alloc; none; count]
+}
+
+/// What the questions of a filter found: room for an answer to each, taken once and lent for one record after another, so that what
+/// several tests ask is looked for once a record. Records have numbers from 1 on, and an answer is one of the record whose number it
+/// has: so nothing is cleared for a new record. At the greatest number all answers are forgotten, and the next record is 1 again.
 #[derive(Drop)]
 pub struct Memo {
-    pub answers: [Answer; KEPT],
+    pub(crate) answers: Vec<Answer>,
+    /// The number of the latest record.
+    pub(crate) number: u32,
+    ghost none_later: { NoneLater number answers.items },
 }
 
 impl Memo {
-    /// Nothing was asked yet: no question has the greatest number.
-    #[inline]
-    pub fn new() -> Memo
-        ensures { (found : ℕ → Option Found) → found 4294967295 ≡ None → Recalls found result }
-    {
-        Memo {
-            answers: [Answer {
-                question: u32::MAX,
-                found: None,
-            }; KEPT],
-        }
+    /// Room for so many answers.
+    pub(crate) fn of(alloc: Global, count: usize) -> Result<Memo, AllocError> {
+        let answers = no_answers(alloc, count)?;
+        Ok(Memo { answers, number: 0 })
     }
+
+    /// Goes on to another record, to which there is no answer yet.
+    #[inline]
+    pub(crate) fn go_on(&mut self)
+        ensures { (found : ℕ → Option Found) → Recalls found self.new.number self.new.answers.items }
+    {
+        if self.number == u32::MAX {
+            forget(&mut self.answers);
+            self.number = 0;
+        }
+        self.number += 1;
+    }
+}
+
+/// Makes all answers those of record 0.
+#[cold]
+fn forget(answers: &mut [Answer])
+    ensures { NoneLater 0 answers.new }
+{
+    answers.fill(Answer {
+        number: 0,
+        found: None,
+    });
 }
 
 /// What a question finds in a record.
@@ -71,51 +102,40 @@ fn found_in<R: HasPlaces>(question: &Question, one: &R) -> Option<Found>
 
 /// What the question of a number finds in a record.
 #[inline]
-fn find<R: HasPlaces>(one: &Asked<'_, R>, number: u32) -> Option<Found>
+fn find<R: HasPlaces>(one: &Asked<'_, R>, question: u32) -> Option<Found>
     requires { R.sound one.now.record.now }
-    ensures { result ≡ finds one.now.questions.now (R.entries one.now.record.now) number }
+    ensures { result ≡ finds one.now.questions.now (R.entries one.now.record.now) question }
 {
-    match one.questions.get(number as usize) {
+    match one.questions.get(question as usize) {
         Some(question) => found_in(question, one.record),
         None => None,
     }
 }
 
-/// The same, looked for where its answer isn't kept.
+/// The same, looked for where its answer isn't known; it is kept where there is room for it.
 #[inline(always)]
-fn recall<R: HasPlaces>(one: &Asked<'_, R>, number: u32, memo: &mut Memo) -> Option<Found>
+pub fn found_once<R: HasPlaces>(
+    one: &Asked<'_, R>,
+    question: u32,
+    answers: &mut [Answer],
+) -> Option<Found>
     requires sound { R.sound one.now.record.now }
-    requires memo { Recalls (finds one.now.questions.now (R.entries one.now.record.now)) memo.old }
-    ensures found { result ≡ finds one.now.questions.now (R.entries one.now.record.now) number }
-    ensures memo { Recalls (finds one.now.questions.now (R.entries one.now.record.now)) memo.new }
+    requires answers { Recalls (finds one.now.questions.now (R.entries one.now.record.now)) one.now.number answers.old }
+    ensures found { result ≡ finds one.now.questions.now (R.entries one.now.record.now) question }
+    ensures answers { Recalls (finds one.now.questions.now (R.entries one.now.record.now)) one.now.number answers.new }
 {
-    let place = number as usize % KEPT;
-    let kept = memo.answers[place];
-    if kept.question == number {
-        return kept.found;
+    let place = question as usize;
+    if place >= answers.len() {
+        return find(one, question);
     }
-    let found = find(one, number);
-    memo.answers[place] = Answer {
-        question: number,
+    let known = answers[place];
+    if known.number == one.number {
+        return known.found;
+    }
+    let found = find(one, question);
+    answers[place] = Answer {
+        number: one.number,
         found,
     };
     found
-}
-
-/// The same; no answer is kept where there is no memo.
-#[inline(always)]
-pub fn found_under<R: HasPlaces>(
-    one: &Asked<'_, R>,
-    number: u32,
-    memo: &mut Option<Memo>,
-) -> Option<Found>
-    requires sound { R.sound one.now.record.now }
-    requires memo { IfSome memo.old (Recalls (finds one.now.questions.now (R.entries one.now.record.now))) }
-    ensures found { result ≡ finds one.now.questions.now (R.entries one.now.record.now) number }
-    ensures memo { IfSome memo.new (Recalls (finds one.now.questions.now (R.entries one.now.record.now))) }
-{
-    match memo {
-        Some(memo) => recall(one, number, memo),
-        None => find(one, number),
-    }
 }

@@ -5,9 +5,10 @@ ghost use Rattle.ax_token_reader.specs.Stopping.{texts_of};
 ghost use Rattle.ax_filter.specs.Faults.{PathsLead, IsFault};
 ghost use Rattle.ax_filter.specs.Leading.{IsPathFault};
 ghost use Rattle.ax_filter.specs.declared.error.FilterError.TheVariants as Fault;
+ghost use Rattle.ax_filter.specs.Plans.{PlanEach};
 ghost use Rattle.ax_filter.specs.OfCode.{expression, catalogue_of, IsFilterOf};
 
-use crate::asking::{FEW, count_tests};
+use crate::asking::{FEW, asking_in_all, count_tests};
 use crate::error::FilterError;
 use crate::expr::Expr;
 use crate::faults::{PathFault, first_fault};
@@ -17,9 +18,10 @@ use crate::planning::plan_categories;
 use crate::questions::Numbering;
 use crate::resolving::resolve;
 use crate::syntax::{SyntaxError, read_expr};
+use crate::test::Test;
 use ax_check::Catalogue;
 use ax_tokens::Tokens;
-use std::alloc::Global;
+use std::alloc::{AllocError, Global};
 
 /// Judges the paths before the token of that number.
 fn judge_paths(
@@ -39,6 +41,27 @@ fn judge_paths(
     }
 }
 
+/// What a test with so many in it asks of the records of each category, where that is of use: none where there are few tests and no two
+/// of them ask the same.
+fn plans_for(
+    alloc: Global,
+    test: &Test,
+    count: u32,
+    numbering: &mut Numbering,
+) -> Result<CategoryPlans, AllocError>
+    ensures { IfOk result (λ made. PlanEach numbering.new.questions made test.now) }
+{
+    if count == 1 {
+        return Ok(CategoryPlans::new(alloc));
+    }
+    let plans = plan_categories(alloc, test, numbering)?;
+    if count > FEW || asking_in_all(&plans) > numbering.questions.count() {
+        Ok(plans)
+    } else {
+        Ok(CategoryPlans::new(alloc))
+    }
+}
+
 /// The filter of an expression over a catalogue.
 #[tactic(auto, using(crate::proofs::Truth::same_truth))]
 fn filter_of<'c>(
@@ -53,11 +76,7 @@ fn filter_of<'c>(
     let test = resolve(alloc, catalogue, &expr)?;
     let count = count_tests(&test);
     let mut numbering = Numbering::new(alloc);
-    let plans = if count > FEW {
-        plan_categories(alloc, &test, &mut numbering)?
-    } else {
-        CategoryPlans::new(alloc)
-    };
+    let plans = plans_for(alloc, &test, count, &mut numbering)?;
     Ok(Filter {
         expr,
         catalogue,

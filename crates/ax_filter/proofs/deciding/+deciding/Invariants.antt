@@ -1,4 +1,4 @@
-use Rattle.std.proofs.Common.{◌≡◌, IfSome, drop}
+use Rattle.std.proofs.Common.{◌≡◌, drop}
 use Rattle.ax_filter.specs.Memos.{Recalls}
 use Rattle.ax_filter.specs.Plans.{finds, level_says}
 use Rattle.ax_filter.proofs.deciding.+deciding.Given as goal
@@ -7,6 +7,6 @@ abbrev pub invariant-many_say-loop-plan : goal.invariant-many_say-loop-plan
 invariant-many_say-loop-plan g l =
     let found = finds l.one.questions.now (g.R.HasPlaces.entries l.one.record.now) in
     record {
-      recalls : IfSome l.memo (Recalls found);
+      recalls : Recalls found l.one.number l.answers;
       said : level_says l.all (drop l.plan-index l.plans) l.one.marked found ≡ level_says l.all l.plans l.one.marked found;
     }

@@ -143,6 +143,9 @@ def repeated_tests():
     below = " ".join(f"is 048/I000/S125 = {number}" for number in range(8, 1_008))
     pairs = " ".join(f"all {{ is 048/I000/S125 = {number} present 048/I000/S124 }}" for number in range(8, 508))
     counted = [of_one(f"counted {{ {ONE} }}")]
+    numbers, asked = range(8, 24), range(64)
+    by_turns = " ".join(f"is 048/I000/S{subitem:03} = {number}" for number in numbers for subitem in asked)
+    in_rows = " ".join(f"is 048/I000/S{subitem:03} = {number}" for subitem in asked for number in numbers)
     return [
         Case("a filter of 1 test of one absent item", ("filter",), fields, data(first, 2_000_000), "not { is 048/I125 = 7 }"),
         Case("a filter of 1,000 tests of one absent item", ("filter",), fields, data(first, 2_000_000), absent),
@@ -150,6 +153,8 @@ def repeated_tests():
         Case("a filter of 1,000 tests of another category", ("filter",), two, data(first, 2_000_000), others),
         Case("a filter of 1,000 tests of one subitem, 126 there", ("filter",), compound, data(subitems, 2_000_000), f"not {{ any {{ {below} }} }}"),
         Case("a filter of 500 pairs of tests of two subitems", ("filter",), compound, data(subitems, 2_000_000), f"not {{ any {{ {pairs} }} }}"),
+        Case("a filter of 1,024 tests of 64 subitems, asked by turns", ("filter",), compound, data(subitems, 2_000_000), f"not {{ any {{ {by_turns} }} }}"),
+        Case("a filter of 1,024 tests of 64 subitems, each asked 16 times in a row", ("filter",), compound, data(subitems, 2_000_000), f"not {{ any {{ {in_rows} }} }}"),
         Case("a filter of 1,000 tests of one counted item", ("filter",), counted, data(b"\x80\xff" + b"\7" * 255, 2_000_000), "all { " + "present 048/I000 " * 1_000 + "}"),
     ]
 

@@ -1,7 +1,8 @@
--- The blocks of matching records that stand at the front of an output.
-use Rattle.std.specs.Prelude.{◌≡◌, ℕ, ◌*◌, ◌≤◌, List, length, take}
+-- What is asked of a record, and the blocks of matching records that stand at the front of an output.
+use Rattle.std.specs.Prelude.{◌≡◌, ℕ, ◌*◌, ◌≤◌, Bool, List, length, take}
 use Rattle.ax_bits.specs.Bits.{bits}
 use Rattle.ax_filter.specs.Matching.{filtered}
+use Rattle.ax_filter.specs.Meaning.{holds}
 use Rattle.ax_filter.specs.Tree.{ExprTree}
 use Rattle.ax_model.specs.Blocks.{read_block}
 use Rattle.ax_model.specs.Bodies.{SpellsBody}
@@ -11,6 +12,12 @@ use Rattle.ax_model.specs.Specification.{SpecTree}
 use Rattle.ax_model.specs.Tree.{EntriesTree}
 use Rattle.ax_tables.specs.Standing.{StandsFor}
 use Rattle.ax_tables.specs.declared.codec.Codec.{Codec}
+use Rattle.ax_view.specs.Shown.{record_entries}
+use Rattle.ax_view.specs.declared.record.RecordView.{RecordView}
+
+-- the answer to a view of a record under the codec is whether the expression holds of it
+abbrev pub SaysHolds : List SpecTree → ExprTree → Codec → RecordView → Bool → Type 0
+SaysHolds catalogue e codec one answer = one.codec.now ≡ codec → answer ≡ holds catalogue codec.category (record_entries one) e
 
 -- the bits begin with the canonical block, of so many octets, of those of the records that match
 pub record BeginsWithMatching (catalogue : List SpecTree) (e : ExprTree) (spec : SpecTree) (records : List EntriesTree) (count : ℕ) (output : List ℕ) : Type 0 where

@@ -2,6 +2,7 @@
 #![tactic(auto)]
 
 mod laws;
+mod matching;
 mod output;
 mod views;
 

@@ -6,50 +6,54 @@ ghost use Rattle.ax_filter_work.specs.Laid.{LaysMatching, LaysMatchingBits};
 ghost use Rattle.ax_model.specs.Sizes.{longest_block, longest_body};
 ghost use Rattle.ax_view.specs.Views.{FailsThere, SpellsSome};
 
+use crate::matching::Matching;
 use ax_bits::Out;
-use ax_canon::scan_if;
-use ax_filter::Filter;
+use ax_canon::scan_kept;
+use ax_filter::{Filter, Memo};
 use ax_model::BodyFault;
 use ax_tables::Codec;
-use ax_view::RecordView;
 
 /// Lays the canonical block of those records of a body of the codec's category that the filter holds of at the front of the
 /// output, and answers its octets, 0 where there is none; or the first fault of the body, with its bit in the body.
 pub(crate) fn lay_matching(
     filter: &Filter<'_>,
     codec: &Codec,
-    category: u8,
+    _category: u8,
     body: &[u8],
+    memo: &mut Memo,
     output: &mut [u8],
 ) -> Result<u32, BodyFault>
     requires size { (1 ≤ length body.now) × (length body.now ≤ longest_body) }
     requires room { length output.old ≡ longest_block }
-    requires category { codec.now.category ≡ category }
+    requires category { codec.now.category ≡ _category }
     ensures spelled { IfOk result (λ count. SpellsSome codec.now body.now) }
     ensures laid { IfOk result (λ count. LaysMatching (catalogue_of filter.now) (expression filter.now) codec.now body.now count output.new) }
     ensures fault { IfErr result (λ fault. FailsThere codec.now body.now fault) }
     ensures room { length output.new ≡ longest_block }
 {
-    lay_matching_bits(filter, codec, category, body, output)
+    lay_matching_bits(filter, codec, body, memo, output)
 }
 
 /// The same, by bits.
 fn lay_matching_bits(
     filter: &Filter<'_>,
     codec: &Codec,
-    category: u8,
     body: &[u8],
+    memo: &mut Memo,
     output: &mut [u8],
 ) -> Result<u32, BodyFault>
     requires size { (1 ≤ length body.now) × (length body.now ≤ longest_body) }
     requires room { length output.old ≡ longest_block }
-    requires category { codec.now.category ≡ category }
     ensures spelled { IfOk result (λ count. SpellsSome codec.now body.now) }
     ensures laid { IfOk result (λ count. LaysMatchingBits (catalogue_of filter.now) (expression filter.now) codec.now body.now count (bits output.new)) }
     ensures fault { IfErr result (λ fault. FailsThere codec.now body.now fault) }
     ensures room { length output.new ≡ longest_block }
 {
-    let matches = |one: &RecordView<'_, '_>| filter.holds_under(category, codec, one);
+    let mut matching = Matching {
+        filter,
+        codec,
+        memo,
+    };
     let mut out = Out::over(output);
-    scan_if(codec, body, matches, &mut out)
+    scan_kept(codec, body, &mut matching, &mut out)
 }

@@ -6,7 +6,7 @@ ghost use Rattle.ax_model.specs.Sizes.{longest_block};
 ghost use Rattle.ax_tables.specs.Standing.{StandForEach};
 
 use crate::output::lay_matching;
-use ax_filter::Filter;
+use ax_filter::{Filter, Memo};
 use ax_model::RawBlock;
 use ax_outside::Sink;
 use ax_stream::{BlockWork, WorkStop, write_piece};
@@ -16,17 +16,18 @@ use std::alloc::{AllocError, Global};
 
 /// `filter` under the catalogue of a filter, by the codecs of its specifications: the canonical form of the records that
 /// the filter holds of. A block is judged, and its records are asked for and written, in one walk over its octets; what is
-/// written stands in one output, as long as the longest block.
+/// written stands in one output, as long as the longest block, and what questions find in a record in one memo.
 #[derive(Drop)]
 pub struct FilterViews<'f, 'c> {
     filter: &'f Filter<'c>,
     codecs: &'f Codecs,
     output: Vec<u8>,
+    memo: Memo,
     ghost room: { length output.items ≡ longest_block },
 }
 
 impl<'f, 'c> FilterViews<'f, 'c> {
-    /// `filter` by that filter and the codecs of its catalogue. The output is taken here, and no memory after that.
+    /// `filter` by that filter and the codecs of its catalogue. The output and the memo are taken here, and no memory after that.
     pub fn new(
         alloc: Global,
         filter: &'f Filter<'c>,
@@ -37,10 +38,12 @@ impl<'f, 'c> FilterViews<'f, 'c> {
         ensures sound { IfOk result (λ work. ⟦<FilterViews<'f, 'c> as BlockWork>⟧.sound work) }
     {
         let output = blank_output(alloc)?;
+        let memo = filter.memo(alloc)?;
         Ok(FilterViews {
             filter,
             codecs,
             output,
+            memo,
         })
     }
 }
@@ -65,7 +68,15 @@ impl<'f, 'c> BlockWork for FilterViews<'f, 'c> {
     ) -> Result<(), WorkStop> {
         match self.codecs.get(raw.category) {
             Some(codec) => {
-                match lay_matching(self.filter, codec, raw.category, raw.body, &mut self.output) {
+                let laid = lay_matching(
+                    self.filter,
+                    codec,
+                    raw.category,
+                    raw.body,
+                    &mut self.memo,
+                    &mut self.output,
+                );
+                match laid {
                     Ok(count) => write_piece(out, &self.output[..count as usize]),
                     Err(fault) => Err(WorkStop::Fault(fault)),
                 }

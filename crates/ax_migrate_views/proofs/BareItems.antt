@@ -56,7 +56,7 @@ later_at (m ∷ ms) i = refl
 next_none : (t s : ℕ) (ms : List ℕ) → ((i : ℕ) → s ≡ t + i → get_or ms i 0 ≡ 0) → (i : ℕ) → s ≡ t + 1 + i → get_or (later_marks ms) i 0 ≡ 0
 next_none t s ms none i e = later_at ms i ∙ none (suc i) (let f : s ≡ t + suc i = omega (arith, e) in f)
 
-not_read : (t : ℕ) (ss : SlotsTree) (ms b : List ℕ) (s : ℕ) → ((i : ℕ) → s ≡ t + i → get_or ms i 0 ≡ 0) → slot_value s (entries_found (entries_read t ss ms b)) ≡ None
+pub not_read : (t : ℕ) (ss : SlotsTree) (ms b : List ℕ) (s : ℕ) → ((i : ℕ) → s ≡ t + i → get_or ms i 0 ≡ 0) → slot_value s (entries_found (entries_read t ss ms b)) ≡ None
 not_read t no_slots ms b s none = refl
 not_read t (slot_and spare_slot ss) ms b s none = not_read (t + 1) ss (later_marks ms) b s (next_none t s ms none)
 not_read t (slot_and (subitem name k) ss) ms b s none = by (first_mark ms) refl (λ y. not_read (t + 1) ss (later_marks ms) y s (next_none t s ms none))
@@ -75,7 +75,7 @@ zero_at zero lt d = refl
 zero_at (suc zero) lt d = absurd (d refl)
 zero_at (suc (suc m)) lt d = absurd (omega arith)
 
-none_there : (ms : List ℕ) (s : ℕ) → AreBits ms → (IsMarked ms s → ⊥) → (i : ℕ) → s ≡ 1 + i → get_or ms i 0 ≡ 0
+pub none_there : (ms : List ℕ) (s : ℕ) → AreBits ms → (IsMarked ms s → ⊥) → (i : ℕ) → s ≡ 1 + i → get_or ms i 0 ≡ 0
 none_there ms s bit not i e =
     zero_at (get_or ms i 0) (bit_at ms i bit) (λ one. not (omega (arith, e), ap (λ j. get_or ms j 0) (let f : s - 1 ≡ i = omega (arith, e) in f) ∙ one))
 
@@ -99,7 +99,7 @@ has_only item one at mask links octets marks here e body h =
 
 -- ---- no subitems
 
-unmarked : (marks : List ℕ) → slots_of marks ≡ [] → (s : ℕ) → IsMarked marks s → ⊥
+pub unmarked : (marks : List ℕ) → slots_of marks ≡ [] → (s : ℕ) → IsMarked marks s → ⊥
 unmarked marks e s m =
     let none = no_next_slot 1 marks e in
     let z = none_marked_at marks (s - 1) none in let one = m.1 in omega arith

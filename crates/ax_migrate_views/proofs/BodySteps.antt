@@ -26,17 +26,16 @@ use Rattle.ax_model.specs.Specification.{SpecTree, record_kind, record_slots}
 use Rattle.ax_model.specs.Tree.{EntriesTree, marked}
 use Rattle.ax_model.specs.declared.fault.BodyFault.{BodyFault}
 use Rattle.ax_reader.proofs.Exact.{spelled_at, fault_at}
-use Rattle.ax_reader.specs.Reading.{FailsAt, kind_read}
+use Rattle.ax_reader.specs.Reading.{FailsAt, Gets, kind_read}
 use Rattle.ax_tables.proofs.BareKinds.{stands_record}
 use Rattle.ax_tables.specs.Bare.{bare_kind}
 use Rattle.ax_tables.specs.Standing.{StandsFor}
 use Rattle.ax_tables.specs.Table.{record_kind_at}
 use Rattle.ax_tables.specs.declared.codec.Codec.{Codec}
 use Rattle.ax_view.proofs.BodySteps.{fails_of, one_more, record_value, some_records, record_forwards}
-use Rattle.ax_view.specs.Placing.{PlacesKind, entries_there}
+use Rattle.ax_view.specs.Placing.{entries_there}
 use Rattle.ax_view.specs.Values.{value_read, entries_in}
 use Rattle.ax_view.specs.Views.{FailsThere, SpellsSome}
-use Rattle.ax_view.specs.declared.places.Places.{Places}
 
 -- the records in front are laid
 pub record RecordsMoved (spec : SpecTree) (moves : List Move) (lost : List RelationPath) (block : ℕ) (body : List ℕ) (here end number told : ℕ) (old now before lines : List ℕ) : Type 0 where
@@ -49,12 +48,14 @@ pub record RecordsMoved (spec : SpecTree) (moves : List Move) (lost : List Relat
 pub record BodyMoves (codec : Codec) (moves : List Move) (lost : List RelationPath) (block : ℕ) (body : List ℕ) (here end number told : ℕ) (old now before lines : List ℕ) : Type 0 where
   pub within : here ≤ length body
   pub few : number ≤ here
+  pub counted : told ≤ 4294967295
   pub records : (spec : SpecTree) → NoFlaw spec → StandsFor codec spec → RecordsMoved spec moves lost block body here end number told old now before lines
 
 pub body_first : (codec : Codec) (moves : List Move) (lost : List RelationPath) (block : ℕ) (body output lines : List ℕ) → BodyMoves codec moves lost block body 0 3 0 0 output output lines lines
 body_first codec moves lost block body output lines = record {
   within = omega arith;
   few = omega arith;
+  counted = omega arith;
   records = λ spec clean stands. record { records = []; spelled = refl; count = refl; laid = lays_none 3 output (omega arith); lost_of = gathers_none 0 lines (omega arith) };
 }
 
@@ -65,24 +66,24 @@ by_more ms spec (x ∷ rs) r =
     ∙ sym (append_assoc (canon_by ms (bare_kind (record_kind spec)) (marked x)) (body_by ms spec rs) (canon_by ms (bare_kind (record_kind spec)) (marked r)))
 
 -- each record has some octets
-pub body_goes_on : (codec : Codec) (body : List ℕ) (here next : ℕ) (p : Places) → PlacesKind codec.nodes codec.slots body here p next → here < next
-body_goes_on codec body here next p r =
-    record_forwards codec.nodes codec.slots body here next false codec.records.bounds (record { value = marked r.entries; read = r.read; canonical = λ no_flag. cc })
+pub body_goes_on : (codec : Codec) (body : List ℕ) (here next : ℕ) (es : EntriesTree) → Gets (kind_read (record_kind_at codec.nodes codec.slots) body here) body here next (marked es) → here < next
+body_goes_on codec body here next es read =
+    record_forwards codec.nodes codec.slots body here next false codec.records.bounds (record { value = marked es; read = read; canonical = λ no_flag. cc })
 
 module _ (codec : Codec) (moves : List Move) (lost : List RelationPath) (block : ℕ) (body : List ℕ) (here end number told : ℕ) (old now before lines : List ℕ) (h : BodyMoves codec moves lost block body here end number told old now before lines) (lt : here < length body) where
-  module _ (next n : ℕ) (new : List ℕ) (p : Places) (r : PlacesKind codec.nodes codec.slots body here p next)
+  module _ (next n : ℕ) (new : List ℕ) (entries : EntriesTree) (read : Gets (kind_read (record_kind_at codec.nodes codec.slots) body here) body here next (marked entries))
       (l : Lays (canon_by (moves_tree moves) (record_kind_at codec.nodes codec.slots) (marked (entries_there codec.nodes codec.slots body here))) end n now new)
       (tells : ℕ) (after : List ℕ) (g : Gathers (lost_lines block (record_losses number (entries_there codec.nodes codec.slots body here) lost)) told tells lines after) where
     more : (spec : SpecTree) → NoFlaw spec → StandsFor codec spec → RecordsMoved spec moves lost block body here end number told old now before lines → RecordsMoved spec moves lost block body next n (number + 1) tells old new before after
     more spec clean stands t =
-        let v = marked r.entries in
-        let own = gets_of codec spec body here next v stands r.read in
+        let v = marked entries in
+        let own = gets_of codec spec body here next v stands read in
         let x = bits (take (next - here) (drop here body)) in
         let s = spelled_at (record_kind spec) body here next v (record_bounds spec clean) own in
         let q = record_value (record_slots spec) v x s.spelling.spells in
         let joined : bits (take next body) ≡ bits (take here body) ++ x =
         ap (λ n. bits (take n body)) (let e : next ≡ here + (next - here) = omega (arith, s.forwards) in e) ∙ ap bits (take-add here (next - here) body) ∙ bits-append (take here body) (take (next - here) (drop here body)) in
-        let there : marked (entries_there codec.nodes codec.slots body here) ≡ marked q.entries = ap (λ r. marked (entries_in (value_read r))) r.read.got ∙ q.is in
+        let there : marked (entries_there codec.nodes codec.slots body here) ≡ marked q.entries = ap (λ r. marked (entries_in (value_read r))) read.got ∙ q.is in
         let of_number : 0 + length t.records ≡ number = omega (arith, t.count) in
         let same : canon_by (moves_tree moves) (record_kind_at codec.nodes codec.slots) (marked (entries_there codec.nodes codec.slots body here)) ≡ canon_by (moves_tree moves) (bare_kind (record_kind spec)) (marked q.entries) =
         λ i. canon_by (moves_tree moves) (stands_record codec spec stands i) (there i) in
@@ -99,7 +100,7 @@ module _ (codec : Codec) (moves : List Move) (lost : List RelationPath) (block :
         }
 
     pub body_next : BodyMoves codec moves lost block body next n (number + 1) tells old new before after
-    body_next = record { within = r.read.within; few = (let on = body_goes_on codec body here next p r in let count = h.few in omega arith); records = λ spec clean stands. more spec clean stands (h.records spec clean stands) }
+    body_next = record { within = read.within; few = (let on = body_goes_on codec body here next entries read in let count = h.few in omega arith); counted = omega (arith, g.counted); records = λ spec clean stands. more spec clean stands (h.records spec clean stands) }
 
   failed : (spec : SpecTree) → NoFlaw spec → StandsFor codec spec → RecordsMoved spec moves lost block body here end number told old now before lines → (fault : BodyFault) → FailsAt (kind_read (record_kind_at codec.nodes codec.slots) body here) here fault → FailsBody spec (bits body) fault.bit fault.cause
   failed spec clean stands t fault l =

@@ -86,6 +86,10 @@ module _ (item : ItemView) (one : Node) (at : one ≡ get_or item.codec.now.node
   pub few_stay : (c : ℕ) (ms : MovesTree) → length item.body.now ≤ c → value_canon_by c ms (item_kind item) (item_value item) ≡ bits item.body.now
   few_stay c ms few = first_canon item last ps c ms is_one ∙ sym (few_kept last c ps is_one.lists item.body.now is_one.bounds is_one.shape is_one.spelled few)
 
+  -- they are the canonical ones of its value
+  pub few_canon : (c : ℕ) (ms : MovesTree) → length item.body.now ≤ c → value_canon_by c ms (item_kind item) (item_value item) ≡ canon (item_kind item) (item_value item)
+  few_canon c ms few = few_stay c ms few ∙ is_one.spelled ∙ (λ i. canon (sym is_one.kind i) (sym is_one.value i))
+
   -- what is kept of its octets
   pub front_stays : (c : ℕ) (ms : MovesTree) (o : Option ℕ) (codec_nodes : List Node) (body : List ℕ) → codec_nodes ≡ item.codec.now.nodes → body ≡ item.body.now → FrontIs codec_nodes found c (length body) o → kept_bits o body ≡ value_canon_by c ms (item_kind item) (item_value item)
   front_stays c ms o codec_nodes body same own h =

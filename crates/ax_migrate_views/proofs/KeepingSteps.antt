@@ -14,7 +14,7 @@ use Rattle.ax_model.proofs.Namings.{from_place}
 use Rattle.ax_model.specs.Canonical.{canon}
 use Rattle.ax_model.specs.InBounds.{InBounds}
 use Rattle.ax_model.specs.Shape.{Shape}
-use Rattle.ax_model.specs.Tree.{KindTree, slots_of}
+use Rattle.ax_model.specs.Tree.{KindTree, compound, SlotsTree, slots_of, ValueTree, marked}
 use Rattle.ax_model.specs.declared.kind.LastPart.{LastPart}
 use Rattle.ax_tables.specs.Meaning.{Meaning, linked_part, linked_slot, linked_slots, meanings}
 use Rattle.ax_tables.specs.Table.{IsTable, kind_at, record_kind_at}
@@ -45,7 +45,7 @@ extended_leaf c ns link one table some within at last links e few = subst (IsLea
 
 -- each value of such a kind stays
 pub leaf_stays : (c : ℕ) (ns : List Node) (link : ℕ) (ms : MovesTree) → IsLeaf c (kind_at ns link) → MovesWhole ns link c ms
-leaf_stays c ns link ms h octets bounds one = let k = kind_at ns link in leaf_canon c ms k (value_in k octets) h (spells_shape k (value_in k octets) (bits octets) (value_spelled k octets bounds one))
+leaf_stays c ns link ms h v bounds = leaf_canon c ms (kind_at ns link) v h
 
 pub move_stays : (slot : ℕ) (k : KindTree) (m : Move) → (out-Move m).old ≡ slot → (out-Move m).new ≡ slot → IsLeaf (out-Move m).parts k → StaysIn slot k (move_tree m)
 move_stays slot k m e f h = subst (StaysIn slot k) (sym (fold_out-Move MoveTree move_step m)) (e, f, h)
@@ -88,19 +88,16 @@ keeps_last nodes links moves index next past end h =
 
 -- ---- a compound
 
+marked_stays : (ss : SlotsTree) (ms : MovesTree) → KeepsAll 1 ss ms → (c : ℕ) (v : ValueTree) → InBounds (compound ss) → Shape (compound ss) v → value_canon_by c ms (compound ss) v ≡ canon (compound ss) v
+marked_stays ss ms keeps c (marked es) bounds shape = whole_stays ss ms es keeps shape bounds.0 bounds.1
+marked_stays ss ms keeps c _ bounds shape = absurd shape
+
 pub kind_stays : (ns : List Node) (link : ℕ) (one : Node) → IsTable ns → 0 < link → link ≤ length ns → one ≡ get_or ns (link - 1) one → (ms : MovesTree) (mask : SlotMask) (links found : List ℕ) → one ≡ Of.Compound mask links → found ≡ links
     → KeepsAll 1 (slots_of (linked_slots (meanings ns) found)) ms → (c : ℕ) → MovesWhole ns link c ms
 unfolding record_kind_at
-kind_stays ns link one table some within at ms mask links found e f keeps c octets bounded whole =
-    let k = record_kind_at ns found in
+kind_stays ns link one table some within at ms mask links found e f keeps c v bounded shape =
     let kind : kind_at ns link ≡ record_kind_at ns found = is_compound ns link one table some within at mask links found e f in
-    let bounds = subst InBounds kind bounded in
-    let own = subst (λ x. IsOne x octets) kind whole in
-    let es = entries_in (value_in k octets) in
-    let is = is_marked ns found octets in
-    let shape = subst (Shape k) is (spells_shape k (value_in k octets) (bits octets) (value_spelled k octets bounds own)) in
-    let stays = whole_stays (slots_of (linked_slots (meanings ns) found)) ms es keeps shape bounds.0 bounds.1 in
-    subst (λ x. value_canon_by c ms x (value_in x octets) ≡ canon x (value_in x octets)) (sym kind) (ap (value_canon_by c ms k) is ∙ stays ∙ sym (ap (canon k) is))
+    subst (λ x. value_canon_by c ms x v ≡ canon x v) (sym kind) (marked_stays (slots_of (linked_slots (meanings ns) found)) ms keeps c v (subst InBounds kind bounded) (subst (λ x. Shape x v) kind shape))
 
 module _ (item : ItemView) (one : Node) (at : one ≡ get_or item.codec.now.nodes (item.link - 1) one) where
   pub compound_stays : (ms : MovesTree) (mask : SlotMask) (links found : List ℕ) → one ≡ Of.Compound mask links → found ≡ links → item.by_fx ≡ false → KeepsAll 1 (slots_of (linked_slots (meanings item.codec.now.nodes) found)) ms
@@ -126,4 +123,6 @@ module _ (item : ItemView) (one : Node) (at : one ≡ get_or item.codec.now.node
       let ns = item.codec.now.nodes in
       let table = item.codec.now.table in
       let leaf = leaf_kind c ns item.link one table item.item.some item.item.within at one refl (λ w links e. no_part item.by_fx ns item.link one table item.item.some item.item.within at w links e item.item.bounds) d x in
-      leaf_stays c ns item.link ms leaf item.body.now (subst (λ fx. ItemInBounds fx (item_kind item)) whole item.item.bounds) (subst (λ fx. IsItemOf fx (item_kind item) item.body.now) whole item.item.one)
+      let bounds = subst (λ fx. ItemInBounds fx (item_kind item)) whole item.item.bounds in
+      let own = subst (λ fx. IsItemOf fx (item_kind item) item.body.now) whole item.item.one in
+      leaf_stays c ns item.link ms leaf (item_value item) bounds (spells_shape (item_kind item) (item_value item) (bits item.body.now) (value_spelled (item_kind item) item.body.now bounds own))

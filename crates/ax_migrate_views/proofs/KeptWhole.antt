@@ -1,5 +1,5 @@
 -- A compound of which each subitem keeps its slot has its own canonical octets.
-use Rattle.std.proofs.Common.{◌≡◌, ℕ, suc, ◌+◌, ◌-◌, ◌≤◌, ◌⊎◌, inl, inr, IsTrue, List, ◌++◌, length, take, drop, Option, Some, None, refl, sym, ◌∙◌, ap, arith, subst, append-nil}
+use Rattle.std.proofs.Common.{◌≡◌, ℕ, suc, ◌+◌, ◌-◌, ◌≤◌, IsTrue, List, ◌++◌, length, take, drop, Option, Some, None, refl, sym, ◌∙◌, ap, arith, subst, append-nil}
 use Rattle.ax_relation.specs.Moves.{MoveTree, move_from, MovesTree, no_moves, move_and}
 use Rattle.ax_edition_laws.proofs.CutParts.{parts_whole}
 use Rattle.ax_edition_laws.proofs.NamedOnce.{front_of, front_value, front_later}
@@ -31,9 +31,13 @@ leaf_canon c below explicit (content_octets xs) h s = refl
 leaf_canon c below explicit _ h s = absurd s
 leaf_canon c below (compound ss) v h s = absurd h
 
--- the move leaves slot t where it is, and its entry, if it is there, moves whole and is of no compound
+-- the value, if it is there, has its own canonical octets as it moves
+abbrev pub StaysWhere : ℕ → MovesTree → KindTree → Option ValueTree → Type 0
+StaysWhere c below k o = (v : ValueTree) → o ≡ Some v → Shape k v → value_canon_by c below k v ≡ canon k v
+
+-- the move leaves slot t where it is, and its entry, if it is there, has its own canonical octets as it moves
 abbrev pub KeepsOne : ℕ → KindTree → MoveTree → EntriesTree → Type 0
-KeepsOne t k (move_from s u c below) es = (s ≡ t) × (u ≡ t) × ((slot_value t es ≡ None) ⊎ IsLeaf c k)
+KeepsOne t k (move_from s u c below) es = (s ≡ t) × (u ≡ t) × StaysWhere c below k (slot_value t es)
 
 -- the same of each of these slots, of which the first has the number t, and nothing else moves
 abbrev pub KeepsThere : ℕ → SlotsTree → MovesTree → EntriesTree → Type 0
@@ -48,17 +52,11 @@ keeps_there t no_slots no_moves es h = tt
 keeps_there t no_slots (move_and m ms) es h = absurd h
 keeps_there t (slot_and spare_slot ss) ms es h = keeps_there (t + 1) ss ms es h
 keeps_there t (slot_and (subitem name k) ss) no_moves es h = absurd h
-keeps_there t (slot_and (subitem name k) ss) (move_and (move_from s u c below) ms) es h = ((h.0.0, h.0.1, inr h.0.2), keeps_there (t + 1) ss ms es h.1)
+keeps_there t (slot_and (subitem name k) ss) (move_and (move_from s u c below) ms) es h = ((h.0.0, h.0.1, λ v e. leaf_canon c below k v h.0.2), keeps_there (t + 1) ss ms es h.1)
 
-one_canon : (c : ℕ) (below : MovesTree) (k : KindTree) (o : Option ValueTree) → (o ≡ None) ⊎ IsLeaf c k → ((v : ValueTree) → o ≡ Some v → Shape k v) → spelled_where (Some k) o (value_canon_by c below) ≡ canon_where k o
-one_canon c below k o (inl e) s = ap (λ x. spelled_where (Some k) x (value_canon_by c below)) e ∙ ap (canon_where k) (sym e)
-one_canon c below k None (inr h) s = refl
-one_canon c below k (Some v) (inr h) s = leaf_canon c below k v h (s v refl)
-
--- the same of an equal value
-where_is : (c : ℕ) (k : KindTree) (o p : Option ValueTree) → o ≡ p → (o ≡ None) ⊎ IsLeaf c k → (p ≡ None) ⊎ IsLeaf c k
-where_is c k o p e (inl none) = inl (sym e ∙ none)
-where_is c k o p e (inr leaf) = inr leaf
+one_canon : (c : ℕ) (below : MovesTree) (k : KindTree) (o : Option ValueTree) → StaysWhere c below k o → ((v : ValueTree) → o ≡ Some v → Shape k v) → spelled_where (Some k) o (value_canon_by c below) ≡ canon_where k o
+one_canon c below k None h s = refl
+one_canon c below k (Some v) h s = h v refl (s v refl)
 
 -- the entries from slot t on
 pub entries_stay : (t : ℕ) (ss all : SlotsTree) (ms : MovesTree) (whole es : EntriesTree) → KeepsThere t ss ms whole → EntriesShape t ss es → ((u : ℕ) → t ≤ u → slot_value u whole ≡ slot_value u es) → 1 ≤ t
@@ -75,7 +73,7 @@ entries_stay t (slot_and (subitem name k) ss) all (move_and (move_from s u c bel
     let value : slot_value s whole ≡ f.here = ap (λ x. slot_value x whole) h.0.0 ∙ here in
     let later = entries_stay (t + 1) ss all ms whole f.rest h.1 f.later (λ u le. values u (omega arith) ∙ front_later t k ss es f u (omega arith)) (omega arith)
     (λ i. ap (λ x. kind_after x all) (let e : t + 1 - 1 + i ≡ t - 1 + suc i = omega arith in e) ∙ kinds (suc i)) in
-    (λ i. spelled_where (kind i) (value i) (value_canon_by c below) ++ later i) ∙ ap (λ x. x ++ entries_canon (t + 1) ss f.rest) (one_canon c below k f.here (where_is c k (slot_value t whole) f.here here h.0.2) f.shape)
+    (λ i. spelled_where (kind i) (value i) (value_canon_by c below) ++ later i) ∙ ap (λ x. x ++ entries_canon (t + 1) ss f.rest) (one_canon c below k f.here (λ v e. h.0.2 v (here ∙ e)) f.shape)
     ∙ sym (front_canon t name k ss f.here f.rest f.later) ∙ ap (entries_canon t (slot_and (subitem name k) ss)) (sym f.is)
 
 pub marks_stay : (t : ℕ) (ss : SlotsTree) (ms : MovesTree) (whole es : EntriesTree) (before : List ℕ) → KeepsThere t ss ms whole → EntriesShape t ss es → ((u : ℕ) → t ≤ u → slot_value u whole ≡ slot_value u es) → 1 ≤ t → t - 1 + slot_count ss ≤ 126

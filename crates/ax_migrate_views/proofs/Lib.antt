@@ -20,6 +20,8 @@ pub mod KeepingSteps
 pub mod MovesBySlot
 pub mod LaidRuns
 pub mod KeptSlots
+pub mod KeptItems
+pub mod KeptRecords
 pub mod ViewBlocks
 pub mod FrontParts
 pub mod ItemParts

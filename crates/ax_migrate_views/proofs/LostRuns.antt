@@ -100,16 +100,16 @@ lines_split block n d v m ks first e =
 below_by : (d s : ℕ) (p : RelationPath) (es : EntriesTree) → LeadsBy d s p → is_below d (marked es) p ≡ has_part_where p.part (option_and_then (value_below (drop (d + 1) (place_numbers p))) (slot_value s es))
 below_by d s p es h = ap (λ ns. has_part_where p.part (value_below ns (marked es))) h.rest
 
-below_there : (d s : ℕ) (p : RelationPath) (es : EntriesTree) (w : ValueTree) → slot_value s es ≡ Some w → LeadsBy d s p → is_below d (marked es) p ≡ is_below (d + 1) w p
+pub below_there : (d s : ℕ) (p : RelationPath) (es : EntriesTree) (w : ValueTree) → slot_value s es ≡ Some w → LeadsBy d s p → is_below d (marked es) p ≡ is_below (d + 1) w p
 below_there d s p es w there h = below_by d s p es h ∙ ap (λ o. has_part_where p.part (option_and_then (value_below (drop (d + 1) (place_numbers p))) o)) there
 
-below_none : (d s : ℕ) (p : RelationPath) (es : EntriesTree) → slot_value s es ≡ None → LeadsBy d s p → is_below d (marked es) p ≡ false
+pub below_none : (d s : ℕ) (p : RelationPath) (es : EntriesTree) → slot_value s es ≡ None → LeadsBy d s p → is_below d (marked es) p ≡ false
 below_none d s p es none h = below_by d s p es h ∙ ap (λ o. has_part_where p.part (option_and_then (value_below (drop (d + 1) (place_numbers p))) o)) none
 
 same_loss : (n d e : ℕ) (v w : ValueTree) (k : LostKey) → is_below d v (key_path k) ≡ is_below e w (key_path k) → key_loss n d v k ≡ key_loss n e w k
 same_loss n d e v w k is = ap (λ b. cond b (record { record_at = n; path = (key_path k).text } ∷ []) []) is
 
-no_loss : (n d : ℕ) (v : ValueTree) (k : LostKey) → is_below d v (key_path k) ≡ false → key_loss n d v k ≡ []
+pub no_loss : (n d : ℕ) (v : ValueTree) (k : LostKey) → is_below d v (key_path k) ≡ false → key_loss n d v k ≡ []
 no_loss n d v k is = ap (λ b. cond b (record { record_at = n; path = (key_path k).text } ∷ []) []) is
 
 -- where the slot has a value, what is lost of the keys is lost below that

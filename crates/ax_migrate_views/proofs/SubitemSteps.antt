@@ -13,10 +13,10 @@ use Rattle.ax_migrate_views.proofs.KeptSlots.{stays_there}
 use Rattle.ax_migrate_views.proofs.MovedMarks.{size_none}
 use Rattle.ax_migrate_views.proofs.MovesBySlot.{found_from, place_found, tree_at}
 use Rattle.ax_migrate_views.proofs.SubitemsStay.{remaining_stay}
-use Rattle.ax_migrate_views.specs.BySlot.{IsFrom, StayInSlots, ascends, found_canon, found_move, place_from}
+use Rattle.ax_migrate_views.specs.BySlot.{IsFrom, StayInSlots, found_canon, found_move, place_from}
 use Rattle.ax_migrate_views.specs.Lost.{NoneShared}
 use Rattle.ax_migrate_views.specs.Octets.{value_canon_by}
-use Rattle.ax_migrate_views.specs.Subitems.{LacksIn, OthersRemain, RemainsIn, StayWithout, StaysWithout}
+use Rattle.ax_migrate_views.specs.Subitems.{LacksIn, OthersAre, OthersRemain, StayWithout, StaysWithout}
 use Rattle.ax_migrate_views.specs.Wholes.{whole_entries, whole_slots}
 use Rattle.ax_model.proofs.CanonSpells.{spells_shape}
 use Rattle.ax_model.specs.At.{slot_value}
@@ -55,11 +55,11 @@ stays_as moves slot one found new =
 
 -- ---- one slot after the other
 
-pub none_leave : (nodes : List Node) (links : List ℕ) (ms : MovesTree) (leaving : List ℕ) → leaving ≡ no_marks → OthersRemain nodes links ms 1 leaving
-none_leave nodes links ms leaving e = record { size = ap length e ∙ size_none; at = λ s some lt. absurd (omega (arith, some, lt)) }
+pub none_leave : (P : ℕ → Type 0) (leaving : List ℕ) → leaving ≡ no_marks → OthersAre P 1 leaving
+none_leave P leaving e = record { size = ap length e ∙ size_none; at = λ s some lt. absurd (omega (arith, some, lt)) }
 
-pub leave_next : (nodes : List Node) (links : List ℕ) (ms : MovesTree) (n : ℕ) (leaving new : List ℕ) → 1 ≤ n → n ≤ 126 → OthersRemain nodes links ms n leaving → new ≡ set leaving (n - 1) 1 → OthersRemain nodes links ms (n + 1) new
-leave_next nodes links ms n leaving new some few h put = record {
+pub leave_next : (P : ℕ → Type 0) (n : ℕ) (leaving new : List ℕ) → 1 ≤ n → n ≤ 126 → OthersAre P n leaving → new ≡ set leaving (n - 1) 1 → OthersAre P (n + 1) new
+leave_next P n leaving new some few h put = record {
   size = ap length put ∙ length-set leaving (n - 1) 1 ∙ h.size;
   at = λ s one lt not. by s one lt not (cases_eq s n);
 }
@@ -67,19 +67,19 @@ leave_next nodes links ms n leaving new some few h put = record {
     mark : get_or new (n - 1) 0 ≡ 1
     mark = ap (λ x. get_or x (n - 1) 0) put ∙ get_or-set_same leaving (n - 1) 1 0 (omega (arith, some, few, h.size))
 
-    by : (s : ℕ) → 1 ≤ s → s < n + 1 → (IsMarked new s → ⊥) → (s ≡ n) ⊎ (s ≡ n → ⊥) → IsTrue (ascends 1 ms) × RemainsIn nodes links ms s
+    by : (s : ℕ) → 1 ≤ s → s < n + 1 → (IsMarked new s → ⊥) → (s ≡ n) ⊎ (s ≡ n → ⊥) → P s
     by s one lt not (inl e) = absurd (not (omega (arith, one), ap (λ k. get_or new (k - 1) 0) e ∙ mark))
     by s one lt not (inr d) =
         h.at s one (omega (arith, lt, d)) (λ m. not (m.0, ap (λ x. get_or x (s - 1) 0) put ∙ get_or-set_other leaving (n - 1) (s - 1) 1 0 (λ f. d (omega (arith, some, one, f))) ∙ m.1))
 
-pub remain_next : (nodes : List Node) (links : List ℕ) (ms : MovesTree) (n : ℕ) (leaving : List ℕ) → OthersRemain nodes links ms n leaving → IsTrue (ascends 1 ms) → RemainsIn nodes links ms n → OthersRemain nodes links ms (n + 1) leaving
-remain_next nodes links ms n leaving h up own = record {
+pub remain_next : (P : ℕ → Type 0) (n : ℕ) (leaving : List ℕ) → OthersAre P n leaving → P n → OthersAre P (n + 1) leaving
+remain_next P n leaving h own = record {
   size = h.size;
   at = λ s one lt not. by s one lt not (cases_eq s n);
 }
   where
-    by : (s : ℕ) → 1 ≤ s → s < n + 1 → (IsMarked leaving s → ⊥) → (s ≡ n) ⊎ (s ≡ n → ⊥) → IsTrue (ascends 1 ms) × RemainsIn nodes links ms s
-    by s one lt not (inl e) = (up, subst (RemainsIn nodes links ms) (sym e) own)
+    by : (s : ℕ) → 1 ≤ s → s < n + 1 → (IsMarked leaving s → ⊥) → (s ≡ n) ⊎ (s ≡ n → ⊥) → P s
+    by s one lt not (inl e) = subst P (sym e) own
     by s one lt not (inr d) = h.at s one (omega (arith, lt, d)) not
 
 pub none_without : (nodes : List Node) (links : List ℕ) (moves : List Move) (leaving : List (Option (List ℕ))) → leaving ≡ [] → StayWithout nodes links moves 0 leaving

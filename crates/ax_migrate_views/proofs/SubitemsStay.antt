@@ -6,11 +6,10 @@ use Rattle.ax_fspec.specs.Fields.{least_field}
 use Rattle.ax_fspec.specs.Marks.{IsMarked, no_marks, slots_of}
 use Rattle.ax_relation.specs.Moves.{MoveTree, move_from, MovesTree, no_moves, move_and}
 use Rattle.ax_migrate_views.proofs.BareItems.{absent}
-use Rattle.ax_migrate_views.proofs.KeptWhole.{KeepsOne, KeepsThere, there_stays}
+use Rattle.ax_migrate_views.proofs.KeptWhole.{KeepsOne, KeepsThere, StaysWhere, leaf_canon, there_stays}
 use Rattle.ax_migrate_views.proofs.MovesBySlot.{Absent, absent_slots, canon_from, marks_from, none_canon, none_marks}
 use Rattle.ax_migrate_views.proofs.PlacesThere.{all_absent_canon, all_absent_marks}
 use Rattle.ax_migrate_views.specs.BySlot.{ascends, found_canon, found_marks, found_move, slots_canon, slots_marks}
-use Rattle.ax_migrate_views.specs.Keeping.{IsLeaf}
 use Rattle.ax_migrate_views.specs.KnownMoves.{move_at}
 use Rattle.ax_migrate_views.specs.Lost.{NoneShared}
 use Rattle.ax_migrate_views.specs.Octets.{canon_by, entries_canon_by, field_by, marks_by}
@@ -93,13 +92,19 @@ first_in (m ∷ marks) = by (cases_eq m 1) (first_in marks)
 
 -- ---- one compound
 
-module _ (ss : SlotsTree) (ms : MovesTree) (es : EntriesTree) (marks leaving : List ℕ) (size : length marks ≡ 126) (others : (s : ℕ) → (IsMarked marks s → ⊥) → slot_value s es ≡ None) (apart : NoneShared marks leaving)
-    (remain : (s : ℕ) → 1 ≤ s → s < 127 → (IsMarked leaving s → ⊥) → IsTrue (ascends 1 ms) × Remains ss ms s) where
+-- the entry of slot s keeps its slot, and its value has its own canonical octets as it moves
+pub record RemainsHere (ss : SlotsTree) (ms : MovesTree) (es : EntriesTree) (s : ℕ) : Type 0 where
+  pub parts : ℕ
+  pub below : MovesTree
+  pub kind : KindTree
+  pub found : found_move s ms ≡ Some (move_from s s parts below)
+  pub is : kind_after (s - 1) ss ≡ Some kind
+  pub whole : StaysWhere parts below kind (slot_value s es)
+
+module _ (ss : SlotsTree) (ms : MovesTree) (es : EntriesTree) (marks : List ℕ) (others : (s : ℕ) → (IsMarked marks s → ⊥) → slot_value s es ≡ None)
+    (there : (s : ℕ) → IsMarked marks s → IsTrue (ascends 1 ms) × RemainsHere ss ms es s) where
   abbrev own : MovesTree
   own = own_moves ms 1 ss
-
-  there : (s : ℕ) → IsMarked marks s → IsTrue (ascends 1 ms) × Remains ss ms s
-  there s m = let some = m.0 in remain s (omega (arith, some)) (is_few marks s size m) (λ l. apart s m l)
 
   own_same : (s : ℕ) → IsMarked marks s → found_move s ms ≡ found_move s own
   own_same s m =
@@ -145,8 +150,9 @@ module _ (ss : SlotsTree) (ms : MovesTree) (es : EntriesTree) (marks leaving : L
           let r = (there t m).1 in
           let same : Some r.kind ≡ Some k = sym r.is ∙ kind in
           let own_kind : r.kind ≡ k = cc in
-          (refl, refl, inr (subst (λ n. IsLeaf n k) (sym (ap parts_by r.found)) (subst (IsLeaf r.parts) own_kind r.leaf)))
-      by (inr d) = (refl, refl, inl (others t d))
+          let whole : StaysWhere r.parts r.below k (slot_value t es) = subst (λ x. StaysWhere r.parts r.below x (slot_value t es)) own_kind r.whole in
+          (refl, refl, subst (λ o. StaysWhere (parts_by o) (below_by o) k (slot_value t es)) (sym r.found) whole)
+      by (inr d) = (refl, refl, λ v e shape. absurd (let no : None ≡ Some v = sym (others t d) ∙ e in cc))
 
   -- in order
   ordered : IsTrue (ascends 1 ms) → canon_by ms (compound ss) (marked es) ≡ canon_by own (compound ss) (marked es)
@@ -170,6 +176,18 @@ module _ (ss : SlotsTree) (ms : MovesTree) (es : EntriesTree) (marks leaving : L
   as_own (inl f) = ordered (there (1 + f.0) (omega arith, ap (λ n. get_or marks n 0) (let e : 1 + f.0 - 1 ≡ f.0 = omega arith in e) ∙ f.1)).0
   as_own (inr none) = nothing (λ s. others s (λ m. none (s - 1) m.1))
 
-  pub remaining_stay : EntriesShape 1 ss es → 1 ≤ slot_count ss → slot_count ss ≤ 126 → canon_by ms (compound ss) (marked es) ≡ canon (compound ss) (marked es)
-  remaining_stay shape some few =
+  pub those_stay : EntriesShape 1 ss es → 1 ≤ slot_count ss → slot_count ss ≤ 126 → canon_by ms (compound ss) (marked es) ≡ canon (compound ss) (marked es)
+  those_stay shape some few =
       as_own (first_in marks) ∙ there_stays ss own es (keeps_from 1 ss (omega arith) (λ i. ap (λ k. kind_after k ss) (let e : 1 - 1 + i ≡ i = omega arith in e))) shape some few
+
+-- where none is in a set, and the others remain
+pub remaining_stay : (ss : SlotsTree) (ms : MovesTree) (es : EntriesTree) (marks leaving : List ℕ) → length marks ≡ 126 → ((s : ℕ) → (IsMarked marks s → ⊥) → slot_value s es ≡ None) → NoneShared marks leaving
+    → ((s : ℕ) → 1 ≤ s → s < 127 → (IsMarked leaving s → ⊥) → IsTrue (ascends 1 ms) × Remains ss ms s) → EntriesShape 1 ss es → 1 ≤ slot_count ss → slot_count ss ≤ 126 → canon_by ms (compound ss) (marked es) ≡ canon (compound ss) (marked es)
+remaining_stay ss ms es marks leaving size others apart remain = those_stay ss ms es marks others there
+  where
+    there : (s : ℕ) → IsMarked marks s → IsTrue (ascends 1 ms) × RemainsHere ss ms es s
+    there s m =
+        let some = m.0 in
+        let r = remain s (omega (arith, some)) (is_few marks s size m) (λ l. apart s m l) in
+        let one = r.1 in
+        (r.0, record { parts = one.parts; below = one.below; kind = one.kind; found = one.found; is = one.is; whole = λ v e. leaf_canon one.parts one.below one.kind v one.leaf })

@@ -4,10 +4,10 @@ use Rattle.ax_relation.specs.Moves.{MoveTree, move_from, MovesTree, no_moves, mo
 use Rattle.ax_migrate_views.specs.Octets.{value_canon_by}
 use Rattle.ax_model.specs.Canonical.{canon}
 use Rattle.ax_model.specs.InBounds.{InBounds}
-use Rattle.ax_model.specs.Tree.{KindTree, extended, compound, SlotsTree, no_slots, slot_and, spare_slot, subitem}
+use Rattle.ax_model.specs.Shape.{Shape}
+use Rattle.ax_model.specs.Tree.{KindTree, extended, compound, SlotsTree, no_slots, slot_and, spare_slot, subitem, ValueTree}
 use Rattle.ax_tables.specs.Table.{kind_at}
 use Rattle.ax_tables.specs.declared.node.Node.{Node}
-use Rattle.ax_view.specs.Values.{IsOne, value_in}
 
 -- no compound, and of an extended kind no more than c parts: the first c parts of each value are all
 abbrev pub IsLeaf : ℕ → KindTree → Type 0
@@ -29,5 +29,4 @@ KeepsAll t (slot_and (subitem name k) ss) (move_and m ms) = StaysIn t k m × Kee
 
 -- the canonical octets of each value of the link's kind stay as it moves, of an extended one the first c parts
 abbrev pub MovesWhole : List Node → ℕ → ℕ → MovesTree → Type 0
-MovesWhole nodes link c ms = (octets : List ℕ) → InBounds (kind_at nodes link) → IsOne (kind_at nodes link) octets
-    → value_canon_by c ms (kind_at nodes link) (value_in (kind_at nodes link) octets) ≡ canon (kind_at nodes link) (value_in (kind_at nodes link) octets)
+MovesWhole nodes link c ms = (v : ValueTree) → InBounds (kind_at nodes link) → Shape (kind_at nodes link) v → value_canon_by c ms (kind_at nodes link) v ≡ canon (kind_at nodes link) v

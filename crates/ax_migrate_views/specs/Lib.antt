@@ -6,6 +6,7 @@ pub mod Editions
 pub mod Fronts
 pub mod Gone
 pub mod Keeping
+pub mod Kept
 pub mod KnownMoves
 pub mod Laying
 pub mod Losses

@@ -34,10 +34,14 @@ pub record Remains (ss : SlotsTree) (ms : MovesTree) (s : ℕ) : Type 0 where
 abbrev pub RemainsIn : List Node → List ℕ → MovesTree → ℕ → Type 0
 RemainsIn nodes links ms s = Remains (slots_in (record_kind_at nodes links)) ms s
 
--- of slots below n, those that aren't in the set remain, and where there is such a one the moves are in order
-pub record OthersRemain (nodes : List Node) (links : List ℕ) (ms : MovesTree) (n : ℕ) (leaving : List ℕ) : Type 0 where
+-- it holds of the slots below n that aren't in the set
+pub record OthersAre (P : ℕ → Type 0) (n : ℕ) (leaving : List ℕ) : Type 0 where
   pub size : length leaving ≡ 126
-  pub at : (s : ℕ) → 1 ≤ s → s < n → (IsMarked leaving s → ⊥) → IsTrue (ascends 1 ms) × RemainsIn nodes links ms s
+  pub at : (s : ℕ) → 1 ≤ s → s < n → (IsMarked leaving s → ⊥) → P s
+
+-- of slots below n, those that aren't in the set remain, and where there is such a one the moves are in order
+abbrev pub OthersRemain : List Node → List ℕ → MovesTree → ℕ → List ℕ → Type 0
+OthersRemain nodes links ms n leaving = OthersAre (λ s. IsTrue (ascends 1 ms) × RemainsIn nodes links ms s) n leaving
 
 -- ---- compounds
 

@@ -4,6 +4,7 @@ ghost use Rattle.ax_relation.specs.PlainMoves.{moves_tree};
 ghost use Rattle.ax_migrate.specs.Finding.{record_losses};
 ghost use Rattle.ax_migrate.specs.Losing.{lost_lines};
 ghost use Rattle.ax_migrate_views.specs.Bodies.{IsRecordPlaced, LaysBody, TellsBody};
+ghost use Rattle.ax_migrate_views.specs.Kept.{KeepsRecords};
 ghost use Rattle.ax_migrate_views.specs.KnownMoves.{KnowsMoves};
 ghost use Rattle.ax_migrate_views.specs.Laying.{Gathers, Lays};
 ghost use Rattle.ax_migrate_views.specs.Lost.{AreRuns, key_paths};
@@ -15,7 +16,8 @@ ghost use Rattle.ax_view.specs.Placing.{entries_there};
 ghost use Rattle.ax_view.specs.Views.{FailsThere, SpellsSome};
 
 use crate::by_slot::SlotMoves;
-use crate::in_order::lay_moved;
+use crate::in_order::{lay_moved, lay_run};
+use crate::kept::{KeptSlots, kept_end};
 use crate::lost::LostKey;
 use crate::telling::tell_record;
 use ax_model::BodyFault;
@@ -93,12 +95,14 @@ pub(crate) fn lay_body(
     body: &[u8],
     moves: &Moves,
     known: &SlotMoves,
+    kept: &KeptSlots,
     lost: &[LostKey<'_>],
     block: u64,
     output: &mut [u8],
     lines: &mut [u8],
 ) -> Result<Laid, BodyFault>
     requires known { KnowsMoves codec.now.nodes codec.now.slots moves.now known.now }
+    requires kept { KeepsRecords codec.now moves.now lost.now kept.now }
     requires runs { AreRuns lost.now }
     requires size { (1 ≤ length body.now) × (length body.now ≤ longest_body) }
     requires room { length output.old ≡ 131067 }
@@ -115,7 +119,14 @@ pub(crate) fn lay_body(
     let mut told = 0;
     let mut number = 0;
     let mut here = 0;
+    let rows = codec.nodes.rows_for(codec.slots.as_slice());
     while (here as usize) < body.len() {
+        if let Some(next) = kept_end(codec, rows, kept, body, here) {
+            end = lay_run(body, here, next, end, output);
+            here = next;
+            number += 1;
+            continue;
+        }
         let mut notes = Notes::new();
         let Some(next) = place_record(codec, body, here, &mut notes, &mut places) else {
             return Err(notes.fault);

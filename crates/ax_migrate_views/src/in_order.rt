@@ -61,7 +61,7 @@ fn marked_anew(whole: &PlacedSlots<'_, '_, '_>, moves: &[Move], known: &SlotMove
 
 /// Lays the octets of a body from `start` up to `stop`.
 #[inline(always)]
-fn lay_run(body: &[u8], start: u32, stop: u32, at: u32, output: &mut [u8]) -> u32
+pub(crate) fn lay_run(body: &[u8], start: u32, stop: u32, at: u32, output: &mut [u8]) -> u32
     requires run { (start ≤ stop) × (stop ≤ length body.now) }
     requires room { length output.old ≡ 131067 }
     ensures laid { Lays (bits (run_octets start stop body.now)) at result output.old output.new }

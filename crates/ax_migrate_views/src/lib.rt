@@ -9,6 +9,7 @@ mod examples;
 mod fronts;
 mod in_order;
 mod keeping;
+mod kept;
 mod known_moves;
 mod laws;
 mod laying;

@@ -10,6 +10,7 @@ ghost use Rattle.ax_view.specs.Views.{FailsThere, SpellsSome};
 
 use crate::bodies::{Laid, lay_body};
 use crate::by_slot::know_moves;
+use crate::kept::kept_slots;
 use crate::lost::lost_keys;
 use crate::migrator::Migrator;
 use ax_model::{BodyFault, Spec};
@@ -44,6 +45,7 @@ impl<'c> Migrator<'c> {
     {
         let lost = lost_keys(alloc, relation.paths())?;
         let known = know_moves(alloc, codec, relation.moves())?;
+        let kept = kept_slots(alloc, codec, relation.moves(), lost.as_slice())?;
         Ok(Migrator {
             old,
             new,
@@ -51,6 +53,7 @@ impl<'c> Migrator<'c> {
             codec,
             lost,
             known,
+            kept,
         })
     }
 
@@ -88,6 +91,7 @@ impl<'c> Migrator<'c> {
             body,
             moves,
             &self.known,
+            &self.kept,
             self.lost.as_slice(),
             number,
             output,
@@ -114,7 +118,17 @@ impl<'c> Migrator<'c> {
         ensures lines_room { length lines.new ≡ 131067 }
     {
         let moves = self.relation.moves();
-        let laid = lay_body(self.codec, body, moves, &self.known, &[], 0, output, lines)?;
+        let laid = lay_body(
+            self.codec,
+            body,
+            moves,
+            &self.known,
+            &self.kept,
+            &[],
+            0,
+            output,
+            lines,
+        )?;
         let count = laid.octets;
         write_head(self.codec.category(), count, output);
         Ok(count)

@@ -1,8 +1,10 @@
 //! What blocks are migrated by.
 ghost use Rattle.ax_migrate_views.specs.Editions.{AreEditions, AreEditions-prop};
+ghost use Rattle.ax_migrate_views.specs.Kept.{KeepsRecords, KeepsRecords-prop};
 ghost use Rattle.ax_migrate_views.specs.KnownMoves.{KnowsMoves, KnowsMoves-prop};
 
 use crate::by_slot::SlotMoves;
+use crate::kept::KeptSlots;
 use crate::lost::LostKey;
 use ax_model::Spec;
 use ax_relation::Relation;
@@ -21,6 +23,9 @@ pub struct Migrator<'c> {
     pub(crate) lost: Vec<LostKey<'c>>,
     /// What is known of the relation's moves.
     pub(crate) known: SlotMoves,
+    /// By what its records are known to stay as they are, and to lose nothing.
+    pub(crate) kept: KeptSlots,
     ghost editions: { AreEditions old.now new.now relation.now codec.now lost.items } by { AreEditions-prop old.now new.now relation.now codec.now lost.items },
+    ghost kept_records: { KeepsRecords codec.now relation.now.moves lost.items kept } by { KeepsRecords-prop codec.now relation.now.moves lost.items kept },
     ghost moves: { KnowsMoves codec.now.nodes codec.now.slots relation.now.moves known } by { KnowsMoves-prop codec.now.nodes codec.now.slots relation.now.moves known },
 }

@@ -1,4 +1,5 @@
 use Rattle.std.proofs.Common.{arith}
+use Rattle.ax_migrate_views.proofs.KeptRecords.{kept_laid, kept_read, kept_told}
 use Rattle.ax_migrate_views.proofs.BodySteps.{body_first, body_next, body_fails, body_laid, body_told, body_spelled, body_goes_on}
 use Rattle.ax_migrate_views.specs.Lost.{key_paths}
 use Rattle.ax_migrate_views.proofs.bodies.lay_body.Goals as goal
@@ -6,26 +7,26 @@ use Rattle.ax_migrate_views.proofs.bodies.lay_body.Goals as goal
 pub loop-here-init : goal.loop-here-init
 loop-here-init c = body_first c.args.codec.now c.args.moves.now (key_paths c.args.lost.now) c.args.block c.args.body.now c.args.output.now c.args.lines.now
 
-pub returns-in_default-clause-fault : goal.returns-in_default-clause-fault
-returns-in_default-clause-fault c = body_fails c.args.codec.now c.args.moves.now (key_paths c.args.lost.now) c.args.block c.args.body.now c.loop-here.here c.loop-here.end c.loop-here.number c.loop-here.told c.args.output.now c.loop-here.output c.args.lines.now c.loop-here.lines c.loop-here.invariant c.loop-here-test.true c.place_record.new.notes.fault c.in_default.ensures.fault
+pub returns-in_default-place_record-clause-fault : goal.returns-in_default-place_record-clause-fault
+returns-in_default-place_record-clause-fault c = body_fails c.args.codec.now c.args.moves.now (key_paths c.args.lost.now) c.args.block c.args.body.now c.loop-here.here c.loop-here.end c.loop-here.number c.loop-here.told c.args.output.now c.loop-here.output c.args.lines.now c.loop-here.lines c.loop-here.invariant c.loop-here-test.true c.place_record.new.notes.fault c.in_default-place_record.ensures.fault
 
 pub lay_record-end-requires-clause-placed : goal.lay_record-end-requires-clause-placed
-lay_record-end-requires-clause-placed c = record { end = c.in-Some.next; placed = c.in-Some.ensures.end }
+lay_record-end-requires-clause-placed c = record { end = c.in-Some-place_record.next; placed = c.in-Some-place_record.ensures.end }
 
 pub tell_losses-told-requires-clause-placed : goal.tell_losses-told-requires-clause-placed
-tell_losses-told-requires-clause-placed c = record { end = c.in-Some.next; placed = c.in-Some.ensures.end }
+tell_losses-told-requires-clause-placed c = record { end = c.in-Some-place_record.next; placed = c.in-Some-place_record.ensures.end }
 
 pub overflow_add-number : goal.overflow_add-number
 overflow_add-number c = omega (arith, c.loop-here.invariant.few, c.loop-here.invariant.within, c.requires.size.1)
 
 pub loop-here-smaller : goal.loop-here-smaller
 loop-here-smaller c =
-    omega (arith, body_goes_on c.args.codec.now c.args.body.now c.loop-here.here c.in-Some.next c.place_record.new.places c.in-Some.ensures.end, c.in-Some.ensures.end.read.within)
+    omega (arith, body_goes_on c.args.codec.now c.args.body.now c.loop-here.here c.in-Some-place_record.next c.in-Some-place_record.ensures.end.entries c.in-Some-place_record.ensures.end.read, c.in-Some-place_record.ensures.end.read.within)
 
 pub loop-here-preserved : goal.loop-here-preserved
 loop-here-preserved c =
     body_next c.args.codec.now c.args.moves.now (key_paths c.args.lost.now) c.args.block c.args.body.now c.loop-here.here c.loop-here.end c.loop-here.number c.loop-here.told c.args.output.now c.loop-here.output c.args.lines.now c.loop-here.lines c.loop-here.invariant c.loop-here-test.true
-    c.in-Some.next c.lay_record-end.result c.lay_record-end.new.output c.place_record.new.places c.in-Some.ensures.end c.lay_record-end.ensures.laid c.tell_losses-told.result c.tell_losses-told.new.lines c.tell_losses-told.ensures.told
+    c.in-Some-place_record.next c.lay_record-end.result c.lay_record-end.new.output c.in-Some-place_record.ensures.end.entries c.in-Some-place_record.ensures.end.read c.lay_record-end.ensures.laid c.tell_losses-told.result c.tell_losses-told.new.lines c.tell_losses-told.ensures.told
 
 pub returns-clause-spelled : goal.returns-clause-spelled
 returns-clause-spelled c = body_spelled c.args.codec.now c.args.moves.now (key_paths c.args.lost.now) c.args.block c.args.body.now c.loop-here.here c.loop-here.end c.loop-here.number c.loop-here.told c.args.output.now c.loop-here.output c.args.lines.now c.loop-here.lines c.loop-here.invariant c.loop-here-test.false c.requires.size.0
@@ -35,3 +36,23 @@ returns-clause-laid c = body_laid c.args.codec.now c.args.moves.now (key_paths c
 
 pub returns-clause-told : goal.returns-clause-told
 returns-clause-told c = body_told c.args.codec.now c.args.moves.now (key_paths c.args.lost.now) c.args.block c.args.body.now c.loop-here.here c.loop-here.end c.loop-here.number c.loop-here.told c.args.output.now c.loop-here.output c.args.lines.now c.loop-here.lines c.loop-here.invariant c.loop-here-test.false
+
+pub loop-here-smaller-in-Some : goal.loop-here-smaller-in-Some
+loop-here-smaller-in-Some c =
+    let k = c.in-Some.ensures in
+    let read = kept_read c.args.codec.now c.args.moves.now c.args.lost.now c.args.kept.now c.args.body.now c.loop-here.here c.in-Some.next k c.requires.kept in
+    omega (arith, body_goes_on c.args.codec.now c.args.body.now c.loop-here.here c.in-Some.next k.entries read, read.within)
+
+pub loop-here-preserved-in-Some : goal.loop-here-preserved-in-Some
+loop-here-preserved-in-Some c =
+    let codec = c.args.codec.now in
+    let moves = c.args.moves.now in
+    let keys = c.args.lost.now in
+    let body = c.args.body.now in
+    let here = c.loop-here.here in
+    let next = c.in-Some.next in
+    let k = c.in-Some.ensures in
+    let read = kept_read codec moves keys c.args.kept.now body here next k c.requires.kept in
+    let laid = kept_laid codec moves keys c.args.kept.now body here next k c.requires.kept c.loop-here.end c.lay_run-end.result c.loop-here.output c.lay_run-end.new.output c.lay_run-end.ensures.laid in
+    let told = kept_told codec moves keys c.args.kept.now body here next k c.requires.kept c.args.block c.loop-here.number c.loop-here.told c.loop-here.lines c.requires.runs (omega (arith, c.loop-here.invariant.counted)) in
+    body_next codec moves (key_paths keys) c.args.block body here c.loop-here.end c.loop-here.number c.loop-here.told c.args.output.now c.loop-here.output c.args.lines.now c.loop-here.lines c.loop-here.invariant c.loop-here-test.true next c.lay_run-end.result c.lay_run-end.new.output k.entries read laid c.loop-here.told c.loop-here.lines told

@@ -4,8 +4,11 @@ use Rattle.ax_migrate_views.proofs.MovesBySlot.{copied_by, found_from, move_ther
 use Rattle.ax_migrate_views.proofs.Slots.{table_kind}
 use Rattle.ax_migrate_views.specs.BySlot.{found_canon}
 use Rattle.ax_migrate_views.specs.Wholes.{slots_in}
+use Rattle.ax_bits.specs.Bits.{bits}
+use Rattle.ax_model.proofs.CanonSpells.{spells_shape}
 use Rattle.ax_model.specs.Canonical.{canon}
 use Rattle.ax_tables.specs.Table.{kind_at, record_kind_at}
+use Rattle.ax_view.proofs.Spelled.{value_spelled}
 use Rattle.ax_view.specs.Values.{value_in}
 use Rattle.ax_migrate_views.proofs.by_slot.does_stay.Goals as goal
 
@@ -27,4 +30,4 @@ returns-then-link-gt0 c sure es octets some bounds one there =
     let found = move_there c.args.moves.now c.args.places.now slot _ c.requires.places c.requires.slot refl (omega (arith, c.if-place-eq0.false)) move c.index-moves-place.is in
     let keeps = c.keeps.ensures sure in
     ap (λ o. found_canon o ss es) found
-    ∙ copied_by slot move ss es k (value_in k octets) (canon k (value_in k octets)) (found_from slot (moves_tree c.args.moves.now) (move_tree move) found) (table_kind ns links (slot - 1) link refl some) there (keeps octets bounds one)
+    ∙ copied_by slot move ss es k (value_in k octets) (canon k (value_in k octets)) (found_from slot (moves_tree c.args.moves.now) (move_tree move) found) (table_kind ns links (slot - 1) link refl some) there (keeps (value_in k octets) bounds (spells_shape k (value_in k octets) (bits octets) (value_spelled k octets bounds one)))

@@ -1,8 +1,15 @@
-use Rattle.std.proofs.Common.{arith, ap, subst, ◌∙◌}
+use Rattle.std.proofs.Common.{[], arith, ap, subst, sym, ◌∙◌}
+use Rattle.ax_migrate_views.proofs.KeptRecords.{no_keys}
 use Rattle.ax_migrate_views.proofs.MigratedBlocks.{migrated_laid}
 use Rattle.ax_migrate_views.specs.Blocks.{with_head}
 use Rattle.ax_migrate_views.specs.Bodies.{LaysBody}
+use Rattle.ax_migrate_views.specs.Kept.{KeepsRecords}
 use Rattle.ax_migrate_views.proofs.migrator.Migrator.lay_block.Goals as goal
+
+pub lay_body-requires-clause-kept : goal.lay_body-requires-clause-kept
+lay_body-requires-clause-kept c =
+    let m = c.args.self.now in
+    subst (λ ms. KeepsRecords m.codec.now ms [] m.kept) (sym c.moves-moves.ensures) (no_keys m.codec.now m.relation.now.moves m.lost.items m.kept m.kept_records)
 
 pub returns-clause-laid : goal.returns-clause-laid
 returns-clause-laid c =

@@ -1,0 +1,6 @@
+use Rattle.ax_relation.specs.PlainMoves.{moves_tree}
+use Rattle.ax_migrate_views.specs.Kept.{ShortStay}
+use Rattle.ax_migrate_views.proofs.kept.short_items.Given as goal
+
+abbrev pub invariant-loop-slot : goal.invariant-loop-slot
+invariant-loop-slot l = ShortStay l.nodes l.links (moves_tree l.moves) l.lost l.slot l.short.items

@@ -186,6 +186,18 @@ pub(crate) fn kept_slots(
     Ok(KeptSlots { leaving, short })
 }
 
+/// Whether no item of the slot, if one is given, is short: so much is known before the record is walked over.
+#[inline]
+fn is_never_short(slot: Option<u32>, short: &[u32]) -> bool
+    requires short { length short.now ≡ 127 }
+    requires slot { IfSome slot (λ s. s < 127) }
+{
+    match slot {
+        Some(slot) => short[slot as usize] == 0,
+        None => false,
+    }
+}
+
 /// Whether there is an item in the slot, if one is given, of fewer octets than `short` has for it.
 #[inline]
 fn is_short(record: &RecordView<'_, '_>, slot: Option<u32>, short: &[u32]) -> bool
@@ -224,7 +236,7 @@ pub(crate) fn kept_end(
     };
     let mut leaving = marked.common(&kept.leaving);
     let first = leaving.take_first();
-    if leaving.take_first().is_some() {
+    if leaving.take_first().is_some() || is_never_short(first, kept.short.as_slice()) {
         return None;
     }
     let mut notes = Notes::new();

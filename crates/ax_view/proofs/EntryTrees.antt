@@ -15,7 +15,7 @@ use Rattle.ax_tables.specs.Meaning.{meanings, linked_slots}
 use Rattle.ax_tables.specs.Table.{kind_at}
 use Rattle.ax_tables.specs.declared.node.Node.{Node}
 use Rattle.ax_view.proofs.FixedTrees.{maps_end}
-use Rattle.ax_view.proofs.Found.{Left, left_first, left_next, found, next_alone}
+use Rattle.ax_view.proofs.Found.{Left, all_got, left_first, left_next, found, next_alone}
 use Rattle.ax_view.proofs.ItemTrees.{links_shown}
 use Rattle.ax_view.proofs.MarkedSteps.{NextMarked, no_entries_left, greatest}
 use Rattle.std.proofs.lemmas.List.{length-map}
@@ -47,7 +47,7 @@ pub record EntriesMade (slots : List SlotTree) (marks left body : List ℕ) (at 
   pub same : map entry_tree made ++ entries_list (entries_found (entries_at (slots_of slots) left body here)) ≡ entries_list (entries_found (entries_at (slots_of slots) marks body at))
 
 pub entries_begin : (slots : List SlotTree) (marks body : List ℕ) (at : ℕ) → length marks ≡ 126 → NoneUndefined (defined_slots (slots_of slots)) marks → AreBits marks → at ≤ length body → IsAll (entries_at (slots_of slots) marks body at) → EntriesMade slots marks marks body at at []
-entries_begin slots marks body at size clear bit le all = record { where_left = left_first slots marks body at 0 clear bit le all; few = omega (arith, slots_count 1 marks); same = refl }
+entries_begin slots marks body at size clear bit le all = record { where_left = left_first slots marks body at 0 clear bit le (all_got (entries_at (slots_of slots) marks body at) all); few = omega (arith, slots_count 1 marks); same = refl }
 
 module _ (nodes : List Node) (links marks left now body : List ℕ) (t at here : ℕ) (made : List Entry) (h : EntriesMade (linked_slots (meanings nodes) links) marks left body at here made) (n : NextMarked nodes links left now t) (some : 1 ≤ t) (taken : Marks.slots_of left ≡ t ∷ Marks.slots_of now) where
   pub entries_few : length made < 126

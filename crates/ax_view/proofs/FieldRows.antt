@@ -114,6 +114,15 @@ marks_next body at i more lt =
     sym (append_assoc (marks_of (take i (drop at body))) (seven (get_or body (at + i) 0 / 2)) more)
     ∙ ap (λ z. z ++ more) (ap (λ z. marks_of (take i (drop at body)) ++ z) (sym (append-nil (seven (get_or body (at + i) 0 / 2)))) ∙ sym (marks_append (take i (drop at body)) (get_or body (at + i) 0 ∷ [])) ∙ ap marks_of (sym one))
 
+-- a field of so many octets, whatever its marks stand for
+pub field_presence : (k : ℕ) (body : List ℕ) (at count : ℕ) → IsField body at count → count ≤ k → Presence k (marks_of (take count (drop at body))) (bits (take count (drop at body)))
+field_presence k body at count f few =
+    let window = take count (drop at body) in
+    let long : length window ≡ count = window_length body at count f.within in
+    let ends : Ends window = ends_all window (omega (arith, f.some)) (λ j lt. ap (λ x. x % 2) (window_at body at count j (omega arith)) ∙ f.goes_on j (omega arith))
+    (subst (λ n. get_or window (n - 1) 0 % 2 ≡ 0) (sym long) (ap (λ x. x % 2) (window_at body at count (count - 1) (omega (arith, f.some))) ∙ f.ends)) in
+    presence_of k window (omega (arith, few)) ends
+
 none_in_zeros : (n : ℕ) → IsTrue (none_marked (replicate n 0))
 none_in_zeros zero = refl
 none_in_zeros (suc n) = none_in_zeros n
@@ -132,8 +141,6 @@ field_marks_slots ms octets links mask body at count m f few most h =
     let zeros : List ℕ = replicate (126 - 7 * count) 0 in
     let long : length window ≡ count = window_length body at count f.within in
     let size : length (marks_of window) ≡ 7 * count = length_marks window ∙ ap (λ n. 7 * n) long in
-    let ends : Ends window = ends_all window (omega (arith, f.some)) (λ j lt. ap (λ x. x % 2) (window_at body at count j (omega arith)) ∙ f.goes_on j (omega arith))
-    (subst (λ n. get_or window (n - 1) 0 % 2 ≡ 0) (sym long) (ap (λ x. x % 2) (window_at body at count (count - 1) (omega (arith, f.some))) ∙ f.ends)) in
     let front : take (7 * count) (marks_of window ++ zeros) ≡ marks_of window = take_at (marks_of window) zeros (7 * count) size in
     let clear : NoneUndefined (mask_slots mask) (marks_of window) = subst (λ ds. NoneUndefined ds (marks_of window)) (sym m.defined)
     (field_clear ms octets links window (λ j lt. subst (λ x. HaveRow octets (slots_at j links) (seven (x / 2))) (sym (window_at body at count j (omega arith))) (h.each j (omega arith)))) in
@@ -144,7 +151,7 @@ field_marks_slots ms octets links mask body at count m f few most h =
       field = record {
         octets = count;
         field = subst (λ k. IsP (take (7 * count) (marks_of window ++ zeros)) (bits (take k (drop at body)))) same
-            (subst (λ b. IsP b (bits window)) (sym front) (record { field = presence_of (octets_needed mask.count) window (omega (arith, few)) ends; clear = clear }));
+            (subst (λ b. IsP b (bits window)) (sym front) (record { field = field_presence (octets_needed mask.count) body at count f few; clear = clear }));
         no_other = subst (λ r. IsTrue (none_marked r)) (sym (drop_at (marks_of window) zeros (7 * count) size)) (none_after count);
       };
       size = length-append (marks_of window) zeros ∙ (let e : length (marks_of window) + length zeros ≡ 126 = omega (arith, size, length-replicate {A = ℕ} (126 - 7 * count) 0, few, most) in e);

@@ -29,7 +29,7 @@ use Rattle.ax_view.proofs.MarkedSteps.{NextMarked, no_entries_left}
 use Rattle.ax_view.proofs.NodeKinds.{is_element, is_group, no_part, is_extended, is_counted, is_by_fx, is_explicit, is_compound}
 use Rattle.ax_model.specs.At.{slot_value}
 use Rattle.ax_tables.specs.declared.codec.Codec.{Codec}
-use Rattle.ax_view.specs.Values.{IsItem, IsItemOf, ItemInBounds, IsAll, IsOne, value_read, entries_found, value_in, entries_in}
+use Rattle.ax_view.specs.Values.{IsItem, IsItemOf, ItemInBounds, IsAll, IsGot, IsOne, value_read, entries_found, value_in, entries_in}
 use Rattle.ax_view.specs.InPlace.{StandsInPlace}
 use Rattle.ax_view.specs.Shown.{IsOfSlot, IsSubitem}
 use Rattle.ax_view.specs.Walking.{Walks}
@@ -41,7 +41,18 @@ pub all_after : {A B : Type 0} (n : ℕ) (f : A → B) (r : Read A) → IsAll (a
 all_after n f (got a m y) h = h
 all_after n f (failed p c) h = h
 
-found_after : (t n : ℕ) (v : ValueTree) (r : Read EntriesTree) → IsAll r → entries_found (after n (λ es. entry_and t v es) r) ≡ entry_and t v (entries_found r)
+pub all_got : {A : Type 0} (r : Read A) → IsAll r → IsGot r
+all_got (got a n y) h = tt
+all_got (failed p c) h = absurd h
+
+got_after : {A B : Type 0} (n : ℕ) (f : A → B) (r : Read A) → IsGot (after n f r) → IsGot r
+got_after n f (got a m y) h = tt
+got_after n f (failed p c) h = absurd h
+
+got_never : {A : Type 0} (p : ℕ) (c : BodyCause) (r : Read A) → r ≡ failed p c → IsGot r → ⊥
+got_never p c r e h = subst IsGot e h
+
+found_after : (t n : ℕ) (v : ValueTree) (r : Read EntriesTree) → IsGot r → entries_found (after n (λ es. entry_and t v es) r) ≡ entry_and t v (entries_found r)
 found_after t n v (got es m y) h = refl
 found_after t n v (failed p c) h = absurd h
 
@@ -71,6 +82,12 @@ alone k body at end v bounds h =
       value = ap value_read e;
     }
 
+pub walked_one : (k : KindTree) (body : List ℕ) (here end : ℕ) (v : ValueTree) → InBounds k → Gets (kind_read k body here) body here end v → length body ≤ 65532 → IsOne k (take (end - here) (drop here body))
+walked_one k body here end v bounds h few = record {
+  all = (alone k body here end v bounds h).all;
+  few = omega (arith, h.forwards, h.within, few, length-drop here body, length-take-le (end - here) (drop here body) (omega (arith, length-drop here body, h.within)));
+}
+
 -- ---- entries
 
 -- what is looked for stands in the entries from octet `here` on exactly as in all of them
@@ -78,11 +95,11 @@ pub record Left (slots : List SlotTree) (marks left body : List ℕ) (at here sl
   pub within : here ≤ length body
   pub clear : NoneUndefined (defined_slots (slots_of slots)) left
   pub are_bits : AreBits left
-  pub all : IsAll (entries_at (slots_of slots) left body here)
+  pub some : IsGot (entries_at (slots_of slots) left body here)
   pub same : slot_value slot (entries_found (entries_at (slots_of slots) left body here)) ≡ slot_value slot (entries_found (entries_at (slots_of slots) marks body at))
 
-pub left_first : (slots : List SlotTree) (marks body : List ℕ) (at slot : ℕ) → NoneUndefined (defined_slots (slots_of slots)) marks → AreBits marks → at ≤ length body → IsAll (entries_at (slots_of slots) marks body at) → Left slots marks marks body at at slot
-left_first slots marks body at slot clear bit le all = record { within = le; clear = clear; are_bits = bit; all = all; same = refl }
+pub left_first : (slots : List SlotTree) (marks body : List ℕ) (at slot : ℕ) → NoneUndefined (defined_slots (slots_of slots)) marks → AreBits marks → at ≤ length body → IsGot (entries_at (slots_of slots) marks body at) → Left slots marks marks body at at slot
+left_first slots marks body at slot clear bit le some = record { within = le; clear = clear; are_bits = bit; some = some; same = refl }
 
 is_false : (b : Bool) → (b ≡ true → ⊥) → b ≡ false
 is_false true h = absurd (h refl)
@@ -99,25 +116,25 @@ module _ (nodes : List Node) (links marks left now body : List ℕ) (t at here s
   unfolding kind_read entries_at
   next_failed fault l =
       let ss = slots_of (linked_slots (meanings nodes) links) in
-      not_failed l.place fault.cause (entries_at ss left body here) (n.reads (bits (drop here body)) ∙ ap (λ r. both (λ v es. entry_and t v es) r (entries_read 1 ss now)) l.failed) h.all
+      got_never l.place fault.cause (entries_at ss left body here) (n.reads (bits (drop here body)) ∙ ap (λ r. both (λ v es. entry_and t v es) r (entries_read 1 ss now)) l.failed) h.some
 
   module _ (end : ℕ) (least : Bool) (w : Walks (canon (kind_at nodes (get_or links (t - 1) 0))) (kind_read (kind_at nodes (get_or links (t - 1) 0)) body here) body here end least) where
     goes_on : entries_at (slots_of (linked_slots (meanings nodes) links)) left body here ≡ after (8 * (end - here)) (λ es. entry_and t w.value es) (entries_at (slots_of (linked_slots (meanings nodes) links)) now body end)
     unfolding kind_read entries_at
     goes_on = n.reads (bits (drop here body)) ∙ ap (λ r. both (λ v es. entry_and t v es) r (entries_read 1 (slots_of (linked_slots (meanings nodes) links)) now)) w.read.got
 
-    rest_all : IsAll (entries_at (slots_of (linked_slots (meanings nodes) links)) now body end)
-    rest_all = all_after (8 * (end - here)) (λ es. entry_and t w.value es) (entries_at (slots_of (linked_slots (meanings nodes) links)) now body end) (subst IsAll goes_on h.all)
+    rest_some : IsGot (entries_at (slots_of (linked_slots (meanings nodes) links)) now body end)
+    rest_some = got_after (8 * (end - here)) (λ es. entry_and t w.value es) (entries_at (slots_of (linked_slots (meanings nodes) links)) now body end) (subst IsGot goes_on h.some)
 
     pub found : entries_found (entries_at (slots_of (linked_slots (meanings nodes) links)) left body here) ≡ entry_and t w.value (entries_found (entries_at (slots_of (linked_slots (meanings nodes) links)) now body end))
-    found = ap entries_found goes_on ∙ found_after t (8 * (end - here)) w.value (entries_at (slots_of (linked_slots (meanings nodes) links)) now body end) rest_all
+    found = ap entries_found goes_on ∙ found_after t (8 * (end - here)) w.value (entries_at (slots_of (linked_slots (meanings nodes) links)) now body end) rest_some
 
     pub left_next : (t ≡ slot → ⊥) → Left (linked_slots (meanings nodes) links) marks now body at end slot
     left_next other = record {
       within = w.read.within;
       clear = n.clear;
       are_bits = n.are_bits;
-      all = rest_all;
+      some = rest_some;
       same = sym (ap (slot_value slot) found ∙ not_here (not_same t slot other)) ∙ h.same;
     }
       where
@@ -131,7 +148,7 @@ module _ (nodes : List Node) (links marks left now body : List ℕ) (t at here s
     next_found this = ap (λ v. Some v) next_alone.value ∙ sym (ap (slot_value slot) found ∙ here_is slot t w.value (entries_found (entries_at (slots_of (linked_slots (meanings nodes) links)) now body end)) (Least.here t slot this)) ∙ h.same
 
     pub next_one : length body ≤ 65532 → IsOne (kind_at nodes (get_or links (t - 1) 0)) (take (end - here) (drop here body))
-    next_one few = record { all = next_alone.all; few = omega (arith, w.read.forwards, w.read.within, few, length-drop here body, length-take-le (end - here) (drop here body) (omega (arith, length-drop here body, w.read.within))) }
+    next_one few = walked_one (kind_at nodes (get_or links (t - 1) 0)) body here end w.value n.bounds w.read few
 
 pub left_none : (slots : List SlotTree) (marks left body : List ℕ) (at here slot : ℕ) → Left slots marks left body at here slot → Marks.slots_of left ≡ [] → None ≡ slot_value slot (entries_found (entries_at (slots_of slots) marks body at))
 unfolding entries_at

@@ -1,5 +1,5 @@
 -- The octets of a slot stand in its place.
-use Rattle.std.proofs.Common.{◌≡◌, ℕ, ◌+◌, ◌-◌, ◌*◌, ◌≤◌, ◌==◌, if◌then◌else◌, Bool, true, false, List, [], ◌++◌, length, take, drop, get_or, Option, Some, None, IfSome, refl, sym, ◌∙◌, ap, arith, subst, append-nil, append_assoc, take-append-drop, drop-drop}
+use Rattle.std.proofs.Common.{◌≡◌, ℕ, ◌+◌, ◌-◌, ◌*◌, ◌≤◌, ◌==◌, if◌then◌else◌, Bool, true, false, List, [], ◌++◌, length, take, drop, get_or, Option, Some, None, IfSome, option_map, refl, sym, ◌∙◌, ap, arith, subst, append-nil, append_assoc, take-append-drop, drop-drop}
 use Rattle.std.proofs.lemmas.List.{length-map}
 use Rattle.ax_bits.specs.Bits.{bits}
 use Rattle.ax_fspec.specs.Fields.{MarksSlots}
@@ -9,14 +9,19 @@ use Rattle.ax_model.specs.Canonical.{canon}
 use Rattle.ax_model.specs.Presence.{Presence, octets_needed}
 use Rattle.ax_model.specs.Tree.{ValueTree, EntriesTree, no_entries, entry_and, slots_of}
 use Rattle.ax_reader.proofs.Exact.{spelled_at}
-use Rattle.ax_reader.specs.Reading.{IsMaskOf, kind_read, entries_at}
+use Rattle.ax_model.specs.Reader.{got}
+use Rattle.ax_reader.specs.Reading.{Gets, IsMaskOf, kind_read, entries_at}
 use Rattle.ax_tables.specs.Meaning.{meanings, linked_slot, linked_slots}
 use Rattle.ax_tables.specs.Table.{kind_at, record_kind_at}
+use Rattle.ax_model.specs.At.{slot_value}
+use Rattle.ax_tables.specs.declared.codec.Codec.{Codec}
 use Rattle.ax_tables.specs.declared.node.Node.{Node}
 use Rattle.ax_view.proofs.Found.{Left, found, not_same}
 use Rattle.ax_view.proofs.MarkedSteps.{NextMarked}
 use Rattle.ax_view.specs.InPlace.{entries_before, SpellInOrder, FollowsEntries, StandsInPlace}
-use Rattle.ax_view.specs.Values.{entries_found, value_in, entries_in}
+use Rattle.ax_view.specs.Placing.{IsMarkedItem}
+use Rattle.ax_view.specs.Shown.{item_value}
+use Rattle.ax_view.specs.Values.{IsGot, entries_found, value_in, entries_in}
 use Rattle.ax_view.specs.Walking.{Walks}
 use Rattle.ax_view.specs.declared.item.ItemView.{ItemView}
 
@@ -35,6 +40,9 @@ pub record Passed (nodes : List Node) (links marks left body : List ℕ) (at her
   pub front : List ℕ
   pub split : drop at body ≡ front ++ drop here body
   pub goes_on : (e : List ℕ) → SpellInOrder nodes links (entries_before slot (entries_of nodes links left body here)) e → SpellInOrder nodes links (entries_before slot (entries_of nodes links marks body at)) (front ++ e)
+
+pub passed_first : (nodes : List Node) (links marks body : List ℕ) (at slot : ℕ) → Passed nodes links marks marks body at at slot
+passed_first nodes links marks body at slot = record { front = []; split = refl; goes_on = λ e h. h }
 
 before_other : (slot t : ℕ) (v : ValueTree) (es : EntriesTree) → (t == slot) ≡ false → entries_before slot (entry_and t v es) ≡ entry_and t v (entries_before slot es)
 before_other slot t v es e = ap (λ b. if b then no_entries else entry_and t v (entries_before slot es)) e
@@ -96,3 +104,19 @@ pub found_in_place : (nodes : List Node) (links : List ℕ) (slot : ℕ) (mask :
     → es ≡ entries_in (value_in (record_kind_at nodes links) body) → IfSome r (λ item. FollowsEntries nodes links slot es body here item.body.now) → IfSome r (λ item. StandsInPlace nodes links slot body item.body.now)
 found_in_place nodes links slot mask body marks here es None m h same f = tt
 found_in_place nodes links slot mask body marks here es (Some item) m h same f = stands_in_place nodes links slot mask body marks item.body.now here es m h same f
+
+-- ---- wherever all are read
+
+pub is_marked_item : (codec : Codec) (links marks body : List ℕ) (at slot : ℕ) (r : Option ItemView) → links ≡ codec.slots
+    → (IsGot (entries_at (slots_of (linked_slots (meanings codec.nodes) links)) marks body at) → option_map item_value r ≡ slot_value slot (entries_of codec.nodes links marks body at))
+    → (IsGot (entries_at (slots_of (linked_slots (meanings codec.nodes) links)) marks body at) → IfSome r (λ item. FollowsEntries codec.nodes links slot (entries_of codec.nodes links marks body at) body at item.body.now)) → IsMarkedItem codec marks body at slot r
+is_marked_item codec links marks body at slot r same value window = record {
+  value = λ end es g. (let h = by_links end es g in value (subst IsGot (sym h) tt) ∙ ap (λ x. slot_value slot (entries_found x)) h);
+  window = λ end es g. (
+      let h = by_links end es g in
+      subst (λ links. IfSome r (λ item. FollowsEntries codec.nodes links slot es body at item.body.now)) same
+      (subst (λ es. IfSome r (λ item. FollowsEntries codec.nodes links slot es body at item.body.now)) (ap entries_found h) (window (subst IsGot (sym h) tt))));
+}
+  where
+    by_links : (end : ℕ) (es : EntriesTree) → Gets (entries_at (slots_of (linked_slots (meanings codec.nodes) codec.slots)) marks body at) body at end es → entries_at (slots_of (linked_slots (meanings codec.nodes) links)) marks body at ≡ got es (8 * (end - at)) (bits (drop end body))
+    by_links end es g = ap (λ links. entries_at (slots_of (linked_slots (meanings codec.nodes) links)) marks body at) same ∙ g.got

@@ -1,10 +1,12 @@
 -- Where the octets of a slot stand within those of its record or compound.
 use Rattle.std.specs.Prelude.{◌≡◌, ℕ, ◌-◌, ◌==◌, if◌then◌else◌, List, [], ◌++◌, drop, get_or, length}
 use Rattle.ax_bits.specs.Bits.{bits}
+use Rattle.ax_fspec.specs.Fields.{MarksSlots}
 use Rattle.ax_model.specs.Presence.{Presence, octets_needed}
 use Rattle.ax_model.specs.Spelling.{IsSpelling}
 use Rattle.ax_model.specs.Tree.{EntriesTree, no_entries, entry_and}
 use Rattle.ax_tables.specs.Table.{kind_at, record_kind_at}
+use Rattle.ax_tables.specs.declared.codec.Codec.{Codec}
 use Rattle.ax_tables.specs.declared.node.Node.{Node}
 use Rattle.ax_view.specs.Values.{value_in, entries_in}
 
@@ -35,3 +37,8 @@ pub record StandsInPlace (nodes : List Node) (links : List ℕ) (slot : ℕ) (bo
   pub rest : List ℕ
   pub split : body ≡ field ++ (front ++ (octets ++ rest))
   pub before : SpellInOrder nodes links (entries_before slot (entries_in (value_in (record_kind_at nodes links) body))) front
+
+-- a presence field of the codec's records ends before octet `here` of the body, and marks this set
+pub record EndsField (codec : Codec) (body : List ℕ) (here : ℕ) (marks : List ℕ) : Type 0 where
+  pub at : ℕ
+  pub field : MarksSlots codec.mask body at here marks

@@ -1,5 +1,5 @@
 -- Where the values of marked slots stand in a body.
-use Rattle.std.specs.Prelude.{◌≡◌, ℕ, ◌-◌, ◌<◌, ◌≤◌, Bool, false, IsTrue, List, length, take, drop, get_or, Some, None}
+use Rattle.std.specs.Prelude.{◌≡◌, ℕ, ◌-◌, ◌<◌, ◌≤◌, Bool, false, IsTrue, List, length, take, drop, get_or, Option, Some, None, IfSome, option_map}
 use Rattle.std.specs.Coded.{Coded-set, coded_ℕ, coded_list}
 use Rattle.ax_bits.specs.Bits.{bits}
 use Rattle.ax_fspec.specs.Marks.{IsMarked}
@@ -10,7 +10,9 @@ use Rattle.ax_model.specs.Tree.{ValueTree, marked, EntriesTree, slots_of}
 use Rattle.ax_reader.specs.Reading.{Gets, kind_read, entries_at}
 use Rattle.ax_tables.specs.Meaning.{meanings, linked_slots}
 use Rattle.ax_tables.specs.Table.{SlotLinksWithin, kind_at, record_kind_at}
+use Rattle.ax_tables.specs.declared.codec.Codec.{Codec}
 use Rattle.ax_tables.specs.declared.node.Node.{Node}
+use Rattle.ax_view.specs.InPlace.{FollowsEntries}
 use Rattle.ax_view.specs.Shown.{item_kind, item_value}
 use Rattle.ax_view.specs.Values.{IsOne, value_read, value_in, entries_in}
 use Rattle.ax_view.specs.declared.item.ItemView.{ItemView}
@@ -66,6 +68,14 @@ pub record PlacesKind (nodes : List Node) (links body : List ℕ) (at : ℕ) (pl
   pub entries : EntriesTree
   pub read : Gets (kind_read (record_kind_at nodes links) body at) body at end (marked entries)
   pub placed : ArePlaced nodes links places.marked body entries places.windows
+
+-- ---- one slot
+
+-- the item, or none, is that of the slot among the marked ones, of which the first stands at octet `at`: wherever these are all
+-- read, it has the value of the slot, and stands right behind the items before
+pub record IsMarkedItem (codec : Codec) (marks body : List ℕ) (at slot : ℕ) (found : Option ItemView) : Type 0 where
+  pub value : (end : ℕ) (es : EntriesTree) → Gets (entries_at (slots_of (linked_slots (meanings codec.nodes) codec.slots)) marks body at) body at end es → option_map item_value found ≡ slot_value slot es
+  pub window : (end : ℕ) (es : EntriesTree) → Gets (entries_at (slots_of (linked_slots (meanings codec.nodes) codec.slots)) marks body at) body at end es → IfSome found (λ item. FollowsEntries codec.nodes codec.slots slot es body at item.body.now)
 
 -- ---- a record or a compound
 

@@ -24,6 +24,11 @@ IsAll-prop : {A : Type 0} (r : Read A) → IsProp (IsAll r)
 IsAll-prop (got a n y) = Coded-set (coded_list coded_ℕ) y []
 IsAll-prop (failed p c) = λ a b. absurd a
 
+-- something is read
+abbrev pub IsGot : {A : Type 0} → Read A → Type 0
+IsGot (got a n y) = Unit {0}
+IsGot (failed p c) = ⊥
+
 abbrev pub value_read : Read ValueTree → ValueTree
 value_read (got v n y) = v
 value_read (failed p c) = marked no_entries

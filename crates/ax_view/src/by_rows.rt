@@ -1,12 +1,12 @@
 //! The walk over a record by the rows of its slots.
-ghost use Rattle.std.specs.Prelude.{◌≡◌, ◌+◌, ◌-◌, ◌*◌, ◌/◌, ◌<◌, ◌≤◌, ◌++◌, length, map, take, drop, ℕ, List, IfSome, IsTrue};
+ghost use Rattle.std.specs.Prelude.{◌≡◌, ◌+◌, ◌-◌, ◌*◌, ◌/◌, ◌<◌, ◌≤◌, ◌++◌, length, map, take, drop, ℕ, List, IfSome, IfNone, IsTrue};
 ghost use Rattle.ax_fspec.specs.Marks.{seven};
 ghost use Rattle.ax_fspec.specs.declared.mask.SlotMask.{SlotMask};
 ghost use Rattle.ax_model.specs.Canonical.{canon};
 ghost use Rattle.ax_model.specs.InBounds.{InBounds};
 ghost use Rattle.ax_model.specs.Presence.{octets_needed};
 ghost use Rattle.ax_model.specs.Sizes.{longest_body};
-ghost use Rattle.ax_reader.specs.Reading.{IsMaskOf, kind_read};
+ghost use Rattle.ax_reader.specs.Reading.{FailsAt, IsMaskOf, kind_read};
 ghost use Rattle.ax_rows.specs.Rows.{IsRow, AreRows};
 ghost use Rattle.ax_tables.specs.Meaning.{meanings, linked_slots};
 ghost use Rattle.ax_tables.specs.NodeRows.{EachRows};
@@ -25,7 +25,7 @@ use ax_tables::{Codec, Node};
 /// The octet after the value of an item of a record that begins at octet `at`: a compound is walked over by its rows, if it has some
 /// and each marked subitem has fixed octets.
 #[inline(always)]
-fn walk_record_item(
+pub(crate) fn walk_record_item(
     nodes: &[Node],
     octets: &[u32],
     compounds: &[SlotRows],
@@ -42,6 +42,7 @@ fn walk_record_item(
     requires body { length body.now ≤ longest_body }
     requires at { at ≤ length body.now }
     ensures end { IfSome result (λ end. Walks (canon (kind_at nodes.now link)) (kind_read (kind_at nodes.now link) body.now at) body.now at end notes.new.least) }
+    ensures fault { IfNone result (FailsAt (kind_read (kind_at nodes.now link) body.now at) at notes.new.fault) }
     ensures falls { IsTrue notes.new.least → IsTrue notes.old.least }
 {
     if let Node::Compound { mask, slots } = &nodes[link as usize - 1] {

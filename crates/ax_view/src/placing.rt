@@ -8,16 +8,18 @@ ghost use Rattle.ax_model.specs.Sizes.{longest_body};
 ghost use Rattle.ax_model.specs.Tree as Tree;
 ghost use Rattle.ax_reader.specs.Reading.{FailsAt, IsMaskOf, kind_read, entries_at};
 ghost use Rattle.ax_tables.specs.Meaning.{meanings, linked_slots};
+ghost use Rattle.ax_tables.specs.NodeRows.{EachRows};
 ghost use Rattle.ax_tables.specs.Octets.{octets_of};
 ghost use Rattle.ax_tables.specs.Table.{IsTable, SlotLinksWithin, record_kind_at};
 ghost use Rattle.ax_tables.specs.declared.node.Node.TheVariants as Of;
 ghost use Rattle.ax_view.specs.Placing.{PlacesEntries, PlacesKind};
 
+use crate::by_rows::walk_record_item;
 use crate::item::ItemView;
 use crate::notes::Notes;
-use crate::octets::walk_item;
 use crate::places::{Places, Window};
 use ax_fspec::{Presence, SlotMask, read_presence};
+use ax_rows::SlotRows;
 use ax_tables::{Codec, Node};
 
 /// The octet after the record that begins at octet `at`, and where its items stand.
@@ -37,6 +39,7 @@ pub fn place_record(
     place_slots(
         codec.nodes.as_slice(),
         codec.nodes.octets(),
+        codec.nodes.compound_rows(),
         &codec.mask,
         codec.slots.as_slice(),
         body,
@@ -51,6 +54,7 @@ pub fn place_record(
 fn place_slots(
     nodes: &[Node],
     octets: &[u32],
+    compounds: &[SlotRows],
     mask: &SlotMask,
     slots: &[u32],
     body: &[u8],
@@ -60,6 +64,7 @@ fn place_slots(
 ) -> Option<u32>
     requires table { IsTable nodes.now }
     requires octets { octets.now ≡ map octets_of nodes.now }
+    requires compounds { EachRows octets.now nodes.now compounds.now }
     requires links { SlotLinksWithin (length nodes.now) slots.now }
     requires mask { IsMaskOf (linked_slots (meanings nodes.now) slots.now) mask.now }
     requires bounds { InBounds (record_kind_at nodes.now slots.now) }
@@ -75,6 +80,7 @@ fn place_slots(
             place_items(
                 nodes,
                 octets,
+                compounds,
                 slots,
                 marked,
                 body,
@@ -95,6 +101,7 @@ fn place_slots(
 fn place_items(
     nodes: &[Node],
     octets: &[u32],
+    compounds: &[SlotRows],
     slots: &[u32],
     marked: Presence,
     body: &[u8],
@@ -104,6 +111,7 @@ fn place_items(
 ) -> Option<u32>
     requires table { IsTable nodes.now }
     requires octets { octets.now ≡ map octets_of nodes.now }
+    requires compounds { EachRows octets.now nodes.now compounds.now }
     requires links { SlotLinksWithin (length nodes.now) slots.now }
     requires bounds { SlotsInBounds (Tree.slots_of (linked_slots (meanings nodes.now) slots.now)) }
     requires marks { AreBits marked }
@@ -119,7 +127,8 @@ fn place_items(
     let mut here = at;
     while let Some(slot) = left.take_first() {
         notes.least = true;
-        let end = walk_item(nodes, octets, slots[slot as usize - 1], body, here, notes)?;
+        let link = slots[slot as usize - 1];
+        let end = walk_record_item(nodes, octets, compounds, link, body, here, notes)?;
         windows[slot as usize] = Window {
             start: here,
             end,
@@ -140,6 +149,7 @@ pub fn place_subitems(item: &ItemView<'_, '_>, places: &mut Places)
         let _end = place_slots(
             item.codec.nodes.as_slice(),
             item.codec.nodes.octets(),
+            item.codec.nodes.compound_rows(),
             mask,
             slots.as_slice(),
             item.body,

@@ -1,5 +1,5 @@
 -- Which subitems a compound has, by its presence field alone.
-use Rattle.std.proofs.Common.{◌≡◌, ℕ, zero, suc, ◌+◌, ◌-◌, ◌<◌, ◌==◌, if◌then◌else◌, List, [], ◌∷◌, ◌++◌, length, get_or, true, false, Option, Some, None, IfNone, is_some, refl, sym, ◌∙◌, ap, arith, subst, append-nil}
+use Rattle.std.proofs.Common.{◌≡◌, ℕ, zero, suc, ◌+◌, ◌-◌, ◌<◌, ◌==◌, List, [], ◌∷◌, ◌++◌, length, get_or, true, false, Option, Some, None, IfNone, is_some, refl, sym, ◌∙◌, ap, arith, subst, append-nil}
 use Rattle.ax_bits.specs.Bits.{AreBits, bits}
 use Rattle.ax_fspec.proofs.Walks.{no_next_slot}
 use Rattle.ax_fspec.specs.Fields.{MarksSlots, least_field}
@@ -7,9 +7,8 @@ use Rattle.ax_fspec.specs.Marks.{IsMarked, common_marks, no_marks, slots_of}
 use Rattle.ax_fspec.specs.declared.mask.SlotMask.{SlotMask}
 use Rattle.ax_model.proofs.Places.{none_marked_at}
 use Rattle.ax_model.specs.At.{slot_value}
-use Rattle.ax_model.specs.Presence.{first_mark, later_marks}
-use Rattle.ax_model.specs.Reader.{Read, got, failed, after, both, read, entries_read, mark_read}
-use Rattle.ax_model.specs.Tree.{ValueTree, SlotsTree, no_slots, slot_and, spare_slot, subitem, marked, EntriesTree, no_entries, entry_and}
+use Rattle.ax_model.specs.Reader.{both}
+use Rattle.ax_model.specs.Tree.{marked, EntriesTree}
 use Rattle.ax_model.specs.Tree as Tree
 use Rattle.ax_reader.proofs.Marking.{marks_bits}
 use Rattle.ax_reader.specs.Reading.{entries_at}
@@ -28,42 +27,15 @@ use Rattle.ax_tables.specs.Meaning.{meanings, linked_slots}
 use Rattle.ax_tables.specs.Table.{record_kind_at}
 use Rattle.ax_tables.specs.declared.node.Node.{Node}
 use Rattle.ax_tables.specs.declared.node.Node.TheVariants as Of
-use Rattle.ax_view.proofs.Found.{compound_one, entries_are, not_same}
+use Rattle.ax_view.proofs.EarlyItems.{not_read}
+use Rattle.ax_view.proofs.Found.{compound_one, entries_are}
 use Rattle.ax_view.proofs.ItemSteps.{is_marked}
 use Rattle.ax_view.proofs.NodeKinds.{compound_mask, is_compound}
 use Rattle.ax_view.specs.Shown.{item_value}
-use Rattle.ax_view.specs.Values.{entries_found, entries_in, value_in}
+use Rattle.ax_view.specs.Values.{entries_in, value_in}
 use Rattle.ax_view.specs.declared.item.ItemView.{ItemView}
 
 -- ---- slots that aren't marked have no entry
-
-after_value : (s t n : ℕ) (v : ValueTree) (r : Read EntriesTree) → (t ≡ s → ⊥) → slot_value s (entries_found r) ≡ None → slot_value s (entries_found (after n (λ es. entry_and t v es) r)) ≡ None
-after_value s t n v (got es m y) apart e = ap (λ b. if b then Some v else slot_value s es) (not_same t s apart) ∙ e
-after_value s t n v (failed p c) apart e = refl
-
-both_value : (s t : ℕ) (r : Read ValueTree) (go : List ℕ → Read EntriesTree) → (t ≡ s → ⊥) → ((y : List ℕ) → slot_value s (entries_found (go y)) ≡ None) → slot_value s (entries_found (both (λ v es. entry_and t v es) r go)) ≡ None
-both_value s t (got v n y) go apart e = after_value s t n v (go y) apart (e y)
-both_value s t (failed p c) go apart e = refl
-
-first_at : (ms : List ℕ) → first_mark ms ≡ get_or ms 0 0
-first_at [] = refl
-first_at (m ∷ ms) = refl
-
-later_at : (ms : List ℕ) (i : ℕ) → get_or (later_marks ms) i 0 ≡ get_or ms (suc i) 0
-later_at [] i = refl
-later_at (m ∷ ms) i = refl
-
-next_none : (t s : ℕ) (ms : List ℕ) → ((i : ℕ) → s ≡ t + i → get_or ms i 0 ≡ 0) → (i : ℕ) → s ≡ t + 1 + i → get_or (later_marks ms) i 0 ≡ 0
-next_none t s ms none i e = later_at ms i ∙ none (suc i) (let f : s ≡ t + suc i = omega (arith, e) in f)
-
-pub not_read : (t : ℕ) (ss : SlotsTree) (ms b : List ℕ) (s : ℕ) → ((i : ℕ) → s ≡ t + i → get_or ms i 0 ≡ 0) → slot_value s (entries_found (entries_read t ss ms b)) ≡ None
-not_read t no_slots ms b s none = refl
-not_read t (slot_and spare_slot ss) ms b s none = not_read (t + 1) ss (later_marks ms) b s (next_none t s ms none)
-not_read t (slot_and (subitem name k) ss) ms b s none = by (first_mark ms) refl (λ y. not_read (t + 1) ss (later_marks ms) y s (next_none t s ms none))
-  where
-    by : (m : ℕ) → first_mark ms ≡ m → ((y : List ℕ) → slot_value s (entries_found (entries_read (t + 1) ss (later_marks ms) y)) ≡ None) → slot_value s (entries_found (mark_read m t (read k) (entries_read (t + 1) ss (later_marks ms)) b)) ≡ None
-    by zero e rest = rest b
-    by (suc m) e rest = both_value s t (read k b) (entries_read (t + 1) ss (later_marks ms)) (λ f. (let no : suc m ≡ 0 = sym e ∙ first_at ms ∙ none 0 (let g : s ≡ t + 0 = omega (arith, f) in g) in omega (arith, no))) rest
 
 bit_at : (ms : List ℕ) (i : ℕ) → AreBits ms → get_or ms i 0 < 2
 bit_at [] i h = omega arith

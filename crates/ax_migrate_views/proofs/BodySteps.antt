@@ -13,8 +13,9 @@ use Rattle.ax_migrate.specs.Finding.{record_losses, found_losses}
 use Rattle.ax_migrate.specs.Losing.{lost_line, lost_lines}
 use Rattle.ax_migrate.specs.declared.losing.LossEntry.{LossEntry}
 use Rattle.ax_migrate_views.proofs.GonePaths.{found_more}
-use Rattle.ax_migrate_views.proofs.LaidBits.{lays_none, lays_more}
+use Rattle.ax_migrate_views.proofs.LaidRuns.{LaidRun, run_first, run_last}
 use Rattle.ax_migrate_views.proofs.ToldLines.{gathers_none, gathers_then, told_same}
+use Rattle.ax_migrate_views.specs.BySlot.{run_octets}
 use Rattle.ax_migrate_views.specs.Bodies.{body_by, LaysBody, TellsBody}
 use Rattle.ax_migrate_views.specs.Laying.{Gathers, Lays}
 use Rattle.ax_migrate_views.specs.Octets.{canon_by}
@@ -37,26 +38,28 @@ use Rattle.ax_view.specs.Placing.{entries_there}
 use Rattle.ax_view.specs.Values.{value_read, entries_in}
 use Rattle.ax_view.specs.Views.{FailsThere, SpellsSome}
 
--- the records in front are laid
-pub record RecordsMoved (spec : SpecTree) (moves : List Move) (lost : List RelationPath) (block : ℕ) (body : List ℕ) (here end number told : ℕ) (old now before lines : List ℕ) : Type 0 where
+-- the records in front are laid, but for the octets from `from` on, which are those of records that stay as they are
+pub record RecordsMoved (spec : SpecTree) (moves : List Move) (lost : List RelationPath) (block : ℕ) (body : List ℕ) (from here end number told : ℕ) (old now before lines : List ℕ) : Type 0 where
   pub records : List EntriesTree
   pub spelled : RecordsSpell spec records (bits (take here body))
   pub count : number ≡ length records
-  pub laid : Lays (body_by (moves_tree moves) spec records) 3 end old now
+  pub laid : LaidRun (body_by (moves_tree moves) spec records) [] body from here 3 end old now
   pub lost_of : Gathers (lost_lines block (found_losses lost 0 records)) 0 told before lines
 
-pub record BodyMoves (codec : Codec) (moves : List Move) (lost : List RelationPath) (block : ℕ) (body : List ℕ) (here end number told : ℕ) (old now before lines : List ℕ) : Type 0 where
+pub record BodyMoves (codec : Codec) (moves : List Move) (lost : List RelationPath) (block : ℕ) (body : List ℕ) (from here end number told : ℕ) (old now before lines : List ℕ) : Type 0 where
+  pub forwards : from ≤ here
   pub within : here ≤ length body
   pub few : number ≤ here
   pub counted : told ≤ 4294967295
-  pub records : (spec : SpecTree) → NoFlaw spec → StandsFor codec spec → RecordsMoved spec moves lost block body here end number told old now before lines
+  pub records : (spec : SpecTree) → NoFlaw spec → StandsFor codec spec → RecordsMoved spec moves lost block body from here end number told old now before lines
 
-pub body_first : (codec : Codec) (moves : List Move) (lost : List RelationPath) (block : ℕ) (body output lines : List ℕ) → BodyMoves codec moves lost block body 0 3 0 0 output output lines lines
+pub body_first : (codec : Codec) (moves : List Move) (lost : List RelationPath) (block : ℕ) (body output lines : List ℕ) → BodyMoves codec moves lost block body 0 0 3 0 0 output output lines lines
 body_first codec moves lost block body output lines = record {
+  forwards = omega arith;
   within = omega arith;
   few = omega arith;
   counted = omega arith;
-  records = λ spec clean stands. record { records = []; spelled = refl; count = refl; laid = lays_none 3 output (omega arith); lost_of = gathers_none 0 lines (omega arith) };
+  records = λ spec clean stands. record { records = []; spelled = refl; count = refl; laid = run_first [] body 3 output (omega arith); lost_of = gathers_none 0 lines (omega arith) };
 }
 
 by_more : (ms : MovesTree) (spec : SpecTree) (rs : List EntriesTree) (r : EntriesTree) → body_by ms spec (rs ++ r ∷ []) ≡ body_by ms spec rs ++ canon_by ms (bare_kind (record_kind spec)) (marked r)
@@ -70,11 +73,18 @@ pub body_goes_on : (codec : Codec) (body : List ℕ) (here next : ℕ) (es : Ent
 body_goes_on codec body here next es read =
     record_forwards codec.nodes codec.slots body here next false codec.records.bounds (record { value = marked es; read = read; canonical = λ no_flag. cc })
 
-module _ (codec : Codec) (moves : List Move) (lost : List RelationPath) (block : ℕ) (body : List ℕ) (here end number told : ℕ) (old now before lines : List ℕ) (h : BodyMoves codec moves lost block body here end number told old now before lines) (lt : here < length body) where
-  module _ (next n : ℕ) (new : List ℕ) (entries : EntriesTree) (read : Gets (kind_read (record_kind_at codec.nodes codec.slots) body here) body here next (marked entries))
-      (l : Lays (canon_by (moves_tree moves) (record_kind_at codec.nodes codec.slots) (marked (entries_there codec.nodes codec.slots body here))) end n now new)
+module _ (codec : Codec) (moves : List Move) (lost : List RelationPath) (block : ℕ) (body : List ℕ) (from here end number told : ℕ) (old now before lines : List ℕ) (h : BodyMoves codec moves lost block body from here end number told old now before lines) (lt : here < length body) where
+  -- the bits of the next record as it moves
+  abbrev moved_bits : List ℕ
+  moved_bits = canon_by (moves_tree moves) (record_kind_at codec.nodes codec.slots) (marked (entries_there codec.nodes codec.slots body here))
+
+  -- what is laid goes on with them
+  abbrev GoesOn : ℕ → ℕ → ℕ → List ℕ → Type 0
+  GoesOn start next n new = (all : List ℕ) → LaidRun all [] body from here 3 end old now → LaidRun (all ++ moved_bits) [] body start next 3 n old new
+
+  module _ (start next n : ℕ) (new : List ℕ) (entries : EntriesTree) (read : Gets (kind_read (record_kind_at codec.nodes codec.slots) body here) body here next (marked entries)) (on : start ≤ next) (l : GoesOn start next n new)
       (tells : ℕ) (after : List ℕ) (g : Gathers (lost_lines block (record_losses number (entries_there codec.nodes codec.slots body here) lost)) told tells lines after) where
-    more : (spec : SpecTree) → NoFlaw spec → StandsFor codec spec → RecordsMoved spec moves lost block body here end number told old now before lines → RecordsMoved spec moves lost block body next n (number + 1) tells old new before after
+    more : (spec : SpecTree) → NoFlaw spec → StandsFor codec spec → RecordsMoved spec moves lost block body from here end number told old now before lines → RecordsMoved spec moves lost block body start next n (number + 1) tells old new before after
     more spec clean stands t =
         let v = marked entries in
         let own = gets_of codec spec body here next v stands read in
@@ -91,18 +101,17 @@ module _ (codec : Codec) (moves : List Move) (lost : List RelationPath) (block :
           records = t.records ++ q.entries ∷ [];
           spelled = subst (RecordsSpell spec (t.records ++ q.entries ∷ [])) (sym joined) (one_more spec t.records q.entries (bits (take here body)) x t.spelled (record { spells = q.spells }));
           count = omega (arith, t.count, length-append t.records (q.entries ∷ []));
-          laid = lays_more (body_by (moves_tree moves) spec t.records) (canon_by (moves_tree moves) (bare_kind (record_kind spec)) (marked q.entries)) (body_by (moves_tree moves) spec (t.records ++ q.entries ∷ [])) 3 end n old now new
-              (by_more (moves_tree moves) spec t.records q.entries) t.laid (subst (λ b. Lays b end n now new) same l);
+          laid = subst (λ all. LaidRun all [] body start next 3 n old new) (ap (λ b. body_by (moves_tree moves) spec t.records ++ b) same ∙ sym (by_more (moves_tree moves) spec t.records q.entries)) (l (body_by (moves_tree moves) spec t.records) t.laid);
           lost_of = told_same (lost_lines block (found_losses lost 0 t.records) ++ lost_lines block (record_losses number (entries_there codec.nodes codec.slots body here) lost)) (lost_lines block (found_losses lost 0 (t.records ++ q.entries ∷ []))) 0 tells before after
               (ap (lost_lines block) (found_more lost 0 t.records q.entries) ∙ flat_map-append (λ (l : LossEntry). lost_line block l.record_at l.path) (found_losses lost 0 t.records) (record_losses (0 + length t.records) q.entries lost)
               ∙ (λ i. lost_lines block (found_losses lost 0 t.records) ++ lost_lines block (record_losses (of_number i) (entries_in (sym there i)) lost)))
               (gathers_then (lost_lines block (found_losses lost 0 t.records)) (lost_lines block (record_losses number (entries_there codec.nodes codec.slots body here) lost)) 0 told tells before lines after t.lost_of g);
         }
 
-    pub body_next : BodyMoves codec moves lost block body next n (number + 1) tells old new before after
-    body_next = record { within = read.within; few = (let on = body_goes_on codec body here next entries read in let count = h.few in omega arith); counted = omega (arith, g.counted); records = λ spec clean stands. more spec clean stands (h.records spec clean stands) }
+    pub body_next : BodyMoves codec moves lost block body start next n (number + 1) tells old new before after
+    body_next = record { forwards = on; within = read.within; few = (let on = body_goes_on codec body here next entries read in let count = h.few in omega arith); counted = omega (arith, g.counted); records = λ spec clean stands. more spec clean stands (h.records spec clean stands) }
 
-  failed : (spec : SpecTree) → NoFlaw spec → StandsFor codec spec → RecordsMoved spec moves lost block body here end number told old now before lines → (fault : BodyFault) → FailsAt (kind_read (record_kind_at codec.nodes codec.slots) body here) here fault → FailsBody spec (bits body) fault.bit fault.cause
+  failed : (spec : SpecTree) → NoFlaw spec → StandsFor codec spec → RecordsMoved spec moves lost block body from here end number told old now before lines → (fault : BodyFault) → FailsAt (kind_read (record_kind_at codec.nodes codec.slots) body here) here fault → FailsBody spec (bits body) fault.bit fault.cause
   failed spec clean stands t fault l =
       let f = fault_at (record_kind spec) body here fault (record_bounds spec clean) (fails_of codec spec body here fault stands l) in
       record {
@@ -120,17 +129,19 @@ module _ (codec : Codec) (moves : List Move) (lost : List RelationPath) (block :
   pub body_fails : (fault : BodyFault) → FailsAt (kind_read (record_kind_at codec.nodes codec.slots) body here) here fault → FailsThere codec body fault
   body_fails fault f = record { fails = λ spec clean stands. failed spec clean stands (h.records spec clean stands) fault f }
 
-module _ (codec : Codec) (moves : List Move) (lost : List RelationPath) (block : ℕ) (body : List ℕ) (here end number told : ℕ) (old now before lines : List ℕ) (h : BodyMoves codec moves lost block body here end number told old now before lines) (past : length body ≤ here) where
-  all_spelled : (spec : SpecTree) (t : RecordsMoved spec moves lost block body here end number told old now before lines) → 0 < length (bits body) → SpellsBody spec t.records (bits body)
+module _ (codec : Codec) (moves : List Move) (lost : List RelationPath) (block : ℕ) (body : List ℕ) (from here end number told : ℕ) (old now before lines : List ℕ) (h : BodyMoves codec moves lost block body from here end number told old now before lines) (past : length body ≤ here) where
+  all_spelled : (spec : SpecTree) (t : RecordsMoved spec moves lost block body from here end number told old now before lines) → 0 < length (bits body) → SpellsBody spec t.records (bits body)
   all_spelled spec t some =
       let s : RecordsSpell spec t.records (bits body) = subst (RecordsSpell spec t.records) (ap bits (take_all here body past)) t.spelled in
       record { some = some_records spec t.records (bits body) s some; spelled = s }
 
-  pub body_laid : LaysBody codec moves body 3 end old now
-  body_laid = record {
+  -- with the last run
+  pub body_laid : (n : ℕ) (new : List ℕ) → Lays (bits (run_octets from here body)) end n now new → LaysBody codec moves body 3 n old new
+  body_laid n new l = record {
     laid = λ spec records clean stands spells. (
         let t = h.records spec clean stands in
-        subst (λ rs. Lays (body_by (moves_tree moves) spec rs) 3 end old now) (body_once spec (bits body) t.records records (all_spelled spec t (some_bits spec body records spells)) spells) t.laid);
+        subst (λ rs. Lays (body_by (moves_tree moves) spec rs) 3 n old new) (body_once spec (bits body) t.records records (all_spelled spec t (some_bits spec body records spells)) spells)
+        (run_last (body_by (moves_tree moves) spec t.records) [] body from here 3 end old now t.laid n new refl l));
   }
 
   pub body_told : TellsBody codec lost block body told before lines

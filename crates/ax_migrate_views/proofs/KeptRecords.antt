@@ -1,5 +1,5 @@
 -- A record of which each item stays is its own migrated one, and loses nothing.
-use Rattle.std.proofs.Common.{◌≡◌, ℕ, zero, suc, ◌-◌, ◌*◌, ◌<◌, ◌≤◌, ◌⊎◌, inl, inr, Bool, false, IsTrue, Option, Some, None, IfSome, IfNone, is_some, true, List, [], ◌∷◌, ◌++◌, drop, get_or, set, refl, sym, ◌∙◌, ap, arith, subst}
+use Rattle.std.proofs.Common.{◌≡◌, ℕ, zero, suc, ◌+◌, ◌-◌, ◌*◌, ◌<◌, ◌≤◌, ◌⊎◌, inl, inr, Bool, false, IsTrue, Option, Some, None, IfSome, IfNone, is_some, true, List, [], ◌∷◌, ◌++◌, drop, get_or, set, refl, sym, ◌∙◌, ap, arith, subst}
 use Rattle.std.proofs.lemmas.Bool.{cases_eq}
 use Rattle.std.proofs.lemmas.List.{get_or-set_other}
 use Rattle.ax_bits.specs.Bits.{bits}
@@ -13,9 +13,9 @@ use Rattle.ax_model.specs.Lengths.{kind_after}
 use Rattle.ax_model.specs.Placed.{has_part, has_part_where}
 use Rattle.ax_model.specs.Reader.{Read, got, failed, after}
 use Rattle.ax_model.specs.Shape.{Shape}
-use Rattle.ax_model.specs.Tree.{KindTree, compound, SlotsTree, no_slots, slot_and, spare_slot, subitem, ValueTree, marked, EntriesTree}
+use Rattle.ax_model.specs.Tree.{KindTree, SlotsTree, no_slots, slot_and, spare_slot, subitem, ValueTree, marked, EntriesTree}
 use Rattle.ax_model.specs.Tree as Tree
-use Rattle.ax_migrate_views.proofs.BareItems.{none_there, not_read, unmarked}
+use Rattle.ax_migrate_views.proofs.BareItems.{none_there, unmarked}
 use Rattle.ax_migrate_views.proofs.ItemParts.{few_canon, few_octets}
 use Rattle.ax_migrate_views.proofs.LostRuns.{below_none, below_there, no_loss, record_lost}
 use Rattle.ax_migrate_views.proofs.Slots.{table_kind}
@@ -25,8 +25,8 @@ use Rattle.ax_migrate_views.proofs.ToldLines.{told_nothing}
 use Rattle.ax_migrate.specs.Finding.{record_losses}
 use Rattle.ax_migrate.specs.Losing.{lost_lines}
 use Rattle.ax_migrate_views.specs.BySlot.{ascends, run_octets}
-use Rattle.ax_migrate_views.specs.Kept.{HasFew, IsElsewhere, IsKeptAt, IsKeptRecord, IsPast, IsPastPart, KeepsRecords, OfEach, OthersStay, ShortStay, StaysShort}
-use Rattle.ax_migrate_views.specs.Laying.{Gathers, Lays}
+use Rattle.ax_migrate_views.specs.Kept.{HasFew, HasFewThere, IsElsewhere, IsKeptAt, IsKeptRecord, IsPast, IsPastPart, KeepsRecords, OfEach, OthersStay, ShortStay, StaysShort}
+use Rattle.ax_migrate_views.specs.Laying.{Gathers}
 use Rattle.ax_migrate_views.specs.Lost.{AreRuns, LeadsBy, is_below, key_path, key_paths, losses_below}
 use Rattle.ax_migrate_views.specs.Octets.{canon_by, value_canon_by}
 use Rattle.ax_migrate_views.specs.Wholes.{slots_in}
@@ -43,12 +43,13 @@ use Rattle.ax_tables.specs.Meaning.{linked_slots, meanings}
 use Rattle.ax_tables.specs.Table.{kind_at, record_kind_at}
 use Rattle.ax_tables.specs.declared.codec.Codec.{Codec}
 use Rattle.ax_tables.specs.declared.node.Node.{Node}
+use Rattle.ax_view.proofs.EarlyItems.{not_read}
 use Rattle.ax_view.proofs.ItemSteps.{is_marked}
 use Rattle.ax_view.proofs.Spelled.{value_spelled}
 use Rattle.ax_view.specs.Noted.{IsLeastRecord}
 use Rattle.ax_view.specs.Placing.{entries_there}
 use Rattle.ax_view.specs.RecordsAt.{IsRecordAt}
-use Rattle.ax_view.specs.Shown.{item_kind, item_value, record_entries}
+use Rattle.ax_view.specs.Shown.{item_kind, item_value}
 use Rattle.ax_view.specs.Values.{IsRecord, entries_found, entries_in, value_in, value_read}
 use Rattle.ax_view.specs.declared.record.RecordView.{RecordView}
 
@@ -244,13 +245,58 @@ short_each codec kept es marks both left (Some t) None e is none within last alo
     subst (λ n. HasFew codec es n (get_or kept.short.items n 0)) (sym (only_one marks kept.leaving both left t e within.0 is last s m l)) few
 short_each codec kept es marks both left (Some t) (Some u) e is none within last alone few s m l = absurd (let never : true ≡ false = alone in cc)
 
-pub kept_at : (codec : Codec) (kept : KeptSlots) (body : List ℕ) (at end here : ℕ) (view : RecordView) (marks both left : List ℕ) (first second : Option ℕ) (least : Bool) → view.codec.now ≡ codec → IsRecordAt codec body at end view.body.now → IsLeastRecord codec view.body.now least → IsTrue least
+-- what is read after the presence field of a record
+record Behind (r : Read EntriesTree) (v : ValueTree) (n m : ℕ) (z : List ℕ) : Type 0 where
+  es : EntriesTree
+  is : r ≡ got es (m - n) z
+  value : v ≡ marked es
+  forwards : n ≤ m
+
+behind : (n m : ℕ) (z : List ℕ) (v : ValueTree) (r : Read EntriesTree) → after n (λ es. marked es) r ≡ got v m z → Behind r v n m z
+behind n m z v (got es k y) e =
+    let value : marked es ≡ v = cc in
+    let size : n + k ≡ m = cc in
+    let rest : y ≡ z = cc in record {
+      es = es;
+      is = (λ i. got es ((let own : k ≡ m - n = omega (arith, size) in own) i) (rest i));
+      value = sym value;
+      forwards = omega (arith, size);
+    }
+behind n m z v (failed p c) e = absurd (let no : ◌≡◌ {A = Read ValueTree} (failed (n + p) c) (got v m z) = e in cc)
+
+-- the item of a slot that was found before its record was read
+found_few : (codec : Codec) (body : List ℕ) (at end here : ℕ) (octets marks : List ℕ) (s n : ℕ) → IsRecordAt codec body at end octets → MarksSlots codec.mask body at here marks → HasFewThere codec marks body here s n
+    → HasFew codec (entries_in (value_in (record_kind_at codec.nodes codec.slots) octets)) s n
+unfolding record_kind_at
+found_few codec body at end here octets marks s n r m f =
+    let c = field_read (linked_slots (meanings codec.nodes) codec.slots) codec.mask body marks at here codec.records.mask m in
+    let tree = Tree.slots_of (linked_slots (meanings codec.nodes) codec.slots) in
+    let value = value_in (record_kind_at codec.nodes codec.slots) octets in
+    let b = behind (8 * (here - at)) (8 * (end - at)) (bits (drop end body)) value (entries_at tree marks body here) (sym c.same ∙ r.read.got) in
+    let size : 8 * (end - at) - 8 * (here - at) ≡ 8 * (end - here) = omega (arith, b.forwards, m.begins, r.read.forwards) in
+    let gets : Gets (entries_at tree marks body here) body here end b.es = record {
+      forwards = omega (arith, b.forwards, m.begins, r.read.forwards);
+      within = r.read.within;
+      got = b.is ∙ ap (λ k. got b.es k (bits (drop end body))) size;
+    } in record {
+      item = f.item;
+      slot = f.slot;
+      value = ap (λ v. slot_value s (entries_in v)) b.value ∙ sym (f.there.value end b.es gets);
+      few = f.few;
+    }
+
+found_few_if : (codec : Codec) (body : List ℕ) (at end here : ℕ) (octets marks short : List ℕ) (first : Option ℕ) → IsRecordAt codec body at end octets → MarksSlots codec.mask body at here marks
+    → IfSome first (λ s. HasFewThere codec marks body here s (get_or short s 0)) → IfSome first (λ s. HasFew codec (entries_in (value_in (record_kind_at codec.nodes codec.slots) octets)) s (get_or short s 0))
+found_few_if codec body at end here octets marks short None r m f = tt
+found_few_if codec body at end here octets marks short (Some s) r m f = found_few codec body at end here octets marks s (get_or short s 0) r m f
+
+pub kept_at : (codec : Codec) (kept : KeptSlots) (body : List ℕ) (at end here : ℕ) (view : RecordView) (marks both left short : List ℕ) (first second : Option ℕ) (least : Bool) → view.codec.now ≡ codec → IsRecordAt codec body at end view.body.now → IsLeastRecord codec view.body.now least → IsTrue least
     → MarksSlots codec.mask body at here marks → both ≡ common_marks marks kept.leaving → IfSome first (λ t. left ≡ set both (t - 1) 0) → IfNone first (slots_of both ≡ []) → IfSome first (λ t. (1 ≤ t) × (t ≤ 126)) → IfNone second (slots_of left ≡ []) → is_some second ≡ false
-    → IfSome first (λ t. HasFew view.codec.now (record_entries view) t (get_or kept.short.items t 0)) → IsKeptAt codec kept body at end
-kept_at codec kept body at end here view marks both left first second least own r spelled said m e is none within last alone few =
+    → short ≡ kept.short.items → IfSome first (λ t. HasFewThere codec marks body here t (get_or short t 0)) → IsKeptAt codec kept body at end
+kept_at codec kept body at end here view marks both left short first second least own r spelled said m e is none within last alone same few =
     let octets = view.body.now in
     let es = entries_in (value_in (record_kind_at codec.nodes codec.slots) octets) in
-    let short = subst (λ (c : Codec). IfSome first (λ t. HasFew c (entries_in (value_in (record_kind_at c.nodes c.slots) octets)) t (get_or kept.short.items t 0))) own few in record {
+    let there = found_few_if codec body at end here octets marks kept.short.items first r m (subst (λ xs. IfSome first (λ t. HasFewThere codec marks body here t (get_or xs t 0))) same few) in record {
       octets = octets;
       here = r;
       least = spelled said;
@@ -261,12 +307,12 @@ kept_at codec kept body at end here view marks both left first second least own 
         marks = marks;
         size = m.size;
         others = unmarked_none codec body at end here octets marks r m;
-        short = short_each codec kept es marks both left first second e is none within last alone short;
+        short = short_each codec kept es marks both left first second e is none within last alone there;
       };
     }
 
-pub few_of : (codec : Codec) (es : EntriesTree) (o : Option ℕ) (slot : ℕ) (short : List ℕ) → o ≡ Some slot → HasFew codec es slot (get_or short slot 0) → IfSome o (λ s. HasFew codec es s (get_or short s 0))
-few_of codec es o slot short is few = subst (λ (x : Option ℕ). IfSome x (λ s. HasFew codec es s (get_or short s 0))) (sym is) few
+pub few_of : (codec : Codec) (marks body : List ℕ) (at : ℕ) (o : Option ℕ) (slot : ℕ) (short : List ℕ) → o ≡ Some slot → HasFewThere codec marks body at slot (get_or short slot 0) → IfSome o (λ s. HasFewThere codec marks body at s (get_or short s 0))
+few_of codec marks body at o slot short is few = subst (λ (x : Option ℕ). IfSome x (λ s. HasFewThere codec marks body at s (get_or short s 0))) (sym is) few
 
 -- ---- a record of a body
 
@@ -277,13 +323,10 @@ module _ (codec : Codec) (moves : List Move) (keys : List LostKey) (kept : KeptS
   kept_there : entries_there codec.nodes codec.slots body here ≡ k.entries
   kept_there = ap (λ x. entries_in (value_read x)) kept_read.got
 
-  pub kept_laid : (end n : ℕ) (now new : List ℕ) → Lays (bits (run_octets here next body)) end n now new
-      → Lays (canon_by (moves_tree moves) (record_kind_at codec.nodes codec.slots) (marked (entries_there codec.nodes codec.slots body here))) end n now new
-  kept_laid end n now new l =
+  pub kept_own : canon_by (moves_tree moves) (record_kind_at codec.nodes codec.slots) (marked (entries_there codec.nodes codec.slots body here)) ≡ bits (run_octets here next body)
+  kept_own =
       let kind = record_kind_at codec.nodes codec.slots in
-      let own : canon_by (moves_tree moves) kind (marked (entries_there codec.nodes codec.slots body here)) ≡ bits (run_octets here next body)
-      = ap (λ es. canon_by (moves_tree moves) kind (marked es)) kept_there ∙ r.stays k.octets k.entries k.kept_record ∙ ap (canon kind) (sym k.kept_record.value) ∙ k.least ∙ ap bits k.here.window in
-      subst (λ b. Lays b end n now new) (sym own) l
+      ap (λ es. canon_by (moves_tree moves) kind (marked es)) kept_there ∙ r.stays k.octets k.entries k.kept_record ∙ ap (canon kind) (sym k.kept_record.value) ∙ k.least ∙ ap bits k.here.window
 
   pub kept_told : (block number at : ℕ) (lines : List ℕ) → AreRuns keys → at < 4294967296 → Gathers (lost_lines block (record_losses number (entries_there codec.nodes codec.slots body here) (key_paths keys))) at at lines lines
   kept_told block number at lines runs few =

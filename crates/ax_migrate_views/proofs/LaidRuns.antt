@@ -69,3 +69,28 @@ run_enters all rest b later body at end n old now new e h l = record {
   within = omega arith;
   split = append_assoc h.front b later ∙ ap (λ x. h.front ++ x) (sym e) ∙ h.split;
 }
+
+-- ---- records: all the bits are those of the records so far, of which the last ones are a run that is still to be laid
+
+-- one more record that stays as it is
+pub run_kept : (all b body : List ℕ) (start stop to at end : ℕ) (old now : List ℕ) → LaidRun all [] body start stop at end old now → stop ≤ to → to ≤ length body → b ≡ bits (run_octets stop to body) → LaidRun (all ++ b) [] body start to at end old now
+run_kept all b body start stop to at end old now h le within own =
+    let run = bits (run_octets start stop body) in
+    let grown : LaidRun (all ++ b) b body start stop at end old now = record {
+      front = h.front;
+      laid = h.laid;
+      forwards = h.forwards;
+      within = h.within;
+      split = sym (append_assoc h.front run b) ∙ ap (λ x. x ++ b) (ap (λ x. h.front ++ x) (sym (append-nil run)) ∙ h.split);
+    } in
+    run_extends (all ++ b) b body start stop at end old now grown [] to le within (own ∙ sym (append-nil (bits (run_octets stop to body))))
+
+-- one more record, laid after the run
+pub run_moved : (all b body : List ℕ) (start stop to at end n m : ℕ) (old now new laid : List ℕ) → LaidRun all [] body start stop at end old now → Lays (bits (run_octets start stop body)) end n now new → Lays b n m new laid → to ≤ length body → LaidRun (all ++ b) [] body to to at m old laid
+run_moved all b body start stop to at end n m old now new laid h run l within = record {
+  front = all ++ b;
+  laid = lays_more all b (all ++ b) at n m old new laid refl (run_last all [] body start stop at end old now h n new refl run) l;
+  forwards = omega arith;
+  within = within;
+  split = ap (λ x. (all ++ b) ++ (x ++ [])) (no_run to body) ∙ append-nil (all ++ b);
+}

@@ -22,6 +22,7 @@ use Rattle.ax_tables.specs.declared.codec.Codec.{Codec}
 use Rattle.ax_tables.specs.declared.node.Node.{Node}
 use Rattle.ax_tables.specs.declared.node.Node.TheVariants as Of
 use Rattle.ax_view.specs.Noted.{canon_in}
+use Rattle.ax_view.specs.Placing.{IsMarkedItem}
 use Rattle.ax_view.specs.RecordsAt.{IsRecordAt}
 use Rattle.ax_view.specs.Shown.{IsOfSlot, item_value}
 use Rattle.ax_view.specs.Values.{IsOne, value_in}
@@ -100,6 +101,14 @@ pub record HasFew (codec : Codec) (es : EntriesTree) (s n : ℕ) : Type 0 where
   pub item : ItemView
   pub slot : IsOfSlot codec codec.slots s item
   pub value : slot_value s es ≡ Some (item_value item)
+  pub few : length item.body.now < n
+
+-- the item of slot s among the marked ones, of which the first stands at octet `at` of the body, has fewer octets than n; wherever
+-- these are all read
+pub record HasFewThere (codec : Codec) (marks body : List ℕ) (at s n : ℕ) : Type 0 where
+  pub item : ItemView
+  pub slot : IsOfSlot codec codec.slots s item
+  pub there : IsMarkedItem codec marks body at s (Some item)
   pub few : length item.body.now < n
 
 -- the octets spell a record of these entries, of which those in the set of leaving slots are short

@@ -88,7 +88,7 @@ pub struct Laid {
 }
 
 /// Lays the records of a body of 1 to 65,532 octets as they move, after a block's first three octets, and the lines of what
-/// they lose, in one walk over the body. Where the body fails, that is its first fault, by bits of the body from 0; some
+/// they lose, in one walk over the body. Records that follow one another and stay as they are are laid as one piece. Where the body fails, that is its first fault, by bits of the body from 0; some
 /// records before may have been laid.
 pub(crate) fn lay_body(
     codec: &Codec,
@@ -119,10 +119,11 @@ pub(crate) fn lay_body(
     let mut told = 0;
     let mut number = 0;
     let mut here = 0;
+    // The octets from there up to `here` are those of records that stay, and still to be laid.
+    let mut from = 0;
     let rows = codec.nodes.rows_for(codec.slots.as_slice());
     while (here as usize) < body.len() {
         if let Some(next) = kept_end(codec, rows, kept, body, here) {
-            end = lay_run(body, here, next, end, output);
             here = next;
             number += 1;
             continue;
@@ -131,13 +132,15 @@ pub(crate) fn lay_body(
         let Some(next) = place_record(codec, body, here, &mut notes, &mut places) else {
             return Err(notes.fault);
         };
+        end = lay_run(body, from, here, end, output);
         end = lay_record(codec, body, here, &places, moves, known, end, output);
         told = tell_losses(codec, body, here, &places, lost, block, number, told, lines);
         here = next;
+        from = next;
         number += 1;
     }
     Ok(Laid {
-        octets: end,
+        octets: lay_run(body, from, here, end, output),
         lines: told,
     })
 }

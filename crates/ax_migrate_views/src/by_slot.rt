@@ -2,6 +2,7 @@
 ghost use Rattle.std.specs.Prelude.{◌≡◌, ◌<◌, ◌≤◌, IsTrue, IfOk, IfSome, length};
 ghost use Rattle.ax_relation.specs.PlainMoves.{moves_tree};
 ghost use Rattle.ax_migrate_views.specs.BySlot.{ArePlaces, KeepSlots, StayInSlots, StaysInSlot, ascends, place_from};
+ghost use Rattle.ax_migrate_views.specs.Kept.{IsOwnMove};
 ghost use Rattle.ax_migrate_views.specs.KnownMoves.{KnowsMoves};
 ghost use Rattle.ax_tables.specs.Table.{IsTable, SlotLinksWithin};
 
@@ -60,6 +61,33 @@ pub(crate) fn place_of(moves: &[Move], slot: u32) -> usize
         }
     }
     0
+}
+
+/// The move from a slot, where the moves are in order, the slot isn't spare, and the move is to the slot of the same number.
+pub(crate) fn own_move<'m>(
+    links: &[u32],
+    moves: &'m [Move],
+    ordered: bool,
+    slot: u32,
+) -> Option<&'m Move>
+    requires slot { 1 ≤ slot }
+    ensures ordered { IfSome result (λ one. IsTrue ordered) }
+    ensures link { IfSome result (λ one. slot ≤ length links.now) }
+    ensures own { IfSome result (λ one. IsOwnMove links.now (moves_tree moves.now) slot one.now) }
+{
+    if !ordered {
+        return None;
+    }
+    let place = place_of(moves, slot);
+    if place == 0 || slot as usize > links.len() {
+        return None;
+    }
+    let link = links[slot as usize - 1];
+    let one = &moves[place - 1];
+    if link == 0 || one.new != slot {
+        return None;
+    }
+    Some(one)
 }
 
 /// The places of the moves from all slots.

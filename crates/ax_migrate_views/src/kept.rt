@@ -1,21 +1,21 @@
 //! Records that stay as they are: those of which each item does, and of which nothing is lost.
 ghost use Rattle.std.specs.Prelude.{◌≡◌, ◌<◌, ◌≤◌, [], ◌∷◌, false, IsTrue, IfOk, IfSome, get_or, length, map};
 ghost use Rattle.ax_relation.specs.PlainMoves.{moves_tree};
-ghost use Rattle.ax_migrate_views.specs.Kept.{HasFew, IsElsewhere, IsKeptAt, IsOwnMove, IsPast, KeepsRecords, OfEach, OthersStay, ShortStay, StaysAll, StaysShort};
+ghost use Rattle.ax_migrate_views.specs.Kept.{HasFewThere, IsElsewhere, IsKeptAt, IsPast, KeepsRecords, OfEach, OthersStay, ShortStay, StaysAll, StaysShort};
 ghost use Rattle.ax_model.specs.Sizes.{longest_body};
 ghost use Rattle.ax_rows.specs.Rows.{AreRows};
 ghost use Rattle.ax_tables.specs.Octets.{octets_of};
 ghost use Rattle.ax_tables.specs.Table.{IsTable, SlotLinksWithin};
-ghost use Rattle.ax_view.specs.Shown.{record_entries};
+ghost use Rattle.ax_view.specs.InPlace.{EndsField};
 
-use crate::by_slot::{SLOTS, are_ordered, place_of};
+use crate::by_slot::{SLOTS, are_ordered, own_move};
 use crate::keeping::keeps;
 use crate::lost::LostKey;
 use ax_fspec::{Presence, read_presence};
 use ax_relation::{Move, Moves};
 use ax_rows::Rows;
 use ax_tables::{Codec, Node};
-use ax_view::{Notes, RecordView, record_by_rows};
+use ax_view::{Notes, marked_item, record_by_rows};
 use std::alloc::{AllocError, Global};
 
 /// By what records are known to stay as they are.
@@ -25,28 +25,6 @@ pub(crate) struct KeptSlots {
     pub(crate) leaving: Presence,
     /// By slot, from 0 on: its items of fewer octets than this stay as they are, and nothing of them is lost.
     pub(crate) short: Vec<u32>,
-}
-
-/// The move from a slot, where the moves are in order, the slot isn't spare, and the move is to the slot of the same number.
-fn own_move<'m>(links: &[u32], moves: &'m [Move], ordered: bool, slot: u32) -> Option<&'m Move>
-    requires slot { 1 ≤ slot }
-    ensures ordered { IfSome result (λ one. IsTrue ordered) }
-    ensures link { IfSome result (λ one. slot ≤ length links.now) }
-    ensures own { IfSome result (λ one. IsOwnMove links.now (moves_tree moves.now) slot one.now) }
-{
-    if !ordered {
-        return None;
-    }
-    let place = place_of(moves, slot);
-    if place == 0 || slot as usize > links.len() {
-        return None;
-    }
-    let link = links[slot as usize - 1];
-    let one = &moves[place - 1];
-    if link == 0 || one.new != slot {
-        return None;
-    }
-    Some(one)
 }
 
 /// Whether each item of a slot is sure to keep its slot and its canonical octets as it moves.
@@ -186,36 +164,38 @@ pub(crate) fn kept_slots(
     Ok(KeptSlots { leaving, short })
 }
 
-/// Whether no item of the slot, if one is given, is short: so much is known before the record is walked over.
+/// Whether the item of the slot, if one is given, has fewer octets than `short` has for it. The slots are marked, and the first of
+/// their items begins at octet `at`; what stands behind the item isn't looked at.
 #[inline]
-fn is_never_short(slot: Option<u32>, short: &[u32]) -> bool
+fn is_short(
+    codec: &Codec,
+    marked: Presence,
+    body: &[u8],
+    at: u32,
+    slot: Option<u32>,
+    short: &[u32],
+) -> bool
+    requires body { length body.now ≤ longest_body }
+    requires field { EndsField codec.now body.now at marked }
     requires short { length short.now ≡ 127 }
     requires slot { IfSome slot (λ s. s < 127) }
-{
-    match slot {
-        Some(slot) => short[slot as usize] == 0,
-        None => false,
-    }
-}
-
-/// Whether there is an item in the slot, if one is given, of fewer octets than `short` has for it.
-#[inline]
-fn is_short(record: &RecordView<'_, '_>, slot: Option<u32>, short: &[u32]) -> bool
-    requires short { length short.now ≡ 127 }
-    requires slot { IfSome slot (λ s. s < 127) }
-    ensures { IsTrue result → IfSome slot (λ s. HasFew record.now.codec.now (record_entries record.now) s (get_or short.now s 0)) }
+    ensures { IsTrue result → IfSome slot (λ s. HasFewThere codec.now marked body.now at s (get_or short.now s 0)) }
 {
     let Some(slot) = slot else {
         return true;
     };
-    match record.item(slot) {
-        Some(item) => item.octets().len() < short[slot as usize] as usize,
+    let few = short[slot as usize];
+    if few == 0 {
+        return false;
+    }
+    match marked_item(codec, marked, body, at, slot) {
+        Some(item) => item.octets().len() < few as usize,
         None => false,
     }
 }
 
-/// The octet after the record at octet `at`, if it is sure to stay as it is and to lose nothing: no slot but one of those that may not
-/// stay is marked, and its item is short. None says nothing.
+/// The octet after the record at octet `at`, if it is sure to stay as it is and to lose nothing: no slot but one of those that may
+/// not stay is marked, and its item is short. That is known before the record is walked over. None says nothing.
 #[inline]
 pub(crate) fn kept_end(
     codec: &Codec,
@@ -231,20 +211,21 @@ pub(crate) fn kept_end(
     ensures { IfSome result (IsKeptAt codec.now kept.now body.now at) }
 {
     let mut marked = Presence::empty();
-    let Ok(_) = read_presence(&codec.mask, body, at, &mut marked) else {
+    let Ok(items) = read_presence(&codec.mask, body, at, &mut marked) else {
         return None;
     };
+    let short = kept.short.as_slice();
     let mut leaving = marked.common(&kept.leaving);
     let first = leaving.take_first();
-    if leaving.take_first().is_some() || is_never_short(first, kept.short.as_slice()) {
+    if leaving.take_first().is_some() || !is_short(codec, marked, body, items, first, short) {
         return None;
     }
     let mut notes = Notes::new();
-    let Some((record, end)) = record_by_rows(codec, rows, body, at, &mut notes) else {
+    let Some(found) = record_by_rows(codec, rows, body, at, &mut notes) else {
         return None;
     };
-    if !notes.least || !is_short(&record, first, kept.short.as_slice()) {
+    if !notes.least {
         return None;
     }
-    Some(end)
+    Some(found.1)
 }

@@ -7,7 +7,7 @@ ghost use Rattle.ax_tables.specs.Table.{IsTable, SlotLinksWithin};
 ghost use Rattle.ax_view.specs.Placing.{IsPlaced};
 
 use crate::bare::has_none_of;
-use crate::by_slot::{SLOTS, are_ordered, place_of};
+use crate::by_slot::{SLOTS, are_ordered, own_move};
 use crate::keeping::is_leaf;
 use crate::whole::item_of;
 use ax_fspec::Presence;
@@ -24,19 +24,10 @@ fn remains(nodes: &[Node], links: &[u32], moves: &[Move], ordered: bool, slot: u
     requires slot { 1 ≤ slot }
     ensures { IsTrue result → IsTrue ordered × RemainsIn nodes.now links.now (moves_tree moves.now) slot }
 {
-    if !ordered {
-        return false;
+    match own_move(links, moves, ordered, slot) {
+        Some(one) => is_leaf(nodes, links[slot as usize - 1], one.parts),
+        None => false,
     }
-    let place = place_of(moves, slot);
-    if place == 0 || slot as usize > links.len() {
-        return false;
-    }
-    let link = links[slot as usize - 1];
-    let one = &moves[place - 1];
-    if link == 0 || one.new != slot {
-        return false;
-    }
-    is_leaf(nodes, link, one.parts)
 }
 
 /// The slots of a compound whose subitems may not remain. Where the moves aren't in order that is each slot.

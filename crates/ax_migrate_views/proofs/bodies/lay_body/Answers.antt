@@ -1,6 +1,7 @@
 use Rattle.std.proofs.Common.{arith}
-use Rattle.ax_migrate_views.proofs.KeptRecords.{kept_laid, kept_read, kept_told}
+use Rattle.ax_migrate_views.proofs.KeptRecords.{kept_own, kept_read, kept_told}
 use Rattle.ax_migrate_views.proofs.BodySteps.{body_first, body_next, body_fails, body_laid, body_told, body_spelled, body_goes_on}
+use Rattle.ax_migrate_views.proofs.LaidRuns.{run_kept, run_moved}
 use Rattle.ax_migrate_views.specs.Lost.{key_paths}
 use Rattle.ax_migrate_views.proofs.bodies.lay_body.Goals as goal
 
@@ -8,7 +9,7 @@ pub loop-here-init : goal.loop-here-init
 loop-here-init c = body_first c.args.codec.now c.args.moves.now (key_paths c.args.lost.now) c.args.block c.args.body.now c.args.output.now c.args.lines.now
 
 pub returns-in_default-place_record-clause-fault : goal.returns-in_default-place_record-clause-fault
-returns-in_default-place_record-clause-fault c = body_fails c.args.codec.now c.args.moves.now (key_paths c.args.lost.now) c.args.block c.args.body.now c.loop-here.here c.loop-here.end c.loop-here.number c.loop-here.told c.args.output.now c.loop-here.output c.args.lines.now c.loop-here.lines c.loop-here.invariant c.loop-here-test.true c.place_record.new.notes.fault c.in_default-place_record.ensures.fault
+returns-in_default-place_record-clause-fault c = body_fails c.args.codec.now c.args.moves.now (key_paths c.args.lost.now) c.args.block c.args.body.now c.loop-here.from c.loop-here.here c.loop-here.end c.loop-here.number c.loop-here.told c.args.output.now c.loop-here.output c.args.lines.now c.loop-here.lines c.loop-here.invariant c.loop-here-test.true c.place_record.new.notes.fault c.in_default-place_record.ensures.fault
 
 pub lay_record-end-requires-clause-placed : goal.lay_record-end-requires-clause-placed
 lay_record-end-requires-clause-placed c = record { end = c.in-Some-place_record.next; placed = c.in-Some-place_record.ensures.end }
@@ -25,17 +26,19 @@ loop-here-smaller c =
 
 pub loop-here-preserved : goal.loop-here-preserved
 loop-here-preserved c =
-    body_next c.args.codec.now c.args.moves.now (key_paths c.args.lost.now) c.args.block c.args.body.now c.loop-here.here c.loop-here.end c.loop-here.number c.loop-here.told c.args.output.now c.loop-here.output c.args.lines.now c.loop-here.lines c.loop-here.invariant c.loop-here-test.true
-    c.in-Some-place_record.next c.lay_record-end.result c.lay_record-end.new.output c.in-Some-place_record.ensures.end.entries c.in-Some-place_record.ensures.end.read c.lay_record-end.ensures.laid c.tell_losses-told.result c.tell_losses-told.new.lines c.tell_losses-told.ensures.told
+    body_next c.args.codec.now c.args.moves.now (key_paths c.args.lost.now) c.args.block c.args.body.now c.loop-here.from c.loop-here.here c.loop-here.end c.loop-here.number c.loop-here.told c.args.output.now c.loop-here.output c.args.lines.now c.loop-here.lines c.loop-here.invariant c.loop-here-test.true
+    c.in-Some-place_record.next c.in-Some-place_record.next c.lay_record-end.result c.lay_record-end.new.output c.in-Some-place_record.ensures.end.entries c.in-Some-place_record.ensures.end.read (omega arith)
+    (λ all t. run_moved all _ c.args.body.now c.loop-here.from c.loop-here.here c.in-Some-place_record.next 3 c.loop-here.end c.lay_run-end.result c.lay_record-end.result c.args.output.now c.loop-here.output c.lay_run-end.new.output c.lay_record-end.new.output t c.lay_run-end.ensures.laid c.lay_record-end.ensures.laid c.in-Some-place_record.ensures.end.read.within)
+    c.tell_losses-told.result c.tell_losses-told.new.lines c.tell_losses-told.ensures.told
 
 pub returns-clause-spelled : goal.returns-clause-spelled
-returns-clause-spelled c = body_spelled c.args.codec.now c.args.moves.now (key_paths c.args.lost.now) c.args.block c.args.body.now c.loop-here.here c.loop-here.end c.loop-here.number c.loop-here.told c.args.output.now c.loop-here.output c.args.lines.now c.loop-here.lines c.loop-here.invariant c.loop-here-test.false c.requires.size.0
+returns-clause-spelled c = body_spelled c.args.codec.now c.args.moves.now (key_paths c.args.lost.now) c.args.block c.args.body.now c.loop-here.from c.loop-here.here c.loop-here.end c.loop-here.number c.loop-here.told c.args.output.now c.loop-here.output c.args.lines.now c.loop-here.lines c.loop-here.invariant c.loop-here-test.false c.requires.size.0
 
 pub returns-clause-laid : goal.returns-clause-laid
-returns-clause-laid c = body_laid c.args.codec.now c.args.moves.now (key_paths c.args.lost.now) c.args.block c.args.body.now c.loop-here.here c.loop-here.end c.loop-here.number c.loop-here.told c.args.output.now c.loop-here.output c.args.lines.now c.loop-here.lines c.loop-here.invariant c.loop-here-test.false
+returns-clause-laid c = body_laid c.args.codec.now c.args.moves.now (key_paths c.args.lost.now) c.args.block c.args.body.now c.loop-here.from c.loop-here.here c.loop-here.end c.loop-here.number c.loop-here.told c.args.output.now c.loop-here.output c.args.lines.now c.loop-here.lines c.loop-here.invariant c.loop-here-test.false c.lay_run.result c.lay_run.new.output c.lay_run.ensures.laid
 
 pub returns-clause-told : goal.returns-clause-told
-returns-clause-told c = body_told c.args.codec.now c.args.moves.now (key_paths c.args.lost.now) c.args.block c.args.body.now c.loop-here.here c.loop-here.end c.loop-here.number c.loop-here.told c.args.output.now c.loop-here.output c.args.lines.now c.loop-here.lines c.loop-here.invariant c.loop-here-test.false
+returns-clause-told c = body_told c.args.codec.now c.args.moves.now (key_paths c.args.lost.now) c.args.block c.args.body.now c.loop-here.from c.loop-here.here c.loop-here.end c.loop-here.number c.loop-here.told c.args.output.now c.loop-here.output c.args.lines.now c.loop-here.lines c.loop-here.invariant c.loop-here-test.false
 
 pub loop-here-smaller-in-Some : goal.loop-here-smaller-in-Some
 loop-here-smaller-in-Some c =
@@ -53,6 +56,14 @@ loop-here-preserved-in-Some c =
     let next = c.in-Some.next in
     let k = c.in-Some.ensures in
     let read = kept_read codec moves keys c.args.kept.now body here next k c.requires.kept in
-    let laid = kept_laid codec moves keys c.args.kept.now body here next k c.requires.kept c.loop-here.end c.lay_run-end.result c.loop-here.output c.lay_run-end.new.output c.lay_run-end.ensures.laid in
+    let on = body_goes_on codec body here next k.entries read in
     let told = kept_told codec moves keys c.args.kept.now body here next k c.requires.kept c.args.block c.loop-here.number c.loop-here.told c.loop-here.lines c.requires.runs (omega (arith, c.loop-here.invariant.counted)) in
-    body_next codec moves (key_paths keys) c.args.block body here c.loop-here.end c.loop-here.number c.loop-here.told c.args.output.now c.loop-here.output c.args.lines.now c.loop-here.lines c.loop-here.invariant c.loop-here-test.true next c.lay_run-end.result c.lay_run-end.new.output k.entries read laid c.loop-here.told c.loop-here.lines told
+    body_next codec moves (key_paths keys) c.args.block body c.loop-here.from here c.loop-here.end c.loop-here.number c.loop-here.told c.args.output.now c.loop-here.output c.args.lines.now c.loop-here.lines c.loop-here.invariant c.loop-here-test.true
+    c.loop-here.from next c.loop-here.end c.loop-here.output k.entries read (omega (arith, c.loop-here.invariant.forwards, on))
+    (λ all t. run_kept all _ body c.loop-here.from here next 3 c.loop-here.end c.args.output.now c.loop-here.output t (omega (arith, on)) read.within (kept_own codec moves keys c.args.kept.now body here next k c.requires.kept)) c.loop-here.told c.loop-here.lines told
+
+pub lay_run-end-requires-clause-run : goal.lay_run-end-requires-clause-run
+lay_run-end-requires-clause-run c = (c.loop-here.invariant.forwards, c.loop-here.invariant.within)
+
+pub lay_run-requires-clause-run : goal.lay_run-requires-clause-run
+lay_run-requires-clause-run c = (c.loop-here.invariant.forwards, c.loop-here.invariant.within)

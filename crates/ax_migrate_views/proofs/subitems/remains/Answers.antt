@@ -1,26 +1,28 @@
-use Rattle.std.proofs.Common.{◌-◌, get_or, arith, refl}
+use Rattle.std.proofs.Common.{◌-◌, get_or, refl}
 use Rattle.ax_relation.specs.PlainMoves.{moves_tree}
 use Rattle.ax_relation.specs.declared.moves.Move.{out-Move}
 use Rattle.ax_migrate_views.proofs.Slots.{table_kind}
-use Rattle.ax_migrate_views.proofs.SubitemSteps.{place_there, stays_as}
+use Rattle.ax_migrate_views.proofs.SubitemSteps.{link_within}
 use Rattle.ax_tables.specs.Table.{kind_at}
 use Rattle.ax_migrate_views.proofs.subitems.remains.Goals as goal
 
-pub returns : goal.returns
-returns c sure =
-    let moves = c.args.moves.now in
+pub is_leaf-requires-clause-link : goal.is_leaf-requires-clause-link
+is_leaf-requires-clause-link c = (c.in-Some.ensures.own.some, link_within _ c.args.links.now (c.args.slot - 1) c.requires.links)
+
+pub returns-in-Some : goal.returns-in-Some
+returns-in-Some c sure =
     let slot = c.args.slot in
     let links = c.args.links.now in
-    let one = c.index-moves-place.result in
+    let one = c.in-Some.one.now in
     let link = get_or links (slot - 1) 0 in
-    let found = place_there moves slot c.place_of-place.result c.place_of-place.ensures.place (omega (arith, c.if-place-eq0.false)) one c.index-moves-place.is (omega (arith, c.if-place-eq0.false, c.place_of-place.ensures.within)) in (
-      c.if-not-ordered.false,
+    let own = c.in-Some.ensures.own in (
+      c.in-Some.ensures.ordered,
       record {
         parts = (out-Move one).parts;
         below = moves_tree (out-Move one).below;
         kind = kind_at c.args.nodes.now link;
-        found = stays_as moves slot one found (omega (arith, c.if-one-slot.false));
-        is = table_kind c.args.nodes.now links (slot - 1) link refl (omega (arith, c.if-link-eq0.false));
+        found = own.found;
+        is = table_kind c.args.nodes.now links (slot - 1) link refl own.some;
         leaf = c.is_leaf.ensures sure;
       },
     )

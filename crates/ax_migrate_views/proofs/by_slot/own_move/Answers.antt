@@ -1,6 +1,6 @@
 use Rattle.std.proofs.Common.{arith}
 use Rattle.ax_migrate_views.proofs.SubitemSteps.{place_there, stays_as}
-use Rattle.ax_migrate_views.proofs.kept.own_move.Goals as goal
+use Rattle.ax_migrate_views.proofs.by_slot.own_move.Goals as goal
 
 pub returns-clause-own : goal.returns-clause-own
 returns-clause-own c =

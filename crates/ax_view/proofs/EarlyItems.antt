@@ -1,5 +1,5 @@
 -- Items of the first seven slots, found by the marks of the first presence octet.
-use Rattle.std.proofs.Common.{◌≡◌, ℕ, zero, suc, ◌+◌, ◌-◌, ◌*◌, ◌/◌, ◌%◌, ◌^◌, ◌<◌, ◌≤◌, ◌⊎◌, inl, inr, ◌==◌, if◌then◌else◌, Bool, true, false, IsTrue, Option, Some, None, IfSome, List, [], ◌∷◌, ◌++◌, length, take, drop, set, get_or, bit_and, refl, sym, ◌∙◌, ap, arith, subst, append_assoc, length-append, take-append-drop}
+use Rattle.std.proofs.Common.{◌≡◌, ℕ, zero, suc, ◌+◌, ◌-◌, ◌*◌, ◌/◌, ◌%◌, ◌^◌, ◌<◌, ◌≤◌, inl, inr, ◌==◌, if◌then◌else◌, true, false, IsTrue, Some, None, List, [], ◌∷◌, ◌++◌, length, take, drop, set, get_or, bit_and, refl, sym, ◌∙◌, ap, arith, subst, append_assoc, take-append-drop}
 use Rattle.std.proofs.Math.Nat.{div-div-eq-div-mul, pow-suc}
 use Rattle.std.proofs.lemmas.List.{take_at, drop_at, get_or_at, get_or_append_left, length-map}
 use Rattle.std.proofs.lemmas.Bool.{eqb-true}
@@ -17,7 +17,7 @@ use Rattle.ax_model.specs.InBounds.{InBounds, SlotsInBounds}
 use Rattle.ax_model.specs.Failing.{PresenceFails}
 use Rattle.ax_model.specs.Presence.{Presence, octets_needed, first_mark, later_marks, NoneUndefined}
 use Rattle.ax_model.specs.Reader.{Read, got, failed, after, both, read, entries_read, mark_read, marked_read, presence_read}
-use Rattle.ax_model.specs.Tree.{ValueTree, marked, EntriesTree, no_entries, entry_and, SlotsTree, no_slots, slot_and, spare_slot, subitem, slots_of, slot_count, defined_slots, compound}
+use Rattle.ax_model.specs.Tree.{ValueTree, marked, EntriesTree, entry_and, SlotsTree, no_slots, slot_and, spare_slot, subitem, slots_of, slot_count, defined_slots}
 use Rattle.ax_reader.proofs.AtOctets.{octets_parts}
 use Rattle.ax_reader.specs.Reading.{entries_at}
 use Rattle.ax_tables.specs.Meaning.{meanings, linked_slot, linked_slots}

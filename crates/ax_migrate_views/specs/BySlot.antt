@@ -3,7 +3,7 @@ use Rattle.std.specs.Prelude.{◌≡◌, ℕ, zero, suc, ◌+◌, ◌==◌, ◌<
 use Rattle.std.specs.Coded.{Coded-set, coded_ℕ, coded_list}
 use Rattle.ax_relation.specs.Moves.{MoveTree, move_from, MovesTree, no_moves, move_and}
 use Rattle.ax_relation.specs.PlainMoves.{moves_tree}
-use Rattle.ax_relation.specs.declared.moves.Move.{Move}
+use Rattle.ax_relation.specs.declared.moves.Move.{Move, out-Move}
 use Rattle.ax_migrate_views.specs.Octets.{move_canon, move_marks, with_slot}
 use Rattle.ax_migrate_views.specs.Wholes.{slots_in}
 use Rattle.ax_model.specs.At.{slot_value}
@@ -38,6 +38,14 @@ ascends a (move_and (move_from s t c below) ms) = if nat_lt s a then false else 
 pub record ArePlaces (moves : List Move) (n : ℕ) (places : List ℕ) : Type 0 where
   pub size : length places ≡ n
   pub at : (s : ℕ) → s < n → get_or places s 0 ≡ place_from 1 s (moves_tree moves)
+
+-- the first move from slot s, which isn't spare, is to the slot of that number: so many parts, and what is below
+pub record StaysInOwn (links : List ℕ) (ms : MovesTree) (s parts : ℕ) (below : MovesTree) : Type 0 where
+  pub found : found_move s ms ≡ Some (move_from s s parts below)
+  pub some : 0 < get_or links (s - 1) 0
+
+abbrev pub IsOwnMove : List ℕ → MovesTree → ℕ → Move → Type 0
+IsOwnMove links ms s m = StaysInOwn links ms s (out-Move m).parts (moves_tree (out-Move m).below)
 
 -- ---- what slots make
 

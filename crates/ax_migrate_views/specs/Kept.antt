@@ -3,10 +3,10 @@ use Rattle.std.specs.Prelude.{◌≡◌, ℕ, ◌+◌, ◌-◌, ◌<◌, ◌≤�
 use Rattle.std.specs.Coded.{Coded-set, coded_ℕ, coded_bool, coded_list}
 use Rattle.ax_bits.specs.Bits.{bits}
 use Rattle.ax_fspec.specs.Marks.{IsMarked}
-use Rattle.ax_relation.specs.Moves.{move_from, MovesTree}
+use Rattle.ax_relation.specs.Moves.{MovesTree}
 use Rattle.ax_relation.specs.PlainMoves.{moves_tree}
-use Rattle.ax_relation.specs.declared.moves.Move.{Move, out-Move}
-use Rattle.ax_migrate_views.specs.BySlot.{ascends, found_move}
+use Rattle.ax_relation.specs.declared.moves.Move.{Move}
+use Rattle.ax_migrate_views.specs.BySlot.{ascends, StaysInOwn}
 use Rattle.ax_migrate_views.specs.Keeping.{MovesWhole}
 use Rattle.ax_migrate_views.specs.Lost.{is_below, key_path}
 use Rattle.ax_migrate_views.specs.Octets.{canon_by}
@@ -49,14 +49,6 @@ abbrev pub IsPast : ℕ → ℕ → LostKey → Type 0
 IsPast s n k = (key_path k).old.frn ≡ s → 0 < n → ((key_path k).old.steps ≡ []) × IsPastPart n (key_path k).part
 
 -- ---- slots
-
--- the first move from slot s, which isn't spare, is to the slot of that number: so many parts, and what is below
-pub record StaysInOwn (links : List ℕ) (ms : MovesTree) (s parts : ℕ) (below : MovesTree) : Type 0 where
-  pub found : found_move s ms ≡ Some (move_from s s parts below)
-  pub some : 0 < get_or links (s - 1) 0
-
-abbrev pub IsOwnMove : List ℕ → MovesTree → ℕ → Move → Type 0
-IsOwnMove links ms s m = StaysInOwn links ms s (out-Move m).parts (moves_tree (out-Move m).below)
 
 -- each item of slot s keeps its slot and its canonical octets as it moves
 pub record StaysAll (nodes : List Node) (links : List ℕ) (ms : MovesTree) (s : ℕ) : Type 0 where

@@ -1,8 +1,7 @@
 //! The moves of a record by the old slot, looked up once.
 ghost use Rattle.std.specs.Prelude.{◌≡◌, ◌<◌, ◌≤◌, IsTrue, IfOk, IfSome, length};
 ghost use Rattle.ax_relation.specs.PlainMoves.{moves_tree};
-ghost use Rattle.ax_migrate_views.specs.BySlot.{ArePlaces, KeepSlots, StayInSlots, StaysInSlot, ascends, place_from};
-ghost use Rattle.ax_migrate_views.specs.Kept.{IsOwnMove};
+ghost use Rattle.ax_migrate_views.specs.BySlot.{ArePlaces, IsOwnMove, KeepSlots, StayInSlots, StaysInSlot, ascends, place_from};
 ghost use Rattle.ax_migrate_views.specs.KnownMoves.{KnowsMoves};
 ghost use Rattle.ax_tables.specs.Table.{IsTable, SlotLinksWithin};
 

@@ -1,4 +1,5 @@
 pub mod Entries
 pub mod Fields
 pub mod Held
+pub mod HeldFixed
 pub mod Lines

@@ -1,6 +1,7 @@
 //! What is held of kinds, made of them.
 ghost use Rattle.std.specs.Prelude.{◌≡◌, ◌∷◌, ◌++◌, ◌<◌, [], length, map, IfOk, OnOk, IsOkAnd};
-ghost use Rattle.ax_held_kinds.specs.Held.{held_content, held_fixed, held_member, held_part, held_kind, held_slot};
+ghost use Rattle.ax_held_kinds.specs.Held.{held_part, held_kind, held_slot};
+ghost use Rattle.ax_held_kinds.specs.HeldFixed.{held_content, held_fixed, held_member};
 ghost use Rattle.ax_model.specs.Plain.{fixed_tree, member_tree, part_tree, kind_tree, slot_tree};
 ghost use Rattle.ax_model.specs.Tree.{named};
 
@@ -117,6 +118,7 @@ fn hold_part<'s>(
 {
     Ok(HeldPart {
         members: hold_members(alloc, maker, &part.members)?,
+        width: part.width(),
     })
 }
 

@@ -1,4 +1,9 @@
 //! Kinds with their tables' entries by number.
+ghost use Rattle.std.specs.Prelude.{◌≡◌};
+ghost use Rattle.ax_held_kinds.specs.HeldFixed.{held_members};
+ghost use Rattle.ax_model.specs.Lengths.{capped};
+ghost use Rattle.ax_model.specs.Widths.{members_width};
+
 use crate::by_number::EntriesByNumber;
 use crate::lines::{HeldQuantity, ShortElement};
 use ax_lists::Sequence;
@@ -39,10 +44,12 @@ pub enum HeldMember<'s> {
     Spare { width: u32 },
 }
 
-/// A part of an extended item.
+/// A part of an extended or closed item, with the width of its members in bits, capped at 2^64 - 1 where it is more.
 #[derive(Drop)]
 pub struct HeldPart<'s> {
     pub members: HeldMembers<'s>,
+    pub(crate) width: u64,
+    ghost wide: { width ≡ capped (members_width (held_members members)) },
 }
 
 /// The parts of an extended item, in order.

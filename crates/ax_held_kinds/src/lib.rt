@@ -8,6 +8,7 @@ mod fields;
 mod items;
 mod kinds;
 mod lines;
+mod parts;
 mod sizes;
 
 pub use by_number::EntriesByNumber;

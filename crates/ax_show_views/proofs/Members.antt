@@ -4,7 +4,7 @@ use Rattle.std.proofs.lemmas.List.{drop-drop, drop_all}
 use Rattle.ax_bits.proofs.Pieces.{number-word}
 use Rattle.ax_bits.specs.Bits.{number_of, word}
 use Rattle.ax_model.specs.InBounds.{MembersInBounds}
-use Rattle.ax_held_kinds.specs.Held.{held_member, held_members}
+use Rattle.ax_held_kinds.specs.HeldFixed.{held_member, held_members}
 use Rattle.ax_model.specs.Reader.{members_value}
 use Rattle.ax_model.specs.Tree.{MembersTree, member_and, MemberTree, named, spare}
 use Rattle.ax_model.specs.Widths.{width, members_width}

@@ -1,5 +1,5 @@
 -- Why a fixed kind isn't shown, passed on.
-use Rattle.std.proofs.Common.{◌≡◌, ℕ, ◌+◌, ◌*◌, ◌<◌, List, length, refl, subst, sym}
+use Rattle.std.proofs.Common.{◌≡◌, ℕ, ◌+◌, ◌*◌, ◌<◌, ◌≤◌, List, length, refl, subst, sym, arith}
 use Rattle.ax_model.specs.Reader.{Read}
 use Rattle.ax_model.specs.declared.fault.BodyCause.TheVariants.{RunsOut}
 use Rattle.ax_model.specs.declared.fault.BodyFault.{BodyFault}
@@ -21,3 +21,8 @@ pub unit_stopped : {A : Type 0} (found : Read A) (body : List ℕ) (at here w : 
     → ((fault : BodyFault) → 8 * length body < 8 * here + w → fault.cause ≡ RunsOut → fault.bit ≡ 8 * here → FailsAt found at fault) → HasFailed found at e
 unit_stopped found body at here w Stop.RunsOut e s u fails = failed_by_fault found at e (record { cause = RunsOut; bit = 8 * here }) u (fails (record { cause = RunsOut; bit = 8 * here }) s refl refl)
 unit_stopped found body at here w Stop.OutOfMemory e s u fails = failed_by_want found at e u
+
+-- of a unit that lies within the body
+pub stopped_within : {A : Type 0} (found : Read A) (body : List ℕ) (at here bit w : ℕ) (stop : FixedStop) (e : DecodeError) → IsStopped body bit w stop → bit + w ≤ 8 * length body → IsUnitStop stop here e → HasFailed found at e
+stopped_within found body at here bit w Stop.RunsOut e s le u = absurd (omega (arith, s, le))
+stopped_within found body at here bit w Stop.OutOfMemory e s le u = failed_by_want found at e u

@@ -1,21 +1,20 @@
 -- Parts and occurrences by FX, one after the other.
-use Rattle.std.proofs.Common.{◌≡◌, ℕ, ◌+◌, ◌-◌, ◌*◌, ◌<◌, ◌≤◌, Bool, true, false, List, [], ◌∷◌, ◌++◌, length, length-drop, drop, drop-cons, get_or, map, codes, refl, sym, ◌∙◌, ap, subst, arith, add-one}
+use Rattle.std.proofs.Common.{◌≡◌, ℕ, ◌+◌, ◌-◌, ◌*◌, ◌<◌, ◌≤◌, Bool, true, false, List, [], ◌∷◌, ◌++◌, length, drop, map, codes, refl, sym, ◌∙◌, ap, subst, arith, add-one}
 use Rattle.std.specs.List.{AllByRecursion}
-use Rattle.std.proofs.lemmas.List.{length-map}
 use Rattle.ax_bits.specs.Bits.{bits}
 use Rattle.ax_model.specs.Fitting.{list_count}
-use Rattle.ax_model.specs.InBounds.{PartInBounds, PartsInBounds}
 use Rattle.ax_held_kinds.specs.Held.{held_part}
 use Rattle.ax_model.specs.Reader.{fixed_value, members_value, after}
 use Rattle.ax_model.specs.Tree.{FixedTree, MembersTree, list_and, no_lists, value_and, no_values, value_count, extended, by_fx, part_values, occurrences}
-use Rattle.ax_model.specs.Widths.{width, members_width, fx_width}
-use Rattle.ax_model.specs.declared.fault.BodyCause.TheVariants.{RunsOut, ExtensionPastEnd}
+use Rattle.ax_model.specs.Widths.{width}
+use Rattle.ax_model.specs.declared.fault.BodyCause.TheVariants.{RunsOut}
 use Rattle.ax_model.specs.declared.fault.BodyFault.{BodyFault}
 use Rattle.ax_model.specs.declared.kind.LastPart.{LastPart}
 use Rattle.ax_held_kinds.specs.declared.kinds.HeldPart.{HeldPart}
-use Rattle.ax_reader.proofs.AtOctets.{IsUnit, run_at, parts_at, run_ends, run_goes_on, run_fails, parts_fail}
+use Rattle.ax_reader.proofs.AtOctets.{IsUnit, run_at, parts_at, run_ends, run_goes_on, run_fails}
 use Rattle.ax_reader.specs.Reading.{FailsAt, Continues, fx_bit, kind_read}
-use Rattle.ax_values.proofs.PartUnits.{IsPartUnit, part_unit_ends, part_unit_goes_on, part_unit_past}
+use Rattle.ax_values.proofs.PartsRead.{left_is, none_left}
+use Rattle.ax_values.specs.Parts.{parts_left, PartsReady, IsPartMet}
 use Rattle.ax_text.specs.Listable.{MembersListable}
 use Rattle.ax_text.specs.Printing.{as_lines, Puts}
 use Rattle.ax_text.specs.ShowText.{fixed_lines, members_lines, parts_lines, each_lines, occurrence}
@@ -75,108 +74,62 @@ run_failed f path body at here old now i fault h less c b = h.leads.fails fault 
 abbrev pub parts_done : LastPart → List MembersTree → List ℕ → List ℕ → ℕ → List ℕ → Ending
 parts_done last ps path body at old end new n = ShowsCounted (extended last ps) path (codes "parts") body at end old new n
 
--- i parts are shown, up to octet here, and these are left
-pub record PartsShown (last : LastPart) (all left : List HeldPart) (path body : List ℕ) (at here : ℕ) (old now : List ℕ) (i : ℕ) : Type 0 where
-  pub within : here ≤ length body
-  pub few : i ≤ here
-  pub bounds : PartsInBounds last (map held_part left)
-  pub listable : AllByRecursion MembersListable (map held_part left)
-  pub leads : 0 < length left → Leads (parts_done last (map held_part all) path body at old) (FailsAt (kind_read (extended last (map held_part all)) body at) at) (parts_lines (map held_part left) path) list_count (parts_at last (map held_part left) body here) body here now i
-  pub past : length left ≡ 0 → (0 < here) × ((fault : BodyFault) → fault.cause ≡ ExtensionPastEnd → fault.bit + 1 ≡ 8 * here → FailsAt (kind_read (extended last (map held_part all)) body at) at fault)
-
-pub parts_first : (last : LastPart) (all left : List HeldPart) (path body : List ℕ) (at : ℕ) (out : List ℕ) → left ≡ all → 0 < length (map held_part all) → PartsInBounds last (map held_part all) → AllByRecursion MembersListable (map held_part all) → at ≤ length body
-    → PartsShown last all left path body at at out out 0
-parts_first last all left path body at out e some bounds l le =
-    subst (λ left. PartsShown last all left path body at at out out 0) (sym e)
-    (record {
-      within = le;
-      few = omega arith;
-      bounds = bounds;
-      listable = l;
-      leads = λ lt. counted_first (extended last (map held_part all)) path (codes "parts") body at at out (parts_lines (map held_part all) path) list_count (parts_at last (map held_part all) body at) (λ ls. part_values ls) le (parts_same last (map held_part all) body at) (λ ls end g t. refl);
-      past = λ none. absurd (omega (arith, length-map all held_part));
-    })
-
--- the part at a place, and those after it
-pub part_here : (all : List HeldPart) (i : ℕ) (p : HeldPart) → i < length all → p ≡ get_or all i p → drop i all ≡ p ∷ drop (i + 1) all
-part_here all i p within e = drop-cons all i p within ∙ (λ k. sym e k ∷ drop (sym (add-one i) k) all)
-
-pub parts_later : (all : List HeldPart) (i : ℕ) → i < length all → length (drop (i + 1) all) ≡ length all - 1 - i
-parts_later all i within = let l = length-drop (i + 1) all in omega (arith, l)
-
 no_list_left : (ps : List MembersTree) (path : List ℕ) (t : Texts) → parts_lines ps path no_lists t ≡ t
 no_list_left [] path t = refl
 no_list_left (p ∷ ps) path t = refl
 
--- after a part with FX 1
-after_part : (left : List HeldPart) (ps : List MembersTree) → map held_part left ≡ ps → 0 < length left → (q : MembersTree) × (qs : List MembersTree) × (ps ≡ q ∷ qs)
-after_part [] ps e lt = absurd (omega arith)
-after_part (q ∷ left) ps e lt = (held_part q, map held_part left, sym e)
+-- the i parts before octet `here` are shown, and those that are left lead to all of them
+pub record PartsShown (whole_last : LastPart) (all : List MembersTree) (last : LastPart) (more : Bool) (ps : List MembersTree) (path body : List ℕ) (at here : ℕ) (old now : List ℕ) (i : ℕ) : Type 0 where
+  pub ready : PartsReady last more ps body here
+  pub few : i ≤ here
+  pub listable : AllByRecursion MembersListable ps
+  pub leads : Leads (parts_done whole_last all path body at old) (FailsAt (kind_read (extended whole_last all) body at) at) (parts_lines ps path) list_count (parts_left last more ps body here) body here now i
 
-after_all : (left : List HeldPart) → length left ≡ 0 → map held_part left ≡ []
-after_all [] e = refl
-after_all (q ∷ left) e = absurd (omega arith)
+pub parts_first : (last : LastPart) (ps : List MembersTree) (path body : List ℕ) (at : ℕ) (out : List ℕ) → PartsReady last true ps body at → AllByRecursion MembersListable ps → PartsShown last ps last true ps path body at at out out 0
+parts_first last ps path body at out h l = record {
+  ready = h;
+  few = omega arith;
+  listable = l;
+  leads = counted_first (extended last ps) path (codes "parts") body at at out (parts_lines ps path) list_count (parts_left last true ps body at) (λ ls. part_values ls) h.within
+      (subst (λ r. Continues (kind_read (extended last ps) body at) at at (λ ls. part_values ls) r) (sym (left_is last ps body at)) (parts_same last ps body at)) (λ ls end g t. refl);
+}
 
-module _ (last : LastPart) (all left ps : List HeldPart) (p : HeldPart) (path body : List ℕ) (at here : ℕ) (old now : List ℕ) (i : ℕ) (h : PartsShown last all left path body at here old now i) (e : left ≡ p ∷ ps) where
-  at_first : PartsShown last all (p ∷ ps) path body at here old now i
-  at_first = subst (λ left. PartsShown last all left path body at here old now i) e h
+pub parts_start : (whole_last last : LastPart) (all ps : List HeldPart) (path body own : List ℕ) (at here : ℕ) (more : Bool) (out : List ℕ) → last ≡ whole_last → ps ≡ all → own ≡ body → here ≡ at → more ≡ true → PartsReady last more (map held_part ps) own here
+    → AllByRecursion MembersListable (map held_part all) → PartsShown whole_last (map held_part all) last more (map held_part ps) path body at here out out 0
+parts_start whole_last last all ps path body own at here more out l p b h m ready listable =
+    subst (λ whole_last. PartsShown whole_last (map held_part all) last more (map held_part ps) path body at here out out 0) l
+    (subst (λ all. PartsShown last (map held_part all) last more (map held_part ps) path body at here out out 0) p
+    (subst (λ here. PartsShown last (map held_part ps) last more (map held_part ps) path body at here out out 0) (sym h)
+    (subst (λ more. PartsShown last (map held_part ps) last more (map held_part ps) path body at at out out 0) (sym m)
+    (parts_first last (map held_part ps) path body at out
+    (subst (λ more. PartsReady last more (map held_part ps) body at) m (subst (λ here. PartsReady last more (map held_part ps) body here) h (subst (λ own. PartsReady last more (map held_part ps) own here) b ready)))
+    (subst (λ all. AllByRecursion MembersListable (map held_part all)) (sym p) listable)))))
 
-  same_fx : fx_width last (length (map held_part ps)) ≡ fx_width last (length ps)
-  same_fx = ap (fx_width last) (length-map ps held_part)
+module _ (whole_last : LastPart) (all : List MembersTree) (last : LastPart) (more : Bool) (ps : List MembersTree) (path body own : List ℕ) (at here : ℕ) (old now : List ℕ) (i : ℕ) (h : PartsShown whole_last all last more ps path body at here old now i) (b : own ≡ body) where
+  pub part_listable : (p : MembersTree) (again : Bool) (qs : List MembersTree) (end : ℕ) → IsPartMet last more ps own here p again qs end → MembersListable p
+  part_listable p again qs end m = (subst (AllByRecursion MembersListable) m.first h.listable).0
 
-  pub part_bounds : PartInBounds (fx_width last (length ps)) (held_part p)
-  part_bounds = subst (λ fx. PartInBounds fx (held_part p)) same_fx at_first.bounds.0
+  pub parts_next : (new_last : LastPart) (new mid : List ℕ) (first : ℕ) (p : MembersTree) (again : Bool) (qs : List MembersTree) (end : ℕ) → new_last ≡ last → new ≡ own → IsPartMet last more ps own here p again qs end → PartsReady new_last again qs new end → first ≡ 8 * here
+      → Puts as_lines (members_lines p path (members_value p (drop first (bits body)))) now mid → PartsShown whole_last all new_last again qs path body at end old mid (i + 1)
+  parts_next new_last new mid first p again qs end l n met ready f q =
+      let m : IsPartMet last more ps body here p again qs end = subst (λ own. IsPartMet last more ps own here p again qs end) b met in
+      let vs = members_value p (drop (8 * here) (bits body)) in
+      let put : Puts as_lines (members_lines p path vs) now mid = subst (λ first. Puts as_lines (members_lines p path (members_value p (drop first (bits body)))) now mid) f q in record {
+        ready = subst (λ new. PartsReady new_last again qs new end) (n ∙ b) ready;
+        few = omega (arith, h.few, m.forwards);
+        listable = (subst (AllByRecursion MembersListable) m.first h.listable).1;
+        leads = subst (λ last. Leads (parts_done whole_last all path body at old) (FailsAt (kind_read (extended whole_last all) body at) at) (parts_lines qs path) list_count (parts_left last again qs body end) body end mid (i + 1)) (sym l)
+            (leads_next (parts_done whole_last all path body at old) (FailsAt (kind_read (extended whole_last all) body at) at) (parts_lines ps path) (parts_lines qs path) (members_lines p path vs) list_count list_count
+            (parts_left last more ps body here) (parts_left last again qs body end) body here end now mid i (λ ls. list_and vs ls) h.leads m.within m.read put (λ ls t. ap (λ ps. parts_lines ps path (list_and vs ls) t) m.first) (λ ls. add-one (list_count ls)));
+      }
 
-  pub part_listable : MembersListable (held_part p)
-  part_listable = at_first.listable.0
+  pub parts_over : (end n : ℕ) → more ≡ false → end ≡ here → n ≡ i → ShowsCounted (extended whole_last all) path (codes "parts") body at end old now n
+  parts_over end n is e m =
+      subst (λ end. ShowsCounted (extended whole_last all) path (codes "parts") body at end old now n) (sym e)
+      (h.leads.ends here no_lists now n (none_left last more ps body here is h.ready.within) (record { put = λ t. ap (λ u. now ++ as_lines u) (sym (no_list_left ps path t)) }) (omega (arith, m)))
 
-  at_part : Leads (parts_done last (map held_part all) path body at old) (FailsAt (kind_read (extended last (map held_part all)) body at) at) (parts_lines (held_part p ∷ map held_part ps) path) list_count (parts_at last (held_part p ∷ map held_part ps) body here) body here now i
-  at_part = at_first.leads (omega arith)
-
-  pub part_short : (fault : BodyFault) → 8 * length body < 8 * here + members_width (held_part p) → fault.cause ≡ RunsOut → fault.bit ≡ 8 * here → FailsAt (kind_read (extended last (map held_part all)) body at) at fault
-  part_short fault less c b = at_part.fails fault (parts_fail last (held_part p) (map held_part ps) body here fault (omega (arith, less, h.within)) c b)
-
-  module _ (end : ℕ) (more : Bool) (new : List ℕ) (met : IsPartUnit body here end (members_width (held_part p)) (fx_width last (length ps)) more)
-      (put : Puts as_lines (members_lines (held_part p) path (members_value (held_part p) (drop (8 * here) (bits body)))) now new) where
-    unit : IsPartUnit body here end (members_width (held_part p)) (fx_width last (length (map held_part ps))) more
-    unit = subst (λ fx. IsPartUnit body here end (members_width (held_part p)) fx more) (sym same_fx) met
-
-    pub part_last : (n : ℕ) → more ≡ false → n ≡ i + 1 → ShowsCounted (extended last (map held_part all)) path (codes "parts") body at end old new n
-    part_last n none m =
-        let vs = members_value (held_part p) (drop (8 * here) (bits body)) in
-        at_part.ends end (list_and vs no_lists) new n (part_unit_ends last (held_part p) body here end more (map held_part ps) vs unit none refl)
-        (record { put = λ t. put.put t ∙ ap (λ u. now ++ as_lines (members_lines (held_part p) path vs u)) (sym (no_list_left (map held_part ps) path t)) }) m
-
-    part_leads : more ≡ true → 0 < length ps
-        → Leads (parts_done last (map held_part all) path body at old) (FailsAt (kind_read (extended last (map held_part all)) body at) at) (parts_lines (map held_part ps) path) list_count (parts_at last (map held_part ps) body end) body end new (i + 1)
-    part_leads one lt =
-        let qs = map held_part ps in
-        let vs = members_value (held_part p) (drop (8 * here) (bits body)) in
-        let t = after_part ps qs refl lt in
-        let w = members_width (held_part p) in
-        let on : Continues (parts_at last (held_part p ∷ qs) body here) here end (λ ls. list_and vs ls) (parts_at last qs body end) =
-        subst (λ qs. Continues (parts_at last (held_part p ∷ qs) body here) here end (λ ls. list_and vs ls) (parts_at last qs body end)) (sym t.2)
-        (part_unit_goes_on last (held_part p) body here end more t.0 t.1 vs (subst (λ qs. IsPartUnit body here end w (fx_width last (length qs)) more) t.2 unit) one refl) in
-        leads_next (parts_done last (map held_part all) path body at old) (FailsAt (kind_read (extended last (map held_part all)) body at) at) (parts_lines (held_part p ∷ qs) path) (parts_lines qs path) (members_lines (held_part p) path vs) list_count list_count
-        (parts_at last (held_part p ∷ qs) body here) (parts_at last qs body end) body here end now new i (λ ls. list_and vs ls) at_part met.within on put (λ ls t. refl) (λ ls. add-one (list_count ls))
-
-    pub part_more : more ≡ true → PartsShown last all ps path body at end old new (i + 1)
-    part_more one = record {
-      within = met.within;
-      few = omega (arith, h.few, met.forwards);
-      bounds = at_first.bounds.1;
-      listable = at_first.listable.1;
-      leads = part_leads one;
-      past = λ none. (
-        omega (arith, met.forwards),
-        λ fault c b.
-            let w = members_width (held_part p) in
-            let empty : map held_part ps ≡ [] = after_all ps none in
-            at_part.fails fault
-            (subst (λ qs. FailsAt (parts_at last (held_part p ∷ qs) body here) here fault) (sym empty)
-            (part_unit_past last (held_part p) body here end more fault (subst (λ qs. IsPartUnit body here end w (fx_width last (length qs)) more) empty unit) one c b)),
-      );
-    }
+  pub parts_fault : (fault : BodyFault) → FailsAt (parts_left last more ps own here) here fault → FailsAt (kind_read (extended whole_last all) body at) at fault
+  parts_fault fault f = h.leads.fails fault (subst (λ own. FailsAt (parts_left last more ps own here) here fault) b f)
 
 -- ---- one occurrence, at its path
 

@@ -1,6 +1,6 @@
 //! What the numbers of elements mean.
 ghost use Rattle.std.specs.Prelude.{◌≡◌, ◌<◌, ◌++◌, ◌^◌, ℕ, OnOk};
-ghost use Rattle.ax_held_kinds.specs.Held.{held_content};
+ghost use Rattle.ax_held_kinds.specs.HeldFixed.{held_content};
 ghost use Rattle.ax_model.specs.InBounds.{IsWidth};
 ghost use Rattle.ax_model.specs.Paths as Paths;
 ghost use Rattle.ax_text.specs.Listable.{ContentListable};

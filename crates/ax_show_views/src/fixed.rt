@@ -3,7 +3,7 @@ ghost use Rattle.std.specs.Prelude.{◌≡◌, ◌+◌, ◌*◌, ◌/◌, ◌%�
 ghost use Rattle.ax_bits.specs.Bits.{bits, number_of};
 ghost use Rattle.ax_model.specs.InBounds.{IsWidth, FixedInBounds, MembersInBounds};
 ghost use Rattle.ax_model.specs.Paths as Paths;
-ghost use Rattle.ax_held_kinds.specs.Held.{held_content, held_fixed, held_member, held_members};
+ghost use Rattle.ax_held_kinds.specs.HeldFixed.{held_content, held_fixed, held_member, held_members};
 ghost use Rattle.ax_model.specs.Reader.{fixed_value, members_value};
 ghost use Rattle.ax_model.specs.Sizes.{longest_body};
 ghost use Rattle.ax_model.specs.Widths.{width, members_width};

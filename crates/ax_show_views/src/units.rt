@@ -4,7 +4,8 @@ ghost use Rattle.std.specs.List.{AllByRecursion};
 ghost use Rattle.ax_bits.specs.Bits.{bits};
 ghost use Rattle.ax_model.specs.InBounds.{InBounds, FixedInBounds};
 ghost use Rattle.ax_model.specs.Paths as Paths;
-ghost use Rattle.ax_held_kinds.specs.Held.{held_fixed, held_part};
+ghost use Rattle.ax_held_kinds.specs.Held.{held_part};
+ghost use Rattle.ax_held_kinds.specs.HeldFixed.{held_fixed};
 ghost use Rattle.ax_model.specs.Reader.{fixed_value};
 ghost use Rattle.ax_model.specs.Sizes.{longest_body};
 ghost use Rattle.ax_model.specs.Tree as Tree;
@@ -21,10 +22,10 @@ use crate::fixed::{show_fixed, show_members, show_named};
 use crate::paths::set_numbered;
 use crate::stop::FixedStop;
 use ax_held_kinds::{HeldFixed, HeldParts};
-use ax_model::{BodyCause, BodyFault, LastPart, Name};
+use ax_model::{LastPart, Name};
 use ax_octets::Path;
 use ax_text::Lister;
-use ax_values::{DecodeError, has_fx, is_continued};
+use ax_values::{DecodeError, PartsLeft, has_fx};
 
 /// The lines of a fixed kind that stands by itself. Ok is the octet after it.
 #[tactic(auto, using(ax_values::proofs::Continuing::errors, ax_reader::proofs::AtOctets::fixed_fails))]
@@ -91,26 +92,16 @@ fn show_parts(
     ensures ok { IfOk result (λ r. ShowsCounted (Tree.extended last (map held_part parts.now)) path.now (codes "parts") body.now at r.0 lister.old.out lister.new.out r.1) }
     ensures err { IfErr result (λ e. HasFailed (kind_read (Tree.extended last (map held_part parts.now)) body.now at) at e) }
 {
-    let mut here = at;
+    let mut left = PartsLeft::of(last, parts.as_slice(), body, at);
     let mut count = 0;
-    let all = parts.as_slice();
-    for (index, part) in all.iter().enumerate() {
-        let mut bit = 8 * here;
+    while let Some((part, first)) = left.next()? {
+        let mut bit = first;
         if let Err(stop) = show_members(lister, &part.members, body, &mut bit, path) {
-            return Err(stop.of_unit(here));
+            return Err(stop.of_unit(first / 8));
         }
         count += 1;
-        let fx = last.fx_width(all.len() - 1 - index);
-        let end = (bit + fx) / 8;
-        if !is_continued(body, bit, fx) {
-            return Ok((end, count));
-        }
-        here = end;
     }
-    Err(DecodeError::Fault(BodyFault {
-        cause: BodyCause::ExtensionPastEnd,
-        bit: 8 * here - 1,
-    }))
+    Ok((left.at, count))
 }
 
 /// An extended or closed item: how many parts are present, and their members. Ok is the octet after it.

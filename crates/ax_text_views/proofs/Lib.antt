@@ -10,4 +10,3 @@ pub mod DraftPieces
 pub mod StepsPrinted
 pub mod TemplateTexts
 pub mod UapSlots
-pub mod HeldParts

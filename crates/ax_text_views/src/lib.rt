@@ -10,7 +10,7 @@ mod items;
 mod kinds;
 mod line;
 mod literal;
-mod parts_left;
+mod parts;
 mod records;
 mod room;
 mod step_texts;

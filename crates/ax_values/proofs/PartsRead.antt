@@ -1,7 +1,6 @@
 -- The parts of an extended or closed item that are left to be read.
-use Rattle.std.proofs.Common.{◌==◌, ◌≡◌, ℕ, ◌+◌, ◌-◌, ◌*◌, ◌<◌, ◌≤◌, Bool, true, false, List, [], ◌∷◌, ◌++◌, length, drop, map, refl, sym, ◌∙◌, ap, arith, subst, length-append}
+use Rattle.std.proofs.Common.{◌≡◌, ℕ, ◌+◌, ◌-◌, ◌*◌, ◌<◌, ◌≤◌, Bool, true, false, List, [], ◌∷◌, ◌++◌, length, drop, drop-cons, map, get_or, refl, sym, ◌∙◌, ap, arith, subst, add-one, length-append, length-drop}
 use Rattle.ax_bits.specs.Bits.{bits}
-use Rattle.std.proofs.lemmas.Bool.{eqb-true}
 use Rattle.std.proofs.lemmas.List.{length-map}
 use Rattle.ax_model.specs.Reader.{Read, got, after, members_value}
 use Rattle.ax_model.specs.InBounds.{PartInBounds}
@@ -81,49 +80,49 @@ part_met last p ps body at end more h u some = record {
   read = part_read last p ps body at end more u some;
 }
 
--- ---- of the code's values
+-- ---- at a place among the kind's parts
 
-module _ (last : LastPart) (more : Bool) (all later : List Part) (p : Part) (body : List ℕ) (at : ℕ) (is : more ≡ true) (parts : all ≡ p ∷ later) where
-  same_fx : fx_width last (length (map part_tree later)) ≡ fx_width last (length later)
-  same_fx = ap (fx_width last) (length-map later part_tree)
+module _ {P : Type 0} (tree : P → MembersTree) (ps : List P) (i : ℕ) (within : i < length ps) where
+  pub part_at : (p : P) → p ≡ get_or ps i p → map tree (drop i ps) ≡ tree p ∷ map tree (drop (i + 1) ps)
+  part_at p is = ap (map tree) (drop-cons ps i p within ∙ (λ k. sym is k ∷ drop (sym (add-one i) k) ps))
 
-  pub short_left : (fault : BodyFault) → 8 * (length body - at) < members_width (part_tree p) + fx_width last (length later) → fault.cause ≡ RunsOut → fault.bit ≡ 8 * at → FailsAt (parts_left last more (map part_tree all) body at) at fault
+  pub others_at : length (map tree (drop (i + 1) ps)) ≡ length ps - i - 1
+  others_at = omega (arith, length-map (drop (i + 1) ps) tree, length-drop (i + 1) ps, within)
+
+module _ (last : LastPart) (more : Bool) (all later : List MembersTree) (p : MembersTree) (body : List ℕ) (at : ℕ) (is : more ≡ true) (parts : all ≡ p ∷ later) where
+  pub short_left : (fault : BodyFault) → 8 * (length body - at) < members_width p + fx_width last (length later) → fault.cause ≡ RunsOut → fault.bit ≡ 8 * at → FailsAt (parts_left last more all body at) at fault
   short_left fault less c b =
-      subst (λ more. FailsAt (parts_left last more (map part_tree all) body at) at fault) (sym is)
-      (subst (λ all. FailsAt (parts_left last true (map part_tree all) body at) at fault) (sym parts) (part_short last (part_tree p) (map part_tree later) body at fault (omega (arith, less, same_fx)) c b))
+      subst (λ more. FailsAt (parts_left last more all body at) at fault) (sym is)
+      (subst (λ all. FailsAt (parts_left last true all body at) at fault) (sym parts) (part_short last p later body at fault less c b))
 
-  module _ (h : PartsReady last more (map part_tree all) body at) where
-    here : PartsReady last true (part_tree p ∷ map part_tree later) body at
-    here = subst (λ all. PartsReady last true (map part_tree all) body at) parts (subst (λ more. PartsReady last more (map part_tree all) body at) is h)
+  module _ (h : PartsReady last more all body at) where
+    here : PartsReady last true (p ∷ later) body at
+    here = subst (λ all. PartsReady last true all body at) parts (subst (λ more. PartsReady last more all body at) is h)
 
-    pub left_bounds : PartInBounds (fx_width last (length later)) (part_tree p)
-    left_bounds = subst (λ fx. PartInBounds fx (part_tree p)) same_fx here.bounds.0
+    pub left_bounds : PartInBounds (fx_width last (length later)) p
+    left_bounds = here.bounds.0
 
-    module _ (end : ℕ) (again : Bool) (u : IsPartUnit body at end (members_width (part_tree p)) (fx_width last (length later)) again) where
-      pub past_left : (fault : BodyFault) → again ≡ true → (length later == 0) ≡ true → fault.cause ≡ ExtensionPastEnd → fault.bit + 1 ≡ 8 * end → FailsAt (parts_left last more (map part_tree all) body at) at fault
+    module _ (end : ℕ) (again : Bool) (u : IsPartUnit body at end (members_width p) (fx_width last (length later)) again) where
+      pub past_left : (fault : BodyFault) → again ≡ true → length later ≡ 0 → fault.cause ≡ ExtensionPastEnd → fault.bit + 1 ≡ 8 * end → FailsAt (parts_left last more all body at) at fault
       past_left fault one none c b =
           let empty : later ≡ [] = none_of later none in
-          subst (λ more. FailsAt (parts_left last more (map part_tree all) body at) at fault) (sym is)
-          (subst (λ all. FailsAt (parts_left last true (map part_tree all) body at) at fault) (sym parts)
-          (subst (λ later. FailsAt (parts_left last true (part_tree p ∷ map part_tree later) body at) at fault) (sym empty)
-          (part_past last (part_tree p) body at end again fault (subst (λ later. IsPartUnit body at end (members_width (part_tree p)) (fx_width last (length later)) again) empty u) one c b)))
+          subst (λ more. FailsAt (parts_left last more all body at) at fault) (sym is)
+          (subst (λ all. FailsAt (parts_left last true all body at) at fault) (sym parts)
+          (subst (λ later. FailsAt (parts_left last true (p ∷ later) body at) at fault) (sym empty)
+          (part_past last p body at end again fault (subst (λ later. IsPartUnit body at end (members_width p) (fx_width last (length later)) again) empty u) one c b)))
         where
-          none_of : (later : List Part) → (length later == 0) ≡ true → later ≡ []
+          none_of : (later : List MembersTree) → length later ≡ 0 → later ≡ []
           none_of [] e = refl
-          none_of (q ∷ qs) e = absurd (let no : length (q ∷ qs) ≡ 0 = eqb-true (length (q ∷ qs)) 0 e in omega arith)
+          none_of (q ∷ qs) e = absurd (omega (arith, e))
 
-      pub met_left : (again ≡ true → 0 < length later) → IsPartMet last more (map part_tree all) body at (part_tree p) again (map part_tree later) end
+      pub met_left : (again ≡ true → 0 < length later) → IsPartMet last more all body at p again later end
       met_left some =
-          subst (λ more. IsPartMet last more (map part_tree all) body at (part_tree p) again (map part_tree later) end) (sym is)
-          (subst (λ all. IsPartMet last true (map part_tree all) body at (part_tree p) again (map part_tree later) end) (sym parts)
-          (part_met last (part_tree p) (map part_tree later) body at end again here (subst (λ fx. IsPartUnit body at end (members_width (part_tree p)) fx again) (sym same_fx) u) (λ one. (let l = some one in omega (arith, length-map later part_tree)))))
+          subst (λ more. IsPartMet last more all body at p again later end) (sym is)
+          (subst (λ all. IsPartMet last true all body at p again later end) (sym parts)
+          (part_met last p later body at end again here u some))
 
-      pub ready_left : (again ≡ true → 0 < length later) → PartsReady last again (map part_tree later) body end
-      ready_left some = record { small = here.small; within = u.within; bounds = here.bounds.1; some = λ one. (let l = some one in omega (arith, length-map later part_tree)) }
-
-pub some_later : (later : List Part) → (length later == 0) ≡ false → 0 < length later
-some_later [] e = absurd (let no : true ≡ false = e in cc)
-some_later (q ∷ qs) e = omega arith
+      pub ready_left : (again ≡ true → 0 < length later) → PartsReady last again later body end
+      ready_left some = record { small = here.small; within = u.within; bounds = here.bounds.1; some = some }
 
 -- ---- a loop over them
 

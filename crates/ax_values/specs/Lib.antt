@@ -1,4 +1,5 @@
 pub mod SlotReading
+pub mod Cursor
 pub mod Decoding
 pub mod Writing
 pub mod Parts

@@ -28,7 +28,7 @@ pub use explicit::explicit_content;
 pub use kinds::{decode_marked, octet_at};
 pub use lengths::length_over;
 pub use marks::entry_marks;
-pub use parts_left::{PartsLeft, is_continued};
+pub use parts_left::{PartsLeft, SizedPart};
 pub use records::record_mask;
 pub use slots::slots_mask;
 pub use units::unit_end;

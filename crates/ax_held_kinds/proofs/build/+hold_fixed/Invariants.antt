@@ -1,5 +1,5 @@
 use Rattle.std.proofs.Common.{◌≡◌, length, map, take}
-use Rattle.ax_held_kinds.specs.Held.{held_member}
+use Rattle.ax_held_kinds.specs.HeldFixed.{held_member}
 use Rattle.ax_model.specs.Plain.{member_tree}
 use Rattle.ax_held_kinds.proofs.build.+hold_fixed.Given as goal
 

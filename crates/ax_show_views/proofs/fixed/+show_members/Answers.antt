@@ -1,6 +1,6 @@
 use Rattle.std.proofs.Common.{◌≡◌, ◌<◌, length, get_or, subst}
 use Rattle.ax_bits.specs.Bits.{bits}
-use Rattle.ax_held_kinds.specs.Held.{held_members}
+use Rattle.ax_held_kinds.specs.HeldFixed.{held_members}
 use Rattle.ax_show_views.proofs.Members.{member_next}
 use Rattle.ax_show_views.proofs.fixed.+show_members.Goals as goal
 

@@ -1,5 +1,5 @@
 use Rattle.std.proofs.Common.{◌≡◌, ◌+◌, ◌*◌, ◌/◌, ◌≤◌, length, arith, refl}
-use Rattle.ax_held_kinds.specs.Held.{held_fixed}
+use Rattle.ax_held_kinds.specs.HeldFixed.{held_fixed}
 use Rattle.ax_model.specs.Tree.{by_fx}
 use Rattle.ax_model.specs.Widths.{width}
 use Rattle.ax_reader.specs.Reading.{kind_read}

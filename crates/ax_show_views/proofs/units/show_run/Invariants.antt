@@ -1,5 +1,5 @@
 use Rattle.std.proofs.Common.{◌-◌, length}
-use Rattle.ax_held_kinds.specs.Held.{held_fixed}
+use Rattle.ax_held_kinds.specs.HeldFixed.{held_fixed}
 use Rattle.ax_show_views.proofs.UnitLines.{RunShown}
 use Rattle.ax_show_views.proofs.units.show_run.Given as goal
 

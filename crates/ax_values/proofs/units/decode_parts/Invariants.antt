@@ -1,4 +1,4 @@
-use Rattle.std.proofs.Common.{◌≡◌, ◌-◌, length, map}
+use Rattle.std.proofs.Common.{◌≡◌, ◌-◌, length, drop, map}
 use Rattle.ax_model.specs.Plain.{part_tree}
 use Rattle.ax_reader.proofs.AtOctets.{parts_at}
 use Rattle.ax_values.proofs.PartsRead.{PartsSoFar}
@@ -7,7 +7,7 @@ use Rattle.ax_values.proofs.units.decode_parts.Given as goal
 abbrev pub invariant-loop-made : goal.invariant-loop-made
 invariant-loop-made l = record {
   body : l.left.body.now ≡ l.body;
-  parts : PartsSoFar (parts_at l.fn.last (map part_tree l.parts) l.body l.at) l.left.last l.left.more (map part_tree l.left.parts.now) l.left.body.now l.at l.left.at l.made;
+  parts : PartsSoFar (parts_at l.fn.last (map part_tree l.parts) l.body l.at) l.left.last l.left.more (map part_tree (drop l.left.index l.left.parts.now)) l.left.body.now l.at l.left.at l.made;
 }
 
 abbrev pub decreases-loop-made : goal.decreases-loop-made

@@ -1,11 +1,12 @@
 -- The digits of short numbers, and octets put at a place.
-use Rattle.std.proofs.Common.{◌≡◌, ℕ, ◌+◌, ◌/◌, ◌%◌, ◌^◌, ◌<◌, ◌≤◌, ◌⊎◌, inl, inr, List, [], ◌∷◌, ◌++◌, length, take, decimal, refl, sym, ◌∙◌, ap, arith, append_assoc}
-use Rattle.std.proofs.lemmas.Bool.{cases_lt}
+use Rattle.std.proofs.Common.{◌≡◌, ℕ, zero, suc, ◌+◌, ◌-◌, ◌*◌, ◌/◌, ◌%◌, ◌^◌, ◌<◌, ◌≤◌, Bool, true, false, ◌&&◌, T, eqb, List, [], ◌∷◌, ◌++◌, length, take, drop, decimal, refl, sym, ◌∙◌, ap, arith, eqb→eq, append_assoc}
 use Rattle.std.proofs.lemmas.Fmt.{decimal_digit, decimal_step}
-use Rattle.std.proofs.lemmas.List.{take-take, length-take-le}
+use Rattle.std.proofs.lemmas.List.{take-take, drop-drop, length-take-le}
 use Rattle.std.proofs.Math.Pow.{pow_mono}
 use Rattle.std.proofs.Math.Seq.{take-append-add}
 use Rattle.ax_text_views.specs.Prints.{three_last}
+use Rattle.ax_text_views.specs.declared.three_digits.TheConstants.{THREE_DIGITS}
+use lib.Ieee.Fits.{and_l, and_r}
 
 pub two_digits : (n : ℕ) → 10 ≤ n → n < 100 → decimal n ≡ (48 + n / 10) ∷ (48 + n % 10) ∷ []
 two_digits n lo hi = rw (decimal_step n lo (omega arith), decimal_digit (n / 10) (omega arith)) refl
@@ -52,27 +53,68 @@ eighteen_put n at end second third last old a b c new lo hi p q r s =
 
 pub ruleset eighteen = (eighteen_put)
 
--- the digits of a number of at most three, of which the first ones stay where there are as many
-pub short_put : (n at tens ones : ℕ) (old first second new : List ℕ) → n < 1000
-    → (n < 100 → take tens first ≡ take at old) → (100 ≤ n → take tens first ≡ take at old ++ (48 + n / 100) ∷ [])
-    → (n < 10 → take ones second ≡ take tens first) → (10 ≤ n → take ones second ≡ take tens first ++ (48 + n / 10 % 10) ∷ [])
-    → take (ones + 1) new ≡ take ones second ++ (48 + n % 10) ∷ [] → take (ones + 1) new ≡ take at old ++ decimal n
-short_put n at tens ones old first second new few no_hundreds hundreds no_tens tens_put last = by (cases_lt n 10) (cases_lt n 100)
-  where
-    by : (n < 10) ⊎ (10 ≤ n) → (n < 100) ⊎ (100 ≤ n) → take (ones + 1) new ≡ take at old ++ decimal n
-    by (inl lo) h =
-        let e : n % 10 ≡ n = omega arith in
-        last ∙ ap (λ t. t ++ (48 + n % 10) ∷ []) (no_tens lo ∙ no_hundreds (omega arith)) ∙ ap (λ d. take at old ++ (48 + d) ∷ []) e ∙ ap (λ t. take at old ++ t) (sym (decimal_digit n lo))
-    by (inr lo) (inl hi) =
-        let e : n / 10 % 10 ≡ n / 10 = omega arith in
-        put_twice old second new ((48 + n / 10 % 10) ∷ []) ((48 + n % 10) ∷ []) at ones (ones + 1) (tens_put lo ∙ ap (λ t. t ++ (48 + n / 10 % 10) ∷ []) (no_hundreds hi)) last
-        ∙ ap (λ d. take at old ++ (48 + d) ∷ (48 + n % 10) ∷ []) e ∙ ap (λ t. take at old ++ t) (sym (two_digits n lo hi))
-    by (inr lo) (inr hi) =
-        put_twice old second new ((48 + n / 100) ∷ (48 + n / 10 % 10) ∷ []) ((48 + n % 10) ∷ []) at ones (ones + 1)
-        (put_twice old first second ((48 + n / 100) ∷ []) ((48 + n / 10 % 10) ∷ []) at tens ones (hundreds hi) (tens_put lo)) last
-        ∙ ap (λ t. take at old ++ t) (sym (three_digits n hi few))
+-- ---- the table of three digits
 
-pub ruleset shorts = (short_put)
+-- the m numbers from n on stand in front, in three digits each
+abbrev are_three : ℕ → ℕ → List ℕ → Bool
+are_three zero n xs = true
+are_three (suc m) n [] = false
+are_three (suc m) n (a ∷ []) = false
+are_three (suc m) n (a ∷ b ∷ []) = false
+are_three (suc m) n (a ∷ b ∷ c ∷ xs) = ((eqb a (48 + n / 100) && eqb b (48 + n / 10 % 10)) && eqb c (48 + n % 10)) && are_three m (suc n) xs
+
+three_from : (m k n : ℕ) (xs : List ℕ) → T (are_three m n xs) → k < m → drop (3 * k) xs ≡ three_last (n + k) ++ drop (3 * k + 3) xs
+three_from zero k n xs t lt = absurd (omega arith)
+three_from (suc m) k n [] t lt = absurd t
+three_from (suc m) k n (a ∷ []) t lt = absurd t
+three_from (suc m) k n (a ∷ b ∷ []) t lt = absurd t
+three_from (suc m) zero n (a ∷ b ∷ c ∷ xs) t lt =
+    let first = eqb a (48 + n / 100) in
+    let second = eqb b (48 + n / 10 % 10) in
+    let third = eqb c (48 + n % 10) in
+    let all : T ((first && second) && third) = and_l ((first && second) && third) (are_three m (suc n) xs) t in
+    let two : T (first && second) = and_l (first && second) third all in
+    let e : n ≡ n + 0 = omega arith in
+    (λ i. eqb→eq a (48 + n / 100) (and_l first second two) i ∷ eqb→eq b (48 + n / 10 % 10) (and_r first second two) i ∷ eqb→eq c (48 + n % 10) (and_r (first && second) third all) i ∷ xs) ∙ ap (λ n. three_last n ++ xs) e
+three_from (suc m) (suc k) n (a ∷ b ∷ c ∷ xs) t lt =
+    let e : 3 * suc k ≡ suc (suc (suc (3 * k))) = omega arith in
+    let f : suc (suc (suc (3 * k + 3))) ≡ 3 * suc k + 3 = omega arith in
+    let g : suc n + k ≡ n + suc k = omega arith in
+    let later = and_r ((eqb a (48 + n / 100) && eqb b (48 + n / 10 % 10)) && eqb c (48 + n % 10)) (are_three m (suc n) xs) t in
+    ap (λ m. drop m (a ∷ b ∷ c ∷ xs)) e ∙ three_from m k (suc n) xs later (omega arith) ∙ (λ i. three_last (g i) ++ drop (f i) (a ∷ b ∷ c ∷ xs))
+
+digits_from : (n : ℕ) → n < 1000 → drop (3 * n) THREE_DIGITS ≡ three_last n ++ drop (3 * n + 3) THREE_DIGITS
+digits_from n lt = let e : 0 + n ≡ n = omega arith in three_from 1000 n 0 THREE_DIGITS tt lt ∙ ap (λ m. three_last m ++ drop (3 * n + 3) THREE_DIGITS) e
+
+-- what stands in the table at the number is its three digits
+pub digits_at : (n : ℕ) → n < 1000 → take 3 (drop (3 * n) THREE_DIGITS) ≡ three_last n
+digits_at n lt = ap (take 3) (digits_from n lt)
+
+-- the last ones of its digits are before those of the next number
+pub last_digits_at : (n count : ℕ) → n < 1000 → 1 ≤ count → count ≤ 3 → take count (drop (3 * n + 3 - count) THREE_DIGITS) ≡ drop (3 - count) (three_last n)
+last_digits_at n count lt some few =
+    let e : 3 * n + 3 - count ≡ 3 * n + (3 - count) = omega (arith, some, few) in
+    ap (λ k. take count (drop k THREE_DIGITS)) e ∙ ap (take count) (sym (drop-drop (3 - count) (3 * n) THREE_DIGITS) ∙ ap (drop (3 - count)) (digits_from n lt)) ∙ front count some few
+  where
+    front : (count : ℕ) → 1 ≤ count → count ≤ 3 → take count (drop (3 - count) (three_last n ++ drop (3 * n + 3) THREE_DIGITS)) ≡ drop (3 - count) (three_last n)
+    front zero some few = absurd (omega (arith, some))
+    front (suc zero) some few = refl
+    front (suc (suc zero)) some few = refl
+    front (suc (suc (suc zero))) some few = refl
+    front (suc (suc (suc (suc n)))) some few = absurd (omega (arith, few))
+
+-- ---- how many digits a number has
+
+pub one_digit : (n : ℕ) → n < 10 → drop 2 (three_last n) ≡ decimal n
+one_digit n lt = let e : n % 10 ≡ n = omega arith in ap (λ d. (48 + d) ∷ []) e ∙ sym (decimal_digit n lt)
+
+pub two_last_digits : (n : ℕ) → 10 ≤ n → n < 100 → drop 1 (three_last n) ≡ decimal n
+two_last_digits n lo hi = let e : n / 10 % 10 ≡ n / 10 = omega arith in ap (λ d. (48 + d) ∷ (48 + n % 10) ∷ []) e ∙ sym (two_digits n lo hi)
+
+pub three_last_digits : (n : ℕ) → 100 ≤ n → n < 1000 → three_last n ≡ decimal n
+three_last_digits n lo hi = sym (three_digits n lo hi)
+
+pub ruleset counts = (one_digit, two_last_digits, three_last_digits)
 
 pub one_put : (n at : ℕ) (old new : List ℕ) → n < 10 → take (at + 1) new ≡ take at old ++ (48 + n) ∷ [] → take (at + 1) new ≡ take at old ++ decimal n
 one_put n at old new lt p = p ∙ ap (λ t. take at old ++ t) (sym (decimal_digit n lt))

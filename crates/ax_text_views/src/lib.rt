@@ -16,6 +16,7 @@ mod room;
 mod step_texts;
 mod steps;
 mod templates;
+mod three_digits;
 mod units;
 
 pub use blocks::{print_block, print_opaque};

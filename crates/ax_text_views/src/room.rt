@@ -1,7 +1,8 @@
 //! Octets put into room that is there, each run at its place.
-ghost use Rattle.std.specs.Prelude.{◌≡◌, [], ◌∷◌, ◌++◌, ◌+◌, ◌<◌, ◌≤◌, length, take, decimal, OnOk};
+ghost use Rattle.std.specs.Prelude.{◌≡◌, [], ◌∷◌, ◌++◌, ◌+◌, ◌-◌, ◌<◌, ◌≤◌, length, take, drop, decimal, OnOk};
 ghost use Rattle.ax_text_views.specs.Prints.{three_last};
 
+use crate::three_digits::THREE_DIGITS;
 use ax_model::Name;
 use itoa::Buffer;
 use std::alloc::AllocError;
@@ -83,45 +84,48 @@ pub(crate) fn put_name(room: &mut [u8], at: usize, name: &Name) -> usize
     at + 1 + name.octets().len()
 }
 
-/// Puts the first `count` of 32 octets. The result is the place after them. All 32 are copied at once.
+/// Puts the first `count` of N octets. The result is the place after them. All N are copied at once.
 #[inline(always)]
-pub(crate) fn put_some(room: &mut [u8], at: usize, octets: &[u8], count: usize) -> usize
-    requires room { at + 32 ≤ length room.old }
-    requires count { (32 ≤ length octets.now) × (count ≤ 32) }
+pub(crate) fn put_some<const N: usize>(
+    room: &mut [u8],
+    at: usize,
+    octets: &[u8],
+    count: usize,
+) -> usize
+    requires room { at + N ≤ length room.old }
+    requires count { (N ≤ length octets.now) × (count ≤ N) }
     ensures front { take result room.new ≡ take at room.old ++ take count octets.now }
     ensures place { result ≡ at + count }
     ensures whole { length room.new ≡ length room.old }
 {
-    put_first::<32>(room, at, octets);
+    put_first::<N>(room, at, octets);
     at + count
 }
 
-/// Puts the three last digits of a number. The result is the place after them.
+/// Puts a number below 1000 in three digits. The result is the place after them. A fourth octet is copied with them.
 #[inline(always)]
 fn put_three(room: &mut [u8], at: usize, number: u32) -> usize
-    requires { (at + 3 ≤ length room.old) × (number < 1000) }
+    requires { (at + 4 ≤ length room.old) × (number < 1000) }
     ensures front { take result room.new ≡ take at room.old ++ three_last number }
     ensures place { result ≡ at + 3 }
     ensures whole { length room.new ≡ length room.old }
 {
-    put_octet(room, at, b'0' + (number / 100) as u8);
-    put_octet(room, at + 1, b'0' + (number / 10 % 10) as u8);
-    put_octet(room, at + 2, b'0' + (number % 10) as u8);
-    at + 3
+    let digits = &THREE_DIGITS[3 * number as usize..];
+    put_some::<4>(room, at, digits, 3)
 }
 
-/// Puts a digit of a number, which stays only where the number isn't below `least`: so no branch depends on it. The result is the
-/// place after what stays.
+/// How many digits a number below 1000 has: the last ones of its three.
 #[inline(always)]
-fn put_digit_from(room: &mut [u8], at: usize, digit: u32, number: u32, least: u32) -> usize
-    requires { (at < length room.old) × (digit < 10) }
-    ensures none { number < least → take result room.new ≡ take at room.old }
-    ensures some { least ≤ number → take result room.new ≡ take at room.old ++ (48 + digit) ∷ [] }
-    ensures few { result ≤ at + 1 }
-    ensures whole { length room.new ≡ length room.old }
+#[tactic(auto, using(crate::proofs::Digits::counts))]
+fn digit_count(number: u32) -> usize
+    requires { number < 1000 }
+    ensures few { (1 ≤ result) × (result ≤ 3) }
+    ensures last { drop (3 - result) (three_last number) ≡ decimal number }
 {
-    put_octet(room, at, b'0' + digit as u8);
-    if number < least { at } else { at + 1 }
+    if number < 10 {
+        return 1;
+    }
+    if number < 100 { 2 } else { 3 }
 }
 
 /// Puts a number of one digit. The result is the place after it.
@@ -137,26 +141,25 @@ pub(crate) fn put_one(room: &mut [u8], at: usize, number: u32) -> usize
     at + 1
 }
 
-/// Puts a number of at most three digits. The result is the place after it.
+/// Puts a number of at most three digits. The result is the place after it. Octets after its digits are copied with them, so no
+/// branch depends on how many it has.
 #[inline(always)]
-#[tactic(auto, using(crate::proofs::Digits::shorts))]
 fn put_short(room: &mut [u8], at: usize, number: u32) -> usize
-    requires { (at + 3 ≤ length room.old) × (number < 1000) }
+    requires { (at + 4 ≤ length room.old) × (number < 1000) }
     ensures front { take result room.new ≡ take at room.old ++ decimal number }
     ensures within { result ≤ at + 3 }
     ensures whole { length room.new ≡ length room.old }
 {
-    let tens = put_digit_from(room, at, number / 100, number, 100);
-    let ones = put_digit_from(room, tens, number / 10 % 10, number, 10);
-    put_octet(room, ones, b'0' + (number % 10) as u8);
-    ones + 1
+    let count = digit_count(number);
+    let digits = &THREE_DIGITS[3 * number as usize + 3 - count..];
+    put_some::<4>(room, at, digits, count)
 }
 
 /// Puts a number of at most six digits. The result is the place after it.
 #[inline(always)]
 #[tactic(auto, using(crate::proofs::Digits::thousands))]
 fn put_six(room: &mut [u8], at: usize, number: u32) -> usize
-    requires { (at + 6 ≤ length room.old) × (number < 1000000) }
+    requires { (at + 7 ≤ length room.old) × (number < 1000000) }
     ensures front { take result room.new ≡ take at room.old ++ decimal number }
     ensures within { result ≤ at + 6 }
     ensures whole { length room.new ≡ length room.old }
@@ -172,7 +175,7 @@ fn put_six(room: &mut [u8], at: usize, number: u32) -> usize
 #[inline(always)]
 #[tactic(auto, using(crate::proofs::Digits::thousands))]
 fn put_nine(room: &mut [u8], at: usize, number: u32) -> usize
-    requires { (at + 9 ≤ length room.old) × (number < 1000000000) }
+    requires { (at + 10 ≤ length room.old) × (number < 1000000000) }
     ensures front { take result room.new ≡ take at room.old ++ decimal number }
     ensures within { result ≤ at + 9 }
     ensures whole { length room.new ≡ length room.old }
@@ -188,7 +191,7 @@ fn put_nine(room: &mut [u8], at: usize, number: u32) -> usize
 #[inline(always)]
 #[tactic(auto, using(crate::proofs::Digits::eighteen))]
 fn put_eighteen(room: &mut [u8], at: usize, number: u64) -> usize
-    requires { (at + 18 ≤ length room.old) × (1000000000 ≤ number) × (number < 1000000000000000000) }
+    requires { (at + 19 ≤ length room.old) × (1000000000 ≤ number) × (number < 1000000000000000000) }
     ensures front { take result room.new ≡ take at room.old ++ decimal number }
     ensures within { result ≤ at + 18 }
     ensures whole { length room.new ≡ length room.old }

@@ -78,7 +78,7 @@ fn put_step(room: &mut [u8], place: usize, step: &Step, body: &[u8], at: &mut u3
     ensures whole { length room.new ≡ length room.old }
     ensures at { at.new ≡ at.old + number_width step.now.number }
 {
-    let end = put_some(room, place, &step.literal.octets, step.literal.count);
+    let end = put_some::<32>(room, place, &step.literal.octets, step.literal.count);
     put_number_of(room, end, step.number, body, at)
 }
 
@@ -128,5 +128,5 @@ pub(crate) fn put_template(
     ensures within { result ≤ length room.new }
 {
     let end = put_steps(room, place, steps.steps.as_slice(), body, at);
-    put_some(room, end, &steps.tail.octets, steps.tail.count)
+    put_some::<32>(room, end, &steps.tail.octets, steps.tail.count)
 }

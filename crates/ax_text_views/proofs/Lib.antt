@@ -8,5 +8,6 @@ pub mod Octets
 pub mod Digits
 pub mod DraftPieces
 pub mod StepsPrinted
+pub mod RunsPrinted
 pub mod TemplateTexts
 pub mod UapSlots

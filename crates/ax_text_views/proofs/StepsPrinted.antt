@@ -1,10 +1,12 @@
 -- Steps printed one after the other.
-use Rattle.std.proofs.Common.{◌≡◌, ℕ, ◌+◌, ◌^◌, ◌<◌, ◌≤◌, List, [], ◌∷◌, ◌++◌, Option, Some, None, length, take, drop, get_or, decimal, IfSome, refl, sym, ◌∙◌, ap, arith, subst, append_assoc, append-nil}
+use Rattle.std.proofs.Common.{◌≡◌, ℕ, ◌+◌, ◌*◌, ◌^◌, ◌<◌, ◌≤◌, List, [], ◌∷◌, ◌++◌, Option, Some, None, length, take, drop, get_or, decimal, IfSome, refl, sym, ◌∙◌, ap, arith, subst, append_assoc, append-nil}
 use Rattle.std.proofs.lemmas.List.{drop-drop, drop_all}
 use Rattle.ax_bits.proofs.Pieces.{number-word}
 use Rattle.ax_bits.specs.Bits.{number_of, word}
 use Rattle.ax_model.specs.InBounds.{IsWidth, FixedInBounds, MembersInBounds}
+use Rattle.ax_model.specs.Lengths.{capped}
 use Rattle.ax_model.specs.Reader.{fixed_value, members_value}
+use Rattle.ax_model.specs.Sizes.{longest_body}
 use Rattle.ax_model.specs.Tree.{FixedTree, MembersTree}
 use Rattle.ax_model.specs.Widths.{width, members_width}
 use Rattle.ax_text.proofs.Printed.{from_place}
@@ -45,15 +47,15 @@ pub ruleset ways = (none_put, some_put, none_wide, some_wide, some_bounds, some_
 
 pub ruleset step = (put_twice)
 
-with_printed : (xs : List ℕ) (o : Option ℕ) (r : Template) (b : List ℕ) → printed (with_number xs o r) b ≡ (xs ++ number_text o b) ++ printed r (drop (number_width o) b)
+pub with_printed : (xs : List ℕ) (o : Option ℕ) (r : Template) (b : List ℕ) → printed (with_number xs o r) b ≡ (xs ++ number_text o b) ++ printed r (drop (number_width o) b)
 with_printed xs None r b = printed_before xs r b ∙ ap (λ t. t ++ printed r b) (sym (append-nil xs))
 with_printed xs (Some w) r b = sym (append_assoc xs (decimal (number_of (take w b))) (printed r (drop w b)))
 
-with_width : (xs : List ℕ) (o : Option ℕ) (r : Template) → template_width (with_number xs o r) ≡ number_width o + template_width r
+pub with_width : (xs : List ℕ) (o : Option ℕ) (r : Template) → template_width (with_number xs o r) ≡ number_width o + template_width r
 with_width xs None r = width_before xs r ∙ (let e : template_width r ≡ 0 + template_width r = omega arith in e)
 with_width xs (Some w) r = refl
 
-with_bounds : (xs : List ℕ) (o : Option ℕ) (r : Template) → TemplateInBounds (with_number xs o r) → NumberInBounds o × TemplateInBounds r
+pub with_bounds : (xs : List ℕ) (o : Option ℕ) (r : Template) → TemplateInBounds (with_number xs o r) → NumberInBounds o × TemplateInBounds r
 with_bounds xs None r h = (tt, bounds_behind xs r h)
 with_bounds xs (Some w) r h = h
 
@@ -136,14 +138,14 @@ module _ (s : Steps) (ss : List Step) (same : ss ≡ s.steps) where
   pub whole_bounds : TemplateInBounds (whole_template s) → TemplateInBounds (template_of ss)
   whole_bounds h = subst (λ ss. TemplateInBounds (template_of ss)) (sym same) (bounds_tail s.steps tail h)
 
-  pub whole_within : (at n : ℕ) → at + template_width (whole_template s) ≤ n → at + template_width (template_of ss) ≤ n
-  whole_within at n h = omega (arith, h, ap (λ ss. template_width (template_of ss)) same, width_tail s.steps tail)
+  pub whole_wide : (w : ℕ) → template_width (whole_template s) ≡ w → template_width (template_of ss) ≡ w
+  whole_wide w e = ap (λ ss. template_width (template_of ss)) same ∙ width_tail s.steps tail ∙ e
 
   pub whole_put : (b first mid last : List ℕ) (at n m : ℕ) → take n mid ≡ take at first ++ printed (template_of ss) b → take m last ≡ take n mid ++ take s.tail.count s.tail.octets → take m last ≡ take at first ++ printed (whole_template s) b
   whole_put b first mid last at n m p q =
       put_twice first mid last (printed (template_of ss) b) tail at n m p q ∙ ap (λ t. take at first ++ t) (ap (λ ss. printed (template_of ss) b ++ tail) same ∙ sym (printed_tail s.steps tail b))
 
-pub ruleset wholes = (whole_bounds, whole_put)
+pub ruleset wholes = (whole_bounds, whole_wide, whole_put)
 
 -- ---- what is held of a fixed kind, and of a part
 
@@ -154,8 +156,8 @@ module _ (f : FixedTree) (o : Option Steps) (ss : Steps) (made : IfSome o (λ ss
   pub held_bounds : FixedInBounds f → TemplateInBounds (whole_template ss)
   held_bounds h = steps_bounds f ss fixed_steps h
 
-  pub held_within : (at n : ℕ) → at + width f ≤ n → at + template_width (whole_template ss) ≤ n
-  held_within at n h = omega (arith, h, steps_width f ss fixed_steps)
+  pub held_wide : (at n w : ℕ) → w ≡ capped (width f) → at + width f ≤ 8 * n → n ≤ longest_body → template_width (whole_template ss) ≡ w
+  held_wide at n w wide within long = steps_width f ss fixed_steps ∙ omega (arith, wide, within, long)
 
   pub held_put : (b old new : List ℕ) → new ≡ old ++ printed (whole_template ss) b → Puts after_spaces (fixed_onto f (fixed_value f b)) old new
   held_put b old new e = fixed_put f ss b old new fixed_steps e
@@ -167,12 +169,12 @@ module _ (p : MembersTree) (o : Option Steps) (ss : Steps) (made : IfSome o (λ 
   pub held_part_bounds : MembersInBounds p → TemplateInBounds (whole_template ss)
   held_part_bounds h = part_bounds p ss part_steps h
 
-  pub held_part_within : (at n : ℕ) → at + members_width p ≤ n → at + template_width (whole_template ss) ≤ n
-  held_part_within at n h = omega (arith, h, part_width p ss part_steps)
+  pub held_part_wide : (at n w : ℕ) → w ≡ capped (members_width p) → at + members_width p ≤ 8 * n → n ≤ longest_body → template_width (whole_template ss) ≡ w
+  held_part_wide at n w wide within long = part_width p ss part_steps ∙ omega (arith, wide, within, long)
 
   pub held_part_put : (b old new : List ℕ) → new ≡ old ++ printed (whole_template ss) b → Puts after_spaces (part_onto p (members_value p b)) old new
   held_part_put b old new e = part_put p ss b old new part_steps e
 
-pub ruleset held = (held_bounds, held_within, held_put)
+pub ruleset held = (held_bounds, held_put)
 
-pub ruleset held_part = (held_part_bounds, held_part_within, held_part_put)
+pub ruleset held_part = (held_part_bounds, held_part_put)

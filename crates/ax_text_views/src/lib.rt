@@ -13,6 +13,7 @@ mod literal;
 mod parts;
 mod records;
 mod room;
+mod run_texts;
 mod step_texts;
 mod steps;
 mod templates;

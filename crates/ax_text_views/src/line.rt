@@ -129,16 +129,23 @@ impl Line {
         Ok(())
     }
 
-    /// Steps, whose numbers stand in the bits from bit `at` of the body on. Room is asked for once.
+    /// Steps, whose numbers stand in the `width` bits from bit `at` of the body on. Room is asked for once.
     #[inline(always)]
-    pub(crate) fn steps(&mut self, steps: &Steps, body: &[u8], at: u32) -> Result<(), AllocError>
+    pub(crate) fn steps(
+        &mut self,
+        steps: &Steps,
+        body: &[u8],
+        at: u32,
+        width: u32,
+    ) -> Result<(), AllocError>
         requires bounds { TemplateInBounds (whole_template steps.now) }
-        requires within { at + template_width (whole_template steps.now) ≤ 8 * length body.now }
+        requires width { template_width (whole_template steps.now) ≡ width }
+        requires within { at + width ≤ 8 * length body.now }
         requires body { length body.now ≤ longest_body }
         ensures { OnOk result (self.new ≡ self.old ++ printed (whole_template steps.now) (drop at (bits body.now))) }
     {
         make_room(&mut self.room, self.used, template_room(steps))?;
-        self.used = put_template(&mut self.room, self.used, steps, body, at);
+        self.used = put_template(&mut self.room, self.used, steps, body, at, width);
         Ok(())
     }
 

@@ -7,6 +7,7 @@ ghost use Rattle.ax_text_views.specs.Templates.{NumberInBounds, TemplateInBounds
 
 use crate::literal::LITERAL_ROOM;
 use crate::room::{put_decimal, put_longest, put_one, put_some};
+use crate::run_texts::{ONE_WORD, put_run};
 use crate::templates::{Step, Steps};
 use ax_bits::{bits_at, short_bits_at};
 
@@ -14,7 +15,7 @@ use ax_bits::{bits_at, short_bits_at};
 const STEP_ROOM: usize = 72;
 
 /// The most bits of which each number has one digit.
-const ONE_DIGIT: u32 = 3;
+pub(crate) const ONE_DIGIT: u32 = 3;
 
 /// Puts the number in the `width` bits from bit `at` of the body on. The result is the place after it.
 #[inline(always)]
@@ -83,7 +84,7 @@ fn put_step(room: &mut [u8], place: usize, step: &Step, body: &[u8], at: &mut u3
 }
 
 /// Puts steps, whose numbers stand in the bits from bit `at` of the body on. The result is the place after them.
-#[inline(always)]
+#[inline(never)]
 #[tactic(auto, using(crate::proofs::StepsPrinted::loops))]
 fn put_steps(room: &mut [u8], place: usize, steps: &[Step], body: &[u8], at: u32) -> usize
     requires room { place + 72 * length steps.now ≤ length room.old }
@@ -102,6 +103,32 @@ fn put_steps(room: &mut [u8], place: usize, steps: &[Step], body: &[u8], at: u32
     end
 }
 
+/// Puts steps, whose numbers stand in the `width` bits from bit `at` of the body on: where these are few, they are taken at once.
+/// The result is the place after the steps.
+#[inline(always)]
+fn put_all_steps(
+    room: &mut [u8],
+    place: usize,
+    steps: &[Step],
+    body: &[u8],
+    at: u32,
+    width: u32,
+) -> usize
+    requires room { place + 72 * length steps.now ≤ length room.old }
+    requires bounds { TemplateInBounds (template_of steps.now) }
+    requires width { template_width (template_of steps.now) ≡ width }
+    requires within { at + width ≤ 8 * length body.now }
+    requires body { length body.now ≤ longest_body }
+    ensures front { take result room.new ≡ take place room.old ++ printed (template_of steps.now) (drop at (bits body.now)) }
+    ensures few { result ≤ place + 72 * length steps.now }
+    ensures whole { length room.new ≡ length room.old }
+{
+    if width == 0 || width > ONE_WORD {
+        return put_steps(room, place, steps, body, at);
+    }
+    put_run(room, place, steps, body, at, width)
+}
+
 /// The octets that are printed by a template at most.
 #[inline(always)]
 pub(crate) fn template_room(steps: &Steps) -> usize
@@ -110,7 +137,7 @@ pub(crate) fn template_room(steps: &Steps) -> usize
     STEP_ROOM * steps.steps.count() as usize + LITERAL_ROOM
 }
 
-/// Puts what is printed by a template of the bits from bit `at` of the body on. The result is the place after it.
+/// Puts what is printed by a template of the `width` bits from bit `at` of the body on. The result is the place after it.
 #[inline(always)]
 #[tactic(auto, using(crate::proofs::StepsPrinted::wholes))]
 pub(crate) fn put_template(
@@ -119,14 +146,16 @@ pub(crate) fn put_template(
     steps: &Steps,
     body: &[u8],
     at: u32,
+    width: u32,
 ) -> usize
     requires room { place + (72 * length steps.now.steps + 32) ≤ length room.old }
     requires bounds { TemplateInBounds (whole_template steps.now) }
-    requires within { at + template_width (whole_template steps.now) ≤ 8 * length body.now }
+    requires width { template_width (whole_template steps.now) ≡ width }
+    requires within { at + width ≤ 8 * length body.now }
     requires body { length body.now ≤ longest_body }
     ensures front { take result room.new ≡ take place room.old ++ printed (whole_template steps.now) (drop at (bits body.now)) }
     ensures within { result ≤ length room.new }
 {
-    let end = put_steps(room, place, steps.steps.as_slice(), body, at);
+    let end = put_all_steps(room, place, steps.steps.as_slice(), body, at, width);
     put_some::<32>(room, end, &steps.tail.octets, steps.tail.count)
 }

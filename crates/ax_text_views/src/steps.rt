@@ -29,7 +29,7 @@ pub(crate) fn print_held(
     ensures { OnOk result (Puts after_spaces (fixed_onto (fixed_tree held.now.fixed.now) (fixed_value (fixed_tree held.now.fixed.now) (drop at (bits body.now)))) line.old line.new) }
 {
     if let Some(steps) = &held.steps {
-        line.steps(steps, body, at)?;
+        line.steps(steps, body, at, held.width as u32)?;
         return Ok(());
     }
     let mut bit = at;
@@ -51,7 +51,7 @@ pub(crate) fn print_held_part(
     ensures { OnOk result (Puts after_spaces (part_onto (part_tree held.now.part.now) (members_value (part_tree held.now.part.now) (drop at (bits body.now)))) line.old line.new) }
 {
     if let Some(steps) = &held.steps {
-        line.steps(steps, body, at)?;
+        line.steps(steps, body, at, held.width as u32)?;
         return Ok(());
     }
     let mut bit = at;

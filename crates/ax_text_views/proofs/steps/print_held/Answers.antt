@@ -1,9 +1,12 @@
-use Rattle.std.proofs.Common.{◌*◌, length}
+use Rattle.std.proofs.Common.{arith, length}
 use Rattle.ax_model.specs.Plain.{fixed_tree}
-use Rattle.ax_text_views.proofs.StepsPrinted.{held_within}
+use Rattle.ax_text_views.proofs.StepsPrinted.{held_wide}
 use Rattle.ax_text_views.proofs.steps.print_held.Goals as goal
 
-pub steps-requires-clause-within : goal.steps-requires-clause-within
-steps-requires-clause-within c =
+pub steps-requires-clause-width : goal.steps-requires-clause-width
+steps-requires-clause-width c =
     let held = c.args.held.now in
-    held_within (fixed_tree held.fixed.now) held.steps c.in-Some.steps held.made c.in-Some.is c.args.at (8 * length c.args.body.now) c.requires.within
+    held_wide (fixed_tree held.fixed.now) held.steps c.in-Some.steps held.made c.in-Some.is c.args.at (length c.args.body.now) held.width held.wide c.requires.within c.requires.body
+
+pub steps-requires-clause-within : goal.steps-requires-clause-within
+steps-requires-clause-within c = omega (arith, c.args.held.now.wide, c.requires.within, c.requires.body)

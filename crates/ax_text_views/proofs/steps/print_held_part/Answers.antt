@@ -1,9 +1,12 @@
-use Rattle.std.proofs.Common.{◌*◌, length}
+use Rattle.std.proofs.Common.{arith, length}
 use Rattle.ax_model.specs.Plain.{part_tree}
-use Rattle.ax_text_views.proofs.StepsPrinted.{held_part_within}
+use Rattle.ax_text_views.proofs.StepsPrinted.{held_part_wide}
 use Rattle.ax_text_views.proofs.steps.print_held_part.Goals as goal
 
-pub steps-requires-clause-within : goal.steps-requires-clause-within
-steps-requires-clause-within c =
+pub steps-requires-clause-width : goal.steps-requires-clause-width
+steps-requires-clause-width c =
     let held = c.args.held.now in
-    held_part_within (part_tree held.part.now) held.steps c.in-Some.steps held.made c.in-Some.is c.args.at (8 * length c.args.body.now) c.requires.within
+    held_part_wide (part_tree held.part.now) held.steps c.in-Some.steps held.made c.in-Some.is c.args.at (length c.args.body.now) held.width held.wide c.requires.within c.requires.body
+
+pub steps-requires-clause-within : goal.steps-requires-clause-within
+steps-requires-clause-within c = omega (arith, c.args.held.now.wide, c.requires.within, c.requires.body)

@@ -133,6 +133,8 @@ pub ruleset groups = (group_drafted)
 
 pub ruleset of_member = (named_drafted, spare_drafted)
 
+pub ruleset named_whole = (named_drafted, whole_made)
+
 pub ruleset of_part = (part_drafted)
 
 pub ruleset members = (members_begun, members_over)

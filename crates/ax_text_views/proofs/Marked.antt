@@ -128,6 +128,11 @@ entries_onto_are slots body at end es rest bounds g =
 pub slot_printed : (name : List ℕ) (k : KindTree) (body : List ℕ) (at end : ℕ) (old mid new : List ℕ) → Puts after_spaces (one_onto name) old mid → Prints (kind_onto k) (kind_read k body at) body at end mid new → IsSlotPrinted (subitem name k) body at end old new
 slot_printed name k body at end old mid new p q = record { prints = record { value = q.value; read = q.read; put = both_put (one_onto name) (kind_onto k q.value) old mid new p q.put } }
 
+pub named_printed : (name : List ℕ) (k : KindTree) (body : List ℕ) (at end : ℕ) (old new : List ℕ) → Prints (slot_onto (subitem name k)) (kind_read k body at) body at end old new → IsSlotPrinted (subitem name k) body at end old new
+named_printed name k body at end old new p = record { prints = p }
+
+pub ruleset slots = (slot_printed, named_printed)
+
 pub compound_printed : (slots : List SlotTree) (mask : SlotMask) (body marks : List ℕ) (at here end : ℕ) (old a c new : List ℕ) → InBounds (compound (slots_of slots)) → IsMaskOf slots mask → MarksSlots mask body at here marks → Puts after_spaces (one_onto opening) old a
     → Prints (slots_onto (slots_of slots)) (entries_at (slots_of slots) marks body here) body here end a c → Puts after_spaces (one_onto closing) c new → Prints (kind_onto (compound (slots_of slots))) (kind_read (compound (slots_of slots)) body at) body at end old new
 compound_printed slots mask body marks at here end old a c new bounds m h o p l =

@@ -7,14 +7,15 @@ use Rattle.ax_model.specs.InBounds.{IsWidth, FixedInBounds, MembersInBounds}
 use Rattle.ax_model.specs.Lengths.{capped}
 use Rattle.ax_model.specs.Reader.{fixed_value, members_value}
 use Rattle.ax_model.specs.Sizes.{longest_body}
-use Rattle.ax_model.specs.Tree.{FixedTree, MembersTree}
+use Rattle.ax_model.specs.Tree.{FixedTree, MembersTree, ValueTree, fixed, named, subitem}
 use Rattle.ax_model.specs.Widths.{width, members_width}
-use Rattle.ax_text.proofs.Printed.{from_place}
+use Rattle.ax_text.proofs.Printed.{both_put, from_place}
 use Rattle.ax_text.specs.Printing.{after_spaces, Puts}
-use Rattle.ax_text.specs.ValueText.{fixed_onto, part_onto}
+use Rattle.ax_text.specs.Slots.{slot_onto}
+use Rattle.ax_text.specs.ValueText.{one_onto, fixed_onto, part_onto}
 use Rattle.ax_text_views.proofs.Digits.{put_twice}
-use Rattle.ax_text_views.proofs.TemplateTexts.{printed_before, width_before, bounds_before, bounds_behind, steps_are, steps_bounds, steps_width, fixed_put, part_bounds, part_width, part_put}
-use Rattle.ax_text_views.specs.Templates.{Template, ends, fixed_template, part_template, printed, template_width, TemplateInBounds, with_number, step_then, steps_then, template_of, whole_template, number_width, number_text, NumberInBounds, AreSteps}
+use Rattle.ax_text_views.proofs.TemplateTexts.{printed_before, width_before, bounds_before, bounds_behind, steps_are, steps_bounds, steps_width, fixed_put, named_bounds, named_width, named_put, part_bounds, part_width, part_put}
+use Rattle.ax_text_views.specs.Templates.{Template, ends, fixed_template, member_template, part_template, printed, template_width, TemplateInBounds, with_number, step_then, steps_then, template_of, whole_template, number_width, number_text, NumberInBounds, AreSteps}
 use Rattle.ax_text_views.specs.declared.templates.Step.{Step}
 use Rattle.ax_text_views.specs.declared.templates.Steps.{Steps}
 
@@ -174,6 +175,25 @@ module _ (p : MembersTree) (o : Option Steps) (ss : Steps) (made : IfSome o (λ 
 
   pub held_part_put : (b old new : List ℕ) → new ≡ old ++ printed (whole_template ss) b → Puts after_spaces (part_onto p (members_value p b)) old new
   held_part_put b old new e = part_put p ss b old new part_steps e
+
+module _ (name : List ℕ) (f : FixedTree) (o : Option Steps) (ss : Steps) (made : IfSome o (λ ss. AreSteps (member_template (named name f) (ends [])) ss)) (is : o ≡ Some ss) where
+  named_steps : whole_template ss ≡ member_template (named name f) (ends [])
+  named_steps = steps_are (member_template (named name f) (ends [])) ss (subst (λ o. IfSome o (λ ss. AreSteps (member_template (named name f) (ends [])) ss)) is made)
+
+  pub held_named_bounds : FixedInBounds f → TemplateInBounds (whole_template ss)
+  held_named_bounds h = named_bounds name f ss named_steps h
+
+  pub held_named_wide : (at n w : ℕ) → w ≡ capped (width f) → at + width f ≤ 8 * n → n ≤ longest_body → template_width (whole_template ss) ≡ w
+  held_named_wide at n w wide within long = named_width name f ss named_steps ∙ omega (arith, wide, within, long)
+
+  pub held_named_put : (b old new : List ℕ) → new ≡ old ++ printed (whole_template ss) b → Puts after_spaces (slot_onto (subitem name (fixed f)) (fixed_value f b)) old new
+  held_named_put b old new e = named_put name f ss b old new named_steps e
+
+-- a name, and the value after it
+pub name_put : (name : List ℕ) (f : FixedTree) (v : ValueTree) (old mid new : List ℕ) → Puts after_spaces (one_onto name) old mid → Puts after_spaces (fixed_onto f v) mid new → Puts after_spaces (slot_onto (subitem name (fixed f)) v) old new
+name_put name f v old mid new p q = both_put (one_onto name) (fixed_onto f v) old mid new p q
+
+pub ruleset held_named = (held_named_bounds, held_named_put, name_put)
 
 pub ruleset held = (held_bounds, held_put)
 

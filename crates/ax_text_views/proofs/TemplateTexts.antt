@@ -4,11 +4,12 @@ use Rattle.std.proofs.lemmas.List.{drop-drop}
 use Rattle.ax_bits.specs.Bits.{number_of}
 use Rattle.ax_model.specs.InBounds.{FixedInBounds, MembersInBounds}
 use Rattle.ax_model.specs.Reader.{fixed_value, members_value}
-use Rattle.ax_model.specs.Tree.{FixedTree, element, group, MembersTree, no_members, member_and, named, spare}
+use Rattle.ax_model.specs.Tree.{FixedTree, element, group, MembersTree, no_members, member_and, named, spare, fixed, subitem}
 use Rattle.ax_model.specs.Widths.{width, members_width}
 use Rattle.ax_text.specs.Printing.{after_spaces, Puts}
+use Rattle.ax_text.specs.Slots.{slot_onto}
 use Rattle.ax_text.specs.ValueText.{Texts, opening, closing, spare_word, part_word, fixed_onto, members_onto, part_onto}
-use Rattle.ax_text_views.specs.Templates.{Template, ends, and_number, before, text_then, number_then, fixed_template, members_template, part_template, printed, template_width, TemplateInBounds, whole_template, numbers_of, end_of, AreSteps}
+use Rattle.ax_text_views.specs.Templates.{Template, ends, and_number, before, text_then, number_then, fixed_template, member_template, members_template, part_template, printed, template_width, TemplateInBounds, whole_template, numbers_of, end_of, AreSteps}
 use Rattle.ax_text_views.specs.declared.templates.Steps.{Steps}
 
 -- ---- templates by their lists
@@ -94,6 +95,12 @@ steps_put t ss onto b old new h is e = record {
 pub fixed_put : (f : FixedTree) (ss : Steps) (b old new : List ℕ) → whole_template ss ≡ fixed_template f (ends []) → new ≡ old ++ printed (whole_template ss) b → Puts after_spaces (fixed_onto f (fixed_value f b)) old new
 fixed_put f ss b old new is e = steps_put (fixed_template f (ends [])) ss (fixed_onto f (fixed_value f b)) b old new (λ rest. fixed_prints f (ends []) b rest rest refl) is e
 
+-- a name and the value of a fixed kind
+pub named_put : (name : List ℕ) (f : FixedTree) (ss : Steps) (b old new : List ℕ) → whole_template ss ≡ member_template (named name f) (ends []) → new ≡ old ++ printed (whole_template ss) b → Puts after_spaces (slot_onto (subitem name (fixed f)) (fixed_value f b)) old new
+named_put name f ss b old new is e =
+    steps_put (member_template (named name f) (ends [])) ss (slot_onto (subitem name (fixed f)) (fixed_value f b)) b old new
+    (λ rest. text_prints name (fixed_template f (ends [])) b rest (fixed_onto f (fixed_value f b) rest) (fixed_prints f (ends []) b rest rest refl)) is e
+
 pub part_put : (p : MembersTree) (ss : Steps) (b old new : List ℕ) → whole_template ss ≡ part_template p (ends []) → new ≡ old ++ printed (whole_template ss) b → Puts after_spaces (part_onto p (members_value p b)) old new
 part_put p ss b old new is e = steps_put (part_template p (ends [])) ss (part_onto p (members_value p b)) b old new (λ rest. part_prints p (ends []) b rest rest refl) is e
 
@@ -140,6 +147,12 @@ steps_bounds f ss is h = subst TemplateInBounds (sym is) (fixed_bounds f (ends [
 
 pub steps_width : (f : FixedTree) (ss : Steps) → whole_template ss ≡ fixed_template f (ends []) → template_width (whole_template ss) ≡ width f
 steps_width f ss is = ap template_width is ∙ fixed_wide f (ends []) ∙ (let e : width f + 0 ≡ width f = omega arith in e)
+
+pub named_bounds : (name : List ℕ) (f : FixedTree) (ss : Steps) → whole_template ss ≡ member_template (named name f) (ends []) → FixedInBounds f → TemplateInBounds (whole_template ss)
+named_bounds name f ss is h = subst TemplateInBounds (sym is) (bounds_before (0x20 ∷ name) (fixed_template f (ends [])) (fixed_bounds f (ends []) h tt))
+
+pub named_width : (name : List ℕ) (f : FixedTree) (ss : Steps) → whole_template ss ≡ member_template (named name f) (ends []) → template_width (whole_template ss) ≡ width f
+named_width name f ss is = ap template_width is ∙ width_before (0x20 ∷ name) (fixed_template f (ends [])) ∙ fixed_wide f (ends []) ∙ (let e : width f + 0 ≡ width f = omega arith in e)
 
 pub part_bounds : (p : MembersTree) (ss : Steps) → whole_template ss ≡ part_template p (ends []) → MembersInBounds p → TemplateInBounds (whole_template ss)
 part_bounds p ss is h =

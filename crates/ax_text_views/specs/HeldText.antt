@@ -20,6 +20,7 @@ kind_step (TextKind-F.Compound ss) = compound (slots_of ss)
 
 abbrev pub slot_step : TextSlot-F KindTree SlotTree → SlotTree
 slot_step TextSlot-F.Spare = spare_slot
+slot_step (TextSlot-F.Named i) = subitem i.name (fixed (fixed_tree i.fixed.now))
 slot_step (TextSlot-F.Sub name k) = subitem name k
 
 abbrev pub text_kind : TextKind → KindTree

@@ -5,6 +5,7 @@ ghost use Rattle.ax_text_views.specs.HeldText.{text_part, text_kind, text_slot};
 
 use crate::drafting::{StepsLeft, TextFixed, TextPart};
 use crate::held::{TextKind, TextParts, TextSlot, TextSlots};
+use crate::named::TextNamed;
 use ax_lists::Sequence;
 use ax_model::{Kind, Parts, Slot, Slots};
 use std::alloc::{AllocError, Global};
@@ -66,6 +67,10 @@ fn hold_slot<'s>(
 {
     match slot {
         Slot::Spare => Ok(TextSlot::Spare),
+        Slot::Sub {
+            name,
+            kind: Kind::Fixed(fixed),
+        } => Ok(TextSlot::Named(TextNamed::of(alloc, left, name, fixed))),
         Slot::Sub { name, kind } => Ok(TextSlot::Sub {
             name: *name,
             kind: hold_kind(alloc, left, kind)?,

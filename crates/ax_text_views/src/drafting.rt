@@ -11,9 +11,10 @@ use crate::templates::{Draft, Steps};
 use ax_model::{Fixed, Member, Members, Part};
 use std::alloc::{AllocError, Global};
 
+/// Appends what is printed of a fixed kind.
 #[cycle(add_fixed)]
 #[tactic(auto, using(crate::proofs::DraftPieces::groups))]
-fn add_fixed(draft: &mut Draft, fixed: &Fixed) -> Result<(), AllocError>
+pub(crate) fn add_fixed(draft: &mut Draft, fixed: &Fixed) -> Result<(), AllocError>
     ensures { OnOk result (Adds (fixed_template (fixed_tree fixed.now)) draft.old draft.new) }
 {
     match fixed {
@@ -124,8 +125,13 @@ impl StepsLeft {
         StepsLeft { steps: 80_000 }
     }
 
+    /// How many.
+    pub(crate) fn most(&self) -> u32 {
+        self.steps
+    }
+
     /// Takes those off that were made.
-    fn take(&mut self, made: &Option<Steps>) {
+    pub(crate) fn take(&mut self, made: &Option<Steps>) {
         if let Some(made) = made {
             self.steps = self.steps.saturating_sub(made.steps.count());
         }

@@ -2,6 +2,7 @@
 ghost use Rattle.ax_text_views.specs.HeldText.{text_slot};
 
 use crate::drafting::{TextFixed, TextPart};
+use crate::named::TextNamed;
 use ax_held_kinds::PresenceSlot;
 use ax_lists::Sequence;
 use ax_model::{Counter, LastPart, Name};
@@ -35,6 +36,8 @@ pub(crate) enum TextKind<'s> {
 #[derive(Drop)]
 pub(crate) enum TextSlot<'s> {
     Spare,
+    /// One of a fixed kind.
+    Named(TextNamed<'s>),
     Sub { name: Name, kind: TextKind<'s> },
 }
 
@@ -44,7 +47,7 @@ impl<'s> PresenceSlot for TextSlot<'s> {
     fn is_sub(&self) -> bool {
         match self {
             TextSlot::Spare => false,
-            TextSlot::Sub { .. } => true,
+            TextSlot::Named(_) | TextSlot::Sub { .. } => true,
         }
     }
 }

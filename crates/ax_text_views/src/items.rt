@@ -7,7 +7,8 @@ ghost use Rattle.ax_text_views.specs.HeldText.{text_slot};
 use crate::build::hold_kind;
 use crate::drafting::StepsLeft;
 use crate::held::{TextSlot, TextSlots};
-use ax_model::Spec;
+use crate::named::TextNamed;
+use ax_model::{Kind, Spec};
 use std::alloc::{AllocError, Global};
 use std::marker::Model;
 
@@ -45,11 +46,14 @@ fn hold_item<'s>(
 ) -> Result<TextSlot<'s>, AllocError>
     ensures { IfOk result (λ made. text_slot made ≡ slot_of_frn frn spec.now) }
 {
-    match spec.slot(frn) {
-        None => Ok(TextSlot::Spare),
-        Some(item) => Ok(TextSlot::Sub {
+    let Some(item) = spec.slot(frn) else {
+        return Ok(TextSlot::Spare);
+    };
+    match &item.kind {
+        Kind::Fixed(fixed) => Ok(TextSlot::Named(TextNamed::of(alloc, left, &item.name, fixed))),
+        kind => Ok(TextSlot::Sub {
             name: item.name,
-            kind: hold_kind(alloc, left, &item.kind)?,
+            kind: hold_kind(alloc, left, kind)?,
         }),
     }
 }

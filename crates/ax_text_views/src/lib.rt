@@ -10,6 +10,7 @@ mod items;
 mod kinds;
 mod line;
 mod literal;
+mod named;
 mod parts;
 mod records;
 mod room;

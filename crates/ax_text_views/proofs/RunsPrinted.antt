@@ -62,7 +62,13 @@ printed_same t n b c le e = sym (printed_front t n b le) ∙ ap (printed t) e �
 pub first_there : (w x : ℕ) (bits : List ℕ) → w ≤ 56 → word w x ≡ bits → take w (word 64 (x * 2 ^ (64 - w) % 2 ^ 64)) ≡ bits
 first_there w x bits le e = moved_front (64 - w) x w (omega (arith, le)) ∙ e
 
-pub ruleset firsts = (first_there)
+-- those of 56 and others of them
+pub first_of_more : (w x : ℕ) (b : List ℕ) → w ≤ 56 → word 56 x ≡ take 56 b → take w (word 64 (x * 2 ^ 8 % 2 ^ 64)) ≡ take w b
+first_of_more w x b le e =
+    let n = x * 2 ^ 8 % 2 ^ 64 in
+    sym (take-take w 56 (word 64 n) le) ∙ ap (take w) (first_there 56 x (take 56 b) (omega arith) e) ∙ take-take w 56 b le
+
+pub ruleset firsts = (first_there, first_of_more)
 
 pub none_moved : (o : Option ℕ) (n : ℕ) → o ≡ None → take (64 - number_width o) (word 64 n) ≡ drop (number_width o) (word 64 n)
 none_moved o n is = subst (λ o. take (64 - number_width o) (word 64 n) ≡ drop (number_width o) (word 64 n)) (sym is) (take_all 64 (word 64 n) (omega (arith, length-word 64 n)))

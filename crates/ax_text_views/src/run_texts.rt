@@ -11,7 +11,8 @@ use ax_bits::short_bits_at;
 /// The bits of a run that is taken out of one word at most.
 pub(crate) const ONE_WORD: u32 = 56;
 
-/// The bits of a run as the first ones of a word, with zeros after them.
+/// The bits of a run as the first ones of a word, and others after them: where eight octets are there, as many as a word is taken
+/// for, so that no shift depends on the width.
 #[inline(always)]
 #[tactic(auto, using(crate::proofs::RunsPrinted::firsts))]
 fn first_in_word(body: &[u8], at: u32, width: u32) -> u64
@@ -19,6 +20,10 @@ fn first_in_word(body: &[u8], at: u32, width: u32) -> u64
     requires within { at + width ≤ 8 * length body.now }
     ensures { take width (word 64 result) ≡ take width (drop at (bits body.now)) }
 {
+    let first = (at / 8) as usize;
+    if first + 8 <= body.len() {
+        return short_bits_at(body, at, ONE_WORD) << (64 - ONE_WORD);
+    }
     short_bits_at(body, at, width) << (64 - width)
 }
 

@@ -1,5 +1,5 @@
 //! Numbers in decimal at the front of octets.
-ghost use Rattle.std.specs.Prelude.{◌≡◌, ◌<◌, ◌^◌, ◌++◌, decimal, IfSome};
+ghost use Rattle.std.specs.Prelude.{◌≡◌, ◌<◌, ◌≤◌, ◌^◌, ◌++◌, length, drop, get_or, decimal, IfSome};
 ghost use Rattle.ax_tokens.specs.declared.token.TokenKind.TheVariants.{Word};
 ghost use Rattle.ax_printed_lines.specs.Printed.{Stands};
 
@@ -8,14 +8,18 @@ use crate::gaps::after_space;
 /// A number of so many digits is below 2^64, whatever they are.
 const MOST_DIGITS: usize = 19;
 
-/// The number that stands in front, in at most 19 digits, and what comes after these. None comes where there is no digit, and where the
-/// first of several is 0.
+/// Most numbers have fewer digits. The compiler makes straight code of a loop with so few rounds.
+const FEW_DIGITS: usize = 8;
+
+/// The number that the digits in front spell, at most so many, and how many they are.
 #[inline(always)]
-pub fn number_in_front(octets: &[u8]) -> Option<(u64, &[u8])>
-    ensures digits { IfSome result (λ found. octets.now ≡ decimal found.0 ++ found.1.now) }
-    ensures below { IfSome result (λ found. found.0 < 2 ^ 64) }
+fn digits_in_front(octets: &[u8], most: usize) -> (u64, usize)
+    requires { (most ≤ length octets.now) × (most ≤ 19) }
+    ensures digits { 0 < result.1 → (1 < result.1 → 49 ≤ get_or octets.now 0 0) → octets.now ≡ decimal result.0 ++ drop result.1 octets.now }
+    ensures first { 0 < result.1 → 48 ≤ get_or octets.now 0 0 }
+    ensures few { result.1 ≤ most }
+    ensures below { result.0 < 2 ^ 64 }
 {
-    let most = octets.len().min(MOST_DIGITS);
     let mut number: u64 = 0;
     let mut count = 0;
     while count < most && octets[count] >= b'0' && octets[count] <= b'9' {
@@ -23,7 +27,51 @@ pub fn number_in_front(octets: &[u8]) -> Option<(u64, &[u8])>
         number = 10 * number + (u64::from(octets[count]) - 48);
         count += 1;
     }
-    if count == 0 || (count > 1 && octets[0] == b'0') {
+    (number, count)
+}
+
+/// The same of at most 19 digits.
+#[inline(always)]
+fn leading_digits(octets: &[u8]) -> (u64, usize)
+    ensures digits { 0 < result.1 → (1 < result.1 → 49 ≤ get_or octets.now 0 0) → octets.now ≡ decimal result.0 ++ drop result.1 octets.now }
+    ensures first { 0 < result.1 → 48 ≤ get_or octets.now 0 0 }
+    ensures few { result.1 ≤ length octets.now }
+    ensures below { result.0 < 2 ^ 64 }
+{
+    if octets.len() >= FEW_DIGITS {
+        let (number, count) = digits_in_front(octets, FEW_DIGITS);
+        if count < FEW_DIGITS {
+            return (number, count);
+        }
+    }
+    digits_in_front(octets, octets.len().min(MOST_DIGITS))
+}
+
+/// The number that stands in front, in at most 19 digits, and how many they are. They are 0 where there is no digit, and where the first of
+/// several is 0. A loop in the place of the call would take registers from what reads one digit. Two numbers are answered in registers; with
+/// what comes after the digits they wouldn't be.
+#[inline(never)]
+fn counted_number(octets: &[u8]) -> (u64, usize)
+    ensures digits { 0 < result.1 → octets.now ≡ decimal result.0 ++ drop result.1 octets.now }
+    ensures few { result.1 ≤ length octets.now }
+    ensures below { result.0 < 2 ^ 64 }
+{
+    let (number, count) = leading_digits(octets);
+    if count > 1 && octets[0] == b'0' {
+        return (0, 0);
+    }
+    (number, count)
+}
+
+/// The number that stands in front, in at most 19 digits, and what comes after these. None comes where there is no digit, and where the
+/// first of several is 0.
+#[inline(always)]
+pub fn number_in_front(octets: &[u8]) -> Option<(u64, &[u8])>
+    ensures digits { IfSome result (λ found. octets.now ≡ decimal found.0 ++ found.1.now) }
+    ensures below { IfSome result (λ found. found.0 < 2 ^ 64) }
+{
+    let (number, count) = counted_number(octets);
+    if count == 0 {
         return None;
     }
     Some((number, &octets[count..]))
@@ -58,8 +106,8 @@ pub fn spaced_number(octets: &[u8]) -> Option<(u64, &[u8])>
     longer_number(octets)
 }
 
-// The same, whatever the number of digits. A loop in the place of the call would take registers from what reads one digit.
-#[inline(never)]
+// The same, whatever the number of digits.
+#[inline(always)]
 fn longer_number(octets: &[u8]) -> Option<(u64, &[u8])>
     ensures number { IfSome result (λ found. Stands Word (decimal found.0) octets.now found.1.now) }
     ensures below { IfSome result (λ found. found.0 < 2 ^ 64) }

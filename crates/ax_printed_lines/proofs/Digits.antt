@@ -4,13 +4,7 @@ use Rattle.std.specs.Prelude.{decimal}
 use Rattle.std.proofs.lemmas.Fmt.{decimal_digit, decimal_step_wide}
 use Rattle.std.proofs.lemmas.List.{drop_more}
 use Rattle.std.proofs.Math.Nat.{pow-le-pow_right}
-
--- the number of the first k octets, which are digits; the first of several is 1 to 9
-pub record DigitsRead (octets : List ℕ) (k n : ℕ) : Type 0 where
-  pub read : 0 < k → (1 < k → 49 ≤ get_or octets 0 0) → octets ≡ decimal n ++ drop k octets
-  pub some : 0 < k → 49 ≤ get_or octets 0 0 → 0 < n
-  pub below : n < 10 ^ k
-  pub first : 0 < k → 48 ≤ get_or octets 0 0
+use Rattle.ax_printed_lines.specs.Digits.{DigitsRead}
 
 pub no_digits : (octets : List ℕ) → DigitsRead octets 0 0
 no_digits octets = record { read = λ some usual. absurd (omega (arith, some)); some = λ some first. absurd (omega (arith, some)); below = omega arith; first = λ some. absurd (omega (arith, some)) }
@@ -70,3 +64,12 @@ pub next_small : (octets : List ℕ) (k n d : ℕ) → DigitsRead octets k n →
 next_small octets k n d r few lt =
     let le : 10 ^ k ≤ 10 ^ 18 = pow-le-pow_right (lit< tt) (let e : k ≤ 18 = omega (arith, few) in e) in
     omega (arith, r.below, le, lt)
+
+-- what is known of digits that are read
+pub digits_stand : (octets : List ℕ) (k n : ℕ) → DigitsRead octets k n → 0 < k → (1 < k → 49 ≤ get_or octets 0 0) → octets ≡ decimal n ++ drop k octets
+digits_stand octets k n r = r.read
+
+pub first_stands : (octets : List ℕ) (k n : ℕ) → DigitsRead octets k n → 0 < k → 48 ≤ get_or octets 0 0
+first_stands octets k n r = r.first
+
+pub ruleset reading = (no_digits, digits_stand, first_stands, number_small)

@@ -1,6 +1,7 @@
 //! Numbers in decimal at the front of octets.
 ghost use Rattle.std.specs.Prelude.{◌≡◌, ◌<◌, ◌≤◌, ◌^◌, ◌++◌, length, drop, get_or, decimal, IfSome};
 ghost use Rattle.ax_tokens.specs.declared.token.TokenKind.TheVariants.{Word};
+ghost use Rattle.ax_printed_lines.specs.Digits.{DigitsRead};
 ghost use Rattle.ax_printed_lines.specs.Printed.{Stands};
 
 use crate::gaps::after_space;
@@ -11,17 +12,17 @@ const MOST_DIGITS: usize = 19;
 /// Most numbers have fewer digits. The compiler makes straight code of a loop with so few rounds.
 const FEW_DIGITS: usize = 8;
 
-/// The number that the digits in front spell, at most so many, and how many they are.
+/// The number of the digits in front, that many at most, and how many they are, where the first `count` of them are known and their
+/// number.
 #[inline(always)]
-fn digits_in_front(octets: &[u8], most: usize) -> (u64, usize)
-    requires { (most ≤ length octets.now) × (most ≤ 19) }
-    ensures digits { 0 < result.1 → (1 < result.1 → 49 ≤ get_or octets.now 0 0) → octets.now ≡ decimal result.0 ++ drop result.1 octets.now }
-    ensures first { 0 < result.1 → 48 ≤ get_or octets.now 0 0 }
+fn more_digits(octets: &[u8], number: u64, count: usize, most: usize) -> (u64, usize)
+    requires within { (count ≤ most) × (most ≤ length octets.now) × (most ≤ 19) }
+    requires known { DigitsRead octets.now count number }
+    ensures read { DigitsRead octets.now result.1 result.0 }
     ensures few { result.1 ≤ most }
-    ensures below { result.0 < 2 ^ 64 }
 {
-    let mut number: u64 = 0;
-    let mut count = 0;
+    let mut number = number;
+    let mut count = count;
     while count < most && octets[count] >= b'0' && octets[count] <= b'9' {
         // The octet of a zero is 48.
         number = 10 * number + (u64::from(octets[count]) - 48);
@@ -30,21 +31,23 @@ fn digits_in_front(octets: &[u8], most: usize) -> (u64, usize)
     (number, count)
 }
 
-/// The same of at most 19 digits.
+/// The number of the digits in front, at most 19, and how many they are.
 #[inline(always)]
+#[tactic(auto, using(crate::proofs::Digits::reading))]
 fn leading_digits(octets: &[u8]) -> (u64, usize)
     ensures digits { 0 < result.1 → (1 < result.1 → 49 ≤ get_or octets.now 0 0) → octets.now ≡ decimal result.0 ++ drop result.1 octets.now }
     ensures first { 0 < result.1 → 48 ≤ get_or octets.now 0 0 }
     ensures few { result.1 ≤ length octets.now }
     ensures below { result.0 < 2 ^ 64 }
 {
-    if octets.len() >= FEW_DIGITS {
-        let (number, count) = digits_in_front(octets, FEW_DIGITS);
-        if count < FEW_DIGITS {
-            return (number, count);
-        }
+    if octets.len() < FEW_DIGITS {
+        return more_digits(octets, 0, 0, octets.len());
     }
-    digits_in_front(octets, octets.len().min(MOST_DIGITS))
+    let (number, count) = more_digits(octets, 0, 0, FEW_DIGITS);
+    if count < FEW_DIGITS {
+        return (number, count);
+    }
+    more_digits(octets, number, count, octets.len().min(MOST_DIGITS))
 }
 
 /// The number that stands in front, in at most 19 digits, and how many they are. They are 0 where there is no digit, and where the first of

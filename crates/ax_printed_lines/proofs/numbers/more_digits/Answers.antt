@@ -1,6 +1,6 @@
 use Rattle.std.proofs.Common.{◌<◌, ◌+◌, ◌-◌, ◌*◌, ◌^◌, arith}
 use Rattle.ax_printed_lines.proofs.Digits.{digit_more, next_small}
-use Rattle.ax_printed_lines.proofs.numbers.digits_in_front.Goals as goal
+use Rattle.ax_printed_lines.proofs.numbers.more_digits.Goals as goal
 
 pub overflow_mul-number : goal.overflow_mul-number
 overflow_mul-number c =

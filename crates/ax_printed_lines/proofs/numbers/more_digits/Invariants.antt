@@ -1,6 +1,6 @@
 use Rattle.std.proofs.Common.{◌≤◌, ◌-◌}
-use Rattle.ax_printed_lines.proofs.Digits.{DigitsRead}
-use Rattle.ax_printed_lines.proofs.numbers.digits_in_front.Given as goal
+use Rattle.ax_printed_lines.specs.Digits.{DigitsRead}
+use Rattle.ax_printed_lines.proofs.numbers.more_digits.Given as goal
 
 abbrev pub invariant-loop-count : goal.invariant-loop-count
 invariant-loop-count l = record {

@@ -7,9 +7,9 @@ use Rattle.ax_command.specs.declared.outcome.JobStop.TheVariants as JobStopOf
 use Rattle.ax_command.specs.declared.outcome.Outcome.{Outcome}
 use Rattle.ax_command.specs.declared.outcome.Outcome.TheVariants.{Done, Usage, SpecRefused, CategoryTwice, InputRefused, TextRefused, MigratedTooLong, InputTooLong, LoadFault, ReadFault, WriteFault, ReportFault, OutOfMemory, OtherCategory, ExpansionUnused, FilterRefused}
 use Rattle.ax_command.specs.declared.outcome.Refusal.TheVariants as RefusalOf
-use Rattle.ax_line_stream.specs.Runs as OfLines
-use Rattle.ax_line_stream.specs.declared.end.LinesEnd.{LinesEnd}
-use Rattle.ax_line_stream.specs.declared.end.LinesEnd.TheVariants as LinesEndOf
+use Rattle.ax_lines.specs.Runs as OfLines
+use Rattle.ax_lines.specs.declared.end.LinesEnd.{LinesEnd}
+use Rattle.ax_lines.specs.declared.end.LinesEnd.TheVariants as LinesEndOf
 use Rattle.ax_load.specs.declared.fault.LoadStop.{LoadStop}
 use Rattle.ax_load.specs.declared.fault.LoadStop.TheVariants as LoadStopOf
 use Rattle.ax_outside.specs.Changes.{LibraryCounts, SourceChange, SinkChange}
@@ -18,10 +18,10 @@ use Rattle.ax_outside.specs.Told.{Rose}
 use Rattle.ax_salvage.specs.Runs as OfSalvage
 use Rattle.ax_salvage.specs.declared.salvaging.SalvageEnd.{SalvageEnd}
 use Rattle.ax_salvage.specs.declared.salvaging.SalvageEnd.TheVariants as SalvageEndOf
-use Rattle.ax_stream.specs.Ending.{longest_input}
-use Rattle.ax_stream.specs.Streams.{IsCaused}
-use Rattle.ax_stream.specs.declared.end.StreamEnd.{StreamEnd}
-use Rattle.ax_stream.specs.declared.end.StreamEnd.TheVariants as EndOf
+use Rattle.ax_blocks.specs.Ending.{longest_input}
+use Rattle.ax_blocks.specs.Streams.{IsCaused}
+use Rattle.ax_blocks.specs.declared.end.StreamEnd.{StreamEnd}
+use Rattle.ax_blocks.specs.declared.end.StreamEnd.TheVariants as EndOf
 use Rattle.ax_app.specs.Jobs.{Job, writes, each_block, builds, salvages, refuses, TextEnds, written, cut, no_memory, JobRuns}
 use Rattle.ax_app.specs.Running.{Runs, at_words, no_words, at_files, before_input, in_job, Causes}
 use Rattle.ax_app.specs.Salvages.{outcome_of_salvage}

@@ -4,12 +4,12 @@ use Rattle.ax_command.specs.declared.outcome.JobStop.{JobStop}
 use Rattle.ax_command.specs.declared.outcome.Outcome.{Outcome}
 use Rattle.ax_command.specs.declared.outcome.Refusal.TheVariants.{OtherCategory}
 use Rattle.ax_convert_work.specs.ConvertCommand.{convert_command}
-use Rattle.ax_migrate_work.specs.Commands.{migrate_command}
-use Rattle.ax_model.specs.Plain.{spec_tree}
-use Rattle.ax_model.specs.Specification.{SpecTree}
-use Rattle.ax_model.specs.declared.spec.Spec.{Spec}
+use Rattle.ax_migrate.specs.Commands.{migrate_command}
+use Rattle.ax_format.specs.Plain.{spec_tree}
+use Rattle.ax_format.specs.Specification.{SpecTree}
+use Rattle.ax_format.specs.declared.spec.Spec.{Spec}
 use Rattle.ax_outside.specs.Changes.{SourceChange, SinkChange}
-use Rattle.ax_stream.specs.Commands.{BlockCommand}
+use Rattle.ax_blocks.specs.Commands.{BlockCommand}
 use Rattle.ax_words.specs.declared.line.Line.{Line}
 use Rattle.ax_words.specs.declared.line.Line.TheVariants.{Check, Canon, Show, Text, Build, Filter, Migrate, Trial, Salvage, Expand, Convert, Help, Version}
 use Rattle.ax_app.specs.Given.{only, TakesEditions}

@@ -7,14 +7,14 @@ use Rattle.ax_command.specs.declared.outcome.Outcome.TheVariants.{Done, Usage, S
 use Rattle.ax_command.specs.declared.outcome.JobStop.{JobStop}
 use Rattle.ax_command.specs.declared.outcome.JobStop.TheVariants as JobStopOf
 use Rattle.ax_command.specs.declared.outcome.Refusal.TheVariants as RefusalOf
-use Rattle.ax_line_stream.specs.declared.end.LinesEnd.{LinesEnd}
-use Rattle.ax_line_stream.specs.declared.end.LinesEnd.TheVariants as LinesEndOf
+use Rattle.ax_lines.specs.declared.end.LinesEnd.{LinesEnd}
+use Rattle.ax_lines.specs.declared.end.LinesEnd.TheVariants as LinesEndOf
 use Rattle.ax_load.specs.declared.fault.LoadStop.{LoadStop}
 use Rattle.ax_load.specs.declared.fault.LoadStop.TheVariants as LoadStopOf
 use Rattle.ax_salvage.specs.declared.salvaging.SalvageEnd.{SalvageEnd}
 use Rattle.ax_salvage.specs.declared.salvaging.SalvageEnd.TheVariants as SalvageEndOf
-use Rattle.ax_stream.specs.declared.end.StreamEnd.{StreamEnd}
-use Rattle.ax_stream.specs.declared.end.StreamEnd.TheVariants as EndOf
+use Rattle.ax_blocks.specs.declared.end.StreamEnd.{StreamEnd}
+use Rattle.ax_blocks.specs.declared.end.StreamEnd.TheVariants as EndOf
 use Rattle.ax_app.specs.Salvages.{outcome_of_salvage}
 
 -- an outcome that a run may have before it comes to its job

@@ -6,9 +6,9 @@ use Rattle.ax_command.specs.declared.outcome.Refusal.TheVariants.{OtherCategory,
 use Rattle.ax_expand.specs.Expansion.{ExpansionTree, expansion_tree}
 use Rattle.ax_expand.specs.declared.expansion.Expansion.{Expansion}
 use Rattle.ax_expand_work.specs.ExpandCommand.{re_frn, expand_command}
-use Rattle.ax_model.specs.Plain.{spec_tree}
-use Rattle.ax_model.specs.Specification.{SpecTree}
-use Rattle.ax_model.specs.declared.spec.Spec.{Spec}
+use Rattle.ax_format.specs.Plain.{spec_tree}
+use Rattle.ax_format.specs.Specification.{SpecTree}
+use Rattle.ax_format.specs.declared.spec.Spec.{Spec}
 use Rattle.ax_outside.specs.Changes.{SourceChange, SinkChange}
 use Rattle.ax_words.specs.declared.line.Line.{Line}
 use Rattle.ax_words.specs.declared.line.Line.TheVariants.{Check, Canon, Show, Text, Build, Filter, Migrate, Trial, Salvage, Expand, Convert, Help, Version}

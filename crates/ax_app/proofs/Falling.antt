@@ -1,12 +1,12 @@
 -- Counts of faults, which never fall.
 use Rattle.std.proofs.Common.{ℕ, ◌≤◌, List}
 use Rattle.ax_outside.specs.Changes.{SourceChange, SinkChange}
-use Rattle.ax_model.specs.Specification.{SpecTree}
+use Rattle.ax_format.specs.Specification.{SpecTree}
 use Rattle.ax_salvage.specs.Runs.{SalvageRuns}
 use Rattle.ax_salvage.specs.declared.salvaging.SalvageEnd.{SalvageEnd}
-use Rattle.ax_stream.specs.Commands.{BlockCommand}
-use Rattle.ax_stream.specs.Streams.{StreamRuns}
-use Rattle.ax_stream.specs.declared.end.StreamEnd.{StreamEnd}
+use Rattle.ax_blocks.specs.Commands.{BlockCommand}
+use Rattle.ax_blocks.specs.Streams.{StreamRuns}
+use Rattle.ax_blocks.specs.declared.end.StreamEnd.{StreamEnd}
 use Rattle.ax_app.specs.Running.{NoFaultFell}
 
 pub of_counts : (i : SourceChange) (o r : SinkChange) → i.faults ≤ i.faults' → o.faults ≤ o.faults' → r.faults ≤ r.faults' → NoFaultFell i o r

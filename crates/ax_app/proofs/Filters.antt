@@ -9,7 +9,7 @@ use Rattle.ax_filter.specs.declared.text.FilterFault.{FilterFault}
 use Rattle.ax_filter.specs.declared.text.FilterStop.{FilterStop}
 use Rattle.ax_filter.specs.declared.text.FilterStop.TheVariants.{Refused}
 use Rattle.ax_filter_work.specs.FilterCommand.{filter_command}
-use Rattle.ax_model.specs.Specification.{SpecTree}
+use Rattle.ax_format.specs.Specification.{SpecTree}
 use Rattle.ax_outside.specs.Changes.{SourceChange, SinkChange}
 use Rattle.ax_words.specs.declared.line.Line.TheVariants.{Filter}
 use Rattle.ax_app.specs.Given.{only}

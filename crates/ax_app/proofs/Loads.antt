@@ -13,14 +13,14 @@ use Rattle.ax_command.specs.declared.outcome.JobStop.{JobStop}
 use Rattle.ax_command.specs.declared.outcome.JobStop.TheVariants as JobStopOf
 use Rattle.ax_command.specs.declared.outcome.Outcome.{Outcome}
 use Rattle.ax_command.specs.declared.outcome.Refusal.TheVariants as RefusalOf
-use Rattle.ax_line_stream.specs.Runs as Lines
-use Rattle.ax_line_stream.specs.declared.end.LinesEnd.{LinesEnd}
-use Rattle.ax_line_stream.specs.declared.end.LinesEnd.TheVariants as LinesEndOf
+use Rattle.ax_lines.specs.Runs as Lines
+use Rattle.ax_lines.specs.declared.end.LinesEnd.{LinesEnd}
+use Rattle.ax_lines.specs.declared.end.LinesEnd.TheVariants as LinesEndOf
 use Rattle.ax_expand.specs.Expansion.{ExpansionTree}
 use Rattle.ax_expand.specs.declared.accepted.AcceptedExpansion.{AcceptedExpansion}
 use Rattle.ax_load.specs.Languages.{expansion_files}
 use Rattle.ax_load.specs.Loading.{FilesGive, FilesEnd, GivesIn, EitherEnds, first, second}
-use Rattle.ax_model.specs.Specification.{SpecTree}
+use Rattle.ax_format.specs.Specification.{SpecTree}
 use Rattle.ax_load.specs.Counting.{TookFiles, TookThrough, UnlessLoadFault}
 use Rattle.ax_load.specs.declared.fault.LoadStop.{LoadStop}
 use Rattle.ax_load.specs.declared.fault.LoadStop.TheVariants as LoadStopOf
@@ -29,10 +29,10 @@ use Rattle.ax_outside.specs.Files.{File}
 use Rattle.ax_salvage.specs.Runs as Salvages
 use Rattle.ax_salvage.specs.declared.salvaging.SalvageEnd.{SalvageEnd}
 use Rattle.ax_salvage.specs.declared.salvaging.SalvageEnd.TheVariants as SalvageEndOf
-use Rattle.ax_stream.specs.Streams as Streams
-use Rattle.ax_stream.specs.Streams.{IsIdle}
-use Rattle.ax_stream.specs.declared.end.StreamEnd.{StreamEnd}
-use Rattle.ax_stream.specs.declared.end.StreamEnd.TheVariants as EndOf
+use Rattle.ax_blocks.specs.Streams as Streams
+use Rattle.ax_blocks.specs.Streams.{IsIdle}
+use Rattle.ax_blocks.specs.declared.end.StreamEnd.{StreamEnd}
+use Rattle.ax_blocks.specs.declared.end.StreamEnd.TheVariants as EndOf
 use Rattle.ax_words.specs.declared.line.Line.{Line}
 use Rattle.ax_words.specs.declared.line.Line.TheVariants.{Check, Canon, Show, Text, Build, Filter, Migrate, Trial, Salvage, Expand, Convert, Help, Version}
 

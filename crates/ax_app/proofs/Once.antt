@@ -9,13 +9,13 @@ use Rattle.ax_filter_work.specs.FilterCommand.{filter_command}
 use Rattle.ax_grammar.proofs.Ranges.{numbers_in_range}
 use Rattle.ax_grammar.specs.InRange.{AreNumbersInRange}
 use Rattle.ax_load.specs.Loading.{EachGives}
-use Rattle.ax_migrate_work.specs.Commands.{migrate_command}
-use Rattle.ax_model.specs.Flaws.{NoFlaw}
-use Rattle.ax_model.specs.Specification.{SpecTree}
+use Rattle.ax_migrate.specs.Commands.{migrate_command}
+use Rattle.ax_format.specs.Flaws.{NoFlaw}
+use Rattle.ax_format.specs.Specification.{SpecTree}
 use Rattle.ax_outside.specs.Files.{File}
 use Rattle.ax_text.specs.Names.{IsNamed}
-use Rattle.ax_text_laws.proofs.FileNesting.{spec_named}
-use Rattle.ax_stream.specs.Commands.{BlockCommand}
+use Rattle.ax_app.proofs.FileNesting.{spec_named}
+use Rattle.ax_blocks.specs.Commands.{BlockCommand}
 use Rattle.ax_trial.proofs.Once.{trial_once}
 use Rattle.ax_trial.specs.Trial.{IsTrial}
 use Rattle.ax_words.proofs.Once.{once as shape_once}

@@ -10,21 +10,21 @@ use Rattle.ax_convert_work.specs.ConvertCommand.{convert_command}
 use Rattle.ax_expand.specs.Expansion.{ExpansionTree}
 use Rattle.ax_expand_work.specs.ExpandCommand.{expand_command, expand_answer}
 use Rattle.ax_filter.specs.declared.text.FilterFault.{FilterFault}
-use Rattle.ax_line_stream.specs.declared.end.LinesEnd.{LinesEnd}
-use Rattle.ax_line_stream.specs.declared.end.LinesEnd.TheVariants as LinesEndOf
+use Rattle.ax_lines.specs.declared.end.LinesEnd.{LinesEnd}
+use Rattle.ax_lines.specs.declared.end.LinesEnd.TheVariants as LinesEndOf
 use Rattle.ax_load.specs.declared.fault.LoadStop.{LoadStop}
 use Rattle.ax_load.specs.declared.fault.LoadStop.TheVariants as LoadStopOf
-use Rattle.ax_migrate_work.specs.Commands.{migrate_command}
-use Rattle.ax_model.specs.Blocks.{BlockTree, read_block, opaque_block}
-use Rattle.ax_model.specs.Specification.{SpecTree}
+use Rattle.ax_migrate.specs.Commands.{migrate_command}
+use Rattle.ax_format.specs.Blocks.{BlockTree, read_block, opaque_block}
+use Rattle.ax_format.specs.Specification.{SpecTree}
 use Rattle.ax_outside.specs.Changes.{LibraryCounts, SourceChange, SinkChange}
 use Rattle.ax_outside.specs.Files.{File}
 use Rattle.ax_salvage.specs.declared.salvaging.SalvageEnd.{SalvageEnd}
 use Rattle.ax_salvage.specs.declared.salvaging.SalvageEnd.TheVariants as SalvageEndOf
-use Rattle.ax_stream.specs.Commands.{BlockCommand, gives, too_long}
-use Rattle.ax_stream.specs.Streams.{IsLicensed, Reports, RefusesLength}
-use Rattle.ax_stream.specs.declared.end.StreamEnd.{StreamEnd}
-use Rattle.ax_stream.specs.declared.end.StreamEnd.TheVariants as EndOf
+use Rattle.ax_blocks.specs.Commands.{BlockCommand, gives, too_long}
+use Rattle.ax_blocks.specs.Streams.{IsLicensed, Reports, RefusesLength}
+use Rattle.ax_blocks.specs.declared.end.StreamEnd.{StreamEnd}
+use Rattle.ax_blocks.specs.declared.end.StreamEnd.TheVariants as EndOf
 use Rattle.ax_words.specs.declared.line.Line.{Line}
 use Rattle.ax_words.specs.declared.line.Line.TheVariants.{Check, Canon, Show, Text, Build, Filter, Migrate, Trial, Salvage, Expand, Convert, Help, Version}
 use Rattle.ax_app.specs.Given.{Given}

@@ -3,10 +3,10 @@ use Rattle.std.proofs.Common.{◌≡◌, ℕ, ◌⊎◌, inl, inr, suc, List, []
 use Rattle.std.specs.List.{AllByRecursion}
 use Rattle.ax_bits.specs.Bits.{AreOctets}
 use Rattle.ax_command.specs.declared.outcome.Outcome.{Outcome}
-use Rattle.ax_model.proofs.StreamsApart.{found_in}
-use Rattle.ax_model.specs.Flaws.{NoFlaw}
-use Rattle.ax_model.specs.Framing.{RawTree, Framed, whole}
-use Rattle.ax_model.specs.Specification.{SpecTree}
+use Rattle.ax_format.proofs.StreamsApart.{found_in}
+use Rattle.ax_format.specs.Flaws.{NoFlaw}
+use Rattle.ax_format.specs.Framing.{RawTree, Framed, whole}
+use Rattle.ax_format.specs.Specification.{SpecTree}
 use Rattle.ax_outside.specs.Changes.{SourceChange, SinkChange}
 use Rattle.ax_outside.specs.Told.{Rose, with_end}
 use Rattle.ax_salvage.proofs.Blocks.{all_judged, raws_of_judged}
@@ -17,7 +17,7 @@ use Rattle.ax_salvage.specs.Tallying.{tally_lines}
 use Rattle.ax_salvage.specs.Verdicts.{judge_all}
 use Rattle.ax_salvage.specs.declared.salvaging.SalvageEnd.{SalvageEnd}
 use Rattle.ax_salvage.specs.declared.salvaging.SalvageEnd.TheVariants as EndOf
-use Rattle.ax_stream.specs.Ending.{longest_input}
+use Rattle.ax_blocks.specs.Ending.{longest_input}
 use Rattle.ax_text.specs.Names.{IsNamed}
 use Rattle.ax_app.specs.Completing.{WholeFrames, IsDoneWith}
 use Rattle.ax_app.specs.Salvages.{outcome_of_salvage}

@@ -11,36 +11,36 @@ use Rattle.ax_command.specs.declared.outcome.JobStop.{JobStop}
 use Rattle.ax_command.specs.declared.outcome.JobStop.TheVariants as JobStopOf
 use Rattle.ax_command.specs.declared.outcome.Outcome.{Outcome}
 use Rattle.ax_command.specs.declared.outcome.Outcome.TheVariants.{Usage, Done, WriteFault, OutOfMemory}
-use Rattle.ax_line_stream.proofs.AnswersOnce.{lines_complete}
-use Rattle.ax_line_stream.specs.Commands as Lines
-use Rattle.ax_line_stream.specs.Commands.{LineAnswer}
-use Rattle.ax_line_stream.specs.Completing as OfLinesDone
-use Rattle.ax_line_stream.specs.Ending.{longest_line}
-use Rattle.ax_line_stream.specs.Runs as OfLines
-use Rattle.ax_line_stream.specs.Runs.{LinesRun}
-use Rattle.ax_line_stream.specs.declared.end.LinesEnd.{LinesEnd}
-use Rattle.ax_line_stream.specs.declared.end.LinesEnd.TheVariants as LinesEndOf
+use Rattle.ax_lines.proofs.AnswersOnce.{lines_complete}
+use Rattle.ax_lines.specs.Commands as Lines
+use Rattle.ax_lines.specs.Commands.{LineAnswer}
+use Rattle.ax_lines.specs.Completing as OfLinesDone
+use Rattle.ax_lines.specs.Ending.{longest_line}
+use Rattle.ax_lines.specs.Runs as OfLines
+use Rattle.ax_lines.specs.Runs.{LinesRun}
+use Rattle.ax_lines.specs.declared.end.LinesEnd.{LinesEnd}
+use Rattle.ax_lines.specs.declared.end.LinesEnd.TheVariants as LinesEndOf
 use Rattle.ax_load.specs.Languages.{Language, category_files, expansion_files}
 use Rattle.ax_load.specs.Loading.{FilesGive, FilesEnd, StopsAtFile, EndsAtFile, by_file, by_category, IsRefusedFile}
 use Rattle.ax_load.specs.declared.fault.LoadStop.{LoadStop}
 use Rattle.ax_load.specs.declared.fault.LoadStop.TheVariants as LoadStopOf
 use Rattle.ax_load.specs.declared.fault.SpecFault.{SpecFault}
 use Rattle.ax_load.specs.declared.fault.SpecFault.TheVariants.{TooLarge, BadByte, TooDeep, BadToken, Flawed}
-use Rattle.ax_model.specs.Specification.{SpecTree}
+use Rattle.ax_format.specs.Specification.{SpecTree}
 use Rattle.ax_outside.proofs.Ends.{with_end-nil, Rose-later}
 use Rattle.ax_outside.specs.Changes.{none_counted, LibraryCounts, SourceChange, SinkChange, IsUntouched, GainsNothing, Wrote}
 use Rattle.ax_outside.specs.Files.{File}
 use Rattle.ax_outside.specs.Told.{Rose, with_end}
 use Rattle.ax_outside.specs.declared.sinks.SinkFailed.{SinkFailed}
-use Rattle.ax_model.specs.Blocks.{BlockTree}
+use Rattle.ax_format.specs.Blocks.{BlockTree}
 use Rattle.ax_salvage.specs.Runs.{SalvageAnswers, SalvageStops}
 use Rattle.ax_salvage.specs.declared.salvaging.SalvageEnd.{SalvageEnd}
-use Rattle.ax_stream.proofs.Completes.{IsDoneWithBlocks, stream_completes}
-use Rattle.ax_stream.specs.Commands.{BlockCommand, output_of, report_of}
-use Rattle.ax_stream.specs.Ending.{longest_input}
-use Rattle.ax_stream.specs.Streams.{IsIdle, ToldRun, reading, writing, reporting, for_memory}
-use Rattle.ax_stream.specs.declared.end.StreamEnd.{StreamEnd}
-use Rattle.ax_stream.specs.declared.end.StreamEnd.TheVariants as EndOf
+use Rattle.ax_blocks.proofs.Completes.{IsDoneWithBlocks, stream_completes}
+use Rattle.ax_blocks.specs.Commands.{BlockCommand, output_of, report_of}
+use Rattle.ax_blocks.specs.Ending.{longest_input}
+use Rattle.ax_blocks.specs.Streams.{IsIdle, ToldRun, reading, writing, reporting, for_memory}
+use Rattle.ax_blocks.specs.declared.end.StreamEnd.{StreamEnd}
+use Rattle.ax_blocks.specs.declared.end.StreamEnd.TheVariants as EndOf
 use Rattle.ax_words.specs.Words.{HasNoShape, JudgesWords}
 use Rattle.ax_words.specs.declared.error.WordsError.{WordsError}
 use Rattle.ax_words.specs.declared.error.WordsError.TheVariants as WordsErrorOf

@@ -6,7 +6,7 @@ use Rattle.ax_outside.proofs.Ends.{with_end-nil}
 use Rattle.ax_outside.specs.Changes.{LibraryCounts, SourceChange, SinkChange, IsUntouched}
 use Rattle.ax_outside.specs.Files.{File}
 use Rattle.ax_outside.specs.Told.{with_front}
-use Rattle.ax_stream.specs.Streams.{IsIdle}
+use Rattle.ax_blocks.specs.Streams.{IsIdle}
 use Rattle.ax_app.proofs.Stages.{text_headline, blocks_headline, lines_headline, salvage_headline, before_headline, files_headline, at_files_of}
 use Rattle.ax_app.specs.Answer.{by_words}
 use Rattle.ax_app.specs.Headline.{Headline, answered, stopped_at_words, as_told, HeadlineOfTaken}

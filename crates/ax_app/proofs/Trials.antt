@@ -1,9 +1,9 @@
 -- The line of `trial`.
 use Rattle.std.proofs.Common.{◌≡◌, ℕ, ◌<◌, List, [], ◌∷◌, Some, length, subst, arith, slice_get}
 use Rattle.ax_command.specs.declared.outcome.Outcome.{Outcome}
-use Rattle.ax_model.specs.Plain.{spec_tree, catalogue_tree}
-use Rattle.ax_model.specs.Specification.{SpecTree}
-use Rattle.ax_model.specs.declared.spec.Spec.{Spec}
+use Rattle.ax_format.specs.Plain.{spec_tree, catalogue_tree}
+use Rattle.ax_format.specs.Specification.{SpecTree}
+use Rattle.ax_format.specs.declared.spec.Spec.{Spec}
 use Rattle.ax_outside.specs.Changes.{SinkChange}
 use Rattle.ax_trial.specs.Trial.{IsTrial}
 use Rattle.ax_app.proofs.Checks.{at_first}

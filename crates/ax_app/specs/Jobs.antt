@@ -19,24 +19,24 @@ use Rattle.ax_filter.specs.declared.text.FilterFault.{FilterFault}
 use Rattle.ax_filter_work.specs.FilterCommand.{filter_command}
 use Rattle.ax_grammar.specs.InRange.{AreNumbersInRange}
 use Rattle.ax_grammar.specs.Spelling.{printed}
-use Rattle.ax_line_stream.specs.Commands as Lines
-use Rattle.ax_line_stream.specs.Commands.{LineAnswer}
-use Rattle.ax_line_stream.specs.Ending.{longest_line}
-use Rattle.ax_line_stream.specs.Runs.{LinesAnswer, LinesRun}
-use Rattle.ax_line_stream.specs.declared.end.LinesEnd.{LinesEnd}
-use Rattle.ax_migrate_work.specs.Commands.{migrate_command}
-use Rattle.ax_model.specs.Blocks.{BlockTree}
-use Rattle.ax_model.specs.Specification.{SpecTree}
+use Rattle.ax_lines.specs.Commands as Lines
+use Rattle.ax_lines.specs.Commands.{LineAnswer}
+use Rattle.ax_lines.specs.Ending.{longest_line}
+use Rattle.ax_lines.specs.Runs.{LinesAnswer, LinesRun}
+use Rattle.ax_lines.specs.declared.end.LinesEnd.{LinesEnd}
+use Rattle.ax_migrate.specs.Commands.{migrate_command}
+use Rattle.ax_format.specs.Blocks.{BlockTree}
+use Rattle.ax_format.specs.Specification.{SpecTree}
 use Rattle.ax_outside.specs.Changes.{SourceChange, SinkChange, IsUntouched, Gains, GainsNothing, GainsPart}
 use Rattle.ax_salvage.specs.Runs.{SalvageRuns}
 use Rattle.ax_salvage.specs.Salvaged.{Salvaged}
 use Rattle.ax_salvage.specs.declared.salvaging.SalvageEnd.{SalvageEnd}
-use Rattle.ax_stream.specs.BlockCommands.{canon_command}
-use Rattle.ax_stream.specs.Commands.{BlockCommand, output_of, report_of}
-use Rattle.ax_stream.specs.Ending.{longest_input}
-use Rattle.ax_stream.specs.Made.{tree_command}
-use Rattle.ax_stream.specs.Streams.{StreamAnswers, StreamRuns}
-use Rattle.ax_stream.specs.declared.end.StreamEnd.{StreamEnd}
+use Rattle.ax_blocks.specs.BlockCommands.{canon_command}
+use Rattle.ax_blocks.specs.Commands.{BlockCommand, output_of, report_of}
+use Rattle.ax_blocks.specs.Ending.{longest_input}
+use Rattle.ax_blocks.specs.Made.{tree_command}
+use Rattle.ax_blocks.specs.Streams.{StreamAnswers, StreamRuns}
+use Rattle.ax_blocks.specs.declared.end.StreamEnd.{StreamEnd}
 use Rattle.ax_text.specs.BlockText.{BlockLine, OpaqueLine}
 use Rattle.ax_text.specs.ShowText.{ShowText, OpaqueShown}
 use Rattle.ax_trial.specs.Trial.{IsTrial}

@@ -4,7 +4,7 @@ use Rattle.ax_app.specs.Given.{Given, only, takes_distinct, expansion_of, TakesE
 use Rattle.ax_app.specs.declared.loading.Loaded.{Loaded}
 use Rattle.ax_app.specs.declared.loading.Loaded.TheVariants.{Catalogue, Editions, WithExpansion}
 use Rattle.ax_expand.specs.Expansion.{expansion_tree}
-use Rattle.ax_model.specs.Plain.{spec_tree, catalogue_tree}
+use Rattle.ax_format.specs.Plain.{spec_tree, catalogue_tree}
 use Rattle.ax_words.specs.declared.line.Line.{Line}
 
 abbrev pub given_of : Loaded → Given

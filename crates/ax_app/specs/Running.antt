@@ -8,8 +8,8 @@ use Rattle.ax_load.specs.declared.fault.LoadStop.{LoadStop}
 use Rattle.ax_outside.specs.Changes.{LibraryCounts, SourceChange, SinkChange, IsUntouched, IsUnasked, first_step, second_step, Gains, GainsNothing, GainsPart}
 use Rattle.ax_outside.specs.Files.{File}
 use Rattle.ax_outside.specs.Told.{Rose}
-use Rattle.ax_stream.specs.Ending.{longest_input}
-use Rattle.ax_stream.specs.Streams.{IsIdle}
+use Rattle.ax_blocks.specs.Ending.{longest_input}
+use Rattle.ax_blocks.specs.Streams.{IsIdle}
 use Rattle.ax_words.specs.Words.{HasShape, HasNoShape}
 use Rattle.ax_words.specs.declared.line.Line.{Line}
 use Rattle.ax_words.specs.declared.line.Line.TheVariants as LineOf

@@ -4,8 +4,8 @@ use Rattle.ax_command.specs.declared.outcome.Outcome.{Outcome}
 use Rattle.ax_command.specs.declared.outcome.Outcome.TheVariants as OutcomeOf
 use Rattle.ax_salvage.specs.declared.salvaging.SalvageEnd.{SalvageEnd}
 use Rattle.ax_salvage.specs.declared.salvaging.SalvageEnd.TheVariants.{Done, EndsInHeader, BadLen, EndsInBlock, InputTooLong, ReadFault, WriteFault, ReportFault}
-use Rattle.ax_stream.specs.declared.end.Cause.{Cause}
-use Rattle.ax_stream.specs.declared.end.Cause.TheVariants as CauseOf
+use Rattle.ax_blocks.specs.declared.end.Cause.{Cause}
+use Rattle.ax_blocks.specs.declared.end.Cause.TheVariants as CauseOf
 
 abbrev pub refused_at : Cause → ℕ → ℕ → Outcome
 refused_at cause block bit = OutcomeOf.InputRefused (record { cause = cause; block = block; bit = bit })

@@ -4,18 +4,18 @@ ghost use Rattle.ax_app.specs.Jobs.{BlocksRun};
 ghost use Rattle.ax_app.specs.Running.{NoFaultFell};
 ghost use Rattle.ax_command.specs.declared.outcome.JobStop.TheVariants.{OutOfMemory};
 ghost use Rattle.ax_convert_work.specs.ConvertCommand.{convert_command};
-ghost use Rattle.ax_model.specs.Plain.{spec_tree};
+ghost use Rattle.ax_format.specs.Plain.{spec_tree};
 ghost use Rattle.ax_outside.specs.Changes.{source_change, sink_change};
 ghost use Rattle.ax_relation.specs.Relates.{Relates};
-ghost use Rattle.ax_stream.specs.Streams.{IsIdle};
+ghost use Rattle.ax_blocks.specs.Streams.{IsIdle};
 
+use ax_blocks::run_blocks;
 use ax_check::Accepted;
 use ax_command::{JobStop, Outcome};
 use ax_convert_work::ConvertBlocks;
 use ax_edition::Relation;
 use ax_migrate_views::Migrator;
 use ax_outside::{Sink, Source};
-use ax_stream::run_blocks;
 use ax_tables::compile;
 use std::alloc::Global;
 

@@ -5,17 +5,17 @@ ghost use Rattle.ax_app.specs.Running.{NoFaultFell};
 ghost use Rattle.ax_command.specs.declared.outcome.JobStop.TheVariants.{OutOfMemory};
 ghost use Rattle.ax_expand.specs.Expansion.{expansion_tree};
 ghost use Rattle.ax_expand_work.specs.ExpandCommand.{expand_command, re_frn};
-ghost use Rattle.ax_model.specs.Plain.{spec_tree};
+ghost use Rattle.ax_format.specs.Plain.{spec_tree};
 ghost use Rattle.ax_outside.specs.Changes.{source_change, sink_change};
-ghost use Rattle.ax_stream.specs.Streams.{IsIdle};
+ghost use Rattle.ax_blocks.specs.Streams.{IsIdle};
 ghost use Rattle.ax_words.specs.declared.line.Line.TheVariants.{Expand};
 
+use ax_blocks::run_blocks;
 use ax_check::Accepted;
 use ax_command::{JobStop, Outcome, Refusal};
 use ax_expand::AcceptedExpansion;
 use ax_expand_work::{ExpandViews, re_slot};
 use ax_outside::{Sink, Source};
-use ax_stream::run_blocks;
 use ax_tables::compile;
 use std::alloc::Global;
 

@@ -1,11 +1,11 @@
 //! The outcomes for ends of jobs.
 ghost use Rattle.std.specs.Prelude.{◌≡◌};
 ghost use Rattle.ax_command.specs.Outcomes.{outcome_of_end};
-ghost use Rattle.ax_drive.specs.Ends.{as_stream};
+ghost use Rattle.ax_app.specs.Ends.{as_stream};
 ghost use Rattle.ax_app.specs.Salvages.{outcome_of_salvage, refused_at};
 
+use crate::end::DriveEnd;
 use ax_command::{Cause, InputFault, Outcome};
-use ax_drive::DriveEnd;
 use ax_salvage::SalvageEnd;
 
 /// The outcome for the end of a block loop that takes no memory.

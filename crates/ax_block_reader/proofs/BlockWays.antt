@@ -2,15 +2,15 @@
 use Rattle.std.proofs.Common.{◌≡◌, ℕ, ◌+◌, ◌/◌, ◌%◌, ◌<◌, ◌==◌, Bool, true, false, cond, ◌⊎◌, inl, inr, List, [], ◌∷◌, ◌++◌, length, drop, refl, sym, ◌∙◌, ap, subst, arith, codes, Some, None, lit<, is_some}
 use Rattle.std.specs.Prelude.{Option, MatchOption}
 use Rattle.std.proofs.lemmas.Bool.{eqb-true}
-use Rattle.ax_token_reader.specs.Stopping.{Texts, StopsAt, Stops, IsNotFirst}
-use Rattle.ax_token_reader.specs.declared.stopped.Stopped.{Stopped}
-use Rattle.ax_token_reader.specs.declared.stopped.Stopped.TheVariants.{Bad, OutOfMemory}
-use Rattle.ax_token_reader.proofs.Words.{not_first, none_first}
-use Rattle.ax_model.specs.Blocks.{BlockTree, read_block, opaque_block}
-use Rattle.ax_model.specs.Paths.{three_digits}
-use Rattle.ax_model.specs.Specification.{SpecTree, spec_of}
-use Rattle.ax_model.specs.Streams.{FitsOver}
-use Rattle.ax_model.specs.Tree.{EntriesTree, no_entries}
+use Rattle.ax_tokens.specs.Stopping.{Texts, StopsAt, Stops, IsNotFirst}
+use Rattle.ax_tokens.specs.declared.stopped.Stopped.{Stopped}
+use Rattle.ax_tokens.specs.declared.stopped.Stopped.TheVariants.{Bad, OutOfMemory}
+use Rattle.ax_tokens.proofs.Words.{not_first, none_first}
+use Rattle.ax_format.specs.Blocks.{BlockTree, read_block, opaque_block}
+use Rattle.ax_format.specs.Paths.{three_digits}
+use Rattle.ax_format.specs.Specification.{SpecTree, spec_of}
+use Rattle.ax_format.specs.Streams.{FitsOver}
+use Rattle.ax_format.specs.Tree.{EntriesTree, no_entries}
 use Rattle.ax_text.proofs.Unique.{different}
 use Rattle.ax_text.specs.Tokens.{TextOver}
 use Rattle.ax_text.specs.ValueText.{hex_text}

@@ -6,14 +6,14 @@ use Rattle.hex.specs.Hex.{encode_lower, decode_of, IsBytes}
 use Rattle.hex.specs.declared.error.FromHexError.{FromHexError}
 use Rattle.hex.proofs.HexLemmas.{decode_of-encode_lower}
 use Rattle.ax_bits.specs.Bits.{AreOctets}
-use Rattle.ax_token_reader.specs.Stopping.{Texts, StopsAt, IsNotFirst}
-use Rattle.ax_token_reader.proofs.Words.{not_first, none_first}
+use Rattle.ax_tokens.specs.Stopping.{Texts, StopsAt, IsNotFirst}
+use Rattle.ax_tokens.proofs.Words.{not_first, none_first}
 use Rattle.ax_tokens.specs.Octets.{quote}
-use Rattle.ax_model.proofs.VariantTrees.{octets_value}
-use Rattle.ax_model.specs.Plain.{value_tree}
-use Rattle.ax_model.specs.Shape.{Shape}
-use Rattle.ax_model.specs.Tree.{explicit, ValueTree, content_octets}
-use Rattle.ax_model.specs.declared.value.Value.TheVariants.{Octets}
+use Rattle.ax_format.proofs.VariantTrees.{octets_value}
+use Rattle.ax_format.specs.Plain.{value_tree}
+use Rattle.ax_format.specs.Shape.{Shape}
+use Rattle.ax_format.specs.Tree.{explicit, ValueTree, content_octets}
+use Rattle.ax_format.specs.declared.value.Value.TheVariants.{Octets}
 use Rattle.ax_text.proofs.Unique.{same_hex}
 use Rattle.ax_text.specs.ValueText.{hex_text}
 use Rattle.ax_block_reader.specs.Continuing.{Done, Spelled, IsRead}

@@ -1,10 +1,10 @@
 -- How readers of larger languages go on.
 use Rattle.std.proofs.Common.{◌≡◌, ℕ, List, [], ◌∷◌, ◌++◌, refl, sym, ◌∙◌, ap, subst, append_assoc, append-nil, ◌⊎◌, inl, inr}
 use Rattle.std.proofs.lemmas.List.{append_cancel_left}
-use Rattle.ax_token_reader.specs.Stopping.{Texts, first_with, StopsAt, Stops, IsNotFirst, Word, Then}
-use Rattle.ax_token_reader.specs.declared.stopped.Stopped.{Stopped}
-use Rattle.ax_token_reader.specs.declared.stopped.Stopped.TheVariants.{Bad, OutOfMemory}
-use Rattle.ax_token_reader.proofs.Stops.{BeginsWith, same_lacks, first_lacks, end_stops}
+use Rattle.ax_tokens.specs.Stopping.{Texts, first_with, StopsAt, Stops, IsNotFirst, Word, Then}
+use Rattle.ax_tokens.specs.declared.stopped.Stopped.{Stopped}
+use Rattle.ax_tokens.specs.declared.stopped.Stopped.TheVariants.{Bad, OutOfMemory}
+use Rattle.ax_tokens.proofs.Stops.{BeginsWith, same_lacks, first_lacks, end_stops}
 use Rattle.ax_block_reader.specs.Continuing.{BeginAlike, Done, Continues}
 
 pub heads : (a b : List ℕ) (x y : Texts) → a ∷ x ≡ b ∷ y → a ≡ b

@@ -1,12 +1,12 @@
 -- Each way through the reader of a counted item.
 use Rattle.std.proofs.Common.{◌≡◌, ℕ, suc, ◌⊎◌, inl, inr, List, [], ◌∷◌, ◌++◌, refl, sym, ◌∙◌, ap, subst, arith}
-use Rattle.ax_token_reader.specs.Stopping.{Texts, Stops, IsNotFirst, Word, Then}
-use Rattle.ax_token_reader.specs.declared.stopped.Stopped.{Stopped}
-use Rattle.ax_token_reader.proofs.Stops.{BeginsWith}
-use Rattle.ax_model.specs.Plain.{value_tree, values_tree}
-use Rattle.ax_model.specs.Shape.{Shape}
-use Rattle.ax_model.specs.Tree.{KindTree, ValueTree, ValuesTree, no_values, value_and}
-use Rattle.ax_model.specs.declared.value.Value.{Value}
+use Rattle.ax_tokens.specs.Stopping.{Texts, Stops, IsNotFirst, Word, Then}
+use Rattle.ax_tokens.specs.declared.stopped.Stopped.{Stopped}
+use Rattle.ax_tokens.proofs.Stops.{BeginsWith}
+use Rattle.ax_format.specs.Plain.{value_tree, values_tree}
+use Rattle.ax_format.specs.Shape.{Shape}
+use Rattle.ax_format.specs.Tree.{KindTree, ValueTree, ValuesTree, no_values, value_and}
+use Rattle.ax_format.specs.declared.value.Value.{Value}
 use Rattle.ax_text.specs.Readable.{Readable}
 use Rattle.ax_text.specs.ValueText.{closing, kind_onto}
 use Rattle.ax_block_reader.specs.Continuing.{Continues, Spelled, IsRead}

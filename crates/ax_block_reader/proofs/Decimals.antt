@@ -7,9 +7,9 @@ use Rattle.std.proofs.lemmas.Fmt.{IsAscii-decimal_wide, parse-decimal_wide}
 use Rattle.std.proofs.lemmas.Str.{IsUtf8-from_ascii}
 use Rattle.std.proofs.Math.Nat.{pow-le-pow_right}
 use Rattle.std.proofs.lemmas.Nat.{pow_pos}
-use Rattle.ax_token_reader.specs.Stopping.{Texts, StopsAt, One}
-use Rattle.ax_token_reader.proofs.Stops.{one_stops}
-use Rattle.ax_token_reader.proofs.Words.{not_first, none_first}
+use Rattle.ax_tokens.specs.Stopping.{Texts, StopsAt, One}
+use Rattle.ax_tokens.proofs.Stops.{one_stops}
+use Rattle.ax_tokens.proofs.Words.{not_first, none_first}
 use Rattle.ax_block_reader.specs.Languages.{IsNumberText}
 use Rattle.ax_text.proofs.Unique.{same_decimal}
 

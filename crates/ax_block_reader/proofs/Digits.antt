@@ -2,12 +2,12 @@
 use Rattle.std.proofs.Common.{◌≡◌, ℕ, ◌<◌, cond, List, [], ◌∷◌, length, drop, slice_get, Some, None, sym, ◌∙◌, ap, refl}
 use Rattle.std.specs.Prelude.{Option}
 use Rattle.std.proofs.lemmas.Bool.{eq-eqb}
-use Rattle.ax_token_reader.specs.Stopping.{Texts, IsNotFirst}
-use Rattle.ax_token_reader.proofs.Words.{not_first, none_first}
-use Rattle.ax_model.specs.Paths.{three_digits}
-use Rattle.ax_model.specs.Plain.{spec_tree, catalogue_tree}
-use Rattle.ax_model.specs.Specification.{spec_of}
-use Rattle.ax_model.specs.declared.spec.Spec.{Spec}
+use Rattle.ax_tokens.specs.Stopping.{Texts, IsNotFirst}
+use Rattle.ax_tokens.proofs.Words.{not_first, none_first}
+use Rattle.ax_format.specs.Paths.{three_digits}
+use Rattle.ax_format.specs.Plain.{spec_tree, catalogue_tree}
+use Rattle.ax_format.specs.Specification.{spec_of}
+use Rattle.ax_format.specs.declared.spec.Spec.{Spec}
 use Rattle.ax_block_reader.specs.BlockForms.{IsCategoryText}
 
 pub no_three : (text : List ℕ) → (length text ≡ 3 → ⊥) → (n : ℕ) → n < 256 → text ≡ three_digits n → ⊥

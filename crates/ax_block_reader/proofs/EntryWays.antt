@@ -3,17 +3,17 @@ use Rattle.std.proofs.Common.{◌≡◌, ℕ, ◌+◌, ◌<◌, ◌≤◌, Bool,
 use Rattle.std.specs.Prelude.{◌==◌, MatchBool}
 use Rattle.std.proofs.lemmas.Bool.{eq-eqb, eqb-true, ne_eqb}
 use Rattle.std.proofs.lemmas.List.{drop_all}
-use Rattle.ax_token_reader.specs.Stopping.{Texts, Stops, IsNotFirst, Word, Then}
-use Rattle.ax_token_reader.specs.declared.stopped.Stopped.{Stopped}
-use Rattle.ax_token_reader.specs.declared.stopped.Stopped.TheVariants.{Bad, OutOfMemory}
-use Rattle.ax_token_reader.proofs.Stops.{BeginsWith}
-use Rattle.ax_model.specs.Characters.{IsName}
-use Rattle.ax_model.specs.Plain.{slot_tree, slots_tree, value_tree, entry_tree, entries_tree, value_step, entry_step}
-use Rattle.ax_model.specs.Shape.{Shape, EntriesShape}
-use Rattle.ax_model.specs.Tree.{KindTree, SlotTree, SlotsTree, no_slots, slot_and, spare_slot, subitem, ValueTree, EntriesTree, no_entries, entry_and}
-use Rattle.ax_model.specs.declared.kind.Slot.{Slot}
-use Rattle.ax_model.specs.declared.value.Entry.{Entry, roll-Entry, fold-roll-Entry}
-use Rattle.ax_model.specs.declared.value.Value.{Value}
+use Rattle.ax_tokens.specs.Stopping.{Texts, Stops, IsNotFirst, Word, Then}
+use Rattle.ax_tokens.specs.declared.stopped.Stopped.{Stopped}
+use Rattle.ax_tokens.specs.declared.stopped.Stopped.TheVariants.{Bad, OutOfMemory}
+use Rattle.ax_tokens.proofs.Stops.{BeginsWith}
+use Rattle.ax_format.specs.Characters.{IsName}
+use Rattle.ax_format.specs.Plain.{slot_tree, slots_tree, value_tree, entry_tree, entries_tree, value_step, entry_step}
+use Rattle.ax_format.specs.Shape.{Shape, EntriesShape}
+use Rattle.ax_format.specs.Tree.{KindTree, SlotTree, SlotsTree, no_slots, slot_and, spare_slot, subitem, ValueTree, EntriesTree, no_entries, entry_and}
+use Rattle.ax_format.specs.declared.kind.Slot.{Slot}
+use Rattle.ax_format.specs.declared.value.Entry.{Entry, roll-Entry, fold-roll-Entry}
+use Rattle.ax_format.specs.declared.value.Value.{Value}
 use Rattle.ax_text.proofs.Printed.{from_place}
 use Rattle.ax_text.proofs.Unique.{entries_never}
 use Rattle.ax_text.specs.Readable.{Lacks, SlotLacks, SlotReadable, SlotsReadable}

@@ -1,9 +1,9 @@
 -- The first text of a value: there is one, and it is no brace that closes.
 use Rattle.std.proofs.Common.{◌≡◌, ℕ, suc, ◌≤◌, List, [], ◌∷◌, refl, sym, ◌∙◌, arith}
 use Rattle.std.specs.Prelude.{decimal}
-use Rattle.ax_token_reader.specs.Stopping.{Texts}
-use Rattle.ax_model.specs.Shape.{NumberShape, FixedShape, Shape, EachShape}
-use Rattle.ax_model.specs.Tree.{FixedTree, element, group, KindTree, fixed, extended, counted, by_fx, explicit, compound, ValueTree, number, member_values, part_values, occurrences, content_octets, marked, ValuesTree, no_values, value_and}
+use Rattle.ax_tokens.specs.Stopping.{Texts}
+use Rattle.ax_format.specs.Shape.{NumberShape, FixedShape, Shape, EachShape}
+use Rattle.ax_format.specs.Tree.{FixedTree, element, group, KindTree, fixed, extended, counted, by_fx, explicit, compound, ValueTree, number, member_values, part_values, occurrences, content_octets, marked, ValuesTree, no_values, value_and}
 use Rattle.ax_text.proofs.Unique.{different, never_closes, small}
 use Rattle.ax_text.specs.Readable.{FixedReadable, Readable}
 use Rattle.ax_text.specs.ValueText.{opening, closing, hex_text, number_onto, fixed_onto, members_onto, parts_onto, each_onto, kind_onto, entries_onto}

@@ -2,21 +2,21 @@
 use Rattle.std.proofs.Common.{◌≡◌, ℕ, ◌^◌, ◌<◌, ◌≤◌, List, [], ◌∷◌, ◌++◌, refl, sym, ◌∙◌, ap, subst}
 use Rattle.std.specs.Prelude.{decimal}
 use Rattle.std.proofs.lemmas.Nat.{pow_pos}
-use Rattle.ax_token_reader.specs.Stopping.{Texts, Stops, Word, One}
-use Rattle.ax_token_reader.specs.declared.stopped.Stopped.{Stopped}
-use Rattle.ax_token_reader.proofs.Stops.{same_lacks}
-use Rattle.ax_model.proofs.VariantTrees.{element_tree as of_element, group_tree as of_group, number_value, group_value}
-use Rattle.ax_model.specs.Plain.{fixed_tree, member_tree, members_tree, value_tree, values_tree, fixed_step, member_step}
-use Rattle.ax_model.specs.Shape.{NumberShape, FixedShape, MembersShape}
-use Rattle.ax_model.specs.Tree.{FixedTree, element, group, MemberTree, named, spare, MembersTree, no_members, member_and, ValueTree, number, member_values, ValuesTree, no_values, value_and}
-use Rattle.ax_model.specs.declared.content.Content.{Content}
-use Rattle.ax_model.specs.declared.kind.Fixed.{Fixed}
-use Rattle.ax_model.specs.declared.kind.Fixed.TheOpen.{Member-F}
-use Rattle.ax_model.specs.declared.kind.Fixed.TheVariants.{Element, Group}
-use Rattle.ax_model.specs.declared.kind.Member.{Member, fold-roll-Member}
-use Rattle.ax_model.specs.declared.kind.Member.TheVariants.{Named, Spare, rolls-Named, rolls-Spare}
-use Rattle.ax_model.specs.declared.value.Value.{Value}
-use Rattle.ax_model.specs.declared.value.Value.TheVariants.{Number, Group as GroupOf}
+use Rattle.ax_tokens.specs.Stopping.{Texts, Stops, Word, One}
+use Rattle.ax_tokens.specs.declared.stopped.Stopped.{Stopped}
+use Rattle.ax_tokens.proofs.Stops.{same_lacks}
+use Rattle.ax_format.proofs.VariantTrees.{element_tree as of_element, group_tree as of_group, number_value, group_value}
+use Rattle.ax_format.specs.Plain.{fixed_tree, member_tree, members_tree, value_tree, values_tree, fixed_step, member_step}
+use Rattle.ax_format.specs.Shape.{NumberShape, FixedShape, MembersShape}
+use Rattle.ax_format.specs.Tree.{FixedTree, element, group, MemberTree, named, spare, MembersTree, no_members, member_and, ValueTree, number, member_values, ValuesTree, no_values, value_and}
+use Rattle.ax_format.specs.declared.content.Content.{Content}
+use Rattle.ax_format.specs.declared.kind.Fixed.{Fixed}
+use Rattle.ax_format.specs.declared.kind.Fixed.TheOpen.{Member-F}
+use Rattle.ax_format.specs.declared.kind.Fixed.TheVariants.{Element, Group}
+use Rattle.ax_format.specs.declared.kind.Member.{Member, fold-roll-Member}
+use Rattle.ax_format.specs.declared.kind.Member.TheVariants.{Named, Spare, rolls-Named, rolls-Spare}
+use Rattle.ax_format.specs.declared.value.Value.{Value}
+use Rattle.ax_format.specs.declared.value.Value.TheVariants.{Number, Group as GroupOf}
 use Rattle.ax_text.specs.Readable.{FixedReadable, MemberReadable, MembersReadable}
 use Rattle.ax_text.specs.Slots.{MemberShape}
 use Rattle.ax_text.specs.ValueText.{opening, spare_word, number_onto, fixed_onto}

@@ -1,27 +1,27 @@
 -- Each way through the reader of a kind.
 use Rattle.std.proofs.Common.{◌≡◌, ℕ, suc, ◌^◌, ◌<◌, List, [], ◌∷◌, ◌++◌, refl, sym, ◌∙◌, ap, subst, length, map, arith, lit<, Box, Global}
 use Rattle.std.specs.List.{AllByRecursion}
-use Rattle.ax_token_reader.specs.Stopping.{Texts, Stops, IsNotFirst, Word}
-use Rattle.ax_token_reader.specs.declared.stopped.Stopped.{Stopped}
-use Rattle.ax_model.proofs.VariantTrees.{fixed_kind_tree, extended_tree, counted_tree, by_fx_tree, explicit_tree, compound_tree, lists_value, repeat_value, marked_value}
-use Rattle.ax_model.specs.Characters.{IsName}
-use Rattle.ax_model.specs.Plain.{fixed_tree, part_tree, kind_tree, slot_tree, slots_tree, kind_step, slot_step, value_tree, values_tree, lists_tree, entries_tree}
-use Rattle.ax_model.specs.Shape.{FixedShape, PartsShape, Shape, EntriesShape}
-use Rattle.ax_model.specs.Tree.{MembersTree, KindTree, fixed, extended, counted, by_fx, explicit, compound, SlotTree, SlotsTree, spare_slot, subitem, ValueTree, part_values, occurrences, marked, no_values, value_and, no_lists, list_and}
-use Rattle.ax_model.specs.declared.kind.Fixed.{Fixed}
-use Rattle.ax_model.specs.Widths.{counter_width}
-use Rattle.ax_model.specs.declared.kind.Counter.{Counter}
-use Rattle.ax_model.specs.declared.kind.Counter.TheVariants.{One, Two}
-use Rattle.ax_model.specs.declared.kind.Kind.{Kind}
-use Rattle.ax_model.specs.declared.kind.Kind.TheOpen.{Slot-F}
-use Rattle.ax_model.specs.declared.kind.Kind.TheVariants as KindOf
-use Rattle.ax_model.specs.declared.kind.LastPart.{LastPart}
-use Rattle.ax_model.specs.declared.kind.Part.{Part}
-use Rattle.ax_model.specs.declared.kind.Slot.{Slot, fold-roll-Slot}
-use Rattle.ax_model.specs.declared.kind.Slot.TheVariants.{Spare, Sub, rolls-Spare, rolls-Sub}
-use Rattle.ax_model.specs.declared.value.Entry.{Entry}
-use Rattle.ax_model.specs.declared.value.Value.{Value}
-use Rattle.ax_model.specs.declared.value.Value.TheVariants as ValueOf
+use Rattle.ax_tokens.specs.Stopping.{Texts, Stops, IsNotFirst, Word}
+use Rattle.ax_tokens.specs.declared.stopped.Stopped.{Stopped}
+use Rattle.ax_format.proofs.VariantTrees.{fixed_kind_tree, extended_tree, counted_tree, by_fx_tree, explicit_tree, compound_tree, lists_value, repeat_value, marked_value}
+use Rattle.ax_format.specs.Characters.{IsName}
+use Rattle.ax_format.specs.Plain.{fixed_tree, part_tree, kind_tree, slot_tree, slots_tree, kind_step, slot_step, value_tree, values_tree, lists_tree, entries_tree}
+use Rattle.ax_format.specs.Shape.{FixedShape, PartsShape, Shape, EntriesShape}
+use Rattle.ax_format.specs.Tree.{MembersTree, KindTree, fixed, extended, counted, by_fx, explicit, compound, SlotTree, SlotsTree, spare_slot, subitem, ValueTree, part_values, occurrences, marked, no_values, value_and, no_lists, list_and}
+use Rattle.ax_format.specs.declared.kind.Fixed.{Fixed}
+use Rattle.ax_format.specs.Widths.{counter_width}
+use Rattle.ax_format.specs.declared.kind.Counter.{Counter}
+use Rattle.ax_format.specs.declared.kind.Counter.TheVariants.{One, Two}
+use Rattle.ax_format.specs.declared.kind.Kind.{Kind}
+use Rattle.ax_format.specs.declared.kind.Kind.TheOpen.{Slot-F}
+use Rattle.ax_format.specs.declared.kind.Kind.TheVariants as KindOf
+use Rattle.ax_format.specs.declared.kind.LastPart.{LastPart}
+use Rattle.ax_format.specs.declared.kind.Part.{Part}
+use Rattle.ax_format.specs.declared.kind.Slot.{Slot, fold-roll-Slot}
+use Rattle.ax_format.specs.declared.kind.Slot.TheVariants.{Spare, Sub, rolls-Spare, rolls-Sub}
+use Rattle.ax_format.specs.declared.value.Entry.{Entry}
+use Rattle.ax_format.specs.declared.value.Value.{Value}
+use Rattle.ax_format.specs.declared.value.Value.TheVariants as ValueOf
 use Rattle.ax_text.specs.Readable.{FixedReadable, MembersReadable, Readable, SlotReadable, SlotsReadable}
 use Rattle.ax_text.specs.Slots.{SlotShape}
 use Rattle.ax_text.specs.ValueText.{opening, closing, fixed_onto, kind_onto}

@@ -1,14 +1,14 @@
 -- Each way through the reader of members.
 use Rattle.std.proofs.Common.{◌≡◌, ℕ, ◌+◌, ◌<◌, ◌≤◌, List, [], ◌∷◌, ◌++◌, refl, sym, ◌∙◌, ap, subst, length, drop, get_or}
 use Rattle.std.proofs.lemmas.List.{drop_all}
-use Rattle.ax_token_reader.specs.Stopping.{Texts, Stops, Word, Then}
-use Rattle.ax_token_reader.specs.declared.stopped.Stopped.{Stopped}
-use Rattle.ax_token_reader.proofs.Stops.{same_lacks}
-use Rattle.ax_model.specs.Plain.{member_tree, members_tree, value_tree, values_tree}
-use Rattle.ax_model.specs.Shape.{MembersShape}
-use Rattle.ax_model.specs.Tree.{MemberTree, named, spare, MembersTree, no_members, member_and, ValueTree, ValuesTree, no_values, value_and}
-use Rattle.ax_model.specs.declared.kind.Member.{Member}
-use Rattle.ax_model.specs.declared.value.Value.{Value}
+use Rattle.ax_tokens.specs.Stopping.{Texts, Stops, Word, Then}
+use Rattle.ax_tokens.specs.declared.stopped.Stopped.{Stopped}
+use Rattle.ax_tokens.proofs.Stops.{same_lacks}
+use Rattle.ax_format.specs.Plain.{member_tree, members_tree, value_tree, values_tree}
+use Rattle.ax_format.specs.Shape.{MembersShape}
+use Rattle.ax_format.specs.Tree.{MemberTree, named, spare, MembersTree, no_members, member_and, ValueTree, ValuesTree, no_values, value_and}
+use Rattle.ax_format.specs.declared.kind.Member.{Member}
+use Rattle.ax_format.specs.declared.value.Value.{Value}
 use Rattle.ax_text.proofs.Printed.{from_place}
 use Rattle.ax_text.specs.Readable.{MemberReadable, MembersReadable}
 use Rattle.ax_text.specs.Slots.{MemberShape}

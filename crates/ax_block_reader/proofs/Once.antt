@@ -1,13 +1,13 @@
 -- What is read is what was printed, and tokens have one answer.
 use Rattle.std.proofs.Common.{◌≡◌, ℕ, ◌+◌, ◌<◌, ◌≤◌, List, [], ◌∷◌, ◌⊎◌, inl, inr, Some, map, length, refl, sym, ◌∙◌, ap, arith}
 use Rattle.std.specs.List.{AllByRecursion}
-use Rattle.ax_model.specs.Blocks.{BlockTree, read_block, opaque_block}
-use Rattle.ax_model.specs.CanonicalOctets.{category_of}
-use Rattle.ax_model.specs.Flaws.{NoFlaw}
-use Rattle.ax_model.specs.Lengths.{capped}
-use Rattle.ax_model.specs.Specification.{SpecTree, spec_of}
-use Rattle.ax_token_reader.specs.Stopping.{Texts, texts_of}
-use Rattle.ax_token_reader.proofs.Bad.{first_bad_once}
+use Rattle.ax_format.specs.Blocks.{BlockTree, read_block, opaque_block}
+use Rattle.ax_format.specs.CanonicalOctets.{category_of}
+use Rattle.ax_format.specs.Flaws.{NoFlaw}
+use Rattle.ax_format.specs.Lengths.{capped}
+use Rattle.ax_format.specs.Specification.{SpecTree, spec_of}
+use Rattle.ax_tokens.specs.Stopping.{Texts, texts_of}
+use Rattle.ax_tokens.proofs.Bad.{first_bad_once}
 use Rattle.ax_tokens.specs.PlainToken.{PlainToken}
 use Rattle.ax_tokens.specs.Printing.{placed}
 use Rattle.ax_text.proofs.BlocksOnce.{same_block}

@@ -2,14 +2,14 @@
 use Rattle.std.proofs.Common.{◌≡◌, ℕ, ◌+◌, ◌<◌, ◌≤◌, ◌⊎◌, inl, inr, List, [], ◌∷◌, ◌++◌, refl, sym, ◌∙◌, ap, subst, length, drop, get_or, map, arith, Result}
 use Rattle.std.specs.List.{AllByRecursion}
 use Rattle.std.proofs.lemmas.List.{drop_all}
-use Rattle.ax_token_reader.specs.Stopping.{Texts, Stops, IsNotFirst, Word, Then}
-use Rattle.ax_token_reader.specs.declared.stopped.Stopped.{Stopped}
-use Rattle.ax_token_reader.proofs.Stops.{BeginsWith}
-use Rattle.ax_model.specs.Plain.{part_tree, values_tree, lists_tree}
-use Rattle.ax_model.specs.Shape.{MembersShape, PartsShape}
-use Rattle.ax_model.specs.Tree.{MembersTree, ValuesTree, ListsTree, no_lists, list_and}
-use Rattle.ax_model.specs.declared.kind.Part.{Part}
-use Rattle.ax_model.specs.declared.value.Value.{Value}
+use Rattle.ax_tokens.specs.Stopping.{Texts, Stops, IsNotFirst, Word, Then}
+use Rattle.ax_tokens.specs.declared.stopped.Stopped.{Stopped}
+use Rattle.ax_tokens.proofs.Stops.{BeginsWith}
+use Rattle.ax_format.specs.Plain.{part_tree, values_tree, lists_tree}
+use Rattle.ax_format.specs.Shape.{MembersShape, PartsShape}
+use Rattle.ax_format.specs.Tree.{MembersTree, ValuesTree, ListsTree, no_lists, list_and}
+use Rattle.ax_format.specs.declared.kind.Part.{Part}
+use Rattle.ax_format.specs.declared.value.Value.{Value}
 use Rattle.ax_text.proofs.Printed.{from_place}
 use Rattle.ax_text.proofs.Unique.{different}
 use Rattle.ax_text.specs.Readable.{MembersReadable}

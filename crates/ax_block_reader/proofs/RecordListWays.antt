@@ -1,14 +1,14 @@
 -- Each way through the readers of lists of records.
 use Rattle.std.proofs.Common.{◌≡◌, ◌⊎◌, inl, inr, List, [], ◌∷◌, ◌++◌, refl, sym, ◌∙◌, ap, subst, arith, codes, Result}
 use Rattle.std.specs.List.{AllByRecursion}
-use Rattle.ax_token_reader.specs.Stopping.{Texts, Stops, IsNotFirst, Word, Then}
-use Rattle.ax_token_reader.specs.declared.stopped.Stopped.{Stopped}
-use Rattle.ax_token_reader.proofs.Stops.{BeginsWith}
-use Rattle.ax_model.specs.Bodies.{RecordShape}
-use Rattle.ax_model.specs.Plain.{record_tree, records_tree}
-use Rattle.ax_model.specs.Specification.{SpecTree, record_slots}
-use Rattle.ax_model.specs.Tree.{EntriesTree, no_entries}
-use Rattle.ax_model.specs.declared.record.Record.{Record}
+use Rattle.ax_tokens.specs.Stopping.{Texts, Stops, IsNotFirst, Word, Then}
+use Rattle.ax_tokens.specs.declared.stopped.Stopped.{Stopped}
+use Rattle.ax_tokens.proofs.Stops.{BeginsWith}
+use Rattle.ax_format.specs.Bodies.{RecordShape}
+use Rattle.ax_format.specs.Plain.{record_tree, records_tree}
+use Rattle.ax_format.specs.Specification.{SpecTree, record_slots}
+use Rattle.ax_format.specs.Tree.{EntriesTree, no_entries}
+use Rattle.ax_format.specs.declared.record.Record.{Record}
 use Rattle.ax_text.proofs.Unique.{different}
 use Rattle.ax_text.specs.BlockText.{record_onto}
 use Rattle.ax_text.specs.ValueText.{opening, closing}

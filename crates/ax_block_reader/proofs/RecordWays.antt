@@ -2,21 +2,21 @@
 use Rattle.std.proofs.Common.{◌≡◌, ℕ, ◌+◌, ◌<◌, ◌≤◌, List, [], ◌∷◌, ◌++◌, refl, sym, ◌∙◌, ap, subst, length, drop, get_or, map, codes, Some, None}
 use Rattle.std.specs.Prelude.{Result}
 use Rattle.std.proofs.lemmas.List.{drop_all}
-use Rattle.ax_token_reader.specs.Stopping.{Texts, Stops, IsNotFirst, Word}
-use Rattle.ax_token_reader.specs.declared.stopped.Stopped.{Stopped}
-use Rattle.ax_token_reader.proofs.Words.{not_first}
-use Rattle.ax_model.proofs.RecordFitting.{spare_is, item_is}
-use Rattle.ax_model.specs.Bodies.{RecordShape}
-use Rattle.ax_model.specs.Characters.{IsName}
-use Rattle.ax_model.specs.Lookup.{item_of_slot}
-use Rattle.ax_model.specs.Plain.{item_tree, kind_tree, entries_tree}
-use Rattle.ax_model.specs.Shape.{Shape, EntriesShape}
-use Rattle.ax_model.specs.Specification.{SpecTree, uap_slot, record_slots}
-use Rattle.ax_model.specs.Tree.{SlotTree, SlotsTree, no_slots, slot_and, spare_slot, subitem, slots_of, ValueTree, EntriesTree}
-use Rattle.ax_model.specs.declared.spec.Item.{Item}
-use Rattle.ax_model.specs.declared.spec.UapSlot.{UapSlot}
-use Rattle.ax_model.specs.declared.spec.UapSlot.TheVariants as Uap
-use Rattle.ax_model.specs.declared.value.Entry.{Entry}
+use Rattle.ax_tokens.specs.Stopping.{Texts, Stops, IsNotFirst, Word}
+use Rattle.ax_tokens.specs.declared.stopped.Stopped.{Stopped}
+use Rattle.ax_tokens.proofs.Words.{not_first}
+use Rattle.ax_format.proofs.RecordFitting.{spare_is, item_is}
+use Rattle.ax_format.specs.Bodies.{RecordShape}
+use Rattle.ax_format.specs.Characters.{IsName}
+use Rattle.ax_format.specs.Lookup.{item_of_slot}
+use Rattle.ax_format.specs.Plain.{item_tree, kind_tree, entries_tree}
+use Rattle.ax_format.specs.Shape.{Shape, EntriesShape}
+use Rattle.ax_format.specs.Specification.{SpecTree, uap_slot, record_slots}
+use Rattle.ax_format.specs.Tree.{SlotTree, SlotsTree, no_slots, slot_and, spare_slot, subitem, slots_of, ValueTree, EntriesTree}
+use Rattle.ax_format.specs.declared.spec.Item.{Item}
+use Rattle.ax_format.specs.declared.spec.UapSlot.{UapSlot}
+use Rattle.ax_format.specs.declared.spec.UapSlot.TheVariants as Uap
+use Rattle.ax_format.specs.declared.value.Entry.{Entry}
 use Rattle.ax_text.proofs.Printed.{from_place}
 use Rattle.ax_text.proofs.Readables.{HasName, found_named}
 use Rattle.ax_text.specs.Readable.{Readable, SlotReadable}

@@ -1,12 +1,12 @@
 -- Each way through the reader of an item that repeats by FX.
 use Rattle.std.proofs.Common.{◌≡◌, ◌⊎◌, inl, inr, List, [], ◌∷◌, ◌++◌, refl, sym, ◌∙◌, ap, subst, arith}
-use Rattle.ax_token_reader.specs.Stopping.{Texts, Stops, IsNotFirst, Then}
-use Rattle.ax_token_reader.specs.declared.stopped.Stopped.{Stopped}
-use Rattle.ax_token_reader.proofs.Stops.{BeginsWith}
-use Rattle.ax_model.specs.Plain.{value_tree, values_tree}
-use Rattle.ax_model.specs.Shape.{FixedShape, EachShape}
-use Rattle.ax_model.specs.Tree.{FixedTree, ValueTree, ValuesTree, no_values, value_and}
-use Rattle.ax_model.specs.declared.value.Value.{Value}
+use Rattle.ax_tokens.specs.Stopping.{Texts, Stops, IsNotFirst, Then}
+use Rattle.ax_tokens.specs.declared.stopped.Stopped.{Stopped}
+use Rattle.ax_tokens.proofs.Stops.{BeginsWith}
+use Rattle.ax_format.specs.Plain.{value_tree, values_tree}
+use Rattle.ax_format.specs.Shape.{FixedShape, EachShape}
+use Rattle.ax_format.specs.Tree.{FixedTree, ValueTree, ValuesTree, no_values, value_and}
+use Rattle.ax_format.specs.declared.value.Value.{Value}
 use Rattle.ax_text.specs.Readable.{FixedReadable}
 use Rattle.ax_text.specs.ValueText.{closing, fixed_onto}
 use Rattle.ax_block_reader.specs.Continuing.{Continues, Spelled, IsRead}

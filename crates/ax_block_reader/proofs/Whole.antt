@@ -3,21 +3,21 @@ use Rattle.std.proofs.Common.{◌≡◌, ℕ, ◌+◌, ◌-◌, ◌<◌, ◌≤�
 use Rattle.std.specs.Prelude.{Option}
 use Rattle.std.proofs.lemmas.List.{take_at, length-map, append_cancel_left}
 use Rattle.ax_tokens.specs.PlainToken.{PlainToken}
-use Rattle.ax_token_reader.specs.FirstBad.{FirstBad}
-use Rattle.ax_token_reader.specs.Stopping.{Texts, StopsAt, texts_of}
-use Rattle.ax_token_reader.proofs.Bad.{stops_bad}
-use Rattle.ax_model.specs.Blocks.{BlockTree, read_block, opaque_block, Fits}
-use Rattle.ax_model.specs.CanonicalOctets.{framed, canon_over}
-use Rattle.ax_model.specs.Lengths.{capped}
-use Rattle.ax_model.specs.OfCode.{BlockFits, block_length}
-use Rattle.ax_model.specs.Plain.{spec_tree, records_tree, block_tree}
-use Rattle.ax_model.specs.Specification.{SpecTree, spec_of}
-use Rattle.ax_model.specs.Streams.{FitsOver}
-use Rattle.ax_model.specs.Tree.{EntriesTree}
-use Rattle.ax_model.specs.declared.record.Block.{Block}
-use Rattle.ax_model.specs.declared.record.Block.TheVariants as BlockOf
-use Rattle.ax_model.specs.declared.record.Record.{Record}
-use Rattle.ax_model.specs.declared.spec.Spec.{Spec}
+use Rattle.ax_tokens.specs.FirstBad.{FirstBad}
+use Rattle.ax_tokens.specs.Stopping.{Texts, StopsAt, texts_of}
+use Rattle.ax_tokens.proofs.Bad.{stops_bad}
+use Rattle.ax_format.specs.Blocks.{BlockTree, read_block, opaque_block, Fits}
+use Rattle.ax_format.specs.CanonicalOctets.{framed, canon_over}
+use Rattle.ax_format.specs.Lengths.{capped}
+use Rattle.ax_format.specs.OfCode.{BlockFits, block_length}
+use Rattle.ax_format.specs.Plain.{spec_tree, records_tree, block_tree}
+use Rattle.ax_format.specs.Specification.{SpecTree, spec_of}
+use Rattle.ax_format.specs.Streams.{FitsOver}
+use Rattle.ax_format.specs.Tree.{EntriesTree}
+use Rattle.ax_format.specs.declared.record.Block.{Block}
+use Rattle.ax_format.specs.declared.record.Block.TheVariants as BlockOf
+use Rattle.ax_format.specs.declared.record.Record.{Record}
+use Rattle.ax_format.specs.declared.spec.Spec.{Spec}
 use Rattle.ax_block_reader.specs.BlockTexts.{IsBlockOf, block_texts, IsBlockText, canonical_length, Spells}
 use Rattle.ax_block_reader.specs.Continuing.{Done, Continues, IsRead}
 use Rattle.ax_block_reader.proofs.Continuations.{no_text}

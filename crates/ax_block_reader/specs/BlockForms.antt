@@ -1,10 +1,10 @@
 -- The two forms of a block's text, and what stands after the first word of each.
 use Rattle.std.specs.Prelude.{◌≡◌, ℕ, ◌<◌, List, [], ◌∷◌, drop, codes, Option, Some, None}
-use Rattle.ax_token_reader.specs.Stopping.{Texts}
-use Rattle.ax_model.specs.Blocks.{BlockTree, read_block, opaque_block}
-use Rattle.ax_model.specs.Paths.{three_digits}
-use Rattle.ax_model.specs.Specification.{SpecTree, spec_of}
-use Rattle.ax_model.specs.Tree.{EntriesTree}
+use Rattle.ax_tokens.specs.Stopping.{Texts}
+use Rattle.ax_format.specs.Blocks.{BlockTree, read_block, opaque_block}
+use Rattle.ax_format.specs.Paths.{three_digits}
+use Rattle.ax_format.specs.Specification.{SpecTree, spec_of}
+use Rattle.ax_format.specs.Tree.{EntriesTree}
 use Rattle.ax_text.specs.ValueText.{hex_text}
 use Rattle.ax_block_reader.specs.BlockTexts.{IsBlockOf}
 use Rattle.ax_block_reader.specs.Records.{braced_records_texts}

@@ -1,13 +1,13 @@
 -- The language of block texts under a catalogue, and what is asked of a line's tokens.
 use Rattle.std.specs.Prelude.{◌≡◌, ℕ, ◌<◌, ◌≤◌, List, length}
-use Rattle.ax_model.specs.Sizes.{longest_block}
-use Rattle.ax_token_reader.specs.FirstBad.{FirstBad}
-use Rattle.ax_token_reader.specs.Stopping.{Texts, texts_of}
+use Rattle.ax_format.specs.Sizes.{longest_block}
+use Rattle.ax_tokens.specs.FirstBad.{FirstBad}
+use Rattle.ax_tokens.specs.Stopping.{Texts, texts_of}
 use Rattle.ax_tokens.specs.PlainToken.{PlainToken}
-use Rattle.ax_model.specs.Blocks.{BlockTree}
-use Rattle.ax_model.specs.CanonicalOctets.{canon_over, category_of}
-use Rattle.ax_model.specs.Lengths.{capped}
-use Rattle.ax_model.specs.Specification.{SpecTree, spec_of}
+use Rattle.ax_format.specs.Blocks.{BlockTree}
+use Rattle.ax_format.specs.CanonicalOctets.{canon_over, category_of}
+use Rattle.ax_format.specs.Lengths.{capped}
+use Rattle.ax_format.specs.Specification.{SpecTree, spec_of}
 use Rattle.ax_text.specs.Tokens.{TextOver, IsOfCatalogue}
 use Rattle.ax_block_reader.specs.Continuing.{Spelled}
 use Rattle.ax_block_reader.specs.declared.error.TextError.{TextError}

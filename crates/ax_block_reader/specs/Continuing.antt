@@ -1,7 +1,7 @@
 -- How the members of a language go on from texts that were read, and what a call of the reader gives.
 use Rattle.std.specs.Prelude.{◌≡◌, [], ◌∷◌, ◌++◌, Result, Ok, Err}
-use Rattle.ax_token_reader.specs.Stopping.{Texts, Stops}
-use Rattle.ax_token_reader.specs.declared.stopped.Stopped.{Stopped}
+use Rattle.ax_tokens.specs.Stopping.{Texts, Stops}
+use Rattle.ax_tokens.specs.declared.stopped.Stopped.{Stopped}
 
 -- the other texts begin with the same text as the first ones, or neither has a text
 abbrev pub BeginAlike : Texts → Texts → Type 0

@@ -1,11 +1,11 @@
 -- What a call for one slot of a compound or a record gives.
 use Rattle.std.specs.Prelude.{◌≡◌, [], ◌∷◌, ◌⊎◌, Option, Some, None, Result, Ok, Err}
-use Rattle.ax_token_reader.specs.Stopping.{Texts, Stops, IsNotFirst}
-use Rattle.ax_token_reader.specs.declared.stopped.Stopped.{Stopped}
-use Rattle.ax_model.specs.Characters.{IsName}
-use Rattle.ax_model.specs.Plain.{value_tree}
-use Rattle.ax_model.specs.Tree.{SlotTree, spare_slot, subitem, ValueTree}
-use Rattle.ax_model.specs.declared.value.Value.{Value}
+use Rattle.ax_tokens.specs.Stopping.{Texts, Stops, IsNotFirst}
+use Rattle.ax_tokens.specs.declared.stopped.Stopped.{Stopped}
+use Rattle.ax_format.specs.Characters.{IsName}
+use Rattle.ax_format.specs.Plain.{value_tree}
+use Rattle.ax_format.specs.Tree.{SlotTree, spare_slot, subitem, ValueTree}
+use Rattle.ax_format.specs.declared.value.Value.{Value}
 use Rattle.ax_text.specs.Slots.{SlotShape, slot_onto}
 use Rattle.ax_block_reader.specs.Continuing.{Spelled, IsRead}
 

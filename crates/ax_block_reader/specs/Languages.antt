@@ -3,11 +3,11 @@
 use Rattle.std.specs.Prelude.{◌≡◌, ℕ, ◌^◌, ◌<◌, List, [], ◌∷◌, length, drop, decimal, Result, Ok, Err}
 use Rattle.hex.specs.Hex.{encode_lower}
 use Rattle.ax_bits.specs.Bits.{AreOctets}
-use Rattle.ax_token_reader.specs.Stopping.{Texts, IsNotFirst}
-use Rattle.ax_token_reader.specs.declared.stopped.Stopped.{Stopped}
-use Rattle.ax_token_reader.specs.declared.stopped.Stopped.TheVariants.{Bad, OutOfMemory}
-use Rattle.ax_model.specs.Shape.{PartsShape, EachShape}
-use Rattle.ax_model.specs.Tree.{FixedTree, MemberTree, MembersTree, KindTree, SlotsTree, ValueTree, ValuesTree, value_count, ListsTree, no_lists, list_and, EntriesTree}
+use Rattle.ax_tokens.specs.Stopping.{Texts, IsNotFirst}
+use Rattle.ax_tokens.specs.declared.stopped.Stopped.{Stopped}
+use Rattle.ax_tokens.specs.declared.stopped.Stopped.TheVariants.{Bad, OutOfMemory}
+use Rattle.ax_format.specs.Shape.{PartsShape, EachShape}
+use Rattle.ax_format.specs.Tree.{FixedTree, MemberTree, MembersTree, KindTree, SlotsTree, ValueTree, ValuesTree, value_count, ListsTree, no_lists, list_and, EntriesTree}
 use Rattle.ax_text.specs.ValueText.{opening, closing, hex_text, fixed_onto, member_onto, members_onto, part_onto, parts_onto, each_onto, kind_onto, entries_onto}
 
 -- ---- single texts

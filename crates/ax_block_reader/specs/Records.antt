@@ -1,10 +1,10 @@
 -- The texts of records, as languages.
 use Rattle.std.specs.Prelude.{◌<◌, List, [], ◌∷◌, length}
 use Rattle.std.specs.List.{AllByRecursion}
-use Rattle.ax_token_reader.specs.Stopping.{Texts}
-use Rattle.ax_model.specs.Bodies.{RecordShape}
-use Rattle.ax_model.specs.Specification.{SpecTree, record_slots}
-use Rattle.ax_model.specs.Tree.{EntriesTree}
+use Rattle.ax_tokens.specs.Stopping.{Texts}
+use Rattle.ax_format.specs.Bodies.{RecordShape}
+use Rattle.ax_format.specs.Specification.{SpecTree, record_slots}
+use Rattle.ax_format.specs.Tree.{EntriesTree}
 use Rattle.ax_text.specs.BlockText.{record_onto, records_onto}
 use Rattle.ax_text.specs.ValueText.{opening, closing}
 use Rattle.ax_block_reader.specs.Languages.{entries_texts}

@@ -1,7 +1,7 @@
 //! Blocks.
 ghost use Rattle.std.specs.Prelude.{◌≡◌, ◌<◌, length, IfOk, IfErr, OnOk};
-ghost use Rattle.ax_model.specs.Plain.{catalogue_tree, block_tree};
-ghost use Rattle.ax_token_reader.specs.Stopping.{Stops};
+ghost use Rattle.ax_format.specs.Plain.{catalogue_tree, block_tree};
+ghost use Rattle.ax_tokens.specs.Stopping.{Stops};
 ghost use Rattle.ax_block_reader.specs.BlockForms.{HasKnown, HasLacked, ReadShape, OpaqueShape, after_block_word, after_opaque_word, IsForm};
 ghost use Rattle.ax_block_reader.specs.BlockTexts.{IsBlockOf, block_texts, IsBlockText};
 ghost use Rattle.ax_block_reader.specs.Continuing.{Gives};
@@ -9,8 +9,8 @@ ghost use Rattle.ax_block_reader.specs.Continuing.{Gives};
 use crate::categories::{known_category, lacked_category, next_category};
 use crate::octets::opaque_content;
 use crate::records::braced_records;
-use ax_model::Block;
-use ax_token_reader::{Reader, Stopped};
+use ax_format::Block;
+use ax_tokens::{Reader, Stopped};
 use ax_uap::CatalogueItems;
 use std::alloc::Global;
 

@@ -1,14 +1,14 @@
 //! Categories: as tokens, and which of them a catalogue has.
 ghost use Rattle.std.specs.Prelude.{◌≡◌, ◌+◌, ◌<◌, ◌⊎◌, ℕ, ◌∷◌, [], drop, IfOk, IfErr, MatchOption, Some, None};
-ghost use Rattle.ax_model.specs.Paths.{three_digits};
-ghost use Rattle.ax_model.specs.Plain.{catalogue_tree};
-ghost use Rattle.ax_model.specs.Specification.{SpecTree, spec_of};
-ghost use Rattle.ax_token_reader.specs.Stopping.{IsNotFirst};
-ghost use Rattle.ax_token_reader.specs.declared.stopped.Stopped.TheVariants.{Bad};
+ghost use Rattle.ax_format.specs.Paths.{three_digits};
+ghost use Rattle.ax_format.specs.Plain.{catalogue_tree};
+ghost use Rattle.ax_format.specs.Specification.{SpecTree, spec_of};
+ghost use Rattle.ax_tokens.specs.Stopping.{IsNotFirst};
+ghost use Rattle.ax_tokens.specs.declared.stopped.Stopped.TheVariants.{Bad};
 ghost use Rattle.ax_block_reader.specs.BlockForms.{IsCategoryText};
 
-use ax_model::{Spec, category_of_digits};
-use ax_token_reader::{Reader, Stopped};
+use ax_format::{Spec, category_of_digits};
+use ax_tokens::{Reader, Stopped};
 use ax_uap::CatalogueItems;
 
 /// The category that the text is, in three digits. None comes exactly where it is none.

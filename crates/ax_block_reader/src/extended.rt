@@ -1,7 +1,7 @@
 //! Values of extended and closed items, and of items that repeat by FX: lists of fixed kinds.
 ghost use Rattle.std.specs.Prelude.{◌≡◌, ◌<◌, ◌∷◌, length, map, OnOk};
-ghost use Rattle.ax_model.specs.Plain.{fixed_tree, members_tree, part_tree, value_tree, values_tree, lists_tree};
-ghost use Rattle.ax_model.specs.Shape.{FixedShape, MembersShape, PartsShape};
+ghost use Rattle.ax_format.specs.Plain.{fixed_tree, members_tree, part_tree, value_tree, values_tree, lists_tree};
+ghost use Rattle.ax_format.specs.Shape.{FixedShape, MembersShape, PartsShape};
 ghost use Rattle.std.specs.List.{AllByRecursion};
 ghost use Rattle.ax_text.specs.Readable.{FixedReadable, MembersReadable};
 ghost use Rattle.ax_text.specs.ValueText.{opening, fixed_onto};
@@ -9,8 +9,8 @@ ghost use Rattle.ax_block_reader.specs.Continuing.{Gives};
 ghost use Rattle.ax_block_reader.specs.Languages.{braced_texts, part_texts, parts_texts, each_texts, SomeOf};
 
 use crate::fixed::{fixed_value, member_values};
-use ax_model::{Fixed, Lists, Members, Part, Parts, Values};
-use ax_token_reader::{Reader, Stopped};
+use ax_format::{Fixed, Lists, Members, Part, Parts, Values};
+use ax_tokens::{Reader, Stopped};
 use std::alloc::Global;
 
 /// Members in braces.

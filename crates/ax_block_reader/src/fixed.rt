@@ -1,15 +1,15 @@
 //! Values of fixed kinds: elements, groups and their members.
 ghost use Rattle.std.specs.Prelude.{◌≡◌, ◌<◌, length, OnOk};
-ghost use Rattle.ax_model.specs.Plain.{fixed_tree, member_tree, members_tree, value_tree, values_tree};
-ghost use Rattle.ax_model.specs.Shape.{FixedShape, MembersShape};
+ghost use Rattle.ax_format.specs.Plain.{fixed_tree, member_tree, members_tree, value_tree, values_tree};
+ghost use Rattle.ax_format.specs.Shape.{FixedShape, MembersShape};
 ghost use Rattle.ax_text.specs.Readable.{FixedReadable, MemberReadable, MembersReadable};
 ghost use Rattle.ax_text.specs.Slots.{MemberShape};
 ghost use Rattle.ax_block_reader.specs.Continuing.{Gives};
 ghost use Rattle.ax_block_reader.specs.Languages.{fixed_texts, member_texts, members_texts};
 
 use crate::numbers::number;
-use ax_model::{Fixed, Member, Members, Value, Values};
-use ax_token_reader::{Reader, Stopped};
+use ax_format::{Fixed, Member, Members, Value, Values};
+use ax_tokens::{Reader, Stopped};
 use std::alloc::Global;
 
 /// A value of a fixed kind: a number, or members in braces.

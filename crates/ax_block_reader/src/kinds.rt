@@ -1,8 +1,8 @@
 //! Values of kinds.
 ghost use Rattle.std.specs.Prelude.{◌≡◌, ◌^◌, ◌<◌, ◌≤◌, length, OnOk};
-ghost use Rattle.ax_model.specs.Plain.{kind_tree, slot_tree, slots_tree, value_tree, values_tree, entries_tree};
-ghost use Rattle.ax_model.specs.Shape.{Shape, EntriesShape};
-ghost use Rattle.ax_model.specs.Widths.{counter_width};
+ghost use Rattle.ax_format.specs.Plain.{kind_tree, slot_tree, slots_tree, value_tree, values_tree, entries_tree};
+ghost use Rattle.ax_format.specs.Shape.{Shape, EntriesShape};
+ghost use Rattle.ax_format.specs.Widths.{counter_width};
 ghost use Rattle.ax_text.specs.Readable.{Readable, SlotReadable, SlotsReadable};
 ghost use Rattle.ax_text.specs.ValueText.{kind_onto};
 ghost use Rattle.ax_block_reader.specs.Continuing.{Gives};
@@ -12,8 +12,8 @@ ghost use Rattle.ax_block_reader.specs.Entries.{SlotNamed, GivesSlot};
 use crate::extended::{parts_present, run_values};
 use crate::fixed::fixed_value;
 use crate::octets::explicit_value;
-use ax_model::{Counter, Entries, Entry, Kind, Slot, Slots, Value, Values};
-use ax_token_reader::{Reader, Stopped};
+use ax_format::{Counter, Entries, Entry, Kind, Slot, Slots, Value, Values};
+use ax_tokens::{Reader, Stopped};
 use std::alloc::Global;
 
 /// A value of a kind.

@@ -11,7 +11,6 @@ mod error;
 mod extended;
 mod fixed;
 mod kinds;
-pub mod laws;
 mod numbers;
 mod octets;
 mod reading;

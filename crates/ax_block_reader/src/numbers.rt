@@ -1,10 +1,10 @@
 //! Numbers in decimal.
 ghost use Rattle.std.specs.Prelude.{◌≡◌, ◌↔◌, ◌+◌, ◌<◌, ◌≤◌, ◌^◌, ◌∷◌, ◌++◌, [], ℕ, length, decimal, IsTrue, MatchOption, IfOk, OnOk};
-ghost use Rattle.ax_token_reader.specs.Stopping.{Reads, One};
+ghost use Rattle.ax_tokens.specs.Stopping.{Reads, One};
 ghost use Rattle.ax_block_reader.specs.Languages.{IsNumberText, IsNoNumber};
 
-use ax_model::digit_of;
-use ax_token_reader::{Reader, Stopped};
+use ax_format::digit_of;
+use ax_tokens::{Reader, Stopped};
 use itoa::Buffer;
 
 /// The most digits of which each number fits 64 bits.

@@ -2,17 +2,17 @@
 ghost use Rattle.std.specs.Prelude.{◌≡◌, ◌↔◌, ◌<◌, ◌≤◌, ◌∷◌, ◌++◌, [], ℕ, List, length, drop, IsTrue, IfOk, IfErr, OnOk, MatchOption};
 ghost use Rattle.hex.specs.Hex.{encode_lower};
 ghost use Rattle.ax_bits.specs.Bits.{AreOctets};
-ghost use Rattle.ax_model.specs.Plain.{value_tree};
-ghost use Rattle.ax_model.specs.Shape.{Shape};
-ghost use Rattle.ax_model.specs.Tree.{explicit};
+ghost use Rattle.ax_format.specs.Plain.{value_tree};
+ghost use Rattle.ax_format.specs.Shape.{Shape};
+ghost use Rattle.ax_format.specs.Tree.{explicit};
 ghost use Rattle.ax_text.specs.ValueText.{hex_text};
 ghost use Rattle.ax_tokens.specs.Octets.{quote};
-ghost use Rattle.ax_token_reader.specs.declared.stopped.Stopped.TheVariants.{Bad, OutOfMemory};
+ghost use Rattle.ax_tokens.specs.declared.stopped.Stopped.TheVariants.{Bad, OutOfMemory};
 ghost use Rattle.ax_block_reader.specs.Continuing.{Gives};
 ghost use Rattle.ax_block_reader.specs.Languages.{kind_texts, IsNoDigits, IsNoHexText, IsContent, HexAt};
 
-use ax_model::{Octets, Value};
-use ax_token_reader::{Reader, Stopped};
+use ax_format::{Octets, Value};
+use ax_tokens::{Reader, Stopped};
 use hex::FromHexError;
 use std::alloc::{AllocError, Global};
 

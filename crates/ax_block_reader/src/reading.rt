@@ -1,16 +1,15 @@
 //! From a line's tokens to the block whose text they are.
 ghost use Rattle.std.specs.Prelude.{◌≡◌, IfOk, IfErr};
-ghost use Rattle.ax_model.specs.Lengths.{capped};
-ghost use Rattle.ax_model.specs.Plain.{catalogue_tree, block_tree};
+ghost use Rattle.ax_format.specs.Lengths.{capped};
+ghost use Rattle.ax_format.specs.Plain.{catalogue_tree, block_tree};
 ghost use Rattle.ax_block_reader.specs.BlockTexts.{IsBlockOf, canonical_length, Spells, IsTextOf, IsFault, IsBad};
 
 use crate::blocks::block;
 use crate::catalogue_items::items_of;
 use crate::error::TextError;
 use ax_check::Catalogue;
-use ax_model::Block;
-use ax_token_reader::{Reader, Stopped};
-use ax_tokens::Tokens;
+use ax_format::Block;
+use ax_tokens::{Reader, Stopped, Tokens};
 use ax_uap::CatalogueItems;
 use ax_values::length_over;
 use std::alloc::Global;

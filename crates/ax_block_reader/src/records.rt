@@ -1,12 +1,12 @@
 //! Records and lists of them.
 ghost use Rattle.std.specs.Prelude.{◌≡◌, ◌<◌, ◌≤◌, ◌∷◌, [], length, map, Some, IfOk, IfErr, OnOk, MatchOption};
-ghost use Rattle.ax_model.specs.Bodies.{RecordShape};
-ghost use Rattle.ax_model.specs.Lookup.{item_of_frn, item_of_slot};
-ghost use Rattle.ax_model.specs.Plain.{item_tree, kind_tree, spec_tree, entries_tree, record_tree, records_tree};
-ghost use Rattle.ax_model.specs.Shape.{EntriesShape};
-ghost use Rattle.ax_model.specs.Specification.{uap_slot, record_slots};
-ghost use Rattle.ax_model.specs.Tree.{subitem};
-ghost use Rattle.ax_token_reader.specs.declared.stopped.Stopped.TheVariants.{Bad};
+ghost use Rattle.ax_format.specs.Bodies.{RecordShape};
+ghost use Rattle.ax_format.specs.Lookup.{item_of_frn, item_of_slot};
+ghost use Rattle.ax_format.specs.Plain.{item_tree, kind_tree, spec_tree, entries_tree, record_tree, records_tree};
+ghost use Rattle.ax_format.specs.Shape.{EntriesShape};
+ghost use Rattle.ax_format.specs.Specification.{uap_slot, record_slots};
+ghost use Rattle.ax_format.specs.Tree.{subitem};
+ghost use Rattle.ax_tokens.specs.declared.stopped.Stopped.TheVariants.{Bad};
 ghost use Rattle.ax_text.specs.Readable.{SlotReadable, SlotsReadable};
 ghost use Rattle.ax_block_reader.specs.Continuing.{Gives};
 ghost use Rattle.ax_block_reader.specs.Entries.{SlotNamed, IsNotNamed, GivesSlot};
@@ -14,8 +14,8 @@ ghost use Rattle.ax_block_reader.specs.Languages.{entries_texts};
 ghost use Rattle.ax_block_reader.specs.Records.{braced_entries_texts, record_texts, SomeRecords, records_texts, braced_records_texts};
 
 use crate::kinds::kind_value;
-use ax_model::{Entries, Entry, Item, Record, Records, UapSlot, Value};
-use ax_token_reader::{Reader, Stopped};
+use ax_format::{Entries, Entry, Item, Record, Records, UapSlot, Value};
+use ax_tokens::{Reader, Stopped};
 use ax_uap::UapItems;
 use std::alloc::Global;
 

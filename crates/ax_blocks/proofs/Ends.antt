@@ -7,11 +7,11 @@ use Rattle.ax_blocks.specs.declared.next_error.NextError.TheVariants.{InputTooLo
 use Rattle.ax_blocks.specs.Reader.{ReaderState, IsOpen, IsAfter, GivesBlock, FindsEnd, StopsUnfinished, HoldsBlock, OnEnd, OnReadFault}
 use Rattle.ax_bits.specs.Bits.{AreOctets}
 use Rattle.ax_blocks.specs.Taking.{Took, PartTaken, PartPastRoom, PartCut, PartMeans}
-use Rattle.ax_model.specs.Blocks.{IsFramed}
-use Rattle.ax_model.specs.Framing.{RawTree, input_too_long, ends_in_block, len_of, block, end}
-use Rattle.ax_model.proofs.Framings.{just_next}
+use Rattle.ax_format.specs.Blocks.{IsFramed}
+use Rattle.ax_format.specs.Framing.{RawTree, input_too_long, ends_in_block, len_of, block, end}
+use Rattle.ax_format.proofs.Framings.{just_next}
 use Rattle.ax_blocks.specs.declared.reader.Ended.{Ended}
-use Rattle.ax_model.specs.declared.record.RawBlock.{RawBlock}
+use Rattle.ax_format.specs.declared.record.RawBlock.{RawBlock}
 use Rattle.ax_outside.specs.Told.{with_front, IsAtEnd}
 use Rattle.ax_outside.proofs.Ends.{with_front-append}
 

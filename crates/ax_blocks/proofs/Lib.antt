@@ -1,2 +1,14 @@
-pub mod Parts
+pub mod AnswersOnce
+pub mod BlockSteps
+pub mod Completes
 pub mod Ends
+pub mod FrontBlocks
+pub mod MadeBlocks
+pub mod OpaqueBlocks
+pub mod Parts
+pub mod Prefixes
+pub mod Results
+pub mod Runs
+pub mod Streams
+pub mod Taken
+pub mod TakenBlocks

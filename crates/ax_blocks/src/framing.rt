@@ -2,13 +2,13 @@
 ghost use Rattle.std.specs.Prelude.{◌≡◌, ◌+◌, ◌≤◌, ◌<◌, length, take, IfOk, OnErr};
 ghost use Rattle.ax_blocks.specs.Reader.{OnBlock, OnEnd, OnReadFault, FindsEnd, StopsUnfinished, HoldsBlock};
 ghost use Rattle.ax_blocks.specs.Taking.{PartMeans, OnPartFault, UnlessReadFault};
-ghost use Rattle.ax_model.specs.Blocks.{IsFramed};
-ghost use Rattle.ax_model.specs.Framing.{len_of};
-ghost use Rattle.ax_model.specs.Sizes.{longest_block};
+ghost use Rattle.ax_format.specs.Blocks.{IsFramed};
+ghost use Rattle.ax_format.specs.Framing.{len_of};
+ghost use Rattle.ax_format.specs.Sizes.{longest_block};
 ghost use Rattle.ax_outside.specs.Told.{Rose};
 
 use crate::next_error::NextError;
-use ax_model::RawBlock;
+use ax_format::RawBlock;
 use ax_outside::{Source, fill};
 
 /// The octets of CAT and LEN.

@@ -1,11 +1,11 @@
 //! The block reader.
 ghost use Rattle.std.specs.Prelude.{◌≡◌, IfOk, length};
-ghost use Rattle.ax_model.specs.Sizes.{longest_block};
+ghost use Rattle.ax_format.specs.Sizes.{longest_block};
 
 use crate::framing::{next_length, raw_block};
 use crate::next_error::NextError;
+use ax_format::RawBlock;
 use ax_lists::zeros;
-use ax_model::RawBlock;
 use ax_outside::Source;
 use std::alloc::{AllocError, Global};
 use std::marker::Model;
@@ -29,7 +29,7 @@ pub struct BlockReader {
 impl Model for BlockReader {
     ghost use Rattle.std.specs.Prelude.{◌≡◌, ◌≤◌, length};
     ghost use Rattle.ax_blocks.specs.Reader.{ReaderState};
-    ghost use Rattle.ax_model.specs.Sizes.{longest_block};
+    ghost use Rattle.ax_format.specs.Sizes.{longest_block};
 
     ghost Value = { ReaderState };
 

@@ -5,8 +5,8 @@ use Rattle.ax_build_work.specs.Stops.{stop_of_lexing, NotBuilt, StopsLine}
 use Rattle.ax_build_work.specs.declared.fault.BuildStop.{BuildStop}
 use Rattle.ax_build_work.specs.declared.fault.BuildStop.TheVariants as Stop
 use Rattle.ax_build_work.specs.declared.fault.TextFault.{TextFault}
-use Rattle.ax_line_stream.specs.Commands.{LineAnswer, gives, nothing, refused}
-use Rattle.ax_model.specs.Specification.{SpecTree}
+use Rattle.ax_lines.specs.Commands.{LineAnswer, gives, nothing, refused}
+use Rattle.ax_format.specs.Specification.{SpecTree}
 use Rattle.ax_tokens.specs.Faults.{IsFault}
 use Rattle.ax_tokens.specs.Lexing.{AreTokensOf}
 use Rattle.ax_tokens.specs.PlainToken.{PlainToken}

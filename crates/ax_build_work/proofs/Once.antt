@@ -6,17 +6,17 @@ use Rattle.ax_block_reader.specs.BlockTexts.{IsBlockOf, IsBlockText, canonical_l
 use Rattle.ax_build_work.specs.BuildCommand.{deepest, IsBuiltOf, IsRefusedFor, AnswersSome, AnswersTokens, AnswersLine, by_tokens, by_octet, by_brace, build_command}
 use Rattle.ax_build_work.specs.declared.fault.TextFault.{TextFault}
 use Rattle.ax_build_work.specs.declared.fault.TextFault.TheVariants.{LineTooLong, BadByte, TooDeep, BadToken, TooLong}
-use Rattle.ax_line_stream.specs.Commands.{LineAnswer, gives, nothing, refused, HasOneAnswer}
-use Rattle.ax_model.specs.Blocks.{BlockTree, read_block, opaque_block}
-use Rattle.ax_model.specs.CanonicalOctets.{canon_block, canon_over, category_of}
-use Rattle.ax_model.specs.Flaws.{NoFlaw}
-use Rattle.ax_model.specs.Lengths.{capped}
-use Rattle.ax_model.specs.Specification.{SpecTree, spec_of}
+use Rattle.ax_lines.specs.Commands.{LineAnswer, gives, nothing, refused, HasOneAnswer}
+use Rattle.ax_format.specs.Blocks.{BlockTree, read_block, opaque_block}
+use Rattle.ax_format.specs.CanonicalOctets.{canon_block, canon_over, category_of}
+use Rattle.ax_format.specs.Flaws.{NoFlaw}
+use Rattle.ax_format.specs.Lengths.{capped}
+use Rattle.ax_format.specs.Specification.{SpecTree, spec_of}
 use Rattle.ax_text.proofs.BlocksOnce.{same_block}
 use Rattle.ax_text.specs.Names.{IsNamed}
 use Rattle.ax_text.specs.Tokens.{BlockTokens}
-use Rattle.ax_token_reader.proofs.Bad.{first_bad_once}
-use Rattle.ax_token_reader.specs.Stopping.{texts_of}
+use Rattle.ax_tokens.proofs.Bad.{first_bad_once}
+use Rattle.ax_tokens.specs.Stopping.{texts_of}
 use Rattle.ax_tokens.proofs.Once.{tokens_once, no_bad_byte, none_too_deep, bad_byte_once, too_deep_once, one_kind}
 use Rattle.ax_tokens.specs.Lexing.{AreTokensOf}
 use Rattle.ax_tokens.specs.PlainToken.{PlainToken}

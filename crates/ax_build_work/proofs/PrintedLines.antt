@@ -4,13 +4,13 @@ use Rattle.ax_bits.specs.Bits.{bits, AreOctets}
 use Rattle.ax_block_reader.proofs.Once.{printed_texts}
 use Rattle.ax_block_reader.specs.BlockTexts.{IsBlockOf, canonical_length}
 use Rattle.ax_build_work.specs.BuildCommand.{AnswersLine, by_tokens, deepest}
-use Rattle.ax_line_stream.specs.Commands.{gives}
-use Rattle.ax_model.proofs.CanonFramed.{length-framed}
-use Rattle.ax_model.specs.Blocks.{BlockTree, read_block, opaque_block}
-use Rattle.ax_model.specs.CanonicalOctets.{canon_block, canon_over, category_of, framed}
-use Rattle.ax_model.specs.Specification.{SpecTree, spec_of}
+use Rattle.ax_lines.specs.Commands.{gives}
+use Rattle.ax_format.proofs.CanonFramed.{length-framed}
+use Rattle.ax_format.specs.Blocks.{BlockTree, read_block, opaque_block}
+use Rattle.ax_format.specs.CanonicalOctets.{canon_block, canon_over, category_of, framed}
+use Rattle.ax_format.specs.Specification.{SpecTree, spec_of}
 use Rattle.ax_text.specs.BlockText.{BlockText}
-use Rattle.ax_token_reader.specs.Stopping.{texts_of}
+use Rattle.ax_tokens.specs.Stopping.{texts_of}
 use Rattle.ax_tokens.specs.Lexing.{AreTokensOf}
 use Rattle.ax_tokens.specs.PlainToken.{PlainToken}
 use Rattle.ax_printed_lines.specs.Laid.{laid}

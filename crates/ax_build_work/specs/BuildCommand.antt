@@ -3,12 +3,12 @@ use Rattle.std.specs.Prelude.{◌≡◌, ℕ, List, [], ◌∷◌}
 use Rattle.ax_block_reader.specs.BlockTexts.{IsBlockText, IsTextOf, IsLongText}
 use Rattle.ax_build_work.specs.declared.fault.TextFault.{TextFault}
 use Rattle.ax_build_work.specs.declared.fault.TextFault.TheVariants.{LineTooLong, BadByte, TooDeep, BadToken, TooLong}
-use Rattle.ax_line_stream.specs.Commands.{LineAnswer, gives, nothing, refused, LineCommand}
-use Rattle.ax_model.specs.Blocks.{BlockTree}
-use Rattle.ax_model.specs.CanonicalOctets.{canon_over, category_of}
-use Rattle.ax_model.specs.Specification.{SpecTree, spec_of}
-use Rattle.ax_token_reader.specs.FirstBad.{FirstBad}
-use Rattle.ax_token_reader.specs.Stopping.{texts_of}
+use Rattle.ax_lines.specs.Commands.{LineAnswer, gives, nothing, refused, LineCommand}
+use Rattle.ax_format.specs.Blocks.{BlockTree}
+use Rattle.ax_format.specs.CanonicalOctets.{canon_over, category_of}
+use Rattle.ax_format.specs.Specification.{SpecTree, spec_of}
+use Rattle.ax_tokens.specs.FirstBad.{FirstBad}
+use Rattle.ax_tokens.specs.Stopping.{texts_of}
 use Rattle.ax_tokens.specs.Faults.{HasBadByte, IsTooDeep}
 use Rattle.ax_tokens.specs.Lexing.{AreTokensOf}
 use Rattle.ax_tokens.specs.PlainToken.{PlainToken}

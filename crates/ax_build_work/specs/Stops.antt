@@ -6,8 +6,8 @@ use Rattle.ax_build_work.specs.declared.fault.BuildStop.TheVariants.{Refused, Ou
 use Rattle.ax_build_work.specs.declared.fault.TextFault.TheVariants.{BadByte, TooDeep, BadToken, TooLong}
 use Rattle.ax_block_reader.specs.declared.error.TextError.{TextError}
 use Rattle.ax_block_reader.specs.declared.error.TextError.TheVariants as TextErrorOf
-use Rattle.ax_line_stream.specs.Commands.{refused}
-use Rattle.ax_model.specs.Specification.{SpecTree}
+use Rattle.ax_lines.specs.Commands.{refused}
+use Rattle.ax_format.specs.Specification.{SpecTree}
 use Rattle.ax_tokens.specs.PlainToken.{PlainToken}
 use Rattle.ax_tokens.specs.declared.token.LexError.{LexError}
 use Rattle.ax_tokens.specs.declared.token.LexError.TheVariants as LexErrorOf

@@ -3,18 +3,18 @@ ghost use Rattle.std.specs.Prelude.{◌≡◌, ◌≤◌, ◌^◌, length, IfOk,
 ghost use Rattle.ax_block_reader.specs.BlockTexts.{IsBlockOf, canonical_length};
 ghost use Rattle.ax_build_work.specs.BuildCommand.{IsBuiltOf, AnswersLine};
 ghost use Rattle.ax_build_work.specs.Stops.{NotBuilt, StopsLine};
-ghost use Rattle.ax_line_stream.specs.Commands.{gives, nothing};
-ghost use Rattle.ax_line_stream.specs.Ending.{longest_line};
-ghost use Rattle.ax_model.specs.CanonicalOctets.{canon_over, category_of};
-ghost use Rattle.ax_model.specs.Plain.{catalogue_tree, block_tree};
-ghost use Rattle.ax_model.specs.Sizes.{longest_block};
-ghost use Rattle.ax_model.specs.Specification.{spec_of};
+ghost use Rattle.ax_lines.specs.Commands.{gives, nothing};
+ghost use Rattle.ax_lines.specs.Ending.{longest_line};
+ghost use Rattle.ax_format.specs.CanonicalOctets.{canon_over, category_of};
+ghost use Rattle.ax_format.specs.Plain.{catalogue_tree, block_tree};
+ghost use Rattle.ax_format.specs.Sizes.{longest_block};
+ghost use Rattle.ax_format.specs.Specification.{spec_of};
 
 use crate::fault::BuildStop;
 use crate::opaque::opaque_block;
 use crate::printed::printed_octets;
 use ax_block_reader::read_block_over;
-use ax_model::Block;
+use ax_format::Block;
 use ax_tokens::{Tokens, tokens};
 use ax_uap::CatalogueItems;
 use ax_values::encode_of_length;

@@ -3,11 +3,9 @@
 
 mod building;
 mod fault;
-mod laws;
 mod opaque;
 mod printed;
 mod work;
 
 pub use fault::TextFault;
-pub use laws::{one_answer, printed_lines_are_built};
 pub use work::build_lines;

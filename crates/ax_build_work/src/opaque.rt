@@ -1,8 +1,8 @@
 //! The octets of an opaque block.
 ghost use Rattle.std.specs.Prelude.{◌≡◌, ◌+◌, ◌≤◌, length, IfOk};
 ghost use Rattle.ax_bits.specs.Bits.{bits, AreOctets};
-ghost use Rattle.ax_model.specs.CanonicalOctets.{framed};
-ghost use Rattle.ax_model.specs.Sizes.{longest_body};
+ghost use Rattle.ax_format.specs.CanonicalOctets.{framed};
+ghost use Rattle.ax_format.specs.Sizes.{longest_body};
 
 use ax_bits::Out;
 use ax_lists::zeros;

@@ -1,8 +1,8 @@
 //! Lines without comments, read straight to octets.
 ghost use Rattle.std.specs.Prelude.{IfOk, IfSome};
 ghost use Rattle.ax_build_work.specs.BuildCommand.{AnswersLine};
-ghost use Rattle.ax_line_stream.specs.Commands.{gives};
-ghost use Rattle.ax_model.specs.Plain.{catalogue_tree};
+ghost use Rattle.ax_lines.specs.Commands.{gives};
+ghost use Rattle.ax_format.specs.Plain.{catalogue_tree};
 
 use crate::opaque::opaque_block;
 use ax_printed_lines::{Laid, printed_body, whole_octets};

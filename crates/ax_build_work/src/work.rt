@@ -1,17 +1,17 @@
 //! The command `build` over an input.
 ghost use Rattle.std.specs.Prelude.{◌≤◌, ◌^◌, length};
 ghost use Rattle.ax_build_work.specs.BuildCommand.{build_command};
-ghost use Rattle.ax_line_stream.specs.Completing.{Completes};
-ghost use Rattle.ax_line_stream.specs.Ending.{longest_input, longest_line};
-ghost use Rattle.ax_line_stream.specs.Runs.{LinesRun};
-ghost use Rattle.ax_model.specs.Plain.{catalogue_tree};
+ghost use Rattle.ax_lines.specs.Completing.{Completes};
+ghost use Rattle.ax_lines.specs.Ending.{longest_input, longest_line};
+ghost use Rattle.ax_lines.specs.Runs.{LinesRun};
+ghost use Rattle.ax_format.specs.Plain.{catalogue_tree};
 ghost use Rattle.ax_outside.specs.Changes.{sink_change, source_change};
 
 use crate::building::line_octets;
 use crate::fault::{BuildStop, TextFault};
 use ax_block_reader::items_of;
 use ax_check::Catalogue;
-use ax_line_stream::{LineStop, LineWork, LinesEnd, run_lines};
+use ax_lines::{LineStop, LineWork, LinesEnd, run_lines};
 use ax_lists::zeros;
 use ax_outside::{Sink, Source};
 use ax_uap::CatalogueItems;

@@ -9,22 +9,22 @@ use Rattle.ax_bits.specs.declared.output.Out.{Out}
 use Rattle.ax_canon.proofs.Fronting.{some_more}
 use Rattle.ax_canon.specs.Blocks.{IsCanonicalBody}
 use Rattle.ax_canon.specs.Rewriting.{Rewrites}
-use Rattle.ax_model.proofs.BodyReader.{record_some}
-use Rattle.ax_model.proofs.Bounds.{record_bounds}
-use Rattle.ax_model.proofs.Once.{body_once, body_never_both}
-use Rattle.ax_model.specs.Bodies.{RecordsSpell, SpellsBody, FailsBody, CanonBody}
-use Rattle.ax_model.specs.Canonical.{canon}
-use Rattle.ax_model.specs.Flaws.{NoFlaw}
-use Rattle.ax_model.specs.InBounds.{InBounds}
-use Rattle.ax_model.specs.Specification.{SpecTree, record_kind, record_slots}
-use Rattle.ax_model.specs.Tree.{EntriesTree, ValueTree, marked}
-use Rattle.ax_model.specs.declared.fault.BodyFault.{BodyFault}
-use Rattle.ax_tables.proofs.BareKinds.{bare_canon, bare_read, stands_record}
-use Rattle.ax_tables.specs.Standing.{StandsFor}
-use Rattle.ax_tables.specs.Table.{record_kind_at}
-use Rattle.ax_tables.specs.declared.codec.Codec.{Codec}
-use Rattle.ax_reader.proofs.Exact.{spelled_at, fault_at}
-use Rattle.ax_reader.specs.Reading.{Gets, FailsAt, kind_read}
+use Rattle.ax_format.proofs.BodyReader.{record_some}
+use Rattle.ax_format.proofs.Bounds.{record_bounds}
+use Rattle.ax_format.proofs.Once.{body_once, body_never_both}
+use Rattle.ax_format.specs.Bodies.{RecordsSpell, SpellsBody, FailsBody, CanonBody}
+use Rattle.ax_format.specs.Canonical.{canon}
+use Rattle.ax_format.specs.Flaws.{NoFlaw}
+use Rattle.ax_format.specs.InBounds.{InBounds}
+use Rattle.ax_format.specs.Specification.{SpecTree, record_kind, record_slots}
+use Rattle.ax_format.specs.Tree.{EntriesTree, ValueTree, marked}
+use Rattle.ax_format.specs.declared.fault.BodyFault.{BodyFault}
+use Rattle.ax_codec.proofs.BareKinds.{bare_canon, bare_read, stands_record}
+use Rattle.ax_codec.specs.Standing.{StandsFor}
+use Rattle.ax_codec.specs.Table.{record_kind_at}
+use Rattle.ax_codec.specs.declared.codec.Codec.{Codec}
+use Rattle.ax_fspec.proofs.Exact.{spelled_at, fault_at}
+use Rattle.ax_fspec.specs.Reading.{Gets, FailsAt, kind_read}
 use Rattle.ax_view.proofs.BodySteps.{fails_of, one_more, canon_more, record_value, some_records, record_forwards}
 
 pub gets_of : (codec : Codec) (spec : SpecTree) (body : List ℕ) (at end : ℕ) (v : ValueTree) → StandsFor codec spec → Gets (kind_read (record_kind_at codec.nodes codec.slots) body at) body at end v → Gets (kind_read (record_kind spec) body at) body at end v

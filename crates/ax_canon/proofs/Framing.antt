@@ -6,11 +6,11 @@ use Rattle.ax_bits.specs.Bits.{bits, word, AreBits}
 use Rattle.ax_bits.specs.Out.{Appends}
 use Rattle.ax_bits.specs.declared.output.Out.{Out}
 use Rattle.ax_canon.specs.Blocks.{IsCanonical}
-use Rattle.ax_model.proofs.CanonFramed.{bits-octets_of, length-framed}
-use Rattle.ax_model.specs.Blocks.{read_block}
-use Rattle.ax_model.specs.Bodies.{CanonBody}
-use Rattle.ax_model.specs.CanonicalOctets.{canon_block, octets_of, framed}
-use Rattle.ax_tables.specs.declared.codec.Codec.{Codec}
+use Rattle.ax_format.proofs.CanonFramed.{bits-octets_of, length-framed}
+use Rattle.ax_format.specs.Blocks.{read_block}
+use Rattle.ax_format.specs.Bodies.{CanonBody}
+use Rattle.ax_format.specs.CanonicalOctets.{canon_block, octets_of, framed}
+use Rattle.ax_codec.specs.declared.codec.Codec.{Codec}
 use Rattle.ax_view.specs.Views.{IsLeast}
 
 pub octets_long : (m : ℕ) (b : List ℕ) → length b ≡ 8 * m → AreBits b → length (octets_of b) ≡ m

@@ -7,17 +7,17 @@ use Rattle.ax_bits.specs.declared.output.Out.{Out}
 use Rattle.ax_canon.specs.Rewriting.{Rewrites, Fronts, Writes}
 use Rattle.ax_fspec.proofs.Walks.{no_next_slot}
 use Rattle.ax_fspec.specs.Marks as Marks
-use Rattle.ax_model.specs.Reader.{Read, got, both, read, each_read, entries_read}
-use Rattle.ax_model.specs.Canonical.{canon, each_canon}
-use Rattle.ax_model.specs.Presence.{NoneUndefined}
-use Rattle.ax_model.specs.Tree.{KindTree, ValueTree, counted, no_values, value_and, no_entries, entry_and, SlotTree, slots_of, defined_slots}
-use Rattle.ax_model.specs.declared.fault.BodyFault.{BodyFault}
-use Rattle.ax_model.specs.declared.kind.Counter.{Counter}
-use Rattle.ax_tables.specs.Meaning.{meanings, linked_slots}
-use Rattle.ax_tables.specs.Table.{kind_at}
-use Rattle.ax_tables.specs.declared.node.Node.{Node}
-use Rattle.ax_reader.proofs.Continuing.{gets_after, fails_after}
-use Rattle.ax_reader.specs.Reading.{Gets, FailsAt, Continues, kind_read, entries_at}
+use Rattle.ax_format.specs.Reader.{Read, got, both, read, each_read, entries_read}
+use Rattle.ax_format.specs.Canonical.{canon, each_canon}
+use Rattle.ax_format.specs.Presence.{NoneUndefined}
+use Rattle.ax_format.specs.Tree.{KindTree, ValueTree, counted, no_values, value_and, no_entries, entry_and, SlotTree, slots_of, defined_slots}
+use Rattle.ax_format.specs.declared.fault.BodyFault.{BodyFault}
+use Rattle.ax_format.specs.declared.kind.Counter.{Counter}
+use Rattle.ax_codec.specs.Meaning.{meanings, linked_slots}
+use Rattle.ax_codec.specs.Table.{kind_at}
+use Rattle.ax_codec.specs.declared.node.Node.{Node}
+use Rattle.ax_fspec.proofs.Continuing.{gets_after, fails_after}
+use Rattle.ax_fspec.specs.Reading.{Gets, FailsAt, Continues, kind_read, entries_at}
 use Rattle.ax_view.proofs.MarkedSteps.{NextMarked, no_entries_left, along_none}
 use Rattle.ax_view.specs.Walking.{along}
 

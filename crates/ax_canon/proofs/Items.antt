@@ -5,17 +5,17 @@ use Rattle.ax_bits.specs.Out.{Appends}
 use Rattle.ax_bits.specs.declared.output.Out.{Out}
 use Rattle.ax_canon.specs.Rewriting.{Rewrites}
 use Rattle.ax_fspec.specs.declared.mask.SlotMask.{SlotMask}
-use Rattle.ax_model.specs.Canonical.{canon}
-use Rattle.ax_model.specs.InBounds.{InBounds}
-use Rattle.ax_model.specs.Reader.{read}
-use Rattle.ax_model.specs.declared.kind.Counter.{Counter}
-use Rattle.ax_model.specs.Tree.{KindTree, counted, ValueTree}
-use Rattle.ax_model.specs.declared.fault.BodyFault.{BodyFault}
-use Rattle.ax_reader.specs.Reading.{Gets, FailsAt, IsMaskOf, kind_read}
-use Rattle.ax_tables.specs.Meaning.{meanings, linked_slots}
-use Rattle.ax_tables.specs.Table.{SlotLinksWithin, kind_at, record_kind_at}
-use Rattle.ax_tables.specs.declared.node.Node.{Node}
-use Rattle.ax_tables.specs.declared.node.Node.TheVariants as Of
+use Rattle.ax_format.specs.Canonical.{canon}
+use Rattle.ax_format.specs.InBounds.{InBounds}
+use Rattle.ax_format.specs.Reader.{read}
+use Rattle.ax_format.specs.declared.kind.Counter.{Counter}
+use Rattle.ax_format.specs.Tree.{KindTree, counted, ValueTree}
+use Rattle.ax_format.specs.declared.fault.BodyFault.{BodyFault}
+use Rattle.ax_fspec.specs.Reading.{Gets, FailsAt, IsMaskOf, kind_read}
+use Rattle.ax_codec.specs.Meaning.{meanings, linked_slots}
+use Rattle.ax_codec.specs.Table.{SlotLinksWithin, kind_at, record_kind_at}
+use Rattle.ax_codec.specs.declared.node.Node.{Node}
+use Rattle.ax_codec.specs.declared.node.Node.TheVariants as Of
 use Rattle.ax_view.proofs.NodeKinds.{is_element, is_group, is_part, is_extended, is_counted, counted_link, is_by_fx, is_explicit, is_compound, compound_links, compound_mask}
 use Rattle.ax_view.specs.Plain.{IsPlain}
 use Rattle.ax_view.proofs.Spelled.{leaf_canonical}

@@ -12,24 +12,24 @@ use Rattle.ax_canon.proofs.Patching.{IsBlock, block_of}
 use Rattle.ax_canon.specs.Blocks.{IsCanonical}
 use Rattle.ax_canon.specs.Kept.{Says, Keeps, KeepsOf, kept_octets, IsCanonicalIf, StartsRecord, at_front, after_one, are_some, front_if, block_if, room_for, KeptWritten, IsKeptBody, HasLength}
 use Rattle.ax_canon.specs.Rewriting.{Rewrites}
-use Rattle.ax_model.proofs.Bounds.{record_bounds}
-use Rattle.ax_model.proofs.CanonSpells.{canon_shortest}
-use Rattle.ax_model.proofs.Once.{body_once, body_never_both}
-use Rattle.ax_model.proofs.RecordLaws.{record_shape}
-use Rattle.ax_model.specs.Blocks.{read_block}
-use Rattle.ax_model.specs.CanonicalOctets.{canon_block}
-use Rattle.ax_model.specs.Bodies.{RecordsSpell, RecordShape, SpellsRecord, SpellsBody, CanonBody}
-use Rattle.ax_model.specs.Canonical.{canon}
-use Rattle.ax_model.specs.Flaws.{NoFlaw}
-use Rattle.ax_model.specs.Specification.{SpecTree, record_kind, record_slots}
-use Rattle.ax_model.specs.Tree.{EntriesTree, ValueTree, marked}
-use Rattle.ax_model.specs.declared.fault.BodyFault.{BodyFault}
-use Rattle.ax_tables.proofs.BareKinds.{bare_canon, stands_record}
-use Rattle.ax_tables.specs.Standing.{StandsFor}
-use Rattle.ax_tables.specs.Table.{record_kind_at}
-use Rattle.ax_tables.specs.declared.codec.Codec.{Codec}
-use Rattle.ax_reader.proofs.Exact.{spelled_at, fault_at}
-use Rattle.ax_reader.specs.Reading.{Gets, FailsAt, kind_read}
+use Rattle.ax_format.proofs.Bounds.{record_bounds}
+use Rattle.ax_format.proofs.CanonSpells.{canon_shortest}
+use Rattle.ax_format.proofs.Once.{body_once, body_never_both}
+use Rattle.ax_format.proofs.RecordLaws.{record_shape}
+use Rattle.ax_format.specs.Blocks.{read_block}
+use Rattle.ax_format.specs.CanonicalOctets.{canon_block}
+use Rattle.ax_format.specs.Bodies.{RecordsSpell, RecordShape, SpellsRecord, SpellsBody, CanonBody}
+use Rattle.ax_format.specs.Canonical.{canon}
+use Rattle.ax_format.specs.Flaws.{NoFlaw}
+use Rattle.ax_format.specs.Specification.{SpecTree, record_kind, record_slots}
+use Rattle.ax_format.specs.Tree.{EntriesTree, ValueTree, marked}
+use Rattle.ax_format.specs.declared.fault.BodyFault.{BodyFault}
+use Rattle.ax_codec.proofs.BareKinds.{bare_canon, stands_record}
+use Rattle.ax_codec.specs.Standing.{StandsFor}
+use Rattle.ax_codec.specs.Table.{record_kind_at}
+use Rattle.ax_codec.specs.declared.codec.Codec.{Codec}
+use Rattle.ax_fspec.proofs.Exact.{spelled_at, fault_at}
+use Rattle.ax_fspec.specs.Reading.{Gets, FailsAt, kind_read}
 use Rattle.ax_view.proofs.BodySteps.{fails_of, one_more, canon_more, record_value, some_records, record_forwards}
 use Rattle.ax_view.proofs.Found.{read_all}
 use Rattle.ax_view.proofs.Spelled.{value_spelled}

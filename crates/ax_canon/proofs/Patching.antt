@@ -10,21 +10,21 @@ use Rattle.ax_bits.specs.declared.output.Out.{Out}
 use Rattle.ax_canon.proofs.Framing.{framed_bits, octets_long}
 use Rattle.ax_canon.specs.Blocks.{IsCanonical, IsCanonicalBody}
 use Rattle.ax_canon.specs.Kept.{HasLength}
-use Rattle.ax_model.proofs.Bounds.{record_bounds, bounds_whole}
-use Rattle.ax_model.proofs.CanonFramed.{length-framed}
-use Rattle.ax_model.proofs.RecordLaws.{record_shape, flawless_body_canon_spells}
-use Rattle.ax_model.proofs.SpelledBits.{records_bits}
-use Rattle.ax_model.proofs.WholeOctets.{two_whole, spells_whole}
-use Rattle.ax_model.specs.Blocks.{read_block}
-use Rattle.ax_model.specs.Bodies.{SpellsBody, RecordsSpell, RecordShape, CanonBody}
+use Rattle.ax_format.proofs.Bounds.{record_bounds, bounds_whole}
+use Rattle.ax_format.proofs.CanonFramed.{length-framed}
+use Rattle.ax_format.proofs.RecordLaws.{record_shape, flawless_body_canon_spells}
+use Rattle.ax_format.proofs.SpelledBits.{records_bits}
+use Rattle.ax_format.proofs.WholeOctets.{two_whole, spells_whole}
+use Rattle.ax_format.specs.Blocks.{read_block}
+use Rattle.ax_format.specs.Bodies.{SpellsBody, RecordsSpell, RecordShape, CanonBody}
 use Rattle.std.specs.List.{AllByRecursion}
-use Rattle.ax_model.specs.CanonicalOctets.{canon_block, canon_length, octets_of}
-use Rattle.ax_model.specs.Flaws.{NoFlaw}
-use Rattle.ax_model.specs.Specification.{SpecTree, record_kind}
-use Rattle.ax_model.specs.Tree.{EntriesTree, marked}
-use Rattle.ax_model.specs.Whole.{Whole}
-use Rattle.ax_tables.specs.Standing.{StandsFor}
-use Rattle.ax_tables.specs.declared.codec.Codec.{Codec}
+use Rattle.ax_format.specs.CanonicalOctets.{canon_block, canon_length, octets_of}
+use Rattle.ax_format.specs.Flaws.{NoFlaw}
+use Rattle.ax_format.specs.Specification.{SpecTree, record_kind}
+use Rattle.ax_format.specs.Tree.{EntriesTree, marked}
+use Rattle.ax_format.specs.Whole.{Whole}
+use Rattle.ax_codec.specs.Standing.{StandsFor}
+use Rattle.ax_codec.specs.declared.codec.Codec.{Codec}
 
 -- the records that a body spells have the shape of records
 pub body_shape : (spec : SpecTree) (rs : List EntriesTree) (b : List ℕ) → RecordsSpell spec rs b → AllByRecursion (RecordShape spec) rs

@@ -12,27 +12,27 @@ use Rattle.ax_canon.specs.Rewriting.{Rewrites}
 use Rattle.ax_fspec.proofs.FieldLaws.{least_alike, alike_set, least_field_of, shortest}
 use Rattle.ax_fspec.specs.Fields.{MarksSlots, least_field, mask_slots}
 use Rattle.ax_fspec.specs.declared.mask.SlotMask.{SlotMask}
-use Rattle.ax_model.proofs.Bounds.{count_of_slots}
-use Rattle.ax_model.proofs.Least.{marks_of_spelled}
-use Rattle.ax_model.proofs.Meets.{none_marked_left}
-use Rattle.ax_model.proofs.WholeOctets.{counter_in_octets}
-use Rattle.ax_model.specs.Reader.{Read, after, read, each_read, count_read}
-use Rattle.ax_model.specs.Canonical.{canon, each_canon, marks_of}
-use Rattle.ax_model.specs.InBounds.{InBounds}
-use Rattle.ax_model.specs.Presence.{octets_needed, none_marked, least_presence, NoneUndefined}
-use Rattle.ax_model.specs.Tree.{KindTree, ValueTree, EntriesTree, counted, occurrences, value_count, compound, marked, SlotTree, spare_slot, subitem, slots_of, slot_count, defined_slots}
-use Rattle.ax_model.specs.Widths.{counter_octets, counter_width}
-use Rattle.ax_model.specs.declared.fault.BodyCause.TheVariants.{RunsOut}
-use Rattle.ax_model.specs.declared.fault.BodyFault.{BodyFault}
-use Rattle.ax_tables.specs.Meaning.{meanings, linked_slots}
-use Rattle.ax_tables.specs.Table.{record_kind_at}
-use Rattle.ax_tables.specs.declared.node.Node.{Node}
-use Rattle.ax_model.specs.declared.kind.Counter.{Counter}
-use Rattle.ax_reader.proofs.AtOctets.{octets_parts, length-octets}
-use Rattle.ax_reader.proofs.Continuing.{gets_after, fails_after}
-use Rattle.ax_reader.proofs.Counting.{front_count, counted_none}
-use Rattle.ax_reader.proofs.Marking.{field_read, marks_bits}
-use Rattle.ax_reader.specs.Reading.{Gets, FailsAt, Continues, IsCount, IsMaskOf, kind_read, entries_at}
+use Rattle.ax_format.proofs.Bounds.{count_of_slots}
+use Rattle.ax_format.proofs.Least.{marks_of_spelled}
+use Rattle.ax_format.proofs.Meets.{none_marked_left}
+use Rattle.ax_format.proofs.WholeOctets.{counter_in_octets}
+use Rattle.ax_format.specs.Reader.{Read, after, read, each_read, count_read}
+use Rattle.ax_format.specs.Canonical.{canon, each_canon, marks_of}
+use Rattle.ax_format.specs.InBounds.{InBounds}
+use Rattle.ax_format.specs.Presence.{octets_needed, none_marked, least_presence, NoneUndefined}
+use Rattle.ax_format.specs.Tree.{KindTree, ValueTree, EntriesTree, counted, occurrences, value_count, compound, marked, SlotTree, spare_slot, subitem, slots_of, slot_count, defined_slots}
+use Rattle.ax_format.specs.Widths.{counter_octets, counter_width}
+use Rattle.ax_format.specs.declared.fault.BodyCause.TheVariants.{RunsOut}
+use Rattle.ax_format.specs.declared.fault.BodyFault.{BodyFault}
+use Rattle.ax_codec.specs.Meaning.{meanings, linked_slots}
+use Rattle.ax_codec.specs.Table.{record_kind_at}
+use Rattle.ax_codec.specs.declared.node.Node.{Node}
+use Rattle.ax_format.specs.declared.kind.Counter.{Counter}
+use Rattle.ax_fspec.proofs.AtOctets.{octets_parts, length-octets}
+use Rattle.ax_fspec.proofs.Continuing.{gets_after, fails_after}
+use Rattle.ax_fspec.proofs.Counting.{front_count, counted_none}
+use Rattle.ax_fspec.proofs.Marking.{field_read, marks_bits}
+use Rattle.ax_fspec.specs.Reading.{Gets, FailsAt, Continues, IsCount, IsMaskOf, kind_read, entries_at}
 use Rattle.ax_view.proofs.Compounds.{marks_clear}
 use Rattle.ax_view.proofs.FieldSteps.{along_is, spelled}
 use Rattle.ax_view.proofs.CountedSteps.{each_count}

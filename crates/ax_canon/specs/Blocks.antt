@@ -3,14 +3,14 @@ use Rattle.std.specs.Prelude.{◌≡◌, ℕ, List}
 use Rattle.ax_bits.specs.Bits.{bits}
 use Rattle.ax_bits.specs.Out.{Appends, loan}
 use Rattle.ax_bits.specs.declared.output.Out.{Out}
-use Rattle.ax_model.specs.Blocks.{read_block}
-use Rattle.ax_model.specs.Bodies.{SpellsBody, CanonBody}
-use Rattle.ax_model.specs.CanonicalOctets.{canon_block, canon_length}
-use Rattle.ax_model.specs.Flaws.{NoFlaw}
-use Rattle.ax_model.specs.Specification.{SpecTree}
-use Rattle.ax_model.specs.Tree.{EntriesTree}
-use Rattle.ax_tables.specs.Standing.{StandsFor}
-use Rattle.ax_tables.specs.declared.codec.Codec.{Codec}
+use Rattle.ax_format.specs.Blocks.{read_block}
+use Rattle.ax_format.specs.Bodies.{SpellsBody, CanonBody}
+use Rattle.ax_format.specs.CanonicalOctets.{canon_block, canon_length}
+use Rattle.ax_format.specs.Flaws.{NoFlaw}
+use Rattle.ax_format.specs.Specification.{SpecTree}
+use Rattle.ax_format.specs.Tree.{EntriesTree}
+use Rattle.ax_codec.specs.Standing.{StandsFor}
+use Rattle.ax_codec.specs.declared.codec.Codec.{Codec}
 
 -- the canonical block of the records that the body spells is appended, for each specification that the codec stands for
 pub record IsCanonical (codec : Codec) (body : List ℕ) (n : ℕ) (old new : Out) : Type 0 where

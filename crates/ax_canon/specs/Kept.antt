@@ -4,14 +4,14 @@ use Rattle.std.specs.Borrow.{Bor}
 use Rattle.ax_bits.specs.Bits.{bits, word}
 use Rattle.ax_bits.specs.Out.{Appends, Replaces}
 use Rattle.ax_bits.specs.declared.output.Out.{Out}
-use Rattle.ax_model.specs.Blocks.{read_block}
-use Rattle.ax_model.specs.Bodies.{SpellsRecord, SpellsBody, CanonBody}
-use Rattle.ax_model.specs.CanonicalOctets.{canon_block}
-use Rattle.ax_model.specs.Flaws.{NoFlaw}
-use Rattle.ax_model.specs.Specification.{SpecTree}
-use Rattle.ax_model.specs.Tree.{EntriesTree}
-use Rattle.ax_tables.specs.Standing.{StandsFor}
-use Rattle.ax_tables.specs.declared.codec.Codec.{Codec}
+use Rattle.ax_format.specs.Blocks.{read_block}
+use Rattle.ax_format.specs.Bodies.{SpellsRecord, SpellsBody, CanonBody}
+use Rattle.ax_format.specs.CanonicalOctets.{canon_block}
+use Rattle.ax_format.specs.Flaws.{NoFlaw}
+use Rattle.ax_format.specs.Specification.{SpecTree}
+use Rattle.ax_format.specs.Tree.{EntriesTree}
+use Rattle.ax_codec.specs.Standing.{StandsFor}
+use Rattle.ax_codec.specs.declared.codec.Codec.{Codec}
 use Rattle.ax_view.specs.RecordsAt.{IsRecordAt}
 use Rattle.ax_view.specs.declared.record.RecordView.{RecordView}
 

@@ -5,23 +5,22 @@ ghost use Rattle.ax_bits.specs.Out.{room, Appends};
 ghost use Rattle.ax_canon.specs.Rewriting.{Rewrites};
 ghost use Rattle.ax_fspec.specs.Fields.{MarksSlots};
 ghost use Rattle.ax_fspec.specs.declared.mask.SlotMask.{SlotMask};
-ghost use Rattle.ax_model.specs.Canonical.{canon};
-ghost use Rattle.ax_model.specs.InBounds.{InBounds, SlotsInBounds};
-ghost use Rattle.ax_model.specs.Presence.{NoneUndefined};
-ghost use Rattle.ax_model.specs.Sizes.{longest_body};
-ghost use Rattle.ax_model.specs.Tree as Tree;
-ghost use Rattle.ax_tables.specs.Meaning.{meanings, linked_slots};
-ghost use Rattle.ax_tables.specs.Table.{IsTable, SlotLinksWithin, kind_at, record_kind_at};
-ghost use Rattle.ax_reader.specs.Reading.{IsMaskOf, kind_read, entries_at};
+ghost use Rattle.ax_format.specs.Canonical.{canon};
+ghost use Rattle.ax_format.specs.InBounds.{InBounds, SlotsInBounds};
+ghost use Rattle.ax_format.specs.Presence.{NoneUndefined};
+ghost use Rattle.ax_format.specs.Sizes.{longest_body};
+ghost use Rattle.ax_format.specs.Tree as Tree;
+ghost use Rattle.ax_codec.specs.Meaning.{meanings, linked_slots};
+ghost use Rattle.ax_codec.specs.Table.{IsTable, SlotLinksWithin, kind_at, record_kind_at};
+ghost use Rattle.ax_fspec.specs.Reading.{IsMaskOf, kind_read, entries_at};
 ghost use Rattle.ax_view.specs.Plain.{IsPlain};
 ghost use Rattle.ax_view.specs.Rows.{tree_of};
 ghost use Rattle.ax_view.specs.Walking.{along};
 
 use ax_bits::Out;
-use ax_fspec::{Presence, SlotMask, read_presence, write_presence};
-use ax_model::Counter;
-use ax_reader::count_at;
-use ax_tables::{Codec, Node};
+use ax_codec::{Codec, Node};
+use ax_format::Counter;
+use ax_fspec::{Presence, SlotMask, count_at, read_presence, write_presence};
 use ax_view::{Notes, items_by_rows, walk, walk_record};
 
 /// Appends the canonical spelling of the record at octet `at`. Answers the octet after it.

@@ -2,16 +2,16 @@
 use Rattle.std.proofs.Common.{◌≡◌, ℕ, ◌+◌, ◌<◌, ◌≤◌, ◌==◌, ◌||◌, List, [], ◌∷◌, ◌++◌, length, drop, get_or, bytes_eq, refl, sym, ◌∙◌, ap, subst, arith, append_assoc, append-nil, codes}
 use Rattle.std.proofs.lemmas.List.{drop_all}
 use Rattle.std.proofs.lemmas.Bool.{ne_eqb}
-use Rattle.ax_model.proofs.Namings.{from_place}
+use Rattle.ax_format.proofs.Namings.{from_place}
 use Rattle.ax_check.specs.Members.{member_flaws, with_member}
 use Rattle.ax_check.specs.Names.{AreSame}
-use Rattle.ax_model.specs.Flaws.{flaw_where, is_bad_width, fixed_flaws, members_flaws, names_with, has_no_member}
-use Rattle.ax_model.specs.Paths.{at}
-use Rattle.ax_model.specs.Plain.{member_tree, members_tree}
-use Rattle.ax_model.specs.Tree.{MembersTree, no_members, member_and, MemberTree, named, spare, group}
-use Rattle.ax_model.specs.declared.flaw.Flaw.{Flaw}
-use Rattle.ax_model.specs.declared.flaw.FlawKind.TheVariants.{BadWidth, DuplicateName, Empty}
-use Rattle.ax_model.specs.declared.kind.Member.{Member}
+use Rattle.ax_format.specs.Flaws.{flaw_where, is_bad_width, fixed_flaws, members_flaws, names_with, has_no_member}
+use Rattle.ax_format.specs.Paths.{at}
+use Rattle.ax_format.specs.Plain.{member_tree, members_tree}
+use Rattle.ax_format.specs.Tree.{MembersTree, no_members, member_and, MemberTree, named, spare, group}
+use Rattle.ax_format.specs.declared.flaw.Flaw.{Flaw}
+use Rattle.ax_format.specs.declared.flaw.FlawKind.TheVariants.{BadWidth, DuplicateName, Empty}
+use Rattle.ax_format.specs.declared.kind.Member.{Member}
 
 -- ---- the same names
 

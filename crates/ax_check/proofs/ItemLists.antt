@@ -2,16 +2,16 @@
 use Rattle.std.proofs.Common.{◌≡◌, ℕ, ◌+◌, ◌<◌, ◌≤◌, Bool, true, false, ◌||◌, List, [], ◌∷◌, ◌++◌, length, map, drop, get_or, bytes_eq, refl, sym, ◌∙◌, ap, subst, append_assoc, append-nil}
 use Rattle.std.proofs.lemmas.List.{drop_all}
 use Rattle.ax_check.proofs.FlawLists.{same_more, same_through}
-use Rattle.ax_model.proofs.Namings.{from_place}
+use Rattle.ax_format.proofs.Namings.{from_place}
 use Rattle.ax_check.specs.Members.{item_flaws, item_names}
 use Rattle.ax_check.specs.Names.{AreSame}
-use Rattle.ax_model.specs.Flaws.{flaw_where, is_among, items_flaws, kind_flaws}
-use Rattle.ax_model.specs.Paths.{at}
-use Rattle.ax_model.specs.Plain.{item_tree}
-use Rattle.ax_model.specs.Specification.{ItemTree}
-use Rattle.ax_model.specs.declared.flaw.Flaw.{Flaw}
-use Rattle.ax_model.specs.declared.flaw.FlawKind.TheVariants.{DuplicateItem, NotOctets}
-use Rattle.ax_model.specs.declared.spec.Item.{Item}
+use Rattle.ax_format.specs.Flaws.{flaw_where, is_among, items_flaws, kind_flaws}
+use Rattle.ax_format.specs.Paths.{at}
+use Rattle.ax_format.specs.Plain.{item_tree}
+use Rattle.ax_format.specs.Specification.{ItemTree}
+use Rattle.ax_format.specs.declared.flaw.Flaw.{Flaw}
+use Rattle.ax_format.specs.declared.flaw.FlawKind.TheVariants.{DuplicateItem, NotOctets}
+use Rattle.ax_format.specs.declared.spec.Item.{Item}
 
 -- these names and those of the items
 abbrev pub names_after : List (List ℕ) → List Item → List (List ℕ)

@@ -4,7 +4,7 @@ use Rattle.std.specs.List.{list_any}
 use Rattle.std.proofs.lemmas.Slice.Eq.{bytes_eq-Decides}
 use Rattle.std.specs.Cmp.Lexicographic.{pointwise}
 use Rattle.ax_check.specs.Names.{AreSame}
-use Rattle.ax_model.specs.Flaws.{is_among}
+use Rattle.ax_format.specs.Flaws.{is_among}
 use Rattle.indexmap.specs.IndexSet.{insert_key}
 
 abbrev same_octets : Bor (List ℕ) → Bor (List ℕ) → Bool

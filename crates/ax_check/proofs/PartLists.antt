@@ -2,19 +2,19 @@
 use Rattle.std.proofs.Common.{◌≡◌, ℕ, ◌+◌, ◌-◌, ◌<◌, ◌≤◌, ◌==◌, List, [], ◌∷◌, ◌++◌, length, map, drop, get_or, codes, decimal, refl, sym, ◌∙◌, ap, arith, append_assoc, append-nil, length-drop}
 use Rattle.std.proofs.lemmas.List.{drop_all, length-map}
 use Rattle.ax_check.proofs.FlawLists.{members_same, names_same}
-use Rattle.ax_model.proofs.Namings.{from_place}
+use Rattle.ax_format.proofs.Namings.{from_place}
 use Rattle.ax_check.specs.Members.{part_flaws}
 use Rattle.ax_check.specs.Names.{AreSame}
-use Rattle.ax_model.specs.Flaws.{flaw_where, is_no_multiple, is_too_wide, is_nothing, parts_flaws, names_with, kind_flaws}
-use Rattle.ax_model.specs.Paths.{at}
-use Rattle.ax_model.specs.Plain.{part_tree}
-use Rattle.ax_model.specs.Tree.{MembersTree, extended}
-use Rattle.ax_model.specs.Widths.{members_width, fx_width}
-use Rattle.ax_model.specs.declared.flaw.Flaw.{Flaw}
-use Rattle.ax_model.specs.declared.flaw.FlawKind.{FlawKind}
-use Rattle.ax_model.specs.declared.flaw.FlawKind.TheVariants.{PartNotOctets, TooWide, Empty}
-use Rattle.ax_model.specs.declared.kind.LastPart.{LastPart}
-use Rattle.ax_model.specs.declared.kind.Part.{Part}
+use Rattle.ax_format.specs.Flaws.{flaw_where, is_no_multiple, is_too_wide, is_nothing, parts_flaws, names_with, kind_flaws}
+use Rattle.ax_format.specs.Paths.{at}
+use Rattle.ax_format.specs.Plain.{part_tree}
+use Rattle.ax_format.specs.Tree.{MembersTree, extended}
+use Rattle.ax_format.specs.Widths.{members_width, fx_width}
+use Rattle.ax_format.specs.declared.flaw.Flaw.{Flaw}
+use Rattle.ax_format.specs.declared.flaw.FlawKind.{FlawKind}
+use Rattle.ax_format.specs.declared.flaw.FlawKind.TheVariants.{PartNotOctets, TooWide, Empty}
+use Rattle.ax_format.specs.declared.kind.LastPart.{LastPart}
+use Rattle.ax_format.specs.declared.kind.Part.{Part}
 
 parts_same : (last : LastPart) (path : List ℕ) (n : ℕ) (a b : List (List ℕ)) (ps : List MembersTree) → AreSame a b → parts_flaws last path n a ps ≡ parts_flaws last path n b ps
 parts_same last path n a b [] h = refl

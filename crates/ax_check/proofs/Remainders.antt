@@ -1,11 +1,11 @@
 -- Sums of widths modulo 8.
 use Rattle.std.proofs.Common.{◌≡◌, ℕ, ◌+◌, ◌%◌, ◌<◌, ◌≤◌, List, length, drop, get_or, refl, ◌∙◌, ap, arith}
 use Rattle.std.proofs.lemmas.List.{drop_all}
-use Rattle.ax_model.proofs.Namings.{from_place}
-use Rattle.ax_model.specs.Plain.{member_tree, members_tree}
-use Rattle.ax_model.specs.Tree.{MembersTree, member_and, MemberTree, named, spare}
-use Rattle.ax_model.specs.Widths.{member_width, members_width}
-use Rattle.ax_model.specs.declared.kind.Member.{Member}
+use Rattle.ax_format.proofs.Namings.{from_place}
+use Rattle.ax_format.specs.Plain.{member_tree, members_tree}
+use Rattle.ax_format.specs.Tree.{MembersTree, member_and, MemberTree, named, spare}
+use Rattle.ax_format.specs.Widths.{member_width, members_width}
+use Rattle.ax_format.specs.declared.kind.Member.{Member}
 
 member_first : (m : MemberTree) (ms : MembersTree) → members_width (member_and m ms) ≡ member_width m + members_width ms
 member_first (named name f) ms = refl

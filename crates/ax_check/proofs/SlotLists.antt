@@ -2,17 +2,17 @@
 use Rattle.std.proofs.Common.{◌≡◌, ℕ, suc, ◌+◌, ◌<◌, ◌≤◌, ◌==◌, nat_lt, List, [], ◌∷◌, ◌++◌, length, drop, get_or, refl, sym, ◌∙◌, ap, append_assoc, append-nil}
 use Rattle.std.proofs.lemmas.List.{drop_all}
 use Rattle.ax_check.proofs.FlawLists.{same_more}
-use Rattle.ax_model.proofs.Namings.{from_place}
+use Rattle.ax_format.proofs.Namings.{from_place}
 use Rattle.ax_check.specs.Members.{count_flaws, slot_flaws, with_slot}
 use Rattle.ax_check.specs.Names.{AreSame}
-use Rattle.ax_model.specs.Flaws.{flaw_where, slots_flaws, kind_flaws}
-use Rattle.ax_model.specs.Paths.{at}
-use Rattle.ax_model.specs.Plain.{slot_tree, slots_tree}
-use Rattle.ax_model.specs.Tree.{SlotsTree, no_slots, slot_and, SlotTree, spare_slot, subitem, slot_count, compound}
-use Rattle.ax_model.specs.declared.flaw.Flaw.{Flaw}
-use Rattle.ax_model.specs.declared.flaw.FlawKind.{FlawKind}
-use Rattle.ax_model.specs.declared.flaw.FlawKind.TheVariants.{DuplicateName, NotOctets, Empty, TooManySlots}
-use Rattle.ax_model.specs.declared.kind.Slot.{Slot}
+use Rattle.ax_format.specs.Flaws.{flaw_where, slots_flaws, kind_flaws}
+use Rattle.ax_format.specs.Paths.{at}
+use Rattle.ax_format.specs.Plain.{slot_tree, slots_tree}
+use Rattle.ax_format.specs.Tree.{SlotsTree, no_slots, slot_and, SlotTree, spare_slot, subitem, slot_count, compound}
+use Rattle.ax_format.specs.declared.flaw.Flaw.{Flaw}
+use Rattle.ax_format.specs.declared.flaw.FlawKind.{FlawKind}
+use Rattle.ax_format.specs.declared.flaw.FlawKind.TheVariants.{DuplicateName, NotOctets, Empty, TooManySlots}
+use Rattle.ax_format.specs.declared.kind.Slot.{Slot}
 
 slots_same : (path : List ℕ) (a b : List (List ℕ)) (ss : SlotsTree) → AreSame a b → slots_flaws path a ss ≡ slots_flaws path b ss
 slots_same path a b no_slots h = refl

@@ -1,18 +1,18 @@
 -- Steps down a kind to an element.
 use Rattle.std.proofs.Common.{◌≡◌, ℕ, zero, suc, List, [], ◌∷◌, map, slice_get, Some, None, option_and_then, refl, sym, ◌∙◌, ap}
 use Rattle.ax_check.specs.Places.{fixed_of_member, member_fixed, part_fixed, fixed_element, kind_element, element_at}
-use Rattle.ax_model.specs.Lengths.{slot_kind}
-use Rattle.ax_model.specs.Lookup.{item_of_frn}
-use Rattle.ax_model.specs.Plain.{kind_tree, member_tree, members_tree, part_tree, spec_tree}
-use Rattle.ax_model.specs.Tree.{FixedTree, element, group, MembersTree, KindTree, extended, compound, SlotsTree}
-use Rattle.ax_model.specs.declared.kind.LastPart.{LastPart}
-use Rattle.ax_model.specs.declared.content.Content.{Content}
-use Rattle.ax_model.specs.declared.kind.Member.{Member}
-use Rattle.ax_model.specs.declared.kind.Part.{Part}
-use Rattle.ax_model.specs.declared.place.Place.{Place}
-use Rattle.ax_model.specs.declared.spec.Item.{Item}
-use Rattle.ax_model.specs.declared.spec.Spec.{Spec}
-use Rattle.ax_model.proofs.ItemKinds.{kind_of_item, kind_of_frn}
+use Rattle.ax_format.specs.Lengths.{slot_kind}
+use Rattle.ax_format.specs.Lookup.{item_of_frn}
+use Rattle.ax_format.specs.Plain.{kind_tree, member_tree, members_tree, part_tree, spec_tree}
+use Rattle.ax_format.specs.Tree.{FixedTree, element, group, MembersTree, KindTree, extended, compound, SlotsTree}
+use Rattle.ax_format.specs.declared.kind.LastPart.{LastPart}
+use Rattle.ax_format.specs.declared.content.Content.{Content}
+use Rattle.ax_format.specs.declared.kind.Member.{Member}
+use Rattle.ax_format.specs.declared.kind.Part.{Part}
+use Rattle.ax_format.specs.declared.place.Place.{Place}
+use Rattle.ax_format.specs.declared.spec.Item.{Item}
+use Rattle.ax_format.specs.declared.spec.Spec.{Spec}
+use Rattle.ax_format.proofs.ItemKinds.{kind_of_item, kind_of_frn}
 
 -- ---- by number
 

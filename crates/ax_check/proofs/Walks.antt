@@ -1,17 +1,17 @@
 -- Walks down a kind by names.
 use Rattle.std.proofs.Common.{◌≡◌, ℕ, Bool, true, false, List, [], ◌∷◌, ◌++◌, map, Option, Some, None, option_map, option_and_then, refl, sym, ◌∙◌, ap, subst, append_assoc, append-nil}
 use Rattle.ax_check.specs.Places.{fixed_steps, kind_steps, place_at, place_of}
-use Rattle.ax_model.specs.Naming.{member_named, part_named, slot_named, frn_of}
+use Rattle.ax_format.specs.Naming.{member_named, part_named, slot_named, frn_of}
 use Rattle.ax_check.specs.Walking.{Leads}
-use Rattle.ax_model.proofs.Lookups.{named_tree}
-use Rattle.ax_model.specs.Lookup.{item_named}
-use Rattle.ax_model.specs.Plain.{item_tree, kind_tree, spec_tree}
-use Rattle.ax_model.specs.Specification.{ItemTree, first_named}
-use Rattle.ax_model.specs.Tree.{FixedTree, group, element, MembersTree, KindTree, fixed, extended, compound, SlotsTree}
-use Rattle.ax_model.specs.declared.kind.LastPart.{LastPart}
-use Rattle.ax_model.specs.declared.place.Place.{Place}
-use Rattle.ax_model.specs.declared.spec.Item.{Item}
-use Rattle.ax_model.specs.declared.spec.Spec.{Spec}
+use Rattle.ax_format.proofs.Lookups.{named_tree}
+use Rattle.ax_format.specs.Lookup.{item_named}
+use Rattle.ax_format.specs.Plain.{item_tree, kind_tree, spec_tree}
+use Rattle.ax_format.specs.Specification.{ItemTree, first_named}
+use Rattle.ax_format.specs.Tree.{FixedTree, group, element, MembersTree, KindTree, fixed, extended, compound, SlotsTree}
+use Rattle.ax_format.specs.declared.kind.LastPart.{LastPart}
+use Rattle.ax_format.specs.declared.place.Place.{Place}
+use Rattle.ax_format.specs.declared.spec.Item.{Item}
+use Rattle.ax_format.specs.declared.spec.Spec.{Spec}
 
 -- no name is left
 pub no_name : (names : List (List ℕ)) (f : FixedTree) (steps : List ℕ) → names ≡ [] → Leads (fixed_steps names f) steps steps true

@@ -1,8 +1,8 @@
 -- The flaws of kinds that are to be whole octets.
 use Rattle.std.proofs.Common.{◌≡◌, ℕ, ◌+◌, ◌%◌, ◌==◌, nat_lt, Bool, not, List, ◌++◌, refl, ◌∙◌, ap, arith, append_assoc}
 use Rattle.std.proofs.lemmas.Bool.Decides.{nat_tests}
-use Rattle.ax_model.specs.Flaws.{is_no_multiple, is_too_wide}
-use Rattle.ax_model.specs.Lengths.{capped}
+use Rattle.ax_format.specs.Flaws.{is_no_multiple, is_too_wide}
+use Rattle.ax_format.specs.Lengths.{capped}
 
 -- ---- the tests
 

@@ -1,7 +1,7 @@
 -- Why a specification isn't accepted.
 use Rattle.std.specs.Prelude.{◌≡◌, ◌<◌, length}
-use Rattle.ax_model.specs.OfCode.{spec_flaws}
-use Rattle.ax_model.specs.declared.spec.Spec.{Spec}
+use Rattle.ax_format.specs.OfCode.{spec_flaws}
+use Rattle.ax_format.specs.declared.spec.Spec.{Spec}
 use Rattle.ax_check.specs.declared.accepted.CheckError.{CheckError}
 use Rattle.ax_check.specs.declared.accepted.CheckError.TheVariants.{Flawed, OutOfMemory}
 

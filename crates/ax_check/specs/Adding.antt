@@ -1,8 +1,8 @@
 -- Why a specification isn't added to a catalogue.
 use Rattle.std.specs.Prelude.{◌≡◌, List, IsSome}
-use Rattle.ax_model.specs.Plain.{catalogue_tree}
-use Rattle.ax_model.specs.Specification.{spec_of}
-use Rattle.ax_model.specs.declared.spec.Spec.{Spec}
+use Rattle.ax_format.specs.Plain.{catalogue_tree}
+use Rattle.ax_format.specs.Specification.{spec_of}
+use Rattle.ax_format.specs.declared.spec.Spec.{Spec}
 use Rattle.ax_check.specs.declared.catalogue.AddError.{AddError}
 use Rattle.ax_check.specs.declared.catalogue.AddError.TheVariants.{CategoryTwice, OutOfMemory}
 

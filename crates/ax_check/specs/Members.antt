@@ -1,17 +1,17 @@
 -- The flaws of one member, slot or item after others, and the names that those after it see.
 use Rattle.std.specs.Prelude.{ℕ, ◌+◌, ◌==◌, nat_lt, length, map, decimal, List, [], ◌∷◌, ◌++◌, codes, true, if◌then◌else◌}
-use Rattle.ax_model.specs.Flaws.{flaw_where, is_among, is_bad_width, is_no_multiple, is_too_wide, is_nothing, fixed_flaws, members_flaws, kind_flaws, uap_flaws}
-use Rattle.ax_model.specs.Paths.{at}
-use Rattle.ax_model.specs.Plain.{item_tree}
-use Rattle.ax_model.specs.Specification.{ItemTree}
-use Rattle.ax_model.specs.Tree.{MembersTree, MemberTree, named, spare, SlotTree, spare_slot, subitem}
-use Rattle.ax_model.specs.Widths.{members_width}
-use Rattle.ax_model.specs.declared.flaw.Flaw.{Flaw}
-use Rattle.ax_model.specs.declared.flaw.FlawKind.TheVariants.{BadWidth, DuplicateName, DuplicateItem, NotOctets, PartNotOctets, TooWide, Empty, TooManySlots, RepeatedInUap, UnknownInUap}
-use Rattle.ax_model.specs.declared.spec.Item.{Item}
-use Rattle.ax_model.specs.declared.spec.Spec.{Spec}
-use Rattle.ax_model.specs.declared.spec.UapSlot.{UapSlot}
-use Rattle.ax_model.specs.declared.spec.UapSlot.TheVariants as Uap
+use Rattle.ax_format.specs.Flaws.{flaw_where, is_among, is_bad_width, is_no_multiple, is_too_wide, is_nothing, fixed_flaws, members_flaws, kind_flaws, uap_flaws}
+use Rattle.ax_format.specs.Paths.{at}
+use Rattle.ax_format.specs.Plain.{item_tree}
+use Rattle.ax_format.specs.Specification.{ItemTree}
+use Rattle.ax_format.specs.Tree.{MembersTree, MemberTree, named, spare, SlotTree, spare_slot, subitem}
+use Rattle.ax_format.specs.Widths.{members_width}
+use Rattle.ax_format.specs.declared.flaw.Flaw.{Flaw}
+use Rattle.ax_format.specs.declared.flaw.FlawKind.TheVariants.{BadWidth, DuplicateName, DuplicateItem, NotOctets, PartNotOctets, TooWide, Empty, TooManySlots, RepeatedInUap, UnknownInUap}
+use Rattle.ax_format.specs.declared.spec.Item.{Item}
+use Rattle.ax_format.specs.declared.spec.Spec.{Spec}
+use Rattle.ax_format.specs.declared.spec.UapSlot.{UapSlot}
+use Rattle.ax_format.specs.declared.spec.UapSlot.TheVariants as Uap
 
 -- ---- members
 

@@ -2,7 +2,7 @@
 use Rattle.std.specs.Prelude.{◌≡◌, ℕ, List, map}
 use Rattle.std.specs.HashSet.{HashSet, keys}
 use Rattle.std.specs.Borrow.{Bor}
-use Rattle.ax_model.specs.Flaws.{is_among}
+use Rattle.ax_format.specs.Flaws.{is_among}
 
 abbrev pub listed : {S : Type 0} → HashSet (Bor (List ℕ)) S → List (List ℕ)
 listed set = map (λ k. k.now) (keys set)

@@ -1,11 +1,11 @@
 -- Where a path leads in a specification (this project's own paths): to an item of the UAP, a subitem of a compound, a
 -- member of a group or of a part. Nothing inside a counted, wide or by-FX item is a place.
 use Rattle.std.specs.Prelude.{ℕ, zero, suc, List, [], ◌∷◌, Option, Some, None, option_map, option_and_then}
-use Rattle.ax_model.specs.Lengths.{slot_kind}
-use Rattle.ax_model.specs.Naming.{member_named, part_named, slot_named, frn_of}
-use Rattle.ax_model.specs.Specification.{SpecTree, first_named, record_slots}
-use Rattle.ax_model.specs.Tree.{FixedTree, element, group, MembersTree, no_members, member_and, MemberTree, named, spare, KindTree, fixed, extended, compound}
-use Rattle.ax_model.specs.declared.place.Place.{Place}
+use Rattle.ax_format.specs.Lengths.{slot_kind}
+use Rattle.ax_format.specs.Naming.{member_named, part_named, slot_named, frn_of}
+use Rattle.ax_format.specs.Specification.{SpecTree, first_named, record_slots}
+use Rattle.ax_format.specs.Tree.{FixedTree, element, group, MembersTree, no_members, member_and, MemberTree, named, spare, KindTree, fixed, extended, compound}
+use Rattle.ax_format.specs.declared.place.Place.{Place}
 
 -- ---- the steps that names lead down
 

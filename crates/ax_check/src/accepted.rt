@@ -1,9 +1,9 @@
 ghost use Rattle.std.specs.Prelude.{◌≡◌, IfOk, OnOk, IfErr};
 ghost use Rattle.ax_check.specs.Accepting.{WhyFlawed};
-ghost use Rattle.ax_model.specs.OfCode.{HasNoFlaw};
+ghost use Rattle.ax_format.specs.OfCode.{HasNoFlaw};
 
 use crate::spec_flaws::flaws;
-use ax_model::{Flaws, Spec};
+use ax_format::{Flaws, Spec};
 use std::alloc::Global;
 use std::fmt::{self, Debug, Formatter, Write};
 use std::marker::Model;
@@ -16,9 +16,9 @@ pub struct Accepted {
 }
 
 impl Model for Accepted {
-    ghost use Rattle.ax_model.specs.OfCode.{HasNoFlaw};
-    ghost use Rattle.ax_model.specs.contracts.spec.Spec as row;
-    ghost use Rattle.ax_model.specs.declared.spec.Spec.{Spec};
+    ghost use Rattle.ax_format.specs.OfCode.{HasNoFlaw};
+    ghost use Rattle.ax_format.specs.contracts.spec.Spec as row;
+    ghost use Rattle.ax_format.specs.declared.spec.Spec.{Spec};
 
     ghost Value = { Spec };
 

@@ -2,8 +2,8 @@ ghost use Rattle.std.specs.Prelude.{◌≡◌, ◌∷◌, ◌++◌, [], ◌<◌,
 ghost use Rattle.std.specs.List.{IsDistinct};
 ghost use Rattle.std.specs.Option.{option_copied};
 ghost use Rattle.ax_lists.specs.Sizes.{list_bound};
-ghost use Rattle.ax_model.specs.Plain.{spec_tree, catalogue_tree};
-ghost use Rattle.ax_model.specs.Specification.{spec_of};
+ghost use Rattle.ax_format.specs.Plain.{spec_tree, catalogue_tree};
+ghost use Rattle.ax_format.specs.Specification.{spec_of};
 ghost use Rattle.ax_check.specs.Adding.{WhyRefused};
 ghost use Rattle.indexmap.specs.IndexMap.{insert_entry};
 
@@ -27,8 +27,8 @@ impl Model for Catalogue {
     ghost use Rattle.std.specs.Prelude.{List, map, length, ◌≡◌, ◌<◌};
     ghost use Rattle.std.specs.List.{AllByRecursion};
     ghost use Rattle.std.specs.Coded.{coded_list};
-    ghost use Rattle.ax_model.specs.contracts.spec.Spec as row;
-    ghost use Rattle.ax_model.specs.declared.spec.Spec.{Spec};
+    ghost use Rattle.ax_format.specs.contracts.spec.Spec as row;
+    ghost use Rattle.ax_format.specs.declared.spec.Spec.{Spec};
     ghost use Rattle.ax_lists.specs.Sizes.{list_bound};
 
     ghost Value = { List Spec };

@@ -1,11 +1,11 @@
 //! The element at a place. Nothing here takes memory.
 ghost use Rattle.std.specs.Prelude.{◌≡◌, map, option_map};
 ghost use Rattle.std.specs.Option.{option_copied};
-ghost use Rattle.ax_model.specs.Plain.{fixed_tree, member_tree, members_tree, part_tree, kind_tree, spec_tree};
+ghost use Rattle.ax_format.specs.Plain.{fixed_tree, member_tree, members_tree, part_tree, kind_tree, spec_tree};
 ghost use Rattle.ax_check.specs.Places.{fixed_of_member, member_fixed, part_fixed, fixed_element, kind_element, element_at};
 
 use crate::accepted::Accepted;
-use ax_model::{Fixed, Kind, Member, Members, Parts, Place, subitem_kind};
+use ax_format::{Fixed, Kind, Member, Members, Parts, Place, subitem_kind};
 
 fn fixed_in(member: &Member) -> Option<&Fixed>
     ensures { option_map fixed_tree (option_copied result) ≡ fixed_of_member (member_tree member.now) }

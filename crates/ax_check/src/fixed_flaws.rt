@@ -1,17 +1,17 @@
 //! The flaws of fixed kinds, of groups and of parts.
 ghost use Rattle.std.specs.Prelude.{◌≡◌, ◌∷◌, ◌++◌, ◌+◌, ◌%◌, [], map, not, IfOk, OnOk};
-ghost use Rattle.ax_model.specs.Flaws.{flaw_where, is_among, is_bad_width, is_bad_element_width, is_bad_scale, is_bad_string_width, is_no_multiple, is_too_wide, fixed_flaws, members_flaws, whole_flaws, parts_flaws, names_with};
-ghost use Rattle.ax_model.specs.Paths.{at};
-ghost use Rattle.ax_model.specs.Plain.{fixed_tree, member_tree, members_tree, part_tree};
-ghost use Rattle.ax_model.specs.Tree.{group};
-ghost use Rattle.ax_model.specs.Widths.{members_width};
-ghost use Rattle.ax_model.specs.declared.flaw.FlawKind.TheVariants.{BadWidth, BadScale, BadStringWidth};
+ghost use Rattle.ax_format.specs.Flaws.{flaw_where, is_among, is_bad_width, is_bad_element_width, is_bad_scale, is_bad_string_width, is_no_multiple, is_too_wide, fixed_flaws, members_flaws, whole_flaws, parts_flaws, names_with};
+ghost use Rattle.ax_format.specs.Paths.{at};
+ghost use Rattle.ax_format.specs.Plain.{fixed_tree, member_tree, members_tree, part_tree};
+ghost use Rattle.ax_format.specs.Tree.{group};
+ghost use Rattle.ax_format.specs.Widths.{members_width};
+ghost use Rattle.ax_format.specs.declared.flaw.FlawKind.TheVariants.{BadWidth, BadScale, BadStringWidth};
 ghost use Rattle.ax_check.specs.Members.{member_flaws, with_member};
 ghost use Rattle.ax_check.specs.Names.{listed, AreSame};
 
 use crate::names::{Names, enter};
 use crate::texts::at_spare;
-use ax_model::{Content, Fixed, Flaw, FlawKind, Flaws, Member, Members, Name, Text, at_name};
+use ax_format::{Content, Fixed, Flaw, FlawKind, Flaws, Member, Members, Name, Text, at_name};
 use std::alloc::{AllocError, Global};
 
 /// Notes a flaw where the test holds. A list of more than 2^32 - 1 flaws is a want of memory.

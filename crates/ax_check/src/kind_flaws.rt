@@ -1,9 +1,9 @@
 //! The flaws of kinds.
 ghost use Rattle.std.specs.Prelude.{◌≡◌, ◌≤◌, ◌++◌, [], map, nat_lt, OnOk};
-ghost use Rattle.ax_model.specs.Flaws.{flaw_where, whole_flaws, parts_flaws, kind_flaws, slots_flaws, names_with, is_too_wide, is_nothing};
-ghost use Rattle.ax_model.specs.Plain.{fixed_tree, members_tree, part_tree, kind_tree, slot_tree, slots_tree};
-ghost use Rattle.ax_model.specs.Tree.{by_fx, extended, compound};
-ghost use Rattle.ax_model.specs.declared.flaw.FlawKind.TheVariants.{BodyNotOctets, TooWide};
+ghost use Rattle.ax_format.specs.Flaws.{flaw_where, whole_flaws, parts_flaws, kind_flaws, slots_flaws, names_with, is_too_wide, is_nothing};
+ghost use Rattle.ax_format.specs.Plain.{fixed_tree, members_tree, part_tree, kind_tree, slot_tree, slots_tree};
+ghost use Rattle.ax_format.specs.Tree.{by_fx, extended, compound};
+ghost use Rattle.ax_format.specs.declared.flaw.FlawKind.TheVariants.{BodyNotOctets, TooWide};
 ghost use Rattle.ax_check.specs.Members.{count_flaws, part_flaws, slot_flaws, with_slot};
 ghost use Rattle.ax_check.specs.Names.{listed, AreSame};
 
@@ -11,7 +11,7 @@ use crate::fixed_flaws::{enter_at, find_in_fixed, find_in_members, note};
 use crate::names::Names;
 use crate::texts::at_body;
 use crate::widths::{bits_over, bits_over_members};
-use ax_model::{Fixed, FlawKind, Flaws, Kind, LastPart, Part, Parts, Slot, Slots, Text, at_part};
+use ax_format::{Fixed, FlawKind, Flaws, Kind, LastPart, Part, Parts, Slot, Slots, Text, at_part};
 use std::alloc::{AllocError, Global};
 
 /// The widest fixed kind or part, in bits: the longest body.

@@ -13,6 +13,6 @@ mod texts;
 mod widths;
 
 pub use accepted::{Accepted, CheckError, accept};
-pub use ax_model::{Flaw, FlawKind, Flaws};
+pub use ax_format::{Flaw, FlawKind, Flaws};
 pub use catalogue::{AddError, Catalogue};
 pub use spec_flaws::flaws;

@@ -1,9 +1,9 @@
 //! Sets of names.
 ghost use Rattle.std.specs.Prelude.{◌≡◌, ◌∷◌, [], IfOk, OnOk};
-ghost use Rattle.ax_model.specs.Flaws.{is_among};
+ghost use Rattle.ax_format.specs.Flaws.{is_among};
 ghost use Rattle.ax_check.specs.Names.{listed, AreSame};
 
-use ax_model::Name;
+use ax_format::Name;
 use indexmap::IndexSet;
 use std::alloc::{AllocError, Global};
 

@@ -1,12 +1,12 @@
 //! Where a path leads.
 ghost use Rattle.std.specs.Prelude.{◌≡◌, ◌∷◌, ◌++◌, [], map, IfOk, OnOk};
-ghost use Rattle.ax_model.specs.Plain.{fixed_tree, kind_tree, part_tree, spec_tree};
-ghost use Rattle.ax_model.specs.Tree.{extended};
+ghost use Rattle.ax_format.specs.Plain.{fixed_tree, kind_tree, part_tree, spec_tree};
+ghost use Rattle.ax_format.specs.Tree.{extended};
 ghost use Rattle.ax_check.specs.Places.{fixed_steps, kind_steps, place_of};
 ghost use Rattle.ax_check.specs.Walking.{Leads};
 
 use crate::accepted::Accepted;
-use ax_model::{
+use ax_format::{
     Fixed, Kind, LastPart, Name, Parts, Path, Place, Steps, find_frn, find_in_parts, find_member,
     find_slot,
 };

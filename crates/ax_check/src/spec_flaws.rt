@@ -1,9 +1,9 @@
 //! The flaws of a specification, in their order.
 ghost use Rattle.std.specs.Prelude.{◌≡◌, ◌∷◌, ◌++◌, [], codes, map, IfOk, OnOk};
-ghost use Rattle.ax_model.specs.Flaws.{items_flaws};
-ghost use Rattle.ax_model.specs.OfCode.{spec_flaws};
-ghost use Rattle.ax_model.specs.Paths.{at};
-ghost use Rattle.ax_model.specs.Plain.{item_tree};
+ghost use Rattle.ax_format.specs.Flaws.{items_flaws};
+ghost use Rattle.ax_format.specs.OfCode.{spec_flaws};
+ghost use Rattle.ax_format.specs.Paths.{at};
+ghost use Rattle.ax_format.specs.Plain.{item_tree};
 ghost use Rattle.ax_check.specs.Members.{item_flaws, uap_slot_flaws, with_uap_slot, item_names, uap_part_flaws};
 ghost use Rattle.ax_check.specs.Names.{listed, AreSame};
 
@@ -11,7 +11,7 @@ use crate::fixed_flaws::{enter_at, note};
 use crate::kind_flaws::{find_in_kind, note_count};
 use crate::names::{Names, enter, has};
 use crate::texts::at_uap;
-use ax_model::{FlawKind, Flaws, Item, Items, Spec, Text, UapSlot, at_name, of_category};
+use ax_format::{FlawKind, Flaws, Item, Items, Spec, Text, UapSlot, at_name, of_category};
 use std::alloc::{AllocError, Global};
 
 /// The flaws of one item after others of these names, which gain its own.

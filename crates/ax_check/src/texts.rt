@@ -1,8 +1,8 @@
 //! Paths of flaws that don't end with a name.
 ghost use Rattle.std.specs.Prelude.{◌≡◌, codes, IfOk};
-ghost use Rattle.ax_model.specs.Paths.{at};
+ghost use Rattle.ax_format.specs.Paths.{at};
 
-use ax_model::{Text, at_word};
+use ax_format::{Text, at_word};
 use std::alloc::{AllocError, Global};
 
 /// The path of a counted or by-FX body.

@@ -1,9 +1,9 @@
 //! Widths modulo 8, which tell whole octets. They are exact where a sum of widths passes 64 bits.
 ghost use Rattle.std.specs.Prelude.{◌≡◌, ◌%◌};
-ghost use Rattle.ax_model.specs.Plain.{fixed_tree, member_tree, members_tree};
-ghost use Rattle.ax_model.specs.Widths.{width, member_width, members_width};
+ghost use Rattle.ax_format.specs.Plain.{fixed_tree, member_tree, members_tree};
+ghost use Rattle.ax_format.specs.Widths.{width, member_width, members_width};
 
-use ax_model::{Fixed, Member, Members};
+use ax_format::{Fixed, Member, Members};
 
 /// The bits of a fixed kind past its whole octets.
 #[cycle(over)]

@@ -8,8 +8,8 @@ use ax_model::{
     Block, Content, Counter, Fixed, Item, Items, Kind, LastPart, Member, Members, Name, Part,
     Parts, Slot, Slots, Spec, Text, UapSlot, UapSlots,
 };
-use ax_samples::{FILE_H1, FILE_K, FILE_N, FILE_W};
 use ax_values::decode_block;
+use ax_vectors::{FILE_H1, FILE_K, FILE_N, FILE_W};
 use std::alloc::Global;
 use std::process::Abort;
 

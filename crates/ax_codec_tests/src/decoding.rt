@@ -3,7 +3,7 @@
 use crate::fixtures::{accepted, octets_of, raw, raw_of, same};
 use crate::seeing::{each_is_read, each_of_file_is_read, is_read_as, read_both_ways};
 use ax_check::Accepted;
-use ax_samples::{FILE_K, FILE_N, FILE_S, FILE_W};
+use ax_vectors::{FILE_K, FILE_N, FILE_S, FILE_W};
 use std::alloc::Global;
 use std::process::Abort;
 

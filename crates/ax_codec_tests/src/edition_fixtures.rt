@@ -6,8 +6,8 @@ use ax_check::Accepted;
 use ax_migrate::{LossList, loss_line};
 use ax_model::{Block, Spec, fits};
 use ax_outside::MemSink;
-use ax_samples::{CAT048_P1, CAT048_P2, FILE_G1, FILE_G2, FILE_H1, FILE_H2, FILE_H3, FILE_W};
 use ax_values::decode_block;
+use ax_vectors::{CAT048_P1, CAT048_P2, FILE_G1, FILE_G2, FILE_H1, FILE_H2, FILE_H3, FILE_W};
 use std::alloc::Global;
 use std::process::Abort;
 

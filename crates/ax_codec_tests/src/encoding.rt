@@ -7,8 +7,8 @@ use crate::seeing::read_both_ways;
 use crate::shown::{shown_error, shown_octets};
 use ax_check::Accepted;
 use ax_model::{Block, Entries, RawBlock, Record, Records, Spec, fits};
-use ax_samples::{FILE_K, FILE_N, FILE_S, FILE_W};
 use ax_values::{EncodeError, decode_block, encode_block};
+use ax_vectors::{FILE_K, FILE_N, FILE_S, FILE_W};
 use std::alloc::Global;
 use std::process::Abort;
 

@@ -3,9 +3,9 @@
 use ax_check::{Accepted, accept};
 use ax_grammar::read_spec;
 use ax_model::RawBlock;
-use ax_samples::octets;
 use ax_tables::{Codec, compile};
 use ax_tokens::tokens;
+use ax_vectors::octets;
 use std::alloc::Global;
 use std::process::Abort;
 

@@ -3,15 +3,15 @@ ghost use Rattle.std.specs.Prelude.{◌≤◌, length, IfSome};
 ghost use Rattle.ax_model.specs.InBounds.{InBounds};
 ghost use Rattle.ax_model.specs.OfCode.{HasNoFlaw};
 ghost use Rattle.ax_model.specs.Plain.{kind_tree};
-ghost use Rattle.ax_reader.specs.Reading.{SlotInBounds, slot_of_frn};
+ghost use Rattle.ax_fspec.specs.Reading.{SlotInBounds, slot_of_frn};
 
 use crate::fixtures::{accepted, octets_of, raw, same};
 use crate::seeing::read_both_ways;
 use crate::shown::{push, push_number, push_record, push_value, shown_error};
 use ax_check::Accepted;
 use ax_model::{Kind, Spec};
-use ax_samples::CAT048_P1;
 use ax_values::{decode_kind, decode_record};
+use ax_vectors::CAT048_P1;
 use std::alloc::Global;
 use std::process::Abort;
 

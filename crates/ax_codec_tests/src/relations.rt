@@ -3,7 +3,7 @@
 use crate::edition_texts::{are_related_as, moves_told, path_told, related, relation_of, shares};
 use crate::fixtures::same;
 use ax_edition::{Moves, RelateError, Relation};
-use ax_samples::{CAT034_P1, CAT048_P1, CAT048_P2, FILE_H1, FILE_H2, FILE_H3};
+use ax_vectors::{CAT034_P1, CAT048_P1, CAT048_P2, FILE_H1, FILE_H2, FILE_H3};
 use std::alloc::Global;
 use std::process::Abort;
 

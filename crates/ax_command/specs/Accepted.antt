@@ -1,7 +1,7 @@
 -- The line for an accepted category file (this project's own rule).
 use Rattle.std.specs.Prelude.{ℕ, List, ◌++◌, length, codes, decimal}
-use Rattle.ax_model.specs.Specification.{SpecTree}
-use Rattle.ax_model.specs.Paths.{three_digits}
+use Rattle.ax_format.specs.Specification.{SpecTree}
+use Rattle.ax_format.specs.Paths.{three_digits}
 
 -- `accepted CCC "EDITION" items I slots S`
 abbrev pub accepted_line : SpecTree → List ℕ

@@ -1,11 +1,11 @@
 -- The lines of the report for each outcome (this project's own rules).
 use Rattle.std.specs.Prelude.{ℕ, List, [], ◌++◌, length, flat_map, codes}
-use Rattle.ax_model.specs.Paths.{three_digits}
-use Rattle.ax_model.specs.declared.flaw.Flaw.{Flaw}
-use Rattle.ax_model.specs.declared.flaw.FlawKind.{FlawKind}
-use Rattle.ax_model.specs.declared.flaw.FlawKind.TheVariants.{DuplicateItem, DuplicateName, UnknownInUap, RepeatedInUap, Empty, TooManySlots, BadWidth, NotOctets, PartNotOctets, BodyNotOctets, BadScale, BadStringWidth, TooWide}
+use Rattle.ax_format.specs.Paths.{three_digits}
+use Rattle.ax_format.specs.declared.flaw.Flaw.{Flaw}
+use Rattle.ax_format.specs.declared.flaw.FlawKind.{FlawKind}
+use Rattle.ax_format.specs.declared.flaw.FlawKind.TheVariants.{DuplicateItem, DuplicateName, UnknownInUap, RepeatedInUap, Empty, TooManySlots, BadWidth, NotOctets, PartNotOctets, BodyNotOctets, BadScale, BadStringWidth, TooWide}
 use Rattle.ax_report.specs.Lines.{numbered}
-use Rattle.ax_stream.specs.Lines.{fault_line}
+use Rattle.ax_blocks.specs.Lines.{fault_line}
 use Rattle.ax_command.specs.declared.outcome.Outcome.{Outcome}
 use Rattle.ax_command.specs.declared.outcome.Outcome.TheVariants.{Done, Usage, SpecRefused, CategoryTwice, InputRefused, TextRefused, MigratedTooLong, InputTooLong, LoadFault, ReadFault, WriteFault, ReportFault, OutOfMemory, OtherCategory, ExpansionUnused, FilterRefused}
 use Rattle.ax_build_work.specs.declared.fault.TextFault.{TextFault}

@@ -7,12 +7,12 @@ use Rattle.ax_command.specs.declared.outcome.Refusal.{Refusal}
 use Rattle.ax_command.specs.declared.outcome.Refusal.TheVariants as RefusalOf
 use Rattle.ax_build_work.specs.declared.fault.TextFault.{TextFault}
 use Rattle.ax_build_work.specs.declared.fault.TextFault.TheVariants as TextFaultOf
-use Rattle.ax_line_stream.specs.declared.end.LinesEnd.{LinesEnd}
-use Rattle.ax_line_stream.specs.declared.end.LinesEnd.TheVariants as LinesEndOf
+use Rattle.ax_lines.specs.declared.end.LinesEnd.{LinesEnd}
+use Rattle.ax_lines.specs.declared.end.LinesEnd.TheVariants as LinesEndOf
 use Rattle.ax_load.specs.declared.fault.LoadStop.{LoadStop}
 use Rattle.ax_load.specs.declared.fault.LoadStop.TheVariants as LoadStopOf
-use Rattle.ax_stream.specs.declared.end.StreamEnd.{StreamEnd}
-use Rattle.ax_stream.specs.declared.end.StreamEnd.TheVariants as EndOf
+use Rattle.ax_blocks.specs.declared.end.StreamEnd.{StreamEnd}
+use Rattle.ax_blocks.specs.declared.end.StreamEnd.TheVariants as EndOf
 
 abbrev pub outcome_of_stop : LoadStop → Outcome
 outcome_of_stop (LoadStopOf.SpecRefused file fault) = OutcomeOf.SpecRefused file fault

@@ -1,9 +1,9 @@
 //! The line for an accepted category file.
 ghost use Rattle.std.specs.Prelude.{◌≡◌, IfOk};
-ghost use Rattle.ax_model.specs.Plain.{spec_tree};
+ghost use Rattle.ax_format.specs.Plain.{spec_tree};
 ghost use Rattle.ax_command.specs.Accepted.{accepted_line};
 
-use ax_model::{Spec, category_digits};
+use ax_format::{Spec, category_digits};
 use itoa::Buffer;
 use std::alloc::{AllocError, Global};
 

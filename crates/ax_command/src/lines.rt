@@ -1,17 +1,17 @@
 //! The lines of the report for an outcome. They are written in pieces and take no memory.
 ghost use Rattle.std.specs.Prelude.{◌≡◌, ◌++◌, codes};
 ghost use Rattle.ax_outside.specs.Changes.{Wrote, sink_change};
-ghost use Rattle.ax_model.specs.Paths.{three_digits};
+ghost use Rattle.ax_format.specs.Paths.{three_digits};
 ghost use Rattle.ax_command.specs.Lines.{kind_name, flaw_line, flaw_lines, fault_lines, filter_line, text_line, lines_of};
 
 use crate::outcome::Outcome;
+use ax_blocks::write_fault_line;
 use ax_build_work::TextFault;
 use ax_filter::FilterFault;
+use ax_format::{Flaw, FlawKind, Flaws, Text, category_digits};
 use ax_load::SpecFault;
-use ax_model::{Flaw, FlawKind, Flaws, Text, category_digits};
 use ax_outside::{Sink, SinkFailed, write_text};
 use ax_report::{write_numbered, write_numbered_text, write_three, write_two, write_two_numbers};
-use ax_stream::write_fault_line;
 
 fn kind_text(kind: FlawKind) -> &'static [u8]
     ensures { result.now ≡ kind_name kind }

@@ -3,11 +3,11 @@ ghost use Rattle.std.specs.Prelude.{◌≡◌};
 ghost use Rattle.ax_command.specs.Outcomes.{outcome_of_stop, outcome_of_end, outcome_of_lines, outcome_of_job_stop};
 ghost use Rattle.ax_command.specs.Status.{status_of};
 
+use ax_blocks::{InputFault, StreamEnd};
 use ax_build_work::TextFault;
 use ax_filter::FilterFault;
-use ax_line_stream::LinesEnd;
+use ax_lines::LinesEnd;
 use ax_load::{LoadStop, SpecFault};
-use ax_stream::{InputFault, StreamEnd};
 
 /// How a run ends.
 #[derive(Drop)]

@@ -6,18 +6,18 @@ use Rattle.std.specs.Option.{option_map}
 use Rattle.ax_convert_work.specs.ConvertCommand.{told_octets}
 use Rattle.ax_convert_work.specs.Making.{AreDataBlocks, NoDataBlocks, octets_in}
 use Rattle.ax_convert_work.specs.declared.blocks.DataBlock.{DataBlock}
-use Rattle.ax_model.proofs.Namings.{from_place}
-use Rattle.ax_model.specs.Blocks.{BlockTree, read_block}
-use Rattle.ax_model.specs.CanonicalOctets.{canon_block}
-use Rattle.ax_model.specs.Lengths.{capped}
-use Rattle.ax_model.specs.OfCode.{block_octets}
-use Rattle.ax_model.specs.Plain.{spec_tree, block_tree, records_tree}
-use Rattle.ax_model.specs.Split.{Split, first_too_long}
-use Rattle.ax_model.specs.declared.record.Block.{Block}
-use Rattle.ax_model.specs.declared.record.Block.TheVariants as BlockOf
-use Rattle.ax_model.specs.declared.spec.Spec.{Spec}
+use Rattle.ax_format.proofs.Namings.{from_place}
+use Rattle.ax_format.specs.Blocks.{BlockTree, read_block}
+use Rattle.ax_format.specs.CanonicalOctets.{canon_block}
+use Rattle.ax_format.specs.Lengths.{capped}
+use Rattle.ax_format.specs.OfCode.{block_octets}
+use Rattle.ax_format.specs.Plain.{spec_tree, block_tree, records_tree}
+use Rattle.ax_format.specs.Split.{Split, first_too_long}
+use Rattle.ax_format.specs.declared.record.Block.{Block}
+use Rattle.ax_format.specs.declared.record.Block.TheVariants as BlockOf
+use Rattle.ax_format.specs.declared.spec.Spec.{Spec}
 use Rattle.ax_rescale.specs.Splits.{ArePieces, IsPiece, IsRead, long_octets, records_in}
-use Rattle.ax_stream.specs.declared.work.WorkStop.TheVariants.{TooLong}
+use Rattle.ax_blocks.specs.declared.work.WorkStop.TheVariants.{TooLong}
 
 -- ---- lists
 

@@ -1,4 +1,3 @@
-pub mod Answering
 pub mod DataBlocks
 pub mod MadeBlocks
 pub mod Migrating

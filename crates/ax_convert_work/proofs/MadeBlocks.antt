@@ -4,12 +4,12 @@ use Rattle.std.specs.Option.{option_map}
 use Rattle.ax_convert_work.specs.ConvertCommand.{convert_answer, told_octets, unless_too_long}
 use Rattle.ax_convert_work.specs.Making.{AreDataBlocks, IsMade, IsReadBlock, NoDataBlocks, NotMade, ShortIfOpaque, TellsTooLong, all_octets}
 use Rattle.ax_convert_work.specs.declared.blocks.DataBlock.{DataBlock}
-use Rattle.ax_model.specs.Blocks.{BlockTree, read_block, opaque_block}
-use Rattle.ax_model.specs.Framing.{RawTree}
-use Rattle.ax_model.specs.Plain.{spec_tree, block_tree}
-use Rattle.ax_model.specs.Specification.{SpecTree}
-use Rattle.ax_model.specs.declared.record.Block.{Block}
-use Rattle.ax_model.specs.declared.spec.Spec.{Spec}
+use Rattle.ax_format.specs.Blocks.{BlockTree, read_block, opaque_block}
+use Rattle.ax_format.specs.Framing.{RawTree}
+use Rattle.ax_format.specs.Plain.{spec_tree, block_tree}
+use Rattle.ax_format.specs.Specification.{SpecTree}
+use Rattle.ax_format.specs.declared.record.Block.{Block}
+use Rattle.ax_format.specs.declared.spec.Spec.{Spec}
 use Rattle.ax_relation.specs.Relates.{Relates}
 use Rattle.ax_relation.specs.declared.relation.Relation.{Relation}
 use Rattle.ax_rescale.proofs.ConversionOnce.{conversion_is_block}
@@ -17,9 +17,9 @@ use Rattle.ax_rescale.specs.ConvertedRecord.{converted_block}
 use Rattle.ax_rescale.specs.Converting.{BlockConverted, misses_of}
 use Rattle.ax_rescale.specs.Misses.{block_misses, missed_lines}
 use Rattle.ax_rescale.specs.declared.miss.Miss.{Miss}
-use Rattle.ax_stream.specs.Commands.{gives, too_long}
-use Rattle.ax_stream.specs.declared.work.WorkStop.{WorkStop}
-use Rattle.ax_stream.specs.declared.work.WorkStop.TheVariants.{Fault, TooLong, WriteFault, ReportFault, OutOfMemory}
+use Rattle.ax_blocks.specs.Commands.{gives, too_long}
+use Rattle.ax_blocks.specs.declared.work.WorkStop.{WorkStop}
+use Rattle.ax_blocks.specs.declared.work.WorkStop.TheVariants.{Fault, TooLong, WriteFault, ReportFault, OutOfMemory}
 
 -- ---- the answer
 

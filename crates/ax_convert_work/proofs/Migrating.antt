@@ -6,28 +6,28 @@ use Rattle.ax_bits.specs.Bits.{bits}
 use Rattle.ax_convert_work.specs.ConvertCommand as Convert
 use Rattle.ax_convert_work.specs.ConvertCommand.{convert_command, told_answer, told_octets}
 use Rattle.ax_convert_work.specs.Standing.{MayConvert, TellsMayConvert}
-use Rattle.ax_edition_laws.proofs.Once.{moved_migrated}
-use Rattle.ax_edition_laws.proofs.SmallBlocks.{migrated_is_small}
-use Rattle.ax_edition_laws.specs.Moved.{moved_record}
+use Rattle.ax_relation.proofs.Once.{moved_migrated}
+use Rattle.ax_relation.proofs.SmallBlocks.{migrated_is_small}
+use Rattle.ax_relation.specs.Moved.{moved_record}
 use Rattle.ax_migrate.specs.Losing.{loss, losses_from, lost_line, lost_lines}
 use Rattle.ax_migrate_views.specs.Blocks.{old_tree, new_tree}
 use Rattle.ax_migrate_views.specs.declared.migrator.Migrator.{Migrator}
-use Rattle.ax_migrate_work.specs.Commands as Migrate
-use Rattle.ax_migrate_work.specs.Commands.{migrate_command}
-use Rattle.ax_model.proofs.CanonFramed.{length-framed}
-use Rattle.ax_model.proofs.RecordLaws.{record_shape, record_canon_shortest}
-use Rattle.ax_model.specs.Blocks.{BlockTree, read_block, opaque_block}
-use Rattle.ax_model.specs.Bodies.{CanonBody, CanonRecord, RecordsSpell, SpellsRecord}
-use Rattle.ax_model.specs.CanonicalOctets.{canon_length, octets_of}
-use Rattle.ax_model.specs.Ends.{RawSpells}
-use Rattle.ax_model.specs.Flaws.{NoFlaw}
-use Rattle.ax_model.specs.Framing.{RawTree}
-use Rattle.ax_model.specs.Migrated.{is_lost, Lost}
-use Rattle.ax_model.specs.Named.{Key, key_text, Named, NamedEntry, named_keys}
-use Rattle.ax_model.specs.Shared.{Shared}
-use Rattle.ax_model.specs.Specification.{SpecTree}
-use Rattle.ax_model.specs.Split.{first_too_long, fits_within, records_length, split_octets}
-use Rattle.ax_model.specs.Tree.{EntriesTree}
+use Rattle.ax_migrate.specs.Commands as Migrate
+use Rattle.ax_migrate.specs.Commands.{migrate_command}
+use Rattle.ax_format.proofs.CanonFramed.{length-framed}
+use Rattle.ax_format.proofs.RecordLaws.{record_shape, record_canon_shortest}
+use Rattle.ax_format.specs.Blocks.{BlockTree, read_block, opaque_block}
+use Rattle.ax_format.specs.Bodies.{CanonBody, CanonRecord, RecordsSpell, SpellsRecord}
+use Rattle.ax_format.specs.CanonicalOctets.{canon_length, octets_of}
+use Rattle.ax_format.specs.Ends.{RawSpells}
+use Rattle.ax_format.specs.Flaws.{NoFlaw}
+use Rattle.ax_format.specs.Framing.{RawTree}
+use Rattle.ax_format.specs.Migrated.{is_lost, Lost}
+use Rattle.ax_format.specs.Named.{Key, key_text, Named, NamedEntry, named_keys}
+use Rattle.ax_format.specs.Shared.{Shared}
+use Rattle.ax_format.specs.Specification.{SpecTree}
+use Rattle.ax_format.specs.Split.{first_too_long, fits_within, records_length, split_octets}
+use Rattle.ax_format.specs.Tree.{EntriesTree}
 use Rattle.ax_outside.specs.Changes.{SinkChange}
 use Rattle.ax_report.specs.Lines.{entry_line}
 use Rattle.ax_rescale.proofs.NothingConverted.{not_convertible, record_moves, missed_are_lost}
@@ -36,10 +36,10 @@ use Rattle.ax_rescale.specs.ConvertedRecord.{converted_record}
 use Rattle.ax_rescale.specs.Converts.{converting_slots, some_stands, stands_in}
 use Rattle.ax_rescale.specs.Missed.{missed_line, missed_word}
 use Rattle.ax_rescale.specs.Misses.{miss, misses_from, missed_lines}
-use Rattle.ax_stream.specs.Commands.{BlockCommand, too_long}
-use Rattle.ax_stream.specs.Taking.{Takes, Means, GivesFor}
-use Rattle.ax_stream.specs.declared.work.WorkStop.{WorkStop}
-use Rattle.ax_stream.specs.declared.work.WorkStop.TheVariants.{Fault, TooLong, WriteFault, ReportFault, OutOfMemory}
+use Rattle.ax_blocks.specs.Commands.{BlockCommand, too_long}
+use Rattle.ax_blocks.specs.BlockTaking.{Takes, Means, GivesFor}
+use Rattle.ax_blocks.specs.declared.work.WorkStop.{WorkStop}
+use Rattle.ax_blocks.specs.declared.work.WorkStop.TheVariants.{Fault, TooLong, WriteFault, ReportFault, OutOfMemory}
 
 -- ---- the answer
 

@@ -2,19 +2,19 @@
 use Rattle.std.proofs.Common.{◌≡◌, ◌≤◌, ◌==◌, Bool, true, false, cond, [], ◌∷◌, Some, None, length, refl, sym, ◌∙◌, ap, subst, arith}
 use Rattle.std.proofs.lemmas.Bool.{eqb-true}
 use Rattle.ax_convert_work.specs.Making.{IsReadBlock, NotMade, ShortIfOpaque}
-use Rattle.ax_edition_laws.proofs.Lookups.{equal}
-use Rattle.ax_model.specs.Blocks.{BlockTree, opaque_block}
-use Rattle.ax_model.specs.CanonicalOctets.{canon_length, framed}
-use Rattle.ax_model.specs.Ends.{RawSpells}
-use Rattle.ax_model.specs.Framing.{RawTree}
-use Rattle.ax_model.specs.Plain.{spec_tree, block_tree}
-use Rattle.ax_model.specs.Specification.{SpecTree, spec_of}
-use Rattle.ax_model.specs.declared.fault.BodyFault.{BodyFault}
-use Rattle.ax_model.specs.declared.record.Block.{Block}
-use Rattle.ax_model.specs.declared.spec.Spec.{Spec}
-use Rattle.ax_stream.proofs.BlockSteps.{short_fault}
-use Rattle.ax_stream.proofs.OpaqueBlocks.{raw_framed}
-use Rattle.ax_stream.specs.declared.work.WorkStop.TheVariants.{Fault}
+use Rattle.ax_relation.proofs.Lookups.{equal}
+use Rattle.ax_format.specs.Blocks.{BlockTree, opaque_block}
+use Rattle.ax_format.specs.CanonicalOctets.{canon_length, framed}
+use Rattle.ax_format.specs.Ends.{RawSpells}
+use Rattle.ax_format.specs.Framing.{RawTree}
+use Rattle.ax_format.specs.Plain.{spec_tree, block_tree}
+use Rattle.ax_format.specs.Specification.{SpecTree, spec_of}
+use Rattle.ax_format.specs.declared.fault.BodyFault.{BodyFault}
+use Rattle.ax_format.specs.declared.record.Block.{Block}
+use Rattle.ax_format.specs.declared.spec.Spec.{Spec}
+use Rattle.ax_blocks.proofs.BlockSteps.{short_fault}
+use Rattle.ax_blocks.proofs.OpaqueBlocks.{raw_framed}
+use Rattle.ax_blocks.specs.declared.work.WorkStop.TheVariants.{Fault}
 use Rattle.ax_values.proofs.RoundTrip.{decoded_fits, opaque_fits, opaque_length}
 use Rattle.ax_values.specs.Decoding.{IsReadOf, IsBodyFault}
 

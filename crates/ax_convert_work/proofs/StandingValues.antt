@@ -4,19 +4,19 @@ use Rattle.std.proofs.lemmas.List.{drop_all}
 use Rattle.std.specs.List.{AllZip}
 use Rattle.ax_bits.specs.Bits.{bits}
 use Rattle.ax_convert_work.specs.Standing.{SomeStands}
-use Rattle.ax_model.proofs.Namings.{from_place}
-use Rattle.ax_model.proofs.Spelled.{read_spelled}
-use Rattle.ax_model.specs.At.{slot_value}
-use Rattle.ax_model.specs.Bodies.{SpellsBody}
-use Rattle.ax_model.specs.Flaws.{NoFlaw}
-use Rattle.ax_model.specs.Reader.{read, got}
-use Rattle.ax_model.specs.Specification.{SpecTree, record_kind}
-use Rattle.ax_model.specs.Tree.{EntriesTree, ValueTree, marked}
+use Rattle.ax_format.proofs.Namings.{from_place}
+use Rattle.ax_format.proofs.Spelled.{read_spelled}
+use Rattle.ax_format.specs.At.{slot_value}
+use Rattle.ax_format.specs.Bodies.{SpellsBody}
+use Rattle.ax_format.specs.Flaws.{NoFlaw}
+use Rattle.ax_format.specs.Reader.{read, got}
+use Rattle.ax_format.specs.Specification.{SpecTree, record_kind}
+use Rattle.ax_format.specs.Tree.{EntriesTree, ValueTree, marked}
 use Rattle.ax_rescale.specs.Converts.{some_stands, stands_in}
-use Rattle.ax_tables.proofs.BareKinds.{bare_read, stands_record}
-use Rattle.ax_tables.specs.Standing.{StandsFor}
-use Rattle.ax_tables.specs.Table.{record_kind_at}
-use Rattle.ax_tables.specs.declared.codec.Codec.{Codec}
+use Rattle.ax_codec.proofs.BareKinds.{bare_read, stands_record}
+use Rattle.ax_codec.specs.Standing.{StandsFor}
+use Rattle.ax_codec.specs.Table.{record_kind_at}
+use Rattle.ax_codec.specs.declared.codec.Codec.{Codec}
 use Rattle.ax_view.specs.Shown.{item_value}
 use Rattle.ax_view.specs.Values.{value_in, value_read, entries_in}
 use Rattle.ax_view.specs.Views.{IsRecordOf, SpellEach}

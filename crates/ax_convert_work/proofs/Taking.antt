@@ -3,17 +3,17 @@ use Rattle.std.proofs.Common.{ℕ, List, Option, Result, Ok, Err}
 use Rattle.ax_convert_work.specs.ConvertCommand.{convert_command}
 use Rattle.ax_convert_work.specs.Making.{IsMade, NotMade, all_octets}
 use Rattle.ax_convert_work.specs.declared.blocks.DataBlock.{DataBlock}
-use Rattle.ax_model.specs.Framing.{RawTree}
-use Rattle.ax_model.specs.Specification.{SpecTree}
+use Rattle.ax_format.specs.Framing.{RawTree}
+use Rattle.ax_format.specs.Specification.{SpecTree}
 use Rattle.ax_outside.proofs.Pieces.{change}
 use Rattle.ax_outside.specs.Changes.{SinkChange, Wrote}
 use Rattle.ax_outside.specs.declared.sinks.SinkFailed.{SinkFailed}
 use Rattle.ax_rescale.specs.Misses.{missed_lines}
 use Rattle.ax_rescale.specs.declared.miss.Miss.{Miss}
-use Rattle.ax_stream.proofs.Taken.{Answers, octets_written, takes_after_lines, takes_cut_line, takes_fault, takes_too_long, takes_nothing}
-use Rattle.ax_stream.specs.Taking.{GivesFor, Takes}
-use Rattle.ax_stream.specs.declared.work.WorkStop.{WorkStop}
-use Rattle.ax_stream.specs.declared.work.WorkStop.TheVariants.{Fault, TooLong, WriteFault, ReportFault, OutOfMemory}
+use Rattle.ax_blocks.proofs.Taken.{Answers, octets_written, takes_after_lines, takes_cut_line, takes_fault, takes_too_long, takes_nothing}
+use Rattle.ax_blocks.specs.BlockTaking.{GivesFor, Takes}
+use Rattle.ax_blocks.specs.declared.work.WorkStop.{WorkStop}
+use Rattle.ax_blocks.specs.declared.work.WorkStop.TheVariants.{Fault, TooLong, WriteFault, ReportFault, OutOfMemory}
 
 module _ (old new : SpecTree) (number : ℕ) (raw : RawTree) where
   module _ (misses : List Miss) (blocks : List DataBlock) (m : IsMade old new raw misses blocks) where

@@ -4,17 +4,17 @@ use Rattle.std.proofs.lemmas.Bool.{eqb-true}
 use Rattle.ax_bits.specs.Bits.{bits}
 use Rattle.ax_convert_work.proofs.Migrating.{each_block}
 use Rattle.ax_convert_work.specs.Standing.{MayConvert, SomeStands, TellsMayConvert}
-use Rattle.ax_edition_laws.proofs.Lookups.{equal}
+use Rattle.ax_relation.proofs.Lookups.{equal}
 use Rattle.ax_migrate_views.specs.Blocks.{old_tree, new_tree}
 use Rattle.ax_migrate_views.specs.declared.migrator.Migrator.{Migrator}
-use Rattle.ax_model.proofs.Once.{body_never_both}
-use Rattle.ax_model.specs.Blocks.{BlockTree, read_block, opaque_block}
-use Rattle.ax_model.specs.Bodies.{SpellsBody}
-use Rattle.ax_model.specs.Ends.{RawSpells}
-use Rattle.ax_model.specs.Framing.{RawTree}
-use Rattle.ax_model.specs.Specification.{SpecTree}
-use Rattle.ax_model.specs.Tree.{EntriesTree}
-use Rattle.ax_model.specs.declared.fault.BodyFault.{BodyFault}
+use Rattle.ax_format.proofs.Once.{body_never_both}
+use Rattle.ax_format.specs.Blocks.{BlockTree, read_block, opaque_block}
+use Rattle.ax_format.specs.Bodies.{SpellsBody}
+use Rattle.ax_format.specs.Ends.{RawSpells}
+use Rattle.ax_format.specs.Framing.{RawTree}
+use Rattle.ax_format.specs.Specification.{SpecTree}
+use Rattle.ax_format.specs.Tree.{EntriesTree}
+use Rattle.ax_format.specs.declared.fault.BodyFault.{BodyFault}
 use Rattle.ax_rescale.specs.Converts.{converting_slots, some_stands}
 use Rattle.ax_view.specs.Views.{FailsThere}
 

@@ -1,12 +1,12 @@
 -- The command `convert`. Blocks are read under the old edition alone.
 use Rattle.std.specs.Prelude.{ℕ, min, List, [], ◌∷◌, map, Option, Some, None}
-use Rattle.ax_model.specs.Blocks.{BlockTree, read_block, opaque_block}
-use Rattle.ax_model.specs.CanonicalOctets.{framed}
-use Rattle.ax_model.specs.Specification.{SpecTree}
-use Rattle.ax_model.specs.Split.{first_too_long, split_octets}
+use Rattle.ax_format.specs.Blocks.{BlockTree, read_block, opaque_block}
+use Rattle.ax_format.specs.CanonicalOctets.{framed}
+use Rattle.ax_format.specs.Specification.{SpecTree}
+use Rattle.ax_format.specs.Split.{first_too_long, split_octets}
 use Rattle.ax_rescale.specs.ConvertedRecord.{converted_record}
 use Rattle.ax_rescale.specs.Misses.{block_misses, missed_lines}
-use Rattle.ax_stream.specs.Commands.{BlockCommand, BlockAnswer, gives, too_long}
+use Rattle.ax_blocks.specs.Commands.{BlockCommand, BlockAnswer, gives, too_long}
 
 -- the greatest number that is told stands for every greater one
 abbrev pub told_octets : ℕ → ℕ

@@ -3,22 +3,22 @@ use Rattle.std.specs.Prelude.{◌≡◌, ℕ, ◌≤◌, List, [], ◌∷◌, fl
 use Rattle.std.specs.Option.{option_map}
 use Rattle.ax_convert_work.specs.ConvertCommand.{convert_answer, told_octets}
 use Rattle.ax_convert_work.specs.declared.blocks.DataBlock.{DataBlock}
-use Rattle.ax_model.specs.Blocks.{BlockTree, read_block, opaque_block}
-use Rattle.ax_model.specs.CanonicalOctets.{canon_length, framed}
-use Rattle.ax_model.specs.Ends.{RawSpells, RawFails}
-use Rattle.ax_model.specs.Framing.{RawTree}
-use Rattle.ax_model.specs.OfCode.{BlockFits}
-use Rattle.ax_model.specs.Plain.{spec_tree, block_tree}
-use Rattle.ax_model.specs.Sizes.{longest_block}
-use Rattle.ax_model.specs.Specification.{SpecTree}
-use Rattle.ax_model.specs.Split.{first_too_long, split_octets}
-use Rattle.ax_model.specs.declared.record.Block.{Block}
-use Rattle.ax_model.specs.declared.spec.Spec.{Spec}
+use Rattle.ax_format.specs.Blocks.{BlockTree, read_block, opaque_block}
+use Rattle.ax_format.specs.CanonicalOctets.{canon_length, framed}
+use Rattle.ax_format.specs.Ends.{RawSpells, RawFails}
+use Rattle.ax_format.specs.Framing.{RawTree}
+use Rattle.ax_format.specs.OfCode.{BlockFits}
+use Rattle.ax_format.specs.Plain.{spec_tree, block_tree}
+use Rattle.ax_format.specs.Sizes.{longest_block}
+use Rattle.ax_format.specs.Specification.{SpecTree}
+use Rattle.ax_format.specs.Split.{first_too_long, split_octets}
+use Rattle.ax_format.specs.declared.record.Block.{Block}
+use Rattle.ax_format.specs.declared.spec.Spec.{Spec}
 use Rattle.ax_rescale.specs.Misses.{missed_lines}
 use Rattle.ax_rescale.specs.declared.miss.Miss.{Miss}
-use Rattle.ax_stream.specs.Commands.{gives, too_long}
-use Rattle.ax_stream.specs.declared.work.WorkStop.{WorkStop}
-use Rattle.ax_stream.specs.declared.work.WorkStop.TheVariants.{Fault, TooLong, WriteFault, ReportFault, OutOfMemory}
+use Rattle.ax_blocks.specs.Commands.{gives, too_long}
+use Rattle.ax_blocks.specs.declared.work.WorkStop.{WorkStop}
+use Rattle.ax_blocks.specs.declared.work.WorkStop.TheVariants.{Fault, TooLong, WriteFault, ReportFault, OutOfMemory}
 
 abbrev pub octets_in : DataBlock → List ℕ
 octets_in block = block.octets.items

@@ -4,19 +4,18 @@ ghost use Rattle.ax_blocks.specs.Reader.{raw_tree};
 ghost use Rattle.ax_convert_work.specs.ConvertCommand.{convert_command};
 ghost use Rattle.ax_convert_work.specs.Standing.{TellsMayConvert};
 ghost use Rattle.ax_migrate_views.specs.Blocks.{new_tree, old_tree};
-ghost use Rattle.ax_model.specs.Plain.{spec_tree};
+ghost use Rattle.ax_format.specs.Plain.{spec_tree};
 ghost use Rattle.ax_relation.specs.Relates.{Relates};
 ghost use Rattle.ax_rescale.specs.Converts.{converting_slots};
 
 use crate::standing::some_stands;
 use crate::work::ConvertTrees;
+use ax_blocks::{BlockWork, WorkStop};
 use ax_check::Accepted;
-use ax_migrate_view_work::MigrateViews;
-use ax_migrate_views::Migrator;
-use ax_model::RawBlock;
+use ax_format::RawBlock;
+use ax_migrate_views::{MigrateViews, Migrator};
 use ax_outside::Sink;
 use ax_relation::Relation;
-use ax_stream::{BlockWork, WorkStop};
 use ax_view::scan;
 use std::alloc::{AllocError, Global};
 
@@ -79,7 +78,7 @@ impl<'m, 'c> ConvertBlocks<'m, 'c> {
 
 impl<'m, 'c> BlockWork for ConvertBlocks<'m, 'c> {
     ghost use Rattle.std.specs.Prelude.{true};
-    ghost use Rattle.ax_migrate_work.specs.Commands.{migrate_command};
+    ghost use Rattle.ax_migrate.specs.Commands.{migrate_command};
 
     ghost command = { λ s. convert_command (old_tree s.migrator.now) (new_tree s.migrator.now) };
 

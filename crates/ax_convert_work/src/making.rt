@@ -2,15 +2,15 @@
 ghost use Rattle.std.specs.Prelude.{◌≡◌, IfOk, IfErr};
 ghost use Rattle.ax_blocks.specs.Reader.{raw_tree};
 ghost use Rattle.ax_convert_work.specs.Making.{IsMade, IsReadBlock, NotMade};
-ghost use Rattle.ax_model.specs.OfCode.{HasNoFlaw};
-ghost use Rattle.ax_model.specs.Plain.{spec_tree};
-ghost use Rattle.ax_model.specs.Specification.{SpecTree};
+ghost use Rattle.ax_format.specs.OfCode.{HasNoFlaw};
+ghost use Rattle.ax_format.specs.Plain.{spec_tree};
+ghost use Rattle.ax_format.specs.Specification.{SpecTree};
 ghost use Rattle.ax_rescale.specs.Converting.{IsConverter};
 
 use crate::blocks::{DataBlocks, encode_converted};
-use ax_model::{Block, RawBlock, Spec};
+use ax_blocks::WorkStop;
+use ax_format::{Block, RawBlock, Spec};
 use ax_rescale::{Converter, Misses};
-use ax_stream::WorkStop;
 use ax_uap::UapItems;
 use ax_values::{DecodeError, decode_block};
 use std::alloc::Global;

@@ -1,17 +1,17 @@
 //! The work of `convert` on one block.
 ghost use Rattle.std.specs.Prelude.{◌≡◌, IfOk};
 ghost use Rattle.ax_convert_work.specs.ConvertCommand.{convert_command};
-ghost use Rattle.ax_model.specs.Plain.{spec_tree};
+ghost use Rattle.ax_format.specs.Plain.{spec_tree};
 ghost use Rattle.ax_relation.specs.Relates.{Relates};
 
 use crate::making::make;
 use crate::writing::{write_blocks, write_misses};
+use ax_blocks::{BlockWork, WorkStop};
 use ax_check::Accepted;
-use ax_model::RawBlock;
+use ax_format::RawBlock;
 use ax_outside::Sink;
 use ax_relation::Relation;
 use ax_rescale::Converter;
-use ax_stream::{BlockWork, WorkStop};
 use ax_uap::UapItems;
 use std::alloc::{AllocError, Global};
 

@@ -1,12 +1,11 @@
 -- How many first parts two lists have in common, one part at a time.
-use Rattle.std.proofs.Common.{◌≡◌, ℕ, suc, ◌+◌, ◌<◌, ◌≤◌, true, false, cond, List, [], ◌∷◌, length, map, drop, get_or, refl, ◌∙◌, ap, arith}
+use Rattle.std.proofs.Common.{List, [], ap, arith, cond, drop, false, get_or, length, map, refl, suc, true, ℕ, ◌+◌, ◌<◌, ◌∙◌, ◌∷◌, ◌≡◌, ◌≤◌}
 use Rattle.std.proofs.lemmas.List.{drop_all}
-use Rattle.ax_model.specs.Same.{common}
-use Rattle.ax_model.proofs.Namings.{from_place}
-use Rattle.ax_model.specs.Plain.{part_tree}
-use Rattle.ax_model.specs.Same.{are_same_members}
-use Rattle.ax_model.specs.Tree.{MembersTree}
-use Rattle.ax_model.specs.declared.kind.Part.{Part}
+use Rattle.ax_format.specs.Same.{are_same_members, common}
+use Rattle.ax_format.proofs.Namings.{from_place}
+use Rattle.ax_format.specs.Plain.{part_tree}
+use Rattle.ax_format.specs.Tree.{MembersTree}
+use Rattle.ax_format.specs.declared.kind.Part.{Part}
 
 no_new : (ps : List MembersTree) → common ps [] ≡ 0
 no_new [] = refl

@@ -5,14 +5,14 @@ use Rattle.ax_edition.specs.Index.{seen_kind, kind_numbered, Finds}
 use Rattle.ax_edition.specs.Numbers.{Counts}
 use Rattle.ax_edition.specs.SlotItems.{item_slot, items_tree}
 use Rattle.ax_edition.specs.declared.index.Index.{Index}
-use Rattle.ax_edition_laws.proofs.Lookups.{found_is}
-use Rattle.ax_model.specs.Lengths.{kind_of_slot, kind_after}
-use Rattle.ax_model.specs.Naming.{found_or, slot_named}
-use Rattle.ax_model.specs.Plain.{slot_tree, slots_tree}
-use Rattle.ax_model.specs.Tree.{KindTree, SlotTree, SlotsTree, no_slots, slots_of, slot_and, spare_slot, subitem}
-use Rattle.ax_model.specs.declared.kind.Kind.{Kind}
-use Rattle.ax_model.specs.declared.kind.Slot.{Slot}
-use Rattle.ax_model.specs.declared.spec.Item.{Item}
+use Rattle.ax_relation.proofs.Lookups.{found_is}
+use Rattle.ax_format.specs.Lengths.{kind_of_slot, kind_after}
+use Rattle.ax_format.specs.Naming.{found_or, slot_named}
+use Rattle.ax_format.specs.Plain.{slot_tree, slots_tree}
+use Rattle.ax_format.specs.Tree.{KindTree, SlotTree, SlotsTree, no_slots, slots_of, slot_and, spare_slot, subitem}
+use Rattle.ax_format.specs.declared.kind.Kind.{Kind}
+use Rattle.ax_format.specs.declared.kind.Slot.{Slot}
+use Rattle.ax_format.specs.declared.spec.Item.{Item}
 
 -- the slot found has its number's kind
 named_kind : (n : ℕ) (name : List ℕ) (ss : SlotsTree) (t : ℕ) (k : KindTree) → slot_named n name ss ≡ Some (t, k) → (i : ℕ) × (t ≡ n + i) × (kind_after i ss ≡ Some k)

@@ -9,13 +9,13 @@ use Rattle.ax_relation.specs.PlainMoves.{move_tree}
 use Rattle.ax_edition.specs.SlotItems.{item_slot, items_tree}
 use Rattle.ax_edition.specs.declared.index.Index.{Index}
 use Rattle.ax_relation.specs.declared.moves.Move.{Move}
-use Rattle.ax_model.proofs.Namings.{from_place}
-use Rattle.ax_model.specs.Plain.{slot_tree, slots_tree}
-use Rattle.ax_model.specs.Same.{common_parts}
-use Rattle.ax_model.specs.Shared.{is_shared_kind}
-use Rattle.ax_model.specs.Tree.{KindTree, fixed, extended, counted, by_fx, explicit, compound, SlotTree, SlotsTree, slots_of, slot_and, spare_slot, subitem}
-use Rattle.ax_model.specs.declared.kind.Slot.{Slot}
-use Rattle.ax_model.specs.declared.spec.Item.{Item}
+use Rattle.ax_format.proofs.Namings.{from_place}
+use Rattle.ax_format.specs.Plain.{slot_tree, slots_tree}
+use Rattle.ax_format.specs.Same.{common_parts}
+use Rattle.ax_format.specs.Shared.{is_shared_kind}
+use Rattle.ax_format.specs.Tree.{KindTree, fixed, extended, counted, by_fx, explicit, compound, SlotTree, SlotsTree, slots_of, slot_and, spare_slot, subitem}
+use Rattle.ax_format.specs.declared.kind.Slot.{Slot}
+use Rattle.ax_format.specs.declared.spec.Item.{Item}
 
 -- ---- one move
 

@@ -7,18 +7,18 @@ use Rattle.ax_edition.specs.Known.{kind_below, known_kind, known_slots}
 use Rattle.ax_relation.specs.Known.{nothing, sharing_of, sharing_at, said_of, Knows, IsKnown}
 use Rattle.ax_relation.specs.declared.known.Sharing.{Sharing}
 use Rattle.ax_relation.specs.declared.known.Known.{Known}
-use Rattle.ax_edition_laws.proofs.Distinct.{Distinct}
-use Rattle.ax_edition_laws.proofs.DistinctNames.{record_distinct}
-use Rattle.ax_edition_laws.proofs.PlacedPaths.{StandsNamed, all_named, placed_slot_names}
-use Rattle.ax_model.specs.Named.{kind_at, named_paths}
-use Rattle.ax_model.specs.Naming.{slot_named}
-use Rattle.ax_model.specs.OfCode.{HasNoFlaw}
-use Rattle.ax_model.specs.Placed.{Placed, placed_under, placed_of, placed_slots, placed_paths}
-use Rattle.ax_model.specs.Plain.{spec_tree}
-use Rattle.ax_model.specs.Shared.{are_shared, in_common}
-use Rattle.ax_model.specs.Specification.{SpecTree, record_slots, record_kind}
-use Rattle.ax_model.specs.Tree.{KindTree, fixed, extended, counted, by_fx, explicit, compound, SlotsTree, no_slots, slot_and, spare_slot, subitem}
-use Rattle.ax_model.specs.declared.spec.Spec.{Spec}
+use Rattle.ax_relation.proofs.Distinct.{Distinct}
+use Rattle.ax_relation.proofs.DistinctNames.{record_distinct}
+use Rattle.ax_relation.proofs.PlacedPaths.{StandsNamed, all_named, placed_slot_names}
+use Rattle.ax_format.specs.Named.{kind_at, named_paths}
+use Rattle.ax_format.specs.Naming.{slot_named}
+use Rattle.ax_format.specs.OfCode.{HasNoFlaw}
+use Rattle.ax_format.specs.Placed.{Placed, placed_under, placed_of, placed_slots, placed_paths}
+use Rattle.ax_format.specs.Plain.{spec_tree}
+use Rattle.ax_format.specs.Shared.{are_shared, in_common}
+use Rattle.ax_format.specs.Specification.{SpecTree, record_slots, record_kind}
+use Rattle.ax_format.specs.Tree.{KindTree, fixed, extended, counted, by_fx, explicit, compound, SlotsTree, no_slots, slot_and, spare_slot, subitem}
+use Rattle.ax_format.specs.declared.spec.Spec.{Spec}
 
 -- ---- the pairs are the named paths, each with what is shared at it
 

@@ -6,13 +6,13 @@ use Rattle.ax_edition.specs.Relating.{target_below, lead, LeadsBelow, parts_with
 use Rattle.ax_edition.specs.SlotItems.{item_slot, items_tree}
 use Rattle.ax_edition.specs.declared.relating.Level.{Level}
 use Rattle.ax_relation.specs.declared.relation.RelationPath.{RelationPath}
-use Rattle.ax_model.proofs.Namings.{from_place}
-use Rattle.ax_model.specs.Plain.{part_tree, slot_tree, slots_tree}
-use Rattle.ax_model.specs.Tree.{MembersTree, KindTree, fixed, extended, counted, by_fx, explicit, compound, SlotTree, SlotsTree, slots_of, slot_and, spare_slot, subitem}
-use Rattle.ax_model.specs.declared.kind.LastPart.{LastPart}
-use Rattle.ax_model.specs.declared.kind.Slot.{Slot}
-use Rattle.ax_model.specs.declared.kind.Part.{Part}
-use Rattle.ax_model.specs.declared.spec.Item.{Item}
+use Rattle.ax_format.proofs.Namings.{from_place}
+use Rattle.ax_format.specs.Plain.{part_tree, slot_tree, slots_tree}
+use Rattle.ax_format.specs.Tree.{MembersTree, KindTree, fixed, extended, counted, by_fx, explicit, compound, SlotTree, SlotsTree, slots_of, slot_and, spare_slot, subitem}
+use Rattle.ax_format.specs.declared.kind.LastPart.{LastPart}
+use Rattle.ax_format.specs.declared.kind.Slot.{Slot}
+use Rattle.ax_format.specs.declared.kind.Part.{Part}
+use Rattle.ax_format.specs.declared.spec.Item.{Item}
 
 pub slots_below : (text numbers : List ℕ) (ss : SlotsTree) (target : Option (List ℕ × KindTree)) (level : Level) (before made : List RelationPath) → LeadsBelow target level → made ≡ before ++ related_slots text numbers 1 ss (lead level)
     → made ≡ before ++ related_slots text numbers 1 ss (λ name. option_and_then (target_below name) target)

@@ -1,19 +1,19 @@
 -- What the walk makes is the relation of the two editions.
 use Rattle.std.proofs.Common.{◌≡◌, ℕ, ◌+◌, Bool, true, false, cond, List, [], ◌∷◌, ◌++◌, map, flat_map, Option, Some, None, option_map, option_and_then, refl, sym, ◌∙◌, ap, codes, append_assoc, append-nil}
 use Rattle.std.specs.List.{AllByRecursion}
-use Rattle.ax_model.specs.Naming.{slot_named}
-use Rattle.ax_model.specs.Paths.{joined, three_digits, at, path_text}
-use Rattle.ax_model.specs.Specification.{SpecTree, record_slots, record_kind}
-use Rattle.ax_model.specs.Tree.{MembersTree, KindTree, fixed, extended, counted, by_fx, explicit, compound, SlotsTree, no_slots, slot_and, spare_slot, subitem}
-use Rattle.ax_model.specs.declared.place.Place.{Place}
+use Rattle.ax_format.specs.Naming.{slot_named}
+use Rattle.ax_format.specs.Paths.{joined, three_digits, at, path_text}
+use Rattle.ax_format.specs.Specification.{SpecTree, record_slots, record_kind}
+use Rattle.ax_format.specs.Tree.{MembersTree, KindTree, fixed, extended, counted, by_fx, explicit, compound, SlotsTree, no_slots, slot_and, spare_slot, subitem}
+use Rattle.ax_format.specs.declared.place.Place.{Place}
 use Rattle.ax_edition.specs.Relating.{target_below, shared_place, parts_with, part_place, related_here, related_part, related_parts, related_kind, related_slots}
 use Rattle.ax_relation.specs.Paths.{related_key, related_keys, relation_paths}
 use Rattle.ax_relation.specs.declared.relation.RelationPath.{RelationPath}
-use Rattle.ax_edition_laws.proofs.PlacedPaths.{StandsNamed, all_named}
-use Rattle.ax_edition_laws.proofs.Distinct.{Distinct}
-use Rattle.ax_model.specs.Named.{Key, part_keys, keys_at, kind_at, with_part}
-use Rattle.ax_model.specs.Placed.{Placed, steps_at, place_from, named_place, placed_under, placed_of, placed_slots, placed_paths}
-use Rattle.ax_model.specs.Shared.{is_shared_at, are_shared, shared_names}
+use Rattle.ax_relation.proofs.PlacedPaths.{StandsNamed, all_named}
+use Rattle.ax_relation.proofs.Distinct.{Distinct}
+use Rattle.ax_format.specs.Named.{Key, part_keys, keys_at, kind_at, with_part}
+use Rattle.ax_format.specs.Placed.{Placed, steps_at, place_from, named_place, placed_under, placed_of, placed_slots, placed_paths}
+use Rattle.ax_format.specs.Shared.{is_shared_at, are_shared, shared_names}
 
 -- ---- texts
 

@@ -12,14 +12,14 @@ use Rattle.ax_edition.specs.declared.index.Index.{Index}
 use Rattle.ax_relation.specs.declared.known.Known.{Known}
 use Rattle.ax_edition.specs.declared.relating.Level.{Level}
 use Rattle.ax_relation.specs.declared.relation.RelationPath.{RelationPath}
-use Rattle.ax_edition_laws.proofs.DistinctNames.{record_distinct}
-use Rattle.ax_model.specs.OfCode.{HasNoFlaw}
-use Rattle.ax_model.specs.Naming.{slot_named}
-use Rattle.ax_model.specs.Paths.{three_digits}
-use Rattle.ax_model.specs.Plain.{spec_tree}
-use Rattle.ax_model.specs.Specification.{record_slots}
-use Rattle.ax_model.specs.Tree.{KindTree, SlotsTree, compound}
-use Rattle.ax_model.specs.declared.spec.Spec.{Spec}
+use Rattle.ax_relation.proofs.DistinctNames.{record_distinct}
+use Rattle.ax_format.specs.OfCode.{HasNoFlaw}
+use Rattle.ax_format.specs.Naming.{slot_named}
+use Rattle.ax_format.specs.Paths.{three_digits}
+use Rattle.ax_format.specs.Plain.{spec_tree}
+use Rattle.ax_format.specs.Specification.{record_slots}
+use Rattle.ax_format.specs.Tree.{KindTree, SlotsTree, compound}
+use Rattle.ax_format.specs.declared.spec.Spec.{Spec}
 
 -- ---- what is found by the new items, or the old ones
 

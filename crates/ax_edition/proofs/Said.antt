@@ -1,12 +1,12 @@
 -- What the pairs of all named paths say is what is shared at a path.
 use Rattle.std.proofs.Common.{◌≡◌, ℕ, ◌+◌, Bool, true, false, cond, is_some, List, [], ◌∷◌, map, Option, Some, None, unwrap_or, refl, sym, ◌∙◌, ap, arith}
-use Rattle.ax_edition_laws.proofs.Distinct.{Distinct}
-use Rattle.ax_edition_laws.proofs.PathsOnce.{path_times, path_is, slot_once}
-use Rattle.ax_edition_laws.specs.Fates.{is_path}
-use Rattle.ax_model.specs.Named.{named_paths, kind_at}
-use Rattle.ax_model.specs.Shared.{are_shared, in_common}
-use Rattle.ax_model.specs.Specification.{SpecTree, record_slots, record_kind}
-use Rattle.ax_model.specs.Tree.{KindTree}
+use Rattle.ax_relation.proofs.Distinct.{Distinct}
+use Rattle.ax_relation.proofs.PathsOnce.{path_times, path_is, slot_once}
+use Rattle.ax_relation.specs.Fates.{is_path}
+use Rattle.ax_format.specs.Named.{named_paths, kind_at}
+use Rattle.ax_format.specs.Shared.{are_shared, in_common}
+use Rattle.ax_format.specs.Specification.{SpecTree, record_slots, record_kind}
+use Rattle.ax_format.specs.Tree.{KindTree}
 use Rattle.ax_relation.specs.Known.{nothing, sharing_at, said_of}
 use Rattle.ax_relation.specs.declared.known.Sharing.{Sharing}
 

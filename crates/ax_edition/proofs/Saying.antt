@@ -1,10 +1,10 @@
 -- What a map says, after more paths.
 use Rattle.std.proofs.Common.{◌≡◌, ℕ, ◌+◌, ◌<◌, ◌≤◌, cond, List, [], ◌∷◌, ◌++◌, length, map, take, get_or, Option, Some, None, option_map, option_and_then, refl, sym, ◌∙◌, ap, subst, append_assoc, append-nil}
 use Rattle.std.proofs.lemmas.List.{map-append, take_more, take_all}
-use Rattle.ax_model.specs.Plain.{slot_tree, slots_tree}
-use Rattle.ax_model.specs.Tree.{KindTree, fixed, extended, counted, by_fx, explicit, compound, SlotTree, SlotsTree, spare_slot, subitem, slots_of}
-use Rattle.ax_model.specs.declared.kind.Slot.{Slot}
-use Rattle.ax_model.specs.declared.spec.Item.{Item}
+use Rattle.ax_format.specs.Plain.{slot_tree, slots_tree}
+use Rattle.ax_format.specs.Tree.{KindTree, fixed, extended, counted, by_fx, explicit, compound, SlotTree, SlotsTree, spare_slot, subitem, slots_of}
+use Rattle.ax_format.specs.declared.kind.Slot.{Slot}
+use Rattle.ax_format.specs.declared.spec.Item.{Item}
 use Rattle.std.specs.Borrow.{Bor}
 use Rattle.ax_edition.specs.Index.{FindsBelow}
 use Rattle.ax_relation.specs.Below.{slot_below}
@@ -14,7 +14,7 @@ use Rattle.ax_relation.specs.declared.known.Sharing.{Sharing}
 use Rattle.ax_edition.specs.SlotItems.{item_slot, items_tree}
 use Rattle.ax_edition.specs.declared.index.Index.{Index}
 use Rattle.ax_relation.specs.declared.known.Known.{Known}
-use Rattle.ax_edition_laws.specs.Fates.{is_path}
+use Rattle.ax_relation.specs.Fates.{is_path}
 
 said_append : (path : List (List ℕ)) (xs ys : List (List (List ℕ) × Sharing)) (o : Option Sharing) → said_of path (xs ++ ys) o ≡ said_of path ys (said_of path xs o)
 said_append path [] ys o = refl

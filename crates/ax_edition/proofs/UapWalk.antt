@@ -6,15 +6,15 @@ use Rattle.std.specs.Option.{option_copied}
 use Rattle.ax_edition.specs.Numbers.{numbered, item_number, CountsItems}
 use Rattle.ax_edition.specs.SlotItems.{item_slot, items_tree}
 use Rattle.ax_edition.specs.declared.numbers.Numbers.{Numbers}
-use Rattle.ax_model.proofs.Lookups.{uap_slot_tree}
-use Rattle.ax_model.specs.Lookup.{item_named, item_of_slot}
-use Rattle.ax_model.specs.Plain.{item_tree, spec_tree}
-use Rattle.ax_model.specs.Specification.{slot_of_item, uap_slot, record_slots}
-use Rattle.ax_model.specs.Tree.{SlotTree, slots_of}
-use Rattle.ax_model.specs.declared.spec.Item.{Item}
-use Rattle.ax_model.specs.declared.spec.Spec.{Spec}
-use Rattle.ax_model.specs.declared.spec.UapSlot.{UapSlot}
-use Rattle.ax_model.specs.declared.spec.UapSlot.TheVariants as Uap
+use Rattle.ax_format.proofs.Lookups.{uap_slot_tree}
+use Rattle.ax_format.specs.Lookup.{item_named, item_of_slot}
+use Rattle.ax_format.specs.Plain.{item_tree, spec_tree}
+use Rattle.ax_format.specs.Specification.{slot_of_item, uap_slot, record_slots}
+use Rattle.ax_format.specs.Tree.{SlotTree, slots_of}
+use Rattle.ax_format.specs.declared.spec.Item.{Item}
+use Rattle.ax_format.specs.declared.spec.Spec.{Spec}
+use Rattle.ax_format.specs.declared.spec.UapSlot.{UapSlot}
+use Rattle.ax_format.specs.declared.spec.UapSlot.TheVariants as Uap
 
 -- ---- the item of a number
 

@@ -1,10 +1,10 @@
 -- Lists of unlike lengths are not the same.
 use Rattle.std.proofs.Common.{◌≡◌, ◌≢◌, suc, List, [], ◌∷◌, length, map, Bool, true, false, ◌&&◌, refl, ◌∙◌, ap}
-use Rattle.ax_model.specs.Plain.{member_tree, members_tree, part_tree, slot_tree, slots_tree}
-use Rattle.ax_model.specs.declared.kind.Member.{Member}
-use Rattle.ax_model.specs.declared.kind.Part.{Part}
-use Rattle.ax_model.specs.declared.kind.Slot.{Slot}
-use Rattle.ax_model.specs.Same.{is_same_member, are_same_members, are_same_parts, is_same_slot, are_same_slots}
+use Rattle.ax_format.specs.Plain.{member_tree, members_tree, part_tree, slot_tree, slots_tree}
+use Rattle.ax_format.specs.declared.kind.Member.{Member}
+use Rattle.ax_format.specs.declared.kind.Part.{Part}
+use Rattle.ax_format.specs.declared.kind.Slot.{Slot}
+use Rattle.ax_format.specs.Same.{is_same_member, are_same_members, are_same_parts, is_same_slot, are_same_slots}
 
 and_false : (b : Bool) → false ≡ b && false
 and_false true = refl

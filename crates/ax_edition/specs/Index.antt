@@ -3,10 +3,10 @@ use Rattle.std.specs.Prelude.{◌≡◌, ℕ, zero, suc, List, slice_get, Option
 use Rattle.std.specs.Borrow.{Bor}
 use Rattle.ax_edition.specs.Numbers.{numbered}
 use Rattle.ax_edition.specs.declared.index.Index.{Index}
-use Rattle.ax_model.specs.Naming.{slot_named}
-use Rattle.ax_model.specs.Plain.{kind_tree}
-use Rattle.ax_model.specs.Tree.{KindTree, SlotsTree}
-use Rattle.ax_model.specs.declared.kind.Kind.{Kind}
+use Rattle.ax_format.specs.Naming.{slot_named}
+use Rattle.ax_format.specs.Plain.{kind_tree}
+use Rattle.ax_format.specs.Tree.{KindTree, SlotsTree}
+use Rattle.ax_format.specs.declared.kind.Kind.{Kind}
 use Rattle.ax_relation.specs.Below.{slot_below}
 
 abbrev pub seen_kind : Option (Bor Kind) → Option KindTree

@@ -1,9 +1,9 @@
 -- Numbers by name.
 use Rattle.std.specs.Prelude.{◌≡◌, ℕ, ◌+◌, List, [], ◌∷◌, bytes_eq, if◌then◌else◌, Option, Some, None, option_map}
 use Rattle.ax_edition.specs.declared.numbers.Numbers.{Numbers}
-use Rattle.ax_model.specs.Naming.{slot_named}
-use Rattle.ax_model.specs.Tree.{SlotsTree}
-use Rattle.ax_model.specs.declared.spec.Item.{Item}
+use Rattle.ax_format.specs.Naming.{slot_named}
+use Rattle.ax_format.specs.Tree.{SlotsTree}
+use Rattle.ax_format.specs.declared.spec.Item.{Item}
 use Rattle.indexmap.specs.IndexMap.{get}
 
 -- the number under a name

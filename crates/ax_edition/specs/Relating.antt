@@ -6,14 +6,14 @@ use Rattle.ax_relation.specs.Below.{slot_below}
 use Rattle.ax_edition.specs.declared.relating.Level.{Level}
 use Rattle.ax_edition.specs.declared.relating.Target.{Target}
 use Rattle.ax_relation.specs.declared.relation.RelationPath.{RelationPath}
-use Rattle.ax_model.specs.Paths.{at}
-use Rattle.ax_model.specs.Named.{with_part}
-use Rattle.ax_model.specs.Placed.{place_from}
-use Rattle.ax_model.specs.Plain.{kind_tree}
-use Rattle.ax_model.specs.Same.{common_parts}
-use Rattle.ax_model.specs.Shared.{is_shared_at}
-use Rattle.ax_model.specs.Tree.{MembersTree, KindTree, extended, compound, SlotTree, SlotsTree, no_slots, slot_and, spare_slot, subitem}
-use Rattle.ax_model.specs.declared.place.Place.{Place}
+use Rattle.ax_format.specs.Paths.{at}
+use Rattle.ax_format.specs.Named.{with_part}
+use Rattle.ax_format.specs.Placed.{place_from}
+use Rattle.ax_format.specs.Plain.{kind_tree}
+use Rattle.ax_format.specs.Same.{common_parts}
+use Rattle.ax_format.specs.Shared.{is_shared_at}
+use Rattle.ax_format.specs.Tree.{MembersTree, KindTree, extended, compound, SlotTree, SlotsTree, no_slots, slot_and, spare_slot, subitem}
+use Rattle.ax_format.specs.declared.place.Place.{Place}
 
 -- ---- the new edition
 

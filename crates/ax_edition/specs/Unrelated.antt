@@ -2,7 +2,7 @@
 use Rattle.std.specs.Prelude.{◌≡◌}
 use Rattle.ax_edition.specs.declared.relation.RelateError.{RelateError}
 use Rattle.ax_edition.specs.declared.relation.RelateError.TheVariants.{OtherCategory, OutOfMemory}
-use Rattle.ax_model.specs.declared.spec.Spec.{Spec}
+use Rattle.ax_format.specs.declared.spec.Spec.{Spec}
 
 -- memory is wanted only where the categories are the same
 abbrev pub WhyUnrelated : Spec → Spec → RelateError → Type 0

@@ -1,15 +1,15 @@
 //! Slots by name.
 ghost use Rattle.std.specs.Prelude.{◌≡◌, ◌++◌, ◌∷◌, [], ℕ, List, None, Some, OnOk, IfOk, map, option_map};
 ghost use Rattle.std.specs.Option.{option_copied};
-ghost use Rattle.ax_model.specs.Lengths.{kind_of_slot};
-ghost use Rattle.ax_model.specs.Plain.{kind_tree, slot_tree, slots_tree};
+ghost use Rattle.ax_format.specs.Lengths.{kind_of_slot};
+ghost use Rattle.ax_format.specs.Plain.{kind_tree, slot_tree, slots_tree};
 ghost use Rattle.ax_edition.specs.Index.{slot_found, found, seen_kind, Finds, FindsBelow};
 ghost use Rattle.ax_edition.specs.SlotItems.{item_slot, items_tree};
 
 use crate::numbers::{Numbers, number_slot_items, number_slots};
 use crate::record_items::SlotItems;
+use ax_format::{Item, Kind, Name, Slot, Slots};
 use ax_lists::Sequence;
-use ax_model::{Item, Kind, Name, Slot, Slots};
 use std::alloc::{AllocError, Global};
 
 /// The kind of each slot, in order; a spare slot has none.

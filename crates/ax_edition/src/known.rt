@@ -1,7 +1,7 @@
 //! The named paths of the old edition entered, each with what is shared at it.
 ghost use Rattle.std.specs.Prelude.{◌≡◌, ◌++◌, ℕ, List, ◌∷◌, [], None, Some, OnOk, IfOk, option_map, unwrap_or, false};
 ghost use Rattle.std.specs.Option.{option_copied};
-ghost use Rattle.ax_model.specs.Plain.{kind_tree, slot_tree, slots_tree};
+ghost use Rattle.ax_format.specs.Plain.{kind_tree, slot_tree, slots_tree};
 ghost use Rattle.ax_edition.specs.Known.{kind_found, known_kind, known_slot, known_slots};
 ghost use Rattle.ax_relation.specs.Known.{said, sharing_of, Says, Knows};
 ghost use Rattle.ax_edition.specs.SlotItems.{item_slot, items_tree};
@@ -9,7 +9,7 @@ ghost use Rattle.ax_edition.specs.SlotItems.{item_slot, items_tree};
 use crate::index::{Index, index_below};
 use crate::record_items::SlotItems;
 use crate::sameness::{is_shared, shared_parts};
-use ax_model::{Item, Kind, Name, Slot, Slots};
+use ax_format::{Item, Kind, Name, Slot, Slots};
 use ax_relation::{Known, Sharing};
 use std::alloc::{AllocError, Global};
 

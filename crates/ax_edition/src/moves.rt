@@ -1,6 +1,6 @@
 //! Which slots move where, found slot by slot of the new edition.
 ghost use Rattle.std.specs.Prelude.{◌≡◌, ◌++◌, ◌∷◌, [], IfOk, OnOk, map};
-ghost use Rattle.ax_model.specs.Plain.{kind_tree, slot_tree, slots_tree};
+ghost use Rattle.ax_format.specs.Plain.{kind_tree, slot_tree, slots_tree};
 ghost use Rattle.ax_edition.specs.Index.{found};
 ghost use Rattle.ax_relation.specs.Moves.{move_where, moves_below, moves_of, slot_moves};
 ghost use Rattle.ax_relation.specs.PlainMoves.{move_tree};
@@ -9,7 +9,7 @@ ghost use Rattle.ax_edition.specs.SlotItems.{item_slot, items_tree};
 use crate::index::{Index, index_below};
 use crate::record_items::SlotItems;
 use crate::sameness::{is_shared, shared_parts};
-use ax_model::{Item, Kind, Name, Slot, Slots};
+use ax_format::{Item, Kind, Name, Slot, Slots};
 use ax_relation::{Move, Moves};
 use std::alloc::{AllocError, Global};
 

@@ -1,11 +1,11 @@
 //! Numbers by name. Lists are gone through from their last member on, so that the number of the first of a name stays.
 ghost use Rattle.std.specs.Prelude.{◌≡◌, ℕ, List, None, OnOk, IfOk};
-ghost use Rattle.ax_model.specs.Plain.{slots_tree};
+ghost use Rattle.ax_format.specs.Plain.{slots_tree};
 ghost use Rattle.ax_edition.specs.Numbers.{numbered, Enters, Counts, CountsItems};
 ghost use Rattle.ax_edition.specs.SlotItems.{items_tree};
 
 use crate::record_items::SlotItems;
-use ax_model::{Items, Name, Slot, Slots};
+use ax_format::{Items, Name, Slot, Slots};
 use indexmap::IndexMap;
 use std::alloc::{AllocError, Global};
 

@@ -1,15 +1,15 @@
 //! The items of the slots of the UAP.
 ghost use Rattle.std.specs.Prelude.{◌≡◌, ◌++◌, ◌∷◌, [], Some, OnOk, IfOk};
 ghost use Rattle.std.specs.Option.{option_copied};
-ghost use Rattle.ax_model.specs.Lookup.{item_of_slot};
-ghost use Rattle.ax_model.specs.Plain.{spec_tree};
-ghost use Rattle.ax_model.specs.Specification.{record_slots};
+ghost use Rattle.ax_format.specs.Lookup.{item_of_slot};
+ghost use Rattle.ax_format.specs.Plain.{spec_tree};
+ghost use Rattle.ax_format.specs.Specification.{record_slots};
 ghost use Rattle.ax_edition.specs.Numbers.{CountsItems};
 ghost use Rattle.ax_edition.specs.SlotItems.{items_tree};
 
 use crate::numbers::{Numbers, number_items};
+use ax_format::{Item, Items, Spec, UapSlot};
 use ax_lists::Sequence;
-use ax_model::{Item, Items, Spec, UapSlot};
 use std::alloc::{AllocError, Global};
 
 /// The item of each slot of the UAP, in order; a spare slot has none.

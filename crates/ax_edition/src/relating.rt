@@ -1,16 +1,16 @@
 //! The keys of the old edition, with their places in both.
 ghost use Rattle.std.specs.Prelude.{◌≡◌, ◌++◌, ◌∷◌, [], None, Some, IfOk, OnOk, map, option_map, option_and_then};
-ghost use Rattle.ax_model.specs.Paths.{at};
-ghost use Rattle.ax_model.specs.Placed.{place_from};
-ghost use Rattle.ax_model.specs.Plain.{kind_tree, part_tree, slot_tree, slots_tree};
-ghost use Rattle.ax_model.specs.Tree.{compound};
+ghost use Rattle.ax_format.specs.Paths.{at};
+ghost use Rattle.ax_format.specs.Placed.{place_from};
+ghost use Rattle.ax_format.specs.Plain.{kind_tree, part_tree, slot_tree, slots_tree};
+ghost use Rattle.ax_format.specs.Tree.{compound};
 ghost use Rattle.ax_edition.specs.Relating.{target_tree, target_below, lead, LeadsBelow, shared_place, parts_with, part_place, related_here, related_part, related_parts, related_kind, related_slot, related_slots};
 ghost use Rattle.ax_edition.specs.SlotItems.{item_slot, items_tree};
 
 use crate::index::{Index, index_below, index_items};
 use crate::record_items::SlotItems;
 use crate::sameness::{is_shared, shared_parts};
-use ax_model::{Item, Kind, Name, Parts, Place, Slot, Slots, Steps, Text, at_name, at_part};
+use ax_format::{Item, Kind, Name, Parts, Place, Slot, Slots, Steps, Text, at_name, at_part};
 use ax_relation::{RelationPath, RelationPaths};
 use std::alloc::{AllocError, Global};
 

@@ -1,10 +1,10 @@
 //! Whether kinds of two editions are the same, tables' entries aside. Nothing here takes memory.
 ghost use Rattle.std.specs.Prelude.{◌≡◌, map};
-ghost use Rattle.ax_model.specs.Plain.{fixed_tree, member_tree, members_tree, part_tree, kind_tree, slot_tree, slots_tree};
-ghost use Rattle.ax_model.specs.Same.{is_same_sign, is_same_content, is_same_fixed, is_same_member, are_same_members, are_same_parts, is_same_last, is_same_counter, is_same, is_same_slot, are_same_slots, common, common_parts};
-ghost use Rattle.ax_model.specs.Shared.{is_shared_kind};
+ghost use Rattle.ax_format.specs.Plain.{fixed_tree, member_tree, members_tree, part_tree, kind_tree, slot_tree, slots_tree};
+ghost use Rattle.ax_format.specs.Same.{is_same_sign, is_same_content, is_same_fixed, is_same_member, are_same_members, are_same_parts, is_same_last, is_same_counter, is_same, is_same_slot, are_same_slots, common, common_parts};
+ghost use Rattle.ax_format.specs.Shared.{is_shared_kind};
 
-use ax_model::{
+use ax_format::{
     Content, Counter, Fixed, Kind, LastPart, Member, Members, Parts, Scale, Sign, Slot, Slots,
 };
 

@@ -1,14 +1,14 @@
 -- The canonical content is a spelling, the shortest, and tells values apart.
 use Rattle.std.proofs.Common.{◌≡◌, ◌↔◌, ℕ, zero, suc, ◌*◌, ◌≤◌, List, [], ◌∷◌, ◌++◌, length, refl, ap, arith}
 use Rattle.ax_bits.specs.Bits.{AreBits}
-use Rattle.ax_model.specs.Canonical.{marks_of, entries_canon}
-use Rattle.ax_model.specs.Presence.{marks_upto, later_marks}
-use Rattle.ax_model.specs.Shape.{Shape}
-use Rattle.ax_model.specs.Sound.{Sound}
-use Rattle.ax_model.specs.Spelling.{Spells}
-use Rattle.ax_model.specs.Tree.{SlotsTree, ValueTree, marked, compound}
-use Rattle.ax_model.proofs.CanonSpells.{canon_spells, canon_shortest}
-use Rattle.ax_model.proofs.Least.{Alike, entries_alike, marks_bits, marks_length}
+use Rattle.ax_format.specs.Canonical.{marks_of, entries_canon}
+use Rattle.ax_format.specs.Presence.{marks_upto, later_marks}
+use Rattle.ax_format.specs.Shape.{Shape}
+use Rattle.ax_format.specs.Sound.{Sound}
+use Rattle.ax_format.specs.Spelling.{Spells}
+use Rattle.ax_format.specs.Tree.{SlotsTree, ValueTree, marked, compound}
+use Rattle.ax_format.proofs.CanonSpells.{canon_spells, canon_shortest}
+use Rattle.ax_format.proofs.Least.{Alike, entries_alike, marks_bits, marks_length}
 use Rattle.ax_expand.specs.Content.{SpellsContent, CanonContent}
 use Rattle.ax_expand.specs.Fields.{HasMarks}
 use Rattle.ax_expand.specs.declared.form.Form.{Form}

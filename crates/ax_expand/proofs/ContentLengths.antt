@@ -1,13 +1,13 @@
 -- The count of a canonical content's octets.
 use Rattle.std.proofs.Common.{◌≡◌, ℕ, ◌+◌, ◌*◌, ◌≤◌, List, length, drop, Option, sym, ◌∙◌, ap, arith, length-append}
 use Rattle.std.proofs.lemmas.List.{drop_all}
-use Rattle.ax_model.proofs.Lengths.{kind_length, own_kinds, entries_length}
-use Rattle.ax_model.specs.Canonical.{marks_of, entries_canon}
-use Rattle.ax_model.specs.Lengths.{capped, entries_octets, slot_kind, last_slot}
-use Rattle.ax_model.specs.Plain.{entries_tree}
-use Rattle.ax_model.specs.Presence.{marks_upto}
-use Rattle.ax_model.specs.Tree.{KindTree, SlotsTree, EntriesTree, compound, marked}
-use Rattle.ax_model.specs.declared.value.Entry.{Entry}
+use Rattle.ax_format.proofs.Lengths.{kind_length, own_kinds, entries_length}
+use Rattle.ax_format.specs.Canonical.{marks_of, entries_canon}
+use Rattle.ax_format.specs.Lengths.{capped, entries_octets, slot_kind, last_slot}
+use Rattle.ax_format.specs.Plain.{entries_tree}
+use Rattle.ax_format.specs.Presence.{marks_upto}
+use Rattle.ax_format.specs.Tree.{KindTree, SlotsTree, EntriesTree, compound, marked}
+use Rattle.ax_format.specs.declared.value.Entry.{Entry}
 use Rattle.ax_values.specs.Writing.{AreEntriesOf}
 use Rattle.ax_expand.proofs.Canonical.{length_upto}
 use Rattle.ax_expand.specs.Content.{CanonContent}

@@ -3,16 +3,16 @@ use Rattle.std.proofs.Common.{◌≡◌, ℕ, ◌+◌, ◌<◌, ◌⊎◌, inl, 
 use Rattle.std.proofs.lemmas.List.{append_cancel_right}
 use Rattle.ax_bits.proofs.Words.{bits-AreBits}
 use Rattle.ax_bits.specs.Bits.{bits, AreBits}
-use Rattle.ax_model.specs.Failing.{EntriesFail}
-use Rattle.ax_model.specs.Presence.{NoneUndefined}
-use Rattle.ax_model.specs.Reader.{Read, got, failed, after, marked_read, entries_read}
-use Rattle.ax_model.specs.Sound.{Sound}
-use Rattle.ax_model.specs.Spelling.{EntriesSpell}
-use Rattle.ax_model.specs.Tree.{SlotsTree, defined_slots, ValueTree, marked, EntriesTree, compound}
-use Rattle.ax_model.specs.declared.fault.BodyCause.{BodyCause}
-use Rattle.ax_model.proofs.Failed.{failed_is, entries_failed}
-use Rattle.ax_model.proofs.Meets.{Meets, after_meets, bits_of, entries_meets}
-use Rattle.ax_model.proofs.Spelled.{got_is, entries_spelled, entries_defined}
+use Rattle.ax_format.specs.Failing.{EntriesFail}
+use Rattle.ax_format.specs.Presence.{NoneUndefined}
+use Rattle.ax_format.specs.Reader.{Read, got, failed, after, marked_read, entries_read}
+use Rattle.ax_format.specs.Sound.{Sound}
+use Rattle.ax_format.specs.Spelling.{EntriesSpell}
+use Rattle.ax_format.specs.Tree.{SlotsTree, defined_slots, ValueTree, marked, EntriesTree, compound}
+use Rattle.ax_format.specs.declared.fault.BodyCause.{BodyCause}
+use Rattle.ax_format.proofs.Failed.{failed_is, entries_failed}
+use Rattle.ax_format.proofs.Meets.{Meets, after_meets, bits_of, entries_meets}
+use Rattle.ax_format.proofs.Spelled.{got_is, entries_spelled, entries_defined}
 use Rattle.ax_expand.specs.Answers.{IsJudgedOnce}
 use Rattle.ax_expand.specs.Content.{SpellsContent, StopsIn, FailsContent, inside, trailing, content_cause}
 use Rattle.ax_expand.specs.Fields.{FieldFails}

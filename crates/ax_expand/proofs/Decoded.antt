@@ -6,21 +6,21 @@ use Rattle.ax_bits.specs.Bits.{bits, AreBits}
 use Rattle.ax_fspec.specs.Fields.{MarksSlots}
 use Rattle.ax_fspec.specs.Fields as Field
 use Rattle.ax_fspec.specs.declared.mask.SlotMask.{SlotMask}
-use Rattle.ax_model.proofs.Bounds.{bounds_sound, count_of_slots}
-use Rattle.ax_model.proofs.VariantTrees.{marked_value}
-use Rattle.ax_model.specs.InBounds.{InBounds, SlotsInBounds}
-use Rattle.ax_model.specs.Plain.{slot_tree, slots_tree, entries_tree, value_tree}
-use Rattle.ax_model.specs.Reader.{got}
-use Rattle.ax_model.specs.Tree.{SlotsTree, ValueTree, marked, compound}
-use Rattle.ax_model.specs.declared.fault.BodyFault.{BodyFault}
-use Rattle.ax_model.specs.declared.kind.Slot.{Slot}
-use Rattle.ax_model.specs.declared.value.Entry.{Entry}
-use Rattle.ax_model.specs.declared.value.Value.{Value}
-use Rattle.ax_model.specs.declared.value.Value.TheVariants as ValueOf
-use Rattle.ax_model.specs.declared.value.Value.TheVariants.{rolls-Compound}
-use Rattle.ax_reader.proofs.Continuing.{gets_after}
-use Rattle.ax_reader.proofs.Marking.{field_read, marks_bits as field_bits, field_failed as mask_failed}
-use Rattle.ax_reader.specs.Reading.{Gets, FailsAt, IsMaskOf, entries_at, kind_read}
+use Rattle.ax_format.proofs.Bounds.{bounds_sound, count_of_slots}
+use Rattle.ax_format.proofs.VariantTrees.{marked_value}
+use Rattle.ax_format.specs.InBounds.{InBounds, SlotsInBounds}
+use Rattle.ax_format.specs.Plain.{slot_tree, slots_tree, entries_tree, value_tree}
+use Rattle.ax_format.specs.Reader.{got}
+use Rattle.ax_format.specs.Tree.{SlotsTree, ValueTree, marked, compound}
+use Rattle.ax_format.specs.declared.fault.BodyFault.{BodyFault}
+use Rattle.ax_format.specs.declared.kind.Slot.{Slot}
+use Rattle.ax_format.specs.declared.value.Entry.{Entry}
+use Rattle.ax_format.specs.declared.value.Value.{Value}
+use Rattle.ax_format.specs.declared.value.Value.TheVariants as ValueOf
+use Rattle.ax_format.specs.declared.value.Value.TheVariants.{rolls-Compound}
+use Rattle.ax_fspec.proofs.Continuing.{gets_after}
+use Rattle.ax_fspec.proofs.Marking.{field_read, marks_bits as field_bits, field_failed as mask_failed}
+use Rattle.ax_fspec.specs.Reading.{Gets, FailsAt, IsMaskOf, entries_at, kind_read}
 use Rattle.ax_values.proofs.Continuing.{failed_after, failed_by_fault}
 use Rattle.ax_values.specs.SlotReading.{HasFailed}
 use Rattle.ax_values.specs.declared.error.DecodeError.{DecodeError}

@@ -2,16 +2,16 @@
 use Rattle.std.proofs.Common.{◌≡◌, ℕ, ◌*◌, ◌≤◌, ◌&&◌, Bool, true, false, List, [], ◌∷◌, ◌++◌, refl, sym, subst}
 use Rattle.std.proofs.lemmas.Bool.{both_ways, ltb-false, le-leb}
 use Rattle.std.specs.Prelude.{nat_le, nat_lt}
-use Rattle.ax_model.proofs.Bounds.{record_bounds, bounds_sound}
-use Rattle.ax_model.specs.Flaws.{flaw_where, flaws_of}
-use Rattle.ax_model.specs.InBounds.{InBounds}
-use Rattle.ax_model.specs.Paths.{at, three_digits}
-use Rattle.ax_model.specs.Plain.{slots_tree}
-use Rattle.ax_model.specs.Sound.{Sound}
-use Rattle.ax_model.specs.Tree.{SlotsTree, slot_count, compound}
-use Rattle.ax_model.specs.declared.flaw.Flaw.{Flaw}
-use Rattle.ax_model.specs.declared.flaw.FlawKind.{FlawKind}
-use Rattle.ax_model.specs.declared.flaw.FlawKind.TheVariants.{TooManySlots}
+use Rattle.ax_format.proofs.Bounds.{record_bounds, bounds_sound}
+use Rattle.ax_format.specs.Flaws.{flaw_where, flaws_of}
+use Rattle.ax_format.specs.InBounds.{InBounds}
+use Rattle.ax_format.specs.Paths.{at, three_digits}
+use Rattle.ax_format.specs.Plain.{slots_tree}
+use Rattle.ax_format.specs.Sound.{Sound}
+use Rattle.ax_format.specs.Tree.{SlotsTree, slot_count, compound}
+use Rattle.ax_format.specs.declared.flaw.Flaw.{Flaw}
+use Rattle.ax_format.specs.declared.flaw.FlawKind.{FlawKind}
+use Rattle.ax_format.specs.declared.flaw.FlawKind.TheVariants.{TooManySlots}
 use Rattle.ax_expand.specs.Expansion.{ExpansionTree, re, wrapped, has_too_few_marks, mark_flaws, NoExpansionFlaw, HasNoExpansionFlaw}
 use Rattle.ax_expand.specs.Fields.{HasMarks}
 use Rattle.ax_expand.specs.declared.expansion.Expansion.{Expansion}

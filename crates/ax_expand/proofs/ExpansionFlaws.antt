@@ -1,14 +1,14 @@
 -- The flaws of expansions as the code finds them, and what holds of an expansion without any.
 use Rattle.std.proofs.Common.{◌≡◌, ℕ, Bool, false, List, ◌++◌, length, map, sym, ◌∙◌, ap, append-nil}
 use Rattle.std.proofs.lemmas.List.{length-map}
-use Rattle.ax_model.proofs.Bounds.{count_of_slots}
-use Rattle.ax_model.specs.Flaws.{flaw_where}
-use Rattle.ax_model.specs.Paths.{at, three_digits}
-use Rattle.ax_model.specs.Plain.{slot_tree, slots_tree}
-use Rattle.ax_model.specs.Tree.{slot_count}
-use Rattle.ax_model.specs.declared.flaw.Flaw.{Flaw}
-use Rattle.ax_model.specs.declared.flaw.FlawKind.TheVariants.{TooManySlots}
-use Rattle.ax_model.specs.declared.kind.Slot.{Slot}
+use Rattle.ax_format.proofs.Bounds.{count_of_slots}
+use Rattle.ax_format.specs.Flaws.{flaw_where}
+use Rattle.ax_format.specs.Paths.{at, three_digits}
+use Rattle.ax_format.specs.Plain.{slot_tree, slots_tree}
+use Rattle.ax_format.specs.Tree.{slot_count}
+use Rattle.ax_format.specs.declared.flaw.Flaw.{Flaw}
+use Rattle.ax_format.specs.declared.flaw.FlawKind.TheVariants.{TooManySlots}
+use Rattle.ax_format.specs.declared.kind.Slot.{Slot}
 use Rattle.ax_expand.specs.Expansion.{re, expansion_tree, has_too_few_marks, mark_flaws}
 use Rattle.ax_expand.specs.declared.expansion.Expansion.{Expansion}
 

@@ -2,14 +2,14 @@
 use Rattle.std.proofs.Common.{◌≡◌, ℕ, ◌*◌, ◌<◌, inl, inr, List, ◌++◌, length, take, Option, Some, None, Bool, refl, sym, ◌∙◌, ap, arith, subst}
 use Rattle.std.proofs.lemmas.List.{take_at, take_all}
 use Rattle.ax_bits.specs.Bits.{AreBits}
-use Rattle.ax_model.specs.Presence.{octets_needed, NoneUndefined}
-use Rattle.ax_model.specs.Reader.{got, failed, Split, short, cut, split, undefined}
-use Rattle.ax_model.specs.Tree.{SlotsTree, slot_count, defined_slots}
-use Rattle.ax_model.specs.declared.fault.BodyCause.{BodyCause}
-use Rattle.ax_model.proofs.Failed.{failed_is, presence_failed, undefined_first}
-use Rattle.ax_model.proofs.FixedKinds.{split_at, split_short, SplitIs, split_is}
-use Rattle.ax_model.proofs.Meets.{Meets, presence_meets, presence_bits, bits_of, UndefinedIs, undefined_is}
-use Rattle.ax_model.proofs.Spelled.{got_is, presence_spelled, undefined_none}
+use Rattle.ax_format.specs.Presence.{octets_needed, NoneUndefined}
+use Rattle.ax_format.specs.Reader.{got, failed, Split, short, cut, split, undefined}
+use Rattle.ax_format.specs.Tree.{SlotsTree, slot_count, defined_slots}
+use Rattle.ax_format.specs.declared.fault.BodyCause.{BodyCause}
+use Rattle.ax_format.proofs.Failed.{failed_is, presence_failed, undefined_first}
+use Rattle.ax_format.proofs.FixedKinds.{split_at, split_short, SplitIs, split_is}
+use Rattle.ax_format.proofs.Meets.{Meets, presence_meets, presence_bits, bits_of, UndefinedIs, undefined_is}
+use Rattle.ax_format.proofs.Spelled.{got_is, presence_spelled, undefined_none}
 use Rattle.ax_expand.specs.Fields.{FieldSpells, FieldFails, OctetsFail}
 use Rattle.ax_expand.specs.Reading.{whole_read, octets_read, field_read}
 use Rattle.ax_expand.specs.declared.form.Form.{Form}

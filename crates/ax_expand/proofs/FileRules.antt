@@ -18,8 +18,8 @@ use Rattle.ax_grammar.specs.Spelling.{quoted, closed, slot_texts, slots_texts}
 use Rattle.ax_grammar.specs.Tests.{category_of, text_of, number_within}
 use Rattle.ax_grammar.specs.declared.keyword.Keyword.{Keyword}
 use Rattle.ax_grammar.specs.declared.keyword.Keyword.TheVariants as Word
-use Rattle.ax_model.specs.Paths.{three_digits}
-use Rattle.ax_model.specs.Tree.{SlotTree, slots_of}
+use Rattle.ax_format.specs.Paths.{three_digits}
+use Rattle.ax_format.specs.Tree.{SlotTree, slots_of}
 use Rattle.ax_expand.specs.Expansion.{ExpansionTree}
 use Rattle.ax_expand.specs.Files.{form_texts, braced_texts, expansion_texts, FormInRange, ExpansionInRange}
 use Rattle.ax_expand.specs.Rules.{octets_at, form_by_word, form_at, expansion_at}

@@ -4,7 +4,7 @@ use Rattle.ax_grammar.proofs.Languages as Language
 use Rattle.ax_grammar.proofs.Recursion.{reads}
 use Rattle.ax_grammar.specs.Answers.{texts_of}
 use Rattle.ax_grammar.specs.Parsing.{Texts, Parsed}
-use Rattle.ax_token_reader.proofs.Bad.{first_bad_once}
+use Rattle.ax_tokens.proofs.Bad.{first_bad_once}
 use Rattle.ax_tokens.specs.PlainToken.{PlainToken}
 use Rattle.ax_expand.proofs.FileRules.{expansion_reads}
 use Rattle.ax_expand.specs.Expansion.{ExpansionTree}

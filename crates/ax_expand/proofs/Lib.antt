@@ -11,4 +11,3 @@ pub mod Decoded
 pub mod Writing
 pub mod Shapes
 pub mod ContentLengths
-pub mod WorkedExamples

@@ -8,17 +8,17 @@ use Rattle.ax_bits.proofs.Words.{length-bits, bits-AreBits}
 use Rattle.ax_bits.specs.Bits.{bits, AreBits}
 use Rattle.ax_fspec.proofs.Windows.{slots_past_is}
 use Rattle.ax_fspec.specs.Marks.{no_marks}
-use Rattle.ax_model.proofs.Bounds.{count_of_slots}
-use Rattle.ax_model.proofs.Meets.{NoneUndefined-append, bits_of}
-use Rattle.ax_model.proofs.Unmarked.{none_first, none_later}
-use Rattle.ax_model.specs.Plain.{slot_tree, slots_tree}
-use Rattle.ax_model.specs.Presence.{none_marked, first_mark, later_marks, NoneUndefined, FirstUndefined, IsDefined, slots_past}
-use Rattle.ax_model.specs.Reader.{Read, got, failed, after, both, read, entries_read, mark_read, marked_read}
-use Rattle.ax_model.specs.Tree.{SlotTree, SlotsTree, no_slots, slot_and, spare_slot, subitem, slot_count, defined_slots, ValueTree, EntriesTree, marked, entry_and}
-use Rattle.ax_model.specs.declared.fault.BodyCause.TheVariants.{RunsOut, UndefinedSlot}
-use Rattle.ax_model.specs.declared.fault.BodyFault.{BodyFault}
-use Rattle.ax_model.specs.declared.kind.Slot.{Slot}
-use Rattle.ax_reader.specs.Reading.{entries_at, is_subitem, fx_bit}
+use Rattle.ax_format.proofs.Bounds.{count_of_slots}
+use Rattle.ax_format.proofs.Meets.{NoneUndefined-append, bits_of}
+use Rattle.ax_format.proofs.Unmarked.{none_first, none_later}
+use Rattle.ax_format.specs.Plain.{slot_tree, slots_tree}
+use Rattle.ax_format.specs.Presence.{none_marked, first_mark, later_marks, NoneUndefined, FirstUndefined, IsDefined, slots_past}
+use Rattle.ax_format.specs.Reader.{Read, got, failed, after, both, read, entries_read, mark_read, marked_read}
+use Rattle.ax_format.specs.Tree.{SlotTree, SlotsTree, no_slots, slot_and, spare_slot, subitem, slot_count, defined_slots, ValueTree, EntriesTree, marked, entry_and}
+use Rattle.ax_format.specs.declared.fault.BodyCause.TheVariants.{RunsOut, UndefinedSlot}
+use Rattle.ax_format.specs.declared.fault.BodyFault.{BodyFault}
+use Rattle.ax_format.specs.declared.kind.Slot.{Slot}
+use Rattle.ax_fspec.specs.Reading.{entries_at, is_subitem, fx_bit}
 use Rattle.ax_expand.proofs.Contents.{content_stopped}
 use Rattle.ax_expand.proofs.Fields.{field_spelled}
 use Rattle.ax_expand.specs.Reading.{field_read, content_read, MarksContent, FailsToMark, FailsFrom, MarkedSoFar, AreSame}

@@ -1,17 +1,17 @@
 -- The item RE of the specification that stands for an expansion, and the values of its kind.
 use Rattle.std.proofs.Common.{◌≡◌, ◌↔◌, IsTrue, Bool, List, [], ◌∷◌, map, Some, None, slice_get, sym, ◌∙◌, ap, subst}
-use Rattle.ax_model.proofs.FittingShapes.{fits_shape, shape_fits}
-use Rattle.ax_model.specs.Fitting.{kind_fits}
-use Rattle.ax_model.proofs.VariantTrees.{marked_value}
-use Rattle.ax_model.specs.Plain.{item_tree, kind_tree, slots_tree, spec_tree, value_tree, entries_tree}
-use Rattle.ax_model.specs.Shape.{Shape, EntriesShape}
-use Rattle.ax_model.specs.Specification.{ItemTree}
-use Rattle.ax_model.specs.Tree.{KindTree, ValueTree, compound}
-use Rattle.ax_model.specs.declared.spec.Item.{Item}
-use Rattle.ax_model.specs.declared.spec.Spec.{Spec}
-use Rattle.ax_model.specs.declared.value.Entry.{Entry}
-use Rattle.ax_model.specs.declared.value.Value.{Value}
-use Rattle.ax_model.specs.declared.value.Value.TheVariants as ValueOf
+use Rattle.ax_format.proofs.FittingShapes.{fits_shape, shape_fits}
+use Rattle.ax_format.specs.Fitting.{kind_fits}
+use Rattle.ax_format.proofs.VariantTrees.{marked_value}
+use Rattle.ax_format.specs.Plain.{item_tree, kind_tree, slots_tree, spec_tree, value_tree, entries_tree}
+use Rattle.ax_format.specs.Shape.{Shape, EntriesShape}
+use Rattle.ax_format.specs.Specification.{ItemTree}
+use Rattle.ax_format.specs.Tree.{KindTree, ValueTree, compound}
+use Rattle.ax_format.specs.declared.spec.Item.{Item}
+use Rattle.ax_format.specs.declared.spec.Spec.{Spec}
+use Rattle.ax_format.specs.declared.value.Entry.{Entry}
+use Rattle.ax_format.specs.declared.value.Value.{Value}
+use Rattle.ax_format.specs.declared.value.Value.TheVariants as ValueOf
 use Rattle.ax_values.specs.Writing.{AreEntriesOf}
 use Rattle.ax_expand.proofs.ExpansionBounds.{slots_in_bounds}
 use Rattle.ax_expand.specs.Expansion.{wrapped_tree, HasNoExpansionFlaw}

@@ -1,26 +1,25 @@
 -- Contents written, field and entries.
-use Rattle.std.proofs.Common.{◌≡◌, ℕ, zero, suc, ◌+◌, ◌-◌, ◌*◌, ◌<◌, ◌≤◌, ◌==◌, MatchBool, Bool, true, false, cond, List, [], ◌∷◌, ◌++◌, length, refl, sym, ◌∙◌, ap, arith, subst, append-nil, take-append-drop, length-append}
+use Rattle.std.proofs.Common.{Bool, List, MatchBool, [], ap, append-nil, arith, cond, false, length, length-append, refl, subst, suc, sym, take-append-drop, true, zero, ℕ, ◌*◌, ◌++◌, ◌+◌, ◌-◌, ◌<◌, ◌==◌, ◌∙◌, ◌∷◌, ◌≡◌, ◌≤◌}
 use Rattle.std.proofs.lemmas.Bool.{eqb-true}
-use Rattle.ax_bits.proofs.Outputs.{appends_more}
+use Rattle.ax_bits.proofs.Outputs.{appends_more, length-unwritten}
 use Rattle.ax_fspec.specs.Fields.{least_field as presence_field}
-use Rattle.ax_bits.proofs.Outputs.{length-unwritten}
 use Rattle.ax_bits.specs.Bits.{bits}
-use Rattle.ax_bits.specs.Out.{Appends, room, written, unwritten}
+use Rattle.ax_bits.specs.Out.{Appends, room, unwritten, written}
 use Rattle.std.proofs.lemmas.List.{nil_from_length}
 use Rattle.ax_bits.specs.declared.output.Out.{Out}
-use Rattle.ax_model.specs.Canonical.{marks_of, entries_canon}
-use Rattle.ax_model.specs.Presence.{marks_upto, least_presence, octets_needed}
-use Rattle.ax_model.specs.Shape.{Shape, EntriesShape}
-use Rattle.ax_model.specs.Tree.{SlotsTree, no_slots, slot_and, spare_slot, subitem, slot_count, ValueTree, EntriesTree, no_entries, entry_and, marked}
-use Rattle.ax_model.proofs.Least.{not_here}
+use Rattle.ax_format.specs.Canonical.{entries_canon, marks_of}
+use Rattle.ax_format.specs.Presence.{least_presence, marks_upto, octets_needed}
+use Rattle.ax_format.specs.Shape.{EntriesShape, Shape}
+use Rattle.ax_format.specs.Tree.{EntriesTree, SlotsTree, ValueTree, entry_and, marked, no_entries, no_slots, slot_and, slot_count, spare_slot, subitem}
+use Rattle.ax_format.proofs.Least.{not_here}
 use Rattle.ax_values.specs.Writing.{AreEntriesOf, IsWrittenTo}
-use Rattle.ax_values.proofs.Written.{written_more, written_all, written_room}
+use Rattle.ax_values.proofs.Written.{written_all, written_more, written_room}
 use Rattle.ax_expand.proofs.Canonical.{length_upto}
 use Rattle.ax_expand.specs.Content.{CanonContent}
 use Rattle.ax_expand.specs.Fields.{least_field}
-use Rattle.ax_expand.specs.Marks.{mark_in, rest_in, marks_in}
+use Rattle.ax_expand.specs.Marks.{mark_in, marks_in, rest_in}
 use Rattle.ax_expand.specs.declared.form.Form.{Form}
-use Rattle.ax_expand.specs.declared.form.Form.TheVariants.{Fx, Fixed}
+use Rattle.ax_expand.specs.declared.form.Form.TheVariants.{Fixed, Fx}
 
 -- ---- marks
 

@@ -1,6 +1,6 @@
 -- What reading and writing a content answers, and what holds of all contents.
 use Rattle.std.specs.Prelude.{◌≡◌, ℕ, ◌⊎◌, List, Result, Ok, Err}
-use Rattle.ax_model.specs.Tree.{SlotsTree, ValueTree}
+use Rattle.ax_format.specs.Tree.{SlotsTree, ValueTree}
 use Rattle.ax_expand.specs.Content.{SpellsContent, FailsContent}
 use Rattle.ax_expand.specs.declared.form.Form.{Form}
 use Rattle.ax_expand.specs.declared.fault.ContentCause.{ContentCause}

@@ -1,13 +1,13 @@
 -- The content of the reserved expansion field (RE): a presence field, an entry for each marked slot, and nothing after them
 -- (this project's own rule). It is a compound, but for the presence field of a fixed form.
 use Rattle.std.specs.Prelude.{◌≡◌, ℕ, ◌+◌, ◌<◌, ◌⊎◌, List, [], ◌++◌, length}
-use Rattle.ax_model.specs.Canonical.{marks_of, entries_canon}
-use Rattle.ax_model.specs.Failing.{EntriesFail}
-use Rattle.ax_model.specs.Presence.{NoneUndefined}
-use Rattle.ax_model.specs.Spelling.{EntriesSpell}
-use Rattle.ax_model.specs.Tree.{SlotsTree, defined_slots, ValueTree, marked}
-use Rattle.ax_model.specs.declared.fault.BodyCause.{BodyCause}
-use Rattle.ax_model.specs.declared.fault.BodyCause.TheVariants as Body
+use Rattle.ax_format.specs.Canonical.{marks_of, entries_canon}
+use Rattle.ax_format.specs.Failing.{EntriesFail}
+use Rattle.ax_format.specs.Presence.{NoneUndefined}
+use Rattle.ax_format.specs.Spelling.{EntriesSpell}
+use Rattle.ax_format.specs.Tree.{SlotsTree, defined_slots, ValueTree, marked}
+use Rattle.ax_format.specs.declared.fault.BodyCause.{BodyCause}
+use Rattle.ax_format.specs.declared.fault.BodyCause.TheVariants as Body
 use Rattle.ax_expand.specs.declared.form.Form.{Form}
 use Rattle.ax_expand.specs.declared.fault.ContentCause.{ContentCause}
 use Rattle.ax_expand.specs.declared.fault.ContentCause.TheVariants as Content

@@ -1,8 +1,8 @@
 -- Small expansions for the worked examples.
 use Rattle.std.specs.Prelude.{ℕ, zero, suc, List, [], ◌∷◌, codes}
-use Rattle.ax_model.specs.Examples.{octet}
-use Rattle.ax_model.specs.Tree.{SlotTree, SlotsTree, slots_of, spare_slot, subitem, counted}
-use Rattle.ax_model.specs.declared.kind.Counter.TheVariants.{One}
+use Rattle.ax_format.specs.Examples.{octet}
+use Rattle.ax_format.specs.Tree.{SlotTree, SlotsTree, slots_of, spare_slot, subitem, counted}
+use Rattle.ax_format.specs.declared.kind.Counter.TheVariants.{One}
 use Rattle.ax_expand.specs.Expansion.{ExpansionTree}
 use Rattle.ax_expand.specs.declared.form.Form.{Form}
 use Rattle.ax_expand.specs.declared.form.Form.TheVariants.{Fx, Fixed}

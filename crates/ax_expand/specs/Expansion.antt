@@ -1,13 +1,13 @@
 -- Expansion files as trees: the specification that each stands for, and their flaws (this project's own rules).
 use Rattle.std.specs.Prelude.{◌≡◌, ℕ, ◌*◌, ◌&&◌, nat_le, nat_lt, Bool, false, List, [], ◌∷◌, ◌++◌, codes}
-use Rattle.ax_model.specs.Flaws.{flaw_where, flaws_of}
-use Rattle.ax_model.specs.Paths.{at, three_digits}
-use Rattle.ax_model.specs.Plain.{slots_tree}
-use Rattle.ax_model.specs.Specification.{SpecTree}
-use Rattle.ax_model.specs.Tree.{SlotsTree, slot_count, compound}
-use Rattle.ax_model.specs.declared.flaw.Flaw.{Flaw}
-use Rattle.ax_model.specs.declared.flaw.FlawKind.TheVariants.{TooManySlots}
-use Rattle.ax_model.specs.declared.spec.UapSlot.TheVariants as Uap
+use Rattle.ax_format.specs.Flaws.{flaw_where, flaws_of}
+use Rattle.ax_format.specs.Paths.{at, three_digits}
+use Rattle.ax_format.specs.Plain.{slots_tree}
+use Rattle.ax_format.specs.Specification.{SpecTree}
+use Rattle.ax_format.specs.Tree.{SlotsTree, slot_count, compound}
+use Rattle.ax_format.specs.declared.flaw.Flaw.{Flaw}
+use Rattle.ax_format.specs.declared.flaw.FlawKind.TheVariants.{TooManySlots}
+use Rattle.ax_format.specs.declared.spec.UapSlot.TheVariants as Uap
 use Rattle.ax_expand.specs.declared.expansion.Expansion.{Expansion}
 use Rattle.ax_expand.specs.declared.form.Form.{Form}
 use Rattle.ax_expand.specs.declared.form.Form.TheVariants.{Fx, Fixed}

@@ -1,8 +1,8 @@
 -- The language of expansion files: how a tree is spelled, and which token is bad where tokens spell none.
 use Rattle.std.specs.Prelude.{◌≡◌, ℕ, ◌<◌, ◌≤◌, List, [], ◌∷◌, ◌++◌, decimal}
-use Rattle.ax_model.specs.Paths.{three_digits}
+use Rattle.ax_format.specs.Paths.{three_digits}
 use Rattle.ax_tokens.specs.PlainToken.{PlainToken}
-use Rattle.ax_token_reader.specs.FirstBad.{FirstBad}
+use Rattle.ax_tokens.specs.FirstBad.{FirstBad}
 use Rattle.ax_grammar.specs.Answers.{texts_of, Spelled}
 use Rattle.ax_grammar.specs.InRange.{IsText, SlotsInRange}
 use Rattle.ax_grammar.specs.Keywords.{keyword_text}

@@ -1,7 +1,7 @@
 -- How many octets a canonical content has.
 use Rattle.std.specs.Prelude.{ℕ, ◌+◌, ◌/◌, length}
-use Rattle.ax_model.specs.Lengths.{entries_octets, slot_kind, presence_octets, last_slot}
-use Rattle.ax_model.specs.Tree.{SlotsTree, ValueTree, EntriesTree}
+use Rattle.ax_format.specs.Lengths.{entries_octets, slot_kind, presence_octets, last_slot}
+use Rattle.ax_format.specs.Tree.{SlotsTree, ValueTree, EntriesTree}
 use Rattle.ax_expand.specs.Content.{CanonContent}
 use Rattle.ax_expand.specs.declared.form.Form.{Form}
 use Rattle.ax_expand.specs.declared.form.Form.TheVariants.{Fx, Fixed}

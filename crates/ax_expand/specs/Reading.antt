@@ -2,12 +2,12 @@
 -- that it decides what a content is.
 use Rattle.std.specs.Prelude.{◌≡◌, ℕ, ◌*◌, ◌<◌, ◌≤◌, List, [], ◌∷◌, length, take, Option, Some, None, IsTrue}
 use Rattle.ax_bits.specs.Bits.{bits, AreBits}
-use Rattle.ax_model.specs.Presence.{octets_needed, none_marked, first_mark, later_marks, NoneUndefined}
-use Rattle.ax_model.specs.Reader.{Read, got, failed, Split, short, cut, split, undefined, presence_read, marked_read, entries_read}
-use Rattle.ax_model.specs.Tree.{SlotsTree, slot_count, defined_slots, ValueTree, marked}
-use Rattle.ax_model.specs.declared.fault.BodyCause.TheVariants.{RunsOut, UndefinedSlot}
-use Rattle.ax_model.specs.declared.fault.BodyFault.{BodyFault}
-use Rattle.ax_reader.specs.Reading.{Continues, FailsAt, entries_at}
+use Rattle.ax_format.specs.Presence.{octets_needed, none_marked, first_mark, later_marks, NoneUndefined}
+use Rattle.ax_format.specs.Reader.{Read, got, failed, Split, short, cut, split, undefined, presence_read, marked_read, entries_read}
+use Rattle.ax_format.specs.Tree.{SlotsTree, slot_count, defined_slots, ValueTree, marked}
+use Rattle.ax_format.specs.declared.fault.BodyCause.TheVariants.{RunsOut, UndefinedSlot}
+use Rattle.ax_format.specs.declared.fault.BodyFault.{BodyFault}
+use Rattle.ax_fspec.specs.Reading.{Continues, FailsAt, entries_at}
 use Rattle.ax_expand.specs.declared.form.Form.{Form}
 use Rattle.ax_expand.specs.declared.form.Form.TheVariants.{Fx, Fixed}
 

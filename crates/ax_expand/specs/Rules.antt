@@ -1,6 +1,6 @@
 -- A reader for each rule of expansion files. Only private calls are seen as readers; what they read is said by the spelling.
 use Rattle.std.specs.Prelude.{ℕ, Ok, Err}
-use Rattle.ax_model.specs.Tree.{slots_of}
+use Rattle.ax_format.specs.Tree.{slots_of}
 use Rattle.ax_grammar.specs.Parsing.{Texts, Parsed, ◌>>=◌, one_at, expect_at, braced_at, all_of}
 use Rattle.ax_grammar.specs.Rules.{keyword_at, category_at, text_at, slot_at}
 use Rattle.ax_grammar.specs.Tests.{number_within}

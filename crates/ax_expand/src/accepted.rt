@@ -1,14 +1,14 @@
 //! Acceptance: which expansions are without flaw.
 ghost use Rattle.std.specs.Prelude.{◌≡◌, ◌++◌, [], ◌∷◌, IfOk, OnOk, IfErr, map};
-ghost use Rattle.ax_model.specs.OfCode.{spec_flaws};
-ghost use Rattle.ax_model.specs.Plain.{slot_tree, slots_tree, spec_tree};
+ghost use Rattle.ax_format.specs.OfCode.{spec_flaws};
+ghost use Rattle.ax_format.specs.Plain.{slot_tree, slots_tree, spec_tree};
 ghost use Rattle.ax_expand.specs.Accepting.{WhyFlawed};
 ghost use Rattle.ax_expand.specs.Expansion.{re, wrapped_tree, expansion_tree, has_too_few_marks, mark_flaws, all_flaws, HasNoExpansionFlaw};
 
 use crate::expansion::Expansion;
 use crate::form::Form;
 use ax_check::{CheckError, flaws};
-use ax_model::{
+use ax_format::{
     Flaw, FlawKind, Flaws, Item, Items, Kind, Name, Slot, Slots, Spec, Text, UapSlot, UapSlots,
     at_name, of_category,
 };
@@ -24,7 +24,7 @@ pub struct AcceptedExpansion {
 
 impl Model for AcceptedExpansion {
     ghost use Rattle.std.specs.Prelude.{◌≡◌};
-    ghost use Rattle.ax_model.specs.Plain.{spec_tree};
+    ghost use Rattle.ax_format.specs.Plain.{spec_tree};
     ghost use Rattle.ax_expand.specs.Expansion.{wrapped_tree, HasNoExpansionFlaw};
     ghost use Rattle.ax_expand.specs.contracts.expansion.Expansion as row;
     ghost use Rattle.ax_expand.specs.declared.expansion.Expansion.{Expansion};

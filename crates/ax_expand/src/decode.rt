@@ -1,10 +1,10 @@
 //! Contents to values.
 ghost use Rattle.std.specs.Prelude.{◌≡◌, ◌*◌, ◌≤◌, ℕ, length, IfOk, IfErr};
 ghost use Rattle.ax_bits.specs.Bits.{bits};
-ghost use Rattle.ax_model.specs.InBounds.{InBounds};
-ghost use Rattle.ax_model.specs.Plain.{slots_tree, value_tree, entries_tree};
-ghost use Rattle.ax_model.specs.Tree.{ValueTree, compound, marked};
-ghost use Rattle.ax_reader.specs.Reading.{Gets};
+ghost use Rattle.ax_format.specs.InBounds.{InBounds};
+ghost use Rattle.ax_format.specs.Plain.{slots_tree, value_tree, entries_tree};
+ghost use Rattle.ax_format.specs.Tree.{ValueTree, compound, marked};
+ghost use Rattle.ax_fspec.specs.Reading.{Gets};
 ghost use Rattle.ax_values.specs.SlotReading.{HasFailed};
 ghost use Rattle.ax_expand.specs.Answers.{IsContentFault, IsOrMemory, AnswersFault};
 ghost use Rattle.ax_expand.specs.Content.{SpellsContent, FailsContent};
@@ -15,8 +15,8 @@ use crate::accepted::AcceptedExpansion;
 use crate::fault::{ContentCause, ContentError, cause_of};
 use crate::field::read_field;
 use crate::form::Form;
+use ax_format::{Entries, Slots, Value};
 use ax_fspec::Presence;
-use ax_model::{Entries, Slots, Value};
 use ax_values::{DecodeError, decode_marked};
 use std::alloc::Global;
 

@@ -2,10 +2,10 @@
 ghost use Rattle.std.specs.Prelude.{◌≡◌, ◌*◌, ◌≤◌, ◌<◌, ◌⊎◌, ◌↔◌, length, IfOk, IfErr, IsErrOf};
 ghost use Rattle.ax_bits.specs.Bits.{bits};
 ghost use Rattle.ax_bits.specs.Out.{Appends, room};
-ghost use Rattle.ax_model.specs.Lengths.{capped, slot_kind, octets, octets_where};
-ghost use Rattle.ax_model.specs.Plain.{slots_tree, entries_tree, value_tree};
-ghost use Rattle.ax_model.specs.Shape.{Shape};
-ghost use Rattle.ax_model.specs.Tree.{compound, marked};
+ghost use Rattle.ax_format.specs.Lengths.{capped, slot_kind, octets, octets_where};
+ghost use Rattle.ax_format.specs.Plain.{slots_tree, entries_tree, value_tree};
+ghost use Rattle.ax_format.specs.Shape.{Shape};
+ghost use Rattle.ax_format.specs.Tree.{compound, marked};
 ghost use Rattle.ax_values.specs.Writing.{AreEntriesOf};
 ghost use Rattle.ax_values.specs.declared.error.EncodeError.TheVariants as Encoding;
 ghost use Rattle.ax_expand.specs.Content.{CanonContent};
@@ -16,9 +16,9 @@ use crate::accepted::AcceptedExpansion;
 use crate::field::write_octets;
 use crate::form::Form;
 use ax_bits::Out;
+use ax_format::{Entries, Entry, Slots, Value, octets_of, subitem_kind};
 use ax_fspec::write_presence;
 use ax_lists::zeros;
-use ax_model::{Entries, Entry, Slots, Value, octets_of, subitem_kind};
 use ax_values::{EncodeError, entry_marks, write_entries};
 use std::alloc::Global;
 

@@ -1,7 +1,7 @@
 //! The tree of an expansion file.
 
 use crate::form::Form;
-use ax_model::{Slots, Text};
+use ax_format::{Slots, Text};
 
 /// The layout of the inside of the reserved expansion field (RE) of one category, as its file gives it.
 #[derive(Drop)]

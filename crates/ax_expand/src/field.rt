@@ -2,12 +2,12 @@
 ghost use Rattle.std.specs.Prelude.{◌≡◌, ◌↔◌, ◌*◌, ◌<◌, ◌≤◌, IsTrue, OnOk, ◌+◌, [], ◌∷◌, length, drop, IfOk, IfErr};
 ghost use Rattle.ax_bits.specs.Bits.{bits};
 ghost use Rattle.ax_bits.specs.Out.{Appends, room};
-ghost use Rattle.ax_model.specs.InBounds.{InBounds};
-ghost use Rattle.ax_model.specs.Plain.{slot_tree, slots_tree, entries_tree};
-ghost use Rattle.ax_reader.specs.Reading.{is_subitem};
-ghost use Rattle.ax_model.specs.Presence.{IsDefined, marks_upto};
-ghost use Rattle.ax_model.specs.Tree.{defined_slots, compound};
-ghost use Rattle.ax_model.specs.Canonical.{marks_of};
+ghost use Rattle.ax_format.specs.InBounds.{InBounds};
+ghost use Rattle.ax_format.specs.Plain.{slot_tree, slots_tree, entries_tree};
+ghost use Rattle.ax_fspec.specs.Reading.{is_subitem};
+ghost use Rattle.ax_format.specs.Presence.{IsDefined, marks_upto};
+ghost use Rattle.ax_format.specs.Tree.{defined_slots, compound};
+ghost use Rattle.ax_format.specs.Canonical.{marks_of};
 ghost use Rattle.ax_values.specs.Writing.{AreEntriesOf};
 ghost use Rattle.ax_expand.specs.Fields.{HasFewOctets};
 ghost use Rattle.ax_expand.specs.Marks.{mark_in, rest_in, marks_in};
@@ -16,8 +16,8 @@ ghost use Rattle.ax_expand.specs.declared.form.Form.TheVariants.{Fx, Fixed};
 
 use crate::form::Form;
 use ax_bits::Out;
+use ax_format::{BodyCause, BodyFault, Entries, Entry, Slot, Slots};
 use ax_fspec::{Presence, read_presence};
-use ax_model::{BodyCause, BodyFault, Entries, Entry, Slot, Slots};
 use ax_values::{has_fx, slots_mask};
 
 fn is_sub(slot: &Slot) -> bool

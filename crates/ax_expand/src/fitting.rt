@@ -1,11 +1,11 @@
 //! Which values are those of contents.
 ghost use Rattle.std.specs.Prelude.{◌↔◌, IsTrue};
-ghost use Rattle.ax_model.specs.Plain.{slots_tree, value_tree};
-ghost use Rattle.ax_model.specs.Shape.{Shape};
-ghost use Rattle.ax_model.specs.Tree.{compound};
+ghost use Rattle.ax_format.specs.Plain.{slots_tree, value_tree};
+ghost use Rattle.ax_format.specs.Shape.{Shape};
+ghost use Rattle.ax_format.specs.Tree.{compound};
 
 use crate::accepted::AcceptedExpansion;
-use ax_model::{Value, fits_kind};
+use ax_format::{Value, fits_kind};
 
 /// Whether the value has the shape of the compound of the expansion's slots. Takes no memory.
 #[tactic(auto, using(crate::proofs::Shapes::shapes))]

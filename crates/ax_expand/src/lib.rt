@@ -4,13 +4,11 @@
 mod accepted;
 mod decode;
 mod encode;
-pub mod examples;
 mod expansion;
 mod fault;
 mod field;
 mod fitting;
 mod form;
-pub mod laws;
 mod reading;
 
 pub use accepted::{AcceptedExpansion, accept_expansion};

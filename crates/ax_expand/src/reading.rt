@@ -11,8 +11,7 @@ ghost use Rattle.ax_expand.specs.Rules.{form_at, expansion_at, whole_at};
 use crate::expansion::Expansion;
 use crate::form::Form;
 use ax_grammar::{Keyword, SpecReader, SyntaxError};
-use ax_token_reader::Stopped;
-use ax_tokens::Tokens;
+use ax_tokens::{Stopped, Tokens};
 use std::alloc::Global;
 
 #[tactic(auto, unfolding(crate::specs::Rules::form_at))]

@@ -2,7 +2,7 @@
 use Rattle.std.proofs.Common.{◌≡◌, ℕ, List, [], ◌∷◌, ◌++◌, Result, Ok, Err, OnOk, refl, ◌∙◌, ap, append_assoc}
 use Rattle.ax_bits.proofs.Pieces.{number-word}
 use Rattle.ax_bits.specs.Bits.{bits, AreOctets}
-use Rattle.ax_model.specs.CanonicalOctets.{octets_of}
+use Rattle.ax_format.specs.CanonicalOctets.{octets_of}
 
 pub two_appended : (old a b front back : List ℕ) → a ≡ old ++ front → b ≡ a ++ back → b ≡ old ++ (front ++ back)
 two_appended old a b front back e f = f ∙ ap (λ t. t ++ back) e ∙ append_assoc old front back

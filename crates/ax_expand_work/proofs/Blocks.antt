@@ -6,24 +6,24 @@ use Rattle.ax_expand.specs.Expansion.{ExpansionTree}
 use Rattle.ax_expand_work.specs.ExpandCommand.{expand_command, re_lines, unread_lines}
 use Rattle.ax_expand_work.specs.Gathering.{GathersBlock}
 use Rattle.ax_expand_work.specs.declared.contents.Lines.{Lines}
-use Rattle.ax_model.specs.Blocks.{read_block, opaque_block}
-use Rattle.ax_model.specs.Bodies.{SpellsBody}
-use Rattle.ax_model.specs.CanonicalOctets.{framed}
-use Rattle.ax_model.specs.Framing.{RawTree}
-use Rattle.ax_model.specs.Specification.{SpecTree, spec_of}
-use Rattle.ax_model.specs.declared.fault.BodyFault.{BodyFault}
+use Rattle.ax_format.specs.Blocks.{read_block, opaque_block}
+use Rattle.ax_format.specs.Bodies.{SpellsBody}
+use Rattle.ax_format.specs.CanonicalOctets.{framed}
+use Rattle.ax_format.specs.Framing.{RawTree}
+use Rattle.ax_format.specs.Specification.{SpecTree, spec_of}
+use Rattle.ax_format.specs.declared.fault.BodyFault.{BodyFault}
 use Rattle.ax_outside.proofs.Pieces.{change}
 use Rattle.ax_outside.specs.Changes.{SinkChange, Wrote}
 use Rattle.ax_outside.specs.declared.sinks.SinkFailed.{SinkFailed}
-use Rattle.ax_stream.proofs.BlockSteps.{short_fault}
-use Rattle.ax_stream.proofs.OpaqueBlocks.{raw_framed}
-use Rattle.ax_stream.proofs.Taken.{nothing_written, takes_after_lines, takes_cut_line, takes_silently, takes_fault, takes_nothing}
-use Rattle.ax_stream.specs.Commands.{gives}
-use Rattle.ax_stream.specs.Taking.{GivesFor, Takes, WritesOctets}
-use Rattle.ax_stream.specs.declared.work.WorkStop.{WorkStop}
-use Rattle.ax_stream.specs.declared.work.WorkStop.TheVariants.{Fault, ReportFault, OutOfMemory}
-use Rattle.ax_tables.specs.Standing.{StandsFor, IsCompiled}
-use Rattle.ax_tables.specs.declared.codec.Codec.{Codec}
+use Rattle.ax_blocks.proofs.BlockSteps.{short_fault}
+use Rattle.ax_blocks.proofs.OpaqueBlocks.{raw_framed}
+use Rattle.ax_blocks.proofs.Taken.{nothing_written, takes_after_lines, takes_cut_line, takes_silently, takes_fault, takes_nothing}
+use Rattle.ax_blocks.specs.Commands.{gives}
+use Rattle.ax_blocks.specs.BlockTaking.{GivesFor, Takes, WritesOctets}
+use Rattle.ax_blocks.specs.declared.work.WorkStop.{WorkStop}
+use Rattle.ax_blocks.specs.declared.work.WorkStop.TheVariants.{Fault, ReportFault, OutOfMemory}
+use Rattle.ax_codec.specs.Standing.{StandsFor, IsCompiled}
+use Rattle.ax_codec.specs.declared.codec.Codec.{Codec}
 use Rattle.ax_view.specs.Views.{SpellsSome, FailsThere}
 
 -- ---- a catalogue of one specification

@@ -16,8 +16,8 @@ use Rattle.ax_expand_work.specs.Gathering.{GathersContent}
 use Rattle.ax_expand_work.specs.Judging.{spelled, faulty, judged_read, judge}
 use Rattle.ax_expand_work.specs.Lines.{re_line, unread_line}
 use Rattle.ax_expand_work.specs.declared.contents.Lines.{Lines}
-use Rattle.ax_model.specs.Reader.{got}
-use Rattle.ax_model.specs.Tree.{SlotsTree, ValueTree}
+use Rattle.ax_format.specs.Reader.{got}
+use Rattle.ax_format.specs.Tree.{SlotsTree, ValueTree}
 
 -- ---- what a content is
 

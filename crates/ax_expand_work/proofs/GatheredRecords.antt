@@ -7,18 +7,18 @@ use Rattle.ax_expand.specs.Expansion.{ExpansionTree}
 use Rattle.ax_expand_work.specs.ExpandCommand.{content_at, re_lines_of, unread_lines_of, re_lines, unread_lines}
 use Rattle.ax_expand_work.specs.Gathering.{GathersContent, GathersBlock}
 use Rattle.ax_expand_work.specs.declared.contents.Lines.{Lines}
-use Rattle.ax_model.proofs.Spelled.{read_spelled}
-use Rattle.ax_model.specs.At.{slot_value}
-use Rattle.ax_model.specs.Bodies.{SpellsBody}
-use Rattle.ax_model.specs.Flaws.{NoFlaw}
-use Rattle.ax_model.specs.Reader.{read, got}
-use Rattle.ax_model.specs.Specification.{SpecTree, record_kind}
-use Rattle.ax_model.specs.Spelling.{Spells}
-use Rattle.ax_model.specs.Tree.{element, group, KindTree, fixed, extended, counted, by_fx, explicit, compound, ValueTree, number, member_values, part_values, occurrences, content_octets, marked, EntriesTree}
-use Rattle.ax_tables.proofs.BareKinds.{bare_read, stands_record}
-use Rattle.ax_tables.specs.Standing.{StandsFor}
-use Rattle.ax_tables.specs.Table.{record_kind_at}
-use Rattle.ax_tables.specs.declared.codec.Codec.{Codec}
+use Rattle.ax_format.proofs.Spelled.{read_spelled}
+use Rattle.ax_format.specs.At.{slot_value}
+use Rattle.ax_format.specs.Bodies.{SpellsBody}
+use Rattle.ax_format.specs.Flaws.{NoFlaw}
+use Rattle.ax_format.specs.Reader.{read, got}
+use Rattle.ax_format.specs.Specification.{SpecTree, record_kind}
+use Rattle.ax_format.specs.Spelling.{Spells}
+use Rattle.ax_format.specs.Tree.{element, group, KindTree, fixed, extended, counted, by_fx, explicit, compound, ValueTree, number, member_values, part_values, occurrences, content_octets, marked, EntriesTree}
+use Rattle.ax_codec.proofs.BareKinds.{bare_read, stands_record}
+use Rattle.ax_codec.specs.Standing.{StandsFor}
+use Rattle.ax_codec.specs.Table.{record_kind_at}
+use Rattle.ax_codec.specs.declared.codec.Codec.{Codec}
 use Rattle.ax_view.proofs.Spelled.{value_spelled}
 use Rattle.ax_view.specs.Shown.{content_in}
 use Rattle.ax_view.specs.Values.{ItemInBounds, IsItemOf, value_in, value_read, entries_in}

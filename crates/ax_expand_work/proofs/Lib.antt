@@ -3,5 +3,3 @@ pub mod Gathered
 pub mod Slots
 pub mod GatheredRecords
 pub mod Blocks
-pub mod Judged
-pub mod WorkedLines

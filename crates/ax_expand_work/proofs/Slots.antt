@@ -2,12 +2,12 @@
 use Rattle.std.proofs.Common.{◌≡◌, ℕ, Bool, true, false, List, Option, Some, None, option_map, sym, ◌∙◌, ap, if◌then◌else◌}
 use Rattle.ax_expand.specs.Expansion.{re}
 use Rattle.ax_expand_work.specs.ExpandCommand.{is_explicit, where_explicit, re_frn}
-use Rattle.ax_model.proofs.Lookups.{named_tree}
-use Rattle.ax_model.specs.Lookup.{item_named}
-use Rattle.ax_model.specs.Naming.{frn_of}
-use Rattle.ax_model.specs.Plain.{kind_tree, item_tree, spec_tree}
-use Rattle.ax_model.specs.declared.spec.Item.{Item}
-use Rattle.ax_model.specs.declared.spec.Spec.{Spec}
+use Rattle.ax_format.proofs.Lookups.{named_tree}
+use Rattle.ax_format.specs.Lookup.{item_named}
+use Rattle.ax_format.specs.Naming.{frn_of}
+use Rattle.ax_format.specs.Plain.{kind_tree, item_tree, spec_tree}
+use Rattle.ax_format.specs.declared.spec.Item.{Item}
+use Rattle.ax_format.specs.declared.spec.Spec.{Spec}
 
 by_item : (spec : Spec) (name : List ℕ) (o : Option Item) → name ≡ re → o ≡ item_named name spec.items → re_frn (spec_tree spec) ≡ where_explicit (option_map item_tree o) (frn_of 1 name spec.uap)
 by_item spec name o is e =

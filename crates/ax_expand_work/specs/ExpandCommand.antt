@@ -1,12 +1,12 @@
 -- The command `expand`. Blocks are read under the one category file, and each content of RE by the expansion file.
 use Rattle.std.specs.Prelude.{ℕ, ◌+◌, Bool, true, false, if◌then◌else◌, List, [], ◌∷◌, ◌++◌, Option, Some, None, option_and_then}
 use Rattle.ax_expand.specs.Expansion.{ExpansionTree, re}
-use Rattle.ax_model.specs.At.{slot_value}
-use Rattle.ax_model.specs.Blocks.{BlockTree, read_block, opaque_block}
-use Rattle.ax_model.specs.Naming.{frn_of}
-use Rattle.ax_model.specs.Specification.{ItemTree, SpecTree, first_named}
-use Rattle.ax_model.specs.Tree.{KindTree, explicit, EntriesTree}
-use Rattle.ax_stream.specs.Commands.{BlockCommand, BlockAnswer, gives}
+use Rattle.ax_format.specs.At.{slot_value}
+use Rattle.ax_format.specs.Blocks.{BlockTree, read_block, opaque_block}
+use Rattle.ax_format.specs.Naming.{frn_of}
+use Rattle.ax_format.specs.Specification.{ItemTree, SpecTree, first_named}
+use Rattle.ax_format.specs.Tree.{KindTree, explicit, EntriesTree}
+use Rattle.ax_blocks.specs.Commands.{BlockCommand, BlockAnswer, gives}
 use Rattle.ax_view.specs.Shown.{content_in}
 use Rattle.ax_expand_work.specs.Judging.{Judged, spelled, faulty, judge}
 use Rattle.ax_expand_work.specs.Lines.{re_line, unread_line}

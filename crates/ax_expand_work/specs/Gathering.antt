@@ -4,12 +4,12 @@ use Rattle.ax_bits.specs.Bits.{bits}
 use Rattle.ax_expand.specs.Expansion.{ExpansionTree}
 use Rattle.ax_expand_work.specs.ExpandCommand.{re_lines_of, unread_lines_of, re_lines, unread_lines}
 use Rattle.ax_expand_work.specs.declared.contents.Lines.{Lines}
-use Rattle.ax_model.specs.Bodies.{SpellsBody}
-use Rattle.ax_model.specs.Flaws.{NoFlaw}
-use Rattle.ax_model.specs.Specification.{SpecTree}
-use Rattle.ax_model.specs.Tree.{EntriesTree}
-use Rattle.ax_tables.specs.Standing.{StandsFor}
-use Rattle.ax_tables.specs.declared.codec.Codec.{Codec}
+use Rattle.ax_format.specs.Bodies.{SpellsBody}
+use Rattle.ax_format.specs.Flaws.{NoFlaw}
+use Rattle.ax_format.specs.Specification.{SpecTree}
+use Rattle.ax_format.specs.Tree.{EntriesTree}
+use Rattle.ax_codec.specs.Standing.{StandsFor}
+use Rattle.ax_codec.specs.declared.codec.Codec.{Codec}
 
 -- the lines of this content come after those before
 pub record GathersContent (x : ExpansionTree) (block n : ℕ) (content : Option (List ℕ)) (old new : Lines) : Type 0 where

@@ -6,8 +6,8 @@ use Rattle.ax_expand.specs.Expansion.{ExpansionTree}
 use Rattle.ax_expand.specs.Reading.{content_read}
 use Rattle.ax_expand.specs.declared.fault.ContentCause.{ContentCause}
 use Rattle.ax_expand.specs.declared.fault.ContentCause.TheVariants.{TrailingOctets}
-use Rattle.ax_model.specs.Reader.{Read, got, failed}
-use Rattle.ax_model.specs.Tree.{ValueTree}
+use Rattle.ax_format.specs.Reader.{Read, got, failed}
+use Rattle.ax_format.specs.Tree.{ValueTree}
 
 -- it spells this value, or it has this fault at this bit
 pub data Judged : Type 0 where

@@ -1,4 +1,3 @@
-pub mod Examples
 pub mod ExpandCommand
 pub mod Gathering
 pub mod Judging

@@ -4,8 +4,8 @@ use Rattle.ax_expand.specs.Content.{CanonContent}
 use Rattle.ax_expand.specs.Expansion.{ExpansionTree, wrapped}
 use Rattle.ax_expand.specs.declared.fault.ContentCause.{ContentCause}
 use Rattle.ax_expand.specs.declared.fault.ContentCause.TheVariants.{RunsOut, UndefinedSlot, PresenceTooLong, ExtensionPastEnd, BadExplicitLength, TrailingOctets}
-use Rattle.ax_model.specs.CanonicalOctets.{octets_of}
-use Rattle.ax_model.specs.Tree.{ValueTree, EntriesTree, no_entries, entry_and}
+use Rattle.ax_format.specs.CanonicalOctets.{octets_of}
+use Rattle.ax_format.specs.Tree.{ValueTree, EntriesTree, no_entries, entry_and}
 use Rattle.ax_report.specs.Lines.{numbered}
 use Rattle.ax_text.specs.BlockText.{RecordLine}
 use Rattle.ax_text.specs.ValueText.{hex_text}

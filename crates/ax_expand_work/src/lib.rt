@@ -2,8 +2,6 @@
 #![tactic(auto)]
 
 mod contents;
-pub mod examples;
-pub mod laws;
 mod lines;
 mod records;
 mod slot;

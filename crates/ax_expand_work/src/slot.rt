@@ -1,9 +1,9 @@
 //! Where RE stands.
 ghost use Rattle.std.specs.Prelude.{◌≡◌};
 ghost use Rattle.ax_expand_work.specs.ExpandCommand.{is_explicit, re_frn};
-ghost use Rattle.ax_model.specs.Plain.{kind_tree, spec_tree};
+ghost use Rattle.ax_format.specs.Plain.{kind_tree, spec_tree};
 
-use ax_model::{Kind, Name, Spec, find_frn};
+use ax_format::{Kind, Name, Spec, find_frn};
 
 fn is_explicit(kind: &Kind) -> bool
     ensures { result ≡ is_explicit (kind_tree kind.now) }

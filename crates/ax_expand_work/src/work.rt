@@ -2,18 +2,18 @@
 ghost use Rattle.std.specs.Prelude.{◌≡◌, Some};
 ghost use Rattle.ax_expand.specs.Expansion.{expansion_tree};
 ghost use Rattle.ax_expand_work.specs.ExpandCommand.{expand_command};
-ghost use Rattle.ax_model.specs.Plain.{spec_tree};
-ghost use Rattle.ax_tables.specs.Standing.{IsCompiled};
+ghost use Rattle.ax_format.specs.Plain.{spec_tree};
+ghost use Rattle.ax_codec.specs.Standing.{IsCompiled};
 
 use crate::contents::Lines;
 use crate::records::gather_block;
+use ax_blocks::{BlockWork, WorkStop, write_piece};
 use ax_check::Accepted;
+use ax_codec::Codec;
 use ax_expand::AcceptedExpansion;
-use ax_model::RawBlock;
+use ax_format::RawBlock;
 use ax_octets::Octets;
 use ax_outside::{Sink, write_text};
-use ax_stream::{BlockWork, WorkStop, write_piece};
-use ax_tables::Codec;
 use ax_view::scan;
 use std::alloc::Global;
 

@@ -2,9 +2,9 @@
 use Rattle.std.proofs.Common.{◌≡◌, ℕ, false, List, [], ◌∷◌, ◌++◌, refl, sym, ◌∙◌, ap}
 use Rattle.std.specs.Prelude.{bytes_eq}
 use Rattle.std.specs.List.{AllByRecursion}
-use Rattle.ax_token_reader.specs.Stopping.{Texts, first_with, StopsAt, IsNotFirst, Stops, One, joined}
-use Rattle.ax_token_reader.specs.declared.stopped.Stopped.{Stopped}
-use Rattle.ax_token_reader.proofs.Stops.{after_lacks}
+use Rattle.ax_tokens.specs.Stopping.{Texts, first_with, StopsAt, IsNotFirst, Stops, One, joined}
+use Rattle.ax_tokens.specs.declared.stopped.Stopped.{Stopped}
+use Rattle.ax_tokens.proofs.Stops.{after_lacks}
 use Rattle.ax_filter.specs.Words.{op_text, keyword_text, path_word, int_text, IsPathText, IsKeyword}
 use Rattle.ax_filter.specs.Tree.{ExprTree, all_of, any_of, not_of, present, compared, ExprsTree, no_exprs, expr_and}
 use Rattle.ax_filter.specs.Spelling.{opening, closing, expr_texts, exprs_texts, AllInForm, IsExpr}

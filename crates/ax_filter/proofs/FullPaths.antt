@@ -3,8 +3,8 @@ use Rattle.std.proofs.Common.{◌≡◌, ℕ, ◌+◌, ◌/◌, ◌%◌, ◌<◌
 use Rattle.std.specs.List.{AllByRecursion, list_all}
 use Rattle.std.proofs.lemmas.Bool.{and_parts}
 use Rattle.std.proofs.lemmas.Bool.Decides.{nat_tests}
-use Rattle.ax_model.specs.Characters.{IsName, is_name_octet}
-use Rattle.ax_model.specs.Paths.{joined, three_digits, path_text, IsPathOf, onto, pieces}
+use Rattle.ax_format.specs.Characters.{IsName, is_name_octet}
+use Rattle.ax_format.specs.Paths.{joined, three_digits, path_text, IsPathOf, onto, pieces}
 use Rattle.ax_filter.specs.Words.{IsPath, path_word, IsPathText}
 use Rattle.ax_filter.specs.declared.expr.FullPath.{FullPath}
 

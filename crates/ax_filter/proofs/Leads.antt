@@ -1,10 +1,10 @@
 -- Where texts lead, and the walk over them.
 use Rattle.std.proofs.Common.{◌≡◌, ℕ, zero, suc, ◌+◌, ◌<◌, ◌≤◌, List, [], ◌∷◌, Option, Some, None, option_and_then, slice_get, is_some, MatchOption, Bool, true, false, IsTrue, ◌↔◌, ◌⊎◌, inl, inr, refl, sym, ◌∙◌, ap, subst, arith, codes}
 use Rattle.ax_check.specs.Places.{place_of, element_at}
-use Rattle.ax_model.specs.Specification.{SpecTree, spec_of}
-use Rattle.ax_model.specs.Tree.{FixedTree}
-use Rattle.ax_model.specs.declared.place.Place.{Place}
-use Rattle.ax_token_reader.specs.Stopping.{Texts, texts_of}
+use Rattle.ax_format.specs.Specification.{SpecTree, spec_of}
+use Rattle.ax_format.specs.Tree.{FixedTree}
+use Rattle.ax_format.specs.declared.place.Place.{Place}
+use Rattle.ax_tokens.specs.Stopping.{Texts, texts_of}
 use Rattle.ax_tokens.specs.PlainToken.{PlainToken}
 use Rattle.std.proofs.lemmas.Bool.{both_ways}
 use Rattle.std.proofs.Math.Nat.{eq-or-lt_of_le}

@@ -23,4 +23,3 @@ pub mod Levels
 pub mod SameSlots
 pub mod PlannedTests
 pub mod Memos
-pub mod AbsentItems

@@ -4,17 +4,17 @@ use Rattle.std.proofs.lemmas.Bool.{lt-ltb, ltb-false}
 use Rattle.std.proofs.lemmas.List.{get_or-replicate}
 use Rattle.ax_bits.specs.Bits.{AreBits, bits}
 use Rattle.ax_fspec.specs.Fields.{MarksSlots, FailsToMark}
-use Rattle.ax_model.specs.At.{slot_value}
-use Rattle.ax_model.specs.declared.fault.BodyFault.{BodyFault}
-use Rattle.ax_model.proofs.Bounds.{count_of_slots}
-use Rattle.ax_model.specs.Presence.{first_mark, later_marks, octets_needed}
-use Rattle.ax_model.specs.Reader.{Read, got, failed, after, both, read, mark_read, marked_read, presence_read, entries_read}
-use Rattle.ax_model.specs.Tree.{KindTree, ValueTree, EntriesTree, entry_and, SlotsTree, no_slots, slot_and, spare_slot, subitem, slots_of, slot_count, defined_slots, marked}
-use Rattle.ax_reader.proofs.Marking.{marks_bits}
-use Rattle.ax_reader.specs.Reading.{entries_at}
-use Rattle.ax_tables.specs.Meaning.{meanings, linked_slots}
-use Rattle.ax_tables.specs.Table.{record_kind_at}
-use Rattle.ax_tables.specs.declared.codec.Codec.{Codec}
+use Rattle.ax_format.specs.At.{slot_value}
+use Rattle.ax_format.specs.declared.fault.BodyFault.{BodyFault}
+use Rattle.ax_format.proofs.Bounds.{count_of_slots}
+use Rattle.ax_format.specs.Presence.{first_mark, later_marks, octets_needed}
+use Rattle.ax_format.specs.Reader.{Read, got, failed, after, both, read, mark_read, marked_read, presence_read, entries_read}
+use Rattle.ax_format.specs.Tree.{KindTree, ValueTree, EntriesTree, entry_and, SlotsTree, no_slots, slot_and, spare_slot, subitem, slots_of, slot_count, defined_slots, marked}
+use Rattle.ax_fspec.proofs.Marking.{marks_bits}
+use Rattle.ax_fspec.specs.Reading.{entries_at}
+use Rattle.ax_codec.specs.Meaning.{meanings, linked_slots}
+use Rattle.ax_codec.specs.Table.{record_kind_at}
+use Rattle.ax_codec.specs.declared.codec.Codec.{Codec}
 use Rattle.ax_view.proofs.Found.{not_same, field_never, entries_are}
 use Rattle.ax_view.specs.Shown.{record_entries}
 use Rattle.ax_view.specs.Values.{entries_found, entries_in, value_in, value_read}

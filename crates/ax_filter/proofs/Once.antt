@@ -4,9 +4,9 @@ use Rattle.std.proofs.lemmas.Bool.Decides.{leb_tells}
 use Rattle.std.proofs.lemmas.List.{length-map}
 use Rattle.std.proofs.lemmas.Option.{slice_get_within}
 use Rattle.std.proofs.Math.Nat.{eq-or-lt_of_le}
-use Rattle.ax_model.specs.Specification.{SpecTree}
-use Rattle.ax_token_reader.specs.Stopping.{Texts, texts_of}
-use Rattle.ax_token_reader.proofs.Bad.{first_bad_once}
+use Rattle.ax_format.specs.Specification.{SpecTree}
+use Rattle.ax_tokens.specs.Stopping.{Texts, texts_of}
+use Rattle.ax_tokens.proofs.Bad.{first_bad_once}
 use Rattle.ax_tokens.specs.PlainToken.{PlainToken}
 use Rattle.ax_filter.specs.Answers.{Spells}
 use Rattle.ax_filter.specs.Faults.{IsUnknown, IsUnknownAt, IsNoElementAt, PathsLead, IsFault, TokenIs}

@@ -2,15 +2,15 @@
 use Rattle.std.proofs.Common.{◌≡◌, ℕ, zero, suc, ◌<◌, ◌≤◌, ◌+◌, ◌==◌, if◌then◌else◌, List, [], ◌∷◌, drop, length, get_or, slice_get, Option, Some, None, option_map, option_and_then, is_some, refl, sym, ◌∙◌, ap}
 use Rattle.std.proofs.lemmas.Bool.{ne_eqb, eq-eqb}
 use Rattle.std.proofs.lemmas.List.{drop_all}
-use Rattle.ax_model.proofs.Namings.{from_place}
-use Rattle.ax_model.proofs.RecordFitting.{entries_split}
-use Rattle.ax_model.specs.At.{slot_value, nth_value, nth_list, value_at, number_of_value}
-use Rattle.ax_model.specs.Plain.{value_tree, values_tree, lists_tree, entries_tree, value_step, entry_step}
-use Rattle.ax_model.specs.Tree.{ValueTree, number, member_values, part_values, marked, ValuesTree, ListsTree, EntriesTree}
-use Rattle.ax_model.specs.declared.value.Entry.{Entry}
-use Rattle.ax_model.specs.declared.value.Value.{Value, fold-roll-Value}
-use Rattle.ax_model.specs.declared.value.Value.TheOpen.{Value-F}
-use Rattle.ax_model.specs.declared.value.Value.TheVariants.{Extended, rolls-Extended}
+use Rattle.ax_format.proofs.Namings.{from_place}
+use Rattle.ax_format.proofs.RecordFitting.{entries_split}
+use Rattle.ax_format.specs.At.{slot_value, nth_value, nth_list, value_at, number_of_value}
+use Rattle.ax_format.specs.Plain.{value_tree, values_tree, lists_tree, entries_tree, value_step, entry_step}
+use Rattle.ax_format.specs.Tree.{ValueTree, number, member_values, part_values, marked, ValuesTree, ListsTree, EntriesTree}
+use Rattle.ax_format.specs.declared.value.Entry.{Entry}
+use Rattle.ax_format.specs.declared.value.Value.{Value, fold-roll-Value}
+use Rattle.ax_format.specs.declared.value.Value.TheOpen.{Value-F}
+use Rattle.ax_format.specs.declared.value.Value.TheVariants.{Extended, rolls-Extended}
 
 some_same : {A : Type 0} (x y : A) → Some x ≡ Some y → x ≡ y
 some_same x y e = cc

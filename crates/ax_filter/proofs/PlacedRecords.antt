@@ -1,8 +1,8 @@
 -- The entries of a record, by its view and from the front of its octets.
 use Rattle.std.proofs.Common.{◌≡◌, ℕ, List, refl, sym, ◌∙◌, ap}
-use Rattle.ax_tables.specs.Table.{record_kind_at}
-use Rattle.ax_tables.specs.declared.codec.Codec.{Codec}
-use Rattle.ax_reader.specs.Reading.{kind_read}
+use Rattle.ax_codec.specs.Table.{record_kind_at}
+use Rattle.ax_codec.specs.declared.codec.Codec.{Codec}
+use Rattle.ax_fspec.specs.Reading.{kind_read}
 use Rattle.ax_filter.proofs.SlotSets.{marked_slot}
 use Rattle.ax_filter.specs.Plans.{MarkEach}
 use Rattle.ax_view.specs.Placing.{IsPlaced, entries_there, placed_entries}

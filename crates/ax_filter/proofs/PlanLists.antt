@@ -1,7 +1,7 @@
 -- Lists of plans, from a place on and up to one.
 use Rattle.std.proofs.Common.{◌≡◌, ℕ, ◌+◌, ◌<◌, ◌≤◌, Bool, true, false, not, ◌&&◌, ◌||◌, List, [], ◌∷◌, ◌++◌, map, drop, length, get_or, refl, sym, ◌∙◌, ap, Option}
 use Rattle.std.proofs.lemmas.List.{drop_all, map-append}
-use Rattle.ax_model.proofs.Namings.{from_place}
+use Rattle.ax_format.proofs.Namings.{from_place}
 use Rattle.ax_filter.specs.Plans.{PlanTree, PlansTree, plan_tree, plans_of, joined, joined_all, says, many_say}
 use Rattle.ax_filter.specs.declared.plan.Found.{Found}
 use Rattle.ax_filter.specs.declared.plan.Plan.{Plan}

@@ -1,10 +1,10 @@
 -- Plans that say of each record what tests do.
 use Rattle.std.proofs.Common.{◌≡◌, ◌⊎◌, inl, inr, ℕ, zero, suc, ◌+◌, ◌==◌, ◌<◌, ◌≤◌, Bool, true, false, not, ◌&&◌, ◌||◌, cond, List, [], ◌∷◌, ◌++◌, map, drop, take, length, get_or, slice_get, Box, Global, Result, Ok, Err, IfOk, Option, Some, None, option_map, option_and_then, is_some, refl, sym, ◌∙◌, ap, ℤ, append_assoc, append-nil}
 use Rattle.std.proofs.lemmas.List.{map-append, take_more, take_all, take-append-drop}
-use Rattle.ax_model.proofs.Namings.{from_place}
-use Rattle.ax_model.specs.At.{slot_value, value_at, number_of_value, is_present, At}
-use Rattle.ax_model.specs.Tree.{EntriesTree}
-use Rattle.ax_model.specs.declared.place.Place.{Place}
+use Rattle.ax_format.proofs.Namings.{from_place}
+use Rattle.ax_format.specs.At.{slot_value, value_at, number_of_value, is_present, At}
+use Rattle.ax_format.specs.Tree.{EntriesTree}
+use Rattle.ax_format.specs.declared.place.Place.{Place}
 use Rattle.ax_filter.proofs.Levels.{level_more}
 use Rattle.ax_filter.proofs.PlanLists.{joined_decided, decided_last, own_last, joined_append}
 use Rattle.ax_filter.proofs.PlanTrees.{always_tree, asks_tree, not_plan_tree}

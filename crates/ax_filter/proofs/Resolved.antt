@@ -2,10 +2,10 @@
 use Rattle.std.proofs.Common.{◌≡◌, ℕ, ◌+◌, ◌<◌, List, [], ◌∷◌, ◌++◌, length, map, take, get_or, Option, Some, None, option_and_then, refl, sym, ◌∙◌, ap}
 use Rattle.std.proofs.lemmas.List.{map-append, take_more}
 use Rattle.ax_check.specs.Places.{place_of, element_at}
-use Rattle.ax_model.specs.Specification.{SpecTree, spec_of}
-use Rattle.ax_model.specs.Tree.{element, group, MembersTree}
-use Rattle.ax_model.specs.declared.content.Content.{Content}
-use Rattle.ax_model.specs.declared.place.Place.{Place}
+use Rattle.ax_format.specs.Specification.{SpecTree, spec_of}
+use Rattle.ax_format.specs.Tree.{element, group, MembersTree}
+use Rattle.ax_format.specs.declared.content.Content.{Content}
+use Rattle.ax_format.specs.declared.place.Place.{Place}
 use Rattle.ax_filter.specs.Faults.{place_in, element_in}
 use Rattle.ax_filter.specs.Meaning.{is_signed}
 use Rattle.ax_filter.specs.Tests.{TestTree, test_and, tests_of, test_tree, element_for, element_at_path, resolved, all_resolved}

@@ -1,8 +1,8 @@
 -- Lists of tests, from a place on.
 use Rattle.std.proofs.Common.{◌≡◌, ℕ, ◌+◌, ◌<◌, ◌≤◌, Bool, true, false, ◌&&◌, ◌||◌, List, ◌∷◌, map, drop, length, get_or, sym, ◌∙◌, ap}
 use Rattle.std.proofs.lemmas.List.{drop_all}
-use Rattle.ax_model.proofs.Namings.{from_place}
-use Rattle.ax_model.specs.Tree.{EntriesTree}
+use Rattle.ax_format.proofs.Namings.{from_place}
+use Rattle.ax_format.specs.Tree.{EntriesTree}
 use Rattle.ax_filter.specs.Tests.{test_tree, tests_of, TestsTree, passes, all_pass, any_passes}
 use Rattle.ax_filter.specs.declared.test.Test.{Test}
 

@@ -1,7 +1,7 @@
 -- The text of an expression, by its tokens.
 use Rattle.std.proofs.Common.{◌≡◌, ℕ, List, refl, sym, ◌∙◌, ap, subst, ◌⊎◌, inl, inr}
-use Rattle.ax_model.specs.Specification.{SpecTree}
-use Rattle.ax_token_reader.specs.Stopping.{texts_of}
+use Rattle.ax_format.specs.Specification.{SpecTree}
+use Rattle.ax_tokens.specs.Stopping.{texts_of}
 use Rattle.ax_tokens.proofs.Once.{tokens_once, no_bad_byte, none_too_deep, bad_byte_once, too_deep_once, one_kind}
 use Rattle.ax_tokens.specs.Faults as lexing
 use Rattle.ax_tokens.specs.Lexing.{AreTokensOf}

@@ -2,9 +2,9 @@
 use Rattle.std.proofs.Common.{◌≡◌, ℕ, Bool, true, false, cond, List, [], ◌∷◌, drop, Some, None, refl, sym, ◌∙◌, ap, subst, codes, lit<, lit≤, pos}
 use Rattle.std.specs.Prelude.{Option, bytes_eq, find, decimal}
 use Rattle.std.proofs.lemmas.Slice.Eq.{bytes_eq-Decides}
-use Rattle.ax_token_reader.specs.Stopping.{Texts, StopsAt, IsNotFirst, One}
-use Rattle.ax_token_reader.proofs.Stops.{one_stops}
-use Rattle.ax_token_reader.proofs.Words.{not_first, none_first}
+use Rattle.ax_tokens.specs.Stopping.{Texts, StopsAt, IsNotFirst, One}
+use Rattle.ax_tokens.proofs.Stops.{one_stops}
+use Rattle.ax_tokens.proofs.Words.{not_first, none_first}
 use Rattle.ax_filter.specs.Words.{op_text, ops, op_of, keyword_text, keywords, keyword_of, IsPath, IsPathText, IsIntText, IsOpText, IsKeyword}
 use Rattle.ax_filter.specs.declared.expr.FullPath.{FullPath}
 use Rattle.ax_filter.specs.declared.expr.Op.{Op}

@@ -1,13 +1,13 @@
 -- The plain trees of the code's variants.
 use Rattle.std.proofs.Common.{◌≡◌, ℕ, ◌==◌, Bool, true, false, not, ◌&&◌, List, map, Box, Global, Option, option_and_then, refl, sym, ap, ◌∙◌, ℤ}
-use Rattle.ax_model.specs.At.{is_present}
-use Rattle.ax_model.specs.Tree.{EntriesTree}
-use Rattle.ax_model.specs.declared.place.Place.{Place}
+use Rattle.ax_format.specs.At.{is_present}
+use Rattle.ax_format.specs.Tree.{EntriesTree}
+use Rattle.ax_format.specs.declared.place.Place.{Place}
 use Rattle.ax_filter.specs.Meaning.{compares, some_passes}
 use Rattle.ax_filter.specs.Tests.{TestTree, all_tests, any_test, not_test, at_place, at_element, tests_of, test_step, test_tree, number_for, passes, all_pass, any_passes, element_at_path, resolved}
 use Rattle.ax_filter.specs.Faults.{place_in}
 use Rattle.ax_filter.proofs.Resolved.{each_resolved}
-use Rattle.ax_model.specs.Specification.{SpecTree}
+use Rattle.ax_format.specs.Specification.{SpecTree}
 use Rattle.ax_filter.specs.declared.expr.FullPath.{FullPath}
 use Rattle.ax_filter.specs.Tree.{ExprTree, all_of, any_of, not_of, present, compared, exprs_of, expr_step, expr_tree}
 use Rattle.ax_filter.specs.declared.expr.Expr.{Expr, fold-roll-Expr}

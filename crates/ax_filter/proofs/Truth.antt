@@ -1,9 +1,9 @@
 -- A test holds of a record exactly where the expression that it was made of does.
 use Rattle.std.proofs.Common.{◌≡◌, ℕ, ◌==◌, Bool, not, ◌&&◌, ◌||◌, List, Option, Some, None, option_map, option_and_then, refl, ap}
-use Rattle.ax_model.specs.At.{At}
-use Rattle.ax_model.specs.Specification.{SpecTree}
-use Rattle.ax_model.specs.Tree.{FixedTree, element, group, EntriesTree}
-use Rattle.ax_model.specs.declared.place.Place.{Place}
+use Rattle.ax_format.specs.At.{At}
+use Rattle.ax_format.specs.Specification.{SpecTree}
+use Rattle.ax_format.specs.Tree.{FixedTree, element, group, EntriesTree}
+use Rattle.ax_format.specs.declared.place.Place.{Place}
 use Rattle.ax_filter.specs.Faults.{place_in, element_in}
 use Rattle.ax_filter.specs.Meaning.{is_signed, number_of, fixed_number, compares, some_passes, holds, all_hold, any_holds}
 use Rattle.ax_filter.specs.Tests.{element_for, resolved, all_resolved, number_for, passes, all_pass, any_passes}

@@ -2,8 +2,8 @@
 use Rattle.std.proofs.Common.{◌≡◌, ℕ, true, false, List, [], ◌∷◌, ◌++◌, refl, sym, ◌∙◌, ap, append_assoc}
 use Rattle.std.specs.Prelude.{Option, Some, bytes_eq}
 use Rattle.std.proofs.lemmas.Slice.Eq.{bytes_eq-Decides}
-use Rattle.ax_token_reader.specs.Stopping.{Texts}
-use Rattle.ax_token_reader.proofs.Stops.{PrefixFree, NeverBegins}
+use Rattle.ax_tokens.specs.Stopping.{Texts}
+use Rattle.ax_tokens.proofs.Stops.{PrefixFree, NeverBegins}
 use Rattle.ax_filter.specs.Words.{op_text, op_of, keyword_text}
 use Rattle.ax_filter.specs.Tree.{ExprTree, all_of, any_of, not_of, present, compared, ExprsTree, no_exprs, expr_and}
 use Rattle.ax_filter.specs.Spelling.{closing, expr_texts, exprs_texts, InForm, AllInForm, IsExpr}

@@ -1,10 +1,10 @@
 -- Each way through the rules.
 use Rattle.std.proofs.Common.{◌≡◌, ℕ, List, [], ◌∷◌, ◌++◌, map, refl, sym, ◌∙◌, ap, subst, codes, append_assoc, append-nil, lit<, pos}
 use Rattle.std.specs.Prelude.{decimal, Result, Ok, Err}
-use Rattle.ax_token_reader.specs.Stopping.{Texts, StopsAt, Stops, IsNotFirst, Word, One, joined, Closed}
-use Rattle.ax_token_reader.specs.declared.stopped.Stopped.{Stopped}
-use Rattle.ax_token_reader.specs.declared.stopped.Stopped.TheVariants.{Bad, OutOfMemory}
-use Rattle.ax_token_reader.proofs.Stops.{PrefixFree, first_lacks, second_lacks, closed_stops, closed_cut}
+use Rattle.ax_tokens.specs.Stopping.{Texts, StopsAt, Stops, IsNotFirst, Word, One, joined, Closed}
+use Rattle.ax_tokens.specs.declared.stopped.Stopped.{Stopped}
+use Rattle.ax_tokens.specs.declared.stopped.Stopped.TheVariants.{Bad, OutOfMemory}
+use Rattle.ax_tokens.proofs.Stops.{PrefixFree, first_lacks, second_lacks, closed_stops, closed_cut}
 use Rattle.ax_filter.specs.Words.{op_text, keyword_text, path_word, IsPath, IsPathText, IsIntText, IsOpText, IsKeyword}
 use Rattle.ax_filter.specs.Tree.{ExprTree, all_of, ExprsTree, no_exprs, exprs_of, expr_tree}
 use Rattle.ax_filter.specs.Spelling.{opening, closing, expr_texts, exprs_texts, InForm, AllInForm, IsExpr}

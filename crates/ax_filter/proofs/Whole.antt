@@ -3,10 +3,10 @@ use Rattle.std.proofs.Common.{◌≡◌, ℕ, ◌-◌, ◌<◌, ◌≤◌, List,
 use Rattle.std.specs.Prelude.{Result}
 use Rattle.std.proofs.lemmas.List.{length-map}
 use Rattle.ax_tokens.specs.PlainToken.{PlainToken}
-use Rattle.ax_token_reader.specs.Stopping.{Texts, StopsAt, texts_of}
-use Rattle.ax_token_reader.specs.FirstBad.{FirstBad}
-use Rattle.ax_token_reader.proofs.Bad.{stops_bad, trails_bad, first_bad_once}
-use Rattle.ax_model.specs.Specification.{SpecTree}
+use Rattle.ax_tokens.specs.Stopping.{Texts, StopsAt, texts_of}
+use Rattle.ax_tokens.specs.FirstBad.{FirstBad}
+use Rattle.ax_tokens.proofs.Bad.{stops_bad, trails_bad, first_bad_once}
+use Rattle.ax_format.specs.Specification.{SpecTree}
 use Rattle.ax_filter.specs.Faults.{PathsLead, IsFault}
 use Rattle.ax_filter.specs.Leading.{IsPathFault}
 use Rattle.ax_filter.specs.OfCode.{expression, IsFilterOf}

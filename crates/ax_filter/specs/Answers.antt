@@ -1,8 +1,8 @@
 -- What tokens spell, and which is the first bad one where they spell nothing.
 use Rattle.std.specs.Prelude.{◌≡◌, List}
 use Rattle.ax_tokens.specs.PlainToken.{PlainToken}
-use Rattle.ax_token_reader.specs.Stopping.{texts_of}
-use Rattle.ax_token_reader.specs.FirstBad.{FirstBad}
+use Rattle.ax_tokens.specs.Stopping.{texts_of}
+use Rattle.ax_tokens.specs.FirstBad.{FirstBad}
 use Rattle.ax_filter.specs.Tree.{ExprTree}
 use Rattle.ax_filter.specs.Spelling.{InForm, expr_texts, IsExpr}
 use Rattle.ax_filter.specs.declared.syntax.SyntaxError.{SyntaxError}

@@ -1,11 +1,11 @@
 -- Paths that lead nowhere over a catalogue, and the fault of an expression's tokens.
 use Rattle.std.specs.Prelude.{◌≡◌, ℕ, ◌+◌, ◌<◌, List, codes, slice_get, Option, Some, None, option_and_then}
 use Rattle.ax_check.specs.Places.{place_of, element_at}
-use Rattle.ax_model.specs.Specification.{SpecTree, spec_of}
-use Rattle.ax_model.specs.Tree.{FixedTree}
-use Rattle.ax_model.specs.declared.place.Place.{Place}
-use Rattle.ax_token_reader.specs.FirstBad.{FirstBad}
-use Rattle.ax_token_reader.specs.Stopping.{Texts}
+use Rattle.ax_format.specs.Specification.{SpecTree, spec_of}
+use Rattle.ax_format.specs.Tree.{FixedTree}
+use Rattle.ax_format.specs.declared.place.Place.{Place}
+use Rattle.ax_tokens.specs.FirstBad.{FirstBad}
+use Rattle.ax_tokens.specs.Stopping.{Texts}
 use Rattle.ax_filter.specs.Spelling.{IsExpr}
 use Rattle.ax_filter.specs.Words.{IsPath, path_word}
 use Rattle.ax_filter.specs.declared.error.FilterError.{FilterError}

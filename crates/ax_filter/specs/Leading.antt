@@ -1,8 +1,8 @@
 -- What the walk over the tokens finds.
 use Rattle.std.specs.Prelude.{◌≡◌, ℕ, ◌<◌, Bool, IsTrue, List, Some}
-use Rattle.ax_model.specs.Specification.{SpecTree}
-use Rattle.ax_model.specs.Tree.{FixedTree}
-use Rattle.ax_token_reader.specs.Stopping.{Texts}
+use Rattle.ax_format.specs.Specification.{SpecTree}
+use Rattle.ax_format.specs.Tree.{FixedTree}
+use Rattle.ax_tokens.specs.Stopping.{Texts}
 use Rattle.ax_filter.specs.Faults.{element_in, IsUnknown, IsNoElement, IsUnknownAt, IsNoElementAt, PathsLead}
 use Rattle.ax_filter.specs.Words.{IsPath, path_word, IsPathText}
 use Rattle.ax_filter.specs.declared.error.FilterError.{FilterError}

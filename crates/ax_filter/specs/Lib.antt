@@ -6,11 +6,9 @@ pub mod Answers
 pub mod Faults
 pub mod Leading
 pub mod Meaning
-pub mod Absent
 pub mod Tests
 pub mod Plans
 pub mod Memos
 pub mod OfCode
 pub mod Matching
 pub mod Texts
-pub mod Examples

@@ -2,13 +2,13 @@
 use Rattle.std.specs.Prelude.{ℕ, ◌==◌, Bool, false, not, ◌&&◌, ◌||◌, true, if◌then◌else◌, List, Option, Some, None, option_and_then, ℤ, pos, int_lt, int_le}
 use Rattle.std.specs.Ordering.{int_eq}
 use Rattle.ax_bits.specs.Bits.{signed}
-use Rattle.ax_model.specs.At.{is_present, At}
-use Rattle.ax_model.specs.Specification.{SpecTree}
-use Rattle.ax_model.specs.Tree.{FixedTree, element, group, EntriesTree}
-use Rattle.ax_model.specs.declared.content.Content.{Content}
-use Rattle.ax_model.specs.declared.content.Content.TheVariants.{Integer, Quantity}
-use Rattle.ax_model.specs.declared.content.Sign.{Sign}
-use Rattle.ax_model.specs.declared.content.Sign.TheVariants.{Signed, Unsigned}
+use Rattle.ax_format.specs.At.{is_present, At}
+use Rattle.ax_format.specs.Specification.{SpecTree}
+use Rattle.ax_format.specs.Tree.{FixedTree, element, group, EntriesTree}
+use Rattle.ax_format.specs.declared.content.Content.{Content}
+use Rattle.ax_format.specs.declared.content.Content.TheVariants.{Integer, Quantity}
+use Rattle.ax_format.specs.declared.content.Sign.{Sign}
+use Rattle.ax_format.specs.declared.content.Sign.TheVariants.{Signed, Unsigned}
 use Rattle.ax_filter.specs.Faults.{place_in, element_in}
 use Rattle.ax_filter.specs.Tree.{ExprTree, all_of, any_of, not_of, present, compared, ExprsTree, no_exprs, expr_and}
 use Rattle.ax_filter.specs.declared.expr.FullPath.{FullPath}

@@ -1,8 +1,8 @@
 -- What a filter of the code is: an expression over a catalogue.
 use Rattle.std.specs.Prelude.{List, length}
-use Rattle.ax_model.specs.Plain.{catalogue_tree}
-use Rattle.ax_model.specs.Specification.{SpecTree}
-use Rattle.ax_token_reader.specs.Stopping.{texts_of}
+use Rattle.ax_format.specs.Plain.{catalogue_tree}
+use Rattle.ax_format.specs.Specification.{SpecTree}
+use Rattle.ax_tokens.specs.Stopping.{texts_of}
 use Rattle.ax_tokens.specs.PlainToken.{PlainToken}
 use Rattle.ax_filter.specs.Answers.{Spells}
 use Rattle.ax_filter.specs.Faults.{PathsLead}

@@ -1,7 +1,7 @@
 -- Parts of expressions, as languages.
 use Rattle.std.specs.Prelude.{◌≡◌, ◌++◌, Result, Ok, Err}
-use Rattle.ax_token_reader.specs.Stopping.{Texts, Stops, Word, One, Then, Closed}
-use Rattle.ax_token_reader.specs.declared.stopped.Stopped.{Stopped}
+use Rattle.ax_tokens.specs.Stopping.{Texts, Stops, Word, One, Then, Closed}
+use Rattle.ax_tokens.specs.declared.stopped.Stopped.{Stopped}
 use Rattle.ax_filter.specs.Words.{IsPathText, IsOpText, IsIntText}
 use Rattle.ax_filter.specs.Spelling.{opening, closing, IsExpr}
 

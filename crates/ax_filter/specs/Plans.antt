@@ -1,8 +1,8 @@
 -- Plans as plain trees, and what they say of a record: by its marked slots and by what questions find.
 use Rattle.std.specs.Prelude.{◌≡◌, ℕ, ◌-◌, ◌==◌, nat_lt, Bool, true, false, not, ◌&&◌, ◌||◌, if◌then◌else◌, List, [], ◌∷◌, ◌++◌, map, set, slice_index, slice_get, Option, Some, None, option_map, option_and_then}
 use Rattle.ax_fspec.specs.Marks.{common_marks, no_marks, slots_of}
-use Rattle.ax_model.specs.At.{slot_value, is_present, At}
-use Rattle.ax_model.specs.Tree.{EntriesTree}
+use Rattle.ax_format.specs.At.{slot_value, is_present, At}
+use Rattle.ax_format.specs.Tree.{EntriesTree}
 use Rattle.ax_filter.specs.Meaning.{number_of, compares, some_passes}
 use Rattle.ax_filter.specs.Tests.{TestTree, test_tree, passes}
 use Rattle.ax_filter.specs.declared.plan.Asking.{Asking}

@@ -1,6 +1,6 @@
 -- The texts of an expression's tokens (this project's own form).
 use Rattle.std.specs.Prelude.{◌≡◌, ℕ, List, [], ◌∷◌, ◌++◌, codes}
-use Rattle.ax_token_reader.specs.Stopping.{Texts}
+use Rattle.ax_tokens.specs.Stopping.{Texts}
 use Rattle.ax_filter.specs.Tree.{ExprTree, all_of, any_of, not_of, present, compared, ExprsTree, no_exprs, expr_and}
 use Rattle.ax_filter.specs.Words.{keyword_text, op_text, IsPath, path_word, IsInt, int_text}
 use Rattle.ax_filter.specs.declared.words.Keyword.TheVariants as Word

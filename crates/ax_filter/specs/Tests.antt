@@ -1,9 +1,9 @@
 -- Expressions whose paths are resolved to places, as plain trees.
 use Rattle.std.specs.Prelude.{ℕ, ◌==◌, Bool, false, not, ◌&&◌, ◌||◌, true, List, [], ◌∷◌, Option, Some, None, option_map, option_and_then, ℤ}
-use Rattle.ax_model.specs.At.{is_present, At}
-use Rattle.ax_model.specs.Specification.{SpecTree}
-use Rattle.ax_model.specs.Tree.{FixedTree, element, group, EntriesTree}
-use Rattle.ax_model.specs.declared.place.Place.{Place}
+use Rattle.ax_format.specs.At.{is_present, At}
+use Rattle.ax_format.specs.Specification.{SpecTree}
+use Rattle.ax_format.specs.Tree.{FixedTree, element, group, EntriesTree}
+use Rattle.ax_format.specs.declared.place.Place.{Place}
 use Rattle.ax_filter.specs.Faults.{place_in, element_in}
 use Rattle.ax_filter.specs.Meaning.{is_signed, number_of, compares, some_passes}
 use Rattle.ax_filter.specs.Tree.{ExprTree, all_of, any_of, not_of, present, compared, ExprsTree, no_exprs, expr_and}

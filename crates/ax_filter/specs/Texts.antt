@@ -1,7 +1,7 @@
 -- The text of an expression: the filter that it is over a catalogue, or the fault for which it is refused.
 use Rattle.std.specs.Prelude.{ℕ, List}
-use Rattle.ax_model.specs.Specification.{SpecTree}
-use Rattle.ax_token_reader.specs.Stopping.{texts_of}
+use Rattle.ax_format.specs.Specification.{SpecTree}
+use Rattle.ax_tokens.specs.Stopping.{texts_of}
 use Rattle.ax_tokens.specs.Faults.{HasBadByte, IsTooDeep}
 use Rattle.ax_tokens.specs.Lexing.{AreTokensOf}
 use Rattle.ax_tokens.specs.PlainToken.{PlainToken}

@@ -1,8 +1,8 @@
 -- The single tokens of filter expressions (this project's own form).
 use Rattle.std.specs.Prelude.{◌≡◌, ℕ, suc, ◌<◌, ◌^◌, List, [], ◌∷◌, length, codes, decimal, bytes_eq, find, Option, ℤ, pos, negsuc}
 use Rattle.std.specs.List.{AllByRecursion}
-use Rattle.ax_model.specs.Characters.{IsName}
-use Rattle.ax_model.specs.Paths.{path_text}
+use Rattle.ax_format.specs.Characters.{IsName}
+use Rattle.ax_format.specs.Paths.{path_text}
 use Rattle.ax_filter.specs.declared.expr.FullPath.{FullPath}
 use Rattle.ax_filter.specs.declared.expr.Op.{Op}
 use Rattle.ax_filter.specs.declared.expr.Op.TheVariants.{Equal, Unequal, Less, LessOrEqual, Greater, GreaterOrEqual}

@@ -1,6 +1,6 @@
 //! Expressions as they are written.
+use ax_format::Path;
 use ax_lists::Sequence;
-use ax_model::Path;
 
 /// How two numbers compare.
 #[derive(Clone, Copy)]

@@ -1,8 +1,8 @@
 //! A function for each rule of expressions. Each reads from the next token on, and stops in front of the first token that
 //! doesn't fit.
 ghost use Rattle.std.specs.Prelude.{◌≡◌, ◌<◌, ◌∷◌, ◌++◌, [], length, drop, map, true, OnOk, IfOk, IfErr};
-ghost use Rattle.ax_token_reader.specs.Stopping.{Texts, Reads, One, Then, Closed, Word, IsNotFirst};
-ghost use Rattle.ax_token_reader.specs.declared.stopped.Stopped.TheVariants.{Bad};
+ghost use Rattle.ax_tokens.specs.Stopping.{Texts, Reads, One, Then, Closed, Word, IsNotFirst};
+ghost use Rattle.ax_tokens.specs.declared.stopped.Stopped.TheVariants.{Bad};
 ghost use Rattle.ax_filter.specs.Words.{op_text, keyword_text, path_word, int_text, IsPath, IsInt, IsPathText, IsIntText, IsOpText, IsKeyword};
 ghost use Rattle.ax_filter.specs.Tree.{expr_tree, exprs_of};
 ghost use Rattle.ax_filter.specs.Spelling.{opening, closing, expr_texts, exprs_texts, InForm, AllInForm, IsExpr};
@@ -12,7 +12,7 @@ use crate::expr::{Expr, Exprs, FullPath, Op};
 use crate::numbers::int_of;
 use crate::paths::path_of;
 use crate::words::{Keyword, keyword_in, op_in};
-use ax_token_reader::{Reader, Stopped};
+use ax_tokens::{Reader, Stopped};
 use std::alloc::Global;
 
 /// A path.

@@ -1,7 +1,7 @@
 //! Paths among tokens that lead nowhere.
 ghost use Rattle.std.specs.Prelude.{◌≡◌, ◌≤◌, ◌↔◌, length, IsTrue, IfOk, MatchOption};
-ghost use Rattle.ax_model.specs.Plain.{catalogue_tree};
-ghost use Rattle.ax_token_reader.specs.Stopping.{texts_of};
+ghost use Rattle.ax_format.specs.Plain.{catalogue_tree};
+ghost use Rattle.ax_tokens.specs.Stopping.{texts_of};
 ghost use Rattle.ax_filter.specs.Faults.{PathsLead};
 ghost use Rattle.ax_filter.specs.Leading.{IsLeading, HasFault, HasNoFault, IsFirstFault};
 

@@ -1,8 +1,8 @@
 //! Filters: an expression over a catalogue.
 ghost use Rattle.std.specs.Prelude.{◌≡◌, ℕ};
 ghost use Rattle.ax_filter.specs.Plans.{PlanEach};
-ghost use Rattle.ax_model.specs.Plain.{catalogue_tree};
-ghost use Rattle.ax_model.specs.Tree.{EntriesTree};
+ghost use Rattle.ax_format.specs.Plain.{catalogue_tree};
+ghost use Rattle.ax_format.specs.Tree.{EntriesTree};
 ghost use Rattle.ax_filter.specs.Meaning.{holds};
 ghost use Rattle.ax_filter.specs.Tests.{test_tree, passes};
 ghost use Rattle.ax_filter.specs.Tree.{expr_tree};

@@ -1,6 +1,6 @@
 //! What a filter says of a record.
 ghost use Rattle.std.specs.Prelude.{◌≡◌, ℕ, Option};
-ghost use Rattle.ax_model.specs.Plain.{record_tree};
+ghost use Rattle.ax_format.specs.Plain.{record_tree};
 ghost use Rattle.ax_filter.specs.Meaning.{holds};
 ghost use Rattle.ax_filter.specs.Memos.{NoneLater, Recalls};
 ghost use Rattle.ax_filter.specs.OfCode.{expression, catalogue_of};
@@ -17,8 +17,8 @@ use crate::memo::{Answer, Asked, Memo};
 use crate::passing::passes;
 use crate::plan::{CategoryPlan, Plan};
 use crate::slot_sets::meets;
-use ax_model::{Record, Spec};
-use ax_tables::Codec;
+use ax_codec::Codec;
+use ax_format::{Record, Spec};
 use ax_view::{Notes, PlacedSlots, Places, RecordView, place_record};
 use std::alloc::{AllocError, Global};
 

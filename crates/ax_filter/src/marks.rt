@@ -3,8 +3,8 @@ ghost use Rattle.std.specs.Prelude.{◌≡◌};
 ghost use Rattle.ax_filter.specs.Plans.{MarkEach};
 ghost use Rattle.ax_view.specs.Shown.{record_entries};
 
+use ax_codec::Codec;
 use ax_fspec::{Presence, read_presence};
-use ax_tables::Codec;
 use ax_view::RecordView;
 
 /// The marked slots of a record under that codec, read from its presence field alone.

@@ -1,6 +1,6 @@
 //! Whether a test holds of a record. Nothing here takes memory.
 ghost use Rattle.std.specs.Prelude.{◌≡◌, map, option_and_then};
-ghost use Rattle.ax_model.specs.At.{is_present};
+ghost use Rattle.ax_format.specs.At.{is_present};
 ghost use Rattle.ax_filter.specs.Meaning.{compares, some_passes};
 ghost use Rattle.ax_filter.specs.Tests.{test_tree, tests_of, number_for, passes, all_pass, any_passes};
 
@@ -8,7 +8,7 @@ use crate::comparing::compares_as;
 use crate::expr::Op;
 use crate::places::HasPlaces;
 use crate::test::{Element, Test, Tests};
-use ax_model::Place;
+use ax_format::Place;
 
 #[inline]
 fn stands<R: HasPlaces>(place: &Option<Place>, one: &R) -> bool

@@ -1,10 +1,10 @@
 //! Paths with their category.
 ghost use Rattle.std.specs.Prelude.{◌≡◌, ◌+◌, ◌<◌, ◌⊎◌, ℕ, ◌∷◌, [], IfOk, MatchOption};
-ghost use Rattle.ax_model.specs.Paths.{three_digits};
+ghost use Rattle.ax_format.specs.Paths.{three_digits};
 ghost use Rattle.ax_filter.specs.Words.{IsPath, path_word, IsPathText};
 
 use crate::expr::FullPath;
-use ax_model::{Path, category_of_digits};
+use ax_format::{Path, category_of_digits};
 use std::alloc::{AllocError, Global};
 
 // The octets of the longest text that names are read from.

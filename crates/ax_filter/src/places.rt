@@ -1,13 +1,13 @@
 //! Records of which a filter asks what stands at their places.
 ghost use Rattle.std.specs.Prelude.{◌≡◌};
-ghost use Rattle.ax_model.specs.At.{is_present, At};
-ghost use Rattle.ax_model.specs.Plain.{record_tree};
-ghost use Rattle.ax_model.specs.Tree.{EntriesTree};
+ghost use Rattle.ax_format.specs.At.{is_present, At};
+ghost use Rattle.ax_format.specs.Plain.{record_tree};
+ghost use Rattle.ax_format.specs.Tree.{EntriesTree};
 ghost use Rattle.ax_view.specs.Placing.{IsPlaced, placed_entries};
 ghost use Rattle.ax_view.specs.Shown.{record_entries};
 
 use crate::standing;
-use ax_model::{Place, Record};
+use ax_format::{Place, Record};
 use ax_view::{PlacedSlots, RecordView};
 
 /// A record, as far as a filter asks for it. Nothing here takes memory.

@@ -1,8 +1,8 @@
 //! What a filter asks of the records of one category.
 use crate::expr::Op;
+use ax_format::Place;
 use ax_fspec::Presence;
 use ax_lists::Sequence;
-use ax_model::Place;
 
 /// What a question asks for.
 #[derive(Clone, Copy, PartialEq, Eq)]

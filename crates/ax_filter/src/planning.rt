@@ -1,6 +1,6 @@
 //! Plans made of tests.
 ghost use Rattle.std.specs.Prelude.{◌≡◌, ◌&&◌, map, option_and_then, IfOk};
-ghost use Rattle.ax_model.specs.At.{is_present};
+ghost use Rattle.ax_format.specs.At.{is_present};
 ghost use Rattle.ax_filter.specs.Meaning.{compares, some_passes};
 ghost use Rattle.ax_filter.specs.Plans.{Grow, PlanEach, SaysAs, found_by, many_pass, plan_tree, wanted};
 ghost use Rattle.ax_filter.specs.Tests.{number_for, passes, test_tree};
@@ -12,7 +12,7 @@ use crate::grouping::grouped;
 use crate::plan::{Asking, CategoryPlan, CategoryPlans, Plan, Want};
 use crate::questions::{Numbering, number_of};
 use crate::test::{Element, Test, Tests};
-use ax_model::Place;
+use ax_format::Place;
 use std::alloc::{AllocError, Global};
 
 /// The plan of a question about a place.

@@ -3,7 +3,7 @@ ghost use Rattle.std.specs.Prelude.{◌≡◌, [], Some, slice_get, IsTrue, IfSo
 ghost use Rattle.ax_filter.specs.Plans.{Grow};
 
 use crate::plan::{Asking, Question, Questions};
-use ax_model::Place;
+use ax_format::Place;
 use indexmap::IndexMap;
 use std::alloc::{AllocError, Global};
 

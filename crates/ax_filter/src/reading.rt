@@ -1,7 +1,7 @@
 //! From tokens to a filter, and what it says of a record.
 ghost use Rattle.std.specs.Prelude.{◌≡◌, ◌≤◌, length, IfOk, IfErr, OnOk};
-ghost use Rattle.ax_model.specs.Plain.{catalogue_tree};
-ghost use Rattle.ax_token_reader.specs.Stopping.{texts_of};
+ghost use Rattle.ax_format.specs.Plain.{catalogue_tree};
+ghost use Rattle.ax_tokens.specs.Stopping.{texts_of};
 ghost use Rattle.ax_filter.specs.Faults.{PathsLead, IsFault};
 ghost use Rattle.ax_filter.specs.Leading.{IsPathFault};
 ghost use Rattle.ax_filter.specs.declared.error.FilterError.TheVariants as Fault;

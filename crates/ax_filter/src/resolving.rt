@@ -1,6 +1,6 @@
 //! From an expression to its test over a catalogue: each path is resolved to its place.
 ghost use Rattle.std.specs.Prelude.{◌≡◌, map, IfOk};
-ghost use Rattle.ax_model.specs.Plain.{catalogue_tree};
+ghost use Rattle.ax_format.specs.Plain.{catalogue_tree};
 ghost use Rattle.ax_filter.specs.Faults.{place_in};
 ghost use Rattle.ax_filter.specs.Meaning.{is_signed};
 ghost use Rattle.ax_filter.specs.Tests.{test_tree, element_at_path, resolved};
@@ -9,7 +9,7 @@ ghost use Rattle.ax_filter.specs.Tree.{expr_tree};
 use crate::expr::{Expr, Exprs, FullPath};
 use crate::test::{Element, Test, Tests};
 use ax_check::Catalogue;
-use ax_model::{Content, Fixed, Place, Sign};
+use ax_format::{Content, Fixed, Place, Sign};
 use std::alloc::{AllocError, Global};
 
 /// Whether numbers of that content are in two's complement.

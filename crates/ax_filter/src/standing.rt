@@ -1,11 +1,11 @@
 //! What stands at a place in a record. Nothing here takes memory.
 ghost use Rattle.std.specs.Prelude.{◌≡◌, ◌∷◌, option_map};
 ghost use Rattle.std.specs.Option.{option_copied};
-ghost use Rattle.ax_model.specs.At.{slot_value, nth_value, nth_list, value_at, is_present, At};
-ghost use Rattle.ax_model.specs.Plain.{value_tree, values_tree, lists_tree, entries_tree, record_tree};
-ghost use Rattle.ax_model.specs.Tree.{marked};
+ghost use Rattle.ax_format.specs.At.{slot_value, nth_value, nth_list, value_at, is_present, At};
+ghost use Rattle.ax_format.specs.Plain.{value_tree, values_tree, lists_tree, entries_tree, record_tree};
+ghost use Rattle.ax_format.specs.Tree.{marked};
 
-use ax_model::{Entries, Lists, Place, Record, Value, Values};
+use ax_format::{Entries, Lists, Place, Record, Value, Values};
 
 /// The value of the slot of that number. None comes exactly where it isn't marked.
 #[tactic(auto, using(crate::proofs::PlaceValues::slots))]

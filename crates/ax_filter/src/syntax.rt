@@ -5,8 +5,7 @@ ghost use Rattle.ax_filter.specs.Answers.{Spells, IsBad};
 
 use crate::expr::Expr;
 use crate::expressions::expr;
-use ax_token_reader::{Reader, Stopped};
-use ax_tokens::Tokens;
+use ax_tokens::{Reader, Stopped, Tokens};
 use std::alloc::Global;
 
 /// Why tokens spell no expression.

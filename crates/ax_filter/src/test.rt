@@ -1,7 +1,7 @@
 //! Expressions whose paths are resolved to places over a catalogue.
 use crate::expr::Op;
+use ax_format::Place;
 use ax_lists::Sequence;
-use ax_model::Place;
 
 /// An element of a specification, and how its number is read.
 #[derive(Drop)]

@@ -1,6 +1,6 @@
 //! The text of an expression: the filter that it is, or the fault for which it is refused.
 ghost use Rattle.std.specs.Prelude.{◌≡◌, ◌≤◌, ◌^◌, length, IfOk, IfErr};
-ghost use Rattle.ax_model.specs.Plain.{catalogue_tree};
+ghost use Rattle.ax_format.specs.Plain.{catalogue_tree};
 ghost use Rattle.ax_filter.specs.OfCode.{expression, catalogue_of};
 ghost use Rattle.ax_filter.specs.Texts.{IsFilterText, IsStopped, stop_of_lexing, stop_of_reading};
 

@@ -4,21 +4,21 @@ use Rattle.ax_filter.specs.Matching.{filtered}
 use Rattle.ax_filter.specs.Tree.{ExprTree}
 use Rattle.ax_filter_work.specs.FilterCommand.{filter_command}
 use Rattle.ax_filter_work.specs.Laid.{LaysMatching}
-use Rattle.ax_model.specs.Blocks.{read_block}
-use Rattle.ax_model.specs.Framing.{RawTree}
-use Rattle.ax_model.specs.Specification.{SpecTree}
-use Rattle.ax_model.specs.declared.fault.BodyFault.{BodyFault}
+use Rattle.ax_format.specs.Blocks.{read_block}
+use Rattle.ax_format.specs.Framing.{RawTree}
+use Rattle.ax_format.specs.Specification.{SpecTree}
+use Rattle.ax_format.specs.declared.fault.BodyFault.{BodyFault}
 use Rattle.ax_outside.specs.Changes.{SinkChange}
-use Rattle.ax_stream.proofs.BlockSteps.{known_category, short_fault}
-use Rattle.ax_stream.proofs.MadeBlocks.{read_made, opaque_made, tree_taken, tree_fails}
-use Rattle.ax_stream.proofs.Taken.{nothing_written}
-use Rattle.ax_stream.specs.Taking.{Takes, WritesOctets}
-use Rattle.ax_stream.specs.declared.work.WorkStop.{WorkStop}
-use Rattle.ax_stream.specs.declared.work.WorkStop.TheVariants.{Fault}
-use Rattle.ax_tables.specs.Standing.{StandForEach, codec_of}
-use Rattle.ax_tables.specs.declared.codec.Codec.{Codec}
+use Rattle.ax_blocks.proofs.BlockSteps.{known_category, short_fault}
+use Rattle.ax_blocks.proofs.MadeBlocks.{read_made, opaque_made, tree_taken, tree_fails}
+use Rattle.ax_blocks.proofs.Taken.{nothing_written}
+use Rattle.ax_blocks.specs.BlockTaking.{Takes, WritesOctets}
+use Rattle.ax_blocks.specs.declared.work.WorkStop.{WorkStop}
+use Rattle.ax_blocks.specs.declared.work.WorkStop.TheVariants.{Fault}
+use Rattle.ax_codec.specs.Standing.{StandForEach, codec_of}
+use Rattle.ax_codec.specs.declared.codec.Codec.{Codec}
 use Rattle.ax_view.specs.Views.{SpellsSome, FailsThere}
-use Rattle.ax_view_work.proofs.CodecsOf.{stands_there, none_there}
+use Rattle.ax_canon.proofs.CodecsOf.{stands_there, none_there}
 
 pub matching_within : (e : ExprTree) (codecs : List Codec) (catalogue : List SpecTree) (raw : RawTree) (codec : Codec) (count : ℕ) (output : List ℕ) → StandForEach codecs catalogue → codec_of raw.category codecs ≡ Some codec → SpellsSome codec raw.body
     → LaysMatching catalogue e codec raw.body count output → count ≤ 65535

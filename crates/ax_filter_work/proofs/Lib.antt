@@ -1,3 +1,2 @@
 pub mod FilterBlocks
 pub mod MatchingRecords
-pub mod Written

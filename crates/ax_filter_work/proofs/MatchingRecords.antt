@@ -11,21 +11,21 @@ use Rattle.ax_filter.specs.Matching.{matching, some_block, canon_if, filtered}
 use Rattle.ax_filter.specs.Meaning.{holds}
 use Rattle.ax_filter.specs.Tree.{ExprTree}
 use Rattle.ax_filter_work.specs.Laid.{LaysMatchingBits, LaysMatching}
-use Rattle.ax_model.proofs.Once.{body_once}
-use Rattle.ax_model.proofs.RecordLaws.{record_shape}
-use Rattle.ax_model.specs.Blocks.{read_block}
-use Rattle.ax_model.specs.Bodies.{SpellsRecord, SpellsBody, RecordsSpell, RecordShape}
-use Rattle.ax_model.specs.Flaws.{NoFlaw}
-use Rattle.ax_model.specs.Specification.{SpecTree}
-use Rattle.ax_model.specs.Tree.{EntriesTree}
-use Rattle.ax_model.specs.declared.fault.BodyFault.{BodyFault}
-use Rattle.ax_tables.specs.Standing.{StandsFor}
-use Rattle.ax_tables.specs.declared.codec.Codec.{Codec}
+use Rattle.ax_format.proofs.Once.{body_once}
+use Rattle.ax_format.proofs.RecordLaws.{record_shape}
+use Rattle.ax_format.specs.Blocks.{read_block}
+use Rattle.ax_format.specs.Bodies.{SpellsRecord, SpellsBody, RecordsSpell, RecordShape}
+use Rattle.ax_format.specs.Flaws.{NoFlaw}
+use Rattle.ax_format.specs.Specification.{SpecTree}
+use Rattle.ax_format.specs.Tree.{EntriesTree}
+use Rattle.ax_format.specs.declared.fault.BodyFault.{BodyFault}
+use Rattle.ax_codec.specs.Standing.{StandsFor}
+use Rattle.ax_codec.specs.declared.codec.Codec.{Codec}
 use Rattle.ax_values.proofs.WrittenRecords.{framed_octets, body_octets}
 use Rattle.ax_view.proofs.Spelled.{record_spelled}
 use Rattle.ax_view.specs.Shown.{record_entries}
 use Rattle.ax_view.specs.declared.record.RecordView.{RecordView}
-use Rattle.ax_view_work.proofs.LaidOctets.{octets_front, front_laid}
+use Rattle.ax_canon.proofs.LaidOctets.{octets_front, front_laid}
 
 first_same : {A : Type 0} (x y : A) → ◌≡◌ {A = List A} (x ∷ []) (y ∷ []) → x ≡ y
 first_same x y e = cc

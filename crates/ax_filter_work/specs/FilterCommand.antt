@@ -2,10 +2,10 @@
 use Rattle.std.specs.Prelude.{List, [], filter_map}
 use Rattle.ax_filter.specs.Matching.{matching_block, filtered}
 use Rattle.ax_filter.specs.Tree.{ExprTree}
-use Rattle.ax_model.specs.Blocks.{BlockTree}
-use Rattle.ax_model.specs.Specification.{SpecTree}
-use Rattle.ax_stream.specs.Commands.{BlockCommand}
-use Rattle.ax_stream.specs.Made.{tree_command}
+use Rattle.ax_format.specs.Blocks.{BlockTree}
+use Rattle.ax_format.specs.Specification.{SpecTree}
+use Rattle.ax_blocks.specs.Commands.{BlockCommand}
+use Rattle.ax_blocks.specs.Made.{tree_command}
 
 -- the canonical form of the records of each block that the expression holds of; nothing for a block without any, or an
 -- opaque one

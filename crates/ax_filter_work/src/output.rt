@@ -3,15 +3,15 @@ ghost use Rattle.std.specs.Prelude.{◌≡◌, ◌≤◌, length, IfOk, IfErr};
 ghost use Rattle.ax_bits.specs.Bits.{bits};
 ghost use Rattle.ax_filter.specs.OfCode.{expression, catalogue_of};
 ghost use Rattle.ax_filter_work.specs.Laid.{LaysMatching, LaysMatchingBits};
-ghost use Rattle.ax_model.specs.Sizes.{longest_block, longest_body};
+ghost use Rattle.ax_format.specs.Sizes.{longest_block, longest_body};
 ghost use Rattle.ax_view.specs.Views.{FailsThere, SpellsSome};
 
 use crate::matching::Matching;
 use ax_bits::Out;
 use ax_canon::scan_kept;
+use ax_codec::Codec;
 use ax_filter::{Filter, Memo};
-use ax_model::BodyFault;
-use ax_tables::Codec;
+use ax_format::BodyFault;
 
 /// Lays the canonical block of those records of a body of the codec's category that the filter holds of at the front of the
 /// output, and answers its octets, 0 where there is none; or the first fault of the body, with its bit in the body.

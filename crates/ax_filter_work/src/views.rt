@@ -2,16 +2,16 @@
 ghost use Rattle.std.specs.Prelude.{◌≡◌, length, IfOk};
 ghost use Rattle.ax_filter.specs.OfCode.{expression, catalogue_of};
 ghost use Rattle.ax_filter_work.specs.FilterCommand.{filter_command};
-ghost use Rattle.ax_model.specs.Sizes.{longest_block};
-ghost use Rattle.ax_tables.specs.Standing.{StandForEach};
+ghost use Rattle.ax_format.specs.Sizes.{longest_block};
+ghost use Rattle.ax_codec.specs.Standing.{StandForEach};
 
 use crate::output::lay_matching;
+use ax_blocks::{BlockWork, WorkStop, write_piece};
+use ax_canon::blank_output;
 use ax_filter::{Filter, Memo};
-use ax_model::RawBlock;
+use ax_format::RawBlock;
 use ax_outside::Sink;
-use ax_stream::{BlockWork, WorkStop, write_piece};
 use ax_tables::Codecs;
-use ax_view_work::blank_output;
 use std::alloc::{AllocError, Global};
 
 /// `filter` under the catalogue of a filter, by the codecs of its specifications: the canonical form of the records that

@@ -2,7 +2,7 @@
 
 use crate::text_catalogues::{add_file, catalogue_of, is_bad_at, repeated};
 use ax_check::Catalogue;
-use ax_samples::{CAT048_P1, FILE_A, FILE_H1, FILE_N};
+use ax_vectors::{CAT048_P1, FILE_A, FILE_H1, FILE_N};
 use std::alloc::Global;
 use std::process::Abort;
 

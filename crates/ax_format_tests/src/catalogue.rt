@@ -2,7 +2,7 @@
 
 use crate::texts::{accepted, same};
 use ax_check::{AddError, Catalogue};
-use ax_samples::{CAT019_P1, CAT034_P1, CAT048_P1, FILE_A};
+use ax_vectors::{CAT019_P1, CAT034_P1, CAT048_P1, FILE_A};
 use std::alloc::Global;
 use std::process::Abort;
 

@@ -1,7 +1,7 @@
 //! Each flaw at its path, and the order of flaws.
 
 use crate::texts::{has_flaws, items_have_flaws, kind_has_flaws, kinds_have_flaws};
-use ax_samples::FILE_F;
+use ax_vectors::FILE_F;
 use std::alloc::Global;
 use std::process::Abort;
 

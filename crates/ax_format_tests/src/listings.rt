@@ -4,9 +4,9 @@ use crate::checks::same_octets;
 use crate::text_fixtures::{decoded, octets_decoded, octets_of};
 use crate::texts::accepted;
 use ax_check::Accepted;
-use ax_samples::{CAT048_P1, FILE_A};
 use ax_text::{show_lines, show_opaque};
 use ax_values::encode_block;
+use ax_vectors::{CAT048_P1, FILE_A};
 use std::alloc::Global;
 use std::process::Abort;
 

@@ -2,7 +2,7 @@
 
 use crate::text_catalogues::{block_of, catalogue_of, is_bad_at, is_too_long, repeated};
 use ax_check::Catalogue;
-use ax_samples::{CAT048_P1, FILE_A};
+use ax_vectors::{CAT048_P1, FILE_A};
 use std::alloc::Global;
 use std::process::Abort;
 

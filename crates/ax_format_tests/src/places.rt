@@ -3,7 +3,7 @@
 use crate::texts::{accepted, same};
 use ax_check::Accepted;
 use ax_model::{Path, Place};
-use ax_samples::{CAT048_P1, FILE_W};
+use ax_vectors::{CAT048_P1, FILE_W};
 use std::alloc::{AllocError, Global};
 use std::process::Abort;
 

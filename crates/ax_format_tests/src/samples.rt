@@ -3,11 +3,11 @@
 use crate::texts::read;
 use ax_check::{CheckError, accept};
 use ax_model::Spec;
-use ax_samples::{
+use ax_tokens::{LexError, tokens};
+use ax_vectors::{
     CAT019_P1, CAT034_P1, CAT048_P1, CAT048_P2, FILE_A, FILE_E, FILE_F, FILE_G1, FILE_G2, FILE_H1,
     FILE_H2, FILE_H3, FILE_K, FILE_N, FILE_S, FILE_W, FILE_Z, NESTED_TOO_DEEP,
 };
-use ax_tokens::{LexError, tokens};
 use std::alloc::Global;
 use std::process::Abort;
 

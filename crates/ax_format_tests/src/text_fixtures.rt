@@ -2,8 +2,8 @@
 ghost use Rattle.ax_model.specs.OfCode.{HasNoFlaw, BlockFits};
 
 use ax_model::{Block, RawBlock, Spec, fits};
-use ax_samples::octets;
 use ax_values::decode_block;
+use ax_vectors::octets;
 use std::alloc::Global;
 use std::process::Abort;
 

@@ -6,8 +6,8 @@ use crate::text_fixtures::decoded;
 use crate::texts::accepted;
 use ax_check::Accepted;
 use ax_model::{Block, Spec};
-use ax_samples::{CAT048_P1, FILE_A, FILE_H1, FILE_N};
 use ax_text::{block_text, opaque_text, record_text};
+use ax_vectors::{CAT048_P1, FILE_A, FILE_H1, FILE_N};
 use std::alloc::Global;
 use std::process::Abort;
 

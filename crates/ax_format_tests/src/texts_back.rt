@@ -4,8 +4,8 @@ use crate::checks::same_octets;
 use crate::text_catalogues::{block_of, catalogue_of, encoded};
 use crate::text_fixtures::{octets_decoded, octets_of};
 use ax_check::{Accepted, Catalogue};
-use ax_samples::{CAT019_P1, CAT034_P1, CAT048_P1, FILE_A, FILE_H1, FILE_N};
 use ax_text::block_text;
+use ax_vectors::{CAT019_P1, CAT034_P1, CAT048_P1, FILE_A, FILE_H1, FILE_N};
 use std::alloc::Global;
 use std::process::Abort;
 

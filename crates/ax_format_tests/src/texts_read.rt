@@ -5,7 +5,7 @@ use crate::text_catalogues::{block_of, catalogue_of, encoded};
 use crate::text_fixtures::octets_of;
 use ax_check::Catalogue;
 use ax_model::Block;
-use ax_samples::{CAT048_P1, FILE_A, FILE_H1, FILE_N};
+use ax_vectors::{CAT048_P1, FILE_A, FILE_H1, FILE_N};
 use std::alloc::Global;
 use std::process::Abort;
 

@@ -4,21 +4,21 @@ use Rattle.std.proofs.lemmas.List.{drop-drop, append_cancel_right, take-append-d
 use Rattle.std.proofs.Math.Seq.{take-add}
 use Rattle.ax_bits.specs.Bits.{AreBits, bits}
 use Rattle.ax_bits.proofs.Words.{length-bits}
-use Rattle.ax_model.proofs.Failed.{presence_failed}
-use Rattle.ax_model.proofs.Least.{Alike, least_least}
-use Rattle.ax_model.specs.Reader.{Read, got, failed, presence_read}
-use Rattle.ax_model.proofs.Spelled.{presence_spelled}
-use Rattle.ax_model.specs.Failing.{IsPresence, PresenceFails}
-use Rattle.ax_model.specs.Presence.{Presence, octets_needed, none_marked, first_mark, later_marks, marks_after, marks_upto, least_presence, later_slots, NoneUndefined}
-use Rattle.ax_model.specs.declared.fault.BodyCause.{BodyCause}
-use Rattle.ax_model.specs.declared.fault.BodyFault.{BodyFault}
+use Rattle.ax_format.proofs.Failed.{presence_failed}
+use Rattle.ax_format.proofs.Least.{Alike, least_least}
+use Rattle.ax_format.specs.Reader.{Read, got, failed, presence_read}
+use Rattle.ax_format.proofs.Spelled.{presence_spelled}
+use Rattle.ax_format.specs.Failing.{IsPresence, PresenceFails}
+use Rattle.ax_format.specs.Presence.{Presence, octets_needed, none_marked, first_mark, later_marks, marks_after, marks_upto, least_presence, later_slots, NoneUndefined}
+use Rattle.ax_format.specs.declared.fault.BodyCause.{BodyCause}
+use Rattle.ax_format.specs.declared.fault.BodyFault.{BodyFault}
 use Rattle.ax_fspec.specs.Fields.{IsFieldOf, MarksSlots, FailsToMark, mask_slots, least_field}
 use Rattle.ax_fspec.specs.Marks.{AreMarks, are_marked, no_marks}
 use Rattle.ax_fspec.specs.declared.mask.SlotMask.{SlotMask}
 use Rattle.ax_fspec.proofs.Sets.{none_of_no_marks}
 use Rattle.ax_fspec.proofs.FieldsRead.{bits_parts}
 use Rattle.ax_fspec.proofs.FieldsWritten.{none_left, marks_after_is, least_true, least_false}
-use Rattle.ax_model.proofs.Unmarked.{none_first, none_later}
+use Rattle.ax_format.proofs.Unmarked.{none_first, none_later}
 
 -- ---- a field is read in one way
 

@@ -6,10 +6,10 @@ use Rattle.ax_bits.proofs.Pieces.{word-last, bits_more}
 use Rattle.ax_fspec.specs.Marks.{seven}
 use Rattle.ax_fspec.proofs.Sets.{length-seven}
 use Rattle.ax_bits.specs.Bits.{AreBits, word, bits}
-use Rattle.ax_model.specs.Failing.{PresenceFails, IsPresence}
-use Rattle.ax_model.specs.Presence.{Presence, none_marked, later_slots, slots_past, NoneUndefined, FirstUndefined}
-use Rattle.ax_model.specs.declared.fault.BodyCause.{BodyCause}
-use Rattle.ax_model.specs.declared.fault.BodyCause.TheVariants.{RunsOut, UndefinedSlot, PresenceTooLong}
+use Rattle.ax_format.specs.Failing.{PresenceFails, IsPresence}
+use Rattle.ax_format.specs.Presence.{Presence, none_marked, later_slots, slots_past, NoneUndefined, FirstUndefined}
+use Rattle.ax_format.specs.declared.fault.BodyCause.{BodyCause}
+use Rattle.ax_format.specs.declared.fault.BodyCause.TheVariants.{RunsOut, UndefinedSlot, PresenceTooLong}
 
 -- i presence octets, all with FX 1, and their marks
 abbrev pub Leads : ℕ → List ℕ → List ℕ → Type 0

@@ -7,7 +7,7 @@ use Rattle.ax_bits.specs.Out.{room, Appends}
 use Rattle.ax_bits.specs.declared.output.Out.{Out}
 use Rattle.ax_bits.proofs.Pieces.{word-last}
 use Rattle.ax_bits.proofs.Outputs.{appends_none, appends_more}
-use Rattle.ax_model.specs.Presence.{none_marked, marks_after, marks_upto, least_presence}
+use Rattle.ax_format.specs.Presence.{none_marked, marks_after, marks_upto, least_presence}
 use Rattle.ax_fspec.specs.Fields.{least_field}
 use Rattle.ax_fspec.specs.Marks.{seven}
 use Rattle.ax_fspec.proofs.Sets.{length-seven}

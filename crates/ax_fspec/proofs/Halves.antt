@@ -10,7 +10,7 @@ use lib.Count.{count_leading_zeros}
 use Rattle.ax_bits.specs.Bits.{word}
 use Rattle.ax_bits.proofs.Words.{length-word, twice}
 use Rattle.ax_bits.proofs.Pieces.{word-split, word-joined, word-low}
-use Rattle.ax_model.specs.Presence.{none_marked}
+use Rattle.ax_format.specs.Presence.{none_marked}
 use Rattle.ax_fspec.specs.Marks.{half, seven, marks_in, common_marks, slots_from, slots_of}
 
 pub length-half : (n : ℕ) → length (half n) ≡ 63

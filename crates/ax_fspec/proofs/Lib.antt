@@ -1,9 +1,17 @@
+pub mod AtOctets
+pub mod Continuing
+pub mod Counting
+pub mod Exact
 pub mod FieldLaws
 pub mod FieldsRead
 pub mod FieldsWritten
 pub mod Halves
+pub mod Honest
+pub mod Marking
 pub mod MaskRead
+pub mod RecordSlots
 pub mod Sets
+pub mod ToldWithin
 pub mod Undefined
 pub mod Walks
 pub mod Windows

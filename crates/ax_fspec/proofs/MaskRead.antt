@@ -2,11 +2,11 @@
 use Rattle.std.proofs.Common.{◌≡◌, ℕ, ◌+◌, ◌-◌, ◌*◌, ◌/◌, ◌%◌, ◌<◌, ◌≤◌, Bool, IsTrue, List, ◌++◌, length, take, drop, get_or, sym, ◌∙◌, ap, arith, subst, length-drop}
 use Rattle.std.proofs.lemmas.List.{get_or-drop}
 use Rattle.ax_bits.specs.Bits.{bits}
-use Rattle.ax_model.specs.Failing.{PresenceFails, IsPresence}
-use Rattle.ax_model.specs.Presence.{octets_needed, none_marked, NoneUndefined, FirstUndefined, slots_past}
-use Rattle.ax_model.specs.declared.fault.BodyCause.{BodyCause}
-use Rattle.ax_model.specs.declared.fault.BodyCause.TheVariants.{RunsOut, UndefinedSlot, PresenceTooLong}
-use Rattle.ax_model.specs.declared.fault.BodyFault.{BodyFault}
+use Rattle.ax_format.specs.Failing.{PresenceFails, IsPresence}
+use Rattle.ax_format.specs.Presence.{octets_needed, none_marked, NoneUndefined, FirstUndefined, slots_past}
+use Rattle.ax_format.specs.declared.fault.BodyCause.{BodyCause}
+use Rattle.ax_format.specs.declared.fault.BodyCause.TheVariants.{RunsOut, UndefinedSlot, PresenceTooLong}
+use Rattle.ax_format.specs.declared.fault.BodyFault.{BodyFault}
 use Rattle.ax_fspec.specs.Fields.{mask_slots, MarksSlots, FailsToMark}
 use Rattle.ax_fspec.specs.Marks.{seven, are_marked}
 use Rattle.ax_fspec.specs.declared.mask.SlotMask.{SlotMask}

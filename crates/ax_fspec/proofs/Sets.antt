@@ -5,7 +5,7 @@ use Rattle.std.proofs.lemmas.Bool.{ne_eqb, cases_lt}
 use Rattle.std.proofs.Math.Seq.{take-append-add, drop-append-add}
 use Rattle.ax_bits.specs.Bits.{word, AreBits}
 use Rattle.ax_bits.proofs.Words.{append-AreBits, length-word, word-AreBits}
-use Rattle.ax_model.specs.Presence.{none_marked}
+use Rattle.ax_format.specs.Presence.{none_marked}
 use Rattle.ax_fspec.specs.Marks.{half, seven, marks_in, no_marks, common_marks, AreMarks, IsMarked, slots_of}
 use Rattle.ax_fspec.proofs.Halves.{first_mark_at, first_of_first, first_of_second, none_of_zero, length-half, zeros, half-is, none_half}
 

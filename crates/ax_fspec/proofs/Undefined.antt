@@ -8,7 +8,7 @@ use lib.Count.{count_leading_zeros}
 use Rattle.ax_bits.specs.Bits.{word}
 use Rattle.ax_bits.proofs.Words.{twice}
 use Rattle.ax_bits.proofs.Pieces.{word-low}
-use Rattle.ax_model.specs.Presence.{IsDefined, NoneUndefined, FirstUndefined}
+use Rattle.ax_format.specs.Presence.{IsDefined, NoneUndefined, FirstUndefined}
 use Rattle.ax_fspec.specs.Marks.{seven, are_marked}
 
 -- u has the bits of w marks whose slots aren't defined

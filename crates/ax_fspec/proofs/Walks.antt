@@ -1,6 +1,6 @@
 -- The walk over the slots of a set, along its marks.
 use Rattle.std.proofs.Common.{◌≡◌, ℕ, zero, suc, ◌+◌, ◌<◌, IsTrue, List, [], ◌∷◌, take, drop, get_or, refl, ◌∙◌, ap, arith}
-use Rattle.ax_model.specs.Presence.{none_marked}
+use Rattle.ax_format.specs.Presence.{none_marked}
 use Rattle.ax_fspec.specs.Marks.{slots_from}
 
 -- slot t comes next after some that aren't in the set, where the first mark is that of slot s, and `rest` come later

@@ -1,6 +1,6 @@
 -- Whether the slots of one presence octet are defined: in a mask's list, and in the mask's seven marks for that octet.
 use Rattle.std.proofs.Common.{◌≡◌, ℕ, zero, suc, Bool, true, false, IsTrue, List, [], ◌∷◌, length, take, drop, refl, sym, ◌∙◌, ap, arith}
-use Rattle.ax_model.specs.Presence.{none_marked, IsDefined, later_slots, slots_past, NoneUndefined, FirstUndefined}
+use Rattle.ax_format.specs.Presence.{none_marked, IsDefined, later_slots, slots_past, NoneUndefined, FirstUndefined}
 use Rattle.ax_fspec.specs.Marks.{are_marked}
 
 -- the first n of the slots, where past the last no slot is defined

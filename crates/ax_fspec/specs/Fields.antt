@@ -1,9 +1,9 @@
 -- Presence fields over the slots of a mask, within the octets of a body.
 use Rattle.std.specs.Prelude.{◌≡◌, ℕ, ◌+◌, ◌-◌, ◌*◌, ◌<◌, ◌≤◌, Bool, List, length, take, drop, IsTrue}
 use Rattle.ax_bits.specs.Bits.{bits}
-use Rattle.ax_model.specs.Failing.{IsPresence, IsPresenceFault}
-use Rattle.ax_model.specs.Presence.{octets_needed, none_marked, least_presence}
-use Rattle.ax_model.specs.declared.fault.BodyFault.{BodyFault}
+use Rattle.ax_format.specs.Failing.{IsPresence, IsPresenceFault}
+use Rattle.ax_format.specs.Presence.{octets_needed, none_marked, least_presence}
+use Rattle.ax_format.specs.declared.fault.BodyFault.{BodyFault}
 use Rattle.ax_fspec.specs.Marks.{are_marked}
 use Rattle.ax_fspec.specs.declared.mask.SlotMask.{SlotMask}
 

@@ -2,7 +2,7 @@
 
 ghost use Rattle.std.specs.Prelude.{◌≡◌, ◌↔◌, ◌+◌, ◌-◌, ◌*◌, ◌^◌, ◌<◌, ◌≤◌, ◌++◌, IsTrue, not, take, drop, slice_index, slice_set};
 ghost use Rattle.ax_bits.specs.Bits.{word};
-ghost use Rattle.ax_model.specs.Presence.{none_marked};
+ghost use Rattle.ax_format.specs.Presence.{none_marked};
 ghost use Rattle.ax_fspec.specs.Marks.{half, seven, common_marks};
 
 /// Whether the mark at a place is set.

@@ -1,7 +1,7 @@
 //! The slots that a specification defines.
 
 ghost use Rattle.std.specs.Prelude.{◌≤◌, IsTrue, drop};
-ghost use Rattle.ax_model.specs.Presence.{none_marked};
+ghost use Rattle.ax_format.specs.Presence.{none_marked};
 
 use crate::set::Presence;
 

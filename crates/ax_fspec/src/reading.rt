@@ -1,14 +1,14 @@
 //! Presence fields read from the octets of a body.
 
 ghost use Rattle.std.specs.Prelude.{◌≡◌, ℕ, ◌+◌, ◌-◌, ◌*◌, ◌<◌, ◌≤◌, IfOk, IfErr, OnErr, MatchOption, IfSome, length};
-ghost use Rattle.ax_model.specs.Presence.{NoneUndefined, FirstUndefined};
+ghost use Rattle.ax_format.specs.Presence.{NoneUndefined, FirstUndefined};
 ghost use Rattle.ax_fspec.specs.Marks.{seven, are_marked};
 ghost use Rattle.ax_fspec.specs.Fields.{MarksSlots, FailsToMark};
-ghost use Rattle.ax_model.specs.Sizes.{longest_body};
+ghost use Rattle.ax_format.specs.Sizes.{longest_body};
 
 use crate::mask::SlotMask;
 use crate::set::Presence;
-use ax_model::{BodyCause, BodyFault};
+use ax_format::{BodyCause, BodyFault};
 
 /// Reads the presence field that begins at octet `at` of a body, judging each octet bit by bit before the next is looked
 /// for. Ok is the octet after it, and `into` is then the set of the slots that it marks, and as before at a fault.

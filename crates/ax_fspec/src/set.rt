@@ -1,7 +1,7 @@
 //! Sets of slots.
 
 ghost use Rattle.std.specs.Prelude.{◌≡◌, ◌↔◌, ◌+◌, ◌-◌, ◌*◌, ◌<◌, ◌≤◌, ◌++◌, [], ◌∷◌, IsTrue, IfSome, IfNone, length, not, take, drop, slice_set};
-ghost use Rattle.ax_model.specs.Presence.{none_marked};
+ghost use Rattle.ax_format.specs.Presence.{none_marked};
 ghost use Rattle.ax_fspec.specs.Marks.{seven, no_marks, common_marks, AreMarks, IsMarked, slots_of};
 
 use crate::half::{

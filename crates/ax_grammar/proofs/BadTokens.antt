@@ -1,9 +1,9 @@
 -- What tokens spell, and where the reader of a specification stops: at the first bad token.
 use Rattle.std.proofs.Common.{◌≡◌, ℕ, ◌-◌, ◌≤◌, List, [], length, Err}
-use Rattle.ax_model.specs.Specification.{SpecTree}
+use Rattle.ax_format.specs.Specification.{SpecTree}
 use Rattle.ax_tokens.specs.PlainToken.{PlainToken}
-use Rattle.ax_token_reader.specs.FirstBad.{FirstBad}
-use Rattle.ax_token_reader.proofs.Bad.{first_bad_once}
+use Rattle.ax_tokens.specs.FirstBad.{FirstBad}
+use Rattle.ax_tokens.proofs.Bad.{first_bad_once}
 use Rattle.ax_grammar.specs.Spelling.{spelled}
 use Rattle.ax_grammar.specs.InRange.{InRange}
 use Rattle.ax_grammar.specs.Answers.{texts_of, SpellsSpec, IsSpec, NamesBadToken}

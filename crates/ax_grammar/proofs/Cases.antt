@@ -1,21 +1,21 @@
 -- Each way through the rules of fixed kinds and of kinds.
 use Rattle.std.proofs.Common.{◌≡◌, ℕ, List, map, Result, Ok, Err, refl, sym, subst, ap, ◌∙◌}
 use Rattle.std.specs.Prelude.{IsOkAnd, MatchResult}
-use Rattle.ax_model.proofs.VariantTrees.{by_fx_tree, compound_tree, fixed_kind_tree, group_tree}
-use Rattle.ax_model.specs.Plain.{fixed_tree, member_tree, kind_tree, slot_tree}
-use Rattle.ax_model.specs.Tree.{FixedTree, element, group, members_of, KindTree, fixed, by_fx, explicit, compound, slots_of}
-use Rattle.ax_model.specs.declared.content.Content.{Content}
-use Rattle.ax_model.specs.declared.kind.Fixed.{Fixed}
-use Rattle.ax_model.specs.declared.kind.Fixed.TheVariants as FixedOf
-use Rattle.ax_model.specs.declared.kind.Kind.{Kind}
-use Rattle.ax_model.specs.declared.kind.Kind.TheVariants as KindOf
-use Rattle.ax_model.specs.declared.kind.Member.{Member}
-use Rattle.ax_model.specs.declared.kind.Slot.{Slot}
+use Rattle.ax_format.proofs.VariantTrees.{by_fx_tree, compound_tree, fixed_kind_tree, group_tree}
+use Rattle.ax_format.specs.Plain.{fixed_tree, member_tree, kind_tree, slot_tree}
+use Rattle.ax_format.specs.Tree.{FixedTree, element, group, members_of, KindTree, fixed, by_fx, explicit, compound, slots_of}
+use Rattle.ax_format.specs.declared.content.Content.{Content}
+use Rattle.ax_format.specs.declared.kind.Fixed.{Fixed}
+use Rattle.ax_format.specs.declared.kind.Fixed.TheVariants as FixedOf
+use Rattle.ax_format.specs.declared.kind.Kind.{Kind}
+use Rattle.ax_format.specs.declared.kind.Kind.TheVariants as KindOf
+use Rattle.ax_format.specs.declared.kind.Member.{Member}
+use Rattle.ax_format.specs.declared.kind.Slot.{Slot}
 use Rattle.ax_grammar.specs.Gives.{Gives}
 use Rattle.ax_grammar.specs.Parsing.{Texts, Parsed, ◌>>=◌, braced_at}
 use Rattle.ax_grammar.specs.Rules.{keyword_at, width_at, content_at, fixed_by_word, fixed_step, fixed_at, member_at, kind_by_word, kind_step, kind_at, slot_at}
-use Rattle.ax_token_reader.specs.declared.stopped.Stopped.{Stopped}
-use Rattle.ax_token_reader.specs.declared.stopped.Stopped.TheVariants.{Bad, OutOfMemory}
+use Rattle.ax_tokens.specs.declared.stopped.Stopped.{Stopped}
+use Rattle.ax_tokens.specs.declared.stopped.Stopped.TheVariants.{Bad, OutOfMemory}
 use Rattle.ax_grammar.specs.declared.keyword.Keyword.{Keyword}
 use Rattle.ax_grammar.specs.declared.keyword.Keyword.TheVariants as Word
 use Rattle.ax_grammar.proofs.Recursive.{fixed_is, kind_is}

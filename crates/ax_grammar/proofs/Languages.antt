@@ -2,10 +2,10 @@
 use Rattle.std.proofs.Common.{◌≡◌, ℕ, suc, ◌-◌, ◌≤◌, List, [], ◌∷◌, ◌++◌, length, Ok, Err, refl, sym, ◌∙◌, ap, subst, append-nil, length-append, arith}
 use Rattle.std.proofs.lemmas.List.{length-map}
 use Rattle.ax_tokens.specs.PlainToken.{PlainToken}
-use Rattle.ax_token_reader.specs.Stopping.{StopsAt, first_with}
-use Rattle.ax_token_reader.specs.FirstBad.{FirstBad}
-use Rattle.ax_token_reader.proofs.Stops.{PrefixFree}
-use Rattle.ax_token_reader.proofs.Bad.{stops_bad, trails_bad}
+use Rattle.ax_tokens.specs.Stopping.{StopsAt, first_with}
+use Rattle.ax_tokens.specs.FirstBad.{FirstBad}
+use Rattle.ax_tokens.proofs.Stops.{PrefixFree}
+use Rattle.ax_tokens.proofs.Bad.{stops_bad, trails_bad}
 use Rattle.ax_grammar.specs.Answers.{texts_of, Spelled}
 use Rattle.ax_grammar.specs.Parsing.{Texts, Parsed, ◌>>=◌, end_at, all_of}
 use Rattle.ax_grammar.proofs.Recursion.{bind_ok, reads, rest_is, value_is}

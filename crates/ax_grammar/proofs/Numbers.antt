@@ -8,8 +8,8 @@ use Rattle.std.proofs.lemmas.Option.{cond_some}
 use Rattle.std.proofs.lemmas.Fmt.{digits_decimal, digits_value-decimal, decimal-digits_value, length-decimal-le, decimal_nonempty, first_decimal, decimal_digit}
 use Rattle.std.proofs.lemmas.Str.Parse.{IsNumeralModel, numerals_by_fold, digits_value_short}
 use Rattle.std.proofs.Math.Nat.{pow-le-pow_right}
-use Rattle.ax_model.specs.Characters.{IsName, is_name_octet}
-use Rattle.ax_model.specs.Paths.{three_digits}
+use Rattle.ax_format.specs.Characters.{IsName, is_name_octet}
+use Rattle.ax_format.specs.Paths.{three_digits}
 use Rattle.ax_grammar.specs.Tests.{is_digit, number_after_digits, has_leading_zero, number_of, if_within, number_within, category_of}
 
 abbrev pub AreDigits : List ℕ → Type 0

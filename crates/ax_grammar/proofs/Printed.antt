@@ -1,13 +1,13 @@
 -- Texts that are printed one after another.
 use Rattle.std.proofs.Common.{false, subst, ◌≡◌, ℕ, ◌+◌, ◌<◌, List, [], ◌∷◌, ◌++◌, suc, length, drop, drop-cons, get_or, map, add-one, refl, sym, ◌∙◌, ap, append_assoc, append-nil, arith}
 use Rattle.std.specs.List.{flat_map, join_with_byte}
-use Rattle.ax_model.specs.Specification.{SpecTree}
+use Rattle.ax_format.specs.Specification.{SpecTree}
 use Rattle.ax_tokens.specs.Octets.{line_feed}
-use Rattle.ax_model.specs.Plain.{part_tree, item_tree, members_tree, slots_tree}
-use Rattle.ax_model.specs.declared.kind.Member.{Member}
-use Rattle.ax_model.specs.declared.kind.Part.{Part}
-use Rattle.ax_model.specs.declared.kind.Slot.{Slot}
-use Rattle.ax_model.specs.declared.spec.Item.{Item}
+use Rattle.ax_format.specs.Plain.{part_tree, item_tree, members_tree, slots_tree}
+use Rattle.ax_format.specs.declared.kind.Member.{Member}
+use Rattle.ax_format.specs.declared.kind.Part.{Part}
+use Rattle.ax_format.specs.declared.kind.Slot.{Slot}
+use Rattle.ax_format.specs.declared.spec.Item.{Item}
 use Rattle.ax_grammar.specs.Spelling.{closed, block, part_texts, item_texts, members_texts, slots_texts, spelled, printed}
 use Rattle.ax_grammar.specs.Keywords.{keyword_text}
 use Rattle.ax_grammar.specs.declared.keyword.Keyword.{Keyword}

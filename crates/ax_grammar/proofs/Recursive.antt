@@ -1,13 +1,13 @@
 -- Each rule leaves less, and those that call themselves are fixed points.
 use Rattle.std.proofs.Common.{◌≡◌, ℕ, ◌<◌, ◌≤◌, Bool, true, false, cond, List, [], ◌∷◌, length, Option, Some, None, Ok, Err, refl, ap, arith}
-use Rattle.ax_model.specs.Tree.{FixedTree, group, named, spare, members_of, KindTree, fixed, extended, counted, by_fx, explicit, compound, spare_slot, subitem, slots_of}
-use Rattle.ax_model.specs.declared.content.Content.{Content}
-use Rattle.ax_model.specs.declared.content.Sign.{Sign}
-use Rattle.ax_model.specs.declared.kind.Counter.{Counter}
-use Rattle.ax_model.specs.declared.kind.Counter.TheVariants.{One, Two}
-use Rattle.ax_model.specs.declared.kind.LastPart.{LastPart}
-use Rattle.ax_model.specs.declared.kind.LastPart.TheVariants.{WithFx, WithoutFx}
-use Rattle.ax_model.specs.declared.spec.UapSlot.TheVariants as Uap
+use Rattle.ax_format.specs.Tree.{FixedTree, group, named, spare, members_of, KindTree, fixed, extended, counted, by_fx, explicit, compound, spare_slot, subitem, slots_of}
+use Rattle.ax_format.specs.declared.content.Content.{Content}
+use Rattle.ax_format.specs.declared.content.Sign.{Sign}
+use Rattle.ax_format.specs.declared.kind.Counter.{Counter}
+use Rattle.ax_format.specs.declared.kind.Counter.TheVariants.{One, Two}
+use Rattle.ax_format.specs.declared.kind.LastPart.{LastPart}
+use Rattle.ax_format.specs.declared.kind.LastPart.TheVariants.{WithFx, WithoutFx}
+use Rattle.ax_format.specs.declared.spec.UapSlot.TheVariants as Uap
 use Rattle.ax_grammar.specs.Keywords.{keyword_of}
 use Rattle.ax_grammar.specs.Tests.{name_of, number_of, text_of}
 use Rattle.ax_grammar.specs.Parsing.{Texts, Parsed, ◌>>=◌, one_of, one_at, takes_at, expect_at, braced_at}

@@ -7,7 +7,7 @@ use Rattle.std.proofs.lemmas.Bool.{and_parts, and_from, leb-true, le-leb, eqb-tr
 use Rattle.std.proofs.lemmas.Option.{cond_some}
 use Rattle.std.proofs.lemmas.List.{take_at, length-append}
 use Rattle.std.proofs.Math.Nat.{pow-le-pow_right}
-use Rattle.ax_model.specs.Characters.{IsName, is_name_octet, IsTextOctet}
+use Rattle.ax_format.specs.Characters.{IsName, is_name_octet, IsTextOctet}
 use Rattle.ax_tokens.specs.Octets.{quote, is_string_octet, is_word_octet}
 use Rattle.ax_tokens.specs.Lexing.{IsTokenText}
 use Rattle.ax_tokens.specs.declared.token.TokenKind.{TokenKind}

@@ -1,15 +1,15 @@
 -- Where the reader of slots stops is the first bad token.
 use Rattle.std.proofs.Common.{◌≡◌, ℕ, suc, ◌+◌, ◌-◌, ◌≤◌, List, [], ◌∷◌, ◌++◌, length, take, drop, map, Ok, Err, refl, sym, ◌∙◌, ap, subst, append-nil, append_assoc, length-append, length-drop, take-append-drop, arith}
 use Rattle.std.proofs.lemmas.List.{length-map, length-take-le}
-use Rattle.ax_model.specs.Plain.{slot_tree, slots_tree}
-use Rattle.ax_model.specs.Tree.{SlotTree, SlotsTree, slots_of}
-use Rattle.ax_model.specs.declared.kind.Slot.{Slot}
+use Rattle.ax_format.specs.Plain.{slot_tree, slots_tree}
+use Rattle.ax_format.specs.Tree.{SlotTree, SlotsTree, slots_of}
+use Rattle.ax_format.specs.declared.kind.Slot.{Slot}
 use Rattle.ax_tokens.specs.PlainToken.{PlainToken}
-use Rattle.ax_token_reader.specs.Stopping.{StopsAt, first_with}
-use Rattle.ax_token_reader.specs.FirstBad.{FirstBad}
-use Rattle.ax_token_reader.specs.declared.stopped.Stopped.{Stopped}
-use Rattle.ax_token_reader.specs.declared.stopped.Stopped.TheVariants.{Bad, OutOfMemory}
-use Rattle.ax_token_reader.proofs.Bad.{stops_bad}
+use Rattle.ax_tokens.specs.Stopping.{StopsAt, first_with}
+use Rattle.ax_tokens.specs.FirstBad.{FirstBad}
+use Rattle.ax_tokens.specs.declared.stopped.Stopped.{Stopped}
+use Rattle.ax_tokens.specs.declared.stopped.Stopped.TheVariants.{Bad, OutOfMemory}
+use Rattle.ax_tokens.proofs.Bad.{stops_bad}
 use Rattle.ax_grammar.specs.Answers.{texts_of}
 use Rattle.ax_grammar.specs.Gives.{Stops}
 use Rattle.ax_grammar.specs.InRange.{SlotInRange, SlotsInRange}

@@ -4,8 +4,8 @@ use Rattle.ax_grammar.proofs.Recursion.{reads}
 use Rattle.ax_grammar.specs.Parsing.{Texts, Parsed, ◌>>=◌, expect_at, braced_at}
 use Rattle.ax_grammar.specs.Rules.{category_at, text_at, item_at, uap_slot_at}
 use Rattle.ax_grammar.specs.declared.keyword.Keyword.TheVariants as Word
-use Rattle.ax_model.specs.Specification.{ItemTree, SpecTree}
-use Rattle.ax_model.specs.declared.spec.UapSlot.{UapSlot}
+use Rattle.ax_format.specs.Specification.{ItemTree, SpecTree}
+use Rattle.ax_format.specs.declared.spec.UapSlot.{UapSlot}
 
 abbrev pub made : ℕ → List ℕ → List ItemTree → List UapSlot → SpecTree
 made category edition items uap = record { category = category; edition = edition; items = items; uap = uap }

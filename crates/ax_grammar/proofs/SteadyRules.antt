@@ -1,20 +1,20 @@
 -- Where each rule's reader stops, what it read can be completed, and no text after changes its answer.
 use Rattle.std.proofs.Common.{◌≡◌, ℕ, zero, suc, ◌<◌, Bool, true, false, cond, List, [], ◌∷◌, ◌++◌, length, Option, Some, None, Ok, Err, refl, ◌∙◌, ap, append_assoc, lit<, lit≤, arith}
 use Rattle.std.specs.Prelude.{bytes_eq, decimal}
-use Rattle.ax_model.specs.Specification.{ItemTree}
-use Rattle.ax_model.specs.Tree.{element, group, MemberTree, named, spare, members_of, KindTree, fixed, extended, counted, by_fx, explicit, compound, SlotTree, spare_slot, subitem, slots_of}
-use Rattle.ax_model.specs.declared.content.Content.TheVariants as Meaning
-use Rattle.ax_model.specs.declared.content.Scale.{Scale}
-use Rattle.ax_model.specs.declared.content.Sign.{Sign}
-use Rattle.ax_model.specs.declared.content.Sign.TheVariants as Signs
-use Rattle.ax_model.specs.declared.kind.Counter.{Counter}
-use Rattle.ax_model.specs.declared.kind.Counter.TheVariants.{One, Two}
-use Rattle.ax_model.specs.declared.kind.LastPart.{LastPart}
-use Rattle.ax_model.specs.declared.kind.LastPart.TheVariants.{WithFx, WithoutFx}
-use Rattle.ax_model.specs.declared.spec.UapSlot.TheVariants as Uap
+use Rattle.ax_format.specs.Specification.{ItemTree}
+use Rattle.ax_format.specs.Tree.{element, group, MemberTree, named, spare, members_of, KindTree, fixed, extended, counted, by_fx, explicit, compound, SlotTree, spare_slot, subitem, slots_of}
+use Rattle.ax_format.specs.declared.content.Content.TheVariants as Meaning
+use Rattle.ax_format.specs.declared.content.Scale.{Scale}
+use Rattle.ax_format.specs.declared.content.Sign.{Sign}
+use Rattle.ax_format.specs.declared.content.Sign.TheVariants as Signs
+use Rattle.ax_format.specs.declared.kind.Counter.{Counter}
+use Rattle.ax_format.specs.declared.kind.Counter.TheVariants.{One, Two}
+use Rattle.ax_format.specs.declared.kind.LastPart.{LastPart}
+use Rattle.ax_format.specs.declared.kind.LastPart.TheVariants.{WithFx, WithoutFx}
+use Rattle.ax_format.specs.declared.spec.UapSlot.TheVariants as Uap
 use Rattle.ax_grammar.specs.Keywords.{keyword_text, keyword_of}
 use Rattle.ax_grammar.specs.Spelling.{quoted}
-use Rattle.ax_model.specs.Paths.{three_digits}
+use Rattle.ax_format.specs.Paths.{three_digits}
 use Rattle.ax_grammar.specs.Tests.{name_of, number_of, category_of, text_of}
 use Rattle.ax_grammar.specs.Parsing.{Texts, Parsed, ◌>>=◌, one_of, expect_at, braced_at}
 use Rattle.ax_grammar.specs.Rules.{name_at, category_at, width_at, number_at, text_at, sign_by_word, sign_at, entry_at, scale_at, content_by_word, content_at, fixed_by_word, member_step, fixed_step, fixed_at, member_at, part_at, extended_at, counted_at, kind_by_word, kind_step, kind_at, slot_step, slot_at, item_at, uap_slot_at, spec_at}

@@ -5,15 +5,15 @@ use Rattle.std.specs.List.{AllByRecursion, flat_map, list_all, join_with_byte}
 use Rattle.std.proofs.lemmas.Bool.{and_parts, and_from, leb-true, le-leb, ne_eqb, not_from_false, or_cases}
 use Rattle.std.proofs.lemmas.Fmt.{digits_decimal, decimal_nonempty}
 use Rattle.std.proofs.lemmas.List.Concat.{flat_map-cons}
-use Rattle.ax_model.specs.Characters.{IsName, is_name_octet}
-use Rattle.ax_model.specs.Specification.{ItemTree, SpecTree}
-use Rattle.ax_model.specs.Tree.{FixedTree, element, group, MemberTree, named, spare, MembersTree, no_members, member_and, KindTree, fixed, extended, counted, by_fx, explicit, compound, SlotTree, spare_slot, subitem, SlotsTree, no_slots, slot_and}
-use Rattle.ax_model.specs.declared.content.Content.{Content}
-use Rattle.ax_model.specs.declared.content.Content.TheVariants as Meaning
-use Rattle.ax_model.specs.declared.content.Sign.{Sign}
-use Rattle.ax_model.specs.declared.content.TableText.{TableText}
-use Rattle.ax_model.specs.declared.spec.UapSlot.{UapSlot}
-use Rattle.ax_model.specs.declared.spec.UapSlot.TheVariants as Uap
+use Rattle.ax_format.specs.Characters.{IsName, is_name_octet}
+use Rattle.ax_format.specs.Specification.{ItemTree, SpecTree}
+use Rattle.ax_format.specs.Tree.{FixedTree, element, group, MemberTree, named, spare, MembersTree, no_members, member_and, KindTree, fixed, extended, counted, by_fx, explicit, compound, SlotTree, spare_slot, subitem, SlotsTree, no_slots, slot_and}
+use Rattle.ax_format.specs.declared.content.Content.{Content}
+use Rattle.ax_format.specs.declared.content.Content.TheVariants as Meaning
+use Rattle.ax_format.specs.declared.content.Sign.{Sign}
+use Rattle.ax_format.specs.declared.content.TableText.{TableText}
+use Rattle.ax_format.specs.declared.spec.UapSlot.{UapSlot}
+use Rattle.ax_format.specs.declared.spec.UapSlot.TheVariants as Uap
 use Rattle.ax_tokens.specs.Octets.{line_feed, is_word_octet}
 use Rattle.ax_tokens.specs.Depth.{IsWithin}
 use Rattle.ax_tokens.specs.Lexing.{IsTokenText, AreTokensOf}
@@ -25,7 +25,7 @@ use Rattle.ax_grammar.specs.InRange.{IsText, IsWidth, EntryInRange, ContentInRan
 use Rattle.ax_grammar.specs.Keywords.{keyword_text}
 use Rattle.ax_grammar.specs.Printing.{kind_of, spelled_tokens}
 use Rattle.ax_grammar.specs.Spelling.{quoted, sign_text, closed, block, extended_word, counted_word, entry_texts, content_texts, fixed_texts, member_texts, members_texts, part_texts, kind_texts, slot_texts, slots_texts, item_texts, uap_slot_texts, spelled, printed}
-use Rattle.ax_model.specs.Paths.{three_digits}
+use Rattle.ax_format.specs.Paths.{three_digits}
 use Rattle.ax_grammar.specs.Rules.{whole_at}
 use Rattle.ax_grammar.specs.Tests.{is_digit}
 use Rattle.ax_grammar.specs.declared.keyword.Keyword.{Keyword}

@@ -1,8 +1,8 @@
 -- What tokens spell, and which of them is bad where they spell nothing.
 use Rattle.std.specs.Prelude.{◌≡◌, ℕ, List, map}
-use Rattle.ax_model.specs.Specification.{SpecTree}
+use Rattle.ax_format.specs.Specification.{SpecTree}
 use Rattle.ax_tokens.specs.PlainToken.{PlainToken}
-use Rattle.ax_token_reader.specs.FirstBad.{FirstBad}
+use Rattle.ax_tokens.specs.FirstBad.{FirstBad}
 use Rattle.ax_grammar.specs.Spelling.{spelled}
 use Rattle.ax_grammar.specs.InRange.{InRange}
 use Rattle.ax_grammar.specs.declared.error.SyntaxError.{SyntaxError}

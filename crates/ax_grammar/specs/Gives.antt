@@ -1,8 +1,8 @@
 -- What a private call gives, as a reader of the texts that were left before it.
 use Rattle.std.specs.Prelude.{◌≡◌, Result, Ok, Err}
 use Rattle.ax_grammar.specs.Parsing.{Texts, Parsed}
-use Rattle.ax_token_reader.specs.declared.stopped.Stopped.{Stopped}
-use Rattle.ax_token_reader.specs.declared.stopped.Stopped.TheVariants.{Bad, OutOfMemory}
+use Rattle.ax_tokens.specs.declared.stopped.Stopped.{Stopped}
+use Rattle.ax_tokens.specs.declared.stopped.Stopped.TheVariants.{Bad, OutOfMemory}
 
 -- the reader stops there, unless memory ran out
 abbrev pub Stops : {A : Type 0} → Stopped → Texts → Parsed A → Type 0

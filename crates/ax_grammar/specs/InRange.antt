@@ -1,14 +1,14 @@
 -- The trees that a file can spell.
 use Rattle.std.specs.Prelude.{ℕ, ◌^◌, ◌<◌, List, length}
 use Rattle.std.specs.List.{AllByRecursion}
-use Rattle.ax_model.specs.Characters.{IsName, IsTextOctet}
-use Rattle.ax_model.specs.Specification.{ItemTree, SpecTree}
-use Rattle.ax_model.specs.Tree.{FixedTree, element, group, MemberTree, named, spare, MembersTree, no_members, member_and, KindTree, fixed, extended, counted, by_fx, explicit, compound, SlotTree, spare_slot, subitem, SlotsTree, no_slots, slot_and}
-use Rattle.ax_model.specs.declared.content.Content.{Content}
-use Rattle.ax_model.specs.declared.content.Content.TheVariants.{Raw, Table, Ascii, Icao, Octal, Integer, Quantity}
-use Rattle.ax_model.specs.declared.content.TableText.{TableText}
-use Rattle.ax_model.specs.declared.spec.UapSlot.{UapSlot}
-use Rattle.ax_model.specs.declared.spec.UapSlot.TheVariants as Uap
+use Rattle.ax_format.specs.Characters.{IsName, IsTextOctet}
+use Rattle.ax_format.specs.Specification.{ItemTree, SpecTree}
+use Rattle.ax_format.specs.Tree.{FixedTree, element, group, MemberTree, named, spare, MembersTree, no_members, member_and, KindTree, fixed, extended, counted, by_fx, explicit, compound, SlotTree, spare_slot, subitem, SlotsTree, no_slots, slot_and}
+use Rattle.ax_format.specs.declared.content.Content.{Content}
+use Rattle.ax_format.specs.declared.content.Content.TheVariants.{Raw, Table, Ascii, Icao, Octal, Integer, Quantity}
+use Rattle.ax_format.specs.declared.content.TableText.{TableText}
+use Rattle.ax_format.specs.declared.spec.UapSlot.{UapSlot}
+use Rattle.ax_format.specs.declared.spec.UapSlot.TheVariants as Uap
 
 -- fewer than 2^32 octets that may stand in a text
 abbrev pub IsText : List ℕ → Type 0

@@ -1,6 +1,6 @@
 -- Texts as they are printed one after another, and the tokens that they are.
 use Rattle.std.specs.Prelude.{ℕ, List, [], ◌∷◌, ◌++◌, map, if◌then◌else◌, ◌==◌}
-use Rattle.ax_model.specs.Specification.{SpecTree}
+use Rattle.ax_format.specs.Specification.{SpecTree}
 use Rattle.ax_tokens.specs.Octets.{quote, open_brace, close_brace}
 use Rattle.ax_tokens.specs.PlainToken.{PlainToken}
 use Rattle.ax_tokens.specs.Printing.{placed}

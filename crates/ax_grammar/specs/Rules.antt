@@ -1,18 +1,18 @@
 -- A reader for each rule of the grammar.
 use Rattle.std.specs.Prelude.{ℕ, if◌then◌else◌, List, Ok, Err}
-use Rattle.ax_model.specs.Specification.{ItemTree, SpecTree}
-use Rattle.ax_model.specs.Tree.{FixedTree, element, group, MemberTree, named, spare, MembersTree, members_of, KindTree, fixed, extended, counted, by_fx, explicit, compound, SlotTree, spare_slot, subitem, slots_of}
-use Rattle.ax_model.specs.declared.content.Content.{Content}
-use Rattle.ax_model.specs.declared.content.Content.TheVariants as Meaning
-use Rattle.ax_model.specs.declared.content.Scale.{Scale}
-use Rattle.ax_model.specs.declared.content.Sign.{Sign}
-use Rattle.ax_model.specs.declared.content.TableText.{TableText}
-use Rattle.ax_model.specs.declared.kind.Counter.{Counter}
-use Rattle.ax_model.specs.declared.kind.Counter.TheVariants.{One, Two}
-use Rattle.ax_model.specs.declared.kind.LastPart.{LastPart}
-use Rattle.ax_model.specs.declared.kind.LastPart.TheVariants.{WithFx, WithoutFx}
-use Rattle.ax_model.specs.declared.spec.UapSlot.{UapSlot}
-use Rattle.ax_model.specs.declared.spec.UapSlot.TheVariants as Uap
+use Rattle.ax_format.specs.Specification.{ItemTree, SpecTree}
+use Rattle.ax_format.specs.Tree.{FixedTree, element, group, MemberTree, named, spare, MembersTree, members_of, KindTree, fixed, extended, counted, by_fx, explicit, compound, SlotTree, spare_slot, subitem, slots_of}
+use Rattle.ax_format.specs.declared.content.Content.{Content}
+use Rattle.ax_format.specs.declared.content.Content.TheVariants as Meaning
+use Rattle.ax_format.specs.declared.content.Scale.{Scale}
+use Rattle.ax_format.specs.declared.content.Sign.{Sign}
+use Rattle.ax_format.specs.declared.content.TableText.{TableText}
+use Rattle.ax_format.specs.declared.kind.Counter.{Counter}
+use Rattle.ax_format.specs.declared.kind.Counter.TheVariants.{One, Two}
+use Rattle.ax_format.specs.declared.kind.LastPart.{LastPart}
+use Rattle.ax_format.specs.declared.kind.LastPart.TheVariants.{WithFx, WithoutFx}
+use Rattle.ax_format.specs.declared.spec.UapSlot.{UapSlot}
+use Rattle.ax_format.specs.declared.spec.UapSlot.TheVariants as Uap
 use Rattle.ax_grammar.specs.Keywords.{keyword_of}
 use Rattle.ax_grammar.specs.Parsing.{Texts, Parsed, ◌>>=◌, one_at, expect_at, takes_at, recursive, braced_at, all_of}
 use Rattle.ax_grammar.specs.Tests.{name_of, number_of, category_of, text_of}

@@ -2,7 +2,7 @@
 use Rattle.std.specs.Prelude.{ℕ, ◌+◌, ◌-◌, ◌*◌, Bool, false, not, ◌&&◌, ◌==◌, nat_le, nat_lt, if◌then◌else◌, List, [], ◌∷◌, length, Option, Some, None}
 use Rattle.std.specs.List.{list_all}
 use Rattle.std.specs.Option.{option_map, option_and_then}
-use Rattle.ax_model.specs.Characters.{is_name_octet}
+use Rattle.ax_format.specs.Characters.{is_name_octet}
 use Rattle.ax_tokens.specs.Octets.{quote, is_string_octet}
 
 -- a name

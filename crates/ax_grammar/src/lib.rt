@@ -4,7 +4,6 @@
 
 mod error;
 mod keyword;
-pub mod laws;
 mod octets;
 mod printer;
 mod printing;

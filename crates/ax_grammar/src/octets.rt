@@ -8,7 +8,7 @@ ghost use Rattle.ax_tokens.specs.Lexing.{HasTokenText};
 ghost use Rattle.ax_grammar.specs.InRange.{IsText};
 ghost use Rattle.ax_grammar.specs.Tests.{is_digit, number_after_digits, number_of, number_within, category_of, has_leading_zero, name_of, text_of};
 
-use ax_model::Name;
+use ax_format::Name;
 use ax_tokens::{Token, TokenKind};
 
 /// Whether each octet is a digit.

@@ -2,15 +2,15 @@
 
 ghost use Rattle.std.specs.Prelude.{◌≡◌, [], ◌∷◌, drop, map, decimal};
 ghost use Rattle.std.specs.List.{flat_map};
-ghost use Rattle.ax_model.specs.Plain.{fixed_tree, member_tree, members_tree, part_tree, kind_tree, slot_tree, slots_tree, item_tree, spec_tree};
+ghost use Rattle.ax_format.specs.Plain.{fixed_tree, member_tree, members_tree, part_tree, kind_tree, slot_tree, slots_tree, item_tree, spec_tree};
 ghost use Rattle.ax_grammar.specs.Keywords.{keyword_text};
 ghost use Rattle.ax_grammar.specs.Prints.{Adds, Prints};
 ghost use Rattle.ax_grammar.specs.Spelling.{quoted, sign_text, extended_word, counted_word, entry_texts, content_texts, fixed_texts, member_texts, members_texts, part_texts, kind_texts, slot_texts, slots_texts, item_texts, uap_slot_texts, spelled};
-ghost use Rattle.ax_model.specs.Paths.{three_digits};
+ghost use Rattle.ax_format.specs.Paths.{three_digits};
 ghost use Rattle.ax_grammar.specs.declared.keyword.Keyword.TheVariants as Word;
 
 use crate::keyword::Keyword;
-use ax_model::{
+use ax_format::{
     Content, Counter, Fixed, Item, Items, Kind, LastPart, Member, Members, Name, Part, Parts,
     Scale, Sign, Slot, Slots, Spec, TableText, TableTexts, Text, UapSlot, UapSlots,
     category_digits,

@@ -1,13 +1,13 @@
 //! From a specification to its text.
 
 ghost use Rattle.std.specs.Prelude.{◌≡◌, IfOk};
-ghost use Rattle.ax_model.specs.Plain.{spec_tree};
+ghost use Rattle.ax_format.specs.Plain.{spec_tree};
 ghost use Rattle.ax_grammar.specs.InRange.{AreNumbersInRange};
 ghost use Rattle.ax_grammar.specs.Spelling.{printed};
 
 use crate::keyword::Keyword;
 use crate::printer::Printer;
-use ax_model::Spec;
+use ax_format::Spec;
 use std::alloc::{AllocError, Global};
 
 /// The text of a specification: the tokens that spell it, with one space between, and a line feed after.

@@ -2,10 +2,10 @@
 
 ghost use Rattle.std.specs.Prelude.{◌≡◌, ◌<◌, ◌≤◌, ◌^◌, length, drop, [], ◌∷◌, Ok, true, IfOk, IfErr, OnOk};
 ghost use Rattle.std.specs.List.{AllByRecursion};
-ghost use Rattle.ax_model.specs.Characters.{IsTextOctet};
+ghost use Rattle.ax_format.specs.Characters.{IsTextOctet};
 ghost use Rattle.ax_tokens.specs.PlainToken.{plain_token};
 ghost use Rattle.ax_tokens.specs.Lexing.{HasTokenText};
-ghost use Rattle.ax_token_reader.specs.declared.stopped.Stopped.TheVariants.{Bad};
+ghost use Rattle.ax_tokens.specs.declared.stopped.Stopped.TheVariants.{Bad};
 ghost use Rattle.ax_grammar.specs.Answers.{texts_of};
 ghost use Rattle.ax_grammar.specs.Gives.{Gives, Stops};
 ghost use Rattle.ax_grammar.specs.Parsing.{expect_at, takes_at, one_at, end_at};
@@ -14,9 +14,8 @@ ghost use Rattle.ax_grammar.specs.Rules.{keyword_at, name_at, category_at, width
 
 use crate::keyword::Keyword;
 use crate::octets;
-use ax_model::{Name, Text};
-use ax_token_reader::Stopped;
-use ax_tokens::{Token, Tokens};
+use ax_format::{Name, Text};
+use ax_tokens::{Stopped, Token, Tokens};
 use std::alloc::{AllocError, Global};
 use std::marker::Model;
 
@@ -24,7 +23,7 @@ use std::marker::Model;
 /// of the tokens that are left.
 #[derive(Drop)]
 pub struct SpecReader<'r, 't> {
-    inside: ax_token_reader::Reader<'r, 't>,
+    inside: ax_tokens::Reader<'r, 't>,
 }
 
 impl<'r, 't> Model for SpecReader<'r, 't> {
@@ -54,7 +53,7 @@ impl<'r, 't> SpecReader<'r, 't> {
         ensures { result ≡ texts_of tokens.now }
     {
         SpecReader {
-            inside: ax_token_reader::Reader::new(tokens),
+            inside: ax_tokens::Reader::new(tokens),
         }
     }
 
@@ -63,7 +62,7 @@ impl<'r, 't> SpecReader<'r, 't> {
         ensures { result ≡ drop at (texts_of tokens.now) }
     {
         SpecReader {
-            inside: ax_token_reader::Reader::from(tokens, at),
+            inside: ax_tokens::Reader::from(tokens, at),
         }
     }
 

@@ -1,8 +1,8 @@
 //! From tokens to the specification that they spell.
 
 ghost use Rattle.std.specs.Prelude.{◌≡◌, ◌⊎◌, ℕ, length, IfOk, IfErr, MatchResult, OnOk};
-ghost use Rattle.ax_model.specs.Plain.{spec_tree};
-ghost use Rattle.ax_model.specs.Specification.{SpecTree};
+ghost use Rattle.ax_format.specs.Plain.{spec_tree};
+ghost use Rattle.ax_format.specs.Specification.{SpecTree};
 ghost use Rattle.ax_grammar.specs.Answers.{SpellsSpec, IsBad, texts_of};
 ghost use Rattle.ax_grammar.specs.Gives.{Gives};
 ghost use Rattle.ax_grammar.specs.Rules.{whole_at};
@@ -10,9 +10,8 @@ ghost use Rattle.ax_grammar.specs.declared.error.SyntaxError.TheVariants.{OutOfM
 
 use crate::error::SyntaxError;
 use crate::reader::SpecReader;
-use ax_model::Spec;
-use ax_token_reader::Stopped;
-use ax_tokens::Tokens;
+use ax_format::Spec;
+use ax_tokens::{Stopped, Tokens};
 use std::alloc::Global;
 
 /// All tokens that are left are a specification.

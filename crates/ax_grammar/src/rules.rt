@@ -2,22 +2,22 @@
 //! doesn't fit.
 
 ghost use Rattle.std.specs.Prelude.{◌≡◌, map};
-ghost use Rattle.ax_model.specs.Plain.{fixed_tree, member_tree, part_tree, kind_tree, slot_tree, item_tree, spec_tree};
+ghost use Rattle.ax_format.specs.Plain.{fixed_tree, member_tree, part_tree, kind_tree, slot_tree, item_tree, spec_tree};
 ghost use Rattle.ax_grammar.specs.Gives.{Gives};
-ghost use Rattle.ax_model.specs.Specification.{ItemTree};
-ghost use Rattle.ax_model.specs.Tree.{MembersTree};
-ghost use Rattle.ax_model.specs.declared.content.TableText as Table;
-ghost use Rattle.ax_model.specs.declared.spec.UapSlot as Uap;
+ghost use Rattle.ax_format.specs.Specification.{ItemTree};
+ghost use Rattle.ax_format.specs.Tree.{MembersTree};
+ghost use Rattle.ax_format.specs.declared.content.TableText as Table;
+ghost use Rattle.ax_format.specs.declared.spec.UapSlot as Uap;
 ghost use Rattle.ax_grammar.specs.Parsing.{Texts, Parsed, LeavesLess, braced_at, list_at};
 ghost use Rattle.ax_grammar.specs.Rules.{sign_at, entry_at, scale_at, content_at, member_at, fixed_at, part_at, extended_at, counted_at, kind_at, slot_at, item_at, uap_slot_at, spec_at};
 
 use crate::keyword::Keyword;
 use crate::reader::SpecReader;
-use ax_model::{
+use ax_format::{
     Content, Counter, Fixed, Item, Kind, LastPart, Member, Members, Part, Scale, Sequence, Sign,
     Slot, Slots, Spec, TableText, UapSlot,
 };
-use ax_token_reader::Stopped;
+use ax_tokens::Stopped;
 use std::alloc::Global;
 
 /// What a rule reads several times in braces.

@@ -2,8 +2,8 @@
 use Rattle.std.proofs.Common.{◌≡◌, ℕ, zero, suc, ◌+◌, ◌<◌, List, [], ◌∷◌, ◌++◌, length, get_or, refl, sym, ◌∙◌, ap, arith, inl, inr, append-nil, length-append, add-one}
 use Rattle.std.proofs.lemmas.List.{get_or_append_left, get_or_push, get_or_default}
 use Rattle.std.proofs.lemmas.Bool.{cases_lt}
-use Rattle.ax_model.specs.Paths.{at}
-use Rattle.ax_model.specs.declared.content.Content.{Content}
+use Rattle.ax_format.specs.Paths.{at}
+use Rattle.ax_format.specs.declared.content.Content.{Content}
 use Rattle.ax_text.specs.Printing.{as_lines, Puts}
 use Rattle.ax_text.specs.Remarks.{remark}
 use Rattle.ax_text.specs.ShowText.{number_line}

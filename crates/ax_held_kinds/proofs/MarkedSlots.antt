@@ -4,16 +4,16 @@ use Rattle.ax_bits.specs.Bits.{AreBits}
 use Rattle.ax_fspec.specs.Fields.{MarksSlots}
 use Rattle.ax_fspec.specs.Marks.{slots_from}
 use Rattle.ax_fspec.specs.declared.mask.SlotMask.{SlotMask}
-use Rattle.ax_model.proofs.CanonSpells.{spells_shape}
-use Rattle.ax_model.proofs.Meets.{none_marked_left, NoneUndefined-append}
-use Rattle.ax_model.proofs.Spelled.{unmarked}
-use Rattle.ax_model.specs.InBounds.{InBounds}
-use Rattle.ax_model.specs.Presence.{none_marked, NoneUndefined, slots_past}
-use Rattle.ax_model.specs.Reader.{got, both, read, entries_read}
-use Rattle.ax_model.specs.Shape.{EntriesShape}
-use Rattle.ax_model.specs.Tree.{KindTree, EntriesTree, no_entries, entry_and, SlotsTree, no_slots, slot_and, SlotTree, spare_slot, subitem, slots_of, defined_slots, compound, marked}
-use Rattle.ax_reader.proofs.Exact.{spelled_at}
-use Rattle.ax_reader.specs.Reading.{Gets, IsMaskOf, kind_read}
+use Rattle.ax_format.proofs.CanonSpells.{spells_shape}
+use Rattle.ax_format.proofs.Meets.{none_marked_left, NoneUndefined-append}
+use Rattle.ax_format.proofs.Spelled.{unmarked}
+use Rattle.ax_format.specs.InBounds.{InBounds}
+use Rattle.ax_format.specs.Presence.{none_marked, NoneUndefined, slots_past}
+use Rattle.ax_format.specs.Reader.{got, both, read, entries_read}
+use Rattle.ax_format.specs.Shape.{EntriesShape}
+use Rattle.ax_format.specs.Tree.{KindTree, EntriesTree, no_entries, entry_and, SlotsTree, no_slots, slot_and, SlotTree, spare_slot, subitem, slots_of, defined_slots, compound, marked}
+use Rattle.ax_fspec.proofs.Exact.{spelled_at}
+use Rattle.ax_fspec.specs.Reading.{Gets, IsMaskOf, kind_read}
 
 -- ---- the first marked slot
 

@@ -4,11 +4,11 @@ use Rattle.ax_bits.specs.Bits.{bits}
 use Rattle.ax_fspec.specs.Fields.{MarksSlots, FailsToMark, mask_slots}
 use Rattle.ax_fspec.specs.Marks.{no_marks}
 use Rattle.ax_fspec.specs.declared.mask.SlotMask.{SlotMask}
-use Rattle.ax_model.specs.Presence.{octets_needed, Presence, later_slots, NoneUndefined}
-use Rattle.ax_model.specs.Tree.{SlotTree, spare_slot, subitem, slots_of, defined_slots}
-use Rattle.ax_model.specs.declared.fault.BodyFault.{BodyFault}
-use Rattle.ax_reader.proofs.Marking.{MaskSoFar, mask_none, mask_more, mask_same, mask_all, mask_rest}
-use Rattle.ax_reader.specs.Reading.{IsMaskOf}
+use Rattle.ax_format.specs.Presence.{octets_needed, Presence, later_slots, NoneUndefined}
+use Rattle.ax_format.specs.Tree.{SlotTree, spare_slot, subitem, slots_of, defined_slots}
+use Rattle.ax_format.specs.declared.fault.BodyFault.{BodyFault}
+use Rattle.ax_fspec.proofs.Marking.{MaskSoFar, mask_none, mask_more, mask_same, mask_all, mask_rest}
+use Rattle.ax_fspec.specs.Reading.{IsMaskOf}
 use Rattle.ax_held_kinds.specs.Fields.{MarksOf, FailsToMarkOf}
 
 -- ---- a mask of slots

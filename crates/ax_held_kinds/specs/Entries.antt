@@ -1,8 +1,8 @@
 -- Entries of tables as contents.
 use Rattle.std.specs.Prelude.{[], ◌∷◌, Option, Some, None}
-use Rattle.ax_model.specs.declared.content.Content.{Content}
-use Rattle.ax_model.specs.declared.content.Content.TheVariants.{Raw, Table}
-use Rattle.ax_model.specs.declared.content.TableText.{TableText}
+use Rattle.ax_format.specs.declared.content.Content.{Content}
+use Rattle.ax_format.specs.declared.content.Content.TheVariants.{Raw, Table}
+use Rattle.ax_format.specs.declared.content.TableText.{TableText}
 
 -- a table of one entry
 abbrev pub alone : TableText → Content

@@ -2,9 +2,9 @@
 use Rattle.std.specs.Prelude.{ℕ, List}
 use Rattle.ax_fspec.specs.Fields.{MarksSlots, FailsToMark}
 use Rattle.ax_fspec.specs.declared.mask.SlotMask.{SlotMask}
-use Rattle.ax_model.specs.Tree.{SlotTree}
-use Rattle.ax_model.specs.declared.fault.BodyFault.{BodyFault}
-use Rattle.ax_reader.specs.Reading.{IsMaskOf}
+use Rattle.ax_format.specs.Tree.{SlotTree}
+use Rattle.ax_format.specs.declared.fault.BodyFault.{BodyFault}
+use Rattle.ax_fspec.specs.Reading.{IsMaskOf}
 
 -- the octets of the body from `at` up to `end` are a presence field over these slots, and it marks this set
 pub record MarksOf (slots : List SlotTree) (body : List ℕ) (at end : ℕ) (marked : List ℕ) : Type 0 where

@@ -1,6 +1,6 @@
 -- The plain trees of what is held: those of the kinds that it was made of.
 use Rattle.std.specs.Prelude.{List, map}
-use Rattle.ax_model.specs.Tree.{MembersTree, KindTree, fixed, extended, counted, by_fx, explicit, compound, SlotsTree, SlotTree, spare_slot, subitem, slots_of}
+use Rattle.ax_format.specs.Tree.{MembersTree, KindTree, fixed, extended, counted, by_fx, explicit, compound, SlotsTree, SlotTree, spare_slot, subitem, slots_of}
 use Rattle.ax_held_kinds.specs.HeldFixed.{held_fixed, held_members}
 use Rattle.ax_held_kinds.specs.declared.kinds.HeldKind.{HeldKind, fold-HeldKind}
 use Rattle.ax_held_kinds.specs.declared.kinds.HeldKind.TheOpen.{HeldKind-F, HeldSlot-F}

@@ -1,7 +1,7 @@
 -- The plain trees of what is held of fixed kinds and their members: those of what it was made of.
 use Rattle.std.specs.Prelude.{List, map}
-use Rattle.ax_model.specs.Tree.{FixedTree, element, group, MembersTree, MemberTree, named, spare, members_of}
-use Rattle.ax_model.specs.declared.content.Content.{Content}
+use Rattle.ax_format.specs.Tree.{FixedTree, element, group, MembersTree, MemberTree, named, spare, members_of}
+use Rattle.ax_format.specs.declared.content.Content.{Content}
 use Rattle.ax_held_kinds.specs.declared.kinds.HeldContent.{HeldContent}
 use Rattle.ax_held_kinds.specs.declared.kinds.HeldContent.TheVariants as Held
 use Rattle.ax_held_kinds.specs.declared.kinds.HeldFixed.{HeldFixed, fold-HeldFixed}

@@ -1,7 +1,7 @@
 -- Lines of elements of few bits, that are made before any is put.
 use Rattle.std.specs.Prelude.{ℕ, zero, suc, List, [], ◌∷◌, ◌++◌}
-use Rattle.ax_model.specs.Paths.{at}
-use Rattle.ax_model.specs.declared.content.Content.{Content}
+use Rattle.ax_format.specs.Paths.{at}
+use Rattle.ax_format.specs.declared.content.Content.{Content}
 use Rattle.ax_tokens.specs.Octets.{line_feed}
 use Rattle.ax_text.specs.Remarks.{remark}
 use Rattle.ax_text.specs.ShowText.{number_line}

@@ -2,8 +2,8 @@
 ghost use Rattle.std.specs.Prelude.{◌≡◌, ◌∷◌, ◌++◌, ◌<◌, [], length, map, IfOk, OnOk, IsOkAnd};
 ghost use Rattle.ax_held_kinds.specs.Held.{held_part, held_kind, held_slot};
 ghost use Rattle.ax_held_kinds.specs.HeldFixed.{held_content, held_fixed, held_member};
-ghost use Rattle.ax_model.specs.Plain.{fixed_tree, member_tree, part_tree, kind_tree, slot_tree};
-ghost use Rattle.ax_model.specs.Tree.{named};
+ghost use Rattle.ax_format.specs.Plain.{fixed_tree, member_tree, part_tree, kind_tree, slot_tree};
+ghost use Rattle.ax_format.specs.Tree.{named};
 
 use crate::by_number::EntriesByNumber;
 use crate::kinds::{
@@ -11,8 +11,8 @@ use crate::kinds::{
     HeldSlots,
 };
 use crate::lines::LineMaker;
+use ax_format::{Content, Fixed, Kind, Member, Members, Name, Part, Parts, Slot, Slots};
 use ax_lists::Sequence;
-use ax_model::{Content, Fixed, Kind, Member, Members, Name, Part, Parts, Slot, Slots};
 use std::alloc::{AllocError, Global};
 
 /// Tables of at most so many entries are searched in order: that is as fast, and takes no memory.

@@ -4,9 +4,9 @@ ghost use Rattle.std.specs.BTreeMap.{get};
 ghost use Rattle.std.specs.Option.{option_copied};
 ghost use Rattle.std.specs.Ordering.{nat_cmp};
 ghost use Rattle.ax_held_kinds.specs.Entries.{alone, said_by};
-ghost use Rattle.ax_model.specs.declared.content.Content.TheVariants.{Raw};
+ghost use Rattle.ax_format.specs.declared.content.Content.TheVariants.{Raw};
 
-use ax_model::{Content, TableText, TableTexts};
+use ax_format::{Content, TableText, TableTexts};
 use std::alloc::{AllocError, Global};
 use std::collections::BTreeMap;
 

@@ -1,15 +1,15 @@
 //! Presence fields over slots, of which no more are looked at than the field has room for.
 ghost use Rattle.std.specs.Prelude.{◌≡◌, ◌≤◌, length, map, IfOk, IfErr};
-ghost use Rattle.ax_model.specs.Plain.{slot_tree};
-ghost use Rattle.ax_model.specs.Sizes.{longest_body};
-ghost use Rattle.ax_model.specs.Tree.{SlotTree};
-ghost use Rattle.ax_reader.specs.Reading.{IsMaskOf, is_subitem};
+ghost use Rattle.ax_format.specs.Plain.{slot_tree};
+ghost use Rattle.ax_format.specs.Sizes.{longest_body};
+ghost use Rattle.ax_format.specs.Tree.{SlotTree};
+ghost use Rattle.ax_fspec.specs.Reading.{IsMaskOf, is_subitem};
 ghost use Rattle.ax_held_kinds.specs.Fields.{MarksOf, FailsToMarkOf};
 ghost use Rattle.ax_held_kinds.specs.Held.{held_slot};
 
 use crate::kinds::HeldSlot;
+use ax_format::{BodyFault, Slot};
 use ax_fspec::{Presence, SlotMask, read_presence};
-use ax_model::{BodyFault, Slot};
 
 /// A slot, as a presence field sees it.
 pub trait PresenceSlot {

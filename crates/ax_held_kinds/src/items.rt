@@ -1,15 +1,15 @@
 //! The items of a UAP.
 ghost use Rattle.std.specs.Prelude.{◌≡◌, ◌+◌, ◌<◌, length, map, IfOk};
-ghost use Rattle.ax_model.specs.Flaws.{NoFlaw};
-ghost use Rattle.ax_model.specs.Plain.{spec_tree};
-ghost use Rattle.ax_reader.specs.Reading.{record_slot_list, slot_of_frn};
+ghost use Rattle.ax_format.specs.Flaws.{NoFlaw};
+ghost use Rattle.ax_format.specs.Plain.{spec_tree};
+ghost use Rattle.ax_fspec.specs.Reading.{record_slot_list, slot_of_frn};
 ghost use Rattle.ax_held_kinds.specs.Held.{held_slot};
 
 use crate::build::hold_kind;
 use crate::kinds::{HeldSlot, HeldSlots};
 use crate::lines::LineMaker;
 use crate::sizes::least_octets;
-use ax_model::Spec;
+use ax_format::Spec;
 use std::alloc::{AllocError, Global};
 use std::marker::Model;
 
@@ -23,10 +23,10 @@ pub struct HeldItems<'s> {
 impl<'s> Model for HeldItems<'s> {
     ghost use Rattle.std.specs.Prelude.{◌≡◌, map};
     ghost use Rattle.ax_held_kinds.specs.Held.{held_slot};
-    ghost use Rattle.ax_model.specs.Plain.{spec_tree};
-    ghost use Rattle.ax_model.specs.contracts.spec.Spec as row;
-    ghost use Rattle.ax_model.specs.declared.spec.Spec.{Spec};
-    ghost use Rattle.ax_reader.specs.Reading.{record_slot_list};
+    ghost use Rattle.ax_format.specs.Plain.{spec_tree};
+    ghost use Rattle.ax_format.specs.contracts.spec.Spec as row;
+    ghost use Rattle.ax_format.specs.declared.spec.Spec.{Spec};
+    ghost use Rattle.ax_fspec.specs.Reading.{record_slot_list};
 
     ghost Value = { Spec };
 

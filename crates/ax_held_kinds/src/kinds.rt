@@ -1,13 +1,13 @@
 //! Kinds with their tables' entries by number.
 ghost use Rattle.std.specs.Prelude.{◌≡◌};
 ghost use Rattle.ax_held_kinds.specs.HeldFixed.{held_members};
-ghost use Rattle.ax_model.specs.Lengths.{capped};
-ghost use Rattle.ax_model.specs.Widths.{members_width};
+ghost use Rattle.ax_format.specs.Lengths.{capped};
+ghost use Rattle.ax_format.specs.Widths.{members_width};
 
 use crate::by_number::EntriesByNumber;
 use crate::lines::{HeldQuantity, ShortElement};
+use ax_format::{Content, Counter, LastPart, Name};
 use ax_lists::Sequence;
-use ax_model::{Content, Counter, LastPart, Name};
 
 /// What an element's number means.
 #[derive(Drop)]

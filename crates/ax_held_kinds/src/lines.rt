@@ -1,15 +1,15 @@
 //! Lines of elements of few bits, made once.
 ghost use Rattle.std.specs.Prelude.{◌≡◌, ◌<◌, ◌≤◌, ◌^◌, length, IfOk, IfSome, IsTrue};
 ghost use Rattle.ax_held_kinds.specs.Lines.{line_end, line_ends};
-ghost use Rattle.ax_model.specs.InBounds.{IsWidth};
-ghost use Rattle.ax_model.specs.Plain.{fixed_tree};
-ghost use Rattle.ax_model.specs.Tree.{element};
-ghost use Rattle.ax_model.specs.declared.content.Content.TheVariants.{Quantity};
+ghost use Rattle.ax_format.specs.InBounds.{IsWidth};
+ghost use Rattle.ax_format.specs.Plain.{fixed_tree};
+ghost use Rattle.ax_format.specs.Tree.{element};
+ghost use Rattle.ax_format.specs.declared.content.Content.TheVariants.{Quantity};
 ghost use Rattle.ax_text.specs.FractionEnds.{fraction_end, fraction_ends};
 ghost use Rattle.ax_text.specs.Listable.{ContentListable};
 
+use ax_format::{Content, Fixed, Name, Scale};
 use ax_lists::Sequence;
-use ax_model::{Content, Fixed, Name, Scale};
 use ax_octets::Literal;
 use ax_text::Lister;
 use std::alloc::{AllocError, Global};

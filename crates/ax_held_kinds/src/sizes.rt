@@ -1,7 +1,7 @@
 //! How many octets of a category file what it says takes at least. Contracts don't speak of them: they bound only what is made.
 ghost use Rattle.std.specs.Prelude.{◌<◌};
 
-use ax_model::{Content, Fixed, Kind, Member, Members, Parts, Slot, Slots, Spec};
+use ax_format::{Content, Fixed, Kind, Member, Members, Parts, Slot, Slots, Spec};
 
 /// The octets of a short text; of a long one, some of them.
 fn short_length(text: &[u8]) -> u32

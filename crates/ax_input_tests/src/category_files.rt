@@ -3,11 +3,11 @@
 use crate::checks::same_text;
 use crate::lexing::{has_fault, have_one_spelling, tokens_of};
 use ax_grammar::{SyntaxError, print_spec, read_spec};
-use ax_samples::{
+use ax_tokens::LexError;
+use ax_vectors::{
     CAT048_P1, FILE_E, FILE_G1, FILE_H1, FILE_H2, FILE_K, FILE_N, FILE_S, FILE_W, FILE_Z,
     NESTED_TOO_DEEP,
 };
-use ax_tokens::LexError;
 use std::alloc::Global;
 use std::process::Abort;
 use std::test::Fail;

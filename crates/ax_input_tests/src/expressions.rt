@@ -1,6 +1,6 @@
 //! Expressions, and the first fault of their texts.
 use crate::filter_fixtures::{catalogue, filter_of, is_refused};
-use ax_samples::{CAT034_P1, CAT048_P1};
+use ax_vectors::{CAT034_P1, CAT048_P1};
 
 // Each form, a path of each category, numbers of 38 digits, and braces 16 deep.
 const ACCEPTED: [&str; 17] = [

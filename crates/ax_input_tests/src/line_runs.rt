@@ -1,8 +1,8 @@
 //! Runs of a line command over inputs and outputs in memory.
-ghost use Rattle.ax_line_stream.specs.Examples.{echo_command};
+ghost use Rattle.ax_lines.specs.Examples.{echo_command};
 
 use crate::outside::{Input, source};
-use ax_line_stream::{LineStop, LineWork, LinesEnd, run_lines};
+use ax_lines::{LineStop, LineWork, LinesEnd, run_lines};
 use ax_outside::{MemSink, fill};
 use std::alloc::Global;
 use std::process::Abort;

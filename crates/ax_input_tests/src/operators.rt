@@ -1,7 +1,7 @@
 //! Each comparison at a number that is equal, at one that is below and at one that is above.
 use crate::filter_fixtures::{catalogue, keeps};
 use ax_check::Catalogue;
-use ax_samples::{CAT034_P1, CAT048_P1};
+use ax_vectors::{CAT034_P1, CAT048_P1};
 use std::alloc::Global;
 use std::process::Abort;
 

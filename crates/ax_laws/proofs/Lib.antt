@@ -2,3 +2,18 @@ mod MadeBlocks
 mod MemberPresence
 mod OpaqueTokens
 mod Widths
+pub mod AbsentItems
+pub mod CanonWritten
+pub mod Converting
+pub mod ExpansionExamples
+pub mod FilteredBlocks
+pub mod GrammarSteps
+pub mod JudgedContents
+pub mod KeyFates
+pub mod LinedThere
+pub mod OneAnswer
+pub mod PathPlaces
+pub mod PlacedNames
+pub mod WorkedLines
+pub mod WorkedScales
+pub mod WorkedValues

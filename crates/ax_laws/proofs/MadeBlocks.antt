@@ -2,7 +2,7 @@
 use Rattle.std.proofs.Common.{◌≡◌, ℕ, ◌+◌, Bool, List, [], ◌∷◌, length, ap, arith}
 use Rattle.std.proofs.lemmas.Bool.{lt-ltb, le-ltb}
 use Rattle.std.specs.Prelude.{if◌then◌else◌}
-use Rattle.ax_model.specs.CanonicalOctets.{framed}
+use Rattle.ax_format.specs.CanonicalOctets.{framed}
 use Rattle.ax_vectors.specs.Made.{block_of}
 
 pub whole : (category : ℕ) (body : List ℕ) → length body ≡ 65532 → block_of category body ≡ framed category body

@@ -3,12 +3,12 @@ use Rattle.std.proofs.Common.{◌≡◌, ℕ, zero, suc, ◌+◌, nat_lt, false,
 use Rattle.std.proofs.lemmas.Bool.{lt-ltb, le-ltb}
 use Rattle.std.specs.Prelude.{◌&&◌}
 use Rattle.ax_laws.specs.MemberPlaces.{below, standing, member_count, nth_part}
-use Rattle.ax_model.specs.At.{value_at, nth_value, nth_list, slot_value, is_present}
-use Rattle.ax_model.specs.Fitting.{list_count}
-use Rattle.ax_model.specs.Shape.{MembersShape, PartsShape}
-use Rattle.ax_model.specs.Tree.{MembersTree, no_members, member_and, named, spare, ValueTree, number, member_values, part_values, occurrences, content_octets, marked, ValuesTree, no_values, value_and, value_count, ListsTree, no_lists, list_and, EntriesTree}
-use Rattle.ax_model.specs.declared.place.Place.{Place}
-use Rattle.ax_edition_laws.proofs.CommonParts.{none_below_none, same_test}
+use Rattle.ax_format.specs.At.{value_at, nth_value, nth_list, slot_value, is_present}
+use Rattle.ax_format.specs.Fitting.{list_count}
+use Rattle.ax_format.specs.Shape.{MembersShape, PartsShape}
+use Rattle.ax_format.specs.Tree.{MembersTree, no_members, member_and, named, spare, ValueTree, number, member_values, part_values, occurrences, content_octets, marked, ValuesTree, no_values, value_and, value_count, ListsTree, no_lists, list_and, EntriesTree}
+use Rattle.ax_format.specs.declared.place.Place.{Place}
+use Rattle.ax_relation.proofs.CommonParts.{none_below_none, same_test}
 
 -- ---- steps after others
 

@@ -4,18 +4,18 @@ use Rattle.std.specs.Prelude.{codes}
 use Rattle.ax_bits.specs.Bits.{AreOctets}
 use Rattle.ax_block_reader.specs.BlockTexts.{IsBlockOf, block_texts, canonical_length, Spells}
 use Rattle.ax_build_work.specs.BuildCommand.{build_command, by_tokens, deepest, IsBuiltOf}
-use Rattle.ax_line_stream.specs.Commands.{gives}
-use Rattle.ax_model.proofs.CanonFramed.{length-framed}
-use Rattle.ax_model.specs.Blocks.{BlockTree, opaque_block}
-use Rattle.ax_model.specs.CanonicalOctets.{canon_over, framed}
-use Rattle.ax_model.specs.Paths.{three_digits}
-use Rattle.ax_model.specs.Specification.{SpecTree, spec_of}
-use Rattle.ax_model.specs.Streams.{FitsOver}
+use Rattle.ax_lines.specs.Commands.{gives}
+use Rattle.ax_format.proofs.CanonFramed.{length-framed}
+use Rattle.ax_format.specs.Blocks.{BlockTree, opaque_block}
+use Rattle.ax_format.specs.CanonicalOctets.{canon_over, framed}
+use Rattle.ax_format.specs.Paths.{three_digits}
+use Rattle.ax_format.specs.Specification.{SpecTree, spec_of}
+use Rattle.ax_format.specs.Streams.{FitsOver}
 use Rattle.ax_text.proofs.WordTokens.{IsWord, category_word, opaque_is_word, hex_token}
 use Rattle.ax_text.specs.BlockText.{OpaqueText, spaced_texts}
 use Rattle.ax_text.specs.Tokens.{kind_of, printed_tokens, TextOver}
 use Rattle.ax_text.specs.ValueText.{Texts, hex_text}
-use Rattle.ax_token_reader.specs.Stopping.{texts_of}
+use Rattle.ax_tokens.specs.Stopping.{texts_of}
 use Rattle.ax_tokens.proofs.Levels.{keeps_within}
 use Rattle.ax_tokens.proofs.Printed.{printed_text}
 use Rattle.ax_tokens.specs.Depth.{level_after, KeepsWithin}

@@ -1,8 +1,8 @@
 -- Places of members, and how many members there are.
 use Rattle.std.specs.Prelude.{ℕ, zero, suc, List, [], ◌∷◌, ◌++◌, Option}
-use Rattle.ax_model.specs.At.{value_at}
-use Rattle.ax_model.specs.Tree.{MembersTree, no_members, member_and, ValueTree, marked, EntriesTree}
-use Rattle.ax_model.specs.declared.place.Place.{Place}
+use Rattle.ax_format.specs.At.{value_at}
+use Rattle.ax_format.specs.Tree.{MembersTree, no_members, member_and, ValueTree, marked, EntriesTree}
+use Rattle.ax_format.specs.declared.place.Place.{Place}
 
 -- what stands at the place in a record
 abbrev pub standing : EntriesTree → Place → Option ValueTree

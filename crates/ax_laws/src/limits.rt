@@ -4,16 +4,16 @@ ghost use Rattle.std.specs.Prelude.{◌≡◌, ℕ, ◌<◌, ◌≤◌, List, le
 ghost use Rattle.ax_app.specs.Jobs.{IsReady};
 ghost use Rattle.ax_app.specs.Running.{TakesMemory};
 ghost use Rattle.ax_blocks.specs.Taking.{IsUnfinished};
-ghost use Rattle.ax_drive.specs.Ends.{IsOfMigration};
-ghost use Rattle.ax_drive.specs.declared.end.DriveEnd.TheVariants as DriveEndOf;
+ghost use Rattle.ax_app.specs.Ends.{IsOfMigration};
+ghost use Rattle.ax_app.specs.declared.end.DriveEnd.TheVariants as DriveEndOf;
 ghost use Rattle.ax_grammar.specs.Rules.{width_at};
-ghost use Rattle.ax_line_stream.specs.Ending as Lines;
-ghost use Rattle.ax_model.specs.CanonicalOctets.{framed};
-ghost use Rattle.ax_model.specs.Framing.{len_of};
-ghost use Rattle.ax_model.specs.Sizes.{longest_block};
-ghost use Rattle.ax_model.specs.Specification.{SpecTree};
+ghost use Rattle.ax_lines.specs.Ending as Lines;
+ghost use Rattle.ax_format.specs.CanonicalOctets.{framed};
+ghost use Rattle.ax_format.specs.Framing.{len_of};
+ghost use Rattle.ax_format.specs.Sizes.{longest_block};
+ghost use Rattle.ax_format.specs.Specification.{SpecTree};
 ghost use Rattle.ax_outside.specs.Changes.{LibraryCounts, IsUnasked};
-ghost use Rattle.ax_stream.specs.Ending as Blocks;
+ghost use Rattle.ax_blocks.specs.Ending as Blocks;
 ghost use Rattle.ax_vectors.specs.Made.{block_of};
 ghost use Rattle.ax_words.specs.Words.{IsInBounds};
 ghost use Rattle.ax_words.specs.declared.line.Line.TheVariants as LineOf;
@@ -29,10 +29,14 @@ pub fn longest_inputs()
 
 /// An expression of `filter` has at most 2^31 octets, for the words that have a shape and for the job over its files alike.
 pub fn longest_expression()
-    ensures of_words { (expression : List ℕ) (files : List (List ℕ)) → length expression ≤ 2147483648 → 0 < length files → IsInBounds (LineOf.Filter expression files) }
-    ensures words_most { (expression : List ℕ) (files : List (List ℕ)) → IsInBounds (LineOf.Filter expression files) → length expression ≤ 2147483648 }
-    ensures of_job { (expression : List ℕ) (files : List (List ℕ)) (specs : List SpecTree) → length expression ≤ 2147483648 → IsReady (LineOf.Filter expression files) specs }
-    ensures job_most { (expression : List ℕ) (files : List (List ℕ)) (specs : List SpecTree) → IsReady (LineOf.Filter expression files) specs → length expression ≤ 2147483648 }
+    ensures of_words { (expression : List ℕ) (files : List (List ℕ)) → length expression ≤ 2147483648 → 0 < length files
+        → IsInBounds (LineOf.Filter expression files) }
+    ensures words_most { (expression : List ℕ) (files : List (List ℕ)) → IsInBounds (LineOf.Filter expression files)
+        → length expression ≤ 2147483648 }
+    ensures of_job { (expression : List ℕ) (files : List (List ℕ)) (specs : List SpecTree) → length expression ≤ 2147483648
+        → IsReady (LineOf.Filter expression files) specs }
+    ensures job_most { (expression : List ℕ) (files : List (List ℕ)) (specs : List SpecTree)
+        → IsReady (LineOf.Filter expression files) specs → length expression ≤ 2147483648 }
 {}
 
 /// The width of an element has at most nine digits.

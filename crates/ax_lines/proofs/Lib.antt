@@ -1,7 +1,13 @@
+pub mod AnswersOnce
+pub mod Begins
 pub mod FirstFeeds
+pub mod FrontLines
 pub mod Judged
+pub mod LineSteps
 pub mod LinedOnce
-pub mod LinedThere
 pub mod NextLines
 pub mod Plain
+pub mod Results
+pub mod Running
 pub mod Steps
+pub mod TakenLines

@@ -1,6 +1,12 @@
+pub mod Commands
+pub mod Completing
+pub mod Ending
 pub mod Feeds
 pub mod Holding
 pub mod Judging
 pub mod Lined
 pub mod Reader
+pub mod Runs
+pub mod Standing
+pub mod Taking
 pub mod Window

@@ -2,7 +2,7 @@
 use Rattle.std.proofs.Common.{◌≡◌, ◌≢◌, ℕ, ◌+◌, ◌<◌, ◌≤◌, ◌⊎◌, inl, inr, List, [], ◌∷◌, ◌++◌, Bool, IsTrue, Option, Some, None, IsSome, length, append_assoc, append-nil, refl, sym, ◌∙◌, ap, subst, arith}
 use Rattle.ax_outside.specs.Files.{File, octets_of, Lacks, Exceeds}
 use Rattle.ax_outside.specs.Told.{Rose}
-use Rattle.ax_model.specs.Specification.{SpecTree, spec_of}
+use Rattle.ax_format.specs.Specification.{SpecTree, spec_of}
 use Rattle.ax_tokens.proofs.Once.{no_bad_byte, none_too_deep, bad_byte_once, too_deep_once, one_kind}
 use Rattle.ax_load.specs.declared.fault.LoadStop.{LoadStop}
 use Rattle.ax_load.specs.declared.fault.LoadStop.TheVariants as LoadStopOf

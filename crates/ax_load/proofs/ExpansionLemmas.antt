@@ -13,7 +13,7 @@ use Rattle.ax_load.specs.declared.fault.LoadStop.{LoadStop}
 use Rattle.ax_load.specs.declared.fault.LoadStop.TheVariants.{SpecRefused}
 use Rattle.ax_load.specs.declared.fault.SpecFault.{SpecFault}
 use Rattle.ax_load.specs.declared.files.FileStop.{FileStop}
-use Rattle.ax_model.specs.declared.flaw.Flaw.{Flaw}
+use Rattle.ax_format.specs.declared.flaw.Flaw.{Flaw}
 use Rattle.ax_outside.specs.Changes.{LibraryCounts}
 use Rattle.ax_outside.specs.Files.{File, HoldsFile}
 use Rattle.ax_outside.specs.Told.{number_after}

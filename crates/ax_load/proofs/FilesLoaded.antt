@@ -4,9 +4,9 @@ use Rattle.ax_outside.specs.Files.{File}
 use Rattle.ax_check.specs.Adding.{WhyRefused}
 use Rattle.ax_check.specs.declared.catalogue.AddError.{AddError}
 use Rattle.ax_check.specs.declared.catalogue.AddError.TheVariants as AddErrorOf
-use Rattle.ax_model.specs.Plain.{spec_tree, catalogue_tree}
-use Rattle.ax_model.specs.Specification.{spec_of}
-use Rattle.ax_model.specs.declared.spec.Spec.{Spec}
+use Rattle.ax_format.specs.Plain.{spec_tree, catalogue_tree}
+use Rattle.ax_format.specs.Specification.{spec_of}
+use Rattle.ax_format.specs.declared.spec.Spec.{Spec}
 use Rattle.ax_outside.specs.Changes.{LibraryCounts}
 use Rattle.ax_load.specs.Languages.{category_files}
 use Rattle.ax_load.specs.Loading.{GivesSpec, StopsAtFile, EndsAtFile, FilesEnd, by_file, by_category}

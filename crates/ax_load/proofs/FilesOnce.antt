@@ -2,7 +2,7 @@
 use Rattle.std.proofs.Common.{◌≡◌, ℕ, ◌≤◌, ◌⊎◌, inl, inr, List, [], ◌∷◌, ◌++◌, Bool, IsTrue, Option, Some, None, IsSome, length, append_assoc, append-nil, refl, sym, ◌∙◌, ap, subst, arith}
 use Rattle.ax_outside.specs.Files.{File, octets_of, Lacks, IsLonger, Exceeds}
 use Rattle.ax_outside.specs.Told.{Rose}
-use Rattle.ax_model.specs.Specification.{SpecTree, spec_of}
+use Rattle.ax_format.specs.Specification.{SpecTree, spec_of}
 use Rattle.ax_tokens.specs.PlainToken.{PlainToken}
 use Rattle.ax_tokens.proofs.Once.{tokens_once, no_bad_byte, none_too_deep}
 use Rattle.ax_grammar.proofs.BadTokens.{bad_token_once, bad_spells_none}

@@ -5,7 +5,7 @@ use Rattle.ax_outside.proofs.Ends.{Rose-later}
 use Rattle.ax_outside.specs.Changes.{LibraryCounts}
 use Rattle.ax_outside.specs.Files.{File, Lacks, TooMany}
 use Rattle.ax_outside.specs.Told.{Rose}
-use Rattle.ax_model.specs.Specification.{SpecTree}
+use Rattle.ax_format.specs.Specification.{SpecTree}
 use Rattle.ax_load.specs.Languages.{Language, category_files}
 use Rattle.ax_load.specs.Loading.{GivesSpec, AreNewAfter, FilesGive, FilesEnd, StopsAtFile, IsRefusedFile, by_file}
 use Rattle.ax_load.specs.declared.fault.LoadStop.{LoadStop}

@@ -5,7 +5,7 @@ use Rattle.ax_load.proofs.TwoFiles.{counts, stops_over, free}
 use Rattle.ax_load.specs.Languages.{category_files, expansion_files}
 use Rattle.ax_load.specs.Loading.{GivesIn, GivesSpec, FilesGive, StopsAtFile, by_file, EitherEnds, first, second}
 use Rattle.ax_load.specs.declared.fault.LoadStop.{LoadStop}
-use Rattle.ax_model.specs.Specification.{SpecTree}
+use Rattle.ax_format.specs.Specification.{SpecTree}
 use Rattle.ax_outside.specs.Changes.{LibraryCounts}
 use Rattle.ax_outside.specs.Files.{File}
 

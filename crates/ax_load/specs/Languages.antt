@@ -3,9 +3,9 @@ use Rattle.std.specs.Prelude.{◌≡◌, ℕ, List}
 use Rattle.ax_expand.specs.Expansion.{ExpansionTree, expansion_flaws}
 use Rattle.ax_expand.specs.Files.{SpellsExpansion, NamesBadExpansionToken}
 use Rattle.ax_grammar.specs.Answers.{SpellsSpec, NamesBadToken}
-use Rattle.ax_model.specs.Flaws.{flaws_of}
-use Rattle.ax_model.specs.Specification.{SpecTree}
-use Rattle.ax_model.specs.declared.flaw.Flaw.{Flaw}
+use Rattle.ax_format.specs.Flaws.{flaws_of}
+use Rattle.ax_format.specs.Specification.{SpecTree}
+use Rattle.ax_format.specs.declared.flaw.Flaw.{Flaw}
 use Rattle.ax_tokens.specs.PlainToken.{PlainToken}
 
 -- which tokens spell which tree, which token is the first bad one, and the flaws of a tree

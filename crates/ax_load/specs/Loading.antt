@@ -3,7 +3,7 @@ use Rattle.std.specs.Prelude.{◌≡◌, ℕ, ◌⊎◌, List, [], ◌∷◌, �
 use Rattle.ax_outside.specs.Files.{File, HoldsFile, Lacks, TooMany}
 use Rattle.ax_outside.specs.Changes.{LibraryCounts}
 use Rattle.ax_outside.specs.Told.{Rose}
-use Rattle.ax_model.specs.Specification.{SpecTree, spec_of}
+use Rattle.ax_format.specs.Specification.{SpecTree, spec_of}
 use Rattle.ax_load.specs.FileAnswers.{largest_file, IsAcceptedIn, IsRefusedIn}
 use Rattle.ax_load.specs.Languages.{Language, category_files, expansion_files}
 use Rattle.ax_load.specs.declared.fault.LoadStop.{LoadStop}

@@ -4,7 +4,7 @@ ghost use Rattle.ax_expand.specs.Expansion.{expansion_tree};
 ghost use Rattle.ax_load.specs.Counting.{TookFiles, TookAt, TookThrough, UnlessLoadFault};
 ghost use Rattle.ax_load.specs.Languages.{expansion_files};
 ghost use Rattle.ax_load.specs.Loading.{GivesIn, StopsAtFile, FilesGive, EitherEnds};
-ghost use Rattle.ax_model.specs.Plain.{spec_tree};
+ghost use Rattle.ax_format.specs.Plain.{spec_tree};
 ghost use Rattle.ax_outside.specs.Changes.{library_counts};
 
 use crate::expansion_files::read_expansion_file;

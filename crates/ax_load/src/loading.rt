@@ -1,6 +1,6 @@
 //! The category files of a command line, loaded one after another into a catalogue.
 ghost use Rattle.std.specs.Prelude.{◌≡◌, ◌+◌, ◌≤◌, ◌<◌, true, false, [], ◌∷◌, length, IsSome, IfOk, IfErr, OnErr};
-ghost use Rattle.ax_model.specs.Plain.{spec_tree, catalogue_tree};
+ghost use Rattle.ax_format.specs.Plain.{spec_tree, catalogue_tree};
 ghost use Rattle.ax_load.specs.Adding.{stop_of_adding};
 ghost use Rattle.ax_load.specs.Counting.{TookFiles, TookAt, TookThrough, UnlessLoadFault};
 ghost use Rattle.ax_outside.specs.Changes.{IsUnasked, library_counts};

@@ -3,25 +3,25 @@ use Rattle.std.proofs.Common.{◌≡◌, ℕ, ◌+◌, Bool, option_and_then, tr
 use Rattle.std.specs.List.{AllByRecursion}
 use Rattle.ax_relation.specs.Paths.{related_key, related_keys, relation_paths}
 use Rattle.ax_relation.specs.declared.relation.RelationPath.{RelationPath}
-use Rattle.ax_edition_laws.proofs.Distinct.{Distinct}
-use Rattle.ax_edition_laws.proofs.MovedShape.{slot_shape}
-use Rattle.ax_edition_laws.proofs.PresentPaths.{own_there}
-use Rattle.ax_edition_laws.proofs.PlacedPaths.{StandsNamed, all_named, placed_slot_names}
+use Rattle.ax_relation.proofs.Distinct.{Distinct}
+use Rattle.ax_relation.proofs.MovedShape.{slot_shape}
+use Rattle.ax_relation.proofs.PresentPaths.{own_there}
+use Rattle.ax_relation.proofs.PlacedPaths.{StandsNamed, all_named, placed_slot_names}
 use Rattle.ax_migrate.specs.Finding.{path_loss, record_losses, found_losses}
 use Rattle.ax_relation.proofs.PresentAt.{present_named, no_new_place}
 use Rattle.ax_relation.specs.Standing.{is_there}
 use Rattle.ax_migrate.specs.Losing.{loss, losses_from}
 use Rattle.ax_migrate.specs.declared.losing.LossEntry.{LossEntry}
-use Rattle.ax_model.specs.At.{slot_value}
-use Rattle.ax_model.specs.Migrated.{is_lost, Lost}
-use Rattle.ax_model.specs.Named.{Key, part_keys, keys_at, kind_at, entry_at, Named}
-use Rattle.ax_model.specs.Bodies.{RecordShape}
-use Rattle.ax_model.specs.Naming.{slot_named}
-use Rattle.ax_model.specs.Shape.{Shape, EntriesShape}
-use Rattle.ax_model.specs.Placed.{Placed, steps_at, place_from, named_place, placed_paths, has_part_where}
-use Rattle.ax_model.specs.Shared.{are_shared, shared_names, Shared}
-use Rattle.ax_model.specs.Specification.{SpecTree, record_kind, record_slots}
-use Rattle.ax_model.specs.Tree.{MembersTree, KindTree, fixed, extended, counted, by_fx, explicit, compound, SlotsTree, ValueTree, marked, EntriesTree}
+use Rattle.ax_format.specs.At.{slot_value}
+use Rattle.ax_format.specs.Migrated.{is_lost, Lost}
+use Rattle.ax_format.specs.Named.{Key, part_keys, keys_at, kind_at, entry_at, Named}
+use Rattle.ax_format.specs.Bodies.{RecordShape}
+use Rattle.ax_format.specs.Naming.{slot_named}
+use Rattle.ax_format.specs.Shape.{Shape, EntriesShape}
+use Rattle.ax_format.specs.Placed.{Placed, steps_at, place_from, named_place, placed_paths, has_part_where}
+use Rattle.ax_format.specs.Shared.{are_shared, shared_names, Shared}
+use Rattle.ax_format.specs.Specification.{SpecTree, record_kind, record_slots}
+use Rattle.ax_format.specs.Tree.{MembersTree, KindTree, fixed, extended, counted, by_fx, explicit, compound, SlotsTree, ValueTree, marked, EntriesTree}
 
 swapped : (a b : Bool) → (a && b) ≡ (b && a)
 swapped true true = refl

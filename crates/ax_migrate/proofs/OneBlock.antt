@@ -1,15 +1,15 @@
 -- A block has exactly one migrated block.
 use Rattle.std.proofs.Common.{◌≡◌, List, [], ◌∷◌, map, refl, sym, subst}
 use Rattle.std.specs.List.{AllByRecursion}
-use Rattle.ax_edition_laws.proofs.Once.{moved_migrated, migrated_once}
-use Rattle.ax_edition_laws.specs.Moved.{moved_record}
+use Rattle.ax_relation.proofs.Once.{moved_migrated, migrated_once}
+use Rattle.ax_relation.specs.Moved.{moved_record}
 use Rattle.ax_migrate.specs.Migrating.{migrated_block}
-use Rattle.ax_model.specs.Blocks.{BlockTree, read_block, opaque_block, Fits}
-use Rattle.ax_model.specs.Bodies.{RecordShape}
-use Rattle.ax_model.specs.Flaws.{NoFlaw}
-use Rattle.ax_model.specs.Migrated.{EachMigrated, MigratedBlock}
-use Rattle.ax_model.specs.Specification.{SpecTree}
-use Rattle.ax_model.specs.Tree.{EntriesTree}
+use Rattle.ax_format.specs.Blocks.{BlockTree, read_block, opaque_block, Fits}
+use Rattle.ax_format.specs.Bodies.{RecordShape}
+use Rattle.ax_format.specs.Flaws.{NoFlaw}
+use Rattle.ax_format.specs.Migrated.{EachMigrated, MigratedBlock}
+use Rattle.ax_format.specs.Specification.{SpecTree}
+use Rattle.ax_format.specs.Tree.{EntriesTree}
 
 each_is : (old new : SpecTree) (rs ss : List EntriesTree) → NoFlaw new → AllByRecursion (RecordShape old) rs → EachMigrated old new rs ss → ss ≡ map (moved_record old new) rs
 each_is old new [] [] n h m = refl

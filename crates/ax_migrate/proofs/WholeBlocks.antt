@@ -12,19 +12,19 @@ use Rattle.ax_migrate.specs.Finding.{found_losses}
 use Rattle.ax_migrate.specs.Migrating.{records_by, BlockMigrated, losses_of}
 use Rattle.ax_migrate.specs.Moving.{entries_by}
 use Rattle.ax_migrate.specs.declared.losing.LossEntry.{LossEntry}
-use Rattle.ax_model.specs.Blocks.{BlockTree, read_block, opaque_block, Fits}
-use Rattle.ax_model.specs.Bodies.{RecordShape}
-use Rattle.ax_model.specs.OfCode.{BlockFits}
-use Rattle.ax_model.specs.Plain.{spec_tree, records_tree, block_tree}
-use Rattle.ax_model.specs.Specification.{SpecTree, record_slots}
-use Rattle.ax_model.specs.Tree.{EntriesTree}
-use Rattle.ax_model.specs.declared.record.Block.{Block}
-use Rattle.ax_model.specs.declared.record.Block.TheVariants as BlockOf
-use Rattle.ax_model.specs.declared.record.Record.{Record}
-use Rattle.ax_model.specs.declared.spec.Spec.{Spec}
-use Rattle.ax_edition_laws.proofs.DistinctNames.{record_distinct}
-use Rattle.ax_edition_laws.proofs.Once.{moved_migrated}
-use Rattle.ax_model.specs.Migrated.{EachMigrated, MigratedBlock, Migrated}
+use Rattle.ax_format.specs.Blocks.{BlockTree, read_block, opaque_block, Fits}
+use Rattle.ax_format.specs.Bodies.{RecordShape}
+use Rattle.ax_format.specs.OfCode.{BlockFits}
+use Rattle.ax_format.specs.Plain.{spec_tree, records_tree, block_tree}
+use Rattle.ax_format.specs.Specification.{SpecTree, record_slots}
+use Rattle.ax_format.specs.Tree.{EntriesTree}
+use Rattle.ax_format.specs.declared.record.Block.{Block}
+use Rattle.ax_format.specs.declared.record.Block.TheVariants as BlockOf
+use Rattle.ax_format.specs.declared.record.Record.{Record}
+use Rattle.ax_format.specs.declared.spec.Spec.{Spec}
+use Rattle.ax_relation.proofs.DistinctNames.{record_distinct}
+use Rattle.ax_relation.proofs.Once.{moved_migrated}
+use Rattle.ax_format.specs.Migrated.{EachMigrated, MigratedBlock, Migrated}
 
 record_moved : (old new : SpecTree) (moves : List Move) (es : EntriesTree) → map move_tree moves ≡ record_moves old new → RecordShape old es
     → Migrated old new es (entries_by (moves_tree moves) es)

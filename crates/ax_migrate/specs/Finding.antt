@@ -3,7 +3,7 @@ use Rattle.std.specs.Prelude.{ℕ, ◌+◌, ◌&&◌, if◌then◌else◌, is_no
 use Rattle.ax_relation.specs.Standing.{is_there}
 use Rattle.ax_relation.specs.declared.relation.RelationPath.{RelationPath}
 use Rattle.ax_migrate.specs.declared.losing.LossEntry.{LossEntry}
-use Rattle.ax_model.specs.Tree.{EntriesTree}
+use Rattle.ax_format.specs.Tree.{EntriesTree}
 
 abbrev pub path_loss : ℕ → EntriesTree → RelationPath → List LossEntry
 path_loss n es p = if is_none p.new && is_there p.old p.part es then record { record_at = n; path = p.text } ∷ [] else []

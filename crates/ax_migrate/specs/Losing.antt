@@ -1,11 +1,11 @@
 -- What a block loses: the lost keys of its records, which are numbered from 0.
 use Rattle.std.specs.Prelude.{ℕ, ◌+◌, List, [], ◌∷◌, ◌++◌, map, flat_map, codes}
 use Rattle.ax_migrate.specs.declared.losing.LossEntry.{LossEntry}
-use Rattle.ax_model.specs.Blocks.{BlockTree, read_block, opaque_block}
-use Rattle.ax_model.specs.Migrated.{Lost}
-use Rattle.ax_model.specs.Named.{Key, key_text}
-use Rattle.ax_model.specs.Specification.{SpecTree}
-use Rattle.ax_model.specs.Tree.{EntriesTree}
+use Rattle.ax_format.specs.Blocks.{BlockTree, read_block, opaque_block}
+use Rattle.ax_format.specs.Migrated.{Lost}
+use Rattle.ax_format.specs.Named.{Key, key_text}
+use Rattle.ax_format.specs.Specification.{SpecTree}
+use Rattle.ax_format.specs.Tree.{EntriesTree}
 use Rattle.ax_report.specs.Lines.{entry_line}
 
 abbrev pub loss : ℕ → ℕ → Key → LossEntry

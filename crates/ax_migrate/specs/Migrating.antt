@@ -2,17 +2,17 @@
 use Rattle.std.specs.Prelude.{List, map}
 use Rattle.ax_relation.specs.PlainMoves.{moves_tree}
 use Rattle.ax_relation.specs.declared.moves.Move.{Move}
-use Rattle.ax_edition_laws.specs.Moved.{moved_record}
+use Rattle.ax_relation.specs.Moved.{moved_record}
 use Rattle.ax_migrate.specs.Losing.{block_losses}
 use Rattle.ax_migrate.specs.Moving.{entries_by}
 use Rattle.ax_migrate.specs.declared.losing.LossEntry.{LossEntry}
-use Rattle.ax_model.specs.Blocks.{BlockTree, read_block, opaque_block}
-use Rattle.ax_model.specs.Migrated.{MigratedBlock}
-use Rattle.ax_model.specs.Plain.{spec_tree, block_tree}
-use Rattle.ax_model.specs.Specification.{SpecTree}
-use Rattle.ax_model.specs.Tree.{EntriesTree}
-use Rattle.ax_model.specs.declared.record.Block.{Block}
-use Rattle.ax_model.specs.declared.spec.Spec.{Spec}
+use Rattle.ax_format.specs.Blocks.{BlockTree, read_block, opaque_block}
+use Rattle.ax_format.specs.Migrated.{MigratedBlock}
+use Rattle.ax_format.specs.Plain.{spec_tree, block_tree}
+use Rattle.ax_format.specs.Specification.{SpecTree}
+use Rattle.ax_format.specs.Tree.{EntriesTree}
+use Rattle.ax_format.specs.declared.record.Block.{Block}
+use Rattle.ax_format.specs.declared.spec.Spec.{Spec}
 
 -- the one block that is the migrated one (a law of this crate)
 abbrev pub migrated_block : SpecTree → SpecTree → BlockTree → BlockTree

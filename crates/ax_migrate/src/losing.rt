@@ -1,10 +1,10 @@
 //! What a record loses.
 ghost use Rattle.std.specs.Prelude.{◌≡◌, ◌++◌, OnOk};
 ghost use Rattle.ax_migrate.specs.Finding.{path_loss, record_losses};
-ghost use Rattle.ax_model.specs.Plain.{entries_tree, record_tree};
+ghost use Rattle.ax_format.specs.Plain.{entries_tree, record_tree};
 
+use ax_format::{Entries, Record, Text};
 use ax_lists::Sequence;
-use ax_model::{Entries, Record, Text};
 use ax_relation::{RelationPath, RelationPaths, is_there};
 use std::alloc::{AllocError, Global};
 

@@ -2,9 +2,9 @@
 ghost use Rattle.std.specs.Prelude.{◌≡◌, ◌++◌, map, IfOk, OnOk};
 ghost use Rattle.ax_relation.specs.PlainMoves.{move_tree, moves_tree};
 ghost use Rattle.ax_migrate.specs.Moving.{entries_by, move_entries, moved_by};
-ghost use Rattle.ax_model.specs.Plain.{value_tree, entry_tree, entries_tree};
+ghost use Rattle.ax_format.specs.Plain.{value_tree, entry_tree, entries_tree};
 
-use ax_model::{Entries, Entry, Value};
+use ax_format::{Entries, Entry, Value};
 use ax_relation::{Move, Moves, first_copies, value_of};
 use std::alloc::{AllocError, Global};
 

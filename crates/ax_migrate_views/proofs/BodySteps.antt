@@ -13,26 +13,26 @@ use Rattle.ax_migrate.specs.Finding.{record_losses, found_losses}
 use Rattle.ax_migrate.specs.Losing.{lost_line, lost_lines}
 use Rattle.ax_migrate.specs.declared.losing.LossEntry.{LossEntry}
 use Rattle.ax_migrate_views.proofs.GonePaths.{found_more}
-use Rattle.ax_migrate_views.proofs.LaidRuns.{LaidRun, run_first, run_last}
-use Rattle.ax_migrate_views.proofs.ToldLines.{gathers_none, gathers_then, told_same}
-use Rattle.ax_migrate_views.specs.BySlot.{run_octets}
+use Rattle.ax_moves.proofs.LaidRuns.{LaidRun, run_first, run_last}
+use Rattle.ax_moves.proofs.ToldLines.{gathers_none, gathers_then, told_same}
+use Rattle.ax_moves.specs.BySlot.{run_octets}
 use Rattle.ax_migrate_views.specs.Bodies.{body_by, LaysBody, TellsBody}
-use Rattle.ax_migrate_views.specs.Laying.{Gathers, Lays}
-use Rattle.ax_migrate_views.specs.Octets.{canon_by}
-use Rattle.ax_model.proofs.Bounds.{record_bounds}
-use Rattle.ax_model.proofs.Once.{body_once}
-use Rattle.ax_model.specs.Bodies.{RecordsSpell, SpellsBody, FailsBody}
-use Rattle.ax_model.specs.Flaws.{NoFlaw}
-use Rattle.ax_model.specs.Specification.{SpecTree, record_kind, record_slots}
-use Rattle.ax_model.specs.Tree.{EntriesTree, marked}
-use Rattle.ax_model.specs.declared.fault.BodyFault.{BodyFault}
-use Rattle.ax_reader.proofs.Exact.{spelled_at, fault_at}
-use Rattle.ax_reader.specs.Reading.{FailsAt, Gets, kind_read}
-use Rattle.ax_tables.proofs.BareKinds.{stands_record}
-use Rattle.ax_tables.specs.Bare.{bare_kind}
-use Rattle.ax_tables.specs.Standing.{StandsFor}
-use Rattle.ax_tables.specs.Table.{record_kind_at}
-use Rattle.ax_tables.specs.declared.codec.Codec.{Codec}
+use Rattle.ax_moves.specs.Laying.{Gathers, Lays}
+use Rattle.ax_moves.specs.Octets.{canon_by}
+use Rattle.ax_format.proofs.Bounds.{record_bounds}
+use Rattle.ax_format.proofs.Once.{body_once}
+use Rattle.ax_format.specs.Bodies.{RecordsSpell, SpellsBody, FailsBody}
+use Rattle.ax_format.specs.Flaws.{NoFlaw}
+use Rattle.ax_format.specs.Specification.{SpecTree, record_kind, record_slots}
+use Rattle.ax_format.specs.Tree.{EntriesTree, marked}
+use Rattle.ax_format.specs.declared.fault.BodyFault.{BodyFault}
+use Rattle.ax_fspec.proofs.Exact.{spelled_at, fault_at}
+use Rattle.ax_fspec.specs.Reading.{FailsAt, Gets, kind_read}
+use Rattle.ax_codec.proofs.BareKinds.{stands_record}
+use Rattle.ax_codec.specs.Bare.{bare_kind}
+use Rattle.ax_codec.specs.Standing.{StandsFor}
+use Rattle.ax_codec.specs.Table.{record_kind_at}
+use Rattle.ax_codec.specs.declared.codec.Codec.{Codec}
 use Rattle.ax_view.proofs.BodySteps.{fails_of, one_more, record_value, some_records, record_forwards}
 use Rattle.ax_view.specs.Placing.{entries_there}
 use Rattle.ax_view.specs.Values.{value_read, entries_in}

@@ -8,7 +8,7 @@ use Rattle.ax_bits.proofs.Words.{length-bits}
 use Rattle.ax_bits.specs.Bits.{bits}
 use Rattle.ax_canon.proofs.BodyWriting.{some_bits}
 use Rattle.ax_canon.proofs.Patching.{body_shape}
-use Rattle.ax_edition_laws.specs.Moved.{moved_record}
+use Rattle.ax_relation.specs.Moved.{moved_record}
 use Rattle.ax_migrate_views.proofs.MigratedBlocks.{length-moved, moved_shapes}
 use Rattle.ax_migrate_views.proofs.RangeLengths.{lengths_add, three_first}
 use Rattle.ax_migrate_views.proofs.RangeRecords.{shown_spelled, zip_length}
@@ -16,15 +16,15 @@ use Rattle.ax_migrate_views.specs.Blocks.{old_tree, new_tree, IsOfEditions, Lays
 use Rattle.ax_migrate_views.specs.Ranges.{made_of, shown_octets, AreRecordsOf, FitsShown, SpellsOld}
 use Rattle.ax_migrate_views.specs.declared.migrator.Migrator.{Migrator}
 use Rattle.ax_migrate_views.specs.declared.ranges.Fit.{Fit}
-use Rattle.ax_model.proofs.Bounds.{record_bounds}
-use Rattle.ax_model.proofs.SplitFronts.{empty_length}
-use Rattle.ax_model.specs.Blocks.{read_block}
-use Rattle.ax_model.specs.Bodies.{RecordShape, SpellsBody}
-use Rattle.ax_model.specs.CanonicalOctets.{canon_length}
-use Rattle.ax_model.specs.Specification.{SpecTree}
-use Rattle.ax_model.specs.Split.{fit_after, fit_count, fits_within, records_length}
-use Rattle.ax_model.specs.Tree.{EntriesTree}
-use Rattle.ax_tables.specs.declared.codec.Codec.{Codec}
+use Rattle.ax_format.proofs.Bounds.{record_bounds}
+use Rattle.ax_format.proofs.SplitFronts.{empty_length}
+use Rattle.ax_format.specs.Blocks.{read_block}
+use Rattle.ax_format.specs.Bodies.{RecordShape, SpellsBody}
+use Rattle.ax_format.specs.CanonicalOctets.{canon_length}
+use Rattle.ax_format.specs.Specification.{SpecTree}
+use Rattle.ax_format.specs.Split.{fit_after, fit_count, fits_within, records_length}
+use Rattle.ax_format.specs.Tree.{EntriesTree}
+use Rattle.ax_codec.specs.declared.codec.Codec.{Codec}
 use Rattle.ax_view.specs.Views.{IsRecordOf}
 
 -- ---- each of some records

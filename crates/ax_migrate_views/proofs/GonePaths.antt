@@ -4,10 +4,10 @@ use Rattle.std.proofs.lemmas.List.{drop_all}
 use Rattle.ax_relation.specs.declared.relation.RelationPath.{RelationPath}
 use Rattle.ax_migrate.specs.Finding.{path_loss, record_losses, found_losses}
 use Rattle.ax_relation.specs.Standing.{is_there}
-use Rattle.ax_migrate_views.specs.Gone.{gone, gone_of}
-use Rattle.ax_model.proofs.Namings.{from_place}
-use Rattle.ax_model.specs.Tree.{EntriesTree}
-use Rattle.ax_model.specs.declared.place.Place.{Place}
+use Rattle.ax_moves.specs.Gone.{gone, gone_of}
+use Rattle.ax_format.proofs.Namings.{from_place}
+use Rattle.ax_format.specs.Tree.{EntriesTree}
+use Rattle.ax_format.specs.declared.place.Place.{Place}
 
 -- ---- the list of them
 

@@ -4,10 +4,10 @@ use Rattle.std.proofs.lemmas.Bool.{cases_eq}
 use Rattle.std.proofs.lemmas.List.{drop_all, get_or_append_left, get_or_at}
 use Rattle.ax_relation.specs.Moves.{MovesTree}
 use Rattle.ax_migrate_views.specs.Kept.{IsPast, IsPastPart, IsShortSlot, OfEach, ShortStay, StaysShort}
-use Rattle.ax_migrate_views.specs.Lost.{key_path}
-use Rattle.ax_migrate_views.specs.declared.lost.LostKey.{LostKey}
-use Rattle.ax_model.proofs.Namings.{from_place}
-use Rattle.ax_tables.specs.declared.node.Node.{Node}
+use Rattle.ax_moves.specs.Lost.{key_path}
+use Rattle.ax_moves.specs.declared.lost.LostKey.{LostKey}
+use Rattle.ax_format.proofs.Namings.{from_place}
+use Rattle.ax_codec.specs.declared.node.Node.{Node}
 
 -- ---- one key after the other
 

@@ -5,44 +5,44 @@ use Rattle.std.proofs.lemmas.List.{get_or-set_other}
 use Rattle.ax_bits.specs.Bits.{bits}
 use Rattle.ax_fspec.specs.Fields.{MarksSlots}
 use Rattle.ax_fspec.specs.Marks.{IsMarked, common_marks, slots_of}
-use Rattle.ax_model.proofs.CanonSpells.{spells_shape}
-use Rattle.ax_model.specs.At.{slot_value}
-use Rattle.ax_model.specs.Canonical.{canon}
-use Rattle.ax_model.specs.InBounds.{InBounds, SlotsInBounds}
-use Rattle.ax_model.specs.Lengths.{kind_after}
-use Rattle.ax_model.specs.Placed.{has_part, has_part_where}
-use Rattle.ax_model.specs.Reader.{Read, got, failed, after}
-use Rattle.ax_model.specs.Shape.{Shape}
-use Rattle.ax_model.specs.Tree.{KindTree, SlotsTree, no_slots, slot_and, spare_slot, subitem, ValueTree, marked, EntriesTree}
-use Rattle.ax_model.specs.Tree as Tree
-use Rattle.ax_migrate_views.proofs.BareItems.{none_there, unmarked}
-use Rattle.ax_migrate_views.proofs.ItemParts.{few_canon, few_octets}
-use Rattle.ax_migrate_views.proofs.LostRuns.{below_none, below_there, no_loss, record_lost}
-use Rattle.ax_migrate_views.proofs.Slots.{table_kind}
-use Rattle.ax_migrate_views.proofs.SubitemsStay.{RemainsHere, is_few, is_in, those_stay}
-use Rattle.ax_migrate_views.proofs.TellingSteps.{none_shared}
-use Rattle.ax_migrate_views.proofs.ToldLines.{told_nothing}
+use Rattle.ax_format.proofs.CanonSpells.{spells_shape}
+use Rattle.ax_format.specs.At.{slot_value}
+use Rattle.ax_format.specs.Canonical.{canon}
+use Rattle.ax_format.specs.InBounds.{InBounds, SlotsInBounds}
+use Rattle.ax_format.specs.Lengths.{kind_after}
+use Rattle.ax_format.specs.Placed.{has_part, has_part_where}
+use Rattle.ax_format.specs.Reader.{Read, got, failed, after}
+use Rattle.ax_format.specs.Shape.{Shape}
+use Rattle.ax_format.specs.Tree.{KindTree, SlotsTree, no_slots, slot_and, spare_slot, subitem, ValueTree, marked, EntriesTree}
+use Rattle.ax_format.specs.Tree as Tree
+use Rattle.ax_moves.proofs.BareItems.{none_there, unmarked}
+use Rattle.ax_moves.proofs.ItemParts.{few_canon, few_octets}
+use Rattle.ax_moves.proofs.LostRuns.{below_none, below_there, no_loss, record_lost}
+use Rattle.ax_moves.proofs.Slots.{table_kind}
+use Rattle.ax_moves.proofs.SubitemsStay.{RemainsHere, is_few, is_in, those_stay}
+use Rattle.ax_moves.proofs.TellingSteps.{none_shared}
+use Rattle.ax_moves.proofs.ToldLines.{told_nothing}
 use Rattle.ax_migrate.specs.Finding.{record_losses}
 use Rattle.ax_migrate.specs.Losing.{lost_lines}
-use Rattle.ax_migrate_views.specs.BySlot.{ascends, run_octets}
+use Rattle.ax_moves.specs.BySlot.{ascends, run_octets}
 use Rattle.ax_migrate_views.specs.Kept.{HasFew, HasFewThere, IsElsewhere, IsKeptAt, IsKeptRecord, IsPast, IsPastPart, KeepsRecords, OfEach, OthersStay, ShortStay, StaysShort}
-use Rattle.ax_migrate_views.specs.Laying.{Gathers}
-use Rattle.ax_migrate_views.specs.Lost.{AreRuns, LeadsBy, is_below, key_path, key_paths, losses_below}
-use Rattle.ax_migrate_views.specs.Octets.{canon_by, value_canon_by}
-use Rattle.ax_migrate_views.specs.Wholes.{slots_in}
+use Rattle.ax_moves.specs.Laying.{Gathers}
+use Rattle.ax_moves.specs.Lost.{AreRuns, LeadsBy, is_below, key_path, key_paths, losses_below}
+use Rattle.ax_moves.specs.Octets.{canon_by, value_canon_by}
+use Rattle.ax_moves.specs.Wholes.{slots_in}
 use Rattle.ax_migrate_views.specs.declared.kept.KeptSlots.{KeptSlots}
-use Rattle.ax_migrate_views.specs.declared.lost.LostKey.{LostKey}
-use Rattle.ax_reader.proofs.Marking.{field_read, marks_bits}
-use Rattle.ax_reader.specs.Reading.{Gets, entries_at, kind_read}
+use Rattle.ax_moves.specs.declared.lost.LostKey.{LostKey}
+use Rattle.ax_fspec.proofs.Marking.{field_read, marks_bits}
+use Rattle.ax_fspec.specs.Reading.{Gets, entries_at, kind_read}
 use Rattle.ax_relation.specs.Moves.{MovesTree}
 use Rattle.ax_relation.specs.PlainMoves.{moves_tree}
 use Rattle.ax_relation.specs.Standing.{value_below}
 use Rattle.ax_relation.specs.declared.moves.Move.{Move}
 use Rattle.ax_relation.specs.declared.relation.RelationPath.{RelationPath}
-use Rattle.ax_tables.specs.Meaning.{linked_slots, meanings}
-use Rattle.ax_tables.specs.Table.{kind_at, record_kind_at}
-use Rattle.ax_tables.specs.declared.codec.Codec.{Codec}
-use Rattle.ax_tables.specs.declared.node.Node.{Node}
+use Rattle.ax_codec.specs.Meaning.{linked_slots, meanings}
+use Rattle.ax_codec.specs.Table.{kind_at, record_kind_at}
+use Rattle.ax_codec.specs.declared.codec.Codec.{Codec}
+use Rattle.ax_codec.specs.declared.node.Node.{Node}
 use Rattle.ax_view.proofs.EarlyItems.{not_read}
 use Rattle.ax_view.proofs.ItemSteps.{is_marked}
 use Rattle.ax_view.proofs.Spelled.{value_spelled}

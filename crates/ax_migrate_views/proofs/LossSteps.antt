@@ -11,31 +11,25 @@ use Rattle.ax_migrate.specs.Losing.{lost_line, lost_lines}
 use Rattle.ax_migrate.specs.declared.losing.LossEntry.{LossEntry}
 use Rattle.ax_migrate_views.specs.Losses.{shown_losses, losses_here}
 use Rattle.ax_migrate_views.specs.declared.losses.RecordLosses.{RecordLosses}
-use Rattle.ax_model.proofs.BodyReader.{compound_some}
-use Rattle.ax_model.proofs.Namings.{from_place}
-use Rattle.ax_model.specs.At.{slot_value}
-use Rattle.ax_model.specs.InBounds.{InBounds}
-use Rattle.ax_model.specs.Spelling.{Spells}
-use Rattle.ax_model.specs.Tree.{slots_of, KindTree, ValueTree, marked, EntriesTree}
+use Rattle.ax_format.proofs.BodyReader.{compound_some}
+use Rattle.ax_format.proofs.Namings.{from_place}
+use Rattle.ax_format.specs.At.{slot_value}
+use Rattle.ax_format.specs.InBounds.{InBounds}
+use Rattle.ax_format.specs.Spelling.{Spells}
+use Rattle.ax_format.specs.Tree.{slots_of, KindTree, ValueTree, marked, EntriesTree}
 use Rattle.ax_outside.proofs.Pieces.{change, written_then, failed_before, same_text}
 use Rattle.ax_outside.specs.Changes.{Wrote}
 use Rattle.ax_outside.specs.declared.sinks.SinkFailed.{SinkFailed}
-use Rattle.ax_tables.specs.declared.codec.Codec.{Codec}
-use Rattle.ax_tables.specs.Meaning.{meanings, linked_slots}
-use Rattle.ax_tables.specs.Table.{record_kind_at}
-use Rattle.ax_tables.specs.declared.node.Node.{Node}
+use Rattle.ax_codec.specs.declared.codec.Codec.{Codec}
+use Rattle.ax_codec.specs.Meaning.{meanings, linked_slots}
+use Rattle.ax_codec.specs.Table.{record_kind_at}
+use Rattle.ax_codec.specs.declared.node.Node.{Node}
 use Rattle.ax_view.proofs.ItemSteps.{is_marked}
 use Rattle.ax_view.proofs.Spelled.{value_spelled}
 use Rattle.ax_view.specs.Left.{records_left}
 use Rattle.ax_view.specs.Pieces.{pieces, first_size, ArePieces}
 use Rattle.ax_view.specs.Values.{IsOne, value_in, entries_in}
 use Rattle.ax_view.specs.declared.records.Records.{Records}
-
--- ---- where slot numbers lead
-
-pub leads : (s : ℕ) (steps : List ℕ) (v : ValueTree) → value_below (s ∷ steps) v ≡ option_and_then (value_below steps) (slot_value s (entries_in v))
-leads s steps (marked es) = refl
-leads s steps _ = refl
 
 -- ---- a text that is written piece by piece
 

@@ -9,25 +9,25 @@ use Rattle.ax_canon.proofs.Framing.{framed_bits, octets_long}
 use Rattle.ax_canon.proofs.Patching.{body_shape}
 use Rattle.ax_relation.specs.Moves.{moves_from, record_moves}
 use Rattle.ax_relation.specs.PlainMoves.{moves_tree}
-use Rattle.ax_edition_laws.proofs.Once.{moved_migrated}
-use Rattle.ax_edition_laws.proofs.SmallBlocks.{migrated_is_small}
-use Rattle.ax_edition_laws.specs.Moved.{moved_record}
+use Rattle.ax_relation.proofs.Once.{moved_migrated}
+use Rattle.ax_relation.proofs.SmallBlocks.{migrated_is_small}
+use Rattle.ax_relation.specs.Moved.{moved_record}
 use Rattle.ax_migrate.proofs.OneBlock.{block_is_migrated}
 use Rattle.ax_migrate.specs.Migrating.{migrated_block}
-use Rattle.ax_migrate_views.proofs.MovedCanon.{record_canon_moved}
+use Rattle.ax_moves.proofs.MovedCanon.{record_canon_moved}
 use Rattle.ax_migrate_views.specs.Blocks.{with_head, old_tree, new_tree, IsOfEditions, IsMigratedBlock, LaysMigrated}
 use Rattle.ax_migrate_views.specs.Bodies.{body_by, LaysBody}
-use Rattle.ax_migrate_views.specs.Laying.{Lays}
+use Rattle.ax_moves.specs.Laying.{Lays}
 use Rattle.ax_migrate_views.specs.declared.migrator.Migrator.{Migrator}
-use Rattle.ax_model.proofs.CanonFramed.{length-framed}
-use Rattle.ax_model.proofs.RecordLaws.{flawless_body_canon_spells, body_canon_shortest}
-use Rattle.ax_model.proofs.SpelledBits.{records_bits}
-use Rattle.ax_model.specs.Blocks.{BlockTree, read_block, Fits}
-use Rattle.ax_model.specs.Bodies.{RecordShape, SpellsBody, CanonBody}
-use Rattle.ax_model.specs.CanonicalOctets.{canon_length, octets_of, framed}
-use Rattle.ax_model.specs.Flaws.{NoFlaw}
-use Rattle.ax_model.specs.Specification.{SpecTree}
-use Rattle.ax_model.specs.Tree.{EntriesTree}
+use Rattle.ax_format.proofs.CanonFramed.{length-framed}
+use Rattle.ax_format.proofs.RecordLaws.{flawless_body_canon_spells, body_canon_shortest}
+use Rattle.ax_format.proofs.SpelledBits.{records_bits}
+use Rattle.ax_format.specs.Blocks.{BlockTree, read_block, Fits}
+use Rattle.ax_format.specs.Bodies.{RecordShape, SpellsBody, CanonBody}
+use Rattle.ax_format.specs.CanonicalOctets.{canon_length, octets_of, framed}
+use Rattle.ax_format.specs.Flaws.{NoFlaw}
+use Rattle.ax_format.specs.Specification.{SpecTree}
+use Rattle.ax_format.specs.Tree.{EntriesTree}
 use Rattle.ax_values.proofs.WrittenRecords.{framed_octets, body_octets, body_bits}
 
 -- ---- octets

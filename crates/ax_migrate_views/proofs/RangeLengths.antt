@@ -1,16 +1,16 @@
 -- The canonical block of some records has three octets, and those of each record.
 use Rattle.std.proofs.Common.{◌≡◌, ℕ, ◌+◌, ◌*◌, ◌%◌, ◌<◌, ◌≤◌, List, [], ◌∷◌, ◌++◌, length, refl, sym, ◌∙◌, ap, arith, append_assoc, length-append}
 use Rattle.std.specs.List.{AllByRecursion}
-use Rattle.ax_model.proofs.Bounds.{bounds_sound, bounds_whole}
-use Rattle.ax_model.proofs.CanonFramed.{length-framed}
-use Rattle.ax_model.proofs.CanonSpells.{canon_spells}
-use Rattle.ax_model.proofs.WholeOctets.{spells_whole}
-use Rattle.ax_model.specs.Bodies.{RecordShape, CanonRecord, CanonBody}
-use Rattle.ax_model.specs.CanonicalOctets.{octets_of}
-use Rattle.ax_model.specs.InBounds.{InBounds}
-use Rattle.ax_model.specs.Specification.{SpecTree, record_kind}
-use Rattle.ax_model.specs.Split.{records_length}
-use Rattle.ax_model.specs.Tree.{EntriesTree, marked}
+use Rattle.ax_format.proofs.Bounds.{bounds_sound, bounds_whole}
+use Rattle.ax_format.proofs.CanonFramed.{length-framed}
+use Rattle.ax_format.proofs.CanonSpells.{canon_spells}
+use Rattle.ax_format.proofs.WholeOctets.{spells_whole}
+use Rattle.ax_format.specs.Bodies.{RecordShape, CanonRecord, CanonBody}
+use Rattle.ax_format.specs.CanonicalOctets.{octets_of}
+use Rattle.ax_format.specs.InBounds.{InBounds}
+use Rattle.ax_format.specs.Specification.{SpecTree, record_kind}
+use Rattle.ax_format.specs.Split.{records_length}
+use Rattle.ax_format.specs.Tree.{EntriesTree, marked}
 
 octets_within : (b : List ℕ) → (8 * length (octets_of b) ≤ length b) × (length b < 8 * length (octets_of b) + 8)
 octets_within (a ∷ b ∷ c ∷ d ∷ e ∷ f ∷ g ∷ h ∷ more) = let t = octets_within more in (omega (arith, t.0), omega (arith, t.1))

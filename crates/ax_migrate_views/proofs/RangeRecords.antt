@@ -7,10 +7,10 @@ use Rattle.std.specs.List.{AllZip}
 use Rattle.ax_bits.proofs.Words.{bits-append}
 use Rattle.ax_bits.specs.Bits.{bits}
 use Rattle.ax_migrate_views.specs.Ranges.{shown_octets}
-use Rattle.ax_model.specs.Bodies.{RecordsSpell}
-use Rattle.ax_model.specs.Specification.{SpecTree}
-use Rattle.ax_model.specs.Tree.{EntriesTree}
-use Rattle.ax_tables.specs.declared.codec.Codec.{Codec}
+use Rattle.ax_format.specs.Bodies.{RecordsSpell}
+use Rattle.ax_format.specs.Specification.{SpecTree}
+use Rattle.ax_format.specs.Tree.{EntriesTree}
+use Rattle.ax_codec.specs.declared.codec.Codec.{Codec}
 use Rattle.ax_view.specs.Views.{IsRecordOf}
 
 -- ---- fronts of both lists

@@ -5,8 +5,8 @@ use Rattle.ax_bits.specs.Bits.{bits}
 use Rattle.ax_relation.specs.Paths.{relation_paths}
 use Rattle.ax_relation.specs.declared.relation.RelationPath.{RelationPath}
 use Rattle.ax_canon.proofs.Patching.{body_shape}
-use Rattle.ax_edition_laws.proofs.Distinct.{Distinct}
-use Rattle.ax_edition_laws.proofs.DistinctNames.{record_distinct}
+use Rattle.ax_relation.proofs.Distinct.{Distinct}
+use Rattle.ax_relation.proofs.DistinctNames.{record_distinct}
 use Rattle.ax_migrate.proofs.Found.{all_found, found_is_lost}
 use Rattle.ax_migrate.specs.Finding.{found_losses, record_losses}
 use Rattle.ax_migrate.specs.Losing.{losses_from, lost_lines}
@@ -14,21 +14,21 @@ use Rattle.ax_migrate.specs.declared.losing.LossEntry.{LossEntry}
 use Rattle.ax_migrate_views.proofs.GonePaths.{found_gone}
 use Rattle.ax_migrate_views.specs.Blocks.{old_tree, new_tree, IsOfEditions}
 use Rattle.ax_migrate_views.specs.Bodies.{TellsBody}
-use Rattle.ax_migrate_views.specs.Lost.{key_paths}
+use Rattle.ax_moves.specs.Lost.{key_paths}
 use Rattle.ax_migrate_views.specs.Losses.{shown_entries, shown_losses, LosesEach, TellsLosses, WritesLosses}
 use Rattle.ax_migrate_views.specs.declared.migrator.Migrator.{Migrator}
-use Rattle.ax_model.proofs.Spelled.{read_spelled}
-use Rattle.ax_model.specs.Bodies.{RecordShape}
-use Rattle.ax_model.specs.Reader.{read, got}
-use Rattle.ax_model.specs.Specification.{SpecTree, record_kind}
-use Rattle.ax_model.specs.Tree.{marked, EntriesTree}
+use Rattle.ax_format.proofs.Spelled.{read_spelled}
+use Rattle.ax_format.specs.Bodies.{RecordShape}
+use Rattle.ax_format.specs.Reader.{read, got}
+use Rattle.ax_format.specs.Specification.{SpecTree, record_kind}
+use Rattle.ax_format.specs.Tree.{marked, EntriesTree}
 use Rattle.ax_outside.proofs.Pieces.{change, same_text}
 use Rattle.ax_outside.specs.Changes.{Wrote}
 use Rattle.ax_outside.specs.declared.sinks.SinkFailed.{SinkFailed}
-use Rattle.ax_tables.proofs.BareKinds.{bare_read, stands_record}
-use Rattle.ax_tables.specs.Standing.{StandsFor}
-use Rattle.ax_tables.specs.Table.{record_kind_at}
-use Rattle.ax_tables.specs.declared.codec.Codec.{Codec}
+use Rattle.ax_codec.proofs.BareKinds.{bare_read, stands_record}
+use Rattle.ax_codec.specs.Standing.{StandsFor}
+use Rattle.ax_codec.specs.Table.{record_kind_at}
+use Rattle.ax_codec.specs.declared.codec.Codec.{Codec}
 use Rattle.ax_view.specs.Values.{value_in, value_read, entries_in}
 use Rattle.ax_view.specs.Views.{IsRecordOf, SpellEach}
 

@@ -6,16 +6,16 @@ use Rattle.ax_bits.specs.Out.{Appends}
 use Rattle.ax_bits.specs.declared.output.Out.{Out}
 use Rattle.ax_migrate_views.specs.Blocks.{old_tree, AppendsMigrated, CountsMigrated, HasRoom, IsOfEditions, LaysMigrated}
 use Rattle.ax_migrate_views.specs.declared.migrator.Migrator.{Migrator}
-use Rattle.ax_model.proofs.Once.{body_never_both}
-use Rattle.ax_model.specs.Bodies.{RecordsSpell, SpellsBody}
-use Rattle.ax_model.specs.Flaws.{NoFlaw}
-use Rattle.ax_model.specs.Sizes.{longest_block}
-use Rattle.ax_model.specs.Specification.{SpecTree}
-use Rattle.ax_model.specs.Tree.{EntriesTree}
-use Rattle.ax_model.specs.declared.fault.BodyFault.{BodyFault}
-use Rattle.ax_tables.specs.Standing.{StandsFor}
-use Rattle.ax_tables.specs.Table.{record_kind_at}
-use Rattle.ax_tables.specs.declared.codec.Codec.{Codec}
+use Rattle.ax_format.proofs.Once.{body_never_both}
+use Rattle.ax_format.specs.Bodies.{RecordsSpell, SpellsBody}
+use Rattle.ax_format.specs.Flaws.{NoFlaw}
+use Rattle.ax_format.specs.Sizes.{longest_block}
+use Rattle.ax_format.specs.Specification.{SpecTree}
+use Rattle.ax_format.specs.Tree.{EntriesTree}
+use Rattle.ax_format.specs.declared.fault.BodyFault.{BodyFault}
+use Rattle.ax_codec.specs.Standing.{StandsFor}
+use Rattle.ax_codec.specs.Table.{record_kind_at}
+use Rattle.ax_codec.specs.declared.codec.Codec.{Codec}
 use Rattle.ax_view.proofs.BodySteps.{some_records}
 use Rattle.ax_view.proofs.Spelled.{record_spelled}
 use Rattle.ax_view.specs.Pieces.{ArePieces, first_size}

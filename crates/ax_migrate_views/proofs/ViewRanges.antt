@@ -7,20 +7,20 @@ use Rattle.ax_bits.specs.Bits.{bits}
 use Rattle.ax_bits.specs.Out.{Appends}
 use Rattle.ax_bits.specs.declared.output.Out.{Out}
 use Rattle.ax_canon.proofs.BodyWriting.{some_bits}
-use Rattle.ax_edition_laws.specs.Moved.{moved_record}
+use Rattle.ax_relation.specs.Moved.{moved_record}
 use Rattle.ax_migrate_views.proofs.RangeRecords.{range_is, shown_fewer, shown_spelled, zip_drop, zip_length, zip_take}
 use Rattle.ax_migrate_views.proofs.ViewBlocks.{view_spells}
 use Rattle.ax_migrate_views.specs.Blocks.{old_tree, new_tree, IsOfEditions, LaysMigrated}
 use Rattle.ax_migrate_views.specs.Ranges.{made_of, made_from, made_range, shown_octets, AppendsRange, AreRecordsOf, FitsFrom, FitsShown, HasRange, HasRecords, LaysRange, SpellsOld, SpellsRange}
 use Rattle.ax_migrate_views.specs.declared.migrator.Migrator.{Migrator}
 use Rattle.ax_migrate_views.specs.declared.ranges.Fit.{Fit}
-use Rattle.ax_model.specs.Blocks.{read_block}
-use Rattle.ax_model.specs.Bodies.{RecordsSpell, SpellsBody}
-use Rattle.ax_model.specs.CanonicalOctets.{canon_block, canon_length}
-use Rattle.ax_model.specs.Split.{fit_count, records_length}
-use Rattle.ax_model.specs.Tree.{EntriesTree}
-use Rattle.ax_tables.specs.Table.{record_kind_at}
-use Rattle.ax_tables.specs.declared.codec.Codec.{Codec}
+use Rattle.ax_format.specs.Blocks.{read_block}
+use Rattle.ax_format.specs.Bodies.{RecordsSpell, SpellsBody}
+use Rattle.ax_format.specs.CanonicalOctets.{canon_block, canon_length}
+use Rattle.ax_format.specs.Split.{fit_count, records_length}
+use Rattle.ax_format.specs.Tree.{EntriesTree}
+use Rattle.ax_codec.specs.Table.{record_kind_at}
+use Rattle.ax_codec.specs.declared.codec.Codec.{Codec}
 use Rattle.ax_view.specs.Pieces.{ArePieces}
 use Rattle.ax_view.specs.Views.{IsRecordOf, SpellEach}
 

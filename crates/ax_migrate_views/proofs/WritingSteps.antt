@@ -7,28 +7,28 @@ use Rattle.ax_migrate.specs.Losing.{lost_line, lost_lines}
 use Rattle.ax_migrate.specs.Finding.{record_losses}
 use Rattle.ax_migrate_views.proofs.GonePaths.{losses_gone}
 use Rattle.ax_migrate_views.proofs.LossSteps.{Front}
-use Rattle.ax_migrate_views.proofs.LostRuns.{lines_split}
-use Rattle.ax_migrate_views.specs.Gone.{gone}
-use Rattle.ax_migrate_views.specs.Laying.{Gathers}
+use Rattle.ax_moves.proofs.LostRuns.{lines_split}
+use Rattle.ax_moves.specs.Gone.{gone}
+use Rattle.ax_moves.specs.Laying.{Gathers}
 use Rattle.ax_migrate.specs.declared.losing.LossEntry.{LossEntry}
 use Rattle.ax_migrate_views.proofs.ToldLosses.{losses_each}
 use Rattle.ax_migrate_views.specs.Blocks.{IsOfEditions, old_tree}
 use Rattle.ax_migrate_views.specs.Losses.{LosesEach, shown_entries, shown_losses}
-use Rattle.ax_migrate_views.specs.Lost.{is_below, key_path, key_paths, losses_below}
+use Rattle.ax_moves.specs.Lost.{is_below, key_path, key_paths, losses_below}
 use Rattle.ax_migrate_views.specs.declared.migrator.Migrator.{Migrator}
-use Rattle.ax_migrate_views.specs.declared.lost.LostKey.{LostKey}
+use Rattle.ax_moves.specs.declared.lost.LostKey.{LostKey}
 use Rattle.ax_outside.proofs.Pieces.{change, same_text}
 use Rattle.ax_outside.specs.Changes.{Wrote}
-use Rattle.ax_model.specs.Bodies.{SpellsBody}
-use Rattle.ax_model.specs.Specification.{SpecTree}
-use Rattle.ax_model.specs.Tree.{ValueTree, EntriesTree}
+use Rattle.ax_format.specs.Bodies.{SpellsBody}
+use Rattle.ax_format.specs.Specification.{SpecTree}
+use Rattle.ax_format.specs.Tree.{ValueTree, EntriesTree}
 use Rattle.ax_view.specs.Views.{IsRecordOf, SpellEach}
 use Rattle.ax_relation.specs.declared.relation.RelationPath.{RelationPath}
-use Rattle.ax_model.specs.declared.fault.BodyFault.{BodyFault}
-use Rattle.ax_reader.specs.Reading.{FailsAt, kind_read}
-use Rattle.ax_tables.specs.Table.{record_kind_at}
-use Rattle.ax_tables.specs.declared.codec.Codec.{Codec}
-use Rattle.ax_tables.specs.declared.node.Node.{Node}
+use Rattle.ax_format.specs.declared.fault.BodyFault.{BodyFault}
+use Rattle.ax_fspec.specs.Reading.{FailsAt, kind_read}
+use Rattle.ax_codec.specs.Table.{record_kind_at}
+use Rattle.ax_codec.specs.declared.codec.Codec.{Codec}
+use Rattle.ax_codec.specs.declared.node.Node.{Node}
 use Rattle.ax_view.specs.Left.{records_left}
 use Rattle.ax_view.specs.Placing.{entries_there}
 use Rattle.ax_view.specs.Values.{IsAll, IsOne, value_in, entries_in}

@@ -6,13 +6,13 @@ use Rattle.ax_bits.specs.declared.output.Out.{Out}
 use Rattle.ax_migrate.specs.Migrating.{migrated_block}
 use Rattle.ax_migrate_views.specs.Editions.{AreEditions}
 use Rattle.ax_migrate_views.specs.declared.migrator.Migrator.{Migrator}
-use Rattle.ax_model.specs.Blocks.{BlockTree, read_block}
-use Rattle.ax_model.specs.Bodies.{SpellsBody}
-use Rattle.ax_model.specs.CanonicalOctets.{canon_block, canon_length}
-use Rattle.ax_model.specs.Plain.{spec_tree}
-use Rattle.ax_model.specs.Sizes.{longest_block}
-use Rattle.ax_model.specs.Specification.{SpecTree}
-use Rattle.ax_model.specs.Tree.{EntriesTree}
+use Rattle.ax_format.specs.Blocks.{BlockTree, read_block}
+use Rattle.ax_format.specs.Bodies.{SpellsBody}
+use Rattle.ax_format.specs.CanonicalOctets.{canon_block, canon_length}
+use Rattle.ax_format.specs.Plain.{spec_tree}
+use Rattle.ax_format.specs.Sizes.{longest_block}
+use Rattle.ax_format.specs.Specification.{SpecTree}
+use Rattle.ax_format.specs.Tree.{EntriesTree}
 
 -- CAT and LEN written over the first three octets
 abbrev pub with_head : ℕ → ℕ → List ℕ → List ℕ

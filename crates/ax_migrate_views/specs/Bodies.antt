@@ -7,15 +7,15 @@ use Rattle.ax_relation.specs.declared.moves.Move.{Move}
 use Rattle.ax_relation.specs.declared.relation.RelationPath.{RelationPath}
 use Rattle.ax_migrate.specs.Finding.{found_losses}
 use Rattle.ax_migrate.specs.Losing.{lost_lines}
-use Rattle.ax_migrate_views.specs.Laying.{Gathers, Lays}
-use Rattle.ax_migrate_views.specs.Octets.{canon_by}
-use Rattle.ax_model.specs.Bodies.{SpellsBody}
-use Rattle.ax_model.specs.Flaws.{NoFlaw}
-use Rattle.ax_model.specs.Specification.{SpecTree, record_kind}
-use Rattle.ax_model.specs.Tree.{marked, EntriesTree}
-use Rattle.ax_tables.specs.Bare.{bare_kind}
-use Rattle.ax_tables.specs.Standing.{StandsFor}
-use Rattle.ax_tables.specs.declared.codec.Codec.{Codec}
+use Rattle.ax_moves.specs.Laying.{Gathers, Lays}
+use Rattle.ax_moves.specs.Octets.{canon_by}
+use Rattle.ax_format.specs.Bodies.{SpellsBody}
+use Rattle.ax_format.specs.Flaws.{NoFlaw}
+use Rattle.ax_format.specs.Specification.{SpecTree, record_kind}
+use Rattle.ax_format.specs.Tree.{marked, EntriesTree}
+use Rattle.ax_codec.specs.Bare.{bare_kind}
+use Rattle.ax_codec.specs.Standing.{StandsFor}
+use Rattle.ax_codec.specs.declared.codec.Codec.{Codec}
 use Rattle.ax_view.specs.Placing.{PlacesKind}
 use Rattle.ax_view.specs.declared.places.Places.{Places}
 

@@ -4,17 +4,17 @@ use mathlib.Core.Path.{sym, ◌∙◌, ap}
 use Rattle.std.specs.Prelude.{◌≡◌, ℕ, zero, suc, ◌+◌, true, false, List, [], ◌∷◌, length, map, drop, unwrap_or, is_none, get_or}
 use Rattle.std.specs.Coded.{Coded-set, coded_ℕ, coded_bool, coded_list, ×_prop, le_prop}
 use Rattle.ax_fspec.specs.Marks.{IsMarked}
-use Rattle.ax_migrate_views.specs.Gone.{gone}
-use Rattle.ax_migrate_views.specs.Lost.{AreLost, AreRuns, FallsWith, IsAmong, KeyRuns, LeadsBy, LeadsInto, OfFirst, RunFits, RunsFit, is_below, key_path, key_paths, place_numbers}
+use Rattle.ax_moves.specs.Gone.{gone}
+use Rattle.ax_moves.specs.Lost.{AreLost, AreRuns, FallsWith, IsAmong, KeyRuns, LeadsBy, LeadsInto, OfFirst, RunFits, RunsFit, is_below, key_path, key_paths, place_numbers}
 use Rattle.ax_migrate_views.specs.MoveSets.{empty_prop, move_list_set, paths_set, sharing_set}
 use Rattle.ax_migrate_views.specs.TreeSets.{slot_list_set}
-use Rattle.ax_migrate_views.specs.declared.lost.LostKey.{LostKey}
-use Rattle.ax_migrate_views.specs.declared.lost.Run.{Run}
-use Rattle.ax_model.specs.Flaws.{NoFlaw, flaws_of}
-use Rattle.ax_model.specs.Plain.{spec_tree}
-use Rattle.ax_model.specs.Specification.{SpecTree}
-use Rattle.ax_model.specs.declared.spec.Spec.{Spec}
-use Rattle.ax_reader.specs.Reading.{record_slot_list}
+use Rattle.ax_moves.specs.declared.lost.LostKey.{LostKey}
+use Rattle.ax_moves.specs.declared.lost.Run.{Run}
+use Rattle.ax_format.specs.Flaws.{NoFlaw, flaws_of}
+use Rattle.ax_format.specs.Plain.{spec_tree}
+use Rattle.ax_format.specs.Specification.{SpecTree}
+use Rattle.ax_format.specs.declared.spec.Spec.{Spec}
+use Rattle.ax_fspec.specs.Reading.{record_slot_list}
 use Rattle.ax_relation.specs.Editions.{AreOf}
 use Rattle.ax_relation.specs.Known.{IsKnown, nothing, said, sharing_at}
 use Rattle.ax_relation.specs.Moves.{record_moves}
@@ -25,10 +25,10 @@ use Rattle.ax_relation.specs.declared.known.Known.{Known}
 use Rattle.ax_relation.specs.declared.moves.Move.{Move}
 use Rattle.ax_relation.specs.declared.relation.Relation.{Relation}
 use Rattle.ax_relation.specs.declared.relation.RelationPath.{RelationPath}
-use Rattle.ax_tables.specs.Bare.{bare_slot, IsTableFor}
-use Rattle.ax_tables.specs.Meaning.{linked_slots, meanings}
-use Rattle.ax_tables.specs.Standing.{IsCompiled, StandsFor}
-use Rattle.ax_tables.specs.declared.codec.Codec.{Codec}
+use Rattle.ax_codec.specs.Bare.{bare_slot, IsTableFor}
+use Rattle.ax_codec.specs.Meaning.{linked_slots, meanings}
+use Rattle.ax_codec.specs.Standing.{IsCompiled, StandsFor}
+use Rattle.ax_codec.specs.declared.codec.Codec.{Codec}
 
 -- the relation is of these two, the codec stands for the old one, and the keys are those without a new place
 pub record AreEditions (old new : Spec) (relation : Relation) (codec : Codec) (keys : List LostKey) : Type 0 where

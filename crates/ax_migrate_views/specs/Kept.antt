@@ -6,21 +6,21 @@ use Rattle.ax_fspec.specs.Marks.{IsMarked}
 use Rattle.ax_relation.specs.Moves.{MovesTree}
 use Rattle.ax_relation.specs.PlainMoves.{moves_tree}
 use Rattle.ax_relation.specs.declared.moves.Move.{Move}
-use Rattle.ax_migrate_views.specs.BySlot.{ascends, StaysInOwn}
-use Rattle.ax_migrate_views.specs.Keeping.{MovesWhole}
-use Rattle.ax_migrate_views.specs.Lost.{is_below, key_path}
-use Rattle.ax_migrate_views.specs.Octets.{canon_by}
-use Rattle.ax_migrate_views.specs.Subitems.{OthersAre}
+use Rattle.ax_moves.specs.BySlot.{ascends, StaysInOwn}
+use Rattle.ax_moves.specs.Keeping.{MovesWhole}
+use Rattle.ax_moves.specs.Lost.{is_below, key_path}
+use Rattle.ax_moves.specs.Octets.{canon_by}
+use Rattle.ax_moves.specs.Subitems.{OthersAre}
 use Rattle.ax_migrate_views.specs.declared.kept.KeptSlots.{KeptSlots}
-use Rattle.ax_migrate_views.specs.declared.lost.LostKey.{LostKey}
-use Rattle.ax_model.specs.At.{slot_value}
-use Rattle.ax_model.specs.Canonical.{canon}
-use Rattle.ax_model.specs.Tree.{marked, EntriesTree}
-use Rattle.ax_model.specs.declared.kind.LastPart.{LastPart}
-use Rattle.ax_tables.specs.Table.{record_kind_at}
-use Rattle.ax_tables.specs.declared.codec.Codec.{Codec}
-use Rattle.ax_tables.specs.declared.node.Node.{Node}
-use Rattle.ax_tables.specs.declared.node.Node.TheVariants as Of
+use Rattle.ax_moves.specs.declared.lost.LostKey.{LostKey}
+use Rattle.ax_format.specs.At.{slot_value}
+use Rattle.ax_format.specs.Canonical.{canon}
+use Rattle.ax_format.specs.Tree.{marked, EntriesTree}
+use Rattle.ax_format.specs.declared.kind.LastPart.{LastPart}
+use Rattle.ax_codec.specs.Table.{record_kind_at}
+use Rattle.ax_codec.specs.declared.codec.Codec.{Codec}
+use Rattle.ax_codec.specs.declared.node.Node.{Node}
+use Rattle.ax_codec.specs.declared.node.Node.TheVariants as Of
 use Rattle.ax_view.specs.Noted.{canon_in}
 use Rattle.ax_view.specs.Placing.{IsMarkedItem}
 use Rattle.ax_view.specs.RecordsAt.{IsRecordAt}

@@ -3,7 +3,7 @@ use mathlib.Core.Path.{sym, ◌∙◌, ap, subst, path_j'}
 use Rattle.std.specs.Prelude.{◌≡◌, ℕ, Bool, List, [], ◌∷◌, Option}
 use Rattle.std.specs.Coded.{Coded, Coded-set, code_by, coded×, coded_ℕ, coded_bool, coded_list, coded_option}
 use Rattle.ax_migrate_views.specs.TreeSets.{IsSetOf, copied_set}
-use Rattle.ax_model.specs.declared.place.Place.{Place}
+use Rattle.ax_format.specs.declared.place.Place.{Place}
 use Rattle.ax_relation.specs.Moves.{MoveTree, move_from, MovesTree, no_moves, move_and}
 use Rattle.ax_relation.specs.declared.known.Sharing.{Sharing}
 use Rattle.ax_relation.specs.declared.relation.RelationPath.{RelationPath}

@@ -4,17 +4,17 @@ use Rattle.std.specs.List.{AllZip}
 use Rattle.ax_bits.specs.Bits.{bits}
 use Rattle.ax_bits.specs.Out.{Appends}
 use Rattle.ax_bits.specs.declared.output.Out.{Out}
-use Rattle.ax_edition_laws.specs.Moved.{moved_record}
+use Rattle.ax_relation.specs.Moved.{moved_record}
 use Rattle.ax_migrate_views.specs.Blocks.{old_tree, new_tree}
 use Rattle.ax_migrate_views.specs.declared.migrator.Migrator.{Migrator}
 use Rattle.ax_migrate_views.specs.declared.ranges.Fit.{Fit}
-use Rattle.ax_model.specs.Blocks.{read_block}
-use Rattle.ax_model.specs.Bodies.{RecordsSpell, SpellsBody}
-use Rattle.ax_model.specs.CanonicalOctets.{canon_block}
-use Rattle.ax_model.specs.Sizes.{longest_block, longest_body}
-use Rattle.ax_model.specs.Split.{fit_count, records_length}
-use Rattle.ax_model.specs.Tree.{EntriesTree}
-use Rattle.ax_tables.specs.declared.codec.Codec.{Codec}
+use Rattle.ax_format.specs.Blocks.{read_block}
+use Rattle.ax_format.specs.Bodies.{RecordsSpell, SpellsBody}
+use Rattle.ax_format.specs.CanonicalOctets.{canon_block}
+use Rattle.ax_format.specs.Sizes.{longest_block, longest_body}
+use Rattle.ax_format.specs.Split.{fit_count, records_length}
+use Rattle.ax_format.specs.Tree.{EntriesTree}
+use Rattle.ax_codec.specs.declared.codec.Codec.{Codec}
 use Rattle.ax_view.specs.Views.{IsRecordOf}
 
 -- the migrated records

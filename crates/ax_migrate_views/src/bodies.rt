@@ -5,24 +5,21 @@ ghost use Rattle.ax_migrate.specs.Finding.{record_losses};
 ghost use Rattle.ax_migrate.specs.Losing.{lost_lines};
 ghost use Rattle.ax_migrate_views.specs.Bodies.{IsRecordPlaced, LaysBody, TellsBody};
 ghost use Rattle.ax_migrate_views.specs.Kept.{KeepsRecords};
-ghost use Rattle.ax_migrate_views.specs.KnownMoves.{KnowsMoves};
-ghost use Rattle.ax_migrate_views.specs.Laying.{Gathers, Lays};
-ghost use Rattle.ax_migrate_views.specs.Lost.{AreRuns, key_paths};
-ghost use Rattle.ax_migrate_views.specs.Octets.{canon_by};
-ghost use Rattle.ax_model.specs.Sizes.{longest_body};
-ghost use Rattle.ax_model.specs.Tree.{marked};
-ghost use Rattle.ax_tables.specs.Table.{record_kind_at};
+ghost use Rattle.ax_moves.specs.KnownMoves.{KnowsMoves};
+ghost use Rattle.ax_moves.specs.Laying.{Gathers, Lays};
+ghost use Rattle.ax_moves.specs.Lost.{AreRuns, key_paths};
+ghost use Rattle.ax_moves.specs.Octets.{canon_by};
+ghost use Rattle.ax_format.specs.Sizes.{longest_body};
+ghost use Rattle.ax_format.specs.Tree.{marked};
+ghost use Rattle.ax_codec.specs.Table.{record_kind_at};
 ghost use Rattle.ax_view.specs.Placing.{entries_there};
 ghost use Rattle.ax_view.specs.Views.{FailsThere, SpellsSome};
 
-use crate::by_slot::SlotMoves;
-use crate::in_order::{lay_moved, lay_run};
 use crate::kept::{KeptSlots, kept_end};
-use crate::lost::LostKey;
-use crate::telling::tell_record;
-use ax_model::BodyFault;
+use ax_codec::Codec;
+use ax_format::BodyFault;
+use ax_moves::{LostKey, SlotMoves, lay_moved, lay_run, tell_record};
 use ax_relation::Moves;
-use ax_tables::Codec;
 use ax_view::{Notes, PlacedSlots, Places, place_record};
 
 /// Lays the record at octet `here` of a body as it moves, and answers how many octets were laid.

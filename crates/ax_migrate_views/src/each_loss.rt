@@ -3,9 +3,9 @@ ghost use Rattle.std.specs.Prelude.{◌≡◌, [], ◌∷◌, IfSome, IfNone};
 ghost use Rattle.std.specs.Iterator.{YieldsFirstBy, item_count};
 ghost use Rattle.ax_migrate_views.specs.Losses.{loss_shown, losses_here, losses_left, losses_of_record};
 
-use crate::leading::is_there;
 use crate::losses::{Losses, RecordLosses};
 use ax_migrate::Loss;
+use ax_moves::is_there;
 
 impl<'m> Iterator for RecordLosses<'m> {
     type Item = Loss<'m>;

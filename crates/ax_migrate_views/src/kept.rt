@@ -2,19 +2,17 @@
 ghost use Rattle.std.specs.Prelude.{◌≡◌, ◌<◌, ◌≤◌, [], ◌∷◌, false, IsTrue, IfOk, IfSome, get_or, length, map};
 ghost use Rattle.ax_relation.specs.PlainMoves.{moves_tree};
 ghost use Rattle.ax_migrate_views.specs.Kept.{HasFewThere, IsElsewhere, IsKeptAt, IsPast, KeepsRecords, OfEach, OthersStay, ShortStay, StaysAll, StaysShort};
-ghost use Rattle.ax_model.specs.Sizes.{longest_body};
+ghost use Rattle.ax_format.specs.Sizes.{longest_body};
 ghost use Rattle.ax_rows.specs.Rows.{AreRows};
-ghost use Rattle.ax_tables.specs.Octets.{octets_of};
-ghost use Rattle.ax_tables.specs.Table.{IsTable, SlotLinksWithin};
+ghost use Rattle.ax_codec.specs.Octets.{octets_of};
+ghost use Rattle.ax_codec.specs.Table.{IsTable, SlotLinksWithin};
 ghost use Rattle.ax_view.specs.InPlace.{EndsField};
 
-use crate::by_slot::{SLOTS, are_ordered, own_move};
-use crate::keeping::keeps;
-use crate::lost::LostKey;
+use ax_codec::{Codec, Node};
 use ax_fspec::{Presence, read_presence};
+use ax_moves::{LostKey, SLOTS, are_ordered, keeps, own_move};
 use ax_relation::{Move, Moves};
 use ax_rows::Rows;
-use ax_tables::{Codec, Node};
 use ax_view::{Notes, marked_item, record_by_rows};
 use std::alloc::{AllocError, Global};
 

@@ -1,6 +1,6 @@
 //! What the records of a view lose, one loss after the other.
 ghost use Rattle.std.specs.Prelude.{◌+◌, ◌≤◌, length};
-ghost use Rattle.ax_model.specs.Sizes.{longest_body};
+ghost use Rattle.ax_format.specs.Sizes.{longest_body};
 ghost use Rattle.ax_view.specs.Left.{records_left};
 
 use ax_relation::{RelationPath, RelationPaths};

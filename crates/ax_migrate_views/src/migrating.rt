@@ -3,19 +3,18 @@ ghost use Rattle.std.specs.Prelude.{◌≡◌, ◌≤◌, length, IfOk, IfErr};
 ghost use Rattle.ax_relation.specs.Relates.{Relates};
 ghost use Rattle.ax_migrate_views.specs.Blocks.{LaysMigrated, new_tree, old_tree, with_head};
 ghost use Rattle.ax_migrate_views.specs.Losses.{TellsLosses};
-ghost use Rattle.ax_model.specs.Plain.{spec_tree};
-ghost use Rattle.ax_model.specs.Sizes.{longest_body};
-ghost use Rattle.ax_tables.specs.Standing.{IsCompiled};
+ghost use Rattle.ax_format.specs.Plain.{spec_tree};
+ghost use Rattle.ax_format.specs.Sizes.{longest_body};
+ghost use Rattle.ax_codec.specs.Standing.{IsCompiled};
 ghost use Rattle.ax_view.specs.Views.{FailsThere, SpellsSome};
 
 use crate::bodies::{Laid, lay_body};
-use crate::by_slot::know_moves;
 use crate::kept::kept_slots;
-use crate::lost::lost_keys;
 use crate::migrator::Migrator;
-use ax_model::{BodyFault, Spec};
+use ax_codec::Codec;
+use ax_format::{BodyFault, Spec};
+use ax_moves::{know_moves, lost_keys};
 use ax_relation::Relation;
-use ax_tables::Codec;
 use std::alloc::{AllocError, Global};
 
 /// Writes CAT and LEN over the first three octets.

@@ -1,14 +1,13 @@
 //! What blocks are migrated by.
 ghost use Rattle.ax_migrate_views.specs.Editions.{AreEditions, AreEditions-prop};
 ghost use Rattle.ax_migrate_views.specs.Kept.{KeepsRecords, KeepsRecords-prop};
-ghost use Rattle.ax_migrate_views.specs.KnownMoves.{KnowsMoves, KnowsMoves-prop};
+ghost use Rattle.ax_moves.specs.KnownMoves.{KnowsMoves, KnowsMoves-prop};
 
-use crate::by_slot::SlotMoves;
 use crate::kept::KeptSlots;
-use crate::lost::LostKey;
-use ax_model::Spec;
+use ax_codec::Codec;
+use ax_format::Spec;
+use ax_moves::{LostKey, SlotMoves};
 use ax_relation::Relation;
-use ax_tables::Codec;
 
 /// Migration from one edition to another, by the relation of the two and the codec of the old one: each is of these editions.
 /// Memory is taken when it is made, and none for a block.

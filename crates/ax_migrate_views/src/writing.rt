@@ -2,19 +2,17 @@
 ghost use Rattle.std.specs.Prelude.{◌≡◌, length};
 ghost use Rattle.ax_migrate.specs.Finding.{record_losses};
 ghost use Rattle.ax_migrate.specs.Losing.{lost_lines};
-ghost use Rattle.ax_migrate_views.specs.Lost.{AreRuns, key_paths, losses_below};
-ghost use Rattle.ax_migrate_views.specs.Wholes.{whole_entries};
-ghost use Rattle.ax_model.specs.Tree.{marked};
+ghost use Rattle.ax_moves.specs.Lost.{AreRuns, key_paths, losses_below};
+ghost use Rattle.ax_moves.specs.Wholes.{whole_entries};
+ghost use Rattle.ax_format.specs.Tree.{marked};
 ghost use Rattle.ax_outside.specs.Changes.{Wrote, sink_change};
 ghost use Rattle.ax_view.specs.Placing.{IsPlaced};
 ghost use Rattle.ax_view.specs.Shown.{record_entries};
 
-use crate::laying::LONGEST;
-use crate::lost::LostKey;
-use crate::telling::tell_keys;
+use ax_codec::Codec;
 use ax_migrate::{Loss, loss_line};
+use ax_moves::{LONGEST, LostKey, tell_keys};
 use ax_outside::{Sink, SinkFailed, write_text};
-use ax_tables::Codec;
 use ax_view::{Notes, PlacedSlots, Places, RecordView, place_record};
 
 /// Writes the lines of the keys that the record of that number loses: as one piece where they can be kept, and else those of

@@ -1,12 +1,12 @@
 -- The worked examples of framing and of the ends of an input.
 use Rattle.std.proofs.Common.{◌≡◌, ℕ, List, [], ◌∷◌, refl, lit<, arith, ap}
-use Rattle.ax_model.proofs.EndsOnce.{ends_once}
-use Rattle.ax_model.proofs.FramedOnce.{framed_once}
+use Rattle.ax_format.proofs.EndsOnce.{ends_once}
+use Rattle.ax_format.proofs.FramedOnce.{framed_once}
 use Rattle.ax_model.proofs.WorkedExamples.{second_record}
-use Rattle.ax_model.specs.Ends.{InputEnd, by_framing, by_body, Ends}
-use Rattle.ax_model.specs.Examples.{small}
-use Rattle.ax_model.specs.Framing.{RawTree, FramingEnd, whole, input_too_long, ends_in_header, bad_len, ends_in_block, Framed}
-use Rattle.ax_model.specs.declared.fault.BodyCause.TheVariants.{UndefinedSlot}
+use Rattle.ax_format.specs.Ends.{InputEnd, by_framing, by_body, Ends}
+use Rattle.ax_format.specs.Examples.{small}
+use Rattle.ax_format.specs.Framing.{RawTree, FramingEnd, whole, input_too_long, ends_in_header, bad_len, ends_in_block, Framed}
+use Rattle.ax_format.specs.declared.fault.BodyCause.TheVariants.{UndefinedSlot}
 
 abbrev bit_of : FramingEnd → ℕ
 bit_of (ends_in_header bit) = bit

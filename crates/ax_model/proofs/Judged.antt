@@ -2,21 +2,21 @@
 use Rattle.std.proofs.Common.{◌≡◌, ℕ, ◌<◌, ◌≤◌, ◌⊎◌, inl, inr, List, ◌++◌, length, take, drop, sym, ◌∙◌, ap, arith, take-append-drop, length-take-le, subst}
 use Rattle.ax_bits.proofs.Words.{bits-append, length-bits}
 use Rattle.ax_bits.specs.Bits.{bits}
-use Rattle.ax_model.proofs.Bounds.{standing_bounds, bounds_sound, bounds_whole, record_bounds}
+use Rattle.ax_format.proofs.Bounds.{standing_bounds, bounds_sound, bounds_whole, record_bounds}
 use Rattle.ax_model.proofs.Fronts.{octets_spelled_or_fails}
-use Rattle.ax_model.proofs.Once.{fails_once, never_both, body_spelled_or_fails, body_once, body_fails_once, body_never_both}
-use Rattle.ax_model.proofs.PrefixFree.{prefix_free}
-use Rattle.ax_model.specs.Bodies.{FailsRecord, SpellsBody, FailsBody}
-use Rattle.ax_model.specs.Failing.{Fails}
-use Rattle.ax_model.specs.Flaws.{NoFlaw}
+use Rattle.ax_format.proofs.Once.{fails_once, never_both, body_spelled_or_fails, body_once, body_fails_once, body_never_both}
+use Rattle.ax_format.proofs.PrefixFree.{prefix_free}
+use Rattle.ax_format.specs.Bodies.{FailsRecord, SpellsBody, FailsBody}
+use Rattle.ax_format.specs.Failing.{Fails}
+use Rattle.ax_format.specs.Flaws.{NoFlaw}
 use Rattle.ax_model.specs.Judging.{FrontSpells, IsJudgedOnce, FrontSpellsRecord}
-use Rattle.ax_model.specs.Sound.{Sound}
-use Rattle.ax_model.specs.Specification.{SpecTree, record_kind}
-use Rattle.ax_model.specs.Spelling.{Spells}
-use Rattle.ax_model.specs.Standing.{StandsIn}
-use Rattle.ax_model.specs.Tree.{KindTree, ValueTree, EntriesTree, marked}
-use Rattle.ax_model.specs.Whole.{Whole}
-use Rattle.ax_model.specs.declared.fault.BodyCause.{BodyCause}
+use Rattle.ax_format.specs.Sound.{Sound}
+use Rattle.ax_format.specs.Specification.{SpecTree, record_kind}
+use Rattle.ax_format.specs.Spelling.{Spells}
+use Rattle.ax_format.specs.Standing.{StandsIn}
+use Rattle.ax_format.specs.Tree.{KindTree, ValueTree, EntriesTree, marked}
+use Rattle.ax_format.specs.Whole.{Whole}
+use Rattle.ax_format.specs.declared.fault.BodyCause.{BodyCause}
 
 bits_front : (n : ℕ) (xs : List ℕ) → bits (take n xs) ++ bits (drop n xs) ≡ bits xs
 bits_front n xs = sym (bits-append (take n xs) (drop n xs)) ∙ ap bits (take-append-drop n xs)

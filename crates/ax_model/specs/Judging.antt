@@ -1,11 +1,11 @@
 -- What is spelled once or fails once.
 use Rattle.std.specs.Prelude.{◌≡◌, ℕ, ◌≤◌, ◌⊎◌, List, length, take}
 use Rattle.ax_bits.specs.Bits.{bits}
-use Rattle.ax_model.specs.Bodies.{SpellsRecord}
-use Rattle.ax_model.specs.Specification.{SpecTree}
-use Rattle.ax_model.specs.Spelling.{Spells}
-use Rattle.ax_model.specs.Tree.{KindTree, ValueTree, EntriesTree}
-use Rattle.ax_model.specs.declared.fault.BodyCause.{BodyCause}
+use Rattle.ax_format.specs.Bodies.{SpellsRecord}
+use Rattle.ax_format.specs.Specification.{SpecTree}
+use Rattle.ax_format.specs.Spelling.{Spells}
+use Rattle.ax_format.specs.Tree.{KindTree, ValueTree, EntriesTree}
+use Rattle.ax_format.specs.declared.fault.BodyCause.{BodyCause}
 
 -- one thing is spelled, or there is one place and cause of a fault, and never both
 pub record IsJudgedOnce {A : Type 0} (S : A → Type 0) (F : ℕ → BodyCause → Type 0) : Type 0 where

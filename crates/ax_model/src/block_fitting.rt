@@ -1,16 +1,13 @@
 //! Whether a block fits a specification. Nothing here takes memory.
 ghost use Rattle.std.specs.Prelude.{◌≡◌, ◌+◌, ◌↔◌, MatchOption, IsTrue, false, map};
 ghost use Rattle.std.specs.List.{list_all};
-ghost use Rattle.ax_model.specs.Fitting.{entries_fit};
-ghost use Rattle.ax_model.specs.OfCode.{BlockFits, record_fits};
-ghost use Rattle.ax_model.specs.Plain.{entries_tree, item_tree};
-ghost use Rattle.ax_model.specs.Specification.{uap_slot};
-ghost use Rattle.ax_model.specs.Tree.{SlotsTree, slot_and};
+ghost use Rattle.ax_format.specs.Fitting.{entries_fit};
+ghost use Rattle.ax_format.specs.OfCode.{BlockFits, record_fits};
+ghost use Rattle.ax_format.specs.Plain.{entries_tree, item_tree};
+ghost use Rattle.ax_format.specs.Specification.{uap_slot};
+ghost use Rattle.ax_format.specs.Tree.{SlotsTree, slot_and};
 
-use crate::fitting::fits_kind;
-use crate::record::{Block, Record};
-use crate::spec::{Spec, UapSlot};
-use crate::value::Entry;
+use ax_format::{Block, Entry, Record, Spec, UapSlot, fits_kind};
 
 /// The entries after the one of this slot of the UAP, if there is one. None comes where that doesn't fit.
 fn after_slot<'e>(
@@ -65,7 +62,7 @@ fn fits_records(spec: &Spec, records: &[Record]) -> bool
 
 /// Whether the block fits the specification: it is of the specification's category and has one or more records
 /// of its shape; or it is opaque, of another category, and has one or more octets.
-#[tactic(auto, using(crate::proofs::RecordFitting::blocks))]
+#[tactic(auto, using(ax_format::proofs::RecordFitting::blocks))]
 pub fn fits(spec: &Spec, block: &Block) -> bool
     ensures { IsTrue result ↔ BlockFits spec.now block.now }
 {

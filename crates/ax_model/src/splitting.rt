@@ -1,19 +1,21 @@
 //! Records split into data blocks: worked examples, and the laws. Each function stands for what its contract says.
 ghost use Rattle.std.specs.Prelude.{◌≡◌, ℕ, ◌<◌, ◌≤◌, List, [], ◌∷◌, length, take, drop, None, Some, codes};
-ghost use Rattle.ax_model.specs.EditionExamples.{octet_of, one_item};
-ghost use Rattle.ax_model.specs.LongestFronts.{AllFit, AreLongestFronts, IsLongestFront, joined_lists};
-ghost use Rattle.ax_model.specs.Specification.{SpecTree};
-ghost use Rattle.ax_model.specs.Split.{EachFits, fit_within, records_length, split_within, too_long_within};
-ghost use Rattle.ax_model.specs.Tree.{EntriesTree, number, no_entries, entry_and};
-ghost use Rattle.ax_model.specs.declared.content.Content.TheVariants.{Raw};
+ghost use Rattle.ax_format.specs.EditionExamples.{octet_of, one_item};
+ghost use Rattle.ax_format.specs.LongestFronts.{AllFit, AreLongestFronts, IsLongestFront, joined_lists};
+ghost use Rattle.ax_format.specs.Specification.{SpecTree};
+ghost use Rattle.ax_format.specs.Split.{EachFits, fit_within, records_length, split_within, too_long_within};
+ghost use Rattle.ax_format.specs.Tree.{EntriesTree, number, no_entries, entry_and};
+ghost use Rattle.ax_format.specs.declared.content.Content.TheVariants.{Raw};
 
 /// Records of two octets, and of one that has no item: the first blocks are full, though a later record would fit in them.
 pub fn records_in_small_blocks()
     ensures length { records_length (one_item (codes "1") (octet_of Raw)) (entry_and 1 (number 5) no_entries ∷ no_entries ∷ []) ≡ 6 }
-    ensures whole { split_within 6 (one_item (codes "1") (octet_of Raw)) (entry_and 1 (number 5) no_entries ∷ no_entries ∷ []) ≡ (entry_and 1 (number 5) no_entries ∷ no_entries ∷ []) ∷ [] }
+    ensures whole { split_within 6 (one_item (codes "1") (octet_of Raw)) (entry_and 1 (number 5) no_entries ∷ no_entries ∷ [])
+        ≡ (entry_and 1 (number 5) no_entries ∷ no_entries ∷ []) ∷ [] }
     ensures long { split_within 6 (one_item (codes "1") (octet_of Raw)) (entry_and 1 (number 5) no_entries ∷ entry_and 1 (number 6) no_entries ∷ no_entries ∷ no_entries ∷ [])
         ≡ (entry_and 1 (number 5) no_entries ∷ []) ∷ (entry_and 1 (number 6) no_entries ∷ no_entries ∷ []) ∷ (no_entries ∷ []) ∷ [] }
-    ensures fit { fit_within 6 (one_item (codes "1") (octet_of Raw)) (entry_and 1 (number 5) no_entries ∷ entry_and 1 (number 6) no_entries ∷ []) ≡ 1 }
+    ensures fit { fit_within 6 (one_item (codes "1") (octet_of Raw)) (entry_and 1 (number 5) no_entries ∷ entry_and 1 (number 6) no_entries ∷ [])
+        ≡ 1 }
     ensures none { split_within 6 (one_item (codes "1") (octet_of Raw)) [] ≡ [] }
 {}
 
@@ -26,18 +28,24 @@ pub fn records_that_are_too_long()
 
 /// As many records as fit are the longest front of the records that does, where a block of none does.
 pub fn fit_is_the_longest_front()
-    ensures front { (room : ℕ) (spec : SpecTree) (records : List EntriesTree) → 3 ≤ room → IsLongestFront room spec records (take (fit_within room spec records) records) (drop (fit_within room spec records) records) }
+    ensures front { (room : ℕ) (spec : SpecTree) (records : List EntriesTree) → 3 ≤ room
+        → IsLongestFront room spec records (take (fit_within room spec records) records) (drop (fit_within room spec records) records) }
     ensures within { (room : ℕ) (spec : SpecTree) (records : List EntriesTree) → fit_within room spec records ≤ length records }
-    ensures none { (room : ℕ) (spec : SpecTree) (r : EntriesTree) (rs : List EntriesTree) → fit_within room spec (r ∷ rs) ≡ 0 → room < records_length spec (r ∷ []) }
+    ensures none { (room : ℕ) (spec : SpecTree) (r : EntriesTree) (rs : List EntriesTree) → fit_within room spec (r ∷ rs) ≡ 0
+        → room < records_length spec (r ∷ []) }
 {}
 
 /// Records of which none alone is too long are split into the longest fronts, one after another, and no other way is so. The
 /// blocks have the records in order, each has one at least, and none has too many octets.
 pub fn split_is_by_longest_fronts()
-    ensures fronts { (room : ℕ) (spec : SpecTree) (records : List EntriesTree) → 3 ≤ room → EachFits room spec records → AreLongestFronts room spec records (split_within room spec records) }
-    ensures one { (room : ℕ) (spec : SpecTree) (records : List EntriesTree) (lists : List (List EntriesTree)) → 3 ≤ room → EachFits room spec records → AreLongestFronts room spec records lists → lists ≡ split_within room spec records }
-    ensures joined { (room : ℕ) (spec : SpecTree) (records : List EntriesTree) → joined_lists (split_within room spec records) ≡ records }
-    ensures fit { (room : ℕ) (spec : SpecTree) (records : List EntriesTree) → EachFits room spec records → AllFit room spec (split_within room spec records) }
+    ensures fronts { (room : ℕ) (spec : SpecTree) (records : List EntriesTree) → 3 ≤ room → EachFits room spec records
+        → AreLongestFronts room spec records (split_within room spec records) }
+    ensures one { (room : ℕ) (spec : SpecTree) (records : List EntriesTree) (lists : List (List EntriesTree)) → 3 ≤ room
+        → EachFits room spec records → AreLongestFronts room spec records lists → lists ≡ split_within room spec records }
+    ensures joined { (room : ℕ) (spec : SpecTree) (records : List EntriesTree)
+        → joined_lists (split_within room spec records) ≡ records }
+    ensures fit { (room : ℕ) (spec : SpecTree) (records : List EntriesTree) → EachFits room spec records
+        → AllFit room spec (split_within room spec records) }
 {}
 
 /// The first block takes as many records as fit, and the others are split from those that are left.
@@ -48,6 +56,8 @@ pub fn split_by_fit()
 
 /// A record that is too long for a block of its own is found exactly where there is one.
 pub fn long_records_are_found()
-    ensures none { (room : ℕ) (spec : SpecTree) (records : List EntriesTree) → too_long_within room spec records ≡ None → EachFits room spec records }
-    ensures some { (room : ℕ) (spec : SpecTree) (records : List EntriesTree) (count : ℕ) → too_long_within room spec records ≡ Some count → (EachFits room spec records → ⊥) × (room < count) }
+    ensures none { (room : ℕ) (spec : SpecTree) (records : List EntriesTree) → too_long_within room spec records ≡ None
+        → EachFits room spec records }
+    ensures some { (room : ℕ) (spec : SpecTree) (records : List EntriesTree) (count : ℕ)
+        → too_long_within room spec records ≡ Some count → (EachFits room spec records → ⊥) × (room < count) }
 {}

@@ -9,11 +9,11 @@ use Rattle.ax_fspec.proofs.FieldLaws.{least_field_of, none_further}
 use Rattle.ax_fspec.specs.Fields.{least_field}
 use Rattle.ax_fspec.specs.Marks.{no_marks}
 use Rattle.ax_fspec.proofs.Sets.{none_of_no_marks}
-use Rattle.ax_model.specs.Canonical.{canon, marks_of, entries_canon}
-use Rattle.ax_model.specs.InBounds.{SlotsInBounds}
-use Rattle.ax_model.specs.Presence.{octets_needed, none_marked, least_presence}
-use Rattle.ax_model.specs.Shape.{Shape, EntriesShape}
-use Rattle.ax_model.specs.Tree.{SlotTree, spare_slot, subitem, SlotsTree, no_slots, slot_and, slot_count, ValueTree, EntriesTree, no_entries, entry_and}
+use Rattle.ax_format.specs.Canonical.{canon, marks_of, entries_canon}
+use Rattle.ax_format.specs.InBounds.{SlotsInBounds}
+use Rattle.ax_format.specs.Presence.{octets_needed, none_marked, least_presence}
+use Rattle.ax_format.specs.Shape.{Shape, EntriesShape}
+use Rattle.ax_format.specs.Tree.{SlotTree, spare_slot, subitem, SlotsTree, no_slots, slot_and, slot_count, ValueTree, EntriesTree, no_entries, entry_and}
 use Rattle.ax_text.specs.Slots.{SlotShape, slot_onto}
 use Rattle.ax_text.specs.ValueText.{closing, kind_onto, entries_onto}
 use Rattle.ax_printed_lines.specs.Printed.{Place, Goes, IsBuilt, AreSlots, BuildsSlot, HasMarks, slot_canon}

@@ -6,9 +6,9 @@ use Rattle.ax_bits.proofs.Words.{bits-append}
 use Rattle.ax_bits.specs.Bits.{word, bits, AreOctets}
 use Rattle.ax_printed_lines.specs.Laid.{Lays}
 use Rattle.ax_printed_lines.specs.declared.laid.Laid.{Laid}
-use Rattle.ax_model.specs.Canonical.{canon}
-use Rattle.ax_model.specs.Shape.{Shape}
-use Rattle.ax_model.specs.Tree.{explicit, content_octets}
+use Rattle.ax_format.specs.Canonical.{canon}
+use Rattle.ax_format.specs.Shape.{Shape}
+use Rattle.ax_format.specs.Tree.{explicit, content_octets}
 use Rattle.ax_text.specs.ValueText.{hex_text, kind_onto}
 use Rattle.ax_printed_lines.specs.Printed.{Place, Goes, IsBuilt, AreDigits, digit_text}
 

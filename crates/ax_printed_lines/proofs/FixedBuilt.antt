@@ -7,16 +7,16 @@ use Rattle.ax_printed_lines.specs.Laid.{Lays}
 use Rattle.ax_printed_lines.specs.declared.laid.Laid.{Laid}
 use Rattle.ax_block_reader.proofs.FixedWays.{element_tree, group_tree, named_tree, spare_tree}
 use Rattle.ax_block_reader.proofs.Onto.{member_more}
-use Rattle.ax_model.specs.Canonical.{number_canon, fixed_canon, members_canon}
-use Rattle.ax_model.specs.InBounds.{IsWidth, FixedInBounds, MembersInBounds}
-use Rattle.ax_model.specs.Plain.{fixed_tree, member_tree, members_tree}
-use Rattle.ax_model.specs.Shape.{NumberShape, FixedShape, MembersShape}
-use Rattle.ax_model.specs.Tree.{FixedTree, group, MemberTree, named, spare, MembersTree, no_members, member_and, ValueTree, number, member_values, ValuesTree, no_values, value_and}
-use Rattle.ax_model.specs.declared.content.Content.{Content}
-use Rattle.ax_model.specs.declared.kind.Fixed.{Fixed}
-use Rattle.ax_model.specs.declared.kind.Fixed.TheVariants.{Element, Group}
-use Rattle.ax_model.specs.declared.kind.Member.{Member}
-use Rattle.ax_model.specs.declared.kind.Member.TheVariants.{Named, Spare}
+use Rattle.ax_format.specs.Canonical.{number_canon, fixed_canon, members_canon}
+use Rattle.ax_format.specs.InBounds.{IsWidth, FixedInBounds, MembersInBounds}
+use Rattle.ax_format.specs.Plain.{fixed_tree, member_tree, members_tree}
+use Rattle.ax_format.specs.Shape.{NumberShape, FixedShape, MembersShape}
+use Rattle.ax_format.specs.Tree.{FixedTree, group, MemberTree, named, spare, MembersTree, no_members, member_and, ValueTree, number, member_values, ValuesTree, no_values, value_and}
+use Rattle.ax_format.specs.declared.content.Content.{Content}
+use Rattle.ax_format.specs.declared.kind.Fixed.{Fixed}
+use Rattle.ax_format.specs.declared.kind.Fixed.TheVariants.{Element, Group}
+use Rattle.ax_format.specs.declared.kind.Member.{Member}
+use Rattle.ax_format.specs.declared.kind.Member.TheVariants.{Named, Spare}
 use Rattle.ax_text.proofs.Printed.{from_place}
 use Rattle.ax_text.proofs.WordTokens.{spare_is_word}
 use Rattle.ax_text.specs.Slots.{MemberShape}

@@ -11,7 +11,7 @@ use Rattle.std.specs.List.{list_all}
 use Rattle.std.proofs.lemmas.Bool.{and_parts, leb-true, or_cases}
 use Rattle.ax_bits.specs.Bits.{word, bits, AreOctets}
 use Rattle.ax_bits.proofs.Pieces.{bits-injective, take-bits, word-low}
-use Rattle.ax_model.specs.Characters.{IsName, is_name_octet}
+use Rattle.ax_format.specs.Characters.{IsName, is_name_octet}
 
 pub octets_front : (n : ℕ) (xs : List ℕ) → AreOctets xs → AreOctets (take n xs)
 octets_front zero xs h = tt

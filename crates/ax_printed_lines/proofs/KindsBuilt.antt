@@ -5,22 +5,22 @@ use Rattle.ax_printed_lines.specs.Laid.{Lays, Leaves, Fills}
 use Rattle.ax_printed_lines.specs.declared.laid.Laid.{Laid}
 use Rattle.ax_block_reader.proofs.Onto.{kind_more}
 use Rattle.ax_fspec.specs.Fields.{least_field}
-use Rattle.ax_model.proofs.VariantTrees.{fixed_kind_tree, extended_tree, counted_tree, by_fx_tree, explicit_tree, compound_tree}
-use Rattle.ax_model.specs.Canonical.{canon, fixed_canon, parts_canon, run_canon, each_canon, entries_canon}
-use Rattle.ax_model.specs.InBounds.{FixedInBounds, PartsInBounds, InBounds, SlotsInBounds}
-use Rattle.ax_model.specs.Plain.{fixed_tree, part_tree, kind_tree, slot_tree, slots_tree, kind_step, slot_step}
-use Rattle.ax_model.specs.Shape.{FixedShape, PartsShape, Shape, EachShape, EntriesShape}
-use Rattle.ax_model.specs.Tree.{KindTree, fixed, extended, counted, by_fx, explicit, compound, SlotTree, SlotsTree, no_slots, slot_and, subitem, part_values, occurrences, marked, ValuesTree, no_values, value_and, value_count}
-use Rattle.ax_model.specs.declared.kind.Fixed.{Fixed}
-use Rattle.ax_model.specs.Widths.{counter_width, counter_octets}
-use Rattle.ax_model.specs.declared.kind.Counter.{Counter}
-use Rattle.ax_model.specs.declared.kind.Kind.{Kind}
-use Rattle.ax_model.specs.declared.kind.Kind.TheOpen.{Slot-F}
-use Rattle.ax_model.specs.declared.kind.Kind.TheVariants as KindOf
-use Rattle.ax_model.specs.declared.kind.LastPart.{LastPart}
-use Rattle.ax_model.specs.declared.kind.Part.{Part}
-use Rattle.ax_model.specs.declared.kind.Slot.{Slot, fold-roll-Slot}
-use Rattle.ax_model.specs.declared.kind.Slot.TheVariants.{Sub, rolls-Sub}
+use Rattle.ax_format.proofs.VariantTrees.{fixed_kind_tree, extended_tree, counted_tree, by_fx_tree, explicit_tree, compound_tree}
+use Rattle.ax_format.specs.Canonical.{canon, fixed_canon, parts_canon, run_canon, each_canon, entries_canon}
+use Rattle.ax_format.specs.InBounds.{FixedInBounds, PartsInBounds, InBounds, SlotsInBounds}
+use Rattle.ax_format.specs.Plain.{fixed_tree, part_tree, kind_tree, slot_tree, slots_tree, kind_step, slot_step}
+use Rattle.ax_format.specs.Shape.{FixedShape, PartsShape, Shape, EachShape, EntriesShape}
+use Rattle.ax_format.specs.Tree.{KindTree, fixed, extended, counted, by_fx, explicit, compound, SlotTree, SlotsTree, no_slots, slot_and, subitem, part_values, occurrences, marked, ValuesTree, no_values, value_and, value_count}
+use Rattle.ax_format.specs.declared.kind.Fixed.{Fixed}
+use Rattle.ax_format.specs.Widths.{counter_width, counter_octets}
+use Rattle.ax_format.specs.declared.kind.Counter.{Counter}
+use Rattle.ax_format.specs.declared.kind.Kind.{Kind}
+use Rattle.ax_format.specs.declared.kind.Kind.TheOpen.{Slot-F}
+use Rattle.ax_format.specs.declared.kind.Kind.TheVariants as KindOf
+use Rattle.ax_format.specs.declared.kind.LastPart.{LastPart}
+use Rattle.ax_format.specs.declared.kind.Part.{Part}
+use Rattle.ax_format.specs.declared.kind.Slot.{Slot, fold-roll-Slot}
+use Rattle.ax_format.specs.declared.kind.Slot.TheVariants.{Sub, rolls-Sub}
 use Rattle.ax_text.specs.Slots.{SlotShape, slot_onto}
 use Rattle.ax_text.specs.ValueText.{opening, closing, fixed_onto, parts_onto, each_onto, kind_onto, entries_onto}
 use Rattle.ax_printed_lines.specs.Printed.{Place, Goes, IsBuilt, AreSlots, BuildsSlot, HasMarks, slot_canon}

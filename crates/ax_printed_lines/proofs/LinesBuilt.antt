@@ -6,14 +6,14 @@ use Rattle.std.specs.List.{list_all}
 use Rattle.ax_bits.proofs.Pieces.{bits-injective}
 use Rattle.ax_printed_lines.specs.declared.laid.Laid.{Laid}
 use Rattle.ax_block_reader.proofs.Onto.{entries_more}
-use Rattle.ax_model.specs.Blocks.{read_block}
-use Rattle.ax_model.specs.Bodies.{CanonBody}
-use Rattle.ax_model.specs.CanonicalOctets.{octets_of, framed}
-use Rattle.ax_model.specs.Flaws.{NoFlaw}
-use Rattle.ax_model.specs.Paths.{three_digits}
-use Rattle.ax_model.specs.Specification.{SpecTree, record_slots, spec_of}
-use Rattle.ax_model.specs.Streams.{FitsOver}
-use Rattle.ax_model.specs.Tree.{EntriesTree}
+use Rattle.ax_format.specs.Blocks.{read_block}
+use Rattle.ax_format.specs.Bodies.{CanonBody}
+use Rattle.ax_format.specs.CanonicalOctets.{octets_of, framed}
+use Rattle.ax_format.specs.Flaws.{NoFlaw}
+use Rattle.ax_format.specs.Paths.{three_digits}
+use Rattle.ax_format.specs.Specification.{SpecTree, record_slots, spec_of}
+use Rattle.ax_format.specs.Streams.{FitsOver}
+use Rattle.ax_format.specs.Tree.{EntriesTree}
 use Rattle.ax_text.proofs.WordTokens.{block_is_word}
 use Rattle.ax_text.specs.BlockText.{records_onto, BlockText}
 use Rattle.ax_text.specs.Tokens.{kind_of}

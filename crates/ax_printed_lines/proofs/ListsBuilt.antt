@@ -5,14 +5,14 @@ use Rattle.ax_bits.specs.Bits.{word}
 use Rattle.ax_printed_lines.specs.Laid.{Lays}
 use Rattle.ax_printed_lines.specs.declared.laid.Laid.{Laid}
 use Rattle.ax_block_reader.proofs.Onto.{fixed_more, part_more}
-use Rattle.ax_model.specs.Canonical.{fixed_canon, members_canon, parts_canon, run_canon}
-use Rattle.ax_model.specs.InBounds.{MembersInBounds, PartsInBounds}
-use Rattle.ax_model.specs.Plain.{part_tree}
-use Rattle.ax_model.specs.Shape.{FixedShape, MembersShape, PartsShape, EachShape}
-use Rattle.ax_model.specs.Tree.{FixedTree, MembersTree, ValueTree, ValuesTree, no_values, value_and, value_count, ListsTree, no_lists, list_and}
-use Rattle.ax_model.specs.Widths.{fx_width}
-use Rattle.ax_model.specs.declared.kind.LastPart.{LastPart}
-use Rattle.ax_model.specs.declared.kind.Part.{Part}
+use Rattle.ax_format.specs.Canonical.{fixed_canon, members_canon, parts_canon, run_canon}
+use Rattle.ax_format.specs.InBounds.{MembersInBounds, PartsInBounds}
+use Rattle.ax_format.specs.Plain.{part_tree}
+use Rattle.ax_format.specs.Shape.{FixedShape, MembersShape, PartsShape, EachShape}
+use Rattle.ax_format.specs.Tree.{FixedTree, MembersTree, ValueTree, ValuesTree, no_values, value_and, value_count, ListsTree, no_lists, list_and}
+use Rattle.ax_format.specs.Widths.{fx_width}
+use Rattle.ax_format.specs.declared.kind.LastPart.{LastPart}
+use Rattle.ax_format.specs.declared.kind.Part.{Part}
 use Rattle.ax_text.proofs.WordTokens.{part_is_word}
 use Rattle.ax_text.specs.ValueText.{Texts, opening, closing, part_word, fixed_onto, members_onto, part_onto, parts_onto, each_onto}
 use Rattle.ax_printed_lines.specs.Printed.{Place, Goes, IsBuilt, IsOneWord}

@@ -6,20 +6,20 @@ use Rattle.ax_printed_lines.specs.declared.laid.Laid.{Laid}
 use Rattle.ax_block_reader.proofs.Onto.{entries_more}
 use Rattle.ax_block_reader.proofs.RecordWays.{item_there, name_there, slots_of_uap}
 use Rattle.ax_fspec.specs.Fields.{least_field}
-use Rattle.ax_model.proofs.Bounds.{record_bounds}
-use Rattle.ax_model.specs.Bodies.{RecordShape, CanonRecord, CanonBody}
-use Rattle.ax_model.specs.Canonical.{entries_canon}
-use Rattle.ax_model.specs.Flaws.{NoFlaw}
-use Rattle.ax_model.specs.InBounds.{InBounds, SlotsInBounds}
-use Rattle.ax_model.specs.Lookup.{item_of_frn, item_of_slot}
+use Rattle.ax_format.proofs.Bounds.{record_bounds}
+use Rattle.ax_format.specs.Bodies.{RecordShape, CanonRecord, CanonBody}
+use Rattle.ax_format.specs.Canonical.{entries_canon}
+use Rattle.ax_format.specs.Flaws.{NoFlaw}
+use Rattle.ax_format.specs.InBounds.{InBounds, SlotsInBounds}
+use Rattle.ax_format.specs.Lookup.{item_of_frn, item_of_slot}
 use Rattle.std.proofs.lemmas.Option.{slice_get_read}
-use Rattle.ax_model.specs.Plain.{item_tree, kind_tree}
-use Rattle.ax_model.specs.Shape.{EntriesShape}
-use Rattle.ax_model.specs.Specification.{SpecTree, uap_slot, record_slots}
-use Rattle.ax_model.specs.Tree.{SlotsTree, no_slots, slot_and, EntriesTree}
-use Rattle.ax_model.specs.declared.spec.Item.{Item}
-use Rattle.ax_model.specs.declared.spec.UapSlot.{UapSlot}
-use Rattle.ax_model.specs.declared.spec.UapSlot.TheVariants as Uap
+use Rattle.ax_format.specs.Plain.{item_tree, kind_tree}
+use Rattle.ax_format.specs.Shape.{EntriesShape}
+use Rattle.ax_format.specs.Specification.{SpecTree, uap_slot, record_slots}
+use Rattle.ax_format.specs.Tree.{SlotsTree, no_slots, slot_and, EntriesTree}
+use Rattle.ax_format.specs.declared.spec.Item.{Item}
+use Rattle.ax_format.specs.declared.spec.UapSlot.{UapSlot}
+use Rattle.ax_format.specs.declared.spec.UapSlot.TheVariants as Uap
 use Rattle.ax_text.proofs.WordTokens.{record_is_word}
 use Rattle.ax_text.specs.BlockText.{record_onto, records_onto}
 use Rattle.ax_text.specs.ValueText.{Texts, opening, closing, entries_onto}

@@ -4,17 +4,17 @@ use Rattle.std.specs.List.{AllByRecursion, list_all}
 use Rattle.hex.specs.Hex.{encode_lower, lower_digits}
 use Rattle.ax_bits.specs.Bits.{bits, AreOctets}
 use Rattle.ax_block_reader.specs.BlockTexts.{IsBlockOf}
-use Rattle.ax_model.specs.Blocks.{BlockTree}
+use Rattle.ax_format.specs.Blocks.{BlockTree}
 use Rattle.ax_fspec.specs.Fields.{least_field}
-use Rattle.ax_model.specs.Bodies.{RecordShape, CanonBody}
+use Rattle.ax_format.specs.Bodies.{RecordShape, CanonBody}
 use Rattle.ax_text.specs.BlockText.{records_onto, BlockText}
-use Rattle.ax_model.specs.Canonical.{canon, fixed_canon, number_canon, marks_of}
-use Rattle.ax_model.specs.CanonicalOctets.{canon_block, category_of, framed}
-use Rattle.ax_model.specs.InBounds.{SlotsInBounds}
-use Rattle.ax_model.specs.Presence.{octets_needed, least_presence}
-use Rattle.ax_model.specs.Shape.{EntriesShape}
-use Rattle.ax_model.specs.Specification.{SpecTree, spec_of}
-use Rattle.ax_model.specs.Tree.{MemberTree, named, spare, SlotTree, spare_slot, subitem, SlotsTree, slot_count, ValueTree, EntriesTree}
+use Rattle.ax_format.specs.Canonical.{canon, fixed_canon, number_canon, marks_of}
+use Rattle.ax_format.specs.CanonicalOctets.{canon_block, category_of, framed}
+use Rattle.ax_format.specs.InBounds.{SlotsInBounds}
+use Rattle.ax_format.specs.Presence.{octets_needed, least_presence}
+use Rattle.ax_format.specs.Shape.{EntriesShape}
+use Rattle.ax_format.specs.Specification.{SpecTree, spec_of}
+use Rattle.ax_format.specs.Tree.{MemberTree, named, spare, SlotTree, spare_slot, subitem, SlotsTree, slot_count, ValueTree, EntriesTree}
 use Rattle.ax_text.specs.Slots.{SlotShape, slot_onto}
 use Rattle.ax_text.specs.Tokens.{kind_of}
 use Rattle.ax_text.specs.ValueText.{Texts}

@@ -1,6 +1,6 @@
 //! Blocks.
 ghost use Rattle.std.specs.Prelude.{◌≡◌, IfSome};
-ghost use Rattle.ax_model.specs.Plain.{catalogue_tree};
+ghost use Rattle.ax_format.specs.Plain.{catalogue_tree};
 ghost use Rattle.ax_printed_lines.specs.Printed.{IsPrinted};
 
 use crate::cursor::Cursor;

@@ -1,6 +1,6 @@
 //! The place in a line.
 ghost use Rattle.std.specs.Prelude.{◌≡◌, ◌+◌, ◌<◌, ◌≤◌, [], ◌∷◌, ◌++◌, ℕ, List, false, length, decimal, IsTrue, IfSome, IfNone};
-ghost use Rattle.ax_model.specs.Paths.{three_digits};
+ghost use Rattle.ax_format.specs.Paths.{three_digits};
 ghost use Rattle.ax_text.specs.ValueText.{opening, closing, hex_text};
 ghost use Rattle.ax_bits.specs.Bits.{AreOctets};
 ghost use Rattle.hex.specs.Hex.{encode_lower};
@@ -10,7 +10,7 @@ use crate::gaps::{after_gap, after_separators, after_spaced, after_word, split_w
 use crate::names::{FrontWord, after_short_name, after_spaced_name, are_same, begins_with};
 use crate::numbers::{number_in_front, spaced_number};
 use ax_block_reader::{category_of, unquoted};
-use ax_model::Name;
+use ax_format::Name;
 use std::marker::Model;
 
 /// How deep the braces of a line may nest.

@@ -2,9 +2,9 @@
 ghost use Rattle.std.specs.Prelude.{◌≡◌, ◌+◌, ◌<◌, ◌≤◌, ◌∷◌, ◌++◌, [], ℕ, List, length, IfSome};
 ghost use Rattle.hex.specs.Hex.{encode_lower};
 ghost use Rattle.ax_bits.specs.Bits.{bits, AreOctets};
-ghost use Rattle.ax_model.specs.Canonical.{canon};
-ghost use Rattle.ax_model.specs.Shape.{Shape};
-ghost use Rattle.ax_model.specs.Tree.{explicit};
+ghost use Rattle.ax_format.specs.Canonical.{canon};
+ghost use Rattle.ax_format.specs.Shape.{Shape};
+ghost use Rattle.ax_format.specs.Tree.{explicit};
 ghost use Rattle.ax_text.specs.ValueText.{kind_onto};
 ghost use Rattle.ax_printed_lines.specs.Printed.{IsBuilt, AreDigits, digit_text};
 

@@ -1,11 +1,11 @@
 //! Values of fixed kinds: elements, groups and their members; and lists of them, of extended and closed items and of items
 //! that repeat by FX.
 ghost use Rattle.std.specs.Prelude.{◌≡◌, ◌<◌, ◌∷◌, [], ℕ, length, map, IfSome};
-ghost use Rattle.ax_model.specs.Canonical.{fixed_canon, members_canon, parts_canon, run_canon};
-ghost use Rattle.ax_model.specs.InBounds.{FixedInBounds, MembersInBounds, PartsInBounds};
-ghost use Rattle.ax_model.specs.Plain.{fixed_tree, member_tree, members_tree, part_tree};
-ghost use Rattle.ax_model.specs.Shape.{FixedShape, MembersShape, PartsShape, EachShape};
-ghost use Rattle.ax_model.specs.Tree.{member_and, no_members, value_count};
+ghost use Rattle.ax_format.specs.Canonical.{fixed_canon, members_canon, parts_canon, run_canon};
+ghost use Rattle.ax_format.specs.InBounds.{FixedInBounds, MembersInBounds, PartsInBounds};
+ghost use Rattle.ax_format.specs.Plain.{fixed_tree, member_tree, members_tree, part_tree};
+ghost use Rattle.ax_format.specs.Shape.{FixedShape, MembersShape, PartsShape, EachShape};
+ghost use Rattle.ax_format.specs.Tree.{member_and, no_members, value_count};
 ghost use Rattle.ax_text.specs.Slots.{MemberShape};
 ghost use Rattle.ax_text.specs.ValueText.{closing, fixed_onto, member_onto, members_onto, part_onto, parts_onto, each_onto};
 ghost use Rattle.ax_printed_lines.specs.Printed.{IsBuilt, member_canon};
@@ -13,7 +13,7 @@ ghost use Rattle.ax_printed_lines.specs.Printed.{IsBuilt, member_canon};
 use crate::cursor::Cursor;
 use crate::laid::Laid;
 use crate::pieces::{fx_built, last_fx_built, number_built, number_laid};
-use ax_model::{Fixed, LastPart, Member, Members, Part, Parts};
+use ax_format::{Fixed, LastPart, Member, Members, Part, Parts};
 
 /// The value of a fixed kind that comes is read, and its bits are laid.
 #[cycle(fixed_built)]

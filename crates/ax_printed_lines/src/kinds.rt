@@ -1,13 +1,13 @@
 //! Values of kinds.
 ghost use Rattle.std.specs.Prelude.{◌≡◌, ◌^◌, ◌<◌, ◌≤◌, ◌∷◌, [], length, MatchBool, IfSome};
 ghost use Rattle.ax_fspec.specs.Fields.{least_field};
-ghost use Rattle.ax_model.specs.Canonical.{canon, each_canon, marks_of, entries_canon};
-ghost use Rattle.ax_model.specs.InBounds.{InBounds, SlotsInBounds};
-ghost use Rattle.ax_model.specs.Plain.{kind_tree, slot_tree, slots_tree};
-ghost use Rattle.ax_model.specs.Presence.{octets_needed, least_presence};
-ghost use Rattle.ax_model.specs.Shape.{Shape, EachShape, EntriesShape};
-ghost use Rattle.ax_model.specs.Tree.{compound, counted, slot_and, no_slots, slot_count, value_count, occurrences, marked};
-ghost use Rattle.ax_model.specs.Widths.{counter_width};
+ghost use Rattle.ax_format.specs.Canonical.{canon, each_canon, marks_of, entries_canon};
+ghost use Rattle.ax_format.specs.InBounds.{InBounds, SlotsInBounds};
+ghost use Rattle.ax_format.specs.Plain.{kind_tree, slot_tree, slots_tree};
+ghost use Rattle.ax_format.specs.Presence.{octets_needed, least_presence};
+ghost use Rattle.ax_format.specs.Shape.{Shape, EachShape, EntriesShape};
+ghost use Rattle.ax_format.specs.Tree.{compound, counted, slot_and, no_slots, slot_count, value_count, occurrences, marked};
+ghost use Rattle.ax_format.specs.Widths.{counter_width};
 ghost use Rattle.ax_text.specs.Slots.{SlotShape, slot_onto};
 ghost use Rattle.ax_text.specs.ValueText.{closing, kind_onto, each_onto, in_braces, entries_onto};
 ghost use Rattle.ax_printed_lines.specs.Printed.{IsBuilt, AreSlots, BuildsSlot, HasMarks, slot_canon};
@@ -18,8 +18,8 @@ use crate::fixed::{fixed_built, parts_built, run_built};
 use crate::laid::Laid;
 use crate::names::FrontWord;
 use crate::pieces::{count_filled, field_filled, field_room};
+use ax_format::{Counter, Kind, Slot, Slots};
 use ax_fspec::Presence;
-use ax_model::{Counter, Kind, Slot, Slots};
 
 /// The value of a kind that comes is read, and its canonical bits are laid.
 #[cycle(kind_built)]

@@ -1,10 +1,10 @@
 //! Names and words at the front of octets.
 ghost use Rattle.std.specs.Prelude.{◌≡◌, ℕ, ◌+◌, ◌-◌, ◌*◌, ◌/◌, ◌^◌, ◌≤◌, ◌∷◌, ◌++◌, length, take, IsTrue, IfSome};
 ghost use Rattle.ax_bits.specs.Bits.{word, bits};
-ghost use Rattle.ax_model.specs.Characters.{IsName};
+ghost use Rattle.ax_format.specs.Characters.{IsName};
 
 use ax_bits::short_bits_at;
-use ax_model::Name;
+use ax_format::Name;
 
 /// The most octets of a name that are compared as one number.
 const MOST_AT_ONCE: usize = 7;

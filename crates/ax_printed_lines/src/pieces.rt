@@ -3,12 +3,12 @@ ghost use Rattle.std.specs.Prelude.{◌≡◌, ◌≤◌, ◌<◌, ◌^◌, [], 
 ghost use Rattle.ax_bits.specs.Bits.{word, bits, AreOctets};
 ghost use Rattle.ax_bits.specs.Out.{written};
 ghost use Rattle.ax_fspec.specs.Fields.{least_field};
-ghost use Rattle.ax_model.specs.Canonical.{number_canon};
-ghost use Rattle.ax_model.specs.InBounds.{IsWidth};
-ghost use Rattle.ax_model.specs.Shape.{NumberShape};
-ghost use Rattle.ax_model.specs.Sizes.{longest_body};
-ghost use Rattle.ax_model.specs.Widths.{counter_width, counter_octets, fx_width};
-ghost use Rattle.ax_reader.specs.Reading.{fx_bit};
+ghost use Rattle.ax_format.specs.Canonical.{number_canon};
+ghost use Rattle.ax_format.specs.InBounds.{IsWidth};
+ghost use Rattle.ax_format.specs.Shape.{NumberShape};
+ghost use Rattle.ax_format.specs.Sizes.{longest_body};
+ghost use Rattle.ax_format.specs.Widths.{counter_width, counter_octets, fx_width};
+ghost use Rattle.ax_fspec.specs.Reading.{fx_bit};
 ghost use Rattle.ax_text.specs.ValueText.{number_onto};
 ghost use Rattle.ax_printed_lines.specs.Laid.{laid, Lays, Fills};
 ghost use Rattle.ax_printed_lines.specs.Printed.{IsBuilt};
@@ -16,8 +16,8 @@ ghost use Rattle.ax_printed_lines.specs.Printed.{IsBuilt};
 use crate::cursor::Cursor;
 use crate::laid::{AT_ONCE, Laid};
 use ax_bits::Out;
+use ax_format::{Counter, LastPart};
 use ax_fspec::{Presence, write_presence};
-use ax_model::{Counter, LastPart};
 
 /// Whether the number has at most that many bits. One of 64 bits or fewer has at most 64.
 #[inline(always)]

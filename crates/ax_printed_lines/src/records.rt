@@ -1,13 +1,13 @@
 //! Records and lists of them.
 ghost use Rattle.std.specs.Prelude.{◌≡◌, ◌<◌, ◌≤◌, ◌∷◌, [], length, map, Some, IfSome};
 ghost use Rattle.std.specs.List.{AllByRecursion};
-ghost use Rattle.ax_model.specs.Bodies.{RecordShape, CanonRecord};
-ghost use Rattle.ax_model.specs.Canonical.{entries_canon};
-ghost use Rattle.ax_model.specs.InBounds.{SlotsInBounds};
-ghost use Rattle.ax_model.specs.Lookup.{item_of_frn, item_of_slot};
-ghost use Rattle.ax_model.specs.Plain.{item_tree, spec_tree};
-ghost use Rattle.ax_model.specs.Specification.{uap_slot, record_slots};
-ghost use Rattle.ax_model.specs.Tree.{slot_and, no_slots};
+ghost use Rattle.ax_format.specs.Bodies.{RecordShape, CanonRecord};
+ghost use Rattle.ax_format.specs.Canonical.{entries_canon};
+ghost use Rattle.ax_format.specs.InBounds.{SlotsInBounds};
+ghost use Rattle.ax_format.specs.Lookup.{item_of_frn, item_of_slot};
+ghost use Rattle.ax_format.specs.Plain.{item_tree, spec_tree};
+ghost use Rattle.ax_format.specs.Specification.{uap_slot, record_slots};
+ghost use Rattle.ax_format.specs.Tree.{slot_and, no_slots};
 ghost use Rattle.ax_text.specs.BlockText.{record_onto};
 ghost use Rattle.ax_text.specs.ValueText.{closing, entries_onto};
 ghost use Rattle.ax_printed_lines.specs.Printed.{IsBuilt, IsAfterOctet, AreSlots, BuildsSlot, HasMarks, AreRecords};
@@ -17,8 +17,8 @@ use crate::kinds::value_built;
 use crate::laid::Laid;
 use crate::names::FrontWord;
 use crate::pieces::{field_filled, field_room};
+use ax_format::UapSlot;
 use ax_fspec::Presence;
-use ax_model::UapSlot;
 use ax_uap::UapItems;
 
 // A body has room for fewer records.

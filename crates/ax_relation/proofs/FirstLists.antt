@@ -2,14 +2,14 @@
 use Rattle.std.proofs.Common.{◌≡◌, ℕ, zero, suc, ◌+◌, ◌<◌, ◌≤◌, ◌⊎◌, inl, inr, nat_lt, List, [], ◌∷◌, ◌++◌, length, take, get_or, Option, Some, refl, sym, ◌∙◌, ap, arith}
 use Rattle.std.proofs.lemmas.Bool.{cases_lt}
 use Rattle.std.proofs.lemmas.List.{take_more, take_all}
-use Rattle.ax_edition_laws.specs.Moved.{first_lists}
-use Rattle.ax_model.proofs.VariantTrees.{lists_value as extended_value}
-use Rattle.ax_model.specs.Placed.{has_part}
-use Rattle.ax_model.specs.Fitting.{list_count}
-use Rattle.ax_model.specs.Plain.{value_tree, value_list, lists_tree}
-use Rattle.ax_model.specs.Tree.{ValueTree, part_values, list_and, values_of}
-use Rattle.ax_model.specs.declared.value.Value.{Value}
-use Rattle.ax_model.specs.declared.value.Value.TheVariants.{Extended}
+use Rattle.ax_relation.specs.Moved.{first_lists}
+use Rattle.ax_format.proofs.VariantTrees.{lists_value as extended_value}
+use Rattle.ax_format.specs.Placed.{has_part}
+use Rattle.ax_format.specs.Fitting.{list_count}
+use Rattle.ax_format.specs.Plain.{value_tree, value_list, lists_tree}
+use Rattle.ax_format.specs.Tree.{ValueTree, part_values, list_and, values_of}
+use Rattle.ax_format.specs.declared.value.Value.{Value}
+use Rattle.ax_format.specs.declared.value.Value.TheVariants.{Extended}
 
 taken : (n : ℕ) (ls : List (List Value)) → lists_tree (take n ls) ≡ first_lists n (lists_tree ls)
 taken zero ls = refl

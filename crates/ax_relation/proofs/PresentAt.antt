@@ -1,17 +1,17 @@
 -- Slot numbers lead to an entry exactly where the names do.
 use Rattle.std.proofs.Common.{◌≡◌, ℕ, Bool, true, false, cond, not, is_none, is_some, List, [], ◌∷◌, Option, Some, None, option_map, option_and_then, refl, sym, ◌∙◌, ap}
-use Rattle.ax_edition_laws.proofs.MovedShape.{slot_shape}
-use Rattle.ax_edition_laws.proofs.PresentPaths.{own_there}
-use Rattle.ax_edition_laws.proofs.PlacedPaths.{StandsNamed, kind_has_steps}
-use Rattle.ax_model.specs.At.{slot_value}
-use Rattle.ax_model.specs.Bodies.{RecordShape}
-use Rattle.ax_model.specs.Named.{Key, kind_at, entry_at, Named}
-use Rattle.ax_model.specs.Naming.{slot_named}
-use Rattle.ax_model.specs.Placed.{Placed, steps_at, place_from, named_place, has_part_where}
-use Rattle.ax_model.specs.Shape.{Shape, EntriesShape}
-use Rattle.ax_model.specs.Shared.{are_shared, shared_names, Shared}
-use Rattle.ax_model.specs.Specification.{SpecTree, record_kind}
-use Rattle.ax_model.specs.Tree.{KindTree, compound, SlotsTree, ValueTree, marked, EntriesTree}
+use Rattle.ax_relation.proofs.MovedShape.{slot_shape}
+use Rattle.ax_relation.proofs.PresentPaths.{own_there}
+use Rattle.ax_relation.proofs.PlacedPaths.{StandsNamed, kind_has_steps}
+use Rattle.ax_format.specs.At.{slot_value}
+use Rattle.ax_format.specs.Bodies.{RecordShape}
+use Rattle.ax_format.specs.Named.{Key, kind_at, entry_at, Named}
+use Rattle.ax_format.specs.Naming.{slot_named}
+use Rattle.ax_format.specs.Placed.{Placed, steps_at, place_from, named_place, has_part_where}
+use Rattle.ax_format.specs.Shape.{Shape, EntriesShape}
+use Rattle.ax_format.specs.Shared.{are_shared, shared_names, Shared}
+use Rattle.ax_format.specs.Specification.{SpecTree, record_kind}
+use Rattle.ax_format.specs.Tree.{KindTree, compound, SlotsTree, ValueTree, marked, EntriesTree}
 use Rattle.ax_relation.specs.Standing.{value_below, is_there}
 
 module _ (part : Option ℕ) (names : List (List ℕ)) (below : (k : KindTree) (ms : List ℕ) (v : ValueTree) → Shape k v → steps_at names k ≡ Some ms → is_some (entry_at part names k v) ≡ has_part_where part (value_below ms v)) where

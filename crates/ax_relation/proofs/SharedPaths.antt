@@ -1,8 +1,8 @@
 -- What a relation says of a path.
 use Rattle.std.proofs.Common.{◌≡◌, ℕ, List, None, unwrap_or, ◌∙◌, ap}
-use Rattle.ax_model.specs.Shared.{Shared, Common}
-use Rattle.ax_model.specs.Plain.{spec_tree}
-use Rattle.ax_model.specs.declared.spec.Spec.{Spec}
+use Rattle.ax_format.specs.Shared.{Shared, Common}
+use Rattle.ax_format.specs.Plain.{spec_tree}
+use Rattle.ax_format.specs.declared.spec.Spec.{Spec}
 use Rattle.ax_relation.specs.Known.{nothing, said}
 use Rattle.ax_relation.specs.Relates.{Relates}
 use Rattle.ax_relation.specs.declared.known.Sharing.{Sharing}

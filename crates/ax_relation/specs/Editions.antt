@@ -1,8 +1,8 @@
 -- What is held of two editions.
 use Rattle.std.specs.Prelude.{◌≡◌, List, map}
-use Rattle.ax_model.specs.OfCode.{HasNoFlaw}
-use Rattle.ax_model.specs.Plain.{spec_tree}
-use Rattle.ax_model.specs.declared.spec.Spec.{Spec}
+use Rattle.ax_format.specs.OfCode.{HasNoFlaw}
+use Rattle.ax_format.specs.Plain.{spec_tree}
+use Rattle.ax_format.specs.declared.spec.Spec.{Spec}
 use Rattle.ax_relation.specs.Known.{IsKnown}
 use Rattle.ax_relation.specs.PlainMoves.{move_tree}
 use Rattle.ax_relation.specs.Moves.{record_moves}

@@ -2,11 +2,11 @@
 use Rattle.std.specs.Prelude.{◌≡◌, ℕ, false, if◌then◌else◌, bytes_eq, List, [], ◌∷◌, Option, Some, None, unwrap_or}
 use Rattle.std.specs.HashMap.{get_by}
 use Rattle.std.specs.Cmp.Lexicographic.{pointwise}
-use Rattle.ax_model.specs.Same.{common_parts}
-use Rattle.ax_edition_laws.specs.Fates.{is_path}
-use Rattle.ax_model.specs.Shared.{is_shared_kind, Shared, Common}
-use Rattle.ax_model.specs.Specification.{SpecTree}
-use Rattle.ax_model.specs.Tree.{KindTree}
+use Rattle.ax_format.specs.Same.{common_parts}
+use Rattle.ax_relation.specs.Fates.{is_path}
+use Rattle.ax_format.specs.Shared.{is_shared_kind, Shared, Common}
+use Rattle.ax_format.specs.Specification.{SpecTree}
+use Rattle.ax_format.specs.Tree.{KindTree}
 use Rattle.ax_relation.specs.declared.known.Known.{Known}
 use Rattle.ax_relation.specs.declared.known.Sharing.{Sharing}
 

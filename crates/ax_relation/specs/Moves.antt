@@ -1,10 +1,10 @@
 -- The shared slots of two editions, in the new one's order.
 use Rattle.std.specs.Prelude.{ℕ, ◌+◌, if◌then◌else◌, List, [], ◌∷◌, ◌++◌, Option, Some, None}
 use Rattle.ax_relation.specs.Below.{slot_below}
-use Rattle.ax_model.specs.Same.{common_parts}
-use Rattle.ax_model.specs.Shared.{is_shared_kind}
-use Rattle.ax_model.specs.Specification.{SpecTree, record_kind}
-use Rattle.ax_model.specs.Tree.{KindTree, compound, SlotTree, SlotsTree, no_slots, slot_and, spare_slot, subitem}
+use Rattle.ax_format.specs.Same.{common_parts}
+use Rattle.ax_format.specs.Shared.{is_shared_kind}
+use Rattle.ax_format.specs.Specification.{SpecTree, record_kind}
+use Rattle.ax_format.specs.Tree.{KindTree, compound, SlotTree, SlotsTree, no_slots, slot_and, spare_slot, subitem}
 
 mutual
   -- the old slot, the new one, how many first parts move of an extended item, and what moves below in a compound

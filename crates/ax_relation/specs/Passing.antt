@@ -1,7 +1,7 @@
 -- What passes of values, and entries one at a time.
 use Rattle.std.specs.Prelude.{ℕ, List, [], ◌∷◌, Option, Some, None}
-use Rattle.ax_edition_laws.specs.Moved.{first_lists}
-use Rattle.ax_model.specs.Tree.{ValueTree, part_values, marked, EntriesTree, no_entries, entry_and}
+use Rattle.ax_relation.specs.Moved.{first_lists}
+use Rattle.ax_format.specs.Tree.{ValueTree, part_values, marked, EntriesTree, no_entries, entry_and}
 
 -- a compound's entries by the rule; of an extended item so many first parts; another value as it is
 abbrev pub value_by : ℕ → (EntriesTree → EntriesTree) → ValueTree → ValueTree

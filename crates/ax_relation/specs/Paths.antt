@@ -1,9 +1,9 @@
 -- The relation of two editions.
 use Rattle.std.specs.Prelude.{if◌then◌else◌, List, map, flat_map, Some, None}
-use Rattle.ax_model.specs.Named.{Key, keys_at, key_text}
-use Rattle.ax_model.specs.Placed.{Placed, place_from, named_place, placed_paths}
-use Rattle.ax_model.specs.Shared.{Shared}
-use Rattle.ax_model.specs.Specification.{SpecTree}
+use Rattle.ax_format.specs.Named.{Key, keys_at, key_text}
+use Rattle.ax_format.specs.Placed.{Placed, place_from, named_place, placed_paths}
+use Rattle.ax_format.specs.Shared.{Shared}
+use Rattle.ax_format.specs.Specification.{SpecTree}
 use Rattle.ax_relation.specs.declared.relation.RelationPath.{RelationPath}
 
 -- a key of the named path p

@@ -1,9 +1,9 @@
 -- Where slot numbers lead in a record.
 use Rattle.std.specs.Prelude.{ℕ, Bool, List, [], ◌∷◌, Option, Some, None, option_and_then}
-use Rattle.ax_model.specs.At.{slot_value}
-use Rattle.ax_model.specs.Placed.{has_part_where}
-use Rattle.ax_model.specs.Tree.{ValueTree, marked, EntriesTree}
-use Rattle.ax_model.specs.declared.place.Place.{Place}
+use Rattle.ax_format.specs.At.{slot_value}
+use Rattle.ax_format.specs.Placed.{has_part_where}
+use Rattle.ax_format.specs.Tree.{ValueTree, marked, EntriesTree}
+use Rattle.ax_format.specs.declared.place.Place.{Place}
 
 -- where slot numbers lead from a value
 abbrev pub value_below : List ℕ → ValueTree → Option ValueTree

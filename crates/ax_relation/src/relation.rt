@@ -1,14 +1,14 @@
 //! The relation of two editions.
 ghost use Rattle.std.specs.Prelude.{◌≡◌, None};
-ghost use Rattle.ax_model.specs.Plain.{spec_tree};
-ghost use Rattle.ax_model.specs.Shared.{Shared, Common};
-ghost use Rattle.ax_model.specs.declared.spec.Spec.{Spec};
+ghost use Rattle.ax_format.specs.Plain.{spec_tree};
+ghost use Rattle.ax_format.specs.Shared.{Shared, Common};
+ghost use Rattle.ax_format.specs.declared.spec.Spec.{Spec};
 ghost use Rattle.ax_relation.specs.Editions.{AreOf, AreOfEditions};
 
 use crate::known::Known;
 use crate::moves::Moves;
+use ax_format::{Path, Place, Text};
 use ax_lists::Sequence;
-use ax_model::{Path, Place, Text};
 
 /// A key of the old edition: its text, the number of its part, its old place, and its new one where it is shared. A part's
 /// places are its item's.

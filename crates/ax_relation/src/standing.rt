@@ -1,13 +1,13 @@
 //! What stands at the place of a key in a record. Nothing here takes memory.
 ghost use Rattle.std.specs.Prelude.{◌≡◌, ◌∷◌, option_map};
 ghost use Rattle.std.specs.Option.{option_copied};
-ghost use Rattle.ax_model.specs.Placed.{has_part};
-ghost use Rattle.ax_model.specs.Plain.{value_tree, entries_tree};
-ghost use Rattle.ax_model.specs.Tree.{marked};
+ghost use Rattle.ax_format.specs.Placed.{has_part};
+ghost use Rattle.ax_format.specs.Plain.{value_tree, entries_tree};
+ghost use Rattle.ax_format.specs.Tree.{marked};
 ghost use Rattle.ax_relation.specs.Standing.{is_there, value_below};
 
 use crate::values::value_of;
-use ax_model::{Entries, Place, Value};
+use ax_format::{Entries, Place, Value};
 
 /// Whether the value has the part of that number, or there is no question of a part.
 pub fn has_part(value: &Value, part: Option<u32>) -> bool

@@ -1,11 +1,11 @@
 //! Values and entries of a record, and copies of what passes of them.
 ghost use Rattle.std.specs.Prelude.{◌≡◌, IfOk, option_map};
 ghost use Rattle.std.specs.Option.{option_copied};
-ghost use Rattle.ax_edition_laws.specs.Moved.{first_lists};
-ghost use Rattle.ax_model.specs.At.{slot_value};
-ghost use Rattle.ax_model.specs.Plain.{value_tree, lists_tree, entries_tree};
+ghost use Rattle.ax_relation.specs.Moved.{first_lists};
+ghost use Rattle.ax_format.specs.At.{slot_value};
+ghost use Rattle.ax_format.specs.Plain.{value_tree, lists_tree, entries_tree};
 
-use ax_model::{Entries, Lists, Value, Values};
+use ax_format::{Entries, Lists, Value, Values};
 use std::alloc::{AllocError, Global};
 
 /// The value of the slot of that number, if there is an entry for it. Takes no memory.

@@ -1,8 +1,8 @@
 -- The test of alikeness holds exactly for alike kinds.
 use Rattle.std.proofs.Common.{◌≡◌, ◌↔◌, Bool, true, false, ◌&&◌, sym, ◌∙◌}
-use Rattle.ax_edition_laws.proofs.SameKinds.{both, same_kinds, kinds_same}
-use Rattle.ax_model.specs.Same.{is_same}
-use Rattle.ax_model.specs.Tree.{KindTree}
+use Rattle.ax_relation.proofs.SameKinds.{both, same_kinds, kinds_same}
+use Rattle.ax_format.specs.Same.{is_same}
+use Rattle.ax_format.specs.Tree.{KindTree}
 use Rattle.ax_rescale.specs.Alike.{Alike, is_alike, is_plain, unscaled}
 
 pub alike_kinds : (k l : KindTree) → is_alike k l ≡ true → Alike k l

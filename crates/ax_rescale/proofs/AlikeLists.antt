@@ -1,9 +1,9 @@
 -- Lists of unlike lengths aren't alike.
 use Rattle.std.proofs.Common.{◌≡◌, ◌≢◌, suc, List, [], ◌∷◌, length, Bool, true, false, ◌&&◌, refl, ap}
-use Rattle.ax_model.specs.Plain.{member_tree, members_tree, slot_tree, slots_tree}
-use Rattle.ax_model.specs.Same.{is_same_member, are_same_members, is_same_slot, are_same_slots}
-use Rattle.ax_model.specs.declared.kind.Member.{Member}
-use Rattle.ax_model.specs.declared.kind.Slot.{Slot}
+use Rattle.ax_format.specs.Plain.{member_tree, members_tree, slot_tree, slots_tree}
+use Rattle.ax_format.specs.Same.{is_same_member, are_same_members, is_same_slot, are_same_slots}
+use Rattle.ax_format.specs.declared.kind.Member.{Member}
+use Rattle.ax_format.specs.declared.kind.Slot.{Slot}
 use Rattle.ax_rescale.specs.Alike.{unscaled_member, unscaled_members, unscaled_slot, unscaled_slots}
 
 and_false : (b c : Bool) → false ≡ c → false ≡ b && c

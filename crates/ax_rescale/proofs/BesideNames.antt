@@ -1,11 +1,11 @@
 -- Slot numbers to which names lead in the one edition lead in the other where the names do.
 use Rattle.std.proofs.Common.{◌≡◌, ℕ, suc, ◌+◌, Bool, true, false, cond, bytes_eq, List, [], ◌∷◌, Option, Some, None, option_map, option_and_then, refl, sym, ◌∙◌, ap, arith}
-use Rattle.ax_edition_laws.proofs.Lookups.{found_is}
-use Rattle.ax_edition_laws.proofs.SameKinds.{bytes_same}
-use Rattle.ax_model.specs.Named.{kind_at}
-use Rattle.ax_model.specs.Naming.{found_or, slot_named}
-use Rattle.ax_model.specs.Placed.{steps_at}
-use Rattle.ax_model.specs.Tree.{KindTree, fixed, extended, counted, by_fx, explicit, compound, SlotsTree, no_slots, slot_and, spare_slot, subitem}
+use Rattle.ax_relation.proofs.Lookups.{found_is}
+use Rattle.ax_relation.proofs.SameKinds.{bytes_same}
+use Rattle.ax_format.specs.Named.{kind_at}
+use Rattle.ax_format.specs.Naming.{found_or, slot_named}
+use Rattle.ax_format.specs.Placed.{steps_at}
+use Rattle.ax_format.specs.Tree.{KindTree, fixed, extended, counted, by_fx, explicit, compound, SlotsTree, no_slots, slot_and, spare_slot, subitem}
 use Rattle.ax_rescale.specs.Beside.{nth_named, slot_numbered, found_beside, step_beside, Beside, beside_under, beside}
 
 -- ---- one slot

@@ -6,19 +6,19 @@ use Rattle.std.specs.Borrow.{Bor}
 use Rattle.std.specs.Option.{option_copied}
 use Rattle.ax_edition.specs.Index.{found}
 use Rattle.ax_edition.specs.SlotItems.{item_slot, items_tree}
-use Rattle.ax_model.proofs.Namings.{from_place}
-use Rattle.ax_model.specs.Placed.{place_from}
-use Rattle.ax_model.specs.Plain.{kind_tree, slot_tree, slots_tree}
-use Rattle.ax_model.specs.Tree.{KindTree, fixed, extended, counted, by_fx, explicit, compound, SlotTree, SlotsTree, slots_of}
-use Rattle.ax_model.specs.declared.kind.Kind.{Kind}
-use Rattle.ax_model.specs.declared.kind.Slot.{Slot}
-use Rattle.ax_model.specs.declared.kind.Slot.TheVariants.{Spare, Sub}
-use Rattle.ax_model.specs.declared.name.Name.{Name}
+use Rattle.ax_format.proofs.Namings.{from_place}
+use Rattle.ax_format.specs.Placed.{place_from}
+use Rattle.ax_format.specs.Plain.{kind_tree, slot_tree, slots_tree}
+use Rattle.ax_format.specs.Tree.{KindTree, fixed, extended, counted, by_fx, explicit, compound, SlotTree, SlotsTree, slots_of}
+use Rattle.ax_format.specs.declared.kind.Kind.{Kind}
+use Rattle.ax_format.specs.declared.kind.Slot.{Slot}
+use Rattle.ax_format.specs.declared.kind.Slot.TheVariants.{Spare, Sub}
+use Rattle.ax_format.specs.declared.name.Name.{Name}
 use Rattle.ax_rescale.proofs.EntrySteps.{spare_is, sub_is}
 use Rattle.ax_rescale.specs.Alike.{is_alike}
 use Rattle.ax_rescale.specs.Besides.{named_kind, step_tree}
 use Rattle.ax_rescale.specs.declared.beside.Step.{Step}
-use Rattle.ax_model.specs.declared.spec.Item.{Item}
+use Rattle.ax_format.specs.declared.spec.Item.{Item}
 use Rattle.ax_rescale.specs.Beside.{named_in, nth_named, slot_numbered, StepBeside, step_between, step_beside, Beside, beside_under, beside, alike_where}
 
 -- ---- a slot by its number

@@ -1,15 +1,15 @@
 -- What comes by the ways of two editions is the converted record.
 use Rattle.std.proofs.Common.{◌≡◌, ℕ, ◌+◌, Bool, true, false, cond, List, [], ◌∷◌, ◌++◌, Option, Some, None, option_and_then, refl, ◌∙◌, ap}
-use Rattle.ax_edition_laws.proofs.MovedShape.{slot_shape}
-use Rattle.ax_edition_laws.specs.Moved.{entry_where}
-use Rattle.ax_model.specs.At.{slot_value}
-use Rattle.ax_model.specs.Bodies.{RecordShape}
-use Rattle.ax_model.specs.Naming.{slot_named}
-use Rattle.ax_model.specs.Same.{common_parts}
-use Rattle.ax_model.specs.Shape.{Shape, EntriesShape}
-use Rattle.ax_model.specs.Shared.{is_shared_kind}
-use Rattle.ax_model.specs.Specification.{SpecTree, record_slots}
-use Rattle.ax_model.specs.Tree.{KindTree, fixed, extended, counted, by_fx, explicit, compound, element, group, SlotsTree, no_slots, slot_and, spare_slot, subitem, ValueTree, part_values, marked, EntriesTree}
+use Rattle.ax_relation.proofs.MovedShape.{slot_shape}
+use Rattle.ax_relation.specs.Moved.{entry_where}
+use Rattle.ax_format.specs.At.{slot_value}
+use Rattle.ax_format.specs.Bodies.{RecordShape}
+use Rattle.ax_format.specs.Naming.{slot_named}
+use Rattle.ax_format.specs.Same.{common_parts}
+use Rattle.ax_format.specs.Shape.{Shape, EntriesShape}
+use Rattle.ax_format.specs.Shared.{is_shared_kind}
+use Rattle.ax_format.specs.Specification.{SpecTree, record_slots}
+use Rattle.ax_format.specs.Tree.{KindTree, fixed, extended, counted, by_fx, explicit, compound, element, group, SlotsTree, no_slots, slot_and, spare_slot, subitem, ValueTree, part_values, marked, EntriesTree}
 use Rattle.ax_relation.specs.Below.{slot_below}
 use Rattle.ax_relation.specs.Passing.{value_by}
 use Rattle.ax_rescale.proofs.ConversionNamed.{source_value}

@@ -1,18 +1,18 @@
 -- The converted record has the entries of the keys that pass, and no others.
 use Rattle.std.proofs.Common.{◌≡◌, ℕ, ◌+◌, ◌<◌, nat_lt, Bool, true, false, cond, bytes_eq, List, [], ◌∷◌, Option, Some, None, option_map, option_and_then, refl, sym, ◌∙◌, ap, arith}
 use Rattle.std.proofs.lemmas.Bool.{le-ltb, ltb-false}
-use Rattle.ax_edition_laws.proofs.CommonParts.{none_below_none, part_kept}
-use Rattle.ax_edition_laws.proofs.Lookups.{found_is, named_from, value_later, value_before, value_put}
-use Rattle.ax_edition_laws.proofs.SameKinds.{both, bytes_same, same_kinds}
-use Rattle.ax_edition_laws.specs.Moved.{entry_where}
-use Rattle.ax_model.specs.At.{slot_value}
-use Rattle.ax_model.specs.Migrated.{kept_where}
-use Rattle.ax_model.specs.Named.{Key, NamedEntry, leaf, own_entry, entry_of, entry_at, entry_named, kind_at, Named}
-use Rattle.ax_model.specs.Naming.{found_or, slot_named}
-use Rattle.ax_model.specs.Same.{common, common_parts}
-use Rattle.ax_model.specs.Shared.{is_shared_kind, are_shared, shared_names}
-use Rattle.ax_model.specs.Specification.{SpecTree, record_kind}
-use Rattle.ax_model.specs.Tree.{KindTree, fixed, extended, counted, by_fx, explicit, compound, SlotsTree, no_slots, slot_and, spare_slot, subitem, ValueTree, part_values, marked, EntriesTree}
+use Rattle.ax_relation.proofs.CommonParts.{none_below_none, part_kept}
+use Rattle.ax_relation.proofs.Lookups.{found_is, named_from, value_later, value_before, value_put}
+use Rattle.ax_relation.proofs.SameKinds.{both, bytes_same, same_kinds}
+use Rattle.ax_relation.specs.Moved.{entry_where}
+use Rattle.ax_format.specs.At.{slot_value}
+use Rattle.ax_format.specs.Migrated.{kept_where}
+use Rattle.ax_format.specs.Named.{Key, NamedEntry, leaf, own_entry, entry_of, entry_at, entry_named, kind_at, Named}
+use Rattle.ax_format.specs.Naming.{found_or, slot_named}
+use Rattle.ax_format.specs.Same.{common, common_parts}
+use Rattle.ax_format.specs.Shared.{is_shared_kind, are_shared, shared_names}
+use Rattle.ax_format.specs.Specification.{SpecTree, record_kind}
+use Rattle.ax_format.specs.Tree.{KindTree, fixed, extended, counted, by_fx, explicit, compound, SlotsTree, no_slots, slot_and, spare_slot, subitem, ValueTree, part_values, marked, EntriesTree}
 use Rattle.ax_rescale.specs.Alike.{is_plain, is_alike}
 use Rattle.ax_rescale.specs.Conversion.{KindPair, alike_pair, converted_entry, passed}
 use Rattle.ax_rescale.specs.ConvertedRecord.{slot_gets, passes, passing_entries, converted_record}

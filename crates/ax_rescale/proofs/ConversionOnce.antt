@@ -1,12 +1,12 @@
 -- Each record has exactly one conversion, and each block.
 use Rattle.std.proofs.Common.{◌≡◌, List, [], ◌∷◌, map, refl, sym, ◌∙◌, subst}
 use Rattle.std.specs.List.{AllByRecursion}
-use Rattle.ax_edition_laws.proofs.Once.{named_record_once}
-use Rattle.ax_model.specs.Blocks.{BlockTree, read_block, opaque_block, Fits}
-use Rattle.ax_model.specs.Bodies.{RecordShape}
-use Rattle.ax_model.specs.Flaws.{NoFlaw}
-use Rattle.ax_model.specs.Specification.{SpecTree}
-use Rattle.ax_model.specs.Tree.{EntriesTree}
+use Rattle.ax_relation.proofs.Once.{named_record_once}
+use Rattle.ax_format.specs.Blocks.{BlockTree, read_block, opaque_block, Fits}
+use Rattle.ax_format.specs.Bodies.{RecordShape}
+use Rattle.ax_format.specs.Flaws.{NoFlaw}
+use Rattle.ax_format.specs.Specification.{SpecTree}
+use Rattle.ax_format.specs.Tree.{EntriesTree}
 use Rattle.ax_rescale.proofs.ConversionNamed.{record_named}
 use Rattle.ax_rescale.proofs.ConversionShape.{record_shape}
 use Rattle.ax_rescale.specs.Conversion.{Conversion, EachConversion, BlockConversion}

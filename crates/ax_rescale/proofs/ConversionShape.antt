@@ -1,16 +1,16 @@
 -- The converted record has the new edition's shape.
 use Rattle.std.proofs.Common.{◌≡◌, ℕ, ◌+◌, Bool, true, false, cond, List, Option, Some, None, option_and_then, refl, subst}
-use Rattle.ax_edition_laws.proofs.CommonParts.{first_shape}
-use Rattle.ax_edition_laws.proofs.MovedShape.{slot_shape, in_front}
-use Rattle.ax_edition_laws.proofs.SameKinds.{same_kinds}
-use Rattle.ax_edition_laws.proofs.SameShape.{same_shape}
-use Rattle.ax_model.specs.At.{slot_value}
-use Rattle.ax_model.specs.Bodies.{RecordShape}
-use Rattle.ax_model.specs.Naming.{slot_named}
-use Rattle.ax_model.specs.Shape.{Shape, EntriesShape}
-use Rattle.ax_model.specs.Shared.{is_shared_kind}
-use Rattle.ax_model.specs.Specification.{SpecTree, record_slots}
-use Rattle.ax_model.specs.Tree.{KindTree, fixed, extended, counted, by_fx, explicit, compound, SlotsTree, no_slots, slot_and, spare_slot, subitem, ValueTree, part_values, marked, EntriesTree}
+use Rattle.ax_relation.proofs.CommonParts.{first_shape}
+use Rattle.ax_relation.proofs.MovedShape.{slot_shape, in_front}
+use Rattle.ax_relation.proofs.SameKinds.{same_kinds}
+use Rattle.ax_relation.proofs.SameShape.{same_shape}
+use Rattle.ax_format.specs.At.{slot_value}
+use Rattle.ax_format.specs.Bodies.{RecordShape}
+use Rattle.ax_format.specs.Naming.{slot_named}
+use Rattle.ax_format.specs.Shape.{Shape, EntriesShape}
+use Rattle.ax_format.specs.Shared.{is_shared_kind}
+use Rattle.ax_format.specs.Specification.{SpecTree, record_slots}
+use Rattle.ax_format.specs.Tree.{KindTree, fixed, extended, counted, by_fx, explicit, compound, SlotsTree, no_slots, slot_and, spare_slot, subitem, ValueTree, part_values, marked, EntriesTree}
 use Rattle.ax_rescale.proofs.AlikeKinds.{alike_kinds}
 use Rattle.ax_rescale.proofs.ConversionNamed.{source_value, new_value}
 use Rattle.ax_rescale.proofs.ConvertedShape.{converted_shape}

@@ -3,11 +3,11 @@ use Rattle.std.proofs.Common.{◌≡◌, ℕ, zero, suc, ◌-◌, ◌*◌, ◌^�
 use Rattle.std.specs.Prelude.{◌*ℤ◌, nat_abs, nat_lt, Option, Some, None, IfNone}
 use Rattle.std.proofs.lemmas.Bool.{lt-ltb}
 use Rattle.std.proofs.Math.Nat.{pow-le-pow_right, eq_of_mul-eq-mul_right}
-use Rattle.ax_model.specs.declared.content.Sign.{Sign}
-use Rattle.ax_model.specs.declared.content.Sign.TheVariants.{Unsigned, Signed}
-use Rattle.ax_model.specs.declared.content.Scale.{Scale}
+use Rattle.ax_format.specs.declared.content.Sign.{Sign}
+use Rattle.ax_format.specs.declared.content.Sign.TheVariants.{Unsigned, Signed}
+use Rattle.ax_format.specs.declared.content.Scale.{Scale}
 use Rattle.ax_rescale.proofs.Products.{same_products, size_products, same_sign}
-use Rattle.ax_model.specs.Signs.{by_sign}
+use Rattle.ax_format.specs.Signs.{by_sign}
 use Rattle.ax_rescale.specs.Rescaled.{IsConverted, IsSpelled, with_sign_of}
 
 pub some_of : (a b : ℕ) → 0 < a → 0 < b → 0 < a * b

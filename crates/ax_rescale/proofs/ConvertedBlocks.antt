@@ -1,16 +1,16 @@
 -- What the code makes of a block is its conversion, with its misses.
 use Rattle.std.proofs.Common.{◌≡◌, ℕ, ◌<◌, List, [], ◌∷◌, ◌++◌, length, refl, sym, ◌∙◌, ap, subst}
 use Rattle.std.specs.List.{AllByRecursion}
-use Rattle.ax_edition_laws.proofs.DistinctNames.{record_distinct}
-use Rattle.ax_model.specs.Blocks.{BlockTree, read_block, opaque_block, Fits}
-use Rattle.ax_model.specs.Bodies.{RecordShape}
-use Rattle.ax_model.specs.OfCode.{BlockFits}
-use Rattle.ax_model.specs.Plain.{spec_tree, records_tree, block_tree}
-use Rattle.ax_model.specs.Specification.{SpecTree}
-use Rattle.ax_model.specs.Tree.{EntriesTree}
-use Rattle.ax_model.specs.declared.record.Block.{Block}
-use Rattle.ax_model.specs.declared.record.Block.TheVariants as BlockOf
-use Rattle.ax_model.specs.declared.record.Record.{Record}
+use Rattle.ax_relation.proofs.DistinctNames.{record_distinct}
+use Rattle.ax_format.specs.Blocks.{BlockTree, read_block, opaque_block, Fits}
+use Rattle.ax_format.specs.Bodies.{RecordShape}
+use Rattle.ax_format.specs.OfCode.{BlockFits}
+use Rattle.ax_format.specs.Plain.{spec_tree, records_tree, block_tree}
+use Rattle.ax_format.specs.Specification.{SpecTree}
+use Rattle.ax_format.specs.Tree.{EntriesTree}
+use Rattle.ax_format.specs.declared.record.Block.{Block}
+use Rattle.ax_format.specs.declared.record.Block.TheVariants as BlockOf
+use Rattle.ax_format.specs.declared.record.Record.{Record}
 use Rattle.ax_rescale.proofs.ConversionOnce.{each_converts}
 use Rattle.ax_rescale.proofs.MissedKeys.{all_found}
 use Rattle.ax_rescale.specs.Conversion.{EachConversion, BlockConversion}

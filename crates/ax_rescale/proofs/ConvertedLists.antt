@@ -2,11 +2,11 @@
 use Rattle.std.proofs.Common.{◌≡◌, ℕ, ◌+◌, ◌<◌, ◌≤◌, List, [], ◌∷◌, ◌++◌, length, map, take, drop, get_or, refl, sym, ◌∙◌, ap, arith, subst, append_assoc, append-nil}
 use Rattle.std.proofs.lemmas.List.{drop_all, take_all, take_more, map-append, length-append}
 use Rattle.std.specs.List.{AllByRecursion}
-use Rattle.ax_model.proofs.Namings.{from_place}
-use Rattle.ax_model.specs.Bodies.{RecordShape}
-use Rattle.ax_model.specs.Plain.{spec_tree, record_tree, records_tree}
-use Rattle.ax_model.specs.declared.record.Record.{Record}
-use Rattle.ax_model.specs.declared.spec.Spec.{Spec}
+use Rattle.ax_format.proofs.Namings.{from_place}
+use Rattle.ax_format.specs.Bodies.{RecordShape}
+use Rattle.ax_format.specs.Plain.{spec_tree, record_tree, records_tree}
+use Rattle.ax_format.specs.declared.record.Record.{Record}
+use Rattle.ax_format.specs.declared.spec.Spec.{Spec}
 use Rattle.ax_relation.specs.declared.relation.RelationPath.{RelationPath}
 use Rattle.ax_rescale.specs.ConvertedRecord.{converted_record}
 use Rattle.ax_rescale.specs.Converting.{converted_records}

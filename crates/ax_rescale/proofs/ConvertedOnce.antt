@@ -1,8 +1,8 @@
 -- A value is converted to at most one value.
 use Rattle.std.proofs.Common.{◌≡◌, ℕ, ◌+◌, ◌==◌, Bool, true, false, MatchBool, refl, sym, ◌∙◌, ap}
-use Rattle.ax_model.specs.Tree.{FixedTree, element, group, MembersTree, no_members, member_and, named, spare, KindTree, fixed, extended, counted, by_fx, explicit, compound, SlotsTree, no_slots, slot_and, spare_slot, subitem, ValueTree, number, member_values, occurrences, marked, ValuesTree, no_values, value_and, EntriesTree, no_entries, entry_and}
-use Rattle.ax_model.specs.declared.content.Content.TheVariants.{Quantity}
-use Rattle.ax_model.specs.declared.content.Content.{Content}
+use Rattle.ax_format.specs.Tree.{FixedTree, element, group, MembersTree, no_members, member_and, named, spare, KindTree, fixed, extended, counted, by_fx, explicit, compound, SlotsTree, no_slots, slot_and, spare_slot, subitem, ValueTree, number, member_values, occurrences, marked, ValuesTree, no_values, value_and, EntriesTree, no_entries, entry_and}
+use Rattle.ax_format.specs.declared.content.Content.TheVariants.{Quantity}
+use Rattle.ax_format.specs.declared.content.Content.{Content}
 use Rattle.ax_rescale.proofs.Once.{once}
 use Rattle.ax_rescale.specs.Converted.{NumberConverted, FixedConverted, MembersConverted, EachConverted, Converted, EntriesConverted}
 use Rattle.ax_rescale.specs.Scales.{ContentScaled, FixedScaled, MembersScaled, Scaled, SlotsScaled}

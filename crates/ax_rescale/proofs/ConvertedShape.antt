@@ -1,16 +1,16 @@
 -- A converted value has the new kind's shape.
 use Rattle.std.proofs.Common.{◌≡◌, ℕ, suc, ◌+◌, ◌^◌, ◌<◌, ◌==◌, Bool, true, false, ◌&&◌, bytes_eq, MatchBool, refl, sym, ap, subst}
 use Rattle.std.proofs.lemmas.Bool.{eqb-true}
-use Rattle.ax_edition_laws.proofs.SameKinds.{both, same_kinds}
-use Rattle.ax_edition_laws.proofs.SameShape.{same_shape}
-use Rattle.ax_model.specs.Same.{is_same_fixed, are_same_members, is_same_counter, is_same, are_same_slots}
-use Rattle.ax_model.specs.Shape.{NumberShape, FixedShape, MembersShape, EachShape, Shape, EntriesShape}
-use Rattle.ax_model.specs.Tree.{FixedTree, element, group, MembersTree, no_members, member_and, named, spare, KindTree, fixed, extended, counted, by_fx, explicit, compound, SlotsTree, no_slots, slot_and, spare_slot, subitem, ValueTree, number, member_values, occurrences, marked, ValuesTree, no_values, value_and, value_count, EntriesTree, no_entries, entry_and}
-use Rattle.ax_model.specs.Widths.{counter_width}
-use Rattle.ax_model.specs.declared.content.Content.TheVariants.{Quantity}
-use Rattle.ax_model.specs.declared.content.Content.{Content}
-use Rattle.ax_model.specs.declared.kind.Counter.TheVariants.{One, Two}
-use Rattle.ax_model.specs.declared.kind.Counter.{Counter}
+use Rattle.ax_relation.proofs.SameKinds.{both, same_kinds}
+use Rattle.ax_relation.proofs.SameShape.{same_shape}
+use Rattle.ax_format.specs.Same.{is_same_fixed, are_same_members, is_same_counter, is_same, are_same_slots}
+use Rattle.ax_format.specs.Shape.{NumberShape, FixedShape, MembersShape, EachShape, Shape, EntriesShape}
+use Rattle.ax_format.specs.Tree.{FixedTree, element, group, MembersTree, no_members, member_and, named, spare, KindTree, fixed, extended, counted, by_fx, explicit, compound, SlotsTree, no_slots, slot_and, spare_slot, subitem, ValueTree, number, member_values, occurrences, marked, ValuesTree, no_values, value_and, value_count, EntriesTree, no_entries, entry_and}
+use Rattle.ax_format.specs.Widths.{counter_width}
+use Rattle.ax_format.specs.declared.content.Content.TheVariants.{Quantity}
+use Rattle.ax_format.specs.declared.content.Content.{Content}
+use Rattle.ax_format.specs.declared.kind.Counter.TheVariants.{One, Two}
+use Rattle.ax_format.specs.declared.kind.Counter.{Counter}
 use Rattle.ax_rescale.proofs.AlikeKinds.{unscaled_same}
 use Rattle.ax_rescale.specs.Alike.{Alike, unscaled_fixed, unscaled_members, unscaled, unscaled_slots}
 use Rattle.ax_rescale.specs.Converted.{NumberConverted, FixedConverted, MembersConverted, EachConverted, Converted, EntriesConverted}

@@ -2,11 +2,11 @@
 use Rattle.std.proofs.Common.{◌≡◌, List, sym, ◌∙◌, ap, subst}
 use Rattle.ax_edition.specs.Index.{found, Finds}
 use Rattle.ax_edition.specs.declared.index.Index.{Index}
-use Rattle.ax_model.specs.Bodies.{RecordShape}
-use Rattle.ax_model.specs.Naming.{slot_named}
-use Rattle.ax_model.specs.Plain.{spec_tree}
-use Rattle.ax_model.specs.Specification.{SpecTree, record_slots}
-use Rattle.ax_model.specs.Tree.{SlotsTree, EntriesTree}
+use Rattle.ax_format.specs.Bodies.{RecordShape}
+use Rattle.ax_format.specs.Naming.{slot_named}
+use Rattle.ax_format.specs.Plain.{spec_tree}
+use Rattle.ax_format.specs.Specification.{SpecTree, record_slots}
+use Rattle.ax_format.specs.Tree.{SlotsTree, EntriesTree}
 use Rattle.ax_rescale.proofs.ByWays.{record_passes}
 use Rattle.ax_rescale.proofs.ReadyRecords.{record_ready}
 use Rattle.ax_rescale.specs.ConvertedRecord.{converted_record}

@@ -1,7 +1,7 @@
 -- Whether one of some ways converts, and from which slots, one way at a time.
 use Rattle.std.proofs.Common.{◌≡◌, ℕ, ◌+◌, ◌<◌, ◌≤◌, Bool, true, false, cond, ◌||◌, List, [], ◌∷◌, ◌++◌, length, map, drop, get_or, refl, sym, ◌∙◌, ap, append_assoc, append-nil}
 use Rattle.std.proofs.lemmas.List.{drop_all}
-use Rattle.ax_model.proofs.Namings.{from_place}
+use Rattle.ax_format.proofs.Namings.{from_place}
 use Rattle.ax_rescale.specs.Converts.{converting_of, old_slot, some_converts, way_converts}
 use Rattle.ax_rescale.specs.PlainWays.{way_tree, ways_tree}
 use Rattle.ax_rescale.specs.Ways.{WayTree}

@@ -1,14 +1,14 @@
 -- The values of a counted kind, converted one by one.
 use Rattle.std.proofs.Common.{◌≡◌, List, Box, Global, sym, ◌∙◌, ap, subst}
-use Rattle.ax_model.proofs.VariantTrees.{counted_tree, repeat_value}
-use Rattle.ax_model.specs.Plain.{kind_tree, value_tree, values_tree}
-use Rattle.ax_model.specs.Shape.{Shape, EachShape}
-use Rattle.ax_model.specs.Tree.{counted, KindTree, ValueTree, occurrences, ValuesTree}
-use Rattle.ax_model.specs.declared.kind.Counter.{Counter}
-use Rattle.ax_model.specs.declared.kind.Kind.{Kind}
-use Rattle.ax_model.specs.declared.kind.Kind.TheVariants as KindOf
-use Rattle.ax_model.specs.declared.value.Value.{Value}
-use Rattle.ax_model.specs.declared.value.Value.TheVariants as ValueOf
+use Rattle.ax_format.proofs.VariantTrees.{counted_tree, repeat_value}
+use Rattle.ax_format.specs.Plain.{kind_tree, value_tree, values_tree}
+use Rattle.ax_format.specs.Shape.{Shape, EachShape}
+use Rattle.ax_format.specs.Tree.{counted, KindTree, ValueTree, occurrences, ValuesTree}
+use Rattle.ax_format.specs.declared.kind.Counter.{Counter}
+use Rattle.ax_format.specs.declared.kind.Kind.{Kind}
+use Rattle.ax_format.specs.declared.kind.Kind.TheVariants as KindOf
+use Rattle.ax_format.specs.declared.value.Value.{Value}
+use Rattle.ax_format.specs.declared.value.Value.TheVariants as ValueOf
 use Rattle.ax_rescale.proofs.EachSteps.{no_occurrences}
 use Rattle.ax_rescale.specs.Converted.{EachConverted, Converted}
 use Rattle.ax_rescale.specs.Scales.{Scaled}

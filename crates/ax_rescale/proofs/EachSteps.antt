@@ -1,10 +1,10 @@
 -- Occurrences converted one after another.
 use Rattle.std.proofs.Common.{◌≡◌, List, [], ◌∷◌, ◌++◌, sym, subst}
-use Rattle.ax_model.specs.Plain.{value_tree, values_tree}
-use Rattle.ax_model.specs.Shape.{EachShape}
-use Rattle.ax_model.specs.Tree.{KindTree, counted, by_fx, compound, FixedTree, SlotsTree, ValueTree, occurrences, marked, ValuesTree, no_values, value_and, EntriesTree}
-use Rattle.ax_model.specs.declared.kind.Counter.{Counter}
-use Rattle.ax_model.specs.declared.value.Value.{Value}
+use Rattle.ax_format.specs.Plain.{value_tree, values_tree}
+use Rattle.ax_format.specs.Shape.{EachShape}
+use Rattle.ax_format.specs.Tree.{KindTree, counted, by_fx, compound, FixedTree, SlotsTree, ValueTree, occurrences, marked, ValuesTree, no_values, value_and, EntriesTree}
+use Rattle.ax_format.specs.declared.kind.Counter.{Counter}
+use Rattle.ax_format.specs.declared.value.Value.{Value}
 use Rattle.ax_rescale.proofs.GroupSteps.{Goes, goes_on, goes_all, goes_nowhere, goes_start}
 use Rattle.ax_rescale.specs.Converted.{FixedConverted, EachConverted, Converted, EntriesConverted}
 

@@ -2,16 +2,16 @@
 use Rattle.std.proofs.Common.{◌≡◌, ℕ, ◌+◌, ◌≤◌, ◌==◌, Bool, true, false, MatchBool, List, [], ◌∷◌, ◌++◌, length, refl, sym, ◌∙◌, ap, subst, arith}
 use Rattle.std.proofs.lemmas.List.{append-nil, length-append}
 use Rattle.std.proofs.lemmas.Bool.{eq-eqb, ne_eqb}
-use Rattle.ax_model.proofs.RecordFitting.{entries_split}
-use Rattle.ax_model.specs.Plain.{kind_tree, kind_step, slot_step, value_step, entry_step, slot_tree, slots_tree, value_tree, entry_tree, entries_tree}
-use Rattle.ax_model.specs.Shape.{Shape, EntriesShape}
-use Rattle.ax_model.specs.Tree.{KindTree, SlotTree, SlotsTree, no_slots, slot_and, spare_slot, subitem, ValueTree, EntriesTree, no_entries, entry_and}
-use Rattle.ax_model.specs.declared.kind.Kind.{Kind}
-use Rattle.ax_model.specs.declared.kind.Kind.TheOpen.{Slot-F}
-use Rattle.ax_model.specs.declared.kind.Slot.{Slot, fold-roll-Slot}
-use Rattle.ax_model.specs.declared.kind.Slot.TheVariants.{Spare, Sub, rolls-Spare, rolls-Sub}
-use Rattle.ax_model.specs.declared.value.Entry.{Entry, fold_out-Entry}
-use Rattle.ax_model.specs.declared.value.Value.{Value}
+use Rattle.ax_format.proofs.RecordFitting.{entries_split}
+use Rattle.ax_format.specs.Plain.{kind_tree, kind_step, slot_step, value_step, entry_step, slot_tree, slots_tree, value_tree, entry_tree, entries_tree}
+use Rattle.ax_format.specs.Shape.{Shape, EntriesShape}
+use Rattle.ax_format.specs.Tree.{KindTree, SlotTree, SlotsTree, no_slots, slot_and, spare_slot, subitem, ValueTree, EntriesTree, no_entries, entry_and}
+use Rattle.ax_format.specs.declared.kind.Kind.{Kind}
+use Rattle.ax_format.specs.declared.kind.Kind.TheOpen.{Slot-F}
+use Rattle.ax_format.specs.declared.kind.Slot.{Slot, fold-roll-Slot}
+use Rattle.ax_format.specs.declared.kind.Slot.TheVariants.{Spare, Sub, rolls-Spare, rolls-Sub}
+use Rattle.ax_format.specs.declared.value.Entry.{Entry, fold_out-Entry}
+use Rattle.ax_format.specs.declared.value.Value.{Value}
 use Rattle.ax_rescale.specs.Converted.{Converted, EntriesConverted}
 use Rattle.ax_rescale.specs.Scales.{SlotScaled, SlotsScaled}
 use Rattle.ax_rescale.specs.SlotSteps.{SlotShape, entries_before, SlotStep, NoSlotStep}

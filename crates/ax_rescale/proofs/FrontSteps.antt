@@ -5,17 +5,17 @@ use Rattle.std.proofs.lemmas.List.{map-append, drop_all}
 use Rattle.std.proofs.lemmas.List.Concat.{flat_map-append}
 use Rattle.std.specs.List.{AllByRecursion}
 use Rattle.std.specs.Option.{option_map}
-use Rattle.ax_model.proofs.BlockLengths.{read_length}
-use Rattle.ax_model.proofs.SplitLists.{none_long}
-use Rattle.ax_model.specs.Bodies.{RecordShape}
-use Rattle.ax_model.specs.Lengths.{capped, record_octets, records_octets}
-use Rattle.ax_model.specs.OfCode.{HasNoFlaw}
-use Rattle.ax_model.specs.Plain.{record_tree, records_tree, spec_tree}
-use Rattle.ax_model.specs.Specification.{SpecTree}
-use Rattle.ax_model.specs.Split.{EachFits, fits_within, records_length, split_after, split_within, too_long_within}
-use Rattle.ax_model.specs.Tree.{EntriesTree}
-use Rattle.ax_model.specs.declared.record.Record.{Record}
-use Rattle.ax_model.specs.declared.spec.Spec.{Spec}
+use Rattle.ax_format.proofs.BlockLengths.{read_length}
+use Rattle.ax_format.proofs.SplitLists.{none_long}
+use Rattle.ax_format.specs.Bodies.{RecordShape}
+use Rattle.ax_format.specs.Lengths.{capped, record_octets, records_octets}
+use Rattle.ax_format.specs.OfCode.{HasNoFlaw}
+use Rattle.ax_format.specs.Plain.{record_tree, records_tree, spec_tree}
+use Rattle.ax_format.specs.Specification.{SpecTree}
+use Rattle.ax_format.specs.Split.{EachFits, fits_within, records_length, split_after, split_within, too_long_within}
+use Rattle.ax_format.specs.Tree.{EntriesTree}
+use Rattle.ax_format.specs.declared.record.Record.{Record}
+use Rattle.ax_format.specs.declared.spec.Spec.{Spec}
 use Rattle.ax_rescale.specs.Splits.{AreFronts, all_records, long_octets}
 
 abbrev pub AreShaped : Spec → List Record → Type 0

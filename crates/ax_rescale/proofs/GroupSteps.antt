@@ -1,11 +1,11 @@
 -- The values of a group converted one after another.
 use Rattle.std.proofs.Common.{◌≡◌, List, [], ◌∷◌, ◌++◌, length, refl, sym, ap, subst, Option, Some, None}
 use Rattle.std.specs.Prelude.{IfSome, IfNone, MatchOption}
-use Rattle.ax_model.specs.Plain.{member_tree, members_tree, value_tree, values_tree}
-use Rattle.ax_model.specs.Shape.{MembersShape}
-use Rattle.ax_model.specs.Tree.{group, MemberTree, MembersTree, no_members, member_and, named, spare, ValueTree, member_values, ValuesTree, no_values, value_and}
-use Rattle.ax_model.specs.declared.kind.Member.{Member}
-use Rattle.ax_model.specs.declared.value.Value.{Value}
+use Rattle.ax_format.specs.Plain.{member_tree, members_tree, value_tree, values_tree}
+use Rattle.ax_format.specs.Shape.{MembersShape}
+use Rattle.ax_format.specs.Tree.{group, MemberTree, MembersTree, no_members, member_and, named, spare, ValueTree, member_values, ValuesTree, no_values, value_and}
+use Rattle.ax_format.specs.declared.kind.Member.{Member}
+use Rattle.ax_format.specs.declared.value.Value.{Value}
 use Rattle.ax_rescale.specs.Converted.{FixedConverted, MemberConverted, MembersConverted}
 use Rattle.ax_rescale.specs.MemberShapes.{MemberShape}
 use Rattle.ax_rescale.specs.Scales.{MemberScaled, MembersScaled}

@@ -19,7 +19,6 @@ pub mod EachSteps
 pub mod EntrySteps
 pub mod FrontSteps
 pub mod GroupSteps
-pub mod KeyFates
 pub mod MissedKeys
 pub mod NothingConverted
 pub mod Once
@@ -34,5 +33,3 @@ pub mod WatchLists
 pub mod WatchSteps
 pub mod WayLists
 pub mod Weights
-pub mod Worked
-pub mod WorkedValues

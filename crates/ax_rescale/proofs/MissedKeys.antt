@@ -1,15 +1,15 @@
 -- The misses that are found are the missed keys.
 use Rattle.std.proofs.Common.{◌≡◌, ℕ, ◌+◌, Bool, true, false, cond, ◌&&◌, not, is_some, List, [], ◌∷◌, ◌++◌, map, filter, flat_map, Option, Some, None, option_and_then, refl, sym, ◌∙◌, ap, append_assoc, subst}
 use Rattle.std.specs.List.{AllByRecursion}
-use Rattle.ax_edition_laws.proofs.Distinct.{Distinct}
-use Rattle.ax_edition_laws.proofs.PlacedPaths.{StandsNamed, all_named, kind_has_steps, placed_slot_names}
-use Rattle.ax_model.specs.Bodies.{RecordShape}
-use Rattle.ax_model.specs.Named.{Key, NamedEntry, part_keys, keys_at, kind_at, Named}
-use Rattle.ax_model.specs.Placed.{Placed, steps_at, place_from, named_place, placed_paths}
-use Rattle.ax_model.specs.Shared.{Shared}
-use Rattle.ax_model.specs.Specification.{SpecTree, record_kind, record_slots}
-use Rattle.ax_model.specs.Tree.{MembersTree, KindTree, fixed, extended, counted, by_fx, explicit, compound, marked, EntriesTree}
-use Rattle.ax_model.specs.declared.place.Place.{Place}
+use Rattle.ax_relation.proofs.Distinct.{Distinct}
+use Rattle.ax_relation.proofs.PlacedPaths.{StandsNamed, all_named, kind_has_steps, placed_slot_names}
+use Rattle.ax_format.specs.Bodies.{RecordShape}
+use Rattle.ax_format.specs.Named.{Key, NamedEntry, part_keys, keys_at, kind_at, Named}
+use Rattle.ax_format.specs.Placed.{Placed, steps_at, place_from, named_place, placed_paths}
+use Rattle.ax_format.specs.Shared.{Shared}
+use Rattle.ax_format.specs.Specification.{SpecTree, record_kind, record_slots}
+use Rattle.ax_format.specs.Tree.{MembersTree, KindTree, fixed, extended, counted, by_fx, explicit, compound, marked, EntriesTree}
+use Rattle.ax_format.specs.declared.place.Place.{Place}
 use Rattle.ax_relation.proofs.PresentAt.{no_new_place, placed_present, present_at, present_named, some_step}
 use Rattle.ax_relation.specs.Paths.{related_key, related_keys, relation_paths}
 use Rattle.ax_relation.specs.Standing.{is_there}

@@ -1,17 +1,17 @@
 -- Of a record without a value from which something is converted, what passes is what migrates, no key that is present can be
 -- converted, and the missed keys are the lost ones.
 use Rattle.std.proofs.Common.{◌≡◌, ℕ, ◌+◌, Bool, true, false, cond, ◌||◌, ◌&&◌, not, is_some, bytes_eq, List, [], ◌∷◌, ◌++◌, filter, Option, Some, None, option_map, option_and_then, refl, sym, ◌∙◌, ap, subst}
-use Rattle.ax_edition_laws.proofs.Lookups.{found_is}
-use Rattle.ax_edition_laws.proofs.SameKinds.{bytes_same}
-use Rattle.ax_edition_laws.specs.Moved.{entry_where, moved, moved_entries, moved_record}
-use Rattle.ax_model.specs.At.{slot_value}
-use Rattle.ax_model.specs.Migrated.{is_lost, Lost}
-use Rattle.ax_model.specs.Named.{Key, NamedEntry, entry_at, kind_at, Named, named_keys}
-use Rattle.ax_model.specs.Naming.{found_or, slot_named}
-use Rattle.ax_model.specs.Same.{common_parts}
-use Rattle.ax_model.specs.Shared.{is_shared_kind, are_shared, Shared}
-use Rattle.ax_model.specs.Specification.{SpecTree, record_slots}
-use Rattle.ax_model.specs.Tree.{KindTree, fixed, extended, counted, by_fx, explicit, compound, SlotsTree, no_slots, slot_and, spare_slot, subitem, ValueTree, part_values, marked, EntriesTree}
+use Rattle.ax_relation.proofs.Lookups.{found_is}
+use Rattle.ax_relation.proofs.SameKinds.{bytes_same}
+use Rattle.ax_relation.specs.Moved.{entry_where, moved, moved_entries, moved_record}
+use Rattle.ax_format.specs.At.{slot_value}
+use Rattle.ax_format.specs.Migrated.{is_lost, Lost}
+use Rattle.ax_format.specs.Named.{Key, NamedEntry, entry_at, kind_at, Named, named_keys}
+use Rattle.ax_format.specs.Naming.{found_or, slot_named}
+use Rattle.ax_format.specs.Same.{common_parts}
+use Rattle.ax_format.specs.Shared.{is_shared_kind, are_shared, Shared}
+use Rattle.ax_format.specs.Specification.{SpecTree, record_slots}
+use Rattle.ax_format.specs.Tree.{KindTree, fixed, extended, counted, by_fx, explicit, compound, SlotsTree, no_slots, slot_and, spare_slot, subitem, ValueTree, part_values, marked, EntriesTree}
 use Rattle.ax_relation.specs.Below.{slot_below}
 use Rattle.ax_rescale.proofs.ScaledKinds.{neither}
 use Rattle.ax_rescale.specs.Alike.{is_alike}

@@ -2,12 +2,12 @@
 use Rattle.std.proofs.Common.{◌≡◌, ℕ, suc, ◌-◌, ◌*◌, ◌^◌, ◌<◌, Bool, true, false, sym, ◌∙◌, ap, arith, ℤ, pos, negsuc, ◌-ℤ◌, if◌then◌else◌}
 use Rattle.std.specs.Prelude.{◌*ℤ◌, nat_abs, nat_lt}
 use Rattle.std.proofs.Math.Nat.{eq_of_mul-eq-mul_right}
-use Rattle.ax_model.specs.declared.content.Scale.{Scale}
-use Rattle.ax_model.specs.declared.content.Sign.{Sign}
-use Rattle.ax_model.specs.declared.content.Sign.TheVariants.{Unsigned, Signed}
+use Rattle.ax_format.specs.declared.content.Scale.{Scale}
+use Rattle.ax_format.specs.declared.content.Sign.{Sign}
+use Rattle.ax_format.specs.declared.content.Sign.TheVariants.{Unsigned, Signed}
 use Rattle.ax_rescale.proofs.Conversions.{less, some_of}
 use Rattle.ax_rescale.proofs.Products.{same_sign, size_products, with_own_sign}
-use Rattle.ax_model.specs.Signs.{by_sign}
+use Rattle.ax_format.specs.Signs.{by_sign}
 use Rattle.ax_rescale.specs.Rescaled.{IsConverted, with_sign_of}
 
 -- products by one number are equal only where the factors are

@@ -1,12 +1,12 @@
 -- Entries by ways, one at a time.
 use Rattle.std.proofs.Common.{◌≡◌, ℕ, ◌+◌, ◌<◌, ◌≤◌, List, ◌++◌, length, map, drop, get_or, Option, Some, None, option_and_then, refl, sym, ◌∙◌, ap, append_assoc, append-nil, subst}
 use Rattle.std.proofs.lemmas.List.{drop_all}
-use Rattle.ax_model.proofs.Namings.{from_place}
-use Rattle.ax_model.specs.Plain.{entry_tree, entries_tree}
-use Rattle.ax_model.specs.Tree.{ValueTree, EntriesTree, no_entries, entry_and, entries_of}
-use Rattle.ax_model.specs.declared.value.Entry.{Entry}
-use Rattle.ax_edition_laws.specs.Moved.{entry_where}
-use Rattle.ax_model.specs.At.{slot_value}
+use Rattle.ax_format.proofs.Namings.{from_place}
+use Rattle.ax_format.specs.Plain.{entry_tree, entries_tree}
+use Rattle.ax_format.specs.Tree.{ValueTree, EntriesTree, no_entries, entry_and, entries_of}
+use Rattle.ax_format.specs.declared.value.Entry.{Entry}
+use Rattle.ax_relation.specs.Moved.{entry_where}
+use Rattle.ax_format.specs.At.{slot_value}
 use Rattle.ax_relation.specs.Passing.{entry_list, list_of}
 use Rattle.ax_rescale.specs.PlainWays.{way_tree, ways_tree}
 use Rattle.ax_rescale.specs.Ready.{WayReady, WaysReady}

@@ -3,17 +3,17 @@ use Rattle.std.proofs.Common.{◌≡◌, ℕ, ◌≤◌, List, [], ◌∷◌, �
 use Rattle.std.proofs.Math.Seq.{take-append_seam, drop-append_seam}
 use Rattle.std.proofs.lemmas.List.{length-map}
 use Rattle.std.specs.List.{AllByRecursion}
-use Rattle.ax_model.proofs.SplitLists.{all_fit, none_long}
-use Rattle.ax_model.specs.Blocks.{read_block}
-use Rattle.ax_model.specs.CanonicalOctets.{canon_length}
-use Rattle.ax_model.specs.LongestFronts.{AllFit}
-use Rattle.ax_model.specs.OfCode.{BlockFits}
-use Rattle.ax_model.specs.Plain.{block_tree, records_tree, spec_tree}
-use Rattle.ax_model.specs.Sizes.{longest_block}
-use Rattle.ax_model.specs.declared.record.Block.{Block}
-use Rattle.ax_model.specs.declared.record.Block.TheVariants as BlockOf
-use Rattle.ax_model.specs.declared.record.Record.{Record}
-use Rattle.ax_model.specs.declared.spec.Spec.{Spec}
+use Rattle.ax_format.proofs.SplitLists.{all_fit, none_long}
+use Rattle.ax_format.specs.Blocks.{read_block}
+use Rattle.ax_format.specs.CanonicalOctets.{canon_length}
+use Rattle.ax_format.specs.LongestFronts.{AllFit}
+use Rattle.ax_format.specs.OfCode.{BlockFits}
+use Rattle.ax_format.specs.Plain.{block_tree, records_tree, spec_tree}
+use Rattle.ax_format.specs.Sizes.{longest_block}
+use Rattle.ax_format.specs.declared.record.Block.{Block}
+use Rattle.ax_format.specs.declared.record.Block.TheVariants as BlockOf
+use Rattle.ax_format.specs.declared.record.Record.{Record}
+use Rattle.ax_format.specs.declared.spec.Spec.{Spec}
 use Rattle.ax_rescale.proofs.FrontSteps.{AreShaped}
 use Rattle.ax_rescale.specs.Splits.{AreFronts, ArePieces, AreThere, IsPiece, all_records, pieces_of}
 

@@ -2,16 +2,16 @@
 use Rattle.std.proofs.Common.{◌≡◌, ℕ, ◌+◌, ◌≤◌, ◌==◌, nat_lt, Bool, true, false, ◌||◌, List, [], ◌∷◌, ◌++◌, length, codes, refl, arith}
 use Rattle.std.specs.List.{AllByRecursion}
 use Rattle.std.proofs.lemmas.Bool.{eqb-false, ltb-false}
-use Rattle.ax_edition_laws.proofs.DistinctNames.{both_empty, four_empty}
-use Rattle.ax_model.specs.Flaws.{flaw_where, is_among, is_no_multiple, is_too_wide, is_bad_width, is_bad_element_width, is_bad_scale, is_bad_string_width, has_no_member, fixed_flaws, members_flaws, kind_flaws, slots_flaws, items_flaws, uap_flaws, NoFlaw}
-use Rattle.ax_model.specs.Paths.{at, three_digits}
-use Rattle.ax_model.specs.Specification.{ItemTree, SpecTree}
-use Rattle.ax_model.specs.Tree.{FixedTree, element, group, MembersTree, no_members, member_and, named, spare, KindTree, fixed, extended, counted, by_fx, explicit, compound, SlotsTree, no_slots, slot_and, spare_slot, subitem, slot_count}
-use Rattle.ax_model.specs.Widths.{width}
-use Rattle.ax_model.specs.declared.content.Content.{Content}
-use Rattle.ax_model.specs.declared.content.Content.TheVariants.{Quantity}
-use Rattle.ax_model.specs.declared.flaw.FlawKind.{FlawKind}
-use Rattle.ax_model.specs.declared.flaw.FlawKind.TheVariants.{BadWidth, BadScale, BadStringWidth, Empty, DuplicateName, TooWide, BodyNotOctets, TooManySlots, NotOctets, DuplicateItem}
+use Rattle.ax_relation.proofs.DistinctNames.{both_empty, four_empty}
+use Rattle.ax_format.specs.Flaws.{flaw_where, is_among, is_no_multiple, is_too_wide, is_bad_width, is_bad_element_width, is_bad_scale, is_bad_string_width, has_no_member, fixed_flaws, members_flaws, kind_flaws, slots_flaws, items_flaws, uap_flaws, NoFlaw}
+use Rattle.ax_format.specs.Paths.{at, three_digits}
+use Rattle.ax_format.specs.Specification.{ItemTree, SpecTree}
+use Rattle.ax_format.specs.Tree.{FixedTree, element, group, MembersTree, no_members, member_and, named, spare, KindTree, fixed, extended, counted, by_fx, explicit, compound, SlotsTree, no_slots, slot_and, spare_slot, subitem, slot_count}
+use Rattle.ax_format.specs.Widths.{width}
+use Rattle.ax_format.specs.declared.content.Content.{Content}
+use Rattle.ax_format.specs.declared.content.Content.TheVariants.{Quantity}
+use Rattle.ax_format.specs.declared.flaw.FlawKind.{FlawKind}
+use Rattle.ax_format.specs.declared.flaw.FlawKind.TheVariants.{BadWidth, BadScale, BadStringWidth, Empty, DuplicateName, TooWide, BodyNotOctets, TooManySlots, NotOctets, DuplicateItem}
 use Rattle.ax_rescale.specs.Scales.{ContentScaled, FixedScaled, MembersScaled, Scaled, SlotsScaled}
 
 three_empty : {A : Type 0} (a b c : List A) → a ++ b ++ c ≡ [] → (a ≡ []) × (b ≡ []) × (c ≡ [])

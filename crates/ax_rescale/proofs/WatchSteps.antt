@@ -4,12 +4,12 @@ use Rattle.std.proofs.lemmas.Bool.{eqb-true, eq-eqb}
 use Rattle.std.proofs.lemmas.List.{drop_all}
 use Rattle.std.specs.Cmp.Lexicographic.{pointwise}
 use Rattle.std.specs.List.{AllByRecursion, starts_with}
-use Rattle.ax_edition_laws.proofs.SameKinds.{both}
-use Rattle.ax_model.specs.At.{slot_value}
-use Rattle.ax_model.specs.Placed.{has_part, has_part_where}
-use Rattle.ax_model.specs.Specification.{SpecTree}
-use Rattle.ax_model.specs.Tree.{ValueTree, number, member_values, part_values, occurrences, content_octets, marked, EntriesTree}
-use Rattle.ax_model.specs.declared.place.Place.{Place}
+use Rattle.ax_relation.proofs.SameKinds.{both}
+use Rattle.ax_format.specs.At.{slot_value}
+use Rattle.ax_format.specs.Placed.{has_part, has_part_where}
+use Rattle.ax_format.specs.Specification.{SpecTree}
+use Rattle.ax_format.specs.Tree.{ValueTree, number, member_values, part_values, occurrences, content_octets, marked, EntriesTree}
+use Rattle.ax_format.specs.declared.place.Place.{Place}
 use Rattle.ax_relation.specs.Standing.{value_below}
 use Rattle.ax_relation.specs.declared.relation.RelationPath.{RelationPath}
 use Rattle.ax_rescale.proofs.WatchLists.{At}

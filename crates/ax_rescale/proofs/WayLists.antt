@@ -13,13 +13,13 @@ use Rattle.ax_rescale.specs.PlainWays.{pair_tree, way_step, way_tree}
 use Rattle.ax_rescale.specs.Ways.{WayTree, way_from, ways_from, no_ways, way_between, way_where, ways_below, ways_of, slot_ways}
 use Rattle.ax_rescale.specs.declared.ways.AlikePair.{AlikePair}
 use Rattle.ax_rescale.specs.declared.ways.Way.{Way, roll-Way, fold-roll-Way}
-use Rattle.ax_model.proofs.Namings.{from_place}
-use Rattle.ax_model.specs.Plain.{slot_tree, slots_tree}
-use Rattle.ax_model.specs.Same.{common_parts}
-use Rattle.ax_model.specs.Shared.{is_shared_kind}
-use Rattle.ax_model.specs.Tree.{KindTree, fixed, extended, counted, by_fx, explicit, compound, SlotTree, SlotsTree, slots_of, slot_and, spare_slot, subitem}
-use Rattle.ax_model.specs.declared.kind.Slot.{Slot}
-use Rattle.ax_model.specs.declared.spec.Item.{Item}
+use Rattle.ax_format.proofs.Namings.{from_place}
+use Rattle.ax_format.specs.Plain.{slot_tree, slots_tree}
+use Rattle.ax_format.specs.Same.{common_parts}
+use Rattle.ax_format.specs.Shared.{is_shared_kind}
+use Rattle.ax_format.specs.Tree.{KindTree, fixed, extended, counted, by_fx, explicit, compound, SlotTree, SlotsTree, slots_of, slot_and, spare_slot, subitem}
+use Rattle.ax_format.specs.declared.kind.Slot.{Slot}
+use Rattle.ax_format.specs.declared.spec.Item.{Item}
 
 -- ---- one way
 

@@ -1,13 +1,13 @@
 -- A number of kinds that falls from a kind to those inside it.
 use Rattle.std.proofs.Common.{◌≡◌, ℕ, zero, suc, ◌+◌, ◌≤◌, List, [], ◌∷◌, drop, ap, ◌∙◌, Box, Global, arith}
-use Rattle.ax_model.proofs.VariantTrees.{compound_tree}
-use Rattle.ax_model.specs.Plain.{kind_tree, slot_tree, slots_tree}
-use Rattle.ax_model.specs.Tree.{KindTree, fixed, extended, counted, by_fx, explicit, compound, SlotTree, spare_slot, subitem, SlotsTree, no_slots, slot_and}
-use Rattle.ax_model.specs.declared.kind.Counter.{Counter}
-use Rattle.ax_model.specs.declared.kind.Kind.{Kind}
-use Rattle.ax_model.specs.declared.kind.Kind.TheVariants as KindOf
-use Rattle.ax_model.specs.declared.kind.Slot.{Slot}
-use Rattle.ax_model.specs.declared.kind.Slot.TheVariants as SlotOf
+use Rattle.ax_format.proofs.VariantTrees.{compound_tree}
+use Rattle.ax_format.specs.Plain.{kind_tree, slot_tree, slots_tree}
+use Rattle.ax_format.specs.Tree.{KindTree, fixed, extended, counted, by_fx, explicit, compound, SlotTree, spare_slot, subitem, SlotsTree, no_slots, slot_and}
+use Rattle.ax_format.specs.declared.kind.Counter.{Counter}
+use Rattle.ax_format.specs.declared.kind.Kind.{Kind}
+use Rattle.ax_format.specs.declared.kind.Kind.TheVariants as KindOf
+use Rattle.ax_format.specs.declared.kind.Slot.{Slot}
+use Rattle.ax_format.specs.declared.kind.Slot.TheVariants as SlotOf
 use Rattle.ax_rescale.proofs.CountedKinds.{counted_is}
 use Rattle.ax_rescale.proofs.EntrySteps.{sub_is}
 

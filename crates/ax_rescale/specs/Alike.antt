@@ -1,10 +1,10 @@
 -- Which kinds have values that can be converted one to the other (this project's own rule): those that are the same once the
 -- width and the scale of each quantity that is converted are set aside, but for its unit.
 use Rattle.std.specs.Prelude.{◌≡◌, Bool, true, false, ◌&&◌}
-use Rattle.ax_model.specs.Same.{Same, is_same}
-use Rattle.ax_model.specs.Tree.{FixedTree, element, group, MembersTree, no_members, member_and, MemberTree, named, spare, KindTree, fixed, extended, counted, by_fx, explicit, compound, SlotsTree, no_slots, slot_and, SlotTree, spare_slot, subitem}
-use Rattle.ax_model.specs.declared.content.Content.TheVariants.{Quantity}
-use Rattle.ax_model.specs.declared.content.Sign.TheVariants.{Unsigned}
+use Rattle.ax_format.specs.Same.{Same, is_same}
+use Rattle.ax_format.specs.Tree.{FixedTree, element, group, MembersTree, no_members, member_and, MemberTree, named, spare, KindTree, fixed, extended, counted, by_fx, explicit, compound, SlotsTree, no_slots, slot_and, SlotTree, spare_slot, subitem}
+use Rattle.ax_format.specs.declared.content.Content.TheVariants.{Quantity}
+use Rattle.ax_format.specs.declared.content.Sign.TheVariants.{Unsigned}
 
 abbrev mutual
   pub unscaled_fixed : FixedTree → FixedTree

@@ -1,10 +1,10 @@
 -- Where the names that slot numbers lead through in the one edition lead in the other.
 use Rattle.std.specs.Prelude.{ℕ, zero, suc, if◌then◌else◌, List, [], ◌∷◌, Option, Some, None, option_map, option_and_then}
-use Rattle.ax_model.specs.Naming.{slot_named}
-use Rattle.ax_model.specs.Placed.{place_from}
-use Rattle.ax_model.specs.Specification.{SpecTree, record_kind}
-use Rattle.ax_model.specs.Tree.{KindTree, compound, SlotTree, SlotsTree, no_slots, slot_and, spare_slot, subitem}
-use Rattle.ax_model.specs.declared.place.Place.{Place}
+use Rattle.ax_format.specs.Naming.{slot_named}
+use Rattle.ax_format.specs.Placed.{place_from}
+use Rattle.ax_format.specs.Specification.{SpecTree, record_kind}
+use Rattle.ax_format.specs.Tree.{KindTree, compound, SlotTree, SlotsTree, no_slots, slot_and, spare_slot, subitem}
+use Rattle.ax_format.specs.declared.place.Place.{Place}
 use Rattle.ax_rescale.specs.Alike.{is_alike}
 
 -- ---- slots by number

@@ -1,10 +1,10 @@
 -- Steps in two editions over the code's types.
 use Rattle.std.specs.Prelude.{ℕ, List}
 use Rattle.std.specs.Borrow.{Bor}
-use Rattle.ax_model.specs.Plain.{kind_tree}
-use Rattle.ax_model.specs.Tree.{KindTree}
-use Rattle.ax_model.specs.declared.kind.Kind.{Kind}
-use Rattle.ax_model.specs.declared.name.Name.{Name}
+use Rattle.ax_format.specs.Plain.{kind_tree}
+use Rattle.ax_format.specs.Tree.{KindTree}
+use Rattle.ax_format.specs.declared.kind.Kind.{Kind}
+use Rattle.ax_format.specs.declared.name.Name.{Name}
 use Rattle.ax_rescale.specs.Beside.{StepBeside}
 use Rattle.ax_rescale.specs.declared.beside.Step.{Step}
 

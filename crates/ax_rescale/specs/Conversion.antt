@@ -2,12 +2,12 @@
 -- kept with its entry. A named path that isn't shared, whose two kinds are alike, is converted where its value has a converted
 -- one. Every other key is missed: such a path as unconverted, any other as lost.
 use Rattle.std.specs.Prelude.{◌≡◌, ℕ, Bool, ◌&&◌, not, is_some, if◌then◌else◌, List, [], ◌∷◌, filter, Option, Some, None, option_map, option_and_then}
-use Rattle.ax_model.specs.Blocks.{BlockTree, read_block, opaque_block}
-use Rattle.ax_model.specs.Bodies.{RecordShape}
-use Rattle.ax_model.specs.Named.{Key, NamedEntry, leaf, own_entry, kind_at, Named, named_keys}
-use Rattle.ax_model.specs.Shared.{Shared}
-use Rattle.ax_model.specs.Specification.{SpecTree, record_kind}
-use Rattle.ax_model.specs.Tree.{KindTree, EntriesTree}
+use Rattle.ax_format.specs.Blocks.{BlockTree, read_block, opaque_block}
+use Rattle.ax_format.specs.Bodies.{RecordShape}
+use Rattle.ax_format.specs.Named.{Key, NamedEntry, leaf, own_entry, kind_at, Named, named_keys}
+use Rattle.ax_format.specs.Shared.{Shared}
+use Rattle.ax_format.specs.Specification.{SpecTree, record_kind}
+use Rattle.ax_format.specs.Tree.{KindTree, EntriesTree}
 use Rattle.ax_rescale.specs.Alike.{is_alike}
 use Rattle.ax_rescale.specs.ConvertedValue.{converted_value}
 

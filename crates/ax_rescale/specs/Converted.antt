@@ -1,9 +1,9 @@
 -- Which value of one kind a value of another is converted to (this project's own rule): each quantity's number is converted from
 -- the one scale to the other, and all else stays. Both kinds are walked beside each other. Inside an extended kind all stays.
 use Rattle.std.specs.Prelude.{◌≡◌, ℕ, ◌+◌, ◌==◌, MatchBool}
-use Rattle.ax_model.specs.Tree.{FixedTree, element, group, MembersTree, no_members, member_and, MemberTree, named, spare, KindTree, fixed, extended, counted, by_fx, explicit, compound, SlotsTree, no_slots, slot_and, spare_slot, subitem, ValueTree, number, member_values, occurrences, marked, ValuesTree, no_values, value_and, EntriesTree, no_entries, entry_and}
-use Rattle.ax_model.specs.declared.content.Content.{Content}
-use Rattle.ax_model.specs.declared.content.Content.TheVariants.{Quantity}
+use Rattle.ax_format.specs.Tree.{FixedTree, element, group, MembersTree, no_members, member_and, MemberTree, named, spare, KindTree, fixed, extended, counted, by_fx, explicit, compound, SlotsTree, no_slots, slot_and, spare_slot, subitem, ValueTree, number, member_values, occurrences, marked, ValuesTree, no_values, value_and, EntriesTree, no_entries, entry_and}
+use Rattle.ax_format.specs.declared.content.Content.{Content}
+use Rattle.ax_format.specs.declared.content.Content.TheVariants.{Quantity}
 use Rattle.ax_rescale.specs.Rescaled.{IsConverted}
 
 -- n in an element of w bits is converted to m in one of u bits

@@ -1,13 +1,13 @@
 -- The converted record and block as they are made, slot by slot of the new edition.
 use Rattle.std.specs.Prelude.{ℕ, ◌+◌, if◌then◌else◌, map, Option, Some, None, option_and_then}
-use Rattle.ax_edition_laws.specs.Moved.{entry_where, first_lists}
-use Rattle.ax_model.specs.At.{slot_value}
-use Rattle.ax_model.specs.Blocks.{BlockTree, read_block, opaque_block}
-use Rattle.ax_model.specs.Naming.{slot_named}
-use Rattle.ax_model.specs.Same.{common}
-use Rattle.ax_model.specs.Shared.{is_shared_kind}
-use Rattle.ax_model.specs.Specification.{SpecTree, record_slots}
-use Rattle.ax_model.specs.Tree.{KindTree, extended, compound, SlotsTree, no_slots, slot_and, spare_slot, subitem, ValueTree, part_values, marked, EntriesTree, no_entries}
+use Rattle.ax_relation.specs.Moved.{entry_where, first_lists}
+use Rattle.ax_format.specs.At.{slot_value}
+use Rattle.ax_format.specs.Blocks.{BlockTree, read_block, opaque_block}
+use Rattle.ax_format.specs.Naming.{slot_named}
+use Rattle.ax_format.specs.Same.{common}
+use Rattle.ax_format.specs.Shared.{is_shared_kind}
+use Rattle.ax_format.specs.Specification.{SpecTree, record_slots}
+use Rattle.ax_format.specs.Tree.{KindTree, extended, compound, SlotsTree, no_slots, slot_and, spare_slot, subitem, ValueTree, part_values, marked, EntriesTree, no_entries}
 use Rattle.ax_rescale.specs.Alike.{is_alike}
 use Rattle.ax_rescale.specs.ConvertedValue.{converted_value}
 

@@ -1,9 +1,9 @@
 -- What a converter holds, and what it makes of blocks.
 use Rattle.std.specs.Prelude.{◌≡◌, List, length, map}
-use Rattle.ax_model.specs.Plain.{spec_tree, block_tree}
-use Rattle.ax_model.specs.Tree.{EntriesTree}
-use Rattle.ax_model.specs.declared.record.Block.{Block}
-use Rattle.ax_model.specs.declared.spec.Spec.{Spec}
+use Rattle.ax_format.specs.Plain.{spec_tree, block_tree}
+use Rattle.ax_format.specs.Tree.{EntriesTree}
+use Rattle.ax_format.specs.declared.record.Block.{Block}
+use Rattle.ax_format.specs.declared.spec.Spec.{Spec}
 use Rattle.ax_relation.specs.Relates.{Relates}
 use Rattle.ax_rescale.specs.Conversion.{BlockConversion}
 use Rattle.ax_rescale.specs.ConvertedRecord.{converted_record}

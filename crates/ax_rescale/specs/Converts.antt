@@ -1,8 +1,8 @@
 -- What may be converted between two editions: the slots of the old one from which it comes, and the records in which it stands.
 use Rattle.std.specs.Prelude.{ℕ, Bool, false, ◌||◌, is_some, if◌then◌else◌, List, [], ◌∷◌}
-use Rattle.ax_model.specs.At.{slot_value}
-use Rattle.ax_model.specs.Specification.{SpecTree}
-use Rattle.ax_model.specs.Tree.{EntriesTree}
+use Rattle.ax_format.specs.At.{slot_value}
+use Rattle.ax_format.specs.Specification.{SpecTree}
+use Rattle.ax_format.specs.Tree.{EntriesTree}
 use Rattle.ax_rescale.specs.Ways.{WayTree, way_from, WaysTree, no_ways, way_and, record_ways}
 
 -- ---- ways

@@ -1,15 +1,12 @@
 pub mod Alike
-pub mod AlikeExamples
 pub mod Beside
 pub mod Besides
 pub mod Conversion
-pub mod ConversionExamples
 pub mod Converted
 pub mod ConvertedRecord
 pub mod ConvertedValue
 pub mod Converting
 pub mod Converts
-pub mod KeyFates
 pub mod MemberShapes
 pub mod Missed
 pub mod Misses

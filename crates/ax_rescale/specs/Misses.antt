@@ -1,9 +1,9 @@
 -- What a block's conversion misses: the missed keys of its records, which are numbered from 0; and their lines.
 use Rattle.std.specs.Prelude.{ℕ, ◌+◌, is_some, List, [], ◌∷◌, ◌++◌, map, flat_map}
-use Rattle.ax_model.specs.Blocks.{BlockTree, read_block, opaque_block}
-use Rattle.ax_model.specs.Named.{Key, key_text}
-use Rattle.ax_model.specs.Specification.{SpecTree}
-use Rattle.ax_model.specs.Tree.{EntriesTree}
+use Rattle.ax_format.specs.Blocks.{BlockTree, read_block, opaque_block}
+use Rattle.ax_format.specs.Named.{Key, key_text}
+use Rattle.ax_format.specs.Specification.{SpecTree}
+use Rattle.ax_format.specs.Tree.{EntriesTree}
 use Rattle.ax_rescale.specs.Conversion.{convertible, Missed}
 use Rattle.ax_rescale.specs.Missed.{missed_line}
 use Rattle.ax_rescale.specs.declared.miss.Miss.{Miss}

@@ -1,6 +1,6 @@
 -- The plain trees of ways.
 use Rattle.std.specs.Prelude.{List, map, option_map}
-use Rattle.ax_model.specs.Plain.{kind_tree}
+use Rattle.ax_format.specs.Plain.{kind_tree}
 use Rattle.ax_rescale.specs.Conversion.{KindPair}
 use Rattle.ax_rescale.specs.Ways.{WayTree, way_from, WaysTree, ways_from}
 use Rattle.ax_rescale.specs.declared.ways.AlikePair.{AlikePair}

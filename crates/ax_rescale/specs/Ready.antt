@@ -1,8 +1,8 @@
 -- Values at the slots of ways have the kinds from which they are converted, and these have scales.
 use Rattle.std.specs.Prelude.{Option, Some, None, IfSome}
-use Rattle.ax_model.specs.At.{slot_value}
-use Rattle.ax_model.specs.Shape.{Shape}
-use Rattle.ax_model.specs.Tree.{ValueTree, marked, EntriesTree}
+use Rattle.ax_format.specs.At.{slot_value}
+use Rattle.ax_format.specs.Shape.{Shape}
+use Rattle.ax_format.specs.Tree.{ValueTree, marked, EntriesTree}
 use Rattle.ax_rescale.specs.Conversion.{KindPair}
 use Rattle.ax_rescale.specs.Scales.{Scaled}
 use Rattle.ax_rescale.specs.Ways.{WayTree, way_from, WaysTree, no_ways, way_and}

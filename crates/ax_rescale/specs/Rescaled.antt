@@ -2,9 +2,9 @@
 -- its sign, times the scale's numerator over its denominator. Its converted number stands for exactly as much under the new
 -- scale: nothing is rounded. Where no number of the new width and sign does, there is none. The unit is no part of the rule.
 use Rattle.std.specs.Prelude.{◌≡◌, ℕ, ◌*◌, ◌^◌, ◌<◌, ℤ, pos, negsuc, ◌*ℤ◌, neg_ℤ}
-use Rattle.ax_model.specs.Signs.{by_sign}
-use Rattle.ax_model.specs.declared.content.Scale.{Scale}
-use Rattle.ax_model.specs.declared.content.Sign.{Sign}
+use Rattle.ax_format.specs.Signs.{by_sign}
+use Rattle.ax_format.specs.declared.content.Scale.{Scale}
+use Rattle.ax_format.specs.declared.content.Sign.{Sign}
 
 -- m in u bits stands for as much under the new scale as n in w bits does under the old one: both are quotients, and
 -- multiplied by the two denominators they are equal

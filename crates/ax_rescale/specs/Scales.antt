@@ -1,9 +1,9 @@
 -- Kinds in which each quantity that is converted has 1 to 64 bits and no 0 in its scale, as in a specification without flaw.
 -- Nothing is converted inside an extended kind.
 use Rattle.std.specs.Prelude.{ℕ, ◌<◌, ◌≤◌}
-use Rattle.ax_model.specs.Tree.{FixedTree, element, group, MembersTree, no_members, member_and, MemberTree, named, spare, KindTree, fixed, extended, counted, by_fx, explicit, compound, SlotsTree, no_slots, slot_and, SlotTree, spare_slot, subitem}
-use Rattle.ax_model.specs.declared.content.Content.{Content}
-use Rattle.ax_model.specs.declared.content.Content.TheVariants.{Quantity}
+use Rattle.ax_format.specs.Tree.{FixedTree, element, group, MembersTree, no_members, member_and, MemberTree, named, spare, KindTree, fixed, extended, counted, by_fx, explicit, compound, SlotsTree, no_slots, slot_and, SlotTree, spare_slot, subitem}
+use Rattle.ax_format.specs.declared.content.Content.{Content}
+use Rattle.ax_format.specs.declared.content.Content.TheVariants.{Quantity}
 
 abbrev pub ContentScaled : ℕ → Content → Type 0
 ContentScaled w (Quantity s) = (1 ≤ w) × (w ≤ 64) × (0 < s.num) × (0 < s.den)

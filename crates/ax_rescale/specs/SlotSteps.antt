@@ -1,9 +1,9 @@
 -- What one slot of two compounds does to entries that are converted.
 use Rattle.std.specs.Prelude.{◌≡◌, ℕ, ◌+◌, ◌≤◌, ◌==◌, MatchBool, List, [], ◌∷◌, ◌++◌, length}
-use Rattle.ax_model.specs.Plain.{entry_tree}
-use Rattle.ax_model.specs.Shape.{Shape, EntriesShape}
-use Rattle.ax_model.specs.Tree.{SlotTree, subitem, SlotsTree, slot_and, EntriesTree, entry_and}
-use Rattle.ax_model.specs.declared.value.Entry.{Entry}
+use Rattle.ax_format.specs.Plain.{entry_tree}
+use Rattle.ax_format.specs.Shape.{Shape, EntriesShape}
+use Rattle.ax_format.specs.Tree.{SlotTree, subitem, SlotsTree, slot_and, EntriesTree, entry_and}
+use Rattle.ax_format.specs.declared.value.Entry.{Entry}
 use Rattle.ax_rescale.specs.Converted.{EntriesConverted}
 
 -- the first entry has the shape of the slot with the number s, if it is that slot's

@@ -1,17 +1,17 @@
 -- A block's records split into data blocks, or the first record that is too long for one of its own (this project's own rule).
 use Rattle.std.specs.Prelude.{◌≡◌, ℕ, ◌≤◌, List, [], ◌∷◌, length, take, drop, map, flat_map, Option, Some, None}
 use Rattle.std.specs.Option.{option_map}
-use Rattle.ax_model.specs.Blocks.{read_block}
-use Rattle.ax_model.specs.Lengths.{capped}
-use Rattle.ax_model.specs.OfCode.{BlockFits, block_length}
-use Rattle.ax_model.specs.Plain.{block_tree, records_tree, spec_tree}
-use Rattle.ax_model.specs.Sizes.{longest_block}
-use Rattle.ax_model.specs.Split.{Split, first_too_long}
-use Rattle.ax_model.specs.Tree.{EntriesTree}
-use Rattle.ax_model.specs.declared.record.Block.{Block}
-use Rattle.ax_model.specs.declared.record.Block.TheVariants as BlockOf
-use Rattle.ax_model.specs.declared.record.Record.{Record}
-use Rattle.ax_model.specs.declared.spec.Spec.{Spec}
+use Rattle.ax_format.specs.Blocks.{read_block}
+use Rattle.ax_format.specs.Lengths.{capped}
+use Rattle.ax_format.specs.OfCode.{BlockFits, block_length}
+use Rattle.ax_format.specs.Plain.{block_tree, records_tree, spec_tree}
+use Rattle.ax_format.specs.Sizes.{longest_block}
+use Rattle.ax_format.specs.Split.{Split, first_too_long}
+use Rattle.ax_format.specs.Tree.{EntriesTree}
+use Rattle.ax_format.specs.declared.record.Block.{Block}
+use Rattle.ax_format.specs.declared.record.Block.TheVariants as BlockOf
+use Rattle.ax_format.specs.declared.record.Record.{Record}
+use Rattle.ax_format.specs.declared.spec.Spec.{Spec}
 use Rattle.ax_rescale.specs.declared.error.SplitError.{SplitError}
 use Rattle.ax_rescale.specs.declared.error.SplitError.TheVariants as Splitting
 

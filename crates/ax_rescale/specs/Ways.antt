@@ -1,11 +1,11 @@
 -- From which old slot each new one gets its value, and how, in the new edition's order.
 use Rattle.std.specs.Prelude.{ℕ, ◌+◌, if◌then◌else◌, List, [], ◌∷◌, ◌++◌, Option, Some, None, option_and_then}
-use Rattle.ax_edition_laws.specs.Moved.{entry_where}
-use Rattle.ax_model.specs.At.{slot_value}
-use Rattle.ax_model.specs.Same.{common_parts}
-use Rattle.ax_model.specs.Shared.{is_shared_kind}
-use Rattle.ax_model.specs.Specification.{SpecTree, record_kind}
-use Rattle.ax_model.specs.Tree.{KindTree, compound, SlotTree, SlotsTree, no_slots, slot_and, spare_slot, subitem, ValueTree, EntriesTree, no_entries}
+use Rattle.ax_relation.specs.Moved.{entry_where}
+use Rattle.ax_format.specs.At.{slot_value}
+use Rattle.ax_format.specs.Same.{common_parts}
+use Rattle.ax_format.specs.Shared.{is_shared_kind}
+use Rattle.ax_format.specs.Specification.{SpecTree, record_kind}
+use Rattle.ax_format.specs.Tree.{KindTree, compound, SlotTree, SlotsTree, no_slots, slot_and, spare_slot, subitem, ValueTree, EntriesTree, no_entries}
 use Rattle.ax_relation.specs.Below.{slot_below}
 use Rattle.ax_relation.specs.Passing.{value_by, entry_list}
 use Rattle.ax_rescale.specs.Alike.{is_alike}

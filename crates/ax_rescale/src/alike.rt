@@ -1,12 +1,12 @@
 //! Whether the values of one kind can be converted to those of another. Nothing here takes memory.
 ghost use Rattle.std.specs.Prelude.{◌≡◌, ◌↔◌, true};
-ghost use Rattle.ax_model.specs.Plain.{fixed_tree, member_tree, members_tree, kind_tree, slot_tree, slots_tree};
-ghost use Rattle.ax_model.specs.Same.{is_same_fixed, is_same_member, are_same_members, is_same, is_same_slot, are_same_slots};
-ghost use Rattle.ax_model.specs.Tree.{element, no_members, member_and, no_slots, slot_and};
+ghost use Rattle.ax_format.specs.Plain.{fixed_tree, member_tree, members_tree, kind_tree, slot_tree, slots_tree};
+ghost use Rattle.ax_format.specs.Same.{is_same_fixed, is_same_member, are_same_members, is_same, is_same_slot, are_same_slots};
+ghost use Rattle.ax_format.specs.Tree.{element, no_members, member_and, no_slots, slot_and};
 ghost use Rattle.ax_rescale.specs.Alike.{Alike, is_alike, is_plain, unscaled_fixed, unscaled_member, unscaled_members, unscaled, unscaled_slot, unscaled_slots};
 
 use ax_edition::{same_content, same_counter, same_last, same_parts};
-use ax_model::{Content, Fixed, Kind, Member, Members, Slot, Slots};
+use ax_format::{Content, Fixed, Kind, Member, Members, Slot, Slots};
 
 /// Whether two elements are the same; of two quantities only the units count.
 fn alike_elements(width: u32, content: &Content, own_width: u32, own: &Content) -> bool

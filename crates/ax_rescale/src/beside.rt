@@ -2,14 +2,14 @@
 ghost use Rattle.std.specs.Prelude.{◌≡◌, ◌∷◌, IfOk, option_map, option_and_then};
 ghost use Rattle.ax_edition.specs.Index.{Finds};
 ghost use Rattle.ax_edition.specs.SlotItems.{items_tree};
-ghost use Rattle.ax_model.specs.Plain.{kind_tree, slots_tree};
-ghost use Rattle.ax_model.specs.Tree.{SlotsTree, compound};
+ghost use Rattle.ax_format.specs.Plain.{kind_tree, slots_tree};
+ghost use Rattle.ax_format.specs.Tree.{SlotsTree, compound};
 ghost use Rattle.ax_rescale.specs.Beside.{alike_where, beside, slot_numbered, step_beside, step_between};
 ghost use Rattle.ax_rescale.specs.Besides.{named_kind, step_tree};
 
 use crate::alike::is_alike;
 use ax_edition::{Index, SlotItems};
-use ax_model::{Kind, Name, Place, Slot, Slots, Steps, find_slot};
+use ax_format::{Kind, Name, Place, Slot, Slots, Steps, find_slot};
 use std::alloc::{AllocError, Global};
 
 /// A slot of the new edition, with its kind and that of the old slot of its name.

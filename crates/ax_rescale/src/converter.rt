@@ -1,9 +1,9 @@
 //! Converted blocks.
 ghost use Rattle.std.specs.Prelude.{◌≡◌, ◌++◌, length, IfOk, OnOk, map};
 ghost use Rattle.std.specs.List.{AllByRecursion};
-ghost use Rattle.ax_model.specs.Bodies.{RecordShape};
-ghost use Rattle.ax_model.specs.OfCode.{BlockFits};
-ghost use Rattle.ax_model.specs.Plain.{spec_tree, record_tree, records_tree};
+ghost use Rattle.ax_format.specs.Bodies.{RecordShape};
+ghost use Rattle.ax_format.specs.OfCode.{BlockFits};
+ghost use Rattle.ax_format.specs.Plain.{spec_tree, record_tree, records_tree};
 ghost use Rattle.ax_relation.specs.Relates.{Relates};
 ghost use Rattle.ax_rescale.specs.Converting.{BlockConverted, IsConverter, converted_records, misses_of};
 ghost use Rattle.ax_rescale.specs.ConvertedRecord.{converted_record};
@@ -16,7 +16,7 @@ use crate::passing::passed_entries;
 use crate::watches::{Watches, watch_all};
 use crate::ways::{Ways, ways_of_items};
 use ax_edition::{Relation, index_items, slot_items};
-use ax_model::{Block, Record, Records, Spec};
+use ax_format::{Block, Record, Records, Spec};
 use std::alloc::{AllocError, Global};
 
 /// A block in the new edition, and what its conversion missed.

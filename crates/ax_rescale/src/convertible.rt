@@ -1,12 +1,12 @@
 //! From which slots something is converted between two editions.
 ghost use Rattle.std.specs.Prelude.{◌≡◌, ◌++◌, ◌∷◌, [], IfOk, OnOk, map};
-ghost use Rattle.ax_model.specs.Plain.{spec_tree};
+ghost use Rattle.ax_format.specs.Plain.{spec_tree};
 ghost use Rattle.ax_rescale.specs.Converts.{converting_of, converting_slots, some_converts, way_converts};
 ghost use Rattle.ax_rescale.specs.PlainWays.{way_tree, ways_tree};
 
 use crate::converter::ways_between;
 use crate::ways::{Way, Ways};
-use ax_model::Spec;
+use ax_format::Spec;
 use std::alloc::{AllocError, Global};
 
 /// Whether something is converted by the way, or by one below it.

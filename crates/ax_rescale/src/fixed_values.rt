@@ -1,14 +1,14 @@
 //! A value of one fixed kind as the value of another to which it is converted.
 ghost use Rattle.std.specs.Prelude.{◌≡◌, ◌<◌, ◌≤◌, ◌^◌, ℕ, IfSome, IfNone, IfOk};
-ghost use Rattle.ax_model.specs.Plain.{fixed_tree, member_tree, members_tree, value_tree, values_tree};
-ghost use Rattle.ax_model.specs.Shape.{FixedShape, MembersShape};
-ghost use Rattle.ax_model.specs.Tree.{ValueTree, ValuesTree};
+ghost use Rattle.ax_format.specs.Plain.{fixed_tree, member_tree, members_tree, value_tree, values_tree};
+ghost use Rattle.ax_format.specs.Shape.{FixedShape, MembersShape};
+ghost use Rattle.ax_format.specs.Tree.{ValueTree, ValuesTree};
 ghost use Rattle.ax_rescale.specs.Converted.{NumberConverted, FixedConverted, MemberConverted, MembersConverted};
 ghost use Rattle.ax_rescale.specs.MemberShapes.{MemberShape};
 ghost use Rattle.ax_rescale.specs.Scales.{ContentScaled, FixedScaled, MemberScaled, MembersScaled};
 
 use crate::number::convert_number;
-use ax_model::{Content, Fixed, Member, Members, Value, Values};
+use ax_format::{Content, Fixed, Member, Members, Value, Values};
 use std::alloc::{AllocError, Global};
 
 /// The number of an element in the other element.

@@ -2,15 +2,15 @@
 ghost use Rattle.std.specs.Prelude.{◌<◌, length, IfOk, IfErr};
 ghost use Rattle.std.specs.List.{AllByRecursion};
 ghost use Rattle.ax_lists.specs.Sizes.{list_bound};
-ghost use Rattle.ax_model.specs.Bodies.{RecordShape};
-ghost use Rattle.ax_model.specs.OfCode.{HasNoFlaw};
-ghost use Rattle.ax_model.specs.Plain.{records_tree, spec_tree};
+ghost use Rattle.ax_format.specs.Bodies.{RecordShape};
+ghost use Rattle.ax_format.specs.OfCode.{HasNoFlaw};
+ghost use Rattle.ax_format.specs.Plain.{records_tree, spec_tree};
 ghost use Rattle.ax_rescale.specs.Splits.{AreFronts, IsNotSplit};
 
 use crate::error::SplitError;
 use crate::octets::octets_of_record;
+use ax_format::{Record, Spec};
 use ax_lists::Sequence;
-use ax_model::{Record, Spec};
 use std::alloc::Global;
 
 /// The octets of CAT and LEN.

@@ -3,7 +3,7 @@ ghost use Rattle.std.specs.Prelude.{◌≡◌};
 ghost use Rattle.ax_outside.specs.Changes.{Wrote, sink_change};
 ghost use Rattle.ax_rescale.specs.Missed.{missed_word, missed_line};
 
-use ax_model::Text;
+use ax_format::Text;
 use ax_outside::{Sink, SinkFailed};
 use ax_report::write_entry;
 

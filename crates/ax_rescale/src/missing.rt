@@ -1,14 +1,14 @@
 //! What a record's conversion misses.
 ghost use Rattle.std.specs.Prelude.{◌≡◌, ◌++◌, ◌∷◌, [], ◌&&◌, not, is_none, is_some, length, OnOk};
-ghost use Rattle.ax_model.specs.Placed.{has_part};
-ghost use Rattle.ax_model.specs.Plain.{entries_tree, spec_tree, value_tree};
+ghost use Rattle.ax_format.specs.Placed.{has_part};
+ghost use Rattle.ax_format.specs.Plain.{entries_tree, spec_tree, value_tree};
 ghost use Rattle.ax_rescale.specs.Watching.{AreWatched, record_misses, stands};
 
 use crate::converter::Converter;
 use crate::miss::Miss;
 use crate::watches::Watch;
+use ax_format::{Entries, Place, Value};
 use ax_lists::Sequence;
-use ax_model::{Entries, Place, Value};
 use ax_relation::{has_part, is_there, value_standing};
 use std::alloc::{AllocError, Global};
 

@@ -1,11 +1,11 @@
 //! A number under one scale as a number under another.
 ghost use Rattle.std.specs.Prelude.{◌≡◌, ℕ, ◌*◌, ◌^◌, ◌<◌, ◌≤◌, pos, IfSome, IfNone, OnSome, unsigned_abs};
-ghost use Rattle.ax_model.specs.Signs.{by_sign};
+ghost use Rattle.ax_format.specs.Signs.{by_sign};
 ghost use Rattle.ax_rescale.specs.Rescaled.{IsConverted, IsSpelled, with_sign_of};
 
 use crate::divisor::gcd;
 use ax_bits::signed_of;
-use ax_model::{Scale, Sign};
+use ax_format::{Scale, Sign};
 
 /// What so many bits that spell the number mean by their sign.
 fn meant(value: u128, width: u32, sign: Sign) -> i128

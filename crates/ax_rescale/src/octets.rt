@@ -1,10 +1,10 @@
 //! How many octets a record has in its canonical form. Nothing here takes memory.
 ghost use Rattle.std.specs.Prelude.{◌≡◌};
-ghost use Rattle.ax_model.specs.Lengths.{capped, octets, octets_where, presence_octets, record_octets, slot_kind};
-ghost use Rattle.ax_model.specs.Plain.{spec_tree, value_tree};
-ghost use Rattle.ax_model.specs.Specification.{record_slots};
+ghost use Rattle.ax_format.specs.Lengths.{capped, octets, octets_where, presence_octets, record_octets, slot_kind};
+ghost use Rattle.ax_format.specs.Plain.{spec_tree, value_tree};
+ghost use Rattle.ax_format.specs.Specification.{record_slots};
 
-use ax_model::{Entry, Record, Spec, octets_of};
+use ax_format::{Entry, Record, Spec, octets_of};
 
 /// The octets of the least FSPEC whose last marked slot has that number.
 fn fspec_octets(last: u32) -> u64
@@ -13,7 +13,7 @@ fn fspec_octets(last: u32) -> u64
     (u64::from(last) + 6) / 7
 }
 
-#[tactic(auto, using(ax_model::proofs::Counting::item_kinds))]
+#[tactic(auto, using(ax_format::proofs::Counting::item_kinds))]
 fn octets_of_item(spec: &Spec, entry: &Entry) -> u64
     ensures { result ≡ capped (octets_where (slot_kind (record_slots (spec_tree spec.now)) entry.now.slot) (octets (value_tree entry.now.value))) }
 {

@@ -1,6 +1,6 @@
 //! Values and entries of the old edition, as they come to the new one.
 ghost use Rattle.std.specs.Prelude.{◌≡◌, ◌++◌, map, IfOk, OnOk, option_map};
-ghost use Rattle.ax_model.specs.Plain.{value_tree, entry_tree, entries_tree};
+ghost use Rattle.ax_format.specs.Plain.{value_tree, entry_tree, entries_tree};
 ghost use Rattle.ax_rescale.specs.ConvertedValue.{converted_value};
 ghost use Rattle.ax_rescale.specs.PlainWays.{pair_tree, way_tree, ways_tree};
 ghost use Rattle.ax_rescale.specs.Ready.{PairReady, ValueReady, WayReady, WaysReady};
@@ -8,7 +8,7 @@ ghost use Rattle.ax_rescale.specs.Ways.{passed_by, way_entries, way_value};
 
 use crate::values::convert_value;
 use crate::ways::{AlikePair, Way, Ways};
-use ax_model::{Entries, Entry, Value};
+use ax_format::{Entries, Entry, Value};
 use ax_relation::{first_copies, value_of};
 use std::alloc::{AllocError, Global};
 

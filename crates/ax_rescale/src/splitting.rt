@@ -2,15 +2,15 @@
 ghost use Rattle.std.specs.Prelude.{◌≡◌, ◌<◌, length, IfOk, IfErr};
 ghost use Rattle.std.specs.List.{AllByRecursion};
 ghost use Rattle.ax_lists.specs.Sizes.{list_bound};
-ghost use Rattle.ax_model.specs.OfCode.{BlockFits, HasNoFlaw};
-ghost use Rattle.ax_model.specs.Plain.{records_tree};
-ghost use Rattle.ax_model.specs.declared.record.Block.TheVariants as BlockOf;
+ghost use Rattle.ax_format.specs.OfCode.{BlockFits, HasNoFlaw};
+ghost use Rattle.ax_format.specs.Plain.{records_tree};
+ghost use Rattle.ax_format.specs.declared.record.Block.TheVariants as BlockOf;
 ghost use Rattle.ax_rescale.specs.Splits.{ArePieces, AreThere, IsNotSplit, IsPiece, IsRead, pieces_of, records_in};
 
 use crate::error::SplitError;
 use crate::fronts::fronts;
+use ax_format::{Block, Record, Records, Spec};
 use ax_lists::Sequence;
-use ax_model::{Block, Record, Records, Spec};
 use std::alloc::{AllocError, Global};
 
 /// The blocks that a block is split into, in order.

@@ -1,14 +1,14 @@
 //! A value of one kind as the value of another to which it is converted.
 ghost use Rattle.std.specs.Prelude.{◌<◌, length, IfSome, IfNone, IfOk, MatchOption};
-ghost use Rattle.ax_model.specs.Plain.{fixed_tree, kind_tree, slot_tree, slots_tree, value_tree, values_tree, entries_tree};
-ghost use Rattle.ax_model.specs.Shape.{FixedShape, EachShape, Shape, EntriesShape};
-ghost use Rattle.ax_model.specs.Tree.{ValueTree, ValuesTree, EntriesTree};
+ghost use Rattle.ax_format.specs.Plain.{fixed_tree, kind_tree, slot_tree, slots_tree, value_tree, values_tree, entries_tree};
+ghost use Rattle.ax_format.specs.Shape.{FixedShape, EachShape, Shape, EntriesShape};
+ghost use Rattle.ax_format.specs.Tree.{ValueTree, ValuesTree, EntriesTree};
 ghost use Rattle.ax_rescale.specs.Converted.{FixedConverted, EachConverted, Converted, EntriesConverted};
 ghost use Rattle.ax_rescale.specs.Scales.{FixedScaled, Scaled, SlotScaled, SlotsScaled};
 ghost use Rattle.ax_rescale.specs.SlotSteps.{SlotShape, SlotStep, NoSlotStep};
 
 use crate::fixed_values::convert_fixed;
-use ax_model::{Entries, Entry, Fixed, Kind, Slot, Slots, Value, Values};
+use ax_format::{Entries, Entry, Fixed, Kind, Slot, Slots, Value, Values};
 use std::alloc::{AllocError, Global};
 
 /// The occurrences of a by-FX item, where each of them is converted.

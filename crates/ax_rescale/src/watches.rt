@@ -4,16 +4,16 @@ ghost use Rattle.std.specs.List.{AllByRecursion};
 ghost use Rattle.ax_edition.specs.Index.{Finds};
 ghost use Rattle.ax_edition.specs.SlotItems.{items_tree};
 ghost use Rattle.ax_lists.specs.Sizes.{list_bound};
-ghost use Rattle.ax_model.specs.Plain.{spec_tree};
-ghost use Rattle.ax_model.specs.Specification.{record_slots, SpecTree};
-ghost use Rattle.ax_model.specs.Tree.{SlotsTree};
+ghost use Rattle.ax_format.specs.Plain.{spec_tree};
+ghost use Rattle.ax_format.specs.Specification.{record_slots, SpecTree};
+ghost use Rattle.ax_format.specs.Tree.{SlotsTree};
 ghost use Rattle.ax_relation.specs.declared.relation.RelationPath.{RelationPath};
 ghost use Rattle.ax_rescale.specs.Watching.{AreWatched, begins, target_of};
 
 use crate::beside::alike_place;
 use ax_edition::{Index, SlotItems};
+use ax_format::Place;
 use ax_lists::Sequence;
-use ax_model::Place;
 use ax_relation::{RelationPath, RelationPaths};
 use std::alloc::{AllocError, Global};
 

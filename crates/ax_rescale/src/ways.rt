@@ -2,14 +2,14 @@
 ghost use Rattle.std.specs.Prelude.{◌≡◌, ◌++◌, ◌∷◌, [], IfOk, OnOk, map};
 ghost use Rattle.ax_edition.specs.Index.{found};
 ghost use Rattle.ax_edition.specs.SlotItems.{item_slot, items_tree};
-ghost use Rattle.ax_model.specs.Plain.{kind_tree, slot_tree, slots_tree};
+ghost use Rattle.ax_format.specs.Plain.{kind_tree, slot_tree, slots_tree};
 ghost use Rattle.ax_rescale.specs.PlainWays.{way_tree};
 ghost use Rattle.ax_rescale.specs.Ways.{slot_ways, way_where, ways_below, ways_of};
 
 use crate::alike::is_alike;
 use ax_edition::{Index, SlotItems, index_below, is_shared, shared_parts};
+use ax_format::{Item, Kind, Name, Slot, Slots};
 use ax_lists::Sequence;
-use ax_model::{Item, Kind, Name, Slot, Slots};
 use std::alloc::{AllocError, Global};
 
 /// Two kinds that stand at one path of both editions, where the values of the old one are converted to the new one.

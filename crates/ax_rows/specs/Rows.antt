@@ -1,7 +1,7 @@
 -- Rows: what a presence octet with given marks says of the octets after it, as steps.
 use Rattle.std.specs.Prelude.{◌≡◌, ℕ, zero, suc, ◌+◌, ◌-◌, ◌*◌, ◌/◌, ◌%◌, ◌<◌, ◌≤◌, List, [], ◌∷◌, ◌++◌, length, drop, get_or}
 use Rattle.ax_fspec.specs.Marks.{seven}
-use Rattle.ax_model.specs.Presence.{octets_needed}
+use Rattle.ax_format.specs.Presence.{octets_needed}
 use Rattle.ax_rows.specs.declared.slot_rows.SlotRows.{SlotRows}
 use Rattle.ax_rows.specs.declared.step.Step.{Step}
 

@@ -1,19 +1,19 @@
 -- What the made-up command does with one block.
 use Rattle.std.proofs.Common.{◌≡◌, ℕ, ◌<◌, ◌≤◌, ◌==◌, Bool, true, false, List, [], Option, Result, Ok, Err, if◌then◌else◌, length, refl, sym, ◌∙◌, ap, arith}
 use Rattle.std.proofs.lemmas.Bool.{eqb-true}
-use Rattle.ax_model.specs.Blocks.{opaque_block}
-use Rattle.ax_model.specs.CanonicalOctets.{framed}
-use Rattle.ax_model.specs.Ends.{RawSpells}
-use Rattle.ax_model.specs.Framing.{RawTree}
+use Rattle.ax_format.specs.Blocks.{opaque_block}
+use Rattle.ax_format.specs.CanonicalOctets.{framed}
+use Rattle.ax_format.specs.Ends.{RawSpells}
+use Rattle.ax_format.specs.Framing.{RawTree}
 use Rattle.ax_outside.specs.Changes.{SinkChange, Wrote}
 use Rattle.ax_outside.specs.declared.sinks.SinkFailed.{SinkFailed}
 use Rattle.ax_run_tests.specs.Categories.{answer_to, category_command, category_line}
-use Rattle.ax_stream.proofs.OpaqueBlocks.{raw_framed}
-use Rattle.ax_stream.specs.Commands.{BlockAnswer, gives, too_long}
-use Rattle.ax_stream.proofs.Taken.{takes_after_lines, takes_cut_line, takes_too_long}
-use Rattle.ax_stream.specs.Taking.{GivesFor, Takes, WritesOctets}
-use Rattle.ax_stream.specs.declared.work.WorkStop.{WorkStop}
-use Rattle.ax_stream.specs.declared.work.WorkStop.TheVariants.{TooLong, ReportFault}
+use Rattle.ax_blocks.proofs.OpaqueBlocks.{raw_framed}
+use Rattle.ax_blocks.specs.Commands.{BlockAnswer, gives, too_long}
+use Rattle.ax_blocks.proofs.Taken.{takes_after_lines, takes_cut_line, takes_too_long}
+use Rattle.ax_blocks.specs.BlockTaking.{GivesFor, Takes, WritesOctets}
+use Rattle.ax_blocks.specs.declared.work.WorkStop.{WorkStop}
+use Rattle.ax_blocks.specs.declared.work.WorkStop.TheVariants.{TooLong, ReportFault}
 
 opaque_spells : (raw : RawTree) → length raw.body ≤ 65532 → 1 ≤ length raw.body → RawSpells [] raw (opaque_block raw.category raw.body)
 opaque_spells raw few some = record {

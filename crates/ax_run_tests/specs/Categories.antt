@@ -1,9 +1,9 @@
 -- A made-up block command: for each block, under no catalogue, a line with its category and a mark on the output. A block of
 -- category 255 is refused for its length.
 use Rattle.std.specs.Prelude.{ℕ, List, [], ◌++◌, codes, if◌then◌else◌, ◌==◌}
-use Rattle.ax_model.specs.Paths.{three_digits}
-use Rattle.ax_model.specs.CanonicalOctets.{category_of}
-use Rattle.ax_stream.specs.Commands.{BlockAnswer, BlockCommand, gives, too_long}
+use Rattle.ax_format.specs.Paths.{three_digits}
+use Rattle.ax_format.specs.CanonicalOctets.{category_of}
+use Rattle.ax_blocks.specs.Commands.{BlockAnswer, BlockCommand, gives, too_long}
 
 abbrev pub category_line : ℕ → List ℕ
 category_line category = three_digits category ++ codes "\n"

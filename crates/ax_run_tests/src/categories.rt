@@ -5,9 +5,9 @@ ghost use Rattle.ax_outside.specs.Changes.{Wrote, sink_change};
 ghost use Rattle.ax_run_tests.specs.Categories.{category_command, category_line};
 
 use crate::world::{bytes, failing, left_of};
-use ax_model::{RawBlock, category_digits};
+use ax_blocks::{BlockWork, StreamEnd, WorkStop, run_blocks, write_piece};
+use ax_format::{RawBlock, category_digits};
 use ax_outside::{MemSink, MemSource, Sink, SinkFailed, write_text};
-use ax_stream::{BlockWork, StreamEnd, WorkStop, run_blocks, write_piece};
 use std::alloc::Global;
 use std::process::Abort;
 

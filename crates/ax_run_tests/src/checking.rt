@@ -1,7 +1,7 @@
 //! `check`, refused files and refused words. None of these reads the input.
 
 use crate::world::{Left, Outside, bytes, leaves, leaves_octets};
-use ax_samples::{CAT019_P1, FILE_E, FILE_W};
+use ax_vectors::{CAT019_P1, FILE_E, FILE_W};
 use std::alloc::Global;
 use std::process::Abort;
 

@@ -1,6 +1,6 @@
 //! The category files that a run of `convert` finds, all of one category.
 
-use ax_samples::{FILE_Y1, FILE_Y2, FILE_Y3, FILE_Y4};
+use ax_vectors::{FILE_Y1, FILE_Y2, FILE_Y3, FILE_Y4};
 
 static TEXTS: [(&str, &str); 26] = [
     ("Y1", FILE_Y1),

@@ -1,12 +1,12 @@
 //! The block loop of jobs that take no memory, by itself.
-ghost use Rattle.ax_drive.specs.Working.{IsSoundJob};
+ghost use Rattle.ax_app.specs.Working.{IsSoundJob};
 ghost use Rattle.ax_relation.specs.Relates.{Relates};
 
 use crate::migrating::{largest, moved};
 use crate::specs::accepted;
 use crate::world::{bytes, failing, text_of};
+use ax_app::{DriveEnd, Job, Work, drive};
 use ax_check::{Accepted, Catalogue};
-use ax_drive::{DriveEnd, Job, Work, drive};
 use ax_edition::{Relation, relate};
 use ax_migrate_views::Migrator;
 use ax_outside::{EndlessSource, MemSink, MemSource, Source};

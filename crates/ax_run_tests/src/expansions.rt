@@ -1,6 +1,6 @@
 //! The expansion files that a run finds, and category files with an item RE for them.
 
-use ax_samples::{FILE_X, FILE_X2};
+use ax_vectors::{FILE_X, FILE_X2};
 
 static TEXTS: [(&str, &str); 19] = [
     ("T1", FILE_X),

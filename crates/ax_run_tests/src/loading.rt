@@ -2,7 +2,7 @@
 
 use ax_load::{LoadStop, SpecFault, load_catalogue};
 use ax_outside::MemLibrary;
-use ax_samples::{CAT034_P1, CAT048_P1, FILE_A, FILE_E, FILE_F, NESTED_TOO_DEEP};
+use ax_vectors::{CAT034_P1, CAT048_P1, FILE_A, FILE_E, FILE_F, NESTED_TOO_DEEP};
 use ax_words::WordText;
 use std::alloc::Global;
 use std::process::Abort;

@@ -7,7 +7,7 @@ use ax_command::{
     Cause, FilterFault, InputFault, Outcome, SpecFault, TextFault, line_of, write_lines,
 };
 use ax_outside::MemSink;
-use ax_samples::FILE_F;
+use ax_vectors::FILE_F;
 use std::alloc::Global;
 use std::process::Abort;
 

@@ -1,8 +1,8 @@
 //! Specifications, read from texts.
 
 use ax_check::{Accepted, accept};
+use ax_format::Spec;
 use ax_grammar::read_spec;
-use ax_model::Spec;
 use ax_tokens::tokens;
 use std::alloc::Global;
 use std::process::Abort;

@@ -2,8 +2,8 @@
 
 use crate::checks::same_octets;
 use crate::specs::accepted;
-use ax_samples::{CAT034_P1, CAT048_P1, FILE_K, FILE_N, FILE_W, FILE_Z};
 use ax_trial::trial_text;
+use ax_vectors::{CAT034_P1, CAT048_P1, FILE_K, FILE_N, FILE_W, FILE_Z};
 use std::alloc::Global;
 use std::process::Abort;
 

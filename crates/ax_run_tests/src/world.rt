@@ -4,7 +4,7 @@ use crate::conversions::conversion_texts;
 use crate::expansions::expansion_texts;
 use ax_app::run;
 use ax_outside::{MemLibrary, MemSink, MemSource, fill};
-use ax_samples::{
+use ax_vectors::{
     CAT019_P1, CAT034_P1, CAT048_P1, CAT048_P2, FILE_A, FILE_E, FILE_F, FILE_G1, FILE_G2, FILE_H1,
     FILE_H2, FILE_H3, FILE_N, FILE_S, FILE_W, FILE_Z, NESTED_TOO_DEEP, octets,
 };

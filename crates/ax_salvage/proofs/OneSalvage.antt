@@ -3,12 +3,12 @@ use Rattle.std.proofs.Common.{◌≡◌, ℕ, ◌+◌, ◌==◌, List, [], ◌�
 use Rattle.std.specs.List.{AllByRecursion}
 use Rattle.std.proofs.lemmas.List.Sums.{sum_by-cons}
 use Rattle.ax_bits.specs.Bits.{AreOctets}
-use Rattle.ax_model.proofs.EndsOnce.{raw_no_fault, one_fault}
-use Rattle.ax_model.proofs.FramedOnce.{framed_once, some_framed}
-use Rattle.ax_model.proofs.StreamsApart.{found_in}
-use Rattle.ax_model.specs.Flaws.{NoFlaw}
-use Rattle.ax_model.specs.Framing.{RawTree, Framed}
-use Rattle.ax_model.specs.Specification.{SpecTree}
+use Rattle.ax_format.proofs.EndsOnce.{raw_no_fault, one_fault}
+use Rattle.ax_format.proofs.FramedOnce.{framed_once, some_framed}
+use Rattle.ax_format.proofs.StreamsApart.{found_in}
+use Rattle.ax_format.specs.Flaws.{NoFlaw}
+use Rattle.ax_format.specs.Framing.{RawTree, Framed}
+use Rattle.ax_format.specs.Specification.{SpecTree}
 use Rattle.ax_salvage.proofs.Blocks.{all_judged, raws_of_judged}
 use Rattle.ax_salvage.specs.Salvaged.{HasOneSalvage, Salvaged, WrittenOrReported, is_written, is_reported, all_saved, last_lines, refused_lines, salvage_end}
 use Rattle.ax_salvage.specs.Tallying as Tallying

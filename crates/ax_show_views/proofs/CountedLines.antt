@@ -1,12 +1,12 @@
 -- Counted and wide items, one occurrence after the other.
 use Rattle.std.proofs.Common.{◌≡◌, ℕ, suc, ◌+◌, ◌-◌, ◌*◌, ◌<◌, ◌≤◌, List, length, drop, codes, refl, sym, ◌∙◌, ap, arith, subst}
 use Rattle.ax_bits.specs.Bits.{bits}
-use Rattle.ax_model.specs.Reader.{got, read, each_read}
-use Rattle.ax_model.specs.Tree.{KindTree, counted, occurrences, no_values, value_and, value_count}
-use Rattle.ax_model.specs.Widths.{counter_octets}
-use Rattle.ax_model.specs.declared.kind.Counter.{Counter}
-use Rattle.ax_reader.proofs.Counting.{each_first, each_fails_at}
-use Rattle.ax_reader.specs.Reading.{FailsAt, IsCount, kind_read}
+use Rattle.ax_format.specs.Reader.{got, read, each_read}
+use Rattle.ax_format.specs.Tree.{KindTree, counted, occurrences, no_values, value_and, value_count}
+use Rattle.ax_format.specs.Widths.{counter_octets}
+use Rattle.ax_format.specs.declared.kind.Counter.{Counter}
+use Rattle.ax_fspec.proofs.Counting.{each_first, each_fails_at}
+use Rattle.ax_fspec.specs.Reading.{FailsAt, IsCount, kind_read}
 use Rattle.ax_text.specs.Printing.{as_lines, Puts}
 use Rattle.ax_text.specs.ShowText.{kind_lines, each_lines, occurrence}
 use Rattle.ax_values.proofs.Counting.{counted_begins}

@@ -2,11 +2,11 @@
 use Rattle.std.proofs.Common.{◌≡◌, ℕ, suc, ◌+◌, ◌≤◌, List, [], ◌∷◌, ◌++◌, length, take, drop, refl, sym, ◌∙◌, ap, arith, append-nil, append_assoc, length-append, codes, decimal, ◌-◌}
 use Rattle.std.proofs.lemmas.Fmt.{decimal_digit}
 use Rattle.std.proofs.lemmas.List.{append_cancel_left, take_at, drop_at, drop-drop}
-use Rattle.ax_model.specs.Reader.{Read}
-use Rattle.ax_model.specs.Tree.{KindTree, ValueTree}
-use Rattle.ax_model.specs.declared.fault.BodyFault.{BodyFault}
-use Rattle.ax_reader.proofs.Continuing.{gets_after, fails_after}
-use Rattle.ax_reader.specs.Reading.{Gets, FailsAt, Continues, kind_read}
+use Rattle.ax_format.specs.Reader.{Read}
+use Rattle.ax_format.specs.Tree.{KindTree, ValueTree}
+use Rattle.ax_format.specs.declared.fault.BodyFault.{BodyFault}
+use Rattle.ax_fspec.proofs.Continuing.{gets_after, fails_after}
+use Rattle.ax_fspec.specs.Reading.{Gets, FailsAt, Continues, kind_read}
 use Rattle.ax_text.specs.Printing.{as_lines, Puts}
 use Rattle.ax_text.specs.ShowText.{count_line, kind_lines}
 use Rattle.ax_text.specs.ValueText.{Texts, one_onto}

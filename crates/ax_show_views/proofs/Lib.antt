@@ -1,10 +1,12 @@
-mod TableRemarks
-mod Members
-mod Leading
-mod UnitLines
+mod Blocks
 mod CountedLines
+mod Leading
 mod MarkedLines
+mod Members
+mod RecordLines
 mod ShortLines
 mod SlotLines
 mod Stops
-mod RecordLines
+mod TableRemarks
+mod TablesOf
+mod UnitLines

@@ -7,16 +7,16 @@ use Rattle.ax_fspec.specs.Marks.{slots_from}
 use Rattle.ax_fspec.specs.Marks as Marks
 use Rattle.ax_fspec.specs.declared.mask.SlotMask.{SlotMask}
 use Rattle.ax_held_kinds.proofs.MarkedSlots.{first_is, first_from, ascend, no_entries_left, marks_clear, entries_shape}
-use Rattle.ax_model.specs.InBounds.{InBounds, SlotsInBounds}
-use Rattle.ax_model.specs.Paths as Paths
+use Rattle.ax_format.specs.InBounds.{InBounds, SlotsInBounds}
+use Rattle.ax_format.specs.Paths as Paths
 use Rattle.ax_held_kinds.specs.Held.{held_slot, held_slots}
-use Rattle.ax_model.specs.Presence.{NoneUndefined}
-use Rattle.ax_model.specs.Reader.{got, both, read, entries_read}
-use Rattle.ax_model.specs.Tree.{KindTree, EntriesTree, no_entries, entry_and, SlotsTree, no_slots, slot_and, SlotTree, spare_slot, subitem, slots_of, defined_slots, compound, marked}
-use Rattle.ax_model.specs.declared.fault.BodyFault.{BodyFault}
+use Rattle.ax_format.specs.Presence.{NoneUndefined}
+use Rattle.ax_format.specs.Reader.{got, both, read, entries_read}
+use Rattle.ax_format.specs.Tree.{KindTree, EntriesTree, no_entries, entry_and, SlotsTree, no_slots, slot_and, SlotTree, spare_slot, subitem, slots_of, defined_slots, compound, marked}
+use Rattle.ax_format.specs.declared.fault.BodyFault.{BodyFault}
 use Rattle.ax_held_kinds.specs.declared.kinds.HeldSlot.{HeldSlot}
-use Rattle.ax_reader.proofs.Marking.{field_read, marks_bits}
-use Rattle.ax_reader.specs.Reading.{Gets, FailsAt, IsMaskOf, SlotInBounds, kind_read, entries_at}
+use Rattle.ax_fspec.proofs.Marking.{field_read, marks_bits}
+use Rattle.ax_fspec.specs.Reading.{Gets, FailsAt, IsMaskOf, SlotInBounds, kind_read, entries_at}
 use Rattle.ax_text.proofs.EntryWays.{by_slots, entries_same, numbered}
 use Rattle.ax_text.proofs.ListedKinds.{lines_made}
 use Rattle.ax_text.specs.Printing.{as_lines, Puts}

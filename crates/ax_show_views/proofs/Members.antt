@@ -3,12 +3,12 @@ use Rattle.std.proofs.Common.{◌≡◌, ℕ, ◌+◌, ◌<◌, ◌≤◌, ◌^�
 use Rattle.std.proofs.lemmas.List.{drop-drop, drop_all}
 use Rattle.ax_bits.proofs.Pieces.{number-word}
 use Rattle.ax_bits.specs.Bits.{number_of, word}
-use Rattle.ax_model.specs.InBounds.{MembersInBounds}
+use Rattle.ax_format.specs.InBounds.{MembersInBounds}
 use Rattle.ax_held_kinds.specs.HeldFixed.{held_member, held_members}
-use Rattle.ax_model.specs.Reader.{members_value}
-use Rattle.ax_model.specs.Tree.{MembersTree, member_and, MemberTree, named, spare}
-use Rattle.ax_model.specs.Widths.{width, members_width}
-use Rattle.ax_model.specs.declared.content.Content.{Content}
+use Rattle.ax_format.specs.Reader.{members_value}
+use Rattle.ax_format.specs.Tree.{MembersTree, member_and, MemberTree, named, spare}
+use Rattle.ax_format.specs.Widths.{width, members_width}
+use Rattle.ax_format.specs.declared.content.Content.{Content}
 use Rattle.ax_held_kinds.specs.declared.kinds.HeldMember.{HeldMember}
 use Rattle.ax_text.proofs.Printed.{Leaves, leaves_all, leaves_fewer, leaves_none}
 use Rattle.ax_text.specs.Listable.{MemberListable, MembersListable}

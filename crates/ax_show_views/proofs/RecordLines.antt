@@ -5,17 +5,17 @@ use Rattle.ax_bits.proofs.Words.{bits-append, length-bits}
 use Rattle.ax_bits.specs.Bits.{bits}
 use Rattle.ax_fspec.specs.Fields.{MarksSlots}
 use Rattle.ax_fspec.specs.declared.mask.SlotMask.{SlotMask}
-use Rattle.ax_model.proofs.Bounds.{record_bounds}
-use Rattle.ax_model.specs.Bodies.{RecordsSpell}
-use Rattle.ax_model.specs.Flaws.{NoFlaw}
-use Rattle.ax_model.specs.InBounds.{InBounds}
-use Rattle.ax_model.specs.Paths.{three_digits, at}
-use Rattle.ax_model.specs.Specification.{SpecTree, record_kind, record_slots}
-use Rattle.ax_model.specs.Tree.{EntriesTree, marked}
-use Rattle.ax_reader.proofs.Continuing.{gets_after, fails_after}
-use Rattle.ax_reader.proofs.Exact.{spelled_at, fault_at}
-use Rattle.ax_reader.proofs.Marking.{field_read, marks_bits}
-use Rattle.ax_reader.specs.Reading.{FailsAt, IsMaskOf, record_slot_list, kind_read, entries_at}
+use Rattle.ax_format.proofs.Bounds.{record_bounds}
+use Rattle.ax_format.specs.Bodies.{RecordsSpell}
+use Rattle.ax_format.specs.Flaws.{NoFlaw}
+use Rattle.ax_format.specs.InBounds.{InBounds}
+use Rattle.ax_format.specs.Paths.{three_digits, at}
+use Rattle.ax_format.specs.Specification.{SpecTree, record_kind, record_slots}
+use Rattle.ax_format.specs.Tree.{EntriesTree, marked}
+use Rattle.ax_fspec.proofs.Continuing.{gets_after, fails_after}
+use Rattle.ax_fspec.proofs.Exact.{spelled_at, fault_at}
+use Rattle.ax_fspec.proofs.Marking.{field_read, marks_bits}
+use Rattle.ax_fspec.specs.Reading.{FailsAt, IsMaskOf, record_slot_list, kind_read, entries_at}
 use Rattle.ax_text.specs.Printing.{as_lines, Puts}
 use Rattle.ax_text.specs.ShowText.{entries_lines, record_lines, records_lines}
 use Rattle.ax_text.specs.ValueText.{Texts, one_onto}

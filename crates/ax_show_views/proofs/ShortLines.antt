@@ -1,8 +1,8 @@
 -- Lines of elements of few bits, put after their paths.
 use Rattle.std.proofs.Common.{◌≡◌, ℕ, List, [], ◌∷◌, ◌++◌, codes, decimal, sym, ◌∙◌, ap, append_assoc}
 use Rattle.ax_held_kinds.specs.Lines.{line_end}
-use Rattle.ax_model.specs.Paths.{at}
-use Rattle.ax_model.specs.declared.content.Content.{Content}
+use Rattle.ax_format.specs.Paths.{at}
+use Rattle.ax_format.specs.declared.content.Content.{Content}
 use Rattle.ax_text.specs.Printing.{as_lines, Puts}
 use Rattle.ax_text.specs.Remarks.{remark}
 use Rattle.ax_text.specs.ShowText.{number_line}

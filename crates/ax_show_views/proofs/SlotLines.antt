@@ -1,8 +1,8 @@
 -- One slot, at the path of its name.
 use Rattle.std.proofs.Common.{◌≡◌, ℕ, List, ◌++◌, take, codes, decimal, subst, sym, ap, ◌∙◌, append_assoc}
-use Rattle.ax_model.specs.Paths.{at}
-use Rattle.ax_model.specs.Tree.{KindTree, subitem}
-use Rattle.ax_reader.specs.Reading.{kind_read}
+use Rattle.ax_format.specs.Paths.{at}
+use Rattle.ax_format.specs.Tree.{KindTree, subitem}
+use Rattle.ax_fspec.specs.Reading.{kind_read}
 use Rattle.ax_text.specs.ShowText.{kind_lines, occurrence}
 use Rattle.ax_values.specs.SlotReading.{HasFailed, HasSlotFailed}
 use Rattle.ax_values.specs.declared.error.DecodeError.{DecodeError}

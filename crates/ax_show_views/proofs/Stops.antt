@@ -1,9 +1,9 @@
 -- Why a fixed kind isn't shown, passed on.
 use Rattle.std.proofs.Common.{◌≡◌, ℕ, ◌+◌, ◌*◌, ◌<◌, ◌≤◌, List, length, refl, subst, sym, arith}
-use Rattle.ax_model.specs.Reader.{Read}
-use Rattle.ax_model.specs.declared.fault.BodyCause.TheVariants.{RunsOut}
-use Rattle.ax_model.specs.declared.fault.BodyFault.{BodyFault}
-use Rattle.ax_reader.specs.Reading.{FailsAt}
+use Rattle.ax_format.specs.Reader.{Read}
+use Rattle.ax_format.specs.declared.fault.BodyCause.TheVariants.{RunsOut}
+use Rattle.ax_format.specs.declared.fault.BodyFault.{BodyFault}
+use Rattle.ax_fspec.specs.Reading.{FailsAt}
 use Rattle.ax_show_views.specs.Stopped.{IsStopped, IsUnitStop}
 use Rattle.ax_show_views.specs.declared.stop.FixedStop.{FixedStop}
 use Rattle.ax_show_views.specs.declared.stop.FixedStop.TheVariants as Stop

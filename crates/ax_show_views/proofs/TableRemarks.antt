@@ -1,10 +1,10 @@
 -- A table's entry of a number, as a table of that entry.
 use Rattle.std.proofs.Common.{◌≡◌, ℕ, ◌==◌, Bool, true, false, cond, List, [], ◌∷◌, find, Option, Some, None, refl, sym, ap, subst, ◌∙◌}
 use Rattle.ax_held_kinds.specs.Entries.{said_by}
-use Rattle.ax_model.specs.declared.content.Content.{Content}
-use Rattle.ax_model.specs.declared.content.Content.TheVariants.{Quantity, Table}
-use Rattle.ax_model.specs.declared.content.Scale.{Scale}
-use Rattle.ax_model.specs.declared.content.TableText.{TableText}
+use Rattle.ax_format.specs.declared.content.Content.{Content}
+use Rattle.ax_format.specs.declared.content.Content.TheVariants.{Quantity, Table}
+use Rattle.ax_format.specs.declared.content.Scale.{Scale}
+use Rattle.ax_format.specs.declared.content.TableText.{TableText}
 use Rattle.ax_text.specs.Listable.{ContentListable}
 use Rattle.ax_text.specs.Remarks.{entry_remark, remark}
 

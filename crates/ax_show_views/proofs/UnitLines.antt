@@ -2,17 +2,17 @@
 use Rattle.std.proofs.Common.{◌≡◌, ℕ, ◌+◌, ◌-◌, ◌*◌, ◌<◌, ◌≤◌, Bool, true, false, List, [], ◌∷◌, ◌++◌, length, drop, map, codes, refl, sym, ◌∙◌, ap, subst, arith, add-one}
 use Rattle.std.specs.List.{AllByRecursion}
 use Rattle.ax_bits.specs.Bits.{bits}
-use Rattle.ax_model.specs.Fitting.{list_count}
+use Rattle.ax_format.specs.Fitting.{list_count}
 use Rattle.ax_held_kinds.specs.Held.{held_part}
-use Rattle.ax_model.specs.Reader.{fixed_value, members_value, after}
-use Rattle.ax_model.specs.Tree.{FixedTree, MembersTree, list_and, no_lists, value_and, no_values, value_count, extended, by_fx, part_values, occurrences}
-use Rattle.ax_model.specs.Widths.{width}
-use Rattle.ax_model.specs.declared.fault.BodyCause.TheVariants.{RunsOut}
-use Rattle.ax_model.specs.declared.fault.BodyFault.{BodyFault}
-use Rattle.ax_model.specs.declared.kind.LastPart.{LastPart}
+use Rattle.ax_format.specs.Reader.{fixed_value, members_value, after}
+use Rattle.ax_format.specs.Tree.{FixedTree, MembersTree, list_and, no_lists, value_and, no_values, value_count, extended, by_fx, part_values, occurrences}
+use Rattle.ax_format.specs.Widths.{width}
+use Rattle.ax_format.specs.declared.fault.BodyCause.TheVariants.{RunsOut}
+use Rattle.ax_format.specs.declared.fault.BodyFault.{BodyFault}
+use Rattle.ax_format.specs.declared.kind.LastPart.{LastPart}
 use Rattle.ax_held_kinds.specs.declared.kinds.HeldPart.{HeldPart}
-use Rattle.ax_reader.proofs.AtOctets.{IsUnit, run_at, parts_at, run_ends, run_goes_on, run_fails}
-use Rattle.ax_reader.specs.Reading.{FailsAt, Continues, fx_bit, kind_read}
+use Rattle.ax_fspec.proofs.AtOctets.{IsUnit, run_at, parts_at, run_ends, run_goes_on, run_fails}
+use Rattle.ax_fspec.specs.Reading.{FailsAt, Continues, fx_bit, kind_read}
 use Rattle.ax_values.proofs.PartsRead.{left_is, none_left}
 use Rattle.ax_values.specs.Parts.{parts_left, PartsReady, IsPartMet}
 use Rattle.ax_text.specs.Listable.{MembersListable}

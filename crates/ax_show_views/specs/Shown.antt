@@ -1,15 +1,15 @@
 -- What was read of a body, and shown.
 use Rattle.std.specs.Prelude.{◌≡◌, ℕ, List, ◌∷◌, ◌++◌, take}
 use Rattle.ax_bits.specs.Bits.{bits, number_of}
-use Rattle.ax_model.specs.Bodies.{SpellsBody}
-use Rattle.ax_model.specs.InBounds.{IsWidth, FixedInBounds}
-use Rattle.ax_model.specs.Paths.{at}
-use Rattle.ax_model.specs.Reader.{Read, fixed_value}
-use Rattle.ax_model.specs.Specification.{SpecTree, record_kind}
-use Rattle.ax_model.specs.Tree.{MemberTree, named, spare, KindTree, SlotTree, spare_slot, subitem, ValueTree, number, EntriesTree, marked}
-use Rattle.ax_model.specs.Widths.{width}
-use Rattle.ax_model.specs.declared.content.Content.{Content}
-use Rattle.ax_reader.specs.Reading.{Gets, kind_read}
+use Rattle.ax_format.specs.Bodies.{SpellsBody}
+use Rattle.ax_format.specs.InBounds.{IsWidth, FixedInBounds}
+use Rattle.ax_format.specs.Paths.{at}
+use Rattle.ax_format.specs.Reader.{Read, fixed_value}
+use Rattle.ax_format.specs.Specification.{SpecTree, record_kind}
+use Rattle.ax_format.specs.Tree.{MemberTree, named, spare, KindTree, SlotTree, spare_slot, subitem, ValueTree, number, EntriesTree, marked}
+use Rattle.ax_format.specs.Widths.{width}
+use Rattle.ax_format.specs.declared.content.Content.{Content}
+use Rattle.ax_fspec.specs.Reading.{Gets, kind_read}
 use Rattle.ax_text.specs.Printing.{as_lines, Puts}
 use Rattle.ax_text.specs.Remarks.{remark}
 use Rattle.ax_text.specs.ShowText.{number_line, count_line, kind_lines, records_lines}

@@ -1,6 +1,6 @@
 -- Why a fixed kind isn't shown.
 use Rattle.std.specs.Prelude.{◌≡◌, ℕ, ◌+◌, ◌*◌, ◌<◌, List, length}
-use Rattle.ax_model.specs.declared.fault.BodyCause.TheVariants.{RunsOut}
+use Rattle.ax_format.specs.declared.fault.BodyCause.TheVariants.{RunsOut}
 use Rattle.ax_show_views.specs.declared.stop.FixedStop.{FixedStop}
 use Rattle.ax_show_views.specs.declared.stop.FixedStop.TheVariants as Stop
 use Rattle.ax_values.specs.declared.error.DecodeError.{DecodeError}

@@ -1,18 +1,18 @@
 //! Bodies, shown while they are read.
 ghost use Rattle.std.specs.Prelude.{◌≡◌, ◌≤◌, length, IfErr, OnOk};
-ghost use Rattle.ax_model.specs.Flaws.{NoFlaw};
-ghost use Rattle.ax_model.specs.Plain.{spec_tree};
-ghost use Rattle.ax_model.specs.Sizes.{longest_body};
-ghost use Rattle.ax_model.specs.Specification.{record_slots};
-ghost use Rattle.ax_reader.specs.Reading.{IsMaskOf, record_slot_list};
+ghost use Rattle.ax_format.specs.Flaws.{NoFlaw};
+ghost use Rattle.ax_format.specs.Plain.{spec_tree};
+ghost use Rattle.ax_format.specs.Sizes.{longest_body};
+ghost use Rattle.ax_format.specs.Specification.{record_slots};
+ghost use Rattle.ax_fspec.specs.Reading.{IsMaskOf, record_slot_list};
 ghost use Rattle.ax_text.specs.Listable.{SlotsListable};
 ghost use Rattle.ax_values.specs.Decoding.{IsBodyFault, IsFaultOf};
 ghost use Rattle.ax_show_views.specs.Shown.{ShowsRecords};
 
 use crate::records::show_record;
+use ax_format::category_digits;
 use ax_fspec::SlotMask;
 use ax_held_kinds::HeldItems;
-use ax_model::category_digits;
 use ax_text::Lister;
 use ax_values::DecodeError;
 

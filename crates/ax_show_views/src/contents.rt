@@ -1,16 +1,16 @@
 //! What the numbers of elements mean.
 ghost use Rattle.std.specs.Prelude.{◌≡◌, ◌<◌, ◌++◌, ◌^◌, ℕ, OnOk};
 ghost use Rattle.ax_held_kinds.specs.HeldFixed.{held_content};
-ghost use Rattle.ax_model.specs.InBounds.{IsWidth};
-ghost use Rattle.ax_model.specs.Paths as Paths;
+ghost use Rattle.ax_format.specs.InBounds.{IsWidth};
+ghost use Rattle.ax_format.specs.Paths as Paths;
 ghost use Rattle.ax_text.specs.Listable.{ContentListable};
 ghost use Rattle.ax_text.specs.Printing.{as_lines, Puts};
 ghost use Rattle.ax_text.specs.Remarks.{remark};
 ghost use Rattle.ax_text.specs.ValueText.{one_onto};
 ghost use Rattle.ax_show_views.specs.Shown.{element_line};
 
+use ax_format::{Content, Name};
 use ax_held_kinds::HeldContent;
-use ax_model::{Content, Name};
 use ax_octets::Path;
 use ax_text::Lister;
 use std::alloc::AllocError;

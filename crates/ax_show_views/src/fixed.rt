@@ -1,12 +1,12 @@
 //! The lines of fixed kinds, from their bits: elements, groups and their members.
 ghost use Rattle.std.specs.Prelude.{◌≡◌, ◌+◌, ◌*◌, ◌/◌, ◌%◌, ◌^◌, ◌<◌, ◌≤◌, length, drop, take, codes, IfErr, OnOk};
 ghost use Rattle.ax_bits.specs.Bits.{bits, number_of};
-ghost use Rattle.ax_model.specs.InBounds.{IsWidth, FixedInBounds, MembersInBounds};
-ghost use Rattle.ax_model.specs.Paths as Paths;
+ghost use Rattle.ax_format.specs.InBounds.{IsWidth, FixedInBounds, MembersInBounds};
+ghost use Rattle.ax_format.specs.Paths as Paths;
 ghost use Rattle.ax_held_kinds.specs.HeldFixed.{held_content, held_fixed, held_member, held_members};
-ghost use Rattle.ax_model.specs.Reader.{fixed_value, members_value};
-ghost use Rattle.ax_model.specs.Sizes.{longest_body};
-ghost use Rattle.ax_model.specs.Widths.{width, members_width};
+ghost use Rattle.ax_format.specs.Reader.{fixed_value, members_value};
+ghost use Rattle.ax_format.specs.Sizes.{longest_body};
+ghost use Rattle.ax_format.specs.Widths.{width, members_width};
 ghost use Rattle.ax_text.specs.Listable.{ContentListable, FixedListable, MemberListable, MembersListable};
 ghost use Rattle.ax_text.specs.Printing.{as_lines, Puts};
 ghost use Rattle.ax_text.specs.ShowText.{fixed_lines, member_lines, members_lines, number_line};
@@ -18,8 +18,8 @@ use crate::contents::{put_at, put_under};
 use crate::numbers::{number_at, wide_number_at};
 use crate::paths::set_named;
 use crate::stop::{FixedStop, pass};
+use ax_format::Name;
 use ax_held_kinds::{HeldContent, HeldFixed, HeldMember, HeldMembers, ShortElement};
-use ax_model::Name;
 use ax_octets::Path;
 use ax_text::Lister;
 use std::alloc::AllocError;

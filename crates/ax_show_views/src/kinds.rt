@@ -1,12 +1,12 @@
 //! The kinds of items and subitems, shown by one function each.
 ghost use Rattle.std.specs.Prelude.{◌≡◌, ◌+◌, ◌<◌, ◌≤◌, length, map, codes, IfOk, IfErr};
 ghost use Rattle.ax_bits.specs.Bits.{AreBits};
-ghost use Rattle.ax_model.specs.InBounds.{InBounds, SlotsInBounds};
-ghost use Rattle.ax_model.specs.Paths as Paths;
+ghost use Rattle.ax_format.specs.InBounds.{InBounds, SlotsInBounds};
+ghost use Rattle.ax_format.specs.Paths as Paths;
 ghost use Rattle.ax_held_kinds.specs.Held.{held_kind, held_slot, held_slots};
-ghost use Rattle.ax_model.specs.Sizes.{longest_body};
-ghost use Rattle.ax_model.specs.Tree as Tree;
-ghost use Rattle.ax_reader.specs.Reading.{SlotInBounds, kind_read};
+ghost use Rattle.ax_format.specs.Sizes.{longest_body};
+ghost use Rattle.ax_format.specs.Tree as Tree;
+ghost use Rattle.ax_fspec.specs.Reading.{SlotInBounds, kind_read};
 ghost use Rattle.ax_text.specs.Listable.{KindListable, SlotListable, SlotsListable};
 ghost use Rattle.ax_text.specs.ShowText.{kind_lines};
 ghost use Rattle.ax_values.specs.SlotReading.{HasFailed, HasSlotFailed};
@@ -14,9 +14,9 @@ ghost use Rattle.ax_show_views.specs.Shown.{Shows, ShowsCounted, IsSlotShown};
 
 use crate::paths::{set_named, set_numbered};
 use crate::units::{show_alone, show_by_fx, show_extended, show_single};
+use ax_format::{Counter, Name};
 use ax_fspec::Presence;
 use ax_held_kinds::{HeldKind, HeldSlot, HeldSlots, read_field};
-use ax_model::{Counter, Name};
 use ax_octets::Path;
 use ax_text::Lister;
 use ax_values::{DecodeError, counter_at, explicit_content};

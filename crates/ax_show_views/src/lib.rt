@@ -1,6 +1,7 @@
-//! Bodies as listings, shown while their octets are read: no value is made.
+//! Bodies as listings, shown while their octets are read: no value is made. `show` as the work of a block command.
 #![tactic(auto)]
 
+mod block;
 mod body;
 mod contents;
 mod fixed;
@@ -9,6 +10,9 @@ mod numbers;
 mod paths;
 mod records;
 mod stop;
+mod tables;
 mod units;
+mod work;
 
 pub use body::show_records;
+pub use work::ShowViews;

@@ -1,8 +1,8 @@
 //! Numbers in some of the bits of a body.
 ghost use Rattle.std.specs.Prelude.{◌≡◌, ◌+◌, ◌*◌, ◌^◌, ◌<◌, ◌≤◌, length, drop, take};
 ghost use Rattle.ax_bits.specs.Bits.{bits, number_of};
-ghost use Rattle.ax_model.specs.InBounds.{IsWidth};
-ghost use Rattle.ax_model.specs.Sizes.{longest_body};
+ghost use Rattle.ax_format.specs.InBounds.{IsWidth};
+ghost use Rattle.ax_format.specs.Sizes.{longest_body};
 
 use ax_bits::{bits_at, short_bits_at};
 

@@ -1,9 +1,9 @@
 //! Paths made of others.
 ghost use Rattle.std.specs.Prelude.{◌≡◌, OnOk};
-ghost use Rattle.ax_model.specs.Paths as Paths;
+ghost use Rattle.ax_format.specs.Paths as Paths;
 ghost use Rattle.ax_text.specs.ShowText.{occurrence};
 
-use ax_model::Name;
+use ax_format::Name;
 use ax_octets::Path;
 use std::alloc::AllocError;
 

@@ -1,11 +1,11 @@
 //! Records, shown while they are read.
 ghost use Rattle.std.specs.Prelude.{◌≡◌, ◌<◌, ◌≤◌, length, IfOk, IfErr};
-ghost use Rattle.ax_model.specs.Flaws.{NoFlaw};
-ghost use Rattle.ax_model.specs.Paths.{three_digits};
-ghost use Rattle.ax_model.specs.Plain.{spec_tree};
-ghost use Rattle.ax_model.specs.Sizes.{longest_body};
-ghost use Rattle.ax_model.specs.Specification.{record_kind, record_slots};
-ghost use Rattle.ax_reader.specs.Reading.{IsMaskOf, record_slot_list, kind_read};
+ghost use Rattle.ax_format.specs.Flaws.{NoFlaw};
+ghost use Rattle.ax_format.specs.Paths.{three_digits};
+ghost use Rattle.ax_format.specs.Plain.{spec_tree};
+ghost use Rattle.ax_format.specs.Sizes.{longest_body};
+ghost use Rattle.ax_format.specs.Specification.{record_kind, record_slots};
+ghost use Rattle.ax_fspec.specs.Reading.{IsMaskOf, record_slot_list, kind_read};
 ghost use Rattle.ax_text.specs.Listable.{SlotsListable};
 ghost use Rattle.ax_text.specs.ShowText.{entries_lines, record_lines};
 ghost use Rattle.ax_values.specs.SlotReading.{HasFailed};

@@ -1,11 +1,11 @@
 //! Why a fixed kind isn't shown.
 ghost use Rattle.std.specs.Prelude.{◌≡◌, ◌+◌, ◌*◌, ◌≤◌, length, IfOk, IfErr, OnOk};
-ghost use Rattle.ax_model.specs.InBounds.{IsWidth};
-ghost use Rattle.ax_model.specs.Sizes.{longest_body};
+ghost use Rattle.ax_format.specs.InBounds.{IsWidth};
+ghost use Rattle.ax_format.specs.Sizes.{longest_body};
 ghost use Rattle.ax_show_views.specs.Stopped.{IsStopped, IsUnitStop};
 ghost use Rattle.ax_show_views.specs.declared.stop.FixedStop.TheVariants as Stop;
 
-use ax_model::{BodyCause, BodyFault};
+use ax_format::{BodyCause, BodyFault};
 use ax_values::DecodeError;
 use std::alloc::AllocError;
 

@@ -2,15 +2,15 @@
 ghost use Rattle.std.specs.Prelude.{◌≡◌, ◌+◌, ◌*◌, ◌<◌, ◌≤◌, length, drop, map, codes, IfOk, IfErr, OnOk};
 ghost use Rattle.std.specs.List.{AllByRecursion};
 ghost use Rattle.ax_bits.specs.Bits.{bits};
-ghost use Rattle.ax_model.specs.InBounds.{InBounds, FixedInBounds};
-ghost use Rattle.ax_model.specs.Paths as Paths;
+ghost use Rattle.ax_format.specs.InBounds.{InBounds, FixedInBounds};
+ghost use Rattle.ax_format.specs.Paths as Paths;
 ghost use Rattle.ax_held_kinds.specs.Held.{held_part};
 ghost use Rattle.ax_held_kinds.specs.HeldFixed.{held_fixed};
-ghost use Rattle.ax_model.specs.Reader.{fixed_value};
-ghost use Rattle.ax_model.specs.Sizes.{longest_body};
-ghost use Rattle.ax_model.specs.Tree as Tree;
-ghost use Rattle.ax_model.specs.Widths.{width};
-ghost use Rattle.ax_reader.specs.Reading.{kind_read};
+ghost use Rattle.ax_format.specs.Reader.{fixed_value};
+ghost use Rattle.ax_format.specs.Sizes.{longest_body};
+ghost use Rattle.ax_format.specs.Tree as Tree;
+ghost use Rattle.ax_format.specs.Widths.{width};
+ghost use Rattle.ax_fspec.specs.Reading.{kind_read};
 ghost use Rattle.ax_text.specs.Listable.{FixedListable, MembersListable};
 ghost use Rattle.ax_text.specs.Printing.{as_lines, Puts};
 ghost use Rattle.ax_text.specs.ShowText.{fixed_lines, kind_lines, occurrence};
@@ -21,14 +21,14 @@ ghost use Rattle.ax_show_views.specs.Stopped.{IsStopped};
 use crate::fixed::{show_fixed, show_members, show_named};
 use crate::paths::set_numbered;
 use crate::stop::FixedStop;
+use ax_format::{LastPart, Name};
 use ax_held_kinds::{HeldFixed, HeldParts};
-use ax_model::{LastPart, Name};
 use ax_octets::Path;
 use ax_text::Lister;
 use ax_values::{DecodeError, PartsLeft, has_fx};
 
 /// The lines of a fixed kind that stands by itself. Ok is the octet after it.
-#[tactic(auto, using(ax_values::proofs::Continuing::errors, ax_reader::proofs::AtOctets::fixed_fails))]
+#[tactic(auto, using(ax_values::proofs::Continuing::errors, ax_fspec::proofs::AtOctets::fixed_fails))]
 pub(crate) fn show_alone(
     lister: &mut Lister,
     fixed: &HeldFixed<'_>,
@@ -51,7 +51,7 @@ pub(crate) fn show_alone(
 }
 
 /// The lines of a fixed kind under a path and its name. Ok is the octet after it.
-#[tactic(auto, using(ax_values::proofs::Continuing::errors, ax_reader::proofs::AtOctets::fixed_fails))]
+#[tactic(auto, using(ax_values::proofs::Continuing::errors, ax_fspec::proofs::AtOctets::fixed_fails))]
 pub(crate) fn show_single(
     lister: &mut Lister,
     name: &Name,

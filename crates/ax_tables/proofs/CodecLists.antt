@@ -3,11 +3,11 @@ use Rattle.std.proofs.Common.{◌≡◌, ℕ, zero, suc, ◌+◌, ◌<◌, nat_e
 use Rattle.std.specs.List.{IsDistinct}
 use Rattle.std.specs.Option.{option_copied}
 use Rattle.std.proofs.lemmas.List.{take_more, map-append}
-use Rattle.ax_model.specs.Plain.{spec_tree, catalogue_tree}
-use Rattle.ax_model.specs.Specification.{SpecTree}
-use Rattle.ax_model.specs.declared.spec.Spec.{Spec}
-use Rattle.ax_tables.specs.Standing.{IsCompiled, StandForEach}
-use Rattle.ax_tables.specs.declared.codec.Codec.{Codec}
+use Rattle.ax_format.specs.Plain.{spec_tree, catalogue_tree}
+use Rattle.ax_format.specs.Specification.{SpecTree}
+use Rattle.ax_format.specs.declared.spec.Spec.{Spec}
+use Rattle.ax_codec.specs.Standing.{IsCompiled, StandForEach}
+use Rattle.ax_codec.specs.declared.codec.Codec.{Codec}
 
 each_more : (codecs : List Codec) (specs : List SpecTree) (codec : Codec) (spec : SpecTree) → StandForEach codecs specs → IsCompiled codec spec → StandForEach (codecs ++ codec ∷ []) (specs ++ spec ∷ [])
 each_more [] [] codec spec h g = (g, tt)

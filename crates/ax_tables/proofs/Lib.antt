@@ -1,7 +1,2 @@
 pub mod CodecLists
-pub mod Compiling
-pub mod Growing
-pub mod NodeRowLists
-pub mod BareKinds
-pub mod Tables
 pub mod Places

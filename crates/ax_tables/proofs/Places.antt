@@ -1,8 +1,8 @@
 -- The codec at the place of a category.
 use Rattle.std.proofs.Common.{◌≡◌, ℕ, zero, suc, ◌+◌, ◌-◌, ◌<◌, ◌≤◌, ◌==◌, Bool, true, false, if◌then◌else◌, List, [], ◌∷◌, get_or, slice_get, Some, None, refl, sym, ◌∙◌, ap, arith}
 use Rattle.ax_tables.specs.Places.{place_from, ArePlaces}
-use Rattle.ax_tables.specs.Standing.{codec_of}
-use Rattle.ax_tables.specs.declared.codec.Codec.{Codec}
+use Rattle.ax_codec.specs.Standing.{codec_of}
+use Rattle.ax_codec.specs.declared.codec.Codec.{Codec}
 
 -- a place that isn't 0 is not before the first
 not_before : (n category : ℕ) (codecs : List Codec) → 1 ≤ n → (0 < place_from n category codecs) × (place_from n category codecs < n) → ⊥

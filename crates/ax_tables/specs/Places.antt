@@ -1,7 +1,7 @@
 -- Where the codecs of categories stand in a list.
 use Rattle.std.specs.Prelude.{◌≡◌, ℕ, ◌+◌, ◌<◌, ◌==◌, if◌then◌else◌, List, [], ◌∷◌, length, get_or}
 use Rattle.std.specs.Coded.{Coded-set, coded_ℕ}
-use Rattle.ax_tables.specs.declared.codec.Codec.{Codec}
+use Rattle.ax_codec.specs.declared.codec.Codec.{Codec}
 
 -- the place of the first codec of a category, where the list's first has the place n; 0 where there is none
 abbrev pub place_from : ℕ → ℕ → List Codec → ℕ

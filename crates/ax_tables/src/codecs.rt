@@ -2,13 +2,13 @@
 ghost use Rattle.std.specs.Prelude.{◌≡◌, ◌++◌, length, map, nat_eq, take, IfOk};
 ghost use Rattle.std.specs.List.{IsDistinct, IsDistinct-prop};
 ghost use Rattle.std.specs.Option.{option_copied};
-ghost use Rattle.ax_model.specs.Plain.{catalogue_tree};
+ghost use Rattle.ax_format.specs.Plain.{catalogue_tree};
 ghost use Rattle.ax_tables.specs.Places.{place_from, ArePlaces, ArePlaces-prop};
-ghost use Rattle.ax_tables.specs.Standing.{StandForEach, codec_of};
+ghost use Rattle.ax_codec.specs.Standing.{StandForEach, codec_of};
 
-use crate::build::compile;
-use crate::codec::Codec;
+use crate::compile::compile;
 use ax_check::Catalogue;
+use ax_codec::Codec;
 use ax_lists::Sequence;
 use std::alloc::{AllocError, Global};
 

@@ -1,15 +1,9 @@
-//! Flat tables of specifications: one list of nodes in which each child stands before its parent.
-//!
-//! A codec is a specification without its titles, names and contents, so that octets are read by numbers alone.
+//! The codecs of accepted specifications and of catalogues.
 #![tactic(auto)]
 
-mod build;
-mod codec;
 mod codecs;
-mod node;
-mod node_rows;
+mod compile;
 
-pub use build::compile;
-pub use codec::Codec;
+pub use ax_codec::{Codec, Links, Node, Nodes};
 pub use codecs::{CodecList, Codecs};
-pub use node::{Links, Node, Nodes};
+pub use compile::compile;

@@ -1,9 +1,9 @@
 -- The ways out of the functions that print blocks.
 use Rattle.std.proofs.Common.{◌≡◌, ℕ, List, [], ◌∷◌, ◌++◌, ap, ◌∙◌}
-use Rattle.ax_model.specs.Paths.{three_digits}
-use Rattle.ax_model.specs.Blocks.{read_block}
-use Rattle.ax_model.specs.Specification.{SpecTree, record_slots}
-use Rattle.ax_model.specs.Tree.{EntriesTree}
+use Rattle.ax_format.specs.Paths.{three_digits}
+use Rattle.ax_format.specs.Blocks.{read_block}
+use Rattle.ax_format.specs.Specification.{SpecTree, record_slots}
+use Rattle.ax_format.specs.Tree.{EntriesTree}
 use Rattle.ax_text.specs.BlockText.{records_onto, RecordLine, OpaqueLine, BlockLine}
 use Rattle.ax_text.specs.Printing.{after_spaces, Puts}
 use Rattle.ax_text.specs.ValueText.{opening, closing, one_onto, in_braces, hex_text, entries_onto}

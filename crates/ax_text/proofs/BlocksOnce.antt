@@ -2,14 +2,14 @@
 use Rattle.std.proofs.Common.{◌≡◌, ℕ, ◌+◌, ◌/◌, ◌%◌, ◌==◌, Bool, true, false, cond, List, [], ◌∷◌, Option, Some, None, refl, sym, ◌∙◌, ap, arith, subst}
 use Rattle.std.specs.Prelude.{codes}
 use Rattle.std.specs.List.{AllByRecursion}
-use Rattle.ax_model.specs.Blocks.{BlockTree, read_block, opaque_block}
-use Rattle.ax_model.specs.Bodies.{RecordShape}
-use Rattle.ax_model.specs.CanonicalOctets.{category_of}
-use Rattle.ax_model.specs.Flaws.{NoFlaw}
-use Rattle.ax_model.specs.Paths.{three_digits}
-use Rattle.ax_model.specs.Specification.{SpecTree, record_slots, spec_of}
-use Rattle.ax_model.specs.Streams.{FitsOver}
-use Rattle.ax_model.specs.Tree.{EntriesTree}
+use Rattle.ax_format.specs.Blocks.{BlockTree, read_block, opaque_block}
+use Rattle.ax_format.specs.Bodies.{RecordShape}
+use Rattle.ax_format.specs.CanonicalOctets.{category_of}
+use Rattle.ax_format.specs.Flaws.{NoFlaw}
+use Rattle.ax_format.specs.Paths.{three_digits}
+use Rattle.ax_format.specs.Specification.{SpecTree, record_slots, spec_of}
+use Rattle.ax_format.specs.Streams.{FitsOver}
+use Rattle.ax_format.specs.Tree.{EntriesTree}
 use Rattle.ax_text.specs.BlockText.{records_onto}
 use Rattle.ax_text.specs.Names.{SlotsNamed, IsNamed}
 use Rattle.ax_text.specs.Readable.{SlotsReadable}

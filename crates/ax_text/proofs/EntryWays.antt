@@ -3,12 +3,12 @@ use Rattle.std.proofs.Common.{◌≡◌, ℕ, zero, suc, ◌+◌, ◌<◌, ◌�
 use Rattle.std.proofs.lemmas.Bool.{eqb-true}
 use Rattle.std.proofs.lemmas.List.{drop_all}
 use Rattle.std.specs.Option.{option_map}
-use Rattle.ax_model.proofs.RecordFitting.{entries_split}
-use Rattle.ax_model.specs.Plain.{slot_tree, slots_tree, value_tree, entries_tree}
-use Rattle.ax_model.specs.Shape.{EntriesShape}
-use Rattle.ax_model.specs.Tree.{KindTree, SlotTree, SlotsTree, no_slots, slot_and, spare_slot, subitem, ValueTree, EntriesTree, no_entries, entry_and}
-use Rattle.ax_model.specs.declared.kind.Slot.{Slot}
-use Rattle.ax_model.specs.declared.value.Entry.{Entry}
+use Rattle.ax_format.proofs.RecordFitting.{entries_split}
+use Rattle.ax_format.specs.Plain.{slot_tree, slots_tree, value_tree, entries_tree}
+use Rattle.ax_format.specs.Shape.{EntriesShape}
+use Rattle.ax_format.specs.Tree.{KindTree, SlotTree, SlotsTree, no_slots, slot_and, spare_slot, subitem, ValueTree, EntriesTree, no_entries, entry_and}
+use Rattle.ax_format.specs.declared.kind.Slot.{Slot}
+use Rattle.ax_format.specs.declared.value.Entry.{Entry}
 use Rattle.ax_text.specs.Printing.{Puts}
 use Rattle.ax_text.specs.Slots.{slot_after, slot_numbered, or_spare, SlotShape, slot_onto}
 use Rattle.ax_text.specs.ValueText.{Texts, entries_onto}

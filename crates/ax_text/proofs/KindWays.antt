@@ -1,11 +1,11 @@
 -- The ways out of the functions that print kinds.
 use Rattle.std.proofs.Common.{◌≡◌, ℕ, ◌+◌, ◌<◌, ◌≤◌, List, [], ◌∷◌, length, drop, get_or, map, refl, ◌∙◌, ap, subst}
 use Rattle.std.proofs.lemmas.List.{drop_all}
-use Rattle.ax_model.specs.Plain.{part_tree, value_tree, values_tree, lists_tree}
-use Rattle.ax_model.specs.Shape.{EachShape}
-use Rattle.ax_model.specs.Tree.{MembersTree, no_lists, ValueTree, ValuesTree}
-use Rattle.ax_model.specs.declared.kind.Part.{Part}
-use Rattle.ax_model.specs.declared.value.Value.{Value}
+use Rattle.ax_format.specs.Plain.{part_tree, value_tree, values_tree, lists_tree}
+use Rattle.ax_format.specs.Shape.{EachShape}
+use Rattle.ax_format.specs.Tree.{MembersTree, no_lists, ValueTree, ValuesTree}
+use Rattle.ax_format.specs.declared.kind.Part.{Part}
+use Rattle.ax_format.specs.declared.value.Value.{Value}
 use Rattle.ax_text.specs.Printing.{after_spaces, Puts}
 use Rattle.ax_text.specs.ValueText.{Texts, part_word, opening, closing, one_onto, in_braces, members_onto, part_onto, parts_onto, each_onto}
 use Rattle.ax_text.proofs.FixedWays.{empty}

@@ -2,20 +2,20 @@
 use Rattle.std.proofs.Common.{◌≡◌, ℕ, ◌+◌, ◌<◌, ◌==◌, nat_lt, Bool, true, false, ◌||◌, List, [], ◌∷◌, ◌++◌, length, map, bytes_eq, codes, decimal, refl, arith}
 use Rattle.std.specs.List.{AllByRecursion}
 use Rattle.std.proofs.lemmas.Bool.{eqb-false, ltb-false}
-use Rattle.ax_model.proofs.Bounds.{kind_bounds}
-use Rattle.ax_model.specs.Flaws.{flaw_where, is_among, is_no_multiple, is_too_wide, is_bad_width, is_bad_element_width, is_bad_scale, is_bad_string_width, is_nothing, has_no_member, fixed_flaws, members_flaws, parts_flaws, names_with, kind_flaws, slots_flaws, items_flaws, NoFlaw}
-use Rattle.ax_model.specs.InBounds.{FixedInBounds, MembersInBounds, PartsInBounds, InBounds, SlotsInBounds}
-use Rattle.ax_model.specs.Paths.{at, three_digits}
-use Rattle.ax_model.specs.Specification.{ItemTree, SpecTree, uap_slot, record_slots}
-use Rattle.ax_model.specs.Tree.{FixedTree, element, group, MembersTree, no_members, member_and, named, spare, KindTree, fixed, extended, counted, by_fx, explicit, compound, SlotsTree, no_slots, slot_and, spare_slot, subitem, slot_count, slots_of}
-use Rattle.ax_model.specs.Widths.{width, members_width, fx_width}
-use Rattle.ax_model.specs.declared.content.Content.{Content}
-use Rattle.ax_model.specs.declared.content.Content.TheVariants.{Quantity}
-use Rattle.ax_model.specs.declared.flaw.FlawKind.{FlawKind}
-use Rattle.ax_model.specs.declared.flaw.FlawKind.TheVariants.{BadWidth, BadScale, BadStringWidth, Empty, DuplicateName, PartNotOctets, TooWide, BodyNotOctets, TooManySlots, NotOctets, DuplicateItem}
-use Rattle.ax_model.specs.declared.kind.LastPart.{LastPart}
-use Rattle.ax_model.specs.declared.spec.UapSlot.{UapSlot}
-use Rattle.ax_model.specs.declared.spec.UapSlot.TheVariants as Uap
+use Rattle.ax_format.proofs.Bounds.{kind_bounds}
+use Rattle.ax_format.specs.Flaws.{flaw_where, is_among, is_no_multiple, is_too_wide, is_bad_width, is_bad_element_width, is_bad_scale, is_bad_string_width, is_nothing, has_no_member, fixed_flaws, members_flaws, parts_flaws, names_with, kind_flaws, slots_flaws, items_flaws, NoFlaw}
+use Rattle.ax_format.specs.InBounds.{FixedInBounds, MembersInBounds, PartsInBounds, InBounds, SlotsInBounds}
+use Rattle.ax_format.specs.Paths.{at, three_digits}
+use Rattle.ax_format.specs.Specification.{ItemTree, SpecTree, uap_slot, record_slots}
+use Rattle.ax_format.specs.Tree.{FixedTree, element, group, MembersTree, no_members, member_and, named, spare, KindTree, fixed, extended, counted, by_fx, explicit, compound, SlotsTree, no_slots, slot_and, spare_slot, subitem, slot_count, slots_of}
+use Rattle.ax_format.specs.Widths.{width, members_width, fx_width}
+use Rattle.ax_format.specs.declared.content.Content.{Content}
+use Rattle.ax_format.specs.declared.content.Content.TheVariants.{Quantity}
+use Rattle.ax_format.specs.declared.flaw.FlawKind.{FlawKind}
+use Rattle.ax_format.specs.declared.flaw.FlawKind.TheVariants.{BadWidth, BadScale, BadStringWidth, Empty, DuplicateName, PartNotOctets, TooWide, BodyNotOctets, TooManySlots, NotOctets, DuplicateItem}
+use Rattle.ax_format.specs.declared.kind.LastPart.{LastPart}
+use Rattle.ax_format.specs.declared.spec.UapSlot.{UapSlot}
+use Rattle.ax_format.specs.declared.spec.UapSlot.TheVariants as Uap
 use Rattle.ax_text.specs.Listable.{ContentListable, FixedListable, MembersListable, KindListable, SlotListable, SlotsListable}
 use Rattle.ax_text.proofs.Readables.{both_empty, three_empty, holds_not, found_slot, flaws_parts}
 

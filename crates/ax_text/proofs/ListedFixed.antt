@@ -1,10 +1,10 @@
 -- The ways out of the functions that list fixed kinds.
 use Rattle.std.proofs.Common.{◌≡◌, ℕ, List, [], ◌∷◌, ◌++◌, length, refl, ◌∙◌, ap, subst}
-use Rattle.ax_model.specs.Plain.{member_tree, members_tree, value_tree, values_tree}
-use Rattle.ax_model.specs.Shape.{MembersShape}
-use Rattle.ax_model.specs.Tree.{MembersTree, no_members, member_and, MemberTree, named, spare, ValueTree, ValuesTree, no_values, value_and}
-use Rattle.ax_model.specs.declared.kind.Member.{Member}
-use Rattle.ax_model.specs.declared.value.Value.{Value}
+use Rattle.ax_format.specs.Plain.{member_tree, members_tree, value_tree, values_tree}
+use Rattle.ax_format.specs.Shape.{MembersShape}
+use Rattle.ax_format.specs.Tree.{MembersTree, no_members, member_and, MemberTree, named, spare, ValueTree, ValuesTree, no_values, value_and}
+use Rattle.ax_format.specs.declared.kind.Member.{Member}
+use Rattle.ax_format.specs.declared.value.Value.{Value}
 use Rattle.ax_text.specs.Listable.{MemberListable, MembersListable}
 use Rattle.ax_text.specs.Printing.{as_lines, Puts}
 use Rattle.ax_text.specs.ShowText.{member_lines, members_lines}

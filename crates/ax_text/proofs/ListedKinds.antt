@@ -2,13 +2,13 @@
 use Rattle.std.proofs.Common.{◌≡◌, ℕ, zero, suc, ◌+◌, ◌<◌, ◌≤◌, List, [], ◌∷◌, length, drop, get_or, map, codes, refl, sym, ◌∙◌, ap, subst, add-one}
 use Rattle.std.specs.List.{AllByRecursion}
 use Rattle.std.proofs.lemmas.List.{drop_all}
-use Rattle.ax_model.specs.Fitting.{list_count}
-use Rattle.ax_model.specs.Plain.{part_tree, value_tree, values_tree, lists_tree, entries_tree}
-use Rattle.ax_model.specs.Shape.{MembersShape, PartsShape, EachShape}
-use Rattle.ax_model.specs.Tree.{FixedTree, MembersTree, KindTree, SlotsTree, no_slots, slot_and, by_fx, compound, ListsTree, no_lists, list_and, ValueTree, value_count, occurrences, marked}
-use Rattle.ax_model.specs.declared.kind.Part.{Part}
-use Rattle.ax_model.specs.declared.value.Entry.{Entry}
-use Rattle.ax_model.specs.declared.value.Value.{Value}
+use Rattle.ax_format.specs.Fitting.{list_count}
+use Rattle.ax_format.specs.Plain.{part_tree, value_tree, values_tree, lists_tree, entries_tree}
+use Rattle.ax_format.specs.Shape.{MembersShape, PartsShape, EachShape}
+use Rattle.ax_format.specs.Tree.{FixedTree, MembersTree, KindTree, SlotsTree, no_slots, slot_and, by_fx, compound, ListsTree, no_lists, list_and, ValueTree, value_count, occurrences, marked}
+use Rattle.ax_format.specs.declared.kind.Part.{Part}
+use Rattle.ax_format.specs.declared.value.Entry.{Entry}
+use Rattle.ax_format.specs.declared.value.Value.{Value}
 use Rattle.ax_text.specs.Listable.{MembersListable, SlotListable, SlotsListable}
 use Rattle.ax_text.specs.Printing.{as_lines, Puts}
 use Rattle.ax_text.specs.ShowText.{count_line, fixed_lines, members_lines, parts_lines, each_lines, occurrence, entry_count, kind_lines, entries_lines}

@@ -3,16 +3,16 @@ use Rattle.std.proofs.Common.{◌≡◌, ℕ, ◌+◌, ◌<◌, ◌≤◌, List,
 use Rattle.std.proofs.lemmas.List.{drop_all}
 use Rattle.std.specs.List.{AllByRecursion}
 use Rattle.std.specs.Option.{option_map}
-use Rattle.ax_model.specs.Bodies.{RecordShape}
-use Rattle.ax_model.specs.Lookup.{item_of_frn}
-use Rattle.ax_model.specs.Paths.{three_digits, at}
-use Rattle.ax_model.specs.Plain.{item_tree, kind_tree, spec_tree, record_tree, records_tree}
-use Rattle.ax_model.specs.Shape.{Shape}
-use Rattle.ax_model.specs.Specification.{SpecTree, slot_of_item, record_slots}
-use Rattle.ax_model.specs.Tree.{ValueTree, EntriesTree}
-use Rattle.ax_model.specs.declared.record.Record.{Record}
-use Rattle.ax_model.specs.declared.spec.Item.{Item}
-use Rattle.ax_model.specs.declared.spec.Spec.{Spec}
+use Rattle.ax_format.specs.Bodies.{RecordShape}
+use Rattle.ax_format.specs.Lookup.{item_of_frn}
+use Rattle.ax_format.specs.Paths.{three_digits, at}
+use Rattle.ax_format.specs.Plain.{item_tree, kind_tree, spec_tree, record_tree, records_tree}
+use Rattle.ax_format.specs.Shape.{Shape}
+use Rattle.ax_format.specs.Specification.{SpecTree, slot_of_item, record_slots}
+use Rattle.ax_format.specs.Tree.{ValueTree, EntriesTree}
+use Rattle.ax_format.specs.declared.record.Record.{Record}
+use Rattle.ax_format.specs.declared.spec.Item.{Item}
+use Rattle.ax_format.specs.declared.spec.Spec.{Spec}
 use Rattle.ax_text.specs.Listable.{SlotListable, KindListable}
 use Rattle.ax_text.specs.Printing.{as_lines, Puts}
 use Rattle.ax_text.specs.ShowText.{kind_lines, entries_lines, record_lines, records_lines}

@@ -4,7 +4,7 @@ use Rattle.std.specs.Result.{OnOk}
 use Rattle.std.proofs.lemmas.Fmt.{decimal_digit}
 use Rattle.std.proofs.lemmas.List.{take-append-drop, take-set, drop-set}
 use Rattle.std.proofs.lemmas.Result.{on_ok_weaker}
-use Rattle.ax_model.specs.Paths.{at}
+use Rattle.ax_format.specs.Paths.{at}
 use Rattle.ax_text.specs.Printing.{as_lines, Puts}
 use Rattle.ax_text.specs.ShowText.{number_line, count_line, content_line}
 use Rattle.ax_text.specs.ValueText.{one_onto, hex_text}

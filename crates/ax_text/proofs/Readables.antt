@@ -2,18 +2,18 @@
 use Rattle.std.proofs.Common.{◌≡◌, ℕ, ◌==◌, nat_lt, Bool, true, false, ◌||◌, List, [], ◌∷◌, ◌++◌, length, map, bytes_eq, cond, Option, Some, None, is_some, refl, sym, ◌∙◌, ap, arith, subst, codes}
 use Rattle.std.specs.List.{AllByRecursion, find}
 use Rattle.std.proofs.lemmas.Slice.Eq.{bytes_eq-Decides}
-use Rattle.ax_model.proofs.Bounds.{kind_bounds}
-use Rattle.ax_model.specs.Characters.{IsName}
-use Rattle.ax_model.specs.Flaws.{flaw_where, is_among, kind_flaws, slots_flaws, items_flaws, uap_flaws, NoFlaw}
-use Rattle.ax_model.specs.Paths.{at, three_digits}
-use Rattle.ax_model.specs.InBounds.{FixedInBounds, MembersInBounds, PartsInBounds, InBounds, SlotsInBounds}
-use Rattle.ax_model.specs.Specification.{ItemTree, SpecTree, first_named, slot_of_item, uap_slot, record_slots}
-use Rattle.ax_model.specs.Tree.{FixedTree, element, group, MembersTree, no_members, member_and, named, spare, KindTree, fixed, extended, counted, by_fx, explicit, compound, SlotTree, SlotsTree, no_slots, slot_and, spare_slot, subitem, slot_count, slots_of}
-use Rattle.ax_model.specs.declared.flaw.FlawKind.{FlawKind}
-use Rattle.ax_model.specs.declared.flaw.FlawKind.TheVariants.{DuplicateName, RepeatedInUap, UnknownInUap, Empty, TooManySlots, NotOctets, BodyNotOctets, DuplicateItem}
-use Rattle.ax_model.specs.declared.kind.LastPart.{LastPart}
-use Rattle.ax_model.specs.declared.spec.UapSlot.{UapSlot}
-use Rattle.ax_model.specs.declared.spec.UapSlot.TheVariants as Uap
+use Rattle.ax_format.proofs.Bounds.{kind_bounds}
+use Rattle.ax_format.specs.Characters.{IsName}
+use Rattle.ax_format.specs.Flaws.{flaw_where, is_among, kind_flaws, slots_flaws, items_flaws, uap_flaws, NoFlaw}
+use Rattle.ax_format.specs.Paths.{at, three_digits}
+use Rattle.ax_format.specs.InBounds.{FixedInBounds, MembersInBounds, PartsInBounds, InBounds, SlotsInBounds}
+use Rattle.ax_format.specs.Specification.{ItemTree, SpecTree, first_named, slot_of_item, uap_slot, record_slots}
+use Rattle.ax_format.specs.Tree.{FixedTree, element, group, MembersTree, no_members, member_and, named, spare, KindTree, fixed, extended, counted, by_fx, explicit, compound, SlotTree, SlotsTree, no_slots, slot_and, spare_slot, subitem, slot_count, slots_of}
+use Rattle.ax_format.specs.declared.flaw.FlawKind.{FlawKind}
+use Rattle.ax_format.specs.declared.flaw.FlawKind.TheVariants.{DuplicateName, RepeatedInUap, UnknownInUap, Empty, TooManySlots, NotOctets, BodyNotOctets, DuplicateItem}
+use Rattle.ax_format.specs.declared.kind.LastPart.{LastPart}
+use Rattle.ax_format.specs.declared.spec.UapSlot.{UapSlot}
+use Rattle.ax_format.specs.declared.spec.UapSlot.TheVariants as Uap
 use Rattle.ax_text.specs.Names.{KindNamed, SlotsNamed, IsNamed}
 use Rattle.ax_text.specs.Readable.{FixedReadable, MembersReadable, Lacks, SlotLacks, Readable, SlotReadable, SlotsReadable}
 

@@ -3,17 +3,17 @@ use Rattle.std.proofs.Common.{◌≡◌, ℕ, ◌+◌, ◌<◌, ◌≤◌, List,
 use Rattle.std.proofs.lemmas.List.{drop_all}
 use Rattle.std.specs.List.{AllByRecursion}
 use Rattle.std.specs.Option.{option_map}
-use Rattle.ax_model.proofs.Lookups.{uap_slot_tree}
-use Rattle.ax_model.specs.Bodies.{RecordShape}
-use Rattle.ax_model.specs.Lookup.{item_of_slot, item_of_frn}
-use Rattle.ax_model.specs.Plain.{item_tree, kind_tree, spec_tree, record_tree, records_tree}
-use Rattle.ax_model.specs.Shape.{Shape, EntriesShape}
-use Rattle.ax_model.specs.Specification.{SpecTree, slot_of_item, uap_slot, record_slots}
-use Rattle.ax_model.specs.Tree.{slots_of, subitem, ValueTree, EntriesTree}
-use Rattle.ax_model.specs.declared.record.Record.{Record}
-use Rattle.ax_model.specs.declared.spec.Item.{Item}
-use Rattle.ax_model.specs.declared.spec.Spec.{Spec}
-use Rattle.ax_model.specs.declared.spec.UapSlot.{UapSlot}
+use Rattle.ax_format.proofs.Lookups.{uap_slot_tree}
+use Rattle.ax_format.specs.Bodies.{RecordShape}
+use Rattle.ax_format.specs.Lookup.{item_of_slot, item_of_frn}
+use Rattle.ax_format.specs.Plain.{item_tree, kind_tree, spec_tree, record_tree, records_tree}
+use Rattle.ax_format.specs.Shape.{Shape, EntriesShape}
+use Rattle.ax_format.specs.Specification.{SpecTree, slot_of_item, uap_slot, record_slots}
+use Rattle.ax_format.specs.Tree.{slots_of, subitem, ValueTree, EntriesTree}
+use Rattle.ax_format.specs.declared.record.Record.{Record}
+use Rattle.ax_format.specs.declared.spec.Item.{Item}
+use Rattle.ax_format.specs.declared.spec.Spec.{Spec}
+use Rattle.ax_format.specs.declared.spec.UapSlot.{UapSlot}
 use Rattle.ax_text.specs.BlockText.{record_onto, records_onto}
 use Rattle.ax_text.specs.Printing.{after_spaces, Puts}
 use Rattle.ax_text.specs.Slots.{slot_after, slot_numbered, SlotShape, slot_onto}

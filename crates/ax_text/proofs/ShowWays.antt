@@ -1,12 +1,12 @@
 -- The ways out of the functions that list blocks.
 use Rattle.std.proofs.Common.{◌≡◌, ℕ, ◌+◌, List, [], ◌∷◌, ◌++◌, length, codes, decimal, refl, sym, ◌∙◌, ap, append-nil}
-use Rattle.ax_model.specs.Blocks.{read_block}
-use Rattle.ax_model.specs.CanonicalOctets.{canon_length}
-use Rattle.ax_model.specs.Lengths.{capped}
-use Rattle.ax_model.specs.Paths.{three_digits}
-use Rattle.ax_model.specs.Plain.{records_tree}
-use Rattle.ax_model.specs.Specification.{SpecTree}
-use Rattle.ax_model.specs.declared.record.Record.{Record}
+use Rattle.ax_format.specs.Blocks.{read_block}
+use Rattle.ax_format.specs.CanonicalOctets.{canon_length}
+use Rattle.ax_format.specs.Lengths.{capped}
+use Rattle.ax_format.specs.Paths.{three_digits}
+use Rattle.ax_format.specs.Plain.{records_tree}
+use Rattle.ax_format.specs.Specification.{SpecTree}
+use Rattle.ax_format.specs.declared.record.Record.{Record}
 use Rattle.ax_text.specs.Printing.{as_lines, Puts}
 use Rattle.ax_text.specs.ShowText.{records_lines, block_front, OpaqueShown, ShowText}
 use Rattle.ax_text.specs.ValueText.{Texts, one_onto, hex_text}

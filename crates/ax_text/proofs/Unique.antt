@@ -13,9 +13,9 @@ use Rattle.hex.specs.declared.error.FromHexError.{FromHexError}
 use Rattle.hex.proofs.HexLemmas.{decode_of-encode_lower}
 use Rattle.ax_bits.specs.Bits.{AreOctets}
 use Rattle.ax_tokens.specs.Octets.{quote}
-use Rattle.ax_model.specs.Characters.{IsName}
-use Rattle.ax_model.specs.Shape.{NumberShape, FixedShape, MembersShape, PartsShape, EachShape, Shape, EntriesShape}
-use Rattle.ax_model.specs.Tree.{FixedTree, element, group, MembersTree, no_members, member_and, named, spare, KindTree, fixed, extended, counted, by_fx, explicit, compound, SlotsTree, no_slots, slot_and, spare_slot, subitem, ValueTree, number, member_values, part_values, occurrences, content_octets, marked, ValuesTree, no_values, value_and, ListsTree, no_lists, list_and, EntriesTree, no_entries, entry_and}
+use Rattle.ax_format.specs.Characters.{IsName}
+use Rattle.ax_format.specs.Shape.{NumberShape, FixedShape, MembersShape, PartsShape, EachShape, Shape, EntriesShape}
+use Rattle.ax_format.specs.Tree.{FixedTree, element, group, MembersTree, no_members, member_and, named, spare, KindTree, fixed, extended, counted, by_fx, explicit, compound, SlotsTree, no_slots, slot_and, spare_slot, subitem, ValueTree, number, member_values, part_values, occurrences, content_octets, marked, ValuesTree, no_values, value_and, ListsTree, no_lists, list_and, EntriesTree, no_entries, entry_and}
 use Rattle.ax_text.specs.Names.{KindNamed, SlotsNamed}
 use Rattle.ax_text.specs.Readable.{FixedReadable, MembersReadable, Lacks, Readable, SlotsReadable}
 use Rattle.ax_text.specs.ValueText.{Texts, opening, closing, part_word, hex_text, number_onto, fixed_onto, members_onto, parts_onto, each_onto, kind_onto, entries_onto}

@@ -8,8 +8,8 @@ use Rattle.std.proofs.lemmas.Fmt.{decimal_is_IsNumeral_wide}
 use Rattle.std.proofs.lemmas.Str.Parse.{digit_from_value}
 use Rattle.hex.specs.Hex.{encode_with, encode_lower, lower_digits}
 use Rattle.ax_bits.specs.Bits.{AreOctets}
-use Rattle.ax_model.specs.Characters.{IsName, is_name_octet}
-use Rattle.ax_model.specs.Paths.{three_digits}
+use Rattle.ax_format.specs.Characters.{IsName, is_name_octet}
+use Rattle.ax_format.specs.Paths.{three_digits}
 use Rattle.ax_tokens.specs.Octets.{is_word_octet, is_string_octet}
 use Rattle.ax_tokens.specs.Lexing.{IsTokenText}
 use Rattle.ax_tokens.specs.declared.token.TokenKind.{TokenKind}

@@ -9,4 +9,3 @@ pub mod Remarks
 pub mod FractionEnds
 pub mod ShowText
 pub mod Listable
-pub mod Examples

@@ -1,8 +1,8 @@
 -- Specifications of which each name is a name: 1 to 16 letters A to Z and digits.
 use Rattle.std.specs.List.{AllByRecursion}
-use Rattle.ax_model.specs.Characters.{IsName}
-use Rattle.ax_model.specs.Specification.{ItemTree, SpecTree}
-use Rattle.ax_model.specs.Tree.{FixedTree, element, group, MembersTree, no_members, member_and, named, spare, KindTree, fixed, extended, counted, by_fx, explicit, compound, SlotsTree, no_slots, slot_and, spare_slot, subitem}
+use Rattle.ax_format.specs.Characters.{IsName}
+use Rattle.ax_format.specs.Specification.{ItemTree, SpecTree}
+use Rattle.ax_format.specs.Tree.{FixedTree, element, group, MembersTree, no_members, member_and, named, spare, KindTree, fixed, extended, counted, by_fx, explicit, compound, SlotsTree, no_slots, slot_and, spare_slot, subitem}
 
 abbrev mutual
   pub FixedNamed : FixedTree → Type 0

@@ -2,11 +2,11 @@
 use Rattle.std.specs.Prelude.{ℕ, zero, suc, ◌+◌, ◌*◌, ◌/◌, ◌%◌, ◌^◌, ◌==◌, nat_le, ◌&&◌, ◌||◌, not, if◌then◌else◌, ℤ, pos, negsuc, List, [], ◌∷◌, ◌++◌, map, find, Option, Some, None, codes, decimal}
 use Rattle.std.specs.Fmt.{signed_decimal}
 use Rattle.ax_bits.specs.Bits.{signed}
-use Rattle.ax_model.specs.Signs.{by_sign}
-use Rattle.ax_model.specs.declared.content.Content.{Content}
-use Rattle.ax_model.specs.declared.content.Content.TheVariants.{Raw, Table, Ascii, Icao, Octal, Integer, Quantity}
-use Rattle.ax_model.specs.declared.content.Sign.TheVariants.{Unsigned, Signed}
-use Rattle.ax_model.specs.declared.content.TableText.{TableText}
+use Rattle.ax_format.specs.Signs.{by_sign}
+use Rattle.ax_format.specs.declared.content.Content.{Content}
+use Rattle.ax_format.specs.declared.content.Content.TheVariants.{Raw, Table, Ascii, Icao, Octal, Integer, Quantity}
+use Rattle.ax_format.specs.declared.content.Sign.TheVariants.{Unsigned, Signed}
+use Rattle.ax_format.specs.declared.content.TableText.{TableText}
 use Rattle.ax_tokens.specs.Octets.{quote}
 use Rattle.ax_text.specs.declared.characters.Alphabet.{Alphabet}
 use Rattle.ax_text.specs.declared.characters.Alphabet.TheVariants.{Eight, Six, Three}

@@ -1,12 +1,12 @@
 -- The listing of a block: a line for the block, one for each record, and one or more for each thing in it, at its path.
 use Rattle.std.specs.Prelude.{ℕ, ◌+◌, ◌==◌, if◌then◌else◌, List, [], ◌∷◌, ◌++◌, length, codes, decimal}
-use Rattle.ax_model.specs.Blocks.{BlockTree, read_block, opaque_block}
-use Rattle.ax_model.specs.CanonicalOctets.{canon_length}
-use Rattle.ax_model.specs.Fitting.{list_count}
-use Rattle.ax_model.specs.Lengths.{capped}
-use Rattle.ax_model.specs.Paths.{three_digits, at}
-use Rattle.ax_model.specs.Specification.{SpecTree, record_slots}
-use Rattle.ax_model.specs.Tree.{FixedTree, element, group, MembersTree, member_and, MemberTree, named, spare, KindTree, fixed, extended, counted, by_fx, explicit, compound, SlotsTree, no_slots, slot_and, spare_slot, subitem, ValueTree, number, member_values, part_values, occurrences, content_octets, marked, ValuesTree, no_values, value_and, value_count, ListsTree, list_and, EntriesTree, no_entries, entry_and}
+use Rattle.ax_format.specs.Blocks.{BlockTree, read_block, opaque_block}
+use Rattle.ax_format.specs.CanonicalOctets.{canon_length}
+use Rattle.ax_format.specs.Fitting.{list_count}
+use Rattle.ax_format.specs.Lengths.{capped}
+use Rattle.ax_format.specs.Paths.{three_digits, at}
+use Rattle.ax_format.specs.Specification.{SpecTree, record_slots}
+use Rattle.ax_format.specs.Tree.{FixedTree, element, group, MembersTree, member_and, MemberTree, named, spare, KindTree, fixed, extended, counted, by_fx, explicit, compound, SlotsTree, no_slots, slot_and, spare_slot, subitem, ValueTree, number, member_values, part_values, occurrences, content_octets, marked, ValuesTree, no_values, value_and, value_count, ListsTree, list_and, EntriesTree, no_entries, entry_and}
 use Rattle.ax_text.specs.Printing.{as_lines}
 use Rattle.ax_text.specs.Remarks.{remark}
 use Rattle.ax_text.specs.ValueText.{Texts, hex_text}

@@ -1,8 +1,8 @@
 -- Members with their values, and the slots of a compound or of a record by their numbers, from 1.
 use Rattle.std.specs.Prelude.{ℕ, zero, suc, List, ◌∷◌, Option, Some, None}
-use Rattle.ax_model.specs.Paths.{at}
-use Rattle.ax_model.specs.Shape.{NumberShape, FixedShape, Shape}
-use Rattle.ax_model.specs.Tree.{MemberTree, named, spare, SlotTree, SlotsTree, no_slots, slot_and, spare_slot, subitem, ValueTree}
+use Rattle.ax_format.specs.Paths.{at}
+use Rattle.ax_format.specs.Shape.{NumberShape, FixedShape, Shape}
+use Rattle.ax_format.specs.Tree.{MemberTree, named, spare, SlotTree, SlotsTree, no_slots, slot_and, spare_slot, subitem, ValueTree}
 use Rattle.ax_text.specs.ShowText.{kind_lines}
 use Rattle.ax_text.specs.ValueText.{Texts, kind_onto}
 

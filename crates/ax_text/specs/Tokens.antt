@@ -6,11 +6,11 @@ use Rattle.ax_tokens.specs.PlainToken.{PlainToken}
 use Rattle.ax_tokens.specs.Printing.{placed}
 use Rattle.ax_tokens.specs.declared.token.TokenKind.{TokenKind}
 use Rattle.ax_tokens.specs.declared.token.TokenKind.TheVariants.{Word, Str, Open, Close}
-use Rattle.ax_model.specs.Blocks.{BlockTree, read_block, opaque_block, Fits}
-use Rattle.ax_model.specs.CanonicalOctets.{category_of}
-use Rattle.ax_model.specs.Specification.{SpecTree, record_slots, spec_of}
-use Rattle.ax_model.specs.Streams.{FitsOver}
-use Rattle.ax_model.specs.Tree.{FixedTree, element, group, MembersTree, no_members, member_and, named, spare, KindTree, fixed, extended, counted, by_fx, explicit, compound, SlotsTree, no_slots, slot_and, spare_slot, subitem}
+use Rattle.ax_format.specs.Blocks.{BlockTree, read_block, opaque_block, Fits}
+use Rattle.ax_format.specs.CanonicalOctets.{category_of}
+use Rattle.ax_format.specs.Specification.{SpecTree, record_slots, spec_of}
+use Rattle.ax_format.specs.Streams.{FitsOver}
+use Rattle.ax_format.specs.Tree.{FixedTree, element, group, MembersTree, no_members, member_and, named, spare, KindTree, fixed, extended, counted, by_fx, explicit, compound, SlotsTree, no_slots, slot_and, spare_slot, subitem}
 use Rattle.ax_text.specs.BlockText.{OpaqueText, BlockText}
 use Rattle.ax_text.specs.ValueText.{Texts}
 

@@ -2,7 +2,7 @@
 use Rattle.std.specs.Prelude.{ℕ, ◌+◌, ◌==◌, if◌then◌else◌, List, [], ◌∷◌, ◌++◌, codes, decimal}
 use Rattle.hex.specs.Hex.{encode_lower}
 use Rattle.ax_tokens.specs.Octets.{quote}
-use Rattle.ax_model.specs.Tree.{FixedTree, element, group, MemberTree, MembersTree, member_and, named, spare, KindTree, fixed, extended, counted, by_fx, explicit, compound, SlotsTree, no_slots, slot_and, spare_slot, subitem, ValueTree, number, member_values, part_values, occurrences, content_octets, marked, ValuesTree, no_values, value_and, ListsTree, list_and, EntriesTree, no_entries, entry_and}
+use Rattle.ax_format.specs.Tree.{FixedTree, element, group, MemberTree, MembersTree, member_and, named, spare, KindTree, fixed, extended, counted, by_fx, explicit, compound, SlotsTree, no_slots, slot_and, spare_slot, subitem, ValueTree, number, member_values, part_values, occurrences, content_octets, marked, ValuesTree, no_values, value_and, ListsTree, list_and, EntriesTree, no_entries, entry_and}
 
 abbrev pub Texts : Type 0
 Texts = List (List ℕ)

@@ -1,14 +1,14 @@
 //! Blocks and records as text.
 ghost use Rattle.std.specs.Prelude.{◌≡◌, IfOk};
 ghost use Rattle.std.specs.List.{AllByRecursion};
-ghost use Rattle.ax_model.specs.Blocks.{read_block};
-ghost use Rattle.ax_model.specs.Bodies.{RecordShape};
-ghost use Rattle.ax_model.specs.OfCode.{BlockFits};
-ghost use Rattle.ax_model.specs.Plain.{spec_tree, record_tree, records_tree, block_tree};
+ghost use Rattle.ax_format.specs.Blocks.{read_block};
+ghost use Rattle.ax_format.specs.Bodies.{RecordShape};
+ghost use Rattle.ax_format.specs.OfCode.{BlockFits};
+ghost use Rattle.ax_format.specs.Plain.{spec_tree, record_tree, records_tree, block_tree};
 ghost use Rattle.ax_text.specs.BlockText.{RecordLine, OpaqueLine, BlockLine};
 
 use crate::printer::Printer;
-use ax_model::{Block, Record, Records, Spec};
+use ax_format::{Block, Record, Records, Spec};
 use std::alloc::{AllocError, Global};
 
 /// The text of a record: its tokens from `record` to the closing brace, with one space between and no line feed. The

@@ -1,12 +1,12 @@
 //! Values of fixed kinds: elements, groups and their members.
 ghost use Rattle.std.specs.Prelude.{◌≡◌, OnOk};
-ghost use Rattle.ax_model.specs.Plain.{fixed_tree, member_tree, members_tree, value_tree, values_tree};
-ghost use Rattle.ax_model.specs.Shape.{FixedShape, MembersShape};
+ghost use Rattle.ax_format.specs.Plain.{fixed_tree, member_tree, members_tree, value_tree, values_tree};
+ghost use Rattle.ax_format.specs.Shape.{FixedShape, MembersShape};
 ghost use Rattle.ax_text.specs.Printing.{after_spaces, Puts};
 ghost use Rattle.ax_text.specs.ValueText.{number_onto, fixed_onto, member_onto, members_onto};
 
 use crate::printer::Printer;
-use ax_model::{Fixed, Member, Members, Value, Values};
+use ax_format::{Fixed, Member, Members, Value, Values};
 use std::alloc::AllocError;
 
 impl Printer {

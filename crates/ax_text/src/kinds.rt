@@ -1,16 +1,16 @@
 //! Values of kinds.
 ghost use Rattle.std.specs.Prelude.{◌≡◌, map, OnOk};
 ghost use Rattle.std.specs.Option.{option_copied, option_map};
-ghost use Rattle.ax_model.specs.Plain.{fixed_tree, part_tree, kind_tree, slot_tree, slots_tree, value_tree, values_tree, lists_tree, entries_tree};
-ghost use Rattle.ax_model.specs.Shape.{Shape, EachShape, EntriesShape};
-ghost use Rattle.ax_model.specs.Tree.{counted, occurrences};
-ghost use Rattle.ax_model.specs.declared.kind.Counter.{Counter};
+ghost use Rattle.ax_format.specs.Plain.{fixed_tree, part_tree, kind_tree, slot_tree, slots_tree, value_tree, values_tree, lists_tree, entries_tree};
+ghost use Rattle.ax_format.specs.Shape.{Shape, EachShape, EntriesShape};
+ghost use Rattle.ax_format.specs.Tree.{counted, occurrences};
+ghost use Rattle.ax_format.specs.declared.kind.Counter.{Counter};
 ghost use Rattle.ax_text.specs.Printing.{after_spaces, Puts};
 ghost use Rattle.ax_text.specs.Slots.{slot_numbered, or_spare, SlotShape, slot_onto};
 ghost use Rattle.ax_text.specs.ValueText.{in_braces, fixed_onto, part_onto, parts_onto, each_onto, kind_onto, entries_onto};
 
 use crate::printer::Printer;
-use ax_model::{Entries, Entry, Fixed, Kind, Lists, Part, Parts, Slot, Slots, Value, Values};
+use ax_format::{Entries, Entry, Fixed, Kind, Lists, Part, Parts, Slot, Slots, Value, Values};
 use std::alloc::AllocError;
 
 impl Printer {

@@ -3,11 +3,9 @@
 
 mod blocks;
 mod characters;
-pub mod examples;
 mod fixed;
 mod fractions;
 mod kinds;
-pub mod laws;
 mod list_fixed;
 mod list_kinds;
 mod list_records;

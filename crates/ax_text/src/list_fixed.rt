@@ -1,8 +1,8 @@
 //! The lines of fixed kinds: elements, groups and their members.
 ghost use Rattle.std.specs.Prelude.{◌≡◌, ◌<◌, ◌^◌, ◌++◌, OnOk};
-ghost use Rattle.ax_model.specs.InBounds.{IsWidth};
-ghost use Rattle.ax_model.specs.Plain.{fixed_tree, member_tree, members_tree, value_tree, values_tree};
-ghost use Rattle.ax_model.specs.Shape.{FixedShape, MembersShape};
+ghost use Rattle.ax_format.specs.InBounds.{IsWidth};
+ghost use Rattle.ax_format.specs.Plain.{fixed_tree, member_tree, members_tree, value_tree, values_tree};
+ghost use Rattle.ax_format.specs.Shape.{FixedShape, MembersShape};
 ghost use Rattle.ax_text.specs.Listable.{ContentListable, FixedListable, MemberListable, MembersListable};
 ghost use Rattle.ax_text.specs.Printing.{as_lines, Puts};
 ghost use Rattle.ax_text.specs.Remarks.{remark};
@@ -12,7 +12,7 @@ ghost use Rattle.ax_text.specs.ValueText.{one_onto};
 
 use crate::lister::Lister;
 use crate::paths::at;
-use ax_model::{Content, Fixed, Member, Members, Value, Values};
+use ax_format::{Content, Fixed, Member, Members, Value, Values};
 use std::alloc::AllocError;
 
 impl Lister {

@@ -1,11 +1,11 @@
 //! The lines of kinds.
 ghost use Rattle.std.specs.Prelude.{◌≡◌, ◌∷◌, map, codes, OnOk};
 ghost use Rattle.std.specs.List.{AllByRecursion};
-ghost use Rattle.ax_model.specs.Fitting.{list_count};
-ghost use Rattle.ax_model.specs.Plain.{fixed_tree, part_tree, kind_tree, slots_tree, value_tree, values_tree, lists_tree, entries_tree};
-ghost use Rattle.ax_model.specs.Shape.{FixedShape, PartsShape, EachShape, Shape, EntriesShape};
-ghost use Rattle.ax_model.specs.Tree.{counted, by_fx, compound, occurrences, marked, value_count};
-ghost use Rattle.ax_model.specs.declared.kind.Counter.{Counter};
+ghost use Rattle.ax_format.specs.Fitting.{list_count};
+ghost use Rattle.ax_format.specs.Plain.{fixed_tree, part_tree, kind_tree, slots_tree, value_tree, values_tree, lists_tree, entries_tree};
+ghost use Rattle.ax_format.specs.Shape.{FixedShape, PartsShape, EachShape, Shape, EntriesShape};
+ghost use Rattle.ax_format.specs.Tree.{counted, by_fx, compound, occurrences, marked, value_count};
+ghost use Rattle.ax_format.specs.declared.kind.Counter.{Counter};
 ghost use Rattle.ax_text.specs.Listable.{FixedListable, MembersListable, KindListable, SlotListable, SlotsListable};
 ghost use Rattle.ax_text.specs.Printing.{as_lines, Puts};
 ghost use Rattle.ax_text.specs.ShowText.{count_line, fixed_lines, parts_lines, each_lines, kind_lines, entries_lines};
@@ -14,7 +14,7 @@ ghost use Rattle.ax_text.specs.Slots.{slot_numbered, SlotShape, slot_lines};
 use crate::kinds::slot_of;
 use crate::lister::Lister;
 use crate::paths::{at, occurrence};
-use ax_model::{Entries, Entry, Fixed, Kind, Lists, Parts, Slot, Slots, Value, Values};
+use ax_format::{Entries, Entry, Fixed, Kind, Lists, Parts, Slot, Slots, Value, Values};
 use std::alloc::AllocError;
 
 impl Lister {

@@ -1,11 +1,11 @@
 //! The lines of records.
 ghost use Rattle.std.specs.Prelude.{◌≡◌, ◌++◌, codes, decimal, OnOk};
 ghost use Rattle.std.specs.List.{AllByRecursion};
-ghost use Rattle.ax_model.specs.Bodies.{RecordShape};
-ghost use Rattle.ax_model.specs.Paths.{three_digits};
-ghost use Rattle.ax_model.specs.Plain.{spec_tree, value_tree, entries_tree, record_tree, records_tree};
-ghost use Rattle.ax_model.specs.Shape.{EntriesShape};
-ghost use Rattle.ax_model.specs.Specification.{record_slots};
+ghost use Rattle.ax_format.specs.Bodies.{RecordShape};
+ghost use Rattle.ax_format.specs.Paths.{three_digits};
+ghost use Rattle.ax_format.specs.Plain.{spec_tree, value_tree, entries_tree, record_tree, records_tree};
+ghost use Rattle.ax_format.specs.Shape.{EntriesShape};
+ghost use Rattle.ax_format.specs.Specification.{record_slots};
 ghost use Rattle.ax_text.specs.Listable.{SlotListable, SlotsListable};
 ghost use Rattle.ax_text.specs.Printing.{as_lines, Puts};
 ghost use Rattle.ax_text.specs.ShowText.{entries_lines, record_lines, records_lines};
@@ -14,7 +14,7 @@ ghost use Rattle.ax_text.specs.ValueText.{one_onto};
 
 use crate::lister::Lister;
 use crate::paths::at;
-use ax_model::{Entries, Entry, Record, Records, Spec, category_digits};
+use ax_format::{Entries, Entry, Record, Records, Spec, category_digits};
 use std::alloc::AllocError;
 
 impl Lister {

@@ -1,16 +1,16 @@
 //! The listing, piece by piece.
 ghost use Rattle.std.specs.Prelude.{◌≡◌, ◌-◌, ◌<◌, ◌≤◌, ◌^◌, [], ◌∷◌, ◌++◌, length, take, drop, decimal, codes, IfOk, OnOk};
-ghost use Rattle.ax_model.specs.InBounds.{IsWidth};
+ghost use Rattle.ax_format.specs.InBounds.{IsWidth};
 ghost use Rattle.ax_tokens.specs.Octets.{line_feed};
 ghost use Rattle.ax_text.specs.Listable.{ContentListable};
 ghost use Rattle.std.specs.Fmt.{signed_decimal};
-ghost use Rattle.ax_model.specs.Paths.{at};
+ghost use Rattle.ax_format.specs.Paths.{at};
 ghost use Rattle.ax_text.specs.Printing.{as_lines, Puts};
 ghost use Rattle.ax_text.specs.Remarks.{quoted, remark};
 ghost use Rattle.ax_text.specs.ShowText.{number_line, count_line, content_line, occurrence};
 ghost use Rattle.ax_text.specs.ValueText.{one_onto, hex_text};
 
-use ax_model::{Content, Name};
+use ax_format::{Content, Name};
 use ax_octets::{Literal, Octets, Path};
 use itoa::Buffer;
 use std::alloc::{AllocError, Global};

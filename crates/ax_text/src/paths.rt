@@ -1,6 +1,6 @@
 //! Paths.
 ghost use Rattle.std.specs.Prelude.{◌≡◌, [], IfOk};
-ghost use Rattle.ax_model.specs.Paths.{at};
+ghost use Rattle.ax_format.specs.Paths.{at};
 ghost use Rattle.ax_text.specs.ShowText.{occurrence};
 
 use ax_octets::Octets;

@@ -1,11 +1,11 @@
 //! The output, token by token.
 ghost use Rattle.std.specs.Prelude.{◌≡◌, [], ◌∷◌, ◌++◌, decimal, IfOk, OnOk};
-ghost use Rattle.ax_model.specs.Paths.{three_digits};
+ghost use Rattle.ax_format.specs.Paths.{three_digits};
 ghost use Rattle.ax_tokens.specs.Octets.{line_feed};
 ghost use Rattle.ax_text.specs.Printing.{after_spaces, Puts};
 ghost use Rattle.ax_text.specs.ValueText.{one_onto, hex_text};
 
-use ax_model::category_digits;
+use ax_format::category_digits;
 use itoa::Buffer;
 use std::alloc::{AllocError, Global};
 

@@ -1,9 +1,9 @@
 //! Lines of quantities, by ends of their fractions that are made before.
 ghost use Rattle.std.specs.Prelude.{◌≡◌, ◌++◌, ◌*◌, ◌<◌, ◌^◌, ◌∷◌, [], length, codes, OnOk};
-ghost use Rattle.ax_model.specs.InBounds.{IsWidth};
-ghost use Rattle.ax_model.specs.Paths.{at};
-ghost use Rattle.ax_model.specs.Signs.{by_sign};
-ghost use Rattle.ax_model.specs.declared.content.Content.TheVariants.{Quantity};
+ghost use Rattle.ax_format.specs.InBounds.{IsWidth};
+ghost use Rattle.ax_format.specs.Paths.{at};
+ghost use Rattle.ax_format.specs.Signs.{by_sign};
+ghost use Rattle.ax_format.specs.declared.content.Content.TheVariants.{Quantity};
 ghost use Rattle.ax_tokens.specs.Octets.{line_feed};
 ghost use Rattle.ax_text.specs.FractionEnds.{fraction_end, fraction_ends};
 ghost use Rattle.ax_text.specs.Listable.{ContentListable};
@@ -15,7 +15,7 @@ ghost use Rattle.ax_text.specs.ValueText.{one_onto};
 use crate::fractions::shared_twos;
 use crate::lister::Lister;
 use ax_bits::signed_of;
-use ax_model::{Name, Scale, Sign};
+use ax_format::{Name, Scale, Sign};
 use ax_octets::{Literal, Path};
 use std::alloc::AllocError;
 

@@ -1,17 +1,17 @@
 //! Records.
 ghost use Rattle.std.specs.Prelude.{◌≡◌, OnOk};
 ghost use Rattle.std.specs.List.{AllByRecursion};
-ghost use Rattle.ax_model.specs.Bodies.{RecordShape};
-ghost use Rattle.ax_model.specs.Plain.{spec_tree, value_tree, entries_tree, record_tree, records_tree};
-ghost use Rattle.ax_model.specs.Shape.{EntriesShape};
-ghost use Rattle.ax_model.specs.Specification.{record_slots};
+ghost use Rattle.ax_format.specs.Bodies.{RecordShape};
+ghost use Rattle.ax_format.specs.Plain.{spec_tree, value_tree, entries_tree, record_tree, records_tree};
+ghost use Rattle.ax_format.specs.Shape.{EntriesShape};
+ghost use Rattle.ax_format.specs.Specification.{record_slots};
 ghost use Rattle.ax_text.specs.BlockText.{record_onto, records_onto};
 ghost use Rattle.ax_text.specs.Printing.{after_spaces, Puts};
 ghost use Rattle.ax_text.specs.Slots.{slot_numbered, SlotShape, slot_onto};
 ghost use Rattle.ax_text.specs.ValueText.{entries_onto};
 
 use crate::printer::Printer;
-use ax_model::{Entries, Entry, Record, Records, Spec};
+use ax_format::{Entries, Entry, Record, Records, Spec};
 use std::alloc::AllocError;
 
 impl Printer {

@@ -1,17 +1,17 @@
 //! What numbers mean, after them.
 ghost use Rattle.std.specs.Prelude.{◌≡◌, ◌++◌, ◌*◌, ◌<◌, ◌≤◌, ◌^◌, ◌==◌, ◌∷◌, [], find, codes, OnOk, IfSome};
 ghost use Rattle.std.specs.Option.{option_copied};
-ghost use Rattle.ax_model.specs.InBounds.{IsWidth};
+ghost use Rattle.ax_format.specs.InBounds.{IsWidth};
 ghost use Rattle.ax_tokens.specs.Octets.{line_feed};
 ghost use Rattle.ax_text.specs.Listable.{ContentListable};
-ghost use Rattle.ax_model.specs.Signs.{by_sign};
+ghost use Rattle.ax_format.specs.Signs.{by_sign};
 ghost use Rattle.ax_text.specs.Remarks.{quoted, characters, reduced_text, multiple_text, entry_remark, remark};
 
 use crate::characters::Alphabet;
 use crate::fractions::{common_divisor, quotient, shared_twos};
 use crate::lister::Lister;
 use ax_bits::signed_of;
-use ax_model::{Content, Scale, Sign, TableText, TableTexts};
+use ax_format::{Content, Scale, Sign, TableText, TableTexts};
 use std::alloc::AllocError;
 
 /// The first entry of that number. None comes exactly where there is none.

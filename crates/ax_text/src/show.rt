@@ -1,20 +1,20 @@
 //! Blocks as listings.
 ghost use Rattle.std.specs.Prelude.{◌≡◌, ◌++◌, codes, decimal, length, IfOk, OnOk};
 ghost use Rattle.std.specs.List.{AllByRecursion};
-ghost use Rattle.ax_model.specs.Blocks.{read_block};
-ghost use Rattle.ax_model.specs.Bodies.{RecordShape};
-ghost use Rattle.ax_model.specs.CanonicalOctets.{canon_length};
-ghost use Rattle.ax_model.specs.Lengths.{capped};
-ghost use Rattle.ax_model.specs.OfCode.{HasNoFlaw, BlockFits};
-ghost use Rattle.ax_model.specs.Plain.{spec_tree, records_tree, block_tree};
-ghost use Rattle.ax_model.specs.Specification.{record_slots};
+ghost use Rattle.ax_format.specs.Blocks.{read_block};
+ghost use Rattle.ax_format.specs.Bodies.{RecordShape};
+ghost use Rattle.ax_format.specs.CanonicalOctets.{canon_length};
+ghost use Rattle.ax_format.specs.Lengths.{capped};
+ghost use Rattle.ax_format.specs.OfCode.{HasNoFlaw, BlockFits};
+ghost use Rattle.ax_format.specs.Plain.{spec_tree, records_tree, block_tree};
+ghost use Rattle.ax_format.specs.Specification.{record_slots};
 ghost use Rattle.ax_text.specs.Listable.{SlotsListable};
 ghost use Rattle.ax_text.specs.Printing.{as_lines, Puts};
 ghost use Rattle.ax_text.specs.ShowText.{block_front, OpaqueShown, ShowText};
 ghost use Rattle.ax_text.specs.ValueText.{one_onto};
 
 use crate::lister::Lister;
-use ax_model::{Block, Records, Spec, canon_length, category_digits};
+use ax_format::{Block, Records, Spec, canon_length, category_digits};
 use std::alloc::{AllocError, Global};
 
 /// The listing of a block that fits a specification without flaw: a line for the block, with its number in the input, its

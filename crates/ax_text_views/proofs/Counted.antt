@@ -1,12 +1,12 @@
 -- The occurrences of a counted or wide item, printed one after the other.
 use Rattle.std.proofs.Common.{◌≡◌, ℕ, suc, ◌+◌, ◌-◌, ◌*◌, ◌<◌, ◌≤◌, List, length, drop, refl, sym, ◌∙◌, ap, arith, subst}
 use Rattle.ax_bits.specs.Bits.{bits}
-use Rattle.ax_model.specs.Reader.{got, read, each_read}
-use Rattle.ax_model.specs.Tree.{KindTree, counted, occurrences, value_and, no_values}
-use Rattle.ax_model.specs.Widths.{counter_octets}
-use Rattle.ax_model.specs.declared.kind.Counter.{Counter}
-use Rattle.ax_reader.proofs.Counting.{each_first, each_fails_at}
-use Rattle.ax_reader.specs.Reading.{FailsAt, IsCount, kind_read}
+use Rattle.ax_format.specs.Reader.{got, read, each_read}
+use Rattle.ax_format.specs.Tree.{KindTree, counted, occurrences, value_and, no_values}
+use Rattle.ax_format.specs.Widths.{counter_octets}
+use Rattle.ax_format.specs.declared.kind.Counter.{Counter}
+use Rattle.ax_fspec.proofs.Counting.{each_first, each_fails_at}
+use Rattle.ax_fspec.specs.Reading.{FailsAt, IsCount, kind_read}
 use Rattle.ax_text.specs.Printing.{after_spaces, Puts}
 use Rattle.ax_text.specs.ValueText.{opening, closing, one_onto, each_onto, kind_onto}
 use Rattle.ax_text_views.proofs.Leading.{Leads, closed, leads_by, leads_on}

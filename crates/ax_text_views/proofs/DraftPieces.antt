@@ -1,10 +1,10 @@
 -- Templates that are put together, piece after piece.
 use Rattle.std.proofs.Common.{◌≡◌, ℕ, ◌+◌, ◌<◌, ◌≤◌, List, [], ◌∷◌, ◌++◌, Some, None, length, take, drop, get_or, refl, sym, ◌∙◌, ap, subst, append_assoc, append-nil}
 use Rattle.std.proofs.lemmas.List.{drop_all}
-use Rattle.ax_model.specs.Plain.{member_tree, members_tree}
-use Rattle.ax_model.specs.Tree.{FixedTree, group, MembersTree, named}
-use Rattle.ax_model.specs.declared.kind.Member.{Member}
-use Rattle.ax_model.specs.declared.kind.Member.TheVariants.{Spare}
+use Rattle.ax_format.specs.Plain.{member_tree, members_tree}
+use Rattle.ax_format.specs.Tree.{FixedTree, group, MembersTree, named}
+use Rattle.ax_format.specs.declared.kind.Member.{Member}
+use Rattle.ax_format.specs.declared.kind.Member.TheVariants.{Spare}
 use Rattle.ax_text.proofs.Printed.{from_place}
 use Rattle.ax_text.specs.ValueText.{opening, closing, spare_word, part_word}
 use Rattle.ax_text_views.proofs.FixedPrinted.{spare_tree}

@@ -3,13 +3,13 @@ use Rattle.std.proofs.Common.{◌≡◌, ℕ, ◌+◌, ◌^◌, ◌<◌, ◌≤�
 use Rattle.std.proofs.lemmas.List.{drop-drop, drop_all}
 use Rattle.ax_bits.proofs.Pieces.{number-word}
 use Rattle.ax_bits.specs.Bits.{number_of, word}
-use Rattle.ax_model.specs.InBounds.{MembersInBounds}
-use Rattle.ax_model.specs.Plain.{fixed_step, member_step, member_tree, members_tree}
-use Rattle.ax_model.specs.Tree.{FixedTree, MembersTree, no_members, member_and, MemberTree, named, spare}
-use Rattle.ax_model.specs.Widths.{width, members_width}
-use Rattle.ax_model.specs.declared.kind.Fixed.TheOpen.{Member-F}
-use Rattle.ax_model.specs.declared.kind.Member.{Member, fold-roll-Member}
-use Rattle.ax_model.specs.declared.kind.Member.TheVariants.{Spare, rolls-Spare}
+use Rattle.ax_format.specs.InBounds.{MembersInBounds}
+use Rattle.ax_format.specs.Plain.{fixed_step, member_step, member_tree, members_tree}
+use Rattle.ax_format.specs.Tree.{FixedTree, MembersTree, no_members, member_and, MemberTree, named, spare}
+use Rattle.ax_format.specs.Widths.{width, members_width}
+use Rattle.ax_format.specs.declared.kind.Fixed.TheOpen.{Member-F}
+use Rattle.ax_format.specs.declared.kind.Member.{Member, fold-roll-Member}
+use Rattle.ax_format.specs.declared.kind.Member.TheVariants.{Spare, rolls-Spare}
 use Rattle.ax_text.proofs.Printed.{Leaves, leaves_all, leaves_fewer, leaves_none}
 use Rattle.ax_text.specs.Printing.{after_spaces, Puts}
 use Rattle.ax_text.specs.ValueText.{Texts, one_onto}

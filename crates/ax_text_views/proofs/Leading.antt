@@ -1,9 +1,9 @@
 -- Printing that goes on after what was read and printed.
 use Rattle.std.proofs.Common.{◌≡◌, ℕ, List, ◌∷◌, ◌++◌, refl, sym, ◌∙◌, ap}
-use Rattle.ax_model.specs.Reader.{Read}
-use Rattle.ax_model.specs.declared.fault.BodyFault.{BodyFault}
-use Rattle.ax_reader.proofs.Continuing.{gets_after}
-use Rattle.ax_reader.specs.Reading.{Gets, FailsAt, Continues}
+use Rattle.ax_format.specs.Reader.{Read}
+use Rattle.ax_format.specs.declared.fault.BodyFault.{BodyFault}
+use Rattle.ax_fspec.proofs.Continuing.{gets_after}
+use Rattle.ax_fspec.specs.Reading.{Gets, FailsAt, Continues}
 use Rattle.ax_text.specs.Printing.{after_spaces, Puts}
 use Rattle.ax_text.specs.ValueText.{Texts, opening, closing, one_onto, in_braces}
 use Rattle.ax_text_views.specs.Prints.{Prints}

@@ -6,11 +6,11 @@ use Rattle.ax_fspec.specs.Fields.{MarksSlots}
 use Rattle.ax_fspec.specs.Marks as Marks
 use Rattle.ax_fspec.specs.declared.mask.SlotMask.{SlotMask}
 use Rattle.ax_held_kinds.proofs.MarkedSlots.{first_is, no_entries_left, entries_shape}
-use Rattle.ax_model.specs.InBounds.{InBounds}
-use Rattle.ax_model.specs.Presence.{NoneUndefined}
-use Rattle.ax_model.specs.Reader.{got, both, read, entries_read}
-use Rattle.ax_model.specs.Tree.{KindTree, EntriesTree, SlotTree, SlotsTree, compound, marked, spare_slot, subitem, slots_of, defined_slots, no_entries, entry_and}
-use Rattle.ax_reader.specs.Reading.{Gets, IsMaskOf, kind_read, entries_at}
+use Rattle.ax_format.specs.InBounds.{InBounds}
+use Rattle.ax_format.specs.Presence.{NoneUndefined}
+use Rattle.ax_format.specs.Reader.{got, both, read, entries_read}
+use Rattle.ax_format.specs.Tree.{KindTree, EntriesTree, SlotTree, SlotsTree, compound, marked, spare_slot, subitem, slots_of, defined_slots, no_entries, entry_and}
+use Rattle.ax_fspec.specs.Reading.{Gets, IsMaskOf, kind_read, entries_at}
 use Rattle.ax_text.proofs.EntryWays.{by_slots, entries_same, numbered, texts_made}
 use Rattle.ax_text.proofs.Printed.{both_put, braces_put}
 use Rattle.ax_text.specs.Printing.{after_spaces, Puts}

@@ -6,13 +6,13 @@ use Rattle.ax_bits.proofs.Words.{bits-append, length-bits}
 use Rattle.ax_bits.specs.Bits.{bits}
 use Rattle.ax_fspec.specs.Fields.{MarksSlots}
 use Rattle.ax_fspec.specs.declared.mask.SlotMask.{SlotMask}
-use Rattle.ax_model.proofs.Bounds.{record_bounds}
-use Rattle.ax_model.specs.Bodies.{RecordsSpell}
-use Rattle.ax_model.specs.Flaws.{NoFlaw}
-use Rattle.ax_model.specs.Specification.{SpecTree, record_slots, record_kind}
-use Rattle.ax_model.specs.Tree.{EntriesTree, marked}
-use Rattle.ax_reader.proofs.Exact.{spelled_at, fault_at}
-use Rattle.ax_reader.specs.Reading.{IsMaskOf, record_slot_list, kind_read, entries_at}
+use Rattle.ax_format.proofs.Bounds.{record_bounds}
+use Rattle.ax_format.specs.Bodies.{RecordsSpell}
+use Rattle.ax_format.specs.Flaws.{NoFlaw}
+use Rattle.ax_format.specs.Specification.{SpecTree, record_slots, record_kind}
+use Rattle.ax_format.specs.Tree.{EntriesTree, marked}
+use Rattle.ax_fspec.proofs.Exact.{spelled_at, fault_at}
+use Rattle.ax_fspec.specs.Reading.{IsMaskOf, record_slot_list, kind_read, entries_at}
 use Rattle.ax_text.proofs.Printed.{none_put, both_put, braces_put}
 use Rattle.ax_text.specs.BlockText.{record_onto, records_onto}
 use Rattle.ax_text.specs.Printing.{after_spaces, Puts}

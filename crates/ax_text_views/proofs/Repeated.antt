@@ -1,14 +1,14 @@
 -- Occurrences by FX and parts, printed one after the other.
 use Rattle.std.proofs.Common.{◌≡◌, ℕ, ◌-◌, ◌*◌, ◌≤◌, Bool, true, false, List, [], ◌∷◌, ◌++◌, length, drop, map, refl, sym, ◌∙◌, ap, subst}
 use Rattle.ax_bits.specs.Bits.{bits}
-use Rattle.ax_model.specs.Reader.{fixed_value, members_value}
-use Rattle.ax_model.specs.Tree.{FixedTree, MembersTree, by_fx, extended, part_values, occurrences, value_and, no_values, list_and, no_lists}
-use Rattle.ax_model.specs.Widths.{width}
-use Rattle.ax_model.specs.declared.fault.BodyCause.TheVariants.{RunsOut}
-use Rattle.ax_model.specs.declared.fault.BodyFault.{BodyFault}
-use Rattle.ax_model.specs.declared.kind.LastPart.{LastPart}
-use Rattle.ax_reader.proofs.AtOctets.{IsUnit, run_at, parts_at, run_ends, run_goes_on, run_fails, by_fx_gets, by_fx_fails, extended_gets, extended_fails}
-use Rattle.ax_reader.specs.Reading.{FailsAt, kind_read, fx_bit}
+use Rattle.ax_format.specs.Reader.{fixed_value, members_value}
+use Rattle.ax_format.specs.Tree.{FixedTree, MembersTree, by_fx, extended, part_values, occurrences, value_and, no_values, list_and, no_lists}
+use Rattle.ax_format.specs.Widths.{width}
+use Rattle.ax_format.specs.declared.fault.BodyCause.TheVariants.{RunsOut}
+use Rattle.ax_format.specs.declared.fault.BodyFault.{BodyFault}
+use Rattle.ax_format.specs.declared.kind.LastPart.{LastPart}
+use Rattle.ax_fspec.proofs.AtOctets.{IsUnit, run_at, parts_at, run_ends, run_goes_on, run_fails, by_fx_gets, by_fx_fails, extended_gets, extended_fails}
+use Rattle.ax_fspec.specs.Reading.{FailsAt, kind_read, fx_bit}
 use Rattle.ax_text.proofs.Printed.{both_put}
 use Rattle.ax_text.specs.Printing.{after_spaces, Puts}
 use Rattle.ax_text.specs.ValueText.{Texts, opening, closing, one_onto, fixed_onto, part_onto, parts_onto, each_onto, kind_onto}

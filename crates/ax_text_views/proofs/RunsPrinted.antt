@@ -5,7 +5,7 @@ use Rattle.std.proofs.lemmas.Nat.{div-mul-add, div_below, pow_pos, pow-add}
 use Rattle.ax_bits.proofs.Pieces.{word-split, word-low, number-word}
 use Rattle.ax_bits.proofs.Words.{length-word}
 use Rattle.ax_bits.specs.Bits.{number_of, word}
-use Rattle.ax_model.specs.InBounds.{IsWidth}
+use Rattle.ax_format.specs.InBounds.{IsWidth}
 use Rattle.ax_text.proofs.Printed.{from_place}
 use Rattle.ax_text_views.proofs.StepsPrinted.{none_put, some_put, some_bounds, with_printed, with_width, with_bounds}
 use Rattle.ax_text_views.specs.Templates.{Template, ends, and_number, printed, template_width, TemplateInBounds, step_then, template_of, number_width, number_text, NumberInBounds}

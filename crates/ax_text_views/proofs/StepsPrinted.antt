@@ -3,12 +3,12 @@ use Rattle.std.proofs.Common.{◌≡◌, ℕ, ◌+◌, ◌*◌, ◌^◌, ◌<◌
 use Rattle.std.proofs.lemmas.List.{drop-drop, drop_all}
 use Rattle.ax_bits.proofs.Pieces.{number-word}
 use Rattle.ax_bits.specs.Bits.{number_of, word}
-use Rattle.ax_model.specs.InBounds.{IsWidth, FixedInBounds, MembersInBounds}
-use Rattle.ax_model.specs.Lengths.{capped}
-use Rattle.ax_model.specs.Reader.{fixed_value, members_value}
-use Rattle.ax_model.specs.Sizes.{longest_body}
-use Rattle.ax_model.specs.Tree.{FixedTree, MembersTree, ValueTree, fixed, named, subitem}
-use Rattle.ax_model.specs.Widths.{width, members_width}
+use Rattle.ax_format.specs.InBounds.{IsWidth, FixedInBounds, MembersInBounds}
+use Rattle.ax_format.specs.Lengths.{capped}
+use Rattle.ax_format.specs.Reader.{fixed_value, members_value}
+use Rattle.ax_format.specs.Sizes.{longest_body}
+use Rattle.ax_format.specs.Tree.{FixedTree, MembersTree, ValueTree, fixed, named, subitem}
+use Rattle.ax_format.specs.Widths.{width, members_width}
 use Rattle.ax_text.proofs.Printed.{both_put, from_place}
 use Rattle.ax_text.specs.Printing.{after_spaces, Puts}
 use Rattle.ax_text.specs.Slots.{slot_onto}

@@ -2,10 +2,10 @@
 use Rattle.std.proofs.Common.{◌≡◌, ℕ, ◌+◌, List, [], ◌∷◌, ◌++◌, take, drop, decimal, refl, sym, ◌∙◌, ap, arith, subst, append_assoc}
 use Rattle.std.proofs.lemmas.List.{drop-drop}
 use Rattle.ax_bits.specs.Bits.{number_of}
-use Rattle.ax_model.specs.InBounds.{FixedInBounds, MembersInBounds}
-use Rattle.ax_model.specs.Reader.{fixed_value, members_value}
-use Rattle.ax_model.specs.Tree.{FixedTree, element, group, MembersTree, no_members, member_and, named, spare, fixed, subitem}
-use Rattle.ax_model.specs.Widths.{width, members_width}
+use Rattle.ax_format.specs.InBounds.{FixedInBounds, MembersInBounds}
+use Rattle.ax_format.specs.Reader.{fixed_value, members_value}
+use Rattle.ax_format.specs.Tree.{FixedTree, element, group, MembersTree, no_members, member_and, named, spare, fixed, subitem}
+use Rattle.ax_format.specs.Widths.{width, members_width}
 use Rattle.ax_text.specs.Printing.{after_spaces, Puts}
 use Rattle.ax_text.specs.Slots.{slot_onto}
 use Rattle.ax_text.specs.ValueText.{Texts, opening, closing, spare_word, part_word, fixed_onto, members_onto, part_onto}

@@ -1,11 +1,11 @@
 -- The slots of a UAP, one after the other.
 use Rattle.std.proofs.Common.{◌≡◌, ℕ, ◌+◌, ◌<◌, List, [], ◌∷◌, ◌++◌, length, take, map, arith, refl, sym, ◌∙◌, ap}
 use Rattle.std.proofs.lemmas.List.{map-append, take_more}
-use Rattle.ax_model.specs.Plain.{spec_tree}
-use Rattle.ax_model.specs.Tree.{SlotTree}
-use Rattle.ax_model.specs.declared.spec.Spec.{Spec}
-use Rattle.ax_reader.proofs.RecordSlots.{frn_at, frn_count}
-use Rattle.ax_reader.specs.Reading.{record_slot_list, slot_of_frn}
+use Rattle.ax_format.specs.Plain.{spec_tree}
+use Rattle.ax_format.specs.Tree.{SlotTree}
+use Rattle.ax_format.specs.declared.spec.Spec.{Spec}
+use Rattle.ax_fspec.proofs.RecordSlots.{frn_at, frn_count}
+use Rattle.ax_fspec.specs.Reading.{record_slot_list, slot_of_frn}
 use Rattle.ax_text_views.specs.HeldText.{text_slot}
 use Rattle.ax_text_views.specs.declared.held.TextSlot.{TextSlot}
 

@@ -1,7 +1,7 @@
 -- The plain trees of what is held of kinds: those of the kinds that it was made of.
 use Rattle.std.specs.Prelude.{List, map}
-use Rattle.ax_model.specs.Plain.{fixed_tree, part_tree}
-use Rattle.ax_model.specs.Tree.{MembersTree, KindTree, fixed, extended, counted, by_fx, explicit, compound, SlotsTree, SlotTree, spare_slot, subitem, slots_of}
+use Rattle.ax_format.specs.Plain.{fixed_tree, part_tree}
+use Rattle.ax_format.specs.Tree.{MembersTree, KindTree, fixed, extended, counted, by_fx, explicit, compound, SlotsTree, SlotTree, spare_slot, subitem, slots_of}
 use Rattle.ax_text_views.specs.declared.drafting.TextPart.{TextPart}
 use Rattle.ax_text_views.specs.declared.held.TextKind.{TextKind, fold-TextKind}
 use Rattle.ax_text_views.specs.declared.held.TextKind.TheOpen.{TextKind-F, TextSlot-F}

@@ -2,3 +2,4 @@ pub mod Drafts
 pub mod HeldText
 pub mod Prints
 pub mod Templates
+pub mod TextCommand

@@ -1,12 +1,12 @@
 -- What is printed of what is read.
 use Rattle.std.specs.Prelude.{◌≡◌, ℕ, ◌+◌, ◌/◌, ◌%◌, List, [], ◌∷◌}
 use Rattle.ax_bits.specs.Bits.{bits}
-use Rattle.ax_model.specs.Blocks.{read_block}
-use Rattle.ax_model.specs.Bodies.{SpellsBody}
-use Rattle.ax_model.specs.Reader.{Read, members_value}
-use Rattle.ax_model.specs.Specification.{SpecTree, record_kind}
-use Rattle.ax_model.specs.Tree.{MembersTree, EntriesTree, no_entries, entry_and, SlotTree, SlotsTree, spare_slot, subitem, marked}
-use Rattle.ax_reader.specs.Reading.{Gets, kind_read}
+use Rattle.ax_format.specs.Blocks.{read_block}
+use Rattle.ax_format.specs.Bodies.{SpellsBody}
+use Rattle.ax_format.specs.Reader.{Read, members_value}
+use Rattle.ax_format.specs.Specification.{SpecTree, record_kind}
+use Rattle.ax_format.specs.Tree.{MembersTree, EntriesTree, no_entries, entry_and, SlotTree, SlotsTree, spare_slot, subitem, marked}
+use Rattle.ax_fspec.specs.Reading.{Gets, kind_read}
 use Rattle.ax_text.specs.BlockText.{record_onto, records_onto, BlockLine}
 use Rattle.ax_text.specs.Printing.{after_spaces, Puts}
 use Rattle.ax_text.specs.Slots.{slot_numbered, slot_onto}

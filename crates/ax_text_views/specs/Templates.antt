@@ -1,8 +1,8 @@
 -- What is printed of a run of bits: octets that its kind gives, and between them numbers of so many bits.
 use Rattle.std.specs.Prelude.{◌≡◌, ℕ, ◌+◌, List, [], ◌∷◌, ◌++◌, Option, Some, None, take, drop, decimal}
 use Rattle.ax_bits.specs.Bits.{number_of}
-use Rattle.ax_model.specs.InBounds.{IsWidth}
-use Rattle.ax_model.specs.Tree.{FixedTree, element, group, MemberTree, MembersTree, no_members, member_and, named, spare}
+use Rattle.ax_format.specs.InBounds.{IsWidth}
+use Rattle.ax_format.specs.Tree.{FixedTree, element, group, MemberTree, MembersTree, no_members, member_and, named, spare}
 use Rattle.ax_text.specs.ValueText.{opening, closing, spare_word, part_word}
 use Rattle.ax_text_views.specs.declared.templates.Step.{Step}
 use Rattle.ax_text_views.specs.declared.templates.Steps.{Steps}

@@ -1,9 +1,9 @@
 //! The lines of data blocks.
 ghost use Rattle.std.specs.Prelude.{◌≡◌, ◌≤◌, length, IfErr, OnOk};
-ghost use Rattle.ax_model.specs.Flaws.{NoFlaw};
-ghost use Rattle.ax_model.specs.Plain.{spec_tree};
-ghost use Rattle.ax_model.specs.Sizes.{longest_body};
-ghost use Rattle.ax_reader.specs.Reading.{IsMaskOf, record_slot_list};
+ghost use Rattle.ax_format.specs.Flaws.{NoFlaw};
+ghost use Rattle.ax_format.specs.Plain.{spec_tree};
+ghost use Rattle.ax_format.specs.Sizes.{longest_body};
+ghost use Rattle.ax_fspec.specs.Reading.{IsMaskOf, record_slot_list};
 ghost use Rattle.ax_text.specs.BlockText.{OpaqueLine};
 ghost use Rattle.ax_text_views.specs.Prints.{IsBlockPrinted, PrintsBody};
 ghost use Rattle.ax_values.specs.Decoding.{IsBodyFault, IsFaultOf};
@@ -11,8 +11,8 @@ ghost use Rattle.ax_values.specs.Decoding.{IsBodyFault, IsFaultOf};
 use crate::items::TextItems;
 use crate::line::Line;
 use crate::records::print_record;
+use ax_format::RawBlock;
 use ax_fspec::SlotMask;
-use ax_model::RawBlock;
 use ax_values::DecodeError;
 use std::alloc::AllocError;
 

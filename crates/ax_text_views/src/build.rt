@@ -1,13 +1,13 @@
 //! What is held of kinds, made of them.
 ghost use Rattle.std.specs.Prelude.{◌≡◌, ◌∷◌, ◌++◌, ◌<◌, [], length, map, IfOk, OnOk, IsOkAnd};
-ghost use Rattle.ax_model.specs.Plain.{part_tree, kind_tree, slot_tree};
+ghost use Rattle.ax_format.specs.Plain.{part_tree, kind_tree, slot_tree};
 ghost use Rattle.ax_text_views.specs.HeldText.{text_part, text_kind, text_slot};
 
 use crate::drafting::{StepsLeft, TextFixed, TextPart};
 use crate::held::{TextKind, TextParts, TextSlot, TextSlots};
 use crate::named::TextNamed;
+use ax_format::{Kind, Parts, Slot, Slots};
 use ax_lists::Sequence;
-use ax_model::{Kind, Parts, Slot, Slots};
 use std::alloc::{AllocError, Global};
 
 /// Appends what was made, where there was memory for it.

@@ -1,14 +1,14 @@
 //! Templates made of kinds.
 ghost use Rattle.std.specs.Prelude.{◌≡◌, [], IfOk, IfSome, OnOk};
 ghost use Rattle.std.proofs.Props.{props};
-ghost use Rattle.ax_model.specs.Lengths.{capped};
-ghost use Rattle.ax_model.specs.Plain.{fixed_tree, member_tree, members_tree, part_tree};
-ghost use Rattle.ax_model.specs.Widths as Widths;
+ghost use Rattle.ax_format.specs.Lengths.{capped};
+ghost use Rattle.ax_format.specs.Plain.{fixed_tree, member_tree, members_tree, part_tree};
+ghost use Rattle.ax_format.specs.Widths as Widths;
 ghost use Rattle.ax_text_views.specs.Drafts.{Adds};
 ghost use Rattle.ax_text_views.specs.Templates.{AreSteps, ends, fixed_template, member_template, members_template, part_template, whole_template};
 
 use crate::templates::{Draft, Steps};
-use ax_model::{Fixed, Member, Members, Part};
+use ax_format::{Fixed, Member, Members, Part};
 use std::alloc::{AllocError, Global};
 
 /// Appends what is printed of a fixed kind.

@@ -1,19 +1,19 @@
 //! Runs of bits of a known length, printed member by member: elements, spares, groups and parts.
 ghost use Rattle.std.specs.Prelude.{◌≡◌, ◌+◌, ◌*◌, ◌/◌, ◌%◌, ◌^◌, ◌<◌, ◌≤◌, length, drop, take, decimal, OnOk};
 ghost use Rattle.ax_bits.specs.Bits.{bits, number_of, word};
-ghost use Rattle.ax_model.specs.Reader.{fixed_value, members_value};
-ghost use Rattle.ax_model.specs.InBounds.{IsWidth, FixedInBounds, MembersInBounds};
-ghost use Rattle.ax_model.specs.Plain.{fixed_tree, member_tree, members_tree, part_tree};
-ghost use Rattle.ax_model.specs.Sizes.{longest_body};
-ghost use Rattle.ax_model.specs.Tree.{member_and, no_members};
-ghost use Rattle.ax_model.specs.Widths.{width, members_width};
+ghost use Rattle.ax_format.specs.Reader.{fixed_value, members_value};
+ghost use Rattle.ax_format.specs.InBounds.{IsWidth, FixedInBounds, MembersInBounds};
+ghost use Rattle.ax_format.specs.Plain.{fixed_tree, member_tree, members_tree, part_tree};
+ghost use Rattle.ax_format.specs.Sizes.{longest_body};
+ghost use Rattle.ax_format.specs.Tree.{member_and, no_members};
+ghost use Rattle.ax_format.specs.Widths.{width, members_width};
 ghost use Rattle.ax_text.specs.Printing.{after_spaces, Puts};
 ghost use Rattle.ax_text.specs.ValueText.{one_onto, fixed_onto, part_onto};
 ghost use Rattle.ax_text_views.specs.Prints.{members_read_onto};
 
 use crate::line::Line;
 use ax_bits::{bits_at, short_bits_at};
-use ax_model::{Fixed, Member, Members, Part};
+use ax_format::{Fixed, Member, Members, Part};
 use std::alloc::AllocError;
 
 /// Prints the number in the `width` bits from bit `at` of the body on, of any width.

@@ -3,9 +3,9 @@ ghost use Rattle.ax_text_views.specs.HeldText.{text_slot};
 
 use crate::drafting::{TextFixed, TextPart};
 use crate::named::TextNamed;
+use ax_format::{Counter, LastPart, Name};
 use ax_held_kinds::PresenceSlot;
 use ax_lists::Sequence;
-use ax_model::{Counter, LastPart, Name};
 
 /// The parts of an extended item, in order.
 pub(crate) type TextParts<'s> = Sequence<TextPart<'s>>;

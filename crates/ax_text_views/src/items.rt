@@ -1,14 +1,14 @@
 //! The items of a UAP.
 ghost use Rattle.std.specs.Prelude.{◌≡◌, ◌+◌, ◌<◌, length, map, IfOk};
-ghost use Rattle.ax_model.specs.Plain.{spec_tree};
-ghost use Rattle.ax_reader.specs.Reading.{record_slot_list, slot_of_frn};
+ghost use Rattle.ax_format.specs.Plain.{spec_tree};
+ghost use Rattle.ax_fspec.specs.Reading.{record_slot_list, slot_of_frn};
 ghost use Rattle.ax_text_views.specs.HeldText.{text_slot};
 
 use crate::build::hold_kind;
 use crate::drafting::StepsLeft;
 use crate::held::{TextSlot, TextSlots};
 use crate::named::TextNamed;
-use ax_model::{Kind, Spec};
+use ax_format::{Kind, Spec};
 use std::alloc::{AllocError, Global};
 use std::marker::Model;
 
@@ -22,10 +22,10 @@ pub struct TextItems<'s> {
 
 impl<'s> Model for TextItems<'s> {
     ghost use Rattle.std.specs.Prelude.{◌≡◌, map};
-    ghost use Rattle.ax_model.specs.Plain.{spec_tree};
-    ghost use Rattle.ax_model.specs.contracts.spec.Spec as row;
-    ghost use Rattle.ax_model.specs.declared.spec.Spec.{Spec};
-    ghost use Rattle.ax_reader.specs.Reading.{record_slot_list};
+    ghost use Rattle.ax_format.specs.Plain.{spec_tree};
+    ghost use Rattle.ax_format.specs.contracts.spec.Spec as row;
+    ghost use Rattle.ax_format.specs.declared.spec.Spec.{Spec};
+    ghost use Rattle.ax_fspec.specs.Reading.{record_slot_list};
     ghost use Rattle.ax_text_views.specs.HeldText.{text_slot};
 
     ghost Value = { Spec };

@@ -1,4 +1,4 @@
-//! Data blocks as text, printed while their octets are read: no value is made of them.
+//! Data blocks as text, printed while their octets are read: no value is made of them. `text` as the work of a block command.
 #![tactic(auto)]
 
 mod blocks;
@@ -17,11 +17,15 @@ mod room;
 mod run_texts;
 mod step_texts;
 mod steps;
+mod tables;
 mod templates;
 mod three_digits;
 mod units;
+mod work;
 
 pub use blocks::{print_block, print_opaque};
 pub use drafting::StepsLeft;
 pub use items::TextItems;
 pub use line::Line;
+pub use tables::{Table, Tables, tables_of};
+pub use work::TextViews;

@@ -1,8 +1,8 @@
 //! A line of tokens, as it is printed.
 ghost use Rattle.std.specs.Prelude.{◌≡◌, ◌+◌, ◌*◌, ◌≤◌, [], ◌∷◌, ◌++◌, length, take, drop, decimal, OnOk};
 ghost use Rattle.ax_bits.specs.Bits.{bits};
-ghost use Rattle.ax_model.specs.Paths.{three_digits};
-ghost use Rattle.ax_model.specs.Sizes.{longest_body};
+ghost use Rattle.ax_format.specs.Paths.{three_digits};
+ghost use Rattle.ax_format.specs.Sizes.{longest_body};
 ghost use Rattle.ax_text.specs.Printing.{after_spaces, Puts};
 ghost use Rattle.ax_text.specs.ValueText.{opening, closing, one_onto, hex_text};
 ghost use Rattle.ax_text_views.specs.Templates.{TemplateInBounds, printed, template_width, whole_template};
@@ -11,7 +11,7 @@ ghost use Rattle.ax_tokens.specs.Octets.{line_feed};
 use crate::room::{make_room, put_name, put_number, put_octets};
 use crate::step_texts::{put_template, template_room};
 use crate::templates::Steps;
-use ax_model::{Name, category_digits};
+use ax_format::{Name, category_digits};
 use itoa::Buffer;
 use std::alloc::{AllocError, Global};
 use std::marker::Model;

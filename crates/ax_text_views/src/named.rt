@@ -2,15 +2,15 @@
 ghost use Rattle.std.specs.Prelude.{◌≡◌, ◌+◌, ◌*◌, ◌≤◌, [], length, drop, IfOk, IfErr, IfSome, OnOk};
 ghost use Rattle.std.proofs.Props.{props};
 ghost use Rattle.ax_bits.specs.Bits.{bits};
-ghost use Rattle.ax_model.specs.InBounds.{FixedInBounds, InBounds};
-ghost use Rattle.ax_model.specs.Lengths.{capped};
-ghost use Rattle.ax_model.specs.Plain.{fixed_tree};
-ghost use Rattle.ax_model.specs.Reader.{fixed_value};
-ghost use Rattle.ax_model.specs.Sizes.{longest_body};
-ghost use Rattle.ax_model.specs.Tree as Tree;
-ghost use Rattle.ax_model.specs.Tree.{named, subitem};
-ghost use Rattle.ax_model.specs.Widths as Widths;
-ghost use Rattle.ax_reader.specs.Reading.{kind_read};
+ghost use Rattle.ax_format.specs.InBounds.{FixedInBounds, InBounds};
+ghost use Rattle.ax_format.specs.Lengths.{capped};
+ghost use Rattle.ax_format.specs.Plain.{fixed_tree};
+ghost use Rattle.ax_format.specs.Reader.{fixed_value};
+ghost use Rattle.ax_format.specs.Sizes.{longest_body};
+ghost use Rattle.ax_format.specs.Tree as Tree;
+ghost use Rattle.ax_format.specs.Tree.{named, subitem};
+ghost use Rattle.ax_format.specs.Widths as Widths;
+ghost use Rattle.ax_fspec.specs.Reading.{kind_read};
 ghost use Rattle.ax_text.specs.Printing.{after_spaces, Puts};
 ghost use Rattle.ax_text.specs.Slots.{slot_onto};
 ghost use Rattle.ax_text_views.specs.Prints.{Prints};
@@ -21,7 +21,7 @@ use crate::drafting::{StepsLeft, add_fixed};
 use crate::fixed::print_fixed;
 use crate::line::Line;
 use crate::templates::{Draft, Steps};
-use ax_model::{Fixed, Name};
+use ax_format::{Fixed, Name};
 use ax_values::{DecodeError, unit_end};
 use std::alloc::{AllocError, Global};
 
@@ -106,7 +106,7 @@ fn print_named(
 
 /// Prints the name and the value, which begins at octet `at` of the body. Ok is the octet after it.
 #[inline(always)]
-#[tactic(auto, using(ax_values::proofs::Continuing::errors, ax_reader::proofs::AtOctets::fixed_fails))]
+#[tactic(auto, using(ax_values::proofs::Continuing::errors, ax_fspec::proofs::AtOctets::fixed_fails))]
 pub(crate) fn print_item(
     line: &mut Line,
     item: &TextNamed<'_>,

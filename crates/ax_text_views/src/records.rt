@@ -1,10 +1,10 @@
 //! Records over a specification, read and printed.
 ghost use Rattle.std.specs.Prelude.{◌≡◌, ◌≤◌, length, IfOk, IfErr};
-ghost use Rattle.ax_model.specs.Flaws.{NoFlaw};
-ghost use Rattle.ax_model.specs.Plain.{spec_tree};
-ghost use Rattle.ax_model.specs.Sizes.{longest_body};
-ghost use Rattle.ax_model.specs.Specification.{record_kind};
-ghost use Rattle.ax_reader.specs.Reading.{IsMaskOf, record_slot_list, kind_read};
+ghost use Rattle.ax_format.specs.Flaws.{NoFlaw};
+ghost use Rattle.ax_format.specs.Plain.{spec_tree};
+ghost use Rattle.ax_format.specs.Sizes.{longest_body};
+ghost use Rattle.ax_format.specs.Specification.{record_kind};
+ghost use Rattle.ax_fspec.specs.Reading.{IsMaskOf, record_slot_list, kind_read};
 ghost use Rattle.ax_text_views.specs.Prints.{IsRecordPrinted};
 ghost use Rattle.ax_values.specs.SlotReading.{HasFailed};
 

@@ -3,7 +3,7 @@ ghost use Rattle.std.specs.Prelude.{◌≡◌, [], ◌∷◌, ◌++◌, ◌+◌,
 ghost use Rattle.ax_text_views.specs.Prints.{three_last};
 
 use crate::three_digits::THREE_DIGITS;
-use ax_model::Name;
+use ax_format::Name;
 use itoa::Buffer;
 use std::alloc::AllocError;
 use std::simd::Simd;

@@ -1,8 +1,8 @@
 //! The texts of steps, put into room that is there.
 ghost use Rattle.std.specs.Prelude.{◌≡◌, ◌+◌, ◌*◌, ◌≤◌, ◌++◌, length, drop, take, decimal};
 ghost use Rattle.ax_bits.specs.Bits.{bits, number_of};
-ghost use Rattle.ax_model.specs.InBounds.{IsWidth};
-ghost use Rattle.ax_model.specs.Sizes.{longest_body};
+ghost use Rattle.ax_format.specs.InBounds.{IsWidth};
+ghost use Rattle.ax_format.specs.Sizes.{longest_body};
 ghost use Rattle.ax_text_views.specs.Templates.{NumberInBounds, TemplateInBounds, number_text, number_width, printed, step_text, template_of, template_width, whole_template};
 
 use crate::literal::LITERAL_ROOM;

@@ -1,11 +1,11 @@
 //! Fixed kinds and parts, printed by their templates.
 ghost use Rattle.std.specs.Prelude.{◌+◌, ◌*◌, ◌≤◌, length, drop, OnOk};
 ghost use Rattle.ax_bits.specs.Bits.{bits};
-ghost use Rattle.ax_model.specs.InBounds.{FixedInBounds, MembersInBounds};
-ghost use Rattle.ax_model.specs.Plain.{fixed_tree, part_tree};
-ghost use Rattle.ax_model.specs.Reader.{fixed_value, members_value};
-ghost use Rattle.ax_model.specs.Sizes.{longest_body};
-ghost use Rattle.ax_model.specs.Widths.{width, members_width};
+ghost use Rattle.ax_format.specs.InBounds.{FixedInBounds, MembersInBounds};
+ghost use Rattle.ax_format.specs.Plain.{fixed_tree, part_tree};
+ghost use Rattle.ax_format.specs.Reader.{fixed_value, members_value};
+ghost use Rattle.ax_format.specs.Sizes.{longest_body};
+ghost use Rattle.ax_format.specs.Widths.{width, members_width};
 ghost use Rattle.ax_text.specs.Printing.{after_spaces, Puts};
 ghost use Rattle.ax_text.specs.ValueText.{fixed_onto, part_onto};
 

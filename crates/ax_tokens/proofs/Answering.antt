@@ -10,7 +10,7 @@ use Rattle.ax_tokens.specs.Fronts.{BeginsNoGap}
 use Rattle.ax_tokens.specs.declared.token.TokenKind.{TokenKind}
 use Rattle.ax_tokens.specs.declared.token.TokenKind.TheVariants.{Word, Str, Open, Close}
 use Rattle.ax_tokens.specs.declared.token.LexError.TheVariants.{BadByte, TooDeep}
-use Rattle.ax_tokens.proofs.Reader.{gap_rest, stop, token, front_read, token_at, is_deep, read_on, read, reading}
+use Rattle.ax_tokens.proofs.Lexed.{gap_rest, stop, token, front_read, token_at, is_deep, read_on, read, reading}
 use Rattle.ax_tokens.proofs.Back.{gap_rest_here, gap_back, token_starts, token_back, stop_back, nowhere_starts, brace_starts}
 use Rattle.ax_tokens.proofs.Levels.{place_last, depth_here}
 use Rattle.ax_tokens.proofs.Steps.{token_some}

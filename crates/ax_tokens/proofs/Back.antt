@@ -11,7 +11,7 @@ use Rattle.ax_tokens.specs.Fronts.{BeginsNoGap}
 use Rattle.ax_tokens.specs.declared.token.TokenKind.{TokenKind}
 use Rattle.ax_tokens.specs.declared.token.TokenKind.TheVariants.{Word, Str, Open, Close}
 use Rattle.ax_tokens.proofs.Prefixes.{Stops, prefix_is, and_first, and_second}
-use Rattle.ax_tokens.proofs.Reader.{gap_rest, comment_rest, stop, token, str_read, front_read}
+use Rattle.ax_tokens.proofs.Lexed.{gap_rest, comment_rest, stop, token, str_read, front_read}
 
 -- ---- tests of octets
 

@@ -17,7 +17,7 @@ use Rattle.ax_tokens.specs.declared.token.LexError.TheVariants.{BadByte, TooDeep
 use Rattle.ax_tokens.proofs.Prefixes.{Stops, prefix_passes, prefix_stops}
 use Rattle.ax_tokens.proofs.Fronts.{word_front}
 use Rattle.ax_tokens.proofs.Levels.{level_push}
-use Rattle.ax_tokens.proofs.Reader.{gap_rest, comment_rest, Front, nothing, stop, token, str_read, front_read, token_at, is_deep, read_on, read, reading}
+use Rattle.ax_tokens.proofs.Lexed.{gap_rest, comment_rest, Front, nothing, stop, token, str_read, front_read, token_at, is_deep, read_on, read, reading}
 use Rattle.ax_tokens.proofs.Steps.{LexedTo, lexed_none, lexed_push, lexed_bad, lexed_deep, lexed_all, token_some}
 
 -- ---- gaps

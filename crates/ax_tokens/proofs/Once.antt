@@ -7,7 +7,7 @@ use Rattle.ax_tokens.specs.declared.token.TokenKind.{TokenKind}
 use Rattle.ax_tokens.specs.declared.token.TokenKind.TheVariants.{Word, Str, Open, Close}
 use Rattle.ax_tokens.specs.declared.token.LexError.{LexError}
 use Rattle.ax_tokens.specs.declared.token.LexError.TheVariants.{BadByte, TooDeep, OutOfMemory}
-use Rattle.ax_tokens.proofs.Reader.{reading}
+use Rattle.ax_tokens.proofs.Lexed.{reading}
 use Rattle.ax_tokens.proofs.Back.{token_back}
 use Rattle.ax_tokens.proofs.Answering.{tokens_answer, bad_byte_answer, too_deep_answer}
 use Rattle.ax_tokens.proofs.Levels.{within_some}

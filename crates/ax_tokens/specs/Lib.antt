@@ -1,8 +1,10 @@
+pub mod Depth
+pub mod Faults
+pub mod FirstBad
+pub mod Fronts
+pub mod Gap
+pub mod Lexing
 pub mod Octets
 pub mod PlainToken
-pub mod Gap
-pub mod Depth
-pub mod Lexing
-pub mod Faults
-pub mod Fronts
 pub mod Printing
+pub mod Stopping

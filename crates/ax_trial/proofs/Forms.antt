@@ -3,20 +3,20 @@ use Rattle.std.proofs.Common.{◌≡◌, ℕ, ◌+◌, ◌-◌, ◌<◌, ◌≤�
 use Rattle.std.proofs.lemmas.Bool.Decides.{nat_tests}
 use Rattle.ax_bits.proofs.Words.{length-bits}
 use Rattle.ax_bits.specs.Bits.{bits}
-use Rattle.ax_model.proofs.BodyReader.{record_some}
-use Rattle.ax_model.proofs.Once.{body_never_both}
-use Rattle.ax_model.specs.Blocks.{read_block}
-use Rattle.ax_model.specs.Bodies.{RecordsSpell, SpellsBody}
-use Rattle.ax_model.specs.CanonicalOctets.{canon_block, canon_over}
-use Rattle.ax_model.specs.Specification.{SpecTree, spec_of}
-use Rattle.ax_model.specs.Tree.{EntriesTree}
-use Rattle.ax_model.specs.declared.fault.BodyFault.{BodyFault}
-use Rattle.ax_tables.specs.Standing.{IsCompiled}
-use Rattle.ax_tables.specs.declared.codec.Codec.{Codec}
+use Rattle.ax_format.proofs.BodyReader.{record_some}
+use Rattle.ax_format.proofs.Once.{body_never_both}
+use Rattle.ax_format.specs.Blocks.{read_block}
+use Rattle.ax_format.specs.Bodies.{RecordsSpell, SpellsBody}
+use Rattle.ax_format.specs.CanonicalOctets.{canon_block, canon_over}
+use Rattle.ax_format.specs.Specification.{SpecTree, spec_of}
+use Rattle.ax_format.specs.Tree.{EntriesTree}
+use Rattle.ax_format.specs.declared.fault.BodyFault.{BodyFault}
+use Rattle.ax_codec.specs.Standing.{IsCompiled}
+use Rattle.ax_codec.specs.declared.codec.Codec.{Codec}
 use Rattle.ax_trial.specs.Counting.{IsCanonOf}
 use Rattle.ax_vectors.specs.Made.{IsSpelledBlock}
 use Rattle.ax_view.specs.Views.{CountsRecords, FailsThere}
-use Rattle.ax_view_work.specs.Laid.{LaysCanonical}
+use Rattle.ax_canon.specs.Laid.{LaysCanonical}
 
 -- ---- the parts of a spelled block
 

@@ -1,7 +1,7 @@
 -- A specification, a seed and a count have one line at most.
 use Rattle.std.proofs.Common.{◌≡◌, ℕ, List, sym, ◌∙◌, ap}
-use Rattle.ax_model.proofs.StreamsApart.{stream_once}
-use Rattle.ax_model.specs.Specification.{SpecTree}
+use Rattle.ax_format.proofs.StreamsApart.{stream_once}
+use Rattle.ax_format.specs.Specification.{SpecTree}
 use Rattle.ax_vectors.specs.Made.{Made}
 use Rattle.ax_trial.specs.Trial.{IsTrial, trial_line}
 

@@ -2,9 +2,9 @@
 use Rattle.std.proofs.Common.{◌≡◌, ℕ, suc, ◌+◌, ◌-◌, ◌<◌, ◌≤◌, List, [], ◌∷◌, ◌++◌, length, sum, sum_by, refl, sym, ◌∙◌, ap, subst, arith, append-nil, append_assoc, length-append}
 use Rattle.std.proofs.lemmas.List.Concat.{flat_map-append}
 use Rattle.std.proofs.lemmas.List.Sums.{sum_by-append}
-use Rattle.ax_model.specs.Blocks.{BlockTree, SpellsBlock, SpellsStream}
-use Rattle.ax_model.specs.CanonicalOctets.{CanonBytes, canon_over, category_of}
-use Rattle.ax_model.specs.Specification.{SpecTree, spec_of}
+use Rattle.ax_format.specs.Blocks.{BlockTree, SpellsBlock, SpellsStream}
+use Rattle.ax_format.specs.CanonicalOctets.{CanonBytes, canon_over, category_of}
+use Rattle.ax_format.specs.Specification.{SpecTree, spec_of}
 use Rattle.ax_trial.specs.Counting.{IsCanonOf, AddsNumbers, AreNumbersOf, AreTotals}
 use Rattle.ax_trial.specs.Trial.{record_count, numbers_line, IsTrial}
 use Rattle.ax_trial.specs.declared.totals.Totals.{Totals}

@@ -1,9 +1,9 @@
 -- Blocks counted one by one.
 use Rattle.std.specs.Prelude.{◌≡◌, ℕ, ◌+◌, ◌*◌, ◌≤◌, List, [], ◌∷◌, length, sum, sum_by}
-use Rattle.ax_model.specs.Blocks.{BlockTree, SpellsBlock, SpellsStream}
-use Rattle.ax_model.specs.CanonicalOctets.{CanonBytes}
-use Rattle.ax_model.specs.Sizes.{longest_block}
-use Rattle.ax_model.specs.Specification.{SpecTree}
+use Rattle.ax_format.specs.Blocks.{BlockTree, SpellsBlock, SpellsStream}
+use Rattle.ax_format.specs.CanonicalOctets.{CanonBytes}
+use Rattle.ax_format.specs.Sizes.{longest_block}
+use Rattle.ax_format.specs.Specification.{SpecTree}
 use Rattle.ax_trial.specs.Trial.{record_count}
 use Rattle.ax_trial.specs.declared.totals.Totals.{Totals}
 use Rattle.ax_vectors.specs.Made.{Made}

@@ -1,8 +1,8 @@
 -- The line of numbers of generated blocks (this project's own rule).
 use Rattle.std.specs.Prelude.{◌≡◌, ℕ, ◌<◌, List, [], ◌∷◌, ◌++◌, length, sum, sum_by, codes, decimal}
-use Rattle.ax_model.specs.Blocks.{BlockTree, read_block, opaque_block, SpellsStream}
-use Rattle.ax_model.specs.CanonicalOctets.{CanonBytes}
-use Rattle.ax_model.specs.Specification.{SpecTree}
+use Rattle.ax_format.specs.Blocks.{BlockTree, read_block, opaque_block, SpellsStream}
+use Rattle.ax_format.specs.CanonicalOctets.{CanonBytes}
+use Rattle.ax_format.specs.Specification.{SpecTree}
 use Rattle.ax_vectors.specs.Made.{Made}
 
 -- `blocks B records R octets O canonical C sum T`

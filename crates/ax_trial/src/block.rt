@@ -1,16 +1,16 @@
 //! One generated block, and its canonical form.
 ghost use Rattle.std.specs.Prelude.{◌≡◌, ◌≤◌, ◌<◌, length, sum, take, drop};
-ghost use Rattle.ax_model.specs.Plain.{spec_tree};
-ghost use Rattle.ax_model.specs.Sizes.{longest_block};
-ghost use Rattle.ax_tables.specs.Standing.{IsCompiled};
+ghost use Rattle.ax_format.specs.Plain.{spec_tree};
+ghost use Rattle.ax_format.specs.Sizes.{longest_block};
+ghost use Rattle.ax_codec.specs.Standing.{IsCompiled};
 ghost use Rattle.ax_trial.specs.Counting.{AddsForm, IsCanonOf, IsWithin};
 ghost use Rattle.ax_vectors.specs.Made.{IsSpelledBlock};
 
 use crate::totals::Totals;
-use ax_model::Spec;
-use ax_tables::Codec;
+use ax_canon::lay_block;
+use ax_codec::Codec;
+use ax_format::Spec;
 use ax_view::scan;
-use ax_view_work::lay_block;
 
 /// The sum of octets as numbers.
 pub(crate) fn sum_of(octets: &[u8]) -> u64

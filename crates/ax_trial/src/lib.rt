@@ -2,9 +2,7 @@
 #![tactic(auto)]
 
 mod block;
-mod laws;
 mod totals;
 mod trial;
 
-pub use laws::line_once;
 pub use trial::trial_text;

@@ -1,6 +1,6 @@
 //! The numbers of the line.
 ghost use Rattle.std.specs.Prelude.{◌≡◌, ◌+◌, ◌*◌, ◌<◌, ◌≤◌, ◌++◌, length, decimal, IfOk, OnOk};
-ghost use Rattle.ax_model.specs.Sizes.{longest_block};
+ghost use Rattle.ax_format.specs.Sizes.{longest_block};
 ghost use Rattle.ax_trial.specs.Trial.{numbers_line};
 ghost use Rattle.ax_trial.specs.Counting.{IsWithin, AddsNumbers};
 

@@ -1,17 +1,18 @@
 //! The line of `trial`.
 ghost use Rattle.std.specs.Prelude.{◌≡◌, ◌≤◌, length, IfOk};
-ghost use Rattle.ax_model.specs.Plain.{spec_tree};
-ghost use Rattle.ax_model.specs.Sizes.{longest_block};
-ghost use Rattle.ax_tables.specs.Standing.{IsCompiled};
+ghost use Rattle.ax_format.specs.Plain.{spec_tree};
+ghost use Rattle.ax_format.specs.Sizes.{longest_block};
+ghost use Rattle.ax_codec.specs.Standing.{IsCompiled};
 ghost use Rattle.ax_trial.specs.Counting.{AreTotals};
 ghost use Rattle.ax_trial.specs.Trial.{IsTrial};
 
 use crate::block::count_block;
 use crate::totals::Totals;
+use ax_canon::blank_output;
 use ax_check::Accepted;
-use ax_tables::{Codec, compile};
+use ax_codec::Codec;
+use ax_tables::compile;
 use ax_vectors::{Draws, make_block};
-use ax_view_work::blank_output;
 use std::alloc::{AllocError, Global};
 
 /// The numbers of so many blocks made from a seed, one after another, each of which is laid in its canonical form at the front of

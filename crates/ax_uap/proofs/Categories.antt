@@ -4,10 +4,10 @@ use Rattle.std.specs.Prelude.{Option, find, IfSome, IsSome}
 use Rattle.std.specs.List.{AllByRecursion}
 use Rattle.std.specs.Option.{option_map, option_copied}
 use Rattle.std.proofs.lemmas.List.{take_more, take_all}
-use Rattle.ax_model.specs.OfCode.{HasNoFlaw}
-use Rattle.ax_model.specs.Plain.{spec_tree, catalogue_tree}
-use Rattle.ax_model.specs.Specification.{SpecTree, spec_of}
-use Rattle.ax_model.specs.declared.spec.Spec.{Spec}
+use Rattle.ax_format.specs.OfCode.{HasNoFlaw}
+use Rattle.ax_format.specs.Plain.{spec_tree, catalogue_tree}
+use Rattle.ax_format.specs.Specification.{SpecTree, spec_of}
+use Rattle.ax_format.specs.declared.spec.Spec.{Spec}
 
 abbrev AllClean : List Spec → Type 0
 AllClean = AllByRecursion HasNoFlaw

@@ -3,10 +3,10 @@ use Rattle.std.proofs.Common.{◌≡◌, ◌∙◌, ℕ, ◌-◌, ◌<◌, zero,
 use Rattle.std.specs.List.{slice_get}
 use Rattle.std.specs.Str.{bytes_eq}
 use Rattle.std.proofs.lemmas.List.Folds.{find_at}
-use Rattle.ax_model.specs.Lookup.{item_of_slot, item_of_frn}
-use Rattle.ax_model.specs.declared.spec.Item.{Item}
-use Rattle.ax_model.specs.declared.spec.UapSlot.{UapSlot}
-use Rattle.ax_model.specs.declared.spec.UapSlot.TheVariants as Uap
+use Rattle.ax_format.specs.Lookup.{item_of_slot, item_of_frn}
+use Rattle.ax_format.specs.declared.spec.Item.{Item}
+use Rattle.ax_format.specs.declared.spec.UapSlot.{UapSlot}
+use Rattle.ax_format.specs.declared.spec.UapSlot.TheVariants as Uap
 use Rattle.ax_uap.specs.Places.{place_of_slot, uap_places}
 
 past : {A : Type 0} (xs : List A) → slice_get xs (length xs) ≡ None

@@ -1,6 +1,6 @@
 -- Where the specifications of categories stand in a list.
 use Rattle.std.specs.Prelude.{◌≡◌, ℕ, ◌+◌, ◌<◌, ◌==◌, if◌then◌else◌, List, [], ◌∷◌, length, get_or}
-use Rattle.ax_model.specs.declared.spec.Spec.{Spec}
+use Rattle.ax_format.specs.declared.spec.Spec.{Spec}
 
 -- the place of the first specification of a category, where the list's first has the place n; 0 where there is none
 abbrev pub place_from : ℕ → ℕ → List Spec → ℕ

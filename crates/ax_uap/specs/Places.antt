@@ -2,9 +2,9 @@
 use Rattle.std.specs.Prelude.{ℕ, List, length, map}
 use Rattle.std.specs.List.{position_or_len}
 use Rattle.std.specs.Str.{bytes_eq}
-use Rattle.ax_model.specs.declared.spec.Item.{Item}
-use Rattle.ax_model.specs.declared.spec.UapSlot.{UapSlot}
-use Rattle.ax_model.specs.declared.spec.UapSlot.TheVariants as Uap
+use Rattle.ax_format.specs.declared.spec.Item.{Item}
+use Rattle.ax_format.specs.declared.spec.UapSlot.{UapSlot}
+use Rattle.ax_format.specs.declared.spec.UapSlot.TheVariants as Uap
 
 -- the place of a slot's item, the first of its name, from 0; the number of items where there is none
 abbrev pub place_of_slot : List Item → UapSlot → ℕ

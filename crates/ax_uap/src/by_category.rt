@@ -1,13 +1,13 @@
 //! What is held of each specification of a catalogue, by category.
 ghost use Rattle.std.specs.Prelude.{◌≡◌, ◌∷◌, ◌++◌, [], option_map, replicate, slice_get, IfSome, OnOk};
 ghost use Rattle.std.specs.Option.{option_copied};
-ghost use Rattle.ax_model.specs.OfCode.{HasNoFlaw};
-ghost use Rattle.ax_model.specs.Plain.{spec_tree, catalogue_tree};
-ghost use Rattle.ax_model.specs.Specification.{spec_of};
-ghost use Rattle.ax_model.specs.declared.spec.Spec.{Spec};
+ghost use Rattle.ax_format.specs.OfCode.{HasNoFlaw};
+ghost use Rattle.ax_format.specs.Plain.{spec_tree, catalogue_tree};
+ghost use Rattle.ax_format.specs.Specification.{spec_of};
+ghost use Rattle.ax_format.specs.declared.spec.Spec.{Spec};
 
 use crate::items::UapItems;
-use ax_model::Spec;
+use ax_format::Spec;
 use std::alloc::{AllocError, Global};
 use std::marker::Model;
 
@@ -45,9 +45,9 @@ impl<T: OfSpec> Model for ByCategory<T> {
     ghost use Rattle.std.specs.Prelude.{List, map};
     ghost use Rattle.std.specs.List.{AllByRecursion};
     ghost use Rattle.std.specs.Coded.{coded_list};
-    ghost use Rattle.ax_model.specs.OfCode.{HasNoFlaw};
-    ghost use Rattle.ax_model.specs.contracts.spec.Spec as row;
-    ghost use Rattle.ax_model.specs.declared.spec.Spec.{Spec};
+    ghost use Rattle.ax_format.specs.OfCode.{HasNoFlaw};
+    ghost use Rattle.ax_format.specs.contracts.spec.Spec as row;
+    ghost use Rattle.ax_format.specs.declared.spec.Spec.{Spec};
     ghost use Rattle.ax_uap.specs.Categories.{ArePlaces};
 
     ghost Value = { List Spec };

@@ -1,11 +1,11 @@
 //! The items of a UAP by field reference number.
 ghost use Rattle.std.specs.Prelude.{◌≡◌, IfOk};
 ghost use Rattle.std.specs.Option.{option_copied};
-ghost use Rattle.ax_model.specs.Lookup.{item_of_frn};
-ghost use Rattle.ax_model.specs.declared.spec.UapSlot.TheVariants as Uap;
+ghost use Rattle.ax_format.specs.Lookup.{item_of_frn};
+ghost use Rattle.ax_format.specs.declared.spec.UapSlot.TheVariants as Uap;
 ghost use Rattle.ax_uap.specs.Places.{place_of_slot, uap_places};
 
-use ax_model::{Item, Name, Spec, UapSlot};
+use ax_format::{Item, Name, Spec, UapSlot};
 use std::alloc::{AllocError, Global};
 
 /// The items of a specification's UAP. Where each slot's item stands among the items is found once, when this is made, so

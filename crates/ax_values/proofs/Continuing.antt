@@ -1,13 +1,13 @@
 -- Errors of a call, passed on.
 use Rattle.std.proofs.Common.{◌≡◌, ℕ, sym, ◌∙◌, subst, Result, Ok, Err, IfErr}
 use Rattle.std.specs.Result.{IsErrAnd}
-use Rattle.ax_model.specs.Reader.{Read}
-use Rattle.ax_model.specs.declared.fault.BodyFault.{BodyFault}
-use Rattle.ax_reader.specs.Reading.{FailsAt, Continues}
+use Rattle.ax_format.specs.Reader.{Read}
+use Rattle.ax_format.specs.declared.fault.BodyFault.{BodyFault}
+use Rattle.ax_fspec.specs.Reading.{FailsAt, Continues}
 use Rattle.ax_values.specs.SlotReading.{HasFailed}
 use Rattle.ax_values.specs.declared.error.DecodeError.{DecodeError}
 use Rattle.ax_values.specs.declared.error.DecodeError.TheVariants as Decoding
-use Rattle.ax_reader.proofs.Continuing.{fails_after}
+use Rattle.ax_fspec.proofs.Continuing.{fails_after}
 
 fault_same : {one other : BodyFault} → Decoding.Fault one ≡ Decoding.Fault other → one ≡ other
 fault_same e = cc

@@ -2,20 +2,20 @@
 use Rattle.std.proofs.Common.{◌≡◌, ℕ, suc, ◌+◌, ◌-◌, ◌*◌, ◌<◌, ◌≤◌, List, [], ◌∷◌, ◌++◌, length, drop, map, refl, sym, ◌∙◌, ap, arith, subst, length-append}
 use Rattle.ax_bits.proofs.Pieces.{number-word}
 use Rattle.ax_bits.specs.Bits.{bits, word, number_of}
-use Rattle.ax_model.specs.Reader.{got, after, read, each_read, count_read}
-use Rattle.ax_model.specs.Plain.{value_tree, values_tree}
-use Rattle.ax_model.specs.Tree.{KindTree, counted, occurrences, value_and, no_values}
-use Rattle.ax_model.specs.declared.value.Value.{Value}
-use Rattle.ax_reader.proofs.Continuing.{goes_on, gets_after, front_is}
+use Rattle.ax_format.specs.Reader.{got, after, read, each_read, count_read}
+use Rattle.ax_format.specs.Plain.{value_tree, values_tree}
+use Rattle.ax_format.specs.Tree.{KindTree, counted, occurrences, value_and, no_values}
+use Rattle.ax_format.specs.declared.value.Value.{Value}
+use Rattle.ax_fspec.proofs.Continuing.{goes_on, gets_after, front_is}
 use Rattle.ax_values.proofs.Continuing.{failed_after}
 use Rattle.ax_values.proofs.Onto.{values_onto, values_onto_none, values_onto_more}
-use Rattle.ax_reader.specs.Reading.{Gets, FailsAt, Continues, kind_read, IsCount}
+use Rattle.ax_fspec.specs.Reading.{Gets, FailsAt, Continues, kind_read, IsCount}
 use Rattle.ax_values.specs.SlotReading.{HasFailed}
 use Rattle.ax_values.specs.declared.error.DecodeError.{DecodeError}
-use Rattle.ax_reader.proofs.Counting.{front_count, each_first, each_fails_at}
-use Rattle.ax_model.specs.declared.kind.Counter.{Counter}
-use Rattle.ax_model.specs.Widths.{counter_octets, counter_width}
-use Rattle.ax_model.proofs.WholeOctets.{counter_in_octets}
+use Rattle.ax_fspec.proofs.Counting.{front_count, each_first, each_fails_at}
+use Rattle.ax_format.specs.declared.kind.Counter.{Counter}
+use Rattle.ax_format.specs.Widths.{counter_octets, counter_width}
+use Rattle.ax_format.proofs.WholeOctets.{counter_in_octets}
 
 -- i of n occurrences are read, up to octet here
 pub record CountedSoFar (size : Counter) (k : KindTree) (body : List ℕ) (n i at here : ℕ) (made : List Value) : Type 0 where

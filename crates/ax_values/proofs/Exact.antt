@@ -1,14 +1,14 @@
 -- What a call found is what the definitions say, and only that.
 use Rattle.std.proofs.Common.{◌≡◌, ℕ, inl, inr, List, Result, Ok, Err, IfOk, IfErr, refl, ap}
-use Rattle.ax_model.specs.InBounds.{InBounds}
-use Rattle.ax_model.specs.Tree.{KindTree, ValueTree}
-use Rattle.ax_model.specs.declared.fault.BodyFault.{BodyFault}
-use Rattle.ax_reader.specs.Reading.{IsSpelledAt, IsFaultAt, Gets, kind_read}
+use Rattle.ax_format.specs.InBounds.{InBounds}
+use Rattle.ax_format.specs.Tree.{KindTree, ValueTree}
+use Rattle.ax_format.specs.declared.fault.BodyFault.{BodyFault}
+use Rattle.ax_fspec.specs.Reading.{IsSpelledAt, IsFaultAt, Gets, kind_read}
 use Rattle.ax_values.specs.Decoding.{IsOrMemory, AnswersFault, IsFaultOf}
 use Rattle.ax_values.specs.SlotReading.{HasFailed}
 use Rattle.ax_values.specs.declared.error.DecodeError.{DecodeError}
 use Rattle.ax_values.specs.declared.error.DecodeError.TheVariants as Decoding
-use Rattle.ax_reader.proofs.Exact.{spelled_at, fault_at, gets_spelled, fails_faulty, gets_once, never_both, fails_at_once}
+use Rattle.ax_fspec.proofs.Exact.{spelled_at, fault_at, gets_spelled, fails_faulty, gets_once, never_both, fails_at_once}
 
 module _ {A : Type 0} (tree : A → ValueTree) (k : KindTree) (body : List ℕ) (at : ℕ) (bounds : InBounds k) where
   pub is_spelled : (r : Result (A × ℕ) DecodeError) → IfOk r (λ r. Gets (kind_read k body at) body at r.1 (tree r.0)) → IfOk r (λ r. IsSpelledAt k body at r.1 (tree r.0))

@@ -3,13 +3,13 @@ use Rattle.std.proofs.Common.{◌≡◌, ℕ, ◌+◌, ◌^◌, ◌<◌, ◌≤�
 use Rattle.std.proofs.lemmas.List.{drop-drop, drop_all}
 use Rattle.ax_bits.proofs.Pieces.{number-word}
 use Rattle.ax_bits.specs.Bits.{number_of, word}
-use Rattle.ax_model.specs.Reader.{members_value}
-use Rattle.ax_model.specs.InBounds.{MembersInBounds}
-use Rattle.ax_model.specs.Plain.{member_tree, members_tree, value_tree, values_tree}
-use Rattle.ax_model.specs.Tree.{MembersTree, no_members, member_and, MemberTree, named, spare, ValueTree, ValuesTree, number, no_values, value_and}
-use Rattle.ax_model.specs.Widths.{width, members_width}
-use Rattle.ax_model.specs.declared.kind.Member.{Member}
-use Rattle.ax_model.specs.declared.value.Value.{Value}
+use Rattle.ax_format.specs.Reader.{members_value}
+use Rattle.ax_format.specs.InBounds.{MembersInBounds}
+use Rattle.ax_format.specs.Plain.{member_tree, members_tree, value_tree, values_tree}
+use Rattle.ax_format.specs.Tree.{MembersTree, no_members, member_and, MemberTree, named, spare, ValueTree, ValuesTree, number, no_values, value_and}
+use Rattle.ax_format.specs.Widths.{width, members_width}
+use Rattle.ax_format.specs.declared.kind.Member.{Member}
+use Rattle.ax_format.specs.declared.value.Value.{Value}
 use Rattle.ax_values.proofs.Onto.{values_onto, values_onto_none, values_onto_more}
 
 pub number_read : (b : List ℕ) (at w n : ℕ) → n < 2 ^ w → word w n ≡ take w (drop at b) → number n ≡ number (number_of (take w (drop at b)))

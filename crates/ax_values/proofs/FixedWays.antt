@@ -2,20 +2,20 @@
 use Rattle.std.proofs.Common.{◌≡◌, ℕ, ◌+◌, ◌≤◌, List, take, sym, ◌∙◌, ap, subst, IfOk, Result}
 use Rattle.std.proofs.lemmas.Result.{IfOk-weaker}
 use Rattle.ax_bits.specs.Bits.{number_of}
-use Rattle.ax_model.proofs.VariantTrees.{element_tree, group_tree, number_value, group_value}
-use Rattle.ax_model.specs.InBounds.{IsWidth, FixedInBounds}
-use Rattle.ax_model.specs.Plain.{fixed_tree, member_tree, members_tree, fixed_step, member_step, value_tree, values_tree}
-use Rattle.ax_model.specs.Reader.{fixed_value, members_value}
-use Rattle.ax_model.specs.Tree.{FixedTree, element, group, MemberTree, named, spare, no_members, member_and, number, member_values, no_values, value_and}
-use Rattle.ax_model.specs.Widths.{width, members_width}
-use Rattle.ax_model.specs.declared.content.Content.{Content}
-use Rattle.ax_model.specs.declared.kind.Fixed.{Fixed}
-use Rattle.ax_model.specs.declared.kind.Fixed.TheOpen.{Member-F}
-use Rattle.ax_model.specs.declared.kind.Fixed.TheVariants.{Element, Group}
-use Rattle.ax_model.specs.declared.kind.Member.{Member, fold-roll-Member}
-use Rattle.ax_model.specs.declared.kind.Member.TheVariants.{Named, Spare, rolls-Named, rolls-Spare}
-use Rattle.ax_model.specs.declared.value.Value.{Value}
-use Rattle.ax_model.specs.declared.value.Value.TheVariants as ValueOf
+use Rattle.ax_format.proofs.VariantTrees.{element_tree, group_tree, number_value, group_value}
+use Rattle.ax_format.specs.InBounds.{IsWidth, FixedInBounds}
+use Rattle.ax_format.specs.Plain.{fixed_tree, member_tree, members_tree, fixed_step, member_step, value_tree, values_tree}
+use Rattle.ax_format.specs.Reader.{fixed_value, members_value}
+use Rattle.ax_format.specs.Tree.{FixedTree, element, group, MemberTree, named, spare, no_members, member_and, number, member_values, no_values, value_and}
+use Rattle.ax_format.specs.Widths.{width, members_width}
+use Rattle.ax_format.specs.declared.content.Content.{Content}
+use Rattle.ax_format.specs.declared.kind.Fixed.{Fixed}
+use Rattle.ax_format.specs.declared.kind.Fixed.TheOpen.{Member-F}
+use Rattle.ax_format.specs.declared.kind.Fixed.TheVariants.{Element, Group}
+use Rattle.ax_format.specs.declared.kind.Member.{Member, fold-roll-Member}
+use Rattle.ax_format.specs.declared.kind.Member.TheVariants.{Named, Spare, rolls-Named, rolls-Spare}
+use Rattle.ax_format.specs.declared.value.Value.{Value}
+use Rattle.ax_format.specs.declared.value.Value.TheVariants as ValueOf
 
 -- ---- the trees of the code's variants
 

@@ -1,14 +1,14 @@
 -- Faults that the calls name can be trusted.
 use Rattle.std.proofs.Common.{◌≡◌, ℕ, List, drop, Result, Ok, Err, IfErr, subst, sym}
 use Rattle.std.specs.Result.{IsErrAnd}
-use Rattle.ax_model.specs.Flaws.{NoFlaw}
-use Rattle.ax_model.specs.InBounds.{InBounds}
-use Rattle.ax_model.specs.Specification.{SpecTree}
-use Rattle.ax_model.specs.Tree.{KindTree}
-use Rattle.ax_model.specs.declared.fault.BodyFault.{BodyFault}
-use Rattle.ax_reader.proofs.Honest.{kind_honest_at, record_honest, body_honest}
-use Rattle.ax_reader.specs.Honest.{SpellRecords, BeginWithValue, BeginWithRecord, IsHonest, IsHonestAt}
-use Rattle.ax_reader.specs.Reading.{IsFaultAt}
+use Rattle.ax_format.specs.Flaws.{NoFlaw}
+use Rattle.ax_format.specs.InBounds.{InBounds}
+use Rattle.ax_format.specs.Specification.{SpecTree}
+use Rattle.ax_format.specs.Tree.{KindTree}
+use Rattle.ax_format.specs.declared.fault.BodyFault.{BodyFault}
+use Rattle.ax_fspec.proofs.Honest.{kind_honest_at, record_honest, body_honest}
+use Rattle.ax_fspec.specs.Honest.{SpellRecords, BeginWithValue, BeginWithRecord, IsHonest, IsHonestAt}
+use Rattle.ax_fspec.specs.Reading.{IsFaultAt}
 use Rattle.ax_values.specs.Decoding.{IsRecordFaultAt, IsBodyFault, IsFaultOf}
 use Rattle.ax_values.specs.declared.error.DecodeError.{DecodeError}
 use Rattle.ax_values.specs.declared.error.DecodeError.TheVariants as Decoding

@@ -2,27 +2,27 @@
 use Rattle.std.proofs.Common.{◌≡◌, ℕ, List, [], ◌∷◌, ◌++◌, map, ap, sym, ◌∙◌, subst, Box, Global, Some}
 use Rattle.std.specs.Option.{option_map}
 use Rattle.std.proofs.lemmas.List.{map-append}
-use Rattle.ax_model.proofs.VariantTrees.{extended_tree, counted_tree, by_fx_tree, explicit_tree, compound_tree, lists_value, repeat_value, octets_value, marked_value}
-use Rattle.ax_model.specs.InBounds.{InBounds}
-use Rattle.ax_model.specs.Lookup.{item_of_frn}
-use Rattle.ax_model.specs.Plain.{fixed_tree, part_tree, kind_tree, slot_tree, kind_step, slot_step, item_tree, slots_tree, value_tree, values_tree, lists_tree, entries_tree, entry_tree, value_step, entry_step}
-use Rattle.ax_model.specs.Specification.{slot_of_item}
-use Rattle.ax_model.specs.Tree.{KindTree, extended, counted, by_fx, explicit, compound, ValueTree, part_values, occurrences, content_octets, marked, SlotTree, subitem}
-use Rattle.ax_model.specs.declared.kind.Counter.{Counter}
-use Rattle.ax_model.specs.declared.kind.Fixed.{Fixed}
-use Rattle.ax_model.specs.declared.kind.Kind.{Kind}
-use Rattle.ax_model.specs.declared.kind.Kind.TheOpen.{Slot-F}
-use Rattle.ax_model.specs.declared.kind.Kind.TheVariants as KindOf
-use Rattle.ax_model.specs.declared.kind.LastPart.{LastPart}
-use Rattle.ax_model.specs.declared.kind.Part.{Part}
-use Rattle.ax_model.specs.declared.kind.Slot.{Slot, fold-roll-Slot}
-use Rattle.ax_model.specs.declared.kind.Slot.TheVariants.{Sub, rolls-Sub}
-use Rattle.ax_model.specs.declared.spec.Item.{Item}
-use Rattle.ax_model.specs.declared.spec.Spec.{Spec}
-use Rattle.ax_model.specs.declared.value.Entry.{Entry, roll-Entry, fold-roll-Entry}
-use Rattle.ax_model.specs.declared.value.Value.{Value}
-use Rattle.ax_model.specs.declared.value.Value.TheVariants as ValueOf
-use Rattle.ax_reader.specs.Reading.{Gets, kind_read, SlotInBounds, slot_of_frn}
+use Rattle.ax_format.proofs.VariantTrees.{extended_tree, counted_tree, by_fx_tree, explicit_tree, compound_tree, lists_value, repeat_value, octets_value, marked_value}
+use Rattle.ax_format.specs.InBounds.{InBounds}
+use Rattle.ax_format.specs.Lookup.{item_of_frn}
+use Rattle.ax_format.specs.Plain.{fixed_tree, part_tree, kind_tree, slot_tree, kind_step, slot_step, item_tree, slots_tree, value_tree, values_tree, lists_tree, entries_tree, entry_tree, value_step, entry_step}
+use Rattle.ax_format.specs.Specification.{slot_of_item}
+use Rattle.ax_format.specs.Tree.{KindTree, extended, counted, by_fx, explicit, compound, ValueTree, part_values, occurrences, content_octets, marked, SlotTree, subitem}
+use Rattle.ax_format.specs.declared.kind.Counter.{Counter}
+use Rattle.ax_format.specs.declared.kind.Fixed.{Fixed}
+use Rattle.ax_format.specs.declared.kind.Kind.{Kind}
+use Rattle.ax_format.specs.declared.kind.Kind.TheOpen.{Slot-F}
+use Rattle.ax_format.specs.declared.kind.Kind.TheVariants as KindOf
+use Rattle.ax_format.specs.declared.kind.LastPart.{LastPart}
+use Rattle.ax_format.specs.declared.kind.Part.{Part}
+use Rattle.ax_format.specs.declared.kind.Slot.{Slot, fold-roll-Slot}
+use Rattle.ax_format.specs.declared.kind.Slot.TheVariants.{Sub, rolls-Sub}
+use Rattle.ax_format.specs.declared.spec.Item.{Item}
+use Rattle.ax_format.specs.declared.spec.Spec.{Spec}
+use Rattle.ax_format.specs.declared.value.Entry.{Entry, roll-Entry, fold-roll-Entry}
+use Rattle.ax_format.specs.declared.value.Value.{Value}
+use Rattle.ax_format.specs.declared.value.Value.TheVariants as ValueOf
+use Rattle.ax_fspec.specs.Reading.{Gets, kind_read, SlotInBounds, slot_of_frn}
 use Rattle.ax_values.specs.SlotReading.{HasFailed, Adds, SlotAdds, SlotFails, IsSlotRead, HasSlotFailed}
 use Rattle.ax_values.specs.declared.error.DecodeError.{DecodeError}
 use Rattle.ax_values.specs.declared.error.DecodeError.TheVariants as Decoding

@@ -5,19 +5,19 @@ use Rattle.ax_bits.specs.Bits.{bits, AreBits}
 use Rattle.ax_fspec.specs.Fields.{MarksSlots}
 use Rattle.ax_fspec.specs.Marks.{IsMarked}
 use Rattle.ax_fspec.specs.declared.mask.SlotMask.{SlotMask}
-use Rattle.ax_model.specs.Reader.{got, after, both, read, entries_read, mark_read}
-use Rattle.ax_model.specs.Plain.{entry_tree, entries_tree, slot_tree}
-use Rattle.ax_model.specs.declared.kind.Slot.{Slot}
-use Rattle.ax_model.specs.Presence.{first_mark, later_marks}
-use Rattle.ax_model.specs.Tree.{EntriesTree, SlotTree, SlotsTree, compound, marked, spare_slot, subitem, slots_of, slot_and, no_entries, entry_and}
-use Rattle.ax_model.specs.declared.value.Entry.{Entry}
-use Rattle.ax_reader.proofs.Continuing.{begins, goes_on, gets_after, front_is}
+use Rattle.ax_format.specs.Reader.{got, after, both, read, entries_read, mark_read}
+use Rattle.ax_format.specs.Plain.{entry_tree, entries_tree, slot_tree}
+use Rattle.ax_format.specs.declared.kind.Slot.{Slot}
+use Rattle.ax_format.specs.Presence.{first_mark, later_marks}
+use Rattle.ax_format.specs.Tree.{EntriesTree, SlotTree, SlotsTree, compound, marked, spare_slot, subitem, slots_of, slot_and, no_entries, entry_and}
+use Rattle.ax_format.specs.declared.value.Entry.{Entry}
+use Rattle.ax_fspec.proofs.Continuing.{begins, goes_on, gets_after, front_is}
 use Rattle.ax_values.proofs.Continuing.{failed_after}
 use Rattle.ax_values.proofs.Onto.{entries_onto, entries_onto_none, entries_onto_more}
-use Rattle.ax_reader.specs.Reading.{Gets, FailsAt, Continues, IsMaskOf, kind_read, entries_at}
+use Rattle.ax_fspec.specs.Reading.{Gets, FailsAt, Continues, IsMaskOf, kind_read, entries_at}
 use Rattle.ax_values.specs.SlotReading.{HasFailed, Adds, IsSlotRead, HasSlotFailed}
 use Rattle.ax_values.specs.declared.error.DecodeError.{DecodeError}
-use Rattle.ax_reader.proofs.Marking.{mark_at, later_at, later_bits, first_below, field_read, marks_bits, marks_end, slot_in_bounds}
+use Rattle.ax_fspec.proofs.Marking.{mark_at, later_at, later_bits, first_below, field_read, marks_bits, marks_end, slot_in_bounds}
 
 -- the entries of the slots before place i are read, up to octet here
 pub record EntriesSoFar (slots : List SlotTree) (marks body : List ℕ) (i at here : ℕ) (made : List Entry) : Type 0 where

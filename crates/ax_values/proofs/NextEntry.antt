@@ -7,15 +7,15 @@ use Rattle.ax_bits.specs.declared.output.Out.{Out}
 use Rattle.ax_fspec.proofs.FieldLaws.{least_field_of, none_further}
 use Rattle.ax_fspec.specs.Fields.{least_field}
 use Rattle.ax_fspec.specs.Marks.{no_marks}
-use Rattle.ax_model.proofs.RecordFitting.{entries_split}
-use Rattle.ax_model.specs.Canonical.{canon, marks_of, entries_canon}
-use Rattle.ax_model.specs.InBounds.{InBounds, SlotsInBounds}
-use Rattle.ax_model.specs.Lengths.{kind_after, slot_kind}
-use Rattle.ax_model.specs.Plain.{entries_tree, value_tree}
-use Rattle.ax_model.specs.Presence.{octets_needed, none_marked, least_presence}
-use Rattle.ax_model.specs.Shape.{Shape, EntriesShape}
-use Rattle.ax_model.specs.Tree.{KindTree, ValueTree, EntriesTree, no_entries, entry_and, SlotsTree, no_slots, slot_and, SlotTree, spare_slot, subitem, slot_count}
-use Rattle.ax_model.specs.declared.value.Entry.{Entry}
+use Rattle.ax_format.proofs.RecordFitting.{entries_split}
+use Rattle.ax_format.specs.Canonical.{canon, marks_of, entries_canon}
+use Rattle.ax_format.specs.InBounds.{InBounds, SlotsInBounds}
+use Rattle.ax_format.specs.Lengths.{kind_after, slot_kind}
+use Rattle.ax_format.specs.Plain.{entries_tree, value_tree}
+use Rattle.ax_format.specs.Presence.{octets_needed, none_marked, least_presence}
+use Rattle.ax_format.specs.Shape.{Shape, EntriesShape}
+use Rattle.ax_format.specs.Tree.{KindTree, ValueTree, EntriesTree, no_entries, entry_and, SlotsTree, no_slots, slot_and, SlotTree, spare_slot, subitem, slot_count}
+use Rattle.ax_format.specs.declared.value.Entry.{Entry}
 use Rattle.ax_values.proofs.Written.{written_none, written_more, written_all, written_room, first_room}
 use Rattle.ax_values.specs.Writing.{IsWrittenTo, EntryShape, entry_canon}
 

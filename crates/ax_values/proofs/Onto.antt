@@ -1,8 +1,8 @@
 -- Lists that were made so far, in front of what is still read.
 use Rattle.std.proofs.Common.{◌≡◌, ℕ, List, [], ◌∷◌, ◌++◌, map, refl, ap}
-use Rattle.ax_model.specs.Plain.{value_tree, value_list, values_tree}
-use Rattle.ax_model.specs.Tree.{ValueTree, ValuesTree, no_values, value_and, values_of, ListsTree, no_lists, list_and, lists_of, EntriesTree, no_entries, entry_and, entries_of}
-use Rattle.ax_model.specs.declared.value.Value.{Value}
+use Rattle.ax_format.specs.Plain.{value_tree, value_list, values_tree}
+use Rattle.ax_format.specs.Tree.{ValueTree, ValuesTree, no_values, value_and, values_of, ListsTree, no_lists, list_and, lists_of, EntriesTree, no_entries, entry_and, entries_of}
+use Rattle.ax_format.specs.declared.value.Value.{Value}
 
 abbrev pub values_onto : List ValueTree → ValuesTree → ValuesTree
 values_onto [] vs = vs

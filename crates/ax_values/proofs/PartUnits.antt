@@ -1,14 +1,14 @@
 -- A part that was found at an octet, with its FX bit where it has one.
 use Rattle.std.proofs.Common.{◌≡◌, ℕ, ◌+◌, ◌-◌, ◌*◌, ◌<◌, ◌≤◌, ◌⊎◌, inl, inr, Bool, true, false, List, [], ◌∷◌, length, take, drop, refl, sym, ◌∙◌, ap, arith, subst}
 use Rattle.ax_bits.specs.Bits.{bits}
-use Rattle.ax_model.specs.Reader.{members_value}
-use Rattle.ax_model.specs.Tree.{MembersTree, ValuesTree, list_and, no_lists}
-use Rattle.ax_model.specs.Widths.{members_width, fx_width}
-use Rattle.ax_model.specs.declared.fault.BodyCause.TheVariants.{ExtensionPastEnd}
-use Rattle.ax_model.specs.declared.fault.BodyFault.{BodyFault}
-use Rattle.ax_model.specs.declared.kind.LastPart.{LastPart}
-use Rattle.ax_reader.proofs.AtOctets.{IsUnit, parts_at, parts_end, parts_end_bare, parts_go_on, parts_past_end, fx_or_none}
-use Rattle.ax_reader.specs.Reading.{Gets, FailsAt, Continues, fx_bit}
+use Rattle.ax_format.specs.Reader.{members_value}
+use Rattle.ax_format.specs.Tree.{MembersTree, ValuesTree, list_and, no_lists}
+use Rattle.ax_format.specs.Widths.{members_width, fx_width}
+use Rattle.ax_format.specs.declared.fault.BodyCause.TheVariants.{ExtensionPastEnd}
+use Rattle.ax_format.specs.declared.fault.BodyFault.{BodyFault}
+use Rattle.ax_format.specs.declared.kind.LastPart.{LastPart}
+use Rattle.ax_fspec.proofs.AtOctets.{IsUnit, parts_at, parts_end, parts_end_bare, parts_go_on, parts_past_end, fx_or_none}
+use Rattle.ax_fspec.specs.Reading.{Gets, FailsAt, Continues, fx_bit}
 
 -- w bits and so many FX bits are the octets from `at` up to `end`; `more` says whether there is an FX bit, and it is set
 pub record IsPartUnit (body : List ℕ) (at end w fx : ℕ) (more : Bool) : Type 0 where

@@ -2,21 +2,21 @@
 use Rattle.std.proofs.Common.{◌≡◌, ℕ, ◌+◌, ◌-◌, ◌*◌, ◌<◌, ◌≤◌, Bool, true, false, List, [], ◌∷◌, ◌++◌, length, drop, drop-cons, map, get_or, refl, sym, ◌∙◌, ap, arith, subst, add-one, length-append, length-drop}
 use Rattle.ax_bits.specs.Bits.{bits}
 use Rattle.std.proofs.lemmas.List.{length-map}
-use Rattle.ax_model.specs.Reader.{Read, got, after, members_value}
-use Rattle.ax_model.specs.InBounds.{PartInBounds}
-use Rattle.ax_model.specs.Plain.{part_tree, value_list, values_tree, lists_tree}
-use Rattle.ax_model.specs.Tree.{MembersTree, ListsTree, list_and, no_lists, extended, part_values}
-use Rattle.ax_model.specs.Widths.{members_width, fx_width}
-use Rattle.ax_model.specs.declared.fault.BodyCause.TheVariants.{RunsOut, ExtensionPastEnd}
-use Rattle.ax_model.specs.declared.fault.BodyFault.{BodyFault}
-use Rattle.ax_model.specs.declared.kind.LastPart.{LastPart}
-use Rattle.ax_model.specs.declared.kind.Part.{Part}
-use Rattle.ax_model.specs.declared.value.Value.{Value}
-use Rattle.ax_reader.proofs.AtOctets.{parts_at, parts_fail, extended_gets}
-use Rattle.ax_reader.proofs.Continuing.{begins, goes_on, gets_after, fails_after, front_is}
+use Rattle.ax_format.specs.Reader.{Read, got, after, members_value}
+use Rattle.ax_format.specs.InBounds.{PartInBounds}
+use Rattle.ax_format.specs.Plain.{part_tree, value_list, values_tree, lists_tree}
+use Rattle.ax_format.specs.Tree.{MembersTree, ListsTree, list_and, no_lists, extended, part_values}
+use Rattle.ax_format.specs.Widths.{members_width, fx_width}
+use Rattle.ax_format.specs.declared.fault.BodyCause.TheVariants.{RunsOut, ExtensionPastEnd}
+use Rattle.ax_format.specs.declared.fault.BodyFault.{BodyFault}
+use Rattle.ax_format.specs.declared.kind.LastPart.{LastPart}
+use Rattle.ax_format.specs.declared.kind.Part.{Part}
+use Rattle.ax_format.specs.declared.value.Value.{Value}
+use Rattle.ax_fspec.proofs.AtOctets.{parts_at, parts_fail, extended_gets}
+use Rattle.ax_fspec.proofs.Continuing.{begins, goes_on, gets_after, fails_after, front_is}
 use Rattle.ax_values.proofs.Onto.{lists_onto, lists_onto_none, lists_onto_more}
 use Rattle.ax_values.proofs.PartUnits.{IsPartUnit, part_unit_ends, part_unit_goes_on, part_unit_past}
-use Rattle.ax_reader.specs.Reading.{Gets, FailsAt, Continues, kind_read}
+use Rattle.ax_fspec.specs.Reading.{Gets, FailsAt, Continues, kind_read}
 use Rattle.ax_values.specs.Parts.{parts_left, PartsReady, IsPartMet}
 
 -- ---- a part

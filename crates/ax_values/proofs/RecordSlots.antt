@@ -4,15 +4,15 @@ use Rattle.std.specs.Result.{IsErrAnd}
 use Rattle.std.proofs.lemmas.List.{length-take-le, take_all}
 use Rattle.ax_bits.proofs.Words.{bits-append, length-bits}
 use Rattle.ax_bits.specs.Bits.{bits}
-use Rattle.ax_model.proofs.BodyReader.{record_some}
-use Rattle.ax_model.proofs.Once.{body_fails_once, body_never_both}
-use Rattle.ax_model.specs.Bodies.{SpellsRecord, RecordsSpell, SpellsBody}
-use Rattle.ax_model.specs.Plain.{record_tree, records_tree}
-use Rattle.ax_model.specs.Specification.{SpecTree, record_kind}
-use Rattle.ax_model.specs.Tree.{EntriesTree, ValueTree, marked}
-use Rattle.ax_model.specs.declared.fault.BodyFault.{BodyFault}
-use Rattle.ax_model.specs.declared.record.Record.{Record}
-use Rattle.ax_reader.specs.Reading.{IsSpelledAt, IsFaultAt}
+use Rattle.ax_format.proofs.BodyReader.{record_some}
+use Rattle.ax_format.proofs.Once.{body_fails_once, body_never_both}
+use Rattle.ax_format.specs.Bodies.{SpellsRecord, RecordsSpell, SpellsBody}
+use Rattle.ax_format.specs.Plain.{record_tree, records_tree}
+use Rattle.ax_format.specs.Specification.{SpecTree, record_kind}
+use Rattle.ax_format.specs.Tree.{EntriesTree, ValueTree, marked}
+use Rattle.ax_format.specs.declared.fault.BodyFault.{BodyFault}
+use Rattle.ax_format.specs.declared.record.Record.{Record}
+use Rattle.ax_fspec.specs.Reading.{IsSpelledAt, IsFaultAt}
 use Rattle.ax_values.specs.Decoding.{IsRecordAt, IsRecordFaultAt, IsBodyFault, IsOrMemory, AnswersFault, IsFaultOf}
 use Rattle.ax_values.specs.declared.error.DecodeError.{DecodeError}
 use Rattle.ax_values.specs.declared.error.DecodeError.TheVariants as Decoding

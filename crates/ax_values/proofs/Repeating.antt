@@ -1,17 +1,17 @@
 -- Units with their FX bit, and occurrences by FX one after the other.
 use Rattle.std.proofs.Common.{◌≡◌, ℕ, ◌+◌, ◌-◌, ◌*◌, ◌%◌, ◌≤◌, Bool, true, false, List, [], ◌∷◌, ◌++◌, length, take, drop, map, sym, ◌∙◌, ap, arith, subst, length-append}
 use Rattle.ax_bits.specs.Bits.{bits}
-use Rattle.ax_model.specs.Reader.{fixed_value}
-use Rattle.ax_model.specs.Plain.{value_tree, values_tree}
-use Rattle.ax_model.specs.Tree.{FixedTree, value_and, no_values}
-use Rattle.ax_model.specs.Widths.{width}
-use Rattle.ax_model.specs.declared.fault.BodyCause.TheVariants.{RunsOut}
-use Rattle.ax_model.specs.declared.fault.BodyFault.{BodyFault}
-use Rattle.ax_model.specs.declared.value.Value.{Value}
-use Rattle.ax_reader.proofs.AtOctets.{IsUnit, run_at, run_ends, run_goes_on, run_fails}
-use Rattle.ax_reader.proofs.Continuing.{begins, goes_on, gets_after, fails_after, front_is}
+use Rattle.ax_format.specs.Reader.{fixed_value}
+use Rattle.ax_format.specs.Plain.{value_tree, values_tree}
+use Rattle.ax_format.specs.Tree.{FixedTree, value_and, no_values}
+use Rattle.ax_format.specs.Widths.{width}
+use Rattle.ax_format.specs.declared.fault.BodyCause.TheVariants.{RunsOut}
+use Rattle.ax_format.specs.declared.fault.BodyFault.{BodyFault}
+use Rattle.ax_format.specs.declared.value.Value.{Value}
+use Rattle.ax_fspec.proofs.AtOctets.{IsUnit, run_at, run_ends, run_goes_on, run_fails}
+use Rattle.ax_fspec.proofs.Continuing.{begins, goes_on, gets_after, fails_after, front_is}
 use Rattle.ax_values.proofs.Onto.{values_onto, values_onto_none, values_onto_more}
-use Rattle.ax_reader.specs.Reading.{Gets, FailsAt, Continues, fx_bit}
+use Rattle.ax_fspec.specs.Reading.{Gets, FailsAt, Continues, fx_bit}
 
 -- a unit, of what the code found
 pub unit_is : (body : List ℕ) (here end w bit : ℕ) (fx : Bool) → (w + 1) % 8 ≡ 0 → here ≤ end → end ≤ length body → w + 1 ≡ 8 * (end - here) → bit ≡ 8 * here + w

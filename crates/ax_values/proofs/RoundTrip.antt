@@ -3,19 +3,19 @@ use Rattle.std.proofs.Common.{◌≡◌, ◌≢◌, ℕ, ◌+◌, ◌<◌, ◌�
 use Rattle.std.specs.List.{AllByRecursion}
 use Rattle.ax_bits.proofs.Words.{length-bits}
 use Rattle.ax_bits.specs.Bits.{bits}
-use Rattle.ax_model.proofs.BodyReader.{record_some}
-use Rattle.ax_model.proofs.CanonFramed.{length-framed, framed_is}
-use Rattle.ax_model.proofs.RecordLaws.{flawless_body_canon_spells, body_canon_shortest, record_shape}
-use Rattle.ax_model.specs.Blocks.{read_block, opaque_block, Fits}
-use Rattle.ax_model.specs.Bodies.{RecordShape, RecordsSpell, SpellsBody, CanonBody}
-use Rattle.ax_model.specs.CanonicalOctets.{octets_of, framed, canon_length}
-use Rattle.ax_model.specs.OfCode.{HasNoFlaw, BlockFits, block_octets, block_length}
-use Rattle.ax_model.specs.Plain.{spec_tree, records_tree, block_tree}
-use Rattle.ax_model.specs.Specification.{SpecTree}
-use Rattle.ax_model.specs.Tree.{EntriesTree}
-use Rattle.ax_model.specs.declared.record.Block.{Block}
-use Rattle.ax_model.specs.declared.record.Block.TheVariants as BlockOf
-use Rattle.ax_model.specs.declared.spec.Spec.{Spec}
+use Rattle.ax_format.proofs.BodyReader.{record_some}
+use Rattle.ax_format.proofs.CanonFramed.{length-framed, framed_is}
+use Rattle.ax_format.proofs.RecordLaws.{flawless_body_canon_spells, body_canon_shortest, record_shape}
+use Rattle.ax_format.specs.Blocks.{read_block, opaque_block, Fits}
+use Rattle.ax_format.specs.Bodies.{RecordShape, RecordsSpell, SpellsBody, CanonBody}
+use Rattle.ax_format.specs.CanonicalOctets.{octets_of, framed, canon_length}
+use Rattle.ax_format.specs.OfCode.{HasNoFlaw, BlockFits, block_octets, block_length}
+use Rattle.ax_format.specs.Plain.{spec_tree, records_tree, block_tree}
+use Rattle.ax_format.specs.Specification.{SpecTree}
+use Rattle.ax_format.specs.Tree.{EntriesTree}
+use Rattle.ax_format.specs.declared.record.Block.{Block}
+use Rattle.ax_format.specs.declared.record.Block.TheVariants as BlockOf
+use Rattle.ax_format.specs.declared.spec.Spec.{Spec}
 use Rattle.ax_values.proofs.WrittenRecords.{body_bits}
 use Rattle.ax_values.specs.Decoding.{ReadsBack, IsReadOf}
 

@@ -5,14 +5,14 @@ use Rattle.ax_bits.proofs.Words.{length-word}
 use Rattle.ax_bits.specs.Bits.{word}
 use Rattle.ax_bits.specs.Out.{Appends, room}
 use Rattle.ax_bits.specs.declared.output.Out.{Out}
-use Rattle.ax_model.specs.Canonical.{fixed_canon, members_canon, number_canon}
-use Rattle.ax_model.specs.InBounds.{MembersInBounds}
-use Rattle.ax_model.specs.Plain.{member_tree, members_tree, value_tree, values_tree}
-use Rattle.ax_model.specs.Shape.{NumberShape, MembersShape}
-use Rattle.ax_model.specs.Tree.{MembersTree, no_members, member_and, MemberTree, named, spare, ValueTree, number, ValuesTree, no_values, value_and}
-use Rattle.ax_model.specs.declared.kind.Member.{Member}
-use Rattle.ax_model.specs.declared.value.Value.{Value}
-use Rattle.ax_reader.specs.Reading.{fx_bit}
+use Rattle.ax_format.specs.Canonical.{fixed_canon, members_canon, number_canon}
+use Rattle.ax_format.specs.InBounds.{MembersInBounds}
+use Rattle.ax_format.specs.Plain.{member_tree, members_tree, value_tree, values_tree}
+use Rattle.ax_format.specs.Shape.{NumberShape, MembersShape}
+use Rattle.ax_format.specs.Tree.{MembersTree, no_members, member_and, MemberTree, named, spare, ValueTree, number, ValuesTree, no_values, value_and}
+use Rattle.ax_format.specs.declared.kind.Member.{Member}
+use Rattle.ax_format.specs.declared.value.Value.{Value}
+use Rattle.ax_fspec.specs.Reading.{fx_bit}
 use Rattle.ax_values.specs.Writing.{IsWrittenTo}
 
 pub written_none : (out : Out) (whole : List ℕ) → IsWrittenTo out out whole whole

@@ -7,15 +7,15 @@ use Rattle.ax_bits.proofs.Words.{length-bits, length-word}
 use Rattle.ax_bits.specs.Bits.{bits, word, AreOctets}
 use Rattle.ax_bits.specs.Out.{Appends, room, written, unwritten}
 use Rattle.ax_bits.specs.declared.output.Out.{Out}
-use Rattle.ax_model.proofs.CanonFramed.{length-framed}
-use Rattle.ax_model.specs.Bodies.{CanonBody}
-use Rattle.ax_model.specs.CanonicalOctets.{octets_of, framed}
-use Rattle.ax_model.specs.OfCode.{HasNoFlaw, BlockFits, block_octets, block_length}
-use Rattle.ax_model.specs.Plain.{spec_tree, records_tree}
-use Rattle.ax_model.specs.declared.record.Block.{Block}
-use Rattle.ax_model.specs.declared.record.Block.TheVariants as BlockOf
-use Rattle.ax_model.specs.declared.record.Record.{Record}
-use Rattle.ax_model.specs.declared.spec.Spec.{Spec}
+use Rattle.ax_format.proofs.CanonFramed.{length-framed}
+use Rattle.ax_format.specs.Bodies.{CanonBody}
+use Rattle.ax_format.specs.CanonicalOctets.{octets_of, framed}
+use Rattle.ax_format.specs.OfCode.{HasNoFlaw, BlockFits, block_octets, block_length}
+use Rattle.ax_format.specs.Plain.{spec_tree, records_tree}
+use Rattle.ax_format.specs.declared.record.Block.{Block}
+use Rattle.ax_format.specs.declared.record.Block.TheVariants as BlockOf
+use Rattle.ax_format.specs.declared.record.Record.{Record}
+use Rattle.ax_format.specs.declared.spec.Spec.{Spec}
 use Rattle.ax_values.proofs.WrittenRecords.{body_bits, body_octets, framed_bits, framed_octets, front_written}
 
 -- a block of records

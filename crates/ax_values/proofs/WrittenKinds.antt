@@ -8,20 +8,20 @@ use Rattle.ax_bits.specs.Out.{Appends, room}
 use Rattle.ax_bits.specs.declared.output.Out.{Out}
 use Rattle.ax_fspec.specs.Fields.{least_field}
 use Rattle.ax_fspec.specs.Marks.{no_marks}
-use Rattle.ax_model.specs.Canonical.{canon, each_canon, marks_of, entries_canon}
-use Rattle.ax_model.specs.Lengths.{slot_kind}
-use Rattle.ax_model.specs.Plain.{value_tree, values_tree, entries_tree}
-use Rattle.ax_model.specs.Presence.{octets_needed, least_presence}
-use Rattle.ax_model.specs.Shape.{Shape, EachShape}
-use Rattle.ax_model.specs.Tree.{KindTree, value_count, SlotsTree, slot_count}
-use Rattle.ax_model.specs.declared.value.Entry.{Entry}
-use Rattle.ax_model.specs.declared.value.Value.{Value}
+use Rattle.ax_format.specs.Canonical.{canon, each_canon, marks_of, entries_canon}
+use Rattle.ax_format.specs.Lengths.{slot_kind}
+use Rattle.ax_format.specs.Plain.{value_tree, values_tree, entries_tree}
+use Rattle.ax_format.specs.Presence.{octets_needed, least_presence}
+use Rattle.ax_format.specs.Shape.{Shape, EachShape}
+use Rattle.ax_format.specs.Tree.{KindTree, value_count, SlotsTree, slot_count}
+use Rattle.ax_format.specs.declared.value.Entry.{Entry}
+use Rattle.ax_format.specs.declared.value.Value.{Value}
 use Rattle.ax_values.proofs.NextEntry.{EntriesLeft, entries_first, entry_shape, entry_room, entries_next, entries_ended, MarksLeft, marks_first, mark_within, marks_next, marks_ended}
 use Rattle.ax_values.proofs.Written.{written_none, written_more, written_all, written_room, first_room}
 use Rattle.ax_values.specs.Writing.{IsWrittenTo, EntryShape, entry_canon, AreEntriesOf}
-use Rattle.ax_model.specs.Widths.{counter_octets, counter_width}
-use Rattle.ax_model.specs.declared.kind.Counter.{Counter}
-use Rattle.ax_model.proofs.WholeOctets.{counter_in_octets}
+use Rattle.ax_format.specs.Widths.{counter_octets, counter_width}
+use Rattle.ax_format.specs.declared.kind.Counter.{Counter}
+use Rattle.ax_format.proofs.WholeOctets.{counter_in_octets}
 
 pub from_place : {X : Type 0} (xs : List X) (i : ℕ) (x : X) → i < length xs → x ≡ get_or xs i x → drop i xs ≡ x ∷ drop (i + 1) xs
 from_place xs i x lt e = drop-cons xs i x lt ∙ (λ k. sym e k ∷ drop (sym (add-one i) k) xs)

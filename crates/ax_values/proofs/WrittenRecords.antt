@@ -8,30 +8,30 @@ use Rattle.ax_bits.proofs.Words.{bits-append, length-word, word-AreBits, number_
 use Rattle.ax_bits.specs.Bits.{bits, word, AreBits, AreOctets}
 use Rattle.ax_bits.specs.Out.{Appends, room}
 use Rattle.ax_bits.specs.declared.output.Out.{Out}
-use Rattle.ax_model.proofs.Bounds.{record_bounds, bounds_whole}
-use Rattle.ax_model.proofs.CanonFramed.{bits-octets_of, length-framed}
-use Rattle.ax_model.proofs.RecordLaws.{flawless_body_canon_spells}
-use Rattle.ax_model.proofs.SpelledBits.{records_bits}
-use Rattle.ax_model.proofs.WholeOctets.{two_whole, spells_whole}
-use Rattle.ax_model.specs.Bodies.{RecordShape, RecordsSpell, CanonRecord, CanonBody}
-use Rattle.ax_model.specs.Canonical.{canon}
-use Rattle.ax_model.specs.CanonicalOctets.{octets_of, framed}
-use Rattle.ax_model.specs.Flaws.{NoFlaw}
-use Rattle.ax_model.specs.InBounds.{InBounds}
-use Rattle.ax_model.specs.Lengths.{kind_of_slot, slot_kind}
-use Rattle.ax_model.specs.Lookup.{item_of_frn}
-use Rattle.ax_model.specs.Plain.{kind_tree, item_tree, spec_tree, record_tree, records_tree}
-use Rattle.ax_model.specs.Shape.{Shape}
-use Rattle.ax_model.specs.Specification.{SpecTree, record_kind, record_slots, slot_of_item}
-use Rattle.ax_model.specs.Tree.{ValueTree, EntriesTree, marked}
-use Rattle.ax_model.specs.Whole.{Whole}
-use Rattle.ax_model.specs.declared.record.Record.{Record}
-use Rattle.ax_model.specs.declared.spec.Item.{Item}
-use Rattle.ax_model.specs.declared.spec.Spec.{Spec}
+use Rattle.ax_format.proofs.Bounds.{record_bounds, bounds_whole}
+use Rattle.ax_format.proofs.CanonFramed.{bits-octets_of, length-framed}
+use Rattle.ax_format.proofs.RecordLaws.{flawless_body_canon_spells}
+use Rattle.ax_format.proofs.SpelledBits.{records_bits}
+use Rattle.ax_format.proofs.WholeOctets.{two_whole, spells_whole}
+use Rattle.ax_format.specs.Bodies.{RecordShape, RecordsSpell, CanonRecord, CanonBody}
+use Rattle.ax_format.specs.Canonical.{canon}
+use Rattle.ax_format.specs.CanonicalOctets.{octets_of, framed}
+use Rattle.ax_format.specs.Flaws.{NoFlaw}
+use Rattle.ax_format.specs.InBounds.{InBounds}
+use Rattle.ax_format.specs.Lengths.{kind_of_slot, slot_kind}
+use Rattle.ax_format.specs.Lookup.{item_of_frn}
+use Rattle.ax_format.specs.Plain.{kind_tree, item_tree, spec_tree, record_tree, records_tree}
+use Rattle.ax_format.specs.Shape.{Shape}
+use Rattle.ax_format.specs.Specification.{SpecTree, record_kind, record_slots, slot_of_item}
+use Rattle.ax_format.specs.Tree.{ValueTree, EntriesTree, marked}
+use Rattle.ax_format.specs.Whole.{Whole}
+use Rattle.ax_format.specs.declared.record.Record.{Record}
+use Rattle.ax_format.specs.declared.spec.Item.{Item}
+use Rattle.ax_format.specs.declared.spec.Spec.{Spec}
 use Rattle.ax_values.proofs.Written.{written_none, written_more, written_all, written_room, first_room}
 use Rattle.ax_values.proofs.WrittenKinds.{from_place}
 use Rattle.ax_values.specs.Writing.{IsWrittenTo, EntryShape, entry_canon, AreEntriesOf}
-use Rattle.ax_model.proofs.ItemKinds.{kind_in_slot, kind_of_item, kind_of_frn}
+use Rattle.ax_format.proofs.ItemKinds.{kind_in_slot, kind_of_item, kind_of_frn}
 
 -- ---- items by field reference number
 

@@ -7,18 +7,18 @@ use Rattle.ax_bits.specs.Out.{Appends, room}
 use Rattle.ax_bits.specs.declared.output.Out.{Out}
 use Rattle.ax_bits.proofs.Outputs.{appends_more}
 use Rattle.ax_bits.proofs.Words.{length-word}
-use Rattle.ax_model.specs.Canonical.{fixed_canon, members_canon, parts_canon, run_canon}
-use Rattle.ax_model.specs.InBounds.{PartsInBounds, MembersInBounds}
-use Rattle.ax_model.specs.Plain.{part_tree, value_tree, values_tree, lists_tree}
-use Rattle.ax_model.specs.Shape.{FixedShape, MembersShape, PartsShape, EachShape}
-use Rattle.ax_model.specs.Tree.{FixedTree, MembersTree, no_lists}
-use Rattle.ax_model.specs.Widths.{fx_width}
-use Rattle.ax_model.specs.declared.kind.LastPart.{LastPart}
-use Rattle.ax_model.specs.declared.kind.Part.{Part}
-use Rattle.ax_model.specs.declared.value.Value.{Value}
+use Rattle.ax_format.specs.Canonical.{fixed_canon, members_canon, parts_canon, run_canon}
+use Rattle.ax_format.specs.InBounds.{PartsInBounds, MembersInBounds}
+use Rattle.ax_format.specs.Plain.{part_tree, value_tree, values_tree, lists_tree}
+use Rattle.ax_format.specs.Shape.{FixedShape, MembersShape, PartsShape, EachShape}
+use Rattle.ax_format.specs.Tree.{FixedTree, MembersTree, no_lists}
+use Rattle.ax_format.specs.Widths.{fx_width}
+use Rattle.ax_format.specs.declared.kind.LastPart.{LastPart}
+use Rattle.ax_format.specs.declared.kind.Part.{Part}
+use Rattle.ax_format.specs.declared.value.Value.{Value}
 use Rattle.ax_values.proofs.Written.{written_none, written_more, written_all, written_room, first_room}
-use Rattle.ax_reader.proofs.AtOctets.{fx_or_none}
-use Rattle.ax_reader.specs.Reading.{fx_bit}
+use Rattle.ax_fspec.proofs.AtOctets.{fx_or_none}
+use Rattle.ax_fspec.specs.Reading.{fx_bit}
 use Rattle.ax_values.specs.Writing.{IsWrittenTo}
 
 -- whether others follow

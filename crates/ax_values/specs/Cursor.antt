@@ -1,8 +1,8 @@
 -- What the cursor over the parts of an extended or closed item has left, and how it goes on.
 use Rattle.std.specs.Prelude.{List, drop, map}
-use Rattle.ax_model.specs.Tree.{MembersTree}
-use Rattle.ax_model.specs.declared.fault.BodyFault.{BodyFault}
-use Rattle.ax_reader.specs.Reading.{FailsAt}
+use Rattle.ax_format.specs.Tree.{MembersTree}
+use Rattle.ax_format.specs.declared.fault.BodyFault.{BodyFault}
+use Rattle.ax_fspec.specs.Reading.{FailsAt}
 use Rattle.ax_values.specs.Parts.{parts_left, PartsReady, IsPartMet}
 use Rattle.ax_values.specs.declared.parts_left.PartsLeft.{PartsLeft}
 

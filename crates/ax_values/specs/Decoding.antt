@@ -1,15 +1,15 @@
 -- What decoding answers.
 use Rattle.std.specs.Prelude.{◌≡◌, ◌≢◌, ℕ, ◌+◌, ◌-◌, ◌*◌, ◌≤◌, ◌⊎◌, List, length, take, drop, Result, Ok, Err}
 use Rattle.ax_bits.specs.Bits.{bits}
-use Rattle.ax_model.specs.Blocks.{BlockTree, read_block, opaque_block, IsFramed}
-use Rattle.ax_model.specs.Bodies.{SpellsRecord, FailsRecord, SpellsBody, FailsBody}
-use Rattle.ax_model.specs.Plain.{spec_tree, block_tree}
-use Rattle.ax_model.specs.Sizes.{longest_body}
-use Rattle.ax_model.specs.Specification.{SpecTree}
-use Rattle.ax_model.specs.Tree.{EntriesTree}
-use Rattle.ax_model.specs.declared.fault.BodyFault.{BodyFault}
-use Rattle.ax_model.specs.declared.record.Block.{Block}
-use Rattle.ax_model.specs.declared.spec.Spec.{Spec}
+use Rattle.ax_format.specs.Blocks.{BlockTree, read_block, opaque_block, IsFramed}
+use Rattle.ax_format.specs.Bodies.{SpellsRecord, FailsRecord, SpellsBody, FailsBody}
+use Rattle.ax_format.specs.Plain.{spec_tree, block_tree}
+use Rattle.ax_format.specs.Sizes.{longest_body}
+use Rattle.ax_format.specs.Specification.{SpecTree}
+use Rattle.ax_format.specs.Tree.{EntriesTree}
+use Rattle.ax_format.specs.declared.fault.BodyFault.{BodyFault}
+use Rattle.ax_format.specs.declared.record.Block.{Block}
+use Rattle.ax_format.specs.declared.spec.Spec.{Spec}
 use Rattle.ax_values.specs.declared.error.DecodeError.{DecodeError}
 use Rattle.ax_values.specs.declared.error.DecodeError.TheVariants as Decoding
 

@@ -1,13 +1,13 @@
 -- What is left to be read of the parts of an extended or closed item, and how reading goes on at one of them.
 use Rattle.std.specs.Prelude.{◌≡◌, ℕ, ◌+◌, ◌-◌, ◌*◌, ◌<◌, ◌≤◌, Bool, true, false, List, ◌∷◌, length, drop}
 use Rattle.ax_bits.specs.Bits.{bits}
-use Rattle.ax_model.specs.InBounds.{PartInBounds, PartsInBounds}
-use Rattle.ax_model.specs.Reader.{Read, got, parts_read, members_value}
-use Rattle.ax_model.specs.Sizes.{longest_body}
-use Rattle.ax_model.specs.Tree.{MembersTree, ListsTree, list_and, no_lists}
-use Rattle.ax_model.specs.Widths.{members_width, fx_width}
-use Rattle.ax_model.specs.declared.kind.LastPart.{LastPart}
-use Rattle.ax_reader.specs.Reading.{Continues}
+use Rattle.ax_format.specs.InBounds.{PartInBounds, PartsInBounds}
+use Rattle.ax_format.specs.Reader.{Read, got, parts_read, members_value}
+use Rattle.ax_format.specs.Sizes.{longest_body}
+use Rattle.ax_format.specs.Tree.{MembersTree, ListsTree, list_and, no_lists}
+use Rattle.ax_format.specs.Widths.{members_width, fx_width}
+use Rattle.ax_format.specs.declared.kind.LastPart.{LastPart}
+use Rattle.ax_fspec.specs.Reading.{Continues}
 
 -- what is left to be read from octet `at` on, of these parts; nothing where the part before had no FX bit, or one that was 0
 unfoldable pub parts_left : LastPart → Bool → List MembersTree → List ℕ → ℕ → Read ListsTree

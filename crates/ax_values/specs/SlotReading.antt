@@ -1,13 +1,13 @@
 -- What decoding has read, or why it has not.
 use Rattle.std.specs.Prelude.{◌≡◌, ℕ, List, [], ◌∷◌, ◌++◌, map}
-use Rattle.ax_model.specs.Reader.{Read}
-use Rattle.ax_model.specs.Tree.{KindTree, ValueTree, SlotTree, spare_slot, subitem}
-use Rattle.ax_model.specs.Plain.{entry_tree}
-use Rattle.ax_model.specs.declared.fault.BodyFault.{BodyFault}
-use Rattle.ax_model.specs.declared.value.Entry.{Entry}
+use Rattle.ax_format.specs.Reader.{Read}
+use Rattle.ax_format.specs.Tree.{KindTree, ValueTree, SlotTree, spare_slot, subitem}
+use Rattle.ax_format.specs.Plain.{entry_tree}
+use Rattle.ax_format.specs.declared.fault.BodyFault.{BodyFault}
+use Rattle.ax_format.specs.declared.value.Entry.{Entry}
 use Rattle.ax_values.specs.declared.error.DecodeError.{DecodeError}
 use Rattle.ax_values.specs.declared.error.DecodeError.TheVariants as Decoding
-use Rattle.ax_reader.specs.Reading.{Gets, FailsAt, kind_read}
+use Rattle.ax_fspec.specs.Reading.{Gets, FailsAt, kind_read}
 
 -- a fault that the error names was met
 pub record HasFailed {A : Type 0} (found : Read A) (at : ℕ) (e : DecodeError) : Type 0 where

@@ -2,10 +2,10 @@
 use Rattle.std.specs.Prelude.{◌≡◌, ℕ, ◌≤◌, List, [], ◌++◌, Option, Some, None}
 use Rattle.ax_bits.specs.Out.{Appends}
 use Rattle.ax_bits.specs.declared.output.Out.{Out}
-use Rattle.ax_model.specs.Canonical.{canon}
-use Rattle.ax_model.specs.InBounds.{InBounds, SlotsInBounds}
-use Rattle.ax_model.specs.Shape.{Shape, EntriesShape}
-use Rattle.ax_model.specs.Tree.{KindTree, ValueTree, SlotsTree, EntriesTree, slot_count}
+use Rattle.ax_format.specs.Canonical.{canon}
+use Rattle.ax_format.specs.InBounds.{InBounds, SlotsInBounds}
+use Rattle.ax_format.specs.Shape.{Shape, EntriesShape}
+use Rattle.ax_format.specs.Tree.{KindTree, ValueTree, SlotsTree, EntriesTree, slot_count}
 
 -- of the whole bits a front is written, and the rest is left
 pub record IsWrittenTo (old now : Out) (whole left : List ℕ) : Type 0 where

@@ -1,12 +1,12 @@
 //! The counter in front of the occurrences of counted and wide items.
 ghost use Rattle.std.specs.Prelude.{◌≡◌, ◌+◌, ◌*◌, ◌<◌, ◌≤◌, length, IfOk, IfErr};
-ghost use Rattle.ax_model.specs.Sizes.{longest_body};
-ghost use Rattle.ax_model.specs.Widths.{counter_octets};
-ghost use Rattle.ax_model.specs.declared.fault.BodyCause.TheVariants as Cause;
-ghost use Rattle.ax_reader.specs.Reading.{IsCount};
+ghost use Rattle.ax_format.specs.Sizes.{longest_body};
+ghost use Rattle.ax_format.specs.Widths.{counter_octets};
+ghost use Rattle.ax_format.specs.declared.fault.BodyCause.TheVariants as Cause;
+ghost use Rattle.ax_fspec.specs.Reading.{IsCount};
 
-use ax_model::{BodyCause, BodyFault, Counter};
-use ax_reader::count_at;
+use ax_format::{BodyCause, BodyFault, Counter};
+use ax_fspec::count_at;
 
 /// How many occurrences the counter says that begins at octet `at` of the body. RunsOut at its first bit where it isn't
 /// there whole.

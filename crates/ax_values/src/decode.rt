@@ -1,24 +1,23 @@
 //! Octets to values, records and blocks.
 ghost use Rattle.std.specs.Prelude.{◌≡◌, ◌≢◌, ℕ, ◌<◌, ◌≤◌, List, length, IfOk, IfErr};
 ghost use Rattle.ax_bits.specs.Bits.{bits};
-ghost use Rattle.ax_model.specs.Blocks.{read_block, opaque_block};
-ghost use Rattle.ax_model.specs.Bodies.{SpellsBody};
-ghost use Rattle.ax_model.specs.Flaws.{NoFlaw};
-ghost use Rattle.ax_model.specs.InBounds.{InBounds};
-ghost use Rattle.ax_model.specs.Plain.{kind_tree, value_tree, spec_tree, record_tree, records_tree, block_tree};
-ghost use Rattle.ax_model.specs.Sizes.{longest_body};
-ghost use Rattle.ax_model.specs.Tree.{ValueTree, EntriesTree};
-ghost use Rattle.ax_model.specs.declared.fault.BodyFault.{BodyFault};
-ghost use Rattle.ax_reader.specs.Honest.{SpellRecords, BeginWithValue, BeginWithRecord, IsHonest, IsHonestAt};
-ghost use Rattle.ax_reader.specs.Reading.{IsSpelledAt, IsFaultAt};
+ghost use Rattle.ax_format.specs.Blocks.{read_block, opaque_block};
+ghost use Rattle.ax_format.specs.Bodies.{SpellsBody};
+ghost use Rattle.ax_format.specs.Flaws.{NoFlaw};
+ghost use Rattle.ax_format.specs.InBounds.{InBounds};
+ghost use Rattle.ax_format.specs.Plain.{kind_tree, value_tree, spec_tree, record_tree, records_tree, block_tree};
+ghost use Rattle.ax_format.specs.Sizes.{longest_body};
+ghost use Rattle.ax_format.specs.Tree.{ValueTree, EntriesTree};
+ghost use Rattle.ax_format.specs.declared.fault.BodyFault.{BodyFault};
+ghost use Rattle.ax_fspec.specs.Honest.{SpellRecords, BeginWithValue, BeginWithRecord, IsHonest, IsHonestAt};
+ghost use Rattle.ax_fspec.specs.Reading.{IsSpelledAt, IsFaultAt, IsMaskOf, record_slot_list};
 ghost use Rattle.ax_values.specs.Decoding.{IsRecordAt, IsRecordFaultAt, IsReadOf, IsBodyFault, IsOrMemory, AnswersFault, IsFaultOf};
-ghost use Rattle.ax_reader.specs.Reading.{IsMaskOf, record_slot_list};
 
 use crate::error::DecodeError;
 use crate::kinds::decode_value;
 use crate::records::{decode_entries, record_mask};
+use ax_format::{Block, Kind, Octets, RawBlock, Record, Records, Spec, Value};
 use ax_fspec::SlotMask;
-use ax_model::{Block, Kind, Octets, RawBlock, Record, Records, Spec, Value};
 use std::alloc::Global;
 
 /// Reads the value of a kind that begins at octet `at` of a body. The kind is one of a specification without flaw: an

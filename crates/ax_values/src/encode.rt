@@ -2,18 +2,18 @@
 ghost use Rattle.std.specs.Prelude.{◌≡◌, ◌+◌, ◌*◌, ◌<◌, ◌≤◌, ◌⊎◌, ◌↔◌, ◌++◌, length, IfOk, IfErr, IsErrOf};
 ghost use Rattle.ax_bits.specs.Bits.{bits, word, AreOctets};
 ghost use Rattle.ax_bits.specs.Out.{Appends, room};
-ghost use Rattle.ax_model.specs.CanonicalOctets.{framed};
-ghost use Rattle.ax_model.specs.Lengths.{capped};
-ghost use Rattle.ax_model.specs.OfCode.{HasNoFlaw, BlockFits, block_octets, block_length};
-ghost use Rattle.ax_model.specs.Sizes.{longest_block, longest_body};
+ghost use Rattle.ax_format.specs.CanonicalOctets.{framed};
+ghost use Rattle.ax_format.specs.Lengths.{capped};
+ghost use Rattle.ax_format.specs.OfCode.{HasNoFlaw, BlockFits, block_octets, block_length};
+ghost use Rattle.ax_format.specs.Sizes.{longest_block, longest_body};
 ghost use Rattle.ax_values.specs.Decoding.{ReadsBack};
 ghost use Rattle.ax_values.specs.declared.error.EncodeError.TheVariants as Encoding;
 
 use crate::error::EncodeError;
 use crate::write_records::write_body;
 use ax_bits::Out;
+use ax_format::{Block, Spec, canon_length};
 use ax_lists::zeros;
-use ax_model::{Block, Spec, canon_length};
 use ax_uap::UapItems;
 use std::alloc::{AllocError, Global};
 

@@ -3,7 +3,7 @@ ghost use Rattle.std.specs.Prelude.{◌≡◌};
 ghost use Rattle.ax_values.specs.declared.error.DecodeError.TheVariants as Decoding;
 ghost use Rattle.ax_values.specs.declared.error.EncodeError.TheVariants as Encoding;
 
-use ax_model::BodyFault;
+use ax_format::BodyFault;
 use std::alloc::AllocError;
 use thiserror::Error;
 

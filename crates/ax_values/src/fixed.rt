@@ -1,15 +1,15 @@
 //! Runs of bits of a known length: elements, spares and groups.
 ghost use Rattle.std.specs.Prelude.{◌≡◌, ◌+◌, ◌*◌, ◌<◌, ◌≤◌, length, drop, take, IfOk, OnOk};
 ghost use Rattle.ax_bits.specs.Bits.{bits, number_of};
-ghost use Rattle.ax_model.specs.Reader.{fixed_value, members_value};
-ghost use Rattle.ax_model.specs.InBounds.{IsWidth, FixedInBounds, MembersInBounds};
-ghost use Rattle.ax_model.specs.Plain.{fixed_tree, member_tree, members_tree, value_tree, values_tree};
-ghost use Rattle.ax_model.specs.Sizes.{longest_body};
-ghost use Rattle.ax_model.specs.Tree.{number, member_and, no_members, value_and, no_values};
-ghost use Rattle.ax_model.specs.Widths.{width, members_width};
+ghost use Rattle.ax_format.specs.Reader.{fixed_value, members_value};
+ghost use Rattle.ax_format.specs.InBounds.{IsWidth, FixedInBounds, MembersInBounds};
+ghost use Rattle.ax_format.specs.Plain.{fixed_tree, member_tree, members_tree, value_tree, values_tree};
+ghost use Rattle.ax_format.specs.Sizes.{longest_body};
+ghost use Rattle.ax_format.specs.Tree.{number, member_and, no_members, value_and, no_values};
+ghost use Rattle.ax_format.specs.Widths.{width, members_width};
 
 use ax_bits::bits_at;
-use ax_model::{Fixed, Member, Members, Value, Values};
+use ax_format::{Fixed, Member, Members, Value, Values};
 use std::alloc::{AllocError, Global};
 
 /// The number in the `width` bits from bit `at` of the body on, which is moved after them.

@@ -1,11 +1,11 @@
 //! How many octets the canonical form of a block has, over the items of a UAP. Nothing here takes memory.
 ghost use Rattle.std.specs.Prelude.{◌≡◌};
-ghost use Rattle.ax_model.specs.Lengths.{capped, octets, octets_where, slot_kind, presence_octets, record_octets, records_octets};
-ghost use Rattle.ax_model.specs.OfCode.{BlockFits, HasNoFlaw, block_length};
-ghost use Rattle.ax_model.specs.Plain.{spec_tree, value_tree};
-ghost use Rattle.ax_model.specs.Specification.{record_slots};
+ghost use Rattle.ax_format.specs.Lengths.{capped, octets, octets_where, slot_kind, presence_octets, record_octets, records_octets};
+ghost use Rattle.ax_format.specs.OfCode.{BlockFits, HasNoFlaw, block_length};
+ghost use Rattle.ax_format.specs.Plain.{spec_tree, value_tree};
+ghost use Rattle.ax_format.specs.Specification.{record_slots};
 
-use ax_model::{Block, Entry, Record, octets_of};
+use ax_format::{Block, Entry, Record, octets_of};
 use ax_uap::UapItems;
 
 /// The octets of the least presence field whose last marked slot has that number.
@@ -15,7 +15,7 @@ fn presence_octets_of(last: u32) -> u64
     (u64::from(last) + 6) / 7
 }
 
-#[tactic(auto, using(ax_model::proofs::Counting::item_kinds))]
+#[tactic(auto, using(ax_format::proofs::Counting::item_kinds))]
 fn octets_of_item(items: &UapItems<'_>, entry: &Entry) -> u64
     ensures { result ≡ capped (octets_where (slot_kind (record_slots (spec_tree items.now.spec.now)) entry.now.slot) (octets (value_tree entry.now.value))) }
 {
@@ -38,7 +38,7 @@ fn octets_of_record(items: &UapItems<'_>, one: &Record) -> u64
     total.saturating_add(presence_octets_of(last))
 }
 
-#[tactic(auto, using(ax_model::proofs::Counting::records))]
+#[tactic(auto, using(ax_format::proofs::Counting::records))]
 fn octets_of_records(items: &UapItems<'_>, records: &[Record]) -> u64
     ensures { result ≡ capped (records_octets items.now.spec.now records.now) }
 {
@@ -51,7 +51,7 @@ fn octets_of_records(items: &UapItems<'_>, records: &[Record]) -> u64
 
 /// The octets of the block's canonical form, CAT and LEN included, capped at 2^64 - 1 where there are more, as `canon_length`
 /// of the specification gives them. The specification has no flaw, and the block fits it.
-#[tactic(auto, using(ax_model::proofs::BlockLengths::blocks))]
+#[tactic(auto, using(ax_format::proofs::BlockLengths::blocks))]
 pub fn length_over(items: &UapItems<'_>, block: &Block) -> u64
     requires no_flaw { HasNoFlaw items.now.spec.now }
     requires block_fits { BlockFits items.now.spec.now block.now }

@@ -8,7 +8,6 @@ mod error;
 mod explicit;
 mod fixed;
 mod kinds;
-pub mod laws;
 mod lengths;
 mod marks;
 mod parts_left;
@@ -19,7 +18,7 @@ mod write_kinds;
 mod write_records;
 mod write_units;
 
-pub use ax_reader::has_fx;
+pub use ax_fspec::has_fx;
 pub use counter::counter_at;
 pub use decode::{decode_block, decode_kind, decode_record};
 pub use encode::{encode_block, encode_of_length, write_front, write_opaque};

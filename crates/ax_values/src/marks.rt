@@ -1,14 +1,14 @@
 //! The marks of entries.
 ghost use Rattle.std.specs.Prelude.{◌≡◌};
 ghost use Rattle.ax_fspec.specs.Fields.{least_field};
-ghost use Rattle.ax_model.specs.Canonical.{marks_of};
-ghost use Rattle.ax_model.specs.Plain.{entries_tree};
-ghost use Rattle.ax_model.specs.Presence.{octets_needed, least_presence};
-ghost use Rattle.ax_model.specs.Tree.{SlotsTree, slot_count};
+ghost use Rattle.ax_format.specs.Canonical.{marks_of};
+ghost use Rattle.ax_format.specs.Plain.{entries_tree};
+ghost use Rattle.ax_format.specs.Presence.{octets_needed, least_presence};
+ghost use Rattle.ax_format.specs.Tree.{SlotsTree, slot_count};
 ghost use Rattle.ax_values.specs.Writing.{AreEntriesOf};
 
+use ax_format::Entries;
 use ax_fspec::Presence;
-use ax_model::Entries;
 
 /// The set of the slots that have entries.
 pub fn entry_marks(entries: &Entries) -> Presence

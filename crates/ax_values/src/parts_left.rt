@@ -1,19 +1,19 @@
 //! The parts of an extended or closed item that are present, one after the other.
 ghost use Rattle.std.specs.Prelude.{◌≡◌, ◌+◌, ◌*◌, ◌≤◌, true, false, [], ◌∷◌, length, take, drop, map, IfOk, IfErr, IfSome, IfNone};
 ghost use Rattle.ax_bits.specs.Bits.{bits};
-ghost use Rattle.ax_model.specs.InBounds.{InBounds};
-ghost use Rattle.ax_model.specs.Lengths.{capped};
-ghost use Rattle.ax_model.specs.Plain.{part_tree};
-ghost use Rattle.ax_model.specs.Sizes.{longest_body};
-ghost use Rattle.ax_model.specs.Tree as Tree;
-ghost use Rattle.ax_model.specs.Tree.{MembersTree};
-ghost use Rattle.ax_model.specs.Widths.{members_width};
-ghost use Rattle.ax_reader.specs.Reading.{fx_bit};
+ghost use Rattle.ax_format.specs.InBounds.{InBounds};
+ghost use Rattle.ax_format.specs.Lengths.{capped};
+ghost use Rattle.ax_format.specs.Plain.{part_tree};
+ghost use Rattle.ax_format.specs.Sizes.{longest_body};
+ghost use Rattle.ax_format.specs.Tree as Tree;
+ghost use Rattle.ax_format.specs.Tree.{MembersTree};
+ghost use Rattle.ax_format.specs.Widths.{members_width};
+ghost use Rattle.ax_fspec.specs.Reading.{fx_bit};
 ghost use Rattle.ax_values.specs.Cursor.{IsReady, Meets, MeetsFault};
 
 use crate::units::unit_end;
-use ax_model::{BodyCause, BodyFault, LastPart, Part};
-use ax_reader::has_fx;
+use ax_format::{BodyCause, BodyFault, LastPart, Part};
+use ax_fspec::has_fx;
 
 /// A part of an extended or closed item, as far as its octets in a body are asked for.
 pub trait SizedPart {

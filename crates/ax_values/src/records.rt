@@ -1,18 +1,18 @@
 //! Records over a specification, and bodies of them.
 ghost use Rattle.std.specs.Prelude.{◌≡◌, ◌+◌, ◌-◌, ◌<◌, ◌≤◌, length, drop, IfOk, IfErr};
 ghost use Rattle.ax_bits.specs.Bits.{AreBits};
-ghost use Rattle.ax_model.specs.Flaws.{NoFlaw};
-ghost use Rattle.ax_model.specs.Plain.{spec_tree, entries_tree, record_tree};
-ghost use Rattle.ax_model.specs.Sizes.{longest_body};
-ghost use Rattle.ax_model.specs.Specification.{record_slots, record_kind};
-ghost use Rattle.ax_model.specs.Tree.{marked};
-ghost use Rattle.ax_reader.specs.Reading.{Gets, IsMaskOf, SlotInBounds, is_subitem, record_slot_list, slot_of_frn, kind_read, entries_at};
+ghost use Rattle.ax_format.specs.Flaws.{NoFlaw};
+ghost use Rattle.ax_format.specs.Plain.{spec_tree, entries_tree, record_tree};
+ghost use Rattle.ax_format.specs.Sizes.{longest_body};
+ghost use Rattle.ax_format.specs.Specification.{record_slots, record_kind};
+ghost use Rattle.ax_format.specs.Tree.{marked};
+ghost use Rattle.ax_fspec.specs.Reading.{Gets, IsMaskOf, SlotInBounds, is_subitem, record_slot_list, slot_of_frn, kind_read, entries_at};
 ghost use Rattle.ax_values.specs.SlotReading.{HasFailed, IsSlotRead, HasSlotFailed};
 
 use crate::error::DecodeError;
 use crate::kinds::decode_value;
+use ax_format::{Entries, Entry, Record, Spec};
 use ax_fspec::{Presence, SlotMask, read_presence};
-use ax_model::{Entries, Entry, Record, Spec};
 use std::alloc::Global;
 
 /// Whether the field reference number has an item.

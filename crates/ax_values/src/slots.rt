@@ -1,10 +1,10 @@
 //! The masks of the slots of compounds and records.
 ghost use Rattle.std.specs.Prelude.{◌≡◌, ◌≤◌, length, map};
-ghost use Rattle.ax_model.specs.Plain.{slot_tree};
-ghost use Rattle.ax_reader.specs.Reading.{IsMaskOf, is_subitem};
+ghost use Rattle.ax_format.specs.Plain.{slot_tree};
+ghost use Rattle.ax_fspec.specs.Reading.{IsMaskOf, is_subitem};
 
+use ax_format::{Slot, Slots};
 use ax_fspec::{Presence, SlotMask};
-use ax_model::{Slot, Slots};
 
 /// Whether the slot is a subitem's.
 fn is_sub(slot: &Slot) -> bool

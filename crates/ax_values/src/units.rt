@@ -1,19 +1,19 @@
 //! Kinds whose units are runs of a known length: fixed kinds, the parts of extended and closed items, occurrences by FX.
 ghost use Rattle.std.specs.Prelude.{◌≡◌, ◌+◌, ◌-◌, ◌*◌, ◌%◌, ◌<◌, ◌≤◌, length, map, IfOk, IfErr};
 ghost use Rattle.ax_bits.specs.Bits.{bits};
-ghost use Rattle.ax_model.specs.InBounds.{InBounds};
-ghost use Rattle.ax_model.specs.Plain.{fixed_tree, part_tree, value_tree, values_tree, lists_tree};
-ghost use Rattle.ax_model.specs.Sizes.{longest_body};
-ghost use Rattle.ax_model.specs.Tree as Tree;
-ghost use Rattle.ax_model.specs.declared.fault.BodyCause.TheVariants as Cause;
-ghost use Rattle.ax_reader.specs.Reading.{Gets, kind_read};
+ghost use Rattle.ax_format.specs.InBounds.{InBounds};
+ghost use Rattle.ax_format.specs.Plain.{fixed_tree, part_tree, value_tree, values_tree, lists_tree};
+ghost use Rattle.ax_format.specs.Sizes.{longest_body};
+ghost use Rattle.ax_format.specs.Tree as Tree;
+ghost use Rattle.ax_format.specs.declared.fault.BodyCause.TheVariants as Cause;
+ghost use Rattle.ax_fspec.specs.Reading.{Gets, kind_read};
 ghost use Rattle.ax_values.specs.SlotReading.{HasFailed};
 
 use crate::error::DecodeError;
 use crate::fixed::{decode_fixed, decode_members};
 use crate::parts_left::PartsLeft;
-use ax_model::{BodyCause, BodyFault, Fixed, LastPart, Lists, Parts, Value, Values};
-use ax_reader::{has_fx, run_end};
+use ax_format::{BodyCause, BodyFault, Fixed, LastPart, Lists, Parts, Value, Values};
+use ax_fspec::{has_fx, run_end};
 use std::alloc::Global;
 
 /// The octet after a unit of `width` bits, whole octets, that begins at octet `at`. RunsOut at its first bit where it
@@ -36,7 +36,7 @@ pub fn unit_end(body: &[u8], at: u32, width: u32) -> Result<u32, BodyFault>
 }
 
 /// The value of a fixed kind that stands by itself, and the octet after it.
-#[tactic(auto, using(crate::proofs::Continuing::errors, ax_reader::proofs::AtOctets::fixed_fails))]
+#[tactic(auto, using(crate::proofs::Continuing::errors, ax_fspec::proofs::AtOctets::fixed_fails))]
 pub(crate) fn decode_single(
     alloc: Global,
     fixed: &Fixed,
@@ -56,7 +56,7 @@ pub(crate) fn decode_single(
 }
 
 /// The values of the parts that are present, and the octet after them.
-#[tactic(auto, using(crate::proofs::Continuing::errors, ax_reader::proofs::AtOctets::extended_fails))]
+#[tactic(auto, using(crate::proofs::Continuing::errors, ax_fspec::proofs::AtOctets::extended_fails))]
 pub(crate) fn decode_parts(
     alloc: Global,
     last: LastPart,

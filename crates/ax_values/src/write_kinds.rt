@@ -1,19 +1,19 @@
 //! Values written under their kinds.
 ghost use Rattle.std.specs.Prelude.{◌≡◌, ◌<◌, ◌≤◌, length};
 ghost use Rattle.ax_bits.specs.Out.{Appends, room};
-ghost use Rattle.ax_model.specs.Canonical.{canon, each_canon, entries_canon};
-ghost use Rattle.ax_model.specs.InBounds.{InBounds};
-ghost use Rattle.ax_model.specs.Lengths.{slot_kind};
-ghost use Rattle.ax_model.specs.Plain.{kind_tree, slots_tree, value_tree, values_tree, entries_tree};
-ghost use Rattle.ax_model.specs.Shape.{Shape, EachShape};
-ghost use Rattle.ax_model.specs.Tree.{counted, explicit, compound, occurrences, content_octets, marked};
+ghost use Rattle.ax_format.specs.Canonical.{canon, each_canon, entries_canon};
+ghost use Rattle.ax_format.specs.InBounds.{InBounds};
+ghost use Rattle.ax_format.specs.Lengths.{slot_kind};
+ghost use Rattle.ax_format.specs.Plain.{kind_tree, slots_tree, value_tree, values_tree, entries_tree};
+ghost use Rattle.ax_format.specs.Shape.{Shape, EachShape};
+ghost use Rattle.ax_format.specs.Tree.{counted, explicit, compound, occurrences, content_octets, marked};
 ghost use Rattle.ax_values.specs.Writing.{EntryShape, entry_canon, AreEntriesOf};
 
 use crate::marks::entry_marks;
 use crate::write_units::{write_fixed, write_parts, write_run};
 use ax_bits::Out;
+use ax_format::{Counter, Entries, Entry, Kind, Octets, Slots, Value, Values, subitem_kind};
 use ax_fspec::write_presence;
-use ax_model::{Counter, Entries, Entry, Kind, Octets, Slots, Value, Values, subitem_kind};
 
 /// Appends the canonical spelling of a value of a kind.
 #[cycle(write_value)]

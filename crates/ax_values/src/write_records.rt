@@ -2,19 +2,19 @@
 ghost use Rattle.std.specs.Prelude.{◌≡◌, ◌≤◌, length};
 ghost use Rattle.std.specs.List.{AllByRecursion};
 ghost use Rattle.ax_bits.specs.Out.{Appends, room};
-ghost use Rattle.ax_model.specs.Bodies.{RecordShape, CanonRecord, CanonBody};
-ghost use Rattle.ax_model.specs.Canonical.{entries_canon};
-ghost use Rattle.ax_model.specs.Flaws.{NoFlaw};
-ghost use Rattle.ax_model.specs.Lengths.{slot_kind};
-ghost use Rattle.ax_model.specs.Plain.{spec_tree, value_tree, entries_tree, record_tree, records_tree};
-ghost use Rattle.ax_model.specs.Specification.{record_slots};
+ghost use Rattle.ax_format.specs.Bodies.{RecordShape, CanonRecord, CanonBody};
+ghost use Rattle.ax_format.specs.Canonical.{entries_canon};
+ghost use Rattle.ax_format.specs.Flaws.{NoFlaw};
+ghost use Rattle.ax_format.specs.Lengths.{slot_kind};
+ghost use Rattle.ax_format.specs.Plain.{spec_tree, value_tree, entries_tree, record_tree, records_tree};
+ghost use Rattle.ax_format.specs.Specification.{record_slots};
 ghost use Rattle.ax_values.specs.Writing.{EntryShape, entry_canon, AreEntriesOf};
 
 use crate::marks::entry_marks;
 use crate::write_kinds::write_value;
 use ax_bits::Out;
+use ax_format::{Entries, Entry, Record, Records};
 use ax_fspec::write_presence;
-use ax_model::{Entries, Entry, Record, Records};
 use ax_uap::UapItems;
 
 /// Appends the canonical spellings of records, in order.

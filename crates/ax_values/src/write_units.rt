@@ -3,15 +3,15 @@
 ghost use Rattle.std.specs.Prelude.{◌≡◌, ◌^◌, ◌<◌, ◌≤◌, length, map, [], ◌∷◌};
 ghost use Rattle.ax_bits.specs.Bits.{word};
 ghost use Rattle.ax_bits.specs.Out.{Appends, room};
-ghost use Rattle.ax_model.specs.Canonical.{number_canon, fixed_canon, members_canon, parts_canon, run_canon};
-ghost use Rattle.ax_model.specs.InBounds.{IsWidth, FixedInBounds, MembersInBounds, PartsInBounds};
-ghost use Rattle.ax_model.specs.Plain.{fixed_tree, member_tree, members_tree, part_tree, value_tree, values_tree, lists_tree};
-ghost use Rattle.ax_model.specs.Shape.{NumberShape, FixedShape, MembersShape, PartsShape, EachShape};
-ghost use Rattle.ax_model.specs.Tree.{member_and, no_members, value_and, no_values};
-ghost use Rattle.ax_reader.specs.Reading.{fx_bit};
+ghost use Rattle.ax_format.specs.Canonical.{number_canon, fixed_canon, members_canon, parts_canon, run_canon};
+ghost use Rattle.ax_format.specs.InBounds.{IsWidth, FixedInBounds, MembersInBounds, PartsInBounds};
+ghost use Rattle.ax_format.specs.Plain.{fixed_tree, member_tree, members_tree, part_tree, value_tree, values_tree, lists_tree};
+ghost use Rattle.ax_format.specs.Shape.{NumberShape, FixedShape, MembersShape, PartsShape, EachShape};
+ghost use Rattle.ax_format.specs.Tree.{member_and, no_members, value_and, no_values};
+ghost use Rattle.ax_fspec.specs.Reading.{fx_bit};
 
 use ax_bits::Out;
-use ax_model::{Fixed, LastPart, Lists, Member, Members, Parts, Value, Values};
+use ax_format::{Fixed, LastPart, Lists, Member, Members, Parts, Value, Values};
 
 /// Appends the number of an element or a spare.
 #[tactic(auto, using(crate::proofs::Written::numbers))]

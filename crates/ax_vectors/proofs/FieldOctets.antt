@@ -5,8 +5,8 @@ use Rattle.std.proofs.lemmas.Bool.{cases_lt}
 use Rattle.std.proofs.lemmas.Bool.Decides.{nat_tests}
 use Rattle.ax_bits.specs.Bits.{AreBits}
 use Rattle.ax_fspec.proofs.FieldsWritten.{marks_after_is}
-use Rattle.ax_model.proofs.Least.{rests-AreBits}
-use Rattle.ax_model.specs.Presence.{octets_needed, first_mark, later_marks, none_marked, marks_after, marks_upto, least_presence}
+use Rattle.ax_format.proofs.Least.{rests-AreBits}
+use Rattle.ax_format.specs.Presence.{octets_needed, first_mark, later_marks, none_marked, marks_after, marks_upto, least_presence}
 use Rattle.ax_vectors.specs.Draws.{drawn, next_state}
 use Rattle.ax_vectors.specs.Made.{mark_made, fx_before, least_octets, octets_spare, field_of, field_made}
 use Rattle.ax_vectors.specs.Making.{Maker, just, by_draw, Adds}

@@ -3,13 +3,13 @@ use Rattle.std.proofs.Common.{◌≡◌, ℕ, suc, ◌+◌, ◌-◌, ◌%◌, �
 use Rattle.std.proofs.lemmas.List.{length-map}
 use Rattle.std.proofs.lemmas.Nat.{mod_below}
 use Rattle.ax_bits.specs.Bits.{word}
-use Rattle.ax_model.specs.Plain.{part_tree}
-use Rattle.ax_model.specs.Tree.{FixedTree, MembersTree, KindTree, extended, counted, by_fx, explicit}
-use Rattle.ax_model.specs.Widths.{counter_width}
-use Rattle.ax_model.specs.declared.kind.Counter.{Counter}
-use Rattle.ax_model.specs.declared.kind.Counter.TheVariants.{One, Two}
-use Rattle.ax_model.specs.declared.kind.LastPart.{LastPart}
-use Rattle.ax_model.specs.declared.kind.Part.{Part}
+use Rattle.ax_format.specs.Plain.{part_tree}
+use Rattle.ax_format.specs.Tree.{FixedTree, MembersTree, KindTree, extended, counted, by_fx, explicit}
+use Rattle.ax_format.specs.Widths.{counter_width}
+use Rattle.ax_format.specs.declared.kind.Counter.{Counter}
+use Rattle.ax_format.specs.declared.kind.Counter.TheVariants.{One, Two}
+use Rattle.ax_format.specs.declared.kind.LastPart.{LastPart}
+use Rattle.ax_format.specs.declared.kind.Part.{Part}
 use Rattle.ax_vectors.proofs.FieldOctets.{is_below, is_not_below}
 use Rattle.ax_vectors.proofs.Left.{Left, left_whole, left_step, left_none, adds_just, adds_both}
 use Rattle.ax_vectors.specs.Draws.{drawn, next_state}

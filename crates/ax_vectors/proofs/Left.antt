@@ -4,14 +4,14 @@ use Rattle.std.proofs.lemmas.List.{drop_all, length-map}
 use Rattle.std.proofs.lemmas.Nat.{mul-add-lt, pow-add, pow_pos}
 use Rattle.std.proofs.Math.Nat.{pow-le-pow_right}
 use Rattle.ax_bits.specs.Bits.{word}
-use Rattle.ax_model.specs.InBounds.{MembersInBounds, PartsInBounds}
-use Rattle.ax_model.specs.Plain.{member_tree, members_tree, part_tree}
-use Rattle.ax_model.specs.Tree.{FixedTree, MemberTree, named, spare, MembersTree, member_and, no_members}
-use Rattle.ax_model.proofs.Completions.{fx_few}
-use Rattle.ax_model.specs.Widths.{fx_width}
-use Rattle.ax_model.specs.declared.kind.LastPart.{LastPart}
-use Rattle.ax_model.specs.declared.kind.Member.{Member}
-use Rattle.ax_model.specs.declared.kind.Part.{Part}
+use Rattle.ax_format.specs.InBounds.{MembersInBounds, PartsInBounds}
+use Rattle.ax_format.specs.Plain.{member_tree, members_tree, part_tree}
+use Rattle.ax_format.specs.Tree.{FixedTree, MemberTree, named, spare, MembersTree, member_and, no_members}
+use Rattle.ax_format.proofs.Completions.{fx_few}
+use Rattle.ax_format.specs.Widths.{fx_width}
+use Rattle.ax_format.specs.declared.kind.LastPart.{LastPart}
+use Rattle.ax_format.specs.declared.kind.Member.{Member}
+use Rattle.ax_format.specs.declared.kind.Part.{Part}
 use Rattle.ax_vectors.specs.Made.{members_made, fixed_made, joined, draws_needed, number_made, fx_before, parts_made, run_made}
 use Rattle.ax_vectors.specs.Draws.{drawn, next_state}
 use Rattle.ax_vectors.specs.Making.{Maker, just, both, Adds}

@@ -1,7 +1,7 @@
-pub mod Pushing
-pub mod Left
 pub mod FieldOctets
 pub mod KindDraws
+pub mod Left
+pub mod Pushing
+pub mod RecordDraws
 pub mod SlotDraws
 pub mod Spelled
-pub mod RecordDraws

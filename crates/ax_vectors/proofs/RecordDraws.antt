@@ -5,26 +5,26 @@ use Rattle.std.proofs.lemmas.Bool.{ltb-false}
 use Rattle.std.proofs.lemmas.Bool.Decides.{nat_tests}
 use Rattle.ax_bits.proofs.Pieces.{number-word}
 use Rattle.ax_bits.specs.Bits.{word, bits, AreOctets}
-use Rattle.ax_model.proofs.Bounds.{record_bounds, record_slot_count, bounds_whole}
-use Rattle.ax_model.proofs.CanonFramed.{bits-octets_of, framed_is, length-framed}
-use Rattle.ax_model.proofs.Lookups.{uap_slot_tree}
-use Rattle.ax_model.proofs.SpelledBits.{records_bits}
-use Rattle.ax_model.proofs.WholeOctets.{two_whole, spells_whole}
-use Rattle.ax_model.specs.Blocks.{SpellsBlock, read_block}
-use Rattle.ax_model.specs.Bodies.{SpellsRecord, RecordsSpell, SpellsBody}
-use Rattle.ax_model.specs.CanonicalOctets.{octets_of, framed}
-use Rattle.ax_model.specs.Flaws.{NoFlaw}
-use Rattle.ax_model.specs.InBounds.{InBounds, SlotsInBounds}
-use Rattle.ax_model.specs.Lengths.{kind_of_slot}
-use Rattle.ax_model.specs.Lookup.{item_of_slot}
-use Rattle.ax_model.specs.Plain.{item_tree, kind_tree, spec_tree}
-use Rattle.ax_model.specs.Presence.{Presence, octets_needed, none_marked, later_marks}
-use Rattle.ax_model.specs.Specification.{SpecTree, slot_of_item, uap_slot, record_slots, record_kind}
-use Rattle.ax_model.specs.Spelling.{Spells, EntriesSpell}
-use Rattle.ax_model.specs.Tree.{KindTree, SlotTree, spare_slot, subitem, SlotsTree, slot_and, no_slots, defined_slots, slot_count, ValueTree, marked, EntriesTree, no_entries}
-use Rattle.ax_model.specs.declared.spec.Item.{Item}
-use Rattle.ax_model.specs.declared.spec.Spec.{Spec}
-use Rattle.ax_model.specs.declared.spec.UapSlot.{UapSlot}
+use Rattle.ax_format.proofs.Bounds.{record_bounds, record_slot_count, bounds_whole}
+use Rattle.ax_format.proofs.CanonFramed.{bits-octets_of, framed_is, length-framed}
+use Rattle.ax_format.proofs.Lookups.{uap_slot_tree}
+use Rattle.ax_format.proofs.SpelledBits.{records_bits}
+use Rattle.ax_format.proofs.WholeOctets.{two_whole, spells_whole}
+use Rattle.ax_format.specs.Blocks.{SpellsBlock, read_block}
+use Rattle.ax_format.specs.Bodies.{SpellsRecord, RecordsSpell, SpellsBody}
+use Rattle.ax_format.specs.CanonicalOctets.{octets_of, framed}
+use Rattle.ax_format.specs.Flaws.{NoFlaw}
+use Rattle.ax_format.specs.InBounds.{InBounds, SlotsInBounds}
+use Rattle.ax_format.specs.Lengths.{kind_of_slot}
+use Rattle.ax_format.specs.Lookup.{item_of_slot}
+use Rattle.ax_format.specs.Plain.{item_tree, kind_tree, spec_tree}
+use Rattle.ax_format.specs.Presence.{Presence, octets_needed, none_marked, later_marks}
+use Rattle.ax_format.specs.Specification.{SpecTree, slot_of_item, uap_slot, record_slots, record_kind}
+use Rattle.ax_format.specs.Spelling.{Spells, EntriesSpell}
+use Rattle.ax_format.specs.Tree.{KindTree, SlotTree, spare_slot, subitem, SlotsTree, slot_and, no_slots, defined_slots, slot_count, ValueTree, marked, EntriesTree, no_entries}
+use Rattle.ax_format.specs.declared.spec.Item.{Item}
+use Rattle.ax_format.specs.declared.spec.Spec.{Spec}
+use Rattle.ax_format.specs.declared.spec.UapSlot.{UapSlot}
 use Rattle.ax_vectors.proofs.FieldOctets.{is_below, is_not_below}
 use Rattle.ax_vectors.proofs.Left.{adds_just}
 use Rattle.ax_vectors.proofs.Spelled.{kind_spelled}
@@ -32,7 +32,7 @@ use Rattle.ax_vectors.proofs.SlotDraws.{slots_adds}
 use Rattle.ax_vectors.specs.Draws.{drawn, next_state}
 use Rattle.ax_vectors.specs.Made.{marks_made, field_made, values_made, value_where, kind_made, makers, record_made, records_made, block_of, block_made, IsSpelledBlock}
 use Rattle.ax_vectors.specs.Making.{Maker, times, Adds}
-use Rattle.ax_model.proofs.Unmarked.{none_first, none_later}
+use Rattle.ax_format.proofs.Unmarked.{none_first, none_later}
 
 at_most : (m n : ℕ) → nat_lt m n ≡ false → n ≤ m
 at_most m n e = ltb-false m n e

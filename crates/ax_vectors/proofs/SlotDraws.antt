@@ -3,12 +3,12 @@ use Rattle.std.proofs.Common.{◌≡◌, ℕ, suc, ◌+◌, ◌≤◌, ◌==◌,
 use Rattle.std.proofs.lemmas.List.{drop_all, length-map}
 use Rattle.std.specs.Option.{option_map}
 use Rattle.ax_bits.specs.Bits.{AreBits}
-use Rattle.ax_model.proofs.Bounds.{count_of_slots}
-use Rattle.ax_model.specs.InBounds.{InBounds, SlotsInBounds}
-use Rattle.ax_model.specs.Lengths.{kind_of_slot}
-use Rattle.ax_model.specs.Plain.{slot_tree, slots_tree}
-use Rattle.ax_model.specs.Tree.{SlotTree, spare_slot, subitem, SlotsTree, no_slots, slot_and, slots_of, defined_slots, slot_count, compound}
-use Rattle.ax_model.specs.declared.kind.Slot.{Slot}
+use Rattle.ax_format.proofs.Bounds.{count_of_slots}
+use Rattle.ax_format.specs.InBounds.{InBounds, SlotsInBounds}
+use Rattle.ax_format.specs.Lengths.{kind_of_slot}
+use Rattle.ax_format.specs.Plain.{slot_tree, slots_tree}
+use Rattle.ax_format.specs.Tree.{SlotTree, spare_slot, subitem, SlotsTree, no_slots, slot_and, slots_of, defined_slots, slot_count, compound}
+use Rattle.ax_format.specs.declared.kind.Slot.{Slot}
 use Rattle.ax_vectors.proofs.Left.{Left, left_whole, left_step, left_none, adds_both}
 use Rattle.ax_vectors.specs.Made.{marks_made, field_made, value_where, values_made, marked_made, slots_made, kind_made, makers}
 use Rattle.ax_vectors.specs.Making.{Maker, Adds}

@@ -2,19 +2,19 @@
 use Rattle.std.proofs.Common.{◌≡◌, ℕ, zero, suc, ◌+◌, ◌*◌, ◌%◌, ◌^◌, ◌<◌, ◌≤◌, ◌==◌, nat_lt, inl, inr, Bool, true, false, cond, IsTrue, List, [], ◌∷◌, ◌++◌, length, Some, None, refl, sym, ◌∙◌, ap, subst, arith, append-nil}
 use Rattle.std.proofs.lemmas.Nat.{mod_below, pow_pos}
 use Rattle.ax_bits.specs.Bits.{word, bits, AreBits, AreOctets}
-use Rattle.ax_model.proofs.Least.{Alike, entries_alike, length-rests-le, length-marked, rests-AreBits}
-use Rattle.ax_model.specs.InBounds.{InBounds, SlotsInBounds}
-use Rattle.ax_model.specs.Presence.{Presence, octets_needed, later_marks, none_marked, marks_upto, marks_after, least_presence}
-use Rattle.ax_model.specs.Spelling.{NumberSpells, FixedSpells, MembersSpell, PartsSpell, RunSpells, EachSpells, Spells, EntriesSpell}
-use Rattle.ax_model.specs.Tree.{FixedTree, element, group, MembersTree, no_members, member_and, named, spare, KindTree, fixed, extended, counted, by_fx, explicit, compound, SlotsTree, no_slots, slot_and, spare_slot, subitem, slot_count, defined_slots, ValueTree, number, member_values, part_values, occurrences, content_octets, marked, ValuesTree, no_values, value_and, value_count, ListsTree, no_lists, list_and, EntriesTree, no_entries, entry_and}
-use Rattle.ax_model.specs.Widths.{counter_width, fx_width}
-use Rattle.ax_model.specs.declared.kind.Counter.{Counter}
-use Rattle.ax_model.specs.declared.kind.LastPart.{LastPart}
+use Rattle.ax_format.proofs.Least.{Alike, entries_alike, length-rests-le, length-marked, rests-AreBits}
+use Rattle.ax_format.specs.InBounds.{InBounds, SlotsInBounds}
+use Rattle.ax_format.specs.Presence.{Presence, octets_needed, later_marks, none_marked, marks_upto, marks_after, least_presence}
+use Rattle.ax_format.specs.Spelling.{NumberSpells, FixedSpells, MembersSpell, PartsSpell, RunSpells, EachSpells, Spells, EntriesSpell}
+use Rattle.ax_format.specs.Tree.{FixedTree, element, group, MembersTree, no_members, member_and, named, spare, KindTree, fixed, extended, counted, by_fx, explicit, compound, SlotsTree, no_slots, slot_and, spare_slot, subitem, slot_count, defined_slots, ValueTree, number, member_values, part_values, occurrences, content_octets, marked, ValuesTree, no_values, value_and, value_count, ListsTree, no_lists, list_and, EntriesTree, no_entries, entry_and}
+use Rattle.ax_format.specs.Widths.{counter_width, fx_width}
+use Rattle.ax_format.specs.declared.kind.Counter.{Counter}
+use Rattle.ax_format.specs.declared.kind.LastPart.{LastPart}
 use Rattle.ax_vectors.proofs.KindDraws.{no_count_fits, drawn_count_fits}
 use Rattle.ax_vectors.specs.Draws.{drawn, next_state}
 use Rattle.ax_vectors.specs.Made.{joined, draws_needed, number_made, fixed_made, members_made, parts_made, run_made, octet_made, marks_made, least_octets, octets_spare, field_of, field_made, value_where, values_made, counted_made, kind_made, makers}
 use Rattle.ax_vectors.specs.Making.{Maker, just, both, times, by_draw}
-use Rattle.ax_model.proofs.Unmarked.{none_later}
+use Rattle.ax_format.proofs.Unmarked.{none_later}
 
 -- ---- fixed kinds
 

@@ -1,3 +1,4 @@
+pub mod Digits
 pub mod Draws
-pub mod Making
 pub mod Made
+pub mod Making

@@ -1,15 +1,15 @@
 -- What is made under a kind, over a specification, and as data blocks: the bits of a spelling, and the octets of blocks.
 use Rattle.std.specs.Prelude.{ℕ, zero, suc, ◌+◌, ◌-◌, ◌*◌, ◌/◌, ◌%◌, ◌^◌, ◌==◌, nat_lt, Bool, true, false, if◌then◌else◌, List, [], ◌∷◌, ◌++◌, length, Option, Some, None}
 use Rattle.ax_bits.specs.Bits.{word}
-use Rattle.ax_model.specs.Blocks.{SpellsBlock, read_block}
-use Rattle.ax_model.specs.CanonicalOctets.{octets_of, framed}
-use Rattle.ax_model.specs.Presence.{octets_needed, first_mark, later_marks, marks_upto, marks_after, least_presence}
-use Rattle.ax_model.specs.Sizes.{longest_block}
-use Rattle.ax_model.specs.Specification.{SpecTree, record_kind}
-use Rattle.ax_model.specs.Widths.{counter_width, fx_width}
-use Rattle.ax_model.specs.declared.kind.Counter.{Counter}
-use Rattle.ax_model.specs.declared.kind.LastPart.{LastPart}
-use Rattle.ax_model.specs.Tree.{FixedTree, element, group, MemberTree, MembersTree, no_members, member_and, named, spare, KindTree, fixed, extended, counted, by_fx, explicit, compound, SlotsTree, no_slots, slot_and, spare_slot, subitem, defined_slots, EntriesTree}
+use Rattle.ax_format.specs.Blocks.{SpellsBlock, read_block}
+use Rattle.ax_format.specs.CanonicalOctets.{octets_of, framed}
+use Rattle.ax_format.specs.Presence.{octets_needed, first_mark, later_marks, marks_upto, marks_after, least_presence}
+use Rattle.ax_format.specs.Sizes.{longest_block}
+use Rattle.ax_format.specs.Specification.{SpecTree, record_kind}
+use Rattle.ax_format.specs.Widths.{counter_width, fx_width}
+use Rattle.ax_format.specs.declared.kind.Counter.{Counter}
+use Rattle.ax_format.specs.declared.kind.LastPart.{LastPart}
+use Rattle.ax_format.specs.Tree.{FixedTree, element, group, MemberTree, MembersTree, no_members, member_and, named, spare, KindTree, fixed, extended, counted, by_fx, explicit, compound, SlotsTree, no_slots, slot_and, spare_slot, subitem, defined_slots, EntriesTree}
 use Rattle.ax_vectors.specs.Draws.{drawn, next_state}
 use Rattle.ax_vectors.specs.Making.{Maker, just, both, times, by_draw}
 

@@ -2,14 +2,14 @@
 ghost use Rattle.std.specs.Prelude.{◌≡◌, ◌+◌, ◌*◌, ◌%◌, ◌<◌, ◌≤◌, ◌==◌, [], ◌∷◌, length, map, IfOk, OnOk};
 ghost use Rattle.std.specs.Option.{option_copied, option_map};
 ghost use Rattle.ax_bits.specs.Bits.{AreBits, AreOctets, bits};
-ghost use Rattle.ax_model.specs.CanonicalOctets.{framed};
-ghost use Rattle.ax_model.specs.InBounds.{SlotsInBounds};
-ghost use Rattle.ax_model.specs.Lengths.{kind_of_slot};
-ghost use Rattle.ax_model.specs.OfCode.{HasNoFlaw};
-ghost use Rattle.ax_model.specs.Plain.{item_tree, kind_tree, spec_tree};
-ghost use Rattle.ax_model.specs.Sizes.{longest_body};
-ghost use Rattle.ax_model.specs.Specification.{uap_slot, record_slots};
-ghost use Rattle.ax_model.specs.Tree.{slot_and, no_slots, defined_slots};
+ghost use Rattle.ax_format.specs.CanonicalOctets.{framed};
+ghost use Rattle.ax_format.specs.InBounds.{SlotsInBounds};
+ghost use Rattle.ax_format.specs.Lengths.{kind_of_slot};
+ghost use Rattle.ax_format.specs.OfCode.{HasNoFlaw};
+ghost use Rattle.ax_format.specs.Plain.{item_tree, kind_tree, spec_tree};
+ghost use Rattle.ax_format.specs.Sizes.{longest_body};
+ghost use Rattle.ax_format.specs.Specification.{uap_slot, record_slots};
+ghost use Rattle.ax_format.specs.Tree.{slot_and, no_slots, defined_slots};
 ghost use Rattle.ax_vectors.specs.Made.{marks_made, value_where, values_made, kind_made, makers, record_made, records_made, block_of, block_made, IsSpelledBlock};
 ghost use Rattle.ax_vectors.specs.Making.{Adds, times};
 
@@ -18,7 +18,7 @@ use crate::draws::Draws;
 use crate::field::{draw_mark, make_field};
 use crate::kinds::make_value;
 use ax_check::Accepted;
-use ax_model::{Kind, Spec, UapSlot};
+use ax_format::{Kind, Spec, UapSlot};
 use std::alloc::{AllocError, Global};
 
 /// The kind of the item of a slot of the UAP. None comes exactly where the slot is spare.

@@ -1,7 +1,7 @@
 //! Presence fields drawn.
 ghost use Rattle.std.specs.Prelude.{◌≡◌, ◌+◌, ◌-◌, ◌*◌, ◌/◌, ◌<◌, ◌≤◌, ◌++◌, [], ◌∷◌, get_or, not, length, IfOk, OnOk};
 ghost use Rattle.ax_bits.specs.Bits.{AreBits};
-ghost use Rattle.ax_model.specs.Presence.{first_mark, marks_upto, marks_after, none_marked};
+ghost use Rattle.ax_format.specs.Presence.{first_mark, marks_upto, marks_after, none_marked};
 ghost use Rattle.ax_vectors.specs.Made.{mark_made, least_octets, field_of, field_made};
 ghost use Rattle.ax_vectors.specs.Making.{Adds};
 

@@ -1,14 +1,14 @@
 //! Fixed kinds drawn: elements, spares and groups, the parts of extended items, occurrences by FX.
 ghost use Rattle.std.specs.Prelude.{◌≡◌, ◌+◌, ◌*◌, ◌%◌, ◌^◌, ◌<◌, ◌≤◌, ◌++◌, [], ◌∷◌, length, map, OnOk};
-ghost use Rattle.ax_model.specs.InBounds.{IsWidth, FixedInBounds, MembersInBounds, PartsInBounds};
-ghost use Rattle.ax_model.specs.Plain.{fixed_tree, member_tree, members_tree, part_tree};
-ghost use Rattle.ax_model.specs.Tree.{member_and, no_members};
+ghost use Rattle.ax_format.specs.InBounds.{IsWidth, FixedInBounds, MembersInBounds, PartsInBounds};
+ghost use Rattle.ax_format.specs.Plain.{fixed_tree, member_tree, members_tree, part_tree};
+ghost use Rattle.ax_format.specs.Tree.{member_and, no_members};
 ghost use Rattle.ax_vectors.specs.Made.{joined, draws_needed, number_made, fixed_made, member_made, members_made, fx_before, parts_made, run_made};
 ghost use Rattle.ax_vectors.specs.Making.{Adds};
 
 use crate::bit_string::BitString;
 use crate::draws::Draws;
-use ax_model::{Fixed, LastPart, Member, Members, Parts};
+use ax_format::{Fixed, LastPart, Member, Members, Parts};
 use std::alloc::AllocError;
 
 // How many numbers a draw may answer.

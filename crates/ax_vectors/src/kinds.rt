@@ -2,11 +2,11 @@
 ghost use Rattle.std.specs.Prelude.{◌≡◌, ◌+◌, ◌^◌, ◌<◌, ◌≤◌, ◌==◌, [], ◌∷◌, ◌++◌, length, map, IfOk, OnOk};
 ghost use Rattle.std.specs.Option.{option_map};
 ghost use Rattle.ax_bits.specs.Bits.{AreBits, word};
-ghost use Rattle.ax_model.specs.InBounds.{InBounds, SlotsInBounds};
-ghost use Rattle.ax_model.specs.Lengths.{kind_of_slot};
-ghost use Rattle.ax_model.specs.Plain.{kind_tree, part_tree, fixed_tree, slot_tree, slots_tree};
-ghost use Rattle.ax_model.specs.Tree.{slot_and, no_slots, defined_slots, extended, counted, by_fx, explicit, compound};
-ghost use Rattle.ax_model.specs.Widths.{counter_width};
+ghost use Rattle.ax_format.specs.InBounds.{InBounds, SlotsInBounds};
+ghost use Rattle.ax_format.specs.Lengths.{kind_of_slot};
+ghost use Rattle.ax_format.specs.Plain.{kind_tree, part_tree, fixed_tree, slot_tree, slots_tree};
+ghost use Rattle.ax_format.specs.Tree.{slot_and, no_slots, defined_slots, extended, counted, by_fx, explicit, compound};
+ghost use Rattle.ax_format.specs.Widths.{counter_width};
 ghost use Rattle.ax_vectors.specs.Made.{marks_made, octet_made, content_made, value_where, values_made, kind_made, makers};
 ghost use Rattle.ax_vectors.specs.Making.{Adds, times};
 
@@ -14,7 +14,7 @@ use crate::bit_string::BitString;
 use crate::draws::Draws;
 use crate::field::{draw_mark, make_field};
 use crate::fixed::{make_fixed, make_parts, make_run};
-use ax_model::{Counter, Fixed, Kind, LastPart, Parts, Slot, Slots};
+use ax_format::{Counter, Fixed, Kind, LastPart, Parts, Slot, Slots};
 use std::alloc::{AllocError, Global};
 
 /// Puts what is drawn under a kind after the bits, where so many counted or wide kinds enclose it.

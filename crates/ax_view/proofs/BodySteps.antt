@@ -3,27 +3,27 @@ use Rattle.std.proofs.Common.{◌≡◌, ℕ, zero, suc, ◌+◌, ◌-◌, ◌<�
 use Rattle.std.proofs.lemmas.List.{length-take-le, take_all, append_cancel_right}
 use Rattle.ax_bits.proofs.Words.{bits-append, length-bits}
 use Rattle.ax_bits.specs.Bits.{bits}
-use Rattle.ax_model.proofs.BodyReader.{compound_some}
-use Rattle.ax_model.proofs.Bounds.{record_bounds}
-use Rattle.ax_model.proofs.Once.{body_once}
-use Rattle.ax_model.specs.Bodies.{SpellsRecord, RecordsSpell, SpellsBody, CanonRecord, CanonBody}
-use Rattle.ax_model.specs.Canonical.{canon}
-use Rattle.ax_model.specs.Flaws.{NoFlaw}
-use Rattle.ax_model.specs.InBounds.{InBounds}
-use Rattle.ax_model.specs.Specification.{SpecTree, record_kind, record_slots}
-use Rattle.ax_model.specs.Spelling.{Spells}
-use Rattle.ax_model.specs.Tree.{SlotsTree, ValueTree, marked, EntriesTree, compound, slots_of}
-use Rattle.ax_model.specs.declared.fault.BodyFault.{BodyFault}
-use Rattle.ax_tables.proofs.BareKinds.{bare_read, bare_canon, stands_record}
-use Rattle.ax_tables.specs.Standing.{StandsFor}
-use Rattle.ax_tables.specs.Meaning.{meanings, linked_slots}
-use Rattle.ax_tables.specs.Table.{record_kind_at}
-use Rattle.ax_tables.specs.declared.codec.Codec.{Codec}
-use Rattle.ax_tables.specs.declared.node.Node.{Node}
-use Rattle.ax_reader.proofs.AtOctets.{octets_parts}
-use Rattle.ax_reader.proofs.Exact.{spelled_at, fault_at}
-use Rattle.ax_reader.proofs.Honest.{body_honest}
-use Rattle.ax_reader.specs.Reading.{Gets, FailsAt, kind_read}
+use Rattle.ax_format.proofs.BodyReader.{compound_some}
+use Rattle.ax_format.proofs.Bounds.{record_bounds}
+use Rattle.ax_format.proofs.Once.{body_once}
+use Rattle.ax_format.specs.Bodies.{SpellsRecord, RecordsSpell, SpellsBody, CanonRecord, CanonBody}
+use Rattle.ax_format.specs.Canonical.{canon}
+use Rattle.ax_format.specs.Flaws.{NoFlaw}
+use Rattle.ax_format.specs.InBounds.{InBounds}
+use Rattle.ax_format.specs.Specification.{SpecTree, record_kind, record_slots}
+use Rattle.ax_format.specs.Spelling.{Spells}
+use Rattle.ax_format.specs.Tree.{SlotsTree, ValueTree, marked, EntriesTree, compound, slots_of}
+use Rattle.ax_format.specs.declared.fault.BodyFault.{BodyFault}
+use Rattle.ax_codec.proofs.BareKinds.{bare_read, bare_canon, stands_record}
+use Rattle.ax_codec.specs.Standing.{StandsFor}
+use Rattle.ax_codec.specs.Meaning.{meanings, linked_slots}
+use Rattle.ax_codec.specs.Table.{record_kind_at}
+use Rattle.ax_codec.specs.declared.codec.Codec.{Codec}
+use Rattle.ax_codec.specs.declared.node.Node.{Node}
+use Rattle.ax_fspec.proofs.AtOctets.{octets_parts}
+use Rattle.ax_fspec.proofs.Exact.{spelled_at, fault_at}
+use Rattle.ax_fspec.proofs.Honest.{body_honest}
+use Rattle.ax_fspec.specs.Reading.{Gets, FailsAt, kind_read}
 use Rattle.ax_view.specs.Views.{IsLeast, SpellsSome, FailsThere, IsHonestThere}
 use Rattle.ax_view.specs.Walking.{Walks}
 

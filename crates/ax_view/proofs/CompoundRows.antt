@@ -2,8 +2,8 @@
 use Rattle.std.proofs.Common.{◌≡◌, ℕ, zero, suc, ◌+◌, ◌-◌, ◌<◌, ◌≤◌, List, [], ◌∷◌, length, get_or, sym, ap, subst, arith}
 use Rattle.ax_rows.specs.Rows.{AreRows}
 use Rattle.ax_rows.specs.declared.slot_rows.SlotRows.{SlotRows}
-use Rattle.ax_tables.specs.NodeRows.{AreNodeRows, EachRows, node_slots}
-use Rattle.ax_tables.specs.declared.node.Node.{Node}
+use Rattle.ax_codec.specs.NodeRows.{AreNodeRows, EachRows, node_slots}
+use Rattle.ax_codec.specs.declared.node.Node.{Node}
 
 rows_at : (octets : List ℕ) (ns : List Node) (rs : List SlotRows) (i : ℕ) (one : Node) (r : SlotRows) → EachRows octets ns rs → i < length rs → one ≡ get_or ns i one → r ≡ get_or rs i r → AreNodeRows octets one r
 rows_at octets ns [] i one r h lt is at = absurd (omega (arith, lt))

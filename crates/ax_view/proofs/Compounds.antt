@@ -3,18 +3,18 @@ use Rattle.std.proofs.Common.{ℕ, ◌*◌, Bool, Option, Some, None, IfSome, If
 use Rattle.ax_bits.specs.Bits.{AreOctets}
 use Rattle.ax_fspec.specs.Fields.{MarksSlots, FailsToMark}
 use Rattle.ax_fspec.specs.declared.mask.SlotMask.{SlotMask}
-use Rattle.ax_model.proofs.Meets.{NoneUndefined-append}
-use Rattle.ax_model.proofs.Spelled.{unmarked}
-use Rattle.ax_model.specs.Canonical.{canon}
-use Rattle.ax_model.specs.InBounds.{InBounds, SlotsInBounds}
-use Rattle.ax_model.specs.Presence.{NoneUndefined, slots_past}
-use Rattle.ax_model.specs.Tree.{SlotTree, slots_of, defined_slots}
-use Rattle.ax_model.specs.declared.fault.BodyFault.{BodyFault}
-use Rattle.ax_tables.specs.Meaning.{meanings, linked_slots}
-use Rattle.ax_tables.specs.Table.{record_kind_at}
-use Rattle.ax_tables.specs.declared.node.Node.{Node}
-use Rattle.ax_reader.proofs.Marking.{field_failed}
-use Rattle.ax_reader.specs.Reading.{FailsAt, IsMaskOf, kind_read, entries_at}
+use Rattle.ax_format.proofs.Meets.{NoneUndefined-append}
+use Rattle.ax_format.proofs.Spelled.{unmarked}
+use Rattle.ax_format.specs.Canonical.{canon}
+use Rattle.ax_format.specs.InBounds.{InBounds, SlotsInBounds}
+use Rattle.ax_format.specs.Presence.{NoneUndefined, slots_past}
+use Rattle.ax_format.specs.Tree.{SlotTree, slots_of, defined_slots}
+use Rattle.ax_format.specs.declared.fault.BodyFault.{BodyFault}
+use Rattle.ax_codec.specs.Meaning.{meanings, linked_slots}
+use Rattle.ax_codec.specs.Table.{record_kind_at}
+use Rattle.ax_codec.specs.declared.node.Node.{Node}
+use Rattle.ax_fspec.proofs.Marking.{field_failed}
+use Rattle.ax_fspec.specs.Reading.{FailsAt, IsMaskOf, kind_read, entries_at}
 use Rattle.ax_view.proofs.FieldSteps.{field_leads}
 use Rattle.ax_view.specs.Walking.{Walks, Leads, along, NeedsLast}
 

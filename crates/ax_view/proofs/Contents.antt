@@ -1,20 +1,20 @@
 -- The content of an explicit item.
 use Rattle.std.proofs.Common.{◌≡◌, ℕ, suc, ◌-◌, ◌<◌, ◌≤◌, ◌⊎◌, inl, inr, Bool, true, false, Some, None, List, length, take, drop, get_or, refl, sym, ◌∙◌, ap, arith, subst}
 use Rattle.ax_bits.specs.Bits.{bits, number_of, AreOctets}
-use Rattle.ax_model.specs.Presence.{octets_needed}
-use Rattle.ax_model.specs.Reader.{Read, got, failed, after, read, entries_read, marked_read, presence_read, Split, short, cut, split, fixed_value, fixed_read, parts_read, each_read, count_read, run_read}
-use Rattle.ax_model.specs.Tree.{FixedTree, element, group, KindTree, fixed, extended, counted, by_fx, explicit, compound, ValueTree, part_values, occurrences, content_octets, marked, EntriesTree, slots_of, slot_count, defined_slots}
-use Rattle.ax_model.specs.Widths.{width, counter_width}
-use Rattle.ax_model.specs.declared.content.Content.TheVariants.{Raw}
-use Rattle.ax_model.specs.declared.fault.BodyCause.TheVariants.{RunsOut, BadExplicitLength}
-use Rattle.ax_model.specs.declared.fault.BodyFault.{BodyFault}
-use Rattle.ax_reader.proofs.Counting.{explicit_none, explicit_bad, explicit_short, explicit_gets, octets_part}
-use Rattle.ax_reader.specs.Reading.{Gets, kind_read}
-use Rattle.ax_tables.specs.Meaning.{meanings, linked, fixed_of, linked_members, linked_parts, linked_slots}
-use Rattle.ax_tables.specs.Table.{kind_at, record_kind_at}
-use Rattle.ax_tables.specs.declared.codec.Codec.{Codec}
-use Rattle.ax_tables.specs.declared.node.Node.{Node}
-use Rattle.ax_tables.specs.declared.node.Node.TheVariants as Of
+use Rattle.ax_format.specs.Presence.{octets_needed}
+use Rattle.ax_format.specs.Reader.{Read, got, failed, after, read, entries_read, marked_read, presence_read, Split, short, cut, split, fixed_value, fixed_read, parts_read, each_read, count_read, run_read}
+use Rattle.ax_format.specs.Tree.{FixedTree, element, group, KindTree, fixed, extended, counted, by_fx, explicit, compound, ValueTree, part_values, occurrences, content_octets, marked, EntriesTree, slots_of, slot_count, defined_slots}
+use Rattle.ax_format.specs.Widths.{width, counter_width}
+use Rattle.ax_format.specs.declared.content.Content.TheVariants.{Raw}
+use Rattle.ax_format.specs.declared.fault.BodyCause.TheVariants.{RunsOut, BadExplicitLength}
+use Rattle.ax_format.specs.declared.fault.BodyFault.{BodyFault}
+use Rattle.ax_fspec.proofs.Counting.{explicit_none, explicit_bad, explicit_short, explicit_gets, octets_part}
+use Rattle.ax_fspec.specs.Reading.{Gets, kind_read}
+use Rattle.ax_codec.specs.Meaning.{meanings, linked, fixed_of, linked_members, linked_parts, linked_slots}
+use Rattle.ax_codec.specs.Table.{kind_at, record_kind_at}
+use Rattle.ax_codec.specs.declared.codec.Codec.{Codec}
+use Rattle.ax_codec.specs.declared.node.Node.{Node}
+use Rattle.ax_codec.specs.declared.node.Node.TheVariants as Of
 use Rattle.ax_view.proofs.Found.{read_all}
 use Rattle.ax_view.proofs.ItemSteps.{le_or_less}
 use Rattle.ax_view.proofs.NodeKinds.{is_element, is_group, no_part, is_extended, is_counted, is_by_fx, is_explicit, is_compound}

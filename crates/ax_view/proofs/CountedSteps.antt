@@ -2,16 +2,16 @@
 use Rattle.std.proofs.Common.{◌≡◌, ℕ, zero, suc, ◌+◌, ◌-◌, ◌*◌, ◌<◌, ◌≤◌, Bool, IsTrue, List, ◌++◌, length, drop, refl, sym, ◌∙◌, ap, arith, subst, append_assoc}
 use Rattle.ax_bits.proofs.Pieces.{number-word}
 use Rattle.ax_bits.specs.Bits.{bits, word, number_of}
-use Rattle.ax_model.proofs.FixedKinds.{SplitIs, split_is}
-use Rattle.ax_model.proofs.WholeOctets.{counter_in_octets}
-use Rattle.ax_model.specs.Reader.{Read, got, failed, after, both, read, each_read, count_read, split}
-use Rattle.ax_model.specs.Canonical.{canon, each_canon}
-use Rattle.ax_model.specs.Tree.{KindTree, ValueTree, ValuesTree, counted, occurrences, no_values, value_and, value_count}
-use Rattle.ax_model.specs.Widths.{counter_octets, counter_width}
-use Rattle.ax_model.specs.declared.fault.BodyFault.{BodyFault}
-use Rattle.ax_model.specs.declared.kind.Counter.{Counter}
-use Rattle.ax_reader.proofs.Counting.{front_count}
-use Rattle.ax_reader.specs.Reading.{FailsAt, IsCount, kind_read}
+use Rattle.ax_format.proofs.FixedKinds.{SplitIs, split_is}
+use Rattle.ax_format.proofs.WholeOctets.{counter_in_octets}
+use Rattle.ax_format.specs.Reader.{Read, got, failed, after, both, read, each_read, count_read, split}
+use Rattle.ax_format.specs.Canonical.{canon, each_canon}
+use Rattle.ax_format.specs.Tree.{KindTree, ValueTree, ValuesTree, counted, occurrences, no_values, value_and, value_count}
+use Rattle.ax_format.specs.Widths.{counter_octets, counter_width}
+use Rattle.ax_format.specs.declared.fault.BodyFault.{BodyFault}
+use Rattle.ax_format.specs.declared.kind.Counter.{Counter}
+use Rattle.ax_fspec.proofs.Counting.{front_count}
+use Rattle.ax_fspec.specs.Reading.{FailsAt, IsCount, kind_read}
 use Rattle.ax_view.proofs.Leading.{leads_on, leads_by}
 use Rattle.ax_view.specs.Walking.{Walks, Leads}
 

@@ -5,16 +5,16 @@ use Rattle.std.proofs.lemmas.List.{take_at, drop_at, drop_all, length-take-le, n
 use Rattle.ax_bits.proofs.Pieces.{take-bits, drop-bits}
 use Rattle.ax_bits.proofs.Words.{length-bits, length-word}
 use Rattle.ax_bits.specs.Bits.{bits, word}
-use Rattle.ax_model.proofs.Bounds.{bounds_whole}
-use Rattle.ax_model.proofs.FixedKinds.{members_length, fixed_length}
-use Rattle.ax_model.proofs.Spelled.{read_spelled}
-use Rattle.ax_model.proofs.WholeOctets.{spells_whole}
-use Rattle.ax_model.specs.InBounds.{InBounds, PartInBounds, PartsInBounds}
-use Rattle.ax_model.specs.Reader.{got, read}
-use Rattle.ax_model.specs.Spelling.{MembersSpell, FixedSpells, PartsSpell, RunSpells, EachSpells, Spells}
-use Rattle.ax_model.specs.Tree.{FixedTree, MembersTree, KindTree, fixed, ValueTree, ValuesTree, no_values, value_and, value_count, ListsTree, no_lists, list_and}
-use Rattle.ax_model.specs.Widths.{width, members_width, fx_width}
-use Rattle.ax_model.specs.declared.kind.LastPart.{LastPart}
+use Rattle.ax_format.proofs.Bounds.{bounds_whole}
+use Rattle.ax_format.proofs.FixedKinds.{members_length, fixed_length}
+use Rattle.ax_format.proofs.Spelled.{read_spelled}
+use Rattle.ax_format.proofs.WholeOctets.{spells_whole}
+use Rattle.ax_format.specs.InBounds.{InBounds, PartInBounds, PartsInBounds}
+use Rattle.ax_format.specs.Reader.{got, read}
+use Rattle.ax_format.specs.Spelling.{MembersSpell, FixedSpells, PartsSpell, RunSpells, EachSpells, Spells}
+use Rattle.ax_format.specs.Tree.{FixedTree, MembersTree, KindTree, fixed, ValueTree, ValuesTree, no_values, value_and, value_count, ListsTree, no_lists, list_and}
+use Rattle.ax_format.specs.Widths.{width, members_width, fx_width}
+use Rattle.ax_format.specs.declared.kind.LastPart.{LastPart}
 use Rattle.ax_view.specs.Pieces.{octets_taken, first_size, pieces, ArePieces, part_pieces, ArePartPieces, part_size, part_sizes}
 use Rattle.ax_view.specs.Shown.{PartsAre, fx_before, values_list}
 use Rattle.ax_view.specs.Values.{IsAll, IsOne, IsWithFx, IsItemOf, value_read, value_in}

@@ -10,19 +10,19 @@ use Rattle.ax_bits.specs.Bits.{bits, word, AreBits}
 use Rattle.ax_fspec.proofs.Sets.{length-seven}
 use Rattle.ax_fspec.specs.Marks.{seven, slots_from}
 use Rattle.ax_fspec.specs.Marks as Marks
-use Rattle.ax_model.proofs.Bounds.{count_of_slots}
-use Rattle.ax_model.proofs.Meets.{Meets, MarksAre, presence_bits, presence_meets}
-use Rattle.ax_model.specs.At.{slot_value}
-use Rattle.ax_model.specs.InBounds.{InBounds, SlotsInBounds}
-use Rattle.ax_model.specs.Failing.{PresenceFails}
-use Rattle.ax_model.specs.Presence.{Presence, octets_needed, first_mark, later_marks, NoneUndefined}
-use Rattle.ax_model.specs.Reader.{Read, got, failed, after, both, read, entries_read, mark_read, marked_read, presence_read}
-use Rattle.ax_model.specs.Tree.{ValueTree, marked, EntriesTree, entry_and, SlotsTree, no_slots, slot_and, spare_slot, subitem, slots_of, slot_count, defined_slots}
-use Rattle.ax_reader.proofs.AtOctets.{octets_parts}
-use Rattle.ax_reader.specs.Reading.{entries_at}
-use Rattle.ax_tables.specs.Meaning.{meanings, linked_slot, linked_slots}
-use Rattle.ax_tables.specs.Table.{record_kind_at}
-use Rattle.ax_tables.specs.declared.node.Node.{Node}
+use Rattle.ax_format.proofs.Bounds.{count_of_slots}
+use Rattle.ax_format.proofs.Meets.{Meets, MarksAre, presence_bits, presence_meets}
+use Rattle.ax_format.specs.At.{slot_value}
+use Rattle.ax_format.specs.InBounds.{InBounds, SlotsInBounds}
+use Rattle.ax_format.specs.Failing.{PresenceFails}
+use Rattle.ax_format.specs.Presence.{Presence, octets_needed, first_mark, later_marks, NoneUndefined}
+use Rattle.ax_format.specs.Reader.{Read, got, failed, after, both, read, entries_read, mark_read, marked_read, presence_read}
+use Rattle.ax_format.specs.Tree.{ValueTree, marked, EntriesTree, entry_and, SlotsTree, no_slots, slot_and, spare_slot, subitem, slots_of, slot_count, defined_slots}
+use Rattle.ax_fspec.proofs.AtOctets.{octets_parts}
+use Rattle.ax_fspec.specs.Reading.{entries_at}
+use Rattle.ax_codec.specs.Meaning.{meanings, linked_slot, linked_slots}
+use Rattle.ax_codec.specs.Table.{record_kind_at}
+use Rattle.ax_codec.specs.declared.node.Node.{Node}
 use Rattle.ax_view.proofs.FieldRows.{field_presence}
 use Rattle.ax_view.proofs.Found.{Left, not_same}
 use Rattle.ax_view.proofs.MarkedSteps.{NextMarked, next_marked}

@@ -3,17 +3,17 @@ use Rattle.std.proofs.Common.{◌≡◌, ℕ, zero, suc, ◌+◌, ◌-◌, ◌<�
 use Rattle.std.proofs.Math.Nat.{le-max_left, le-max_right}
 use Rattle.ax_bits.specs.Bits.{bits, AreBits}
 use Rattle.ax_fspec.specs.Marks as Marks
-use Rattle.ax_model.specs.Canonical.{canon}
-use Rattle.ax_model.specs.Plain.{value_step, entry_step, value_tree, entry_tree, entries_tree}
-use Rattle.ax_model.specs.Presence.{NoneUndefined}
-use Rattle.ax_model.specs.Tree.{KindTree, ValueTree, EntriesTree, no_entries, entry_and, entries_of, SlotTree, slots_of, defined_slots}
-use Rattle.ax_model.specs.declared.value.Entry.{Entry, fold_out-Entry}
-use Rattle.ax_model.specs.declared.value.Value.{Value}
+use Rattle.ax_format.specs.Canonical.{canon}
+use Rattle.ax_format.specs.Plain.{value_step, entry_step, value_tree, entry_tree, entries_tree}
+use Rattle.ax_format.specs.Presence.{NoneUndefined}
+use Rattle.ax_format.specs.Tree.{KindTree, ValueTree, EntriesTree, no_entries, entry_and, entries_of, SlotTree, slots_of, defined_slots}
+use Rattle.ax_format.specs.declared.value.Entry.{Entry, fold_out-Entry}
+use Rattle.ax_format.specs.declared.value.Value.{Value}
 use Rattle.ax_fspec.proofs.Walks.{no_next_slot}
-use Rattle.ax_reader.specs.Reading.{kind_read, entries_at}
-use Rattle.ax_tables.specs.Meaning.{meanings, linked_slots}
-use Rattle.ax_tables.specs.Table.{kind_at}
-use Rattle.ax_tables.specs.declared.node.Node.{Node}
+use Rattle.ax_fspec.specs.Reading.{kind_read, entries_at}
+use Rattle.ax_codec.specs.Meaning.{meanings, linked_slots}
+use Rattle.ax_codec.specs.Table.{kind_at}
+use Rattle.ax_codec.specs.declared.node.Node.{Node}
 use Rattle.ax_view.proofs.FixedTrees.{maps_end}
 use Rattle.ax_view.proofs.Found.{Left, all_got, left_first, left_next, found, next_alone}
 use Rattle.ax_view.proofs.ItemTrees.{links_shown}

@@ -8,13 +8,13 @@ use Rattle.ax_fspec.proofs.Sets.{length-seven}
 use Rattle.ax_fspec.specs.Fields.{mask_slots, MarksSlots}
 use Rattle.ax_fspec.specs.Marks.{seven}
 use Rattle.ax_fspec.specs.declared.mask.SlotMask.{SlotMask}
-use Rattle.ax_model.proofs.Meets.{NoneUndefined-append}
-use Rattle.ax_model.specs.Failing.{IsPresence}
-use Rattle.ax_model.specs.Presence.{Presence, octets_needed, none_marked, NoneUndefined, slots_past}
-use Rattle.ax_model.specs.Tree.{slots_of, defined_slots}
-use Rattle.ax_reader.specs.Reading.{IsMaskOf}
+use Rattle.ax_format.proofs.Meets.{NoneUndefined-append}
+use Rattle.ax_format.specs.Failing.{IsPresence}
+use Rattle.ax_format.specs.Presence.{Presence, octets_needed, none_marked, NoneUndefined, slots_past}
+use Rattle.ax_format.specs.Tree.{slots_of, defined_slots}
+use Rattle.ax_fspec.specs.Reading.{IsMaskOf}
 use Rattle.ax_rows.specs.Rows.{HaveRow}
-use Rattle.ax_tables.specs.Meaning.{Meaning, linked_slot, linked_slots}
+use Rattle.ax_codec.specs.Meaning.{Meaning, linked_slot, linked_slots}
 use Rattle.ax_view.specs.Rows.{IsField, HaveRows, marks_of, slots_at}
 
 -- ---- the bits of presence octets

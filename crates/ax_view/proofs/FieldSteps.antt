@@ -8,18 +8,18 @@ use Rattle.ax_fspec.proofs.FieldLaws.{least_alike, alike_set}
 use Rattle.ax_fspec.proofs.FieldsWritten.{least_true, least_false}
 use Rattle.ax_fspec.specs.Fields.{MarksSlots}
 use Rattle.ax_fspec.specs.declared.mask.SlotMask.{SlotMask}
-use Rattle.ax_model.proofs.Bounds.{bounds_sound, count_of_slots}
-use Rattle.ax_model.proofs.Least.{later_slot, here, not_here, marks_of_spelled}
-use Rattle.ax_model.proofs.Meets.{Meets, entries_meets}
-use Rattle.ax_model.specs.Canonical.{canon, marks_of, entries_canon}
-use Rattle.ax_model.specs.Failing.{EntriesFail}
-use Rattle.ax_model.specs.InBounds.{InBounds}
-use Rattle.ax_model.specs.Presence.{Presence, octets_needed, none_marked, later_marks, least_presence, NoneUndefined}
-use Rattle.ax_model.specs.Spelling.{EntriesSpell}
-use Rattle.ax_model.specs.Tree.{EntriesTree, no_entries, entry_and, SlotsTree, no_slots, slot_and, SlotTree, spare_slot, subitem, slots_of, slot_count, defined_slots, compound, marked}
-use Rattle.ax_reader.proofs.AtOctets.{octets_parts}
-use Rattle.ax_reader.proofs.Marking.{field_read, marks_bits}
-use Rattle.ax_reader.specs.Reading.{Gets, IsMaskOf, kind_read, entries_at}
+use Rattle.ax_format.proofs.Bounds.{bounds_sound, count_of_slots}
+use Rattle.ax_format.proofs.Least.{later_slot, here, not_here, marks_of_spelled}
+use Rattle.ax_format.proofs.Meets.{Meets, entries_meets}
+use Rattle.ax_format.specs.Canonical.{canon, marks_of, entries_canon}
+use Rattle.ax_format.specs.Failing.{EntriesFail}
+use Rattle.ax_format.specs.InBounds.{InBounds}
+use Rattle.ax_format.specs.Presence.{Presence, octets_needed, none_marked, later_marks, least_presence, NoneUndefined}
+use Rattle.ax_format.specs.Spelling.{EntriesSpell}
+use Rattle.ax_format.specs.Tree.{EntriesTree, no_entries, entry_and, SlotsTree, no_slots, slot_and, SlotTree, spare_slot, subitem, slots_of, slot_count, defined_slots, compound, marked}
+use Rattle.ax_fspec.proofs.AtOctets.{octets_parts}
+use Rattle.ax_fspec.proofs.Marking.{field_read, marks_bits}
+use Rattle.ax_fspec.specs.Reading.{Gets, IsMaskOf, kind_read, entries_at}
 use Rattle.ax_view.proofs.Leading.{leads_by}
 use Rattle.ax_view.specs.Walking.{Leads, along, along_mark, NeedsLast}
 

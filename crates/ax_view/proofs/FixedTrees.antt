@@ -4,18 +4,18 @@ use Rattle.std.proofs.Math.Nat.{le-max_left, le-max_right, max-le}
 use Rattle.std.proofs.lemmas.List.{drop-drop}
 use Rattle.ax_bits.proofs.Pieces.{number-word}
 use Rattle.ax_bits.specs.Bits.{bits, word, number_of}
-use Rattle.ax_model.specs.InBounds.{FixedInBounds, MembersInBounds}
-use Rattle.ax_model.specs.Plain.{value_tree, values_tree}
-use Rattle.ax_model.specs.Reader.{fixed_value, members_value}
-use Rattle.ax_model.specs.Tree.{element, group, ValueTree, number, member_values, ValuesTree, no_values, value_and, values_of}
-use Rattle.ax_model.specs.Widths.{width, members_width}
-use Rattle.ax_model.specs.declared.content.Content.TheVariants.{Raw}
-use Rattle.ax_model.specs.declared.value.Value.{Value}
-use Rattle.ax_tables.proofs.Tables.{link_means, kind_right}
-use Rattle.ax_tables.specs.Meaning.{meaning, meanings, linked, fixed_of, part_of, linked_members}
-use Rattle.ax_tables.specs.Table.{IsTable, IsNode, LinksWithin}
-use Rattle.ax_tables.specs.declared.node.Node.{Node}
-use Rattle.ax_tables.specs.declared.node.Node.TheVariants as Of
+use Rattle.ax_format.specs.InBounds.{FixedInBounds, MembersInBounds}
+use Rattle.ax_format.specs.Plain.{value_tree, values_tree}
+use Rattle.ax_format.specs.Reader.{fixed_value, members_value}
+use Rattle.ax_format.specs.Tree.{element, group, ValueTree, number, member_values, ValuesTree, no_values, value_and, values_of}
+use Rattle.ax_format.specs.Widths.{width, members_width}
+use Rattle.ax_format.specs.declared.content.Content.TheVariants.{Raw}
+use Rattle.ax_format.specs.declared.value.Value.{Value}
+use Rattle.ax_codec.proofs.Tables.{link_means, kind_right}
+use Rattle.ax_codec.specs.Meaning.{meaning, meanings, linked, fixed_of, part_of, linked_members}
+use Rattle.ax_codec.specs.Table.{IsTable, IsNode, LinksWithin}
+use Rattle.ax_codec.specs.declared.node.Node.{Node}
+use Rattle.ax_codec.specs.declared.node.Node.TheVariants as Of
 use Rattle.ax_view.proofs.MarkedSteps.{greatest}
 use Rattle.ax_view.proofs.NodeKinds.{links_more}
 use Rattle.ax_view.specs.Shown.{values_list}

@@ -3,32 +3,32 @@ use Rattle.std.proofs.Common.{◌≡◌, ℕ, zero, suc, ◌-◌, ◌*◌, ◌<�
 use Rattle.std.proofs.lemmas.List.{length-take-le, get_or_default}
 use Rattle.std.proofs.lemmas.Bool.{eqb-true}
 use Rattle.ax_bits.specs.Bits.{bits, number_of, AreBits}
-use Rattle.ax_model.specs.Widths.{width, counter_width}
-use Rattle.ax_model.specs.declared.content.Content.TheVariants.{Raw}
+use Rattle.ax_format.specs.Widths.{width, counter_width}
+use Rattle.ax_format.specs.declared.content.Content.TheVariants.{Raw}
 use Rattle.ax_fspec.proofs.Walks.{no_next_slot}
 use Rattle.ax_fspec.specs.Fields.{MarksSlots, FailsToMark}
 use Rattle.ax_fspec.specs.Marks as Marks
 use Rattle.ax_fspec.specs.declared.mask.SlotMask.{SlotMask}
-use Rattle.ax_model.proofs.Least as Least
-use Rattle.ax_model.specs.Reader.{Read, got, failed, after, both, read, entries_read, Split, short, cut, split, fixed_value, fixed_read, parts_read, each_read, count_read, run_read, octets_read, contents_read, explicit_read}
-use Rattle.ax_model.proofs.Spelled.{read_spelled}
-use Rattle.ax_model.specs.Canonical.{canon}
-use Rattle.ax_model.specs.InBounds.{InBounds}
-use Rattle.ax_model.specs.Presence.{NoneUndefined}
-use Rattle.ax_model.specs.Tree.{FixedTree, element, group, KindTree, fixed, extended, counted, by_fx, explicit, ValueTree, part_values, occurrences, marked, EntriesTree, no_entries, entry_and, SlotTree, slots_of, defined_slots, compound}
-use Rattle.ax_model.specs.declared.fault.BodyCause.{BodyCause}
-use Rattle.ax_model.specs.declared.fault.BodyFault.{BodyFault}
-use Rattle.ax_tables.specs.Meaning.{meanings, linked, fixed_of, linked_members, linked_parts, linked_slots}
-use Rattle.ax_tables.specs.Table.{kind_at, record_kind_at}
-use Rattle.ax_tables.specs.declared.node.Node.{Node}
-use Rattle.ax_tables.specs.declared.node.Node.TheVariants as Of
-use Rattle.ax_reader.proofs.Exact.{spelled_at}
-use Rattle.ax_reader.proofs.Marking.{field_read, field_failed}
-use Rattle.ax_reader.specs.Reading.{Gets, FailsAt, IsMaskOf, kind_read, entries_at}
+use Rattle.ax_format.proofs.Least as Least
+use Rattle.ax_format.specs.Reader.{Read, got, failed, after, both, read, entries_read, Split, short, cut, split, fixed_value, fixed_read, parts_read, each_read, count_read, run_read, octets_read, contents_read, explicit_read}
+use Rattle.ax_format.proofs.Spelled.{read_spelled}
+use Rattle.ax_format.specs.Canonical.{canon}
+use Rattle.ax_format.specs.InBounds.{InBounds}
+use Rattle.ax_format.specs.Presence.{NoneUndefined}
+use Rattle.ax_format.specs.Tree.{FixedTree, element, group, KindTree, fixed, extended, counted, by_fx, explicit, ValueTree, part_values, occurrences, marked, EntriesTree, no_entries, entry_and, SlotTree, slots_of, defined_slots, compound}
+use Rattle.ax_format.specs.declared.fault.BodyCause.{BodyCause}
+use Rattle.ax_format.specs.declared.fault.BodyFault.{BodyFault}
+use Rattle.ax_codec.specs.Meaning.{meanings, linked, fixed_of, linked_members, linked_parts, linked_slots}
+use Rattle.ax_codec.specs.Table.{kind_at, record_kind_at}
+use Rattle.ax_codec.specs.declared.node.Node.{Node}
+use Rattle.ax_codec.specs.declared.node.Node.TheVariants as Of
+use Rattle.ax_fspec.proofs.Exact.{spelled_at}
+use Rattle.ax_fspec.proofs.Marking.{field_read, field_failed}
+use Rattle.ax_fspec.specs.Reading.{Gets, FailsAt, IsMaskOf, kind_read, entries_at}
 use Rattle.ax_view.proofs.MarkedSteps.{NextMarked, no_entries_left}
 use Rattle.ax_view.proofs.NodeKinds.{is_element, is_group, no_part, is_extended, is_counted, is_by_fx, is_explicit, is_compound}
-use Rattle.ax_model.specs.At.{slot_value}
-use Rattle.ax_tables.specs.declared.codec.Codec.{Codec}
+use Rattle.ax_format.specs.At.{slot_value}
+use Rattle.ax_codec.specs.declared.codec.Codec.{Codec}
 use Rattle.ax_view.specs.Values.{IsItem, IsItemOf, ItemInBounds, IsAll, IsGot, IsOne, value_read, entries_found, value_in, entries_in}
 use Rattle.ax_view.specs.InPlace.{StandsInPlace}
 use Rattle.ax_view.specs.Shown.{IsOfSlot, IsSubitem}

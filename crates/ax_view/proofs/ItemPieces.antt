@@ -6,24 +6,24 @@ use Rattle.std.proofs.lemmas.Nat.{div-mul-add}
 use Rattle.ax_bits.proofs.Pieces.{number-word}
 use Rattle.ax_bits.proofs.Words.{length-word}
 use Rattle.ax_bits.specs.Bits.{bits, word, number_of}
-use Rattle.ax_model.specs.Canonical.{canon}
-use Rattle.ax_model.specs.InBounds.{InBounds}
-use Rattle.ax_model.specs.Spelling.{PartsSpell, RunSpells, EachSpells, Spells}
-use Rattle.ax_model.specs.Tree.{FixedTree, KindTree, fixed, extended, counted, by_fx, ValueTree, occurrences, ValuesTree, value_count, part_values}
-use Rattle.ax_model.specs.Widths.{width, members_width, counter_octets, counter_width, fx_width}
-use Rattle.ax_model.specs.declared.fault.BodyCause.TheVariants.{RunsOut}
-use Rattle.ax_model.specs.declared.fault.BodyFault.{BodyFault}
-use Rattle.ax_model.specs.declared.kind.Counter.{Counter}
-use Rattle.ax_model.specs.declared.kind.Counter.TheVariants.{One, Two}
-use Rattle.ax_model.specs.declared.kind.LastPart.{LastPart}
-use Rattle.ax_reader.proofs.Counting.{counted_none}
-use Rattle.ax_reader.specs.Reading.{FailsAt, IsCount, kind_read}
-use Rattle.ax_tables.proofs.Tables.{link_means}
-use Rattle.ax_tables.specs.Meaning.{Meaning, a_fixed, a_part, a_kind, meaning, meanings, linked, fixed_of, kind_of, linked_part, linked_parts}
-use Rattle.ax_tables.specs.Table.{IsTable, kind_at, record_kind_at}
-use Rattle.ax_tables.specs.declared.codec.Codec.{Codec}
-use Rattle.ax_tables.specs.declared.node.Node.{Node}
-use Rattle.ax_tables.specs.declared.node.Node.TheVariants as Of
+use Rattle.ax_format.specs.Canonical.{canon}
+use Rattle.ax_format.specs.InBounds.{InBounds}
+use Rattle.ax_format.specs.Spelling.{PartsSpell, RunSpells, EachSpells, Spells}
+use Rattle.ax_format.specs.Tree.{FixedTree, KindTree, fixed, extended, counted, by_fx, ValueTree, occurrences, ValuesTree, value_count, part_values}
+use Rattle.ax_format.specs.Widths.{width, members_width, counter_octets, counter_width, fx_width}
+use Rattle.ax_format.specs.declared.fault.BodyCause.TheVariants.{RunsOut}
+use Rattle.ax_format.specs.declared.fault.BodyFault.{BodyFault}
+use Rattle.ax_format.specs.declared.kind.Counter.{Counter}
+use Rattle.ax_format.specs.declared.kind.Counter.TheVariants.{One, Two}
+use Rattle.ax_format.specs.declared.kind.LastPart.{LastPart}
+use Rattle.ax_fspec.proofs.Counting.{counted_none}
+use Rattle.ax_fspec.specs.Reading.{FailsAt, IsCount, kind_read}
+use Rattle.ax_codec.proofs.Tables.{link_means}
+use Rattle.ax_codec.specs.Meaning.{Meaning, a_fixed, a_part, a_kind, meaning, meanings, linked, fixed_of, kind_of, linked_part, linked_parts}
+use Rattle.ax_codec.specs.Table.{IsTable, kind_at, record_kind_at}
+use Rattle.ax_codec.specs.declared.codec.Codec.{Codec}
+use Rattle.ax_codec.specs.declared.node.Node.{Node}
+use Rattle.ax_codec.specs.declared.node.Node.TheVariants as Of
 use Rattle.ax_view.proofs.CountedSteps.{counter_front}
 use Rattle.ax_view.proofs.CutSteps.{parts_cut, Cut, each_cut, run_cut}
 use Rattle.ax_view.proofs.Found.{read_all}

@@ -3,25 +3,25 @@ use Rattle.std.proofs.Common.{◌≡◌, ℕ, zero, suc, ◌+◌, ◌-◌, ◌*�
 use Rattle.std.proofs.lemmas.Bool.{eqb-true}
 use Rattle.ax_bits.specs.Bits.{bits, number_of}
 use Rattle.ax_fspec.specs.declared.mask.SlotMask.{SlotMask}
-use Rattle.ax_model.specs.Reader.{Read, got, failed, after, read, entries_read, marked_read, presence_read, Split, short, cut, split, fixed_value, each_read, count_read, run_read, octets_read, contents_read, explicit_read}
-use Rattle.ax_model.specs.InBounds.{InBounds}
-use Rattle.ax_model.specs.Presence.{octets_needed}
-use Rattle.ax_model.specs.Tree.{FixedTree, KindTree, fixed, extended, counted, by_fx, explicit, ValueTree, occurrences, content_octets, marked, EntriesTree, no_entries, slots_of, slot_count, defined_slots}
-use Rattle.ax_model.specs.Widths.{width, counter_width}
-use Rattle.ax_model.specs.declared.kind.LastPart.{LastPart}
-use Rattle.ax_model.specs.declared.fault.BodyCause.TheVariants.{RunsOut}
-use Rattle.ax_model.specs.declared.fault.BodyFault.{BodyFault}
-use Rattle.ax_tables.proofs.Tables.{link_means}
-use Rattle.ax_tables.specs.Meaning.{meaning, meanings, linked, fixed_of, linked_parts, linked_slots}
-use Rattle.ax_tables.specs.Table.{IsTable, kind_at, record_kind_at}
-use Rattle.ax_tables.specs.declared.codec.Codec.{Codec}
-use Rattle.ax_tables.specs.declared.node.Node.{Node}
-use Rattle.ax_tables.specs.declared.node.Node.TheVariants as Of
-use Rattle.ax_reader.proofs.AtOctets.{fixed_gets, fixed_fails}
-use Rattle.ax_reader.specs.Reading.{kind_read}
+use Rattle.ax_format.specs.Reader.{Read, got, failed, after, read, entries_read, marked_read, presence_read, Split, short, cut, split, fixed_value, each_read, count_read, run_read, octets_read, contents_read, explicit_read}
+use Rattle.ax_format.specs.InBounds.{InBounds}
+use Rattle.ax_format.specs.Presence.{octets_needed}
+use Rattle.ax_format.specs.Tree.{FixedTree, KindTree, fixed, extended, counted, by_fx, explicit, ValueTree, occurrences, content_octets, marked, EntriesTree, no_entries, slots_of, slot_count, defined_slots}
+use Rattle.ax_format.specs.Widths.{width, counter_width}
+use Rattle.ax_format.specs.declared.kind.LastPart.{LastPart}
+use Rattle.ax_format.specs.declared.fault.BodyCause.TheVariants.{RunsOut}
+use Rattle.ax_format.specs.declared.fault.BodyFault.{BodyFault}
+use Rattle.ax_codec.proofs.Tables.{link_means}
+use Rattle.ax_codec.specs.Meaning.{meaning, meanings, linked, fixed_of, linked_parts, linked_slots}
+use Rattle.ax_codec.specs.Table.{IsTable, kind_at, record_kind_at}
+use Rattle.ax_codec.specs.declared.codec.Codec.{Codec}
+use Rattle.ax_codec.specs.declared.node.Node.{Node}
+use Rattle.ax_codec.specs.declared.node.Node.TheVariants as Of
+use Rattle.ax_fspec.proofs.AtOctets.{fixed_gets, fixed_fails}
+use Rattle.ax_fspec.specs.Reading.{kind_read}
 use Rattle.ax_view.proofs.Found.{read_all}
 use Rattle.ax_view.proofs.NodeKinds.{is_element, is_group, is_part, is_extended, is_counted, is_by_fx, is_explicit, is_compound}
-use Rattle.ax_model.specs.At.{slot_value, value_at, number_of_value}
+use Rattle.ax_format.specs.At.{slot_value, value_at, number_of_value}
 use Rattle.ax_view.specs.Spots.{IsSpot, IsNoNumber}
 use Rattle.ax_view.specs.Values.{IsAll, IsOne, IsItem, IsItemOf, ItemInBounds, value_read, value_in, entries_in}
 use Rattle.ax_view.specs.declared.spot.Spot.{Spot}

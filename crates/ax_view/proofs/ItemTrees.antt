@@ -5,22 +5,22 @@ use Rattle.std.proofs.lemmas.List.{length-take-le, get_or_default}
 use Rattle.ax_bits.proofs.Words.{bits-AreBits, length-bits}
 use Rattle.ax_bits.specs.Bits.{bits, AreBits}
 use Rattle.ax_fspec.specs.declared.mask.SlotMask.{SlotMask}
-use Rattle.ax_model.proofs.FixedKinds.{split_at, fixed_back}
-use Rattle.ax_model.proofs.Meets.{fixed_all, bits_of}
-use Rattle.ax_model.specs.InBounds.{InBounds, FixedInBounds}
-use Rattle.ax_model.specs.Plain.{value_tree}
-use Rattle.ax_model.specs.Reader.{fixed_value, fixed_read, split, cut}
-use Rattle.ax_model.specs.Tree.{FixedTree, KindTree, fixed, extended, counted, by_fx, explicit, ValueTree, occurrences, content_octets, marked, values_of}
-use Rattle.ax_model.specs.Widths.{width}
-use Rattle.ax_model.specs.declared.kind.Counter.{Counter}
-use Rattle.ax_model.specs.declared.kind.LastPart.{LastPart}
-use Rattle.ax_model.specs.declared.value.Value.{Value}
-use Rattle.ax_tables.proofs.Tables.{link_means, kind_right}
-use Rattle.ax_tables.specs.Meaning.{meaning, meanings, linked, fixed_of, linked_parts}
-use Rattle.ax_tables.specs.Table.{IsNode, LinksWithin, kind_at, record_kind_at}
-use Rattle.ax_tables.specs.declared.codec.Codec.{Codec}
-use Rattle.ax_tables.specs.declared.node.Node.{Node}
-use Rattle.ax_tables.specs.declared.node.Node.TheVariants as Of
+use Rattle.ax_format.proofs.FixedKinds.{split_at, fixed_back}
+use Rattle.ax_format.proofs.Meets.{fixed_all, bits_of}
+use Rattle.ax_format.specs.InBounds.{InBounds, FixedInBounds}
+use Rattle.ax_format.specs.Plain.{value_tree}
+use Rattle.ax_format.specs.Reader.{fixed_value, fixed_read, split, cut}
+use Rattle.ax_format.specs.Tree.{FixedTree, KindTree, fixed, extended, counted, by_fx, explicit, ValueTree, occurrences, content_octets, marked, values_of}
+use Rattle.ax_format.specs.Widths.{width}
+use Rattle.ax_format.specs.declared.kind.Counter.{Counter}
+use Rattle.ax_format.specs.declared.kind.LastPart.{LastPart}
+use Rattle.ax_format.specs.declared.value.Value.{Value}
+use Rattle.ax_codec.proofs.Tables.{link_means, kind_right}
+use Rattle.ax_codec.specs.Meaning.{meaning, meanings, linked, fixed_of, linked_parts}
+use Rattle.ax_codec.specs.Table.{IsNode, LinksWithin, kind_at, record_kind_at}
+use Rattle.ax_codec.specs.declared.codec.Codec.{Codec}
+use Rattle.ax_codec.specs.declared.node.Node.{Node}
+use Rattle.ax_codec.specs.declared.node.Node.TheVariants as Of
 use Rattle.ax_view.proofs.FixedTrees.{values_back}
 use Rattle.ax_view.proofs.ItemPieces.{counted_value, run_value, counted_by, counted_one_by, fx_by, fx_one_by, extended_bounds, extended_one}
 use Rattle.ax_view.proofs.ItemSteps.{fixed_room, is_marked}

@@ -1,9 +1,9 @@
 -- Walks that lead on.
 use Rattle.std.proofs.Common.{◌≡◌, ℕ, ◌≤◌, Option, Some, None, IfNone, Bool, false, IsTrue, List, ◌++◌, length, drop, arith}
 use Rattle.ax_bits.specs.Bits.{bits}
-use Rattle.ax_model.specs.Reader.{Read}
-use Rattle.ax_reader.proofs.Continuing.{gets_after, fails_after}
-use Rattle.ax_reader.specs.Reading.{Gets, Continues}
+use Rattle.ax_format.specs.Reader.{Read}
+use Rattle.ax_fspec.proofs.Continuing.{gets_after, fails_after}
+use Rattle.ax_fspec.specs.Reading.{Gets, Continues}
 use Rattle.ax_view.specs.Walking.{Walks, Leads}
 
 pub leads_none : {A : Type 0} (rule : A → List ℕ) (found : Read A) (body : List ℕ) (at : ℕ) (least : Bool) → at ≤ length body → Leads rule found rule found body at at least

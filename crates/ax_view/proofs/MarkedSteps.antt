@@ -6,17 +6,17 @@ use Rattle.ax_bits.specs.Bits.{bits, AreBits}
 use Rattle.ax_fspec.proofs.Walks.{no_next_slot}
 use Rattle.ax_fspec.specs.Marks.{slots_from}
 use Rattle.ax_fspec.specs.Marks as Marks
-use Rattle.ax_model.proofs.Meets.{none_marked_left}
-use Rattle.ax_model.specs.Reader.{got, both, read, entries_read}
-use Rattle.ax_model.specs.Canonical.{canon}
-use Rattle.ax_model.specs.InBounds.{InBounds, SlotsInBounds}
-use Rattle.ax_model.specs.Presence.{none_marked, NoneUndefined}
-use Rattle.ax_model.specs.Tree.{KindTree, ValueTree, EntriesTree, no_entries, entry_and, SlotsTree, no_slots, slot_and, SlotTree, spare_slot, subitem, slots_of, defined_slots}
-use Rattle.ax_model.specs.declared.fault.BodyFault.{BodyFault}
-use Rattle.ax_tables.specs.Meaning.{Meaning, meanings, nothing, kind_of, linked, linked_slot, linked_slots}
-use Rattle.ax_tables.specs.Table.{SlotLinksWithin, kind_at}
-use Rattle.ax_tables.specs.declared.node.Node.{Node}
-use Rattle.ax_reader.specs.Reading.{FailsAt, kind_read, entries_at}
+use Rattle.ax_format.proofs.Meets.{none_marked_left}
+use Rattle.ax_format.specs.Reader.{got, both, read, entries_read}
+use Rattle.ax_format.specs.Canonical.{canon}
+use Rattle.ax_format.specs.InBounds.{InBounds, SlotsInBounds}
+use Rattle.ax_format.specs.Presence.{none_marked, NoneUndefined}
+use Rattle.ax_format.specs.Tree.{KindTree, ValueTree, EntriesTree, no_entries, entry_and, SlotsTree, no_slots, slot_and, SlotTree, spare_slot, subitem, slots_of, defined_slots}
+use Rattle.ax_format.specs.declared.fault.BodyFault.{BodyFault}
+use Rattle.ax_codec.specs.Meaning.{Meaning, meanings, nothing, kind_of, linked, linked_slot, linked_slots}
+use Rattle.ax_codec.specs.Table.{SlotLinksWithin, kind_at}
+use Rattle.ax_codec.specs.declared.node.Node.{Node}
+use Rattle.ax_fspec.specs.Reading.{FailsAt, kind_read, entries_at}
 use Rattle.ax_view.proofs.Leading.{leads_none, leads_on, leads_by}
 use Rattle.ax_view.specs.Walking.{Walks, Leads, along}
 

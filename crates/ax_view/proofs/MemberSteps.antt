@@ -3,18 +3,18 @@ use Rattle.std.proofs.Common.{◌≡◌, ℕ, zero, suc, ◌+◌, ◌-◌, ◌*�
 use Rattle.std.proofs.lemmas.List.{drop-drop}
 use Rattle.ax_bits.proofs.Pieces.{number-word}
 use Rattle.ax_bits.specs.Bits.{bits, word, number_of}
-use Rattle.ax_model.specs.Reader.{fixed_value, members_value}
-use Rattle.ax_model.specs.InBounds.{FixedInBounds, MembersInBounds}
-use Rattle.ax_model.specs.Tree.{number, FixedTree, element, group}
-use Rattle.ax_model.specs.Widths.{width, members_width}
-use Rattle.ax_model.specs.declared.content.Content.TheVariants.{Raw}
-use Rattle.ax_tables.specs.Meaning.{meaning, meanings, linked, fixed_of, part_of, linked_members}
-use Rattle.ax_tables.specs.Table.{IsTable, IsNode, LinksWithin}
-use Rattle.ax_tables.specs.declared.node.Node.{Node}
-use Rattle.ax_tables.specs.declared.node.Node.TheVariants as Of
-use Rattle.ax_tables.proofs.Tables.{link_means, kind_right}
+use Rattle.ax_format.specs.Reader.{fixed_value, members_value}
+use Rattle.ax_format.specs.InBounds.{FixedInBounds, MembersInBounds}
+use Rattle.ax_format.specs.Tree.{number, FixedTree, element, group}
+use Rattle.ax_format.specs.Widths.{width, members_width}
+use Rattle.ax_format.specs.declared.content.Content.TheVariants.{Raw}
+use Rattle.ax_codec.specs.Meaning.{meaning, meanings, linked, fixed_of, part_of, linked_members}
+use Rattle.ax_codec.specs.Table.{IsTable, IsNode, LinksWithin}
+use Rattle.ax_codec.specs.declared.node.Node.{Node}
+use Rattle.ax_codec.specs.declared.node.Node.TheVariants as Of
+use Rattle.ax_codec.proofs.Tables.{link_means, kind_right}
 use Rattle.ax_view.proofs.NodeKinds.{links_more}
-use Rattle.ax_model.specs.At.{nth_value, value_at, number_of_value}
+use Rattle.ax_format.specs.At.{nth_value, value_at, number_of_value}
 use Rattle.ax_view.specs.Spots.{FindsMember, FindsNone, FindsFixed, FindsNothing}
 
 -- the member that is looked for is the one of number n after `here`

@@ -2,25 +2,25 @@
 use Rattle.std.proofs.Common.{◌≡◌, ℕ, zero, suc, ◌+◌, ◌-◌, ◌*◌, ◌/◌, ◌%◌, ◌==◌, ◌<◌, ◌≤◌, true, false, cond, map, Bool, Option, Some, None, IfSome, IfNone, List, [], ◌∷◌, length, drop, get_or, refl, sym, ◌∙◌, ap, arith, subst}
 use Rattle.std.proofs.lemmas.Bool.{eqb-true}
 use Rattle.ax_bits.specs.Bits.{bits}
-use Rattle.ax_model.specs.Reader.{fixed_value}
-use Rattle.ax_model.specs.Canonical.{canon}
-use Rattle.ax_model.specs.InBounds.{InBounds}
-use Rattle.ax_model.specs.Tree.{FixedTree, element, group, KindTree, fixed, extended, counted, by_fx, explicit, compound, no_slots, slots_of}
-use Rattle.ax_model.specs.Widths.{width}
-use Rattle.ax_model.specs.declared.content.Content.TheVariants.{Raw}
-use Rattle.ax_model.specs.declared.fault.BodyCause.TheVariants.{RunsOut}
-use Rattle.ax_model.specs.declared.fault.BodyFault.{BodyFault}
+use Rattle.ax_format.specs.Reader.{fixed_value}
+use Rattle.ax_format.specs.Canonical.{canon}
+use Rattle.ax_format.specs.InBounds.{InBounds}
+use Rattle.ax_format.specs.Tree.{FixedTree, element, group, KindTree, fixed, extended, counted, by_fx, explicit, compound, no_slots, slots_of}
+use Rattle.ax_format.specs.Widths.{width}
+use Rattle.ax_format.specs.declared.content.Content.TheVariants.{Raw}
+use Rattle.ax_format.specs.declared.fault.BodyCause.TheVariants.{RunsOut}
+use Rattle.ax_format.specs.declared.fault.BodyFault.{BodyFault}
 use Rattle.ax_fspec.specs.declared.mask.SlotMask.{SlotMask}
-use Rattle.ax_model.specs.declared.kind.Counter.{Counter}
-use Rattle.ax_model.specs.declared.kind.LastPart.{LastPart}
-use Rattle.ax_tables.proofs.Tables.{kind_means, kind_right}
-use Rattle.ax_tables.specs.Octets.{octets_of}
-use Rattle.ax_tables.specs.Meaning.{meanings, linked, fixed_of, linked_members, linked_parts, linked_slots}
-use Rattle.ax_tables.specs.Table.{IsTable, LinksWithin, SlotLinksWithin, IsNode, kind_at, record_kind_at}
-use Rattle.ax_tables.specs.declared.node.Node.{Node}
-use Rattle.ax_tables.specs.declared.node.Node.TheVariants as Of
-use Rattle.ax_reader.proofs.AtOctets.{fixed_gets, fixed_fails}
-use Rattle.ax_reader.specs.Reading.{FailsAt, IsMaskOf, kind_read}
+use Rattle.ax_format.specs.declared.kind.Counter.{Counter}
+use Rattle.ax_format.specs.declared.kind.LastPart.{LastPart}
+use Rattle.ax_codec.proofs.Tables.{kind_means, kind_right}
+use Rattle.ax_codec.specs.Octets.{octets_of}
+use Rattle.ax_codec.specs.Meaning.{meanings, linked, fixed_of, linked_members, linked_parts, linked_slots}
+use Rattle.ax_codec.specs.Table.{IsTable, LinksWithin, SlotLinksWithin, IsNode, kind_at, record_kind_at}
+use Rattle.ax_codec.specs.declared.node.Node.{Node}
+use Rattle.ax_codec.specs.declared.node.Node.TheVariants as Of
+use Rattle.ax_fspec.proofs.AtOctets.{fixed_gets, fixed_fails}
+use Rattle.ax_fspec.specs.Reading.{FailsAt, IsMaskOf, kind_read}
 use Rattle.ax_view.proofs.MarkedSteps.{greatest, greatest_within}
 use Rattle.ax_view.proofs.Plain.{plain_walks}
 use Rattle.ax_view.specs.Values.{ItemInBounds}

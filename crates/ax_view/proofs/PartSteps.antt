@@ -1,20 +1,20 @@
 -- Parts that are looked for along an extended or closed item.
 use Rattle.std.proofs.Common.{◌≡◌, ℕ, zero, suc, ◌+◌, ◌-◌, ◌*◌, ◌%◌, ◌<◌, ◌≤◌, ◌⊎◌, inl, inr, None, List, [], ◌∷◌, length, drop, get_or, refl, sym, ◌∙◌, ap, arith, subst, option_and_then}
 use Rattle.ax_bits.specs.Bits.{bits}
-use Rattle.ax_model.specs.Reader.{Read, got, failed, after, fixed_value, members_value, parts_read}
-use Rattle.ax_model.specs.InBounds.{InBounds, PartsInBounds}
-use Rattle.ax_model.specs.Tree.{MembersTree, ValuesTree, ListsTree, no_lists, list_and, part_values, extended}
-use Rattle.ax_model.specs.Widths.{width, members_width, fx_width}
-use Rattle.ax_model.specs.declared.fault.BodyCause.TheVariants.{RunsOut, ExtensionPastEnd}
-use Rattle.ax_model.specs.declared.fault.BodyFault.{BodyFault}
-use Rattle.ax_model.specs.declared.kind.LastPart.{LastPart}
-use Rattle.ax_tables.specs.Meaning.{meanings, linked, fixed_of, part_of, linked_part, linked_parts}
-use Rattle.ax_tables.specs.Table.{LinksWithin}
-use Rattle.ax_tables.specs.declared.node.Node.{Node}
-use Rattle.ax_reader.proofs.AtOctets.{parts_at, fx_or_none, parts_fail, parts_go_on, parts_past_end}
+use Rattle.ax_format.specs.Reader.{Read, got, failed, after, fixed_value, members_value, parts_read}
+use Rattle.ax_format.specs.InBounds.{InBounds, PartsInBounds}
+use Rattle.ax_format.specs.Tree.{MembersTree, ValuesTree, ListsTree, no_lists, list_and, part_values, extended}
+use Rattle.ax_format.specs.Widths.{width, members_width, fx_width}
+use Rattle.ax_format.specs.declared.fault.BodyCause.TheVariants.{RunsOut, ExtensionPastEnd}
+use Rattle.ax_format.specs.declared.fault.BodyFault.{BodyFault}
+use Rattle.ax_format.specs.declared.kind.LastPart.{LastPart}
+use Rattle.ax_codec.specs.Meaning.{meanings, linked, fixed_of, part_of, linked_part, linked_parts}
+use Rattle.ax_codec.specs.Table.{LinksWithin}
+use Rattle.ax_codec.specs.declared.node.Node.{Node}
+use Rattle.ax_fspec.proofs.AtOctets.{parts_at, fx_or_none, parts_fail, parts_go_on, parts_past_end}
 use Rattle.ax_view.proofs.Found.{all_after, not_failed}
 use Rattle.ax_view.proofs.UnitSteps.{EndsParts, GoesOn, last_read_at, unit_at, part_wide as wide_part, part_some as some_octet}
-use Rattle.ax_model.specs.At.{nth_list, nth_value, value_at}
+use Rattle.ax_format.specs.At.{nth_list, nth_value, value_at}
 use Rattle.ax_view.specs.Spots.{lists_in, FindsPart, FindsNoPart, FindsMember, FindsNone, FindsFixed, FindsNothing, IsFixedAt, IsNoNumber}
 use Rattle.ax_view.specs.Values.{IsAll, IsOne, value_read, value_in}
 

@@ -1,17 +1,17 @@
 -- The lists of parts, made one after the other.
 use Rattle.std.proofs.Common.{◌≡◌, ℕ, ◌+◌, ◌-◌, ◌*◌, ◌/◌, ◌%◌, ◌<◌, ◌≤◌, ◌⊎◌, inl, inr, List, [], ◌∷◌, ◌++◌, length, drop, map, refl, sym, ◌∙◌, ap, arith, subst, append-nil, length-append}
 use Rattle.ax_bits.specs.Bits.{bits}
-use Rattle.ax_model.specs.InBounds.{InBounds, MembersInBounds, PartsInBounds}
-use Rattle.ax_model.specs.Plain.{value_tree, values_tree, value_list, lists_tree}
-use Rattle.ax_model.specs.Reader.{members_value, parts_read}
-use Rattle.ax_model.specs.Tree.{MembersTree, ValueTree, part_values, ValuesTree, no_values, value_and, values_of, ListsTree, no_lists, list_and, lists_of, extended}
-use Rattle.ax_model.specs.Widths.{members_width, fx_width}
-use Rattle.ax_model.specs.declared.kind.LastPart.{LastPart}
-use Rattle.ax_model.specs.declared.value.Value.{Value}
-use Rattle.ax_reader.proofs.AtOctets.{parts_at}
-use Rattle.ax_tables.specs.Meaning.{meanings, linked_part, linked_parts}
-use Rattle.ax_tables.specs.Table.{LinksWithin}
-use Rattle.ax_tables.specs.declared.node.Node.{Node}
+use Rattle.ax_format.specs.InBounds.{InBounds, MembersInBounds, PartsInBounds}
+use Rattle.ax_format.specs.Plain.{value_tree, values_tree, value_list, lists_tree}
+use Rattle.ax_format.specs.Reader.{members_value, parts_read}
+use Rattle.ax_format.specs.Tree.{MembersTree, ValueTree, part_values, ValuesTree, no_values, value_and, values_of, ListsTree, no_lists, list_and, lists_of, extended}
+use Rattle.ax_format.specs.Widths.{members_width, fx_width}
+use Rattle.ax_format.specs.declared.kind.LastPart.{LastPart}
+use Rattle.ax_format.specs.declared.value.Value.{Value}
+use Rattle.ax_fspec.proofs.AtOctets.{parts_at}
+use Rattle.ax_codec.specs.Meaning.{meanings, linked_part, linked_parts}
+use Rattle.ax_codec.specs.Table.{LinksWithin}
+use Rattle.ax_codec.specs.declared.node.Node.{Node}
 use Rattle.ax_view.proofs.FixedTrees.{maps_end, list_back}
 use Rattle.ax_view.proofs.Found.{all_after}
 use Rattle.ax_view.proofs.ItemSteps.{le_or_less}

@@ -3,12 +3,12 @@ use Rattle.std.proofs.Common.{◌≡◌, ℕ, zero, suc, ◌+◌, ◌-◌, ◌*�
 use Rattle.std.proofs.lemmas.List.{drop-drop, drop_all}
 use Rattle.ax_bits.proofs.Words.{bits-append}
 use Rattle.ax_bits.specs.Bits.{bits}
-use Rattle.ax_model.proofs.Spelled.{read_spelled}
-use Rattle.ax_model.specs.InBounds.{InBounds}
-use Rattle.ax_model.specs.Reader.{Read, got, failed, read}
-use Rattle.ax_model.specs.Tree.{KindTree, ValueTree}
-use Rattle.ax_model.specs.declared.fault.BodyFault.{BodyFault}
-use Rattle.ax_reader.specs.Reading.{Gets, FailsAt, kind_read}
+use Rattle.ax_format.proofs.Spelled.{read_spelled}
+use Rattle.ax_format.specs.InBounds.{InBounds}
+use Rattle.ax_format.specs.Reader.{Read, got, failed, read}
+use Rattle.ax_format.specs.Tree.{KindTree, ValueTree}
+use Rattle.ax_format.specs.declared.fault.BodyFault.{BodyFault}
+use Rattle.ax_fspec.specs.Reading.{Gets, FailsAt, kind_read}
 use Rattle.ax_view.proofs.Spelled.{all_spelled}
 use Rattle.ax_view.specs.Pieces.{octets_taken, first_size, pieces, ArePieces}
 use Rattle.ax_view.specs.Values.{IsOne, IsItemOf, value_in}

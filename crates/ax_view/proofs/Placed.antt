@@ -4,18 +4,18 @@ use Rattle.std.proofs.lemmas.List.{length-map}
 use Rattle.ax_bits.specs.Bits.{bits}
 use Rattle.ax_fspec.specs.Fields.{MarksSlots}
 use Rattle.ax_fspec.specs.declared.mask.SlotMask.{SlotMask}
-use Rattle.ax_model.proofs.Least as Least
-use Rattle.ax_model.specs.Canonical.{canon}
-use Rattle.ax_model.specs.Presence.{Presence, octets_needed}
-use Rattle.ax_model.specs.Tree.{ValueTree, EntriesTree, no_entries, entry_and, slots_of}
-use Rattle.ax_reader.proofs.Exact.{spelled_at}
-use Rattle.ax_model.specs.Reader.{got}
-use Rattle.ax_reader.specs.Reading.{Gets, IsMaskOf, kind_read, entries_at}
-use Rattle.ax_tables.specs.Meaning.{meanings, linked_slot, linked_slots}
-use Rattle.ax_tables.specs.Table.{kind_at, record_kind_at}
-use Rattle.ax_model.specs.At.{slot_value}
-use Rattle.ax_tables.specs.declared.codec.Codec.{Codec}
-use Rattle.ax_tables.specs.declared.node.Node.{Node}
+use Rattle.ax_format.proofs.Least as Least
+use Rattle.ax_format.specs.Canonical.{canon}
+use Rattle.ax_format.specs.Presence.{Presence, octets_needed}
+use Rattle.ax_format.specs.Tree.{ValueTree, EntriesTree, no_entries, entry_and, slots_of}
+use Rattle.ax_fspec.proofs.Exact.{spelled_at}
+use Rattle.ax_format.specs.Reader.{got}
+use Rattle.ax_fspec.specs.Reading.{Gets, IsMaskOf, kind_read, entries_at}
+use Rattle.ax_codec.specs.Meaning.{meanings, linked_slot, linked_slots}
+use Rattle.ax_codec.specs.Table.{kind_at, record_kind_at}
+use Rattle.ax_format.specs.At.{slot_value}
+use Rattle.ax_codec.specs.declared.codec.Codec.{Codec}
+use Rattle.ax_codec.specs.declared.node.Node.{Node}
 use Rattle.ax_view.proofs.Found.{Left, found, not_same}
 use Rattle.ax_view.proofs.MarkedSteps.{NextMarked}
 use Rattle.ax_view.specs.InPlace.{entries_before, SpellInOrder, FollowsEntries, StandsInPlace}

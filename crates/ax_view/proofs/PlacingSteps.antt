@@ -9,21 +9,21 @@ use Rattle.ax_fspec.specs.Fields.{MarksSlots}
 use Rattle.ax_fspec.specs.Marks.{IsMarked}
 use Rattle.ax_fspec.specs.Marks as Marks
 use Rattle.ax_fspec.specs.declared.mask.SlotMask.{SlotMask}
-use Rattle.ax_model.proofs.Least as Least
-use Rattle.ax_model.proofs.Places.{none_marked_at}
-use Rattle.ax_model.specs.At.{slot_value}
-use Rattle.ax_model.specs.Canonical.{canon}
-use Rattle.ax_model.specs.Reader.{got, both, entries_read}
-use Rattle.ax_model.specs.Tree.{marked, EntriesTree, no_entries, entry_and, slots_of, compound}
-use Rattle.ax_model.specs.declared.fault.BodyFault.{BodyFault}
-use Rattle.ax_reader.proofs.AtOctets.{octets_parts}
-use Rattle.ax_reader.proofs.Continuing.{gets_after}
-use Rattle.ax_reader.proofs.Marking.{field_read}
-use Rattle.ax_reader.specs.Reading.{Gets, FailsAt, Continues, IsMaskOf, kind_read, entries_at}
-use Rattle.ax_tables.specs.Meaning.{meanings, linked_slots}
-use Rattle.ax_tables.specs.Table.{kind_at, record_kind_at}
-use Rattle.ax_tables.specs.declared.node.Node.{Node}
-use Rattle.ax_tables.specs.declared.node.Node.TheVariants as Of
+use Rattle.ax_format.proofs.Least as Least
+use Rattle.ax_format.proofs.Places.{none_marked_at}
+use Rattle.ax_format.specs.At.{slot_value}
+use Rattle.ax_format.specs.Canonical.{canon}
+use Rattle.ax_format.specs.Reader.{got, both, entries_read}
+use Rattle.ax_format.specs.Tree.{marked, EntriesTree, no_entries, entry_and, slots_of, compound}
+use Rattle.ax_format.specs.declared.fault.BodyFault.{BodyFault}
+use Rattle.ax_fspec.proofs.AtOctets.{octets_parts}
+use Rattle.ax_fspec.proofs.Continuing.{gets_after}
+use Rattle.ax_fspec.proofs.Marking.{field_read}
+use Rattle.ax_fspec.specs.Reading.{Gets, FailsAt, Continues, IsMaskOf, kind_read, entries_at}
+use Rattle.ax_codec.specs.Meaning.{meanings, linked_slots}
+use Rattle.ax_codec.specs.Table.{kind_at, record_kind_at}
+use Rattle.ax_codec.specs.declared.node.Node.{Node}
+use Rattle.ax_codec.specs.declared.node.Node.TheVariants as Of
 use Rattle.ax_view.proofs.Found.{alone, not_same, here_is, read_all}
 use Rattle.ax_view.proofs.MarkedSteps.{NextMarked, no_entries_left}
 use Rattle.ax_view.specs.Placing.{HoldsValue, ArePlaced, PlacesEntries, PlacesKind, no_window, window_value}

@@ -1,15 +1,15 @@
 -- Kinds without a presence field have one spelling.
 use Rattle.std.proofs.Common.{◌≡◌, ℕ, ◌-◌, Bool, List, [], ◌∷◌, ◌++◌, length, take, drop, sym, ◌∙◌, ap}
 use Rattle.ax_bits.specs.Bits.{bits, word}
-use Rattle.ax_model.specs.Canonical.{number_canon, fixed_canon, members_canon, parts_canon, run_canon, canon}
-use Rattle.ax_model.specs.InBounds.{InBounds}
-use Rattle.ax_model.specs.Spelling.{NumberSpells, FixedSpells, MembersSpell, PartsSpell, RunSpells, Spells}
-use Rattle.ax_model.specs.Tree.{FixedTree, element, group, MembersTree, no_members, member_and, named, spare, KindTree, fixed, extended, counted, by_fx, explicit, compound, ValueTree, number, member_values, part_values, occurrences, content_octets, ValuesTree, no_values, value_and, ListsTree, no_lists, list_and}
-use Rattle.ax_model.specs.Widths.{fx_width}
-use Rattle.ax_model.specs.declared.kind.LastPart.{LastPart}
-use Rattle.ax_reader.proofs.AtOctets.{octets_parts}
-use Rattle.ax_reader.proofs.Exact.{spelled_at}
-use Rattle.ax_reader.specs.Reading.{Gets, kind_read}
+use Rattle.ax_format.specs.Canonical.{number_canon, fixed_canon, members_canon, parts_canon, run_canon, canon}
+use Rattle.ax_format.specs.InBounds.{InBounds}
+use Rattle.ax_format.specs.Spelling.{NumberSpells, FixedSpells, MembersSpell, PartsSpell, RunSpells, Spells}
+use Rattle.ax_format.specs.Tree.{FixedTree, element, group, MembersTree, no_members, member_and, named, spare, KindTree, fixed, extended, counted, by_fx, explicit, compound, ValueTree, number, member_values, part_values, occurrences, content_octets, ValuesTree, no_values, value_and, ListsTree, no_lists, list_and}
+use Rattle.ax_format.specs.Widths.{fx_width}
+use Rattle.ax_format.specs.declared.kind.LastPart.{LastPart}
+use Rattle.ax_fspec.proofs.AtOctets.{octets_parts}
+use Rattle.ax_fspec.proofs.Exact.{spelled_at}
+use Rattle.ax_fspec.specs.Reading.{Gets, kind_read}
 use Rattle.ax_view.specs.Walking.{Walks}
 use Rattle.ax_view.specs.Plain.{IsPlain}
 

@@ -3,14 +3,14 @@ use Rattle.std.proofs.Common.{◌≡◌, ℕ, zero, suc, ◌-◌, ◌<◌, ◌�
 use Rattle.std.specs.List.{AllZip}
 use Rattle.ax_bits.proofs.Words.{bits-append, length-bits}
 use Rattle.ax_bits.specs.Bits.{bits}
-use Rattle.ax_model.proofs.Once.{body_once}
-use Rattle.ax_model.specs.Bodies.{RecordsSpell, SpellsBody}
-use Rattle.ax_model.specs.Flaws.{NoFlaw}
-use Rattle.ax_model.specs.Specification.{SpecTree}
-use Rattle.ax_model.specs.Tree.{EntriesTree}
-use Rattle.ax_tables.specs.Standing.{StandsFor}
-use Rattle.ax_tables.specs.Table.{record_kind_at}
-use Rattle.ax_tables.specs.declared.codec.Codec.{Codec}
+use Rattle.ax_format.proofs.Once.{body_once}
+use Rattle.ax_format.specs.Bodies.{RecordsSpell, SpellsBody}
+use Rattle.ax_format.specs.Flaws.{NoFlaw}
+use Rattle.ax_format.specs.Specification.{SpecTree}
+use Rattle.ax_format.specs.Tree.{EntriesTree}
+use Rattle.ax_codec.specs.Standing.{StandsFor}
+use Rattle.ax_codec.specs.Table.{record_kind_at}
+use Rattle.ax_codec.specs.declared.codec.Codec.{Codec}
 use Rattle.ax_view.proofs.BodySteps.{some_records}
 use Rattle.ax_view.proofs.PieceSteps.{joined, never_fails, size_is, opened, listed}
 use Rattle.ax_view.proofs.Spelled.{record_spelled}

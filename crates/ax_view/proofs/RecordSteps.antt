@@ -2,11 +2,11 @@
 use Rattle.std.proofs.Common.{ℕ, ◌-◌, ◌≤◌, Bool, List, length, take, drop, subst, sym, ap, ◌∙◌, arith, length-drop, refl}
 use Rattle.std.proofs.lemmas.List.{length-take-le, append_cancel_right}
 use Rattle.ax_bits.specs.Bits.{bits}
-use Rattle.ax_model.specs.Canonical.{canon}
-use Rattle.ax_tables.specs.Table.{record_kind_at}
-use Rattle.ax_tables.specs.declared.codec.Codec.{Codec}
-use Rattle.ax_reader.proofs.AtOctets.{octets_parts}
-use Rattle.ax_reader.specs.Reading.{Gets, kind_read}
+use Rattle.ax_format.specs.Canonical.{canon}
+use Rattle.ax_codec.specs.Table.{record_kind_at}
+use Rattle.ax_codec.specs.declared.codec.Codec.{Codec}
+use Rattle.ax_fspec.proofs.AtOctets.{octets_parts}
+use Rattle.ax_fspec.specs.Reading.{Gets, kind_read}
 use Rattle.ax_view.proofs.Found.{alone}
 use Rattle.ax_view.specs.Noted.{IsLeastRecord}
 use Rattle.ax_view.specs.RecordsAt.{IsRecordAt}

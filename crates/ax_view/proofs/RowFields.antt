@@ -6,19 +6,19 @@ use Rattle.ax_fspec.proofs.FieldLaws.{one_set, prefix_free}
 use Rattle.ax_fspec.specs.Fields.{IsFieldOf, MarksSlots, mask_slots}
 use Rattle.ax_fspec.specs.Marks.{seven}
 use Rattle.ax_fspec.specs.declared.mask.SlotMask.{SlotMask}
-use Rattle.ax_model.specs.Canonical.{canon}
-use Rattle.ax_model.specs.InBounds.{InBounds}
-use Rattle.ax_model.specs.Presence.{octets_needed, none_marked}
-use Rattle.ax_model.specs.Reader.{got}
-use Rattle.ax_model.specs.Tree.{SlotsTree, no_entries}
-use Rattle.ax_reader.proofs.AtOctets.{length-octets, octets_parts}
-use Rattle.ax_reader.specs.Reading.{IsMaskOf, kind_read, entries_at}
+use Rattle.ax_format.specs.Canonical.{canon}
+use Rattle.ax_format.specs.InBounds.{InBounds}
+use Rattle.ax_format.specs.Presence.{octets_needed, none_marked}
+use Rattle.ax_format.specs.Reader.{got}
+use Rattle.ax_format.specs.Tree.{SlotsTree, no_entries}
+use Rattle.ax_fspec.proofs.AtOctets.{length-octets, octets_parts}
+use Rattle.ax_fspec.specs.Reading.{IsMaskOf, kind_read, entries_at}
 use Rattle.ax_rows.specs.Rows.{no_row, HaveRow, IsRow, AreRows}
 use Rattle.ax_rows.specs.declared.step.Step.{Step}
-use Rattle.ax_tables.specs.Meaning.{meanings, linked_slots}
-use Rattle.ax_tables.specs.Table.{SlotLinksWithin, record_kind_at}
-use Rattle.ax_tables.specs.declared.codec.Codec.{Codec}
-use Rattle.ax_tables.specs.declared.node.Node.{Node}
+use Rattle.ax_codec.specs.Meaning.{meanings, linked_slots}
+use Rattle.ax_codec.specs.Table.{SlotLinksWithin, record_kind_at}
+use Rattle.ax_codec.specs.declared.codec.Codec.{Codec}
+use Rattle.ax_codec.specs.declared.node.Node.{Node}
 use Rattle.ax_view.proofs.Compounds.{compound_leads}
 use Rattle.ax_view.proofs.FieldRows.{field_marks, field_marks_slots, none_after, marks_next}
 use Rattle.ax_view.proofs.Leading.{leads_on, leads_none}

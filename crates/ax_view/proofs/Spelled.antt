@@ -1,34 +1,29 @@
 -- What a view's octets spell by the definitions.
-use Rattle.std.proofs.Common.{◌≡◌, ℕ, ◌+◌, ◌*◌, Bool, true, false, List, [], ◌∷◌, ◌++◌, length, take, drop, refl, sym, ◌∙◌, ap, subst, arith, take-append-drop, length-drop}
+use Rattle.std.proofs.Common.{Bool, List, [], ap, arith, drop, false, length, length-drop, refl, subst, sym, take, take-append-drop, true, ℕ, ◌*◌, ◌++◌, ◌+◌, ◌∙◌, ◌∷◌, ◌≡◌}
 use Rattle.std.proofs.lemmas.List.{length-take-le}
-use Rattle.ax_bits.proofs.Words.{length-bits}
-use Rattle.ax_bits.specs.Bits.{AreBits}
-use Rattle.ax_model.proofs.FixedKinds.{split_at}
-use Rattle.ax_model.proofs.Meets.{fixed_all, bits_of}
-use Rattle.ax_model.specs.Reader.{fixed_read, split, cut}
-use Rattle.ax_model.specs.Tree.{FixedTree, fixed, extended, counted, by_fx, explicit, compound}
-use Rattle.ax_model.specs.Widths.{width}
-use Rattle.ax_view.specs.Shown.{SpellsOne, IsSpellingWithFx}
-use Rattle.ax_view.specs.Values.{IsItemOf, ItemInBounds}
-use Rattle.ax_bits.proofs.Words.{bits-AreBits}
-use Rattle.ax_bits.specs.Bits.{bits}
-use Rattle.ax_model.proofs.Bounds.{bounds_sound, record_bounds}
-use Rattle.ax_model.proofs.ByReading.{spelled_by_reading}
-use Rattle.ax_model.specs.Reader.{Read, got, failed, read}
-use Rattle.ax_model.specs.Bodies.{SpellsRecord}
-use Rattle.ax_model.specs.Flaws.{NoFlaw}
-use Rattle.ax_model.specs.InBounds.{InBounds}
-use Rattle.ax_model.specs.Specification.{SpecTree, record_kind}
-use Rattle.ax_model.specs.Spelling.{Spells}
-use Rattle.ax_model.specs.Tree.{KindTree, ValueTree}
-use Rattle.ax_tables.proofs.BareKinds.{bare_read, stands_record}
-use Rattle.ax_tables.specs.Standing.{StandsFor}
-use Rattle.ax_tables.specs.Table.{record_kind_at}
-use Rattle.ax_tables.specs.declared.codec.Codec.{Codec}
+use Rattle.ax_bits.proofs.Words.{bits-AreBits, length-bits}
+use Rattle.ax_bits.specs.Bits.{AreBits, bits}
+use Rattle.ax_format.proofs.FixedKinds.{split_at}
+use Rattle.ax_format.proofs.Meets.{bits_of, fixed_all}
+use Rattle.ax_format.specs.Reader.{Read, cut, failed, fixed_read, got, read, split}
+use Rattle.ax_format.specs.Tree.{FixedTree, KindTree, ValueTree, by_fx, compound, counted, explicit, extended, fixed}
+use Rattle.ax_format.specs.Widths.{width}
+use Rattle.ax_view.specs.Shown.{IsSpellingWithFx, SpellsOne}
+use Rattle.ax_view.specs.Values.{IsAll, IsItemOf, IsOne, IsRecord, ItemInBounds, SpellsAny, entries_in, value_in, value_read}
+use Rattle.ax_format.proofs.Bounds.{bounds_sound, record_bounds}
+use Rattle.ax_format.proofs.ByReading.{spelled_by_reading}
+use Rattle.ax_format.specs.Bodies.{SpellsRecord}
+use Rattle.ax_format.specs.Flaws.{NoFlaw}
+use Rattle.ax_format.specs.InBounds.{InBounds}
+use Rattle.ax_format.specs.Specification.{SpecTree, record_kind}
+use Rattle.ax_format.specs.Spelling.{Spells}
+use Rattle.ax_codec.proofs.BareKinds.{bare_read, stands_record}
+use Rattle.ax_codec.specs.Standing.{StandsFor}
+use Rattle.ax_codec.specs.Table.{record_kind_at}
+use Rattle.ax_codec.specs.declared.codec.Codec.{Codec}
 use Rattle.ax_view.proofs.ItemSteps.{is_marked}
 use Rattle.ax_view.proofs.Plain.{plain_is}
-use Rattle.ax_model.specs.Canonical.{canon}
-use Rattle.ax_view.specs.Values.{IsAll, IsOne, IsRecord, value_read, value_in, entries_in, SpellsAny}
+use Rattle.ax_format.specs.Canonical.{canon}
 use Rattle.ax_view.specs.Plain.{IsPlain}
 
 pub all_spelled : (k : KindTree) (xs : List ℕ) → InBounds k → (r : Read ValueTree) → read k (bits xs) ≡ r → IsAll r → Spells k (value_read r) (bits xs)

@@ -4,17 +4,17 @@ use Rattle.std.proofs.lemmas.List.{drop-drop, length-map}
 use Rattle.std.proofs.lemmas.Bool.{eqb-true}
 use Rattle.ax_bits.proofs.Pieces.{drop-bits}
 use Rattle.ax_bits.specs.Bits.{bits, AreOctets}
-use Rattle.ax_model.specs.Reader.{fixed_value, members_value, after}
-use Rattle.ax_model.specs.Canonical.{canon, parts_canon, run_canon}
-use Rattle.ax_model.specs.InBounds.{InBounds, PartInBounds, PartsInBounds}
-use Rattle.ax_model.specs.Tree.{FixedTree, MembersTree, extended, by_fx, part_values, occurrences, ValuesTree, value_and, no_values, list_and, no_lists}
-use Rattle.ax_model.specs.Widths.{width, members_width, fx_width}
-use Rattle.ax_model.specs.declared.fault.BodyCause.TheVariants.{RunsOut, ExtensionPastEnd}
-use Rattle.ax_model.specs.declared.fault.BodyFault.{BodyFault}
-use Rattle.ax_model.specs.declared.kind.LastPart.{LastPart}
-use Rattle.ax_tables.specs.Meaning.{Meaning, linked_part, linked_parts}
-use Rattle.ax_reader.proofs.AtOctets.{IsUnit, run_at, parts_at, run_ends, run_goes_on, run_fails, fx_or_none, parts_fail, parts_end, parts_end_bare, parts_go_on, parts_past_end}
-use Rattle.ax_reader.specs.Reading.{Gets, FailsAt, Continues, kind_read}
+use Rattle.ax_format.specs.Reader.{fixed_value, members_value, after}
+use Rattle.ax_format.specs.Canonical.{canon, parts_canon, run_canon}
+use Rattle.ax_format.specs.InBounds.{InBounds, PartInBounds, PartsInBounds}
+use Rattle.ax_format.specs.Tree.{FixedTree, MembersTree, extended, by_fx, part_values, occurrences, ValuesTree, value_and, no_values, list_and, no_lists}
+use Rattle.ax_format.specs.Widths.{width, members_width, fx_width}
+use Rattle.ax_format.specs.declared.fault.BodyCause.TheVariants.{RunsOut, ExtensionPastEnd}
+use Rattle.ax_format.specs.declared.fault.BodyFault.{BodyFault}
+use Rattle.ax_format.specs.declared.kind.LastPart.{LastPart}
+use Rattle.ax_codec.specs.Meaning.{Meaning, linked_part, linked_parts}
+use Rattle.ax_fspec.proofs.AtOctets.{IsUnit, run_at, parts_at, run_ends, run_goes_on, run_fails, fx_or_none, parts_fail, parts_end, parts_end_bare, parts_go_on, parts_past_end}
+use Rattle.ax_fspec.specs.Reading.{Gets, FailsAt, Continues, kind_read}
 use Rattle.ax_view.proofs.Leading.{leads_on, leads_blind, walks_blind}
 use Rattle.ax_view.proofs.Plain.{plain_again}
 use Rattle.ax_view.specs.Walking.{Walks, Leads}

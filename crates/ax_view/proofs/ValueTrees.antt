@@ -1,11 +1,11 @@
 -- The plain trees of values, by their variants.
 use Rattle.std.proofs.Common.{◌≡◌, ℕ, List, map, sym, ap, ◌∙◌}
-use Rattle.ax_model.specs.Plain.{value_step, entry_step, value_tree, entry_tree}
-use Rattle.ax_model.specs.Tree.{ValueTree, number, member_values, occurrences, content_octets, marked, values_of, entries_of}
-use Rattle.ax_model.specs.declared.value.Entry.{Entry}
-use Rattle.ax_model.specs.declared.value.Value.{Value, fold-roll-Value}
-use Rattle.ax_model.specs.declared.value.Value.TheOpen.{Value-F}
-use Rattle.ax_model.specs.declared.value.Value.TheVariants.{Number, Group, Repeat, Octets, Compound, rolls-Number, rolls-Group, rolls-Repeat, rolls-Octets, rolls-Compound}
+use Rattle.ax_format.specs.Plain.{value_step, entry_step, value_tree, entry_tree}
+use Rattle.ax_format.specs.Tree.{ValueTree, number, member_values, occurrences, content_octets, marked, values_of, entries_of}
+use Rattle.ax_format.specs.declared.value.Entry.{Entry}
+use Rattle.ax_format.specs.declared.value.Value.{Value, fold-roll-Value}
+use Rattle.ax_format.specs.declared.value.Value.TheOpen.{Value-F}
+use Rattle.ax_format.specs.declared.value.Value.TheVariants.{Number, Group, Repeat, Octets, Compound, rolls-Number, rolls-Group, rolls-Repeat, rolls-Octets, rolls-Compound}
 
 pub number_tree : (n : ℕ) → value_tree (Number n) ≡ number n
 number_tree n = ap value_tree (sym (rolls-Number n)) ∙ fold-roll-Value ValueTree (ℕ × ValueTree) value_step entry_step (Value-F.Number n)

@@ -2,12 +2,12 @@
 use Rattle.std.specs.Prelude.{◌≡◌, ℕ, ◌-◌, ◌==◌, if◌then◌else◌, List, [], ◌++◌, drop, get_or, length}
 use Rattle.ax_bits.specs.Bits.{bits}
 use Rattle.ax_fspec.specs.Fields.{MarksSlots}
-use Rattle.ax_model.specs.Presence.{Presence, octets_needed}
-use Rattle.ax_model.specs.Spelling.{IsSpelling}
-use Rattle.ax_model.specs.Tree.{EntriesTree, no_entries, entry_and}
-use Rattle.ax_tables.specs.Table.{kind_at, record_kind_at}
-use Rattle.ax_tables.specs.declared.codec.Codec.{Codec}
-use Rattle.ax_tables.specs.declared.node.Node.{Node}
+use Rattle.ax_format.specs.Presence.{Presence, octets_needed}
+use Rattle.ax_format.specs.Spelling.{IsSpelling}
+use Rattle.ax_format.specs.Tree.{EntriesTree, no_entries, entry_and}
+use Rattle.ax_codec.specs.Table.{kind_at, record_kind_at}
+use Rattle.ax_codec.specs.declared.codec.Codec.{Codec}
+use Rattle.ax_codec.specs.declared.node.Node.{Node}
 use Rattle.ax_view.specs.Values.{value_in, entries_in}
 
 -- the entries before that of a slot

@@ -1,8 +1,8 @@
 -- What is left of the records of a body, of the parts and of the occurrences of an item.
 use Rattle.std.specs.Prelude.{ℕ, Bool, false, List, map}
-use Rattle.ax_tables.specs.Meaning.{meanings, linked_parts}
-use Rattle.ax_tables.specs.Table.{kind_at, record_kind_at}
-use Rattle.ax_tables.specs.declared.codec.Codec.{Codec}
+use Rattle.ax_codec.specs.Meaning.{meanings, linked_parts}
+use Rattle.ax_codec.specs.Table.{kind_at, record_kind_at}
+use Rattle.ax_codec.specs.declared.codec.Codec.{Codec}
 use Rattle.ax_view.specs.Pieces.{pieces, part_pieces, part_sizes}
 use Rattle.ax_view.specs.declared.item.ItemView.{ItemView}
 use Rattle.ax_view.specs.declared.occurrences.Occurrences.{Occurrences}

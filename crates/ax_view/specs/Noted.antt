@@ -1,9 +1,9 @@
 -- What the walk over a record notes.
 use Rattle.std.specs.Prelude.{◌≡◌, Bool, IsTrue, ℕ, List}
 use Rattle.ax_bits.specs.Bits.{bits}
-use Rattle.ax_model.specs.Canonical.{canon}
-use Rattle.ax_tables.specs.Table.{record_kind_at}
-use Rattle.ax_tables.specs.declared.codec.Codec.{Codec}
+use Rattle.ax_format.specs.Canonical.{canon}
+use Rattle.ax_codec.specs.Table.{record_kind_at}
+use Rattle.ax_codec.specs.declared.codec.Codec.{Codec}
 use Rattle.ax_view.specs.Values.{value_in}
 
 -- the canonical spelling of the record that the octets spell

@@ -2,17 +2,17 @@
 use Rattle.std.specs.Prelude.{◌≡◌, ℕ, zero, suc, ◌+◌, ◌/◌, ◌<◌, ◌≤◌, Bool, true, false, List, [], ◌∷◌, length, take, drop}
 use Rattle.std.specs.Coded.{Coded-set, coded_ℕ, coded_list, le_prop, Unit-prop}
 use Rattle.ax_bits.specs.Bits.{bits}
-use Rattle.ax_model.specs.InBounds.{PartsInBounds}
-use Rattle.ax_model.specs.Reader.{Read, got, failed, read}
-use Rattle.ax_model.specs.Sizes.{longest_body}
-use Rattle.ax_model.specs.Tree.{MembersTree, KindTree, fixed, extended, counted, by_fx, explicit, compound, ValueTree}
-use Rattle.ax_model.specs.Widths.{width, members_width, fx_width}
-use Rattle.ax_model.specs.declared.kind.LastPart.{LastPart}
-use Rattle.ax_tables.specs.Facts.{links_prop, parts_bounds_prop}
-use Rattle.ax_tables.specs.Meaning.{meanings, linked_parts}
-use Rattle.ax_tables.specs.Table.{LinksWithin, kind_at}
-use Rattle.ax_tables.specs.declared.codec.Codec.{Codec}
-use Rattle.ax_tables.specs.declared.node.Node.{Node}
+use Rattle.ax_format.specs.InBounds.{PartsInBounds}
+use Rattle.ax_format.specs.Reader.{Read, got, failed, read}
+use Rattle.ax_format.specs.Sizes.{longest_body}
+use Rattle.ax_format.specs.Tree.{MembersTree, KindTree, fixed, extended, counted, by_fx, explicit, compound, ValueTree}
+use Rattle.ax_format.specs.Widths.{width, members_width, fx_width}
+use Rattle.ax_format.specs.declared.kind.LastPart.{LastPart}
+use Rattle.ax_codec.specs.Facts.{links_prop, parts_bounds_prop}
+use Rattle.ax_codec.specs.Meaning.{meanings, linked_parts}
+use Rattle.ax_codec.specs.Table.{LinksWithin, kind_at}
+use Rattle.ax_codec.specs.declared.codec.Codec.{Codec}
+use Rattle.ax_codec.specs.declared.node.Node.{Node}
 use Rattle.ax_view.specs.Values.{IsItemOf, IsItemOf-prop, ItemInBounds, ItemInBounds-prop}
 
 abbrev pub octets_taken : Read ValueTree → ℕ

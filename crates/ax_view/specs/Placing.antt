@@ -3,15 +3,15 @@ use Rattle.std.specs.Prelude.{◌≡◌, ℕ, ◌-◌, ◌<◌, ◌≤◌, Bool,
 use Rattle.std.specs.Coded.{Coded-set, coded_ℕ, coded_list}
 use Rattle.ax_bits.specs.Bits.{bits}
 use Rattle.ax_fspec.specs.Marks.{IsMarked}
-use Rattle.ax_model.specs.At.{slot_value}
-use Rattle.ax_model.specs.Canonical.{canon}
-use Rattle.ax_model.specs.InBounds.{InBounds}
-use Rattle.ax_model.specs.Tree.{ValueTree, marked, EntriesTree, slots_of}
-use Rattle.ax_reader.specs.Reading.{Gets, kind_read, entries_at}
-use Rattle.ax_tables.specs.Meaning.{meanings, linked_slots}
-use Rattle.ax_tables.specs.Table.{SlotLinksWithin, kind_at, record_kind_at}
-use Rattle.ax_tables.specs.declared.codec.Codec.{Codec}
-use Rattle.ax_tables.specs.declared.node.Node.{Node}
+use Rattle.ax_format.specs.At.{slot_value}
+use Rattle.ax_format.specs.Canonical.{canon}
+use Rattle.ax_format.specs.InBounds.{InBounds}
+use Rattle.ax_format.specs.Tree.{ValueTree, marked, EntriesTree, slots_of}
+use Rattle.ax_fspec.specs.Reading.{Gets, kind_read, entries_at}
+use Rattle.ax_codec.specs.Meaning.{meanings, linked_slots}
+use Rattle.ax_codec.specs.Table.{SlotLinksWithin, kind_at, record_kind_at}
+use Rattle.ax_codec.specs.declared.codec.Codec.{Codec}
+use Rattle.ax_codec.specs.declared.node.Node.{Node}
 use Rattle.ax_view.specs.InPlace.{FollowsEntries}
 use Rattle.ax_view.specs.Shown.{item_kind, item_value}
 use Rattle.ax_view.specs.Values.{IsOne, value_read, value_in, entries_in}

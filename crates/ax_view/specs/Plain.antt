@@ -1,5 +1,5 @@
 -- Kinds without a presence field.
-use Rattle.ax_model.specs.Tree.{KindTree, fixed, extended, counted, by_fx, explicit, compound}
+use Rattle.ax_format.specs.Tree.{KindTree, fixed, extended, counted, by_fx, explicit, compound}
 
 -- a kind without a presence field at any depth
 abbrev pub IsPlain : KindTree → Type 0

@@ -1,9 +1,9 @@
 -- A record at an octet of a body.
 use Rattle.std.specs.Prelude.{◌≡◌, ℕ, ◌-◌, List, take, drop}
-use Rattle.ax_model.specs.declared.fault.BodyFault.{BodyFault}
-use Rattle.ax_tables.specs.Table.{record_kind_at}
-use Rattle.ax_tables.specs.declared.codec.Codec.{Codec}
-use Rattle.ax_reader.specs.Reading.{Gets, FailsAt, kind_read}
+use Rattle.ax_format.specs.declared.fault.BodyFault.{BodyFault}
+use Rattle.ax_codec.specs.Table.{record_kind_at}
+use Rattle.ax_codec.specs.declared.codec.Codec.{Codec}
+use Rattle.ax_fspec.specs.Reading.{Gets, FailsAt, kind_read}
 use Rattle.ax_view.specs.Values.{value_in}
 
 -- these are its octets, and the value that they spell is read there

@@ -3,15 +3,15 @@ use Rattle.std.specs.Prelude.{◌≡◌, ℕ, suc, ◌+◌, ◌-◌, ◌*◌, �
 use Rattle.ax_bits.specs.Bits.{bits}
 use Rattle.ax_fspec.specs.Fields.{MarksSlots}
 use Rattle.ax_fspec.specs.Marks.{seven}
-use Rattle.ax_model.specs.InBounds.{SlotsInBounds}
-use Rattle.ax_model.specs.Reader.{Read, entries_read}
-use Rattle.ax_model.specs.Tree.{EntriesTree, SlotsTree, slots_of}
-use Rattle.ax_reader.specs.Reading.{entries_at}
+use Rattle.ax_format.specs.InBounds.{SlotsInBounds}
+use Rattle.ax_format.specs.Reader.{Read, entries_read}
+use Rattle.ax_format.specs.Tree.{EntriesTree, SlotsTree, slots_of}
+use Rattle.ax_fspec.specs.Reading.{entries_at}
 use Rattle.ax_rows.specs.Rows.{HaveRow}
-use Rattle.ax_tables.specs.Meaning.{meanings, linked_slots}
-use Rattle.ax_tables.specs.Table.{SlotLinksWithin}
-use Rattle.ax_tables.specs.declared.codec.Codec.{Codec}
-use Rattle.ax_tables.specs.declared.node.Node.{Node}
+use Rattle.ax_codec.specs.Meaning.{meanings, linked_slots}
+use Rattle.ax_codec.specs.Table.{SlotLinksWithin}
+use Rattle.ax_codec.specs.declared.codec.Codec.{Codec}
+use Rattle.ax_codec.specs.declared.node.Node.{Node}
 use Rattle.ax_view.specs.Walking.{Leads, Walks, along}
 
 -- what is read of the marked slots from octet `at` of a body on, where the first slot has the number s

@@ -2,14 +2,14 @@
 use Rattle.std.specs.Prelude.{◌≡◌, ℕ, ◌-◌, Bool, true, false, List, [], ◌∷◌, ◌++◌, length, drop, map, flat_map, get_or, Option, Some, None}
 use Rattle.ax_bits.specs.Bits.{bits, word}
 use Rattle.ax_fspec.specs.declared.mask.SlotMask.{SlotMask}
-use Rattle.ax_model.specs.Spelling.{MembersSpell, Spells, IsSpelling}
-use Rattle.ax_model.specs.Tree.{MembersTree, KindTree, fixed, extended, counted, by_fx, explicit, compound, ValueTree, occurrences, content_octets, ValuesTree, no_values, value_and, ListsTree, no_lists, list_and, EntriesTree}
-use Rattle.ax_model.specs.Widths.{counter_octets, fx_width}
-use Rattle.ax_model.specs.declared.kind.LastPart.{LastPart}
-use Rattle.ax_tables.specs.Table.{kind_at, record_kind_at}
-use Rattle.ax_tables.specs.declared.codec.Codec.{Codec}
-use Rattle.ax_tables.specs.declared.node.Node.{Node}
-use Rattle.ax_tables.specs.declared.node.Node.TheVariants as Of
+use Rattle.ax_format.specs.Spelling.{MembersSpell, Spells, IsSpelling}
+use Rattle.ax_format.specs.Tree.{MembersTree, KindTree, fixed, extended, counted, by_fx, explicit, compound, ValueTree, occurrences, content_octets, ValuesTree, no_values, value_and, ListsTree, no_lists, list_and, EntriesTree}
+use Rattle.ax_format.specs.Widths.{counter_octets, fx_width}
+use Rattle.ax_format.specs.declared.kind.LastPart.{LastPart}
+use Rattle.ax_codec.specs.Table.{kind_at, record_kind_at}
+use Rattle.ax_codec.specs.declared.codec.Codec.{Codec}
+use Rattle.ax_codec.specs.declared.node.Node.{Node}
+use Rattle.ax_codec.specs.declared.node.Node.TheVariants as Of
 use Rattle.ax_view.specs.InPlace.{StandsInPlace}
 use Rattle.ax_view.specs.Left.{Occurrence, occurrences_shown}
 use Rattle.ax_view.specs.Spots.{lists_in}

@@ -1,15 +1,15 @@
 -- What steps down the nodes of a table find in a value.
 use Rattle.std.specs.Prelude.{◌≡◌, ℕ, ◌+◌, ◌*◌, ◌<◌, ◌≤◌, List, length, drop, Option, Some, None}
 use Rattle.ax_bits.specs.Bits.{bits}
-use Rattle.ax_model.specs.At.{nth_value, nth_list, value_at, number_of_value}
-use Rattle.ax_model.specs.InBounds.{FixedInBounds, MembersInBounds}
-use Rattle.ax_model.specs.Reader.{fixed_value, members_value}
-use Rattle.ax_model.specs.Sizes.{longest_body}
-use Rattle.ax_model.specs.Tree.{FixedTree, MembersTree, extended, ValueTree, no_values, part_values, ListsTree, no_lists}
-use Rattle.ax_model.specs.Widths.{width, members_width}
-use Rattle.ax_model.specs.declared.kind.LastPart.{LastPart}
-use Rattle.ax_tables.specs.Meaning.{meanings, linked, fixed_of, part_of}
-use Rattle.ax_tables.specs.declared.node.Node.{Node}
+use Rattle.ax_format.specs.At.{nth_value, nth_list, value_at, number_of_value}
+use Rattle.ax_format.specs.InBounds.{FixedInBounds, MembersInBounds}
+use Rattle.ax_format.specs.Reader.{fixed_value, members_value}
+use Rattle.ax_format.specs.Sizes.{longest_body}
+use Rattle.ax_format.specs.Tree.{FixedTree, MembersTree, extended, ValueTree, no_values, part_values, ListsTree, no_lists}
+use Rattle.ax_format.specs.Widths.{width, members_width}
+use Rattle.ax_format.specs.declared.kind.LastPart.{LastPart}
+use Rattle.ax_codec.specs.Meaning.{meanings, linked, fixed_of, part_of}
+use Rattle.ax_codec.specs.declared.node.Node.{Node}
 use Rattle.ax_view.specs.Values.{value_in}
 use Rattle.ax_view.specs.declared.spot.Spot.{Spot}
 use Rattle.ax_view.specs.declared.spot.Spot.TheVariants as Of

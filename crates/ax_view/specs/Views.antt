@@ -3,14 +3,14 @@ use Rattle.std.specs.Prelude.{◌≡◌, ℕ, Bool, IsTrue, List, length, flat_m
 use Rattle.std.specs.List.{AllZip}
 use Rattle.std.specs.Coded.{Coded-set, coded_ℕ, coded_list}
 use Rattle.ax_bits.specs.Bits.{bits}
-use Rattle.ax_model.specs.Bodies.{SpellsRecord, SpellsBody, FailsBody, CanonBody}
-use Rattle.ax_model.specs.Flaws.{NoFlaw}
-use Rattle.ax_model.specs.Specification.{SpecTree}
-use Rattle.ax_model.specs.Tree.{EntriesTree}
-use Rattle.ax_model.specs.declared.fault.BodyFault.{BodyFault}
-use Rattle.ax_reader.specs.Honest.{SpellRecords, IsHonest}
-use Rattle.ax_tables.specs.Standing.{StandsFor}
-use Rattle.ax_tables.specs.declared.codec.Codec.{Codec}
+use Rattle.ax_format.specs.Bodies.{SpellsRecord, SpellsBody, FailsBody, CanonBody}
+use Rattle.ax_format.specs.Flaws.{NoFlaw}
+use Rattle.ax_format.specs.Specification.{SpecTree}
+use Rattle.ax_format.specs.Tree.{EntriesTree}
+use Rattle.ax_format.specs.declared.fault.BodyFault.{BodyFault}
+use Rattle.ax_fspec.specs.Honest.{SpellRecords, IsHonest}
+use Rattle.ax_codec.specs.Standing.{StandsFor}
+use Rattle.ax_codec.specs.declared.codec.Codec.{Codec}
 
 -- where the flag says so, the body is the canonical spelling of the records that it spells, for each specification that the
 -- codec stands for

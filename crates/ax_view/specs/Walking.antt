@@ -1,12 +1,12 @@
 -- What a walk over octets meets, of what is read there.
 use Rattle.std.specs.Prelude.{◌≡◌, ℕ, zero, suc, ◌+◌, ◌-◌, ◌≤◌, ◌⊎◌, get_or, Bool, IsTrue, List, [], ◌++◌, length, drop}
 use Rattle.ax_bits.specs.Bits.{bits}
-use Rattle.ax_model.specs.Reader.{Read}
-use Rattle.ax_model.specs.Canonical.{canon}
-use Rattle.ax_model.specs.Presence.{first_mark, later_marks}
-use Rattle.ax_model.specs.Tree.{KindTree, SlotsTree, no_slots, slot_and, spare_slot, subitem, EntriesTree, no_entries, entry_and}
-use Rattle.ax_model.specs.declared.fault.BodyFault.{BodyFault}
-use Rattle.ax_reader.specs.Reading.{Gets, FailsAt}
+use Rattle.ax_format.specs.Reader.{Read}
+use Rattle.ax_format.specs.Canonical.{canon}
+use Rattle.ax_format.specs.Presence.{first_mark, later_marks}
+use Rattle.ax_format.specs.Tree.{KindTree, SlotsTree, no_slots, slot_and, spare_slot, subitem, EntriesTree, no_entries, entry_and}
+use Rattle.ax_format.specs.declared.fault.BodyFault.{BodyFault}
+use Rattle.ax_fspec.specs.Reading.{Gets, FailsAt}
 
 -- something is read from octet `at` of the body up to octet `end`; and where it is said to be least, its spelling there is
 -- the one that the rule gives

@@ -2,25 +2,25 @@
 ghost use Rattle.std.specs.Prelude.{◌≡◌, ◌+◌, ◌-◌, ◌*◌, ◌/◌, ◌<◌, ◌≤◌, ◌++◌, length, map, take, drop, ℕ, List, IfSome, IfNone, IsTrue};
 ghost use Rattle.ax_fspec.specs.Marks.{seven};
 ghost use Rattle.ax_fspec.specs.declared.mask.SlotMask.{SlotMask};
-ghost use Rattle.ax_model.specs.Canonical.{canon};
-ghost use Rattle.ax_model.specs.InBounds.{InBounds};
-ghost use Rattle.ax_model.specs.Presence.{octets_needed};
-ghost use Rattle.ax_model.specs.Sizes.{longest_body};
-ghost use Rattle.ax_reader.specs.Reading.{FailsAt, IsMaskOf, kind_read};
+ghost use Rattle.ax_format.specs.Canonical.{canon};
+ghost use Rattle.ax_format.specs.InBounds.{InBounds};
+ghost use Rattle.ax_format.specs.Presence.{octets_needed};
+ghost use Rattle.ax_format.specs.Sizes.{longest_body};
+ghost use Rattle.ax_fspec.specs.Reading.{FailsAt, IsMaskOf, kind_read};
 ghost use Rattle.ax_rows.specs.Rows.{IsRow, AreRows};
-ghost use Rattle.ax_tables.specs.Meaning.{meanings, linked_slots};
-ghost use Rattle.ax_tables.specs.NodeRows.{EachRows};
-ghost use Rattle.ax_tables.specs.Octets.{octets_of};
-ghost use Rattle.ax_tables.specs.Table.{IsTable, SlotLinksWithin, kind_at, record_kind_at};
+ghost use Rattle.ax_codec.specs.Meaning.{meanings, linked_slots};
+ghost use Rattle.ax_codec.specs.NodeRows.{EachRows};
+ghost use Rattle.ax_codec.specs.Octets.{octets_of};
+ghost use Rattle.ax_codec.specs.Table.{IsTable, SlotLinksWithin, kind_at, record_kind_at};
 ghost use Rattle.ax_view.specs.Rows.{AreSlots, SlotsLead, IsField, HaveRows, WalksItems, marks_of, slots_at};
 ghost use Rattle.ax_view.specs.Walking.{Walks};
 
 use crate::compound_rows::{compound_rows, skip_compound};
 use crate::notes::Notes;
 use crate::octets::{note_field, walk_item};
+use ax_codec::{Codec, Node};
 use ax_fspec::SlotMask;
 use ax_rows::{NO_ROW, Rows, SlotRows, Step};
-use ax_tables::{Codec, Node};
 
 /// The octet after the value of an item of a record that begins at octet `at`: a compound is walked over by its rows, if it has some
 /// and each marked subitem has fixed octets.

@@ -1,24 +1,24 @@
 //! Compounds whose marked subitems have fixed octets, passed over by the rows of their slots.
 ghost use Rattle.std.specs.Prelude.{◌≡◌, ◌+◌, ◌-◌, ◌*◌, ◌<◌, ◌≤◌, ◌++◌, length, map, take, drop, get_or, ℕ, Bool, List, IfSome, IsTrue};
-ghost use Rattle.ax_model.specs.Canonical.{canon};
-ghost use Rattle.ax_model.specs.InBounds.{InBounds};
-ghost use Rattle.ax_model.specs.Sizes.{longest_body};
-ghost use Rattle.ax_reader.specs.Reading.{IsMaskOf, kind_read};
+ghost use Rattle.ax_format.specs.Canonical.{canon};
+ghost use Rattle.ax_format.specs.InBounds.{InBounds};
+ghost use Rattle.ax_format.specs.Sizes.{longest_body};
+ghost use Rattle.ax_fspec.specs.Reading.{IsMaskOf, kind_read};
 ghost use Rattle.ax_rows.specs.Rows.{AreRows};
-ghost use Rattle.ax_tables.specs.Meaning.{meanings, linked_slots};
-ghost use Rattle.ax_tables.specs.NodeRows.{EachRows, node_slots};
-ghost use Rattle.ax_tables.specs.Octets.{octets_of};
-ghost use Rattle.ax_tables.specs.Table.{IsTable, SlotLinksWithin, record_kind_at};
-ghost use Rattle.ax_tables.specs.declared.node.Node.{Node};
+ghost use Rattle.ax_codec.specs.Meaning.{meanings, linked_slots};
+ghost use Rattle.ax_codec.specs.NodeRows.{EachRows, node_slots};
+ghost use Rattle.ax_codec.specs.Octets.{octets_of};
+ghost use Rattle.ax_codec.specs.Table.{IsTable, SlotLinksWithin, record_kind_at};
+ghost use Rattle.ax_codec.specs.declared.node.Node.{Node};
 ghost use Rattle.ax_view.specs.Rows.{AreSlots, SlotsLead, HaveRows, marks_of, slots_at};
 ghost use Rattle.ax_view.specs.Walking.{Walks};
 
 use crate::by_rows::field_octets;
 use crate::notes::Notes;
 use crate::octets::note_field;
+use ax_codec::Node;
 use ax_fspec::SlotMask;
 use ax_rows::{NO_ROW, Rows, SlotRows};
-use ax_tables::Node;
 
 /// The rows of a node's slots. None comes where it has none.
 #[inline(always)]

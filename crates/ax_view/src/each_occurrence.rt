@@ -1,11 +1,11 @@
 //! The next occurrence of a counted, wide or by-FX item.
 ghost use Rattle.std.specs.Prelude.{◌≡◌, ◌≢◌, ◌<◌, ◌≤◌, true, false, [], length, drop, Some};
 ghost use Rattle.std.specs.Iterator.{YieldsFirstBy, item_count};
-ghost use Rattle.ax_model.specs.InBounds.{InBounds};
-ghost use Rattle.ax_model.specs.Tree.{counted, by_fx};
-ghost use Rattle.ax_model.specs.Widths.{counter_octets};
-ghost use Rattle.ax_tables.specs.Meaning.{meanings, linked, fixed_of};
-ghost use Rattle.ax_tables.specs.Table.{kind_at};
+ghost use Rattle.ax_format.specs.InBounds.{InBounds};
+ghost use Rattle.ax_format.specs.Tree.{counted, by_fx};
+ghost use Rattle.ax_format.specs.Widths.{counter_octets};
+ghost use Rattle.ax_codec.specs.Meaning.{meanings, linked, fixed_of};
+ghost use Rattle.ax_codec.specs.Table.{kind_at};
 ghost use Rattle.ax_view.specs.Left.{occurrence_shown, occurrences_left};
 ghost use Rattle.ax_view.specs.Pieces.{first_size};
 ghost use Rattle.ax_view.specs.Shown.{AreOccurrences, occurrences_in};
@@ -17,9 +17,9 @@ use crate::notes::Notes;
 use crate::occurrences::Occurrences;
 use crate::units::fixed_width;
 use crate::windows::{first_octets, octets_from};
-use ax_model::Counter;
-use ax_reader::count_at;
-use ax_tables::Codec;
+use ax_codec::Codec;
+use ax_format::Counter;
+use ax_fspec::count_at;
 
 impl<'c, 'a> Occurrences<'c, 'a> {
     /// The occurrences of a counted or wide item, after the counter.

@@ -1,15 +1,15 @@
 //! The next part of an extended or closed item.
 ghost use Rattle.std.specs.Prelude.{◌≡◌};
 ghost use Rattle.std.specs.Iterator.{YieldsFirstRef, item_count};
-ghost use Rattle.ax_tables.specs.Meaning.{meanings, linked_parts};
+ghost use Rattle.ax_codec.specs.Meaning.{meanings, linked_parts};
 ghost use Rattle.ax_view.specs.Left.{parts_left};
 ghost use Rattle.ax_view.specs.Pieces.{ArePartsLeft, part_pieces, part_sizes};
 
 use crate::parts::PartSlices;
 use crate::units::part_width;
 use crate::windows::{first_octets, octets_from};
-use ax_model::LastPart;
-use ax_tables::Codec;
+use ax_codec::Codec;
+use ax_format::LastPart;
 
 impl<'c, 'a> PartSlices<'c, 'a> {
     /// The parts that these links lead to, as far as the octets go.

@@ -1,11 +1,11 @@
 //! The next record of a body.
 ghost use Rattle.std.specs.Prelude.{◌≡◌, ◌≤◌, length, map, IfSome, IfNone};
 ghost use Rattle.std.specs.Iterator.{YieldsFirstBy, item_count};
-ghost use Rattle.ax_model.specs.Sizes.{longest_body};
-ghost use Rattle.ax_reader.specs.Reading.{FailsAt, kind_read};
+ghost use Rattle.ax_format.specs.Sizes.{longest_body};
+ghost use Rattle.ax_fspec.specs.Reading.{FailsAt, kind_read};
 ghost use Rattle.ax_rows.specs.Rows.{AreRows};
-ghost use Rattle.ax_tables.specs.Octets.{octets_of};
-ghost use Rattle.ax_tables.specs.Table.{record_kind_at};
+ghost use Rattle.ax_codec.specs.Octets.{octets_of};
+ghost use Rattle.ax_codec.specs.Table.{record_kind_at};
 ghost use Rattle.ax_view.specs.Left.{record_shown, records_left};
 ghost use Rattle.ax_view.specs.Noted.{IsLeastRecord};
 ghost use Rattle.ax_view.specs.RecordsAt.{IsRecordAt, IsNoRecord};
@@ -15,8 +15,8 @@ use crate::octets::walk_with;
 use crate::record::RecordView;
 use crate::records::Records;
 use crate::windows::octets_from;
+use ax_codec::Codec;
 use ax_rows::Rows;
-use ax_tables::Codec;
 
 /// The record that begins at octet `at`, and the octet after it. None comes exactly where none can be read there.
 pub fn record_at<'c, 'a>(

@@ -3,15 +3,15 @@ ghost use Rattle.std.specs.Prelude.{◌≡◌, ◌+◌, ◌-◌, ◌*◌, ◌/�
 ghost use Rattle.ax_bits.specs.Bits.{AreBits};
 ghost use Rattle.ax_fspec.specs.Marks.{seven};
 ghost use Rattle.ax_fspec.specs.declared.mask.SlotMask.{SlotMask};
-ghost use Rattle.ax_model.specs.Canonical.{canon};
-ghost use Rattle.ax_model.specs.InBounds.{InBounds, SlotsInBounds};
-ghost use Rattle.ax_model.specs.Presence.{NoneUndefined, octets_needed};
-ghost use Rattle.ax_model.specs.Sizes.{longest_body};
-ghost use Rattle.ax_model.specs.Tree as Tree;
-ghost use Rattle.ax_tables.specs.Meaning.{meanings, linked_slots};
-ghost use Rattle.ax_tables.specs.Table.{IsTable, SlotLinksWithin, kind_at, record_kind_at};
-ghost use Rattle.ax_reader.specs.Reading.{FailsAt, IsMaskOf, kind_read, entries_at};
-ghost use Rattle.ax_model.specs.At.{slot_value, number_at};
+ghost use Rattle.ax_format.specs.Canonical.{canon};
+ghost use Rattle.ax_format.specs.InBounds.{InBounds, SlotsInBounds};
+ghost use Rattle.ax_format.specs.Presence.{NoneUndefined, octets_needed};
+ghost use Rattle.ax_format.specs.Sizes.{longest_body};
+ghost use Rattle.ax_format.specs.Tree as Tree;
+ghost use Rattle.ax_codec.specs.Meaning.{meanings, linked_slots};
+ghost use Rattle.ax_codec.specs.Table.{IsTable, SlotLinksWithin, kind_at, record_kind_at};
+ghost use Rattle.ax_fspec.specs.Reading.{FailsAt, IsMaskOf, kind_read, entries_at};
+ghost use Rattle.ax_format.specs.At.{slot_value, number_at};
 ghost use Rattle.ax_view.specs.InPlace.{EndsField, FollowsEntries, StandsInPlace};
 ghost use Rattle.ax_view.specs.Placing.{IsMarkedItem};
 ghost use Rattle.ax_view.specs.Rows.{IsField};
@@ -23,8 +23,8 @@ use crate::by_rows::field_octets;
 use crate::item::ItemView;
 use crate::notes::Notes;
 use crate::octets::walk_item;
+use ax_codec::Codec;
 use ax_fspec::{Presence, SlotMask, read_presence};
-use ax_tables::Codec;
 
 /// The last slot of the first presence octet.
 const EARLY: u32 = 7;

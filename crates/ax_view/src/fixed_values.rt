@@ -2,20 +2,20 @@
 ghost use Rattle.std.specs.Prelude.{◌≡◌, ◌+◌, ◌*◌, ◌<◌, ◌≤◌, length, drop, map, IfOk};
 ghost use Rattle.ax_bits.specs.Bits.{bits};
 ghost use Rattle.ax_lists.specs.Sizes.{list_bound};
-ghost use Rattle.ax_model.specs.InBounds.{InBounds, FixedInBounds, MembersInBounds};
-ghost use Rattle.ax_model.specs.Plain.{value_tree, values_tree, lists_tree};
-ghost use Rattle.ax_model.specs.Reader.{fixed_value, members_value};
-ghost use Rattle.ax_model.specs.Sizes.{longest_body};
-ghost use Rattle.ax_model.specs.Tree as Tree;
-ghost use Rattle.ax_model.specs.Widths.{width, members_width};
-ghost use Rattle.ax_tables.specs.Meaning.{meanings, linked, fixed_of, part_of, linked_members, linked_parts};
-ghost use Rattle.ax_tables.specs.Table.{IsTable, LinksWithin};
+ghost use Rattle.ax_format.specs.InBounds.{InBounds, FixedInBounds, MembersInBounds};
+ghost use Rattle.ax_format.specs.Plain.{value_tree, values_tree, lists_tree};
+ghost use Rattle.ax_format.specs.Reader.{fixed_value, members_value};
+ghost use Rattle.ax_format.specs.Sizes.{longest_body};
+ghost use Rattle.ax_format.specs.Tree as Tree;
+ghost use Rattle.ax_format.specs.Widths.{width, members_width};
+ghost use Rattle.ax_codec.specs.Meaning.{meanings, linked, fixed_of, part_of, linked_members, linked_parts};
+ghost use Rattle.ax_codec.specs.Table.{IsTable, LinksWithin};
 ghost use Rattle.ax_view.specs.Values.{IsOne, value_in};
 
 use crate::units::{fixed_width, is_last_part, part_width};
 use ax_bits::bits_at;
-use ax_model::{LastPart, Lists, Value, Values};
-use ax_tables::Node;
+use ax_codec::Node;
+use ax_format::{LastPart, Lists, Value, Values};
 use std::alloc::{AllocError, Global};
 
 /// The value of the fixed kind that the link leads to, in the bits from bit `at` of the octets on.

@@ -1,8 +1,8 @@
 //! What stands in the value of an item.
 ghost use Rattle.std.specs.Prelude.{◌≡◌, ◌-◌, ◌≤◌, length, get_or, option_map, Some, IfSome};
-ghost use Rattle.ax_model.specs.At.{slot_value};
-ghost use Rattle.ax_model.specs.Sizes.{longest_body};
-ghost use Rattle.ax_model.specs.Tree.{explicit};
+ghost use Rattle.ax_format.specs.At.{slot_value};
+ghost use Rattle.ax_format.specs.Sizes.{longest_body};
+ghost use Rattle.ax_format.specs.Tree.{explicit};
 ghost use Rattle.ax_view.specs.Left.{parts_left, occurrences_left};
 ghost use Rattle.ax_view.specs.Shown.{item_value, item_entries, content_in, IsSubitem, SpellsItem, IsParts, IsOccurrences};
 ghost use Rattle.ax_view.specs.Values.{IsOne, value_in};
@@ -11,8 +11,8 @@ use crate::finding::find;
 use crate::item::ItemView;
 use crate::occurrences::Occurrences;
 use crate::parts::PartSlices;
-use ax_model::LastPart;
-use ax_tables::Node;
+use ax_codec::Node;
+use ax_format::LastPart;
 
 impl<'c, 'a> ItemView<'c, 'a> {
     /// The codec's node of the item's kind.

@@ -1,7 +1,7 @@
 //! What stands in a slot and below it, by the place that is known.
 ghost use Rattle.std.specs.Prelude.{◌≡◌, ◌∷◌, is_some, option_map, IfSome};
-ghost use Rattle.ax_model.specs.At.{slot_value, value_at, is_present, At};
-ghost use Rattle.ax_model.specs.Tree.{marked};
+ghost use Rattle.ax_format.specs.At.{slot_value, value_at, is_present, At};
+ghost use Rattle.ax_format.specs.Tree.{marked};
 ghost use Rattle.ax_view.specs.Placing.{HoldsValue, IsPlaced, placed_entries, window_value};
 ghost use Rattle.ax_view.specs.Shown.{item_value, IsOfSlot};
 ghost use Rattle.ax_view.specs.Spots.{IsSpot};
@@ -9,8 +9,8 @@ ghost use Rattle.ax_view.specs.Spots.{IsSpot};
 use crate::item::ItemView;
 use crate::places::{FoundItem, PlacedSlots, Window};
 use crate::spot::{Spot, fixed_number, spot_of};
+use ax_format::Place;
 use ax_fspec::Presence;
-use ax_model::Place;
 
 impl<'v, 'c, 'a> PlacedSlots<'v, 'c, 'a> {
     /// The marked slots.

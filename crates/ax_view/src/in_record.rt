@@ -1,7 +1,7 @@
 //! What stands in a record: its items, and the numbers at its places.
 ghost use Rattle.std.specs.Prelude.{◌≡◌, ◌∷◌, option_map, IfSome};
-ghost use Rattle.ax_model.specs.At.{slot_value, value_at, is_present, At};
-ghost use Rattle.ax_model.specs.Tree.{marked};
+ghost use Rattle.ax_format.specs.At.{slot_value, value_at, is_present, At};
+ghost use Rattle.ax_format.specs.Tree.{marked};
 ghost use Rattle.ax_view.specs.InPlace.{StandsInPlace};
 ghost use Rattle.ax_view.specs.Shown.{item_value, record_entries, IsOfSlot};
 ghost use Rattle.ax_view.specs.Spots.{IsSpot};
@@ -11,7 +11,7 @@ use crate::finding::find;
 use crate::item::ItemView;
 use crate::record::RecordView;
 use crate::spot::{Spot, fixed_number, spot_of};
-use ax_model::Place;
+use ax_format::Place;
 
 impl<'c, 'a> RecordView<'c, 'a> {
     /// The octets that spell the record, and no others.

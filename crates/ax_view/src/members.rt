@@ -1,20 +1,20 @@
 //! Members of groups and parts, and parts of extended and closed items, by their numbers.
 ghost use Rattle.std.specs.Prelude.{◌≡◌, ◌+◌, ◌-◌, ◌*◌, ◌<◌, ◌≤◌, length, drop, IfSome, IfNone};
 ghost use Rattle.ax_bits.specs.Bits.{bits};
-ghost use Rattle.ax_model.specs.Reader.{fixed_value};
-ghost use Rattle.ax_model.specs.InBounds.{InBounds, FixedInBounds, MembersInBounds};
-ghost use Rattle.ax_model.specs.Tree as Tree;
-ghost use Rattle.ax_model.specs.Widths.{width, members_width};
-ghost use Rattle.ax_tables.specs.Meaning.{meanings, linked, fixed_of, part_of, linked_members, linked_parts};
-ghost use Rattle.ax_tables.specs.Table.{IsTable, LinksWithin};
-ghost use Rattle.ax_model.specs.At.{number_at};
+ghost use Rattle.ax_format.specs.Reader.{fixed_value};
+ghost use Rattle.ax_format.specs.InBounds.{InBounds, FixedInBounds, MembersInBounds};
+ghost use Rattle.ax_format.specs.Tree as Tree;
+ghost use Rattle.ax_format.specs.Widths.{width, members_width};
+ghost use Rattle.ax_codec.specs.Meaning.{meanings, linked, fixed_of, part_of, linked_members, linked_parts};
+ghost use Rattle.ax_codec.specs.Table.{IsTable, LinksWithin};
+ghost use Rattle.ax_format.specs.At.{number_at};
 ghost use Rattle.ax_view.specs.Spots.{FindsMember, FindsNone, FindsPart, FindsNoPart};
 ghost use Rattle.ax_view.specs.Values.{IsOne};
 
 use crate::notes::Notes;
 use crate::units::{fixed_width, is_last_part, part_width, run};
-use ax_model::LastPart;
-use ax_tables::Node;
+use ax_codec::Node;
+use ax_format::LastPart;
 
 /// The link of a member, and the bit at which it begins. None comes exactly where there is no such member.
 #[inline(always)]

@@ -1,7 +1,7 @@
 //! The occurrences of a counted, wide or by-FX item.
 ghost use Rattle.ax_view.specs.Pieces.{AreOccurrencesLeft, AreOccurrencesLeft-prop};
 
-use ax_tables::Codec;
+use ax_codec::Codec;
 
 /// The occurrences of an item that are left, an iterator of their views.
 #[derive(Drop)]

@@ -1,28 +1,27 @@
 //! The walk over a body's octets by the nodes of a table.
 ghost use Rattle.std.specs.Prelude.{◌≡◌, ◌+◌, ◌-◌, ◌*◌, ◌%◌, ◌<◌, ◌≤◌, length, map, get_or, IfSome, IfNone, Bool, IsTrue};
-ghost use Rattle.ax_model.specs.Sizes.{longest_body};
-ghost use Rattle.ax_tables.specs.Octets.{octets_of};
+ghost use Rattle.ax_format.specs.Sizes.{longest_body};
+ghost use Rattle.ax_codec.specs.Octets.{octets_of};
 ghost use Rattle.ax_bits.specs.Bits.{AreBits};
 ghost use Rattle.ax_fspec.specs.declared.mask.SlotMask.{SlotMask};
-ghost use Rattle.ax_model.specs.Canonical.{canon};
-ghost use Rattle.ax_model.specs.InBounds.{InBounds, SlotsInBounds};
-ghost use Rattle.ax_model.specs.Presence.{NoneUndefined};
-ghost use Rattle.ax_model.specs.Tree as Tree;
-ghost use Rattle.ax_model.specs.Widths.{width};
-ghost use Rattle.ax_tables.specs.Meaning.{meanings, linked_parts, linked_slots};
-ghost use Rattle.ax_tables.specs.Table.{IsTable, LinksWithin, SlotLinksWithin, kind_at, record_kind_at};
+ghost use Rattle.ax_format.specs.Canonical.{canon};
+ghost use Rattle.ax_format.specs.InBounds.{InBounds, SlotsInBounds};
+ghost use Rattle.ax_format.specs.Presence.{NoneUndefined};
+ghost use Rattle.ax_format.specs.Tree as Tree;
+ghost use Rattle.ax_format.specs.Widths.{width};
+ghost use Rattle.ax_codec.specs.Meaning.{meanings, linked_parts, linked_slots};
+ghost use Rattle.ax_codec.specs.Table.{IsTable, LinksWithin, SlotLinksWithin, kind_at, record_kind_at};
 ghost use Rattle.ax_rows.specs.Rows.{AreRows};
-ghost use Rattle.ax_reader.specs.Reading.{FailsAt, IsMaskOf, kind_read, entries_at};
+ghost use Rattle.ax_fspec.specs.Reading.{FailsAt, IsMaskOf, kind_read, entries_at};
 ghost use Rattle.ax_view.specs.Walking.{Walks, along, NeedsLast};
 
 use crate::by_rows::walk_by_rows;
 use crate::notes::{Notes, fail};
 use crate::units::{first_part_end, run, walk_explicit, walk_parts, walk_run};
-use ax_fspec::{Presence, SlotMask, read_presence};
-use ax_model::{BodyCause, Counter, LastPart};
-use ax_reader::{count_at, run_end};
+use ax_codec::{Codec, Node};
+use ax_format::{BodyCause, Counter, LastPart};
+use ax_fspec::{Presence, SlotMask, count_at, read_presence, run_end};
 use ax_rows::Rows;
-use ax_tables::{Codec, Node};
 
 /// The octet after the record that begins at octet `at`.
 #[inline]

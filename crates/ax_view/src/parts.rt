@@ -1,8 +1,8 @@
 //! The parts of an extended or closed item.
 ghost use Rattle.ax_view.specs.Pieces.{ArePartsLeft, ArePartsLeft-prop};
 
-use ax_model::LastPart;
-use ax_tables::Codec;
+use ax_codec::Codec;
+use ax_format::LastPart;
 
 /// The parts of an item that are left, an iterator of their octets, each with its FX bit where the part has one.
 #[derive(Drop)]

@@ -1,12 +1,12 @@
 //! Where the values of marked slots stand.
 ghost use Rattle.std.specs.Prelude.{◌≡◌, IsTrue};
 ghost use Rattle.ax_bits.specs.Bits.{bits};
-ghost use Rattle.ax_model.specs.Canonical.{canon};
+ghost use Rattle.ax_format.specs.Canonical.{canon};
 ghost use Rattle.ax_view.specs.Placing.{IsLeastItem, IsLeastItem-prop};
 
 use crate::item::ItemView;
+use ax_codec::Codec;
 use ax_fspec::Presence;
-use ax_tables::Codec;
 
 /// The octets of a value in a body: from `start` up to `end`, octets from 0. `least` tells that they are known to be its
 /// canonical spelling.

@@ -2,25 +2,25 @@
 ghost use Rattle.std.specs.Prelude.{◌≡◌, ℕ, ◌-◌, ◌≤◌, List, length, map, get_or, IfSome, IfNone};
 ghost use Rattle.ax_bits.specs.Bits.{AreBits};
 ghost use Rattle.ax_fspec.specs.declared.mask.SlotMask.{SlotMask};
-ghost use Rattle.ax_model.specs.InBounds.{InBounds, SlotsInBounds};
-ghost use Rattle.ax_model.specs.Presence.{NoneUndefined};
-ghost use Rattle.ax_model.specs.Sizes.{longest_body};
-ghost use Rattle.ax_model.specs.Tree as Tree;
-ghost use Rattle.ax_reader.specs.Reading.{FailsAt, IsMaskOf, kind_read, entries_at};
-ghost use Rattle.ax_tables.specs.Meaning.{meanings, linked_slots};
-ghost use Rattle.ax_tables.specs.NodeRows.{EachRows};
-ghost use Rattle.ax_tables.specs.Octets.{octets_of};
-ghost use Rattle.ax_tables.specs.Table.{IsTable, SlotLinksWithin, record_kind_at};
-ghost use Rattle.ax_tables.specs.declared.node.Node.TheVariants as Of;
+ghost use Rattle.ax_format.specs.InBounds.{InBounds, SlotsInBounds};
+ghost use Rattle.ax_format.specs.Presence.{NoneUndefined};
+ghost use Rattle.ax_format.specs.Sizes.{longest_body};
+ghost use Rattle.ax_format.specs.Tree as Tree;
+ghost use Rattle.ax_fspec.specs.Reading.{FailsAt, IsMaskOf, kind_read, entries_at};
+ghost use Rattle.ax_codec.specs.Meaning.{meanings, linked_slots};
+ghost use Rattle.ax_codec.specs.NodeRows.{EachRows};
+ghost use Rattle.ax_codec.specs.Octets.{octets_of};
+ghost use Rattle.ax_codec.specs.Table.{IsTable, SlotLinksWithin, record_kind_at};
+ghost use Rattle.ax_codec.specs.declared.node.Node.TheVariants as Of;
 ghost use Rattle.ax_view.specs.Placing.{PlacesEntries, PlacesKind};
 
 use crate::by_rows::walk_record_item;
 use crate::item::ItemView;
 use crate::notes::Notes;
 use crate::places::{Places, Window};
+use ax_codec::{Codec, Node};
 use ax_fspec::{Presence, SlotMask, read_presence};
 use ax_rows::SlotRows;
-use ax_tables::{Codec, Node};
 
 /// The octet after the record that begins at octet `at`, and where its items stand.
 #[inline]

@@ -1,7 +1,7 @@
 //! A record, in its octets.
 ghost use Rattle.ax_view.specs.Values.{IsRecord, IsRecord-prop};
 
-use ax_tables::Codec;
+use ax_codec::Codec;
 
 /// A view of a record: the record that the octets spell.
 #[derive(Drop)]

@@ -1,14 +1,14 @@
 //! Places in records, found by steps down the nodes.
 ghost use Rattle.std.specs.Prelude.{◌≡◌, ◌+◌, ◌-◌, ◌*◌, ◌%◌, ◌^◌, ◌<◌, ◌≤◌, false, length, drop, take, IfSome, IfNone};
 ghost use Rattle.ax_bits.specs.Bits.{bits, word};
-ghost use Rattle.ax_model.specs.At.{value_at, number_of_value};
-ghost use Rattle.ax_model.specs.InBounds.{InBounds, FixedInBounds};
-ghost use Rattle.ax_model.specs.Reader.{fixed_value};
-ghost use Rattle.ax_model.specs.Sizes.{longest_body};
-ghost use Rattle.ax_model.specs.Tree as Tree;
-ghost use Rattle.ax_model.specs.Widths.{width};
-ghost use Rattle.ax_tables.specs.Meaning.{meanings, linked, fixed_of, linked_parts};
-ghost use Rattle.ax_tables.specs.Table.{IsTable, LinksWithin};
+ghost use Rattle.ax_format.specs.At.{value_at, number_of_value};
+ghost use Rattle.ax_format.specs.InBounds.{InBounds, FixedInBounds};
+ghost use Rattle.ax_format.specs.Reader.{fixed_value};
+ghost use Rattle.ax_format.specs.Sizes.{longest_body};
+ghost use Rattle.ax_format.specs.Tree as Tree;
+ghost use Rattle.ax_format.specs.Widths.{width};
+ghost use Rattle.ax_codec.specs.Meaning.{meanings, linked, fixed_of, linked_parts};
+ghost use Rattle.ax_codec.specs.Table.{IsTable, LinksWithin};
 ghost use Rattle.ax_view.specs.Shown.{item_value};
 ghost use Rattle.ax_view.specs.Spots.{FindsFixed, FindsNothing, IsSpot};
 ghost use Rattle.ax_view.specs.Values.{IsOne, value_in};
@@ -16,8 +16,8 @@ ghost use Rattle.ax_view.specs.Values.{IsOne, value_in};
 use crate::item::ItemView;
 use crate::members::{find_member, find_part, part_member};
 use ax_bits::bits_at;
-use ax_model::LastPart;
-use ax_tables::Node;
+use ax_codec::Node;
+use ax_format::LastPart;
 
 /// What stands at a place.
 #[derive(Drop)]

@@ -1,16 +1,16 @@
 //! Records and items made into trees.
 ghost use Rattle.std.specs.Prelude.{◌≡◌, ◌+◌, ◌*◌, ◌<◌, ◌≤◌, false, length, map, IfOk};
 ghost use Rattle.ax_bits.specs.Bits.{bits, AreBits};
-ghost use Rattle.ax_model.specs.InBounds.{FixedInBounds, InBounds, SlotsInBounds};
-ghost use Rattle.ax_model.specs.Plain.{value_tree, entries_tree, record_tree};
-ghost use Rattle.ax_model.specs.Reader.{fixed_value};
-ghost use Rattle.ax_model.specs.Sizes.{longest_body};
-ghost use Rattle.ax_model.specs.Widths.{width};
-ghost use Rattle.ax_model.specs.Presence.{NoneUndefined};
-ghost use Rattle.ax_model.specs.Tree.{extended, slots_of, defined_slots};
-ghost use Rattle.ax_reader.specs.Reading.{IsMaskOf, entries_at};
-ghost use Rattle.ax_tables.specs.Meaning.{meanings, linked, fixed_of, linked_parts, linked_slots};
-ghost use Rattle.ax_tables.specs.Table.{LinksWithin, SlotLinksWithin, record_kind_at};
+ghost use Rattle.ax_format.specs.InBounds.{FixedInBounds, InBounds, SlotsInBounds};
+ghost use Rattle.ax_format.specs.Plain.{value_tree, entries_tree, record_tree};
+ghost use Rattle.ax_format.specs.Reader.{fixed_value};
+ghost use Rattle.ax_format.specs.Sizes.{longest_body};
+ghost use Rattle.ax_format.specs.Widths.{width};
+ghost use Rattle.ax_format.specs.Presence.{NoneUndefined};
+ghost use Rattle.ax_format.specs.Tree.{extended, slots_of, defined_slots};
+ghost use Rattle.ax_fspec.specs.Reading.{IsMaskOf, entries_at};
+ghost use Rattle.ax_codec.specs.Meaning.{meanings, linked, fixed_of, linked_parts, linked_slots};
+ghost use Rattle.ax_codec.specs.Table.{LinksWithin, SlotLinksWithin, record_kind_at};
 ghost use Rattle.ax_view.specs.Left.{occurrences_left};
 ghost use Rattle.ax_view.specs.Shown.{item_value, record_entries, occurrence_value};
 ghost use Rattle.ax_view.specs.Values.{IsAll, IsOne, entries_found, value_in, entries_in};
@@ -22,9 +22,9 @@ use crate::item::ItemView;
 use crate::notes::Notes;
 use crate::occurrences::Occurrences;
 use crate::record::RecordView;
+use ax_codec::{Codec, Node};
+use ax_format::{Entries, Entry, LastPart, Octets, Record, Value, Values};
 use ax_fspec::{Presence, SlotMask, read_presence};
-use ax_model::{Entries, Entry, LastPart, Octets, Record, Value, Values};
-use ax_tables::{Codec, Node};
 use std::alloc::{AllocError, Global};
 
 impl RecordView<'_, '_> {

@@ -1,20 +1,20 @@
 //! Units of a known length: fixed kinds, parts, occurrences by FX, explicit contents.
 ghost use Rattle.std.specs.Prelude.{◌≡◌, ◌⊎◌, ◌↔◌, ◌+◌, ◌-◌, ◌*◌, ◌%◌, ◌<◌, ◌≤◌, length, get_or, Bool, IfSome, IfNone, IsTrue};
-ghost use Rattle.ax_model.specs.Canonical.{canon};
-ghost use Rattle.ax_model.specs.InBounds.{InBounds};
-ghost use Rattle.ax_model.specs.Sizes.{longest_body};
-ghost use Rattle.ax_model.specs.Tree as Tree;
-ghost use Rattle.ax_model.specs.Widths.{width, members_width};
-ghost use Rattle.ax_model.specs.declared.fault.BodyCause.TheVariants as Cause;
-ghost use Rattle.ax_tables.specs.Meaning.{meanings, linked, fixed_of, part_of, linked_parts};
-ghost use Rattle.ax_tables.specs.Table.{IsTable, LinksWithin, kind_at};
-ghost use Rattle.ax_reader.specs.Reading.{FailsAt, kind_read};
+ghost use Rattle.ax_format.specs.Canonical.{canon};
+ghost use Rattle.ax_format.specs.InBounds.{InBounds};
+ghost use Rattle.ax_format.specs.Sizes.{longest_body};
+ghost use Rattle.ax_format.specs.Tree as Tree;
+ghost use Rattle.ax_format.specs.Widths.{width, members_width};
+ghost use Rattle.ax_format.specs.declared.fault.BodyCause.TheVariants as Cause;
+ghost use Rattle.ax_codec.specs.Meaning.{meanings, linked, fixed_of, part_of, linked_parts};
+ghost use Rattle.ax_codec.specs.Table.{IsTable, LinksWithin, kind_at};
+ghost use Rattle.ax_fspec.specs.Reading.{FailsAt, kind_read};
 ghost use Rattle.ax_view.specs.Walking.{Walks};
 
 use crate::notes::{Notes, fail};
-use ax_model::{BodyCause, LastPart};
-use ax_reader::{ends_with_fx, run_end};
-use ax_tables::Node;
+use ax_codec::Node;
+use ax_format::{BodyCause, LastPart};
+use ax_fspec::{ends_with_fx, run_end};
 use ax_values::explicit_content;
 
 /// The octet after a unit of `width` bits, whole octets, that begins at octet `at`. None comes exactly where the body ends
@@ -38,7 +38,7 @@ pub(crate) fn run(body: &[u8], at: u32, width: u32, notes: &mut Notes) -> Option
 
 /// The width of the fixed kind that a link leads to.
 #[inline]
-#[tactic(auto, using(ax_tables::proofs::Tables::widths))]
+#[tactic(auto, using(ax_codec::proofs::Tables::widths))]
 pub(crate) fn fixed_width(nodes: &[Node], link: u32) -> u32
     requires table { IsTable nodes.now }
     requires link { (0 < link) × (link ≤ length nodes.now) }
@@ -49,7 +49,7 @@ pub(crate) fn fixed_width(nodes: &[Node], link: u32) -> u32
 
 /// The width of the part that a link leads to, without its FX bit.
 #[inline]
-#[tactic(auto, using(ax_tables::proofs::Tables::widths))]
+#[tactic(auto, using(ax_codec::proofs::Tables::widths))]
 pub(crate) fn part_width(nodes: &[Node], link: u32) -> u32
     requires table { IsTable nodes.now }
     requires link { (0 < link) × (link ≤ length nodes.now) }

@@ -1,6 +1,6 @@
 use Rattle.std.proofs.Common.{◌≡◌, Some, sym, ◌∙◌, ap, arith}
 use Rattle.ax_expand_work.specs.ExpandCommand.{re_frn}
-use Rattle.ax_model.specs.Plain.{spec_tree}
+use Rattle.ax_format.specs.Plain.{spec_tree}
 use Rattle.ax_app.proofs.Expansions.{expand_runs}
 use Rattle.ax_app.proofs.expanding.expand.Goals as goal
 

@@ -1,5 +1,5 @@
 use Rattle.std.proofs.Common.{◌∙◌, ap, sym}
-use Rattle.ax_model.specs.Plain.{spec_tree}
+use Rattle.ax_format.specs.Plain.{spec_tree}
 use Rattle.ax_app.specs.Jobs.{check_text}
 use Rattle.ax_app.proofs.Checks.{text_ends}
 use Rattle.ax_app.proofs.jobs.check.Goals as goal

@@ -1,5 +1,5 @@
 use Rattle.std.proofs.Common.{IfErr, refl, subst}
-use Rattle.ax_model.specs.Plain.{catalogue_tree}
+use Rattle.ax_format.specs.Plain.{catalogue_tree}
 use Rattle.ax_words.specs.declared.line.Line.TheVariants.{Filter, Help, Version}
 use Rattle.ax_app.specs.Given.{only}
 use Rattle.ax_app.specs.Jobs.{IsReady, IsStopped, help_text, version_text}

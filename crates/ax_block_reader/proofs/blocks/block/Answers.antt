@@ -1,6 +1,6 @@
 use Rattle.std.proofs.Common.{rules}
 use Rattle.std.proofs.lemmas.Result.{err_from_is_err_and}
-use Rattle.ax_model.specs.Plain.{catalogue_tree, block_tree}
+use Rattle.ax_format.specs.Plain.{catalogue_tree, block_tree}
 use Rattle.ax_block_reader.proofs.BlockWays.{read_lacks, opaque_lacks, block_of_records, block_of_octets}
 use Rattle.ax_block_reader.proofs.blocks.block.Goals as goal
 

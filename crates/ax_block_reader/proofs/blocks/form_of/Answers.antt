@@ -1,6 +1,6 @@
 use Rattle.std.proofs.lemmas.Result.{err_from_is_err_and}
 use Rattle.std.proofs.Common.{rules, ◌≡◌, codes}
-use Rattle.ax_model.specs.Plain.{catalogue_tree}
+use Rattle.ax_format.specs.Plain.{catalogue_tree}
 use Rattle.ax_block_reader.proofs.BlockWays.{no_form, unknown_form, unlacked_form, neither_form}
 use Rattle.ax_block_reader.proofs.blocks.form_of.Goals as goal
 

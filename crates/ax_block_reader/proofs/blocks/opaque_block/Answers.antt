@@ -1,7 +1,7 @@
 use Rattle.std.proofs.Common.{rules, ◌≡◌, None}
 use Rattle.std.proofs.lemmas.Result.{err_from_is_err_and}
-use Rattle.ax_model.specs.Plain.{catalogue_tree}
-use Rattle.ax_model.specs.Specification.{spec_of}
+use Rattle.ax_format.specs.Plain.{catalogue_tree}
+use Rattle.ax_format.specs.Specification.{spec_of}
 use Rattle.ax_block_reader.proofs.BlockWays.{no_category_lacked, category_has_one, content_lacks, opaque_is_read}
 use Rattle.ax_block_reader.proofs.blocks.opaque_block.Goals as goal
 

@@ -1,8 +1,8 @@
 use Rattle.std.proofs.Common.{rules, ◌≡◌, Some}
 use Rattle.std.proofs.lemmas.Result.{err_from_is_err_and}
-use Rattle.ax_model.specs.Plain.{catalogue_tree, spec_tree, records_tree}
-use Rattle.ax_model.specs.OfCode.{HasNoFlaw}
-use Rattle.ax_model.specs.Specification.{spec_of}
+use Rattle.ax_format.specs.Plain.{catalogue_tree, spec_tree, records_tree}
+use Rattle.ax_format.specs.OfCode.{HasNoFlaw}
+use Rattle.ax_format.specs.Specification.{spec_of}
 use Rattle.ax_block_reader.proofs.BlockWays.{no_category_known, category_unknown, records_lack, read_is_read}
 use Rattle.ax_text.proofs.Readables.{record_readable}
 use Rattle.ax_block_reader.proofs.blocks.read_block.Goals as goal

@@ -1,5 +1,5 @@
 use Rattle.std.proofs.Common.{rules, ◌≡◌, Some, slice_get}
-use Rattle.ax_model.specs.Plain.{spec_tree}
+use Rattle.ax_format.specs.Plain.{spec_tree}
 use Rattle.ax_block_reader.proofs.Digits.{first_known}
 use Rattle.ax_block_reader.proofs.categories.known_category.Goals as goal
 

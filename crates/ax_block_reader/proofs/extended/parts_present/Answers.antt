@@ -1,7 +1,7 @@
 use Rattle.std.proofs.Common.{rules, Ok, map, ◌≡◌, ◌∷◌, ◌++◌, [], length, ap, arith}
 use Rattle.std.proofs.lemmas.List.{length_push}
 use Rattle.std.proofs.lemmas.Result.{err_from_is_err_and}
-use Rattle.ax_model.specs.Plain.{part_tree}
+use Rattle.ax_format.specs.Plain.{part_tree}
 use Rattle.ax_block_reader.proofs.PartWays.{first_readable, first_lacks, first_part_read, parts_cut, parts_end, parts_lack, part_readable, part_lacks, part_more_read}
 use Rattle.ax_block_reader.proofs.extended.parts_present.Goals as goal
 

@@ -1,5 +1,5 @@
 use Rattle.std.proofs.Common.{◌≡◌, ◌<◌, ◌+◌, length, map}
-use Rattle.ax_model.specs.Plain.{part_tree}
+use Rattle.ax_format.specs.Plain.{part_tree}
 use Rattle.ax_block_reader.proofs.PartWays.{PartsRead}
 use Rattle.ax_block_reader.proofs.extended.parts_present.Given as goal
 

@@ -1,7 +1,7 @@
 use Rattle.std.proofs.Common.{Ok, ◌≡◌, ◌∷◌, ◌++◌, [], length, ap, arith, refl}
 use Rattle.std.proofs.lemmas.List.{length_push}
 use Rattle.std.proofs.lemmas.Result.{err_from_is_err_and}
-use Rattle.ax_model.specs.Plain.{fixed_tree}
+use Rattle.ax_format.specs.Plain.{fixed_tree}
 use Rattle.ax_block_reader.proofs.RunWays.{no_value_read, value_lacks, value_read, run_goes_on, run_cut, run_ends}
 use Rattle.ax_block_reader.proofs.extended.run_values.Goals as goal
 

@@ -1,5 +1,5 @@
 use Rattle.std.proofs.Common.{◌≤◌, ◌+◌, length}
-use Rattle.ax_model.specs.Plain.{fixed_tree}
+use Rattle.ax_format.specs.Plain.{fixed_tree}
 use Rattle.ax_block_reader.proofs.RunWays.{RunRead}
 use Rattle.ax_block_reader.proofs.extended.run_values.Given as goal
 

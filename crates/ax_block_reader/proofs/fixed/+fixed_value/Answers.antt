@@ -1,7 +1,7 @@
 use Rattle.std.proofs.Common.{◌≡◌, ℕ, ◌++◌, ◌∷◌, [], List, length, get_or, ◌∙◌, ap, arith, rules, refl}
 use Rattle.std.proofs.lemmas.List.{length_push}
 use Rattle.std.proofs.lemmas.Result.{err_from_is_err_and}
-use Rattle.ax_model.specs.declared.kind.Member.{Member}
+use Rattle.ax_format.specs.declared.kind.Member.{Member}
 use Rattle.ax_block_reader.proofs.FixedWays.{element_way, element_read, open_way, inside_way, group_read, readable_element, readable_group, name_way, value_way, named_read, readable_named, spare_way, bits_way, spare_read}
 use Rattle.ax_block_reader.proofs.MemberWays.{no_member_read, member_readable, member_lacks, member_more_read, close_lacks, members_read}
 use Rattle.ax_block_reader.proofs.fixed.+fixed_value.Goals as goal

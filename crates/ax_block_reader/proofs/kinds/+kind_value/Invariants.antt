@@ -1,6 +1,6 @@
 use Rattle.std.proofs.Common.{◌≡◌, ◌≤◌, ◌+◌, ◌-◌, ◌*◌, ◌^◌, length, drop}
-use Rattle.ax_model.specs.Plain.{kind_tree, slots_tree}
-use Rattle.ax_model.specs.Widths.{counter_width}
+use Rattle.ax_format.specs.Plain.{kind_tree, slots_tree}
+use Rattle.ax_format.specs.Widths.{counter_width}
 use Rattle.ax_block_reader.proofs.CountedWays.{CountedRead}
 use Rattle.ax_block_reader.proofs.EntryWays.{EntriesRead}
 use Rattle.ax_block_reader.proofs.kinds.+kind_value.Given as goal

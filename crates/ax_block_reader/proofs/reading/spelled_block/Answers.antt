@@ -1,5 +1,5 @@
 use Rattle.std.proofs.Common.{arith}
-use Rattle.ax_model.specs.Plain.{catalogue_tree, block_tree}
+use Rattle.ax_format.specs.Plain.{catalogue_tree, block_tree}
 use Rattle.ax_block_reader.proofs.Whole.{trails, stopped, spells, count_is}
 use Rattle.ax_block_reader.proofs.reading.spelled_block.Goals as goal
 

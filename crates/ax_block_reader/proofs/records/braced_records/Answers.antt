@@ -1,6 +1,6 @@
 use Rattle.std.proofs.Common.{arith}
 use Rattle.std.proofs.lemmas.Result.{err_from_is_err_and, on_ok_weaker}
-use Rattle.ax_model.specs.Plain.{spec_tree}
+use Rattle.ax_format.specs.Plain.{spec_tree}
 use Rattle.ax_block_reader.proofs.RecordListWays.{open_way, braced_gives}
 use Rattle.ax_block_reader.proofs.records.braced_records.Goals as goal
 

@@ -1,7 +1,7 @@
 use Rattle.std.proofs.Common.{inr, map}
 use Rattle.std.proofs.lemmas.Result.{err_from_is_err_and}
-use Rattle.ax_model.specs.Plain.{item_tree, value_tree}
-use Rattle.ax_model.specs.Specification.{uap_slot}
+use Rattle.ax_format.specs.Plain.{item_tree, value_tree}
+use Rattle.ax_format.specs.Specification.{uap_slot}
 use Rattle.ax_block_reader.proofs.RecordWays.{item_way, item_is_read}
 use Rattle.ax_block_reader.proofs.records.item_value.Goals as goal
 

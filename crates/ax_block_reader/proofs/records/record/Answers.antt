@@ -1,5 +1,5 @@
 use Rattle.std.proofs.lemmas.Result.{err_from_is_err_and}
-use Rattle.ax_model.specs.Plain.{spec_tree}
+use Rattle.ax_format.specs.Plain.{spec_tree}
 use Rattle.ax_block_reader.proofs.RecordWays.{after_way, record_is_read}
 use Rattle.ax_block_reader.proofs.records.record.Goals as goal
 

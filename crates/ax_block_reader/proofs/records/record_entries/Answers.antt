@@ -1,10 +1,10 @@
 use Rattle.std.proofs.Common.{◌≡◌, ◌+◌, length, ap, arith, refl, get_or, ◌∙◌, List, ℕ}
 use Rattle.std.proofs.lemmas.List.{length_push}
 use Rattle.std.proofs.lemmas.Result.{err_from_is_err_and}
-use Rattle.ax_model.specs.Plain.{spec_tree}
-use Rattle.ax_model.specs.Specification.{record_slots}
-use Rattle.ax_model.specs.declared.spec.UapSlot.{UapSlot}
-use Rattle.ax_model.specs.declared.value.Entry.{roll-Entry}
+use Rattle.ax_format.specs.Plain.{spec_tree}
+use Rattle.ax_format.specs.Specification.{record_slots}
+use Rattle.ax_format.specs.declared.spec.UapSlot.{UapSlot}
+use Rattle.ax_format.specs.declared.value.Entry.{roll-Entry}
 use Rattle.ax_block_reader.proofs.EntryWays.{no_entry_read, entry_lacks, entry_read, entry_skipped, close_lacks, entries_read, entry_is}
 use Rattle.ax_block_reader.proofs.RecordWays.{uap_from, uap_past}
 use Rattle.ax_block_reader.proofs.records.record_entries.Goals as goal

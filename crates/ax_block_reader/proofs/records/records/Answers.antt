@@ -1,7 +1,7 @@
 use Rattle.std.proofs.Common.{Ok, ◌≡◌, ◌∷◌, ◌++◌, [], length, ap, arith, refl}
 use Rattle.std.proofs.lemmas.List.{length_push}
 use Rattle.std.proofs.lemmas.Result.{err_from_is_err_and}
-use Rattle.ax_model.specs.Plain.{spec_tree}
+use Rattle.ax_format.specs.Plain.{spec_tree}
 use Rattle.ax_block_reader.proofs.RecordListWays.{no_record_read, record_lacks, one_read, records_go_on, records_cut, records_end}
 use Rattle.ax_block_reader.proofs.records.records.Goals as goal
 

@@ -1,5 +1,5 @@
 use Rattle.std.proofs.Common.{◌≤◌, ◌+◌, length}
-use Rattle.ax_model.specs.Plain.{spec_tree}
+use Rattle.ax_format.specs.Plain.{spec_tree}
 use Rattle.ax_block_reader.proofs.RecordListWays.{RecordsRead}
 use Rattle.ax_block_reader.proofs.records.records.Given as goal
 

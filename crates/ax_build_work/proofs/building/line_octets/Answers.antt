@@ -1,5 +1,5 @@
 use Rattle.std.proofs.Common.{rules}
-use Rattle.ax_model.specs.Plain.{catalogue_tree}
+use Rattle.ax_format.specs.Plain.{catalogue_tree}
 use Rattle.ax_build_work.proofs.Built.{none_asked, built_line, not_built}
 use Rattle.ax_build_work.specs.Stops.{StopsLine}
 use Rattle.ax_build_work.proofs.building.line_octets.Goals as goal

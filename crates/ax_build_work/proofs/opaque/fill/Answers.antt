@@ -1,5 +1,5 @@
 use Rattle.std.proofs.Common.{arith}
-use Rattle.ax_model.specs.CanonicalOctets.{framed}
+use Rattle.ax_format.specs.CanonicalOctets.{framed}
 use Rattle.ax_values.proofs.WrittenBlocks.{same_octets}
 use Rattle.ax_build_work.proofs.opaque.fill.Goals as goal
 

@@ -1,7 +1,7 @@
 use Rattle.ax_bits.specs.Bits.{bits}
 use Rattle.ax_bits.specs.Out.{loan}
-use Rattle.ax_model.proofs.CanonFramed.{length-framed}
-use Rattle.ax_model.specs.CanonicalOctets.{framed}
+use Rattle.ax_format.proofs.CanonFramed.{length-framed}
+use Rattle.ax_format.specs.CanonicalOctets.{framed}
 use Rattle.std.proofs.Common.{◌≡◌, ◌∙◌, sym, rules, length}
 use Rattle.ax_values.proofs.WrittenBlocks.{filled}
 use Rattle.ax_build_work.proofs.opaque.write_over.Goals as goal

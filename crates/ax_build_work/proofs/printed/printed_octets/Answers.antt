@@ -1,7 +1,7 @@
 use Rattle.std.proofs.Common.{sym, subst}
 use Rattle.ax_build_work.specs.BuildCommand.{AnswersLine}
-use Rattle.ax_line_stream.specs.Commands.{gives}
-use Rattle.ax_model.specs.Plain.{catalogue_tree}
+use Rattle.ax_lines.specs.Commands.{gives}
+use Rattle.ax_format.specs.Plain.{catalogue_tree}
 use Rattle.ax_build_work.proofs.PrintedLines.{printed_answered}
 use Rattle.ax_build_work.proofs.printed.printed_octets.Goals as goal
 

@@ -1,9 +1,9 @@
 use Rattle.std.proofs.Common.{subst}
 use Rattle.ax_build_work.specs.BuildCommand.{build_command}
-use Rattle.ax_line_stream.proofs.Running.{memory_first}
-use Rattle.ax_line_stream.specs.Completing.{Completes}
-use Rattle.ax_line_stream.specs.Ending.{longest_line, longest_input}
-use Rattle.ax_model.specs.Plain.{catalogue_tree}
+use Rattle.ax_lines.proofs.Running.{memory_first}
+use Rattle.ax_lines.specs.Completing.{Completes}
+use Rattle.ax_lines.specs.Ending.{longest_line, longest_input}
+use Rattle.ax_format.specs.Plain.{catalogue_tree}
 use Rattle.ax_outside.specs.Changes.{source_change, sink_change}
 use Rattle.ax_build_work.proofs.work.build_lines.Goals as goal
 

@@ -2,7 +2,7 @@ use Rattle.std.proofs.Common.{Bool, List, ℕ, subst}
 use Rattle.std.specs.Fn.{FnReturnsAt}
 use Rattle.ax_canon.proofs.KeptRecords.{none_if_fails}
 use Rattle.ax_canon.specs.Kept.{IsCanonicalIf}
-use Rattle.ax_tables.specs.declared.codec.Codec.{Codec}
+use Rattle.ax_codec.specs.declared.codec.Codec.{Codec}
 use Rattle.ax_view.specs.Views.{FailsThere}
 use Rattle.ax_view.specs.declared.record.RecordView.{RecordView}
 use Rattle.ax_canon.proofs.kept.canonical_if.Goals as goal

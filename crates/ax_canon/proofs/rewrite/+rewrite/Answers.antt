@@ -2,13 +2,13 @@ use Rattle.std.proofs.Common.{◌-◌, length, arith, refl, sym, subst}
 use Rattle.ax_bits.proofs.Pieces.{AreOctets-items}
 use Rattle.ax_canon.proofs.Fronting.{count_next, count_last, marks_next, marks_last}
 use Rattle.ax_canon.proofs.Pieces.{not_copied, as_kind, no_count, count_first, field_room, room_following, compound_written}
-use Rattle.ax_model.specs.Canonical.{canon}
-use Rattle.ax_model.specs.InBounds.{InBounds}
-use Rattle.ax_model.specs.Tree as Tree
-use Rattle.ax_tables.specs.Meaning.{meanings, linked_slots}
-use Rattle.ax_tables.specs.Table.{kind_at, record_kind_at}
-use Rattle.ax_reader.proofs.Marking.{marks_bits}
-use Rattle.ax_reader.specs.Reading.{kind_read}
+use Rattle.ax_format.specs.Canonical.{canon}
+use Rattle.ax_format.specs.InBounds.{InBounds}
+use Rattle.ax_format.specs.Tree as Tree
+use Rattle.ax_codec.specs.Meaning.{meanings, linked_slots}
+use Rattle.ax_codec.specs.Table.{kind_at, record_kind_at}
+use Rattle.ax_fspec.proofs.Marking.{marks_bits}
+use Rattle.ax_fspec.specs.Reading.{kind_read}
 use Rattle.ax_view.proofs.Compounds.{marks_clear, slots_bounds, record_failed}
 use Rattle.ax_view.proofs.MarkedSteps.{next_marked, greatest_at, within_at}
 use Rattle.ax_view.proofs.NodeKinds.{is_element, is_group, is_part, is_extended, is_counted, counted_link, is_by_fx, is_explicit, is_compound, compound_links, compound_mask, compound_falls}

@@ -1,9 +1,9 @@
 use Rattle.std.proofs.Common.{arith}
 use Rattle.ax_bits.proofs.Pieces.{AreOctets-items}
 use Rattle.ax_canon.proofs.Pieces.{compound_written, field_room, not_copied, room_following}
-use Rattle.ax_model.specs.Canonical.{canon}
-use Rattle.ax_reader.specs.Reading.{kind_read}
-use Rattle.ax_tables.specs.Table.{record_kind_at}
+use Rattle.ax_format.specs.Canonical.{canon}
+use Rattle.ax_fspec.specs.Reading.{kind_read}
+use Rattle.ax_codec.specs.Table.{record_kind_at}
 use Rattle.ax_view.proofs.Compounds.{record_failed}
 use Rattle.ax_canon.proofs.rewrite.rewrite_field.Goals as goal
 

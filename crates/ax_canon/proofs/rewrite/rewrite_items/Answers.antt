@@ -1,12 +1,12 @@
 use Rattle.std.proofs.Common.{arith, sym, subst}
 use Rattle.ax_canon.proofs.Pieces.{copied}
 use Rattle.ax_canon.specs.Rewriting.{Rewrites}
-use Rattle.ax_model.specs.InBounds.{SlotsInBounds}
-use Rattle.ax_model.specs.Presence.{NoneUndefined}
-use Rattle.ax_model.specs.Tree.{slots_of, defined_slots}
-use Rattle.ax_reader.proofs.Marking.{marks_bits}
-use Rattle.ax_reader.specs.Reading.{entries_at}
-use Rattle.ax_tables.specs.Meaning.{meanings, linked_slots}
+use Rattle.ax_format.specs.InBounds.{SlotsInBounds}
+use Rattle.ax_format.specs.Presence.{NoneUndefined}
+use Rattle.ax_format.specs.Tree.{slots_of, defined_slots}
+use Rattle.ax_fspec.proofs.Marking.{marks_bits}
+use Rattle.ax_fspec.specs.Reading.{entries_at}
+use Rattle.ax_codec.specs.Meaning.{meanings, linked_slots}
 use Rattle.ax_view.proofs.Compounds.{marks_clear, slots_bounds}
 use Rattle.ax_view.specs.Rows.{tree_of}
 use Rattle.ax_view.specs.Walking.{along}

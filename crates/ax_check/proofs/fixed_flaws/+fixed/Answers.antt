@@ -2,7 +2,7 @@ use Rattle.std.proofs.Common.{◌≡◌, ◌++◌, refl, arith, rules}
 use Rattle.ax_check.proofs.FlawLists.{group_found, member_found, member_named, members_found, members_named}
 use Rattle.ax_check.specs.Members.{member_flaws, with_member}
 use Rattle.ax_check.specs.Names.{listed, AreSame}
-use Rattle.ax_model.specs.Plain.{member_tree}
+use Rattle.ax_format.specs.Plain.{member_tree}
 use Rattle.ax_check.proofs.fixed_flaws.+fixed.Goals as goal
 
 pub find_in_members-loop-member-preserved : goal.find_in_members-loop-member-preserved

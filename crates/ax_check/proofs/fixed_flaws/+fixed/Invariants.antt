@@ -1,6 +1,6 @@
 use Rattle.std.proofs.Common.{◌≡◌, ◌++◌, drop}
-use Rattle.ax_model.specs.Flaws.{members_flaws, names_with}
-use Rattle.ax_model.specs.Plain.{members_tree}
+use Rattle.ax_format.specs.Flaws.{members_flaws, names_with}
+use Rattle.ax_format.specs.Plain.{members_tree}
 use Rattle.ax_check.specs.Names.{listed, AreSame}
 use Rattle.ax_check.proofs.fixed_flaws.+fixed.Given as goal
 

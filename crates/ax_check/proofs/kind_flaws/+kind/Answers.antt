@@ -2,7 +2,7 @@ use Rattle.std.proofs.Common.{◌≡◌, ◌++◌, length, rules}
 use Rattle.ax_check.proofs.SlotLists.{slot_start, slot_step, slot_end}
 use Rattle.ax_check.specs.Members.{count_flaws, slot_flaws, with_slot}
 use Rattle.ax_check.specs.Names.{listed, AreSame}
-use Rattle.ax_model.specs.Plain.{slot_tree}
+use Rattle.ax_format.specs.Plain.{slot_tree}
 use Rattle.ax_check.proofs.kind_flaws.+kind.Goals as goal
 
 pub find_in_slots-loop-slot-preserved : goal.find_in_slots-loop-slot-preserved

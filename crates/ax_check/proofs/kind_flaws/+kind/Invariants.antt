@@ -1,7 +1,7 @@
 use Rattle.std.proofs.Common.{◌≡◌, ◌++◌, drop, length, ◌==◌, nat_lt, []}
-use Rattle.ax_model.specs.Flaws.{flaw_where, slots_flaws}
-use Rattle.ax_model.specs.Plain.{slots_tree}
-use Rattle.ax_model.specs.declared.flaw.FlawKind.TheVariants.{Empty, TooManySlots}
+use Rattle.ax_format.specs.Flaws.{flaw_where, slots_flaws}
+use Rattle.ax_format.specs.Plain.{slots_tree}
+use Rattle.ax_format.specs.declared.flaw.FlawKind.TheVariants.{Empty, TooManySlots}
 use Rattle.ax_check.specs.Names.{listed}
 use Rattle.ax_check.proofs.kind_flaws.+kind.Given as goal
 

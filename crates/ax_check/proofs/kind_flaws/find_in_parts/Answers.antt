@@ -2,11 +2,11 @@ use Rattle.std.proofs.Common.{◌≡◌, ◌++◌, ◌+◌, ◌-◌, ◌≤◌, 
 use Rattle.ax_check.proofs.PartLists.{part_start, part_step, part_end}
 use Rattle.ax_check.specs.Members.{part_flaws}
 use Rattle.ax_check.specs.Names.{listed, AreSame}
-use Rattle.ax_model.specs.Flaws.{flaw_where, names_with}
-use Rattle.ax_model.proofs.Completions.{fx_few}
-use Rattle.ax_model.specs.Plain.{part_tree}
-use Rattle.ax_model.specs.Widths.{fx_width}
-use Rattle.ax_model.specs.declared.flaw.FlawKind.TheVariants.{Empty}
+use Rattle.ax_format.specs.Flaws.{flaw_where, names_with}
+use Rattle.ax_format.proofs.Completions.{fx_few}
+use Rattle.ax_format.specs.Plain.{part_tree}
+use Rattle.ax_format.specs.Widths.{fx_width}
+use Rattle.ax_format.specs.declared.flaw.FlawKind.TheVariants.{Empty}
 use Rattle.ax_check.proofs.kind_flaws.find_in_parts.Goals as goal
 
 pub loop-part-preserved : goal.loop-part-preserved

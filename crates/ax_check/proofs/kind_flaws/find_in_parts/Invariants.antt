@@ -1,7 +1,7 @@
 use Rattle.std.proofs.Common.{◌≡◌, ◌++◌, drop, map, length, ◌==◌, []}
-use Rattle.ax_model.specs.Flaws.{flaw_where, parts_flaws}
-use Rattle.ax_model.specs.Plain.{part_tree}
-use Rattle.ax_model.specs.declared.flaw.FlawKind.TheVariants.{Empty}
+use Rattle.ax_format.specs.Flaws.{flaw_where, parts_flaws}
+use Rattle.ax_format.specs.Plain.{part_tree}
+use Rattle.ax_format.specs.declared.flaw.FlawKind.TheVariants.{Empty}
 use Rattle.ax_check.specs.Names.{listed}
 use Rattle.ax_check.proofs.kind_flaws.find_in_parts.Given as goal
 

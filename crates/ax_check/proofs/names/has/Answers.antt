@@ -1,7 +1,7 @@
 use Rattle.std.proofs.Common.{◌∙◌, ap}
 use Rattle.ax_check.proofs.NameSets.{has_name}
 use Rattle.ax_check.specs.Names.{listed}
-use Rattle.ax_model.specs.Flaws.{is_among}
+use Rattle.ax_format.specs.Flaws.{is_among}
 use Rattle.ax_check.proofs.names.has.Goals as goal
 
 pub returns : goal.returns

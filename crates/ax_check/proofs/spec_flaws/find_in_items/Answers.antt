@@ -2,7 +2,7 @@ use Rattle.std.proofs.Common.{◌≡◌, ◌∷◌, ◌++◌, rules}
 use Rattle.ax_check.proofs.ItemLists.{item_start, name_start, item_step, name_step, item_end, name_end}
 use Rattle.ax_check.specs.Members.{item_flaws}
 use Rattle.ax_check.specs.Names.{listed, AreSame}
-use Rattle.ax_model.specs.Plain.{item_tree}
+use Rattle.ax_format.specs.Plain.{item_tree}
 use Rattle.ax_check.proofs.spec_flaws.find_in_items.Goals as goal
 
 pub loop-item-preserved : goal.loop-item-preserved

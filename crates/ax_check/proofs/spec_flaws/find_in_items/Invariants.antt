@@ -1,6 +1,6 @@
 use Rattle.std.proofs.Common.{◌≡◌, ◌++◌, drop, map, []}
-use Rattle.ax_model.specs.Flaws.{items_flaws}
-use Rattle.ax_model.specs.Plain.{item_tree}
+use Rattle.ax_format.specs.Flaws.{items_flaws}
+use Rattle.ax_format.specs.Plain.{item_tree}
 use Rattle.ax_check.proofs.ItemLists.{names_after}
 use Rattle.ax_check.specs.Members.{item_names}
 use Rattle.ax_check.specs.Names.{listed, AreSame}

@@ -1,6 +1,6 @@
 use Rattle.std.proofs.Common.{◌≡◌, ◌++◌, drop, map}
-use Rattle.ax_model.specs.Flaws.{uap_flaws}
-use Rattle.ax_model.specs.Plain.{item_tree}
+use Rattle.ax_format.specs.Flaws.{uap_flaws}
+use Rattle.ax_format.specs.Plain.{item_tree}
 use Rattle.ax_check.specs.Members.{uap_part_flaws}
 use Rattle.ax_check.specs.Names.{listed}
 use Rattle.ax_check.proofs.spec_flaws.find_in_uap.Given as goal

@@ -1,6 +1,6 @@
 use Rattle.std.proofs.Common.{◌≡◌, ◌+◌, ◌%◌, ◌<◌, drop}
-use Rattle.ax_model.specs.Plain.{members_tree}
-use Rattle.ax_model.specs.Widths.{members_width}
+use Rattle.ax_format.specs.Plain.{members_tree}
+use Rattle.ax_format.specs.Widths.{members_width}
 use Rattle.ax_check.proofs.widths.+over.Given as goal
 
 abbrev pub invariant-bits_over_members-loop-member : goal.invariant-bits_over_members-loop-member

@@ -1,5 +1,5 @@
 use Rattle.std.proofs.Common.{◌-◌, arith}
-use Rattle.ax_reader.proofs.RecordSlots.{frn_bounds}
+use Rattle.ax_fspec.proofs.RecordSlots.{frn_bounds}
 use Rattle.ax_codec_tests.proofs.records.kind_at.Goals as goal
 
 pub kind_in-requires : goal.kind_in-requires

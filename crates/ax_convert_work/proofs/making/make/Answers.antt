@@ -2,7 +2,7 @@ use Rattle.std.proofs.Common.{subst}
 use Rattle.ax_blocks.specs.Reader.{raw_tree}
 use Rattle.ax_convert_work.proofs.MadeBlocks.{block_made, block_not_made}
 use Rattle.ax_convert_work.specs.Making.{AreDataBlocks, IsReadBlock, NoDataBlocks, NotMade}
-use Rattle.ax_model.specs.Plain.{spec_tree, block_tree}
+use Rattle.ax_format.specs.Plain.{spec_tree, block_tree}
 use Rattle.ax_convert_work.proofs.making.make.Goals as goal
 
 pub returns-in-Err-clause-stop : goal.returns-in-Err-clause-stop

@@ -1,7 +1,7 @@
 use Rattle.std.proofs.Common.{take}
 use Rattle.ax_edition.specs.Known.{kind_found, known_slots}
 use Rattle.ax_relation.specs.Known.{Says}
-use Rattle.ax_model.specs.Plain.{slots_tree}
+use Rattle.ax_format.specs.Plain.{slots_tree}
 use Rattle.ax_edition.proofs.known.+know.Given as goal
 
 abbrev pub invariant-know_slots-loop-slot : goal.invariant-know_slots-loop-slot

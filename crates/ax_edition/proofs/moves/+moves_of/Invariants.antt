@@ -2,7 +2,7 @@ use Rattle.std.proofs.Common.{◌≡◌, ◌+◌, ◌++◌, map, drop}
 use Rattle.ax_edition.specs.Index.{found}
 use Rattle.ax_relation.specs.Moves.{moves_of}
 use Rattle.ax_relation.specs.PlainMoves.{move_tree}
-use Rattle.ax_model.specs.Plain.{slots_tree}
+use Rattle.ax_format.specs.Plain.{slots_tree}
 use Rattle.ax_edition.proofs.moves.+moves_of.Given as goal
 
 abbrev pub invariant-moves_of_slots-loop-slot : goal.invariant-moves_of_slots-loop-slot

@@ -1,6 +1,6 @@
 use Rattle.std.proofs.Common.{◌+◌, drop}
 use Rattle.ax_edition.specs.Numbers.{Counts}
-use Rattle.ax_model.specs.Plain.{slots_tree}
+use Rattle.ax_format.specs.Plain.{slots_tree}
 use Rattle.ax_edition.proofs.numbers.number_slots.Given as goal
 
 abbrev pub invariant-loop-place : goal.invariant-loop-place

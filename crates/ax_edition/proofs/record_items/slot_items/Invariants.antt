@@ -1,7 +1,7 @@
 use Rattle.std.proofs.Common.{◌≡◌, map, take}
 use Rattle.ax_edition.specs.SlotItems.{item_slot}
-use Rattle.ax_model.specs.Plain.{item_tree}
-use Rattle.ax_model.specs.Specification.{uap_slot}
+use Rattle.ax_format.specs.Plain.{item_tree}
+use Rattle.ax_format.specs.Specification.{uap_slot}
 use Rattle.ax_edition.proofs.record_items.slot_items.Given as goal
 
 abbrev pub invariant-loop-slot : goal.invariant-loop-slot

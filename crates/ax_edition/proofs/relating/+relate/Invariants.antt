@@ -1,6 +1,6 @@
 use Rattle.std.proofs.Common.{◌≡◌, ◌+◌, ◌++◌, drop}
 use Rattle.ax_edition.specs.Relating.{lead, related_slots}
-use Rattle.ax_model.specs.Plain.{slots_tree}
+use Rattle.ax_format.specs.Plain.{slots_tree}
 use Rattle.ax_edition.proofs.relating.+relate.Given as goal
 
 abbrev pub invariant-relate_slots-loop-slot : goal.invariant-relate_slots-loop-slot

@@ -1,6 +1,6 @@
 use Rattle.std.proofs.Common.{◌≡◌, ◌++◌, map, drop, option_map}
 use Rattle.ax_edition.specs.Relating.{target_tree, related_parts}
-use Rattle.ax_model.specs.Plain.{part_tree}
+use Rattle.ax_format.specs.Plain.{part_tree}
 use Rattle.ax_edition.proofs.relating.relate_parts.Given as goal
 
 abbrev pub invariant-loop-part : goal.invariant-loop-part

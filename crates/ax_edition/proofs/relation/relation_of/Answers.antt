@@ -3,8 +3,8 @@ use Rattle.ax_edition.proofs.Relations.{paths_are, known_are, moves_are}
 use Rattle.ax_relation.specs.Known.{IsKnown}
 use Rattle.ax_relation.specs.PlainMoves.{move_tree}
 use Rattle.ax_edition.specs.SlotItems.{items_tree}
-use Rattle.ax_model.specs.Plain.{spec_tree}
-use Rattle.ax_model.specs.Specification.{record_slots}
+use Rattle.ax_format.specs.Plain.{spec_tree}
+use Rattle.ax_format.specs.Specification.{record_slots}
 use Rattle.ax_edition.proofs.relation.relation_of.Goals as goal
 
 pub new-requires : goal.new-requires

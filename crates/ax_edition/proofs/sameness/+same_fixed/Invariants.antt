@@ -1,6 +1,6 @@
 use Rattle.std.proofs.Common.{◌≡◌, length}
-use Rattle.ax_model.specs.Plain.{members_tree}
-use Rattle.ax_model.specs.Same.{are_same_members}
+use Rattle.ax_format.specs.Plain.{members_tree}
+use Rattle.ax_format.specs.Same.{are_same_members}
 use Rattle.ax_edition.proofs.sameness.+same_fixed.Given as goal
 
 abbrev pub invariant-same_members-loop-member : goal.invariant-same_members-loop-member

@@ -1,6 +1,6 @@
 use Rattle.std.proofs.Common.{◌≡◌, length}
-use Rattle.ax_model.specs.Plain.{slots_tree}
-use Rattle.ax_model.specs.Same.{are_same_slots}
+use Rattle.ax_format.specs.Plain.{slots_tree}
+use Rattle.ax_format.specs.Same.{are_same_slots}
 use Rattle.ax_edition.proofs.sameness.+same_kind.Given as goal
 
 abbrev pub invariant-same_slots-loop-slot : goal.invariant-same_slots-loop-slot

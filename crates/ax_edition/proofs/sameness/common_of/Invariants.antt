@@ -1,6 +1,6 @@
 use Rattle.std.proofs.Common.{◌≡◌, ◌+◌, drop, map}
-use Rattle.ax_model.specs.Same.{common}
-use Rattle.ax_model.specs.Plain.{part_tree}
+use Rattle.ax_format.specs.Same.{common}
+use Rattle.ax_format.specs.Plain.{part_tree}
 use Rattle.ax_edition.proofs.sameness.common_of.Given as goal
 
 abbrev pub invariant-loop-part : goal.invariant-loop-part

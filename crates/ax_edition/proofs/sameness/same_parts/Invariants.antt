@@ -1,6 +1,6 @@
 use Rattle.std.proofs.Common.{◌≡◌, length, map}
-use Rattle.ax_model.specs.Plain.{part_tree}
-use Rattle.ax_model.specs.Same.{are_same_parts}
+use Rattle.ax_format.specs.Plain.{part_tree}
+use Rattle.ax_format.specs.Same.{are_same_parts}
 use Rattle.ax_edition.proofs.sameness.same_parts.Given as goal
 
 abbrev pub invariant-loop-part : goal.invariant-loop-part

@@ -1,7 +1,7 @@
 use Rattle.std.proofs.Common.{◌≡◌, ℕ, subst}
 use Rattle.ax_bits.specs.Bits.{bits}
-use Rattle.ax_model.specs.Plain.{slots_tree, value_tree}
-use Rattle.ax_model.specs.Tree.{ValueTree}
+use Rattle.ax_format.specs.Plain.{slots_tree, value_tree}
+use Rattle.ax_format.specs.Tree.{ValueTree}
 use Rattle.ax_expand.proofs.Decoded.{where_spelled, where_faulty}
 use Rattle.ax_expand.specs.Answers.{IsOrMemory, AnswersFault}
 use Rattle.ax_expand.specs.Content.{SpellsContent, FailsContent}

@@ -1,4 +1,4 @@
-use Rattle.ax_model.specs.Plain.{slots_tree}
+use Rattle.ax_format.specs.Plain.{slots_tree}
 use Rattle.ax_expand.proofs.Decoded.{front_gets, front_failed}
 use Rattle.ax_expand.proofs.decode.decode_front.Goals as goal
 

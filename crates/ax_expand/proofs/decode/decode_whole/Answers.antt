@@ -1,6 +1,6 @@
 use Rattle.std.proofs.Common.{arith}
-use Rattle.ax_model.specs.Plain.{slots_tree, entries_tree}
-use Rattle.ax_model.specs.Tree.{marked}
+use Rattle.ax_format.specs.Plain.{slots_tree, entries_tree}
+use Rattle.ax_format.specs.Tree.{marked}
 use Rattle.ax_expand.proofs.Decoded.{octets_trail, entries_spelled, fault_inside}
 use Rattle.ax_expand.proofs.decode.decode_whole.Goals as goal
 

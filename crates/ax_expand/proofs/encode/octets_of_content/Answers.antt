@@ -1,7 +1,7 @@
 use Rattle.std.proofs.Common.{◌+◌, ◌∙◌, ap}
-use Rattle.ax_model.proofs.Counting.{entry_taken, entry_last}
-use Rattle.ax_model.specs.Lengths.{capped, entries_octets, slot_kind}
-use Rattle.ax_model.specs.Plain.{entries_tree, slots_tree}
+use Rattle.ax_format.proofs.Counting.{entry_taken, entry_last}
+use Rattle.ax_format.specs.Lengths.{capped, entries_octets, slot_kind}
+use Rattle.ax_format.specs.Plain.{entries_tree, slots_tree}
 use Rattle.ax_expand.proofs.ContentLengths.{octets_done}
 use Rattle.ax_expand.proofs.encode.octets_of_content.Goals as goal
 

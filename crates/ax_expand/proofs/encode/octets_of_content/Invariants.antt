@@ -1,6 +1,6 @@
 use Rattle.std.proofs.Common.{◌≡◌, ◌+◌, drop}
-use Rattle.ax_model.specs.Lengths.{capped, entries_octets, last_slot, slot_kind}
-use Rattle.ax_model.specs.Plain.{entries_tree, slots_tree}
+use Rattle.ax_format.specs.Lengths.{capped, entries_octets, last_slot, slot_kind}
+use Rattle.ax_format.specs.Plain.{entries_tree, slots_tree}
 use Rattle.ax_expand.proofs.encode.octets_of_content.Given as goal
 
 abbrev pub invariant-loop-entry : goal.invariant-loop-entry

@@ -1,6 +1,6 @@
 use Rattle.ax_bits.specs.Out.{Appends, room}
-use Rattle.ax_model.specs.Canonical.{marks_of}
-use Rattle.ax_model.specs.Plain.{slots_tree, entries_tree}
+use Rattle.ax_format.specs.Canonical.{marks_of}
+use Rattle.ax_format.specs.Plain.{slots_tree, entries_tree}
 use Rattle.ax_expand.proofs.Writing.{fx_field, fixed_field, octets_fit, entries_room, content_written}
 use Rattle.ax_expand.specs.Fields.{least_field}
 use Rattle.ax_expand.proofs.encode.write_content.Goals.{in-Fx, in-Fixed}

@@ -1,8 +1,8 @@
 use Rattle.std.proofs.Common.{◌≡◌, rules, length}
 use Rattle.ax_bits.specs.Bits.{bits}
 use Rattle.ax_bits.specs.Out.{loan}
-use Rattle.ax_model.specs.Plain.{slots_tree, entries_tree}
-use Rattle.ax_model.specs.Tree.{marked}
+use Rattle.ax_format.specs.Plain.{slots_tree, entries_tree}
+use Rattle.ax_format.specs.Tree.{marked}
 use Rattle.ax_expand.proofs.Writing.{filled}
 use Rattle.ax_expand.specs.Content.{CanonContent}
 use Rattle.ax_expand.proofs.encode.write_over.Goals as goal

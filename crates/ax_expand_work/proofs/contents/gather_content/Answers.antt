@@ -1,5 +1,5 @@
 use Rattle.ax_bits.specs.Bits.{bits}
-use Rattle.ax_model.specs.Plain.{slots_tree}
+use Rattle.ax_format.specs.Plain.{slots_tree}
 use Rattle.std.proofs.Common.{refl, subst}
 use Rattle.ax_expand.specs.Answers.{IsContentFault}
 use Rattle.ax_expand.specs.Expansion.{expansion_tree}

@@ -1,5 +1,5 @@
 use Rattle.std.proofs.Common.{sym}
-use Rattle.ax_tables.specs.Table.{kind_at}
+use Rattle.ax_codec.specs.Table.{kind_at}
 use Rattle.ax_expand_work.proofs.GatheredRecords.{content_few}
 use Rattle.ax_expand_work.proofs.records.gather_record.Goals as goal
 

@@ -1,5 +1,5 @@
 use Rattle.std.proofs.Common.{arith, rules}
-use Rattle.ax_model.specs.Plain.{catalogue_tree}
+use Rattle.ax_format.specs.Plain.{catalogue_tree}
 use Rattle.ax_tokens.specs.PlainToken.{plain_token}
 use Rattle.ax_filter.proofs.Leads.{found, no_fault, one_more, still_after, to_the_end}
 use Rattle.ax_filter.proofs.faults.first_fault.Goals as goal

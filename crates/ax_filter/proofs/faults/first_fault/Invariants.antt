@@ -1,6 +1,6 @@
 use Rattle.std.proofs.Common.{◌↔◌, IsTrue}
-use Rattle.ax_model.specs.Plain.{catalogue_tree}
-use Rattle.ax_token_reader.specs.Stopping.{texts_of}
+use Rattle.ax_format.specs.Plain.{catalogue_tree}
+use Rattle.ax_tokens.specs.Stopping.{texts_of}
 use Rattle.ax_filter.specs.Faults.{PathsLead, IsAfterIs}
 use Rattle.ax_filter.proofs.faults.first_fault.Given as goal
 

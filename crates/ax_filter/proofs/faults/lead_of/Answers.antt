@@ -1,5 +1,5 @@
 use Rattle.std.proofs.Common.{rules}
-use Rattle.ax_model.specs.Plain.{fixed_tree, catalogue_tree, spec_tree}
+use Rattle.ax_format.specs.Plain.{fixed_tree, catalogue_tree, spec_tree}
 use Rattle.ax_filter.proofs.Leads.{to_element}
 use Rattle.ax_filter.proofs.faults.lead_of.Goals as goal
 

@@ -1,6 +1,6 @@
 use Rattle.std.proofs.Common.{rules}
 use Rattle.std.proofs.lemmas.Result.{err_from_is_err_and}
-use Rattle.ax_model.specs.Plain.{catalogue_tree}
+use Rattle.ax_format.specs.Plain.{catalogue_tree}
 use Rattle.ax_filter.specs.Tree.{expr_tree}
 use Rattle.ax_filter.proofs.Whole.{over, filter_over, fault_in, fault_before}
 use Rattle.ax_filter.proofs.reading.read_filter.Goals as goal

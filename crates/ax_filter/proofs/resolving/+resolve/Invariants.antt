@@ -1,5 +1,5 @@
 use Rattle.std.proofs.Common.{◌≡◌, length, map, take}
-use Rattle.ax_model.specs.Plain.{catalogue_tree}
+use Rattle.ax_format.specs.Plain.{catalogue_tree}
 use Rattle.ax_filter.specs.Tests.{test_tree, resolved}
 use Rattle.ax_filter.specs.Tree.{expr_tree}
 use Rattle.ax_filter.proofs.resolving.+resolve.Given as goal

@@ -1,5 +1,5 @@
 use Rattle.std.proofs.Common.{rules}
-use Rattle.ax_model.specs.Plain.{value_tree, lists_tree}
+use Rattle.ax_format.specs.Plain.{value_tree, lists_tree}
 use Rattle.ax_filter.proofs.PlaceValues.{into_part, parts_tree}
 use Rattle.ax_filter.proofs.standing.+in_value.Goals as goal
 

@@ -1,6 +1,6 @@
 use Rattle.std.proofs.Common.{◌≡◌, drop}
-use Rattle.ax_model.specs.At.{slot_value}
-use Rattle.ax_model.specs.Plain.{entries_tree}
+use Rattle.ax_format.specs.At.{slot_value}
+use Rattle.ax_format.specs.Plain.{entries_tree}
 use Rattle.ax_filter.proofs.standing.in_slot.Given as goal
 
 abbrev pub invariant-loop-entry : goal.invariant-loop-entry

@@ -1,8 +1,8 @@
 use Rattle.std.proofs.Common.{◌≡◌, ℕ, ◌+◌, ◌-◌, ◌*◌, ◌%◌, drop, get_or, refl, sym, subst, ap, arith, ◌∙◌}
 use Rattle.std.proofs.lemmas.Nat.{and_mask}
-use Rattle.ax_model.specs.Presence.{octets_needed, none_marked}
-use Rattle.ax_model.specs.declared.fault.BodyCause.TheVariants.{PresenceTooLong}
-use Rattle.ax_model.specs.declared.fault.BodyFault.{BodyFault}
+use Rattle.ax_format.specs.Presence.{octets_needed, none_marked}
+use Rattle.ax_format.specs.declared.fault.BodyCause.TheVariants.{PresenceTooLong}
+use Rattle.ax_format.specs.declared.fault.BodyFault.{BodyFault}
 use Rattle.ax_fspec.specs.Fields.{mask_slots}
 use Rattle.ax_fspec.proofs.FieldsRead.{ReadSoFar, nothing_read}
 use Rattle.ax_fspec.proofs.MaskRead.{out_of_octets, undefined_slot, too_long_field, one_more, last_one}

@@ -1,5 +1,5 @@
 use Rattle.std.proofs.Common.{◌≡◌, ◌≤◌, ◌-◌, drop}
-use Rattle.ax_model.specs.Presence.{octets_needed}
+use Rattle.ax_format.specs.Presence.{octets_needed}
 use Rattle.ax_fspec.specs.Fields.{mask_slots}
 use Rattle.ax_fspec.proofs.FieldsRead.{ReadSoFar}
 use Rattle.ax_fspec.proofs.reading.read_presence.Given as goal

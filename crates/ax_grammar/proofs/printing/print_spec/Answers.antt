@@ -1,4 +1,4 @@
-use Rattle.ax_model.specs.Plain.{spec_tree}
+use Rattle.ax_format.specs.Plain.{spec_tree}
 use Rattle.ax_grammar.proofs.Printed.{spec_printed}
 use Rattle.ax_grammar.proofs.printing.print_spec.Goals as goal
 

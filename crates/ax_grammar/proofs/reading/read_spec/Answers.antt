@@ -1,5 +1,5 @@
 use Rattle.std.proofs.Common.{ap, ◌∙◌, sym, arith}
-use Rattle.ax_model.specs.Plain.{spec_tree}
+use Rattle.ax_format.specs.Plain.{spec_tree}
 use Rattle.ax_grammar.specs.Rules.{whole_at}
 use Rattle.ax_grammar.proofs.BadTokens.{stops_within, stops_none, names_bad, read_spells, read_is}
 use Rattle.ax_grammar.proofs.reading.read_spec.Goals as goal

@@ -1,6 +1,6 @@
 use Rattle.std.proofs.Common.{◌≡◌, length, map, take}
 use Rattle.ax_held_kinds.specs.HeldFixed.{held_member}
-use Rattle.ax_model.specs.Plain.{member_tree}
+use Rattle.ax_format.specs.Plain.{member_tree}
 use Rattle.ax_held_kinds.proofs.build.+hold_fixed.Given as goal
 
 abbrev pub invariant-hold_members-loop-member : goal.invariant-hold_members-loop-member

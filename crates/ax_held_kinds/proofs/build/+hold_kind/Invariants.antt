@@ -1,6 +1,6 @@
 use Rattle.std.proofs.Common.{◌≡◌, length, map, take}
 use Rattle.ax_held_kinds.specs.Held.{held_slot}
-use Rattle.ax_model.specs.Plain.{slot_tree}
+use Rattle.ax_format.specs.Plain.{slot_tree}
 use Rattle.ax_held_kinds.proofs.build.+hold_kind.Given as goal
 
 abbrev pub invariant-hold_slots-loop-slot : goal.invariant-hold_slots-loop-slot

@@ -1,6 +1,6 @@
 use Rattle.std.proofs.Common.{◌≡◌, length, map, take}
 use Rattle.ax_held_kinds.specs.Held.{held_part}
-use Rattle.ax_model.specs.Plain.{part_tree}
+use Rattle.ax_format.specs.Plain.{part_tree}
 use Rattle.ax_held_kinds.proofs.build.hold_parts.Given as goal
 
 abbrev pub invariant-loop-part : goal.invariant-loop-part

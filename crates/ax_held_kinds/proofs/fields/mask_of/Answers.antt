@@ -1,7 +1,7 @@
 use Rattle.std.proofs.Common.{◌≡◌, ◌+◌, ◌<◌, List, ℕ, length, map, get_or, arith, refl, subst, sym, ◌∙◌}
 use Rattle.std.proofs.lemmas.List.{length-map}
-use Rattle.ax_model.specs.Tree.{SlotTree}
-use Rattle.ax_reader.proofs.Marking.{MaskSoFar, mask_none, mask_more, mask_same, map_at}
+use Rattle.ax_format.specs.Tree.{SlotTree}
+use Rattle.ax_fspec.proofs.Marking.{MaskSoFar, mask_none, mask_more, mask_same, map_at}
 use Rattle.ax_held_kinds.proofs.fields.mask_of.Goals.{then-is_sub, else-is_sub}
 use Rattle.ax_held_kinds.proofs.fields.mask_of.Goals as goal
 

@@ -1,5 +1,5 @@
 use Rattle.std.proofs.Common.{◌≡◌, map}
-use Rattle.ax_reader.proofs.Marking.{MaskSoFar}
+use Rattle.ax_fspec.proofs.Marking.{MaskSoFar}
 use Rattle.ax_held_kinds.proofs.fields.mask_of.Given as goal
 
 abbrev pub invariant-loop-slot : goal.invariant-loop-slot

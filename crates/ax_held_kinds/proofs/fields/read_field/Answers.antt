@@ -1,7 +1,7 @@
 use Rattle.std.proofs.Common.{◌≡◌, List, length, map, take, arith, subst, sym}
 use Rattle.std.proofs.lemmas.List.{length-map, take-map}
-use Rattle.ax_model.specs.Tree.{SlotTree}
-use Rattle.ax_reader.specs.Reading.{IsMaskOf}
+use Rattle.ax_format.specs.Tree.{SlotTree}
+use Rattle.ax_fspec.specs.Reading.{IsMaskOf}
 use Rattle.ax_held_kinds.proofs.Masks.{front_marks}
 use Rattle.ax_held_kinds.proofs.fields.read_field.Goals as goal
 

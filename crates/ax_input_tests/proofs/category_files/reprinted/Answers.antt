@@ -1,4 +1,4 @@
-use Rattle.ax_model.specs.Plain.{spec_tree}
+use Rattle.ax_format.specs.Plain.{spec_tree}
 use Rattle.ax_grammar.proofs.Ranges.{numbers_in_range}
 use Rattle.ax_input_tests.proofs.category_files.reprinted.Goals as goal
 

@@ -1,4 +1,4 @@
-use Rattle.ax_reader.proofs.Honest.{kind_honest, record_honest, body_honest}
+use Rattle.ax_fspec.proofs.Honest.{kind_honest, record_honest, body_honest}
 use Rattle.ax_laws.proofs.honest.octets_run_out_where_more_complete_them.Goals as goal
 
 pub returns : goal.returns

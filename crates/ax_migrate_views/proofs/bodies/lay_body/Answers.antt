@@ -1,8 +1,8 @@
 use Rattle.std.proofs.Common.{arith}
 use Rattle.ax_migrate_views.proofs.KeptRecords.{kept_own, kept_read, kept_told}
 use Rattle.ax_migrate_views.proofs.BodySteps.{body_first, body_next, body_fails, body_laid, body_told, body_spelled, body_goes_on}
-use Rattle.ax_migrate_views.proofs.LaidRuns.{run_kept, run_moved}
-use Rattle.ax_migrate_views.specs.Lost.{key_paths}
+use Rattle.ax_moves.proofs.LaidRuns.{run_kept, run_moved}
+use Rattle.ax_moves.specs.Lost.{key_paths}
 use Rattle.ax_migrate_views.proofs.bodies.lay_body.Goals as goal
 
 pub loop-here-init : goal.loop-here-init

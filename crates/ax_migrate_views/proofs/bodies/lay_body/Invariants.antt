@@ -1,6 +1,6 @@
 use Rattle.std.proofs.Common.{◌-◌, length}
 use Rattle.ax_migrate_views.proofs.BodySteps.{BodyMoves}
-use Rattle.ax_migrate_views.specs.Lost.{key_paths}
+use Rattle.ax_moves.specs.Lost.{key_paths}
 use Rattle.ax_migrate_views.proofs.bodies.lay_body.Given as goal
 
 abbrev pub invariant-loop-here : goal.invariant-loop-here

@@ -1,11 +1,11 @@
 use Rattle.std.proofs.Common.{sym, ◌∙◌, ap, subst, refl, ◌++◌}
 use Rattle.ax_relation.specs.PlainMoves.{moves_tree}
-use Rattle.ax_migrate_views.proofs.Entries.{record_canon}
-use Rattle.ax_migrate_views.proofs.Slots.{placed_by}
-use Rattle.ax_migrate_views.specs.Laying.{Lays}
-use Rattle.ax_migrate_views.specs.Octets.{field_by, entries_canon_by}
-use Rattle.ax_migrate_views.specs.Wholes.{slots_in}
-use Rattle.ax_tables.specs.Table.{record_kind_at}
+use Rattle.ax_moves.proofs.Entries.{record_canon}
+use Rattle.ax_moves.proofs.Slots.{placed_by}
+use Rattle.ax_moves.specs.Laying.{Lays}
+use Rattle.ax_moves.specs.Octets.{field_by, entries_canon_by}
+use Rattle.ax_moves.specs.Wholes.{slots_in}
+use Rattle.ax_codec.specs.Table.{record_kind_at}
 use Rattle.ax_view.specs.Placing.{entries_there}
 use Rattle.ax_migrate_views.proofs.bodies.lay_record.Goals as goal
 

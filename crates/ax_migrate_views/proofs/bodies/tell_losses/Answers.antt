@@ -1,9 +1,9 @@
 use Rattle.std.proofs.Common.{sym, subst, refl}
 use Rattle.ax_migrate.specs.Finding.{record_losses}
 use Rattle.ax_migrate.specs.Losing.{lost_lines}
-use Rattle.ax_migrate_views.proofs.Slots.{placed_by}
-use Rattle.ax_migrate_views.specs.Laying.{Gathers}
-use Rattle.ax_migrate_views.specs.Lost.{key_paths}
+use Rattle.ax_moves.proofs.Slots.{placed_by}
+use Rattle.ax_moves.specs.Laying.{Gathers}
+use Rattle.ax_moves.specs.Lost.{key_paths}
 use Rattle.ax_view.specs.Placing.{entries_there}
 use Rattle.ax_migrate_views.proofs.bodies.tell_losses.Goals as goal
 

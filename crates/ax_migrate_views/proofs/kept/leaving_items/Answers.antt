@@ -1,6 +1,6 @@
 use Rattle.std.proofs.Common.{arith}
 use Rattle.ax_relation.specs.PlainMoves.{moves_tree}
-use Rattle.ax_migrate_views.proofs.SubitemSteps.{leave_next, none_leave, remain_next}
+use Rattle.ax_moves.proofs.SubitemSteps.{leave_next, none_leave, remain_next}
 use Rattle.ax_migrate_views.specs.Kept.{IsKeptSlot}
 use Rattle.ax_migrate_views.proofs.kept.leaving_items.Goals as goal
 

@@ -1,7 +1,7 @@
 use Rattle.std.proofs.Common.{◌-◌, arith}
 use Rattle.ax_relation.specs.PlainMoves.{moves_tree}
 use Rattle.ax_relation.specs.declared.moves.Move.{out-Move}
-use Rattle.ax_migrate_views.proofs.SubitemSteps.{link_within}
+use Rattle.ax_moves.proofs.SubitemSteps.{link_within}
 use Rattle.ax_migrate_views.proofs.kept.moving_octets.Goals as goal
 
 pub offset_bounds-nodes-link : goal.offset_bounds-nodes-link

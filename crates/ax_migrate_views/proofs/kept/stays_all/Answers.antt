@@ -1,6 +1,6 @@
 use Rattle.ax_relation.specs.PlainMoves.{moves_tree}
 use Rattle.ax_relation.specs.declared.moves.Move.{out-Move}
-use Rattle.ax_migrate_views.proofs.SubitemSteps.{link_within}
+use Rattle.ax_moves.proofs.SubitemSteps.{link_within}
 use Rattle.std.proofs.Common.{◌-◌}
 use Rattle.ax_migrate_views.proofs.kept.stays_all.Goals as goal
 

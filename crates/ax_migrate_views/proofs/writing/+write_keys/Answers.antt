@@ -1,10 +1,10 @@
 use Rattle.std.proofs.Common.{◌≡◌, ◌<◌, ◌/◌, arith, length, subst, sym}
-use Rattle.ax_migrate_views.proofs.LostRuns.{runs_drop, runs_take}
+use Rattle.ax_moves.proofs.LostRuns.{runs_drop, runs_take}
 use Rattle.ax_migrate_views.proofs.WritingSteps.{halves, keys_there, one_line}
-use Rattle.ax_migrate_views.specs.Lost.{AreRuns}
-use Rattle.ax_migrate_views.specs.Wholes.{whole_entries}
-use Rattle.ax_model.proofs.Namings.{from_place}
-use Rattle.ax_model.specs.Tree.{marked}
+use Rattle.ax_moves.specs.Lost.{AreRuns}
+use Rattle.ax_moves.specs.Wholes.{whole_entries}
+use Rattle.ax_format.proofs.Namings.{from_place}
+use Rattle.ax_format.specs.Tree.{marked}
 use Rattle.ax_outside.proofs.Pieces.{failed_before, same_text, written_then}
 use Rattle.ax_migrate_views.proofs.writing.+write_keys.Goals as goal
 

@@ -1,14 +1,14 @@
 use Rattle.std.proofs.Common.{◌∙◌, ap, not, refl, subst, sym}
 use Rattle.ax_migrate.specs.Finding.{record_losses}
 use Rattle.ax_migrate.specs.Losing.{lost_lines}
-use Rattle.ax_migrate_views.proofs.LostRuns.{record_lost}
-use Rattle.ax_migrate_views.proofs.Slots.{placed_by}
+use Rattle.ax_moves.proofs.LostRuns.{record_lost}
+use Rattle.ax_moves.proofs.Slots.{placed_by}
 use Rattle.ax_migrate_views.proofs.WritingSteps.{entries_shown, never_fails, of_none, of_some}
-use Rattle.ax_migrate_views.specs.Lost.{key_paths}
+use Rattle.ax_moves.specs.Lost.{key_paths}
 use Rattle.ax_outside.proofs.Pieces.{same_text}
-use Rattle.ax_reader.specs.Reading.{FailsAt, kind_read}
-use Rattle.ax_tables.specs.Table.{record_kind_at}
-use Rattle.ax_tables.specs.declared.codec.Codec.{Codec}
+use Rattle.ax_fspec.specs.Reading.{FailsAt, kind_read}
+use Rattle.ax_codec.specs.Table.{record_kind_at}
+use Rattle.ax_codec.specs.declared.codec.Codec.{Codec}
 use Rattle.ax_view.specs.Placing.{PlacesKind, entries_there}
 use Rattle.ax_view.specs.Values.{IsOne, entries_in, value_in}
 use Rattle.ax_migrate_views.proofs.writing.write_record.Goals as goal

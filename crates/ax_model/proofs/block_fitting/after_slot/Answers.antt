@@ -1,5 +1,5 @@
 use Rattle.std.proofs.Common.{sym, ◌∙◌}
-use Rattle.ax_model.proofs.RecordFitting.{no_entry, other_entry, no_item, here_found, here_refused}
+use Rattle.ax_format.proofs.RecordFitting.{no_entry, other_entry, no_item, here_found, here_refused}
 use Rattle.ax_model.proofs.block_fitting.after_slot.Goals as goal
 
 pub returns-in_default : goal.returns-in_default

@@ -1,5 +1,5 @@
 use Rattle.std.proofs.Common.{sym, ◌∙◌, ap, ◌+◌, arith}
-use Rattle.ax_model.proofs.RecordFitting.{slot_refuses, slot_takes, slots_end}
+use Rattle.ax_format.proofs.RecordFitting.{slot_refuses, slot_takes, slots_end}
 use Rattle.ax_model.proofs.block_fitting.fits_record.Goals as goal
 
 pub returns-in_default : goal.returns-in_default

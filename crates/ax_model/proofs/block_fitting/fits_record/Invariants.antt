@@ -1,9 +1,9 @@
 use Rattle.std.proofs.Common.{◌≡◌, ◌+◌, drop, map}
-use Rattle.ax_model.specs.Fitting.{entries_fit}
-use Rattle.ax_model.specs.OfCode.{record_fits}
-use Rattle.ax_model.specs.Plain.{item_tree, entries_tree}
-use Rattle.ax_model.specs.Specification.{uap_slot}
-use Rattle.ax_model.specs.Tree.{slots_of}
+use Rattle.ax_format.specs.Fitting.{entries_fit}
+use Rattle.ax_format.specs.OfCode.{record_fits}
+use Rattle.ax_format.specs.Plain.{item_tree, entries_tree}
+use Rattle.ax_format.specs.Specification.{uap_slot}
+use Rattle.ax_format.specs.Tree.{slots_of}
 use Rattle.ax_model.proofs.block_fitting.fits_record.Given as goal
 
 abbrev pub invariant-loop-slot : goal.invariant-loop-slot

@@ -1,4 +1,4 @@
-use Rattle.ax_model.proofs.RecordLaws.{flawless_record_canon_spells}
+use Rattle.ax_format.proofs.RecordLaws.{flawless_record_canon_spells}
 use Rattle.ax_model.proofs.laws.canon_spells.Goals as goal
 
 pub returns-clause-records : goal.returns-clause-records

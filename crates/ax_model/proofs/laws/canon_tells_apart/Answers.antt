@@ -1,5 +1,5 @@
-use Rattle.ax_model.proofs.CanonOnce.{canon_once}
-use Rattle.ax_model.proofs.RecordLaws.{standing_canon_once, flawless_record_canon_once, flawless_body_canon_once}
+use Rattle.ax_format.proofs.CanonOnce.{canon_once}
+use Rattle.ax_format.proofs.RecordLaws.{standing_canon_once, flawless_record_canon_once, flawless_body_canon_once}
 use Rattle.ax_model.proofs.laws.canon_tells_apart.Goals as goal
 
 pub returns-clause-kinds : goal.returns-clause-kinds

@@ -1,4 +1,4 @@
-use Rattle.ax_model.proofs.Completions.{completes_octets}
+use Rattle.ax_format.proofs.Completions.{completes_octets}
 use Rattle.ax_model.proofs.laws.completes.Goals as goal
 
 pub returns : goal.returns

@@ -1,4 +1,4 @@
-use Rattle.ax_model.proofs.SplitFronts.{longest_front, fit_within_records, none_fits}
+use Rattle.ax_format.proofs.SplitFronts.{longest_front, fit_within_records, none_fits}
 use Rattle.ax_model.proofs.splitting.fit_is_the_longest_front.Goals as goal
 
 pub returns-clause-front : goal.returns-clause-front

@@ -1,4 +1,4 @@
-use Rattle.ax_model.proofs.SplitLists.{none_long, one_long}
+use Rattle.ax_format.proofs.SplitLists.{none_long, one_long}
 use Rattle.ax_model.proofs.splitting.long_records_are_found.Goals as goal
 
 pub returns-clause-none : goal.returns-clause-none

@@ -1,4 +1,4 @@
-use Rattle.ax_model.proofs.SplitLists.{longest_fronts, one_way, joined_records, all_fit}
+use Rattle.ax_format.proofs.SplitLists.{longest_fronts, one_way, joined_records, all_fit}
 use Rattle.ax_model.proofs.splitting.split_is_by_longest_fronts.Goals as goal
 
 pub returns-clause-fronts : goal.returns-clause-fronts

@@ -1,4 +1,4 @@
-use Rattle.ax_model.proofs.StreamsApart.{canon_stream, stream_once, canon_streams_apart}
+use Rattle.ax_format.proofs.StreamsApart.{canon_stream, stream_once, canon_streams_apart}
 use Rattle.ax_model.proofs.streams.canonical_octets_tell_streams_apart.Goals as goal
 
 pub returns-clause-spells : goal.returns-clause-spells

@@ -1,5 +1,5 @@
-use Rattle.ax_model.proofs.FramedOnce.{one_framed, framed_once}
-use Rattle.ax_model.proofs.EndsOnce.{one_end_flawless, ends_once}
+use Rattle.ax_format.proofs.FramedOnce.{one_framed, framed_once}
+use Rattle.ax_format.proofs.EndsOnce.{one_end_flawless, ends_once}
 use Rattle.ax_model.proofs.streams.each_input_has_one_end.Goals as goal
 
 pub returns-clause-framing : goal.returns-clause-framing

@@ -1,6 +1,6 @@
 use Rattle.std.proofs.Common.{◌≡◌, Some, rules}
-use Rattle.ax_model.specs.Plain.{spec_tree, catalogue_tree}
-use Rattle.ax_model.specs.Specification.{spec_of}
+use Rattle.ax_format.specs.Plain.{spec_tree, catalogue_tree}
+use Rattle.ax_format.specs.Specification.{spec_of}
 use Rattle.ax_printed_lines.proofs.LinesBuilt.{line_printed}
 use Rattle.ax_printed_lines.proofs.RecordsBuilt.{record_areas}
 use Rattle.ax_printed_lines.proofs.blocks.printed_body.Goals as goal

@@ -1,8 +1,8 @@
 use denote.Param.Weighed.{at_most}
 use Rattle.std.proofs.Common.{◌≡◌, ◌<◌, ◌≤◌, ℕ, length, get_or, arith, ap, subst, rules}
 use Rattle.std.proofs.lemmas.Option.{IfSome_then}
-use Rattle.ax_model.proofs.kind.Member.TheLaws.{the_size}
-use Rattle.ax_model.specs.Plain.{members_tree}
+use Rattle.ax_format.proofs.kind.Member.TheLaws.{the_size}
+use Rattle.ax_format.specs.Plain.{members_tree}
 use Rattle.ax_printed_lines.proofs.FixedBuilt.{element_built, group_built, named_built, named_number_built, spare_built, members_first, member_bounds, member_next, members_done}
 use Rattle.ax_printed_lines.proofs.fixed.+fixed_built.Goals as goal
 

@@ -1,5 +1,5 @@
 use Rattle.std.proofs.Common.{drop}
-use Rattle.ax_model.specs.Plain.{members_tree}
+use Rattle.ax_format.specs.Plain.{members_tree}
 use Rattle.ax_printed_lines.proofs.FixedBuilt.{MembersLeft}
 use Rattle.ax_printed_lines.proofs.fixed.+fixed_built.Given as goal
 

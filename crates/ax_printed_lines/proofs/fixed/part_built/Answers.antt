@@ -1,6 +1,6 @@
 use Rattle.std.proofs.Common.{rules}
 use Rattle.std.proofs.lemmas.Option.{IfSome_then}
-use Rattle.ax_model.specs.Plain.{part_tree}
+use Rattle.ax_format.specs.Plain.{part_tree}
 use Rattle.ax_printed_lines.proofs.ListsBuilt.{part_built}
 use Rattle.ax_printed_lines.proofs.fixed.part_built.Goals as goal
 

@@ -1,6 +1,6 @@
 use Rattle.std.proofs.Common.{◌≡◌, ◌∷◌, map, rules, subst, sym}
 use Rattle.std.proofs.lemmas.Option.{IfSome_then}
-use Rattle.ax_model.specs.Plain.{part_tree}
+use Rattle.ax_format.specs.Plain.{part_tree}
 use Rattle.ax_printed_lines.proofs.ListsBuilt.{PartsLeft, parts_first, part_bounds, part_next, part_last, PartIsBuilt}
 use Rattle.ax_printed_lines.proofs.fixed.parts_built.Goals as goal
 

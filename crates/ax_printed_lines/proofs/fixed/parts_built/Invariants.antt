@@ -1,5 +1,5 @@
 use Rattle.std.proofs.Common.{length, map}
-use Rattle.ax_model.specs.Plain.{part_tree}
+use Rattle.ax_format.specs.Plain.{part_tree}
 use Rattle.ax_printed_lines.proofs.ListsBuilt.{PartsLeft}
 use Rattle.ax_printed_lines.proofs.fixed.parts_built.Given as goal
 

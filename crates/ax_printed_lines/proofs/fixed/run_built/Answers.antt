@@ -1,6 +1,6 @@
 use Rattle.std.proofs.Common.{◌≡◌, rules, subst, sym}
 use Rattle.std.proofs.lemmas.Option.{IfSome_then}
-use Rattle.ax_model.specs.Plain.{fixed_tree}
+use Rattle.ax_format.specs.Plain.{fixed_tree}
 use Rattle.ax_printed_lines.proofs.FixedBuilt.{FixedIsBuilt}
 use Rattle.ax_printed_lines.proofs.ListsBuilt.{run_first, run_next, run_last}
 use Rattle.ax_printed_lines.proofs.fixed.run_built.Goals as goal

@@ -1,4 +1,4 @@
-use Rattle.ax_model.specs.Plain.{fixed_tree}
+use Rattle.ax_format.specs.Plain.{fixed_tree}
 use Rattle.ax_printed_lines.proofs.ListsBuilt.{RunLeft}
 use Rattle.ax_printed_lines.proofs.fixed.run_built.Given as goal
 

@@ -1,7 +1,7 @@
 use Rattle.std.proofs.Common.{◌≡◌, ◌<◌, ◌≤◌, ◌+◌, ℕ, true, false, length, drop, get_or, arith, sym, subst, refl, rules}
 use Rattle.std.proofs.lemmas.Option.{IfSome_then}
 use Rattle.ax_block_reader.proofs.EntryWays.{slots_from}
-use Rattle.ax_model.specs.Plain.{kind_tree, slot_tree, slots_tree}
+use Rattle.ax_format.specs.Plain.{kind_tree, slot_tree, slots_tree}
 use Rattle.ax_printed_lines.specs.Laid.{Leaves}
 use Rattle.ax_printed_lines.specs.Printed.{BuildsSlot}
 use Rattle.ax_printed_lines.proofs.EntriesBuilt.{EntriesLeft, entries_first, slot_bounds, slot_few, passed_to, entry_passed, entry_taken, entry_passed_by, entry_taken_by, entries_less, entries_ended}

@@ -1,5 +1,5 @@
 use Rattle.std.proofs.Common.{◌≤◌, ◌+◌, ◌-◌, ◌*◌, length, drop}
-use Rattle.ax_model.specs.Plain.{kind_tree, slots_tree}
+use Rattle.ax_format.specs.Plain.{kind_tree, slots_tree}
 use Rattle.ax_printed_lines.proofs.EntriesBuilt.{EntriesLeft}
 use Rattle.ax_printed_lines.proofs.KindsBuilt.{EachLeft}
 use Rattle.ax_printed_lines.proofs.kinds.+kind_built.Given as goal

@@ -3,8 +3,8 @@ use Rattle.std.proofs.lemmas.Option.{IfSome_then}
 use Rattle.ax_printed_lines.proofs.Laying.{lays_none}
 use Rattle.ax_bits.specs.Bits.{word}
 use Rattle.ax_printed_lines.specs.Laid.{Lays}
-use Rattle.ax_model.proofs.Completions.{fx_few}
-use Rattle.ax_model.specs.Widths.{fx_width}
+use Rattle.ax_format.proofs.Completions.{fx_few}
+use Rattle.ax_format.specs.Widths.{fx_width}
 use Rattle.ax_printed_lines.proofs.pieces.last_fx_built.Goals as goal
 
 pub returns-then-fx_width-eq0 : goal.returns-then-fx_width-eq0

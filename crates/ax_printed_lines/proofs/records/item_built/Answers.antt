@@ -1,5 +1,5 @@
 use Rattle.std.proofs.Common.{◌≡◌, Some, rules}
-use Rattle.ax_model.specs.Lookup.{item_of_slot}
+use Rattle.ax_format.specs.Lookup.{item_of_slot}
 use Rattle.ax_printed_lines.proofs.RecordsBuilt.{item_bounds, item_is_built}
 use Rattle.ax_printed_lines.proofs.records.item_built.Goals as goal
 

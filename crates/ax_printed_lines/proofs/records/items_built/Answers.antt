@@ -1,7 +1,7 @@
 use Rattle.std.proofs.Common.{◌≡◌, ◌<◌, ◌+◌, ℕ, true, false, map, length, drop, get_or, arith, ap, sym, ◌∙◌, subst, refl, rules}
 use Rattle.ax_block_reader.proofs.RecordWays.{slots_of_uap, uap_from}
-use Rattle.ax_model.specs.Plain.{item_tree, spec_tree}
-use Rattle.ax_model.specs.Specification.{uap_slot, record_slots}
+use Rattle.ax_format.specs.Plain.{item_tree, spec_tree}
+use Rattle.ax_format.specs.Specification.{uap_slot, record_slots}
 use Rattle.ax_printed_lines.specs.Printed.{BuildsSlot}
 use Rattle.ax_printed_lines.proofs.EntriesBuilt.{EntriesLeft, entries_first, slot_bounds, slot_few, entry_passed, entry_taken, entry_passed_by, entry_taken_by, entries_ended}
 use Rattle.ax_printed_lines.proofs.RecordsBuilt.{item_at, items_passed}

@@ -1,6 +1,6 @@
 use Rattle.std.proofs.Common.{◌≤◌, ◌-◌, length, drop}
-use Rattle.ax_model.specs.Plain.{spec_tree}
-use Rattle.ax_model.specs.Specification.{record_slots}
+use Rattle.ax_format.specs.Plain.{spec_tree}
+use Rattle.ax_format.specs.Specification.{record_slots}
 use Rattle.ax_block_reader.proofs.RecordWays.{slots_of_uap}
 use Rattle.ax_printed_lines.proofs.EntriesBuilt.{EntriesLeft}
 use Rattle.ax_printed_lines.proofs.records.items_built.Given as goal

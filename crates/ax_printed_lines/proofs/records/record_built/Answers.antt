@@ -1,6 +1,6 @@
 use Rattle.std.proofs.Common.{rules}
 use Rattle.std.proofs.lemmas.Option.{IfSome_then}
-use Rattle.ax_model.specs.Plain.{spec_tree}
+use Rattle.ax_format.specs.Plain.{spec_tree}
 use Rattle.ax_printed_lines.proofs.RecordsBuilt.{record_whole}
 use Rattle.ax_printed_lines.proofs.records.record_built.Goals as goal
 

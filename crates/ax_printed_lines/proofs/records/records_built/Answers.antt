@@ -1,4 +1,4 @@
-use Rattle.ax_model.specs.Plain.{spec_tree}
+use Rattle.ax_format.specs.Plain.{spec_tree}
 use Rattle.ax_printed_lines.proofs.RecordsBuilt.{records_first, records_next, records_last}
 use Rattle.ax_printed_lines.proofs.records.records_built.Goals as goal
 

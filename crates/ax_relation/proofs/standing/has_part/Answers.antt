@@ -1,6 +1,6 @@
 use Rattle.std.proofs.Common.{◌≡◌, nat_lt, Some, ◌∙◌, ap, rules}
 use Rattle.ax_relation.proofs.FirstLists.{has_part_is, lists_value}
-use Rattle.ax_model.specs.Plain.{value_tree}
+use Rattle.ax_format.specs.Plain.{value_tree}
 use Rattle.ax_relation.proofs.standing.has_part.Goals as goal
 
 pub returns-in-Some-Extended : goal.returns-in-Some-Extended

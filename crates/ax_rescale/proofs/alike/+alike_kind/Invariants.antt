@@ -1,6 +1,6 @@
 use Rattle.std.proofs.Common.{◌≡◌, length}
-use Rattle.ax_model.specs.Plain.{slots_tree}
-use Rattle.ax_model.specs.Same.{are_same_slots}
+use Rattle.ax_format.specs.Plain.{slots_tree}
+use Rattle.ax_format.specs.Same.{are_same_slots}
 use Rattle.ax_rescale.specs.Alike.{unscaled_slots}
 use Rattle.ax_rescale.proofs.alike.+alike_kind.Given as goal
 

@@ -1,5 +1,5 @@
 use Rattle.std.proofs.Common.{length, arith, rules, sym, ◌∙◌, ap, ℕ, List}
-use Rattle.ax_model.specs.Plain.{kind_tree}
+use Rattle.ax_format.specs.Plain.{kind_tree}
 use Rattle.ax_rescale.proofs.BesideSteps.{leads_start, leads_next, leads_none, leads_end, at_steps, no_place, no_alike_place, alike_place}
 use Rattle.ax_rescale.proofs.beside.alike_place.Goals as goal
 

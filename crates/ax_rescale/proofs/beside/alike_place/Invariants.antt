@@ -1,4 +1,4 @@
-use Rattle.ax_model.specs.Plain.{kind_tree}
+use Rattle.ax_format.specs.Plain.{kind_tree}
 use Rattle.ax_rescale.proofs.BesideSteps.{Leads}
 use Rattle.ax_rescale.proofs.beside.alike_place.Given as goal
 

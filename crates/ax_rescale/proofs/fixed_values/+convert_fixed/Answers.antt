@@ -1,8 +1,8 @@
 use denote.Param.Weighed.{at_most, most}
 use Rattle.std.proofs.Common.{rules, length, ap, arith}
 use Rattle.std.proofs.lemmas.List.{drop_all, length_push}
-use Rattle.ax_model.proofs.kind.Member.TheLaws.{the_size}
-use Rattle.ax_model.proofs.Namings.{from_place}
+use Rattle.ax_format.proofs.kind.Member.TheLaws.{the_size}
+use Rattle.ax_format.proofs.Namings.{from_place}
 use Rattle.ax_rescale.proofs.GroupSteps.{member_ready, member_made, member_none, members_all, no_value_left, no_member_left, members_too_many, if_some, if_none}
 use Rattle.ax_rescale.proofs.fixed_values.+convert_fixed.Goals as goal
 

@@ -1,5 +1,5 @@
 use Rattle.std.proofs.Common.{◌≡◌, length, drop}
-use Rattle.ax_model.specs.Plain.{members_tree, values_tree}
+use Rattle.ax_format.specs.Plain.{members_tree, values_tree}
 use Rattle.ax_rescale.proofs.GroupSteps.{MembersGo}
 use Rattle.ax_rescale.proofs.fixed_values.+convert_fixed.Given as goal
 

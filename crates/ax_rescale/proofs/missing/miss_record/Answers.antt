@@ -1,5 +1,5 @@
 use Rattle.std.proofs.Common.{◌≡◌, length, List, refl, sym, ◌∙◌, ap, arith, rules, subst}
-use Rattle.ax_model.specs.Plain.{entries_tree, spec_tree, value_tree}
+use Rattle.ax_format.specs.Plain.{entries_tree, spec_tree, value_tree}
 use Rattle.ax_rescale.proofs.WatchLists.{watched_at, few_left}
 use Rattle.ax_rescale.proofs.WatchSteps.{missed_step, kept_step, absent_step, all_found}
 use Rattle.ax_rescale.specs.Watching.{AreWatched}

@@ -1,5 +1,5 @@
 use Rattle.std.proofs.Common.{◌≡◌, ◌-◌, ◌≤◌, ◌++◌, length, drop}
-use Rattle.ax_model.specs.Plain.{entries_tree, spec_tree}
+use Rattle.ax_format.specs.Plain.{entries_tree, spec_tree}
 use Rattle.ax_rescale.specs.Watching.{record_misses}
 use Rattle.ax_rescale.proofs.missing.miss_record.Given as goal
 

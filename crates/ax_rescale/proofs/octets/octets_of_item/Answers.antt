@@ -1,8 +1,8 @@
 use Rattle.std.proofs.Common.{◌≡◌, None, rules, sym, ap}
-use Rattle.ax_model.proofs.Counting.{no_item_counted}
-use Rattle.ax_model.specs.Lengths.{capped}
-use Rattle.ax_model.specs.Lookup.{item_of_frn}
-use Rattle.ax_model.specs.Plain.{value_tree}
+use Rattle.ax_format.proofs.Counting.{no_item_counted}
+use Rattle.ax_format.specs.Lengths.{capped}
+use Rattle.ax_format.specs.Lookup.{item_of_frn}
+use Rattle.ax_format.specs.Plain.{value_tree}
 use Rattle.ax_rescale.proofs.octets.octets_of_item.Goals as goal
 
 pub returns-in-None : goal.returns-in-None

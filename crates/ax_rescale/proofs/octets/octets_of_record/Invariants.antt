@@ -1,7 +1,7 @@
 use Rattle.std.proofs.Common.{◌≡◌, ◌+◌, drop}
-use Rattle.ax_model.specs.Lengths.{capped, entries_octets, last_slot, slot_kind}
-use Rattle.ax_model.specs.Plain.{entries_tree, spec_tree}
-use Rattle.ax_model.specs.Specification.{record_slots}
+use Rattle.ax_format.specs.Lengths.{capped, entries_octets, last_slot, slot_kind}
+use Rattle.ax_format.specs.Plain.{entries_tree, spec_tree}
+use Rattle.ax_format.specs.Specification.{record_slots}
 use Rattle.ax_rescale.proofs.octets.octets_of_record.Given as goal
 
 abbrev pub invariant-loop-entry : goal.invariant-loop-entry

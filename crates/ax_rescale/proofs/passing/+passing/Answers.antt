@@ -1,5 +1,5 @@
 use Rattle.std.proofs.Common.{rules}
-use Rattle.ax_model.specs.Plain.{entries_tree}
+use Rattle.ax_format.specs.Plain.{entries_tree}
 use Rattle.ax_rescale.proofs.PassedEntries.{passed_step, ways_ready}
 use Rattle.ax_rescale.proofs.passing.+passing.Goals as goal
 

@@ -1,5 +1,5 @@
 use Rattle.std.proofs.Common.{◌≡◌, ◌++◌, drop, map}
-use Rattle.ax_model.specs.Plain.{entry_tree, entries_tree}
+use Rattle.ax_format.specs.Plain.{entry_tree, entries_tree}
 use Rattle.ax_relation.specs.Passing.{list_of}
 use Rattle.ax_rescale.specs.PlainWays.{ways_tree}
 use Rattle.ax_rescale.specs.Ready.{WaysReady}

@@ -1,4 +1,4 @@
-use Rattle.ax_model.specs.Plain.{kind_tree, value_tree}
+use Rattle.ax_format.specs.Plain.{kind_tree, value_tree}
 use Rattle.ax_rescale.proofs.ValueFunction.{result_is}
 use Rattle.ax_rescale.proofs.passing.converted.Goals as goal
 

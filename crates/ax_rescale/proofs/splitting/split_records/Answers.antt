@@ -1,5 +1,5 @@
 use Rattle.std.proofs.Common.{◌++◌, ◌∷◌, [], sym, ◌∙◌, ap, subst}
-use Rattle.ax_model.specs.declared.record.Block.TheVariants as BlockOf
+use Rattle.ax_format.specs.declared.record.Block.TheVariants as BlockOf
 use Rattle.ax_rescale.proofs.PieceLists.{there, cut_each, cut_pieces, one_each, one_piece}
 use Rattle.ax_rescale.specs.Splits.{AreFronts, AreThere, pieces_of}
 use Rattle.ax_rescale.proofs.splitting.split_records.Goals as goal

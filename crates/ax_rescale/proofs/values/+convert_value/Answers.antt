@@ -1,7 +1,7 @@
 use Rattle.std.proofs.Common.{rules, ◌+◌, length, ap, arith}
 use Rattle.std.proofs.lemmas.List.{drop_all, length_push}
-use Rattle.ax_model.proofs.Namings.{from_place}
-use Rattle.ax_model.specs.Plain.{slots_tree}
+use Rattle.ax_format.proofs.Namings.{from_place}
+use Rattle.ax_format.specs.Plain.{slots_tree}
 use Rattle.ax_rescale.proofs.EachSteps.{each_ready, each_made, each_none, each_all}
 use Rattle.ax_rescale.proofs.EntrySteps.{spare_step, sub_empty, sub_later, spare_is, sub_is, step_as, slot_ready, slot_made, slot_none, entries_all, no_slot_left, slots_too_many, one_more}
 use Rattle.ax_rescale.proofs.GroupSteps.{if_some, if_none, match_some, match_none}

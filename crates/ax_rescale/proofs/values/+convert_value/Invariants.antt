@@ -1,6 +1,6 @@
 use Rattle.std.proofs.Common.{◌≡◌, ◌+◌, ◌*◌, ◌≤◌, length, drop}
-use Rattle.ax_model.specs.Plain.{kind_tree, slot_tree, slots_tree, values_tree, entries_tree}
-use Rattle.ax_model.specs.Shape.{Shape}
+use Rattle.ax_format.specs.Plain.{kind_tree, slot_tree, slots_tree, values_tree, entries_tree}
+use Rattle.ax_format.specs.Shape.{Shape}
 use Rattle.ax_rescale.specs.Converted.{Converted}
 use Rattle.ax_rescale.proofs.EachSteps.{EachGo}
 use Rattle.ax_rescale.proofs.EntrySteps.{EntriesGo}

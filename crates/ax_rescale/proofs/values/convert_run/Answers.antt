@@ -1,6 +1,6 @@
 use Rattle.std.proofs.Common.{length, ap, arith}
 use Rattle.std.proofs.lemmas.List.{drop_all, length_push}
-use Rattle.ax_model.proofs.Namings.{from_place}
+use Rattle.ax_format.proofs.Namings.{from_place}
 use Rattle.ax_rescale.proofs.EachSteps.{each_ready, each_made, each_none, each_all}
 use Rattle.ax_rescale.proofs.GroupSteps.{if_some, if_none}
 use Rattle.ax_rescale.proofs.values.convert_run.Goals as goal

@@ -1,6 +1,6 @@
 use Rattle.std.proofs.Common.{◌≡◌, length, drop}
-use Rattle.ax_model.specs.Plain.{fixed_tree, values_tree}
-use Rattle.ax_model.specs.Shape.{FixedShape}
+use Rattle.ax_format.specs.Plain.{fixed_tree, values_tree}
+use Rattle.ax_format.specs.Shape.{FixedShape}
 use Rattle.ax_rescale.specs.Converted.{FixedConverted}
 use Rattle.ax_rescale.proofs.EachSteps.{EachGo}
 use Rattle.ax_rescale.proofs.values.convert_run.Given as goal

@@ -1,7 +1,7 @@
 use Rattle.std.proofs.Common.{◌≡◌, length}
 use Rattle.ax_edition.specs.Index.{Finds}
 use Rattle.ax_edition.specs.SlotItems.{items_tree}
-use Rattle.ax_model.specs.Specification.{record_slots, SpecTree}
+use Rattle.ax_format.specs.Specification.{record_slots, SpecTree}
 use Rattle.ax_rescale.specs.Watching.{AreWatched}
 use Rattle.ax_rescale.proofs.watches.watch_all.Given as goal
 

@@ -4,7 +4,7 @@ use Rattle.ax_rescale.specs.PlainWays.{way_tree}
 use Rattle.ax_rescale.specs.Ways.{way_from, ways_from}
 use Rattle.ax_rescale.specs.declared.ways.Way.{Way}
 use Rattle.ax_edition.specs.Index.{found}
-use Rattle.ax_model.specs.Plain.{kind_tree}
+use Rattle.ax_format.specs.Plain.{kind_tree}
 use Rattle.ax_rescale.proofs.ways.+ways_of.Goals as goal
 
 pub ways_of_slots-loop-slot-preserved : goal.ways_of_slots-loop-slot-preserved

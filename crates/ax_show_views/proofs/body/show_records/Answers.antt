@@ -1,5 +1,5 @@
 use Rattle.std.proofs.Common.{◌<◌, arith}
-use Rattle.ax_model.specs.Plain.{spec_tree}
+use Rattle.ax_format.specs.Plain.{spec_tree}
 use Rattle.ax_values.proofs.RecordSlots.{names_passed}
 use Rattle.ax_show_views.proofs.RecordLines.{body_first, record_on, body_next, body_failed, body_last}
 use Rattle.ax_show_views.proofs.body.show_records.Goals as goal

@@ -1,5 +1,5 @@
 use Rattle.std.proofs.Common.{◌-◌, length}
-use Rattle.ax_model.specs.Plain.{spec_tree}
+use Rattle.ax_format.specs.Plain.{spec_tree}
 use Rattle.ax_show_views.proofs.RecordLines.{BodyShown}
 use Rattle.ax_show_views.proofs.body.show_records.Given as goal
 

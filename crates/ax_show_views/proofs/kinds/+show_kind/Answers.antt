@@ -3,14 +3,14 @@ use mir.Syntax.{named}
 use Rattle.ax_held_kinds.proofs.kinds.HeldSlot.TheLaws.{the_size}
 use Rattle.std.proofs.Common.{◌≡◌, ◌+◌, ◌-◌, ◌<◌, ℕ, List, [], length, map, get_or, codes, ap, arith, subst, sym, ◌∙◌}
 use Rattle.std.proofs.lemmas.List.{length-map}
-use Rattle.ax_model.proofs.Bounds.{count_of_slots}
+use Rattle.ax_format.proofs.Bounds.{count_of_slots}
 use Rattle.ax_held_kinds.specs.Fields.{MarksOf, FailsToMarkOf}
 use Rattle.ax_held_kinds.specs.declared.kinds.HeldSlot.{HeldSlot}
 use Rattle.ax_held_kinds.specs.Held.{held_kind, held_slot, held_slots}
-use Rattle.ax_model.specs.Tree.{SlotTree, counted, compound, slots_of, slot_count}
-use Rattle.ax_reader.proofs.Counting.{counted_none}
-use Rattle.ax_reader.proofs.Marking.{field_failed, map_at, slot_bounds}
-use Rattle.ax_reader.specs.Reading.{FailsAt, kind_read}
+use Rattle.ax_format.specs.Tree.{SlotTree, counted, compound, slots_of, slot_count}
+use Rattle.ax_fspec.proofs.Counting.{counted_none}
+use Rattle.ax_fspec.proofs.Marking.{field_failed, map_at, slot_bounds}
+use Rattle.ax_fspec.specs.Reading.{FailsAt, kind_read}
 use Rattle.ax_text.proofs.ListedKinds.{slot_listable}
 use Rattle.ax_text.specs.Listable.{SlotListable}
 use Rattle.ax_values.proofs.Continuing.{err_by_fault, err_is}

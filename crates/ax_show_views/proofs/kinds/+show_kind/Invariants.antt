@@ -1,8 +1,8 @@
 use Rattle.std.proofs.Common.{length, map}
 use Rattle.ax_fspec.specs.Marks.{slots_of}
 use Rattle.ax_held_kinds.specs.Held.{held_kind, held_slot}
-use Rattle.ax_model.specs.Tree as Tree
-use Rattle.ax_reader.specs.Reading.{FailsAt, kind_read}
+use Rattle.ax_format.specs.Tree as Tree
+use Rattle.ax_fspec.specs.Reading.{FailsAt, kind_read}
 use Rattle.ax_show_views.proofs.CountedLines.{CountShown}
 use Rattle.ax_show_views.proofs.MarkedLines.{MarksShown, compound_done}
 use Rattle.ax_show_views.proofs.kinds.+show_kind.Given as goal

@@ -1,12 +1,12 @@
 use Rattle.std.proofs.Common.{◌≡◌, ℕ, List, ◌+◌, ◌-◌, ◌<◌, length, arith, ap, subst, sym, ◌∙◌}
 use Rattle.std.proofs.lemmas.List.{length-map}
 use Rattle.ax_held_kinds.specs.Held.{held_slot}
-use Rattle.ax_model.proofs.Bounds.{record_bounds}
-use Rattle.ax_model.specs.Plain.{spec_tree}
-use Rattle.ax_model.specs.Specification.{record_kind, record_slots}
-use Rattle.ax_model.specs.Tree.{SlotTree, slots_of}
-use Rattle.ax_reader.proofs.Marking.{field_failed}
-use Rattle.ax_reader.specs.Reading.{FailsAt, SlotInBounds, record_slot_list, kind_read}
+use Rattle.ax_format.proofs.Bounds.{record_bounds}
+use Rattle.ax_format.specs.Plain.{spec_tree}
+use Rattle.ax_format.specs.Specification.{record_kind, record_slots}
+use Rattle.ax_format.specs.Tree.{SlotTree, slots_of}
+use Rattle.ax_fspec.proofs.Marking.{field_failed}
+use Rattle.ax_fspec.specs.Reading.{FailsAt, SlotInBounds, record_slot_list, kind_read}
 use Rattle.ax_text.proofs.ListedKinds.{slot_listable}
 use Rattle.ax_text.specs.Listable.{SlotListable}
 use Rattle.ax_text.specs.Slots.{slot_numbered}

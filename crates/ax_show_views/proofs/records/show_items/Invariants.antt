@@ -1,8 +1,8 @@
 use Rattle.std.proofs.Common.{ℕ, length}
 use Rattle.ax_fspec.specs.Marks.{slots_of}
-use Rattle.ax_model.specs.Plain.{spec_tree}
-use Rattle.ax_model.specs.Specification.{record_kind}
-use Rattle.ax_reader.specs.Reading.{FailsAt, record_slot_list, kind_read}
+use Rattle.ax_format.specs.Plain.{spec_tree}
+use Rattle.ax_format.specs.Specification.{record_kind}
+use Rattle.ax_fspec.specs.Reading.{FailsAt, record_slot_list, kind_read}
 use Rattle.ax_show_views.proofs.MarkedLines.{MarksShown}
 use Rattle.ax_show_views.proofs.RecordLines.{items_done}
 use Rattle.ax_show_views.proofs.records.show_items.Given as goal

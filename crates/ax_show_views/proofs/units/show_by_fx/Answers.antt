@@ -1,6 +1,6 @@
 use Rattle.std.proofs.Common.{codes}
 use Rattle.ax_held_kinds.specs.HeldFixed.{held_fixed}
-use Rattle.ax_model.specs.Tree.{by_fx}
+use Rattle.ax_format.specs.Tree.{by_fx}
 use Rattle.ax_show_views.proofs.Leading.{counted_shown, counted_longer}
 use Rattle.ax_show_views.proofs.units.show_by_fx.Goals as goal
 

@@ -1,6 +1,6 @@
 use Rattle.std.proofs.Common.{map, codes}
 use Rattle.ax_held_kinds.specs.Held.{held_part}
-use Rattle.ax_model.specs.Tree.{extended}
+use Rattle.ax_format.specs.Tree.{extended}
 use Rattle.ax_show_views.proofs.Leading.{counted_shown, counted_longer}
 use Rattle.ax_show_views.proofs.units.show_extended.Goals as goal
 

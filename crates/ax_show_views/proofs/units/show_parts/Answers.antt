@@ -1,8 +1,8 @@
 use Rattle.std.proofs.Common.{◌/◌, drop, map, ap, arith, refl, length, ◌∙◌}
 use Rattle.ax_held_kinds.specs.Held.{held_part}
-use Rattle.ax_model.specs.Tree.{extended}
-use Rattle.ax_model.specs.Widths.{members_width}
-use Rattle.ax_reader.specs.Reading.{kind_read}
+use Rattle.ax_format.specs.Tree.{extended}
+use Rattle.ax_format.specs.Widths.{members_width}
+use Rattle.ax_fspec.specs.Reading.{kind_read}
 use Rattle.ax_show_views.proofs.Stops.{stopped_within}
 use Rattle.ax_show_views.proofs.UnitLines.{parts_start, parts_next, parts_over, parts_fault, part_listable}
 use Rattle.ax_values.proofs.Continuing.{err_by_fault}

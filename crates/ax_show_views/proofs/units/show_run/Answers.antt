@@ -1,8 +1,8 @@
 use Rattle.std.proofs.Common.{◌≡◌, ◌+◌, ◌*◌, ◌/◌, ◌≤◌, length, arith, refl}
 use Rattle.ax_held_kinds.specs.HeldFixed.{held_fixed}
-use Rattle.ax_model.specs.Tree.{by_fx}
-use Rattle.ax_model.specs.Widths.{width}
-use Rattle.ax_reader.specs.Reading.{kind_read}
+use Rattle.ax_format.specs.Tree.{by_fx}
+use Rattle.ax_format.specs.Widths.{width}
+use Rattle.ax_fspec.specs.Reading.{kind_read}
 use Rattle.ax_show_views.proofs.Stops.{unit_stopped}
 use Rattle.ax_show_views.proofs.UnitLines.{run_first, run_next, run_last, run_failed}
 use Rattle.ax_values.proofs.Repeating.{unit_is}

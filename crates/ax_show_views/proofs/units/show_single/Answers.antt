@@ -1,9 +1,8 @@
-use Rattle.std.proofs.Common.{arith, refl}
+use Rattle.std.proofs.Common.{arith, drop, refl, ◌*◌, ◌/◌}
 use Rattle.ax_bits.specs.Bits.{bits}
-use Rattle.std.proofs.Common.{drop, ◌*◌, ◌/◌}
 use Rattle.ax_held_kinds.specs.HeldFixed.{held_fixed}
-use Rattle.ax_model.specs.Reader.{fixed_value}
-use Rattle.ax_reader.proofs.AtOctets.{fixed_gets}
+use Rattle.ax_format.specs.Reader.{fixed_value}
+use Rattle.ax_fspec.proofs.AtOctets.{fixed_gets}
 use Rattle.ax_show_views.proofs.units.show_single.Goals as goal
 
 pub returns-clause-ok : goal.returns-clause-ok

@@ -1,4 +1,4 @@
-use Rattle.ax_model.specs.Plain.{spec_tree, records_tree}
+use Rattle.ax_format.specs.Plain.{spec_tree, records_tree}
 use Rattle.ax_text.proofs.BlockWays.{read_line}
 use Rattle.ax_text.proofs.blocks.read_text.Goals as goal
 

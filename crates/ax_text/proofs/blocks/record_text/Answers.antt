@@ -1,4 +1,4 @@
-use Rattle.ax_model.specs.Plain.{spec_tree, record_tree}
+use Rattle.ax_format.specs.Plain.{spec_tree, record_tree}
 use Rattle.ax_text.proofs.BlockWays.{record_line}
 use Rattle.ax_text.proofs.blocks.record_text.Goals as goal
 

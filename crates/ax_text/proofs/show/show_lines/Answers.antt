@@ -1,4 +1,4 @@
-use Rattle.ax_model.specs.Plain.{spec_tree}
+use Rattle.ax_format.specs.Plain.{spec_tree}
 use Rattle.ax_text.proofs.Listables.{record_listable}
 use Rattle.ax_text.proofs.show.show_lines.Goals as goal
 

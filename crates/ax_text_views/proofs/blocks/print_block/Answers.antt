@@ -1,4 +1,4 @@
-use Rattle.ax_model.specs.Plain.{spec_tree}
+use Rattle.ax_format.specs.Plain.{spec_tree}
 use Rattle.ax_text.proofs.BlockWays.{read_line}
 use Rattle.ax_text_views.proofs.blocks.print_block.Goals as goal
 

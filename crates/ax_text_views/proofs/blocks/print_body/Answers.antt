@@ -1,5 +1,5 @@
 use Rattle.std.proofs.Common.{◌<◌, arith}
-use Rattle.ax_model.specs.Plain.{spec_tree}
+use Rattle.ax_format.specs.Plain.{spec_tree}
 use Rattle.ax_text_views.proofs.RecordsPrinted.{record_forwards, records_more, records_all, records_fault}
 use Rattle.ax_text_views.proofs.blocks.print_body.Goals as goal
 use Rattle.ax_values.proofs.RecordSlots.{names_passed}

@@ -1,5 +1,5 @@
 use Rattle.std.proofs.Common.{◌-◌, length}
-use Rattle.ax_model.specs.Plain.{spec_tree}
+use Rattle.ax_format.specs.Plain.{spec_tree}
 use Rattle.ax_text_views.proofs.RecordsPrinted.{RecordsPrinted}
 use Rattle.ax_text_views.proofs.blocks.print_body.Given as goal
 

@@ -1,7 +1,7 @@
 use Rattle.std.proofs.Common.{◌≡◌, ◌<◌, length, get_or, ap, subst, sym, ◌∙◌, decimal, drop, take}
 use Rattle.ax_bits.specs.Bits.{bits, number_of}
-use Rattle.ax_model.specs.Plain.{member_tree}
-use Rattle.ax_model.specs.Tree.{member_and, no_members}
+use Rattle.ax_format.specs.Plain.{member_tree}
+use Rattle.ax_format.specs.Tree.{member_and, no_members}
 use Rattle.ax_text.proofs.Printed.{both_put}
 use Rattle.ax_text.specs.Printing.{after_spaces, Puts}
 use Rattle.ax_text.specs.ValueText.{one_onto, spare_word}

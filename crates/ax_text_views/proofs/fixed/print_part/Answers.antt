@@ -1,8 +1,8 @@
 use Rattle.std.proofs.Common.{drop}
 use Rattle.std.proofs.lemmas.Result.{on_ok_weaker}
 use Rattle.ax_bits.specs.Bits.{bits}
-use Rattle.ax_model.specs.Plain.{part_tree}
-use Rattle.ax_model.specs.Reader.{members_value}
+use Rattle.ax_format.specs.Plain.{part_tree}
+use Rattle.ax_format.specs.Reader.{members_value}
 use Rattle.ax_text.proofs.KindWays.{part_put}
 use Rattle.ax_text_views.proofs.fixed.print_part.Goals as goal
 

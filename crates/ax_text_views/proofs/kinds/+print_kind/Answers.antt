@@ -5,20 +5,20 @@ use Rattle.ax_held_kinds.specs.Fields.{MarksOf, FailsToMarkOf}
 use Rattle.ax_text_views.proofs.held.TextSlot.TheLaws.{the_size}
 use Rattle.std.proofs.Common.{◌≡◌, ◌-◌, ◌<◌, ℕ, List, [], length, map, get_or, ap, arith, subst, sym, ◌∙◌}
 use Rattle.std.proofs.lemmas.List.{length-map}
-use Rattle.ax_model.proofs.Bounds.{count_of_slots}
+use Rattle.ax_format.proofs.Bounds.{count_of_slots}
 use Rattle.ax_text_views.specs.HeldText.{text_kind, text_slot}
 use Rattle.ax_text_views.specs.declared.held.TextSlot.{TextSlot}
-use Rattle.ax_model.specs.Tree.{SlotTree, counted, compound, slots_of, slot_count}
+use Rattle.ax_format.specs.Tree.{SlotTree, counted, compound, slots_of, slot_count}
 use Rattle.ax_values.proofs.Continuing.{err_by_fault, err_is}
-use Rattle.ax_reader.proofs.Counting.{counted_none}
+use Rattle.ax_fspec.proofs.Counting.{counted_none}
 use Rattle.ax_text_views.proofs.Counted.{counted_goes_on, counted_failed}
-use Rattle.ax_reader.proofs.Marking.{field_failed, map_at, marks_bits, slot_bounds}
+use Rattle.ax_fspec.proofs.Marking.{field_failed, map_at, marks_bits, slot_bounds}
 use Rattle.ax_text.specs.Slots.{slot_numbered}
 use Rattle.ax_text_views.proofs.Marked.{at_number, marks_begin, next_slot, marks_next, marks_failed, marks_last, compound_printed}
 use Rattle.ax_text_views.specs.Prints.{IsSlotPrinted}
 use Rattle.ax_values.specs.SlotReading.{HasSlotFailed}
 use Rattle.ax_values.proofs.Marking.{compound_failed}
-use Rattle.ax_reader.specs.Reading.{kind_read, entries_at}
+use Rattle.ax_fspec.specs.Reading.{kind_read, entries_at}
 use Rattle.ax_text_views.proofs.kinds.+print_kind.Goals as goal
 
 pub print_counted-returns-in_err-count-clause-err : goal.print_counted-returns-in_err-count-clause-err

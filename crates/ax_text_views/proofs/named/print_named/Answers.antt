@@ -1,5 +1,5 @@
 use Rattle.std.proofs.Common.{arith, length}
-use Rattle.ax_model.specs.Plain.{fixed_tree}
+use Rattle.ax_format.specs.Plain.{fixed_tree}
 use Rattle.ax_text_views.proofs.StepsPrinted.{held_named_wide}
 use Rattle.ax_text_views.proofs.named.print_named.Goals as goal
 

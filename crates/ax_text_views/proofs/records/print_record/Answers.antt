@@ -1,13 +1,13 @@
 use Rattle.std.proofs.Common.{subst, sym}
 use Rattle.ax_held_kinds.proofs.MarkedSlots.{marks_clear}
-use Rattle.ax_model.proofs.Bounds.{record_bounds}
-use Rattle.ax_model.specs.InBounds.{SlotsInBounds}
-use Rattle.ax_model.specs.Plain.{spec_tree}
-use Rattle.ax_model.specs.Presence.{NoneUndefined}
-use Rattle.ax_model.specs.Specification.{record_kind}
-use Rattle.ax_model.specs.Tree.{slots_of, defined_slots}
-use Rattle.ax_reader.proofs.Marking.{field_failed}
-use Rattle.ax_reader.specs.Reading.{record_slot_list, kind_read, entries_at}
+use Rattle.ax_format.proofs.Bounds.{record_bounds}
+use Rattle.ax_format.specs.InBounds.{SlotsInBounds}
+use Rattle.ax_format.specs.Plain.{spec_tree}
+use Rattle.ax_format.specs.Presence.{NoneUndefined}
+use Rattle.ax_format.specs.Specification.{record_kind}
+use Rattle.ax_format.specs.Tree.{slots_of, defined_slots}
+use Rattle.ax_fspec.proofs.Marking.{field_failed}
+use Rattle.ax_fspec.specs.Reading.{record_slot_list, kind_read, entries_at}
 use Rattle.ax_text_views.proofs.RecordsPrinted.{record_printed}
 use Rattle.ax_text_views.specs.Prints.{slots_onto, Prints}
 use Rattle.ax_text_views.proofs.records.print_record.Goals as goal

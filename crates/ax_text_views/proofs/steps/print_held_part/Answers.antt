@@ -1,5 +1,5 @@
 use Rattle.std.proofs.Common.{arith, length}
-use Rattle.ax_model.specs.Plain.{part_tree}
+use Rattle.ax_format.specs.Plain.{part_tree}
 use Rattle.ax_text_views.proofs.StepsPrinted.{held_part_wide}
 use Rattle.ax_text_views.proofs.steps.print_held_part.Goals as goal
 

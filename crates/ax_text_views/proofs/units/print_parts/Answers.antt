@@ -1,6 +1,6 @@
 use Rattle.std.proofs.Common.{drop, map, ◌∙◌}
-use Rattle.ax_model.specs.Tree.{extended}
-use Rattle.ax_reader.specs.Reading.{kind_read}
+use Rattle.ax_format.specs.Tree.{extended}
+use Rattle.ax_fspec.specs.Reading.{kind_read}
 use Rattle.ax_text_views.proofs.Repeated.{parts_start, parts_next, parts_over, parts_fault}
 use Rattle.ax_values.proofs.Continuing.{err_by_fault}
 use Rattle.ax_text_views.specs.HeldText.{text_part}

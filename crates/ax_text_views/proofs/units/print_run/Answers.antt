@@ -1,8 +1,8 @@
 use Rattle.std.proofs.Common.{◌≡◌, true, false, ap, arith, refl, ◌+◌, ◌*◌}
-use Rattle.ax_model.specs.Plain.{fixed_tree}
-use Rattle.ax_model.specs.Widths.{width}
-use Rattle.ax_model.specs.Tree.{by_fx}
-use Rattle.ax_reader.specs.Reading.{kind_read}
+use Rattle.ax_format.specs.Plain.{fixed_tree}
+use Rattle.ax_format.specs.Widths.{width}
+use Rattle.ax_format.specs.Tree.{by_fx}
+use Rattle.ax_fspec.specs.Reading.{kind_read}
 use Rattle.ax_text_views.proofs.Repeated.{run_more, run_done, run_short}
 use Rattle.ax_values.proofs.Continuing.{err_by_fault}
 use Rattle.ax_values.proofs.Repeating.{unit_is}

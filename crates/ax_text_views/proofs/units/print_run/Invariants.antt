@@ -1,5 +1,5 @@
 use Rattle.std.proofs.Common.{◌-◌, length}
-use Rattle.ax_model.specs.Plain.{fixed_tree}
+use Rattle.ax_format.specs.Plain.{fixed_tree}
 use Rattle.ax_text_views.proofs.Repeated.{RunLeads}
 use Rattle.ax_text_views.proofs.units.print_run.Given as goal
 

@@ -1,8 +1,8 @@
 use Rattle.std.proofs.Common.{◌*◌, arith, drop, refl}
 use Rattle.ax_bits.specs.Bits.{bits}
-use Rattle.ax_model.specs.Plain.{fixed_tree}
-use Rattle.ax_model.specs.Reader.{fixed_value}
-use Rattle.ax_reader.proofs.AtOctets.{fixed_gets}
+use Rattle.ax_format.specs.Plain.{fixed_tree}
+use Rattle.ax_format.specs.Reader.{fixed_value}
+use Rattle.ax_fspec.proofs.AtOctets.{fixed_gets}
 use Rattle.ax_text_views.proofs.units.print_single.Goals as goal
 
 pub returns-clause-ok : goal.returns-clause-ok

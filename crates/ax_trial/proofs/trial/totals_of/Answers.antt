@@ -1,5 +1,5 @@
 use Rattle.std.proofs.Common.{ℕ, List, subst}
-use Rattle.ax_model.specs.Plain.{spec_tree}
+use Rattle.ax_format.specs.Plain.{spec_tree}
 use Rattle.ax_trial.proofs.Sums.{one_more}
 use Rattle.ax_trial.specs.Counting.{AddsForm}
 use Rattle.ax_trial.proofs.trial.totals_of.Goals as goal

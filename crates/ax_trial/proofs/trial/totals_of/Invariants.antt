@@ -1,5 +1,5 @@
 use Rattle.std.proofs.Common.{◌≡◌, length}
-use Rattle.ax_model.specs.Plain.{spec_tree}
+use Rattle.ax_format.specs.Plain.{spec_tree}
 use Rattle.ax_trial.proofs.Sums.{SoFar}
 use Rattle.ax_trial.proofs.trial.totals_of.Given as goal
 

@@ -1,8 +1,8 @@
 use Rattle.std.proofs.Common.{◌≡◌, ap}
 use Rattle.ax_bits.specs.Bits.{bits}
-use Rattle.ax_model.proofs.Once.{body_once, body_never_both}
-use Rattle.ax_model.specs.Blocks.{read_block}
-use Rattle.ax_model.specs.Plain.{spec_tree, records_tree, block_tree}
+use Rattle.ax_format.proofs.Once.{body_once, body_never_both}
+use Rattle.ax_format.specs.Blocks.{read_block}
+use Rattle.ax_format.specs.Plain.{spec_tree, records_tree, block_tree}
 use Rattle.ax_values.proofs.Honest.{honest_block}
 use Rattle.ax_values.proofs.RecordSlots.{err_spelled, err_faulty}
 use Rattle.ax_values.proofs.decode.decode_block.Goals as goal

@@ -1,5 +1,5 @@
 use Rattle.std.proofs.Common.{◌<◌, arith, subst, sym}
-use Rattle.ax_model.specs.Plain.{spec_tree, record_tree}
+use Rattle.ax_format.specs.Plain.{spec_tree, record_tree}
 use Rattle.ax_values.proofs.RecordSlots.{BodySoFar, body_more, body_all, body_err, names_passed, forwards_record}
 use Rattle.ax_values.proofs.decode.decode_body.Goals as goal
 

@@ -1,5 +1,5 @@
 use Rattle.std.proofs.Common.{◌-◌, length}
-use Rattle.ax_model.specs.Plain.{spec_tree}
+use Rattle.ax_format.specs.Plain.{spec_tree}
 use Rattle.ax_values.proofs.RecordSlots.{BodySoFar}
 use Rattle.ax_values.proofs.decode.decode_body.Given as goal
 

@@ -1,4 +1,4 @@
-use Rattle.ax_model.specs.Plain.{kind_tree, value_tree}
+use Rattle.ax_format.specs.Plain.{kind_tree, value_tree}
 use Rattle.ax_values.proofs.Exact.{is_spelled, is_faulty, where_spelled, where_faulty}
 use Rattle.ax_values.proofs.Honest.{honest_kind}
 use Rattle.ax_values.proofs.decode.decode_kind.Goals as goal

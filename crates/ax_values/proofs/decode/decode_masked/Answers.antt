@@ -1,7 +1,7 @@
-use Rattle.ax_model.proofs.Bounds.{record_bounds}
-use Rattle.ax_model.specs.Plain.{spec_tree, record_tree}
-use Rattle.ax_model.specs.Specification.{record_kind}
-use Rattle.ax_model.specs.Tree.{marked}
+use Rattle.ax_format.proofs.Bounds.{record_bounds}
+use Rattle.ax_format.specs.Plain.{spec_tree, record_tree}
+use Rattle.ax_format.specs.Specification.{record_kind}
+use Rattle.ax_format.specs.Tree.{marked}
 use Rattle.ax_values.proofs.Exact.{is_spelled, is_faulty, where_spelled, where_faulty}
 use Rattle.ax_values.proofs.RecordSlots.{record_ok, record_err, record_spelled, record_faulty}
 use Rattle.ax_values.proofs.decode.decode_masked.Goals as goal

@@ -1,4 +1,4 @@
-use Rattle.ax_model.specs.Plain.{spec_tree}
+use Rattle.ax_format.specs.Plain.{spec_tree}
 use Rattle.ax_values.proofs.Honest.{honest_record}
 use Rattle.ax_values.proofs.decode.decode_record.Goals as goal
 

@@ -1,5 +1,5 @@
 use Rattle.std.proofs.Common.{◌≤◌, arith, subst, sym, ap, ◌∙◌}
-use Rattle.ax_model.specs.OfCode.{block_length, block_octets}
+use Rattle.ax_format.specs.OfCode.{block_length, block_octets}
 use Rattle.ax_values.proofs.RoundTrip.{read_back}
 use Rattle.ax_values.specs.Decoding.{ReadsBack}
 use Rattle.ax_values.proofs.encode.encode_block.Goals as goal

@@ -1,5 +1,5 @@
 use Rattle.std.proofs.Common.{arith}
-use Rattle.ax_model.specs.OfCode.{block_octets}
+use Rattle.ax_format.specs.OfCode.{block_octets}
 use Rattle.ax_values.proofs.WrittenBlocks.{same_octets}
 use Rattle.ax_values.proofs.encode.fill.Goals as goal
 

@@ -1,7 +1,7 @@
 use Rattle.std.proofs.Common.{arith, ap, length, subst}
 use Rattle.ax_bits.specs.Bits.{bits, AreOctets}
 use Rattle.ax_bits.specs.Out.{Appends, room}
-use Rattle.ax_model.specs.CanonicalOctets.{framed}
+use Rattle.ax_format.specs.CanonicalOctets.{framed}
 use Rattle.ax_values.proofs.WrittenBlocks.{body_room, front_room, read_written, read_are_octets, opaque_few, opaque_room, of_opaque, octets_of_opaque}
 use Rattle.ax_values.proofs.encode.write_block.Goals as goal
 

@@ -1,6 +1,6 @@
 use Rattle.ax_bits.specs.Bits.{bits}
 use Rattle.ax_bits.specs.Out.{loan}
-use Rattle.ax_model.specs.OfCode.{block_octets}
+use Rattle.ax_format.specs.OfCode.{block_octets}
 use Rattle.std.proofs.Common.{◌≡◌, rules, length}
 use Rattle.ax_values.proofs.WrittenBlocks.{filled}
 use Rattle.ax_values.proofs.encode.write_over.Goals as goal

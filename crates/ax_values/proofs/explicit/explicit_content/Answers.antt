@@ -1,9 +1,9 @@
 use Rattle.std.proofs.Common.{◌≡◌, ◌+◌, ◌-◌, ◌<◌, ◌≤◌, ℕ, length, take, drop, ap, arith, refl, subst, sym, length-drop}
 use Rattle.std.proofs.lemmas.List.{length-take-le}
 use Rattle.ax_bits.specs.Bits.{AreOctets}
-use Rattle.ax_model.specs.Tree.{explicit, content_octets}
-use Rattle.ax_reader.proofs.Counting.{explicit_none, explicit_bad, explicit_short, explicit_gets, octets_part}
-use Rattle.ax_reader.specs.Reading.{Gets, kind_read}
+use Rattle.ax_format.specs.Tree.{explicit, content_octets}
+use Rattle.ax_fspec.proofs.Counting.{explicit_none, explicit_bad, explicit_short, explicit_gets, octets_part}
+use Rattle.ax_fspec.specs.Reading.{Gets, kind_read}
 use Rattle.ax_values.proofs.Continuing.{fault_passed}
 use Rattle.ax_values.proofs.explicit.explicit_content.Goals as goal
 

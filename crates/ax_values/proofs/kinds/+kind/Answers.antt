@@ -1,18 +1,18 @@
 use denote.Param.Weighed.{at_most}
-use Rattle.ax_model.proofs.kind.Slot.TheLaws.{the_size}
+use Rattle.ax_format.proofs.kind.Slot.TheLaws.{the_size}
 use Rattle.std.proofs.Common.{rules, ◌≡◌, ◌+◌, ◌<◌, ◌≤◌, ℕ, List, true, false, length, map, get_or, ap, arith, refl, subst, sym, ◌∙◌}
 use Rattle.std.proofs.lemmas.List.{length-map}
 use Rattle.std.proofs.lemmas.Result.{err_from_is_err_and}
-use Rattle.ax_model.proofs.Bounds.{count_of_slots}
-use Rattle.ax_model.specs.Plain.{kind_tree, slot_tree}
-use Rattle.ax_model.specs.Tree.{SlotTree, counted, compound, slots_of, slot_count}
+use Rattle.ax_format.proofs.Bounds.{count_of_slots}
+use Rattle.ax_format.specs.Plain.{kind_tree, slot_tree}
+use Rattle.ax_format.specs.Tree.{SlotTree, counted, compound, slots_of, slot_count}
 use Rattle.ax_values.proofs.Continuing.{err_by_fault, err_is}
 use Rattle.ax_values.proofs.KindWays.{failed_at, extended_is, counted_is, by_fx_is, explicit_is, compound_is, lists_got, values_got, octets_got, entries_got, sub_is, slot_failed, slot_wants, slot_read}
-use Rattle.ax_reader.proofs.Counting.{counted_none}
+use Rattle.ax_fspec.proofs.Counting.{counted_none}
 use Rattle.ax_values.proofs.Counting.{CountedSoFar, counted_more, counted_failed}
-use Rattle.ax_reader.proofs.Marking.{field_failed, map_at, marks_bits, slot_in_bounds}
+use Rattle.ax_fspec.proofs.Marking.{field_failed, map_at, marks_bits, slot_in_bounds}
 use Rattle.ax_values.proofs.Marking.{EntriesSoFar, entries_begin, entries_skip, entries_more, entries_failed, entries_all, entries_few, ok_gets, err_failed}
-use Rattle.ax_reader.specs.Reading.{kind_read, entries_at}
+use Rattle.ax_fspec.specs.Reading.{kind_read, entries_at}
 use Rattle.ax_values.proofs.kinds.+kind.Goals.{decode_marked-then-has+in_ok-here, decode_marked-else-has}
 use Rattle.ax_values.proofs.kinds.+kind.Goals as goal
 

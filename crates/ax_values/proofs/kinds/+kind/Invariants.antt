@@ -1,5 +1,5 @@
 use Rattle.std.proofs.Common.{◌≡◌, map}
-use Rattle.ax_model.specs.Plain.{kind_tree, slot_tree}
+use Rattle.ax_format.specs.Plain.{kind_tree, slot_tree}
 use Rattle.ax_values.proofs.Counting.{CountedSoFar}
 use Rattle.ax_values.proofs.Marking.{EntriesSoFar}
 use Rattle.ax_values.proofs.kinds.+kind.Given as goal

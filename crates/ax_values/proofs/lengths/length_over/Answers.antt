@@ -1,7 +1,7 @@
 use Rattle.std.proofs.Common.{◌≡◌, ◌+◌, sym, ◌∙◌, ap, subst}
-use Rattle.ax_model.proofs.BlockLengths.{read_length}
-use Rattle.ax_model.specs.Lengths.{capped, records_octets}
-use Rattle.ax_model.specs.OfCode.{BlockFits, block_length}
+use Rattle.ax_format.proofs.BlockLengths.{read_length}
+use Rattle.ax_format.specs.Lengths.{capped, records_octets}
+use Rattle.ax_format.specs.OfCode.{BlockFits, block_length}
 use Rattle.ax_values.proofs.lengths.length_over.Goals as goal
 
 pub returns-in-Read : goal.returns-in-Read

@@ -1,8 +1,8 @@
 use Rattle.std.proofs.Common.{◌+◌, ◌∙◌, ap}
-use Rattle.ax_model.proofs.Counting.{entry_taken, entry_last, entries_done}
-use Rattle.ax_model.specs.Lengths.{capped, entries_octets, slot_kind}
-use Rattle.ax_model.specs.Plain.{entries_tree, spec_tree}
-use Rattle.ax_model.specs.Specification.{record_slots}
+use Rattle.ax_format.proofs.Counting.{entry_taken, entry_last, entries_done}
+use Rattle.ax_format.specs.Lengths.{capped, entries_octets, slot_kind}
+use Rattle.ax_format.specs.Plain.{entries_tree, spec_tree}
+use Rattle.ax_format.specs.Specification.{record_slots}
 use Rattle.ax_values.proofs.lengths.octets_of_record.Goals as goal
 
 pub loop-entry-preserved : goal.loop-entry-preserved

@@ -1,5 +1,5 @@
 use Rattle.std.proofs.Common.{◌≡◌, ◌≤◌, ◌+◌, drop}
-use Rattle.ax_model.specs.Lengths.{capped, records_octets}
+use Rattle.ax_format.specs.Lengths.{capped, records_octets}
 use Rattle.ax_values.proofs.lengths.octets_of_records.Given as goal
 
 abbrev pub invariant-loop-one : goal.invariant-loop-one

@@ -1,9 +1,9 @@
-use Rattle.ax_model.specs.Plain.{spec_tree, entries_tree}
-use Rattle.ax_model.specs.Specification.{record_kind}
+use Rattle.ax_format.specs.Plain.{spec_tree, entries_tree}
+use Rattle.ax_format.specs.Specification.{record_kind}
 use Rattle.ax_values.proofs.Continuing.{err_by_fault, err_is}
-use Rattle.ax_reader.proofs.Marking.{field_failed, marks_bits}
+use Rattle.ax_fspec.proofs.Marking.{field_failed, marks_bits}
 use Rattle.ax_values.proofs.Marking.{compound_gets, compound_failed}
-use Rattle.ax_reader.specs.Reading.{record_slot_list, kind_read}
+use Rattle.ax_fspec.specs.Reading.{record_slot_list, kind_read}
 use Rattle.ax_values.proofs.records.decode_entries.Goals as goal
 
 pub returns-in_err-here-clause-err : goal.returns-in_err-here-clause-err

@@ -1,7 +1,7 @@
 use Rattle.std.proofs.Common.{rules, ◌≡◌, Some}
 use Rattle.std.proofs.lemmas.Result.{err_from_is_err_and}
-use Rattle.ax_model.specs.Lookup.{item_of_frn}
-use Rattle.ax_reader.specs.Reading.{slot_of_frn}
+use Rattle.ax_format.specs.Lookup.{item_of_frn}
+use Rattle.ax_fspec.specs.Reading.{slot_of_frn}
 use Rattle.ax_values.proofs.KindWays.{item_is, bounds_there, slot_failed, slot_wants, slot_read}
 use Rattle.ax_values.proofs.records.decode_item.Goals as goal
 

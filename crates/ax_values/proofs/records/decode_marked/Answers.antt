@@ -1,11 +1,11 @@
 use Rattle.std.proofs.Common.{◌≡◌, ◌+◌, ◌<◌, List, ℕ, true, false, length, arith, refl, subst, sym, ◌∙◌}
-use Rattle.ax_model.specs.Plain.{spec_tree}
-use Rattle.ax_model.specs.Specification.{record_slots}
-use Rattle.ax_model.specs.Tree.{SlotTree}
+use Rattle.ax_format.specs.Plain.{spec_tree}
+use Rattle.ax_format.specs.Specification.{record_slots}
+use Rattle.ax_format.specs.Tree.{SlotTree}
 use Rattle.ax_values.proofs.Continuing.{err_is}
 use Rattle.ax_values.proofs.Marking.{EntriesSoFar, entries_begin, entries_more, entries_skip, entries_failed, entries_all}
-use Rattle.ax_reader.proofs.RecordSlots.{frn_at, frn_count, frn_bounds}
-use Rattle.ax_reader.specs.Reading.{record_slot_list, slot_of_frn, entries_at}
+use Rattle.ax_fspec.proofs.RecordSlots.{frn_at, frn_count, frn_bounds}
+use Rattle.ax_fspec.specs.Reading.{record_slot_list, slot_of_frn, entries_at}
 use Rattle.ax_values.proofs.records.decode_marked.Goals.{then-has+in_ok-here, else-has}
 use Rattle.ax_values.proofs.records.decode_marked.Goals as goal
 

@@ -1,6 +1,6 @@
-use Rattle.ax_model.specs.Plain.{spec_tree}
+use Rattle.ax_format.specs.Plain.{spec_tree}
 use Rattle.ax_values.proofs.Marking.{EntriesSoFar}
-use Rattle.ax_reader.specs.Reading.{record_slot_list}
+use Rattle.ax_fspec.specs.Reading.{record_slot_list}
 use Rattle.ax_values.proofs.records.decode_marked.Given as goal
 
 abbrev pub invariant-loop-index : goal.invariant-loop-index

@@ -1,9 +1,9 @@
 use Rattle.std.proofs.Common.{◌≡◌, ◌+◌, ◌<◌, List, ℕ, length, arith, refl, subst, sym, ◌∙◌}
-use Rattle.ax_model.specs.Plain.{spec_tree}
-use Rattle.ax_model.specs.Tree.{SlotTree}
-use Rattle.ax_reader.proofs.Marking.{MaskSoFar, mask_none, mask_more, mask_same}
-use Rattle.ax_reader.proofs.RecordSlots.{frn_at, frn_count}
-use Rattle.ax_reader.specs.Reading.{record_slot_list, slot_of_frn}
+use Rattle.ax_format.specs.Plain.{spec_tree}
+use Rattle.ax_format.specs.Tree.{SlotTree}
+use Rattle.ax_fspec.proofs.Marking.{MaskSoFar, mask_none, mask_more, mask_same}
+use Rattle.ax_fspec.proofs.RecordSlots.{frn_at, frn_count}
+use Rattle.ax_fspec.specs.Reading.{record_slot_list, slot_of_frn}
 use Rattle.ax_values.proofs.records.record_mask.Goals.{then-has_item, else-has_item}
 use Rattle.ax_values.proofs.records.record_mask.Goals as goal
 

@@ -1,8 +1,8 @@
 use Rattle.std.proofs.Common.{◌≡◌, ◌+◌, ◌<◌, List, ℕ, length, map, get_or, arith, refl, subst, sym, ◌∙◌}
 use Rattle.std.proofs.lemmas.List.{length-map}
-use Rattle.ax_model.specs.Plain.{slot_tree}
-use Rattle.ax_model.specs.Tree.{SlotTree}
-use Rattle.ax_reader.proofs.Marking.{MaskSoFar, mask_none, mask_more, mask_same, map_at}
+use Rattle.ax_format.specs.Plain.{slot_tree}
+use Rattle.ax_format.specs.Tree.{SlotTree}
+use Rattle.ax_fspec.proofs.Marking.{MaskSoFar, mask_none, mask_more, mask_same, map_at}
 use Rattle.ax_values.proofs.slots.slots_mask.Goals.{then-is_sub, else-is_sub}
 use Rattle.ax_values.proofs.slots.slots_mask.Goals as goal
 

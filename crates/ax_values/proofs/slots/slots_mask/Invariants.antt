@@ -1,6 +1,6 @@
 use Rattle.std.proofs.Common.{◌≡◌, map}
-use Rattle.ax_model.specs.Plain.{slot_tree}
-use Rattle.ax_reader.proofs.Marking.{MaskSoFar}
+use Rattle.ax_format.specs.Plain.{slot_tree}
+use Rattle.ax_fspec.proofs.Marking.{MaskSoFar}
 use Rattle.ax_values.proofs.slots.slots_mask.Given as goal
 
 abbrev pub invariant-loop-slot : goal.invariant-loop-slot

@@ -1,6 +1,6 @@
 use Rattle.std.proofs.Common.{drop, map, subst, sym, ◌∙◌}
-use Rattle.ax_model.specs.Plain.{part_tree}
-use Rattle.ax_reader.proofs.AtOctets.{parts_at}
+use Rattle.ax_format.specs.Plain.{part_tree}
+use Rattle.ax_fspec.proofs.AtOctets.{parts_at}
 use Rattle.ax_values.proofs.PartsRead.{PartsSoFar, parts_start, parts_next, parts_over}
 use Rattle.ax_values.proofs.units.decode_parts.Goals as goal
 

@@ -1,11 +1,11 @@
 use Rattle.std.proofs.Common.{◌≡◌, ◌++◌, ◌∷◌, [], true, false, ap, arith, refl, subst, sym}
-use Rattle.ax_model.specs.Plain.{fixed_tree, values_tree}
-use Rattle.ax_model.specs.Widths.{width}
-use Rattle.ax_model.specs.Tree.{by_fx, occurrences}
-use Rattle.ax_reader.proofs.AtOctets.{by_fx_gets, by_fx_fails}
+use Rattle.ax_format.specs.Plain.{fixed_tree, values_tree}
+use Rattle.ax_format.specs.Widths.{width}
+use Rattle.ax_format.specs.Tree.{by_fx, occurrences}
+use Rattle.ax_fspec.proofs.AtOctets.{by_fx_gets, by_fx_fails}
 use Rattle.ax_values.proofs.Continuing.{err_by_fault}
 use Rattle.ax_values.proofs.Repeating.{RunSoFar, unit_is, run_more, run_done, run_short}
-use Rattle.ax_reader.specs.Reading.{Gets, kind_read}
+use Rattle.ax_fspec.specs.Reading.{Gets, kind_read}
 use Rattle.ax_values.proofs.units.decode_run.Goals as goal
 
 pub returns-in_err-end-clause-err : goal.returns-in_err-end-clause-err

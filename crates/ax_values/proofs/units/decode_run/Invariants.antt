@@ -1,5 +1,5 @@
 use Rattle.std.proofs.Common.{◌-◌, length}
-use Rattle.ax_model.specs.Plain.{fixed_tree}
+use Rattle.ax_format.specs.Plain.{fixed_tree}
 use Rattle.ax_values.proofs.Repeating.{RunSoFar}
 use Rattle.ax_values.proofs.units.decode_run.Given as goal
 

@@ -1,6 +1,6 @@
 use Rattle.std.proofs.Common.{arith}
-use Rattle.ax_model.specs.Plain.{fixed_tree, value_tree}
-use Rattle.ax_reader.proofs.AtOctets.{fixed_gets}
+use Rattle.ax_format.specs.Plain.{fixed_tree, value_tree}
+use Rattle.ax_fspec.proofs.AtOctets.{fixed_gets}
 use Rattle.ax_values.proofs.units.decode_single.Goals as goal
 
 pub returns-clause-ok : goal.returns-clause-ok

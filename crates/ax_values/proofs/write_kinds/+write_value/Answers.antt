@@ -1,15 +1,15 @@
 use denote.Param.Weighed.{at_most}
 use Rattle.std.proofs.Common.{◌≡◌, ◌*◌, ◌^◌, ◌<◌, ◌≤◌, ℕ, length, get_or, arith, ap, subst, sym, ◌∙◌}
-use Rattle.ax_model.proofs.value.Entry.TheLaws.{the_size}
-use Rattle.ax_model.proofs.value.Value.TheLaws as OfValue
-use Rattle.ax_model.specs.Canonical.{canon, each_canon, entries_canon}
-use Rattle.ax_model.specs.Plain.{kind_tree, values_tree, slots_tree, entries_tree}
-use Rattle.ax_model.specs.Tree.{value_count}
+use Rattle.ax_format.proofs.value.Entry.TheLaws.{the_size}
+use Rattle.ax_format.proofs.value.Value.TheLaws as OfValue
+use Rattle.ax_format.specs.Canonical.{canon, each_canon, entries_canon}
+use Rattle.ax_format.specs.Plain.{kind_tree, values_tree, slots_tree, entries_tree}
+use Rattle.ax_format.specs.Tree.{value_count}
 use Rattle.ax_values.proofs.WrittenKinds.{each_first, each_shape, each_room, each_next, each_ended, count_and, count_of, left_first, left_shape, left_room, left_next, left_ended}
 use Rattle.ax_bits.specs.Bits.{word}
 use Rattle.ax_bits.specs.Out.{Appends}
-use Rattle.ax_model.specs.Widths.{counter_width}
-use Rattle.ax_model.proofs.WholeOctets.{counter_in_octets}
+use Rattle.ax_format.specs.Widths.{counter_width}
+use Rattle.ax_format.proofs.WholeOctets.{counter_in_octets}
 use Rattle.ax_values.proofs.write_kinds.+write_value.Goals as goal
 
 pub write_counted-push_bits-requires-clause-fits : goal.write_counted-push_bits-requires-clause-fits

@@ -1,6 +1,6 @@
 use Rattle.std.proofs.Common.{drop}
-use Rattle.ax_model.specs.Canonical.{canon, each_canon, entries_canon}
-use Rattle.ax_model.specs.Plain.{kind_tree, values_tree, slots_tree, entries_tree}
+use Rattle.ax_format.specs.Canonical.{canon, each_canon, entries_canon}
+use Rattle.ax_format.specs.Plain.{kind_tree, values_tree, slots_tree, entries_tree}
 use Rattle.ax_values.proofs.NextEntry.{EntriesLeft}
 use Rattle.ax_values.proofs.WrittenKinds.{EachLeft}
 use Rattle.ax_values.proofs.write_kinds.+write_value.Given as goal

@@ -1,6 +1,6 @@
 use Rattle.std.proofs.Common.{◌≡◌, ◌<◌, ◌≤◌, ℕ, length, get_or, subst}
-use Rattle.ax_model.specs.Bodies.{CanonBody}
-use Rattle.ax_model.specs.Plain.{spec_tree, record_tree, records_tree}
+use Rattle.ax_format.specs.Bodies.{CanonBody}
+use Rattle.ax_format.specs.Plain.{spec_tree, record_tree, records_tree}
 use Rattle.ax_values.proofs.WrittenRecords.{records_first, record_entries, record_shape, record_room, records_next, records_ended}
 use Rattle.ax_values.proofs.write_records.write_body.Goals as goal
 

@@ -1,6 +1,6 @@
 use Rattle.std.proofs.Common.{drop}
-use Rattle.ax_model.specs.Bodies.{CanonBody}
-use Rattle.ax_model.specs.Plain.{spec_tree, records_tree}
+use Rattle.ax_format.specs.Bodies.{CanonBody}
+use Rattle.ax_format.specs.Plain.{spec_tree, records_tree}
 use Rattle.ax_values.proofs.WrittenRecords.{RecordsLeft}
 use Rattle.ax_values.proofs.write_records.write_body.Given as goal
 

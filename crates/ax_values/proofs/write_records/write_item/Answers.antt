@@ -1,6 +1,6 @@
 use Rattle.std.proofs.Common.{◌≤◌, length, subst, sym}
 use Rattle.ax_bits.specs.Out.{Appends, room}
-use Rattle.ax_model.specs.Plain.{value_tree}
+use Rattle.ax_format.specs.Plain.{value_tree}
 use Rattle.ax_values.proofs.WrittenRecords.{item_bounds, item_shape, item_canon, no_item}
 use Rattle.ax_values.proofs.write_records.write_item.Goals as goal
 

@@ -1,7 +1,7 @@
 use Rattle.std.proofs.Common.{◌≡◌, ◌<◌, ◌≤◌, ℕ, length, get_or, subst}
-use Rattle.ax_model.specs.Canonical.{entries_canon}
-use Rattle.ax_model.specs.Plain.{spec_tree, entries_tree}
-use Rattle.ax_model.specs.Specification.{record_slots}
+use Rattle.ax_format.specs.Canonical.{entries_canon}
+use Rattle.ax_format.specs.Plain.{spec_tree, entries_tree}
+use Rattle.ax_format.specs.Specification.{record_slots}
 use Rattle.ax_values.proofs.WrittenKinds.{left_first, left_shape, left_room, left_next, left_ended}
 use Rattle.ax_values.proofs.write_records.write_items.Goals as goal
 

@@ -1,7 +1,7 @@
 use Rattle.std.proofs.Common.{drop}
-use Rattle.ax_model.specs.Canonical.{entries_canon}
-use Rattle.ax_model.specs.Plain.{spec_tree, entries_tree}
-use Rattle.ax_model.specs.Specification.{record_slots}
+use Rattle.ax_format.specs.Canonical.{entries_canon}
+use Rattle.ax_format.specs.Plain.{spec_tree, entries_tree}
+use Rattle.ax_format.specs.Specification.{record_slots}
 use Rattle.ax_values.proofs.NextEntry.{EntriesLeft}
 use Rattle.ax_values.proofs.write_records.write_items.Given as goal
 

@@ -1,9 +1,9 @@
 use denote.Param.Weighed.{at_most, most}
 use Rattle.std.proofs.Common.{◌+◌, drop, length, ap, sym, subst, arith}
 use Rattle.std.proofs.lemmas.List.{drop_all}
-use Rattle.ax_model.proofs.value.Value.TheLaws.{the_size}
-use Rattle.ax_model.specs.Canonical.{members_canon}
-use Rattle.ax_model.specs.Plain.{members_tree, values_tree}
+use Rattle.ax_format.proofs.value.Value.TheLaws.{the_size}
+use Rattle.ax_format.specs.Canonical.{members_canon}
+use Rattle.ax_format.specs.Plain.{members_tree, values_tree}
 use Rattle.ax_values.proofs.Written.{MembersLeft, members_first, member_at, member_bounds, member_shape, member_room, member_more, members_ended, values_ended}
 use Rattle.ax_values.proofs.WrittenKinds.{from_place}
 use Rattle.ax_values.proofs.write_units.+write_fixed.Goals as goal

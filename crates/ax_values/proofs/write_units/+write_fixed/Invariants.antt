@@ -1,6 +1,6 @@
 use Rattle.std.proofs.Common.{drop}
-use Rattle.ax_model.specs.Canonical.{members_canon}
-use Rattle.ax_model.specs.Plain.{members_tree, values_tree}
+use Rattle.ax_format.specs.Canonical.{members_canon}
+use Rattle.ax_format.specs.Plain.{members_tree, values_tree}
 use Rattle.ax_values.proofs.Written.{MembersLeft}
 use Rattle.ax_values.proofs.write_units.+write_fixed.Given as goal
 

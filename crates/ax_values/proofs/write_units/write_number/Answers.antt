@@ -1,5 +1,5 @@
 use Rattle.ax_bits.specs.Out.{room}
-use Rattle.ax_model.specs.Plain.{value_tree}
+use Rattle.ax_format.specs.Plain.{value_tree}
 use Rattle.ax_values.proofs.Written.{number_room}
 use Rattle.ax_values.proofs.write_units.write_number.Goals as goal
 

@@ -1,6 +1,6 @@
 use Rattle.std.proofs.Common.{◌≡◌, length, not, map, ap, sym, subst, ◌∙◌}
-use Rattle.ax_model.specs.Canonical.{parts_canon}
-use Rattle.ax_model.specs.Plain.{part_tree, lists_tree}
+use Rattle.ax_format.specs.Canonical.{parts_canon}
+use Rattle.ax_format.specs.Plain.{part_tree, lists_tree}
 use Rattle.ax_values.proofs.WrittenRuns.{PartsLeft, parts_first, part_bounds, part_shape, part_room, part_fx_room, parts_next, parts_next_bare, lists_ended, parts_ended, none_left, no_fx, others, not_empty}
 use Rattle.ax_values.proofs.write_units.write_parts.Goals as goal
 

@@ -1,6 +1,6 @@
 use Rattle.std.proofs.Common.{length, map}
-use Rattle.ax_model.specs.Canonical.{parts_canon}
-use Rattle.ax_model.specs.Plain.{part_tree, lists_tree}
+use Rattle.ax_format.specs.Canonical.{parts_canon}
+use Rattle.ax_format.specs.Plain.{part_tree, lists_tree}
 use Rattle.ax_values.proofs.WrittenRuns.{PartsLeft}
 use Rattle.ax_values.proofs.write_units.write_parts.Given as goal
 

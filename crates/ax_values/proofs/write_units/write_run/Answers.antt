@@ -1,6 +1,6 @@
 use Rattle.std.proofs.Common.{◌≡◌, ◌∷◌, not, ap, sym, subst, ◌∙◌}
-use Rattle.ax_model.specs.Canonical.{run_canon}
-use Rattle.ax_model.specs.Plain.{fixed_tree, values_tree}
+use Rattle.ax_format.specs.Canonical.{run_canon}
+use Rattle.ax_format.specs.Plain.{fixed_tree, values_tree}
 use Rattle.ax_values.proofs.WrittenRuns.{RunLeft, run_first, value_shape, value_room, fx_room, run_next, run_ended, none_left, others, not_empty}
 use Rattle.ax_values.proofs.write_units.write_run.Goals as goal
 

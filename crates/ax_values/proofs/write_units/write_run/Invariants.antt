@@ -1,6 +1,6 @@
 use Rattle.std.proofs.Common.{length}
-use Rattle.ax_model.specs.Canonical.{run_canon}
-use Rattle.ax_model.specs.Plain.{fixed_tree, values_tree}
+use Rattle.ax_format.specs.Canonical.{run_canon}
+use Rattle.ax_format.specs.Plain.{fixed_tree, values_tree}
 use Rattle.ax_values.proofs.WrittenRuns.{RunLeft}
 use Rattle.ax_values.proofs.write_units.write_run.Given as goal
 

@@ -1,6 +1,6 @@
 use Rattle.std.proofs.Common.{map}
-use Rattle.ax_model.specs.Plain.{item_tree}
-use Rattle.ax_model.specs.Specification.{uap_slot}
+use Rattle.ax_format.specs.Plain.{item_tree}
+use Rattle.ax_format.specs.Specification.{uap_slot}
 use Rattle.ax_vectors.proofs.SlotDraws.{SlotMarks}
 use Rattle.ax_vectors.proofs.blocks.draw_marks.Given as goal
 

@@ -1,8 +1,8 @@
 use Rattle.std.proofs.Common.{◌≡◌, [], ap, subst, ◌∙◌}
 use Rattle.std.proofs.lemmas.Result.{IfOk-weaker}
 use Rattle.ax_bits.specs.Bits.{AreOctets}
-use Rattle.ax_model.specs.CanonicalOctets.{octets_of}
-use Rattle.ax_model.specs.Plain.{spec_tree}
+use Rattle.ax_format.specs.CanonicalOctets.{octets_of}
+use Rattle.ax_format.specs.Plain.{spec_tree}
 use Rattle.ax_vectors.proofs.RecordDraws.{octets_are, block_adds, spelled_made}
 use Rattle.ax_vectors.specs.Made.{block_of, block_made, records_made, IsSpelledBlock}
 use Rattle.ax_vectors.specs.Making.{Adds}

@@ -1,5 +1,5 @@
 use Rattle.std.proofs.Common.{◌≡◌, ◌+◌, ◌%◌, length, subst, sym, ◌∙◌}
-use Rattle.ax_model.specs.Plain.{spec_tree}
+use Rattle.ax_format.specs.Plain.{spec_tree}
 use Rattle.ax_vectors.proofs.RecordDraws.{body_drawn, body_whole}
 use Rattle.ax_vectors.specs.Made.{record_made}
 use Rattle.ax_vectors.specs.Making.{Adds, times}

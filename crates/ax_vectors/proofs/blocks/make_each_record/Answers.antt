@@ -1,4 +1,4 @@
-use Rattle.ax_model.specs.Plain.{spec_tree}
+use Rattle.ax_format.specs.Plain.{spec_tree}
 use Rattle.ax_vectors.proofs.KindDraws.{each_next}
 use Rattle.ax_vectors.specs.Made.{record_made}
 use Rattle.ax_vectors.proofs.blocks.make_each_record.Goals as goal

@@ -1,4 +1,4 @@
-use Rattle.ax_model.specs.Plain.{spec_tree}
+use Rattle.ax_format.specs.Plain.{spec_tree}
 use Rattle.ax_vectors.proofs.Left.{Left}
 use Rattle.ax_vectors.specs.Made.{record_made}
 use Rattle.ax_vectors.specs.Making.{times}

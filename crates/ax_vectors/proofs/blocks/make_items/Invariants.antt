@@ -1,6 +1,6 @@
 use Rattle.std.proofs.Common.{map}
-use Rattle.ax_model.specs.Plain.{item_tree, spec_tree}
-use Rattle.ax_model.specs.Specification.{uap_slot, record_slots}
+use Rattle.ax_format.specs.Plain.{item_tree, spec_tree}
+use Rattle.ax_format.specs.Specification.{uap_slot, record_slots}
 use Rattle.ax_vectors.proofs.SlotDraws.{ValuesLeft}
 use Rattle.ax_vectors.specs.Made.{values_made, makers}
 use Rattle.ax_vectors.proofs.blocks.make_items.Given as goal

@@ -1,5 +1,5 @@
 use Rattle.std.proofs.Common.{◌≡◌, drop}
-use Rattle.ax_model.specs.Presence.{none_marked}
+use Rattle.ax_format.specs.Presence.{none_marked}
 use Rattle.ax_vectors.proofs.field.is_any_marked.Given as goal
 
 abbrev pub invariant-loop-mark : goal.invariant-loop-mark

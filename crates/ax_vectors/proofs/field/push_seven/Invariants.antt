@@ -1,5 +1,5 @@
 use Rattle.std.proofs.Common.{◌≡◌, ◌++◌}
-use Rattle.ax_model.specs.Presence.{marks_upto}
+use Rattle.ax_format.specs.Presence.{marks_upto}
 use Rattle.ax_vectors.proofs.field.push_seven.Given as goal
 
 abbrev pub invariant-loop-place : goal.invariant-loop-place

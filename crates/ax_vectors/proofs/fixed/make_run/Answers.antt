@@ -1,5 +1,5 @@
 use Rattle.std.proofs.Common.{◌≡◌, ◌-◌, suc, arith}
-use Rattle.ax_model.specs.Plain.{fixed_tree}
+use Rattle.ax_format.specs.Plain.{fixed_tree}
 use Rattle.ax_vectors.proofs.Left.{run_next}
 use Rattle.ax_vectors.proofs.fixed.make_run.Goals as goal
 

@@ -1,4 +1,4 @@
-use Rattle.ax_model.specs.Plain.{fixed_tree}
+use Rattle.ax_format.specs.Plain.{fixed_tree}
 use Rattle.ax_vectors.proofs.Left.{Left}
 use Rattle.ax_vectors.specs.Made.{run_made}
 use Rattle.ax_vectors.proofs.fixed.make_run.Given as goal

@@ -1,4 +1,4 @@
-use Rattle.ax_model.specs.Plain.{kind_tree, slot_tree, slots_tree}
+use Rattle.ax_format.specs.Plain.{kind_tree, slot_tree, slots_tree}
 use Rattle.ax_vectors.proofs.Left.{Left}
 use Rattle.ax_vectors.proofs.SlotDraws.{ValuesLeft}
 use Rattle.ax_vectors.specs.Made.{kind_made, values_made, makers}

@@ -1,4 +1,4 @@
-use Rattle.ax_model.specs.Plain.{slot_tree}
+use Rattle.ax_format.specs.Plain.{slot_tree}
 use Rattle.ax_vectors.proofs.SlotDraws.{SlotMarks}
 use Rattle.ax_vectors.proofs.kinds.draw_marks.Given as goal
 

@@ -1,5 +1,5 @@
 use Rattle.std.proofs.Common.{◌≡◌, ℕ, ◌+◌, ◌-◌, ◌%◌, ◌<◌, ◌≤◌, length, get_or}
-use Rattle.ax_model.specs.Presence.{octets_needed}
+use Rattle.ax_format.specs.Presence.{octets_needed}
 use Rattle.ax_view.proofs.by_rows.field_octets.Given as goal
 
 abbrev pub invariant-loop-index : goal.invariant-loop-index

@@ -1,6 +1,6 @@
 use Rattle.std.proofs.Common.{subst}
-use Rattle.ax_model.specs.InBounds.{InBounds}
-use Rattle.ax_tables.specs.Table.{kind_at, record_kind_at}
+use Rattle.ax_format.specs.InBounds.{InBounds}
+use Rattle.ax_codec.specs.Table.{kind_at, record_kind_at}
 use Rattle.ax_view.proofs.NodeKinds.{end_as, is_compound, compound_links, compound_mask}
 use Rattle.ax_view.proofs.by_rows.walk_record_item.Goals as goal
 

@@ -1,7 +1,7 @@
 use Rattle.std.proofs.Common.{◌-◌, List, ℕ, arith, refl, sym, subst}
 use Rattle.ax_rows.specs.Rows.{AreRows}
 use Rattle.ax_rows.specs.declared.step.Step.{Step}
-use Rattle.ax_tables.specs.NodeRows.{node_slots}
+use Rattle.ax_codec.specs.NodeRows.{node_slots}
 use Rattle.ax_view.proofs.CompoundRows.{rows_there}
 use Rattle.ax_view.proofs.compound_rows.compound_rows.Goals as goal
 

@@ -1,9 +1,9 @@
 use Rattle.std.proofs.Common.{◌≤◌, ap, subst, ◌∙◌}
 use Rattle.std.proofs.lemmas.List.{length-map}
-use Rattle.ax_model.specs.Presence.{octets_needed}
-use Rattle.ax_tables.specs.Meaning.{meanings, linked_slot, linked_slots}
-use Rattle.ax_reader.proofs.Marking.{marks_bits}
-use Rattle.ax_model.specs.At.{slot_value}
+use Rattle.ax_format.specs.Presence.{octets_needed}
+use Rattle.ax_codec.specs.Meaning.{meanings, linked_slot, linked_slots}
+use Rattle.ax_fspec.proofs.Marking.{marks_bits}
+use Rattle.ax_format.specs.At.{slot_value}
 use Rattle.ax_view.proofs.Compounds.{marks_clear, slots_bounds}
 use Rattle.ax_view.proofs.Found.{all_got, field_never, marks_all, entries_are}
 use Rattle.ax_view.proofs.Placed.{found_in_place}

@@ -1,7 +1,7 @@
 use Rattle.std.proofs.Common.{◌≡◌, ◌+◌, ◌-◌, get_or, length, arith, rules, ap, subst, ◌∙◌}
-use Rattle.ax_model.specs.At.{slot_value}
-use Rattle.ax_tables.specs.Meaning.{meanings, linked_slots}
-use Rattle.ax_tables.specs.Table.{kind_at}
+use Rattle.ax_format.specs.At.{slot_value}
+use Rattle.ax_codec.specs.Meaning.{meanings, linked_slots}
+use Rattle.ax_codec.specs.Table.{kind_at}
 use Rattle.ax_view.proofs.Compounds.{slots_bounds}
 use Rattle.ax_view.proofs.EarlyItems.{cleared, early, early_at, early_marks, early_next, early_none, early_place, early_same}
 use Rattle.ax_view.proofs.Found.{Left, left_first, left_next, next_failed, next_found, walked_one}

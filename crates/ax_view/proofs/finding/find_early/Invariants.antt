@@ -1,5 +1,5 @@
 use Rattle.std.proofs.Common.{◌-◌}
-use Rattle.ax_tables.specs.Meaning.{meanings, linked_slots}
+use Rattle.ax_codec.specs.Meaning.{meanings, linked_slots}
 use Rattle.ax_view.proofs.EarlyItems.{cleared, early_marks}
 use Rattle.ax_view.proofs.Found.{Left}
 use Rattle.ax_view.proofs.Placed.{Passed}

@@ -1,6 +1,6 @@
 use Rattle.std.proofs.Common.{◌-◌, get_or, length}
-use Rattle.ax_tables.specs.Meaning.{meanings, linked_slots}
-use Rattle.ax_tables.specs.Table.{kind_at}
+use Rattle.ax_codec.specs.Meaning.{meanings, linked_slots}
+use Rattle.ax_codec.specs.Table.{kind_at}
 use Rattle.ax_view.proofs.MarkedSteps.{next_marked, within_at}
 use Rattle.ax_view.proofs.Found.{next_failed, left_first, left_next, next_found, walked_one, left_none}
 use Rattle.ax_view.proofs.Placed.{passed_first, passed_next, follows}

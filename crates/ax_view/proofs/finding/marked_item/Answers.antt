@@ -1,9 +1,9 @@
 use Rattle.std.proofs.Common.{subst, sym}
-use Rattle.ax_model.specs.InBounds.{InBounds}
-use Rattle.ax_reader.proofs.Marking.{marks_bits}
-use Rattle.ax_reader.specs.Reading.{IsMaskOf}
-use Rattle.ax_tables.specs.Meaning.{meanings, linked_slots}
-use Rattle.ax_tables.specs.Table.{record_kind_at}
+use Rattle.ax_format.specs.InBounds.{InBounds}
+use Rattle.ax_fspec.proofs.Marking.{marks_bits}
+use Rattle.ax_fspec.specs.Reading.{IsMaskOf}
+use Rattle.ax_codec.specs.Meaning.{meanings, linked_slots}
+use Rattle.ax_codec.specs.Table.{record_kind_at}
 use Rattle.ax_view.proofs.Compounds.{marks_clear, slots_bounds}
 use Rattle.ax_view.proofs.Placed.{is_marked_item}
 use Rattle.ax_view.proofs.finding.marked_item.Goals as goal

@@ -2,8 +2,8 @@ use Rattle.std.proofs.Common.{◌<◌, map, length, subst, sym, ap, ◌∙◌, a
 use Rattle.ax_view.proofs.FixedTrees.{element_bounds, element_room, element_made, group_links, group_bounds, group_room, group_falls, group_made, nothing_made, members_all}
 use Rattle.ax_view.proofs.MemberSteps.{none_left}
 use Rattle.ax_view.proofs.ValueTrees.{number_tree, group_value_tree}
-use Rattle.ax_model.specs.Tree.{member_values, values_of}
-use Rattle.ax_model.specs.Plain.{value_tree, values_tree}
+use Rattle.ax_format.specs.Tree.{member_values, values_of}
+use Rattle.ax_format.specs.Plain.{value_tree, values_tree}
 use Rattle.ax_view.proofs.fixed_values.+fixed_to_value.Goals as goal
 
 pub fixed_to_value-bits_at-requires-clause-width : goal.fixed_to_value-bits_at-requires-clause-width

@@ -1,6 +1,6 @@
 use Rattle.std.proofs.Common.{◌*◌, length, ap, ◌∙◌}
 use Rattle.ax_bits.specs.Bits.{bits}
-use Rattle.ax_model.specs.Plain.{values_tree}
+use Rattle.ax_format.specs.Plain.{values_tree}
 use Rattle.ax_view.proofs.MemberSteps.{part_links, part_bounds, part_room}
 use Rattle.ax_view.proofs.FixedTrees.{part_made, no_part_made}
 use Rattle.ax_view.proofs.fixed_values.part_to_values.Goals as goal

@@ -1,5 +1,5 @@
 use Rattle.std.proofs.Common.{length, subst, sym, arith}
-use Rattle.ax_tables.specs.Meaning.{meanings, linked_parts}
+use Rattle.ax_codec.specs.Meaning.{meanings, linked_parts}
 use Rattle.ax_view.proofs.MemberSteps.{none_left}
 use Rattle.ax_view.proofs.PartTrees.{PartsMade, parts_begin, part_end, part_room, parts_end, parts_next, parts_never, parts_whole}
 use Rattle.ax_view.proofs.UnitSteps.{fx_is, goes_on}

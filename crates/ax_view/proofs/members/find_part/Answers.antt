@@ -1,5 +1,5 @@
 use Rattle.std.proofs.Common.{length}
-use Rattle.ax_tables.specs.Meaning.{meanings, linked_parts}
+use Rattle.ax_codec.specs.Meaning.{meanings, linked_parts}
 use Rattle.ax_view.proofs.MemberSteps.{none_left}
 use Rattle.ax_view.proofs.PartSteps.{parts_looked, part_wide, part_failed, part_some, part_found_here, part_ends, part_next, parts_past_all}
 use Rattle.ax_view.proofs.UnitSteps.{fx_is, goes_on}

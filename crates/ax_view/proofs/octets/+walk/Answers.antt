@@ -1,17 +1,17 @@
 use Rattle.std.proofs.Common.{◌-◌, ◌%◌, length, ap, arith, refl, subst, sym, ◌∙◌}
 use Rattle.ax_bits.proofs.Pieces.{AreOctets-items}
-use Rattle.ax_model.specs.InBounds.{InBounds}
-use Rattle.ax_model.specs.Tree as Tree
-use Rattle.ax_model.specs.declared.content.Content.TheVariants.{Raw}
-use Rattle.ax_tables.specs.Meaning.{meanings, linked, fixed_of, linked_members, linked_parts, linked_slots}
-use Rattle.ax_tables.specs.Table.{kind_at, record_kind_at}
-use Rattle.ax_reader.proofs.Counting.{counted_none}
+use Rattle.ax_format.specs.InBounds.{InBounds}
+use Rattle.ax_format.specs.Tree as Tree
+use Rattle.ax_format.specs.declared.content.Content.TheVariants.{Raw}
+use Rattle.ax_codec.specs.Meaning.{meanings, linked, fixed_of, linked_members, linked_parts, linked_slots}
+use Rattle.ax_codec.specs.Table.{kind_at, record_kind_at}
+use Rattle.ax_fspec.proofs.Counting.{counted_none}
 use Rattle.ax_view.proofs.Leading.{if_none}
 use Rattle.ax_view.proofs.NodeKinds.{end_as, fault_as, run_end, run_fault, is_element, is_group, group_width, is_part, is_extended, extended_links, is_counted, counted_link, is_by_fx, by_fx_link, is_explicit, is_compound, compound_links, compound_mask, compound_falls}
 use Rattle.ax_view.proofs.CountedSteps.{count_first, count_next, count_last, count_failed}
 use Rattle.ax_view.proofs.Compounds.{marks_clear, slots_bounds, record_failed, compound_end, compound_fault}
 use Rattle.ax_view.proofs.MarkedSteps.{next_marked, marks_next, marks_last, marks_failed, greatest_at, within_at}
-use Rattle.ax_reader.proofs.Marking.{marks_bits}
+use Rattle.ax_fspec.proofs.Marking.{marks_bits}
 use Rattle.ax_view.proofs.octets.+walk.Goals as goal
 
 pub walk-run-requires-clause-width : goal.walk-run-requires-clause-width

@@ -1,9 +1,9 @@
 use Rattle.std.proofs.Common.{◌%◌, ap, arith, refl, subst, ◌∙◌}
-use Rattle.ax_model.specs.InBounds.{InBounds}
-use Rattle.ax_model.specs.Tree as Tree
-use Rattle.ax_model.specs.declared.content.Content.TheVariants.{Raw}
-use Rattle.ax_tables.specs.Meaning.{meanings, linked_members}
-use Rattle.ax_tables.specs.Table.{kind_at}
+use Rattle.ax_format.specs.InBounds.{InBounds}
+use Rattle.ax_format.specs.Tree as Tree
+use Rattle.ax_format.specs.declared.content.Content.TheVariants.{Raw}
+use Rattle.ax_codec.specs.Meaning.{meanings, linked_members}
+use Rattle.ax_codec.specs.Table.{kind_at}
 use Rattle.ax_view.proofs.NodeKinds.{each_least, end_as, run_end, is_element, is_group, group_width}
 use Rattle.ax_view.proofs.octets.fixed_end.Goals as goal
 

@@ -1,9 +1,9 @@
 use Rattle.std.proofs.Common.{◌-◌, ◌%◌, get_or, ap, arith, refl, subst, sym, ◌∙◌}
-use Rattle.ax_model.specs.InBounds.{InBounds}
-use Rattle.ax_model.specs.Tree as Tree
-use Rattle.ax_model.specs.declared.content.Content.TheVariants.{Raw}
-use Rattle.ax_tables.specs.Meaning.{meanings, linked, fixed_of, linked_members, linked_parts}
-use Rattle.ax_tables.specs.Table.{kind_at, record_kind_at}
+use Rattle.ax_format.specs.InBounds.{InBounds}
+use Rattle.ax_format.specs.Tree as Tree
+use Rattle.ax_format.specs.declared.content.Content.TheVariants.{Raw}
+use Rattle.ax_codec.specs.Meaning.{meanings, linked, fixed_of, linked_members, linked_parts}
+use Rattle.ax_codec.specs.Table.{kind_at, record_kind_at}
 use Rattle.ax_view.proofs.NodeKinds.{octets_walk, end_as, fault_as, run_end, run_fault, is_element, is_group, group_width, is_part, is_extended, extended_links, is_counted, counted_link, is_by_fx, by_fx_link, is_explicit, is_compound, compound_links, compound_mask}
 use Rattle.ax_view.proofs.octets.walk_item.Goals as goal
 

@@ -1,5 +1,5 @@
 use Rattle.std.proofs.Common.{◌-◌, length}
-use Rattle.ax_tables.specs.Meaning.{meanings, linked_slots}
+use Rattle.ax_codec.specs.Meaning.{meanings, linked_slots}
 use Rattle.ax_view.proofs.Leading.{if_none}
 use Rattle.ax_view.proofs.MarkedSteps.{next_marked, marks_next, marks_last, marks_failed, within_at}
 use Rattle.ax_view.proofs.octets.walk_items.Goals as goal

@@ -1,8 +1,8 @@
 use Rattle.std.proofs.Common.{arith}
 use Rattle.ax_bits.proofs.Pieces.{AreOctets-items}
-use Rattle.ax_tables.specs.Meaning.{meanings, linked_slots}
+use Rattle.ax_codec.specs.Meaning.{meanings, linked_slots}
 use Rattle.ax_view.proofs.Compounds.{marks_clear, slots_bounds, record_failed, compound_end, compound_fault}
-use Rattle.ax_reader.proofs.Marking.{marks_bits}
+use Rattle.ax_fspec.proofs.Marking.{marks_bits}
 use Rattle.ax_view.proofs.octets.walk_slots.Goals as goal
 
 pub returns-in-Ok-clause-end : goal.returns-in-Ok-clause-end

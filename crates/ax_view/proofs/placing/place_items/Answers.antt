@@ -1,5 +1,5 @@
 use Rattle.std.proofs.Common.{◌-◌, length, false}
-use Rattle.ax_tables.specs.Meaning.{meanings, linked_slots}
+use Rattle.ax_codec.specs.Meaning.{meanings, linked_slots}
 use Rattle.ax_view.proofs.Leading.{if_none}
 use Rattle.ax_view.proofs.MarkedSteps.{next_marked, marks_first, marks_next, marks_failed, within_at}
 use Rattle.ax_view.proofs.PlacingSteps.{placed_first, placed_next, placed_last}

@@ -1,6 +1,6 @@
 use Rattle.std.proofs.Common.{false, length}
 use Rattle.ax_fspec.specs.Marks.{slots_of}
-use Rattle.ax_tables.specs.Meaning.{meanings, linked_slots}
+use Rattle.ax_codec.specs.Meaning.{meanings, linked_slots}
 use Rattle.ax_view.proofs.MarkedSteps.{MarksLead}
 use Rattle.ax_view.proofs.PlacingSteps.{PlacedSoFar}
 use Rattle.ax_view.proofs.placing.place_items.Given as goal

@@ -1,7 +1,7 @@
 use Rattle.std.proofs.Common.{arith, refl, false}
 use Rattle.ax_bits.proofs.Pieces.{AreOctets-items}
-use Rattle.ax_reader.proofs.Marking.{marks_bits}
-use Rattle.ax_tables.specs.Meaning.{meanings, linked_slots}
+use Rattle.ax_fspec.proofs.Marking.{marks_bits}
+use Rattle.ax_codec.specs.Meaning.{meanings, linked_slots}
 use Rattle.ax_view.proofs.Compounds.{marks_clear, slots_bounds, record_failed, compound_fault}
 use Rattle.ax_view.proofs.PlacingSteps.{placed_kind}
 use Rattle.ax_view.proofs.placing.place_slots.Goals as goal

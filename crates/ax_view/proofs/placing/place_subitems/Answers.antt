@@ -1,9 +1,9 @@
 use Rattle.std.proofs.Common.{length, IfSome, IfNone, subst, sym, ◌∙◌, List}
-use Rattle.ax_model.specs.InBounds.{InBounds}
-use Rattle.ax_reader.specs.Reading.{FailsAt, IsMaskOf, kind_read}
-use Rattle.ax_tables.specs.Meaning.{meanings, linked_slots}
-use Rattle.ax_tables.specs.Table.{SlotLinksWithin, record_kind_at}
-use Rattle.ax_tables.specs.declared.node.Node.{Node}
+use Rattle.ax_format.specs.InBounds.{InBounds}
+use Rattle.ax_fspec.specs.Reading.{FailsAt, IsMaskOf, kind_read}
+use Rattle.ax_codec.specs.Meaning.{meanings, linked_slots}
+use Rattle.ax_codec.specs.Table.{SlotLinksWithin, record_kind_at}
+use Rattle.ax_codec.specs.declared.node.Node.{Node}
 use Rattle.ax_view.proofs.Found.{compound_bounds, compound_one}
 use Rattle.ax_view.proofs.NodeKinds.{compound_links, compound_mask}
 use Rattle.ax_view.proofs.PlacingSteps.{placed_subitems, subitem_slots}

@@ -1,10 +1,10 @@
 use Rattle.std.proofs.Common.{◌∙◌, ap, option_map, option_and_then}
 use Rattle.ax_bits.specs.Bits.{bits}
-use Rattle.ax_model.specs.At.{value_at}
-use Rattle.ax_model.specs.Reader.{fixed_value}
-use Rattle.ax_model.specs.Tree.{extended}
-use Rattle.ax_tables.specs.Meaning.{meanings, linked, fixed_of, linked_parts}
-use Rattle.ax_tables.specs.Table.{kind_at}
+use Rattle.ax_format.specs.At.{value_at}
+use Rattle.ax_format.specs.Reader.{fixed_value}
+use Rattle.ax_format.specs.Tree.{extended}
+use Rattle.ax_codec.specs.Meaning.{meanings, linked, fixed_of, linked_parts}
+use Rattle.ax_codec.specs.Table.{kind_at}
 use Rattle.ax_view.proofs.MemberSteps.{none_left}
 use Rattle.ax_view.proofs.NodeKinds.{extended_links}
 use Rattle.ax_view.proofs.ItemSteps.{item_in, back, spot_at, element_kind, group_kind, in_bounds, in_room, in_fixed, extended_bounds, extended_one, in_extended, no_slot_step, in_slot, closed_whole, closed_steps, slot_in, empty_is, not_empty}

@@ -1,5 +1,5 @@
 use Rattle.std.proofs.Common.{arith}
-use Rattle.ax_tables.specs.Meaning.{meanings, linked, fixed_of}
+use Rattle.ax_codec.specs.Meaning.{meanings, linked, fixed_of}
 use Rattle.ax_view.proofs.MemberSteps.{down_first, down_last, group_links, group_bounds, group_room, down_next, down_none, down_no_group, none_left}
 use Rattle.ax_view.proofs.spot.find_fixed.Goals as goal
 

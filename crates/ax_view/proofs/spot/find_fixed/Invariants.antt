@@ -1,5 +1,5 @@
 use Rattle.std.proofs.Common.{length}
-use Rattle.ax_tables.specs.Meaning.{meanings, linked, fixed_of}
+use Rattle.ax_codec.specs.Meaning.{meanings, linked, fixed_of}
 use Rattle.ax_view.proofs.MemberSteps.{Down}
 use Rattle.ax_view.proofs.spot.find_fixed.Given as goal
 

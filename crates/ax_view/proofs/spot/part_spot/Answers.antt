@@ -1,4 +1,4 @@
-use Rattle.ax_tables.specs.Meaning.{meanings, linked_parts}
+use Rattle.ax_codec.specs.Meaning.{meanings, linked_parts}
 use Rattle.ax_view.proofs.MemberSteps.{none_left}
 use Rattle.ax_view.proofs.PartSteps.{no_part_step, no_member_step, not_present, no_such_member, member_fits, in_part, not_in_part}
 use Rattle.ax_view.proofs.spot.part_spot.Goals as goal

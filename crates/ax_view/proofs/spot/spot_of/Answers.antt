@@ -1,7 +1,7 @@
 use Rattle.ax_bits.specs.Bits.{bits}
-use Rattle.ax_model.specs.Reader.{fixed_value}
-use Rattle.ax_tables.specs.Meaning.{meanings, linked, fixed_of}
-use Rattle.ax_tables.specs.Table.{kind_at}
+use Rattle.ax_format.specs.Reader.{fixed_value}
+use Rattle.ax_codec.specs.Meaning.{meanings, linked, fixed_of}
+use Rattle.ax_codec.specs.Table.{kind_at}
 use Rattle.ax_view.proofs.ItemSteps.{item_in, back, spot_at, element_kind, group_kind, in_bounds, in_room, in_fixed}
 use Rattle.ax_view.specs.Values.{value_in}
 use Rattle.ax_view.proofs.spot.spot_of.Goals as goal

@@ -1,8 +1,8 @@
 use Rattle.std.proofs.Common.{◌-◌, length, subst, sym, ◌∙◌, arith}
-use Rattle.ax_model.specs.Plain.{value_tree, entries_tree}
-use Rattle.ax_reader.proofs.Marking.{marks_bits}
-use Rattle.ax_tables.proofs.Compiling.{ok_map}
-use Rattle.ax_tables.specs.Meaning.{meanings, linked_slots}
+use Rattle.ax_format.specs.Plain.{value_tree, entries_tree}
+use Rattle.ax_fspec.proofs.Marking.{marks_bits}
+use Rattle.ax_codec.proofs.Compiling.{ok_map}
+use Rattle.ax_codec.specs.Meaning.{meanings, linked_slots}
 use Rattle.ax_view.proofs.Compounds.{marks_clear, slots_bounds}
 use Rattle.ax_view.proofs.Contents.{explicit_one}
 use Rattle.ax_view.proofs.EntryTrees.{EntriesMade, entries_begin, entries_next, entries_all, entry_is, occurrence_few, occurrences_number}

@@ -1,6 +1,6 @@
 use Rattle.std.proofs.Common.{◌+◌, ◌*◌, length}
 use Rattle.ax_fspec.specs.Marks.{slots_of}
-use Rattle.ax_tables.specs.Meaning.{meanings, linked_slots}
+use Rattle.ax_codec.specs.Meaning.{meanings, linked_slots}
 use Rattle.ax_view.proofs.EntryTrees.{EntriesMade, OccurrencesMade}
 use Rattle.ax_view.proofs.ItemTrees.{links_shown}
 use Rattle.ax_view.proofs.MarkedSteps.{greatest}

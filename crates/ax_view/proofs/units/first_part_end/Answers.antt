@@ -1,4 +1,4 @@
-use Rattle.ax_tables.specs.Meaning.{meanings, linked_part, linked_parts}
+use Rattle.ax_codec.specs.Meaning.{meanings, linked_part, linked_parts}
 use Rattle.ax_view.proofs.UnitSteps.{fx_is, parts_at_first, parts_first, parts_last}
 use Rattle.ax_view.proofs.units.first_part_end.Goals as goal
 

@@ -1,6 +1,6 @@
 use Rattle.std.proofs.Common.{sym, subst}
-use Rattle.ax_model.specs.Tree.{explicit, content_octets}
-use Rattle.ax_reader.specs.Reading.{FailsAt, kind_read}
+use Rattle.ax_format.specs.Tree.{explicit, content_octets}
+use Rattle.ax_fspec.specs.Reading.{FailsAt, kind_read}
 use Rattle.ax_view.proofs.Plain.{plain_walks}
 use Rattle.ax_view.proofs.units.walk_explicit.Goals as goal
 

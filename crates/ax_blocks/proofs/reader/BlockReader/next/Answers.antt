@@ -1,7 +1,7 @@
 use Rattle.std.proofs.Common.{◌≡◌, refl, subst, arith, take}
 use Rattle.std.proofs.lemmas.Grind.{common_steps}
 use Rattle.ax_blocks.specs.Reader.{GivesBlock, raw_tree, ReaderState}
-use Rattle.ax_model.specs.Blocks.{IsFramed}
+use Rattle.ax_format.specs.Blocks.{IsFramed}
 use Rattle.ax_blocks.proofs.Ends.{gives_block, after_block, seen_block, none_kept}
 use Rattle.ax_blocks.proofs.reader.BlockReader.next.Goals as goal
 

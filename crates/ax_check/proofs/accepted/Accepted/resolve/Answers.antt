@@ -1,6 +1,6 @@
 use Rattle.std.proofs.Common.{◌≡◌, ◌∷◌, None, rules, sym, ◌∙◌, ap}
 use Rattle.ax_check.proofs.Walks.{no_item}
-use Rattle.ax_model.specs.Lookup.{item_named}
+use Rattle.ax_format.specs.Lookup.{item_named}
 use Rattle.ax_check.proofs.accepted.Accepted.resolve.Goals as goal
 
 pub returns-in_default-item : goal.returns-in_default-item

@@ -1,7 +1,7 @@
 use Rattle.std.proofs.Common.{rules, arith, length, ◌<◌, ◌≡◌, ◌∷◌, [], ◌++◌, nat_eq, refl, ◌∙◌, ap}
 use Rattle.ax_check.proofs.Catalogues.{lacks, as_many, added, stays_keyed, stays_small}
-use Rattle.ax_model.specs.Plain.{catalogue_tree}
-use Rattle.ax_model.specs.Specification.{spec_of}
+use Rattle.ax_format.specs.Plain.{catalogue_tree}
+use Rattle.ax_format.specs.Specification.{spec_of}
 use Rattle.indexmap.specs.IndexMap.{insert_entry}
 use Rattle.ax_check.proofs.catalogue.Catalogue.add.Goals as goal
 

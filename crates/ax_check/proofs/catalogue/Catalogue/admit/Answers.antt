@@ -1,7 +1,7 @@
 use Rattle.std.proofs.Common.{arith, sym, ◌∙◌, ap, is_some}
 use Rattle.ax_check.proofs.Catalogues.{had, lacked, as_many}
-use Rattle.ax_model.specs.Plain.{catalogue_tree}
-use Rattle.ax_model.specs.Specification.{spec_of}
+use Rattle.ax_format.specs.Plain.{catalogue_tree}
+use Rattle.ax_format.specs.Specification.{spec_of}
 use Rattle.ax_check.proofs.catalogue.Catalogue.admit.Goals as goal
 
 pub returns-then-contains_key-clause-twice : goal.returns-then-contains_key-clause-twice

@@ -1,5 +1,5 @@
 use Rattle.std.proofs.Common.{◌∙◌, ap, rules, sym}
-use Rattle.ax_model.specs.Plain.{spec_tree}
+use Rattle.ax_format.specs.Plain.{spec_tree}
 use Rattle.ax_rescale.specs.Converts.{converting_slots}
 use Rattle.ax_convert_work.proofs.choosing.ConvertBlocks.new.Goals as goal
 

@@ -1,6 +1,6 @@
 use Rattle.ax_blocks.specs.Reader.{raw_tree}
 use Rattle.ax_convert_work.proofs.Taking.{made_cut}
-use Rattle.ax_model.specs.Plain.{spec_tree}
+use Rattle.ax_format.specs.Plain.{spec_tree}
 use Rattle.ax_convert_work.proofs.work.ConvertTreesBlockWork.take.Goals as goal
 
 pub returns-clause-takes : goal.returns-clause-takes

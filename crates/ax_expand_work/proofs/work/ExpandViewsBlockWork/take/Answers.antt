@@ -1,7 +1,7 @@
 use Rattle.std.proofs.Common.{sym, ◌∙◌}
 use Rattle.ax_expand.specs.Expansion.{expansion_tree}
 use Rattle.ax_expand_work.proofs.Blocks.{other_taken, fault_taken, lines_taken, lines_cut}
-use Rattle.ax_model.specs.Plain.{spec_tree}
+use Rattle.ax_format.specs.Plain.{spec_tree}
 use Rattle.ax_expand_work.proofs.work.ExpandViewsBlockWork.take.Goals as goal
 
 pub returns-then-raw-category-clause-takes : goal.returns-then-raw-category-clause-takes

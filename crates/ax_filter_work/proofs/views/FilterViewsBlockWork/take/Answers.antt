@@ -2,8 +2,8 @@ use Rattle.std.proofs.Common.{◌∙◌, ap, length, take, arith, sym}
 use Rattle.std.specs.Option.{option_copied}
 use Rattle.ax_filter.specs.OfCode.{expression}
 use Rattle.ax_filter_work.proofs.FilterBlocks.{matching_within, matching_taken, matching_fails, opaque_dropped}
-use Rattle.ax_view_work.proofs.CanonBlocks.{front_length, in_place}
-use Rattle.ax_view_work.proofs.CodecsOf.{found_category}
+use Rattle.ax_canon.proofs.CanonBlocks.{front_length, in_place}
+use Rattle.ax_canon.proofs.CodecsOf.{found_category}
 use Rattle.ax_filter_work.proofs.views.FilterViewsBlockWork.take.Goals as goal
 
 pub lay_matching-laid-requires-clause-category : goal.lay_matching-laid-requires-clause-category

@@ -1,10 +1,10 @@
 use Rattle.std.proofs.Common.{◌∷◌, decimal, rules, ◌+◌, drop, refl, ap, ◌∙◌, arith}
-use Rattle.ax_model.specs.Plain.{fixed_tree, member_tree, members_tree}
+use Rattle.ax_format.specs.Plain.{fixed_tree, member_tree, members_tree}
 use Rattle.ax_grammar.specs.Keywords.{keyword_text}
 use Rattle.ax_grammar.specs.Spelling.{content_texts, fixed_texts, member_texts, members_texts}
 use Rattle.ax_grammar.specs.declared.keyword.Keyword.TheVariants as Word
 use Rattle.ax_grammar.proofs.Printed.{print_first, print_block, owes_less, next_item, members_texts_of}
-use Rattle.ax_model.proofs.VariantTrees.{element_tree, group_tree}
+use Rattle.ax_format.proofs.VariantTrees.{element_tree, group_tree}
 use Rattle.ax_grammar.proofs.printer.Printer.+print_fixed.Goals as goal
 
 pub fixed-returns-in-Element : goal.fixed-returns-in-Element

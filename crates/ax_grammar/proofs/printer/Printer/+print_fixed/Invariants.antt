@@ -1,6 +1,5 @@
 use Rattle.std.proofs.Common.{drop}
-use Rattle.ax_grammar.proofs.Printed.{members_texts_of}
-use Rattle.ax_grammar.proofs.Printed.{Owes}
+use Rattle.ax_grammar.proofs.Printed.{Owes, members_texts_of}
 use Rattle.ax_grammar.proofs.printer.Printer.+print_fixed.Given as goal
 
 abbrev pub invariant-members-loop-member : goal.invariant-members-loop-member

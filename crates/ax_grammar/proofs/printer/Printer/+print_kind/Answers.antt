@@ -1,11 +1,11 @@
 use Rattle.std.proofs.Common.{◌≡◌, sym, subst, ◌+◌, drop, refl, ap, ◌∙◌, arith, rules}
 use Rattle.ax_grammar.specs.Keywords.{keyword_text}
-use Rattle.ax_model.specs.Plain.{fixed_tree, kind_tree, slot_tree, slots_tree}
+use Rattle.ax_format.specs.Plain.{fixed_tree, kind_tree, slot_tree, slots_tree}
 use Rattle.ax_grammar.specs.Prints.{Prints}
 use Rattle.ax_grammar.specs.Spelling.{extended_word, counted_word, fixed_texts, kind_texts, slot_texts, slots_texts}
 use Rattle.ax_grammar.specs.declared.keyword.Keyword.TheVariants as Word
 use Rattle.ax_grammar.proofs.Printed.{print_block, print_first, owes_less, next_item, parts_texts, slots_texts_of}
-use Rattle.ax_model.proofs.VariantTrees.{extended_tree, counted_tree, by_fx_tree, compound_tree, fixed_kind_tree}
+use Rattle.ax_format.proofs.VariantTrees.{extended_tree, counted_tree, by_fx_tree, compound_tree, fixed_kind_tree}
 use Rattle.ax_grammar.proofs.printer.Printer.+print_kind.Goals as goal
 
 pub kind-returns-in-Fixed : goal.kind-returns-in-Fixed

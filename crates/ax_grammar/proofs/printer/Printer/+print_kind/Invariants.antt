@@ -1,6 +1,5 @@
 use Rattle.std.proofs.Common.{drop}
-use Rattle.ax_grammar.proofs.Printed.{slots_texts_of}
-use Rattle.ax_grammar.proofs.Printed.{Owes}
+use Rattle.ax_grammar.proofs.Printed.{Owes, slots_texts_of}
 use Rattle.ax_grammar.proofs.printer.Printer.+print_kind.Given as goal
 
 abbrev pub invariant-slots-loop-slot : goal.invariant-slots-loop-slot

@@ -1,6 +1,6 @@
 use Rattle.std.proofs.Common.{◌+◌, drop, map, arith}
 use Rattle.std.proofs.lemmas.List.Concat.{flat_map-cons}
-use Rattle.ax_model.specs.Plain.{item_tree}
+use Rattle.ax_format.specs.Plain.{item_tree}
 use Rattle.ax_grammar.specs.Spelling.{item_texts}
 use Rattle.ax_grammar.proofs.Printed.{owes_less, next_item, items_texts}
 use Rattle.ax_grammar.proofs.printer.Printer.items.Goals as goal

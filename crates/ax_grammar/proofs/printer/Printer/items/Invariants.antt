@@ -1,6 +1,5 @@
 use Rattle.std.proofs.Common.{drop}
-use Rattle.ax_grammar.proofs.Printed.{items_texts}
-use Rattle.ax_grammar.proofs.Printed.{Owes}
+use Rattle.ax_grammar.proofs.Printed.{Owes, items_texts}
 use Rattle.ax_grammar.proofs.printer.Printer.items.Given as goal
 
 abbrev pub invariant-loop-item : goal.invariant-loop-item

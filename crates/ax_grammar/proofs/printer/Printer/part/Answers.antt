@@ -1,5 +1,5 @@
 use Rattle.std.proofs.Common.{refl}
-use Rattle.ax_model.specs.Plain.{part_tree, members_tree}
+use Rattle.ax_format.specs.Plain.{part_tree, members_tree}
 use Rattle.ax_grammar.specs.Spelling.{part_texts, members_texts}
 use Rattle.ax_grammar.specs.declared.keyword.Keyword.TheVariants as Word
 use Rattle.ax_grammar.proofs.Printed.{print_block}

@@ -1,6 +1,6 @@
 use Rattle.std.proofs.Common.{◌+◌, drop, map, arith}
 use Rattle.std.proofs.lemmas.List.Concat.{flat_map-cons}
-use Rattle.ax_model.specs.Plain.{part_tree}
+use Rattle.ax_format.specs.Plain.{part_tree}
 use Rattle.ax_grammar.specs.Spelling.{part_texts}
 use Rattle.ax_grammar.proofs.Printed.{owes_less, next_item, parts_texts}
 use Rattle.ax_grammar.proofs.printer.Printer.parts.Goals as goal

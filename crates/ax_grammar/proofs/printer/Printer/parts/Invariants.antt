@@ -1,6 +1,5 @@
 use Rattle.std.proofs.Common.{drop}
-use Rattle.ax_grammar.proofs.Printed.{parts_texts}
-use Rattle.ax_grammar.proofs.Printed.{Owes}
+use Rattle.ax_grammar.proofs.Printed.{Owes, parts_texts}
 use Rattle.ax_grammar.proofs.printer.Printer.parts.Given as goal
 
 abbrev pub invariant-loop-part : goal.invariant-loop-part

@@ -1,10 +1,10 @@
 use Rattle.std.proofs.Common.{◌≡◌, ◌++◌, ◌∷◌, [], length, map, ap, arith, rules}
 use Rattle.std.proofs.lemmas.List.{length_push, map_push}
 use Rattle.std.proofs.lemmas.Result.{err_from_is_err_and}
-use Rattle.ax_model.specs.Plain.{member_tree}
+use Rattle.ax_format.specs.Plain.{member_tree}
 use Rattle.ax_grammar.specs.Parsing.{list_at}
 use Rattle.ax_grammar.specs.Rules.{member_at}
-use Rattle.ax_model.proofs.VariantTrees.{element_tree}
+use Rattle.ax_format.proofs.VariantTrees.{element_tree}
 use Rattle.ax_grammar.proofs.Cases.{element_read, group_gives}
 use Rattle.ax_grammar.proofs.Lists.{list_goes_on, braced_stops_before, braced_stops_within, braced_ends}
 use Rattle.ax_grammar.proofs.Recursive.{member_shrinks}

@@ -1,5 +1,5 @@
 use Rattle.std.proofs.Common.{◌≡◌, ◌≤◌, ◌+◌, length, map}
-use Rattle.ax_model.specs.Plain.{member_tree}
+use Rattle.ax_format.specs.Plain.{member_tree}
 use Rattle.ax_grammar.specs.Parsing.{list_at}
 use Rattle.ax_grammar.specs.Rules.{member_at}
 use Rattle.ax_grammar.proofs.Lists.{with_front}

@@ -1,11 +1,11 @@
 use Rattle.std.proofs.Common.{◌≡◌, ◌++◌, ◌∷◌, [], length, map, ap, arith, rules}
 use Rattle.std.proofs.lemmas.List.{length_push, map_push}
 use Rattle.std.proofs.lemmas.Result.{err_from_is_err_and}
-use Rattle.ax_model.specs.Plain.{slot_tree}
+use Rattle.ax_format.specs.Plain.{slot_tree}
 use Rattle.ax_grammar.specs.Parsing.{list_at}
 use Rattle.ax_grammar.specs.Rules.{slot_at}
 use Rattle.ax_grammar.proofs.Cases.{by_fx_gives, explicit_read, compound_gives, fixed_gives}
-use Rattle.ax_model.proofs.VariantTrees.{explicit_tree}
+use Rattle.ax_format.proofs.VariantTrees.{explicit_tree}
 use Rattle.ax_grammar.proofs.Lists.{few_more, few_room, list_goes_on, list_stops_before, list_stops_within, list_ends}
 use Rattle.ax_grammar.proofs.Recursive.{slot_shrinks}
 use Rattle.ax_grammar.proofs.reader.SpecReader.+read_kind.Goals as goal

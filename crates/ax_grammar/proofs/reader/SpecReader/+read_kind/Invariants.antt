@@ -1,5 +1,5 @@
 use Rattle.std.proofs.Common.{◌≡◌, ◌<◌, ◌≤◌, ◌+◌, ◌*◌, ◌^◌, length, map}
-use Rattle.ax_model.specs.Plain.{slot_tree}
+use Rattle.ax_format.specs.Plain.{slot_tree}
 use Rattle.ax_grammar.specs.Parsing.{list_at}
 use Rattle.ax_grammar.specs.Rules.{slot_at}
 use Rattle.ax_grammar.proofs.Lists.{with_front}

@@ -1,7 +1,7 @@
 use Rattle.std.proofs.Common.{◌≡◌, length, map, take}
 use Rattle.ax_held_kinds.specs.Held.{held_slot}
-use Rattle.ax_model.specs.Plain.{spec_tree}
-use Rattle.ax_reader.specs.Reading.{record_slot_list}
+use Rattle.ax_format.specs.Plain.{spec_tree}
+use Rattle.ax_fspec.specs.Reading.{record_slot_list}
 use Rattle.ax_held_kinds.proofs.items.HeldItems.of.Given as goal
 
 abbrev pub invariant-loop-index : goal.invariant-loop-index

@@ -3,7 +3,7 @@ use Rattle.ax_migrate_views.proofs.MigratedBlocks.{migrated_laid}
 use Rattle.ax_migrate_views.proofs.ToldLosses.{losses_told}
 use Rattle.ax_migrate_views.specs.Blocks.{with_head}
 use Rattle.ax_migrate_views.specs.Bodies.{LaysBody, TellsBody}
-use Rattle.ax_migrate_views.specs.Lost.{key_paths}
+use Rattle.ax_moves.specs.Lost.{key_paths}
 use Rattle.ax_migrate_views.proofs.migrator.Migrator.lay.Goals as goal
 
 pub returns-clause-laid : goal.returns-clause-laid

@@ -1,6 +1,6 @@
 use Rattle.ax_bits.specs.Bits.{bits}
 use Rattle.ax_migrate_views.specs.Blocks.{old_tree}
-use Rattle.ax_model.proofs.Once.{body_never_both}
+use Rattle.ax_format.proofs.Once.{body_never_both}
 use Rattle.ax_migrate_views.proofs.migrator.Migrator.lay_spelled.Goals as goal
 
 pub unreachable-requires : goal.unreachable-requires

@@ -7,10 +7,10 @@ use Rattle.ax_migrate_views.proofs.ViewBlocks.{view_spells}
 use Rattle.ax_migrate_views.proofs.WritingSteps.{OfCodec, each_codec, front_all, lost_each, next_lines}
 use Rattle.ax_migrate_views.specs.Blocks.{old_tree}
 use Rattle.ax_migrate_views.specs.Losses.{shown_losses}
-use Rattle.ax_migrate_views.specs.Lost.{key_paths}
+use Rattle.ax_moves.specs.Lost.{key_paths}
 use Rattle.ax_outside.proofs.Pieces.{nothing_written}
-use Rattle.ax_tables.specs.Table.{record_kind_at}
-use Rattle.ax_tables.specs.declared.codec.Codec.{Codec}
+use Rattle.ax_codec.specs.Table.{record_kind_at}
+use Rattle.ax_codec.specs.declared.codec.Codec.{Codec}
 use Rattle.ax_view.specs.Left.{record_shown, records_left}
 use Rattle.ax_view.specs.Pieces.{ArePieces}
 use Rattle.ax_view.specs.Shown.{record_entries}

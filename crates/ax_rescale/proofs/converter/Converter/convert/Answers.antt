@@ -1,4 +1,4 @@
-use Rattle.ax_model.specs.declared.record.Block.TheVariants as BlockOf
+use Rattle.ax_format.specs.declared.record.Block.TheVariants as BlockOf
 use Rattle.ax_rescale.proofs.ConvertedBlocks.{read_misses, read_converted, converted_fits}
 use Rattle.ax_rescale.proofs.converter.Converter.convert.Goals as goal
 

@@ -1,6 +1,6 @@
 use Rattle.std.proofs.Common.{◌++◌, ◌∙◌, ap}
-use Rattle.ax_model.specs.Plain.{spec_tree, record_tree, entries_tree}
-use Rattle.ax_model.specs.Tree.{EntriesTree}
+use Rattle.ax_format.specs.Plain.{spec_tree, record_tree, entries_tree}
+use Rattle.ax_format.specs.Tree.{EntriesTree}
 use Rattle.ax_rescale.proofs.Converters.{passed_is}
 use Rattle.ax_rescale.specs.Watching.{record_misses}
 use Rattle.ax_rescale.proofs.converter.Converter.convert_record.Goals as goal

@@ -1,5 +1,5 @@
 use Rattle.std.proofs.Common.{List, length, arith, rules, ap}
-use Rattle.ax_model.specs.declared.record.Record.{Record}
+use Rattle.ax_format.specs.declared.record.Record.{Record}
 use Rattle.ax_rescale.proofs.ConvertedLists.{going_start, going_shape, going_next, going_made, going_misses}
 use Rattle.ax_rescale.proofs.converter.Converter.convert_records.Goals as goal
 

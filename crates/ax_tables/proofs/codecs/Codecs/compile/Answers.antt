@@ -1,8 +1,8 @@
 use Rattle.std.proofs.Common.{◌≡◌, ℕ, ◌+◌, ◌<◌, length, take, arith, sym, ◌∙◌, ap, subst, length-append, ◌∷◌, []}
 use Rattle.std.proofs.lemmas.List.{take_all}
-use Rattle.ax_model.specs.Plain.{catalogue_tree}
+use Rattle.ax_format.specs.Plain.{catalogue_tree}
 use Rattle.ax_tables.proofs.CodecLists.{each_next, apart, there, missing}
-use Rattle.ax_tables.specs.Standing.{StandForEach}
+use Rattle.ax_codec.specs.Standing.{StandForEach}
 use Rattle.ax_tables.proofs.codecs.Codecs.compile.Goals.{in-Some+in_ok-compile+in_ok-push, in_default}
 use Rattle.ax_tables.proofs.codecs.Codecs.compile.Goals as goal
 

@@ -1,6 +1,6 @@
 use Rattle.std.proofs.Common.{◌≡◌, length, take}
-use Rattle.ax_model.specs.Plain.{catalogue_tree}
-use Rattle.ax_tables.specs.Standing.{StandForEach}
+use Rattle.ax_format.specs.Plain.{catalogue_tree}
+use Rattle.ax_codec.specs.Standing.{StandForEach}
 use Rattle.ax_tables.proofs.codecs.Codecs.compile.Given as goal
 
 abbrev pub invariant-loop-index : goal.invariant-loop-index

@@ -1,5 +1,5 @@
 use Rattle.std.proofs.Common.{rules}
-use Rattle.ax_model.specs.Plain.{members_tree, values_tree}
+use Rattle.ax_format.specs.Plain.{members_tree, values_tree}
 use Rattle.ax_text.specs.ShowText.{members_lines}
 use Rattle.ax_text.proofs.ListedFixed.{member_next}
 use Rattle.ax_text.proofs.lister.Lister.+list_fixed.Goals as goal

@@ -1,4 +1,4 @@
-use Rattle.ax_model.specs.Plain.{members_tree, values_tree}
+use Rattle.ax_format.specs.Plain.{members_tree, values_tree}
 use Rattle.ax_text.specs.ShowText.{members_lines}
 use Rattle.ax_text.proofs.ListedFixed.{MembersLeft}
 use Rattle.ax_text.proofs.lister.Lister.+list_fixed.Given as goal

@@ -1,9 +1,9 @@
 use denote.Param.Weighed.{at_most}
-use Rattle.ax_model.proofs.value.Entry.TheLaws.{the_size}
-use Rattle.ax_model.proofs.value.Value.TheLaws as values
+use Rattle.ax_format.proofs.value.Entry.TheLaws.{the_size}
+use Rattle.ax_format.proofs.value.Value.TheLaws as values
 use Rattle.std.proofs.Common.{◌≡◌, ◌+◌, ◌<◌, ◌≤◌, ℕ, length, get_or, rules, subst, ap, ◌∙◌, arith}
-use Rattle.ax_model.specs.Plain.{kind_tree, values_tree, slots_tree, entries_tree}
-use Rattle.ax_model.specs.Shape.{Shape}
+use Rattle.ax_format.specs.Plain.{kind_tree, values_tree, slots_tree, entries_tree}
+use Rattle.ax_format.specs.Shape.{Shape}
 use Rattle.ax_text.specs.Printing.{as_lines}
 use Rattle.ax_text.specs.ShowText.{kind_lines, each_lines, entries_lines, occurrence}
 use Rattle.ax_text.specs.Slots.{slot_lines}

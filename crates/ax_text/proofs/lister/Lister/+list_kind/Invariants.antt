@@ -1,6 +1,6 @@
 use Rattle.std.proofs.Common.{◌≡◌, drop}
-use Rattle.ax_model.specs.Plain.{kind_tree, values_tree, slots_tree, entries_tree}
-use Rattle.ax_model.specs.Shape.{Shape}
+use Rattle.ax_format.specs.Plain.{kind_tree, values_tree, slots_tree, entries_tree}
+use Rattle.ax_format.specs.Shape.{Shape}
 use Rattle.ax_text.specs.Printing.{as_lines}
 use Rattle.ax_text.specs.ShowText.{kind_lines, each_lines, entries_lines}
 use Rattle.ax_text.specs.Slots.{slot_lines}

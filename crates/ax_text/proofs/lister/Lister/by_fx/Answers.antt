@@ -1,4 +1,4 @@
-use Rattle.ax_model.specs.Plain.{fixed_tree}
+use Rattle.ax_format.specs.Plain.{fixed_tree}
 use Rattle.ax_text.proofs.ListedKinds.{run_lines}
 use Rattle.ax_text.proofs.Pieces.{last_put}
 use Rattle.ax_text.proofs.lister.Lister.by_fx.Goals as goal

@@ -1,5 +1,5 @@
 use Rattle.std.proofs.Common.{map, rules}
-use Rattle.ax_model.specs.Plain.{part_tree, lists_tree}
+use Rattle.ax_format.specs.Plain.{part_tree, lists_tree}
 use Rattle.ax_text.specs.ShowText.{parts_lines}
 use Rattle.ax_text.proofs.ListedKinds.{parts_first, part_next}
 use Rattle.ax_text.proofs.lister.Lister.parts.Goals as goal

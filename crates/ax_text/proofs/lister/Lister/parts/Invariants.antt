@@ -1,5 +1,5 @@
 use Rattle.std.proofs.Common.{map}
-use Rattle.ax_model.specs.Plain.{part_tree, lists_tree}
+use Rattle.ax_format.specs.Plain.{part_tree, lists_tree}
 use Rattle.ax_text.specs.ShowText.{parts_lines}
 use Rattle.ax_text.proofs.ListedKinds.{PartsLeft}
 use Rattle.ax_text.proofs.lister.Lister.parts.Given as goal

@@ -1,6 +1,6 @@
 use Rattle.std.proofs.Common.{◌++◌, ◌∷◌, [], length, take, ◌∙◌, ap, codes}
-use Rattle.ax_model.specs.Signs.{by_sign}
-use Rattle.ax_model.specs.declared.content.Content.TheVariants.{Quantity}
+use Rattle.ax_format.specs.Signs.{by_sign}
+use Rattle.ax_format.specs.declared.content.Content.TheVariants.{Quantity}
 use Rattle.ax_text.specs.Remarks.{quoted, multiple_text, remark}
 use Rattle.ax_text.proofs.Pieces.{last_put, element_put, two_pieces}
 use Rattle.ax_text.proofs.lister.Lister.quantity_under.Goals as goal

@@ -1,6 +1,5 @@
 use Rattle.ax_text.proofs.Pieces.{last_put}
-use Rattle.ax_model.specs.Plain.{spec_tree}
-use Rattle.ax_model.specs.Plain.{entries_tree}
+use Rattle.ax_format.specs.Plain.{entries_tree, spec_tree}
 use Rattle.ax_text.proofs.ListedRecords.{record_put}
 use Rattle.ax_text.proofs.lister.Lister.record.Goals as goal
 

@@ -1,5 +1,5 @@
 use Rattle.std.proofs.Common.{◌≡◌, drop}
-use Rattle.ax_model.specs.Plain.{spec_tree, records_tree}
+use Rattle.ax_format.specs.Plain.{spec_tree, records_tree}
 use Rattle.ax_text.specs.ShowText.{records_lines}
 use Rattle.ax_text.proofs.ListedRecords.{RecordsLeft}
 use Rattle.ax_text.proofs.lister.Lister.records.Given as goal

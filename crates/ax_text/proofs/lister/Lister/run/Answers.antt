@@ -1,6 +1,6 @@
 use Rattle.std.proofs.Common.{◌≡◌, ◌+◌, ◌<◌, ◌≤◌, ℕ, rules, length, get_or, subst, ap, ◌∙◌}
-use Rattle.ax_model.specs.Plain.{fixed_tree, values_tree}
-use Rattle.ax_model.specs.Shape.{FixedShape}
+use Rattle.ax_format.specs.Plain.{fixed_tree, values_tree}
+use Rattle.ax_format.specs.Shape.{FixedShape}
 use Rattle.ax_text.specs.ShowText.{fixed_lines, each_lines, occurrence}
 use Rattle.ax_text.proofs.ListedKinds.{each_next, each_ended}
 use Rattle.ax_text.proofs.lister.Lister.run.Goals as goal

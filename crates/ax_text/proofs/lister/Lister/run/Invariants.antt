@@ -1,6 +1,6 @@
 use Rattle.std.proofs.Common.{◌≡◌, drop}
-use Rattle.ax_model.specs.Plain.{fixed_tree, values_tree}
-use Rattle.ax_model.specs.Shape.{FixedShape}
+use Rattle.ax_format.specs.Plain.{fixed_tree, values_tree}
+use Rattle.ax_format.specs.Shape.{FixedShape}
 use Rattle.ax_text.specs.ShowText.{fixed_lines, each_lines}
 use Rattle.ax_text.proofs.ListedKinds.{EachLeft}
 use Rattle.ax_text.proofs.lister.Lister.run.Given as goal

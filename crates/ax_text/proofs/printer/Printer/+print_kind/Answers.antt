@@ -1,9 +1,9 @@
 use Rattle.std.proofs.Common.{◌≡◌, ◌<◌, ◌≤◌, ℕ, ap, arith, length, get_or, rules, subst}
 use denote.Param.Weighed.{at_most}
-use Rattle.ax_model.proofs.value.Entry.TheLaws as entries
-use Rattle.ax_model.proofs.value.Value.TheLaws as values
-use Rattle.ax_model.specs.Plain.{kind_tree, values_tree, slots_tree, entries_tree}
-use Rattle.ax_model.specs.Shape.{Shape}
+use Rattle.ax_format.proofs.value.Entry.TheLaws as entries
+use Rattle.ax_format.proofs.value.Value.TheLaws as values
+use Rattle.ax_format.specs.Plain.{kind_tree, values_tree, slots_tree, entries_tree}
+use Rattle.ax_format.specs.Shape.{Shape}
 use Rattle.ax_text.specs.Printing.{after_spaces}
 use Rattle.ax_text.specs.Slots.{slot_onto}
 use Rattle.ax_text.specs.ValueText.{kind_onto, each_onto, entries_onto}

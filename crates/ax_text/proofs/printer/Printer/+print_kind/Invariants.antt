@@ -1,6 +1,6 @@
 use Rattle.std.proofs.Common.{drop}
-use Rattle.ax_model.specs.Plain.{kind_tree, values_tree, slots_tree, entries_tree}
-use Rattle.ax_model.specs.Shape.{Shape}
+use Rattle.ax_format.specs.Plain.{kind_tree, values_tree, slots_tree, entries_tree}
+use Rattle.ax_format.specs.Shape.{Shape}
 use Rattle.ax_text.specs.ValueText.{kind_onto, each_onto, entries_onto}
 use Rattle.ax_text.specs.Printing.{after_spaces}
 use Rattle.ax_text.specs.Slots.{slot_onto}

@@ -1,4 +1,4 @@
-use Rattle.ax_model.specs.Plain.{value_tree}
+use Rattle.ax_format.specs.Plain.{value_tree}
 use Rattle.ax_text.proofs.RecordWays.{no_item}
 use Rattle.ax_text.proofs.printer.Printer.item.Goals as goal
 

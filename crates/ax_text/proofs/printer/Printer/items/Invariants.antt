@@ -1,6 +1,6 @@
 use Rattle.std.proofs.Common.{drop}
-use Rattle.ax_model.specs.Plain.{spec_tree, entries_tree}
-use Rattle.ax_model.specs.Specification.{record_slots}
+use Rattle.ax_format.specs.Plain.{spec_tree, entries_tree}
+use Rattle.ax_format.specs.Specification.{record_slots}
 use Rattle.ax_text.specs.ValueText.{entries_onto}
 use Rattle.ax_text.specs.Printing.{after_spaces}
 use Rattle.ax_text.specs.Slots.{slot_onto}

@@ -1,6 +1,6 @@
 use Rattle.ax_text.proofs.Pieces.{last_put}
 use Rattle.ax_text.proofs.KindWays.{part_put}
-use Rattle.ax_model.specs.Plain.{part_tree, values_tree}
+use Rattle.ax_format.specs.Plain.{part_tree, values_tree}
 use Rattle.ax_text.proofs.printer.Printer.part.Goals as goal
 
 pub returns : goal.returns

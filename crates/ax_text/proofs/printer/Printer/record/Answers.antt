@@ -1,6 +1,6 @@
 use Rattle.ax_text.proofs.Pieces.{last_put}
 use Rattle.ax_text.proofs.RecordWays.{record_put}
-use Rattle.ax_model.specs.Plain.{spec_tree, entries_tree}
+use Rattle.ax_format.specs.Plain.{spec_tree, entries_tree}
 use Rattle.ax_text.proofs.printer.Printer.record.Goals as goal
 
 pub returns : goal.returns

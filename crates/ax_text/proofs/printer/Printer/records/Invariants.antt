@@ -1,5 +1,5 @@
 use Rattle.std.proofs.Common.{drop}
-use Rattle.ax_model.specs.Plain.{spec_tree, records_tree}
+use Rattle.ax_format.specs.Plain.{spec_tree, records_tree}
 use Rattle.ax_text.specs.BlockText.{records_onto}
 use Rattle.ax_text.proofs.RecordWays.{RecordsLeft}
 use Rattle.ax_text.proofs.printer.Printer.records.Given as goal

@@ -1,5 +1,5 @@
 use Rattle.std.proofs.Common.{drop}
-use Rattle.ax_model.specs.Plain.{fixed_tree, values_tree}
+use Rattle.ax_format.specs.Plain.{fixed_tree, values_tree}
 use Rattle.ax_text.specs.ValueText.{fixed_onto, each_onto}
 use Rattle.ax_text.proofs.KindWays.{EachLeft, anything}
 use Rattle.ax_text.proofs.printer.Printer.run.Given as goal

@@ -1,7 +1,7 @@
 use Rattle.std.proofs.Common.{◌-◌, get_or, slice_get, None, refl, ◌∙◌, ap, arith}
 use Rattle.std.specs.Option.{option_copied}
-use Rattle.ax_model.specs.Plain.{catalogue_tree}
-use Rattle.ax_model.specs.Specification.{spec_of}
+use Rattle.ax_format.specs.Plain.{catalogue_tree}
+use Rattle.ax_format.specs.Specification.{spec_of}
 use Rattle.ax_uap.proofs.Categories.{spec_is, clean_is}
 use Rattle.ax_uap.proofs.Places.{nothing_held, held_there}
 use Rattle.ax_uap.proofs.by_category.ByCategory.get.Goals as goal

@@ -1,6 +1,6 @@
 use Rattle.std.proofs.Common.{ap, map, subst, sym}
 use Rattle.std.specs.List.{AllByRecursion}
-use Rattle.ax_model.specs.OfCode.{HasNoFlaw}
+use Rattle.ax_format.specs.OfCode.{HasNoFlaw}
 use Rattle.ax_uap.proofs.Places.{none_placed}
 use Rattle.ax_uap.specs.Categories.{ArePlaces}
 use Rattle.ax_uap.proofs.by_category.ByCategory.new.Goals as goal

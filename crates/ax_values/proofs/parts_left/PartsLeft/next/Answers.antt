@@ -1,6 +1,6 @@
 use Rattle.std.proofs.Common.{◌≡◌, ◌+◌, ◌-◌, ◌*◌, ◌<◌, true, false, List, ◌∷◌, length, drop, map, ap, arith, refl, sym, ◌∙◌}
-use Rattle.ax_model.specs.Tree.{MembersTree}
-use Rattle.ax_model.specs.Widths.{members_width, fx_width}
+use Rattle.ax_format.specs.Tree.{MembersTree}
+use Rattle.ax_format.specs.Widths.{members_width, fx_width}
 use Rattle.ax_values.proofs.Continuing.{fault_passed}
 use Rattle.ax_values.proofs.PartUnits.{part_unit_is}
 use Rattle.ax_values.proofs.PartsRead.{part_at, others_at, short_left, left_bounds, past_left, met_left, ready_left}

@@ -1,4 +1,4 @@
-use Rattle.ax_tables.specs.Meaning.{meanings, linked_parts}
+use Rattle.ax_codec.specs.Meaning.{meanings, linked_parts}
 use Rattle.ax_view.proofs.ItemPieces.{parts_ended}
 use Rattle.ax_view.proofs.ItemSteps.{empty_is}
 use Rattle.ax_view.specs.Pieces.{part_sizes}

@@ -1,13 +1,12 @@
-use Rattle.std.proofs.Common.{false, true, drop, refl, sym, subst}
-use Rattle.ax_model.specs.Widths.{counter_octets}
-use Rattle.ax_tables.specs.declared.node.Node.TheVariants as Of
-use Rattle.ax_view.proofs.ItemPieces.{inner_link, inner_bounds, inner_one, inner_values, fx_link, fx_bounds, fx_one, fx_values, occurrences_by, no_occurrences}
-use Rattle.ax_view.specs.Shown.{AreOccurrences}
-use Rattle.ax_tables.specs.Table.{kind_at}
+use Rattle.std.proofs.Common.{drop, false, refl, subst, sym, true}
+use Rattle.ax_format.specs.Widths.{counter_octets}
+use Rattle.ax_codec.specs.declared.node.Node.TheVariants as Of
+use Rattle.ax_view.proofs.ItemPieces.{fx_bounds, fx_link, fx_one, fx_values, inner_bounds, inner_link, inner_one, inner_values, no_occurrences, occurrences_by}
+use Rattle.ax_view.specs.Shown.{AreOccurrences, IsOccurrences}
+use Rattle.ax_codec.specs.Table.{kind_at}
 use Rattle.ax_view.specs.Left.{occurrences_left, occurrences_shown}
 use Rattle.ax_view.specs.Pieces.{pieces}
-use Rattle.ax_view.specs.Shown.{IsOccurrences}
-use Rattle.ax_view.proofs.item.ItemView.occurrences.Goals.{in-Counted, in-ByFx, in_default}
+use Rattle.ax_view.proofs.item.ItemView.occurrences.Goals.{in-ByFx, in-Counted, in_default}
 use Rattle.ax_view.proofs.item.ItemView.occurrences.Goals as goal
 
 pub counted-requires-clause-link : goal.counted-requires-clause-link

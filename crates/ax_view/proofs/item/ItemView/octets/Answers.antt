@@ -1,4 +1,4 @@
-use Rattle.ax_tables.specs.Table.{kind_at}
+use Rattle.ax_codec.specs.Table.{kind_at}
 use Rattle.ax_view.proofs.Spelled.{item_spells}
 use Rattle.ax_view.proofs.item.ItemView.octets.Goals as goal
 

@@ -1,5 +1,5 @@
 use Rattle.std.proofs.Common.{refl, subst, sym, arith}
-use Rattle.ax_tables.specs.Table.{kind_at}
+use Rattle.ax_codec.specs.Table.{kind_at}
 use Rattle.ax_view.proofs.ItemPieces.{parts_made, parts_shown, no_parts}
 use Rattle.ax_view.specs.Shown.{ArePartsOf}
 use Rattle.ax_view.specs.Values.{value_in}

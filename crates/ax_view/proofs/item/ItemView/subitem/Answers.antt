@@ -1,8 +1,7 @@
-use Rattle.std.proofs.Common.{refl, sym, ◌∙◌, ap}
-use Rattle.ax_model.specs.At.{slot_value}
-use Rattle.ax_view.proofs.Found.{compound_bounds, compound_one, compound_entries, no_compound}
+use Rattle.std.proofs.Common.{ap, refl, sym, ◌∙◌}
+use Rattle.ax_format.specs.At.{slot_value}
+use Rattle.ax_view.proofs.Found.{compound_bounds, compound_entries, compound_one, no_compound, subitem_place}
 use Rattle.ax_view.proofs.NodeKinds.{compound_links, compound_mask}
-use Rattle.ax_view.proofs.Found.{subitem_place}
 use Rattle.ax_view.proofs.item.ItemView.subitem.Goals as goal
 
 pub find-requires-clause-links : goal.find-requires-clause-links

@@ -1,6 +1,6 @@
 use Rattle.std.proofs.Common.{◌+◌, ◌/◌, length, refl, ap, ◌∙◌}
-use Rattle.ax_model.specs.Widths.{width}
-use Rattle.ax_tables.specs.Meaning.{meanings, linked, fixed_of}
+use Rattle.ax_format.specs.Widths.{width}
+use Rattle.ax_codec.specs.Meaning.{meanings, linked, fixed_of}
 use Rattle.ax_view.proofs.ItemPieces.{by_fx_made, by_fx_shown}
 use Rattle.ax_view.proofs.occurrences.Occurrences.by_fx.Goals as goal
 

@@ -1,5 +1,5 @@
 use Rattle.ax_view.proofs.ItemPieces.{counter_there, counted_made, counted_shown}
-use Rattle.ax_tables.specs.Table.{kind_at}
+use Rattle.ax_codec.specs.Table.{kind_at}
 use Rattle.ax_view.proofs.occurrences.Occurrences.counted.Goals as goal
 
 pub returns-in_default : goal.returns-in_default

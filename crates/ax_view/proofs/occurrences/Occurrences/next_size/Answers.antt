@@ -1,6 +1,6 @@
 use Rattle.std.proofs.Common.{Some, arith, ap, ◌∙◌}
-use Rattle.ax_model.specs.Widths.{width}
-use Rattle.ax_tables.specs.Meaning.{meanings, linked, fixed_of}
+use Rattle.ax_format.specs.Widths.{width}
+use Rattle.ax_codec.specs.Meaning.{meanings, linked, fixed_of}
 use Rattle.ax_view.proofs.ItemPieces.{fx_fits, fx_size, size_read}
 use Rattle.ax_view.proofs.occurrences.Occurrences.next_size.Goals as goal
 

@@ -1,5 +1,0 @@
-use Rattle.ax_build_work.proofs.Once.{build_once}
-use Rattle.ax_build_work.proofs.laws.one_answer.Goals as goal
-
-pub returns : goal.returns
-returns c = λ catalogue good. build_once catalogue good

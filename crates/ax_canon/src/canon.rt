@@ -1,0 +1,77 @@
+//! `canon` over views.
+ghost use Rattle.std.specs.Prelude.{◌≡◌, length, IfOk};
+ghost use Rattle.ax_format.specs.Plain.{catalogue_tree};
+ghost use Rattle.ax_format.specs.Sizes.{longest_block};
+ghost use Rattle.ax_blocks.specs.BlockCommands.{canon_command};
+ghost use Rattle.ax_codec.specs.Standing.{StandForEach};
+
+use crate::output::{blank_output, lay_canonical, lay_opaque};
+use ax_blocks::{BlockWork, WorkStop, write_piece};
+use ax_check::Catalogue;
+use ax_format::RawBlock;
+use ax_outside::Sink;
+use ax_tables::Codecs;
+use std::alloc::{AllocError, Global};
+
+/// `canon` under a catalogue, by the codecs of its specifications. A block is judged and written by walking its octets;
+/// what is written stands in one output, as long as the longest block.
+#[derive(Drop)]
+pub struct CanonViews<'c> {
+    /// What the codecs stand for: contracts speak of it, the code doesn't.
+    catalogue: &'c Catalogue,
+    codecs: &'c Codecs,
+    output: Vec<u8>,
+    ghost room: { length output.items ≡ longest_block },
+}
+
+impl<'c> CanonViews<'c> {
+    /// `canon` under that catalogue, by its codecs. The output is taken here, and no memory after that.
+    pub fn new(
+        alloc: Global,
+        catalogue: &'c Catalogue,
+        codecs: &'c Codecs,
+    ) -> Result<CanonViews<'c>, AllocError>
+        requires { StandForEach codecs.now.codecs (catalogue_tree catalogue.now) }
+        ensures command { IfOk result (λ work. ⟦<CanonViews<'c> as BlockWork>⟧.command work ≡ canon_command (catalogue_tree catalogue.now)) }
+        ensures sound { IfOk result (λ work. ⟦<CanonViews<'c> as BlockWork>⟧.sound work) }
+    {
+        let output = blank_output(alloc)?;
+        Ok(CanonViews {
+            catalogue,
+            codecs,
+            output,
+        })
+    }
+}
+
+impl<'c> BlockWork for CanonViews<'c> {
+    ghost use Rattle.std.specs.Prelude.{false};
+
+    ghost command = { λ s. canon_command (catalogue_tree s.catalogue.now) };
+
+    ghost sound = { λ s. StandForEach s.codecs.now.codecs (catalogue_tree s.catalogue.now) };
+
+    ghost remembers = { λ first s raws. Unit {0} };
+
+    ghost takes_memory = { false };
+
+    #[tactic(auto, using(crate::proofs::CanonBlocks::canon_takes))]
+    fn take<R: Sink, K: Sink>(
+        &mut self,
+        _number: u64,
+        raw: &RawBlock<'_>,
+        _report: &mut R,
+        out: &mut K,
+    ) -> Result<(), WorkStop> {
+        match self.codecs.get(raw.category) {
+            Some(codec) => match lay_canonical(codec, raw.body, &mut self.output) {
+                Ok(count) => write_piece(out, &self.output[..count as usize]),
+                Err(fault) => Err(WorkStop::Fault(fault)),
+            },
+            None => {
+                let count = lay_opaque(raw, &mut self.output);
+                write_piece(out, &self.output[..count as usize])
+            }
+        }
+    }
+}

@@ -1,0 +1,5 @@
+pub mod Compiling
+pub mod Growing
+pub mod NodeRowLists
+pub mod BareKinds
+pub mod Tables

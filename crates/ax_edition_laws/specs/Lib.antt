@@ -1,3 +1,0 @@
-pub mod CutParts
-pub mod Fates
-pub mod Moved

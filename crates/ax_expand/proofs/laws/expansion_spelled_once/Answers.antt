@@ -1,5 +1,0 @@
-use Rattle.ax_expand.proofs.FileTokens.{spelled_once}
-use Rattle.ax_expand.proofs.laws.expansion_spelled_once.Goals as goal
-
-pub returns : goal.returns
-returns c = spelled_once

@@ -1,5 +1,0 @@
-use Rattle.ax_filter.proofs.Once.{one_expression}
-use Rattle.ax_filter.proofs.laws.expression_once.Goals as goal
-
-pub returns : goal.returns
-returns c = one_expression

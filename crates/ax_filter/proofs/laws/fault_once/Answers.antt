@@ -1,5 +1,0 @@
-use Rattle.ax_filter.proofs.Once.{one_fault, no_fault}
-use Rattle.ax_filter.proofs.laws.fault_once.Goals as goal
-
-pub returns : goal.returns
-returns c = record { one = one_fault; none = no_fault }

@@ -1,5 +1,0 @@
-use Rattle.ax_filter.proofs.TextStops.{filter_once, refused_once, filter_not_refused}
-use Rattle.ax_filter.proofs.laws.text_once.Goals as goal
-
-pub returns : goal.returns
-returns c = record { filter = filter_once; fault = refused_once; never_both = filter_not_refused }

@@ -1,8 +1,0 @@
-use Rattle.ax_filter_work.proofs.Written.{written, reported}
-use Rattle.ax_filter_work.proofs.laws.filter_writes_matching_records.Goals as goal
-
-pub returns-clause-written : goal.returns-clause-written
-returns-clause-written c = written
-
-pub returns-clause-reported : goal.returns-clause-reported
-returns-clause-reported c = reported

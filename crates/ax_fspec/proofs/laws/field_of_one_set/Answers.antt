@@ -1,5 +1,0 @@
-use Rattle.ax_fspec.proofs.FieldLaws.{one_set}
-use Rattle.ax_fspec.proofs.laws.field_of_one_set.Goals as goal
-
-pub returns : goal.returns
-returns c = one_set

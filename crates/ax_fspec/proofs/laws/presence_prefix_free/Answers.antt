@@ -1,6 +1,0 @@
-use Rattle.ax_model.specs.Presence.{octets_needed}
-use Rattle.ax_fspec.proofs.FieldLaws.{prefix_free}
-use Rattle.ax_fspec.proofs.laws.presence_prefix_free.Goals as goal
-
-pub returns : goal.returns
-returns c = λ n. prefix_free (octets_needed n)

@@ -1,0 +1,7 @@
+use Rattle.std.proofs.Common.{refl}
+use Rattle.std.specs.Fmt.{digits}
+use Rattle.ax_laws.proofs.migrate_examples.line_of_a_loss.Goals as goal
+
+pub returns : goal.returns
+unfolding digits
+returns c = refl

@@ -1,5 +1,0 @@
-use Rattle.ax_lines.proofs.LinedThere.{lined_there}
-use Rattle.ax_lines.proofs.laws.lines_there.Goals as goal
-
-pub returns : goal.returns
-returns c = λ line_limit limit input. lined_there line_limit limit input

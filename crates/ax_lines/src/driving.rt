@@ -1,0 +1,45 @@
+//! The loop over the lines of an input, for every line command.
+ghost use Rattle.std.specs.Prelude.{◌≡◌, ℕ, ◌<◌, ◌≤◌, ◌^◌, List, [], Some, None};
+ghost use Rattle.ax_lines.specs.Ending.{longest_line};
+ghost use Rattle.ax_lines.specs.Runs.{LinesRun};
+ghost use Rattle.ax_lines.specs.Standing.{StandsAfter};
+ghost use Rattle.ax_lines.specs.declared.end.LinesEnd.TheVariants.{Refused};
+ghost use Rattle.ax_outside.specs.Changes.{source_change, sink_change};
+
+use crate::doing::do_line;
+use crate::end::{LinesEnd, reader_end};
+use crate::reader::LineReader;
+use crate::work::LineWork;
+use ax_outside::{Sink, Source};
+
+/// Reads the input to its end, line by line: each is judged as a whole, then its octets are written as one piece. It takes
+/// no memory but the work's. Nothing is read after a line that was refused.
+pub fn drive_lines<W: LineWork, S: Source, K: Sink>(
+    reader: &mut LineReader,
+    work: &mut W,
+    source: &mut S,
+    out: &mut K,
+) -> LinesEnd<W::Fault>
+    requires fresh { reader.old ≡ record { line_limit = reader.old.line_limit; limit = reader.old.limit; given = 0; buffered = []; ended = None } }
+    requires short { reader.old.line_limit ≤ longest_line }
+    requires bounded { reader.old.limit < 2 ^ 63 }
+    requires sound { W.sound work.old }
+    ensures stands { (input : List ℕ) (line : ℕ) (fault : W.Fault) → S.left source.old ≡ Some input → result ≡ Refused line fault → StandsAfter reader.old.line_limit reader.old.limit input (S.left source.new) reader.new line }
+    ensures runs { LinesRun (W.command work.old) reader.old.line_limit reader.old.limit (source_change S.Source source.old source.new) (sink_change K.Sink out.old out.new) result }
+{
+    let mut lines = 0;
+    let mut results = 0;
+    'lines: loop {
+        match reader.next(source) {
+            Ok(Some(line)) => match do_line(work, out, lines, line) {
+                Ok(count) => {
+                    lines += 1;
+                    results += count;
+                }
+                Err(end) => return end,
+            },
+            Ok(None) => return LinesEnd::Done { results },
+            Err(error) => return reader_end(error, lines),
+        }
+    }
+}

@@ -1,5 +1,0 @@
-use Rattle.ax_migrate_views.specs.BySlot.{ArePlaces}
-use Rattle.ax_migrate_views.proofs.by_slot.places_of.Given as goal
-
-abbrev pub invariant-loop-slot : goal.invariant-loop-slot
-invariant-loop-slot l = ArePlaces l.moves l.slot l.places.items

@@ -1,5 +1,0 @@
-use Rattle.ax_migrate_views.specs.BySlot.{StayInSlots}
-use Rattle.ax_migrate_views.proofs.by_slot.staying.Given as goal
-
-abbrev pub invariant-loop-slot : goal.invariant-loop-slot
-invariant-loop-slot l = StayInSlots l.nodes l.links l.moves l.slot l.stays.items

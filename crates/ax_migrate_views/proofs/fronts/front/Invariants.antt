@@ -1,5 +1,0 @@
-use Rattle.ax_migrate_views.proofs.ItemParts.{FrontSoFar}
-use Rattle.ax_migrate_views.proofs.fronts.front.Given as goal
-
-abbrev pub invariant-loop-index : goal.invariant-loop-index
-invariant-loop-index l = FrontSoFar l.nodes l.links l.count l.octets l.index l.end

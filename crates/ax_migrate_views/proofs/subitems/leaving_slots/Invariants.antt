@@ -1,5 +1,0 @@
-use Rattle.ax_migrate_views.specs.Subitems.{StayWithout}
-use Rattle.ax_migrate_views.proofs.subitems.leaving_slots.Given as goal
-
-abbrev pub invariant-loop-slot : goal.invariant-loop-slot
-invariant-loop-slot l = StayWithout l.nodes l.links l.moves l.slot l.leaving.items

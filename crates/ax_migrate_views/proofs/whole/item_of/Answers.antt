@@ -1,5 +1,0 @@
-use Rattle.ax_migrate_views.proofs.Slots.{placed_slot}
-use Rattle.ax_migrate_views.proofs.whole.item_of.Goals as goal
-
-pub returns-clause-place : goal.returns-clause-place
-returns-clause-place c = placed_slot c.args.whole.now c.args.slot c.item.result c.item.ensures.place

@@ -1,7 +1,0 @@
-use Rattle.std.proofs.Common.{refl}
-use Rattle.std.specs.Fmt.{digits}
-use Rattle.ax_migrate_work.proofs.examples.answers_to_blocks.Goals as goal
-
-pub returns-clause-read : goal.returns-clause-read
-unfolding digits
-returns-clause-read c = refl

@@ -1,7 +1,0 @@
-use Rattle.std.proofs.Common.{◌≡◌, length, map, take}
-use Rattle.ax_model.specs.Plain.{part_tree}
-use Rattle.ax_model.proofs.copying.kinds.copy_parts.Given as goal
-
-abbrev pub invariant-loop-part : goal.invariant-loop-part
-invariant-loop-part l =
-    (length l.made ≡ l.part-index) × (map part_tree l.made ≡ map part_tree (take l.part-index l.parts))

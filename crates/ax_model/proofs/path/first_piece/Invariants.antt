@@ -1,6 +1,0 @@
-use Rattle.std.proofs.Common.{◌≡◌, take, drop}
-use Rattle.ax_model.specs.Paths.{onto, pieces}
-use Rattle.ax_model.proofs.path.first_piece.Given as goal
-
-abbrev pub invariant-loop-at : goal.invariant-loop-at
-invariant-loop-at l = pieces l.text ≡ onto (take l.at l.text) (pieces (drop l.at l.text))

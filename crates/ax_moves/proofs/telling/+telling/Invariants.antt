@@ -1,0 +1,21 @@
+use Rattle.std.proofs.Common.{◌+◌, ◌-◌, ◌*◌, ◌≤◌, drop, length}
+use Rattle.ax_moves.proofs.LostRuns.{deepest}
+use Rattle.ax_moves.proofs.TellingSteps.{KeysTold}
+use Rattle.ax_moves.specs.Wholes.{whole_entries}
+use Rattle.ax_format.specs.Tree.{marked}
+use Rattle.ax_moves.proofs.telling.+telling.Given as goal
+
+abbrev pub invariant-tell_keys-loop-index : goal.invariant-tell_keys-loop-index
+invariant-tell_keys-loop-index l = record {
+  told : KeysTold l.block l.number l.depth (marked (whole_entries l.whole)) l.keys (drop l.index l.keys) l.at l.end l.fn.lines l.lines;
+  within : l.index ≤ length l.keys;
+}
+
+abbrev pub decreases-tell_keys-loop-index : goal.decreases-tell_keys-loop-index
+decreases-tell_keys-loop-index l = length l.keys - l.index
+
+abbrev pub decreases-tell_keys : goal.decreases-tell_keys
+decreases-tell_keys l = 2 * (deepest l.keys.now - l.depth)
+
+abbrev pub decreases-tell_inside : goal.decreases-tell_inside
+decreases-tell_inside l = 2 * (deepest l.keys.now - l.depth) + 1

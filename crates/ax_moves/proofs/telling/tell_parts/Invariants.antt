@@ -1,0 +1,15 @@
+use Rattle.std.proofs.Common.{◌-◌, ◌≤◌, drop, length, IfSome}
+use Rattle.ax_moves.proofs.TellingSteps.{KeysTold}
+use Rattle.ax_moves.specs.Lost.{HasParts}
+use Rattle.ax_view.specs.Shown.{item_value}
+use Rattle.ax_moves.proofs.telling.tell_parts.Given as goal
+
+abbrev pub invariant-loop-index : goal.invariant-loop-index
+invariant-loop-index l = record {
+  told : KeysTold l.block l.number l.depth (item_value l.item) l.keys (drop l.index l.keys) l.at l.end l.fn.lines l.lines;
+  within : l.index ≤ length l.keys;
+  counted : IfSome l.counted (HasParts l.item);
+}
+
+abbrev pub decreases-loop-index : goal.decreases-loop-index
+decreases-loop-index l = length l.keys - l.index

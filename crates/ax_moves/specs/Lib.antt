@@ -1,0 +1,11 @@
+pub mod Bare
+pub mod BySlot
+pub mod Fronts
+pub mod Gone
+pub mod Keeping
+pub mod KnownMoves
+pub mod Laying
+pub mod Lost
+pub mod Octets
+pub mod Subitems
+pub mod Wholes

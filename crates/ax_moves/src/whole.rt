@@ -1,0 +1,18 @@
+//! What stands in the slots of a record or a compound.
+ghost use Rattle.std.specs.Prelude.{◌≡◌, option_map, IfSome};
+ghost use Rattle.ax_moves.specs.Wholes.{IsInSlot, whole_entries};
+ghost use Rattle.ax_format.specs.At.{slot_value};
+ghost use Rattle.ax_view.specs.Placing.{IsPlaced};
+ghost use Rattle.ax_view.specs.Shown.{item_value};
+
+use ax_view::{FoundItem, PlacedSlots};
+
+/// The item of a slot. None comes exactly where it isn't marked.
+#[inline(always)]
+pub fn item_of<'c, 'a>(whole: &PlacedSlots<'_, 'c, 'a>, slot: u32) -> Option<FoundItem<'c, 'a>>
+    requires placed { IsPlaced whole.now }
+    ensures value { option_map (λ found. item_value found.item) result ≡ slot_value slot (whole_entries whole.now) }
+    ensures place { IfSome result (λ found. IsInSlot whole.now slot found.item) }
+{
+    whole.item(slot)
+}

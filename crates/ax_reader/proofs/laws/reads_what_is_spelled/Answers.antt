@@ -1,5 +1,0 @@
-use Rattle.ax_reader.proofs.Exact.{spelled_at, gets_spelled}
-use Rattle.ax_reader.proofs.laws.reads_what_is_spelled.Goals as goal
-
-pub returns : goal.returns
-returns c = record { spelled = spelled_at; read = gets_spelled }

@@ -1,5 +1,0 @@
-use Rattle.ax_salvage.proofs.OneSalvage.{one_salvage}
-use Rattle.ax_salvage.proofs.laws.each_input_has_one_salvage.Goals as goal
-
-pub returns : goal.returns
-returns c = one_salvage

@@ -1,7 +1,0 @@
-use Rattle.std.proofs.Common.{refl}
-use Rattle.std.specs.Fmt.{digits}
-use Rattle.ax_text.proofs.examples.line_of_a_block.Goals as goal
-
-pub returns : goal.returns
-unfolding digits
-returns c = refl

@@ -1,5 +1,0 @@
-use Rattle.ax_text.proofs.BlocksOnce.{same_block}
-use Rattle.ax_text.proofs.laws.block_text_once.Goals as goal
-
-pub returns : goal.returns
-returns c = same_block

@@ -1,5 +1,0 @@
-use Rattle.ax_text.proofs.Nesting.{line_tokens, tokens_within}
-use Rattle.ax_text.proofs.laws.printed_block_tokens.Goals as goal
-
-pub returns : goal.returns
-returns c = record { tokens = line_tokens; within = tokens_within }

@@ -1,5 +1,0 @@
-use Rattle.ax_tokens.proofs.Once.{tokens_once}
-use Rattle.ax_tokens.proofs.laws.tokens_once.Goals as goal
-
-pub returns : goal.returns
-returns c = tokens_once

@@ -1,5 +1,0 @@
-use Rattle.ax_trial.proofs.Once.{trial_once}
-use Rattle.ax_trial.proofs.laws.line_once.Goals as goal
-
-pub returns : goal.returns
-returns c = trial_once

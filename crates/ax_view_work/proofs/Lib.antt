@@ -1,3 +1,0 @@
-pub mod CanonBlocks
-pub mod CodecsOf
-pub mod LaidOctets

@@ -1,5 +1,0 @@
-use Rattle.ax_words.proofs.Once.{once}
-use Rattle.ax_words.proofs.laws.line_once.Goals as goal
-
-pub returns : goal.returns
-returns c = once

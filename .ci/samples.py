@@ -1,4 +1,4 @@
-"""Compares the files of the folder samples with the constants of the crate ax_samples."""
+"""Compares the files of the folder samples with the constants of the crate ax_vectors."""
 
 import pathlib
 import re
@@ -7,7 +7,7 @@ import sys
 top = pathlib.Path(__file__).resolve().parent.parent
 constants = {}
 for source in ("samples.rt", "test_files.rt"):
-    text = (top / "crates/ax_samples/src" / source).read_text()
+    text = (top / "crates/ax_vectors/src" / source).read_text()
     constants.update(re.findall(r'pub const (\w+): &str = r#"(.*?)"#;', text, re.S))
 
 status = 0
@@ -20,6 +20,6 @@ for name, text in constants.items():
         print(f"checks: samples/{file} isn't the text of {name}", file=sys.stderr)
         status = 1
 if not constants:
-    print("checks: ax_samples has no sample", file=sys.stderr)
+    print("checks: ax_vectors has no sample", file=sys.stderr)
     status = 1
 sys.exit(status)

@@ -5,7 +5,7 @@ use Rattle.ax_model.specs.Blocks.{Fits, read_block}
 use Rattle.ax_model.specs.Bodies.{RecordShape}
 use Rattle.ax_model.specs.Plain.{record_tree, records_tree}
 use Rattle.ax_model.specs.Specification.{SpecTree}
-use Rattle.ax_model.specs.declared.record.Record.{Record}
+use Rattle.ax_format.specs.declared.record.Record.{Record}
 
 pub first_shape : (spec : SpecTree) (category : ℕ) (rs : List Record) (r : Record) → Fits spec (read_block category (records_tree rs)) → slice_get rs 0 ≡ Some r → RecordShape spec (record_tree r)
 first_shape spec category [] r h e = absurd (cc)

@@ -1,7 +1,7 @@
 //! Worked examples of what a line command answers. Each function stands for what its contract says.
 ghost use Rattle.std.specs.Prelude.{◌≡◌, ℕ, [], ◌∷◌, codes};
 ghost use Rattle.ax_lines.specs.Commands.{gives, nothing, refused, HasOneAnswer, output_of, results_of, AreAnswered};
-ghost use Rattle.ax_laws.specs.LineExamples.{echo_command};
+ghost use Rattle.ax_lines.specs.Examples.{echo_command};
 ghost use Rattle.ax_lines.specs.Runs.{LinesAnswer};
 ghost use Rattle.ax_lines.specs.declared.end.LinesEnd.TheVariants.{Done, Refused, LineTooLong, InputTooLong};
 

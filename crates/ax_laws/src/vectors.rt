@@ -12,7 +12,7 @@ pub fn made_blocks_are_spelled()
 {}
 
 /// The first draw from the seed 0.
-#[tactic(auto, unfolding(crate::specs::Draws::drawn, crate::specs::Draws::next_state))]
+#[tactic(auto, unfolding(ax_vectors::specs::Draws::drawn, ax_vectors::specs::Draws::next_state))]
 pub fn first_draw()
     ensures { drawn 0 ≡ 335903614 }
 {}

@@ -1,6 +1,7 @@
 pub mod Commands
 pub mod Completing
 pub mod Ending
+pub mod Examples
 pub mod Feeds
 pub mod Holding
 pub mod Judging

@@ -6,7 +6,7 @@ ghost use Rattle.ax_format.specs.Plain.{catalogue_tree};
 ghost use Rattle.ax_tables.specs.Places.{place_from, ArePlaces, ArePlaces-prop};
 ghost use Rattle.ax_codec.specs.Standing.{StandForEach, codec_of};
 
-use crate::compile::compile;
+use crate::compiling::compile;
 use ax_check::Catalogue;
 use ax_codec::Codec;
 use ax_lists::Sequence;

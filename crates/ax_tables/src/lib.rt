@@ -2,8 +2,8 @@
 #![tactic(auto)]
 
 mod codecs;
-mod compile;
+mod compiling;
 
 pub use ax_codec::{Codec, Links, Node, Nodes};
 pub use codecs::{CodecList, Codecs};
-pub use compile::compile;
+pub use compiling::compile;

@@ -85,8 +85,8 @@ pub struct Laid {
 }
 
 /// Lays the records of a body of 1 to 65,532 octets as they move, after a block's first three octets, and the lines of what
-/// they lose, in one walk over the body. Records that follow one another and stay as they are are laid as one piece. Where the body fails, that is its first fault, by bits of the body from 0; some
-/// records before may have been laid.
+/// they lose, in one walk over the body. Records that stay as they are are laid as one piece where they follow one another. Where
+/// the body fails, that is its first fault, by bits of the body from 0; some records before may have been laid.
 pub(crate) fn lay_body(
     codec: &Codec,
     body: &[u8],

@@ -6,7 +6,7 @@ use Rattle.ax_format.specs.Canonical.{canon}
 use Rattle.ax_format.specs.Presence.{first_mark, later_marks}
 use Rattle.ax_format.specs.Tree.{KindTree, SlotsTree, no_slots, slot_and, spare_slot, subitem, EntriesTree, no_entries, entry_and}
 use Rattle.ax_format.specs.declared.fault.BodyFault.{BodyFault}
-use Rattle.ax_fspec.specs.Reading.{Gets, FailsAt}
+use Rattle.ax_fspec.specs.Reading.{Gets, FailsAt, kind_read}
 
 -- something is read from octet `at` of the body up to octet `end`; and where it is said to be least, its spelling there is
 -- the one that the rule gives
@@ -14,6 +14,10 @@ pub record Walks {A : Type 0} (rule : A → List ℕ) (found : Read A) (body : L
   pub value : A
   pub read : Gets found body at end value
   pub canonical : IsTrue least → rule value ++ bits (drop end body) ≡ bits (drop at body)
+
+-- so a value of that kind
+abbrev pub WalksKind : KindTree → List ℕ → ℕ → ℕ → Bool → Type 0
+WalksKind k body at end least = Walks (canon k) (kind_read k body at) body at end least
 
 -- what is read from octet `here` on decides what is read from octet `at` on; `least` says whether what is between is least
 pub record Leads {A B : Type 0} (rule : A → List ℕ) (next : Read A) (whole_rule : B → List ℕ) (whole : Read B) (body : List ℕ) (at here : ℕ) (least : Bool) : Type 0 where

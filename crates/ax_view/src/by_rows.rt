@@ -1,68 +1,32 @@
 //! The walk over a record by the rows of its slots.
-ghost use Rattle.std.specs.Prelude.{◌≡◌, ◌+◌, ◌-◌, ◌*◌, ◌/◌, ◌<◌, ◌≤◌, ◌++◌, length, map, take, drop, ℕ, List, IfSome, IfNone, IsTrue};
+ghost use Rattle.std.specs.Prelude.{◌≡◌, ◌+◌, ◌-◌, ◌*◌, ◌/◌, ◌<◌, ◌≤◌, ◌++◌, length, map, take, drop, ℕ, List, IfSome, IsTrue};
 ghost use Rattle.ax_fspec.specs.Marks.{seven};
 ghost use Rattle.ax_fspec.specs.declared.mask.SlotMask.{SlotMask};
-ghost use Rattle.ax_format.specs.Canonical.{canon};
 ghost use Rattle.ax_format.specs.InBounds.{InBounds};
 ghost use Rattle.ax_format.specs.Presence.{octets_needed};
 ghost use Rattle.ax_format.specs.Sizes.{longest_body};
-ghost use Rattle.ax_fspec.specs.Reading.{FailsAt, IsMaskOf, kind_read};
+ghost use Rattle.ax_fspec.specs.Reading.{IsMaskOf};
 ghost use Rattle.ax_rows.specs.Rows.{IsRow, AreRows};
 ghost use Rattle.ax_codec.specs.Meaning.{meanings, linked_slots};
-ghost use Rattle.ax_codec.specs.NodeRows.{EachRows};
 ghost use Rattle.ax_codec.specs.Octets.{octets_of};
-ghost use Rattle.ax_codec.specs.Table.{IsTable, SlotLinksWithin, kind_at, record_kind_at};
+ghost use Rattle.ax_codec.specs.Table.{IsTable, SlotLinksWithin, record_kind_at};
 ghost use Rattle.ax_view.specs.Rows.{AreSlots, SlotsLead, IsField, HaveRows, WalksItems, marks_of, slots_at};
-ghost use Rattle.ax_view.specs.Walking.{Walks};
+ghost use Rattle.ax_view.specs.Walking.{WalksKind};
 
-use crate::compound_rows::{compound_rows, skip_compound};
+use crate::compound_rows::ByRows;
 use crate::notes::Notes;
-use crate::octets::{note_field, walk_item};
+use crate::octets::note_field;
+use crate::value_walk::ValueWalk;
 use ax_codec::{Codec, Node};
 use ax_fspec::SlotMask;
-use ax_rows::{NO_ROW, Rows, SlotRows, Step};
-
-/// The octet after the value of an item of a record that begins at octet `at`: a compound is walked over by its rows, if it has some
-/// and each marked subitem has fixed octets.
-#[inline(always)]
-pub(crate) fn walk_record_item(
-    nodes: &[Node],
-    octets: &[u32],
-    compounds: &[SlotRows],
-    link: u32,
-    body: &[u8],
-    at: u32,
-    notes: &mut Notes,
-) -> Option<u32>
-    requires table { IsTable nodes.now }
-    requires octets { octets.now ≡ map octets_of nodes.now }
-    requires compounds { EachRows octets.now nodes.now compounds.now }
-    requires link { (0 < link) × (link ≤ length nodes.now) }
-    requires bounds { InBounds (kind_at nodes.now link) }
-    requires body { length body.now ≤ longest_body }
-    requires at { at ≤ length body.now }
-    ensures end { IfSome result (λ end. Walks (canon (kind_at nodes.now link)) (kind_read (kind_at nodes.now link) body.now at) body.now at end notes.new.least) }
-    ensures fault { IfNone result (FailsAt (kind_read (kind_at nodes.now link) body.now at) at notes.new.fault) }
-    ensures falls { IsTrue notes.new.least → IsTrue notes.old.least }
-{
-    if let Node::Compound { mask, slots } = &nodes[link as usize - 1] {
-        let slots = slots.as_slice();
-        if let Some(rows) = compound_rows(nodes, octets, compounds, link) {
-            let end = skip_compound(nodes, octets, mask, rows, slots, body, at, notes);
-            if end.is_some() {
-                return end;
-            }
-        }
-    }
-    walk_item(nodes, octets, link, body, at, notes)
-}
+use ax_rows::{NO_ROW, Rows, Step};
 
 /// The octet after the values of the slots that presence octet `index` marks, by its row. None says nothing.
 #[inline(always)]
-fn walk_row(
+fn walk_row<W: ValueWalk>(
+    values: &W,
     nodes: &[Node],
     octets: &[u32],
-    compounds: &[SlotRows],
     steps: &[Step],
     first: u32,
     slots: &[u32],
@@ -74,7 +38,7 @@ fn walk_row(
 ) -> Option<u32>
     requires table { IsTable nodes.now }
     requires octets { octets.now ≡ map octets_of nodes.now }
-    requires compounds { EachRows octets.now nodes.now compounds.now }
+    requires fits { W.fits values.now nodes.now octets.now }
     requires slots { AreSlots nodes.now (slots_at index slots.now) }
     requires row { IsRow octets.now (slots_at index slots.now) (seven marks) steps.now first }
     requires body { length body.now ≤ longest_body }
@@ -94,7 +58,7 @@ fn walk_row(
         if step.link == 0 {
             return Some(here);
         }
-        here = walk_record_item(nodes, octets, compounds, step.link, body, here, notes)?;
+        here = values.walk_value(nodes, octets, step.link, body, here, notes)?;
         place += 1;
     }
     None
@@ -103,10 +67,10 @@ fn walk_row(
 /// The octet after the values of the marked slots, by the rows of the presence octets, which begin at octet `field`. None says
 /// nothing.
 #[inline(always)]
-fn walk_rows(
+fn walk_rows<W: ValueWalk>(
+    values: &W,
     nodes: &[Node],
     octets: &[u32],
-    compounds: &[SlotRows],
     rows: Rows<'_>,
     slots: &[u32],
     field: u32,
@@ -116,7 +80,7 @@ fn walk_rows(
 ) -> Option<u32>
     requires table { IsTable nodes.now }
     requires octets { octets.now ≡ map octets_of nodes.now }
-    requires compounds { EachRows octets.now nodes.now compounds.now }
+    requires fits { W.fits values.now nodes.now octets.now }
     requires slots { AreSlots nodes.now slots.now }
     requires rows { AreRows octets.now slots.now rows.start.now rows.steps.now }
     requires count { 128 * count ≤ length rows.start.now }
@@ -134,7 +98,7 @@ fn walk_rows(
             return None;
         }
         here = walk_row(
-            nodes, octets, compounds, rows.steps, first, slots, index, marks, body, here, notes,
+            values, nodes, octets, rows.steps, first, slots, index, marks, body, here, notes,
         )?;
     }
     Some(here)
@@ -163,12 +127,12 @@ pub(crate) fn field_octets(body: &[u8], at: u32, slots: u32) -> Option<u32>
     None
 }
 
-/// The octet after a record of these slots, by their rows. None says nothing.
+/// The octet after a record, or a compound, of these slots, by their rows. None says nothing.
 #[inline(always)]
-pub(crate) fn walk_by_rows(
+pub(crate) fn walk_by_rows<W: ValueWalk>(
+    values: &W,
     nodes: &[Node],
     octets: &[u32],
-    compounds: &[SlotRows],
     mask: &SlotMask,
     rows: Rows<'_>,
     slots: &[u32],
@@ -178,21 +142,19 @@ pub(crate) fn walk_by_rows(
 ) -> Option<u32>
     requires table { IsTable nodes.now }
     requires octets { octets.now ≡ map octets_of nodes.now }
-    requires compounds { EachRows octets.now nodes.now compounds.now }
+    requires fits { W.fits values.now nodes.now octets.now }
     requires links { SlotLinksWithin (length nodes.now) slots.now }
     requires mask { IsMaskOf (linked_slots (meanings nodes.now) slots.now) mask.now }
     requires bounds { InBounds (record_kind_at nodes.now slots.now) }
     requires rows { AreRows octets.now slots.now rows.start.now rows.steps.now }
     requires body { length body.now ≤ longest_body }
     requires at { at ≤ length body.now }
-    ensures end { IfSome result (λ end. Walks (canon (record_kind_at nodes.now slots.now)) (kind_read (record_kind_at nodes.now slots.now) body.now at) body.now at end notes.new.least) }
+    ensures end { IfSome result (λ end. WalksKind (record_kind_at nodes.now slots.now) body.now at end notes.new.least) }
     ensures falls { IsTrue notes.new.least → IsTrue notes.old.least }
 {
     let count = field_octets(body, at, mask.count)?;
     note_field(body, at, at + count, notes);
-    walk_rows(
-        nodes, octets, compounds, rows, slots, at, count, body, notes,
-    )
+    walk_rows(values, nodes, octets, rows, slots, at, count, body, notes)
 }
 
 /// The octet after the items of the record whose presence field begins at octet `at`, by their rows; notes tell of the presence
@@ -205,10 +167,13 @@ pub fn items_by_rows(codec: &Codec, body: &[u8], at: u32, notes: &mut Notes) -> 
     let slots = codec.slots.as_slice();
     let rows = codec.nodes.rows_for(slots)?;
     let count = field_octets(body, at, codec.mask.count)?;
+    let values = ByRows {
+        compounds: codec.nodes.compound_rows(),
+    };
     walk_rows(
+        &values,
         codec.nodes.as_slice(),
         codec.nodes.octets(),
-        codec.nodes.compound_rows(),
         rows,
         slots,
         at,

@@ -13,9 +13,10 @@ ghost use Rattle.ax_codec.specs.Meaning.{meanings, linked_parts, linked_slots};
 ghost use Rattle.ax_codec.specs.Table.{IsTable, LinksWithin, SlotLinksWithin, kind_at, record_kind_at};
 ghost use Rattle.ax_rows.specs.Rows.{AreRows};
 ghost use Rattle.ax_fspec.specs.Reading.{FailsAt, IsMaskOf, kind_read, entries_at};
-ghost use Rattle.ax_view.specs.Walking.{Walks, along, NeedsLast};
+ghost use Rattle.ax_view.specs.Walking.{Walks, WalksKind, along, NeedsLast};
 
 use crate::by_rows::walk_by_rows;
+use crate::compound_rows::ByRows;
 use crate::notes::{Notes, fail};
 use crate::units::{first_part_end, run, walk_explicit, walk_parts, walk_run};
 use ax_codec::{Codec, Node};
@@ -60,10 +61,13 @@ pub(crate) fn walk_with(
 {
     let before = notes.least;
     if let Some(rows) = rows {
+        let values = ByRows {
+            compounds: codec.nodes.compound_rows(),
+        };
         let end = walk_by_rows(
+            &values,
             codec.nodes.as_slice(),
             codec.nodes.octets(),
-            codec.nodes.compound_rows(),
             &codec.mask,
             rows,
             codec.slots.as_slice(),
@@ -153,7 +157,32 @@ fn walk_items(
     Some(here)
 }
 
-/// The same for an item of a record: only counted items, wide ones and compounds are left to a call.
+/// The octet after the value that begins at octet `at`, where the kind that a link leads to is a fixed one whose octets are all
+/// there. There is no look at the node.
+#[inline(always)]
+pub(crate) fn octets_end(
+    nodes: &[Node],
+    octets: &[u32],
+    link: u32,
+    body: &[u8],
+    at: u32,
+) -> Option<u32>
+    requires table { IsTable nodes.now }
+    requires octets { octets.now ≡ map octets_of nodes.now }
+    requires link { (0 < link) × (link ≤ length nodes.now) }
+    requires bounds { InBounds (kind_at nodes.now link) }
+    requires body { length body.now ≤ longest_body }
+    requires at { at ≤ length body.now }
+    ensures { IfSome result (λ end. (least : Bool) → WalksKind (kind_at nodes.now link) body.now at end least) }
+{
+    let run_octets = octets[link as usize - 1];
+    if run_octets > 0 && run_octets as usize <= body.len() - at as usize {
+        return Some(at + run_octets);
+    }
+    None
+}
+
+/// The octet after an item of a record.
 #[inline(always)]
 pub(crate) fn walk_item(
     nodes: &[Node],
@@ -169,14 +198,34 @@ pub(crate) fn walk_item(
     requires bounds { InBounds (kind_at nodes.now link) }
     requires body { length body.now ≤ longest_body }
     requires at { at ≤ length body.now }
-    ensures end { IfSome result (λ end. Walks (canon (kind_at nodes.now link)) (kind_read (kind_at nodes.now link) body.now at) body.now at end notes.new.least) }
+    ensures end { IfSome result (λ end. WalksKind (kind_at nodes.now link) body.now at end notes.new.least) }
     ensures fault { IfNone result (FailsAt (kind_read (kind_at nodes.now link) body.now at) at notes.new.fault) }
     ensures falls { IsTrue notes.new.least → IsTrue notes.old.least }
 {
-    let run_octets = octets[link as usize - 1];
-    if run_octets > 0 && run_octets as usize <= body.len() - at as usize {
-        return Some(at + run_octets);
+    if let Some(end) = octets_end(nodes, octets, link, body, at) {
+        return Some(end);
     }
+    walk_node(nodes, link, body, at, notes)
+}
+
+/// The octet after an item, by its node: only counted items, wide ones and compounds are left to a call.
+#[inline(always)]
+pub(crate) fn walk_node(
+    nodes: &[Node],
+    link: u32,
+    body: &[u8],
+    at: u32,
+    notes: &mut Notes,
+) -> Option<u32>
+    requires table { IsTable nodes.now }
+    requires link { (0 < link) × (link ≤ length nodes.now) }
+    requires bounds { InBounds (kind_at nodes.now link) }
+    requires body { length body.now ≤ longest_body }
+    requires at { at ≤ length body.now }
+    ensures end { IfSome result (λ end. WalksKind (kind_at nodes.now link) body.now at end notes.new.least) }
+    ensures fault { IfNone result (FailsAt (kind_read (kind_at nodes.now link) body.now at) at notes.new.fault) }
+    ensures falls { IsTrue notes.new.least → IsTrue notes.old.least }
+{
     match &nodes[link as usize - 1] {
         Node::Element { width } => run(body, at, *width, notes),
         Node::Group { width, .. } => run(body, at, *width, notes),

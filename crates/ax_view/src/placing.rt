@@ -14,7 +14,7 @@ ghost use Rattle.ax_codec.specs.Table.{IsTable, SlotLinksWithin, record_kind_at}
 ghost use Rattle.ax_codec.specs.declared.node.Node.TheVariants as Of;
 ghost use Rattle.ax_view.specs.Placing.{PlacesEntries, PlacesKind};
 
-use crate::by_rows::walk_record_item;
+use crate::compound_rows::walk_record_item;
 use crate::item::ItemView;
 use crate::notes::Notes;
 use crate::places::{Places, Window};

@@ -4,7 +4,7 @@ use Rattle.ax_view.proofs.RowFields.{FieldLeads}
 use Rattle.ax_view.proofs.by_rows.walk_rows.Given as goal
 
 abbrev pub invariant-loop-index : goal.invariant-loop-index
-invariant-loop-index l = record {
+invariant-loop-index g l = record {
   rows : HaveRows l.octets l.slots l.body l.field l.index;
   leads : FieldLeads l.nodes l.body l.slots l.field (l.field + l.count) l.index l.here l.notes.least;
   within : l.here ≤ length l.body;

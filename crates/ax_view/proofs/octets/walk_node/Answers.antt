@@ -1,11 +1,11 @@
-use Rattle.std.proofs.Common.{◌-◌, ◌%◌, get_or, ap, arith, refl, subst, sym, ◌∙◌}
+use Rattle.std.proofs.Common.{◌%◌, ap, arith, refl, subst, sym, ◌∙◌}
 use Rattle.ax_format.specs.InBounds.{InBounds}
 use Rattle.ax_format.specs.Tree as Tree
 use Rattle.ax_format.specs.declared.content.Content.TheVariants.{Raw}
 use Rattle.ax_codec.specs.Meaning.{meanings, linked, fixed_of, linked_members, linked_parts}
 use Rattle.ax_codec.specs.Table.{kind_at, record_kind_at}
-use Rattle.ax_view.proofs.NodeKinds.{octets_walk, end_as, fault_as, run_end, run_fault, is_element, is_group, group_width, is_part, is_extended, extended_links, is_counted, counted_link, is_by_fx, by_fx_link, is_explicit, is_compound, compound_links, compound_mask}
-use Rattle.ax_view.proofs.octets.walk_item.Goals as goal
+use Rattle.ax_view.proofs.NodeKinds.{end_as, fault_as, run_end, run_fault, is_element, is_group, group_width, is_part, is_extended, extended_links, is_counted, counted_link, is_by_fx, by_fx_link, is_explicit, is_compound, compound_links, compound_mask}
+use Rattle.ax_view.proofs.octets.walk_node.Goals as goal
 
 pub run-requires-clause-width : goal.run-requires-clause-width
 run-requires-clause-width c =
@@ -81,11 +81,6 @@ returns-in-Explicit-clause-end c =
 pub returns-in-Explicit-clause-fault : goal.returns-in-Explicit-clause-fault
 returns-in-Explicit-clause-fault c =
     fault_as c.args.body.now c.args.at (kind_at c.args.nodes.now c.args.link) Tree.explicit (is_explicit c.args.nodes.now c.args.link c.index-nodes-link.result c.requires.table c.requires.link.0 c.requires.link.1 c.index-nodes-link.is c.in-Explicit.is) c.walk_explicit.new.notes.fault c.walk_explicit.result c.walk_explicit.ensures.fault
-
-pub returns-then-run_octets-body-clause-end : goal.returns-then-run_octets-body-clause-end
-returns-then-run_octets-body-clause-end c =
-    octets_walk c.args.nodes.now c.args.link c.args.body.now c.args.at (get_or c.args.octets.now (c.args.link - 1) 0) c.args.notes.now.least c.requires.table c.requires.link.0 c.requires.link.1 c.requires.bounds (omega arith) (omega arith)
-    c.args.octets.now c.requires.octets refl
 
 pub returns-in-Counted-clause-end : goal.returns-in-Counted-clause-end
 returns-in-Counted-clause-end c =

@@ -1,5 +1,5 @@
 -- Rows beside the nodes of compounds, and rows of one step.
-use Rattle.std.proofs.Common.{◌≡◌, ℕ, zero, suc, ◌+◌, ◌-◌, ◌<◌, ◌≤◌, List, [], ◌∷◌, length, get_or, sym, ap, subst, arith}
+use Rattle.std.proofs.Common.{◌≡◌, ℕ, zero, suc, ◌<◌, List, [], ◌∷◌, length, get_or, sym, subst, arith}
 use Rattle.ax_rows.specs.Rows.{AreRows}
 use Rattle.ax_rows.specs.declared.slot_rows.SlotRows.{SlotRows}
 use Rattle.ax_codec.specs.NodeRows.{AreNodeRows, EachRows, node_slots}

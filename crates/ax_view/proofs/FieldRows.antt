@@ -1,6 +1,6 @@
 -- A presence field whose octets have rows: which slots it marks.
-use Rattle.std.proofs.Common.{◌≡◌, ℕ, zero, suc, inl, inr, ◌+◌, ◌-◌, ◌*◌, ◌/◌, ◌%◌, ◌<◌, ◌≤◌, ◌⊎◌, Bool, true, false, IsTrue, List, [], ◌∷◌, ◌++◌, length, take, drop, replicate, get_or, refl, sym, ◌∙◌, ap, arith, subst, append_assoc, append-nil, length-append, length-drop}
-use Rattle.std.proofs.lemmas.List.{take_at, drop_at, drop-drop, get_or-drop, length-take-le, length-replicate, take_more, length-map}
+use Rattle.std.proofs.Common.{◌≡◌, ℕ, zero, suc, inl, inr, ◌+◌, ◌-◌, ◌*◌, ◌/◌, ◌%◌, ◌<◌, ◌≤◌, Bool, IsTrue, List, [], ◌∷◌, ◌++◌, length, take, drop, replicate, get_or, refl, sym, ◌∙◌, ap, arith, subst, append_assoc, append-nil, length-append, length-drop}
+use Rattle.std.proofs.lemmas.List.{take_at, drop_at, drop-drop, get_or-drop, length-take-le, length-replicate, take_more}
 use Rattle.ax_bits.proofs.Pieces.{word-last}
 use Rattle.ax_bits.proofs.Words.{word-AreBits}
 use Rattle.ax_bits.specs.Bits.{bits, word, AreBits}
@@ -14,7 +14,7 @@ use Rattle.ax_format.specs.Presence.{Presence, octets_needed, none_marked, NoneU
 use Rattle.ax_format.specs.Tree.{slots_of, defined_slots}
 use Rattle.ax_fspec.specs.Reading.{IsMaskOf}
 use Rattle.ax_rows.specs.Rows.{HaveRow}
-use Rattle.ax_codec.specs.Meaning.{Meaning, linked_slot, linked_slots}
+use Rattle.ax_codec.specs.Meaning.{Meaning, linked_slots}
 use Rattle.ax_view.specs.Rows.{IsField, HaveRows, marks_of, slots_at}
 
 -- ---- the bits of presence octets

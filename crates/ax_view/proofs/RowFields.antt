@@ -1,5 +1,5 @@
 -- The rows of a presence field, one octet after the other.
-use Rattle.std.proofs.Common.{◌≡◌, ℕ, zero, suc, inl, inr, ◌+◌, ◌-◌, ◌*◌, ◌/◌, ◌%◌, ◌<◌, ◌≤◌, ◌⊎◌, Bool, IsTrue, Option, Some, None, IfSome, List, [], ◌∷◌, ◌++◌, length, take, drop, replicate, get_or, refl, sym, ◌∙◌, ap, arith, subst}
+use Rattle.std.proofs.Common.{◌≡◌, ℕ, inl, inr, ◌+◌, ◌-◌, ◌*◌, ◌/◌, ◌%◌, ◌<◌, ◌≤◌, ◌⊎◌, Bool, IsTrue, Option, Some, None, IfSome, List, ◌++◌, length, take, drop, replicate, get_or, sym, ◌∙◌, ap, arith, subst}
 use Rattle.std.proofs.lemmas.List.{drop-drop}
 use Rattle.ax_bits.specs.Bits.{bits, AreOctets}
 use Rattle.ax_fspec.proofs.FieldLaws.{one_set, prefix_free}
@@ -10,20 +10,20 @@ use Rattle.ax_format.specs.Canonical.{canon}
 use Rattle.ax_format.specs.InBounds.{InBounds}
 use Rattle.ax_format.specs.Presence.{octets_needed, none_marked}
 use Rattle.ax_format.specs.Reader.{got}
-use Rattle.ax_format.specs.Tree.{SlotsTree, no_entries}
+use Rattle.ax_format.specs.Tree.{no_entries}
 use Rattle.ax_fspec.proofs.AtOctets.{length-octets, octets_parts}
 use Rattle.ax_fspec.specs.Reading.{IsMaskOf, kind_read, entries_at}
 use Rattle.ax_rows.specs.Rows.{no_row, HaveRow, IsRow, AreRows}
 use Rattle.ax_rows.specs.declared.step.Step.{Step}
 use Rattle.ax_codec.specs.Meaning.{meanings, linked_slots}
-use Rattle.ax_codec.specs.Table.{SlotLinksWithin, record_kind_at}
+use Rattle.ax_codec.specs.Table.{record_kind_at}
 use Rattle.ax_codec.specs.declared.codec.Codec.{Codec}
 use Rattle.ax_codec.specs.declared.node.Node.{Node}
 use Rattle.ax_view.proofs.Compounds.{compound_leads}
 use Rattle.ax_view.proofs.FieldRows.{field_marks, field_marks_slots, none_after, marks_next}
 use Rattle.ax_view.proofs.Leading.{leads_on, leads_none}
 use Rattle.ax_view.proofs.MarkedSteps.{no_entries_left, along_none}
-use Rattle.ax_view.specs.Rows.{slots_read, tree_of, AreSlots, SlotsLead, IsField, HaveRows, WalksItems, marks_of, slots_at}
+use Rattle.ax_view.specs.Rows.{slots_read, tree_of, SlotsLead, IsField, HaveRows, WalksItems, marks_of, slots_at}
 use Rattle.ax_view.specs.Walking.{Walks, along, NeedsLast}
 
 lead_join : (nodes : List Node) (body : List ℕ) (s : ℕ) (links marks : List ℕ) (at t : ℕ) (mid mid_marks : List ℕ) (here : ℕ) (before : Bool) (u : ℕ) (later later_marks : List ℕ) (end : ℕ) (least : Bool) → (IsTrue least → IsTrue before)

@@ -1,22 +1,22 @@
 -- The lemma of a row.
-use Rattle.std.proofs.Common.{◌≡◌, ℕ, zero, suc, ◌+◌, ◌-◌, ◌*◌, ◌<◌, ◌≤◌, Bool, IsTrue, List, [], ◌∷◌, ◌++◌, length, take, drop, get_or, map, refl, sym, ◌∙◌, ap, arith, subst, append_assoc}
+use Rattle.std.proofs.Common.{◌≡◌, ℕ, zero, suc, ◌+◌, ◌-◌, ◌<◌, ◌≤◌, Bool, IsTrue, List, [], ◌∷◌, ◌++◌, length, drop, get_or, map, refl, sym, ◌∙◌, ap, arith, subst, append_assoc}
 use Rattle.ax_bits.specs.Bits.{bits}
 use Rattle.ax_format.specs.Canonical.{canon}
-use Rattle.ax_format.specs.InBounds.{InBounds, SlotsInBounds}
+use Rattle.ax_format.specs.InBounds.{InBounds}
 use Rattle.ax_fspec.proofs.Sets.{length-seven}
 use Rattle.ax_fspec.specs.Marks.{seven}
-use Rattle.ax_format.specs.Reader.{both, got, entries_read}
-use Rattle.ax_format.specs.Tree.{KindTree, EntriesTree, no_entries, entry_and, SlotsTree, no_slots, slot_and, SlotTree, spare_slot, subitem, slots_of}
+use Rattle.ax_format.specs.Reader.{both, entries_read}
+use Rattle.ax_format.specs.Tree.{KindTree, entry_and, SlotsTree, slot_and, subitem}
 use Rattle.ax_fspec.specs.Reading.{kind_read}
-use Rattle.ax_codec.specs.Meaning.{Meaning, meanings, kind_of, linked, linked_slot, linked_slots}
+use Rattle.ax_codec.specs.Meaning.{meanings, linked_slot}
 use Rattle.ax_codec.specs.Octets.{octets_of}
-use Rattle.ax_codec.specs.Table.{IsTable, SlotLinksWithin, kind_at}
+use Rattle.ax_codec.specs.Table.{IsTable, kind_at}
 use Rattle.ax_codec.specs.declared.node.Node.{Node}
 use Rattle.ax_view.proofs.Leading.{leads_none, leads_on, leads_by}
 use Rattle.ax_view.proofs.NodeKinds.{octets_walk}
 use Rattle.ax_view.specs.Walking.{Walks, Leads, along}
 use Rattle.ax_rows.specs.declared.step.Step.{Step}
-use Rattle.ax_rows.specs.Rows.{ending, slot_steps, mark_steps, row_of, no_step, CanBeMarked, HaveRow, Stands, IsRow}
+use Rattle.ax_rows.specs.Rows.{ending, slot_steps, row_of, no_step, HaveRow, Stands, IsRow}
 use Rattle.ax_view.specs.Rows.{slots_read, tree_of, AreSlots, SlotsLead}
 
 -- ---- the first step

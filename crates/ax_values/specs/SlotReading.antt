@@ -9,6 +9,10 @@ use Rattle.ax_values.specs.declared.error.DecodeError.{DecodeError}
 use Rattle.ax_values.specs.declared.error.DecodeError.TheVariants as Decoding
 use Rattle.ax_fspec.specs.Reading.{Gets, FailsAt, kind_read}
 
+-- a value of this kind was read from octet `at` of the body up to octet `end`
+abbrev pub IsValueRead : KindTree → List ℕ → ℕ → ℕ → ValueTree → Type 0
+IsValueRead k body at end v = Gets (kind_read k body at) body at end v
+
 -- a fault that the error names was met
 pub record HasFailed {A : Type 0} (found : Read A) (at : ℕ) (e : DecodeError) : Type 0 where
   pub met : (fault : BodyFault) → e ≡ Decoding.Fault fault → FailsAt found at fault
@@ -16,7 +20,7 @@ pub record HasFailed {A : Type 0} (found : Read A) (at : ℕ) (e : DecodeError) 
 -- an entry of this slot and number was read from octet `at` of the body up to octet `end`, and put after the others
 pub record Adds (k : KindTree) (number : ℕ) (body : List ℕ) (at end : ℕ) (old new : List Entry) : Type 0 where
   pub value : ValueTree
-  pub read : Gets (kind_read k body at) body at end value
+  pub read : IsValueRead k body at end value
   pub entries : map entry_tree new ≡ map entry_tree old ++ (number, value) ∷ []
 
 abbrev pub SlotAdds : SlotTree → ℕ → List ℕ → ℕ → ℕ → List Entry → List Entry → Type 0

@@ -1,17 +1,16 @@
 //! Octets to values, records and blocks.
-ghost use Rattle.std.specs.Prelude.{◌≡◌, ◌≢◌, ℕ, ◌<◌, ◌≤◌, List, length, IfOk, IfErr};
+ghost use Rattle.std.specs.Prelude.{◌≡◌, ℕ, ◌<◌, ◌≤◌, length, IfOk, IfErr};
 ghost use Rattle.ax_bits.specs.Bits.{bits};
-ghost use Rattle.ax_format.specs.Blocks.{read_block, opaque_block};
 ghost use Rattle.ax_format.specs.Bodies.{SpellsBody};
 ghost use Rattle.ax_format.specs.Flaws.{NoFlaw};
 ghost use Rattle.ax_format.specs.InBounds.{InBounds};
-ghost use Rattle.ax_format.specs.Plain.{kind_tree, value_tree, spec_tree, record_tree, records_tree, block_tree};
+ghost use Rattle.ax_format.specs.Plain.{kind_tree, value_tree, spec_tree, record_tree, records_tree};
 ghost use Rattle.ax_format.specs.Sizes.{longest_body};
 ghost use Rattle.ax_format.specs.Tree.{ValueTree, EntriesTree};
 ghost use Rattle.ax_format.specs.declared.fault.BodyFault.{BodyFault};
 ghost use Rattle.ax_fspec.specs.Honest.{SpellRecords, BeginWithValue, BeginWithRecord, IsHonest, IsHonestAt};
 ghost use Rattle.ax_fspec.specs.Reading.{IsSpelledAt, IsFaultAt, IsMaskOf, record_slot_list};
-ghost use Rattle.ax_values.specs.Decoding.{IsRecordAt, IsRecordFaultAt, IsReadOf, IsBodyFault, IsOrMemory, AnswersFault, IsFaultOf};
+ghost use Rattle.ax_values.specs.Decoding.{IsRecordAt, IsRecordFaultAt, IsBodyFault, AnswersFault, IsFaultOf, AnswersValue, AnswersRecord, AnswersOther, AnswersSpelled, AnswersFaulty, IsDecoded};
 
 use crate::error::DecodeError;
 use crate::kinds::decode_value;
@@ -41,7 +40,7 @@ pub fn decode_kind(
     ensures value { IfOk result (λ r. IsSpelledAt (kind_tree kind.now) body.now at r.1 (value_tree r.0)) }
     ensures fault { IfErr result (IsFaultOf (IsFaultAt (kind_tree kind.now) body.now at)) }
     ensures honest { IfErr result (IsFaultOf (IsHonestAt (BeginWithValue (kind_tree kind.now)) body.now at)) }
-    ensures where_spelled { (v : ValueTree) (end : ℕ) → IsSpelledAt (kind_tree kind.now) body.now at end v → IsOrMemory (λ r. (value_tree r.0 ≡ v) × (r.1 ≡ end)) result }
+    ensures where_spelled { (v : ValueTree) (end : ℕ) → IsSpelledAt (kind_tree kind.now) body.now at end v → AnswersValue v end result }
     ensures where_faulty { (fault : BodyFault) → IsFaultAt (kind_tree kind.now) body.now at fault → AnswersFault fault result }
 {
     decode_value(alloc, kind, body, at)
@@ -62,7 +61,7 @@ pub fn decode_record(
     ensures record { IfOk result (λ r. IsRecordAt (spec_tree spec.now) body.now at r.1 (record_tree r.0)) }
     ensures fault { IfErr result (IsFaultOf (IsRecordFaultAt (spec_tree spec.now) body.now at)) }
     ensures honest { IfErr result (IsFaultOf (IsHonestAt (BeginWithRecord (spec_tree spec.now)) body.now at)) }
-    ensures where_spelled { (entries : EntriesTree) (end : ℕ) → IsRecordAt (spec_tree spec.now) body.now at end entries → IsOrMemory (λ r. (record_tree r.0 ≡ entries) × (r.1 ≡ end)) result }
+    ensures where_spelled { (es : EntriesTree) (end : ℕ) → IsRecordAt (spec_tree spec.now) body.now at end es → AnswersRecord es end result }
     ensures where_faulty { (fault : BodyFault) → IsRecordFaultAt (spec_tree spec.now) body.now at fault → AnswersFault fault result }
 {
     decode_masked(alloc, spec, &record_mask(spec), body, at)
@@ -78,12 +77,12 @@ pub fn decode_record(
 /// that spell records: none of them tells a fault.
 pub fn decode_block(alloc: Global, spec: &Spec, raw: &RawBlock<'_>) -> Result<Block, DecodeError>
     requires spec { NoFlaw (spec_tree spec.now) }
-    ensures opaque { raw.now.category ≢ spec.now.category → IsOrMemory (λ block. block_tree block ≡ opaque_block raw.now.category raw.now.body.now) result }
-    ensures read { raw.now.category ≡ spec.now.category → IfOk result (λ block. IsReadOf (spec_tree spec.now) raw.now.category raw.now.body.now (block_tree block)) }
+    ensures opaque { AnswersOther spec.now raw.now.category raw.now.body.now result }
+    ensures read { raw.now.category ≡ spec.now.category → IfOk result (IsDecoded spec.now raw.now.category raw.now.body.now) }
     ensures fault { IfErr result (IsFaultOf (λ fault. (raw.now.category ≡ spec.now.category) × IsBodyFault (spec_tree spec.now) raw.now.body.now fault)) }
     ensures honest { IfErr result (IsFaultOf (λ fault. IsHonest (SpellRecords (spec_tree spec.now)) raw.now.body.now fault.bit fault.cause)) }
-    ensures where_spelled { (records : List EntriesTree) → raw.now.category ≡ spec.now.category → SpellsBody (spec_tree spec.now) records (bits raw.now.body.now) → IsOrMemory (λ block. block_tree block ≡ read_block raw.now.category records) result }
-    ensures where_faulty { (fault : BodyFault) → raw.now.category ≡ spec.now.category → IsBodyFault (spec_tree spec.now) raw.now.body.now fault → AnswersFault fault result }
+    ensures where_spelled { AnswersSpelled spec.now raw.now.category raw.now.body.now result }
+    ensures where_faulty { AnswersFaulty spec.now raw.now.category raw.now.body.now result }
 {
     if raw.category != spec.category {
         let octets = Octets::of(alloc, raw.body)?;
@@ -132,7 +131,7 @@ fn decode_masked(
     requires at { at ≤ length body.now }
     ensures record { IfOk result (λ r. IsRecordAt (spec_tree spec.now) body.now at r.1 (record_tree r.0)) }
     ensures fault { IfErr result (IsFaultOf (IsRecordFaultAt (spec_tree spec.now) body.now at)) }
-    ensures where_spelled { (entries : EntriesTree) (end : ℕ) → IsRecordAt (spec_tree spec.now) body.now at end entries → IsOrMemory (λ r. (record_tree r.0 ≡ entries) × (r.1 ≡ end)) result }
+    ensures where_spelled { (es : EntriesTree) (end : ℕ) → IsRecordAt (spec_tree spec.now) body.now at end es → AnswersRecord es end result }
     ensures where_faulty { (fault : BodyFault) → IsRecordFaultAt (spec_tree spec.now) body.now at fault → AnswersFault fault result }
 {
     decode_entries(alloc, spec, mask, body, at)

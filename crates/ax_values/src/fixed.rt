@@ -5,8 +5,9 @@ ghost use Rattle.ax_format.specs.Reader.{fixed_value, members_value};
 ghost use Rattle.ax_format.specs.InBounds.{IsWidth, FixedInBounds, MembersInBounds};
 ghost use Rattle.ax_format.specs.Plain.{fixed_tree, member_tree, members_tree, value_tree, values_tree};
 ghost use Rattle.ax_format.specs.Sizes.{longest_body};
-ghost use Rattle.ax_format.specs.Tree.{number, member_and, no_members, value_and, no_values};
+ghost use Rattle.ax_format.specs.Tree.{number};
 ghost use Rattle.ax_format.specs.Widths.{width, members_width};
+ghost use Rattle.ax_values.specs.Members.{member_alone, IsMemberValue};
 
 use ax_bits::bits_at;
 use ax_format::{Fixed, Member, Members, Value, Values};
@@ -78,11 +79,11 @@ fn decode_member(
     body: &[u8],
     at: &mut u32,
 ) -> Result<Value, AllocError>
-    requires bounds { MembersInBounds (member_and (member_tree member.now) no_members) }
-    requires within { at.old + members_width (member_and (member_tree member.now) no_members) ≤ 8 * length body.now }
+    requires bounds { MembersInBounds (member_alone (member_tree member.now)) }
+    requires within { at.old + members_width (member_alone (member_tree member.now)) ≤ 8 * length body.now }
     requires body { length body.now ≤ longest_body }
-    ensures value { IfOk result (λ value. value_and (value_tree value) no_values ≡ members_value (member_and (member_tree member.now) no_members) (drop at.old (bits body.now))) }
-    ensures at { OnOk result (at.new ≡ at.old + members_width (member_and (member_tree member.now) no_members)) }
+    ensures value { IfOk result (λ value. IsMemberValue (member_tree member.now) (drop at.old (bits body.now)) (value_tree value)) }
+    ensures at { OnOk result (at.new ≡ at.old + members_width (member_alone (member_tree member.now))) }
 {
     match member {
         Member::Named { fixed, .. } => decode_fixed(alloc, fixed, body, at),

@@ -1,9 +1,9 @@
 //! How many octets the canonical form of a block has, over the items of a UAP. Nothing here takes memory.
 ghost use Rattle.std.specs.Prelude.{◌≡◌};
-ghost use Rattle.ax_format.specs.Lengths.{capped, octets, octets_where, slot_kind, presence_octets, record_octets, records_octets};
+ghost use Rattle.ax_format.specs.Lengths.{capped, octets, octets_where, presence_octets, record_octets, records_octets};
 ghost use Rattle.ax_format.specs.OfCode.{BlockFits, HasNoFlaw, block_length};
-ghost use Rattle.ax_format.specs.Plain.{spec_tree, value_tree};
-ghost use Rattle.ax_format.specs.Specification.{record_slots};
+ghost use Rattle.ax_format.specs.Plain.{value_tree};
+ghost use Rattle.ax_values.specs.Writing.{item_kind};
 
 use ax_format::{Block, Entry, Record, octets_of};
 use ax_uap::UapItems;
@@ -17,7 +17,7 @@ fn presence_octets_of(last: u32) -> u64
 
 #[tactic(auto, using(ax_format::proofs::Counting::item_kinds))]
 fn octets_of_item(items: &UapItems<'_>, entry: &Entry) -> u64
-    ensures { result ≡ capped (octets_where (slot_kind (record_slots (spec_tree items.now.spec.now)) entry.now.slot) (octets (value_tree entry.now.value))) }
+    ensures { result ≡ capped (octets_where (item_kind items.now.spec.now entry.now.slot) (octets (value_tree entry.now.value))) }
 {
     match items.item(entry.slot) {
         Some(item) => octets_of(&entry.value, &item.kind),

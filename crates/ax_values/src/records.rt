@@ -7,7 +7,7 @@ ghost use Rattle.ax_format.specs.Sizes.{longest_body};
 ghost use Rattle.ax_format.specs.Specification.{record_slots, record_kind};
 ghost use Rattle.ax_format.specs.Tree.{marked};
 ghost use Rattle.ax_fspec.specs.Reading.{Gets, IsMaskOf, SlotInBounds, is_subitem, record_slot_list, slot_of_frn, kind_read, entries_at};
-ghost use Rattle.ax_values.specs.SlotReading.{HasFailed, IsSlotRead, HasSlotFailed};
+ghost use Rattle.ax_values.specs.SlotReading.{HasFailed, IsSlotRead, HasSlotFailed, IsValueRead};
 
 use crate::error::DecodeError;
 use crate::kinds::decode_value;
@@ -51,7 +51,7 @@ pub(crate) fn decode_entries(
     requires mask { IsMaskOf (record_slot_list (spec_tree spec.now)) mask.now }
     requires body { length body.now ≤ longest_body }
     requires at { at ≤ length body.now }
-    ensures ok { IfOk result (λ r. Gets (kind_read (record_kind (spec_tree spec.now)) body.now at) body.now at r.1 (marked (record_tree r.0))) }
+    ensures ok { IfOk result (λ r. IsValueRead (record_kind (spec_tree spec.now)) body.now at r.1 (marked (record_tree r.0))) }
     ensures err { IfErr result (λ e. HasFailed (kind_read (record_kind (spec_tree spec.now)) body.now at) at e) }
 {
     let mut marked = Presence::empty();

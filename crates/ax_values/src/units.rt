@@ -6,8 +6,8 @@ ghost use Rattle.ax_format.specs.Plain.{fixed_tree, part_tree, value_tree, value
 ghost use Rattle.ax_format.specs.Sizes.{longest_body};
 ghost use Rattle.ax_format.specs.Tree as Tree;
 ghost use Rattle.ax_format.specs.declared.fault.BodyCause.TheVariants as Cause;
-ghost use Rattle.ax_fspec.specs.Reading.{Gets, kind_read};
-ghost use Rattle.ax_values.specs.SlotReading.{HasFailed};
+ghost use Rattle.ax_fspec.specs.Reading.{kind_read};
+ghost use Rattle.ax_values.specs.SlotReading.{HasFailed, IsValueRead};
 
 use crate::error::DecodeError;
 use crate::fixed::{decode_fixed, decode_members};
@@ -46,7 +46,7 @@ pub(crate) fn decode_single(
     requires bounds { InBounds (Tree.fixed (fixed_tree fixed.now)) }
     requires body { length body.now ≤ longest_body }
     requires at { at ≤ length body.now }
-    ensures ok { IfOk result (λ r. Gets (kind_read (Tree.fixed (fixed_tree fixed.now)) body.now at) body.now at r.1 (value_tree r.0)) }
+    ensures ok { IfOk result (λ r. IsValueRead (Tree.fixed (fixed_tree fixed.now)) body.now at r.1 (value_tree r.0)) }
     ensures err { IfErr result (λ e. HasFailed (kind_read (Tree.fixed (fixed_tree fixed.now)) body.now at) at e) }
 {
     let end = unit_end(body, at, fixed.width() as u32)?;
@@ -67,7 +67,7 @@ pub(crate) fn decode_parts(
     requires bounds { InBounds (Tree.extended last (map part_tree parts.now)) }
     requires body { length body.now ≤ longest_body }
     requires at { at ≤ length body.now }
-    ensures ok { IfOk result (λ r. Gets (kind_read (Tree.extended last (map part_tree parts.now)) body.now at) body.now at r.1 (Tree.part_values (lists_tree r.0))) }
+    ensures ok { IfOk result (λ r. IsValueRead (Tree.extended last (map part_tree parts.now)) body.now at r.1 (Tree.part_values (lists_tree r.0))) }
     ensures err { IfErr result (λ e. HasFailed (kind_read (Tree.extended last (map part_tree parts.now)) body.now at) at e) }
 {
     let mut left = PartsLeft::of(last, parts.as_slice(), body, at);
@@ -91,7 +91,7 @@ pub(crate) fn decode_run(
     requires bounds { InBounds (Tree.by_fx (fixed_tree fixed.now)) }
     requires body { length body.now ≤ longest_body }
     requires at { at ≤ length body.now }
-    ensures ok { IfOk result (λ r. Gets (kind_read (Tree.by_fx (fixed_tree fixed.now)) body.now at) body.now at r.1 (Tree.occurrences (values_tree r.0))) }
+    ensures ok { IfOk result (λ r. IsValueRead (Tree.by_fx (fixed_tree fixed.now)) body.now at r.1 (Tree.occurrences (values_tree r.0))) }
     ensures err { IfErr result (λ e. HasFailed (kind_read (Tree.by_fx (fixed_tree fixed.now)) body.now at) at e) }
 {
     let width = fixed.width() as u32;

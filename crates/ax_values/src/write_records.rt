@@ -5,10 +5,9 @@ ghost use Rattle.ax_bits.specs.Out.{Appends, room};
 ghost use Rattle.ax_format.specs.Bodies.{RecordShape, CanonRecord, CanonBody};
 ghost use Rattle.ax_format.specs.Canonical.{entries_canon};
 ghost use Rattle.ax_format.specs.Flaws.{NoFlaw};
-ghost use Rattle.ax_format.specs.Lengths.{slot_kind};
 ghost use Rattle.ax_format.specs.Plain.{spec_tree, value_tree, entries_tree, record_tree, records_tree};
 ghost use Rattle.ax_format.specs.Specification.{record_slots};
-ghost use Rattle.ax_values.specs.Writing.{EntryShape, entry_canon, AreEntriesOf};
+ghost use Rattle.ax_values.specs.Writing.{EntryShape, entry_canon, AreEntriesOf, item_kind};
 
 use crate::marks::entry_marks;
 use crate::write_kinds::write_value;
@@ -50,9 +49,9 @@ fn write_items(entries: &Entries, items: &UapItems<'_>, out: &mut Out<'_>)
 }
 
 fn write_item(entry: &Entry, items: &UapItems<'_>, out: &mut Out<'_>)
-    requires shape { EntryShape (slot_kind (record_slots (spec_tree items.now.spec.now)) entry.now.slot) (value_tree entry.now.value) }
-    requires room { length (entry_canon (slot_kind (record_slots (spec_tree items.now.spec.now)) entry.now.slot) (value_tree entry.now.value)) ≤ room out.old }
-    ensures { Appends out.old out.new (entry_canon (slot_kind (record_slots (spec_tree items.now.spec.now)) entry.now.slot) (value_tree entry.now.value)) }
+    requires shape { EntryShape (item_kind items.now.spec.now entry.now.slot) (value_tree entry.now.value) }
+    requires room { length (entry_canon (item_kind items.now.spec.now entry.now.slot) (value_tree entry.now.value)) ≤ room out.old }
+    ensures { Appends out.old out.new (entry_canon (item_kind items.now.spec.now entry.now.slot) (value_tree entry.now.value)) }
 {
     if let Some(item) = items.item(entry.slot) {
         write_value(&entry.value, &item.kind, out);

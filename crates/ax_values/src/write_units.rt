@@ -7,8 +7,8 @@ ghost use Rattle.ax_format.specs.Canonical.{number_canon, fixed_canon, members_c
 ghost use Rattle.ax_format.specs.InBounds.{IsWidth, FixedInBounds, MembersInBounds, PartsInBounds};
 ghost use Rattle.ax_format.specs.Plain.{fixed_tree, member_tree, members_tree, part_tree, value_tree, values_tree, lists_tree};
 ghost use Rattle.ax_format.specs.Shape.{NumberShape, FixedShape, MembersShape, PartsShape, EachShape};
-ghost use Rattle.ax_format.specs.Tree.{member_and, no_members, value_and, no_values};
 ghost use Rattle.ax_fspec.specs.Reading.{fx_bit};
+ghost use Rattle.ax_values.specs.Members.{member_alone, value_alone};
 
 use ax_bits::Out;
 use ax_format::{Fixed, LastPart, Lists, Member, Members, Parts, Value, Values};
@@ -63,10 +63,10 @@ pub(crate) fn write_members(values: &Values, members: &Members, out: &mut Out<'_
 
 #[cycle(write_fixed)]
 fn write_member(value: &Value, member: &Member, out: &mut Out<'_>)
-    requires bounds { MembersInBounds (member_and (member_tree member.now) no_members) }
-    requires shape { MembersShape (member_and (member_tree member.now) no_members) (value_and (value_tree value.now) no_values) }
-    requires room { length (members_canon (member_and (member_tree member.now) no_members) (value_and (value_tree value.now) no_values)) ≤ room out.old }
-    ensures { Appends out.old out.new (members_canon (member_and (member_tree member.now) no_members) (value_and (value_tree value.now) no_values)) }
+    requires bounds { MembersInBounds (member_alone (member_tree member.now)) }
+    requires shape { MembersShape (member_alone (member_tree member.now)) (value_alone (value_tree value.now)) }
+    requires room { length (members_canon (member_alone (member_tree member.now)) (value_alone (value_tree value.now))) ≤ room out.old }
+    ensures { Appends out.old out.new (members_canon (member_alone (member_tree member.now)) (value_alone (value_tree value.now))) }
 {
     match member {
         Member::Named { fixed, .. } => write_fixed(value, fixed, out),

@@ -5,6 +5,7 @@ use Rattle.ax_bits.specs.Bits.{signed}
 use Rattle.ax_format.specs.Signs.{by_sign}
 use Rattle.ax_format.specs.declared.content.Content.{Content}
 use Rattle.ax_format.specs.declared.content.Content.TheVariants.{Raw, Table, Ascii, Icao, Octal, Integer, Quantity}
+use Rattle.ax_format.specs.declared.content.Scale.{Scale}
 use Rattle.ax_format.specs.declared.content.Sign.TheVariants.{Unsigned, Signed}
 use Rattle.ax_format.specs.declared.content.TableText.{TableText}
 use Rattle.ax_tokens.specs.Octets.{quote}
@@ -48,6 +49,10 @@ abbrev pub multiple_text : ℤ → ℕ → ℕ → List ℕ
 multiple_text (pos n) num den = reduced_text (n * num) den
 multiple_text (negsuc n) num den = codes "-" ++ reduced_text (suc n * num) den
 
+-- the number that w bits spell as n, by the scale's sign and fraction: a multiple of its unit
+abbrev pub scaled_text : Scale → ℕ → ℕ → List ℕ
+scaled_text scale w n = multiple_text (by_sign scale.sign w n) scale.num scale.den
+
 -- ---- contents
 
 abbrev pub entry_remark : Option TableText → List ℕ
@@ -63,7 +68,7 @@ remark w Icao n = codes " " ++ quoted (map icao_character (pieces_of 6 (w / 6) n
 remark w Octal n = codes " " ++ quoted (map octal_digit (pieces_of 3 (w / 3) n))
 remark w (Integer Unsigned) n = []
 remark w (Integer Signed) n = codes " " ++ signed_decimal (signed w n)
-remark w (Quantity scale) n = codes " " ++ multiple_text (by_sign scale.sign w n) scale.num scale.den ++ codes " " ++ quoted scale.unit
+remark w (Quantity scale) n = codes " " ++ scaled_text scale w n ++ codes " " ++ quoted scale.unit
 
 -- ---- the alphabets of the code
 

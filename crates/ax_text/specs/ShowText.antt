@@ -7,6 +7,7 @@ use Rattle.ax_format.specs.Lengths.{capped}
 use Rattle.ax_format.specs.Paths.{three_digits, at}
 use Rattle.ax_format.specs.Specification.{SpecTree, record_slots}
 use Rattle.ax_format.specs.Tree.{FixedTree, element, group, MembersTree, member_and, MemberTree, named, spare, KindTree, fixed, extended, counted, by_fx, explicit, compound, SlotsTree, no_slots, slot_and, spare_slot, subitem, ValueTree, number, member_values, part_values, occurrences, content_octets, marked, ValuesTree, no_values, value_and, value_count, ListsTree, list_and, EntriesTree, no_entries, entry_and}
+use Rattle.ax_format.specs.declared.content.Content.{Content}
 use Rattle.ax_text.specs.Printing.{as_lines}
 use Rattle.ax_text.specs.Remarks.{remark}
 use Rattle.ax_text.specs.ValueText.{Texts, hex_text}
@@ -15,6 +16,10 @@ use Rattle.ax_text.specs.ValueText.{Texts, hex_text}
 
 abbrev pub number_line : List ℕ → ℕ → List ℕ
 number_line path n = path ++ codes " = " ++ decimal n
+
+-- an element of w bits that spell n: the number, and what it means
+abbrev pub element_line : ℕ → Content → List ℕ → ℕ → List ℕ
+element_line w c path n = number_line path n ++ remark w c n
 
 -- how many there are of what the word says
 abbrev pub count_line : List ℕ → List ℕ → ℕ → List ℕ
@@ -28,7 +33,7 @@ content_line path octets = path ++ codes " octets " ++ hex_text octets
 abbrev mutual
   -- an element is its number and what that means; a group is its members
   pub fixed_lines : FixedTree → List ℕ → ValueTree → Texts → Texts
-  fixed_lines (element w c) path (number n) rest = (number_line path n ++ remark w c n) ∷ rest
+  fixed_lines (element w c) path (number n) rest = element_line w c path n ∷ rest
   fixed_lines (group ms) path (member_values vs) rest = members_lines ms path vs rest
   fixed_lines _ path _ rest = rest
 
@@ -48,6 +53,10 @@ abbrev pub parts_lines : List MembersTree → List ℕ → ListsTree → Texts �
 parts_lines (p ∷ ps) path (list_and vs ls) rest = members_lines p path vs (parts_lines ps path ls rest)
 parts_lines _ path _ rest = rest
 
+-- how many parts are present, and their members
+abbrev pub extended_lines : List MembersTree → List ℕ → ListsTree → Texts → Texts
+extended_lines ps path ls rest = count_line path (codes "parts") (list_count ls) ∷ parts_lines ps path ls rest
+
 -- the path of an occurrence, which is numbered from 0
 abbrev pub occurrence : List ℕ → ℕ → List ℕ
 occurrence path i = path ++ codes "[" ++ decimal i ++ codes "]"
@@ -57,6 +66,10 @@ abbrev pub each_lines : (List ℕ → ValueTree → Texts → Texts) → List �
 each_lines lines path i no_values rest = rest
 each_lines lines path i (value_and v vs) rest = lines (occurrence path i) v (each_lines lines path (i + 1) vs rest)
 
+-- how many occurrences there are, and each of them
+abbrev pub repeated_lines : (List ℕ → ValueTree → Texts → Texts) → List ℕ → ValuesTree → Texts → Texts
+repeated_lines lines path vs rest = count_line path (codes "occurrences") (value_count vs) ∷ each_lines lines path 0 vs rest
+
 abbrev pub entry_count : EntriesTree → ℕ
 entry_count no_entries = 0
 entry_count (entry_and t v es) = entry_count es + 1
@@ -64,9 +77,9 @@ entry_count (entry_and t v es) = entry_count es + 1
 abbrev mutual
   pub kind_lines : KindTree → List ℕ → ValueTree → Texts → Texts
   kind_lines (fixed f) path v rest = fixed_lines f path v rest
-  kind_lines (extended last ps) path (part_values ls) rest = count_line path (codes "parts") (list_count ls) ∷ parts_lines ps path ls rest
-  kind_lines (counted size k) path (occurrences vs) rest = count_line path (codes "occurrences") (value_count vs) ∷ each_lines (kind_lines k) path 0 vs rest
-  kind_lines (by_fx f) path (occurrences vs) rest = count_line path (codes "occurrences") (value_count vs) ∷ each_lines (fixed_lines f) path 0 vs rest
+  kind_lines (extended last ps) path (part_values ls) rest = extended_lines ps path ls rest
+  kind_lines (counted size k) path (occurrences vs) rest = repeated_lines (kind_lines k) path vs rest
+  kind_lines (by_fx f) path (occurrences vs) rest = repeated_lines (fixed_lines f) path vs rest
   kind_lines explicit path (content_octets xs) rest = content_line path xs ∷ rest
   kind_lines (compound ss) path (marked es) rest = count_line path (codes "subitems") (entry_count es) ∷ entries_lines path 1 ss es rest
   kind_lines _ path _ rest = rest

@@ -1,8 +1,10 @@
 -- Members with their values, and the slots of a compound or of a record by their numbers, from 1.
 use Rattle.std.specs.Prelude.{ℕ, zero, suc, List, ◌∷◌, Option, Some, None}
 use Rattle.ax_format.specs.Paths.{at}
+use Rattle.ax_format.specs.Plain.{value_tree}
 use Rattle.ax_format.specs.Shape.{NumberShape, FixedShape, Shape}
 use Rattle.ax_format.specs.Tree.{MemberTree, named, spare, SlotTree, SlotsTree, no_slots, slot_and, spare_slot, subitem, ValueTree}
+use Rattle.ax_format.specs.declared.value.Entry.{Entry}
 use Rattle.ax_text.specs.ShowText.{kind_lines}
 use Rattle.ax_text.specs.ValueText.{Texts, kind_onto}
 
@@ -38,3 +40,11 @@ slot_onto (subitem name k) v rest = name ∷ kind_onto k v rest
 abbrev pub slot_lines : List ℕ → SlotTree → ValueTree → Texts → Texts
 slot_lines path spare_slot v rest = rest
 slot_lines path (subitem name k) v rest = kind_lines k (at path name) v rest
+
+-- ---- entries of a compound or of a record, by these slots
+
+abbrev pub entry_onto : SlotsTree → Entry → Texts → Texts
+entry_onto ss entry = slot_onto (slot_numbered ss entry.slot) (value_tree entry.value)
+
+abbrev pub entry_lines : List ℕ → SlotsTree → Entry → Texts → Texts
+entry_lines path ss entry = slot_lines path (slot_numbered ss entry.slot) (value_tree entry.value)

@@ -5,8 +5,8 @@ ghost use Rattle.ax_format.specs.Plain.{fixed_tree, part_tree, kind_tree, slot_t
 ghost use Rattle.ax_format.specs.Shape.{Shape, EachShape, EntriesShape};
 ghost use Rattle.ax_format.specs.Tree.{counted, occurrences};
 ghost use Rattle.ax_format.specs.declared.kind.Counter.{Counter};
-ghost use Rattle.ax_text.specs.Printing.{after_spaces, Puts};
-ghost use Rattle.ax_text.specs.Slots.{slot_numbered, or_spare, SlotShape, slot_onto};
+ghost use Rattle.ax_text.specs.Printing.{PutsTexts};
+ghost use Rattle.ax_text.specs.Slots.{slot_numbered, or_spare, SlotShape, entry_onto};
 ghost use Rattle.ax_text.specs.ValueText.{in_braces, fixed_onto, part_onto, parts_onto, each_onto, kind_onto, entries_onto};
 
 use crate::printer::Printer;
@@ -17,7 +17,7 @@ impl Printer {
     /// The parts that are present.
     #[tactic(auto, using(crate::proofs::KindWays::parts_ways))]
     fn parts(&mut self, lists: &Lists, parts: &Parts) -> Result<(), AllocError>
-        ensures { OnOk result (Puts after_spaces (parts_onto (map part_tree parts.now) (lists_tree lists.now)) self.old.out.items self.new.out.items) }
+        ensures { OnOk result (PutsTexts (parts_onto (map part_tree parts.now) (lists_tree lists.now)) self.old self.new) }
     {
         for (part, values) in parts.as_slice().iter().zip(lists.as_slice()) {
             self.part(values, part)?;
@@ -26,7 +26,7 @@ impl Printer {
     }
 
     fn part(&mut self, values: &Values, part: &Part) -> Result<(), AllocError>
-        ensures { OnOk result (Puts after_spaces (part_onto (part_tree part.now) (values_tree values.now)) self.old.out.items self.new.out.items) }
+        ensures { OnOk result (PutsTexts (part_onto (part_tree part.now) (values_tree values.now)) self.old self.new) }
     {
         self.text(b"part")?;
         self.text(b"{")?;
@@ -37,7 +37,7 @@ impl Printer {
     /// The occurrences by FX.
     #[tactic(auto, using(crate::proofs::KindWays::run_ways))]
     fn run(&mut self, values: &Values, fixed: &Fixed) -> Result<(), AllocError>
-        ensures { OnOk result (Puts after_spaces (each_onto (fixed_onto (fixed_tree fixed.now)) (values_tree values.now)) self.old.out.items self.new.out.items) }
+        ensures { OnOk result (PutsTexts (each_onto (fixed_onto (fixed_tree fixed.now)) (values_tree values.now)) self.old self.new) }
     {
         for value in values.as_slice() {
             self.fixed(value, fixed)?;
@@ -50,7 +50,7 @@ impl Printer {
     #[tactic(auto, using(crate::proofs::KindWays::kind_ways))]
     pub(crate) fn kind(&mut self, value: &Value, kind: &Kind) -> Result<(), AllocError>
         requires { Shape (kind_tree kind.now) (value_tree value.now) }
-        ensures { OnOk result (Puts after_spaces (kind_onto (kind_tree kind.now) (value_tree value.now)) self.old.out.items self.new.out.items) }
+        ensures { OnOk result (PutsTexts (kind_onto (kind_tree kind.now) (value_tree value.now)) self.old self.new) }
     {
         match (value, kind) {
             (value, Kind::Fixed(fixed)) => self.fixed(value, fixed),
@@ -83,7 +83,7 @@ impl Printer {
     #[tactic(auto, using(crate::proofs::KindWays::kind_ways))]
     fn counted(&mut self, values: &Values, inner: &Kind) -> Result<(), AllocError>
         requires { (size : Counter) × Shape (counted size (kind_tree inner.now)) (occurrences (values_tree values.now)) }
-        ensures { OnOk result (Puts after_spaces (in_braces (each_onto (kind_onto (kind_tree inner.now)) (values_tree values.now))) self.old.out.items self.new.out.items) }
+        ensures { OnOk result (PutsTexts (in_braces (each_onto (kind_onto (kind_tree inner.now)) (values_tree values.now))) self.old self.new) }
     {
         self.text(b"{")?;
         self.each(values, inner)?;
@@ -95,7 +95,7 @@ impl Printer {
     #[tactic(auto, using(crate::proofs::KindWays::each_ways))]
     fn each(&mut self, values: &Values, kind: &Kind) -> Result<(), AllocError>
         requires { EachShape (Shape (kind_tree kind.now)) (values_tree values.now) }
-        ensures { OnOk result (Puts after_spaces (each_onto (kind_onto (kind_tree kind.now)) (values_tree values.now)) self.old.out.items self.new.out.items) }
+        ensures { OnOk result (PutsTexts (each_onto (kind_onto (kind_tree kind.now)) (values_tree values.now)) self.old self.new) }
     {
         for value in values.as_slice() {
             self.kind(value, kind)?;
@@ -108,7 +108,7 @@ impl Printer {
     #[tactic(auto, using(crate::proofs::EntryWays::entries_ways))]
     fn entries(&mut self, entries: &Entries, slots: &Slots) -> Result<(), AllocError>
         requires { EntriesShape 1 (slots_tree slots.now) (entries_tree entries.now) }
-        ensures { OnOk result (Puts after_spaces (entries_onto 1 (slots_tree slots.now) (entries_tree entries.now)) self.old.out.items self.new.out.items) }
+        ensures { OnOk result (PutsTexts (entries_onto 1 (slots_tree slots.now) (entries_tree entries.now)) self.old self.new) }
     {
         for entry in entries.as_slice() {
             self.entry(entry, slots)?;
@@ -120,7 +120,7 @@ impl Printer {
     #[tactic(auto, using(crate::proofs::EntryWays::entry_ways))]
     fn entry(&mut self, entry: &Entry, slots: &Slots) -> Result<(), AllocError>
         requires { SlotShape (slot_numbered (slots_tree slots.now) entry.now.slot) (value_tree entry.now.value) }
-        ensures { OnOk result (Puts after_spaces (slot_onto (slot_numbered (slots_tree slots.now) entry.now.slot) (value_tree entry.now.value)) self.old.out.items self.new.out.items) }
+        ensures { OnOk result (PutsTexts (entry_onto (slots_tree slots.now) entry.now) self.old self.new) }
     {
         if let Some(Slot::Sub { name, kind }) = slot_of(slots, entry.slot) {
             self.text(name.octets())?;

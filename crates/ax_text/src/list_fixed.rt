@@ -1,12 +1,11 @@
 //! The lines of fixed kinds: elements, groups and their members.
-ghost use Rattle.std.specs.Prelude.{◌≡◌, ◌<◌, ◌^◌, ◌++◌, OnOk};
+ghost use Rattle.std.specs.Prelude.{◌≡◌, ◌<◌, ◌^◌, OnOk};
 ghost use Rattle.ax_format.specs.InBounds.{IsWidth};
 ghost use Rattle.ax_format.specs.Plain.{fixed_tree, member_tree, members_tree, value_tree, values_tree};
 ghost use Rattle.ax_format.specs.Shape.{FixedShape, MembersShape};
 ghost use Rattle.ax_text.specs.Listable.{ContentListable, FixedListable, MemberListable, MembersListable};
-ghost use Rattle.ax_text.specs.Printing.{as_lines, Puts};
-ghost use Rattle.ax_text.specs.Remarks.{remark};
-ghost use Rattle.ax_text.specs.ShowText.{number_line, fixed_lines, member_lines, members_lines};
+ghost use Rattle.ax_text.specs.Printing.{PutsLines};
+ghost use Rattle.ax_text.specs.ShowText.{number_line, fixed_lines, member_lines, members_lines, element_line};
 ghost use Rattle.ax_text.specs.Slots.{MemberShape};
 ghost use Rattle.ax_text.specs.ValueText.{one_onto};
 
@@ -27,7 +26,7 @@ impl Lister {
         requires width { IsWidth width }
         requires content { ContentListable width content.now }
         requires fits { number < 2 ^ width }
-        ensures { OnOk result (Puts as_lines (one_onto (number_line path.now number ++ remark width content.now number)) self.old.out self.new.out) }
+        ensures { OnOk result (PutsLines (one_onto (element_line width content.now path.now number)) self.old self.new) }
     {
         self.number(number, path)?;
         self.remark(number, width, content)?;
@@ -36,7 +35,7 @@ impl Lister {
 
     /// The line of spare bits.
     fn spare(&mut self, number: u128, path: &[u8]) -> Result<(), AllocError>
-        ensures { OnOk result (Puts as_lines (one_onto (number_line path.now number)) self.old.out self.new.out) }
+        ensures { OnOk result (PutsLines (one_onto (number_line path.now number)) self.old self.new) }
     {
         self.number(number, path)?;
         self.octet(b'\n')
@@ -51,7 +50,7 @@ impl Lister {
     ) -> Result<(), AllocError>
         requires listable { FixedListable (fixed_tree fixed.now) }
         requires shape { FixedShape (fixed_tree fixed.now) (value_tree value.now) }
-        ensures { OnOk result (Puts as_lines (fixed_lines (fixed_tree fixed.now) path.now (value_tree value.now)) self.old.out self.new.out) }
+        ensures { OnOk result (PutsLines (fixed_lines (fixed_tree fixed.now) path.now (value_tree value.now)) self.old self.new) }
     {
         match (value, fixed) {
             (Value::Number(number), Fixed::Element { width, content }) => {
@@ -66,7 +65,7 @@ impl Lister {
     fn member(&mut self, value: &Value, member: &Member, path: &[u8]) -> Result<(), AllocError>
         requires listable { MemberListable (member_tree member.now) }
         requires shape { MemberShape (member_tree member.now) (value_tree value.now) }
-        ensures { OnOk result (Puts as_lines (member_lines (member_tree member.now) path.now (value_tree value.now)) self.old.out self.new.out) }
+        ensures { OnOk result (PutsLines (member_lines (member_tree member.now) path.now (value_tree value.now)) self.old self.new) }
     {
         match (value, member) {
             (value, Member::Named { name, fixed }) => {
@@ -92,7 +91,7 @@ impl Lister {
     ) -> Result<(), AllocError>
         requires listable { MembersListable (members_tree members.now) }
         requires shape { MembersShape (members_tree members.now) (values_tree values.now) }
-        ensures { OnOk result (Puts as_lines (members_lines (members_tree members.now) path.now (values_tree values.now)) self.old.out self.new.out) }
+        ensures { OnOk result (PutsLines (members_lines (members_tree members.now) path.now (values_tree values.now)) self.old self.new) }
     {
         for (member, value) in members.as_slice().iter().zip(values.as_slice()) {
             self.member(value, member, path)?;

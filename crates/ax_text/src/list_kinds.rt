@@ -1,15 +1,14 @@
 //! The lines of kinds.
-ghost use Rattle.std.specs.Prelude.{◌≡◌, ◌∷◌, map, codes, OnOk};
+ghost use Rattle.std.specs.Prelude.{◌≡◌, map, OnOk};
 ghost use Rattle.std.specs.List.{AllByRecursion};
-ghost use Rattle.ax_format.specs.Fitting.{list_count};
 ghost use Rattle.ax_format.specs.Plain.{fixed_tree, part_tree, kind_tree, slots_tree, value_tree, values_tree, lists_tree, entries_tree};
 ghost use Rattle.ax_format.specs.Shape.{FixedShape, PartsShape, EachShape, Shape, EntriesShape};
-ghost use Rattle.ax_format.specs.Tree.{counted, by_fx, compound, occurrences, marked, value_count};
+ghost use Rattle.ax_format.specs.Tree.{counted, compound, occurrences, marked};
 ghost use Rattle.ax_format.specs.declared.kind.Counter.{Counter};
 ghost use Rattle.ax_text.specs.Listable.{FixedListable, MembersListable, KindListable, SlotListable, SlotsListable};
-ghost use Rattle.ax_text.specs.Printing.{as_lines, Puts};
-ghost use Rattle.ax_text.specs.ShowText.{count_line, fixed_lines, parts_lines, each_lines, kind_lines, entries_lines};
-ghost use Rattle.ax_text.specs.Slots.{slot_numbered, SlotShape, slot_lines};
+ghost use Rattle.ax_text.specs.Printing.{PutsLines};
+ghost use Rattle.ax_text.specs.ShowText.{fixed_lines, parts_lines, each_lines, kind_lines, entries_lines, extended_lines, repeated_lines};
+ghost use Rattle.ax_text.specs.Slots.{slot_numbered, SlotShape, entry_lines};
 
 use crate::kinds::slot_of;
 use crate::lister::Lister;
@@ -22,7 +21,7 @@ impl Lister {
     fn extended(&mut self, lists: &Lists, parts: &Parts, path: &[u8]) -> Result<(), AllocError>
         requires listable { AllByRecursion MembersListable (map part_tree parts.now) }
         requires shape { PartsShape (map part_tree parts.now) (lists_tree lists.now) }
-        ensures { OnOk result (Puts as_lines (λ rest. count_line path.now (codes "parts") (list_count (lists_tree lists.now)) ∷ parts_lines (map part_tree parts.now) path.now (lists_tree lists.now) rest) self.old.out self.new.out) }
+        ensures { OnOk result (PutsLines (extended_lines (map part_tree parts.now) path.now (lists_tree lists.now)) self.old self.new) }
     {
         self.count(b"parts", lists.count(), path)?;
         self.parts(lists, parts, path)
@@ -32,7 +31,7 @@ impl Lister {
     fn parts(&mut self, lists: &Lists, parts: &Parts, path: &[u8]) -> Result<(), AllocError>
         requires listable { AllByRecursion MembersListable (map part_tree parts.now) }
         requires shape { PartsShape (map part_tree parts.now) (lists_tree lists.now) }
-        ensures { OnOk result (Puts as_lines (parts_lines (map part_tree parts.now) path.now (lists_tree lists.now)) self.old.out self.new.out) }
+        ensures { OnOk result (PutsLines (parts_lines (map part_tree parts.now) path.now (lists_tree lists.now)) self.old self.new) }
     {
         for (part, values) in parts.as_slice().iter().zip(lists.as_slice()) {
             self.members(values, &part.members, path)?;
@@ -44,7 +43,7 @@ impl Lister {
     fn by_fx(&mut self, values: &Values, fixed: &Fixed, path: &[u8]) -> Result<(), AllocError>
         requires listable { FixedListable (fixed_tree fixed.now) }
         requires shape { EachShape (FixedShape (fixed_tree fixed.now)) (values_tree values.now) }
-        ensures { OnOk result (Puts as_lines (kind_lines (by_fx (fixed_tree fixed.now)) path.now (occurrences (values_tree values.now))) self.old.out self.new.out) }
+        ensures { OnOk result (PutsLines (repeated_lines (fixed_lines (fixed_tree fixed.now)) path.now (values_tree values.now)) self.old self.new) }
     {
         self.count(b"occurrences", values.count(), path)?;
         self.run(values, fixed, path)
@@ -54,7 +53,7 @@ impl Lister {
     fn run(&mut self, values: &Values, fixed: &Fixed, path: &[u8]) -> Result<(), AllocError>
         requires listable { FixedListable (fixed_tree fixed.now) }
         requires shape { EachShape (FixedShape (fixed_tree fixed.now)) (values_tree values.now) }
-        ensures { OnOk result (Puts as_lines (each_lines (fixed_lines (fixed_tree fixed.now)) path.now 0 (values_tree values.now)) self.old.out self.new.out) }
+        ensures { OnOk result (PutsLines (each_lines (fixed_lines (fixed_tree fixed.now)) path.now 0 (values_tree values.now)) self.old self.new) }
     {
         let mut number: u32 = 0;
         for value in values.as_slice() {
@@ -70,7 +69,7 @@ impl Lister {
     pub(crate) fn kind(&mut self, value: &Value, kind: &Kind, path: &[u8]) -> Result<(), AllocError>
         requires listable { KindListable (kind_tree kind.now) }
         requires shape { Shape (kind_tree kind.now) (value_tree value.now) }
-        ensures { OnOk result (Puts as_lines (kind_lines (kind_tree kind.now) path.now (value_tree value.now)) self.old.out self.new.out) }
+        ensures { OnOk result (PutsLines (kind_lines (kind_tree kind.now) path.now (value_tree value.now)) self.old self.new) }
     {
         match (value, kind) {
             (value, Kind::Fixed(fixed)) => self.fixed(value, fixed, path),
@@ -95,7 +94,7 @@ impl Lister {
     fn counted(&mut self, values: &Values, inner: &Kind, path: &[u8]) -> Result<(), AllocError>
         requires listable { KindListable (kind_tree inner.now) }
         requires shape { (size : Counter) × Shape (counted size (kind_tree inner.now)) (occurrences (values_tree values.now)) }
-        ensures { OnOk result (Puts as_lines (λ rest. count_line path.now (codes "occurrences") (value_count (values_tree values.now)) ∷ each_lines (kind_lines (kind_tree inner.now)) path.now 0 (values_tree values.now) rest) self.old.out self.new.out) }
+        ensures { OnOk result (PutsLines (repeated_lines (kind_lines (kind_tree inner.now)) path.now (values_tree values.now)) self.old self.new) }
     {
         self.count(b"occurrences", values.count(), path)?;
         self.each(values, inner, path)
@@ -106,7 +105,7 @@ impl Lister {
     fn each(&mut self, values: &Values, kind: &Kind, path: &[u8]) -> Result<(), AllocError>
         requires listable { KindListable (kind_tree kind.now) }
         requires shape { EachShape (Shape (kind_tree kind.now)) (values_tree values.now) }
-        ensures { OnOk result (Puts as_lines (each_lines (kind_lines (kind_tree kind.now)) path.now 0 (values_tree values.now)) self.old.out self.new.out) }
+        ensures { OnOk result (PutsLines (each_lines (kind_lines (kind_tree kind.now)) path.now 0 (values_tree values.now)) self.old self.new) }
     {
         let mut number: u32 = 0;
         for value in values.as_slice() {
@@ -123,7 +122,7 @@ impl Lister {
     fn compound(&mut self, entries: &Entries, slots: &Slots, path: &[u8]) -> Result<(), AllocError>
         requires listable { SlotsListable (slots_tree slots.now) }
         requires shape { EntriesShape 1 (slots_tree slots.now) (entries_tree entries.now) }
-        ensures { OnOk result (Puts as_lines (kind_lines (compound (slots_tree slots.now)) path.now (marked (entries_tree entries.now))) self.old.out self.new.out) }
+        ensures { OnOk result (PutsLines (kind_lines (compound (slots_tree slots.now)) path.now (marked (entries_tree entries.now))) self.old self.new) }
     {
         self.count(b"subitems", entries.count(), path)?;
         self.entries(entries, slots, path)
@@ -134,7 +133,7 @@ impl Lister {
     fn entries(&mut self, entries: &Entries, slots: &Slots, path: &[u8]) -> Result<(), AllocError>
         requires listable { SlotsListable (slots_tree slots.now) }
         requires shape { EntriesShape 1 (slots_tree slots.now) (entries_tree entries.now) }
-        ensures { OnOk result (Puts as_lines (entries_lines path.now 1 (slots_tree slots.now) (entries_tree entries.now)) self.old.out self.new.out) }
+        ensures { OnOk result (PutsLines (entries_lines path.now 1 (slots_tree slots.now) (entries_tree entries.now)) self.old self.new) }
     {
         for entry in entries.as_slice() {
             self.entry(entry, slots, path)?;
@@ -147,7 +146,7 @@ impl Lister {
     fn entry(&mut self, entry: &Entry, slots: &Slots, path: &[u8]) -> Result<(), AllocError>
         requires listable { SlotListable (slot_numbered (slots_tree slots.now) entry.now.slot) }
         requires shape { SlotShape (slot_numbered (slots_tree slots.now) entry.now.slot) (value_tree entry.now.value) }
-        ensures { OnOk result (Puts as_lines (slot_lines path.now (slot_numbered (slots_tree slots.now) entry.now.slot) (value_tree entry.now.value)) self.old.out self.new.out) }
+        ensures { OnOk result (PutsLines (entry_lines path.now (slots_tree slots.now) entry.now) self.old self.new) }
     {
         if let Some(Slot::Sub { name, kind }) = slot_of(slots, entry.slot) {
             let path = at(self.alloc, path, name.octets())?;

@@ -7,9 +7,9 @@ ghost use Rattle.ax_format.specs.Plain.{spec_tree, value_tree, entries_tree, rec
 ghost use Rattle.ax_format.specs.Shape.{EntriesShape};
 ghost use Rattle.ax_format.specs.Specification.{record_slots};
 ghost use Rattle.ax_text.specs.Listable.{SlotListable, SlotsListable};
-ghost use Rattle.ax_text.specs.Printing.{as_lines, Puts};
+ghost use Rattle.ax_text.specs.Printing.{PutsLines};
 ghost use Rattle.ax_text.specs.ShowText.{entries_lines, record_lines, records_lines};
-ghost use Rattle.ax_text.specs.Slots.{slot_numbered, SlotShape, slot_lines};
+ghost use Rattle.ax_text.specs.Slots.{slot_numbered, SlotShape, entry_lines};
 ghost use Rattle.ax_text.specs.ValueText.{one_onto};
 
 use crate::lister::Lister;
@@ -23,7 +23,7 @@ impl Lister {
     pub(crate) fn records(&mut self, records: &Records, spec: &Spec) -> Result<(), AllocError>
         requires listable { SlotsListable (record_slots (spec_tree spec.now)) }
         requires shape { AllByRecursion (RecordShape (spec_tree spec.now)) (records_tree records.now) }
-        ensures { OnOk result (Puts as_lines (records_lines (spec_tree spec.now) 0 (records_tree records.now)) self.old.out self.new.out) }
+        ensures { OnOk result (PutsLines (records_lines (spec_tree spec.now) 0 (records_tree records.now)) self.old self.new) }
     {
         let mut number: u32 = 0;
         for one in records.as_slice() {
@@ -38,7 +38,7 @@ impl Lister {
     fn record(&mut self, one: &Record, number: u32, spec: &Spec) -> Result<(), AllocError>
         requires listable { SlotsListable (record_slots (spec_tree spec.now)) }
         requires shape { RecordShape (spec_tree spec.now) (record_tree one.now) }
-        ensures { OnOk result (Puts as_lines (record_lines (spec_tree spec.now) number (record_tree one.now)) self.old.out self.new.out) }
+        ensures { OnOk result (PutsLines (record_lines (spec_tree spec.now) number (record_tree one.now)) self.old self.new) }
     {
         self.record_front(number)?;
         self.items(&one.entries, spec, &category_digits(spec.category))
@@ -46,7 +46,7 @@ impl Lister {
 
     /// The line of a record of that number in its block.
     pub fn record_front(&mut self, number: u32) -> Result<(), AllocError>
-        ensures { OnOk result (Puts as_lines (one_onto (codes "record " ++ decimal number)) self.old.out self.new.out) }
+        ensures { OnOk result (PutsLines (one_onto (codes "record " ++ decimal number)) self.old self.new) }
     {
         self.octets(b"record ")?;
         self.decimal(u128::from(number))?;
@@ -58,7 +58,7 @@ impl Lister {
     fn items(&mut self, entries: &Entries, spec: &Spec, path: &[u8]) -> Result<(), AllocError>
         requires listable { SlotsListable (record_slots (spec_tree spec.now)) }
         requires shape { EntriesShape 1 (record_slots (spec_tree spec.now)) (entries_tree entries.now) }
-        ensures { OnOk result (Puts as_lines (entries_lines path.now 1 (record_slots (spec_tree spec.now)) (entries_tree entries.now)) self.old.out self.new.out) }
+        ensures { OnOk result (PutsLines (entries_lines path.now 1 (record_slots (spec_tree spec.now)) (entries_tree entries.now)) self.old self.new) }
     {
         for entry in entries.as_slice() {
             self.item(entry, spec, path)?;
@@ -70,7 +70,7 @@ impl Lister {
     fn item(&mut self, entry: &Entry, spec: &Spec, path: &[u8]) -> Result<(), AllocError>
         requires listable { SlotListable (slot_numbered (record_slots (spec_tree spec.now)) entry.now.slot) }
         requires shape { SlotShape (slot_numbered (record_slots (spec_tree spec.now)) entry.now.slot) (value_tree entry.now.value) }
-        ensures { OnOk result (Puts as_lines (slot_lines path.now (slot_numbered (record_slots (spec_tree spec.now)) entry.now.slot) (value_tree entry.now.value)) self.old.out self.new.out) }
+        ensures { OnOk result (PutsLines (entry_lines path.now (record_slots (spec_tree spec.now)) entry.now) self.old self.new) }
     {
         if let Some(item) = spec.slot(entry.slot) {
             let path = at(self.alloc, path, item.name.octets())?;

@@ -5,9 +5,9 @@ ghost use Rattle.ax_tokens.specs.Octets.{line_feed};
 ghost use Rattle.ax_text.specs.Listable.{ContentListable};
 ghost use Rattle.std.specs.Fmt.{signed_decimal};
 ghost use Rattle.ax_format.specs.Paths.{at};
-ghost use Rattle.ax_text.specs.Printing.{as_lines, Puts};
-ghost use Rattle.ax_text.specs.Remarks.{quoted, remark};
-ghost use Rattle.ax_text.specs.ShowText.{number_line, count_line, content_line, occurrence};
+ghost use Rattle.ax_text.specs.Printing.{PutsLines};
+ghost use Rattle.ax_text.specs.Remarks.{quoted};
+ghost use Rattle.ax_text.specs.ShowText.{number_line, count_line, content_line, occurrence, element_line};
 ghost use Rattle.ax_text.specs.ValueText.{one_onto, hex_text};
 
 use ax_format::{Content, Name};
@@ -126,7 +126,7 @@ impl Lister {
 
     /// The line that says how many there are of something.
     pub fn count(&mut self, word: &[u8], count: u32, path: &[u8]) -> Result<(), AllocError>
-        ensures { OnOk result (Puts as_lines (one_onto (count_line path.now word.now count)) self.old.out self.new.out) }
+        ensures { OnOk result (PutsLines (one_onto (count_line path.now word.now count)) self.old self.new) }
     {
         self.out.text4(path, b" ", word, b" ")?;
         self.decimal(u128::from(count))?;
@@ -136,7 +136,7 @@ impl Lister {
     /// The line that says that there are none of something, at a path.
     #[inline(always)]
     pub fn none_of(&mut self, word: &[u8], path: &Path) -> Result<(), AllocError>
-        ensures { OnOk result (Puts as_lines (one_onto (count_line path.now word.now 0)) self.old.out self.new.out) }
+        ensures { OnOk result (PutsLines (one_onto (count_line path.now word.now 0)) self.old self.new) }
     {
         self.out.path(path)?;
         self.out.text3(b" ", word, b" 0\n")
@@ -144,7 +144,7 @@ impl Lister {
 
     /// The line of an explicit content at a path.
     pub fn content_at(&mut self, octets: &[u8], path: &Path) -> Result<(), AllocError>
-        ensures { OnOk result (Puts as_lines (one_onto (content_line path.now octets.now)) self.old.out self.new.out) }
+        ensures { OnOk result (PutsLines (one_onto (content_line path.now octets.now)) self.old self.new) }
     {
         self.out.path(path)?;
         self.octets(b" octets ")?;
@@ -163,7 +163,7 @@ impl Lister {
         requires width { IsWidth width }
         requires content { ContentListable width content.now }
         requires fits { number < 2 ^ width }
-        ensures { OnOk result (Puts as_lines (one_onto (number_line path.now number ++ remark width content.now number)) self.old.out self.new.out) }
+        ensures { OnOk result (PutsLines (one_onto (element_line width content.now path.now number)) self.old self.new) }
     {
         self.out.path(path)?;
         self.octets(b" = ")?;
@@ -190,7 +190,7 @@ impl Lister {
     /// The line of spare bits under a path.
     #[inline(never)]
     pub fn spare_under(&mut self, number: u64, path: &Path) -> Result<(), AllocError>
-        ensures { OnOk result (Puts as_lines (one_onto (number_line (at path.now (codes "spare")) number)) self.old.out self.new.out) }
+        ensures { OnOk result (PutsLines (one_onto (number_line (at path.now (codes "spare")) number)) self.old self.new) }
     {
         self.out
             .named_number(path, b"spare\0\0\0\0\0\0\0\0\0\0\0", 5, number)?;
@@ -210,7 +210,7 @@ impl Lister {
         requires width { IsWidth width }
         requires content { ContentListable width content.now }
         requires fits { number < 2 ^ width }
-        ensures { OnOk result (Puts as_lines (one_onto (number_line (at path.now name.now) number ++ remark width content.now number)) self.old.out self.new.out) }
+        ensures { OnOk result (PutsLines (one_onto (element_line width content.now (at path.now name.now) number)) self.old self.new) }
     {
         self.out
             .named_number(path, name.padded(), name.octets().len(), number)?;
@@ -227,7 +227,7 @@ impl Lister {
 
     /// The line of spare bits under a path, of any number.
     pub fn wide_spare_under(&mut self, number: u128, path: &Path) -> Result<(), AllocError>
-        ensures { OnOk result (Puts as_lines (one_onto (number_line (at path.now (codes "spare")) number)) self.old.out self.new.out) }
+        ensures { OnOk result (PutsLines (one_onto (number_line (at path.now (codes "spare")) number)) self.old self.new) }
     {
         self.out.path(path)?;
         self.out.text3(b"/", b"spare", b" = ")?;
@@ -237,7 +237,7 @@ impl Lister {
 
     /// The line of an explicit content.
     pub fn content(&mut self, octets: &[u8], path: &[u8]) -> Result<(), AllocError>
-        ensures { OnOk result (Puts as_lines (one_onto (content_line path.now octets.now)) self.old.out self.new.out) }
+        ensures { OnOk result (PutsLines (one_onto (content_line path.now octets.now)) self.old self.new) }
     {
         self.octets(path)?;
         self.octets(b" octets ")?;

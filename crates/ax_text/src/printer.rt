@@ -2,7 +2,7 @@
 ghost use Rattle.std.specs.Prelude.{◌≡◌, [], ◌∷◌, ◌++◌, decimal, IfOk, OnOk};
 ghost use Rattle.ax_format.specs.Paths.{three_digits};
 ghost use Rattle.ax_tokens.specs.Octets.{line_feed};
-ghost use Rattle.ax_text.specs.Printing.{after_spaces, Puts};
+ghost use Rattle.ax_text.specs.Printing.{PutsTexts};
 ghost use Rattle.ax_text.specs.ValueText.{one_onto, hex_text};
 
 use ax_format::category_digits;
@@ -20,7 +20,7 @@ impl Printer {
     /// Any token.
     #[tactic(auto, using(crate::proofs::Printed::text_put))]
     pub(crate) fn text(&mut self, text: &[u8]) -> Result<(), AllocError>
-        ensures { OnOk result (Puts after_spaces (one_onto text.now) self.old.out.items self.new.out.items) }
+        ensures { OnOk result (PutsTexts (one_onto text.now) self.old self.new) }
     {
         self.out.push(b' ')?;
         self.out.extend_from_slice(text)?;
@@ -29,7 +29,7 @@ impl Printer {
 
     /// A number in decimal. Those of 64 bits are divided by themselves, which is faster.
     pub(crate) fn number(&mut self, number: u128) -> Result<(), AllocError>
-        ensures { OnOk result (Puts after_spaces (one_onto (decimal number)) self.old.out.items self.new.out.items) }
+        ensures { OnOk result (PutsTexts (one_onto (decimal number)) self.old self.new) }
     {
         let mut buffer = Buffer::new();
         if number <= u128::from(u64::MAX) {
@@ -41,7 +41,7 @@ impl Printer {
 
     /// A category in three digits.
     pub(crate) fn category(&mut self, category: u8) -> Result<(), AllocError>
-        ensures { OnOk result (Puts after_spaces (one_onto (three_digits category)) self.old.out.items self.new.out.items) }
+        ensures { OnOk result (PutsTexts (one_onto (three_digits category)) self.old self.new) }
     {
         self.text(&category_digits(category))
     }
@@ -49,7 +49,7 @@ impl Printer {
     /// Octets in hexadecimal digits, in quotes.
     #[tactic(auto, using(crate::proofs::Printed::hex_put))]
     pub(crate) fn hex(&mut self, octets: &[u8]) -> Result<(), AllocError>
-        ensures { OnOk result (Puts after_spaces (one_onto (hex_text octets.now)) self.old.out.items self.new.out.items) }
+        ensures { OnOk result (PutsTexts (one_onto (hex_text octets.now)) self.old self.new) }
     {
         self.out.extend_from_slice(b" \"")?;
         let digits = hex::encode(self.alloc, octets)?;

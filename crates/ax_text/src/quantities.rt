@@ -1,15 +1,13 @@
 //! Lines of quantities, by ends of their fractions that are made before.
-ghost use Rattle.std.specs.Prelude.{◌≡◌, ◌++◌, ◌*◌, ◌<◌, ◌^◌, ◌∷◌, [], length, codes, OnOk};
+ghost use Rattle.std.specs.Prelude.{◌≡◌, ◌++◌, ◌*◌, ◌<◌, ◌^◌, length, OnOk};
 ghost use Rattle.ax_format.specs.InBounds.{IsWidth};
 ghost use Rattle.ax_format.specs.Paths.{at};
-ghost use Rattle.ax_format.specs.Signs.{by_sign};
 ghost use Rattle.ax_format.specs.declared.content.Content.TheVariants.{Quantity};
-ghost use Rattle.ax_tokens.specs.Octets.{line_feed};
-ghost use Rattle.ax_text.specs.FractionEnds.{fraction_end, fraction_ends};
+ghost use Rattle.ax_text.specs.FractionEnds.{fraction_end, fraction_ends, in_unit};
 ghost use Rattle.ax_text.specs.Listable.{ContentListable};
-ghost use Rattle.ax_text.specs.Printing.{as_lines, Puts};
-ghost use Rattle.ax_text.specs.Remarks.{quoted, reduced_text, multiple_text, remark};
-ghost use Rattle.ax_text.specs.ShowText.{number_line};
+ghost use Rattle.ax_text.specs.Printing.{PutsLines};
+ghost use Rattle.ax_text.specs.Remarks.{reduced_text, scaled_text};
+ghost use Rattle.ax_text.specs.ShowText.{element_line};
 ghost use Rattle.ax_text.specs.ValueText.{one_onto};
 
 use crate::fractions::shared_twos;
@@ -46,7 +44,7 @@ impl Lister {
         requires content { ContentListable width (Quantity scale.now) }
         requires fits { number < 2 ^ width }
         requires ends { ends.now ≡ fraction_ends scale.now.unit scale.now.den (length ends.now) }
-        ensures { OnOk result (Puts as_lines (one_onto (number_line (at path.now name.now) number ++ remark width (Quantity scale.now) number)) self.old.out self.new.out) }
+        ensures { OnOk result (PutsLines (one_onto (element_line width (Quantity scale.now) (at path.now name.now) number)) self.old self.new) }
     {
         self.out
             .named_number(path, name.padded(), name.octets().len(), number)?;
@@ -68,7 +66,7 @@ impl Lister {
         requires content { ContentListable width (Quantity scale.now) }
         requires fits { number < 2 ^ width }
         requires ends { ends.now ≡ fraction_ends scale.now.unit scale.now.den (length ends.now) }
-        ensures { OnOk result (self.new.out ≡ self.old.out ++ (multiple_text (by_sign scale.now.sign width number) scale.now.num scale.now.den ++ codes " " ++ quoted scale.now.unit ++ line_feed ∷ [])) }
+        ensures { OnOk result (self.new.out ≡ self.old.out ++ in_unit scale.now.unit (scaled_text scale.now width number)) }
     {
         match scale.sign {
             Sign::Unsigned => self.fraction_line(number, scale, ends),
@@ -94,7 +92,7 @@ impl Lister {
     ) -> Result<(), AllocError>
         requires den { 0 < scale.now.den }
         requires ends { ends.now ≡ fraction_ends scale.now.unit scale.now.den (length ends.now) }
-        ensures { OnOk result (self.new.out ≡ self.old.out ++ (reduced_text (times * scale.now.num) scale.now.den ++ codes " " ++ quoted scale.now.unit ++ line_feed ∷ [])) }
+        ensures { OnOk result (self.new.out ≡ self.old.out ++ in_unit scale.now.unit (reduced_text (times * scale.now.num) scale.now.den)) }
     {
         let numerator = u128::from(times) * u128::from(scale.num);
         if numerator <= u128::from(u64::MAX) {

@@ -6,8 +6,8 @@ ghost use Rattle.ax_format.specs.Plain.{spec_tree, value_tree, entries_tree, rec
 ghost use Rattle.ax_format.specs.Shape.{EntriesShape};
 ghost use Rattle.ax_format.specs.Specification.{record_slots};
 ghost use Rattle.ax_text.specs.BlockText.{record_onto, records_onto};
-ghost use Rattle.ax_text.specs.Printing.{after_spaces, Puts};
-ghost use Rattle.ax_text.specs.Slots.{slot_numbered, SlotShape, slot_onto};
+ghost use Rattle.ax_text.specs.Printing.{PutsTexts};
+ghost use Rattle.ax_text.specs.Slots.{slot_numbered, SlotShape, entry_onto};
 ghost use Rattle.ax_text.specs.ValueText.{entries_onto};
 
 use crate::printer::Printer;
@@ -18,7 +18,7 @@ impl Printer {
     #[tactic(auto, using(crate::proofs::RecordWays::records_ways))]
     pub(crate) fn records(&mut self, records: &Records, spec: &Spec) -> Result<(), AllocError>
         requires { AllByRecursion (RecordShape (spec_tree spec.now)) (records_tree records.now) }
-        ensures { OnOk result (Puts after_spaces (records_onto (spec_tree spec.now) (records_tree records.now)) self.old.out.items self.new.out.items) }
+        ensures { OnOk result (PutsTexts (records_onto (spec_tree spec.now) (records_tree records.now)) self.old self.new) }
     {
         for one in records.as_slice() {
             self.record(one, spec)?;
@@ -29,7 +29,7 @@ impl Printer {
     #[tactic(auto, using(crate::proofs::RecordWays::record_ways))]
     fn record(&mut self, one: &Record, spec: &Spec) -> Result<(), AllocError>
         requires { RecordShape (spec_tree spec.now) (record_tree one.now) }
-        ensures { OnOk result (Puts after_spaces (record_onto (spec_tree spec.now) (record_tree one.now)) self.old.out.items self.new.out.items) }
+        ensures { OnOk result (PutsTexts (record_onto (spec_tree spec.now) (record_tree one.now)) self.old self.new) }
     {
         self.text(b"record")?;
         self.text(b"{")?;
@@ -41,7 +41,7 @@ impl Printer {
     #[tactic(auto, using(crate::proofs::EntryWays::entries_ways))]
     pub(crate) fn items(&mut self, entries: &Entries, spec: &Spec) -> Result<(), AllocError>
         requires { EntriesShape 1 (record_slots (spec_tree spec.now)) (entries_tree entries.now) }
-        ensures { OnOk result (Puts after_spaces (entries_onto 1 (record_slots (spec_tree spec.now)) (entries_tree entries.now)) self.old.out.items self.new.out.items) }
+        ensures { OnOk result (PutsTexts (entries_onto 1 (record_slots (spec_tree spec.now)) (entries_tree entries.now)) self.old self.new) }
     {
         for entry in entries.as_slice() {
             self.item(entry, spec)?;
@@ -52,7 +52,7 @@ impl Printer {
     #[tactic(auto, using(crate::proofs::RecordWays::item_ways))]
     fn item(&mut self, entry: &Entry, spec: &Spec) -> Result<(), AllocError>
         requires { SlotShape (slot_numbered (record_slots (spec_tree spec.now)) entry.now.slot) (value_tree entry.now.value) }
-        ensures { OnOk result (Puts after_spaces (slot_onto (slot_numbered (record_slots (spec_tree spec.now)) entry.now.slot) (value_tree entry.now.value)) self.old.out.items self.new.out.items) }
+        ensures { OnOk result (PutsTexts (entry_onto (record_slots (spec_tree spec.now)) entry.now) self.old self.new) }
     {
         if let Some(item) = spec.slot(entry.slot) {
             self.text(item.name.octets())?;

@@ -4,8 +4,8 @@ ghost use Rattle.std.specs.Option.{option_copied};
 ghost use Rattle.ax_format.specs.InBounds.{IsWidth};
 ghost use Rattle.ax_tokens.specs.Octets.{line_feed};
 ghost use Rattle.ax_text.specs.Listable.{ContentListable};
-ghost use Rattle.ax_format.specs.Signs.{by_sign};
-ghost use Rattle.ax_text.specs.Remarks.{quoted, characters, reduced_text, multiple_text, entry_remark, remark};
+ghost use Rattle.ax_text.specs.Remarks.{quoted, characters, reduced_text, entry_remark, remark, scaled_text};
+ghost use Rattle.ax_format.specs.declared.content.Content.TheVariants.{Quantity};
 
 use crate::characters::Alphabet;
 use crate::fractions::{common_divisor, quotient, shared_twos};
@@ -161,7 +161,7 @@ impl Lister {
         requires narrow { width ≤ 64 }
         requires denominator { 0 < scale.now.den }
         requires fits { number < 2 ^ width }
-        ensures { OnOk result (self.new.out ≡ self.old.out ++ (codes " " ++ multiple_text (by_sign scale.now.sign width number) scale.now.num scale.now.den ++ codes " " ++ quoted scale.now.unit)) }
+        ensures { OnOk result (self.new.out ≡ self.old.out ++ remark width (Quantity scale.now) number) }
     {
         self.octet(b' ')?;
         self.multiple(number, width, scale)?;
@@ -175,7 +175,7 @@ impl Lister {
         requires narrow { width ≤ 64 }
         requires denominator { 0 < scale.now.den }
         requires fits { number < 2 ^ width }
-        ensures { OnOk result (self.new.out ≡ self.old.out ++ multiple_text (by_sign scale.now.sign width number) scale.now.num scale.now.den) }
+        ensures { OnOk result (self.new.out ≡ self.old.out ++ scaled_text scale.now width number) }
     {
         let (num, den) = (scale.num, scale.den);
         match scale.sign {

@@ -9,7 +9,7 @@ ghost use Rattle.ax_format.specs.OfCode.{HasNoFlaw, BlockFits};
 ghost use Rattle.ax_format.specs.Plain.{spec_tree, records_tree, block_tree};
 ghost use Rattle.ax_format.specs.Specification.{record_slots};
 ghost use Rattle.ax_text.specs.Listable.{SlotsListable};
-ghost use Rattle.ax_text.specs.Printing.{as_lines, Puts};
+ghost use Rattle.ax_text.specs.Printing.{PutsLines};
 ghost use Rattle.ax_text.specs.ShowText.{block_front, OpaqueShown, ShowText};
 ghost use Rattle.ax_text.specs.ValueText.{one_onto};
 
@@ -86,7 +86,7 @@ impl Lister {
         octets: u64,
         records: u32,
     ) -> Result<(), AllocError>
-        ensures { OnOk result (Puts as_lines (one_onto (block_front number category octets ++ codes " records " ++ decimal records)) self.old.out self.new.out) }
+        ensures { OnOk result (PutsLines (one_onto (block_front number category octets ++ codes " records " ++ decimal records)) self.old self.new) }
     {
         self.front(number, category, octets)?;
         self.octets(b" records ")?;

@@ -11,10 +11,11 @@ use Rattle.ax_format.specs.Specification.{SpecTree, spec_of, record_slots}
 use Rattle.ax_format.specs.declared.spec.Spec.{Spec}
 use Rattle.ax_show_views.specs.Shown.{ShowsRecords}
 use Rattle.ax_show_views.specs.Listing.{ListsBody}
+use Rattle.ax_show_views.specs.ShowCommand.{show_command, IsListed}
 use Rattle.ax_outside.specs.Changes.{SinkChange}
 use Rattle.ax_blocks.proofs.BlockSteps.{asked_category}
 use Rattle.ax_blocks.proofs.MadeBlocks.{read_made, opaque_made, read_stop, short_stop, tree_taken}
-use Rattle.ax_blocks.specs.Made.{IsMadeOf, IsMadeRead, tree_command}
+use Rattle.ax_blocks.specs.Made.{IsMadeRead}
 use Rattle.ax_blocks.specs.BlockTaking.{Takes, WritesOctets}
 use Rattle.ax_blocks.specs.declared.work.WorkStop.{WorkStop}
 use Rattle.ax_codec.specs.Standing.{StandsFor, StandForEach, codec_of}
@@ -81,9 +82,6 @@ module _ (codecs : List Codec) (tables catalogue : List Spec) (category : ℕ) (
   pub never : (codec : Codec) → StandForEach codecs (catalogue_tree catalogue) → codec_of category codecs ≡ Some codec → found ≡ None → ⊥
   never codec h f is = let s = stands_there codecs (catalogue_tree catalogue) category codec h f in none_some (sym (TablesOf.unknown tables catalogue category same found looked is) ∙ s.known)
 
-abbrev pub IsListed : List SpecTree → ℕ → RawTree → List ℕ → Type 0
-IsListed catalogue number raw listing = IsMadeOf (λ number spec block. ShowText spec block number) (λ number category content. OpaqueShown number category content) catalogue number raw listing
-
 pub opaque_listed : (codecs : List Codec) (catalogue : List SpecTree) (number : ℕ) (raw : RawTree) (old listing : List ℕ) → StandForEach codecs catalogue → codec_of raw.category codecs ≡ None → length raw.body ≤ 65532 → 1 ≤ length raw.body → old ≡ []
     → listing ≡ old ++ OpaqueShown number raw.category raw.body → IsListed catalogue number raw listing
 opaque_listed codecs catalogue number raw old listing h none few some e is =
@@ -96,7 +94,7 @@ read_block_listed catalogue number raw spec listing few known h = read_made (λ 
 pub ruleset blocks = (read_block_listed, opaque_listed, read_stop, short_stop, TablesOf.masked, TablesOf.known, stands, same_category, never)
 
 pub listed_taken : (catalogue : List SpecTree) (number : ℕ) (raw : RawTree) (o : SinkChange) (held : Option (List ℕ)) (faults : ℕ) (listing laid : List ℕ) (result : Result Unit WorkStop) → IsListed catalogue number raw listing → laid ≡ listing → WritesOctets o laid result
-    → Takes (tree_command (λ number spec block. ShowText spec block number) (λ number category content. OpaqueShown number category content) catalogue) number raw o (record { held = held; held' = held; faults = faults; faults' = faults }) result
+    → Takes (show_command catalogue) number raw o (record { held = held; held' = held; faults = faults; faults' = faults }) result
 listed_taken catalogue number raw o held faults listing laid result h is w = tree_taken (λ number spec block. ShowText spec block number) (λ number category content. OpaqueShown number category content) catalogue number raw o held faults listing laid result h is w
 
 pub ruleset takes = listed_taken

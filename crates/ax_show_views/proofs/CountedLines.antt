@@ -32,7 +32,7 @@ count_first size k path body n at out is = record {
       (counted_begins size k body n at is).read (λ vs end g t. refl);
 }
 
-pub count_next : (size : Counter) (k : KindTree) (path body : List ℕ) (n i at here end : ℕ) (inner old now new : List ℕ) → CountShown size k path body n i at here old now → i < n → inner ≡ occurrence path i → Shows (kind_lines k inner) (kind_read k body here) body here end now new
+pub count_next : (size : Counter) (k : KindTree) (path body : List ℕ) (n i at here end : ℕ) (inner old now new : List ℕ) → CountShown size k path body n i at here old now → i < n → inner ≡ occurrence path i → Shows k inner body here end now new
     → CountShown size k path body n (i + 1) at end old new
 unfolding kind_read
 count_next size k path body n i at here end inner old now new h lt is w =

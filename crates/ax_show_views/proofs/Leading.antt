@@ -56,7 +56,7 @@ counted_first k path word body at here out lines size next value le c e = record
 
 -- the count stands in the line that was put in front of them
 pub counted_shown : (k : KindTree) (path word body : List ℕ) (at end line : ℕ) (old first mid new : List ℕ) (n : ℕ) → Puts as_lines (one_onto (count_line path word 0)) old first → line ≡ length first → ShowsCounted k path word body at end first mid n
-    → new ≡ take (line - 2) mid ++ (decimal n ++ drop (line - 1) mid) → Shows (kind_lines k path) (kind_read k body at) body at end old new
+    → new ≡ take (line - 2) mid ++ (decimal n ++ drop (line - 1) mid) → Shows k path body at end old new
 counted_shown k path word body at end line old first mid new n p e h is =
     let front = path ++ codes " " ++ word ++ codes " " in
     let later = as_lines (h.later []) in

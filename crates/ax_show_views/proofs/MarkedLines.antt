@@ -20,7 +20,7 @@ use Rattle.ax_fspec.specs.Reading.{Gets, FailsAt, IsMaskOf, SlotInBounds, kind_r
 use Rattle.ax_text.proofs.EntryWays.{by_slots, entries_same, numbered}
 use Rattle.ax_text.proofs.ListedKinds.{lines_made}
 use Rattle.ax_text.specs.Printing.{as_lines, Puts}
-use Rattle.ax_text.specs.ShowText.{count_line, kind_lines, entries_lines, entry_count}
+use Rattle.ax_text.specs.ShowText.{count_line, entries_lines, entry_count}
 use Rattle.ax_text.specs.Slots.{slot_after, slot_numbered, slot_lines}
 use Rattle.ax_text.specs.ValueText.{Texts}
 use Rattle.ax_values.specs.SlotReading.{HasFailed, HasSlotFailed, SlotFails}
@@ -99,7 +99,7 @@ module _ (Done : Ending) (Failed : BodyFault → Type 0) (slots : List SlotTree)
   unfolding kind_read entries_at
   marks_next end new e s =
       let ss = slots_of slots in
-      let w : Shows (kind_lines n.kind (Paths.at path n.name)) (kind_read n.kind body here) body here end now new = subst (λ slot. SlotShows slot path body here end now new) n.found s.shows in
+      let w : Shows n.kind (Paths.at path n.name) body here end now new = subst (λ slot. SlotShows slot path body here end now new) n.found s.shows in
       let put : Puts as_lines (slot_lines path (slot_numbered ss t) w.value) now new = subst (λ slot. Puts as_lines (slot_lines path slot w.value) now new) (sym n.found) w.put in record {
         within = w.read.within;
         few = λ u rest f. (let lt = h.few t (Marks.slots_of next) e in let up = ascend 1 left t u rest (e ∙ ap (λ x. t ∷ x) f) in omega (arith, lt, up));

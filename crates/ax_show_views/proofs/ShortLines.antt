@@ -5,9 +5,8 @@ use Rattle.ax_format.specs.Paths.{at}
 use Rattle.ax_format.specs.declared.content.Content.{Content}
 use Rattle.ax_text.specs.Printing.{as_lines, Puts}
 use Rattle.ax_text.specs.Remarks.{remark}
-use Rattle.ax_text.specs.ShowText.{number_line}
+use Rattle.ax_text.specs.ShowText.{number_line, element_line}
 use Rattle.ax_text.specs.ValueText.{one_onto}
-use Rattle.ax_show_views.specs.Shown.{element_line}
 
 -- a path and then the line without it is the whole line
 whole_line : (path name : List ℕ) (w n : ℕ) (c : Content) → path ++ line_end name w c n ≡ element_line w c (at path name) n ++ 0x0A ∷ []

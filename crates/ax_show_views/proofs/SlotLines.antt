@@ -3,12 +3,12 @@ use Rattle.std.proofs.Common.{◌≡◌, ℕ, List, ◌++◌, take, codes, decim
 use Rattle.ax_format.specs.Paths.{at}
 use Rattle.ax_format.specs.Tree.{KindTree, subitem}
 use Rattle.ax_fspec.specs.Reading.{kind_read}
-use Rattle.ax_text.specs.ShowText.{kind_lines, occurrence}
+use Rattle.ax_text.specs.ShowText.{occurrence}
 use Rattle.ax_values.specs.SlotReading.{HasFailed, HasSlotFailed}
 use Rattle.ax_values.specs.declared.error.DecodeError.{DecodeError}
 use Rattle.ax_show_views.specs.Shown.{Shows, IsSlotShown}
 
-pub slot_shown : (name : List ℕ) (k : KindTree) (path body : List ℕ) (here end : ℕ) (old new : List ℕ) → Shows (kind_lines k (at path name)) (kind_read k body here) body here end old new → IsSlotShown (subitem name k) path body here end old new
+pub slot_shown : (name : List ℕ) (k : KindTree) (path body : List ℕ) (here end : ℕ) (old new : List ℕ) → Shows k (at path name) body here end old new → IsSlotShown (subitem name k) path body here end old new
 slot_shown name k path body here end old new h = record { shows = h }
 
 pub slot_failed : (name : List ℕ) (k : KindTree) (body : List ℕ) (here : ℕ) (e : DecodeError) → HasFailed (kind_read k body here) here e → HasSlotFailed (subitem name k) body here e
@@ -17,9 +17,9 @@ slot_failed name k body here e h = record { failed = h }
 pub ruleset slot_ways = (slot_shown, slot_failed)
 
 -- a value, at a path that was made
-pub under_shown : (name : List ℕ) (k : KindTree) (path inner body : List ℕ) (here end : ℕ) (old new : List ℕ) → inner ≡ at path name → Shows (kind_lines k inner) (kind_read k body here) body here end old new
-    → Shows (kind_lines k (at path name)) (kind_read k body here) body here end old new
-under_shown name k path inner body here end old new e h = subst (λ inner. Shows (kind_lines k inner) (kind_read k body here) body here end old new) e h
+pub under_shown : (name : List ℕ) (k : KindTree) (path inner body : List ℕ) (here end : ℕ) (old new : List ℕ) → inner ≡ at path name → Shows k inner body here end old new
+    → Shows k (at path name) body here end old new
+under_shown name k path inner body here end old new e h = subst (λ inner. Shows k inner body here end old new) e h
 
 pub ruleset under_ways = under_shown
 

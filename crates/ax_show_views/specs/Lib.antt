@@ -1,3 +1,4 @@
 pub mod Listing
+pub mod ShowCommand
 pub mod Shown
 pub mod Stopped

@@ -5,11 +5,12 @@ ghost use Rattle.ax_format.specs.Flaws.{NoFlaw};
 ghost use Rattle.ax_format.specs.Plain.{spec_tree, catalogue_tree};
 ghost use Rattle.ax_format.specs.Sizes.{longest_block};
 ghost use Rattle.ax_fspec.specs.Reading.{IsMaskOf, record_slot_list};
-ghost use Rattle.ax_blocks.specs.Made.{IsMadeOf, IsMadeRead, NothingMade, NothingMadeRead, IsWithinBody};
+ghost use Rattle.ax_blocks.specs.Made.{IsMadeRead, NothingMade, NothingMadeRead, IsWithinBody};
 ghost use Rattle.ax_codec.specs.Standing.{StandsFor, StandForEach};
-ghost use Rattle.ax_text.specs.ShowText.{ShowText, OpaqueShown};
+ghost use Rattle.ax_text.specs.ShowText.{ShowText};
 ghost use Rattle.ax_values.specs.Decoding.{IsBodyFault, IsFaultOf};
 ghost use Rattle.ax_show_views.specs.Listing.{ListsBody};
+ghost use Rattle.ax_show_views.specs.ShowCommand.{IsListed};
 
 use crate::body::show_records;
 use crate::tables::{Table, Tables};
@@ -94,7 +95,7 @@ pub(crate) fn list_block(
     requires sound { StandForEach codecs.now.codecs (catalogue_tree catalogue.now) }
     requires tables { tables.now ≡ catalogue.now }
     requires room { length output.old ≡ longest_block }
-    ensures octets { OnOk result (IsMadeOf (λ number spec block. ShowText spec block number) (λ number category content. OpaqueShown number category content) (catalogue_tree catalogue.now) number (raw_tree raw.now) lister.new.out) }
+    ensures octets { OnOk result (IsListed (catalogue_tree catalogue.now) number (raw_tree raw.now) lister.new.out) }
     ensures stop { IfErr result (λ stop. NothingMade (catalogue_tree catalogue.now) (raw_tree raw.now) stop) }
     ensures short { IfErr result IsWithinBody }
     ensures room { length output.new ≡ longest_block }

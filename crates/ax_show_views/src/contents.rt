@@ -2,12 +2,12 @@
 ghost use Rattle.std.specs.Prelude.{◌≡◌, ◌<◌, ◌++◌, ◌^◌, ℕ, OnOk};
 ghost use Rattle.ax_held_kinds.specs.HeldFixed.{held_content};
 ghost use Rattle.ax_format.specs.InBounds.{IsWidth};
-ghost use Rattle.ax_format.specs.Paths as Paths;
+ghost use Rattle.ax_format.specs.Paths.{at as under};
 ghost use Rattle.ax_text.specs.Listable.{ContentListable};
-ghost use Rattle.ax_text.specs.Printing.{as_lines, Puts};
+ghost use Rattle.ax_text.specs.Printing.{PutsLines};
 ghost use Rattle.ax_text.specs.Remarks.{remark};
+ghost use Rattle.ax_text.specs.ShowText.{element_line};
 ghost use Rattle.ax_text.specs.ValueText.{one_onto};
-ghost use Rattle.ax_show_views.specs.Shown.{element_line};
 
 use ax_format::{Content, Name};
 use ax_held_kinds::HeldContent;
@@ -43,7 +43,7 @@ pub(crate) fn put_under(
     requires width { IsWidth width }
     requires content { ContentListable width (held_content content.now) }
     requires fits { number < 2 ^ width }
-    ensures { OnOk result (Puts as_lines (one_onto (element_line width (held_content content.now) (Paths.at path.now name.now) number)) lister.old.out lister.new.out) }
+    ensures { OnOk result (PutsLines (one_onto (element_line width (held_content content.now) (under path.now name.now) number)) lister.old lister.new) }
 {
     if let HeldContent::Quantity(quantity) = content {
         let ends = quantity.ends.as_slice();
@@ -64,7 +64,7 @@ pub(crate) fn put_at(
     requires width { IsWidth width }
     requires content { ContentListable width (held_content content.now) }
     requires fits { number < 2 ^ width }
-    ensures { OnOk result (Puts as_lines (one_onto (element_line width (held_content content.now) path.now number)) lister.old.out lister.new.out) }
+    ensures { OnOk result (PutsLines (one_onto (element_line width (held_content content.now) path.now number)) lister.old lister.new) }
 {
     let found = content_of(content, number);
     lister.element_at(number, width, found, path)

@@ -1,17 +1,12 @@
 //! The lines of fixed kinds, from their bits: elements, groups and their members.
-ghost use Rattle.std.specs.Prelude.{◌≡◌, ◌+◌, ◌*◌, ◌/◌, ◌%◌, ◌^◌, ◌<◌, ◌≤◌, length, drop, take, codes, IfErr, OnOk};
-ghost use Rattle.ax_bits.specs.Bits.{bits, number_of};
+ghost use Rattle.std.specs.Prelude.{◌≡◌, ◌+◌, ◌*◌, ◌/◌, ◌%◌, ◌^◌, ◌<◌, ◌≤◌, length, IfErr, OnOk};
 ghost use Rattle.ax_format.specs.InBounds.{IsWidth, FixedInBounds, MembersInBounds};
-ghost use Rattle.ax_format.specs.Paths as Paths;
+ghost use Rattle.ax_format.specs.Paths.{at as under};
 ghost use Rattle.ax_held_kinds.specs.HeldFixed.{held_content, held_fixed, held_member, held_members};
-ghost use Rattle.ax_format.specs.Reader.{fixed_value, members_value};
 ghost use Rattle.ax_format.specs.Sizes.{longest_body};
 ghost use Rattle.ax_format.specs.Widths.{width, members_width};
 ghost use Rattle.ax_text.specs.Listable.{ContentListable, FixedListable, MemberListable, MembersListable};
-ghost use Rattle.ax_text.specs.Printing.{as_lines, Puts};
-ghost use Rattle.ax_text.specs.ShowText.{fixed_lines, member_lines, members_lines, number_line};
-ghost use Rattle.ax_text.specs.ValueText.{one_onto};
-ghost use Rattle.ax_show_views.specs.Shown.{element_line, member_width, member_value, MemberInBounds};
+ghost use Rattle.ax_show_views.specs.Shown.{member_width, MemberInBounds, ShowsElement, ShowsShort, ShowsSpare, ShowsFixed, ShowsMember, ShowsMembers};
 ghost use Rattle.ax_show_views.specs.Stopped.{IsStopped};
 
 use crate::contents::{put_at, put_under};
@@ -40,7 +35,7 @@ fn show_element(
     requires content { ContentListable width (held_content content.now) }
     requires place { at.old ≤ 8 * length body.now }
     requires body { length body.now ≤ longest_body }
-    ensures lines { OnOk result (Puts as_lines (one_onto (element_line width (held_content content.now) (Paths.at path.now name.now) (number_of (take width (drop at.old (bits body.now)))))) lister.old.out lister.new.out) }
+    ensures lines { OnOk result (ShowsElement width (held_content content.now) (under path.now name.now) body.now at.old lister.old.out lister.new.out) }
     ensures at { OnOk result (at.new ≡ at.old + width) }
     ensures within { OnOk result (at.new ≤ 8 * length body.now) }
     ensures stop { IfErr result (IsStopped body.now at.old width) }
@@ -70,7 +65,7 @@ fn show_wide_element(
     requires width { IsWidth width }
     requires content { ContentListable width (held_content content.now) }
     requires within { at + width ≤ 8 * length body.now }
-    ensures lines { OnOk result (Puts as_lines (one_onto (element_line width (held_content content.now) (Paths.at path.now name.now) (number_of (take width (drop at (bits body.now)))))) lister.old.out lister.new.out) }
+    ensures lines { OnOk result (ShowsElement width (held_content content.now) (under path.now name.now) body.now at lister.old.out lister.new.out) }
 {
     let mut inner = lister.blank_path();
     set_named(&mut inner, path, name)?;
@@ -91,7 +86,7 @@ fn show_short(
     requires width { IsWidth short.now.width }
     requires place { at.old ≤ 8 * length body.now }
     requires body { length body.now ≤ longest_body }
-    ensures lines { OnOk result (Puts as_lines (one_onto (element_line short.now.width short.now.content.now (Paths.at path.now short.now.name) (number_of (take short.now.width (drop at.old (bits body.now)))))) lister.old.out lister.new.out) }
+    ensures lines { OnOk result (ShowsShort short.now path.now body.now at.old lister.old.out lister.new.out) }
     ensures at { OnOk result (at.new ≡ at.old + short.now.width) }
     ensures within { OnOk result (at.new ≤ 8 * length body.now) }
     ensures stop { IfErr result (IsStopped body.now at.old short.now.width) }
@@ -114,7 +109,7 @@ fn show_wide_spare(
 ) -> Result<(), AllocError>
     requires width { IsWidth width }
     requires within { at + width ≤ 8 * length body.now }
-    ensures lines { OnOk result (Puts as_lines (one_onto (number_line (Paths.at path.now (codes "spare")) (number_of (take width (drop at (bits body.now)))))) lister.old.out lister.new.out) }
+    ensures lines { OnOk result (ShowsSpare width path.now body.now at lister.old.out lister.new.out) }
 {
     lister.wide_spare_under(wide_number_at(body, at, width), path)
 }
@@ -132,7 +127,7 @@ pub(crate) fn show_fixed(
     requires listable { FixedListable (held_fixed fixed.now) }
     requires place { at.old ≤ 8 * length body.now }
     requires body { length body.now ≤ longest_body }
-    ensures lines { OnOk result (Puts as_lines (fixed_lines (held_fixed fixed.now) path.now (fixed_value (held_fixed fixed.now) (drop at.old (bits body.now)))) lister.old.out lister.new.out) }
+    ensures lines { OnOk result (ShowsFixed (held_fixed fixed.now) path.now body.now at.old lister.old.out lister.new.out) }
     ensures at { OnOk result (at.new ≡ at.old + width (held_fixed fixed.now)) }
     ensures within { OnOk result (at.new ≤ 8 * length body.now) }
     ensures stop { IfErr result (IsStopped body.now at.old (width (held_fixed fixed.now))) }
@@ -163,7 +158,7 @@ pub(crate) fn show_members(
     requires listable { MembersListable (held_members members.now) }
     requires place { at.old ≤ 8 * length body.now }
     requires body { length body.now ≤ longest_body }
-    ensures lines { OnOk result (Puts as_lines (members_lines (held_members members.now) path.now (members_value (held_members members.now) (drop at.old (bits body.now)))) lister.old.out lister.new.out) }
+    ensures lines { OnOk result (ShowsMembers (held_members members.now) path.now body.now at.old lister.old.out lister.new.out) }
     ensures at { OnOk result (at.new ≡ at.old + members_width (held_members members.now)) }
     ensures within { OnOk result (at.new ≤ 8 * length body.now) }
     ensures stop { IfErr result (IsStopped body.now at.old (members_width (held_members members.now))) }
@@ -187,7 +182,7 @@ fn show_member(
     requires listable { MemberListable (held_member member.now) }
     requires place { at.old ≤ 8 * length body.now }
     requires body { length body.now ≤ longest_body }
-    ensures lines { OnOk result (Puts as_lines (member_lines (held_member member.now) path.now (member_value (held_member member.now) (drop at.old (bits body.now)))) lister.old.out lister.new.out) }
+    ensures lines { OnOk result (ShowsMember (held_member member.now) path.now body.now at.old lister.old.out lister.new.out) }
     ensures at { OnOk result (at.new ≡ at.old + member_width (held_member member.now)) }
     ensures within { OnOk result (at.new ≤ 8 * length body.now) }
     ensures stop { IfErr result (IsStopped body.now at.old (member_width (held_member member.now))) }
@@ -223,7 +218,7 @@ pub(crate) fn show_named(
     requires listable { FixedListable (held_fixed fixed.now) }
     requires place { at.old ≤ 8 * length body.now }
     requires body { length body.now ≤ longest_body }
-    ensures lines { OnOk result (Puts as_lines (fixed_lines (held_fixed fixed.now) (Paths.at path.now name.now) (fixed_value (held_fixed fixed.now) (drop at.old (bits body.now)))) lister.old.out lister.new.out) }
+    ensures lines { OnOk result (ShowsFixed (held_fixed fixed.now) (under path.now name.now) body.now at.old lister.old.out lister.new.out) }
     ensures at { OnOk result (at.new ≡ at.old + width (held_fixed fixed.now)) }
     ensures within { OnOk result (at.new ≤ 8 * length body.now) }
     ensures stop { IfErr result (IsStopped body.now at.old (width (held_fixed fixed.now))) }
@@ -252,7 +247,7 @@ fn show_group(
     requires listable { MembersListable (held_members members.now) }
     requires place { at.old ≤ 8 * length body.now }
     requires body { length body.now ≤ longest_body }
-    ensures lines { OnOk result (Puts as_lines (members_lines (held_members members.now) (Paths.at path.now name.now) (members_value (held_members members.now) (drop at.old (bits body.now)))) lister.old.out lister.new.out) }
+    ensures lines { OnOk result (ShowsMembers (held_members members.now) (under path.now name.now) body.now at.old lister.old.out lister.new.out) }
     ensures at { OnOk result (at.new ≡ at.old + members_width (held_members members.now)) }
     ensures within { OnOk result (at.new ≤ 8 * length body.now) }
     ensures stop { IfErr result (IsStopped body.now at.old (members_width (held_members members.now))) }

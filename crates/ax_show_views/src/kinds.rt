@@ -1,16 +1,15 @@
 //! The kinds of items and subitems, shown by one function each.
-ghost use Rattle.std.specs.Prelude.{◌≡◌, ◌+◌, ◌<◌, ◌≤◌, length, map, codes, IfOk, IfErr};
+ghost use Rattle.std.specs.Prelude.{◌≡◌, ◌+◌, ◌<◌, ◌≤◌, length, map, IfOk, IfErr};
 ghost use Rattle.ax_bits.specs.Bits.{AreBits};
 ghost use Rattle.ax_format.specs.InBounds.{InBounds, SlotsInBounds};
-ghost use Rattle.ax_format.specs.Paths as Paths;
+ghost use Rattle.ax_format.specs.Paths.{at as under};
 ghost use Rattle.ax_held_kinds.specs.Held.{held_kind, held_slot, held_slots};
 ghost use Rattle.ax_format.specs.Sizes.{longest_body};
 ghost use Rattle.ax_format.specs.Tree as Tree;
 ghost use Rattle.ax_fspec.specs.Reading.{SlotInBounds, kind_read};
 ghost use Rattle.ax_text.specs.Listable.{KindListable, SlotListable, SlotsListable};
-ghost use Rattle.ax_text.specs.ShowText.{kind_lines};
 ghost use Rattle.ax_values.specs.SlotReading.{HasFailed, HasSlotFailed};
-ghost use Rattle.ax_show_views.specs.Shown.{Shows, ShowsCounted, IsSlotShown};
+ghost use Rattle.ax_show_views.specs.Shown.{Shows, IsSlotShown, ShowsRepeated, ShowsSubitems};
 
 use crate::paths::{set_named, set_numbered};
 use crate::units::{show_alone, show_by_fx, show_extended, show_single};
@@ -34,7 +33,7 @@ pub(crate) fn show_value(
     requires listable { KindListable (held_kind kind.now) }
     requires body { length body.now ≤ longest_body }
     requires at { at ≤ length body.now }
-    ensures ok { IfOk result (λ end. Shows (kind_lines (held_kind kind.now) path.now) (kind_read (held_kind kind.now) body.now at) body.now at end lister.old.out lister.new.out) }
+    ensures ok { IfOk result (λ end. Shows (held_kind kind.now) path.now body.now at end lister.old.out lister.new.out) }
     ensures err { IfErr result (λ e. HasFailed (kind_read (held_kind kind.now) body.now at) at e) }
 {
     match kind {
@@ -55,7 +54,7 @@ fn show_explicit(lister: &mut Lister, body: &[u8], at: u32, path: &Path) -> Resu
     requires bounds { InBounds (Tree.explicit) }
     requires body { length body.now ≤ longest_body }
     requires at { at ≤ length body.now }
-    ensures ok { IfOk result (λ end. Shows (kind_lines (Tree.explicit) path.now) (kind_read (Tree.explicit) body.now at) body.now at end lister.old.out lister.new.out) }
+    ensures ok { IfOk result (λ end. Shows Tree.explicit path.now body.now at end lister.old.out lister.new.out) }
     ensures err { IfErr result (λ e. HasFailed (kind_read (Tree.explicit) body.now at) at e) }
 {
     let content = explicit_content(body, at)?;
@@ -78,7 +77,7 @@ fn show_counted(
     requires listable { KindListable (held_kind inner.now) }
     requires body { length body.now ≤ longest_body }
     requires at { at ≤ length body.now }
-    ensures ok { IfOk result (λ end. Shows (kind_lines (Tree.counted size (held_kind inner.now)) path.now) (kind_read (Tree.counted size (held_kind inner.now)) body.now at) body.now at end lister.old.out lister.new.out) }
+    ensures ok { IfOk result (λ end. Shows (Tree.counted size (held_kind inner.now)) path.now body.now at end lister.old.out lister.new.out) }
     ensures err { IfErr result (λ e. HasFailed (kind_read (Tree.counted size (held_kind inner.now)) body.now at) at e) }
 {
     lister.none_of(b"occurrences", path)?;
@@ -103,7 +102,7 @@ fn show_each(
     requires listable { KindListable (held_kind inner.now) }
     requires body { length body.now ≤ longest_body }
     requires at { at ≤ length body.now }
-    ensures ok { IfOk result (λ r. ShowsCounted (Tree.counted size (held_kind inner.now)) path.now (codes "occurrences") body.now at r.0 lister.old.out lister.new.out r.1) }
+    ensures ok { IfOk result (λ r. ShowsRepeated (Tree.counted size (held_kind inner.now)) path.now body.now at r.0 lister.old.out lister.new.out r.1) }
     ensures err { IfErr result (λ e. HasFailed (kind_read (Tree.counted size (held_kind inner.now)) body.now at) at e) }
 {
     let count = counter_at(body, at, size)?;
@@ -130,7 +129,7 @@ fn show_compound(
     requires listable { SlotsListable (held_slots slots.now) }
     requires body { length body.now ≤ longest_body }
     requires at { at ≤ length body.now }
-    ensures ok { IfOk result (λ end. Shows (kind_lines (Tree.compound (held_slots slots.now)) path.now) (kind_read (Tree.compound (held_slots slots.now)) body.now at) body.now at end lister.old.out lister.new.out) }
+    ensures ok { IfOk result (λ end. Shows (Tree.compound (held_slots slots.now)) path.now body.now at end lister.old.out lister.new.out) }
     ensures err { IfErr result (λ e. HasFailed (kind_read (Tree.compound (held_slots slots.now)) body.now at) at e) }
 {
     lister.none_of(b"subitems", path)?;
@@ -154,7 +153,7 @@ fn show_subitems(
     requires listable { SlotsListable (held_slots slots.now) }
     requires body { length body.now ≤ longest_body }
     requires at { at ≤ length body.now }
-    ensures ok { IfOk result (λ r. ShowsCounted (Tree.compound (held_slots slots.now)) path.now (codes "subitems") body.now at r.0 lister.old.out lister.new.out r.1) }
+    ensures ok { IfOk result (λ r. ShowsSubitems (held_slots slots.now) path.now body.now at r.0 lister.old.out lister.new.out r.1) }
     ensures err { IfErr result (λ e. HasFailed (kind_read (Tree.compound (held_slots slots.now)) body.now at) at e) }
 {
     let all = slots.as_slice();
@@ -210,7 +209,7 @@ fn show_under(
     requires listable { KindListable (held_kind kind.now) }
     requires body { length body.now ≤ longest_body }
     requires at { at ≤ length body.now }
-    ensures ok { IfOk result (λ end. Shows (kind_lines (held_kind kind.now) (Paths.at path.now name.now)) (kind_read (held_kind kind.now) body.now at) body.now at end lister.old.out lister.new.out) }
+    ensures ok { IfOk result (λ end. Shows (held_kind kind.now) (under path.now name.now) body.now at end lister.old.out lister.new.out) }
     ensures err { IfErr result (λ e. HasFailed (kind_read (held_kind kind.now) body.now at) at e) }
 {
     if let HeldKind::Fixed(fixed) = kind {

@@ -1,6 +1,6 @@
 //! Paths made of others.
 ghost use Rattle.std.specs.Prelude.{◌≡◌, OnOk};
-ghost use Rattle.ax_format.specs.Paths as Paths;
+ghost use Rattle.ax_format.specs.Paths.{at as under};
 ghost use Rattle.ax_text.specs.ShowText.{occurrence};
 
 use ax_format::Name;
@@ -11,7 +11,7 @@ use std::alloc::AllocError;
 #[inline(always)]
 #[tactic(auto, using(crate::proofs::SlotLines::named))]
 pub(crate) fn set_named(inner: &mut Path, path: &Path, name: &Name) -> Result<(), AllocError>
-    ensures { OnOk result (inner.new ≡ Paths.at path.now name.now) }
+    ensures { OnOk result (inner.new ≡ under path.now name.now) }
 {
     inner.set_named(path, name.padded(), name.octets().len())
 }

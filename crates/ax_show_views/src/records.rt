@@ -7,9 +7,8 @@ ghost use Rattle.ax_format.specs.Sizes.{longest_body};
 ghost use Rattle.ax_format.specs.Specification.{record_kind, record_slots};
 ghost use Rattle.ax_fspec.specs.Reading.{IsMaskOf, record_slot_list, kind_read};
 ghost use Rattle.ax_text.specs.Listable.{SlotsListable};
-ghost use Rattle.ax_text.specs.ShowText.{entries_lines, record_lines};
 ghost use Rattle.ax_values.specs.SlotReading.{HasFailed};
-ghost use Rattle.ax_show_views.specs.Shown.{ShowsEntries};
+ghost use Rattle.ax_show_views.specs.Shown.{ShowsRecord, ShowsItems};
 
 use crate::kinds::show_slot;
 use ax_fspec::{Presence, SlotMask, read_presence};
@@ -36,7 +35,7 @@ pub(crate) fn show_record(
     requires path { path.now ≡ three_digits items.now.category }
     requires body { length body.now ≤ longest_body }
     requires at { at ≤ length body.now }
-    ensures ok { IfOk result (λ end. ShowsEntries (spec_tree items.now) (record_lines (spec_tree items.now) number) body.now at end lister.old.out lister.new.out) }
+    ensures ok { IfOk result (λ end. ShowsRecord (spec_tree items.now) number body.now at end lister.old.out lister.new.out) }
     ensures err { IfErr result (λ e. HasFailed (kind_read (record_kind (spec_tree items.now)) body.now at) at e) }
 {
     lister.record_front(number)?;
@@ -59,7 +58,7 @@ fn show_items(
     requires mask { IsMaskOf (record_slot_list (spec_tree items.now)) mask.now }
     requires body { length body.now ≤ longest_body }
     requires at { at ≤ length body.now }
-    ensures ok { IfOk result (λ end. ShowsEntries (spec_tree items.now) (entries_lines path.now 1 (record_slots (spec_tree items.now))) body.now at end lister.old.out lister.new.out) }
+    ensures ok { IfOk result (λ end. ShowsItems (spec_tree items.now) path.now body.now at end lister.old.out lister.new.out) }
     ensures err { IfErr result (λ e. HasFailed (kind_read (record_kind (spec_tree items.now)) body.now at) at e) }
 {
     let slots = items.slots();

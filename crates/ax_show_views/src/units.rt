@@ -1,21 +1,18 @@
 //! Kinds whose units are runs of a known length: fixed kinds, the parts of extended and closed items, occurrences by FX.
-ghost use Rattle.std.specs.Prelude.{◌≡◌, ◌+◌, ◌*◌, ◌<◌, ◌≤◌, length, drop, map, codes, IfOk, IfErr, OnOk};
+ghost use Rattle.std.specs.Prelude.{◌≡◌, ◌+◌, ◌*◌, ◌<◌, ◌≤◌, length, map, IfOk, IfErr, OnOk};
 ghost use Rattle.std.specs.List.{AllByRecursion};
-ghost use Rattle.ax_bits.specs.Bits.{bits};
 ghost use Rattle.ax_format.specs.InBounds.{InBounds, FixedInBounds};
-ghost use Rattle.ax_format.specs.Paths as Paths;
+ghost use Rattle.ax_format.specs.Paths.{at as under};
 ghost use Rattle.ax_held_kinds.specs.Held.{held_part};
 ghost use Rattle.ax_held_kinds.specs.HeldFixed.{held_fixed};
-ghost use Rattle.ax_format.specs.Reader.{fixed_value};
 ghost use Rattle.ax_format.specs.Sizes.{longest_body};
 ghost use Rattle.ax_format.specs.Tree as Tree;
 ghost use Rattle.ax_format.specs.Widths.{width};
 ghost use Rattle.ax_fspec.specs.Reading.{kind_read};
 ghost use Rattle.ax_text.specs.Listable.{FixedListable, MembersListable};
-ghost use Rattle.ax_text.specs.Printing.{as_lines, Puts};
-ghost use Rattle.ax_text.specs.ShowText.{fixed_lines, kind_lines, occurrence};
+ghost use Rattle.ax_text.specs.ShowText.{occurrence};
 ghost use Rattle.ax_values.specs.SlotReading.{HasFailed};
-ghost use Rattle.ax_show_views.specs.Shown.{Shows, ShowsCounted};
+ghost use Rattle.ax_show_views.specs.Shown.{Shows, ShowsFixed, ShowsRepeated, ShowsParts};
 ghost use Rattle.ax_show_views.specs.Stopped.{IsStopped};
 
 use crate::fixed::{show_fixed, show_members, show_named};
@@ -40,7 +37,7 @@ pub(crate) fn show_alone(
     requires listable { FixedListable (held_fixed fixed.now) }
     requires body { length body.now ≤ longest_body }
     requires at { at ≤ length body.now }
-    ensures ok { IfOk result (λ end. Shows (kind_lines (Tree.fixed (held_fixed fixed.now)) path.now) (kind_read (Tree.fixed (held_fixed fixed.now)) body.now at) body.now at end lister.old.out lister.new.out) }
+    ensures ok { IfOk result (λ end. Shows (Tree.fixed (held_fixed fixed.now)) path.now body.now at end lister.old.out lister.new.out) }
     ensures err { IfErr result (λ e. HasFailed (kind_read (Tree.fixed (held_fixed fixed.now)) body.now at) at e) }
 {
     let mut bit = 8 * at;
@@ -64,7 +61,7 @@ pub(crate) fn show_single(
     requires listable { FixedListable (held_fixed fixed.now) }
     requires body { length body.now ≤ longest_body }
     requires at { at ≤ length body.now }
-    ensures ok { IfOk result (λ end. Shows (kind_lines (Tree.fixed (held_fixed fixed.now)) (Paths.at path.now name.now)) (kind_read (Tree.fixed (held_fixed fixed.now)) body.now at) body.now at end lister.old.out lister.new.out) }
+    ensures ok { IfOk result (λ end. Shows (Tree.fixed (held_fixed fixed.now)) (under path.now name.now) body.now at end lister.old.out lister.new.out) }
     ensures err { IfErr result (λ e. HasFailed (kind_read (Tree.fixed (held_fixed fixed.now)) body.now at) at e) }
 {
     let mut bit = 8 * at;
@@ -89,7 +86,7 @@ fn show_parts(
     requires listable { AllByRecursion MembersListable (map held_part parts.now) }
     requires body { length body.now ≤ longest_body }
     requires at { at ≤ length body.now }
-    ensures ok { IfOk result (λ r. ShowsCounted (Tree.extended last (map held_part parts.now)) path.now (codes "parts") body.now at r.0 lister.old.out lister.new.out r.1) }
+    ensures ok { IfOk result (λ r. ShowsParts last (map held_part parts.now) path.now body.now at r.0 lister.old.out lister.new.out r.1) }
     ensures err { IfErr result (λ e. HasFailed (kind_read (Tree.extended last (map held_part parts.now)) body.now at) at e) }
 {
     let mut left = PartsLeft::of(last, parts.as_slice(), body, at);
@@ -118,7 +115,7 @@ pub(crate) fn show_extended(
     requires listable { AllByRecursion MembersListable (map held_part parts.now) }
     requires body { length body.now ≤ longest_body }
     requires at { at ≤ length body.now }
-    ensures ok { IfOk result (λ end. Shows (kind_lines (Tree.extended last (map held_part parts.now)) path.now) (kind_read (Tree.extended last (map held_part parts.now)) body.now at) body.now at end lister.old.out lister.new.out) }
+    ensures ok { IfOk result (λ end. Shows (Tree.extended last (map held_part parts.now)) path.now body.now at end lister.old.out lister.new.out) }
     ensures err { IfErr result (λ e. HasFailed (kind_read (Tree.extended last (map held_part parts.now)) body.now at) at e) }
 {
     lister.none_of(b"parts", path)?;
@@ -142,7 +139,7 @@ fn show_occurrence(
     requires listable { FixedListable (held_fixed fixed.now) }
     requires place { at.old ≤ 8 * length body.now }
     requires body { length body.now ≤ longest_body }
-    ensures lines { OnOk result (Puts as_lines (fixed_lines (held_fixed fixed.now) (occurrence path.now number) (fixed_value (held_fixed fixed.now) (drop at.old (bits body.now)))) lister.old.out lister.new.out) }
+    ensures lines { OnOk result (ShowsFixed (held_fixed fixed.now) (occurrence path.now number) body.now at.old lister.old.out lister.new.out) }
     ensures at { OnOk result (at.new ≡ at.old + width (held_fixed fixed.now)) }
     ensures within { OnOk result (at.new ≤ 8 * length body.now) }
     ensures stop { IfErr result (IsStopped body.now at.old (width (held_fixed fixed.now))) }
@@ -166,7 +163,7 @@ fn show_run(
     requires listable { FixedListable (held_fixed fixed.now) }
     requires body { length body.now ≤ longest_body }
     requires at { at ≤ length body.now }
-    ensures ok { IfOk result (λ r. ShowsCounted (Tree.by_fx (held_fixed fixed.now)) path.now (codes "occurrences") body.now at r.0 lister.old.out lister.new.out r.1) }
+    ensures ok { IfOk result (λ r. ShowsRepeated (Tree.by_fx (held_fixed fixed.now)) path.now body.now at r.0 lister.old.out lister.new.out r.1) }
     ensures err { IfErr result (λ e. HasFailed (kind_read (Tree.by_fx (held_fixed fixed.now)) body.now at) at e) }
 {
     let mut here = at;
@@ -198,7 +195,7 @@ pub(crate) fn show_by_fx(
     requires listable { FixedListable (held_fixed fixed.now) }
     requires body { length body.now ≤ longest_body }
     requires at { at ≤ length body.now }
-    ensures ok { IfOk result (λ end. Shows (kind_lines (Tree.by_fx (held_fixed fixed.now)) path.now) (kind_read (Tree.by_fx (held_fixed fixed.now)) body.now at) body.now at end lister.old.out lister.new.out) }
+    ensures ok { IfOk result (λ end. Shows (Tree.by_fx (held_fixed fixed.now)) path.now body.now at end lister.old.out lister.new.out) }
     ensures err { IfErr result (λ e. HasFailed (kind_read (Tree.by_fx (held_fixed fixed.now)) body.now at) at e) }
 {
     lister.none_of(b"occurrences", path)?;

@@ -2,9 +2,8 @@
 ghost use Rattle.std.specs.Prelude.{◌≡◌, length, IfOk};
 ghost use Rattle.ax_format.specs.Plain.{catalogue_tree};
 ghost use Rattle.ax_format.specs.Sizes.{longest_block};
-ghost use Rattle.ax_blocks.specs.Made.{tree_command};
 ghost use Rattle.ax_codec.specs.Standing.{StandForEach};
-ghost use Rattle.ax_text.specs.ShowText.{ShowText, OpaqueShown};
+ghost use Rattle.ax_show_views.specs.ShowCommand.{show_command};
 
 use crate::block::list_block;
 use crate::tables::{Tables, tables_of};
@@ -38,7 +37,7 @@ impl<'c> ShowViews<'c> {
         codecs: &'c Codecs,
     ) -> Result<ShowViews<'c>, AllocError>
         requires { StandForEach codecs.now.codecs (catalogue_tree catalogue.now) }
-        ensures command { IfOk result (λ work. ⟦<ShowViews<'c> as BlockWork>⟧.command work ≡ tree_command (λ number spec block. ShowText spec block number) (λ number category content. OpaqueShown number category content) (catalogue_tree catalogue.now)) }
+        ensures command { IfOk result (λ work. ⟦<ShowViews<'c> as BlockWork>⟧.command work ≡ show_command (catalogue_tree catalogue.now)) }
         ensures sound { IfOk result (λ work. ⟦<ShowViews<'c> as BlockWork>⟧.sound work) }
     {
         let tables = tables_of(alloc, catalogue)?;
@@ -56,7 +55,7 @@ impl<'c> ShowViews<'c> {
 impl<'c> BlockWork for ShowViews<'c> {
     ghost use Rattle.std.specs.Prelude.{◌≡◌, true};
 
-    ghost command = { λ s. tree_command (λ number spec block. ShowText spec block number) (λ number category content. OpaqueShown number category content) (catalogue_tree s.catalogue.now) };
+    ghost command = { λ s. show_command (catalogue_tree s.catalogue.now) };
 
     ghost sound = { λ s. StandForEach s.codecs.now.codecs (catalogue_tree s.catalogue.now) × (s.tables ≡ s.catalogue.now) };
 

@@ -1,15 +1,12 @@
 //! Runs of bits of a known length, printed member by member: elements, spares, groups and parts.
-ghost use Rattle.std.specs.Prelude.{◌≡◌, ◌+◌, ◌*◌, ◌/◌, ◌%◌, ◌^◌, ◌<◌, ◌≤◌, length, drop, take, decimal, OnOk};
-ghost use Rattle.ax_bits.specs.Bits.{bits, number_of, word};
-ghost use Rattle.ax_format.specs.Reader.{fixed_value, members_value};
+ghost use Rattle.std.specs.Prelude.{◌≡◌, ◌+◌, ◌*◌, ◌/◌, ◌%◌, ◌^◌, ◌<◌, ◌≤◌, length, OnOk};
+ghost use Rattle.ax_bits.specs.Bits.{word};
 ghost use Rattle.ax_format.specs.InBounds.{IsWidth, FixedInBounds, MembersInBounds};
 ghost use Rattle.ax_format.specs.Plain.{fixed_tree, member_tree, members_tree, part_tree};
 ghost use Rattle.ax_format.specs.Sizes.{longest_body};
-ghost use Rattle.ax_format.specs.Tree.{member_and, no_members};
 ghost use Rattle.ax_format.specs.Widths.{width, members_width};
-ghost use Rattle.ax_text.specs.Printing.{after_spaces, Puts};
-ghost use Rattle.ax_text.specs.ValueText.{one_onto, fixed_onto, part_onto};
-ghost use Rattle.ax_text_views.specs.Prints.{members_read_onto};
+ghost use Rattle.ax_text_views.specs.Prints.{PrintsNumber, PrintsFixed, PrintsMembers, PrintsPart};
+ghost use Rattle.ax_values.specs.Members.{member_alone};
 
 use crate::line::Line;
 use ax_bits::{bits_at, short_bits_at};
@@ -23,7 +20,7 @@ use std::alloc::AllocError;
 fn print_wide(line: &mut Line, width: u32, body: &[u8], at: u32) -> Result<(), AllocError>
     requires width { IsWidth width }
     requires within { at + width ≤ 8 * length body.now }
-    ensures { OnOk result (Puts after_spaces (one_onto (decimal (number_of (take width (drop at (bits body.now)))))) line.old line.new) }
+    ensures { OnOk result (PrintsNumber width body.now at line.old line.new) }
 {
     line.wide_number(bits_at(body, at, width))
 }
@@ -34,7 +31,7 @@ fn print_number(line: &mut Line, width: u32, body: &[u8], at: &mut u32) -> Resul
     requires width { IsWidth width }
     requires within { at.old + width ≤ 8 * length body.now }
     requires body { length body.now ≤ longest_body }
-    ensures text { OnOk result (Puts after_spaces (one_onto (decimal (number_of (take width (drop at.old (bits body.now)))))) line.old line.new) }
+    ensures text { OnOk result (PrintsNumber width body.now at.old line.old line.new) }
     ensures at { at.new ≡ at.old + width }
 {
     let here = *at;
@@ -57,7 +54,7 @@ pub(crate) fn print_fixed(
     requires bounds { FixedInBounds (fixed_tree fixed.now) }
     requires within { at.old + width (fixed_tree fixed.now) ≤ 8 * length body.now }
     requires body { length body.now ≤ longest_body }
-    ensures text { OnOk result (Puts after_spaces (fixed_onto (fixed_tree fixed.now) (fixed_value (fixed_tree fixed.now) (drop at.old (bits body.now)))) line.old line.new) }
+    ensures text { OnOk result (PrintsFixed (fixed_tree fixed.now) body.now at.old line.old line.new) }
     ensures at { OnOk result (at.new ≡ at.old + width (fixed_tree fixed.now)) }
 {
     match fixed {
@@ -83,7 +80,7 @@ pub(crate) fn print_members(
     requires bounds { MembersInBounds (members_tree members.now) }
     requires within { at.old + members_width (members_tree members.now) ≤ 8 * length body.now }
     requires body { length body.now ≤ longest_body }
-    ensures text { OnOk result (Puts after_spaces (members_read_onto (members_tree members.now) (drop at.old (bits body.now))) line.old line.new) }
+    ensures text { OnOk result (PrintsMembers (members_tree members.now) body.now at.old line.old line.new) }
     ensures at { OnOk result (at.new ≡ at.old + members_width (members_tree members.now)) }
 {
     for member in members.as_slice() {
@@ -100,11 +97,11 @@ fn print_member(
     body: &[u8],
     at: &mut u32,
 ) -> Result<(), AllocError>
-    requires bounds { MembersInBounds (member_and (member_tree member.now) no_members) }
-    requires within { at.old + members_width (member_and (member_tree member.now) no_members) ≤ 8 * length body.now }
+    requires bounds { MembersInBounds (member_alone (member_tree member.now)) }
+    requires within { at.old + members_width (member_alone (member_tree member.now)) ≤ 8 * length body.now }
     requires body { length body.now ≤ longest_body }
-    ensures text { OnOk result (Puts after_spaces (members_read_onto (member_and (member_tree member.now) no_members) (drop at.old (bits body.now))) line.old line.new) }
-    ensures at { OnOk result (at.new ≡ at.old + members_width (member_and (member_tree member.now) no_members)) }
+    ensures text { OnOk result (PrintsMembers (member_alone (member_tree member.now)) body.now at.old line.old line.new) }
+    ensures at { OnOk result (at.new ≡ at.old + members_width (member_alone (member_tree member.now))) }
 {
     match member {
         Member::Named { name, fixed } => {
@@ -132,7 +129,7 @@ pub(crate) fn print_part(
     requires bounds { MembersInBounds (part_tree part.now) }
     requires within { at.old + members_width (part_tree part.now) ≤ 8 * length body.now }
     requires body { length body.now ≤ longest_body }
-    ensures text { OnOk result (Puts after_spaces (part_onto (part_tree part.now) (members_value (part_tree part.now) (drop at.old (bits body.now)))) line.old line.new) }
+    ensures text { OnOk result (PrintsPart (part_tree part.now) body.now at.old line.old line.new) }
     ensures at { OnOk result (at.new ≡ at.old + members_width (part_tree part.now)) }
 {
     line.text(b"part")?;

@@ -1,19 +1,15 @@
 //! Items and subitems of a fixed kind, printed by a template that begins with their name.
-ghost use Rattle.std.specs.Prelude.{◌≡◌, ◌+◌, ◌*◌, ◌≤◌, [], length, drop, IfOk, IfErr, IfSome, OnOk};
+ghost use Rattle.std.specs.Prelude.{◌≡◌, ◌+◌, ◌*◌, ◌≤◌, [], length, IfOk, IfErr, IfSome, OnOk};
 ghost use Rattle.std.proofs.Props.{props};
-ghost use Rattle.ax_bits.specs.Bits.{bits};
 ghost use Rattle.ax_format.specs.InBounds.{FixedInBounds, InBounds};
 ghost use Rattle.ax_format.specs.Lengths.{capped};
 ghost use Rattle.ax_format.specs.Plain.{fixed_tree};
-ghost use Rattle.ax_format.specs.Reader.{fixed_value};
 ghost use Rattle.ax_format.specs.Sizes.{longest_body};
 ghost use Rattle.ax_format.specs.Tree as Tree;
-ghost use Rattle.ax_format.specs.Tree.{named, subitem};
+ghost use Rattle.ax_format.specs.Tree.{named};
 ghost use Rattle.ax_format.specs.Widths as Widths;
 ghost use Rattle.ax_fspec.specs.Reading.{kind_read};
-ghost use Rattle.ax_text.specs.Printing.{after_spaces, Puts};
-ghost use Rattle.ax_text.specs.Slots.{slot_onto};
-ghost use Rattle.ax_text_views.specs.Prints.{Prints};
+ghost use Rattle.ax_text_views.specs.Prints.{fixed_slot, PrintsNamed, SlotPrints};
 ghost use Rattle.ax_text_views.specs.Templates.{AreSteps, ends, member_template, whole_template};
 ghost use Rattle.ax_values.specs.SlotReading.{HasFailed};
 
@@ -92,7 +88,7 @@ fn print_named(
     requires bounds { FixedInBounds (fixed_tree item.now.fixed.now) }
     requires within { at + Widths.width (fixed_tree item.now.fixed.now) ≤ 8 * length body.now }
     requires body { length body.now ≤ longest_body }
-    ensures { OnOk result (Puts after_spaces (slot_onto (subitem item.now.name (Tree.fixed (fixed_tree item.now.fixed.now))) (fixed_value (fixed_tree item.now.fixed.now) (drop at (bits body.now)))) line.old line.new) }
+    ensures { OnOk result (PrintsNamed item.now.name (fixed_tree item.now.fixed.now) body.now at line.old line.new) }
 {
     if let Some(steps) = &item.steps {
         line.steps(steps, body, at, item.width as u32)?;
@@ -116,7 +112,7 @@ pub(crate) fn print_item(
     requires bounds { InBounds (Tree.fixed (fixed_tree item.now.fixed.now)) }
     requires body { length body.now ≤ longest_body }
     requires at { at ≤ length body.now }
-    ensures ok { IfOk result (λ end. Prints (slot_onto (subitem item.now.name (Tree.fixed (fixed_tree item.now.fixed.now)))) (kind_read (Tree.fixed (fixed_tree item.now.fixed.now)) body.now at) body.now at end line.old line.new) }
+    ensures ok { IfOk result (λ end. SlotPrints (fixed_slot item.now.name (fixed_tree item.now.fixed.now)) body.now at end line.old line.new) }
     ensures err { IfErr result (λ e. HasFailed (kind_read (Tree.fixed (fixed_tree item.now.fixed.now)) body.now at) at e) }
 {
     let end = unit_end(body, at, item.width as u32)?;

@@ -1,13 +1,10 @@
 //! Fixed kinds and parts, printed by their templates.
-ghost use Rattle.std.specs.Prelude.{◌+◌, ◌*◌, ◌≤◌, length, drop, OnOk};
-ghost use Rattle.ax_bits.specs.Bits.{bits};
+ghost use Rattle.std.specs.Prelude.{◌+◌, ◌*◌, ◌≤◌, length, OnOk};
 ghost use Rattle.ax_format.specs.InBounds.{FixedInBounds, MembersInBounds};
 ghost use Rattle.ax_format.specs.Plain.{fixed_tree, part_tree};
-ghost use Rattle.ax_format.specs.Reader.{fixed_value, members_value};
 ghost use Rattle.ax_format.specs.Sizes.{longest_body};
 ghost use Rattle.ax_format.specs.Widths.{width, members_width};
-ghost use Rattle.ax_text.specs.Printing.{after_spaces, Puts};
-ghost use Rattle.ax_text.specs.ValueText.{fixed_onto, part_onto};
+ghost use Rattle.ax_text_views.specs.Prints.{PrintsFixed, PrintsPart};
 
 use crate::drafting::{TextFixed, TextPart};
 use crate::fixed::{print_fixed, print_part};
@@ -26,7 +23,7 @@ pub(crate) fn print_held(
     requires bounds { FixedInBounds (fixed_tree held.now.fixed.now) }
     requires within { at + width (fixed_tree held.now.fixed.now) ≤ 8 * length body.now }
     requires body { length body.now ≤ longest_body }
-    ensures { OnOk result (Puts after_spaces (fixed_onto (fixed_tree held.now.fixed.now) (fixed_value (fixed_tree held.now.fixed.now) (drop at (bits body.now)))) line.old line.new) }
+    ensures { OnOk result (PrintsFixed (fixed_tree held.now.fixed.now) body.now at line.old line.new) }
 {
     if let Some(steps) = &held.steps {
         line.steps(steps, body, at, held.width as u32)?;
@@ -48,7 +45,7 @@ pub(crate) fn print_held_part(
     requires bounds { MembersInBounds (part_tree held.now.part.now) }
     requires within { at + members_width (part_tree held.now.part.now) ≤ 8 * length body.now }
     requires body { length body.now ≤ longest_body }
-    ensures { OnOk result (Puts after_spaces (part_onto (part_tree held.now.part.now) (members_value (part_tree held.now.part.now) (drop at (bits body.now)))) line.old line.new) }
+    ensures { OnOk result (PrintsPart (part_tree held.now.part.now) body.now at line.old line.new) }
 {
     if let Some(steps) = &held.steps {
         line.steps(steps, body, at, held.width as u32)?;

@@ -1,9 +1,9 @@
 //! Templates of runs of bits: the octets that are known of the kind, and the widths of the numbers between them, put together
 //! once.
-ghost use Rattle.std.specs.Prelude.{◌≡◌, ◌+◌, ◌<◌, ◌≤◌, [], ◌∷◌, Some, None, length, take, IfOk, OnOk};
-ghost use Rattle.ax_text_views.specs.Drafts.{Adds, drafted};
+ghost use Rattle.std.specs.Prelude.{◌≡◌, ◌+◌, ◌<◌, ◌≤◌, [], ◌∷◌, Some, None, length, IfOk, OnOk};
+ghost use Rattle.ax_text_views.specs.Drafts.{Adds, drafted, MakesStep};
 ghost use Rattle.ax_text_views.specs.Templates as Templates;
-ghost use Rattle.ax_text_views.specs.Templates.{before, number_then, text_then, whole_template, steps_then, with_number};
+ghost use Rattle.ax_text_views.specs.Templates.{before, number_then, text_then, whole_template};
 
 use crate::literal::{LITERAL_ROOM, Literal};
 use crate::room::put_octet;
@@ -53,7 +53,7 @@ impl Draft {
     /// Makes a step of the octets after the steps, with a number after them or with none. Err is want of memory, or a step more
     /// than it may have.
     fn push_step(&mut self, number: Option<u32>) -> Result<(), AllocError>
-        ensures step { OnOk result ((r : Templates.Template) → steps_then self.new.steps r ≡ steps_then self.old.steps (with_number (take self.old.literal.count self.old.literal.octets) number r)) }
+        ensures step { OnOk result (MakesStep number self.old self.new) }
         ensures count { OnOk result (self.new.literal.count ≡ 0) }
     {
         if self.steps.count() >= self.most {

@@ -2,6 +2,7 @@
 use Rattle.std.specs.Prelude.{◌≡◌, ℕ, ◌⊎◌, List, Some}
 use Rattle.ax_lines.specs.Lined.{all_lines, Lined}
 use Rattle.ax_lines.specs.Commands.{LineAnswer, LineCommand, HasOneAnswer, output_of, results_of, AreAnswered}
+use Rattle.ax_lines.specs.Ending.{longest_line, longest_input}
 use Rattle.ax_lines.specs.declared.end.LinesEnd.{LinesEnd}
 use Rattle.ax_lines.specs.declared.end.LinesEnd.TheVariants.{Done, OutOfMemory}
 use Rattle.ax_outside.specs.Changes.{SourceChange, SinkChange, Gains}
@@ -19,3 +20,7 @@ Completes c line_limit limit i o e =
     HasOneAnswer c
     → (input : List ℕ) (lines : List (List ℕ)) (answers : List (LineAnswer _)) → i.left ≡ Some input → Lined line_limit limit 0 input lines all_lines → AreAnswered c lines answers → ¬ (Rose i.faults i.faults') → ¬ (Rose o.faults o.faults')
     → (e ≡ OutOfMemory) ⊎ IsDoneWith answers o e
+
+-- the same within the limits of every input
+abbrev pub CompletesWhole : {F : Type 0} → LineCommand F → SourceChange → SinkChange → LinesEnd F → Type 0
+CompletesWhole c i o e = Completes c longest_line longest_input i o e

@@ -1,5 +1,5 @@
 -- What contracts see of a line reader and of its answers.
-use Rattle.std.specs.Prelude.{◌≡◌, ◌==◌, ℕ, ◌+◌, ◌≤◌, ◌⊎◌, Bool, true, false, List, [], ◌++◌, length, Option, Some, None, Result, Ok, Err}
+use Rattle.std.specs.Prelude.{◌≡◌, ◌==◌, ℕ, ◌+◌, ◌<◌, ◌≤◌, ◌⊎◌, Bool, true, false, List, [], ◌++◌, length, Option, Some, None, Result, Ok, Err}
 use Rattle.std.specs.Borrow.{Bor}
 use Rattle.ax_lines.specs.Feeds.{IsPlain}
 use Rattle.ax_lines.specs.Holding.{Took}
@@ -136,6 +136,16 @@ pub record StopsInLine (line_limit limit given : ℕ) (buffered : List ℕ) (i :
   pub plain : IsPlain (buffered ++ taken)
   pub short : length (buffered ++ taken) ≤ line_limit
   pub within : given + length (buffered ++ taken) ≤ limit
+
+-- the same of a reader, and that it took octets past its limit
+abbrev pub ReaderEnds : ReaderState → SourceChange → LinedEnd → Type 0
+ReaderEnds reader i e = FindsEnd reader.line_limit reader.limit reader.given reader.buffered i e
+
+abbrev pub ReaderStops : ReaderState → SourceChange → Type 0
+ReaderStops reader i = StopsInLine reader.line_limit reader.limit reader.given reader.buffered i
+
+abbrev pub ReaderPasses : ReaderState → SourceChange → Type 0
+ReaderPasses reader i = reader.limit + i.taken < reader.given + length reader.buffered + i.taken'
 
 -- the reader after an answer
 pub record IsAfter (old : ReaderState) (i : SourceChange) (result : Result (Option (List ℕ)) LineError) (new : ReaderState) : Type 0 where

@@ -4,9 +4,9 @@ use Rattle.std.specs.Prelude.{◌≡◌, ℕ, ◌+◌, ◌<◌, ◌≤◌, ◌�
 use Rattle.ax_lines.specs.Feeds.{IsPlain}
 use Rattle.ax_lines.specs.Holding.{Took}
 use Rattle.ax_lines.specs.Lined.{LinedEnd, line, IsNextLine, Lined}
-use Rattle.ax_lines.specs.Reader.{read_ahead}
+use Rattle.ax_lines.specs.Reader.{ReaderState, read_ahead}
 use Rattle.ax_lines.specs.Commands.{LineCommand, LineAnswer, gives, refused, output_of, results_of, AreAnswered}
-use Rattle.ax_lines.specs.Ending.{lines_end}
+use Rattle.ax_lines.specs.Ending.{lines_end, longest_line, longest_input}
 use Rattle.ax_lines.specs.declared.end.LinesEnd.{LinesEnd}
 use Rattle.ax_lines.specs.declared.end.LinesEnd.TheVariants.{Done, Refused, LineTooLong, InputTooLong, ReadFault, WriteFault, OutOfMemory}
 use Rattle.ax_outside.specs.Changes.{SourceChange, SinkChange, Gains, GainsWithPart}
@@ -186,3 +186,10 @@ pub record LinesRun {F : Type 0} (c : LineCommand F) (line_limit limit : ℕ) (i
   pub counts : CountsOnly i o e
   pub source_later : i.faults ≤ i.faults'
   pub out_later : o.faults ≤ o.faults'
+
+-- the same within the limits of a reader, and within those of every input
+abbrev pub LinesRunBy : {F : Type 0} → LineCommand F → ReaderState → SourceChange → SinkChange → LinesEnd F → Type 0
+LinesRunBy c reader i o e = LinesRun c reader.line_limit reader.limit i o e
+
+abbrev pub LinesRunWhole : {F : Type 0} → LineCommand F → SourceChange → SinkChange → LinesEnd F → Type 0
+LinesRunWhole c i o e = LinesRun c longest_line longest_input i o e

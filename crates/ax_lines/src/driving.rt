@@ -1,9 +1,8 @@
 //! The loop over the lines of an input, for every line command.
-ghost use Rattle.std.specs.Prelude.{◌≡◌, ℕ, ◌<◌, ◌≤◌, ◌^◌, List, [], Some, None};
+ghost use Rattle.std.specs.Prelude.{◌≡◌, ◌<◌, ◌≤◌, ◌^◌, [], None};
 ghost use Rattle.ax_lines.specs.Ending.{longest_line};
-ghost use Rattle.ax_lines.specs.Runs.{LinesRun};
-ghost use Rattle.ax_lines.specs.Standing.{StandsAfter};
-ghost use Rattle.ax_lines.specs.declared.end.LinesEnd.TheVariants.{Refused};
+ghost use Rattle.ax_lines.specs.Runs.{LinesRunBy};
+ghost use Rattle.ax_lines.specs.Standing.{StandsWhereRefused};
 ghost use Rattle.ax_outside.specs.Changes.{source_change, sink_change};
 
 use crate::doing::do_line;
@@ -24,8 +23,8 @@ pub fn drive_lines<W: LineWork, S: Source, K: Sink>(
     requires short { reader.old.line_limit ≤ longest_line }
     requires bounded { reader.old.limit < 2 ^ 63 }
     requires sound { W.sound work.old }
-    ensures stands { (input : List ℕ) (line : ℕ) (fault : W.Fault) → S.left source.old ≡ Some input → result ≡ Refused line fault → StandsAfter reader.old.line_limit reader.old.limit input (S.left source.new) reader.new line }
-    ensures runs { LinesRun (W.command work.old) reader.old.line_limit reader.old.limit (source_change S.Source source.old source.new) (sink_change K.Sink out.old out.new) result }
+    ensures stands { StandsWhereRefused reader.old reader.new (source_change S.Source source.old source.new) result }
+    ensures runs { LinesRunBy (W.command work.old) reader.old (source_change S.Source source.old source.new) (sink_change K.Sink out.old out.new) result }
 {
     let mut lines = 0;
     let mut results = 0;

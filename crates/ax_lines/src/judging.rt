@@ -1,8 +1,6 @@
 //! What octets show: a line, or an end of the lines.
-ghost use Rattle.std.specs.Prelude.{◌≡◌, ℕ, ◌+◌, ◌<◌, ◌≤◌, List, length, min, None, Option, IfSome, IfOk};
-ghost use Rattle.ax_lines.specs.Feeds.{IsFirstFeed};
-ghost use Rattle.ax_lines.specs.Judging.{IsCut, Judges};
-ghost use Rattle.ax_outside.specs.Told.{IsAtEnd};
+ghost use Rattle.std.specs.Prelude.{◌≤◌, ◌<◌, IfSome, IfOk};
+ghost use Rattle.ax_lines.specs.Judging.{IsCut, JudgesShown};
 
 use crate::line_error::LineError;
 
@@ -42,8 +40,7 @@ pub fn judge(
 ) -> Result<Option<Cut>, LineError>
     requires there { IfSome feed (λ at. at < count) }
     ensures within { IfOk result (λ found. IfSome found (λ cut. (cut.line ≤ cut.whole) × (cut.whole ≤ count))) }
-    ensures shows { (limit given : ℕ) (octets : List ℕ) (left : Option (List ℕ)) → given + room ≡ limit → length octets ≡ count → IsFirstFeed octets feed → (feed ≡ None → count < min line_limit room + 1 → IsAtEnd left)
-        → Judges line_limit limit given octets left result }
+    ensures shows { JudgesShown feed count line_limit room result }
 {
     let cut = line_cut(feed, count);
     if cut.line as u64 <= line_limit && cut.whole as u64 <= room {

@@ -49,7 +49,7 @@ impl LineReader {
     ghost use Rattle.std.specs.Borrow.{sem};
     ghost use Rattle.std.specs.Io.BufRead.{Rests};
     ghost use Rattle.ax_lines.specs.Feeds.{IsPlain};
-    ghost use Rattle.ax_lines.specs.Reader.{IsAfter, IsOpen, line_read, ended_by, ended_after, OnEnd, OnTooLong, OnReadFault, UnlessReadFault, FindsEnd, StopsInLine};
+    ghost use Rattle.ax_lines.specs.Reader.{IsAfter, IsOpen, line_read, ended_by, ended_after, OnEnd, OnTooLong, OnReadFault, UnlessReadFault, ReaderEnds, ReaderPasses, ReaderStops};
     ghost use Rattle.ax_lines.specs.contracts.reader.LineReader.{the_row};
     ghost use Rattle.ax_outside.specs.Changes.{source_change};
     ghost use Rattle.ax_outside.specs.Told.{Rose};
@@ -100,9 +100,9 @@ impl LineReader {
     pub fn next<'b, S: Source>(&'b mut self, source: &mut S) -> Result<Option<&'b [u8]>, LineError>
         ensures* after { sem 𝓛 (Rests the_row self.entry (λ new. IsAfter self.old (source_change S.Source source.old source.new) (line_read result) new)) }
         ensures again { IfSome self.old.ended (λ ended. (ended_by result ≡ Some ended) × (source.new ≡ source.old)) }
-        ensures end { IsOpen self.old → OnEnd result (FindsEnd self.old.line_limit self.old.limit self.old.given self.old.buffered (source_change S.Source source.old source.new)) }
-        ensures past_limit { IsOpen self.old → OnTooLong result (self.old.limit + S.taken source.old < self.old.given + length self.old.buffered + S.taken source.new) }
-        ensures fault { IsOpen self.old → OnReadFault result (StopsInLine self.old.line_limit self.old.limit self.old.given self.old.buffered (source_change S.Source source.old source.new)) }
+        ensures end { IsOpen self.old → OnEnd result (ReaderEnds self.old (source_change S.Source source.old source.new)) }
+        ensures past_limit { IsOpen self.old → OnTooLong result (ReaderPasses self.old (source_change S.Source source.old source.new)) }
+        ensures fault { IsOpen self.old → OnReadFault result (ReaderStops self.old (source_change S.Source source.old source.new)) }
         ensures asks { IsPlain self.old.buffered ⊎ (source.new ≡ source.old) }
         ensures rose { IsOpen self.old → OnReadFault result (Rose (S.faults source.old) (S.faults source.new)) }
         ensures never_falls { S.faults source.old ≤ S.faults source.new }

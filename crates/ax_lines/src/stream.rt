@@ -1,8 +1,7 @@
 //! A line command over a stream.
 ghost use Rattle.std.specs.Prelude.{◌≡◌};
-ghost use Rattle.ax_lines.specs.Completing.{Completes};
-ghost use Rattle.ax_lines.specs.Ending.{longest_line, longest_input};
-ghost use Rattle.ax_lines.specs.Runs.{LinesRun};
+ghost use Rattle.ax_lines.specs.Completing.{CompletesWhole};
+ghost use Rattle.ax_lines.specs.Runs.{LinesRunWhole};
 ghost use Rattle.ax_outside.specs.Changes.{source_change, sink_change};
 
 use crate::driving::drive_lines;
@@ -23,8 +22,8 @@ pub fn run_lines<W: LineWork, S: Source, K: Sink>(
     out: &mut K,
 ) -> LinesEnd<W::Fault>
     requires { W.sound work.old }
-    ensures completes { Completes (W.command work.old) longest_line longest_input (source_change S.Source source.old source.new) (sink_change K.Sink out.old out.new) result }
-    ensures runs { LinesRun (W.command work.old) longest_line longest_input (source_change S.Source source.old source.new) (sink_change K.Sink out.old out.new) result }
+    ensures completes { CompletesWhole (W.command work.old) (source_change S.Source source.old source.new) (sink_change K.Sink out.old out.new) result }
+    ensures runs { LinesRunWhole (W.command work.old) (source_change S.Source source.old source.new) (sink_change K.Sink out.old out.new) result }
 {
     let Ok(mut reader) = LineReader::new(alloc, LONGEST_LINE, LONGEST_INPUT) else {
         return LinesEnd::OutOfMemory;

@@ -45,8 +45,17 @@ use ax_words::Line;
 use std::alloc::{AllocError, Global};
 
 /// What `--help` writes.
-const HELP: &[u8] =
-    b"asterix check SPEC\nasterix canon SPEC...\nasterix show SPEC...\nasterix text SPEC...\nasterix build SPEC...\nasterix filter EXPR SPEC...\nasterix migrate OLD NEW\nasterix trial SPEC SEED COUNT\nasterix salvage SPEC...\nasterix expand SPEC EXPANSION\nasterix convert OLD NEW\n";
+const HELP: &[u8] = b"asterix check SPEC\n\
+    asterix canon SPEC...\n\
+    asterix show SPEC...\n\
+    asterix text SPEC...\n\
+    asterix build SPEC...\n\
+    asterix filter EXPR SPEC...\n\
+    asterix migrate OLD NEW\n\
+    asterix trial SPEC SEED COUNT\n\
+    asterix salvage SPEC...\n\
+    asterix expand SPEC EXPANSION\n\
+    asterix convert OLD NEW\n";
 
 /// What `--version` writes.
 const VERSION: &[u8] = b"asterix 1\n";

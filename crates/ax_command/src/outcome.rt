@@ -2,12 +2,14 @@
 ghost use Rattle.std.specs.Prelude.{◌≡◌};
 ghost use Rattle.ax_command.specs.Outcomes.{outcome_of_stop, outcome_of_end, outcome_of_lines, outcome_of_job_stop};
 ghost use Rattle.ax_command.specs.Status.{status_of};
+ghost use Rattle.ax_command.specs.declared.outcome.JobStop.TheVariants as JobStopOf;
 
 use ax_blocks::{InputFault, StreamEnd};
 use ax_build_work::TextFault;
 use ax_filter::FilterFault;
 use ax_lines::LinesEnd;
 use ax_load::{LoadStop, SpecFault};
+use std::alloc::AllocError;
 
 /// How a run ends.
 #[derive(Drop)]
@@ -65,6 +67,14 @@ pub enum JobStop {
     Refused(Refusal),
     /// No memory was left, and nothing was taken or written.
     OutOfMemory,
+}
+
+impl From<AllocError> for JobStop {
+    ghost from_gives = { λ _ stop. stop ≡ JobStopOf.OutOfMemory };
+
+    fn from(_error: AllocError) -> Self {
+        JobStop::OutOfMemory
+    }
 }
 
 impl From<JobStop> for Outcome {

@@ -1,8 +1,7 @@
 //! What the run gave to standard output and to the report, held back and written together: the lines of the blocks first, then
 //! their octets, then the lines behind these.
-ghost use Rattle.std.specs.Prelude.{◌≡◌, ◌≤◌, [], length, take, drop, None, IfOk, OnOk};
+ghost use Rattle.std.specs.Prelude.{◌≡◌, ◌≤◌, [], length, None, OnOk};
 ghost use Rattle.std.specs.Io.KnownBytes.{Appends, Keeps};
-ghost use Rattle.asterix.specs.Given.{given, WhereSound};
 
 use std::alloc::Global;
 use std::io::{self, ErrorKind, Write};
@@ -55,6 +54,9 @@ fn broken() -> io::Error {
 }
 
 impl<W: Write + Drop, P: Write + Drop> Held<W, P> {
+    ghost use Rattle.asterix.specs.Given.{WhereSound};
+    ghost use Rattle.asterix.specs.Held.{TakesLines, TakesOctets, given_out, given_report, last_lines, leading_lines};
+
     /// That output and that report, with room for what is held back. An `Err` is want of memory.
     pub fn new(alloc: Global, out: W, report: P) -> io::Result<Held<W, P>> {
         Ok(Held {
@@ -71,9 +73,7 @@ impl<W: Write + Drop, P: Write + Drop> Held<W, P> {
     /// Takes octets of the output, and answers how many. Where they don't fit, what is held back is written first.
     #[tactic(auto, using(crate::proofs::Givens::after))]
     pub fn write_octets(&mut self, piece: &[u8]) -> io::Result<usize>
-        ensures within { IfOk result (λ n. n ≤ length piece.now) }
-        ensures octets { IfOk result (λ n. Appends (given (W.contents self.old.out) self.old.octets.items) (given (W.contents self.new.out) self.new.octets.items) (take n piece.now)) }
-        ensures lines { OnOk result (Keeps (given (P.contents self.old.report) self.old.lines.items) (given (P.contents self.new.report) self.new.lines.items)) }
+        ensures { TakesOctets self.old self.new piece.now result }
     {
         if piece.len() < ROOM.saturating_sub(self.octets.len()) {
             return self.hold_octets(piece);
@@ -88,9 +88,7 @@ impl<W: Write + Drop, P: Write + Drop> Held<W, P> {
 
     #[tactic(auto, using(crate::proofs::Givens::taken))]
     fn hold_octets(&mut self, piece: &[u8]) -> io::Result<usize>
-        ensures within { IfOk result (λ n. n ≤ length piece.now) }
-        ensures octets { IfOk result (λ n. Appends (given (W.contents self.old.out) self.old.octets.items) (given (W.contents self.new.out) self.new.octets.items) (take n piece.now)) }
-        ensures lines { OnOk result (Keeps (given (P.contents self.old.report) self.old.lines.items) (given (P.contents self.new.report) self.new.lines.items)) }
+        ensures takes { TakesOctets self.old self.new piece.now result }
         ensures sound { OnOk result (self.old.failed ≡ None) }
     {
         if self.failed.is_some() {
@@ -104,9 +102,7 @@ impl<W: Write + Drop, P: Write + Drop> Held<W, P> {
     #[tactic(auto, using(crate::proofs::Givens::taken))]
     fn pass_octets(&mut self, piece: &[u8]) -> io::Result<usize>
         requires none { WhereSound self.old.failed (self.old.octets.items ≡ []) }
-        ensures within { IfOk result (λ n. n ≤ length piece.now) }
-        ensures octets { IfOk result (λ n. Appends (given (W.contents self.old.out) self.old.octets.items) (given (W.contents self.new.out) self.new.octets.items) (take n piece.now)) }
-        ensures lines { OnOk result (Keeps (given (P.contents self.old.report) self.old.lines.items) (given (P.contents self.new.report) self.new.lines.items)) }
+        ensures takes { TakesOctets self.old self.new piece.now result }
         ensures sound { OnOk result (self.old.failed ≡ None) }
     {
         if self.failed.is_some() {
@@ -122,9 +118,7 @@ impl<W: Write + Drop, P: Write + Drop> Held<W, P> {
     /// Takes octets of lines, and answers how many. Where they don't fit, what is held back is written first.
     #[tactic(auto, using(crate::proofs::Givens::after))]
     pub fn write_lines(&mut self, piece: &[u8]) -> io::Result<usize>
-        ensures within { IfOk result (λ n. n ≤ length piece.now) }
-        ensures lines { IfOk result (λ n. WhereSound self.new.failed (Appends (given (P.contents self.old.report) self.old.lines.items) (given (P.contents self.new.report) self.new.lines.items) (take n piece.now))) }
-        ensures octets { OnOk result (WhereSound self.new.failed (Keeps (given (W.contents self.old.out) self.old.octets.items) (given (W.contents self.new.out) self.new.octets.items))) }
+        ensures { TakesLines self.old self.new piece.now result }
     {
         if piece.len() < ROOM.saturating_sub(self.lines.len()) {
             return self.hold_lines(piece);
@@ -139,9 +133,7 @@ impl<W: Write + Drop, P: Write + Drop> Held<W, P> {
 
     #[tactic(auto, using(crate::proofs::Givens::taken))]
     fn hold_lines(&mut self, piece: &[u8]) -> io::Result<usize>
-        ensures within { IfOk result (λ n. n ≤ length piece.now) }
-        ensures lines { IfOk result (λ n. WhereSound self.new.failed (Appends (given (P.contents self.old.report) self.old.lines.items) (given (P.contents self.new.report) self.new.lines.items) (take n piece.now))) }
-        ensures octets { OnOk result (WhereSound self.new.failed (Keeps (given (W.contents self.old.out) self.old.octets.items) (given (W.contents self.new.out) self.new.octets.items))) }
+        ensures takes { TakesLines self.old self.new piece.now result }
         ensures sound { WhereSound self.new.failed (self.old.failed ≡ None) }
     {
         if self.failed.is_some() {
@@ -158,9 +150,7 @@ impl<W: Write + Drop, P: Write + Drop> Held<W, P> {
     #[tactic(auto, using(crate::proofs::Givens::taken))]
     fn pass_lines(&mut self, piece: &[u8]) -> io::Result<usize>
         requires none { WhereSound self.old.failed (self.old.lines.items ≡ []) }
-        ensures within { IfOk result (λ n. n ≤ length piece.now) }
-        ensures lines { IfOk result (λ n. WhereSound self.new.failed (Appends (given (P.contents self.old.report) self.old.lines.items) (given (P.contents self.new.report) self.new.lines.items) (take n piece.now))) }
-        ensures octets { OnOk result (WhereSound self.new.failed (Keeps (given (W.contents self.old.out) self.old.octets.items) (given (W.contents self.new.out) self.new.octets.items))) }
+        ensures takes { TakesLines self.old self.new piece.now result }
         ensures sound { WhereSound self.new.failed (self.old.failed ≡ None) }
     {
         if matches!(self.failed, Some(Failed::Line | Failed::ToldLine)) {
@@ -181,8 +171,8 @@ impl<W: Write + Drop, P: Write + Drop> Held<W, P> {
     /// Writes what is held back. Where the lines behind the octets can't be written, that is told as `last`.
     #[tactic(auto, using(crate::proofs::Givens::flushed))]
     fn flush_all(&mut self, last: Failed)
-        ensures out { WhereSound self.new.failed (Keeps (given (W.contents self.old.out) self.old.octets.items) (W.contents self.new.out)) }
-        ensures report { WhereSound self.new.failed (Keeps (given (P.contents self.old.report) self.old.lines.items) (P.contents self.new.report)) }
+        ensures out { WhereSound self.new.failed (Keeps (given_out self.old) (W.contents self.new.out)) }
+        ensures report { WhereSound self.new.failed (Keeps (given_report self.old) (P.contents self.new.report)) }
         ensures octets { WhereSound self.new.failed (self.new.octets.items ≡ []) }
         ensures lines { self.new.lines.items ≡ [] }
     {
@@ -193,8 +183,8 @@ impl<W: Write + Drop, P: Write + Drop> Held<W, P> {
     /// Writes what is held back, of which the last `own` octets are those of lines that belong to no block, and answers which
     /// write has failed.
     pub fn close(&mut self, own: usize) -> Option<Failed>
-        ensures out { WhereSound result (Keeps (given (W.contents self.old.out) self.old.octets.items) (W.contents self.new.out)) }
-        ensures report { WhereSound result (Keeps (given (P.contents self.old.report) self.old.lines.items) (P.contents self.new.report)) }
+        ensures out { WhereSound result (Keeps (given_out self.old) (W.contents self.new.out)) }
+        ensures report { WhereSound result (Keeps (given_report self.old) (P.contents self.new.report)) }
     {
         self.leading = self.leading.max(self.lines.len().saturating_sub(own));
         self.flush_all(Failed::ToldLine);
@@ -204,7 +194,7 @@ impl<W: Write + Drop, P: Write + Drop> Held<W, P> {
     /// Writes the lines that octets are held back behind, and then the octets.
     fn flush_blocks(&mut self)
         ensures out { WhereSound self.new.failed (Appends (W.contents self.old.out) (W.contents self.new.out) self.old.octets.items) }
-        ensures report { WhereSound self.new.failed (Appends (P.contents self.old.report) (P.contents self.new.report) (take self.old.leading self.old.lines.items)) }
+        ensures report { WhereSound self.new.failed (Appends (P.contents self.old.report) (P.contents self.new.report) (leading_lines self.old)) }
         ensures none { WhereSound self.new.failed (self.new.octets.items ≡ []) }
         ensures lines { WhereSound self.new.failed (self.new.lines.items ≡ self.old.lines.items) }
         ensures leading { WhereSound self.new.failed (self.new.leading ≡ self.old.leading) }
@@ -235,7 +225,7 @@ impl<W: Write + Drop, P: Write + Drop> Held<W, P> {
         ensures sound { WhereSound self.new.failed (self.old.failed ≡ None) }
         ensures out { W.contents self.new.out ≡ W.contents self.old.out }
         ensures octets { self.new.octets.items ≡ self.old.octets.items }
-        ensures report { WhereSound self.new.failed (Appends (P.contents self.old.report) (P.contents self.new.report) (drop self.old.leading self.old.lines.items)) }
+        ensures report { WhereSound self.new.failed (Appends (P.contents self.old.report) (P.contents self.new.report) (last_lines self.old)) }
         ensures empty { self.new.lines.items ≡ [] }
     {
         if self.failed.is_none() && put(&mut self.report, &self.lines[self.leading..]).is_err() {

@@ -1,5 +1,5 @@
 -- The files and the jobs of `migrate` and `convert`.
-use Rattle.std.proofs.Common.{◌≡◌, ℕ, false, true, Some, None, Result, Ok, Err, IfOk, List, [], ◌∷◌, refl, sym, ◌∙◌, subst}
+use Rattle.std.proofs.Common.{◌≡◌, ℕ, false, true, Some, None, Result, List, [], ◌∷◌, refl, sym, ◌∙◌, subst}
 use Rattle.ax_command.specs.declared.outcome.JobStop.{JobStop}
 use Rattle.ax_command.specs.declared.outcome.Outcome.{Outcome}
 use Rattle.ax_command.specs.declared.outcome.Refusal.TheVariants.{OtherCategory}
@@ -8,12 +8,14 @@ use Rattle.ax_migrate.specs.Commands.{migrate_command}
 use Rattle.ax_format.specs.Plain.{spec_tree}
 use Rattle.ax_format.specs.Specification.{SpecTree}
 use Rattle.ax_format.specs.declared.spec.Spec.{Spec}
-use Rattle.ax_outside.specs.Changes.{SourceChange, SinkChange}
 use Rattle.ax_blocks.specs.Commands.{BlockCommand}
 use Rattle.ax_words.specs.declared.line.Line.{Line}
 use Rattle.ax_words.specs.declared.line.Line.TheVariants.{Check, Canon, Show, Text, Build, Filter, Migrate, Trial, Salvage, Expand, Convert, Help, Version}
+use Rattle.ax_app.proofs.Commands.{prepared_line, takes_line}
+use Rattle.ax_app.specs.Channels.{Changes}
+use Rattle.ax_app.specs.Commands.{RunsAs, RunsPrepared, RunsLine}
 use Rattle.ax_app.specs.Given.{only, TakesEditions}
-use Rattle.ax_app.specs.Jobs.{Job, each_block, refuses, IsJob, OverEditions, IsEditionsJob, answers_each, other_category, BlocksRun, RunsJob}
+use Rattle.ax_app.specs.Jobs.{Job, each_block, refuses, IsJob, OverEditions, IsEditionsJob, answers_each, other_category}
 
 -- ---- the lines
 
@@ -47,25 +49,19 @@ of_editions Version h = never Version h.0
 
 -- a line whose jobs are those of this command
 module _ (line : Line) (command : SpecTree → SpecTree → BlockCommand) (jobs : (specs : List SpecTree) (job : Job) → OverEditions command specs job → IsJob line (only specs) job) (old new : Spec) where
-  editions_run : (i : SourceChange) (o r : SinkChange) (result : Result Outcome JobStop) → old.category ≡ new.category → IfOk result (BlocksRun (command (spec_tree old) (spec_tree new)) i o r)
-      → IfOk result (RunsJob line (only (spec_tree old ∷ spec_tree new ∷ [])) i o r)
-  editions_run i o r (Ok outcome) same runs = record {
-    job = each_block (command (spec_tree old) (spec_tree new));
-    is = jobs _ _ (record { old = spec_tree old; new = spec_tree new; two = refl; is = answers_each same refl });
-    runs = runs;
-  }
-  editions_run i o r (Err stop) same runs = tt
+  editions_job : old.category ≡ new.category → IsJob line (only (spec_tree old ∷ spec_tree new ∷ [])) (each_block (command (spec_tree old) (spec_tree new)))
+  editions_job same = jobs _ _ (record { old = spec_tree old; new = spec_tree new; two = refl; is = answers_each same refl })
 
   editions_refused : (one other : ℕ) → one ≡ old.category → other ≡ new.category → (old.category ≡ new.category → ⊥) → IsJob line (only (spec_tree old ∷ spec_tree new ∷ [])) (refuses (OtherCategory one other))
   editions_refused one other p q differ = jobs _ _ (record { old = spec_tree old; new = spec_tree new; two = refl; is = other_category differ (λ i. refuses (OtherCategory (p i) (q i))) })
 
-pub migrate_runs : (one other : List ℕ) (old new : Spec) (i : SourceChange) (o r : SinkChange) (result : Result Outcome JobStop) → old.category ≡ new.category → IfOk result (BlocksRun (migrate_command (spec_tree old) (spec_tree new)) i o r)
-    → IfOk result (RunsJob (Migrate one other) (only (spec_tree old ∷ spec_tree new ∷ [])) i o r)
-migrate_runs one other = editions_run (Migrate one other) migrate_command (λ specs job h. h)
+pub migrate_line : (one other : List ℕ) (old new : Spec) (x : Changes) (result : Result Outcome JobStop) → old.category ≡ new.category → RunsPrepared (each_block (migrate_command (spec_tree old) (spec_tree new))) x result
+    → RunsLine (Migrate one other) (only (spec_tree old ∷ spec_tree new ∷ [])) x result
+migrate_line one other old new x result same = prepared_line (Migrate one other) _ _ x (editions_job (Migrate one other) migrate_command (λ specs job h. h) old new same) result
 
-pub convert_runs : (one other : List ℕ) (old new : Spec) (i : SourceChange) (o r : SinkChange) (result : Result Outcome JobStop) → old.category ≡ new.category → IfOk result (BlocksRun (convert_command (spec_tree old) (spec_tree new)) i o r)
-    → IfOk result (RunsJob (Convert one other) (only (spec_tree old ∷ spec_tree new ∷ [])) i o r)
-convert_runs one other = editions_run (Convert one other) convert_command (λ specs job h. h)
+pub convert_line : (one other : List ℕ) (old new : Spec) (x : Changes) (result : Result Outcome JobStop) → old.category ≡ new.category → RunsAs (each_block (convert_command (spec_tree old) (spec_tree new))) x result
+    → RunsLine (Convert one other) (only (spec_tree old ∷ spec_tree new ∷ [])) x result
+convert_line one other old new x result same = takes_line (Convert one other) _ _ x (editions_job (Convert one other) convert_command (λ specs job h. h) old new same) result tt
 
 refused_of : (line : Line) (old new : Spec) (one other : ℕ) → IsOfEditions line → one ≡ old.category → other ≡ new.category → (old.category ≡ new.category → ⊥) → IsJob line (only (spec_tree old ∷ spec_tree new ∷ [])) (refuses (OtherCategory one other))
 refused_of line old new one other (migrate a b is) p q differ =

@@ -1,5 +1,5 @@
 -- The files and the job of `expand`.
-use Rattle.std.proofs.Common.{◌≡◌, ℕ, Option, Some, None, IsSome, Result, Ok, Err, IfOk, IfErr, List, [], ◌∷◌, refl, sym, ◌∙◌, ap, subst}
+use Rattle.std.proofs.Common.{◌≡◌, ℕ, Some, None, IsSome, Result, List, [], ◌∷◌, refl, sym, ◌∙◌, ap, subst}
 use Rattle.ax_command.specs.declared.outcome.JobStop.{JobStop}
 use Rattle.ax_command.specs.declared.outcome.Outcome.{Outcome}
 use Rattle.ax_command.specs.declared.outcome.Refusal.TheVariants.{OtherCategory, ExpansionUnused}
@@ -9,12 +9,14 @@ use Rattle.ax_expand_work.specs.ExpandCommand.{re_frn, expand_command}
 use Rattle.ax_format.specs.Plain.{spec_tree}
 use Rattle.ax_format.specs.Specification.{SpecTree}
 use Rattle.ax_format.specs.declared.spec.Spec.{Spec}
-use Rattle.ax_outside.specs.Changes.{SourceChange, SinkChange}
 use Rattle.ax_words.specs.declared.line.Line.{Line}
 use Rattle.ax_words.specs.declared.line.Line.TheVariants.{Check, Canon, Show, Text, Build, Filter, Migrate, Trial, Salvage, Expand, Convert, Help, Version}
+use Rattle.ax_app.proofs.Commands.{takes_line}
+use Rattle.ax_app.specs.Channels.{Changes}
+use Rattle.ax_app.specs.Commands.{RunsAs, RunsLine, RunsExpand}
 use Rattle.ax_app.specs.Given.{Given, expansion_of}
-use Rattle.ax_app.specs.Jobs.{Job, each_block, refuses, IsJob, ExpandsBy, IsExpandJob, expands, unused, of_another, IsStopped, BlocksRun, RunsJob}
-use Rattle.ax_app.specs.Loaded.{given_of, IsLoadedFor}
+use Rattle.ax_app.specs.Jobs.{Job, each_block, refuses, IsJob, ExpandsBy, IsExpandJob, expands, unused, of_another}
+use Rattle.ax_app.specs.Loaded.{given_of, with_expansion, IsLoadedFor}
 use Rattle.ax_app.specs.declared.loading.Loaded.{Loaded}
 use Rattle.ax_app.specs.declared.loading.Loaded.TheVariants as LoadedOf
 
@@ -41,37 +43,22 @@ is_expand (Convert old new) h = none_there (Convert old new) h
 is_expand Help h = none_there Help h
 is_expand Version h = none_there Version h
 
--- what the two files give
-abbrev pub both : Spec → Expansion → Given
-both spec x = record { specs = spec_tree spec ∷ []; expansion = Some (expansion_tree x) }
-
 -- what `expand` says of the two, the command says of what was loaded
-module _ (line : Line) (loaded : Loaded) (spec : Spec) (x : Expansion) where
-  pub expansion_runs : (i : SourceChange) (o r : SinkChange) (result : Result Outcome JobStop) → loaded ≡ LoadedOf.WithExpansion spec x → IsLoadedFor line loaded
-      → ((names : List ℕ × List ℕ) → IfOk result (RunsJob (Expand names.0 names.1) (both spec x) i o r)) → IfOk result (RunsJob line (given_of loaded) i o r)
-  expansion_runs i o r result is for run =
-      let m = is_expand line (subst (IsLoadedFor line) is for) in
-      subst (λ l. IfOk result (RunsJob l (given_of loaded) i o r)) (sym m.is) (subst (λ l. IfOk result (RunsJob (Expand m.names.0 m.names.1) (given_of l) i o r)) (sym is) (run m.names))
+pub expansion_line : (line : Line) (loaded : Loaded) (spec : Spec) (x : Expansion) (y : Changes) (result : Result Outcome JobStop) → loaded ≡ LoadedOf.WithExpansion spec x → IsLoadedFor line loaded → RunsExpand spec x y result
+    → RunsLine line (given_of loaded) y result
+expansion_line line loaded spec x y result is for run =
+    let m = is_expand line (subst (IsLoadedFor line) is for) in
+    subst (λ l. RunsLine l (given_of loaded) y result) (sym m.is) (subst (λ l. RunsLine (Expand m.names.0 m.names.1) (given_of l) y result) (sym is) (run m.names))
 
-  pub expansion_stopped : (result : Result Outcome JobStop) → loaded ≡ LoadedOf.WithExpansion spec x → IsLoadedFor line loaded
-      → ((names : List ℕ × List ℕ) → IfErr result (IsStopped (Expand names.0 names.1) (both spec x))) → IfErr result (IsStopped line (given_of loaded))
-  expansion_stopped result is for stopped =
-      let m = is_expand line (subst (IsLoadedFor line) is for) in
-      subst (λ l. IfErr result (IsStopped l (given_of loaded))) (sym m.is) (subst (λ l. IfErr result (IsStopped (Expand m.names.0 m.names.1) (given_of l))) (sym is) (stopped m.names))
+pub expand_line : (spec : Spec) (x : Expansion) (frn : ℕ) (y : Changes) (result : Result Outcome JobStop) → spec.category ≡ x.category → re_frn (spec_tree spec) ≡ Some frn
+    → RunsAs (each_block (expand_command (spec_tree spec) frn (expansion_tree x))) y result → RunsExpand spec x y result
+expand_line spec x frn y result same stands runs = λ names. takes_line (Expand names.0 names.1) (with_expansion spec x) (each_block (expand_command (spec_tree spec) frn (expansion_tree x))) y
+    (record { spec = spec_tree spec; x = expansion_tree x; one = refl; expansion = refl; is = expands same frn stands refl }) result tt runs
 
-pub expand_runs : (names : List ℕ × List ℕ) (spec : Spec) (x : Expansion) (frn : ℕ) (i : SourceChange) (o r : SinkChange) (result : Result Outcome JobStop) → spec.category ≡ x.category → re_frn (spec_tree spec) ≡ Some frn
-    → IfOk result (BlocksRun (expand_command (spec_tree spec) frn (expansion_tree x)) i o r) → IfOk result (RunsJob (Expand names.0 names.1) (both spec x) i o r)
-expand_runs names spec x frn i o r (Ok outcome) same stands runs = record {
-  job = each_block (expand_command (spec_tree spec) frn (expansion_tree x));
-  is = record { spec = spec_tree spec; x = expansion_tree x; one = refl; expansion = refl; is = expands same frn stands refl };
-  runs = runs;
-}
-expand_runs names spec x frn i o r (Err stop) same stands runs = tt
-
-pub expand_refuses : (names : List ℕ × List ℕ) (spec : Spec) (x : Expansion) → (spec.category ≡ x.category → ⊥) → IsJob (Expand names.0 names.1) (both spec x) (refuses (OtherCategory spec.category x.category))
+pub expand_refuses : (names : List ℕ × List ℕ) (spec : Spec) (x : Expansion) → (spec.category ≡ x.category → ⊥) → IsJob (Expand names.0 names.1) (with_expansion spec x) (refuses (OtherCategory spec.category x.category))
 expand_refuses names spec x differ = record { spec = spec_tree spec; x = expansion_tree x; one = refl; expansion = refl; is = of_another differ refl }
 
-pub expand_unused : (names : List ℕ × List ℕ) (spec : Spec) (x : Expansion) → spec.category ≡ x.category → re_frn (spec_tree spec) ≡ None → IsJob (Expand names.0 names.1) (both spec x) (refuses (ExpansionUnused spec.category))
+pub expand_unused : (names : List ℕ × List ℕ) (spec : Spec) (x : Expansion) → spec.category ≡ x.category → re_frn (spec_tree spec) ≡ None → IsJob (Expand names.0 names.1) (with_expansion spec x) (refuses (ExpansionUnused spec.category))
 expand_unused names spec x same none = record { spec = spec_tree spec; x = expansion_tree x; one = refl; expansion = refl; is = unused same none refl }
 
 -- ---- one job

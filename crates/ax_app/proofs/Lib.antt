@@ -1,15 +1,16 @@
 pub mod Causing
 pub mod Checks
+pub mod Commands
 pub mod Editions
 pub mod Ending
 pub mod Ends
 pub mod Expansions
-pub mod Falling
 pub mod FileNesting
 pub mod Filters
 pub mod GivenOnce
 pub mod Loads
 pub mod Memory
+pub mod Obeying
 pub mod Once
 pub mod OwnOutcomes
 pub mod Passing
@@ -17,3 +18,4 @@ pub mod SalvagedWhole
 pub mod Stages
 pub mod TakenHeadline
 pub mod Trials
+pub mod WholeRun

@@ -1,5 +1,5 @@
 -- A run, stage by stage.
-use Rattle.std.proofs.Common.{◌≡◌, ℕ, ◌-◌, ◌^◌, ◌<◌, ◌≤◌, ◌⊎◌, inl, inr, Bool, List, [], ◌∷◌, Option, Some, Result, Ok, Err, IfOk, length, refl, sym, ◌∙◌, ap, subst, arith}
+use Rattle.std.proofs.Common.{◌≡◌, ℕ, ◌-◌, ◌^◌, ◌<◌, ◌≤◌, ◌⊎◌, inl, inr, Bool, List, [], Option, Some, Result, Ok, Err, length, refl, sym, ◌∙◌, ap, subst, arith}
 use Rattle.std.proofs.Math.Nat.{eq-or-lt_of_le}
 use Rattle.ax_bits.specs.Bits.{AreOctets}
 use Rattle.ax_build_work.proofs.Once.{build_once}
@@ -17,7 +17,6 @@ use Rattle.ax_lines.specs.Commands.{LineAnswer}
 use Rattle.ax_lines.specs.Completing as OfLinesDone
 use Rattle.ax_lines.specs.Ending.{longest_line}
 use Rattle.ax_lines.specs.Runs as OfLines
-use Rattle.ax_lines.specs.Runs.{LinesRun}
 use Rattle.ax_lines.specs.declared.end.LinesEnd.{LinesEnd}
 use Rattle.ax_lines.specs.declared.end.LinesEnd.TheVariants as LinesEndOf
 use Rattle.ax_load.specs.Languages.{Language, category_files, expansion_files}
@@ -45,7 +44,6 @@ use Rattle.ax_words.specs.Words.{HasNoShape, JudgesWords}
 use Rattle.ax_words.specs.declared.error.WordsError.{WordsError}
 use Rattle.ax_words.specs.declared.error.WordsError.TheVariants as WordsErrorOf
 use Rattle.ax_words.specs.declared.line.Line.{Line}
-use Rattle.ax_words.specs.declared.line.Line.TheVariants.{Check, Build, Trial}
 use Rattle.ax_app.proofs.Ends.{IsEarly, stop_is_early, job_stop_is_early, no_usage_of_blocks, no_usage_of_lines, no_usage_of_salvage, done_of_blocks, done_of_lines, done_of_salvage}
 use Rattle.ax_words.proofs.Once.{once as shape_once}
 use Rattle.ax_app.proofs.GivenOnce.{line_ends_for_memory}
@@ -53,40 +51,11 @@ use Rattle.ax_app.proofs.Once.{does_once, IsGood, good_job}
 use Rattle.ax_app.proofs.SalvagedWhole.{salvage_completes, salvage_reads}
 use Rattle.ax_app.specs.Answer.{by_words, by_files, by_refusal, by_job}
 use Rattle.ax_app.specs.Completing.{NoFaultCounted, HasWhole, IsDoneWith}
-use Rattle.ax_app.specs.Given.{Given, only, LineGives, LineEnds, in_specs, in_expansion, files_of, takes_distinct, expansion_of}
+use Rattle.ax_app.specs.Given.{LineGives, LineEnds, in_specs, in_expansion, files_of, takes_distinct, expansion_of}
 use Rattle.ax_app.specs.Headline.{Headline, answered, stopped_at_words, stopped_at_files, stopped_before_input, stopped_in_job, IsHindrance, of_library, of_memory}
-use Rattle.ax_app.specs.Jobs.{Job, writes, each_block, builds, salvages, refuses, check_text, IsJob, ReadsInput, TextEnds, written, cut, no_memory, JobRuns, RunsJob, EndsTrial, IsReadyToCheck, IsReadyToTry}
+use Rattle.ax_app.specs.Jobs.{Job, writes, each_block, builds, salvages, refuses, ReadsInput, TextEnds, written, cut, no_memory, JobRuns}
 use Rattle.ax_app.specs.Salvages.{outcome_of_salvage}
 use Rattle.ax_app.specs.Running.{Does, StopsAtFiles, StopsBeforeInput, Runs, at_words, no_words, at_files, before_input, in_job, Ended, Causes}
-
--- ---- the jobs of the commands
-
--- a text is written, no octet taken and nothing reported
-pub text_job : (line : Line) (given : Given) (left held' : Option (List ℕ)) (taken faults faults' : ℕ) (o : SinkChange) (count : ℕ) (text : List ℕ) (outcome : Outcome) → IsJob line given (writes count text) → TextEnds count text o outcome
-    → RunsJob line given (record { left = left; left' = left; taken = taken; taken' = taken; faults = faults; faults' = faults }) o (record { held = held'; held' = held'; faults = faults'; faults' = faults' }) outcome
-text_job line given left held' taken faults faults' o count text outcome is ends = record {
-  job = writes count text;
-  is = is;
-  runs = record { ends = ends; untouched = record { left = refl; taken = refl }; report = refl; source_quiet = refl; report_quiet = refl };
-}
-
-pub check_job : (file : List ℕ) (specs : List SpecTree) (left held' : Option (List ℕ)) (taken faults faults' : ℕ) (o : SinkChange) (outcome : Outcome) → IsReadyToCheck specs → ((spec : SpecTree) → specs ≡ spec ∷ [] → TextEnds 0 (check_text spec) o outcome)
-    → RunsJob (Check file) (only specs) (record { left = left; left' = left; taken = taken; taken' = taken; faults = faults; faults' = faults }) o (record { held = held'; held' = held'; faults = faults'; faults' = faults' }) outcome
-check_job file specs left held' taken faults faults' o outcome ready ends =
-    text_job (Check file) (only specs) left held' taken faults faults' o 0 (check_text ready.spec) outcome (record { spec = ready.spec; one = ready.one; is = refl }) (ends ready.spec ready.one)
-
-pub trial_job : (file : List ℕ) (seed count : ℕ) (specs : List SpecTree) (left held' : Option (List ℕ)) (taken faults faults' : ℕ) (o : SinkChange) (result : Result Outcome JobStop) → IsReadyToTry count specs
-    → IfOk result (λ outcome. (spec : SpecTree) → specs ≡ spec ∷ [] → EndsTrial spec seed count o outcome)
-    → IfOk result (RunsJob (Trial file seed count) (only specs) (record { left = left; left' = left; taken = taken; taken' = taken; faults = faults; faults' = faults }) o (record { held = held'; held' = held'; faults = faults'; faults' = faults' }))
-trial_job file seed count specs left held' taken faults faults' o (Ok outcome) ready ends =
-    let t = ends ready.spec ready.one in
-    text_job (Trial file seed count) (only specs) left held' taken faults faults' o count t.line outcome (record { spec = ready.spec; one = ready.one; line = t.line; trial = t.trial; is = refl }) t.ends
-trial_job file seed count specs left held' taken faults faults' o (Err stop) ready ends = tt
-
--- `build` reports nothing
-pub build_job : (files : List (List ℕ)) (specs : List SpecTree) (i : SourceChange) (o : SinkChange) (held : Option (List ℕ)) (faults : ℕ) (end : LinesEnd TextFault) (outcome : Outcome) → LinesRun (build_command specs) longest_line longest_input i o end → outcome ≡ outcome_of_lines end
-    → RunsJob (Build files) (only specs) i o (record { held = held; held' = held; faults = faults; faults' = faults }) outcome
-build_job files specs i o held faults end outcome runs is = record { job = builds specs; is = refl; runs = record { end = end; runs = runs; is = is; report = refl; report_quiet = refl } }
 
 -- ---- usage
 

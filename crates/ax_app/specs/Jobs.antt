@@ -253,6 +253,13 @@ pub record EndsTrial (spec : SpecTree) (seed count : ℕ) (o : SinkChange) (outc
   pub trial : IsTrial spec seed count line
   pub ends : TextEnds count line o outcome
 
+-- of the one specification that the files give
+abbrev pub EndsCheckOver : List SpecTree → SinkChange → Outcome → Type 0
+EndsCheckOver specs o outcome = (spec : SpecTree) → specs ≡ spec ∷ [] → TextEnds 0 (check_text spec) o outcome
+
+abbrev pub EndsTrialOver : List SpecTree → ℕ → ℕ → SinkChange → Outcome → Type 0
+EndsTrialOver specs seed count o outcome = (spec : SpecTree) → specs ≡ spec ∷ [] → EndsTrial spec seed count o outcome
+
 -- the line's job was run
 pub record RunsJob (line : Line) (given : Given) (i : SourceChange) (o r : SinkChange) (outcome : Outcome) : Type 0 where
   pub job : Job

@@ -13,6 +13,7 @@ use Rattle.ax_blocks.specs.Streams.{IsIdle}
 use Rattle.ax_words.specs.Words.{HasShape, HasNoShape}
 use Rattle.ax_words.specs.declared.line.Line.{Line}
 use Rattle.ax_words.specs.declared.line.Line.TheVariants as LineOf
+use Rattle.ax_app.specs.Channels.{Changes}
 use Rattle.ax_app.specs.Counting.{LoadsAll, LoadsThrough}
 use Rattle.ax_app.specs.Given.{Given, LineGives, LineEnds}
 use Rattle.ax_app.specs.Jobs.{Job, IsJob, IsStopped, JobRuns}
@@ -69,10 +70,10 @@ pub record Causes (i : SourceChange) (o r : SinkChange) (outcome : Outcome) : Ty
   pub too_long : outcome ≡ InputTooLong → i.taken + longest_input < i.taken'
 
 -- no count of faults of the source or of a sink fell
-pub record NoFaultFell (i : SourceChange) (o r : SinkChange) : Type 0 where
-  pub source : i.faults ≤ i.faults'
-  pub out : o.faults ≤ o.faults'
-  pub report : r.faults ≤ r.faults'
+pub record NoFaultFell (x : Changes) : Type 0 where
+  pub source : x.source.faults ≤ x.source.faults'
+  pub out : x.out.faults ≤ x.out.faults'
+  pub report : x.report.faults ≤ x.report.faults'
 
 -- no count of faults fell, and no number of octets loaded
 pub record NoCountFell (c : LibraryCounts) (i : SourceChange) (o r : SinkChange) : Type 0 where
@@ -101,12 +102,12 @@ TakesMemory LineOf.Help = ⊥
 TakesMemory LineOf.Version = ⊥
 
 -- where memory was wanting, no octet was taken from the source and none added to the output
-abbrev pub WasIdle : SourceChange → SinkChange → Outcome → Type 0
-WasIdle i o outcome = outcome ≡ OutOfMemory → IsUntouched i × GainsNothing o
+abbrev pub WasIdle : Changes → Outcome → Type 0
+WasIdle x outcome = outcome ≡ OutOfMemory → IsUntouched x.source × GainsNothing x.out
 
 -- so it is, but of a command that takes memory once it reads
-abbrev pub WantsFirst : Line → SourceChange → SinkChange → Outcome → Type 0
-WantsFirst line i o outcome = outcome ≡ OutOfMemory → TakesMemory line ⊎ (IsUntouched i × GainsNothing o)
+abbrev pub WantsFirst : Line → Changes → Outcome → Type 0
+WantsFirst line x outcome = outcome ≡ OutOfMemory → TakesMemory line ⊎ (IsUntouched x.source × GainsNothing x.out)
 
 -- the words ask for such a command
 pub record AsksForMemory (words : List (List ℕ)) : Type 0 where

@@ -1,5 +1,8 @@
 -- What a work does, and what it relies on.
-use Rattle.std.specs.Prelude.{◌≡◌, ℕ, List, None, length}
+use Rattle.std.specs.Prelude.{◌≡◌, ℕ, ◌≤◌, List, None, Some, length}
+use Rattle.ax_bits.specs.Bits.{AreOctets}
+use Rattle.ax_app.specs.Channels.{Changes}
+use Rattle.ax_app.specs.Ends.{as_stream}
 use Rattle.ax_app.specs.declared.end.DriveEnd.{DriveEnd}
 use Rattle.ax_app.specs.declared.end.DriveEnd.TheVariants.{Done}
 use Rattle.ax_app.specs.declared.job.Job.{Job}
@@ -11,12 +14,13 @@ use Rattle.ax_filter.specs.OfCode.{catalogue_of, expression}
 use Rattle.ax_filter_work.specs.FilterCommand.{filter_command}
 use Rattle.ax_migrate_views.specs.Blocks.{new_tree, old_tree}
 use Rattle.ax_migrate.specs.Commands.{migrate_command}
-use Rattle.ax_format.specs.Blocks.{BlockTree}
+use Rattle.ax_format.specs.Blocks.{BlockTree, SpellsStream}
 use Rattle.ax_format.specs.Plain.{catalogue_tree}
 use Rattle.ax_outside.specs.Changes.{SourceChange, SinkChange, Gains}
 use Rattle.ax_outside.specs.Told.{Rose}
 use Rattle.ax_blocks.specs.BlockCommands.{canon_command}
-use Rattle.ax_blocks.specs.Commands.{BlockCommand, output_of, report_of}
+use Rattle.ax_blocks.specs.Commands.{BlockCommand, AreGiven, output_of, report_of}
+use Rattle.ax_blocks.specs.Streams.{StreamRuns}
 use Rattle.ax_codec.specs.Standing.{StandForEach}
 
 -- ---- a job
@@ -66,6 +70,14 @@ IsMigrationOf (WorkOf.Migrate one) = Unit {0}
 abbrev pub IsMigration : Work → Type 0
 IsMigration work = IsMigrationOf work.blocks
 
+-- ---- a run of the loop
+
+abbrev pub Drives : BlockCommand → ℕ → Changes → DriveEnd → Type 0
+Drives c limit x end = StreamRuns c limit x.source x.out x.report (as_stream end)
+
+abbrev pub DrivesWork : Work → Changes → DriveEnd → Type 0
+DrivesWork work x end = Drives (work_command work) (limit_of work) x end
+
 -- ---- a run in whose way nothing stands
 
 -- no count of faults rose, and none stands at the last number that it can hold
@@ -79,3 +91,9 @@ pub record IsDoneWithAll (c : BlockCommand) (blocks : List BlockTree) (o r : Sin
   pub done : end ≡ Done (length blocks)
   pub out : Gains o (output_of c 0 blocks)
   pub report : Gains r (report_of c 0 blocks)
+
+-- of a source that tells its input: where it spells blocks within the limit, each is answered and no count rose, the loop is done
+-- with all of them
+abbrev pub CompletesWork : Work → Changes → DriveEnd → Type 0
+CompletesWork work x end = (input : List ℕ) (blocks : List BlockTree) → AreOctets input → x.source.left ≡ Some input → SpellsStream (work_command work).catalogue blocks input → length input ≤ limit_of work
+    → AreGiven (work_command work) 0 blocks → NoneRose x.source x.out x.report → IsDoneWithAll (work_command work) blocks x.out x.report end

@@ -1,13 +1,10 @@
 //! The block loop of jobs that take no memory for a block.
-ghost use Rattle.std.specs.Prelude.{◌≡◌, ◌≤◌, List, ℕ, None, Some, IsTrue, length};
-ghost use Rattle.ax_bits.specs.Bits.{AreOctets};
-ghost use Rattle.ax_app.specs.Ends.{as_stream, IsOfMigration};
-ghost use Rattle.ax_app.specs.Working.{IsDoneWithAll, IsMigration, IsNew, NoneRose, limit_of, work_command};
-ghost use Rattle.ax_format.specs.Blocks.{BlockTree, SpellsStream};
-ghost use Rattle.ax_outside.specs.Changes.{source_change, sink_change};
-ghost use Rattle.ax_blocks.specs.Commands.{AreGiven};
-ghost use Rattle.ax_blocks.specs.Streams.{StreamRuns};
+ghost use Rattle.std.specs.Prelude.{◌≡◌, None, IsTrue};
+ghost use Rattle.ax_app.specs.Channels.{changes, changes_of};
+ghost use Rattle.ax_app.specs.Ends.{IsOfMigration};
+ghost use Rattle.ax_app.specs.Working.{CompletesWork, Drives, DrivesWork, IsMigration, IsNew};
 
+use crate::channels::Channels;
 use crate::end::{DriveEnd, end_of};
 use crate::work::{BlocksWork, Work};
 use ax_blocks::{BlockReader, BlockWork};
@@ -17,33 +14,34 @@ use ax_outside::{Sink, Source};
 fn drive_blocks<W: BlockWork, S: Source, K: Sink, R: Sink>(
     reader: &mut BlockReader,
     blocks: &mut W,
-    source: &mut S,
-    out: &mut K,
-    report: &mut R,
+    io: Channels<'_, S, K, R>,
 ) -> DriveEnd
     requires fresh { reader.old ≡ record { limit = reader.old.limit; given = 0; ended = None } }
     requires sound { W.sound blocks.old }
     requires no_memory { IsTrue W.takes_memory → ⊥ }
-    ensures { StreamRuns (W.command blocks.old) reader.old.limit (source_change S.Source source.old source.new) (sink_change K.Sink out.old out.new) (sink_change R.Sink report.old report.new) (as_stream result) }
+    ensures { Drives (W.command blocks.old) reader.old.limit (changes S.Source K.Sink R.Sink io.entry io.exit) result }
 {
+    let Channels {
+        source,
+        out,
+        report,
+    } = io;
     end_of(ax_blocks::drive(reader, blocks, source, out, report))
 }
 
 /// The same, for each job.
 fn drive_job<S: Source, K: Sink, R: Sink>(
     work: &mut Work<'_, '_>,
-    source: &mut S,
-    out: &mut K,
-    report: &mut R,
+    io: Channels<'_, S, K, R>,
 ) -> DriveEnd
     requires new { IsNew work.old }
-    ensures { StreamRuns (work_command work.old) (limit_of work.old) (source_change S.Source source.old source.new) (sink_change K.Sink out.old out.new) (sink_change R.Sink report.old report.new) (as_stream result) }
+    ensures { DrivesWork work.old (changes S.Source K.Sink R.Sink io.entry io.exit) result }
 {
     let reader = &mut work.reader;
     match &mut work.blocks {
-        BlocksWork::Canon(blocks) => drive_blocks(reader, blocks, source, out, report),
-        BlocksWork::Filter(blocks) => drive_blocks(reader, blocks, source, out, report),
-        BlocksWork::Migrate(blocks) => drive_blocks(reader, blocks, source, out, report),
+        BlocksWork::Canon(blocks) => drive_blocks(reader, blocks, io),
+        BlocksWork::Filter(blocks) => drive_blocks(reader, blocks, io),
+        BlocksWork::Migrate(blocks) => drive_blocks(reader, blocks, io),
     }
 }
 
@@ -66,11 +64,14 @@ pub fn drive<S: Source, K: Sink, R: Sink>(
     report: &mut R,
 ) -> DriveEnd
     requires new { IsNew work.old }
-    ensures runs { StreamRuns (work_command work.old) (limit_of work.old) (source_change S.Source source.old source.new) (sink_change K.Sink out.old out.new) (sink_change R.Sink report.old report.new) (as_stream result) }
-    ensures completes { (input : List ℕ) (blocks : List BlockTree) → AreOctets input → S.left source.old ≡ Some input → SpellsStream (work_command work.old).catalogue blocks input → length input ≤ limit_of work.old
-        → AreGiven (work_command work.old) 0 blocks → NoneRose (source_change S.Source source.old source.new) (sink_change K.Sink out.old out.new) (sink_change R.Sink report.old report.new)
-        → IsDoneWithAll (work_command work.old) blocks (sink_change K.Sink out.old out.new) (sink_change R.Sink report.old report.new) result }
+    ensures runs { DrivesWork work.old (changes_of S.Source K.Sink R.Sink source.old source.new out.old out.new report.old report.new) result }
+    ensures completes { CompletesWork work.old (changes_of S.Source K.Sink R.Sink source.old source.new out.old out.new report.old report.new) result }
     ensures of_migration { IsOfMigration result → IsMigration work.old }
 {
-    drive_job(work, source, out, report)
+    let io = Channels {
+        source,
+        out,
+        report,
+    };
+    drive_job(work, io)
 }

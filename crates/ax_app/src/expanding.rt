@@ -1,16 +1,13 @@
 //! `expand`: the lines of the contents of RE.
-ghost use Rattle.std.specs.Prelude.{◌≡◌, List, ℕ, [], ◌∷◌, Some, IfOk, IfErr, OnErr};
-ghost use Rattle.ax_app.specs.Jobs.{BlocksRun, IsStopped, RunsJob};
-ghost use Rattle.ax_app.specs.Running.{NoFaultFell};
-ghost use Rattle.ax_command.specs.declared.outcome.JobStop.TheVariants.{OutOfMemory};
+ghost use Rattle.std.specs.Prelude.{◌≡◌, Some};
+ghost use Rattle.ax_app.specs.Channels.{changes};
+ghost use Rattle.ax_app.specs.Commands.{RunsEach, RunsExpand};
 ghost use Rattle.ax_expand.specs.Expansion.{expansion_tree};
 ghost use Rattle.ax_expand_work.specs.ExpandCommand.{expand_command, re_frn};
 ghost use Rattle.ax_format.specs.Plain.{spec_tree};
-ghost use Rattle.ax_outside.specs.Changes.{source_change, sink_change};
-ghost use Rattle.ax_blocks.specs.Streams.{IsIdle};
-ghost use Rattle.ax_words.specs.declared.line.Line.TheVariants.{Expand};
 
-use ax_blocks::run_blocks;
+use crate::channels::Channels;
+use crate::each_block::answer_blocks;
 use ax_check::Accepted;
 use ax_command::{JobStop, Outcome, Refusal};
 use ax_expand::AcceptedExpansion;
@@ -20,44 +17,32 @@ use ax_tables::compile;
 use std::alloc::Global;
 
 /// The lines of RE, which has that field reference number, in each block.
-#[tactic(auto, using(crate::proofs::Falling::falls))]
+#[tactic(auto, using(crate::proofs::Commands::commands))]
 fn expand_blocks<S: Source, K: Sink, R: Sink>(
     alloc: Global,
-    accepted: &Accepted,
+    spec: &Accepted,
     expansion: &AcceptedExpansion,
     frn: u32,
-    source: &mut S,
-    out: &mut K,
-    report: &mut R,
+    io: Channels<'_, S, K, R>,
 ) -> Result<Outcome, JobStop>
-    requires { re_frn (spec_tree accepted.now) ≡ Some frn }
-    ensures runs { IfOk result (BlocksRun (expand_command (spec_tree accepted.now) frn (expansion_tree expansion.now)) (source_change S.Source source.old source.new) (sink_change K.Sink out.old out.new) (sink_change R.Sink report.old report.new)) }
-    ensures memory { IfErr result (λ stop. stop ≡ OutOfMemory) }
-    ensures idle { OnErr result (IsIdle (source_change S.Source source.old source.new) (sink_change K.Sink out.old out.new) (sink_change R.Sink report.old report.new)) }
-    ensures later { NoFaultFell (source_change S.Source source.old source.new) (sink_change K.Sink out.old out.new) (sink_change R.Sink report.old report.new) }
+    requires { re_frn (spec_tree spec.now) ≡ Some frn }
+    ensures { RunsEach (expand_command (spec_tree spec.now) frn (expansion_tree expansion.now)) (changes S.Source K.Sink R.Sink io.entry io.exit) result }
 {
-    let Ok(codec) = compile(alloc, accepted) else {
-        return Err(JobStop::OutOfMemory);
-    };
-    let mut work = ExpandViews::new(alloc, accepted, &codec, expansion, frn);
-    Ok(Outcome::from(run_blocks(alloc, &mut work, source, out, report)))
+    let codec = compile(alloc, spec)?;
+    let mut work = ExpandViews::new(alloc, spec, &codec, expansion, frn);
+    answer_blocks(alloc, &mut work, io)
 }
 
 /// `expand`: the lines of the contents of RE in each block; or the refusal of two categories, or of an expansion for which the
 /// UAP has no item RE of kind explicit.
-#[tactic(auto, using(crate::proofs::Expansions::expand_jobs, crate::proofs::Falling::falls))]
+#[tactic(auto, using(crate::proofs::Expansions::expand_jobs, crate::proofs::Commands::commands))]
 pub(crate) fn expand<S: Source, K: Sink, R: Sink>(
     alloc: Global,
     accepted: &Accepted,
     expansion: &AcceptedExpansion,
-    source: &mut S,
-    out: &mut K,
-    report: &mut R,
+    io: Channels<'_, S, K, R>,
 ) -> Result<Outcome, JobStop>
-    ensures runs { (names : List ℕ × List ℕ) → IfOk result (RunsJob (Expand names.0 names.1) (record { specs = spec_tree accepted.now ∷ []; expansion = Some (expansion_tree expansion.now) }) (source_change S.Source source.old source.new) (sink_change K.Sink out.old out.new) (sink_change R.Sink report.old report.new)) }
-    ensures stopped { (names : List ℕ × List ℕ) → IfErr result (IsStopped (Expand names.0 names.1) (record { specs = spec_tree accepted.now ∷ []; expansion = Some (expansion_tree expansion.now) })) }
-    ensures idle { OnErr result (IsIdle (source_change S.Source source.old source.new) (sink_change K.Sink out.old out.new) (sink_change R.Sink report.old report.new)) }
-    ensures later { NoFaultFell (source_change S.Source source.old source.new) (sink_change K.Sink out.old out.new) (sink_change R.Sink report.old report.new) }
+    ensures { RunsExpand accepted.now expansion.now (changes S.Source K.Sink R.Sink io.entry io.exit) result }
 {
     let old = accepted.spec().category;
     let new = expansion.expansion().category;
@@ -68,5 +53,5 @@ pub(crate) fn expand<S: Source, K: Sink, R: Sink>(
         let category = old;
         return Err(JobStop::Refused(Refusal::ExpansionUnused { category }));
     };
-    expand_blocks(alloc, accepted, expansion, frn, source, out, report)
+    expand_blocks(alloc, accepted, expansion, frn, io)
 }

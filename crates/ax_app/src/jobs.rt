@@ -1,32 +1,27 @@
 //! The commands, over what their files give.
-ghost use Rattle.std.specs.Prelude.{◌≡◌, ◌≤◌, ◌^◌, List, ℕ, [], ◌∷◌, length, IsTrue, IfOk, IfErr, OnOk, OnErr};
-ghost use Rattle.ax_app.specs.Working.{IsSoundJob, job_command};
+ghost use Rattle.std.specs.Prelude.{◌≡◌, ◌≤◌, ◌^◌, [], ◌∷◌, length, IsTrue, IfOk, IfErr, OnOk, OnErr};
 ghost use Rattle.ax_relation.specs.Relates.{Relates};
-ghost use Rattle.ax_filter.specs.OfCode.{catalogue_of, expression};
-ghost use Rattle.ax_filter_work.specs.FilterCommand.{filter_command};
+ghost use Rattle.ax_filter.specs.OfCode.{catalogue_of};
 ghost use Rattle.ax_grammar.specs.InRange.{AreNumbersInRange};
 ghost use Rattle.ax_migrate.specs.Commands.{migrate_command};
 ghost use Rattle.ax_format.specs.Plain.{spec_tree, catalogue_tree};
-ghost use Rattle.ax_format.specs.Specification.{SpecTree};
-ghost use Rattle.ax_outside.specs.Changes.{source_change, sink_change, GainsNothing};
-ghost use Rattle.ax_command.specs.declared.outcome.JobStop.{JobStop};
+ghost use Rattle.ax_outside.specs.Changes.{sink_change, GainsNothing};
 ghost use Rattle.ax_command.specs.declared.outcome.JobStop.TheVariants.{OutOfMemory};
-ghost use Rattle.ax_blocks.specs.Streams.{IsIdle};
+ghost use Rattle.ax_blocks.specs.BlockCommands.{canon_command};
 ghost use Rattle.ax_words.specs.declared.line.Line.{Line};
-ghost use Rattle.ax_words.specs.declared.line.Line.TheVariants.{Canon, Show, Text, Filter};
-ghost use Rattle.ax_app.specs.Jobs.{BlocksRun, IsReady, IsReadyToCheck, IsReadyToTry, EndsTrial, IsStopped, RunsJob, TextEnds, check_text};
+ghost use Rattle.ax_app.specs.Channels.{changes};
+ghost use Rattle.ax_app.specs.Commands.{RunsEach, RunsEachPrepared, RunsPrepared, RunsLine, RunsFilter, RunsFilterOf};
+ghost use Rattle.ax_app.specs.Jobs.{salvages, IsReady, IsReadyToCheck, IsReadyToTry, EndsCheckOver, EndsTrialOver, IsStopped, TextEnds, check_text, show_command, text_command};
 ghost use Rattle.ax_app.specs.Given.{only, takes_distinct, TakesEditions};
 ghost use Rattle.ax_app.specs.Loaded.{given_of, IsLoadedFor};
-ghost use Rattle.ax_app.specs.Running.{NoFaultFell, WasIdle, WantsFirst};
 
+use crate::channels::Channels;
 use crate::converting::convert_blocks;
-use crate::driving::drive;
+use crate::each_block::{answer_blocks, drive_job};
 use crate::expanding::expand;
 use crate::job::Job;
 use crate::loading::Loaded;
-use crate::outcomes::{outcome_of, outcome_of_salvage};
-use crate::work::Work;
-use ax_blocks::run_blocks;
+use crate::outcomes::outcome_of_salvage;
 use ax_build_work::build_lines;
 use ax_check::{Accepted, Catalogue};
 use ax_command::{JobStop, Outcome, Refusal, line_of};
@@ -87,7 +82,7 @@ fn write_out<K: Sink>(out: &mut K, text: &[u8], blocks: u64) -> Outcome
 #[tactic(auto, using(crate::proofs::Checks::checks))]
 fn check<K: Sink>(alloc: Global, catalogue: &Catalogue, out: &mut K) -> Outcome
     requires { IsReadyToCheck (catalogue_tree catalogue.now) }
-    ensures ends { (spec : SpecTree) → catalogue_tree catalogue.now ≡ spec ∷ [] → TextEnds 0 (check_text spec) (sink_change K.Sink out.old out.new) result }
+    ensures ends { EndsCheckOver (catalogue_tree catalogue.now) (sink_change K.Sink out.old out.new) result }
     ensures first { result ≡ Outcome.OutOfMemory → GainsNothing (sink_change K.Sink out.old out.new) }
     ensures never_falls { K.faults out.old ≤ K.faults out.new }
 {
@@ -111,7 +106,7 @@ fn trial<K: Sink>(
     out: &mut K,
 ) -> Result<Outcome, JobStop>
     requires { IsReadyToTry count (catalogue_tree catalogue.now) }
-    ensures ends { IfOk result (λ outcome. (spec : SpecTree) → catalogue_tree catalogue.now ≡ spec ∷ [] → EndsTrial spec seed count (sink_change K.Sink out.old out.new) outcome) }
+    ensures ends { IfOk result (EndsTrialOver (catalogue_tree catalogue.now) seed count (sink_change K.Sink out.old out.new)) }
     ensures first { IfOk result (λ outcome. outcome ≡ Outcome.OutOfMemory → ⊥) }
     ensures memory { IfErr result (λ stop. stop ≡ OutOfMemory) }
     ensures nothing { OnErr result (GainsNothing (sink_change K.Sink out.old out.new)) }
@@ -121,170 +116,98 @@ fn trial<K: Sink>(
     let Some(accepted) = catalogue.at(0) else {
         unreachable!()
     };
-    let Ok(line) = trial_text(alloc, accepted, seed, count) else {
-        return Err(JobStop::OutOfMemory);
-    };
+    let line = trial_text(alloc, accepted, seed, count)?;
     Ok(write_out(out, &line, u64::from(count)))
 }
 
-/// Does a job on each block of the input. All memory is taken before the input is read.
-#[tactic(auto, using(crate::proofs::Memory::firsts, crate::proofs::Falling::falls))]
-fn drive_job<S: Source, K: Sink, R: Sink>(
-    alloc: Global,
-    job: Job<'_, '_>,
-    source: &mut S,
-    out: &mut K,
-    report: &mut R,
-) -> Result<Outcome, JobStop>
-    requires { IsSoundJob job }
-    ensures runs { IfOk result (BlocksRun (job_command job.entry) (source_change S.Source source.old source.new) (sink_change K.Sink out.old out.new) (sink_change R.Sink report.old report.new)) }
-    ensures memory { IfErr result (λ stop. stop ≡ OutOfMemory) }
-    ensures first { IfOk result (WasIdle (source_change S.Source source.old source.new) (sink_change K.Sink out.old out.new)) }
-    ensures idle { OnErr result (IsIdle (source_change S.Source source.old source.new) (sink_change K.Sink out.old out.new) (sink_change R.Sink report.old report.new)) }
-    ensures later { NoFaultFell (source_change S.Source source.old source.new) (sink_change K.Sink out.old out.new) (sink_change R.Sink report.old report.new) }
-{
-    let Ok(mut work) = Work::new(alloc, job, LONGEST_INPUT) else {
-        return Err(JobStop::OutOfMemory);
-    };
-    Ok(outcome_of(drive(&mut work, source, out, report)))
-}
-
 /// `canon`: the canonical form of each block. All memory is taken before the input is read.
-#[tactic(auto, using(crate::proofs::Falling::falls))]
+#[tactic(auto, using(crate::proofs::Commands::commands))]
 fn canon<S: Source, K: Sink, R: Sink>(
     alloc: Global,
     catalogue: &Catalogue,
-    source: &mut S,
-    out: &mut K,
-    report: &mut R,
+    io: Channels<'_, S, K, R>,
 ) -> Result<Outcome, JobStop>
-    ensures runs { (files : List (List ℕ)) → IfOk result (RunsJob (Canon files) (only (catalogue_tree catalogue.now)) (source_change S.Source source.old source.new) (sink_change K.Sink out.old out.new) (sink_change R.Sink report.old report.new)) }
-    ensures memory { IfErr result (λ stop. stop ≡ OutOfMemory) }
-    ensures first { IfOk result (WasIdle (source_change S.Source source.old source.new) (sink_change K.Sink out.old out.new)) }
-    ensures idle { OnErr result (IsIdle (source_change S.Source source.old source.new) (sink_change K.Sink out.old out.new) (sink_change R.Sink report.old report.new)) }
-    ensures later { NoFaultFell (source_change S.Source source.old source.new) (sink_change K.Sink out.old out.new) (sink_change R.Sink report.old report.new) }
+    ensures { RunsEachPrepared (canon_command (catalogue_tree catalogue.now)) (changes S.Source K.Sink R.Sink io.entry io.exit) result }
 {
-    let Ok(codecs) = Codecs::compile(alloc, catalogue) else {
-        return Err(JobStop::OutOfMemory);
-    };
-    drive_job(alloc, Job::Canon(catalogue, &codecs), source, out, report)
+    let codecs = Codecs::compile(alloc, catalogue)?;
+    drive_job(alloc, Job::Canon(catalogue, &codecs), io)
 }
 
 /// `show`: the listing of each block.
-#[tactic(auto, using(crate::proofs::Falling::falls))]
+#[tactic(auto, using(crate::proofs::Commands::commands))]
 fn show<S: Source, K: Sink, R: Sink>(
     alloc: Global,
     catalogue: &Catalogue,
-    source: &mut S,
-    out: &mut K,
-    report: &mut R,
+    io: Channels<'_, S, K, R>,
 ) -> Result<Outcome, JobStop>
-    ensures runs { (files : List (List ℕ)) → IfOk result (RunsJob (Show files) (only (catalogue_tree catalogue.now)) (source_change S.Source source.old source.new) (sink_change K.Sink out.old out.new) (sink_change R.Sink report.old report.new)) }
-    ensures memory { IfErr result (λ stop. stop ≡ OutOfMemory) }
-    ensures idle { OnErr result (IsIdle (source_change S.Source source.old source.new) (sink_change K.Sink out.old out.new) (sink_change R.Sink report.old report.new)) }
-    ensures later { NoFaultFell (source_change S.Source source.old source.new) (sink_change K.Sink out.old out.new) (sink_change R.Sink report.old report.new) }
+    ensures { RunsEach (show_command (catalogue_tree catalogue.now)) (changes S.Source K.Sink R.Sink io.entry io.exit) result }
 {
-    let Ok(codecs) = Codecs::compile(alloc, catalogue) else {
-        return Err(JobStop::OutOfMemory);
-    };
-    let Ok(mut work) = ShowViews::new(alloc, catalogue, &codecs) else {
-        return Err(JobStop::OutOfMemory);
-    };
-    Ok(Outcome::from(run_blocks(alloc, &mut work, source, out, report)))
+    let codecs = Codecs::compile(alloc, catalogue)?;
+    let mut work = ShowViews::new(alloc, catalogue, &codecs)?;
+    answer_blocks(alloc, &mut work, io)
 }
 
 /// `text`: the line of each block.
-#[tactic(auto, using(crate::proofs::Falling::falls))]
+#[tactic(auto, using(crate::proofs::Commands::commands))]
 fn text_blocks<S: Source, K: Sink, R: Sink>(
     alloc: Global,
     catalogue: &Catalogue,
-    source: &mut S,
-    out: &mut K,
-    report: &mut R,
+    io: Channels<'_, S, K, R>,
 ) -> Result<Outcome, JobStop>
-    ensures runs { (files : List (List ℕ)) → IfOk result (RunsJob (Text files) (only (catalogue_tree catalogue.now)) (source_change S.Source source.old source.new) (sink_change K.Sink out.old out.new) (sink_change R.Sink report.old report.new)) }
-    ensures memory { IfErr result (λ stop. stop ≡ OutOfMemory) }
-    ensures idle { OnErr result (IsIdle (source_change S.Source source.old source.new) (sink_change K.Sink out.old out.new) (sink_change R.Sink report.old report.new)) }
-    ensures later { NoFaultFell (source_change S.Source source.old source.new) (sink_change K.Sink out.old out.new) (sink_change R.Sink report.old report.new) }
+    ensures { RunsEach (text_command (catalogue_tree catalogue.now)) (changes S.Source K.Sink R.Sink io.entry io.exit) result }
 {
-    let Ok(mut work) = TextViews::new(alloc, catalogue) else {
-        return Err(JobStop::OutOfMemory);
-    };
-    Ok(Outcome::from(run_blocks(alloc, &mut work, source, out, report)))
+    let mut work = TextViews::new(alloc, catalogue)?;
+    answer_blocks(alloc, &mut work, io)
 }
 
 /// The records of each block that a filter over the catalogue holds of. All memory is taken before the input is read.
-#[tactic(auto, using(crate::proofs::Falling::falls))]
+#[tactic(auto, using(crate::proofs::Commands::commands))]
 fn filter_blocks<S: Source, K: Sink, R: Sink>(
     alloc: Global,
     filter: &ax_filter::Filter<'_>,
     catalogue: &Catalogue,
-    source: &mut S,
-    out: &mut K,
-    report: &mut R,
+    io: Channels<'_, S, K, R>,
 ) -> Result<Outcome, JobStop>
     requires { catalogue_of filter.now ≡ catalogue_tree catalogue.now }
-    ensures runs { IfOk result (BlocksRun (filter_command (expression filter.now) (catalogue_tree catalogue.now)) (source_change S.Source source.old source.new) (sink_change K.Sink out.old out.new) (sink_change R.Sink report.old report.new)) }
-    ensures memory { IfErr result (λ stop. stop ≡ OutOfMemory) }
-    ensures first { IfOk result (WasIdle (source_change S.Source source.old source.new) (sink_change K.Sink out.old out.new)) }
-    ensures idle { OnErr result (IsIdle (source_change S.Source source.old source.new) (sink_change K.Sink out.old out.new) (sink_change R.Sink report.old report.new)) }
-    ensures later { NoFaultFell (source_change S.Source source.old source.new) (sink_change K.Sink out.old out.new) (sink_change R.Sink report.old report.new) }
+    ensures { RunsFilterOf filter.now (changes S.Source K.Sink R.Sink io.entry io.exit) result }
 {
-    let Ok(codecs) = Codecs::compile(alloc, catalogue) else {
-        return Err(JobStop::OutOfMemory);
-    };
-    drive_job(alloc, Job::Filter(&codecs, filter), source, out, report)
+    let codecs = Codecs::compile(alloc, catalogue)?;
+    drive_job(alloc, Job::Filter(&codecs, filter), io)
 }
 
 /// `filter`: the records of each block that the expression holds of, or the refusal of the expression.
-#[tactic(auto, using(crate::proofs::Filters::filter_jobs, crate::proofs::Falling::falls))]
+#[tactic(auto, using(crate::proofs::Filters::filter_jobs, crate::proofs::Commands::commands))]
 fn filter<S: Source, K: Sink, R: Sink>(
     alloc: Global,
     text: &str,
     catalogue: &Catalogue,
-    source: &mut S,
-    out: &mut K,
-    report: &mut R,
+    io: Channels<'_, S, K, R>,
 ) -> Result<Outcome, JobStop>
     requires { length text.now ≤ 2 ^ 31 }
-    ensures runs { (files : List (List ℕ)) → IfOk result (RunsJob (Filter text.now files) (only (catalogue_tree catalogue.now)) (source_change S.Source source.old source.new) (sink_change K.Sink out.old out.new) (sink_change R.Sink report.old report.new)) }
-    ensures stopped { (files : List (List ℕ)) → IfErr result (IsStopped (Filter text.now files) (only (catalogue_tree catalogue.now))) }
-    ensures first { IfOk result (WasIdle (source_change S.Source source.old source.new) (sink_change K.Sink out.old out.new)) }
-    ensures idle { OnErr result (IsIdle (source_change S.Source source.old source.new) (sink_change K.Sink out.old out.new) (sink_change R.Sink report.old report.new)) }
-    ensures later { NoFaultFell (source_change S.Source source.old source.new) (sink_change K.Sink out.old out.new) (sink_change R.Sink report.old report.new) }
+    ensures { RunsFilter text.now (catalogue_tree catalogue.now) (changes S.Source K.Sink R.Sink io.entry io.exit) result }
 {
     match read_expression(alloc, text.as_bytes(), catalogue) {
-        Ok(filter) => filter_blocks(alloc, &filter, catalogue, source, out, report),
+        Ok(filter) => filter_blocks(alloc, &filter, catalogue, io),
         Err(FilterStop::Refused(fault)) => Err(JobStop::Refused(Refusal::FilterRefused { fault })),
         Err(FilterStop::OutOfMemory) => Err(JobStop::OutOfMemory),
     }
 }
 
 /// Each block of the old edition in the new one, by the relation of the two. All memory is taken before the input is read.
-#[tactic(auto, using(crate::proofs::Falling::falls))]
+#[tactic(auto, using(crate::proofs::Commands::commands))]
 fn migrate_blocks<'x, S: Source, K: Sink, R: Sink>(
     alloc: Global,
     relation: &'x Relation,
     old: &'x Accepted,
     new: &'x Accepted,
-    source: &mut S,
-    out: &mut K,
-    report: &mut R,
+    io: Channels<'_, S, K, R>,
 ) -> Result<Outcome, JobStop>
     requires { Relates old.now new.now relation.now }
-    ensures runs { IfOk result (BlocksRun (migrate_command (spec_tree old.now) (spec_tree new.now)) (source_change S.Source source.old source.new) (sink_change K.Sink out.old out.new) (sink_change R.Sink report.old report.new)) }
-    ensures memory { IfErr result (λ stop. stop ≡ OutOfMemory) }
-    ensures first { IfOk result (WasIdle (source_change S.Source source.old source.new) (sink_change K.Sink out.old out.new)) }
-    ensures idle { OnErr result (IsIdle (source_change S.Source source.old source.new) (sink_change K.Sink out.old out.new) (sink_change R.Sink report.old report.new)) }
-    ensures later { NoFaultFell (source_change S.Source source.old source.new) (sink_change K.Sink out.old out.new) (sink_change R.Sink report.old report.new) }
+    ensures { RunsEachPrepared (migrate_command (spec_tree old.now) (spec_tree new.now)) (changes S.Source K.Sink R.Sink io.entry io.exit) result }
 {
-    let Ok(codec) = compile(alloc, old) else {
-        return Err(JobStop::OutOfMemory);
-    };
-    let Ok(migrator) = Migrator::new(alloc, old.spec(), new.spec(), relation, &codec) else {
-        return Err(JobStop::OutOfMemory);
-    };
-    drive_job(alloc, Job::Migrate(&migrator), source, out, report)
+    let codec = compile(alloc, old)?;
+    let migrator = Migrator::new(alloc, old.spec(), new.spec(), relation, &codec)?;
+    drive_job(alloc, Job::Migrate(&migrator), io)
 }
 
 /// The relation of two editions, or the refusal of two categories.
@@ -304,85 +227,83 @@ fn related(alloc: Global, old: &Accepted, new: &Accepted) -> Result<Relation, Jo
 }
 
 /// Does what a command over two editions says: each block of the old one in the new one, or the refusal of two categories.
-#[tactic(auto, using(crate::proofs::Editions::editions_jobs, crate::proofs::Falling::falls))]
+#[tactic(auto, using(crate::proofs::Editions::editions_jobs, crate::proofs::Commands::commands))]
 fn over_editions<S: Source, K: Sink, R: Sink>(
     alloc: Global,
     line: &Line,
     old: &Accepted,
     new: &Accepted,
-    source: &mut S,
-    out: &mut K,
-    report: &mut R,
+    io: Channels<'_, S, K, R>,
 ) -> Result<Outcome, JobStop>
     requires { TakesEditions line.now }
-    ensures runs { IfOk result (RunsJob line.now (only (spec_tree old.now ∷ spec_tree new.now ∷ [])) (source_change S.Source source.old source.new) (sink_change K.Sink out.old out.new) (sink_change R.Sink report.old report.new)) }
-    ensures stopped { IfErr result (IsStopped line.now (only (spec_tree old.now ∷ spec_tree new.now ∷ []))) }
-    ensures first { IfOk result (WantsFirst line.now (source_change S.Source source.old source.new) (sink_change K.Sink out.old out.new)) }
-    ensures idle { OnErr result (IsIdle (source_change S.Source source.old source.new) (sink_change K.Sink out.old out.new) (sink_change R.Sink report.old report.new)) }
-    ensures later { NoFaultFell (source_change S.Source source.old source.new) (sink_change K.Sink out.old out.new) (sink_change R.Sink report.old report.new) }
+    ensures { RunsLine line.now (only (spec_tree old.now ∷ spec_tree new.now ∷ [])) (changes S.Source K.Sink R.Sink io.entry io.exit) result }
 {
     let relation = related(alloc, old, new)?;
     match line {
-        Line::Migrate { .. } => migrate_blocks(alloc, &relation, old, new, source, out, report),
-        Line::Convert { .. } => convert_blocks(alloc, &relation, old, new, source, out, report),
+        Line::Migrate { .. } => migrate_blocks(alloc, &relation, old, new, io),
+        Line::Convert { .. } => convert_blocks(alloc, &relation, old, new, io),
         _ => unreachable!(),
     }
 }
 
 /// `salvage`: each sound block as it came, and a line on the report for each damaged one. All memory is taken before the input
 /// is read.
-#[tactic(auto, using(crate::proofs::Memory::firsts, crate::proofs::Falling::falls))]
+#[tactic(auto, using(crate::proofs::Commands::commands))]
 fn salvage_blocks<S: Source, K: Sink, R: Sink>(
     alloc: Global,
     catalogue: &Catalogue,
-    source: &mut S,
-    out: &mut K,
-    report: &mut R,
+    io: Channels<'_, S, K, R>,
 ) -> Result<Outcome, JobStop>
-    ensures runs { (files : List (List ℕ)) → IfOk result (RunsJob (Line.Salvage files) (only (catalogue_tree catalogue.now)) (source_change S.Source source.old source.new) (sink_change K.Sink out.old out.new) (sink_change R.Sink report.old report.new)) }
-    ensures memory { IfErr result (λ stop. stop ≡ OutOfMemory) }
-    ensures first { IfOk result (WasIdle (source_change S.Source source.old source.new) (sink_change K.Sink out.old out.new)) }
-    ensures idle { OnErr result (IsIdle (source_change S.Source source.old source.new) (sink_change K.Sink out.old out.new) (sink_change R.Sink report.old report.new)) }
-    ensures later { NoFaultFell (source_change S.Source source.old source.new) (sink_change K.Sink out.old out.new) (sink_change R.Sink report.old report.new) }
+    ensures { RunsPrepared (salvages (catalogue_tree catalogue.now)) (changes S.Source K.Sink R.Sink io.entry io.exit) result }
 {
-    let Ok(codecs) = Codecs::compile(alloc, catalogue) else {
-        return Err(JobStop::OutOfMemory);
-    };
-    let Ok(mut work) = Salvage::new(alloc, catalogue, &codecs, LONGEST_INPUT) else {
-        return Err(JobStop::OutOfMemory);
-    };
+    let codecs = Codecs::compile(alloc, catalogue)?;
+    let mut work = Salvage::new(alloc, catalogue, &codecs, LONGEST_INPUT)?;
+    let Channels {
+        source,
+        out,
+        report,
+    } = io;
     Ok(outcome_of_salvage(salvage(&mut work, source, out, report)))
 }
 
 /// Does what a command over a catalogue says.
-#[tactic(auto, using(crate::proofs::Falling::falls))]
+#[tactic(auto, using(crate::proofs::Commands::commands))]
 fn over_catalogue<S: Source, K: Sink, R: Sink>(
     alloc: Global,
     line: &Line,
     catalogue: &Catalogue,
-    source: &mut S,
-    out: &mut K,
-    report: &mut R,
+    io: Channels<'_, S, K, R>,
 ) -> Result<Outcome, JobStop>
     requires ready { IsReady line.now (catalogue_tree catalogue.now) }
     requires distinct { IsTrue (takes_distinct line.now) }
-    ensures runs { IfOk result (RunsJob line.now (only (catalogue_tree catalogue.now)) (source_change S.Source source.old source.new) (sink_change K.Sink out.old out.new) (sink_change R.Sink report.old report.new)) }
-    ensures stopped { IfErr result (IsStopped line.now (only (catalogue_tree catalogue.now))) }
-    ensures first { IfOk result (WantsFirst line.now (source_change S.Source source.old source.new) (sink_change K.Sink out.old out.new)) }
-    ensures idle { OnErr result (IsIdle (source_change S.Source source.old source.new) (sink_change K.Sink out.old out.new) (sink_change R.Sink report.old report.new)) }
-    ensures later { NoFaultFell (source_change S.Source source.old source.new) (sink_change K.Sink out.old out.new) (sink_change R.Sink report.old report.new) }
+    ensures { RunsLine line.now (only (catalogue_tree catalogue.now)) (changes S.Source K.Sink R.Sink io.entry io.exit) result }
 {
     match line {
-        Line::Check { .. } => Ok(check(alloc, catalogue, out)),
-        Line::Canon { .. } => canon(alloc, catalogue, source, out, report),
-        Line::Show { .. } => show(alloc, catalogue, source, out, report),
-        Line::Text { .. } => text_blocks(alloc, catalogue, source, out, report),
-        Line::Build { .. } => Ok(Outcome::from(build_lines(alloc, catalogue, source, out))),
-        Line::Filter { expr, .. } => filter(alloc, expr.text(), catalogue, source, out, report),
-        Line::Trial { seed, count, .. } => trial(alloc, catalogue, *seed, *count, out),
-        Line::Salvage { .. } => salvage_blocks(alloc, catalogue, source, out, report),
-        Line::Help => Ok(write_out(out, HELP, 0)),
-        Line::Version => Ok(write_out(out, VERSION, 0)),
+        Line::Check { .. } => {
+            let Channels { out, .. } = io;
+            Ok(check(alloc, catalogue, out))
+        }
+        Line::Canon { .. } => canon(alloc, catalogue, io),
+        Line::Show { .. } => show(alloc, catalogue, io),
+        Line::Text { .. } => text_blocks(alloc, catalogue, io),
+        Line::Build { .. } => {
+            let Channels { source, out, .. } = io;
+            Ok(Outcome::from(build_lines(alloc, catalogue, source, out)))
+        }
+        Line::Filter { expr, .. } => filter(alloc, expr.text(), catalogue, io),
+        Line::Trial { seed, count, .. } => {
+            let Channels { out, .. } = io;
+            trial(alloc, catalogue, *seed, *count, out)
+        }
+        Line::Salvage { .. } => salvage_blocks(alloc, catalogue, io),
+        Line::Help => {
+            let Channels { out, .. } = io;
+            Ok(write_out(out, HELP, 0))
+        }
+        Line::Version => {
+            let Channels { out, .. } = io;
+            Ok(write_out(out, VERSION, 0))
+        }
         Line::Migrate { .. } => unreachable!(),
         Line::Expand { .. } => unreachable!(),
         Line::Convert { .. } => unreachable!(),
@@ -390,29 +311,19 @@ fn over_catalogue<S: Source, K: Sink, R: Sink>(
 }
 
 /// Does what the command says, over what its files give.
-pub fn do_job<S: Source, K: Sink, R: Sink>(
+pub(crate) fn do_job<S: Source, K: Sink, R: Sink>(
     alloc: Global,
     line: &Line,
     loaded: &Loaded,
-    source: &mut S,
-    out: &mut K,
-    report: &mut R,
+    io: Channels<'_, S, K, R>,
 ) -> Result<Outcome, JobStop>
     requires ready { IsReady line.now (given_of loaded.now).specs }
     requires loaded { IsLoadedFor line.now loaded.now }
-    ensures runs { IfOk result (RunsJob line.now (given_of loaded.now) (source_change S.Source source.old source.new) (sink_change K.Sink out.old out.new) (sink_change R.Sink report.old report.new)) }
-    ensures stopped { IfErr result (IsStopped line.now (given_of loaded.now)) }
-    ensures first { IfOk result (WantsFirst line.now (source_change S.Source source.old source.new) (sink_change K.Sink out.old out.new)) }
-    ensures idle { OnErr result (IsIdle (source_change S.Source source.old source.new) (sink_change K.Sink out.old out.new) (sink_change R.Sink report.old report.new)) }
-    ensures later { NoFaultFell (source_change S.Source source.old source.new) (sink_change K.Sink out.old out.new) (sink_change R.Sink report.old report.new) }
+    ensures { RunsLine line.now (given_of loaded.now) (changes S.Source K.Sink R.Sink io.entry io.exit) result }
 {
     match loaded {
-        Loaded::Catalogue(catalogue) => {
-            over_catalogue(alloc, line, catalogue, source, out, report)
-        }
-        Loaded::Editions(old, new) => { over_editions(alloc, line, old, new, source, out, report) }
-        Loaded::WithExpansion(accepted, expansion) => {
-            expand(alloc, accepted, expansion, source, out, report)
-        }
+        Loaded::Catalogue(catalogue) => over_catalogue(alloc, line, catalogue, io),
+        Loaded::Editions(old, new) => over_editions(alloc, line, old, new, io),
+        Loaded::WithExpansion(accepted, expansion) => expand(alloc, accepted, expansion, io),
     }
 }

@@ -2,8 +2,10 @@
 //! block loop of the commands that take no memory for a block stands here too.
 #![tactic(auto)]
 
+mod channels;
 mod converting;
 mod driving;
+mod each_block;
 mod end;
 mod expanding;
 mod gateway;

@@ -2,22 +2,22 @@
 ghost use Rattle.std.specs.Prelude.{◌≡◌, ◌+◌, ◌-◌, ◌<◌, ◌≤◌, ◌++◌, length, take, drop};
 
 /// How many octets are moved at once.
-const AT_ONCE: usize = 8;
+const AT_ONCE: usize = 32;
 
-// Copies eight octets from octet `from` on to octet `to` and the seven after it.
+// Copies 32 octets from octet `from` on to octet `to` and the 31 after it.
 #[inline(always)]
-fn eight_copied(buffer: &mut [u8], from: usize, to: usize)
-    requires { (to ≤ from) × (from + 8 ≤ length buffer.old) }
+fn many_copied(buffer: &mut [u8], from: usize, to: usize)
+    requires { (to ≤ from) × (from + 32 ≤ length buffer.old) }
     ensures size { length buffer.new ≡ length buffer.old }
-    ensures copied { take (to + 8) buffer.new ≡ take to buffer.old ++ take 8 (drop from buffer.old) }
-    ensures rest { drop (to + 8) buffer.new ≡ drop (to + 8) buffer.old }
+    ensures copied { take (to + 32) buffer.new ≡ take to buffer.old ++ take 32 (drop from buffer.old) }
+    ensures rest { drop (to + 32) buffer.new ≡ drop (to + 32) buffer.old }
 {
     let mut piece = [0u8; AT_ONCE];
     piece.copy_from_slice(&buffer[from..from + AT_ONCE]);
     buffer[to..to + AT_ONCE].copy_from_slice(&piece);
 }
 
-// Copies octets from octet `from` on to octet `to` and those after it, eight where there are as many, else one. It answers how many.
+// Copies octets from octet `from` on to octet `to` and those after it, 32 where there are as many, else one. It answers how many.
 #[inline(always)]
 fn piece_copied(buffer: &mut [u8], from: usize, to: usize) -> usize
     requires { (to ≤ from) × (from < length buffer.old) }
@@ -30,7 +30,7 @@ fn piece_copied(buffer: &mut [u8], from: usize, to: usize) -> usize
         buffer[to] = buffer[from];
         return 1;
     }
-    eight_copied(buffer, from, to);
+    many_copied(buffer, from, to);
     AT_ONCE
 }
 

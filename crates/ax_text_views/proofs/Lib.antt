@@ -4,6 +4,7 @@ pub mod DraftPieces
 pub mod FixedPrinted
 pub mod Leading
 pub mod Marked
+pub mod Nested
 pub mod Octets
 pub mod RecordsPrinted
 pub mod Repeated

@@ -111,7 +111,7 @@ pub ruleset loops = (steps_begun, step_bounds, step_within, steps_go_on, steps_o
 
 -- ---- the octets after the steps
 
-printed_tail : (ss : List Step) (xs b : List ℕ) → printed (steps_then ss (ends xs)) b ≡ printed (template_of ss) b ++ xs
+pub printed_tail : (ss : List Step) (xs b : List ℕ) → printed (steps_then ss (ends xs)) b ≡ printed (template_of ss) b ++ xs
 printed_tail [] xs b = refl
 printed_tail (s ∷ ss) xs b =
     let lit = take s.literal.count s.literal.octets in
@@ -120,7 +120,7 @@ printed_tail (s ∷ ss) xs b =
     with_printed lit s.number (steps_then ss (ends xs)) b ∙ ap (λ t. text ++ t) (printed_tail ss xs later)
     ∙ sym (append_assoc text (printed (template_of ss) later) xs) ∙ ap (λ t. t ++ xs) (sym (with_printed lit s.number (template_of ss) b))
 
-width_tail : (ss : List Step) (xs : List ℕ) → template_width (template_of ss) ≡ template_width (steps_then ss (ends xs))
+pub width_tail : (ss : List Step) (xs : List ℕ) → template_width (template_of ss) ≡ template_width (steps_then ss (ends xs))
 width_tail [] xs = refl
 width_tail (s ∷ ss) xs =
     let lit = take s.literal.count s.literal.octets in

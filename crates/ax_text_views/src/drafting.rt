@@ -1,12 +1,14 @@
 //! Templates made of kinds.
-ghost use Rattle.std.specs.Prelude.{◌≡◌, [], IfOk, IfSome, OnOk};
+ghost use Rattle.std.specs.Prelude.{◌≡◌, [], IfOk, IfSome, IsTrue, OnOk};
 ghost use Rattle.std.proofs.Props.{props};
 ghost use Rattle.ax_format.specs.Lengths.{capped};
 ghost use Rattle.ax_format.specs.Plain.{fixed_tree, member_tree, members_tree, part_tree};
 ghost use Rattle.ax_format.specs.Widths as Widths;
 ghost use Rattle.ax_text_views.specs.Drafts.{Adds};
+ghost use Rattle.ax_text_views.specs.Nesting.{FixedWithin, FixedShallow-prop, MembersWithin, MembersShallow-prop};
 ghost use Rattle.ax_text_views.specs.Templates.{AreSteps, ends, fixed_template, member_template, members_template, part_template, whole_template};
 
+use crate::nesting::{SHALLOW, fixed_nests, members_nest};
 use crate::templates::{Draft, Steps};
 use ax_format::{Fixed, Member, Members, Part};
 use std::alloc::{AllocError, Global};
@@ -140,12 +142,18 @@ impl StepsLeft {
 
 /// A fixed kind, with its width, and its template where that was made.
 #[derive(Drop)]
-pub(crate) struct TextFixed<'s> {
-    pub(crate) fixed: &'s Fixed,
-    pub(crate) width: u64,
-    pub(crate) steps: Option<Steps>,
+pub struct TextFixed<'s> {
+    /// The kind.
+    pub fixed: &'s Fixed,
+    /// Its bits, or 2^64 - 1 where they are more.
+    pub width: u64,
+    /// Its template, where that was made.
+    pub steps: Option<Steps>,
+    /// Whether the braces of its text are known to nest at most 8 deep.
+    pub shallow: bool,
     ghost wide: { width ≡ capped (Widths.width (fixed_tree fixed.now)) },
     ghost made: { IfSome steps (λ steps. AreSteps (fixed_template (fixed_tree fixed.now) (ends [])) steps) } by { Prim.hlevel props },
+    ghost nests: { IsTrue shallow → FixedWithin 8 (fixed_tree fixed.now) } by { FixedShallow-prop shallow (fixed_tree fixed.now) },
 }
 
 impl<'s> TextFixed<'s> {
@@ -158,18 +166,25 @@ impl<'s> TextFixed<'s> {
             fixed,
             width: fixed.width(),
             steps,
+            shallow: fixed_nests(fixed, SHALLOW),
         }
     }
 }
 
 /// A part of an extended item, with its width without the FX bit, and its template where that was made.
 #[derive(Drop)]
-pub(crate) struct TextPart<'s> {
-    pub(crate) part: &'s Part,
-    pub(crate) width: u64,
-    pub(crate) steps: Option<Steps>,
+pub struct TextPart<'s> {
+    /// The part.
+    pub part: &'s Part,
+    /// The bits of its members, without the FX bit, or 2^64 - 1 where they are more.
+    pub width: u64,
+    /// Its template, where that was made.
+    pub steps: Option<Steps>,
+    /// Whether the braces of its members' texts are known to nest at most 8 deep.
+    pub shallow: bool,
     ghost wide: { width ≡ capped (Widths.members_width (part_tree part.now)) },
     ghost made: { IfSome steps (λ steps. AreSteps (part_template (part_tree part.now) (ends [])) steps) } by { Prim.hlevel props },
+    ghost nests: { IsTrue shallow → MembersWithin 8 (part_tree part.now) } by { MembersShallow-prop shallow (part_tree part.now) },
 }
 
 impl<'s> TextPart<'s> {
@@ -182,6 +197,7 @@ impl<'s> TextPart<'s> {
             part,
             width: part.width(),
             steps,
+            shallow: members_nest(&part.members, SHALLOW),
         }
     }
 }

@@ -8,15 +8,15 @@ use ax_held_kinds::PresenceSlot;
 use ax_lists::Sequence;
 
 /// The parts of an extended item, in order.
-pub(crate) type TextParts<'s> = Sequence<TextPart<'s>>;
+pub type TextParts<'s> = Sequence<TextPart<'s>>;
 
 /// The slots of a compound or of a UAP, in order; the first is slot 1.
-pub(crate) type TextSlots<'s> = Sequence<TextSlot<'s>>;
+pub type TextSlots<'s> = Sequence<TextSlot<'s>>;
 
 /// The kind of an item, a subitem or a counted body.
 #[cycle(kind)]
 #[derive(Drop)]
-pub(crate) enum TextKind<'s> {
+pub enum TextKind<'s> {
     Fixed(TextFixed<'s>),
     Extended {
         last: LastPart,
@@ -34,10 +34,11 @@ pub(crate) enum TextKind<'s> {
 /// A slot of a compound or of a UAP.
 #[cycle(kind)]
 #[derive(Drop)]
-pub(crate) enum TextSlot<'s> {
+pub enum TextSlot<'s> {
     Spare,
     /// One of a fixed kind.
     Named(TextNamed<'s>),
+    /// One of any other kind.
     Sub { name: Name, kind: TextKind<'s> },
 }
 

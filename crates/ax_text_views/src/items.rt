@@ -84,7 +84,7 @@ impl<'s> TextItems<'s> {
     }
 
     /// The slots, in order.
-    pub(crate) fn slots(&self) -> &TextSlots<'s>
+    pub fn slots(&self) -> &TextSlots<'s>
         ensures { map text_slot result.now ≡ record_slot_list (spec_tree self.now) }
     {
         &self.slots

@@ -6,11 +6,11 @@ pub(crate) const LITERAL_ROOM: usize = 32;
 
 /// Octets that are printed as they are, at most 32.
 #[derive(Clone, Copy)]
-pub(crate) struct Literal {
+pub struct Literal {
     /// The octets, and any others after them: a copy of a known length is quick.
-    pub(crate) octets: [u8; 32],
+    pub octets: [u8; 32],
     /// How many of them count.
-    pub(crate) count: usize,
+    pub count: usize,
     ghost whole: { length octets ≡ 32 },
     ghost fits: { count ≤ 32 },
 }

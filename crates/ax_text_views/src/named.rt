@@ -1,6 +1,8 @@
 //! Items and subitems of a fixed kind, printed by a template that begins with their name.
-ghost use Rattle.std.specs.Prelude.{◌≡◌, ◌+◌, ◌*◌, ◌≤◌, [], length, IfOk, IfErr, IfSome, OnOk};
+ghost use Rattle.std.specs.Prelude.{◌≡◌, ◌+◌, ◌*◌, ◌≤◌, [], length, IfOk, IfErr, IfSome, OnOk, IsTrue};
 ghost use Rattle.std.proofs.Props.{props};
+ghost use Rattle.ax_bits.specs.Bits.{bits};
+ghost use Rattle.ax_format.specs.Characters.{IsName};
 ghost use Rattle.ax_format.specs.InBounds.{FixedInBounds, InBounds};
 ghost use Rattle.ax_format.specs.Lengths.{capped};
 ghost use Rattle.ax_format.specs.Plain.{fixed_tree};
@@ -9,13 +11,15 @@ ghost use Rattle.ax_format.specs.Tree as Tree;
 ghost use Rattle.ax_format.specs.Tree.{named};
 ghost use Rattle.ax_format.specs.Widths as Widths;
 ghost use Rattle.ax_fspec.specs.Reading.{kind_read};
-ghost use Rattle.ax_text_views.specs.Prints.{fixed_slot, PrintsNamed, SlotPrints};
+ghost use Rattle.ax_text_views.specs.Prints.{fixed_slot, PrintsNamed, SlotPrints, Prints};
+ghost use Rattle.ax_text_views.specs.Nesting.{FixedWithin, NamedShallow-prop};
 ghost use Rattle.ax_text_views.specs.Templates.{AreSteps, ends, member_template, whole_template};
 ghost use Rattle.ax_values.specs.SlotReading.{HasFailed};
 
 use crate::drafting::{StepsLeft, add_fixed};
 use crate::fixed::print_fixed;
 use crate::line::Line;
+use crate::nesting::{SHALLOW, fixed_nests};
 use crate::templates::{Draft, Steps};
 use ax_format::{Fixed, Name};
 use ax_values::{DecodeError, unit_end};
@@ -46,13 +50,20 @@ fn some_steps_of_named(alloc: Global, name: &Name, fixed: &Fixed, most: u32) -> 
 
 /// An item or a subitem of a fixed kind, with its width, and the template of its name and its value where that was made.
 #[derive(Drop)]
-pub(crate) struct TextNamed<'s> {
-    pub(crate) name: Name,
-    pub(crate) fixed: &'s Fixed,
-    width: u64,
-    steps: Option<Steps>,
+pub struct TextNamed<'s> {
+    /// The item's or the subitem's name.
+    pub name: Name,
+    /// Its kind.
+    pub fixed: &'s Fixed,
+    /// The bits of its value, or 2^64 - 1 where they are more.
+    pub width: u64,
+    /// The template of its name and its value, where that was made.
+    pub steps: Option<Steps>,
+    /// Whether the braces of its value's text are known to nest at most 8 deep.
+    pub shallow: bool,
     ghost wide: { width ≡ capped (Widths.width (fixed_tree fixed.now)) },
     ghost made: { IfSome steps (λ steps. AreSteps (member_template (named name (fixed_tree fixed.now)) (ends [])) steps) } by { Prim.hlevel props },
+    ghost nests: { IsTrue shallow → IsName name × FixedWithin 8 (fixed_tree fixed.now) } by { NamedShallow-prop shallow name (fixed_tree fixed.now) },
 }
 
 impl<'s> TextNamed<'s> {
@@ -72,6 +83,7 @@ impl<'s> TextNamed<'s> {
             fixed,
             width: fixed.width(),
             steps,
+            shallow: !name.octets().is_empty() && fixed_nests(fixed, SHALLOW),
         }
     }
 }

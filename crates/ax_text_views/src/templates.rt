@@ -12,17 +12,20 @@ use std::alloc::{AllocError, Global};
 
 /// Octets that are printed as they are, and a number that is printed after them.
 #[derive(Clone, Copy)]
-pub(crate) struct Step {
-    pub(crate) literal: Literal,
+pub struct Step {
+    /// The octets.
+    pub literal: Literal,
     /// The bits of the number. None where the octets are more than one literal has room for.
-    pub(crate) number: Option<u32>,
+    pub number: Option<u32>,
 }
 
 /// A template: its steps, in order, and the octets after them.
 #[derive(Drop)]
-pub(crate) struct Steps {
-    pub(crate) steps: Sequence<Step>,
-    pub(crate) tail: Literal,
+pub struct Steps {
+    /// The steps, in order.
+    pub steps: Sequence<Step>,
+    /// The octets after them.
+    pub tail: Literal,
 }
 
 /// A template as it is put together: its steps so far, and the octets after them.

@@ -15,6 +15,7 @@ use crate::opaque::opaque_block;
 use crate::printed::printed_octets;
 use ax_block_reader::read_block_over;
 use ax_format::Block;
+use ax_text_views::Tables;
 use ax_tokens::{Tokens, tokens};
 use ax_uap::CatalogueItems;
 use ax_values::encode_of_length;
@@ -59,20 +60,22 @@ fn built(
 }
 
 /// The canonical octets of the block whose text the line is, or None where the line has no token. Lines without comments are mostly
-/// read without a list of tokens, in the room that is lent; the others, and those that are refused, token by token.
+/// read without a list of tokens, by the tables of the same catalogue and in the room that is lent; the others, and those that are refused, token by token.
 #[tactic(auto, using(crate::proofs::Built::lines_built))]
 pub(crate) fn line_octets(
     alloc: Global,
     items: &CatalogueItems<'_>,
+    tables: &Tables<'_>,
     line: &[u8],
     room: &mut [u8],
 ) -> Result<Option<Vec<u8>>, BuildStop>
+    requires same { tables.now ≡ items.now }
     requires line { length line.now ≤ longest_line }
     requires room { length room.old ≤ 2 ^ 20 }
     ensures answer { IfOk result (λ made. MatchOption made (AnswersLine (catalogue_tree items.now) line.now nothing) (λ octets. AnswersLine (catalogue_tree items.now) line.now (gives octets.items))) }
     ensures stop { IfErr result (StopsLine (catalogue_tree items.now) line.now) }
 {
-    if let Some(printed) = printed_octets(alloc, items, line, room)? {
+    if let Some(printed) = printed_octets(alloc, tables, line, room)? {
         return Ok(Some(printed));
     }
     let found = tokens(alloc, line, DEEPEST)?;

@@ -6,21 +6,21 @@ ghost use Rattle.ax_format.specs.Plain.{catalogue_tree};
 
 use crate::opaque::opaque_block;
 use ax_printed_lines::{Laid, printed_body, whole_octets};
-use ax_uap::CatalogueItems;
+use ax_text_views::Tables;
 use std::alloc::{AllocError, Global};
 
 /// The canonical octets of the block whose text the line is, where it is that of a block with a specification, has no comment, and is
 /// short enough for the room that is lent. None says nothing of the line.
 pub(crate) fn printed_octets(
     alloc: Global,
-    items: &CatalogueItems<'_>,
+    tables: &Tables<'_>,
     line: &[u8],
     room: &mut [u8],
 ) -> Result<Option<Vec<u8>>, AllocError>
-    ensures { IfOk result (λ made. IfSome made (λ octets. AnswersLine (catalogue_tree items.now) line.now (gives octets.items))) }
+    ensures { IfOk result (λ made. IfSome made (λ octets. AnswersLine (catalogue_tree tables.now) line.now (gives octets.items))) }
 {
     let mut out = Laid::over(room);
-    let Some(category) = printed_body(items, line, &mut out) else {
+    let Some(category) = printed_body(tables, line, &mut out) else {
         return Ok(None);
     };
     let Some(body) = whole_octets(&out) else {

@@ -1,5 +1,5 @@
 //! The command `build` over an input.
-ghost use Rattle.std.specs.Prelude.{◌≤◌, ◌^◌, length};
+ghost use Rattle.std.specs.Prelude.{◌≡◌, ◌≤◌, ◌^◌, length};
 ghost use Rattle.ax_build_work.specs.BuildCommand.{build_command};
 ghost use Rattle.ax_lines.specs.Completing.{Completes};
 ghost use Rattle.ax_lines.specs.Ending.{longest_input, longest_line};
@@ -14,6 +14,7 @@ use ax_check::Catalogue;
 use ax_lines::{LineStop, LineWork, LinesEnd, run_lines};
 use ax_lists::zeros;
 use ax_outside::{Sink, Source};
+use ax_text_views::{Tables, tables_of};
 use ax_uap::CatalogueItems;
 use std::alloc::Global;
 
@@ -26,6 +27,8 @@ const ROOM: usize = 66_560;
 struct BuildWork<'c> {
     alloc: Global,
     items: CatalogueItems<'c>,
+    /// What lines are read by whose spacing is the usual one.
+    tables: Tables<'c>,
     octets: Vec<u8>,
     /// Where the body of a block is laid while its line is read.
     room: Vec<u8>,
@@ -36,12 +39,12 @@ impl<'c> LineWork for BuildWork<'c> {
 
     ghost command = { λ s. build_command (catalogue_tree s.items) };
 
-    ghost sound = { λ s. length s.room.items ≤ 2 ^ 20 };
+    ghost sound = { λ s. (length s.room.items ≤ 2 ^ 20) × (s.tables ≡ s.items) };
 
     ghost laid = { λ s. s.octets.items };
 
     fn take(&mut self, _number: u64, line: &[u8]) -> Result<bool, LineStop<TextFault>> {
-        match line_octets(self.alloc, &self.items, line, &mut self.room) {
+        match line_octets(self.alloc, &self.items, &self.tables, line, &mut self.room) {
             Ok(Some(octets)) => {
                 self.octets = octets;
                 Ok(true)
@@ -57,8 +60,9 @@ impl<'c> LineWork for BuildWork<'c> {
     }
 }
 
-/// Looks the items of the catalogue's UAPs up, and takes the room in which bodies are laid, once. Then it builds the block of each line of the input that has a token, and writes its canonical form as one piece, up to the first
-/// line that is refused. Lines are numbered from 0, empty ones and comments among them.
+/// Looks the items of the catalogue's UAPs up, makes the templates of their texts, and takes the room in which bodies are laid, once.
+/// Then it builds the block of each line of the input that has a token, and writes its canonical form as one piece, up to the first line
+/// that is refused. Lines are numbered from 0, empty ones and comments among them.
 pub fn build_lines<S: Source, K: Sink>(
     alloc: Global,
     catalogue: &Catalogue,
@@ -71,12 +75,16 @@ pub fn build_lines<S: Source, K: Sink>(
     let Ok(items) = items_of(alloc, catalogue) else {
         return LinesEnd::OutOfMemory;
     };
+    let Ok(tables) = tables_of(alloc, catalogue) else {
+        return LinesEnd::OutOfMemory;
+    };
     let Ok(room) = zeros(alloc, ROOM) else {
         return LinesEnd::OutOfMemory;
     };
     let mut work = BuildWork {
         alloc,
         items,
+        tables,
         octets: Vec::new(alloc),
         room,
     };

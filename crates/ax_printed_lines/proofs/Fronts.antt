@@ -42,7 +42,7 @@ pub front_bits : (octets : List ℕ) (w n : ℕ) → 8 ≤ length octets → w �
 front_bits octets w n long narrow bytes e =
     let x = n / 2 ^ (64 - w) in sym (word-low w x) ∙ ap (word w) (sym (mask_wide x w narrow)) ∙ taken octets 0 w n long narrow bytes e
 
-xor_none : (a b : ℕ) → bit_xor a b ≡ 0 → a ≡ b
+pub xor_none : (a b : ℕ) → bit_xor a b ≡ 0 → a ≡ b
 xor_none a b e =
     same_from_bits a b (λ i.
     let sum : bit_xor a b / 2 ^ i % 2 ≡ (a / 2 ^ i % 2 + b / 2 ^ i % 2) % 2 = bit_at_xor a b i in

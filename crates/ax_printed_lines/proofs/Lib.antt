@@ -1,5 +1,6 @@
 pub mod Digits
 pub mod Fronts
+pub mod RunsRead
 pub mod Separators
 pub mod Going
 pub mod Laying
@@ -7,6 +8,7 @@ pub mod Room
 pub mod Building
 pub mod FixedBuilt
 pub mod ListsBuilt
+pub mod TemplatesBuilt
 pub mod EntriesBuilt
 pub mod KindsBuilt
 pub mod ExplicitBuilt

@@ -7,15 +7,15 @@ use Rattle.ax_printed_lines.specs.declared.laid.Laid.{Laid}
 use Rattle.ax_block_reader.proofs.Onto.{fixed_more, part_more}
 use Rattle.ax_format.specs.Canonical.{fixed_canon, members_canon, parts_canon, run_canon}
 use Rattle.ax_format.specs.InBounds.{MembersInBounds, PartsInBounds}
-use Rattle.ax_format.specs.Plain.{part_tree}
 use Rattle.ax_format.specs.Shape.{FixedShape, MembersShape, PartsShape, EachShape}
 use Rattle.ax_format.specs.Tree.{FixedTree, MembersTree, ValueTree, ValuesTree, no_values, value_and, value_count, ListsTree, no_lists, list_and}
 use Rattle.ax_format.specs.Widths.{fx_width}
 use Rattle.ax_format.specs.declared.kind.LastPart.{LastPart}
-use Rattle.ax_format.specs.declared.kind.Part.{Part}
 use Rattle.ax_text.proofs.WordTokens.{part_is_word}
 use Rattle.ax_text.specs.ValueText.{Texts, opening, closing, part_word, fixed_onto, members_onto, part_onto, parts_onto, each_onto}
 use Rattle.ax_printed_lines.specs.Printed.{Place, Goes, IsBuilt, IsOneWord}
+use Rattle.ax_text_views.specs.HeldText.{text_part}
+use Rattle.ax_text_views.specs.declared.drafting.TextPart.{TextPart}
 use Rattle.ax_printed_lines.proofs.Building.{built_after, Partly, partly_first, partly_more, partly_done, built_and}
 use Rattle.ax_printed_lines.proofs.FixedBuilt.{FixedIsBuilt, MembersAreBuilt}
 use Rattle.ax_printed_lines.proofs.Going.{goes_both, one_word}
@@ -74,19 +74,19 @@ last_part last p ps all old now mid new before middle inner after l b g a =
     (λ vs h. (list_and vs no_lists, h, ap (part_onto p vs) (no_part ps (closing ∷ [])) ∙ sym (part_more p vs [] (closing ∷ [])), refl)))
 
 -- the first of the parts that are left
-module _ (last : LastPart) (p : Part) (left later : List Part) (at : left ≡ p ∷ later) where
-  pub part_bounds : (all : List MembersTree) (old now : Place) (before after : Laid) → PartsLeft last (map part_tree left) all old now before after → MembersInBounds (part_tree p)
-  part_bounds all old now before after l = (subst (PartsInBounds last) (ap (map part_tree) at) l.bounds).0.2
+module _ (last : LastPart) (p : TextPart) (left later : List TextPart) (at : left ≡ p ∷ later) where
+  pub part_bounds : (all : List MembersTree) (old now : Place) (before after : Laid) → PartsLeft last (map text_part left) all old now before after → MembersInBounds (text_part p)
+  part_bounds all old now before after l = (subst (PartsInBounds last) (ap (map text_part) at) l.bounds).0.2
 
-  pub part_next : (all : List MembersTree) (old now new : Place) (before mid inner after : Laid) → PartsLeft last (map part_tree left) all old now before mid → PartIsBuilt (part_tree p) now new mid inner → Lays inner after (1 ∷ []) → PartsLeft last (map part_tree later) all old new before after
+  pub part_next : (all : List MembersTree) (old now new : Place) (before mid inner after : Laid) → PartsLeft last (map text_part left) all old now before mid → PartIsBuilt (text_part p) now new mid inner → Lays inner after (1 ∷ []) → PartsLeft last (map text_part later) all old new before after
   part_next all old now new before mid inner after l b a =
-      one_part last (part_tree p) (map part_tree later) all old now new before mid inner after (subst (λ ps. PartsLeft last ps all old now before mid) (ap (map part_tree) at) l) b a
+      one_part last (text_part p) (map text_part later) all old now new before mid inner after (subst (λ ps. PartsLeft last ps all old now before mid) (ap (map text_part) at) l) b a
 
-  pub part_last : (all : List MembersTree) (old now mid new : Place) (before middle inner after : Laid) → PartsLeft last (map part_tree left) all old now before middle → PartIsBuilt (part_tree p) now mid middle inner → Goes mid new (closing ∷ []) → Lays inner after (word (fx_width last (length later)) 0)
+  pub part_last : (all : List MembersTree) (old now mid new : Place) (before middle inner after : Laid) → PartsLeft last (map text_part left) all old now before middle → PartIsBuilt (text_part p) now mid middle inner → Goes mid new (closing ∷ []) → Lays inner after (word (fx_width last (length later)) 0)
       → PartsAreBuilt last all old new before after
   part_last all old now mid new before middle inner after l b g a =
-      last_part last (part_tree p) (map part_tree later) all old now mid new before middle inner after (subst (λ ps. PartsLeft last ps all old now before middle) (ap (map part_tree) at) l) b g
-      (subst (λ n. Lays inner after (word (fx_width last n) 0)) (sym (length-map later part_tree)) a)
+      last_part last (text_part p) (map text_part later) all old now mid new before middle inner after (subst (λ ps. PartsLeft last ps all old now before middle) (ap (map text_part) at) l) b g
+      (subst (λ n. Lays inner after (word (fx_width last n) 0)) (sym (length-map later text_part)) a)
 
 -- ---- occurrences by FX
 

@@ -5,16 +5,23 @@ ghost use Rattle.ax_text.specs.ValueText.{opening, closing, hex_text};
 ghost use Rattle.ax_bits.specs.Bits.{AreOctets};
 ghost use Rattle.hex.specs.Hex.{encode_lower};
 ghost use Rattle.ax_printed_lines.specs.Printed.{Place, AfterGap, IsAfterOctet, IsOneWord, Goes};
+ghost use Rattle.ax_printed_lines.specs.Runs.{RunGoes};
+ghost use Rattle.ax_text_views.specs.Templates.{template_width, whole_template};
 
 use crate::gaps::{after_gap, after_separators, after_spaced, after_word, split_word};
 use crate::names::{FrontWord, after_short_name, after_spaced_name, are_same, begins_with};
 use crate::numbers::{number_in_front, spaced_number};
+use crate::runs::template_counted;
 use ax_block_reader::{category_of, unquoted};
 use ax_format::Name;
+use ax_text_views::Steps;
 use std::marker::Model;
 
 /// How deep the braces of a line may nest.
 const DEEPEST: u32 = 20;
+
+/// How deep the braces of a text nest that is read by its template, and one more.
+const SHALLOW: u32 = 9;
 
 /// The most octets of an explicit item as a text in quotes.
 const MOST_QUOTED: usize = 510;
@@ -215,6 +222,26 @@ impl<'t> Cursor<'t> {
         let later = after_word(following)?;
         self.rest = later;
         Some(number)
+    }
+
+    /// The numbers of a template, as one number of at most 56 bits, where what it prints comes with one space behind it. It is read
+    /// if so. None comes too where its braces might open deeper than a line allows.
+    #[inline(always)]
+    #[tactic(auto, using(crate::proofs::TemplatesBuilt::template_read))]
+    pub fn template(&mut self, steps: &Steps) -> Option<u64>
+        requires { template_width (whole_template steps.now) ≤ 56 }
+        ensures some { IfSome result (λ n. RunGoes (whole_template steps.now) n self.old self.new) }
+        ensures none { IfNone result (self.new ≡ self.old) }
+    {
+        if self.level > DEEPEST - SHALLOW {
+            return None;
+        }
+        let (bits, count) = template_counted(self.rest, steps);
+        if count == 0 {
+            return None;
+        }
+        self.rest = &self.rest[count..];
+        Some(bits)
     }
 
     /// The category that comes, in three digits. It is read if there is one.

@@ -5,15 +5,20 @@ ghost use Rattle.ax_format.specs.Canonical.{fixed_canon, members_canon, parts_ca
 ghost use Rattle.ax_format.specs.InBounds.{FixedInBounds, MembersInBounds, PartsInBounds};
 ghost use Rattle.ax_format.specs.Plain.{fixed_tree, member_tree, members_tree, part_tree};
 ghost use Rattle.ax_format.specs.Shape.{FixedShape, MembersShape, PartsShape, EachShape};
-ghost use Rattle.ax_format.specs.Tree.{member_and, no_members, value_count};
+ghost use Rattle.ax_format.specs.Tree.{fixed, member_and, no_members, subitem, value_count};
 ghost use Rattle.ax_text.specs.Slots.{MemberShape};
 ghost use Rattle.ax_text.specs.ValueText.{closing, fixed_onto, member_onto, members_onto, part_onto, parts_onto, each_onto};
-ghost use Rattle.ax_printed_lines.specs.Printed.{IsBuilt, member_canon};
+ghost use Rattle.ax_printed_lines.specs.Printed.{IsBuilt, BuildsSlot, member_canon};
+ghost use Rattle.ax_text_views.specs.HeldText.{text_part};
 
 use crate::cursor::Cursor;
 use crate::laid::Laid;
 use crate::pieces::{fx_built, last_fx_built, number_built, number_laid};
-use ax_format::{Fixed, LastPart, Member, Members, Part, Parts};
+use ax_format::{Fixed, LastPart, Member, Members, Part};
+use ax_text_views::{TextFixed, TextNamed, TextPart, TextParts};
+
+/// The most bits of a value that is read by its template.
+const MOST_BITS: u64 = 56;
 
 /// The value of a fixed kind that comes is read, and its bits are laid.
 #[cycle(fixed_built)]
@@ -76,8 +81,77 @@ pub fn members_built(cursor: &mut Cursor<'_>, members: &Members, out: &mut Laid<
     Some(())
 }
 
-/// A part: `part` and its members in braces.
-fn part_built(cursor: &mut Cursor<'_>, part: &Part, out: &mut Laid<'_>) -> Option<()>
+/// A value of a fixed kind that comes is read, by its template where that reads it, and its bits are laid.
+pub fn held_built(cursor: &mut Cursor<'_>, held: &TextFixed<'_>, out: &mut Laid<'_>) -> Option<()>
+    requires { FixedInBounds (fixed_tree held.now.fixed.now) }
+    ensures { IfSome result (λ done. IsBuilt (FixedShape (fixed_tree held.now.fixed.now)) (λ v. fixed_onto (fixed_tree held.now.fixed.now) v []) (fixed_canon (fixed_tree held.now.fixed.now)) cursor.old cursor.new out.old out.new) }
+{
+    if held.shallow
+        && held.width <= MOST_BITS
+        && let Some(steps) = &held.steps
+        && let Some(bits) = cursor.template(steps)
+    {
+        return out.push(bits, held.width as u32);
+    }
+    fixed_built(cursor, held.fixed, out)
+}
+
+/// The name and the value of an item or subitem of a fixed kind, where its name comes. It answers whether it does.
+#[inline(always)]
+pub fn named_built(
+    cursor: &mut Cursor<'_>,
+    held: &TextNamed<'_>,
+    out: &mut Laid<'_>,
+) -> Option<bool>
+    requires { FixedInBounds (fixed_tree held.now.fixed.now) }
+    ensures { IfSome result (λ came. BuildsSlot (subitem held.now.name (fixed (fixed_tree held.now.fixed.now))) came cursor.old cursor.new out.old out.new) }
+{
+    if held.shallow
+        && held.width <= MOST_BITS
+        && let Some(steps) = &held.steps
+        && let Some(bits) = cursor.template(steps)
+    {
+        out.push(bits, held.width as u32)?;
+        return Some(true);
+    }
+    named_member_built(cursor, held, out)
+}
+
+// The same by its name and its members.
+#[tactic(auto, using(crate::proofs::TemplatesBuilt::named_members))]
+fn named_member_built(
+    cursor: &mut Cursor<'_>,
+    held: &TextNamed<'_>,
+    out: &mut Laid<'_>,
+) -> Option<bool>
+    requires { FixedInBounds (fixed_tree held.now.fixed.now) }
+    ensures { IfSome result (λ came. BuildsSlot (subitem held.now.name (fixed (fixed_tree held.now.fixed.now))) came cursor.old cursor.new out.old out.new) }
+{
+    if !cursor.takes_name(&held.name) {
+        return Some(false);
+    }
+    fixed_built(cursor, held.fixed, out)?;
+    Some(true)
+}
+
+/// A part, by its template where that reads it.
+#[inline(always)]
+fn part_built(cursor: &mut Cursor<'_>, held: &TextPart<'_>, out: &mut Laid<'_>) -> Option<()>
+    requires { MembersInBounds (text_part held.now) }
+    ensures { IfSome result (λ done. IsBuilt (MembersShape (text_part held.now)) (λ vs. part_onto (text_part held.now) vs []) (members_canon (text_part held.now)) cursor.old cursor.new out.old out.new) }
+{
+    if held.shallow
+        && held.width <= MOST_BITS
+        && let Some(steps) = &held.steps
+        && let Some(bits) = cursor.template(steps)
+    {
+        return out.push(bits, held.width as u32);
+    }
+    braced_part_built(cursor, held.part, out)
+}
+
+/// The same: `part` and its members in braces.
+fn braced_part_built(cursor: &mut Cursor<'_>, part: &Part, out: &mut Laid<'_>) -> Option<()>
     requires { MembersInBounds (part_tree part.now) }
     ensures { IfSome result (λ done. IsBuilt (MembersShape (part_tree part.now)) (λ vs. part_onto (part_tree part.now) vs []) (members_canon (part_tree part.now)) cursor.old cursor.new out.old out.new) }
 {
@@ -91,20 +165,21 @@ fn part_built(cursor: &mut Cursor<'_>, part: &Part, out: &mut Laid<'_>) -> Optio
 pub fn parts_built(
     cursor: &mut Cursor<'_>,
     last: LastPart,
-    parts: &Parts,
+    parts: &TextParts<'_>,
     out: &mut Laid<'_>,
 ) -> Option<()>
-    requires { PartsInBounds last (map part_tree parts.now) }
-    ensures { IfSome result (λ done. IsBuilt (PartsShape (map part_tree parts.now)) (λ ls. parts_onto (map part_tree parts.now) ls (closing ∷ [])) (parts_canon last (map part_tree parts.now)) cursor.old cursor.new out.old out.new) }
+    requires { PartsInBounds last (map text_part parts.now) }
+    ensures { IfSome result (λ done. IsBuilt (PartsShape (map text_part parts.now)) (λ ls. parts_onto (map text_part parts.now) ls (closing ∷ [])) (parts_canon last (map text_part parts.now)) cursor.old cursor.new out.old out.new) }
 {
-    let mut left = parts.as_slice();
-    while let Some((part, later)) = left.split_first() {
-        part_built(cursor, part, out)?;
+    let list = parts.as_slice();
+    let mut index = 0;
+    while index < list.len() {
+        part_built(cursor, &list[index], out)?;
+        index += 1;
         if cursor.closes() {
-            return last_fx_built(last, later.len(), out);
+            return last_fx_built(last, list.len() - index, out);
         }
         fx_built(true, out)?;
-        left = later;
     }
     None
 }
@@ -113,12 +188,12 @@ pub fn parts_built(
 const MOST: u32 = 65_536;
 
 /// One or more values of a fixed kind, and the brace after them.
-pub fn run_built(cursor: &mut Cursor<'_>, fixed: &Fixed, out: &mut Laid<'_>) -> Option<()>
-    requires { FixedInBounds (fixed_tree fixed.now) }
-    ensures { IfSome result (λ done. IsBuilt (λ vs. (0 < value_count vs) × EachShape (FixedShape (fixed_tree fixed.now)) vs) (λ vs. each_onto (fixed_onto (fixed_tree fixed.now)) vs (closing ∷ [])) (run_canon (fixed_tree fixed.now)) cursor.old cursor.new out.old out.new) }
+pub fn run_built(cursor: &mut Cursor<'_>, held: &TextFixed<'_>, out: &mut Laid<'_>) -> Option<()>
+    requires { FixedInBounds (fixed_tree held.now.fixed.now) }
+    ensures { IfSome result (λ done. IsBuilt (λ vs. (0 < value_count vs) × EachShape (FixedShape (fixed_tree held.now.fixed.now)) vs) (λ vs. each_onto (fixed_onto (fixed_tree held.now.fixed.now)) vs (closing ∷ [])) (run_canon (fixed_tree held.now.fixed.now)) cursor.old cursor.new out.old out.new) }
 {
     for _ in 0..MOST {
-        fixed_built(cursor, fixed, out)?;
+        held_built(cursor, held, out)?;
         if cursor.closes() {
             return fx_built(false, out);
         }

@@ -3,40 +3,41 @@ ghost use Rattle.std.specs.Prelude.{◌≡◌, ◌^◌, ◌<◌, ◌≤◌, ◌�
 ghost use Rattle.ax_fspec.specs.Fields.{least_field};
 ghost use Rattle.ax_format.specs.Canonical.{canon, each_canon, marks_of, entries_canon};
 ghost use Rattle.ax_format.specs.InBounds.{InBounds, SlotsInBounds};
-ghost use Rattle.ax_format.specs.Plain.{kind_tree, slot_tree, slots_tree};
 ghost use Rattle.ax_format.specs.Presence.{octets_needed, least_presence};
 ghost use Rattle.ax_format.specs.Shape.{Shape, EachShape, EntriesShape};
 ghost use Rattle.ax_format.specs.Tree.{compound, counted, slot_and, no_slots, slot_count, value_count, occurrences, marked};
 ghost use Rattle.ax_format.specs.Widths.{counter_width};
 ghost use Rattle.ax_text.specs.Slots.{SlotShape, slot_onto};
 ghost use Rattle.ax_text.specs.ValueText.{closing, kind_onto, each_onto, in_braces, entries_onto};
+ghost use Rattle.ax_text_views.specs.HeldText.{text_kind, text_slot, text_slots};
 ghost use Rattle.ax_printed_lines.specs.Printed.{IsBuilt, AreSlots, BuildsSlot, HasMarks, slot_canon};
 
 use crate::cursor::Cursor;
 use crate::explicit::explicit_built;
-use crate::fixed::{fixed_built, parts_built, run_built};
+use crate::fixed::{held_built, named_built, parts_built, run_built};
 use crate::laid::Laid;
 use crate::names::FrontWord;
 use crate::pieces::{count_filled, field_filled, field_room};
-use ax_format::{Counter, Kind, Slot, Slots};
+use ax_format::{Counter, Name};
 use ax_fspec::Presence;
+use ax_text_views::{TextKind, TextSlot, TextSlots};
 
 /// The value of a kind that comes is read, and its canonical bits are laid.
 #[cycle(kind_built)]
-pub fn kind_built(cursor: &mut Cursor<'_>, kind: &Kind, out: &mut Laid<'_>) -> Option<()>
-    requires { InBounds (kind_tree kind.now) }
-    ensures { IfSome result (λ done. IsBuilt (Shape (kind_tree kind.now)) (λ v. kind_onto (kind_tree kind.now) v []) (canon (kind_tree kind.now)) cursor.old cursor.new out.old out.new) }
+pub fn kind_built(cursor: &mut Cursor<'_>, kind: &TextKind<'_>, out: &mut Laid<'_>) -> Option<()>
+    requires { InBounds (text_kind kind.now) }
+    ensures { IfSome result (λ done. IsBuilt (Shape (text_kind kind.now)) (λ v. kind_onto (text_kind kind.now) v []) (canon (text_kind kind.now)) cursor.old cursor.new out.old out.new) }
 {
     match kind {
-        Kind::Fixed(fixed) => fixed_built(cursor, fixed, out),
-        Kind::Explicit => explicit_built(cursor, out),
-        Kind::Extended { last, parts } => {
+        TextKind::Fixed(fixed) => held_built(cursor, fixed, out),
+        TextKind::Explicit => explicit_built(cursor, out),
+        TextKind::Extended { last, parts } => {
             if !cursor.opens() {
                 return None;
             }
             parts_built(cursor, *last, parts, out)
         }
-        Kind::Counted {
+        TextKind::Counted {
             counter: size,
             inner,
         } => {
@@ -45,30 +46,18 @@ pub fn kind_built(cursor: &mut Cursor<'_>, kind: &Kind, out: &mut Laid<'_>) -> O
             }
             counted_built(cursor, *size, inner, out)
         }
-        Kind::ByFx(fixed) => {
+        TextKind::ByFx(fixed) => {
             if !cursor.opens() {
                 return None;
             }
             run_built(cursor, fixed, out)
         }
-        Kind::Compound(slots) => {
+        TextKind::Compound(slots) => {
             if !cursor.opens() {
                 return None;
             }
             compound_built(cursor, slots, out)
         }
-    }
-}
-
-/// The same, where a fixed kind, as most are, takes no call of this.
-#[inline(always)]
-pub fn value_built(cursor: &mut Cursor<'_>, kind: &Kind, out: &mut Laid<'_>) -> Option<()>
-    requires { InBounds (kind_tree kind.now) }
-    ensures { IfSome result (λ done. IsBuilt (Shape (kind_tree kind.now)) (λ v. kind_onto (kind_tree kind.now) v []) (canon (kind_tree kind.now)) cursor.old cursor.new out.old out.new) }
-{
-    match kind {
-        Kind::Fixed(fixed) => fixed_built(cursor, fixed, out),
-        _ => kind_built(cursor, kind, out),
     }
 }
 
@@ -78,11 +67,11 @@ pub fn value_built(cursor: &mut Cursor<'_>, kind: &Kind, out: &mut Laid<'_>) -> 
 fn counted_built(
     cursor: &mut Cursor<'_>,
     size: Counter,
-    kind: &Kind,
+    kind: &TextKind<'_>,
     out: &mut Laid<'_>,
 ) -> Option<()>
-    requires { InBounds (kind_tree kind.now) }
-    ensures { IfSome result (λ done. IsBuilt (λ vs. (value_count vs < 2 ^ counter_width size) × EachShape (Shape (kind_tree kind.now)) vs) (λ vs. each_onto (kind_onto (kind_tree kind.now)) vs (closing ∷ [])) (λ vs. canon (counted size (kind_tree kind.now)) (occurrences vs)) cursor.old cursor.new out.old out.new) }
+    requires { InBounds (text_kind kind.now) }
+    ensures { IfSome result (λ done. IsBuilt (λ vs. (value_count vs < 2 ^ counter_width size) × EachShape (Shape (text_kind kind.now)) vs) (λ vs. each_onto (kind_onto (text_kind kind.now)) vs (closing ∷ [])) (λ vs. canon (counted size (text_kind kind.now)) (occurrences vs)) cursor.old cursor.new out.old out.new) }
 {
     let at = out.leave(size.octets() as usize)?;
     let count = each_built(cursor, size, kind, out)?;
@@ -94,12 +83,12 @@ fn counted_built(
 fn each_built(
     cursor: &mut Cursor<'_>,
     size: Counter,
-    kind: &Kind,
+    kind: &TextKind<'_>,
     out: &mut Laid<'_>,
 ) -> Option<u32>
-    requires { InBounds (kind_tree kind.now) }
+    requires { InBounds (text_kind kind.now) }
     ensures few { IfSome result (λ count. count < 2 ^ counter_width size) }
-    ensures built { IfSome result (λ count. IsBuilt (λ vs. (value_count vs ≡ count) × EachShape (Shape (kind_tree kind.now)) vs) (λ vs. each_onto (kind_onto (kind_tree kind.now)) vs (closing ∷ [])) (each_canon (canon (kind_tree kind.now))) cursor.old cursor.new out.old out.new) }
+    ensures built { IfSome result (λ count. IsBuilt (λ vs. (value_count vs ≡ count) × EachShape (Shape (text_kind kind.now)) vs) (λ vs. each_onto (kind_onto (text_kind kind.now)) vs (closing ∷ [])) (each_canon (canon (text_kind kind.now))) cursor.old cursor.new out.old out.new) }
 {
     let most = size.greatest();
     let mut count = 0;
@@ -119,9 +108,9 @@ fn each_built(
 /// The entries of a compound, and the brace after them. They are laid behind room for the presence field, which is written once
 /// they are there.
 #[cycle(kind_built)]
-fn compound_built(cursor: &mut Cursor<'_>, slots: &Slots, out: &mut Laid<'_>) -> Option<()>
-    requires { AreSlots (slots_tree slots.now) }
-    ensures { IfSome result (λ done. IsBuilt (EntriesShape 1 (slots_tree slots.now)) (λ es. entries_onto 1 (slots_tree slots.now) es (closing ∷ [])) (λ es. canon (compound (slots_tree slots.now)) (marked es)) cursor.old cursor.new out.old out.new) }
+fn compound_built(cursor: &mut Cursor<'_>, slots: &TextSlots<'_>, out: &mut Laid<'_>) -> Option<()>
+    requires { AreSlots (text_slots slots.now) }
+    ensures { IfSome result (λ done. IsBuilt (EntriesShape 1 (text_slots slots.now)) (λ es. entries_onto 1 (text_slots slots.now) es (closing ∷ [])) (λ es. canon (compound (text_slots slots.now)) (marked es)) cursor.old cursor.new out.old out.new) }
 {
     let room = field_room(slots.as_slice().len());
     let at = out.leave(room)?;
@@ -132,27 +121,40 @@ fn compound_built(cursor: &mut Cursor<'_>, slots: &Slots, out: &mut Laid<'_>) ->
 /// The value of the slot's subitem, where the subitem's name comes. It answers whether it does.
 #[cycle(kind_built)]
 #[inline(always)]
-fn subitem_built(cursor: &mut Cursor<'_>, slot: &Slot, out: &mut Laid<'_>) -> Option<bool>
-    requires { SlotsInBounds (slot_and (slot_tree slot.now) no_slots) }
-    ensures { IfSome result (λ came. BuildsSlot (slot_tree slot.now) came cursor.old cursor.new out.old out.new) }
+fn subitem_built(cursor: &mut Cursor<'_>, slot: &TextSlot<'_>, out: &mut Laid<'_>) -> Option<bool>
+    requires { SlotsInBounds (slot_and (text_slot slot.now) no_slots) }
+    ensures { IfSome result (λ came. BuildsSlot (text_slot slot.now) came cursor.old cursor.new out.old out.new) }
 {
-    let Slot::Sub { name, kind } = slot else {
-        return Some(false);
-    };
-    if !cursor.takes_name(name) {
-        return Some(false);
+    match slot {
+        TextSlot::Spare => Some(false),
+        TextSlot::Named(held) => named_built(cursor, held, out),
+        TextSlot::Sub { name, kind } => {
+            if !cursor.takes_name(name) {
+                return Some(false);
+            }
+            kind_built(cursor, kind, out)?;
+            Some(true)
+        }
     }
-    kind_built(cursor, kind, out)?;
-    Some(true)
+}
+
+/// The name of a slot.
+#[inline(always)]
+fn name_of<'a>(slot: &'a TextSlot<'_>) -> Option<&'a Name> {
+    match slot {
+        TextSlot::Spare => None,
+        TextSlot::Named(held) => Some(&held.name),
+        TextSlot::Sub { name, .. } => Some(name),
+    }
 }
 
 /// The first slot, from that index on, of which the subitem's name is that word. None comes where there is none.
-fn slot_of(slots: &[Slot], from: usize, word: FrontWord) -> Option<usize>
+fn slot_of(slots: &[TextSlot<'_>], from: usize, word: FrontWord) -> Option<usize>
     ensures { IfSome result (λ index. (from ≤ index) × (index < length slots.now)) }
 {
     let mut index = from;
     while index < slots.len() {
-        if let Slot::Sub { name, .. } = &slots[index]
+        if let Some(name) = name_of(&slots[index])
             && word.is(name)
         {
             return Some(index);
@@ -162,12 +164,16 @@ fn slot_of(slots: &[Slot], from: usize, word: FrontWord) -> Option<usize>
     None
 }
 
-/// The entries of a compound, and the brace after them. It answers which slots they are of. The slots between two entries are passed
-/// over by their names' numbers, and after the last entry no slot is looked at.
+/// The entries of a compound or a record, and the brace after them. It answers which slots they are of. The slots between two entries
+/// are passed over by their names' numbers, and after the last entry no slot is looked at.
 #[cycle(kind_built)]
-fn entries_built(cursor: &mut Cursor<'_>, slots: &Slots, out: &mut Laid<'_>) -> Option<Presence>
-    requires { AreSlots (slots_tree slots.now) }
-    ensures { IfSome result (λ marks. IsBuilt (HasMarks (slots_tree slots.now) marks) (λ es. entries_onto 1 (slots_tree slots.now) es (closing ∷ [])) (entries_canon 1 (slots_tree slots.now)) cursor.old cursor.new out.old out.new) }
+pub fn entries_built(
+    cursor: &mut Cursor<'_>,
+    slots: &TextSlots<'_>,
+    out: &mut Laid<'_>,
+) -> Option<Presence>
+    requires { AreSlots (text_slots slots.now) }
+    ensures { IfSome result (λ marks. IsBuilt (HasMarks (text_slots slots.now) marks) (λ es. entries_onto 1 (text_slots slots.now) es (closing ∷ [])) (entries_canon 1 (text_slots slots.now)) cursor.old cursor.new out.old out.new) }
 {
     let list = slots.as_slice();
     let mut marks = Presence::empty();

@@ -14,6 +14,7 @@ mod names;
 mod numbers;
 mod pieces;
 mod records;
+mod runs;
 
 pub use blocks::printed_body;
 pub use laid::Laid;

@@ -92,7 +92,7 @@ impl FrontWord {
 
 /// The number of the first eight octets, the first of which is the highest.
 #[inline(always)]
-fn eight_in_front(octets: &[u8]) -> u64
+pub fn eight_in_front(octets: &[u8]) -> u64
     requires { 8 ≤ length octets.now }
     ensures { (w : ℕ) → w ≤ 56 → word w (result / 2 ^ (64 - w)) ≡ take w (bits octets.now) }
 {

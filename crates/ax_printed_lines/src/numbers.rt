@@ -9,6 +9,9 @@ use crate::gaps::after_space;
 /// A number of so many digits is below 2^64, whatever they are.
 const MOST_DIGITS: usize = 19;
 
+/// A number of at most 56 bits has so many digits or fewer.
+const RUN_DIGITS: usize = 17;
+
 /// Most numbers have fewer digits. The compiler makes straight code of a loop with so few rounds.
 const FEW_DIGITS: usize = 8;
 
@@ -118,4 +121,31 @@ fn longer_number(octets: &[u8]) -> Option<(u64, &[u8])>
     let (number, following) = number_in_front(octets)?;
     let left = after_space(following)?;
     Some((number, left))
+}
+
+/// The number of the digits in front, at most 17, and how many they are.
+#[inline(always)]
+#[tactic(auto, using(crate::proofs::Digits::reading))]
+fn run_digits(octets: &[u8]) -> (u64, usize)
+    requires { 17 ≤ length octets.now }
+    ensures digits { 0 < result.1 → (1 < result.1 → 49 ≤ get_or octets.now 0 0) → octets.now ≡ decimal result.0 ++ drop result.1 octets.now }
+    ensures first { 0 < result.1 → 48 ≤ get_or octets.now 0 0 }
+    ensures few { result.1 ≤ length octets.now }
+    ensures below { result.0 < 2 ^ 64 }
+{
+    more_digits(octets, 0, 0, RUN_DIGITS)
+}
+
+/// The number in front, of at most 17 digits, and what comes after it. None comes where there is no digit, and where the first of
+/// several is 0.
+#[inline(always)]
+pub fn run_number(octets: &[u8]) -> Option<(u64, &[u8])>
+    requires { 17 ≤ length octets.now }
+    ensures digits { IfSome result (λ found. octets.now ≡ decimal found.0 ++ found.1.now) }
+{
+    let (number, count) = run_digits(octets);
+    if count == 0 || count > 1 && octets[0] == b'0' {
+        return None;
+    }
+    Some((number, &octets[count..]))
 }

@@ -10,6 +10,9 @@ use Rattle.ax_build_work.proofs.work.build_lines.Goals as goal
 pub returns-in_default-clause-runs : goal.returns-in_default-clause-runs
 returns-in_default-clause-runs g c = memory_first _ _ _ _ _ _ _ _
 
+pub returns-in_default-tables_of-clause-runs : goal.returns-in_default-tables_of-clause-runs
+returns-in_default-tables_of-clause-runs g c = memory_first _ _ _ _ _ _ _ _
+
 pub returns-in_default-zeros-clause-runs : goal.returns-in_default-zeros-clause-runs
 returns-in_default-zeros-clause-runs g c = memory_first _ _ _ _ _ _ _ _
 

@@ -1,5 +1,5 @@
 use Rattle.std.proofs.Common.{◌≤◌, ◌+◌, ◌-◌, ◌*◌, length, drop}
-use Rattle.ax_format.specs.Plain.{kind_tree, slots_tree}
+use Rattle.ax_text_views.specs.HeldText.{text_kind, text_slots}
 use Rattle.ax_printed_lines.proofs.EntriesBuilt.{EntriesLeft}
 use Rattle.ax_printed_lines.proofs.KindsBuilt.{EachLeft}
 use Rattle.ax_printed_lines.proofs.kinds.+kind_built.Given as goal
@@ -24,7 +24,7 @@ decreases-subitem_built l = 3 * length l.cursor.now.left
 
 abbrev pub invariant-each_built-loop-count : goal.invariant-each_built-loop-count
 invariant-each_built-loop-count l = record {
-  built : EachLeft (kind_tree l.kind) l.count l.fn.cursor l.cursor l.fn.out l.out;
+  built : EachLeft (text_kind l.kind) l.count l.fn.cursor l.cursor l.fn.out l.out;
   few : l.count ≤ l.most;
   less : length l.cursor.left ≤ length l.fn.cursor.left;
 }
@@ -34,7 +34,7 @@ decreases-each_built-loop-count l = l.most - l.count
 
 abbrev pub invariant-entries_built-loop-list : goal.invariant-entries_built-loop-list
 invariant-entries_built-loop-list l = record {
-  built : EntriesLeft (slots_tree l.fn.slots) l.marks l.passed (slots_tree (drop l.passed l.fn.slots)) l.fn.cursor l.cursor l.fn.out l.out;
+  built : EntriesLeft (text_slots l.fn.slots) l.marks l.passed (text_slots (drop l.passed l.fn.slots)) l.fn.cursor l.cursor l.fn.out l.out;
   within : l.passed ≤ length l.fn.slots;
   less : length l.cursor.left ≤ length l.fn.cursor.left;
 }

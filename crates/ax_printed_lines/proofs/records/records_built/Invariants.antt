@@ -3,4 +3,4 @@ use Rattle.ax_printed_lines.proofs.RecordsBuilt.{RecordsLeft}
 use Rattle.ax_printed_lines.proofs.records.records_built.Given as goal
 
 abbrev pub invariant-loop : goal.invariant-loop
-invariant-loop l = RecordsLeft (spec_tree l.items.spec.now) l.fn.cursor l.cursor l.fn.out l.out
+invariant-loop l = RecordsLeft (spec_tree l.items) l.fn.cursor l.cursor l.fn.out l.out

@@ -1,5 +1,5 @@
 -- What templates print, read from the front of octets.
-use Rattle.std.proofs.Common.{◌≡◌, ℕ, ◌+◌, ◌-◌, ◌*◌, ◌/◌, ◌^◌, ◌<◌, ◌≤◌, List, [], ◌∷◌, ◌++◌, Some, length, take, drop, get_or, decimal, refl, sym, ◌∙◌, ap, arith, subst, append_assoc, append-nil, length-append, lit<, pow-add, length-drop, take-add}
+use Rattle.std.proofs.Common.{◌≡◌, ℕ, ◌+◌, ◌-◌, ◌*◌, ◌/◌, ◌^◌, ◌<◌, ◌≤◌, List, [], ◌∷◌, ◌++◌, Some, length, take, drop, get_or, decimal, refl, sym, ◌∙◌, ap, arith, subst, append_assoc, append-nil, lit<, pow-add, length-drop, take-add}
 use Rattle.std.proofs.lemmas.List.{take_at, drop_at, drop_all, take_all}
 use Rattle.std.proofs.lemmas.Nat.{xor_shr}
 use Rattle.std.proofs.Math.Nat.{pow-le-pow_right, mul_assoc}
@@ -157,20 +157,3 @@ module _ (steps : Steps) (all later : List Step) (s : Step) (same : all ≡ step
       }
 
 pub ruleset wholes = (first_narrow, later_few, whole_read)
-
--- ---- how much is read
-
-suffix : (xs octets left : List ℕ) → 32 ∷ octets ≡ xs ++ (32 ∷ left) → drop (length octets - length left) octets ≡ left
-suffix [] octets left e = ap (λ n. drop n octets) (let z : length octets - length left ≡ 0 = omega (arith, ap length e) in z) ∙ ap (drop 1) e
-suffix (x ∷ xs) octets left e =
-    let tail : octets ≡ (xs ++ 32 ∷ []) ++ left = ap (drop 1) e ∙ sym (append_assoc xs (32 ∷ []) left) in
-    let size : length octets - length left ≡ length (xs ++ 32 ∷ []) = omega (arith, ap length tail, length-append (xs ++ 32 ∷ []) left) in
-    (λ i. drop (size i) (tail i)) ∙ drop_at (xs ++ 32 ∷ []) left (length (xs ++ 32 ∷ [])) refl
-
-pub is_counted : (t : Template) (n : ℕ) (octets left : List ℕ) → IsRead t n (32 ∷ octets) (32 ∷ left) → IsRead t n (32 ∷ octets) (32 ∷ drop (length octets - length left) octets)
-is_counted t n octets left r = subst (λ k. IsRead t n (32 ∷ octets) (32 ∷ k)) (sym (suffix (printed t (word (template_width t) n)) octets left r.text)) r
-
-pub is_shorter : (t : Template) (n : ℕ) (octets left : List ℕ) → IsRead t n (32 ∷ octets) (32 ∷ left) → length left ≤ length octets
-is_shorter t n octets left r = omega (arith, ap length r.text, length-append (printed t (word (template_width t) n)) (32 ∷ left))
-
-pub ruleset counts = (is_counted, is_shorter)

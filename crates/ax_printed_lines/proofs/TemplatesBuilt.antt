@@ -239,10 +239,8 @@ name_then name f old mid new before after g b =
 
 -- ---- the place after what a template prints
 
-pub template_goes : (t : Template) (n count : ℕ) (old new : Place) → IsRead t n (32 ∷ old.left) (32 ∷ drop count old.left) → new.left ≡ take (length old.left - count) (drop count old.left) → new.level ≡ old.level → old.level + 9 ≤ 20 → RunGoes t n old new
-template_goes t n count old new r e l le =
-    let all : take (length old.left - count) (drop count old.left) ≡ drop count old.left = take_all (length old.left - count) (drop count old.left) (omega (arith, length-drop count old.left)) in
-    record { read = subst (λ x. IsRead t n (32 ∷ old.left) (32 ∷ x)) (sym (e ∙ all)) r; level = l; room = le }
+pub template_goes : (t : Template) (n : ℕ) (old new : Place) → IsRead t n (32 ∷ old.left) (32 ∷ new.left) → new.level ≡ old.level → old.level + 9 ≤ 20 → RunGoes t n old new
+template_goes t n old new r l le = record { read = r; level = l; room = le }
 
 pub ruleset template_read = (template_goes)
 

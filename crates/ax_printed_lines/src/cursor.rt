@@ -11,7 +11,7 @@ ghost use Rattle.ax_text_views.specs.Templates.{template_width, whole_template};
 use crate::gaps::{after_gap, after_separators, after_spaced, after_word, split_word};
 use crate::names::{FrontWord, after_short_name, after_spaced_name, are_same, begins_with};
 use crate::numbers::{number_in_front, spaced_number};
-use crate::runs::template_counted;
+use crate::runs::after_template;
 use ax_block_reader::{category_of, unquoted};
 use ax_format::Name;
 use ax_text_views::Steps;
@@ -236,11 +236,8 @@ impl<'t> Cursor<'t> {
         if self.level > DEEPEST - SHALLOW {
             return None;
         }
-        let (bits, count) = template_counted(self.rest, steps);
-        if count == 0 {
-            return None;
-        }
-        self.rest = &self.rest[count..];
+        let (bits, left) = after_template(self.rest, steps)?;
+        self.rest = left;
         Some(bits)
     }
 

@@ -166,7 +166,7 @@ fn after_first<'t>(octets: &'t [u8], step: &Step, width: u32) -> Option<(u64, &'
 /// space isn't there.
 #[inline(always)]
 #[tactic(auto, using(crate::proofs::RunsRead::wholes))]
-fn after_template<'t>(octets: &'t [u8], steps: &Steps) -> Option<(u64, &'t [u8])>
+pub fn after_template<'t>(octets: &'t [u8], steps: &Steps) -> Option<(u64, &'t [u8])>
     requires { template_width (whole_template steps.now) ≤ 56 }
     ensures { IfSome result (λ found. IsRead (whole_template steps.now) found.0 (32 ∷ octets.now) (32 ∷ found.1.now)) }
 {
@@ -176,18 +176,4 @@ fn after_template<'t>(octets: &'t [u8], steps: &Steps) -> Option<(u64, &'t [u8])
     let (bits, rest) = after_steps(following, later, width, first)?;
     let left = behind_space(after_tail(rest, &steps.tail)?)?;
     Some((bits, left))
-}
-
-/// The same, with how many octets are read in place of what comes after them: 0 where it doesn't stand there.
-#[inline(always)]
-#[tactic(auto, using(crate::proofs::RunsRead::counts))]
-pub fn template_counted(octets: &[u8], steps: &Steps) -> (u64, usize)
-    requires { template_width (whole_template steps.now) ≤ 56 }
-    ensures read { 0 < result.1 → IsRead (whole_template steps.now) result.0 (32 ∷ octets.now) (32 ∷ drop result.1 octets.now) }
-    ensures few { result.1 ≤ length octets.now }
-{
-    match after_template(octets, steps) {
-        Some((bits, left)) => (bits, octets.len() - left.len()),
-        None => (0, 0),
-    }
 }

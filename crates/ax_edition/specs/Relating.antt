@@ -6,7 +6,7 @@ use Rattle.ax_relation.specs.Below.{slot_below}
 use Rattle.ax_edition.specs.declared.relating.Level.{Level}
 use Rattle.ax_edition.specs.declared.relating.Target.{Target}
 use Rattle.ax_relation.specs.declared.relation.RelationPath.{RelationPath}
-use Rattle.ax_format.specs.Paths.{at}
+use Rattle.ax_format.specs.Paths.{at, three_digits}
 use Rattle.ax_format.specs.Named.{with_part}
 use Rattle.ax_format.specs.Placed.{place_from}
 use Rattle.ax_format.specs.Plain.{kind_tree}
@@ -20,6 +20,9 @@ use Rattle.ax_format.specs.declared.place.Place.{Place}
 abbrev pub target_tree : Target → List ℕ × KindTree
 target_tree t = (t.numbers, kind_tree t.kind.now)
 
+abbrev pub target_there : Option Target → Option (List ℕ × KindTree)
+target_there t = option_map target_tree t
+
 -- after these slot numbers
 abbrev pub after : List ℕ → ℕ × KindTree → List ℕ × KindTree
 after numbers s = (numbers ++ s.0 ∷ [], s.1)
@@ -27,12 +30,16 @@ after numbers s = (numbers ++ s.0 ∷ [], s.1)
 abbrev pub target_below : List ℕ → List ℕ × KindTree → Option (List ℕ × KindTree)
 target_below name t = option_map (after t.0) (slot_below name t.1)
 
+-- what there is at a name below a target, if there is one
+abbrev pub below_target : Option (List ℕ × KindTree) → List ℕ → Option (List ℕ × KindTree)
+below_target target name = option_and_then (target_below name) target
+
 -- what a level has at a name
 abbrev pub lead : Level → List ℕ → Option (List ℕ × KindTree)
 lead level name = option_map (after level.numbers) (found level.index name)
 
 pub record LeadsBelow (target : Option (List ℕ × KindTree)) (level : Level) : Type 0 where
-  pub leads : (name : List ℕ) → lead level name ≡ option_and_then (target_below name) target
+  pub leads : (name : List ℕ) → lead level name ≡ below_target target name
 
 -- ---- the old edition
 
@@ -65,7 +72,7 @@ related_parts text numbers n (p ∷ ps) shared new = related_part text numbers n
 abbrev mutual
   pub related_kind : List ℕ → List ℕ → KindTree → Option (List ℕ × KindTree) → List RelationPath
   related_kind text numbers (extended last ps) new = related_here text numbers None (extended last ps) new ∷ related_parts text numbers 0 ps (parts_with (extended last ps) new) new
-  related_kind text numbers (compound ss) new = related_here text numbers None (compound ss) new ∷ related_slots text numbers 1 ss (λ name. option_and_then (target_below name) new)
+  related_kind text numbers (compound ss) new = related_here text numbers None (compound ss) new ∷ related_slots text numbers 1 ss (below_target new)
   related_kind text numbers k new = related_here text numbers None k new ∷ []
 
   -- the first of these slots has the number s; the rule says what the new edition has at a name
@@ -77,3 +84,7 @@ abbrev mutual
 abbrev pub related_slot : List ℕ → List ℕ → ℕ → SlotTree → (List ℕ → Option (List ℕ × KindTree)) → List RelationPath
 related_slot text numbers s spare_slot rule = []
 related_slot text numbers s (subitem name k) rule = related_kind (at text name) (numbers ++ s ∷ []) k (rule name)
+
+-- the keys of the slots of a record of that category, where a record of the new edition has the second ones
+abbrev pub related_between : ℕ → SlotsTree → SlotsTree → List RelationPath
+related_between category old new = related_slots (three_digits category) [] 1 old (below_target (Some ([], compound new)))

@@ -3,7 +3,7 @@ ghost use Rattle.std.specs.Prelude.{◌≡◌, ◌++◌, ◌∷◌, [], IfOk, On
 ghost use Rattle.ax_format.specs.Plain.{kind_tree, slot_tree, slots_tree};
 ghost use Rattle.ax_edition.specs.Index.{found};
 ghost use Rattle.ax_relation.specs.Moves.{move_where, moves_below, moves_of, slot_moves};
-ghost use Rattle.ax_relation.specs.PlainMoves.{move_tree};
+ghost use Rattle.ax_relation.specs.PlainMoves.{AddsMoves, move_tree};
 ghost use Rattle.ax_edition.specs.SlotItems.{item_slot, items_tree};
 
 use crate::index::{Index, index_below};
@@ -34,7 +34,7 @@ fn move_to(
     old: &Index<'_>,
     moves: &mut Moves,
 ) -> Result<(), AllocError>
-    ensures { OnOk result (map move_tree moves.new ≡ map move_tree moves.old ++ move_where number (kind_tree kind.now) (found old.now name.now) (moves_below (kind_tree kind.now))) }
+    ensures { OnOk result (AddsMoves moves.old moves.new (move_where number (kind_tree kind.now) (found old.now name.now) (moves_below (kind_tree kind.now)))) }
 {
     let Some((from, own)) = old.find(name) else {
         return Ok(());

@@ -1,10 +1,9 @@
 //! The keys of the old edition, with their places in both.
-ghost use Rattle.std.specs.Prelude.{◌≡◌, ◌++◌, ◌∷◌, [], None, Some, IfOk, OnOk, map, option_map, option_and_then};
-ghost use Rattle.ax_format.specs.Paths.{at};
+ghost use Rattle.std.specs.Prelude.{◌≡◌, ◌++◌, ◌∷◌, [], None, Some, IfOk, OnOk, map};
 ghost use Rattle.ax_format.specs.Placed.{place_from};
 ghost use Rattle.ax_format.specs.Plain.{kind_tree, part_tree, slot_tree, slots_tree};
-ghost use Rattle.ax_format.specs.Tree.{compound};
-ghost use Rattle.ax_edition.specs.Relating.{target_tree, target_below, lead, LeadsBelow, shared_place, parts_with, part_place, related_here, related_part, related_parts, related_kind, related_slot, related_slots};
+ghost use Rattle.ax_format.specs.Tree.{compound, subitem};
+ghost use Rattle.ax_edition.specs.Relating.{target_there, below_target, lead, LeadsBelow, shared_place, parts_with, part_place, related_here, related_part, related_parts, related_kind, related_slot, related_slots};
 ghost use Rattle.ax_edition.specs.SlotItems.{item_slot, items_tree};
 
 use crate::index::{Index, index_below, index_items};
@@ -76,7 +75,7 @@ fn place_of(alloc: Global, numbers: &Steps) -> Result<Place, AllocError>
 impl<'k> Level<'k> {
     /// What stands below a target. Below none there is nothing.
     fn below(alloc: Global, target: &Option<Target<'k>>) -> Result<Level<'k>, AllocError>
-        ensures { IfOk result (λ level. LeadsBelow (option_map target_tree target.now) level) }
+        ensures { IfOk result (λ level. LeadsBelow (target_there target.now) level) }
     {
         match target {
             None => Ok(Level {
@@ -102,7 +101,7 @@ impl<'k> Level<'k> {
 
     /// What stands at a name.
     fn find(&self, alloc: Global, name: &Name) -> Result<Option<Target<'k>>, AllocError>
-        ensures { IfOk result (λ made. option_map target_tree made ≡ lead self.now name.now) }
+        ensures { IfOk result (λ made. target_there made ≡ lead self.now name.now) }
     {
         match self.index.find(name) {
             None => Ok(None),
@@ -120,7 +119,7 @@ fn place_where_shared(
     kind: &Kind,
     target: &Option<Target<'_>>,
 ) -> Result<Option<Place>, AllocError>
-    ensures { IfOk result (λ made. made ≡ shared_place None (kind_tree kind.now) (option_map target_tree target.now)) }
+    ensures { IfOk result (λ made. made ≡ shared_place None (kind_tree kind.now) (target_there target.now)) }
 {
     match target {
         Some(target) if is_shared(kind, target.kind) => {
@@ -132,7 +131,7 @@ fn place_where_shared(
 
 /// How many first parts the kind has in common with the target.
 fn parts_in_common(kind: &Kind, target: &Option<Target<'_>>) -> u32
-    ensures { result ≡ parts_with (kind_tree kind.now) (option_map target_tree target.now) }
+    ensures { result ≡ parts_with (kind_tree kind.now) (target_there target.now) }
 {
     match target {
         Some(target) => shared_parts(kind, target.kind),
@@ -147,7 +146,7 @@ fn place_of_part(
     shared: u32,
     target: &Option<Target<'_>>,
 ) -> Result<Option<Place>, AllocError>
-    ensures { IfOk result (λ made. made ≡ part_place shared number (option_map target_tree target.now)) }
+    ensures { IfOk result (λ made. made ≡ part_place shared number (target_there target.now)) }
 {
     match target {
         Some(target) if number < shared => Ok(Some(place_of(alloc, &target.numbers)?)),
@@ -173,7 +172,7 @@ fn path_for(
     kind: &Kind,
     target: &Option<Target<'_>>,
 ) -> Result<RelationPath, AllocError>
-    ensures { IfOk result (λ path. path ≡ related_here text.now numbers.now None (kind_tree kind.now) (option_map target_tree target.now)) }
+    ensures { IfOk result (λ path. path ≡ related_here text.now numbers.now None (kind_tree kind.now) (target_there target.now)) }
 {
     Ok(RelationPath {
         text: text.copy(alloc)?,
@@ -192,7 +191,7 @@ fn part_for(
     shared: u32,
     target: &Option<Target<'_>>,
 ) -> Result<RelationPath, AllocError>
-    ensures { IfOk result (λ path. path ≡ related_part text.now numbers.now number shared (option_map target_tree target.now)) }
+    ensures { IfOk result (λ path. path ≡ related_part text.now numbers.now number shared (target_there target.now)) }
 {
     Ok(RelationPath {
         text: at_part(alloc, text, number)?,
@@ -213,7 +212,7 @@ fn relate_parts(
     shared: u32,
     target: &Option<Target<'_>>,
 ) -> Result<(), AllocError>
-    ensures { OnOk result (paths.new ≡ paths.old ++ related_parts text.now numbers.now 0 (map part_tree parts.now) shared (option_map target_tree target.now)) }
+    ensures { OnOk result (paths.new ≡ paths.old ++ related_parts text.now numbers.now 0 (map part_tree parts.now) shared (target_there target.now)) }
 {
     let mut number: u32 = 0;
     for _part in parts.as_slice() {
@@ -235,7 +234,7 @@ fn relate_kind(
     kind: &Kind,
     target: &Option<Target<'_>>,
 ) -> Result<(), AllocError>
-    ensures { OnOk result (paths.new ≡ paths.old ++ related_kind text.now numbers.now (kind_tree kind.now) (option_map target_tree target.now)) }
+    ensures { OnOk result (paths.new ≡ paths.old ++ related_kind text.now numbers.now (kind_tree kind.now) (target_there target.now)) }
 {
     let path = path_for(alloc, text, numbers, kind, target)?;
     push_path(paths, path)?;
@@ -263,7 +262,7 @@ fn relate_below(
     slots: &Slots,
     target: &Option<Target<'_>>,
 ) -> Result<(), AllocError>
-    ensures { OnOk result (paths.new ≡ paths.old ++ related_slots text.now numbers.now 1 (slots_tree slots.now) (λ name. option_and_then (target_below name) (option_map target_tree target.now))) }
+    ensures { OnOk result (paths.new ≡ paths.old ++ related_slots text.now numbers.now 1 (slots_tree slots.now) (below_target (target_there target.now))) }
 {
     let level = Level::below(alloc, target)?;
     relate_slots(alloc, paths, text, numbers, slots, &level)
@@ -281,7 +280,7 @@ fn relate_named(
     kind: &Kind,
     level: &Level<'_>,
 ) -> Result<(), AllocError>
-    ensures { OnOk result (paths.new ≡ paths.old ++ related_kind (at text.now name.now) (numbers.now ++ number ∷ []) (kind_tree kind.now) (lead level.now name.now)) }
+    ensures { OnOk result (paths.new ≡ paths.old ++ related_slot text.now numbers.now number (subitem name.now (kind_tree kind.now)) (lead level.now)) }
 {
     let text = at_name(alloc, text, name)?;
     let numbers = with_number(alloc, numbers, number)?;

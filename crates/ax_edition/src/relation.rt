@@ -1,10 +1,8 @@
-ghost use Rattle.std.specs.Prelude.{◌≡◌, [], Some, IfOk, OnOk, IfErr, map, option_map, option_and_then};
+ghost use Rattle.std.specs.Prelude.{◌≡◌, [], IfOk, OnOk, IfErr, map};
 ghost use Rattle.ax_format.specs.Naming.{slot_named};
 ghost use Rattle.ax_format.specs.OfCode.{HasNoFlaw};
-ghost use Rattle.ax_format.specs.Paths.{three_digits};
-ghost use Rattle.ax_format.specs.Tree.{compound};
-ghost use Rattle.ax_edition.specs.Known.{known_slots};
-ghost use Rattle.ax_edition.specs.Relating.{target_below, related_slots};
+ghost use Rattle.ax_edition.specs.Known.{kind_named, known_slots};
+ghost use Rattle.ax_edition.specs.Relating.{related_between};
 ghost use Rattle.ax_edition.specs.SlotItems.{items_tree};
 ghost use Rattle.ax_edition.specs.Unrelated.{WhyUnrelated};
 ghost use Rattle.ax_relation.specs.Known.{Knows};
@@ -41,7 +39,7 @@ fn paths_between(
     old: &SlotItems<'_>,
     new: &SlotItems<'_>,
 ) -> Result<RelationPaths, AllocError>
-    ensures { IfOk result (λ made. made ≡ related_slots (three_digits category) [] 1 (items_tree old.now) (λ name. option_and_then (target_below name) (Some ([], compound (items_tree new.now))))) }
+    ensures { IfOk result (λ made. made ≡ related_between category (items_tree old.now) (items_tree new.now)) }
 {
     let text = of_category(alloc, category)?;
     let level = Level::of_record(alloc, new)?;
@@ -55,7 +53,7 @@ fn known_between(
     old: &SlotItems<'_>,
     new: &SlotItems<'_>,
 ) -> Result<Known, AllocError>
-    ensures { IfOk result (λ known. Knows (known_slots [] (items_tree old.now) (λ name. option_map (λ s. s.1) (slot_named 1 name (items_tree new.now)))) known) }
+    ensures { IfOk result (λ known. Knows (known_slots [] (items_tree old.now) (kind_named (items_tree new.now))) known) }
 {
     let index = index_items(alloc, new)?;
     know_items(alloc, old, &index)

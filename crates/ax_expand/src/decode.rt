@@ -6,7 +6,7 @@ ghost use Rattle.ax_format.specs.Plain.{slots_tree, value_tree, entries_tree};
 ghost use Rattle.ax_format.specs.Tree.{ValueTree, compound, marked};
 ghost use Rattle.ax_fspec.specs.Reading.{Gets};
 ghost use Rattle.ax_values.specs.SlotReading.{HasFailed};
-ghost use Rattle.ax_expand.specs.Answers.{IsContentFault, IsOrMemory, AnswersFault};
+ghost use Rattle.ax_expand.specs.Answers.{IsContentFault, ReadsValue, AnswersFault};
 ghost use Rattle.ax_expand.specs.Content.{SpellsContent, FailsContent};
 ghost use Rattle.ax_expand.specs.Reading.{content_read};
 ghost use Rattle.ax_expand.specs.declared.fault.ContentCause.{ContentCause as Cause};
@@ -80,7 +80,7 @@ pub fn decode_content(
     requires { length content.now ≤ 254 }
     ensures value { IfOk result (λ value. SpellsContent x.now.form (slots_tree x.now.slots) (value_tree value) (bits content.now)) }
     ensures fault { IfErr result (IsContentFault x.now.form (slots_tree x.now.slots) (bits content.now)) }
-    ensures where_spelled { (v : ValueTree) → SpellsContent x.now.form (slots_tree x.now.slots) v (bits content.now) → IsOrMemory (λ value. value_tree value ≡ v) result }
+    ensures where_spelled { (v : ValueTree) → SpellsContent x.now.form (slots_tree x.now.slots) v (bits content.now) → ReadsValue v result }
     ensures where_faulty { (p : ℕ) (c : Cause) → FailsContent x.now.form (slots_tree x.now.slots) (bits content.now) p c → AnswersFault p c result }
 {
     let expansion = x.expansion();

@@ -1,5 +1,5 @@
 //! Values to contents.
-ghost use Rattle.std.specs.Prelude.{◌≡◌, ◌*◌, ◌≤◌, ◌<◌, ◌⊎◌, ◌↔◌, length, IfOk, IfErr, IsErrOf};
+ghost use Rattle.std.specs.Prelude.{◌≡◌, ◌*◌, ◌≤◌, length, IfOk, IfErr};
 ghost use Rattle.ax_bits.specs.Bits.{bits};
 ghost use Rattle.ax_bits.specs.Out.{Appends, room};
 ghost use Rattle.ax_format.specs.Lengths.{capped, slot_kind, octets, octets_where};
@@ -7,9 +7,9 @@ ghost use Rattle.ax_format.specs.Plain.{slots_tree, entries_tree, value_tree};
 ghost use Rattle.ax_format.specs.Shape.{Shape};
 ghost use Rattle.ax_format.specs.Tree.{compound, marked};
 ghost use Rattle.ax_values.specs.Writing.{AreEntriesOf};
-ghost use Rattle.ax_values.specs.declared.error.EncodeError.TheVariants as Encoding;
+ghost use Rattle.ax_expand.specs.Answers.{IsTooLongOrMemory, IsTooLongWhere};
 ghost use Rattle.ax_expand.specs.Content.{CanonContent};
-ghost use Rattle.ax_expand.specs.Fields.{HasMarks, HasFewOctets};
+ghost use Rattle.ax_expand.specs.Fields.{HasFewOctets};
 ghost use Rattle.ax_expand.specs.Lengths.{field_octets, content_octets, content_length};
 
 use crate::accepted::AcceptedExpansion;
@@ -95,8 +95,8 @@ fn encode_entries(
     requires entries { AreEntriesOf (slots_tree slots.now) (entries_tree entries.now) }
     ensures octets { IfOk result (λ made. bits made.items ≡ CanonContent form (slots_tree slots.now) (marked (entries_tree entries.now))) }
     ensures few { IfOk result (λ made. length made.items ≤ 254) }
-    ensures too_long { 254 < content_length form (slots_tree slots.now) (marked (entries_tree entries.now)) ↔ IsErrOf result (Encoding.TooLong (capped (content_length form (slots_tree slots.now) (marked (entries_tree entries.now))))) }
-    ensures error { IfErr result (λ e. (e ≡ Encoding.TooLong (capped (content_length form (slots_tree slots.now) (marked (entries_tree entries.now))))) ⊎ (e ≡ Encoding.OutOfMemory)) }
+    ensures too_long { IsTooLongWhere (content_length form (slots_tree slots.now) (marked (entries_tree entries.now))) result }
+    ensures error { IfErr result (IsTooLongOrMemory (content_length form (slots_tree slots.now) (marked (entries_tree entries.now)))) }
 {
     let octets = octets_of_content(form, entries, slots);
     if octets > MOST {
@@ -117,8 +117,8 @@ pub fn encode_content(
     requires { Shape (compound (slots_tree x.now.slots)) (value_tree value.now) }
     ensures octets { IfOk result (λ made. bits made.items ≡ CanonContent x.now.form (slots_tree x.now.slots) (value_tree value.now)) }
     ensures few { IfOk result (λ made. length made.items ≤ 254) }
-    ensures too_long { 254 < content_length x.now.form (slots_tree x.now.slots) (value_tree value.now) ↔ IsErrOf result (Encoding.TooLong (capped (content_length x.now.form (slots_tree x.now.slots) (value_tree value.now)))) }
-    ensures error { IfErr result (λ e. (e ≡ Encoding.TooLong (capped (content_length x.now.form (slots_tree x.now.slots) (value_tree value.now)))) ⊎ (e ≡ Encoding.OutOfMemory)) }
+    ensures too_long { IsTooLongWhere (content_length x.now.form (slots_tree x.now.slots) (value_tree value.now)) result }
+    ensures error { IfErr result (IsTooLongOrMemory (content_length x.now.form (slots_tree x.now.slots) (value_tree value.now))) }
 {
     let expansion = x.expansion();
     match value {

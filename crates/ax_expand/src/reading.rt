@@ -1,9 +1,9 @@
 //! From tokens to the expansion that they spell.
 
-ghost use Rattle.std.specs.Prelude.{◌≡◌, ◌⊎◌, IfOk, IfErr, MatchResult, OnOk};
-ghost use Rattle.ax_grammar.specs.Answers.{texts_of};
+ghost use Rattle.std.specs.Prelude.{◌≡◌, ◌⊎◌, IfOk, IfErr, OnOk};
 ghost use Rattle.ax_grammar.specs.Gives.{Gives};
 ghost use Rattle.ax_grammar.specs.declared.error.SyntaxError.TheVariants.{OutOfMemory};
+ghost use Rattle.ax_expand.specs.Answers.{ReadsExpansion};
 ghost use Rattle.ax_expand.specs.Expansion.{ExpansionTree, expansion_tree};
 ghost use Rattle.ax_expand.specs.Files.{SpellsExpansion, IsBadExpansion};
 ghost use Rattle.ax_expand.specs.Rules.{form_at, expansion_at, whole_at};
@@ -77,7 +77,7 @@ pub fn read_expansion(alloc: Global, tokens: &Tokens<'_>) -> Result<Expansion, S
     ensures bad { IfErr result (λ error. IsBadExpansion tokens.now error) }
 
     // Each comes wherever it holds, unless memory runs out.
-    ensures always_spells { (x : ExpansionTree) → SpellsExpansion tokens.now x → MatchResult result (λ found. expansion_tree found ≡ x) (λ error. error ≡ OutOfMemory) }
+    ensures always_spells { (x : ExpansionTree) → SpellsExpansion tokens.now x → ReadsExpansion x result }
     ensures always_bad { ((x : ExpansionTree) → SpellsExpansion tokens.now x → ⊥) → OnOk result ⊥ }
 {
     let mut reader = SpecReader::new(tokens);

@@ -2,6 +2,7 @@ pub mod Bare
 pub mod BySlot
 pub mod Fronts
 pub mod Gone
+pub mod Items
 pub mod Keeping
 pub mod KnownMoves
 pub mod Laying

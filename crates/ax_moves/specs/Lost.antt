@@ -114,6 +114,11 @@ abbrev pub FitBehind : ℕ → List Run → List LostKey → Type 0
 FitBehind d rs [] = rs ≡ []
 FitBehind d rs (q ∷ ks) = RunsFit d rs (key_path q) ks
 
+-- of each key that a slot leads to at a depth, behind which these runs are, the run is its own there, and the others are behind it
+-- one step deeper
+abbrev pub GoesOnBehind : ℕ → List Run → Run → List Run → Type 0
+GoesOnBehind slot behind run later = (d : ℕ) (p : RelationPath) (ks : List LostKey) → LeadsBy d slot p → FitBehind d behind ks → RunFits d run p ks × FitBehind (d + 1) later ks
+
 abbrev pub IsLaterPart : Option ℕ → Option ℕ → Type 0
 IsLaterPart (Some a) (Some b) = a ≤ b
 IsLaterPart _ _ = ⊥

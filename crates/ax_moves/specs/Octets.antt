@@ -60,6 +60,10 @@ canon_by ms k v = compound_canon (field_by ms) (entries_canon_by ms) k v
 abbrev pub value_canon_by : ℕ → MovesTree → KindTree → ValueTree → List ℕ
 value_canon_by c ms k v = canon_by ms k (first_parts c v)
 
+-- a whole record or compound as it moves: its least presence field, and the entries that move
+abbrev pub whole_canon_by : MovesTree → SlotsTree → EntriesTree → List ℕ
+whole_canon_by ms ss es = field_by ms es ++ entries_canon_by ms ss es
+
 -- the entry that a move makes, if there is one
 abbrev pub move_canon : MoveTree → SlotsTree → EntriesTree → List ℕ
 move_canon (move_from s t c below) ss es = spelled_where (kind_after (s - 1) ss) (slot_value s es) (value_canon_by c below)

@@ -1,5 +1,5 @@
 -- A record or a compound, and what stands in its slots.
-use Rattle.std.specs.Prelude.{◌≡◌, ℕ, ◌-◌, false, Some}
+use Rattle.std.specs.Prelude.{◌≡◌, ℕ, ◌-◌, false, List, Some}
 use Rattle.ax_format.specs.Lengths.{kind_after}
 use Rattle.ax_format.specs.Tree.{KindTree, compound, SlotsTree, no_slots, EntriesTree}
 use Rattle.ax_codec.specs.Table.{record_kind_at}
@@ -21,6 +21,10 @@ whole_slots w = slots_in (record_kind_at w.codec.now.nodes w.slots.now)
 
 abbrev pub whole_entries : PlacedSlots → EntriesTree
 whole_entries w = placed_entries w
+
+-- octets that a rule makes of slots and entries, of those of the whole
+abbrev pub of_whole : (SlotsTree → EntriesTree → List ℕ) → PlacedSlots → List ℕ
+of_whole rule w = rule (whole_slots w) (whole_entries w)
 
 -- the item is of that slot, under the same codec
 pub record IsInSlot (w : PlacedSlots) (slot : ℕ) (item : ItemView) : Type 0 where

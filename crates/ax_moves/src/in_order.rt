@@ -6,8 +6,8 @@ ghost use Rattle.ax_fspec.specs.Marks.{no_marks, slots_of};
 ghost use Rattle.ax_moves.specs.BySlot.{ArePlaces, ascends, found_marks, found_move, run_octets, slots_canon, slots_marks};
 ghost use Rattle.ax_moves.specs.KnownMoves.{KnowsMoves};
 ghost use Rattle.ax_moves.specs.Laying.{Lays};
-ghost use Rattle.ax_moves.specs.Octets.{entries_canon_by, field_by};
-ghost use Rattle.ax_moves.specs.Wholes.{whole_entries, whole_slots};
+ghost use Rattle.ax_moves.specs.Octets.{whole_canon_by};
+ghost use Rattle.ax_moves.specs.Wholes.{of_whole, whole_entries};
 ghost use Rattle.ax_view.specs.Placing.{IsPlaced};
 
 use crate::by_slot::SlotMoves;
@@ -86,7 +86,7 @@ fn lay_marked(
     requires few { length moves.now < 4294967296 }
     requires known { KnowsMoves whole.now.codec.now.nodes whole.now.slots.now moves.now known.now }
     requires room { length output.old ≡ 131067 }
-    ensures laid { Lays (slots_canon (slots_of whole.now.places.now.marked) (moves_tree moves.now) (whole_slots whole.now) (whole_entries whole.now)) at result output.old output.new }
+    ensures laid { Lays (of_whole (slots_canon (slots_of whole.now.places.now.marked) (moves_tree moves.now)) whole.now) at result output.old output.new }
     ensures room { length output.new ≡ 131067 }
 {
     let places = known.places.as_slice();
@@ -141,7 +141,7 @@ fn lay_in_order(
     requires few { length moves.now < 4294967296 }
     requires known { KnowsMoves whole.now.codec.now.nodes whole.now.slots.now moves.now known.now }
     requires room { length output.old ≡ 131067 }
-    ensures laid { Lays (field_by (moves_tree moves.now) (whole_entries whole.now) ++ entries_canon_by (moves_tree moves.now) (whole_slots whole.now) (whole_entries whole.now)) at result output.old output.new }
+    ensures laid { Lays (of_whole (whole_canon_by (moves_tree moves.now)) whole.now) at result output.old output.new }
     ensures room { length output.new ≡ 131067 }
 {
     let marked = marked_anew(whole, moves, known);
@@ -160,7 +160,7 @@ pub fn lay_moved(
     requires placed { IsPlaced whole.now }
     requires known { KnowsMoves whole.now.codec.now.nodes whole.now.slots.now moves.now known.now }
     requires room { length output.old ≡ 131067 }
-    ensures laid { Lays (field_by (moves_tree moves.now) (whole_entries whole.now) ++ entries_canon_by (moves_tree moves.now) (whole_slots whole.now) (whole_entries whole.now)) at result output.old output.new }
+    ensures laid { Lays (of_whole (whole_canon_by (moves_tree moves.now)) whole.now) at result output.old output.new }
     ensures room { length output.new ≡ 131067 }
 {
     if known.ordered {

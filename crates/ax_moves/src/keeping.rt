@@ -4,11 +4,10 @@ ghost use Rattle.ax_bits.specs.Bits.{bits};
 ghost use Rattle.ax_relation.specs.Moves.{MovesTree};
 ghost use Rattle.ax_relation.specs.PlainMoves.{move_tree, moves_tree};
 ghost use Rattle.ax_moves.specs.Keeping.{IsLeaf, KeepsAll, MovesWhole, StaysIn};
-ghost use Rattle.ax_moves.specs.Octets.{value_canon_by};
+ghost use Rattle.ax_moves.specs.Items.{item_canon_by};
 ghost use Rattle.ax_format.specs.Tree.{slots_of};
 ghost use Rattle.ax_codec.specs.Meaning.{linked_slots, meanings};
 ghost use Rattle.ax_codec.specs.Table.{IsTable, SlotLinksWithin, kind_at};
-ghost use Rattle.ax_view.specs.Shown.{item_kind, item_value};
 
 use ax_codec::Node;
 use ax_relation::{Move, Moves};
@@ -83,7 +82,7 @@ pub fn keeps(nodes: &[Node], link: u32, count: u32, moves: &Moves) -> bool
 /// octets, each part having one at least.
 pub fn moves_whole(found: &FoundItem<'_, '_>, count: u32) -> bool
     requires whole { found.now.item.by_fx ≡ false }
-    ensures { IsTrue result → (ms : MovesTree) → value_canon_by count ms (item_kind found.now.item) (item_value found.now.item) ≡ bits found.now.item.body.now }
+    ensures { IsTrue result → (ms : MovesTree) → item_canon_by count ms found.now.item ≡ bits found.now.item.body.now }
 {
     if !found.least {
         return false;

@@ -1,7 +1,7 @@
 //! The keys that records can lose, each with what is known of the keys behind it, so that those that stand where nothing is are
 //! passed over together.
 ghost use Rattle.std.specs.Prelude.{◌≡◌, ℕ, ◌+◌, ◌<◌, true, IsTrue, IfOk, is_none, List, get_or, length, reverse};
-ghost use Rattle.ax_moves.specs.Lost.{AreLost, AreRuns, FallsWith, FitBehind, IsFirst, IsJoined, IsLaterPart, KeyRuns, LeadsBy, RunFits, RunsFit, place_numbers};
+ghost use Rattle.ax_moves.specs.Lost.{AreLost, AreRuns, FallsWith, FitBehind, GoesOnBehind, IsFirst, IsJoined, IsLaterPart, KeyRuns, RunsFit, place_numbers};
 ghost use Rattle.ax_moves.specs.declared.lost.LostKey.{LostKey};
 ghost use Rattle.ax_relation.specs.declared.relation.RelationPath.{RelationPath};
 
@@ -79,7 +79,7 @@ fn joined_run(slot: u32, behind: &Run) -> Run
 /// The run of a key at a depth, by the runs of the key behind it from this depth on, and those by which its later ones are made:
 /// none behind a number that differs.
 fn run_of(slot: u32, behind: &[Run]) -> (Run, &[Run])
-    ensures { (d : ℕ) (p : RelationPath) (ks : List LostKey) → LeadsBy d slot p → FitBehind d behind.now ks → RunFits d result.0 p ks × FitBehind (d + 1) result.1.now ks }
+    ensures { GoesOnBehind slot behind.now result.0 result.1.now }
 {
     let Some((run, later)) = behind.split_first() else {
         return (first_run(slot), behind);

@@ -2,12 +2,12 @@
 ghost use Rattle.std.specs.Prelude.{◌≡◌, ◌++◌, false, length};
 ghost use Rattle.ax_fspec.specs.Marks.{slots_of};
 ghost use Rattle.ax_relation.specs.PlainMoves.{move_tree, moves_tree};
+ghost use Rattle.ax_moves.specs.Items.{item_canon_by};
 ghost use Rattle.ax_moves.specs.KnownMoves.{Knows, KnowsOf, KnowsBelow, places_canon};
 ghost use Rattle.ax_moves.specs.Laying.{Lays};
-ghost use Rattle.ax_moves.specs.Octets.{entries_canon_by, field_by, move_canon, value_canon_by};
-ghost use Rattle.ax_moves.specs.Wholes.{whole_codec, whole_entries, whole_slots};
+ghost use Rattle.ax_moves.specs.Octets.{entries_canon_by, move_canon, whole_canon_by};
+ghost use Rattle.ax_moves.specs.Wholes.{of_whole, whole_codec};
 ghost use Rattle.ax_view.specs.Placing.{IsPlaced};
-ghost use Rattle.ax_view.specs.Shown.{item_kind, item_value};
 
 use crate::bare::is_bare;
 use crate::fronts::front;
@@ -38,7 +38,7 @@ fn lay_value(
     requires whole { found.now.item.by_fx ≡ false }
     requires known { Knows (moves_tree moves.now) known.now }
     requires room { length output.old ≡ 131067 }
-    ensures laid { Lays (value_canon_by count (moves_tree moves.now) (item_kind found.now.item) (item_value found.now.item)) at result output.old output.new }
+    ensures laid { Lays (item_canon_by count (moves_tree moves.now) found.now.item) at result output.old output.new }
     ensures room { length output.new ≡ 131067 }
 {
     if moves_whole(found, count) {
@@ -66,7 +66,7 @@ fn lay_anew(
     requires whole { item.now.by_fx ≡ false }
     requires known { Knows (moves_tree moves.now) known.now }
     requires room { length output.old ≡ 131067 }
-    ensures laid { Lays (value_canon_by count (moves_tree moves.now) (item_kind item.now) (item_value item.now)) at result output.old output.new }
+    ensures laid { Lays (item_canon_by count (moves_tree moves.now) item.now) at result output.old output.new }
     ensures room { length output.new ≡ 131067 }
 {
     match item.node() {
@@ -110,7 +110,7 @@ pub fn lay_whole(
     requires placed { IsPlaced whole.now }
     requires known { Knows (moves_tree moves.now) known.now }
     requires room { length output.old ≡ 131067 }
-    ensures laid { Lays (field_by (moves_tree moves.now) (whole_entries whole.now) ++ entries_canon_by (moves_tree moves.now) (whole_slots whole.now) (whole_entries whole.now)) at result output.old output.new }
+    ensures laid { Lays (of_whole (whole_canon_by (moves_tree moves.now)) whole.now) at result output.old output.new }
     ensures room { length output.new ≡ 131067 }
 {
     let Some(places) = &known.places else {
@@ -139,7 +139,7 @@ pub fn lay_entry(
     requires placed { IsPlaced whole.now }
     requires known { KnowsOf (move_tree one.now) known.now }
     requires room { length output.old ≡ 131067 }
-    ensures laid { Lays (move_canon (move_tree one.now) (whole_slots whole.now) (whole_entries whole.now)) at result output.old output.new }
+    ensures laid { Lays (of_whole (move_canon (move_tree one.now)) whole.now) at result output.old output.new }
     ensures room { length output.new ≡ 131067 }
 {
     match item_of(whole, one.old) {
@@ -163,7 +163,7 @@ fn lay_there(
     requires placed { IsPlaced whole.now }
     requires known { KnowsBelow (moves_tree moves.now) known.now }
     requires room { length output.old ≡ 131067 }
-    ensures laid { Lays (places_canon (slots_of there) (moves_tree moves.now) (whole_slots whole.now) (whole_entries whole.now)) at result output.old output.new }
+    ensures laid { Lays (of_whole (places_canon (slots_of there) (moves_tree moves.now)) whole.now) at result output.old output.new }
     ensures room { length output.new ≡ 131067 }
 {
     let moves = moves.as_slice();
@@ -193,7 +193,7 @@ fn lay_entries(
     requires placed { IsPlaced whole.now }
     requires known { KnowsBelow (moves_tree moves.now) known.now }
     requires room { length output.old ≡ 131067 }
-    ensures laid { Lays (entries_canon_by (moves_tree moves.now) (whole_slots whole.now) (whole_entries whole.now)) at result output.old output.new }
+    ensures laid { Lays (of_whole (entries_canon_by (moves_tree moves.now)) whole.now) at result output.old output.new }
     ensures room { length output.new ≡ 131067 }
 {
     let moves = moves.as_slice();

@@ -60,6 +60,10 @@ beside (s ∷ steps) k l = option_and_then (λ b. option_map (beside_under b.num
 abbrev pub alike_where : Beside → Option Place
 alike_where b = if is_alike b.old b.new then Some (place_from b.numbers) else None
 
+-- the place in the second kind to which the place in the first one leads, where the kinds at both are alike
+abbrev pub alike_between : KindTree → KindTree → Place → Option Place
+alike_between k l place = option_and_then alike_where (beside (place.frn ∷ place.steps) k l)
+
 -- the new edition's place, where the kinds at the old one's place and there are alike
 abbrev pub alike_place : SpecTree → SpecTree → Place → Option Place
-alike_place old new place = option_and_then alike_where (beside (place.frn ∷ place.steps) (record_kind old) (record_kind new))
+alike_place old new place = alike_between (record_kind old) (record_kind new) place

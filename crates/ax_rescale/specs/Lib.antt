@@ -7,9 +7,11 @@ pub mod ConvertedRecord
 pub mod ConvertedValue
 pub mod Converting
 pub mod Converts
+pub mod Makes
 pub mod MemberShapes
 pub mod Missed
 pub mod Misses
+pub mod OverItems
 pub mod PlainWays
 pub mod Ready
 pub mod Rescaled
@@ -17,5 +19,6 @@ pub mod Scales
 pub mod Splits
 pub mod SlotSteps
 pub mod Tells
+pub mod Under
 pub mod Watching
 pub mod Ways

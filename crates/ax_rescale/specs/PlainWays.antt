@@ -1,5 +1,5 @@
 -- The plain trees of ways.
-use Rattle.std.specs.Prelude.{List, map, option_map}
+use Rattle.std.specs.Prelude.{◌≡◌, List, ◌++◌, map, option_map}
 use Rattle.ax_format.specs.Plain.{kind_tree}
 use Rattle.ax_rescale.specs.Conversion.{KindPair}
 use Rattle.ax_rescale.specs.Ways.{WayTree, way_from, WaysTree, ways_from}
@@ -18,3 +18,7 @@ way_tree w = fold-Way WayTree way_step w
 
 abbrev pub ways_tree : List Way → WaysTree
 ways_tree ws = ways_from (map way_tree ws)
+
+-- the second ones are the first and, behind them, those of these trees
+abbrev pub AddsWays : List Way → List Way → List WayTree → Type 0
+AddsWays ws added trees = map way_tree added ≡ map way_tree ws ++ trees

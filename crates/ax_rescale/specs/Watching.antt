@@ -1,8 +1,9 @@
 -- What a conversion misses, key by key of the relation.
 use Rattle.std.specs.Prelude.{◌≡◌, ℕ, ◌+◌, ◌≤◌, ◌==◌, nat_eq, Bool, true, false, ◌&&◌, not, is_none, is_some, if◌then◌else◌, List, [], ◌∷◌, ◌++◌, length, take, Option, Some, None}
 use Rattle.std.specs.List.{AllByRecursion, starts_with}
+use Rattle.ax_format.specs.Placed.{has_part}
 use Rattle.ax_format.specs.Specification.{SpecTree}
-use Rattle.ax_format.specs.Tree.{EntriesTree}
+use Rattle.ax_format.specs.Tree.{ValueTree, EntriesTree}
 use Rattle.ax_format.specs.declared.place.Place.{Place}
 use Rattle.ax_relation.specs.Standing.{is_there}
 use Rattle.ax_relation.specs.declared.relation.RelationPath.{RelationPath}
@@ -61,3 +62,11 @@ abbrev pub AreWatched : SpecTree → SpecTree → List Watch → List RelationPa
 AreWatched old new [] ps = Unit {0}
 AreWatched old new (w ∷ ws) [] = ⊥
 AreWatched old new (w ∷ ws) (p ∷ ps) = IsWatched old new w p ps × AreWatched old new ws ps
+
+-- its key, at whose place this value stands, is present and missed
+abbrev pub watch_missed : Watch → ValueTree → EntriesTree → Bool
+watch_missed w v made = (is_none w.path.now.new && has_part w.path.now.part v) && not (stands w.target made)
+
+-- the miss of its key in the record of that number
+abbrev pub watch_miss : ℕ → Watch → Miss
+watch_miss n w = record { record_at = n; path = w.path.now.text; unconverted = is_some w.target }

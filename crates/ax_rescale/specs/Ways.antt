@@ -61,10 +61,14 @@ record_ways old new = ways_below (record_kind new) (record_kind old)
 
 -- ---- of values
 
+-- the value of the new kind of a pair to which one of the old kind is converted, if there is one
+abbrev pub pair_converted : KindPair → ValueTree → Option ValueTree
+pair_converted pair v = converted_value pair.old pair.new v
+
 -- the converted value, if there is one; else what passes of the value
 abbrev pub value_where : Option KindPair → ℕ → (EntriesTree → EntriesTree) → ValueTree → Option ValueTree
 value_where None c rule v = Some (value_by c rule v)
-value_where (Some pair) c rule v = converted_value pair.old pair.new v
+value_where (Some pair) c rule v = pair_converted pair v
 
 abbrev pub passed_by : WaysTree → EntriesTree → EntriesTree
 passed_by no_ways es = no_entries

@@ -1,10 +1,10 @@
 //! Where the path that leads to a place of the old edition leads in the new one.
-ghost use Rattle.std.specs.Prelude.{◌≡◌, ◌∷◌, IfOk, option_map, option_and_then};
+ghost use Rattle.std.specs.Prelude.{◌≡◌, IfOk, option_map};
 ghost use Rattle.ax_edition.specs.Index.{Finds};
 ghost use Rattle.ax_edition.specs.SlotItems.{items_tree};
 ghost use Rattle.ax_format.specs.Plain.{kind_tree, slots_tree};
 ghost use Rattle.ax_format.specs.Tree.{SlotsTree, compound};
-ghost use Rattle.ax_rescale.specs.Beside.{alike_where, beside, slot_numbered, step_beside, step_between};
+ghost use Rattle.ax_rescale.specs.Beside.{alike_between, slot_numbered, step_beside, step_between};
 ghost use Rattle.ax_rescale.specs.Besides.{named_kind, step_tree};
 
 use crate::alike::is_alike;
@@ -94,7 +94,7 @@ pub(crate) fn alike_place(
     new: &Index<'_>,
     place: &Place,
 ) -> Result<Option<Place>, AllocError>
-    ensures { (ns : SlotsTree) → Finds 1 ns new.now → IfOk result (λ made. made ≡ option_and_then alike_where (beside (place.now.frn ∷ place.now.steps) (compound (items_tree old.now)) (compound ns))) }
+    ensures { (ns : SlotsTree) → Finds 1 ns new.now → IfOk result (λ made. made ≡ alike_between (compound (items_tree old.now)) (compound ns) place.now) }
 {
     let Some(first) = first_beside(old, new, place.frn) else {
         return Ok(None);

@@ -6,9 +6,9 @@ ghost use Rattle.ax_format.specs.OfCode.{BlockFits};
 ghost use Rattle.ax_format.specs.Plain.{spec_tree, record_tree, records_tree};
 ghost use Rattle.ax_relation.specs.Relates.{Relates};
 ghost use Rattle.ax_rescale.specs.Converting.{BlockConverted, IsConverter, converted_records, misses_of};
-ghost use Rattle.ax_rescale.specs.ConvertedRecord.{converted_record};
 ghost use Rattle.ax_rescale.specs.PlainWays.{way_tree};
-ghost use Rattle.ax_rescale.specs.Watching.{AreWatched, found_misses, record_misses};
+ghost use Rattle.ax_rescale.specs.Under.{all_misses_under, conversion_misses, converted_under};
+ghost use Rattle.ax_rescale.specs.Watching.{AreWatched};
 ghost use Rattle.ax_rescale.specs.Ways.{record_ways};
 
 use crate::missing::{Misses, miss_record};
@@ -118,8 +118,8 @@ impl<'x> Converter<'x> {
     ) -> Result<Record, AllocError>
         requires is { IsConverter self.now }
         requires shape { RecordShape (spec_tree self.now.old.now) (record_tree one.now) }
-        ensures made { IfOk result (λ made. record_tree made ≡ converted_record (spec_tree self.now.old.now) (spec_tree self.now.new.now) (record_tree one.now)) }
-        ensures misses { OnOk result (misses.new ≡ misses.old ++ record_misses (spec_tree self.now.old.now) (spec_tree self.now.new.now) number (record_tree one.now) (converted_record (spec_tree self.now.old.now) (spec_tree self.now.new.now) (record_tree one.now)) self.now.relation.now.paths) }
+        ensures made { IfOk result (λ made. record_tree made ≡ converted_under self.now (record_tree one.now)) }
+        ensures misses { OnOk result (misses.new ≡ misses.old ++ conversion_misses self.now number (record_tree one.now)) }
     {
         let entries = passed_entries(alloc, &self.ways, &one.entries)?;
         miss_record(alloc, self, misses, number, &one.entries, &entries)?;
@@ -136,7 +136,7 @@ impl<'x> Converter<'x> {
         requires is { IsConverter self.now }
         requires shapes { AllByRecursion (RecordShape (spec_tree self.now.old.now)) (records_tree records.now) }
         ensures made { IfOk result (λ made. records_tree made ≡ converted_records self.now.old.now self.now.new.now (records_tree records.now)) }
-        ensures misses { OnOk result (misses.new ≡ misses.old ++ found_misses (spec_tree self.now.old.now) (spec_tree self.now.new.now) self.now.relation.now.paths 0 (records_tree records.now)) }
+        ensures misses { OnOk result (misses.new ≡ misses.old ++ all_misses_under self.now (records_tree records.now)) }
     {
         let mut made = Records::with_capacity(alloc, records.count())?;
         let mut number: u32 = 0;

@@ -1,9 +1,9 @@
 //! A value of one fixed kind as the value of another to which it is converted.
-ghost use Rattle.std.specs.Prelude.{◌≡◌, ◌<◌, ◌≤◌, ◌^◌, ℕ, IfSome, IfNone, IfOk};
+ghost use Rattle.std.specs.Prelude.{◌≡◌, ◌<◌, ◌≤◌, ◌^◌, ℕ, IfSome, IfNone};
 ghost use Rattle.ax_format.specs.Plain.{fixed_tree, member_tree, members_tree, value_tree, values_tree};
 ghost use Rattle.ax_format.specs.Shape.{FixedShape, MembersShape};
-ghost use Rattle.ax_format.specs.Tree.{ValueTree, ValuesTree};
 ghost use Rattle.ax_rescale.specs.Converted.{NumberConverted, FixedConverted, MemberConverted, MembersConverted};
+ghost use Rattle.ax_rescale.specs.Makes.{IfMade, IfNotMade};
 ghost use Rattle.ax_rescale.specs.MemberShapes.{MemberShape};
 ghost use Rattle.ax_rescale.specs.Scales.{ContentScaled, FixedScaled, MemberScaled, MembersScaled};
 
@@ -47,8 +47,8 @@ pub(crate) fn convert_fixed(
     requires old { FixedScaled (fixed_tree old.now) }
     requires new { FixedScaled (fixed_tree new.now) }
     requires shape { FixedShape (fixed_tree old.now) (value_tree value.now) }
-    ensures some { IfOk result (λ made. IfSome made (λ v. FixedConverted (fixed_tree old.now) (fixed_tree new.now) (value_tree value.now) (value_tree v))) }
-    ensures none { IfOk result (λ made. IfNone made ((v : ValueTree) → FixedConverted (fixed_tree old.now) (fixed_tree new.now) (value_tree value.now) v → ⊥)) }
+    ensures some { IfMade value_tree (FixedConverted (fixed_tree old.now) (fixed_tree new.now) (value_tree value.now)) result }
+    ensures none { IfNotMade (FixedConverted (fixed_tree old.now) (fixed_tree new.now) (value_tree value.now)) result }
 {
     match (old, new, value) {
         (
@@ -79,8 +79,8 @@ fn convert_member(
     requires old { MemberScaled (member_tree old.now) }
     requires new { MemberScaled (member_tree new.now) }
     requires shape { MemberShape (member_tree old.now) (value_tree value.now) }
-    ensures some { IfOk result (λ made. IfSome made (λ v. MemberConverted (member_tree old.now) (member_tree new.now) (value_tree value.now) (value_tree v))) }
-    ensures none { IfOk result (λ made. IfNone made ((v : ValueTree) → MemberConverted (member_tree old.now) (member_tree new.now) (value_tree value.now) v → ⊥)) }
+    ensures some { IfMade value_tree (MemberConverted (member_tree old.now) (member_tree new.now) (value_tree value.now)) result }
+    ensures none { IfNotMade (MemberConverted (member_tree old.now) (member_tree new.now) (value_tree value.now)) result }
 {
     match (old, new) {
         (Member::Named { fixed, .. }, Member::Named { fixed: own, .. }) => {
@@ -103,8 +103,8 @@ fn convert_members(
     requires old { MembersScaled (members_tree old.now) }
     requires new { MembersScaled (members_tree new.now) }
     requires shape { MembersShape (members_tree old.now) (values_tree values.now) }
-    ensures some { IfOk result (λ made. IfSome made (λ vs. MembersConverted (members_tree old.now) (members_tree new.now) (values_tree values.now) (values_tree vs))) }
-    ensures none { IfOk result (λ made. IfNone made ((vs : ValuesTree) → MembersConverted (members_tree old.now) (members_tree new.now) (values_tree values.now) vs → ⊥)) }
+    ensures some { IfMade values_tree (MembersConverted (members_tree old.now) (members_tree new.now) (values_tree values.now)) result }
+    ensures none { IfNotMade (MembersConverted (members_tree old.now) (members_tree new.now) (values_tree values.now)) result }
 {
     let mut made = Values::new(alloc);
     let mut others = new.as_slice();

@@ -1,8 +1,8 @@
 //! What a record's conversion misses.
-ghost use Rattle.std.specs.Prelude.{◌≡◌, ◌++◌, ◌∷◌, [], ◌&&◌, not, is_none, is_some, length, OnOk};
-ghost use Rattle.ax_format.specs.Placed.{has_part};
-ghost use Rattle.ax_format.specs.Plain.{entries_tree, spec_tree, value_tree};
-ghost use Rattle.ax_rescale.specs.Watching.{AreWatched, record_misses, stands};
+ghost use Rattle.std.specs.Prelude.{◌≡◌, ◌++◌, ◌∷◌, [], length, OnOk};
+ghost use Rattle.ax_format.specs.Plain.{entries_tree, value_tree};
+ghost use Rattle.ax_rescale.specs.Under.{IsWatching, misses_under};
+ghost use Rattle.ax_rescale.specs.Watching.{stands, watch_miss, watch_missed};
 
 use crate::converter::Converter;
 use crate::miss::Miss;
@@ -28,7 +28,7 @@ fn stands(target: &Option<Place>, made: &Entries) -> bool
 
 /// Whether a key, at whose place this value stands, is present and missed.
 fn is_missed(one: &Watch<'_>, value: &Value, made: &Entries) -> bool
-    ensures { result ≡ (is_none one.now.path.now.new && has_part one.now.path.now.part (value_tree value.now)) && not (stands one.now.target (entries_tree made.now)) }
+    ensures { result ≡ watch_missed one.now (value_tree value.now) (entries_tree made.now) }
 {
     one.path.new.is_none() && has_part(value, one.path.part) && !stands(&one.target, made)
 }
@@ -40,7 +40,7 @@ fn push_miss(
     number: u32,
     one: &Watch<'_>,
 ) -> Result<(), AllocError>
-    ensures { OnOk result (misses.new ≡ misses.old ++ record { record_at = number; path = one.now.path.now.text; unconverted = is_some one.now.target } ∷ []) }
+    ensures { OnOk result (misses.new ≡ misses.old ++ watch_miss number one.now ∷ []) }
 {
     let path = one.path.text.copy(alloc)?;
     if misses.count() == u32::MAX {
@@ -62,9 +62,9 @@ pub(crate) fn miss_record(
     entries: &Entries,
     made: &Entries,
 ) -> Result<(), AllocError>
-    requires watched { AreWatched (spec_tree converter.now.old.now) (spec_tree converter.now.new.now) converter.now.watches converter.now.relation.now.paths }
+    requires watched { IsWatching converter.now }
     requires all { length converter.now.watches ≡ length converter.now.relation.now.paths }
-    ensures { OnOk result (misses.new ≡ misses.old ++ record_misses (spec_tree converter.now.old.now) (spec_tree converter.now.new.now) number (entries_tree entries.now) (entries_tree made.now) converter.now.relation.now.paths) }
+    ensures { OnOk result (misses.new ≡ misses.old ++ misses_under converter.now number (entries_tree entries.now) (entries_tree made.now)) }
 {
     let watches = converter.watches.as_slice();
     let mut at: usize = 0;

@@ -1,10 +1,9 @@
 //! Values and entries of the old edition, as they come to the new one.
 ghost use Rattle.std.specs.Prelude.{◌≡◌, ◌++◌, map, IfOk, OnOk, option_map};
 ghost use Rattle.ax_format.specs.Plain.{value_tree, entry_tree, entries_tree};
-ghost use Rattle.ax_rescale.specs.ConvertedValue.{converted_value};
 ghost use Rattle.ax_rescale.specs.PlainWays.{pair_tree, way_tree, ways_tree};
 ghost use Rattle.ax_rescale.specs.Ready.{PairReady, ValueReady, WayReady, WaysReady};
-ghost use Rattle.ax_rescale.specs.Ways.{passed_by, way_entries, way_value};
+ghost use Rattle.ax_rescale.specs.Ways.{pair_converted, passed_by, way_entries, way_value};
 
 use crate::values::convert_value;
 use crate::ways::{AlikePair, Way, Ways};
@@ -15,7 +14,7 @@ use std::alloc::{AllocError, Global};
 /// The converted value; None where there is none.
 fn converted(alloc: Global, pair: AlikePair<'_>, value: &Value) -> Result<Option<Value>, AllocError>
     requires { PairReady (pair_tree pair) (value_tree value.now) }
-    ensures { IfOk result (λ made. option_map value_tree made ≡ converted_value (pair_tree pair.entry).old (pair_tree pair.entry).new (value_tree value.now)) }
+    ensures { IfOk result (λ made. option_map value_tree made ≡ pair_converted (pair_tree pair.entry) (value_tree value.now)) }
 {
     convert_value(alloc, pair.old, pair.new, value)
 }

@@ -1,9 +1,9 @@
 //! A value of one kind as the value of another to which it is converted.
-ghost use Rattle.std.specs.Prelude.{◌<◌, length, IfSome, IfNone, IfOk, MatchOption};
+ghost use Rattle.std.specs.Prelude.{◌<◌, length, IfOk, MatchOption};
 ghost use Rattle.ax_format.specs.Plain.{fixed_tree, kind_tree, slot_tree, slots_tree, value_tree, values_tree, entries_tree};
 ghost use Rattle.ax_format.specs.Shape.{FixedShape, EachShape, Shape, EntriesShape};
-ghost use Rattle.ax_format.specs.Tree.{ValueTree, ValuesTree, EntriesTree};
 ghost use Rattle.ax_rescale.specs.Converted.{FixedConverted, EachConverted, Converted, EntriesConverted};
+ghost use Rattle.ax_rescale.specs.Makes.{IfMade, IfNotMade};
 ghost use Rattle.ax_rescale.specs.Scales.{FixedScaled, Scaled, SlotScaled, SlotsScaled};
 ghost use Rattle.ax_rescale.specs.SlotSteps.{SlotShape, SlotStep, NoSlotStep};
 
@@ -22,8 +22,8 @@ fn convert_run(
     requires old { FixedScaled (fixed_tree old.now) }
     requires new { FixedScaled (fixed_tree new.now) }
     requires shape { EachShape (FixedShape (fixed_tree old.now)) (values_tree values.now) }
-    ensures some { IfOk result (λ made. IfSome made (λ vs. EachConverted (FixedConverted (fixed_tree old.now) (fixed_tree new.now)) (values_tree values.now) (values_tree vs))) }
-    ensures none { IfOk result (λ made. IfNone made ((vs : ValuesTree) → EachConverted (FixedConverted (fixed_tree old.now) (fixed_tree new.now)) (values_tree values.now) vs → ⊥)) }
+    ensures some { IfMade values_tree (EachConverted (FixedConverted (fixed_tree old.now) (fixed_tree new.now)) (values_tree values.now)) result }
+    ensures none { IfNotMade (EachConverted (FixedConverted (fixed_tree old.now) (fixed_tree new.now)) (values_tree values.now)) result }
 {
     let mut made = Values::new(alloc);
     for value in values.as_slice() {
@@ -49,8 +49,8 @@ pub fn convert_value(
     requires old { Scaled (kind_tree old.now) }
     requires new { Scaled (kind_tree new.now) }
     requires shape { Shape (kind_tree old.now) (value_tree value.now) }
-    ensures some { IfOk result (λ made. IfSome made (λ v. Converted (kind_tree old.now) (kind_tree new.now) (value_tree value.now) (value_tree v))) }
-    ensures none { IfOk result (λ made. IfNone made ((v : ValueTree) → Converted (kind_tree old.now) (kind_tree new.now) (value_tree value.now) v → ⊥)) }
+    ensures some { IfMade value_tree (Converted (kind_tree old.now) (kind_tree new.now) (value_tree value.now)) result }
+    ensures none { IfNotMade (Converted (kind_tree old.now) (kind_tree new.now) (value_tree value.now)) result }
 {
     match (old, new, value) {
         (Kind::Fixed(fixed), Kind::Fixed(own), value) => convert_fixed(alloc, fixed, own, value),
@@ -90,8 +90,8 @@ fn convert_each(
     requires old { Scaled (kind_tree old.now) }
     requires new { Scaled (kind_tree new.now) }
     requires shape { EachShape (Shape (kind_tree old.now)) (values_tree values.now) }
-    ensures some { IfOk result (λ made. IfSome made (λ vs. EachConverted (Converted (kind_tree old.now) (kind_tree new.now)) (values_tree values.now) (values_tree vs))) }
-    ensures none { IfOk result (λ made. IfNone made ((vs : ValuesTree) → EachConverted (Converted (kind_tree old.now) (kind_tree new.now)) (values_tree values.now) vs → ⊥)) }
+    ensures some { IfMade values_tree (EachConverted (Converted (kind_tree old.now) (kind_tree new.now)) (values_tree values.now)) result }
+    ensures none { IfNotMade (EachConverted (Converted (kind_tree old.now) (kind_tree new.now)) (values_tree values.now)) result }
 {
     let mut made = Values::new(alloc);
     for value in values.as_slice() {
@@ -115,8 +115,8 @@ fn convert_slots(
     requires old { SlotsScaled (slots_tree old.now) }
     requires new { SlotsScaled (slots_tree new.now) }
     requires shape { EntriesShape 1 (slots_tree old.now) (entries_tree entries.now) }
-    ensures some { IfOk result (λ made. IfSome made (λ es. EntriesConverted 1 (slots_tree old.now) (slots_tree new.now) (entries_tree entries.now) (entries_tree es))) }
-    ensures none { IfOk result (λ made. IfNone made ((es : EntriesTree) → EntriesConverted 1 (slots_tree old.now) (slots_tree new.now) (entries_tree entries.now) es → ⊥)) }
+    ensures some { IfMade entries_tree (EntriesConverted 1 (slots_tree old.now) (slots_tree new.now) (entries_tree entries.now)) result }
+    ensures none { IfNotMade (EntriesConverted 1 (slots_tree old.now) (slots_tree new.now) (entries_tree entries.now)) result }
 {
     let mut made = Entries::new(alloc);
     let mut number: u64 = 1;

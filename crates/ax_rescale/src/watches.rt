@@ -1,13 +1,9 @@
 //! The keys that a conversion may miss, found before the first block.
-ghost use Rattle.std.specs.Prelude.{◌≡◌, ◌≤◌, ◌<◌, true, List, length, take, IfOk, option_and_then};
+ghost use Rattle.std.specs.Prelude.{◌≡◌, ◌≤◌, ◌<◌, true, length, take, IfOk};
 ghost use Rattle.std.specs.List.{AllByRecursion};
-ghost use Rattle.ax_edition.specs.Index.{Finds};
-ghost use Rattle.ax_edition.specs.SlotItems.{items_tree};
 ghost use Rattle.ax_lists.specs.Sizes.{list_bound};
-ghost use Rattle.ax_format.specs.Plain.{spec_tree};
-ghost use Rattle.ax_format.specs.Specification.{record_slots, SpecTree};
-ghost use Rattle.ax_format.specs.Tree.{SlotsTree};
 ghost use Rattle.ax_relation.specs.declared.relation.RelationPath.{RelationPath};
+ghost use Rattle.ax_rescale.specs.OverItems.{OverEditions};
 ghost use Rattle.ax_rescale.specs.Watching.{AreWatched, begins, target_of};
 
 use crate::beside::alike_place;
@@ -60,7 +56,7 @@ fn target_of(
     new: &Index<'_>,
     path: &RelationPath,
 ) -> Result<Option<Place>, AllocError>
-    ensures { (olds news : SpecTree) → items_tree old.now ≡ record_slots olds → Finds 1 (record_slots news) new.now → IfOk result (λ made. made ≡ target_of olds news path.now) }
+    ensures { OverEditions old.now new.now (λ olds news. IfOk result (λ made. made ≡ target_of olds news path.now)) }
 {
     if path.new.is_some() || path.part.is_some() {
         return Ok(None);
@@ -75,7 +71,7 @@ pub(crate) fn watch_all<'x>(
     old: &SlotItems<'_>,
     new: &Index<'_>,
 ) -> Result<Watches<'x>, AllocError>
-    ensures watched { (olds news : SpecTree) → items_tree old.now ≡ record_slots olds → Finds 1 (record_slots news) new.now → IfOk result (λ made. AreWatched olds news made paths.now) }
+    ensures watched { OverEditions old.now new.now (λ olds news. IfOk result (λ made. AreWatched olds news made paths.now)) }
     ensures all { IfOk result (λ made. length made ≡ length paths.now) }
 {
     let paths = paths.as_slice();

@@ -3,7 +3,7 @@ ghost use Rattle.std.specs.Prelude.{◌≡◌, ◌++◌, ◌∷◌, [], IfOk, On
 ghost use Rattle.ax_edition.specs.Index.{found};
 ghost use Rattle.ax_edition.specs.SlotItems.{item_slot, items_tree};
 ghost use Rattle.ax_format.specs.Plain.{kind_tree, slot_tree, slots_tree};
-ghost use Rattle.ax_rescale.specs.PlainWays.{way_tree};
+ghost use Rattle.ax_rescale.specs.PlainWays.{AddsWays, way_tree};
 ghost use Rattle.ax_rescale.specs.Ways.{slot_ways, way_where, ways_below, ways_of};
 
 use crate::alike::is_alike;
@@ -55,7 +55,7 @@ fn way_to<'k>(
     old: &Index<'k>,
     ways: &mut Ways<'k>,
 ) -> Result<(), AllocError>
-    ensures { OnOk result (map way_tree ways.new ≡ map way_tree ways.old ++ way_where number (kind_tree kind.now) (found old.now name.now) (ways_below (kind_tree kind.now))) }
+    ensures { OnOk result (AddsWays ways.old ways.new (way_where number (kind_tree kind.now) (found old.now name.now) (ways_below (kind_tree kind.now)))) }
 {
     let Some((from, own)) = old.find(name) else {
         return Ok(());

@@ -1,5 +1,5 @@
 -- What the walk over the tokens finds.
-use Rattle.std.specs.Prelude.{◌≡◌, ℕ, ◌<◌, Bool, IsTrue, List, Some}
+use Rattle.std.specs.Prelude.{◌≡◌, ℕ, ◌<◌, Bool, IsTrue, List, Some, Option, MatchOption}
 use Rattle.ax_format.specs.Specification.{SpecTree}
 use Rattle.ax_format.specs.Tree.{FixedTree}
 use Rattle.ax_tokens.specs.Stopping.{Texts}
@@ -36,10 +36,18 @@ HasFault catalogue text after_is number (NoElement token) = (token ≡ number) �
 abbrev pub HasNoFault : List SpecTree → List ℕ → Bool → Type 0
 HasNoFault catalogue text after_is = (IsUnknown catalogue text → ⊥) × (IsTrue after_is → IsNoElement catalogue text → ⊥)
 
+-- whether there is one is told of the text of a token
+abbrev pub TellsFault : List SpecTree → List ℕ → Bool → ℕ → Option PathFault → Type 0
+TellsFault catalogue text after_is number found = MatchOption found (HasNoFault catalogue text after_is) (HasFault catalogue text after_is number)
+
 -- a fault before the end, and none before it
 abbrev pub IsFirstFault : List SpecTree → Texts → ℕ → PathFault → Type 0
 IsFirstFault catalogue texts end (Unknown token) = (token < end) × IsUnknownAt catalogue texts token × PathsLead catalogue texts token
 IsFirstFault catalogue texts end (NoElement token) = (token < end) × IsNoElementAt catalogue texts token × PathsLead catalogue texts token
+
+-- the first fault before the end is told, if there is one
+abbrev pub TellsFirstFault : List SpecTree → Texts → ℕ → Option PathFault → Type 0
+TellsFirstFault catalogue texts end found = MatchOption found (PathsLead catalogue texts end) (IsFirstFault catalogue texts end)
 
 -- a fault of a path before the end
 abbrev pub IsPathFault : List SpecTree → Texts → ℕ → FilterError → Type 0

@@ -1,8 +1,10 @@
 -- Parts of expressions, as languages.
-use Rattle.std.specs.Prelude.{◌≡◌, ◌++◌, Result, Ok, Err}
+use Rattle.std.specs.Prelude.{◌≡◌, ℤ, [], ◌∷◌, ◌++◌, Result, Ok, Err}
 use Rattle.ax_tokens.specs.Stopping.{Texts, Stops, Word, One, Then, Closed}
 use Rattle.ax_tokens.specs.declared.stopped.Stopped.{Stopped}
-use Rattle.ax_filter.specs.Words.{IsPathText, IsOpText, IsIntText}
+use Rattle.ax_filter.specs.Words.{IsPathText, IsOpText, IsIntText, path_word, op_text, int_text}
+use Rattle.ax_filter.specs.declared.expr.FullPath.{FullPath}
+use Rattle.ax_filter.specs.declared.expr.Op.{Op}
 use Rattle.ax_filter.specs.Spelling.{opening, closing, IsExpr}
 
 -- a comparison and a number
@@ -12,6 +14,9 @@ IsOpAndInt = Then (One IsOpText) (One IsIntText)
 -- a path, a comparison and a number
 abbrev pub IsComparison : Texts → Type 0
 IsComparison = Then (One IsPathText) IsOpAndInt
+
+abbrev pub comparison_texts : FullPath × Op × ℤ → Texts
+comparison_texts is = path_word is.0 ∷ op_text is.1 ∷ int_text is.2 ∷ []
 
 -- expressions in braces
 abbrev pub IsBraced : Texts → Type 0

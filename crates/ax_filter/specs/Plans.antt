@@ -37,6 +37,10 @@ wanted There found = true
 wanted (Compares op is w number) (Of.Number n) = compares op (number_of is w n) number
 wanted (Compares op is w number) Of.Something = false
 
+-- whether what a question finds in a record does
+abbrev pub finds_wanted : Want → Question → EntriesTree → Bool
+finds_wanted want q r = some_passes (wanted want) (found_in r q)
+
 -- ---- slots
 
 -- the set has the slot

@@ -1,8 +1,9 @@
 -- The texts of an expression's tokens (this project's own form).
-use Rattle.std.specs.Prelude.{◌≡◌, ℕ, List, [], ◌∷◌, ◌++◌, codes}
+use Rattle.std.specs.Prelude.{◌≡◌, ℕ, List, [], ◌∷◌, ◌++◌, map, codes}
 use Rattle.ax_tokens.specs.Stopping.{Texts}
-use Rattle.ax_filter.specs.Tree.{ExprTree, all_of, any_of, not_of, present, compared, ExprsTree, no_exprs, expr_and}
+use Rattle.ax_filter.specs.Tree.{ExprTree, all_of, any_of, not_of, present, compared, ExprsTree, no_exprs, expr_and, exprs_of, expr_tree}
 use Rattle.ax_filter.specs.Words.{keyword_text, op_text, IsPath, path_word, IsInt, int_text}
+use Rattle.ax_filter.specs.declared.expr.Expr.{Expr}
 use Rattle.ax_filter.specs.declared.words.Keyword.TheVariants as Word
 
 abbrev pub opening : List ℕ
@@ -35,6 +36,16 @@ abbrev mutual
   pub AllInForm : ExprsTree → Type 0
   AllInForm no_exprs = Unit {0}
   AllInForm (expr_and e es) = InForm e × AllInForm es
+
+-- ---- over the code's types
+
+abbrev pub AreInForm : List Expr → Type 0
+AreInForm es = AllInForm (exprs_of (map expr_tree es))
+
+abbrev pub texts_of_all : List Expr → Texts
+texts_of_all es = exprs_texts (exprs_of (map expr_tree es))
+
+-- ---- the language
 
 -- the texts are an expression
 abbrev pub IsExpr : Texts → Type 0

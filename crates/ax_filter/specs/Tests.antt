@@ -68,13 +68,17 @@ abbrev mutual
 abbrev pub number_for : EntriesTree → Element → Option ℤ
 number_for r e = option_map (number_of e.signed e.width) (At r e.place)
 
+-- the number of an element is there, and compares so with this one
+abbrev pub compares_there : Op → ℤ → EntriesTree → Option Element → Bool
+compares_there op number r e = some_passes (λ n. compares op n number) (option_and_then (number_for r) e)
+
 abbrev mutual
   pub passes : ℕ → EntriesTree → TestTree → Bool
   passes category r (all_tests ts) = all_pass category r ts
   passes category r (any_test ts) = any_passes category r ts
   passes category r (not_test t) = not (passes category r t)
   passes category r (at_place own place) = (own == category) && some_passes (is_present r) place
-  passes category r (at_element own e op number) = (own == category) && some_passes (λ n. compares op n number) (option_and_then (number_for r) e)
+  passes category r (at_element own e op number) = (own == category) && compares_there op number r e
 
   pub all_pass : ℕ → EntriesTree → TestsTree → Bool
   all_pass category r no_tests = true

@@ -1,12 +1,12 @@
 //! A function for each rule of expressions. Each reads from the next token on, and stops in front of the first token that
 //! doesn't fit.
-ghost use Rattle.std.specs.Prelude.{◌≡◌, ◌<◌, ◌∷◌, ◌++◌, [], length, drop, map, true, OnOk, IfOk, IfErr};
-ghost use Rattle.ax_tokens.specs.Stopping.{Texts, Reads, One, Then, Closed, Word, IsNotFirst};
+ghost use Rattle.std.specs.Prelude.{◌≡◌, ◌<◌, ◌∷◌, ◌++◌, [], length, drop, OnOk, IfOk, IfErr};
+ghost use Rattle.ax_tokens.specs.Stopping.{Reads, One, Closed, IsNotFirst};
 ghost use Rattle.ax_tokens.specs.declared.stopped.Stopped.TheVariants.{Bad};
 ghost use Rattle.ax_filter.specs.Words.{op_text, keyword_text, path_word, int_text, IsPath, IsInt, IsPathText, IsIntText, IsOpText, IsKeyword};
-ghost use Rattle.ax_filter.specs.Tree.{expr_tree, exprs_of};
-ghost use Rattle.ax_filter.specs.Spelling.{opening, closing, expr_texts, exprs_texts, InForm, AllInForm, IsExpr};
-ghost use Rattle.ax_filter.specs.Parts.{IsBraced, IsClosed, IsNegated, IsOpAndInt, IsComparison, Gives};
+ghost use Rattle.ax_filter.specs.Tree.{expr_tree};
+ghost use Rattle.ax_filter.specs.Spelling.{opening, closing, expr_texts, AreInForm, InForm, texts_of_all, IsExpr};
+ghost use Rattle.ax_filter.specs.Parts.{comparison_texts, IsBraced, IsClosed, IsNegated, IsOpAndInt, IsComparison, Gives};
 
 use crate::expr::{Expr, Exprs, FullPath, Op};
 use crate::numbers::int_of;
@@ -84,7 +84,7 @@ fn op_and_int(reader: &mut Reader<'_, '_>) -> Result<(Op, i128), Stopped>
 /// A path, a comparison and a number.
 #[tactic(auto, using(crate::proofs::Ways::comparison_ways))]
 fn comparison(alloc: Global, reader: &mut Reader<'_, '_>) -> Result<(FullPath, Op, i128), Stopped>
-    ensures gives { Gives (λ is. IsPath is.0 × IsInt is.2) (λ is. path_word is.0 ∷ op_text is.1 ∷ int_text is.2 ∷ []) IsComparison result reader.old reader.new }
+    ensures gives { Gives (λ is. IsPath is.0 × IsInt is.2) comparison_texts IsComparison result reader.old reader.new }
     ensures moves { OnOk result (length reader.new < length reader.old) }
 {
     let path = path(alloc, reader)?;
@@ -96,7 +96,7 @@ fn comparison(alloc: Global, reader: &mut Reader<'_, '_>) -> Result<(FullPath, O
 #[cycle(read_expr)]
 fn exprs(alloc: Global, reader: &mut Reader<'_, '_>) -> Result<Exprs, Stopped>
     requires { length reader.old < 4294967296 }
-    ensures gives { Gives (λ es. AllInForm (exprs_of (map expr_tree es))) (λ es. exprs_texts (exprs_of (map expr_tree es)) ++ closing ∷ []) (Closed IsExpr closing) result reader.old reader.new }
+    ensures gives { Gives AreInForm (λ es. texts_of_all es ++ closing ∷ []) (Closed IsExpr closing) result reader.old reader.new }
     ensures moves { OnOk result (length reader.new < length reader.old) }
 {
     let mut made = Exprs::new(alloc);
@@ -110,7 +110,7 @@ fn exprs(alloc: Global, reader: &mut Reader<'_, '_>) -> Result<Exprs, Stopped>
 /// Expressions in braces.
 #[cycle(read_expr)]
 fn braced(alloc: Global, reader: &mut Reader<'_, '_>) -> Result<Exprs, Stopped>
-    ensures gives { Gives (λ es. AllInForm (exprs_of (map expr_tree es))) (λ es. opening ∷ (exprs_texts (exprs_of (map expr_tree es)) ++ closing ∷ [])) IsBraced result reader.old reader.new }
+    ensures gives { Gives AreInForm (λ es. opening ∷ (texts_of_all es ++ closing ∷ [])) IsBraced result reader.old reader.new }
     ensures moves { OnOk result (length reader.new < length reader.old) }
 {
     reader.expect(b"{")?;

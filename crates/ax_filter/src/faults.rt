@@ -1,9 +1,8 @@
 //! Paths among tokens that lead nowhere.
-ghost use Rattle.std.specs.Prelude.{◌≡◌, ◌≤◌, ◌↔◌, length, IsTrue, IfOk, MatchOption};
+ghost use Rattle.std.specs.Prelude.{◌≡◌, ◌≤◌, ◌↔◌, length, IfOk};
 ghost use Rattle.ax_format.specs.Plain.{catalogue_tree};
 ghost use Rattle.ax_tokens.specs.Stopping.{texts_of};
-ghost use Rattle.ax_filter.specs.Faults.{PathsLead};
-ghost use Rattle.ax_filter.specs.Leading.{IsLeading, HasFault, HasNoFault, IsFirstFault};
+ghost use Rattle.ax_filter.specs.Leading.{IsLeading, TellsFault, TellsFirstFault};
 
 use crate::paths::path_of;
 use ax_check::Catalogue;
@@ -58,7 +57,7 @@ fn fault_of(
     token: u32,
     catalogue: &Catalogue,
 ) -> Result<Option<PathFault>, AllocError>
-    ensures { IfOk result (λ found. MatchOption found (HasNoFault (catalogue_tree catalogue.now) text.now after_is) (HasFault (catalogue_tree catalogue.now) text.now after_is token)) }
+    ensures { IfOk result (TellsFault (catalogue_tree catalogue.now) text.now after_is token) }
 {
     match lead_of(alloc, text, catalogue)? {
         Lead::NoPath => Ok(None),
@@ -83,7 +82,7 @@ pub fn first_fault(
     catalogue: &Catalogue,
 ) -> Result<Option<PathFault>, AllocError>
     requires { end ≤ length tokens.now }
-    ensures { IfOk result (λ found. MatchOption found (PathsLead (catalogue_tree catalogue.now) (texts_of tokens.now) end) (IsFirstFault (catalogue_tree catalogue.now) (texts_of tokens.now) end)) }
+    ensures { IfOk result (TellsFirstFault (catalogue_tree catalogue.now) (texts_of tokens.now) end) }
 {
     let mut after_is = false;
     for number in 0..end {

@@ -1,9 +1,9 @@
 //! Plans made of tests.
-ghost use Rattle.std.specs.Prelude.{◌≡◌, ◌&&◌, map, option_and_then, IfOk};
+ghost use Rattle.std.specs.Prelude.{◌≡◌, ◌&&◌, map, IfOk};
 ghost use Rattle.ax_format.specs.At.{is_present};
 ghost use Rattle.ax_filter.specs.Meaning.{compares, some_passes};
-ghost use Rattle.ax_filter.specs.Plans.{Grow, PlanEach, SaysAs, found_by, many_pass, plan_tree, wanted};
-ghost use Rattle.ax_filter.specs.Tests.{number_for, passes, test_tree};
+ghost use Rattle.ax_filter.specs.Plans.{Grow, finds_wanted, PlanEach, SaysAs, many_pass, plan_tree};
+ghost use Rattle.ax_filter.specs.Tests.{compares_there, passes, test_tree};
 ghost use Rattle.ax_filter.specs.declared.plan.Want.TheVariants.{Compares};
 
 use crate::asking::asking;
@@ -23,7 +23,7 @@ fn plan_place(
     want: Want,
     numbering: &mut Numbering,
 ) -> Result<Plan, AllocError>
-    ensures plan { IfOk result (λ made. SaysAs numbering.new.questions (plan_tree made) (λ r. some_passes (wanted want) (found_by r (record { asking = asking; place = place.now }) asking))) }
+    ensures plan { IfOk result (λ made. SaysAs numbering.new.questions (plan_tree made) (finds_wanted want (record { asking = asking; place = place.now }))) }
     ensures grow { Grow numbering.old.questions numbering.new.questions }
 {
     let question = number_of(alloc, asking, place, numbering)?;
@@ -71,7 +71,7 @@ fn plan_number(
     number: i128,
     numbering: &mut Numbering,
 ) -> Result<Plan, AllocError>
-    ensures plan { IfOk result (λ made. SaysAs numbering.new.questions (plan_tree made) (λ r. own && some_passes (λ n. compares op n number) (option_and_then (number_for r) element.now))) }
+    ensures plan { IfOk result (λ made. SaysAs numbering.new.questions (plan_tree made) (λ r. own && compares_there op number r element.now)) }
     ensures grow { Grow numbering.old.questions numbering.new.questions }
 {
     match element {

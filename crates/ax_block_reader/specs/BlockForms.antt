@@ -11,6 +11,13 @@ use Rattle.ax_block_reader.specs.Records.{braced_records_texts}
 use Rattle.ax_block_reader.specs.declared.blocks.BlockForm.{BlockForm}
 use Rattle.ax_block_reader.specs.declared.blocks.BlockForm.TheVariants.{Read, Opaque}
 
+-- a category of which the catalogue has a specification, and one of which it has none
+abbrev pub HasCategory : List SpecTree → ℕ → Type 0
+HasCategory catalogue n = (n < 256) × ((spec : SpecTree) × (spec_of n catalogue ≡ Some spec))
+
+abbrev pub LacksCategory : List SpecTree → ℕ → Type 0
+LacksCategory catalogue n = (n < 256) × (spec_of n catalogue ≡ None)
+
 -- a category in three digits
 abbrev pub IsCategoryText : List ℕ → Type 0
 IsCategoryText text = (category : ℕ) × (category < 256) × (text ≡ three_digits category)

@@ -4,3 +4,4 @@ pub mod Entries
 pub mod Records
 pub mod BlockTexts
 pub mod BlockForms
+pub mod Readings

@@ -2,10 +2,10 @@
 ghost use Rattle.std.specs.Prelude.{◌≡◌, ◌+◌, ◌<◌, ◌⊎◌, ℕ, ◌∷◌, [], drop, IfOk, IfErr, MatchOption, Some, None};
 ghost use Rattle.ax_format.specs.Paths.{three_digits};
 ghost use Rattle.ax_format.specs.Plain.{catalogue_tree};
-ghost use Rattle.ax_format.specs.Specification.{SpecTree, spec_of};
+ghost use Rattle.ax_format.specs.Specification.{spec_of};
 ghost use Rattle.ax_tokens.specs.Stopping.{IsNotFirst};
 ghost use Rattle.ax_tokens.specs.declared.stopped.Stopped.TheVariants.{Bad};
-ghost use Rattle.ax_block_reader.specs.BlockForms.{IsCategoryText};
+ghost use Rattle.ax_block_reader.specs.BlockForms.{HasCategory, IsCategoryText, LacksCategory};
 
 use ax_format::{Spec, category_of_digits};
 use ax_tokens::{Reader, Stopped};
@@ -46,7 +46,7 @@ fn category_in(spec: &Spec) -> u8
 /// A category that the catalogue has. None comes exactly where it has none.
 #[tactic(auto, using(crate::proofs::Digits::firsts))]
 pub(crate) fn known_category(items: &CatalogueItems<'_>) -> Option<u8>
-    ensures { MatchOption result (catalogue_tree items.now ≡ []) (λ n. (n < 256) × ((spec : SpecTree) × (spec_of n (catalogue_tree items.now) ≡ Some spec))) }
+    ensures { MatchOption result (catalogue_tree items.now ≡ []) (HasCategory (catalogue_tree items.now)) }
 {
     let first = items.first()?;
     Some(category_in(first))
@@ -54,7 +54,7 @@ pub(crate) fn known_category(items: &CatalogueItems<'_>) -> Option<u8>
 
 /// A category that the catalogue lacks. None comes exactly where it has all 256.
 pub(crate) fn lacked_category(items: &CatalogueItems<'_>) -> Option<u8>
-    ensures { MatchOption result ((n : ℕ) → n < 256 → spec_of n (catalogue_tree items.now) ≡ None → ⊥) (λ n. (n < 256) × (spec_of n (catalogue_tree items.now) ≡ None)) }
+    ensures { MatchOption result ((n : ℕ) → n < 256 → spec_of n (catalogue_tree items.now) ≡ None → ⊥) (LacksCategory (catalogue_tree items.now)) }
 {
     for number in 0..256u16 {
         let category = number as u8;

@@ -1,12 +1,12 @@
 //! Values of extended and closed items, and of items that repeat by FX: lists of fixed kinds.
 ghost use Rattle.std.specs.Prelude.{◌≡◌, ◌<◌, ◌∷◌, length, map, OnOk};
-ghost use Rattle.ax_format.specs.Plain.{fixed_tree, members_tree, part_tree, value_tree, values_tree, lists_tree};
-ghost use Rattle.ax_format.specs.Shape.{FixedShape, MembersShape, PartsShape};
+ghost use Rattle.ax_format.specs.Plain.{fixed_tree, members_tree, part_tree, values_tree, lists_tree};
+ghost use Rattle.ax_format.specs.Shape.{MembersShape, PartsShape};
 ghost use Rattle.std.specs.List.{AllByRecursion};
 ghost use Rattle.ax_text.specs.Readable.{FixedReadable, MembersReadable};
-ghost use Rattle.ax_text.specs.ValueText.{opening, fixed_onto};
 ghost use Rattle.ax_block_reader.specs.Continuing.{Gives};
-ghost use Rattle.ax_block_reader.specs.Languages.{braced_texts, part_texts, parts_texts, each_texts, SomeOf};
+ghost use Rattle.ax_block_reader.specs.Readings.{GivesSome};
+ghost use Rattle.ax_block_reader.specs.Languages.{braced_texts, part_texts, parts_texts};
 
 use crate::fixed::{fixed_value, member_values};
 use ax_format::{Fixed, Lists, Members, Part, Parts, Values};
@@ -75,7 +75,7 @@ pub(crate) fn run_values(
 ) -> Result<Values, Stopped>
     requires readable { FixedReadable (fixed_tree fixed.now) }
     requires bound { length reader.old < 4294967296 }
-    ensures gives { Gives values_tree (SomeOf (FixedShape (fixed_tree fixed.now))) (each_texts (fixed_onto (fixed_tree fixed.now))) result reader.old reader.new }
+    ensures gives { GivesSome (fixed_tree fixed.now) result reader.old reader.new }
     ensures moves { OnOk result (length reader.new < length reader.old) }
 {
     let mut values = Values::new(alloc);

@@ -1,12 +1,12 @@
 //! Values of kinds.
 ghost use Rattle.std.specs.Prelude.{◌≡◌, ◌^◌, ◌<◌, ◌≤◌, length, OnOk};
-ghost use Rattle.ax_format.specs.Plain.{kind_tree, slot_tree, slots_tree, value_tree, values_tree, entries_tree};
+ghost use Rattle.ax_format.specs.Plain.{kind_tree, slot_tree, slots_tree, value_tree, entries_tree};
 ghost use Rattle.ax_format.specs.Shape.{Shape, EntriesShape};
 ghost use Rattle.ax_format.specs.Widths.{counter_width};
 ghost use Rattle.ax_text.specs.Readable.{Readable, SlotReadable, SlotsReadable};
-ghost use Rattle.ax_text.specs.ValueText.{kind_onto};
 ghost use Rattle.ax_block_reader.specs.Continuing.{Gives};
-ghost use Rattle.ax_block_reader.specs.Languages.{kind_texts, each_texts, FewerThan, entries_texts};
+ghost use Rattle.ax_block_reader.specs.Languages.{kind_texts, entries_texts};
+ghost use Rattle.ax_block_reader.specs.Readings.{GivesFewerThan};
 ghost use Rattle.ax_block_reader.specs.Entries.{SlotNamed, GivesSlot};
 
 use crate::extended::{parts_present, run_values};
@@ -72,7 +72,7 @@ fn counted_values(
     kind: &Kind,
 ) -> Result<Values, Stopped>
     requires { Readable (kind_tree kind.now) }
-    ensures gives { Gives values_tree (FewerThan (2 ^ counter_width size) (Shape (kind_tree kind.now))) (each_texts (kind_onto (kind_tree kind.now))) result reader.old reader.new }
+    ensures gives { GivesFewerThan (2 ^ counter_width size) (kind_tree kind.now) result reader.old reader.new }
     ensures moves { OnOk result (length reader.new < length reader.old) }
 {
     let most = size.greatest();

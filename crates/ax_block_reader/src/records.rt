@@ -1,17 +1,13 @@
 //! Records and lists of them.
 ghost use Rattle.std.specs.Prelude.{◌≡◌, ◌<◌, ◌≤◌, ◌∷◌, [], length, map, Some, IfOk, IfErr, OnOk, MatchOption};
-ghost use Rattle.ax_format.specs.Bodies.{RecordShape};
 ghost use Rattle.ax_format.specs.Lookup.{item_of_frn, item_of_slot};
-ghost use Rattle.ax_format.specs.Plain.{item_tree, kind_tree, spec_tree, entries_tree, record_tree, records_tree};
-ghost use Rattle.ax_format.specs.Shape.{EntriesShape};
+ghost use Rattle.ax_format.specs.Plain.{item_tree, kind_tree, spec_tree};
 ghost use Rattle.ax_format.specs.Specification.{uap_slot, record_slots};
 ghost use Rattle.ax_format.specs.Tree.{subitem};
 ghost use Rattle.ax_tokens.specs.declared.stopped.Stopped.TheVariants.{Bad};
 ghost use Rattle.ax_text.specs.Readable.{SlotReadable, SlotsReadable};
-ghost use Rattle.ax_block_reader.specs.Continuing.{Gives};
 ghost use Rattle.ax_block_reader.specs.Entries.{SlotNamed, IsNotNamed, GivesSlot};
-ghost use Rattle.ax_block_reader.specs.Languages.{entries_texts};
-ghost use Rattle.ax_block_reader.specs.Records.{braced_entries_texts, record_texts, SomeRecords, records_texts, braced_records_texts};
+ghost use Rattle.ax_block_reader.specs.Readings.{GivesEntries, GivesBracedEntries, GivesRecord, GivesRecords, GivesBracedRecords};
 
 use crate::kinds::kind_value;
 use ax_format::{Entries, Entry, Item, Record, Records, UapSlot, Value};
@@ -79,7 +75,7 @@ fn record_entries(
     items: &UapItems<'_>,
 ) -> Result<Entries, Stopped>
     requires { SlotsReadable (record_slots (spec_tree items.now.spec.now)) }
-    ensures gives { Gives entries_tree (EntriesShape 1 (record_slots (spec_tree items.now.spec.now))) (entries_texts 1 (record_slots (spec_tree items.now.spec.now))) result reader.old reader.new }
+    ensures gives { GivesEntries (spec_tree items.now.spec.now) result reader.old reader.new }
     ensures moves { OnOk result (length reader.new < length reader.old) }
 {
     let spec = items.spec();
@@ -106,7 +102,7 @@ fn braced_entries(
     items: &UapItems<'_>,
 ) -> Result<Entries, Stopped>
     requires { SlotsReadable (record_slots (spec_tree items.now.spec.now)) }
-    ensures gives { Gives entries_tree (EntriesShape 1 (record_slots (spec_tree items.now.spec.now))) (braced_entries_texts (spec_tree items.now.spec.now)) result reader.old reader.new }
+    ensures gives { GivesBracedEntries (spec_tree items.now.spec.now) result reader.old reader.new }
     ensures moves { OnOk result (length reader.new < length reader.old) }
 {
     reader.expect(b"{")?;
@@ -121,7 +117,7 @@ fn record(
     items: &UapItems<'_>,
 ) -> Result<Record, Stopped>
     requires { SlotsReadable (record_slots (spec_tree items.now.spec.now)) }
-    ensures gives { Gives record_tree (RecordShape (spec_tree items.now.spec.now)) (record_texts (spec_tree items.now.spec.now)) result reader.old reader.new }
+    ensures gives { GivesRecord (spec_tree items.now.spec.now) result reader.old reader.new }
     ensures moves { OnOk result (length reader.new < length reader.old) }
 {
     reader.expect(b"record")?;
@@ -138,7 +134,7 @@ fn records(
 ) -> Result<Records, Stopped>
     requires readable { SlotsReadable (record_slots (spec_tree items.now.spec.now)) }
     requires bound { length reader.old < 4294967296 }
-    ensures gives { Gives records_tree (SomeRecords (spec_tree items.now.spec.now)) (records_texts (spec_tree items.now.spec.now)) result reader.old reader.new }
+    ensures gives { GivesRecords (spec_tree items.now.spec.now) result reader.old reader.new }
     ensures moves { OnOk result (length reader.new < length reader.old) }
 {
     let mut made = Records::new(alloc);
@@ -158,7 +154,7 @@ pub(crate) fn braced_records(
     items: &UapItems<'_>,
 ) -> Result<Records, Stopped>
     requires { SlotsReadable (record_slots (spec_tree items.now.spec.now)) }
-    ensures gives { Gives records_tree (SomeRecords (spec_tree items.now.spec.now)) (braced_records_texts (spec_tree items.now.spec.now)) result reader.old reader.new }
+    ensures gives { GivesBracedRecords (spec_tree items.now.spec.now) result reader.old reader.new }
     ensures moves { OnOk result (length reader.new < length reader.old) }
 {
     reader.expect(b"{")?;

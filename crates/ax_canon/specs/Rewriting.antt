@@ -2,9 +2,12 @@
 use Rattle.std.specs.Prelude.{◌≡◌, ℕ, ◌-◌, ◌*◌, ◌≤◌, ◌⊎◌, List, ◌++◌, length}
 use Rattle.ax_bits.specs.Out.{Appends, room}
 use Rattle.ax_bits.specs.declared.output.Out.{Out}
+use Rattle.ax_format.specs.Canonical.{canon}
 use Rattle.ax_format.specs.Reader.{Read}
+use Rattle.ax_format.specs.Tree.{KindTree, SlotsTree}
 use Rattle.ax_format.specs.declared.fault.BodyFault.{BodyFault}
-use Rattle.ax_fspec.specs.Reading.{Gets, FailsAt}
+use Rattle.ax_fspec.specs.Reading.{Gets, FailsAt, kind_read, entries_at}
+use Rattle.ax_view.specs.Walking.{along}
 
 -- what is read from octet `at` up to octet `end` is written by the rule, or nothing can be read there; never more octets are
 -- written than were read
@@ -14,6 +17,14 @@ pub record Rewrites {A : Type 0} (rule : A → List ℕ) (found : Read A) (body 
   pub room : 8 * (length body - end) ≤ room new
   pub some : (b : List ℕ) × Appends old new b
   pub state : ((a : A) × Gets found body at end a × Appends old new (rule a)) ⊎ ((fault : BodyFault) × FailsAt found at fault)
+
+-- a value of the kind
+abbrev pub RewritesKind : KindTree → List ℕ → ℕ → ℕ → Out → Out → Type 0
+RewritesKind k body at end old new = Rewrites (canon k) (kind_read k body at) body at end old new
+
+-- the entries of the marked slots
+abbrev pub RewritesEntries : SlotsTree → List ℕ → List ℕ → ℕ → ℕ → Out → Out → Type 0
+RewritesEntries ss marks body at end old new = Rewrites (along ss marks) (entries_at ss marks body at) body at end old new
 
 -- a front is written, and what is read from octet `here` on decides the rest
 pub record Fronts {A B : Type 0} (rule : A → List ℕ) (next : Read A) (whole_rule : B → List ℕ) (whole : Read B) (body : List ℕ) (at here : ℕ) (old now : Out) : Type 0 where

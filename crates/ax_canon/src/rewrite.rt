@@ -1,21 +1,19 @@
 //! Values written anew, with least presence fields.
-ghost use Rattle.std.specs.Prelude.{◌≡◌, ◌+◌, ◌-◌, ◌*◌, ◌<◌, ◌≤◌, length, get_or, drop, take};
-ghost use Rattle.ax_bits.specs.Bits.{AreBits, bits};
+ghost use Rattle.std.specs.Prelude.{◌≡◌, ◌+◌, ◌-◌, ◌*◌, ◌<◌, ◌≤◌, length};
+ghost use Rattle.ax_bits.specs.Bits.{AreBits};
 ghost use Rattle.ax_bits.specs.Out.{room, Appends};
-ghost use Rattle.ax_canon.specs.Rewriting.{Rewrites};
+ghost use Rattle.ax_canon.specs.Rewriting.{RewritesEntries, RewritesKind};
 ghost use Rattle.ax_fspec.specs.Fields.{MarksSlots};
 ghost use Rattle.ax_fspec.specs.declared.mask.SlotMask.{SlotMask};
-ghost use Rattle.ax_format.specs.Canonical.{canon};
 ghost use Rattle.ax_format.specs.InBounds.{InBounds, SlotsInBounds};
 ghost use Rattle.ax_format.specs.Presence.{NoneUndefined};
 ghost use Rattle.ax_format.specs.Sizes.{longest_body};
 ghost use Rattle.ax_format.specs.Tree as Tree;
 ghost use Rattle.ax_codec.specs.Meaning.{meanings, linked_slots};
 ghost use Rattle.ax_codec.specs.Table.{IsTable, SlotLinksWithin, kind_at, record_kind_at};
-ghost use Rattle.ax_fspec.specs.Reading.{IsMaskOf, kind_read, entries_at};
+ghost use Rattle.ax_fspec.specs.Reading.{IsMaskOf};
 ghost use Rattle.ax_view.specs.Plain.{IsPlain};
 ghost use Rattle.ax_view.specs.Rows.{tree_of};
-ghost use Rattle.ax_view.specs.Walking.{along};
 
 use ax_bits::Out;
 use ax_codec::{Codec, Node};
@@ -28,7 +26,7 @@ pub(crate) fn rewrite_record(codec: &Codec, body: &[u8], at: u32, out: &mut Out<
     requires body { length body.now ≤ longest_body }
     requires at { at ≤ length body.now }
     requires room { 8 * (length body.now - at) ≤ room out.old }
-    ensures { Rewrites (canon (record_kind_at codec.now.nodes codec.now.slots)) (kind_read (record_kind_at codec.now.nodes codec.now.slots) body.now at) body.now at result out.old out.new }
+    ensures { RewritesKind (record_kind_at codec.now.nodes codec.now.slots) body.now at result out.old out.new }
 {
     let mut notes = Notes::new();
     match walk_record(codec, body, at, &mut notes) {
@@ -45,7 +43,7 @@ pub(crate) fn rewrite_field(codec: &Codec, body: &[u8], at: u32, out: &mut Out<'
     requires body { length body.now ≤ longest_body }
     requires at { at ≤ length body.now }
     requires room { 8 * (length body.now - at) ≤ room out.old }
-    ensures { Rewrites (canon (record_kind_at codec.now.nodes codec.now.slots)) (kind_read (record_kind_at codec.now.nodes codec.now.slots) body.now at) body.now at result out.old out.new }
+    ensures { RewritesKind (record_kind_at codec.now.nodes codec.now.slots) body.now at result out.old out.new }
 {
     let mut items = Presence::empty();
     match read_presence(&codec.mask, body, at, &mut items) {
@@ -71,7 +69,7 @@ fn rewrite_items(
     requires field { MarksSlots codec.now.mask body.now at here items }
     requires body { length body.now ≤ longest_body }
     requires room { 8 * (length body.now - here) ≤ room out.old }
-    ensures { Rewrites (along (tree_of codec.now.nodes codec.now.slots) items) (entries_at (tree_of codec.now.nodes codec.now.slots) items body.now here) body.now here result out.old out.new }
+    ensures { RewritesEntries (tree_of codec.now.nodes codec.now.slots) items body.now here result out.old out.new }
 {
     let nodes = codec.nodes.as_slice();
     let slots = codec.slots.as_slice();
@@ -94,7 +92,7 @@ fn rewrite(nodes: &[Node], link: u32, body: &[u8], at: u32, out: &mut Out<'_>) -
     requires body { length body.now ≤ longest_body }
     requires at { at ≤ length body.now }
     requires room { 8 * (length body.now - at) ≤ room out.old }
-    ensures { Rewrites (canon (kind_at nodes.now link)) (kind_read (kind_at nodes.now link) body.now at) body.now at result out.old out.new }
+    ensures { RewritesKind (kind_at nodes.now link) body.now at result out.old out.new }
 {
     match &nodes[link as usize - 1] {
         Node::Counted { counter, inner } => {
@@ -121,7 +119,7 @@ fn copy(nodes: &[Node], link: u32, body: &[u8], at: u32, out: &mut Out<'_>) -> u
     requires body { length body.now ≤ longest_body }
     requires at { at ≤ length body.now }
     requires room { 8 * (length body.now - at) ≤ room out.old }
-    ensures { Rewrites (canon (kind_at nodes.now link)) (kind_read (kind_at nodes.now link) body.now at) body.now at result out.old out.new }
+    ensures { RewritesKind (kind_at nodes.now link) body.now at result out.old out.new }
 {
     let mut notes = Notes::new();
     match walk(nodes, link, body, at, &mut notes) {
@@ -149,7 +147,7 @@ pub(crate) fn rewrite_counted(
     requires body { length body.now ≤ longest_body }
     requires at { at ≤ length body.now }
     requires room { 8 * (length body.now - at) ≤ room out.old }
-    ensures { Rewrites (canon (Tree.counted size (kind_at nodes.now inner))) (kind_read (Tree.counted size (kind_at nodes.now inner)) body.now at) body.now at result out.old out.new }
+    ensures { RewritesKind (Tree.counted size (kind_at nodes.now inner)) body.now at result out.old out.new }
 {
     let Some(count) = count_at(body, at, size) else {
         return at;
@@ -179,7 +177,7 @@ pub(crate) fn rewrite_compound(
     requires body { length body.now ≤ longest_body }
     requires at { at ≤ length body.now }
     requires room { 8 * (length body.now - at) ≤ room out.old }
-    ensures { Rewrites (canon (record_kind_at nodes.now slots.now)) (kind_read (record_kind_at nodes.now slots.now) body.now at) body.now at result out.old out.new }
+    ensures { RewritesKind (record_kind_at nodes.now slots.now) body.now at result out.old out.new }
 {
     let mut marked = Presence::empty();
     match read_presence(mask, body, at, &mut marked) {
@@ -209,7 +207,7 @@ fn rewrite_marked(
     requires body { length body.now ≤ longest_body }
     requires at { at ≤ length body.now }
     requires room { 8 * (length body.now - at) ≤ room out.old }
-    ensures { Rewrites (along (Tree.slots_of (linked_slots (meanings nodes.now) slots.now)) marked) (entries_at (Tree.slots_of (linked_slots (meanings nodes.now) slots.now)) marked body.now at) body.now at result out.old out.new }
+    ensures { RewritesEntries (tree_of nodes.now slots.now) marked body.now at result out.old out.new }
 {
     let mut left = marked;
     let mut here = at;
